@@ -1,0 +1,12 @@
+pub mod Calls
+pub mod Causes
+pub mod Entries
+pub mod MemoryShelves
+pub mod MemorySinks
+pub mod NameTables
+pub mod Names
+pub mod Orders
+pub mod Patterns
+pub mod Runs
+pub mod Shelves
+pub mod Unfoldings

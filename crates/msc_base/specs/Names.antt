@@ -1,0 +1,51 @@
+-- What a word and a name are.
+use Rattle.std.specs.Prelude.{◌≡◌, ◌≤◌, ◌⊎◌, ℕ, List, [], ◌∷◌, length, codes, All, Any}
+
+abbrev pub IsLetterOrDigit : ℕ → Type 0
+IsLetterOrDigit b = ((48 ≤ b) × (b ≤ 57)) ⊎ ((65 ≤ b) × (b ≤ 90)) ⊎ ((97 ≤ b) × (b ≤ 122))
+
+-- a letter, a digit, `_` or `.`
+abbrev pub IsWordByte : ℕ → Type 0
+IsWordByte b = IsLetterOrDigit b ⊎ (b ≡ 95) ⊎ (b ≡ 46)
+
+-- word bytes alone, one of them a letter or a digit, at most 255 of them
+pub record IsWord (bytes : List ℕ) : Type 0 where
+  pub bytes_are : All IsWordByte bytes
+  pub has_one : Any IsLetterOrDigit bytes
+  pub short : length bytes ≤ 255
+
+-- the reserved words, in the order of the alphabet, in groups
+abbrev pub reserved_to_end : List (List ℕ)
+reserved_to_end = codes "action" ∷ codes "after" ∷ codes "all" ∷ codes "alt" ∷ codes "before" ∷ codes "begin" ∷ codes "comment"
+    ∷ codes "concurrent" ∷ codes "condition" ∷ codes "decomposed" ∷ codes "end" ∷ []
+
+abbrev pub reserved_to_inst : List (List ℕ)
+reserved_to_inst = codes "endconcurrent" ∷ codes "endexpr" ∷ codes "endinstance" ∷ codes "endmsc" ∷ codes "endmscdocument" ∷ codes "env"
+    ∷ codes "exc" ∷ codes "expr" ∷ codes "found" ∷ codes "from" ∷ codes "in" ∷ codes "inst" ∷ []
+
+abbrev pub reserved_to_out : List (List ℕ)
+reserved_to_out = codes "instance" ∷ codes "label" ∷ codes "loop" ∷ codes "lost" ∷ codes "msc" ∷ codes "mscdocument" ∷ codes "msg"
+    ∷ codes "opt" ∷ codes "otherwise" ∷ codes "out" ∷ []
+
+abbrev pub reserved_to_when : List (List ℕ)
+reserved_to_when = codes "par" ∷ codes "reference" ∷ codes "reset" ∷ codes "seq" ∷ codes "set" ∷ codes "shared" ∷ codes "starttimer"
+    ∷ codes "stoptimer" ∷ codes "timeout" ∷ codes "timer" ∷ codes "to" ∷ codes "via" ∷ codes "when" ∷ []
+
+-- one of these texts
+abbrev pub IsOneOf : List (List ℕ) → List ℕ → Type 0
+IsOneOf [] bytes = ⊥
+IsOneOf (w ∷ ws) bytes = (bytes ≡ w) ⊎ IsOneOf ws bytes
+
+-- one of the reserved words
+abbrev pub IsReserved : List ℕ → Type 0
+IsReserved bytes = IsOneOf reserved_to_end bytes ⊎ IsOneOf reserved_to_inst bytes ⊎ IsOneOf reserved_to_out bytes ⊎ IsOneOf reserved_to_when bytes
+
+-- a name is a word that isn't reserved
+pub record IsName (bytes : List ℕ) : Type 0 where
+  pub word : IsWord bytes
+  pub free : IsReserved bytes → ⊥
+
+-- no name comes twice
+abbrev pub AreDifferent : List (List ℕ) → Type 0
+AreDifferent [] = Unit {0}
+AreDifferent (n ∷ ns) = (IsOneOf ns n → ⊥) × AreDifferent ns
