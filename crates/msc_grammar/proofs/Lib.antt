@@ -1,0 +1,12 @@
+pub mod Bodies
+pub mod NameLists
+pub mod PairCounts
+pub mod PairEnds
+pub mod PairKeys
+pub mod PairMarks
+pub mod PairMessages
+pub mod PairSteps
+pub mod Partners
+pub mod Reading
+pub mod Tables
+pub mod Whole

@@ -1,0 +1,6 @@
+pub mod Charts
+pub mod Classes
+pub mod Events
+pub mod Meanings
+pub mod Pairing
+pub mod Plain
