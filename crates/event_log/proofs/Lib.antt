@@ -1,0 +1,3 @@
+pub mod LineCuts
+pub mod OneReading
+pub mod ReadFronts
