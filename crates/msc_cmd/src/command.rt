@@ -1,0 +1,81 @@
+ghost use Rattle.std.specs.Prelude.{◌≡◌, ◌<◌, ◌≤◌, ◌⊎◌, ◌++◌, ◌∷◌, [], List, ℕ, IfOk};
+ghost use Rattle.std.specs.Io.KnownBytes.{Appends, Keeps};
+ghost use Rattle.msc_base.specs.Causes.{Rose};
+ghost use Rattle.msc_cmd.specs.Requests.{IsNoRequest};
+ghost use Rattle.msc_cmd.specs.Writing.{AppendsPart};
+ghost use Rattle.msc_cmd.specs.Outcomes.{IsOutcome, IfTold, IsTheOne};
+ghost use Rattle.msc_cmd.specs.Failures.{CannotJudge};
+
+use crate::answer::{Reply, judge_files, make_reply};
+use crate::emitting::emit;
+use crate::words::request_of;
+use msc_base::{NoMemory, Shelf, Sink, Words};
+use std::alloc::Global;
+
+/// The reply to the words.
+fn answer<S: Shelf>(alloc: Global, words: &Words, shelf: &mut S) -> Result<Reply, NoMemory>
+    ensures small { IfOk result (λ r. r.status ≤ 7) }
+    ensures two { IfOk result (λ r. r.status ≡ 2 → IsNoRequest words.now) }
+    ensures outcome { IfOk result (λ r. r.status < 7 → IfTold (S.files shelf.old) (λ f. IsTheOne (IsOutcome words.now f) r.status r.text)) }
+    ensures failed { IfOk result (λ r. r.status ≡ 7 → CannotJudge words.now (S.files shelf.old) (S.faults shelf.old) (S.faults shelf.new) (S.broken shelf.new) (S.last shelf.new) r.text) }
+    ensures refused { IfOk result (λ r. IsNoRequest words.now → r.status ≡ 2) }
+    ensures unchanged { IsNoRequest words.now → shelf.new ≡ shelf.old }
+{
+    let Some((document, name, log)) = request_of(words) else {
+        return make_reply(alloc, 2, "usage: mscjudge COMMAND WORDS");
+    };
+    judge_files(alloc, document, name, log, shelf)
+}
+
+/// Does all that the program does, and gives its status.
+///
+/// | Status | Meaning |
+/// |---|---|
+/// | 0 | the log conforms |
+/// | 1 | the log fails at an event |
+/// | 2 | the words are no request |
+/// | 3 | the log stops early |
+/// | 4 | the document is refused, or it has no chart of that name |
+/// | 5 | the log is refused |
+/// | 7 | the shelf failed |
+/// | 8 | the sink failed |
+/// | 9 | want of memory |
+pub fn run<S: Shelf, O: Sink>(alloc: Global, words: &Words, shelf: &mut S, out: &mut O) -> u8
+    // A status below 7 is that of the one outcome, and its text is written whole.
+    ensures outcome { result < 7 → IfTold (S.files shelf.old)
+        (λ f. (text : List ℕ) × IsTheOne (IsOutcome words.now f) result text × Appends (O.written out.old) (O.written out.new) text) }
+
+    // The shelf failed in this call, at the document or the log, and the line that says so is written whole.
+    ensures shelf_failed { result ≡ 7 → (text : List ℕ)
+        × CannotJudge words.now (S.files shelf.old) (S.faults shelf.old) (S.faults shelf.new) (S.broken shelf.new) (S.last shelf.new) text
+        × Appends (O.written out.old) (O.written out.new) text }
+
+    // The sink failed in this call, and a proper front of what was to be written stands there.
+    ensures sink_failed { result ≡ 8 → Rose (O.faults out.old) (O.faults out.new) }
+    ensures part { result ≡ 8 → IfTold (S.files shelf.old) (λ f. (text : List ℕ) × AppendsPart (O.written out.old) (O.written out.new) text
+        × (((status : ℕ) × IsTheOne (IsOutcome words.now f) status text)
+        ⊎ CannotJudge words.now (S.files shelf.old) (S.faults shelf.old) (S.faults shelf.new) (S.broken shelf.new) (S.last shelf.new) text)) }
+
+    // Want of memory comes before anything is written.
+    ensures memory { result ≡ 9 → Keeps (O.written out.old) (O.written out.new) }
+
+    // Where no fault rose there is an outcome, or want of memory.
+    ensures complete { (Rose (S.faults shelf.old) (S.faults shelf.new) → ⊥) → (Rose (O.faults out.old) (O.faults out.new) → ⊥) → (result < 7) ⊎ (result ≡ 9) }
+
+    // Without an outcome there is no status of one.
+    ensures without { IfTold (S.files shelf.old) (λ f. ((status : ℕ) (text : List ℕ) → IsOutcome words.now f status text → ⊥) → 7 ≤ result) }
+    ensures known { result ≤ 9 }
+
+    // No request is told only where there is none, whatever the shelf tells, and then the shelf is left alone.
+    ensures request { result ≡ 2 → IsNoRequest words.now }
+    ensures no_request { IsNoRequest words.now → (result ≡ 2) ⊎ (result ≡ 8) ⊎ (result ≡ 9) }
+    ensures unchanged { IsNoRequest words.now → shelf.new ≡ shelf.old }
+{
+    match answer(alloc, words, shelf) {
+        Ok(reply) => match emit(out, &reply.text) {
+            Ok(()) => reply.status,
+            Err(_) => 8,
+        },
+        Err(_) => 9,
+    }
+}

@@ -1,0 +1,116 @@
+ghost use Rattle.std.specs.Prelude.{◌≡◌, ◌↔◌, ◌<◌, ℕ, All, IfNone, IfOk, IfSome, IsTrue, false, length, replicate, slice_index_or, slice_set, true};
+ghost use Rattle.msc_grammar.specs.Plain.{IsPlain};
+ghost use Rattle.msc_grammar.specs.Pairing.{ArePartners};
+ghost use Rattle.msc_cmd.specs.Judging.{IsDue, MayHappen};
+ghost use Rattle.msc_cmd.specs.Verdicts.{IsVerdict};
+
+use crate::columns::{Columns, columns_of};
+use event_log::LineEvent;
+use msc_base::{Kind, Label, NoMemory, Verdict};
+use msc_grammar::PlainChart;
+use std::alloc::Global;
+
+/// Whether it is an input.
+fn is_input(label: &Label) -> bool
+    ensures { IsTrue result ↔ (label.now.kind ≡ Kind.Input) }
+{
+    label.kind == Kind::Input
+}
+
+/// Whether the event at this place has this label and may happen next, as far as its partner goes.
+fn may_happen(chart: &PlainChart, happened: &[bool], label: &Label, place: usize) -> bool
+    requires partners { ArePartners chart.now.events chart.now.partners }
+    requires each { length happened.now ≡ length chart.now.events }
+    ensures { IsTrue result ↔ MayHappen chart.now happened.now label.now place }
+{
+    if place >= chart.events.len() {
+        return false;
+    }
+    if !chart.events.at(place).same(label) {
+        return false;
+    }
+    if !is_input(label) {
+        return true;
+    }
+    happened[*chart.partners.at(place) as usize]
+}
+
+/// The column of a label's instance and the place of its event, if this event may happen next.
+fn due(
+    chart: &PlainChart,
+    columns: &Columns,
+    happened: &[bool],
+    label: &Label,
+) -> Option<(usize, usize)>
+    requires partners { ArePartners chart.now.events chart.now.partners }
+    requires heads { length columns.now.heads.items ≡ length columns.now.instances }
+    requires each { length happened.now ≡ length chart.now.events }
+    ensures some { IfSome result
+        (λ d. IsDue chart.now columns.now.instances columns.now.heads.items happened.now label.now d.0 d.1) }
+    ensures none { IfNone result ((column place : ℕ) →
+        IsDue chart.now columns.now.instances columns.now.heads.items happened.now label.now column place → ⊥) }
+{
+    let column = columns.instances.number_of(label.at.bytes())?;
+    let place = columns.heads[column];
+    if !may_happen(chart, happened, label, place) {
+        return None;
+    }
+    Some((column, place))
+}
+
+/// The marks of events none of which has happened.
+fn no_marks(alloc: Global, count: usize) -> Result<Vec<bool>, NoMemory>
+    ensures { IfOk result (λ marks. marks.items ≡ replicate count false) }
+{
+    let marks = vec![in alloc; false; count]?;
+    Ok(marks)
+}
+
+/// Whether every event has happened.
+fn are_all(happened: &[bool]) -> bool
+    ensures { IsTrue result ↔ All IsTrue happened.now }
+{
+    happened.iter().all(|event| *event)
+}
+
+/// Notes that the event at this place happens: it is marked, and its column goes on to the next one.
+fn take_event(columns: &mut Columns, happened: &mut Vec<bool>, column: usize, place: usize)
+    requires column { column < length columns.old.heads.items }
+    requires place { place < length columns.old.next.items }
+    requires mark { place < length happened.old.items }
+    ensures instances { columns.new.instances ≡ columns.old.instances }
+    ensures next { columns.new.next.items ≡ columns.old.next.items }
+    ensures heads { columns.new.heads.items ≡
+        slice_set columns.old.heads.items column (slice_index_or columns.old.next.items place 0) }
+    ensures marks { happened.new.items ≡ slice_set happened.old.items place true }
+{
+    happened[place] = true;
+    columns.heads[column] = columns.next[place];
+}
+
+/// The verdict on a log's events.
+pub fn judge(alloc: Global, chart: &PlainChart, events: &[LineEvent]) -> Result<Verdict, NoMemory>
+    requires { IsPlain chart.now }
+    ensures { IfOk result (IsVerdict chart.now events.now) }
+{
+    let mut columns = columns_of(alloc, chart.instances.as_slice(), chart.events.as_slice())?;
+    let mut happened = no_marks(alloc, chart.events.len())?;
+    let mut done = 0;
+    while done < events.len() {
+        let event = &events[done];
+        let Some((column, place)) = due(chart, &columns, happened.as_slice(), &event.label) else {
+            return Ok(Verdict::Fails {
+                event: done as u64 + 1,
+                line: event.line,
+            });
+        };
+        take_event(&mut columns, &mut happened, column, place);
+        done += 1;
+    }
+    let count = done as u64;
+    if are_all(happened.as_slice()) {
+        Ok(Verdict::Conforms { events: count })
+    } else {
+        Ok(Verdict::Early { events: count })
+    }
+}

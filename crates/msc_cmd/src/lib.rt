@@ -1,0 +1,16 @@
+//! The command: from its words and what a shelf holds to the bytes and the status that it answers.
+//!
+//! `specs/` says which words are a request, what the outcome of a request is, and what is printed.
+#![tactic(auto)]
+
+mod answer;
+mod columns;
+mod command;
+mod document;
+mod emitting;
+mod entry;
+mod judge;
+mod texts;
+mod words;
+
+pub use command::run;
