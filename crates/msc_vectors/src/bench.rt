@@ -1,0 +1,36 @@
+//! What a row runs on.
+use msc_base::{Items, MemShelf, NoMemory, Text, Words};
+use std::alloc::Global;
+
+/// A chart of one message.
+pub const CHART: &str = "msc A; inst i,j; i: out a to j; j: in a from i; endmsc;";
+
+/// Its run.
+pub const RUN: &str = "i: out a to j;\nj: in a from i;\n";
+
+/// The words that ask to judge the log `l` by a chart of the document `d`.
+pub fn judge_words(alloc: Global, chart: &str) -> Result<Words, NoMemory> {
+    words_of(alloc, &["judge", "d", chart, "l"])
+}
+
+pub fn words_of(alloc: Global, words: &[&str]) -> Result<Words, NoMemory> {
+    let mut list = Items::new(alloc);
+    for word in words {
+        list.push(Text::from_bytes(alloc, word.as_bytes())?)?;
+    }
+    Ok(list)
+}
+
+/// A shelf that holds the document `d`.
+pub fn shelf_of(alloc: Global, document: &str) -> Result<MemShelf, NoMemory> {
+    let mut shelf = MemShelf::new(alloc)?;
+    shelf.put(&Text::from_bytes(alloc, b"d")?, document.as_bytes())?;
+    Ok(shelf)
+}
+
+/// A shelf that holds the document `d` and the log `l`.
+pub fn shelf_with(alloc: Global, document: &str, log: &[u8]) -> Result<MemShelf, NoMemory> {
+    let mut shelf = shelf_of(alloc, document)?;
+    shelf.put(&Text::from_bytes(alloc, b"l")?, log)?;
+    Ok(shelf)
+}

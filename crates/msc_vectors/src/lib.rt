@@ -1,0 +1,11 @@
+//! The worked rows: whole commands over shelves and sinks in memory, with what they print and answer.
+#![tactic(auto)]
+
+#[cfg(test)]
+mod bench;
+#[cfg(test)]
+mod faults;
+#[cfg(test)]
+mod limits;
+#[cfg(test)]
+mod rows;

@@ -1,0 +1,231 @@
+//! Documents, logs and words.
+use crate::bench::{CHART, RUN, judge_words, shelf_with, words_of};
+use msc_base::{Items, MemSink, Text};
+use msc_cmd::run;
+use std::test::Fail;
+
+/// A document, a chart's name, a log, and the text and the status that they give.
+type Row = (&'static str, &'static str, &'static str, &'static str, u8);
+
+const REFUSED: &str = "document refused at 1:1: not built yet\n";
+
+const CROSSED: &str =
+    "msc X; inst i,j; i: out a to j; j: out b to i; j: in a from i; i: in b from j; endmsc;";
+
+const TWICE: &str =
+    "msc T; inst i,j,k; i: out a to j; i: out a to j; k: out a to j; j: in a from i; j: in a from k; j: in a from i; endmsc;";
+
+/// Rows over one chart of one message: a log, a chart's name, and the text and the status.
+#[test]
+fn rows_of_one_message(rt: HostRuntime) -> Result<(), Fail> {
+    let alloc = rt.alloc();
+    let rows: [Row; 9] = [
+        (CHART, "A", RUN, "conforms, events 2\n", 0),
+        (
+            CHART,
+            "A",
+            "j: in a from i;\ni: out a to j;\n",
+            "fails at event 1, line 1\n",
+            1,
+        ),
+        (CHART, "A", "", "stops early, events 0\n", 3),
+        (
+            CHART,
+            "A",
+            "i: out a to j;\nj: in a from i;\ni: out a to j;\n",
+            "fails at event 3, line 3\n",
+            1,
+        ),
+        (CHART, "X", "", "no such chart\n", 4),
+        (
+            CHART,
+            "A",
+            "i: out a to j;\nj in a;\n",
+            "log refused at line 2: syntax\n",
+            5,
+        ),
+        (
+            CHART,
+            "A",
+            "\n i : out a to j ;\n\t\n\nj: in a from i;",
+            "conforms, events 2\n",
+            0,
+        ),
+        (
+            CHART,
+            "A",
+            "i: out a to j;\n\nk: out a to j;\n",
+            "fails at event 2, line 3\n",
+            1,
+        ),
+        (CHART, "A", "i: out a to j;\n", "stops early, events 1\n", 3),
+    ];
+    for (document, chart, log, want, status) in rows {
+        let words = judge_words(alloc, chart)?;
+        let mut shelf = shelf_with(alloc, document, log.as_bytes())?;
+        let mut out = MemSink::new(alloc, 100)?;
+        assert_eq!(rt;
+            run(alloc, &words, &mut shelf, &mut out),
+            status,
+            "at {log}"
+        );
+        assert_eq!(rt; out.bytes(), want.as_bytes(), "at {log}");
+    }
+    Ok(())
+}
+
+/// Charts with several runs.
+#[test]
+fn rows_of_several_messages(rt: HostRuntime) -> Result<(), Fail> {
+    let alloc = rt.alloc();
+    let rows: [Row; 6] = [
+        (
+            CROSSED,
+            "X",
+            "j: out b to i;\ni: out a to j;\ni: in b from j;\nj: in a from i;\n",
+            "conforms, events 4\n",
+            0,
+        ),
+        (
+            CROSSED,
+            "X",
+            "i: out a to j;\nj: in a from i;\n",
+            "fails at event 2, line 2\n",
+            1,
+        ),
+        (
+            CROSSED,
+            "X",
+            "j: out b to i;\ni: out a to j;\n",
+            "stops early, events 2\n",
+            3,
+        ),
+        (
+            TWICE,
+            "T",
+            "i: out a to j;\nj: in a from i;\nk: out a to j;\nj: in a from k;\ni: out a to j;\nj: in a from i;\n",
+            "conforms, events 6\n",
+            0,
+        ),
+        (
+            TWICE,
+            "T",
+            "k: out a to j;\nj: in a from i;\n",
+            "fails at event 2, line 2\n",
+            1,
+        ),
+        (
+            TWICE,
+            "T",
+            "i: out a to j;\nj: in a from i;\nj: in a from i;\n",
+            "fails at event 3, line 3\n",
+            1,
+        ),
+    ];
+    for (document, chart, log, want, status) in rows {
+        let words = judge_words(alloc, chart)?;
+        let mut shelf = shelf_with(alloc, document, log.as_bytes())?;
+        let mut out = MemSink::new(alloc, 100)?;
+        assert_eq!(rt;
+            run(alloc, &words, &mut shelf, &mut out),
+            status,
+            "at {log}"
+        );
+        assert_eq!(rt; out.bytes(), want.as_bytes(), "at {log}");
+    }
+    Ok(())
+}
+
+/// Documents that are refused, or accepted though they look odd.
+#[test]
+fn documents(rt: HostRuntime) -> Result<(), Fail> {
+    let alloc = rt.alloc();
+    let rows: [(&str, &str, u8); 16] = [
+        ("", REFUSED, 4),
+        ("msc A; inst i; endmsc;", "conforms, events 0\n", 0),
+        ("msc A; inst i endmsc;", REFUSED, 4),
+        ("msc A; inst ; endmsc;", REFUSED, 4),
+        ("msc A; inst i,i; endmsc;", REFUSED, 4),
+        ("msc A; inst i; endmsc; msc B; inst i; endmsc;", REFUSED, 4),
+        ("msc A; inst i,j; i: out a to j; endmsc;", REFUSED, 4),
+        (
+            "msc A; inst i,j; j: in a from i; i: out a to j; endmsc;",
+            REFUSED,
+            4,
+        ),
+        (
+            "msc A; inst i,j; i: out a to j; j: in b from i; endmsc;",
+            REFUSED,
+            4,
+        ),
+        ("msc A; inst i,j; i: out a to k; endmsc;", REFUSED, 4),
+        (
+            "msc A; inst i,j; k: out a to j; j: in a from k; endmsc;",
+            REFUSED,
+            4,
+        ),
+        ("msc A; inst i,to; endmsc;", REFUSED, 4),
+        (
+            "msc A; inst i,stop; i: out a to stop; stop: in a from i; endmsc;",
+            REFUSED,
+            4,
+        ),
+        ("msc A; inst i; /* a note */ endmsc;", REFUSED, 4),
+        (
+            "msc A; inst i,j; i: out a to j; j: in a from i; endmsc",
+            REFUSED,
+            4,
+        ),
+        (
+            "msc A;\n inst i,\n\tstop;\r endmsc\n;",
+            "conforms, events 0\n",
+            0,
+        ),
+    ];
+    for (document, want, status) in rows {
+        let words = judge_words(alloc, "A")?;
+        let mut shelf = shelf_with(alloc, document, b"")?;
+        let mut out = MemSink::new(alloc, 100)?;
+        assert_eq!(rt;
+            run(alloc, &words, &mut shelf, &mut out),
+            status,
+            "at {document}"
+        );
+        assert_eq!(rt; out.bytes(), want.as_bytes(), "at {document}");
+    }
+    Ok(())
+}
+
+/// Words that are no request, and words that are one.
+#[test]
+fn words(rt: HostRuntime) -> Result<(), Fail> {
+    let alloc = rt.alloc();
+    let rows: [(&[&str], u8); 9] = [
+        (&["judge", "d", "A"], 2),
+        (&[], 2),
+        (&["judge", "d", "A", "l", "l"], 2),
+        (&["judges", "d", "A", "l"], 2),
+        (&["judge", "-d", "A", "l"], 2),
+        (&["judge", "d", "--", "l"], 2),
+        (&["judge", "d", "A", "--json"], 2),
+        (&["judge", "d", "-", "l"], 4),
+        (&["judge", "d", "", "l"], 4),
+    ];
+    for (given, status) in rows {
+        let words = words_of(alloc, given)?;
+        let mut shelf = shelf_with(alloc, CHART, RUN.as_bytes())?;
+        let mut out = MemSink::new(alloc, 100)?;
+        assert_eq!(rt; run(alloc, &words, &mut shelf, &mut out), status);
+        if status == 2 {
+            assert_eq!(rt; out.bytes(), b"usage: mscjudge COMMAND WORDS\n".as_slice());
+        }
+    }
+    let mut list = Items::new(alloc);
+    for word in [b"judge".as_slice(), b"d", b"\xff", b"l"] {
+        list.push(Text::from_bytes(alloc, word)?)?;
+    }
+    let mut shelf = shelf_with(alloc, CHART, RUN.as_bytes())?;
+    let mut out = MemSink::new(alloc, 100)?;
+    assert_eq!(rt; run(alloc, &list, &mut shelf, &mut out), 2);
+    Ok(())
+}
