@@ -3,7 +3,7 @@ ghost use Rattle.std.specs.Prelude.{◌≡◌, ◌↔◌, IfOk, IsTrue};
 use crate::{Items, Name, NoMemory, Text};
 use std::alloc::Global;
 
-/// What an event does.
+/// What an event does (Z.120, clauses 4.3 to 4.9).
 #[derive(Clone, Copy, Debug, PartialEq, Eq)]
 pub enum Kind {
     /// A message is sent.
