@@ -1,4 +1,7 @@
 //! What a row runs on.
+ghost use Rattle.std.specs.Prelude.{◌≡◌, IfOk};
+ghost use Rattle.msc_base.specs.MemoryShelves.{calls_of};
+
 use msc_base::{Items, MemShelf, NoMemory, Text, Words};
 use std::alloc::Global;
 
@@ -22,14 +25,18 @@ pub fn words_of(alloc: Global, words: &[&str]) -> Result<Words, NoMemory> {
 }
 
 /// A shelf that holds the document `d`.
-pub fn shelf_of(alloc: Global, document: &str) -> Result<MemShelf, NoMemory> {
+pub fn shelf_of(alloc: Global, document: &str) -> Result<MemShelf, NoMemory>
+    ensures { IfOk result (λ shelf. calls_of shelf ≡ 0) }
+{
     let mut shelf = MemShelf::new(alloc)?;
     shelf.put(&Text::from_bytes(alloc, b"d")?, document.as_bytes())?;
     Ok(shelf)
 }
 
 /// A shelf that holds the document `d` and the log `l`.
-pub fn shelf_with(alloc: Global, document: &str, log: &[u8]) -> Result<MemShelf, NoMemory> {
+pub fn shelf_with(alloc: Global, document: &str, log: &[u8]) -> Result<MemShelf, NoMemory>
+    ensures { IfOk result (λ shelf. calls_of shelf ≡ 0) }
+{
     let mut shelf = shelf_of(alloc, document)?;
     shelf.put(&Text::from_bytes(alloc, b"l")?, log)?;
     Ok(shelf)
