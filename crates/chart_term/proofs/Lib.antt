@@ -1,0 +1,12 @@
+pub mod Arranging
+pub mod Commuting
+pub mod Instances
+pub mod Joining
+pub mod Lists
+pub mod Looping
+pub mod Positions
+pub mod Running
+pub mod Sameness
+pub mod Walking
+pub mod Equal
+pub mod Binding

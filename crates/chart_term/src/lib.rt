@@ -1,0 +1,7 @@
+//! Terms of charts: their patterns and normal forms.
+//!
+//! A term is a process of a process algebra: it stands for a set of patterns, partial orders of events. `specs/` has the tree
+//! of a term, its weight, its patterns and the normalising constructors.
+#![tactic(auto)]
+
+pub mod laws;
