@@ -1,4 +1,4 @@
-ghost use Rattle.std.specs.Prelude.{◌<◌, ◌^◌, IfOk, length};
+ghost use Rattle.std.specs.Prelude.{◌≡◌, ◌<◌, ◌^◌, ◌↔◌, IfOk, IsTrue, length};
 ghost use Rattle.event_log.specs.Logs.{IsBlankLine, IsEventLine, IsBadLine, IfLine};
 
 use msc_base::{Label, NoMemory};
@@ -17,6 +17,13 @@ pub enum Line {
     Bad,
 }
 
+/// Whether it is want of memory.
+fn is_want(fault: &LexFault) -> bool
+    ensures { IsTrue result ↔ (fault.now ≡ LexFault.NoMemory) }
+{
+    *fault == LexFault::NoMemory
+}
+
 /// What a line is.
 pub fn read_line(alloc: Global, bytes: &[u8]) -> Result<Line, NoMemory>
     requires { length bytes.now < 2 ^ 63 }
@@ -24,8 +31,12 @@ pub fn read_line(alloc: Global, bytes: &[u8]) -> Result<Line, NoMemory>
 {
     let tokens = match lex_all(alloc, bytes) {
         Ok(tokens) => tokens,
-        Err(LexFault::BadByte(_)) => return Ok(Line::Bad),
-        Err(LexFault::NoMemory) => return Err(NoMemory),
+        Err(fault) => {
+            if is_want(&fault) {
+                return Err(NoMemory);
+            }
+            return Ok(Line::Bad);
+        }
     };
     if tokens.len() == 0 {
         return Ok(Line::Blank);

@@ -1,2 +1,4 @@
+pub mod BitFacts
 pub mod Moving
+pub mod RisingFacts
 pub mod TableFacts

@@ -1,6 +1,6 @@
 ghost use Rattle.std.specs.Prelude.{◌≡◌, ◌↔◌, IfOk, IsTrue};
 
-use crate::{Items, Name, NoMemory, Text};
+use crate::{Items, Name, NoMemory, Place, Text};
 use std::alloc::Global;
 
 /// What an event does (Z.120, clauses 4.3 to 4.9).
@@ -50,6 +50,24 @@ pub struct Label {
     pub far: Far,
 }
 
+/// A pair of event numbers.
+#[derive(Clone, Copy, Debug, PartialEq, Eq)]
+pub struct Pair {
+    /// The number of the first event.
+    pub first: u32,
+    /// The number of the second event.
+    pub second: u32,
+}
+
+/// A name and where it stands.
+#[derive(Drop)]
+pub struct LabelRef {
+    /// The name.
+    pub name: Name,
+    /// Where it stands.
+    pub place: Place,
+}
+
 /// A list of names.
 pub type Names = Items<Name>;
 
@@ -61,6 +79,12 @@ pub type LabelList = Items<Label>;
 
 /// A list of numbers.
 pub type NumberList = Items<u32>;
+
+/// A list of pairs of event numbers.
+pub type PairList = Items<Pair>;
+
+/// A list of names and where they stand.
+pub type LabelRefs = Items<LabelRef>;
 
 impl Far {
     /// Whether both are the same far end.

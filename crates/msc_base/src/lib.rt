@@ -3,6 +3,7 @@
 //! `specs/` has what a log is judged by: patterns, linear orders, unfoldings and their runs.
 #![tactic(auto)]
 
+mod block;
 mod calls;
 mod entry;
 mod file_shelf;
@@ -17,12 +18,17 @@ mod name_table;
 mod place;
 mod shelf;
 mod standard_sink;
+#[cfg(test)]
+mod tests;
 mod text;
 mod verdict;
 
+pub use block::Block;
 pub use entry::Entry;
 pub use file_shelf::FileShelf;
-pub use label::{Far, Kind, Label, LabelList, Names, NumberList, Words};
+pub use label::{
+    Far, Kind, Label, LabelList, LabelRef, LabelRefs, Names, NumberList, Pair, PairList, Words,
+};
 pub use limits::Limits;
 pub use list::Items;
 pub use memory::NoMemory;

@@ -7,7 +7,7 @@ impl Limits {
     /// The most charts in a document.
     pub const CHARTS: u64 = 4_096;
     /// The most different instance names in a document.
-    pub const INSTANCES: u64 = 64;
+    pub const INSTANCES: u64 = 1_024;
     /// The most bytes of a name.
     pub const NAME_BYTES: u64 = 255;
     /// The deepest nesting in one chart's text.

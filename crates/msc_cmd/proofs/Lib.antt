@@ -1,5 +1,6 @@
 pub mod Begun
 pub mod EntryFronts
+pub mod Examples
 pub mod FrontOrders
 pub mod JudgeColumns
 pub mod JudgeEnds
@@ -13,9 +14,11 @@ pub mod Orders
 pub mod OtherNumbers
 pub mod Places
 pub mod Replies
+pub mod Settling
 pub mod ShownLabels
-pub mod TextParts
+pub mod Taking
 pub mod VerdictLaws
+pub mod WordLaws
 pub mod WovenPairs
 pub mod WovenPositions
 pub mod WovenRuns

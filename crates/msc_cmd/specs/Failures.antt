@@ -3,9 +3,13 @@ use Rattle.std.specs.Prelude.{◌≡◌, ◌⊎◌, ℕ, List, Option, Some, Boo
 use Rattle.msc_base.specs.Causes.{Rose}
 use Rattle.msc_base.specs.Shelves.{Files}
 use Rattle.msc_grammar.specs.declared.chart.PlainChart.{PlainChart}
-use Rattle.msc_cmd.specs.Requests.{IsRequest}
-use Rattle.msc_cmd.specs.Texts.{no_document_line, no_log_line}
-use Rattle.msc_cmd.specs.Outcomes.{IsDocument, IfTold}
+use Rattle.judge_report.specs.declared.fault.Fault.TheVariants.{DocumentRead, LogRead}
+use Rattle.judge_report.specs.Texts.{fault_line}
+use Rattle.msc_cmd.specs.declared.requests.Request.{Request}
+use Rattle.msc_cmd.specs.declared.requests.Request.TheVariants.{Judge}
+use Rattle.msc_cmd.specs.Documents.{IsDocument}
+use Rattle.msc_cmd.specs.Requests.{asked_of}
+use Rattle.msc_cmd.specs.Outcomes.{IfTold}
 
 -- the shelf's last call failed, at this entry
 pub record FailedAt (before now : ℕ) (broken : Bool) (last : Option (List ℕ)) (name : List ℕ) : Type 0 where
@@ -18,15 +22,17 @@ abbrev pub HasChart : List ℕ → List ℕ → Files → Type 0
 HasChart document name files = (bytes : List ℕ) × (chart : PlainChart) × (files document ≡ Some bytes) × IsDocument bytes chart × (chart.name ≡ name)
 
 -- the shelf failed at the document, or at the log of an accepted one, and the line says which
-abbrev pub CannotRead : Option Files → ℕ → ℕ → Bool → Option (List ℕ) → List ℕ → List ℕ → List ℕ → List ℕ → Type 0
-CannotRead files before now broken last document name log text =
-    (FailedAt before now broken last document × (text ≡ no_document_line))
-    ⊎ (FailedAt before now broken last log × (text ≡ no_log_line) × IfTold files (HasChart document name))
+abbrev pub CannotRead : Bool → Option Files → ℕ → ℕ → Bool → Option (List ℕ) → List ℕ → List ℕ → List ℕ → List ℕ → Type 0
+CannotRead json files before now broken last document name log text =
+    (FailedAt before now broken last document × (text ≡ fault_line json DocumentRead))
+    ⊎ (FailedAt before now broken last log × (text ≡ fault_line json LogRead) × IfTold files (HasChart document name))
+
+-- an entry of the request can't be read
+abbrev pub CannotServe : Request → Option Files → ℕ → ℕ → Bool → Option (List ℕ) → List ℕ → Type 0
+CannotServe (Judge document chart log budget json form) files before now broken last text = CannotRead json files before now broken last document chart log text
 
 -- the words are a request, and one of its entries can't be read
 pub record CannotJudge (words : List (List ℕ)) (files : Option Files) (before now : ℕ) (broken : Bool) (last : Option (List ℕ)) (text : List ℕ) : Type 0 where
-  pub document : List ℕ
-  pub name : List ℕ
-  pub log : List ℕ
-  pub asked : IsRequest words document name log
-  pub failed : CannotRead files before now broken last document name log text
+  pub request : Request
+  pub asked : asked_of words ≡ Some request
+  pub failed : CannotServe request files before now broken last text

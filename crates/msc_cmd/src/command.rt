@@ -2,15 +2,33 @@ ghost use Rattle.std.specs.Prelude.{◌≡◌, ◌<◌, ◌≤◌, ◌⊎◌, �
 ghost use Rattle.std.specs.Io.KnownBytes.{Appends, Keeps};
 ghost use Rattle.msc_base.specs.Causes.{Rose};
 ghost use Rattle.msc_cmd.specs.Requests.{IsNoRequest};
-ghost use Rattle.msc_cmd.specs.Writing.{AppendsPart};
-ghost use Rattle.msc_cmd.specs.Outcomes.{IsOutcome, IfTold, IsTheOne};
-ghost use Rattle.msc_cmd.specs.Failures.{CannotJudge};
+ghost use Rattle.judge_report.specs.Writing.{AppendsPart};
+ghost use Rattle.msc_cmd.specs.Outcomes.{IsOutcome, IfTold, IsTheOne, RequestOutcome};
+ghost use Rattle.msc_cmd.specs.Failures.{CannotJudge, CannotServe};
 
 use crate::answer::{Reply, judge_files, make_reply};
-use crate::emitting::emit;
-use crate::words::request_of;
+use crate::requests::{Request, WordFault, asked_by};
+use judge_report::{Fault, emit};
 use msc_base::{NoMemory, Shelf, Sink, Words};
 use std::alloc::Global;
+
+/// The reply to a request.
+fn serve<S: Shelf>(alloc: Global, request: &Request, shelf: &mut S) -> Result<Reply, NoMemory>
+    ensures small { IfOk result (λ r. r.status ≤ 7) }
+    ensures not_two { IfOk result (λ r. r.status ≡ 2 → ⊥) }
+    ensures outcome { IfOk result (λ r. r.status < 7 → IfTold (S.files shelf.old) (λ f. IsTheOne (RequestOutcome request.now f) r.status r.text)) }
+    ensures failed { IfOk result (λ r. r.status ≡ 7 → CannotServe request.now (S.files shelf.old) (S.faults shelf.old) (S.faults shelf.new) (S.broken shelf.new) (S.last shelf.new) r.text) }
+{
+    match request {
+        Request::Judge {
+            document,
+            chart,
+            log,
+            json,
+            ..
+        } => judge_files(alloc, document, chart, log, *json, shelf),
+    }
+}
 
 /// The reply to the words.
 fn answer<S: Shelf>(alloc: Global, words: &Words, shelf: &mut S) -> Result<Reply, NoMemory>
@@ -21,10 +39,11 @@ fn answer<S: Shelf>(alloc: Global, words: &Words, shelf: &mut S) -> Result<Reply
     ensures refused { IfOk result (λ r. IsNoRequest words.now → r.status ≡ 2) }
     ensures unchanged { IsNoRequest words.now → shelf.new ≡ shelf.old }
 {
-    let Some((document, name, log)) = request_of(words) else {
-        return make_reply(alloc, 2, "usage: mscjudge COMMAND WORDS");
-    };
-    judge_files(alloc, document, name, log, shelf)
+    match asked_by(alloc, words) {
+        Ok(request) => serve(alloc, &request, shelf),
+        Err(WordFault::NoRequest) => make_reply(alloc, 2, &Fault::Usage, false),
+        Err(WordFault::NoMemory) => Err(NoMemory),
+    }
 }
 
 /// Does all that the program does, and gives its status.

@@ -7,10 +7,11 @@ mod answer;
 mod columns;
 mod command;
 mod document;
-mod emitting;
 mod entry;
+mod intake;
 mod judge;
-mod texts;
-mod words;
+mod reading;
+mod requests;
 
 pub use command::run;
+pub use requests::{LogForm, Request, WordFault, request_of};

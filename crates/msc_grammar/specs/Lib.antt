@@ -4,3 +4,4 @@ pub mod Events
 pub mod Meanings
 pub mod Pairing
 pub mod Plain
+pub mod Rules

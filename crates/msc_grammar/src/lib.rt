@@ -11,8 +11,10 @@ mod lead;
 mod names;
 mod pairing;
 mod parse;
+mod rule;
 mod rules;
 
 pub use chart::PlainChart;
 pub use event::{PlainFault, parse_event};
 pub use parse::first_chart;
+pub use rule::{Form, Rule};

@@ -59,9 +59,9 @@ fn read_chart(alloc: Global, tokens: &[Token]) -> Result<Option<ReadChart>, NoMe
 ///
 /// `NotYet` comes exactly where they are none. A chart whose events u32 doesn't number is want of memory.
 pub fn first_chart(alloc: Global, tokens: &TokenList) -> Result<PlainChart, PlainFault>
-    ensures ok { IfOk result (λ chart. IsChartOf (texts tokens.now) chart) }
-    ensures only { IfOk result (λ chart. (other : PlainChart) → IsChartOf (texts tokens.now) other → other ≡ chart) }
-    ensures not_yet { IsErrOf result PlainFault.NotYet → (chart : PlainChart) → IsChartOf (texts tokens.now) chart → ⊥ }
+    ensures ok { IfOk result (λ chart. IsChartOf (texts tokens.now.tokens) chart) }
+    ensures only { IfOk result (λ chart. (other : PlainChart) → IsChartOf (texts tokens.now.tokens) other → other ≡ chart) }
+    ensures not_yet { IsErrOf result PlainFault.NotYet → (chart : PlainChart) → IsChartOf (texts tokens.now.tokens) chart → ⊥ }
 {
     let Some(read) = read_chart(alloc, tokens.as_slice())? else {
         return Err(PlainFault::NotYet);

@@ -1,68 +1,54 @@
--- One more piece of a text.
-use Rattle.std.proofs.Common.{◌≡◌, ◌<◌, List, ℕ, length, take, drop, ◌++◌, [], ◌∷◌, All, arith, sym, refl, ap, ◌∙◌, append_assoc, append-nil, subst, get_or}
+-- One more piece at the front of a text.
+use Rattle.std.proofs.Common.{◌≡◌, List, ℕ, ◌++◌, [], ◌∷◌, Result, Ok, Err, sym, refl, ap, ◌∙◌, append_assoc, append-nil, subst}
 use Rattle.msc_base.specs.declared.place.Place.{Place}
-use Rattle.msc_base.specs.Names.{IsWord, IsWordByte}
 use Rattle.msc_tokens.specs.declared.token.Token.{Token}
-use Rattle.msc_tokens.specs.declared.token.TokenKind.TheVariants.{Word, Mark}
-use Rattle.msc_tokens.specs.Places.{first_place, after_byte, past}
-use Rattle.msc_tokens.specs.Spelling.{IsBlank, IsMark, Piece, Blank, OneMark, OneWord, bytes_of, tokens_from, BeginsWithWordByte, IsWellCut, Cuts, IsBad, bad_byte, bad_word}
+use Rattle.msc_tokens.specs.declared.token_list.TokenList.{TokenList}
+use Rattle.msc_tokens.specs.declared.fault.LexFault.{LexFault}
+use Rattle.msc_tokens.specs.Places.{after_byte, past}
+use Rattle.msc_tokens.specs.Spelling.{Piece, text, bytes_of, token_of, tokens_from, IsPiece, Ends, IsWellCut, Breaks}
 
 pub past-append : (p : Place) (xs ys : List ℕ) → past p (xs ++ ys) ≡ past (past p xs) ys
 past-append p [] ys = refl
 past-append p (x ∷ xs) ys = past-append (after_byte p x) xs ys
 
-pub bytes_of-append : (ps : List Piece) (x : Piece) → bytes_of (ps ++ x ∷ []) ≡ bytes_of ps ++ bytes_of (x ∷ [])
-bytes_of-append [] x = refl
-bytes_of-append (Blank b ∷ ps) x = ap (λ bs. b ∷ bs) (bytes_of-append ps x)
-bytes_of-append (OneMark b ∷ ps) x = ap (λ bs. b ∷ bs) (bytes_of-append ps x)
-bytes_of-append (OneWord w ∷ ps) x = ap (λ bs. w ++ bs) (bytes_of-append ps x) ∙ sym (append_assoc w (bytes_of ps) (bytes_of (x ∷ [])))
+-- the bytes from a place on are a row of pieces, whose tokens stand behind those before
+pub record IsRow (at : Place) (before : List Token) (bytes : List ℕ) (list : TokenList) : Type 0 where
+  pub pieces : List Piece
+  pub spelled : bytes ≡ bytes_of pieces
+  pub cut : IsWellCut pieces []
+  pub tokens_are : list.tokens ≡ before ++ tokens_from at pieces
+  pub end_is : list.end_place ≡ past at bytes
 
-pub tokens_from-append : (p : Place) (ps : List Piece) (x : Piece) → tokens_from p (ps ++ x ∷ []) ≡ tokens_from p ps ++ tokens_from (past p (bytes_of ps)) (x ∷ [])
-tokens_from-append p [] x = refl
-tokens_from-append p (Blank b ∷ ps) x = tokens_from-append (after_byte p b) ps x
-tokens_from-append p (OneMark b ∷ ps) x = ap (λ ts. (record { kind = Mark; bytes = b ∷ []; place = p }) ∷ ts) (tokens_from-append (after_byte p b) ps x)
-tokens_from-append p (OneWord w ∷ ps) x = rw past-append (ap (λ ts. (record { kind = Word; bytes = w; place = p }) ∷ ts) (tokens_from-append (past p w) ps x))
+-- the bytes from a place on are a row of pieces and a rest that begins none
+pub record IsBroken (at : Place) (bytes : List ℕ) (fault : LexFault) : Type 0 where
+  pub pieces : List Piece
+  pub rest : List ℕ
+  pub spelled : bytes ≡ bytes_of pieces ++ rest
+  pub cut : IsWellCut pieces rest
+  pub breaks : Breaks (past at (bytes_of pieces)) rest fault
 
-pub behind-append : (ps : List Piece) (x : Piece) (rest : List ℕ) → bytes_of (ps ++ x ∷ []) ++ rest ≡ bytes_of ps ++ (bytes_of (x ∷ []) ++ rest)
-behind-append ps x rest = ap (λ bs. bs ++ rest) (bytes_of-append ps x) ∙ append_assoc (bytes_of ps) (bytes_of (x ∷ [])) rest
+-- what the bytes from a place on are
+abbrev pub Reads : Place → List Token → List ℕ → Result TokenList LexFault → Type 0
+Reads at before bytes (Ok list) = IsRow at before bytes list
+Reads at before bytes (Err fault) = IsBroken at bytes fault
 
-pub IsWellCut-append : (ps : List Piece) (x : Piece) (rest : List ℕ) → IsWellCut ps (bytes_of (x ∷ []) ++ rest) → IsWellCut (x ∷ []) rest → IsWellCut (ps ++ x ∷ []) rest
-IsWellCut-append [] x rest h k = k
-IsWellCut-append (Blank b ∷ ps) x rest h k = (h.0, IsWellCut-append ps x rest h.1 k)
-IsWellCut-append (OneMark b ∷ ps) x rest h k = (h.0, IsWellCut-append ps x rest h.1 k)
-IsWellCut-append (OneWord w ∷ ps) x rest h k = (h.0, λ y. h.1 (subst BeginsWithWordByte (behind-append ps x rest) y), IsWellCut-append ps x rest h.2 k)
-
--- a cut goes on with one more piece
-pub Cuts-append : (bytes : List ℕ) (tokens : List Token) (at : Place) (x : Piece) (rest : List ℕ) → Cuts bytes tokens at (bytes_of (x ∷ []) ++ rest) → IsWellCut (x ∷ []) rest → Cuts bytes (tokens ++ tokens_from at (x ∷ [])) (past at (bytes_of (x ∷ []))) rest
-Cuts-append bytes tokens at x rest h k = record {
-  pieces = h.pieces ++ x ∷ [];
-  spelled = h.spelled ∙ sym (behind-append h.pieces x rest);
-  cut = IsWellCut-append h.pieces x rest h.cut k;
-  tokens_are = rw (h.tokens_are, h.place_is) (sym (tokens_from-append first_place h.pieces x));
-  place_is = rw (h.place_is, bytes_of-append) (sym (past-append first_place (bytes_of h.pieces) (bytes_of (x ∷ []))));
+pub piece_more : (x : Piece) (at : Place) (before : List Token) (bytes : List ℕ) (a : Result TokenList LexFault) → IsPiece x → Ends x bytes
+    → Reads (past at (text x)) (before ++ token_of at x) bytes a → Reads at before (text x ++ bytes) a
+piece_more x at before bytes (Ok list) is ends h = record {
+  pieces = x ∷ h.pieces;
+  spelled = ap (λ bs. text x ++ bs) h.spelled;
+  cut = (is, subst (Ends x) (h.spelled ∙ sym (append-nil (bytes_of h.pieces))) ends, h.cut);
+  tokens_are = h.tokens_are ∙ append_assoc before (token_of at x) (tokens_from (past at (text x)) h.pieces);
+  end_is = h.end_is ∙ sym (past-append at (text x) bytes);
+}
+piece_more x at before bytes (Err fault) is ends h = record {
+  pieces = x ∷ h.pieces;
+  rest = h.rest;
+  spelled = ap (λ bs. text x ++ bs) h.spelled ∙ sym (append_assoc (text x) (bytes_of h.pieces) h.rest);
+  cut = (is, subst (Ends x) h.spelled ends, h.cut);
+  breaks = subst (λ p. Breaks p h.rest fault) (sym (past-append at (text x) (bytes_of h.pieces))) h.breaks;
 }
 
--- a blank, a mark or a word is taken from the front of the rest
-pub cuts_blank : (bytes : List ℕ) (tokens : List Token) (at there : Place) (rest behind : List ℕ) → Cuts bytes tokens at rest → 0 < length rest → IsBlank (get_or rest 0 0) → behind ≡ drop 1 rest → there ≡ past at (take 1 rest) → Cuts bytes tokens there behind
-cuts_blank bytes tokens at there [] behind h some k is goes = absurd (omega arith)
-cuts_blank bytes tokens at there (b ∷ rest) behind h some k is goes =
-    let g : Cuts bytes (tokens ++ []) (after_byte at b) rest = Cuts-append bytes tokens at (Blank b) rest h (k, tt) in
-    rw (is, goes) (rw append-nil at g)
-
-pub cuts_mark : (bytes : List ℕ) (tokens more : List Token) (at there : Place) (rest behind : List ℕ) → Cuts bytes tokens at rest → 0 < length rest → IsMark (get_or rest 0 0) → behind ≡ drop 1 rest → there ≡ past at (take 1 rest) → more ≡ tokens ++ (record { kind = Mark; bytes = take 1 rest; place = at }) ∷ [] → Cuts bytes more there behind
-cuts_mark bytes tokens more at there [] behind h some k is goes adds = absurd (omega arith)
-cuts_mark bytes tokens more at there (b ∷ rest) behind h some k is goes adds =
-    rw (is, goes, adds) (Cuts-append bytes tokens at (OneMark b) rest h (k, tt))
-
-pub cuts_word : (bytes : List ℕ) (tokens more : List Token) (at there : Place) (rest front behind : List ℕ) → Cuts bytes tokens at rest → IsWord front → (BeginsWithWordByte behind → ⊥) → rest ≡ front ++ behind → there ≡ past at front → more ≡ tokens ++ (record { kind = Word; bytes = front; place = at }) ∷ [] → Cuts bytes more there behind
-cuts_word bytes tokens more at there rest front behind h k free is goes adds =
-    let here : Cuts bytes tokens at ((front ++ []) ++ behind) = rw append-nil (subst (Cuts bytes tokens at) is h) in
-    let g : Cuts bytes (tokens ++ (record { kind = Word; bytes = front; place = at }) ∷ []) (past at (front ++ [])) behind = Cuts-append bytes tokens at (OneWord front) behind here (k, free, tt) in
-    rw (goes, adds) (rw append-nil at g)
-
--- nothing is here that may stand
-pub is_bad : (rest front behind : List ℕ) → 0 < length rest → (IsBlank (get_or rest 0 0) → ⊥) → (IsMark (get_or rest 0 0) → ⊥) → rest ≡ front ++ behind → All IsWordByte front → (BeginsWithWordByte behind → ⊥) → (IsWord front → ⊥) → IsBad rest
-is_bad [] front behind some k m is word end isnt = absurd (omega arith)
-is_bad (b ∷ rest) [] [] some k m is word end isnt = cc
-is_bad (b ∷ rest) [] (c ∷ behind) some k m is word end isnt = bad_byte b rest k m (λ w. end (subst IsWordByte (ap (λ xs. get_or xs 0 0) is) w))
-is_bad (b ∷ rest) (c ∷ front) behind some k m is word end isnt = bad_word (c ∷ front) behind (b ∷ rest) is (omega arith) word isnt end
+-- a fault that stands at the front
+pub broken_here : (at : Place) (bytes : List ℕ) (fault : LexFault) → Breaks at bytes fault → IsBroken at bytes fault
+broken_here at bytes fault h = record { pieces = []; rest = bytes; spelled = refl; cut = tt; breaks = h }

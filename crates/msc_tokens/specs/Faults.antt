@@ -1,8 +1,11 @@
 -- What a fault tells.
-use Rattle.msc_base.specs.declared.place.Place.{Place}
-use Rattle.msc_tokens.specs.declared.lexer.LexFault.{LexFault}
-use Rattle.msc_tokens.specs.declared.lexer.LexFault.TheVariants.{BadByte, NoMemory}
+use Rattle.msc_tokens.specs.declared.fault.LexFault.{LexFault}
+use Rattle.msc_tokens.specs.declared.fault.LexFault.TheVariants.{BadByte, OpenString, OpenNote, LongName, NoMemory}
 
-abbrev pub IfBadByte : LexFault → (Place → Type 0) → Type 0
-IfBadByte (BadByte at) P = P at
-IfBadByte NoMemory P = Unit {0}
+-- each fault but want of memory tells something of the text
+abbrev pub IfNamed : LexFault → Type 0 → Type 0
+IfNamed (BadByte at) P = P
+IfNamed (OpenString at) P = P
+IfNamed (OpenNote at) P = P
+IfNamed (LongName at) P = P
+IfNamed NoMemory P = Unit {0}

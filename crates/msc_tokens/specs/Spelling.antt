@@ -1,64 +1,163 @@
--- How a text is cut into tokens.
-use Rattle.std.specs.Prelude.{◌≡◌, ◌⊎◌, ◌<◌, ℕ, List, [], ◌∷◌, ◌++◌, length, All}
+-- How a text is cut into tokens, and its first fault.
+use Rattle.std.specs.Prelude.{◌≡◌, ◌≢◌, ◌⊎◌, ◌<◌, ◌≤◌, ◌^◌, ℕ, List, [], ◌∷◌, ◌++◌, length, All, Any}
 use Rattle.msc_base.specs.declared.place.Place.{Place}
-use Rattle.msc_base.specs.Names.{IsWord, IsWordByte}
+use Rattle.msc_base.specs.Names.{IsWord, IsWordByte, IsLetterOrDigit}
 use Rattle.msc_tokens.specs.declared.token.Token.{Token}
-use Rattle.msc_tokens.specs.declared.token.TokenKind.TheVariants.{Word, Mark}
-use Rattle.msc_tokens.specs.Places.{first_place, after_byte, past}
+use Rattle.msc_tokens.specs.declared.token.TokenKind.TheVariants.{Word, Str, Mark}
+use Rattle.msc_tokens.specs.declared.fault.LexFault.{LexFault}
+use Rattle.msc_tokens.specs.declared.fault.LexFault.TheVariants.{BadByte, OpenString, OpenNote, LongName}
+use Rattle.msc_tokens.specs.Places.{first_place, past}
 
+-- tab, line feed, carriage return, space
 abbrev pub IsBlank : ℕ → Type 0
 IsBlank b = (b ≡ 9) ⊎ (b ≡ 10) ⊎ (b ≡ 13) ⊎ (b ≡ 32)
 
--- `;`, `:` and `,`
-abbrev pub IsMark : ℕ → Type 0
-IsMark b = (b ≡ 59) ⊎ (b ≡ 58) ⊎ (b ≡ 44)
+-- a byte that a string or a note may hold
+abbrev pub IsInside : ℕ → Type 0
+IsInside b = (b ≡ 9) ⊎ (b ≡ 10) ⊎ (b ≡ 13) ⊎ ((32 ≤ b) × (b ≤ 126)) ⊎ (128 ≤ b)
 
--- a part of a text: a blank, or what a token takes
+-- `;` `:` `,` `(` `)` `<` `>` `[` `]` `@` `&` `=`
+abbrev pub IsMark : ℕ → Type 0
+IsMark b = (b ≡ 59) ⊎ (b ≡ 58) ⊎ (b ≡ 44) ⊎ (b ≡ 40) ⊎ (b ≡ 41) ⊎ (b ≡ 60) ⊎ (b ≡ 62) ⊎ (b ≡ 91) ⊎ (b ≡ 93) ⊎ (b ≡ 64) ⊎ (b ≡ 38) ⊎ (b ≡ 61)
+
+-- `:=` `<<` `>>`
+abbrev pub IsPair : ℕ → ℕ → Type 0
+IsPair b c = ((b ≡ 58) × (c ≡ 61)) ⊎ ((b ≡ 60) × (c ≡ 60)) ⊎ ((b ≡ 62) × (c ≡ 62))
+
+-- the bytes begin with one of this kind
+abbrev pub BeginsWith : (ℕ → Type 0) → List ℕ → Type 0
+BeginsWith P [] = ⊥
+BeginsWith P (b ∷ bs) = P b
+
+abbrev pub IsApostrophe : ℕ → Type 0
+IsApostrophe b = b ≡ 39
+
+abbrev pub IsSlash : ℕ → Type 0
+IsSlash b = b ≡ 47
+
+abbrev pub IsStar : ℕ → Type 0
+IsStar b = b ≡ 42
+
+-- a part of what a string holds: a byte, or an apostrophe, which is doubled
+pub data Part : Type 0 where
+  Plain : ℕ → Part
+  Doubled : Part
+
+abbrev pub held : List Part → List ℕ
+held [] = []
+held (Plain b ∷ ps) = b ∷ held ps
+held (Doubled ∷ ps) = 39 ∷ 39 ∷ held ps
+
+abbrev pub AreParts : List Part → Type 0
+AreParts [] = Unit {0}
+AreParts (Plain b ∷ ps) = IsInside b × (b ≢ 39) × AreParts ps
+AreParts (Doubled ∷ ps) = AreParts ps
+
+-- a note may hold these bytes, and they don't close it
+abbrev pub IsNoted : List ℕ → Type 0
+IsNoted [] = Unit {0}
+IsNoted (b ∷ bs) = IsInside b × (IsStar b → BeginsWith IsSlash bs → ⊥) × IsNoted bs
+
+-- a part of a text: a blank, a note with what it holds, or what a token takes
 pub data Piece : Type 0 where
   Blank : ℕ → Piece
-  OneMark : ℕ → Piece
+  Note : List ℕ → Piece
   OneWord : List ℕ → Piece
+  OneString : List Part → Piece
+  OneMark : ℕ → Piece
+  LongMark : ℕ → ℕ → Piece
+
+abbrev pub text : Piece → List ℕ
+text (Blank b) = b ∷ []
+text (Note bs) = 47 ∷ 42 ∷ (bs ++ 42 ∷ 47 ∷ [])
+text (OneWord w) = w
+text (OneString ps) = 39 ∷ (held ps ++ 39 ∷ [])
+text (OneMark b) = b ∷ []
+text (LongMark b c) = b ∷ c ∷ []
 
 abbrev pub bytes_of : List Piece → List ℕ
 bytes_of [] = []
-bytes_of (Blank b ∷ ps) = b ∷ bytes_of ps
-bytes_of (OneMark b ∷ ps) = b ∷ bytes_of ps
-bytes_of (OneWord w ∷ ps) = w ++ bytes_of ps
+bytes_of (x ∷ xs) = text x ++ bytes_of xs
+
+-- the token that a piece is, at its place
+abbrev pub token_of : Place → Piece → List Token
+token_of p (Blank b) = []
+token_of p (Note bs) = []
+token_of p (OneWord w) = (record { kind = Word; bytes = w; place = p }) ∷ []
+token_of p (OneString ps) = (record { kind = Str; bytes = 39 ∷ (held ps ++ 39 ∷ []); place = p }) ∷ []
+token_of p (OneMark b) = (record { kind = Mark; bytes = b ∷ []; place = p }) ∷ []
+token_of p (LongMark b c) = (record { kind = Mark; bytes = b ∷ c ∷ []; place = p }) ∷ []
 
 abbrev pub tokens_from : Place → List Piece → List Token
 tokens_from p [] = []
-tokens_from p (Blank b ∷ ps) = tokens_from (after_byte p b) ps
-tokens_from p (OneMark b ∷ ps) = (record { kind = Mark; bytes = b ∷ []; place = p }) ∷ tokens_from (after_byte p b) ps
-tokens_from p (OneWord w ∷ ps) = (record { kind = Word; bytes = w; place = p }) ∷ tokens_from (past p w) ps
+tokens_from p (x ∷ xs) = token_of p x ++ tokens_from (past p (text x)) xs
 
-abbrev pub BeginsWithWordByte : List ℕ → Type 0
-BeginsWithWordByte [] = ⊥
-BeginsWithWordByte (b ∷ bs) = IsWordByte b
+abbrev pub IsPiece : Piece → Type 0
+IsPiece (Blank b) = IsBlank b
+IsPiece (Note bs) = IsNoted bs
+IsPiece (OneWord w) = IsWord w
+IsPiece (OneString ps) = AreParts ps
+IsPiece (OneMark b) = IsMark b
+IsPiece (LongMark b c) = IsPair b c
 
--- each piece is one, and no word is followed at once by a byte of a word
+-- what follows a piece doesn't make it longer
+abbrev pub Ends : Piece → List ℕ → Type 0
+Ends (Blank b) rest = Unit {0}
+Ends (Note bs) rest = Unit {0}
+Ends (OneWord w) rest = BeginsWith IsWordByte rest → ⊥
+Ends (OneString ps) rest = BeginsWith IsApostrophe rest → ⊥
+Ends (OneMark b) rest = BeginsWith (IsPair b) rest → ⊥
+Ends (LongMark b c) rest = Unit {0}
+
+-- each of the pieces is one, and ends before what follows
 abbrev pub IsWellCut : List Piece → List ℕ → Type 0
 IsWellCut [] rest = Unit {0}
-IsWellCut (Blank b ∷ ps) rest = IsBlank b × IsWellCut ps rest
-IsWellCut (OneMark b ∷ ps) rest = IsMark b × IsWellCut ps rest
-IsWellCut (OneWord w ∷ ps) rest = IsWord w × (BeginsWithWordByte (bytes_of ps ++ rest) → ⊥) × IsWellCut ps rest
+IsWellCut (x ∷ xs) rest = IsPiece x × Ends x (bytes_of xs ++ rest) × IsWellCut xs rest
 
--- the bytes are these tokens and then a rest, which begins at this place
-pub record Cuts (bytes : List ℕ) (tokens : List Token) (at : Place) (rest : List ℕ) : Type 0 where
+-- the bytes are a row of pieces, and these are its tokens
+pub record Spells (bytes : List ℕ) (tokens : List Token) : Type 0 where
   pub pieces : List Piece
+  pub spelled : bytes ≡ bytes_of pieces
+  pub cut : IsWellCut pieces []
+  pub tokens_are : tokens ≡ tokens_from first_place pieces
+
+-- a byte that begins no piece
+pub record BeginsNothing (b : ℕ) : Type 0 where
+  pub no_blank : IsBlank b → ⊥
+  pub no_word : IsWordByte b → ⊥
+  pub no_string : b ≢ 39
+  pub no_note : b ≢ 47
+  pub no_mark : IsMark b → ⊥
+
+-- the rest of a text, which begins at this place, begins no piece for this fault
+pub data Breaks (at : Place) (rest : List ℕ) (fault : LexFault) : Type 0 where
+  -- the first 256 bytes are of a word
+  long_word : (w behind : List ℕ) → rest ≡ w ++ behind → All IsWordByte w → length w ≡ 256 → fault ≡ LongName at → Breaks at rest fault
+  -- a word that is short enough has no letter or digit
+  bad_word : (w behind : List ℕ) → rest ≡ w ++ behind → All IsWordByte w → (BeginsWith IsWordByte behind → ⊥) → 0 < length w → length w ≤ 255
+      → (Any IsLetterOrDigit w → ⊥) → fault ≡ BadByte at → Breaks at rest fault
+  bad_byte : (b : ℕ) (behind : List ℕ) → rest ≡ b ∷ behind → BeginsNothing b → fault ≡ BadByte at → Breaks at rest fault
+  -- a `/` that begins no note
+  lone_slash : (behind : List ℕ) → rest ≡ 47 ∷ behind → (BeginsWith IsStar behind → ⊥) → fault ≡ BadByte at → Breaks at rest fault
+  -- the text ends inside a string
+  open_string : (ps : List Part) → rest ≡ 39 ∷ held ps → AreParts ps → fault ≡ OpenString at → Breaks at rest fault
+  -- the text ends inside a note
+  open_note : (bs : List ℕ) → rest ≡ 47 ∷ 42 ∷ bs → IsNoted bs → fault ≡ OpenNote at → Breaks at rest fault
+  -- a byte that a string can't hold
+  bad_in_string : (ps : List Part) (b : ℕ) (behind : List ℕ) → rest ≡ (39 ∷ held ps) ++ b ∷ behind → AreParts ps → (IsInside b → ⊥)
+      → fault ≡ BadByte (past at (39 ∷ held ps)) → Breaks at rest fault
+  -- a byte that a note can't hold
+  bad_in_note : (bs : List ℕ) (b : ℕ) (behind : List ℕ) → rest ≡ (47 ∷ 42 ∷ bs) ++ b ∷ behind → IsNoted bs → (IsInside b → ⊥)
+      → fault ≡ BadByte (past at (47 ∷ 42 ∷ bs)) → Breaks at rest fault
+
+-- the bytes are a row of pieces and a rest that begins none: the first fault of the text
+pub record HasLexFault (bytes : List ℕ) (fault : LexFault) : Type 0 where
+  pub pieces : List Piece
+  pub rest : List ℕ
   pub spelled : bytes ≡ bytes_of pieces ++ rest
   pub cut : IsWellCut pieces rest
-  pub tokens_are : tokens ≡ tokens_from first_place pieces
-  pub place_is : at ≡ past first_place (bytes_of pieces)
+  pub breaks : Breaks (past first_place (bytes_of pieces)) rest fault
 
--- the bytes are these tokens and no more
-abbrev pub Spells : List ℕ → List Token → Type 0
-Spells bytes tokens = (end : Place) × Cuts bytes tokens end []
-
--- neither a blank, nor a mark, nor a word is here
-pub data IsBad : List ℕ → Type 0 where
-  bad_byte : (b : ℕ) (bs : List ℕ) → (IsBlank b → ⊥) → (IsMark b → ⊥) → (IsWordByte b → ⊥) → IsBad (b ∷ bs)
-  bad_word : (w bs all : List ℕ) → all ≡ w ++ bs → 0 < length w → All IsWordByte w → (IsWord w → ⊥) → (BeginsWithWordByte bs → ⊥) → IsBad all
-
--- the first byte that isn't allowed stands at this place
-abbrev pub RefusedAt : List ℕ → Place → Type 0
-RefusedAt bytes at = (tokens : List Token) × (rest : List ℕ) × Cuts bytes tokens at rest × IsBad rest
+-- the fault of each text that begins with these bytes
+abbrev pub IsSettled : List ℕ → LexFault → Type 0
+IsSettled bytes fault = (more : List ℕ) → All (λ b. b < 2 ^ 8) more → HasLexFault (bytes ++ more) fault

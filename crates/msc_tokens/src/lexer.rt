@@ -1,130 +1,166 @@
-ghost use Rattle.std.specs.Prelude.{◌≡◌, ◌<◌, ◌≤◌, ◌^◌, ◌↔◌, ◌⊎◌, length, All, take, drop, IsTrue, IfOk, IfErr, OnOk, List, ◌++◌, ◌∷◌, []};
-ghost use Rattle.msc_base.specs.declared.place.Place.{Place};
+ghost use Rattle.std.specs.Prelude.{◌≡◌, ◌+◌, ◌<◌, ◌≤◌, ◌^◌, List, fold, length, IfOk, IfErr};
+ghost use Rattle.std.specs.Bool.{OnTrue};
+ghost use Rattle.msc_tokens.specs.declared.fault.LexFault.{LexFault};
 ghost use Rattle.msc_tokens.specs.declared.token.Token.{Token};
-ghost use Rattle.msc_tokens.specs.Faults.{IfBadByte};
-ghost use Rattle.msc_tokens.specs.declared.lexer.LexFault.TheVariants.{NoMemory};
-ghost use Rattle.msc_base.specs.Names.{IsWordByte};
-ghost use Rattle.msc_tokens.specs.Spelling.{IsBlank, IsMark, BeginsWithWordByte, Spells, RefusedAt};
+ghost use Rattle.msc_tokens.specs.Faults.{IfNamed};
+ghost use Rattle.msc_tokens.specs.Machine.{step};
+ghost use Rattle.msc_tokens.specs.Places.{first_place, past};
+ghost use Rattle.msc_tokens.specs.Spelling.{Spells, HasLexFault};
+ghost use Rattle.msc_tokens.specs.Views.{view};
 
-use crate::place::after_all;
-use crate::{Token, TokenKind, TokenList};
-use msc_base::{Items, NoMemory, Place, Text, is_word, is_word_byte};
+use crate::machine::Machine;
+use crate::{LexFault, TokenList};
+use msc_base::NoMemory;
 use std::alloc::Global;
+use std::marker::Model;
 
-/// Why a text has no tokens.
-#[derive(Clone, Copy, Debug, PartialEq, Eq)]
-pub enum LexFault {
-    /// The first place at which neither a blank, nor a mark, nor a word stands.
-    BadByte(Place),
-    /// Memory was wanting.
-    NoMemory,
+/// A text that comes in pieces. After a refusal it answers the same to all calls.
+#[derive(Drop)]
+pub struct Lexer {
+    machine: Machine,
+    count: u64,
+    spent: bool,
 }
 
-/// Whether the byte is a tab, a line feed, a carriage return or a space.
-fn is_blank(byte: u8) -> bool
-    ensures { IsTrue result ↔ IsBlank byte }
-{
-    matches!(byte, b'\t' | b'\n' | b'\r' | b' ')
+impl Model for Lexer {
+    ghost use Rattle.std.specs.Prelude.{Option, Some, None, ◌≤◌, if◌then◌else◌};
+    ghost use Rattle.msc_tokens.specs.Lexing.{Lexing};
+    ghost use Rattle.msc_tokens.specs.Views.{view as machine_view};
+
+    ghost Value = { Lexing };
+
+    ghost view = { λ l. record { count = l.count; state = if l.spent then None else Some (machine_view l.machine) } };
+
+    ghost invariant = { λ l. l.machine.place.byte ≤ l.count };
 }
 
-/// Whether the byte is a punctuation mark, `;`, `:` or `,`.
-fn is_mark(byte: u8) -> bool
-    ensures { IsTrue result ↔ IsMark byte }
+/// Takes all bytes of a piece, or says that memory ran out.
+fn take_all(machine: &mut Machine, piece: &[u8]) -> bool
+    requires { machine.old.place.byte + length piece.now < 2 ^ 63 }
+    ensures taken { OnTrue result (view machine.new ≡ fold step (view machine.old) piece.now) }
+    ensures bound { machine.new.place.byte ≤ machine.old.place.byte + length piece.now }
 {
-    matches!(byte, b';' | b':' | b',')
-}
-
-/// How many bytes of a word stand at the front.
-fn word_length(bytes: &[u8]) -> usize
-    ensures bound { result ≤ length bytes.now }
-    ensures word { All IsWordByte (take result bytes.now) }
-    ensures end { BeginsWithWordByte (drop result bytes.now) → ⊥ }
-{
-    for (i, byte) in bytes.iter().enumerate() {
-        if !is_word_byte(*byte) {
-            return i;
+    for byte in piece {
+        if machine.step(*byte).is_err() {
+            return false;
         }
     }
-    bytes.len()
+    true
 }
 
-/// The tokens of a text, or the first place that isn't allowed.
-#[tactic(auto, using(crate::proofs::Cutting::cuts_blank, crate::proofs::Cutting::cuts_mark, crate::proofs::Cutting::cuts_word, crate::proofs::Cutting::is_bad))]
-fn lex(alloc: Global, bytes: &[u8]) -> Result<TokenList, LexFault>
-    requires { length bytes.now < 2 ^ 63 }
-    ensures ok { IfOk result (λ tokens. Spells bytes.now tokens) }
-    ensures bad { IfErr result (λ fault. IfBadByte fault (RefusedAt bytes.now)) }
-{
-    let mut tokens = Items::new(alloc);
-    let mut place = Place {
-        byte: 0,
-        line: 1,
-        column: 1,
-    };
-    let mut rest = bytes;
-    while !rest.is_empty() {
-        let byte = rest[0];
-        if is_blank(byte) {
-            let (front, behind) = rest.split_at(1);
-            place = after_all(place, front);
-            rest = behind;
-        } else if is_mark(byte) {
-            let (front, behind) = rest.split_at(1);
-            push(alloc, &mut tokens, TokenKind::Mark, front, place)?;
-            place = after_all(place, front);
-            rest = behind;
+impl Lexer {
+    ghost use Rattle.std.specs.Prelude.{◌++◌, ℕ, [], Some, None, Ok, Err, MatchResult};
+    ghost use Rattle.msc_tokens.specs.Lexing.{Fed, refusal_of, ended_of};
+    ghost use Rattle.msc_tokens.specs.Spelling.{IsSettled};
+
+    /// The lexer before the first piece.
+    pub fn new(alloc: Global) -> Result<Lexer, NoMemory>
+        ensures { IfOk result (λ lexer. Fed [] lexer) }
+    {
+        Ok(Lexer {
+            machine: Machine::new(alloc),
+            count: 0,
+            spent: false,
+        })
+    }
+
+    /// What it answers from now on to all calls, after a refusal.
+    fn refusal(&self) -> Option<LexFault>
+        ensures { result ≡ refusal_of self.now }
+    {
+        if self.spent {
+            Some(LexFault::NoMemory)
         } else {
-            let count = word_length(rest);
-            let (front, behind) = rest.split_at(count);
-            if !is_word(front) {
-                return Err(LexFault::BadByte(place));
-            }
-            push(alloc, &mut tokens, TokenKind::Word, front, place)?;
-            place = after_all(place, front);
-            rest = behind;
+            self.machine.settled()
         }
     }
-    Ok(tokens)
+
+    /// Takes the next piece, unless it refused one before.
+    fn take(&mut self, piece: &[u8]) -> Result<(), LexFault>
+        requires { self.old.count + length piece.now < 2 ^ 63 }
+        ensures count { self.new.count ≡ self.old.count + length piece.now }
+        ensures fed { (bytes : List ℕ) → Fed bytes self.old → Fed (bytes ++ piece.now) self.new }
+        ensures told { MatchResult result (λ _. refusal_of self.new ≡ None) (λ fault. refusal_of self.new ≡ Some fault) }
+        ensures again { (fault : LexFault) → refusal_of self.old ≡ Some fault → result ≡ Err fault }
+    {
+        let refusal = self.refusal();
+        self.count += piece.len() as u64;
+        if let Some(fault) = refusal {
+            return Err(fault);
+        }
+        if !take_all(&mut self.machine, piece) {
+            self.spent = true;
+            return Err(LexFault::NoMemory);
+        }
+        match self.machine.settled() {
+            Some(fault) => Err(fault),
+            None => Ok(()),
+        }
+    }
+
+    /// Ends the text.
+    fn end(self) -> Result<TokenList, LexFault>
+        ensures ok { IfOk result (λ list. ended_of self ≡ Ok list) }
+        ensures err { IfErr result (λ fault. IfNamed fault (ended_of self ≡ Err fault)) }
+        ensures again { (fault : LexFault) → refusal_of self ≡ Some fault → result ≡ Err fault }
+    {
+        if self.spent {
+            return Err(LexFault::NoMemory);
+        }
+        self.machine.end()
+    }
+
+    /// Takes the next piece of the text.
+    ///
+    /// It refuses as soon as no further bytes can take the fault away, and then for good.
+    pub fn feed(&mut self, piece: &[u8]) -> Result<(), LexFault>
+        requires { self.old.count + length piece.now < 2 ^ 63 }
+        ensures count { self.new.count ≡ self.old.count + length piece.now }
+        ensures fed { (bytes : List ℕ) → Fed bytes self.old → Fed (bytes ++ piece.now) self.new }
+        ensures told { MatchResult result (λ _. refusal_of self.new ≡ None) (λ fault. refusal_of self.new ≡ Some fault) }
+        ensures again { (fault : LexFault) → refusal_of self.old ≡ Some fault → result ≡ Err fault }
+        ensures fault { (bytes : List ℕ) → Fed bytes self.old
+            → IfErr result (λ fault. IfNamed fault (IsSettled (bytes ++ piece.now) fault)) }
+        ensures only_fault { (bytes : List ℕ) → Fed bytes self.old
+            → IfErr result (λ fault. IfNamed fault ((others : LexFault) → IsSettled (bytes ++ piece.now) others → others ≡ fault)) }
+        ensures open { (bytes : List ℕ) → Fed bytes self.old
+            → IfOk result (λ _. (fault : LexFault) → IsSettled (bytes ++ piece.now) fault → ⊥) }
+    {
+        self.take(piece)
+    }
+
+    /// Ends the text and gives its tokens, or its first fault.
+    pub fn finish(self) -> Result<TokenList, LexFault>
+        ensures again { (fault : LexFault) → refusal_of self ≡ Some fault → result ≡ Err fault }
+        ensures ok { (bytes : List ℕ) → Fed bytes self → IfOk result (λ list. Spells bytes list.tokens) }
+        ensures end_place { (bytes : List ℕ) → Fed bytes self → IfOk result (λ list. list.end_place ≡ past first_place bytes) }
+        ensures only { (bytes : List ℕ) → Fed bytes self
+            → IfOk result (λ list. (others : List Token) → Spells bytes others → others ≡ list.tokens) }
+        ensures faultless { (bytes : List ℕ) → Fed bytes self → IfOk result (λ _. (fault : LexFault) → HasLexFault bytes fault → ⊥) }
+        ensures fault { (bytes : List ℕ) → Fed bytes self → IfErr result (λ fault. IfNamed fault (HasLexFault bytes fault)) }
+        ensures only_fault { (bytes : List ℕ) → Fed bytes self
+            → IfErr result (λ fault. IfNamed fault ((others : LexFault) → HasLexFault bytes others → others ≡ fault)) }
+        ensures none { (bytes : List ℕ) → Fed bytes self
+            → IfErr result (λ fault. IfNamed fault ((others : List Token) → Spells bytes others → ⊥)) }
+    {
+        self.end()
+    }
 }
 
-/// The tokens of a text, or the first place that isn't allowed. The bytes are fewer than 2^63.
+/// The tokens of a whole text, or its first fault.
 pub fn lex_all(alloc: Global, bytes: &[u8]) -> Result<TokenList, LexFault>
     requires { length bytes.now < 2 ^ 63 }
-
-    // The text is these tokens and no others, and no place of it is refused.
-    ensures ok { IfOk result (λ tokens. Spells bytes.now tokens) }
-    ensures only { IfOk result (λ tokens. (others : List Token) → Spells bytes.now others → others ≡ tokens) }
-    ensures few { IfOk result (λ tokens. length tokens ≤ length bytes.now) }
-    ensures accepted { OnOk result ((at : Place) → RefusedAt bytes.now at → ⊥) }
-
-    // The text is refused at this place and no other, and has no tokens.
-    ensures bad { IfErr result (λ fault. IfBadByte fault (RefusedAt bytes.now)) }
-    ensures bad_only { IfErr result (λ fault. IfBadByte fault
-        (λ at. (other : Place) → RefusedAt bytes.now other → other ≡ at)) }
-    ensures none { IfErr result (λ fault. IfBadByte fault
-        (λ _. (others : List Token) → Spells bytes.now others → ⊥)) }
+    ensures ok { IfOk result (λ list. Spells bytes.now list.tokens) }
+    ensures end_place { IfOk result (λ list. list.end_place ≡ past first_place bytes.now) }
+    ensures only { IfOk result (λ list. (others : List Token) → Spells bytes.now others → others ≡ list.tokens) }
+    ensures faultless { IfOk result (λ _. (fault : LexFault) → HasLexFault bytes.now fault → ⊥) }
+    ensures fault { IfErr result (λ fault. IfNamed fault (HasLexFault bytes.now fault)) }
+    ensures only_fault { IfErr result (λ fault. IfNamed fault ((others : LexFault) → HasLexFault bytes.now others → others ≡ fault)) }
+    ensures none { IfErr result (λ fault. IfNamed fault ((others : List Token) → Spells bytes.now others → ⊥)) }
 {
-    lex(alloc, bytes)
-}
-
-/// Adds a token with a copy of these bytes.
-fn push(
-    alloc: Global,
-    tokens: &mut TokenList,
-    kind: TokenKind,
-    bytes: &[u8],
-    place: Place,
-) -> Result<(), NoMemory>
-    ensures { OnOk result (tokens.new ≡ tokens.old ++ (record { kind = kind; bytes = bytes.now; place = place }) ∷ []) }
-{
-    let bytes = Text::from_bytes(alloc, bytes)?;
-    tokens.push(Token { kind, bytes, place })
-}
-
-impl From<NoMemory> for LexFault {
-    ghost from_gives = { λ _ e. e ≡ NoMemory };
-
-    fn from(_: NoMemory) -> Self {
-        LexFault::NoMemory
+    let mut lexer = Lexer::new(alloc)?;
+    if let Err(fault) = lexer.feed(bytes) {
+        return Err(fault);
     }
+    lexer.finish()
 }

@@ -1,11 +1,20 @@
-//! The tokens of a text, each with its place: words and punctuation marks, with blanks between.
-//!
-//! `specs/Spelling.antt` says how a text is cut into them, and where it is refused.
+//! Tokens of a text that comes in pieces.
 #![tactic(auto)]
 
+mod byte_class;
+mod fault;
 mod lexer;
+mod machine;
+mod mode;
 mod place;
 mod token;
+mod token_list;
 
-pub use lexer::{LexFault, lex_all};
-pub use token::{Token, TokenKind, TokenList};
+pub use fault::LexFault;
+pub use lexer::{Lexer, lex_all};
+pub use place::place_behind;
+pub use token::{Token, TokenKind};
+pub use token_list::TokenList;
+
+#[cfg(test)]
+mod tests;

@@ -1,4 +1,4 @@
-use msc_base::{Items, Place, Text};
+use msc_base::{Place, Text};
 
 /// What a token is.
 #[derive(Clone, Copy, Debug, PartialEq, Eq)]
@@ -16,11 +16,8 @@ pub enum TokenKind {
 pub struct Token {
     /// What it is.
     pub kind: TokenKind,
-    /// Its bytes, as they stand in the text.
+    /// Its part of the text, of a string with its apostrophes.
     pub bytes: Text,
-    /// Where its first byte stands.
+    /// Where it begins.
     pub place: Place,
 }
-
-/// The tokens of a text, in order.
-pub type TokenList = Items<Token>;

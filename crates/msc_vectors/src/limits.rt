@@ -5,8 +5,6 @@ use msc_cmd::run;
 use std::alloc::Global;
 use std::test::Fail;
 
-const REFUSED: &str = "document refused at 1:1: not built yet\n";
-
 /// What the chart `A` of a document and a log give.
 fn judged(alloc: Global, document: &str, log: &[u8]) -> Result<(u8, MemSink), NoMemory> {
     let words = judge_words(alloc, "A")?;
@@ -82,7 +80,11 @@ fn bytes_of_a_document(rt: HostRuntime) -> Result<(), Fail> {
     let alloc = rt.alloc();
     let rows: [(usize, &str, u8); 2] = [
         (4_194_304, "conforms, events 2\n", 0),
-        (4_194_305, REFUSED, 4),
+        (
+            4_194_305,
+            "document refused at 1:4194305: document too long\n",
+            4,
+        ),
     ];
     for (bytes, want, status) in rows {
         let mut document = String::from_str(alloc, CHART)?;
@@ -104,7 +106,10 @@ fn bytes_and_words(rt: HostRuntime) -> Result<(), Fail> {
     assert_eq!(rt; got, 5);
     assert_eq!(rt; out.bytes(), b"log refused at line 2: syntax\n".as_slice());
 
-    let rows: [(usize, &str, u8); 2] = [(255, "conforms, events 0\n", 0), (256, REFUSED, 4)];
+    let rows: [(usize, &str, u8); 2] = [
+        (255, "conforms, events 0\n", 0),
+        (256, "document refused at 1:13: long name\n", 4),
+    ];
     for (letters, want, status) in rows {
         let mut document = String::from_str(alloc, "msc A; inst ")?;
         for _ in 0..letters {
@@ -115,5 +120,16 @@ fn bytes_and_words(rt: HostRuntime) -> Result<(), Fail> {
         assert_eq!(rt; got, status, "at {letters}");
         assert_eq!(rt; out.bytes(), want.as_bytes(), "at {letters}");
     }
+
+    let mut document = String::new(alloc);
+    for _ in 0..256 {
+        document.push('a')?;
+    }
+    let (got, out) = judged(alloc, document.as_str(), b"")?;
+    assert_eq!(rt; got, 4);
+    assert_eq!(rt;
+        out.bytes(),
+        b"document refused at 1:1: long name\n".as_slice()
+    );
     Ok(())
 }

@@ -140,7 +140,19 @@ fn rows_of_several_messages(rt: HostRuntime) -> Result<(), Fail> {
 #[test]
 fn documents(rt: HostRuntime) -> Result<(), Fail> {
     let alloc = rt.alloc();
-    let rows: [(&str, &str, u8); 16] = [
+    let rows: [(&str, &str, u8); 20] = [
+        ("msc A; $", "document refused at 1:8: bad byte\n", 4),
+        ("msc A; /* x", "document refused at 1:8: open note\n", 4),
+        (
+            "msc A; action 'it''s",
+            "document refused at 1:15: open string\n",
+            4,
+        ),
+        (
+            "msc A;\n /* a\n note */ inst 'x",
+            "document refused at 3:15: open string\n",
+            4,
+        ),
         ("", REFUSED, 4),
         ("msc A; inst i; endmsc;", "conforms, events 0\n", 0),
         ("msc A; inst i endmsc;", REFUSED, 4),
@@ -170,7 +182,11 @@ fn documents(rt: HostRuntime) -> Result<(), Fail> {
             REFUSED,
             4,
         ),
-        ("msc A; inst i; /* a note */ endmsc;", REFUSED, 4),
+        (
+            "msc A; inst i; /* a note */ endmsc;",
+            "conforms, events 0\n",
+            0,
+        ),
         (
             "msc A; inst i,j; i: out a to j; j: in a from i; endmsc",
             REFUSED,
@@ -196,11 +212,57 @@ fn documents(rt: HostRuntime) -> Result<(), Fail> {
     Ok(())
 }
 
+/// Texts as JSON, wherever the option stands.
+#[test]
+fn json_texts(rt: HostRuntime) -> Result<(), Fail> {
+    let alloc = rt.alloc();
+    let rows: [(&[&str], &str, &str, u8); 5] = [
+        (
+            &["judge", "d", "A", "l", "--json"],
+            RUN,
+            "{\"events\":2,\"verdict\":\"conforms\"}\n",
+            0,
+        ),
+        (
+            &["judge", "--json", "d", "A", "l"],
+            "i: out a to j;\n\nk: out a to j;\n",
+            "{\"event\":2,\"line\":3,\"verdict\":\"fails\"}\n",
+            1,
+        ),
+        (
+            &["judge", "d", "--json", "--", "A", "l"],
+            "",
+            "{\"events\":0,\"verdict\":\"stops early\"}\n",
+            3,
+        ),
+        (
+            &["judge", "d", "X", "--json", "l"],
+            "",
+            "{\"fault\":\"no such chart\"}\n",
+            4,
+        ),
+        (
+            &["judge", "d", "A", "l", "--json"],
+            "i out;\n",
+            "{\"fault\":\"log refused at line 1: syntax\"}\n",
+            5,
+        ),
+    ];
+    for (given, log, want, status) in rows {
+        let words = words_of(alloc, given)?;
+        let mut shelf = shelf_with(alloc, CHART, log.as_bytes())?;
+        let mut out = MemSink::new(alloc, 100)?;
+        assert_eq!(rt; run(alloc, &words, &mut shelf, &mut out), status);
+        assert_eq!(rt; out.bytes(), want.as_bytes());
+    }
+    Ok(())
+}
+
 /// Words that are no request, and words that are one.
 #[test]
 fn words(rt: HostRuntime) -> Result<(), Fail> {
     let alloc = rt.alloc();
-    let rows: [(&[&str], u8); 9] = [
+    let rows: [(&[&str], u8); 13] = [
         (&["judge", "d", "A"], 2),
         (&[], 2),
         (&["judge", "d", "A", "l", "l"], 2),
@@ -208,6 +270,10 @@ fn words(rt: HostRuntime) -> Result<(), Fail> {
         (&["judge", "-d", "A", "l"], 2),
         (&["judge", "d", "--", "l"], 2),
         (&["judge", "d", "A", "--json"], 2),
+        (&["judge", "d", "A", "l", "--json", "--json"], 2),
+        (&["judge", "d", "A", "l", "--js"], 2),
+        (&["judge", "d", "A", "l", "--json="], 2),
+        (&["judge", "--help", "d", "A", "l"], 2),
         (&["judge", "d", "-", "l"], 4),
         (&["judge", "d", "", "l"], 4),
     ];

@@ -2,7 +2,7 @@ use Rattle.std.proofs.Common.{◌≡◌, ◌<◌, ◌≤◌, rules}
 use Rattle.msc_cmd.specs.Outcomes.{IfTold, IsTheOne, IsOutcome}
 use Rattle.msc_cmd.specs.Failures.{CannotJudge}
 use Rattle.std.specs.Io.KnownBytes.{Appends}
-use Rattle.msc_cmd.specs.Writing.{AppendsPart}
+use Rattle.judge_report.specs.Writing.{AppendsPart}
 use Rattle.msc_cmd.proofs.Replies.{without_told, part_told, outcome_told}
 use Rattle.msc_cmd.proofs.command.run.Goals as goal
 

@@ -1,0 +1,88 @@
+-- What is told needs no escape in a JSON string.
+use Rattle.std.proofs.Common.{◌≡◌, ◌≤◌, ◌<◌, ◌+◌, ◌^◌, ◌%◌, ◌∙◌, ℕ, true, false, ◌==◌, List, [], ◌∷◌, ◌++◌, codes, refl, arith}
+use Rattle.std.proofs.lemmas.Bool.{and_from, and_parts}
+use Rattle.std.proofs.lemmas.Bool.Decides.{nat_tests}
+use Rattle.std.proofs.lemmas.List.Folds.{list_all-append}
+use Rattle.std.proofs.lemmas.Fmt.{decimal_by_steps}
+use Rattle.std.specs.Prelude.{nat_lt}
+use Rattle.std.specs.Fmt.{decimal}
+use Rattle.serde_json.specs.Data.{string}
+use Rattle.serde_json.specs.Written.{compact_text}
+use Rattle.serde_json.proofs.OnLiterals.{serde_json_on_literals}
+use Rattle.msc_base.specs.declared.place.Place.{Place}
+use Rattle.msc_grammar.specs.declared.rule.Form.{Form}
+use Rattle.msc_grammar.specs.declared.rule.Form.TheVariants.{Guard}
+use Rattle.msc_grammar.specs.declared.rule.Rule.{Rule}
+use Rattle.msc_grammar.specs.declared.rule.Rule.TheVariants.{Unsupported}
+use Rattle.msc_grammar.specs.Rules.{rule_text}
+use Rattle.event_log.specs.declared.event.LogFault.{LogFault}
+use Rattle.judge_report.specs.Texts.{is_plain, is_plain_byte, document_words, log_words, log_fault_text, line_number}
+
+-- a byte is none of those that are escaped
+record EscapesNone (b : ℕ) : Type 0 where
+  quote : (b == 34) ≡ false
+  backslash : (b == 92) ≡ false
+  backspace : (b == 8) ≡ false
+  form_feed : (b == 12) ≡ false
+  line_feed : (b == 10) ≡ false
+  carriage_return : (b == 13) ≡ false
+  tab : (b == 9) ≡ false
+  control : nat_lt b 32 ≡ false
+
+escapes_none : (b : ℕ) → is_plain_byte b ≡ true → EscapesNone b
+escapes_none b h = record {
+  quote = grind (arith, nat_tests);
+  backslash = grind (arith, nat_tests);
+  backspace = grind (arith, nat_tests);
+  form_feed = grind (arith, nat_tests);
+  line_feed = grind (arith, nat_tests);
+  carriage_return = grind (arith, nat_tests);
+  tab = grind (arith, nat_tests);
+  control = grind (arith, nat_tests);
+}
+
+-- words after plain words
+pub plain_append : (a b : List ℕ) → is_plain a ≡ true → is_plain b ≡ true → is_plain (a ++ b) ≡ true
+plain_append a b h k = list_all-append is_plain_byte a b ∙ and_from (is_plain a) (is_plain b) h k
+
+-- a digit stands for itself
+plain_digit : (b : ℕ) → 48 ≤ b → b ≤ 57 → is_plain_byte b ≡ true
+plain_digit b low high = grind (arith, nat_tests)
+
+plain_one : (n : ℕ) → n < 10 → is_plain ((48 + n) ∷ []) ≡ true
+plain_one n lt = and_from _ true (plain_digit (48 + n) (omega arith) (omega arith)) refl
+
+pub plain_decimal : (n : ℕ) → n < 2 ^ 64 → is_plain (decimal n) ≡ true
+plain_decimal n small =
+    decimal_by_steps (λ m ds. is_plain ds ≡ true) plain_one (λ m ds le h. plain_append ds _ h (plain_one (m % 10) (omega arith))) n small
+
+form_plain : (form : Form) → is_plain (rule_text (Unsupported form)) ≡ true
+form_plain Guard = refl
+form_plain _ = refl
+
+pub rule_plain : (rule : Rule) → is_plain (rule_text rule) ≡ true
+rule_plain (Unsupported form) = form_plain form
+rule_plain _ = refl
+
+-- words, a number and words behind them
+number_plain : (front back : List ℕ) (n : ℕ) → is_plain front ≡ true → n < 2 ^ 64 → is_plain back ≡ true → is_plain (front ++ (decimal n ++ back)) ≡ true
+number_plain front back n f small b = plain_append front (decimal n ++ back) f (plain_append (decimal n) back (plain_decimal n small) b)
+
+pub document_plain : (rule : Rule) (place : Place) → place.line < 2 ^ 64 → place.column < 2 ^ 64 → is_plain (document_words rule place) ≡ true
+document_plain rule place l c =
+    number_plain (codes "document refused at ") (codes ":" ++ (decimal place.column ++ (codes ": " ++ rule_text rule))) place.line refl l
+    (number_plain (codes ":") (codes ": " ++ rule_text rule) place.column refl c (plain_append (codes ": ") (rule_text rule) refl (rule_plain rule)))
+
+pub log_plain : (fault : LogFault) → line_number fault < 2 ^ 64 → is_plain (log_fault_text fault) ≡ true → is_plain (log_words fault) ≡ true
+log_plain fault l h =
+    number_plain (codes "log refused at line ") (codes ": " ++ log_fault_text fault) (line_number fault) refl l (plain_append (codes ": ") (log_fault_text fault) refl h)
+
+-- plain words stand as they are in a JSON string
+pub quoted_plain : (words : List ℕ) → is_plain words ≡ true → compact_text (string words) ≡ 34 ∷ (words ++ 34 ∷ [])
+unfolding serde_json_on_literals
+quoted_plain [] h = refl
+quoted_plain (b ∷ bs) h =
+    let parts = and_parts (is_plain_byte b) (is_plain bs) h in
+    let rest = quoted_plain bs parts.1 in
+    let e = escapes_none b parts.0 in
+    rw (e.quote, e.backslash, e.backspace, e.form_feed, e.line_feed, e.carriage_return, e.tab, e.control) cc

@@ -1,0 +1,92 @@
+ghost use Rattle.std.specs.Prelude.{◌≡◌, IfOk, string_bytes, true};
+ghost use Rattle.judge_report.specs.Texts.{IsTold, document_words, fault_line, line_number, log_fault_text, log_words, is_plain};
+
+use crate::lines::fault_line_of;
+use event_log::LogFault;
+use msc_base::{NoMemory, Place, Text};
+use msc_grammar::Rule;
+use std::alloc::{AllocError, Global};
+
+/// Why there is no verdict.
+#[derive(Clone, Copy, Debug, PartialEq, Eq)]
+pub enum Fault {
+    /// The document breaks the rule, at this place.
+    Document { rule: Rule, place: Place },
+    /// The document has no chart of that name.
+    NoChart,
+    /// The log has this fault.
+    Log { fault: LogFault },
+    /// The shelf failed at the document.
+    DocumentRead,
+    /// The shelf failed at the log.
+    LogRead,
+    /// The words are no request.
+    Usage,
+}
+
+/// What a log's fault is called.
+fn log_text(fault: &LogFault) -> &str
+    ensures text { result.now ≡ log_fault_text fault.now }
+    ensures plain { is_plain result.now ≡ true }
+{
+    match fault {
+        LogFault::Syntax(_) => "syntax",
+        LogFault::LongLine(_) => "long line",
+        LogFault::LogLimit(_) => "limit",
+        LogFault::NoMemory => "",
+    }
+}
+
+/// The line in which a log's fault is decided.
+fn line_of_fault(fault: &LogFault) -> u64
+    ensures { result ≡ line_number fault.now }
+{
+    match *fault {
+        LogFault::Syntax(line) => line,
+        LogFault::LongLine(line) => line,
+        LogFault::LogLimit(line) => line,
+        LogFault::NoMemory => 0,
+    }
+}
+
+/// What is told of a log's fault.
+fn words_of_log(alloc: Global, fault: &LogFault) -> Result<String, AllocError>
+    ensures words { IfOk result (λ s. string_bytes s ≡ log_words fault.now) }
+    ensures plain { IfOk result (λ s. is_plain (string_bytes s) ≡ true) }
+{
+    let line = line_of_fault(fault);
+    let text = log_text(fault);
+    format!(in alloc; "log refused at line {line}: {text}")
+}
+
+/// What is told of a broken rule.
+fn words_of_document(alloc: Global, rule: &Rule, place: &Place) -> Result<String, AllocError>
+    ensures words { IfOk result (λ s. string_bytes s ≡ document_words rule.now place.now) }
+    ensures plain { IfOk result (λ s. is_plain (string_bytes s) ≡ true) }
+{
+    let line = place.line;
+    let column = place.column;
+    let text = rule.text();
+    format!(in alloc; "document refused at {line}:{column}: {text}")
+}
+
+/// The line that tells a fault, as JSON if that is asked; the usage line is plain in any case.
+pub fn fault_text(alloc: Global, fault: &Fault, json: bool) -> Result<Text, NoMemory>
+    requires { IsTold fault.now }
+    ensures { IfOk result (λ line. line ≡ fault_line json fault.now) }
+{
+    match fault {
+        Fault::Document { rule, place } => {
+            let words = words_of_document(alloc, rule, place)?;
+            fault_line_of(alloc, words.as_str(), json)
+        }
+        Fault::NoChart => fault_line_of(alloc, "no such chart", json),
+        Fault::Log { fault } => {
+            let words = words_of_log(alloc, fault)?;
+            fault_line_of(alloc, words.as_str(), json)
+        }
+        Fault::DocumentRead => fault_line_of(alloc, "cannot read the document", json),
+        Fault::LogRead => fault_line_of(alloc, "cannot read the log", json),
+        Fault::Usage => fault_line_of(alloc, "usage: mscjudge COMMAND WORDS", false),
+    }
+}

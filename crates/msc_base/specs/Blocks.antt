@@ -1,0 +1,58 @@
+-- A set of instances and a set of events, each as the list of its numbers, which rises. So equal sets are equal values.
+use Rattle.std.specs.Prelude.{ℕ, suc, zero, ◌+◌, ◌-◌, ◌*◌, ◌^◌, ◌/◌, ◌%◌, ◌<◌, ◌≤◌, ◌==◌, nat_lt, Bool, List, [], ◌∷◌, ◌++◌, length, slice_index, slice_set, replicate, if◌then◌else◌}
+use Rattle.std.specs.Int.{bit_at}
+use Rattle.std.specs.Int.Bits.{bit_or}
+use Rattle.msc_base.specs.declared.limits.TheConstants.Limits.{INSTANCES}
+
+pub record BlockValue : Type 0 where
+  pub instances : List ℕ
+  pub events : List ℕ
+
+-- each number of the list is above n
+abbrev pub AreAbove : ℕ → List ℕ → Type 0
+AreAbove n [] = Unit {0}
+AreAbove n (x ∷ xs) = (n < x) × AreAbove n xs
+
+-- each number is below those behind it, so none comes twice
+abbrev pub IsRising : List ℕ → Type 0
+IsRising [] = Unit {0}
+IsRising (x ∷ xs) = AreAbove x xs × IsRising xs
+
+-- a list that rises, with one more number where it lacks it
+abbrev pub insert_rising : List ℕ → ℕ → List ℕ
+insert_rising [] x = x ∷ []
+insert_rising (y ∷ ys) x = if nat_lt x y then x ∷ y ∷ ys else (if x == y then y ∷ ys else y ∷ insert_rising ys x)
+
+-- each number of the list is below n
+abbrev pub AreBelow : ℕ → List ℕ → Type 0
+AreBelow n [] = Unit {0}
+AreBelow n (x ∷ xs) = (x < n) × AreBelow n xs
+
+-- what holds of every block
+pub record IsBlock (block : BlockValue) : Type 0 where
+  pub instances_rise : IsRising block.instances
+  pub instances_below : AreBelow INSTANCES block.instances
+  pub events_rise : IsRising block.events
+
+-- whether words of 64 bits have the bit of that number, where the bits count from the lowest of the first word on
+unfoldable pub has_bit : List ℕ → ℕ → Bool
+has_bit words n = bit_at (slice_index words (n / 64)) (n % 64) == 1
+
+-- as many numbers from the given one on, but those alone that pass the test
+unfoldable pub numbers_that : (ℕ → Bool) → ℕ → ℕ → List ℕ
+numbers_that test zero from = []
+numbers_that test (suc count) from = if test from then from ∷ numbers_that test count (suc from) else numbers_that test count (suc from)
+
+-- the numbers whose bits the words have
+abbrev pub bits_of : List ℕ → List ℕ
+bits_of words = numbers_that (has_bit words) INSTANCES 0
+
+-- the words with the bit of that number, behind them as many words as it takes
+abbrev pub with_bit : List ℕ → ℕ → List ℕ
+with_bit words n = slice_set (words ++ replicate (n / 64 + 1 - length words) 0) (n / 64) (bit_or (slice_index words (n / 64)) (2 ^ (n % 64)))
+
+-- what is stored: no more words than there may be instances, the last of them not 0, and events that rise
+pub record IsStored (words events : List ℕ) : Type 0 where
+  pub few : 64 * length words ≤ INSTANCES
+  pub last : 0 < length words → 0 < slice_index words (length words - 1)
+  pub rising : IsRising events

@@ -1,0 +1,121 @@
+-- Worked words.
+use Rattle.std.proofs.Common.{◌≡◌, refl, codes, true, false, [], ◌∷◌, Some, None}
+use Rattle.std.specs.Str.{is_utf8}
+use Rattle.clap.proofs.OnLiterals.{clap_on_literals}
+use Rattle.msc_cmd.specs.declared.requests.LogForm.TheVariants.{Lines, Json}
+use Rattle.msc_cmd.specs.declared.requests.Request.TheVariants.{Judge}
+use Rattle.msc_cmd.specs.Requests.{request_of}
+
+-- three words
+plain : request_of (codes "judge" ∷ codes "d" ∷ codes "A" ∷ codes "l" ∷ []) ≡ Some (Judge (codes "d") (codes "A") (codes "l") 1000000 false Lines)
+unfolding clap_on_literals is_utf8
+plain = refl
+
+json : request_of (codes "judge" ∷ codes "d" ∷ codes "A" ∷ codes "l" ∷ codes "--json" ∷ []) ≡ Some (Judge (codes "d") (codes "A") (codes "l") 1000000 true Lines)
+unfolding clap_on_literals is_utf8
+json = refl
+
+json_log : request_of (codes "judge" ∷ codes "d" ∷ codes "A" ∷ codes "l" ∷ codes "--log-json" ∷ []) ≡ Some (Judge (codes "d") (codes "A") (codes "l") 1000000 false Json)
+unfolding clap_on_literals is_utf8
+json_log = refl
+
+-- options stand anywhere, in any order
+options_between : request_of (codes "judge" ∷ codes "--log-json" ∷ codes "d" ∷ codes "--json" ∷ codes "A" ∷ codes "l" ∷ []) ≡ Some (Judge (codes "d") (codes "A") (codes "l") 1000000 true Json)
+unfolding clap_on_literals is_utf8
+options_between = refl
+
+-- `--` ends the options, and is no word itself
+behind_dashes : request_of (codes "judge" ∷ codes "--" ∷ codes "d" ∷ codes "--json" ∷ codes "-" ∷ []) ≡ Some (Judge (codes "d") (codes "--json") (codes "-") 1000000 false Lines)
+unfolding clap_on_literals is_utf8
+behind_dashes = refl
+
+-- behind `--` a second one is a word
+second_dashes : request_of (codes "judge" ∷ codes "--json" ∷ codes "--" ∷ codes "--" ∷ codes "A" ∷ codes "l" ∷ []) ≡ Some (Judge (codes "--") (codes "A") (codes "l") 1000000 true Lines)
+unfolding clap_on_literals is_utf8
+second_dashes = refl
+
+-- `-` and the empty word are words
+dash_and_empty : request_of (codes "judge" ∷ codes "-" ∷ [] ∷ codes "l" ∷ []) ≡ Some (Judge (codes "-") [] (codes "l") 1000000 false Lines)
+unfolding clap_on_literals is_utf8
+dash_and_empty = refl
+
+help_is_a_name : request_of (codes "judge" ∷ codes "help" ∷ codes "A" ∷ codes "l" ∷ []) ≡ Some (Judge (codes "help") (codes "A") (codes "l") 1000000 false Lines)
+unfolding clap_on_literals is_utf8
+help_is_a_name = refl
+
+-- an option stands once
+repeated : request_of (codes "judge" ∷ codes "d" ∷ codes "A" ∷ codes "l" ∷ codes "--json" ∷ codes "--json" ∷ []) ≡ None
+unfolding clap_on_literals is_utf8
+repeated = refl
+
+repeated_log : request_of (codes "judge" ∷ codes "--log-json" ∷ codes "d" ∷ codes "A" ∷ codes "l" ∷ codes "--log-json" ∷ []) ≡ None
+unfolding clap_on_literals is_utf8
+repeated_log = refl
+
+-- there is no help
+no_help : request_of (codes "judge" ∷ codes "--help" ∷ codes "d" ∷ codes "A" ∷ codes "l" ∷ []) ≡ None
+unfolding clap_on_literals is_utf8
+no_help = refl
+
+no_short_help : request_of (codes "judge" ∷ codes "-h" ∷ codes "d" ∷ codes "A" ∷ codes "l" ∷ []) ≡ None
+unfolding clap_on_literals is_utf8
+no_short_help = refl
+
+-- an option is written out
+abbreviated : request_of (codes "judge" ∷ codes "d" ∷ codes "A" ∷ codes "l" ∷ codes "--js" ∷ []) ≡ None
+unfolding clap_on_literals is_utf8
+abbreviated = refl
+
+abbreviated_log : request_of (codes "judge" ∷ codes "d" ∷ codes "A" ∷ codes "l" ∷ codes "--log" ∷ []) ≡ None
+unfolding clap_on_literals is_utf8
+abbreviated_log = refl
+
+-- it takes no value
+empty_value : request_of (codes "judge" ∷ codes "d" ∷ codes "A" ∷ codes "l" ∷ codes "--json=" ∷ []) ≡ None
+unfolding clap_on_literals is_utf8
+empty_value = refl
+
+value : request_of (codes "judge" ∷ codes "d" ∷ codes "A" ∷ codes "l" ∷ codes "--json=true" ∷ []) ≡ None
+unfolding clap_on_literals is_utf8
+value = refl
+
+-- there are no others yet
+unknown : request_of (codes "judge" ∷ codes "d" ∷ codes "A" ∷ codes "l" ∷ codes "--budget" ∷ codes "5" ∷ []) ≡ None
+unfolding clap_on_literals is_utf8
+unknown = refl
+
+number : request_of (codes "judge" ∷ codes "d" ∷ codes "A" ∷ codes "-5" ∷ []) ≡ None
+unfolding clap_on_literals is_utf8
+number = refl
+
+-- three words behind the command, no fewer and no more
+too_few : request_of (codes "judge" ∷ codes "d" ∷ codes "A" ∷ []) ≡ None
+unfolding clap_on_literals is_utf8
+too_few = refl
+
+too_many : request_of (codes "judge" ∷ codes "d" ∷ codes "A" ∷ codes "l" ∷ codes "x" ∷ []) ≡ None
+unfolding clap_on_literals is_utf8
+too_many = refl
+
+none : request_of (codes "judge" ∷ []) ≡ None
+unfolding clap_on_literals is_utf8
+none = refl
+
+-- without words there is no command
+no_words : request_of ([]) ≡ None
+unfolding clap_on_literals is_utf8
+no_words = refl
+
+other_command : request_of (codes "check" ∷ codes "d" ∷ []) ≡ None
+unfolding clap_on_literals is_utf8
+other_command = refl
+
+-- the command is spelled exactly
+capital : request_of (codes "Judge" ∷ codes "d" ∷ codes "A" ∷ codes "l" ∷ []) ≡ None
+unfolding clap_on_literals is_utf8
+capital = refl
+
+-- a word that is no UTF-8
+no_text : request_of (codes "judge" ∷ codes "d" ∷ codes "A" ∷ (255 ∷ []) ∷ []) ≡ None
+unfolding clap_on_literals is_utf8
+no_text = refl

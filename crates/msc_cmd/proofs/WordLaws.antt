@@ -1,0 +1,108 @@
+-- The command `judge` is one that `clap` has words for, and what its answers mean for a request.
+use Rattle.std.proofs.Common.{◌≡◌, ◌∙◌, ◌&&◌, ap, refl, Bool, true, false, Bor, map, ◌++◌, append-nil, append_assoc, [], ◌∷◌, Option, Some, None, List, ℕ, Result, Err, option_and_then, sym, subst, inl, inr, codes}
+use Rattle.std.proofs.lemmas.List.{map-append}
+use Rattle.std.proofs.lemmas.Str.{IsUtf8-from_is_utf8}
+use Rattle.std.specs.List.{list_all}
+use Rattle.std.specs.Str.{IsUtf8, is_utf8}
+use Rattle.clap.specs.Words.{App, Kinds, IsAmong, Row, HasKind, kind_of, fault_of, is_simple, is_simple_and_free, matches_of, first_value, rows_of}
+use Rattle.clap.specs.declared.Error.{Error}
+use Rattle.clap.specs.declared.error.ErrorKind.{ErrorKind}
+use Rattle.clap.specs.declared.error.ErrorKind.TheVariants.{OutOfMemory}
+use Rattle.clap.specs.declared.parser.matches.Found.{Found}
+use Rattle.clap.proofs.OnLiterals.{clap_on_literals}
+use Rattle.clap.proofs.WalkLemmas.{first_value-rows}
+use Rattle.msc_cmd.specs.declared.requests.Request.{Request}
+use Rattle.msc_cmd.specs.declared.requests.WordFault.{WordFault}
+use Rattle.msc_cmd.specs.declared.requests.WordFault.TheVariants.{NoRequest, NoMemory}
+use Rattle.msc_cmd.specs.Requests.{Answers, asked_of, is_served, served, judge_app, judge_request, request_from, request_of, request_in, unless_fault}
+
+pub app_simple : is_simple judge_app ≡ true
+unfolding clap_on_literals
+app_simple = refl
+
+pub app_free : is_simple_and_free judge_app ≡ true
+unfolding clap_on_literals
+app_free = refl
+
+-- without a fault the request is that of the matches
+fits : (kinds : Kinds) (request : Option Request) → kinds ≡ [] → unless_fault kinds request ≡ request
+fits [] request e = refl
+fits (kind ∷ kinds) request e = cc
+
+faulty : (kinds : Kinds) (kind : ErrorKind) (request : Option Request) → IsAmong kind kinds → unless_fault kinds request ≡ None
+faulty [] kind request h = absurd h
+faulty (k ∷ ks) kind request h = refl
+
+found : (app : App) (words : List (List ℕ)) (rows : List Row) → app ≡ judge_app → fault_of app words ≡ [] → rows ≡ matches_of app words → judge_request words ≡ request_in rows
+found app words rows is none same =
+    fits (fault_of judge_app words) (request_in (matches_of judge_app words)) (ap (λ (a : App). fault_of a words) (sym is) ∙ none)
+    ∙ ap (λ (a : App). request_in (matches_of a words)) (sym is) ∙ ap request_in (sym same)
+
+-- what is answered of the matches is answered of the words
+pub found_answers : (app : App) (words : List (List ℕ)) (rows : List Row) (answer : Result Request WordFault) → app ≡ judge_app → fault_of app words ≡ [] → rows ≡ matches_of app words
+    → Answers (request_in rows) answer → Answers (judge_request words) answer
+found_answers app words rows answer is none same h = subst (λ (o : Option Request). Answers o answer) (sym (found app words rows is none same)) h
+
+-- an error other than want of memory refuses the words
+pub refused : (app : App) (words : List (List ℕ)) (error : Error) → app ≡ judge_app → HasKind (fault_of app words) error → (kind_of error ≡ OutOfMemory → ⊥) → judge_request words ≡ None
+refused app words error is h other = elim h [
+  | inl m ↦ absurd (other m)
+  | inr among ↦ ap (λ (a : App). unless_fault (fault_of a words) (request_in (matches_of judge_app words))) (sym is)
+      ∙ faulty (fault_of app words) (kind_of error) (request_in (matches_of judge_app words)) among
+]
+
+-- the first values of the arguments are those of the rows
+pub firsts : (f : Found) (d c l j k : Option (List ℕ)) → d ≡ first_value f (codes "document") → c ≡ first_value f (codes "chart") → l ≡ first_value f (codes "log")
+    → j ≡ first_value f (codes "json") → k ≡ first_value f (codes "log-json") → request_from d c l j k ≡ request_in (rows_of f)
+firsts f d c l j k hd hc hl hj hk =
+    rw (hd, hc, hl, hj, hk, first_value-rows f (codes "document"), first_value-rows f (codes "chart"), first_value-rows f (codes "log"), first_value-rows f (codes "json"), first_value-rows f (codes "log-json")) refl
+
+-- a word that is no UTF-8 fails the test
+pub not_utf8 : (bytes : List ℕ) → (IsUtf8 bytes → ⊥) → is_utf8 bytes ≡ false
+not_utf8 bytes none = by (is_utf8 bytes) refl
+  where
+    by : (b : Bool) → is_utf8 bytes ≡ b → b ≡ false
+    by true e = absurd (none (IsUtf8-from_is_utf8 bytes e))
+    by false e = refl
+
+-- one text more
+pub more_texts : (texts new : List (Bor (List ℕ))) (text : Bor (List ℕ)) (word : List ℕ) (rest others words : List (List ℕ)) → new ≡ texts ++ text ∷ [] → text.now ≡ word → rest ≡ word ∷ others
+    → map (λ w. w.now) texts ++ rest ≡ words → map (λ w. w.now) new ++ others ≡ words
+more_texts texts new text word rest others words n t r h =
+    ap (λ (ts : List (Bor (List ℕ))). map (λ w. w.now) ts ++ others) n
+    ∙ ap (λ (ws : List (List ℕ)). ws ++ others) (map-append (λ w. w.now) texts (text ∷ []))
+    ∙ append_assoc (map (λ w. w.now) texts) (text.now ∷ []) others
+    ∙ ap (λ (w : List ℕ). map (λ x. x.now) texts ++ w ∷ others) t
+    ∙ ap (λ (ws : List (List ℕ)). map (λ w. w.now) texts ++ ws) (sym r) ∙ h
+
+pub more_utf8 : (word : List ℕ) (rest others words : List (List ℕ)) → rest ≡ word ∷ others → is_utf8 word ≡ true → list_all is_utf8 rest ≡ list_all is_utf8 words → list_all is_utf8 others ≡ list_all is_utf8 words
+more_utf8 word rest others words r u h = ap (λ b. b && list_all is_utf8 others) (sym u) ∙ ap (list_all is_utf8) (sym r) ∙ h
+
+-- the first word that is no text
+pub first_other : (word : List ℕ) (rest others words : List (List ℕ)) → rest ≡ word ∷ others → is_utf8 word ≡ false → list_all is_utf8 rest ≡ list_all is_utf8 words → list_all is_utf8 words ≡ false
+first_other word rest others words r u h = sym h ∙ ap (list_all is_utf8) r ∙ ap (λ b. b && list_all is_utf8 others) u
+
+pub all_texts : (texts : List (Bor (List ℕ))) (rest words : List (List ℕ)) → rest ≡ [] → map (λ w. w.now) texts ++ rest ≡ words → map (λ w. w.now) texts ≡ words
+all_texts texts rest words r h = sym (append-nil (map (λ w. w.now) texts)) ∙ ap (λ (ws : List (List ℕ)). map (λ w. w.now) texts ++ ws) (sym r) ∙ h
+
+pub all_utf8 : (rest words : List (List ℕ)) → rest ≡ [] → list_all is_utf8 rest ≡ list_all is_utf8 words → list_all is_utf8 words ≡ true
+all_utf8 rest words r h = sym h ∙ ap (list_all is_utf8) r
+
+-- what is answered of the words behind `judge` is answered of all
+pub judged : (command : List ℕ) (rest texts words : List (List ℕ)) (answer : Result Request WordFault) → words ≡ command ∷ rest → command ≡ codes "judge" → list_all is_utf8 rest ≡ true → texts ≡ rest
+    → Answers (judge_request texts) answer → Answers (request_of words) answer
+judged command rest texts words answer w c u t h = subst (λ (o : Option Request). Answers o answer) (sym same) h
+  where
+    same : request_of words ≡ judge_request texts
+    same = rw (w, c, u, t) refl
+
+-- the answers for the requests that are served
+pub served_answer : (words : List (List ℕ)) (request : Request) → request_of words ≡ Some request → is_served request ≡ true → asked_of words ≡ Some request
+served_answer words request e s = rw (e, s) refl
+
+pub unserved_answer : (words : List (List ℕ)) (request : Request) → request_of words ≡ Some request → is_served request ≡ false → asked_of words ≡ None
+unserved_answer words request e s = rw (e, s) refl
+
+pub no_answer : (words : List (List ℕ)) (fault : WordFault) → Answers (request_of words) (Err fault) → Answers (asked_of words) (Err fault)
+no_answer words NoRequest h = ap (option_and_then served) h
+no_answer words NoMemory h = tt

@@ -1,0 +1,47 @@
+-- A document as far as it has been read.
+use Rattle.std.specs.Prelude.{◌≡◌, ◌<◌, ◌⊎◌, ℕ, List, [], ◌++◌, length, take, Option, Some, None, ⊤}
+use Rattle.msc_base.specs.Shelves.{Files}
+use Rattle.msc_base.specs.declared.limits.TheConstants.Limits.{DOCUMENT_BYTES}
+use Rattle.msc_tokens.specs.Lexing.{Fed}
+use Rattle.msc_tokens.specs.Places.{first_place, past}
+use Rattle.msc_cmd.specs.declared.document.Document.{Document}
+use Rattle.msc_cmd.specs.Documents.{IsTheDocument}
+use Rattle.msc_cmd.specs.Reading.{HasRead}
+use Rattle.msc_cmd.specs.declared.intake.Intake.{Intake}
+
+-- these bytes have been taken: the lexer has been fed those within the limit
+pub record HasTaken (bytes : List ℕ) (intake : Intake) : Type 0 where
+  pub counted : intake.count ≡ length bytes
+  pub fed : Fed (take DOCUMENT_BYTES bytes) intake.lexer
+  pub behind : intake.place ≡ past first_place (take DOCUMENT_BYTES bytes)
+
+-- what has been taken and what is left are the entry of this name, where it is told
+pub record IsReading (files : Option Files) (name : List ℕ) (rest : Option (List ℕ)) (intake : Intake) : Type 0 where
+  pub bytes : List ℕ
+  pub taken : HasTaken bytes intake
+  pub held : HasRead files name rest bytes
+
+-- they have been read to their end, or behind the limit
+pub record IsFrontOf (front bytes : List ℕ) : Type 0 where
+  pub rest : List ℕ
+  pub are : bytes ≡ front ++ rest
+  pub enough : (rest ≡ []) ⊎ (DOCUMENT_BYTES < length front)
+
+-- the entry of this name has these bytes, where it is told
+abbrev pub IsHeld : Option Files → List ℕ → List ℕ → Type 0
+IsHeld None name bytes = ⊤
+IsHeld (Some files) name bytes = files name ≡ Some bytes
+
+-- of the entry of this name so much has been taken: all, or more than a document may have
+pub record HoldsDocument (files : Option Files) (name : List ℕ) (intake : Intake) : Type 0 where
+  pub bytes : List ℕ
+  pub held : IsHeld files name bytes
+  pub front : List ℕ
+  pub taken : HasTaken front intake
+  pub front_of : IsFrontOf front bytes
+
+-- the entry of this name is this document, or has this fault; its bytes are told where the entries are
+pub record IsDocumentOf (files : Option Files) (name : List ℕ) (document : Document) : Type 0 where
+  pub bytes : List ℕ
+  pub held : IsHeld files name bytes
+  pub is : IsTheDocument bytes document

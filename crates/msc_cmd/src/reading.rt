@@ -1,0 +1,82 @@
+ghost use Rattle.std.specs.Prelude.{◌≡◌, ◌≤◌, ◌+◌, IfOk, OnOk, IsErrOf, IsTrue, Some, [], true};
+ghost use Rattle.msc_base.specs.Causes.{Rose};
+ghost use Rattle.msc_base.specs.declared.limits.TheConstants.Limits.{DOCUMENT_BYTES};
+ghost use Rattle.msc_cmd.specs.Intakes.{IsReading, HoldsDocument, IsDocumentOf};
+
+use crate::document::{Document, settle};
+use crate::entry::ReadFault;
+use crate::intake::Intake;
+use msc_base::{Failed, Limits, NoMemory, Shelf, Text};
+use std::alloc::Global;
+
+/// Reads once, and takes what came. 0 is the end of the entry.
+fn take_more<S: Shelf>(shelf: &mut S, name: &Text, intake: &mut Intake) -> Result<usize, ReadFault>
+    requires begun { IsTrue (S.begun shelf.old) }
+    requires last { S.last shelf.old ≡ Some name.now }
+    requires room { intake.old.count ≤ DOCUMENT_BYTES }
+    requires reading { IsReading (S.files shelf.old) name.now (S.rest shelf.old) intake.old }
+
+    ensures files { S.files shelf.new ≡ S.files shelf.old }
+    ensures begun { S.begun shelf.new ≡ S.begun shelf.old }
+    ensures last { S.last shelf.new ≡ S.last shelf.old }
+    ensures later { S.faults shelf.old ≤ S.faults shelf.new }
+    ensures count { IfOk result (λ n. intake.new.count ≡ intake.old.count + n) }
+    ensures reading { OnOk result (IsReading (S.files shelf.new) name.now (S.rest shelf.new) intake.new) }
+    ensures end { IfOk result (λ n. n ≡ 0 → IsReading (S.files shelf.new) name.now (Some []) intake.new) }
+    ensures failed { IsErrOf result ReadFault.Failed → Rose (S.faults shelf.old) (S.faults shelf.new) }
+    ensures broken { IsErrOf result ReadFault.Failed → S.broken shelf.new ≡ true }
+{
+    let mut buf = [0u8; 4096];
+    let count = match shelf.read(&mut buf) {
+        Ok(count) => count,
+        Err(Failed) => return Err(ReadFault::Failed),
+    };
+    let (front, _) = buf.split_at(count);
+    intake.take(front)?;
+    Ok(count)
+}
+
+#[tactic(auto, using(crate::proofs::Taking::holds_end, crate::proofs::Taking::holds_over))]
+/// Reads a document to its end, or behind the limit.
+fn read_document<S: Shelf>(alloc: Global, shelf: &mut S, name: &Text) -> Result<Intake, ReadFault>
+    ensures files { S.files shelf.new ≡ S.files shelf.old }
+    ensures later { S.faults shelf.old ≤ S.faults shelf.new }
+    ensures holds { IfOk result (HoldsDocument (S.files shelf.old) name.now) }
+    ensures failed { IsErrOf result ReadFault.Failed → Rose (S.faults shelf.old) (S.faults shelf.new) }
+    ensures broken { IsErrOf result ReadFault.Failed → S.broken shelf.new ≡ true }
+    ensures last { IsErrOf result ReadFault.Failed → S.last shelf.new ≡ Some name.now }
+{
+    let given = name.copy(alloc)?;
+    if shelf.start(given).is_err() {
+        return Err(ReadFault::Failed);
+    }
+    let mut intake = Intake::new(alloc)?;
+    while intake.count <= Limits::DOCUMENT_BYTES {
+        let count = take_more(shelf, name, &mut intake)?;
+        if count == 0 {
+            return Ok(intake);
+        }
+    }
+    Ok(intake)
+}
+
+/// What the document of this name is.
+#[tactic(auto, using(crate::proofs::Settling::document_of))]
+pub fn take_document<S: Shelf>(
+    alloc: Global,
+    shelf: &mut S,
+    name: &Text,
+) -> Result<Document, ReadFault>
+    ensures files { S.files shelf.new ≡ S.files shelf.old }
+    ensures later { S.faults shelf.old ≤ S.faults shelf.new }
+    ensures document { IfOk result (IsDocumentOf (S.files shelf.old) name.now) }
+    ensures failed { IsErrOf result ReadFault.Failed → Rose (S.faults shelf.old) (S.faults shelf.new) }
+    ensures broken { IsErrOf result ReadFault.Failed → S.broken shelf.new ≡ true }
+    ensures last { IsErrOf result ReadFault.Failed → S.last shelf.new ≡ Some name.now }
+{
+    let intake = read_document(alloc, shelf, name)?;
+    match settle(alloc, intake) {
+        Ok(document) => Ok(document),
+        Err(NoMemory) => Err(ReadFault::NoMemory),
+    }
+}

@@ -1,0 +1,270 @@
+ghost use Rattle.std.specs.Prelude.{◌≡◌, IfOk, IfNone, IfSome, IsErrOf, map, option_map, true, false};
+ghost use Rattle.std.specs.List.{list_all};
+ghost use Rattle.std.specs.Str.{is_utf8};
+ghost use Rattle.clap.specs.Words.{app_of, with_rule, rows_of, found_of};
+ghost use Rattle.msc_base.specs.declared.limits.TheConstants.Limits.{BUDGET_DEFAULT};
+ghost use Rattle.msc_cmd.specs.Requests.{Answers, asked_of, is_served, bare, wanted, flag, form_of, is_true, judge_app, judge_request, request_of as request_in_words, request_from, request_in};
+ghost use Rattle.msc_cmd.specs.declared.requests.Request.TheVariants.{Judge};
+ghost use Rattle.msc_cmd.specs.declared.requests.WordFault.TheVariants.{NoRequest};
+
+use clap::error::ErrorKind;
+use clap::{Arg, ArgAction, ArgMatches, Command};
+use msc_base::{Limits, NoMemory, Text, Words, is_text};
+use std::alloc::{AllocError, Global};
+
+/// How the lines of a log are written.
+#[derive(Clone, Copy, Debug, PartialEq, Eq)]
+pub enum LogForm {
+    /// Each line is an event in the notation.
+    Lines,
+    /// Each line is a JSON object.
+    Json,
+}
+
+/// What the words ask for.
+#[derive(Drop)]
+pub enum Request {
+    /// Judge this log by this chart of this document.
+    Judge {
+        document: Text,
+        chart: Text,
+        log: Text,
+        budget: u64,
+        json: bool,
+        form: LogForm,
+    },
+}
+
+/// Why the words give no request.
+#[derive(Clone, Copy, Debug, PartialEq, Eq)]
+pub enum WordFault {
+    /// They are none.
+    NoRequest,
+    /// Want of memory.
+    NoMemory,
+}
+
+/// Adds a word that has to be there.
+fn with_wanted<'a>(
+    alloc: Global,
+    command: Command<'a>,
+    name: &'a str,
+) -> Result<Command<'a>, AllocError>
+    ensures { IfOk result (λ c. app_of c ≡ with_rule (app_of command.entry) (wanted name.entry.now)) }
+{
+    let argument = Arg::new(alloc, name).required(true).action(ArgAction::Set);
+    command.arg(argument)
+}
+
+/// Adds an option without a value.
+fn with_flag<'a>(
+    alloc: Global,
+    command: Command<'a>,
+    name: &'a str,
+) -> Result<Command<'a>, AllocError>
+    ensures { IfOk result (λ c. app_of c ≡ with_rule (app_of command.entry) (flag name.entry.now)) }
+{
+    let argument = Arg::new(alloc, name).long(name).action(ArgAction::SetTrue);
+    command.arg(argument)
+}
+
+/// A command without arguments yet, to which each word is one, `--help` too.
+fn bare_command<'a>(alloc: Global) -> Command<'a>
+    ensures { app_of result ≡ bare }
+{
+    Command::new(alloc, "judge")
+        .no_binary_name(true)
+        .disable_help_flag(true)
+}
+
+/// What may stand behind `judge`.
+fn judge_command<'a>(alloc: Global) -> Result<Command<'a>, AllocError>
+    ensures { IfOk result (λ c. app_of c ≡ judge_app) }
+{
+    let command = bare_command(alloc);
+    let command = with_wanted(alloc, command, "document")?;
+    let command = with_wanted(alloc, command, "chart")?;
+    let command = with_wanted(alloc, command, "log")?;
+    let command = with_flag(alloc, command, "json")?;
+    with_flag(alloc, command, "log-json")
+}
+
+/// Whether an option without a value is given.
+fn is_given(text: Option<&str>) -> bool
+    ensures { result ≡ is_true (option_map (λ s. s.now) text.entry) }
+{
+    match text {
+        None => false,
+        Some(text) => text == "true",
+    }
+}
+
+/// The form of the log that is asked for.
+fn form_given(text: Option<&str>) -> LogForm
+    ensures { result ≡ form_of (is_true (option_map (λ s. s.now) text.entry)) }
+{
+    if is_given(text) {
+        LogForm::Json
+    } else {
+        LogForm::Lines
+    }
+}
+
+/// The request to judge, with texts of its own.
+fn judge_of(
+    alloc: Global,
+    document: &str,
+    chart: &str,
+    log: &str,
+    json: bool,
+    form: LogForm,
+) -> Result<Request, NoMemory>
+    ensures { IfOk result (λ r. r ≡ Judge document.now chart.now log.now BUDGET_DEFAULT json form) }
+{
+    let document = Text::from_bytes(alloc, document.as_bytes())?;
+    let chart = Text::from_bytes(alloc, chart.as_bytes())?;
+    let log = Text::from_bytes(alloc, log.as_bytes())?;
+    Ok(Request::Judge {
+        document,
+        chart,
+        log,
+        budget: Limits::BUDGET_DEFAULT,
+        json,
+        form,
+    })
+}
+
+/// The request, from what each argument was given.
+fn request_of_texts(
+    alloc: Global,
+    document: Option<&str>,
+    chart: Option<&str>,
+    log: Option<&str>,
+    json: Option<&str>,
+    log_json: Option<&str>,
+) -> Result<Request, WordFault>
+    ensures { Answers (request_from (option_map (λ s. s.now) document.entry) (option_map (λ s. s.now) chart.entry)
+        (option_map (λ s. s.now) log.entry) (option_map (λ s. s.now) json.entry) (option_map (λ s. s.now) log_json.entry)) result }
+{
+    let Some(document) = document else {
+        return Err(WordFault::NoRequest);
+    };
+    let Some(chart) = chart else {
+        return Err(WordFault::NoRequest);
+    };
+    let Some(log) = log else {
+        return Err(WordFault::NoRequest);
+    };
+    let json = is_given(json);
+    let form = form_given(log_json);
+    match judge_of(alloc, document, chart, log, json, form) {
+        Ok(request) => Ok(request),
+        Err(_) => Err(WordFault::NoMemory),
+    }
+}
+
+/// The request in what `clap` found.
+fn request_of_matches(alloc: Global, matches: &ArgMatches) -> Result<Request, WordFault>
+    ensures { Answers (request_in (rows_of (found_of matches.now))) result }
+{
+    request_of_texts(
+        alloc,
+        matches.get_str("document"),
+        matches.get_str("chart"),
+        matches.get_str("log"),
+        matches.get_str("json"),
+        matches.get_str("log-json"),
+    )
+}
+
+/// The request that the words behind `judge` make.
+fn judge_words(alloc: Global, words: &[&str]) -> Result<Request, WordFault>
+    ensures { Answers (judge_request (map (λ w. w.now) words.entry.now)) result }
+{
+    let Ok(command) = judge_command(alloc) else {
+        return Err(WordFault::NoMemory);
+    };
+    match command.try_get_matches_from(words) {
+        Ok(matches) => request_of_matches(alloc, &matches),
+        Err(error) => match error.kind() {
+            ErrorKind::OutOfMemory => Err(WordFault::NoMemory),
+            _ => Err(WordFault::NoRequest),
+        },
+    }
+}
+
+#[tactic(auto, using(crate::proofs::WordLaws::not_utf8))]
+/// The word as a text, if it is one.
+fn text_of(word: &Text) -> Option<&str>
+    ensures text { IfSome result (λ t. (t.now ≡ word.now) × (is_utf8 word.now ≡ true)) }
+    ensures other { IfNone result (is_utf8 word.now ≡ false) }
+{
+    match str::from_utf8(word.bytes()) {
+        Ok(text) => Some(text),
+        Err(_) => None,
+    }
+}
+
+#[tactic(auto, using(crate::proofs::WordLaws::more_texts, crate::proofs::WordLaws::more_utf8, crate::proofs::WordLaws::first_other, crate::proofs::WordLaws::all_texts, crate::proofs::WordLaws::all_utf8))]
+/// The words as texts, if each is one.
+fn texts_of(alloc: Global, words: &[Text]) -> Result<Vec<&str>, WordFault>
+    ensures texts { IfOk result (λ v. map (λ w. w.now) v.items ≡ words.now) }
+    ensures utf8 { IfOk result (λ v. list_all is_utf8 words.now ≡ true) }
+    ensures other { IsErrOf result NoRequest → list_all is_utf8 words.now ≡ false }
+{
+    let mut texts = Vec::new(alloc);
+    let mut rest = words;
+    while let Some((word, others)) = rest.split_first() {
+        let Some(text) = text_of(word) else {
+            return Err(WordFault::NoRequest);
+        };
+        if texts.push(text).is_err() {
+            return Err(WordFault::NoMemory);
+        }
+        rest = others;
+    }
+    Ok(texts)
+}
+
+/// The request that the words make.
+pub fn request_of(alloc: Global, words: &Words) -> Result<Request, WordFault>
+    ensures { Answers (request_in_words words.now) result }
+{
+    let Some((command, rest)) = words.as_slice().split_first() else {
+        return Err(WordFault::NoRequest);
+    };
+    if !is_text(command.bytes(), "judge") {
+        return Err(WordFault::NoRequest);
+    }
+    let texts = texts_of(alloc, rest)?;
+    judge_words(alloc, texts.as_slice())
+}
+
+/// Whether the request can be served yet: its log isn't in JSON.
+fn can_serve(request: &Request) -> bool
+    ensures { result ≡ is_served request.now }
+{
+    match request {
+        Request::Judge { form, .. } => match form {
+            LogForm::Lines => true,
+            LogForm::Json => false,
+        },
+    }
+}
+
+#[tactic(auto, using(crate::proofs::WordLaws::served_answer, crate::proofs::WordLaws::unserved_answer, crate::proofs::WordLaws::no_answer))]
+/// The request that is served for these words.
+pub fn asked_by(alloc: Global, words: &Words) -> Result<Request, WordFault>
+    ensures { Answers (asked_of words.now) result }
+{
+    match request_of(alloc, words) {
+        Ok(request) => {
+            if can_serve(&request) {
+                Ok(request)
+            } else {
+                Err(WordFault::NoRequest)
+            }
+        }
+        Err(fault) => Err(fault),
+    }
+}
