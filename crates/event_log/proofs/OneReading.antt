@@ -8,7 +8,7 @@ use Rattle.msc_base.specs.declared.label.Far.TheVariants.{Instance}
 use Rattle.msc_base.specs.declared.limits.TheConstants.Limits.{LOG_EVENTS}
 use Rattle.msc_tokens.specs.declared.token.Token.{Token}
 use Rattle.msc_tokens.proofs.Unique.{one_spelling}
-use Rattle.msc_grammar.specs.Events.{texts, IsWay, ReadsEvent}
+use Rattle.msc_grammar.specs.Events.{texts, IsWay, ReadsPlainEvent}
 use Rattle.event_log.specs.Logs.{IsShort, IsBlankLine, IsEventLine, Reads, nothing, blank, event, IsFaultOf, HasFaultyLine, HasEvents, IsLog, IsFault, HasFault, faulty_line, faulty_front, too_long}
 use Rattle.event_log.specs.declared.event.LineEvent.{LineEvent}
 use Rattle.event_log.specs.declared.event.LogFault.{LogFault}
@@ -28,7 +28,7 @@ same_label : (at at2 text text2 : List ℕ) (kind kind2 : Kind) (far far2 : Far)
 same_label at at2 text text2 kind kind2 far far2 a k t f = cc
 
 -- tokens are one event at most
-one_label : (tokens : List (List ℕ)) (a b : Label) → ReadsEvent tokens a → ReadsEvent tokens b → a ≡ b
+one_label : (tokens : List (List ℕ)) (a b : Label) → ReadsPlainEvent tokens a → ReadsPlainEvent tokens b → a ≡ b
 one_label tokens a b ra rb =
     let e : a.at ∷ codes ":" ∷ ra.way ∷ a.text ∷ ra.toward ∷ ra.far ∷ codes ";" ∷ [] ≡ b.at ∷ codes ":" ∷ rb.way ∷ b.text ∷ rb.toward ∷ rb.far ∷ codes ";" ∷ [] = sym ra.are ∙ rb.are in
     let at_is : a.at ≡ b.at = cc in
@@ -42,7 +42,7 @@ one_label tokens a b ra rb =
 one_event : (line : List ℕ) (a b : Label) → IsEventLine line a → IsEventLine line b → a ≡ b
 one_event line a b ea eb =
     let same : ea.tokens ≡ eb.tokens = one_spelling line ea.tokens eb.tokens ea.spells eb.spells in
-    one_label (texts eb.tokens) a b (subst (λ ts. ReadsEvent (texts ts) a) same ea.reads) eb.reads
+    one_label (texts eb.tokens) a b (subst (λ ts. ReadsPlainEvent (texts ts) a) same ea.reads) eb.reads
 
 blank_event : (line : List ℕ) (a : Label) → IsBlankLine line → IsEventLine line a → ⊥
 blank_event line a h e =

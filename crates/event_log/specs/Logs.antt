@@ -4,7 +4,7 @@ use Rattle.msc_base.specs.declared.label.Label.{Label}
 use Rattle.msc_base.specs.declared.limits.TheConstants.Limits.{LINE_BYTES, LOG_BYTES, LOG_EVENTS}
 use Rattle.msc_tokens.specs.declared.token.Token.{Token}
 use Rattle.msc_tokens.specs.Spelling.{Spells}
-use Rattle.msc_grammar.specs.Events.{texts, ReadsEvent}
+use Rattle.msc_grammar.specs.Events.{texts, ReadsPlainEvent}
 use Rattle.event_log.specs.Lines.{cut_of, decided}
 use Rattle.event_log.specs.declared.event.LineEvent.{LineEvent}
 use Rattle.event_log.specs.declared.event.LogFault.{LogFault}
@@ -23,7 +23,7 @@ IsBlankLine line = Spells line []
 pub record IsEventLine (line : List ℕ) (label : Label) : Type 0 where
   pub tokens : List Token
   pub spells : Spells line tokens
-  pub reads : ReadsEvent (texts tokens) label
+  pub reads : ReadsPlainEvent (texts tokens) label
 
 -- the line is neither
 pub record IsBadLine (line : List ℕ) : Type 0 where

@@ -2,7 +2,7 @@ ghost use Rattle.std.specs.Prelude.{◌≡◌, ◌<◌, ◌^◌, ◌↔◌, IfOk
 ghost use Rattle.event_log.specs.Logs.{IsBlankLine, IsEventLine, IsBadLine, IfLine};
 
 use msc_base::{Label, NoMemory};
-use msc_grammar::{PlainFault, parse_event};
+use msc_grammar::{PlainFault, parse_plain_event};
 use msc_tokens::{LexFault, lex_all};
 use std::alloc::Global;
 
@@ -41,7 +41,7 @@ pub fn read_line(alloc: Global, bytes: &[u8]) -> Result<Line, NoMemory>
     if tokens.len() == 0 {
         return Ok(Line::Blank);
     }
-    match parse_event(alloc, tokens.as_slice()) {
+    match parse_plain_event(alloc, tokens.as_slice()) {
         Ok(label) => Ok(Line::Event(label)),
         Err(PlainFault::NotYet) => Ok(Line::Bad),
         Err(PlainFault::NoMemory) => Err(NoMemory),

@@ -5,7 +5,7 @@ use Rattle.std.proofs.lemmas.List.Elements.{All-tail}
 use Rattle.msc_base.specs.Names.{IsName}
 use Rattle.msc_base.specs.declared.label.Label.{Label}
 use Rattle.msc_tokens.specs.declared.token.Token.{Token}
-use Rattle.msc_grammar.specs.Events.{texts, ReadsEvent}
+use Rattle.msc_grammar.specs.Events.{texts, ReadsPlainEvent}
 use Rattle.msc_grammar.specs.Charts.{ReadsStatement, ReadsBody, ReadsNames, ReadsChart, names_texts, end_texts}
 use Rattle.msc_grammar.proofs.Reading.{one_event}
 use Rattle.msc_grammar.proofs.NameLists.{last, more, front_of}
@@ -31,7 +31,7 @@ texts-append (x ∷ xs) ys = ap (λ (ts : List (List ℕ)). x.bytes ∷ ts) (tex
 pub texts_length : (xs : List Token) → length (texts xs) ≡ length xs
 texts_length xs = length-map {A = Token} {B = List ℕ} xs (λ t. t.bytes)
 
-pub event_seven : (ts : List (List ℕ)) (label : Label) → ReadsEvent ts label → length ts ≡ 7
+pub event_seven : (ts : List (List ℕ)) (label : Label) → ReadsPlainEvent ts label → length ts ≡ 7
 event_seven ts label r = ap length r.are
 
 -- a statement before a body
@@ -84,7 +84,7 @@ one_body ts [] (l ∷ ls) ra rb = absurd (end_only rb.0 rb.1 (event_seven rb.0 l
 one_body ts (k ∷ ks) [] ra rb = absurd (end_only ra.0 ra.1 (event_seven ra.0 k ra.3.event) (sym ra.2 ∙ rb))
 one_body ts (k ∷ ks) (l ∷ ls) ra rb =
     let p : (ra.0 ≡ rb.0) × (ra.1 ≡ rb.1) = parts_of ra.0 rb.0 ra.1 rb.1 (event_seven ra.0 k ra.3.event ∙ sym (event_seven rb.0 l rb.3.event)) (sym ra.2 ∙ rb.2) in
-    let here : k ≡ l = one_event ra.0 k l ra.3.event (subst (λ us. ReadsEvent us l) (sym p.0) rb.3.event) in
+    let here : k ≡ l = one_event ra.0 k l ra.3.event (subst (λ us. ReadsPlainEvent us l) (sym p.0) rb.3.event) in
     let there : ks ≡ ls = one_body ra.1 ks ls ra.4 (subst (λ us. ReadsBody us ls) (sym p.1) rb.4) in
     cc
 

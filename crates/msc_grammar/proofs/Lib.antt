@@ -1,4 +1,7 @@
 pub mod Bodies
+pub mod EventAnswers
+pub mod EventRules
+pub mod ItemLists
 pub mod NameLists
 pub mod PairCounts
 pub mod PairEnds

@@ -7,7 +7,7 @@ use Rattle.msc_base.specs.declared.label.Kind.TheVariants.{Output, Input}
 use Rattle.msc_base.specs.declared.label.Far.{Far}
 use Rattle.msc_base.specs.declared.label.Far.TheVariants.{Instance}
 use Rattle.msc_tokens.specs.declared.token.Token.{Token}
-use Rattle.msc_grammar.specs.Events.{texts, ReadsEvent, IsWay}
+use Rattle.msc_grammar.specs.Events.{texts, ReadsPlainEvent, IsWay}
 
 -- a list of seven is its items
 pub seven : {X : Type 0} (xs : List X) (a b c d e f g : X) → length xs ≡ 7 → a ≡ get_or xs 0 a → b ≡ get_or xs 1 b → c ≡ get_or xs 2 c → d ≡ get_or xs 3 d → e ≡ get_or xs 4 e → f ≡ get_or xs 5 f → g ≡ get_or xs 6 g → xs ≡ a ∷ b ∷ c ∷ d ∷ e ∷ f ∷ g ∷ []
@@ -22,7 +22,7 @@ seven (p ∷ q ∷ r ∷ s ∷ t ∷ u ∷ v ∷ []) a b c d e f g n ia ib ic id
 seven (p ∷ q ∷ r ∷ s ∷ t ∷ u ∷ v ∷ w ∷ xs) a b c d e f g n ia ib ic id ie if ig = absurd (omega arith)
 
 pub reads_event : (tokens : List Token) (at colon way text toward far end : Token) (kind : Kind) → tokens ≡ at ∷ colon ∷ way ∷ text ∷ toward ∷ far ∷ end ∷ [] → IsWay way.bytes toward.bytes kind → IsName at.bytes → colon.bytes ≡ codes ":" → IsName text.bytes → IsName far.bytes → end.bytes ≡ codes ";"
-    → ReadsEvent (texts tokens) (record { at = at.bytes; kind = kind; text = text.bytes; far = Instance far.bytes })
+    → ReadsPlainEvent (texts tokens) (record { at = at.bytes; kind = kind; text = text.bytes; far = Instance far.bytes })
 reads_event tokens at colon way text toward far end kind is w a c t f e =
     record { way = way.bytes; toward = toward.bytes; far = far.bytes; way_is = w; far_is = refl; at_name = a; text_name = t; far_name = f; are = rw is (cc (c, e)) }
 
@@ -46,7 +46,7 @@ same_label : (p q s t : List ℕ) (k l : Kind) (f g : Far) → p ≡ q → k ≡
 same_label p q s t k l f g ep ek es ef = cc
 
 -- tokens are at most one event
-pub one_event : (ts : List (List ℕ)) (a b : Label) → ReadsEvent ts a → ReadsEvent ts b → a ≡ b
+pub one_event : (ts : List (List ℕ)) (a b : Label) → ReadsPlainEvent ts a → ReadsPlainEvent ts b → a ≡ b
 one_event ts a b ra rb =
     let e = sym ra.are ∙ rb.are in
     let at : a.at ≡ b.at = cc in

@@ -4,7 +4,7 @@ use Rattle.msc_base.specs.Names.{IsName, IsOneOf, AreDifferent}
 use Rattle.msc_base.specs.declared.label.Label.{Label}
 use Rattle.msc_base.specs.declared.limits.TheConstants.Limits.{INSTANCES}
 use Rattle.msc_grammar.specs.declared.chart.PlainChart.{PlainChart}
-use Rattle.msc_grammar.specs.Events.{ReadsEvent, IsLead}
+use Rattle.msc_grammar.specs.Events.{ReadsPlainEvent, IsLead}
 use Rattle.msc_grammar.specs.Pairing.{ArePartners, far_name}
 
 -- names with commas between them, and a semicolon
@@ -21,7 +21,7 @@ pub record ReadsNames (tokens names after : List (List ℕ)) : Type 0 where
 
 -- the tokens read as a statement: an event behind the name of its instance
 pub record ReadsStatement (tokens : List (List ℕ)) (label : Label) : Type 0 where
-  pub event : ReadsEvent tokens label
+  pub event : ReadsPlainEvent tokens label
   pub lead : IsLead label.at
 
 -- the chart's last tokens

@@ -2,8 +2,8 @@ ghost use Rattle.std.specs.Prelude.{◌≡◌, ◌↔◌, IsTrue, IfOk, MatchOpt
 ghost use Rattle.msc_grammar.specs.Events.{texts};
 ghost use Rattle.msc_grammar.specs.Charts.{ReadsStatement, HasNoStatement, ReadsBody, HasNoBody, end_texts};
 
-use crate::event::{PlainFault, is, parse_event};
 use crate::lead::is_lead;
+use crate::plain_event::{PlainFault, is, parse_plain_event};
 use msc_base::{Items, Label, LabelList, NoMemory};
 use msc_tokens::Token;
 use std::alloc::Global;
@@ -25,7 +25,7 @@ fn ends_chart(tokens: &[Token]) -> bool
 fn read_statement(alloc: Global, tokens: &[Token]) -> Result<Option<Label>, NoMemory>
     ensures { IfOk result (λ read. MatchOption read (HasNoStatement (texts tokens.now)) (ReadsStatement (texts tokens.now))) }
 {
-    match parse_event(alloc, tokens) {
+    match parse_plain_event(alloc, tokens) {
         Ok(label) => {
             if is_lead(label.at.bytes()) {
                 Ok(Some(label))

@@ -1,90 +1,236 @@
-ghost use Rattle.std.specs.Prelude.{◌≡◌, ◌↔◌, IsTrue, IfOk, IsErrOf, MatchOption};
-ghost use Rattle.msc_base.specs.Names.{IsName};
-ghost use Rattle.msc_base.specs.declared.label.Label.{Label};
-ghost use Rattle.msc_grammar.specs.Events.{texts, ReadsEvent, IsWay, IsNoWay};
-ghost use Rattle.msc_grammar.specs.declared.event.PlainFault.TheVariants.{NoMemory};
+ghost use Rattle.std.specs.Prelude.{◌≡◌};
+ghost use Rattle.msc_reading.specs.Answers.{Gives};
+ghost use Rattle.msc_grammar.specs.EventReaders.{ending_at, far_end_at, far_name_at, to_name_at, to_env_at, to_lost_at, output_at, input_at, action_at, timer_end_at, timer_act, creation_at, timers_at, act_at, event_at, act_view};
 
-use msc_base::{Far, Kind, Label, Name, NoMemory, is_text};
+use crate::message::message;
+use crate::plain_event::name_of;
+use msc_base::{Far, Kind, Label, Text};
+use msc_reading::{
+    ReadFault, either_word, name, name_or_string, starts_with, starts_with_either,
+    starts_with_name, string, word,
+};
 use msc_tokens::Token;
 use std::alloc::Global;
 
-/// Why tokens aren't read.
-#[derive(Clone, Copy, Debug, PartialEq, Eq)]
-pub enum PlainFault {
-    /// They are nothing that is built yet.
-    NotYet,
-    /// Want of memory.
-    NoMemory,
+/// What an event says, without its instance.
+#[derive(Drop)]
+pub struct Act {
+    kind: Kind,
+    text: Text,
+    far: Far,
 }
 
-impl From<NoMemory> for PlainFault {
-    ghost from_gives = { λ _ e. e ≡ NoMemory };
-
-    fn from(_: NoMemory) -> Self {
-        PlainFault::NoMemory
-    }
-}
-
-/// Whether a token is this text.
-pub fn is(token: &Token, text: &str) -> bool
-    ensures { IsTrue result ↔ (token.now.bytes ≡ text.now) }
+/// The end of an event: a semicolon, with or without a comment.
+fn ending(tokens: &[Token]) -> Result<&[Token], ReadFault>
+    ensures { Gives (λ x. (tt, x.now)) result (ending_at tokens.now) }
 {
-    is_text(token.bytes.bytes(), text)
+    if starts_with(tokens, "comment") {
+        let (_comment, rest) = word(tokens, "comment")?;
+        let (_string, rest) = string(rest)?;
+        let (_end, rest) = word(rest, ";")?;
+        return Ok(rest);
+    }
+    let (_end, rest) = word(tokens, ";")?;
+    Ok(rest)
 }
 
-/// Whether a token is a name.
-pub fn is_name(token: &Token) -> bool
-    ensures { IsTrue result ↔ IsName token.now.bytes }
+/// The instance behind `lost` or `found`, where one is named.
+fn far_name(alloc: Global, tokens: &[Token]) -> Result<(Far, &[Token]), ReadFault>
+    ensures { Gives (λ x. (x.0, x.1.now)) result (far_name_at tokens.now) }
 {
-    msc_base::is_name(token.bytes.bytes())
+    if starts_with_name(tokens) {
+        let (far, rest) = name(tokens)?;
+        let far = name_of(alloc, far)?;
+        return Ok((Far::Instance(far), rest));
+    }
+    Ok((Far::Nobody, tokens))
 }
 
-/// The name that a token is.
-pub fn name_of(alloc: Global, token: &Token) -> Result<Name, NoMemory>
-    requires { IsName token.now.bytes }
-    ensures { IfOk result (λ name. name ≡ token.now.bytes) }
+/// A far end that is an instance, and the end.
+fn to_name(alloc: Global, tokens: &[Token], kind: Kind) -> Result<(Kind, Far, &[Token]), ReadFault>
+    ensures { Gives (λ x. ((x.0, x.1), x.2.now)) result (to_name_at kind tokens.now) }
 {
-    match Name::from_bytes(alloc, token.bytes.bytes()) {
-        Ok(name) => Ok(name),
-        Err(_) => Err(NoMemory),
-    }
-}
-
-/// The kind of an event, by the words that it is written with.
-fn kind_of(way: &Token, toward: &Token) -> Option<Kind>
-    ensures { MatchOption result (IsNoWay way.now.bytes toward.now.bytes) (IsWay way.now.bytes toward.now.bytes) }
-{
-    if is(way, "out") && is(toward, "to") {
-        return Some(Kind::Output);
-    }
-    if is(way, "in") && is(toward, "from") {
-        return Some(Kind::Input);
-    }
-    None
-}
-
-/// The event that the tokens are: an output to an instance, or an input from one (Z.120, clause 4.3).
-pub fn parse_event(alloc: Global, tokens: &[Token]) -> Result<Label, PlainFault>
-    ensures ok { IfOk result (λ label. ReadsEvent (texts tokens.now) label) }
-    ensures only { IfOk result (λ label. (other : Label) → ReadsEvent (texts tokens.now) other → other ≡ label) }
-    ensures not_yet { IsErrOf result PlainFault.NotYet → (label : Label) → ReadsEvent (texts tokens.now) label → ⊥ }
-{
-    let [at, colon, way, text, toward, far, end] = tokens else {
-        return Err(PlainFault::NotYet);
-    };
-    let Some(kind) = kind_of(way, toward) else {
-        return Err(PlainFault::NotYet);
-    };
-    if !is_name(at) || !is(colon, ":") || !is_name(text) || !is_name(far) || !is(end, ";") {
-        return Err(PlainFault::NotYet);
-    }
-    let at = name_of(alloc, at)?;
-    let text = text.bytes.copy(alloc)?;
+    let (far, rest) = name(tokens)?;
+    let rest = ending(rest)?;
     let far = name_of(alloc, far)?;
-    Ok(Label {
-        at,
+    Ok((kind, Far::Instance(far), rest))
+}
+
+/// The environment as far end, and the end.
+fn to_env(tokens: &[Token], kind: Kind) -> Result<(Kind, Far, &[Token]), ReadFault>
+    ensures { Gives (λ x. ((x.0, x.1), x.2.now)) result (to_env_at kind tokens.now) }
+{
+    let (_env, rest) = word(tokens, "env")?;
+    let rest = ending(rest)?;
+    Ok((kind, Far::Env, rest))
+}
+
+/// No far end, or one that doesn't take part, and the end.
+fn to_lost<'a>(
+    alloc: Global,
+    tokens: &'a [Token],
+    lost: &str,
+    kind: Kind,
+) -> Result<(Kind, Far, &'a [Token]), ReadFault>
+    ensures { Gives (λ x. ((x.0, x.1), x.2.now)) result (to_lost_at lost.now kind tokens.now) }
+{
+    let (_lost, rest) = word(tokens, lost)?;
+    let (far, rest) = far_name(alloc, rest)?;
+    let rest = ending(rest)?;
+    Ok((kind, far, rest))
+}
+
+/// The far end of a message, and the end. The word says that it has none (Z.120, clause 4.3).
+fn far_end<'a>(
+    alloc: Global,
+    tokens: &'a [Token],
+    lost: &str,
+    kind: Kind,
+    lost_kind: Kind,
+) -> Result<(Kind, Far, &'a [Token]), ReadFault>
+    ensures { Gives (λ x. ((x.0, x.1), x.2.now)) result (far_end_at lost.now kind lost_kind tokens.now) }
+{
+    if starts_with_name(tokens) {
+        return to_name(alloc, tokens, kind);
+    }
+    if starts_with(tokens, "env") {
+        return to_env(tokens, kind);
+    }
+    to_lost(alloc, tokens, lost, lost_kind)
+}
+
+/// A message is sent.
+fn output(alloc: Global, tokens: &[Token]) -> Result<(Act, &[Token]), ReadFault>
+    ensures { Gives (λ x. (act_view x.0, x.1.now)) result (output_at tokens.now) }
+{
+    let (_out, rest) = word(tokens, "out")?;
+    let (text, rest) = message(alloc, rest)?;
+    let (_to, rest) = word(rest, "to")?;
+    let (kind, far, rest) = far_end(alloc, rest, "lost", Kind::Output, Kind::OutputLost)?;
+    Ok((Act { kind, text, far }, rest))
+}
+
+/// A message is received.
+fn input(alloc: Global, tokens: &[Token]) -> Result<(Act, &[Token]), ReadFault>
+    ensures { Gives (λ x. (act_view x.0, x.1.now)) result (input_at tokens.now) }
+{
+    let (_in, rest) = word(tokens, "in")?;
+    let (text, rest) = message(alloc, rest)?;
+    let (_from, rest) = word(rest, "from")?;
+    let (kind, far, rest) = far_end(alloc, rest, "found", Kind::Input, Kind::InputFound)?;
+    Ok((Act { kind, text, far }, rest))
+}
+
+/// A local action (Z.120, clause 4.9).
+fn action(alloc: Global, tokens: &[Token]) -> Result<(Act, &[Token]), ReadFault>
+    ensures { Gives (λ x. (act_view x.0, x.1.now)) result (action_at tokens.now) }
+{
+    let (_action, rest) = word(tokens, "action")?;
+    let (text, rest) = name_or_string(rest)?;
+    let rest = ending(rest)?;
+    let text = text.bytes.copy(alloc)?;
+    Ok((
+        Act {
+            kind: Kind::Action,
+            text,
+            far: Far::Nobody,
+        },
+        rest,
+    ))
+}
+
+/// A timer, and the end (Z.120, clause 4.8).
+fn timer_end(alloc: Global, tokens: &[Token]) -> Result<(Text, &[Token]), ReadFault>
+    ensures { Gives (λ x. ((x.0, tt), x.1.now)) result (timer_end_at tokens.now) }
+{
+    let (text, rest) = message(alloc, tokens)?;
+    let rest = ending(rest)?;
+    Ok((text, rest))
+}
+
+/// A timer's event.
+fn timed(kind: Kind, text: Text) -> Act
+    ensures { act_view result ≡ timer_act kind text }
+{
+    Act {
         kind,
         text,
-        far: Far::Instance(far),
-    })
+        far: Far::Nobody,
+    }
+}
+
+/// An instance is created (Z.120, clause 4.10): the text and the far end are the child.
+fn creation(alloc: Global, tokens: &[Token]) -> Result<(Act, &[Token]), ReadFault>
+    ensures { Gives (λ x. (act_view x.0, x.1.now)) result (creation_at tokens.now) }
+{
+    let (_create, rest) = word(tokens, "create")?;
+    let (child, rest) = name(rest)?;
+    let rest = ending(rest)?;
+    let text = child.bytes.copy(alloc)?;
+    let far = name_of(alloc, child)?;
+    Ok((
+        Act {
+            kind: Kind::Create,
+            text,
+            far: Far::Instance(far),
+        },
+        rest,
+    ))
+}
+
+/// A timer's event, or a creation.
+fn timers(alloc: Global, tokens: &[Token]) -> Result<(Act, &[Token]), ReadFault>
+    ensures { Gives (λ x. (act_view x.0, x.1.now)) result (timers_at tokens.now) }
+{
+    if starts_with_either(tokens, "starttimer", "set") {
+        let (_start, rest) = either_word(tokens, "starttimer", "set")?;
+        let (text, rest) = timer_end(alloc, rest)?;
+        return Ok((timed(Kind::TimerStart, text), rest));
+    }
+    if starts_with_either(tokens, "stoptimer", "reset") {
+        let (_stop, rest) = either_word(tokens, "stoptimer", "reset")?;
+        let (text, rest) = timer_end(alloc, rest)?;
+        return Ok((timed(Kind::TimerStop, text), rest));
+    }
+    if starts_with(tokens, "timeout") {
+        let (_timeout, rest) = word(tokens, "timeout")?;
+        let (text, rest) = timer_end(alloc, rest)?;
+        return Ok((timed(Kind::Timeout, text), rest));
+    }
+    creation(alloc, tokens)
+}
+
+/// What an event says, and the end.
+fn act_end(alloc: Global, tokens: &[Token]) -> Result<(Act, &[Token]), ReadFault>
+    ensures { Gives (λ x. (act_view x.0, x.1.now)) result (act_at tokens.now) }
+{
+    if starts_with(tokens, "out") {
+        return output(alloc, tokens);
+    }
+    if starts_with(tokens, "in") {
+        return input(alloc, tokens);
+    }
+    if starts_with(tokens, "action") {
+        return action(alloc, tokens);
+    }
+    timers(alloc, tokens)
+}
+
+/// The event at the front of the tokens.
+pub fn event(alloc: Global, tokens: &[Token]) -> Result<(Label, &[Token]), ReadFault>
+    ensures { Gives (λ x. (x.0, x.1.now)) result (event_at tokens.now) }
+{
+    let (at, rest) = name(tokens)?;
+    let (_colon, rest) = word(rest, ":")?;
+    let (act, rest) = act_end(alloc, rest)?;
+    let at = name_of(alloc, at)?;
+    Ok((
+        Label {
+            at,
+            kind: act.kind,
+            text: act.text,
+            far: act.far,
+        },
+        rest,
+    ))
 }

@@ -7,14 +7,20 @@
 mod body;
 mod chart;
 mod event;
+mod fault;
 mod lead;
+mod log_event;
+mod message;
 mod names;
 mod pairing;
 mod parse;
+mod plain_event;
 mod rule;
 mod rules;
 
 pub use chart::PlainChart;
-pub use event::{PlainFault, parse_event};
+pub use fault::{ParseFault, form_of};
+pub use log_event::{parse_event, parse_text};
 pub use parse::first_chart;
+pub use plain_event::{PlainFault, parse_plain_event};
 pub use rule::{Form, Rule};

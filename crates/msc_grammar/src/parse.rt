@@ -5,9 +5,9 @@ ghost use Rattle.msc_grammar.specs.declared.chart.PlainChart.{PlainChart};
 
 use crate::PlainChart;
 use crate::body::read_body;
-use crate::event::{PlainFault, is, is_name, name_of};
 use crate::names::read_names;
 use crate::pairing::partners_of;
+use crate::plain_event::{PlainFault, is, is_name, name_of};
 use crate::rules::keeps_rules;
 use msc_base::{LabelList, Name, Names, NoMemory};
 use msc_tokens::{Token, TokenList};

@@ -3,7 +3,7 @@ use Rattle.msc_tokens.specs.declared.token.Token.{Token}
 use Rattle.msc_tokens.specs.declared.fault.LexFault.TheVariants.{NoMemory}
 use Rattle.msc_tokens.specs.Spelling.{Spells}
 use Rattle.msc_tokens.proofs.Answering.{named_is}
-use Rattle.msc_grammar.specs.Events.{texts, ReadsEvent}
+use Rattle.msc_grammar.specs.Events.{texts, ReadsPlainEvent}
 use Rattle.event_log.proofs.line.read_line.Goals as goal
 
 pub returns-in-Err : goal.returns-in-Err
@@ -18,5 +18,5 @@ returns-in-Err-NotYet c =
     let only : (others : List Token) → Spells c.args.bytes.now others → others ≡ c.in-Ok.tokens.tokens = search rules in
     record {
       not_blank = λ s. omega (arith, ap length (only [] s));
-      no_event = λ label e. not_yet label (subst (λ ts. ReadsEvent (texts ts) label) (only e.tokens e.spells ∙ sym c.as_slice.ensures) e.reads);
+      no_event = λ label e. not_yet label (subst (λ ts. ReadsPlainEvent (texts ts) label) (only e.tokens e.spells ∙ sym c.as_slice.ensures) e.reads);
     }

@@ -2,7 +2,7 @@ use Rattle.std.proofs.Common.{rules, arith, ◌≡◌, codes}
 use Rattle.msc_base.specs.Names.{IsName}
 use Rattle.msc_grammar.specs.Events.{IsWay}
 use Rattle.msc_grammar.proofs.Reading.{seven, reads_event}
-use Rattle.msc_grammar.proofs.event.parse_event.Goals as goal
+use Rattle.msc_grammar.proofs.plain_event.parse_plain_event.Goals as goal
 
 pub returns-clause-ok : goal.returns-clause-ok
 returns-clause-ok c =

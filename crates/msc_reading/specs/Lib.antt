@@ -1,0 +1,6 @@
+pub mod Answers
+pub mod Classes
+pub mod Factored
+pub mod Grammars
+pub mod Languages
+pub mod Parsing

@@ -1,0 +1,15 @@
+//! What a grammar of tokens reads, and how its readers are exact.
+//!
+//! `specs/Languages.antt` says which tokens read as which value, `specs/Grammars.antt` puts grammars together, and
+//! `specs/Parsing.antt` says what a list of tokens parses as. `proofs/` has one rule for each way to put grammars
+//! together.
+#![tactic(auto)]
+
+mod laws;
+mod readers;
+
+pub use laws::one_word;
+pub use readers::{
+    ReadFault, either_word, name, name_or_string, starts_with, starts_with_either,
+    starts_with_item, starts_with_name, string, word,
+};
