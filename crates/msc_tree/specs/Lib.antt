@@ -1,0 +1,4 @@
+pub mod Charts
+pub mod Expressions
+pub mod Graphs
+pub mod Statements

@@ -1,0 +1,40 @@
+use msc_base::{Items, Kind, Name, Names, Place, Text, Words};
+
+/// The other end of an event, as it is written.
+#[derive(Drop)]
+pub enum Target {
+    /// The event names no other end.
+    Nobody,
+    /// The environment, where one is named through this gate.
+    Env(Option<Name>),
+    /// The instance of this name.
+    Instance(Name),
+    /// The reference or inline expression of the first name, through the gate of the second.
+    Gate(Name, Name),
+}
+
+/// An event of a chart, as it is written (Z.120, clauses 4.3 to 4.10).
+#[derive(Drop)]
+pub struct RawEvent {
+    /// The name by which general orderings know it, where it has one.
+    pub tag: Option<Name>,
+    /// What it does.
+    pub kind: Kind,
+    /// The name of the message or timer, the action, or the name of the child.
+    pub text: Text,
+    /// The list in parentheses behind the message or timer, item by item, where there is one.
+    pub parameters: Option<Words>,
+    /// The name that serves the pairing alone, where there is one.
+    pub pairing: Option<Name>,
+    /// The other end.
+    pub target: Target,
+    /// The events that it comes before.
+    pub earlier_than: Names,
+    /// The events that it comes after.
+    pub later_than: Names,
+    /// Where it stands, behind its tag.
+    pub place: Place,
+}
+
+/// A list of events.
+pub type RawEventList = Items<RawEvent>;
