@@ -1,10 +1,10 @@
 -- Taking a log piece by piece.
-use Rattle.std.proofs.Common.{◌≡◌, ◌≢◌, ◌<◌, ◌≤◌, ◌+◌, ◌⊎◌, inl, inr, ℕ, zero, suc, Bool, true, false, not, List, [], ◌∷◌, ◌++◌, length, take, arith, sym, refl, ap, ◌∙◌, subst, Option, Some, None, append-nil, append_assoc, length-append, slice_get}
+use Rattle.std.proofs.Common.{◌≡◌, ◌≢◌, ◌<◌, ◌≤◌, ◌+◌, ◌⊎◌, inl, inr, ℕ, zero, suc, Bool, true, false, List, [], ◌∷◌, ◌++◌, length, take, arith, sym, refl, ap, ◌∙◌, subst, Option, Some, None, append-nil, append_assoc, length-append, slice_get}
 use Rattle.msc_base.specs.Shelves.{Files, MovesKnown, Opens}
 use Rattle.msc_base.specs.declared.limits.TheConstants.Limits.{LOG_BYTES}
 use Rattle.event_log.specs.Logs.{LogOf, HoldsEvent}
 use Rattle.event_log.specs.Meanings.{Only, Never}
-use Rattle.event_log.specs.States.{LogState, Fed, HoldsAt, IsGoing, IsAnswer, IsFaultOf, fault_in}
+use Rattle.event_log.specs.States.{LogState, Fed, HoldsAt, IsGoing, IsAnswer, IsFaultOf}
 use Rattle.event_log.specs.declared.event.LineEvent.{LineEvent}
 use Rattle.event_log.specs.declared.event.LogFault.{LogFault}
 use Rattle.event_log.specs.declared.event.LogFault.TheVariants as fault
@@ -15,7 +15,7 @@ use Rattle.msc_cmd.specs.Intakes.{IsHeld}
 use Rattle.msc_cmd.specs.declared.log_intake.Log.{Log}
 use Rattle.msc_cmd.specs.declared.log_intake.Log.TheVariants.{Refused}
 use Rattle.msc_cmd.specs.declared.log_intake.LogIntake.{LogIntake}
-use Rattle.msc_cmd.specs.declared.log_reading.Step.TheVariants.{More, End, Fault}
+use Rattle.msc_cmd.specs.declared.log_reading.Step.TheVariants.{More}
 
 -- nothing has been taken
 pub nothing_taken : (form : LogForm) (intake : LogIntake) → intake.events.items ≡ [] → Fed form [] 0 intake.reader → intake.reader.fault ≡ None → intake.reader.finished ≡ false → HasTakenLog form [] intake

@@ -1,5 +1,5 @@
 -- The command `judge` is one that `clap` has words for, and what its answers mean for a request.
-use Rattle.std.proofs.Common.{◌≡◌, ◌∙◌, ◌&&◌, ap, refl, Bool, true, false, Bor, map, ◌++◌, append-nil, append_assoc, [], ◌∷◌, Option, Some, None, List, ℕ, Result, Err, option_and_then, sym, subst, inl, inr, codes}
+use Rattle.std.proofs.Common.{◌≡◌, ◌∙◌, ◌&&◌, ap, refl, Bool, true, false, Bor, map, ◌++◌, append-nil, append_assoc, [], ◌∷◌, Option, None, List, ℕ, Result, sym, subst, inl, inr, codes}
 use Rattle.std.proofs.lemmas.List.{map-append}
 use Rattle.std.proofs.lemmas.Str.{IsUtf8-from_is_utf8}
 use Rattle.std.specs.List.{list_all}
@@ -13,7 +13,6 @@ use Rattle.clap.proofs.OnLiterals.{clap_on_literals}
 use Rattle.clap.proofs.WalkLemmas.{first_value-rows}
 use Rattle.msc_cmd.specs.declared.requests.Request.{Request}
 use Rattle.msc_cmd.specs.declared.requests.WordFault.{WordFault}
-use Rattle.msc_cmd.specs.declared.requests.WordFault.TheVariants.{NoRequest, NoMemory}
 use Rattle.msc_cmd.specs.Requests.{Answers, judge_app, judge_request, request_from, request_of, request_in, unless_fault}
 
 pub app_simple : is_simple judge_app ≡ true

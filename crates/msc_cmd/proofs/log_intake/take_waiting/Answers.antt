@@ -1,7 +1,6 @@
-use Rattle.std.proofs.Common.{◌≡◌, ◌++◌, ◌∷◌, ◌∙◌, [], Bool, Option, None, length, not, rules, subst}
+use Rattle.std.proofs.Common.{◌≡◌, ◌∙◌, Bool, None, length, not, rules, subst}
 use Rattle.event_log.specs.Logs.{HoldsEvent}
 use Rattle.event_log.specs.Meanings.{Only, Never}
-use Rattle.event_log.specs.declared.event.LineEvent.{LineEvent}
 use Rattle.msc_cmd.proofs.LogTaking.{event_taken, no_want}
 use Rattle.msc_cmd.proofs.log_intake.take_waiting.Goals as goal
 

@@ -1,4 +1,4 @@
-use Rattle.std.proofs.Common.{◌≡◌, ◌<◌, ◌∙◌, Option, Some, [], length, rules, arith, sym, subst}
+use Rattle.std.proofs.Common.{◌≡◌, ◌<◌, Option, Some, [], length, rules, sym, subst}
 use Rattle.msc_base.specs.Shelves.{Files, MovesKnown}
 use Rattle.event_log.specs.declared.event.LogFault.TheVariants as fault
 use Rattle.msc_cmd.specs.LogIntakes.{IsReadingLog, IsLogOf, IsStep}

@@ -1,4 +1,3 @@
-use Rattle.std.proofs.Common.{◌≡◌, []}
 use Rattle.msc_cmd.proofs.LogTaking.{nothing_taken}
 use Rattle.msc_cmd.proofs.log_intake.LogIntake.new.Goals as goal
 
