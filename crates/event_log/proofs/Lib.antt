@@ -1,3 +1,6 @@
-pub mod LineCuts
-pub mod OneReading
-pub mod ReadFronts
+pub mod Answers
+pub mod Cuts
+pub mod Feeding
+pub mod Objects
+pub mod Readings
+pub mod Spelling

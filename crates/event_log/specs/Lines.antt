@@ -1,39 +1,48 @@
 -- How a log is cut into lines.
-use Rattle.std.specs.Prelude.{ℕ, ◌+◌, Bool, true, false, List, [], ◌∷◌, ◌++◌, nat_eq, nat_le, length, if◌then◌else◌}
-use Rattle.msc_base.specs.declared.limits.TheConstants.Limits.{LINE_BYTES}
+use Rattle.std.specs.Prelude.{ℕ, ◌+◌, Bool, true, false, List, [], ◌∷◌, ◌++◌, nat_eq, nat_le, length, take, if◌then◌else◌}
+use Rattle.msc_base.specs.declared.limits.TheConstants.Limits.{LINE_BYTES, LOG_BYTES}
 
 -- the lines that have their line end, and what stands behind the last of them
 pub record Cut : Type 0 where
   pub ended : List (List ℕ)
   pub tail : List ℕ
 
--- a byte, and behind it a text that is cut so: the byte belongs to the first line
-abbrev pub onto_first : ℕ → List (List ℕ) → List ℕ → Cut
-onto_first b [] tail = record { ended = []; tail = b ∷ tail }
-onto_first b (l ∷ ls) tail = record { ended = (b ∷ l) ∷ ls; tail = tail }
+-- one byte more: a line feed ends the line, and any other byte belongs to it
+abbrev pub with_byte : Cut → ℕ → Cut
+with_byte c b = (if nat_eq b 10 then record { ended = c.ended ++ c.tail ∷ []; tail = [] } else record { ended = c.ended; tail = c.tail ++ b ∷ [] })
 
--- a line feed, and behind it a text that is cut so
-abbrev pub end_first : List (List ℕ) → List ℕ → Cut
-end_first ls tail = record { ended = [] ∷ ls; tail = tail }
+abbrev pub with_bytes : Cut → List ℕ → Cut
+with_bytes c [] = c
+with_bytes c (b ∷ bs) = with_bytes (with_byte c b) bs
+
+abbrev pub nothing_cut : Cut
+nothing_cut = record { ended = []; tail = [] }
 
 abbrev pub cut_of : List ℕ → Cut
-cut_of [] = record { ended = []; tail = [] }
-cut_of (b ∷ bs) = (if nat_eq b 10 then end_first (cut_of bs).ended (cut_of bs).tail else onto_first b (cut_of bs).ended (cut_of bs).tail)
+cut_of bytes = with_bytes nothing_cut bytes
 
 -- the last line of a whole text may lack its line end
 abbrev pub last_line : List ℕ → List (List ℕ)
 last_line [] = []
 last_line (b ∷ bs) = (b ∷ bs) ∷ []
 
--- where a text is cut off, a line without its end is decided only by being too long
+-- where a text may go on, a line without its end is decided only by being too long
 abbrev pub long_line : List ℕ → List (List ℕ)
 long_line tail = (if nat_le (LINE_BYTES + 1) (length tail) then tail ∷ [] else [])
 
--- what of the tail is decided, in a text that is cut off and in a whole one
+-- what of the tail is decided, in a text that may go on and in a whole one
 abbrev pub decided_tail : Bool → List ℕ → List (List ℕ)
 decided_tail true tail = long_line tail
 decided_tail false tail = last_line tail
 
--- the decided lines of a text that is cut off, or of a whole one
+-- the decided lines of a text that may go on, or of a whole one
 abbrev pub decided : Bool → List ℕ → List (List ℕ)
-decided cut_off bytes = (cut_of bytes).ended ++ decided_tail cut_off (cut_of bytes).tail
+decided goes_on bytes = (cut_of bytes).ended ++ decided_tail goes_on (cut_of bytes).tail
+
+-- whether the bytes are no more than a log may have
+abbrev pub is_within : List ℕ → Bool
+is_within bytes = nat_le (length bytes) LOG_BYTES
+
+-- the decided lines up to the limit of bytes, behind which the text is cut off
+abbrev pub lines_of : Bool → List ℕ → List (List ℕ)
+lines_of goes_on bytes = (if is_within bytes then decided goes_on bytes else decided true (take LOG_BYTES bytes))

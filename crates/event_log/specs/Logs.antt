@@ -1,87 +1,84 @@
--- The events of a log, or its first fault.
-use Rattle.std.specs.Prelude.{◌≡◌, ◌<◌, ◌≤◌, ◌+◌, ℕ, true, false, List, [], ◌∷◌, ◌++◌, length, take}
-use Rattle.msc_base.specs.declared.label.Label.{Label}
-use Rattle.msc_base.specs.declared.limits.TheConstants.Limits.{LINE_BYTES, LOG_BYTES, LOG_EVENTS}
-use Rattle.msc_tokens.specs.declared.token.Token.{Token}
-use Rattle.msc_tokens.specs.Spelling.{Spells}
-use Rattle.msc_grammar.specs.Events.{texts, ReadsPlainEvent}
-use Rattle.event_log.specs.Lines.{cut_of, decided}
+-- The events of a log, and its first fault.
+use Rattle.std.specs.Prelude.{◌≡◌, ◌<◌, ◌≤◌, ◌+◌, ◌⊎◌, ℕ, Bool, List, [], ◌∷◌, ◌++◌, length, Option, Some, None, if◌then◌else◌, slice_get}
+use Rattle.msc_base.specs.declared.limits.TheConstants.Limits.{LINE_BYTES, LOG_EVENTS}
+use Rattle.event_log.specs.Lines.{is_within, lines_of}
+use Rattle.event_log.specs.Meanings.{Says}
 use Rattle.event_log.specs.declared.event.LineEvent.{LineEvent}
 use Rattle.event_log.specs.declared.event.LogFault.{LogFault}
-use Rattle.event_log.specs.declared.event.LogFault.TheVariants.{Syntax, LongLine, LogLimit, NoMemory}
+use Rattle.event_log.specs.declared.event.LogFault.TheVariants as fault
+use Rattle.event_log.specs.declared.event.LogForm.{LogForm}
+use Rattle.event_log.specs.declared.event.Version.{Version}
+use Rattle.event_log.specs.declared.event.Version.TheVariants.{First}
 use Rattle.event_log.specs.declared.line.Line.{Line}
-use Rattle.event_log.specs.declared.line.Line.TheVariants.{Blank, Event, Bad}
+use Rattle.event_log.specs.declared.line.Line.TheVariants.{Blank, Edition, Event, Bad}
+
+-- how far lines have been read: the log's version, the number of the next line, and the events so far
+pub record Stage : Type 0 where
+  pub version : Version
+  pub number : ℕ
+  pub events : List LineEvent
+
+abbrev pub first_stage : Stage
+first_stage = record { version = First; number = 1; events = [] }
 
 abbrev pub IsShort : List ℕ → Type 0
 IsShort line = length line ≤ LINE_BYTES
 
--- the line has no token
-abbrev pub IsBlankLine : List ℕ → Type 0
-IsBlankLine line = Spells line []
+-- a line that says this passes, and is followed by this stage
+abbrev pub After : Stage → Line → Stage → Type 0
+After s Blank t = t ≡ record { version = s.version; number = s.number + 1; events = s.events }
+After s (Edition (Some version)) t = t ≡ record { version = version; number = s.number + 1; events = s.events }
+After s (Edition None) t = ⊥
+After s (Event label) t = (length s.events < LOG_EVENTS)
+    × (t ≡ record { version = s.version; number = s.number + 1; events = s.events ++ (record { label = label; line = s.number }) ∷ [] })
+After s Bad t = ⊥
 
--- the line's tokens are one event
-pub record IsEventLine (line : List ℕ) (label : Label) : Type 0 where
-  pub tokens : List Token
-  pub spells : Spells line tokens
-  pub reads : ReadsPlainEvent (texts tokens) label
+pub record Passes (form : LogForm) (s : Stage) (line : List ℕ) (t : Stage) : Type 0 where
+  pub short : IsShort line
+  pub meaning : Line
+  pub says : Says form s.version s.number line meaning
+  pub after : After s meaning t
 
--- the line is neither
-pub record IsBadLine (line : List ℕ) : Type 0 where
-  pub not_blank : IsBlankLine line → ⊥
-  pub no_event : (label : Label) → IsEventLine line label → ⊥
+-- a line that says this has this fault
+abbrev pub Breaks : Stage → Line → LogFault → Type 0
+Breaks s Blank x = ⊥
+Breaks s (Edition (Some version)) x = ⊥
+Breaks s (Edition None) x = x ≡ fault.Version s.number
+Breaks s (Event label) x = (LOG_EVENTS ≤ length s.events) × (x ≡ fault.LogLimit s.number)
+Breaks s Bad x = x ≡ fault.Syntax s.number
 
--- a fact for each kind of line
-abbrev pub IfLine : Line → Type 0 → (Label → Type 0) → Type 0 → Type 0
-IfLine Blank P Q R = P
-IfLine (Event label) P Q R = Q label
-IfLine Bad P Q R = R
+-- the fault of a line: it is too long, else it is that of what the line says
+pub data HasFault (form : LogForm) (s : Stage) (line : List ℕ) (x : LogFault) : Type 0 where
+  too_long : LINE_BYTES < length line → x ≡ fault.LongLine s.number → HasFault form s line x
+  of_meaning : IsShort line → (meaning : Line) → Says form s.version s.number line meaning → Breaks s meaning x → HasFault form s line x
 
--- from this number on each line is short, and it is blank or an event; these are the events
-pub data Reads : ℕ → List (List ℕ) → List LineEvent → Type 0 where
-  nothing : (n : ℕ) → Reads n [] []
-  blank : (n : ℕ) (l : List ℕ) (ls : List (List ℕ)) (es : List LineEvent) → IsShort l → IsBlankLine l → Reads (n + 1) ls es → Reads n (l ∷ ls) es
-  event : (n : ℕ) (l : List ℕ) (ls : List (List ℕ)) (label : Label) (es : List LineEvent) → IsShort l → IsEventLine l label → Reads (n + 1) ls es
-      → Reads n (l ∷ ls) ((record { label = label; line = n }) ∷ es)
+-- one line after another passes up to this stage, where none is left or the next has this fault
+abbrev pub Reading : LogForm → Stage → List (List ℕ) → Stage → Option LogFault → Type 0
+Reading form s [] t found = (t ≡ s) × (found ≡ None)
+Reading form s (l ∷ ls) t found = ((m : Stage) × Passes form s l m × Reading form m ls t found)
+    ⊎ ((t ≡ s) × ((x : LogFault) × (found ≡ Some x) × HasFault form s l x))
 
--- the fault of this line, which has this number and so many events before it
-abbrev pub IsFaultOf : List ℕ → ℕ → ℕ → LogFault → Type 0
-IsFaultOf line number before (Syntax at) = (at ≡ number) × IsShort line × IsBadLine line
-IsFaultOf line number before (LongLine at) = (at ≡ number) × (LINE_BYTES < length line)
-IsFaultOf line number before (LogLimit at) = (at ≡ number) × IsShort line × ((label : Label) × IsEventLine line label) × (before ≡ LOG_EVENTS)
-IsFaultOf line number before NoMemory = ⊥
+-- one line after another passes up to this stage, and more may follow
+abbrev pub Reaches : LogForm → Stage → List (List ℕ) → Stage → Type 0
+Reaches form s [] t = t ≡ s
+Reaches form s (l ∷ ls) t = (t ≡ s) ⊎ ((m : Stage) × Passes form s l m × Reaches form m ls t)
 
--- the first line that has a fault has this one
-pub record HasFaultyLine (lines : List (List ℕ)) (fault : LogFault) : Type 0 where
-  pub front : List (List ℕ)
-  pub line : List ℕ
-  pub back : List (List ℕ)
-  pub are : lines ≡ front ++ line ∷ back
-  pub events : List LineEvent
-  pub reads : Reads 1 front events
-  pub few : length events ≤ LOG_EVENTS
-  pub is : IsFaultOf line (length front + 1) (length events) fault
+-- the first fault: that of a line, else the limit of bytes, in the line where the reading stands
+abbrev pub limited : List ℕ → Stage → Option LogFault → Option LogFault
+limited bytes t (Some x) = Some x
+limited bytes t None = (if is_within bytes then None else Some (fault.LogLimit t.number))
 
--- the lines are in order, and have these events
-pub record HasEvents (lines : List (List ℕ)) (events : List LineEvent) : Type 0 where
-  pub reads : Reads 1 lines events
-  pub few : length events ≤ LOG_EVENTS
+-- The log's events up to its first fault, and the fault, if there is one. Of a text that goes on: the events and the fault that are
+-- decided within these bytes, whatever follows.
+pub record LogOf (form : LogForm) (goes_on : Bool) (bytes : List ℕ) (events : List LineEvent) (fault : Option LogFault) : Type 0 where
+  pub stage : Stage
+  pub found : Option LogFault
+  pub reads : Reading form first_stage (lines_of goes_on bytes) stage found
+  pub events_are : events ≡ stage.events
+  pub fault_is : fault ≡ limited bytes stage found
 
--- the log has these events
-pub record IsLog (bytes : List ℕ) (events : List LineEvent) : Type 0 where
-  pub short : length bytes ≤ LOG_BYTES
-  pub has : HasEvents (decided false bytes) events
-
--- The log's first fault: that of a line that is decided within the limit; or the limit, where there is none, in the line of the
--- first byte behind it.
-pub data HasFault (bytes : List ℕ) (fault : LogFault) : Type 0 where
-  faulty_line : length bytes ≤ LOG_BYTES → HasFaultyLine (decided false bytes) fault → HasFault bytes fault
-  faulty_front : LOG_BYTES < length bytes → HasFaultyLine (decided true (take LOG_BYTES bytes)) fault → HasFault bytes fault
-  too_long : LOG_BYTES < length bytes → (events : List LineEvent) → HasEvents (decided true (take LOG_BYTES bytes)) events
-      → fault ≡ LogLimit (length (cut_of (take LOG_BYTES bytes)).ended + 1) → HasFault bytes fault
-
--- the fault is one of the log's, and no want of memory
-abbrev pub IsFault : LogFault → Type 0
-IsFault (Syntax line) = Unit {0}
-IsFault (LongLine line) = Unit {0}
-IsFault (LogLimit line) = Unit {0}
-IsFault NoMemory = ⊥
+-- the bytes hold, before any fault, this event as that of this number from 0
+pub record HoldsEvent (form : LogForm) (goes_on : Bool) (bytes : List ℕ) (n : ℕ) (event : LineEvent) : Type 0 where
+  pub stage : Stage
+  pub reaches : Reaches form first_stage (lines_of goes_on bytes) stage
+  pub at : slice_get stage.events n ≡ Some event

@@ -1,7 +1,26 @@
 ghost use Rattle.std.specs.Prelude.{◌≡◌};
+ghost use Rattle.event_log.specs.Faults.{IsFault, fault_text};
 ghost use Rattle.event_log.specs.declared.event.LogFault.TheVariants.{NoMemory};
 
-use msc_base::{Items, Label, NoMemory};
+use msc_base::{Label, NoMemory};
+
+/// How the lines of a log are written.
+#[derive(Clone, Copy, Debug, PartialEq, Eq)]
+pub enum LogForm {
+    /// Each line is the tokens of an event.
+    Lines,
+    /// Each line is a JSON object.
+    Json,
+}
+
+/// The version of a log, which its first line may state.
+#[derive(Clone, Copy, Debug, PartialEq, Eq)]
+pub enum Version {
+    /// Version 1, and where no line states one. It has no creations.
+    First,
+    /// Version 2.
+    Second,
+}
 
 /// An event, with the number of its line from 1.
 #[derive(Drop)]
@@ -9,9 +28,6 @@ pub struct LineEvent {
     pub label: Label,
     pub line: u64,
 }
-
-/// The events of a log, in order.
-pub type LineEventList = Items<LineEvent>;
 
 /// The first fault of a log, with the number of the line in which it is decided.
 #[derive(Clone, Copy, Debug, PartialEq, Eq)]
@@ -22,6 +38,8 @@ pub enum LogFault {
     LongLine(u64),
     /// The log has more than 67,108,864 bytes or more than 1,000,000 events.
     LogLimit(u64),
+    /// The first line states another version than 1 and 2.
+    Version(u64),
     /// Want of memory.
     NoMemory,
 }
@@ -31,5 +49,21 @@ impl From<NoMemory> for LogFault {
 
     fn from(_: NoMemory) -> Self {
         LogFault::NoMemory
+    }
+}
+
+impl LogFault {
+    /// The fault in words. The fault isn't want of memory.
+    pub fn text(&self) -> &str
+        requires { IsFault self.now }
+        ensures { result.now ≡ fault_text self.now }
+    {
+        match self {
+            LogFault::Syntax(_) => "syntax",
+            LogFault::LongLine(_) => "long line",
+            LogFault::LogLimit(_) => "limit",
+            LogFault::Version(_) => "version",
+            LogFault::NoMemory => unreachable!(),
+        }
     }
 }

@@ -1,12 +1,16 @@
-//! The events of a log.
+//! The events of a log, fed in pieces.
 //!
-//! `specs/` says how a log is cut into lines, what its events are, and which fault comes first.
+//! `specs/` says how a log is cut into lines, what a line says, what the events of a log are, and which fault comes first.
 #![tactic(auto)]
 
-mod cutting;
 mod event;
+mod json_line;
 mod line;
-mod read;
+mod object;
+mod reader;
+#[cfg(test)]
+mod tests;
+mod text_line;
 
-pub use event::{LineEvent, LineEventList, LogFault};
-pub use read::read_all;
+pub use event::{LineEvent, LogFault, LogForm, Version};
+pub use reader::LogReader;

@@ -15,8 +15,10 @@ use Rattle.msc_grammar.specs.declared.rule.Form.TheVariants.{Guard}
 use Rattle.msc_grammar.specs.declared.rule.Rule.{Rule}
 use Rattle.msc_grammar.specs.declared.rule.Rule.TheVariants.{Unsupported}
 use Rattle.msc_grammar.specs.Rules.{rule_text}
+use Rattle.event_log.specs.Faults.{fault_text}
 use Rattle.event_log.specs.declared.event.LogFault.{LogFault}
-use Rattle.judge_report.specs.Texts.{is_plain, is_plain_byte, document_words, log_words, log_fault_text, line_number}
+use Rattle.event_log.specs.declared.event.LogFault.TheVariants.{Syntax, LongLine, LogLimit, Version, NoMemory}
+use Rattle.judge_report.specs.Texts.{is_plain, is_plain_byte, document_words, log_words, line_number}
 
 -- a byte is none of those that are escaped
 record EscapesNone (b : ℕ) : Type 0 where
@@ -73,9 +75,16 @@ document_plain rule place l c =
     number_plain (codes "document refused at ") (codes ":" ++ (decimal place.column ++ (codes ": " ++ rule_text rule))) place.line refl l
     (number_plain (codes ":") (codes ": " ++ rule_text rule) place.column refl c (plain_append (codes ": ") (rule_text rule) refl (rule_plain rule)))
 
-pub log_plain : (fault : LogFault) → line_number fault < 2 ^ 64 → is_plain (log_fault_text fault) ≡ true → is_plain (log_words fault) ≡ true
-log_plain fault l h =
-    number_plain (codes "log refused at line ") (codes ": " ++ log_fault_text fault) (line_number fault) refl l (plain_append (codes ": ") (log_fault_text fault) refl h)
+fault_plain : (fault : LogFault) → is_plain (fault_text fault) ≡ true
+fault_plain (Syntax line) = refl
+fault_plain (LongLine line) = refl
+fault_plain (LogLimit line) = refl
+fault_plain (Version line) = refl
+fault_plain NoMemory = refl
+
+pub log_plain : (fault : LogFault) → line_number fault < 2 ^ 64 → is_plain (log_words fault) ≡ true
+log_plain fault l =
+    number_plain (codes "log refused at line ") (codes ": " ++ fault_text fault) (line_number fault) refl l (plain_append (codes ": ") (fault_text fault) refl (fault_plain fault))
 
 -- plain words stand as they are in a JSON string
 pub quoted_plain : (words : List ℕ) → is_plain words ≡ true → compact_text (string words) ≡ 34 ∷ (words ++ 34 ∷ [])

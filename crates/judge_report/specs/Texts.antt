@@ -8,8 +8,8 @@ use Rattle.msc_base.specs.declared.verdict.Verdict.TheVariants.{Conforms, Fails,
 use Rattle.msc_grammar.specs.declared.rule.Rule.{Rule}
 use Rattle.msc_grammar.specs.Rules.{rule_text}
 use Rattle.event_log.specs.declared.event.LogFault.{LogFault}
-use Rattle.event_log.specs.declared.event.LogFault.TheVariants.{Syntax, LongLine, LogLimit, NoMemory}
-use Rattle.event_log.specs.Logs.{IsFault}
+use Rattle.event_log.specs.declared.event.LogFault.TheVariants.{Syntax, LongLine, LogLimit, Version, NoMemory}
+use Rattle.event_log.specs.Faults.{IsFault, fault_text}
 use Rattle.judge_report.specs.declared.fault.Fault.{Fault}
 use Rattle.judge_report.specs.declared.fault.Fault.TheVariants.{Document, NoChart, Log, DocumentRead, LogRead, Usage}
 
@@ -40,22 +40,16 @@ abbrev pub accepted_line : Bool → ℕ → List ℕ
 accepted_line false charts = codes "accepted, charts " ++ decimal charts ++ 10 ∷ []
 accepted_line true charts = accepted_json charts ++ 10 ∷ []
 
--- what a log's fault is called
-abbrev pub log_fault_text : LogFault → List ℕ
-log_fault_text (Syntax line) = codes "syntax"
-log_fault_text (LongLine line) = codes "long line"
-log_fault_text (LogLimit line) = codes "limit"
-log_fault_text NoMemory = []
-
--- the line in which it is decided
+-- the line in which a log's fault is decided
 abbrev pub line_number : LogFault → ℕ
 line_number (Syntax line) = line
 line_number (LongLine line) = line
 line_number (LogLimit line) = line
+line_number (Version line) = line
 line_number NoMemory = 0
 
 abbrev pub log_words : LogFault → List ℕ
-log_words fault = codes "log refused at line " ++ (decimal (line_number fault) ++ (codes ": " ++ log_fault_text fault))
+log_words fault = codes "log refused at line " ++ (decimal (line_number fault) ++ (codes ": " ++ fault_text fault))
 
 abbrev pub document_words : Rule → Place → List ℕ
 document_words rule place = codes "document refused at " ++ (decimal place.line ++ (codes ":" ++ (decimal place.column ++ (codes ": " ++ rule_text rule))))

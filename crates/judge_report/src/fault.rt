@@ -1,5 +1,6 @@
 ghost use Rattle.std.specs.Prelude.{◌≡◌, IfOk, string_bytes, true};
-ghost use Rattle.judge_report.specs.Texts.{IsTold, document_words, fault_line, line_number, log_fault_text, log_words, is_plain};
+ghost use Rattle.event_log.specs.Faults.{IsFault};
+ghost use Rattle.judge_report.specs.Texts.{IsTold, document_words, fault_line, line_number, log_words, is_plain};
 
 use crate::lines::fault_line_of;
 use event_log::LogFault;
@@ -24,19 +25,6 @@ pub enum Fault {
     Usage,
 }
 
-/// What a log's fault is called.
-fn log_text(fault: &LogFault) -> &str
-    ensures text { result.now ≡ log_fault_text fault.now }
-    ensures plain { is_plain result.now ≡ true }
-{
-    match fault {
-        LogFault::Syntax(_) => "syntax",
-        LogFault::LongLine(_) => "long line",
-        LogFault::LogLimit(_) => "limit",
-        LogFault::NoMemory => "",
-    }
-}
-
 /// The line in which a log's fault is decided.
 fn line_of_fault(fault: &LogFault) -> u64
     ensures { result ≡ line_number fault.now }
@@ -45,17 +33,19 @@ fn line_of_fault(fault: &LogFault) -> u64
         LogFault::Syntax(line) => line,
         LogFault::LongLine(line) => line,
         LogFault::LogLimit(line) => line,
+        LogFault::Version(line) => line,
         LogFault::NoMemory => 0,
     }
 }
 
 /// What is told of a log's fault.
 fn words_of_log(alloc: Global, fault: &LogFault) -> Result<String, AllocError>
+    requires { IsFault fault.now }
     ensures words { IfOk result (λ s. string_bytes s ≡ log_words fault.now) }
     ensures plain { IfOk result (λ s. is_plain (string_bytes s) ≡ true) }
 {
     let line = line_of_fault(fault);
-    let text = log_text(fault);
+    let text = fault.text();
     format!(in alloc; "log refused at line {line}: {text}")
 }
 

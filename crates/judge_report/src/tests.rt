@@ -48,7 +48,28 @@ fn faults(rt: HostRuntime) -> Result<(), Fail> {
         column: 7,
     };
     let rule = Rule::Unsupported(Form::Guard);
-    let rows: [(Fault, bool, &str); 4] = [
+    let rows: [(Fault, bool, &str); 7] = [
+        (
+            Fault::Log {
+                fault: LogFault::Version(1),
+            },
+            false,
+            "log refused at line 1: version\n",
+        ),
+        (
+            Fault::Log {
+                fault: LogFault::Syntax(20),
+            },
+            false,
+            "log refused at line 20: syntax\n",
+        ),
+        (
+            Fault::Log {
+                fault: LogFault::LogLimit(1000001),
+            },
+            true,
+            "{\"fault\":\"log refused at line 1000001: limit\"}\n",
+        ),
         (
             Fault::Document { rule, place },
             false,

@@ -2,7 +2,7 @@
 use Rattle.std.proofs.Common.{◌≡◌, refl, codes, true, false, [], ◌∷◌, Some, None}
 use Rattle.std.specs.Str.{is_utf8}
 use Rattle.clap.proofs.OnLiterals.{clap_on_literals}
-use Rattle.msc_cmd.specs.declared.requests.LogForm.TheVariants.{Lines, Json}
+use Rattle.event_log.specs.declared.event.LogForm.TheVariants.{Lines, Json}
 use Rattle.msc_cmd.specs.declared.requests.Request.TheVariants.{Judge}
 use Rattle.msc_cmd.specs.Requests.{request_of}
 

@@ -1,5 +1,4 @@
 pub mod Begun
-pub mod EntryFronts
 pub mod Examples
 pub mod FrontOrders
 pub mod JudgeColumns
@@ -9,6 +8,7 @@ pub mod JudgePartners
 pub mod JudgeStates
 pub mod JudgeSteps
 pub mod LogOutcomes
+pub mod LogTaking
 pub mod NumberedRuns
 pub mod Orders
 pub mod OtherNumbers

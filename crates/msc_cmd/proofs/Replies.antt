@@ -2,29 +2,32 @@
 use Rattle.std.proofs.Common.{◌≡◌, ◌<◌, ◌≤◌, ◌⊎◌, inl, inr, Bool, false, ℕ, List, arith, sym, ap, ◌∙◌, subst, Option, Some, None, Result, Ok, Err, IfOk, zero, suc}
 use Rattle.std.specs.Io.KnownBytes.{Appends}
 use Rattle.msc_base.specs.Shelves.{Files}
-use Rattle.msc_base.specs.declared.limits.TheConstants.Limits.{LOG_BYTES}
 use Rattle.msc_base.specs.declared.place.Place.{Place}
 use Rattle.msc_grammar.specs.declared.rule.Rule.{Rule}
 use Rattle.msc_grammar.specs.declared.chart.PlainChart.{PlainChart}
 use Rattle.msc_cmd.specs.declared.answer.Reply.{Reply}
-use Rattle.msc_cmd.specs.Reading.{HoldsFront}
+use Rattle.event_log.specs.declared.event.LogFault.{LogFault}
+use Rattle.event_log.specs.declared.event.LogForm.{LogForm}
 use Rattle.msc_cmd.specs.declared.requests.Request.{Request}
-use Rattle.msc_cmd.specs.Requests.{asked_of, IsNoRequest}
-use Rattle.judge_report.specs.declared.fault.Fault.TheVariants.{Document, LogRead, NoChart, Usage}
+use Rattle.msc_cmd.specs.Requests.{request_of, IsNoRequest}
+use Rattle.judge_report.specs.declared.fault.Fault.TheVariants.{Document, Log, LogRead, NoChart, Usage}
 use Rattle.judge_report.specs.Texts.{fault_line}
 use Rattle.judge_report.specs.Writing.{AppendsPart}
 use Rattle.msc_cmd.specs.Documents.{IsDocument, HasDocumentFault, IsOnlyDocument, IsOnlyFault}
 use Rattle.msc_cmd.specs.Intakes.{IsHeld}
+use Rattle.msc_cmd.specs.LogIntakes.{IsTheLog, IsToldLog}
+use Rattle.msc_cmd.specs.declared.log_intake.Log.{Log as TheLog}
+use Rattle.msc_cmd.specs.declared.log_intake.Log.TheVariants.{Events, Refused}
 use Rattle.msc_cmd.specs.Outcomes.{LogOutcome, EntryOutcome, FilesOutcome, refused, no_chart, of_log, IfTold, IsTheOne, RequestOutcome, IsOutcome, no_request, of_request}
 use Rattle.msc_cmd.specs.Failures.{FailedAt, HasChart, CannotRead, CannotJudge}
-use Rattle.msc_cmd.proofs.LogOutcomes.{one_entry, entry_one}
+use Rattle.msc_cmd.proofs.LogOutcomes.{one_entry, entry_one, faulty_one}
 
 -- the one outcome where the document is refused
-refused_one : (json : Bool) (files : Files) (document name log bytes : List ℕ) (broken : Rule) (place : Place) (status : ℕ) (text : List ℕ) → files document ≡ Some bytes → IsOnlyFault bytes broken place → status ≡ 4
-    → text ≡ fault_line json (Document broken place) → IsTheOne (FilesOutcome json files document name log) status text
-refused_one json files document name log bytes broken place status text held f s t = record { is = refused bytes broken place held f.is s t; only = λ other others o. by other others o }
+refused_one : (form : LogForm) (json : Bool) (files : Files) (document name log bytes : List ℕ) (broken : Rule) (place : Place) (status : ℕ) (text : List ℕ) → files document ≡ Some bytes → IsOnlyFault bytes broken place → status ≡ 4
+    → text ≡ fault_line json (Document broken place) → IsTheOne (FilesOutcome form json files document name log) status text
+refused_one form json files document name log bytes broken place status text held f s t = record { is = refused bytes broken place held f.is s t; only = λ other others o. by other others o }
   where
-    by : (other : ℕ) (others : List ℕ) → FilesOutcome json files document name log other others → (other ≡ status) × (others ≡ text)
+    by : (other : ℕ) (others : List ℕ) → FilesOutcome form json files document name log other others → (other ≡ status) × (others ≡ text)
     by other others (refused bs b p h n os ot) =
         let e = f.only b p (subst (λ us. HasDocumentFault us b p) (one_entry files document bytes bs held h) n) in
         (os ∙ sym s, ot ∙ ap (λ (u : Rule). fault_line json (Document u p)) e.0 ∙ ap (λ (u : Place). fault_line json (Document broken u)) e.1 ∙ sym t)
@@ -36,26 +39,26 @@ held_chart : (files : Files) (document bytes bs : List ℕ) (chart other : Plain
 held_chart files document bytes bs chart other held d h o = d.only other (subst (λ us. IsDocument us other) (one_entry files document bytes bs held h) o)
 
 -- the one outcome where the document lacks the chart
-no_chart_one : (json : Bool) (files : Files) (document name log bytes : List ℕ) (chart : PlainChart) (status : ℕ) (text : List ℕ) → files document ≡ Some bytes → IsOnlyDocument bytes chart → (chart.name ≡ name → ⊥) → status ≡ 4 → text ≡ fault_line json NoChart
-    → IsTheOne (FilesOutcome json files document name log) status text
-no_chart_one json files document name log bytes chart status text held d other_name s t = record { is = no_chart bytes chart held d.is other_name s t; only = λ other others o. by other others o }
+no_chart_one : (form : LogForm) (json : Bool) (files : Files) (document name log bytes : List ℕ) (chart : PlainChart) (status : ℕ) (text : List ℕ) → files document ≡ Some bytes → IsOnlyDocument bytes chart → (chart.name ≡ name → ⊥) → status ≡ 4 → text ≡ fault_line json NoChart
+    → IsTheOne (FilesOutcome form json files document name log) status text
+no_chart_one form json files document name log bytes chart status text held d other_name s t = record { is = no_chart bytes chart held d.is other_name s t; only = λ other others o. by other others o }
   where
-    by : (other : ℕ) (others : List ℕ) → FilesOutcome json files document name log other others → (other ≡ status) × (others ≡ text)
+    by : (other : ℕ) (others : List ℕ) → FilesOutcome form json files document name log other others → (other ≡ status) × (others ≡ text)
     by other others (refused bs b p h n os ot) = absurd (d.faultless b p (subst (λ us. HasDocumentFault us b p) (one_entry files document bytes bs held h) n))
     by other others (no_chart bs c h e n os ot) = (os ∙ sym s, ot ∙ sym t)
     by other others (of_log bs c h e n o) = absurd (other_name (ap (λ (u : PlainChart). u.name) (sym (held_chart files document bytes bs chart c held d h e)) ∙ n))
 
 -- the one outcome where the log is judged
-of_log_one : (json : Bool) (files : Files) (document name log bytes : List ℕ) (chart : PlainChart) (status : ℕ) (text : List ℕ) → files document ≡ Some bytes → IsOnlyDocument bytes chart → chart.name ≡ name → IsTheOne (EntryOutcome json files chart log) status text
-    → IsTheOne (FilesOutcome json files document name log) status text
-of_log_one json files document name log bytes chart status text held d same one = record { is = of_log bytes chart held d.is same one.is; only = λ other others o. by other others o }
+of_log_one : (form : LogForm) (json : Bool) (files : Files) (document name log bytes : List ℕ) (chart : PlainChart) (status : ℕ) (text : List ℕ) → files document ≡ Some bytes → IsOnlyDocument bytes chart → chart.name ≡ name → IsTheOne (EntryOutcome form json files chart log) status text
+    → IsTheOne (FilesOutcome form json files document name log) status text
+of_log_one form json files document name log bytes chart status text held d same one = record { is = of_log bytes chart held d.is same one.is; only = λ other others o. by other others o }
   where
-    by : (other : ℕ) (others : List ℕ) → FilesOutcome json files document name log other others → (other ≡ status) × (others ≡ text)
+    by : (other : ℕ) (others : List ℕ) → FilesOutcome form json files document name log other others → (other ≡ status) × (others ≡ text)
     by other others (refused bs b p h n os ot) = absurd (d.faultless b p (subst (λ us. HasDocumentFault us b p) (one_entry files document bytes bs held h) n))
     by other others (no_chart bs c h e n os ot) = absurd (n (ap (λ (u : PlainChart). u.name) (held_chart files document bytes bs chart c held d h e) ∙ same))
-    by other others (of_log bs c h e n o) = one.only other others (subst (λ us. EntryOutcome json files us log other others) (held_chart files document bytes bs chart c held d h e) o)
+    by other others (of_log bs c h e n o) = one.only other others (subst (λ us. EntryOutcome form json files us log other others) (held_chart files document bytes bs chart c held d h e) o)
 
-asked_one : (words : List (List ℕ)) (files : Files) (request : Request) (status : ℕ) (text : List ℕ) → asked_of words ≡ Some request → IsTheOne (RequestOutcome request files) status text → IsTheOne (IsOutcome words files) status text
+asked_one : (words : List (List ℕ)) (files : Files) (request : Request) (status : ℕ) (text : List ℕ) → request_of words ≡ Some request → IsTheOne (RequestOutcome request files) status text → IsTheOne (IsOutcome words files) status text
 asked_one words files request status text asked one = record { is = of_request request asked one.is; only = λ other others o. by other others o }
   where
     by : (other : ℕ) (others : List ℕ) → IsOutcome words files other others → (other ≡ status) × (others ≡ text)
@@ -74,33 +77,33 @@ no_request_one words files status text none s t = record { is = no_request none 
 
 -- The same for replies, where the entries are told
 
-pub log_told : {E : Type 0} (json : Bool) (files : Option Files) (chart : PlainChart) (name got : List ℕ) (r : Result Reply E) → HoldsFront files name LOG_BYTES got → IfOk r (λ x. IsTheOne (LogOutcome json chart got) x.status x.text)
-    → IfOk r (λ x. x.status < 7 → IfTold files (λ f. IsTheOne (EntryOutcome json f chart name) x.status x.text))
-log_told json None chart name got (Ok x) h k = λ _. tt
-log_told json None chart name got (Err e) h k = tt
-log_told json (Some f) chart name got (Ok x) h k = λ _. entry_one json f chart name h.0 got x.status x.text h.1 h.2 k
-log_told json (Some f) chart name got (Err e) h k = tt
+pub log_told : {E : Type 0} (form : LogForm) (json : Bool) (files : Option Files) (chart : PlainChart) (name bytes : List ℕ) (r : Result Reply E) → IsHeld files name bytes
+    → IfOk r (λ x. IsTheOne (LogOutcome form json chart bytes) x.status x.text) → IfOk r (λ x. x.status < 7 → IfTold files (λ f. IsTheOne (EntryOutcome form json f chart name) x.status x.text))
+log_told form json None chart name bytes (Ok x) h k = λ _. tt
+log_told form json None chart name bytes (Err e) h k = tt
+log_told form json (Some f) chart name bytes (Ok x) h k = λ _. entry_one form json f chart name bytes x.status x.text h k
+log_told form json (Some f) chart name bytes (Err e) h k = tt
 
-pub refused_told : {E : Type 0} (json : Bool) (files : Option Files) (d n l bytes : List ℕ) (broken : Rule) (place : Place) (r : Result Reply E) → IsHeld files d bytes → IsOnlyFault bytes broken place → IfOk r (λ x. x.status ≡ 4)
-    → IfOk r (λ x. x.text ≡ fault_line json (Document broken place)) → IfOk r (λ x. x.status < 7 → IfTold files (λ f. IsTheOne (FilesOutcome json f d n l) x.status x.text))
-refused_told json None d n l bytes broken place (Ok x) h o s t = λ _. tt
-refused_told json None d n l bytes broken place (Err e) h o s t = tt
-refused_told json (Some f) d n l bytes broken place (Ok x) h o s t = λ _. refused_one json f d n l bytes broken place x.status x.text h o s t
-refused_told json (Some f) d n l bytes broken place (Err e) h o s t = tt
+pub refused_told : {E : Type 0} (form : LogForm) (json : Bool) (files : Option Files) (d n l bytes : List ℕ) (broken : Rule) (place : Place) (r : Result Reply E) → IsHeld files d bytes → IsOnlyFault bytes broken place → IfOk r (λ x. x.status ≡ 4)
+    → IfOk r (λ x. x.text ≡ fault_line json (Document broken place)) → IfOk r (λ x. x.status < 7 → IfTold files (λ f. IsTheOne (FilesOutcome form json f d n l) x.status x.text))
+refused_told form json None d n l bytes broken place (Ok x) h o s t = λ _. tt
+refused_told form json None d n l bytes broken place (Err e) h o s t = tt
+refused_told form json (Some f) d n l bytes broken place (Ok x) h o s t = λ _. refused_one form json f d n l bytes broken place x.status x.text h o s t
+refused_told form json (Some f) d n l bytes broken place (Err e) h o s t = tt
 
-pub no_chart_told : {E : Type 0} (json : Bool) (files : Option Files) (d n l bytes : List ℕ) (chart : PlainChart) (r : Result Reply E) → IsHeld files d bytes → IsOnlyDocument bytes chart → (chart.name ≡ n → ⊥) → IfOk r (λ x. x.status ≡ 4)
-    → IfOk r (λ x. x.text ≡ fault_line json NoChart) → IfOk r (λ x. x.status < 7 → IfTold files (λ f. IsTheOne (FilesOutcome json f d n l) x.status x.text))
-no_chart_told json None d n l bytes chart (Ok x) h doc other s t = λ _. tt
-no_chart_told json None d n l bytes chart (Err e) h doc other s t = tt
-no_chart_told json (Some f) d n l bytes chart (Ok x) h doc other s t = λ _. no_chart_one json f d n l bytes chart x.status x.text h doc other s t
-no_chart_told json (Some f) d n l bytes chart (Err e) h doc other s t = tt
+pub no_chart_told : {E : Type 0} (form : LogForm) (json : Bool) (files : Option Files) (d n l bytes : List ℕ) (chart : PlainChart) (r : Result Reply E) → IsHeld files d bytes → IsOnlyDocument bytes chart → (chart.name ≡ n → ⊥) → IfOk r (λ x. x.status ≡ 4)
+    → IfOk r (λ x. x.text ≡ fault_line json NoChart) → IfOk r (λ x. x.status < 7 → IfTold files (λ f. IsTheOne (FilesOutcome form json f d n l) x.status x.text))
+no_chart_told form json None d n l bytes chart (Ok x) h doc other s t = λ _. tt
+no_chart_told form json None d n l bytes chart (Err e) h doc other s t = tt
+no_chart_told form json (Some f) d n l bytes chart (Ok x) h doc other s t = λ _. no_chart_one form json f d n l bytes chart x.status x.text h doc other s t
+no_chart_told form json (Some f) d n l bytes chart (Err e) h doc other s t = tt
 
-pub judged_told : {E : Type 0} (json : Bool) (files : Option Files) (d n l bytes : List ℕ) (chart : PlainChart) (r : Result Reply E) → IsHeld files d bytes → IsOnlyDocument bytes chart → chart.name ≡ n
-    → IfOk r (λ x. x.status < 7 → IfTold files (λ f. IsTheOne (EntryOutcome json f chart l) x.status x.text)) → IfOk r (λ x. x.status < 7 → IfTold files (λ f. IsTheOne (FilesOutcome json f d n l) x.status x.text))
-judged_told json None d n l bytes chart (Ok x) h doc same k = λ _. tt
-judged_told json None d n l bytes chart (Err e) h doc same k = tt
-judged_told json (Some f) d n l bytes chart (Ok x) h doc same k = λ lt. of_log_one json f d n l bytes chart x.status x.text h doc same (k lt)
-judged_told json (Some f) d n l bytes chart (Err e) h doc same k = tt
+pub judged_told : {E : Type 0} (form : LogForm) (json : Bool) (files : Option Files) (d n l bytes : List ℕ) (chart : PlainChart) (r : Result Reply E) → IsHeld files d bytes → IsOnlyDocument bytes chart → chart.name ≡ n
+    → IfOk r (λ x. x.status < 7 → IfTold files (λ f. IsTheOne (EntryOutcome form json f chart l) x.status x.text)) → IfOk r (λ x. x.status < 7 → IfTold files (λ f. IsTheOne (FilesOutcome form json f d n l) x.status x.text))
+judged_told form json None d n l bytes chart (Ok x) h doc same k = λ _. tt
+judged_told form json None d n l bytes chart (Err e) h doc same k = tt
+judged_told form json (Some f) d n l bytes chart (Ok x) h doc same k = λ lt. of_log_one form json f d n l bytes chart x.status x.text h doc same (k lt)
+judged_told form json (Some f) d n l bytes chart (Err e) h doc same k = tt
 
 has_chart : (files : Option Files) (d n bytes : List ℕ) (chart : PlainChart) → IsHeld files d bytes → IsDocument bytes chart → chart.name ≡ n → IfTold files (HasChart d n)
 has_chart None d n bytes chart h doc same = tt
@@ -115,7 +118,7 @@ pub log_failed : {E : Type 0} (json : Bool) (files : Option Files) (d n l bytes 
 log_failed json files d n l bytes chart before mid now broken last (Ok x) h doc same le f t = λ e. inr (later_failed before mid now broken last l le (f e), t e, has_chart files d n bytes chart h doc same)
 log_failed json files d n l bytes chart before mid now broken last (Err e) h doc same le f t = tt
 
-pub asked_told : {E : Type 0} (files : Option Files) (words : List (List ℕ)) (request : Request) (r : Result Reply E) → asked_of words ≡ Some request → IfOk r (λ x. x.status < 7 → IfTold files (λ f. IsTheOne (RequestOutcome request f) x.status x.text))
+pub asked_told : {E : Type 0} (files : Option Files) (words : List (List ℕ)) (request : Request) (r : Result Reply E) → request_of words ≡ Some request → IfOk r (λ x. x.status < 7 → IfTold files (λ f. IsTheOne (RequestOutcome request f) x.status x.text))
     → IfOk r (λ x. x.status < 7 → IfTold files (λ f. IsTheOne (IsOutcome words f) x.status x.text))
 asked_told None words request (Ok x) a k = λ _. tt
 asked_told None words request (Err e) a k = tt
@@ -169,3 +172,22 @@ four_not_two (Err e) s = tt
 pub four_read : {E : Type 0} (P : Reply → Type 0) (r : Result Reply E) → IfOk r (λ x. x.status ≡ 4) → IfOk r (λ x. x.status ≡ 7 → P x)
 four_read P (Ok x) s = λ seven. absurd (omega (arith, s, seven))
 four_read P (Err e) s = tt
+
+-- a reply of status 5 tells the fault of the log
+pub five_small : {E : Type 0} (r : Result Reply E) → IfOk r (λ x. x.status ≡ 5) → IfOk r (λ x. x.status < 7)
+five_small (Ok x) s = omega (arith, s)
+five_small (Err e) s = tt
+
+pub five_not_two : {E : Type 0} (r : Result Reply E) → IfOk r (λ x. x.status ≡ 5) → IfOk r (λ x. x.status ≡ 2 → ⊥)
+five_not_two (Ok x) s = λ two. omega (arith, s, two)
+five_not_two (Err e) s = tt
+
+pub fault_told : {E : Type 0} (form : LogForm) (json : Bool) (chart : PlainChart) (bytes : List ℕ) (fault : LogFault) (r : Result Reply E) → IfOk r (λ x. x.status ≡ 5) → IfOk r (λ x. x.text ≡ fault_line json (Log fault))
+    → IsTheLog form bytes (Refused fault) → IfOk r (λ x. IsTheOne (LogOutcome form json chart bytes) x.status x.text)
+fault_told form json chart bytes fault (Ok x) s t is = faulty_one form json chart bytes is.1.0 fault x.status x.text is.1.1 s t
+fault_told form json chart bytes fault (Err e) s t is = tt
+
+-- a log that was read has no want of memory for a fault
+pub told_log : (form : LogForm) (bytes : List ℕ) (log : TheLog) → IsTheLog form bytes log → IsToldLog log
+told_log form bytes (Events events) h = tt
+told_log form bytes (Refused fault) h = h.0

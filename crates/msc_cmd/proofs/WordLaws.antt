@@ -1,5 +1,5 @@
 -- The command `judge` is one that `clap` has words for, and what its answers mean for a request.
-use Rattle.std.proofs.Common.{◌≡◌, ◌∙◌, ◌&&◌, ap, refl, Bool, true, false, Bor, map, ◌++◌, append-nil, append_assoc, [], ◌∷◌, Option, Some, None, List, ℕ, Result, Err, option_and_then, sym, subst, inl, inr, codes}
+use Rattle.std.proofs.Common.{◌≡◌, ◌∙◌, ◌&&◌, ap, refl, Bool, true, false, Bor, map, ◌++◌, append-nil, append_assoc, [], ◌∷◌, Option, None, List, ℕ, Result, sym, subst, inl, inr, codes}
 use Rattle.std.proofs.lemmas.List.{map-append}
 use Rattle.std.proofs.lemmas.Str.{IsUtf8-from_is_utf8}
 use Rattle.std.specs.List.{list_all}
@@ -13,8 +13,7 @@ use Rattle.clap.proofs.OnLiterals.{clap_on_literals}
 use Rattle.clap.proofs.WalkLemmas.{first_value-rows}
 use Rattle.msc_cmd.specs.declared.requests.Request.{Request}
 use Rattle.msc_cmd.specs.declared.requests.WordFault.{WordFault}
-use Rattle.msc_cmd.specs.declared.requests.WordFault.TheVariants.{NoRequest, NoMemory}
-use Rattle.msc_cmd.specs.Requests.{Answers, asked_of, is_served, served, judge_app, judge_request, request_from, request_of, request_in, unless_fault}
+use Rattle.msc_cmd.specs.Requests.{Answers, judge_app, judge_request, request_from, request_of, request_in, unless_fault}
 
 pub app_simple : is_simple judge_app ≡ true
 unfolding clap_on_literals
@@ -95,14 +94,3 @@ judged command rest texts words answer w c u t h = subst (λ (o : Option Request
   where
     same : request_of words ≡ judge_request texts
     same = rw (w, c, u, t) refl
-
--- the answers for the requests that are served
-pub served_answer : (words : List (List ℕ)) (request : Request) → request_of words ≡ Some request → is_served request ≡ true → asked_of words ≡ Some request
-served_answer words request e s = rw (e, s) refl
-
-pub unserved_answer : (words : List (List ℕ)) (request : Request) → request_of words ≡ Some request → is_served request ≡ false → asked_of words ≡ None
-unserved_answer words request e s = rw (e, s) refl
-
-pub no_answer : (words : List (List ℕ)) (fault : WordFault) → Answers (request_of words) (Err fault) → Answers (asked_of words) (Err fault)
-no_answer words NoRequest h = ap (option_and_then served) h
-no_answer words NoMemory h = tt

@@ -8,7 +8,7 @@ use Rattle.judge_report.specs.Texts.{fault_line}
 use Rattle.msc_cmd.specs.declared.requests.Request.{Request}
 use Rattle.msc_cmd.specs.declared.requests.Request.TheVariants.{Judge}
 use Rattle.msc_cmd.specs.Documents.{IsDocument}
-use Rattle.msc_cmd.specs.Requests.{asked_of}
+use Rattle.msc_cmd.specs.Requests.{request_of}
 use Rattle.msc_cmd.specs.Outcomes.{IfTold}
 
 -- the shelf's last call failed, at this entry
@@ -34,5 +34,5 @@ CannotServe (Judge document chart log budget json form) files before now broken 
 -- the words are a request, and one of its entries can't be read
 pub record CannotJudge (words : List (List ℕ)) (files : Option Files) (before now : ℕ) (broken : Bool) (last : Option (List ℕ)) (text : List ℕ) : Type 0 where
   pub request : Request
-  pub asked : asked_of words ≡ Some request
+  pub asked : request_of words ≡ Some request
   pub failed : CannotServe request files before now broken last text

@@ -2,6 +2,7 @@ pub mod Documents
 pub mod Failures
 pub mod Intakes
 pub mod Judging
+pub mod LogIntakes
 pub mod Outcomes
 pub mod Reading
 pub mod Requests

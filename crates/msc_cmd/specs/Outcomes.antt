@@ -8,13 +8,14 @@ use Rattle.msc_grammar.specs.declared.chart.PlainChart.{PlainChart}
 use Rattle.msc_grammar.specs.declared.rule.Rule.{Rule}
 use Rattle.event_log.specs.declared.event.LineEvent.{LineEvent}
 use Rattle.event_log.specs.declared.event.LogFault.{LogFault}
-use Rattle.event_log.specs.Logs.{IsLog, IsFault, HasFault}
+use Rattle.event_log.specs.declared.event.LogForm.{LogForm}
+use Rattle.event_log.specs.Logs.{LogOf}
 use Rattle.judge_report.specs.declared.fault.Fault.TheVariants.{Document, NoChart, Log, Usage}
 use Rattle.judge_report.specs.Texts.{fault_line, verdict_line}
 use Rattle.msc_cmd.specs.declared.requests.Request.{Request}
 use Rattle.msc_cmd.specs.declared.requests.Request.TheVariants.{Judge}
 use Rattle.msc_cmd.specs.Documents.{IsDocument, HasDocumentFault}
-use Rattle.msc_cmd.specs.Requests.{asked_of, IsNoRequest}
+use Rattle.msc_cmd.specs.Requests.{request_of, IsNoRequest}
 use Rattle.msc_cmd.specs.Verdicts.{IsVerdict}
 
 abbrev pub status_of : Verdict → ℕ
@@ -23,33 +24,33 @@ status_of (Fails event line) = 1
 status_of (Early events) = 3
 status_of (TooLarge event) = 6
 
--- what the bytes of a log give for a chart, told as JSON or plain
-pub data LogOutcome (json : Bool) (chart : PlainChart) (bytes : List ℕ) (status : ℕ) (text : List ℕ) : Type 0 where
-  bad_log : (fault : LogFault) → IsFault fault → HasFault bytes fault → status ≡ 5 → text ≡ fault_line json (Log fault) → LogOutcome json chart bytes status text
-  judged : (events : List LineEvent) (verdict : Verdict) → IsLog bytes events → IsVerdict chart events verdict → status ≡ status_of verdict → text ≡ verdict_line json verdict
-      → LogOutcome json chart bytes status text
+-- what the bytes of a log in this form give for a chart, told as JSON or plain
+pub data LogOutcome (form : LogForm) (json : Bool) (chart : PlainChart) (bytes : List ℕ) (status : ℕ) (text : List ℕ) : Type 0 where
+  bad_log : (events : List LineEvent) (fault : LogFault) → LogOf form false bytes events (Some fault) → status ≡ 5 → text ≡ fault_line json (Log fault) → LogOutcome form json chart bytes status text
+  judged : (events : List LineEvent) (verdict : Verdict) → LogOf form false bytes events None → IsVerdict chart events verdict → status ≡ status_of verdict → text ≡ verdict_line json verdict
+      → LogOutcome form json chart bytes status text
 
 -- what the log of this name gives for the chart
-pub data EntryOutcome (json : Bool) (files : Files) (chart : PlainChart) (name : List ℕ) (status : ℕ) (text : List ℕ) : Type 0 where
-  of_bytes : (bytes : List ℕ) → files name ≡ Some bytes → LogOutcome json chart bytes status text → EntryOutcome json files chart name status text
+pub data EntryOutcome (form : LogForm) (json : Bool) (files : Files) (chart : PlainChart) (name : List ℕ) (status : ℕ) (text : List ℕ) : Type 0 where
+  of_bytes : (bytes : List ℕ) → files name ≡ Some bytes → LogOutcome form json chart bytes status text → EntryOutcome form json files chart name status text
 
 -- what the entries of these names give
-pub data FilesOutcome (json : Bool) (files : Files) (document name log : List ℕ) (status : ℕ) (text : List ℕ) : Type 0 where
+pub data FilesOutcome (form : LogForm) (json : Bool) (files : Files) (document name log : List ℕ) (status : ℕ) (text : List ℕ) : Type 0 where
   refused : (bytes : List ℕ) (broken : Rule) (place : Place) → files document ≡ Some bytes → HasDocumentFault bytes broken place → status ≡ 4 → text ≡ fault_line json (Document broken place)
-      → FilesOutcome json files document name log status text
+      → FilesOutcome form json files document name log status text
   no_chart : (bytes : List ℕ) (chart : PlainChart) → files document ≡ Some bytes → IsDocument bytes chart → (chart.name ≡ name → ⊥) → status ≡ 4 → text ≡ fault_line json NoChart
-      → FilesOutcome json files document name log status text
-  of_log : (bytes : List ℕ) (chart : PlainChart) → files document ≡ Some bytes → IsDocument bytes chart → chart.name ≡ name → EntryOutcome json files chart log status text
-      → FilesOutcome json files document name log status text
+      → FilesOutcome form json files document name log status text
+  of_log : (bytes : List ℕ) (chart : PlainChart) → files document ≡ Some bytes → IsDocument bytes chart → chart.name ≡ name → EntryOutcome form json files chart log status text
+      → FilesOutcome form json files document name log status text
 
 -- what a request gives for the entries
 abbrev pub RequestOutcome : Request → Files → ℕ → List ℕ → Type 0
-RequestOutcome (Judge document chart log budget json form) files = FilesOutcome json files document chart log
+RequestOutcome (Judge document chart log budget json form) files = FilesOutcome form json files document chart log
 
 -- what the words give for the entries: the status, and the text that is written
 pub data IsOutcome (words : List (List ℕ)) (files : Files) (status : ℕ) (text : List ℕ) : Type 0 where
   no_request : IsNoRequest words → status ≡ 2 → text ≡ fault_line false Usage → IsOutcome words files status text
-  of_request : (request : Request) → asked_of words ≡ Some request → RequestOutcome request files status text → IsOutcome words files status text
+  of_request : (request : Request) → request_of words ≡ Some request → RequestOutcome request files status text → IsOutcome words files status text
 
 -- this status and this text, and no others
 pub record IsTheOne (P : ℕ → List ℕ → Type 0) (status : ℕ) (text : List ℕ) : Type 0 where

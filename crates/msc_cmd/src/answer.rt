@@ -1,17 +1,21 @@
-ghost use Rattle.std.specs.Prelude.{◌≡◌, ◌<◌, ◌≤◌, IfOk};
+ghost use Rattle.std.specs.Prelude.{◌≡◌, ◌<◌, ◌≤◌, ℕ, List, IfOk};
+ghost use Rattle.event_log.specs.declared.event.LogForm.{LogForm};
 ghost use Rattle.judge_report.specs.declared.fault.Fault.TheVariants.{LogRead};
 ghost use Rattle.judge_report.specs.Texts.{IsTold, fault_line};
 ghost use Rattle.msc_grammar.specs.Plain.{IsPlain};
 ghost use Rattle.msc_cmd.specs.Failures.{FailedAt, CannotRead};
+ghost use Rattle.msc_cmd.specs.LogIntakes.{IsTheLog, IsToldLog};
 ghost use Rattle.msc_cmd.specs.Outcomes.{EntryOutcome, FilesOutcome, IfTold, IsTheOne, LogOutcome, status_of};
 
 use crate::document::Document;
-use crate::entry::{ReadFault, read_entry};
+use crate::entry::ReadFault;
 use crate::judge::judge;
+use crate::log_intake::Log;
+use crate::log_reading::take_log;
 use crate::reading::take_document;
-use event_log::{LogFault, read_all};
+use event_log::LogForm;
 use judge_report::{Fault, fault_text, verdict_text};
-use msc_base::{Limits, NoMemory, Shelf, Text, Verdict};
+use msc_base::{NoMemory, Shelf, Text, Verdict};
 use msc_grammar::PlainChart;
 use std::alloc::Global;
 
@@ -45,20 +49,17 @@ fn status_for(verdict: &Verdict) -> u8
     }
 }
 
-/// The reply for the bytes of a log.
-fn answer_log(
-    alloc: Global,
-    chart: &PlainChart,
-    bytes: &[u8],
-    json: bool,
-) -> Result<Reply, NoMemory>
-    requires { IsPlain chart.now }
+/// The reply for a log that has been read.
+fn answer_log(alloc: Global, chart: &PlainChart, log: &Log, json: bool) -> Result<Reply, NoMemory>
+    requires plain { IsPlain chart.now }
+    requires told { IsToldLog log.now }
     ensures small { IfOk result (λ r. r.status < 7) }
     ensures not_two { IfOk result (λ r. r.status ≡ 2 → ⊥) }
-    ensures outcome { IfOk result (λ r. IsTheOne (LogOutcome json chart.now bytes.now) r.status r.text) }
+    ensures outcome { (form : LogForm) (bytes : List ℕ) → IsTheLog form bytes log.now
+        → IfOk result (λ r. IsTheOne (LogOutcome form json chart.now bytes) r.status r.text) }
 {
-    match read_all(alloc, bytes) {
-        Ok(events) => {
+    match log {
+        Log::Events(events) => {
             let verdict = judge(alloc, chart, events.as_slice())?;
             let text = verdict_text(alloc, &verdict, json)?;
             Ok(Reply {
@@ -66,11 +67,7 @@ fn answer_log(
                 text,
             })
         }
-        Err(LogFault::NoMemory) => Err(NoMemory),
-        Err(fault) => {
-            let text = fault_text(alloc, &Fault::Log { fault }, json)?;
-            Ok(Reply { status: 5, text })
-        }
+        Log::Refused(fault) => make_reply(alloc, 5, &Fault::Log { fault: *fault }, json),
     }
 }
 
@@ -79,6 +76,7 @@ fn judge_log<S: Shelf>(
     alloc: Global,
     chart: &PlainChart,
     log: &Text,
+    form: LogForm,
     json: bool,
     shelf: &mut S,
 ) -> Result<Reply, NoMemory>
@@ -86,16 +84,16 @@ fn judge_log<S: Shelf>(
     ensures later { S.faults shelf.old ≤ S.faults shelf.new }
     ensures small { IfOk result (λ r. r.status ≤ 7) }
     ensures not_two { IfOk result (λ r. r.status ≡ 2 → ⊥) }
-    ensures outcome { IfOk result (λ r. r.status < 7 → IfTold (S.files shelf.old) (λ f. IsTheOne (EntryOutcome json f chart.now log.now) r.status r.text)) }
+    ensures outcome { IfOk result (λ r. r.status < 7 → IfTold (S.files shelf.old) (λ f. IsTheOne (EntryOutcome form json f chart.now log.now) r.status r.text)) }
     ensures failed { IfOk result (λ r. r.status ≡ 7 → FailedAt (S.faults shelf.old) (S.faults shelf.new) (S.broken shelf.new) (S.last shelf.new) log.now) }
     ensures text { IfOk result (λ r. r.status ≡ 7 → r.text ≡ fault_line json LogRead) }
 {
-    let bytes = match read_entry(alloc, shelf, log, Limits::LOG_BYTES as usize) {
-        Ok(bytes) => bytes,
+    let read = match take_log(alloc, shelf, log, form) {
+        Ok(read) => read,
         Err(ReadFault::Failed) => return make_reply(alloc, 7, &Fault::LogRead, json),
         Err(ReadFault::NoMemory) => return Err(NoMemory),
     };
-    answer_log(alloc, chart, bytes.bytes(), json)
+    answer_log(alloc, chart, &read, json)
 }
 
 /// The reply for the document, the chart and the log of these names.
@@ -104,12 +102,13 @@ pub fn judge_files<S: Shelf>(
     document: &Text,
     name: &Text,
     log: &Text,
+    form: LogForm,
     json: bool,
     shelf: &mut S,
 ) -> Result<Reply, NoMemory>
     ensures small { IfOk result (λ r. r.status ≤ 7) }
     ensures not_two { IfOk result (λ r. r.status ≡ 2 → ⊥) }
-    ensures outcome { IfOk result (λ r. r.status < 7 → IfTold (S.files shelf.old) (λ f. IsTheOne (FilesOutcome json f document.now name.now log.now) r.status r.text)) }
+    ensures outcome { IfOk result (λ r. r.status < 7 → IfTold (S.files shelf.old) (λ f. IsTheOne (FilesOutcome form json f document.now name.now log.now) r.status r.text)) }
     ensures failed { IfOk result (λ r. r.status ≡ 7 → CannotRead json (S.files shelf.old) (S.faults shelf.old) (S.faults shelf.new) (S.broken shelf.new) (S.last shelf.new) document.now name.now log.now r.text) }
 {
     let read = match take_document(alloc, shelf, document) {
@@ -126,5 +125,5 @@ pub fn judge_files<S: Shelf>(
     if chart.name.bytes() != name.bytes() {
         return make_reply(alloc, 4, &Fault::NoChart, json);
     }
-    judge_log(alloc, &chart, log, json, shelf)
+    judge_log(alloc, &chart, log, form, json, shelf)
 }

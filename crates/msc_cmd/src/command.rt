@@ -7,7 +7,7 @@ ghost use Rattle.msc_cmd.specs.Outcomes.{IsOutcome, IfTold, IsTheOne, RequestOut
 ghost use Rattle.msc_cmd.specs.Failures.{CannotJudge, CannotServe};
 
 use crate::answer::{Reply, judge_files, make_reply};
-use crate::requests::{Request, WordFault, asked_by};
+use crate::requests::{Request, WordFault, request_of};
 use judge_report::{Fault, emit};
 use msc_base::{NoMemory, Shelf, Sink, Words};
 use std::alloc::Global;
@@ -25,8 +25,9 @@ fn serve<S: Shelf>(alloc: Global, request: &Request, shelf: &mut S) -> Result<Re
             chart,
             log,
             json,
+            form,
             ..
-        } => judge_files(alloc, document, chart, log, *json, shelf),
+        } => judge_files(alloc, document, chart, log, *form, *json, shelf),
     }
 }
 
@@ -39,7 +40,7 @@ fn answer<S: Shelf>(alloc: Global, words: &Words, shelf: &mut S) -> Result<Reply
     ensures refused { IfOk result (λ r. IsNoRequest words.now → r.status ≡ 2) }
     ensures unchanged { IsNoRequest words.now → shelf.new ≡ shelf.old }
 {
-    match asked_by(alloc, words) {
+    match request_of(alloc, words) {
         Ok(request) => serve(alloc, &request, shelf),
         Err(WordFault::NoRequest) => make_reply(alloc, 2, &Fault::Usage, false),
         Err(WordFault::NoMemory) => Err(NoMemory),

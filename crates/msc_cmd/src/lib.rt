@@ -10,8 +10,10 @@ mod document;
 mod entry;
 mod intake;
 mod judge;
+mod log_intake;
+mod log_reading;
 mod reading;
 mod requests;
 
 pub use command::run;
-pub use requests::{LogForm, Request, WordFault, request_of};
+pub use requests::{Request, WordFault, request_of};

@@ -3,23 +3,15 @@ ghost use Rattle.std.specs.List.{list_all};
 ghost use Rattle.std.specs.Str.{is_utf8};
 ghost use Rattle.clap.specs.Words.{app_of, with_rule, rows_of, found_of};
 ghost use Rattle.msc_base.specs.declared.limits.TheConstants.Limits.{BUDGET_DEFAULT};
-ghost use Rattle.msc_cmd.specs.Requests.{Answers, asked_of, is_served, bare, wanted, flag, form_of, is_true, judge_app, judge_request, request_of as request_in_words, request_from, request_in};
+ghost use Rattle.msc_cmd.specs.Requests.{Answers, bare, wanted, flag, form_of, is_true, judge_app, judge_request, request_of as request_in_words, request_from, request_in};
 ghost use Rattle.msc_cmd.specs.declared.requests.Request.TheVariants.{Judge};
 ghost use Rattle.msc_cmd.specs.declared.requests.WordFault.TheVariants.{NoRequest};
 
 use clap::error::ErrorKind;
 use clap::{Arg, ArgAction, ArgMatches, Command};
+use event_log::LogForm;
 use msc_base::{Limits, NoMemory, Text, Words, is_text};
 use std::alloc::{AllocError, Global};
-
-/// How the lines of a log are written.
-#[derive(Clone, Copy, Debug, PartialEq, Eq)]
-pub enum LogForm {
-    /// Each line is an event in the notation.
-    Lines,
-    /// Each line is a JSON object.
-    Json,
-}
 
 /// What the words ask for.
 #[derive(Drop)]
@@ -238,33 +230,4 @@ pub fn request_of(alloc: Global, words: &Words) -> Result<Request, WordFault>
     }
     let texts = texts_of(alloc, rest)?;
     judge_words(alloc, texts.as_slice())
-}
-
-/// Whether the request can be served yet: its log isn't in JSON.
-fn can_serve(request: &Request) -> bool
-    ensures { result ≡ is_served request.now }
-{
-    match request {
-        Request::Judge { form, .. } => match form {
-            LogForm::Lines => true,
-            LogForm::Json => false,
-        },
-    }
-}
-
-#[tactic(auto, using(crate::proofs::WordLaws::served_answer, crate::proofs::WordLaws::unserved_answer, crate::proofs::WordLaws::no_answer))]
-/// The request that is served for these words.
-pub fn asked_by(alloc: Global, words: &Words) -> Result<Request, WordFault>
-    ensures { Answers (asked_of words.now) result }
-{
-    match request_of(alloc, words) {
-        Ok(request) => {
-            if can_serve(&request) {
-                Ok(request)
-            } else {
-                Err(WordFault::NoRequest)
-            }
-        }
-        Err(fault) => Err(fault),
-    }
 }

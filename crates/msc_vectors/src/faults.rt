@@ -28,6 +28,28 @@ fn shelf_fails_at_each_call(rt: HostRuntime) -> Result<(), Fail> {
     Ok(())
 }
 
+/// A log is read no further than to its first fault, here in its first line.
+#[test]
+fn no_read_behind_a_fault(rt: HostRuntime) -> Result<(), Fail> {
+    let alloc = rt.alloc();
+    for call in 58u64..64 {
+        let words = judge_words(alloc, "A")?;
+        let mut shelf = shelf_with(alloc, CHART, b"i;\nj: in a from i;\n")?;
+        shelf.pieces_of(1);
+        shelf.fail_at(call)?;
+        let mut out = MemSink::new(alloc, 100)?;
+        let status = run(alloc, &words, &mut shelf, &mut out);
+        let (want, text) = if call < 62 {
+            (7, "cannot read the log\n")
+        } else {
+            (5, "log refused at line 1: syntax\n")
+        };
+        assert_eq!(rt; status, want, "at call {call}");
+        assert_eq!(rt; out.bytes(), text.as_bytes(), "at call {call}");
+    }
+    Ok(())
+}
+
 /// The second call of the shelf fails, with whole pieces.
 #[test]
 fn first_read_fails(rt: HostRuntime) -> Result<(), Fail> {

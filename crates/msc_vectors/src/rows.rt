@@ -258,11 +258,115 @@ fn json_texts(rt: HostRuntime) -> Result<(), Fail> {
     Ok(())
 }
 
+/// Logs in JSON, with the words that ask for them.
+#[test]
+fn json_logs(rt: HostRuntime) -> Result<(), Fail> {
+    let alloc = rt.alloc();
+    let rows: [(&[&str], &str, &str, u8); 6] = [
+        (
+            &["judge", "d", "A", "l", "--log-json", "--json"],
+            "{\"at\":\"i\",\"kind\":\"out\",\"text\":\"a\",\"far\":\"j\"}\n{\"at\":\"j\",\"kind\":\"in\",\"text\":\"a\",\"far\":\"i\"}\n",
+            "{\"events\":2,\"verdict\":\"conforms\"}\n",
+            0,
+        ),
+        (
+            &["judge", "d", "A", "l", "--log-json"],
+            "{\"at\":\"i\"}\n",
+            "log refused at line 1: syntax\n",
+            5,
+        ),
+        (
+            &["judge", "d", "A", "l", "--log-json", "--json"],
+            "{\"at\":\"i\"}\n",
+            "{\"fault\":\"log refused at line 1: syntax\"}\n",
+            5,
+        ),
+        (
+            &["judge", "--log-json", "d", "A", "l"],
+            "{\"log\":2}\n\n{\"at\":\"j\",\"kind\":\"in\",\"text\":\"a\",\"far\":\"i\"}",
+            "fails at event 1, line 3\n",
+            1,
+        ),
+        (
+            &["judge", "--log-json", "d", "A", "l"],
+            RUN,
+            "log refused at line 1: syntax\n",
+            5,
+        ),
+        (
+            &["judge", "--log-json", "d", "A", "l"],
+            "{\"log\":3}",
+            "log refused at line 1: version\n",
+            5,
+        ),
+    ];
+    for (given, log, want, status) in rows {
+        let words = words_of(alloc, given)?;
+        let mut shelf = shelf_with(alloc, CHART, log.as_bytes())?;
+        let mut out = MemSink::new(alloc, 100)?;
+        assert_eq!(rt;
+            run(alloc, &words, &mut shelf, &mut out),
+            status,
+            "at {log}"
+        );
+        assert_eq!(rt; out.bytes(), want.as_bytes(), "at {log}");
+    }
+    Ok(())
+}
+
+/// Events of all kinds, which a chart of outputs and inputs doesn't have, and version lines.
+#[test]
+fn other_events(rt: HostRuntime) -> Result<(), Fail> {
+    let alloc = rt.alloc();
+    let rows: [(&str, &str, u8); 10] = [
+        (
+            "log 2;\ni: out a to j;\nj: in a from i;\n",
+            "conforms, events 2\n",
+            0,
+        ),
+        (
+            "/* sent */ i: out a,p to j comment 'first';\n/* gap */\nj: in a from i;\n",
+            "conforms, events 2\n",
+            0,
+        ),
+        (
+            "i: out a to j;\ni: action 'x';\n",
+            "fails at event 2, line 2\n",
+            1,
+        ),
+        ("i: out a(b) to j;\n", "fails at event 1, line 1\n", 1),
+        ("i: out a to env;\n", "fails at event 1, line 1\n", 1),
+        ("i: out a to lost j;\n", "fails at event 1, line 1\n", 1),
+        ("log 2;\ni: create j;\n", "fails at event 1, line 2\n", 1),
+        ("i: create k;\n", "log refused at line 1: syntax\n", 5),
+        ("log 3;\n", "log refused at line 1: version\n", 5),
+        (
+            "i: out a to j;\nlog 2;\n",
+            "log refused at line 2: syntax\n",
+            5,
+        ),
+    ];
+    for (log, want, status) in rows {
+        let words = judge_words(alloc, "A")?;
+        let mut shelf = shelf_with(alloc, CHART, log.as_bytes())?;
+        let mut out = MemSink::new(alloc, 100)?;
+        assert_eq!(rt;
+            run(alloc, &words, &mut shelf, &mut out),
+            status,
+            "at {log}"
+        );
+        assert_eq!(rt; out.bytes(), want.as_bytes(), "at {log}");
+    }
+    Ok(())
+}
+
 /// Words that are no request, and words that are one.
 #[test]
 fn words(rt: HostRuntime) -> Result<(), Fail> {
     let alloc = rt.alloc();
-    let rows: [(&[&str], u8); 13] = [
+    let rows: [(&[&str], u8); 15] = [
+        (&["judge", "d", "A", "l", "--log-json", "--log-json"], 2),
+        (&["judge", "d", "A", "l", "--log"], 2),
         (&["judge", "d", "A"], 2),
         (&[], 2),
         (&["judge", "d", "A", "l", "l"], 2),

@@ -1,28 +1,31 @@
-use Rattle.std.proofs.Common.{◌≡◌, List, rules, refl, arith, subst}
+use Rattle.std.proofs.Common.{◌≡◌, List, rules, subst}
 use Rattle.event_log.specs.declared.event.LineEvent.{LineEvent}
-use Rattle.event_log.specs.declared.event.LogFault.{LogFault}
-use Rattle.event_log.specs.Logs.{IsLog, HasFault, IsFault}
-use Rattle.judge_report.specs.declared.fault.Fault.TheVariants.{Log}
-use Rattle.judge_report.specs.Texts.{fault_line, verdict_line}
+use Rattle.judge_report.specs.Texts.{verdict_line}
+use Rattle.msc_cmd.specs.LogIntakes.{IsTheLog}
 use Rattle.msc_cmd.specs.Verdicts.{IsVerdict}
-use Rattle.msc_cmd.proofs.LogOutcomes.{judged_one, faulty_one}
+use Rattle.msc_cmd.specs.declared.log_intake.Log.{Log}
+use Rattle.msc_cmd.specs.declared.log_intake.Log.TheVariants.{Events, Refused}
+use Rattle.msc_cmd.proofs.LogOutcomes.{judged_one}
+use Rattle.msc_cmd.proofs.Replies.{five_small, five_not_two, fault_told}
 use Rattle.msc_cmd.proofs.answer.answer_log.Goals as goal
 
-pub returns-in_ok-text-in-Ok-clause-outcome : goal.returns-in_ok-text-in-Ok-clause-outcome
-returns-in_ok-text-in-Ok-clause-outcome c =
-    let log : IsLog c.args.bytes.now c.in-Ok.events = search rules in
-    let only : (others : List LineEvent) → IsLog c.args.bytes.now others → others ≡ c.in-Ok.events = search rules in
-    let faultless : (fault : LogFault) → HasFault c.args.bytes.now fault → ⊥ = search rules in
-    let there : IsVerdict c.args.chart.now c.as_slice.result.now c.in_ok-verdict-in-Ok.verdict = search rules in
-    let verdict : IsVerdict c.args.chart.now c.in-Ok.events c.in_ok-verdict-in-Ok.verdict = subst (λ (es : List LineEvent). IsVerdict c.args.chart.now es c.in_ok-verdict-in-Ok.verdict) c.as_slice.ensures there in
-    let text : c.in_ok-text-in-Ok.text ≡ verdict_line c.args.json c.in_ok-verdict-in-Ok.verdict = search rules in
-    judged_one c.args.json c.args.chart.now c.args.bytes.now c.in-Ok.events c.in_ok-verdict-in-Ok.verdict _ _ log only faultless verdict c.status_for.ensures.status text
+pub returns-in_ok-text-in-Events-clause-outcome : goal.returns-in_ok-text-in-Events-clause-outcome
+returns-in_ok-text-in-Events-clause-outcome c =
+    let is : c.args.log.now ≡ Events c.in-Events.events = search rules in
+    let there : IsVerdict c.args.chart.now c.as_slice.result.now c.in_ok-verdict-in-Events.verdict = search rules in
+    let verdict : IsVerdict c.args.chart.now c.in-Events.events.items c.in_ok-verdict-in-Events.verdict =
+    subst (λ (es : List LineEvent). IsVerdict c.args.chart.now es c.in_ok-verdict-in-Events.verdict) c.as_slice.ensures.value there in
+    let text : c.in_ok-text-in-Events.text ≡ verdict_line c.args.json c.in_ok-verdict-in-Events.verdict = search rules in
+    λ form bytes h.
+    judged_one form c.args.json c.args.chart.now bytes c.in-Events.events.items c.in_ok-verdict-in-Events.verdict _ _ (subst (λ (l : Log). IsTheLog form bytes l) is h) verdict c.status_for.ensures.status text
 
-pub returns-in_ok-text-in-Err : goal.returns-in_ok-text-in-Err
-returns-in_ok-text-in-Err c =
-    let is_fault : IsFault c.in-Err.fault = search rules in
-    let fault : IsFault c.in-Err.fault → HasFault c.args.bytes.now c.in-Err.fault = search rules in
-    let only : IsFault c.in-Err.fault → (other : LogFault) → HasFault c.args.bytes.now other → other ≡ c.in-Err.fault = search rules in
-    let none : IsFault c.in-Err.fault → (events : List LineEvent) → IsLog c.args.bytes.now events → ⊥ = search rules in
-    let text : c.in_ok-text-in-Err.text ≡ fault_line c.args.json (Log c.in-Err.fault) = search rules in
-    record { small = omega arith; not_two = λ e. omega (arith, e); outcome = faulty_one c.args.json c.args.chart.now c.args.bytes.now c.in-Err.fault _ _ is_fault (fault is_fault) (only is_fault) (none is_fault) refl text }
+pub returns-in-Refused-clause-small : goal.returns-in-Refused-clause-small
+returns-in-Refused-clause-small c = five_small _ c.make_reply.ensures.status
+
+pub returns-in-Refused-clause-not_two : goal.returns-in-Refused-clause-not_two
+returns-in-Refused-clause-not_two c = five_not_two _ c.make_reply.ensures.status
+
+pub returns-in-Refused-clause-outcome : goal.returns-in-Refused-clause-outcome
+returns-in-Refused-clause-outcome c =
+    let is : c.args.log.now ≡ Refused c.in-Refused.fault = search rules in
+    λ form bytes h. fault_told form c.args.json c.args.chart.now bytes c.in-Refused.fault _ c.make_reply.ensures.status c.make_reply.ensures.text (subst (λ (l : Log). IsTheLog form bytes l) is h)

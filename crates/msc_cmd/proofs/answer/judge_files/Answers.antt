@@ -8,13 +8,13 @@ use Rattle.msc_cmd.proofs.answer.judge_files.Goals as goal
 pub returns-in-Refused-clause-outcome : goal.returns-in-Refused-clause-outcome
 returns-in-Refused-clause-outcome g c =
     let h : IsDocumentOf (g.S.Shelf.files c.args.shelf.now) c.args.document.now (Refused c.in-Refused.rule c.in-Refused.place) = search rules in
-    refused_told c.args.json _ _ _ _ h.bytes _ _ _ h.held h.is c.make_reply-in-Refused.ensures.status c.make_reply-in-Refused.ensures.text
+    refused_told c.args.form c.args.json _ _ _ _ h.bytes _ _ _ h.held h.is c.make_reply-in-Refused.ensures.status c.make_reply-in-Refused.ensures.text
 
 pub returns-then-ne-clause-outcome : goal.returns-then-ne-clause-outcome
 returns-then-ne-clause-outcome g c =
     let h : IsDocumentOf (g.S.Shelf.files c.args.shelf.now) c.args.document.now (Chart c.in-Chart.chart) = search rules in
     let other : c.in-Chart.chart.name ≡ c.args.name.now → ⊥ = search rules in
-    no_chart_told c.args.json _ _ _ _ h.bytes c.in-Chart.chart _ h.held h.is other c.make_reply-then-ne.ensures.status c.make_reply-then-ne.ensures.text
+    no_chart_told c.args.form c.args.json _ _ _ _ h.bytes c.in-Chart.chart _ h.held h.is other c.make_reply-then-ne.ensures.status c.make_reply-then-ne.ensures.text
 
 pub judge_log-requires : goal.judge_log-requires
 judge_log-requires g c =
@@ -25,9 +25,9 @@ pub returns-clause-outcome : goal.returns-clause-outcome
 returns-clause-outcome g c =
     let h : IsDocumentOf (g.S.Shelf.files c.args.shelf.now) c.args.document.now (Chart c.in-Chart.chart) = search rules in
     let same : c.in-Chart.chart.name ≡ c.args.name.now = search rules in
-    let judged : IfOk c.judge_log.result (λ x. x.status < 7 → IfTold (g.S.Shelf.files c.args.shelf.now) (λ f. IsTheOne (EntryOutcome c.args.json f c.in-Chart.chart c.args.log.now) x.status x.text)) =
-    subst (λ files. IfOk c.judge_log.result (λ x. x.status < 7 → IfTold files (λ f. IsTheOne (EntryOutcome c.args.json f c.in-Chart.chart c.args.log.now) x.status x.text))) c.take_document.ensures.files c.judge_log.ensures.outcome in
-    judged_told c.args.json _ _ _ _ h.bytes c.in-Chart.chart _ h.held h.is same judged
+    let judged : IfOk c.judge_log.result (λ x. x.status < 7 → IfTold (g.S.Shelf.files c.args.shelf.now) (λ f. IsTheOne (EntryOutcome c.args.form c.args.json f c.in-Chart.chart c.args.log.now) x.status x.text)) =
+    subst (λ files. IfOk c.judge_log.result (λ x. x.status < 7 → IfTold files (λ f. IsTheOne (EntryOutcome c.args.form c.args.json f c.in-Chart.chart c.args.log.now) x.status x.text))) c.take_document.ensures.files c.judge_log.ensures.outcome in
+    judged_told c.args.form c.args.json _ _ _ _ h.bytes c.in-Chart.chart _ h.held h.is same judged
 
 pub returns-clause-failed : goal.returns-clause-failed
 returns-clause-failed g c =

@@ -1,0 +1,10 @@
+use Rattle.std.proofs.Common.{◌≡◌, rules, subst}
+use Rattle.msc_grammar.specs.Events.{texts}
+use Rattle.event_log.specs.Meanings.{Never, StatesVersion, IsEventOf}
+use Rattle.event_log.proofs.text_line.read_tokens.Goals as goal
+
+pub returns-in-None : goal.returns-in-None
+returns-in-None c =
+    let no_version : c.args.number ≡ 1 → Never (StatesVersion (texts c.as_slice.result.now)) = search rules in
+    let no_event : Never (IsEventOf c.args.version (texts c.args.tokens.now.tokens)) = search rules in
+    (subst (λ ts. c.args.number ≡ 1 → Never (StatesVersion (texts ts))) c.as_slice.ensures no_version, no_event)

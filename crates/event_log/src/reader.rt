@@ -1,0 +1,384 @@
+ghost use Rattle.std.specs.Prelude.{◌≡◌, ◌<◌, ◌≤◌, ◌+◌, ◌++◌, ◌∷◌, [], ℕ, List, Bool, true, false, not, length, All, ◌≢◌, take, drop, get_or, slice_index, IfOk, IfErr, OnOk, OnErr, IfSome, MatchOption, IsTrue, ◌↔◌, Option, Some, None, Ok, Err, option_to_list};
+ghost use Rattle.event_log.specs.Faults.{IsFault};
+ghost use Rattle.event_log.specs.Logs.{LogOf, HoldsEvent};
+ghost use Rattle.event_log.specs.Meanings.{Says, Only, Never};
+ghost use Rattle.event_log.specs.States.{LogState, IsGoing, HoldsAt, Fed, IsAnswer, fault_in, Takes, Refuses, TakesLine, RefusesLine, Grows, IsTooLong, counted, next_line};
+ghost use Rattle.event_log.specs.declared.event.LineEvent.{LineEvent};
+ghost use Rattle.event_log.specs.declared.event.LogFault.{LogFault};
+ghost use Rattle.event_log.specs.declared.event.LogForm.{LogForm};
+ghost use Rattle.event_log.specs.declared.line.Line.{Line};
+ghost use Rattle.msc_base.specs.declared.limits.TheConstants.Limits.{LINE_BYTES, LOG_BYTES, LOG_EVENTS};
+
+use crate::line::{Line, read_line};
+use crate::{LineEvent, LogFault, LogForm, Version};
+use msc_base::{Label, Limits, NoMemory};
+use std::alloc::Global;
+use std::collections::VecDeque;
+use std::marker::Model;
+
+/// Reads a log that it is fed in pieces.
+#[derive(Drop)]
+pub struct LogReader {
+    alloc: Global,
+    form: LogForm,
+    version: Version,
+    /// The number of the line that is being read.
+    number: u64,
+    /// How many bytes have been taken.
+    count: u64,
+    /// How many events have been read.
+    read: u64,
+    /// The bytes of the line so far.
+    line: Vec<u8>,
+    /// The events that haven't been handed out.
+    waiting: VecDeque<LineEvent>,
+    fault: Option<LogFault>,
+    finished: bool,
+}
+
+impl Model for LogReader {
+    ghost use Rattle.std.specs.Prelude.{◌≤◌, ◌+◌, length};
+    ghost use Rattle.event_log.specs.States.{LogState};
+    ghost use Rattle.msc_base.specs.declared.limits.TheConstants.Limits.{LINE_BYTES, LOG_BYTES};
+
+    ghost Value = { LogState };
+
+    ghost view = { λ r. record {
+      form = r.form;
+      version = r.version;
+      number = r.number;
+      count = r.count;
+      read = r.read;
+      line = r.line.items;
+      waiting = r.waiting.items;
+      fault = r.fault;
+      finished = r.finished;
+    } };
+
+    ghost invariant = { λ r. (r.count ≤ LOG_BYTES) × (length r.line.items ≤ LINE_BYTES) × (r.number + length r.line.items ≤ r.count + 1) };
+}
+
+/// Appends the event. After want of memory the events are as they were.
+fn push(waiting: &mut VecDeque<LineEvent>, event: LineEvent) -> Result<(), NoMemory>
+    ensures ok { OnOk result (waiting.new.items ≡ waiting.old.items ++ event ∷ []) }
+    ensures err { OnErr result (waiting.new.items ≡ waiting.old.items) }
+{
+    waiting.push_back(event)?;
+    Ok(())
+}
+
+/// Where the first line feed stands.
+fn line_feed(bytes: &[u8]) -> Option<usize>
+    ensures { MatchOption result (All (λ b. b ≢ 10) bytes.now) (λ end. (end < length bytes.now)
+        × All (λ b. b ≢ 10) (take end bytes.now) × (slice_index bytes.now end ≡ 10)) }
+{
+    for (i, byte) in bytes.iter().enumerate() {
+        if *byte == b'\n' {
+            return Some(i);
+        }
+    }
+    None
+}
+
+/// Appends the bytes. After want of memory the bytes are as they were.
+fn add_bytes(line: &mut Vec<u8>, front: &[u8]) -> Result<(), NoMemory>
+    ensures ok { OnOk result (line.new.items ≡ line.old.items ++ front.now) }
+    ensures err { OnErr result (line.new.items ≡ line.old.items) }
+{
+    line.extend_from_slice(front)?;
+    Ok(())
+}
+
+impl LogReader {
+    /// A reader of a log of this form, to which nothing has been fed.
+    pub fn new(alloc: Global, form: LogForm) -> Result<LogReader, NoMemory>
+        ensures fed { IfOk result (λ reader. Fed form [] 0 reader) }
+        ensures open { IfOk result (λ reader. reader.finished ≡ false) }
+        ensures fault { IfOk result (λ reader. reader.fault ≡ None) }
+    {
+        let line = Vec::with_capacity(alloc, Limits::LINE_BYTES as usize)?;
+        Ok(LogReader {
+            alloc,
+            form,
+            version: Version::First,
+            number: 1,
+            count: 0,
+            read: 0,
+            line,
+            waiting: VecDeque::new(alloc),
+            fault: None,
+            finished: false,
+        })
+    }
+
+    /// Goes on to the next line.
+    fn pass_line(&mut self, version: Version)
+        requires { self.old.number ≤ self.old.count }
+        ensures { self.new ≡ next_line self.old version self.old.read self.old.waiting }
+    {
+        self.version = version;
+        self.line.clear();
+        self.number += 1;
+    }
+
+    /// Keeps the event and goes on to the next line. After a fault all is as it was.
+    fn keep(&mut self, label: Label) -> Result<(), LogFault>
+        requires { self.old.number ≤ self.old.count }
+        ensures ok { OnOk result (Takes self.old (Line.Event label) self.new) }
+        ensures err { OnErr result (self.new ≡ self.old) }
+        ensures fault { IfErr result (λ fault. IsFault fault → Refuses self.old (Line.Event label) fault) }
+    {
+        if self.read >= Limits::LOG_EVENTS {
+            return Err(LogFault::LogLimit(self.number));
+        }
+        let event = LineEvent {
+            label,
+            line: self.number,
+        };
+        push(&mut self.waiting, event)?;
+        self.read += 1;
+        self.line.clear();
+        self.number += 1;
+        Ok(())
+    }
+
+    /// Takes a line that says this. After a fault all is as it was.
+    fn take_line(&mut self, line: Line) -> Result<(), LogFault>
+        requires { self.old.number ≤ self.old.count }
+        ensures ok { OnOk result (Takes self.old line self.new) }
+        ensures err { OnErr result (self.new ≡ self.old) }
+        ensures fault { IfErr result (λ fault. IsFault fault → Refuses self.old line fault) }
+    {
+        match line {
+            Line::Blank => {
+                let version = self.version;
+                self.pass_line(version);
+                Ok(())
+            }
+            Line::Edition(Some(version)) => {
+                self.pass_line(version);
+                Ok(())
+            }
+            Line::Edition(None) => Err(LogFault::Version(self.number)),
+            Line::Event(label) => self.keep(label),
+            Line::Bad => Err(LogFault::Syntax(self.number)),
+        }
+    }
+
+    /// Reads the bytes of the line so far as a whole line. After a fault all is as it was.
+    fn read_pending(&mut self) -> Result<(), LogFault>
+        requires { self.old.number ≤ self.old.count }
+        ensures ok { OnOk result (TakesLine self.old self.new) }
+        ensures err { OnErr result (self.new ≡ self.old) }
+        ensures fault { IfErr result (λ fault. IsFault fault → RefusesLine self.old fault) }
+    {
+        let line = read_line(
+            self.alloc,
+            self.form,
+            self.version,
+            self.number,
+            self.line.as_slice(),
+        )?;
+        self.take_line(line)
+    }
+
+    /// Takes bytes of the line. After a fault no more than the count of bytes has changed.
+    fn append(&mut self, front: &[u8]) -> Result<(), LogFault>
+        requires { self.old.count + length front.now ≤ LOG_BYTES }
+        ensures ok { OnOk result (Grows self.old front.now self.new) }
+        ensures err { OnErr result (self.new ≡ self.old) }
+        ensures fault { IfErr result (λ fault. IsFault fault → IsTooLong self.old front.now fault) }
+    {
+        let room = Limits::LINE_BYTES as usize - self.line.len();
+        if front.len() > room {
+            return Err(LogFault::LongLine(self.number));
+        }
+        add_bytes(&mut self.line, front)?;
+        self.count += front.len() as u64;
+        Ok(())
+    }
+
+    /// Takes the end of the line, and reads the line.
+    fn end_line(&mut self) -> Result<(), LogFault>
+        requires { self.old.count < LOG_BYTES }
+        ensures ok { OnOk result (TakesLine (counted self.old) self.new) }
+        ensures err { OnErr result (self.new ≡ counted self.old) }
+        ensures fault { IfErr result (λ fault. IsFault fault → RefusesLine (counted self.old) fault) }
+    {
+        self.count += 1;
+        self.read_pending()
+    }
+
+    /// Takes a line with its end.
+    fn take_ended(&mut self, front: &[u8]) -> Result<(), LogFault>
+        requires free { All (λ b. b ≢ 10) front.now }
+        requires room { self.old.count + length front.now < LOG_BYTES }
+        ensures ok { (form : LogForm) (b : List ℕ) (n : ℕ) → IsGoing form b n self.old
+            → OnOk result (IsGoing form (b ++ (front.now ++ 10 ∷ [])) n self.new) }
+        ensures err { (form : LogForm) (b : List ℕ) (n : ℕ) (more : List ℕ) → IsGoing form b n self.old
+            → IfErr result (λ fault. HoldsAt (Some fault) false form (b ++ (front.now ++ 10 ∷ more)) n self.new) }
+        ensures count { OnOk result (self.new.count ≡ self.old.count + length front.now + 1) }
+        ensures fault { self.new.fault ≡ self.old.fault }
+        ensures finished { self.new.finished ≡ self.old.finished }
+    {
+        self.append(front)?;
+        self.end_line()
+    }
+
+    /// Takes bytes that a log has room for.
+    fn feed_within(&mut self, piece: &[u8]) -> Result<(), LogFault>
+        requires { self.old.count + length piece.now ≤ LOG_BYTES }
+        ensures ok { (form : LogForm) (b : List ℕ) (n : ℕ) → IsGoing form b n self.old
+            → OnOk result (IsGoing form (b ++ piece.now) n self.new) }
+        ensures err { (form : LogForm) (b : List ℕ) (n : ℕ) → IsGoing form b n self.old
+            → IfErr result (λ fault. HoldsAt (Some fault) false form (b ++ piece.now) n self.new) }
+        ensures count { OnOk result (self.new.count ≡ self.old.count + length piece.now) }
+        ensures fault { self.new.fault ≡ self.old.fault }
+        ensures finished { self.new.finished ≡ self.old.finished }
+    {
+        let mut rest = piece;
+        while let Some(end) = line_feed(rest) {
+            let (front, behind) = rest.split_at(end);
+            self.take_ended(front)?;
+            let (_, after) = behind.split_at(1);
+            rest = after;
+        }
+        self.append(rest)
+    }
+
+    /// Takes bytes, up to the limit of a log.
+    fn feed_all(&mut self, piece: &[u8]) -> Result<(), LogFault>
+        ensures ok { (form : LogForm) (b : List ℕ) (n : ℕ) → IsGoing form b n self.old
+            → OnOk result (IsGoing form (b ++ piece.now) n self.new) }
+        ensures err { (form : LogForm) (b : List ℕ) (n : ℕ) → IsGoing form b n self.old
+            → IfErr result (λ fault. HoldsAt (Some fault) false form (b ++ piece.now) n self.new) }
+        ensures fault { self.new.fault ≡ self.old.fault }
+        ensures finished { self.new.finished ≡ self.old.finished }
+    {
+        let room = (Limits::LOG_BYTES - self.count) as usize;
+        if piece.len() <= room {
+            return self.feed_within(piece);
+        }
+        let (front, _) = piece.split_at(room);
+        self.feed_within(front)?;
+        Err(LogFault::LogLimit(self.number))
+    }
+
+    /// Takes the next bytes of the log. It fails exactly where a fault is decided within the bytes fed so far, whatever follows, or for
+    /// want of memory, and from then on always with the same fault.
+    pub fn feed(&mut self, piece: &[u8]) -> Result<(), LogFault>
+        requires { self.old.finished ≡ false }
+        ensures fed { (form : LogForm) (b : List ℕ) (n : ℕ) → Fed form b n self.old → Fed form (b ++ piece.now) n self.new }
+        ensures open { self.new.finished ≡ false }
+        ensures fault { fault_in result ≡ self.new.fault }
+        ensures again { IfSome self.old.fault (λ fault. (result ≡ Err fault) × (self.new ≡ self.old)) }
+        ensures decided { (form : LogForm) (b : List ℕ) (n : ℕ) → Fed form b n self.old
+            → IsAnswer form true (b ++ piece.now) (fault_in result) }
+        ensures lasts { (form : LogForm) (b : List ℕ) (n : ℕ) → Fed form b n self.old
+            → (more : List ℕ) → OnErr result (IsAnswer form false ((b ++ piece.now) ++ more) (fault_in result)) }
+        ensures stays { (form : LogForm) (b : List ℕ) (n : ℕ) (event : LineEvent) → HoldsEvent form true b n event → HoldsEvent form true (b ++ piece.now) n event }
+    {
+        if let Some(fault) = self.fault {
+            return Err(fault);
+        }
+        match self.feed_all(piece) {
+            Ok(()) => Ok(()),
+            Err(fault) => {
+                self.fault = Some(fault);
+                Err(fault)
+            }
+        }
+    }
+
+    /// Whether `finish` has been called.
+    pub fn finished(&self) -> bool
+        ensures { result ≡ self.now.finished }
+    {
+        self.finished
+    }
+
+    /// Reads the last line, where it lacks its end.
+    fn end_text(&mut self) -> Result<(), LogFault>
+        ensures ok { (form : LogForm) (b : List ℕ) (n : ℕ) → IsGoing form b n self.old
+            → OnOk result (HoldsAt None true form b n self.new) }
+        ensures err { (form : LogForm) (b : List ℕ) (n : ℕ) → IsGoing form b n self.old
+            → IfErr result (λ fault. HoldsAt (Some fault) true form b n self.new) }
+    {
+        if self.line.is_empty() {
+            return Ok(());
+        }
+        self.read_pending()
+    }
+
+    /// The fault of the whole log, or that which came before.
+    fn whole_fault(&mut self) -> Option<LogFault>
+        requires { self.old.finished ≡ false }
+        ensures holds { (form : LogForm) (b : List ℕ) (n : ℕ) → Fed form b n self.old → HoldsAt result true form b n self.new }
+        ensures again { IfSome self.old.fault (λ fault. result ≡ Some fault) }
+    {
+        if let Some(fault) = self.fault {
+            return Some(fault);
+        }
+        match self.end_text() {
+            Ok(()) => None,
+            Err(fault) => Some(fault),
+        }
+    }
+
+    /// Ends the log.
+    fn end(&mut self)
+        requires { self.old.finished ≡ false }
+        ensures fed { (form : LogForm) (b : List ℕ) (n : ℕ) → Fed form b n self.old → Fed form b n self.new }
+        ensures finished { self.new.finished ≡ true }
+        ensures again { IfSome self.old.fault (λ fault. self.new.fault ≡ Some fault) }
+    {
+        let fault = self.whole_fault();
+        self.fault = fault;
+        self.finished = true;
+    }
+
+    /// The fault as an answer.
+    fn answer(&self) -> Result<(), LogFault>
+        ensures { fault_in result ≡ self.now.fault }
+    {
+        match self.fault {
+            Some(fault) => Err(fault),
+            None => Ok(()),
+        }
+    }
+
+    /// Ends the log. It fails exactly where the whole log has a fault, or for want of memory, and from then on always with the same fault.
+    pub fn finish(&mut self) -> Result<(), LogFault>
+        ensures fed { (form : LogForm) (b : List ℕ) (n : ℕ) → Fed form b n self.old → Fed form b n self.new }
+        ensures finished { self.new.finished ≡ true }
+        ensures fault { fault_in result ≡ self.new.fault }
+        ensures again { IfSome self.old.fault (λ fault. self.new.fault ≡ Some fault) }
+        ensures unchanged { self.old.finished ≡ true → self.new ≡ self.old }
+        ensures decided { (form : LogForm) (b : List ℕ) (n : ℕ) → Fed form b n self.old
+            → IsAnswer form false b (fault_in result) }
+        ensures stays { (form : LogForm) (b : List ℕ) (n : ℕ) (event : LineEvent) → HoldsEvent form true b n event → HoldsEvent form false b n event }
+    {
+        if self.finished {
+            return self.answer();
+        }
+        self.end();
+        self.answer()
+    }
+
+    /// Hands out the next event. There is none exactly where the bytes so far hold no further whole event before the first fault; after
+    /// want of memory there may be fewer.
+    pub fn next_event(&mut self) -> Option<LineEvent>
+        ensures fed { (form : LogForm) (b : List ℕ) (n : ℕ) → Fed form b n self.old
+            → MatchOption result (Fed form b n self.new) (λ _. Fed form b (n + 1) self.new) }
+        ensures event { (form : LogForm) (b : List ℕ) (n : ℕ) → Fed form b n self.old
+            → IfSome result (λ event. Only (HoldsEvent form (not self.old.finished) b n) event) }
+        ensures none { (form : LogForm) (b : List ℕ) (n : ℕ) → Fed form b n self.old → result ≡ None
+            → self.old.fault ≢ Some LogFault.NoMemory → Never (HoldsEvent form (not self.old.finished) b n) }
+        ensures fault { self.new.fault ≡ self.old.fault }
+        ensures finished { self.new.finished ≡ self.old.finished }
+        ensures last { result ≡ None → self.new ≡ self.old }
+        ensures waiting { self.old.waiting ≡ option_to_list result ++ self.new.waiting }
+    {
+        self.waiting.pop_front()
+    }
+}

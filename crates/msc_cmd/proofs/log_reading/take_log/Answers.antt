@@ -1,0 +1,50 @@
+use Rattle.std.proofs.Common.{◌≡◌, ◌≤◌, ◌∙◌, Option, Some, true, IfOk, arith, rules, sym, subst}
+use Rattle.msc_base.specs.Shelves.{Files, Opens}
+use Rattle.msc_cmd.specs.LogIntakes.{IsLogOf, IsStep}
+use Rattle.msc_cmd.specs.declared.log_intake.Log.TheVariants.{Refused}
+use Rattle.msc_cmd.specs.declared.log_reading.Step.{Step}
+use Rattle.msc_cmd.specs.declared.log_reading.Step.TheVariants.{More, End, Fault}
+use Rattle.msc_cmd.proofs.LogTaking.{opened}
+use Rattle.msc_cmd.proofs.log_reading.take_log.Goals as goal
+
+pub loop-intake-init : goal.loop-intake-init
+loop-intake-init g c =
+    let files : g.S.Shelf.files c.start.new.self ≡ g.S.Shelf.files c.args.shelf.now = search rules in
+    let begun : g.S.Shelf.begun c.start.new.self ≡ true = search rules in
+    let last : g.S.Shelf.last c.start.new.self ≡ Some c.args.name.now = search rules in
+    let later : g.S.Shelf.faults c.args.shelf.now ≤ g.S.Shelf.faults c.start.new.self = search rules in
+    let opens : Opens (g.S.Shelf.files c.args.shelf.now) c.args.name.now (g.S.Shelf.rest c.start.new.self) = search rules in
+    record {
+      files = files;
+      begun = begun;
+      last = last;
+      later = later;
+      reading = opened c.args.form (g.S.Shelf.files c.start.new.self) c.args.name.now (g.S.Shelf.rest c.start.new.self) c.in_ok-intake.intake
+          (subst (λ (f : Option Files). Opens f c.args.name.now (g.S.Shelf.rest c.start.new.self)) (sym files) opens) c.in_ok-intake.ensures;
+    }
+
+pub take_more-requires-clause-open : goal.take_more-requires-clause-open
+take_more-requires-clause-open g c = c.loop-intake.invariant.reading.taken.goes_on
+
+pub loop-intake-smaller : goal.loop-intake-smaller
+loop-intake-smaller g c =
+    let is : c.in_ok-take_more.field-0 ≡ More = search rules in
+    let step = subst (λ (s : Step). IsStep c.args.form (g.S.Shelf.files c.take_more.new.shelf) c.args.name.now (g.S.Shelf.rest c.take_more.new.shelf) c.loop-intake.intake.reader.count c.take_more.new.intake s) is
+    (c.in_ok-take_more.ensures.step c.args.form c.loop-intake.invariant.reading) in
+    omega (arith, step.0, step.1)
+
+pub returns-in-End-clause-log : goal.returns-in-End-clause-log
+returns-in-End-clause-log g c =
+    let is : c.in_ok-take_more.field-0 ≡ End = search rules in
+    let step = subst (λ (s : Step). IsStep c.args.form (g.S.Shelf.files c.take_more.new.shelf) c.args.name.now (g.S.Shelf.rest c.take_more.new.shelf) c.loop-intake.intake.reader.count c.take_more.new.intake s) is
+    (c.in_ok-take_more.ensures.step c.args.form c.loop-intake.invariant.reading) in
+    let same = c.take_more.ensures.files ∙ c.loop-intake.invariant.files in
+    subst (λ (f : Option Files). IfOk c.ended.result (IsLogOf c.args.form f c.args.name.now)) same (c.ended.ensures.log c.args.form (g.S.Shelf.files c.take_more.new.shelf) c.args.name.now step)
+
+pub returns-in-Fault-clause-log : goal.returns-in-Fault-clause-log
+returns-in-Fault-clause-log g c =
+    let is : c.in_ok-take_more.field-0 ≡ Fault c.in-Fault.fault = search rules in
+    let step = subst (λ (s : Step). IsStep c.args.form (g.S.Shelf.files c.take_more.new.shelf) c.args.name.now (g.S.Shelf.rest c.take_more.new.shelf) c.loop-intake.intake.reader.count c.take_more.new.intake s) is
+    (c.in_ok-take_more.ensures.step c.args.form c.loop-intake.invariant.reading) in
+    let same = c.take_more.ensures.files ∙ c.loop-intake.invariant.files in
+    subst (λ (f : Option Files). IsLogOf c.args.form f c.args.name.now (Refused c.in-Fault.fault)) same step
