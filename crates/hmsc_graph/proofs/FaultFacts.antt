@@ -15,6 +15,8 @@ use Rattle.hmsc_graph.specs.declared.shape.Shape.{Shape}
 use Rattle.hmsc_graph.specs.declared.labels.Labels.{Labels}
 use Rattle.hmsc_graph.specs.declared.net.NetFault.{NetFault}
 use Rattle.hmsc_graph.specs.declared.net.NetFault.TheVariants.{UnknownLabel, TwiceLabel}
+use Rattle.hmsc_graph.specs.Graphs.{Net}
+use Rattle.hmsc_graph.specs.Nets.{graph_of}
 use Rattle.hmsc_graph.specs.Labels.{earlier_of, has_name, with_line, with_label, number_in, graph_in, fault_of}
 use Rattle.hmsc_graph.specs.Shapes.{HasLabel, IsUnknown, IsTwice, IsFaulty, IsFaultOf, IsGraphOf, AreNumbers, AreNext, line_number, named_by}
 use Rattle.hmsc_graph.proofs.LabelFacts.{labels_of, known_line, new_line, is_some-position}
@@ -317,3 +319,28 @@ module _ (shape : Shape) (labels : Labels) (unknown : Option Place) (a : AreLabe
       next = are_next shape.lines (λ place x. no_unknown place (unknown_right shape.lines shape.starts (flat_map (λ line. line.next) shape.lines) place x));
       ends = refl;
     }
+
+-- a shape writes down one graph
+some_same : (xs ys : List ℕ) → map (λ n. Some n) xs ≡ map (λ n. Some n) ys → xs ≡ ys
+some_same [] [] h = refl
+some_same [] (y ∷ ys) h = cc
+some_same (x ∷ xs) [] h = cc
+some_same (x ∷ xs) (y ∷ ys) h =
+    let first : x ≡ y = cc in
+    let rest : map (λ n. Some n) xs ≡ map (λ n. Some n) ys = cc in
+    ap₂ (λ (n : ℕ) (l : List ℕ). n ∷ l) first (some_same xs ys rest)
+
+same_next : (lines rest : List ShapeLine) (xs ys : List (List ℕ)) → AreNext lines rest xs → AreNext lines rest ys → xs ≡ ys
+same_next lines [] [] [] h k = refl
+same_next lines [] (y ∷ ys) ks h k = absurd h
+same_next lines [] [] (y ∷ ys) h k = absurd k
+same_next lines (l ∷ rest) [] ks h k = absurd h
+same_next lines (l ∷ rest) (x ∷ xs) [] h k = absurd k
+same_next lines (l ∷ rest) (x ∷ xs) (y ∷ ys) h k = ap₂ (λ (n : List ℕ) (ns : List (List ℕ)). n ∷ ns) (some_same x y (h.0 ∙ sym k.0)) (same_next lines rest xs ys h.1 k.1)
+
+pub only_graph : (shape : Shape) (g h : Net) → IsGraphOf shape g → IsGraphOf shape h → g ≡ h
+only_graph shape g h p q =
+    let starts : g.starts ≡ h.starts = some_same g.starts h.starts (p.starts ∙ sym q.starts) in
+    let next : g.next ≡ h.next = same_next shape.lines shape.lines g.next h.next p.next q.next in
+    let ends : g.ends ≡ h.ends = p.ends ∙ sym q.ends in
+    ap₂ (λ (s : List ℕ) (n : List (List ℕ)). graph_of s n g.ends) starts next ∙ ap (λ (e : List Bool). graph_of h.starts h.next e) ends

@@ -5,4 +5,5 @@ pub mod NodeSets
 pub mod Reversals
 pub mod Searches
 pub mod Shapes
+pub mod Spots
 pub mod Walks

@@ -1,8 +1,9 @@
 ghost use Rattle.std.specs.Prelude.{◌≡◌, ◌≤◌, ◌<◌, ◌↔◌, ℕ, None, [], fold, length, replicate, true, IfOk, IfErr, OnOk};
-ghost use Rattle.hmsc_graph.specs.Graphs.{End, IsIn, arrives, behind};
+ghost use Rattle.hmsc_graph.specs.Graphs.{Net as GraphValue, End, IsIn, arrives, behind};
 ghost use Rattle.hmsc_graph.specs.Labels.{fault_of, graph_in, with_label};
 ghost use Rattle.hmsc_graph.specs.declared.net.NetFault.TheVariants.{NoMemory};
-ghost use Rattle.hmsc_graph.specs.Nets.{IsNet, size_of, spot_of, IsSpotBelow};
+ghost use Rattle.hmsc_graph.specs.Nets.{IsNet, size_of};
+ghost use Rattle.hmsc_graph.specs.Spots.{spot_of, IsSpotBelow};
 ghost use Rattle.hmsc_graph.specs.Reversals.{IsReversed, AreEdgesBack, HasEdges};
 ghost use Rattle.hmsc_graph.specs.Shapes.{IsGraphOf, IsFaulty, IsFaultOf, named_by};
 ghost use Rattle.msc_base.specs.declared.limits.TheConstants.Limits.{NODE_LINES};
@@ -98,6 +99,7 @@ impl Net {
     pub fn build(alloc: Global, shape: &Shape) -> Result<Net, NetFault>
         requires { length shape.now.lines ≤ NODE_LINES }
         ensures ok { IfOk result (λ net. IsGraphOf shape.now net) }
+        ensures only { IfOk result (λ net. (other : GraphValue) → IsGraphOf shape.now other → other ≡ net) }
         ensures net { IfOk result (λ net. IsNet net) }
         ensures faultless { OnOk result ((place : PlaceValue) → IsFaulty shape.now place → ⊥) }
         ensures fault { IfErr result (λ fault. IsFaultOf shape.now fault) }

@@ -1,5 +1,6 @@
 ghost use Rattle.std.specs.Prelude.{◌≡◌, IfOk};
-ghost use Rattle.hmsc_graph.specs.Nets.{size_of, IsSpotBelow};
+ghost use Rattle.hmsc_graph.specs.Nets.{size_of};
+ghost use Rattle.hmsc_graph.specs.Spots.{IsSpotBelow};
 
 use crate::{
     Goal, Net, NetFault, NodeSet, Shape, ShapeLine, ShapeLines, Spot, endless, has_walk, reach,

@@ -1,6 +1,7 @@
 ghost use Rattle.std.specs.Prelude.{◌≡◌, ◌<◌, ◌↔◌, ℕ, IfOk, OnOk, IsTrue, true};
 ghost use Rattle.hmsc_graph.specs.Graphs.{IsIn, To, End, Walk, arrives};
-ghost use Rattle.hmsc_graph.specs.Nets.{size_of, spot_of, goal_of, IsSpotBelow, IsGoalBelow};
+ghost use Rattle.hmsc_graph.specs.Nets.{size_of};
+ghost use Rattle.hmsc_graph.specs.Spots.{spot_of, goal_of, IsSpotBelow, IsGoalBelow};
 ghost use Rattle.hmsc_graph.specs.Searches.{HasEntered};
 ghost use Rattle.hmsc_graph.specs.Walks.{Leads};
 

@@ -1,5 +1,5 @@
 use Rattle.std.proofs.Common.{◌↔◌, sym, subst, IsTrue}
-use Rattle.hmsc_graph.specs.Nets.{spot_of, goal_of}
+use Rattle.hmsc_graph.specs.Spots.{spot_of, goal_of}
 use Rattle.hmsc_graph.specs.Walks.{Leads}
 use Rattle.hmsc_graph.specs.declared.spot.Goal.{Goal}
 use Rattle.hmsc_graph.proofs.EndFacts.{leads_to_end}

@@ -1,6 +1,7 @@
 use Rattle.std.proofs.Common.{◌≡◌, ◌<◌, [], ◌∙◌, ℕ, List, arith, rules, subst, length}
 use Rattle.hmsc_graph.specs.Graphs.{IsIn, At, behind}
-use Rattle.hmsc_graph.specs.Nets.{size_of, spot_of}
+use Rattle.hmsc_graph.specs.Nets.{size_of}
+use Rattle.hmsc_graph.specs.Spots.{spot_of}
 use Rattle.hmsc_graph.specs.Searches.{HasEntered}
 use Rattle.hmsc_graph.proofs.SearchFacts.{behind_below, search_begun, search_on, search_ended, due_below}
 use Rattle.hmsc_graph.proofs.walks.reach.Goals as goal

@@ -1,5 +1,6 @@
 use Rattle.std.proofs.Common.{◌≡◌, ◌+◌, length}
-use Rattle.hmsc_graph.specs.Nets.{size_of, spot_of}
+use Rattle.hmsc_graph.specs.Nets.{size_of}
+use Rattle.hmsc_graph.specs.Spots.{spot_of}
 use Rattle.hmsc_graph.specs.Searches.{IsSearch, missing}
 use Rattle.hmsc_graph.proofs.walks.reach.Given as goal
 

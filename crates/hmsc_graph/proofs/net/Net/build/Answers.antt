@@ -3,7 +3,7 @@ use Rattle.hmsc_graph.specs.Graphs.{Net}
 use Rattle.hmsc_graph.specs.Labels.{with_line}
 use Rattle.hmsc_graph.specs.Shapes.{IsGraphOf, IsUnknown, named_by}
 use Rattle.hmsc_graph.proofs.LabelFacts.{labels_of}
-use Rattle.hmsc_graph.proofs.FaultFacts.{AreLabels, IsEarliest, are_labels, earliest_unknown, fault_is, no_fault, graph_is}
+use Rattle.hmsc_graph.proofs.FaultFacts.{AreLabels, IsEarliest, are_labels, earliest_unknown, fault_is, no_fault, graph_is, only_graph}
 use Rattle.hmsc_graph.proofs.net.Net.build.Goals as goal
 
 pub graph-requires-clause-table : goal.graph-requires-clause-table
@@ -40,3 +40,6 @@ returns-clause-faultless c =
     let first : IsEarliest (IsUnknown shape.lines (named_by shape)) c.graph.new.unknown =
     subst (IsEarliest (IsUnknown shape.lines (named_by shape))) (sym c.in_ok-net.ensures.unknown) (earliest_unknown shape.lines labels.table are.members are.listed (named_by shape)) in
     no_fault shape labels c.graph.new.unknown are first (sym c.earlier_fault.ensures ∙ c.in-None.is)
+
+pub returns-clause-only : goal.returns-clause-only
+returns-clause-only c = λ other is. only_graph c.args.shape.now other c.in_ok-net.net is (returns-clause-ok c)
