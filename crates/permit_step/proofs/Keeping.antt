@@ -85,6 +85,24 @@ pub each_app : (P : Tree → Type 0) (xs ys : List Tree) → Each P xs → Each 
 each_app P [] ys h i = i
 each_app P (x ∷ xs) ys h i = (h.0, each_app P xs ys h.1 i)
 
+-- a gap that is left leaves something of the operand
+module _ (k : NetPermits) where
+  pub alive_sub : (x : Tree) {ps qs : List Part} → IsSubRow qs ps → AliveGaps k x ps → AliveGaps k x qs
+  alive_sub x sub_end h = tt
+  alive_sub x (sub_gap s) h = (h.0, alive_sub x s h.1)
+  alive_sub x (sub_drop s) h = alive_sub x s h.1
+  alive_sub x (sub_turn s) h = alive_sub x s h
+  alive_sub x (sub_over s) h = alive_sub x s h
+
+  alive_gap : (x : Tree) (c : List ℕ) (r : Option Tree) (ps : List Part) → permit k (only c) x ≡ r → AliveGaps k x ps → AliveGaps k x (live_gap r c ps)
+  alive_gap x c None ps e h = h
+  alive_gap x c (Some y) ps e h = ((y, e), h)
+
+  pub alive_live : (x : Tree) (ps : List Part) → AliveGaps k x (live (λ c. permit k (only c) x) ps)
+  alive_live x [] = tt
+  alive_live x (Gap c ∷ ps) = alive_gap x c (permit k (only c) x) (live (λ c. permit k (only c) x) ps) refl (alive_live x ps)
+  alive_live x (Turn y ∷ ps) = alive_live x ps
+
 module _ (k : NetPermits) (P T : Tree → Type 0) (X : Tree → ℕ → Option ℕ → List Part → Type 0) (D : Tree → Tree → Type 0) (kind : Kind k P T X D) where
   open_keeps : (m : Mode) (x : Tree) → P x → Each P (open_part m x)
   open_keeps m Nil h = tt
@@ -160,22 +178,6 @@ module _ (k : NetPermits) (P T : Tree → Type 0) (X : Tree → ℕ → Option �
   form_keeps false x zero hi ps g a h d = join_keeps row (begun ps) (begun_keeps ps d)
   form_keeps false x (suc lo) hi ps g a h d = tt
 
-  alive_sub : (x : Tree) {ps qs : List Part} → IsSubRow qs ps → AliveGaps k x ps → AliveGaps k x qs
-  alive_sub x sub_end h = tt
-  alive_sub x (sub_gap s) h = (h.0, alive_sub x s h.1)
-  alive_sub x (sub_drop s) h = alive_sub x s h.1
-  alive_sub x (sub_turn s) h = alive_sub x s h
-  alive_sub x (sub_over s) h = alive_sub x s h
-
-  alive_gap : (x : Tree) (c : List ℕ) (r : Option Tree) (ps : List Part) → permit k (only c) x ≡ r → AliveGaps k x ps → AliveGaps k x (live_gap r c ps)
-  alive_gap x c None ps e h = h
-  alive_gap x c (Some y) ps e h = ((y, e), h)
-
-  alive_live : (x : Tree) (ps : List Part) → AliveGaps k x (live (λ c. permit k (only c) x) ps)
-  alive_live x [] = tt
-  alive_live x (Gap c ∷ ps) = alive_gap x c (permit k (only c) x) (live (λ c. permit k (only c) x) ps) refl (alive_live x ps)
-  alive_live x (Turn y ∷ ps) = alive_live x ps
-
   pub turns_keep : (x : Tree) (lo : ℕ) (hi : Option ℕ) (ps : List Part) → X x lo hi ps → EachTurn T ps → MayHave P (turns_of (λ c. permit k (only c) x) (touch k.spread x) x lo hi ps)
   turns_keep x lo hi ps h d =
       let p : List ℕ → Option Tree = λ c. permit k (only c) x in
@@ -197,7 +199,7 @@ module _ (k : NetPermits) (P T : Tree → Type 0) (X : Tree → ℕ → Option �
       let d3 = each_turn_sub T (sub_live p a2) d2 in
       let d4 = each_turn_sub T (sub_free p a3) d3 in
       let d5 = each_turn_sub T (sub_thin a4) d4 in
-      form_keeps (has_gap a5) x (lower_of (has_free p a3) lo) hi a5 refl (alive_sub x (sub_thin a4) (alive_sub x (sub_free p a3) (alive_live x a2))) (kind.low x lo hi a5 (has_free p a3) h5) d5
+      form_keeps (has_gap a5) x (lower_of (has_free p a3) lo) hi a5 refl (alive_sub k x (sub_thin a4) (alive_sub k x (sub_free p a3) (alive_live k x a2))) (kind.low x lo hi a5 (has_free p a3) h5) d5
 
   walk_keeps : (a b : Bool) (n : ℕ) (f : Spot) (t : Goal) (c : List ℕ) → (a ≡ true → P (Trail n f t c)) → MayHave P (walk_form a b (Trail n f t c))
   walk_keeps false b n f t c h = tt

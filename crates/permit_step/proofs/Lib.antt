@@ -24,3 +24,10 @@ pub mod Witness
 pub mod SetExact
 pub mod ConstructorForms
 pub mod Later
+pub mod Steady
+pub mod Apart
+pub mod Single
+pub mod OneWay
+pub mod OneWeight
+pub mod OneResidual
+pub mod OneWitness

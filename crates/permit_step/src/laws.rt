@@ -3,6 +3,7 @@
 ghost use Rattle.permit_step.specs.ConstructorLaws.{PermitOnlyFalls, PermitOfNothing, NormalFormsKeepPatterns, ConstructorsKeepForm};
 ghost use Rattle.permit_step.specs.LaterTables.{LaterTablesAgree};
 ghost use Rattle.permit_step.specs.Listing.{ListIsExact, ResidualSetIsExact};
+ghost use Rattle.permit_step.specs.OneResidual.{OneResidual};
 ghost use Rattle.permit_step.specs.Laws.{PermitIsExact, PermitFailsExactly, AfterIsExact, MayEndIsExact, RunsAreLinearOrders, SoundnessIsKept, NormalFormIsKept, SoundHasPattern, ResidualsAreExact};
 
 /// What permission leaves of a term are exactly its patterns that avoid the block.
@@ -100,4 +101,11 @@ pub fn constructors_keep_form()
 #[tactic(auto, using(crate::proofs::Later::later_tables_agree))]
 pub fn later_tables_agree()
     ensures { LaterTablesAgree }
+{}
+
+/// At most one term is left, after every list of labels, of a term whose labels all differ, which has no graph, and no loop of
+/// which holds a choice or a loop; after k events it weighs at most 2·(k+1) times what the term weighs.
+#[tactic(auto, using(crate::proofs::OneResidual::one_residual))]
+pub fn one_residual()
+    ensures { OneResidual }
 {}
