@@ -27,6 +27,15 @@ Leading k n f Any c = Unit {0}
 Leading k n f End c = reach (k.net n) (allowed k n c) f End ≡ true
 Leading k n f (To m) c = reach (k.net n) (allowed k n c) f (To m) ≡ true
 
+-- a walk that is left begins where it began or at a node, and goes where it went or to a node; the node's term isn't held back
+pub data Begins (k : NetPermits) (n : ℕ) : Spot → Spot → Type 0 where
+  as_before : {f : Spot} → Begins k n f f
+  at_node : {f : Spot} (m : ℕ) (d : List ℕ) (x : Tree) → k.kept n m d ≡ Some x → Begins k n f (At m)
+
+pub data Aims (k : NetPermits) (n : ℕ) : Goal → Goal → Type 0 where
+  as_before : {t : Goal} → Aims k n t t
+  to_node : {t : Goal} (m : ℕ) (d : List ℕ) (x : Tree) → k.kept n m d ≡ Some x → Aims k n t (To m)
+
 -- a property of terms: T is what it asks of begun turns, X of a loop, D of what replaces a bound term
 pub record Kind (k : NetPermits) (P T : Tree → Type 0) (X : Tree → ℕ → Option ℕ → List Part → Type 0) (D : Tree → Tree → Type 0) : Type 0 where
   pub nil : P Nil
@@ -48,7 +57,7 @@ pub record Kind (k : NetPermits) (P T : Tree → Type 0) (X : Tree → ℕ → O
   pub low : (x : Tree) (lo : ℕ) (hi : Option ℕ) (ps : List Part) (b : Bool) → X x lo hi ps → X x (lower_of b lo) hi ps
   pub wide : (b : Block) (x : Tree) (lo : ℕ) (hi : Option ℕ) (r : Row) (qs : List Part) → permit_row k b r ≡ Some qs → X x lo hi (parts r) → X x lo hi qs
   pub after_row : (x : Tree) (lo : ℕ) (hi : Option ℕ) (r : Row) (qs : List Part) (b : Bool) (e : TermEvent) → IsAfterRow k x b (parts r) e qs → HasMore b hi → X x lo hi (parts r) → X x (down b lo) (fewer b hi) qs
-  pub trail_in : (n : ℕ) (f g : Spot) (t u : Goal) (c d : List ℕ) → P (Trail n f t c) → Leading k n g u d → P (Trail n g u d)
+  pub trail_in : (n : ℕ) (f g : Spot) (t u : Goal) (c d : List ℕ) → P (Trail n f t c) → Begins k n f g → Aims k n t u → Leading k n g u d → P (Trail n g u d)
   pub permitted : (b : Block) (x z : Tree) → permit k b x ≡ Some z → D x z
   pub taken : (x y z : Tree) (b : Block) (e : TermEvent) → IsAfter k x e y → permit k b y ≡ Some z → D x z
 
@@ -206,13 +215,13 @@ module _ (k : NetPermits) (P T : Tree → Type 0) (X : Tree → ℕ → Option �
   walk_keeps true true n f t c h = kind.nil
   walk_keeps true false n f t c h = h refl
 
-  trail_cut_keeps : (n : ℕ) (f g : Spot) (t u : Goal) (c d : List ℕ) → P (Trail n f t c) → MayHave P (trail_cut k n g u d)
-  trail_cut_keeps n f g t Any c d h = kind.trail_in n f g t Any c d h tt
-  trail_cut_keeps n f g t (To m) c d h = walk_keeps (reach (k.net n) (allowed k n d) g (To m)) (are_nil k n g (To m) d (allowed k n d)) n g (To m) d (λ e. kind.trail_in n f g t (To m) c d h e)
-  trail_cut_keeps n f g t End c d h = walk_keeps (reach (k.net n) (allowed k n d) g End) (are_nil k n g End d (allowed k n d)) n g End d (λ e. kind.trail_in n f g t End c d h e)
+  trail_cut_keeps : (n : ℕ) (f g : Spot) (t u : Goal) (c d : List ℕ) → P (Trail n f t c) → Begins k n f g → Aims k n t u → MayHave P (trail_cut k n g u d)
+  trail_cut_keeps n f g t Any c d h s a = kind.trail_in n f g t Any c d h s a tt
+  trail_cut_keeps n f g t (To m) c d h s a = walk_keeps (reach (k.net n) (allowed k n d) g (To m)) (are_nil k n g (To m) d (allowed k n d)) n g (To m) d (λ e. kind.trail_in n f g t (To m) c d h s a e)
+  trail_cut_keeps n f g t End c d h s a = walk_keeps (reach (k.net n) (allowed k n d) g End) (are_nil k n g End d (allowed k n d)) n g End d (λ e. kind.trail_in n f g t End c d h s a e)
 
-  trail_keeps : (n : ℕ) (f g : Spot) (t u : Goal) (c d : List ℕ) → P (Trail n f t c) → MayHave P (trail_of k n g u d)
-  trail_keeps n f g t u c d h = trail_cut_keeps n f g t u c (cut (k.spread n) d) h
+  trail_keeps : (n : ℕ) (f g : Spot) (t u : Goal) (c d : List ℕ) → P (Trail n f t c) → Begins k n f g → Aims k n t u → MayHave P (trail_of k n g u d)
+  trail_keeps n f g t u c d h s a = trail_cut_keeps n f g t u c (cut (k.spread n) d) h s a
 
   abbrev EachOpt : Option (List Tree) → Type 0
   EachOpt None = Unit {0}
@@ -264,7 +273,7 @@ module _ (k : NetPermits) (P T : Tree → Type 0) (X : Tree → ℕ → Option �
     permit_keeps b (Choice xs) h = choice_keeps (permit_some k b xs) (some_keep b xs (kind.choice_out xs h))
     permit_keeps b (Bound x q) h = bound_keeps x q b (permit k b x) refl h (permit_keeps b x (kind.bound_out x q h))
     permit_keeps b (Turns x lo hi r) h = let i = kind.turns_out x lo hi r h in in_keeps b x lo hi r (permit_row k b r) refl i.0 (turn_keep b r i.1)
-    permit_keeps b (Trail n f t c) h = trail_keeps n f f t t c (c ∪ b.instances) h
+    permit_keeps b (Trail n f t c) h = trail_keeps n f f t t c (c ∪ b.instances) h as_before as_before
 
     all_keep : (b : Block) (xs : Trees) → Each P (items xs) → EachOpt (permit_all k b xs)
     all_keep b none h = tt
@@ -303,7 +312,7 @@ module _ (k : NetPermits) (P T : Tree → Type 0) (X : Tree → ℕ → Option �
           at_some _ z p (turns_keep x (down b lo) (fewer b hi) ps (kind.after_row x lo hi r ps b e a hm i.0) (row_keeps a lo hi (parts r) i.0 i.1))
       after_keeps (after_trail {n = n} {s = f} {t = t} {c = c} {e = e} m {x = x} {y = y} {u = u} {v = v} p a l1 l2 q r) h =
           join_keeps row (u ∷ y ∷ v ∷ [])
-          (at_some _ u q (trail_keeps n f f t (To m) c (c ∪ (instances_of e).instances) h), (after_keeps a (kept n m f t c c x h p), (at_some _ v r (trail_keeps n f (At m) t t c c h), tt)))
+          (at_some _ u q (trail_keeps n f f t (To m) c (c ∪ (instances_of e).instances) h as_before (to_node m c x p)), (after_keeps a (kept n m f t c c x h p), (at_some _ v r (trail_keeps n f (At m) t t c c h (at_node m c x p) as_before), tt)))
 
       one_keeps : {xs : Trees} {y : Tree} {e : TermEvent} → IsAfterOne k xs e y → Each P (items xs) → P y
       one_keeps (first_one a) h = after_keeps a h.0

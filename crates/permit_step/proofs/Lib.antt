@@ -31,3 +31,10 @@ pub mod OneWay
 pub mod OneWeight
 pub mod OneResidual
 pub mod OneWitness
+pub mod EveryPart
+pub mod OpenWalks
+pub mod Once
+pub mod Times
+pub mod FullSound
+pub mod Fresh
+pub mod FullWitness

@@ -286,7 +286,7 @@ module _ (k : NetPermits) (node : ℕ → ℕ → Tree) (o : Bool) (NL : ℕ →
       low = λ x lo hi ps b h. h;
       wide = λ b x lo hi r qs e h. h;
       after_row = λ x lo hi r qs b e a hm h. h;
-      trail_in = λ n f g t u c d h l. h;
+      trail_in = λ n f g t u c d h s a l. h;
       permitted = λ b x z e. tt;
       taken = λ x y z b e a p. tt;
     }
@@ -299,7 +299,7 @@ module _ (k : NetPermits) (node : ℕ → ℕ → Tree) (o : Bool) (NL : ℕ →
 
     -- a number that a term lacks is in no event of its patterns
     mutual
-      lacks_none : {x : Tree} {s : Shape} (j : ℕ) → HasPattern w o x s → Lacks NL j x → NoNumber j s
+      pub lacks_none : {x : Tree} {s : Shape} (j : ℕ) → HasPattern w o x s → Lacks NL j x → NoNumber j s
       lacks_none j has_nil h = tt
       lacks_none j has_event h = h
       lacks_none j (has_join {xs = xs} a) h = lacks_parts j a (every_out (λ e. e.number ≢ j) (NL j) xs h)
@@ -475,7 +475,7 @@ module _ (k : NetPermits) (node : ℕ → ℕ → Tree) (o : Bool) (NL : ℕ →
       low = λ x lo hi ps b h. (h.0, up_low b lo hi h.1, h.2);
       wide = λ b x lo hi r qs e h. (h.0, h.1, never_some (permit_row k b r) qs e (never_wide k b r h.2));
       after_row = λ x lo hi r qs b e a hm h. (h.0, up_down b lo hi hm h.1, never_after a h.2);
-      trail_in = λ n f g t u c d h l. h;
+      trail_in = λ n f g t u c d h s a l. h;
       permitted = λ b x z e j h. at_some (IsOutside NL j) (permit k b x) z e (permit_out j b x h);
       taken = λ x y z b e a p j h. at_some (IsOutside NL j) (permit k b y) z p (permit_out j b y (after_out j a h));
     }

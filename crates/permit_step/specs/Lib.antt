@@ -9,3 +9,4 @@ pub mod ConstructorLaws
 pub mod Listing
 pub mod LaterTables
 pub mod OneResidual
+pub mod FullSoundness

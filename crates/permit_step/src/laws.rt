@@ -3,6 +3,7 @@
 ghost use Rattle.permit_step.specs.ConstructorLaws.{PermitOnlyFalls, PermitOfNothing, NormalFormsKeepPatterns, ConstructorsKeepForm};
 ghost use Rattle.permit_step.specs.LaterTables.{LaterTablesAgree};
 ghost use Rattle.permit_step.specs.Listing.{ListIsExact, ResidualSetIsExact};
+ghost use Rattle.permit_step.specs.FullSoundness.{FullSoundnessIsKept, FreshTermsAreSound};
 ghost use Rattle.permit_step.specs.OneResidual.{OneResidual};
 ghost use Rattle.permit_step.specs.Laws.{PermitIsExact, PermitFailsExactly, AfterIsExact, MayEndIsExact, RunsAreLinearOrders, SoundnessIsKept, NormalFormIsKept, SoundHasPattern, ResidualsAreExact};
 
@@ -108,4 +109,18 @@ pub fn later_tables_agree()
 #[tactic(auto, using(crate::proofs::OneResidual::one_residual))]
 pub fn one_residual()
     ensures { OneResidual }
+{}
+
+/// What the laws ask of a term holds of one that is sound in full, and permission by a block that fits, and taking, keep terms
+/// sound in full.
+#[tactic(auto, using(crate::proofs::FullSound::full_soundness_is_kept))]
+pub fn full_soundness_is_kept()
+    ensures { FullSoundnessIsKept }
+{}
+
+/// A loop that no turn has begun, of an operand that is sound in full and holds no walk to any node, is sound in full where its
+/// lower count is at most the upper; so is a walk from the start.
+#[tactic(auto, using(crate::proofs::Fresh::fresh_terms_are_sound))]
+pub fn fresh_terms_are_sound()
+    ensures { FreshTermsAreSound }
 {}
