@@ -1,7 +1,8 @@
 -- Permission and taking keep what is asked of each event, tie, loop operand and walk of a term.
 use Rattle.std.specs.Prelude.{ℕ, ◌<◌, ◌==◌, Bool, true, false, List, [], ◌∷◌, ◌≡◌, Option, Some}
+use Rattle.msc_base.specs.Patterns.{Mode}
 use Rattle.hmsc_graph.specs.Graphs.{Spot, Goal}
-use Rattle.chart_term.specs.NormalForms.{NetPermits, only, kept_pairs, numbers, turns_of}
+use Rattle.chart_term.specs.NormalForms.{NetPermits, only, join_all, choice_of, bound_of, kept_pairs, numbers, turns_of}
 use Rattle.chart_term.specs.Properties.{Each, EachTurn, EveryOf, EveryRow, IsBelow, MayHave}
 use Rattle.chart_term.specs.Tables.{NetEntry, Tables, net_count, choose}
 use Rattle.chart_term.specs.Terms.{TermEvent, Block, Tree, Nil, Event, Join, Choice, Bound, Turns, Trail, Trees, none, more, Row, ends, gap, turn, items, trees, Part, Gap, Turn, parts, row_of}
@@ -9,7 +10,7 @@ use Rattle.permit_step.specs.FullSoundness.{EveryPart, EveryPartOf, EveryRowPart
 use Rattle.permit_step.specs.Permission.{permit, permit_nth, touch, permits_of}
 use Rattle.permit_step.specs.Soundness.{AreTidyTables}
 use Rattle.permit_step.specs.Taking.{IsAfter}
-use Rattle.permit_step.proofs.Keeping.{Kind, Begins, Aims, permit_keeps, after_keeps, turns_keep}
+use Rattle.permit_step.proofs.Keeping.{Kind, Begins, Aims, join_keeps, choice_keeps, tied_keeps, turns_keep, permit_keeps, after_keeps}
 use Rattle.permit_step.proofs.TermSentences.{kept_below, low_nth}
 use Rattle.permit_step.proofs.TidyTables.{nth_has, at_some}
 
@@ -68,6 +69,21 @@ module _ (E : TermEvent → Type 0) (B : Tree → List (ℕ × ℕ) → Type 0) 
 
     pub permit_part : (b : Block) (x : Tree) → EP x → MayHave EP (permit k b x)
     permit_part = permit_keeps k EP EP (λ x lo hi ps. EP x × L x) (λ x z. (q : List (ℕ × ℕ)) → B x q → B z q) part_kind
+
+    abbrev Operand : Tree → ℕ → Option ℕ → List Part → Type 0
+    Operand x lo hi ps = EP x × L x
+
+    abbrev Keeps : Tree → Tree → Type 0
+    Keeps x z = (q : List (ℕ × ℕ)) → B x q → B z q
+
+    pub join_part : (m : Mode) (xs : List Tree) → Each EP xs → EP (join_all m xs)
+    join_part = join_keeps k EP EP Operand Keeps part_kind
+
+    pub choice_part : (xs : List Tree) → Each EP xs → MayHave EP (choice_of xs)
+    choice_part = choice_keeps k EP EP Operand Keeps part_kind
+
+    pub bound_part : (x : Tree) (q : List (ℕ × ℕ)) → EP (Bound x q) → EP (bound_of x q)
+    bound_part = tied_keeps k EP EP Operand Keeps part_kind
 
     pub fresh_part : (x : Tree) (lo : ℕ) (hi : Option ℕ) (ps : List Part) → EP x → L x → EachTurn EP ps → MayHave EP (turns_of (λ c. permit k (only c) x) (touch k.spread x) x lo hi ps)
     fresh_part x lo hi ps h l d = turns_keep k EP EP (λ x lo hi ps. EP x × L x) (λ x z. (q : List (ℕ × ℕ)) → B x q → B z q) part_kind x lo hi ps (h, l) d

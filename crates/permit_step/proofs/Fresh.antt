@@ -1,15 +1,15 @@
 -- Loops that no turn has begun, and walks from the start, are sound.
 use Rattle.std.specs.Prelude.{ℕ, zero, suc, ◌<◌, ◌==◌, Bool, true, false, List, [], ◌∷◌, ◌++◌, Option, Some, None}
 use Rattle.std.proofs.Common.{arith}
-use Rattle.msc_base.specs.Patterns.{row, empty, one, join, bind}
+use Rattle.msc_base.specs.Patterns.{Mode, row, aside, empty, one, join, bind}
 use Rattle.hmsc_graph.specs.Graphs.{Spot, Start, Goal, To, End, Any, reach}
 use Rattle.chart_term.specs.NormalForms.{cut, trail_cut, walk_form, allowed, are_nil}
 use Rattle.chart_term.specs.Properties.{IsBelow, MayHave}
 use Rattle.chart_term.specs.Tables.{Tables, net_count, nth_tree, node_of, terms_over}
 use Rattle.chart_term.specs.TermMeanings.{HasPattern, has_nil, has_turns, has_trail, HasRow, gaps_end, gaps_shut, gaps_more, HasWalk, walk_stop, walk_last, walk_step, PatternsOf, UpTo, ◌⊑◌}
-use Rattle.chart_term.specs.TermPatterns.{Shape, Avoids, instances_of, HasNoEvent, take_first, take_later, back}
+use Rattle.chart_term.specs.TermPatterns.{Shape, Avoids, Lets, instances_of, HasNoEvent, take_first, take_later, back}
 use Rattle.chart_term.specs.TermRuns.{Runs, run_end, run_take}
-use Rattle.chart_term.specs.Terms.{Block, Tree, Nil, Turns, Trail, Gap, gap, ends}
+use Rattle.chart_term.specs.Terms.{TermEvent, Block, Tree, Nil, Turns, Trail, Gap, gap, ends}
 use Rattle.chart_term.proofs.Arranging.{runs_linear, linear_run}
 use Rattle.chart_term.proofs.Running.{runs_same}
 use Rattle.permit_step.specs.ConstructorLaws.{IsFormed}
@@ -25,7 +25,7 @@ use Rattle.permit_step.proofs.OpenWalks.{walk_left, closed_last}
 use Rattle.permit_step.proofs.TidyTables.{each_map, each_nth, picked, less_or_same, node_below}
 use Rattle.permit_step.proofs.Times.{TiesOnce, ties_to, ties_from}
 
--- Runs of patterns in a row: a run of the first, and then one of the second
+-- Runs of joined patterns: a run of the first, and then one of the second
 
 avoids_any : (b : Block) (s : Shape) → HasNoEvent s → Avoids b s
 avoids_any b empty h = tt
@@ -33,27 +33,31 @@ avoids_any b (one e) h = absurd h
 avoids_any b (join m x y) h = (avoids_any b x h.0, avoids_any b y h.1)
 avoids_any b (bind x q) h = avoids_any b x h
 
-later_runs : {s t : Shape} {l : List ℕ} → HasNoEvent s → Runs t l → Runs (join row s t) l
-later_runs h (run_end i) = run_end (h, i)
-later_runs {s = s} h (run_take {e = e} a r) = run_take (take_later (avoids_any (instances_of e) s h) a) (later_runs h r)
+lets_any : (m : Mode) (e : TermEvent) (s : Shape) → HasNoEvent s → Lets m e s
+lets_any row e s h = avoids_any (instances_of e) s h
+lets_any aside e s h = tt
 
-row_runs : {s t : Shape} {l k : List ℕ} → Runs s l → Runs t k → Runs (join row s t) (l ++ k)
-row_runs (run_end h) r = later_runs h r
-row_runs (run_take a q) r = run_take (take_first a) (row_runs q r)
+later_runs : (m : Mode) {s t : Shape} {l : List ℕ} → HasNoEvent s → Runs t l → Runs (join m s t) l
+later_runs m h (run_end i) = run_end (h, i)
+later_runs m {s = s} h (run_take {e = e} a r) = run_take (take_later (lets_any m e s h) a) (later_runs m h r)
 
-run_of : (s : Shape) → HasOrder s → (l : List ℕ) × Runs s l
+pub join_runs : (m : Mode) {s t : Shape} {l k : List ℕ} → Runs s l → Runs t k → Runs (join m s t) (l ++ k)
+join_runs m (run_end h) r = later_runs m h r
+join_runs m (run_take a q) r = run_take (take_first a) (join_runs m q r)
+
+pub run_of : (s : Shape) → HasOrder s → (l : List ℕ) × Runs s l
 run_of s h = (h.run, linear_run s h.run h.is)
 
 pub order_of : (s : Shape) (l : List ℕ) → Runs s l → HasOrder s
 order_of s l h = record { run = l; is = runs_linear h }
 
 -- a normal form has the orders of the term
-orders_of : (w : Tables) (r : Option Tree) (p : Shape → Type 0) → PatternsOf (terms_over w) true r ⊑ p → ((s : Shape) → p s → (l : List ℕ) × Runs s l) → MayHave (HasOrders w) r
+pub orders_of : (w : Tables) (r : Option Tree) (p : Shape → Type 0) → PatternsOf (terms_over w) true r ⊑ p → ((s : Shape) → p s → (l : List ℕ) × Runs s l) → MayHave (HasOrders w) r
 orders_of w None p f g = tt
 orders_of w (Some y) p f g = λ s a. let i = f s a in let r = g i.0 i.1 in order_of s r.0 (runs_same r.1 (back i.2))
 
 -- the parts of soundness of what a constructor made
-sound_of : (labels : ℕ) (w : Tables) (r : Option Tree) → AreSoundNets labels w → MayHave (IsFormed w) r → MayHave (AreNumbersKnown labels w) r → MayHave (TiesOnce (NetLacks w)) r → MayHave IsOpenWalkLast r → MayHave (HasOrders w) r → MayHave (HaveOperandsOrders w) r → MayHave (IsFullySound labels w) r
+pub sound_of : (labels : ℕ) (w : Tables) (r : Option Tree) → AreSoundNets labels w → MayHave (IsFormed w) r → MayHave (AreNumbersKnown labels w) r → MayHave (TiesOnce (NetLacks w)) r → MayHave IsOpenWalkLast r → MayHave (HasOrders w) r → MayHave (HaveOperandsOrders w) r → MayHave (IsFullySound labels w) r
 sound_of labels w None h f a b c d e = tt
 sound_of labels w (Some y) h f a b c d e = record {
   nets = h;
@@ -69,7 +73,7 @@ module _ (labels : ℕ) (w : Tables) (x : Tree) (lo : ℕ) (hi : Option ℕ) (h 
   turn_runs : (n : ℕ) (s : Shape) → HasRow (terms_over w) true x (Gap [] ∷ []) n s → (l : List ℕ) × Runs s l
   turn_runs zero s (gaps_shut gaps_end) = ([], run_end tt)
   turn_runs (suc n) s (gaps_shut a) = elim a [ ]
-  turn_runs (suc n) s (gaps_more {s = t} {u = v} a av b) = let i = run_of t (h.term.ordered t a) in let j = turn_runs n v b in (i.0 ++ j.0, row_runs i.1 j.1)
+  turn_runs (suc n) s (gaps_more {s = t} {u = v} a av b) = let i = run_of t (h.term.ordered t a) in let j = turn_runs n v b in (i.0 ++ j.0, join_runs row i.1 j.1)
 
   loop_runs : (s : Shape) → HasPattern (terms_over w) true (Turns x lo hi (gap [] ends)) s → (l : List ℕ) × Runs s l
   loop_runs s (has_turns n a l v) = turn_runs n s a
@@ -112,7 +116,7 @@ module _ (labels : ℕ) (w : Tables) (n : ℕ) (h : AreSoundNets labels w) (l : 
   walk_runs : {f : Spot} {t : Goal} {c : List ℕ} {s : Shape} → HasWalk (terms_over w) true n f t c s → (k : List ℕ) × Runs s k
   walk_runs (walk_stop a) = ([], run_end tt)
   walk_runs (walk_last m i a) = ([], run_end tt)
-  walk_runs (walk_step m {s = s} i a av b) = let p = run_of s (node_orders labels w h n l m s a) in let q = walk_runs b in (p.0 ++ q.0, row_runs p.1 q.1)
+  walk_runs (walk_step m {s = s} i a av b) = let p = run_of s (node_orders labels w h n l m s a) in let q = walk_runs b in (p.0 ++ q.0, join_runs row p.1 q.1)
 
   trail_runs : (t : Goal) (s : Shape) → HasPattern (terms_over w) true (Trail n Start t []) s → (k : List ℕ) × Runs s k
   trail_runs t s (has_trail a) = walk_runs a
@@ -128,7 +132,7 @@ module _ (labels : ℕ) (w : Tables) (n : ℕ) (h : AreSoundNets labels w) (l : 
   cut_has P f (To m) c i j = form_has P (reach ((permits_of w).net n) (allowed (permits_of w) n c) f (To m)) (are_nil (permits_of w) n f (To m) c (allowed (permits_of w) n c)) (Trail n f (To m) c) i j
   cut_has P f End c i j = form_has P (reach ((permits_of w).net n) (allowed (permits_of w) n c) f End) (are_nil (permits_of w) n f End c (allowed (permits_of w) n c)) (Trail n f End c) i j
 
-  walk_has : (P : Tree → Type 0) (t : Goal) → P Nil → ((c : List ℕ) → P (Trail n Start t c)) → MayHave P (fresh_walk w n t)
+  pub walk_has : (P : Tree → Type 0) (t : Goal) → P Nil → ((c : List ℕ) → P (Trail n Start t c)) → MayHave P (fresh_walk w n t)
   walk_has P t i j = cut_has P Start t (cut ((permits_of w).spread n) []) i (j (cut ((permits_of w).spread n) []))
 
   walk_sound : (t : Goal) → IsGoalOf w n t → MayHave (IsFullySound labels w) (fresh_walk w n t)

@@ -38,3 +38,4 @@ pub mod Times
 pub mod FullSound
 pub mod Fresh
 pub mod FullWitness
+pub mod SoundForms

@@ -242,7 +242,7 @@ module _ (k : NetPermits) (node : ℕ → ℕ → Tree) (o : Bool) (NL : ℕ →
     lacks_bare_row j (turn x r) h = (lacks_bare j x h.0, lacks_bare_row j r h.1)
 
   mutual
-    outside_bare : (j : ℕ) (x : Tree) → IsOutside NL j x → Every (λ e. Unit {0}) (NL j) x
+    pub outside_bare : (j : ℕ) (x : Tree) → IsOutside NL j x → Every (λ e. Unit {0}) (NL j) x
     outside_bare j Nil h = tt
     outside_bare j (Event e) h = tt
     outside_bare j (Join m xs) h = outside_bare_all j xs h

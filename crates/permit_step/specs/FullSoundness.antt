@@ -1,9 +1,9 @@
 -- Soundness in full: what holds of the terms of accepted charts, and of all that permission and taking leave of them.
 use Rattle.std.specs.Prelude.{ℕ, ◌+◌, ◌<◌, ◌≤◌, ◌==◌, true, false, List, [], ◌∷◌, ◌≡◌, Option, Some, cond}
 use Rattle.std.proofs.Common.{get_or}
-use Rattle.msc_base.specs.Patterns.{row, aside, empty, one, join, bind}
+use Rattle.msc_base.specs.Patterns.{Mode, row, aside, empty, one, join, bind}
 use Rattle.hmsc_graph.specs.Graphs.{Spot, Start, At, Goal, To, End, Any, IsIn}
-use Rattle.chart_term.specs.NormalForms.{only, turns_of, trail_of}
+use Rattle.chart_term.specs.NormalForms.{only, join_all, choice_of, bound_of, turns_of, trail_of}
 use Rattle.chart_term.specs.Properties.{Each, IsBelow, MayHave}
 use Rattle.chart_term.specs.Tables.{NetEntry, Tables, net_count, nodes_of, nth_tree, terms_over}
 use Rattle.chart_term.specs.TermMeanings.{HasPattern, UpTo}
@@ -156,3 +156,14 @@ fresh_walk w n t = trail_of (permits_of w) n Start t []
 pub record FreshTermsAreSound : Type 0 where
   pub loop : (labels : ℕ) (w : Tables) (x : Tree) (lo : ℕ) (hi : Option ℕ) → IsFullySound labels w x → HasNoOpenWalk x → UpTo hi lo → MayHave (IsFullySound labels w) (fresh_loop w x lo hi)
   pub walk : (labels : ℕ) (w : Tables) (n : ℕ) (t : Goal) → AreSoundNets labels w → IsKnown w n → IsGoalOf w n t → MayHave (IsFullySound labels w) (fresh_walk w n t)
+
+-- the normalising constructors make such terms of such terms, as node terms and the terms of basic charts are: sound in full, without
+-- a walk to any node. A tie needs what is asked of ties, and that its patterns have linear orders
+pub record ConstructorsKeepSoundness : Type 0 where
+  pub event : (labels : ℕ) (w : Tables) (e : TermEvent) → e.label < labels → IsSoundNode labels w (Event e)
+  pub join : (labels : ℕ) (w : Tables) (m : Mode) (xs : List Tree) → AreSoundNets labels w → Each (IsSoundNode labels w) xs → IsSoundNode labels w (join_all m xs)
+  pub choice : (labels : ℕ) (w : Tables) (xs : List Tree) → AreSoundNets labels w → Each (IsSoundNode labels w) xs → MayHave (IsSoundNode labels w) (choice_of xs)
+  pub bound : (labels : ℕ) (w : Tables) (x : Tree) (q : List (ℕ × ℕ)) → AreSoundNets labels w → IsSoundNode labels w x → IsTidyOver w (Bound x q) → AreTiesOnce w (Bound x q) → HasOrders w (Bound x q)
+      → IsSoundNode labels w (bound_of x q)
+  pub loop : (labels : ℕ) (w : Tables) (x : Tree) (lo : ℕ) (hi : Option ℕ) → AreSoundNets labels w → IsSoundNode labels w x → UpTo hi lo → MayHave (IsSoundNode labels w) (fresh_loop w x lo hi)
+  pub walk : (labels : ℕ) (w : Tables) (n : ℕ) (t : Goal) → AreSoundNets labels w → IsKnown w n → IsGoalOf w n t → IsNotAny t → MayHave (IsSoundNode labels w) (fresh_walk w n t)

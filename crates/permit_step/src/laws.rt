@@ -3,7 +3,7 @@
 ghost use Rattle.permit_step.specs.ConstructorLaws.{PermitOnlyFalls, PermitOfNothing, NormalFormsKeepPatterns, ConstructorsKeepForm};
 ghost use Rattle.permit_step.specs.LaterTables.{LaterTablesAgree};
 ghost use Rattle.permit_step.specs.Listing.{ListIsExact, ResidualSetIsExact};
-ghost use Rattle.permit_step.specs.FullSoundness.{FullSoundnessIsKept, FreshTermsAreSound};
+ghost use Rattle.permit_step.specs.FullSoundness.{FullSoundnessIsKept, FreshTermsAreSound, ConstructorsKeepSoundness};
 ghost use Rattle.permit_step.specs.OneResidual.{OneResidual};
 ghost use Rattle.permit_step.specs.Laws.{PermitIsExact, PermitFailsExactly, AfterIsExact, MayEndIsExact, RunsAreLinearOrders, SoundnessIsKept, NormalFormIsKept, SoundHasPattern, ResidualsAreExact};
 
@@ -123,4 +123,10 @@ pub fn full_soundness_is_kept()
 #[tactic(auto, using(crate::proofs::Fresh::fresh_terms_are_sound))]
 pub fn fresh_terms_are_sound()
     ensures { FreshTermsAreSound }
+{}
+
+/// The normalising constructors make terms that are sound in full, and hold no walk to any node, of such terms.
+#[tactic(auto, using(crate::proofs::SoundForms::constructors_keep_soundness))]
+pub fn constructors_keep_soundness()
+    ensures { ConstructorsKeepSoundness }
 {}
