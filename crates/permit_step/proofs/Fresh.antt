@@ -20,8 +20,9 @@ use Rattle.permit_step.specs.Soundness.{AreTidyTables, NetLacks, IsKnown}
 use Rattle.permit_step.proofs.ConstructorForms.{constructors_keep_form}
 use Rattle.permit_step.proofs.ConstructorProofs.{normal_forms_keep_patterns}
 use Rattle.permit_step.proofs.EveryPart.{fresh_part}
-use Rattle.permit_step.proofs.FullSound.{tidy_tables, normal_tables, walk_known, known_left, orders_up, OnceTie, tie_fewer, tie_permit, tie_taken}
+use Rattle.permit_step.proofs.FullSound.{tidy_of, tidy_tables, normal_tables, walk_known, known_left, orders_up, OnceTie, tie_fewer, tie_permit, tie_taken}
 use Rattle.permit_step.proofs.OpenWalks.{walk_left, closed_last}
+use Rattle.permit_step.proofs.SoundParts.{sound_even, outside_of, falling_of, counts_of}
 use Rattle.permit_step.proofs.TidyTables.{each_map, each_nth, picked, less_or_same, node_below}
 use Rattle.permit_step.proofs.Times.{TiesOnce, ties_to, ties_from}
 
@@ -61,7 +62,7 @@ pub sound_of : (labels : ℕ) (w : Tables) (r : Option Tree) → AreSoundNets la
 sound_of labels w None h f a b c d e = tt
 sound_of labels w (Some y) h f a b c d e = record {
   nets = h;
-  term = record { normal = f.normal; known = a; once = ties_from w (tidy_tables labels w h) y f.tidy b; tidy = f.tidy; last = c; ordered = d; operands = e };
+  term = record { normal = f.normal; known = a; once = ties_from w (tidy_tables labels w h) y f.tidy b; outside = outside_of w y f.tidy; falling = falling_of w y f.tidy; counts = counts_of w y f.tidy; last = c; ordered = d; operands = e };
 }
 
 -- Loops
@@ -79,7 +80,7 @@ module _ (labels : ℕ) (w : Tables) (x : Tree) (lo : ℕ) (hi : Option ℕ) (h 
   loop_runs s (has_turns n a l v) = turn_runs n s a
 
   formed : IsFormed w x
-  formed = record { tidy = h.term.tidy; normal = h.term.normal }
+  formed = record { tidy = tidy_of labels w x h.nets h.term; normal = h.term.normal }
 
   may_last : (r : Option Tree) → MayHave HasNoOpenWalk r → MayHave IsOpenWalkLast r
   may_last None i = tt
@@ -91,9 +92,9 @@ module _ (labels : ℕ) (w : Tables) (x : Tree) (lo : ℕ) (hi : Option ℕ) (h 
       (constructors_keep_form.turns w x lo hi (Gap [] ∷ []) tidy formed u (record { sets = (tt, tt); falls = (tt, tt); turns = tt }))
       (fresh_part (λ e. e.label < labels) (λ y q. Unit {0}) (λ y. Unit {0}) (walk_known labels w) (permits_of w) (known_left labels w tidy) (λ x q h. tt) (λ b x z e q h. tt) (λ x y z b e a p q h. tt) x lo hi (Gap [] ∷ []) h.term.known tt tt)
       (fresh_part (λ e. Unit {0}) (OnceTie w) (λ y. Unit {0}) (λ n f t. Unit {0}) (permits_of w) (λ n f g t u h s a. tt) (tie_fewer w tidy) (tie_permit w tidy) (tie_taken w tidy) x lo hi (Gap [] ∷ [])
-      (ties_to w tidy (normal_tables labels w h.nets) x h.term.tidy h.term.normal h.term.once) tt tt)
+      (ties_to w tidy (normal_tables labels w h.nets) x (sound_even labels w x h.term) h.term.normal h.term.once) tt tt)
       (may_last (fresh_loop w x lo hi) (fresh_part (λ e. Unit {0}) (λ y q. Unit {0}) (λ y. Unit {0}) (λ n f t. IsNotAny t) (permits_of w) (walk_left (permits_of w)) (λ x q h. tt) (λ b x z e q h. tt) (λ x y z b e a p q h. tt) x lo hi (Gap [] ∷ []) c tt tt))
-      (orders_of w (fresh_loop w x lo hi) (HasPattern (terms_over w) true (Turns x lo hi (gap [] ends))) (normal_forms_keep_patterns.turns true w x lo hi (Gap [] ∷ []) tidy h.term.tidy (tt, tt) u).to loop_runs)
+      (orders_of w (fresh_loop w x lo hi) (HasPattern (terms_over w) true (Turns x lo hi (gap [] ends))) (normal_forms_keep_patterns.turns true w x lo hi (Gap [] ∷ []) tidy (tidy_of labels w x h.nets h.term) (tt, tt) u).to loop_runs)
       (fresh_part (λ e. Unit {0}) (λ y q. Unit {0}) (HasOrders w) (λ n f t. Unit {0}) (permits_of w) (λ n f g t u h s a. tt) (λ x q h. tt) (λ b x z e q h. tt) (λ x y z b e a p q h. tt) x lo hi (Gap [] ∷ []) h.term.operands h.term.ordered tt)
 
 -- Walks

@@ -8,7 +8,7 @@ use Rattle.chart_term.specs.Tables.{NetEntry, Tables, net_count}
 use Rattle.chart_term.specs.TermPatterns.{InPairs}
 use Rattle.chart_term.specs.Terms.{TermEvent, Block, Tree, Nil, Event, Join, Choice, Bound, Turns, Trail, Trees, none, more}
 use Rattle.chart_term.proofs.Binding.{kept_in}
-use Rattle.permit_step.specs.FullSoundness.{IsSpotOf, IsGoalOf, AreNumbersKnown, HasOrders, HaveOperandsOrders, HasNoOpenWalk, IsOpenWalkLast, IsSoundNode, AreSoundNets, IsFullySound, FullSoundnessIsKept}
+use Rattle.permit_step.specs.FullSoundness.{IsSpotOf, IsGoalOf, AreNumbersKnown, HasOrders, HaveOperandsOrders, HasNoOpenWalk, IsOpenWalkLast, IsSoundOver, IsSoundNode, AreSoundNets, IsFullySound, FullSoundnessIsKept}
 use Rattle.permit_step.specs.Laws.{Fits}
 use Rattle.permit_step.specs.Normality.{AreNormalTables, IsNormalOver}
 use Rattle.permit_step.specs.Permission.{permit, permits_of}
@@ -20,23 +20,27 @@ use Rattle.permit_step.proofs.Keeping.{Begins, Aims, as_before, at_node, to_node
 use Rattle.permit_step.proofs.Once.{Once, OnceAll, OnceEach, permit_once, after_once}
 use Rattle.permit_step.proofs.OpenWalks.{permit_closed, permit_last, after_last}
 use Rattle.permit_step.proofs.SoundLaws.{soundness_is_kept}
+use Rattle.permit_step.proofs.SoundParts.{sound_even, sound_tidy, outside_of, falling_of, counts_of}
 use Rattle.permit_step.proofs.TidyTables.{not_same, each_map, at_some, down, lacks_tree, lacks_all, lacks_row, lacks_up, nets_good}
 use Rattle.permit_step.proofs.Times.{TiesOnce, ties_to, ties_from}
 
 -- What the laws ask of tables
 
-pub tidy_tables : (labels : ℕ) (w : Tables) → AreSoundNets labels w → AreTidyTables w
-tidy_tables labels [] h = tt
-tidy_tables labels (e ∷ es) h = (tidy_tables labels es h.0, each_map (IsSoundNode labels es) (IsTidyOver es) (λ x i. i.sound.tidy) e.nodes h.1, h.2, h.3)
-
 pub normal_tables : (labels : ℕ) (w : Tables) → AreSoundNets labels w → AreNormalTables w
 normal_tables labels [] h = tt
 normal_tables labels (e ∷ es) h = (normal_tables labels es h.0, each_map (IsSoundNode labels es) (IsNormalOver es) (λ x i. i.sound.normal) e.nodes h.1)
 
+pub tidy_tables : (labels : ℕ) (w : Tables) → AreSoundNets labels w → AreTidyTables w
+tidy_tables labels [] h = tt
+tidy_tables labels (e ∷ es) h = let t = tidy_tables labels es h.0 in (t, each_map (IsSoundNode labels es) (IsTidyOver es) (λ x i. sound_tidy labels es t (normal_tables labels es h.0) x i.sound) e.nodes h.1, h.2, h.3)
+
+pub tidy_of : (labels : ℕ) (w : Tables) (x : Tree) → AreSoundNets labels w → IsSoundOver labels w x → IsTidyOver w x
+tidy_of labels w x h i = sound_tidy labels w (tidy_tables labels w h) (normal_tables labels w h) x i
+
 pub is_sound : (labels : ℕ) (w : Tables) (x : Tree) → IsFullySound labels w x → IsSound w x
 is_sound labels w x h = record {
   tables = record { tidy = tidy_tables labels w h.nets; normal = normal_tables labels w h.nets };
-  tidy = h.term.tidy;
+  tidy = tidy_of labels w x h.nets h.term;
   normal = h.term.normal;
   ordered = h.term.ordered;
 }
@@ -170,7 +174,7 @@ ties_kept labels w h = kept_has_it (λ es. TiesOnce (NetLacks es)) (λ e es t x 
     nodes : (w : Tables) → AreSoundNets labels w → NodesHave (λ es. TiesOnce (NetLacks es)) w
     nodes [] h = tt
     nodes (e ∷ es) h =
-        (nodes es h.0, each_map (IsSoundNode labels es) (TiesOnce (NetLacks es)) (λ x i. ties_to es (tidy_tables labels es h.0) (normal_tables labels es h.0) x i.sound.tidy i.sound.normal i.sound.once) e.nodes h.1)
+        (nodes es h.0, each_map (IsSoundNode labels es) (TiesOnce (NetLacks es)) (λ x i. ties_to es (tidy_tables labels es h.0) (normal_tables labels es h.0) x (sound_even labels es x i.sound) i.sound.normal i.sound.once) e.nodes h.1)
 
 after_ties : (labels : ℕ) (w : Tables) → AreSoundNets labels w → {x y : Tree} {e : TermEvent} → IsAfter (permits_of w) x e y → TiesOnce (NetLacks w) x → TiesOnce (NetLacks w) y
 after_ties labels w h =
@@ -189,8 +193,10 @@ permit_full labels w x y b h f e =
       term = record {
         normal = s.normal;
         known = at_some (AreNumbersKnown labels w) (permit (permits_of w) b x) y e (permit_known labels w t b x h.term.known);
-        once = ties_from w t y s.tidy (at_some (TiesOnce (NetLacks w)) (permit (permits_of w) b x) y e (permit_ties w t b x (ties_to w t g x h.term.tidy h.term.normal h.term.once)));
-        tidy = s.tidy;
+        once = ties_from w t y s.tidy (at_some (TiesOnce (NetLacks w)) (permit (permits_of w) b x) y e (permit_ties w t b x (ties_to w t g x (sound_even labels w x h.term) h.term.normal h.term.once)));
+        outside = outside_of w y s.tidy;
+        falling = falling_of w y s.tidy;
+        counts = counts_of w y s.tidy;
         last = at_some IsOpenWalkLast (permit (permits_of w) b x) y e (permit_last (permits_of w) b x h.term.last);
         ordered = s.ordered;
         operands = at_some (HaveOperandsOrders w) (permit (permits_of w) b x) y e (permit_operands w b x h.term.operands);
@@ -207,8 +213,10 @@ after_full labels w x y e h a =
       term = record {
         normal = s.normal;
         known = after_known labels w h.nets a h.term.known;
-        once = ties_from w t y s.tidy (after_ties labels w h.nets {x = x} {y = y} a (ties_to w t g x h.term.tidy h.term.normal h.term.once));
-        tidy = s.tidy;
+        once = ties_from w t y s.tidy (after_ties labels w h.nets {x = x} {y = y} a (ties_to w t g x (sound_even labels w x h.term) h.term.normal h.term.once));
+        outside = outside_of w y s.tidy;
+        falling = falling_of w y s.tidy;
+        counts = counts_of w y s.tidy;
         last = after_last (permits_of w) (closed_kept labels w h.nets) x y e a h.term.last;
         ordered = s.ordered;
         operands = after_operands labels w h.nets {x = x} {y = y} a h.term.operands;

@@ -39,7 +39,9 @@ message_full = record {
     normal = message_sound.normal;
     known = ((omega arith, (omega arith, tt)), tt);
     once = ties_from [] tt message message_sound.tidy ((tt, (tt, tt)), λ j p. one_of_two j);
-    tidy = message_sound.tidy;
+    outside = ((tt, (tt, tt)), λ j p. (tt, (tt, tt)));
+    falling = (tt, (tt, tt));
+    counts = (tt, (tt, tt));
     last = ((tt, (tt, tt)), tt);
     ordered = message_sound.ordered;
     operands = ((tt, (tt, tt)), tt);
@@ -55,7 +57,7 @@ messages_full = fresh_terms_are_sound.loop 2 [] message 1 None message_full ((tt
 
 action_node : IsSoundNode 2 [] action
 action_node = record {
-  sound = record { normal = tt; known = omega arith; once = tt; tidy = tt; last = tt; ordered = action_orders; operands = tt };
+  sound = record { normal = tt; known = omega arith; once = tt; outside = tt; falling = tt; counts = tt; last = tt; ordered = action_orders; operands = tt };
   closed = tt;
 }
   where
@@ -64,7 +66,7 @@ action_node = record {
 
 nil_node : IsSoundNode 2 [] Nil
 nil_node = record {
-  sound = record { normal = tt; known = tt; once = tt; tidy = tt; last = tt; ordered = nil_orders []; operands = tt };
+  sound = record { normal = tt; known = tt; once = tt; outside = tt; falling = tt; counts = tt; last = tt; ordered = nil_orders []; operands = tt };
   closed = tt;
 }
 

@@ -39,3 +39,6 @@ pub mod FullSound
 pub mod Fresh
 pub mod FullWitness
 pub mod SoundForms
+pub mod Even
+pub mod Selfless
+pub mod SoundParts

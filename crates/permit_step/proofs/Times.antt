@@ -12,10 +12,10 @@ use Rattle.chart_term.specs.Terms.{TermEvent, has, Tree, Nil, Event, Join, Choic
 use Rattle.permit_step.specs.FullSoundness.{times, EveryPart, EveryPartOf, EveryRowPart, AreTiesOnce}
 use Rattle.permit_step.specs.Normality.{AreNormalTables, IsNormalOver, AreNormal, IsNormalRow}
 use Rattle.permit_step.specs.Permission.{permits_of}
-use Rattle.permit_step.specs.Soundness.{AreTidyTables, IsTidyOver, AreTidy, IsTidyRow, IsOutside, AreOutside, Lacks, NetLacks, IsKnown}
+use Rattle.permit_step.specs.Soundness.{AreTidyTables, IsTidyOver, IsOutside, AreOutside, Lacks, NetLacks, IsKnown}
 use Rattle.permit_step.proofs.EveryPart.{part_map}
+use Rattle.permit_step.proofs.Even.{AllEven, RowEven, IsEvenOver, some_even}
 use Rattle.permit_step.proofs.Later.{tidy_below}
-use Rattle.permit_step.proofs.NormalTables.{some_pattern}
 use Rattle.permit_step.proofs.Once.{Once, OnceAll, OnceEach, OnceList, FreeAll, once_out, each_out}
 use Rattle.permit_step.proofs.TidyKept.{NoNumber, lacks_none}
 use Rattle.permit_step.proofs.TidyTables.{nets_good}
@@ -24,7 +24,7 @@ use Rattle.permit_step.proofs.TidyTables.{nets_good}
 abbrev pub TiesOnce : (ℕ → ℕ → Type 0) → Tree → Type 0
 TiesOnce NL x = EveryPart (λ e. Unit {0}) (λ y q. (j : ℕ) → InPairs j q → Once NL j y) (λ y. Unit {0}) (λ n f t. Unit {0}) x
 
-number_is : (i n : ℕ) → (i == n) ≡ true → i ≡ n
+pub number_is : (i n : ℕ) → (i == n) ≡ true → i ≡ n
 number_is i n h = grind (arith, nat_tests)
 
 number_not : (i n : ℕ) → (i == n) ≡ false → i ≢ n
@@ -37,7 +37,7 @@ or_false false u h = refl
 not_both : (t : Bool) → t ≡ true → t ≡ false → ⊥
 not_both t p q = cc
 
-abbrev one_or_none : Bool → ℕ
+abbrev pub one_or_none : Bool → ℕ
 one_or_none t = cond t 1 0
 
 one_if : (t : Bool) → one_or_none t ≤ 1
@@ -152,16 +152,16 @@ module _ (w : Tables) (h : AreTidyTables w) (j : ℕ) where
 
   -- and the other way round, for terms in normal form
   module _ (g : AreNormalTables w) where
-    some_of : (x : Tree) → IsTidyOver w x → IsNormalOver w x → (s : Shape) × P x s
-    some_of x t n = some_pattern w h g x t n
+    some_of : (x : Tree) → IsEvenOver w x → IsNormalOver w x → (s : Shape) × P x s
+    some_of x t n = some_even w h g x t n
 
-    some_parts : (m : Mode) (xs : Trees) → AreTidy (NetLacks w) (IsKnown w) xs → AreNormal (permits_of w) xs → (s : Shape) × Parts m xs s
+    pub some_parts : (m : Mode) (xs : Trees) → AllEven (NetLacks w) (IsKnown w) xs → AreNormal (permits_of w) xs → (s : Shape) × Parts m xs s
     some_parts m none t n = (empty, no_part)
     some_parts m (more x xs) t n = let i = some_of x t.0 n.0 in let r = some_parts m xs t.1 n.1 in (join m i.0 r.0, one_part i.1 r.1)
 
     -- a pattern with the number
     mutual
-      some_with : (x : Tree) → IsOutside (NetLacks w) j x → IsTidyOver w x → IsNormalOver w x → has (numbers x) j ≡ true → (s : Shape) × P x s × (1 ≤ times j s)
+      pub some_with : (x : Tree) → IsOutside (NetLacks w) j x → IsEvenOver w x → IsNormalOver w x → has (numbers x) j ≡ true → (s : Shape) × P x s × (1 ≤ times j s)
       some_with Nil o t n i = absurd (not_both false i refl)
       some_with (Event e) o t n i = (one e, has_event, event_times j e i)
       some_with (Join m xs) o t n i = let r = some_in m xs o t n.0 i in (r.0, has_join r.1, r.2)
@@ -170,7 +170,7 @@ module _ (w : Tables) (h : AreTidyTables w) (j : ℕ) where
       some_with (Turns x lo hi r) o t n i = absurd (lacks_numbers (NetLacks w) j (Turns x lo hi r) o i)
       some_with (Trail n f t c) o l m i = absurd (not_both false i refl)
 
-      some_in : (m : Mode) (xs : Trees) → AreOutside (NetLacks w) j xs → AreTidy (NetLacks w) (IsKnown w) xs → AreNormal (permits_of w) xs → has (numbers_all xs) j ≡ true → (s : Shape) × Parts m xs s × (1 ≤ times j s)
+      some_in : (m : Mode) (xs : Trees) → AreOutside (NetLacks w) j xs → AllEven (NetLacks w) (IsKnown w) xs → AreNormal (permits_of w) xs → has (numbers_all xs) j ≡ true → (s : Shape) × Parts m xs s × (1 ≤ times j s)
       some_in m none o t n i = absurd (not_both false i refl)
       some_in m (more x xs) o t n i =
           elim (has_some (numbers x) (numbers_all xs) j i) [
@@ -178,7 +178,7 @@ module _ (w : Tables) (h : AreTidyTables w) (j : ℕ) where
             | inr p ↦ let r = some_of x t.0 n.0 in let u = some_in m xs o.1 t.1 n.1 p in (join m r.0 u.0, one_part r.1 u.1, omega (arith, u.2))
           ]
 
-      some_one : (xs : Trees) → AreOutside (NetLacks w) j xs → AreTidy (NetLacks w) (IsKnown w) xs → AreNormal (permits_of w) xs → has (numbers_all xs) j ≡ true → (s : Shape) × HasChoice (terms_over w) true (items xs) s × (1 ≤ times j s)
+      some_one : (xs : Trees) → AreOutside (NetLacks w) j xs → AllEven (NetLacks w) (IsKnown w) xs → AreNormal (permits_of w) xs → has (numbers_all xs) j ≡ true → (s : Shape) × HasChoice (terms_over w) true (items xs) s × (1 ≤ times j s)
       some_one none o t n i = absurd (not_both false i refl)
       some_one (more x xs) o t n i =
           elim (has_some (numbers x) (numbers_all xs) j i) [
@@ -190,20 +190,20 @@ module _ (w : Tables) (h : AreTidyTables w) (j : ℕ) where
     too_many n p q = absurd (omega arith)
 
     -- no part has the number where no pattern of the parts has it
-    all_free : (m : Mode) (xs : Trees) → AreOutside (NetLacks w) j xs → AreTidy (NetLacks w) (IsKnown w) xs → AreNormal (permits_of w) xs → ((s : Shape) → Parts m xs s → times j s ≤ 0) → FreeAll (NetLacks w) j xs
+    all_free : (m : Mode) (xs : Trees) → AreOutside (NetLacks w) j xs → AllEven (NetLacks w) (IsKnown w) xs → AreNormal (permits_of w) xs → ((s : Shape) → Parts m xs s → times j s ≤ 0) → FreeAll (NetLacks w) j xs
     all_free m xs o t n f = go (has (numbers_all xs) j) refl
       where
         go : (u : Bool) → has (numbers_all xs) j ≡ u → FreeAll (NetLacks w) j xs
         go true i = let r = some_in m xs o t n i in absurd (too_many (times j r.0) r.2 (f r.0 r.1))
         go false i = all_lacks_if (NetLacks w) j xs o i
 
-    first_has : (m : Mode) (x : Tree) (xs : Trees) → AreOutside (NetLacks w) j (more x xs) → AreTidy (NetLacks w) (IsKnown w) (more x xs) → AreNormal (permits_of w) (more x xs) → ((s : Shape) → Parts m (more x xs) s → times j s ≤ 1)
+    first_has : (m : Mode) (x : Tree) (xs : Trees) → AreOutside (NetLacks w) j (more x xs) → AllEven (NetLacks w) (IsKnown w) (more x xs) → AreNormal (permits_of w) (more x xs) → ((s : Shape) → Parts m (more x xs) s → times j s ≤ 1)
         → (u : Bool) → has (numbers x) j ≡ u → (has (numbers x) j ≡ false → OnceAll (NetLacks w) j xs) → Once (NetLacks w) j x → (Lacks (NetLacks w) j x × OnceAll (NetLacks w) j xs) ⊎ (Once (NetLacks w) j x × FreeAll (NetLacks w) j xs)
     first_has m x xs o t n f true i c d = let r = some_with x o.0 t.0 n.0 i in inr (d, all_free m xs o.1 t.1 n.1 (λ s a. let p = f (join m r.0 s) (one_part r.1 a) in omega (arith, r.2)))
     first_has m x xs o t n f false i c d = inl (lacks_if (NetLacks w) j x o.0 i, c i)
 
     mutual
-      pub once_if : (x : Tree) → IsOutside (NetLacks w) j x → IsTidyOver w x → IsNormalOver w x → ((s : Shape) → P x s → times j s ≤ 1) → Once (NetLacks w) j x
+      pub once_if : (x : Tree) → IsOutside (NetLacks w) j x → IsEvenOver w x → IsNormalOver w x → ((s : Shape) → P x s → times j s ≤ 1) → Once (NetLacks w) j x
       once_if Nil o t n f = tt
       once_if (Event e) o t n f = tt
       once_if (Join m xs) o t n f = once_all_if m xs o t n.0 (λ s a. f s (has_join a))
@@ -212,13 +212,13 @@ module _ (w : Tables) (h : AreTidyTables w) (j : ℕ) where
       once_if (Turns x lo hi r) o t n f = o
       once_if (Trail n f t c) o l m g = o
 
-      once_all_if : (m : Mode) (xs : Trees) → AreOutside (NetLacks w) j xs → AreTidy (NetLacks w) (IsKnown w) xs → AreNormal (permits_of w) xs → ((s : Shape) → Parts m xs s → times j s ≤ 1) → OnceAll (NetLacks w) j xs
+      once_all_if : (m : Mode) (xs : Trees) → AreOutside (NetLacks w) j xs → AllEven (NetLacks w) (IsKnown w) xs → AreNormal (permits_of w) xs → ((s : Shape) → Parts m xs s → times j s ≤ 1) → OnceAll (NetLacks w) j xs
       once_all_if m none o t n f = tt
       once_all_if m (more x xs) o t n f =
           first_has m x xs o t n f (has (numbers x) j) refl (λ i. let r = some_of x t.0 n.0 in once_all_if m xs o.1 t.1 n.1 (λ s a. let p = f (join m r.0 s) (one_part r.1 a) in omega arith))
           (let r = some_parts m xs t.1 n.1 in once_if x o.0 t.0 n.0 (λ s a. let p = f (join m s r.0) (one_part a r.1) in omega arith))
 
-      once_each_if : (xs : Trees) → AreOutside (NetLacks w) j xs → AreTidy (NetLacks w) (IsKnown w) xs → AreNormal (permits_of w) xs → ((s : Shape) → HasChoice (terms_over w) true (items xs) s → times j s ≤ 1) → OnceEach (NetLacks w) j xs
+      once_each_if : (xs : Trees) → AreOutside (NetLacks w) j xs → AllEven (NetLacks w) (IsKnown w) xs → AreNormal (permits_of w) xs → ((s : Shape) → HasChoice (terms_over w) true (items xs) s → times j s ≤ 1) → OnceEach (NetLacks w) j xs
       once_each_if none o t n f = tt
       once_each_if (more x xs) o t n f = (once_if x o.0 t.0 n.0 (λ s a. f s (this_one a)), once_each_if xs o.1 t.1 n.1 (λ s a. f s (that_one a)))
 
@@ -243,7 +243,7 @@ module _ (w : Tables) (h : AreTidyTables w) where
     FormRowTies r = EveryRowPart (λ e. Unit {0}) (λ y q. (j : ℕ) → InPairs j q → Once (NetLacks w) j y) (λ y. Unit {0}) (λ n f t. Unit {0}) r
 
     mutual
-      pub ties_to : (x : Tree) → IsTidyOver w x → IsNormalOver w x → AreTiesOnce w x → TiesOnce (NetLacks w) x
+      pub ties_to : (x : Tree) → IsEvenOver w x → IsNormalOver w x → AreTiesOnce w x → TiesOnce (NetLacks w) x
       ties_to Nil t n i = tt
       ties_to (Event e) t n i = tt
       ties_to (Join m xs) t n i = all_ties_to xs t n.0 i
@@ -252,11 +252,11 @@ module _ (w : Tables) (h : AreTidyTables w) where
       ties_to (Turns x lo hi r) t n i = (ties_to x t.0 n.0 i.0, tt, row_ties_to r t.1 n.1 i.2)
       ties_to (Trail n f t c) l m i = tt
 
-      all_ties_to : (xs : Trees) → AreTidy (NetLacks w) (IsKnown w) xs → AreNormal (permits_of w) xs → TiesOf xs → FormTies xs
+      all_ties_to : (xs : Trees) → AllEven (NetLacks w) (IsKnown w) xs → AreNormal (permits_of w) xs → TiesOf xs → FormTies xs
       all_ties_to none t n i = tt
       all_ties_to (more x xs) t n i = (ties_to x t.0 n.0 i.0, all_ties_to xs t.1 n.1 i.1)
 
-      row_ties_to : (r : Row) → IsTidyRow (NetLacks w) (IsKnown w) r → IsNormalRow (permits_of w) r → RowTies r → FormRowTies r
+      row_ties_to : (r : Row) → RowEven (NetLacks w) (IsKnown w) r → IsNormalRow (permits_of w) r → RowTies r → FormRowTies r
       row_ties_to ends t n i = tt
       row_ties_to (gap c r) t n i = row_ties_to r t n i
       row_ties_to (turn x r) t n i = (ties_to x t.0 n.0 i.0, row_ties_to r t.1 n.1 i.1)

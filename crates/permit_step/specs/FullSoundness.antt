@@ -7,13 +7,13 @@ use Rattle.chart_term.specs.NormalForms.{only, join_all, choice_of, bound_of, tu
 use Rattle.chart_term.specs.Properties.{Each, IsBelow, MayHave}
 use Rattle.chart_term.specs.Tables.{NetEntry, Tables, net_count, nodes_of, nth_tree, terms_over}
 use Rattle.chart_term.specs.TermMeanings.{HasPattern, UpTo}
-use Rattle.chart_term.specs.TermPatterns.{Shape, InPairs}
-use Rattle.chart_term.specs.Terms.{TermEvent, Block, Tree, Nil, Event, Join, Choice, Bound, Turns, Trail, Trees, none, more, Row, ends, gap, turn, Gap}
+use Rattle.chart_term.specs.TermPatterns.{Shape, InPairs, pairs}
+use Rattle.chart_term.specs.Terms.{TermEvent, Block, Tree, Nil, Event, Join, Choice, Bound, Turns, Trail, Trees, none, more, Row, ends, gap, turn, Part, Gap, parts}
 use Rattle.permit_step.specs.Laws.{Fits}
 use Rattle.permit_step.specs.Normality.{IsNormalOver}
 use Rattle.permit_step.specs.Permission.{permit, touch, permits_of}
 use Rattle.permit_step.specs.Sound.{HasOrder, IsSound}
-use Rattle.permit_step.specs.Soundness.{IsTidyOver, IsKnown, LeadsWithin}
+use Rattle.permit_step.specs.Soundness.{NeverGrows, IsOutside, NetLacks, IsKnown, LeadsWithin}
 use Rattle.permit_step.specs.Taking.{IsAfter}
 
 -- what is asked of each event, of each tie, of each loop operand and of each walk of a term, in loop operands and begun turns too
@@ -36,6 +36,27 @@ module _ (E : TermEvent → Type 0) (B : Tree → List (ℕ × ℕ) → Type 0) 
     EveryRowPart ends = Unit {0}
     EveryRowPart (gap c r) = EveryRowPart r
     EveryRowPart (turn x r) = EveryPart x × EveryRowPart r
+
+-- what is asked of the counts and the row of each loop of a term, in loop operands and begun turns too
+module _ (L : ℕ → Option ℕ → List Part → Type 0) where
+  abbrev mutual
+    pub EveryLoop : Tree → Type 0
+    EveryLoop Nil = Unit {0}
+    EveryLoop (Event e) = Unit {0}
+    EveryLoop (Join m xs) = EveryLoopOf xs
+    EveryLoop (Choice xs) = EveryLoopOf xs
+    EveryLoop (Bound x q) = EveryLoop x
+    EveryLoop (Turns x lo hi r) = EveryLoop x × L lo hi (parts r) × EveryRowLoop r
+    EveryLoop (Trail n f t c) = Unit {0}
+
+    pub EveryLoopOf : Trees → Type 0
+    EveryLoopOf none = Unit {0}
+    EveryLoopOf (more x xs) = EveryLoop x × EveryLoopOf xs
+
+    pub EveryRowLoop : Row → Type 0
+    EveryRowLoop ends = Unit {0}
+    EveryRowLoop (gap c r) = EveryRowLoop r
+    EveryRowLoop (turn x r) = EveryLoop x × EveryRowLoop r
 
 -- the walk begins at the start, or at a node of the net
 abbrev pub IsSpotOf : Tables → ℕ → Spot → Type 0
@@ -62,6 +83,18 @@ times j (bind x q) = times j x
 -- in each tie a number of the pairs stands at one event at most of any pattern
 abbrev pub AreTiesOnce : Tables → Tree → Type 0
 AreTiesOnce w x = EveryPart (λ e. Unit {0}) (λ y q. (j : ℕ) → InPairs j q → (s : Shape) → HasPattern (terms_over w) true y s → times j s ≤ 1) (λ y. Unit {0}) (λ n f t. Unit {0}) x
+
+-- in each tie no number of the pairs is in a loop operand, a begun turn or a net
+abbrev pub AreTiesOutside : Tables → Tree → Type 0
+AreTiesOutside w x = EveryPart (λ e. Unit {0}) (λ y q. (j : ℕ) → InPairs j q → IsOutside (NetLacks w) j y) (λ y. Unit {0}) (λ n f t. Unit {0}) x
+
+-- in each row the blocks never grow from left to right, as sets
+abbrev pub DoBlocksFall : Tree → Type 0
+DoBlocksFall x = EveryLoop (λ lo hi ps. NeverGrows ps) x
+
+-- in each loop the lower count is at most the upper
+abbrev pub AreCountsOrdered : Tree → Type 0
+AreCountsOrdered x = EveryLoop (λ lo hi ps. UpTo hi lo) x
 
 -- each pattern of the term has a linear order
 abbrev pub HasOrders : Tables → Tree → Type 0
@@ -113,7 +146,9 @@ pub record IsSoundOver (labels : ℕ) (w : Tables) (x : Tree) : Type 0 where
   pub normal : IsNormalOver w x
   pub known : AreNumbersKnown labels w x
   pub once : AreTiesOnce w x
-  pub tidy : IsTidyOver w x
+  pub outside : AreTiesOutside w x
+  pub falling : DoBlocksFall x
+  pub counts : AreCountsOrdered x
   pub last : IsOpenWalkLast x
   pub ordered : HasOrders w x
   pub operands : HaveOperandsOrders w x
@@ -158,12 +193,12 @@ pub record FreshTermsAreSound : Type 0 where
   pub walk : (labels : ℕ) (w : Tables) (n : ℕ) (t : Goal) → AreSoundNets labels w → IsKnown w n → IsGoalOf w n t → MayHave (IsFullySound labels w) (fresh_walk w n t)
 
 -- the normalising constructors make such terms of such terms, as node terms and the terms of basic charts are: sound in full, without
--- a walk to any node. A tie needs what is asked of ties, and that its patterns have linear orders
+-- a walk to any node. A tie needs what is asked of ties, no pair of a number with itself, and that its patterns have linear orders
 pub record ConstructorsKeepSoundness : Type 0 where
   pub event : (labels : ℕ) (w : Tables) (e : TermEvent) → e.label < labels → IsSoundNode labels w (Event e)
   pub join : (labels : ℕ) (w : Tables) (m : Mode) (xs : List Tree) → AreSoundNets labels w → Each (IsSoundNode labels w) xs → IsSoundNode labels w (join_all m xs)
   pub choice : (labels : ℕ) (w : Tables) (xs : List Tree) → AreSoundNets labels w → Each (IsSoundNode labels w) xs → MayHave (IsSoundNode labels w) (choice_of xs)
-  pub bound : (labels : ℕ) (w : Tables) (x : Tree) (q : List (ℕ × ℕ)) → AreSoundNets labels w → IsSoundNode labels w x → IsTidyOver w (Bound x q) → AreTiesOnce w (Bound x q) → HasOrders w (Bound x q)
+  pub bound : (labels : ℕ) (w : Tables) (x : Tree) (q : List (ℕ × ℕ)) → AreSoundNets labels w → IsSoundNode labels w x → AreTiesOutside w (Bound x q) → AreTiesOnce w (Bound x q) → ((j : ℕ) → pairs q j j ≡ false) → HasOrders w (Bound x q)
       → IsSoundNode labels w (bound_of x q)
   pub loop : (labels : ℕ) (w : Tables) (x : Tree) (lo : ℕ) (hi : Option ℕ) → AreSoundNets labels w → IsSoundNode labels w x → UpTo hi lo → MayHave (IsSoundNode labels w) (fresh_loop w x lo hi)
   pub walk : (labels : ℕ) (w : Tables) (n : ℕ) (t : Goal) → AreSoundNets labels w → IsKnown w n → IsGoalOf w n t → IsNotAny t → MayHave (IsSoundNode labels w) (fresh_walk w n t)
