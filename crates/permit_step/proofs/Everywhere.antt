@@ -48,7 +48,7 @@ module _ (E : TermEvent → Type 0) (N : ℕ → Type 0) where
       low = λ x lo hi ps b h. h;
       wide = λ b x lo hi r qs e h. h;
       after_row = λ x lo hi r qs b e a hm h. h;
-      trail_in = λ n f g t u c d h l. h;
+      trail_in = λ n f g t u c d h s a l. h;
       permitted = λ b x z e. tt;
       taken = λ x y z b e a p. tt;
     }

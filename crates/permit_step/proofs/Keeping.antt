@@ -27,6 +27,15 @@ Leading k n f Any c = Unit {0}
 Leading k n f End c = reach (k.net n) (allowed k n c) f End ≡ true
 Leading k n f (To m) c = reach (k.net n) (allowed k n c) f (To m) ≡ true
 
+-- a walk that is left begins where it began or at a node, and goes where it went or to a node; the node's term isn't held back
+pub data Begins (k : NetPermits) (n : ℕ) : Spot → Spot → Type 0 where
+  as_before : {f : Spot} → Begins k n f f
+  at_node : {f : Spot} (m : ℕ) (d : List ℕ) (x : Tree) → k.kept n m d ≡ Some x → Begins k n f (At m)
+
+pub data Aims (k : NetPermits) (n : ℕ) : Goal → Goal → Type 0 where
+  as_before : {t : Goal} → Aims k n t t
+  to_node : {t : Goal} (m : ℕ) (d : List ℕ) (x : Tree) → k.kept n m d ≡ Some x → Aims k n t (To m)
+
 -- a property of terms: T is what it asks of begun turns, X of a loop, D of what replaces a bound term
 pub record Kind (k : NetPermits) (P T : Tree → Type 0) (X : Tree → ℕ → Option ℕ → List Part → Type 0) (D : Tree → Tree → Type 0) : Type 0 where
   pub nil : P Nil
@@ -48,7 +57,7 @@ pub record Kind (k : NetPermits) (P T : Tree → Type 0) (X : Tree → ℕ → O
   pub low : (x : Tree) (lo : ℕ) (hi : Option ℕ) (ps : List Part) (b : Bool) → X x lo hi ps → X x (lower_of b lo) hi ps
   pub wide : (b : Block) (x : Tree) (lo : ℕ) (hi : Option ℕ) (r : Row) (qs : List Part) → permit_row k b r ≡ Some qs → X x lo hi (parts r) → X x lo hi qs
   pub after_row : (x : Tree) (lo : ℕ) (hi : Option ℕ) (r : Row) (qs : List Part) (b : Bool) (e : TermEvent) → IsAfterRow k x b (parts r) e qs → HasMore b hi → X x lo hi (parts r) → X x (down b lo) (fewer b hi) qs
-  pub trail_in : (n : ℕ) (f g : Spot) (t u : Goal) (c d : List ℕ) → P (Trail n f t c) → Leading k n g u d → P (Trail n g u d)
+  pub trail_in : (n : ℕ) (f g : Spot) (t u : Goal) (c d : List ℕ) → P (Trail n f t c) → Begins k n f g → Aims k n t u → Leading k n g u d → P (Trail n g u d)
   pub permitted : (b : Block) (x z : Tree) → permit k b x ≡ Some z → D x z
   pub taken : (x y z : Tree) (b : Block) (e : TermEvent) → IsAfter k x e y → permit k b y ≡ Some z → D x z
 
@@ -84,6 +93,24 @@ each_turn_cut T all (Turn x ∷ ps) h = (h.0, each_turn_cut T all ps h.1)
 pub each_app : (P : Tree → Type 0) (xs ys : List Tree) → Each P xs → Each P ys → Each P (xs ++ ys)
 each_app P [] ys h i = i
 each_app P (x ∷ xs) ys h i = (h.0, each_app P xs ys h.1 i)
+
+-- a gap that is left leaves something of the operand
+module _ (k : NetPermits) where
+  pub alive_sub : (x : Tree) {ps qs : List Part} → IsSubRow qs ps → AliveGaps k x ps → AliveGaps k x qs
+  alive_sub x sub_end h = tt
+  alive_sub x (sub_gap s) h = (h.0, alive_sub x s h.1)
+  alive_sub x (sub_drop s) h = alive_sub x s h.1
+  alive_sub x (sub_turn s) h = alive_sub x s h
+  alive_sub x (sub_over s) h = alive_sub x s h
+
+  alive_gap : (x : Tree) (c : List ℕ) (r : Option Tree) (ps : List Part) → permit k (only c) x ≡ r → AliveGaps k x ps → AliveGaps k x (live_gap r c ps)
+  alive_gap x c None ps e h = h
+  alive_gap x c (Some y) ps e h = ((y, e), h)
+
+  pub alive_live : (x : Tree) (ps : List Part) → AliveGaps k x (live (λ c. permit k (only c) x) ps)
+  alive_live x [] = tt
+  alive_live x (Gap c ∷ ps) = alive_gap x c (permit k (only c) x) (live (λ c. permit k (only c) x) ps) refl (alive_live x ps)
+  alive_live x (Turn y ∷ ps) = alive_live x ps
 
 module _ (k : NetPermits) (P T : Tree → Type 0) (X : Tree → ℕ → Option ℕ → List Part → Type 0) (D : Tree → Tree → Type 0) (kind : Kind k P T X D) where
   open_keeps : (m : Mode) (x : Tree) → P x → Each P (open_part m x)
@@ -160,22 +187,6 @@ module _ (k : NetPermits) (P T : Tree → Type 0) (X : Tree → ℕ → Option �
   form_keeps false x zero hi ps g a h d = join_keeps row (begun ps) (begun_keeps ps d)
   form_keeps false x (suc lo) hi ps g a h d = tt
 
-  alive_sub : (x : Tree) {ps qs : List Part} → IsSubRow qs ps → AliveGaps k x ps → AliveGaps k x qs
-  alive_sub x sub_end h = tt
-  alive_sub x (sub_gap s) h = (h.0, alive_sub x s h.1)
-  alive_sub x (sub_drop s) h = alive_sub x s h.1
-  alive_sub x (sub_turn s) h = alive_sub x s h
-  alive_sub x (sub_over s) h = alive_sub x s h
-
-  alive_gap : (x : Tree) (c : List ℕ) (r : Option Tree) (ps : List Part) → permit k (only c) x ≡ r → AliveGaps k x ps → AliveGaps k x (live_gap r c ps)
-  alive_gap x c None ps e h = h
-  alive_gap x c (Some y) ps e h = ((y, e), h)
-
-  alive_live : (x : Tree) (ps : List Part) → AliveGaps k x (live (λ c. permit k (only c) x) ps)
-  alive_live x [] = tt
-  alive_live x (Gap c ∷ ps) = alive_gap x c (permit k (only c) x) (live (λ c. permit k (only c) x) ps) refl (alive_live x ps)
-  alive_live x (Turn y ∷ ps) = alive_live x ps
-
   pub turns_keep : (x : Tree) (lo : ℕ) (hi : Option ℕ) (ps : List Part) → X x lo hi ps → EachTurn T ps → MayHave P (turns_of (λ c. permit k (only c) x) (touch k.spread x) x lo hi ps)
   turns_keep x lo hi ps h d =
       let p : List ℕ → Option Tree = λ c. permit k (only c) x in
@@ -197,20 +208,20 @@ module _ (k : NetPermits) (P T : Tree → Type 0) (X : Tree → ℕ → Option �
       let d3 = each_turn_sub T (sub_live p a2) d2 in
       let d4 = each_turn_sub T (sub_free p a3) d3 in
       let d5 = each_turn_sub T (sub_thin a4) d4 in
-      form_keeps (has_gap a5) x (lower_of (has_free p a3) lo) hi a5 refl (alive_sub x (sub_thin a4) (alive_sub x (sub_free p a3) (alive_live x a2))) (kind.low x lo hi a5 (has_free p a3) h5) d5
+      form_keeps (has_gap a5) x (lower_of (has_free p a3) lo) hi a5 refl (alive_sub k x (sub_thin a4) (alive_sub k x (sub_free p a3) (alive_live k x a2))) (kind.low x lo hi a5 (has_free p a3) h5) d5
 
   walk_keeps : (a b : Bool) (n : ℕ) (f : Spot) (t : Goal) (c : List ℕ) → (a ≡ true → P (Trail n f t c)) → MayHave P (walk_form a b (Trail n f t c))
   walk_keeps false b n f t c h = tt
   walk_keeps true true n f t c h = kind.nil
   walk_keeps true false n f t c h = h refl
 
-  trail_cut_keeps : (n : ℕ) (f g : Spot) (t u : Goal) (c d : List ℕ) → P (Trail n f t c) → MayHave P (trail_cut k n g u d)
-  trail_cut_keeps n f g t Any c d h = kind.trail_in n f g t Any c d h tt
-  trail_cut_keeps n f g t (To m) c d h = walk_keeps (reach (k.net n) (allowed k n d) g (To m)) (are_nil k n g (To m) d (allowed k n d)) n g (To m) d (λ e. kind.trail_in n f g t (To m) c d h e)
-  trail_cut_keeps n f g t End c d h = walk_keeps (reach (k.net n) (allowed k n d) g End) (are_nil k n g End d (allowed k n d)) n g End d (λ e. kind.trail_in n f g t End c d h e)
+  trail_cut_keeps : (n : ℕ) (f g : Spot) (t u : Goal) (c d : List ℕ) → P (Trail n f t c) → Begins k n f g → Aims k n t u → MayHave P (trail_cut k n g u d)
+  trail_cut_keeps n f g t Any c d h s a = kind.trail_in n f g t Any c d h s a tt
+  trail_cut_keeps n f g t (To m) c d h s a = walk_keeps (reach (k.net n) (allowed k n d) g (To m)) (are_nil k n g (To m) d (allowed k n d)) n g (To m) d (λ e. kind.trail_in n f g t (To m) c d h s a e)
+  trail_cut_keeps n f g t End c d h s a = walk_keeps (reach (k.net n) (allowed k n d) g End) (are_nil k n g End d (allowed k n d)) n g End d (λ e. kind.trail_in n f g t End c d h s a e)
 
-  trail_keeps : (n : ℕ) (f g : Spot) (t u : Goal) (c d : List ℕ) → P (Trail n f t c) → MayHave P (trail_of k n g u d)
-  trail_keeps n f g t u c d h = trail_cut_keeps n f g t u c (cut (k.spread n) d) h
+  trail_keeps : (n : ℕ) (f g : Spot) (t u : Goal) (c d : List ℕ) → P (Trail n f t c) → Begins k n f g → Aims k n t u → MayHave P (trail_of k n g u d)
+  trail_keeps n f g t u c d h s a = trail_cut_keeps n f g t u c (cut (k.spread n) d) h s a
 
   abbrev EachOpt : Option (List Tree) → Type 0
   EachOpt None = Unit {0}
@@ -262,7 +273,7 @@ module _ (k : NetPermits) (P T : Tree → Type 0) (X : Tree → ℕ → Option �
     permit_keeps b (Choice xs) h = choice_keeps (permit_some k b xs) (some_keep b xs (kind.choice_out xs h))
     permit_keeps b (Bound x q) h = bound_keeps x q b (permit k b x) refl h (permit_keeps b x (kind.bound_out x q h))
     permit_keeps b (Turns x lo hi r) h = let i = kind.turns_out x lo hi r h in in_keeps b x lo hi r (permit_row k b r) refl i.0 (turn_keep b r i.1)
-    permit_keeps b (Trail n f t c) h = trail_keeps n f f t t c (c ∪ b.instances) h
+    permit_keeps b (Trail n f t c) h = trail_keeps n f f t t c (c ∪ b.instances) h as_before as_before
 
     all_keep : (b : Block) (xs : Trees) → Each P (items xs) → EachOpt (permit_all k b xs)
     all_keep b none h = tt
@@ -301,7 +312,7 @@ module _ (k : NetPermits) (P T : Tree → Type 0) (X : Tree → ℕ → Option �
           at_some _ z p (turns_keep x (down b lo) (fewer b hi) ps (kind.after_row x lo hi r ps b e a hm i.0) (row_keeps a lo hi (parts r) i.0 i.1))
       after_keeps (after_trail {n = n} {s = f} {t = t} {c = c} {e = e} m {x = x} {y = y} {u = u} {v = v} p a l1 l2 q r) h =
           join_keeps row (u ∷ y ∷ v ∷ [])
-          (at_some _ u q (trail_keeps n f f t (To m) c (c ∪ (instances_of e).instances) h), (after_keeps a (kept n m f t c c x h p), (at_some _ v r (trail_keeps n f (At m) t t c c h), tt)))
+          (at_some _ u q (trail_keeps n f f t (To m) c (c ∪ (instances_of e).instances) h as_before (to_node m c x p)), (after_keeps a (kept n m f t c c x h p), (at_some _ v r (trail_keeps n f (At m) t t c c h (at_node m c x p) as_before), tt)))
 
       one_keeps : {xs : Trees} {y : Tree} {e : TermEvent} → IsAfterOne k xs e y → Each P (items xs) → P y
       one_keeps (first_one a) h = after_keeps a h.0

@@ -12,7 +12,7 @@ use Rattle.permit_step.proofs.TidyTables.{not_same, good_tree, up, down}
 
 -- a tidy term names only nets that are there
 mutual
-  tidy_below : (w : Tables) (x : Tree) → IsTidyOver w x → IsBelow (net_count w) x
+  pub tidy_below : (w : Tables) (x : Tree) → IsTidyOver w x → IsBelow (net_count w) x
   tidy_below w Nil h = tt
   tidy_below w (Event e) h = tt
   tidy_below w (Join m xs) h = tidy_below_all w xs h

@@ -1,5 +1,5 @@
 -- Terms in which every gap, choice and walk leaves something: each has a pattern.
-use Rattle.std.specs.Prelude.{ℕ, zero, suc, ◌≤◌, true, List, [], ◌∷◌, ◌≡◌, Option, Some, None, refl}
+use Rattle.std.specs.Prelude.{ℕ, zero, suc, ◌≤◌, Bool, true, List, [], ◌∷◌, ◌≡◌, Option, Some, None, refl}
 use Rattle.std.proofs.Common.{ap, arith, inl, inr}
 use Rattle.msc_base.specs.Patterns.{Mode, row, empty, one, join, bind}
 use Rattle.hmsc_graph.specs.Graphs.{Spot, At, Goal, To, End, Any, IsIn, Walk, last, step}
@@ -14,9 +14,20 @@ use Rattle.chart_term.proofs.Walking.{IsExactNet, out_filter}
 use Rattle.permit_step.specs.Permission.{permit}
 use Rattle.permit_step.specs.Taking.{IsAfter}
 use Rattle.permit_step.proofs.Keeping.{Kind, AliveAt, AliveGaps, Leading, permit_keeps, after_keeps}
-use Rattle.permit_step.proofs.Permitting.{permit_law, only_fits}
+use Rattle.permit_step.proofs.Permitting.{IsRegular, permit_law, only_fits}
 use Rattle.permit_step.proofs.Ranking.{rank, ranks, row_rank}
-use Rattle.permit_step.proofs.TakingSound.{IsClosed, IsTurnOf}
+use Rattle.permit_step.proofs.TakingSound.{IsTurnOf}
+
+-- what a set of terms is closed under, as far as patterns need it
+pub record IsHeld (k : NetPermits) (node : ℕ → ℕ → Tree) (o : Bool) (IsGood : Tree → Type 0) : Type 0 where
+  pub ok : (x : Tree) → IsGood x → IsRegular k node o x
+  pub joined : (m : Mode) (x : Tree) (xs : Trees) → IsGood (Join m (more x xs)) → IsGood x × IsGood (Join m xs)
+  pub chosen : (x : Tree) (xs : Trees) → IsGood (Choice (more x xs)) → IsGood x × IsGood (Choice xs)
+  pub bound : (x : Tree) (q : List (ℕ × ℕ)) → IsGood (Bound x q) → IsGood x
+  pub operand : (x : Tree) (lo : ℕ) (hi : Option ℕ) (r : Row) → IsGood (Turns x lo hi r) → IsGood x
+  pub begun : (x : Tree) (lo : ℕ) (hi : Option ℕ) (y : Tree) (r : Row) → IsGood (Turns x lo hi r) → IsTurnOf y (parts r) → IsGood y
+  pub permitted : (c : List ℕ) (x y : Tree) → IsGood x → permit k (only c) x ≡ Some y → IsGood y
+  pub kept : (n : ℕ) (f : Spot) (t : Goal) (c d : List ℕ) (m : ℕ) (x : Tree) → IsGood (Trail n f t c) → IsIn m (k.nodes n) → k.kept n m d ≡ Some x → IsGood x
 
 module _ (k : NetPermits) (NL : ℕ → Type 0) where
   abbrev pub Some_of : Trees → Type 0
@@ -82,7 +93,7 @@ module _ (k : NetPermits) (NL : ℕ → Type 0) where
       low = λ x lo hi ps b h. h;
       wide = λ b x lo hi r qs e h. h;
       after_row = λ x lo hi r qs b e a hm h. h;
-      trail_in = λ n f g t u c d h l. (h.0, l);
+      trail_in = λ n f g t u c d h s a l. (h.0, l);
       permitted = λ b x z e. tt;
       taken = λ x y z b e a p. tt;
     }
@@ -103,7 +114,7 @@ module _ (k : NetPermits) (NL : ℕ → Type 0) where
     at_some r y e h = rw e at h
 
     -- every live sound term has a pattern, walks under way included
-    module _ (node : ℕ → ℕ → Tree) (IsGood : Tree → Type 0) (closed : IsClosed k node true IsGood) (nr : ℕ → ℕ)
+    module _ (node : ℕ → ℕ → Tree) (IsGood : Tree → Type 0) (closed : IsHeld k node true IsGood) (nr : ℕ → ℕ)
         (permit_rank : (b : Block) (x y : Tree) → permit k b x ≡ Some y → rank nr y ≤ rank nr x)
         (kept_rank : (n m : ℕ) (c : List ℕ) (x : Tree) → k.kept n m c ≡ Some x → rank nr x ≤ nr n) where
       abbrev w : NetTerms

@@ -12,7 +12,7 @@ use Rattle.permit_step.specs.Permission.{permit, permit_nth, permits_of}
 use Rattle.permit_step.specs.Soundness.{AreTidyTables, IsTidyOver, NetLacks, IsKnown}
 use Rattle.permit_step.proofs.Agreeing.{same_normal}
 use Rattle.permit_step.proofs.Keeping.{AliveGaps, Leading}
-use Rattle.permit_step.proofs.Living.{Live, LiveAll, LiveRow, has_pattern}
+use Rattle.permit_step.proofs.Living.{IsHeld, Live, LiveAll, LiveRow, has_pattern}
 use Rattle.permit_step.proofs.Normalising.{permit_normal}
 use Rattle.permit_step.proofs.Ranking.{permit_rank}
 use Rattle.permit_step.proofs.TermSentences.{net_rank, kept_rank, kept_below, low_nth}
@@ -56,7 +56,7 @@ module _ (w : Tables) where
   leads n f (To m) c h = h.0
 
   mutual
-    live : (x : Tree) → IsNormalOver w x → Live (permits_of w) (λ n. Unit {0}) x
+    pub live : (x : Tree) → IsNormalOver w x → Live (permits_of w) (λ n. Unit {0}) x
     live Nil h = tt
     live (Event e) h = tt
     live (Join m xs) h = live_all xs h.0
@@ -75,8 +75,13 @@ module _ (w : Tables) where
     live_row (gap c r) h = live_row r h
     live_row (turn x r) h = (live x h.0, live_row r h.1)
 
+  tidy_held : AreTidyTables w → IsHeld (permits_of w) (node_of w) true (IsTidyOver w)
+  tidy_held h =
+      let c = closed (permits_of w) (node_of w) true (NetLacks w) (IsKnown w) (nets_good true w h) in
+      record { ok = c.ok; joined = c.joined; chosen = c.chosen; bound = c.bound; operand = c.operand; begun = c.begun; permitted = c.permitted; kept = c.kept }
+
   -- every tidy term in normal form has a pattern, walks under way included
   pub some_pattern : AreTidyTables w → AreNormalTables w → (x : Tree) → IsTidyOver w x → IsNormalOver w x → (s : Shape) × HasPattern (terms_over w) true x s
   some_pattern h g x t n =
       has_pattern (permits_of w) (λ i. Unit {0}) (λ i m d y l q. live y (kept_normal w h g i m d y q)) (node_of w) (IsTidyOver w)
-      (closed (permits_of w) (node_of w) true (NetLacks w) (IsKnown w) (nets_good true w h)) (net_rank w) (permit_rank (permits_of w) (net_rank w)) (kept_rank true w h) x t (live x n)
+      (tidy_held h) (net_rank w) (permit_rank (permits_of w) (net_rank w)) (kept_rank true w h) x t (live x n)

@@ -235,7 +235,7 @@ each_without P x (y ∷ ys) h = go (same_tree x y) (each_without P x ys h.1)
     go true i = i
     go false i = (h.0, i)
 
-each_distinct : (P : Tree → Type 0) (xs : List Tree) → Each P xs → Each P (distinct xs)
+pub each_distinct : (P : Tree → Type 0) (xs : List Tree) → Each P xs → Each P (distinct xs)
 each_distinct P [] h = tt
 each_distinct P (x ∷ xs) h = (h.0, each_without P x (distinct xs) (each_distinct P xs h.1))
 

@@ -34,12 +34,12 @@ module _ (k : NetPermits) (nr : ℕ → ℕ) where
   list_rank [] = 0
   list_rank (x ∷ xs) = rank nr x + list_rank xs
 
-  abbrev parts_rank : List Part → ℕ
+  abbrev pub parts_rank : List Part → ℕ
   parts_rank [] = 0
   parts_rank (Gap c ∷ ps) = 1 + parts_rank ps
   parts_rank (Turn x ∷ ps) = rank nr x + parts_rank ps
 
-  ranks-items : (xs : Trees) → list_rank (items xs) ≡ ranks nr xs
+  pub ranks-items : (xs : Trees) → list_rank (items xs) ≡ ranks nr xs
   ranks-items none = refl
   ranks-items (more x xs) = ap (λ n. rank nr x + n) (ranks-items xs)
 
@@ -52,7 +52,7 @@ module _ (k : NetPermits) (nr : ℕ → ℕ) where
   rank-row_of (Gap c ∷ ps) = ap (λ n. 1 + n) (rank-row_of ps)
   rank-row_of (Turn x ∷ ps) = ap (λ n. rank nr x + n) (rank-row_of ps)
 
-  rank-parts : (r : Row) → parts_rank (parts r) ≡ row_rank nr r
+  pub rank-parts : (r : Row) → parts_rank (parts r) ≡ row_rank nr r
   rank-parts ends = refl
   rank-parts (gap c r) = ap (λ n. 1 + n) (rank-parts r)
   rank-parts (turn x r) = ap (λ n. rank nr x + n) (rank-parts r)
@@ -82,7 +82,7 @@ module _ (k : NetPermits) (nr : ℕ → ℕ) where
   of_rank m (x ∷ []) = omega arith
   of_rank m (x ∷ y ∷ ys) = omega (arith, ranks-trees ys)
 
-  join_rank : (m : Mode) (xs : List Tree) → rank nr (join_all m xs) ≤ 1 + list_rank xs
+  pub join_rank : (m : Mode) (xs : List Tree) → rank nr (join_all m xs) ≤ 1 + list_rank xs
   join_rank m xs = omega (arith, of_rank m (flat m xs), flat_rank m xs)
 
   sub_rank : {ps qs : List Part} → IsSubRow ps qs → parts_rank ps ≤ parts_rank qs
@@ -112,7 +112,7 @@ module _ (k : NetPermits) (nr : ℕ → ℕ) where
   begun_rank (Gap c ∷ ps) = omega (arith, begun_rank ps)
   begun_rank (Turn x ∷ ps) = omega (arith, begun_rank ps)
 
-  abbrev OptLe : Option Tree → ℕ → Type 0
+  abbrev pub OptLe : Option Tree → ℕ → Type 0
   OptLe None n = Unit {0}
   OptLe (Some x) n = rank nr x ≤ n
 
@@ -129,7 +129,7 @@ module _ (k : NetPermits) (nr : ℕ → ℕ) where
   form_rank false x zero hi ps n l = omega (arith, join_rank row (begun ps), begun_rank ps)
   form_rank false x (suc lo) hi ps n l = tt
 
-  turns_rank : (p : List ℕ → Option Tree) (all : List ℕ) (x : Tree) (lo : ℕ) (hi : Option ℕ) (ps : List Part) (n : ℕ) → parts_rank ps ≤ n → OptLe (turns_of p all x lo hi ps) (1 + rank nr x + n)
+  pub turns_rank : (p : List ℕ → Option Tree) (all : List ℕ) (x : Tree) (lo : ℕ) (hi : Option ℕ) (ps : List Part) (n : ℕ) → parts_rank ps ≤ n → OptLe (turns_of p all x lo hi ps) (1 + rank nr x + n)
   turns_rank p all x lo hi ps n l =
       let a = cut_gaps all ps in
       let b = drop_nil a in
@@ -207,7 +207,7 @@ module _ (k : NetPermits) (nr : ℕ → ℕ) where
       let b : list_rank (distinct (open_choices ys)) ≤ list_rank (open_choices ys) = distinct_rank (open_choices ys) in
       form_rank_of (distinct (open_choices ys)) n (omega arith)
 
-  tie_rank : (y : Tree) (q : List (ℕ × ℕ)) → rank nr (bound_form y q) ≤ 1 + rank nr y + length q
+  pub tie_rank : (y : Tree) (q : List (ℕ × ℕ)) → rank nr (bound_form y q) ≤ 1 + rank nr y + length q
   tie_rank y [] = omega arith
   tie_rank y (p ∷ q) = omega arith
 
@@ -223,7 +223,7 @@ module _ (k : NetPermits) (nr : ℕ → ℕ) where
   with_length true p q = omega (arith, without_length p q)
   with_length false p q = omega arith
 
-  kept_length : (ns : List ℕ) (q : List (ℕ × ℕ)) → length (kept_pairs ns q) ≤ length q
+  pub kept_length : (ns : List ℕ) (q : List (ℕ × ℕ)) → length (kept_pairs ns q) ≤ length q
   kept_length ns [] = omega arith
   kept_length ns (p ∷ q) = omega (arith, with_length (has ns p.0 && has ns p.1) p (kept_pairs ns q), kept_length ns q)
 
@@ -267,7 +267,7 @@ module _ (k : NetPermits) (nr : ℕ → ℕ) where
     row_le b (gap c r) = gap_rank c b.instances (permit_row k b r) (row_rank nr r) (row_le b r)
     row_le b (turn x r) = turn_rank (permit k b x) (permit_row k b r) (rank nr x) (row_rank nr r) (permit_le b x) (row_le b r)
 
-  at_some : (r : Option Tree) (y : Tree) (n : ℕ) → r ≡ Some y → OptLe r n → rank nr y ≤ n
+  pub at_some : (r : Option Tree) (y : Tree) (n : ℕ) → r ≡ Some y → OptLe r n → rank nr y ≤ n
   at_some r y n e l = rw e at l
 
   pub permit_rank : (b : Block) (x y : Tree) → permit k b x ≡ Some y → rank nr y ≤ rank nr x
@@ -275,7 +275,7 @@ module _ (k : NetPermits) (nr : ℕ → ℕ) where
 
 -- the weight is the rank where nets weigh nothing
 mutual
-  weight_rank : (x : Tree) → weight x ≡ rank (λ n. 0) x
+  pub weight_rank : (x : Tree) → weight x ≡ rank (λ n. 0) x
   weight_rank Nil = refl
   weight_rank (Event e) = refl
   weight_rank (Join m xs) = ap (λ n. 1 + n) (weights_rank xs)

@@ -114,7 +114,7 @@ module _ (w : Tables) (n : ℕ) where
       label_at : (b a : ℕ) → b ≡ a → IsResidual k x (b ∷ l) z → IsResidual k x (a ∷ l) z
       label_at b a q r = rw q at r
 
-  set_sound : (l : List ℕ) (xs : List Tree) (z : Tree) → IsAmong z (residual_set n k xs l) → (x : Tree) × IsAmong x xs × IsResidual k x l z
+  pub set_sound : (l : List ℕ) (xs : List Tree) (z : Tree) → IsAmong z (residual_set n k xs l) → (x : Tree) × IsAmong x xs × IsResidual k x l z
   set_sound [] xs z h = (z, h, res_none)
   set_sound (a ∷ l) xs z h =
       let i = set_sound l (next_set n k a xs) z h in
@@ -145,11 +145,11 @@ module _ (w : Tables) (n : ℕ) where
       let m = (each_at xs x d.0 i).whole n (omega arith) e y h in
       set_whole l (next_set n k a xs) d.1 y z (distinct_in y (all_after n k a xs) (after_in a x xs i (record { event = e; term = y }) m q)) s
 
-  different : (l : List ℕ) (xs : List Tree) → AreDifferent xs → AreDifferent (residual_set n k xs l)
+  pub different : (l : List ℕ) (xs : List Tree) → AreDifferent xs → AreDifferent (residual_set n k xs l)
   different [] xs h = h
   different (a ∷ l) xs h = different l (next_set n k a xs) (are_different (all_after n k a xs))
 
-  alone : (x y : Tree) (l : List ℕ) (z : Tree) → IsAmong y (x ∷ []) → IsResidual k y l z → IsResidual k x l z
+  pub alone : (x y : Tree) (l : List ℕ) (z : Tree) → IsAmong y (x ∷ []) → IsResidual k y l z → IsResidual k x l z
   alone x y l z (inl e) r = rw e r
   alone x y l z (inr h) r = absurd h
 

@@ -60,7 +60,7 @@ each_sub q (sub_drop h) e = each_sub q h e.1
 each_sub q (sub_turn h) e = each_sub q h e
 each_sub q (sub_over h) e = each_sub q h e
 
-never_sub : {ps qs : List Part} → IsSubRow ps qs → NeverGrows qs → NeverGrows ps
+pub never_sub : {ps qs : List Part} → IsSubRow ps qs → NeverGrows qs → NeverGrows ps
 never_sub sub_end e = tt
 never_sub (sub_gap {c = c} h) e = (each_sub (Includes c) h e.0, never_sub h e.1)
 never_sub (sub_drop h) e = never_sub h e.1
@@ -75,7 +75,7 @@ each_cut all c [] e = tt
 each_cut all c (Gap d ∷ ps) e = (cut_includes all c d e.0, each_cut all c ps e.1)
 each_cut all c (Turn y ∷ ps) e = each_cut all c ps e
 
-never_cut : (all : List ℕ) (ps : List Part) → NeverGrows ps → NeverGrows (cut_gaps all ps)
+pub never_cut : (all : List ℕ) (ps : List Part) → NeverGrows ps → NeverGrows (cut_gaps all ps)
 never_cut all [] e = tt
 never_cut all (Gap c ∷ ps) e = (each_cut all c ps e.0, never_cut all ps e.1)
 never_cut all (Turn y ∷ ps) e = never_cut all ps e
@@ -102,7 +102,7 @@ each_wide k b c (turn y r) h = each_turn (permit k b y) (permit_row k b r) (each
     each_turn (Some z) None f = tt
     each_turn (Some z) (Some ps) f = f
 
-never_wide : (k : NetPermits) (b : Block) (r : Row) → NeverGrows (parts r) → NeverOf (permit_row k b r)
+pub never_wide : (k : NetPermits) (b : Block) (r : Row) → NeverGrows (parts r) → NeverOf (permit_row k b r)
 never_wide k b ends h = tt
 never_wide k b (gap c r) h = never_gap (permit_row k b r) (each_wide k b c r h.0) (never_wide k b r h.1)
   where
@@ -242,7 +242,7 @@ module _ (k : NetPermits) (node : ℕ → ℕ → Tree) (o : Bool) (NL : ℕ →
     lacks_bare_row j (turn x r) h = (lacks_bare j x h.0, lacks_bare_row j r h.1)
 
   mutual
-    outside_bare : (j : ℕ) (x : Tree) → IsOutside NL j x → Every (λ e. Unit {0}) (NL j) x
+    pub outside_bare : (j : ℕ) (x : Tree) → IsOutside NL j x → Every (λ e. Unit {0}) (NL j) x
     outside_bare j Nil h = tt
     outside_bare j (Event e) h = tt
     outside_bare j (Join m xs) h = outside_bare_all j xs h
@@ -286,20 +286,20 @@ module _ (k : NetPermits) (node : ℕ → ℕ → Tree) (o : Bool) (NL : ℕ →
       low = λ x lo hi ps b h. h;
       wide = λ b x lo hi r qs e h. h;
       after_row = λ x lo hi r qs b e a hm h. h;
-      trail_in = λ n f g t u c d h l. h;
+      trail_in = λ n f g t u c d h s a l. h;
       permitted = λ b x z e. tt;
       taken = λ x y z b e a p. tt;
     }
 
-    permit_out : (j : ℕ) (b : Block) (x : Tree) → IsOutside NL j x → MayHave (IsOutside NL j) (permit k b x)
+    pub permit_out : (j : ℕ) (b : Block) (x : Tree) → IsOutside NL j x → MayHave (IsOutside NL j) (permit k b x)
     permit_out j = permit_keeps k (IsOutside NL j) (Lacks NL j) (λ x lo hi ps. Lacks NL j x) (λ x z. Unit {0}) (out_kind j)
 
-    after_out : (j : ℕ) {x y : Tree} {e : TermEvent} → IsAfter k x e y → IsOutside NL j x → IsOutside NL j y
+    pub after_out : (j : ℕ) {x y : Tree} {e : TermEvent} → IsAfter k x e y → IsOutside NL j x → IsOutside NL j y
     after_out j = after_keeps k (IsOutside NL j) (Lacks NL j) (λ x lo hi ps. Lacks NL j x) (λ x z. Unit {0}) (out_kind j) (λ n m f t c d x h e. lacks_out j x (nets.lacks j n m d x h e))
 
     -- a number that a term lacks is in no event of its patterns
     mutual
-      lacks_none : {x : Tree} {s : Shape} (j : ℕ) → HasPattern w o x s → Lacks NL j x → NoNumber j s
+      pub lacks_none : {x : Tree} {s : Shape} (j : ℕ) → HasPattern w o x s → Lacks NL j x → NoNumber j s
       lacks_none j has_nil h = tt
       lacks_none j has_event h = h
       lacks_none j (has_join {xs = xs} a) h = lacks_parts j a (every_out (λ e. e.number ≢ j) (NL j) xs h)
@@ -389,7 +389,7 @@ module _ (k : NetPermits) (node : ℕ → ℕ → Tree) (o : Bool) (NL : ℕ →
       shows_gaps j (gaps_turn {y = y} {ps = ps} b a) h d (inl i) = inr (has_left (numbers y) (part_numbers ps) j (shows_of j b d.0 i))
       shows_gaps j (gaps_turn {y = y} {ps = ps} b a) h d (inr i) = elim (shows_gaps j a h d.1 i) [ inl p ↦ inl p | inr p ↦ inr (has_right (numbers y) (part_numbers ps) j p) ]
 
-    permit_shows : (q : List (ℕ × ℕ)) (x : Tree) → ((j : ℕ) → InPairs j q → IsOutside NL j x) → (j : ℕ) → InPairs j q → (b : Block) (y : Tree) → permit k b x ≡ Some y → Shows w o y j
+    pub permit_shows : (q : List (ℕ × ℕ)) (x : Tree) → ((j : ℕ) → InPairs j q → IsOutside NL j x) → (j : ℕ) → InPairs j q → (b : Block) (y : Tree) → permit k b x ≡ Some y → Shows w o y j
     permit_shows q x f j p b y e s a i = shows_of j a (at_some (Bare j) (permit k b x) y e (permit_every (λ e. Unit {0}) (NL j) k b x (outside_bare j x (f j p)))) i
 
     after_shows : (x y z : Tree) (q : List (ℕ × ℕ)) (e : TermEvent) → ((j : ℕ) → InPairs j q → IsOutside NL j x) → IsAfter k x e y → permit k (earlier q e) y ≡ Some z → (j : ℕ) → InPairs j q → Shows w o z j
@@ -428,24 +428,24 @@ module _ (k : NetPermits) (node : ℕ → ℕ → Tree) (o : Bool) (NL : ℕ →
     each_after c (past_turn p a) h = each_after c a h
     each_after c (past_gap {x = x} {c = g} {e = e} a) h = (wide_both c g (instances_of e).instances h.0, each_after c a h.1)
 
-    never_after : {x : Tree} {b : Bool} {ps qs : List Part} {e : TermEvent} → IsAfterRow k x b ps e qs → NeverGrows ps → NeverGrows qs
+    pub never_after : {x : Tree} {b : Bool} {ps qs : List Part} {e : TermEvent} → IsAfterRow k x b ps e qs → NeverGrows ps → NeverGrows qs
     never_after (in_turn a) h = h
     never_after (in_gap {x = x} {c = g} {ps = ps} {e = e} p a) h =
         ((λ n i. union_left g (instances_of e).instances n i, weaker g (instances_of e).instances ps h.0), h)
     never_after (past_turn p a) h = never_after a h
     never_after (past_gap {c = g} a) h = (each_after g a h.0, never_after a h.1)
 
-    up_down : (b : Bool) (lo : ℕ) (hi : Option ℕ) → HasMore b hi → UpTo hi lo → UpTo (fewer b hi) (down b lo)
+    pub up_down : (b : Bool) (lo : ℕ) (hi : Option ℕ) → HasMore b hi → UpTo hi lo → UpTo (fewer b hi) (down b lo)
     up_down b lo None e h = tt
     up_down true lo (Some i) e h = omega arith
     up_down false lo (Some i) e h = h
 
-    up_low : (t : Bool) (lo : ℕ) (hi : Option ℕ) → UpTo hi lo → UpTo hi (lower_of t lo)
+    pub up_low : (t : Bool) (lo : ℕ) (hi : Option ℕ) → UpTo hi lo → UpTo hi (lower_of t lo)
     up_low t lo None h = tt
     up_low true lo (Some i) h = omega arith
     up_low false lo (Some i) h = h
 
-    never_some : (p : Option (List Part)) (qs : List Part) → p ≡ Some qs → NeverOf p → NeverGrows qs
+    pub never_some : (p : Option (List Part)) (qs : List Part) → p ≡ Some qs → NeverOf p → NeverGrows qs
     never_some p qs e h = rw e at h
 
     abbrev pub Loop : Tree → ℕ → Option ℕ → List Part → Type 0
@@ -475,7 +475,7 @@ module _ (k : NetPermits) (node : ℕ → ℕ → Tree) (o : Bool) (NL : ℕ →
       low = λ x lo hi ps b h. (h.0, up_low b lo hi h.1, h.2);
       wide = λ b x lo hi r qs e h. (h.0, h.1, never_some (permit_row k b r) qs e (never_wide k b r h.2));
       after_row = λ x lo hi r qs b e a hm h. (h.0, up_down b lo hi hm h.1, never_after a h.2);
-      trail_in = λ n f g t u c d h l. h;
+      trail_in = λ n f g t u c d h s a l. h;
       permitted = λ b x z e j h. at_some (IsOutside NL j) (permit k b x) z e (permit_out j b x h);
       taken = λ x y z b e a p j h. at_some (IsOutside NL j) (permit k b y) z p (permit_out j b y (after_out j a h));
     }

@@ -49,7 +49,7 @@ module _ (a b : ℕ) (l : a ≤ b) where
     higher_row (gap c r) h = higher_row r h
     higher_row (turn x r) h = (higher x h.0, higher_row r h.1)
 
-each_map : (P Q : Tree → Type 0) → ((x : Tree) → P x → Q x) → (xs : List Tree) → Each P xs → Each Q xs
+pub each_map : (P Q : Tree → Type 0) → ((x : Tree) → P x → Q x) → (xs : List Tree) → Each P xs → Each Q xs
 each_map P Q f [] h = tt
 each_map P Q f (x ∷ xs) h = (f x h.0, each_map P Q f xs h.1)
 
@@ -65,7 +65,7 @@ pub picked : {A : Type 0} (P : A → Type 0) (t : Bool) (x y : A) → (t ≡ tru
 picked P true x y f g = f refl
 picked P false x y f g = g refl
 
-node_below : (o : Bool) (es : List NetEntry) → AreTidyTables es → (n : ℕ) → n < net_count es → (m : ℕ) → IsBelow (net_count es) (node_of es n m)
+pub node_below : (o : Bool) (es : List NetEntry) → AreTidyTables es → (n : ℕ) → n < net_count es → (m : ℕ) → IsBelow (net_count es) (node_of es n m)
 node_below o [] h n l m = absurd (omega arith)
 node_below o (e ∷ es) h n l m =
     picked (IsBelow (suc (net_count es))) (n == net_count es) (nth_tree e.nodes m) (node_of es n m)
@@ -139,11 +139,11 @@ module _ (o : Bool) (e : NetEntry) (es : List NetEntry) (sound : AreTidyTables e
     whole = λ s a. let i = h.whole s (down x b s a.0, a.1) in (i.0, opt_up r d i.0 i.1, i.2);
   }
 
-  lacks_up : (i n : ℕ) → n < top → NetLacks es i n → NetLacks (e ∷ es) i n
+  pub lacks_up : (i n : ℕ) → n < top → NetLacks es i n → NetLacks (e ∷ es) i n
   lacks_up i n l h = let p : (n == top) ≡ false = not_same n top l in rw p h
 
   mutual
-    lacks_tree : (i : ℕ) (x : Tree) → IsBelow top x → Every (λ f. f.number ≢ i) (NetLacks es i) x → Every (λ f. f.number ≢ i) (NetLacks (e ∷ es) i) x
+    pub lacks_tree : (i : ℕ) (x : Tree) → IsBelow top x → Every (λ f. f.number ≢ i) (NetLacks es i) x → Every (λ f. f.number ≢ i) (NetLacks (e ∷ es) i) x
     lacks_tree i Nil b h = tt
     lacks_tree i (Event f) b h = h
     lacks_tree i (Join m xs) b h = lacks_all i xs b h
@@ -152,11 +152,11 @@ module _ (o : Bool) (e : NetEntry) (es : List NetEntry) (sound : AreTidyTables e
     lacks_tree i (Turns x lo hi r) b h = (lacks_tree i x b.0 h.0, lacks_row i r b.1 h.1)
     lacks_tree i (Trail n f t c) b h = lacks_up i n b h
 
-    lacks_all : (i : ℕ) (xs : Trees) → EveryOf (λ e. Unit {0}) (λ m. m < top) xs → EveryOf (λ f. f.number ≢ i) (NetLacks es i) xs → EveryOf (λ f. f.number ≢ i) (NetLacks (e ∷ es) i) xs
+    pub lacks_all : (i : ℕ) (xs : Trees) → EveryOf (λ e. Unit {0}) (λ m. m < top) xs → EveryOf (λ f. f.number ≢ i) (NetLacks es i) xs → EveryOf (λ f. f.number ≢ i) (NetLacks (e ∷ es) i) xs
     lacks_all i none b h = tt
     lacks_all i (more x xs) b h = (lacks_tree i x b.0 h.0, lacks_all i xs b.1 h.1)
 
-    lacks_row : (i : ℕ) (r : Row) → EveryRow (λ e. Unit {0}) (λ m. m < top) r → EveryRow (λ f. f.number ≢ i) (NetLacks es i) r → EveryRow (λ f. f.number ≢ i) (NetLacks (e ∷ es) i) r
+    pub lacks_row : (i : ℕ) (r : Row) → EveryRow (λ e. Unit {0}) (λ m. m < top) r → EveryRow (λ f. f.number ≢ i) (NetLacks es i) r → EveryRow (λ f. f.number ≢ i) (NetLacks (e ∷ es) i) r
     lacks_row i ends b h = tt
     lacks_row i (gap c r) b h = lacks_row i r b h
     lacks_row i (turn x r) b h = (lacks_tree i x b.0 h.0, lacks_row i r b.1 h.1)

@@ -19,7 +19,7 @@ use Rattle.permit_step.specs.Sound.{HasOrder, AreSoundTables, IsSound}
 use Rattle.permit_step.specs.Soundness.{LeadsWithin}
 use Rattle.permit_step.specs.Taking.{IsAfter, after_event, after_join, after_bound, first_part, MayEnd, end_zero, past_gap, no_turns}
 
-abbrev event : ℕ → ℕ → ℕ → TermEvent
+abbrev pub event : ℕ → ℕ → ℕ → TermEvent
 event n i a = record { number = n; at = i; also = None; label = a }
 
 order_of : (s : Shape) (r : List ℕ) → Runs s r → HasOrder s
@@ -30,7 +30,7 @@ no_nets = record { tidy = tt; normal = tt }
 
 -- A message
 
-abbrev message : Tree
+abbrev pub message : Tree
 message = Bound (Join row (more (Event (event 1 0 0)) (more (Event (event 2 1 1)) none))) ((1, 2) ∷ [])
 
 not_self : (j : ℕ) → (((j == 1) && (j == 2)) || false) ≡ false
@@ -40,7 +40,7 @@ message_order : (s : Shape) → HasPattern (terms_over []) true message s → Ha
 message_order s (has_bound (has_join (one_part has_event (one_part has_event no_part)))) =
     order_of s (0 ∷ 1 ∷ []) (run_take (take_bind (take_first take_one) (refl, (refl, tt))) (run_take (take_bind (take_later tt (take_first take_one)) (tt, (refl, tt))) (run_end (tt, (tt, tt)))))
 
-message_sound : IsSound [] message
+pub message_sound : IsSound [] message
 message_sound = record {
   tables = no_nets;
   tidy = ((tt, (tt, tt)), (λ j p. (tt, (tt, tt))), not_self);
@@ -58,7 +58,7 @@ message_after = after_bound (after_join (first_part after_event)) refl
 
 -- A loop of one action
 
-abbrev action : Tree
+abbrev pub action : Tree
 action = Event (event 1 7 1)
 
 abbrev loop : Tree
@@ -120,10 +120,10 @@ may_end = end_zero (past_gap no_turns)
 
 -- A graph: a node with one action, which leads to itself and to an end
 
-abbrev entry : NetEntry
+abbrev pub entry : NetEntry
 entry = record { net = record { starts = 0 ∷ []; next = (0 ∷ 1 ∷ []) ∷ [] ∷ []; ends = false ∷ true ∷ [] }; nodes = action ∷ Nil ∷ [] }
 
-within : LeadsWithin entry
+pub within : LeadsWithin entry
 within Start m (inl p) = inl p
 within Start m (inr h) = absurd h
 within (At zero) m (inl p) = inl p

@@ -8,3 +8,5 @@ pub mod Sound
 pub mod ConstructorLaws
 pub mod Listing
 pub mod LaterTables
+pub mod OneResidual
+pub mod FullSoundness

@@ -3,6 +3,8 @@
 ghost use Rattle.permit_step.specs.ConstructorLaws.{PermitOnlyFalls, PermitOfNothing, NormalFormsKeepPatterns, ConstructorsKeepForm};
 ghost use Rattle.permit_step.specs.LaterTables.{LaterTablesAgree};
 ghost use Rattle.permit_step.specs.Listing.{ListIsExact, ResidualSetIsExact};
+ghost use Rattle.permit_step.specs.FullSoundness.{FullSoundnessIsKept, FreshTermsAreSound, ConstructorsKeepSoundness};
+ghost use Rattle.permit_step.specs.OneResidual.{OneResidual};
 ghost use Rattle.permit_step.specs.Laws.{PermitIsExact, PermitFailsExactly, AfterIsExact, MayEndIsExact, RunsAreLinearOrders, SoundnessIsKept, NormalFormIsKept, SoundHasPattern, ResidualsAreExact};
 
 /// What permission leaves of a term are exactly its patterns that avoid the block.
@@ -100,4 +102,31 @@ pub fn constructors_keep_form()
 #[tactic(auto, using(crate::proofs::Later::later_tables_agree))]
 pub fn later_tables_agree()
     ensures { LaterTablesAgree }
+{}
+
+/// At most one term is left, after every list of labels, of a term whose labels all differ, which has no graph, and no loop of
+/// which holds a choice or a loop; after k events it weighs at most 2·(k+1) times what the term weighs.
+#[tactic(auto, using(crate::proofs::OneResidual::one_residual))]
+pub fn one_residual()
+    ensures { OneResidual }
+{}
+
+/// What the laws ask of a term holds of one that is sound in full, and permission by a block that fits, and taking, keep terms
+/// sound in full.
+#[tactic(auto, using(crate::proofs::FullSound::full_soundness_is_kept))]
+pub fn full_soundness_is_kept()
+    ensures { FullSoundnessIsKept }
+{}
+
+/// A loop that no turn has begun, of an operand that is sound in full and holds no walk to any node, is sound in full where its
+/// lower count is at most the upper; so is a walk from the start.
+#[tactic(auto, using(crate::proofs::Fresh::fresh_terms_are_sound))]
+pub fn fresh_terms_are_sound()
+    ensures { FreshTermsAreSound }
+{}
+
+/// The normalising constructors make terms that are sound in full, and hold no walk to any node, of such terms.
+#[tactic(auto, using(crate::proofs::SoundForms::constructors_keep_soundness))]
+pub fn constructors_keep_soundness()
+    ensures { ConstructorsKeepSoundness }
 {}
