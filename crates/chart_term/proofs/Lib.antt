@@ -10,3 +10,4 @@ pub mod Sameness
 pub mod Walking
 pub mod Equal
 pub mod Binding
+mod Members

@@ -1,8 +1,16 @@
+pub mod Codes
+pub mod Equality
+pub mod Facts
+pub mod Falls
+pub mod Looks
 pub mod NormalForms
 pub mod Properties
+pub mod Rows
+pub mod Sizes
 pub mod Tables
 pub mod TermMeanings
 pub mod TermPatterns
 pub mod TermRuns
+pub mod TermViews
 pub mod Terms
-pub mod Equality
+pub mod Views

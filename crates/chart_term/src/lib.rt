@@ -4,4 +4,12 @@
 //! of a term, its weight, its patterns and the normalising constructors.
 #![tactic(auto)]
 
+mod event;
+mod facts;
 pub mod laws;
+mod look;
+mod term;
+
+pub use event::Event;
+pub use look::Look;
+pub use term::{RowList, RowPart, Term, TermList};

@@ -4,3 +4,6 @@
 #![tactic(auto)]
 
 pub mod laws;
+mod spot;
+
+pub use spot::{Goal, Spot};
