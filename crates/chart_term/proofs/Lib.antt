@@ -10,4 +10,6 @@ pub mod Sameness
 pub mod Walking
 pub mod Equal
 pub mod Binding
+mod Flattening
+mod Gathering
 mod Members

@@ -1,7 +1,7 @@
 -- The facts that a node of a term stores beside its parts.
 use Rattle.std.specs.List.{list_any}
 use Rattle.std.specs.Prelude.{ℕ, ◌+◌, ◌≡◌, Bool, true, false, List, [], ◌∷◌, ◌++◌, Option, Some, None, ◌||◌, ◌&&◌, not, min, max, nat_le}
-use Rattle.msc_base.specs.Blocks.{BlockValue}
+use Rattle.msc_base.specs.Blocks.{BlockValue, share}
 use Rattle.chart_term.specs.declared.facts.Facts.{Facts}
 use Rattle.chart_term.specs.declared.facts.Span.{Span}
 use Rattle.chart_term.specs.NormalForms.{numbers, numbers_all, numbers_row}
@@ -98,3 +98,7 @@ pub record Adds (old other new : Facts) : Type 0 where
   pub trail : new.has_trail ≡ (old.has_trail || other.has_trail)
   pub instances : (n : ℕ) → has new.instances.instances n ≡ (has old.instances.instances n || has other.instances.instances n)
   pub span : new.span ≡ wider old.span other.span
+
+-- the same by the stored facts
+abbrev pub facts_miss : BlockValue → Facts → Bool
+facts_miss b f = (not f.has_trail && not (share b.instances f.instances.instances)) && not (list_any (lies_in f.span) b.events)

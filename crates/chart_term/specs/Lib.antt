@@ -3,6 +3,7 @@ pub mod Equality
 pub mod Facts
 pub mod Falls
 pub mod Looks
+pub mod Modes
 pub mod NormalForms
 pub mod Properties
 pub mod Rows

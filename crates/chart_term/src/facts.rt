@@ -1,6 +1,7 @@
-ghost use Rattle.std.specs.Prelude.{◌≡◌, ◌+◌, ◌<◌, [], true, false, min, max, OnOk, IfOk};
+ghost use Rattle.std.specs.Prelude.{◌≡◌, ◌+◌, ◌<◌, [], true, false, min, max, OnOk, IfOk, Some};
+ghost use Rattle.std.specs.List.{list_any};
 ghost use Rattle.std.specs.Option.{ForSome};
-ghost use Rattle.chart_term.specs.Facts.{Adds, AreFacts, HasFacts, most_stored, wider};
+ghost use Rattle.chart_term.specs.Facts.{Adds, AreFacts, HasFacts, facts_miss, lies_in, most_stored, wider};
 ghost use Rattle.chart_term.specs.Views.{event_of};
 ghost use Rattle.chart_term.specs.Terms.{Event as EventTree};
 
@@ -29,6 +30,15 @@ pub(crate) struct Facts {
 }
 
 impl Span {
+    /// Whether one of the numbers lies from the least to the greatest.
+    fn has_any(&self, numbers: &[u32]) -> bool
+        ensures { result ≡ list_any (lies_in (Some self.now)) numbers.now }
+    {
+        numbers
+            .iter()
+            .any(|number| self.least <= *number && *number <= self.greatest)
+    }
+
     /// From the least to the greatest number of both.
     fn wider(self, other: Span) -> Span
         ensures { result ≡ record { least = min self.least other.least; greatest = max self.greatest other.greatest } }
@@ -128,5 +138,19 @@ impl Facts {
             instances,
             span: self.span,
         })
+    }
+
+    /// Whether no event of the block can hit a term with these facts.
+    #[tactic(auto, using(crate::proofs::Gathering::gathering))]
+    pub(crate) fn misses(&self, block: &Block) -> bool
+        ensures { result ≡ facts_miss block.now self.now }
+    {
+        if self.has_trail || block.shares_instance(&self.instances) {
+            return false;
+        }
+        match self.span {
+            None => true,
+            Some(span) => !span.has_any(block.events()),
+        }
     }
 }

@@ -6,10 +6,12 @@
 
 mod event;
 mod facts;
+mod joins;
 pub mod laws;
 mod look;
 mod term;
 
 pub use event::Event;
+pub use joins::{beside, then};
 pub use look::Look;
 pub use term::{RowList, RowPart, Term, TermList};

@@ -1,8 +1,10 @@
-ghost use Rattle.std.specs.Prelude.{◌≡◌, ◌+◌, ◌++◌, ◌∷◌, ◌<◌, [], length, slice_get, min, IfOk, OnOk, OnErr, Some};
+ghost use Rattle.std.specs.Prelude.{◌≡◌, ◌+◌, ◌++◌, ◌∷◌, ◌<◌, [], length, slice_get, min, IfOk, OnOk, OnErr, Some, MatchOption};
 ghost use Rattle.std.specs.Option.{ForSome};
 ghost use Rattle.chart_term.specs.Facts.{HasFacts, HaveFacts, RowHasFacts, misses, most_stored};
-ghost use Rattle.chart_term.specs.Terms.{Nil, Event as EventTree, Turns, Trail, Bound, trees, row_of, weight};
+ghost use Rattle.chart_term.specs.Terms.{Nil, Event as EventTree, Join, Choice, Turns, Trail, Bound, trees, row_of, weight};
+ghost use Rattle.msc_base.specs.Patterns.{row, aside};
 ghost use Rattle.hmsc_graph.specs.Nets.{spot_of, goal_of};
+ghost use Rattle.chart_term.specs.Views.{pairs_of};
 
 use crate::facts::Facts;
 use crate::{Event, Look};
@@ -192,6 +194,35 @@ impl TermList {
     {
         self.items.as_slice()
     }
+
+    /// Takes the last item off, if there is one.
+    pub(crate) fn pop(&mut self) -> Option<Term>
+        ensures { MatchOption result (self.old ≡ []) (λ last. self.old ≡ self.new ++ last ∷ []) }
+    {
+        self.items.pop()
+    }
+
+    /// The facts of all items together.
+    #[tactic(auto, using(crate::proofs::Gathering::gathering))]
+    fn facts(&self, alloc: Global) -> Result<Facts, NoMemory>
+        ensures { IfOk result (λ facts. HaveFacts (trees self.now) facts) }
+    {
+        let mut facts = Facts::none(alloc);
+        for item in &self.items {
+            facts.add(item.facts())?;
+        }
+        Ok(facts)
+    }
+
+    /// Appends copies of the items of another list.
+    pub(crate) fn append_copies(&mut self, alloc: Global, others: &TermList) -> Result<(), NoMemory>
+        ensures { OnOk result (self.new ≡ self.old ++ others.now) }
+    {
+        for other in &others.items {
+            self.push(other.copy(alloc)?)?;
+        }
+        Ok(())
+    }
 }
 
 impl RowList {
@@ -228,6 +259,21 @@ impl RowList {
         ensures { slice_get self.now index ≡ Some (part_of result.now) }
     {
         &self.items[index]
+    }
+
+    /// The facts of all items together.
+    #[tactic(auto, using(crate::proofs::Gathering::gathering))]
+    fn facts(&self, alloc: Global) -> Result<Facts, NoMemory>
+        ensures { IfOk result (λ facts. RowHasFacts (row_of self.now) facts) }
+    {
+        let mut facts = Facts::none(alloc);
+        for item in &self.items {
+            match item {
+                RowPart::Gap(_) => facts.add_weight(1),
+                RowPart::Turn(turn) => facts.add(turn.facts())?,
+            }
+        }
+        Ok(facts)
     }
 }
 
@@ -274,6 +320,69 @@ impl Term {
         };
         let facts = Facts::of_event(alloc, event)?;
         let form = Form::Event(event);
+        Term::share(alloc, Node { form, facts })
+    }
+
+    /// The loop, as it is.
+    #[tactic(auto, using(crate::proofs::Gathering::gathering))]
+    pub fn loop_of(
+        alloc: Global,
+        body: Term,
+        lower: u64,
+        upper: Option<u64>,
+        row: RowList,
+    ) -> Result<Term, NoMemory>
+        ensures { IfOk result (λ term. term ≡ Turns body lower upper (row_of row)) }
+    {
+        let mut facts = row.facts(alloc)?;
+        facts.add(body.facts())?;
+        facts.add_weight(1);
+        let form = Form::Turns(body, lower, upper, row);
+        Term::share(alloc, Node { form, facts })
+    }
+
+    /// The parts one after another, as they are.
+    pub(crate) fn row_of(alloc: Global, parts: TermList) -> Result<Term, NoMemory>
+        ensures { IfOk result (λ term. term ≡ Join row (trees parts)) }
+    {
+        let mut facts = parts.facts(alloc)?;
+        facts.add_weight(1);
+        let form = Form::Then(parts);
+        Term::share(alloc, Node { form, facts })
+    }
+
+    /// The parts side by side, as they are.
+    pub(crate) fn aside_of(alloc: Global, parts: TermList) -> Result<Term, NoMemory>
+        ensures { IfOk result (λ term. term ≡ Join aside (trees parts)) }
+    {
+        let mut facts = parts.facts(alloc)?;
+        facts.add_weight(1);
+        let form = Form::Beside(parts);
+        Term::share(alloc, Node { form, facts })
+    }
+
+    /// The choice of the parts, as they are.
+    pub(crate) fn choice_of(alloc: Global, parts: TermList) -> Result<Term, NoMemory>
+        ensures { IfOk result (λ term. term ≡ Choice (trees parts)) }
+    {
+        let mut facts = parts.facts(alloc)?;
+        facts.add_weight(1);
+        let form = Form::Choice(parts);
+        Term::share(alloc, Node { form, facts })
+    }
+
+    /// The term below a tie of these pairs, as they are.
+    pub(crate) fn bound_of(
+        alloc: Global,
+        inner: Term,
+        pairs: PairList,
+    ) -> Result<Term, NoMemory>
+        ensures { IfOk result (λ term. term ≡ Bound inner (pairs_of pairs)) }
+    {
+        let mut facts = inner.facts().copy(alloc)?;
+        facts.add_weight(pairs.len() as u64);
+        facts.add_weight(1);
+        let form = Form::Bound(inner, pairs);
         Term::share(alloc, Node { form, facts })
     }
 
@@ -335,11 +444,28 @@ impl Term {
         })
     }
 
+    /// The facts that the node stores.
+    pub(crate) fn facts(&self) -> &Facts
+        ensures { HasFacts self.now result.now }
+    {
+        let node: &Node = &self.node;
+        &node.facts
+    }
+
+    /// Whether no event of the block can hit the term: no walk stands in it, no instance of the
+    /// block is one of its events', and no event number of the block lies from the least to the
+    /// greatest of theirs. It takes no memory.
+    #[tactic(auto, using(crate::proofs::Gathering::gathering))]
+    pub fn misses(&self, block: &Block) -> bool
+        ensures { result ≡ misses block.now self.now }
+    {
+        self.facts().misses(block)
+    }
+
     /// The weight, or the largest `u64` where the weight is larger. It takes no memory.
     pub fn weight(&self) -> u64
         ensures { result ≡ min (weight self.now) most_stored }
     {
-        let node: &Node = &self.node;
-        node.facts.weight
+        self.facts().weight
     }
 }
