@@ -10,6 +10,7 @@ pub mod Sameness
 pub mod Walking
 pub mod Equal
 pub mod Binding
+mod Comparing
 mod Flattening
 mod Gathering
 mod Members

@@ -5,6 +5,8 @@ pub mod Falls
 pub mod Looks
 pub mod Modes
 pub mod NormalForms
+pub mod Order
+pub mod OrderLaws
 pub mod Properties
 pub mod Rows
 pub mod Sizes

@@ -18,12 +18,7 @@ enum Mode {
 
 /// Appends the part, opened where it is a join of this kind.
 #[tactic(auto, using(crate::proofs::Flattening::flats))]
-fn push_opened(
-    list: &mut TermList,
-    alloc: Global,
-    mode: Mode,
-    part: &Term,
-) -> Result<(), NoMemory>
+fn push_opened(list: &mut TermList, alloc: Global, mode: Mode, part: &Term) -> Result<(), NoMemory>
     ensures { OnOk result (list.new ≡ list.old ++ open_part (mode_of mode) part.now) }
 {
     match (mode, part.look()) {

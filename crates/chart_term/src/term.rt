@@ -6,6 +6,8 @@ ghost use Rattle.msc_base.specs.Patterns.{row, aside};
 ghost use Rattle.hmsc_graph.specs.Nets.{spot_of, goal_of};
 ghost use Rattle.chart_term.specs.Views.{pairs_of};
 
+mod order;
+
 use crate::facts::Facts;
 use crate::{Event, Look};
 use hmsc_graph::{Goal, Spot};
@@ -372,11 +374,7 @@ impl Term {
     }
 
     /// The term below a tie of these pairs, as they are.
-    pub(crate) fn bound_of(
-        alloc: Global,
-        inner: Term,
-        pairs: PairList,
-    ) -> Result<Term, NoMemory>
+    pub(crate) fn bound_of(alloc: Global, inner: Term, pairs: PairList) -> Result<Term, NoMemory>
         ensures { IfOk result (λ term. term ≡ Bound inner (pairs_of pairs)) }
     {
         let mut facts = inner.facts().copy(alloc)?;
