@@ -1,5 +1,5 @@
 -- Lists compared item by item.
-use Rattle.std.proofs.Common.{◌≡◌, ℕ, ◌+◌, ◌<◌, ◌≤◌, ◌⊎◌, inl, inr, suc, zero, List, [], ◌∷◌, refl, ap, ap₂, subst, sym, ◌∙◌, arith, length, get_or, drop, map, add-one, Bool, true, false, not, nat_eq, IsTrue, ◌↔◌}
+use Rattle.std.proofs.Common.{◌≡◌, ℕ, ◌+◌, ◌<◌, ◌≤◌, ◌⊎◌, inl, inr, suc, zero, List, [], ◌∷◌, refl, ap, ap₂, sym, ◌∙◌, arith, length, get_or, drop, add-one, Bool, true, false, not, nat_eq, IsTrue, ◌↔◌}
 use Rattle.std.proofs.lemmas.Bool.{lt-ltb, le-ltb, eq-eqb, ne_eqb, cases_order}
 use Rattle.std.proofs.lemmas.List.{get_or-map}
 use Rattle.std.specs.Ordering.{nat_cmp, ordering_then, ordering_index}

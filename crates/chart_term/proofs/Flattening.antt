@@ -1,5 +1,5 @@
 -- Joins and choices opened one part after another.
-use Rattle.std.proofs.Common.{◌≡◌, ℕ, ◌+◌, ◌<◌, List, [], ◌∷◌, ◌++◌, refl, ap, sym, ◌∙◌, append_assoc, append-nil, length, take, get_or}
+use Rattle.std.proofs.Common.{◌≡◌, ℕ, ◌+◌, ◌<◌, List, [], ◌∷◌, ◌++◌, ap, sym, ◌∙◌, append_assoc, append-nil, length, take, get_or}
 use Rattle.std.proofs.lemmas.List.{take_more}
 use Rattle.msc_base.specs.Patterns.{Mode}
 use Rattle.chart_term.specs.NormalForms.{open_part, flat, open_choice, open_choices}

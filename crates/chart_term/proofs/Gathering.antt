@@ -1,5 +1,5 @@
 -- The facts of a list of terms or of a row, one part after another.
-use Rattle.std.proofs.Common.{◌≡◌, ℕ, ◌+◌, ◌<◌, Bool, true, false, ◌||◌, ◌&&◌, not, List, [], ◌∷◌, ◌++◌, refl, ap, ap₂, subst, sym, ◌∙◌, arith, length, take, get_or, map, append_assoc, append-nil, min, max, nat_eq, Option, Some, None}
+use Rattle.std.proofs.Common.{◌≡◌, ℕ, ◌+◌, ◌<◌, Bool, true, false, ◌||◌, ◌&&◌, not, List, [], ◌∷◌, ◌++◌, refl, ap, ap₂, subst, sym, ◌∙◌, arith, length, take, get_or, append_assoc, append-nil, min, max, nat_eq, Option, Some, None}
 use Rattle.std.specs.List.{list_any}
 use Rattle.std.proofs.lemmas.List.{map-append}
 use Rattle.chart_term.specs.declared.term.RowPart.{RowPart}
@@ -11,7 +11,7 @@ use Rattle.chart_term.specs.declared.facts.Facts.{Facts}
 use Rattle.chart_term.specs.declared.facts.Span.{Span}
 use Rattle.chart_term.specs.NormalForms.{numbers, numbers_all, numbers_row}
 use Rattle.chart_term.specs.Facts.{AreFacts, Adds, HasFacts, HaveFacts, RowHasFacts, has_trail, any_trail, row_trail, instances, instances_all, instances_row, misses, facts_miss, span_of, lies_in, most_stored, wider}
-use Rattle.chart_term.specs.Terms.{Tree, Turns, Trees, none, more, Row, ends, gap, turn, trees, weight, weights, row_weight, Part, Gap, Turn, row_of, has}
+use Rattle.chart_term.specs.Terms.{Tree, Turns, Row, trees, weight, weights, row_weight, Part, Gap, Turn, row_of, has}
 use Rattle.chart_term.proofs.Flattening.{taken_next}
 use Rattle.chart_term.proofs.Members.{facts_added, span_of-append}
 
@@ -35,7 +35,7 @@ instances-snoc : (xs : List Tree) (x : Tree) → instances_all (trees xs) ++ ins
 instances-snoc [] x = sym (append-nil (instances x))
 instances-snoc (y ∷ ys) x = append_assoc (instances y) (instances_all (trees ys)) (instances x) ∙ ap (λ l. instances y ++ l) (instances-snoc ys x)
 
-numbers-snoc : (xs : List Tree) (x : Tree) → numbers_all (trees xs) ++ numbers x ≡ numbers_all (trees (xs ++ x ∷ []))
+pub numbers-snoc : (xs : List Tree) (x : Tree) → numbers_all (trees xs) ++ numbers x ≡ numbers_all (trees (xs ++ x ∷ []))
 numbers-snoc [] x = sym (append-nil (numbers x))
 numbers-snoc (y ∷ ys) x = append_assoc (numbers y) (numbers_all (trees ys)) (numbers x) ∙ ap (λ l. numbers y ++ l) (numbers-snoc ys x)
 
@@ -71,7 +71,7 @@ row_instances-turn [] x = sym (append-nil (instances x))
 row_instances-turn (Gap c ∷ ps) x = row_instances-turn ps x
 row_instances-turn (Turn y ∷ ps) x = append_assoc (instances y) (instances_row (row_of ps)) (instances x) ∙ ap (λ l. instances y ++ l) (row_instances-turn ps x)
 
-row_numbers-turn : (ps : List Part) (x : Tree) → numbers_row (row_of ps) ++ numbers x ≡ numbers_row (row_of (ps ++ Turn x ∷ []))
+pub row_numbers-turn : (ps : List Part) (x : Tree) → numbers_row (row_of ps) ++ numbers x ≡ numbers_row (row_of (ps ++ Turn x ∷ []))
 row_numbers-turn [] x = sym (append-nil (numbers x))
 row_numbers-turn (Gap c ∷ ps) x = row_numbers-turn ps x
 row_numbers-turn (Turn y ∷ ps) x = append_assoc (numbers y) (numbers_row (row_of ps)) (numbers x) ∙ ap (λ l. numbers y ++ l) (row_numbers-turn ps x)
@@ -98,7 +98,7 @@ row_instances-gap [] c = refl
 row_instances-gap (Gap d ∷ ps) c = row_instances-gap ps c
 row_instances-gap (Turn y ∷ ps) c = ap (λ l. instances y ++ l) (row_instances-gap ps c)
 
-row_numbers-gap : (ps : List Part) (c : List ℕ) → numbers_row (row_of ps) ≡ numbers_row (row_of (ps ++ Gap c ∷ []))
+pub row_numbers-gap : (ps : List Part) (c : List ℕ) → numbers_row (row_of ps) ≡ numbers_row (row_of (ps ++ Gap c ∷ []))
 row_numbers-gap [] c = refl
 row_numbers-gap (Gap d ∷ ps) c = row_numbers-gap ps c
 row_numbers-gap (Turn y ∷ ps) c = ap (λ l. numbers y ++ l) (row_numbers-gap ps c)
@@ -165,7 +165,7 @@ loop_facts x lo hi r f g h k p q s e =
 pub have_facts-next : (xs : List Tree) (i : ℕ) (x : Tree) (f g h : Facts) → i < length xs → x ≡ get_or xs i x → HaveFacts (trees (take i xs)) f → HasFacts x g → Adds f g h → HaveFacts (trees (take (i + 1) xs)) h
 have_facts-next xs i x f g h lt e p q s = subst (λ (l : List Tree). HaveFacts (trees l) h) (sym (taken_next xs i x lt e)) (have_facts-snoc (take i xs) x f g h p q s)
 
-parts_next : (xs : List RowPart) (i : ℕ) (x : RowPart) → i < length xs → x ≡ get_or xs i x → parts_of (take (i + 1) xs) ≡ parts_of (take i xs) ++ part_of x ∷ []
+pub parts_next : (xs : List RowPart) (i : ℕ) (x : RowPart) → i < length xs → x ≡ get_or xs i x → parts_of (take (i + 1) xs) ≡ parts_of (take i xs) ++ part_of x ∷ []
 parts_next xs i x lt e = ap parts_of (taken_next xs i x lt e) ∙ map-append part_of (take i xs) (x ∷ [])
 
 pub row_facts-next_gap : (xs : List RowPart) (i : ℕ) (x : RowPart) (b : BlockValue) (f h : Facts) → i < length xs → x ≡ get_or xs i x → x ≡ part.Gap b → RowHasFacts (row_of (parts_of (take i xs))) f → h ≡ record f { weight = min (f.weight + 1) most_stored } → RowHasFacts (row_of (parts_of (take (i + 1) xs))) h

@@ -5,6 +5,7 @@ pub mod Falls
 pub mod Looks
 pub mod Modes
 pub mod NormalForms
+pub mod Numbers
 pub mod Order
 pub mod OrderLaws
 pub mod Properties

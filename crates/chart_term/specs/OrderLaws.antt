@@ -1,16 +1,16 @@
 -- The order of terms is total: it is that of their keys, trees of numbers that are compared from the left.
-use Rattle.std.proofs.Common.{ap, ap₂, arith, sym, subst, ◌∙◌, inl, inr}
+use Rattle.std.proofs.Common.{ap, ap₂, arith, sym, ◌∙◌, inl, inr}
 use Rattle.std.proofs.lemmas.Bool.{cases_order, lt-ltb, le-ltb, eq-eqb, ne_eqb}
 use Rattle.std.proofs.lemmas.Cmp.{nat_cmp_total}
 use Rattle.std.specs.Cmp.{IsTotalOrder}
 use Rattle.std.specs.Ordering.{nat_cmp, ordering_then, ordering_reverse}
-use Rattle.std.specs.Prelude.{ℕ, ◌<◌, List, [], ◌∷◌, Option, Some, None, ◌≡◌, ◌⊎◌, refl}
+use Rattle.std.specs.Prelude.{ℕ, List, [], ◌∷◌, Option, Some, None, ◌≡◌, ◌⊎◌, refl}
 use Rattle.std.specs.declared.cmp.Ordering.{Ordering}
 use Rattle.std.specs.declared.cmp.Ordering.TheVariants.{Less, Equal, Greater}
 use Rattle.msc_base.specs.Blocks.{set_cmp}
 use Rattle.msc_base.specs.Patterns.{row, aside}
 use Rattle.hmsc_graph.specs.Graphs.{Spot, Start, At, Goal, To, End, Any}
-use Rattle.chart_term.specs.Order.{rank, maybe_cmp, event_cmp, pair_cmp, pairs_cmp, spot_cmp, goal_cmp, tree_cmp, trees_cmp, row_cmp, TermsAreOrdered}
+use Rattle.chart_term.specs.Order.{maybe_cmp, event_cmp, pair_cmp, pairs_cmp, spot_cmp, goal_cmp, tree_cmp, trees_cmp, row_cmp, TermsAreOrdered}
 use Rattle.chart_term.specs.Terms.{TermEvent, Tree, Nil, Event, Join, Choice, Bound, Turns, Trail, Trees, none, more, Row, ends, gap, turn}
 
 -- a key: a tree of numbers

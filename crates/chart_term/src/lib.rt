@@ -4,6 +4,8 @@
 //! of a term, its weight, its patterns and the normalising constructors.
 #![tactic(auto)]
 
+mod bounds;
+mod choices;
 mod event;
 mod facts;
 mod joins;
@@ -11,6 +13,8 @@ pub mod laws;
 mod look;
 mod term;
 
+pub use bounds::bound;
+pub use choices::choice;
 pub use event::Event;
 pub use joins::{beside, then};
 pub use look::Look;

@@ -4,8 +4,10 @@ ghost use Rattle.chart_term.specs.Facts.{HasFacts, HaveFacts, RowHasFacts, misse
 ghost use Rattle.chart_term.specs.Terms.{Nil, Event as EventTree, Join, Choice, Turns, Trail, Bound, trees, row_of, weight};
 ghost use Rattle.msc_base.specs.Patterns.{row, aside};
 ghost use Rattle.hmsc_graph.specs.Nets.{spot_of, goal_of};
+ghost use Rattle.chart_term.specs.NormalForms.{open_choice};
 ghost use Rattle.chart_term.specs.Views.{pairs_of};
 
+mod numbers;
 mod order;
 
 use crate::facts::Facts;
@@ -83,11 +85,11 @@ impl Model for Node {
     ghost use Rattle.std.proofs.Common.{arith};
     ghost use Rattle.chart_term.specs.Facts.{HasFacts};
     ghost use Rattle.chart_term.specs.Sizes.{nodes, nodes_all-trees, nodes_row-row_of};
-    ghost use Rattle.chart_term.specs.TermViews.{tree_of};
+    ghost use Rattle.chart_term.specs.TermViews.{IsFull, tree_of};
 
     ghost view = { λ t. tree_of t.form };
 
-    ghost invariant = { λ t. HasFacts (tree_of t.form) t.facts };
+    ghost invariant = { λ t. HasFacts (tree_of t.form) t.facts × IsFull t.form };
 
     ghost size = { λ t. nodes t * 2 };
 
@@ -365,6 +367,7 @@ impl Term {
 
     /// The choice of the parts, as they are.
     pub(crate) fn choice_of(alloc: Global, parts: TermList) -> Result<Term, NoMemory>
+        requires { 0 < length parts }
         ensures { IfOk result (λ term. term ≡ Choice (trees parts)) }
     {
         let mut facts = parts.facts(alloc)?;
@@ -429,6 +432,18 @@ impl Term {
                 to: *to,
                 block,
             },
+        }
+    }
+
+    /// The parts of a choice, of which there is one at least.
+    pub(crate) fn choice_parts(&self) -> Option<&TermList>
+        ensures { MatchOption result (open_choice self.now ≡ self.now ∷ [])
+            (λ parts. (open_choice self.now ≡ parts.now) × (0 < length parts.now)) }
+    {
+        let node: &Node = &self.node;
+        match &node.form {
+            Form::Choice(parts) => Some(parts),
+            _ => None,
         }
     }
 

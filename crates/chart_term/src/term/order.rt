@@ -221,3 +221,58 @@ impl Term {
         self.compare(other) == Ordering::Less
     }
 }
+
+impl PartialEq for Term {
+    ghost use Rattle.std.specs.Cmp.{eq_by_cmp_equiv, partial_equiv_from_equiv};
+    ghost use Rattle.std.specs.Ordering.{eq_by_cmp};
+    ghost use Rattle.chart_term.specs.Order.{tree_cmp};
+    ghost use Rattle.chart_term.specs.OrderLaws.{tree_total};
+
+    ghost eq = { eq_by_cmp tree_cmp };
+
+    ghost laws = { partial_equiv_from_equiv (eq_by_cmp_equiv tree_total) };
+
+    fn eq(&self, other: &Term) -> bool {
+        self.compare(other) == Ordering::Equal
+    }
+}
+
+impl Eq for Term {
+    ghost use Rattle.std.specs.Cmp.{eq_by_cmp_equiv};
+    ghost use Rattle.chart_term.specs.OrderLaws.{tree_total};
+
+    ghost laws = { eq_by_cmp_equiv tree_total };
+}
+
+impl PartialOrd for Term {
+    ghost use Rattle.std.specs.Cmp.{partial_order_from_total};
+    ghost use Rattle.std.specs.Ordering.{as_partial_cmp};
+    ghost use Rattle.chart_term.specs.Order.{tree_cmp};
+    ghost use Rattle.chart_term.specs.OrderLaws.{tree_total};
+
+    ghost partial_cmp = { as_partial_cmp tree_cmp };
+
+    ghost laws = { partial_order_from_total tree_total };
+
+    fn partial_cmp(&self, other: &Term) -> Option<Ordering> {
+        Some(self.compare(other))
+    }
+}
+
+impl Ord for Term {
+    ghost use Rattle.std.specs.Prelude.{refl};
+    ghost use Rattle.chart_term.specs.Order.{tree_cmp};
+    ghost use Rattle.chart_term.specs.OrderLaws.{tree_total};
+
+    ghost cmp = { tree_cmp };
+
+    ghost total = { tree_total };
+
+    ghost matches_partial_cmp = { λ x y. refl };
+
+    ghost matches_eq = { λ x y. refl };
+
+    fn cmp(&self, other: &Term) -> Ordering {
+        self.compare(other)
+    }
+}

@@ -1,4 +1,4 @@
-use Rattle.std.proofs.Common.{arith, sym, ◌∙◌, inl, inr, get_or, ap₂}
+use Rattle.std.proofs.Common.{sym, ◌∙◌, inl, inr, get_or, ap₂}
 use Rattle.std.specs.Ordering.{ordering_then}
 use Rattle.msc_base.specs.declared.label.Pair.{Pair}
 use Rattle.chart_term.proofs.Comparing.{list_cmp-decided, list_cmp-end, held_cmp, pairs_by_list, get_or_any}
