@@ -1,9 +1,22 @@
-//! Graphs of high-level charts.
+//! Graphs of high-level charts: made from their lines, and searched for walks.
 //!
 //! A graph has nodes and edges between them; `specs/` says which walks lead through it, and tests whether one does.
 #![tactic(auto)]
 
+mod ending;
+mod labels;
 pub mod laws;
+mod net;
+mod node_set;
+mod shape;
 mod spot;
+#[cfg(test)]
+mod tests;
+mod walks;
 
+pub use ending::endless;
+pub use net::{Net, NetFault};
+pub use node_set::NodeSet;
+pub use shape::{Shape, ShapeLine, ShapeLines};
 pub use spot::{Goal, Spot};
+pub use walks::{has_walk, reach};

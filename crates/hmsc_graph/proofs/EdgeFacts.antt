@@ -1,0 +1,161 @@
+-- Edges that lead the other way.
+use Rattle.std.proofs.Common.{ℕ, zero, suc, ◌+◌, ◌<◌, ◌≡◌, ◌↔◌, ◌⊎◌, inl, inr, List, [], ◌∷◌, ◌++◌, length, get_or, set, take, replicate, Bool, true, false, refl, sym, subst, arith, ap, ◌∙◌}
+use Rattle.std.proofs.Math.Seq.{take-append_seam}
+use Rattle.std.proofs.lemmas.Bool.{cases_eq, cases_lt, true≢false}
+use Rattle.std.proofs.lemmas.List.{get_or-set_same, get_or-set_other, length-set, get_or_past}
+use Rattle.hmsc_graph.specs.Graphs.{Net, At, IsIn, behind}
+use Rattle.hmsc_graph.specs.Reversals.{HasEdges}
+use Rattle.hmsc_graph.specs.Graphs.{End, arrives}
+use Rattle.hmsc_graph.specs.Nets.{IsNet, size_of, graph_of}
+use Rattle.hmsc_graph.specs.Reversals.{AreEdgesBack, IsReversed}
+use Rattle.hmsc_graph.proofs.MemberFacts.{in_left, in_pushed, pushed_in}
+
+pub edges_none : (back : List (List ℕ)) (node : ℕ) → HasEdges back node [] back
+edges_none back node = record {
+  each = refl;
+  edges = λ m n. ((λ h. inl h), λ h. only m n h);
+}
+  where
+    only : (m n : ℕ) → IsIn m (get_or back n []) ⊎ ((m ≡ node) × IsIn n []) → IsIn m (get_or back n [])
+    only m n (inl h) = h
+    only m n (inr h) = absurd h.1
+
+get_default : (xs : List (List ℕ)) (i : ℕ) (d : List ℕ) → i < length xs → get_or xs i d ≡ get_or xs i []
+get_default [] i d h = absurd (omega arith)
+get_default (x ∷ xs) zero d h = refl
+get_default (x ∷ xs) (suc i) d h = get_default xs i d (omega (arith, h))
+
+-- one more edge
+pub edge_more : (was : List (List ℕ)) (node : ℕ) (next more : List ℕ) (is : List (List ℕ)) (to : ℕ) (old new : List ℕ) → more ≡ next ++ to ∷ [] → HasEdges was node next is → to < length is → new ≡ get_or is to old ++ node ∷ []
+    → HasEdges was node more (set is to new)
+edge_more was node next more is to old new e h below made = record {
+  each = length-set is to new ∙ h.each;
+  edges = λ m n. elim (cases_eq n to) [ inl at ↦ same m n at | inr ne ↦ other m n ne ];
+}
+  where
+    old_is : get_or is to old ≡ get_or is to []
+    old_is = get_default is to old below
+
+    new_is : (n : ℕ) → n ≡ to → get_or (set is to new) n [] ≡ get_or is n [] ++ node ∷ []
+    new_is n at = ap (λ (k : ℕ). get_or (set is to new) k []) at ∙ get_or-set_same is to new [] below ∙ made ∙ ap (λ (l : List ℕ). l ++ node ∷ []) (old_is ∙ ap (λ (k : ℕ). get_or is k []) (sym at))
+
+    wider : (m n : ℕ) → IsIn m (get_or was n []) ⊎ ((m ≡ node) × IsIn n next) → IsIn m (get_or was n []) ⊎ ((m ≡ node) × IsIn n more)
+    wider m n (inl h) = inl h
+    wider m n (inr p) = inr (p.0, subst (λ l. IsIn n l) (sym e) (in_left n next (to ∷ []) p.1))
+
+    same : (m n : ℕ) → n ≡ to → IsIn m (get_or (set is to new) n []) ↔ (IsIn m (get_or was n []) ⊎ ((m ≡ node) × IsIn n more))
+    same m n at = (there, back)
+      where
+        there : IsIn m (get_or (set is to new) n []) → IsIn m (get_or was n []) ⊎ ((m ≡ node) × IsIn n more)
+        there i = elim (in_pushed m node (get_or is n []) (subst (λ l. IsIn m l) (new_is n at) i)) [
+          | inl l ↦ wider m n ((h.edges m n).0 l)
+          | inr x ↦ inr (x, subst (λ l. IsIn n l) (sym e) (pushed_in n to next at))
+        ]
+
+        from : IsIn m (get_or is n []) → IsIn m (get_or (set is to new) n [])
+        from i = subst (λ l. IsIn m l) (sym (new_is n at)) (in_left m (get_or is n []) (node ∷ []) i)
+
+        back : IsIn m (get_or was n []) ⊎ ((m ≡ node) × IsIn n more) → IsIn m (get_or (set is to new) n [])
+        back (inl l) = from ((h.edges m n).1 (inl l))
+        back (inr p) = subst (λ l. IsIn m l) (sym (new_is n at)) (pushed_in m node (get_or is n []) p.0)
+
+    other : (m n : ℕ) → (n ≡ to → ⊥) → IsIn m (get_or (set is to new) n []) ↔ (IsIn m (get_or was n []) ⊎ ((m ≡ node) × IsIn n more))
+    other m n ne = (there, back)
+      where
+        kept : get_or (set is to new) n [] ≡ get_or is n []
+        kept = get_or-set_other is to n new [] ne
+
+        there : IsIn m (get_or (set is to new) n []) → IsIn m (get_or was n []) ⊎ ((m ≡ node) × IsIn n more)
+        there i = wider m n ((h.edges m n).0 (subst (λ l. IsIn m l) kept i))
+
+        narrower : IsIn m (get_or was n []) ⊎ ((m ≡ node) × IsIn n more) → IsIn m (get_or was n []) ⊎ ((m ≡ node) × IsIn n next)
+        narrower (inl l) = inl l
+        narrower (inr p) = elim (in_pushed n to next (subst (λ l. IsIn n l) e p.1)) [ inl i ↦ inr (p.0, i) | inr at ↦ absurd (ne at) ]
+
+        back : IsIn m (get_or was n []) ⊎ ((m ≡ node) × IsIn n more) → IsIn m (get_or (set is to new) n [])
+        back p = subst (λ l. IsIn m l) (sym kept) ((h.edges m n).1 (narrower p))
+
+-- empty lists
+pub lists_more : (count : ℕ) → replicate {A = List ℕ} (count + 1) [] ≡ replicate count [] ++ [] ∷ []
+lists_more count = ap (λ (k : ℕ). replicate {A = List ℕ} k []) (add_one count) ∙ grown count
+  where
+    add_one : (k : ℕ) → k + 1 ≡ suc k
+    add_one k = omega arith
+
+    grown : (k : ℕ) → replicate {A = List ℕ} (suc k) [] ≡ replicate k [] ++ [] ∷ []
+    grown zero = refl
+    grown (suc k) = ap (λ (l : List (List ℕ)). [] ∷ l) (grown k)
+
+none_there : (count m n : ℕ) → IsIn m (get_or (replicate {A = List ℕ} count []) n []) → ⊥
+none_there zero m n h = h
+none_there (suc count) m zero h = h
+none_there (suc count) m (suc n) h = none_there count m n h
+
+pub no_edges_back : (g : Net) (count : ℕ) → AreEdgesBack g 0 (replicate {A = List ℕ} count [])
+no_edges_back g count = λ m n. ((λ h. absurd (none_there count m n h)), λ p. absurd (omega (arith, p.0)))
+
+pub edges_back_more : (g : Net) (k : ℕ) (back new : List (List ℕ)) → AreEdgesBack g k back → HasEdges back k (behind g (At k)) new → AreEdgesBack g (k + 1) new
+edges_back_more g k back new was h = λ m n. ((λ i. there m n ((h.edges m n).0 i)), λ p. (h.edges m n).1 (from m n p))
+  where
+    there : (m n : ℕ) → IsIn m (get_or back n []) ⊎ ((m ≡ k) × IsIn n (behind g (At k))) → (m < k + 1) × IsIn n (behind g (At m))
+    there m n (inl i) = let p = (was m n).0 i in (omega (arith, p.0), p.1)
+    there m n (inr p) = (omega (arith, p.0), subst (λ (x : ℕ). IsIn n (behind g (At x))) (sym p.0) p.1)
+
+    from : (m n : ℕ) → (m < k + 1) × IsIn n (behind g (At m)) → IsIn m (get_or back n []) ⊎ ((m ≡ k) × IsIn n (behind g (At k)))
+    from m n p = elim (cases_eq m k) [
+      | inl e ↦ inr (e, subst (λ (x : ℕ). IsIn n (behind g (At x))) e p.1)
+      | inr ne ↦ inl ((was m n).1 (omega (arith, p.0), p.1))
+    ]
+
+-- something comes next only behind a node
+behind_node : (g : Net) (m n : ℕ) → IsNet g → IsIn n (behind g (At m)) → m < size_of g
+behind_node g m n net i = elim (cases_lt m (size_of g)) [
+  | inl lt ↦ lt
+  | inr le ↦ absurd (subst (λ (l : List ℕ). IsIn n l) (get_or_past g.next m [] (omega (arith, le, net.each))) i)
+]
+
+-- the graph the other way
+module _ (g : Net) (starts : List ℕ) (back : List (List ℕ)) (ends : List Bool) (net : IsNet g)
+    (starts_are : (m : ℕ) → IsIn m starts ↔ (arrives g End m ≡ true)) (starts_below : (m : ℕ) → IsIn m starts → m < size_of g)
+    (each : length back ≡ size_of g) (edges : AreEdgesBack g (size_of g) back) (size : length ends ≡ size_of g) where
+  pub reversed_net : IsNet (graph_of starts back ends)
+  reversed_net = record {
+    few = omega (arith, net.few, size);
+    each = each ∙ sym size;
+    starts_below = λ m i. omega (arith, starts_below m i, size);
+    next_below = λ k m i. omega (arith, ((edges m k).0 i).0, size);
+  }
+
+  pub reversed_is : IsReversed g (graph_of starts back ends)
+  reversed_is = record {
+    size = size;
+    starts = starts_are;
+    edges = λ m n. ((λ i. ((edges m n).0 i).1), λ i. (edges m n).1 (behind_node g m n net i, i));
+  }
+
+-- the `end` lines so far, with one more node
+module _ (g : Net) (k : ℕ) (nodes : List ℕ) (are : (m : ℕ) → IsIn m nodes ↔ ((m < k) × (arrives g End m ≡ true))) where
+  pub ends_with : (more : List ℕ) → more ≡ nodes ++ k ∷ [] → arrives g End k ≡ true → (m : ℕ) → IsIn m more ↔ ((m < k + 1) × (arrives g End m ≡ true))
+  ends_with more is end m = (there, back)
+    where
+      there : IsIn m more → (m < k + 1) × (arrives g End m ≡ true)
+      there i = elim (in_pushed m k nodes (subst (λ l. IsIn m l) is i)) [
+        | inl l ↦ let p = (are m).0 l in (omega (arith, p.0), p.1)
+        | inr e ↦ (omega arith, subst (λ (x : ℕ). arrives g End x ≡ true) (sym e) end)
+      ]
+
+      back : (m < k + 1) × (arrives g End m ≡ true) → IsIn m more
+      back p = subst (λ l. IsIn m l) (sym is) (elim (cases_eq m k) [ inl e ↦ pushed_in m k nodes e | inr ne ↦ in_left m nodes (k ∷ []) ((are m).1 (omega (arith, p.0), p.1)) ])
+
+  pub ends_without : arrives g End k ≡ false → (m : ℕ) → IsIn m nodes ↔ ((m < k + 1) × (arrives g End m ≡ true))
+  ends_without inner m = (
+    (λ i. let p = (are m).0 i in (omega (arith, p.0), p.1)),
+    λ p. elim (cases_eq m k) [
+      | inl e ↦ absurd (true≢false (sym p.1 ∙ subst (λ (x : ℕ). arrives g End x ≡ false) (sym e) inner))
+      | inr ne ↦ (are m).1 (omega (arith, p.0), p.1)
+    ],
+  )
+
+-- a slice written back to its list
+pub written : (len : ℕ) (new after : List (List ℕ)) → len ≡ length new → take len (new ++ after) ≡ new
+written len new after e = ap (λ (k : ℕ). take k (new ++ after)) e ∙ take-append_seam new after

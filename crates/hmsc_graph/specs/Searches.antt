@@ -1,0 +1,33 @@
+-- A search for the nodes that are reached: what was met, and what waits to be searched from.
+use Rattle.std.specs.Prelude.{ℕ, zero, suc, ◌≡◌, ◌≤◌, ◌<◌, ◌+◌, ◌==◌, ◌⊎◌, List, Option, Some, None, length, if◌then◌else◌}
+use Rattle.std.specs.List.{list_any}
+use Rattle.hmsc_graph.specs.Graphs.{Net, Spot, At, To, IsIn, Walk, behind}
+use Rattle.hmsc_graph.specs.NodeSets.{NodeSetValue}
+
+-- how many of the first numbers the list lacks
+abbrev pub missing : List ℕ → ℕ → ℕ
+missing nodes zero = 0
+missing nodes (suc n) = (if list_any (λ m. m == n) nodes then 0 else 1) + missing nodes n
+
+-- the nodes have been entered: they are reached, and the new ones that are allowed wait
+pub record HasEntered (allowed nodes : List ℕ) (was : NodeSetValue) (waited : List ℕ) (is : NodeSetValue) (waits : List ℕ) : Type 0 where
+  pub size : is.size ≡ was.size
+  pub kept : (m : ℕ) → IsIn m was.nodes → IsIn m is.nodes
+  pub entered : (m : ℕ) → IsIn m nodes → IsIn m is.nodes
+  pub only : (m : ℕ) → IsIn m is.nodes → IsIn m was.nodes ⊎ IsIn m nodes
+  pub waiting : (m : ℕ) → IsIn m waited → IsIn m waits
+  pub fresh : (m : ℕ) → IsIn m is.nodes → IsIn m allowed → IsIn m was.nodes ⊎ IsIn m waits
+  pub due : (m : ℕ) → IsIn m waits → IsIn m waited ⊎ (IsIn m is.nodes × IsIn m allowed)
+  pub work : missing is.nodes is.size + length waits ≤ missing was.nodes was.size + length waited
+
+-- how far a search from a spot has come
+pub record IsSearch (g : Net) (allowed : List ℕ) (from : Spot) (reached waits : List ℕ) : Type 0 where
+  pub sound : (m : ℕ) → IsIn m reached → Walk g allowed from (To m)
+  pub begun : (m : ℕ) → IsIn m (behind g from) → IsIn m reached
+  pub due : (m : ℕ) → IsIn m waits → IsIn m reached × IsIn m allowed
+  pub done : (k : ℕ) → IsIn k reached → IsIn k allowed → IsIn k waits ⊎ ((m : ℕ) → IsIn m (behind g (At k)) → IsIn m reached)
+
+-- the first number below the size that the first list has and the second lacks, where there is one
+abbrev pub IsFirstLost : ℕ → List ℕ → List ℕ → Option ℕ → Type 0
+IsFirstLost size reached ending (Some node) = (node < size) × IsIn node reached × (IsIn node ending → ⊥) × ((m : ℕ) → m < node → IsIn m reached → IsIn m ending)
+IsFirstLost size reached ending None = (m : ℕ) → m < size → IsIn m reached → IsIn m ending
