@@ -10,3 +10,9 @@ pub mod Sameness
 pub mod Walking
 pub mod Equal
 pub mod Binding
+mod Binds
+mod Comparing
+mod Distinct
+mod Flattening
+mod Gathering
+mod Members

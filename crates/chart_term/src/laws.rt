@@ -1,6 +1,7 @@
 //! Laws of patterns and of equality. Each is the contract of a function that does nothing.
 
 ghost use Rattle.chart_term.specs.Equality.{SameTreeIsExact};
+ghost use Rattle.chart_term.specs.Order.{TermsAreOrdered};
 ghost use Rattle.chart_term.specs.TermRuns.{TakesMinimal};
 
 /// The test of equality says yes exactly where the terms are equal.
@@ -13,4 +14,10 @@ pub fn equality_is_exact()
 #[tactic(auto, using(crate::proofs::Positions::takes_at))]
 pub fn taking_is_at_minimal_positions()
     ensures { TakesMinimal }
+{}
+
+/// The order of terms is total, and only equal terms compare as equal.
+#[tactic(auto, using(crate::specs::OrderLaws::terms_are_ordered))]
+pub fn terms_are_ordered()
+    ensures { TermsAreOrdered }
 {}

@@ -4,4 +4,18 @@
 //! of a term, its weight, its patterns and the normalising constructors.
 #![tactic(auto)]
 
+mod bounds;
+mod choices;
+mod event;
+mod facts;
+mod joins;
 pub mod laws;
+mod look;
+mod term;
+
+pub use bounds::bound;
+pub use choices::choice;
+pub use event::Event;
+pub use joins::{beside, then};
+pub use look::Look;
+pub use term::{RowList, RowPart, Term, TermList};

@@ -75,16 +75,16 @@ unfolding has_bit
 has_bit-past words n h = ap (λ w. nat_eq (bit_at w (n % 64)) 1) (get_or_past words (n / 64) 0 h) ∙ ap (λ b. nat_eq b 1) (bit_at-zero (n % 64))
 
 -- the numbers that pass a test
-numbers_cases : (test : ℕ → Bool) (count from : ℕ) (b : Bool) → test from ≡ b → numbers_that test (suc count) from ≡ cond b (from ∷ numbers_that test count (suc from)) (numbers_that test count (suc from))
+pub numbers_cases : (test : ℕ → Bool) (count from : ℕ) (b : Bool) → test from ≡ b → numbers_that test (suc count) from ≡ cond b (from ∷ numbers_that test count (suc from)) (numbers_that test count (suc from))
 unfolding numbers_that
 numbers_cases test count from b e = ap (λ c. cond c (from ∷ numbers_that test count (suc from)) (numbers_that test count (suc from))) e
 
-numbers_zero : (test : ℕ → Bool) (from : ℕ) → numbers_that test zero from ≡ []
+pub numbers_zero : (test : ℕ → Bool) (from : ℕ) → numbers_that test zero from ≡ []
 unfolding numbers_that
 numbers_zero test from = refl
 
 -- a fact of the numbers, by whether the first passes
-numbers_step : (test : ℕ → Bool) (count from : ℕ) (P : List ℕ → Type 0) → (test from ≡ true → P (from ∷ numbers_that test count (suc from))) → (test from ≡ false → P (numbers_that test count (suc from))) → P (numbers_that test (suc count) from)
+pub numbers_step : (test : ℕ → Bool) (count from : ℕ) (P : List ℕ → Type 0) → (test from ≡ true → P (from ∷ numbers_that test count (suc from))) → (test from ≡ false → P (numbers_that test count (suc from))) → P (numbers_that test (suc count) from)
 numbers_step test count from P yes_ no_ = choose (test from) refl
   where
     choose : (b : Bool) → test from ≡ b → P (numbers_that test (suc count) from)
@@ -95,14 +95,14 @@ numbers_none : (test : ℕ → Bool) (count from : ℕ) → ((n : ℕ) → test 
 numbers_none test zero from f = numbers_zero test from
 numbers_none test (suc count) from f = numbers_cases test count from false (f from) ∙ numbers_none test count (suc from) f
 
-numbers_same : (t u : ℕ → Bool) (count from : ℕ) → ((n : ℕ) → from ≤ n → t n ≡ u n) → numbers_that t count from ≡ numbers_that u count from
+pub numbers_same : (t u : ℕ → Bool) (count from : ℕ) → ((n : ℕ) → from ≤ n → t n ≡ u n) → numbers_that t count from ≡ numbers_that u count from
 numbers_same t u zero from f = numbers_zero t from ∙ sym (numbers_zero u from)
 numbers_same t u (suc count) from f =
     numbers_cases t count from (u from) (f from (omega arith))
     ∙ ap (λ l. cond (u from) (from ∷ l) l) (numbers_same t u count (suc from) (λ n le. f n (omega arith)))
     ∙ sym (numbers_cases u count from (u from) refl)
 
-numbers_above : (test : ℕ → Bool) (count from n : ℕ) → n < from → AreAbove n (numbers_that test count from)
+pub numbers_above : (test : ℕ → Bool) (count from n : ℕ) → n < from → AreAbove n (numbers_that test count from)
 numbers_above test zero from n lt = subst (AreAbove n) (sym (numbers_zero test from)) tt
 numbers_above test (suc count) from n lt =
     let rest : AreAbove n (numbers_that test count (suc from)) = numbers_above test count (suc from) n (omega arith) in

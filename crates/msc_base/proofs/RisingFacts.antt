@@ -22,7 +22,7 @@ pub above_weaker : (m n : ℕ) (xs : List ℕ) → m ≤ n → AreAbove n xs →
 above_weaker m n [] h a = tt
 above_weaker m n (x ∷ xs) h a = (omega (arith, a.0), above_weaker m n xs h a.1)
 
-AreAbove-insert : (n x : ℕ) (xs : List ℕ) → n < x → AreAbove n xs → AreAbove n (insert_rising xs x)
+pub AreAbove-insert : (n x : ℕ) (xs : List ℕ) → n < x → AreAbove n xs → AreAbove n (insert_rising xs x)
 AreAbove-insert n x [] h a = (h, tt)
 AreAbove-insert n x (y ∷ ys) h a =
     elim (cases_order x y) [

@@ -1,5 +1,9 @@
 -- A set of instances and a set of events, each as the list of its numbers, which rises. So equal sets are equal values.
-use Rattle.std.specs.Prelude.{ℕ, suc, zero, ◌+◌, ◌-◌, ◌*◌, ◌^◌, ◌/◌, ◌%◌, ◌<◌, ◌≤◌, ◌==◌, nat_lt, Bool, List, [], ◌∷◌, ◌++◌, length, slice_index, slice_set, replicate, if◌then◌else◌}
+use Rattle.std.specs.List.{list_any}
+use Rattle.std.specs.Ordering.{nat_cmp, ordering_then}
+use Rattle.std.specs.Prelude.{ℕ, suc, zero, ◌+◌, ◌-◌, ◌*◌, ◌^◌, ◌/◌, ◌%◌, ◌<◌, ◌≤◌, ◌==◌, ◌≡◌, ◌≢◌, max, nat_lt, Bool, true, false, List, [], ◌∷◌, ◌++◌, length, slice_index, slice_set, replicate, if◌then◌else◌, Option, Some, None}
+use Rattle.std.specs.declared.cmp.Ordering.{Ordering}
+use Rattle.std.specs.declared.cmp.Ordering.TheVariants.{Less, Equal, Greater}
 use Rattle.std.specs.Int.{bit_at}
 use Rattle.std.specs.Int.Bits.{bit_or}
 use Rattle.msc_base.specs.declared.limits.TheConstants.Limits.{INSTANCES}
@@ -56,3 +60,38 @@ pub record IsStored (words events : List ℕ) : Type 0 where
   pub few : 64 * length words ≤ INSTANCES
   pub last : 0 < length words → 0 < slice_index words (length words - 1)
   pub rising : IsRising events
+
+-- a list that rises, with the numbers of another besides
+abbrev pub insert_each : List ℕ → List ℕ → List ℕ
+insert_each xs [] = xs
+insert_each xs (y ∷ ys) = insert_rising (insert_each xs ys) y
+
+-- whether the number is in the list
+abbrev pub is_among : List ℕ → ℕ → Bool
+is_among xs n = list_any (λ m. m == n) xs
+
+-- whether the two lists share a number
+abbrev pub share : List ℕ → List ℕ → Bool
+share xs ys = list_any (is_among ys) xs
+
+-- the order of sets: of the least number that only one has, the one that has it comes first
+abbrev pub set_cmp : List ℕ → List ℕ → Ordering
+set_cmp [] [] = Equal
+set_cmp [] (y ∷ ys) = Greater
+set_cmp (x ∷ xs) [] = Less
+set_cmp (x ∷ xs) (y ∷ ys) = ordering_then (nat_cmp x y) (set_cmp xs ys)
+
+-- each word has the bits of both
+pub record HasBitsOfBoth (words others both : List ℕ) : Type 0 where
+  pub long : length both ≡ max (length words) (length others)
+  pub united : (k : ℕ) → slice_index both k ≡ bit_or (slice_index words k) (slice_index others k)
+
+-- the least number whose bit only one of the two has
+abbrev pub IsFirstDifference : List ℕ → List ℕ → Option ℕ → Type 0
+IsFirstDifference words others None = (n : ℕ) → has_bit words n ≡ has_bit others n
+IsFirstDifference words others (Some n) = (has_bit words n ≢ has_bit others n) × ((m : ℕ) → m < n → has_bit words m ≡ has_bit others m)
+
+-- whether both have the bit of one number
+abbrev pub ShareBit : List ℕ → List ℕ → Bool → Type 0
+ShareBit words others true = (n : ℕ) × (has_bit words n ≡ true) × (has_bit others n ≡ true)
+ShareBit words others false = (n : ℕ) → has_bit words n ≡ true → has_bit others n ≡ false

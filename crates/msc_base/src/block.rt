@@ -1,8 +1,10 @@
 ghost use Rattle.std.specs.Prelude.{◌≡◌, ◌<◌, ◌↔◌, [], Contains, OnOk, OnErr, IfOk, IsTrue};
-ghost use Rattle.msc_base.specs.Blocks.{IsBlock, insert_rising, with_bit, has_bit};
+ghost use Rattle.msc_base.specs.Blocks.{IsBlock, insert_rising, insert_each, share, set_cmp, with_bit, has_bit};
 
+use crate::words::{first_difference, share_bit, unite};
 use crate::{Limits, NoMemory};
 use std::alloc::Global;
+use std::cmp::Ordering;
 use std::marker::Model;
 
 /// A set of instance numbers and a set of event numbers.
@@ -28,7 +30,7 @@ impl Model for Block {
 }
 
 /// Whether the words have the bit of that number.
-fn has_number(words: &[u64], at: u32) -> bool
+pub(crate) fn has_number(words: &[u64], at: u32) -> bool
     ensures { result ≡ has_bit words.now at }
 {
     let index = (at / 64) as usize;
@@ -107,5 +109,48 @@ impl Block {
         let words = Vec::from_slice(alloc, &self.words)?;
         let events = Vec::from_slice(alloc, &self.events)?;
         Ok(Block { words, events })
+    }
+
+    /// The events, which rise. It takes no memory.
+    pub fn events(&self) -> &[u32]
+        ensures { result.now ≡ self.now.events }
+    {
+        self.events.as_slice()
+    }
+
+    /// Adds the instances of the other block. After want of memory the block is as it was.
+    pub fn add_instances(&mut self, other: &Block) -> Result<(), NoMemory>
+        ensures ok { OnOk result
+            (self.new ≡ record self.old {
+              instances = insert_each self.old.instances other.now.instances;
+            }) }
+        ensures err { OnErr result (self.new ≡ self.old) }
+        ensures block { IsBlock self.new }
+    {
+        unite(&mut self.words, &other.words)
+    }
+
+    /// Whether an instance is in both blocks. It takes no memory.
+    pub fn shares_instance(&self, other: &Block) -> bool
+        ensures { result ≡ share self.now.instances other.now.instances }
+    {
+        share_bit(&self.words, &other.words)
+    }
+
+    /// The order of the sets of instances: of the least instance that only one block has, the
+    /// block that has it comes first. It takes no memory.
+    pub fn compare_instances(&self, other: &Block) -> Ordering
+        ensures { result ≡ set_cmp self.now.instances other.now.instances }
+    {
+        match first_difference(&self.words, &other.words) {
+            Some(at) => {
+                if has_number(&self.words, at) {
+                    Ordering::Less
+                } else {
+                    Ordering::Greater
+                }
+            }
+            None => Ordering::Equal,
+        }
     }
 }

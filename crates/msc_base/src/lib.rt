@@ -22,6 +22,7 @@ mod standard_sink;
 mod tests;
 mod text;
 mod verdict;
+mod words;
 
 pub use block::Block;
 pub use entry::Entry;

@@ -1,0 +1,6 @@
+use Rattle.chart_term.specs.Terms.{row_of}
+use Rattle.chart_term.proofs.Gathering.{loop_facts}
+use Rattle.chart_term.proofs.term.Term.loop_of.Goals as goal
+
+pub invariant_of-share : goal.invariant_of-share
+invariant_of-share c = (loop_facts c.args.body c.args.lower c.args.upper (row_of c.args.row) c.in_ok-facts.facts c.facts-2.result.now c.add.new.self c.add_weight.new.self c.in_ok-facts.ensures c.facts-2.ensures c.in_ok-add.ensures c.add_weight.ensures, tt)

@@ -1,0 +1,8 @@
+use Rattle.std.proofs.Common.{ap, ◌∙◌}
+use Rattle.std.specs.Ordering.{ordering_index}
+use Rattle.std.proofs.Common.{nat_eq}
+use Rattle.chart_term.proofs.Comparing.{equal_by_order}
+use Rattle.chart_term.proofs.term.Term.same.Goals as goal
+
+pub returns-then-weight : goal.returns-then-weight
+returns-then-weight c = equal_by_order c.args.self.now c.args.other.now c.eq.result (c.eq.ensures ∙ ap (λ o. nat_eq (ordering_index o) 1) c.compare.ensures)

@@ -1,0 +1,105 @@
+-- The order of terms: by constructor, as the table of weights has them, then by their parts.
+use Rattle.std.specs.Cmp.{IsTotalOrder}
+use Rattle.std.specs.Ordering.{nat_cmp, ordering_then}
+use Rattle.std.specs.Prelude.{ℕ, List, [], ◌∷◌, Option, Some, None, ◌≡◌}
+use Rattle.std.specs.declared.cmp.Ordering.{Ordering}
+use Rattle.std.specs.declared.cmp.Ordering.TheVariants.{Less, Equal, Greater}
+use Rattle.msc_base.specs.Blocks.{set_cmp}
+use Rattle.msc_base.specs.Patterns.{row, aside}
+use Rattle.hmsc_graph.specs.Graphs.{Spot, Start, At, Goal, To, End, Any}
+use Rattle.chart_term.specs.Terms.{TermEvent, Tree, Nil, Event, Join, Choice, Bound, Turns, Trail, Trees, none, more, Row, ends, gap, turn, Part, Gap, Turn}
+
+-- the constructor's place in the table of weights
+abbrev pub rank : Tree → ℕ
+rank Nil = 0
+rank (Event e) = 1
+rank (Join row xs) = 2
+rank (Join aside xs) = 3
+rank (Choice xs) = 4
+rank (Bound x q) = 5
+rank (Turns x lo hi r) = 6
+rank (Trail n s t c) = 7
+
+-- none first
+abbrev pub maybe_cmp : Option ℕ → Option ℕ → Ordering
+maybe_cmp None None = Equal
+maybe_cmp None (Some n) = Less
+maybe_cmp (Some m) None = Greater
+maybe_cmp (Some m) (Some n) = nat_cmp m n
+
+-- by number, instances and label
+abbrev pub event_cmp : TermEvent → TermEvent → Ordering
+event_cmp e f = ordering_then (nat_cmp e.number f.number) (ordering_then (nat_cmp e.at f.at) (ordering_then (maybe_cmp e.also f.also) (nat_cmp e.label f.label)))
+
+-- by the first number, then by the second
+abbrev pub pair_cmp : ℕ × ℕ → ℕ × ℕ → Ordering
+pair_cmp p r = ordering_then (nat_cmp p.0 r.0) (nat_cmp p.1 r.1)
+
+-- pair by pair
+abbrev pub pairs_cmp : List (ℕ × ℕ) → List (ℕ × ℕ) → Ordering
+pairs_cmp [] [] = Equal
+pairs_cmp [] (r ∷ s) = Less
+pairs_cmp (p ∷ q) [] = Greater
+pairs_cmp (p ∷ q) (r ∷ s) = ordering_then (pair_cmp p r) (pairs_cmp q s)
+
+-- the start first
+abbrev pub spot_cmp : Spot → Spot → Ordering
+spot_cmp Start Start = Equal
+spot_cmp Start (At n) = Less
+spot_cmp (At m) Start = Greater
+spot_cmp (At m) (At n) = nat_cmp m n
+
+-- nodes first, then an end, then anywhere
+abbrev pub goal_cmp : Goal → Goal → Ordering
+goal_cmp (To m) (To n) = nat_cmp m n
+goal_cmp (To m) End = Less
+goal_cmp (To m) Any = Less
+goal_cmp End (To n) = Greater
+goal_cmp End End = Equal
+goal_cmp End Any = Less
+goal_cmp Any (To n) = Greater
+goal_cmp Any End = Greater
+goal_cmp Any Any = Equal
+
+-- by constructor, then by the parts in their order
+abbrev mutual
+  pub tree_cmp : Tree → Tree → Ordering
+  tree_cmp Nil Nil = Equal
+  tree_cmp (Event e) (Event f) = event_cmp e f
+  tree_cmp (Join row xs) (Join row ys) = trees_cmp xs ys
+  tree_cmp (Join aside xs) (Join aside ys) = trees_cmp xs ys
+  tree_cmp (Choice xs) (Choice ys) = trees_cmp xs ys
+  tree_cmp (Bound x q) (Bound y r) = ordering_then (tree_cmp x y) (pairs_cmp q r)
+  tree_cmp (Turns x lo hi r) (Turns y low high s) = ordering_then (tree_cmp x y) (ordering_then (nat_cmp lo low) (ordering_then (maybe_cmp hi high) (row_cmp r s)))
+  tree_cmp (Trail n s t c) (Trail m u v d) = ordering_then (nat_cmp n m) (ordering_then (spot_cmp s u) (ordering_then (goal_cmp t v) (set_cmp c d)))
+  tree_cmp x y = nat_cmp (rank x) (rank y)
+
+  pub trees_cmp : Trees → Trees → Ordering
+  trees_cmp none none = Equal
+  trees_cmp none (more y ys) = Less
+  trees_cmp (more x xs) none = Greater
+  trees_cmp (more x xs) (more y ys) = ordering_then (tree_cmp x y) (trees_cmp xs ys)
+
+  pub row_cmp : Row → Row → Ordering
+  row_cmp ends ends = Equal
+  row_cmp ends (gap d s) = Less
+  row_cmp ends (turn y s) = Less
+  row_cmp (gap c r) ends = Greater
+  row_cmp (gap c r) (gap d s) = ordering_then (set_cmp c d) (row_cmp r s)
+  row_cmp (gap c r) (turn y s) = Less
+  row_cmp (turn x r) ends = Greater
+  row_cmp (turn x r) (gap d s) = Greater
+  row_cmp (turn x r) (turn y s) = ordering_then (tree_cmp x y) (row_cmp r s)
+
+-- gaps first, by their blocks; then begun turns
+abbrev pub part_cmp : Part → Part → Ordering
+part_cmp (Gap c) (Gap d) = set_cmp c d
+part_cmp (Gap c) (Turn y) = Less
+part_cmp (Turn x) (Gap d) = Greater
+part_cmp (Turn x) (Turn y) = tree_cmp x y
+
+-- terms are ordered, and only equal terms compare as equal
+pub record TermsAreOrdered : Type 0 where
+  pub total : IsTotalOrder tree_cmp
+  pub equal : (x y : Tree) → tree_cmp x y ≡ Equal → x ≡ y
+  pub itself : (x : Tree) → tree_cmp x x ≡ Equal

@@ -1,0 +1,62 @@
+ghost use Rattle.std.specs.Prelude.{◌≡◌, ◌<◌, ◌++◌, length, IfOk, OnOk, Some};
+ghost use Rattle.chart_term.specs.NormalForms.{open_choice, distinct, choice_form, choice_of};
+
+use crate::{Term, TermList};
+use msc_base::NoMemory;
+use std::alloc::Global;
+use std::collections::BTreeSet;
+
+/// Appends the part, opened where it is a choice.
+fn push_opened(list: &mut TermList, alloc: Global, part: &Term) -> Result<(), NoMemory>
+    ensures ok { OnOk result (list.new ≡ list.old ++ open_choice part.now) }
+    ensures longer { OnOk result (length list.old < length list.new) }
+{
+    match part.choice_parts() {
+        Some(parts) => list.append_copies(alloc, parts),
+        None => list.push(part.copy(alloc)?),
+    }
+}
+
+/// The parts without those that equal an earlier one.
+fn distinct(alloc: Global, parts: &TermList) -> Result<TermList, NoMemory>
+    ensures { IfOk result (λ kept. kept ≡ distinct parts.now) }
+{
+    let mut seen = BTreeSet::new(alloc);
+    let mut kept = TermList::new(alloc);
+    for part in parts.as_slice() {
+        if seen.insert(part.copy(alloc)?)? {
+            kept.push(part.copy(alloc)?)?;
+        }
+    }
+    Ok(kept)
+}
+
+/// The choice of parts that are open and differ.
+fn form_of(alloc: Global, parts: TermList) -> Result<Term, NoMemory>
+    requires { 0 < length parts }
+    ensures { IfOk result (λ term. choice_form parts ≡ Some term) }
+{
+    let mut parts = parts;
+    if parts.len() > 1 {
+        return Term::choice_of(alloc, parts);
+    }
+    match parts.pop() {
+        Some(only) => Ok(only),
+        None => Term::nil(alloc),
+    }
+}
+
+/// The choice of the parts in normal form: parts that are choices are opened, and a part equal to
+/// an earlier one dropped; of one part it is that one.
+#[tactic(auto, using(crate::proofs::Flattening::flats))]
+pub fn choice(alloc: Global, parts: TermList) -> Result<Term, NoMemory>
+    requires { 0 < length parts }
+    ensures { IfOk result (λ term. choice_of parts ≡ Some term) }
+{
+    let mut opened = TermList::new(alloc);
+    for part in parts.as_slice() {
+        push_opened(&mut opened, alloc, part)?;
+    }
+    let kept = distinct(alloc, &opened)?;
+    form_of(alloc, kept)
+}

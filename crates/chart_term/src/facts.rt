@@ -1,0 +1,156 @@
+ghost use Rattle.std.specs.Prelude.{◌≡◌, ◌+◌, ◌<◌, [], true, false, min, max, OnOk, IfOk, Some};
+ghost use Rattle.std.specs.List.{list_any};
+ghost use Rattle.std.specs.Option.{ForSome};
+ghost use Rattle.chart_term.specs.Facts.{Adds, AreFacts, HasFacts, facts_miss, lies_in, most_stored, wider};
+ghost use Rattle.chart_term.specs.Views.{event_of};
+ghost use Rattle.chart_term.specs.Terms.{Event as EventTree};
+
+use crate::Event;
+use msc_base::{Block, Limits, NoMemory};
+use std::alloc::Global;
+
+/// The least and the greatest of some event numbers.
+#[derive(Clone, Copy, Debug, PartialEq, Eq)]
+pub(crate) struct Span {
+    pub(crate) least: u32,
+    pub(crate) greatest: u32,
+}
+
+/// What a node stores of its term. No fact depends on the tables.
+#[derive(Drop)]
+pub(crate) struct Facts {
+    /// The weight, or the largest `u64` where it is larger.
+    pub(crate) weight: u64,
+    /// Whether a walk stands in the term, in a loop operand of it or in a begun turn.
+    pub(crate) has_trail: bool,
+    /// The instances of the events of the term, of its loop operands and of its begun turns.
+    pub(crate) instances: Block,
+    /// The least and the greatest number of these events.
+    pub(crate) span: Option<Span>,
+}
+
+impl Span {
+    /// Whether one of the numbers lies from the least to the greatest.
+    fn has_any(&self, numbers: &[u32]) -> bool
+        ensures { result ≡ list_any (lies_in (Some self.now)) numbers.now }
+    {
+        numbers
+            .iter()
+            .any(|number| self.least <= *number && *number <= self.greatest)
+    }
+
+    /// From the least to the greatest number of both.
+    fn wider(self, other: Span) -> Span
+        ensures { result ≡ record { least = min self.least other.least; greatest = max self.greatest other.greatest } }
+    {
+        Span {
+            least: self.least.min(other.least),
+            greatest: self.greatest.max(other.greatest),
+        }
+    }
+}
+
+/// From the least to the greatest number of both.
+fn widened(span: Option<Span>, other: Option<Span>) -> Option<Span>
+    ensures { result ≡ wider span other }
+{
+    match (span, other) {
+        (None, _) => other,
+        (_, None) => span,
+        (Some(first), Some(second)) => Some(first.wider(second)),
+    }
+}
+
+impl Facts {
+    /// The facts of no term. It takes no memory.
+    pub(crate) fn none(alloc: Global) -> Facts
+        ensures { AreFacts 0 false [] [] result }
+    {
+        Facts {
+            weight: 0,
+            has_trail: false,
+            instances: Block::empty(alloc),
+            span: None,
+        }
+    }
+
+    /// The facts of an event.
+    pub(crate) fn of_event(alloc: Global, event: Event) -> Result<Facts, NoMemory>
+        requires at { event.at < Limits.INSTANCES }
+        requires also { ForSome event.also (λ also. also < Limits.INSTANCES) }
+        ensures { IfOk result (λ facts. HasFacts (EventTree (event_of event)) facts) }
+    {
+        let mut instances = Block::empty(alloc);
+        instances.add_instance(event.at)?;
+        if let Some(also) = event.also {
+            instances.add_instance(also)?;
+        }
+        let span = Span {
+            least: event.number,
+            greatest: event.number,
+        };
+        Ok(Facts {
+            weight: 1,
+            has_trail: false,
+            instances,
+            span: Some(span),
+        })
+    }
+
+    /// The facts of a walk. It takes no memory.
+    pub(crate) fn of_trail(alloc: Global) -> Facts
+        ensures { AreFacts 1 true [] [] result }
+    {
+        Facts {
+            weight: 1,
+            has_trail: true,
+            instances: Block::empty(alloc),
+            span: None,
+        }
+    }
+
+    /// Adds the facts of another term.
+    pub(crate) fn add(&mut self, other: &Facts) -> Result<(), NoMemory>
+        ensures { OnOk result (Adds self.old other.now self.new) }
+    {
+        self.instances.add_instances(&other.instances)?;
+        self.weight = self.weight.saturating_add(other.weight);
+        self.has_trail |= other.has_trail;
+        self.span = widened(self.span, other.span);
+        Ok(())
+    }
+
+    /// Adds to the weight alone.
+    pub(crate) fn add_weight(&mut self, weight: u64)
+        ensures { self.new ≡ record self.old { weight = min (self.old.weight + weight) most_stored } }
+    {
+        self.weight = self.weight.saturating_add(weight);
+    }
+
+    /// The same facts once more.
+    pub(crate) fn copy(&self, alloc: Global) -> Result<Facts, NoMemory>
+        ensures { IfOk result (λ facts. facts ≡ self.now) }
+    {
+        let instances = self.instances.copy(alloc)?;
+        Ok(Facts {
+            weight: self.weight,
+            has_trail: self.has_trail,
+            instances,
+            span: self.span,
+        })
+    }
+
+    /// Whether no event of the block can hit a term with these facts.
+    #[tactic(auto, using(crate::proofs::Gathering::gathering))]
+    pub(crate) fn misses(&self, block: &Block) -> bool
+        ensures { result ≡ facts_miss block.now self.now }
+    {
+        if self.has_trail || block.shares_instance(&self.instances) {
+            return false;
+        }
+        match self.span {
+            None => true,
+            Some(span) => !span.has_any(block.events()),
+        }
+    }
+}

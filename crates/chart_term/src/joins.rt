@@ -1,0 +1,75 @@
+ghost use Rattle.std.specs.Prelude.{◌≡◌, ◌++◌, IfOk, OnOk};
+ghost use Rattle.msc_base.specs.Patterns.{row, aside};
+ghost use Rattle.chart_term.specs.Modes.{mode_of};
+ghost use Rattle.chart_term.specs.NormalForms.{open_part, join_of, join_all};
+
+use crate::{Look, Term, TermList};
+use msc_base::NoMemory;
+use std::alloc::Global;
+
+/// How parts are joined.
+#[derive(Clone, Copy, Debug, PartialEq, Eq)]
+enum Mode {
+    /// In weak sequence.
+    Row,
+    /// Side by side.
+    Aside,
+}
+
+/// Appends the part, opened where it is a join of this kind.
+#[tactic(auto, using(crate::proofs::Flattening::flats))]
+fn push_opened(list: &mut TermList, alloc: Global, mode: Mode, part: &Term) -> Result<(), NoMemory>
+    ensures { OnOk result (list.new ≡ list.old ++ open_part (mode_of mode) part.now) }
+{
+    match (mode, part.look()) {
+        (_, Look::Nil) => Ok(()),
+        (Mode::Row, Look::Then(parts)) => list.append_copies(alloc, parts),
+        (Mode::Aside, Look::Beside(parts)) => list.append_copies(alloc, parts),
+        _ => list.push(part.copy(alloc)?),
+    }
+}
+
+/// The join of parts that are open: of none it is empty, of one that one.
+fn join_of(alloc: Global, mode: Mode, parts: TermList) -> Result<Term, NoMemory>
+    ensures { IfOk result (λ term. term ≡ join_of (mode_of mode) parts) }
+{
+    let mut parts = parts;
+    if parts.len() > 1 {
+        return match mode {
+            Mode::Row => Term::row_of(alloc, parts),
+            Mode::Aside => Term::aside_of(alloc, parts),
+        };
+    }
+    match parts.pop() {
+        Some(only) => Ok(only),
+        None => Term::nil(alloc),
+    }
+}
+
+/// The join of the parts in normal form.
+#[tactic(auto, using(crate::proofs::Flattening::flats))]
+fn join(alloc: Global, mode: Mode, parts: &TermList) -> Result<Term, NoMemory>
+    ensures { IfOk result (λ term. term ≡ join_all (mode_of mode) parts.now) }
+{
+    let mut opened = TermList::new(alloc);
+    for part in parts.as_slice() {
+        push_opened(&mut opened, alloc, mode, part)?;
+    }
+    join_of(alloc, mode, opened)
+}
+
+/// The parts in weak sequence, in normal form: parts that are such rows are opened, and empty
+/// parts dropped; of no part it is empty, of one that one.
+pub fn then(alloc: Global, parts: TermList) -> Result<Term, NoMemory>
+    ensures { IfOk result (λ term. term ≡ join_all row parts) }
+{
+    join(alloc, Mode::Row, &parts)
+}
+
+/// The parts side by side, in normal form: parts that stand side by side themselves are opened,
+/// and empty parts dropped; of no part it is empty, of one that one.
+pub fn beside(alloc: Global, parts: TermList) -> Result<Term, NoMemory>
+    ensures { IfOk result (λ term. term ≡ join_all aside parts) }
+{
+    join(alloc, Mode::Aside, &parts)
+}

@@ -1,0 +1,278 @@
+ghost use Rattle.std.specs.Prelude.{◌≡◌, ◌↔◌, IsTrue};
+ghost use Rattle.std.specs.declared.cmp.Ordering.TheVariants.{Less};
+ghost use Rattle.hmsc_graph.specs.Nets.{spot_of, goal_of};
+ghost use Rattle.chart_term.specs.Order.{event_cmp, goal_cmp, maybe_cmp, pairs_cmp, rank, row_cmp, spot_cmp, tree_cmp, trees_cmp};
+ghost use Rattle.chart_term.specs.Terms.{row_of, trees};
+ghost use Rattle.chart_term.specs.Views.{event_of, pairs_of};
+
+use super::{Form, Node, RowList, RowPart, Term, TermList};
+use crate::Event;
+use hmsc_graph::{Goal, Spot};
+use msc_base::Pair;
+use std::cmp::Ordering;
+
+/// None first.
+fn compare_maybe(number: Option<u32>, other: Option<u32>) -> Ordering
+    ensures { result ≡ maybe_cmp number other }
+{
+    match (number, other) {
+        (None, None) => Ordering::Equal,
+        (None, Some(_)) => Ordering::Less,
+        (Some(_), None) => Ordering::Greater,
+        (Some(first), Some(second)) => first.cmp(&second),
+    }
+}
+
+/// None first.
+fn compare_counts(count: Option<u64>, other: Option<u64>) -> Ordering
+    ensures { result ≡ maybe_cmp count other }
+{
+    match (count, other) {
+        (None, None) => Ordering::Equal,
+        (None, Some(_)) => Ordering::Less,
+        (Some(_), None) => Ordering::Greater,
+        (Some(first), Some(second)) => first.cmp(&second),
+    }
+}
+
+/// By number, instances and label.
+fn compare_events(event: &Event, other: &Event) -> Ordering
+    ensures { result ≡ event_cmp (event_of event.now) (event_of other.now) }
+{
+    let numbers = event.number.cmp(&other.number);
+    let places = event.at.cmp(&other.at);
+    let seconds = compare_maybe(event.also, other.also);
+    let labels = event.label.cmp(&other.label);
+    numbers.then(places.then(seconds.then(labels)))
+}
+
+/// The start first.
+fn compare_spots(spot: Spot, other: Spot) -> Ordering
+    ensures { result ≡ spot_cmp (spot_of spot) (spot_of other) }
+{
+    match (spot, other) {
+        (Spot::Start, Spot::Start) => Ordering::Equal,
+        (Spot::Start, Spot::Node(_)) => Ordering::Less,
+        (Spot::Node(_), Spot::Start) => Ordering::Greater,
+        (Spot::Node(first), Spot::Node(second)) => first.cmp(&second),
+    }
+}
+
+/// Nodes first, then an end, then anywhere.
+fn compare_goals(goal: Goal, other: Goal) -> Ordering
+    ensures { result ≡ goal_cmp (goal_of goal) (goal_of other) }
+{
+    match (goal, other) {
+        (Goal::Node(first), Goal::Node(second)) => first.cmp(&second),
+        (Goal::End, Goal::End) => Ordering::Equal,
+        (Goal::Any, Goal::Any) => Ordering::Equal,
+        (Goal::Node(_), _) => Ordering::Less,
+        (_, Goal::Node(_)) => Ordering::Greater,
+        (Goal::End, Goal::Any) => Ordering::Less,
+        (Goal::Any, Goal::End) => Ordering::Greater,
+    }
+}
+
+/// Pair by pair.
+#[tactic(auto, using(crate::proofs::Comparing::comparing))]
+fn compare_pairs(pairs: &[Pair], others: &[Pair]) -> Ordering
+    ensures { result ≡ pairs_cmp (pairs_of pairs.now) (pairs_of others.now) }
+{
+    let mut at = 0;
+    while at < pairs.len() && at < others.len() {
+        let firsts = pairs[at].first.cmp(&others[at].first);
+        let order = firsts.then(pairs[at].second.cmp(&others[at].second));
+        if order != Ordering::Equal {
+            return order;
+        }
+        at += 1;
+    }
+    pairs.len().cmp(&others.len())
+}
+
+impl Form {
+    ghost use Rattle.chart_term.specs.TermViews.{tree_of};
+
+    /// The constructor's place in the table of weights.
+    fn rank(&self) -> u8
+        ensures { result ≡ rank (tree_of self.now) }
+    {
+        match self {
+            Form::Nil => 0,
+            Form::Event(_) => 1,
+            Form::Then(_) => 2,
+            Form::Beside(_) => 3,
+            Form::Choice(_) => 4,
+            Form::Bound(_, _) => 5,
+            Form::Turns(_, _, _, _) => 6,
+            Form::Trail(_, _, _, _) => 7,
+        }
+    }
+}
+
+impl Term {
+    /// By constructor, then by the parts in their order.
+    #[cycle(compare)]
+    #[tactic(auto, using(crate::proofs::Comparing::comparing))]
+    pub(crate) fn compare(&self, other: &Term) -> Ordering
+        ensures { result ≡ tree_cmp self.now other.now }
+    {
+        let node: &Node = &self.node;
+        let other_node: &Node = &other.node;
+        match (&node.form, &other_node.form) {
+            (Form::Nil, Form::Nil) => Ordering::Equal,
+            (Form::Event(event), Form::Event(second)) => compare_events(event, second),
+            (Form::Then(parts), Form::Then(others)) => parts.compare(others),
+            (Form::Beside(parts), Form::Beside(others)) => parts.compare(others),
+            (Form::Choice(parts), Form::Choice(others)) => parts.compare(others),
+            (Form::Bound(inner, pairs), Form::Bound(second, others)) => {
+                match inner.compare(second) {
+                    Ordering::Equal => compare_pairs(pairs.as_slice(), others.as_slice()),
+                    order => order,
+                }
+            }
+            (Form::Turns(body, low, high, row), Form::Turns(second, lower, upper, others)) => {
+                let counts = low.cmp(lower).then(compare_counts(*high, *upper));
+                match body.compare(second).then(counts) {
+                    Ordering::Equal => row.compare(others),
+                    order => order,
+                }
+            }
+            (Form::Trail(net, from, to, block), Form::Trail(second, spot, goal, others)) => {
+                let spots = compare_spots(*from, *spot);
+                let goals = compare_goals(*to, *goal);
+                let blocks = block.compare_instances(others);
+                net.cmp(second).then(spots.then(goals.then(blocks)))
+            }
+            (first, second) => first.rank().cmp(&second.rank()),
+        }
+    }
+}
+
+impl TermList {
+    /// Item by item.
+    #[cycle(compare)]
+    #[tactic(auto, using(crate::proofs::Comparing::comparing))]
+    fn compare(&self, other: &TermList) -> Ordering
+        ensures { result ≡ trees_cmp (trees self.now) (trees other.now) }
+    {
+        let mut at = 0;
+        while at < self.items.len() && at < other.items.len() {
+            let order = self.items[at].compare(&other.items[at]);
+            if order != Ordering::Equal {
+                return order;
+            }
+            at += 1;
+        }
+        self.items.len().cmp(&other.items.len())
+    }
+}
+
+impl RowPart {
+    ghost use Rattle.chart_term.specs.Order.{part_cmp};
+    ghost use Rattle.chart_term.specs.Rows.{part_of};
+
+    /// Gaps first, by their blocks; then begun turns.
+    #[cycle(compare)]
+    fn compare(&self, other: &RowPart) -> Ordering
+        ensures { result ≡ part_cmp (part_of self.now) (part_of other.now) }
+    {
+        match (self, other) {
+            (RowPart::Gap(block), RowPart::Gap(second)) => block.compare_instances(second),
+            (RowPart::Gap(_), RowPart::Turn(_)) => Ordering::Less,
+            (RowPart::Turn(_), RowPart::Gap(_)) => Ordering::Greater,
+            (RowPart::Turn(turn), RowPart::Turn(second)) => turn.compare(second),
+        }
+    }
+}
+
+impl RowList {
+    /// Part by part, gaps before begun turns.
+    #[cycle(compare)]
+    #[tactic(auto, using(crate::proofs::Comparing::comparing))]
+    fn compare(&self, other: &RowList) -> Ordering
+        ensures { result ≡ row_cmp (row_of self.now) (row_of other.now) }
+    {
+        let mut at = 0;
+        while at < self.items.len() && at < other.items.len() {
+            let order = self.items[at].compare(&other.items[at]);
+            if order != Ordering::Equal {
+                return order;
+            }
+            at += 1;
+        }
+        self.items.len().cmp(&other.items.len())
+    }
+}
+
+impl Term {
+    /// Whether the terms are equal. It takes no memory.
+    pub fn same(&self, other: &Term) -> bool
+        ensures { IsTrue result ↔ (self.now ≡ other.now) }
+    {
+        self.weight() == other.weight() && self.compare(other) == Ordering::Equal
+    }
+
+    /// Whether this term comes before the other: by constructor, in the order of `Look`, then by
+    /// the parts. It is a total order (`laws::terms_are_ordered`). It takes no memory.
+    pub fn before(&self, other: &Term) -> bool
+        ensures { IsTrue result ↔ (tree_cmp self.now other.now ≡ Less) }
+    {
+        self.compare(other) == Ordering::Less
+    }
+}
+
+impl PartialEq for Term {
+    ghost use Rattle.std.specs.Cmp.{eq_by_cmp_equiv, partial_equiv_from_equiv};
+    ghost use Rattle.std.specs.Ordering.{eq_by_cmp};
+    ghost use Rattle.chart_term.specs.Order.{tree_cmp};
+    ghost use Rattle.chart_term.specs.OrderLaws.{tree_total};
+
+    ghost eq = { eq_by_cmp tree_cmp };
+
+    ghost laws = { partial_equiv_from_equiv (eq_by_cmp_equiv tree_total) };
+
+    fn eq(&self, other: &Term) -> bool {
+        self.compare(other) == Ordering::Equal
+    }
+}
+
+impl Eq for Term {
+    ghost use Rattle.std.specs.Cmp.{eq_by_cmp_equiv};
+    ghost use Rattle.chart_term.specs.OrderLaws.{tree_total};
+
+    ghost laws = { eq_by_cmp_equiv tree_total };
+}
+
+impl PartialOrd for Term {
+    ghost use Rattle.std.specs.Cmp.{partial_order_from_total};
+    ghost use Rattle.std.specs.Ordering.{as_partial_cmp};
+    ghost use Rattle.chart_term.specs.Order.{tree_cmp};
+    ghost use Rattle.chart_term.specs.OrderLaws.{tree_total};
+
+    ghost partial_cmp = { as_partial_cmp tree_cmp };
+
+    ghost laws = { partial_order_from_total tree_total };
+
+    fn partial_cmp(&self, other: &Term) -> Option<Ordering> {
+        Some(self.compare(other))
+    }
+}
+
+impl Ord for Term {
+    ghost use Rattle.std.specs.Prelude.{refl};
+    ghost use Rattle.chart_term.specs.Order.{tree_cmp};
+    ghost use Rattle.chart_term.specs.OrderLaws.{tree_total};
+
+    ghost cmp = { tree_cmp };
+
+    ghost total = { tree_total };
+
+    ghost matches_partial_cmp = { λ x y. refl };
+
+    ghost matches_eq = { λ x y. refl };
+
+    fn cmp(&self, other: &Term) -> Ordering {
+        self.compare(other)
+    }
+}
