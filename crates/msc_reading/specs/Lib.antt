@@ -3,4 +3,6 @@ pub mod Classes
 pub mod Factored
 pub mod Grammars
 pub mod Languages
+pub mod PartReaders
 pub mod Parsing
+pub mod Parts
