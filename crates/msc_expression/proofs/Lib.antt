@@ -1,0 +1,3 @@
+pub mod BoundRules
+pub mod ExpressionRules
+pub mod GraphRules
