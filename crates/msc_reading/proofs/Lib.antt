@@ -13,6 +13,7 @@ pub mod Maps
 pub mod Onlys
 pub mod Optionals
 pub mod Parses
+pub mod Rows
 pub mod Rules
 pub mod Seconds
 pub mod Seqs

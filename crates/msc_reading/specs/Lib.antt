@@ -4,3 +4,4 @@ pub mod Factored
 pub mod Grammars
 pub mod Languages
 pub mod Parsing
+pub mod Rows
