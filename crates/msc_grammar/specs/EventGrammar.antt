@@ -6,23 +6,10 @@ use Rattle.msc_base.specs.declared.label.Kind.{Kind}
 use Rattle.msc_base.specs.declared.label.Kind.TheVariants.{Output, Input, OutputLost, InputFound, Action, TimerStart, TimerStop, Timeout, Create}
 use Rattle.msc_base.specs.declared.label.Far.{Far}
 use Rattle.msc_base.specs.declared.label.Far.TheVariants.{Nobody, Env, Instance}
-use Rattle.msc_reading.specs.Classes.{exactly, string}
-use Rattle.msc_reading.specs.Languages.{Set, just, names, names_or_strings}
+use Rattle.msc_reading.specs.Classes.{exactly}
+use Rattle.msc_reading.specs.Languages.{Set, just, names_or_strings}
 use Rattle.msc_reading.specs.Grammars.{Grammar, seq, or, read_as, chain, tail, optional, behind, bytes_of}
-
-abbrev pub name : Grammar (List ℕ)
-name = bytes_of names
-
-abbrev pub mark : List ℕ → Grammar (List ℕ)
-mark text = bytes_of (just text)
-
--- a part that is read and dropped
-abbrev pub dropped : {A : Type 0} → Option A → Unit {0}
-dropped part = tt
-
--- end = [ "comment" string ] ";"
-abbrev pub ending : Grammar (Unit {0})
-ending = read_as (λ p. p.0) (optional dropped (behind (just (codes "comment")) (bytes_of (string ∷ []))) (mark (codes ";")))
+use Rattle.msc_reading.specs.Parts.{name, mark, dropped, ending}
 
 -- ---- messages
 

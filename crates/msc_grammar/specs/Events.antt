@@ -6,7 +6,8 @@ use Rattle.msc_base.specs.declared.label.Kind.{Kind}
 use Rattle.msc_base.specs.declared.label.Kind.TheVariants.{Output, Input, Action, Create}
 use Rattle.msc_base.specs.declared.label.Far.TheVariants.{Instance}
 use Rattle.msc_tokens.specs.declared.token.Token.{Token}
-use Rattle.msc_grammar.specs.EventGrammar.{event, item, name, plain_message, or_nothing}
+use Rattle.msc_reading.specs.Parts.{name}
+use Rattle.msc_grammar.specs.EventGrammar.{event, item, plain_message, or_nothing}
 
 -- the bytes of each token
 abbrev pub texts : List Token → List (List ℕ)

@@ -4,4 +4,6 @@ pub mod Factored
 pub mod Grammars
 pub mod Languages
 pub mod Parsing
+pub mod PartReaders
+pub mod Parts
 pub mod Rows

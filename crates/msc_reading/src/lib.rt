@@ -6,10 +6,12 @@
 #![tactic(auto)]
 
 mod laws;
+mod parts;
 mod readers;
 
 pub use laws::one_word;
+pub use parts::{ending, name_of, names, own_name};
 pub use readers::{
-    ReadFault, either_word, name, name_or_string, starts_with, starts_with_either,
+    ReadFault, either_word, name, name_or_string, number, starts_with, starts_with_either,
     starts_with_item, starts_with_name, string, word,
 };
