@@ -1,0 +1,5 @@
+pub mod Bounds
+pub mod ExpressionGrammar
+pub mod ExpressionReaders
+pub mod GraphGrammar
+pub mod GraphReaders
