@@ -4,6 +4,7 @@ pub mod Factored
 pub mod Grammars
 pub mod Languages
 pub mod Messages
-pub mod PartReaders
 pub mod Parsing
+pub mod PartReaders
 pub mod Parts
+pub mod Rows
