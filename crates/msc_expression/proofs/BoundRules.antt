@@ -12,8 +12,8 @@ use Rattle.msc_expression.specs.Bounds.{kept, bound, upper_bound, bounds_of, sam
 bound_rule : (n : ℕ) → Rule (λ m. bound) n numbers none bound_at
 bound_rule n = as_rule kept none (digits_rule n) (λ a. refl)
 
-upper_bound_rule : (n : ℕ) → Rule (λ m. upper_bound) n (numbers ++ just (codes "inf")) none upper_bound_at
-upper_bound_rule n = or_rule (as_rule Some none (bound_rule n) (λ a. refl)) (as_rule (λ t. None) none (mark_rule (codes "inf") refl n) (λ a. refl)) refl
+upper_bound_rule : (n : ℕ) → Rule (λ m. upper_bound) n (just (codes "inf") ++ numbers) none upper_bound_at
+upper_bound_rule n = or_rule (as_rule (λ t. None) none (mark_rule (codes "inf") refl n) (λ a. refl)) (as_rule Some none (bound_rule n) (λ a. refl)) refl
 
 pub bounds_rule : (n : ℕ) → Rule (λ m. bounds) n (just (codes "<")) none bounds_at
 bounds_rule n = behind_rule (just (codes "<")) (codes "<") refl (as_rule (λ p. bounds_of p.0 p.1.0) none

@@ -1,3 +1,4 @@
 pub mod BoundRules
 pub mod ExpressionRules
 pub mod GraphRules
+pub mod Kept

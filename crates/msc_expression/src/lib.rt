@@ -3,4 +3,4 @@
 
 mod bounds;
 
-pub use bounds::Bounds;
+pub use bounds::{Bounds, loop_bounds};
