@@ -6,15 +6,18 @@ use Rattle.msc_reading.specs.Classes.{token_of}
 use Rattle.msc_reading.specs.Languages.{Set, Read, just, map_at, either_at, opens_at, bytes_at}
 use Rattle.msc_reading.specs.Grammars.{Grammar, or, read_as, bytes_of}
 use Rattle.msc_reading.specs.Parts.{mark, separated}
-use Rattle.msc_reading.specs.PartReaders.{mark_at}
+use Rattle.msc_reading.specs.PartReaders.{mark_at, separated_at}
+use Rattle.msc_reading.proofs.Flats.{rule_by}
 use Rattle.msc_reading.proofs.Levels.{Opened}
 use Rattle.msc_reading.proofs.Rules.{Law, Rule, Word, seq_law, seq_rule, or_law, or_rule, as_law, as_rule, shut_law, inner_law, shut_rule, inner_rule, equal_law, equal_rule}
 use Rattle.msc_reading.proofs.Optionals.{none, bytes_law, bytes_rule}
 use Rattle.msc_reading.proofs.PartRules.{mark_law, mark_rule, separated_law, separated_rule}
+use Rattle.msc_expression.specs.declared.expressions.Operator.TheVariants as operator
 use Rattle.msc_expression.specs.Bounds.{or_once}
 use Rattle.msc_expression.specs.ExpressionGrammar.{joined, sequence, parallel, expression_of, loop_of, loop_rest, closed, chart_names, prefix, expression}
 use Rattle.msc_expression.specs.ExpressionReaders.{Reader, sequence_at, parallel_at, expression_of_at, loop_rest_at, opt_rest_at, closed_at, prefix_at, expression_at}
 use Rattle.msc_expression.proofs.BoundRules.{with_bounds_law, with_bounds_rule}
+use Rattle.msc_expression.proofs.PartLoops.{one_by_one}
 
 -- what a prefix, and so an expression, begins with
 abbrev pub first_words : Set
@@ -94,13 +97,16 @@ module _ (n : ℕ) (p : Reader) (r : Rule prefix n first_words none p) where
   opt_rule = as_rule Opt none r (λ a. refl)
 
   sequence_rule : Rule (λ m. sequence (prefix m)) n first_words after_sequence (sequence_at p)
-  sequence_rule = as_rule (joined Seq) after_sequence (separated_rule (codes "seq") refl refl r) (λ a. refl)
+  sequence_rule = rule_by (λ m. sequence (prefix m)) n first_words after_sequence (map_at (joined Seq) (separated_at (codes "seq") p)) (sequence_at p) (one_by_one operator.Seq p)
+      (as_rule (joined Seq) after_sequence (separated_rule (codes "seq") refl refl r) (λ a. refl))
 
   parallel_rule : Rule (λ m. parallel (prefix m)) n first_words after_parallel (parallel_at p)
-  parallel_rule = as_rule (joined Par) after_parallel (separated_rule (codes "par") refl refl sequence_rule) (λ a. refl)
+  parallel_rule = rule_by (λ m. parallel (prefix m)) n first_words after_parallel (map_at (joined Par) (separated_at (codes "par") (sequence_at p))) (parallel_at p) (one_by_one operator.Par (sequence_at p))
+      (as_rule (joined Par) after_parallel (separated_rule (codes "par") refl refl sequence_rule) (λ a. refl))
 
   expression_of_rule : Rule expression n first_words after_expression (expression_of_at p)
-  expression_of_rule = as_rule (joined Alt) after_expression (separated_rule (codes "alt") refl refl parallel_rule) (λ a. refl)
+  expression_of_rule = rule_by expression n first_words after_expression (map_at (joined Alt) (separated_at (codes "alt") (parallel_at p))) (expression_of_at p) (one_by_one operator.Alt (parallel_at p))
+      (as_rule (joined Alt) after_expression (separated_rule (codes "alt") refl refl parallel_rule) (λ a. refl))
 
   closed_rule : Rule Closed n first_words none (closed_at p)
   closed_rule = as_rule (λ x. x.0) none (seq_rule expression_of_rule (mark_rule (codes ")") refl n) (λ a. refl)) (λ a. refl)

@@ -10,8 +10,8 @@ use Rattle.msc_reading.specs.Classes.{is_digit}
 -- a value that is kept to a bound stays so with one more digit
 pub kept_step : (value digit cap : ℕ) → min (min value cap * 10 + digit) cap ≡ min (value * 10 + digit) cap
 kept_step value digit cap = ⊎_elim
-    (λ small. let same : min value cap ≡ value = omega arith in rw same refl)
-    (λ large. let same : min value cap ≡ cap = omega arith in rw same (omega arith))
+    (λ (small : value < cap). let same : min value cap ≡ value = omega arith in rw same refl)
+    (λ (large : cap ≤ value). let same : min value cap ≡ cap = omega arith in rw same (omega arith))
     (cases_lt value cap)
 
 pub digit_at : (digits : List ℕ) (i : ℕ) → list_all is_digit digits ≡ true → i < length digits → is_digit (get_or digits i 0) ≡ true
