@@ -6,6 +6,7 @@ use Rattle.msc_reading.specs.Classes.{string}
 use Rattle.msc_reading.specs.Languages.{Set, Read, just, names, names_or_strings, numbers, ◌>>=◌, word_at, each_at, seq_at, map_at, chain_at, optional_at, behind_at, bytes_at}
 use Rattle.msc_reading.specs.Parts.{dropped, kept, all_or_none, all_of, leads}
 use Rattle.msc_reading.specs.Messages.{Message}
+use Rattle.msc_reading.specs.declared.messages.MessageParts.{MessageParts}
 
 abbrev pub name_at : List Token → Read (List ℕ)
 name_at = bytes_at names
@@ -58,6 +59,9 @@ comma_item_at = behind_at (just (codes ",")) item_at
 abbrev pub items_at : List Token → Read (List (List ℕ))
 items_at = separated_at (codes ",") item_at
 
+abbrev pub more_items_at : List (List ℕ) → ℕ → List Token → Read (List (List ℕ))
+more_items_at = more_at (just (codes ",")) comma_item_at
+
 -- the items, where there are any
 abbrev pub inside_at : List Token → Read (List (List ℕ))
 inside_at = optional_at names_or_strings all_or_none items_at
@@ -73,3 +77,7 @@ list_at = optional_at (just (codes "(")) kept parameters_at
 
 abbrev pub message_at : List Token → Read Message
 message_at = map_at (λ p. (p.0, p.1.0, p.1.1)) (seq_at name_at (seq_at pairing_at list_at))
+
+-- what a contract sees of a message
+abbrev pub message_view : MessageParts → Message
+message_view m = (m.text, m.pairing, m.parameters)
