@@ -14,11 +14,8 @@ pub mod Maps
 pub mod Onlys
 pub mod Optionals
 pub mod Parses
-<<<<<<< HEAD
-pub mod Rows
-=======
 pub mod PartRules
->>>>>>> 185ec592f7619032b076c0ee8aa348b6a9ab3cc6
+pub mod Rows
 pub mod Rules
 pub mod Seconds
 pub mod Seqs
