@@ -147,12 +147,27 @@ rest_word : Word FrameRest
 rest_word = record {
   more = token_of (codes "a") ∷ token_of (codes ";") ∷ token_of (codes "endexpr") ∷ [];
   value = graph (a_label ∷ []) no_lines;
-  holds = ((graph (a_label ∷ []) no_lines, codes "endexpr"), ((a_label ∷ [], (tt, ([], codes "endexpr"))),
-    (token_of (codes "a") ∷ [], token_of (codes ";") ∷ token_of (codes "endexpr") ∷ [], refl,
-    ((a_label, []), (token_of (codes "a") ∷ [], [], refl, ((codes "a", first_place), (token_of (codes "a"), (refl, refl), refl), refl), refl), refl),
-    (token_of (codes ";") ∷ [], token_of (codes "endexpr") ∷ [], refl,
-    ((tt, codes ";"), ((None, codes ";"), inr (codes ";", (token_of (codes ";"), (refl, refl), refl), refl), refl), refl),
-    ([], token_of (codes "endexpr") ∷ [], refl, refl, (token_of (codes "endexpr"), (refl, refl), refl)))), refl), refl);
+  holds = (
+    (graph (a_label ∷ []) no_lines, codes "endexpr"),
+    (
+      (a_label ∷ [], (tt, ([], codes "endexpr"))),
+      (
+        token_of (codes "a") ∷ [],
+        token_of (codes ";") ∷ token_of (codes "endexpr") ∷ [],
+        refl,
+        ((a_label, []), (token_of (codes "a") ∷ [], [], refl, ((codes "a", first_place), (token_of (codes "a"), (refl, refl), refl), refl), refl), refl),
+        (
+          token_of (codes ";") ∷ [],
+          token_of (codes "endexpr") ∷ [],
+          refl,
+          ((tt, codes ";"), ((None, codes ";"), inr (codes ";", (token_of (codes ";"), (refl, refl), refl), refl), refl), refl),
+          ([], token_of (codes "endexpr") ∷ [], refl, refl, (token_of (codes "endexpr"), (refl, refl), refl)),
+        ),
+      ),
+      refl,
+    ),
+    refl,
+  );
 }
 
 pub graph_line_rule : (n : ℕ) → Rule graph_line n names none (graph_line_at n)

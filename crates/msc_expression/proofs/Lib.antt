@@ -3,4 +3,5 @@ pub mod ExpressionRules
 pub mod Forms
 pub mod GraphRules
 pub mod Kept
+pub mod LineForms
 pub mod PartLoops

@@ -3,8 +3,10 @@
 
 mod bounds;
 mod expressions;
+mod graphs;
 mod level;
 
 pub use bounds::{Bounds, loop_bounds};
 pub use expressions::expression;
+pub use graphs::graph;
 pub use level::open;
