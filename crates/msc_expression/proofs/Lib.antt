@@ -1,4 +1,5 @@
 pub mod BoundRules
+pub mod Exact
 pub mod ExpressionRules
 pub mod Forms
 pub mod GraphRules
