@@ -1,33 +1,17 @@
 -- Readers of the front of a list of tokens, of the shape of the productions of an event; for private clauses.
-use Rattle.std.specs.Prelude.{ℕ, List, [], ◌∷◌, ◌++◌, Option, Ok, codes}
+use Rattle.std.specs.Prelude.{ℕ, List, ◌++◌, Option, Ok, codes}
 use Rattle.msc_base.specs.declared.label.Label.{Label}
 use Rattle.msc_base.specs.declared.label.Kind.{Kind}
 use Rattle.msc_base.specs.declared.label.Kind.TheVariants.{Output, Input, OutputLost, InputFound, Action, TimerStart, TimerStop, Timeout, Create}
 use Rattle.msc_base.specs.declared.label.Far.{Far}
 use Rattle.msc_base.specs.declared.label.Far.TheVariants.{Nobody, Env, Instance}
 use Rattle.msc_tokens.specs.declared.token.Token.{Token}
-use Rattle.msc_reading.specs.Classes.{string}
-use Rattle.msc_reading.specs.Languages.{Set, Read, just, names, names_or_strings, ◌>>=◌, each_at, seq_at, either_at, map_at, chain_at, tail_at, optional_at, behind_at, bytes_at}
-use Rattle.msc_grammar.specs.EventGrammar.{Act, dropped, with_commas, in_parentheses, or_nothing, far_of, label_of, start_words, stop_words}
+use Rattle.msc_reading.specs.Languages.{Set, Read, just, names, names_or_strings, ◌>>=◌, each_at, seq_at, either_at, map_at, chain_at, tail_at, optional_at, behind_at}
+use Rattle.msc_reading.specs.Parts.{dropped}
+use Rattle.msc_reading.specs.Messages.{start_words, stop_words}
+use Rattle.msc_reading.specs.PartReaders.{item_at, comma_item_at, name_at, mark_at, ending_at}
+use Rattle.msc_grammar.specs.EventGrammar.{Act, with_commas, in_parentheses, or_nothing, far_of, label_of}
 use Rattle.msc_grammar.specs.declared.event.Act.{Act as ActValue}
-
-abbrev pub name_at : List Token → Read (List ℕ)
-name_at = bytes_at names
-
-abbrev pub item_at : List Token → Read (List ℕ)
-item_at = bytes_at names_or_strings
-
-abbrev pub mark_at : List ℕ → List Token → Read (List ℕ)
-mark_at text = bytes_at (just text)
-
-abbrev pub comment_at : List Token → Read (Unit {0})
-comment_at = optional_at (just (codes "comment")) dropped (behind_at (just (codes "comment")) (bytes_at (string ∷ [])))
-
-abbrev pub ending_at : List Token → Read (Unit {0})
-ending_at = map_at (λ p. p.0) (seq_at comment_at (mark_at (codes ";")))
-
-abbrev pub comma_item_at : List Token → Read (List ℕ)
-comma_item_at = behind_at (just (codes ",")) item_at
 
 -- at most so many others, appended to a text
 abbrev pub more_items_at : List ℕ → ℕ → List Token → Read (List ℕ)

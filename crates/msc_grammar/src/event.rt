@@ -1,13 +1,12 @@
 ghost use Rattle.std.specs.Prelude.{◌≡◌};
 ghost use Rattle.msc_reading.specs.Answers.{Gives};
-ghost use Rattle.msc_grammar.specs.EventReaders.{ending_at, far_end_at, far_name_at, to_name_at, to_env_at, to_lost_at, output_at, input_at, action_at, timer_end_at, timer_act, creation_at, timers_at, act_at, event_at, act_view};
+ghost use Rattle.msc_grammar.specs.EventReaders.{far_end_at, far_name_at, to_name_at, to_env_at, to_lost_at, output_at, input_at, action_at, timer_end_at, timer_act, creation_at, timers_at, act_at, event_at, act_view};
 
 use crate::message::message;
-use crate::plain_event::name_of;
 use msc_base::{Far, Kind, Label, Text};
 use msc_reading::{
-    ReadFault, either_word, name, name_or_string, starts_with, starts_with_either,
-    starts_with_name, string, word,
+    ReadFault, either_word, ending, name, name_of, name_or_string, own_name, starts_with,
+    starts_with_either, starts_with_name, word,
 };
 use msc_tokens::Token;
 use std::alloc::Global;
@@ -20,27 +19,12 @@ pub struct Act {
     far: Far,
 }
 
-/// The end of an event: a semicolon, with or without a comment.
-fn ending(tokens: &[Token]) -> Result<&[Token], ReadFault>
-    ensures { Gives (λ x. (tt, x.now)) result (ending_at tokens.now) }
-{
-    if starts_with(tokens, "comment") {
-        let (_comment, rest) = word(tokens, "comment")?;
-        let (_string, rest) = string(rest)?;
-        let (_end, rest) = word(rest, ";")?;
-        return Ok(rest);
-    }
-    let (_end, rest) = word(tokens, ";")?;
-    Ok(rest)
-}
-
 /// The instance behind `lost` or `found`, where one is named.
 fn far_name(alloc: Global, tokens: &[Token]) -> Result<(Far, &[Token]), ReadFault>
     ensures { Gives (λ x. (x.0, x.1.now)) result (far_name_at tokens.now) }
 {
     if starts_with_name(tokens) {
-        let (far, rest) = name(tokens)?;
-        let far = name_of(alloc, far)?;
+        let (far, rest) = own_name(alloc, tokens)?;
         return Ok((Far::Instance(far), rest));
     }
     Ok((Far::Nobody, tokens))

@@ -2,8 +2,9 @@ ghost use Rattle.std.specs.Prelude.{◌≡◌, ◌≤◌, List, ℕ, IfOk, IfSom
 ghost use Rattle.msc_grammar.specs.Events.{texts};
 ghost use Rattle.msc_grammar.specs.Charts.{ReadsNames, HasNoNames};
 
-use crate::plain_event::{is, is_name, name_of};
+use crate::plain_event::{is, is_name};
 use msc_base::{Items, Names, NoMemory};
+use msc_reading::name_of;
 use msc_tokens::Token;
 use std::alloc::Global;
 

@@ -7,9 +7,10 @@ use crate::PlainChart;
 use crate::body::read_body;
 use crate::names::read_names;
 use crate::pairing::partners_of;
-use crate::plain_event::{PlainFault, is, is_name, name_of};
+use crate::plain_event::{PlainFault, is, is_name};
 use crate::rules::keeps_rules;
 use msc_base::{LabelList, Name, Names, NoMemory};
+use msc_reading::name_of;
 use msc_tokens::{Token, TokenList};
 use std::alloc::Global;
 

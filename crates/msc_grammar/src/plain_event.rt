@@ -4,7 +4,8 @@ ghost use Rattle.msc_base.specs.declared.label.Label.{Label};
 ghost use Rattle.msc_grammar.specs.Events.{texts, ReadsPlainEvent, IsWay, IsNoWay};
 ghost use Rattle.msc_grammar.specs.declared.plain_event.PlainFault.TheVariants.{NoMemory};
 
-use msc_base::{Far, Kind, Label, Name, NoMemory, is_text};
+use msc_base::{Far, Kind, Label, NoMemory, is_text};
+use msc_reading::name_of;
 use msc_tokens::Token;
 use std::alloc::Global;
 
@@ -37,17 +38,6 @@ pub fn is_name(token: &Token) -> bool
     ensures { IsTrue result ↔ IsName token.now.bytes }
 {
     msc_base::is_name(token.bytes.bytes())
-}
-
-/// The name that a token is.
-pub fn name_of(alloc: Global, token: &Token) -> Result<Name, NoMemory>
-    requires { IsName token.now.bytes }
-    ensures { IfOk result (λ name. name ≡ token.now.bytes) }
-{
-    match Name::from_bytes(alloc, token.bytes.bytes()) {
-        Ok(name) => Ok(name),
-        Err(_) => Err(NoMemory),
-    }
 }
 
 /// The kind of an event, by the words that it is written with.

@@ -9,10 +9,13 @@ pub mod Items
 pub mod LevelFree
 pub mod Levels
 pub mod Lists
+pub mod Loops
 pub mod Maps
 pub mod Onlys
 pub mod Optionals
 pub mod Parses
+pub mod PartRules
+pub mod Rows
 pub mod Rules
 pub mod Seconds
 pub mod Seqs

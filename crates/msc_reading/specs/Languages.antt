@@ -2,7 +2,7 @@
 use Rattle.std.specs.Prelude.{ℕ, ◌≡◌, ◌++◌, ◌⊎◌, ◌&&◌, Bool, true, false, List, [], ◌∷◌, length, map, Option, Some, None, Result, Ok, Err, if◌then◌else◌, suc, zero}
 use Rattle.std.specs.List.{list_any, list_all}
 use Rattle.msc_tokens.specs.declared.token.Token.{Token}
-use Rattle.msc_reading.specs.Classes.{Class, exactly, name_but, string, fits, differ, covers}
+use Rattle.msc_reading.specs.Classes.{Class, exactly, name_but, string, number, fits, differ, covers}
 
 -- ---- sets of classes
 
@@ -18,6 +18,9 @@ names = name_but [] ∷ []
 
 abbrev pub strings : Set
 strings = string ∷ []
+
+abbrev pub numbers : Set
+numbers = number ∷ []
 
 abbrev pub names_or_strings : Set
 names_or_strings = name_but [] ∷ string ∷ []

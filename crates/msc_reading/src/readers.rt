@@ -1,12 +1,14 @@
 ghost use Rattle.std.specs.Prelude.{◌≡◌, [], ◌∷◌, IfOk};
+ghost use Rattle.std.specs.List.{list_all};
 ghost use Rattle.msc_base.specs.Names.{IsName};
 ghost use Rattle.msc_reading.specs.Answers.{Gives};
-ghost use Rattle.msc_reading.specs.Classes.{exactly, is_name, is_string};
-ghost use Rattle.msc_reading.specs.Languages.{among, starts, just, names, strings, names_or_strings, word_at, bytes_at};
+ghost use Rattle.msc_reading.specs.Classes.{exactly, is_digit, is_name, is_string, is_number};
+ghost use Rattle.msc_reading.specs.Languages.{among, starts, just, names, strings, numbers, names_or_strings, word_at, bytes_at};
 ghost use Rattle.msc_reading.specs.declared.readers.ReadFault.TheVariants.{NoMemory};
 
 use msc_base::NoMemory;
 use msc_tokens::Token;
+use std::alloc::AllocFailed;
 
 /// Why the front of a list of tokens isn't read.
 #[derive(Clone, Copy, Debug, PartialEq, Eq)]
@@ -27,6 +29,14 @@ impl From<NoMemory> for ReadFault {
     }
 }
 
+impl<T: Drop> From<AllocFailed<T>> for ReadFault {
+    ghost from_gives = { λ _ e. e ≡ NoMemory };
+
+    fn from(_: AllocFailed<T>) -> Self {
+        ReadFault::NoMemory
+    }
+}
+
 /// Whether the token is this text.
 fn is_text(token: &Token, text: &str) -> bool
     ensures { result ≡ among (just text.now) token.now }
@@ -35,7 +45,7 @@ fn is_text(token: &Token, text: &str) -> bool
 }
 
 /// Whether the token is a name.
-fn is_name_token(token: &Token) -> bool
+pub fn is_name_token(token: &Token) -> bool
     ensures { result ≡ is_name token.now.bytes }
 {
     msc_base::is_name(token.bytes.bytes())
@@ -49,6 +59,21 @@ fn is_string_token(token: &Token) -> bool
         Some(byte) => *byte == b'\'',
         None => false,
     }
+}
+
+/// Whether all bytes are digits.
+fn are_digits(bytes: &[u8]) -> bool
+    ensures { result ≡ list_all is_digit bytes.now }
+{
+    bytes.iter().all(|byte| *byte > 47 && *byte < 58)
+}
+
+/// Whether the token is a number.
+fn is_number_token(token: &Token) -> bool
+    ensures { result ≡ is_number token.now.bytes }
+{
+    let bytes = token.bytes.bytes();
+    !bytes.is_empty() && are_digits(bytes)
 }
 
 /// Whether the tokens start with this text.
@@ -130,6 +155,7 @@ pub fn either_word<'a>(
 /// The first token, where it is a name, and those behind it.
 pub fn name(tokens: &[Token]) -> Result<(&Token, &[Token]), ReadFault>
     ensures gives { Gives (λ x. (x.0.now.bytes, x.1.now)) result (bytes_at names tokens.now) }
+    ensures token { Gives (λ x. (x.0.now, x.1.now)) result (word_at names tokens.now) }
     ensures name { IfOk result (λ x. IsName x.0.now.bytes) }
 {
     match tokens.split_first() {
@@ -167,6 +193,22 @@ pub fn string(tokens: &[Token]) -> Result<(&Token, &[Token]), ReadFault>
     match tokens.split_first() {
         Some((first, rest)) => {
             if is_string_token(first) {
+                Ok((first, rest))
+            } else {
+                Err(ReadFault::Refused(tokens.len()))
+            }
+        }
+        None => Err(ReadFault::Refused(0)),
+    }
+}
+
+/// The first token, where it is a number, and those behind it.
+pub fn number(tokens: &[Token]) -> Result<(&Token, &[Token]), ReadFault>
+    ensures { Gives (λ x. (x.0.now.bytes, x.1.now)) result (bytes_at numbers tokens.now) }
+{
+    match tokens.split_first() {
+        Some((first, rest)) => {
+            if is_number_token(first) {
                 Ok((first, rest))
             } else {
                 Err(ReadFault::Refused(tokens.len()))

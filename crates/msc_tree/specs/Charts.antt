@@ -1,4 +1,4 @@
--- A document and its charts, as plain trees (Z.120, clauses 3 to 5).
+-- A document and its charts, as plain trees (Z.120, clauses 3, 4 and 7.5).
 use Rattle.std.specs.Prelude.{ℕ, List, Option}
 use Rattle.msc_base.specs.declared.place.Place.{Place}
 use Rattle.msc_tree.specs.declared.chart.Decl.{Decl}

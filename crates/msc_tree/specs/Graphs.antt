@@ -1,4 +1,4 @@
--- The graph of a high-level chart, as a plain tree (Z.120, clause 5).
+-- The graph of a high-level chart, as a plain tree (Z.120, clause 7.5).
 use Rattle.std.specs.Prelude.{ℕ, List, [], ◌∷◌}
 use Rattle.msc_base.specs.declared.label.LabelRef.{LabelRef}
 use Rattle.msc_base.specs.declared.place.Place.{Place}

@@ -26,12 +26,15 @@ pub record Reference : Type 0 where
 mutual
   -- what stands in a column, or behind a colon, with its place
   pub data Item : Type 0 where
-    Single : Place → RawEvent → Item
-    Coregion : Place → List RawEvent → Item
-    Condition : Place → List (List ℕ) → Option Cover → Item
-    Inline : Place → InlineHead → Operands → Item
-    Referred : Place → Reference → Item
-    Stop : Place → Item
+    placed : Place → Form → Item
+
+  pub data Form : Type 0 where
+    Single : RawEvent → Form
+    Coregion : List RawEvent → Form
+    Condition : List (List ℕ) → Option Cover → Form
+    Inline : InlineHead → Operands → Form
+    Refer : Reference → Form
+    Stop : Form
 
   pub data Items : Type 0 where
     no_items : Items
@@ -52,7 +55,7 @@ mutual
     -- items of the covered instances
     Covered : Cover → Items → Statement
     -- an instance is declared
-    Declared : Decl → Statement
+    Heading : Decl → Statement
     -- an instance ends
     Ended : List ℕ → Statement
 

@@ -1,3 +1,4 @@
+use crate::{RawGraph, Statement};
 use msc_base::{Items, Name, Names, Place};
 
 /// The heading of a document.
@@ -32,4 +33,39 @@ pub enum Cover {
     All,
     /// The instances of these names.
     Listed(Names),
+}
+
+/// What a chart holds.
+#[derive(Drop)]
+pub enum Content {
+    /// A basic chart: its statements.
+    Events(Vec<Statement>),
+    /// A high-level chart: its graph.
+    Graph(RawGraph),
+}
+
+/// A chart.
+#[derive(Drop)]
+pub struct RawChart {
+    /// Its name.
+    pub name: Name,
+    /// Where its word `msc` stands.
+    pub place: Place,
+    /// The declarations of its heads.
+    pub decls: DeclList,
+    /// The messages that it declares.
+    pub messages: Names,
+    /// The timers that it declares.
+    pub timers: Names,
+    /// What it holds.
+    pub content: Content,
+}
+
+/// A document.
+#[derive(Drop)]
+pub struct RawDocument {
+    /// Its heading, where it has one.
+    pub heading: Option<Heading>,
+    /// Its charts, in the order of the text.
+    pub charts: Vec<RawChart>,
 }

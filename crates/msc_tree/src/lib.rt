@@ -1,12 +1,21 @@
 //! Documents of charts as they are read: charts, statements, items, expressions and graphs, with their places.
 //!
-//! `specs/` has the same as plain trees, which contracts see.
+//! `specs/` has the same as plain trees, which contracts see; `specs/Views.antt` says which tree each value stands for.
 #![tactic(auto)]
 
 mod chart;
 mod event;
+mod expression;
+mod graph;
 mod reference;
+mod statement;
 
-pub use chart::{Cover, Decl, DeclList, Heading};
+pub use chart::{Content, Cover, Decl, DeclList, Heading, RawChart, RawDocument};
 pub use event::{RawEvent, RawEventList, Target};
+pub use expression::RefExpr;
+pub use graph::{NodeKind, RawGraph, RawLine};
 pub use reference::{InlineForm, Join, JoinEnd, JoinList};
+pub use statement::{RawForm, RawInline, RawItem, RawOperand, RawReference, Statement};
+
+#[cfg(test)]
+mod tests;

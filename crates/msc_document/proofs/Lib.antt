@@ -1,0 +1,4 @@
+pub mod Continued
+pub mod Lines
+pub mod Parts
+pub mod Separators

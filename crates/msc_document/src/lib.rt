@@ -1,0 +1,2 @@
+//! Documents of charts, as they are read from tokens.
+#![tactic(auto)]

@@ -1,0 +1,7 @@
+pub mod Bounds
+pub mod Exactness
+pub mod ExpressionGrammar
+pub mod ExpressionReaders
+pub mod GraphGrammar
+pub mod GraphReaders
+pub mod Levels
