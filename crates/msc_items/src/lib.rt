@@ -5,4 +5,7 @@
 #![tactic(auto)]
 
 mod address;
+mod declaration;
 mod head;
+
+pub use declaration::{decl, declared, decls, heading};
