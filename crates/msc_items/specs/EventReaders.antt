@@ -11,8 +11,8 @@ use Rattle.msc_reading.specs.Parts.{kept, all_or_none}
 use Rattle.msc_reading.specs.Messages.{Message, start_words, stop_words}
 use Rattle.msc_reading.specs.PartReaders.{name_at, mark_at, placed_at, ending_at, more_at, name_list_at, item_at, message_at}
 use Rattle.msc_items.specs.Events.{named, address_of, event_of, plain, tagged}
-use Rattle.msc_items.specs.declared.address.Orders.{Orders}
-use Rattle.msc_items.specs.declared.address.Address.{Address}
+use Rattle.msc_items.specs.declared.event_parts.Orders.{Orders}
+use Rattle.msc_items.specs.declared.event_parts.Address.{Address}
 
 -- names behind this word, where it stands
 abbrev pub names_behind_at : List ℕ → List Token → Read (List (List ℕ))

@@ -4,8 +4,10 @@
 //! `specs/` has the productions, line by line.
 #![tactic(auto)]
 
+mod act;
 mod address;
 mod declaration;
+mod event_parts;
 mod head;
 
 pub use declaration::{decl, declared, decls, heading};
