@@ -89,8 +89,11 @@ abbrev pub single_at : List Token → Read RawEvent
 single_at = map_at (λ p. tagged p.0 p.1) (seq_at some_label_at act_at)
 
 -- what an act begins with, and an event
+abbrev pub timing_words : Set
+timing_words = start_words ++ (stop_words ++ (just (codes "timeout") ++ just (codes "create")))
+
 abbrev pub act_words : Set
-act_words = just (codes "out") ++ (just (codes "in") ++ (just (codes "action") ++ (start_words ++ (stop_words ++ (just (codes "timeout") ++ just (codes "create"))))))
+act_words = just (codes "out") ++ (just (codes "in") ++ (just (codes "action") ++ timing_words))
 
 abbrev pub single_words : Set
 single_words = just (codes "label") ++ act_words

@@ -9,5 +9,8 @@ mod address;
 mod declaration;
 mod event_parts;
 mod head;
+mod joining;
+mod shared;
+mod single;
 
 pub use declaration::{decl, declared, decls, heading};
