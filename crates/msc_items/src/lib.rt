@@ -9,6 +9,7 @@ mod address;
 mod declaration;
 mod event_parts;
 mod head;
+mod head_parts;
 mod joining;
 mod shared;
 mod single;
