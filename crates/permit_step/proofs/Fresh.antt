@@ -1,29 +1,31 @@
 -- Loops that no turn has begun, and walks from the start, are sound.
-use Rattle.std.specs.Prelude.{ℕ, zero, suc, ◌<◌, ◌==◌, Bool, true, false, List, [], ◌∷◌, ◌++◌, Option, Some, None}
+use Rattle.std.specs.Prelude.{ℕ, zero, suc, ◌<◌, ◌==◌, ◌≡◌, ◌||◌, Bool, true, false, List, [], ◌∷◌, ◌++◌, Option, Some, None, refl}
 use Rattle.std.proofs.Common.{arith}
 use Rattle.msc_base.specs.Patterns.{Mode, row, aside, empty, one, join, bind}
-use Rattle.hmsc_graph.specs.Graphs.{Spot, Start, Goal, To, End, Any, reach}
-use Rattle.chart_term.specs.NormalForms.{cut, trail_cut, walk_form, allowed, are_nil}
+use Rattle.hmsc_graph.specs.Graphs.{Spot, Start, Goal, To, End, Any, Net, arrives, Walk, last, step, reach}
+use Rattle.chart_term.specs.NormalForms.{only, cut, trail_cut, walk_form, allowed, are_nil}
 use Rattle.chart_term.specs.Properties.{IsBelow, MayHave}
-use Rattle.chart_term.specs.Tables.{Tables, net_count, nth_tree, node_of, terms_over}
-use Rattle.chart_term.specs.TermMeanings.{HasPattern, has_nil, has_turns, has_trail, HasRow, gaps_end, gaps_shut, gaps_more, HasWalk, walk_stop, walk_last, walk_step, PatternsOf, UpTo, ◌⊑◌}
-use Rattle.chart_term.specs.TermPatterns.{Shape, Avoids, Lets, instances_of, HasNoEvent, take_first, take_later, back}
+use Rattle.chart_term.specs.Tables.{Tables, net_count, net_of, nodes_of, nth_tree, node_of, terms_over}
+use Rattle.chart_term.specs.TermMeanings.{aim, MayStop, HasPattern, has_nil, has_turns, has_trail, HasRow, gaps_end, gaps_shut, gaps_more, HasWalk, walk_stop, walk_last, walk_step, PatternsOf, UpTo, ◌⊑◌}
+use Rattle.chart_term.specs.TermPatterns.{Shape, Avoids, Lets, instances_of, HasNoEvent, take_first, take_later, back, Both}
 use Rattle.chart_term.specs.TermRuns.{Runs, run_end, run_take}
-use Rattle.chart_term.specs.Terms.{TermEvent, Block, Tree, Nil, Turns, Trail, Gap, gap, ends}
+use Rattle.chart_term.specs.Terms.{TermEvent, Block, hits, has_some, Tree, Nil, Turns, Trail, Gap, gap, ends}
 use Rattle.chart_term.proofs.Arranging.{runs_linear, linear_run}
 use Rattle.chart_term.proofs.Running.{runs_same}
 use Rattle.permit_step.specs.ConstructorLaws.{IsFormed}
-use Rattle.permit_step.specs.FullSoundness.{AreNumbersKnown, HasOrders, HaveOperandsOrders, HasNoOpenWalk, IsNotAny, IsOpenWalkLast, IsGoalOf, IsSoundNode, AreSoundNets, IsFullySound, fresh_loop, fresh_walk, FreshTermsAreSound}
+use Rattle.permit_step.specs.FullSoundness.{AreNumbersKnown, HasOrders, HaveOperandsOrders, HasNoOpenWalk, IsNotAny, IsOpenWalkLast, IsGoalOf, IsSoundNode, AreSoundNets, IsFullySound, fresh_loop, fresh_walk, MustHave, FreshTermsAreSound}
+use Rattle.permit_step.specs.Laws.{HasSome}
 use Rattle.permit_step.specs.Permission.{permits_of}
 use Rattle.permit_step.specs.Sound.{HasOrder}
 use Rattle.permit_step.specs.Soundness.{AreTidyTables, NetLacks, IsKnown}
 use Rattle.permit_step.proofs.ConstructorForms.{constructors_keep_form}
 use Rattle.permit_step.proofs.ConstructorProofs.{normal_forms_keep_patterns}
 use Rattle.permit_step.proofs.EveryPart.{fresh_part}
-use Rattle.permit_step.proofs.FullSound.{tidy_of, tidy_tables, normal_tables, walk_known, known_left, orders_up, OnceTie, tie_fewer, tie_permit, tie_taken}
+use Rattle.permit_step.proofs.FullSound.{is_sound, tidy_of, tidy_tables, normal_tables, walk_known, known_left, orders_up, OnceTie, tie_fewer, tie_permit, tie_taken}
 use Rattle.permit_step.proofs.OpenWalks.{walk_left, closed_last}
+use Rattle.permit_step.proofs.SoundLaws.{sound_has_pattern}
 use Rattle.permit_step.proofs.SoundParts.{sound_even, outside_of, falling_of, counts_of}
-use Rattle.permit_step.proofs.TidyTables.{each_map, each_nth, picked, less_or_same, node_below}
+use Rattle.permit_step.proofs.TidyTables.{each_map, each_nth, picked, less_or_same, node_below, nets_good, up}
 use Rattle.permit_step.proofs.Times.{TiesOnce, ties_to, ties_from}
 
 -- Runs of joined patterns: a run of the first, and then one of the second
@@ -51,6 +53,25 @@ run_of s h = (h.run, linear_run s h.run h.is)
 
 pub order_of : (s : Shape) (l : List ℕ) → Runs s l → HasOrder s
 order_of s l h = record { run = l; is = runs_linear h }
+
+-- nothing is blocked
+nothing_hit : (e : TermEvent) → hits (only []) e ≡ false
+nothing_hit e = go e.also
+  where
+    go : (o : Option ℕ) → ((false || has_some [] o) || false) ≡ false
+    go None = refl
+    go (Some n) = refl
+
+avoids_nothing : (s : Shape) → Avoids (only []) s
+avoids_nothing empty = tt
+avoids_nothing (one e) = nothing_hit e
+avoids_nothing (join m x y) = (avoids_nothing x, avoids_nothing y)
+avoids_nothing (bind x q) = avoids_nothing x
+
+-- what doesn't fail
+pub must : (P : Tree → Type 0) (r : Option Tree) → (r ≡ None → ⊥) → MayHave P r → MustHave P r
+must P None f h = f refl
+must P (Some y) f h = h
 
 -- a normal form has the orders of the term
 pub orders_of : (w : Tables) (r : Option Tree) (p : Shape → Type 0) → PatternsOf (terms_over w) true r ⊑ p → ((s : Shape) → p s → (l : List ℕ) × Runs s l) → MayHave (HasOrders w) r
@@ -86,8 +107,8 @@ module _ (labels : ℕ) (w : Tables) (x : Tree) (lo : ℕ) (hi : Option ℕ) (h 
   may_last None i = tt
   may_last (Some y) i = closed_last y i
 
-  loop_sound : MayHave (IsFullySound labels w) (fresh_loop w x lo hi)
-  loop_sound =
+  loop_may : MayHave (IsFullySound labels w) (fresh_loop w x lo hi)
+  loop_may =
       sound_of labels w (fresh_loop w x lo hi) h.nets
       (constructors_keep_form.turns w x lo hi (Gap [] ∷ []) tidy formed u (record { sets = (tt, tt); falls = (tt, tt); turns = tt }))
       (fresh_part (λ e. e.label < labels) (λ y q. Unit {0}) (λ y. Unit {0}) (walk_known labels w) (permits_of w) (known_left labels w tidy) (λ x q h. tt) (λ b x z e q h. tt) (λ x y z b e a p q h. tt) x lo hi (Gap [] ∷ []) h.term.known tt tt)
@@ -96,6 +117,20 @@ module _ (labels : ℕ) (w : Tables) (x : Tree) (lo : ℕ) (hi : Option ℕ) (h 
       (may_last (fresh_loop w x lo hi) (fresh_part (λ e. Unit {0}) (λ y q. Unit {0}) (λ y. Unit {0}) (λ n f t. IsNotAny t) (permits_of w) (walk_left (permits_of w)) (λ x q h. tt) (λ b x z e q h. tt) (λ x y z b e a p q h. tt) x lo hi (Gap [] ∷ []) c tt tt))
       (orders_of w (fresh_loop w x lo hi) (HasPattern (terms_over w) true (Turns x lo hi (gap [] ends))) (normal_forms_keep_patterns.turns true w x lo hi (Gap [] ∷ []) tidy (tidy_of labels w x h.nets h.term) (tt, tt) u).to loop_runs)
       (fresh_part (λ e. Unit {0}) (λ y q. Unit {0}) (HasOrders w) (λ n f t. Unit {0}) (permits_of w) (λ n f g t u h s a. tt) (λ x q h. tt) (λ b x z e q h. tt) (λ x y z b e a p q h. tt) x lo hi (Gap [] ∷ []) h.term.operands h.term.ordered tt)
+
+  -- as many patterns of the operand as are owed
+  pub loop_row : (s : Shape) → HasPattern (terms_over w) true x s → (n : ℕ) → (u : Shape) × HasRow (terms_over w) true x (Gap [] ∷ []) n u
+  loop_row s a zero = (empty, gaps_shut gaps_end)
+  loop_row s a (suc n) = let i = loop_row s a n in (join row s i.0, gaps_more a (avoids_nothing s) i.1)
+
+  loop_there : fresh_loop w x lo hi ≡ None → ⊥
+  loop_there e =
+      let i = sound_has_pattern.some w x (is_sound labels w x h) in
+      let r = loop_row i.pattern i.has lo in
+      (constructors_keep_form.turns_fail w x lo hi (Gap [] ∷ []) (record { tidy = tidy; normal = normal_tables labels w h.nets }) formed u (record { sets = (tt, tt); falls = (tt, tt); turns = tt })).to e r.0 (has_turns lo r.1 (omega arith) u)
+
+  loop_sound : MustHave (IsFullySound labels w) (fresh_loop w x lo hi)
+  loop_sound = must (IsFullySound labels w) (fresh_loop w x lo hi) loop_there loop_may
 
 -- Walks
 
@@ -113,6 +148,37 @@ node_orders labels (e ∷ es) h n l m =
     t : AreTidyTables es
     t = tidy_tables labels es h.0
 
+-- each node term has a pattern
+node_some : (labels : ℕ) (w : Tables) → AreSoundNets labels w → (n : ℕ) → IsKnown w n → (m : ℕ) → HasSome w (node_of w n m)
+node_some labels [] h n l m = absurd (omega arith)
+node_some labels (e ∷ es) h n l m =
+    picked (HasSome (e ∷ es)) (n == net_count es) (nth_tree e.nodes m) (node_of es n m)
+    (λ p. up_some (nth_tree e.nodes m) (each_nth (IsBelow (net_count es)) e.nodes tt h.2 m) (each_nth (HasSome es) e.nodes (record { pattern = empty; has = has_nil }) (each_map (IsSoundNode labels es) (HasSome es) (λ x i. sound_has_pattern.some es x (is_sound labels es x (record { nets = h.0; term = i.sound }))) e.nodes h.1) m))
+    (λ p. up_some (node_of es n m) (node_below true es t n (less_or_same n (net_count es) l p) m) (node_some labels es h.0 n (less_or_same n (net_count es) l p) m))
+  where
+    t : AreTidyTables es
+    t = tidy_tables labels es h.0
+
+    up_some : (x : Tree) → IsBelow (net_count es) x → HasSome es x → HasSome (e ∷ es) x
+    up_some x b i = record { pattern = i.pattern; has = up true e es t x b i.pattern i.has }
+
+-- a goal that is not any node
+aimed : (t : Goal) → IsNotAny t → aim t ≡ t
+aimed (To m) h = refl
+aimed End h = refl
+aimed Any h = absurd h
+
+no_stop : (t : Goal) → IsNotAny t → MayStop t true → ⊥
+no_stop (To m) h i = i
+no_stop End h i = i
+no_stop Any h i = absurd h
+
+arrives_aim : (g : Net) (t : Goal) (m : ℕ) → aim t ≡ t → arrives g t m ≡ true → arrives g (aim t) m ≡ true
+arrives_aim g t m e a = rw e a
+
+arrives_goal : (g : Net) (t : Goal) (m : ℕ) → aim t ≡ t → arrives g (aim t) m ≡ true → arrives g t m ≡ true
+arrives_goal g t m e a = rw e at a
+
 module _ (labels : ℕ) (w : Tables) (n : ℕ) (h : AreSoundNets labels w) (l : IsKnown w n) where
   walk_runs : {f : Spot} {t : Goal} {c : List ℕ} {s : Shape} → HasWalk (terms_over w) true n f t c s → (k : List ℕ) × Runs s k
   walk_runs (walk_stop a) = ([], run_end tt)
@@ -121,6 +187,27 @@ module _ (labels : ℕ) (w : Tables) (n : ℕ) (h : AreSoundNets labels w) (l : 
 
   trail_runs : (t : Goal) (s : Shape) → HasPattern (terms_over w) true (Trail n Start t []) s → (k : List ℕ) × Runs s k
   trail_runs t s (has_trail a) = walk_runs a
+
+  -- walks and their patterns
+  walk_some : {f : Spot} {t : Goal} → IsNotAny t → Walk (net_of w n) (nodes_of w n) f t → (s : Shape) × HasWalk (terms_over w) true n f t [] s
+  walk_some {t = t} a (last m i e) = (empty, walk_last m i (arrives_aim (net_of w n) t m (aimed t a) e))
+  walk_some a (step m i j v) = let p = node_some labels w h n l m in let q = walk_some a v in (join row p.pattern q.0, walk_step m i p.has (avoids_nothing p.pattern) q.1)
+
+  some_walk : {f : Spot} {t : Goal} {c : List ℕ} {s : Shape} → IsNotAny t → HasWalk (terms_over w) true n f t c s → Walk (net_of w n) (nodes_of w n) f t
+  some_walk {t = t} a (walk_stop p) = absurd (no_stop t a p)
+  some_walk {t = t} a (walk_last m i e) = last m i (arrives_goal (net_of w n) t m (aimed t a) e)
+  some_walk {f = f} a (walk_step m i p av r) = step m i (((nets_good true w (tidy_tables labels w h)).fine n l).within f m i) (some_walk a r)
+
+  walk_fails : (t : Goal) → IsNotAny t → Both (fresh_walk w n t ≡ None) (Walk (net_of w n) (nodes_of w n) Start t → ⊥)
+  walk_fails t a =
+      let b = constructors_keep_form.trail_fails w n Start t [] (record { tidy = tidy_tables labels w h; normal = normal_tables labels w h }) l tt in
+      record {
+        to = λ e v. let i = walk_some a v in b.to e i.0 (has_trail i.1);
+        from = λ f. b.from (λ s p. f (walk_of_trail s p));
+      }
+    where
+      walk_of_trail : (s : Shape) → HasPattern (terms_over w) true (Trail n Start t []) s → Walk (net_of w n) (nodes_of w n) Start t
+      walk_of_trail s (has_trail p) = some_walk a p
 
   -- what is left of a walk is a walk, or Nil
   form_has : (P : Tree → Type 0) (a b : Bool) (x : Tree) → P Nil → P x → MayHave P (walk_form a b x)
@@ -150,4 +237,6 @@ pub fresh_terms_are_sound : FreshTermsAreSound
 fresh_terms_are_sound = record {
   loop = loop_sound;
   walk = λ labels w n t h l g. walk_sound labels w n h l t g;
+  walk_fails = λ labels w n t h l a. walk_fails labels w n h l t a;
+  open_walk = λ w n. tt;
 }

@@ -42,3 +42,4 @@ pub mod SoundForms
 pub mod Even
 pub mod Selfless
 pub mod SoundParts
+pub mod Numbers

@@ -2,7 +2,6 @@
 use Rattle.std.specs.Prelude.{ℕ, suc, ◌+◌, ◌*◌, ◌≤◌, ◌==◌, ◌||◌, ◌≢◌, Bool, true, false, List, [], ◌∷◌, ◌++◌, ◌≡◌, ◌⊎◌, map, length, refl}
 use Rattle.std.proofs.Common.{ap, sym, ◌∙◌, arith, inl, inr}
 use Rattle.std.proofs.Math.Nat.{suc-mul, mul-le-mul_right}
-use Rattle.std.proofs.lemmas.Bool.Decides.{nat_tests}
 use Rattle.std.proofs.lemmas.List.{map-append}
 use Rattle.msc_base.specs.Patterns.{Mode, row, aside}
 use Rattle.chart_term.specs.Equality.{same_tree}
@@ -20,6 +19,7 @@ use Rattle.permit_step.proofs.Apart.{Apart, AllApart}
 use Rattle.permit_step.proofs.Single.{Single, SingleAll, SingleRow, after_single}
 use Rattle.permit_step.proofs.Everywhere.{after_every}
 use Rattle.permit_step.proofs.ListingExact.{among_left, among_right}
+use Rattle.permit_step.proofs.Numbers.{number_is, number_not, number_self, or_false, lacks_both}
 use Rattle.permit_step.proofs.OneWay.{same_after}
 use Rattle.permit_step.proofs.OneWeight.{after_weight}
 use Rattle.permit_step.proofs.SetExact.{set_sound, different, alone}
@@ -27,27 +27,13 @@ use Rattle.permit_step.proofs.Steady.{Lacks, LackAll, Sure, Plain, PlainAll, lac
 
 -- Lists of labels
 
-has_first : (a b : List ℕ) (n : ℕ) → has (a ++ b) n ≡ false → (has a n ≡ false) × (has b n ≡ false)
-has_first [] b n h = (refl, h)
-has_first (i ∷ a) b n h = go (i == n) h (has_first a b n)
-  where
-    go : (t : Bool) → (t || has (a ++ b) n) ≡ false → (has (a ++ b) n ≡ false → (has a n ≡ false) × (has b n ≡ false)) → ((t || has a n) ≡ false) × (has b n ≡ false)
-    go true h f = cc
-    go false h f = f h
-
 once_left : (a b : List ℕ) → AreOnce (a ++ b) → AreOnce a
 once_left [] b h = tt
-once_left (i ∷ a) b h = ((has_first a b i h.0).0, once_left a b h.1)
+once_left (i ∷ a) b h = ((lacks_both a b i h.0).0, once_left a b h.1)
 
 once_right : (a b : List ℕ) → AreOnce (a ++ b) → AreOnce b
 once_right [] b h = h
 once_right (i ∷ a) b h = once_right a b h.1
-
-number_is : (i n : ℕ) → (i == n) ≡ true → i ≡ n
-number_is i n h = grind (arith, nat_tests)
-
-number_not : (i n : ℕ) → (i == n) ≡ false → i ≢ n
-number_not i n h = λ e. grind (arith, nat_tests)
 
 -- a label of the first list is none of the second
 once_apart : (a b : List ℕ) (n : ℕ) → AreOnce (a ++ b) → has a n ≡ true → has b n ≡ false
@@ -58,14 +44,10 @@ once_apart (i ∷ a) b n h t = go (i == n) refl t (λ u. once_apart a b n h.1 u)
     lacks i n e p = rw e at p
 
     go : (u : Bool) → (i == n) ≡ u → (u || has a n) ≡ true → (has a n ≡ true → has b n ≡ false) → has b n ≡ false
-    go true e t f = lacks i n (number_is i n e) (has_first a b i h.0).1
+    go true e t f = lacks i n (number_is i n e) (lacks_both a b i h.0).1
     go false e t f = f t
 
 -- An unambiguous term is single
-
-or_false : (t u : Bool) → (t || u) ≡ false → t ≡ false
-or_false true u h = h
-or_false false u h = refl
 
 mutual
   lacks_of : (a : ℕ) (x : Tree) → HasNoGraph x → has (labels_of x) a ≡ false → Lacks a x
@@ -74,17 +56,17 @@ mutual
   lacks_of a (Join m xs) g h = lack_all_of a xs g h
   lacks_of a (Choice xs) g h = lack_all_of a xs g h
   lacks_of a (Bound x q) g h = lacks_of a x g h
-  lacks_of a (Turns x lo hi r) g h = let i = has_first (labels_of x) (labels_of_row r) a h in (lacks_of a x g.0 i.0, lack_row_of a r g.1 i.1)
+  lacks_of a (Turns x lo hi r) g h = let i = lacks_both (labels_of x) (labels_of_row r) a h in (lacks_of a x g.0 i.0, lack_row_of a r g.1 i.1)
   lacks_of a (Trail n f t c) g h = absurd g
 
   lack_all_of : (a : ℕ) (xs : Trees) → EveryOf (λ e. Unit {0}) (λ n. ⊥) xs → has (labels_of_all xs) a ≡ false → LackAll a xs
   lack_all_of a none g h = tt
-  lack_all_of a (more x xs) g h = let i = has_first (labels_of x) (labels_of_all xs) a h in (lacks_of a x g.0 i.0, lack_all_of a xs g.1 i.1)
+  lack_all_of a (more x xs) g h = let i = lacks_both (labels_of x) (labels_of_all xs) a h in (lacks_of a x g.0 i.0, lack_all_of a xs g.1 i.1)
 
   lack_row_of : (a : ℕ) (r : Row) → EveryRow (λ e. Unit {0}) (λ n. ⊥) r → has (labels_of_row r) a ≡ false → EveryRow (λ e. e.label ≢ a) (λ n. ⊥) r
   lack_row_of a ends g h = tt
   lack_row_of a (gap c r) g h = lack_row_of a r g h
-  lack_row_of a (turn x r) g h = let i = has_first (labels_of x) (labels_of_row r) a h in (lacks_of a x g.0 i.0, lack_row_of a r g.1 i.1)
+  lack_row_of a (turn x r) g h = let i = lacks_both (labels_of x) (labels_of_row r) a h in (lacks_of a x g.0 i.0, lack_row_of a r g.1 i.1)
 
 apart_one : (m : Mode) (x y : Tree) → HasNoGraph x → ((a : ℕ) → has (labels_of x) a ≡ true → Lacks a y) → Apart m x y
 apart_one row x y g f = λ a. go a (has (labels_of x) a) refl
@@ -226,15 +208,12 @@ mutual
   row_known es (gap c r) g f = row_known es r g f
   row_known es (turn x r) g f = (each_known es x g.0 (λ e i. f e (among_left e (events_of x) (events_row r) i)), row_known es r g.1 (λ e i. f e (among_right e (events_of x) (events_row r) i)))
 
-self_is : (n : ℕ) → (n == n) ≡ true
-self_is n = grind (arith, nat_tests)
-
 has_label : (es : List TermEvent) (e : TermEvent) → IsAmong e es → has (labels es) e.label ≡ true
 has_label [] e h = absurd h
 has_label (f ∷ es) e (inl p) = go (ap (λ g. g.label) p)
   where
     go : f.label ≡ e.label → ((f.label == e.label) || has (labels es) e.label) ≡ true
-    go q = rw q (rw (self_is e.label) refl)
+    go q = rw q (rw (number_self e.label e.label refl) refl)
 has_label (f ∷ es) e (inr i) = go (f.label == e.label) (has_label es e i)
   where
     go : (t : Bool) → has (labels es) e.label ≡ true → (t || has (labels es) e.label) ≡ true

@@ -16,7 +16,8 @@ use Rattle.permit_step.specs.Normality.{AreShown, AreNormalTables, AreNormal, Is
 use Rattle.permit_step.specs.Permission.{permits_of}
 use Rattle.permit_step.specs.Soundness.{AreTidyTables, AreTidy, IsTidyRow, IsTidyOver, NetLacks, IsKnown}
 use Rattle.permit_step.proofs.Even.{AllEven, RowEven, IsEvenOver, some_even}
-use Rattle.permit_step.proofs.Times.{one_or_none, number_is, some_parts, some_with}
+use Rattle.permit_step.proofs.Numbers.{number_is}
+use Rattle.permit_step.proofs.Times.{one_or_none, some_parts, some_with}
 
 -- Runs of the parts of a pattern
 

@@ -1,7 +1,6 @@
 -- The computed set of residual terms is exact.
 use Rattle.std.specs.Prelude.{ℕ, ◌≤◌, Bool, true, false, List, [], ◌∷◌, ◌≡◌, ◌⊎◌, ◌==◌, refl}
 use Rattle.std.proofs.Common.{ap, ◌∙◌, arith, inl, inr}
-use Rattle.std.proofs.lemmas.Bool.Decides.{nat_tests}
 use Rattle.chart_term.specs.Equality.{same_tree}
 use Rattle.chart_term.specs.NormalForms.{NetPermits, unless_same, without, distinct}
 use Rattle.chart_term.specs.Properties.{Each}
@@ -15,16 +14,11 @@ use Rattle.permit_step.specs.Residuals.{IsResidual, res_none, res_more}
 use Rattle.permit_step.specs.Taking.{IsAfter}
 use Rattle.permit_step.proofs.ListingExact.{among_app, among_left, among_right, list_sound, list_whole}
 use Rattle.permit_step.proofs.Normalising.{are_different}
+use Rattle.permit_step.proofs.Numbers.{number_is, number_self}
 use Rattle.permit_step.proofs.TermSentences.{net_rank, kept_rank}
 use Rattle.permit_step.proofs.TidyTables.{nets_good}
 use Rattle.permit_step.proofs.Ranking.{rank}
 use Rattle.permit_step.specs.Soundness.{AreTidyTables}
-
-number_is : (m n : ℕ) → (m == n) ≡ true → m ≡ n
-number_is m n h = grind (arith, nat_tests)
-
-number_self : (m n : ℕ) → m ≡ n → (m == n) ≡ true
-number_self m n e = grind (arith, nat_tests)
 
 -- each term once
 unless_from : (t : Bool) (x y : Tree) (ys : List Tree) → IsAmong y (unless_same t x ys) → IsAmong y (x ∷ ys)

@@ -1,9 +1,8 @@
 -- Terms in which each label stands at one place, but for the begun turns of a loop without choices and loops: permission and taking keep
 -- them so.
 use Rattle.std.specs.Option.{option_map}
-use Rattle.std.specs.Prelude.{ℕ, zero, suc, ◌<◌, ◌==◌, Bool, true, false, List, [], ◌∷◌, ◌++◌, ◌≡◌, ◌⊎◌, ◌||◌, Option, Some, None, refl}
-use Rattle.std.proofs.Common.{ap, arith, ◌∙◌, inl, inr}
-use Rattle.std.proofs.lemmas.Bool.Decides.{nat_tests}
+use Rattle.std.specs.Prelude.{ℕ, zero, suc, ◌<◌, ◌==◌, Bool, true, false, List, [], ◌∷◌, ◌≡◌, ◌⊎◌, ◌||◌, Option, Some, None, refl}
+use Rattle.std.proofs.Common.{ap, ◌∙◌, inl, inr}
 use Rattle.msc_base.specs.Patterns.{Mode, row, aside}
 use Rattle.chart_term.specs.NormalForms.{NetPermits, only, cut, open_part, flat, join_of, join_all, and_then, or_skip, unless, open_choice, open_choices, distinct, choice_form, choice_of, bound_form, bound_of, kept_pairs, numbers, cut_gaps, drop_nil, at_zero, live, drop_free, has_free, lower_of, thin, has_gap, begun, turns_form, turns_of, turns_in}
 use Rattle.chart_term.specs.Properties.{Each, EachTurn, MayHave, Every, EveryOf}
@@ -18,6 +17,7 @@ use Rattle.permit_step.proofs.Apart.{Apart, AllApart, Fewer, fewer_self, permit_
 use Rattle.permit_step.proofs.Everywhere.{permit_every}
 use Rattle.permit_step.proofs.Keeping.{AliveAt, AliveGaps, alive_sub, alive_live, each_app, each_turn_sub, each_turn_cut, sub_thin}
 use Rattle.permit_step.proofs.Normalising.{each_distinct}
+use Rattle.permit_step.proofs.Numbers.{number_is, has_either}
 use Rattle.permit_step.proofs.Steady.{Plain, PlainAll, plain_sure, permit_plain, after_plain, taken_every}
 
 -- nothing stands behind a gap
@@ -196,17 +196,6 @@ module _ (m : ℕ) where
       go (inr (n, a, b)) = inr (n, a, cut_into all c n a b)
   settled_cut all (Turn x ∷ ps) h = settled_cut all ps h
 
-  has_app : (a b : List ℕ) (n : ℕ) → has (a ++ b) n ≡ true → (has a n ≡ true) ⊎ (has b n ≡ true)
-  has_app [] b n h = inr h
-  has_app (i ∷ a) b n h = go (i == n) h (has_app a b n)
-    where
-      go : (t : Bool) → (t || has (a ++ b) n) ≡ true → (has (a ++ b) n ≡ true → (has a n ≡ true) ⊎ (has b n ≡ true)) → ((t || has a n) ≡ true) ⊎ (has b n ≡ true)
-      go true h f = inl refl
-      go false h f = f h
-
-  number_is : (i n : ℕ) → (i == n) ≡ true → i ≡ n
-  number_is i n h = grind (arith, nat_tests)
-
   has_same : (c : List ℕ) (i n : ℕ) → (i == n) ≡ true → has c n ≡ true → has c i ≡ true
   has_same c i n e h = let p : i ≡ n = number_is i n e in rw p h
 
@@ -248,7 +237,7 @@ module _ (m : ℕ) where
       plains_held : (c : List ℕ) (i : ℕ) → has c i ≡ true → (xs : Trees) → PlainAll xs → has (touch_all k.spread xs) i ≡ true → permit_all k (only c) xs ≡ None
       plains_held c i g none h t = cc
       plains_held c i g (more x xs) h t =
-          elim (has_app (touch k.spread x) (touch_all k.spread xs) i t) [
+          elim (has_either (touch k.spread x) (touch_all k.spread xs) i t) [
             | inl p ↦ first_fails (permit k (only c) x) (permit_all k (only c) xs) (plain_held c i g x h.0 p)
             | inr p ↦ and_fails (permit k (only c) x) (permit_all k (only c) xs) (plains_held c i g xs h.1 p)
           ]

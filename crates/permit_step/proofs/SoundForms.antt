@@ -10,15 +10,16 @@ use Rattle.chart_term.specs.TermPatterns.{Shape, take_one, pairs}
 use Rattle.chart_term.specs.TermRuns.{Runs, run_end, run_take}
 use Rattle.chart_term.specs.Terms.{TermEvent, Tree, Event, Bound, Gap}
 use Rattle.permit_step.specs.ConstructorLaws.{IsFormed}
-use Rattle.permit_step.specs.FullSoundness.{AreNumbersKnown, AreTiesOnce, AreTiesOutside, HasOrders, HaveOperandsOrders, HasNoOpenWalk, IsNotAny, IsOpenWalkLast, IsGoalOf, IsSoundNode, AreSoundNets, IsFullySound, fresh_loop, fresh_walk, ConstructorsKeepSoundness}
+use Rattle.permit_step.specs.FullSoundness.{AreNumbersKnown, AreTiesOnce, AreTiesOutside, HasOrders, HaveOperandsOrders, HasNoOpenWalk, IsNotAny, IsOpenWalkLast, IsGoalOf, IsSoundNode, AreSoundNets, IsFullySound, fresh_loop, fresh_walk, MustHave, ConstructorsKeepSoundness}
 use Rattle.permit_step.specs.Permission.{permits_of}
 use Rattle.permit_step.specs.Soundness.{AreTidyTables, IsTidyOver, NetLacks, IsKnown}
 use Rattle.permit_step.proofs.ConstructorForms.{constructors_keep_form}
 use Rattle.permit_step.proofs.ConstructorProofs.{normal_forms_keep_patterns}
 use Rattle.permit_step.proofs.EveryPart.{join_part, choice_part, bound_part, fresh_part}
-use Rattle.permit_step.proofs.Fresh.{join_runs, run_of, order_of, orders_of, sound_of, fresh_terms_are_sound, walk_has}
-use Rattle.permit_step.proofs.FullSound.{tidy_of, tidy_tables, normal_tables, walk_known, known_left, OnceTie, tie_fewer, tie_permit, tie_taken}
+use Rattle.permit_step.proofs.Fresh.{must, join_runs, run_of, order_of, orders_of, sound_of, fresh_terms_are_sound, walk_has}
+use Rattle.permit_step.proofs.FullSound.{is_sound, tidy_of, tidy_tables, normal_tables, walk_known, known_left, OnceTie, tie_fewer, tie_permit, tie_taken}
 use Rattle.permit_step.proofs.OpenWalks.{walk_left, closed_last}
+use Rattle.permit_step.proofs.SoundLaws.{sound_has_pattern}
 use Rattle.permit_step.proofs.SoundParts.{sound_even}
 use Rattle.permit_step.proofs.TidyKept.{outside_bare}
 use Rattle.permit_step.proofs.TidyTables.{each_map}
@@ -28,6 +29,10 @@ use Rattle.permit_step.proofs.Times.{TiesOnce, ties_to, once_if}
 as_node : (labels : ℕ) (w : Tables) (r : Option Tree) → MayHave (IsFullySound labels w) r → MayHave HasNoOpenWalk r → MayHave (IsSoundNode labels w) r
 as_node labels w None h c = tt
 as_node labels w (Some y) h c = record { sound = h.term; closed = c }
+
+must_node : (labels : ℕ) (w : Tables) (r : Option Tree) → MustHave (IsFullySound labels w) r → MayHave HasNoOpenWalk r → MustHave (IsSoundNode labels w) r
+must_node labels w None h c = h
+must_node labels w (Some y) h c = record { sound = h.term; closed = c }
 
 may_last : (r : Option Tree) → MayHave HasNoOpenWalk r → MayHave IsOpenWalkLast r
 may_last None h = tt
@@ -87,6 +92,11 @@ module _ (labels : ℕ) (w : Tables) (h : AreSoundNets labels w) where
       (choice_part (λ e. Unit {0}) (λ y q. Unit {0}) (HasOrders w) (λ n f t. Unit {0}) (permits_of w) (λ n f g t u h s a. tt) (λ x q h. tt) (λ b x z e q h. tt) (λ x y z b e a p q h. tt) xs (each_map Node (HaveOperandsOrders w) (λ x i. i.sound.operands) xs i)) in
       as_node labels w (choice_of xs) d c
 
+  some_choice : (x : Tree) (xs : List Tree) → Each Node (x ∷ xs) → choice_of (x ∷ xs) ≡ None → ⊥
+  some_choice x xs i e =
+      let p = sound_has_pattern.some w x (is_sound labels w x (record { nets = h; term = i.0.sound })) in
+      (constructors_keep_form.choice_fails w (x ∷ xs) (record { tidy = tidy; normal = normal_tables labels w h }) (each_formed (x ∷ xs) i)).to e p.pattern (this_one p.has)
+
   bound_sound : (x : Tree) (q : List (ℕ × ℕ)) → Node x → AreTiesOutside w (Bound x q) → AreTiesOnce w (Bound x q) → ((j : ℕ) → pairs q j j ≡ false) → HasOrders w (Bound x q) → Node (bound_of x q)
   bound_sound x q i out o free f =
       let t : IsTidyOver w (Bound x q) = (tidy_of labels w x h i.sound, out.1, free) in
@@ -100,9 +110,9 @@ module _ (labels : ℕ) (w : Tables) (h : AreSoundNets labels w) where
       (bound_part (λ e. Unit {0}) (λ y q. Unit {0}) (HasOrders w) (λ n f t. Unit {0}) (permits_of w) (λ n f g t u h s a. tt) (λ x q h. tt) (λ b x z e q h. tt) (λ x y z b e a p q h. tt) x q (i.sound.operands, tt)) in
       record { sound = d.term; closed = c }
 
-  loop_sound : (x : Tree) (lo : ℕ) (hi : Option ℕ) → Node x → UpTo hi lo → MayHave Node (fresh_loop w x lo hi)
+  loop_sound : (x : Tree) (lo : ℕ) (hi : Option ℕ) → Node x → UpTo hi lo → MustHave Node (fresh_loop w x lo hi)
   loop_sound x lo hi i u =
-      as_node labels w (fresh_loop w x lo hi) (fresh_terms_are_sound.loop labels w x lo hi (record { nets = h; term = i.sound }) i.closed u)
+      must_node labels w (fresh_loop w x lo hi) (fresh_terms_are_sound.loop labels w x lo hi (record { nets = h; term = i.sound }) i.closed u)
       (fresh_part (λ e. Unit {0}) (λ y q. Unit {0}) (λ y. Unit {0}) (λ n f t. IsNotAny t) (permits_of w) (walk_left (permits_of w)) (λ x q h. tt) (λ b x z e q h. tt) (λ x y z b e a p q h. tt) x lo hi (Gap [] ∷ []) i.closed tt tt)
 
   walk_sound : (n : ℕ) (t : Goal) → IsKnown w n → IsGoalOf w n t → IsNotAny t → MayHave Node (fresh_walk w n t)
@@ -112,7 +122,7 @@ pub constructors_keep_soundness : ConstructorsKeepSoundness
 constructors_keep_soundness = record {
   event = event_node;
   join = λ labels w m xs h i. join_sound labels w h m xs i;
-  choice = λ labels w xs h i. choice_sound labels w h xs i;
+  choice = λ labels w x xs h i. must (IsSoundNode labels w) (choice_of (x ∷ xs)) (some_choice labels w h x xs i) (choice_sound labels w h (x ∷ xs) i);
   bound = λ labels w x q h i t o e f. bound_sound labels w h x q i t o e f;
   loop = λ labels w x lo hi h i u. loop_sound labels w h x lo hi i u;
   walk = λ labels w n t h l g a. walk_sound labels w h n t l g a;

@@ -1,7 +1,6 @@
 -- How often a number stands in the patterns of a term, against the term's form.
-use Rattle.std.specs.Prelude.{ℕ, ◌≤◌, ◌==◌, ◌≢◌, ◌||◌, Bool, true, false, cond, List, [], ◌∷◌, ◌++◌, ◌≡◌, ◌⊎◌, refl}
+use Rattle.std.specs.Prelude.{ℕ, ◌≤◌, ◌==◌, ◌≢◌, ◌||◌, Bool, true, false, cond, List, ◌≡◌, ◌⊎◌, refl}
 use Rattle.std.proofs.Common.{inl, inr, arith}
-use Rattle.std.proofs.lemmas.Bool.Decides.{nat_tests}
 use Rattle.msc_base.specs.Patterns.{Mode, empty, one, join, bind}
 use Rattle.chart_term.specs.NormalForms.{numbers, numbers_all, numbers_row}
 use Rattle.chart_term.specs.Properties.{Each, EveryRow}
@@ -16,6 +15,7 @@ use Rattle.permit_step.specs.Soundness.{AreTidyTables, IsTidyOver, IsOutside, Ar
 use Rattle.permit_step.proofs.EveryPart.{part_map}
 use Rattle.permit_step.proofs.Even.{AllEven, RowEven, IsEvenOver, some_even}
 use Rattle.permit_step.proofs.Later.{tidy_below}
+use Rattle.permit_step.proofs.Numbers.{number_is, number_not, or_false, lacks_both, has_either}
 use Rattle.permit_step.proofs.Once.{Once, OnceAll, OnceEach, OnceList, FreeAll, once_out, each_out}
 use Rattle.permit_step.proofs.TidyKept.{NoNumber, lacks_none}
 use Rattle.permit_step.proofs.TidyTables.{nets_good}
@@ -23,16 +23,6 @@ use Rattle.permit_step.proofs.TidyTables.{nets_good}
 -- the property of ties by the form of the term
 abbrev pub TiesOnce : (ℕ → ℕ → Type 0) → Tree → Type 0
 TiesOnce NL x = EveryPart (λ e. Unit {0}) (λ y q. (j : ℕ) → InPairs j q → Once NL j y) (λ y. Unit {0}) (λ n f t. Unit {0}) x
-
-pub number_is : (i n : ℕ) → (i == n) ≡ true → i ≡ n
-number_is i n h = grind (arith, nat_tests)
-
-number_not : (i n : ℕ) → (i == n) ≡ false → i ≢ n
-number_not i n h = λ e. grind (arith, nat_tests)
-
-or_false : (t u : Bool) → (t || u) ≡ false → t ≡ false
-or_false true u h = h
-or_false false u h = refl
 
 not_both : (t : Bool) → t ≡ true → t ≡ false → ⊥
 not_both t p q = cc
@@ -43,22 +33,6 @@ one_or_none t = cond t 1 0
 one_if : (t : Bool) → one_or_none t ≤ 1
 one_if true = omega arith
 one_if false = omega arith
-
-has_first : (a b : List ℕ) (n : ℕ) → has (a ++ b) n ≡ false → (has a n ≡ false) × (has b n ≡ false)
-has_first [] b n h = (refl, h)
-has_first (i ∷ a) b n h = go (i == n) h (has_first a b n)
-  where
-    go : (t : Bool) → (t || has (a ++ b) n) ≡ false → (has (a ++ b) n ≡ false → (has a n ≡ false) × (has b n ≡ false)) → ((t || has a n) ≡ false) × (has b n ≡ false)
-    go true h f = cc
-    go false h f = f h
-
-has_some : (a b : List ℕ) (n : ℕ) → has (a ++ b) n ≡ true → (has a n ≡ true) ⊎ (has b n ≡ true)
-has_some [] b n h = inr h
-has_some (i ∷ a) b n h = go (i == n) h (has_some a b n)
-  where
-    go : (t : Bool) → (t || has (a ++ b) n) ≡ true → (has (a ++ b) n ≡ true → (has a n ≡ true) ⊎ (has b n ≡ true)) → ((t || has a n) ≡ true) ⊎ (has b n ≡ true)
-    go true h f = inl refl
-    go false h f = f h
 
 none_times : (j : ℕ) (s : Shape) → NoNumber j s → times j s ≡ 0
 none_times j empty h = refl
@@ -90,17 +64,17 @@ module _ (NL : ℕ → ℕ → Type 0) (j : ℕ) where
     lacks_numbers (Join m xs) h i = lacks_all_numbers xs h i
     lacks_numbers (Choice xs) h i = lacks_all_numbers xs h i
     lacks_numbers (Bound x q) h i = lacks_numbers x h i
-    lacks_numbers (Turns x lo hi r) h i = elim (has_some (numbers x) (numbers_row r) j i) [ inl p ↦ lacks_numbers x h.0 p | inr p ↦ lacks_row_numbers r h.1 p ]
+    lacks_numbers (Turns x lo hi r) h i = elim (has_either (numbers x) (numbers_row r) j i) [ inl p ↦ lacks_numbers x h.0 p | inr p ↦ lacks_row_numbers r h.1 p ]
     lacks_numbers (Trail n f t c) h i = not_both false i refl
 
     lacks_all_numbers : (xs : Trees) → FreeAll NL j xs → has (numbers_all xs) j ≡ true → ⊥
     lacks_all_numbers none h i = not_both false i refl
-    lacks_all_numbers (more x xs) h i = elim (has_some (numbers x) (numbers_all xs) j i) [ inl p ↦ lacks_numbers x h.0 p | inr p ↦ lacks_all_numbers xs h.1 p ]
+    lacks_all_numbers (more x xs) h i = elim (has_either (numbers x) (numbers_all xs) j i) [ inl p ↦ lacks_numbers x h.0 p | inr p ↦ lacks_all_numbers xs h.1 p ]
 
     lacks_row_numbers : (r : Row) → EveryRow (λ e. e.number ≢ j) (NL j) r → has (numbers_row r) j ≡ true → ⊥
     lacks_row_numbers ends h i = not_both false i refl
     lacks_row_numbers (gap c r) h i = lacks_row_numbers r h i
-    lacks_row_numbers (turn x r) h i = elim (has_some (numbers x) (numbers_row r) j i) [ inl p ↦ lacks_numbers x h.0 p | inr p ↦ lacks_row_numbers r h.1 p ]
+    lacks_row_numbers (turn x r) h i = elim (has_either (numbers x) (numbers_row r) j i) [ inl p ↦ lacks_numbers x h.0 p | inr p ↦ lacks_row_numbers r h.1 p ]
 
   mutual
     lacks_if : (x : Tree) → IsOutside NL j x → has (numbers x) j ≡ false → Lacks NL j x
@@ -114,7 +88,7 @@ module _ (NL : ℕ → ℕ → Type 0) (j : ℕ) where
 
     all_lacks_if : (xs : Trees) → AreOutside NL j xs → has (numbers_all xs) j ≡ false → FreeAll NL j xs
     all_lacks_if none o h = tt
-    all_lacks_if (more x xs) o h = let i = has_first (numbers x) (numbers_all xs) j h in (lacks_if x o.0 i.0, all_lacks_if xs o.1 i.1)
+    all_lacks_if (more x xs) o h = let i = lacks_both (numbers x) (numbers_all xs) j h in (lacks_if x o.0 i.0, all_lacks_if xs o.1 i.1)
 
 module _ (w : Tables) (h : AreTidyTables w) (j : ℕ) where
   abbrev P : Tree → Shape → Type 0
@@ -173,7 +147,7 @@ module _ (w : Tables) (h : AreTidyTables w) (j : ℕ) where
       some_in : (m : Mode) (xs : Trees) → AreOutside (NetLacks w) j xs → AllEven (NetLacks w) (IsKnown w) xs → AreNormal (permits_of w) xs → has (numbers_all xs) j ≡ true → (s : Shape) × Parts m xs s × (1 ≤ times j s)
       some_in m none o t n i = absurd (not_both false i refl)
       some_in m (more x xs) o t n i =
-          elim (has_some (numbers x) (numbers_all xs) j i) [
+          elim (has_either (numbers x) (numbers_all xs) j i) [
             | inl p ↦ let r = some_with x o.0 t.0 n.0 p in let u = some_parts m xs t.1 n.1 in (join m r.0 u.0, one_part r.1 u.1, omega (arith, r.2))
             | inr p ↦ let r = some_of x t.0 n.0 in let u = some_in m xs o.1 t.1 n.1 p in (join m r.0 u.0, one_part r.1 u.1, omega (arith, u.2))
           ]
@@ -181,7 +155,7 @@ module _ (w : Tables) (h : AreTidyTables w) (j : ℕ) where
       some_one : (xs : Trees) → AreOutside (NetLacks w) j xs → AllEven (NetLacks w) (IsKnown w) xs → AreNormal (permits_of w) xs → has (numbers_all xs) j ≡ true → (s : Shape) × HasChoice (terms_over w) true (items xs) s × (1 ≤ times j s)
       some_one none o t n i = absurd (not_both false i refl)
       some_one (more x xs) o t n i =
-          elim (has_some (numbers x) (numbers_all xs) j i) [
+          elim (has_either (numbers x) (numbers_all xs) j i) [
             | inl p ↦ let r = some_with x o.0 t.0 n.0 p in (r.0, this_one r.1, r.2)
             | inr p ↦ let r = some_one xs o.1 t.1 n.1 p in (r.0, that_one r.1, r.2)
           ]

@@ -1,13 +1,13 @@
 -- Soundness in full: what holds of the terms of accepted charts, and of all that permission and taking leave of them.
-use Rattle.std.specs.Prelude.{ℕ, ◌+◌, ◌<◌, ◌≤◌, ◌==◌, true, false, List, [], ◌∷◌, ◌≡◌, Option, Some, cond}
+use Rattle.std.specs.Prelude.{ℕ, ◌+◌, ◌<◌, ◌≤◌, ◌==◌, true, false, List, [], ◌∷◌, ◌≡◌, Option, Some, None, cond}
 use Rattle.std.proofs.Common.{get_or}
 use Rattle.msc_base.specs.Patterns.{Mode, row, aside, empty, one, join, bind}
-use Rattle.hmsc_graph.specs.Graphs.{Spot, Start, At, Goal, To, End, Any, IsIn}
+use Rattle.hmsc_graph.specs.Graphs.{Spot, Start, At, Goal, To, End, Any, IsIn, Walk}
 use Rattle.chart_term.specs.NormalForms.{only, join_all, choice_of, bound_of, turns_of, trail_of}
 use Rattle.chart_term.specs.Properties.{Each, IsBelow, MayHave}
-use Rattle.chart_term.specs.Tables.{NetEntry, Tables, net_count, nodes_of, nth_tree, terms_over}
+use Rattle.chart_term.specs.Tables.{NetEntry, Tables, net_count, net_of, nodes_of, nth_tree, terms_over}
 use Rattle.chart_term.specs.TermMeanings.{HasPattern, UpTo}
-use Rattle.chart_term.specs.TermPatterns.{Shape, InPairs, pairs}
+use Rattle.chart_term.specs.TermPatterns.{Shape, InPairs, pairs, Both}
 use Rattle.chart_term.specs.Terms.{TermEvent, Block, Tree, Nil, Event, Join, Choice, Bound, Turns, Trail, Trees, none, more, Row, ends, gap, turn, Part, Gap, parts}
 use Rattle.permit_step.specs.Laws.{Fits}
 use Rattle.permit_step.specs.Normality.{IsNormalOver}
@@ -186,19 +186,26 @@ fresh_loop w x lo hi = turns_of (λ c. permit (permits_of w) (only c) x) (touch 
 abbrev pub fresh_walk : Tables → ℕ → Goal → Option Tree
 fresh_walk w n t = trail_of (permits_of w) n Start t []
 
--- the loop of a sound operand without a walk to any node is sound, where its lower count is at most the upper; so is the walk
--- through a net of sound tables
+-- it doesn't fail, and the term has the property
+abbrev pub MustHave : (Tree → Type 0) → Option Tree → Type 0
+MustHave P None = ⊥
+MustHave P (Some x) = P x
+
+-- the loop of a sound operand without a walk to any node is there and sound, where its lower count is at most the upper; so is the
+-- walk through a net of sound tables, which fails exactly where no walk leads from the start to the goal
 pub record FreshTermsAreSound : Type 0 where
-  pub loop : (labels : ℕ) (w : Tables) (x : Tree) (lo : ℕ) (hi : Option ℕ) → IsFullySound labels w x → HasNoOpenWalk x → UpTo hi lo → MayHave (IsFullySound labels w) (fresh_loop w x lo hi)
+  pub loop : (labels : ℕ) (w : Tables) (x : Tree) (lo : ℕ) (hi : Option ℕ) → IsFullySound labels w x → HasNoOpenWalk x → UpTo hi lo → MustHave (IsFullySound labels w) (fresh_loop w x lo hi)
   pub walk : (labels : ℕ) (w : Tables) (n : ℕ) (t : Goal) → AreSoundNets labels w → IsKnown w n → IsGoalOf w n t → MayHave (IsFullySound labels w) (fresh_walk w n t)
+  pub walk_fails : (labels : ℕ) (w : Tables) (n : ℕ) (t : Goal) → AreSoundNets labels w → IsKnown w n → IsNotAny t → Both (fresh_walk w n t ≡ None) (Walk (net_of w n) (nodes_of w n) Start t → ⊥)
+  pub open_walk : (w : Tables) (n : ℕ) → MustHave (λ x. Unit {0}) (fresh_walk w n Any)
 
 -- the normalising constructors make such terms of such terms, as node terms and the terms of basic charts are: sound in full, without
 -- a walk to any node. A tie needs what is asked of ties, no pair of a number with itself, and that its patterns have linear orders
 pub record ConstructorsKeepSoundness : Type 0 where
   pub event : (labels : ℕ) (w : Tables) (e : TermEvent) → e.label < labels → IsSoundNode labels w (Event e)
   pub join : (labels : ℕ) (w : Tables) (m : Mode) (xs : List Tree) → AreSoundNets labels w → Each (IsSoundNode labels w) xs → IsSoundNode labels w (join_all m xs)
-  pub choice : (labels : ℕ) (w : Tables) (xs : List Tree) → AreSoundNets labels w → Each (IsSoundNode labels w) xs → MayHave (IsSoundNode labels w) (choice_of xs)
+  pub choice : (labels : ℕ) (w : Tables) (x : Tree) (xs : List Tree) → AreSoundNets labels w → Each (IsSoundNode labels w) (x ∷ xs) → MustHave (IsSoundNode labels w) (choice_of (x ∷ xs))
   pub bound : (labels : ℕ) (w : Tables) (x : Tree) (q : List (ℕ × ℕ)) → AreSoundNets labels w → IsSoundNode labels w x → AreTiesOutside w (Bound x q) → AreTiesOnce w (Bound x q) → ((j : ℕ) → pairs q j j ≡ false) → HasOrders w (Bound x q)
       → IsSoundNode labels w (bound_of x q)
-  pub loop : (labels : ℕ) (w : Tables) (x : Tree) (lo : ℕ) (hi : Option ℕ) → AreSoundNets labels w → IsSoundNode labels w x → UpTo hi lo → MayHave (IsSoundNode labels w) (fresh_loop w x lo hi)
+  pub loop : (labels : ℕ) (w : Tables) (x : Tree) (lo : ℕ) (hi : Option ℕ) → AreSoundNets labels w → IsSoundNode labels w x → UpTo hi lo → MustHave (IsSoundNode labels w) (fresh_loop w x lo hi)
   pub walk : (labels : ℕ) (w : Tables) (n : ℕ) (t : Goal) → AreSoundNets labels w → IsKnown w n → IsGoalOf w n t → IsNotAny t → MayHave (IsSoundNode labels w) (fresh_walk w n t)

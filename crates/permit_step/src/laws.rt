@@ -118,8 +118,8 @@ pub fn full_soundness_is_kept()
     ensures { FullSoundnessIsKept }
 {}
 
-/// A loop that no turn has begun, of an operand that is sound in full and holds no walk to any node, is sound in full where its
-/// lower count is at most the upper; so is a walk from the start.
+/// A loop that no turn has begun is there and sound in full where its operand is sound in full and holds no walk to any node, and
+/// its lower count is at most the upper; so is a walk from the start, which fails exactly where no walk leads to its goal.
 #[tactic(auto, using(crate::proofs::Fresh::fresh_terms_are_sound))]
 pub fn fresh_terms_are_sound()
     ensures { FreshTermsAreSound }
