@@ -12,6 +12,7 @@ mod events;
 mod head;
 mod head_parts;
 mod joining;
+mod laws;
 mod shared;
 #[cfg(test)]
 mod tests;
@@ -21,4 +22,5 @@ pub use events::{coregion, single, starts_with_single, stop};
 pub use head::heads;
 pub use head_parts::Heads;
 pub use joining::joins;
+pub use laws::{declarations_are_exact, events_are_exact, shared_parts_are_exact};
 pub use shared::{condition, shared_in};
