@@ -14,19 +14,20 @@ use Rattle.msc_reading.specs.declared.readers.ReadFault.{ReadFault}
 use Rattle.msc_reading.specs.Parsing.{IsRefused}
 use Rattle.msc_reading.specs.Grammars.{Grammar}
 use Rattle.msc_reading.specs.Parts.{name, mark, dropped, ending}
-use Rattle.msc_reading.specs.PartReaders.{name_at}
+use Rattle.msc_reading.specs.Messages.{item, start_words, stop_words}
+use Rattle.msc_reading.specs.PartReaders.{item_at, name_at}
 use Rattle.msc_reading.proofs.Optionals.{none, mapped}
-use Rattle.msc_reading.proofs.PartRules.{name_rule}
+use Rattle.msc_reading.proofs.PartRules.{item_rule, name_rule}
 use Rattle.msc_reading.proofs.Texts.{Textual, bytes_textual, behind_textual, seq_textual, read_textual, or_textual, chain_textual, tail_textual, optional_textual}
 use Rattle.msc_reading.proofs.Shallow.{Shallow, bytes_shallow, behind_shallow, seq_shallow, read_shallow, or_shallow, chain_shallow, tail_shallow, optional_shallow}
 use Rattle.msc_reading.proofs.LevelFree.{reads_all, some_left, is_refused, never_deep, one_textual, no_reading}
 use Rattle.msc_grammar.specs.declared.fault.ParseFault.{ParseFault}
-use Rattle.msc_grammar.specs.EventGrammar.{item, listed, message, far_end, exchange, action, timer, start_words, stop_words, creation, act, label_of, event, plain_message, in_parentheses, or_nothing, far_of}
-use Rattle.msc_grammar.specs.EventReaders.{item_at, event_at, plain_message_at, glued, text_at}
+use Rattle.msc_grammar.specs.EventGrammar.{listed, message, far_end, exchange, action, timer, creation, act, label_of, event, plain_message, in_parentheses, or_nothing, far_of}
+use Rattle.msc_grammar.specs.EventReaders.{event_at, plain_message_at, glued, text_at}
 use Rattle.msc_grammar.specs.Events.{ReadsEvent, ReadsText}
 use Rattle.msc_grammar.specs.Refused.{fault_at}
 use Rattle.msc_grammar.specs.Refusals.{RefusedAt, IsTextRefused, IsTextRefusal}
-use Rattle.msc_grammar.proofs.EventRules.{item_is, event_rule, plain_message_rule}
+use Rattle.msc_grammar.proofs.EventRules.{event_rule, plain_message_rule}
 
 -- ---- the bytes decide
 
@@ -155,33 +156,33 @@ abbrev after_message : List ℕ × Option (List ℕ) → Set
 after_message = tail_ends none (just (codes "(")) none
 
 pub text_ok : (kind : Kind) (ts rest : List Token) (text : List ℕ) → text_at kind ts ≡ Ok (text, rest) → rest ≡ [] → ReadsText kind (texts ts) text
-text_ok Action ts rest text e empty = record { spelled = ts; are = refl; reads = reads_all item names_or_strings none item_at item_is ts rest text e empty }
+text_ok Action ts rest text e empty = record { spelled = ts; are = refl; reads = reads_all item names_or_strings none item_at item_rule ts rest text e empty }
 text_ok Create ts rest text e empty = record { spelled = ts; are = refl; reads = reads_all name names none name_at name_rule ts rest text e empty }
 text_ok _ ts rest text e empty =
     let p = parts_of (plain_message_at ts) text rest e in
     record { spelled = ts; are = refl; reads = (p.parts, reads_all plain_message names after_message plain_message_at plain_message_rule ts rest p.parts p.read empty, p.are) }
 
 pub text_only : (kind : Kind) (tokens : List (List ℕ)) (a : List ℕ) → ReadsText kind tokens a → (b : List ℕ) → ReadsText kind tokens b → b ≡ a
-text_only Action tokens a h b k = one_textual item names_or_strings none item_at item_is (bytes_textual names_or_strings) h.spelled k.spelled a b h.reads (k.are ∙ sym h.are) k.reads
+text_only Action tokens a h b k = one_textual item names_or_strings none item_at item_rule (bytes_textual names_or_strings) h.spelled k.spelled a b h.reads (k.are ∙ sym h.are) k.reads
 text_only Create tokens a h b k = one_textual name names none name_at name_rule (bytes_textual names) h.spelled k.spelled a b h.reads (k.are ∙ sym h.are) k.reads
 text_only _ tokens a h b k =
     let same : k.reads.0 ≡ h.reads.0 = one_textual plain_message names after_message plain_message_at plain_message_rule plain_textual h.spelled k.spelled h.reads.0 k.reads.0 h.reads.1 (k.are ∙ sym h.are) k.reads.1 in
     k.reads.2 ∙ ap glued same ∙ sym h.reads.2
 
 pub text_refused : (kind : Kind) (ts : List Token) (left : ℕ) → text_at kind ts ≡ Err (refused left) → IsTextRefusal kind ts left
-text_refused Action ts left e = is_refused item names_or_strings none item_at item_is ts left e
+text_refused Action ts left e = is_refused item names_or_strings none item_at item_rule ts left e
 text_refused Create ts left e = is_refused name names none name_at name_rule ts left e
 text_refused _ ts left e = is_refused plain_message names after_message plain_message_at plain_message_rule ts left (no_parts (plain_message_at ts) (refused left) e)
 
 pub text_left : (kind : Kind) (ts rest : List Token) (text : List ℕ) → text_at kind ts ≡ Ok (text, rest) → (rest ≡ [] → ⊥) → IsTextRefusal kind ts (length rest)
-text_left Action ts rest text e some = some_left item names_or_strings none item_at item_is ts rest text e some
+text_left Action ts rest text e some = some_left item names_or_strings none item_at item_rule ts rest text e some
 text_left Create ts rest text e some = some_left name names none name_at name_rule ts rest text e some
 text_left _ ts rest text e some =
     let p = parts_of (plain_message_at ts) text rest e in
     some_left plain_message names after_message plain_message_at plain_message_rule ts rest p.parts p.read some
 
 pub text_deep : (kind : Kind) (ts : List Token) (left : ℕ) → text_at kind ts ≡ Err (deep left) → ⊥
-text_deep Action ts left e = never_deep item names_or_strings none item_at item_is (bytes_shallow names_or_strings) ts left e
+text_deep Action ts left e = never_deep item names_or_strings none item_at item_rule (bytes_shallow names_or_strings) ts left e
 text_deep Create ts left e = never_deep name names none name_at name_rule (bytes_shallow names) ts left e
 text_deep _ ts left e = never_deep plain_message names after_message plain_message_at plain_message_rule plain_shallow ts left (no_parts (plain_message_at ts) (deep left) e)
 

@@ -5,26 +5,24 @@ use Rattle.msc_base.specs.declared.label.Kind.TheVariants.{Output, Input, Output
 use Rattle.msc_base.specs.declared.label.Far.TheVariants.{Nobody, Env, Instance}
 use Rattle.msc_tokens.specs.declared.token.Token.{Token}
 use Rattle.msc_reading.specs.Classes.{token_of}
-use Rattle.msc_reading.specs.Languages.{Set, among, apart, just, names, names_or_strings, Read, seq_at, map_at, tail_ends}
+use Rattle.msc_reading.specs.Languages.{Set, among, apart, just, names, Read, seq_at, map_at, tail_ends}
 use Rattle.msc_reading.specs.Grammars.{Grammar, behind}
+use Rattle.msc_reading.specs.Messages.{item, start_words, stop_words}
 use Rattle.msc_reading.specs.Parts.{dropped}
-use Rattle.msc_reading.specs.PartReaders.{name_at}
+use Rattle.msc_reading.specs.PartReaders.{comma_item_at, name_at}
 use Rattle.msc_reading.proofs.Eaches.{last}
 use Rattle.msc_reading.proofs.Chains.{ends_of}
 use Rattle.msc_reading.proofs.Lists.{apart_none}
 use Rattle.msc_reading.proofs.Flats.{rule_by}
 use Rattle.msc_reading.proofs.Rules.{Rule, seq_rule, or_rule, as_rule, chain_rule, tail_rule}
-use Rattle.msc_reading.proofs.Optionals.{none, optional_rule, behind_rule, bytes_rule, regrouped}
-use Rattle.msc_reading.proofs.PartRules.{name_rule, mark_rule, ending_rule}
-use Rattle.msc_grammar.specs.EventGrammar.{item, in_parentheses, listed, or_nothing, message, far_of, far_end, output, input, action, timer, start_words, stop_words, creation, act, label_of, event, plain_message}
-use Rattle.msc_grammar.specs.EventReaders.{item_at, comma_item_at, listed_at, pairing_at, list_at, message_at, far_end_at, output_at, input_at, action_at, timer_at, creation_at, act_at, event_at, plain_message_at}
+use Rattle.msc_reading.proofs.Optionals.{none, optional_rule, behind_rule, regrouped}
+use Rattle.msc_reading.proofs.PartRules.{item_rule, name_rule, mark_rule, ending_rule}
+use Rattle.msc_grammar.specs.EventGrammar.{in_parentheses, listed, or_nothing, message, far_of, far_end, output, input, action, timer, creation, act, label_of, event, plain_message}
+use Rattle.msc_grammar.specs.EventReaders.{listed_at, pairing_at, list_at, message_at, far_end_at, output_at, input_at, action_at, timer_at, creation_at, act_at, event_at, plain_message_at}
 
 last_none : (bs : List (List ℕ)) → last none [] bs ≡ []
 last_none [] = refl
 last_none (b ∷ bs) = last_none bs
-
-item_rule : (n : ℕ) → Rule (λ m. item) n names_or_strings none item_at
-item_rule n = bytes_rule names_or_strings (codes "a") refl n
 
 -- ---- messages
 
@@ -96,9 +94,6 @@ pub event_rule : (n : ℕ) → Rule (λ m. event) n names none event_at
 event_rule n = as_rule label_of none (seq_rule (name_rule n) (behind_rule (just (codes ":")) (codes ":") refl (act_rule n)) (λ a. refl)) (λ a. refl)
 
 -- ---- texts
-
-pub item_is : (n : ℕ) → Rule (λ m. item) n names_or_strings none item_at
-item_is n = item_rule n
 
 pub plain_message_rule : (n : ℕ) → Rule (λ m. plain_message) n names (tail_ends none (just (codes "(")) none) plain_message_at
 plain_message_rule n = tail_rule (name_rule n) (listed_rule n) (λ a. refl)

@@ -7,7 +7,8 @@ use Rattle.msc_reading.specs.declared.readers.ReadFault.{ReadFault}
 use Rattle.msc_reading.specs.declared.readers.ReadFault.TheVariants as fault
 use Rattle.msc_reading.proofs.Optionals.{mapped}
 use Rattle.msc_grammar.specs.EventGrammar.{with_commas, in_parentheses}
-use Rattle.msc_grammar.specs.EventReaders.{comma_item_at, more_items_at}
+use Rattle.msc_reading.specs.PartReaders.{comma_item_at}
+use Rattle.msc_grammar.specs.EventReaders.{more_items_at}
 
 abbrev commas : Set
 commas = just (codes ",")

@@ -6,16 +6,12 @@ use Rattle.msc_base.specs.declared.label.Kind.{Kind}
 use Rattle.msc_base.specs.declared.label.Kind.TheVariants.{Output, Input, OutputLost, InputFound, Action, TimerStart, TimerStop, Timeout, Create}
 use Rattle.msc_base.specs.declared.label.Far.{Far}
 use Rattle.msc_base.specs.declared.label.Far.TheVariants.{Nobody, Env, Instance}
-use Rattle.msc_reading.specs.Classes.{exactly}
-use Rattle.msc_reading.specs.Languages.{Set, just, names_or_strings}
-use Rattle.msc_reading.specs.Grammars.{Grammar, seq, or, read_as, chain, tail, optional, behind, bytes_of}
+use Rattle.msc_reading.specs.Languages.{Set, just}
+use Rattle.msc_reading.specs.Grammars.{Grammar, seq, or, read_as, chain, tail, optional, behind}
 use Rattle.msc_reading.specs.Parts.{name, mark, dropped, ending}
+use Rattle.msc_reading.specs.Messages.{item, start_words, stop_words}
 
 -- ---- messages
-
--- item = name | string
-abbrev pub item : Grammar (List ℕ)
-item = bytes_of names_or_strings
 
 -- each behind a comma
 abbrev pub with_commas : List (List ℕ) → List ℕ
@@ -72,12 +68,6 @@ action = read_as (λ p. (Action, p.0, Nobody)) (behind (just (codes "action")) (
 -- a timer's word and a message
 abbrev pub timer : Set → Kind → Grammar Act
 timer words kind = read_as (λ p. (kind, p.0, Nobody)) (behind words (message ending))
-
-abbrev pub start_words : Set
-start_words = exactly (codes "starttimer") ∷ exactly (codes "set") ∷ []
-
-abbrev pub stop_words : Set
-stop_words = exactly (codes "stoptimer") ∷ exactly (codes "reset") ∷ []
 
 -- "create" name: the text and the far end are the child
 abbrev pub creation : Grammar Act

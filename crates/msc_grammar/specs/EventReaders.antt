@@ -6,17 +6,12 @@ use Rattle.msc_base.specs.declared.label.Kind.TheVariants.{Output, Input, Output
 use Rattle.msc_base.specs.declared.label.Far.{Far}
 use Rattle.msc_base.specs.declared.label.Far.TheVariants.{Nobody, Env, Instance}
 use Rattle.msc_tokens.specs.declared.token.Token.{Token}
-use Rattle.msc_reading.specs.Languages.{Set, Read, just, names, names_or_strings, ◌>>=◌, each_at, seq_at, either_at, map_at, chain_at, tail_at, optional_at, behind_at, bytes_at}
+use Rattle.msc_reading.specs.Languages.{Set, Read, just, names, names_or_strings, ◌>>=◌, each_at, seq_at, either_at, map_at, chain_at, tail_at, optional_at, behind_at}
 use Rattle.msc_reading.specs.Parts.{dropped}
-use Rattle.msc_reading.specs.PartReaders.{name_at, mark_at, ending_at}
-use Rattle.msc_grammar.specs.EventGrammar.{Act, with_commas, in_parentheses, or_nothing, far_of, label_of, start_words, stop_words}
+use Rattle.msc_reading.specs.Messages.{start_words, stop_words}
+use Rattle.msc_reading.specs.PartReaders.{item_at, comma_item_at, name_at, mark_at, ending_at}
+use Rattle.msc_grammar.specs.EventGrammar.{Act, with_commas, in_parentheses, or_nothing, far_of, label_of}
 use Rattle.msc_grammar.specs.declared.event.Act.{Act as ActValue}
-
-abbrev pub item_at : List Token → Read (List ℕ)
-item_at = bytes_at names_or_strings
-
-abbrev pub comma_item_at : List Token → Read (List ℕ)
-comma_item_at = behind_at (just (codes ",")) item_at
 
 -- at most so many others, appended to a text
 abbrev pub more_items_at : List ℕ → ℕ → List Token → Read (List ℕ)

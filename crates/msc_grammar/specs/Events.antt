@@ -6,8 +6,9 @@ use Rattle.msc_base.specs.declared.label.Kind.{Kind}
 use Rattle.msc_base.specs.declared.label.Kind.TheVariants.{Output, Input, Action, Create}
 use Rattle.msc_base.specs.declared.label.Far.TheVariants.{Instance}
 use Rattle.msc_tokens.specs.declared.token.Token.{Token}
-use Rattle.msc_reading.specs.Parts.{name}
-use Rattle.msc_grammar.specs.EventGrammar.{event, item, plain_message, or_nothing}
+use Rattle.msc_reading.specs.Parts.{name, other_leads}
+use Rattle.msc_reading.specs.Messages.{item}
+use Rattle.msc_grammar.specs.EventGrammar.{event, plain_message, or_nothing}
 
 -- the bytes of each token
 abbrev pub texts : List Token → List (List ℕ)
@@ -51,11 +52,6 @@ pub record ReadsText (kind : Kind) (tokens : List (List ℕ)) (text : List ℕ) 
   pub spelled : List Token
   pub are : texts spelled ≡ tokens
   pub reads : reads_text kind spelled text
-
--- words that begin other statements of the notation
-abbrev pub other_leads : List (List ℕ)
-other_leads = codes "call" ∷ codes "create" ∷ codes "data" ∷ codes "endmethod" ∷ codes "endsuspension" ∷ codes "gate" ∷ codes "language"
-    ∷ codes "method" ∷ codes "receive" ∷ codes "replyin" ∷ codes "replyout" ∷ codes "stop" ∷ codes "suspension" ∷ codes "variables" ∷ []
 
 -- a name that may stand left of a statement's colon
 pub record IsLead (bytes : List ℕ) : Type 0 where

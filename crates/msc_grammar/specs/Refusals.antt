@@ -9,7 +9,8 @@ use Rattle.msc_reading.specs.Parsing.{IsRefused}
 use Rattle.msc_grammar.specs.declared.fault.ParseFault.{ParseFault}
 use Rattle.msc_grammar.specs.declared.fault.ParseFault.TheVariants.{Syntax, Unsupported, Deep, NoMemory}
 use Rattle.msc_reading.specs.Parts.{name}
-use Rattle.msc_grammar.specs.EventGrammar.{item, plain_message}
+use Rattle.msc_reading.specs.Messages.{item}
+use Rattle.msc_grammar.specs.EventGrammar.{plain_message}
 use Rattle.msc_grammar.specs.Refused.{fault_at}
 
 -- a refusal of the tokens, and no want of memory

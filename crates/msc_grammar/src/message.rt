@@ -1,6 +1,7 @@
 ghost use Rattle.std.specs.Prelude.{◌≡◌, ◌++◌, length, codes, IfOk};
 ghost use Rattle.msc_reading.specs.Answers.{Gives};
-ghost use Rattle.msc_grammar.specs.EventReaders.{comma_item_at, more_items_at, inside_at, listed_at, pairing_at, list_at, message_at};
+ghost use Rattle.msc_reading.specs.PartReaders.{comma_item_at};
+ghost use Rattle.msc_grammar.specs.EventReaders.{more_items_at, inside_at, listed_at, pairing_at, list_at, message_at};
 
 use msc_base::{NoMemory, Text};
 use msc_reading::{ReadFault, name, name_or_string, starts_with, starts_with_item, word};

@@ -113,7 +113,7 @@ any_decides p P each xs = (
   λ h. list_any-from_Any p xs (h.0, h.1, h.2, h.3, (each h.1).1 h.4),
 )
 
-one_of_decides : (ws : List (List ℕ)) (bytes : List ℕ) → Decides (is_one_of ws bytes) (IsOneOf ws bytes)
+pub one_of_decides : (ws : List (List ℕ)) (bytes : List ℕ) → Decides (is_one_of ws bytes) (IsOneOf ws bytes)
 one_of_decides [] bytes = (λ e. absurd (both (sym e)), λ h. absurd h)
 one_of_decides (w ∷ ws) bytes = Decides-or (bytes_eq bytes w) (is_one_of ws bytes) (bytes_eq-Decides bytes w) (one_of_decides ws bytes)
 

@@ -3,6 +3,7 @@ pub mod Classes
 pub mod Factored
 pub mod Grammars
 pub mod Languages
+pub mod Messages
 pub mod Parsing
 pub mod PartReaders
 pub mod Parts

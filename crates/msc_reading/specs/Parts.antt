@@ -1,11 +1,28 @@
 -- Small productions that all parts of the notation share.
-use Rattle.std.specs.Prelude.{ℕ, List, [], ◌∷◌, Option, codes}
-use Rattle.msc_reading.specs.Classes.{string}
-use Rattle.msc_reading.specs.Languages.{just, names, numbers}
-use Rattle.msc_reading.specs.Grammars.{Grammar, read_as, chain, optional, behind, bytes_of}
+use Rattle.std.specs.Prelude.{ℕ, List, [], ◌∷◌, Option, Some, None, codes}
+use Rattle.msc_base.specs.declared.place.Place.{Place}
+use Rattle.msc_reading.specs.Classes.{string, name_but}
+use Rattle.msc_reading.specs.Languages.{Set, just, names, numbers}
+use Rattle.msc_reading.specs.Grammars.{Grammar, word, seq, read_as, chain, optional, behind, bytes_of}
 
 abbrev pub name : Grammar (List ℕ)
 name = bytes_of names
+
+-- a name with its place
+abbrev pub placed_name : Grammar (List ℕ × Place)
+placed_name = read_as (λ t. (t.bytes, t.place)) (word names)
+
+-- words that begin other statements of the notation
+abbrev pub other_leads : List (List ℕ)
+other_leads = codes "call" ∷ codes "create" ∷ codes "data" ∷ codes "endmethod" ∷ codes "endsuspension" ∷ codes "gate" ∷ codes "language"
+    ∷ codes "method" ∷ codes "receive" ∷ codes "replyin" ∷ codes "replyout" ∷ codes "stop" ∷ codes "suspension" ∷ codes "variables" ∷ []
+
+-- the names that may stand left of a statement's colon
+abbrev pub leads : Set
+leads = name_but other_leads ∷ []
+
+abbrev pub lead : Grammar (List ℕ × Place)
+lead = read_as (λ t. (t.bytes, t.place)) (word leads)
 
 -- digits, and at least one
 abbrev pub digits : Grammar (List ℕ)
@@ -14,9 +31,20 @@ digits = bytes_of numbers
 abbrev pub mark : List ℕ → Grammar (List ℕ)
 mark text = bytes_of (just text)
 
--- a part that is read and dropped
+-- a part that may be missing counts as itself, or is dropped, or is a list that may be empty
+abbrev pub kept : {A : Type 0} → Option A → Option A
+kept part = part
+
 abbrev pub dropped : {A : Type 0} → Option A → Unit {0}
 dropped part = tt
+
+abbrev pub all_or_none : {A : Type 0} → Option (List A) → List A
+all_or_none None = []
+all_or_none (Some list) = list
+
+-- behind a word, with the word's place
+abbrev pub placed : {A : Type 0} → Set → Grammar A → Grammar (Place × A)
+placed words R = read_as (λ p. (p.0.place, p.1)) (seq (word words) R)
 
 -- end = [ "comment" string ] ";"
 abbrev pub ending : Grammar (Unit {0})

@@ -1,10 +1,11 @@
 ghost use Rattle.std.specs.Prelude.{◌≡◌, [], ◌∷◌, ◌++◌, length, IfOk};
 ghost use Rattle.msc_base.specs.Names.{IsName};
 ghost use Rattle.msc_reading.specs.Answers.{Gives};
-ghost use Rattle.msc_reading.specs.PartReaders.{name_at, ending_at, comma_name_at, more_names_at, name_list_at};
+ghost use Rattle.msc_reading.specs.PartReaders.{name_at, placed_name_at, lead_at, ending_at, comma_name_at, more_names_at, name_list_at};
 
+use crate::leads::lead;
 use crate::readers::{ReadFault, name, starts_with, string, word};
-use msc_base::{Items, Name, Names, NoMemory};
+use msc_base::{Items, Name, Names, NoMemory, Place, Text};
 use msc_tokens::Token;
 use std::alloc::Global;
 
@@ -26,6 +27,32 @@ pub fn own_name(alloc: Global, tokens: &[Token]) -> Result<(Name, &[Token]), Rea
     let (token, rest) = name(tokens)?;
     let name = name_of(alloc, token)?;
     Ok((name, rest))
+}
+
+/// The first token, where it is a name, as a text of its own, and those behind it.
+pub fn own_text(alloc: Global, tokens: &[Token]) -> Result<(Text, &[Token]), ReadFault>
+    ensures { Gives (λ x. (x.0, x.1.now)) result (name_at tokens.now) }
+{
+    let (token, rest) = name(tokens)?;
+    Ok((token.bytes.copy(alloc)?, rest))
+}
+
+/// The first token, where it is a name, as a name of its own with its place, and those behind it.
+pub fn placed_name(alloc: Global, tokens: &[Token]) -> Result<(Name, Place, &[Token]), ReadFault>
+    ensures { Gives (λ x. ((x.0, x.1), x.2.now)) result (placed_name_at tokens.now) }
+{
+    let (token, rest) = name(tokens)?;
+    let name = name_of(alloc, token)?;
+    Ok((name, token.place, rest))
+}
+
+/// The first token, where it may lead a statement, as a name of its own with its place, and those behind it.
+pub fn placed_lead(alloc: Global, tokens: &[Token]) -> Result<(Name, Place, &[Token]), ReadFault>
+    ensures { Gives (λ x. ((x.0, x.1), x.2.now)) result (lead_at tokens.now) }
+{
+    let (token, rest) = lead(tokens)?;
+    let name = name_of(alloc, token)?;
+    Ok((name, token.place, rest))
 }
 
 /// The end of a statement: a semicolon, with or without a comment (Z.120, clause 2.3).

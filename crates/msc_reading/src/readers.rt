@@ -36,7 +36,7 @@ fn is_text(token: &Token, text: &str) -> bool
 }
 
 /// Whether the token is a name.
-fn is_name_token(token: &Token) -> bool
+pub fn is_name_token(token: &Token) -> bool
     ensures { result ≡ is_name token.now.bytes }
 {
     msc_base::is_name(token.bytes.bytes())
@@ -146,6 +146,7 @@ pub fn either_word<'a>(
 /// The first token, where it is a name, and those behind it.
 pub fn name(tokens: &[Token]) -> Result<(&Token, &[Token]), ReadFault>
     ensures gives { Gives (λ x. (x.0.now.bytes, x.1.now)) result (bytes_at names tokens.now) }
+    ensures token { Gives (λ x. (x.0.now, x.1.now)) result (word_at names tokens.now) }
     ensures name { IfOk result (λ x. IsName x.0.now.bytes) }
 {
     match tokens.split_first() {

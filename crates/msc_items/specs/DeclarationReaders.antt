@@ -1,0 +1,80 @@
+-- Readers of the productions of declarations.
+use Rattle.std.specs.Prelude.{ℕ, List, [], ◌∷◌, Option, Ok, length, codes}
+use Rattle.msc_base.specs.declared.place.Place.{Place}
+use Rattle.msc_tokens.specs.declared.token.Token.{Token}
+use Rattle.msc_tree.specs.declared.chart.Decl.{Decl}
+use Rattle.msc_tree.specs.declared.chart.Heading.{Heading}
+use Rattle.msc_reading.specs.Classes.{exactly}
+use Rattle.msc_reading.specs.Languages.{Set, Read, just, names, ◌>>=◌, each_at, seq_at, either_at, map_at, tail_at, optional_at, behind_at}
+use Rattle.msc_reading.specs.Parts.{kept, all_or_none}
+use Rattle.msc_reading.specs.PartReaders.{name_at, placed_name_at, placed_at, ending_at, separated_at, more_at, name_list_at}
+use Rattle.msc_items.specs.Declarations.{kind_of, decl_of, of_decls, of_messages, of_timers, both_heads, all_heads}
+use Rattle.msc_items.specs.declared.head.Heads.{Heads}
+
+abbrev pub related_at : List Token → Read (Option (List ℕ))
+related_at = optional_at (just (codes "related")) kept (behind_at (just (codes "related")) (behind_at (just (codes "to")) name_at))
+
+abbrev pub heading_at : List Token → Read Heading
+heading_at = behind_at (just (codes "mscdocument")) (map_at (λ p. record { name = p.0; related = p.1.0 }) (seq_at name_at (seq_at related_at ending_at)))
+
+abbrev pub kind_at : List Token → Read (List (List ℕ))
+kind_at = map_at kind_of (tail_at names name_at name_at)
+
+-- a kind, where there is one
+abbrev pub some_kind_at : List Token → Read (List (List ℕ))
+some_kind_at = optional_at names all_or_none kind_at
+
+-- a kind behind a colon, where there is one
+abbrev pub colon_kind_at : List Token → Read (List (List ℕ))
+colon_kind_at = optional_at (just (codes ":")) all_or_none (behind_at (just (codes ":")) kind_at)
+
+abbrev pub refinement_at : List Token → Read (Place × List ℕ)
+refinement_at = placed_at (just (codes "decomposed")) (behind_at (just (codes "as")) name_at)
+
+-- a refinement, where there is one
+abbrev pub some_refinement_at : List Token → Read (Option (Place × List ℕ))
+some_refinement_at = optional_at (just (codes "decomposed")) kept refinement_at
+
+abbrev pub decl_at : List Token → Read Decl
+decl_at = map_at (λ p. decl_of p.0 p.1.0 p.1.1) (seq_at placed_name_at (seq_at colon_kind_at some_refinement_at))
+
+abbrev pub comma_decl_at : List Token → Read Decl
+comma_decl_at = behind_at (just (codes ",")) decl_at
+
+abbrev pub more_decls_at : List Decl → ℕ → List Token → Read (List Decl)
+more_decls_at = more_at (just (codes ",")) comma_decl_at
+
+abbrev pub decl_list_at : List Token → Read (List Decl)
+decl_list_at = separated_at (codes ",") decl_at
+
+abbrev pub declaration_at : List Token → Read (List (List ℕ) × Option (Place × List ℕ))
+declaration_at = behind_at (just (codes "instance")) (map_at (λ p. (p.0, p.1.0)) (seq_at some_kind_at (seq_at some_refinement_at ending_at)))
+
+-- the declaration of the instance whose name stands at a place
+abbrev pub declared_at : List ℕ × Place → List Token → Read Decl
+declared_at at = map_at (λ d. decl_of at d.0 d.1) declaration_at
+
+-- ---- the heads of a chart
+
+abbrev pub decls_head_at : List Token → Read Heads
+decls_head_at = map_at (λ p. of_decls p.0) (behind_at (just (codes "inst")) (seq_at decl_list_at ending_at))
+
+abbrev pub messages_head_at : List Token → Read Heads
+messages_head_at = map_at (λ p. of_messages p.0) (behind_at (just (codes "msg")) (seq_at name_list_at ending_at))
+
+abbrev pub timers_head_at : List Token → Read Heads
+timers_head_at = map_at (λ p. of_timers p.0) (behind_at (just (codes "timer")) (seq_at name_list_at ending_at))
+
+abbrev pub head_at : List Token → Read Heads
+head_at = either_at (just (codes "inst")) decls_head_at (either_at (just (codes "msg")) messages_head_at timers_head_at)
+
+abbrev pub head_words : Set
+head_words = exactly (codes "inst") ∷ exactly (codes "msg") ∷ exactly (codes "timer") ∷ []
+
+-- at most so many heads, behind what was declared
+abbrev pub more_heads_at : Heads → ℕ → List Token → Read Heads
+more_heads_at front k ts = each_at head_words head_at k ts >>= λ x. Ok (both_heads front (all_heads x.0), x.1)
+
+-- all heads that there are
+abbrev pub heads_at : List Token → Read (List Heads)
+heads_at ts = each_at head_words head_at (length ts) ts

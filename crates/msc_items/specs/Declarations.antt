@@ -1,0 +1,72 @@
+-- How a document is headed, and how instances, messages and timers are declared (Z.120, clauses 3, 4.1, 4.2 and 7.4).
+use Rattle.std.specs.Prelude.{ℕ, List, [], ◌∷◌, ◌++◌, Option, Some, None, codes}
+use Rattle.msc_base.specs.declared.place.Place.{Place}
+use Rattle.msc_tree.specs.declared.chart.Decl.{Decl}
+use Rattle.msc_tree.specs.declared.chart.Heading.{Heading}
+use Rattle.msc_reading.specs.Languages.{just}
+use Rattle.msc_reading.specs.Grammars.{Grammar, seq, or, read_as, tail, optional, behind}
+use Rattle.msc_reading.specs.Parts.{name, placed_name, ending, kept, all_or_none, placed, separated, name_list}
+use Rattle.msc_items.specs.declared.head.Heads.{Heads}
+
+-- the heading of a document: "mscdocument" name [ "related" "to" name ] end
+abbrev pub heading : Grammar Heading
+heading = behind (just (codes "mscdocument")) (read_as (λ p. record { name = p.0; related = p.1.0 })
+    (seq name (optional kept (behind (just (codes "related")) (behind (just (codes "to")) name)) ending)))
+
+-- ---- declarations of instances
+
+abbrev pub kind_of : List ℕ × Option (List ℕ) → List (List ℕ)
+kind_of (first, None) = first ∷ []
+kind_of (first, Some second) = first ∷ second ∷ []
+
+-- name [ name ]
+abbrev pub kind : Grammar (List (List ℕ))
+kind = read_as kind_of (tail name name)
+
+-- "decomposed" "as" name, with its place
+abbrev pub refinement : Grammar (Place × List ℕ)
+refinement = placed (just (codes "decomposed")) (behind (just (codes "as")) name)
+
+-- the declaration of an instance whose name stands at a place
+abbrev pub decl_of : List ℕ × Place → List (List ℕ) → Option (Place × List ℕ) → Decl
+decl_of at kind None = record { name = at.0; kind = kind; refined = None; place = at.1 }
+decl_of at kind (Some part) = record { name = at.0; kind = kind; refined = Some part.1; place = part.0 }
+
+-- decl = name [ ":" name [ name ] ] [ "decomposed" "as" name ]
+abbrev pub decl : Grammar Decl
+decl = read_as (λ p. decl_of p.0.0 (all_or_none p.0.1) p.1) (tail (tail placed_name (behind (just (codes ":")) kind)) refinement)
+
+-- decl { "," decl }
+abbrev pub decl_list : Grammar (List Decl)
+decl_list = separated (codes ",") decl
+
+-- behind the instance's name and a colon: "instance" [ name [ name ] ] [ "decomposed" "as" name ] end
+abbrev pub declaration : Grammar (List (List ℕ) × Option (Place × List ℕ))
+declaration = behind (just (codes "instance")) (read_as (λ p. (p.0, p.1.0)) (optional all_or_none kind (optional kept refinement ending)))
+
+-- ---- the heads of a chart
+
+-- what one head declares
+abbrev pub of_decls : List Decl → Heads
+of_decls decls = record { decls = decls; messages = []; timers = [] }
+
+abbrev pub of_messages : List (List ℕ) → Heads
+of_messages names = record { decls = []; messages = names; timers = [] }
+
+abbrev pub of_timers : List (List ℕ) → Heads
+of_timers names = record { decls = []; messages = []; timers = names }
+
+-- head = "inst" decl { "," decl } end | "msg" names end | "timer" names end
+abbrev pub head : Grammar Heads
+head = or (read_as (λ p. of_decls p.0) (behind (just (codes "inst")) (seq decl_list ending)))
+    (or (read_as (λ p. of_messages p.0) (behind (just (codes "msg")) (seq name_list ending)))
+    (read_as (λ p. of_timers p.0) (behind (just (codes "timer")) (seq name_list ending))))
+
+-- what two heads declare
+abbrev pub both_heads : Heads → Heads → Heads
+both_heads one other = record { decls = one.decls ++ other.decls; messages = one.messages ++ other.messages; timers = one.timers ++ other.timers }
+
+-- what the heads of a chart declare
+abbrev pub all_heads : List Heads → Heads
+all_heads [] = record { decls = []; messages = []; timers = [] }
+all_heads (one ∷ rest) = both_heads one (all_heads rest)
