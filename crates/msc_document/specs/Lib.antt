@@ -1,1 +1,2 @@
+pub mod DocumentGrammar
 pub mod Inlines
