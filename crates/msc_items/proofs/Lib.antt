@@ -1,0 +1,3 @@
+pub mod DeclarationRules
+pub mod EventRules
+pub mod MultiRules

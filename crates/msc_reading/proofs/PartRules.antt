@@ -2,8 +2,10 @@
 use Rattle.std.proofs.Common.{ℕ, ◌≡◌, ◌++◌, true, false, not, inl, inr, List, [], ◌∷◌, Option, refl, sym, ap, codes}
 use Rattle.msc_tokens.specs.declared.token.Token.{Token}
 use Rattle.std.proofs.lemmas.Bool.{or_cases, and_parts}
+use Rattle.std.specs.List.{list_all}
+use Rattle.std.proofs.lemmas.List.Folds.{list_all-append}
 use Rattle.msc_base.specs.Names.{IsName}
-use Rattle.msc_reading.specs.Classes.{string, name_but, token_of, fits, is_name, is_one_of}
+use Rattle.msc_reading.specs.Classes.{string, name_but, token_of, fits, differ, is_name, is_one_of}
 use Rattle.msc_reading.proofs.Classes.{name_decides}
 use Rattle.msc_reading.specs.Languages.{Set, any_fits, Read, among, apart, just, names, names_or_strings, numbers, seq_at, map_at}
 use Rattle.msc_reading.specs.Grammars.{Grammar}
@@ -86,6 +88,13 @@ last_same K (b ∷ bs) = last_same K bs
 abbrev pub final : {A : Type 0} → (A → Set) → List A → Set
 final C [] = []
 final C (a ∷ rest) = last C (C a) rest
+
+pub both_apart : (G s t : Set) → apart G s ≡ true → apart G t ≡ true → apart G (s ++ t) ≡ true
+both_apart [] s t h k = refl
+both_apart (c ∷ G) s t h k =
+    let a = and_parts (list_all (λ j. differ c j) s) (apart G s) h in
+    let b = and_parts (list_all (λ j. differ c j) t) (apart G t) k in
+    rw (list_all-append (λ j. differ c j) s t, a.0, b.0) (both_apart G s t a.1 b.1)
 
 last_apart : {A : Type 0} (G : Set) (C : A → Set) (K : Set) → apart G K ≡ true → ((a : A) → apart G (C a) ≡ true) → (list : List A) → apart G (last C K list) ≡ true
 last_apart G C K free each [] = free
