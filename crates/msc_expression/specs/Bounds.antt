@@ -2,7 +2,7 @@
 use Rattle.std.specs.Prelude.{ℕ, List, Option, Some, None, codes, min}
 use Rattle.std.specs.Str.Parse.{digits_value}
 use Rattle.msc_tokens.specs.declared.token.Token.{Token}
-use Rattle.msc_reading.specs.Languages.{Read, just, numbers, seq_at, either_at, map_at, optional_at, behind_at}
+use Rattle.msc_reading.specs.Languages.{Read, just, seq_at, either_at, map_at, optional_at, behind_at}
 use Rattle.msc_reading.specs.Grammars.{Grammar, seq, or, read_as, optional, behind}
 use Rattle.msc_reading.specs.Parts.{digits, mark}
 use Rattle.msc_reading.specs.PartReaders.{digits_at, mark_at}
@@ -15,9 +15,9 @@ kept text = min (digits_value 10 text) 1000001
 abbrev pub bound : Grammar ℕ
 bound = read_as kept digits
 
--- digits | "inf"
+-- "inf" | digits
 abbrev pub upper_bound : Grammar (Option ℕ)
-upper_bound = or (read_as Some bound) (read_as (λ t. None) (mark (codes "inf")))
+upper_bound = or (read_as (λ t. None) (mark (codes "inf"))) (read_as Some bound)
 
 -- a single bound is the lower and the upper one
 abbrev pub bounds_of : ℕ → Option (Option ℕ) → Bounds
@@ -27,7 +27,7 @@ bounds_of lower (Some upper) = record { lower = lower; upper = upper }
 abbrev pub same : {A : Type 0} → A → A
 same a = a
 
--- bounds = "<" digits [ "," ( digits | "inf" ) ] ">"
+-- bounds = "<" digits [ "," ( "inf" | digits ) ] ">"
 abbrev pub bounds : Grammar Bounds
 bounds = behind (just (codes "<")) (read_as (λ p. bounds_of p.0 p.1.0) (seq bound (optional same (behind (just (codes ",")) upper_bound) (mark (codes ">")))))
 
@@ -46,7 +46,7 @@ abbrev pub bound_at : List Token → Read ℕ
 bound_at = map_at kept digits_at
 
 abbrev pub upper_bound_at : List Token → Read (Option ℕ)
-upper_bound_at = either_at numbers (map_at Some bound_at) (map_at (λ t. None) (mark_at (codes "inf")))
+upper_bound_at = either_at (just (codes "inf")) (map_at (λ t. None) (mark_at (codes "inf"))) (map_at Some bound_at)
 
 abbrev pub comma_bound_at : List Token → Read (Option (Option ℕ))
 comma_bound_at = optional_at (just (codes ",")) same (behind_at (just (codes ",")) upper_bound_at)

@@ -57,6 +57,3 @@ graph_line_at (suc n) = line_in_at (expression_at (suc n)) (Some (graph_line_at 
 abbrev pub chart_graph_at : ℕ → List Token → Read Graph
 chart_graph_at n = behind_at (just (codes "expr")) (graph_rest_at (graph_line_at n))
 
--- the reader of a line one level deeper, where there is one more level
-abbrev pub deeper_line_at : ℕ → Option (List Token → Read Line)
-deeper_line_at n = if n == 0 then None else Some (graph_line_at (n - 1))

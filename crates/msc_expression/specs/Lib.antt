@@ -3,3 +3,4 @@ pub mod ExpressionGrammar
 pub mod ExpressionReaders
 pub mod GraphGrammar
 pub mod GraphReaders
+pub mod Levels

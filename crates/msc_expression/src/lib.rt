@@ -2,5 +2,9 @@
 #![tactic(auto)]
 
 mod bounds;
+mod expressions;
+mod level;
 
-pub use bounds::Bounds;
+pub use bounds::{Bounds, loop_bounds};
+pub use expressions::expression;
+pub use level::open;

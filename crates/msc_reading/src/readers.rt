@@ -8,6 +8,7 @@ ghost use Rattle.msc_reading.specs.declared.readers.ReadFault.TheVariants.{NoMem
 
 use msc_base::NoMemory;
 use msc_tokens::Token;
+use std::alloc::AllocFailed;
 
 /// Why the front of a list of tokens isn't read.
 #[derive(Clone, Copy, Debug, PartialEq, Eq)]
@@ -24,6 +25,14 @@ impl From<NoMemory> for ReadFault {
     ghost from_gives = { λ _ e. e ≡ NoMemory };
 
     fn from(_: NoMemory) -> Self {
+        ReadFault::NoMemory
+    }
+}
+
+impl<T: Drop> From<AllocFailed<T>> for ReadFault {
+    ghost from_gives = { λ _ e. e ≡ NoMemory };
+
+    fn from(_: AllocFailed<T>) -> Self {
         ReadFault::NoMemory
     }
 }
