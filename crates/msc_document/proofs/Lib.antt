@@ -2,4 +2,6 @@ pub mod Continued
 pub mod LineRules
 pub mod Lines
 pub mod Parts
+pub mod References
 pub mod Separators
+pub mod Shallows

@@ -90,7 +90,7 @@ lead_statement at finish = Ended at.0
 abbrev pub covered_of : Grammar (List Item) → Grammar (List Item) → Grammar Statement
 covered_of E M = or (read_as (λ p. lead_statement p.0 p.1) (seq lead
     (or (behind (just (codes ":")) (or (read_as happen E) (or (read_as declare declaration) (read_as (λ e. finish) (behind (just (codes "endinstance")) ending)))))
-      (read_as (λ p. list p.0 p.1) (behind (just (codes ",")) (seq name_list (behind (just (codes ":")) M)))))))
+    (read_as (λ p. list p.0 p.1) (behind (just (codes ",")) (seq name_list (behind (just (codes ":")) M)))))))
     (read_as (λ held. Covered All (items held)) (behind (just (codes "all")) (behind (just (codes ":")) M)))
 
 -- one, and any number of others

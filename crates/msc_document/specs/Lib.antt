@@ -1,2 +1,3 @@
 pub mod DocumentGrammar
+pub mod DocumentReaders
 pub mod Inlines
