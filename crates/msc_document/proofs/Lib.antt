@@ -1,4 +1,5 @@
 pub mod Continued
+pub mod ItemRules
 pub mod LineRules
 pub mod Lines
 pub mod OperandRules
