@@ -66,14 +66,14 @@ same_or_apart Loop Exc = inl refl
 same_or_apart Loop Loop = inr refl
 
 -- a text that names the form's word
-form_text : InlineForm → List ℕ
+pub form_text : InlineForm → List ℕ
 form_text Alt = codes "alt"
 form_text Par = codes "par"
 form_text Opt = codes "opt"
 form_text Exc = codes "exc"
 form_text Loop = codes "loop"
 
-form_text_is : (k : InlineForm) → among (form_word k) (token_of (form_text k)) ≡ true
+pub form_text_is : (k : InlineForm) → among (form_word k) (token_of (form_text k)) ≡ true
 unfolding form_text
 form_text_is Alt = refl
 form_text_is Par = refl
@@ -82,7 +82,7 @@ form_text_is Exc = refl
 form_text_is Loop = refl
 
 -- what stands in another set has no second token to look at
-other_word : (s w t : Set) (x : List Token) → apart s w ≡ true → starts s x ≡ true → starts w x ≡ true → second w t x ≡ true
+pub other_word : (s w t : Set) (x : List Token) → apart s w ≡ true → starts s x ≡ true → starts w x ≡ true → second w t x ≡ true
 other_word s w t x free h k = absurd (two_starts s w x free h k)
 
 -- an end without comment

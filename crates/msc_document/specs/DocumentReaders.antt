@@ -1,5 +1,5 @@
 -- Readers of the productions of a document.
-use Rattle.std.specs.Prelude.{ℕ, List, [], ◌∷◌, ◌++◌, Option, Some, None, Bool, option_map, codes}
+use Rattle.std.specs.Prelude.{ℕ, zero, suc, List, [], ◌∷◌, ◌++◌, length, Option, Some, None, Ok, Bool, true, false, option_map, codes, if◌then◌else◌}
 use Rattle.msc_base.specs.declared.place.Place.{Place}
 use Rattle.msc_tokens.specs.declared.token.Token.{Token}
 use Rattle.msc_tree.specs.declared.chart.Cover.{Cover}
@@ -9,14 +9,16 @@ use Rattle.msc_tree.specs.declared.reference.Join.{Join}
 use Rattle.msc_tree.specs.Expressions.{Expression}
 use Rattle.msc_tree.specs.Statements.{Item, Operand, Reference, Single, Coregion, Condition, Refer, Stop}
 use Rattle.msc_tree.specs.Statements as tree
-use Rattle.msc_reading.specs.Languages.{Set, Read, just, names, seq_at, either_at, map_at, until_at, optional_at, behind_at, second_at, opens_at}
+use Rattle.msc_reading.specs.Languages.{Set, Read, just, names, ◌>>=◌, word_at, seq_at, either_at, map_at, until_at, optional_at, behind_at, second_at, opens_at}
+use Rattle.msc_reading.specs.Rows.{goes_on}
 use Rattle.msc_reading.specs.Parts.{kept, all_or_none}
 use Rattle.msc_reading.specs.PartReaders.{name_at, ending_at, placed_at}
 use Rattle.msc_items.specs.EventReaders.{single_at, single_words, coregion_at, stop_at}
 use Rattle.msc_items.specs.MultiReaders.{shared_in_at, condition_at, joins_at}
 use Rattle.msc_expression.specs.Bounds.{loop_bounds_at}
+use Rattle.msc_expression.specs.ExpressionReaders.{expression_at}
 use Rattle.msc_document.specs.Inlines.{Naming, Tail, taken_once, inline_item, firsts}
-use Rattle.msc_document.specs.DocumentGrammar.{reference_of}
+use Rattle.msc_document.specs.DocumentGrammar.{reference_of, column_operand}
 
 -- what an end begins with
 abbrev pub end_words : Set
@@ -111,3 +113,37 @@ event_at column f x p = either_at single_words (map_at (λ e. tree.placed e.plac
 
 abbrev pub event_words : Set
 event_words = single_words ++ (just (codes "concurrent") ++ (multi_words ++ just (codes "stop")))
+
+-- ---- up to a word
+
+-- at most so many, while they go on
+abbrev pub going_at : {A : Type 0} → (List Token → Bool) → (List Token → Read A) → ℕ → List Token → Read (List A)
+going_at goes p zero ts = Ok ([], ts)
+going_at goes p (suc k) ts = if goes ts then (p ts >>= λ a. going_at goes p k a.1 >>= λ r. Ok (a.0 ∷ r.0, r.1)) else Ok ([], ts)
+
+-- the word of the form of which the operand is, and outside operands this one
+abbrev pub closer_word : List ℕ → Option InlineForm → Set
+closer_word text None = just text
+closer_word text (Some form) = form_word form
+
+abbrev pub closer_seconds : Option InlineForm → Set
+closer_seconds None = []
+closer_seconds (Some form) = form_seconds form
+
+-- ---- columns
+
+-- the tokens go on with an event of the column
+abbrev pub column_goes_on : Option InlineForm → List Token → Bool
+column_goes_on closer = goes_on event_words (closer_word (codes "endinstance") closer) (closer_seconds closer)
+
+-- events and the word behind them
+abbrev pub column_at : Option InlineForm → (List Token → Read Item) → List Token → Read (List Item)
+column_at closer e = map_at (λ x. x.0) (seq_at (λ ts. going_at (column_goes_on closer) e (length ts) ts) (word_at (closer_word (codes "endinstance") closer)))
+
+-- what stands behind the word of a form, with so many levels left
+unfoldable pub column_tails_at : ℕ → InlineForm → List Token → Read (Tail (List Item))
+column_tails_at zero form = tail_of_at true form None
+column_tails_at (suc n) form = tail_of_at true form (Some (column_at (Some form) (event_at true column_operand (expression_at n) (column_tails_at n))))
+
+abbrev pub column_event_at : ℕ → List Token → Read Item
+column_event_at n = event_at true column_operand (expression_at n) (column_tails_at n)
