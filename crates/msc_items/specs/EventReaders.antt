@@ -11,8 +11,8 @@ use Rattle.msc_reading.specs.Parts.{kept, all_or_none}
 use Rattle.msc_reading.specs.Messages.{Message, start_words, stop_words}
 use Rattle.msc_reading.specs.PartReaders.{name_at, mark_at, placed_at, ending_at, more_at, name_list_at, item_at, message_at}
 use Rattle.msc_items.specs.Events.{named, address_of, event_of, plain, tagged}
-use Rattle.msc_items.specs.declared.address.Orders.{Orders}
-use Rattle.msc_items.specs.declared.address.Address.{Address}
+use Rattle.msc_items.specs.declared.event_parts.Orders.{Orders}
+use Rattle.msc_items.specs.declared.event_parts.Address.{Address}
 
 -- names behind this word, where it stands
 abbrev pub names_behind_at : List ℕ → List Token → Read (List (List ℕ))
@@ -89,8 +89,11 @@ abbrev pub single_at : List Token → Read RawEvent
 single_at = map_at (λ p. tagged p.0 p.1) (seq_at some_label_at act_at)
 
 -- what an act begins with, and an event
+abbrev pub timing_words : Set
+timing_words = start_words ++ (stop_words ++ (just (codes "timeout") ++ just (codes "create")))
+
 abbrev pub act_words : Set
-act_words = just (codes "out") ++ (just (codes "in") ++ (just (codes "action") ++ (start_words ++ (stop_words ++ (just (codes "timeout") ++ just (codes "create"))))))
+act_words = just (codes "out") ++ (just (codes "in") ++ (just (codes "action") ++ timing_words))
 
 abbrev pub single_words : Set
 single_words = just (codes "label") ++ act_words

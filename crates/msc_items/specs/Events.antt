@@ -12,8 +12,8 @@ use Rattle.msc_reading.specs.Languages.{Set, just}
 use Rattle.msc_reading.specs.Grammars.{Grammar, seq, or, read_as, until, optional, behind}
 use Rattle.msc_reading.specs.Parts.{name, mark, ending, kept, all_or_none, placed, name_list}
 use Rattle.msc_reading.specs.Messages.{Message, item, message, start_words, stop_words}
-use Rattle.msc_items.specs.declared.address.Orders.{Orders}
-use Rattle.msc_items.specs.declared.address.Address.{Address}
+use Rattle.msc_items.specs.declared.event_parts.Orders.{Orders}
+use Rattle.msc_items.specs.declared.event_parts.Address.{Address}
 
 -- [ "before" names ] [ "after" names ] end
 abbrev pub orders : Grammar Orders

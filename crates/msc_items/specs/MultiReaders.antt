@@ -15,8 +15,11 @@ use Rattle.msc_items.specs.Multis.{cover_of}
 abbrev pub sharers_at : List Token → Read Cover
 sharers_at = either_at (just (codes "all")) (map_at (λ t. All) (word_at (just (codes "all")))) (map_at Listed name_list_at)
 
+abbrev pub some_sharers_at : List Token → Read Cover
+some_sharers_at = optional_at (just (codes "all") ++ names) cover_of sharers_at
+
 abbrev pub shared_at : List Token → Read Cover
-shared_at = behind_at (just (codes "shared")) (optional_at (just (codes "all") ++ names) cover_of sharers_at)
+shared_at = behind_at (just (codes "shared")) some_sharers_at
 
 abbrev pub shared_words : Bool → Set
 shared_words true = just (codes "shared")

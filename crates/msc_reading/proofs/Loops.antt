@@ -10,6 +10,15 @@ use Rattle.msc_reading.specs.declared.readers.ReadFault.TheVariants as fault
 use Rattle.msc_reading.proofs.Optionals.{mapped}
 
 module _ {A : Type 0} (s : Set) (q : List Token → Read A) where
+  -- none so far
+  pub none_yet : (front : List A) (m k : ℕ) (ts : List Token) → front ≡ [] → m ≡ k → more_at s q front m ts ≡ each_at s q k ts
+  none_yet front m k ts empty same =
+      subst (λ (l : List A). more_at s q l m ts ≡ each_at s q k ts) (sym empty) (subst (λ (j : ℕ). more_at s q [] m ts ≡ each_at s q j ts) same (as_it_is (each_at s q m ts)))
+    where
+      as_it_is : (e : Read (List A)) → mapped (λ l. [] ++ l) e ≡ e
+      as_it_is (Ok y) = refl
+      as_it_is (Err e) = refl
+
   -- no other
   pub no_more : (front : List A) (m : ℕ) (ts : List Token) → m ≡ 0 → more_at s q front m ts ≡ Ok (front, ts)
   no_more front zero ts e = ap (λ (l : List A). Ok (l, ts)) (append-nil front)
