@@ -138,8 +138,12 @@ alone : {A : Type 0} (text : List ℕ) (R : Grammar A) (x : List Token) (a : A) 
 alone text R x a h = ((a, []), (x, [], sym (append-nil x), h, refl), refl)
 
 expression_word : (n : ℕ) (x : List Token) (a : Expression) → (prefix n).reads x a → (expression n).reads x a
-expression_word n x a h = (a ∷ [], alone (codes "alt") (parallel (prefix n)) x a
-    (a ∷ [], alone (codes "par") (sequence (prefix n)) x a (a ∷ [], alone (codes "seq") (prefix n) x a h, refl), refl), refl)
+expression_word n x a h = (
+  a ∷ [],
+  alone (codes "alt") (parallel (prefix n)) x a
+      (a ∷ [], alone (codes "par") (sequence (prefix n)) x a (a ∷ [], alone (codes "seq") (prefix n) x a h, refl), refl),
+  refl,
+)
 
 closed_word : Word Closed
 closed_word = let w = prefix_word in record {

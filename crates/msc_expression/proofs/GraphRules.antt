@@ -2,18 +2,19 @@
 use Rattle.std.proofs.Common.{ℕ, ◌≡◌, ◌∙◌, ◌++◌, true, List, [], ◌∷◌, length, refl, sym, subst, inl, inr, suc, zero, Option, Some, None, Ok, Err, codes}
 use Rattle.msc_base.specs.declared.label.LabelRef.{LabelRef}
 use Rattle.msc_tokens.specs.declared.token.Token.{Token}
+use Rattle.msc_tokens.specs.Places.{first_place}
 use Rattle.msc_tree.specs.Graphs.{Graph, Line, Node, Ends, Connect, Condition, Refer, Frames, graph, lines, no_lines, graphs}
 use Rattle.msc_reading.specs.Classes.{token_of}
-use Rattle.msc_reading.specs.Languages.{Set, Read, apart, just, names, seq_at, word_at, map_at, until_at, behind_at}
+use Rattle.msc_reading.specs.Languages.{Set, Read, apart, just, names, seq_at, word_at, map_at, until_at, opens_at, behind_at}
 use Rattle.msc_reading.specs.Grammars.{Grammar, seq, read_as, behind}
 use Rattle.msc_reading.specs.Parts.{ending, mark}
 use Rattle.msc_reading.specs.PartReaders.{ending_at, mark_at}
 use Rattle.msc_reading.proofs.Lists.{apart_none}
 use Rattle.msc_reading.proofs.Levels.{Opened}
 use Rattle.msc_reading.proofs.Flats.{rule_by}
-use Rattle.msc_reading.proofs.Rules.{Law, Rule, Word, word_rule, seq_law, seq_rule, or_law, or_rule, as_law, as_rule, until_law, until_rule, shut_law, inner_law, shut_rule, inner_rule, equal_law, equal_rule}
+use Rattle.msc_reading.proofs.Rules.{Law, Rule, Word, seq_law, seq_rule, or_law, or_rule, as_law, as_rule, until_law, until_rule, shut_law, inner_law, shut_rule, inner_rule, equal_law, equal_rule}
 use Rattle.msc_reading.proofs.Optionals.{none, behind_law, behind_rule, mapped, paired}
-use Rattle.msc_reading.proofs.PartRules.{law_by, mark_law, mark_rule, ending_law, ending_rule, name_list_law, name_list_rule, separated_law, separated_rule}
+use Rattle.msc_reading.proofs.PartRules.{law_by, mark_law, mark_rule, ending_law, ending_rule, placed_name_rule, name_list_law, name_list_rule, separated_law, separated_rule}
 use Rattle.msc_expression.specs.ExpressionGrammar.{expression}
 use Rattle.msc_expression.specs.ExpressionReaders.{expression_at}
 use Rattle.msc_expression.specs.GraphGrammar.{label_of, label, labels, graph_of, graph_rest, frame_rest, node_of, next, line_of, line_rest, line_in, graph_line, chart_graph}
@@ -21,7 +22,7 @@ use Rattle.msc_expression.specs.GraphReaders.{label_at, labels_at, lines_at, gra
 use Rattle.msc_expression.proofs.ExpressionRules.{expression_law, expression_rule}
 
 label_rule : (n : ℕ) → Rule (λ m. label) n names none label_at
-label_rule n = as_rule label_of none (word_rule names (codes "a") refl n) (λ a. refl)
+label_rule n = as_rule label_of none (placed_name_rule n) (λ a. refl)
 
 -- what can't follow labels
 abbrev pub after_labels : List LabelRef → Set
@@ -139,19 +140,34 @@ pub graph_line_law : (n : ℕ) → Law graph_line n names none
 graph_line_law n = line_law n (frame_law n)
 
 -- a frame without lines
-abbrev a_label : Token
-a_label = token_of (codes "a")
+abbrev a_label : LabelRef
+a_label = label_of (codes "a", first_place)
 
 rest_word : Word FrameRest
 rest_word = record {
-  more = a_label ∷ token_of (codes ";") ∷ token_of (codes "endexpr") ∷ [];
-  value = graph (label_of a_label ∷ []) no_lines;
-  holds = ((graph (label_of a_label ∷ []) no_lines, codes "endexpr"), ((label_of a_label ∷ [], (tt, ([], codes "endexpr"))),
-    (a_label ∷ [], token_of (codes ";") ∷ token_of (codes "endexpr") ∷ [], refl,
-    ((label_of a_label, []), (a_label ∷ [], [], refl, (a_label, (refl, refl), refl), refl), refl),
-    (token_of (codes ";") ∷ [], token_of (codes "endexpr") ∷ [], refl,
-    ((tt, codes ";"), ((None, codes ";"), inr (codes ";", (token_of (codes ";"), (refl, refl), refl), refl), refl), refl),
-    ([], token_of (codes "endexpr") ∷ [], refl, refl, (token_of (codes "endexpr"), (refl, refl), refl)))), refl), refl);
+  more = token_of (codes "a") ∷ token_of (codes ";") ∷ token_of (codes "endexpr") ∷ [];
+  value = graph (a_label ∷ []) no_lines;
+  holds = (
+    (graph (a_label ∷ []) no_lines, codes "endexpr"),
+    (
+      (a_label ∷ [], (tt, ([], codes "endexpr"))),
+      (
+        token_of (codes "a") ∷ [],
+        token_of (codes ";") ∷ token_of (codes "endexpr") ∷ [],
+        refl,
+        ((a_label, []), (token_of (codes "a") ∷ [], [], refl, ((codes "a", first_place), (token_of (codes "a"), (refl, refl), refl), refl), refl), refl),
+        (
+          token_of (codes ";") ∷ [],
+          token_of (codes "endexpr") ∷ [],
+          refl,
+          ((tt, codes ";"), ((None, codes ";"), inr (codes ";", (token_of (codes ";"), (refl, refl), refl), refl), refl), refl),
+          ([], token_of (codes "endexpr") ∷ [], refl, refl, (token_of (codes "endexpr"), (refl, refl), refl)),
+        ),
+      ),
+      refl,
+    ),
+    refl,
+  );
 }
 
 pub graph_line_rule : (n : ℕ) → Rule graph_line n names none (graph_line_at n)

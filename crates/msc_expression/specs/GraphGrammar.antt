@@ -3,20 +3,20 @@
 use Rattle.std.specs.Prelude.{ℕ, zero, suc, ◌⊎◌, List, [], codes}
 use Rattle.std.proofs.Common.{inl, inr}
 use Rattle.msc_base.specs.declared.label.LabelRef.{LabelRef}
-use Rattle.msc_tokens.specs.declared.token.Token.{Token}
+use Rattle.msc_base.specs.declared.place.Place.{Place}
 use Rattle.msc_tree.specs.Expressions.{Expression}
 use Rattle.msc_tree.specs.Graphs.{Graph, Line, Node, Ends, Connect, Condition, Refer, Frames, graph, line, lines, graphs}
-use Rattle.msc_reading.specs.Languages.{just, names}
-use Rattle.msc_reading.specs.Grammars.{Grammar, Inner, shut, inner, inside, word, seq, or, read_as, until, behind, opens}
-use Rattle.msc_reading.specs.Parts.{mark, ending, name_list, separated}
+use Rattle.msc_reading.specs.Languages.{just}
+use Rattle.msc_reading.specs.Grammars.{Grammar, Inner, shut, inner, inside, seq, or, read_as, until, behind, opens}
+use Rattle.msc_reading.specs.Parts.{placed_name, mark, ending, name_list, separated}
 use Rattle.msc_expression.specs.ExpressionGrammar.{expression}
 
 -- a label is a name, and stands where its token stands
-abbrev pub label_of : Token → LabelRef
-label_of t = record { name = t.bytes; place = t.place }
+abbrev pub label_of : List ℕ × Place → LabelRef
+label_of p = record { name = p.0; place = p.1 }
 
 abbrev pub label : Grammar LabelRef
-label = read_as label_of (word names)
+label = read_as label_of placed_name
 
 -- name { "alt" name }
 abbrev pub labels : Grammar (List LabelRef)

@@ -1,4 +1,5 @@
 pub mod Bounds
+pub mod Exactness
 pub mod ExpressionGrammar
 pub mod ExpressionReaders
 pub mod GraphGrammar

@@ -162,11 +162,7 @@ fn next_part(
 
 /// A prefix.
 #[cycle(expressions)]
-fn prefix(
-    alloc: Global,
-    tokens: &[Token],
-    levels: usize,
-) -> Result<(RefExpr, &[Token]), ReadFault>
+fn prefix(alloc: Global, tokens: &[Token], levels: usize) -> Result<(RefExpr, &[Token]), ReadFault>
     ensures { Gives (λ x. (expression_view x.0, x.1.now)) result (prefix_at levels tokens.now) }
 {
     prefix_form(alloc, tokens, levels)
@@ -231,11 +227,7 @@ fn opt_rest(
 
 /// What stands behind an opening parenthesis, up to the closing one.
 #[cycle(expressions)]
-fn closed(
-    alloc: Global,
-    tokens: &[Token],
-    levels: usize,
-) -> Result<(RefExpr, &[Token]), ReadFault>
+fn closed(alloc: Global, tokens: &[Token], levels: usize) -> Result<(RefExpr, &[Token]), ReadFault>
     ensures { Gives (λ x. (expression_view x.0, x.1.now)) result (closed_at (prefix_at levels) tokens.now) }
 {
     let (inner, rest) = parts(alloc, tokens, levels, Operator::Alt)?;

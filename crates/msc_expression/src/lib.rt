@@ -3,8 +3,12 @@
 
 mod bounds;
 mod expressions;
+mod graphs;
+mod laws;
 mod level;
 
 pub use bounds::{Bounds, loop_bounds};
 pub use expressions::expression;
+pub use graphs::graph;
+pub use laws::{expressions_are_exact, graphs_are_exact};
 pub use level::open;
