@@ -1,4 +1,10 @@
+pub mod ColumnRules
 pub mod Continued
+pub mod ItemRules
+pub mod LineRules
 pub mod Lines
+pub mod OperandRules
 pub mod Parts
+pub mod References
 pub mod Separators
+pub mod Shallows

@@ -30,10 +30,10 @@ module _ {A B Q : Type 0} (w : Set) (kind : A → Q) (long : A → List B → A)
     pub brink_out : (q : Q) (p : List Token) → (R q).brink p → S.brink p ⊎ (N q).brink p
 
   module _ (mixed : Mixed) where
-    abbrev Flat : Q → List Token → List (A ⊎ B) → Token → Type 0
+    abbrev pub Flat : Q → List Token → List (A ⊎ B) → Token → Type 0
     Flat q x xs t = rows_read w (next_state kind) R q x xs t
 
-    abbrev FlatBrink : Q → List (A ⊎ B) → List Token → Type 0
+    abbrev pub FlatBrink : Q → List (A ⊎ B) → List Token → Type 0
     FlatBrink q xs p = rows_brink (next_state kind) R q xs p
 
     -- what goes on, before a flat list
@@ -45,7 +45,7 @@ module _ {A B Q : Type 0} (w : Set) (kind : A → Q) (long : A → List B → A)
         (inr b ∷ r.0, (h.0, h.1 ++ z, ap (λ l. l ++ z) h.2 ∙ append_assoc h.0 h.1 z, mixed.more_in q h.0 b h.3, r.1), ap (λ (p : List B × List A). (b ∷ p.0, p.1)) r.2)
 
     -- the flat list of statements
-    to_flat : (ss : List A) (q : Q) (x z : List Token) (t : Token) → rules.each L.reads x ss → rules.word w z t → (xs : List (A ⊎ B)) × Flat q (x ++ z) xs t × (grouped long xs ≡ ([], ss))
+    pub to_flat : (ss : List A) (q : Q) (x z : List Token) (t : Token) → rules.each L.reads x ss → rules.word w z t → (xs : List (A ⊎ B)) × Flat q (x ++ z) xs t × (grouped long xs ≡ ([], ss))
     to_flat [] q x z t h k = ([], subst (λ l. Flat q (l ++ z) [] t) (sym h) k, refl)
     to_flat (a ∷ ss) q x z t h k =
         let o = c.to h.0 a h.3 in
@@ -62,10 +62,10 @@ module _ {A B Q : Type 0} (w : Set) (kind : A → Q) (long : A → List B → A)
             ap (λ (p : List B × List A). ([], long s p.0 ∷ p.1)) (e ∙ ap (λ (p : List B × List A). (bs ++ p.0, p.1)) f) ∙ ap (λ l. ([], long s l ∷ ss)) (append-nil bs) ∙ ap (λ b. ([], b ∷ ss)) (sym g)
 
     -- and back
-    abbrev Split : Q → List Token → List (A ⊎ B) → Token → Type 0
+    abbrev pub Split : Q → List Token → List (A ⊎ B) → Token → Type 0
     Split q x xs t = (f : List Token) × (y : List Token) × (z : List Token) × (x ≡ f ++ (y ++ z)) × rules.each (N q).reads f (grouped long xs).0 × rules.each L.reads y (grouped long xs).1 × rules.word w z t
 
-    from_flat : (xs : List (A ⊎ B)) (q : Q) (x : List Token) (t : Token) → Flat q x xs t → Split q x xs t
+    pub from_flat : (xs : List (A ⊎ B)) (q : Q) (x : List Token) (t : Token) → Flat q x xs t → Split q x xs t
     from_flat [] q x t h = ([], [], x, refl, refl, refl, h)
     from_flat (inl a ∷ xs) q x t h =
         let r = from_flat xs (kind a) h.1 t h.4 in
@@ -85,7 +85,7 @@ module _ {A B Q : Type 0} (w : Set) (kind : A → Q) (long : A → List B → A)
         let r = put_more_brink q bs h.1 z xs h.4 k in
         (inr b ∷ r.0, (h.0, h.1 ++ z, ap (λ l. l ++ z) h.2 ∙ append_assoc h.0 h.1 z, mixed.more_in q h.0 b h.3, r.1))
 
-    to_flat_brink : (ss : List A) (q : Q) (x p : List Token) → rules.each L.reads x ss → L.brink p → (xs : List (A ⊎ B)) × FlatBrink q xs (x ++ p)
+    pub to_flat_brink : (ss : List A) (q : Q) (x p : List Token) → rules.each L.reads x ss → L.brink p → (xs : List (A ⊎ B)) × FlatBrink q xs (x ++ p)
     to_flat_brink [] q x p h k = here (c.to_brink p k)
       where
         here : S.brink p ⊎ ((y : List Token) × (z : List Token) × (a : A) × (p ≡ y ++ z) × S.reads y a × behind_each (N (kind a)) (N (kind a)).brink z) → (xs : List (A ⊎ B)) × FlatBrink q xs (x ++ p)
@@ -104,10 +104,10 @@ module _ {A B Q : Type 0} (w : Set) (kind : A → Q) (long : A → List B → A)
         line a b c d = simp append_assoc
 
     -- an opening stands in what goes on, or in a statement
-    abbrev SplitBrink : Q → List Token → Type 0
+    abbrev pub SplitBrink : Q → List Token → Type 0
     SplitBrink q p = behind_each (N q) (N q).brink p ⊎ ((f : List Token) × (y : List Token) × (z : List Token) × (bs : List B) × (ss : List A) × (p ≡ f ++ (y ++ z)) × rules.each (N q).reads f bs × rules.each L.reads y ss × L.brink z)
 
-    from_flat_brink : (xs : List (A ⊎ B)) (q : Q) (p : List Token) → FlatBrink q xs p → SplitBrink q p
+    pub from_flat_brink : (xs : List (A ⊎ B)) (q : Q) (p : List Token) → FlatBrink q xs p → SplitBrink q p
     from_flat_brink [] q p h = elim (mixed.brink_out q p h) [
       | inl k ↦ inr ([], [], p, [], [], refl, refl, refl, c.from_brink p k)
       | inr k ↦ inl ([], p, [], refl, refl, k)

@@ -130,3 +130,32 @@ module _ {A B D : Type 0} (w : Set) (P : Grammar A) (Y : Grammar B) (Z : Grammar
         let r = to_spread_brink k.2 a v k.0 k.1 h k.4 k.5 in
         inr (r.1, r.2 ++ r.3, a, cut ∙ ap (λ l. v ++ l) k.3 ∙ r.4, r.5, inl (r.2, r.3, r.0, refl, r.6, r.7))
     spread_brink p (inr (v, z, a, cut, h, inr k)) = absurd (zs.none k.1 k.5)
+
+-- P w Z, and (P w) Z
+module _ {A D : Type 0} (w : Set) (P : Grammar A) (Z : Grammar D) where
+  abbrev pub spread_one : Grammar (List A)
+  spread_one = read_as (λ p. p.0 ∷ []) (seq P (behind w Z))
+
+  abbrev pub gathered_one : Grammar (List A)
+  gathered_one = read_as (λ p. p.0 ∷ []) (seq (before P (word w)) Z)
+
+  pub gather_one : (x : List Token) (v : List A) → spread_one.reads x v → gathered_one.reads x v
+  gather_one x v h =
+      let k = h.1 in
+      let e = behind_out w Z k.1 h.0.1 k.4 in
+      (h.0, (k.0 ++ e.0 ∷ [], e.1, k.2 ∙ ap (λ l. k.0 ++ l) e.2 ∙ sym (append_assoc k.0 (e.0 ∷ []) e.1), before_in w P k.0 e.0 h.0.0 k.3 e.3, e.4), h.2)
+
+  pub spread_of_one : (x : List Token) (v : List A) → gathered_one.reads x v → spread_one.reads x v
+  spread_of_one x v h =
+      let k = h.1 in
+      let e = before_out w P k.0 h.0.0 k.3 in
+      (h.0, (e.0, e.1 ∷ k.1, k.2 ∙ ap (λ l. l ++ k.1) e.2 ∙ append_assoc e.0 (e.1 ∷ []) k.1, e.3, behind_in w Z e.1 k.1 h.0.1 e.4 k.4), h.2)
+
+  module _ (zs : Shallow Z) where
+    pub gather_one_brink : (p : List Token) → spread_one.brink p → gathered_one.brink p
+    gather_one_brink p (inl k) = inl (inl k)
+    gather_one_brink p (inr k) = let e = behind_brink_out w Z k.1 k.5 in absurd (zs.none e.1 e.4)
+
+    pub spread_one_brink : (p : List Token) → gathered_one.brink p → spread_one.brink p
+    spread_one_brink p (inl k) = inl (before_brink_out w P p k)
+    spread_one_brink p (inr k) = absurd (zs.none k.1 k.5)

@@ -2,15 +2,15 @@
 -- A level is opened by `begin`.
 use Rattle.std.specs.Prelude.{ℕ, List, [], ◌∷◌, map, Option, Some, None, codes}
 use Rattle.msc_base.specs.declared.place.Place.{Place}
-use Rattle.msc_tokens.specs.declared.token.Token.{Token}
 use Rattle.msc_tree.specs.declared.chart.Cover.{Cover}
 use Rattle.msc_tree.specs.declared.reference.InlineForm.{InlineForm}
 use Rattle.msc_tree.specs.declared.reference.InlineForm.TheVariants.{Alt, Opt, Par, Loop, Exc}
-use Rattle.msc_tree.specs.Statements.{Item, placed, Inline, InlineHead, Operand, Operands, operands}
+use Rattle.msc_tree.specs.Statements.{Item, Inline, InlineHead, Operand, Operands, operands}
+use Rattle.msc_tree.specs.Statements as tree
 use Rattle.msc_reading.specs.Languages.{Set, just}
 use Rattle.msc_reading.specs.Languages as rules
-use Rattle.msc_reading.specs.Grammars.{Grammar, Inner, inside, word, seq, or, read_as, until, behind, behind_each, opens}
-use Rattle.msc_reading.specs.Parts.{ending, all_of}
+use Rattle.msc_reading.specs.Grammars.{Grammar, Inner, inside, seq, or, read_as, until, behind, behind_each, opens}
+use Rattle.msc_reading.specs.Parts.{ending, placed}
 use Rattle.msc_expression.specs.declared.bounds.Bounds.{Bounds}
 use Rattle.msc_expression.specs.Bounds.{with_bounds}
 
@@ -76,13 +76,13 @@ module _ {A : Type 0} (H : Grammar Naming) (P : Inner A) where
   abbrev pub loop_tail : Grammar (Tail A)
   loop_tail = with_bounds (opens (just (codes "begin")) (inside (λ p. body H (single (just (codes "loop")) p)) P))
 
-abbrev pub inline_item : {A : Type 0} → (A → Operand) → InlineForm → Token × Tail A → Item
+abbrev pub inline_item : {A : Type 0} → (A → Operand) → InlineForm → Place × Tail A → Item
 inline_item f form p =
-    placed p.0.place (Inline (record { form = form; lower = p.1.0.lower; upper = p.1.0.upper; name = p.1.1.0.0; shared = p.1.1.0.1 }) (operands (map f p.1.1.1)))
+    tree.placed p.0 (Inline (record { form = form; lower = p.1.0.lower; upper = p.1.0.upper; name = p.1.1.0.0; shared = p.1.1.0.1 }) (operands (map f p.1.1.1)))
 
 -- a form's word and what stands behind it
 abbrev pub form : {A : Type 0} → (A → Operand) → InlineForm → Set → Grammar (Tail A) → Grammar Item
-form f kind w T = read_as (inline_item f kind) (seq (word w) T)
+form f kind w T = read_as (inline_item f kind) (placed w T)
 
 -- inline = "alt" .. | "par" .. | "opt" .. | "exc" .. | "loop" ..
 abbrev pub inline : {A : Type 0} → (A → Operand) → Grammar Naming → Inner A → Grammar Item

@@ -1,1 +1,3 @@
+pub mod DocumentGrammar
+pub mod DocumentReaders
 pub mod Inlines

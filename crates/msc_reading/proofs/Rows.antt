@@ -66,9 +66,9 @@ module _ {Q A : Type 0} (w : Set) (next : Q → A → Q) (R : Q → ℕ → Gram
   abbrev pub Late : Type 0
   Late = (q : Q) (m : ℕ) (x : List Token) (a : A) → (R q m).reads x a → starts w x ≡ true → second w (T q) x ≡ true
 
-  module _ (late : Late) (laws : (q : Q) (m : ℕ) → Laws (reads_of (R q)) (F q) none m) where
+  module _ (n : ℕ) (late : Late) (laws : (q : Q) → Laws (reads_of (R q)) (F q) none n) where
     pub item_goes : (q : Q) (m : ℕ) (x : List Token) (a : A) → (R q m).reads x a → (v : List Token) → goes_on (F q) w (T q) (x ++ v) ≡ true
-    item_goes q m x a h v = goes_some (F q) w (T q) x v ((laws q 0).begins m x a h) (late q m x a h)
+    item_goes q m x a h v = goes_some (F q) w (T q) x v ((laws q).begins m x a h) (late q m x a h)
 
     -- the word alone isn't an item and more
     pub word_or_item : (q : Q) (m : ℕ) (x : List Token) (c : Token) (u : List Token) → (x ≡ c ∷ []) × (among w c ≡ true) → NotStart (T q) u → (y : List Token) (a : A) → (R q m).reads y a
@@ -76,34 +76,34 @@ module _ {Q A : Type 0} (w : Set) (next : Q → A → Q) (R : Q → ℕ → Gram
     word_or_item q m x c u h nu y a g z e =
         not_both (sym (item_goes q m y a g z) ∙ ap (goes_on (F q) w (T q)) (sym e ∙ ap (λ l. l ++ u) h.0) ∙ stops_word (F q) w (T q) c u h.1 nu)
 
-    rows_unique : (n m : ℕ) (q : Q) (x y u v : List Token) (xs bs : List A) (c d : Token) → rows_read w next (λ s. R s n) q x xs c → rows_read w next (λ s. R s m) q y bs d → x ++ u ≡ y ++ v
+    rows_unique : (m : ℕ) (q : Q) (x y u v : List Token) (xs bs : List A) (c d : Token) → rows_read w next (λ s. R s n) q x xs c → rows_read w next (λ s. R s m) q y bs d → x ++ u ≡ y ++ v
         → NotStart (T (after_all q xs)) u → NotStart (T (after_all q bs)) v → (x ≡ y) × ((xs ≡ bs) × (c ≡ d))
-    rows_unique n m q x y u v [] [] c d h k e nu nv =
+    rows_unique m q x y u v [] [] c d h k e nu nv =
         let hd = heads c d u v (sym (ap (λ l. l ++ u) h.0) ∙ e ∙ ap (λ l. l ++ v) k.0) in
         (h.0 ∙ ap (λ t. t ∷ []) hd.0 ∙ sym k.0, (refl, hd.0))
-    rows_unique n m q x y u v [] (b ∷ bs) c d h k e nu nv = absurd (word_or_item q m x c u h nu k.0 b k.3 (k.1 ++ v) (e ∙ ap (λ l. l ++ v) k.2 ∙ append_assoc k.0 k.1 v))
-    rows_unique n m q x y u v (a ∷ xs) [] c d h k e nu nv = absurd (word_or_item q n y d v k nv h.0 a h.3 (h.1 ++ u) (sym e ∙ ap (λ l. l ++ u) h.2 ∙ append_assoc h.0 h.1 u))
-    rows_unique n m q x y u v (a ∷ xs) (b ∷ bs) c d h k e nu nv =
+    rows_unique m q x y u v [] (b ∷ bs) c d h k e nu nv = absurd (word_or_item q m x c u h nu k.0 b k.3 (k.1 ++ v) (e ∙ ap (λ l. l ++ v) k.2 ∙ append_assoc k.0 k.1 v))
+    rows_unique m q x y u v (a ∷ xs) [] c d h k e nu nv = absurd (word_or_item q n y d v k nv h.0 a h.3 (h.1 ++ u) (sym e ∙ ap (λ l. l ++ u) h.2 ∙ append_assoc h.0 h.1 u))
+    rows_unique m q x y u v (a ∷ xs) (b ∷ bs) c d h k e nu nv =
         let e1 : h.0 ++ (h.1 ++ u) ≡ k.0 ++ (k.1 ++ v) = sym (append_assoc h.0 h.1 u) ∙ sym (ap (λ l. l ++ u) h.2) ∙ e ∙ ap (λ l. l ++ v) k.2 ∙ append_assoc k.0 k.1 v in
-        let first = (laws q n).unique m h.0 k.0 (h.1 ++ u) (k.1 ++ v) a b h.3 k.3 e1 (nothing (h.1 ++ u)) (nothing (k.1 ++ v)) in
+        let first = (laws q).unique m h.0 k.0 (h.1 ++ u) (k.1 ++ v) a b h.3 k.3 e1 (nothing (h.1 ++ u)) (nothing (k.1 ++ v)) in
         let e2 : h.1 ++ u ≡ k.1 ++ v = cancel k.0 (h.1 ++ u) (k.1 ++ v) (sym (ap (λ l. l ++ (h.1 ++ u)) first.0) ∙ e1) in
         let g : rows_read w next (λ s. R s n) (next q b) h.1 xs c = subst (λ (t : A). rows_read w next (λ s. R s n) (next q t) h.1 xs c) first.1 h.4 in
         let nu2 : NotStart (T (after_all (next q b) xs)) u = subst (λ (t : A). NotStart (T (after_all (next q t) xs)) u) first.1 nu in
-        let rest = rows_unique n m (next q b) h.1 k.1 u v xs bs c d g k.4 e2 nu2 nv in
+        let rest = rows_unique m (next q b) h.1 k.1 u v xs bs c d g k.4 e2 nu2 nv in
         (h.2 ∙ ap (λ l. l ++ h.1) first.0 ∙ ap (λ l. k.0 ++ l) rest.0 ∙ sym k.2, (ap₂ (λ t l. t ∷ l) first.1 rest.1.0, rest.1.1))
 
-    rows_up : (n : ℕ) (q : Q) (x : List Token) (xs : List A) (c : Token) → rows_read w next (λ s. R s n) q x xs c → rows_read w next (λ s. R s (suc n)) q x xs c
-    rows_up n q x [] c h = h
-    rows_up n q x (a ∷ xs) c h = (h.0, h.1, h.2, (laws q n).up h.0 a h.3, rows_up n (next q a) h.1 xs c h.4)
+    rows_up : (q : Q) (x : List Token) (xs : List A) (c : Token) → rows_read w next (λ s. R s n) q x xs c → rows_read w next (λ s. R s (suc n)) q x xs c
+    rows_up q x [] c h = h
+    rows_up q x (a ∷ xs) c h = (h.0, h.1, h.2, (laws q).up h.0 a h.3, rows_up (next q a) h.1 xs c h.4)
 
     rows_begin : (m : ℕ) (q : Q) (x : List Token) (xs : List A) (c : Token) → rows_read w next (λ s. R s m) q x xs c → starts (F q ++ w) x ≡ true
     rows_begin m q x [] c h = starts_right (F q) w x (rw h.0 h.1)
-    rows_begin m q x (a ∷ xs) c h = starts_left (F q) w x (rw h.2 (starts-append (F q) h.0 h.1 ((laws q 0).begins m h.0 a h.3)))
+    rows_begin m q x (a ∷ xs) c h = starts_left (F q) w x (rw h.2 (starts-append (F q) h.0 h.1 ((laws q).begins m h.0 a h.3)))
 
-    pub rows_laws : (q : Q) (n : ℕ) → Laws (reads_of (Rows q)) (F q ++ w) (begun_items q) n
-    rows_laws q n = record {
-      up = λ x v h. rows_up n q x v.0 v.1 h;
-      unique = λ m x y u v a b h k e nu nv. let s = rows_unique n m q x y u v a.0 b.0 a.1 b.1 h k e nu nv in (s.0, ap₂ (λ l t. (l, t)) s.1.0 s.1.1);
+    pub rows_laws : (q : Q) → Laws (reads_of (Rows q)) (F q ++ w) (begun_items q) n
+    rows_laws q = record {
+      up = λ x v h. rows_up q x v.0 v.1 h;
+      unique = λ m x y u v a b h k e nu nv. let s = rows_unique m q x y u v a.0 b.0 a.1 b.1 h k e nu nv in (s.0, ap₂ (λ l t. (l, t)) s.1.0 s.1.1);
       begins = λ m x v h. rows_begin m q x v.0 v.1 h;
     }
 
@@ -169,7 +169,7 @@ module _ {Q A : Type 0} (w : Set) (next : Q → A → Q) (R : Q → ℕ → Gram
 
   pub rows_known : (q : Q) → Known (reads_of (RowsHere q)) (brink_of (RowsHere q)) (F q ++ w) (begun_items w next R F T q) n
   rows_known q = record {
-    laws = λ m. rows_laws w next R F T late laws_here q m;
+    laws = λ m. rows_laws w next R F T m late (λ s. laws_here s m) q;
     word = word_viable (suc n) q;
     opened = λ p k. rows_opened k.0 q p k.1;
     some = λ p k. rows_some k.0 q p k.1;
@@ -346,7 +346,7 @@ module _ {Q A : Type 0} (w : Set) (next : Q → A → Q) (R : Q → ℕ → Gram
 
     -- neither an item nor the word
     nothing_here : (q : Q) (ts : List Token) → starts (F q) ts ≡ false → starts w ts ≡ false → RowRefused q ts (length ts)
-    nothing_here q ts f g = record { used = []; rest = ts; cut = refl; left = refl; viable = inl refl; stops = λ m more v meets b. no m ts more (starts_none ts f g) meets (rows_begin w next R F T late laws_here m q more v.0 v.1 b); first = λ e. starts_none ts f g; safe = λ p z e b. rows_some b.0 q p b.1 (front_empty p z (sym e)) }
+    nothing_here q ts f g = record { used = []; rest = ts; cut = refl; left = refl; viable = inl refl; stops = λ m more v meets b. no m ts more (starts_none ts f g) meets (rows_begin w next R F T n late (λ s. laws_here s n) m q more v.0 v.1 b); first = λ e. starts_none ts f g; safe = λ p z e b. rows_some b.0 q p b.1 (front_empty p z (sym e)) }
       where
         starts_none : (us : List Token) → starts (F q) us ≡ false → starts w us ≡ false → starts (F q ++ w) us ≡ false
         starts_none [] a b = refl
@@ -407,8 +407,8 @@ module _ {Q A : Type 0} (w : Set) (next : Q → A → Q) (R : Q → ℕ → Gram
 -- ---- the law and the rule
 
 module _ {Q A : Type 0} (w : Set) (next : Q → A → Q) (R : Q → ℕ → Grammar A) (F T : Q → Set) where
-  pub rows_law : Late w next R F T → ((q : Q) (m : ℕ) → Law (R q) m (F q) none) → (q : Q) (n : ℕ) → Law (Rows w next R F T q) n (F q ++ w) (begun_items w next R F T q)
-  rows_law late laws q n = record { laws = rows_laws w next R F T late (λ s m. (laws s m).laws) q n }
+  pub rows_law : (n : ℕ) → Late w next R F T → ((q : Q) → Law (R q) n (F q) none) → (q : Q) → Law (Rows w next R F T q) n (F q ++ w) (begun_items w next R F T q)
+  rows_law n late laws q = record { laws = rows_laws w next R F T n late (λ s. (laws s).laws) q }
 
   pub rows_rule : (n : ℕ) → Late w next R F T → ((q : Q) (x : List Token) → (R q n).brink x → starts w x ≡ true → second w (T q) x ≡ true)
       → (c : List ℕ) → among w (token_of c) ≡ true

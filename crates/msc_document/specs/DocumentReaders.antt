@@ -1,0 +1,149 @@
+-- Readers of the productions of a document.
+use Rattle.std.specs.Prelude.{ℕ, zero, suc, List, [], ◌∷◌, ◌++◌, length, Option, Some, None, Ok, Bool, true, false, option_map, codes, if◌then◌else◌}
+use Rattle.msc_base.specs.declared.place.Place.{Place}
+use Rattle.msc_tokens.specs.declared.token.Token.{Token}
+use Rattle.msc_tree.specs.declared.chart.Cover.{Cover}
+use Rattle.msc_tree.specs.declared.reference.InlineForm.{InlineForm}
+use Rattle.msc_tree.specs.declared.reference.InlineForm.TheVariants.{Alt, Opt, Par, Loop, Exc}
+use Rattle.msc_tree.specs.declared.reference.Join.{Join}
+use Rattle.msc_tree.specs.Expressions.{Expression}
+use Rattle.msc_tree.specs.Statements.{Item, Operand, Reference, Single, Coregion, Condition, Refer, Stop}
+use Rattle.msc_tree.specs.Statements as tree
+use Rattle.msc_reading.specs.Languages.{Set, Read, just, names, ◌>>=◌, word_at, seq_at, either_at, map_at, until_at, optional_at, behind_at, second_at, opens_at}
+use Rattle.msc_reading.specs.Rows.{goes_on}
+use Rattle.msc_reading.specs.Parts.{kept, all_or_none}
+use Rattle.msc_reading.specs.PartReaders.{name_at, ending_at, placed_at}
+use Rattle.msc_items.specs.EventReaders.{single_at, single_words, coregion_at, stop_at}
+use Rattle.msc_items.specs.MultiReaders.{shared_in_at, condition_at, joins_at}
+use Rattle.msc_expression.specs.Bounds.{loop_bounds_at}
+use Rattle.msc_expression.specs.ExpressionReaders.{expression_at}
+use Rattle.msc_document.specs.Inlines.{Naming, Tail, taken_once, inline_item, firsts}
+use Rattle.msc_document.specs.DocumentGrammar.{reference_of, column_operand}
+
+-- what an end begins with
+abbrev pub end_words : Set
+end_words = just (codes "comment") ++ just (codes ";")
+
+-- the name behind `begin`, where there is one
+abbrev pub some_name_at : List Token → Read (Option (List ℕ))
+some_name_at = optional_at names kept name_at
+
+abbrev pub naming_at : Bool → List Token → Read Naming
+naming_at column = map_at (λ p. (p.0, p.1.0)) (seq_at some_name_at (seq_at (shared_in_at column) ending_at))
+
+-- ---- references
+
+abbrev pub some_joins_at : List Token → Read (List Join)
+some_joins_at = optional_at (just (codes "via")) all_or_none joins_at
+
+abbrev pub reference_parts_at : Bool → (List Token → Read Expression) → List Token → Read (Expression × (List Join × Option Cover))
+reference_parts_at column x = map_at (λ p. (p.0, (p.1.0, p.1.1.0))) (seq_at x (seq_at some_joins_at (seq_at (shared_in_at column) ending_at)))
+
+abbrev pub named_reference_at : Bool → (List Token → Read Expression) → List Token → Read Reference
+named_reference_at column x = map_at (λ p. reference_of (Some p.0) p.1) (seq_at name_at (behind_at (just (codes ":")) (reference_parts_at column x)))
+
+abbrev pub reference_at : Bool → (List Token → Read Expression) → List Token → Read (Place × Reference)
+reference_at column x = placed_at (just (codes "reference")) (second_at names (just (codes ":")) (named_reference_at column x) (map_at (reference_of None) (reference_parts_at column x)))
+
+-- ---- operands
+
+abbrev pub closing_at : List Token → Read (Unit {0})
+closing_at = behind_at (just (codes "end")) ending_at
+
+-- behind an end and another operand with its word
+abbrev pub next_part_at : {A : Type 0} → (List Token → Read A) → List Token → Read A
+next_part_at p = map_at (λ x. x.1) (seq_at ending_at p)
+
+-- operands, where p reads one with the word behind it
+abbrev pub several_at : {A : Type 0} → (List Token → Read A) → List Token → Read (List A)
+several_at p = map_at firsts (seq_at p (until_at end_words (next_part_at p) closing_at))
+
+abbrev pub single_operand_at : {A : Type 0} → (List Token → Read A) → List Token → Read (List A)
+single_operand_at p = map_at (λ x. x.0 ∷ []) (seq_at p closing_at)
+
+abbrev pub form_word : InlineForm → Set
+form_word Alt = just (codes "alt")
+form_word Par = just (codes "par")
+form_word Opt = just (codes "opt")
+form_word Exc = just (codes "exc")
+form_word Loop = just (codes "loop")
+
+-- what stands behind the word of a form that begins an inline expression
+abbrev pub form_seconds : InlineForm → Set
+form_seconds Loop = just (codes "<") ++ just (codes "begin")
+form_seconds _ = just (codes "begin")
+
+-- the operands of a form
+abbrev pub operands_at : {A : Type 0} → InlineForm → (List Token → Read A) → List Token → Read (List A)
+operands_at Alt p = several_at p
+operands_at Par p = several_at p
+operands_at _ p = single_operand_at p
+
+abbrev pub body_at : {A : Type 0} → Bool → InlineForm → (List Token → Read A) → List Token → Read (Naming × List A)
+body_at column form p = seq_at (naming_at column) (operands_at form p)
+
+-- behind the word of a form, where the reader of an operand with the word behind it is handed in, one level deeper
+abbrev pub tail_of_at : {A : Type 0} → Bool → InlineForm → Option (List Token → Read A) → List Token → Read (Tail A)
+tail_of_at column Loop p = seq_at loop_bounds_at (opens_at (just (codes "begin")) (option_map (body_at column Loop) p))
+tail_of_at column form p = map_at taken_once (opens_at (just (codes "begin")) (option_map (body_at column form) p))
+
+abbrev pub form_at : {A : Type 0} → (A → Operand) → InlineForm → (List Token → Read (Tail A)) → List Token → Read Item
+form_at f form p = map_at (inline_item f form) (placed_at (form_word form) p)
+
+-- an inline expression, where what stands behind the word of each form is handed in
+abbrev pub inline_at : {A : Type 0} → (A → Operand) → (InlineForm → List Token → Read (Tail A)) → List Token → Read Item
+inline_at f p = either_at (form_word Alt) (form_at f Alt (p Alt)) (either_at (form_word Par) (form_at f Par (p Par)) (either_at (form_word Opt) (form_at f Opt (p Opt))
+    (either_at (form_word Exc) (form_at f Exc (p Exc)) (form_at f Loop (p Loop)))))
+
+-- ---- items
+
+abbrev pub form_words : Set
+form_words = form_word Alt ++ (form_word Par ++ (form_word Opt ++ (form_word Exc ++ form_word Loop)))
+
+abbrev pub multi_at : {A : Type 0} → Bool → (A → Operand) → (List Token → Read Expression) → (InlineForm → List Token → Read (Tail A)) → List Token → Read Item
+multi_at column f x p = either_at (just (codes "condition")) (map_at (λ p. tree.placed p.0 (Condition p.1 p.2)) (condition_at column))
+    (either_at form_words (inline_at f p) (map_at (λ p. tree.placed p.0 (Refer p.1)) (reference_at column x)))
+
+abbrev pub multi_words : Set
+multi_words = just (codes "condition") ++ (form_words ++ just (codes "reference"))
+
+abbrev pub event_at : {A : Type 0} → Bool → (A → Operand) → (List Token → Read Expression) → (InlineForm → List Token → Read (Tail A)) → List Token → Read Item
+event_at column f x p = either_at single_words (map_at (λ e. tree.placed e.place (Single e)) single_at) (either_at (just (codes "concurrent")) (map_at (λ p. tree.placed p.0 (Coregion p.1)) coregion_at)
+    (either_at multi_words (multi_at column f x p) (map_at (λ place. tree.placed place Stop) stop_at)))
+
+abbrev pub event_words : Set
+event_words = single_words ++ (just (codes "concurrent") ++ (multi_words ++ just (codes "stop")))
+
+-- ---- up to a word
+
+-- at most so many, while they go on
+abbrev pub going_at : {A : Type 0} → (List Token → Bool) → (List Token → Read A) → ℕ → List Token → Read (List A)
+going_at goes p zero ts = Ok ([], ts)
+going_at goes p (suc k) ts = if goes ts then (p ts >>= λ a. going_at goes p k a.1 >>= λ r. Ok (a.0 ∷ r.0, r.1)) else Ok ([], ts)
+
+-- the word of the form of which the operand is, and outside operands this one
+abbrev pub closer_word : List ℕ → Option InlineForm → Set
+closer_word text None = just text
+closer_word text (Some form) = form_word form
+
+abbrev pub closer_seconds : Option InlineForm → Set
+closer_seconds None = []
+closer_seconds (Some form) = form_seconds form
+
+-- ---- columns
+
+-- the tokens go on with an event of the column
+abbrev pub column_goes_on : Option InlineForm → List Token → Bool
+column_goes_on closer = goes_on event_words (closer_word (codes "endinstance") closer) (closer_seconds closer)
+
+-- events and the word behind them
+abbrev pub column_at : Option InlineForm → (List Token → Read Item) → List Token → Read (List Item)
+column_at closer e = map_at (λ x. x.0) (seq_at (λ ts. going_at (column_goes_on closer) e (length ts) ts) (word_at (closer_word (codes "endinstance") closer)))
+
+-- what stands behind the word of a form, with so many levels left
+unfoldable pub column_tails_at : ℕ → InlineForm → List Token → Read (Tail (List Item))
+column_tails_at zero form = tail_of_at true form None
+column_tails_at (suc n) form = tail_of_at true form (Some (column_at (Some form) (event_at true column_operand (expression_at n) (column_tails_at n))))
+
+abbrev pub column_event_at : ℕ → List Token → Read Item
+column_event_at n = event_at true column_operand (expression_at n) (column_tails_at n)
