@@ -5,7 +5,7 @@ use std::alloc::Global;
 use std::test::Fail;
 
 /// Logs of the text form: the log, what it says, and the rule that it shows.
-static TEXT_LOGS: [(&str, &str, &str); 58] = [
+static TEXT_LOGS: [(&str, &str, &str); 60] = [
     ("", "ok", "an empty log has no events"),
     ("\n\n", "ok", "empty lines pass"),
     (" \t\r\n", "ok", "lines of blanks pass"),
@@ -207,6 +207,16 @@ static TEXT_LOGS: [(&str, &str, &str); 58] = [
         "i: create k;\n",
         "line 1 syntax",
         "a log that states no version has version 1",
+    ),
+    (
+        "log 2;\ni: create k;\nk: action 'x';\n",
+        "2 i create k k / 3 k action 'x' - / ok",
+        "its other events are those of version 1",
+    ),
+    (
+        "log 2;\nk: action 'x';\n",
+        "2 k action 'x' - / ok",
+        "a child may have events before its creation, as far as the log goes",
     ),
     ("log 3;\n", "line 1 version", "another version is refused"),
     ("log 0;\n", "line 1 version", "0 is another version"),
@@ -627,5 +637,47 @@ fn reads_objects(rt: HostRuntime) -> Result<(), Fail> {
     for whole in [false, true] {
         assert_eq!(rt; wrong_row(alloc, LogForm::Json, &JSON_LOGS, whole)?, "");
     }
+    Ok(())
+}
+
+/// A line of 4,096 bytes passes; a fault is decided at the next byte, before the line's end, whatever the pieces are.
+#[test]
+fn long_lines(rt: HostRuntime) -> Result<(), Fail> {
+    let alloc = rt.alloc();
+    let line = vec![in alloc; b' '; 4096]?;
+    for form in [LogForm::Lines, LogForm::Json] {
+        for cut in [0usize, 1, 4095, 4096] {
+            let (front, back) = line.as_slice().split_at(cut.min(line.len()));
+            let mut reader = LogReader::new(alloc, form)?;
+            assert!(rt; reader.feed(b"\n").is_ok());
+            assert!(rt; reader.feed(front).is_ok());
+            assert!(rt; reader.feed(back).is_ok(), "at {cut}");
+            assert_eq!(rt; reader.feed(b" "), Err(LogFault::LongLine(2)), "at {cut}");
+
+            let mut reader = LogReader::new(alloc, form)?;
+            assert!(rt; reader.feed(front).is_ok());
+            assert!(rt; reader.feed(back).is_ok());
+            assert!(rt; reader.feed(b"\n").is_ok(), "at {cut}");
+            assert!(rt; reader.finish().is_ok(), "at {cut}");
+        }
+    }
+    Ok(())
+}
+
+/// A fault that was answered is answered again, and the events before it are still handed out.
+#[test]
+fn stays_refused(rt: HostRuntime) -> Result<(), Fail> {
+    let alloc = rt.alloc();
+    let mut reader = LogReader::new(alloc, LogForm::Lines)?;
+    let bad = Err(LogFault::Syntax(2));
+    assert_eq!(rt; reader.feed(b"i: action b;\nx\ni: action c;\n"), bad);
+    assert!(rt; !reader.finished());
+    assert_eq!(rt; reader.feed(b"i: action d;\n"), bad);
+    assert_eq!(rt; reader.finish(), bad);
+    assert!(rt; reader.finished());
+    assert_eq!(rt; reader.finish(), bad);
+    let mut said = Vec::new(alloc);
+    add_events(alloc, &mut reader, &mut said)?;
+    assert_eq!(rt; said.as_slice(), b"1 i action b - / ".as_slice());
     Ok(())
 }
