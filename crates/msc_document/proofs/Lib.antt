@@ -1,3 +1,4 @@
+pub mod Beginnings
 pub mod ColumnRules
 pub mod Continued
 pub mod ItemRules
