@@ -9,3 +9,4 @@ pub mod Parts
 pub mod References
 pub mod Separators
 pub mod Shallows
+pub mod StatementLoops
