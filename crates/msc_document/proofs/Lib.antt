@@ -10,3 +10,4 @@ pub mod References
 pub mod Separators
 pub mod Shallows
 pub mod StatementLoops
+pub mod StatementRules
