@@ -1,3 +1,4 @@
+pub mod Beginnings
 pub mod ColumnRules
 pub mod Continued
 pub mod ItemRules
@@ -8,3 +9,5 @@ pub mod Parts
 pub mod References
 pub mod Separators
 pub mod Shallows
+pub mod StatementLoops
+pub mod StatementRules

@@ -3,22 +3,24 @@ use Rattle.std.specs.Prelude.{ℕ, zero, suc, List, [], ◌∷◌, ◌++◌, len
 use Rattle.msc_base.specs.declared.place.Place.{Place}
 use Rattle.msc_tokens.specs.declared.token.Token.{Token}
 use Rattle.msc_tree.specs.declared.chart.Cover.{Cover}
+use Rattle.msc_tree.specs.declared.chart.Cover.TheVariants.{All, Listed}
 use Rattle.msc_tree.specs.declared.reference.InlineForm.{InlineForm}
 use Rattle.msc_tree.specs.declared.reference.InlineForm.TheVariants.{Alt, Opt, Par, Loop, Exc}
 use Rattle.msc_tree.specs.declared.reference.Join.{Join}
 use Rattle.msc_tree.specs.Expressions.{Expression}
-use Rattle.msc_tree.specs.Statements.{Item, Operand, Reference, Single, Coregion, Condition, Refer, Stop}
+use Rattle.msc_tree.specs.Statements.{Item, Operand, Statement, Reference, Single, Coregion, Condition, Refer, Stop, Column, Covered, Heading, Ended, item_list}
 use Rattle.msc_tree.specs.Statements as tree
-use Rattle.msc_reading.specs.Languages.{Set, Read, just, names, ◌>>=◌, word_at, seq_at, either_at, map_at, until_at, optional_at, behind_at, second_at, opens_at}
+use Rattle.msc_reading.specs.Languages.{Set, Read, just, names, ◌>>=◌, word_at, each_at, seq_at, either_at, map_at, until_at, optional_at, behind_at, second_at, opens_at}
 use Rattle.msc_reading.specs.Rows.{goes_on}
-use Rattle.msc_reading.specs.Parts.{kept, all_or_none}
-use Rattle.msc_reading.specs.PartReaders.{name_at, ending_at, placed_at}
+use Rattle.msc_reading.specs.Parts.{kept, all_or_none, leads}
+use Rattle.msc_reading.specs.PartReaders.{name_at, lead_at, name_list_at, ending_at, placed_at}
+use Rattle.msc_items.specs.DeclarationReaders.{declaration_at}
 use Rattle.msc_items.specs.EventReaders.{single_at, single_words, coregion_at, stop_at}
 use Rattle.msc_items.specs.MultiReaders.{shared_in_at, condition_at, joins_at}
 use Rattle.msc_expression.specs.Bounds.{loop_bounds_at}
 use Rattle.msc_expression.specs.ExpressionReaders.{expression_at}
 use Rattle.msc_document.specs.Inlines.{Naming, Tail, taken_once, inline_item, firsts}
-use Rattle.msc_document.specs.DocumentGrammar.{reference_of, column_operand}
+use Rattle.msc_document.specs.DocumentGrammar.{Line, happen, list, declare, finish, lead_statement, reference_of, column_operand, outside_operand}
 
 -- what an end begins with
 abbrev pub end_words : Set
@@ -147,3 +149,87 @@ column_tails_at (suc n) form = tail_of_at true form (Some (column_at (Some form)
 
 abbrev pub column_event_at : ℕ → List Token → Read Item
 column_event_at n = event_at true column_operand (expression_at n) (column_tails_at n)
+
+-- ---- elsewhere
+
+-- what may go on behind a statement's items: nothing, events or multis
+pub data State : Type 0 where
+  idle : State
+  events : State
+  multis : State
+
+abbrev pub cover_kind : Cover → State
+cover_kind (Listed (n ∷ [])) = events
+cover_kind _ = multis
+
+abbrev pub kind : Statement → State
+kind (Covered cover held) = cover_kind cover
+kind _ = idle
+
+-- with other items behind
+abbrev pub long : Statement → List Item → Statement
+long (Covered cover held) more = Covered cover (tree.items (item_list held ++ more))
+long s more = s
+
+abbrev pub alone : Item → List Item
+alone i = i ∷ []
+
+-- behind a lead and a colon: an event, a declaration or an end
+abbrev pub colon_line_at : (List Token → Read Item) → List Token → Read Line
+colon_line_at e = behind_at (just (codes ":")) (either_at event_words (map_at happen (map_at alone e)) (either_at (just (codes "instance")) (map_at declare declaration_at)
+    (map_at (λ x. finish) (behind_at (just (codes "endinstance")) ending_at))))
+
+-- behind a lead and a comma: names, and a multi
+abbrev pub list_line_at : (List Token → Read Item) → List Token → Read Line
+list_line_at m = map_at (λ p. list p.0 p.1) (behind_at (just (codes ",")) (seq_at name_list_at (behind_at (just (codes ":")) (map_at alone m))))
+
+-- a statement up to its first item
+abbrev pub opening_at : (List Token → Read Item) → (List Token → Read Item) → List Token → Read Statement
+opening_at e m = either_at leads (map_at (λ p. lead_statement p.0 p.1) (seq_at lead_at (either_at (just (codes ":")) (colon_line_at e) (list_line_at m))))
+    (map_at (λ held. Covered All (tree.items held)) (behind_at (just (codes "all")) (behind_at (just (codes ":")) (map_at alone m))))
+
+abbrev pub opening_words : Set
+opening_words = leads ++ just (codes "all")
+
+abbrev pub more_words : State → Set
+more_words idle = []
+more_words events = event_words
+more_words multis = multi_words
+
+-- what goes on behind the form's word
+abbrev pub more_seconds : Option InlineForm → State → Set
+more_seconds closer idle = []
+more_seconds closer _ = closer_seconds closer
+
+abbrev pub statement_goes_on : Option InlineForm → State → List Token → Bool
+statement_goes_on closer state = goes_on (more_words state) (closer_word (codes "endmsc") closer) (more_seconds closer state)
+
+abbrev pub more_at : (List Token → Read Item) → (List Token → Read Item) → State → List Token → Read Item
+more_at e m multis = m
+more_at e m _ = e
+
+-- a statement, where o reads it up to its first item
+abbrev pub statement_at : Option InlineForm → (List Token → Read Statement) → (List Token → Read Item) → (List Token → Read Item) → List Token → Read Statement
+statement_at closer o e m ts = o ts >>= λ s. going_at (statement_goes_on closer (kind s.0)) (more_at e m (kind s.0)) (length s.1) s.1 >>= λ held. Ok (long s.0 held.0, held.1)
+
+-- statements and the word behind them, where their first words are given
+abbrev pub statements_at : Option InlineForm → Set → (List Token → Read Statement) → (List Token → Read Item) → (List Token → Read Item) → List Token → Read (List Statement)
+statements_at closer words o e m = map_at (λ x. x.0) (seq_at (λ ts. each_at words (statement_at closer o e m) (length ts) ts) (word_at (closer_word (codes "endmsc") closer)))
+
+abbrev pub Tails : Type 0
+Tails = InlineForm → List Token → Read (Tail (List Statement))
+
+abbrev pub outside_event_at : ℕ → Tails → List Token → Read Item
+outside_event_at n p = event_at false outside_operand (expression_at n) p
+
+abbrev pub outside_multi_at : ℕ → Tails → List Token → Read Item
+outside_multi_at n p = multi_at false outside_operand (expression_at n) p
+
+-- the statements of an operand, with the form's word behind them
+abbrev pub outside_at : InlineForm → ℕ → Tails → List Token → Read (List Statement)
+outside_at form n p = statements_at (Some form) opening_words (opening_at (outside_event_at n p) (outside_multi_at n p)) (outside_event_at n p) (outside_multi_at n p)
+
+-- what stands behind the word of a form, with so many levels left
+unfoldable pub outside_tails_at : ℕ → Tails
+outside_tails_at zero form = tail_of_at false form None
+outside_tails_at (suc n) form = tail_of_at false form (Some (outside_at form n (outside_tails_at n)))
