@@ -17,11 +17,11 @@ fn tokens_of(alloc: Global, text: &str) -> Option<TokenList> {
     }
 }
 
-fn on_line_1(byte: u64) -> Place {
+fn on_line_1(byte: u32) -> Place {
     Place {
-        byte,
+        byte: byte as u64,
         line: 1,
-        column: byte + 1,
+        column: byte as u64 + 1,
     }
 }
 
