@@ -1,36 +1,23 @@
--- A reader with its rule is exact.
-use Rattle.std.proofs.Common.{ℕ, ◌≡◌, List, [], ◌∷◌, refl, Ok, Err, codes}
+-- The readers of expressions and graphs are exact.
+use Rattle.std.proofs.Common.{ℕ, List, refl, codes}
 use Rattle.msc_tokens.specs.declared.token.Token.{Token}
 use Rattle.msc_tree.specs.Graphs.{Graph}
-use Rattle.msc_reading.specs.Languages.{Set, Read, refused, deep, just, seq_at}
+use Rattle.msc_reading.specs.Languages.{just, seq_at}
 use Rattle.msc_reading.specs.Grammars.{Grammar}
 use Rattle.msc_reading.specs.Parts.{mark}
 use Rattle.msc_reading.specs.PartReaders.{mark_at}
 use Rattle.msc_reading.proofs.Optionals.{none}
 use Rattle.msc_reading.proofs.PartRules.{mark_law, mark_rule}
-use Rattle.msc_reading.proofs.Parses.{one_value, refused_parse, deep_parse, whole_parse, left_parse}
-use Rattle.msc_reading.proofs.Rules.{Law, Rule}
+use Rattle.msc_reading.proofs.Parses.{one_value}
+use Rattle.msc_reading.proofs.Exact.{exact}
 use Rattle.msc_reading.specs.Parsing.{OneReading}
-use Rattle.msc_expression.specs.Exactness.{IsExact}
+use Rattle.msc_reading.specs.Exactness.{IsExact}
 use Rattle.msc_expression.specs.ExpressionGrammar.{expression}
 use Rattle.msc_expression.specs.ExpressionReaders.{expression_at}
 use Rattle.msc_expression.specs.GraphGrammar.{chart_graph}
 use Rattle.msc_expression.specs.GraphReaders.{chart_graph_at}
 use Rattle.msc_expression.proofs.ExpressionRules.{first_words, after_expression, expression_law, expression_rule}
 use Rattle.msc_expression.proofs.GraphRules.{chart_graph_law, chart_graph_rule}
-
-module _ {A : Type 0} (R : ℕ → Grammar A) (n : ℕ) (F : Set) (C : A → Set) (p : List Token → Read A) (rule : Rule R n F C p) where
-  answer : (ts : List Token) (x : Read A) → p ts ≡ x → IsExact R n ts x
-  answer ts (Ok (a, [])) e = whole_parse R n F C p rule ts [] a e refl
-  answer ts (Ok (a, t ∷ rest)) e = left_parse R n F C p rule ts (t ∷ rest) a e (λ none_left. some none_left)
-    where
-      some : t ∷ rest ≡ [] → ⊥
-      some q = cc
-  answer ts (Err (refused left)) e = refused_parse R n F C p rule ts left e
-  answer ts (Err (deep left)) e = deep_parse R n F C p rule ts left e
-
-  exact : (ts : List Token) → IsExact R n ts (p ts)
-  exact ts = answer ts (p ts) refl
 
 pub one_expression : OneReading expression
 one_expression = one_value expression first_words after_expression expression_law

@@ -1,5 +1,4 @@
 pub mod Bounds
-pub mod Exactness
 pub mod ExpressionGrammar
 pub mod ExpressionReaders
 pub mod GraphGrammar

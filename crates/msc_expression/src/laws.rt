@@ -1,5 +1,6 @@
 ghost use Rattle.std.specs.Prelude.{ℕ, List, codes};
 ghost use Rattle.msc_tokens.specs.declared.token.Token.{Token};
+ghost use Rattle.msc_reading.specs.Exactness.{IsExact};
 ghost use Rattle.msc_reading.specs.Languages.{seq_at};
 ghost use Rattle.msc_reading.specs.Parsing.{OneReading};
 ghost use Rattle.msc_reading.specs.Parts.{mark};
@@ -8,7 +9,6 @@ ghost use Rattle.msc_expression.specs.ExpressionGrammar.{expression};
 ghost use Rattle.msc_expression.specs.ExpressionReaders.{expression_at};
 ghost use Rattle.msc_expression.specs.GraphGrammar.{chart_graph};
 ghost use Rattle.msc_expression.specs.GraphReaders.{chart_graph_at};
-ghost use Rattle.msc_expression.specs.Exactness.{IsExact};
 
 /// Tokens read as at most one expression, and what the reader of expressions answers at each number of levels is that
 /// expression, or the first token that is refused or opens a level too many.
