@@ -1,21 +1,14 @@
 //! Each production once, and where it is refused.
 use crate::{
-    condition, coregion, decl, declared, decls, heading, heads, joins, shared_in, single,
+    condition, coregion, declared, decls, heading, heads, joins, shared_in, single,
     starts_with_single, stop,
 };
-use msc_base::{Kind, Names, Place, Words};
-use msc_reading::{ReadFault, placed_lead};
+use msc_base::{Kind, Name, Names, Place, Words};
+use msc_reading::{ReadFault, placed_lead, word};
 use msc_tokens::{TokenList, lex_all};
-use msc_tree::{Cover, JoinEnd, Target};
+use msc_tree::{Cover, Decl, Join, JoinEnd, RawEvent, Target};
 use std::alloc::Global;
 use std::test::Fail;
-
-fn tokens_of(alloc: Global, text: &str) -> Option<TokenList> {
-    match lex_all(alloc, text.as_bytes()) {
-        Ok(list) => Some(list),
-        Err(_) => None,
-    }
-}
 
 fn on_line_1(byte: u32) -> Place {
     Place {
@@ -25,8 +18,14 @@ fn on_line_1(byte: u32) -> Place {
     }
 }
 
-/// Whether the names are these.
-fn are(names: &Names, want: &[&str]) -> bool {
+fn is_name(name: &Option<Name>, want: &str) -> bool {
+    match name {
+        Some(name) => name.bytes() == want.as_bytes(),
+        None => false,
+    }
+}
+
+fn are_names(names: &Names, want: &[&str]) -> bool {
     names.len() == want.len()
         && names
             .as_slice()
@@ -35,16 +34,21 @@ fn are(names: &Names, want: &[&str]) -> bool {
             .all(|(name, text)| name.bytes() == text.as_bytes())
 }
 
-fn are_texts(texts: &Words, want: &[&str]) -> bool {
-    texts.len() == want.len()
-        && texts
-            .as_slice()
-            .iter()
-            .zip(want)
-            .all(|(item, text)| item.bytes() == text.as_bytes())
+fn are_texts(texts: &Option<Words>, want: &[&str]) -> bool {
+    match texts {
+        Some(texts) => {
+            texts.len() == want.len()
+                && texts
+                    .as_slice()
+                    .iter()
+                    .zip(want)
+                    .all(|(item, text)| item.bytes() == text.as_bytes())
+        }
+        None => false,
+    }
 }
 
-/// The byte at which the text is refused, or none.
+/// The byte at which the tokens are refused.
 fn refused_at(list: &TokenList, fault: ReadFault) -> Option<u64> {
     match fault {
         ReadFault::Refused(left) => {
@@ -57,34 +61,53 @@ fn refused_at(list: &TokenList, fault: ReadFault) -> Option<u64> {
     }
 }
 
+fn event_of(alloc: Global, text: &str) -> Option<RawEvent> {
+    match lex_all(alloc, text.as_bytes()) {
+        Ok(list) => match single(alloc, list.as_slice()) {
+            Ok((event, _)) => Some(event),
+            Err(_) => None,
+        },
+        Err(_) => None,
+    }
+}
+
+/// Whether the event has all the parts of the test's text.
+fn is_whole(event: &RawEvent) -> bool {
+    let target = match &event.target {
+        Target::Gate(name, gate) => {
+            name.bytes() == "R".as_bytes() && gate.bytes() == "g".as_bytes()
+        }
+        _ => false,
+    };
+    target
+        && event.kind == Kind::Output
+        && event.text.bytes() == "m".as_bytes()
+        && is_name(&event.tag, "x")
+        && is_name(&event.pairing, "p")
+        && are_texts(&event.parameters, &["a", "'b'", "c"])
+        && are_names(&event.earlier_than, &["y", "z"])
+        && are_names(&event.later_than, &["w"])
+}
+
 /// All parts of an event; its place is that of its act.
 #[test]
 fn whole_event(rt: HostRuntime) -> Result<(), Fail> {
-    let alloc = rt.alloc();
-    let text = "label x; out m,p(a,'b',c) to reference R via g before y,z after w comment 'c'; k";
-    let Some(list) = tokens_of(alloc, text) else {
-        assert!(rt; false, "a fault");
-        return Ok(());
-    };
-    assert!(rt; starts_with_single(list.as_slice()));
-    let Ok((event, rest)) = single(alloc, list.as_slice()) else {
-        assert!(rt; false, "refused");
-        return Ok(());
-    };
-    assert_eq!(rt; rest.len(), 1);
-    assert_eq!(rt; event.place, on_line_1(9));
-    assert_eq!(rt; event.kind, Kind::Output);
-    assert_eq!(rt; event.text.bytes(), "m".as_bytes());
-    assert!(rt; matches!(&event.tag, Some(tag) if tag.bytes() == "x".as_bytes()));
-    assert!(rt; matches!(&event.pairing, Some(name) if name.bytes() == "p".as_bytes()));
-    assert!(rt; matches!(&event.parameters, Some(list) if are_texts(list, &["a", "'b'", "c"])));
-    assert!(rt;
-        matches!(&event.target, Target::Gate(name, gate)
-        if name.bytes() == "R".as_bytes() && gate.bytes() == "g".as_bytes())
-    );
-    assert!(rt; are(&event.earlier_than, &["y", "z"]));
-    assert!(rt; are(&event.later_than, &["w"]));
+    let text = "label x; out m,p(a,'b',c) to reference R via g before y,z after w comment 'c';";
+    match event_of(rt.alloc(), text) {
+        Some(event) => {
+            assert!(rt; is_whole(&event));
+            assert_eq!(rt; event.place, on_line_1(9));
+        }
+        None => assert!(rt; false, "refused"),
+    }
     Ok(())
+}
+
+fn kind_of(alloc: Global, text: &str) -> Option<Kind> {
+    match event_of(alloc, text) {
+        Some(event) => Some(event.kind),
+        None => None,
+    }
 }
 
 /// The kinds of events, with both spellings of a timer's words.
@@ -105,217 +128,183 @@ fn kinds(rt: HostRuntime) -> Result<(), Fail> {
         ("create k;", Kind::Create),
     ];
     for (text, want) in rows {
-        let Some(list) = tokens_of(alloc, text) else {
-            assert!(rt; false, "a fault");
-            return Ok(());
-        };
-        match single(alloc, list.as_slice()) {
-            Ok((event, rest)) => {
-                assert_eq!(rt; event.kind, want, "at {text}");
-                assert!(rt; rest.is_empty(), "at {text}");
-            }
-            Err(_) => assert!(rt; false, "refused {text}"),
-        }
+        assert_eq!(rt; kind_of(alloc, text), Some(want), "at {text}");
     }
     Ok(())
 }
 
-/// Where a single event is refused: the first token with which none begins.
+/// Where the first part of the text of this production is refused, or none.
+fn refusal(alloc: Global, production: &str, text: &str) -> Option<u64> {
+    let Ok(list) = lex_all(alloc, text.as_bytes()) else {
+        return None;
+    };
+    let tokens = list.as_slice();
+    let fault = match production {
+        "coregion" => coregion(alloc, tokens).err(),
+        "decls" => decls(alloc, tokens).err(),
+        "heads" => heads(alloc, tokens).err(),
+        "condition in a column" => condition(alloc, true, tokens).err(),
+        "condition" => condition(alloc, false, tokens).err(),
+        "joins" => joins(alloc, tokens).err(),
+        _ => single(alloc, tokens).err(),
+    };
+    match fault {
+        Some(fault) => refused_at(&list, fault),
+        None => None,
+    }
+}
+
+/// Where productions are refused: the first token with which none begins.
 #[test]
-fn refused_events(rt: HostRuntime) -> Result<(), Fail> {
+fn refusals(rt: HostRuntime) -> Result<(), Fail> {
     let alloc = rt.alloc();
     let rows = [
-        ("out m to j", 10),
-        ("out m to lost a b;", 16),
-        ("out m to env via;", 16),
-        ("out m from j;", 6),
-        ("out m to reference R;", 20),
-        ("out m to j after x before y;", 19),
-        ("label x comment 'c'; out m to j;", 8),
-        ("label x; label y; out m to j;", 9),
-        ("action;", 6),
-        ("create 'k';", 7),
-        ("timeout T(,);", 10),
-        ("settimer T;", 0),
-        ("stop;", 0),
+        ("single", "out m to j", Some(10)),
+        ("single", "out m to lost a b;", Some(16)),
+        ("single", "out m to env via;", Some(16)),
+        ("single", "out m from j;", Some(6)),
+        ("single", "out m to reference R;", Some(20)),
+        ("single", "out m to j after x before y;", Some(19)),
+        ("single", "label x comment 'c'; out m to j;", Some(8)),
+        ("single", "label x; label y; out m to j;", Some(9)),
+        ("single", "action;", Some(6)),
+        ("single", "create 'k';", Some(7)),
+        ("single", "timeout T(,);", Some(10)),
+        ("single", "settimer T;", Some(0)),
+        ("coregion", "concurrent; stop; endconcurrent;", Some(12)),
+        ("decls", "a, b decomposed D", Some(16)),
+        ("heads", "inst a; msg m n;", Some(14)),
+        ("condition in a column", "condition c shared;", None),
+        ("condition", "condition c shared;", Some(12)),
+        ("joins", "via g to env;", Some(12)),
     ];
-    for (text, want) in rows {
-        let Some(list) = tokens_of(alloc, text) else {
-            assert!(rt; false, "a fault");
-            return Ok(());
-        };
-        match single(alloc, list.as_slice()) {
-            Ok(_) => assert!(rt; false, "read {text}"),
-            Err(fault) => assert_eq!(rt; refused_at(&list, fault), Some(want), "at {text}"),
-        }
+    for (production, text, want) in rows {
+        assert_eq!(rt; refusal(alloc, production, text), want, "at {text}");
     }
     Ok(())
 }
 
-/// A coregion, and one that holds what is no single event; a stop.
+/// The place of a coregion, how many events it has, and the place of the stop behind it.
+fn coregion_and_stop(alloc: Global, text: &str) -> Option<(Place, usize, Place)> {
+    let list = lex_all(alloc, text.as_bytes()).ok()?;
+    let (place, events, rest) = coregion(alloc, list.as_slice()).ok()?;
+    let (at, _) = stop(rest).ok()?;
+    Some((place, events.len(), at))
+}
+
+/// A coregion of two events, and a stop behind it.
 #[test]
 fn coregions(rt: HostRuntime) -> Result<(), Fail> {
-    let alloc = rt.alloc();
     let text = " concurrent; action a; set T; endconcurrent comment 'c'; stop;";
-    let Some(list) = tokens_of(alloc, text) else {
-        assert!(rt; false, "a fault");
-        return Ok(());
-    };
-    let Ok((place, events, rest)) = coregion(alloc, list.as_slice()) else {
-        assert!(rt; false, "refused");
-        return Ok(());
-    };
-    assert_eq!(rt; place, on_line_1(1));
-    assert_eq!(rt; events.len(), 2);
-    assert!(rt; matches!(stop(rest), Ok((at, behind)) if at == on_line_1(57) && behind.is_empty()));
-    let Some(bad) = tokens_of(alloc, "concurrent; stop; endconcurrent;") else {
-        assert!(rt; false, "a fault");
-        return Ok(());
-    };
-    match coregion(alloc, bad.as_slice()) {
-        Ok(_) => assert!(rt; false, "read"),
-        Err(fault) => assert_eq!(rt; refused_at(&bad, fault), Some(12)),
-    }
+    let want = Some((on_line_1(1), 2, on_line_1(57)));
+    assert_eq!(rt; coregion_and_stop(rt.alloc(), text), want);
     Ok(())
 }
 
-/// The place of a declaration is that of its decomposition, or of its name.
+fn is_decl(decl: &Decl, kind: &[&str], refined: &str, place: u32) -> bool {
+    are_names(&decl.kind, kind) && is_name(&decl.refined, refined) && decl.place == on_line_1(place)
+}
+
+/// Whether the text is a declaration in a list, and another behind its leading instance.
+fn are_declared(alloc: Global, text: &str) -> Option<bool> {
+    let list = lex_all(alloc, text.as_bytes()).ok()?;
+    let (first, rest) = decls(alloc, list.as_slice()).ok()?;
+    let (name, place, rest) = placed_lead(alloc, rest).ok()?;
+    let (_, rest) = word(rest, ":").ok()?;
+    let (second, _) = declared(alloc, name, place, rest).ok()?;
+    let one = first.as_slice().first()?;
+    Some(is_decl(one, &["b", "c"], "D", 8) && is_decl(&second, &["k"], "G", 39))
+}
+
+/// The place of a declaration is that of its decomposition.
 #[test]
 fn declarations(rt: HostRuntime) -> Result<(), Fail> {
-    let alloc = rt.alloc();
-    let text = "a : b c decomposed as D, e f : instance k decomposed as G; decomposed";
-    let Some(list) = tokens_of(alloc, text) else {
-        assert!(rt; false, "a fault");
-        return Ok(());
-    };
-    let Ok((two, rest)) = decls(alloc, list.as_slice()) else {
-        assert!(rt; false, "refused");
-        return Ok(());
-    };
-    assert_eq!(rt; two.len(), 2);
-    for (k, kind, place) in [(0, 2, 8), (1, 0, 25)] {
-        let Some(one) = two.as_slice().get(k) else {
-            assert!(rt; false, "too few");
-            return Ok(());
-        };
-        assert_eq!(rt; one.kind.len(), kind);
-        assert_eq!(rt; one.place, on_line_1(place));
-    }
-    let Ok((name, place, rest)) = placed_lead(alloc, rest) else {
-        assert!(rt; false, "no lead");
-        return Ok(());
-    };
-    let behind = if rest.is_empty() { rest } else { &rest[1..] };
-    let Ok((one, rest)) = declared(alloc, name, place, behind) else {
-        assert!(rt; false, "refused");
-        return Ok(());
-    };
-    assert!(rt; are(&one.kind, &["k"]));
-    assert!(rt; matches!(&one.refined, Some(chart) if chart.bytes() == "G".as_bytes()));
-    assert_eq!(rt; one.place, on_line_1(42));
-    match decl(alloc, rest) {
-        Ok(_) => assert!(rt; false, "read"),
-        Err(fault) => assert_eq!(rt; refused_at(&list, fault), Some(59)),
-    }
+    let text = "a : b c decomposed as D f : instance k decomposed as G;";
+    assert_eq!(rt; are_declared(rt.alloc(), text), Some(true));
     Ok(())
+}
+
+/// How many instances, messages and timers the heads behind a heading declare.
+fn declared_counts(alloc: Global, text: &str) -> Option<(usize, usize, usize)> {
+    let list = lex_all(alloc, text.as_bytes()).ok()?;
+    let (first, rest) = heading(alloc, list.as_slice()).ok()?;
+    let (heads, _) = heads(alloc, rest).ok()?;
+    if !is_name(&first.related, "e") {
+        return None;
+    }
+    Some((heads.decls.len(), heads.messages.len(), heads.timers.len()))
 }
 
 /// The heading of a document, and the heads of a chart in any order.
 #[test]
 fn headings(rt: HostRuntime) -> Result<(), Fail> {
-    let alloc = rt.alloc();
     let text = "mscdocument d related to e; inst a, b : K; msg m; inst c; timer T, U; i";
-    let Some(list) = tokens_of(alloc, text) else {
-        assert!(rt; false, "a fault");
-        return Ok(());
-    };
-    let Ok((heading, rest)) = heading(alloc, list.as_slice()) else {
-        assert!(rt; false, "refused");
-        return Ok(());
-    };
-    assert_eq!(rt; heading.name.bytes(), "d".as_bytes());
-    assert!(rt; matches!(&heading.related, Some(name) if name.bytes() == "e".as_bytes()));
-    let Ok((heads, rest)) = heads(alloc, rest) else {
-        assert!(rt; false, "refused");
-        return Ok(());
-    };
-    assert_eq!(rt; heads.decls.len(), 3);
-    assert!(rt; are(&heads.messages, &["m"]));
-    assert!(rt; are(&heads.timers, &["T", "U"]));
-    assert_eq!(rt; rest.len(), 1);
+    assert_eq!(rt; declared_counts(rt.alloc(), text), Some((3, 1, 2)));
     Ok(())
 }
 
-/// A condition is shared in a column alone.
+/// How many instances a shared list names, or none where it is for all.
+fn shared_count(alloc: Global, text: &str) -> Option<usize> {
+    let list = lex_all(alloc, text.as_bytes()).ok()?;
+    let (cover, _) = shared_in(alloc, true, list.as_slice()).ok()?;
+    match cover {
+        Some(Cover::Listed(names)) => Some(names.len()),
+        _ => None,
+    }
+}
+
+/// Shared lists.
 #[test]
-fn conditions(rt: HostRuntime) -> Result<(), Fail> {
+fn shared_lists(rt: HostRuntime) -> Result<(), Fail> {
     let alloc = rt.alloc();
-    let Some(list) = tokens_of(alloc, "condition c, d shared i, j;") else {
-        assert!(rt; false, "a fault");
-        return Ok(());
-    };
-    let Ok((place, names, shared, rest)) = condition(alloc, true, list.as_slice()) else {
-        assert!(rt; false, "refused");
-        return Ok(());
-    };
-    assert_eq!(rt; place, on_line_1(0));
-    assert!(rt; are(&names, &["c", "d"]));
-    assert!(rt; matches!(&shared, Some(Cover::Listed(list)) if are(list, &["i", "j"])));
-    assert!(rt; rest.is_empty());
-    match condition(alloc, false, list.as_slice()) {
-        Ok(_) => assert!(rt; false, "read"),
-        Err(fault) => assert_eq!(rt; refused_at(&list, fault), Some(15)),
-    }
-    for (text, all) in [("shared;", false), ("shared all;", true)] {
-        let Some(list) = tokens_of(alloc, text) else {
-            assert!(rt; false, "a fault");
-            return Ok(());
-        };
-        let Ok((cover, rest)) = shared_in(alloc, true, list.as_slice()) else {
-            assert!(rt; false, "refused");
-            return Ok(());
-        };
-        assert_eq!(rt; matches!(&cover, Some(Cover::All)), all);
-        assert_eq!(rt;
-            matches!(&cover, Some(Cover::Listed(list)) if list.len() == 0),
-            !all
-        );
-        assert_eq!(rt; rest.len(), 1);
+    for (text, want) in [
+        ("shared;", Some(0)),
+        ("shared i, j;", Some(2)),
+        ("shared all;", None),
+    ] {
+        assert_eq!(rt; shared_count(alloc, text), want, "at {text}");
     }
     Ok(())
 }
 
-/// Both forms of a join, and one without its gate.
+fn is_to_reference(join: &Join) -> bool {
+    match &join.to {
+        JoinEnd::Reference(name, gate) => {
+            name.bytes() == "R".as_bytes() && gate.bytes() == "l".as_bytes()
+        }
+        JoinEnd::Env(_) => false,
+    }
+}
+
+/// The places of the joins to references.
+fn reference_joins(alloc: Global, text: &str) -> Option<(usize, Place)> {
+    let list = lex_all(alloc, text.as_bytes()).ok()?;
+    let (joins, _) = joins(alloc, list.as_slice()).ok()?;
+    let last = joins.as_slice().last()?;
+    if !is_to_reference(last) {
+        return None;
+    }
+    Some((joins.len(), last.place))
+}
+
+/// Both forms of a join.
 #[test]
 fn joined_gates(rt: HostRuntime) -> Result<(), Fail> {
+    let text = "via g to env via h, k to reference R via l;";
+    let want = Some((2, on_line_1(20)));
+    assert_eq!(rt; reference_joins(rt.alloc(), text), want);
+    Ok(())
+}
+
+/// What a single event begins with.
+#[test]
+fn first_words(rt: HostRuntime) -> Result<(), Fail> {
     let alloc = rt.alloc();
-    let Some(list) = tokens_of(alloc, "via g to env via h, k to reference R via l;") else {
-        assert!(rt; false, "a fault");
-        return Ok(());
-    };
-    let Ok((joins, rest)) = joins(alloc, list.as_slice()) else {
-        assert!(rt; false, "refused");
-        return Ok(());
-    };
-    assert_eq!(rt; joins.len(), 2);
-    assert_eq!(rt; rest.len(), 1);
-    for (join, place) in joins.as_slice().iter().zip([4, 20]) {
-        assert_eq!(rt; join.place, on_line_1(place));
-        match &join.to {
-            JoinEnd::Env(gate) => assert_eq!(rt; gate.bytes(), "h".as_bytes()),
-            JoinEnd::Reference(name, gate) => {
-                assert_eq!(rt; name.bytes(), "R".as_bytes());
-                assert_eq!(rt; gate.bytes(), "l".as_bytes());
-            }
+    for (text, want) in [("label", true), ("create", true), ("stop", false)] {
+        match lex_all(alloc, text.as_bytes()) {
+            Ok(list) => assert_eq!(rt; starts_with_single(list.as_slice()), want),
+            Err(_) => assert!(rt; false, "a fault"),
         }
-    }
-    let Some(bad) = tokens_of(alloc, "via g to env;") else {
-        assert!(rt; false, "a fault");
-        return Ok(());
-    };
-    match crate::joins(alloc, bad.as_slice()) {
-        Ok(_) => assert!(rt; false, "read"),
-        Err(fault) => assert_eq!(rt; refused_at(&bad, fault), Some(12)),
     }
     Ok(())
 }
