@@ -54,8 +54,8 @@ pub fn choice(alloc: Global, parts: TermList) -> Result<Term, NoMemory>
     ensures { IfOk result (λ term. choice_of parts ≡ Some term) }
 {
     let mut opened = TermList::new(alloc);
-    for part in parts.as_slice() {
-        push_opened(&mut opened, alloc, part)?;
+    for item in parts.as_slice() {
+        push_opened(&mut opened, alloc, item)?;
     }
     let kept = distinct(alloc, &opened)?;
     form_of(alloc, kept)

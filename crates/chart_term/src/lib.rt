@@ -12,6 +12,8 @@ mod joins;
 pub mod laws;
 mod look;
 mod term;
+#[cfg(test)]
+mod tests;
 
 pub use bounds::bound;
 pub use choices::choice;

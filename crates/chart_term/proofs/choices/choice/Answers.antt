@@ -3,4 +3,4 @@ use Rattle.chart_term.proofs.Distinct.{distinct_some}
 use Rattle.chart_term.proofs.choices.choice.Goals as goal
 
 pub form_of-requires : goal.form_of-requires
-form_of-requires c = subst (λ l. 0 < length l) (sym c.in_ok-kept.ensures) (distinct_some c.loop-part.opened (omega (arith, ap length c.as_slice-part-items.ensures, c.loop-part.invariant.long, c.loop-part-test.false, c.requires)))
+form_of-requires c = subst (λ l. 0 < length l) (sym c.in_ok-kept.ensures) (distinct_some c.loop-item.opened (omega (arith, ap length c.as_slice-item-items.ensures, c.loop-item.invariant.long, c.loop-item-test.false, c.requires)))
