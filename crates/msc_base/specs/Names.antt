@@ -15,9 +15,9 @@ pub record IsWord (bytes : List ℕ) : Type 0 where
   pub short : length bytes ≤ 255
 
 -- the reserved words, in the order of the alphabet, in groups
-abbrev pub reserved_to_end : List (List ℕ)
-reserved_to_end = codes "action" ∷ codes "after" ∷ codes "all" ∷ codes "alt" ∷ codes "before" ∷ codes "begin" ∷ codes "comment"
-    ∷ codes "concurrent" ∷ codes "condition" ∷ codes "decomposed" ∷ codes "end" ∷ []
+abbrev pub reserved_to_decomposed : List (List ℕ)
+reserved_to_decomposed = codes "action" ∷ codes "after" ∷ codes "all" ∷ codes "alt" ∷ codes "before" ∷ codes "begin" ∷ codes "comment"
+    ∷ codes "concurrent" ∷ codes "condition" ∷ codes "decomposed" ∷ []
 
 abbrev pub reserved_to_inst : List (List ℕ)
 reserved_to_inst = codes "endconcurrent" ∷ codes "endexpr" ∷ codes "endinstance" ∷ codes "endmsc" ∷ codes "endmscdocument" ∷ codes "env"
@@ -38,7 +38,7 @@ IsOneOf (w ∷ ws) bytes = (bytes ≡ w) ⊎ IsOneOf ws bytes
 
 -- one of the reserved words
 abbrev pub IsReserved : List ℕ → Type 0
-IsReserved bytes = IsOneOf reserved_to_end bytes ⊎ IsOneOf reserved_to_inst bytes ⊎ IsOneOf reserved_to_out bytes ⊎ IsOneOf reserved_to_when bytes
+IsReserved bytes = IsOneOf reserved_to_decomposed bytes ⊎ IsOneOf reserved_to_inst bytes ⊎ IsOneOf reserved_to_out bytes ⊎ IsOneOf reserved_to_when bytes
 
 -- a name is a word that isn't reserved
 pub record IsName (bytes : List ℕ) : Type 0 where

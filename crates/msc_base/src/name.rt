@@ -1,5 +1,5 @@
 ghost use Rattle.std.specs.Prelude.{◌≡◌, ◌≤◌, ◌↔◌, List, ℕ, length, All, Any, IsTrue, IfOk, IsErrOf};
-ghost use Rattle.msc_base.specs.Names.{IsLetterOrDigit, IsWordByte, IsWord, IsName, IsReserved, IsOneOf, reserved_to_end, reserved_to_inst, reserved_to_out, reserved_to_when};
+ghost use Rattle.msc_base.specs.Names.{IsLetterOrDigit, IsWordByte, IsWord, IsName, IsReserved, IsOneOf, reserved_to_decomposed, reserved_to_inst, reserved_to_out, reserved_to_when};
 
 use crate::{NoMemory, Text};
 use std::alloc::Global;
@@ -58,9 +58,9 @@ pub fn is_text(bytes: &[u8], text: &str) -> bool
     bytes == text.as_bytes()
 }
 
-/// Whether the bytes are one of the reserved words from `action` to `end`.
-fn is_reserved_to_end(bytes: &[u8]) -> bool
-    ensures { IsTrue result ↔ IsOneOf reserved_to_end bytes.now }
+/// Whether the bytes are one of the reserved words from `action` to `decomposed`.
+fn is_reserved_to_decomposed(bytes: &[u8]) -> bool
+    ensures { IsTrue result ↔ IsOneOf reserved_to_decomposed bytes.now }
 {
     is_text(bytes, "action")
         || is_text(bytes, "after")
@@ -72,7 +72,6 @@ fn is_reserved_to_end(bytes: &[u8]) -> bool
         || is_text(bytes, "concurrent")
         || is_text(bytes, "condition")
         || is_text(bytes, "decomposed")
-        || is_text(bytes, "end")
 }
 
 /// Whether the bytes are one of the reserved words from `endconcurrent` to `inst`.
@@ -132,7 +131,7 @@ fn is_reserved_to_when(bytes: &[u8]) -> bool
 pub fn is_reserved(bytes: &[u8]) -> bool
     ensures { IsTrue result ↔ IsReserved bytes.now }
 {
-    is_reserved_to_end(bytes)
+    is_reserved_to_decomposed(bytes)
         || is_reserved_to_inst(bytes)
         || is_reserved_to_out(bytes)
         || is_reserved_to_when(bytes)

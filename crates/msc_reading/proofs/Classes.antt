@@ -7,7 +7,7 @@ use Rattle.std.proofs.lemmas.Bool.{and_parts, not-true, or_cases, and_from}
 use Rattle.std.proofs.lemmas.Bool.Decides.{eqb_tells, Decides-and, Decides-or, Decides-not, Decides-by_and, Decides-ltb, Decides-eqb}
 use Rattle.std.proofs.lemmas.List.Folds.{Any-from_list_any, list_any-from_Any}
 use Rattle.std.proofs.lemmas.Slice.Eq.{bytes_eq-Decides}
-use Rattle.msc_base.specs.Names.{IsLetterOrDigit, IsWordByte, IsWord, IsOneOf, IsReserved, IsName, reserved_to_end, reserved_to_inst, reserved_to_out, reserved_to_when}
+use Rattle.msc_base.specs.Names.{IsLetterOrDigit, IsWordByte, IsWord, IsOneOf, IsReserved, IsName, reserved_to_decomposed, reserved_to_inst, reserved_to_out, reserved_to_when}
 use Rattle.msc_reading.specs.Classes.{Class, exactly, name_but, string, number, fits, differ, covers, is_digit, is_letter_or_digit, is_word_byte, is_one_of, is_reserved, is_word, is_name, is_string, is_number}
 
 both : true ≡ false → ⊥
@@ -119,7 +119,7 @@ one_of_decides (w ∷ ws) bytes = Decides-or (bytes_eq bytes w) (is_one_of ws by
 
 reserved_decides : (bytes : List ℕ) → Decides (is_reserved bytes) (IsReserved bytes)
 reserved_decides bytes =
-    Decides-or (is_one_of reserved_to_end bytes) (is_one_of reserved_to_inst bytes || (is_one_of reserved_to_out bytes || is_one_of reserved_to_when bytes)) (one_of_decides reserved_to_end bytes)
+    Decides-or (is_one_of reserved_to_decomposed bytes) (is_one_of reserved_to_inst bytes || (is_one_of reserved_to_out bytes || is_one_of reserved_to_when bytes)) (one_of_decides reserved_to_decomposed bytes)
     (Decides-or (is_one_of reserved_to_inst bytes) (is_one_of reserved_to_out bytes || is_one_of reserved_to_when bytes) (one_of_decides reserved_to_inst bytes)
     (Decides-or (is_one_of reserved_to_out bytes) (is_one_of reserved_to_when bytes) (one_of_decides reserved_to_out bytes) (one_of_decides reserved_to_when bytes)))
 

@@ -2,7 +2,7 @@
 use Rattle.std.specs.Prelude.{ℕ, Bool, true, false, not, ◌&&◌, ◌||◌, List, [], ◌∷◌, length, nat_eq, nat_lt}
 use Rattle.std.specs.List.{list_any, list_all}
 use Rattle.std.specs.Str.{bytes_eq}
-use Rattle.msc_base.specs.Names.{reserved_to_end, reserved_to_inst, reserved_to_out, reserved_to_when}
+use Rattle.msc_base.specs.Names.{reserved_to_decomposed, reserved_to_inst, reserved_to_out, reserved_to_when}
 use Rattle.msc_tokens.specs.declared.token.Token.{Token}
 use Rattle.msc_tokens.specs.declared.token.TokenKind.TheVariants.{Mark}
 use Rattle.msc_tokens.specs.Places.{first_place}
@@ -23,7 +23,7 @@ is_one_of [] bytes = false
 is_one_of (w ∷ ws) bytes = bytes_eq bytes w || is_one_of ws bytes
 
 abbrev pub is_reserved : List ℕ → Bool
-is_reserved bytes = is_one_of reserved_to_end bytes || (is_one_of reserved_to_inst bytes || (is_one_of reserved_to_out bytes || is_one_of reserved_to_when bytes))
+is_reserved bytes = is_one_of reserved_to_decomposed bytes || (is_one_of reserved_to_inst bytes || (is_one_of reserved_to_out bytes || is_one_of reserved_to_when bytes))
 
 -- word bytes alone, one of them a letter or a digit, at most 255 of them
 abbrev pub is_word : List ℕ → Bool
