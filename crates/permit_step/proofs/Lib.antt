@@ -24,3 +24,4 @@ pub mod Witness
 pub mod SetExact
 pub mod ConstructorForms
 pub mod Later
+mod Missed

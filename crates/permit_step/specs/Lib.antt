@@ -8,3 +8,4 @@ pub mod Sound
 pub mod ConstructorLaws
 pub mod Listing
 pub mod LaterTables
+pub mod Missed
