@@ -1,20 +1,18 @@
 -- Permission by a block that misses a term in normal form gives the term back.
-use Rattle.std.specs.Prelude.{ℕ, ◌≤◌, Bool, true, false, List, [], ◌∷◌, ◌++◌, ◌≡◌, ◌&&◌, ◌||◌, ◌==◌, not, Option, Some, None, refl, filter, ltb, min, max, nat_le}
+use Rattle.std.specs.Prelude.{ℕ, Bool, true, false, List, [], ◌∷◌, ◌++◌, ◌≡◌, ◌&&◌, ◌||◌, ◌==◌, not, Option, Some, None, refl, ltb}
 use Rattle.std.specs.List.{list_any}
 use Rattle.std.specs.Option.{option_map}
-use Rattle.std.proofs.Common.{ap, ap₂, subst, ◌∙◌, sym, arith, cond, nat_eq}
+use Rattle.std.proofs.Common.{ap, ap₂, subst, ◌∙◌, sym, arith, cond}
 use Rattle.std.proofs.lemmas.Bool.{eq-eqb, eqb-true}
 use Rattle.std.proofs.lemmas.Bool.Decides.{nat_tests}
 use Rattle.std.proofs.lemmas.List.Folds.{list_any-append}
-use Rattle.msc_base.specs.Blocks.{BlockValue}
-use Rattle.msc_base.specs.Patterns.{Mode}
 use Rattle.chart_term.specs.declared.facts.Span.{Span}
 use Rattle.chart_term.specs.Facts.{has_trail, any_trail, row_trail, instances, instances_all, instances_row, misses, span_of, lies_in, wider as wider_span}
-use Rattle.chart_term.specs.NormalForms.{NetPermits, only, cut, join_all, and_then, or_skip, unless, choice_of, bound_of, cut_gaps, drop_nil, at_zero, live, has_free, drop_free, lower_of, thin, turns_end, turns_of, turns_in, numbers, numbers_all, numbers_row}
+use Rattle.chart_term.specs.NormalForms.{NetPermits, only, cut, join_all, and_then, or_skip, unless, choice_of, bound_of, cut_gaps, drop_nil, at_zero, live, has_free, drop_free, lower_of, thin, turns_end, turns_in, numbers, numbers_all, numbers_row}
 use Rattle.chart_term.specs.TermPatterns.{instances_of, some_list}
 use Rattle.chart_term.specs.Terms.{Block, TermEvent, has, has_some, hits, add_at, add_member, ◌∪◌, Tree, Nil, Event, Join, Choice, Bound, Turns, Trail, Trees, none, more, Row, ends, gap, turn, items, Part, Gap, Turn, parts}
 use Rattle.permit_step.specs.Missed.{block_of, PermitOfMissed}
-use Rattle.permit_step.specs.Normality.{IsNormal, AreNormal, IsNormalRow, IsNormalLoop}
+use Rattle.permit_step.specs.Normality.{IsNormal, AreNormal, IsNormalRow}
 use Rattle.permit_step.specs.Permission.{permit, permit_all, permit_some, permit_row, permits_of, touch, touch_all, touch_row, wider, with_turn}
 use Rattle.permit_step.proofs.Identity.{join_same, choice_same, bound_same, turns_same}
 
