@@ -43,7 +43,7 @@ of_same m none h = absurd h
 of_same m (more x none) h = absurd h
 of_same m (more x (more y xs)) h = ap (λ l. Join m (more x (more y l))) (trees-items xs)
 
-join_same : (m : Mode) (xs : Trees) → Each (IsPartOf m) (items xs) → AreTwoOrMore xs → join_all m (items xs) ≡ Join m xs
+pub join_same : (m : Mode) (xs : Trees) → Each (IsPartOf m) (items xs) → AreTwoOrMore xs → join_all m (items xs) ≡ Join m xs
 join_same m xs h t = ap (join_of m) (flat_same m (items xs) h) ∙ of_same m xs t
 
 -- choices
@@ -73,7 +73,7 @@ form_same none h = absurd h
 form_same (more x none) h = absurd h
 form_same (more x (more y xs)) h = ap (λ l. Some (Choice (more x (more y l)))) (trees-items xs)
 
-choice_same : (xs : Trees) → Each IsAlternative (items xs) → AreTwoOrMore xs → AreDifferent (items xs) → choice_of (items xs) ≡ Some (Choice xs)
+pub choice_same : (xs : Trees) → Each IsAlternative (items xs) → AreTwoOrMore xs → AreDifferent (items xs) → choice_of (items xs) ≡ Some (Choice xs)
 choice_same xs h t d = (λ i. choice_form (distinct (choices_same (items xs) h i))) ∙ (ap choice_form (distinct_same (items xs) d) ∙ form_same xs t)
 
 -- bound terms
@@ -97,7 +97,7 @@ tie_same : (x : Tree) (q : List (ℕ × ℕ)) → IsSomePair q → bound_form x 
 tie_same x [] h = absurd h
 tie_same x (p ∷ q) h = refl
 
-bound_same : (x : Tree) (q : List (ℕ × ℕ)) → IsSomePair q → AreShown (numbers x) q → ArePairsOnce q → bound_of x q ≡ Bound x q
+pub bound_same : (x : Tree) (q : List (ℕ × ℕ)) → IsSomePair q → AreShown (numbers x) q → ArePairsOnce q → bound_of x q ≡ Bound x q
 bound_same x q s h o = ap (bound_form x) (pairs_same (numbers x) q h o) ∙ tie_same x q s
 
 -- loops
@@ -155,7 +155,7 @@ thin_same (Gap c ∷ ps) h = ap (thin_gap c) (thin_same ps h.1) ∙ gap_same c p
 thin_same (Turn x ∷ ps) h = ap (λ l. Turn x ∷ l) (thin_same ps h)
 
 module _ (k : NetPermits) where
-  turns_same : (x : Tree) (lo : ℕ) (hi : Option ℕ) (r : Row) → IsNormalLoop k x hi (parts r) → turns_of (λ c. permit k (only c) x) (touch k.spread x) x lo hi (parts r) ≡ Some (Turns x lo hi r)
+  pub turns_same : (x : Tree) (lo : ℕ) (hi : Option ℕ) (r : Row) → IsNormalLoop k x hi (parts r) → turns_of (λ c. permit k (only c) x) (touch k.spread x) x lo hi (parts r) ≡ Some (Turns x lo hi r)
   turns_same x lo hi r h =
       let p : List ℕ → Option Tree = λ c. permit k (only c) x in
       let all : List ℕ = touch k.spread x in

@@ -43,3 +43,4 @@ pub mod Even
 pub mod Selfless
 pub mod SoundParts
 pub mod Numbers
+mod Missed

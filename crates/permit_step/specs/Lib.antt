@@ -10,3 +10,4 @@ pub mod Listing
 pub mod LaterTables
 pub mod OneResidual
 pub mod FullSoundness
+pub mod Missed

@@ -1,5 +1,6 @@
 //! The laws of terms. Each is the contract of a function that does nothing.
 
+ghost use Rattle.permit_step.specs.Missed.{PermitOfMissed};
 ghost use Rattle.permit_step.specs.ConstructorLaws.{PermitOnlyFalls, PermitOfNothing, NormalFormsKeepPatterns, ConstructorsKeepForm};
 ghost use Rattle.permit_step.specs.LaterTables.{LaterTablesAgree};
 ghost use Rattle.permit_step.specs.Listing.{ListIsExact, ResidualSetIsExact};
@@ -129,4 +130,10 @@ pub fn fresh_terms_are_sound()
 #[tactic(auto, using(crate::proofs::SoundForms::constructors_keep_soundness))]
 pub fn constructors_keep_soundness()
     ensures { ConstructorsKeepSoundness }
+{}
+
+/// Permission by a block that misses a term in normal form gives the term back.
+#[tactic(auto, using(crate::proofs::Missed::permit_of_missed))]
+pub fn permission_of_missed()
+    ensures { PermitOfMissed }
 {}

@@ -1,0 +1,16 @@
+-- Permission by a block that misses the term.
+use Rattle.std.specs.Prelude.{◌≡◌, true, Some}
+use Rattle.msc_base.specs.Blocks.{BlockValue}
+use Rattle.chart_term.specs.Facts.{misses}
+use Rattle.chart_term.specs.Tables.{Tables}
+use Rattle.chart_term.specs.Terms.{Block, Tree}
+use Rattle.permit_step.specs.Normality.{IsNormalOver}
+use Rattle.permit_step.specs.Permission.{permit, permits_of}
+
+-- the block of these sets
+abbrev pub block_of : BlockValue → Block
+block_of b = record { instances = b.instances; numbers = b.events }
+
+-- permission by a block that misses a term in normal form gives the term back
+pub record PermitOfMissed : Type 0 where
+  pub same : (w : Tables) (b : BlockValue) (x : Tree) → IsNormalOver w x → misses b x ≡ true → permit (permits_of w) (block_of b) x ≡ Some x
