@@ -1,6 +1,8 @@
 pub mod Beginnings
+pub mod ChartRules
 pub mod ColumnRules
 pub mod Continued
+pub mod DocumentRules
 pub mod ItemRules
 pub mod LineRules
 pub mod Lines

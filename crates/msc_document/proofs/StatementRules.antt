@@ -88,7 +88,7 @@ OutRules n p = TailRules false outside_operand Held none_yet First Behind no_end
 abbrev pub OutParts : ℕ → Type 0
 OutParts n = PartLaws false outside_operand Held none_yet First Behind no_end no_closing n
 
-covered_is : (n : ℕ) → covered_of (some (OutEvents n)) (some (OutMultis n)) ≡ covered n
+pub covered_is : (n : ℕ) → covered_of (some (OutEvents n)) (some (OutMultis n)) ≡ covered n
 unfolding covered
 covered_is zero = refl
 covered_is (suc n) = refl
@@ -110,7 +110,7 @@ Openings n = opening_of (OutEvents n) (OutMultis n)
 
 -- ---- a statement up to its first item
 
-openings_law : (n : ℕ) → OutLaws n → Law Openings n opening_words none
+pub openings_law : (n : ℕ) → OutLaws n → Law Openings n opening_words none
 openings_law n t =
     let e = as_law {R = OutEvents} alone none (out_events_law n t) (λ a. refl) in
     let m = as_law {R = OutMultis} alone none (out_multis_law n t) (λ a. refl) in
@@ -119,7 +119,7 @@ openings_law n t =
     (as_law (λ p. list p.0 p.1) none (behind_law (just (codes ",")) (seq_law (name_list_law n) (behind_law (just (codes ":")) m) (λ a. refl))) (λ a. refl)) refl) (λ a. refl)) (λ a. refl))
     (as_law (λ held. Covered All (items held)) none (behind_law (just (codes "all")) (behind_law (just (codes ":")) m)) (λ a. refl)) refl
 
-openings_rule : (n : ℕ) (p : Tails) → OutRules n p → Rule Openings n opening_words none (opening_at (outside_event_at n p) (outside_multi_at n p))
+pub openings_rule : (n : ℕ) (p : Tails) → OutRules n p → Rule Openings n opening_words none (opening_at (outside_event_at n p) (outside_multi_at n p))
 openings_rule n p t =
     let e = as_rule {R = OutEvents} alone none (out_events_rule n p t) (λ a. refl) in
     let m = as_rule {R = OutMultis} alone none (out_multis_rule n p t) (λ a. refl) in
