@@ -292,3 +292,10 @@ ended e = ((None, []), Some e)
 abbrev pub parts_at : ℕ → List Token → Read Parts
 parts_at n = either_at (just (codes "mscdocument")) (map_at headed (tail_at (just (codes "endmscdocument")) (chain_at (just (codes "msc")) heading_at (chart_at n)) document_end_at))
     (either_at (just (codes "msc")) (map_at unheaded (tail_at (just (codes "endmscdocument")) (chain_at (just (codes "msc")) (chart_at n) (chart_at n)) document_end_at)) (map_at ended document_end_at))
+
+abbrev pub empty_document : Document
+empty_document = record { heading = None; charts = [] }
+
+abbrev pub document_at : ℕ → List Token → Read Document
+document_at n [] = Ok (empty_document, [])
+document_at n (t ∷ ts) = map_at parts_of (parts_at n) (t ∷ ts)

@@ -1,2 +1,9 @@
 //! Documents of charts, as they are read from tokens.
+//!
+//! `specs/` says how a document is written, production by production, and has the readers that the productions prove
+//! exact.
 #![tactic(auto)]
+
+mod laws;
+
+pub use laws::documents_are_exact;
