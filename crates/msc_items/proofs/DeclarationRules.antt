@@ -3,15 +3,17 @@ use Rattle.std.proofs.Common.{ℕ, ◌≡◌, ◌++◌, Bool, true, false, cond,
 use Rattle.msc_base.specs.declared.place.Place.{Place}
 use Rattle.msc_tokens.specs.declared.token.Token.{Token}
 use Rattle.msc_tree.specs.declared.chart.Decl.{Decl}
-use Rattle.msc_reading.specs.Languages.{Set, Read, ◌>>=◌, apart, starts, just, names, seq_at, map_at, tail_at, tail_ends, behind_at}
+use Rattle.msc_reading.specs.Languages.{Set, among, Read, ◌>>=◌, apart, starts, just, names, seq_at, map_at, tail_at, tail_ends, behind_at}
+use Rattle.msc_reading.specs.Classes.{token_of}
+use Rattle.msc_reading.specs.Grammars.{Grammar}
 use Rattle.msc_reading.specs.Parts.{kept, all_or_none}
 use Rattle.msc_reading.specs.PartReaders.{placed_name_at}
 use Rattle.msc_reading.proofs.Flats.{rule_by}
 use Rattle.msc_reading.proofs.Rules.{Law, Rule, seq_rule, or_rule, as_rule, tail_rule}
 use Rattle.msc_reading.proofs.Optionals.{none, mapped, paired, optional_rule, behind_rule}
 use Rattle.msc_reading.proofs.PartRules.{law_by, name_rule, placed_name_rule, ending_rule, ends, placed_rule, final, final_apart, both_apart, listed_rule, name_list_rule}
-use Rattle.msc_items.specs.Declarations.{heading, kind_of, kind, refinement, decl_of, decl, decl_list, declaration, of_decls, of_messages, of_timers, head}
-use Rattle.msc_items.specs.DeclarationReaders.{heading_at, kind_at, colon_kind_at, refinement_at, some_refinement_at, decl_at, decl_list_at, declaration_at, head_at, head_words}
+use Rattle.msc_items.specs.Declarations.{heading, kind_of, kind, refinement, decl_of, decl, decl_list, declaration, of_decls, of_messages, of_timers, line, head}
+use Rattle.msc_items.specs.DeclarationReaders.{heading_at, kind_at, colon_kind_at, refinement_at, some_refinement_at, decl_at, decl_list_at, declaration_at, line_at, head_at, head_words}
 
 pub heading_rule : (n : ℕ) → Rule (λ m. heading) n (just (codes "mscdocument")) none heading_at
 heading_rule n = behind_rule (just (codes "mscdocument")) (codes "mscdocument") refl (as_rule (λ p. record { name = p.0; related = p.1.0 }) none
@@ -154,11 +156,15 @@ declaration_rule n = behind_rule (just (codes "instance")) (codes "instance") re
 
 -- ---- the heads of a chart
 
+line_rule : {A : Type 0} {R : Grammar A} {C : A → Set} {p : List Token → Read A} (text : List ℕ) (n : ℕ) → among (just text) (token_of text) ≡ true → ((a : A) → apart ends (C a) ≡ true) → Rule (λ m. R) n names C p
+    → Rule (λ m. line text R) n (just text) none (line_at text p)
+line_rule text n is free r = as_rule (λ p. p.0) none (behind_rule (just text) text is (seq_rule r (ending_rule n) free)) (λ a. refl)
+
 pub head_rule : (n : ℕ) → Rule (λ m. head) n head_words none head_at
 head_rule n =
-    or_rule (as_rule (λ p. of_decls p.0) none (behind_rule (just (codes "inst")) (codes "inst") refl (seq_rule (decl_list_rule n) (ending_rule n) decls_free)) (λ a. refl))
-    (or_rule (as_rule (λ p. of_messages p.0) none (behind_rule (just (codes "msg")) (codes "msg") refl (seq_rule (name_list_rule n) (ending_rule n) (λ a. refl))) (λ a. refl))
-    (as_rule (λ p. of_timers p.0) none (behind_rule (just (codes "timer")) (codes "timer") refl (seq_rule (name_list_rule n) (ending_rule n) (λ a. refl))) (λ a. refl)) refl) refl
+    or_rule (as_rule of_decls none (line_rule (codes "inst") n refl decls_free (decl_list_rule n)) (λ a. refl))
+    (or_rule (as_rule of_messages none (line_rule (codes "msg") n refl (λ a. refl) (name_list_rule n)) (λ a. refl))
+    (as_rule of_timers none (line_rule (codes "timer") n refl (λ a. refl) (name_list_rule n)) (λ a. refl)) refl) refl
 
 -- ---- their laws
 

@@ -1,3 +1,4 @@
 pub mod DeclarationRules
 pub mod EventRules
+pub mod HeadLists
 pub mod MultiRules

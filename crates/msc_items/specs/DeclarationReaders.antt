@@ -1,5 +1,5 @@
 -- Readers of the productions of declarations.
-use Rattle.std.specs.Prelude.{ℕ, List, [], ◌∷◌, Option, Ok, length, codes}
+use Rattle.std.specs.Prelude.{ℕ, List, [], ◌∷◌, ◌++◌, Option, Ok, length, codes}
 use Rattle.msc_base.specs.declared.place.Place.{Place}
 use Rattle.msc_tokens.specs.declared.token.Token.{Token}
 use Rattle.msc_tree.specs.declared.chart.Decl.{Decl}
@@ -8,8 +8,8 @@ use Rattle.msc_reading.specs.Classes.{exactly}
 use Rattle.msc_reading.specs.Languages.{Set, Read, just, names, ◌>>=◌, each_at, seq_at, either_at, map_at, tail_at, optional_at, behind_at}
 use Rattle.msc_reading.specs.Parts.{kept, all_or_none}
 use Rattle.msc_reading.specs.PartReaders.{name_at, placed_name_at, placed_at, ending_at, separated_at, more_at, name_list_at}
-use Rattle.msc_items.specs.Declarations.{kind_of, decl_of, of_decls, of_messages, of_timers, both_heads, all_heads}
-use Rattle.msc_items.specs.declared.head.Heads.{Heads}
+use Rattle.msc_items.specs.Declarations.{kind_of, decl_of, Head, of_decls, of_messages, of_timers, with_head, with_heads, declared_by}
+use Rattle.msc_items.specs.declared.head_parts.Heads.{Heads}
 
 abbrev pub related_at : List Token → Read (Option (List ℕ))
 related_at = optional_at (just (codes "related")) kept (behind_at (just (codes "related")) (behind_at (just (codes "to")) name_at))
@@ -56,25 +56,41 @@ declared_at at = map_at (λ d. decl_of at d.0 d.1) declaration_at
 
 -- ---- the heads of a chart
 
-abbrev pub decls_head_at : List Token → Read Heads
-decls_head_at = map_at (λ p. of_decls p.0) (behind_at (just (codes "inst")) (seq_at decl_list_at ending_at))
+abbrev pub line_at : {A : Type 0} → List ℕ → (List Token → Read A) → List Token → Read A
+line_at text q = map_at (λ p. p.0) (behind_at (just text) (seq_at q ending_at))
 
-abbrev pub messages_head_at : List Token → Read Heads
-messages_head_at = map_at (λ p. of_messages p.0) (behind_at (just (codes "msg")) (seq_at name_list_at ending_at))
+-- declarations, or names, appended to those that there are
+abbrev pub decls_onto_at : List Decl → List Token → Read (List Decl)
+decls_onto_at front = map_at (λ l. front ++ l) decl_list_at
 
-abbrev pub timers_head_at : List Token → Read Heads
-timers_head_at = map_at (λ p. of_timers p.0) (behind_at (just (codes "timer")) (seq_at name_list_at ending_at))
+abbrev pub names_onto_at : List (List ℕ) → List Token → Read (List (List ℕ))
+names_onto_at front = map_at (λ l. front ++ l) name_list_at
 
-abbrev pub head_at : List Token → Read Heads
-head_at = either_at (just (codes "inst")) decls_head_at (either_at (just (codes "msg")) messages_head_at timers_head_at)
+abbrev pub head_at : List Token → Read Head
+head_at = either_at (just (codes "inst")) (map_at of_decls (line_at (codes "inst") decl_list_at))
+    (either_at (just (codes "msg")) (map_at of_messages (line_at (codes "msg") name_list_at)) (map_at of_timers (line_at (codes "timer") name_list_at)))
 
 abbrev pub head_words : Set
 head_words = exactly (codes "inst") ∷ exactly (codes "msg") ∷ exactly (codes "timer") ∷ []
 
+-- the declarations, the messages or the timers of one head, behind what was declared
+abbrev pub decls_head_at : Heads → List Token → Read Heads
+decls_head_at front = map_at (λ h. with_head front h) (map_at of_decls (line_at (codes "inst") decl_list_at))
+
+abbrev pub messages_head_at : Heads → List Token → Read Heads
+messages_head_at front = map_at (λ h. with_head front h) (map_at of_messages (line_at (codes "msg") name_list_at))
+
+abbrev pub timers_head_at : Heads → List Token → Read Heads
+timers_head_at front = map_at (λ h. with_head front h) (map_at of_timers (line_at (codes "timer") name_list_at))
+
+-- one head, behind what was declared
+abbrev pub next_head_at : Heads → List Token → Read Heads
+next_head_at front = map_at (λ h. with_head front h) head_at
+
 -- at most so many heads, behind what was declared
 abbrev pub more_heads_at : Heads → ℕ → List Token → Read Heads
-more_heads_at front k ts = each_at head_words head_at k ts >>= λ x. Ok (both_heads front (all_heads x.0), x.1)
+more_heads_at front k ts = each_at head_words head_at k ts >>= λ x. Ok (with_heads front x.0, x.1)
 
--- all heads that there are
-abbrev pub heads_at : List Token → Read (List Heads)
-heads_at ts = each_at head_words head_at (length ts) ts
+-- what all heads that there are declare
+abbrev pub heads_at : List Token → Read Heads
+heads_at ts = each_at head_words head_at (length ts) ts >>= λ x. Ok (declared_by x.0, x.1)

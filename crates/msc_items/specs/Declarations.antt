@@ -6,7 +6,7 @@ use Rattle.msc_tree.specs.declared.chart.Heading.{Heading}
 use Rattle.msc_reading.specs.Languages.{just}
 use Rattle.msc_reading.specs.Grammars.{Grammar, seq, or, read_as, tail, optional, behind}
 use Rattle.msc_reading.specs.Parts.{name, placed_name, ending, kept, all_or_none, placed, separated, name_list}
-use Rattle.msc_items.specs.declared.head.Heads.{Heads}
+use Rattle.msc_items.specs.declared.head_parts.Heads.{Heads}
 
 -- the heading of a document: "mscdocument" name [ "related" "to" name ] end
 abbrev pub heading : Grammar Heading
@@ -47,26 +47,29 @@ declaration = behind (just (codes "instance")) (read_as (λ p. (p.0, p.1.0)) (op
 -- ---- the heads of a chart
 
 -- what one head declares
-abbrev pub of_decls : List Decl → Heads
-of_decls decls = record { decls = decls; messages = []; timers = [] }
+pub data Head : Type 0 where
+  of_decls : List Decl → Head
+  of_messages : List (List ℕ) → Head
+  of_timers : List (List ℕ) → Head
 
-abbrev pub of_messages : List (List ℕ) → Heads
-of_messages names = record { decls = []; messages = names; timers = [] }
-
-abbrev pub of_timers : List (List ℕ) → Heads
-of_timers names = record { decls = []; messages = []; timers = names }
+-- a list behind a word, and the end
+abbrev pub line : {A : Type 0} → List ℕ → Grammar A → Grammar A
+line text list = read_as (λ p. p.0) (behind (just text) (seq list ending))
 
 -- head = "inst" decl { "," decl } end | "msg" names end | "timer" names end
-abbrev pub head : Grammar Heads
-head = or (read_as (λ p. of_decls p.0) (behind (just (codes "inst")) (seq decl_list ending)))
-    (or (read_as (λ p. of_messages p.0) (behind (just (codes "msg")) (seq name_list ending)))
-    (read_as (λ p. of_timers p.0) (behind (just (codes "timer")) (seq name_list ending))))
+abbrev pub head : Grammar Head
+head = or (read_as of_decls (line (codes "inst") decl_list)) (or (read_as of_messages (line (codes "msg") name_list)) (read_as of_timers (line (codes "timer") name_list)))
 
--- what two heads declare
-abbrev pub both_heads : Heads → Heads → Heads
-both_heads one other = record { decls = one.decls ++ other.decls; messages = one.messages ++ other.messages; timers = one.timers ++ other.timers }
+-- what is declared, with one head more
+abbrev pub with_head : Heads → Head → Heads
+with_head front (of_decls list) = record { decls = front.decls ++ list; messages = front.messages; timers = front.timers }
+with_head front (of_messages list) = record { decls = front.decls; messages = front.messages ++ list; timers = front.timers }
+with_head front (of_timers list) = record { decls = front.decls; messages = front.messages; timers = front.timers ++ list }
+
+abbrev pub with_heads : Heads → List Head → Heads
+with_heads front [] = front
+with_heads front (one ∷ rest) = with_heads (with_head front one) rest
 
 -- what the heads of a chart declare
-abbrev pub all_heads : List Heads → Heads
-all_heads [] = record { decls = []; messages = []; timers = [] }
-all_heads (one ∷ rest) = both_heads one (all_heads rest)
+abbrev pub declared_by : List Head → Heads
+declared_by list = with_heads (record { decls = []; messages = []; timers = [] }) list

@@ -132,7 +132,7 @@ fn comma_decl(alloc: Global, tokens: &[Token]) -> Result<(Decl, &[Token]), ReadF
 }
 
 /// Other declarations, each behind a comma, appended to the list.
-fn more_decls(
+pub fn more_decls(
     alloc: Global,
     tokens: &[Token],
     front: DeclList,

@@ -8,9 +8,19 @@ mod act;
 mod address;
 mod declaration;
 mod event_parts;
+mod events;
 mod head;
+mod head_parts;
 mod joining;
+mod laws;
 mod shared;
-mod single;
+#[cfg(test)]
+mod tests;
 
 pub use declaration::{decl, declared, decls, heading};
+pub use events::{coregion, single, starts_with_single, stop};
+pub use head::heads;
+pub use head_parts::Heads;
+pub use joining::joins;
+pub use laws::{declarations_are_exact, events_are_exact, shared_parts_are_exact};
+pub use shared::{condition, shared_in};

@@ -3,6 +3,7 @@ pub mod Chains
 pub mod Classes
 pub mod Eaches
 pub mod Eithers
+pub mod Exact
 pub mod Factors
 pub mod Flats
 pub mod Items

@@ -1,5 +1,6 @@
 pub mod Answers
 pub mod Classes
+pub mod Exactness
 pub mod Factored
 pub mod Grammars
 pub mod Languages

@@ -2,8 +2,8 @@ use Rattle.std.proofs.Common.{◌∙◌, sym, subst, arith, length, ◌-◌, ◌
 use Rattle.msc_reading.specs.Answers.{Fails}
 use Rattle.msc_items.specs.EventReaders.{single_at, single_words}
 use Rattle.msc_reading.proofs.Loops.{none_yet, no_more, ends_here, next_one, stops_here}
-use Rattle.msc_items.proofs.single.singles.Goals.{else-loop-k-test, then-loop-k-test+then-not-starts_with_single}
-use Rattle.msc_items.proofs.single.singles.Goals as goal
+use Rattle.msc_items.proofs.events.singles.Goals.{else-loop-k-test, then-loop-k-test+then-not-starts_with_single}
+use Rattle.msc_items.proofs.events.singles.Goals as goal
 
 pub loop-k-init : goal.loop-k-init
 loop-k-init c = none_yet single_words single_at _ _ (length c.args.tokens.now) c.args.tokens.now c.new-events.ensures (omega arith)
