@@ -3,11 +3,12 @@ use Rattle.std.proofs.Common.{ℕ, ◌≡◌, ◌++◌, true, List, [], refl, Op
 use Rattle.msc_tokens.specs.declared.token.Token.{Token}
 use Rattle.msc_reading.specs.Languages.{Set, apart, just, numbers, Read, seq_at}
 use Rattle.msc_reading.specs.Grammars.{Grammar}
+use Rattle.msc_reading.specs.Parts.{kept as as_written}
 use Rattle.msc_reading.proofs.Lists.{apart_none}
 use Rattle.msc_reading.proofs.Rules.{Law, Rule, seq_rule, or_rule, as_rule}
 use Rattle.msc_reading.proofs.Optionals.{none, optional_law, optional_rule, behind_rule}
 use Rattle.msc_reading.proofs.PartRules.{law_by, digits_rule, mark_rule}
-use Rattle.msc_expression.specs.Bounds.{kept, bound, upper_bound, bounds_of, same, bounds, or_once, with_bounds, bound_at, upper_bound_at, bounds_at, loop_bounds_at}
+use Rattle.msc_expression.specs.Bounds.{kept, bound, upper_bound, bounds_of, bounds, or_once, with_bounds, bound_at, upper_bound_at, bounds_at, loop_bounds_at}
 
 bound_rule : (n : ℕ) → Rule (λ m. bound) n numbers none bound_at
 bound_rule n = as_rule kept none (digits_rule n) (λ a. refl)
@@ -17,7 +18,7 @@ upper_bound_rule n = or_rule (as_rule (λ t. None) none (mark_rule (codes "inf")
 
 pub bounds_rule : (n : ℕ) → Rule (λ m. bounds) n (just (codes "<")) none bounds_at
 bounds_rule n = behind_rule (just (codes "<")) (codes "<") refl (as_rule (λ p. bounds_of p.0 p.1.0) none
-    (seq_rule (bound_rule n) (optional_rule same (behind_rule (just (codes ",")) (codes ",") refl (upper_bound_rule n)) (mark_rule (codes ">") refl n) (λ a. refl) refl) (λ a. refl)) (λ a. refl))
+    (seq_rule (bound_rule n) (optional_rule as_written (behind_rule (just (codes ",")) (codes ",") refl (upper_bound_rule n)) (mark_rule (codes ">") refl n) (λ a. refl) refl) (λ a. refl)) (λ a. refl))
 
 pub bounds_law : (n : ℕ) → Law (λ m. bounds) n (just (codes "<")) none
 bounds_law = law_by bounds_rule

@@ -4,7 +4,7 @@ use Rattle.std.specs.Str.Parse.{digits_value}
 use Rattle.msc_tokens.specs.declared.token.Token.{Token}
 use Rattle.msc_reading.specs.Languages.{Read, just, seq_at, either_at, map_at, optional_at, behind_at}
 use Rattle.msc_reading.specs.Grammars.{Grammar, seq, or, read_as, optional, behind}
-use Rattle.msc_reading.specs.Parts.{digits, mark}
+use Rattle.msc_reading.specs.Parts.{digits, mark, kept as as_written}
 use Rattle.msc_reading.specs.PartReaders.{digits_at, mark_at}
 use Rattle.msc_expression.specs.declared.bounds.Bounds.{Bounds}
 
@@ -24,12 +24,9 @@ abbrev pub bounds_of : ℕ → Option (Option ℕ) → Bounds
 bounds_of lower None = record { lower = lower; upper = Some lower }
 bounds_of lower (Some upper) = record { lower = lower; upper = upper }
 
-abbrev pub same : {A : Type 0} → A → A
-same a = a
-
 -- bounds = "<" digits [ "," ( "inf" | digits ) ] ">"
 abbrev pub bounds : Grammar Bounds
-bounds = behind (just (codes "<")) (read_as (λ p. bounds_of p.0 p.1.0) (seq bound (optional same (behind (just (codes ",")) upper_bound) (mark (codes ">")))))
+bounds = behind (just (codes "<")) (read_as (λ p. bounds_of p.0 p.1.0) (seq bound (optional as_written (behind (just (codes ",")) upper_bound) (mark (codes ">")))))
 
 -- a loop without bounds is taken once at least, and as often as one likes
 abbrev pub or_once : Option Bounds → Bounds
@@ -49,7 +46,7 @@ abbrev pub upper_bound_at : List Token → Read (Option ℕ)
 upper_bound_at = either_at (just (codes "inf")) (map_at (λ t. None) (mark_at (codes "inf"))) (map_at Some bound_at)
 
 abbrev pub comma_bound_at : List Token → Read (Option (Option ℕ))
-comma_bound_at = optional_at (just (codes ",")) same (behind_at (just (codes ",")) upper_bound_at)
+comma_bound_at = optional_at (just (codes ",")) as_written (behind_at (just (codes ",")) upper_bound_at)
 
 abbrev pub bounds_at : List Token → Read Bounds
 bounds_at = behind_at (just (codes "<")) (map_at (λ p. bounds_of p.0 p.1.0) (seq_at bound_at (seq_at comma_bound_at (mark_at (codes ">")))))

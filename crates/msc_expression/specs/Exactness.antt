@@ -5,8 +5,8 @@ use Rattle.msc_reading.specs.Grammars.{Grammar}
 use Rattle.msc_reading.specs.Languages.{Read, refused, deep}
 use Rattle.msc_reading.specs.Parsing.{IsRefused, IsTooDeep}
 
--- The tokens read as the value, where none is left; otherwise the first of those that are left is refused. So is the
--- token of a refusal, and one that opens a level too many does so.
+-- Where the reader takes all tokens, they read as its value. Otherwise the first token that it leaves is the first that
+-- can't stand there, or that opens a level too many.
 abbrev pub IsExact : {A : Type 0} → (ℕ → Grammar A) → ℕ → List Token → Read A → Type 0
 IsExact R n tokens (Ok (a, [])) = (R n).reads tokens a
 IsExact R n tokens (Ok (a, t ∷ rest)) = IsRefused R n tokens (length (t ∷ rest))

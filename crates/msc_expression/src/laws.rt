@@ -15,12 +15,10 @@ ghost use Rattle.msc_expression.specs.Exactness.{IsExact};
 pub fn expressions_are_exact()
     ensures one { OneReading expression }
     ensures exact { (n : ℕ) (tokens : List Token) → IsExact expression n tokens (expression_at n tokens) }
-{
-}
+{}
 
 /// The same of the graph of a chart, up to the word that ends the chart.
 pub fn graphs_are_exact()
     ensures one { OneReading (λ n. chart_graph n (mark (codes "endmsc"))) }
     ensures exact { (n : ℕ) (tokens : List Token) → IsExact (λ m. chart_graph m (mark (codes "endmsc"))) n tokens (seq_at (chart_graph_at n) (mark_at (codes "endmsc")) tokens) }
-{
-}
+{}
