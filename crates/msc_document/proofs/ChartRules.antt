@@ -12,7 +12,7 @@ use Rattle.msc_reading.proofs.Lists.{apart_none}
 use Rattle.msc_reading.proofs.Optionals.{none, behind_law, behind_rule}
 use Rattle.msc_reading.proofs.PartRules.{ends, name_law, name_rule, ending_law, ending_rule, placed_law, placed_rule}
 use Rattle.msc_reading.proofs.Rules.{Law, Rule, seq_law, seq_rule, or_law, or_rule, as_law, as_rule, until_law, until_rule, same_law, same_rule}
-use Rattle.msc_items.specs.Declarations.{decl, head, all_heads}
+use Rattle.msc_items.specs.Declarations.{decl, head, declared_by}
 use Rattle.msc_items.specs.DeclarationReaders.{head_words}
 use Rattle.msc_items.proofs.DeclarationRules.{after_decl, after_parts, after_kind, decl_law, decl_rule, head_law, head_rule}
 use Rattle.msc_expression.proofs.GraphRules.{chart_graph_law, chart_graph_rule}
@@ -141,9 +141,9 @@ content_rule : (n : ℕ) → Rule content n any_content none (content_at n)
 content_rule n = or_rule (as_rule (λ p. Basic p.0) none (basics_rule n) (λ a. refl)) (as_rule (λ p. HighLevel p.0) none (chart_graph_rule n refl (chart_end_rule n)) (λ a. refl)) refl
 
 pub chart_law : (n : ℕ) → Law chart n (just (codes "msc")) none
-chart_law n = as_law (λ p. chart_of p.0 p.1.0 (all_heads p.1.1.1.0) p.1.1.1.1) none (placed_law (just (codes "msc")) (seq_law (name_law n) (seq_law (ending_law n)
+chart_law n = as_law (λ p. chart_of p.0 p.1.0 (declared_by p.1.1.1.0) p.1.1.1.1) none (placed_law (just (codes "msc")) (seq_law (name_law n) (seq_law (ending_law n)
     (until_law (head_law n) (content_law n) (λ a. refl) refl (λ a. refl)) (λ a. refl)) (λ a. refl))) (λ a. refl)
 
 pub chart_rule : (n : ℕ) → Rule chart n (just (codes "msc")) none (chart_at n)
-chart_rule n = as_rule (λ p. chart_of p.0 p.1.0 (all_heads p.1.1.1.0) p.1.1.1.1) none (placed_rule (just (codes "msc")) (codes "msc") refl (seq_rule (name_rule n) (seq_rule (ending_rule n)
+chart_rule n = as_rule (λ p. chart_of p.0 p.1.0 (declared_by p.1.1.1.0) p.1.1.1.1) none (placed_rule (just (codes "msc")) (codes "msc") refl (seq_rule (name_rule n) (seq_rule (ending_rule n)
     (until_rule (head_rule n) (content_rule n) (λ a. refl) refl (λ a. refl)) (λ a. refl)) (λ a. refl))) (λ a. refl)

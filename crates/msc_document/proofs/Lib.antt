@@ -6,6 +6,7 @@ pub mod DocumentRules
 pub mod ItemRules
 pub mod LineRules
 pub mod Lines
+pub mod OperandMaps
 pub mod OperandRules
 pub mod Parts
 pub mod References

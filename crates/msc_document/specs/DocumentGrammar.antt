@@ -13,10 +13,10 @@ use Rattle.msc_tree.specs.Statements as tree
 use Rattle.msc_reading.specs.Languages.{just}
 use Rattle.msc_reading.specs.Grammars.{Grammar, Inner, shut, inner, inside, word, seq, or, read_as, chain, maybe, optional, behind}
 use Rattle.msc_reading.specs.Parts.{name, ending, kept, all_or_none, all_of, placed, lead, name_list}
-use Rattle.msc_items.specs.Declarations.{heading, decl, decl_of, declaration, head, all_heads}
+use Rattle.msc_items.specs.Declarations.{heading, decl, decl_of, declaration, head, declared_by}
 use Rattle.msc_items.specs.Events.{single, coregion, stop}
 use Rattle.msc_items.specs.Multis.{shared_in, condition, joins}
-use Rattle.msc_items.specs.declared.head.Heads.{Heads}
+use Rattle.msc_items.specs.declared.head_parts.Heads.{Heads}
 use Rattle.msc_expression.specs.ExpressionGrammar.{expression}
 use Rattle.msc_expression.specs.GraphGrammar.{chart_graph}
 use Rattle.msc_document.specs.Inlines.{each, after, before, Naming, inline}
@@ -133,7 +133,7 @@ chart_of place chart_name heads content = record { name = chart_name; place = pl
 
 -- chart = "msc" name end { head } ( { statement } | graph ) "endmsc" end
 abbrev pub chart : ℕ → Grammar Chart
-chart n = read_as (λ p. chart_of p.0 p.1.0 (all_heads p.1.1.1.0) p.1.1.1.1) (placed (just (codes "msc")) (seq name (seq ending (seq (each head) (content n)))))
+chart n = read_as (λ p. chart_of p.0 p.1.0 (declared_by p.1.1.1.0) p.1.1.1.1) (placed (just (codes "msc")) (seq name (seq ending (seq (each head) (content n)))))
 
 -- ---- documents
 

@@ -16,7 +16,7 @@ use Rattle.msc_reading.specs.Languages.{Set, Read, just, names, ◌>>=◌, word_
 use Rattle.msc_reading.specs.Rows.{goes_on}
 use Rattle.msc_reading.specs.Parts.{kept, all_or_none, leads}
 use Rattle.msc_reading.specs.PartReaders.{name_at, lead_at, name_list_at, ending_at, placed_at}
-use Rattle.msc_items.specs.Declarations.{all_heads}
+use Rattle.msc_items.specs.Declarations.{declared_by}
 use Rattle.msc_items.specs.DeclarationReaders.{heading_at, decl_at, declaration_at, head_at, head_words}
 use Rattle.msc_items.specs.EventReaders.{single_at, single_words, coregion_at, stop_at}
 use Rattle.msc_items.specs.MultiReaders.{shared_in_at, condition_at, joins_at}
@@ -48,8 +48,11 @@ reference_parts_at column x = map_at (λ p. (p.0, (p.1.0, p.1.1.0))) (seq_at x (
 abbrev pub named_reference_at : Bool → (List Token → Read Expression) → List Token → Read Reference
 named_reference_at column x = map_at (λ p. reference_of (Some p.0) p.1) (seq_at name_at (behind_at (just (codes ":")) (reference_parts_at column x)))
 
+abbrev pub unnamed_reference_at : Bool → (List Token → Read Expression) → List Token → Read Reference
+unnamed_reference_at column x = map_at (reference_of None) (reference_parts_at column x)
+
 abbrev pub reference_at : Bool → (List Token → Read Expression) → List Token → Read (Place × Reference)
-reference_at column x = placed_at (just (codes "reference")) (second_at names (just (codes ":")) (named_reference_at column x) (map_at (reference_of None) (reference_parts_at column x)))
+reference_at column x = placed_at (just (codes "reference")) (second_at names (just (codes ":")) (named_reference_at column x) (unnamed_reference_at column x))
 
 -- ---- operands
 
@@ -106,16 +109,29 @@ inline_at f p = either_at (form_word Alt) (form_at f Alt (p Alt)) (either_at (fo
 abbrev pub form_words : Set
 form_words = form_word Alt ++ (form_word Par ++ (form_word Opt ++ (form_word Exc ++ form_word Loop)))
 
+abbrev pub single_item_at : List Token → Read Item
+single_item_at = map_at (λ e. tree.placed e.place (Single e)) single_at
+
+abbrev pub coregion_item_at : List Token → Read Item
+coregion_item_at = map_at (λ p. tree.placed p.0 (Coregion p.1)) coregion_at
+
+abbrev pub stop_item_at : List Token → Read Item
+stop_item_at = map_at (λ place. tree.placed place Stop) stop_at
+
+abbrev pub condition_item_at : Bool → List Token → Read Item
+condition_item_at column = map_at (λ p. tree.placed p.0 (Condition p.1 p.2)) (condition_at column)
+
+abbrev pub reference_item_at : Bool → (List Token → Read Expression) → List Token → Read Item
+reference_item_at column x = map_at (λ p. tree.placed p.0 (Refer p.1)) (reference_at column x)
+
 abbrev pub multi_at : {A : Type 0} → Bool → (A → Operand) → (List Token → Read Expression) → (InlineForm → List Token → Read (Tail A)) → List Token → Read Item
-multi_at column f x p = either_at (just (codes "condition")) (map_at (λ p. tree.placed p.0 (Condition p.1 p.2)) (condition_at column))
-    (either_at form_words (inline_at f p) (map_at (λ p. tree.placed p.0 (Refer p.1)) (reference_at column x)))
+multi_at column f x p = either_at (just (codes "condition")) (condition_item_at column) (either_at form_words (inline_at f p) (reference_item_at column x))
 
 abbrev pub multi_words : Set
 multi_words = just (codes "condition") ++ (form_words ++ just (codes "reference"))
 
 abbrev pub event_at : {A : Type 0} → Bool → (A → Operand) → (List Token → Read Expression) → (InlineForm → List Token → Read (Tail A)) → List Token → Read Item
-event_at column f x p = either_at single_words (map_at (λ e. tree.placed e.place (Single e)) single_at) (either_at (just (codes "concurrent")) (map_at (λ p. tree.placed p.0 (Coregion p.1)) coregion_at)
-    (either_at multi_words (multi_at column f x p) (map_at (λ place. tree.placed place Stop) stop_at)))
+event_at column f x p = either_at single_words single_item_at (either_at (just (codes "concurrent")) coregion_item_at (either_at multi_words (multi_at column f x p) stop_item_at))
 
 abbrev pub event_words : Set
 event_words = single_words ++ (just (codes "concurrent") ++ (multi_words ++ just (codes "stop")))
@@ -265,7 +281,7 @@ abbrev pub content_at : ℕ → List Token → Read Content
 content_at n = either_at (chart_words ++ just (codes "endmsc")) (map_at (λ p. Basic p.0) (seq_at (chart_statements_at n) ending_at)) (map_at (λ p. HighLevel p.0) (seq_at (chart_graph_at n) chart_end_at))
 
 abbrev pub chart_at : ℕ → List Token → Read Chart
-chart_at n = map_at (λ p. chart_of p.0 p.1.0 (all_heads p.1.1.1.0) p.1.1.1.1) (placed_at (just (codes "msc")) (seq_at name_at (seq_at ending_at (until_at head_words head_at (content_at n)))))
+chart_at n = map_at (λ p. chart_of p.0 p.1.0 (declared_by p.1.1.1.0) p.1.1.1.1) (placed_at (just (codes "msc")) (seq_at name_at (seq_at ending_at (until_at head_words head_at (content_at n)))))
 
 -- ---- documents with at least one token
 

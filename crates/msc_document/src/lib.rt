@@ -4,6 +4,10 @@
 //! exact.
 #![tactic(auto)]
 
+mod item;
 mod laws;
+mod naming;
+mod reference;
+mod starts;
 
 pub use laws::documents_are_exact;
