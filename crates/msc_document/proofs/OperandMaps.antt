@@ -90,7 +90,7 @@ module _ {A B : Type 0} (g : A → B) where
     operands_map Exc ts = single_map ts
     operands_map Loop ts = single_map ts
 
-    abbrev in_body : Naming × List A → Naming × List B
+    abbrev pub in_body : Naming × List A → Naming × List B
     in_body x = (x.0, map g x.1)
 
     body_of : (form : InlineForm) (x : Read Naming) → paired x (operands_at form q) ≡ mapped in_body (paired x (operands_at form p))
