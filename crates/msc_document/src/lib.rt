@@ -4,6 +4,7 @@
 //! exact.
 #![tactic(auto)]
 
+mod closer;
 mod item;
 mod laws;
 mod naming;
