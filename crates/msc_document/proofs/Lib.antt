@@ -3,6 +3,7 @@ pub mod ChartRules
 pub mod ColumnRules
 pub mod Continued
 pub mod DocumentRules
+pub mod Goings
 pub mod ItemForms
 pub mod ItemRules
 pub mod LineRules
