@@ -34,9 +34,11 @@ abbrev pub inline_tail_at : Bool → InlineForm → ℕ → List Token → Read 
 inline_tail_at column Loop n = seq_at loop_bounds_at (level_at column Loop n)
 inline_tail_at column form n = map_at taken_once (level_at column form n)
 
+abbrev pub inline_parts : InlineForm → Tail Operand → tree.Form
+inline_parts form p = Inline (record { form = form; lower = p.0.lower; upper = p.0.upper; name = p.1.0.0; shared = p.1.0.1 }) (operands p.1.1)
+
 abbrev pub item_of : InlineForm → Place × Tail Operand → Item
-item_of form p =
-    tree.placed p.0 (Inline (record { form = form; lower = p.1.0.lower; upper = p.1.0.upper; name = p.1.1.0.0; shared = p.1.1.0.1 }) (operands p.1.1.1))
+item_of form p = tree.placed p.0 (inline_parts form p.1)
 
 abbrev pub inline_form_at : Bool → InlineForm → ℕ → List Token → Read Item
 inline_form_at column form n = map_at (item_of form) (placed_at (form_word form) (inline_tail_at column form n))

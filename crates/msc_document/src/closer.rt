@@ -46,3 +46,10 @@ pub fn operand_goes_on(tokens: &[Token], form: InlineForm) -> bool
         None => false,
     }
 }
+
+/// The word of the form, and the tokens behind it.
+pub fn form_token(tokens: &[Token], form: InlineForm) -> Result<(&Token, &[Token]), ReadFault>
+    ensures { Gives (λ x. (x.0.now, x.1.now)) result (word_at (specs.form_word form) tokens.now) }
+{
+    word(tokens, word_of(form))
+}

@@ -1,14 +1,18 @@
-ghost use Rattle.std.specs.Prelude.{◌≡◌};
-ghost use Rattle.msc_tree.specs.Views.{item_view};
+ghost use Rattle.std.specs.Prelude.{◌≡◌, map};
+ghost use Rattle.msc_tree.specs.Statements.{placed};
+ghost use Rattle.msc_tree.specs.Views.{item_view, inline_view, operand_view};
 ghost use Rattle.msc_reading.specs.Answers.{Gives};
 ghost use Rattle.msc_expression.specs.ExpressionReaders.{expression_at};
 ghost use Rattle.msc_document.specs.DocumentReaders as specs;
+ghost use Rattle.msc_document.specs.ItemReaders.{inline_parts, item_of};
 
 use crate::reference::reference;
+use msc_base::{Name, Place};
+use msc_expression::Bounds;
 use msc_items::{condition, coregion, single, stop};
 use msc_reading::ReadFault;
 use msc_tokens::Token;
-use msc_tree::{RawForm, RawItem};
+use msc_tree::{Cover, InlineForm, RawForm, RawInline, RawItem, RawOperand};
 use std::alloc::Global;
 
 /// A single event.
@@ -89,4 +93,48 @@ pub fn reference_item(
         },
         rest,
     ))
+}
+
+/// An inline expression of these parts.
+fn inline_of(
+    form: InlineForm,
+    bounds: Bounds,
+    name: Option<Name>,
+    shared: Option<Cover>,
+    operands: Vec<RawOperand>,
+) -> RawInline
+    ensures { inline_view result ≡ inline_parts form (bounds, ((name, shared), map operand_view operands.items)) }
+{
+    RawInline {
+        form,
+        lower: bounds.lower,
+        upper: bounds.upper,
+        name,
+        shared,
+        operands,
+    }
+}
+
+/// An item that is an inline expression.
+fn of_inline(place: Place, inline: RawInline) -> RawItem
+    ensures { item_view result ≡ placed place (inline_view inline) }
+{
+    RawItem {
+        place,
+        form: RawForm::Inline(inline),
+    }
+}
+
+/// The item of an inline expression.
+pub fn inline_item(
+    place: Place,
+    form: InlineForm,
+    bounds: Bounds,
+    name: Option<Name>,
+    shared: Option<Cover>,
+    operands: Vec<RawOperand>,
+) -> RawItem
+    ensures { item_view result ≡ item_of form (place, (bounds, ((name, shared), map operand_view operands.items))) }
+{
+    of_inline(place, inline_of(form, bounds, name, shared, operands))
 }

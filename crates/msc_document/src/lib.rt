@@ -5,6 +5,7 @@
 #![tactic(auto)]
 
 mod closer;
+mod columns;
 mod item;
 mod laws;
 mod naming;
