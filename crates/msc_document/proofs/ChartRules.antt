@@ -1,30 +1,26 @@
 -- The laws and rules of charts.
-use Rattle.std.proofs.Common.{ℕ, ◌≡◌, ◌∙◌, ◌++◌, ◌⊎◌, true, List, [], ◌∷◌, refl, sym, ap, inl, inr, subst, Option, Some, None, codes}
-use Rattle.msc_tokens.specs.declared.token.Token.{Token}
+use Rattle.std.proofs.Common.{ℕ, ◌≡◌, ◌++◌, true, List, [], ◌∷◌, refl, sym, inr, subst, Option, Some, None, codes}
 use Rattle.msc_tree.specs.declared.chart.Decl.{Decl}
 use Rattle.msc_tree.specs.Charts.{Basic, HighLevel}
 use Rattle.msc_tree.specs.Statements.{Item, Statement, Column, items}
-use Rattle.msc_reading.specs.Languages.{Set, Read, apart, within, just, seq_at}
+use Rattle.msc_reading.specs.Languages.{Set, apart, just, seq_at}
 use Rattle.msc_reading.specs.Grammars.{Grammar, seq, or, read_as, word, behind}
-use Rattle.msc_reading.specs.Parts.{name, ending, placed}
+use Rattle.msc_reading.specs.Parts.{ending}
 use Rattle.msc_reading.specs.PartReaders.{ending_at}
-use Rattle.msc_reading.proofs.Lists.{apart_none}
 use Rattle.msc_reading.proofs.Optionals.{none, behind_law, behind_rule}
 use Rattle.msc_reading.proofs.PartRules.{ends, name_law, name_rule, ending_law, ending_rule, placed_law, placed_rule}
 use Rattle.msc_reading.proofs.Rules.{Law, Rule, seq_law, seq_rule, or_law, or_rule, as_law, as_rule, until_law, until_rule, same_law, same_rule}
-use Rattle.msc_items.specs.Declarations.{decl, head, declared_by}
-use Rattle.msc_items.specs.DeclarationReaders.{head_words}
+use Rattle.msc_items.specs.Declarations.{decl, declared_by}
 use Rattle.msc_items.proofs.DeclarationRules.{after_decl, after_parts, after_kind, decl_law, decl_rule, head_law, head_rule}
 use Rattle.msc_expression.proofs.GraphRules.{chart_graph_law, chart_graph_rule}
 use Rattle.msc_document.specs.Inlines.{each, before}
 use Rattle.msc_document.specs.DocumentGrammar.{column_event, covered, statement, chart_end, content, chart, chart_of}
-use Rattle.msc_document.specs.DocumentReaders.{State, idle, events, multis, kind, long, event_words, opening_words, chart_words, more_words, more_seconds, column_at, column_event_at, instance_at, chart_opening_at, chart_statements_at, chart_end_at, content_at, chart_at, covered_opening_at, outside_event_at, outside_multi_at, outside_tails_at}
+use Rattle.msc_document.specs.DocumentReaders.{State, idle, events, multis, kind, long, event_words, chart_words, more_words, more_seconds, column_at, column_event_at, instance_at, chart_opening_at, chart_statements_at, chart_end_at, content_at, chart_at, outside_tails_at}
 use Rattle.msc_document.proofs.Beginnings.{more, covered_continued}
 use Rattle.msc_document.proofs.ColumnRules.{column_law, column_rule}
 use Rattle.msc_document.proofs.Continued.{nothing, Continued, or_continued, as_continued, whole_continued}
 use Rattle.msc_document.proofs.Separators.{gather_pair, spread_pair, gather_pair_brink, spread_pair_brink}
 use Rattle.msc_document.proofs.Shallows.{ending_shallow}
-use Rattle.msc_document.proofs.StatementLoops.{state_words}
 use Rattle.msc_document.proofs.LineRules.{state_of}
 use Rattle.msc_document.proofs.StatementRules.{OutEvents, OutMultis, Openings, Fits, covered_is, openings_law, openings_rule, statements_law, statements_rule, out_laws, out_parts, out_rules}
 

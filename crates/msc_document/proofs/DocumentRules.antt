@@ -5,21 +5,20 @@ use Rattle.msc_tree.specs.declared.chart.Heading.{Heading}
 use Rattle.msc_tree.specs.Charts.{Chart, Document}
 use Rattle.msc_reading.specs.Languages.{Set, Read, refused, deep, apart, starts, just, tail_ends, ◌>>=◌}
 use Rattle.msc_reading.specs.Languages as rules
-use Rattle.msc_reading.specs.Grammars.{Grammar, seq, or, read_as, chain, tail, behind, behind_each}
+use Rattle.msc_reading.specs.Grammars.{Grammar, or, read_as, chain, tail, behind}
 use Rattle.msc_reading.specs.Parts.{ending}
 use Rattle.msc_reading.specs.Parsing.{Begins, IsRefused, IsTooDeep, OneReading}
-use Rattle.msc_reading.proofs.Lists.{starts_some, front_empty}
+use Rattle.msc_reading.proofs.Lists.{starts_some}
 use Rattle.msc_reading.proofs.Eaches.{last}
 use Rattle.msc_reading.proofs.Chains.{ends_of}
 use Rattle.msc_reading.proofs.Optionals.{none, behind_law, behind_rule}
 use Rattle.msc_reading.proofs.PartRules.{ending_law, ending_rule}
 use Rattle.msc_reading.proofs.Parses.{one_value, refused_parse, deep_parse, whole_parse, left_parse}
 use Rattle.msc_reading.proofs.Rules.{Law, Rule, or_law, or_rule, as_law, as_rule, chain_law, chain_rule, tail_law, tail_rule}
-use Rattle.msc_reading.proofs.Shallow.{Shallow, behind_shallow}
+use Rattle.msc_reading.proofs.Shallow.{behind_shallow}
 use Rattle.msc_expression.specs.Exactness.{IsExact}
 use Rattle.msc_items.specs.Declarations.{heading}
 use Rattle.msc_items.proofs.DeclarationRules.{heading_law, heading_rule}
-use Rattle.msc_document.specs.Inlines.{each}
 use Rattle.msc_document.specs.DocumentGrammar.{chart, document}
 use Rattle.msc_document.specs.DocumentReaders.{Parts, parts_of, headed, unheaded, ended, empty_document, document_end_at, parts_at, document_at}
 use Rattle.msc_document.proofs.ChartRules.{chart_law, chart_rule}

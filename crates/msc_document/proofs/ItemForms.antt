@@ -1,22 +1,20 @@
 -- The readers of items in the form that the code has are those of the productions.
-use Rattle.std.proofs.Common.{ℕ, zero, suc, ◌≡◌, ◌∙◌, Bool, true, false, cond, List, [], ◌∷◌, length, map, refl, sym, ap, Option, Some, None, option_map, Ok, Err, codes}
-use Rattle.msc_base.specs.declared.place.Place.{Place}
+use Rattle.std.proofs.Common.{ℕ, zero, suc, ◌≡◌, ◌∙◌, Bool, true, false, cond, List, [], ◌∷◌, length, map, refl, sym, ap, Some, None, Ok, Err, codes}
 use Rattle.msc_tokens.specs.declared.token.Token.{Token}
 use Rattle.msc_tree.specs.declared.reference.InlineForm.{InlineForm}
 use Rattle.msc_tree.specs.declared.reference.InlineForm.TheVariants.{Alt, Opt, Par, Loop, Exc}
-use Rattle.msc_tree.specs.Statements.{Item, Operand, Statement}
-use Rattle.msc_reading.specs.Languages.{Set, Read, Stop, among, starts, refused, deep, just, ◌>>=◌, opens_at, seq_at, map_at, word_at, either_at}
+use Rattle.msc_tree.specs.Statements.{Operand}
+use Rattle.msc_reading.specs.Languages.{Set, Read, among, starts, refused, just, opens_at, map_at, word_at}
 use Rattle.msc_reading.specs.PartReaders.{placed_at}
 use Rattle.msc_reading.proofs.Optionals.{mapped, paired}
 use Rattle.msc_items.specs.EventReaders.{single_words}
 use Rattle.msc_expression.specs.Bounds.{loop_bounds_at}
 use Rattle.msc_expression.specs.declared.bounds.Bounds.{Bounds}
 use Rattle.msc_expression.specs.ExpressionReaders.{expression_at}
-use Rattle.msc_expression.specs.Levels.{within_at}
 use Rattle.msc_expression.proofs.Forms.{none_left, one_more_level}
 use Rattle.msc_document.specs.Inlines.{Naming, Tail, taken_once, inline_item}
 use Rattle.msc_document.specs.DocumentGrammar.{column_operand, outside_operand}
-use Rattle.msc_document.specs.DocumentReaders.{form_word, form_words, multi_words, single_item_at, coregion_item_at, stop_item_at, condition_item_at, reference_item_at, body_at, tail_of_at, form_at, inline_at, multi_at, event_at, column_at, column_tails_at, column_event_at, outside_at, outside_tails_at, outside_event_at, outside_multi_at}
+use Rattle.msc_document.specs.DocumentReaders.{form_word, form_words, multi_words, single_item_at, coregion_item_at, stop_item_at, condition_item_at, reference_item_at, body_at, form_at, inline_at, multi_at, event_at, column_at, column_tails_at, column_event_at, outside_at, outside_tails_at}
 use Rattle.msc_document.specs.ItemReaders.{operand_at, inline_body_at, level_at, inline_tail_at, item_of, inline_form_at, inline_item_at, multi_item_at, event_item_at}
 use Rattle.msc_document.proofs.OperandMaps.{body_map}
 

@@ -1,10 +1,10 @@
 -- Readers of inline expressions, where each operand is read as another value.
-use Rattle.std.proofs.Common.{ℕ, zero, suc, ◌≡◌, ◌∙◌, Bool, true, false, cond, List, [], ◌∷◌, length, map, refl, sym, ap, Option, Some, None, option_map, Ok, Err, codes}
+use Rattle.std.proofs.Common.{ℕ, zero, suc, ◌≡◌, ◌∙◌, Bool, true, false, cond, List, [], ◌∷◌, length, map, refl, ap, Ok, Err}
 use Rattle.msc_tokens.specs.declared.token.Token.{Token}
 use Rattle.msc_tree.specs.declared.reference.InlineForm.{InlineForm}
 use Rattle.msc_tree.specs.declared.reference.InlineForm.TheVariants.{Alt, Opt, Par, Loop, Exc}
-use Rattle.msc_reading.specs.Languages.{Set, Read, among, starts, just, ◌>>=◌, each_at, until_at, seq_at, map_at, either_at, opens_at}
-use Rattle.msc_reading.specs.PartReaders.{ending_at, placed_at}
+use Rattle.msc_reading.specs.Languages.{Set, Read, starts, ◌>>=◌, each_at, until_at}
+use Rattle.msc_reading.specs.PartReaders.{ending_at}
 use Rattle.msc_reading.proofs.Optionals.{mapped, paired}
 use Rattle.msc_document.specs.Inlines.{Naming, firsts}
 use Rattle.msc_document.specs.DocumentReaders.{end_words, closing_at, next_part_at, several_at, single_operand_at, naming_at, operands_at, body_at}

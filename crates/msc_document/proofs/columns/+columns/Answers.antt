@@ -1,7 +1,7 @@
-use Rattle.std.proofs.Common.{◌≡◌, ◌∙◌, ◌++◌, [], ◌∷◌, refl, sym, ap, subst, map, length, ◌-◌, ◌+◌, arith, true, Some}
+use Rattle.std.proofs.Common.{◌∙◌, [], ◌∷◌, sym, ap, subst, map, length, ◌-◌, ◌+◌, arith, true, Some}
 use Rattle.std.proofs.lemmas.List.{map-append}
 use Rattle.msc_tree.specs.Views.{item_view, operand_view}
-use Rattle.msc_tree.specs.Statements.{Item, Operand}
+use Rattle.msc_tree.specs.Statements.{Operand}
 use Rattle.std.specs.Prelude.{List}
 use Rattle.msc_reading.specs.Answers.{Gives, Fails}
 use Rattle.msc_reading.specs.Languages.{Read}

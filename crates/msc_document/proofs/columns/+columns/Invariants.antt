@@ -1,4 +1,4 @@
-use Rattle.std.proofs.Common.{◌≡◌, map, length, [], ℕ, ◌+◌, ◌-◌, ◌*◌, true, Some}
+use Rattle.std.proofs.Common.{◌≡◌, map, length, [], ◌+◌, ◌-◌, ◌*◌, true, Some}
 use Rattle.msc_tree.specs.Views.{item_view, operand_view}
 use Rattle.msc_reading.specs.PartReaders.{more_at}
 use Rattle.msc_document.specs.DocumentReaders.{column_event_at, column_goes_on, end_words, next_part_at}
