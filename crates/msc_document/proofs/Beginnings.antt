@@ -1,13 +1,12 @@
 -- Statements outside columns: a beginning with its first item, and the items that go on with it.
-use Rattle.std.proofs.Common.{ℕ, zero, suc, ◌≡◌, ◌∙◌, ◌++◌, ◌⊎◌, true, false, List, [], ◌∷◌, refl, sym, ap, ap₂, inl, inr, subst, Option, codes}
+use Rattle.std.proofs.Common.{ℕ, ◌≡◌, ◌∙◌, ◌++◌, List, [], ◌∷◌, refl, sym, ap, inl, inr, subst, Option, codes}
 use Rattle.msc_base.specs.declared.place.Place.{Place}
 use Rattle.msc_tokens.specs.declared.token.Token.{Token}
-use Rattle.msc_tree.specs.declared.chart.Cover.{Cover}
 use Rattle.msc_tree.specs.declared.chart.Cover.TheVariants.{All, Listed}
-use Rattle.msc_tree.specs.Statements.{Item, Items, no_items, item_and, Statement, Column, Covered, Heading, Ended, items, item_list}
+use Rattle.msc_tree.specs.Statements.{Item, Statement, Column, Covered, Heading, Ended, items, item_list}
 use Rattle.msc_reading.specs.Languages.{Set, just}
 use Rattle.msc_reading.specs.Grammars.{Grammar, seq, or, read_as, word, behind}
-use Rattle.msc_reading.specs.Parts.{ending, lead, name_list, all_of}
+use Rattle.msc_reading.specs.Parts.{ending, lead, name_list}
 use Rattle.msc_items.specs.Declarations.{declaration}
 use Rattle.msc_document.specs.DocumentGrammar.{Line, happen, list, declare, finish, lead_statement, covered_of, some}
 use Rattle.msc_document.specs.DocumentReaders.{State, idle, events, multis, cover_kind, kind, long}

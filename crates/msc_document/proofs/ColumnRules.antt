@@ -1,29 +1,29 @@
 -- The laws and rules of events in columns, for all numbers of levels.
-use Rattle.std.proofs.Common.{ℕ, zero, suc, ◌≡◌, ◌∙◌, ◌++◌, ◌⊎◌, ◌≤◌, ◌&&◌, ◌||◌, Bool, true, false, cond, List, [], ◌∷◌, length, refl, sym, ap, inl, inr, not, subst, append-nil, Option, Some, None, Ok, Err, arith, codes}
+use Rattle.std.proofs.Common.{ℕ, zero, suc, ◌≡◌, ◌∙◌, ◌++◌, ◌⊎◌, ◌≤◌, ◌&&◌, ◌||◌, Bool, true, false, List, [], ◌∷◌, length, refl, sym, ap, inl, inr, not, subst, append-nil, Option, Some, None, Ok, Err, arith, codes}
 use Rattle.msc_tokens.specs.declared.token.Token.{Token}
 use Rattle.msc_tree.specs.declared.reference.InlineForm.{InlineForm}
 use Rattle.msc_tree.specs.declared.reference.InlineForm.TheVariants.{Alt, Opt, Par, Loop, Exc}
 use Rattle.msc_tree.specs.Statements.{Item}
 use Rattle.msc_reading.specs.Classes.{token_of}
-use Rattle.msc_reading.specs.Languages.{Set, Read, Stop, among, apart, within, starts, second, just, ◌>>=◌, word_at, map_at, seq_at}
+use Rattle.msc_reading.specs.Languages.{Set, Read, Stop, among, apart, within, starts, second, just, word_at, map_at}
 use Rattle.msc_reading.specs.Grammars.{Grammar, read_as, word}
-use Rattle.msc_reading.specs.Rows.{rows_at, goes_on}
-use Rattle.msc_reading.proofs.Lists.{apart_among, not_both, two_starts}
+use Rattle.msc_reading.specs.Rows.{rows_at}
+use Rattle.msc_reading.proofs.Lists.{not_both}
 use Rattle.msc_reading.proofs.Base.{Viable, opening_starts}
 use Rattle.msc_reading.proofs.Flats.{Eats, eats_of, rule_by}
 use Rattle.msc_reading.proofs.Levels.{reads_of, brink_of}
 use Rattle.msc_reading.proofs.Optionals.{none, mapped, paired}
 use Rattle.msc_reading.proofs.PartRules.{ends}
-use Rattle.msc_reading.proofs.Rows.{Rows, Late, rows_law, rows_rule, begun_items}
+use Rattle.msc_reading.proofs.Rows.{Late, rows_law, rows_rule}
 use Rattle.msc_reading.proofs.Rules.{Law, Rule, as_law, as_rule, equal_law, equal_rule}
 use Rattle.msc_expression.specs.ExpressionReaders.{expression_at}
 use Rattle.msc_document.specs.Inlines.{Tail, each, before}
 use Rattle.msc_document.specs.DocumentGrammar.{column_event, column_operand}
-use Rattle.msc_document.specs.DocumentReaders.{form_word, form_seconds, event_words, tail_of_at, event_at, going_at, closer_word, closer_seconds, column_goes_on, column_at, column_tails_at, column_event_at}
+use Rattle.msc_document.specs.DocumentReaders.{form_word, form_seconds, event_words, event_at, going_at, closer_word, closer_seconds, column_goes_on, column_at, column_tails_at, column_event_at}
 use Rattle.msc_document.proofs.Continued.{nothing, whole_continued}
-use Rattle.msc_document.proofs.ItemRules.{Events, TailOf, TailLaws, TailRules, PartLaws, PartRules, shut_laws, inner_laws, shut_rules, inner_rules, events_law, events_rule, events_late, events_late_brink, events_begun, form_text, form_text_is, other_word}
+use Rattle.msc_document.proofs.ItemRules.{Events, TailLaws, TailRules, PartLaws, PartRules, shut_laws, inner_laws, shut_rules, inner_rules, events_law, events_rule, events_late, events_late_brink, events_begun, form_text, form_text_is, other_word}
 use Rattle.msc_document.proofs.LineRules.{Flattened, upto_law, upto_rule}
-use Rattle.msc_document.proofs.Lines.{grouped, next_state, Mixed}
+use Rattle.msc_document.proofs.Lines.{grouped, next_state}
 
 abbrev Held : ℕ → Grammar (List Item)
 Held m = each (column_event m)

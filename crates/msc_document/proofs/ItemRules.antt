@@ -1,7 +1,6 @@
 -- The laws and rules of inline expressions, multis and events, by those of operands with the word behind them.
-use Rattle.std.proofs.Common.{ℕ, zero, suc, ◌≡◌, ◌∙◌, ◌++◌, ◌⊎◌, List, [], ◌∷◌, map, refl, sym, ap, inl, inr, subst, append-nil, append_assoc, Bool, true, false, Option, Some, None, codes}
+use Rattle.std.proofs.Common.{ℕ, zero, suc, ◌≡◌, ◌∙◌, ◌++◌, ◌⊎◌, List, [], ◌∷◌, refl, sym, ap, inl, inr, subst, append-nil, Bool, true, false, Some, None, codes}
 use Rattle.std.proofs.lemmas.Bool.{or_cases}
-use Rattle.msc_base.specs.declared.place.Place.{Place}
 use Rattle.msc_tokens.specs.declared.token.Token.{Token}
 use Rattle.msc_tree.specs.declared.reference.InlineForm.{InlineForm}
 use Rattle.msc_tree.specs.declared.reference.InlineForm.TheVariants.{Alt, Opt, Par, Loop, Exc}
@@ -9,8 +8,8 @@ use Rattle.msc_tree.specs.Statements.{Item, Operand, Single, Coregion, Condition
 use Rattle.msc_tree.specs.Statements as tree
 use Rattle.msc_reading.specs.Classes.{token_of}
 use Rattle.msc_reading.specs.Languages.{Set, Read, among, apart, starts, second, just, map_at}
-use Rattle.msc_reading.specs.Grammars.{Grammar, word, seq, or, read_as, opens}
-use Rattle.msc_reading.specs.Parts.{placed, ending}
+use Rattle.msc_reading.specs.Grammars.{Grammar, word, or, read_as}
+use Rattle.msc_reading.specs.Parts.{ending}
 use Rattle.msc_reading.proofs.Lists.{apart_none, among-append, two_starts}
 use Rattle.msc_reading.proofs.Base.{Viable, opening_starts}
 use Rattle.msc_reading.proofs.Levels.{Opened, reads_of, brink_of}
@@ -31,7 +30,7 @@ use Rattle.msc_expression.specs.ExpressionReaders.{expression_at}
 use Rattle.msc_document.specs.Inlines.{Naming, Tail, before, closing, several, body, once, taken_once, inline_item, form}
 use Rattle.msc_document.specs.Inlines as inlines
 use Rattle.msc_document.specs.DocumentGrammar.{naming, reference}
-use Rattle.msc_document.specs.DocumentReaders.{form_word, form_seconds, form_words, multi_words, event_words, operands_at, body_at, tail_of_at, form_at, inline_at, multi_at, event_at, reference_at}
+use Rattle.msc_document.specs.DocumentReaders.{form_word, form_seconds, form_words, multi_words, event_words, body_at, tail_of_at, form_at, inline_at, multi_at, event_at, reference_at}
 use Rattle.msc_document.proofs.OperandRules.{several_law, several_rule, naming_words, naming_law, naming_rule}
 use Rattle.msc_document.proofs.OperandRules as operands
 use Rattle.msc_document.proofs.Parts.{behind_in}

@@ -1,9 +1,14 @@
 pub mod Beginnings
+pub mod ChartRules
 pub mod ColumnRules
 pub mod Continued
+pub mod DocumentRules
+pub mod Goings
+pub mod ItemForms
 pub mod ItemRules
 pub mod LineRules
 pub mod Lines
+pub mod OperandMaps
 pub mod OperandRules
 pub mod Parts
 pub mod References

@@ -1,10 +1,10 @@
 -- The law and the rule of statements up to a word, by those of the flat list.
-use Rattle.std.proofs.Common.{ℕ, ◌≡◌, ◌∙◌, ◌++◌, ◌⊎◌, true, List, [], ◌∷◌, refl, sym, ap, inl, inr, append_assoc, append-nil, subst, suc}
+use Rattle.std.proofs.Common.{ℕ, ◌≡◌, ◌∙◌, ◌++◌, ◌⊎◌, List, [], ◌∷◌, refl, sym, ap, inl, inr, subst}
 use Rattle.msc_tokens.specs.declared.token.Token.{Token}
 use Rattle.msc_reading.specs.Languages.{Set, Read, map_at}
 use Rattle.msc_reading.specs.Languages as rules
-use Rattle.msc_reading.specs.Grammars.{Grammar, word, read_as, behind_each}
-use Rattle.msc_reading.specs.Rows.{rows, rows_brink}
+use Rattle.msc_reading.specs.Grammars.{Grammar, word, read_as}
+use Rattle.msc_reading.specs.Rows.{rows_brink}
 use Rattle.msc_reading.proofs.Rules.{Law, Rule, as_law, as_rule, same_law, same_rule}
 use Rattle.msc_reading.proofs.Rows.{Rows, after_all, begun_items}
 use Rattle.msc_document.specs.Inlines.{each, before}

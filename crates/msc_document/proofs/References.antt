@@ -7,18 +7,18 @@ use Rattle.msc_tree.specs.declared.chart.Cover.{Cover}
 use Rattle.msc_tree.specs.declared.reference.Join.{Join}
 use Rattle.msc_tree.specs.Expressions.{Expression, Chart, Empty}
 use Rattle.msc_tree.specs.Statements.{Reference}
-use Rattle.msc_reading.specs.Classes.{token_of, is_name}
+use Rattle.msc_reading.specs.Classes.{is_name}
 use Rattle.msc_reading.specs.Languages.{Set, Read, refused, deep, among, apart, starts, just, names, second, map_at, seq_at, second_at}
 use Rattle.msc_reading.specs.Grammars.{Grammar, seq, or, read_as, behind, optional, bytes_of}
 use Rattle.msc_reading.specs.PartReaders.{ending_at}
-use Rattle.msc_reading.specs.Parts.{name, mark, ending, kept, all_or_none, placed, separated}
-use Rattle.msc_reading.proofs.Lists.{NotStart, apart_start, apart_among, no_start, starts-append, cancel, heads, not_both, two_starts, none_more}
-use Rattle.msc_reading.proofs.Base.{Viable, Laws, Known, Refused, Meant, opening_starts}
+use Rattle.msc_reading.specs.Parts.{name, mark, ending, all_or_none, separated}
+use Rattle.msc_reading.proofs.Lists.{NotStart, apart_start, no_start, starts-append, cancel, heads, not_both, two_starts}
+use Rattle.msc_reading.proofs.Base.{Viable, Laws, Meant}
 use Rattle.msc_reading.proofs.Levels.{reads_of, brink_of}
-use Rattle.msc_reading.proofs.Rules.{Law, Rule, seq_law, seq_rule, as_law, as_rule}
-use Rattle.msc_reading.proofs.Optionals.{none, optional_rule, behind_law, behind_rule}
-use Rattle.msc_reading.proofs.PartRules.{law_by, name_law, name_rule, ending_rule, ends, placed_rule, commas}
-use Rattle.msc_reading.proofs.Seconds.{second_law, second_rule}
+use Rattle.msc_reading.proofs.Rules.{Law, Rule, seq_rule, as_rule}
+use Rattle.msc_reading.proofs.Optionals.{none, optional_rule, behind_rule}
+use Rattle.msc_reading.proofs.PartRules.{name_rule, ending_rule, ends, placed_rule}
+use Rattle.msc_reading.proofs.Seconds.{second_rule}
 use Rattle.msc_reading.proofs.Shallow.{optional_shallow}
 use Rattle.msc_document.proofs.Shallows.{joins_shallow, shared_in_shallow}
 use Rattle.msc_items.specs.Multis.{shared_in, joins}

@@ -1,9 +1,9 @@
 -- Operands with a word between them and behind the last: the word is read with the operand before it.
-use Rattle.std.proofs.Common.{ℕ, ◌≡◌, ◌∙◌, ◌++◌, ◌⊎◌, true, List, [], ◌∷◌, refl, sym, ap, ap₂, inl, inr, append_assoc, append-nil, subst, suc}
+use Rattle.std.proofs.Common.{◌≡◌, ◌∙◌, ◌++◌, List, [], ◌∷◌, refl, sym, ap, ap₂, inl, inr, append_assoc}
 use Rattle.msc_tokens.specs.declared.token.Token.{Token}
 use Rattle.msc_reading.specs.Languages.{Set, among}
 use Rattle.msc_reading.specs.Languages as rules
-use Rattle.msc_reading.specs.Grammars.{Grammar, seq, read_as, until, word, behind, behind_each}
+use Rattle.msc_reading.specs.Grammars.{Grammar, seq, read_as, until, word, behind}
 use Rattle.msc_reading.proofs.Shallow.{Shallow}
 use Rattle.msc_document.specs.Inlines.{after, before, firsts}
 use Rattle.msc_document.proofs.Parts.{behind_in, behind_out, behind_brink_in, behind_brink_out, before_in, before_out, before_brink_out, after_in, after_out}
@@ -159,3 +159,24 @@ module _ {A D : Type 0} (w : Set) (P : Grammar A) (Z : Grammar D) where
     pub spread_one_brink : (p : List Token) → gathered_one.brink p → spread_one.brink p
     spread_one_brink p (inl k) = inl (before_brink_out w P p k)
     spread_one_brink p (inr k) = absurd (zs.none k.1 k.5)
+
+-- the same, with both values
+module _ {A D : Type 0} (w : Set) (P : Grammar A) (Z : Grammar D) where
+  pub gather_pair : (x : List Token) (v : A × D) → (seq P (behind w Z)).reads x v → (seq (before P (word w)) Z).reads x v
+  gather_pair x v k =
+      let e = behind_out w Z k.1 v.1 k.4 in
+      (k.0 ++ e.0 ∷ [], e.1, k.2 ∙ ap (λ l. k.0 ++ l) e.2 ∙ sym (append_assoc k.0 (e.0 ∷ []) e.1), before_in w P k.0 e.0 v.0 k.3 e.3, e.4)
+
+  pub spread_pair : (x : List Token) (v : A × D) → (seq (before P (word w)) Z).reads x v → (seq P (behind w Z)).reads x v
+  spread_pair x v k =
+      let e = before_out w P k.0 v.0 k.3 in
+      (e.0, e.1 ∷ k.1, k.2 ∙ ap (λ l. l ++ k.1) e.2 ∙ append_assoc e.0 (e.1 ∷ []) k.1, e.3, behind_in w Z e.1 k.1 v.1 e.4 k.4)
+
+  module _ (zs : Shallow Z) where
+    pub gather_pair_brink : (p : List Token) → (seq P (behind w Z)).brink p → (seq (before P (word w)) Z).brink p
+    gather_pair_brink p (inl k) = inl (inl k)
+    gather_pair_brink p (inr k) = let e = behind_brink_out w Z k.1 k.5 in absurd (zs.none e.1 e.4)
+
+    pub spread_pair_brink : (p : List Token) → (seq (before P (word w)) Z).brink p → (seq P (behind w Z)).brink p
+    spread_pair_brink p (inl k) = inl (before_brink_out w P p k)
+    spread_pair_brink p (inr k) = absurd (zs.none k.1 k.5)

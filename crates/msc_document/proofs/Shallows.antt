@@ -1,13 +1,14 @@
 -- Parts in which nothing opens a level.
-use Rattle.std.proofs.Common.{ℕ, List, [], ◌∷◌, Option, Some, None, Bool, true, false, codes}
+use Rattle.std.proofs.Common.{ℕ, List, [], ◌∷◌, Some, None, Bool, true, false, codes}
 use Rattle.msc_tree.specs.declared.chart.Cover.TheVariants.{All, Listed}
 use Rattle.msc_tree.specs.declared.reference.JoinEnd.TheVariants.{Env, Reference}
 use Rattle.msc_reading.specs.Classes.{string}
 use Rattle.msc_reading.specs.Languages.{Set, just, names}
 use Rattle.msc_reading.specs.Grammars.{Grammar, word}
-use Rattle.msc_reading.specs.Parts.{ending, dropped, all_of, all_or_none, separated, name_list, placed_name}
+use Rattle.msc_reading.specs.Parts.{ending, dropped, all_of, separated, kept}
 use Rattle.msc_reading.proofs.Shallow.{Shallow, bytes_shallow, read_shallow, seq_shallow, chain_shallow, or_shallow, optional_shallow, behind_shallow}
-use Rattle.msc_items.specs.Multis.{sharers, cover_of, shared_in, join_end, join, joins}
+use Rattle.msc_items.specs.Multis.{sharers, cover_of, shared_in, join_end, joins}
+use Rattle.msc_items.specs.Declarations.{heading}
 use Rattle.msc_document.specs.Inlines.{closing}
 
 word_shallow : (s : Set) → Shallow (word s)
@@ -36,3 +37,9 @@ join_end_shallow = or_shallow (read_shallow Env (behind_shallow (just (codes "en
 pub joins_shallow : Shallow joins
 joins_shallow = behind_shallow (just (codes "via")) (separated_shallow (codes ",") (read_shallow (λ p. record { gate = p.0.0; to = p.1; place = p.0.1 })
     (seq_shallow (read_shallow (λ t. (t.bytes, t.place)) (word_shallow names)) (behind_shallow (just (codes "to")) join_end_shallow))))
+
+-- ---- the heading of a document
+
+pub heading_shallow : Shallow heading
+heading_shallow = behind_shallow (just (codes "mscdocument")) (read_shallow (λ p. record { name = p.0; related = p.1.0 })
+    (seq_shallow (bytes_shallow names) (optional_shallow kept (behind_shallow (just (codes "related")) (behind_shallow (just (codes "to")) (bytes_shallow names))) ending_shallow)))

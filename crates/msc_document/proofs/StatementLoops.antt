@@ -1,11 +1,11 @@
 -- Nested loops read what the one loop over the flat list reads.
-use Rattle.std.proofs.Common.{ℕ, zero, suc, ◌≡◌, ◌∙◌, ◌++◌, ◌⊎◌, ◌≤◌, ◌&&◌, ◌||◌, not, Bool, true, false, cond, List, [], ◌∷◌, length, refl, sym, ap, inl, inr, subst, Option, Some, None, Ok, Err, arith, codes}
+use Rattle.std.proofs.Common.{ℕ, zero, suc, ◌≡◌, ◌∙◌, ◌++◌, ◌⊎◌, ◌≤◌, ◌&&◌, ◌||◌, not, Bool, true, false, List, [], ◌∷◌, length, refl, sym, ap, inl, inr, Option, Ok, Err, arith, codes}
 use Rattle.msc_tokens.specs.declared.token.Token.{Token}
 use Rattle.msc_tree.specs.declared.reference.InlineForm.{InlineForm}
 use Rattle.msc_tree.specs.Statements.{Item, Statement}
-use Rattle.msc_reading.specs.Languages.{Set, Read, Stop, among, apart, starts, ◌>>=◌, word_at, each_at, map_at, either_at}
+use Rattle.msc_reading.specs.Languages.{Set, Read, among, apart, starts, ◌>>=◌, word_at, each_at, map_at, either_at}
 use Rattle.msc_reading.specs.Rows.{rows_at, goes_on}
-use Rattle.msc_reading.proofs.Lists.{among-append, apart_among, not_both}
+use Rattle.msc_reading.proofs.Lists.{among-append, apart_among}
 use Rattle.msc_reading.proofs.Flats.{Eats}
 use Rattle.msc_reading.proofs.Optionals.{mapped, paired}
 use Rattle.msc_document.specs.DocumentReaders.{State, idle, events, multis, kind, long, more_words, more_seconds, more_at, statement_goes_on, statement_at, going_at, closer_word}

@@ -1,32 +1,31 @@
 -- The laws and rules of statements outside columns, for all numbers of levels.
-use Rattle.std.proofs.Common.{ℕ, zero, suc, ◌≡◌, ◌∙◌, ◌++◌, ◌⊎◌, ◌≤◌, true, false, List, [], ◌∷◌, length, refl, sym, ap, inl, inr, subst, append-nil, Option, Some, None, Ok, Err, arith, codes}
+use Rattle.std.proofs.Common.{ℕ, zero, suc, ◌≡◌, ◌∙◌, ◌++◌, ◌⊎◌, true, false, List, [], ◌∷◌, length, refl, sym, ap, inl, inr, subst, append-nil, Option, Some, None, Ok, Err, arith, codes}
 use Rattle.msc_tokens.specs.declared.token.Token.{Token}
 use Rattle.msc_tree.specs.declared.reference.InlineForm.{InlineForm}
 use Rattle.msc_tree.specs.declared.reference.InlineForm.TheVariants.{Alt, Opt, Par, Loop, Exc}
-use Rattle.msc_tree.specs.declared.chart.Cover.TheVariants.{All, Listed}
+use Rattle.msc_tree.specs.declared.chart.Cover.TheVariants.{All}
 use Rattle.msc_tree.specs.Statements.{Item, Statement, Covered, items}
 use Rattle.msc_reading.specs.Classes.{token_of}
-use Rattle.msc_reading.specs.Languages.{Set, Read, among, apart, within, starts, second, just, map_at, each_at, word_at, ◌>>=◌}
+use Rattle.msc_reading.specs.Languages.{Set, Read, among, apart, within, starts, second, just, each_at, word_at, ◌>>=◌}
 use Rattle.msc_reading.specs.Rows.{rows_at}
-use Rattle.msc_reading.specs.Grammars.{Grammar, seq, or, read_as, word, behind}
-use Rattle.msc_reading.specs.Parts.{leads}
-use Rattle.msc_reading.proofs.Lists.{not_both, apart_none}
+use Rattle.msc_reading.specs.Grammars.{Grammar, or, read_as, word}
+use Rattle.msc_reading.proofs.Lists.{not_both}
 use Rattle.msc_reading.proofs.Base.{Viable, opening_starts}
 use Rattle.msc_reading.proofs.Flats.{Eats, eats_of, rule_by}
 use Rattle.msc_reading.proofs.Levels.{reads_of, brink_of}
 use Rattle.msc_reading.proofs.Optionals.{none, mapped, paired, behind_law, behind_rule}
-use Rattle.msc_reading.proofs.PartRules.{ends, lead_law, lead_rule, name_list_law, name_list_rule, ending_law, ending_rule, commas}
-use Rattle.msc_reading.proofs.Rows.{Rows, Late, rows_law, rows_rule}
-use Rattle.msc_reading.proofs.Rules.{Law, Rule, seq_law, seq_rule, or_law, or_rule, as_law, as_rule, equal_law, equal_rule}
+use Rattle.msc_reading.proofs.PartRules.{ends, lead_law, lead_rule, name_list_law, name_list_rule, ending_law, ending_rule}
+use Rattle.msc_reading.proofs.Rows.{Late, rows_law, rows_rule}
+use Rattle.msc_reading.proofs.Rules.{Law, Rule, seq_law, seq_rule, or_law, or_rule, as_law, as_rule}
 use Rattle.msc_items.proofs.DeclarationRules.{declaration_law, declaration_rule}
-use Rattle.msc_document.specs.Inlines.{Tail, each, before}
+use Rattle.msc_document.specs.Inlines.{each, before}
 use Rattle.msc_document.specs.DocumentGrammar.{happen, list, declare, finish, lead_statement, covered_of, some, covered, outside_operand}
-use Rattle.msc_document.specs.DocumentReaders.{State, idle, events, multis, kind, long, alone, form_word, form_seconds, event_words, multi_words, tail_of_at, event_at, multi_at, closer_word, closer_seconds, opening_words, opening_at, more_words, more_seconds, more_at, statement_goes_on, statement_at, going_at, statements_at, Tails, outside_event_at, outside_multi_at, outside_at, outside_tails_at}
+use Rattle.msc_document.specs.DocumentReaders.{State, idle, events, multis, kind, long, alone, form_word, event_words, multi_words, closer_word, closer_seconds, opening_words, opening_at, more_words, more_seconds, more_at, statement_goes_on, statement_at, going_at, statements_at, Tails, outside_event_at, outside_multi_at, outside_at, outside_tails_at}
 use Rattle.msc_document.proofs.Beginnings.{same_kind, opening_of, more, covered_continued}
-use Rattle.msc_document.proofs.Continued.{nothing, Continued}
-use Rattle.msc_document.proofs.ItemRules.{Events, Multis, TailOf, TailLaws, TailRules, PartLaws, PartRules, shut_laws, inner_laws, shut_rules, inner_rules, events_law, events_rule, events_late, events_late_brink, events_begun, multis_law, multis_rule, multis_late, multis_late_brink, multis_begun, form_text, form_text_is, other_word}
+use Rattle.msc_document.proofs.Continued.{Continued}
+use Rattle.msc_document.proofs.ItemRules.{Events, Multis, TailLaws, TailRules, PartLaws, PartRules, shut_laws, inner_laws, shut_rules, inner_rules, events_law, events_rule, events_late, events_late_brink, events_begun, multis_law, multis_rule, multis_late, multis_late_brink, multis_begun, form_text, form_text_is, other_word}
 use Rattle.msc_document.proofs.LineRules.{Flattened, upto_law, upto_rule, state_of}
-use Rattle.msc_document.proofs.Lines.{grouped, next_state, Mixed}
+use Rattle.msc_document.proofs.Lines.{grouped, next_state}
 use Rattle.msc_document.proofs.StatementLoops.{state_words, mixed_at, same_loops}
 
 abbrev pub Held : ℕ → Grammar (List Statement)
@@ -88,7 +87,7 @@ OutRules n p = TailRules false outside_operand Held none_yet First Behind no_end
 abbrev pub OutParts : ℕ → Type 0
 OutParts n = PartLaws false outside_operand Held none_yet First Behind no_end no_closing n
 
-covered_is : (n : ℕ) → covered_of (some (OutEvents n)) (some (OutMultis n)) ≡ covered n
+pub covered_is : (n : ℕ) → covered_of (some (OutEvents n)) (some (OutMultis n)) ≡ covered n
 unfolding covered
 covered_is zero = refl
 covered_is (suc n) = refl
@@ -110,7 +109,7 @@ Openings n = opening_of (OutEvents n) (OutMultis n)
 
 -- ---- a statement up to its first item
 
-openings_law : (n : ℕ) → OutLaws n → Law Openings n opening_words none
+pub openings_law : (n : ℕ) → OutLaws n → Law Openings n opening_words none
 openings_law n t =
     let e = as_law {R = OutEvents} alone none (out_events_law n t) (λ a. refl) in
     let m = as_law {R = OutMultis} alone none (out_multis_law n t) (λ a. refl) in
@@ -119,7 +118,7 @@ openings_law n t =
     (as_law (λ p. list p.0 p.1) none (behind_law (just (codes ",")) (seq_law (name_list_law n) (behind_law (just (codes ":")) m) (λ a. refl))) (λ a. refl)) refl) (λ a. refl)) (λ a. refl))
     (as_law (λ held. Covered All (items held)) none (behind_law (just (codes "all")) (behind_law (just (codes ":")) m)) (λ a. refl)) refl
 
-openings_rule : (n : ℕ) (p : Tails) → OutRules n p → Rule Openings n opening_words none (opening_at (outside_event_at n p) (outside_multi_at n p))
+pub openings_rule : (n : ℕ) (p : Tails) → OutRules n p → Rule Openings n opening_words none (opening_at (outside_event_at n p) (outside_multi_at n p))
 openings_rule n p t =
     let e = as_rule {R = OutEvents} alone none (out_events_rule n p t) (λ a. refl) in
     let m = as_rule {R = OutMultis} alone none (out_multis_rule n p t) (λ a. refl) in

@@ -1,25 +1,24 @@
 -- How a document is written, production by production (Z.120, clauses 3, 4, 7.2 and 7.3).
 -- A production that ends with a part that may be missing takes what stands behind it: `[ x ] y` is `optional`.
-use Rattle.std.specs.Prelude.{ℕ, zero, suc, ◌≡◌, ◌⊎◌, List, [], ◌∷◌, map, Option, Some, None, Bool, true, false, codes}
+use Rattle.std.specs.Prelude.{ℕ, zero, suc, ◌≡◌, ◌⊎◌, List, [], ◌∷◌, Option, Some, None, Bool, true, false, codes}
 use Rattle.msc_base.specs.declared.place.Place.{Place}
 use Rattle.msc_tree.specs.declared.chart.Cover.{Cover}
 use Rattle.msc_tree.specs.declared.chart.Cover.TheVariants.{All, Listed}
 use Rattle.msc_tree.specs.declared.reference.Join.{Join}
 use Rattle.msc_tree.specs.Charts.{Chart, Content, Document, Basic, HighLevel}
 use Rattle.msc_tree.specs.Expressions.{Expression}
-use Rattle.msc_tree.specs.Graphs.{Graph}
 use Rattle.msc_tree.specs.Statements.{Item, Operand, Statement, Reference, Single, Coregion, Condition, Refer, Stop, InColumn, Outside, Column, Covered, Heading, Ended, items, statements}
 use Rattle.msc_tree.specs.Statements as tree
 use Rattle.msc_reading.specs.Languages.{just}
-use Rattle.msc_reading.specs.Grammars.{Grammar, Inner, shut, inner, inside, word, seq, or, read_as, chain, maybe, optional, behind}
+use Rattle.msc_reading.specs.Grammars.{Grammar, Inner, shut, inner, seq, or, read_as, chain, optional, behind}
 use Rattle.msc_reading.specs.Parts.{name, ending, kept, all_or_none, all_of, placed, lead, name_list}
-use Rattle.msc_items.specs.Declarations.{heading, decl, decl_of, declaration, head, all_heads}
+use Rattle.msc_items.specs.Declarations.{heading, decl, decl_of, declaration, head, declared_by}
 use Rattle.msc_items.specs.Events.{single, coregion, stop}
 use Rattle.msc_items.specs.Multis.{shared_in, condition, joins}
-use Rattle.msc_items.specs.declared.head.Heads.{Heads}
+use Rattle.msc_items.specs.declared.head_parts.Heads.{Heads}
 use Rattle.msc_expression.specs.ExpressionGrammar.{expression}
 use Rattle.msc_expression.specs.GraphGrammar.{chart_graph}
-use Rattle.msc_document.specs.Inlines.{each, after, before, Naming, inline}
+use Rattle.msc_document.specs.Inlines.{each, Naming, inline}
 
 -- behind `begin`: [ name ] [ shared ] end; the shared list stands only in a column
 abbrev pub naming : Bool → Grammar Naming
@@ -133,7 +132,7 @@ chart_of place chart_name heads content = record { name = chart_name; place = pl
 
 -- chart = "msc" name end { head } ( { statement } | graph ) "endmsc" end
 abbrev pub chart : ℕ → Grammar Chart
-chart n = read_as (λ p. chart_of p.0 p.1.0 (all_heads p.1.1.1.0) p.1.1.1.1) (placed (just (codes "msc")) (seq name (seq ending (seq (each head) (content n)))))
+chart n = read_as (λ p. chart_of p.0 p.1.0 (declared_by p.1.1.1.0) p.1.1.1.1) (placed (just (codes "msc")) (seq name (seq ending (seq (each head) (content n)))))
 
 -- ---- documents
 

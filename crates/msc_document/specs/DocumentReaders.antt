@@ -7,20 +7,24 @@ use Rattle.msc_tree.specs.declared.chart.Cover.TheVariants.{All, Listed}
 use Rattle.msc_tree.specs.declared.reference.InlineForm.{InlineForm}
 use Rattle.msc_tree.specs.declared.reference.InlineForm.TheVariants.{Alt, Opt, Par, Loop, Exc}
 use Rattle.msc_tree.specs.declared.reference.Join.{Join}
+use Rattle.msc_tree.specs.declared.chart.Heading.{Heading}
+use Rattle.msc_tree.specs.Charts.{Chart, Content, Document, Basic, HighLevel}
 use Rattle.msc_tree.specs.Expressions.{Expression}
-use Rattle.msc_tree.specs.Statements.{Item, Operand, Statement, Reference, Single, Coregion, Condition, Refer, Stop, Column, Covered, Heading, Ended, item_list}
+use Rattle.msc_tree.specs.Statements.{Item, Operand, Statement, Reference, Single, Coregion, Condition, Refer, Stop, Column, Covered, item_list}
 use Rattle.msc_tree.specs.Statements as tree
-use Rattle.msc_reading.specs.Languages.{Set, Read, just, names, ◌>>=◌, word_at, each_at, seq_at, either_at, map_at, until_at, optional_at, behind_at, second_at, opens_at}
+use Rattle.msc_reading.specs.Languages.{Set, Read, just, names, ◌>>=◌, word_at, each_at, chain_at, tail_at, seq_at, either_at, map_at, until_at, optional_at, behind_at, second_at, opens_at}
 use Rattle.msc_reading.specs.Rows.{goes_on}
 use Rattle.msc_reading.specs.Parts.{kept, all_or_none, leads}
 use Rattle.msc_reading.specs.PartReaders.{name_at, lead_at, name_list_at, ending_at, placed_at}
-use Rattle.msc_items.specs.DeclarationReaders.{declaration_at}
+use Rattle.msc_items.specs.Declarations.{declared_by}
+use Rattle.msc_items.specs.DeclarationReaders.{heading_at, decl_at, declaration_at, head_at, head_words}
 use Rattle.msc_items.specs.EventReaders.{single_at, single_words, coregion_at, stop_at}
 use Rattle.msc_items.specs.MultiReaders.{shared_in_at, condition_at, joins_at}
 use Rattle.msc_expression.specs.Bounds.{loop_bounds_at}
 use Rattle.msc_expression.specs.ExpressionReaders.{expression_at}
+use Rattle.msc_expression.specs.GraphReaders.{chart_graph_at}
 use Rattle.msc_document.specs.Inlines.{Naming, Tail, taken_once, inline_item, firsts}
-use Rattle.msc_document.specs.DocumentGrammar.{Line, happen, list, declare, finish, lead_statement, reference_of, column_operand, outside_operand}
+use Rattle.msc_document.specs.DocumentGrammar.{Line, happen, list, declare, finish, lead_statement, reference_of, column_operand, outside_operand, chart_of}
 
 -- what an end begins with
 abbrev pub end_words : Set
@@ -44,8 +48,11 @@ reference_parts_at column x = map_at (λ p. (p.0, (p.1.0, p.1.1.0))) (seq_at x (
 abbrev pub named_reference_at : Bool → (List Token → Read Expression) → List Token → Read Reference
 named_reference_at column x = map_at (λ p. reference_of (Some p.0) p.1) (seq_at name_at (behind_at (just (codes ":")) (reference_parts_at column x)))
 
+abbrev pub unnamed_reference_at : Bool → (List Token → Read Expression) → List Token → Read Reference
+unnamed_reference_at column x = map_at (reference_of None) (reference_parts_at column x)
+
 abbrev pub reference_at : Bool → (List Token → Read Expression) → List Token → Read (Place × Reference)
-reference_at column x = placed_at (just (codes "reference")) (second_at names (just (codes ":")) (named_reference_at column x) (map_at (reference_of None) (reference_parts_at column x)))
+reference_at column x = placed_at (just (codes "reference")) (second_at names (just (codes ":")) (named_reference_at column x) (unnamed_reference_at column x))
 
 -- ---- operands
 
@@ -102,16 +109,29 @@ inline_at f p = either_at (form_word Alt) (form_at f Alt (p Alt)) (either_at (fo
 abbrev pub form_words : Set
 form_words = form_word Alt ++ (form_word Par ++ (form_word Opt ++ (form_word Exc ++ form_word Loop)))
 
+abbrev pub single_item_at : List Token → Read Item
+single_item_at = map_at (λ e. tree.placed e.place (Single e)) single_at
+
+abbrev pub coregion_item_at : List Token → Read Item
+coregion_item_at = map_at (λ p. tree.placed p.0 (Coregion p.1)) coregion_at
+
+abbrev pub stop_item_at : List Token → Read Item
+stop_item_at = map_at (λ place. tree.placed place Stop) stop_at
+
+abbrev pub condition_item_at : Bool → List Token → Read Item
+condition_item_at column = map_at (λ p. tree.placed p.0 (Condition p.1 p.2)) (condition_at column)
+
+abbrev pub reference_item_at : Bool → (List Token → Read Expression) → List Token → Read Item
+reference_item_at column x = map_at (λ p. tree.placed p.0 (Refer p.1)) (reference_at column x)
+
 abbrev pub multi_at : {A : Type 0} → Bool → (A → Operand) → (List Token → Read Expression) → (InlineForm → List Token → Read (Tail A)) → List Token → Read Item
-multi_at column f x p = either_at (just (codes "condition")) (map_at (λ p. tree.placed p.0 (Condition p.1 p.2)) (condition_at column))
-    (either_at form_words (inline_at f p) (map_at (λ p. tree.placed p.0 (Refer p.1)) (reference_at column x)))
+multi_at column f x p = either_at (just (codes "condition")) (condition_item_at column) (either_at form_words (inline_at f p) (reference_item_at column x))
 
 abbrev pub multi_words : Set
 multi_words = just (codes "condition") ++ (form_words ++ just (codes "reference"))
 
 abbrev pub event_at : {A : Type 0} → Bool → (A → Operand) → (List Token → Read Expression) → (InlineForm → List Token → Read (Tail A)) → List Token → Read Item
-event_at column f x p = either_at single_words (map_at (λ e. tree.placed e.place (Single e)) single_at) (either_at (just (codes "concurrent")) (map_at (λ p. tree.placed p.0 (Coregion p.1)) coregion_at)
-    (either_at multi_words (multi_at column f x p) (map_at (λ place. tree.placed place Stop) stop_at)))
+event_at column f x p = either_at single_words single_item_at (either_at (just (codes "concurrent")) coregion_item_at (either_at multi_words (multi_at column f x p) stop_item_at))
 
 abbrev pub event_words : Set
 event_words = single_words ++ (just (codes "concurrent") ++ (multi_words ++ just (codes "stop")))
@@ -233,3 +253,65 @@ outside_at form n p = statements_at (Some form) opening_words (opening_at (outsi
 unfoldable pub outside_tails_at : ℕ → Tails
 outside_tails_at zero form = tail_of_at false form None
 outside_tails_at (suc n) form = tail_of_at false form (Some (outside_at form n (outside_tails_at n)))
+
+abbrev pub covered_opening_at : ℕ → List Token → Read Statement
+covered_opening_at n = opening_at (outside_event_at n (outside_tails_at n)) (outside_multi_at n (outside_tails_at n))
+
+-- ---- charts
+
+-- the column of an instance
+abbrev pub instance_at : ℕ → List Token → Read Statement
+instance_at n = map_at (λ p. Column p.0 (tree.items p.1.1.0)) (behind_at (just (codes "instance")) (seq_at decl_at (seq_at ending_at (seq_at (column_at None (column_event_at n)) ending_at))))
+
+-- a statement of a chart up to its first item, or a whole column
+abbrev pub chart_opening_at : ℕ → List Token → Read Statement
+chart_opening_at n = either_at (just (codes "instance")) (instance_at n) (covered_opening_at n)
+
+abbrev pub chart_words : Set
+chart_words = just (codes "instance") ++ opening_words
+
+-- the statements of a chart, and "endmsc"
+abbrev pub chart_statements_at : ℕ → List Token → Read (List Statement)
+chart_statements_at n = statements_at None chart_words (chart_opening_at n) (outside_event_at n (outside_tails_at n)) (outside_multi_at n (outside_tails_at n))
+
+abbrev pub chart_end_at : List Token → Read (Unit {0})
+chart_end_at = behind_at (just (codes "endmsc")) ending_at
+
+abbrev pub content_at : ℕ → List Token → Read Content
+content_at n = either_at (chart_words ++ just (codes "endmsc")) (map_at (λ p. Basic p.0) (seq_at (chart_statements_at n) ending_at)) (map_at (λ p. HighLevel p.0) (seq_at (chart_graph_at n) chart_end_at))
+
+abbrev pub chart_at : ℕ → List Token → Read Chart
+chart_at n = map_at (λ p. chart_of p.0 p.1.0 (declared_by p.1.1.1.0) p.1.1.1.1) (placed_at (just (codes "msc")) (seq_at name_at (seq_at ending_at (until_at head_words head_at (content_at n)))))
+
+-- ---- documents with at least one token
+
+-- what a heading, charts and the end of a document make
+abbrev pub Parts : Type 0
+Parts = (Option Heading × List Chart) × Option (Unit {0})
+
+abbrev pub parts_of : Parts → Document
+parts_of p = record { heading = p.0.0; charts = p.0.1 }
+
+abbrev pub document_end_at : List Token → Read (Unit {0})
+document_end_at = behind_at (just (codes "endmscdocument")) ending_at
+
+abbrev pub headed : (Heading × List Chart) × Option (Unit {0}) → Parts
+headed p = ((Some p.0.0, p.0.1), p.1)
+
+abbrev pub unheaded : (Chart × List Chart) × Option (Unit {0}) → Parts
+unheaded p = ((None, p.0.0 ∷ p.0.1), p.1)
+
+abbrev pub ended : Unit {0} → Parts
+ended e = ((None, []), Some e)
+
+-- a document that isn't empty
+abbrev pub parts_at : ℕ → List Token → Read Parts
+parts_at n = either_at (just (codes "mscdocument")) (map_at headed (tail_at (just (codes "endmscdocument")) (chain_at (just (codes "msc")) heading_at (chart_at n)) document_end_at))
+    (either_at (just (codes "msc")) (map_at unheaded (tail_at (just (codes "endmscdocument")) (chain_at (just (codes "msc")) (chart_at n) (chart_at n)) document_end_at)) (map_at ended document_end_at))
+
+abbrev pub empty_document : Document
+empty_document = record { heading = None; charts = [] }
+
+abbrev pub document_at : ℕ → List Token → Read Document
+document_at n [] = Ok (empty_document, [])
+document_at n (t ∷ ts) = map_at parts_of (parts_at n) (t ∷ ts)

@@ -1,6 +1,6 @@
 -- How an inline expression is written (Z.120, clause 7.2), whatever stands in its operands.
 -- A level is opened by `begin`.
-use Rattle.std.specs.Prelude.{ℕ, List, [], ◌∷◌, map, Option, Some, None, codes}
+use Rattle.std.specs.Prelude.{ℕ, List, [], ◌∷◌, map, Option, Some, codes}
 use Rattle.msc_base.specs.declared.place.Place.{Place}
 use Rattle.msc_tree.specs.declared.chart.Cover.{Cover}
 use Rattle.msc_tree.specs.declared.reference.InlineForm.{InlineForm}

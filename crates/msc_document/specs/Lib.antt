@@ -1,3 +1,4 @@
 pub mod DocumentGrammar
 pub mod DocumentReaders
 pub mod Inlines
+pub mod ItemReaders

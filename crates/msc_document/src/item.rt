@@ -1,0 +1,140 @@
+ghost use Rattle.std.specs.Prelude.{◌≡◌, map};
+ghost use Rattle.msc_tree.specs.Statements.{placed};
+ghost use Rattle.msc_tree.specs.Views.{item_view, inline_view, operand_view};
+ghost use Rattle.msc_reading.specs.Answers.{Gives};
+ghost use Rattle.msc_expression.specs.ExpressionReaders.{expression_at};
+ghost use Rattle.msc_document.specs.DocumentReaders as specs;
+ghost use Rattle.msc_document.specs.ItemReaders.{inline_parts, item_of};
+
+use crate::reference::reference;
+use msc_base::{Name, Place};
+use msc_expression::Bounds;
+use msc_items::{condition, coregion, single, stop};
+use msc_reading::ReadFault;
+use msc_tokens::Token;
+use msc_tree::{Cover, InlineForm, RawForm, RawInline, RawItem, RawOperand};
+use std::alloc::Global;
+
+/// A single event.
+pub fn single_item(alloc: Global, tokens: &[Token]) -> Result<(RawItem, &[Token]), ReadFault>
+    ensures { Gives (λ x. (item_view x.0, x.1.now)) result (specs.single_item_at tokens.now) }
+{
+    let (event, rest) = single(alloc, tokens)?;
+    let place = event.place;
+    Ok((
+        RawItem {
+            place,
+            form: RawForm::Single(event),
+        },
+        rest,
+    ))
+}
+
+/// A coregion.
+pub fn coregion_item(alloc: Global, tokens: &[Token]) -> Result<(RawItem, &[Token]), ReadFault>
+    ensures { Gives (λ x. (item_view x.0, x.1.now)) result (specs.coregion_item_at tokens.now) }
+{
+    let (place, events, rest) = coregion(alloc, tokens)?;
+    Ok((
+        RawItem {
+            place,
+            form: RawForm::Coregion(events),
+        },
+        rest,
+    ))
+}
+
+/// The stop of an instance.
+pub fn stop_item(tokens: &[Token]) -> Result<(RawItem, &[Token]), ReadFault>
+    ensures { Gives (λ x. (item_view x.0, x.1.now)) result (specs.stop_item_at tokens.now) }
+{
+    let (place, rest) = stop(tokens)?;
+    Ok((
+        RawItem {
+            place,
+            form: RawForm::Stop,
+        },
+        rest,
+    ))
+}
+
+/// A condition.
+pub fn condition_item(
+    alloc: Global,
+    column: bool,
+    tokens: &[Token],
+) -> Result<(RawItem, &[Token]), ReadFault>
+    ensures { Gives (λ x. (item_view x.0, x.1.now)) result (specs.condition_item_at column tokens.now) }
+{
+    let (place, names, shared, rest) = condition(alloc, column, tokens)?;
+    Ok((
+        RawItem {
+            place,
+            form: RawForm::Condition(names, shared),
+        },
+        rest,
+    ))
+}
+
+/// A reference.
+pub fn reference_item(
+    alloc: Global,
+    column: bool,
+    tokens: &[Token],
+    levels: usize,
+) -> Result<(RawItem, &[Token]), ReadFault>
+    ensures { Gives (λ x. (item_view x.0, x.1.now)) result (specs.reference_item_at column (expression_at levels) tokens.now) }
+{
+    let (place, reference, rest) = reference(alloc, column, tokens, levels)?;
+    Ok((
+        RawItem {
+            place,
+            form: RawForm::Reference(reference),
+        },
+        rest,
+    ))
+}
+
+/// An inline expression of these parts.
+fn inline_of(
+    form: InlineForm,
+    bounds: Bounds,
+    name: Option<Name>,
+    shared: Option<Cover>,
+    operands: Vec<RawOperand>,
+) -> RawInline
+    ensures { inline_view result ≡ inline_parts form (bounds, ((name, shared), map operand_view operands.items)) }
+{
+    RawInline {
+        form,
+        lower: bounds.lower,
+        upper: bounds.upper,
+        name,
+        shared,
+        operands,
+    }
+}
+
+/// An item that is an inline expression.
+fn of_inline(place: Place, inline: RawInline) -> RawItem
+    ensures { item_view result ≡ placed place (inline_view inline) }
+{
+    RawItem {
+        place,
+        form: RawForm::Inline(inline),
+    }
+}
+
+/// The item of an inline expression.
+pub fn inline_item(
+    place: Place,
+    form: InlineForm,
+    bounds: Bounds,
+    name: Option<Name>,
+    shared: Option<Cover>,
+    operands: Vec<RawOperand>,
+) -> RawItem
+    ensures { item_view result ≡ item_of form (place, (bounds, ((name, shared), map operand_view operands.items))) }
+{
+    of_inline(place, inline_of(form, bounds, name, shared, operands))
+}

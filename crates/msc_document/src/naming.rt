@@ -1,0 +1,43 @@
+ghost use Rattle.std.specs.Prelude.{◌≡◌};
+ghost use Rattle.msc_reading.specs.Answers.{Gives};
+ghost use Rattle.msc_document.specs.DocumentReaders.{some_name_at, naming_at, closing_at};
+
+use msc_base::Name;
+use msc_items::shared_in;
+use msc_reading::{ReadFault, ending, own_name, starts_with_name, word};
+use msc_tokens::Token;
+use msc_tree::Cover;
+use std::alloc::Global;
+
+/// A name, where there is one.
+fn some_name(alloc: Global, tokens: &[Token]) -> Result<(Option<Name>, &[Token]), ReadFault>
+    ensures { Gives (λ x. (x.0, x.1.now)) result (some_name_at tokens.now) }
+{
+    if starts_with_name(tokens) {
+        let (name, rest) = own_name(alloc, tokens)?;
+        return Ok((Some(name), rest));
+    }
+    Ok((None, tokens))
+}
+
+/// The name of an inline expression and, in a column, the list of those that share it, where there are any.
+pub fn naming(
+    alloc: Global,
+    column: bool,
+    tokens: &[Token],
+) -> Result<(Option<Name>, Option<Cover>, &[Token]), ReadFault>
+    ensures { Gives (λ x. ((x.0, x.1), x.2.now)) result (naming_at column tokens.now) }
+{
+    let (name, rest) = some_name(alloc, tokens)?;
+    let (shared, rest) = shared_in(alloc, column, rest)?;
+    let rest = ending(rest)?;
+    Ok((name, shared, rest))
+}
+
+/// The end of an inline expression, behind its form's word.
+pub fn closing(tokens: &[Token]) -> Result<&[Token], ReadFault>
+    ensures { Gives (λ x. (tt, x.now)) result (closing_at tokens.now) }
+{
+    let (_end, rest) = word(tokens, "end")?;
+    ending(rest)
+}
