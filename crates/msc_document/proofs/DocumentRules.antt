@@ -16,7 +16,7 @@ use Rattle.msc_reading.proofs.PartRules.{ending_law, ending_rule}
 use Rattle.msc_reading.proofs.Parses.{one_value, refused_parse, deep_parse, whole_parse, left_parse}
 use Rattle.msc_reading.proofs.Rules.{Law, Rule, or_law, or_rule, as_law, as_rule, chain_law, chain_rule, tail_law, tail_rule}
 use Rattle.msc_reading.proofs.Shallow.{behind_shallow}
-use Rattle.msc_expression.specs.Exactness.{IsExact}
+use Rattle.msc_reading.specs.Exactness.{IsExact}
 use Rattle.msc_items.specs.Declarations.{heading}
 use Rattle.msc_items.proofs.DeclarationRules.{heading_law, heading_rule}
 use Rattle.msc_document.specs.DocumentGrammar.{chart, document}
