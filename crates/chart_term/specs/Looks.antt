@@ -1,7 +1,7 @@
 -- What a look at a term shows.
 use Rattle.std.specs.Prelude.{◌≡◌}
 use Rattle.msc_base.specs.Patterns.{row, aside}
-use Rattle.hmsc_graph.specs.Nets.{spot_of, goal_of}
+use Rattle.hmsc_graph.specs.Spots.{spot_of, goal_of}
 use Rattle.chart_term.specs.declared.look.Look.{Look}
 use Rattle.chart_term.specs.declared.look.Look.TheVariants as show
 use Rattle.chart_term.specs.Terms.{Tree, Nil, Event, Join, Choice, Bound, Turns, Trail, trees, row_of}

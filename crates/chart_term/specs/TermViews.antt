@@ -1,7 +1,7 @@
 -- The tree that a node stands for.
 use Rattle.std.specs.Prelude.{◌<◌, length}
 use Rattle.msc_base.specs.Patterns.{row, aside}
-use Rattle.hmsc_graph.specs.Nets.{spot_of, goal_of}
+use Rattle.hmsc_graph.specs.Spots.{spot_of, goal_of}
 use Rattle.chart_term.specs.declared.term.Form.{Form}
 use Rattle.chart_term.specs.declared.term.Form.TheVariants as form
 use Rattle.chart_term.specs.Terms.{Tree, Nil, Event, Join, Choice, Bound, Turns, Trail, trees, row_of}

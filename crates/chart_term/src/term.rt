@@ -3,7 +3,7 @@ ghost use Rattle.std.specs.Option.{ForSome};
 ghost use Rattle.chart_term.specs.Facts.{HasFacts, HaveFacts, RowHasFacts, misses, most_stored};
 ghost use Rattle.chart_term.specs.Terms.{Nil, Event as EventTree, Join, Choice, Turns, Trail, Bound, trees, row_of, weight};
 ghost use Rattle.msc_base.specs.Patterns.{row, aside};
-ghost use Rattle.hmsc_graph.specs.Nets.{spot_of, goal_of};
+ghost use Rattle.hmsc_graph.specs.Spots.{spot_of, goal_of};
 ghost use Rattle.chart_term.specs.NormalForms.{open_choice};
 ghost use Rattle.chart_term.specs.Views.{pairs_of};
 

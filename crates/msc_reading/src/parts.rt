@@ -78,7 +78,11 @@ fn comma_name(alloc: Global, tokens: &[Token]) -> Result<(Name, &[Token]), ReadF
 }
 
 /// Other names, each behind a comma, appended to the list.
-pub fn more_names(alloc: Global, tokens: &[Token], front: Names) -> Result<(Names, &[Token]), ReadFault>
+pub fn more_names(
+    alloc: Global,
+    tokens: &[Token],
+    front: Names,
+) -> Result<(Names, &[Token]), ReadFault>
     ensures { Gives (λ x. (x.0, x.1.now)) result (more_names_at front (length tokens.now) tokens.now) }
 {
     let mut names = front;

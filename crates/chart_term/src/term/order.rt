@@ -1,6 +1,6 @@
 ghost use Rattle.std.specs.Prelude.{◌≡◌, ◌↔◌, IsTrue};
 ghost use Rattle.std.specs.declared.cmp.Ordering.TheVariants.{Less};
-ghost use Rattle.hmsc_graph.specs.Nets.{spot_of, goal_of};
+ghost use Rattle.hmsc_graph.specs.Spots.{spot_of, goal_of};
 ghost use Rattle.chart_term.specs.Order.{event_cmp, goal_cmp, maybe_cmp, pairs_cmp, rank, row_cmp, spot_cmp, tree_cmp, trees_cmp};
 ghost use Rattle.chart_term.specs.Terms.{row_of, trees};
 ghost use Rattle.chart_term.specs.Views.{event_of, pairs_of};
