@@ -44,3 +44,6 @@ pub mod Selfless
 pub mod SoundParts
 pub mod Numbers
 mod Missed
+pub mod Removals
+pub mod Coregions
+mod CoregionWeights

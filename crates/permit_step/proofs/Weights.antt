@@ -12,7 +12,7 @@ use Rattle.std.proofs.Common.{arith}
 abbrev event : ℕ → ℕ → ℕ → Tree
 event n i a = Event (record { number = n; at = i; also = None; label = a })
 
-abbrev weigh : Tree → List ℕ → ℕ
+abbrev pub weigh : Tree → List ℕ → ℕ
 weigh x l = set_weight (residual_set 40 (permits_of []) (x ∷ []) l)
 
 -- a message from one instance to another: 5, then 1, then 1
@@ -69,8 +69,8 @@ answer_received = refl
 second_request : weigh requests (1 ∷ 2 ∷ 3 ∷ 4 ∷ 1 ∷ []) ≡ 31
 second_request = refl
 
--- a coregion of twenty equal actions: 21, and then as many terms of 20 as there are actions
-abbrev alike : ℕ → ℕ → Trees
+-- a coregion of twenty equal actions: 21, and then as many terms of 20 as there are actions; the fourth weight is in CoregionWeights
+abbrev pub alike : ℕ → ℕ → Trees
 alike n zero = none
 alike n (suc m) = more (event n 0 0) (alike (n + 1) m)
 
