@@ -11,5 +11,6 @@ mod laws;
 mod naming;
 mod reference;
 mod starts;
+mod statements;
 
 pub use laws::documents_are_exact;
