@@ -1,4 +1,6 @@
+pub mod ChartReaders
 pub mod DocumentGrammar
 pub mod DocumentReaders
+pub mod Faults
 pub mod Inlines
 pub mod ItemReaders

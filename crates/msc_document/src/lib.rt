@@ -4,11 +4,14 @@
 //! exact.
 #![tactic(auto)]
 
+mod chart;
 mod closer;
 mod columns;
+mod document;
 mod item;
 mod laws;
 mod naming;
+mod parsing;
 mod reference;
 mod starts;
 mod statements;
