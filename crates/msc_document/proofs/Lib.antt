@@ -19,3 +19,4 @@ pub mod Separators
 pub mod Shallows
 pub mod StatementLoops
 pub mod StatementRules
+pub mod StatementForms

@@ -4,3 +4,4 @@ pub mod DocumentReaders
 pub mod Faults
 pub mod Inlines
 pub mod ItemReaders
+pub mod StatementReaders

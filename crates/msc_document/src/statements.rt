@@ -3,6 +3,7 @@ ghost use Rattle.msc_tree.specs.Views.{statement_view};
 ghost use Rattle.msc_reading.specs.Answers.{Gives};
 ghost use Rattle.msc_document.specs.DocumentReaders.{chart_statements_at};
 
+use crate::items::statements;
 use msc_reading::ReadFault;
 use msc_tokens::Token;
 use msc_tree::Statement;
@@ -10,11 +11,11 @@ use std::alloc::Global;
 
 /// The statements of a chart, and its word `endmsc`.
 pub fn chart_statements(
-    _alloc: Global,
-    _tokens: &[Token],
-    _levels: usize,
+    alloc: Global,
+    tokens: &[Token],
+    levels: usize,
 ) -> Result<(Vec<Statement>, &[Token]), ReadFault>
-    ensures { Gives (λ x. (map statement_view x.0.items, x.1.now)) result (chart_statements_at _levels _tokens.now) }
+    ensures { Gives (λ x. (map statement_view x.0.items, x.1.now)) result (chart_statements_at levels tokens.now) }
 {
-    Err(ReadFault::NoMemory)
+    statements(alloc, tokens, levels, None)
 }
