@@ -7,7 +7,7 @@ use Rattle.msc_reading.specs.Languages.{Set, Read, refused, deep, apart, starts,
 use Rattle.msc_reading.specs.Languages as rules
 use Rattle.msc_reading.specs.Grammars.{Grammar, or, read_as, chain, tail, behind}
 use Rattle.msc_reading.specs.Parts.{ending}
-use Rattle.msc_reading.specs.Parsing.{Begins, IsRefused, IsTooDeep, OneReading}
+use Rattle.msc_reading.specs.Parsing.{Begins, Level, IsRefused, IsTooDeep, OneReading}
 use Rattle.msc_reading.proofs.Lists.{starts_some}
 use Rattle.msc_reading.proofs.Eaches.{last}
 use Rattle.msc_reading.proofs.Chains.{ends_of}
@@ -220,3 +220,21 @@ module _ (n : ℕ) (t : Token) (ts : List Token) where
 pub document_exact : (n : ℕ) (ts : List Token) → IsExact document n ts (document_at n ts)
 document_exact n [] = ((None, ([], None)), ([], [], refl, inl (refl, refl), ([], [], refl, refl, inl (refl, refl))), refl)
 document_exact n (t ∷ ts) = answer n t ts (parts_at n (t ∷ ts)) refl
+
+-- what opens a level too many goes on with one level more
+pub opened_document : (n : ℕ) (p : List Token) → (document n).brink p → Begins document (suc n) p
+opened_document n p k =
+    let v = (parts_rule n).known.opened p (from_document_brink n p k) in
+    record { more = v.more; value = parts_of v.value; reads = to_document (suc n) (p ++ v.more) v.value v.holds }
+
+no_front : (p q : List Token) → p ++ q ≡ [] → p ≡ []
+no_front [] q e = refl
+no_front (t ∷ p) q e = cc
+
+-- a document opens no level too many
+pub proper_document : (n : ℕ) (x : List Token) (d : Document) → (document n).reads x d → Level document n x
+proper_document n x d h p q e k = go (from_document n x d h)
+  where
+    go : Known n x d → ⊥
+    go (inl (none_there, same)) = (parts_rule n).known.some p (from_document_brink n p k) (no_front p q (sym e ∙ none_there))
+    go (inr (v, r, same)) = (parts_rule n).known.proper x v r p q e (from_document_brink n p k)

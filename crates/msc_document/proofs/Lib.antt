@@ -1,8 +1,10 @@
 pub mod Beginnings
+pub mod ChartForms
 pub mod ChartRules
 pub mod ColumnRules
 pub mod Continued
 pub mod DocumentRules
+pub mod Firsts
 pub mod Goings
 pub mod ItemForms
 pub mod ItemRules
@@ -10,9 +12,11 @@ pub mod LineRules
 pub mod Lines
 pub mod OperandMaps
 pub mod OperandRules
+pub mod ParseAnswers
 pub mod Parts
 pub mod References
 pub mod Separators
 pub mod Shallows
 pub mod StatementLoops
 pub mod StatementRules
+pub mod StatementForms

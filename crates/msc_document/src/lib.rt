@@ -4,12 +4,20 @@
 //! exact.
 #![tactic(auto)]
 
+mod chart;
 mod closer;
-mod columns;
+mod document;
 mod item;
+mod items;
 mod laws;
+mod line_parts;
 mod naming;
+mod parsing;
 mod reference;
 mod starts;
+mod statements;
+#[cfg(test)]
+mod tests;
 
 pub use laws::documents_are_exact;
+pub use parsing::parse;

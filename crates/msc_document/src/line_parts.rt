@@ -1,0 +1,80 @@
+ghost use Rattle.std.specs.Prelude.{◌≡◌, map, codes};
+ghost use Rattle.msc_tree.specs.Statements.{Column, Covered, Heading, Ended, items};
+ghost use Rattle.msc_tree.specs.Views.{item_view, statement_view};
+ghost use Rattle.msc_reading.specs.Answers.{Gives};
+ghost use Rattle.msc_reading.specs.Languages.{just, map_at, behind_at};
+ghost use Rattle.msc_reading.specs.PartReaders.{ending_at};
+ghost use Rattle.msc_items.specs.DeclarationReaders.{declared_at};
+ghost use Rattle.msc_document.specs.StatementReaders.{other_names_at};
+
+use msc_base::{Items, Name, Names, Place};
+use msc_items::declared;
+use msc_reading::{ReadFault, ending, more_names, own_name, word};
+use msc_tokens::Token;
+use msc_tree::{Cover, Decl, RawItem, Statement};
+use std::alloc::Global;
+
+/// The statement that is the column of an instance.
+pub fn column_of(decl: Decl, held: Vec<RawItem>) -> Statement
+    ensures { statement_view result ≡ Column decl (items (map item_view held.items)) }
+{
+    Statement::Column(decl, held)
+}
+
+/// The statement that these instances are covered by these items.
+pub fn covered_by(cover: Cover, held: Vec<RawItem>) -> Statement
+    ensures { statement_view result ≡ Covered cover (items (map item_view held.items)) }
+{
+    Statement::Covered(cover, held)
+}
+
+/// The statement that this instance is declared.
+fn heading_of(decl: Decl) -> Statement
+    ensures { statement_view result ≡ Heading decl }
+{
+    Statement::Heading(decl)
+}
+
+/// The statement that this instance ends.
+fn end_of(name: Name) -> Statement
+    ensures { statement_view result ≡ Ended name }
+{
+    Statement::Ended(name)
+}
+
+/// Names behind the first one, with commas between them.
+pub fn other_names(
+    alloc: Global,
+    first: Name,
+    tokens: &[Token],
+) -> Result<(Names, &[Token]), ReadFault>
+    ensures { Gives (λ x. (x.0, x.1.now)) result (other_names_at first tokens.now) }
+{
+    let (second, rest) = own_name(alloc, tokens)?;
+    let mut names = Items::new(alloc);
+    names.push(first)?;
+    names.push(second)?;
+    more_names(alloc, rest, names)
+}
+
+/// The declaration of the instance of this name (Z.120, clause 4.2).
+pub fn heading_statement(
+    alloc: Global,
+    name: Name,
+    place: Place,
+    tokens: &[Token],
+) -> Result<(Statement, &[Token]), ReadFault>
+    ensures { Gives (λ x. (statement_view x.0, x.1.now)) result (map_at Heading (declared_at (name, place)) tokens.now) }
+{
+    let (decl, rest) = declared(alloc, name, place, tokens)?;
+    Ok((heading_of(decl), rest))
+}
+
+/// The end of the instance of this name.
+pub fn end_statement(name: Name, tokens: &[Token]) -> Result<(Statement, &[Token]), ReadFault>
+    ensures { Gives (λ x. (statement_view x.0, x.1.now)) result (map_at (λ e. Ended name) (behind_at (just (codes "endinstance")) ending_at) tokens.now) }
+{
+    let (_word, rest) = word(tokens, "endinstance")?;
+    let rest = ending(rest)?;
+    Ok((end_of(name), rest))
+}

@@ -1,0 +1,94 @@
+ghost use Rattle.std.specs.Prelude.{◌≡◌, ◌++◌, ◌∷◌, List, ℕ, IfOk, IfErr, length};
+ghost use Rattle.msc_tokens.specs.declared.token.Token.{Token};
+ghost use Rattle.msc_tree.specs.Charts.{Document};
+ghost use Rattle.msc_tree.specs.Views.{document_view};
+ghost use Rattle.msc_grammar.specs.declared.fault.ParseFault.{ParseFault};
+ghost use Rattle.msc_grammar.specs.declared.fault.ParseFault.TheVariants.{Deep};
+ghost use Rattle.msc_grammar.specs.Refused.{fault_at, fault_by, form_of};
+ghost use Rattle.msc_grammar.specs.Refusals.{IsRefusal};
+ghost use Rattle.msc_document.specs.DocumentGrammar.{document};
+ghost use Rattle.msc_document.specs.Faults.{IsFault, IsAnswer};
+
+use crate::document::document;
+use msc_base::Place;
+use msc_grammar::{ParseFault, form_of};
+use msc_reading::ReadFault;
+use msc_tokens::{Token, TokenList};
+use msc_tree::RawDocument;
+use std::alloc::Global;
+
+/// The refusal of a token, by the form that it belongs to.
+fn refusal_of(token: &Token) -> ParseFault
+    ensures { result ≡ fault_by (form_of token.now.bytes) token.now.place }
+{
+    match form_of(token) {
+        Some(form) => ParseFault::Unsupported(form, token.place),
+        None => ParseFault::Syntax(token.place),
+    }
+}
+
+/// The refusal of the first of the last so many tokens, or of the text's end where there is none.
+fn refusal(tokens: &[Token], left: usize, end: Place) -> ParseFault
+    ensures { (front rest : List Token) → tokens.now ≡ front ++ rest → left ≡ length rest → result ≡ fault_at rest end }
+{
+    if left > tokens.len() {
+        return ParseFault::Syntax(end);
+    }
+    let rest = &tokens[tokens.len() - left..];
+    match rest.split_first() {
+        Some((token, _)) => refusal_of(token),
+        None => ParseFault::Syntax(end),
+    }
+}
+
+/// That the first of the last so many tokens opens a level too many.
+fn too_deep(tokens: &[Token], left: usize, end: Place) -> ParseFault
+    ensures { (front rest : List Token) (token : Token) → tokens.now ≡ front ++ token ∷ rest → left ≡ length (token ∷ rest) → result ≡ Deep token.place }
+{
+    if left > tokens.len() {
+        return ParseFault::Deep(end);
+    }
+    let rest = &tokens[tokens.len() - left..];
+    match rest.split_first() {
+        Some((token, _)) => ParseFault::Deep(token.place),
+        None => ParseFault::Deep(end),
+    }
+}
+
+/// The document that the tokens are, of a text that ends there, where so many levels may be opened.
+fn read_document(
+    alloc: Global,
+    tokens: &[Token],
+    levels: usize,
+    end: Place,
+) -> Result<RawDocument, ParseFault>
+    ensures { IsAnswer levels tokens.now end result }
+{
+    match document(alloc, tokens, levels) {
+        Ok((document, rest)) => {
+            if rest.is_empty() {
+                Ok(document)
+            } else {
+                Err(refusal(tokens, rest.len(), end))
+            }
+        }
+        Err(ReadFault::Refused(left)) => Err(refusal(tokens, left, end)),
+        Err(ReadFault::Deep(left)) => Err(too_deep(tokens, left, end)),
+        Err(ReadFault::NoMemory) => Err(ParseFault::NoMemory),
+    }
+}
+
+/// The document that the tokens are (Z.120, clause 3). At most 64 levels are open at a place: each `begin` opens one,
+/// and so does each parenthesis, `loop` and `opt` of a reference's expression and each `expr` of a frame.
+///
+/// Where they are none, the first fault is answered: the token with which they begin no document, or the text's end
+/// where they are only a front of one, or the token that opens level 65.
+pub fn parse(alloc: Global, tokens: &TokenList) -> Result<RawDocument, ParseFault>
+    ensures ok { IfOk result (λ read. (document 64).reads tokens.now.tokens (document_view read)) }
+    ensures only { IfOk result (λ read. (levels : ℕ) (other : Document) → (document levels).reads tokens.now.tokens other → other ≡ document_view read) }
+    ensures none { IfErr result (λ fault. IsRefusal fault → (other : Document) → (document 64).reads tokens.now.tokens other → ⊥) }
+    ensures place { IfErr result (λ fault. IsRefusal fault → IsFault document 64 tokens.now.tokens tokens.now.end_place fault) }
+    ensures only_fault { IfErr result (λ fault. IsRefusal fault → (other : ParseFault) → IsFault document 64 tokens.now.tokens tokens.now.end_place other → other ≡ fault) }
+{
+    read_document(alloc, tokens.as_slice(), 64, tokens.end_place())
+}
