@@ -16,8 +16,6 @@ mod parsing;
 mod reference;
 mod starts;
 mod statements;
-#[cfg(test)]
-mod tests;
 
 pub use laws::documents_are_exact;
 pub use parsing::parse;
