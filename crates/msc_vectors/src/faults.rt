@@ -50,6 +50,32 @@ fn no_read_behind_a_fault(rt: HostRuntime) -> Result<(), Fail> {
     Ok(())
 }
 
+/// A note and a string that the end of the document leaves open, where the shelf gives one byte a read.
+#[test]
+fn open_at_the_end_of_pieces(rt: HostRuntime) -> Result<(), Fail> {
+    let alloc = rt.alloc();
+    let rows: [(&str, &str); 2] = [
+        ("msc A; /* x", "document refused at 1:8: open note\n"),
+        (
+            "msc A; action 'it''s",
+            "document refused at 1:15: open string\n",
+        ),
+    ];
+    for (document, want) in rows {
+        let words = judge_words(alloc, "A")?;
+        let mut shelf = shelf_with(alloc, document, b"")?;
+        shelf.pieces_of(1);
+        let mut out = MemSink::new(alloc, 100)?;
+        assert_eq!(rt;
+            run(alloc, &words, &mut shelf, &mut out),
+            4,
+            "at {document}"
+        );
+        assert_eq!(rt; out.bytes(), want.as_bytes(), "at {document}");
+    }
+    Ok(())
+}
+
 /// The second call of the shelf fails, with whole pieces.
 #[test]
 fn first_read_fails(rt: HostRuntime) -> Result<(), Fail> {
