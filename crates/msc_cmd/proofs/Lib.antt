@@ -13,6 +13,7 @@ pub mod NumberedRuns
 pub mod Orders
 pub mod OtherNumbers
 pub mod Places
+pub mod Prints
 pub mod Replies
 pub mod Settling
 pub mod ShownLabels

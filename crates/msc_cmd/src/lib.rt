@@ -13,6 +13,7 @@ mod intake;
 mod judge;
 mod log_intake;
 mod log_reading;
+mod printing;
 mod reading;
 mod requests;
 
