@@ -10,7 +10,7 @@ use Rattle.chart_term.specs.TermRuns.{run_end, run_take}
 use Rattle.chart_term.specs.Terms.{Nil, Turns, Trail, gap, ends}
 use Rattle.permit_step.specs.FullSoundness.{IsSoundNode, IsFullySound, AreSoundNets, AreEndsNil}
 use Rattle.permit_step.specs.Sound.{HasOrder}
-use Rattle.permit_step.proofs.Fresh.{fresh_terms_are_sound, nil_orders, order_of}
+use Rattle.permit_step.proofs.FreshTerms.{fresh_terms_are_sound, nil_orders, order_of}
 use Rattle.permit_step.proofs.Times.{ties_from}
 use Rattle.permit_step.proofs.Witness.{message, message_sound, action, entry, within}
 

@@ -11,7 +11,8 @@ use Rattle.chart_term.specs.TermPatterns.{Shape, InPairs, pairs, Both}
 use Rattle.chart_term.specs.Terms.{TermEvent, Block, Tree, Nil, Event, Join, Choice, Bound, Turns, Trail, Trees, none, more, Row, ends, gap, turn, Part, Gap, parts}
 use Rattle.permit_step.specs.Laws.{Fits}
 use Rattle.permit_step.specs.Normality.{IsNormalOver}
-use Rattle.permit_step.specs.Permission.{permit, touch, permits_of}
+use Rattle.chart_term.specs.Spreads.{touch}
+use Rattle.permit_step.specs.Permission.{permit, permits_of}
 use Rattle.permit_step.specs.Sound.{HasOrder, IsSound}
 use Rattle.permit_step.specs.Soundness.{NeverGrows, IsOutside, NetLacks, IsKnown, LeadsWithin}
 use Rattle.permit_step.specs.Taking.{IsAfter}
