@@ -1,6 +1,7 @@
 ghost use Rattle.std.specs.Prelude.{◌≡◌, ◌<◌, ℕ, ◌++◌, ◌∷◌, [], nat_lt, length, Contains, IfOk, OnOk, OnErr};
 ghost use Rattle.hmsc_graph.specs.Nets.{size_of};
 ghost use Rattle.hmsc_graph.specs.Spots.{goal_of, spot_of};
+ghost use Rattle.chart_term.specs.NetValues.{label_number};
 ghost use Rattle.chart_term.specs.Fitting.{fits, goal_fits, spot_fits, walk_fits};
 ghost use Rattle.chart_term.specs.Spreads.{spread_of};
 ghost use Rattle.chart_term.specs.Tables.{net_count, net_of, nodes_of, node_of};
@@ -8,7 +9,8 @@ ghost use Rattle.chart_term.specs.Terms.{has};
 
 use crate::{Term, TermList};
 use hmsc_graph::{Goal, Net, Spot};
-use msc_base::{Block, Label, LabelList, NoMemory};
+use label_table::LabelTable;
+use msc_base::{Block, Label, NoMemory};
 use std::alloc::Global;
 use std::marker::Model;
 
@@ -26,7 +28,7 @@ pub(crate) struct StoredNet {
 #[derive(Drop)]
 pub struct Nets {
     alloc: Global,
-    labels: LabelList,
+    labels: LabelTable,
     /// The nets, of which each names only those before it.
     stored: Vec<StoredNet>,
 }
@@ -55,7 +57,7 @@ impl Nets {
     {
         Nets {
             alloc,
-            labels: LabelList::new(alloc),
+            labels: LabelTable::new(alloc),
             stored: Vec::new(alloc),
         }
     }
@@ -69,9 +71,14 @@ impl Nets {
         ensures ok { OnOk result (self.new ≡ record self.old { labels = self.old.labels ++ label ∷ [] }) }
         ensures err { OnErr result (self.new ≡ self.old) }
     {
-        let number = self.labels.len() as u32;
-        self.labels.push(label)?;
-        Ok(number)
+        self.labels.add(label)
+    }
+
+    /// The number of a label, if the table has it. It takes no memory.
+    pub fn label(&self, label: &Label) -> Option<u32>
+        ensures { result ≡ label_number self.now.labels label.now }
+    {
+        self.labels.number_of(label)
     }
 
     /// Appends a net with the term of each of its nodes, and gives its number. After want of memory
@@ -129,7 +136,7 @@ impl Nets {
     pub(crate) fn has_label(&self, label: u32) -> bool
         ensures { result ≡ nat_lt label (length self.now.labels) }
     {
-        (label as usize) < self.labels.len()
+        label < self.labels.len()
     }
 
     /// Whether there is such a net, and the walk is at its nodes.
