@@ -1,4 +1,4 @@
-ghost use Rattle.std.specs.Prelude.{◌≡◌, ◌<◌, ℕ, ◌++◌, ◌∷◌, [], nat_lt, length, Contains, IfOk, OnOk, OnErr};
+ghost use Rattle.std.specs.Prelude.{◌≡◌, ◌<◌, ℕ, ◌++◌, ◌∷◌, [], nat_lt, length, Contains, Some, slice_get, IfSome, IfNone, IfOk, OnOk, OnErr};
 ghost use Rattle.hmsc_graph.specs.Nets.{size_of};
 ghost use Rattle.hmsc_graph.specs.Spots.{goal_of, spot_of};
 ghost use Rattle.chart_term.specs.NetValues.{label_number};
@@ -76,7 +76,9 @@ impl Nets {
 
     /// The number of a label, if the table has it. It takes no memory.
     pub fn label(&self, label: &Label) -> Option<u32>
-        ensures { result ≡ label_number self.now.labels label.now }
+        ensures number { result ≡ label_number self.now.labels label.now }
+        ensures present { IfSome result (λ number. slice_get self.now.labels number ≡ Some label.now) }
+        ensures absent { IfNone result (Contains self.now.labels label.now → ⊥) }
     {
         self.labels.number_of(label)
     }

@@ -1,12 +1,13 @@
 -- Numbers of texts, and of labels by their keys.
 use Rattle.std.specs.Prelude.{◌&&◌, ◌==◌, not, nat_lt}
-use Rattle.std.proofs.Common.{◌≡◌, ℕ, suc, ◌+◌, Bool, true, false, cond, Option, Some, None, List, [], ◌∷◌, ◌++◌, length, get_or, refl, sym, ap, ap₂, subst, ◌∙◌, arith, Contains}
+use Rattle.std.proofs.Common.{◌≡◌, ℕ, suc, ◌+◌, Bool, true, false, cond, Option, Some, None, List, [], ◌∷◌, ◌++◌, length, get_or, slice_get, slice_index_or, zero, ◌<◌, refl, sym, ap, ap₂, subst, ◌∙◌, arith, Contains}
 use Rattle.std.specs.List.{position, prefix_len, list_any}
 use Rattle.std.specs.Map.{keys_of}
 use Rattle.std.specs.Str.{bytes_eq}
 use Rattle.std.proofs.lemmas.Bool.Decides.{Decides-eqb, Decides-ltb}
 use Rattle.std.proofs.lemmas.List.Elements.{Contains-append_left, Contains-append_right, Contains-push}
 use Rattle.std.proofs.lemmas.List.Quantifiers.{position-Some}
+use Rattle.std.proofs.lemmas.Option.{slice_get-get_or}
 use Rattle.std.proofs.lemmas.Slice.Eq.{bytes_eq-Decides}
 use Rattle.indexmap.specs.IndexMap.{insert_entry}
 use Rattle.msc_base.specs.NameTables.{with_name}
@@ -237,3 +238,24 @@ labels-snoc l k (e ∷ es) = ap (λ ls. e.1 ∷ ls) (labels-snoc l k es)
 pub labels-length : (es : List (LabelKey × Label)) → length (labels_of es) ≡ length es
 labels-length [] = refl
 labels-length (e ∷ es) = ap suc (labels-length es)
+
+-- what has no number isn't in the list
+absent_at : (l : Label) (ls : List Label) (k : ℕ) → k < length ls → slice_index_or ls k l ≡ l → label_number ls l ≡ None → ⊥
+absent_at l [] k h e n = omega (arith, h)
+absent_at l (m ∷ ls) zero h e n = some_none 0 (sym (position-first (same_label l) m ls (same_label_is_exact.whole l m (sym e))) ∙ n)
+absent_at l (m ∷ ls) (suc k) h e n = by (absent_at l ls k (omega (arith, h)) e) (same_label l m) refl
+  where
+    by : (label_number ls l ≡ None → ⊥) → (b : Bool) → same_label l m ≡ b → ⊥
+    by rest true q = some_none 0 (sym (position-first (same_label l) m ls q) ∙ n)
+    by rest false q = rest (later_none (label_number ls l) (sym (position-later (same_label l) m ls q) ∙ n))
+
+pub absent : (l : Label) (ls : List Label) → label_number ls l ≡ None → Contains ls l → ⊥
+absent l ls n h = absent_at l ls h.0 h.1 h.2 n
+
+-- what has a number stands there
+pub present : (l : Label) (ls : List Label) (n : ℕ) → label_number ls l ≡ Some n → slice_get ls n ≡ Some l
+present l ls n h =
+    let found = position-Some (same_label l) ls n l h in
+    slice_get-get_or ls n l found.0 ∙ ap Some (sym (same_label_is_exact.sound l (get_or ls n l) found.1))
+
+pub ruleset numbered = (absent, present)

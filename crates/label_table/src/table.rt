@@ -1,4 +1,4 @@
-ghost use Rattle.std.specs.Prelude.{◌≡◌, ◌<◌, ◌++◌, ◌∷◌, [], Contains, length, slice_get, Some, IfOk, OnOk, OnErr};
+ghost use Rattle.std.specs.Prelude.{◌≡◌, ◌<◌, ◌++◌, ◌∷◌, [], Contains, length, slice_get, Some, IfSome, IfNone, IfOk, OnOk, OnErr};
 ghost use Rattle.label_table.specs.Labels.{label_number};
 
 use crate::key::{LabelKey, key_of, number_label};
@@ -48,7 +48,17 @@ impl LabelTable {
     }
 
     /// The number of a label, if the table has it. It takes no memory.
+    #[tactic(auto, using(crate::proofs::Numbering::numbered))]
     pub fn number_of(&self, label: &Label) -> Option<u32>
+        ensures number { result ≡ label_number self.now label.now }
+        ensures present { IfSome result (λ number. slice_get self.now number ≡ Some label.now) }
+        ensures absent { IfNone result (Contains self.now label.now → ⊥) }
+    {
+        self.find(label)
+    }
+
+    /// The place of the label's key.
+    fn find(&self, label: &Label) -> Option<u32>
         ensures { result ≡ label_number self.now label.now }
     {
         let key = key_of(&self.texts, label)?;

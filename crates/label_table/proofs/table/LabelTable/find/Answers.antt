@@ -1,7 +1,7 @@
 use Rattle.std.proofs.Common.{◌∙◌, sym, ap}
 use Rattle.label_table.specs.Labels.{label_number}
 use Rattle.label_table.proofs.Numbering.{number_is, lacks}
-use Rattle.label_table.proofs.table.LabelTable.number_of.Goals as goal
+use Rattle.label_table.proofs.table.LabelTable.find.Goals as goal
 
 -- without a key the table lacks the label
 pub returns-in_err-key : goal.returns-in_err-key
