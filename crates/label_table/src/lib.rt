@@ -4,5 +4,7 @@
 mod key;
 pub mod laws;
 mod table;
+#[cfg(test)]
+mod tests;
 
 pub use table::LabelTable;
