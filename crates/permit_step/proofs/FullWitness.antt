@@ -76,7 +76,7 @@ ends_nil (suc zero) h = refl
 ends_nil (suc (suc m)) h = refl
 
 graph_nets : AreSoundNets 2 (entry ∷ [])
-graph_nets = (tt, (action_node, (nil_node, tt)), (tt, (tt, tt)), within, ends_nil)
+graph_nets = (tt, (action_node, (nil_node, tt)), (tt, (tt, tt)), within, ends_nil, refl)
 
 finished_full : IsFullySound 2 (entry ∷ []) (Trail 0 Start End [])
 finished_full = fresh_terms_are_sound.walk 2 (entry ∷ []) 0 End graph_nets (omega arith) tt

@@ -63,3 +63,4 @@ pub mod SetFacts
 pub mod TouchFacts
 pub mod Within
 pub mod ReadyTerms
+pub mod SoundReady

@@ -54,7 +54,7 @@ pub ready-tied : (w : Tables) (x y : Tree) (q : List (ℕ × ℕ)) → x ≡ bou
 ready-tied w x y q p h = subst (IsReady w) (sym p) (ready_bound w y q h)
 
 pub ready-two : (w : Tables) (xs ys : List Tree) (x y : Tree) → xs ≡ [] ++ x ∷ [] → ys ≡ xs ++ y ∷ [] → IsReady w x → IsReady w y → Each (IsReady w) ys
-ready-two w xs ys x y p q h g = subst (Each (IsReady w)) (sym (q ∙ ap (λ l. l ++ y ∷ []) p)) (h, g, tt)
+ready-two w xs ys x y p q h g = subst (Each (IsReady w)) (sym (q ∙ ap (λ l. l ++ y ∷ []) p)) (h, (g, tt))
 
 -- tables with a net of ready terms
 pub ready-new : (o : NetsValue) → o ≡ record { labels = []; tables = [] } → AreReadyTables o.tables

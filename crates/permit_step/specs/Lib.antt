@@ -21,3 +21,4 @@ pub mod Endings
 pub mod Fresh
 pub mod Children
 pub mod Touching
+pub mod ReadyBySoundness

@@ -1,6 +1,7 @@
 //! The laws of terms. Each is the contract of a function that does nothing.
 
 ghost use Rattle.permit_step.specs.Missed.{PermitOfMissed};
+ghost use Rattle.permit_step.specs.ReadyBySoundness.{ReadyBySoundness};
 ghost use Rattle.permit_step.specs.ReadyLaws.{ReadyIsKept};
 ghost use Rattle.permit_step.specs.ConstructorLaws.{PermitOnlyFalls, PermitOfNothing, NormalFormsKeepPatterns, ConstructorsKeepForm};
 ghost use Rattle.permit_step.specs.LaterTables.{LaterTablesAgree};
@@ -143,4 +144,10 @@ pub fn permission_of_missed()
 #[tactic(auto, using(crate::proofs::ReadyTerms::ready_is_kept))]
 pub fn ready_terms_are_kept()
     ensures { ReadyIsKept }
+{}
+
+/// A term that is sound in full, and its tables, are those of which permission and taking can be computed.
+#[tactic(auto, using(crate::proofs::SoundReady::ready_by_soundness))]
+pub fn sound_terms_are_ready()
+    ensures { ReadyBySoundness }
 {}
