@@ -57,9 +57,9 @@ fn rows() -> [(&'static str, Kind, &'static str, &'static str); 7] {
 fn labels_that_differ_in_one_part_have_numbers_of_their_own(rt: HostRuntime) -> Result<(), Fail> {
     let alloc = rt.alloc();
     let mut table = LabelTable::new(alloc);
-    for (at, kind, text, name) in rows() {
-        let number = add(&mut table, label(alloc, at, kind, text, name)?)?;
-        assert_eq!(rt; number, Some(table.len() - 1));
+    for (place, (at, kind, text, name)) in rows().iter().enumerate() {
+        let number = add(&mut table, label(alloc, at, *kind, text, name)?)?;
+        assert_eq!(rt; number, Some(place as u32));
     }
     for (place, (at, kind, text, name)) in rows().iter().enumerate() {
         let number = table.number_of(&label(alloc, at, *kind, text, name)?);

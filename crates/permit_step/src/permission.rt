@@ -92,7 +92,7 @@ fn permit_term(
 }
 
 /// The pairs once more.
-fn copy_pairs(alloc: Global, pairs: &PairList) -> Result<PairList, NoMemory>
+pub(crate) fn copy_pairs(alloc: Global, pairs: &PairList) -> Result<PairList, NoMemory>
     ensures { IfOk result (λ copy. copy ≡ pairs.now) }
 {
     let mut copy = PairList::new(alloc);
@@ -196,7 +196,7 @@ fn permit_turns(
 /// Puts what is left of the row's first parts in front of its end, and says whether permission failed for none.
 #[cycle(permit)]
 #[tactic(auto, using(crate::proofs::PermitRows::rows))]
-fn keep_parts(
+pub(crate) fn keep_parts(
     alloc: Global,
     nets: &Nets,
     body: &Term,
