@@ -1,0 +1,4 @@
+pub mod PlaceFacts
+pub mod Narrowing
+pub mod Joining
+pub mod FirstOnes
