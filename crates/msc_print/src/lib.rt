@@ -1,0 +1,17 @@
+//! Documents, printed in one canonical way.
+//!
+//! `specs/` has the tokens of each part, and how they are laid out.
+#![tactic(auto)]
+
+mod chart;
+mod decl;
+mod document;
+mod event;
+mod expression;
+mod graph;
+mod page;
+mod parts;
+mod shared;
+mod statement;
+
+pub use document::print_document;
