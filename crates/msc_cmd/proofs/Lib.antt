@@ -17,6 +17,7 @@ pub mod Replies
 pub mod Settling
 pub mod ShownLabels
 pub mod Taking
+pub mod TextFaults
 pub mod VerdictLaws
 pub mod WordLaws
 pub mod WovenPairs

@@ -7,6 +7,7 @@ mod answer;
 mod columns;
 mod command;
 mod document;
+mod document_text;
 mod entry;
 mod intake;
 mod judge;

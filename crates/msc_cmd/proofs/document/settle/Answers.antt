@@ -1,0 +1,17 @@
+use Rattle.std.proofs.Common.{◌≡◌, rules, subst}
+use Rattle.msc_tree.specs.Views.{document_view}
+use Rattle.msc_cmd.specs.declared.document_text.DocumentText.{DocumentText}
+use Rattle.msc_cmd.specs.declared.document_text.DocumentText.TheVariants.{Read, Refused}
+use Rattle.msc_cmd.specs.DocumentTexts.{IsTheText}
+use Rattle.msc_cmd.proofs.Settling.{only_faulty, settled_read}
+use Rattle.msc_cmd.proofs.document.settle.Goals as goal
+
+pub returns-in-Read : goal.returns-in-Read
+returns-in-Read c =
+    let is : c.args.text ≡ Read c.in-Read.field-0 c.in-Read.tokens = search rules in
+    λ bytes h. settled_read bytes (document_view c.in-Read.field-0) c.in-Read.tokens.tokens c.chart_of.result c.chart_of.ensures (subst (λ (t : DocumentText). IsTheText bytes t) is h)
+
+pub returns : goal.returns
+returns c =
+    let is : c.args.text ≡ Refused c.in-Refused.broken c.in-Refused.place = search rules in
+    λ bytes h. only_faulty bytes c.in-Refused.broken c.in-Refused.place (subst (λ (t : DocumentText). IsTheText bytes t) is h)
