@@ -1,3 +1,4 @@
 pub mod Endings
 pub mod Putting
 pub mod Sheets
+pub mod Unmoved

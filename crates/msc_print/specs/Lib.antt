@@ -5,4 +5,5 @@ pub mod GraphWords
 pub mod Layout
 pub mod Pages
 pub mod StatementWords
+pub mod Unplaced
 pub mod Words

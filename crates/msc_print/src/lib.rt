@@ -9,9 +9,13 @@ mod document;
 mod event;
 mod expression;
 mod graph;
+mod laws;
 mod page;
 mod parts;
 mod shared;
 mod statement;
+#[cfg(test)]
+mod tests;
 
 pub use document::print_document;
+pub use laws::places_are_not_printed;
