@@ -11,3 +11,4 @@ pub mod Loop
 pub mod Columns
 pub mod Ends
 pub mod Arranged
+pub mod WeavingLaws
