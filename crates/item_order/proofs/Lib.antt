@@ -12,3 +12,4 @@ pub mod Columns
 pub mod Ends
 pub mod Arranged
 pub mod WeavingLaws
+pub mod TestFacts

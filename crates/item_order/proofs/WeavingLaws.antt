@@ -1,9 +1,9 @@
 -- The laws of woven lists.
-use Rattle.std.proofs.Common.{◌≡◌, ℕ, ◌<◌, ◌≤◌, ◌+◌, ◌↔◌, ◌⊎◌, inl, inr, zero, suc, List, [], ◌∷◌, ◌++◌, arith, refl, sym, subst, append-nil}
+use Rattle.std.proofs.Common.{◌≡◌, ℕ, ◌<◌, ◌≤◌, ◌+◌, ◌↔◌, inl, inr, zero, suc, List, [], ◌∷◌, ◌++◌, arith, refl}
 use Rattle.std.proofs.lemmas.Bool.{cases_lt, cases_eq}
-use Rattle.item_order.specs.Orders.{Has, IsDue, IsNext, IsWhole, IsEarliestFirst}
-use Rattle.item_order.specs.Weaving.{Before, Precedes, HasColumn, IsWoven, IsCrossedAt}
-use Rattle.item_order.specs.Laws.{WovenIsOne, NeverWovenAndCrossed, CrossedIsOne, TextIsWoven, AreInOrder, numbers_from}
+use Rattle.item_order.specs.Orders.{Has, IsNext}
+use Rattle.item_order.specs.Weaving.{Before, Precedes, HasColumn}
+use Rattle.item_order.specs.Laws.{WovenIsOne, NeverWovenAndCrossed, CrossedIsOne, TextIsWoven, numbers_from}
 use Rattle.item_order.proofs.Agree.{Follows, from_follows, whole_same, whole_or_stuck, stuck_same}
 use Rattle.item_order.proofs.Columns.{woven, whole_of}
 use Rattle.item_order.proofs.Exchange.{has_left, has_right, has_either}
@@ -23,10 +23,13 @@ front_more : (front : List ℕ) (k : ℕ) → ((y : ℕ) → Has front y ↔ (y 
 front_more front k is y = (
   (λ h. elim (has_either front (k ∷ []) y h) [
     | inl l ↦ let low : y < k = (is y).0 l in omega arith
-    | inr r ↦ elim r [ inl e ↦ omega arith | inr b ↦ absurd b ] ]),
+    | inr r ↦ elim r [ inl e ↦ omega arith | inr b ↦ absurd b ]
+  ]),
   λ low. elim (cases_lt y k) [
     | inl lt ↦ has_left front (k ∷ []) y ((is y).1 lt)
-    | inr ge ↦ let e : k ≡ y = omega arith in has_right front (k ∷ []) y (inl e) ])
+    | inr ge ↦ let e : k ≡ y = omega arith in has_right front (k ∷ []) y (inl e)
+  ],
+)
 
 module _ (n : ℕ) (precedes : ℕ → ℕ → Type 0) (rises : (y x : ℕ) → precedes y x → y < x) where
   next_is : (front : List ℕ) (k : ℕ) → k < n → ((y : ℕ) → Has front y ↔ (y < k)) → IsNext n precedes front k
@@ -34,8 +37,10 @@ module _ (n : ℕ) (precedes : ℕ → ℕ → Type 0) (rises : (y x : ℕ) → 
     due = record {
       inside = low;
       remains = λ h. let own : k < k = (is k).0 h in omega arith;
-      ready = λ y p. (is y).1 (rises y k p) };
-    earliest = λ y d. elim (cases_lt y k) [ inl lt ↦ absurd (d.remains ((is y).1 lt)) | inr ge ↦ ge ] }
+      ready = λ y p. (is y).1 (rises y k p);
+    };
+    earliest = λ y d. elim (cases_lt y k) [ inl lt ↦ absurd (d.remains ((is y).1 lt)) | inr ge ↦ ge ];
+  }
 
   text_follows : (front : List ℕ) (k m : ℕ) → k + m ≡ n → ((y : ℕ) → Has front y ↔ (y < k)) → Follows n precedes front (numbers_from k m)
   text_follows front k zero e is = tt
@@ -57,4 +62,5 @@ text_is_woven n columns order =
     let follows : Follows n (Precedes columns) [] (numbers_from 0 n) = text_follows n (Precedes columns) rises [] 0 n (omega arith) none in
     woven n columns (numbers_from 0 n) (λ column h. (order column h).0) (record {
       every = λ x low. has_number 0 n x (omega arith) (omega (arith, low));
-      earliest = λ i x at. from_follows n (Precedes columns) [] (numbers_from 0 n) follows i x at })
+      earliest = λ i x at. from_follows n (Precedes columns) [] (numbers_from 0 n) follows i x at;
+    })

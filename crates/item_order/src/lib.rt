@@ -6,6 +6,8 @@ mod first_fault;
 pub mod laws;
 mod pairing;
 mod sorting;
+#[cfg(test)]
+mod tests;
 mod weaving;
 
 pub use edge::Edge;
