@@ -1,6 +1,6 @@
 -- At most one list is woven: two lists, each earliest at each position, that can't go on, are the same.
-use Rattle.std.proofs.Common.{◌≡◌, ℕ, ◌<◌, ◌≤◌, ◌+◌, List, [], ◌∷◌, ◌++◌, Option, Some, ◌⊎◌, inl, inr, slice_get, take, zero, suc, refl, sym, ap, ◌∙◌, subst, append-nil, append_assoc, arith}
-use Rattle.item_order.specs.Orders.{Has, IsAt, IsDue, IsNext, IsEarliestFirst, IsWhole, IsStuckAt}
+use Rattle.std.proofs.Common.{◌≡◌, ℕ, ◌≤◌, List, [], ◌∷◌, ◌++◌, take, zero, suc, refl, sym, ap, ◌∙◌, subst, append-nil, append_assoc, arith}
+use Rattle.item_order.specs.Orders.{Has, IsAt, IsDue, IsNext, IsWhole, IsStuckAt}
 
 module _ (n : ℕ) (precedes : ℕ → ℕ → Type 0) where
   -- behind front, each item of the list is the next

@@ -1,8 +1,7 @@
 -- Stuck exactly where there is no order at all.
-use Rattle.std.proofs.Common.{◌≡◌, ℕ, ◌<◌, ◌≤◌, ◌+◌, ◌⊎◌, inl, inr, List, [], ◌∷◌, ◌++◌, Option, Some, None, slice_get, take, nat_eq, if◌then◌else◌, Bool, true, false, zero, suc, arith, refl, sym, ap, ◌∙◌, subst}
+use Rattle.std.proofs.Common.{◌≡◌, ℕ, ◌<◌, ◌≤◌, ◌⊎◌, inl, inr, List, [], ◌∷◌, Some, take, zero, suc, arith, ap}
 use Rattle.std.proofs.lemmas.Bool.{cases_eq, cases_lt}
-use Rattle.item_order.specs.Orders.{Has, IsAt, IsDue, IsNext, IsEarliestFirst, IsWhole, IsStuckAt}
-use Rattle.item_order.proofs.Counting.{eq_true, eq_false}
+use Rattle.item_order.specs.Orders.{Has, IsAt, IsWhole, IsStuckAt}
 use Rattle.item_order.proofs.Ranks.{all_in}
 
 -- an arrangement of the first n items, each once, that keeps the relation

@@ -1,7 +1,6 @@
 -- Neighbours make up a column, and a whole order has each column as its restriction.
-use Rattle.std.proofs.Common.{◌≡◌, ℕ, ◌<◌, ◌≤◌, ◌+◌, Bool, true, false, List, [], ◌∷◌, ◌++◌, ◌⊎◌, inl, inr, nat_eq, if◌then◌else◌, All, length, zero, suc, refl, sym, ap, ◌∙◌, subst, arith, append-nil, append_assoc}
-use Rattle.std.proofs.lemmas.Bool.{cases_lt, cases_eq}
-use Rattle.item_order.specs.Orders.{Has, IsDue, IsNext, IsWhole, IsEarliestFirst, IsAt}
+use Rattle.std.proofs.Common.{◌≡◌, ℕ, ◌<◌, Bool, true, false, List, [], ◌∷◌, ◌++◌, ◌⊎◌, inl, inr, if◌then◌else◌, All, refl, sym, ap, ◌∙◌, subst, arith, append-nil, append_assoc}
+use Rattle.item_order.specs.Orders.{Has, IsNext, IsWhole}
 use Rattle.item_order.specs.Weaving.{Before, Precedes, restricted, HasColumn, AreDifferent, IsWoven}
 use Rattle.item_order.specs.Counts.{Leads, Inside, has}
 use Rattle.std.proofs.lemmas.List.Elements.{All-cons}
@@ -9,7 +8,7 @@ use Rattle.item_order.specs.Columns.{from_to, neighbours, all_neighbours}
 use Rattle.item_order.specs.declared.edge.Edge.{Edge}
 use Rattle.item_order.proofs.Agree.{Follows, to_follows}
 use Rattle.item_order.proofs.Exchange.{MakesUp, has_left, has_right, has_either}
-use Rattle.item_order.proofs.Counting.{has_true, true_has, false_has, has_false}
+use Rattle.item_order.proofs.Counting.{true_has, false_has}
 
 leads_left : (es fs : List Edge) (y x : ℕ) → Leads es y x → Leads (es ++ fs) y x
 leads_left [] fs y x l = absurd l

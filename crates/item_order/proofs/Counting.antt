@@ -1,9 +1,9 @@
 -- The counts of waiting edges.
-use Rattle.std.proofs.Common.{◌≡◌, ℕ, ◌<◌, ◌≤◌, ◌+◌, Bool, true, false, List, [], ◌∷◌, ◌++◌, ◌⊎◌, inl, inr, nat_eq, if◌then◌else◌, All, length, zero, suc, refl, sym, ap, ◌∙◌, subst, arith, cond}
+use Rattle.std.proofs.Common.{◌≡◌, ℕ, ◌<◌, ◌≤◌, ◌+◌, Bool, true, false, List, [], ◌∷◌, ◌++◌, inl, inr, nat_eq, if◌then◌else◌, All, length, zero, suc, refl, sym, ap, ◌∙◌, subst, arith}
 use Rattle.std.proofs.lemmas.Bool.Decides.{nat_tests}
-use Rattle.std.proofs.lemmas.Bool.{cases_lt, cases_eq}
+use Rattle.std.proofs.lemmas.Bool.{cases_eq}
 use Rattle.std.proofs.lemmas.List.Elements.{All-tail, All-head, All-cons}
-use Rattle.item_order.specs.Orders.{Has, IsDue}
+use Rattle.item_order.specs.Orders.{Has}
 use Rattle.item_order.specs.Counts.{Leads, Inside, has, times, waiting, targets}
 use Rattle.item_order.specs.declared.edge.Edge.{Edge}
 

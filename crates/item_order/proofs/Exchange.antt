@@ -1,6 +1,6 @@
 -- Edges between neighbours ask for as much as the relation that they make up.
-use Rattle.std.proofs.Common.{◌≡◌, ℕ, ◌<◌, ◌≤◌, ◌+◌, List, [], ◌∷◌, ◌++◌, Option, Some, ◌⊎◌, inl, inr, slice_get, take, zero, suc, refl, sym, ap, ◌∙◌, subst, append-nil, append_assoc, arith}
-use Rattle.item_order.specs.Orders.{Has, IsAt, IsDue, IsNext, IsEarliestFirst, IsWhole, IsStuckAt}
+use Rattle.std.proofs.Common.{ℕ, List, [], ◌∷◌, ◌++◌, ◌⊎◌, inl, inr, sym, subst, append-nil, append_assoc}
+use Rattle.item_order.specs.Orders.{Has, IsDue, IsNext, IsWhole, IsStuckAt}
 use Rattle.item_order.proofs.Agree.{Follows, to_follows, from_follows}
 
 pub has_left : (xs ys : List ℕ) (x : ℕ) → Has xs x → Has (xs ++ ys) x

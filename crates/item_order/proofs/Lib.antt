@@ -11,3 +11,5 @@ pub mod Loop
 pub mod Columns
 pub mod Ends
 pub mod Arranged
+pub mod WeavingLaws
+pub mod TestFacts

@@ -1,7 +1,8 @@
 -- A walk that keeps the earliest place so far.
-use Rattle.std.proofs.Common.{◌≡◌, Option, None, Some, ◌⊎◌, inl, inr, refl, subst}
+use Rattle.std.proofs.Common.{◌≡◌, Bool, true, false, Option, None, Some, ◌⊎◌, inl, inr, refl, subst, sym}
 use Rattle.msc_base.specs.declared.place.Place.{Place}
-use Rattle.item_order.specs.Places.{IsNoLater, IsLeast, earliest}
+use Rattle.item_order.specs.Places.{IsNoLater, IsLeast, earliest, earliest_if}
+use Rattle.std.proofs.lemmas.Bool.{true≢false}
 use Rattle.item_order.proofs.PlaceFacts.{before_cases, no_later_through}
 
 abbrev pub IsReached : Option Place → Place → Type 0
@@ -77,3 +78,8 @@ narrows_part Holds Part Rest so_far (Some p) k least = record {
   ];
   within = λ q r. k.within q (inr r);
 }
+
+-- one step of a walk
+pub narrows_step : (Holds Rest : Place → Type 0) (so_far : Option Place) (place : Place) (b : Bool) (Bad : Type 0) → Narrows Holds (λ q. ((place ≡ q) × Bad) ⊎ Rest q) so_far → (b ≡ true → Bad) → (Bad → b ≡ true) → Narrows Holds Rest (earliest_if b so_far place)
+narrows_step Holds Rest so_far place true Bad k f g = narrows_bad Holds Rest so_far place Bad k (f refl)
+narrows_step Holds Rest so_far place false Bad k f g = narrows_good Holds Rest so_far place Bad k (λ bad. absurd (true≢false (sym (g bad))))

@@ -1,5 +1,5 @@
 -- One step of releasing a target.
-use Rattle.std.proofs.Common.{◌≡◌, Option, Some, slice_get, ◌++◌, append_assoc, zero, suc, ℕ, ◌<◌, ◌≤◌, ◌+◌, ◌-◌, ◌⊎◌, inl, inr, ◌↔◌, List, [], ◌∷◌, length, get_or, set, drop, sym, ap, ◌∙◌, subst, arith, refl, nat_eq, true, false, if◌then◌else◌, Bool}
+use Rattle.std.proofs.Common.{◌≡◌, Some, slice_get, ◌++◌, append_assoc, zero, suc, ℕ, ◌<◌, ◌≤◌, ◌+◌, ◌-◌, ◌⊎◌, inl, inr, ◌↔◌, List, [], ◌∷◌, length, get_or, set, drop, sym, ◌∙◌, subst, arith, refl, nat_eq, true, false, if◌then◌else◌, Bool}
 use Rattle.std.proofs.lemmas.List.{get_or-set_same, get_or-set_other}
 use Rattle.std.proofs.lemmas.Bool.{cases_eq}
 use Rattle.item_order.specs.Counts.{times, waiting, targets}

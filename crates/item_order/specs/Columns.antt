@@ -1,5 +1,5 @@
 -- The edges between neighbours of columns.
-use Rattle.std.specs.Prelude.{◌≡◌, Option, None, Some, ℕ, List, [], ◌∷◌, ◌++◌, All, ◌<◌, Vec, map}
+use Rattle.std.specs.Prelude.{Option, None, Some, ℕ, List, [], ◌∷◌, ◌++◌, Vec}
 use Rattle.std.specs.Global.{Global}
 use Rattle.item_order.specs.declared.edge.Edge.{Edge}
 

@@ -1,5 +1,5 @@
 -- What the sorting by counts keeps: how many of an item's edges still wait.
-use Rattle.std.specs.Prelude.{◌≡◌, ℕ, ◌<◌, ◌+◌, Bool, true, false, List, [], ◌∷◌, ◌⊎◌, nat_eq, if◌then◌else◌, All}
+use Rattle.std.specs.Prelude.{◌≡◌, ℕ, ◌<◌, ◌+◌, Bool, true, false, List, [], ◌∷◌, ◌⊎◌, nat_eq, if◌then◌else◌}
 use Rattle.item_order.specs.declared.edge.Edge.{Edge}
 
 -- one of the edges leads from y to x

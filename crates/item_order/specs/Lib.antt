@@ -6,3 +6,4 @@ pub mod Counts
 pub mod Answers
 pub mod Columns
 pub mod Pairing
+pub mod Laws

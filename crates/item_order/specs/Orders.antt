@@ -1,5 +1,5 @@
 -- The earliest order of items under a relation: which item may stand next, and which list is woven.
-use Rattle.std.specs.Prelude.{◌≡◌, ℕ, ◌<◌, ◌≤◌, ◌+◌, List, [], ◌∷◌, ◌++◌, Option, Some, ◌⊎◌, ⊤, slice_get, take}
+use Rattle.std.specs.Prelude.{◌≡◌, ℕ, ◌<◌, ◌≤◌, List, [], ◌∷◌, Some, ◌⊎◌, slice_get, take}
 
 -- x is one of the list
 abbrev pub Has : List ℕ → ℕ → Type 0

@@ -1,7 +1,7 @@
 -- The k-th output of a class is paired with its k-th input. An end is an edge from its class to its event.
-use Rattle.std.specs.Prelude.{◌≡◌, ℕ, ◌<◌, ◌+◌, ◌⊎◌, List, [], ◌∷◌, ◌++◌, Option, Some, slice_get, take, nat_eq, if◌then◌else◌, zero, suc}
+use Rattle.std.specs.Prelude.{◌≡◌, ℕ, ◌+◌, List, [], ◌∷◌, ◌++◌, Some, slice_get, take, nat_eq, if◌then◌else◌, zero, suc}
 use Rattle.item_order.specs.declared.edge.Edge.{Edge}
-use Rattle.item_order.specs.Counts.{targets, Leads}
+use Rattle.item_order.specs.Counts.{targets}
 
 -- how many of the ends are of the class
 abbrev pub count : ℕ → List Edge → ℕ

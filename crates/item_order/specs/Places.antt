@@ -1,5 +1,5 @@
 -- The order of places, and the earliest place at which something holds.
-use Rattle.std.specs.Prelude.{◌≡◌, ◌<◌, Bool, ◌||◌, ◌&&◌, ◌⊎◌, nat_lt, nat_eq, if◌then◌else◌, Option, None, Some}
+use Rattle.std.specs.Prelude.{◌≡◌, ◌<◌, Bool, ◌||◌, ◌&&◌, ◌⊎◌, nat_lt, nat_eq, if◌then◌else◌, Option, None, Some, true, false}
 use Rattle.msc_base.specs.declared.place.Place.{Place}
 
 -- p stands before q: in a text its byte does, and a text has one line and column at a byte
@@ -23,3 +23,8 @@ is_before p q = nat_lt p.byte q.byte || (nat_eq p.byte q.byte && (nat_lt p.line 
 abbrev pub earliest : Option Place → Place → Option Place
 earliest None p = Some p
 earliest (Some q) p = if is_before p q then Some p else Some q
+
+-- the same where something holds at the place; else the earliest so far
+abbrev pub earliest_if : Bool → Option Place → Place → Option Place
+earliest_if true so_far p = earliest so_far p
+earliest_if false so_far p = so_far

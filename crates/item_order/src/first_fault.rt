@@ -1,6 +1,6 @@
 ghost use Rattle.std.specs.Prelude.{◌≡◌, ℕ};
 ghost use Rattle.item_order.specs.FirstFaults.{earlier_of, fault_of, is_ahead};
-ghost use Rattle.item_order.specs.Places.{earliest, is_before};
+ghost use Rattle.item_order.specs.Places.{earliest, earliest_if, is_before};
 
 use msc_base::Place;
 
@@ -23,7 +23,7 @@ pub struct Broken<R> {
 }
 
 /// Whether a place stands before another.
-fn comes_before(a: Place, b: Place) -> bool
+pub fn comes_before(a: Place, b: Place) -> bool
     ensures { result ≡ is_before a b }
 {
     a.byte < b.byte
@@ -43,6 +43,17 @@ pub fn earlier_place(so_far: Option<Place>, place: Place) -> Option<Place>
                 Some(other)
             }
         }
+    }
+}
+
+/// The earliest place so far, or one more where that is earlier and something holds there.
+pub fn earlier_if(so_far: Option<Place>, place: Place, holds: bool) -> Option<Place>
+    ensures { result ≡ earliest_if holds so_far place }
+{
+    if holds {
+        earlier_place(so_far, place)
+    } else {
+        so_far
     }
 }
 

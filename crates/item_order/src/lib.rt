@@ -3,12 +3,17 @@
 
 mod edge;
 mod first_fault;
+pub mod laws;
 mod pairing;
 mod sorting;
+#[cfg(test)]
+mod tests;
 mod weaving;
 
 pub use edge::Edge;
-pub use first_fault::{Broken, Numbered, broken_at, earlier_fault, earlier_place};
+pub use first_fault::{
+    Broken, Numbered, broken_at, comes_before, earlier_fault, earlier_if, earlier_place,
+};
 pub use pairing::pair_up;
 pub use sorting::{Sorted, sort_edges};
 pub use weaving::weave;

@@ -35,34 +35,3 @@ pub fn weave(alloc: Global, count: u32, columns: &[Vec<u32>]) -> Result<Sorted, 
     }
     sort_edges(alloc, count, &edges)
 }
-
-#[cfg(test)]
-mod tests {
-    use super::weave;
-    use crate::Sorted;
-    use msc_base::NoMemory;
-    use std::alloc::Global;
-
-    fn woven(alloc: Global, a: [u32; 2], b: [u32; 2]) -> Result<Sorted, NoMemory> {
-        let mut columns = Vec::new(alloc);
-        columns.push(Vec::from_array(alloc, a)?)?;
-        columns.push(Vec::from_array(alloc, b)?)?;
-        weave(alloc, 5, &columns)
-    }
-
-    #[test]
-    fn weaves_the_earliest_first(rt: HostRuntime) {
-        let Ok(Sorted::Whole(order)) = woven(rt.alloc(), [2, 1], [0, 3]) else {
-            panic!(rt; "crossed");
-        };
-        assert_eq!(rt; order.as_slice(), [0, 2, 1, 3, 4].as_slice());
-    }
-
-    #[test]
-    fn finds_a_crossing(rt: HostRuntime) {
-        let Ok(Sorted::Stuck(item)) = woven(rt.alloc(), [3, 2], [2, 3]) else {
-            panic!(rt; "woven");
-        };
-        assert_eq!(rt; item, 2);
-    }
-}

@@ -1,6 +1,4 @@
-use Rattle.std.proofs.Common.{◌≡◌, ℕ, ◌↔◌, arith}
-use Rattle.item_order.specs.Counts.{Leads}
-use Rattle.item_order.specs.Pairing.{pairs_of, IsPair}
+use Rattle.std.proofs.Common.{◌≡◌, arith}
 use Rattle.item_order.proofs.Ends.{pairs_exact}
 use Rattle.item_order.proofs.pairing.pair_up.Goals as goal
 

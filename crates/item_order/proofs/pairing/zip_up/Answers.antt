@@ -1,4 +1,4 @@
-use Rattle.std.proofs.Common.{◌≡◌, ℕ, ◌≤◌, ◌++◌, [], ◌∷◌, List, length, drop, arith, refl, append-nil}
+use Rattle.std.proofs.Common.{◌≡◌, ℕ, [], ◌∷◌, List, drop, arith, refl, append-nil}
 use Rattle.std.proofs.lemmas.List.{drop_all}
 use Rattle.item_order.specs.Pairing.{zipped}
 use Rattle.item_order.proofs.pairing.zip_up.Goals as goal

@@ -1,7 +1,6 @@
-use Rattle.std.proofs.Common.{rules, ◌≡◌, ℕ, ◌<◌, ◌≤◌, ◌+◌, ◌∷◌, [], List, length, get_or, drop, arith, subst, All, set, Fits, w32, ◌∙◌}
+use Rattle.std.proofs.Common.{rules, ◌≡◌, ℕ, ◌<◌, ◌≤◌, ◌+◌, ◌∷◌, [], List, length, get_or, drop, arith, subst, set, ◌∙◌}
 use Rattle.std.proofs.lemmas.List.{drop_more, get_or_default}
-use Rattle.std.proofs.lemmas.Grind.{common_steps}
-use Rattle.item_order.specs.Counts.{waiting, Inside}
+use Rattle.item_order.specs.Counts.{waiting}
 use Rattle.item_order.specs.declared.edge.Edge.{Edge}
 use Rattle.item_order.proofs.Counting.{waiting_le}
 use Rattle.item_order.proofs.Steps.{counted, count_room}

@@ -1,8 +1,7 @@
-use Rattle.std.proofs.Common.{◌≡◌, ◌^◌, Vec, ℕ, ◌<◌, ◌≤◌, ◌+◌, ◌↔◌, ◌⊎◌, ◌∷◌, ◌++◌, [], List, All, length, get_or, IsTrue, true, false, Option, Some, None, slice_get, take, drop, ◌-◌}
+use Rattle.std.proofs.Common.{◌≡◌, ℕ, ◌<◌, ◌≤◌, ◌+◌, ◌↔◌, ◌⊎◌, length, get_or, IsTrue, drop}
 use Rattle.std.specs.Ordering.{nat_cmp}
-use Rattle.std.specs.Vec.{vec_len}
 use Rattle.std.specs.BTreeSet.{contains}
-use Rattle.item_order.specs.Counts.{Inside, Leads, waiting, targets, times, has}
+use Rattle.item_order.specs.Counts.{times}
 use Rattle.item_order.proofs.sorting.release.Given as goal
 
 abbrev pub invariant-loop-target : goal.invariant-loop-target

@@ -1,5 +1,4 @@
-use Rattle.std.proofs.Common.{rules, ◌≡◌, ℕ, ◌<◌, ◌≤◌, ◌+◌, ◌↔◌, ◌⊎◌, ◌∷◌, ◌++◌, [], List, All, length, get_or, IsTrue, true, false, Option, Some, None, slice_get, take, drop, arith, Bool, subst, sym, ◌∙◌}
-use Rattle.std.proofs.lemmas.Grind.{common_steps}
+use Rattle.std.proofs.Common.{rules, ◌≡◌, ℕ, ◌<◌, ◌≤◌, ◌+◌, ◌↔◌, ◌⊎◌, ◌∷◌, ◌++◌, [], List, length, get_or, IsTrue, true, Some, slice_get, take, drop, arith, Bool, ◌∙◌}
 use Rattle.std.proofs.lemmas.List.{take_at}
 use Rattle.std.proofs.lemmas.Option.{slice_get_read}
 use Rattle.std.specs.Ordering.{nat_cmp}
@@ -7,10 +6,8 @@ use Rattle.std.specs.Vec.{vec_len}
 use Rattle.std.specs.List.{list_any}
 use Rattle.std.specs.BTreeMap.{is_at}
 use Rattle.std.specs.BTreeSet.{contains}
-use Rattle.item_order.specs.Counts.{Inside, Leads, waiting, targets, times, has}
-use Rattle.item_order.specs.declared.edge.Edge.{Edge}
-use Rattle.item_order.specs.Orders.{IsWhole, IsStuckAt}
-use Rattle.item_order.proofs.Loop.{Keeps, next, enough, after, is_stuck, is_whole}
+use Rattle.item_order.specs.Counts.{targets, times}
+use Rattle.item_order.proofs.Loop.{Keeps, enough, after, is_stuck, is_whole}
 use Rattle.item_order.proofs.Counting.{free_less, inside_targets}
 use Rattle.item_order.proofs.sorting.sort_edges.Goals as goal
 

@@ -1,8 +1,7 @@
-use Rattle.std.proofs.Common.{◌≡◌, ◌^◌, Vec, ℕ, ◌<◌, ◌≤◌, ◌+◌, ◌↔◌, ◌⊎◌, ◌∷◌, ◌++◌, [], List, All, length, get_or, IsTrue, true, false, Option, Some, None, slice_get, take, drop, ◌-◌}
+use Rattle.std.proofs.Common.{◌≡◌, IsTrue}
 use Rattle.std.specs.Ordering.{nat_cmp}
 use Rattle.std.specs.Vec.{vec_len}
 use Rattle.std.specs.BTreeSet.{contains}
-use Rattle.item_order.specs.Counts.{Inside, Leads, waiting, targets, times, has}
 use Rattle.item_order.proofs.Loop.{Keeps}
 use Rattle.item_order.proofs.Counting.{free}
 use Rattle.item_order.proofs.sorting.sort_edges.Given as goal

@@ -1,9 +1,8 @@
-use Rattle.std.proofs.Common.{rules, ◌≡◌, ℕ, ◌<◌, ◌≤◌, ◌+◌, ◌++◌, ◌∷◌, [], List, length, get_or, drop, arith, subst, All, set, ◌∙◌, Option, Some, Vec, Global, slice_get, inl, inr, refl}
-use Rattle.std.proofs.lemmas.Grind.{common_steps}
-use Rattle.std.proofs.lemmas.List.{drop_more, get_or_default, drop_all, append-nil}
-use Rattle.std.proofs.lemmas.Option.{slice_get_within, slice_get_read}
+use Rattle.std.proofs.Common.{rules, ◌≡◌, ℕ, ◌<◌, ◌+◌, ◌++◌, ◌∷◌, [], List, get_or, drop, arith, subst, Some, Vec, Global, slice_get, inl, inr, refl}
+use Rattle.std.proofs.lemmas.List.{drop_more, drop_all, append-nil}
+use Rattle.std.proofs.lemmas.Option.{slice_get_read}
 use Rattle.item_order.specs.declared.edge.Edge.{Edge}
-use Rattle.item_order.specs.Counts.{targets, Inside}
+use Rattle.item_order.specs.Counts.{targets}
 use Rattle.item_order.proofs.Steps.{each_snoc, at_set, listed, skipped}
 use Rattle.item_order.proofs.sorting.targets_of.Goals as goal
 

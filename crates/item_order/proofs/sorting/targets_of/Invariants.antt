@@ -1,8 +1,6 @@
-use Rattle.std.proofs.Common.{◌≡◌, ◌^◌, Vec, Global, ℕ, ◌<◌, ◌≤◌, ◌+◌, ◌↔◌, ◌⊎◌, ◌∷◌, ◌++◌, [], List, All, length, get_or, IsTrue, true, false, Option, Some, None, slice_get, take, drop, ◌-◌}
-use Rattle.std.specs.Ordering.{nat_cmp}
+use Rattle.std.proofs.Common.{◌≡◌, Vec, Global, ℕ, ◌++◌, [], Some, slice_get, drop}
 use Rattle.std.specs.Vec.{vec_len}
-use Rattle.std.specs.BTreeSet.{contains}
-use Rattle.item_order.specs.Counts.{Inside, Leads, waiting, targets, times, has}
+use Rattle.item_order.specs.Counts.{targets}
 use Rattle.item_order.proofs.sorting.targets_of.Given as goal
 
 abbrev pub invariant-loop : goal.invariant-loop

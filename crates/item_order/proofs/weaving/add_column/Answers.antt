@@ -1,4 +1,4 @@
-use Rattle.std.proofs.Common.{rules, ◌≡◌, ℕ, ◌<◌, ◌≤◌, ◌+◌, ◌++◌, ◌∷◌, [], List, length, get_or, drop, arith, subst, set, ◌∙◌, Option, Some, None, refl, sym, append-nil, append_assoc, ap}
+use Rattle.std.proofs.Common.{rules, ◌≡◌, ℕ, ◌+◌, ◌++◌, ◌∷◌, [], List, get_or, drop, arith, subst, Option, Some, None, refl, append-nil, append_assoc}
 use Rattle.std.proofs.lemmas.List.{drop_more, drop_all}
 use Rattle.item_order.specs.declared.edge.Edge.{Edge}
 use Rattle.item_order.specs.Columns.{onward, neighbours, from_to}

@@ -1,11 +1,11 @@
-use Rattle.std.proofs.Common.{rules, ◌≡◌, ℕ, ◌<◌, ◌≤◌, ◌+◌, ◌++◌, ◌∷◌, [], List, All, length, get_or, drop, arith, subst, set, ◌∙◌, Option, Some, None, refl, sym, append-nil, append_assoc, ap, Vec, Global, slice_get, Result, Ok, Err, IfOk}
+use Rattle.std.proofs.Common.{rules, ◌≡◌, ℕ, ◌≤◌, ◌+◌, ◌++◌, ◌∷◌, [], List, length, get_or, drop, arith, ◌∙◌, Some, refl, append-nil, append_assoc, ap, Vec, Global, slice_get, Result, Ok, Err, IfOk}
 use Rattle.std.proofs.lemmas.Option.{slice_get_within, get_or_from_slice_get, slice_get_read}
 use Rattle.item_order.specs.Answers.{IfWhole, IfStuck}
 use Rattle.item_order.specs.declared.sorting.Sorted.{Sorted}
 use Rattle.item_order.specs.declared.sorting.Sorted.TheVariants.{Whole, Stuck}
 use Rattle.std.proofs.lemmas.List.{drop_more, drop_all}
 use Rattle.item_order.specs.declared.edge.Edge.{Edge}
-use Rattle.item_order.specs.Counts.{Inside, Leads}
+use Rattle.item_order.specs.Counts.{Leads}
 use Rattle.item_order.specs.Columns.{all_neighbours, items_of, neighbours}
 use Rattle.item_order.specs.Weaving.{IsWoven, IsCrossedAt, Precedes}
 use Rattle.item_order.specs.Orders.{IsWhole, IsStuckAt}
