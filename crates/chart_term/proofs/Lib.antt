@@ -16,3 +16,6 @@ mod Distinct
 mod Flattening
 mod Gathering
 mod Members
+mod Tabling
+mod Touched
+mod Fits

@@ -2,8 +2,11 @@ pub mod Codes
 pub mod Equality
 pub mod Facts
 pub mod Falls
+pub mod Fitting
 pub mod Looks
 pub mod Modes
+pub mod NetTables
+pub mod NetValues
 pub mod NormalForms
 pub mod Numbers
 pub mod Order
@@ -11,6 +14,7 @@ pub mod OrderLaws
 pub mod Properties
 pub mod Rows
 pub mod Sizes
+pub mod Spreads
 pub mod Tables
 pub mod TermMeanings
 pub mod TermPatterns

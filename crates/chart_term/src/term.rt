@@ -1,14 +1,16 @@
-ghost use Rattle.std.specs.Prelude.{◌≡◌, ◌+◌, ◌++◌, ◌∷◌, ◌<◌, [], length, slice_get, min, IfOk, OnOk, OnErr, Some, MatchOption};
+ghost use Rattle.std.specs.Prelude.{◌≡◌, ◌+◌, ◌++◌, ◌∷◌, ◌<◌, ℕ, [], length, slice_get, min, IfOk, OnOk, OnErr, Some, MatchOption};
 ghost use Rattle.std.specs.Option.{ForSome};
-ghost use Rattle.chart_term.specs.Facts.{HasFacts, HaveFacts, RowHasFacts, misses, most_stored};
-ghost use Rattle.chart_term.specs.Terms.{Nil, Event as EventTree, Join, Choice, Turns, Trail, Bound, trees, row_of, weight};
+ghost use Rattle.chart_term.specs.Facts.{HasFacts, HaveFacts, RowHasFacts, has_trail, instances, misses, most_stored};
+ghost use Rattle.chart_term.specs.Terms.{Nil, Event as EventTree, Join, Choice, Turns, Trail, Bound, has, trees, row_of, weight};
 ghost use Rattle.msc_base.specs.Patterns.{row, aside};
 ghost use Rattle.hmsc_graph.specs.Spots.{spot_of, goal_of};
 ghost use Rattle.chart_term.specs.NormalForms.{open_choice};
 ghost use Rattle.chart_term.specs.Views.{pairs_of};
 
+mod fits;
 mod numbers;
 mod order;
+mod touched;
 
 use crate::facts::Facts;
 use crate::{Event, Look};
@@ -473,6 +475,21 @@ impl Term {
         ensures { result ≡ misses block.now self.now }
     {
         self.facts().misses(block)
+    }
+
+    /// The instances of the events of the term, of its loop operands and begun turns; nets aren't
+    /// looked into. It takes no memory.
+    pub fn instances(&self) -> &Block
+        ensures { (n : ℕ) → has result.now.instances n ≡ has (instances self.now) n }
+    {
+        &self.facts().instances
+    }
+
+    /// Whether a walk stands in the term, in a loop operand of it or in a begun turn. It takes no memory.
+    pub fn has_trail(&self) -> bool
+        ensures { result ≡ has_trail self.now }
+    {
+        self.facts().has_trail
     }
 
     /// The weight, or the largest `u64` where the weight is larger. It takes no memory.

@@ -3,7 +3,7 @@ use Rattle.std.proofs.Common.{◌≡◌, refl, codes, true, false, [], ◌∷◌
 use Rattle.std.specs.Str.{is_utf8}
 use Rattle.clap.proofs.OnLiterals.{clap_on_literals}
 use Rattle.event_log.specs.declared.event.LogForm.TheVariants.{Lines, Json}
-use Rattle.msc_cmd.specs.declared.requests.Request.TheVariants.{Judge}
+use Rattle.msc_cmd.specs.declared.requests.Request.TheVariants.{Judge, Print}
 use Rattle.msc_cmd.specs.Requests.{request_of}
 
 -- three words
@@ -119,3 +119,30 @@ capital = refl
 no_text : request_of (codes "judge" ∷ codes "d" ∷ codes "A" ∷ (255 ∷ []) ∷ []) ≡ None
 unfolding clap_on_literals is_utf8
 no_text = refl
+
+-- ---- print
+
+print : request_of (codes "print" ∷ codes "d" ∷ []) ≡ Some (Print (codes "d"))
+unfolding clap_on_literals is_utf8
+print = refl
+
+print_behind_dashes : request_of (codes "print" ∷ codes "--" ∷ codes "--json" ∷ []) ≡ Some (Print (codes "--json"))
+unfolding clap_on_literals is_utf8
+print_behind_dashes = refl
+
+print_nothing : request_of (codes "print" ∷ []) ≡ None
+unfolding clap_on_literals is_utf8
+print_nothing = refl
+
+print_two : request_of (codes "print" ∷ codes "d" ∷ codes "A" ∷ []) ≡ None
+unfolding clap_on_literals is_utf8
+print_two = refl
+
+-- it has no options
+print_json : request_of (codes "print" ∷ codes "d" ∷ codes "--json" ∷ []) ≡ None
+unfolding clap_on_literals is_utf8
+print_json = refl
+
+longer_command : request_of (codes "prints" ∷ codes "d" ∷ []) ≡ None
+unfolding clap_on_literals is_utf8
+longer_command = refl

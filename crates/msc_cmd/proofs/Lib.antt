@@ -13,10 +13,12 @@ pub mod NumberedRuns
 pub mod Orders
 pub mod OtherNumbers
 pub mod Places
+pub mod Prints
 pub mod Replies
 pub mod Settling
 pub mod ShownLabels
 pub mod Taking
+pub mod TextFaults
 pub mod VerdictLaws
 pub mod WordLaws
 pub mod WovenPairs

@@ -1,9 +1,11 @@
--- The command `judge` is one that `clap` has words for, and what its answers mean for a request.
+-- The commands are such that `clap` has words for them, and what its answers mean for a request.
 use Rattle.std.proofs.Common.{◌≡◌, ◌∙◌, ◌&&◌, ap, refl, Bool, true, false, Bor, map, ◌++◌, append-nil, append_assoc, [], ◌∷◌, Option, None, List, ℕ, Result, sym, subst, inl, inr, codes}
 use Rattle.std.proofs.lemmas.List.{map-append}
 use Rattle.std.proofs.lemmas.Str.{IsUtf8-from_is_utf8}
 use Rattle.std.specs.List.{list_all}
-use Rattle.std.specs.Str.{IsUtf8, is_utf8}
+use Rattle.std.specs.Str.{IsUtf8, is_utf8, bytes_eq}
+use Rattle.std.proofs.lemmas.Bool.{false_from_ne_true}
+use Rattle.std.proofs.lemmas.Slice.Eq.{bytes_eq-Decides}
 use Rattle.clap.specs.Words.{App, Kinds, IsAmong, Row, HasKind, kind_of, fault_of, is_simple, is_simple_and_free, matches_of, first_value, rows_of}
 use Rattle.clap.specs.declared.Error.{Error}
 use Rattle.clap.specs.declared.error.ErrorKind.{ErrorKind}
@@ -13,15 +15,23 @@ use Rattle.clap.proofs.OnLiterals.{clap_on_literals}
 use Rattle.clap.proofs.WalkLemmas.{first_value-rows}
 use Rattle.msc_cmd.specs.declared.requests.Request.{Request}
 use Rattle.msc_cmd.specs.declared.requests.WordFault.{WordFault}
-use Rattle.msc_cmd.specs.Requests.{Answers, judge_app, judge_request, request_from, request_of, request_in, unless_fault}
+use Rattle.msc_cmd.specs.Requests.{Answers, command_request, judge_app, print_app, print_from, print_in, judge_request, print_request, request_by, request_from, request_of, request_in, unless_fault}
 
-pub app_simple : is_simple judge_app ≡ true
+pub judge_simple : is_simple judge_app ≡ true
 unfolding clap_on_literals
-app_simple = refl
+judge_simple = refl
 
-pub app_free : is_simple_and_free judge_app ≡ true
+pub judge_free : is_simple_and_free judge_app ≡ true
 unfolding clap_on_literals
-app_free = refl
+judge_free = refl
+
+pub print_simple : is_simple print_app ≡ true
+unfolding clap_on_literals
+print_simple = refl
+
+pub print_free : is_simple_and_free print_app ≡ true
+unfolding clap_on_literals
+print_free = refl
 
 -- without a fault the request is that of the matches
 fits : (kinds : Kinds) (request : Option Request) → kinds ≡ [] → unless_fault kinds request ≡ request
@@ -32,29 +42,33 @@ faulty : (kinds : Kinds) (kind : ErrorKind) (request : Option Request) → IsAmo
 faulty [] kind request h = absurd h
 faulty (k ∷ ks) kind request h = refl
 
-found : (app : App) (words : List (List ℕ)) (rows : List Row) → app ≡ judge_app → fault_of app words ≡ [] → rows ≡ matches_of app words → judge_request words ≡ request_in rows
-found app words rows is none same =
-    fits (fault_of judge_app words) (request_in (matches_of judge_app words)) (ap (λ (a : App). fault_of a words) (sym is) ∙ none)
-    ∙ ap (λ (a : App). request_in (matches_of a words)) (sym is) ∙ ap request_in (sym same)
+module _ (meant : App) (asked : List Row → Option Request) where
+  found : (app : App) (words : List (List ℕ)) (rows : List Row) → app ≡ meant → fault_of app words ≡ [] → rows ≡ matches_of app words → request_by meant asked words ≡ asked rows
+  found app words rows is none same =
+      fits (fault_of meant words) (asked (matches_of meant words)) (ap (λ (a : App). fault_of a words) (sym is) ∙ none)
+      ∙ ap (λ (a : App). asked (matches_of a words)) (sym is) ∙ ap asked (sym same)
 
--- what is answered of the matches is answered of the words
-pub found_answers : (app : App) (words : List (List ℕ)) (rows : List Row) (answer : Result Request WordFault) → app ≡ judge_app → fault_of app words ≡ [] → rows ≡ matches_of app words
-    → Answers (request_in rows) answer → Answers (judge_request words) answer
-found_answers app words rows answer is none same h = subst (λ (o : Option Request). Answers o answer) (sym (found app words rows is none same)) h
+  -- what is answered of the matches is answered of the words
+  pub found_answers : (app : App) (words : List (List ℕ)) (rows : List Row) (answer : Result Request WordFault) → app ≡ meant → fault_of app words ≡ [] → rows ≡ matches_of app words
+      → Answers (asked rows) answer → Answers (request_by meant asked words) answer
+  found_answers app words rows answer is none same h = subst (λ (o : Option Request). Answers o answer) (sym (found app words rows is none same)) h
 
--- an error other than want of memory refuses the words
-pub refused : (app : App) (words : List (List ℕ)) (error : Error) → app ≡ judge_app → HasKind (fault_of app words) error → (kind_of error ≡ OutOfMemory → ⊥) → judge_request words ≡ None
-refused app words error is h other = elim h [
-  | inl m ↦ absurd (other m)
-  | inr among ↦ ap (λ (a : App). unless_fault (fault_of a words) (request_in (matches_of judge_app words))) (sym is)
-      ∙ faulty (fault_of app words) (kind_of error) (request_in (matches_of judge_app words)) among
-]
+  -- an error other than want of memory refuses the words
+  pub refused : (app : App) (words : List (List ℕ)) (error : Error) → app ≡ meant → HasKind (fault_of app words) error → (kind_of error ≡ OutOfMemory → ⊥) → request_by meant asked words ≡ None
+  refused app words error is h other = elim h [
+    | inl m ↦ absurd (other m)
+    | inr among ↦ ap (λ (a : App). unless_fault (fault_of a words) (asked (matches_of meant words))) (sym is)
+        ∙ faulty (fault_of app words) (kind_of error) (asked (matches_of meant words)) among
+  ]
 
 -- the first values of the arguments are those of the rows
 pub firsts : (f : Found) (d c l j k : Option (List ℕ)) → d ≡ first_value f (codes "document") → c ≡ first_value f (codes "chart") → l ≡ first_value f (codes "log")
     → j ≡ first_value f (codes "json") → k ≡ first_value f (codes "log-json") → request_from d c l j k ≡ request_in (rows_of f)
 firsts f d c l j k hd hc hl hj hk =
     rw (hd, hc, hl, hj, hk, first_value-rows f (codes "document"), first_value-rows f (codes "chart"), first_value-rows f (codes "log"), first_value-rows f (codes "json"), first_value-rows f (codes "log-json")) refl
+
+pub first_document : (f : Found) (d : Option (List ℕ)) → d ≡ first_value f (codes "document") → print_from d ≡ print_in (rows_of f)
+first_document f d hd = rw (hd, first_value-rows f (codes "document")) refl
 
 -- a word that is no UTF-8 fails the test
 pub not_utf8 : (bytes : List ℕ) → (IsUtf8 bytes → ⊥) → is_utf8 bytes ≡ false
@@ -87,10 +101,23 @@ all_texts texts rest words r h = sym (append-nil (map (λ w. w.now) texts)) ∙ 
 pub all_utf8 : (rest words : List (List ℕ)) → rest ≡ [] → list_all is_utf8 rest ≡ list_all is_utf8 words → list_all is_utf8 words ≡ true
 all_utf8 rest words r h = sym h ∙ ap (list_all is_utf8) r
 
--- what is answered of the words behind `judge` is answered of all
-pub judged : (command : List ℕ) (rest texts words : List (List ℕ)) (answer : Result Request WordFault) → words ≡ command ∷ rest → command ≡ codes "judge" → list_all is_utf8 rest ≡ true → texts ≡ rest
-    → Answers (judge_request texts) answer → Answers (request_of words) answer
-judged command rest texts words answer w c u t h = subst (λ (o : Option Request). Answers o answer) (sym same) h
+-- the words behind each command
+pub judge_command : (command : List ℕ) (words : List (List ℕ)) → command ≡ codes "judge" → command_request command words ≡ judge_request words
+judge_command command words e = rw e refl
+
+pub print_command : (command : List ℕ) (words : List (List ℕ)) → command ≡ codes "print" → command_request command words ≡ print_request words
+print_command command words e = rw e refl
+
+differs : (a b : List ℕ) → (a ≡ b → ⊥) → bytes_eq a b ≡ false
+differs a b other = false_from_ne_true (bytes_eq a b) (λ e. other ((bytes_eq-Decides a b).0 e))
+
+pub no_command : (command : List ℕ) (words : List (List ℕ)) → (command ≡ codes "judge" → ⊥) → (command ≡ codes "print" → ⊥) → command_request command words ≡ None
+no_command command words j p = rw (differs command (codes "judge") j, differs command (codes "print") p) refl
+
+-- what is answered of the words behind a command is answered of all
+pub commanded : (command : List ℕ) (rest texts words : List (List ℕ)) (answer : Result Request WordFault) → words ≡ command ∷ rest → list_all is_utf8 rest ≡ true → texts ≡ rest
+    → Answers (command_request command texts) answer → Answers (request_of words) answer
+commanded command rest texts words answer w u t h = subst (λ (o : Option Request). Answers o answer) (sym same) h
   where
-    same : request_of words ≡ judge_request texts
-    same = rw (w, c, u, t) refl
+    same : request_of words ≡ command_request command texts
+    same = rw (w, u, t) refl

@@ -1,12 +1,12 @@
 -- When the command may say that the shelf failed.
-use Rattle.std.specs.Prelude.{◌≡◌, ◌⊎◌, ℕ, List, Option, Some, Bool, true}
+use Rattle.std.specs.Prelude.{◌≡◌, ◌⊎◌, ℕ, List, Option, Some, Bool, true, false}
 use Rattle.msc_base.specs.Causes.{Rose}
 use Rattle.msc_base.specs.Shelves.{Files}
 use Rattle.msc_grammar.specs.declared.chart.PlainChart.{PlainChart}
 use Rattle.judge_report.specs.declared.fault.Fault.TheVariants.{DocumentRead, LogRead}
 use Rattle.judge_report.specs.Texts.{fault_line}
 use Rattle.msc_cmd.specs.declared.requests.Request.{Request}
-use Rattle.msc_cmd.specs.declared.requests.Request.TheVariants.{Judge}
+use Rattle.msc_cmd.specs.declared.requests.Request.TheVariants.{Judge, Print}
 use Rattle.msc_cmd.specs.Documents.{IsDocument}
 use Rattle.msc_cmd.specs.Requests.{request_of}
 use Rattle.msc_cmd.specs.Outcomes.{IfTold}
@@ -27,9 +27,14 @@ CannotRead json files before now broken last document name log text =
     (FailedAt before now broken last document × (text ≡ fault_line json DocumentRead))
     ⊎ (FailedAt before now broken last log × (text ≡ fault_line json LogRead) × IfTold files (HasChart document name))
 
+-- the shelf failed at the document that is to be printed, and the line says so
+abbrev pub CannotPrint : ℕ → ℕ → Bool → Option (List ℕ) → List ℕ → List ℕ → Type 0
+CannotPrint before now broken last document text = FailedAt before now broken last document × (text ≡ fault_line false DocumentRead)
+
 -- an entry of the request can't be read
 abbrev pub CannotServe : Request → Option Files → ℕ → ℕ → Bool → Option (List ℕ) → List ℕ → Type 0
 CannotServe (Judge document chart log budget json form) files before now broken last text = CannotRead json files before now broken last document chart log text
+CannotServe (Print document) files before now broken last text = CannotPrint before now broken last document text
 
 -- the words are a request, and one of its entries can't be read
 pub record CannotJudge (words : List (List ℕ)) (files : Option Files) (before now : ℕ) (broken : Bool) (last : Option (List ℕ)) (text : List ℕ) : Type 0 where

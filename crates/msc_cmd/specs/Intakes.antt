@@ -5,6 +5,8 @@ use Rattle.msc_base.specs.declared.limits.TheConstants.Limits.{DOCUMENT_BYTES}
 use Rattle.msc_tokens.specs.Lexing.{Fed}
 use Rattle.msc_tokens.specs.Places.{first_place, past}
 use Rattle.msc_cmd.specs.declared.document.Document.{Document}
+use Rattle.msc_cmd.specs.declared.document_text.DocumentText.{DocumentText}
+use Rattle.msc_cmd.specs.DocumentTexts.{IsTheText}
 use Rattle.msc_cmd.specs.Documents.{IsTheDocument}
 use Rattle.msc_cmd.specs.Reading.{HasRead}
 use Rattle.msc_cmd.specs.declared.intake.Intake.{Intake}
@@ -39,6 +41,12 @@ pub record HoldsDocument (files : Option Files) (name : List ℕ) (intake : Inta
   pub front : List ℕ
   pub taken : HasTaken front intake
   pub front_of : IsFrontOf front bytes
+
+-- the entry of this name is this text, or has this fault; its bytes are told where the entries are
+pub record IsTextOf (files : Option Files) (name : List ℕ) (text : DocumentText) : Type 0 where
+  pub bytes : List ℕ
+  pub held : IsHeld files name bytes
+  pub is : IsTheText bytes text
 
 -- the entry of this name is this document, or has this fault; its bytes are told where the entries are
 pub record IsDocumentOf (files : Option Files) (name : List ℕ) (document : Document) : Type 0 where

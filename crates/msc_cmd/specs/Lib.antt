@@ -1,3 +1,4 @@
+pub mod DocumentTexts
 pub mod Documents
 pub mod Failures
 pub mod Intakes

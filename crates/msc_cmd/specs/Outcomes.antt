@@ -4,6 +4,8 @@ use Rattle.msc_base.specs.Shelves.{Files}
 use Rattle.msc_base.specs.declared.place.Place.{Place}
 use Rattle.msc_base.specs.declared.verdict.Verdict.{Verdict}
 use Rattle.msc_base.specs.declared.verdict.Verdict.TheVariants.{Conforms, Fails, Early, TooLarge}
+use Rattle.msc_tree.specs.Charts.{Document as Tree}
+use Rattle.msc_print.specs.ChartWords.{canonical_text}
 use Rattle.msc_grammar.specs.declared.chart.PlainChart.{PlainChart}
 use Rattle.msc_grammar.specs.declared.rule.Rule.{Rule}
 use Rattle.event_log.specs.declared.event.LineEvent.{LineEvent}
@@ -13,7 +15,8 @@ use Rattle.event_log.specs.Logs.{LogOf}
 use Rattle.judge_report.specs.declared.fault.Fault.TheVariants.{Document, NoChart, Log, Usage}
 use Rattle.judge_report.specs.Texts.{fault_line, verdict_line}
 use Rattle.msc_cmd.specs.declared.requests.Request.{Request}
-use Rattle.msc_cmd.specs.declared.requests.Request.TheVariants.{Judge}
+use Rattle.msc_cmd.specs.declared.requests.Request.TheVariants.{Judge, Print}
+use Rattle.msc_cmd.specs.DocumentTexts.{ReadsDocument, HasTextFault}
 use Rattle.msc_cmd.specs.Documents.{IsDocument, HasDocumentFault}
 use Rattle.msc_cmd.specs.Requests.{request_of, IsNoRequest}
 use Rattle.msc_cmd.specs.Verdicts.{IsVerdict}
@@ -43,9 +46,16 @@ pub data FilesOutcome (form : LogForm) (json : Bool) (files : Files) (document n
   of_log : (bytes : List ℕ) (chart : PlainChart) → files document ≡ Some bytes → IsDocument bytes chart → chart.name ≡ name → EntryOutcome form json files chart log status text
       → FilesOutcome form json files document name log status text
 
+-- what the entry of this name gives where it is to be printed: later rules than those of the text aren't looked at
+pub data PrintOutcome (files : Files) (document : List ℕ) (status : ℕ) (text : List ℕ) : Type 0 where
+  unread : (bytes : List ℕ) (broken : Rule) (place : Place) → files document ≡ Some bytes → HasTextFault bytes broken place → status ≡ 4 → text ≡ fault_line false (Document broken place)
+      → PrintOutcome files document status text
+  printed : (bytes : List ℕ) (tree : Tree) → files document ≡ Some bytes → ReadsDocument bytes tree → status ≡ 0 → text ≡ canonical_text tree → PrintOutcome files document status text
+
 -- what a request gives for the entries
 abbrev pub RequestOutcome : Request → Files → ℕ → List ℕ → Type 0
 RequestOutcome (Judge document chart log budget json form) files = FilesOutcome form json files document chart log
+RequestOutcome (Print document) files = PrintOutcome files document
 
 -- what the words give for the entries: the status, and the text that is written
 pub data IsOutcome (words : List (List ℕ)) (files : Files) (status : ℕ) (text : List ℕ) : Type 0 where

@@ -1,12 +1,12 @@
-ghost use Rattle.std.specs.Prelude.{ℕ, List, IfOk, IfSome};
+ghost use Rattle.std.specs.Prelude.{ℕ, List, IfOk};
 ghost use Rattle.msc_grammar.specs.Events.{texts};
-ghost use Rattle.msc_cmd.specs.Documents.{BreaksRule, IsTheDocument, ReadsAs};
-ghost use Rattle.msc_cmd.specs.Intakes.{HasTaken, IsFrontOf};
+ghost use Rattle.msc_cmd.specs.DocumentTexts.{IsTheText};
+ghost use Rattle.msc_cmd.specs.Documents.{IsTheDocument, ReadsAs};
 
-use crate::intake::Intake;
-use msc_base::{Limits, NoMemory, Place};
+use crate::document_text::DocumentText;
+use msc_base::{NoMemory, Place};
 use msc_grammar::{PlainChart, PlainFault, Rule, first_chart};
-use msc_tokens::{LexFault, TokenList};
+use msc_tokens::TokenList;
 use std::alloc::Global;
 
 /// What the bytes of a document are.
@@ -36,36 +36,12 @@ fn chart_of(alloc: Global, tokens: &TokenList) -> Result<Document, NoMemory>
     }
 }
 
-/// The rule that a fault of the text breaks, and its place; none for want of memory.
-fn broken_by(fault: &LexFault) -> Option<(Rule, Place)>
-    ensures { IfSome result (λ b. BreaksRule fault.now b.0 b.1) }
+/// What the document of this text is.
+pub fn settle(alloc: Global, text: DocumentText) -> Result<Document, NoMemory>
+    ensures { (bytes : List ℕ) → IsTheText bytes text → IfOk result (IsTheDocument bytes) }
 {
-    match *fault {
-        LexFault::BadByte(at) => Some((Rule::BadByte, at)),
-        LexFault::OpenString(at) => Some((Rule::OpenString, at)),
-        LexFault::OpenNote(at) => Some((Rule::OpenNote, at)),
-        LexFault::LongName(at) => Some((Rule::LongName, at)),
-        LexFault::NoMemory => None,
-    }
-}
-
-/// What the document that has been read is.
-pub fn settle(alloc: Global, intake: Intake) -> Result<Document, NoMemory>
-    ensures { (front : List ℕ) (bytes : List ℕ) → HasTaken front intake → IsFrontOf front bytes → IfOk result (IsTheDocument bytes) }
-{
-    let Intake {
-        lexer,
-        count,
-        place,
-    } = intake;
-    if count > Limits::DOCUMENT_BYTES {
-        return Ok(Document::Refused(Rule::Bytes, place));
-    }
-    match lexer.finish() {
-        Ok(tokens) => chart_of(alloc, &tokens),
-        Err(fault) => match broken_by(&fault) {
-            Some((broken, at)) => Ok(Document::Refused(broken, at)),
-            None => Err(NoMemory),
-        },
+    match text {
+        DocumentText::Read(_, tokens) => chart_of(alloc, &tokens),
+        DocumentText::Refused(broken, place) => Ok(Document::Refused(broken, place)),
     }
 }

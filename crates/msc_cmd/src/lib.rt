@@ -7,11 +7,13 @@ mod answer;
 mod columns;
 mod command;
 mod document;
+mod document_text;
 mod entry;
 mod intake;
 mod judge;
 mod log_intake;
 mod log_reading;
+mod printing;
 mod reading;
 mod requests;
 

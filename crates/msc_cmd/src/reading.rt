@@ -1,9 +1,10 @@
 ghost use Rattle.std.specs.Prelude.{◌≡◌, ◌≤◌, ◌+◌, IfOk, OnOk, IsErrOf, IsTrue, Some, [], true};
 ghost use Rattle.msc_base.specs.Causes.{Rose};
 ghost use Rattle.msc_base.specs.declared.limits.TheConstants.Limits.{DOCUMENT_BYTES};
-ghost use Rattle.msc_cmd.specs.Intakes.{IsReading, HoldsDocument, IsDocumentOf};
+ghost use Rattle.msc_cmd.specs.Intakes.{IsReading, HoldsDocument, IsDocumentOf, IsTextOf};
 
 use crate::document::{Document, settle};
+use crate::document_text::{DocumentText, text_of};
 use crate::entry::ReadFault;
 use crate::intake::Intake;
 use msc_base::{Failed, Limits, NoMemory, Shelf, Text};
@@ -60,6 +61,27 @@ fn read_document<S: Shelf>(alloc: Global, shelf: &mut S, name: &Text) -> Result<
     Ok(intake)
 }
 
+/// What the document of this name is as a text.
+#[tactic(auto, using(crate::proofs::TextFaults::taken_text))]
+pub fn take_text<S: Shelf>(
+    alloc: Global,
+    shelf: &mut S,
+    name: &Text,
+) -> Result<DocumentText, ReadFault>
+    ensures files { S.files shelf.new ≡ S.files shelf.old }
+    ensures later { S.faults shelf.old ≤ S.faults shelf.new }
+    ensures text { IfOk result (IsTextOf (S.files shelf.old) name.now) }
+    ensures failed { IsErrOf result ReadFault.Failed → Rose (S.faults shelf.old) (S.faults shelf.new) }
+    ensures broken { IsErrOf result ReadFault.Failed → S.broken shelf.new ≡ true }
+    ensures last { IsErrOf result ReadFault.Failed → S.last shelf.new ≡ Some name.now }
+{
+    let intake = read_document(alloc, shelf, name)?;
+    match text_of(alloc, intake) {
+        Ok(text) => Ok(text),
+        Err(NoMemory) => Err(ReadFault::NoMemory),
+    }
+}
+
 /// What the document of this name is.
 #[tactic(auto, using(crate::proofs::Settling::document_of))]
 pub fn take_document<S: Shelf>(
@@ -74,8 +96,8 @@ pub fn take_document<S: Shelf>(
     ensures broken { IsErrOf result ReadFault.Failed → S.broken shelf.new ≡ true }
     ensures last { IsErrOf result ReadFault.Failed → S.last shelf.new ≡ Some name.now }
 {
-    let intake = read_document(alloc, shelf, name)?;
-    match settle(alloc, intake) {
+    let text = take_text(alloc, shelf, name)?;
+    match settle(alloc, text) {
         Ok(document) => Ok(document),
         Err(NoMemory) => Err(ReadFault::NoMemory),
     }

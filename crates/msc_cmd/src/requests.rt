@@ -3,8 +3,8 @@ ghost use Rattle.std.specs.List.{list_all};
 ghost use Rattle.std.specs.Str.{is_utf8};
 ghost use Rattle.clap.specs.Words.{app_of, with_rule, rows_of, found_of};
 ghost use Rattle.msc_base.specs.declared.limits.TheConstants.Limits.{BUDGET_DEFAULT};
-ghost use Rattle.msc_cmd.specs.Requests.{Answers, bare, wanted, flag, form_of, is_true, judge_app, judge_request, request_of as request_in_words, request_from, request_in};
-ghost use Rattle.msc_cmd.specs.declared.requests.Request.TheVariants.{Judge};
+ghost use Rattle.msc_cmd.specs.Requests.{Answers, bare, command_request, wanted, flag, form_of, is_true, judge_app, judge_request, print_app, print_from, print_in, print_request, request_of as request_in_words, request_from, request_in};
+ghost use Rattle.msc_cmd.specs.declared.requests.Request.TheVariants.{Judge, Print};
 ghost use Rattle.msc_cmd.specs.declared.requests.WordFault.TheVariants.{NoRequest};
 
 use clap::error::ErrorKind;
@@ -24,6 +24,10 @@ pub enum Request {
         budget: u64,
         json: bool,
         form: LogForm,
+    },
+    /// Print this document in its canonical form.
+    Print {
+        document: Text,
     },
 }
 
@@ -61,10 +65,10 @@ fn with_flag<'a>(
 }
 
 /// A command without arguments yet, to which each word is one, `--help` too.
-fn bare_command<'a>(alloc: Global) -> Command<'a>
-    ensures { app_of result ≡ bare }
+fn bare_command<'a>(alloc: Global, name: &'a str) -> Command<'a>
+    ensures { app_of result ≡ bare name.entry.now }
 {
-    Command::new(alloc, "judge")
+    Command::new(alloc, name)
         .no_binary_name(true)
         .disable_help_flag(true)
 }
@@ -73,12 +77,20 @@ fn bare_command<'a>(alloc: Global) -> Command<'a>
 fn judge_command<'a>(alloc: Global) -> Result<Command<'a>, AllocError>
     ensures { IfOk result (λ c. app_of c ≡ judge_app) }
 {
-    let command = bare_command(alloc);
+    let command = bare_command(alloc, "judge");
     let command = with_wanted(alloc, command, "document")?;
     let command = with_wanted(alloc, command, "chart")?;
     let command = with_wanted(alloc, command, "log")?;
     let command = with_flag(alloc, command, "json")?;
     with_flag(alloc, command, "log-json")
+}
+
+/// What may stand behind `print`.
+fn print_command<'a>(alloc: Global) -> Result<Command<'a>, AllocError>
+    ensures { IfOk result (λ c. app_of c ≡ print_app) }
+{
+    let command = bare_command(alloc, "print");
+    with_wanted(alloc, command, "document")
 }
 
 /// Whether an option without a value is given.
@@ -126,7 +138,7 @@ fn judge_of(
     })
 }
 
-/// The request, from what each argument was given.
+/// The request to judge, from what each argument was given.
 fn request_of_texts(
     alloc: Global,
     document: Option<&str>,
@@ -155,7 +167,20 @@ fn request_of_texts(
     }
 }
 
-/// The request in what `clap` found.
+/// The request to print, from what its argument was given.
+fn print_of_text(alloc: Global, document: Option<&str>) -> Result<Request, WordFault>
+    ensures { Answers (print_from (option_map (λ s. s.now) document.entry)) result }
+{
+    let Some(document) = document else {
+        return Err(WordFault::NoRequest);
+    };
+    match Text::from_bytes(alloc, document.as_bytes()) {
+        Ok(document) => Ok(Request::Print { document }),
+        Err(_) => Err(WordFault::NoMemory),
+    }
+}
+
+/// The request to judge in what `clap` found.
 fn request_of_matches(alloc: Global, matches: &ArgMatches) -> Result<Request, WordFault>
     ensures { Answers (request_in (rows_of (found_of matches.now))) result }
 {
@@ -167,6 +192,13 @@ fn request_of_matches(alloc: Global, matches: &ArgMatches) -> Result<Request, Wo
         matches.get_str("json"),
         matches.get_str("log-json"),
     )
+}
+
+/// The request to print in what `clap` found.
+fn print_of_matches(alloc: Global, matches: &ArgMatches) -> Result<Request, WordFault>
+    ensures { Answers (print_in (rows_of (found_of matches.now))) result }
+{
+    print_of_text(alloc, matches.get_str("document"))
 }
 
 /// The request that the words behind `judge` make.
@@ -183,6 +215,35 @@ fn judge_words(alloc: Global, words: &[&str]) -> Result<Request, WordFault>
             _ => Err(WordFault::NoRequest),
         },
     }
+}
+
+/// The request that the words behind `print` make.
+fn print_words(alloc: Global, words: &[&str]) -> Result<Request, WordFault>
+    ensures { Answers (print_request (map (λ w. w.now) words.entry.now)) result }
+{
+    let Ok(command) = print_command(alloc) else {
+        return Err(WordFault::NoMemory);
+    };
+    match command.try_get_matches_from(words) {
+        Ok(matches) => print_of_matches(alloc, &matches),
+        Err(error) => match error.kind() {
+            ErrorKind::OutOfMemory => Err(WordFault::NoMemory),
+            _ => Err(WordFault::NoRequest),
+        },
+    }
+}
+
+/// The request that the words behind this command make.
+fn command_words(alloc: Global, command: &Text, words: &[&str]) -> Result<Request, WordFault>
+    ensures { Answers (command_request command.now (map (λ w. w.now) words.entry.now)) result }
+{
+    if is_text(command.bytes(), "judge") {
+        return judge_words(alloc, words);
+    }
+    if is_text(command.bytes(), "print") {
+        return print_words(alloc, words);
+    }
+    Err(WordFault::NoRequest)
 }
 
 #[tactic(auto, using(crate::proofs::WordLaws::not_utf8))]
@@ -225,9 +286,6 @@ pub fn request_of(alloc: Global, words: &Words) -> Result<Request, WordFault>
     let Some((command, rest)) = words.as_slice().split_first() else {
         return Err(WordFault::NoRequest);
     };
-    if !is_text(command.bytes(), "judge") {
-        return Err(WordFault::NoRequest);
-    }
     let texts = texts_of(alloc, rest)?;
-    judge_words(alloc, texts.as_slice())
+    command_words(alloc, command, texts.as_slice())
 }

@@ -1,5 +1,5 @@
 -- Tokens have one first refusal at most: the first token with which they begin nothing, or that opens a level too many.
-use Rattle.std.proofs.Common.{ℕ, suc, ◌≡◌, ◌∙◌, ◌++◌, ◌⊎◌, List, [], ◌∷◌, length, refl, sym, ap, inl, inr, subst, append-nil, append_assoc}
+use Rattle.std.proofs.Common.{ℕ, suc, ◌≡◌, ◌∙◌, ◌++◌, ◌⊎◌, List, [], ◌∷◌, refl, sym, ap, inl, inr, subst, append-nil, append_assoc}
 use Rattle.msc_tokens.specs.declared.token.Token.{Token}
 use Rattle.msc_reading.specs.Grammars.{Grammar}
 use Rattle.msc_reading.specs.Parsing.{Begins, Level, IsRefused, IsTooDeep}

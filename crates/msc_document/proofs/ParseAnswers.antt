@@ -1,5 +1,5 @@
 -- The answers for whole documents.
-use Rattle.std.proofs.Common.{ℕ, suc, ◌≡◌, ◌∙◌, ◌==◌, true, false, List, [], ◌∷◌, length, refl, sym, ap, subst, arith, inl, inr, Result, Ok, Err, IfOk, IfErr}
+use Rattle.std.proofs.Common.{ℕ, ◌≡◌, ◌∙◌, ◌==◌, true, false, List, [], ◌∷◌, length, refl, sym, ap, subst, arith, inl, inr, Result, Ok, Err, IfOk, IfErr}
 use Rattle.std.proofs.lemmas.Bool.{eqb-true}
 use Rattle.msc_base.specs.declared.place.Place.{Place}
 use Rattle.msc_tokens.specs.declared.token.Token.{Token}
@@ -17,7 +17,7 @@ use Rattle.msc_grammar.specs.Refusals.{IsRefusal}
 use Rattle.msc_grammar.specs.Refused.{fault_at}
 use Rattle.msc_document.specs.DocumentGrammar.{document}
 use Rattle.msc_document.specs.DocumentReaders.{document_at}
-use Rattle.msc_document.specs.Faults.{RefusesAt, OpensAt, IsFault, IsAnswer}
+use Rattle.msc_document.specs.Faults.{IsFault, IsAnswer}
 use Rattle.msc_document.proofs.DocumentRules.{one_document, document_exact, opened_document, proper_document}
 use Rattle.msc_document.proofs.Firsts.{one_refused, one_too_deep, not_both, refused_none, deep_none}
 
@@ -81,6 +81,10 @@ module _ (n : ℕ) (ts : List Token) (end : Place) where
   pub reads_no_other : (r : Result RawDocument ParseFault) → IsAnswer n ts end r → IfOk r (λ d. (m : ℕ) (other : Document) → (document m).reads ts other → other ≡ document_view d)
   reads_no_other (Ok d) h = λ m other k. one_document m n ts other (document_view d) k h
   reads_no_other (Err f) h = tt
+
+  pub reads_faultless : (r : Result RawDocument ParseFault) → IsAnswer n ts end r → IfOk r (λ d. (f : ParseFault) → IsFault document n ts end f → ⊥)
+  reads_faultless (Ok d) h = λ f k. no_document f k (document_view d) h
+  reads_faultless (Err f) h = tt
 
   pub reads_none : (r : Result RawDocument ParseFault) → IsAnswer n ts end r → IfErr r (λ f. IsRefusal f → (other : Document) → (document n).reads ts other → ⊥)
   reads_none (Ok d) h = tt

@@ -1,5 +1,5 @@
 -- Readers of charts and documents in the form that the code has.
-use Rattle.std.specs.Prelude.{ℕ, List, [], ◌∷◌, length, Some, None, Ok, codes}
+use Rattle.std.specs.Prelude.{ℕ, List, [], ◌∷◌, length, Some, None, codes}
 use Rattle.msc_tokens.specs.declared.token.Token.{Token}
 use Rattle.msc_tree.specs.Charts.{Chart, Document}
 use Rattle.msc_reading.specs.Languages.{Read, ◌>>=◌, just, seq_at, either_at, map_at, optional_at}

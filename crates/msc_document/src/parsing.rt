@@ -86,6 +86,7 @@ fn read_document(
 pub fn parse(alloc: Global, tokens: &TokenList) -> Result<RawDocument, ParseFault>
     ensures ok { IfOk result (λ read. (document 64).reads tokens.now.tokens (document_view read)) }
     ensures only { IfOk result (λ read. (levels : ℕ) (other : Document) → (document levels).reads tokens.now.tokens other → other ≡ document_view read) }
+    ensures faultless { IfOk result (λ read. (fault : ParseFault) → IsFault document 64 tokens.now.tokens tokens.now.end_place fault → ⊥) }
     ensures none { IfErr result (λ fault. IsRefusal fault → (other : Document) → (document 64).reads tokens.now.tokens other → ⊥) }
     ensures place { IfErr result (λ fault. IsRefusal fault → IsFault document 64 tokens.now.tokens tokens.now.end_place fault) }
     ensures only_fault { IfErr result (λ fault. IsRefusal fault → (other : ParseFault) → IsFault document 64 tokens.now.tokens tokens.now.end_place other → other ≡ fault) }

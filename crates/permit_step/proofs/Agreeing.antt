@@ -9,7 +9,8 @@ use Rattle.chart_term.specs.Properties.{EveryOf, EveryRow, Each, EachTurn, IsBel
 use Rattle.chart_term.specs.TermMeanings.{NetTerms, HasPattern, has_nil, has_event, has_join, has_choice, has_bound, has_turns, has_trail, HasParts, no_part, one_part, HasChoice, this_one, that_one, HasRow, gaps_end, gaps_turn, gaps_shut, gaps_more, HasWalk, walk_stop, walk_last, walk_step}
 use Rattle.chart_term.specs.TermPatterns.{Shape}
 use Rattle.chart_term.specs.Terms.{Block, Tree, Nil, Event, Join, Choice, Bound, Turns, Trail, Trees, none, more, Row, ends, gap, turn, Part, ◌∪◌, parts, Gap, Turn}
-use Rattle.permit_step.specs.Permission.{permit, permit_all, permit_some, permit_row, touch, touch_all, touch_row, wider, with_turn}
+use Rattle.chart_term.specs.Spreads.{touch, touch_all, touch_row}
+use Rattle.permit_step.specs.Permission.{permit, permit_all, permit_some, permit_row, wider, with_turn}
 use Rattle.permit_step.proofs.Everywhere.{every_out, every_row_out}
 use Rattle.permit_step.specs.Normality.{IsLeading, IsNormalLoop, IsNormal, AreNormal, IsNormalRow}
 

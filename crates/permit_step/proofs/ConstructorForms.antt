@@ -10,7 +10,8 @@ use Rattle.chart_term.specs.TermPatterns.{Shape, Both}
 use Rattle.chart_term.specs.Terms.{Tree, Bound, Turns, Trail, Part, Gap, Turn, row_of}
 use Rattle.permit_step.specs.ConstructorLaws.{IsFormed, IsFormedRow, HaveSame, ConstructorsKeepForm}
 use Rattle.permit_step.specs.Normality.{IsSet, IsNormalOver}
-use Rattle.permit_step.specs.Permission.{permit, touch, permits_of}
+use Rattle.chart_term.specs.Spreads.{touch}
+use Rattle.permit_step.specs.Permission.{permit, permits_of}
 use Rattle.permit_step.specs.Sound.{AreSoundTables}
 use Rattle.permit_step.specs.Soundness.{AreTidyTables, IsTidyOver, NetLacks, IsKnown}
 use Rattle.permit_step.proofs.ConstructorProofs.{normal_forms_keep_patterns}

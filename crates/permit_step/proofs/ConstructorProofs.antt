@@ -12,7 +12,8 @@ use Rattle.chart_term.proofs.Lists.{parts-row_of}
 use Rattle.chart_term.proofs.Looping.{Eases, turns_to, turns_from}
 use Rattle.chart_term.proofs.Walking.{trail_to, trail_from}
 use Rattle.permit_step.specs.ConstructorLaws.{NamesNot, PermitOnlyFalls, PermitOfNothing, NormalFormsKeepPatterns}
-use Rattle.permit_step.specs.Permission.{permit, touch, permits_of}
+use Rattle.chart_term.specs.Spreads.{touch}
+use Rattle.permit_step.specs.Permission.{permit, permits_of}
 use Rattle.permit_step.specs.Soundness.{AreTidyTables, IsTidyOver, NeverGrows, NetLacks, IsKnown}
 use Rattle.permit_step.proofs.Everywhere.{permit_every}
 use Rattle.permit_step.proofs.Identity.{permit_same}

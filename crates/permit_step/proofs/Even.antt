@@ -10,7 +10,8 @@ use Rattle.chart_term.specs.Terms.{Block, Tree, Nil, Event, Join, Choice, Bound,
 use Rattle.chart_term.proofs.Binding.{kept_in}
 use Rattle.chart_term.proofs.Lists.{parts-row_of}
 use Rattle.permit_step.specs.Normality.{AreNormalTables, IsNormalOver}
-use Rattle.permit_step.specs.Permission.{permit, permit_row, touch, permits_of}
+use Rattle.chart_term.specs.Spreads.{touch}
+use Rattle.permit_step.specs.Permission.{permit, permit_row, permits_of}
 use Rattle.permit_step.specs.Soundness.{NeverGrows, IsOutside, AreTidyTables, AreTidy, IsTidyRow, NetLacks, IsKnown}
 use Rattle.permit_step.proofs.Keeping.{Kind, permit_keeps}
 use Rattle.permit_step.proofs.Living.{IsHeld, has_pattern}

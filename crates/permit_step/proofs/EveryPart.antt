@@ -7,7 +7,8 @@ use Rattle.chart_term.specs.Properties.{Each, EachTurn, EveryOf, EveryRow, IsBel
 use Rattle.chart_term.specs.Tables.{NetEntry, Tables, net_count, choose}
 use Rattle.chart_term.specs.Terms.{TermEvent, Block, Tree, Nil, Event, Join, Choice, Bound, Turns, Trail, Trees, none, more, Row, ends, gap, turn, items, trees, Part, Gap, Turn, parts, row_of}
 use Rattle.permit_step.specs.FullSoundness.{EveryPart, EveryPartOf, EveryRowPart}
-use Rattle.permit_step.specs.Permission.{permit, permit_nth, touch, permits_of}
+use Rattle.chart_term.specs.Spreads.{touch}
+use Rattle.permit_step.specs.Permission.{permit, permit_nth, permits_of}
 use Rattle.permit_step.specs.Soundness.{AreTidyTables}
 use Rattle.permit_step.specs.Taking.{IsAfter}
 use Rattle.permit_step.proofs.Keeping.{Kind, Begins, Aims, join_keeps, choice_keeps, tied_keeps, turns_keep, permit_keeps, after_keeps}

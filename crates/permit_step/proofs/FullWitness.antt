@@ -10,7 +10,7 @@ use Rattle.chart_term.specs.TermRuns.{run_end, run_take}
 use Rattle.chart_term.specs.Terms.{Nil, Turns, Trail, gap, ends}
 use Rattle.permit_step.specs.FullSoundness.{IsSoundNode, IsFullySound, AreSoundNets, AreEndsNil}
 use Rattle.permit_step.specs.Sound.{HasOrder}
-use Rattle.permit_step.proofs.Fresh.{fresh_terms_are_sound, nil_orders, order_of}
+use Rattle.permit_step.proofs.FreshTerms.{fresh_terms_are_sound, nil_orders, order_of}
 use Rattle.permit_step.proofs.Times.{ties_from}
 use Rattle.permit_step.proofs.Witness.{message, message_sound, action, entry, within}
 
@@ -76,7 +76,7 @@ ends_nil (suc zero) h = refl
 ends_nil (suc (suc m)) h = refl
 
 graph_nets : AreSoundNets 2 (entry ∷ [])
-graph_nets = (tt, (action_node, (nil_node, tt)), (tt, (tt, tt)), within, ends_nil)
+graph_nets = (tt, (action_node, (nil_node, tt)), (tt, (tt, tt)), within, ends_nil, refl)
 
 finished_full : IsFullySound 2 (entry ∷ []) (Trail 0 Start End [])
 finished_full = fresh_terms_are_sound.walk 2 (entry ∷ []) 0 End graph_nets (omega arith) tt

@@ -10,7 +10,8 @@ use Rattle.chart_term.specs.Properties.{Each, EachTurn, EachGap}
 use Rattle.chart_term.specs.TermPatterns.{pairs}
 use Rattle.chart_term.specs.Terms.{TermEvent, has, has_some, hits, Tree, Nil, Event, Join, Choice, Bound, Turns, Trail, Trees, none, more, Row, ends, gap, turn, items, trees, Part, Gap, Turn, parts, row_of}
 use Rattle.permit_step.specs.Normality.{IsPartOf, IsAlternative, AreTwoOrMore, AreDifferent, IsSomePair, AreShown, ArePairsOnce, IsPositive, IsNotNil, IsTurnFirst, AreApart, IsNormalLoop, IsLeading, IsNormalWalk, IsNormal, AreNormal, IsNormalRow}
-use Rattle.permit_step.specs.Permission.{permit, permit_all, permit_some, permit_row, touch, wider, with_turn}
+use Rattle.chart_term.specs.Spreads.{touch}
+use Rattle.permit_step.specs.Permission.{permit, permit_all, permit_some, permit_row, wider, with_turn}
 
 trees-items : (xs : Trees) → trees (items xs) ≡ xs
 trees-items none = refl

@@ -36,14 +36,31 @@ pub mod OpenWalks
 pub mod Once
 pub mod Times
 pub mod FullSound
-pub mod Fresh
+pub mod FreshTerms
 pub mod FullWitness
 pub mod SoundForms
 pub mod Even
 pub mod Selfless
 pub mod SoundParts
 pub mod Numbers
-mod Missed
+pub mod Missed
 pub mod Removals
 pub mod Coregions
 mod CoregionWeights
+pub mod RowRests
+pub mod Unions
+pub mod Measures
+pub mod Permits
+pub mod PermitRows
+pub mod PermitLoops
+pub mod NodeTerms
+pub mod PassingFacts
+pub mod PermitWalks
+pub mod EndingFacts
+pub mod FreshFacts
+pub mod Children
+pub mod SetFacts
+pub mod TouchFacts
+pub mod Within
+pub mod ReadyTerms
+pub mod SoundReady

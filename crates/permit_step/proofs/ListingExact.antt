@@ -8,7 +8,8 @@ use Rattle.chart_term.specs.NormalForms.{NetPermits, only, join_all, bound_of, t
 use Rattle.chart_term.specs.TermPatterns.{instances_of, earlier}
 use Rattle.chart_term.specs.Terms.{TermEvent, ◌∪◌, Tree, Nil, Event, Join, Choice, Bound, Turns, Trail, Trees, none, more, Row, ends, gap, turn, items, Part, Gap, Turn, parts}
 use Rattle.permit_step.specs.Listing.{Taken, TakenParts, TakenRow, stay, tied, all_tied, joined, first_taken, behind_one, behind_part, turn_taken, gap_taken, gap_begun, behind_gap, behind_turned, behind_turn, may_begin, turned, all_turned, may_lead, walked, all_walked, node_walked, nodes_walked, listed, listed_parts, listed_all, listed_row, after_list, IsAmong, ListIsExact}
-use Rattle.permit_step.specs.Permission.{permit, touch, permits_of}
+use Rattle.chart_term.specs.Spreads.{touch}
+use Rattle.permit_step.specs.Permission.{permit, permits_of}
 use Rattle.permit_step.specs.Taking.{Stays, fewer, down, HasMore, Leads, IsAfter, after_event, after_choice, after_join, after_bound, after_turns, after_trail, IsAfterOne, first_one, later_one, IsAfterJoin, first_part, later_part, IsAfterRow, in_turn, in_gap, past_turn, past_gap}
 use Rattle.permit_step.proofs.Ranking.{rank, ranks, row_rank, permit_rank}
 use Rattle.permit_step.proofs.TermSentences.{net_rank, kept_rank}

@@ -1,19 +1,22 @@
 -- Permission by a block that misses a term in normal form gives the term back.
-use Rattle.std.specs.Prelude.{ℕ, Bool, true, false, List, [], ◌∷◌, ◌++◌, ◌≡◌, ◌&&◌, ◌||◌, ◌==◌, not, Option, Some, None, refl, ltb}
+use Rattle.std.specs.Prelude.{ℕ, Bool, true, false, List, [], ◌∷◌, ◌++◌, ◌≡◌, ◌&&◌, ◌||◌, ◌==◌, not, Option, Some, None, refl, ltb, nat_le}
 use Rattle.std.specs.List.{list_any}
 use Rattle.std.specs.Option.{option_map}
 use Rattle.std.proofs.Common.{ap, ap₂, subst, ◌∙◌, sym, arith, cond}
 use Rattle.std.proofs.lemmas.Bool.{eq-eqb, eqb-true}
 use Rattle.std.proofs.lemmas.Bool.Decides.{nat_tests}
 use Rattle.std.proofs.lemmas.List.Folds.{list_any-append}
+use Rattle.msc_base.specs.Blocks.{BlockValue}
 use Rattle.chart_term.specs.declared.facts.Span.{Span}
 use Rattle.chart_term.specs.Facts.{has_trail, any_trail, row_trail, instances, instances_all, instances_row, misses, span_of, lies_in, wider as wider_span}
 use Rattle.chart_term.specs.NormalForms.{NetPermits, only, cut, join_all, and_then, or_skip, unless, choice_of, bound_of, cut_gaps, drop_nil, at_zero, live, has_free, drop_free, lower_of, thin, turns_end, turns_in, numbers, numbers_all, numbers_row}
 use Rattle.chart_term.specs.TermPatterns.{instances_of, some_list}
 use Rattle.chart_term.specs.Terms.{Block, TermEvent, has, has_some, hits, add_at, add_member, ◌∪◌, Tree, Nil, Event, Join, Choice, Bound, Turns, Trail, Trees, none, more, Row, ends, gap, turn, items, Part, Gap, Turn, parts}
-use Rattle.permit_step.specs.Missed.{block_of, PermitOfMissed}
+use Rattle.permit_step.specs.Missed.{PermitOfMissed}
 use Rattle.permit_step.specs.Normality.{IsNormal, AreNormal, IsNormalRow}
-use Rattle.permit_step.specs.Permission.{permit, permit_all, permit_some, permit_row, permits_of, touch, touch_all, touch_row, wider, with_turn}
+use Rattle.chart_term.specs.Spreads.{touch, touch_all, touch_row}
+use Rattle.permit_step.specs.Permission.{permit, permit_all, permit_some, permit_row, permits_of, wider, with_turn}
+use Rattle.permit_step.specs.Values.{block_of}
 use Rattle.permit_step.proofs.Identity.{join_same, choice_same, bound_same, turns_same}
 
 -- no number of the first list is in the second
@@ -193,13 +196,74 @@ apart_lies : (ms ns : List ℕ) → list_any (lies_in (span_of ns)) ms ≡ false
 apart_lies [] ns h = tt
 apart_lies (m ∷ ms) ns h = let (a, b) = or_parts (lies_in (span_of ns) m) (list_any (lies_in (span_of ns)) ms) h in (outside ns m a, apart_lies ms ns b)
 
+-- permission by a block that misses a term in normal form gives the term back
+pub permit-misses : (k : NetPermits) (b : BlockValue) (x : Tree) → IsNormal k x → misses b x ≡ true → permit k (block_of b) x ≡ Some x
+permit-misses k b x h m =
+    let (front, last) = and_parts (not (has_trail x) && not (list_any (has (instances x)) b.instances)) (not (list_any (lies_in (span_of (numbers x))) b.events)) m in
+    let (walk, places) = and_parts (not (has_trail x)) (not (list_any (has (instances x)) b.instances)) front in
+    missed_same k (block_of b) x h (not_true (has_trail x) walk) (apart_any b.instances (instances x) (not_true (list_any (has (instances x)) b.instances) places)) (apart_lies b.events (numbers x) (not_true (list_any (lies_in (span_of (numbers x))) b.events) last))
+
 pub permit_of_missed : PermitOfMissed
-permit_of_missed = record {
-  same = λ w b x h m.
-      let (front, last) = and_parts (not (has_trail x) && not (list_any (has (instances x)) b.instances)) (not (list_any (lies_in (span_of (numbers x))) b.events)) m in
-      let (walk, places) = and_parts (not (has_trail x)) (not (list_any (has (instances x)) b.instances)) front in
-      missed_same (permits_of w) (block_of b) x h (not_true (has_trail x) walk) (apart_any b.instances (instances x) (not_true (list_any (has (instances x)) b.instances) places)) (apart_lies b.events (numbers x) (not_true (list_any (lies_in (span_of (numbers x))) b.events) last));
-}
+permit_of_missed = record { same = λ w b x h m. permit-misses (permits_of w) b x h m }
+
+has_first : (n : ℕ) (c : List ℕ) → has (n ∷ c) n ≡ true
+has_first n c = ap (λ t. t || has c n) (eq-eqb n n refl)
+
+-- no member passes the test where each fails it
+all_fail : (p : ℕ → Bool) (c : List ℕ) → ((n : ℕ) → has c n ≡ true → p n ≡ false) → list_any p c ≡ false
+all_fail p [] f = refl
+all_fail p (m ∷ c) f = λ i. f m (has_first m c) i || all_fail p c (λ n h. f n (later n h)) i
+  where
+    later : (n : ℕ) → has c n ≡ true → has (m ∷ c) n ≡ true
+    later n h = go (m == n) h
+      where
+        go : (t : Bool) → has c n ≡ true → (t || has c n) ≡ true
+        go true q = refl
+        go false q = q
+
+not_there : (c : List ℕ) (m n : ℕ) → has c m ≡ false → has c n ≡ true → (m == n) ≡ false
+not_there c m n h i = go (m == n) refl
+  where
+    go : (t : Bool) → (m == n) ≡ t → (m == n) ≡ false
+    go true e = let f : m ≡ n = grind (arith, nat_tests) in let g = ap (has c) f in cc
+    go false e = e
+
+at_one : (a b c : List ℕ) (n m : ℕ) → has c m ≡ false → has c n ≡ true → has (m ∷ []) n ≡ false
+at_one a b c n m h i = ap (λ t. t || false) (not_there c m n h i)
+
+lies_one : (n m : ℕ) → (m == n) ≡ false → lies_in (span_of (m ∷ [])) n ≡ false
+lies_one n m h = go (nat_le m n) (nat_le n m) refl refl
+  where
+    go : (s t : Bool) → nat_le m n ≡ s → nat_le n m ≡ t → (nat_le m n && nat_le n m) ≡ false
+    go true true e f = grind (arith, nat_tests)
+    go true false e f = λ i. e i && f i
+    go false t e f = ap (λ s. s && nat_le n m) e
+
+not_hit : (b : BlockValue) (e : TermEvent) → hits (block_of b) e ≡ false → misses b (Event e) ≡ true
+not_hit b e h = go e.also h
+  where
+    go : (o : Option ℕ) → ((has b.instances e.at || has_some b.instances o) || has b.events e.number) ≡ false
+        → ((not false && not (list_any (has (e.at ∷ some_list o)) b.instances)) && not (list_any (lies_in (span_of (e.number ∷ []))) b.events)) ≡ true
+    go o q =
+        let ends : (has b.instances e.at || has_some b.instances o) ≡ false = (or_parts (has b.instances e.at || has_some b.instances o) (has b.events e.number) q).0 in
+        let number : has b.events e.number ≡ false = (or_parts (has b.instances e.at || has_some b.instances o) (has b.events e.number) q).1 in
+        let at : has b.instances e.at ≡ false = (or_parts (has b.instances e.at) (has_some b.instances o) ends).0 in
+        let also : has_some b.instances o ≡ false = (or_parts (has b.instances e.at) (has_some b.instances o) ends).1 in
+        let places = all_fail (has (e.at ∷ some_list o)) b.instances (λ n i. λ j. not_there b.instances e.at n at i j || second o also n i j) in
+        let numbers = all_fail (lies_in (span_of (e.number ∷ []))) b.events (λ n i. lies_one n e.number (not_there b.events e.number n number i)) in
+        λ i. (not false && not (places i)) && not (numbers i)
+      where
+        second : (o : Option ℕ) → has_some b.instances o ≡ false → (n : ℕ) → has b.instances n ≡ true → has (some_list o) n ≡ false
+        second None a n i = refl
+        second (Some m) a n i = ap (λ t. t || false) (not_there b.instances m n a i)
+
+-- an event that isn't missed is hit
+hit_else : (k : NetPermits) (b : BlockValue) (e : TermEvent) (t : Bool) → hits (block_of b) e ≡ t → misses b (Event e) ≡ false → unless t (Event e) ≡ None
+hit_else k b e true q h = refl
+hit_else k b e false q h = let f : misses b (Event e) ≡ true = not_hit b e q in cc
+
+pub hits-unless : (k : NetPermits) (b : BlockValue) (e : TermEvent) → misses b (Event e) ≡ false → permit k (block_of b) (Event e) ≡ None
+hits-unless k b e h = hit_else k b e (hits (block_of b) e) refl h
 
 -- an event that a block of another instance and a later event misses
 met : misses (record { instances = 5 ∷ []; events = 9 ∷ [] }) (Event (record { number = 2; at = 1; also = None; label = 0 })) ≡ true

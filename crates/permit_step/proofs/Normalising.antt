@@ -13,7 +13,8 @@ use Rattle.chart_term.specs.Terms.{TermEvent, Block, has, hits, add_at, add_memb
 use Rattle.chart_term.proofs.Lists.{items-trees, parts-row_of}
 use Rattle.chart_term.proofs.Looping.{IsSubRow, sub_end, sub_gap, sub_drop, sub_turn, sub_over, sub_nil, sub_zero, sub_live, sub_free}
 use Rattle.permit_step.specs.Normality.{IsAbove, IsSet, IsPartOf, IsAlternative, AreDifferent, AreShown, ArePairsOnce, IsPositive, IsNotNil, AreApart, IsNormalLoop, IsNormalWalk, IsNormal, AreNormal, IsNormalRow}
-use Rattle.permit_step.specs.Permission.{permit, permit_all, permit_some, permit_row, touch, wider, with_turn}
+use Rattle.chart_term.specs.Spreads.{touch}
+use Rattle.permit_step.specs.Permission.{permit, permit_all, permit_some, permit_row, wider, with_turn}
 use Rattle.permit_step.specs.Taking.{Stays, fewer, down, IsAfter, after_event, after_choice, after_join, after_bound, after_turns, after_trail, IsAfterOne, first_one, later_one, IsAfterJoin, first_part, later_part, IsAfterRow, in_turn, in_gap, past_turn, past_gap}
 use Rattle.permit_step.proofs.Keeping.{sub_thin, each_app, each_turn_sub, each_turn_cut}
 

@@ -6,7 +6,8 @@ use Rattle.chart_term.specs.NormalForms.{NetPermits, only, join_all, bound_of, t
 use Rattle.chart_term.specs.Properties.{Each, EachTurn}
 use Rattle.chart_term.specs.TermPatterns.{instances_of, earlier}
 use Rattle.chart_term.specs.Terms.{TermEvent, Tree, Trees, items, Part, Gap, Turn, ◌∪◌}
-use Rattle.permit_step.specs.Permission.{permit, touch}
+use Rattle.chart_term.specs.Spreads.{touch}
+use Rattle.permit_step.specs.Permission.{permit}
 use Rattle.permit_step.specs.Taking.{Stays, fewer, down, IsAfter, after_event, after_choice, after_join, after_bound, after_turns, after_trail, IsAfterOne, first_one, later_one, IsAfterJoin, first_part, later_part, IsAfterRow, in_turn, in_gap, past_turn, past_gap}
 use Rattle.permit_step.proofs.Apart.{Apart, AllApart}
 use Rattle.permit_step.proofs.Single.{Single, SingleAll, Begun, permit_begun, Lasting, lasting, turns_begun, none_last}

@@ -6,7 +6,8 @@ use Rattle.chart_term.specs.NormalForms.{NetPermits, only, numbers, kept_pairs, 
 use Rattle.chart_term.specs.Properties.{EachTurn}
 use Rattle.chart_term.specs.TermPatterns.{instances_of, earlier}
 use Rattle.chart_term.specs.Terms.{TermEvent, Tree, Nil, Event, Join, Choice, Bound, Turns, Trail, Trees, none, more, Part, parts, weight}
-use Rattle.permit_step.specs.Permission.{permit, touch}
+use Rattle.chart_term.specs.Spreads.{touch}
+use Rattle.permit_step.specs.Permission.{permit}
 use Rattle.permit_step.specs.Taking.{Stays, fewer, down, IsAfter, after_event, after_choice, after_join, after_bound, after_turns, after_trail, IsAfterOne, first_one, later_one, IsAfterJoin, first_part, later_part, IsAfterRow, in_turn, in_gap, past_turn, past_gap}
 use Rattle.permit_step.proofs.Single.{Single, SingleAll, Begun, permit_begun, turns_begun}
 use Rattle.permit_step.proofs.Ranking.{rank, ranks, row_rank, list_rank, parts_rank, ranks-items, rank-parts, join_rank, turns_rank, tie_rank, kept_length, at_some, permit_rank, weight_rank}

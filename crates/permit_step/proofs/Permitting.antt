@@ -11,7 +11,8 @@ use Rattle.chart_term.proofs.Instances.{IsInside, inside_left, inside_right, ins
 use Rattle.chart_term.proofs.Joining.{join_to, join_from, choice_to, choice_from}
 use Rattle.chart_term.proofs.Looping.{Eases, Falls, Rows, turns_to, turns_from}
 use Rattle.chart_term.proofs.Walking.{IsExactNet, Walks, change, trail_to, trail_from}
-use Rattle.permit_step.specs.Permission.{permit, permit_all, permit_some, permit_row, touch, touch_all, touch_row, wider, with_turn}
+use Rattle.chart_term.specs.Spreads.{touch, touch_all, touch_row}
+use Rattle.permit_step.specs.Permission.{permit, permit_all, permit_some, permit_row, wider, with_turn}
 use Rattle.chart_term.specs.Properties.{EachGap}
 use Rattle.chart_term.proofs.Binding.{bound_to, bound_from, Shows}
 

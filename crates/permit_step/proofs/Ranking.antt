@@ -7,7 +7,8 @@ use Rattle.hmsc_graph.specs.Graphs.{Spot, Goal, To, End, Any, reach}
 use Rattle.chart_term.specs.NormalForms.{NetPermits, only, cut, open_part, flat, join_of, join_all, and_then, or_skip, unless, choice_of, choice_form, unless_same, without, distinct, open_choice, open_choices, bound_form, bound_of, kept_pairs, numbers, cut_gaps, drop_nil, at_zero, live, drop_free, has_free, lower_of, thin, thin_gap, has_gap, begun, turns_form, turns_of, turns_in, trail_cut, walk_form, allowed, are_nil, unless_pair, without_pair, with_pair}
 use Rattle.chart_term.specs.Terms.{TermEvent, Tree, Nil, Event, Join, Choice, Bound, Turns, Trail, Trees, none, more, Row, ends, gap, turn, Block, hits, items, trees, Part, Gap, Turn, parts, row_of, ◌∪◌, has, weight, weights, row_weight}
 use Rattle.chart_term.proofs.Looping.{IsSubRow, sub_end, sub_gap, sub_drop, sub_turn, sub_over, sub_nil, sub_zero, sub_live, sub_free}
-use Rattle.permit_step.specs.Permission.{permit, permit_all, permit_some, permit_row, touch, wider, with_turn}
+use Rattle.chart_term.specs.Spreads.{touch}
+use Rattle.permit_step.specs.Permission.{permit, permit_all, permit_some, permit_row, wider, with_turn}
 use Rattle.chart_term.specs.Equality.{same_tree}
 
 abbrev mutual

@@ -132,7 +132,7 @@ module _ (w : Tables) (n : ℕ) where
   moved_to : (x z : Tree) (xs : List Tree) → x ≡ z → IsAmong x xs → IsAmong z xs
   moved_to x z xs e h = rw e at h
 
-  set_whole : (l : List ℕ) (xs : List Tree) → AreDeepAlong w n xs l → (x z : Tree) → IsAmong x xs → IsResidual k x l z → IsAmong z (residual_set n k xs l)
+  pub set_whole : (l : List ℕ) (xs : List Tree) → AreDeepAlong w n xs l → (x z : Tree) → IsAmong x xs → IsResidual k x l z → IsAmong z (residual_set n k xs l)
   set_whole [] xs d x z i r = moved_to x z xs (residual_stop x z r) i
   set_whole (a ∷ l) xs d x z i r =
       let (e, y, q, h, s) = residual_cut x z a l r in

@@ -11,7 +11,8 @@ use Rattle.chart_term.specs.Terms.{TermEvent, Block, has, has_some, hits, Tree, 
 use Rattle.chart_term.proofs.Instances.{has_self, has_left, has_right, has_union, or_true, cut_into}
 use Rattle.chart_term.proofs.Lists.{items-trees}
 use Rattle.chart_term.proofs.Looping.{IsSubRow, sub_end, sub_gap, sub_drop, sub_turn, sub_over, sub_nil, sub_zero, sub_live, sub_free}
-use Rattle.permit_step.specs.Permission.{permit, permit_all, permit_some, permit_row, touch, touch_all, with_turn}
+use Rattle.chart_term.specs.Spreads.{touch, touch_all}
+use Rattle.permit_step.specs.Permission.{permit, permit_all, permit_some, permit_row, with_turn}
 use Rattle.permit_step.specs.Taking.{Stays, fewer, down, IsAfter, after_event, after_choice, after_join, after_bound, after_turns, after_trail, IsAfterOne, first_one, later_one, IsAfterJoin, first_part, later_part, IsAfterRow, in_turn, in_gap, past_turn, past_gap}
 use Rattle.permit_step.proofs.Apart.{Apart, AllApart, Fewer, fewer_self, permit_fewer, after_fewer, Thins, thin_end, thin_keep, thin_skip, thins_self, apart_thins, flat_apart, choices_apart, distinct_thins}
 use Rattle.permit_step.proofs.Everywhere.{permit_every}

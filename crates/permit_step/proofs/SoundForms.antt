@@ -16,7 +16,7 @@ use Rattle.permit_step.specs.Soundness.{AreTidyTables, IsTidyOver, NetLacks, IsK
 use Rattle.permit_step.proofs.ConstructorForms.{constructors_keep_form}
 use Rattle.permit_step.proofs.ConstructorProofs.{normal_forms_keep_patterns}
 use Rattle.permit_step.proofs.EveryPart.{join_part, choice_part, bound_part, fresh_part}
-use Rattle.permit_step.proofs.Fresh.{must, join_runs, run_of, order_of, orders_of, sound_of, fresh_terms_are_sound, walk_has}
+use Rattle.permit_step.proofs.FreshTerms.{must, join_runs, run_of, order_of, orders_of, sound_of, fresh_terms_are_sound, walk_has}
 use Rattle.permit_step.proofs.FullSound.{is_sound, tidy_of, tidy_tables, normal_tables, walk_known, known_left, OnceTie, tie_fewer, tie_permit, tie_taken}
 use Rattle.permit_step.proofs.OpenWalks.{walk_left, closed_last}
 use Rattle.permit_step.proofs.SoundLaws.{sound_has_pattern}

@@ -13,7 +13,8 @@ use Rattle.chart_term.proofs.Joining.{join_to, trans}
 use Rattle.chart_term.proofs.Looping.{Falls, Rows, turns_to}
 use Rattle.chart_term.proofs.Sameness.{avoids, follows, avoids_before}
 use Rattle.chart_term.proofs.Walking.{IsExactNet, Walks, change, trail_to}
-use Rattle.permit_step.specs.Permission.{permit, touch}
+use Rattle.chart_term.specs.Spreads.{touch}
+use Rattle.permit_step.specs.Permission.{permit}
 use Rattle.permit_step.specs.Taking.{Stays, fewer, down, HasMore, IsAfter, after_event, after_choice, after_join, after_bound, after_turns, after_trail, IsAfterOne, first_one, later_one, IsAfterJoin, first_part, later_part, IsAfterRow, in_turn, in_gap, past_turn, past_gap}
 use Rattle.permit_step.proofs.Permitting.{IsRegular, permit_law, only_fits, inside}
 use Rattle.chart_term.proofs.Binding.{Shows, bound_to}

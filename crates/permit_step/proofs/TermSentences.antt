@@ -11,7 +11,7 @@ use Rattle.permit_step.proofs.Ranking.{rank, ranks, row_rank, permit_rank}
 use Rattle.permit_step.proofs.Everywhere.{permit_every}
 use Rattle.permit_step.proofs.TidyTables.{kept_has, not_same, at_some, nth_has, same_is}
 
-abbrev sum_rank : (ℕ → ℕ) → List Tree → ℕ
+abbrev pub sum_rank : (ℕ → ℕ) → List Tree → ℕ
 sum_rank f [] = 0
 sum_rank f (x ∷ xs) = rank f x + sum_rank f xs
 
@@ -21,7 +21,7 @@ net_rank (e ∷ es) n = choose (n == net_count es) (sum_rank (net_rank es) e.nod
 
 module _ (f g : ℕ → ℕ) (top : ℕ) (alike : (n : ℕ) → n < top → f n ≡ g n) where
   mutual
-    same_rank : (x : Tree) → IsBelow top x → rank f x ≡ rank g x
+    pub same_rank : (x : Tree) → IsBelow top x → rank f x ≡ rank g x
     same_rank Nil h = refl
     same_rank (Event e) h = refl
     same_rank (Join m xs) h = ap (λ n. 1 + n) (same_ranks xs h)
@@ -52,7 +52,7 @@ known_node : (es : List NetEntry) (n m : ℕ) (c : List ℕ) (x : Tree) → (per
 known_node [] n m c x q = cc
 known_node (e ∷ es) n m c x q = known_step (n == net_count es) n (net_count es) (permit_nth (permits_of es) (only c) e.nodes m) ((permits_of es).kept n m c) x refl (known_node es n m c x) q
 
-new_rank : (e : NetEntry) (es : List NetEntry) (n : ℕ) → n < net_count es → net_rank es n ≡ net_rank (e ∷ es) n
+pub new_rank : (e : NetEntry) (es : List NetEntry) (n : ℕ) → n < net_count es → net_rank es n ≡ net_rank (e ∷ es) n
 new_rank e es n l = let p : (n == net_count es) ≡ false = not_same n (net_count es) l in rw p
 
 rank_step : (t : Bool) (a b : Option Tree) (u v : ℕ) (f : Tree → ℕ) (x : Tree) → (a ≡ Some x → f x ≤ u) → (b ≡ Some x → f x ≤ v) → choose t a b ≡ Some x → f x ≤ choose t u v

@@ -14,7 +14,8 @@ use Rattle.chart_term.proofs.Lists.{parts-row_of}
 use Rattle.chart_term.proofs.Looping.{Eases, Falls, IsSubRow, sub_end, sub_gap, sub_drop, sub_turn, sub_over}
 use Rattle.chart_term.proofs.Sameness.{hits_earlier}
 use Rattle.chart_term.proofs.Walking.{IsExactNet}
-use Rattle.permit_step.specs.Permission.{permit, permit_row, touch, wider, with_turn}
+use Rattle.chart_term.specs.Spreads.{touch}
+use Rattle.permit_step.specs.Permission.{permit, permit_row, wider, with_turn}
 use Rattle.permit_step.specs.Soundness.{Includes, NeverGrows, IsTidy, Lacks, IsOutside, AreOutside, AreTidy, IsTidyRow, IsFitting, AreFitting, IsFittingRow}
 use Rattle.permit_step.specs.Taking.{fewer, down, HasMore, IsAfter, IsAfterRow, in_turn, in_gap, past_turn, past_gap}
 use Rattle.permit_step.proofs.Keeping.{Kind, permit_keeps, after_keeps}

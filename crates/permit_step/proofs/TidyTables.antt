@@ -10,7 +10,8 @@ use Rattle.chart_term.specs.TermMeanings.{NetTerms, HasPattern, has_nil, Pattern
 use Rattle.chart_term.specs.TermPatterns.{Shape}
 use Rattle.chart_term.specs.Terms.{Block, Tree, Nil, Event, Join, Choice, Bound, Turns, Trail, Trees, none, more, Row, ends, gap, turn}
 use Rattle.chart_term.proofs.Instances.{IsInside, inside_left, inside_right}
-use Rattle.permit_step.specs.Permission.{permit, touch, permits_of, permit_nth, touch_list}
+use Rattle.chart_term.specs.Spreads.{touch, touch_list}
+use Rattle.permit_step.specs.Permission.{permit, permits_of, permit_nth}
 use Rattle.permit_step.specs.Soundness.{PickType, NetLacks, IsKnown, IsTidyOver, AreTidyTables, AreTidy, IsTidyRow, IsOutside, AreOutside}
 use Rattle.permit_step.proofs.Agreeing.{same_all_of}
 use Rattle.permit_step.proofs.Permitting.{permit_law, inside, only_fits}

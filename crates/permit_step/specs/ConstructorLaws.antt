@@ -9,7 +9,8 @@ use Rattle.chart_term.specs.TermMeanings.{HasPattern, HasParts, HasChoice, Patte
 use Rattle.chart_term.specs.TermPatterns.{Shape, InPairs, Both}
 use Rattle.chart_term.specs.Terms.{Block, Tree, Bound, Turns, Trail, Part, row_of, weight}
 use Rattle.permit_step.specs.Normality.{IsNormalOver, IsSet}
-use Rattle.permit_step.specs.Permission.{permit, touch, permits_of}
+use Rattle.chart_term.specs.Spreads.{touch}
+use Rattle.permit_step.specs.Permission.{permit, permits_of}
 use Rattle.permit_step.specs.Soundness.{AreTidyTables, IsTidyOver, NeverGrows, NetLacks, IsKnown}
 use Rattle.permit_step.specs.Sound.{AreSoundTables}
 

@@ -1,8 +1,9 @@
 -- Soundness in full: what holds of the terms of accepted charts, and of all that permission and taking leave of them.
-use Rattle.std.specs.Prelude.{ℕ, ◌+◌, ◌<◌, ◌≤◌, ◌==◌, true, false, List, [], ◌∷◌, ◌≡◌, Option, Some, None, cond}
+use Rattle.std.specs.Prelude.{ℕ, ◌+◌, ◌<◌, ◌≤◌, ◌==◌, true, false, List, [], ◌∷◌, ◌≡◌, Option, Some, None, cond, length}
 use Rattle.std.proofs.Common.{get_or}
 use Rattle.msc_base.specs.Patterns.{Mode, row, aside, empty, one, join, bind}
 use Rattle.hmsc_graph.specs.Graphs.{Spot, Start, At, Goal, To, End, Any, IsIn, Walk}
+use Rattle.hmsc_graph.specs.Nets.{size_of}
 use Rattle.chart_term.specs.NormalForms.{only, join_all, choice_of, bound_of, turns_of, trail_of}
 use Rattle.chart_term.specs.Properties.{Each, IsBelow, MayHave}
 use Rattle.chart_term.specs.Tables.{NetEntry, Tables, net_count, net_of, nodes_of, nth_tree, terms_over}
@@ -11,7 +12,8 @@ use Rattle.chart_term.specs.TermPatterns.{Shape, InPairs, pairs, Both}
 use Rattle.chart_term.specs.Terms.{TermEvent, Block, Tree, Nil, Event, Join, Choice, Bound, Turns, Trail, Trees, none, more, Row, ends, gap, turn, Part, Gap, parts}
 use Rattle.permit_step.specs.Laws.{Fits}
 use Rattle.permit_step.specs.Normality.{IsNormalOver}
-use Rattle.permit_step.specs.Permission.{permit, touch, permits_of}
+use Rattle.chart_term.specs.Spreads.{touch}
+use Rattle.permit_step.specs.Permission.{permit, permits_of}
 use Rattle.permit_step.specs.Sound.{HasOrder, IsSound}
 use Rattle.permit_step.specs.Soundness.{NeverGrows, IsOutside, NetLacks, IsKnown, LeadsWithin}
 use Rattle.permit_step.specs.Taking.{IsAfter}
@@ -162,10 +164,11 @@ pub record IsSoundNode (labels : ℕ) (w : Tables) (x : Tree) : Type 0 where
 abbrev pub AreEndsNil : NetEntry → Type 0
 AreEndsNil e = (m : ℕ) → get_or e.net.ends m false ≡ true → nth_tree e.nodes m ≡ Nil
 
--- the node terms of each net are sound over the older nets and name only those; its edges lead to its nodes, and its ends are empty
+-- the node terms of each net are sound over the older nets and name only those; its edges lead to its nodes, its ends are empty, and
+-- its graph has as many nodes as there are terms
 abbrev pub AreSoundNets : ℕ → Tables → Type 0
 AreSoundNets labels [] = Unit {0}
-AreSoundNets labels (e ∷ es) = AreSoundNets labels es × Each (IsSoundNode labels es) e.nodes × Each (IsBelow (net_count es)) e.nodes × LeadsWithin e × AreEndsNil e
+AreSoundNets labels (e ∷ es) = AreSoundNets labels es × Each (IsSoundNode labels es) e.nodes × Each (IsBelow (net_count es)) e.nodes × LeadsWithin e × AreEndsNil e × (size_of e.net ≡ length e.nodes)
 
 -- a sound term over sound nets; there are so many labels
 pub record IsFullySound (labels : ℕ) (w : Tables) (x : Tree) : Type 0 where

@@ -11,3 +11,14 @@ pub mod LaterTables
 pub mod OneResidual
 pub mod FullSoundness
 pub mod Missed
+pub mod RowRests
+pub mod RowEnds
+pub mod Ready
+pub mod ReadyLaws
+pub mod Values
+pub mod Passing
+pub mod Endings
+pub mod Fresh
+pub mod Children
+pub mod Touching
+pub mod ReadyBySoundness

@@ -6,7 +6,8 @@ use Rattle.chart_term.specs.NormalForms.{NetPermits, only, join_all, bound_of, t
 use Rattle.chart_term.specs.Tables.{Tables}
 use Rattle.chart_term.specs.TermPatterns.{instances_of, earlier, Both}
 use Rattle.chart_term.specs.Terms.{TermEvent, ◌∪◌, Tree, Nil, Event, Join, Choice, Bound, Turns, Trail, Trees, none, more, Row, ends, gap, turn, items, Part, Gap, Turn, parts, weight}
-use Rattle.permit_step.specs.Permission.{permit, touch, permits_of}
+use Rattle.chart_term.specs.Spreads.{touch}
+use Rattle.permit_step.specs.Permission.{permit, permits_of}
 use Rattle.permit_step.specs.Taking.{fewer, down, IsAfter}
 use Rattle.permit_step.specs.Soundness.{AreTidyTables}
 use Rattle.chart_term.specs.Properties.{Each}

@@ -3,13 +3,10 @@ use Rattle.std.specs.Prelude.{◌≡◌, true, Some}
 use Rattle.msc_base.specs.Blocks.{BlockValue}
 use Rattle.chart_term.specs.Facts.{misses}
 use Rattle.chart_term.specs.Tables.{Tables}
-use Rattle.chart_term.specs.Terms.{Block, Tree}
+use Rattle.chart_term.specs.Terms.{Tree}
 use Rattle.permit_step.specs.Normality.{IsNormalOver}
 use Rattle.permit_step.specs.Permission.{permit, permits_of}
-
--- the block of these sets
-abbrev pub block_of : BlockValue → Block
-block_of b = record { instances = b.instances; numbers = b.events }
+use Rattle.permit_step.specs.Values.{block_of}
 
 -- permission by a block that misses a term in normal form gives the term back
 pub record PermitOfMissed : Type 0 where

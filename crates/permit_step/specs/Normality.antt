@@ -8,7 +8,8 @@ use Rattle.chart_term.specs.Properties.{Each, EachTurn, EachGap}
 use Rattle.chart_term.specs.Tables.{Tables}
 use Rattle.chart_term.specs.TermPatterns.{pairs}
 use Rattle.chart_term.specs.Terms.{has, Tree, Nil, Event, Join, Choice, Bound, Turns, Trail, Trees, none, more, Row, ends, gap, turn, items, Part, Gap, Turn, parts}
-use Rattle.permit_step.specs.Permission.{permit, touch, permits_of}
+use Rattle.chart_term.specs.Spreads.{touch}
+use Rattle.permit_step.specs.Permission.{permit, permits_of}
 
 -- the number is below the first of the list
 abbrev pub IsAbove : ℕ → List ℕ → Type 0

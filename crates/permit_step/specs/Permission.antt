@@ -1,30 +1,10 @@
 -- Permission: what is left of a term where the events of a block may not happen (weak sequencing, Annex B of Z.120 in outline).
 use Rattle.std.specs.Option.{option_map}
-use Rattle.std.specs.Prelude.{ℕ, zero, suc, List, [], ◌∷◌, ◌++◌, Option, Some, None, ◌==◌}
+use Rattle.std.specs.Prelude.{ℕ, zero, suc, List, [], ◌∷◌, Option, Some, None, ◌==◌}
 use Rattle.chart_term.specs.NormalForms.{NetPermits, only, join_all, and_then, or_skip, unless, choice_of, bound_of, turns_in, trail_of}
+use Rattle.chart_term.specs.Spreads.{touch, spread_of}
 use Rattle.chart_term.specs.Tables.{choose, net_count, Tables, net_of, nodes_of}
-use Rattle.chart_term.specs.TermPatterns.{instances_of}
 use Rattle.chart_term.specs.Terms.{Block, hits, Tree, Nil, Event, Join, Choice, Bound, Turns, Trail, Trees, none, more, Row, ends, gap, turn, Part, Gap, Turn, ◌∪◌}
-
--- the instances of the events of a term, of its loop operands and of its nets
-abbrev mutual
-  pub touch : (ℕ → List ℕ) → Tree → List ℕ
-  touch k Nil = []
-  touch k (Event e) = (instances_of e).instances
-  touch k (Join m xs) = touch_all k xs
-  touch k (Choice xs) = touch_all k xs
-  touch k (Bound x q) = touch k x
-  touch k (Turns x lo hi r) = touch k x ++ touch_row k r
-  touch k (Trail n s t c) = k n
-
-  pub touch_all : (ℕ → List ℕ) → Trees → List ℕ
-  touch_all k none = []
-  touch_all k (more x xs) = touch k x ++ touch_all k xs
-
-  pub touch_row : (ℕ → List ℕ) → Row → List ℕ
-  touch_row k ends = []
-  touch_row k (gap c r) = touch_row k r
-  touch_row k (turn x r) = touch k x ++ touch_row k r
 
 -- a gap whose block grows
 abbrev pub wider : List ℕ → Option (List Part) → List ℕ → Option (List Part)
@@ -67,20 +47,10 @@ permit_nth k b [] m = None
 permit_nth k b (x ∷ xs) zero = permit k b x
 permit_nth k b (x ∷ xs) (suc m) = permit_nth k b xs m
 
--- the instances of the terms of a list
-abbrev pub touch_list : (ℕ → List ℕ) → List Tree → List ℕ
-touch_list k [] = []
-touch_list k (x ∷ xs) = touch k x ++ touch_list k xs
-
--- what permission leaves of the node terms, and the instances of the nets: a node term names only older nets
-abbrev mutual
-  pub kept_of : Tables → ℕ → ℕ → List ℕ → Option Tree
-  kept_of [] n m c = None
-  kept_of (e ∷ es) n m c = choose (n == net_count es) (permit_nth (record { net = net_of es; nodes = nodes_of es; kept = kept_of es; spread = spread_of es }) (only c) e.nodes m) (kept_of es n m c)
-
-  pub spread_of : Tables → ℕ → List ℕ
-  spread_of [] n = []
-  spread_of (e ∷ es) n = choose (n == net_count es) (touch_list (spread_of es) e.nodes) (spread_of es n)
+-- what permission leaves of the node terms: a node term names only older nets
+abbrev pub kept_of : Tables → ℕ → ℕ → List ℕ → Option Tree
+kept_of [] n m c = None
+kept_of (e ∷ es) n m c = choose (n == net_count es) (permit_nth (record { net = net_of es; nodes = nodes_of es; kept = kept_of es; spread = spread_of es }) (only c) e.nodes m) (kept_of es n m c)
 
 -- what the tables say to the normal forms
 abbrev pub permits_of : Tables → NetPermits

@@ -6,7 +6,8 @@ use Rattle.chart_term.specs.NormalForms.{NetPermits, only, join_all, turns_of, t
 use Rattle.chart_term.specs.TermMeanings.{NetTerms, aim}
 use Rattle.chart_term.specs.TermPatterns.{instances_of, earlier}
 use Rattle.chart_term.specs.Terms.{TermEvent, Tree, Nil, Event, Join, Choice, Bound, Turns, Trail, Trees, more, Row, items, Part, Gap, Turn, parts, ◌∪◌}
-use Rattle.permit_step.specs.Permission.{permit, touch}
+use Rattle.chart_term.specs.Spreads.{touch}
+use Rattle.permit_step.specs.Permission.{permit}
 
 -- what an earlier part of a join has to leave
 abbrev pub Stays : NetPermits → Mode → TermEvent → Tree → Tree → Type 0

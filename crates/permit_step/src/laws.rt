@@ -1,6 +1,8 @@
 //! The laws of terms. Each is the contract of a function that does nothing.
 
 ghost use Rattle.permit_step.specs.Missed.{PermitOfMissed};
+ghost use Rattle.permit_step.specs.ReadyBySoundness.{ReadyBySoundness};
+ghost use Rattle.permit_step.specs.ReadyLaws.{ReadyIsKept};
 ghost use Rattle.permit_step.specs.ConstructorLaws.{PermitOnlyFalls, PermitOfNothing, NormalFormsKeepPatterns, ConstructorsKeepForm};
 ghost use Rattle.permit_step.specs.LaterTables.{LaterTablesAgree};
 ghost use Rattle.permit_step.specs.Listing.{ListIsExact, ResidualSetIsExact};
@@ -121,7 +123,7 @@ pub fn full_soundness_is_kept()
 
 /// A loop that no turn has begun is there and sound in full where its operand is sound in full and holds no walk to any node, and
 /// its lower count is at most the upper; so is a walk from the start, which fails exactly where no walk leads to its goal.
-#[tactic(auto, using(crate::proofs::Fresh::fresh_terms_are_sound))]
+#[tactic(auto, using(crate::proofs::FreshTerms::fresh_terms_are_sound))]
 pub fn fresh_terms_are_sound()
     ensures { FreshTermsAreSound }
 {}
@@ -136,4 +138,16 @@ pub fn constructors_keep_soundness()
 #[tactic(auto, using(crate::proofs::Missed::permit_of_missed))]
 pub fn permission_of_missed()
     ensures { PermitOfMissed }
+{}
+
+/// The normalising constructors make ready terms of ready terms, and a ready term stays ready when one more net is stored.
+#[tactic(auto, using(crate::proofs::ReadyTerms::ready_is_kept))]
+pub fn ready_terms_are_kept()
+    ensures { ReadyIsKept }
+{}
+
+/// A term that is sound in full, and its tables, are those of which permission and taking can be computed.
+#[tactic(auto, using(crate::proofs::SoundReady::ready_by_soundness))]
+pub fn sound_terms_are_ready()
+    ensures { ReadyBySoundness }
 {}

@@ -4,4 +4,18 @@
 //! term may end where it has the empty pattern. The module `laws` says that this is exactly so.
 #![tactic(auto)]
 
+mod blocks;
+mod finishes;
+mod fresh;
 pub mod laws;
+mod loops;
+mod passing;
+mod permission;
+mod row_end;
+#[cfg(test)]
+mod tests;
+mod touch;
+
+pub use finishes::may_end;
+pub use fresh::{trail, turns};
+pub use permission::permit;

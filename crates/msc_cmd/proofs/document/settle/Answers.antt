@@ -1,18 +1,17 @@
-use Rattle.std.proofs.Common.{rules}
-use Rattle.msc_cmd.specs.Documents.{BreaksRule}
-use Rattle.msc_cmd.proofs.Settling.{settled_long, settled_fault, settled_text}
+use Rattle.std.proofs.Common.{◌≡◌, rules, subst}
+use Rattle.msc_tree.specs.Views.{document_view}
+use Rattle.msc_cmd.specs.declared.document_text.DocumentText.{DocumentText}
+use Rattle.msc_cmd.specs.declared.document_text.DocumentText.TheVariants.{Read, Refused}
+use Rattle.msc_cmd.specs.DocumentTexts.{IsTheText}
+use Rattle.msc_cmd.proofs.Settling.{only_faulty, settled_read}
 use Rattle.msc_cmd.proofs.document.settle.Goals as goal
 
-pub returns-then-count-gt-DOCUMENT_BYTES : goal.returns-then-count-gt-DOCUMENT_BYTES
-returns-then-count-gt-DOCUMENT_BYTES c = λ front bytes h f. settled_long front bytes c.args.intake c.if-count-gt-DOCUMENT_BYTES.true h f
+pub returns-in-Read : goal.returns-in-Read
+returns-in-Read c =
+    let is : c.args.text ≡ Read c.in-Read.field-0 c.in-Read.tokens = search rules in
+    λ bytes h. settled_read bytes (document_view c.in-Read.field-0) c.in-Read.tokens.tokens c.chart_of.result c.chart_of.ensures (subst (λ (t : DocumentText). IsTheText bytes t) is h)
 
-pub returns-in-Ok : goal.returns-in-Ok
-returns-in-Ok c =
-    λ front bytes h f. settled_text front bytes c.args.intake c.in-Ok.tokens.tokens c.chart_of.result c.if-count-gt-DOCUMENT_BYTES.false (λ bs fd. c.in-Ok.ensures.ok bs fd) (λ bs fd. c.in-Ok.ensures.only bs fd)
-    (λ bs fd. c.in-Ok.ensures.faultless bs fd) c.chart_of.ensures h f
-
-pub returns-in-Some : goal.returns-in-Some
-returns-in-Some c =
-    let b : BreaksRule c.in-Err.fault c.in-Some.broken c.in-Some.at = search rules in
-    λ front bytes h f. settled_fault front bytes c.args.intake c.in-Err.fault c.in-Some.broken c.in-Some.at c.if-count-gt-DOCUMENT_BYTES.false (λ bs fd. c.in-Err.ensures.fault bs fd) (λ bs fd. c.in-Err.ensures.only_fault bs fd)
-    (λ bs fd. c.in-Err.ensures.none bs fd) b h f
+pub returns : goal.returns
+returns c =
+    let is : c.args.text ≡ Refused c.in-Refused.broken c.in-Refused.place = search rules in
+    λ bytes h. only_faulty bytes c.in-Refused.broken c.in-Refused.place (subst (λ (t : DocumentText). IsTheText bytes t) is h)

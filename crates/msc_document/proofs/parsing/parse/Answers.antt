@@ -1,6 +1,4 @@
-use Rattle.std.proofs.Common.{sym}
-use Rattle.msc_document.specs.Faults.{IsAnswer}
-use Rattle.msc_document.proofs.ParseAnswers.{moved, reads_it, reads_no_other, reads_none, has_fault, has_one_fault}
+use Rattle.msc_document.proofs.ParseAnswers.{moved, reads_it, reads_no_other, reads_faultless, reads_none, has_fault, has_one_fault}
 use Rattle.msc_document.proofs.parsing.parse.Goals as goal
 
 pub returns-clause-ok : goal.returns-clause-ok
@@ -11,6 +9,11 @@ returns-clause-ok c =
 pub returns-clause-only : goal.returns-clause-only
 returns-clause-only c =
     reads_no_other 64 c.args.tokens.now.tokens c.args.tokens.now.end_place c.read_document.result
+    (moved 64 c.as_slice.result.now c.args.tokens.now.tokens c.end_place.result c.args.tokens.now.end_place c.read_document.result c.as_slice.ensures c.end_place.ensures c.read_document.ensures)
+
+pub returns-clause-faultless : goal.returns-clause-faultless
+returns-clause-faultless c =
+    reads_faultless 64 c.args.tokens.now.tokens c.args.tokens.now.end_place c.read_document.result
     (moved 64 c.as_slice.result.now c.args.tokens.now.tokens c.end_place.result c.args.tokens.now.end_place c.read_document.result c.as_slice.ensures c.end_place.ensures c.read_document.ensures)
 
 pub returns-clause-none : goal.returns-clause-none

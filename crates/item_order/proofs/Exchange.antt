@@ -1,0 +1,82 @@
+-- Edges between neighbours ask for as much as the relation that they make up.
+use Rattle.std.proofs.Common.{◌≡◌, ℕ, ◌<◌, ◌≤◌, ◌+◌, List, [], ◌∷◌, ◌++◌, Option, Some, ◌⊎◌, inl, inr, slice_get, take, zero, suc, refl, sym, ap, ◌∙◌, subst, append-nil, append_assoc, arith}
+use Rattle.item_order.specs.Orders.{Has, IsAt, IsDue, IsNext, IsEarliestFirst, IsWhole, IsStuckAt}
+use Rattle.item_order.proofs.Agree.{Follows, to_follows, from_follows}
+
+pub has_left : (xs ys : List ℕ) (x : ℕ) → Has xs x → Has (xs ++ ys) x
+has_left [] ys x h = absurd h
+has_left (y ∷ xs) ys x (inl e) = inl e
+has_left (y ∷ xs) ys x (inr h) = inr (has_left xs ys x h)
+
+pub has_right : (xs ys : List ℕ) (x : ℕ) → Has ys x → Has (xs ++ ys) x
+has_right [] ys x h = h
+has_right (y ∷ xs) ys x h = inr (has_right xs ys x h)
+
+pub has_either : (xs ys : List ℕ) (x : ℕ) → Has (xs ++ ys) x → Has xs x ⊎ Has ys x
+has_either [] ys x h = inr h
+has_either (y ∷ xs) ys x (inl e) = inl (inl e)
+has_either (y ∷ xs) ys x (inr h) = elim (has_either xs ys x h) [ inl l ↦ inl (inr l) | inr r ↦ inr r ]
+
+-- near says no more than far, and far is near with, perhaps, more of far before it
+pub record MakesUp (near far : ℕ → ℕ → Type 0) : Type 0 where
+  pub within : (y x : ℕ) → near y x → far y x
+  pub steps : (y x : ℕ) → far y x → near y x ⊎ ((z : ℕ) × far y z × near z x)
+
+module _ (n : ℕ) (near far : ℕ → ℕ → Type 0) (made : MakesUp near far) where
+  abbrev Closed : List ℕ → Type 0
+  Closed front = (y z : ℕ) → Has front z → far y z → Has front y
+
+  due_far : (front : List ℕ) (x : ℕ) → Closed front → IsDue n near front x → IsDue n far front x
+  due_far front x closed d = record {
+    inside = d.inside;
+    remains = d.remains;
+    ready = λ y p. elim (made.steps y x p) [ inl e ↦ d.ready y e | inr t ↦ closed y t.0 (d.ready t.0 t.2) t.1 ];
+  }
+
+  due_near : (front : List ℕ) (x : ℕ) → IsDue n far front x → IsDue n near front x
+  due_near front x d = record { inside = d.inside; remains = d.remains; ready = λ y e. d.ready y (made.within y x e) }
+
+  next_far : (front : List ℕ) (x : ℕ) → Closed front → IsNext n near front x → IsNext n far front x
+  next_far front x closed h = record { due = due_far front x closed h.due; earliest = λ y d. h.earliest y (due_near front y d) }
+
+  next_near : (front : List ℕ) (x : ℕ) → Closed front → IsNext n far front x → IsNext n near front x
+  next_near front x closed h = record { due = due_near front x h.due; earliest = λ y d. h.earliest y (due_far front y closed d) }
+
+  closed_snoc : (front : List ℕ) (x : ℕ) → Closed front → IsDue n far front x → Closed (front ++ x ∷ [])
+  closed_snoc front x closed d y z h p = elim (has_either front (x ∷ []) z h) [
+    | inl l ↦ has_left front (x ∷ []) y (closed y z l p)
+    | inr r ↦ elim r [ inl e ↦ has_left front (x ∷ []) y (d.ready y (subst (λ (w : ℕ). far y w) (sym e) p)) | inr b ↦ absurd b ]
+  ]
+
+  pub follows_far : (front xs : List ℕ) → Closed front → Follows n near front xs → Follows n far front xs
+  follows_far front [] closed f = tt
+  follows_far front (x ∷ xs) closed f =
+      let h : IsNext n far front x = next_far front x closed f.0 in
+      (h, follows_far (front ++ x ∷ []) xs (closed_snoc front x closed h.due) f.1)
+
+  pub follows_near : (front xs : List ℕ) → Closed front → Follows n far front xs → Follows n near front xs
+  follows_near front [] closed f = tt
+  follows_near front (x ∷ xs) closed f = (next_near front x closed f.0, follows_near (front ++ x ∷ []) xs (closed_snoc front x closed f.0.due) f.1)
+
+  pub closed_follows : (front xs : List ℕ) → Closed front → Follows n far front xs → Closed (front ++ xs)
+  closed_follows front [] closed f = subst (λ (l : List ℕ). Closed l) (sym (append-nil front)) closed
+  closed_follows front (x ∷ xs) closed f = rw append_assoc at (closed_follows (front ++ x ∷ []) xs (closed_snoc front x closed f.0.due) f.1)
+
+  none : Closed []
+  none y z h p = h
+
+  pub whole_far : (order : List ℕ) → IsWhole n near order → IsWhole n far order
+  whole_far order w = record { every = w.every; earliest = from_follows n far [] order (follows_far [] order none (to_follows n near [] order w.earliest)) }
+
+  pub whole_near : (order : List ℕ) → IsWhole n far order → IsWhole n near order
+  whole_near order w = record { every = w.every; earliest = from_follows n near [] order (follows_near [] order none (to_follows n far [] order w.earliest)) }
+
+  pub stuck_far : (x : ℕ) → IsStuckAt n near x → IsStuckAt n far x
+  stuck_far x s = record {
+    front = s.front;
+    earliest = from_follows n far [] s.front (follows_far [] s.front none (to_follows n near [] s.front s.earliest));
+    stuck = λ y d. s.stuck y (due_near s.front y d);
+    inside = s.inside;
+    remains = s.remains;
+    first = s.first;
+  }

@@ -1,0 +1,13 @@
+pub mod PlaceFacts
+pub mod Narrowing
+pub mod Joining
+pub mod FirstOnes
+pub mod Agree
+pub mod Exchange
+pub mod Ranks
+pub mod Counting
+pub mod Steps
+pub mod Loop
+pub mod Columns
+pub mod Ends
+pub mod Arranged

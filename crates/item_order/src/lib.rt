@@ -1,0 +1,14 @@
+//! Orders of items, and the first of several faults, with nothing of charts in them.
+#![tactic(auto)]
+
+mod edge;
+mod first_fault;
+mod pairing;
+mod sorting;
+mod weaving;
+
+pub use edge::Edge;
+pub use first_fault::{Broken, Numbered, broken_at, earlier_fault, earlier_place};
+pub use pairing::pair_up;
+pub use sorting::{Sorted, sort_edges};
+pub use weaving::weave;

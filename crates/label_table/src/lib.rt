@@ -1,0 +1,10 @@
+//! Tables of labels: each label once, with the number under which terms name it.
+#![tactic(auto)]
+
+mod key;
+pub mod laws;
+mod table;
+#[cfg(test)]
+mod tests;
+
+pub use table::LabelTable;

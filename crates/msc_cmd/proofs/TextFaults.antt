@@ -1,0 +1,178 @@
+-- What the text of a document that has been read is.
+use Rattle.std.proofs.Common.{◌≡◌, ◌<◌, ◌≤◌, ◌⊎◌, inl, inr, ℕ, List, [], ◌++◌, length, take, arith, sym, refl, ap, ◌∙◌, subst, append-nil, length-append, Result, Ok, Err, IfOk, Option}
+use Rattle.std.proofs.lemmas.List.{take_all, take-append-le}
+use Rattle.msc_base.specs.declared.limits.TheConstants.Limits.{DOCUMENT_BYTES}
+use Rattle.msc_base.specs.declared.memory.NoMemory.{NoMemory}
+use Rattle.msc_base.specs.declared.place.Place.{Place}
+use Rattle.msc_base.specs.Shelves.{Files}
+use Rattle.msc_tokens.specs.Faults.{IfNamed}
+use Rattle.msc_tokens.specs.Lexing.{Fed}
+use Rattle.msc_tokens.specs.Places.{first_place, past}
+use Rattle.msc_tokens.specs.Spelling.{Spells, HasLexFault}
+use Rattle.msc_tokens.specs.declared.fault.LexFault.{LexFault}
+use Rattle.msc_tokens.specs.declared.fault.LexFault.TheVariants as lexical
+use Rattle.msc_tokens.specs.declared.token.Token.{Token}
+use Rattle.msc_tree.specs.Charts.{Document}
+use Rattle.msc_tree.specs.Views.{document_view}
+use Rattle.msc_grammar.specs.Refusals.{IsRefusal}
+use Rattle.msc_grammar.specs.declared.fault.ParseFault.{ParseFault}
+use Rattle.msc_grammar.specs.declared.fault.ParseFault.TheVariants as grammar
+use Rattle.msc_grammar.specs.declared.rule.Rule.{Rule}
+use Rattle.msc_grammar.specs.declared.rule.Rule.TheVariants as rule
+use Rattle.msc_document.specs.DocumentGrammar.{document as documents}
+use Rattle.msc_document.specs.Faults.{IsFault}
+use Rattle.msc_cmd.specs.declared.document_text.DocumentText.{DocumentText}
+use Rattle.msc_cmd.specs.declared.document_text.DocumentText.TheVariants.{Read, Refused}
+use Rattle.msc_cmd.specs.DocumentTexts.{BreaksRule, BreaksGrammar, HasTextFault, too_long, lexical_fault, grammar_fault, IsOnlyText, IsOnlyTextFault, IsTheText, ReadsAlone, MisreadsAlone, ParsesAs}
+use Rattle.msc_cmd.specs.Intakes.{HasTaken, IsFrontOf, HoldsDocument, IsTextOf}
+use Rattle.msc_cmd.specs.declared.intake.Intake.{Intake}
+
+-- where more than the limit was taken, the whole is longer, and begins so
+over_long : (front bytes : List ℕ) → IsFrontOf front bytes → DOCUMENT_BYTES < length front → (DOCUMENT_BYTES < length bytes) × (take DOCUMENT_BYTES front ≡ take DOCUMENT_BYTES bytes)
+over_long front bytes f over =
+    (omega (arith, ap length f.are, length-append front f.rest), sym (ap (take DOCUMENT_BYTES) f.are ∙ take-append-le DOCUMENT_BYTES front f.rest (omega arith)))
+
+-- where no more was taken, it is the whole
+within : (front bytes : List ℕ) → IsFrontOf front bytes → length front ≤ DOCUMENT_BYTES → front ≡ bytes
+within front bytes f short = by f.enough
+  where
+    by : (f.rest ≡ []) ⊎ (DOCUMENT_BYTES < length front) → front ≡ bytes
+    by (inl e) = sym (f.are ∙ ap (λ (r : List ℕ). front ++ r) e ∙ append-nil front)
+    by (inr over) = absurd (omega arith)
+
+-- a text that is too long has this fault alone
+only_long : (bytes : List ℕ) (place : Place) → DOCUMENT_BYTES < length bytes → place ≡ past first_place (take DOCUMENT_BYTES bytes) → IsOnlyTextFault bytes rule.Bytes place
+only_long bytes place long is = record {
+  is = too_long long refl is;
+  only = λ other there h. by other there h;
+  none = λ document d. omega (arith, d.short);
+}
+  where
+    by : (other : Rule) (there : Place) → HasTextFault bytes other there → (other ≡ rule.Bytes) × (there ≡ place)
+    by other there (too_long l e p) = (e, p ∙ sym is)
+    by other there (lexical_fault short fault h b) = absurd (omega arith)
+    by other there (grammar_fault short tokens s fault h b) = absurd (omega arith)
+
+-- the rule of a fault of the bytes
+broken_one : (fault : LexFault) (a b : Rule) (p q : Place) → BreaksRule fault a p → BreaksRule fault b q → (b ≡ a) × (q ≡ p)
+broken_one (lexical.BadByte at) a b p q x y = (y.0 ∙ sym x.0, y.1 ∙ sym x.1)
+broken_one (lexical.OpenString at) a b p q x y = (y.0 ∙ sym x.0, y.1 ∙ sym x.1)
+broken_one (lexical.OpenNote at) a b p q x y = (y.0 ∙ sym x.0, y.1 ∙ sym x.1)
+broken_one (lexical.LongName at) a b p q x y = (y.0 ∙ sym x.0, y.1 ∙ sym x.1)
+broken_one lexical.NoMemory a b p q x y = absurd x
+
+-- the rule of a fault of the tokens
+misread_one : (fault : ParseFault) (a b : Rule) (p q : Place) → BreaksGrammar fault a p → BreaksGrammar fault b q → (b ≡ a) × (q ≡ p)
+misread_one (grammar.Syntax at) a b p q x y = (y.0 ∙ sym x.0, y.1 ∙ sym x.1)
+misread_one (grammar.Unsupported form at) a b p q x y = (y.0 ∙ sym x.0, y.1 ∙ sym x.1)
+misread_one (grammar.Deep at) a b p q x y = (y.0 ∙ sym x.0, y.1 ∙ sym x.1)
+misread_one grammar.NoMemory a b p q x y = absurd x
+
+-- a text that has a fault, and no tokens
+only_lexical : (bytes : List ℕ) (fault : LexFault) (broken : Rule) (place : Place) → length bytes ≤ DOCUMENT_BYTES → HasLexFault bytes fault → ((other : LexFault) → HasLexFault bytes other → other ≡ fault)
+    → ((tokens : List Token) → Spells bytes tokens → ⊥) → BreaksRule fault broken place → IsOnlyTextFault bytes broken place
+only_lexical bytes fault broken place short has only none b = record {
+  is = lexical_fault short fault has b;
+  only = λ other there h. by other there h;
+  none = λ document d. none d.tokens d.spells;
+}
+  where
+    by : (other : Rule) (there : Place) → HasTextFault bytes other there → (other ≡ broken) × (there ≡ place)
+    by other there (too_long l e p) = absurd (omega arith)
+    by other there (lexical_fault s f h x) = broken_one fault broken other place there b (subst (λ (g : LexFault). BreaksRule g other there) (only f h) x)
+    by other there (grammar_fault s ts sp f h x) = absurd (none ts sp)
+
+-- a text whose tokens are no document
+only_misread : (bytes : List ℕ) (tokens : List Token) (broken : Rule) (place : Place) → length bytes ≤ DOCUMENT_BYTES → Spells bytes tokens → ((others : List Token) → Spells bytes others → others ≡ tokens)
+    → ((fault : LexFault) → HasLexFault bytes fault → ⊥) → MisreadsAlone tokens (past first_place bytes) broken place → IsOnlyTextFault bytes broken place
+only_misread bytes tokens broken place short spells alone faultless m = record {
+  is = grammar_fault short tokens spells m.fault m.is m.breaks;
+  only = λ other there h. by other there h;
+  none = λ document d. m.none document (subst (λ (ts : List Token). (documents 64).reads ts document) (alone d.tokens d.spells) d.reads);
+}
+  where
+    by : (other : Rule) (there : Place) → HasTextFault bytes other there → (other ≡ broken) × (there ≡ place)
+    by other there (too_long l e p) = absurd (omega arith)
+    by other there (lexical_fault s f h x) = absurd (faultless f h)
+    by other there (grammar_fault s ts sp f h x) =
+        let same : f ≡ m.fault = m.only f (subst (λ (us : List Token). IsFault documents 64 us (past first_place bytes) f) (alone ts sp) h) in
+        misread_one m.fault broken other place there m.breaks (subst (λ (g : ParseFault). BreaksGrammar g other there) same x)
+
+-- a text whose tokens are a document
+only_read : (bytes : List ℕ) (tokens : List Token) (document : Document) → length bytes ≤ DOCUMENT_BYTES → Spells bytes tokens → ((others : List Token) → Spells bytes others → others ≡ tokens)
+    → ((fault : LexFault) → HasLexFault bytes fault → ⊥) → ReadsAlone tokens (past first_place bytes) document → IsOnlyText bytes document tokens
+only_read bytes tokens document short spells alone faultless r = record {
+  is = record { short = short; tokens = tokens; spells = spells; reads = r.reads };
+  only = λ other d. r.only other (subst (λ (ts : List Token). (documents 64).reads ts other) (alone d.tokens d.spells) d.reads);
+  faultless = λ broken place h. by broken place h;
+  spells = spells;
+  alone = alone;
+}
+  where
+    by : (broken : Rule) (place : Place) → HasTextFault bytes broken place → ⊥
+    by broken place (too_long l e p) = omega arith
+    by broken place (lexical_fault s f h x) = faultless f h
+    by broken place (grammar_fault s ts sp f h x) = r.faultless f (subst (λ (us : List Token). IsFault documents 64 us (past first_place bytes) f) (alone ts sp) h)
+
+-- what was fed is the whole text
+fed_whole : (front bytes : List ℕ) (intake : Intake) → HasTaken front intake → IsFrontOf front bytes → intake.count ≤ DOCUMENT_BYTES → (length bytes ≤ DOCUMENT_BYTES) × Fed bytes intake.lexer
+fed_whole front bytes intake h f small =
+    let short : length front ≤ DOCUMENT_BYTES = omega (arith, h.counted) in
+    let same : front ≡ bytes = within front bytes f short in
+    let all : take DOCUMENT_BYTES front ≡ bytes = take_all DOCUMENT_BYTES front short ∙ same in
+    (omega (arith, ap length same), subst (λ (bs : List ℕ). Fed bs intake.lexer) all h.fed)
+
+-- a fault that breaks a rule is no want of memory
+named : (fault : LexFault) (broken : Rule) (place : Place) (P : Type 0) → BreaksRule fault broken place → IfNamed fault P → P
+named (lexical.BadByte at) broken place P b h = h
+named (lexical.OpenString at) broken place P b h = h
+named (lexical.OpenNote at) broken place P b h = h
+named (lexical.LongName at) broken place P b h = h
+named lexical.NoMemory broken place P b h = absurd b
+
+refusal : (fault : ParseFault) (broken : Rule) (place : Place) → BreaksGrammar fault broken place → IsRefusal fault
+refusal (grammar.Syntax at) broken place b = tt
+refusal (grammar.Unsupported form at) broken place b = tt
+refusal (grammar.Deep at) broken place b = tt
+refusal grammar.NoMemory broken place b = absurd b
+
+-- tokens that have a fault
+pub misread : (tokens : List Token) (end : Place) (fault : ParseFault) (broken : Rule) (place : Place) → BreaksGrammar fault broken place → (IsRefusal fault → IsFault documents 64 tokens end fault)
+    → (IsRefusal fault → (other : ParseFault) → IsFault documents 64 tokens end other → other ≡ fault) → (IsRefusal fault → (other : Document) → (documents 64).reads tokens other → ⊥)
+    → MisreadsAlone tokens end broken place
+misread tokens end fault broken place b has only none =
+    let is = refusal fault broken place b in
+    record { fault = fault; is = has is; breaks = b; only = only is; none = none is }
+
+pub settled_long : (front bytes : List ℕ) (intake : Intake) → DOCUMENT_BYTES < intake.count → HasTaken front intake → IsFrontOf front bytes → IsOnlyTextFault bytes rule.Bytes intake.place
+settled_long front bytes intake over h f =
+    let l = over_long front bytes f (omega (arith, over, h.counted)) in
+    only_long bytes intake.place l.0 (h.behind ∙ ap (past first_place) l.1)
+
+pub settled_fault : (front bytes : List ℕ) (intake : Intake) (fault : LexFault) (broken : Rule) (place : Place) → intake.count ≤ DOCUMENT_BYTES
+    → ((bs : List ℕ) → Fed bs intake.lexer → IfNamed fault (HasLexFault bs fault)) → ((bs : List ℕ) → Fed bs intake.lexer → IfNamed fault ((others : LexFault) → HasLexFault bs others → others ≡ fault))
+    → ((bs : List ℕ) → Fed bs intake.lexer → IfNamed fault ((others : List Token) → Spells bs others → ⊥)) → BreaksRule fault broken place → HasTaken front intake → IsFrontOf front bytes → IsOnlyTextFault bytes broken place
+settled_fault front bytes intake fault broken place small has only none b h f =
+    let w = fed_whole front bytes intake h f small in
+    only_lexical bytes fault broken place w.0 (named fault broken place (HasLexFault bytes fault) b (has bytes w.1)) (named fault broken place ((others : LexFault) → HasLexFault bytes others → others ≡ fault) b (only bytes w.1))
+    (named fault broken place ((others : List Token) → Spells bytes others → ⊥) b (none bytes w.1)) b
+
+as_text : (bytes : List ℕ) (tokens : List Token) (text : DocumentText) → length bytes ≤ DOCUMENT_BYTES → Spells bytes tokens → ((others : List Token) → Spells bytes others → others ≡ tokens) → ((fault : LexFault) → HasLexFault bytes fault → ⊥)
+    → ParsesAs tokens (past first_place bytes) text → IsTheText bytes text
+as_text bytes tokens (Read document list) short spells alone faultless r =
+    subst (λ (ts : List Token). IsOnlyText bytes (document_view document) ts) (sym r.1) (only_read bytes tokens (document_view document) short spells alone faultless r.0)
+as_text bytes tokens (Refused broken place) short spells alone faultless r = only_misread bytes tokens broken place short spells alone faultless r
+
+pub settled_tokens : (front bytes : List ℕ) (intake : Intake) (tokens : List Token) (end : Place) (r : Result DocumentText NoMemory) → intake.count ≤ DOCUMENT_BYTES → ((bs : List ℕ) → Fed bs intake.lexer → Spells bs tokens)
+    → ((bs : List ℕ) → Fed bs intake.lexer → end ≡ past first_place bs) → ((bs : List ℕ) → Fed bs intake.lexer → (others : List Token) → Spells bs others → others ≡ tokens)
+    → ((bs : List ℕ) → Fed bs intake.lexer → (fault : LexFault) → HasLexFault bs fault → ⊥) → IfOk r (ParsesAs tokens end) → HasTaken front intake → IsFrontOf front bytes → IfOk r (IsTheText bytes)
+settled_tokens front bytes intake tokens end (Err e) small ok ends only faultless reads h f = tt
+settled_tokens front bytes intake tokens end (Ok text) small ok ends only faultless reads h f =
+    let w = fed_whole front bytes intake h f small in
+    as_text bytes tokens text w.0 (ok bytes w.1) (only bytes w.1) (faultless bytes w.1) (subst (λ (p : Place). ParsesAs tokens p text) (ends bytes w.1) reads)
+
+-- what the text of a document that was taken is
+pub taken_text : (files : Option Files) (name : List ℕ) (intake : Intake) (r : Result DocumentText NoMemory) → HoldsDocument files name intake
+    → ((front bytes : List ℕ) → HasTaken front intake → IsFrontOf front bytes → IfOk r (IsTheText bytes)) → IfOk r (IsTextOf files name)
+taken_text files name intake (Ok text) h settles = record { bytes = h.bytes; held = h.held; is = settles h.front h.bytes h.taken h.front_of }
+taken_text files name intake (Err e) h settles = tt

@@ -1,0 +1,28 @@
+use Rattle.std.proofs.Common.{◌≡◌, refl, rules}
+use Rattle.msc_tree.specs.Views.{document_view}
+use Rattle.msc_print.specs.ChartWords.{canonical_text}
+use Rattle.msc_cmd.specs.declared.document_text.DocumentText.TheVariants.{Read, Refused}
+use Rattle.msc_cmd.specs.Intakes.{IsTextOf}
+use Rattle.msc_cmd.proofs.Replies.{four_small, four_not_two, four_read}
+use Rattle.msc_cmd.proofs.Prints.{unread_told, printed_told}
+use Rattle.msc_cmd.proofs.printing.print_file.Goals as goal
+
+pub returns-in-Read-clause-outcome : goal.returns-in-Read-clause-outcome
+returns-in-Read-clause-outcome g c =
+    let h : IsTextOf (g.S.Shelf.files c.args.shelf.now) c.args.document.now (Read c.in-Read.document c.in-Read.field-1) = search rules in
+    let text : c.in_ok-text-in-Read.text ≡ canonical_text (document_view c.in-Read.document) = search rules in
+    printed_told _ _ h.bytes _ _ _ h.held h.is refl text
+
+pub returns-clause-outcome : goal.returns-clause-outcome
+returns-clause-outcome g c =
+    let h : IsTextOf (g.S.Shelf.files c.args.shelf.now) c.args.document.now (Refused c.in-Refused.rule c.in-Refused.place) = search rules in
+    unread_told _ _ h.bytes _ _ _ h.held h.is c.make_reply-in-Refused.ensures.status c.make_reply-in-Refused.ensures.text
+
+pub returns-clause-small : goal.returns-clause-small
+returns-clause-small g c = four_small _ c.make_reply-in-Refused.ensures.status
+
+pub returns-clause-not_two : goal.returns-clause-not_two
+returns-clause-not_two g c = four_not_two _ c.make_reply-in-Refused.ensures.status
+
+pub returns-clause-failed : goal.returns-clause-failed
+returns-clause-failed g c = four_read _ _ c.make_reply-in-Refused.ensures.status

@@ -1,0 +1,21 @@
+use Rattle.std.proofs.Common.{◌≡◌, codes, rules, subst, sym, Option, map}
+use Rattle.msc_cmd.specs.declared.requests.Request.{Request}
+use Rattle.msc_cmd.specs.Requests.{Answers}
+use Rattle.msc_cmd.proofs.WordLaws.{judge_command, print_command, no_command}
+use Rattle.msc_cmd.proofs.requests.command_words.Goals as goal
+
+pub returns-then-is_text : goal.returns-then-is_text
+returns-then-is_text c =
+    let is : c.args.command.now ≡ codes "judge" = search rules in
+    subst (λ (o : Option Request). Answers o c.judge_words.result) (sym (judge_command c.args.command.now (map (λ w. w.now) c.args.words.now) is)) c.judge_words.ensures
+
+pub returns-then-is_text-2 : goal.returns-then-is_text-2
+returns-then-is_text-2 c =
+    let is : c.args.command.now ≡ codes "print" = search rules in
+    subst (λ (o : Option Request). Answers o c.print_words.result) (sym (print_command c.args.command.now (map (λ w. w.now) c.args.words.now) is)) c.print_words.ensures
+
+pub returns : goal.returns
+returns c =
+    let first : c.args.command.now ≡ codes "judge" → ⊥ = search rules in
+    let second : c.args.command.now ≡ codes "print" → ⊥ = search rules in
+    no_command c.args.command.now (map (λ w. w.now) c.args.words.now) first second

@@ -1,0 +1,79 @@
+ghost use Rattle.std.specs.Prelude.{ℕ, List, IfOk, IfSome};
+ghost use Rattle.msc_cmd.specs.DocumentTexts.{BreaksGrammar, BreaksRule, IsTheText, ParsesAs};
+ghost use Rattle.msc_cmd.specs.Intakes.{HasTaken, IsFrontOf};
+
+use crate::intake::Intake;
+use msc_base::{Limits, NoMemory, Place};
+use msc_document::parse;
+use msc_grammar::{ParseFault, Rule};
+use msc_tokens::{LexFault, TokenList};
+use msc_tree::RawDocument;
+use std::alloc::Global;
+
+/// What the bytes of a document are as a text.
+#[derive(Drop)]
+pub enum DocumentText {
+    /// A text of this document, with these tokens.
+    Read(RawDocument, TokenList),
+    /// The first rule that the text breaks, and where.
+    Refused(Rule, Place),
+}
+
+/// The rule that a fault of the bytes breaks, and its place; none for want of memory.
+fn broken_by(fault: &LexFault) -> Option<(Rule, Place)>
+    ensures { IfSome result (λ b. BreaksRule fault.now b.0 b.1) }
+{
+    match *fault {
+        LexFault::BadByte(at) => Some((Rule::BadByte, at)),
+        LexFault::OpenString(at) => Some((Rule::OpenString, at)),
+        LexFault::OpenNote(at) => Some((Rule::OpenNote, at)),
+        LexFault::LongName(at) => Some((Rule::LongName, at)),
+        LexFault::NoMemory => None,
+    }
+}
+
+/// The rule that a fault of the tokens breaks, and its place; none for want of memory.
+fn misread_by(fault: &ParseFault) -> Option<(Rule, Place)>
+    ensures { IfSome result (λ b. BreaksGrammar fault.now b.0 b.1) }
+{
+    match *fault {
+        ParseFault::Syntax(at) => Some((Rule::Syntax, at)),
+        ParseFault::Unsupported(form, at) => Some((Rule::Unsupported(form), at)),
+        ParseFault::Deep(at) => Some((Rule::Deep, at)),
+        ParseFault::NoMemory => None,
+    }
+}
+
+/// What tokens are by the grammar.
+fn parsed(alloc: Global, tokens: TokenList) -> Result<DocumentText, NoMemory>
+    ensures { IfOk result (ParsesAs tokens.tokens tokens.end_place) }
+{
+    match parse(alloc, &tokens) {
+        Ok(document) => Ok(DocumentText::Read(document, tokens)),
+        Err(fault) => match misread_by(&fault) {
+            Some((rule, there)) => Ok(DocumentText::Refused(rule, there)),
+            None => Err(NoMemory),
+        },
+    }
+}
+
+/// What the text of the document that has been taken is.
+pub fn text_of(alloc: Global, intake: Intake) -> Result<DocumentText, NoMemory>
+    ensures { (front : List ℕ) (bytes : List ℕ) → HasTaken front intake → IsFrontOf front bytes → IfOk result (IsTheText bytes) }
+{
+    let Intake {
+        lexer,
+        count,
+        place,
+    } = intake;
+    if count > Limits::DOCUMENT_BYTES {
+        return Ok(DocumentText::Refused(Rule::Bytes, place));
+    }
+    match lexer.finish() {
+        Ok(tokens) => parsed(alloc, tokens),
+        Err(fault) => match broken_by(&fault) {
+            Some((broken, at)) => Ok(DocumentText::Refused(broken, at)),
+            None => Err(NoMemory),
+        },
+    }
+}

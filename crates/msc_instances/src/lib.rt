@@ -1,0 +1,8 @@
+//! The instances of a basic chart, and the order of its items.
+#![tactic(auto)]
+
+mod notes;
+mod walk;
+
+pub use notes::{Note, NoteList, Scope};
+pub use walk::chart_notes;

@@ -1,0 +1,109 @@
+-- Permission, one part after another, and that parts are ready.
+use Rattle.std.specs.Prelude.{ℕ, zero, suc, ◌+◌, true, false, List, [], ◌∷◌, ◌++◌, ◌≡◌, ◌&&◌, Option, Some, None, refl, take, slice_get, not}
+use Rattle.std.specs.List.{list_any}
+use Rattle.std.specs.Option.{option_map}
+use Rattle.std.proofs.Common.{ap, ◌∙◌, add-one, append-nil}
+use Rattle.msc_base.specs.Blocks.{BlockValue}
+use Rattle.msc_base.specs.Patterns.{Mode, row, aside}
+use Rattle.chart_term.specs.Facts.{misses}
+use Rattle.chart_term.specs.NormalForms.{NetPermits, and_then, or_skip}
+use Rattle.chart_term.specs.Properties.{Each}
+use Rattle.chart_term.specs.Tables.{Tables}
+use Rattle.chart_term.specs.Terms.{Block, TermEvent, Tree, Nil, Event, Join, Choice, Bound, trees}
+use Rattle.permit_step.specs.Normality.{AreNormal}
+use Rattle.permit_step.specs.Permission.{permit, permit_all, permit_some, permits_of}
+use Rattle.permit_step.specs.Ready.{IsReady, AreWithin}
+use Rattle.permit_step.specs.Values.{block_of}
+use Rattle.permit_step.proofs.Missed.{permit-misses, hits-unless}
+use Rattle.permit_step.proofs.Measures.{rank-then, rank-beside, rank-some, rank-bound, rank-loop, rank-at}
+
+take_next : {A : Type 0} → (xs : List A) (i : ℕ) (x : A) → slice_get xs i ≡ Some x → take (suc i) xs ≡ take i xs ++ x ∷ []
+take_next [] i x p = cc
+take_next (y ∷ ys) zero x p = let e : y ≡ x = cc in rw e
+take_next (y ∷ ys) (suc i) x p = ap (λ l. y ∷ l) (take_next ys i x p)
+
+take_step : {A : Type 0} → (xs : List A) (i : ℕ) (x : A) → slice_get xs i ≡ Some x → take (i + 1) xs ≡ take i xs ++ x ∷ []
+take_step xs i x p = rw add-one (take_next xs i x p)
+
+module _ (k : NetPermits) (b : Block) where
+  move : (o : Option Tree) (p : Option (List Tree)) (y : Tree) → and_then o (option_map (λ ks. ks ++ y ∷ []) p) ≡ option_map (λ ks. ks ++ y ∷ []) (and_then o p)
+  move None p y = refl
+  move (Some x) None y = refl
+  move (Some x) (Some ks) y = refl
+
+  and_none : (o : Option Tree) → and_then o None ≡ None
+  and_none None = refl
+  and_none (Some x) = refl
+
+  skip_app : (o : Option Tree) (xs ys : List Tree) → or_skip o (xs ++ ys) ≡ or_skip o xs ++ ys
+  skip_app None xs ys = refl
+  skip_app (Some x) xs ys = refl
+
+  push_all : (xs : List Tree) (x y : Tree) → permit k b x ≡ Some y → permit_all k b (trees (xs ++ x ∷ [])) ≡ option_map (λ ks. ks ++ y ∷ []) (permit_all k b (trees xs))
+  push_all [] x y q = ap (λ o. and_then o (Some [])) q
+  push_all (z ∷ xs) x y q = ap (λ o. and_then (permit k b z) o) (push_all xs x y q) ∙ move (permit k b z) (permit_all k b (trees xs)) y
+
+  push_some : (xs : List Tree) (x : Tree) → permit_some k b (trees (xs ++ x ∷ [])) ≡ permit_some k b (trees xs) ++ or_skip (permit k b x) []
+  push_some [] x = refl
+  push_some (z ∷ xs) x = ap (λ o. or_skip (permit k b z) o) (push_some xs x) ∙ skip_app (permit k b z) (permit_some k b (trees xs)) (or_skip (permit k b x) [])
+
+  pub all-more : (xs : List Tree) (i : ℕ) (x y : Tree) (ks : List Tree) → permit_all k b (trees (take i xs)) ≡ Some ks → slice_get xs i ≡ Some x → permit k b x ≡ Some y → permit_all k b (trees (take (i + 1) xs)) ≡ Some (ks ++ y ∷ [])
+  all-more xs i x y ks p h q = ap (λ l. permit_all k b (trees l)) (take_step xs i x h) ∙ (push_all (take i xs) x y q ∙ ap (option_map (λ ks. ks ++ y ∷ [])) p)
+
+  pub all-none : (xs : List Tree) (i : ℕ) (x : Tree) → slice_get xs i ≡ Some x → permit k b x ≡ None → permit_all k b (trees xs) ≡ None
+  all-none [] i x h q = cc
+  all-none (z ∷ xs) zero x h q = let e : z ≡ x = cc in ap (λ o. and_then o (permit_all k b (trees xs))) (ap (permit k b) e ∙ q)
+  all-none (z ∷ xs) (suc i) x h q = ap (λ o. and_then (permit k b z) o) (all-none xs i x h q) ∙ and_none (permit k b z)
+
+  pub some-more : (xs : List Tree) (i : ℕ) (x y : Tree) (ks : List Tree) → permit_some k b (trees (take i xs)) ≡ ks → slice_get xs i ≡ Some x → permit k b x ≡ Some y → permit_some k b (trees (take (i + 1) xs)) ≡ ks ++ y ∷ []
+  some-more xs i x y ks p h q = ap (λ l. permit_some k b (trees l)) (take_step xs i x h) ∙ (push_some (take i xs) x ∙ (λ j. p j ++ or_skip (q j) []))
+
+  pub some-skip : (xs : List Tree) (i : ℕ) (x : Tree) (ks : List Tree) → permit_some k b (trees (take i xs)) ≡ ks → slice_get xs i ≡ Some x → permit k b x ≡ None → permit_some k b (trees (take (i + 1) xs)) ≡ ks
+  some-skip xs i x ks p h q = ap (λ l. permit_some k b (trees l)) (take_step xs i x h) ∙ (push_some (take i xs) x ∙ ((λ j. p j ++ or_skip (q j) []) ∙ append-nil ks))
+
+module _ (w : Tables) where
+  each_ready : (xs : List Tree) → AreWithin w (trees xs) → AreNormal (permits_of w) (trees xs) → Each (IsReady w) xs
+  each_ready [] h n = tt
+  each_ready (x ∷ xs) h n = (record { within = h.0; normal = n.0 }, each_ready xs h.1 n.1)
+
+  join_ready : (m : Mode) (xs : List Tree) → IsReady w (Join m (trees xs)) → Each (IsReady w) xs
+  join_ready m xs h = each_ready xs h.within h.normal.0
+
+  choice_ready : (xs : List Tree) → IsReady w (Choice (trees xs)) → Each (IsReady w) xs
+  choice_ready xs h = each_ready xs h.within h.normal.0
+
+  bound_ready : (y : Tree) (q : List (ℕ × ℕ)) → IsReady w (Bound y q) → IsReady w y
+  bound_ready y q h = record { within = h.within; normal = h.normal.0 }
+
+  pub ready-then : (x : Tree) (xs : List Tree) → x ≡ Join row (trees xs) → IsReady w x → Each (IsReady w) xs
+  ready-then x xs e h = join_ready row xs (rw e at h)
+
+  pub ready-beside : (x : Tree) (xs : List Tree) → x ≡ Join aside (trees xs) → IsReady w x → Each (IsReady w) xs
+  ready-beside x xs e h = join_ready aside xs (rw e at h)
+
+  pub ready-choice : (x : Tree) (xs : List Tree) → x ≡ Choice (trees xs) → IsReady w x → Each (IsReady w) xs
+  ready-choice x xs e h = choice_ready xs (rw e at h)
+
+  pub ready-bound : (x y : Tree) (q : List (ℕ × ℕ)) → x ≡ Bound y q → IsReady w x → IsReady w y
+  ready-bound x y q e h = bound_ready y q (rw e at h)
+
+  pub ready-at : (xs : List Tree) (i : ℕ) (x : Tree) → slice_get xs i ≡ Some x → Each (IsReady w) xs → IsReady w x
+  ready-at [] i x e h = cc
+  ready-at (y ∷ ys) zero x e h = let p : y ≡ x = cc in rw p at h.0
+  ready-at (y ∷ ys) (suc i) x e h = ready-at ys i x e h.1
+
+-- what a look at the term shows
+pub hit-event : (k : NetPermits) (b : BlockValue) (x : Tree) (e : TermEvent) → x ≡ Event e → misses b x ≡ false → permit k (block_of b) x ≡ None
+hit-event k b x e p h = rw p (hits-unless k b e (rw p at h))
+
+pub hit-nil : (b : BlockValue) → misses b Nil ≡ true
+hit-nil b = none_hit b.instances b.events
+  where
+    never : (c : List ℕ) → list_any (λ n. false) c ≡ false
+    never [] = refl
+    never (n ∷ c) = never c
+
+    none_hit : (c d : List ℕ) → ((not false && not (list_any (λ n. false) c)) && not (list_any (λ n. false) d)) ≡ true
+    none_hit c d = λ i. (not false && not (never c i)) && not (never d i)
+
+pub ruleset permits = (permit-misses, all-more, all-none, some-more, some-skip, ready-then, ready-beside, ready-choice, ready-bound, ready-at, hit-event, hit-nil, rank-then, rank-beside, rank-some, rank-bound, rank-loop, rank-at)

@@ -1,0 +1,7 @@
+-- The blocks of the code, as permission takes them.
+use Rattle.msc_base.specs.Blocks.{BlockValue}
+use Rattle.chart_term.specs.Terms.{Block}
+
+-- the block
+abbrev pub block_of : BlockValue → Block
+block_of b = record { instances = b.instances; numbers = b.events }

@@ -1,0 +1,369 @@
+ghost use Rattle.std.specs.Prelude.{◌≡◌, ◌∷◌, ◌<◌, ◌≤◌, Bool, IfOk, OnOk, Some, None, if◌then◌else◌, length, take, map};
+ghost use Rattle.chart_term.specs.NormalForms.{choice_of, only, trail_of, trail_cut};
+ghost use Rattle.chart_term.specs.Properties.{Each, MayHave};
+ghost use Rattle.chart_term.specs.Rows.{part_of};
+ghost use Rattle.chart_term.specs.Tables.{net_count, net_of};
+ghost use Rattle.chart_term.specs.Terms.{Turns, trees, row_of, ◌∪◌};
+ghost use Rattle.hmsc_graph.specs.Nets.{size_of};
+ghost use Rattle.hmsc_graph.specs.Spots.{spot_of, goal_of, IsSpotBelow, IsGoalBelow};
+ghost use Rattle.permit_step.specs.Normality.{IsSet};
+ghost use Rattle.permit_step.specs.Passing.{ArePassable};
+ghost use Rattle.permit_step.specs.Permission.{permits_of, permit_all, permit_some};
+ghost use Rattle.permit_step.specs.Permission.{permit as permitted};
+ghost use Rattle.permit_step.specs.Ready.{IsReady, AreReadyTables, IsReadyPart, AreReadyParts, IsReadyLoop};
+ghost use Rattle.permit_step.specs.RowRests.{open_before, keep_part, keep_parts};
+ghost use Rattle.permit_step.specs.Values.{block_of};
+
+use crate::blocks::{common, widened};
+use crate::loops::loop_end;
+use crate::passing::{Passable, is_aimed, passes_full};
+use crate::row_end::{RowEnd, is_empty};
+use crate::touch::touched;
+use chart_term::{Look, Nets, RowList, RowPart, Term, TermList, beside, bound, choice, then};
+use hmsc_graph::{Goal, Spot, has_walk};
+use msc_base::{Block, NoMemory, PairList};
+use std::alloc::Global;
+
+/// What is left of the term where no event of the block may happen, or None where permission fails.
+///
+/// Where the block misses the term, its node is handed on.
+pub fn permit(
+    alloc: Global,
+    nets: &Nets,
+    term: &Term,
+    block: &Block,
+) -> Result<Option<Term>, NoMemory>
+    requires tables { AreReadyTables nets.now.tables }
+    requires term { IsReady nets.now.tables term.now }
+    ensures left { IfOk result (λ left. left ≡ permitted (permits_of nets.now.tables) (block_of block.now) term.now) }
+    ensures ready { IfOk result (λ left. MayHave (IsReady nets.now.tables) left) }
+{
+    let left = permit_term(alloc, nets, term, block)?;
+    Ok(left)
+}
+
+/// The same, as the parts of terms are permitted.
+#[cycle(permit)]
+#[tactic(auto, using(crate::proofs::Permits::permits))]
+fn permit_term(
+    alloc: Global,
+    nets: &Nets,
+    term: &Term,
+    block: &Block,
+) -> Result<Option<Term>, NoMemory>
+    requires tables { AreReadyTables nets.now.tables }
+    requires term { IsReady nets.now.tables term.now }
+    ensures { IfOk result (λ left. left ≡ permitted (permits_of nets.now.tables) (block_of block.now) term.now) }
+{
+    if term.misses(block) {
+        return Ok(Some(term.copy(alloc)?));
+    }
+    match term.look() {
+        Look::Nil | Look::Event { .. } => Ok(None),
+        Look::Then(parts) => match permit_all(alloc, nets, parts, block)? {
+            Some(kept) => Ok(Some(then(alloc, kept)?)),
+            None => Ok(None),
+        },
+        Look::Beside(parts) => match permit_all(alloc, nets, parts, block)? {
+            Some(kept) => Ok(Some(beside(alloc, kept)?)),
+            None => Ok(None),
+        },
+        Look::Choice(parts) => {
+            let kept = permit_some(alloc, nets, parts, block)?;
+            chosen(alloc, kept)
+        }
+        Look::Bound(inner, pairs) => match permit_term(alloc, nets, inner, block)? {
+            Some(kept) => Ok(Some(bound(alloc, kept, copy_pairs(alloc, pairs)?)?)),
+            None => Ok(None),
+        },
+        Look::Turns {
+            body,
+            lower,
+            upper,
+            row,
+        } => permit_turns(alloc, nets, body, lower, upper, row, block),
+        Look::Trail {
+            net,
+            from,
+            to,
+            block: own,
+        } => widened_walk(alloc, nets, net, from, to, own, block),
+    }
+}
+
+/// The pairs once more.
+pub(crate) fn copy_pairs(alloc: Global, pairs: &PairList) -> Result<PairList, NoMemory>
+    ensures { IfOk result (λ copy. copy ≡ pairs.now) }
+{
+    let mut copy = PairList::new(alloc);
+    for pair in pairs.as_slice() {
+        copy.push(*pair)?;
+    }
+    Ok(copy)
+}
+
+/// One of the parts, or None where there is none.
+fn chosen(alloc: Global, parts: TermList) -> Result<Option<Term>, NoMemory>
+    ensures { IfOk result (λ term. term ≡ choice_of parts) }
+{
+    if parts.len() == 0 {
+        return Ok(None);
+    }
+    Ok(Some(choice(alloc, parts)?))
+}
+
+/// What is left of each part, or None where permission fails for one.
+#[cycle(permit)]
+#[tactic(auto, using(crate::proofs::Permits::permits))]
+fn permit_all(
+    alloc: Global,
+    nets: &Nets,
+    parts: &TermList,
+    block: &Block,
+) -> Result<Option<TermList>, NoMemory>
+    requires tables { AreReadyTables nets.now.tables }
+    requires parts { Each (IsReady nets.now.tables) parts.now }
+    ensures { IfOk result (λ left. left ≡ permit_all (permits_of nets.now.tables) (block_of block.now) (trees parts.now)) }
+{
+    let mut kept = TermList::new(alloc);
+    for index in 0..parts.len() {
+        match permit_term(alloc, nets, parts.at(index), block)? {
+            Some(part) => kept.push(part)?,
+            None => return Ok(None),
+        }
+    }
+    Ok(Some(kept))
+}
+
+/// What is left of the parts for which permission doesn't fail.
+#[cycle(permit)]
+#[tactic(auto, using(crate::proofs::Permits::permits))]
+fn permit_some(
+    alloc: Global,
+    nets: &Nets,
+    parts: &TermList,
+    block: &Block,
+) -> Result<TermList, NoMemory>
+    requires tables { AreReadyTables nets.now.tables }
+    requires parts { Each (IsReady nets.now.tables) parts.now }
+    ensures { IfOk result (λ left. left ≡ permit_some (permits_of nets.now.tables) (block_of block.now) (trees parts.now)) }
+{
+    let mut kept = TermList::new(alloc);
+    for index in 0..parts.len() {
+        if let Some(part) = permit_term(alloc, nets, parts.at(index), block)? {
+            kept.push(part)?;
+        }
+    }
+    Ok(kept)
+}
+
+/// What is left of a loop.
+#[cycle(permit)]
+#[tactic(auto, using(crate::proofs::Permits::permits))]
+fn permit_turns(
+    alloc: Global,
+    nets: &Nets,
+    body: &Term,
+    lower: u64,
+    upper: Option<u64>,
+    row: &RowList,
+    block: &Block,
+) -> Result<Option<Term>, NoMemory>
+    requires tables { AreReadyTables nets.now.tables }
+    requires row { IsReadyLoop nets.now.tables body.now upper row.now }
+    ensures { IfOk result (λ left. left ≡ permitted (permits_of nets.now.tables) (block_of block.now) (Turns body.now lower upper (row_of row.now))) }
+{
+    let all = touched(alloc, nets, body)?;
+    let narrow = common(alloc, block, &all)?;
+    let mut end = RowEnd::new(alloc);
+    if keep_parts(
+        alloc,
+        nets,
+        body,
+        upper,
+        row,
+        row.len(),
+        block,
+        &narrow,
+        &mut end,
+    )? {
+        loop_end(alloc, body, lower, upper, end)
+    } else {
+        Ok(None)
+    }
+}
+
+/// Puts what is left of the row's first parts in front of its end, and says whether permission failed for none.
+#[cycle(permit)]
+#[tactic(auto, using(crate::proofs::PermitRows::rows))]
+pub(crate) fn keep_parts(
+    alloc: Global,
+    nets: &Nets,
+    body: &Term,
+    upper: Option<u64>,
+    row: &RowList,
+    count: usize,
+    block: &Block,
+    narrow: &Block,
+    end: &mut RowEnd,
+) -> Result<bool, NoMemory>
+    requires tables { AreReadyTables nets.now.tables }
+    requires body { IsReady nets.now.tables body.now }
+    requires row { AreReadyParts nets.now.tables row.now }
+    requires count { count ≤ length row.now }
+    ensures { IfOk result (λ kept. (if kept then Some end.new else None)
+        ≡ keep_parts (λ c. permitted (permits_of nets.now.tables) (only c) body.now) (λ y. permitted (permits_of nets.now.tables) (block_of block.now) y) upper narrow.now.instances (take count row.now) end.old) }
+{
+    let mut index = count;
+    while index > 0 {
+        index -= 1;
+        if !keep_part(alloc, nets, body, upper, row.at(index), block, narrow, end)? {
+            return Ok(false);
+        }
+    }
+    Ok(true)
+}
+
+/// Puts what is left of the part in front of the row's end, and says whether permission didn't fail for it.
+#[cycle(permit)]
+#[tactic(auto, using(crate::proofs::PermitRows::rows))]
+fn keep_part(
+    alloc: Global,
+    nets: &Nets,
+    body: &Term,
+    upper: Option<u64>,
+    part: &RowPart,
+    block: &Block,
+    narrow: &Block,
+    end: &mut RowEnd,
+) -> Result<bool, NoMemory>
+    requires tables { AreReadyTables nets.now.tables }
+    requires body { IsReady nets.now.tables body.now }
+    requires part { IsReadyPart nets.now.tables (part_of part.now) }
+    ensures { IfOk result (λ kept. (if kept then Some end.new else None)
+        ≡ keep_part (λ c. permitted (permits_of nets.now.tables) (only c) body.now) (λ y. permitted (permits_of nets.now.tables) (block_of block.now) y) upper narrow.now.instances (part_of part.now) end.old) }
+{
+    match part {
+        RowPart::Gap(gap) => {
+            let wide = widened(alloc, gap, narrow)?;
+            put_gap(alloc, nets, body, upper, wide, end)?;
+            Ok(true)
+        }
+        RowPart::Turn(turn) => match permit_term(alloc, nets, turn, block)? {
+            Some(left) => {
+                end.put_turn(left)?;
+                Ok(true)
+            }
+            None => Ok(false),
+        },
+    }
+}
+
+/// Puts a gap in front of the row's end, where further turns may begin and the gap leaves something of the operand.
+#[cycle(permit)]
+#[tactic(auto, using(crate::proofs::PermitRows::rows))]
+fn put_gap(
+    alloc: Global,
+    nets: &Nets,
+    body: &Term,
+    upper: Option<u64>,
+    block: Block,
+    end: &mut RowEnd,
+) -> Result<(), NoMemory>
+    requires tables { AreReadyTables nets.now.tables }
+    requires body { IsReady nets.now.tables body.now }
+    requires block { block_of block ≡ only block.instances }
+    ensures { OnOk result (end.new
+        ≡ open_before upper (permitted (permits_of nets.now.tables) (only block.instances) body.now) block.instances end.old) }
+{
+    if upper == Some(0) {
+        return Ok(());
+    }
+    match permit_term(alloc, nets, body, &block)? {
+        None => Ok(()),
+        Some(left) => {
+            if is_empty(&left) {
+                end.drop_free_gap();
+                Ok(())
+            } else {
+                end.put_gap(block)
+            }
+        }
+    }
+}
+
+/// The walk in normal form, with the instances of another block besides its own.
+#[cycle(permit)]
+#[tactic(auto, using(crate::proofs::PermitWalks::walks))]
+pub(crate) fn widened_walk(
+    alloc: Global,
+    nets: &Nets,
+    net: u32,
+    from: Spot,
+    to: Goal,
+    own: &Block,
+    block: &Block,
+) -> Result<Option<Term>, NoMemory>
+    requires tables { AreReadyTables nets.now.tables }
+    requires net { net < net_count nets.now.tables }
+    requires from { IsSpotBelow (size_of (net_of nets.now.tables net)) from }
+    requires to { IsGoalBelow (size_of (net_of nets.now.tables net)) to }
+    requires own { IsSet own.now.instances }
+    ensures { IfOk result (λ left. left ≡ trail_of (permits_of nets.now.tables) net (spot_of from) (goal_of to) (own.now.instances ∪ block.now.instances)) }
+{
+    let wide = widened(alloc, own, block)?;
+    let narrow = common(alloc, &wide, nets.spread(net))?;
+    walk(alloc, nets, net, from, to, narrow)
+}
+
+/// The walk in normal form, whose block is one of the net's instances.
+#[cycle(permit)]
+#[tactic(auto, using(crate::proofs::PermitWalks::walks))]
+pub(crate) fn walk(
+    alloc: Global,
+    nets: &Nets,
+    net: u32,
+    from: Spot,
+    to: Goal,
+    block: Block,
+) -> Result<Option<Term>, NoMemory>
+    requires tables { AreReadyTables nets.now.tables }
+    requires net { net < net_count nets.now.tables }
+    requires from { IsSpotBelow (size_of (net_of nets.now.tables net)) from }
+    requires to { IsGoalBelow (size_of (net_of nets.now.tables net)) to }
+    requires block { block_of block ≡ only block.instances }
+    ensures { IfOk result (λ left. left ≡ trail_cut (permits_of nets.now.tables) net (spot_of from) (goal_of to) block.instances) }
+{
+    if !is_aimed(to) {
+        return Ok(Some(Term::walk_of(alloc, net, from, to, block)?));
+    }
+    let graph = nets.net(net);
+    let nodes = passable(alloc, nets, net, &block)?;
+    if !has_walk(alloc, graph, from, to, &nodes.passed)? {
+        return Ok(None);
+    }
+    if passes_full(alloc, graph, from, to, &nodes)? {
+        Ok(Some(Term::walk_of(alloc, net, from, to, block)?))
+    } else {
+        Ok(Some(Term::nil(alloc)?))
+    }
+}
+
+/// The nodes of the net that can be passed where nothing may happen at the instances of the block.
+#[cycle(permit)]
+#[tactic(auto, using(crate::proofs::PermitWalks::walks))]
+fn passable(alloc: Global, nets: &Nets, net: u32, block: &Block) -> Result<Passable, NoMemory>
+    requires tables { AreReadyTables nets.now.tables }
+    requires net { net < net_count nets.now.tables }
+    requires block { block_of block.now ≡ only block.now.instances }
+    ensures size { IfOk result (λ nodes. nodes.passed.size ≡ size_of (net_of nets.now.tables net)) }
+    ensures nodes { IfOk result (λ nodes. ArePassable nets.now.tables net block.now.instances (size_of (net_of nets.now.tables net)) nodes.passed.nodes nodes.full.nodes) }
+{
+    let size = nets.net(net).size();
+    let mut nodes = Passable::none(alloc, size)?;
+    for node in 0..size {
+        let left = permit_term(alloc, nets, nets.node(net, node), block)?;
+        nodes.add(node, &left);
+    }
+    Ok(nodes)
+}
