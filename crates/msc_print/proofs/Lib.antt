@@ -1,4 +1,12 @@
+pub mod Backs
+pub mod BoundsBack
+pub mod DocumentBack
 pub mod Endings
+pub mod ExpressionsBack
+pub mod GraphBack
+pub mod ItemsBack
+pub mod PartsBack
 pub mod Putting
 pub mod Sheets
 pub mod Unmoved
+pub mod Written

@@ -4,6 +4,7 @@ pub mod ExpressionWords
 pub mod GraphWords
 pub mod Layout
 pub mod Pages
+pub mod ReadsBack
 pub mod StatementWords
 pub mod Unplaced
 pub mod Words

@@ -18,4 +18,4 @@ mod statement;
 mod tests;
 
 pub use document::print_document;
-pub use laws::places_are_not_printed;
+pub use laws::{documents_read_back, expressions_read_back, places_are_not_printed, prints_stay};
