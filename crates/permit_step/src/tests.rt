@@ -109,7 +109,9 @@ fn loop_with_owed_turn_may_not_end(rt: HostRuntime) -> Result<(), Fail> {
 }
 
 /// The label of a line, at that byte.
-fn label(alloc: Global, byte: u64) -> Result<LabelRef, Fail> {
+fn label(alloc: Global, byte: u64) -> Result<LabelRef, Fail>
+    requires { byte < 1000 }
+{
     let name = Name::from_bytes(alloc, b"L1")?;
     let place = Place {
         byte,
