@@ -1,0 +1,68 @@
+-- What is settled of a document.
+use Rattle.std.proofs.Common.{◌≡◌, List, [], ◌∷◌, map, flat_map, Option, Some, None, All, Result, Ok, Err, IfOk, Vec, Global, sym, ap, ◌∙◌, refl, subst}
+use Rattle.msc_base.specs.declared.place.Place.{Place}
+use Rattle.msc_tree.specs.declared.chart.RawChart.{RawChart}
+use Rattle.msc_tree.specs.Charts.{Document}
+use Rattle.msc_tree.specs.Views.{chart_view}
+use Rattle.msc_grammar.specs.declared.rule.Rule.{Rule}
+use Rattle.item_order.specs.declared.first_fault.Broken.{Broken}
+use Rattle.item_order.specs.FirstFaults.{IsFirst}
+use Rattle.item_order.specs.Places.{IsLeast}
+use Rattle.msc_expand.specs.declared.check.Check.{Check}
+use Rattle.msc_expand.specs.declared.check.Check.TheVariants.{Unbuilt}
+use Rattle.msc_expand.specs.declared.deciding.Decision.{Decision}
+use Rattle.msc_expand.specs.declared.deciding.Decision.TheVariants as decision
+use Rattle.msc_expand.specs.declared.outline.Outline.{Outline}
+use Rattle.msc_expand.specs.declared.plain_chart.PlainChart.{PlainChart}
+use Rattle.msc_expand.specs.Acceptance.{number_of, rule_of, Breaks, BreaksOf, HasFault, IsAccepted}
+use Rattle.msc_expand.specs.Deciding.{IsDecided, IsSettled, all_groups}
+use Rattle.msc_expand.specs.Forms.{unbuilt_chart}
+use Rattle.msc_expand.specs.Outlines.{outline_of}
+use Rattle.msc_expand.specs.Plain.{IsPlain}
+use Rattle.msc_expand.specs.Rules.{IsAmong, earliest_of}
+use Rattle.msc_expand.proofs.AcceptLaws.{unbuilt_first, settled_first, settled_kept, accepted, accepted_only, accepted_plain, accepted_faultless, has_fault, only_fault, none_accepted}
+use Rattle.msc_expand.proofs.Among.{least_among}
+
+least_unbuilt : (d : Document) (x : Option Place) → x ≡ earliest_of None (flat_map unbuilt_chart d.charts) → IsLeast (IsAmong (flat_map unbuilt_chart d.charts)) x
+least_unbuilt d x e = subst (λ (y : Option Place). IsLeast (IsAmong (flat_map unbuilt_chart d.charts)) y) (sym e) (least_among (flat_map unbuilt_chart d.charts))
+
+pub settled_unbuilt : (d : Document) (p : Place) → Some p ≡ earliest_of None (flat_map unbuilt_chart d.charts) → IsFirst number_of (Breaks d) all_groups (record { rule = Unbuilt; place = p })
+settled_unbuilt d p e = let l = least_unbuilt d (Some p) e in unbuilt_first d p l.0 l.1
+
+pub settled_by : (d : Document) (decided : Decision) → None ≡ earliest_of None (flat_map unbuilt_chart d.charts) → IsDecided (map outline_of d.charts) decided → IsSettled d decided
+settled_by d (decision.Plain charts) e h = (settled_kept d (least_unbuilt d None e) h.0, h.1)
+settled_by d (decision.Faulty fault) e h = settled_first d fault (least_unbuilt d None e) h
+
+-- a document's outlines are those of its charts
+pub settled_if : {E : Type 0} (d : Document) (outlines : List Outline) (result : Result Decision E) → None ≡ earliest_of None (flat_map unbuilt_chart d.charts) → outlines ≡ map outline_of d.charts
+    → IfOk result (IsDecided outlines) → IfOk result (IsSettled d)
+settled_if d outlines (Err e) none are found = found
+settled_if d outlines (Ok decided) none are found = settled_by d decided none (subst (λ (os : List Outline). IsDecided os decided) are found)
+
+-- ---- the clauses of the answer
+
+pub plain_accepted : (d : Document) (charts : Vec PlainChart Global) → IsSettled d (decision.Plain charts) → IsAccepted d charts.items
+plain_accepted d charts h = accepted d charts.items h.0 h.1
+
+pub plain_only : (d : Document) (charts : Vec PlainChart Global) → IsSettled d (decision.Plain charts) → (others : List PlainChart) → IsAccepted d others → others ≡ charts.items
+plain_only d charts h others a = accepted_only d charts.items others (plain_accepted d charts h) a
+
+pub plain_plain : (d : Document) (charts : Vec PlainChart Global) → IsSettled d (decision.Plain charts) → All IsPlain charts.items
+plain_plain d charts h = accepted_plain d charts.items (plain_accepted d charts h)
+
+pub plain_faultless : (d : Document) (charts : Vec PlainChart Global) → IsSettled d (decision.Plain charts) → (rule : Rule) (place : Place) → HasFault d rule place → ⊥
+plain_faultless d charts h rule place f = accepted_faultless d charts.items (plain_accepted d charts h) rule place f
+
+pub faulty_fault : (d : Document) (fault : Broken Check) → IsSettled d (decision.Faulty fault) → HasFault d (rule_of fault.rule) fault.place
+faulty_fault d fault h = has_fault d fault h
+
+pub faulty_only : (d : Document) (fault : Broken Check) → IsSettled d (decision.Faulty fault) → (other : Rule) (there : Place) → HasFault d other there → (other ≡ rule_of fault.rule) × (there ≡ fault.place)
+faulty_only d fault h other there f = only_fault d (rule_of fault.rule) other fault.place there (has_fault d fault h) f
+
+pub faulty_none : (d : Document) (fault : Broken Check) → IsSettled d (decision.Faulty fault) → (charts : List PlainChart) → IsAccepted d charts → ⊥
+faulty_none d fault h charts a = none_accepted d (rule_of fault.rule) fault.place (has_fault d fault h) charts a
+
+-- the outlines of charts as they are read
+pub outlines_are : (charts : List RawChart) → map (λ c. outline_of (chart_view c)) charts ≡ map outline_of (map chart_view charts)
+outlines_are [] = refl
+outlines_are (c ∷ charts) = ap (λ os. outline_of (chart_view c) ∷ os) (outlines_are charts)

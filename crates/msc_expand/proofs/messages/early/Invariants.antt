@@ -1,0 +1,10 @@
+use Rattle.std.proofs.Common.{◌≡◌, None, drop}
+use Rattle.msc_expand.specs.Lonely.{all_early}
+use Rattle.msc_expand.specs.Rules.{earliest_of}
+use Rattle.msc_expand.proofs.messages.early.Given as goal
+
+abbrev pub invariant-loop-outline : goal.invariant-loop-outline
+invariant-loop-outline l = record {
+  number : l.number ≡ l.outline-index;
+  rest : earliest_of l.earliest (all_early (drop l.outline-index l.outlines) (drop l.outline-index l.lists)) ≡ earliest_of None (all_early l.outlines l.lists);
+}

@@ -1,0 +1,10 @@
+use Rattle.std.proofs.Common.{◌≡◌, drop}
+use Rattle.msc_expand.specs.Lonely.{lonely_places}
+use Rattle.msc_expand.specs.Rules.{earliest_of}
+use Rattle.msc_expand.proofs.messages.search_lonely.Given as goal
+
+abbrev pub invariant-loop-event : goal.invariant-loop-event
+invariant-loop-event l = record {
+  number : l.number ≡ l.event-index;
+  rest : earliest_of l.earliest (lonely_places l.event-index (drop l.event-index l.events) (drop l.event-index l.partners)) ≡ earliest_of l.fn.so_far (lonely_places 0 l.events l.partners);
+}

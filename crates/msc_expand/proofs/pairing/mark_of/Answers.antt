@@ -1,0 +1,21 @@
+use Rattle.std.proofs.Common.{rules, ◌≡◌, ◌++◌, ◌∷◌, [], Some, map, Bool, if◌then◌else◌, ap, ◌∙◌}
+use Rattle.std.specs.List.{position, position_or_len, list_any}
+use Rattle.msc_expand.specs.Pairings.{way, key_of, is_key}
+use Rattle.msc_expand.specs.Marks.{key_view}
+use Rattle.msc_expand.specs.declared.pairing.MessageKey.{MessageKey}
+use Rattle.msc_expand.specs.contracts.pairing.MessageKeyPartialEq.TheImpl.{eq-value}
+use Rattle.msc_expand.proofs.MarkLaws.{inserted_number, passes_itself}
+use Rattle.msc_expand.proofs.Positions.{position_inserted}
+use Rattle.msc_expand.proofs.pairing.mark_of.Goals as goal
+
+pub returns-clause-mark : goal.returns-clause-mark
+returns-clause-mark c =
+    let goes : way c.args.event.now ≡ Some c.in-Some.puts = search rules in
+    let key = c.in_ok-key.key in
+    let same : key_view key ≡ key_of c.args.event.now = search rules in
+    let test : MessageKey → Bool = eq-value.it key in
+    let number : c.in_ok-class.class ≡ c.in_ok-number.number = search rules in
+    let index : c.in_ok-class.class ≡ position_or_len test c.args.keys.now.keys = number ∙ c.in_ok-number.ensures.index in
+    let keys : c.insert_full.new.self.keys ≡ (if list_any test c.args.keys.now.keys then c.args.keys.now.keys else c.args.keys.now.keys ++ key ∷ []) = c.in_ok-number.ensures.keys in
+    let at = position_inserted test c.args.keys.now.keys key c.in_ok-class.class c.insert_full.new.self.keys (passes_itself key) index keys in
+    (goes, inserted_number c.insert_full.new.self.keys key (key_of c.args.event.now) c.in_ok-class.class same at)

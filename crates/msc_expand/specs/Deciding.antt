@@ -1,0 +1,49 @@
+-- What a document comes to: its charts, or its first fault.
+use Rattle.std.specs.Prelude.{◌≡◌, ⊤, List, [], ◌∷◌, map}
+use Rattle.msc_base.specs.declared.place.Place.{Place}
+use Rattle.msc_tree.specs.Charts.{Document}
+use Rattle.item_order.specs.FirstFaults.{Keeps, IsFirst}
+use Rattle.msc_expand.specs.declared.check.Check.{Check}
+use Rattle.msc_expand.specs.declared.check.Check.TheVariants.{Unbuilt, Charts, Instances, TwiceNamed, Undeclared, Size, Total, Unmatched, Early}
+use Rattle.msc_expand.specs.declared.deciding.Decision.{Decision}
+use Rattle.msc_expand.specs.declared.deciding.Decision.TheVariants as decision
+use Rattle.msc_expand.specs.declared.outline.Outline.{Outline}
+use Rattle.msc_expand.specs.Outlines.{outline_of}
+use Rattle.msc_expand.specs.Acceptance.{number_of, Breaks, BreaksOf, ArePlainOf}
+
+abbrev pub limits : List Check
+limits = Charts ∷ Instances ∷ []
+
+abbrev pub names : List Check
+names = TwiceNamed ∷ Undeclared ∷ []
+
+abbrev pub sizes : List Check
+sizes = Size ∷ Total ∷ []
+
+abbrev pub messages : List Check
+messages = Unmatched ∷ []
+
+abbrev pub inputs : List Check
+inputs = Early ∷ []
+
+-- the groups behind that of what isn't built
+abbrev pub later_groups : List (List Check)
+later_groups = limits ∷ names ∷ sizes ∷ messages ∷ inputs ∷ []
+
+abbrev pub AllKept : (Check → Place → Type 0) → List (List Check) → Type 0
+AllKept Breaks [] = ⊤
+AllKept Breaks (rules ∷ more) = Keeps Breaks rules × AllKept Breaks more
+
+-- all groups
+abbrev pub all_groups : List (List Check)
+all_groups = (Unbuilt ∷ []) ∷ later_groups
+
+-- these outlines keep all rules and are these charts, or they have this first fault
+abbrev pub IsDecided : List Outline → Decision → Type 0
+IsDecided outlines (decision.Plain charts) = AllKept (BreaksOf outlines) later_groups × ArePlainOf outlines charts.items
+IsDecided outlines (decision.Faulty fault) = IsFirst number_of (BreaksOf outlines) later_groups fault
+
+-- the same of a document
+abbrev pub IsSettled : Document → Decision → Type 0
+IsSettled document (decision.Plain charts) = AllKept (Breaks document) all_groups × ArePlainOf (map outline_of document.charts) charts.items
+IsSettled document (decision.Faulty fault) = IsFirst number_of (Breaks document) all_groups fault

@@ -1,0 +1,10 @@
+pub mod Outlines
+pub mod Forms
+pub mod Plain
+pub mod Meanings
+pub mod Pairings
+pub mod Marks
+pub mod Rules
+pub mod Acceptance
+pub mod Lonely
+pub mod Deciding

@@ -1,0 +1,51 @@
+ghost use Rattle.std.specs.Prelude.{◌≡◌, All, IfOk, IsErrOf, List};
+ghost use Rattle.msc_tree.specs.Views.{document_view};
+ghost use Rattle.msc_expand.specs.Acceptance.{HasFault, IsAccepted, rule_of};
+ghost use Rattle.msc_expand.specs.Deciding.{IsSettled};
+ghost use Rattle.msc_expand.specs.Plain.{IsPlain};
+
+use crate::deciding::{Decision, decide};
+use crate::forms::first_unbuilt;
+use crate::reading::outlines;
+use crate::{Accepted, Check, DocFault, PlainChart};
+use item_order::Broken;
+use msc_base::{NoMemory, Place};
+use msc_grammar::Rule;
+use msc_tree::RawDocument;
+use std::alloc::Global;
+
+/// What the document comes to.
+fn settle(alloc: Global, raw: &RawDocument) -> Result<Decision, NoMemory>
+    ensures { IfOk result (IsSettled (document_view raw.now)) }
+{
+    let charts = raw.charts.as_slice();
+    if let Some(place) = first_unbuilt(charts) {
+        return Ok(Decision::Faulty(Broken {
+            rule: Check::Unbuilt,
+            place,
+        }));
+    }
+    let held = outlines(alloc, charts)?;
+    decide(alloc, held.as_slice())
+}
+
+/// The charts of the document, or the first rule that it breaks, and where.
+#[tactic(auto, using(crate::proofs::SettleLaws::plain_accepted, crate::proofs::SettleLaws::plain_faultless, crate::proofs::SettleLaws::faulty_fault, crate::proofs::SettleLaws::faulty_none))]
+pub fn accept(alloc: Global, raw: &RawDocument) -> Result<Accepted, DocFault>
+    ensures ok { IfOk result (IsAccepted (document_view raw.now)) }
+    ensures only { IfOk result (λ accepted. (others : List PlainChart) → IsAccepted (document_view raw.now) others → others ≡ accepted) }
+    ensures plain { IfOk result (All IsPlain) }
+    ensures faultless { IfOk result (λ accepted. (rule : Rule) (place : Place) → HasFault (document_view raw.now) rule place → ⊥) }
+    ensures fault { (rule : Rule) (place : Place) → IsErrOf result (DocFault.Refused rule place) → HasFault (document_view raw.now) rule place }
+    ensures only_fault { (rule : Rule) (place : Place) → IsErrOf result (DocFault.Refused rule place) → (other : Rule) (there : Place) → HasFault (document_view raw.now) other there → (other ≡ rule) × (there ≡ place) }
+    ensures none { (rule : Rule) (place : Place) → IsErrOf result (DocFault.Refused rule place) → (charts : List PlainChart) → IsAccepted (document_view raw.now) charts → ⊥ }
+{
+    match settle(alloc, raw) {
+        Ok(Decision::Plain(charts)) => Ok(Accepted::of_charts(charts)),
+        Ok(Decision::Faulty(fault)) => Err(DocFault::Refused {
+            rule: fault.rule.rule(),
+            place: fault.place,
+        }),
+        Err(NoMemory) => Err(DocFault::NoMemory),
+    }
+}

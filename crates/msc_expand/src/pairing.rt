@@ -1,0 +1,222 @@
+ghost use Rattle.std.specs.Prelude.{◌≡◌, ◌++◌, ◌<◌, [], All, IfOk, OnOk, Some, length, map, slice_set, true, false};
+ghost use Rattle.msc_expand.specs.Marks.{AreJoined, AreMarked, IsMark, KeepsNumbers, LeadsPairs, edges_from, end_edges, key_view};
+ghost use Rattle.msc_expand.specs.Pairings.{ArePartnersOf, far_name, key_of, or_empty, way, way_by};
+
+use crate::WovenEvent;
+use indexmap::IndexSet;
+use item_order::{Edge, pair_up};
+use msc_base::{Far, Kind, Label, Name, NoMemory};
+use std::alloc::Global;
+
+/// What an output and the input that takes it in have in common. The pairing name is empty where there is none.
+#[derive(Drop, PartialEq, Eq, Hash)]
+struct MessageKey {
+    sender: Vec<u8>,
+    receiver: Vec<u8>,
+    text: Vec<u8>,
+    pairing: Vec<u8>,
+}
+
+/// What the pairing sees of an event: the number of its key, and whether it puts it out or takes it in.
+#[derive(Clone, Copy)]
+struct Mark {
+    class: u32,
+    puts: bool,
+}
+
+/// The marks of a chart's events, and how many classes they have.
+#[derive(Drop)]
+struct Marks {
+    held: Vec<Option<Mark>>,
+    classes: u32,
+}
+
+/// True for an output to an instance, false for an input from one, and none for other events.
+pub fn way_of(label: &Label) -> Option<bool>
+    ensures { result ≡ way_by label.now.kind label.now.far }
+{
+    match (label.kind, &label.far) {
+        (Kind::Output, Far::Instance(_)) => Some(true),
+        (Kind::Input, Far::Instance(_)) => Some(false),
+        _ => None,
+    }
+}
+
+/// The name of the far end, and no bytes where that is no instance.
+fn far_bytes(far: &Far) -> &[u8]
+    ensures { result.now ≡ far_name far.now }
+{
+    match far {
+        Far::Instance(name) => name.bytes(),
+        Far::Env => &[],
+        Far::Nobody => &[],
+    }
+}
+
+/// The bytes of the name, and none where there is no name.
+fn name_bytes(name: &Option<Name>) -> &[u8]
+    ensures { result.now ≡ or_empty name.now }
+{
+    match name {
+        Some(name) => name.bytes(),
+        None => &[],
+    }
+}
+
+/// The key of an output, or of an input.
+fn message_key(alloc: Global, event: &WovenEvent, puts: bool) -> Result<MessageKey, NoMemory>
+    requires { way event.now ≡ Some puts }
+    ensures { IfOk result (λ key. key_view key ≡ key_of event.now) }
+{
+    let at = Vec::from_slice(alloc, event.label.at.bytes())?;
+    let far = Vec::from_slice(alloc, far_bytes(&event.label.far))?;
+    let text = Vec::from_slice(alloc, event.label.text.bytes())?;
+    let pairing = Vec::from_slice(alloc, name_bytes(&event.pairing))?;
+    if puts {
+        Ok(MessageKey {
+            sender: at,
+            receiver: far,
+            text,
+            pairing,
+        })
+    } else {
+        Ok(MessageKey {
+            sender: far,
+            receiver: at,
+            text,
+            pairing,
+        })
+    }
+}
+
+/// The mark of an event, whose key is numbered where it is new.
+fn mark_of(
+    alloc: Global,
+    keys: &mut IndexSet<MessageKey>,
+    event: &WovenEvent,
+) -> Result<Option<Mark>, NoMemory>
+    ensures mark { IfOk result (IsMark (map key_view keys.new.keys) event.now) }
+    ensures kept { KeepsNumbers (map key_view keys.old.keys) (map key_view keys.new.keys) }
+{
+    let Some(puts) = way_of(&event.label) else {
+        return Ok(None);
+    };
+    let key = message_key(alloc, event, puts)?;
+    let (number, _) = keys.insert_full(key)?;
+    let class = number_of(number)?;
+    Ok(Some(Mark { class, puts }))
+}
+
+/// The marks of the events.
+fn marks_of(alloc: Global, events: &[WovenEvent]) -> Result<Marks, NoMemory>
+    ensures { IfOk result (λ marks. AreMarked events.now marks.held.items marks.classes) }
+{
+    let mut keys = IndexSet::new(alloc);
+    let mut held = Vec::new(alloc);
+    for event in events {
+        let mark = mark_of(alloc, &mut keys, event)?;
+        held.push(mark)?;
+    }
+    let classes = number_of(keys.len())?;
+    Ok(Marks { held, classes })
+}
+
+/// Appends the edge of the event of this number, where it goes that way.
+fn push_edge(
+    edges: &mut Vec<Edge>,
+    mark: &Option<Mark>,
+    puts: bool,
+    number: u32,
+) -> Result<(), NoMemory>
+    ensures { OnOk result (edges.new.items ≡ edges.old.items ++ end_edges puts number mark.now) }
+{
+    match mark {
+        Some(mark) => {
+            if mark.puts == puts {
+                edges.push(Edge {
+                    from: mark.class,
+                    to: number,
+                })?;
+            }
+            Ok(())
+        }
+        None => Ok(()),
+    }
+}
+
+/// The number as one of 32 bits; a larger one would want more memory than there is.
+fn number_of(place: usize) -> Result<u32, NoMemory>
+    ensures { IfOk result (λ number. number ≡ place) }
+{
+    match u32::try_from(place) {
+        Ok(number) => Ok(number),
+        Err(_) => Err(NoMemory),
+    }
+}
+
+/// The ends of one direction, each leading from its class to its event.
+fn edges_of(alloc: Global, marks: &[Option<Mark>], puts: bool) -> Result<Vec<Edge>, NoMemory>
+    ensures { IfOk result (λ edges. edges.items ≡ edges_from puts 0 marks.now) }
+{
+    let mut edges = Vec::new(alloc);
+    let mut place = 0;
+    for mark in marks {
+        let number = number_of(place)?;
+        push_edge(&mut edges, mark, puts, number)?;
+        place += 1;
+    }
+    Ok(edges)
+}
+
+/// The pairs of outputs and inputs, by the numbers of the events.
+fn pairs_of(alloc: Global, events: &[WovenEvent]) -> Result<Vec<Edge>, NoMemory>
+    ensures { IfOk result (λ pairs. LeadsPairs events.now pairs.items) }
+{
+    let marks = marks_of(alloc, events)?;
+    let outputs = edges_of(alloc, marks.held.as_slice(), true)?;
+    let inputs = edges_of(alloc, marks.held.as_slice(), false)?;
+    pair_up(alloc, marks.classes, outputs.as_slice(), inputs.as_slice())
+}
+
+/// Each number below the count, for itself.
+fn own_numbers(alloc: Global, count: usize) -> Result<Vec<u32>, NoMemory>
+    ensures { IfOk result (λ numbers. AreJoined [] count numbers.items) }
+{
+    let mut numbers = Vec::new(alloc);
+    for place in 0..count {
+        let number = number_of(place)?;
+        numbers.push(number)?;
+    }
+    Ok(numbers)
+}
+
+/// Joins the two events of a pair.
+fn join_pair(partners: &mut Vec<u32>, pair: Edge)
+    requires from { pair.from < length partners.old.items }
+    requires to { pair.to < length partners.old.items }
+    ensures { partners.new.items ≡ slice_set (slice_set partners.old.items pair.from pair.to) pair.to pair.from }
+{
+    partners[pair.from as usize] = pair.to;
+    partners[pair.to as usize] = pair.from;
+}
+
+/// For each number the one that a pair joins with it.
+fn joined(alloc: Global, count: usize, pairs: &[Edge]) -> Result<Vec<u32>, NoMemory>
+    requires { All (λ e. (e.from < count) × (e.to < count)) pairs.now }
+    ensures { IfOk result (λ partners. AreJoined pairs.now count partners.items) }
+{
+    let mut partners = own_numbers(alloc, count)?;
+    for pair in pairs {
+        join_pair(&mut partners, *pair);
+    }
+    Ok(partners)
+}
+
+/// For each event the place of the one that it is paired with, and its own where there is none.
+#[tactic(auto, using(crate::proofs::JoinLaws::partners_joined, crate::proofs::JoinLaws::pairs_within))]
+pub fn partners_of(alloc: Global, events: &[WovenEvent]) -> Result<Vec<u32>, NoMemory>
+    ensures { IfOk result (λ partners. ArePartnersOf events.now partners.items) }
+{
+    let pairs = pairs_of(alloc, events)?;
+    joined(alloc, events.len(), pairs.as_slice())
+}
