@@ -63,4 +63,14 @@ pub mod SetFacts
 pub mod TouchFacts
 pub mod Within
 pub mod ReadyTerms
+pub mod Descending
+pub mod Alike
+pub mod Ascending
+pub mod LoopLeft
+pub mod WalkLeft
+pub mod PutReady
+pub mod Rebuilding
+pub mod ChildReady
+pub mod Tallying
+pub mod Searching
 pub mod SoundReady

@@ -7,18 +7,18 @@ use Rattle.permit_step.specs.Ready.{IsReadyPart, AreReadyParts}
 use Rattle.permit_step.specs.RowRests.{RowRest, keep_part, keep_first, keep_parts}
 use Rattle.permit_step.proofs.Measures.{rank-part}
 
-drop_next : {A : Type 0} → (xs : List A) (i : ℕ) (x : A) → slice_get xs i ≡ Some x → drop i xs ≡ x ∷ drop (suc i) xs
+pub drop_next : {A : Type 0} → (xs : List A) (i : ℕ) (x : A) → slice_get xs i ≡ Some x → drop i xs ≡ x ∷ drop (suc i) xs
 drop_next [] i x p = cc
 drop_next (y ∷ ys) zero x p = let e : y ≡ x = cc in rw e
 drop_next (y ∷ ys) (suc i) x p = drop_next ys i x p
 
-get_take : {A : Type 0} → (xs : List A) (n i : ℕ) (x : A) → i < n → slice_get xs i ≡ Some x → slice_get (take n xs) i ≡ Some x
+pub get_take : {A : Type 0} → (xs : List A) (n i : ℕ) (x : A) → i < n → slice_get xs i ≡ Some x → slice_get (take n xs) i ≡ Some x
 get_take [] n i x h p = cc
 get_take (y ∷ ys) zero i x h p = absurd (omega arith)
 get_take (y ∷ ys) (suc n) zero x h p = p
 get_take (y ∷ ys) (suc n) (suc i) x h p = get_take ys n i x (omega arith) p
 
-drop_over : {A : Type 0} → (xs : List A) (n : ℕ) → drop n (take n xs) ≡ []
+pub drop_over : {A : Type 0} → (xs : List A) (n : ℕ) → drop n (take n xs) ≡ []
 drop_over [] zero = refl
 drop_over [] (suc n) = refl
 drop_over (x ∷ xs) zero = refl

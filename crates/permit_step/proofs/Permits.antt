@@ -17,12 +17,12 @@ use Rattle.permit_step.specs.Values.{block_of}
 use Rattle.permit_step.proofs.Missed.{permit-misses, hits-unless}
 use Rattle.permit_step.proofs.Measures.{rank-then, rank-beside, rank-some, rank-bound, rank-loop, rank-at}
 
-take_next : {A : Type 0} → (xs : List A) (i : ℕ) (x : A) → slice_get xs i ≡ Some x → take (suc i) xs ≡ take i xs ++ x ∷ []
+pub take_next : {A : Type 0} → (xs : List A) (i : ℕ) (x : A) → slice_get xs i ≡ Some x → take (suc i) xs ≡ take i xs ++ x ∷ []
 take_next [] i x p = cc
 take_next (y ∷ ys) zero x p = let e : y ≡ x = cc in rw e
 take_next (y ∷ ys) (suc i) x p = ap (λ l. y ∷ l) (take_next ys i x p)
 
-take_step : {A : Type 0} → (xs : List A) (i : ℕ) (x : A) → slice_get xs i ≡ Some x → take (i + 1) xs ≡ take i xs ++ x ∷ []
+pub take_step : {A : Type 0} → (xs : List A) (i : ℕ) (x : A) → slice_get xs i ≡ Some x → take (i + 1) xs ≡ take i xs ++ x ∷ []
 take_step xs i x p = rw add-one (take_next xs i x p)
 
 module _ (k : NetPermits) (b : Block) where

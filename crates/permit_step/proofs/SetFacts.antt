@@ -143,7 +143,7 @@ common-more top c d both a b f g h = record { exact = λ n. go n (a && b) refl (
         other n q = grind (arith, nat_tests)
 
 -- all instances are below the limit
-has_cut : (all c : List ℕ) (n : ℕ) → has (cut all c) n ≡ (has c n && has all n)
+pub has_cut : (all c : List ℕ) (n : ℕ) → has (cut all c) n ≡ (has c n && has all n)
 has_cut all [] n = refl
 has_cut all (m ∷ c) n = go (has all m) refl (m == n) refl (has_cut all c n)
   where

@@ -11,7 +11,7 @@ use Rattle.permit_step.proofs.Permits.{ready-then, ready-beside, ready-choice, r
 use Rattle.permit_step.proofs.SetFacts.{has_added}
 use Rattle.permit_step.proofs.Unions.{each-union}
 
-has_both : (c d : List ℕ) (n : ℕ) → has (c ++ d) n ≡ (has c n || has d n)
+pub has_both : (c d : List ℕ) (n : ℕ) → has (c ++ d) n ≡ (has c n || has d n)
 has_both [] d n = refl
 has_both (m ∷ c) d n = go (m == n) (has_both c d n)
   where
@@ -40,7 +40,7 @@ union-none c = record { same = λ n. or_none (has c n) }
 pub union-more : (old a b mid new : List ℕ) → IsUnion old a mid → IsUnion mid b new → IsUnion old (a ++ b) new
 union-more old a b mid new f g = record { same = λ n. g.same n ∙ ((λ i. f.same n i || has b n) ∙ (or_group (has old n) (has a n) (has b n) ∙ ap (λ t. has old n || t) (sym (has_both a b n)))) }
 
-union_has : (c d : List ℕ) (n : ℕ) → has (c ∪ d) n ≡ (has c n || has d n)
+pub union_has : (c d : List ℕ) (n : ℕ) → has (c ∪ d) n ≡ (has c n || has d n)
 union_has c [] n = or_none (has c n)
 union_has c (m ∷ d) n = has_added m (c ∪ d) n ∙ (ap (λ t. (m == n) || t) (union_has c d n) ∙ swap (m == n) (has c n) (has d n))
   where

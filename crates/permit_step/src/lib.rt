@@ -4,14 +4,18 @@
 //! term may end where it has the empty pattern. The module `laws` says that this is exactly so.
 #![tactic(auto)]
 
+mod ascent;
 mod blocks;
+mod descent;
 mod finishes;
+mod found;
 mod fresh;
 pub mod laws;
 mod loops;
 mod passing;
 mod permission;
 mod row_end;
+mod successors;
 #[cfg(test)]
 mod tests;
 mod touch;
@@ -19,3 +23,4 @@ mod touch;
 pub use finishes::may_end;
 pub use fresh::{trail, turns};
 pub use permission::permit;
+pub use successors::after;

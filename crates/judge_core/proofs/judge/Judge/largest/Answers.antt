@@ -1,0 +1,14 @@
+use Rattle.std.proofs.Common.{ℕ, List, subst}
+use Rattle.chart_term.specs.NetValues.{NetsValue}
+use Rattle.chart_term.specs.Terms.{Tree}
+use Rattle.residual_set.specs.Logs.{LoggedEvent}
+use Rattle.residual_set.specs.Tracks.{Fed}
+use Rattle.residual_set.specs.Verdicts.{IsLargest}
+use Rattle.judge_core.specs.States.{JudgeValue}
+use Rattle.judge_core.proofs.Judging.{largest_is}
+use Rattle.judge_core.proofs.judge.Judge.largest.Goals as goal
+
+pub returns : goal.returns
+returns g c = λ v x form budget bytes h e.
+    largest_is g.S.Store.holds v x form budget bytes c.args.self.now c.largest.result
+    (subst (λ (j : JudgeValue _). (w : NetsValue) (y : Tree) (m : ℕ) (events : List LoggedEvent) → Fed g.S.Store.holds w y m events j.track → IsLargest w y m events c.largest.result) c.self.view_is c.largest.ensures) e h

@@ -1,0 +1,4 @@
+pub mod Judged
+pub mod Taking
+pub mod States
+pub mod Faults

@@ -1,0 +1,189 @@
+-- The terms that were found: each once, with their weight.
+use Rattle.std.specs.BTreeSet.{contains}
+use Rattle.std.specs.List.{list_any}
+use Rattle.std.specs.Ordering.{is_eq}
+use Rattle.std.specs.Prelude.{ℕ, zero, suc, ◌+◌, ◌<◌, ◌≤◌, Bool, true, false, List, [], ◌∷◌, ◌++◌, ◌≡◌, ◌||◌, ◌⊎◌, refl, min, nat_le, not}
+use Rattle.std.proofs.Common.{ap, sym, ◌∙◌, subst, arith, cond, inl, inr, append-nil}
+use Rattle.std.proofs.lemmas.Bool.Decides.{nat_tests}
+use Rattle.chart_term.specs.Equality.{same_tree}
+use Rattle.chart_term.specs.Facts.{most_stored}
+use Rattle.chart_term.specs.Order.{tree_cmp}
+use Rattle.chart_term.specs.Properties.{Each}
+use Rattle.chart_term.specs.Terms.{Tree, weight}
+use Rattle.chart_term.specs.OrderLaws.{tree_equal, tree_itself}
+use Rattle.std.specs.declared.cmp.Ordering.{Ordering}
+use Rattle.std.specs.declared.cmp.Ordering.TheVariants.{Less, Equal, Greater}
+use Rattle.chart_term.proofs.Equal.{same_tree_is_exact}
+use Rattle.permit_step.specs.Listing.{IsAmong, set_weight}
+use Rattle.permit_step.specs.Normality.{AreDifferent}
+use Rattle.permit_step.specs.Searches.{IsTally, IsBounded, Gains, AddsOne, is_listed}
+use Rattle.permit_step.specs.Successors.{IsJustAbove}
+use Rattle.permit_step.specs.declared.found.Found.{Found}
+use Rattle.permit_step.proofs.Keeping.{each_app}
+
+pub set_weight-snoc : (xs : List Tree) (t : Tree) → set_weight (xs ++ t ∷ []) ≡ set_weight xs + weight t
+set_weight-snoc [] t = omega arith
+set_weight-snoc (x ∷ xs) t = omega (arith, set_weight-snoc xs t)
+
+different_snoc : (xs : List Tree) (t : Tree) → AreDifferent xs → is_listed t xs ≡ false → AreDifferent (xs ++ t ∷ [])
+different_snoc [] t h l = (tt, tt)
+different_snoc (x ∷ xs) t h l = (each_app (λ y. same_tree x y ≡ false) xs (t ∷ []) h.0 (left (same_tree x t) (is_listed t xs) l, tt), different_snoc xs t h.1 (right (same_tree x t) (is_listed t xs) l))
+  where
+    left : (a b : Bool) → (a || b) ≡ false → a ≡ false
+    left true b h = cc
+    left false b h = refl
+
+    right : (a b : Bool) → (a || b) ≡ false → b ≡ false
+    right true b h = cc
+    right false b h = h
+
+among_snoc : (xs : List Tree) (t : Tree) → IsAmong t (xs ++ t ∷ [])
+among_snoc [] t = inl refl
+among_snoc (x ∷ xs) t = inr (among_snoc xs t)
+
+among_listed : (xs : List Tree) (t : Tree) → is_listed t xs ≡ true → IsAmong t xs
+among_listed [] t h = cc
+among_listed (x ∷ xs) t h = go (same_tree x t) refl h (among_listed xs t)
+  where
+    go : (a : Bool) → same_tree x t ≡ a → (a || is_listed t xs) ≡ true → (is_listed t xs ≡ true → IsAmong t xs) → (x ≡ t) ⊎ IsAmong t xs
+    go true e l f = inl (same_tree_is_exact.sound x t e)
+    go false e l f = inr (f l)
+
+-- the order and the test of equality agree
+same_by_order : (x y : Tree) → is_eq (tree_cmp x y) ≡ same_tree x y
+same_by_order x y = by_case (same_tree x y) refl
+  where
+    is_equal : (o : Ordering) → is_eq o ≡ true → o ≡ Equal
+    is_equal Less h = cc
+    is_equal Equal h = refl
+    is_equal Greater h = cc
+
+    other : (b : Bool) → (b ≡ true → ⊥) → b ≡ false
+    other true h = absurd (h refl)
+    other false h = refl
+
+    apart : (b : Bool) → b ≡ false → b ≡ true → ⊥
+    apart b p q = cc
+
+    by_case : (b : Bool) → same_tree x y ≡ b → is_eq (tree_cmp x y) ≡ same_tree x y
+    by_case true e = ap is_eq (ap (λ z. tree_cmp x z) (sym (same_tree_is_exact.sound x y e)) ∙ tree_itself x) ∙ sym e
+    by_case false e = other (is_eq (tree_cmp x y)) (λ h. apart (same_tree x y) e (same_tree_is_exact.whole x y (tree_equal x y (is_equal (tree_cmp x y) h)))) ∙ sym e
+
+-- one more item
+listed_more : (xs : List Tree) (t y : Tree) → is_listed y (xs ++ t ∷ []) ≡ (is_listed y xs || same_tree t y)
+listed_more [] t y = none (same_tree t y)
+  where
+    none : (b : Bool) → (b || false) ≡ b
+    none true = refl
+    none false = refl
+listed_more (x ∷ xs) t y = ap (λ b. same_tree x y || b) (listed_more xs t y) ∙ group (same_tree x y) (is_listed y xs) (same_tree t y)
+  where
+    group : (a b c : Bool) → (a || (b || c)) ≡ ((a || b) || c)
+    group true b c = refl
+    group false b c = refl
+
+seen_snoc : (xs : List Tree) (t key y : Tree) (old new : Bool) → key ≡ t → new ≡ cond (is_eq (tree_cmp key y)) true old → old ≡ is_listed y xs → new ≡ is_listed y (xs ++ t ∷ [])
+seen_snoc xs t key y old new e p q =
+    p ∙ ((λ i. cond (is_eq (tree_cmp (e i) y)) true (q i)) ∙ (ap (λ b. cond b true (is_listed y xs)) (same_by_order t y) ∙ (turned (same_tree t y) (is_listed y xs) ∙ sym (listed_more xs t y))))
+  where
+    turned : (b c : Bool) → cond b true c ≡ (c || b)
+    turned true true = refl
+    turned true false = refl
+    turned false true = refl
+    turned false false = refl
+
+listed_snoc : (xs : List Tree) (t y : Tree) → is_listed t xs ≡ true → is_listed y (xs ++ t ∷ []) ≡ is_listed y xs
+listed_snoc xs t y h = listed_more xs t y ∙ go (same_tree t y) refl
+  where
+    none : (b : Bool) → (b || false) ≡ b
+    none true = refl
+    none false = refl
+
+    both : (a : Bool) → a ≡ true → (a || true) ≡ a
+    both true e = refl
+    both false e = cc
+
+    go : (a : Bool) → same_tree t y ≡ a → (is_listed y xs || same_tree t y) ≡ is_listed y xs
+    go true e =
+        let same : t ≡ y = same_tree_is_exact.sound t y e in
+        ap (λ b. is_listed y xs || b) e ∙ both (is_listed y xs) (ap (λ z. is_listed z xs) (sym same) ∙ h)
+    go false e = ap (λ b. is_listed y xs || b) e ∙ none (is_listed y xs)
+
+-- a new term
+pub added-new : (old new : Found) (t key : Tree) (all : Bool) → IsTally old → set_weight old.terms ≤ old.most → key ≡ t → contains tree_cmp old.seen key ≡ false → ((y : Tree) → contains tree_cmp new.seen y ≡ cond (is_eq (tree_cmp key y)) true (contains tree_cmp old.seen y))
+    → new.terms ≡ old.terms ++ t ∷ [] → new.weight ≡ min (old.weight + min (weight t) most_stored) most_stored → new.most ≡ old.most → all ≡ nat_le new.weight new.most → AddsOne t old new all
+added-new old new t key all h within e free seen terms heavy most test = record {
+  gains = record {
+    tally = record {
+      different = subst (λ (xs : List Tree). AreDifferent xs) (sym terms) (different_snoc old.terms t h.different unlisted);
+      index = λ y. seen_snoc old.terms t key y (contains tree_cmp old.seen y) (contains tree_cmp new.seen y) e (seen y) (h.index y) ∙ ap (is_listed y) (sym terms);
+      weight = weighs;
+      most = omega (arith, h.most);
+    };
+    most = most;
+    rest = t ∷ [];
+    are = terms;
+    each = (refl, tt);
+  };
+  among = subst (λ (xs : List Tree). IsAmong t xs) (sym terms) (among_snoc old.terms t);
+  bounded = record {
+    within = λ a. low a;
+    beyond = λ a. record { front = old.terms; last = t; are = terms; below = omega arith; above = high a };
+  };
+}
+  where
+    unlisted : is_listed t old.terms ≡ false
+    unlisted = ap (λ y. is_listed y old.terms) (sym e) ∙ (sym (h.index key) ∙ free)
+
+    whole : set_weight new.terms ≡ set_weight old.terms + weight t
+    whole = ap set_weight terms ∙ set_weight-snoc old.terms t
+
+    weighs : new.weight ≡ min (set_weight new.terms) most_stored
+    weighs = let a = h.weight in let b = whole in omega arith
+
+    low : all ≡ true → set_weight new.terms ≤ new.most
+    low a = let b : nat_le new.weight new.most ≡ true = sym test ∙ a in let l : new.weight ≤ new.most = grind (arith, nat_tests) in let m = h.most in let g = weighs in omega arith
+
+    high : all ≡ false → new.most < set_weight new.terms
+    high a = let b : nat_le new.weight new.most ≡ false = sym test ∙ a in let l : new.most < new.weight = grind (arith, nat_tests) in let g = weighs in omega arith
+
+-- a term that was found before
+pub added-met : (old new : Found) (t key : Tree) → IsTally old → set_weight old.terms ≤ old.most → key ≡ t → contains tree_cmp old.seen key ≡ true → ((y : Tree) → contains tree_cmp new.seen y ≡ cond (is_eq (tree_cmp key y)) true (contains tree_cmp old.seen y))
+    → new.terms ≡ old.terms → new.weight ≡ old.weight → new.most ≡ old.most → AddsOne t old new true
+added-met old new t key h within e met seen terms heavy most = record {
+  gains = record {
+    tally = record {
+      different = subst (λ (xs : List Tree). AreDifferent xs) (sym terms) h.different;
+      index = λ y. seen_snoc old.terms t key y (contains tree_cmp old.seen y) (contains tree_cmp new.seen y) e (seen y) (h.index y) ∙ (listed_snoc old.terms t y there ∙ ap (is_listed y) (sym terms));
+      weight = heavy ∙ (h.weight ∙ ap (λ xs. min (set_weight xs) most_stored) (sym terms));
+      most = omega (arith, h.most);
+    };
+    most = most;
+    rest = [];
+    are = terms ∙ sym (append-nil old.terms);
+    each = tt;
+  };
+  among = subst (λ (xs : List Tree). IsAmong t xs) (sym terms) (among_listed old.terms t there);
+  bounded = record { within = λ a. let f = ap set_weight terms in omega arith; beyond = λ a. cc };
+}
+  where
+    there : is_listed t old.terms ≡ true
+    there = ap (λ y. is_listed y old.terms) (sym e) ∙ (sym (h.index key) ∙ met)
+
+pub not-true : (b : Bool) → not b ≡ true → b ≡ false
+not-true true h = cc
+not-true false h = refl
+
+pub not-false : (b : Bool) → not b ≡ false → b ≡ true
+not-false true h = refl
+not-false false h = cc
+
+pub tally-none : (f : Found) → f.terms ≡ [] → ((x : Tree) → contains tree_cmp f.seen x ≡ false) → f.weight ≡ 0 → f.most < most_stored → IsTally f
+tally-none f h g e l = record {
+  different = subst (λ (xs : List Tree). AreDifferent xs) (sym h) tt;
+  index = λ x. g x ∙ sym (ap (is_listed x) h);
+  weight = let p = ap set_weight h in omega arith;
+  most = l;
+}
+
+pub ruleset tallying = (set_weight-snoc, tally-none)

@@ -1,0 +1,17 @@
+use Rattle.std.proofs.Common.{◌≡◌, ◌≤◌, take, length}
+use Rattle.chart_term.specs.Terms.{Nil}
+use Rattle.chart_term.specs.Views.{event_of}
+use Rattle.permit_step.specs.Permission.{permits_of}
+use Rattle.permit_step.specs.Ready.{IsReady}
+use Rattle.permit_step.specs.Searches.{put_all}
+use Rattle.permit_step.proofs.ascent.rebuilt.Given as goal
+
+abbrev pub invariant-loop-index : goal.invariant-loop-index
+invariant-loop-index l = record {
+  within : l.index ≤ length l.path.items;
+  ready : IsReady l.nets.tables l.left;
+  whole : put_all (permits_of l.nets.tables) (event_of l.taken.event) l.path.items Nil ≡ put_all (permits_of l.nets.tables) (event_of l.taken.event) (take l.index l.path.items) l.left;
+}
+
+abbrev pub decreases-loop-index : goal.decreases-loop-index
+decreases-loop-index l = l.index

@@ -1,0 +1,137 @@
+-- The search for the events that can be taken from a term, through its children.
+use Rattle.std.specs.BTreeSet.{contains}
+use Rattle.std.specs.List.{list_any}
+use Rattle.std.specs.Prelude.{ℕ, zero, suc, ◌<◌, ◌≤◌, Bool, true, false, List, [], ◌∷◌, ◌++◌, ◌≡◌, Option, Some, None, length, min}
+use Rattle.hmsc_graph.specs.Nets.{size_of}
+use Rattle.chart_term.specs.Equality.{same_tree}
+use Rattle.chart_term.specs.Facts.{most_stored}
+use Rattle.chart_term.specs.NormalForms.{NetPermits}
+use Rattle.chart_term.specs.Order.{tree_cmp}
+use Rattle.chart_term.specs.Properties.{Each}
+use Rattle.chart_term.specs.Tables.{Tables, net_of}
+use Rattle.chart_term.specs.TermPatterns.{instances_of}
+use Rattle.chart_term.specs.Terms.{TermEvent, has, Tree, Nil, Event, Join, Choice, Bound, Turns, Trail, items, Part, Gap, Turn, parts}
+use Rattle.chart_term.specs.Views.{event_of}
+use Rattle.permit_step.specs.Children.{child, put}
+use Rattle.permit_step.specs.Listing.{IsAmong, set_weight}
+use Rattle.permit_step.specs.Normality.{AreDifferent}
+use Rattle.permit_step.specs.Permission.{permits_of}
+use Rattle.permit_step.specs.Ready.{IsReady}
+use Rattle.permit_step.specs.RowRests.{RowRest, turn_before, gap_before}
+use Rattle.permit_step.specs.Successors.{IsJustAbove}
+use Rattle.permit_step.specs.Taking.{IsAfter}
+use Rattle.permit_step.specs.declared.ascent.Frame.{Frame}
+use Rattle.permit_step.specs.declared.ascent.Taken.{Taken}
+use Rattle.permit_step.specs.declared.found.Found.{Found}
+
+-- at how many places a term may have a child
+abbrev pub child_count : Tables → Tree → ℕ
+child_count w Nil = 0
+child_count w (Event e) = 0
+child_count w (Join m xs) = length (items xs)
+child_count w (Choice xs) = length (items xs)
+child_count w (Bound x q) = 1
+child_count w (Turns x lo hi r) = length (parts r)
+child_count w (Trail n f t c) = size_of (net_of w n)
+
+-- an event with a block of its instances alone
+pub record IsTaken (t : Taken) : Type 0 where
+  pub same : (n : ℕ) → has t.at.instances n ≡ has (instances_of (event_of t.event)).instances n
+  pub alone : t.at.events ≡ []
+
+-- the frames' terms are ready, and have such places
+abbrev pub AreReadyFrames : Tables → List Frame → Type 0
+AreReadyFrames w [] = Unit {0}
+AreReadyFrames w (f ∷ fs) = IsReady w f.parent × (f.place < child_count w f.parent) × AreReadyFrames w fs
+
+-- what is left of the frame's term where its child leaves this
+abbrev pub put_some : NetPermits → TermEvent → Frame → Option Tree → Option Tree
+put_some k e f None = None
+put_some k e f (Some y) = put k e f.parent f.place y
+
+-- what is left of the first frame's term where the child of the last leaves y
+abbrev pub put_all : NetPermits → TermEvent → List Frame → Tree → Option Tree
+put_all k e [] y = Some y
+put_all k e (f ∷ fs) y = put_some k e f (put_all k e fs y)
+
+-- the part is a gap
+abbrev pub is_gap : Part → Bool
+is_gap (Gap c) = true
+is_gap (Turn x) = false
+
+-- a part as it is, in front of a row's end; a gap only where further turns may begin
+abbrev pub part_before : Option ℕ → Part → RowRest → RowRest
+part_before hi (Turn x) r = turn_before x r
+part_before None (Gap c) r = gap_before false c r
+part_before (Some zero) (Gap c) r = r
+part_before (Some (suc n)) (Gap c) r = gap_before false c r
+
+-- parts as they are, in front of a row's end
+abbrev pub tail_of : Option ℕ → List Part → RowRest → RowRest
+tail_of hi [] r = r
+tail_of hi (t ∷ ts) r = part_before hi t (tail_of hi ts r)
+
+-- z is left of the first frame's term after an event with the label that is taken from x, the child of the last
+pub record IsResult (w : Tables) (a : ℕ) (fs : List Frame) (x z : Tree) : Type 0 where
+  pub event : TermEvent
+  pub labelled : event.label ≡ a
+  pub left : Tree
+  pub taken : IsAfter (permits_of w) x event left
+  pub whole : put_all (permits_of w) event fs left ≡ Some z
+
+-- whether the term is in the list
+abbrev pub is_listed : Tree → List Tree → Bool
+is_listed x ys = list_any (λ y. same_tree y x) ys
+
+-- what holds of the terms that were found: each once, all of them in the index, and their weight is kept
+pub record IsTally (f : Found) : Type 0 where
+  pub different : AreDifferent f.terms
+  pub index : (x : Tree) → contains tree_cmp f.seen x ≡ is_listed x f.terms
+  pub weight : f.weight ≡ min (set_weight f.terms) most_stored
+  pub most : f.most < most_stored
+
+-- where all were found, the weight isn't above the bound; else it is just above
+pub record IsBounded (most : ℕ) (found : List Tree) (all : Bool) : Type 0 where
+  pub within : all ≡ true → set_weight found ≤ most
+  pub beyond : all ≡ false → IsJustAbove most found
+
+-- the terms that were found became more by some that have the property
+pub record Gains (P : Tree → Type 0) (old new : Found) : Type 0 where
+  pub tally : IsTally new
+  pub most : new.most ≡ old.most
+  pub rest : List Tree
+  pub are : new.terms ≡ old.terms ++ rest
+  pub each : Each P rest
+
+-- a result that is ready
+pub record IsFinding (w : Tables) (a : ℕ) (fs : List Frame) (x z : Tree) : Type 0 where
+  pub result : IsResult w a fs x z
+  pub ready : IsReady w z
+
+-- a search through x found results alone, and all of them unless it was cut off
+pub record Gathers (w : Tables) (a : ℕ) (fs : List Frame) (x : Tree) (old new : Found) (all : Bool) : Type 0 where
+  pub gains : Gains (IsFinding w a fs x) old new
+  pub bounded : IsBounded new.most new.terms all
+  pub whole : all ≡ true → (z : Tree) → IsResult w a fs x z → IsAmong z new.terms
+
+-- the same of the children before a place alone
+pub record GathersBelow (w : Tables) (a : ℕ) (fs : List Frame) (x : Tree) (place : ℕ) (old new : Found) : Type 0 where
+  pub gains : Gains (IsFinding w a fs x) old new
+  pub within : set_weight new.terms ≤ new.most
+  pub whole : (p : ℕ) → p < place → (y : Tree) → child (permits_of w) x p ≡ Some y → (z : Tree) → IsResult w a (fs ++ record { parent = x; place = p } ∷ []) y z → IsAmong z new.terms
+
+-- the term is there once, and the others are as they were
+pub record AddsOne (t : Tree) (old new : Found) (all : Bool) : Type 0 where
+  pub gains : Gains (λ x. x ≡ t) old new
+  pub among : IsAmong t new.terms
+  pub bounded : IsBounded new.most new.terms all
+
+-- the term isn't an event
+abbrev pub IsNoEvent : Tree → Type 0
+IsNoEvent Nil = Unit {0}
+IsNoEvent (Event e) = ⊥
+IsNoEvent (Join m xs) = Unit {0}
+IsNoEvent (Choice xs) = Unit {0}
+IsNoEvent (Bound x q) = Unit {0}
+IsNoEvent (Turns x lo hi r) = Unit {0}
+IsNoEvent (Trail n f t c) = Unit {0}

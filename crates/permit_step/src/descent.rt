@@ -1,0 +1,102 @@
+ghost use Rattle.std.specs.Prelude.{◌≡◌, ◌<◌, IfOk, Some};
+ghost use Rattle.chart_term.specs.Rows.{part_of};
+ghost use Rattle.chart_term.specs.Tables.{net_count, net_of};
+ghost use Rattle.hmsc_graph.specs.Nets.{size_of};
+ghost use Rattle.permit_step.specs.Children.{child, row_child};
+ghost use Rattle.permit_step.specs.Permission.{permits_of};
+ghost use Rattle.permit_step.specs.Ready.{IsReady, AreReadyTables, IsReadyPart};
+ghost use Rattle.permit_step.specs.Searches.{child_count};
+
+use crate::blocks::widened;
+use crate::permission::permit;
+use chart_term::{Look, Nets, RowPart, Term};
+use msc_base::{Block, NoMemory};
+use std::alloc::Global;
+
+/// From how many places of the term an event may be taken.
+#[tactic(auto, using(crate::proofs::Descending::descending))]
+pub(crate) fn child_count(nets: &Nets, term: &Term) -> usize
+    requires tables { AreReadyTables nets.now.tables }
+    requires term { IsReady nets.now.tables term.now }
+    ensures { result ≡ child_count nets.now.tables term.now }
+{
+    match term.look() {
+        Look::Nil => 0,
+        Look::Event { .. } => 0,
+        Look::Then(parts) => parts.len(),
+        Look::Beside(parts) => parts.len(),
+        Look::Choice(parts) => parts.len(),
+        Look::Bound(_, _) => 1,
+        Look::Turns { row, .. } => row.len(),
+        Look::Trail { net, .. } => nets.net(net).size() as usize,
+    }
+}
+
+/// What an event of that place is taken from: a part, a begun turn, a turn that may begin in a gap, or a node's term where the
+/// walk may pass it. None where there is nothing.
+#[tactic(auto, using(crate::proofs::Descending::descending))]
+pub(crate) fn child(
+    alloc: Global,
+    nets: &Nets,
+    term: &Term,
+    place: usize,
+) -> Result<Option<Term>, NoMemory>
+    requires tables { AreReadyTables nets.now.tables }
+    requires term { IsReady nets.now.tables term.now }
+    requires place { place < child_count nets.now.tables term.now }
+    ensures { IfOk result (λ inner. inner ≡ child (permits_of nets.now.tables) term.now place) }
+{
+    match term.look() {
+        Look::Nil | Look::Event { .. } => Ok(None),
+        Look::Then(parts) => Ok(Some(parts.at(place).copy(alloc)?)),
+        Look::Beside(parts) => Ok(Some(parts.at(place).copy(alloc)?)),
+        Look::Choice(parts) => Ok(Some(parts.at(place).copy(alloc)?)),
+        Look::Bound(inner, _) => Ok(Some(inner.copy(alloc)?)),
+        Look::Turns {
+            body, upper, row, ..
+        } => turn_of(alloc, nets, body, upper, row.at(place)),
+        Look::Trail { net, block, .. } => {
+            let own = widened(alloc, block, &Block::empty(alloc))?;
+            let node = node_at(nets, net, place);
+            let left = permit(alloc, nets, nets.node(net, node), &own)?;
+            Ok(left)
+        }
+    }
+}
+
+/// The number of the net's node of that place.
+pub(crate) fn node_at(nets: &Nets, net: u32, place: usize) -> u32
+    requires net { net < net_count nets.now.tables }
+    requires place { place < size_of (net_of nets.now.tables net) }
+    ensures { result ≡ place }
+{
+    let size = nets.net(net).size() as usize;
+    place.min(size) as u32
+}
+
+/// The begun turn, or the turn that may begin in a gap, if there is one.
+#[tactic(auto, using(crate::proofs::Descending::descending))]
+fn turn_of(
+    alloc: Global,
+    nets: &Nets,
+    body: &Term,
+    upper: Option<u64>,
+    part: &RowPart,
+) -> Result<Option<Term>, NoMemory>
+    requires tables { AreReadyTables nets.now.tables }
+    requires body { IsReady nets.now.tables body.now }
+    requires part { IsReadyPart nets.now.tables (part_of part.now) }
+    ensures { IfOk result (λ turn. turn ≡ row_child (permits_of nets.now.tables) body.now upper (Some (part_of part.now))) }
+{
+    match part {
+        RowPart::Turn(turn) => Ok(Some(turn.copy(alloc)?)),
+        RowPart::Gap(gap) => {
+            if upper == Some(0) {
+                return Ok(None);
+            }
+            let own = widened(alloc, gap, &Block::empty(alloc))?;
+            let left = permit(alloc, nets, body, &own)?;
+            Ok(left)
+        }
+    }
+}

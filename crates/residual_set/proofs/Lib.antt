@@ -1,0 +1,9 @@
+mod Fronts
+mod Lists
+mod Lefts
+mod SetLaws
+mod RunLaws
+mod VerdictLaws
+mod TrackFacts
+mod Tracking
+mod Gathering
