@@ -67,14 +67,18 @@ pub result-child : (w : Tables) (a : ℕ) (fs : List Frame) (x z : Tree) → IsN
     → (p : ℕ) × (y : Tree) × (child (permits_of w) x p ≡ Some y) × IsResult w a (fs ++ record { parent = x; place = p } ∷ []) y z
 result-child w a fs x z n r = elim (in-child (permits_of w) r.taken) [
   | inl h ↦ absurd (no_event x r.event n h.0)
-  | inr h ↦
-      (h.place, h.inner, h.there, record {
-        event = r.event;
-        labelled = r.labelled;
-        left = h.left;
-        taken = h.taken;
-        whole = put-snoc (permits_of w) r.event fs (record { parent = x; place = h.place }) h.left ∙ (ap (put_on (permits_of w) r.event fs) h.whole ∙ r.whole);
-      })
+  | inr h ↦ (
+    h.place,
+    h.inner,
+    h.there,
+    record {
+      event = r.event;
+      labelled = r.labelled;
+      left = h.left;
+      taken = h.taken;
+      whole = put-snoc (permits_of w) r.event fs (record { parent = x; place = h.place }) h.left ∙ (ap (put_on (permits_of w) r.event fs) h.whole ∙ r.whole);
+    },
+  )
 ]
 
 on_some : (k : NetPermits) (e : TermEvent) (fs : List Frame) (o : Option Tree) (z : Tree) → put_on k e fs o ≡ Some z → (y : Tree) × (o ≡ Some y) × (put_all k e fs y ≡ Some z)

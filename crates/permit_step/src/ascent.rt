@@ -132,12 +132,7 @@ fn push_copies(
 
 /// The parts side by side, where that of the place is replaced.
 #[tactic(auto, using(crate::proofs::Ascending::ascending))]
-fn put_aside(
-    alloc: Global,
-    parts: &TermList,
-    place: usize,
-    left: Term,
-) -> Result<Term, NoMemory>
+fn put_aside(alloc: Global, parts: &TermList, place: usize, left: Term) -> Result<Term, NoMemory>
     requires { place < length parts.now }
     ensures { IfOk result (λ whole. whole ≡ join_all aside (take place parts.now ++ left ∷ drop (place + 1) parts.now)) }
 {
@@ -299,7 +294,11 @@ fn fewer(begins: bool, upper: Option<u64>) -> Option<u64>
 {
     match upper {
         None => None,
-        Some(count) => Some(if begins { count.saturating_sub(1) } else { count }),
+        Some(count) => Some(if begins {
+            count.saturating_sub(1)
+        } else {
+            count
+        }),
     }
 }
 
@@ -307,7 +306,11 @@ fn fewer(begins: bool, upper: Option<u64>) -> Option<u64>
 fn down(begins: bool, lower: u64) -> u64
     ensures { result ≡ down begins lower }
 {
-    if begins { lower.saturating_sub(1) } else { lower }
+    if begins {
+        lower.saturating_sub(1)
+    } else {
+        lower
+    }
 }
 
 /// Whether a further turn may begin, where one does.
@@ -412,8 +415,7 @@ fn put_on_walk(
     requires node { node < size_of (net_of nets.now.tables net) }
     ensures { IfOk result (λ whole. whole ≡ put (permits_of nets.now.tables) (event_of taken.now.event) (Trail net (spot_of from) (goal_of to) own.now.instances) node left) }
 {
-    let Some(before) =
-        widened_walk(alloc, nets, net, from, Goal::Node(node), own, &taken.at)?
+    let Some(before) = widened_walk(alloc, nets, net, from, Goal::Node(node), own, &taken.at)?
     else {
         return Ok(None);
     };

@@ -53,7 +53,10 @@ pub(crate) fn child(
         Look::Choice(parts) => Ok(Some(parts.at(place).copy(alloc)?)),
         Look::Bound(inner, _) => Ok(Some(inner.copy(alloc)?)),
         Look::Turns {
-            body, upper, row, ..
+            body,
+            upper,
+            row,
+            ..
         } => turn_of(alloc, nets, body, upper, row.at(place)),
         Look::Trail { net, block, .. } => {
             let own = widened(alloc, block, &Block::empty(alloc))?;

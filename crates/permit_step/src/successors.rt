@@ -156,4 +156,3 @@ fn search_children(
     }
     Ok(true)
 }
-

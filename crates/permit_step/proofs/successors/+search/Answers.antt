@@ -20,8 +20,7 @@ search_children-search-requires t c =
     let there : child (permits_of c.args.nets.now.tables) c.args.term.now c.loop-place.place ≡ Some c.in-Some.inner = sym c.in_ok-inner.ensures ∙ c.in-Some.is in
     let path : c.push.new.self.items ≡ c.args.path.now.items ++ record { parent = c.args.term.now; place = c.loop-place.place } ∷ [] = c.in_ok-push.ensures.items ∙ (λ i. c.loop-place.invariant.path i ++ framed (c.in_ok-parent.ensures i) c.loop-place.place ∷ []) in
     let good = child-good c.args.nets.now.tables c.requires.tables c.args.term.now c.loop-place.place c.in-Some.inner c.requires.term there in
-    let frames = frames-more c.args.nets.now.tables c.args.path.now.items c.args.term.now c.loop-place.place c.requires.path c.requires.term good.within in
-    (
+    let frames = frames-more c.args.nets.now.tables c.args.path.now.items c.args.term.now c.loop-place.place c.requires.path c.requires.term good.within in (
       omega (arith, c.decreases, good.rank),
       (c.requires.tables, (good.ready, (subst (λ (fs : List Frame). AreReadyFrames c.args.nets.now.tables fs) (sym path) frames, (c.loop-place.invariant.below.gains.tally, c.loop-place.invariant.below.within)))),
     )
