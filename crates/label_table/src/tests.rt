@@ -73,9 +73,21 @@ fn label_of_known_words_that_is_lacking_has_no_number(rt: HostRuntime) -> Result
     let alloc = rt.alloc();
     let mut table = LabelTable::new(alloc);
     add(&mut table, label(alloc, "i", Kind::Output, "m", "j")?)?;
-    assert_eq!(rt; table.number_of(&label(alloc, "j", Kind::Output, "m", "i")?), None);
-    assert_eq!(rt; table.number_of(&label(alloc, "i", Kind::Output, "j", "m")?), None);
-    assert_eq!(rt; table.number_of(&label(alloc, "i", Kind::Output, "x", "j")?), None);
-    assert_eq!(rt; add(&mut table, label(alloc, "i", Kind::Output, "m", "j")?)?, None);
+    assert_eq!(rt;
+        table.number_of(&label(alloc, "j", Kind::Output, "m", "i")?),
+        None
+    );
+    assert_eq!(rt;
+        table.number_of(&label(alloc, "i", Kind::Output, "j", "m")?),
+        None
+    );
+    assert_eq!(rt;
+        table.number_of(&label(alloc, "i", Kind::Output, "x", "j")?),
+        None
+    );
+    assert_eq!(rt;
+        add(&mut table, label(alloc, "i", Kind::Output, "m", "j")?)?,
+        None
+    );
     Ok(())
 }

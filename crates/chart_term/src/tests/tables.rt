@@ -158,7 +158,12 @@ fn numbers_beyond_the_tables_do_not_fit(rt: HostRuntime) -> Result<(), Fail> {
     assert!(rt; !fits(alloc, loop_shut(alloc, event(alloc, 2, 0)?, 0)?)?);
     let mut row = RowList::new(alloc);
     row.push(RowPart::Turn(event(alloc, 2, 0)?))?;
-    assert!(rt; !fits(alloc, Term::loop_of(alloc, event(alloc, 1, 0)?, 1, None, row)?)?);
+    assert!(rt;
+        !fits(
+            alloc,
+            Term::loop_of(alloc, event(alloc, 1, 0)?, 1, None, row)?
+        )?
+    );
     Ok(())
 }
 
