@@ -8,4 +8,8 @@ mod faults;
 #[cfg(test)]
 mod limits;
 #[cfg(test)]
+mod printing;
+#[cfg(test)]
+mod refusals;
+#[cfg(test)]
 mod rows;

@@ -155,8 +155,16 @@ fn documents(rt: HostRuntime) -> Result<(), Fail> {
         ),
         ("", REFUSED, 4),
         ("msc A; inst i; endmsc;", "conforms, events 0\n", 0),
-        ("msc A; inst i endmsc;", REFUSED, 4),
-        ("msc A; inst ; endmsc;", REFUSED, 4),
+        (
+            "msc A; inst i endmsc;",
+            "document refused at 1:15: syntax\n",
+            4,
+        ),
+        (
+            "msc A; inst ; endmsc;",
+            "document refused at 1:13: syntax\n",
+            4,
+        ),
         ("msc A; inst i,i; endmsc;", REFUSED, 4),
         ("msc A; inst i; endmsc; msc B; inst i; endmsc;", REFUSED, 4),
         ("msc A; inst i,j; i: out a to j; endmsc;", REFUSED, 4),
@@ -176,10 +184,14 @@ fn documents(rt: HostRuntime) -> Result<(), Fail> {
             REFUSED,
             4,
         ),
-        ("msc A; inst i,to; endmsc;", REFUSED, 4),
+        (
+            "msc A; inst i,to; endmsc;",
+            "document refused at 1:15: syntax\n",
+            4,
+        ),
         (
             "msc A; inst i,stop; i: out a to stop; stop: in a from i; endmsc;",
-            REFUSED,
+            "document refused at 1:43: syntax\n",
             4,
         ),
         (
@@ -189,7 +201,7 @@ fn documents(rt: HostRuntime) -> Result<(), Fail> {
         ),
         (
             "msc A; inst i,j; i: out a to j; j: in a from i; endmsc",
-            REFUSED,
+            "document refused at 1:55: syntax\n",
             4,
         ),
         (
