@@ -8,5 +8,6 @@ pub mod ItemsBack
 pub mod PartsBack
 pub mod Putting
 pub mod Sheets
+pub mod Spelled
 pub mod Unmoved
 pub mod Written

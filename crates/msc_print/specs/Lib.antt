@@ -6,5 +6,6 @@ pub mod Layout
 pub mod Pages
 pub mod ReadsBack
 pub mod StatementWords
+pub mod Texts
 pub mod Unplaced
 pub mod Words

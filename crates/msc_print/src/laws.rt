@@ -7,7 +7,10 @@ ghost use Rattle.msc_print.specs.ExpressionWords.{expression_words};
 ghost use Rattle.msc_tree.specs.Charts.{Document};
 ghost use Rattle.msc_document.specs.DocumentGrammar.{document};
 ghost use Rattle.msc_print.specs.ChartWords.{canonical_text, document_words};
+ghost use Rattle.msc_print.specs.Layout.{laid_out};
 ghost use Rattle.msc_print.specs.ReadsBack.{ReadsAs};
+ghost use Rattle.msc_print.specs.Texts.{AreTexts, SpellsTexts};
+ghost use Rattle.msc_print.specs.Words.{Words};
 ghost use Rattle.msc_print.specs.Unplaced.{SameAside, without_places};
 
 use msc_document::documents_are_exact;
@@ -38,3 +41,8 @@ pub fn prints_stay()
     documents_read_back();
     places_are_not_printed();
 }
+
+/// Texts of tokens that are laid out are cut into tokens with these texts, where no two neighbours make a longer mark.
+pub fn layout_keeps_tokens_apart()
+    ensures { (words : Words) → AreTexts words → SpellsTexts (laid_out words) words }
+{}

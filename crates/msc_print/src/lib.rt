@@ -18,4 +18,7 @@ mod statement;
 mod tests;
 
 pub use document::print_document;
-pub use laws::{documents_read_back, expressions_read_back, places_are_not_printed, prints_stay};
+pub use laws::{
+    documents_read_back, expressions_read_back, layout_keeps_tokens_apart, places_are_not_printed,
+    prints_stay,
+};
