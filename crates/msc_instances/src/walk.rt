@@ -153,11 +153,7 @@ fn leads<'a>(
 }
 
 /// Notes the name of an instance that ends.
-fn ended<'a>(
-    notes: &mut NoteList<'a>,
-    outermost: bool,
-    name: &'a Name,
-) -> Result<(), NoMemory>
+fn ended<'a>(notes: &mut NoteList<'a>, outermost: bool, name: &'a Name) -> Result<(), NoMemory>
     ensures { OnOk result (notes.new ≡ notes.old ++ ended_notes outermost name.now) }
 {
     if outermost {
