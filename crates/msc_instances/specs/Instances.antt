@@ -1,5 +1,5 @@
 -- The instances of a basic chart, in the order in which they are first declared, and what breaks the rules on them.
-use Rattle.std.specs.Prelude.{◌≡◌, ◌⊎◌, ℕ, List, [], ◌∷◌, ◌++◌}
+use Rattle.std.specs.Prelude.{◌≡◌, ◌⊎◌, ℕ, List, [], ◌∷◌}
 use Rattle.msc_base.specs.declared.place.Place.{Place}
 use Rattle.msc_base.specs.Names.{IsOneOf}
 use Rattle.msc_base.specs.NameTables.{with_name}
@@ -35,7 +35,3 @@ NamesOther names [] p = ⊥
 NamesOther names (Declared name ∷ notes) p = NamesOther names notes p
 NamesOther names (Decomposed name place ∷ notes) p = NamesOther names notes p
 NamesOther names (Named name place scope ∷ notes) p = ((place ≡ p) × (MayName names scope name → ⊥)) ⊎ NamesOther names notes p
-
--- the rule 'undeclared instance' is broken there
-abbrev pub IsUndeclared : Chart → Place → Type 0
-IsUndeclared chart = NamesOther (instances chart) (chart_notes chart)

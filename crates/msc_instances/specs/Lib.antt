@@ -1,3 +1,4 @@
 pub mod Notes
 pub mod NoteViews
 pub mod Instances
+pub mod NameFaults

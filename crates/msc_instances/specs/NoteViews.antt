@@ -1,5 +1,5 @@
 -- The plain notes that the notes of the code stand for.
-use Rattle.std.specs.Prelude.{ℕ, List, [], ◌∷◌}
+use Rattle.std.specs.Prelude.{[], ◌∷◌}
 use Rattle.msc_instances.specs.declared.notes.Scope.{Scope}
 use Rattle.msc_instances.specs.declared.notes.Scope.TheVariants as scope
 use Rattle.msc_instances.specs.declared.notes.Note.{Note}

@@ -2,7 +2,6 @@
 -- named where only certain instances may be. The instances of a chart are those of its heads, of its columns, of its
 -- statements `i: instance`, at any depth, and those that stand left of a colon at the outermost level (Z.120, clause 4.2).
 use Rattle.std.specs.Prelude.{ℕ, Bool, true, false, List, [], ◌∷◌, ◌++◌, map, Option, None, Some}
-use Rattle.std.specs.List.{flat_map}
 use Rattle.msc_base.specs.declared.label.Kind.{Kind}
 use Rattle.msc_base.specs.declared.label.Kind.TheVariants.{Output, Input, Create}
 use Rattle.msc_base.specs.declared.place.Place.{Place}

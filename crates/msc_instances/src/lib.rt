@@ -1,8 +1,10 @@
 //! The instances of a basic chart, and the order of its items.
 #![tactic(auto)]
 
+mod naming;
 mod notes;
 mod walk;
 
+pub use naming::{NameFault, names};
 pub use notes::{Note, NoteList, Scope};
 pub use walk::chart_notes;

@@ -1,4 +1,4 @@
-use Rattle.std.proofs.Common.{◌≡◌, ◌++◌, drop, map}
+use Rattle.std.proofs.Common.{◌≡◌, ◌++◌, drop}
 use Rattle.msc_instances.specs.Notes.{decls_notes}
 use Rattle.msc_instances.proofs.walk.decls.Given as goal
 

@@ -1,0 +1,184 @@
+ghost use Rattle.std.specs.Prelude.{◌≡◌, ◌↔◌, IsTrue, IfOk, IfErr, OnOk, map, []};
+ghost use Rattle.item_order.specs.Places.{IsLeast};
+ghost use Rattle.msc_base.specs.Names.{IsOneOf};
+ghost use Rattle.msc_base.specs.NameTables.{with_name};
+ghost use Rattle.msc_instances.specs.Instances.{DecomposesAgain, MayName, NamesOther, instances, with_declared};
+ghost use Rattle.msc_instances.specs.NameFaults.{IsFaultOf, IsNameFault, KeepNames, KeepsNames, first_of};
+ghost use Rattle.msc_instances.specs.NoteViews.{note_view, scope_view};
+ghost use Rattle.msc_instances.specs.declared.naming.NameFault.TheVariants.{NoMemory as WantOfMemory};
+ghost use Rattle.msc_tree.specs.Views.{chart_view};
+
+use crate::{Note, Scope, chart_notes};
+use item_order::{comes_before, earlier_if, earlier_place};
+use msc_base::{Name, NameTable, Names, NoMemory, Place};
+use msc_tree::RawChart;
+use std::alloc::Global;
+
+/// Why the instances of a chart can't be listed.
+#[derive(Clone, Copy, Debug, PartialEq, Eq)]
+pub enum NameFault {
+    /// At that place an instance is decomposed a second time.
+    TwiceNamed(Place),
+    /// At that place a name stands that is none of the chart's instances, or of those that an operand covers.
+    Undeclared(Place),
+    /// Memory was wanting.
+    NoMemory,
+}
+
+impl From<NoMemory> for NameFault {
+    ghost from_gives = { λ _ fault. fault ≡ WantOfMemory };
+
+    fn from(_: NoMemory) -> Self {
+        NameFault::NoMemory
+    }
+}
+
+/// The instances of a chart, as a list and as a table.
+#[derive(Drop)]
+struct Instances {
+    names: Names,
+    table: NameTable,
+}
+
+/// Whether a name is in the table.
+fn has_name(table: &NameTable, name: &[u8]) -> bool
+    ensures { IsTrue result ↔ IsOneOf table.now name.now }
+{
+    table.number_of(name).is_some()
+}
+
+/// Whether a name is one of the list.
+fn is_listed(names: &[Name], name: &Name) -> bool
+    ensures { IsTrue result ↔ IsOneOf names.now name.now }
+{
+    for other in names {
+        if name.same(other) {
+            return true;
+        }
+    }
+    false
+}
+
+/// Whether a name may stand where that scope is.
+fn may_name(table: &NameTable, scope: &Scope<'_>, name: &Name) -> bool
+    ensures { IsTrue result ↔ MayName table.now (scope_view scope.now) name.now }
+{
+    if !has_name(table, name.bytes()) {
+        return false;
+    }
+    match scope {
+        Scope::Whole => true,
+        Scope::Column(own) => name.same(own),
+        Scope::Listed(names) => is_listed(names.as_slice(), name),
+    }
+}
+
+#[tactic(auto, using(crate::proofs::Tables::with_old, crate::proofs::Tables::with_new))]
+/// Adds an instance where it is new.
+fn add_instance(
+    alloc: Global,
+    names: &mut Names,
+    table: &mut NameTable,
+    name: &Name,
+) -> Result<(), NoMemory>
+    requires { names.old ≡ table.old }
+    ensures table { OnOk result (table.new ≡ with_name table.old name.now) }
+    ensures names { OnOk result (names.new ≡ table.new) }
+{
+    if has_name(table, name.bytes()) {
+        return Ok(());
+    }
+    names.push(name.copy(alloc)?)?;
+    table.add(alloc, name.bytes())
+}
+
+/// The instances that notes declare.
+fn declared_in(alloc: Global, notes: &[Note<'_>]) -> Result<Instances, NoMemory>
+    ensures table { IfOk result (λ made. made.table ≡ with_declared [] (map note_view notes.now)) }
+    ensures names { IfOk result (λ made. made.names ≡ made.table) }
+{
+    let mut names = Names::new(alloc);
+    let mut table = NameTable::new(alloc);
+    for note in notes {
+        if let Note::Declared(name) = note {
+            add_instance(alloc, &mut names, &mut table, name)?;
+        }
+    }
+    Ok(Instances { names, table })
+}
+
+/// The earliest place at which an instance is decomposed a second time.
+fn decomposed_again(alloc: Global, notes: &[Note<'_>]) -> Result<Option<Place>, NoMemory>
+    ensures { IfOk result (IsLeast (DecomposesAgain [] (map note_view notes.now))) }
+{
+    let mut best = None;
+    let mut before = NameTable::new(alloc);
+    for note in notes {
+        let Note::Decomposed(name, place) = note else {
+            continue;
+        };
+        let again = has_name(&before, name.bytes());
+        best = earlier_if(best, *place, again);
+        before.add(alloc, name.bytes())?;
+    }
+    Ok(best)
+}
+
+/// The earliest place at which a name stands that may not.
+fn named_other(table: &NameTable, notes: &[Note<'_>]) -> Option<Place>
+    ensures { IsLeast (NamesOther table.now (map note_view notes.now)) result }
+{
+    let mut best = None;
+    for note in notes {
+        if let Note::Named(name, place, scope) = note {
+            if !may_name(table, scope, name) {
+                best = earlier_place(best, *place);
+            }
+        }
+    }
+    best
+}
+
+/// The first of the two faults: the earlier, and at one place that of a second decomposition.
+fn first_fault(twice: Option<Place>, undeclared: Option<Place>) -> Option<NameFault>
+    ensures { result ≡ first_of twice undeclared }
+{
+    match (twice, undeclared) {
+        (None, None) => None,
+        (Some(p), None) => Some(NameFault::TwiceNamed(p)),
+        (None, Some(q)) => Some(NameFault::Undeclared(q)),
+        (Some(p), Some(q)) => {
+            if comes_before(q, p) {
+                Some(NameFault::Undeclared(q))
+            } else {
+                Some(NameFault::TwiceNamed(p))
+            }
+        }
+    }
+}
+
+/// The instances that notes declare, or the first fault of the names in them.
+fn settled(alloc: Global, notes: &[Note<'_>]) -> Result<Names, NameFault>
+    ensures ok { IfOk result (λ names. names ≡ with_declared [] (map note_view notes.now)) }
+    ensures kept { IfOk result (λ names. KeepNames (map note_view notes.now)) }
+    ensures fault { IfErr result (IsFaultOf (map note_view notes.now)) }
+{
+    let made = declared_in(alloc, notes)?;
+    let twice = decomposed_again(alloc, notes)?;
+    let other = named_other(&made.table, notes);
+    match first_fault(twice, other) {
+        None => Ok(made.names),
+        Some(fault) => Err(fault),
+    }
+}
+
+/// The instances of a chart in the order in which they are first declared, or the first fault of their names: the earlier one, and
+/// at one place that of a second decomposition.
+pub fn names(alloc: Global, chart: &RawChart) -> Result<Names, NameFault>
+    ensures ok { IfOk result (λ names. names ≡ instances (chart_view chart.now)) }
+    ensures kept { IfOk result (λ names. KeepsNames (chart_view chart.now)) }
+    ensures fault { IfErr result (IsNameFault (chart_view chart.now)) }
+{
+    let notes = chart_notes(alloc, chart)?;
+    settled(alloc, notes.as_slice())
+}
