@@ -38,9 +38,9 @@ by_kind Output n p i j rest h = elim (cases_eq n p) [
       let b : nat_eq n p ≡ false = grind (arith, nat_tests) in
       let g : is_pair ((Own n, Own p) ∷ rest) (Own i) (Own j) ≡ true = rw b at h in
       elim (or_cases ((i == n) && (j == p)) (is_pair rest (Own i) (Own j)) g) [
-      | inl e ↦ let t = (same_numbers i n j p).0 e in inl (refl, t.0, t.1, ne)
-      | inr r ↦ inr r
-    ]
+        | inl e ↦ let t = (same_numbers i n j p).0 e in inl (refl, t.0, t.1, ne)
+        | inr r ↦ inr r
+      ]
 ]
 by_kind _ n p i j rest h = inr h
 
