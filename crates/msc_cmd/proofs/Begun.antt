@@ -3,9 +3,9 @@ use Rattle.std.proofs.Common.{◌≡◌, ◌<◌, ℕ, List, [], ◌∷◌, ◌+
 use Rattle.msc_base.specs.declared.label.Label.{Label}
 use Rattle.msc_base.specs.Unfoldings.{Unfolding}
 use Rattle.msc_base.specs.Runs.{IsRun}
-use Rattle.msc_grammar.specs.declared.chart.PlainChart.{PlainChart}
-use Rattle.msc_grammar.specs.Meanings.{unfolding_of, Conforms, Begins}
-use Rattle.msc_grammar.specs.Plain.{IsPlain}
+use Rattle.msc_expand.specs.declared.plain_chart.PlainChart.{PlainChart}
+use Rattle.msc_expand.specs.Meanings.{unfolding_of, Conforms, Begins}
+use Rattle.msc_expand.specs.Plain.{IsPlain}
 use Rattle.msc_cmd.proofs.Orders.{IsAt, IsPairOf, IsFront, Shows}
 use Rattle.msc_cmd.proofs.Places.{same_lists, below_length}
 use Rattle.msc_cmd.proofs.OtherNumbers.{others, others_inside}

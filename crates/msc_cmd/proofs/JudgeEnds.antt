@@ -4,17 +4,17 @@ use Rattle.std.proofs.lemmas.Bool.{cases_eq, cases_lt}
 use Rattle.std.proofs.lemmas.List.{map-append, take_all, length-take-le}
 use Rattle.std.proofs.lemmas.Option.{slice_get_within, slice_get-get_or}
 use Rattle.msc_base.specs.declared.label.Label.{Label}
-use Rattle.msc_grammar.specs.declared.chart.PlainChart.{PlainChart}
-use Rattle.msc_grammar.specs.Charts.{IsListed}
-use Rattle.msc_grammar.specs.Plain.{IsPlain}
-use Rattle.msc_grammar.specs.Meanings.{Conforms, Begins}
+use Rattle.msc_expand.specs.declared.plain_chart.PlainChart.{PlainChart}
+use Rattle.msc_base.specs.Names.{IsOneOf}
+use Rattle.msc_expand.specs.Plain.{IsPlain}
+use Rattle.msc_expand.specs.Meanings.{Conforms, Begins}
 use Rattle.event_log.specs.declared.event.LineEvent.{LineEvent}
 use Rattle.msc_cmd.specs.Judging.{AreNext, IsDue}
 use Rattle.msc_cmd.specs.Verdicts.{labels, FailsAt, StopsEarly}
 use Rattle.msc_cmd.proofs.Orders.{IsAt, IsAbove, IsPairOf, IsFront}
 use Rattle.msc_cmd.proofs.Begun.{HasFront, HasAll, front_begins, front_conforms, begins_front, conforms_front, one_front, front_grows}
 use Rattle.msc_cmd.proofs.JudgeLists.{get_within, all_at, all_from, at_left, at_last, at_before, last_some, take_get, split_at, position_at, position_of}
-use Rattle.msc_cmd.proofs.JudgePartners.{output_of}
+use Rattle.msc_cmd.proofs.JudgePartners.{given_by}
 use Rattle.msc_cmd.proofs.JudgeSteps.{state_step}
 use Rattle.msc_cmd.proofs.JudgeStates.{IsHead, AreHeads, AreMarks, IsState}
 
@@ -59,7 +59,7 @@ is_head chart ps label q h f is head = elim (cases_lt q h) [
 was_due : (chart : PlainChart) (heads : List ℕ) (happened : List Bool) (ps : List ℕ) (label : Label) (q : ℕ) → IsPlain chart → AreHeads chart.instances chart.events ps heads → AreMarks chart.events ps happened
     → IsFront (length chart.events) (IsPairOf chart) (ps ++ q ∷ []) → slice_get chart.events q ≡ Some label → (column : ℕ) × IsDue chart chart.instances heads happened label column q
 was_due chart heads happened ps label q plain h m f is =
-    let c = position_of chart.instances label.at (all_at (IsListed chart.instances) chart.events q label plain.rules.listed is).at in
+    let c = position_of chart.instances label.at (all_at (λ (l : Label). IsOneOf chart.instances l.at) chart.events q label plain.listed is) in
     let named : slice_get chart.instances c.0 ≡ Some label.at = position_at chart.instances label.at c.0 c.1 in
     let wide : c.0 < length heads = omega (arith, slice_get_within chart.instances c.0 label.at named, h.each) in
     let head = get_within heads c.0 wide in
@@ -70,9 +70,9 @@ was_due chart heads happened ps label q plain h m f is =
         head_is = subst (λ (x : ℕ). slice_get heads c.0 ≡ Some x) same head.1;
         may = record {
           event_is = is;
-          ready = λ takes p there.
-              let o = output_of chart.events chart.partners p q label plain.partners is takes there in
-              let t = in_front chart ps p q f (inr (record { output = o.output; output_at = o.output_at; puts = o.puts; partner = o.back })) in
+          ready = λ p there lt.
+              let o = given_by chart.events chart.partners p q plain.partners there lt in
+              let t = in_front chart ps p q f (inr (record { output = o.output; output_at = o.output_at; puts = o.puts; partner = o.there; other = λ e. omega (arith, e, lt) })) in
               m.marked t.0 p t.1;
         };
       },

@@ -1,7 +1,7 @@
 -- What the judge's places and marks say of a front of the chart's events.
 use Rattle.std.proofs.Common.{◌≡◌, ◌<◌, ◌≤◌, ℕ, Bool, true, List, length, Some, slice_get}
 use Rattle.msc_base.specs.declared.label.Label.{Label}
-use Rattle.msc_grammar.specs.declared.chart.PlainChart.{PlainChart}
+use Rattle.msc_expand.specs.declared.plain_chart.PlainChart.{PlainChart}
 use Rattle.msc_cmd.proofs.Orders.{IsAt}
 use Rattle.msc_cmd.proofs.Begun.{HasFront}
 

@@ -4,13 +4,12 @@ use Rattle.std.proofs.lemmas.Bool.{cases_eq, cases_lt}
 use Rattle.std.proofs.lemmas.List.{length-set, length-replicate, map-append}
 use Rattle.std.proofs.lemmas.Option.{slice_get_within, slice_get-get_or}
 use Rattle.msc_base.specs.declared.label.Label.{Label}
-use Rattle.msc_base.specs.declared.label.Kind.TheVariants.{Output, Input}
-use Rattle.msc_grammar.specs.declared.chart.PlainChart.{PlainChart}
-use Rattle.msc_grammar.specs.Plain.{IsPlain}
+use Rattle.msc_expand.specs.declared.plain_chart.PlainChart.{PlainChart}
+use Rattle.msc_expand.specs.Plain.{IsPlain}
 use Rattle.msc_cmd.specs.Judging.{IsFirst, AreFirst, AreNext, MayHappen, IsDue}
 use Rattle.msc_cmd.proofs.Orders.{IsAt, IsMessage, IsPairOf, IsFront}
 use Rattle.msc_cmd.proofs.JudgeLists.{set_here, set_other, replicate_at, at_left, at_last, at_either, position_at, different_at}
-use Rattle.msc_cmd.proofs.JudgePartners.{partner_of, partner_back}
+use Rattle.msc_cmd.proofs.JudgePartners.{taken_by}
 use Rattle.msc_cmd.proofs.JudgeStates.{IsHead, AreHeads, AreMarks, IsState}
 
 -- nothing has happened
@@ -120,7 +119,7 @@ heads_step chart ps heads next happened label column place r plain h g due isr =
       | inr other ↦
           let old : slice_get heads c ≡ Some q = sym (set_other heads column c r other) ∙ isq in
           head_stays chart.events ps name q place label (h.are c q name isname old) due.may.event_is
-          (λ e. other (different_at chart.instances name column c plain.rules.different (subst (λ (n : List ℕ). slice_get chart.instances column ≡ Some n) e named) isname))
+          (λ e. other (different_at chart.instances name column c plain.different (subst (λ (n : List ℕ). slice_get chart.instances column ≡ Some n) e named) isname))
     ]
 
 marks_step : (events : List Label) (ps : List ℕ) (happened : List Bool) (place : ℕ) → AreMarks events ps happened → place < length events → AreMarks events (ps ++ place ∷ []) (slice_set happened place true)
@@ -141,19 +140,6 @@ marks_step events ps happened place m lt = record { each = length-set happened p
       | inr ne ↦ let t = m.taken p (sym (set_other happened place p true ne) ∙ is) in (t.0, at_left ps place p t.0 t.1)
     ]
 
--- an output's partner is an input
-is_input_of : (chart : PlainChart) (p q : ℕ) (label : Label) → IsPlain chart → IsMessage chart p q → slice_get chart.events q ≡ Some label → label.kind ≡ Input
-is_input_of chart p q label plain message is = elim (plain.partners.paired p q message.partner) [
-  | inl a ↦
-      let both : Some label ≡ Some a.0.input = sym is ∙ a.0.input_at in
-      let one : label ≡ a.0.input = cc in
-      ap (λ (x : Label). x.kind) one ∙ a.0.takes
-  | inr a ↦
-      let both : Some message.output ≡ Some a.0.input = sym message.output_at ∙ a.0.input_at in
-      let one : message.output ≡ a.0.input = cc in
-      let kinds : Output ≡ Input = sym message.puts ∙ ap (λ (x : Label). x.kind) one ∙ a.0.takes in absurd cc
-]
-
 -- what is to come before a due event has happened
 comes_before : (chart : PlainChart) (ps : List ℕ) (happened : List Bool) (label : Label) (place : ℕ) → IsPlain chart → IsHead chart.events ps label.at place → AreMarks chart.events ps happened
     → MayHappen chart happened label place → (p : ℕ) → IsPairOf chart p place → (i : ℕ) × IsAt ps i p
@@ -162,10 +148,8 @@ comes_before chart ps happened label place plain h m may p (inl above) =
     let one : above.lower ≡ label = cc in
     h.taken p above.upper above.before above.upper_at (above.same ∙ ap (λ (x : Label). x.at) one)
 comes_before chart ps happened label place plain h m may p (inr message) =
-    let q = partner_of chart.events chart.partners place plain.partners (slice_get_within chart.events place label may.event_is) in
-    let back : q.0 ≡ p = partner_back chart.events chart.partners p place q.0 plain.partners message.partner q.1 in
-    let there : slice_get chart.partners place ≡ Some p = subst (λ (x : ℕ). slice_get chart.partners place ≡ Some x) back q.1 in
-    m.taken p (may.ready (is_input_of chart p place label plain message may.event_is) p there)
+    let t = taken_by chart.events chart.partners p place message.output plain.partners message.output_at message.puts message.partner message.other in
+    m.taken p (may.ready p t.back t.before)
 
 pub state_step : (chart : PlainChart) (heads next : List ℕ) (happened : List Bool) (labels : List Label) (label : Label) (column place r : ℕ) → IsPlain chart → IsState chart heads happened labels
     → AreNext chart.events 0 next → IsDue chart chart.instances heads happened label column place → slice_get next place ≡ Some r
@@ -186,18 +170,29 @@ state_step chart heads next happened labels label column place r plain s g due i
       marks_are = marks_step chart.events s.ps happened place s.marks_are lt;
     }
 
--- an input may happen exactly where its partner's mark is true
+-- an event whose partner stands behind it, or is itself, waits for nothing
+pub may_happen_free : (chart : PlainChart) (happened : List Bool) (label event : Label) (place q : ℕ) → slice_get chart.events place ≡ Some event → event ≡ label → slice_get chart.partners place ≡ Some q → place ≤ q
+    → MayHappen chart happened label place
+may_happen_free chart happened label event place q is same partner le = record {
+  event_is = is ∙ ap (λ (l : Label). Some l) same;
+  ready = λ r there lt.
+      let both : Some q ≡ Some r = sym partner ∙ there in
+      let one : q ≡ r = cc in
+      absurd (omega (arith, one, le, lt));
+}
+
+-- another may happen exactly where its partner's mark is true
 pub may_happen_if : (chart : PlainChart) (happened : List Bool) (label event : Label) (place q : ℕ) → slice_get chart.events place ≡ Some event → event ≡ label → slice_get chart.partners place ≡ Some q → q < length happened
     → slice_index_or happened q false ≡ true → MayHappen chart happened label place
 may_happen_if chart happened label event place q is same partner lt marked = record {
   event_is = is ∙ ap (λ (l : Label). Some l) same;
-  ready = λ takes r there.
+  ready = λ r there less.
       let both : Some q ≡ Some r = sym partner ∙ there in
       let one : q ≡ r = cc in
       subst (λ (x : ℕ). slice_get happened x ≡ Some true) one (slice_get-get_or happened q false lt ∙ ap (λ (b : Bool). Some b) marked);
 }
 
-pub has_happened_if : (chart : PlainChart) (happened : List Bool) (label : Label) (place q : ℕ) → slice_get chart.partners place ≡ Some q → q < length happened → label.kind ≡ Input → MayHappen chart happened label place
+pub has_happened_if : (chart : PlainChart) (happened : List Bool) (label : Label) (place q : ℕ) → slice_get chart.partners place ≡ Some q → q < length happened → q < place → MayHappen chart happened label place
     → slice_index_or happened q false ≡ true
-has_happened_if chart happened label place q partner lt takes may =
-    let both : Some (slice_index_or happened q false) ≡ Some true = sym (slice_get-get_or happened q false lt) ∙ may.ready takes q partner in cc
+has_happened_if chart happened label place q partner lt less may =
+    let both : Some (slice_index_or happened q false) ≡ Some true = sym (slice_get-get_or happened q false lt) ∙ may.ready q partner less in cc

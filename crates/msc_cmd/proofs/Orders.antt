@@ -2,7 +2,7 @@
 use Rattle.std.proofs.Common.{◌≡◌, ◌⊎◌, ◌<◌, ℕ, List, map, Some, slice_get}
 use Rattle.msc_base.specs.declared.label.Label.{Label}
 use Rattle.msc_base.specs.declared.label.Kind.TheVariants.{Output}
-use Rattle.msc_grammar.specs.declared.chart.PlainChart.{PlainChart}
+use Rattle.msc_expand.specs.declared.plain_chart.PlainChart.{PlainChart}
 
 -- the list has p at i
 abbrev pub IsAt : List ℕ → ℕ → ℕ → Type 0
@@ -23,6 +23,7 @@ pub record IsMessage (chart : PlainChart) (p q : ℕ) : Type 0 where
   pub output_at : slice_get chart.events p ≡ Some output
   pub puts : output.kind ≡ Output
   pub partner : slice_get chart.partners p ≡ Some q
+  pub other : p ≡ q → ⊥
 
 -- the pairs of the chart's pattern, by the numbers of events
 abbrev pub IsPairOf : PlainChart → ℕ → ℕ → Type 0

@@ -4,7 +4,7 @@ use Rattle.std.specs.Io.KnownBytes.{Appends}
 use Rattle.msc_base.specs.Shelves.{Files}
 use Rattle.msc_base.specs.declared.place.Place.{Place}
 use Rattle.msc_grammar.specs.declared.rule.Rule.{Rule}
-use Rattle.msc_grammar.specs.declared.chart.PlainChart.{PlainChart}
+use Rattle.msc_expand.specs.declared.plain_chart.PlainChart.{PlainChart}
 use Rattle.msc_cmd.specs.declared.answer.Reply.{Reply}
 use Rattle.event_log.specs.declared.event.LogFault.{LogFault}
 use Rattle.event_log.specs.declared.event.LogForm.{LogForm}
@@ -13,7 +13,7 @@ use Rattle.msc_cmd.specs.Requests.{request_of, IsNoRequest}
 use Rattle.judge_report.specs.declared.fault.Fault.TheVariants.{Document, Log, LogRead, NoChart, Usage}
 use Rattle.judge_report.specs.Texts.{fault_line}
 use Rattle.judge_report.specs.Writing.{AppendsPart}
-use Rattle.msc_cmd.specs.Documents.{IsDocument, HasDocumentFault, IsOnlyDocument, IsOnlyFault}
+use Rattle.msc_cmd.specs.Documents.{IsDocument, HasDocumentFault, IsOnlyDocument, IsOnlyFault, chart_named}
 use Rattle.msc_cmd.specs.Intakes.{IsHeld}
 use Rattle.msc_cmd.specs.LogIntakes.{IsTheLog, IsToldLog}
 use Rattle.msc_cmd.specs.declared.log_intake.Log.{Log as TheLog}
@@ -31,32 +31,40 @@ refused_one form json files document name log bytes broken place status text hel
     by other others (refused bs b p h n os ot) =
         let e = f.only b p (subst (λ us. HasDocumentFault us b p) (one_entry files document bytes bs held h) n) in
         (os ∙ sym s, ot ∙ ap (λ (u : Rule). fault_line json (Document u p)) e.0 ∙ ap (λ (u : Place). fault_line json (Document broken u)) e.1 ∙ sym t)
-    by other others (no_chart bs chart h d n os ot) = absurd (f.none chart (subst (λ us. IsDocument us chart) (one_entry files document bytes bs held h) d))
-    by other others (of_log bs chart h d n o) = absurd (f.none chart (subst (λ us. IsDocument us chart) (one_entry files document bytes bs held h) d))
+    by other others (no_chart bs charts h d n os ot) = absurd (f.none charts (subst (λ us. IsDocument us charts) (one_entry files document bytes bs held h) d))
+    by other others (of_log bs charts chart h d n o) = absurd (f.none charts (subst (λ us. IsDocument us charts) (one_entry files document bytes bs held h) d))
 
--- the chart of a document that is held
-held_chart : (files : Files) (document bytes bs : List ℕ) (chart other : PlainChart) → files document ≡ Some bytes → IsOnlyDocument bytes chart → files document ≡ Some bs → IsDocument bs other → other ≡ chart
-held_chart files document bytes bs chart other held d h o = d.only other (subst (λ us. IsDocument us other) (one_entry files document bytes bs held h) o)
+-- the charts of a document that is held
+held_charts : (files : Files) (document bytes bs : List ℕ) (charts others : List PlainChart) → files document ≡ Some bytes → IsOnlyDocument bytes charts → files document ≡ Some bs → IsDocument bs others → others ≡ charts
+held_charts files document bytes bs charts others held d h o = d.only others (subst (λ us. IsDocument us others) (one_entry files document bytes bs held h) o)
 
 -- the one outcome where the document lacks the chart
-no_chart_one : (form : LogForm) (json : Bool) (files : Files) (document name log bytes : List ℕ) (chart : PlainChart) (status : ℕ) (text : List ℕ) → files document ≡ Some bytes → IsOnlyDocument bytes chart → (chart.name ≡ name → ⊥) → status ≡ 4 → text ≡ fault_line json NoChart
+no_chart_one : (form : LogForm) (json : Bool) (files : Files) (document name log bytes : List ℕ) (charts : List PlainChart) (status : ℕ) (text : List ℕ) → files document ≡ Some bytes → IsOnlyDocument bytes charts → chart_named name charts ≡ None → status ≡ 4 → text ≡ fault_line json NoChart
     → IsTheOne (FilesOutcome form json files document name log) status text
-no_chart_one form json files document name log bytes chart status text held d other_name s t = record { is = no_chart bytes chart held d.is other_name s t; only = λ other others o. by other others o }
+no_chart_one form json files document name log bytes charts status text held d lacks s t = record { is = no_chart bytes charts held d.is lacks s t; only = λ other others o. by other others o }
   where
     by : (other : ℕ) (others : List ℕ) → FilesOutcome form json files document name log other others → (other ≡ status) × (others ≡ text)
     by other others (refused bs b p h n os ot) = absurd (d.faultless b p (subst (λ us. HasDocumentFault us b p) (one_entry files document bytes bs held h) n))
-    by other others (no_chart bs c h e n os ot) = (os ∙ sym s, ot ∙ sym t)
-    by other others (of_log bs c h e n o) = absurd (other_name (ap (λ (u : PlainChart). u.name) (sym (held_chart files document bytes bs chart c held d h e)) ∙ n))
+    by other others (no_chart bs cs h e n os ot) = (os ∙ sym s, ot ∙ sym t)
+    by other others (of_log bs cs c h e n o) =
+        let there : chart_named name charts ≡ Some c = ap (λ (u : List PlainChart). chart_named name u) (sym (held_charts files document bytes bs charts cs held d h e)) ∙ n in
+        let bad : None ≡ Some c = sym lacks ∙ there in cc
 
 -- the one outcome where the log is judged
-of_log_one : (form : LogForm) (json : Bool) (files : Files) (document name log bytes : List ℕ) (chart : PlainChart) (status : ℕ) (text : List ℕ) → files document ≡ Some bytes → IsOnlyDocument bytes chart → chart.name ≡ name → IsTheOne (EntryOutcome form json files chart log) status text
-    → IsTheOne (FilesOutcome form json files document name log) status text
-of_log_one form json files document name log bytes chart status text held d same one = record { is = of_log bytes chart held d.is same one.is; only = λ other others o. by other others o }
+of_log_one : (form : LogForm) (json : Bool) (files : Files) (document name log bytes : List ℕ) (charts : List PlainChart) (chart : PlainChart) (status : ℕ) (text : List ℕ) → files document ≡ Some bytes → IsOnlyDocument bytes charts → chart_named name charts ≡ Some chart
+    → IsTheOne (EntryOutcome form json files chart log) status text → IsTheOne (FilesOutcome form json files document name log) status text
+of_log_one form json files document name log bytes charts chart status text held d named one = record { is = of_log bytes charts chart held d.is named one.is; only = λ other others o. by other others o }
   where
     by : (other : ℕ) (others : List ℕ) → FilesOutcome form json files document name log other others → (other ≡ status) × (others ≡ text)
     by other others (refused bs b p h n os ot) = absurd (d.faultless b p (subst (λ us. HasDocumentFault us b p) (one_entry files document bytes bs held h) n))
-    by other others (no_chart bs c h e n os ot) = absurd (n (ap (λ (u : PlainChart). u.name) (held_chart files document bytes bs chart c held d h e) ∙ same))
-    by other others (of_log bs c h e n o) = one.only other others (subst (λ us. EntryOutcome form json files us log other others) (held_chart files document bytes bs chart c held d h e) o)
+    by other others (no_chart bs cs h e n os ot) =
+        let there : chart_named name charts ≡ None = ap (λ (u : List PlainChart). chart_named name u) (sym (held_charts files document bytes bs charts cs held d h e)) ∙ n in
+        let bad : None ≡ Some chart = sym there ∙ named in cc
+    by other others (of_log bs cs c h e n o) =
+        let there : chart_named name charts ≡ Some c = ap (λ (u : List PlainChart). chart_named name u) (sym (held_charts files document bytes bs charts cs held d h e)) ∙ n in
+        let both : Some c ≡ Some chart = sym there ∙ named in
+        let same : c ≡ chart = cc in
+        one.only other others (subst (λ us. EntryOutcome form json files us log other others) same o)
 
 asked_one : (words : List (List ℕ)) (files : Files) (request : Request) (status : ℕ) (text : List ℕ) → request_of words ≡ Some request → IsTheOne (RequestOutcome request files) status text → IsTheOne (IsOutcome words files) status text
 asked_one words files request status text asked one = record { is = of_request request asked one.is; only = λ other others o. by other others o }
@@ -91,32 +99,32 @@ refused_told form json None d n l bytes broken place (Err e) h o s t = tt
 refused_told form json (Some f) d n l bytes broken place (Ok x) h o s t = λ _. refused_one form json f d n l bytes broken place x.status x.text h o s t
 refused_told form json (Some f) d n l bytes broken place (Err e) h o s t = tt
 
-pub no_chart_told : {E : Type 0} (form : LogForm) (json : Bool) (files : Option Files) (d n l bytes : List ℕ) (chart : PlainChart) (r : Result Reply E) → IsHeld files d bytes → IsOnlyDocument bytes chart → (chart.name ≡ n → ⊥) → IfOk r (λ x. x.status ≡ 4)
+pub no_chart_told : {E : Type 0} (form : LogForm) (json : Bool) (files : Option Files) (d n l bytes : List ℕ) (charts : List PlainChart) (r : Result Reply E) → IsHeld files d bytes → IsOnlyDocument bytes charts → chart_named n charts ≡ None → IfOk r (λ x. x.status ≡ 4)
     → IfOk r (λ x. x.text ≡ fault_line json NoChart) → IfOk r (λ x. x.status < 7 → IfTold files (λ f. IsTheOne (FilesOutcome form json f d n l) x.status x.text))
-no_chart_told form json None d n l bytes chart (Ok x) h doc other s t = λ _. tt
-no_chart_told form json None d n l bytes chart (Err e) h doc other s t = tt
-no_chart_told form json (Some f) d n l bytes chart (Ok x) h doc other s t = λ _. no_chart_one form json f d n l bytes chart x.status x.text h doc other s t
-no_chart_told form json (Some f) d n l bytes chart (Err e) h doc other s t = tt
+no_chart_told form json None d n l bytes charts (Ok x) h doc lacks s t = λ _. tt
+no_chart_told form json None d n l bytes charts (Err e) h doc lacks s t = tt
+no_chart_told form json (Some f) d n l bytes charts (Ok x) h doc lacks s t = λ _. no_chart_one form json f d n l bytes charts x.status x.text h doc lacks s t
+no_chart_told form json (Some f) d n l bytes charts (Err e) h doc lacks s t = tt
 
-pub judged_told : {E : Type 0} (form : LogForm) (json : Bool) (files : Option Files) (d n l bytes : List ℕ) (chart : PlainChart) (r : Result Reply E) → IsHeld files d bytes → IsOnlyDocument bytes chart → chart.name ≡ n
+pub judged_told : {E : Type 0} (form : LogForm) (json : Bool) (files : Option Files) (d n l bytes : List ℕ) (charts : List PlainChart) (chart : PlainChart) (r : Result Reply E) → IsHeld files d bytes → IsOnlyDocument bytes charts → chart_named n charts ≡ Some chart
     → IfOk r (λ x. x.status < 7 → IfTold files (λ f. IsTheOne (EntryOutcome form json f chart l) x.status x.text)) → IfOk r (λ x. x.status < 7 → IfTold files (λ f. IsTheOne (FilesOutcome form json f d n l) x.status x.text))
-judged_told form json None d n l bytes chart (Ok x) h doc same k = λ _. tt
-judged_told form json None d n l bytes chart (Err e) h doc same k = tt
-judged_told form json (Some f) d n l bytes chart (Ok x) h doc same k = λ lt. of_log_one form json f d n l bytes chart x.status x.text h doc same (k lt)
-judged_told form json (Some f) d n l bytes chart (Err e) h doc same k = tt
+judged_told form json None d n l bytes charts chart (Ok x) h doc same k = λ _. tt
+judged_told form json None d n l bytes charts chart (Err e) h doc same k = tt
+judged_told form json (Some f) d n l bytes charts chart (Ok x) h doc same k = λ lt. of_log_one form json f d n l bytes charts chart x.status x.text h doc same (k lt)
+judged_told form json (Some f) d n l bytes charts chart (Err e) h doc same k = tt
 
-has_chart : (files : Option Files) (d n bytes : List ℕ) (chart : PlainChart) → IsHeld files d bytes → IsDocument bytes chart → chart.name ≡ n → IfTold files (HasChart d n)
-has_chart None d n bytes chart h doc same = tt
-has_chart (Some f) d n bytes chart h doc same = (bytes, chart, h, doc, same)
+has_chart : (files : Option Files) (d n bytes : List ℕ) (charts : List PlainChart) (chart : PlainChart) → IsHeld files d bytes → IsDocument bytes charts → chart_named n charts ≡ Some chart → IfTold files (HasChart d n)
+has_chart None d n bytes charts chart h doc same = tt
+has_chart (Some f) d n bytes charts chart h doc same = (bytes, charts, chart, h, doc, same)
 
 later_failed : (before mid now : ℕ) (broken : Bool) (last : Option (List ℕ)) (name : List ℕ) → before ≤ mid → FailedAt mid now broken last name → FailedAt before now broken last name
 later_failed before mid now broken last name le f = record { rose = omega (arith, f.rose); is_broken = f.is_broken; is_last = f.is_last }
 
-pub log_failed : {E : Type 0} (json : Bool) (files : Option Files) (d n l bytes : List ℕ) (chart : PlainChart) (before mid now : ℕ) (broken : Bool) (last : Option (List ℕ)) (r : Result Reply E)
-    → IsHeld files d bytes → IsDocument bytes chart → chart.name ≡ n → before ≤ mid → IfOk r (λ x. x.status ≡ 7 → FailedAt mid now broken last l) → IfOk r (λ x. x.status ≡ 7 → x.text ≡ fault_line json LogRead)
+pub log_failed : {E : Type 0} (json : Bool) (files : Option Files) (d n l bytes : List ℕ) (charts : List PlainChart) (chart : PlainChart) (before mid now : ℕ) (broken : Bool) (last : Option (List ℕ)) (r : Result Reply E)
+    → IsHeld files d bytes → IsDocument bytes charts → chart_named n charts ≡ Some chart → before ≤ mid → IfOk r (λ x. x.status ≡ 7 → FailedAt mid now broken last l) → IfOk r (λ x. x.status ≡ 7 → x.text ≡ fault_line json LogRead)
     → IfOk r (λ x. x.status ≡ 7 → CannotRead json files before now broken last d n l x.text)
-log_failed json files d n l bytes chart before mid now broken last (Ok x) h doc same le f t = λ e. inr (later_failed before mid now broken last l le (f e), t e, has_chart files d n bytes chart h doc same)
-log_failed json files d n l bytes chart before mid now broken last (Err e) h doc same le f t = tt
+log_failed json files d n l bytes charts chart before mid now broken last (Ok x) h doc same le f t = λ e. inr (later_failed before mid now broken last l le (f e), t e, has_chart files d n bytes charts chart h doc same)
+log_failed json files d n l bytes charts chart before mid now broken last (Err e) h doc same le f t = tt
 
 pub asked_told : {E : Type 0} (files : Option Files) (words : List (List ℕ)) (request : Request) (r : Result Reply E) → request_of words ≡ Some request → IfOk r (λ x. x.status < 7 → IfTold files (λ f. IsTheOne (RequestOutcome request f) x.status x.text))
     → IfOk r (λ x. x.status < 7 → IfTold files (λ f. IsTheOne (IsOutcome words f) x.status x.text))

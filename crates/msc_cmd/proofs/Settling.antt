@@ -3,68 +3,58 @@ use Rattle.std.proofs.Common.{◌≡◌, ℕ, List, sym, refl, subst, Result, Ok
 use Rattle.msc_base.specs.declared.memory.NoMemory.{NoMemory}
 use Rattle.msc_base.specs.declared.place.Place.{Place}
 use Rattle.msc_base.specs.Shelves.{Files}
-use Rattle.msc_tokens.specs.Places.{first_place}
 use Rattle.msc_tokens.specs.declared.token.Token.{Token}
 use Rattle.msc_tree.specs.Charts.{Document as Tree}
-use Rattle.msc_grammar.specs.declared.chart.PlainChart.{PlainChart}
 use Rattle.msc_grammar.specs.declared.rule.Rule.{Rule}
-use Rattle.msc_grammar.specs.declared.rule.Rule.TheVariants as rule
-use Rattle.msc_grammar.specs.Events.{texts}
-use Rattle.msc_grammar.specs.Charts.{IsChartOf}
+use Rattle.msc_expand.specs.declared.plain_chart.PlainChart.{PlainChart}
+use Rattle.msc_expand.specs.Acceptance.{HasFault, IsAccepted}
 use Rattle.msc_cmd.specs.declared.document.Document.{Document}
-use Rattle.msc_cmd.specs.declared.document.Document.TheVariants.{Chart, Refused}
+use Rattle.msc_cmd.specs.declared.document.Document.TheVariants.{Charts, Refused}
 use Rattle.msc_cmd.specs.declared.document_text.DocumentText.{DocumentText}
-use Rattle.msc_cmd.specs.DocumentTexts.{IsOnlyText, IsOnlyTextFault, IsTheText}
-use Rattle.msc_cmd.specs.Documents.{HasDocumentFault, of_text, not_built, IsOnlyDocument, IsOnlyFault, IsTheDocument, ReadsAs}
+use Rattle.msc_cmd.specs.DocumentTexts.{ReadsDocument, IsOnlyText, IsOnlyTextFault, IsTheText}
+use Rattle.msc_cmd.specs.Documents.{IsDocument, HasDocumentFault, of_text, of_charts, IsOnlyDocument, IsOnlyFault, IsTheDocument, AcceptsAlone, RefusesAlone, ComesTo}
 use Rattle.msc_cmd.specs.Intakes.{IsTextOf, IsDocumentOf}
 
--- a text whose tokens are no chart
-only_unbuilt : (bytes : List ℕ) (tree : Tree) (tokens : List Token) → IsOnlyText bytes tree tokens → ((chart : PlainChart) → IsChartOf (texts tokens) chart → ⊥) → IsOnlyFault bytes rule.NotYet first_place
-only_unbuilt bytes tree tokens t none = record {
-  is = not_built tree t.is (λ chart h. none chart (moved chart t.is.tokens (t.alone t.is.tokens t.is.spells) h)) refl refl;
+-- a text whose document is refused
+only_refused : (bytes : List ℕ) (tree : Tree) (tokens : List Token) (broken : Rule) (place : Place) → IsOnlyText bytes tree tokens → RefusesAlone tree broken place → IsOnlyFault bytes broken place
+only_refused bytes tree tokens broken place t r = record {
+  is = of_charts tree t.is r.is;
   only = λ other there h. by other there h;
-  none = λ chart d. none chart (moved chart d.read.tokens (t.alone d.read.tokens d.read.spells) d.reads);
+  none = λ charts d. r.none charts (subst (λ (u : Tree). IsAccepted u charts) (t.only d.tree d.read) d.accepted);
 }
   where
-    moved : (chart : PlainChart) (others : List Token) → others ≡ tokens → IsChartOf (texts others) chart → IsChartOf (texts tokens) chart
-    moved chart others e h = subst (λ (ts : List Token). IsChartOf (texts ts) chart) e h
-
-    by : (other : Rule) (there : Place) → HasDocumentFault bytes other there → (other ≡ rule.NotYet) × (there ≡ first_place)
+    by : (other : Rule) (there : Place) → HasDocumentFault bytes other there → (other ≡ broken) × (there ≡ place)
     by other there (of_text h) = absurd (t.faultless other there h)
-    by other there (not_built d r n e p) = (e, p)
+    by other there (of_charts u read h) = r.only other there (subst (λ (v : Tree). HasFault v other there) (t.only u read) h)
 
--- a text whose tokens are a chart
-only_chart : (bytes : List ℕ) (tree : Tree) (tokens : List Token) (chart : PlainChart) → IsOnlyText bytes tree tokens → IsChartOf (texts tokens) chart → ((other : PlainChart) → IsChartOf (texts tokens) other → other ≡ chart)
-    → IsOnlyDocument bytes chart
-only_chart bytes tree tokens chart t reads one = record {
-  is = record { tree = tree; read = t.is; reads = back t.is.tokens (t.alone t.is.tokens t.is.spells) };
-  only = λ other d. one other (subst (λ (ts : List Token). IsChartOf (texts ts) other) (t.alone d.read.tokens d.read.spells) d.reads);
+-- a text whose document is accepted
+only_accepted : (bytes : List ℕ) (tree : Tree) (tokens : List Token) (charts : List PlainChart) → IsOnlyText bytes tree tokens → AcceptsAlone tree charts → IsOnlyDocument bytes charts
+only_accepted bytes tree tokens charts t a = record {
+  is = record { tree = tree; read = t.is; accepted = a.is };
+  only = λ others d. a.only others (subst (λ (u : Tree). IsAccepted u others) (t.only d.tree d.read) d.accepted);
   faultless = λ broken place h. by broken place h;
+  plain = a.plain;
 }
   where
-    back : (others : List Token) → others ≡ tokens → IsChartOf (texts others) chart
-    back others e = subst (λ (ts : List Token). IsChartOf (texts ts) chart) (sym e) reads
-
     by : (broken : Rule) (place : Place) → HasDocumentFault bytes broken place → ⊥
     by broken place (of_text h) = t.faultless broken place h
-    by broken place (not_built d r n e p) = n chart (back r.tokens (t.alone r.tokens r.spells))
+    by broken place (of_charts u read h) = a.faultless broken place (subst (λ (v : Tree). HasFault v broken place) (t.only u read) h)
 
 -- a text that has a fault
 pub only_faulty : (bytes : List ℕ) (broken : Rule) (place : Place) → IsOnlyTextFault bytes broken place → IsOnlyFault bytes broken place
 only_faulty bytes broken place f = record {
   is = of_text f.is;
   only = λ other there h. by other there h;
-  none = λ chart d. f.none d.tree d.read;
+  none = λ charts d. f.none d.tree d.read;
 }
   where
     by : (other : Rule) (there : Place) → HasDocumentFault bytes other there → (other ≡ broken) × (there ≡ place)
     by other there (of_text h) = f.only other there h
-    by other there (not_built d r n e p) = absurd (f.none d r)
+    by other there (of_charts u read h) = absurd (f.none u read)
 
-pub settled_read : (bytes : List ℕ) (tree : Tree) (tokens : List Token) (r : Result Document NoMemory) → IfOk r (ReadsAs (texts tokens)) → IsOnlyText bytes tree tokens → IfOk r (IsTheDocument bytes)
-settled_read bytes tree tokens (Ok (Chart chart)) h t = only_chart bytes tree tokens chart t h.0 h.1
-settled_read bytes tree tokens (Ok (Refused broken place)) h t =
-    subst (λ (b : Rule). IsOnlyFault bytes b place) (sym h.1) (subst (λ (p : Place). IsOnlyFault bytes rule.NotYet p) (sym h.2) (only_unbuilt bytes tree tokens t h.0))
+pub settled_read : (bytes : List ℕ) (tree : Tree) (tokens : List Token) (r : Result Document NoMemory) → IfOk r (ComesTo tree) → IsOnlyText bytes tree tokens → IfOk r (IsTheDocument bytes)
+settled_read bytes tree tokens (Ok (Charts charts)) h t = only_accepted bytes tree tokens charts t h
+settled_read bytes tree tokens (Ok (Refused broken place)) h t = only_refused bytes tree tokens broken place t h
 settled_read bytes tree tokens (Err e) h t = tt
 
 -- what a document that was taken is

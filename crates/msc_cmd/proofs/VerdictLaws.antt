@@ -5,8 +5,8 @@ use Rattle.msc_base.specs.declared.label.Label.{Label}
 use Rattle.msc_base.specs.declared.verdict.Verdict.{Verdict}
 use Rattle.msc_base.specs.declared.verdict.Verdict.TheVariants.{Conforms as SaysConforms, Fails, Early, TooLarge}
 use Rattle.msc_base.specs.Runs.{IsRunOf}
-use Rattle.msc_grammar.specs.declared.chart.PlainChart.{PlainChart}
-use Rattle.msc_grammar.specs.Meanings.{Unfolds, Conforms, Begins}
+use Rattle.msc_expand.specs.declared.plain_chart.PlainChart.{PlainChart}
+use Rattle.msc_expand.specs.Meanings.{Unfolds, Conforms, Begins}
 use Rattle.event_log.specs.declared.event.LineEvent.{LineEvent}
 use Rattle.msc_cmd.specs.Verdicts.{labels, FailsAt, IsVerdict}
 

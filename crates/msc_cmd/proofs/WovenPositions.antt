@@ -4,7 +4,7 @@ use Rattle.std.proofs.lemmas.Slice.Eq.{bytes_eq-Decides}
 use Rattle.msc_base.specs.declared.label.Label.{Label}
 use Rattle.msc_base.specs.Patterns.{Position, event_at, Before}
 use Rattle.msc_base.specs.Unfoldings.{Happening, plain, share, instances_of}
-use Rattle.msc_grammar.specs.Meanings.{event_of, woven}
+use Rattle.msc_expand.specs.Meanings.{event_of, woven}
 use Rattle.msc_cmd.proofs.Orders.{IsAbove}
 
 -- the number of a position, from the first event of the list

@@ -6,9 +6,9 @@ use Rattle.msc_base.specs.declared.label.Kind.TheVariants.{Output, Input}
 use Rattle.msc_base.specs.Patterns.{Position, event_at, Before}
 use Rattle.msc_base.specs.Unfoldings.{Tag, Own, Happening, plain, is_pair, joins}
 use Rattle.msc_base.specs.Runs.{labels_at, IsRun}
-use Rattle.msc_grammar.specs.declared.chart.PlainChart.{PlainChart}
-use Rattle.msc_grammar.specs.Meanings.{woven, message_pairs, unfolding_of}
-use Rattle.msc_grammar.specs.Pairing.{ArePartners}
+use Rattle.msc_expand.specs.declared.plain_chart.PlainChart.{PlainChart}
+use Rattle.msc_expand.specs.Meanings.{woven, message_pairs, unfolding_of}
+use Rattle.msc_expand.specs.Plain.{HavePartners}
 use Rattle.msc_cmd.proofs.Orders.{IsPairOf, Shows}
 use Rattle.msc_cmd.proofs.FrontOrders.{IsLinearOrder}
 use Rattle.msc_cmd.proofs.NumberedRuns.{AreNumbered, numbers_linear, linear_numbers, positions_of}
@@ -46,8 +46,8 @@ chart_numbered chart = record {
         let j = number_of 0 chart.events y in
         let t = pair_sent 0 chart.events chart.partners i j ((tied (message_pairs 0 chart.events chart.partners) chart.events x y).0 h) in
         let e : t.0 ≡ i = omega (arith, t.1) in
-        let s : IsSent chart.events chart.partners i j = subst (λ (k : ℕ). IsSent chart.events chart.partners k j) e t.2 in
-        inr (record { output = s.output; output_at = s.output_at; puts = s.puts; partner = s.partner })
+        let s : IsSent chart.events chart.partners i j = subst (λ (k : ℕ). IsSent chart.events chart.partners k j) e t.3 in
+        inr (record { output = s.output; output_at = s.output_at; puts = s.puts; partner = s.partner; other = t.2 })
 
     back : (x y : Position (woven 0 chart.events)) → IsPairOf chart (number_of 0 chart.events x) (number_of 0 chart.events y) → Before plain (unfolding_of chart) x y
     back x y (inl r) = inl (above_before 0 chart.events x y r)
@@ -55,7 +55,7 @@ chart_numbered chart = record {
         let i = number_of 0 chart.events x in
         let j = number_of 0 chart.events y in
         inr ((tied (message_pairs 0 chart.events chart.partners) chart.events x y).1
-        (sent_pair 0 chart.events chart.partners i i j (omega arith) (record { output = r.output; output_at = r.output_at; puts = r.puts; partner = r.partner })))
+        (sent_pair 0 chart.events chart.partners i i j (omega arith) r.other (record { output = r.output; output_at = r.output_at; puts = r.puts; partner = r.partner })))
 
 -- the numbers of positions show the labels of these
 shows_positions : (chart : PlainChart) (l : List (Position (unfolding_of chart))) → Shows chart.events (map (number_of 0 chart.events) l) (labels_at (unfolding_of chart) l)
@@ -97,16 +97,18 @@ pair_within chart p q (inl r) = slice_get_within chart.events p r.upper r.upper_
 pair_within chart p q (inr r) = slice_get_within chart.events p r.output r.output_at
 
 -- a pair rises, where each input stands behind its output
-pub pair_rises : (chart : PlainChart) → ArePartners chart.events chart.partners → (p q : ℕ) → IsPairOf chart p q → p < q
+pub pair_rises : (chart : PlainChart) → HavePartners chart.events chart.partners → (p q : ℕ) → IsPairOf chart p q → p < q
 pair_rises chart a p q (inl r) = r.before
 pair_rises chart a p q (inr r) = elim (a.paired p q r.partner) [
-  | inl t ↦ t.1
-  | inr t ↦
-      let s = t.0 in
-      let h : Some r.output ≡ Some s.input = sym r.output_at ∙ s.input_at in
-      let same : r.output ≡ s.input = cc in
-      let bad : Output ≡ Input = sym r.puts ∙ (ap (λ (l : Label). l.kind) same ∙ s.takes) in
-      cc
+  | inl e ↦ absurd (r.other (sym e))
+  | inr t ↦ elim t [
+    | inl s ↦ s.before
+    | inr s ↦
+        let h : Some r.output ≡ Some s.input = sym r.output_at ∙ s.input_at in
+        let same : r.output ≡ s.input = cc in
+        let bad : Output ≡ Input = sym r.puts ∙ (ap (λ (l : Label). l.kind) same ∙ s.takes) in
+        cc
+  ]
 ]
 
 -- two events with one label are a pair, the upper one first

@@ -2,12 +2,12 @@
 use Rattle.std.specs.Prelude.{◌≡◌, ◌⊎◌, ℕ, List, Option, Some, Bool, true, false}
 use Rattle.msc_base.specs.Causes.{Rose}
 use Rattle.msc_base.specs.Shelves.{Files}
-use Rattle.msc_grammar.specs.declared.chart.PlainChart.{PlainChart}
+use Rattle.msc_expand.specs.declared.plain_chart.PlainChart.{PlainChart}
 use Rattle.judge_report.specs.declared.fault.Fault.TheVariants.{DocumentRead, LogRead}
 use Rattle.judge_report.specs.Texts.{fault_line}
 use Rattle.msc_cmd.specs.declared.requests.Request.{Request}
 use Rattle.msc_cmd.specs.declared.requests.Request.TheVariants.{Judge, Print}
-use Rattle.msc_cmd.specs.Documents.{IsDocument}
+use Rattle.msc_cmd.specs.Documents.{IsDocument, chart_named}
 use Rattle.msc_cmd.specs.Requests.{request_of}
 use Rattle.msc_cmd.specs.Outcomes.{IfTold}
 
@@ -19,7 +19,7 @@ pub record FailedAt (before now : ℕ) (broken : Bool) (last : Option (List ℕ)
 
 -- the document is accepted and has the chart
 abbrev pub HasChart : List ℕ → List ℕ → Files → Type 0
-HasChart document name files = (bytes : List ℕ) × (chart : PlainChart) × (files document ≡ Some bytes) × IsDocument bytes chart × (chart.name ≡ name)
+HasChart document name files = (bytes : List ℕ) × (charts : List PlainChart) × (chart : PlainChart) × (files document ≡ Some bytes) × IsDocument bytes charts × (chart_named name charts ≡ Some chart)
 
 -- the shelf failed at the document, or at the log of an accepted one, and the line says which
 abbrev pub CannotRead : Bool → Option Files → ℕ → ℕ → Bool → Option (List ℕ) → List ℕ → List ℕ → List ℕ → List ℕ → Type 0

@@ -2,8 +2,7 @@
 use Rattle.std.specs.Prelude.{◌≡◌, ◌≤◌, ◌<◌, ◌+◌, ℕ, Bool, true, List, length, Some, slice_get, position}
 use Rattle.std.specs.Str.{bytes_eq}
 use Rattle.msc_base.specs.declared.label.Label.{Label}
-use Rattle.msc_base.specs.declared.label.Kind.TheVariants.{Input}
-use Rattle.msc_grammar.specs.declared.chart.PlainChart.{PlainChart}
+use Rattle.msc_expand.specs.declared.plain_chart.PlainChart.{PlainChart}
 use Rattle.msc_cmd.specs.declared.columns.Columns.{Columns}
 
 -- q is the first event of this instance from a place on, or the number of events where there is none
@@ -29,10 +28,10 @@ pub record AreColumns (names : List (List ℕ)) (events : List Label) (columns :
   pub heads_are : AreFirst names events 0 columns.heads.items
   pub next_are : AreNext events 0 columns.next.items
 
--- the event at this place has this label, and where it is an input its output has happened
+-- the event at this place has this label, and where its partner stands before it, that one has happened
 pub record MayHappen (chart : PlainChart) (happened : List Bool) (label : Label) (place : ℕ) : Type 0 where
   pub event_is : slice_get chart.events place ≡ Some label
-  pub ready : label.kind ≡ Input → (q : ℕ) → slice_get chart.partners place ≡ Some q → slice_get happened q ≡ Some true
+  pub ready : (q : ℕ) → slice_get chart.partners place ≡ Some q → q < place → slice_get happened q ≡ Some true
 
 -- the event that stands first in the label's column may happen
 pub record IsDue (chart : PlainChart) (names : List (List ℕ)) (heads : List ℕ) (happened : List Bool) (label : Label) (column place : ℕ) : Type 0 where

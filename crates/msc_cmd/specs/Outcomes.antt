@@ -6,7 +6,7 @@ use Rattle.msc_base.specs.declared.verdict.Verdict.{Verdict}
 use Rattle.msc_base.specs.declared.verdict.Verdict.TheVariants.{Conforms, Fails, Early, TooLarge}
 use Rattle.msc_tree.specs.Charts.{Document as Tree}
 use Rattle.msc_print.specs.ChartWords.{canonical_text}
-use Rattle.msc_grammar.specs.declared.chart.PlainChart.{PlainChart}
+use Rattle.msc_expand.specs.declared.plain_chart.PlainChart.{PlainChart}
 use Rattle.msc_grammar.specs.declared.rule.Rule.{Rule}
 use Rattle.event_log.specs.declared.event.LineEvent.{LineEvent}
 use Rattle.event_log.specs.declared.event.LogFault.{LogFault}
@@ -17,7 +17,7 @@ use Rattle.judge_report.specs.Texts.{fault_line, verdict_line}
 use Rattle.msc_cmd.specs.declared.requests.Request.{Request}
 use Rattle.msc_cmd.specs.declared.requests.Request.TheVariants.{Judge, Print}
 use Rattle.msc_cmd.specs.DocumentTexts.{ReadsDocument, HasTextFault}
-use Rattle.msc_cmd.specs.Documents.{IsDocument, HasDocumentFault}
+use Rattle.msc_cmd.specs.Documents.{IsDocument, HasDocumentFault, chart_named}
 use Rattle.msc_cmd.specs.Requests.{request_of, IsNoRequest}
 use Rattle.msc_cmd.specs.Verdicts.{IsVerdict}
 
@@ -41,9 +41,9 @@ pub data EntryOutcome (form : LogForm) (json : Bool) (files : Files) (chart : Pl
 pub data FilesOutcome (form : LogForm) (json : Bool) (files : Files) (document name log : List ℕ) (status : ℕ) (text : List ℕ) : Type 0 where
   refused : (bytes : List ℕ) (broken : Rule) (place : Place) → files document ≡ Some bytes → HasDocumentFault bytes broken place → status ≡ 4 → text ≡ fault_line json (Document broken place)
       → FilesOutcome form json files document name log status text
-  no_chart : (bytes : List ℕ) (chart : PlainChart) → files document ≡ Some bytes → IsDocument bytes chart → (chart.name ≡ name → ⊥) → status ≡ 4 → text ≡ fault_line json NoChart
+  no_chart : (bytes : List ℕ) (charts : List PlainChart) → files document ≡ Some bytes → IsDocument bytes charts → chart_named name charts ≡ None → status ≡ 4 → text ≡ fault_line json NoChart
       → FilesOutcome form json files document name log status text
-  of_log : (bytes : List ℕ) (chart : PlainChart) → files document ≡ Some bytes → IsDocument bytes chart → chart.name ≡ name → EntryOutcome form json files chart log status text
+  of_log : (bytes : List ℕ) (charts : List PlainChart) (chart : PlainChart) → files document ≡ Some bytes → IsDocument bytes charts → chart_named name charts ≡ Some chart → EntryOutcome form json files chart log status text
       → FilesOutcome form json files document name log status text
 
 -- what the entry of this name gives where it is to be printed: later rules than those of the text aren't looked at

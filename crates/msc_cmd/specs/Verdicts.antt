@@ -3,8 +3,8 @@ use Rattle.std.specs.Prelude.{◌≡◌, ◌+◌, ℕ, List, [], ◌∷◌, ◌+
 use Rattle.msc_base.specs.declared.label.Label.{Label}
 use Rattle.msc_base.specs.declared.verdict.Verdict.{Verdict}
 use Rattle.msc_base.specs.declared.verdict.Verdict.TheVariants.{Conforms as SaysConforms, Fails, Early, TooLarge}
-use Rattle.msc_grammar.specs.declared.chart.PlainChart.{PlainChart}
-use Rattle.msc_grammar.specs.Meanings.{Conforms, Begins}
+use Rattle.msc_expand.specs.declared.plain_chart.PlainChart.{PlainChart}
+use Rattle.msc_expand.specs.Meanings.{Conforms, Begins}
 use Rattle.event_log.specs.declared.event.LineEvent.{LineEvent}
 
 abbrev pub labels : List LineEvent → List Label

@@ -2,12 +2,12 @@ ghost use Rattle.std.specs.Prelude.{◌≡◌, ◌<◌, ◌≤◌, ℕ, List, If
 ghost use Rattle.event_log.specs.declared.event.LogForm.{LogForm};
 ghost use Rattle.judge_report.specs.declared.fault.Fault.TheVariants.{LogRead};
 ghost use Rattle.judge_report.specs.Texts.{IsTold, fault_line};
-ghost use Rattle.msc_grammar.specs.Plain.{IsPlain};
+ghost use Rattle.msc_expand.specs.Plain.{IsPlain};
 ghost use Rattle.msc_cmd.specs.Failures.{FailedAt, CannotRead};
 ghost use Rattle.msc_cmd.specs.LogIntakes.{IsTheLog, IsToldLog};
 ghost use Rattle.msc_cmd.specs.Outcomes.{EntryOutcome, FilesOutcome, IfTold, IsTheOne, LogOutcome, status_of};
 
-use crate::document::Document;
+use crate::document::{Document, chart_of};
 use crate::entry::ReadFault;
 use crate::judge::judge;
 use crate::log_intake::Log;
@@ -16,7 +16,7 @@ use crate::reading::take_document;
 use event_log::LogForm;
 use judge_report::{Fault, fault_text, verdict_text};
 use msc_base::{NoMemory, Shelf, Text, Verdict};
-use msc_grammar::PlainChart;
+use msc_expand::PlainChart;
 use std::alloc::Global;
 
 /// What is written, and the status that goes with it.
@@ -116,14 +116,14 @@ pub fn judge_files<S: Shelf>(
         Err(ReadFault::Failed) => return make_reply(alloc, 7, &Fault::DocumentRead, json),
         Err(ReadFault::NoMemory) => return Err(NoMemory),
     };
-    let chart = match read {
-        Document::Chart(chart) => chart,
+    let accepted = match read {
+        Document::Charts(accepted) => accepted,
         Document::Refused(rule, place) => {
             return make_reply(alloc, 4, &Fault::Document { rule, place }, json);
         }
     };
-    if chart.name.bytes() != name.bytes() {
+    let Some(chart) = chart_of(accepted.as_slice(), name.bytes()) else {
         return make_reply(alloc, 4, &Fault::NoChart, json);
-    }
-    judge_log(alloc, &chart, log, form, json, shelf)
+    };
+    judge_log(alloc, chart, log, form, json, shelf)
 }

@@ -1,38 +1,33 @@
-ghost use Rattle.std.specs.Prelude.{ℕ, List, IfOk};
-ghost use Rattle.msc_grammar.specs.Events.{texts};
+ghost use Rattle.std.specs.Prelude.{◌≡◌, All, IfOk, IfSome, List, option_copied, ℕ};
+ghost use Rattle.msc_expand.specs.Plain.{IsPlain};
+ghost use Rattle.msc_tree.specs.Views.{document_view};
 ghost use Rattle.msc_cmd.specs.DocumentTexts.{IsTheText};
-ghost use Rattle.msc_cmd.specs.Documents.{IsTheDocument, ReadsAs};
+ghost use Rattle.msc_cmd.specs.Documents.{ComesTo, IsTheDocument, chart_named};
 
 use crate::document_text::DocumentText;
 use msc_base::{NoMemory, Place};
-use msc_grammar::{PlainChart, PlainFault, Rule, first_chart};
-use msc_tokens::TokenList;
+use msc_expand::{Accepted, DocFault, PlainChart, accept};
+use msc_grammar::Rule;
+use msc_tree::RawDocument;
 use std::alloc::Global;
 
 /// What the bytes of a document are.
 #[derive(Drop)]
 pub enum Document {
-    /// A document of this chart.
-    Chart(PlainChart),
+    /// A document of these charts.
+    Charts(Accepted),
     /// The first rule that they break, and where.
     Refused(Rule, Place),
 }
 
-/// What tokens are as a document.
-fn chart_of(alloc: Global, tokens: &TokenList) -> Result<Document, NoMemory>
-    ensures { IfOk result (ReadsAs (texts tokens.now.tokens)) }
+/// What a document that has been read comes to.
+fn come_to(alloc: Global, document: &RawDocument) -> Result<Document, NoMemory>
+    ensures { IfOk result (ComesTo (document_view document.now)) }
 {
-    match first_chart(alloc, tokens) {
-        Ok(chart) => Ok(Document::Chart(chart)),
-        Err(PlainFault::NotYet) => {
-            let place = Place {
-                byte: 0,
-                line: 1,
-                column: 1,
-            };
-            Ok(Document::Refused(Rule::NotYet, place))
-        }
-        Err(PlainFault::NoMemory) => Err(NoMemory),
+    match accept(alloc, document) {
+        Ok(accepted) => Ok(Document::Charts(accepted)),
+        Err(DocFault::Refused { rule, place }) => Ok(Document::Refused(rule, place)),
+        Err(DocFault::NoMemory) => Err(NoMemory),
     }
 }
 
@@ -41,7 +36,21 @@ pub fn settle(alloc: Global, text: DocumentText) -> Result<Document, NoMemory>
     ensures { (bytes : List ℕ) → IsTheText bytes text → IfOk result (IsTheDocument bytes) }
 {
     match text {
-        DocumentText::Read(_, tokens) => chart_of(alloc, &tokens),
+        DocumentText::Read(document, _) => come_to(alloc, &document),
         DocumentText::Refused(broken, place) => Ok(Document::Refused(broken, place)),
     }
+}
+
+/// The chart of the name, if there is one.
+pub fn chart_of<'a>(charts: &'a [PlainChart], name: &[u8]) -> Option<&'a PlainChart>
+    requires { All IsPlain charts.now }
+    ensures named { option_copied result ≡ chart_named name.now charts.now }
+    ensures plain { IfSome result (λ chart. IsPlain chart.now) }
+{
+    for chart in charts {
+        if chart.name.bytes() == name {
+            return Some(chart);
+        }
+    }
+    None
 }

@@ -1,25 +1,17 @@
 ghost use Rattle.std.specs.Prelude.{◌≡◌, ◌↔◌, ◌<◌, ℕ, All, IfNone, IfOk, IfSome, IsTrue, false, length, replicate, slice_index_or, slice_set, true};
-ghost use Rattle.msc_grammar.specs.Plain.{IsPlain};
-ghost use Rattle.msc_grammar.specs.Pairing.{ArePartners};
+ghost use Rattle.msc_expand.specs.Plain.{IsPlain, HavePartners};
 ghost use Rattle.msc_cmd.specs.Judging.{IsDue, MayHappen};
 ghost use Rattle.msc_cmd.specs.Verdicts.{IsVerdict};
 
 use crate::columns::{Columns, columns_of};
 use event_log::LineEvent;
-use msc_base::{Kind, Label, NoMemory, Verdict};
-use msc_grammar::PlainChart;
+use msc_base::{Label, NoMemory, Verdict};
+use msc_expand::PlainChart;
 use std::alloc::Global;
-
-/// Whether it is an input.
-fn is_input(label: &Label) -> bool
-    ensures { IsTrue result ↔ (label.now.kind ≡ Kind.Input) }
-{
-    label.kind == Kind::Input
-}
 
 /// Whether the event at this place has this label and may happen next, as far as its partner goes.
 fn may_happen(chart: &PlainChart, happened: &[bool], label: &Label, place: usize) -> bool
-    requires partners { ArePartners chart.now.events chart.now.partners }
+    requires partners { HavePartners chart.now.events chart.now.partners }
     requires each { length happened.now ≡ length chart.now.events }
     ensures { IsTrue result ↔ MayHappen chart.now happened.now label.now place }
 {
@@ -29,10 +21,11 @@ fn may_happen(chart: &PlainChart, happened: &[bool], label: &Label, place: usize
     if !chart.events.at(place).same(label) {
         return false;
     }
-    if !is_input(label) {
+    let partner = *chart.partners.at(place) as usize;
+    if partner >= place {
         return true;
     }
-    happened[*chart.partners.at(place) as usize]
+    happened[partner]
 }
 
 /// The column of a label's instance and the place of its event, if this event may happen next.
@@ -42,7 +35,7 @@ fn due(
     happened: &[bool],
     label: &Label,
 ) -> Option<(usize, usize)>
-    requires partners { ArePartners chart.now.events chart.now.partners }
+    requires partners { HavePartners chart.now.events chart.now.partners }
     requires heads { length columns.now.heads.items ≡ length columns.now.instances }
     requires each { length happened.now ≡ length chart.now.events }
     ensures some { IfSome result

@@ -8,8 +8,8 @@ use Rattle.msc_cmd.proofs.document.settle.Goals as goal
 
 pub returns-in-Read : goal.returns-in-Read
 returns-in-Read c =
-    let is : c.args.text ≡ Read c.in-Read.field-0 c.in-Read.tokens = search rules in
-    λ bytes h. settled_read bytes (document_view c.in-Read.field-0) c.in-Read.tokens.tokens c.chart_of.result c.chart_of.ensures (subst (λ (t : DocumentText). IsTheText bytes t) is h)
+    let is : c.args.text ≡ Read c.in-Read.document c.in-Read.field-1 = search rules in
+    λ bytes h. settled_read bytes (document_view c.in-Read.document) c.in-Read.field-1.tokens c.come_to.result c.come_to.ensures (subst (λ (t : DocumentText). IsTheText bytes t) is h)
 
 pub returns : goal.returns
 returns c =
