@@ -7,8 +7,6 @@ use std::test::Fail;
 /// A document, a chart's name, a log, and the text and the status that they give.
 type Row = (&'static str, &'static str, &'static str, &'static str, u8);
 
-const REFUSED: &str = "document refused at 1:1: not built yet\n";
-
 const CROSSED: &str =
     "msc X; inst i,j; i: out a to j; j: out b to i; j: in a from i; i: in b from j; endmsc;";
 
@@ -153,7 +151,7 @@ fn documents(rt: HostRuntime) -> Result<(), Fail> {
             "document refused at 3:15: open string\n",
             4,
         ),
-        ("", REFUSED, 4),
+        ("", "no such chart\n", 4),
         ("msc A; inst i; endmsc;", "conforms, events 0\n", 0),
         (
             "msc A; inst i endmsc;",
@@ -165,24 +163,36 @@ fn documents(rt: HostRuntime) -> Result<(), Fail> {
             "document refused at 1:13: syntax\n",
             4,
         ),
-        ("msc A; inst i,i; endmsc;", REFUSED, 4),
-        ("msc A; inst i; endmsc; msc B; inst i; endmsc;", REFUSED, 4),
-        ("msc A; inst i,j; i: out a to j; endmsc;", REFUSED, 4),
+        ("msc A; inst i,i; endmsc;", "conforms, events 0\n", 0),
+        (
+            "msc A; inst i; endmsc; msc B; inst i; endmsc;",
+            "conforms, events 0\n",
+            0,
+        ),
+        (
+            "msc A; inst i,j; i: out a to j; endmsc;",
+            "document refused at 1:21: unmatched message\n",
+            4,
+        ),
         (
             "msc A; inst i,j; j: in a from i; i: out a to j; endmsc;",
-            REFUSED,
+            "document refused at 1:21: not built yet\n",
             4,
         ),
         (
             "msc A; inst i,j; i: out a to j; j: in b from i; endmsc;",
-            REFUSED,
+            "document refused at 1:21: unmatched message\n",
             4,
         ),
-        ("msc A; inst i,j; i: out a to k; endmsc;", REFUSED, 4),
+        (
+            "msc A; inst i,j; i: out a to k; endmsc;",
+            "document refused at 1:21: undeclared instance\n",
+            4,
+        ),
         (
             "msc A; inst i,j; k: out a to j; j: in a from k; endmsc;",
-            REFUSED,
-            4,
+            "stops early, events 0\n",
+            3,
         ),
         (
             "msc A; inst i,to; endmsc;",
