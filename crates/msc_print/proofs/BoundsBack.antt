@@ -1,14 +1,18 @@
 -- The bounds of a loop that were read are written so that they read back.
-use Rattle.std.proofs.Common.{ℕ, ◌≡◌, ◌∙◌, ◌≤◌, ◌<◌, true, List, [], ◌∷◌, length, refl, sym, ap, subst, inl, inr, Option, Some, None, MatchOption, arith, codes}
+use Rattle.std.proofs.Common.{ℕ, ◌&&◌, ◌++◌, nat_lt, ◌≡◌, ◌∙◌, ◌≤◌, ◌<◌, true, List, [], ◌∷◌, length, refl, sym, ap, subst, inl, inr, Option, Some, None, MatchOption, arith, codes}
 use Rattle.std.specs.Fmt.{decimal}
 use Rattle.std.specs.Char.{digit_value}
-use Rattle.std.specs.List.{list_all}
+use Rattle.std.specs.List.{list_all, list_any}
+use Rattle.std.proofs.lemmas.Bool.{and_from}
+use Rattle.msc_base.specs.Names.{IsWord}
+use Rattle.msc_print.specs.Words.{Words}
+use Rattle.msc_print.proofs.Tidy.{Tidy, bounded, Proper, proper_append, word_of}
 use Rattle.std.specs.Str.Parse.{AllDigits}
 use Rattle.std.proofs.lemmas.Bool.Decides.{nat_tests}
 use Rattle.std.proofs.lemmas.Str.Parse.{digit_from_value}
-use Rattle.std.proofs.lemmas.Fmt.{decimal_is_IsNumeral}
+use Rattle.std.proofs.lemmas.Fmt.{decimal_is_IsNumeral, length-decimal-le}
 use Rattle.msc_tokens.specs.declared.token.Token.{Token}
-use Rattle.msc_reading.specs.Classes.{is_digit, is_number}
+use Rattle.msc_reading.specs.Classes.{is_digit, is_number, is_letter_or_digit, is_word_byte, is_word}
 use Rattle.msc_reading.specs.Languages.{just, numbers}
 use Rattle.msc_reading.specs.Grammars.{Grammar, read_as, seq, optional, maybe, behind}
 use Rattle.msc_reading.specs.Parts.{mark, kept as as_written}
@@ -111,3 +115,48 @@ bounds_read {A = A} P b p x h = by h.1
         let s = bounds_small k.1.0 k.0.0 k.1.3 in
         subst (Read P) (sym (h.2 ∙ ap (λ w. (or_once w.0, w.1)) k.2)) (s.0, s.1, (k.1.1, k.1.4))
     by (inr k) = subst (Read P) (sym (h.2 ∙ ap (λ w. (or_once w.0, w.1)) k.2)) (omega arith, tt, (x, k.1))
+
+-- ---- the texts of bounds
+
+digit_byte : (c : ℕ) → digit_value c < 10 → is_word_byte c ≡ true
+digit_byte c h = let r = digit_from_value c h in grind (arith, nat_tests)
+
+digit_letter : (c : ℕ) → digit_value c < 10 → is_letter_or_digit c ≡ true
+digit_letter c h = let r = digit_from_value c h in grind (arith, nat_tests)
+
+digits_bytes : (ds : List ℕ) → AllDigits 10 ds → list_all is_word_byte ds ≡ true
+digits_bytes [] h = refl
+digits_bytes (c ∷ cs) h = and_from (is_word_byte c) (list_all is_word_byte cs) (digit_byte c h.0) (digits_bytes cs h.1)
+
+digits_word : (ds : List ℕ) → 0 < length ds → AllDigits 10 ds → length ds ≤ 7 → is_word ds ≡ true
+digits_word [] some h short = absurd (omega arith)
+digits_word (c ∷ cs) some h short =
+    let few : nat_lt (length (c ∷ cs)) 256 ≡ true = grind (arith, nat_tests) in
+    let one : list_any is_letter_or_digit (c ∷ cs) ≡ true = rw (digit_letter c h.0) refl in
+    and_from (list_all is_word_byte (c ∷ cs)) (list_any is_letter_or_digit (c ∷ cs) && nat_lt (length (c ∷ cs)) 256) (digits_bytes (c ∷ cs) h)
+    (and_from (list_any is_letter_or_digit (c ∷ cs)) (nat_lt (length (c ∷ cs)) 256) one few)
+
+decimal_word : (n : ℕ) → Small n → IsWord (decimal n)
+decimal_word n s =
+    let numeral = (decimal_is_IsNumeral n (omega arith)).0 in
+    word_of (decimal n) (digits_word (decimal n) numeral.0 numeral.1 (length-decimal-le 7 n (omega arith) (omega arith) (omega arith)))
+
+upper_is_word : (u : Option ℕ) → SmallUpper u → IsWord (upper_word u)
+upper_is_word None s = word_of (codes "inf") refl
+upper_is_word (Some n) s = decimal_word n s
+
+pub bounds_tidy : (l : ℕ) (u : Option ℕ) (rest : Words) → Small l → SmallUpper u → Tidy rest → Tidy (bound_words l u ++ rest)
+bounds_tidy l u rest sl su h = bounded (decimal l) (upper_word u) rest (decimal_word l sl) (upper_is_word u su) h
+
+abbrev ReadProper : {A : Type 0} → Grammar A → Bounds × A → Type 0
+ReadProper P w = (y : List Token) × P.reads y w.1 × Proper y
+
+-- the part behind the bounds of a text
+pub bounds_proper : {A : Type 0} (P : Grammar A) (b : Bounds) (p : A) (x : List Token) → (with_bounds P).reads x (b, p) → Proper x → (y : List Token) × P.reads y p × Proper y
+bounds_proper {A = A} P b p x h proper = by h.1
+  where
+    by : (maybe bounds P).reads x h.0 → (y : List Token) × P.reads y p × Proper y
+    by (inl k) =
+        let known = proper_append k.1.0 k.1.1 (subst Proper k.1.2 proper) in
+        subst (ReadProper P) (sym (h.2 ∙ ap (λ w. (or_once w.0, w.1)) k.2)) (k.1.1, k.1.4, known.1)
+    by (inr k) = subst (ReadProper P) (sym (h.2 ∙ ap (λ w. (or_once w.0, w.1)) k.2)) (x, k.1, proper)

@@ -19,8 +19,9 @@ use Rattle.msc_print.specs.Words.{Words, alone, all_words, each_behind, separate
 use Rattle.msc_print.specs.StatementWords.{decl_words, statement_words, statements_words}
 use Rattle.msc_print.specs.ChartWords.{chart_words, closing_words, content_words, decl_head_words, document_words, head_list, name_head_words, opening_words}
 use Rattle.msc_print.specs.Unplaced.{unplaced_chart, unplaced_content, unplaced_decl, without_places}
-use Rattle.msc_print.proofs.Backs.{Back, Any, same, Filled, Fits, cut, one_token, first_token, no_token, back_each, back_seq, back_or, back_as, back_behind, back_placed}
-use Rattle.msc_print.proofs.PartsBack.{ending_back, name_back, heading_back, decl_back}
+use Rattle.msc_print.proofs.Backs.{Back, Any, same, Filled, FitsFixed, cut, one_token, first_token, no_token, back_each, each_tidy, fits_set, back_seq, back_or, back_as, back_behind, back_placed, back_separated}
+use Rattle.msc_print.proofs.Tidy.{Tidy, done, Proper, is_fixed, fixed_tidy, tidy_append, proper_append}
+use Rattle.msc_print.proofs.PartsBack.{ending_back, name_back, names_back, heading_back, decl_back}
 use Rattle.msc_print.proofs.GraphBack.{chart_graph_back}
 use Rattle.msc_print.proofs.ItemsBack.{list_back, statement_back}
 
@@ -89,17 +90,17 @@ module _ {A B : Type 0} (R : Grammar A) {P : A → Type 0} (w : A → Words) (f 
       let l = others_back ls h.1 c.1 c.4 in
       (k.0 ∷ l.0, ((k.0, l.0), (c.0, c.1, c.2, k.1, l.1), refl), tt, rw (k.2, l.2) refl)
 
-  line_back : (text : List ℕ) → Fits (just text) text → (a : A) (ls : List A) → All_read R (a ∷ ls) → (t : List Token) → texts t ≡ text ∷ (separated_words (codes ",") w (a ∷ ls) ++ end_words) →
+  line_back : (text : List ℕ) → FitsFixed (just text) text → (a : A) (ls : List A) → All_read R (a ∷ ls) → (t : List Token) → texts t ≡ text ∷ (separated_words (codes ",") w (a ∷ ls) ++ end_words) →
       (bs : List A) × (line text (separated (codes ",") R)).reads t bs × Filled bs × (map f bs ≡ map f (a ∷ ls))
   line_back text is a ls h t e =
       let m = first_token t text (separated_words (codes ",") w (a ∷ ls) ++ end_words) e in
-      let fits : language.among (just text) m.0 ≡ true = rw m.3 is in
+      let fits : language.among (just text) m.0 ≡ true = rw m.3 (fits_set (just text) text is) in
       let c = cut m.1 (separated_words (codes ",") w (a ∷ ls)) end_words m.4 in
       let k = one_list_back a ls h c.0 c.3 in
       let last = end_read c.1 c.4 in
       (k.0, ((k.0, tt), ((m.0, (k.0, tt)), (m.0 ∷ [], m.1, m.2, (refl, fits), (c.0, c.1, c.2, k.1, last)), refl), refl), k.2, k.3)
 
-  head_back : (text : List ℕ) → Fits (just text) text → (mk : List A → Head) → ((t : List Token) (bs : List A) → (line text (separated (codes ",") R)).reads t bs → head.reads t (mk bs)) → (ls : List A) → All_read R ls →
+  head_back : (text : List ℕ) → FitsFixed (just text) text → (mk : List A → Head) → ((t : List Token) (bs : List A) → (line text (separated (codes ",") R)).reads t bs → head.reads t (mk bs)) → (ls : List A) → All_read R ls →
       (t : List Token) → texts t ≡ head_list text w ls → (bs : List A) × language.each head.reads t (made mk bs) × (map f bs ≡ map f ls)
   head_back text is mk reads [] h t e = ([], no_token t e, refl)
   head_back text is mk reads (a ∷ ls) h t e = let l = line_back text is a ls h t e in by l.0 l.1 l.2 l.3
@@ -138,8 +139,66 @@ map_same : {A : Type 0} (xs : List A) → map same xs ≡ xs
 map_same [] = refl
 map_same (x ∷ xs) = ap (λ l. x ∷ l) (map_same xs)
 
+-- ---- of tokens of a text, the texts are tidy
+
+each_behind_append : {A : Type 0} (text : List ℕ) (w : A → Words) (ls bs : List A) → each_behind text w (ls ++ bs) ≡ each_behind text w ls ++ each_behind text w bs
+each_behind_append text w [] bs = refl
+each_behind_append text w (a ∷ ls) bs = ap (λ (l : Words). text ∷ (w a ++ l)) (each_behind_append text w ls bs) ∙ ap (λ (l : Words). text ∷ l) (sym (append_assoc (w a) (each_behind text w ls) (each_behind text w bs)))
+
+behind_tidy : {A : Type 0} (text : List ℕ) (w : A → Words) (bs : List A) → is_fixed text ≡ true → Tidy (separated_words text w bs) → Tidy (each_behind text w bs)
+behind_tidy text w [] is h = done
+behind_tidy text w (b ∷ bs) is h = fixed_tidy text (w b ++ each_behind text w bs) is h
+
+-- the items of two lists, in one list
+joined_tidy : {A : Type 0} (text : List ℕ) (w : A → Words) (ls bs : List A) → is_fixed text ≡ true → Tidy (separated_words text w ls) → Tidy (separated_words text w bs) → Tidy (separated_words text w (ls ++ bs))
+joined_tidy text w [] bs is h k = k
+joined_tidy text w (a ∷ ls) bs is h k =
+    let whole = tidy_append (w a ++ each_behind text w ls) (each_behind text w bs) h (behind_tidy text w bs is k) in
+    let parts : w a ++ each_behind text w (ls ++ bs) ≡ (w a ++ each_behind text w ls) ++ each_behind text w bs = ap (λ (l : Words). w a ++ l) (each_behind_append text w ls bs) ∙ sym (append_assoc (w a) (each_behind text w ls) (each_behind text w bs)) in
+    subst Tidy (sym parts) whole
+
+line_tidy : {A B : Type 0} (text : List ℕ) (R : Grammar A) {P : A → Type 0} {w : A → Words} {f : A → B} → Back R P w f → (x : List Token) (a : A) → (line text R).reads x a → Proper x → Tidy (w a)
+line_tidy text R {w = w} r x a h proper =
+    let c = h.1.1 in
+    let known = proper_append c.0 c.1 (subst Proper c.2 proper) in
+    let list = c.4 in
+    let deeper = proper_append list.0 list.1 (subst Proper list.2 known.1) in
+    let value = h.2 ∙ ap (λ p. p.0) h.1.2 in
+    subst Tidy (sym (ap w value)) (r.tidy list.0 h.1.0.1.0 list.3 deeper.0)
+
+decls_back : Back decl_list Filled (separated_words (codes ",") decl_words) (map unplaced_decl)
+decls_back = back_separated (codes ",") decl refl decl_back
+
+abbrev HeadsTidy : Heads → Type 0
+HeadsTidy h = Tidy (separated_words (codes ",") decl_words h.decls) × Tidy (separated_words (codes ",") alone h.messages) × Tidy (separated_words (codes ",") alone h.timers)
+
+with_head_tidy : (front : Heads) (x : List Token) (one : Head) → HeadsTidy front → head.reads x one → Proper x → HeadsTidy (with_head front one)
+with_head_tidy front x one f (inl h) proper = subst (λ o. HeadsTidy (with_head front o)) (sym h.2) (joined_tidy (codes ",") decl_words front.decls h.0 refl f.0 (line_tidy (codes "inst") decl_list decls_back x h.0 h.1 proper), f.1, f.2)
+with_head_tidy front x one f (inr (inl h)) proper = subst (λ o. HeadsTidy (with_head front o)) (sym h.2) (f.0, joined_tidy (codes ",") alone front.messages h.0 refl f.1 (line_tidy (codes "msg") name_list names_back x h.0 h.1 proper), f.2)
+with_head_tidy front x one f (inr (inr h)) proper = subst (λ o. HeadsTidy (with_head front o)) (sym h.2) (f.0, f.1, joined_tidy (codes ",") alone front.timers h.0 refl f.2 (line_tidy (codes "timer") name_list names_back x h.0 h.1 proper))
+
+with_heads_tidy : (front : Heads) (x : List Token) (hs : List Head) → HeadsTidy front → language.each head.reads x hs → Proper x → HeadsTidy (with_heads front hs)
+with_heads_tidy front x [] f h proper = f
+with_heads_tidy front x (one ∷ hs) f h proper =
+    let known = proper_append h.0 h.1 (subst Proper h.2 proper) in
+    with_heads_tidy (with_head front one) h.1 hs (with_head_tidy front h.0 one f h.3 known.0) h.4 known.1
+
+end_tidy : Tidy end_words
+end_tidy = fixed_tidy (codes ";") [] refl done
+
+head_tidy : {A : Type 0} (text : List ℕ) (w : A → Words) (ls : List A) → is_fixed text ≡ true → Tidy (separated_words (codes ",") w ls) → Tidy (head_list text w ls)
+head_tidy text w [] is h = done
+head_tidy text w (a ∷ ls) is h = fixed_tidy text (separated_words (codes ",") w (a ∷ ls) ++ end_words) is (tidy_append (separated_words (codes ",") w (a ∷ ls)) end_words h end_tidy)
+
+heads_tidy : (x : List Token) (hs : List Head) → language.each head.reads x hs → Proper x → Tidy (heads_said hs)
+heads_tidy x hs h proper =
+    let known = with_heads_tidy (record { decls = []; messages = []; timers = [] }) x hs (done, done, done) h proper in
+    let held = declared_by hs in
+    tidy_append (decl_head_words held.decls) (name_head_words (codes "msg") held.messages ++ name_head_words (codes "timer") held.timers) (head_tidy (codes "inst") decl_words held.decls refl known.0)
+    (tidy_append (name_head_words (codes "msg") held.messages) (name_head_words (codes "timer") held.timers) (head_tidy (codes "msg") alone held.messages refl known.1) (head_tidy (codes "timer") alone held.timers refl known.2))
+
 heads_back : Back (each head) Any heads_said heads_shown
-heads_back = record { back = read }
+heads_back = record { back = read; tidy = heads_tidy }
   where
     read : (x : List Token) (hs : List Head) → language.each head.reads x hs → Any hs × ((t : List Token) → texts t ≡ heads_said hs → (gs : List Head) × language.each head.reads t gs × (heads_shown gs ≡ heads_shown hs))
     read x hs h =
@@ -225,3 +284,25 @@ document_back n x d h t e =
   where
     whole : (a b : Option Heading) (c f : List Chart) → a ≡ b → c ≡ f → ◌≡◌ {A = Document} (record { heading = a; charts = c }) (record { heading = b; charts = f })
     whole a b c f i j = cc
+
+-- ---- the texts of a document
+
+opening_tidy : (x : List Token) (o : Option Heading) → (perhaps heading).reads x o → Proper x → Tidy (opening_words o)
+opening_tidy x o (inl h) proper = subst Tidy (sym (ap opening_words h.1)) done
+opening_tidy x o (inr h) proper = subst Tidy (sym (ap opening_words h.2)) (heading_back.tidy x h.0 h.1 proper)
+
+closing_tidy : (o : Option Heading) → Tidy (closing_words o)
+closing_tidy None = done
+closing_tidy (Some h) = fixed_tidy (codes "endmscdocument") end_words refl end_tidy
+
+-- the texts of what tokens of a text read as are tidy
+pub document_tidy : (n : ℕ) (x : List Token) (d : Document) → (document n).reads x d → Proper x → Tidy (document_words d)
+document_tidy n x d h proper =
+    let known = proper_append h.1.0 h.1.1 (subst Proper h.1.2 proper) in
+    let rest = h.1.4 in
+    let parts = proper_append rest.0 rest.1 (subst Proper rest.2 known.1) in
+    let heads = ap (λ (z : Document). z.heading) h.2 in
+    let charts = ap (λ (z : Document). z.charts) h.2 in
+    let first = subst Tidy (sym (ap opening_words heads)) (opening_tidy h.1.0 h.0.0 h.1.3 known.0) in
+    let middle = subst Tidy (sym (ap (all_words chart_words) charts)) (each_tidy (chart n) (chart_back n) rest.0 h.0.1.0 rest.3 parts.0) in
+    tidy_append (opening_words d.heading) (all_words chart_words d.charts ++ closing_words d.heading) first (tidy_append (all_words chart_words d.charts) (closing_words d.heading) middle (closing_tidy d.heading))

@@ -1,5 +1,5 @@
 -- An expression that was read is written so that it reads back, with no more levels open than in the text that was read.
-use Rattle.std.proofs.Common.{ℕ, ◌≡◌, ◌∙◌, ◌+◌, ◌++◌, ◌≤◌, ◌<◌, ◌⊎◌, ◌-◌, true, false, List, [], ◌∷◌, refl, sym, ap, subst, inl, inr, suc, zero, arith, append-nil, codes, nat_lt, Some}
+use Rattle.std.proofs.Common.{ℕ, Bool, ◌≡◌, ◌∙◌, ◌+◌, ◌++◌, ◌≤◌, ◌<◌, ◌⊎◌, ◌-◌, true, false, List, [], ◌∷◌, refl, sym, ap, subst, inl, inr, suc, zero, arith, append-nil, codes, nat_lt, Some}
 use Rattle.std.proofs.lemmas.Bool.{cases_lt}
 use Rattle.std.proofs.lemmas.Bool.Decides.{nat_tests}
 use Rattle.msc_tokens.specs.declared.token.Token.{Token}
@@ -13,9 +13,10 @@ use Rattle.msc_expression.specs.declared.bounds.Bounds.{Bounds}
 use Rattle.msc_expression.specs.Bounds.{bounds, with_bounds}
 use Rattle.msc_print.specs.Words.{Words}
 use Rattle.msc_print.specs.ExpressionWords.{looseness, enclosed, bound_words, part_words, expression_words, operator_words, other_words}
-use Rattle.msc_print.proofs.Backs.{cut, no_token, Fits, Back, Any, same}
-use Rattle.msc_print.proofs.BoundsBack.{bounds_read, writes_bounds}
-use Rattle.msc_print.proofs.Written.{Writes, writes_seq, writes_bytes, writes_behind, writes_opens}
+use Rattle.msc_print.proofs.Backs.{cut, no_token, Back, Any, same, back_bytes, but_plain}
+use Rattle.msc_print.proofs.BoundsBack.{bounds_read, bounds_proper, bounds_tidy, writes_bounds}
+use Rattle.msc_print.proofs.Tidy.{Tidy, done, Proper, is_fixed, fixed_tidy, fixed_around, tidy_append, proper_append}
+use Rattle.msc_print.proofs.Written.{Fits, Writes, writes_seq, writes_bytes, writes_behind, writes_opens}
 
 -- what binds at most so loosely
 abbrev pub level : ℕ → ℕ → Grammar Expression
@@ -215,5 +216,82 @@ prefix_back (suc m) x a (inr (inr (inr (inr h)))) = subst (Known 0 (suc m)) (sym
 pub expression_reads : (n : ℕ) (tokens others : List Token) (x : Expression) → (expression n).reads tokens x → language.texts others ≡ expression_words x → (expression n).reads others x
 expression_reads n tokens others x h e = raise (looseness x) 3 n x (expression_words x) (least x) (own_of n x (whole_back n (prefix_back n) tokens x h) n (omega arith)) others e
 
+-- ---- of tokens of a text, the texts are tidy
+
+abbrev KeepsTidy : Grammar Expression → Type 0
+KeepsTidy R = (x : List Token) (a : Expression) → R.reads x a → Proper x → Tidy (expression_words a)
+
+part_tidy : (k : ℕ) (a : Expression) (u : Words) → Tidy u → Tidy (part_words k a u)
+part_tidy k a u h = by (nat_lt (looseness a) k) refl
+  where
+    by : (b : Bool) → nat_lt (looseness a) k ≡ b → Tidy (part_words k a u)
+    by true i = rw i h
+    by false i = rw i (fixed_around (codes "(") (codes ")") u refl refl h)
+
+module _ (k : ℕ) (join : Expressions → Expression) (word : List ℕ) (is : is_fixed word ≡ true) (writes : (ps : Expressions) → expression_words (join ps) ≡ operator_words k word ps) (R : Grammar Expression) (r : KeepsTidy R) where
+  others_tidy : (x : List Token) (ps : List Expression) → language.each (behind (just word) R).reads x ps → Proper x → Tidy (other_words k word (expressions ps))
+  others_tidy x [] h proper = done
+  others_tidy x (p ∷ ps) h proper =
+      let known = proper_append h.0 h.1 (subst Proper h.2 proper) in
+      let deeper = proper_append h.3.1.0 h.3.1.1 (subst Proper h.3.1.2 known.0) in
+      let part = r h.3.1.1 p (subst (λ (a : Expression). R.reads h.3.1.1 a) (sym h.3.2) h.3.1.4) deeper.1 in
+      let u = part_words k p (expression_words p) in
+      let v = other_words k word (expressions ps) in
+      fixed_tidy word (u ++ v) is (tidy_append u v (part_tidy k p (expression_words p) part) (others_tidy h.1 ps h.4 known.1))
+
+  several_tidy : (x z : List Token) (p : Expression) (ps : List Expression) → R.reads x p → language.each (behind (just word) R).reads z ps → Proper x → Proper z → Tidy (expression_words (joined join (p ∷ ps)))
+  several_tidy x z p [] h hs one rest = r x p h one
+  several_tidy x z p (q ∷ ps) h hs one rest =
+      let u = part_words k p (expression_words p) in
+      let v = other_words k word (expressions (q ∷ ps)) in
+      subst Tidy (sym (writes (expressions (p ∷ q ∷ ps)))) (tidy_append u v (part_tidy k p (expression_words p) (r x p h one)) (others_tidy z (q ∷ ps) hs rest))
+
+  joined_tidy : KeepsTidy (read_as (joined join) (separated word R))
+  joined_tidy x a h proper =
+      let c = h.1.1 in
+      let known = proper_append c.0 c.1 (subst Proper c.2 proper) in
+      let value : a ≡ joined join (h.1.0.0 ∷ h.1.0.1) = h.2 ∙ ap (joined join) h.1.2 in
+      subst Tidy (sym (ap expression_words value)) (several_tidy c.0 c.1 h.1.0.0 h.1.0.1 c.3 c.4 known.0 known.1)
+
+whole_tidy : (n : ℕ) → KeepsTidy (prefix n) → KeepsTidy (expression n)
+whole_tidy n r = joined_tidy 3 Alt (codes "alt") refl (λ ps. refl) (parallel (prefix n)) (joined_tidy 2 Par (codes "par") refl (λ ps. refl) (sequence (prefix n)) (joined_tidy 1 Seq (codes "seq") refl (λ ps. refl) (prefix n) r))
+
+empty_tidy : Tidy (expression_words Empty)
+empty_tidy = fixed_tidy (codes "empty") [] refl done
+
+chart_tidy : (c : List ℕ) (x : List Token) → (bytes_of chart_names).reads x c → Proper x → Tidy (c ∷ [])
+chart_tidy c x h proper = (back_bytes chart_names (but_plain (codes "empty" ∷ []))).tidy x c h proper
+
+prefix_tidy : (n : ℕ) → KeepsTidy (prefix n)
+unfolding prefix
+prefix_tidy zero x a (inl h) proper = absurd h
+prefix_tidy zero x a (inr (inl h)) proper = absurd h
+prefix_tidy zero x a (inr (inr (inl h))) proper = absurd h
+prefix_tidy zero x a (inr (inr (inr (inl h)))) proper = subst Tidy (sym (ap expression_words h.2)) empty_tidy
+prefix_tidy zero x a (inr (inr (inr (inr h)))) proper = subst Tidy (sym (ap expression_words h.2)) (chart_tidy h.0 x h.1 proper)
+prefix_tidy (suc m) x a (inl h) proper =
+    let r = h.4 in
+    let known = subst Proper h.2 proper in
+    let s = bounds_read (prefix m) r.0.0 r.0.1 h.1 r.1 in
+    let inner = bounds_proper (prefix m) r.0.0 r.0.1 h.1 r.1 known.1 in
+    let u = part_words 1 r.0.1 (expression_words r.0.1) in
+    let part = part_tidy 1 r.0.1 (expression_words r.0.1) (prefix_tidy m inner.0 r.0.1 inner.1 inner.2) in
+    let lower = r.0.0.lower in
+    let upper = r.0.0.upper in
+    subst Tidy (sym (ap expression_words r.2)) (fixed_tidy (codes "loop") (bound_words lower upper ++ u) refl (bounds_tidy lower upper u s.0 s.1 part))
+prefix_tidy (suc m) x a (inr (inl h)) proper =
+    let r = h.4 in
+    let known = subst Proper h.2 proper in
+    let u = part_words 1 r.0 (expression_words r.0) in
+    subst Tidy (sym (ap expression_words r.2)) (fixed_tidy (codes "opt") u refl (part_tidy 1 r.0 (expression_words r.0) (prefix_tidy m h.1 r.0 r.1 known.1)))
+prefix_tidy (suc m) x a (inr (inr (inl h))) proper =
+    let r = h.4 in
+    let inner = r.1 in
+    let known = subst Proper h.2 proper in
+    let part = proper_append inner.0 inner.1 (subst Proper inner.2 known.1) in
+    subst Tidy (sym (ap expression_words r.2)) (whole_tidy m (prefix_tidy m) inner.0 r.0.0 inner.3 part.0)
+prefix_tidy (suc m) x a (inr (inr (inr (inl h)))) proper = subst Tidy (sym (ap expression_words h.2)) empty_tidy
+prefix_tidy (suc m) x a (inr (inr (inr (inr h)))) proper = subst Tidy (sym (ap expression_words h.2)) (chart_tidy h.0 x h.1 proper)
+
 pub expression_back : (n : ℕ) → Back (expression n) Any expression_words same
-expression_back n = record { back = λ x a h. (tt, λ t e. (a, expression_reads n x t a h e, refl)) }
+expression_back n = record { back = λ x a h. (tt, λ t e. (a, expression_reads n x t a h e, refl)); tidy = whole_tidy n (prefix_tidy n) }

@@ -12,13 +12,13 @@ use Rattle.msc_print.specs.Words.{Words, all_words, each_behind, separated_words
 use Rattle.msc_print.specs.ExpressionWords.{enclosed}
 use Rattle.msc_print.specs.GraphWords.{graph_words, is_end, label_word, label_words, line_words, lines_words, node_words, next_words, frame_words, other_frame_words}
 use Rattle.msc_print.specs.Unplaced.{unplaced_label, unplaced_graph, unplaced_graphs, unplaced_line, unplaced_lines, unplaced_node}
-use Rattle.msc_print.proofs.Backs.{Back, Any, same, both, beside, pair_is, back_seq, back_or, back_as, back_so, back_mark, back_placed_word, back_behind, back_opens, back_separated, back_until}
+use Rattle.msc_print.proofs.Backs.{Back, Any, same, both, beside, pair_is, back_seq, back_or, back_as, back_so, back_mark, back_placed_word, back_behind, back_opens, back_separated, back_until, but_plain}
 use Rattle.msc_print.proofs.ExpressionsBack.{expression_back}
 use Rattle.msc_print.proofs.PartsBack.{ending_back, names_back}
 
 labels_back : Back labels Any label_words (map unplaced_label)
 labels_back = back_so labels Any label_words (map unplaced_label) same (back_separated (codes "alt") label refl
-    (back_as label_of placed_name Any label_word unplaced_label (λ c. record { name = c; place = first_place }) (back_placed_word names) (λ p m. tt) (λ p m. refl) (λ p. refl))) (λ a m. tt) (λ a m. refl) (λ a. refl)
+    (back_as label_of placed_name Any label_word unplaced_label (λ c. record { name = c; place = first_place }) (back_placed_word names (but_plain [])) (λ p m. tt) (λ p m. refl) (λ p. refl))) (λ a m. tt) (λ a m. refl) (λ a. refl)
 
 lines_are : (ls : List Line) → lines_words (lines ls) ≡ all_words line_words ls
 lines_are [] = refl
@@ -110,12 +110,12 @@ line_rest_back n F r = back_or _ _
 
 line_back : (n : ℕ) (L : Inner Line) → Back (opens (just (codes "expr")) (inside frame_rest L)) Any frame_word unplaced_graph → Back (line_in (expression n) L) Any line_words unplaced_line
 line_back n L r = back_as line_of (seq label (behind (just (codes ":")) (line_rest (expression n) (opens (just (codes "expr")) (inside frame_rest L))))) Any line_words unplaced_line (λ c. line c.0.name first_place c.1.0 c.1.1)
-    (back_seq label _ (back_as label_of placed_name Any label_word unplaced_label (λ c. record { name = c; place = first_place }) (back_placed_word names) (λ p m. tt) (λ p m. refl) (λ p. refl))
+    (back_seq label _ (back_as label_of placed_name Any label_word unplaced_label (λ c. record { name = c; place = first_place }) (back_placed_word names (but_plain [])) (λ p m. tt) (λ p m. refl) (λ p. refl))
     (back_behind (just (codes ":")) (codes ":") _ refl (line_rest_back n _ r))) (λ p m. tt) (λ p m. refl) (λ p. refl)
 
 pub graph_line_back : (n : ℕ) → Back (graph_line n) Any line_words unplaced_line
 unfolding graph_line
-graph_line_back zero = line_back 0 shut (record { back = λ x a h. absurd h })
+graph_line_back zero = line_back 0 shut (record { back = λ x a h. absurd h; tidy = λ x a h proper. absurd h })
 graph_line_back (suc n) = line_back (suc n) (inner (graph_line n)) (frame_back (graph_line n) (graph_line_back n))
 
 pub chart_graph_back : {E F : Type 0} (n : ℕ) (E' : Grammar E) {P : E → Type 0} {w : E → Words} {f : E → F} → Back E' P w f → Back (chart_graph n E') (λ p. P p.1) (beside graph_words w) (both unplaced_graph f)

@@ -13,7 +13,7 @@ use Rattle.msc_tree.specs.Statements.{Reference, Item, Form, Single, Coregion, C
 use Rattle.msc_tree.specs.Statements as tree
 use Rattle.msc_reading.specs.Languages.{just, texts}
 use Rattle.msc_reading.specs.Grammars.{Grammar, Inner, shut, inner, inside, seq, or, read_as, chain, until, optional, behind, opens}
-use Rattle.msc_reading.specs.Parts.{name, ending, kept, all_or_none, all_of, placed, lead, leads, name_list}
+use Rattle.msc_reading.specs.Parts.{name, ending, kept, all_or_none, all_of, placed, lead, leads, other_leads, name_list}
 use Rattle.msc_items.specs.Declarations.{decl, declaration}
 use Rattle.msc_items.specs.Events.{single, coregion, stop}
 use Rattle.msc_items.specs.Multis.{shared_in, condition, joins}
@@ -27,8 +27,9 @@ use Rattle.msc_print.specs.Words.{Words, all_words, name_words, end_words}
 use Rattle.msc_print.specs.ExpressionWords.{bound_words, expression_words}
 use Rattle.msc_print.specs.StatementWords.{begun_words, bounds_in, decl_words, form_word, item_words, items_words, joins_words, known_words, naming_words, operand_words, operands_words, other_operand_words, refined_words, reference_words, shared_words, statement_words, statements_words}
 use Rattle.msc_print.specs.Unplaced.{unplaced_decl, unplaced_join, unplaced_item, unplaced_items, unplaced_operand, unplaced_operands, unplaced_reference, unplaced_statement, unplaced_statements}
-use Rattle.msc_print.proofs.Backs.{Back, Any, same, both, Filled, Fits, cut, pair_is, back_seq, back_or, back_as, back_so, back_behind, back_placed, back_placed_word, back_opens, back_each, back_until, back_chain, back_optional}
-use Rattle.msc_print.proofs.BoundsBack.{bounds_read, writes_bounds}
+use Rattle.msc_print.proofs.Backs.{Back, Any, same, both, Filled, FitsFixed, cut, pair_is, back_seq, back_or, back_as, back_so, back_behind, back_placed, back_placed_word, back_opens, back_each, back_until, back_chain, back_optional, each_tidy, but_plain}
+use Rattle.msc_print.proofs.BoundsBack.{bounds_read, bounds_proper, bounds_tidy, writes_bounds}
+use Rattle.msc_print.proofs.Tidy.{Tidy, Proper}
 use Rattle.msc_print.proofs.ExpressionsBack.{expression_back}
 use Rattle.msc_print.proofs.PartsBack.{ending_back, name_back, names_back, chart_in, decl_back, declaration_back, single_back, coregion_back, stop_back, shared_in_back, condition_back, joins_back}
 
@@ -51,7 +52,7 @@ statements_shown [] = refl
 statements_shown (s ∷ ss) = ap (λ (l : Statements). tree.statement_and (unplaced_statement s) l) (statements_shown ss)
 
 pub list_back : {A B : Type 0} (R : Grammar A) {P : A → Type 0} {w : A → Words} {f : A → B} → Back R P w f → Back (each R) Any (all_words w) (map f)
-list_back R r = record { back = λ x ls h. (tt, back_each R r x ls h) }
+list_back R r = record { back = λ x ls h. (tt, back_each R r x ls h); tidy = λ x ls h proper. each_tidy R r x ls h proper }
 
 abbrev named_words : Naming → Words
 named_words p = naming_words p.0 ++ (shared_words p.1 ++ end_words)
@@ -110,10 +111,10 @@ module _ {A : Type 0} (f : A → Operand) (column : Bool) where
   Held R = Back R Any (λ a. operand_words (f a)) shown
 
   -- "end" end behind the form's word
-  closing_back : (text : List ℕ) → Fits (just text) text → Back (behind (just text) closing) Any (λ u. last text) same
+  closing_back : (text : List ℕ) → FitsFixed (just text) text → Back (behind (just text) closing) Any (λ u. last text) same
   closing_back text is = back_behind (just text) text closing is (back_behind (just (codes "end")) (codes "end") ending refl ending_back)
 
-  several_back : (text : List ℕ) → Fits (just text) text → (R : Grammar A) → Held R → Back (several (just text) R) Any (held_words text) (map shown)
+  several_back : (text : List ℕ) → FitsFixed (just text) text → (R : Grammar A) → Held R → Back (several (just text) R) Any (held_words text) (map shown)
   several_back text is R r = back_as firsts (seq R (until (behind (just text) (after ending R)) (behind (just text) closing))) Any (held_words text) (map shown) (λ c. c.0 ∷ c.1.0)
       (back_seq R _ r (back_until (behind (just text) (after ending R))
       (back_behind (just text) text _ is (back_as (λ p. p.1) (seq ending R) Any (λ a. end_words ++ operand_words (f a)) shown (λ c. c.1) (back_seq ending R ending_back r) (λ a m. tt) (λ a m. refl) (λ a. refl)))
@@ -123,7 +124,7 @@ module _ {A : Type 0} (f : A → Operand) (column : Bool) where
       regroup : (a b : Words) → (a ++ b) ++ last text ≡ a ++ (b ++ last text)
       regroup a b = simp append_assoc
 
-  single_operand_back : (text : List ℕ) → Fits (just text) text → (R : Grammar A) → Held R → Back (inlines.single (just text) R) Any (held_words text) (map shown)
+  single_operand_back : (text : List ℕ) → FitsFixed (just text) text → (R : Grammar A) → Held R → Back (inlines.single (just text) R) Any (held_words text) (map shown)
   single_operand_back text is R r = back_as (λ p. p.0 ∷ []) (seq R (behind (just text) closing)) Any (held_words text) (map shown) (λ c. c.0 ∷ [])
       (back_seq R _ r (closing_back text is)) (λ p m. tt) (λ p m. ap (λ (w : Words). w ++ last text) (append-nil (operand_words (f p.0)))) (λ p. refl)
 
@@ -136,7 +137,7 @@ module _ {A : Type 0} (f : A → Operand) (column : Bool) where
       Back (opens (just (codes "begin")) (inside (λ p. body (naming column) (Q p)) P)) Any (level_words text) (both same (map shown))
 
   level_shut : Level shut
-  level_shut Q text q = record { back = λ x a h. absurd h }
+  level_shut Q text q = record { back = λ x a h. absurd h; tidy = λ x a h proper. absurd h }
 
   level_inner : (R : Grammar A) → Held R → Level (inner R)
   level_inner R r Q text q = back_so (opens (just (codes "begin")) (inner (body (naming column) (Q R)))) Any (level_words text) (both same (map shown)) same
@@ -156,8 +157,14 @@ module _ {A : Type 0} (f : A → Operand) (column : Bool) where
   once_back kind T none r = back_as taken_once T Any (tail_words kind) tail_shown at_once r (λ p m. tt) (λ p m. ap (λ (w : Words). w ++ level_words (form_word kind) p) (none 1 (Some 1))) (λ p. refl)
 
   loop_back : (T : Grammar (Naming × List A)) → Back T Any (level_words (codes "loop")) (both same (map shown)) → Back (with_bounds T) Any (tail_words Loop) tail_shown
-  loop_back T r = record { back = read }
+  loop_back T r = record { back = read; tidy = keeps }
     where
+      keeps : (x : List Token) (q : Tail A) → (with_bounds T).reads x q → Proper x → Tidy (tail_words Loop q)
+      keeps x (b, p) h proper =
+          let s = bounds_read T b p x h in
+          let inner = bounds_proper T b p x h proper in
+          bounds_tidy b.lower b.upper (level_words (codes "loop") p) s.0 s.1 (r.tidy inner.0 p inner.1 inner.2)
+
       read : (x : List Token) (q : Tail A) → (with_bounds T).reads x q → Any q × ((t : List Token) → texts t ≡ tail_words Loop q → (c : Tail A) × (with_bounds T).reads t c × (tail_shown c ≡ tail_shown q))
       read x (b, p) h =
           let s = bounds_read T b p x h in
@@ -169,7 +176,7 @@ module _ {A : Type 0} (f : A → Operand) (column : Bool) where
                 ((b, back.0), ((Some b, back.0), inl ((b, back.0), (c.0, c.1, c.2, writes_bounds b s.0 s.1 c.0 c.3, back.1), refl), refl), pair_is b b (both same (map shown) back.0) (both same (map shown) p) refl back.2),
           )
 
-  form_back : (kind : InlineForm) (T : Grammar (Tail A)) → Fits (just (form_word kind)) (form_word kind) → Back T Any (tail_words kind) tail_shown → Back (form f kind (just (form_word kind)) T) Any item_words unplaced_item
+  form_back : (kind : InlineForm) (T : Grammar (Tail A)) → FitsFixed (just (form_word kind)) (form_word kind) → Back T Any (tail_words kind) tail_shown → Back (form f kind (just (form_word kind)) T) Any item_words unplaced_item
   form_back kind T is r = back_as (inline_item f kind) (placed (just (form_word kind)) T) Any item_words unplaced_item
       (λ c. tree.placed first_place (Inline (record { form = kind; lower = c.0.lower; upper = c.0.upper; name = c.1.0.0; shared = c.1.0.1 }) (operands c.1.1)))
       (back_placed (just (form_word kind)) (form_word kind) T is r) (λ p m. tt)
@@ -279,7 +286,7 @@ colon_is finish m = refl
 covered_back : (E M : Grammar (List Item)) → Back E Any (all_words item_words) (map unplaced_item) → Back M Any (all_words item_words) (map unplaced_item) → Back (covered_of E M) Any statement_words unplaced_statement
 covered_back E M e m = back_or _ _
     (back_as (λ p. lead_statement p.0 p.1) (seq lead _) Any statement_words unplaced_statement (λ c. lead_statement (c.0, first_place) c.1)
-    (back_seq lead _ (back_placed_word leads) (back_or _ _
+    (back_seq lead _ (back_placed_word leads (but_plain other_leads)) (back_or _ _
     (back_so (behind (just (codes ":")) (or (read_as happen E) (or (read_as declare declaration) (read_as (λ e. finish) (behind (just (codes "endinstance")) ending))))) Known line_words line_shown same (back_behind (just (codes ":")) (codes ":") _ refl (back_or _ _
     (back_as happen E Plain rest line_shown (λ c. happen c) e (λ a n. tt) (λ a n. items_are a) (λ a. refl))
     (back_or _ _ (back_as declare declaration Plain rest line_shown (λ c. declare (c.0, at_first c.1)) declaration_back (λ a n. tt) (λ a n. refl) (λ a. refl))

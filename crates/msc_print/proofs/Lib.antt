@@ -6,8 +6,10 @@ pub mod ExpressionsBack
 pub mod GraphBack
 pub mod ItemsBack
 pub mod PartsBack
+pub mod Printed
 pub mod Putting
 pub mod Sheets
 pub mod Spelled
+pub mod Tidy
 pub mod Unmoved
 pub mod Written

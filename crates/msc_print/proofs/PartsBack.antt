@@ -27,7 +27,8 @@ use Rattle.msc_print.specs.ExpressionWords.{enclosed}
 use Rattle.msc_print.specs.StatementWords.{condition_words, cover_words, decl_words, join_words, join_end_words, joins_words, kind_words, left_words, refined_words, shared_words}
 use Rattle.msc_print.specs.ChartWords.{heading_words, related_words}
 use Rattle.msc_print.specs.Unplaced.{unplaced_decl, unplaced_event, unplaced_join}
-use Rattle.msc_print.proofs.Backs.{Back, Any, same, nothing, both, beside, Fits, Filled, one_token, back_seq, back_or, back_as, back_so, back_bytes, back_mark, back_word, back_placed_word, back_behind, back_placed, back_separated, back_until, back_optional, back_tail}
+use Rattle.msc_print.proofs.Backs.{Back, Any, same, nothing, both, beside, FitsFixed, Filled, one_token, back_seq, back_or, back_as, back_so, back_bytes, back_mark, back_word, back_placed_word, back_behind, back_placed, back_separated, back_until, back_optional, back_tail, but_plain, item_plain}
+use Rattle.msc_print.proofs.Tidy.{done, fixed_tidy}
 
 pub ending_back : Back ending Any (λ u. end_words) same
 ending_back = record {
@@ -38,10 +39,11 @@ ending_back = record {
         let fits : among (just (codes ";")) c.0 ≡ true = rw c.2 refl in
         (tt, ((tt, c.0.bytes), ((None, c.0.bytes), inr (c.0.bytes, (c.0, (c.1, fits), refl), refl), refl), refl), refl),
   );
+  tidy = λ x a h proper. fixed_tidy (codes ";") [] refl done;
 }
 
 pub name_back : Back name Any alone same
-name_back = back_bytes names
+name_back = back_bytes names (but_plain [])
 
 map_same : {A : Type 0} (xs : List A) → map same xs ≡ xs
 map_same [] = refl
@@ -106,7 +108,7 @@ pub decl_back : Back decl Any decl_words unplaced_decl
 decl_back = back_as (λ p. decl_of p.0.0 (all_or_none p.0.1) p.1) (tail (tail placed_name (behind (just (codes ":")) kind)) refinement) Any decl_words unplaced_decl
     (λ c. record { name = c.0.0; kind = all_or_none c.0.1; refined = c.1; place = first_place })
     (back_tail (tail placed_name (behind (just (codes ":")) kind)) refinement refined_of
-    (back_tail placed_name (behind (just (codes ":")) kind) (λ k. kind_words (all_or_none k)) (back_placed_word names) (back_behind (just (codes ":")) (codes ":") kind refl kind_back) refl kind_written)
+    (back_tail placed_name (behind (just (codes ":")) kind) (λ k. kind_words (all_or_none k)) (back_placed_word names (but_plain [])) (back_behind (just (codes ":")) (codes ":") kind refl kind_back) refl kind_written)
     refinement_back refl (λ b m. refl))
     (λ p m. tt) (λ p m. decl_is p.0.0 (all_or_none p.0.1) p.1) (λ p. decl_shown p.0.0 (all_or_none p.0.1) p.1 ∙ ap (λ k. record { name = p.0.0.0; kind = all_or_none k; refined = chart_in p.1; place = first_place }) (option_same p.0.1))
   where
@@ -140,7 +142,7 @@ parameters_back : Back parameters Any (λ l. enclosed (name_words l)) same
 parameters_back = back_behind (just (codes "(")) (codes "(") _ refl
     (back_as (λ p. p.0) (optional all_or_none (separated (codes ",") item) (mark (codes ")"))) Any (λ l. name_words l ++ codes ")" ∷ []) same (λ c. c.0)
     (back_optional all_or_none (separated (codes ",") item) (mark (codes ")")) Any name_words same all_or_none
-    (back_so (separated (codes ",") item) Any name_words same same (back_separated (codes ",") item refl (back_bytes names_or_strings)) (λ a m. tt) (λ a m. refl) (λ a. sym (map_same a)))
+    (back_so (separated (codes ",") item) Any name_words same same (back_separated (codes ",") item refl (back_bytes names_or_strings item_plain)) (λ a m. tt) (λ a m. refl) (λ a. sym (map_same a)))
     (back_mark (just (codes ")")) (codes ")") refl) tt (λ a m. tt) refl (λ a m. refl) refl (λ a. refl))
     (λ a m. tt) (λ a m. refl) (λ a. refl))
 
@@ -171,7 +173,7 @@ far_words _ target = target_words target
 abbrev pub address_words : Address → Words
 address_words a = far_words a.kind a.target ++ orders_words a.orders
 
-module _ (lost : List ℕ) (kind lost_kind : Kind) (is : Fits (just lost) lost) (plain_is : (t : Target) → far_words kind t ≡ target_words t) (lost_is : (t : Target) → far_words lost_kind t ≡ lost ∷ target_words t) where
+module _ (lost : List ℕ) (kind lost_kind : Kind) (is : FitsFixed (just lost) lost) (plain_is : (t : Target) → far_words kind t ≡ target_words t) (lost_is : (t : Target) → far_words lost_kind t ≡ lost ∷ target_words t) where
   abbrev OneOf : Address → Type 0
   OneOf a = (a.kind ≡ kind) ⊎ (a.kind ≡ lost_kind)
 
@@ -213,7 +215,7 @@ kind_is_either : (way toward lost : List ℕ) (kind lost_kind k : Kind) (e : Raw
 kind_is_either way toward lost kind lost_kind k e (inl is) one other = subst (λ (j : Kind). act_words j e ≡ way ∷ (message_words e ++ toward ∷ far_words j e.target)) (sym is) one
 kind_is_either way toward lost kind lost_kind k e (inr is) one other = subst (λ (j : Kind). act_words j e ≡ way ∷ (message_words e ++ toward ∷ far_words j e.target)) (sym is) other
 
-module _ (way toward lost : List ℕ) (kind lost_kind : Kind) (way_fits : Fits (just way) way) (toward_fits : Fits (just toward) toward) (lost_fits : Fits (just lost) lost)
+module _ (way toward lost : List ℕ) (kind lost_kind : Kind) (way_fits : FitsFixed (just way) way) (toward_fits : FitsFixed (just toward) toward) (lost_fits : FitsFixed (just lost) lost)
     (plain_is : (t : Target) → far_words kind t ≡ target_words t) (lost_is : (t : Target) → far_words lost_kind t ≡ lost ∷ target_words t)
     (one : (e : RawEvent) → act_words kind e ≡ way ∷ (message_words e ++ toward ∷ far_words kind e.target)) (other : (e : RawEvent) → act_words lost_kind e ≡ way ∷ (message_words e ++ toward ∷ far_words lost_kind e.target)) where
   exchange_back : Back (exchange way toward lost kind lost_kind) Any untagged unplaced_event
@@ -230,14 +232,14 @@ act_back =
     back_or output _ (exchange_back (codes "out") (codes "to") (codes "lost") Output OutputLost refl refl refl (λ t. refl) (λ t. refl) (λ e. refl) (λ e. refl))
     (back_or input _ (exchange_back (codes "in") (codes "from") (codes "found") Input InputFound refl refl refl (λ t. refl) (λ t. refl) (λ e. refl) (λ e. refl))
     (back_or action _ (back_as (λ p. event_of p.0 (plain p.1.0) (address_of Action Nobody p.1.1)) (placed (just (codes "action")) (seq item orders)) Any untagged unplaced_event (λ c. event_of first_place (plain c.0) (address_of Action Nobody c.1))
-    (back_placed (just (codes "action")) (codes "action") _ refl (back_seq item orders (back_bytes names_or_strings) orders_back)) (λ p m. tt) (λ p m. refl) (λ p. refl))
+    (back_placed (just (codes "action")) (codes "action") _ refl (back_seq item orders (back_bytes names_or_strings item_plain) orders_back)) (λ p m. tt) (λ p m. refl) (λ p. refl))
     (back_or (timer start_words TimerStart) _ (timer_back start_words (codes "starttimer") TimerStart refl (λ e. refl))
     (back_or (timer stop_words TimerStop) _ (timer_back stop_words (codes "stoptimer") TimerStop refl (λ e. refl))
     (back_or (timer (just (codes "timeout")) Timeout) creation (timer_back (just (codes "timeout")) (codes "timeout") Timeout refl (λ e. refl))
     (back_as (λ p. event_of p.0 (plain p.1.0) (address_of Create (Instance p.1.0) p.1.1)) (placed (just (codes "create")) (seq name orders)) Any untagged unplaced_event (λ c. event_of first_place (plain c.0) (address_of Create (Instance c.0) c.1))
     (back_placed (just (codes "create")) (codes "create") _ refl (back_seq name orders name_back orders_back)) (λ p m. tt) (λ p m. refl) (λ p. refl)))))))
   where
-    timer_back : (words : Set) (text : List ℕ) (k : Kind) → Fits words text → ((e : RawEvent) → act_words k e ≡ text ∷ message_words e) → Back (timer words k) Any untagged unplaced_event
+    timer_back : (words : Set) (text : List ℕ) (k : Kind) → FitsFixed words text → ((e : RawEvent) → act_words k e ≡ text ∷ message_words e) → Back (timer words k) Any untagged unplaced_event
     timer_back words text k fits is = back_as (λ p. event_of p.0 p.1.0 (address_of k Nobody p.1.1)) (placed words (message orders)) Any untagged unplaced_event (λ c. event_of first_place c.0 (address_of k Nobody c.1))
         (back_placed words text _ fits (message_back orders orders_back)) (λ p m. tt) (λ p m. ap (λ l. l ++ orders_words p.1.1) (is (event_of p.0 p.1.0 (address_of k Nobody p.1.1)))) (λ p. refl)
 
@@ -314,7 +316,7 @@ join_end_back = back_or _ _
 
 join_back : Back join Any join_words unplaced_join
 join_back = back_as (λ p. record { gate = p.0.0; to = p.1; place = p.0.1 }) (seq placed_name (behind (just (codes "to")) multis.join_end)) Any join_words unplaced_join (λ c. record { gate = c.0; to = c.1; place = first_place })
-    (back_seq placed_name _ (back_placed_word names) (back_behind (just (codes "to")) (codes "to") _ refl join_end_back)) (λ a m. tt) (λ a m. refl) (λ a. refl)
+    (back_seq placed_name _ (back_placed_word names (but_plain [])) (back_behind (just (codes "to")) (codes "to") _ refl join_end_back)) (λ a m. tt) (λ a m. refl) (λ a. refl)
 
 pub joins_back : Back joins Filled joins_words (map unplaced_join)
 joins_back = back_so joins Filled joins_words (map unplaced_join) same (back_behind (just (codes "via")) (codes "via") _ refl (back_separated (codes ",") join refl join_back)) (λ a m. m) written (λ a. refl)

@@ -1,10 +1,13 @@
 -- Tokens with texts that are written for a value read as it.
 use Rattle.std.proofs.Common.{ℕ, ◌≡◌, ◌++◌, true, List, [], ◌∷◌, refl, sym}
 use Rattle.msc_tokens.specs.declared.token.Token.{Token}
-use Rattle.msc_reading.specs.Languages.{Set, among, just, texts}
+use Rattle.msc_reading.specs.Languages.{Set, among, any_fits, just, texts}
 use Rattle.msc_reading.specs.Grammars.{Grammar, seq, behind, bytes_of, opens, inner}
 use Rattle.msc_print.specs.Words.{Words}
-use Rattle.msc_print.proofs.Backs.{cut, one_token, first_token, Fits}
+use Rattle.msc_print.proofs.Backs.{cut, one_token, first_token}
+
+abbrev pub Fits : Set → List ℕ → Type 0
+Fits s text = any_fits s text ≡ true
 
 abbrev pub Writes : {A : Type 0} → Grammar A → A → Words → Type 0
 Writes R a words = (t : List Token) → texts t ≡ words → R.reads t a

@@ -1,5 +1,6 @@
 ghost use Rattle.std.specs.Prelude.{◌≡◌, ℕ, List};
 ghost use Rattle.msc_tokens.specs.declared.token.Token.{Token};
+ghost use Rattle.msc_tokens.specs.Spelling.{Spells};
 ghost use Rattle.msc_tree.specs.Expressions.{Expression};
 ghost use Rattle.msc_reading.specs.Languages.{texts};
 ghost use Rattle.msc_expression.specs.ExpressionGrammar.{expression};
@@ -8,7 +9,7 @@ ghost use Rattle.msc_tree.specs.Charts.{Document};
 ghost use Rattle.msc_document.specs.DocumentGrammar.{document};
 ghost use Rattle.msc_print.specs.ChartWords.{canonical_text, document_words};
 ghost use Rattle.msc_print.specs.Layout.{laid_out};
-ghost use Rattle.msc_print.specs.ReadsBack.{ReadsAs};
+ghost use Rattle.msc_print.specs.ReadsBack.{PrintReadsBack, ReadsAs};
 ghost use Rattle.msc_print.specs.Texts.{AreTexts, SpellsTexts};
 ghost use Rattle.msc_print.specs.Words.{Words};
 ghost use Rattle.msc_print.specs.Unplaced.{SameAside, without_places};
@@ -46,3 +47,22 @@ pub fn prints_stay()
 pub fn layout_keeps_tokens_apart()
     ensures { (words : Words) → AreTexts words → SpellsTexts (laid_out words) words }
 {}
+
+/// The tokens that a document of a text is printed with are texts of tokens, and no two neighbours make a longer mark.
+pub fn printed_texts_are_texts()
+    ensures { (n : ℕ) (bytes : List ℕ) (tokens : List Token) (d : Document) → Spells bytes tokens → (document n).reads tokens d → AreTexts (document_words d) }
+{}
+
+/// The canonical text of a document of a text is a text of the same document, places aside, with no more levels open, and
+/// of no other document; and that document has the same canonical text.
+pub fn prints_read_back()
+    ensures reads { (n : ℕ) (bytes : List ℕ) (tokens : List Token) (d : Document) → Spells bytes tokens → (document n).reads tokens d → PrintReadsBack n d }
+    ensures only { (m n : ℕ) (bytes : List ℕ) (tokens others : List Token) (d e : Document) → Spells bytes tokens → (document n).reads tokens d
+        → Spells (canonical_text d) others → (document m).reads others e → SameAside e d × (canonical_text e ≡ canonical_text d) }
+{
+    documents_are_exact();
+    documents_read_back();
+    layout_keeps_tokens_apart();
+    printed_texts_are_texts();
+    places_are_not_printed();
+}
