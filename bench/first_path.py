@@ -4,7 +4,7 @@
 usage: first_path.py PROGRAM [STATEMENTS [INSTANCES]]
 
 PROGRAM is the built program (crates/mscjudge/out/mscjudge after `rt run mscjudge`). The chart has so many statements
-(100,000) over so many instances (60); the log is one of its runs, in another order than the text where the chart allows it.
+(66,000, just below what a chart may hold) over so many instances (60); the log is one of its runs, in another order than the text where the chart allows it.
 """
 import os
 import random
@@ -59,7 +59,7 @@ def run_of(events, seed):
 
 def main():
     program = os.path.abspath(sys.argv[1])
-    statements = int(sys.argv[2]) if len(sys.argv) > 2 else 100_000
+    statements = int(sys.argv[2]) if len(sys.argv) > 2 else 66_000
     instances = int(sys.argv[3]) if len(sys.argv) > 3 else 60
     statements -= statements % 2
     text, events = chart_of(statements, instances, 7)
@@ -72,10 +72,12 @@ def main():
         start = time.monotonic()
         done = subprocess.run([program, "judge", "large.msc", "Large", "large.log"], cwd=folder, capture_output=True, check=False)
         seconds = time.monotonic() - start
-    peak = resource.getrusage(resource.RUSAGE_CHILDREN).ru_maxrss / 1024
+    usage = resource.getrusage(resource.RUSAGE_CHILDREN)
+    peak = usage.ru_maxrss / 1024
+    processor = usage.ru_utime + usage.ru_stime
     print("statements %d, instances %d, document %d bytes, log %d bytes" % (statements, instances, len(text), len(log)))
     print("status %d, %s" % (done.returncode, done.stdout.decode().strip()))
-    print("%.2f seconds, peak memory %.0f MiB" % (seconds, peak))
+    print("%.2f seconds, %.2f of a processor, peak memory %.0f MiB" % (seconds, processor, peak))
     return 0 if done.returncode == 0 else 1
 
 
