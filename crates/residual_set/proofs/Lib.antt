@@ -7,3 +7,4 @@ mod VerdictLaws
 mod TrackFacts
 mod Tracking
 mod Gathering
+mod Samples

@@ -9,6 +9,8 @@ mod gathered;
 pub mod laws;
 mod residuals;
 mod store;
+#[cfg(test)]
+mod tests;
 mod track;
 
 pub use residuals::Residuals;

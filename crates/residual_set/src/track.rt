@@ -7,6 +7,9 @@ ghost use Rattle.residual_set.specs.Sets.{IsSoundFor};
 ghost use Rattle.residual_set.specs.Tracks.{Fed, IfHeld, IsSame};
 ghost use Rattle.residual_set.specs.Verdicts.{IsVerdict, TellsRuns, IsLargest};
 
+#[cfg(test)]
+mod tests;
+
 use crate::advance::{Outcome, advance};
 use crate::{StepFault, Store};
 use chart_term::{Nets, Term};
