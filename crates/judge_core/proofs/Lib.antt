@@ -1,3 +1,4 @@
 mod Few
 mod Takings
 mod Judging
+mod Samples

@@ -6,6 +6,9 @@ ghost use Rattle.residual_set.specs.Sets.{IsSoundFor};
 ghost use Rattle.judge_core.specs.Judged.{IsJudged, IsJudgeFault, IsJudgeAnswer, IsLargestOf, fault_in};
 ghost use Rattle.judge_core.specs.States.{Fed};
 
+#[cfg(test)]
+mod tests;
+
 use crate::JudgeFault;
 use crate::taking::{feed_parts, finish_parts};
 use chart_term::{Nets, Term};
