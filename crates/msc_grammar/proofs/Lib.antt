@@ -1,15 +1,3 @@
-pub mod Bodies
 pub mod EventAnswers
 pub mod EventRules
 pub mod ItemLists
-pub mod NameLists
-pub mod PairCounts
-pub mod PairEnds
-pub mod PairKeys
-pub mod PairMarks
-pub mod PairMessages
-pub mod PairSteps
-pub mod Partners
-pub mod Reading
-pub mod Tables
-pub mod Whole

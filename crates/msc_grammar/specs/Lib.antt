@@ -1,11 +1,6 @@
-pub mod Charts
-pub mod Classes
 pub mod EventGrammar
 pub mod EventReaders
 pub mod Events
-pub mod Meanings
-pub mod Pairing
-pub mod Plain
 pub mod Refusals
 pub mod Refused
 pub mod Rules
