@@ -8,6 +8,8 @@ mod bench;
 #[cfg(test)]
 mod faults;
 #[cfg(test)]
+mod first_rules;
+#[cfg(test)]
 mod limits;
 #[cfg(test)]
 mod printing;

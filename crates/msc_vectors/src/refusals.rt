@@ -157,13 +157,11 @@ fn is_refused(alloc: Global, document: &str, want: &str) -> Result<bool, NoMemor
     Ok(status == 4 && out.bytes() == want.as_bytes())
 }
 
-/// Each row of the table.
-#[test]
-fn refusals(rt: HostRuntime) -> Result<(), Fail> {
-    let alloc = rt.alloc();
-    let mut rest = REFUSALS;
+/// How many rows of a table hold, up to the first that doesn't.
+pub fn rows_that_hold(alloc: Global, table: &str) -> Result<u32, NoMemory> {
+    let mut rest = table;
     let mut rows = 0_u32;
-    for _ in 0..REFUSALS.len() {
+    for _ in 0..table.len() {
         let Some((row, others)) = rest.split_once('\n') else {
             break;
         };
@@ -171,14 +169,19 @@ fn refusals(rt: HostRuntime) -> Result<(), Fail> {
             break;
         };
         let want = format!(in alloc; "document refused at {rule}\n")?;
-        assert!(rt;
-            is_refused(alloc, document, want.as_str())?,
-            "of {document}"
-        );
+        if !is_refused(alloc, document, want.as_str())? {
+            break;
+        }
         rows = rows.wrapping_add(1);
         rest = others;
     }
-    assert_eq!(rt; rows, 128);
+    Ok(rows)
+}
+
+/// Each row of the table.
+#[test]
+fn refusals(rt: HostRuntime) -> Result<(), Fail> {
+    assert_eq!(rt; rows_that_hold(rt.alloc(), REFUSALS)?, 128);
     Ok(())
 }
 
