@@ -3,6 +3,8 @@
 
 mod naming;
 mod notes;
+#[cfg(test)]
+mod tests;
 mod walk;
 
 pub use naming::{NameFault, names};
