@@ -1,31 +1,56 @@
--- The first of the two faults is the earlier one, and at one place that of a second decomposition.
-use Rattle.std.proofs.Common.{◌≡◌, ℕ, List, [], sym, Option, None, Some, inl, inr, subst}
+-- The first of two faults is the earlier one, and at one place that of a second name.
+use Rattle.std.proofs.Common.{◌≡◌, ◌⊎◌, ℕ, List, [], sym, Option, None, Some, inl, inr, subst}
 use Rattle.msc_base.specs.declared.place.Place.{Place}
-use Rattle.item_order.specs.Places.{IsBefore, IsLeast, IsNoLater}
+use Rattle.item_order.specs.Places.{IsBefore, IsLeast, IsNoLater, earliest}
+use Rattle.item_order.proofs.Narrowing.{IsReached, earliest_is}
 use Rattle.item_order.proofs.PlaceFacts.{before_cases, before_through, no_later_through}
 use Rattle.msc_instances.specs.Notes.{Note}
+use Rattle.msc_instances.specs.Parts.{NamedPart}
 use Rattle.msc_instances.specs.declared.naming.NameFault.{NameFault}
-use Rattle.msc_instances.specs.Instances.{DecomposesAgain, NamesOther, with_declared}
-use Rattle.msc_instances.specs.NameFaults.{IsFaultOf, KeepNames, first_of}
+use Rattle.msc_instances.specs.Instances.{NamesOther, with_declared}
+use Rattle.msc_instances.specs.NameFaults.{IsFaultOf, KeepNames, NamesTwice, first_of}
 
 before_no_later : (p q r : Place) → IsBefore p q → IsNoLater q r → IsBefore p r
 before_no_later p q r a (inl b) = before_through p q r a b
 before_no_later p q r a (inr e) = subst (λ (z : Place). IsBefore p z) e a
 
-abbrev pub IsSettled : List Note → Option NameFault → Type 0
-IsSettled notes None = KeepNames notes
-IsSettled notes (Some fault) = IsFaultOf notes fault
+abbrev pub IsSettled : List Note → List (List NamedPart) → Option NameFault → Type 0
+IsSettled notes levels None = KeepNames notes levels
+IsSettled notes levels (Some fault) = IsFaultOf notes levels fault
 
-settled : (notes : List Note) (x y : Option Place) → IsLeast (DecomposesAgain [] notes) x → IsLeast (NamesOther (with_declared [] notes) notes) y → IsSettled notes (first_of x y)
-settled notes None None a b = record { once = a; declared = b }
-settled notes (Some p) None a b = (a, λ q h. absurd (b q h))
-settled notes None (Some q) a b = (b, λ p h. absurd (a p h))
-settled notes (Some p) (Some q) a b = elim (before_cases q p) [
+settled : (notes : List Note) (levels : List (List NamedPart)) (x y : Option Place) → IsLeast (NamesTwice notes levels) x → IsLeast (NamesOther (with_declared [] notes) notes) y → IsSettled notes levels (first_of x y)
+settled notes levels None None a b = record { once = a; declared = b }
+settled notes levels (Some p) None a b = (a, λ q h. absurd (b q h))
+settled notes levels None (Some q) a b = (b, λ p h. absurd (a p h))
+settled notes levels (Some p) (Some q) a b = elim (before_cases q p) [
   | inl t ↦ rw t.0 (b, λ r h. before_no_later q p r t.1 (a.1 r h))
   | inr n ↦ rw n.0 (a, λ r h. no_later_through p q r n.1 (b.1 r h))
 ]
 
-pub settled_as : (notes : List Note) (names : List (List ℕ)) (x y : Option Place) (z : Option NameFault) → names ≡ with_declared [] notes → IsLeast (DecomposesAgain [] notes) x → IsLeast (NamesOther names notes) y → z ≡ first_of x y → IsSettled notes z
-settled_as notes names x y z e a b is =
-    let s : IsSettled notes (first_of x y) = settled notes x y a (subst (λ ns. IsLeast (NamesOther ns notes) y) e b) in
-    subst (IsSettled notes) (sym is) s
+pub settled_as : (notes : List Note) (levels : List (List NamedPart)) (names : List (List ℕ)) (x y : Option Place) (z : Option NameFault) → names ≡ with_declared [] notes → IsLeast (NamesTwice notes levels) x → IsLeast (NamesOther names notes) y → z ≡ first_of x y → IsSettled notes levels z
+settled_as notes levels names x y z e a b is =
+    let s : IsSettled notes levels (first_of x y) = settled notes levels x y a (subst (λ ns. IsLeast (NamesOther ns notes) y) e b) in
+    subst (IsSettled notes levels) (sym is) s
+
+-- ---- the least of two kinds of places
+
+module _ (P Q : Place → Type 0) where
+  pub least_none : (b : Option Place) → IsLeast P None → IsLeast Q b → IsLeast (λ p. P p ⊎ Q p) b
+  least_none None a k = λ q h. elim h [ inl x ↦ a q x | inr y ↦ k q y ]
+  least_none (Some o) a k = (inr k.0, λ q h. elim h [ inl x ↦ absurd (a q x) | inr y ↦ k.1 q y ])
+
+  reached : (b : Option Place) → IsLeast Q b → (q : Place) → Q q → IsReached b q
+  reached None k q h = absurd (k q h)
+  reached (Some o) k q h = k.1 q h
+
+  held : (b : Option Place) (z : Place) → IsLeast Q b → b ≡ Some z → Q z
+  held None z k e = cc
+  held (Some o) z k e = let is : o ≡ z = cc in subst Q is k.0
+
+  pub least_some : (p : Place) (b : Option Place) → IsLeast P (Some p) → IsLeast Q b → IsLeast (λ z. P z ⊎ Q z) (earliest b p)
+  least_some p b a k =
+      let it = earliest_is b p in
+      rw it.1 (
+        elim it.2 [ inl e ↦ inl (subst P e a.0) | inr e ↦ inr (held b it.0 k e) ],
+        λ q h. elim h [ inl x ↦ no_later_through it.0 p q it.3 (a.1 q x) | inr y ↦ it.4 q (reached b k q y) ],
+      )

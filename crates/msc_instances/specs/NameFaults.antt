@@ -1,5 +1,5 @@
--- The first fault of the names of instances in a chart.
-use Rattle.std.specs.Prelude.{⊤, List, [], Option, None, Some, if◌then◌else◌}
+-- The first fault of the names of a chart.
+use Rattle.std.specs.Prelude.{⊤, ◌⊎◌, List, [], Option, None, Some, if◌then◌else◌}
 use Rattle.msc_base.specs.declared.place.Place.{Place}
 use Rattle.item_order.specs.Places.{IsBefore, IsLeast, IsNoLater, is_before}
 use Rattle.msc_tree.specs.Charts.{Chart}
@@ -7,24 +7,29 @@ use Rattle.msc_instances.specs.declared.naming.NameFault.{NameFault}
 use Rattle.msc_instances.specs.declared.naming.NameFault.TheVariants.{TwiceNamed, Undeclared, NoMemory}
 use Rattle.msc_instances.specs.Instances.{DecomposesAgain, NamesOther, with_declared}
 use Rattle.msc_instances.specs.Notes.{Note, chart_notes}
+use Rattle.msc_instances.specs.Parts.{NamedPart, SomeNamesAgain, chart_levels}
 
--- notes that keep both rules: no instance is decomposed a second time, and each name stands where it may
-pub record KeepNames (notes : List Note) : Type 0 where
-  pub once : (p : Place) → DecomposesAgain [] notes p → ⊥
+-- at that place an instance is decomposed a second time, or an inline expression or reference has the name of another
+abbrev pub NamesTwice : List Note → List (List NamedPart) → Place → Type 0
+NamesTwice notes levels p = DecomposesAgain [] notes p ⊎ SomeNamesAgain levels p
+
+-- notes and levels that keep both rules: nothing is named twice, and each name of an instance stands where it may
+pub record KeepNames (notes : List Note) (levels : List (List NamedPart)) : Type 0 where
+  pub once : (p : Place) → NamesTwice notes levels p → ⊥
   pub declared : (p : Place) → NamesOther (with_declared [] notes) notes p → ⊥
 
--- the earliest fault, and at one place that of a second decomposition
-abbrev pub IsFaultOf : List Note → NameFault → Type 0
-IsFaultOf notes (TwiceNamed p) = IsLeast (DecomposesAgain [] notes) (Some p) × ((q : Place) → NamesOther (with_declared [] notes) notes q → IsNoLater p q)
-IsFaultOf notes (Undeclared p) = IsLeast (NamesOther (with_declared [] notes) notes) (Some p) × ((q : Place) → DecomposesAgain [] notes q → IsBefore p q)
-IsFaultOf notes NoMemory = ⊤
+-- the earliest fault, and at one place that of a second name
+abbrev pub IsFaultOf : List Note → List (List NamedPart) → NameFault → Type 0
+IsFaultOf notes levels (TwiceNamed p) = IsLeast (NamesTwice notes levels) (Some p) × ((q : Place) → NamesOther (with_declared [] notes) notes q → IsNoLater p q)
+IsFaultOf notes levels (Undeclared p) = IsLeast (NamesOther (with_declared [] notes) notes) (Some p) × ((q : Place) → NamesTwice notes levels q → IsBefore p q)
+IsFaultOf notes levels NoMemory = ⊤
 
 -- of a chart
 abbrev pub KeepsNames : Chart → Type 0
-KeepsNames chart = KeepNames (chart_notes chart)
+KeepsNames chart = KeepNames (chart_notes chart) (chart_levels chart)
 
 abbrev pub IsNameFault : Chart → NameFault → Type 0
-IsNameFault chart fault = IsFaultOf (chart_notes chart) fault
+IsNameFault chart fault = IsFaultOf (chart_notes chart) (chart_levels chart) fault
 
 -- the first of two such faults
 abbrev pub first_of : Option Place → Option Place → Option NameFault

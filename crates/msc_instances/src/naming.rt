@@ -3,12 +3,13 @@ ghost use Rattle.item_order.specs.Places.{IsLeast};
 ghost use Rattle.msc_base.specs.Names.{IsOneOf};
 ghost use Rattle.msc_base.specs.NameTables.{with_name};
 ghost use Rattle.msc_instances.specs.Instances.{DecomposesAgain, MayName, NamesOther, instances, with_declared};
-ghost use Rattle.msc_instances.specs.NameFaults.{IsFaultOf, IsNameFault, KeepNames, KeepsNames, first_of};
+ghost use Rattle.msc_instances.specs.NameFaults.{IsFaultOf, IsNameFault, KeepNames, KeepsNames, NamesTwice, first_of};
 ghost use Rattle.msc_instances.specs.NoteViews.{note_view, scope_view};
 ghost use Rattle.msc_instances.specs.declared.naming.NameFault.TheVariants.{NoMemory as WantOfMemory};
 ghost use Rattle.msc_tree.specs.Views.{chart_view};
 
-use crate::{Note, Scope, chart_notes};
+use crate::again::named_again;
+use crate::{Note, PartList, Scope, chart_levels, chart_notes};
 use item_order::{comes_before, earlier_if, earlier_place};
 use msc_base::{Name, NameTable, Names, NoMemory, Place};
 use msc_tree::RawChart;
@@ -17,7 +18,8 @@ use std::alloc::Global;
 /// Why the instances of a chart can't be listed.
 #[derive(Clone, Copy, Debug, PartialEq, Eq)]
 pub enum NameFault {
-    /// At that place an instance is decomposed a second time.
+    /// At that place an instance is decomposed a second time, or an inline expression or reference has the name of another of its
+    /// level that is in the same column, or where one of the two is in no column.
     TwiceNamed(Place),
     /// At that place a name stands that is none of the chart's instances, or of those that an operand covers.
     Undeclared(Place),
@@ -41,7 +43,7 @@ struct Instances {
 }
 
 /// Whether a name is in the table.
-fn has_name(table: &NameTable, name: &[u8]) -> bool
+pub fn has_name(table: &NameTable, name: &[u8]) -> bool
     ensures { IsTrue result ↔ IsOneOf table.now name.now }
 {
     table.number_of(name).is_some()
@@ -124,6 +126,22 @@ fn decomposed_again(alloc: Global, notes: &[Note<'_>]) -> Result<Option<Place>, 
     Ok(best)
 }
 
+/// The earliest place at which an instance is decomposed a second time, or a part has the name of another.
+fn named_twice(
+    alloc: Global,
+    notes: &[Note<'_>],
+    levels: &[PartList<'_>],
+) -> Result<Option<Place>, NoMemory>
+    ensures { IfOk result (IsLeast (NamesTwice (map note_view notes.now) levels.now)) }
+{
+    let decomposed = decomposed_again(alloc, notes)?;
+    let part = named_again(alloc, levels)?;
+    match decomposed {
+        None => Ok(part),
+        Some(place) => Ok(earlier_place(part, place)),
+    }
+}
+
 /// The earliest place at which a name stands that may not.
 fn named_other(table: &NameTable, notes: &[Note<'_>]) -> Option<Place>
     ensures { IsLeast (NamesOther table.now (map note_view notes.now)) result }
@@ -139,7 +157,7 @@ fn named_other(table: &NameTable, notes: &[Note<'_>]) -> Option<Place>
     best
 }
 
-/// The first of the two faults: the earlier, and at one place that of a second decomposition.
+/// The first of the two faults: the earlier, and at one place that of a second name.
 fn first_fault(twice: Option<Place>, undeclared: Option<Place>) -> Option<NameFault>
     ensures { result ≡ first_of twice undeclared }
 {
@@ -157,14 +175,14 @@ fn first_fault(twice: Option<Place>, undeclared: Option<Place>) -> Option<NameFa
     }
 }
 
-/// The instances that notes declare, or the first fault of the names in them.
-fn settled(alloc: Global, notes: &[Note<'_>]) -> Result<Names, NameFault>
+/// The instances that notes declare, or the first fault of the names in them and in the levels.
+fn settled(alloc: Global, notes: &[Note<'_>], levels: &[PartList<'_>]) -> Result<Names, NameFault>
     ensures ok { IfOk result (λ names. names ≡ with_declared [] (map note_view notes.now)) }
-    ensures kept { IfOk result (λ names. KeepNames (map note_view notes.now)) }
-    ensures fault { IfErr result (IsFaultOf (map note_view notes.now)) }
+    ensures kept { IfOk result (λ names. KeepNames (map note_view notes.now) levels.now) }
+    ensures fault { IfErr result (IsFaultOf (map note_view notes.now) levels.now) }
 {
     let made = declared_in(alloc, notes)?;
-    let twice = decomposed_again(alloc, notes)?;
+    let twice = named_twice(alloc, notes, levels)?;
     let other = named_other(&made.table, notes);
     match first_fault(twice, other) {
         None => Ok(made.names),
@@ -172,13 +190,14 @@ fn settled(alloc: Global, notes: &[Note<'_>]) -> Result<Names, NameFault>
     }
 }
 
-/// The instances of a chart in the order in which they are first declared, or the first fault of their names: the earlier one, and
-/// at one place that of a second decomposition.
+/// The instances of a chart in the order in which they are first declared, or the first fault of its names: the earlier one, and
+/// at one place that of a second name.
 pub fn names(alloc: Global, chart: &RawChart) -> Result<Names, NameFault>
     ensures ok { IfOk result (λ names. names ≡ instances (chart_view chart.now)) }
     ensures kept { IfOk result (λ names. KeepsNames (chart_view chart.now)) }
     ensures fault { IfErr result (IsNameFault (chart_view chart.now)) }
 {
     let notes = chart_notes(alloc, chart)?;
-    settled(alloc, notes.as_slice())
+    let levels = chart_levels(alloc, chart)?;
+    settled(alloc, notes.as_slice(), levels.as_slice())
 }
