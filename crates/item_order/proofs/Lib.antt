@@ -10,6 +10,7 @@ pub mod Steps
 pub mod Loop
 pub mod Columns
 pub mod Ends
+pub mod EntryColumns
 pub mod Arranged
 pub mod WeavingLaws
 pub mod TestFacts

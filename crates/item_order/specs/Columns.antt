@@ -1,7 +1,8 @@
--- The edges between neighbours of columns.
-use Rattle.std.specs.Prelude.{Option, None, Some, ℕ, List, [], ◌∷◌, ◌++◌, Vec}
+-- The edges between neighbours of columns, and columns that are given entry by entry.
+use Rattle.std.specs.Prelude.{Option, None, Some, ℕ, zero, suc, List, [], ◌∷◌, ◌++◌, Vec}
 use Rattle.std.specs.Global.{Global}
 use Rattle.item_order.specs.declared.edge.Edge.{Edge}
+use Rattle.item_order.specs.Counts.{targets}
 
 abbrev pub from_to : ℕ → List ℕ → List Edge
 from_to c [] = []
@@ -23,3 +24,8 @@ items_of (v ∷ vs) = v.items ∷ items_of vs
 abbrev pub onward : Option ℕ → List ℕ → List Edge
 onward None cs = neighbours cs
 onward (Some c) cs = from_to c cs
+
+-- so many columns from k on, by entries that lead from columns to items
+abbrev pub columns_from : ℕ → ℕ → List Edge → List (List ℕ)
+columns_from k zero entries = []
+columns_from k (suc n) entries = targets entries k ∷ columns_from (suc k) n entries

@@ -16,4 +16,4 @@ pub use first_fault::{
 };
 pub use pairing::pair_up;
 pub use sorting::{Sorted, sort_edges};
-pub use weaving::weave;
+pub use weaving::{weave, weave_entries};

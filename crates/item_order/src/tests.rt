@@ -1,7 +1,9 @@
 //! Each call once, with ample memory.
 ghost use Rattle.std.specs.Prelude.{◌<◌};
 
-use crate::{Broken, Edge, Numbered, Sorted, earlier_fault, pair_up, sort_edges, weave};
+use crate::{
+    Broken, Edge, Numbered, Sorted, earlier_fault, pair_up, sort_edges, weave, weave_entries,
+};
 use msc_base::{NoMemory, Place};
 use std::alloc::Global;
 
@@ -47,6 +49,15 @@ fn sorted(alloc: Global, a: Edge, b: Edge) -> Result<Sorted, NoMemory>
     requires b { (b.from < 4) × (b.to < 4) }
 {
     sort_edges(alloc, 4, [a, b].as_slice())
+}
+
+/// Four items, of which two entries put some into columns.
+#[tactic(auto, using(crate::proofs::TestFacts::two_inside))]
+fn woven(alloc: Global, a: Edge, b: Edge) -> Result<Sorted, NoMemory>
+    requires a { (a.from < 4) × (a.to < 4) }
+    requires b { (b.from < 4) × (b.to < 4) }
+{
+    weave_entries(alloc, 4, 4, [a, b].as_slice())
 }
 
 /// The pairs of two outputs with two inputs, in three classes.
@@ -137,4 +148,17 @@ fn ends_of_one_class_are_paired(rt: HostRuntime) {
     };
     let wanted = [Edge { from: 10, to: 21 }, Edge { from: 11, to: 20 }];
     assert_eq!(rt; pairs.as_slice(), wanted.as_slice());
+}
+
+/// In a column the earlier entry comes first.
+#[test]
+fn entries_of_one_column_keep_their_order(rt: HostRuntime) {
+    let Ok(Sorted::Whole(order)) = woven(
+        rt.alloc(),
+        Edge { from: 3, to: 2 },
+        Edge { from: 3, to: 1 },
+    ) else {
+        panic!(rt; "crossed");
+    };
+    assert_eq!(rt; order.as_slice(), [0, 2, 1, 3].as_slice());
 }

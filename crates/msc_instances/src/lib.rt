@@ -2,16 +2,27 @@
 #![tactic(auto)]
 
 mod again;
+mod alone;
+mod body;
+mod columns;
+mod copying;
+mod events;
 mod levels;
+mod matching;
 mod naming;
 mod notes;
 mod parts;
 #[cfg(test)]
 mod tests;
+mod unwoven;
 mod walk;
+mod weaving;
 
+pub use body::{Body, EventNode, Item};
+pub use events::{EventList, PlacedEvent, chart_events};
 pub use levels::chart_levels;
 pub use naming::{NameFault, names};
 pub use notes::{Note, NoteList, Scope};
 pub use parts::{NamedPart, PartList, Setting};
 pub use walk::chart_notes;
+pub use weaving::{WeaveFault, weave};

@@ -2,7 +2,8 @@
 use crate::{NameFault, names};
 use msc_base::{Kind, Name, Names, Place, Text};
 use msc_tree::{
-    Content, Cover, Decl, DeclList, RawChart, RawEvent, RawForm, RawItem, Statement, Target,
+    Content, Cover, Decl, DeclList, InlineForm, RawChart, RawEvent, RawForm, RawInline, RawItem,
+    RawOperand, Statement, Target,
 };
 use std::alloc::Global;
 use std::test::Fail;
@@ -40,29 +41,81 @@ fn output(alloc: Global, far: &str) -> Result<RawItem, Fail> {
     })
 }
 
-/// `msc A; inst j; i: out a to FAR; endmsc;`
-fn chart(alloc: Global, far: &str) -> Result<RawChart, Fail> {
-    let mut decls = DeclList::new(alloc);
-    decls.push(Decl {
-        name: name(alloc, "j")?,
-        kind: Names::new(alloc),
-        refined: None,
-        place: at(12),
-    })?;
-    let mut leads = Names::new(alloc);
-    leads.push(name(alloc, "i")?)?;
-    let mut items = Vec::new(alloc);
-    items.push(output(alloc, far)?)?;
-    let mut statements = Vec::new(alloc);
-    statements.push(Statement::Covered(Cover::Listed(leads), items))?;
+/// A chart of these statements, without heads.
+fn chart_of(alloc: Global, statements: Vec<Statement>) -> Result<RawChart, Fail> {
     Ok(RawChart {
         name: name(alloc, "A")?,
         place: at(0),
-        decls,
+        decls: DeclList::new(alloc),
         messages: Names::new(alloc),
         timers: Names::new(alloc),
         content: Content::Events(statements),
     })
+}
+
+/// These items, behind the instance and a colon.
+fn lead(alloc: Global, instance: &str, items: Vec<RawItem>) -> Result<Statement, Fail> {
+    let mut leads = Names::new(alloc);
+    leads.push(name(alloc, instance)?)?;
+    Ok(Statement::Covered(Cover::Listed(leads), items))
+}
+
+/// The column of the instance, with these items.
+fn column(alloc: Global, instance: &str, items: Vec<RawItem>) -> Result<Statement, Fail> {
+    let decl = Decl {
+        name: name(alloc, instance)?,
+        kind: Names::new(alloc),
+        refined: None,
+        place: at(12),
+    };
+    Ok(Statement::Column(decl, items))
+}
+
+/// At that byte `opt begin X`, with this operand.
+fn part(alloc: Global, byte: u32, operand: RawOperand) -> Result<RawItem, Fail> {
+    let mut operands = Vec::new(alloc);
+    operands.push(operand)?;
+    let inline = RawInline {
+        form: InlineForm::Opt,
+        lower: 1,
+        upper: Some(1),
+        name: Some(name(alloc, "X")?),
+        shared: None,
+        operands,
+    };
+    Ok(RawItem {
+        place: at(byte),
+        form: RawForm::Inline(inline),
+    })
+}
+
+/// At that byte `opt begin X` with an empty operand.
+fn plain_part(alloc: Global, byte: u32) -> Result<Vec<RawItem>, Fail> {
+    let mut items = Vec::new(alloc);
+    items.push(part(alloc, byte, RawOperand::Column(Vec::new(alloc)))?)?;
+    Ok(items)
+}
+
+/// The first fault of a chart of two statements.
+fn fault_of(alloc: Global, first: Statement, second: Statement) -> Result<Option<NameFault>, Fail> {
+    let mut statements = Vec::new(alloc);
+    statements.push(first)?;
+    statements.push(second)?;
+    let chart = chart_of(alloc, statements)?;
+    match names(alloc, &chart) {
+        Ok(_) => Ok(None),
+        Err(fault) => Ok(Some(fault)),
+    }
+}
+
+/// `i: out a to FAR;`, with `inst j;` in front.
+fn chart(alloc: Global, far: &str) -> Result<RawChart, Fail> {
+    let mut items = Vec::new(alloc);
+    items.push(output(alloc, far)?)?;
+    let mut statements = Vec::new(alloc);
+    statements.push(column(alloc, "j", Vec::new(alloc))?)?;
+    statements.push(lead(alloc, "i", items)?)?;
+    chart_of(alloc, statements)
 }
 
 /// How many instances the chart has, or the byte of an undeclared one.
@@ -75,7 +128,7 @@ fn answer(alloc: Global, far: &str) -> Result<u64, Fail> {
     }
 }
 
-/// A head declares, and so does what stands left of a colon.
+/// A column declares, and so does what stands left of a colon.
 #[test]
 fn both_instances_are_found(rt: HostRuntime) -> Result<(), Fail> {
     assert_eq!(rt; answer(rt.alloc(), "j")?, 2);
@@ -86,5 +139,67 @@ fn both_instances_are_found(rt: HostRuntime) -> Result<(), Fail> {
 #[test]
 fn an_undeclared_address_is_found(rt: HostRuntime) -> Result<(), Fail> {
     assert_eq!(rt; answer(rt.alloc(), "k")?, 40);
+    Ok(())
+}
+
+/// Behind colons a name stands once in a level.
+#[test]
+fn a_second_name_is_found(rt: HostRuntime) -> Result<(), Fail> {
+    let alloc = rt.alloc();
+    let first = lead(alloc, "i", plain_part(alloc, 20)?)?;
+    let second = lead(alloc, "j", plain_part(alloc, 40)?)?;
+    assert_eq!(rt;
+        fault_of(alloc, first, second)?,
+        Some(NameFault::TwiceNamed(at(40)))
+    );
+    Ok(())
+}
+
+/// In two columns a name stands for one item.
+#[test]
+fn two_columns_share_a_name(rt: HostRuntime) -> Result<(), Fail> {
+    let alloc = rt.alloc();
+    let first = column(alloc, "i", plain_part(alloc, 20)?)?;
+    let second = column(alloc, "j", plain_part(alloc, 40)?)?;
+    assert_eq!(rt; fault_of(alloc, first, second)?, None);
+    Ok(())
+}
+
+/// A column may be written in two pieces.
+#[test]
+fn one_column_has_a_name_once(rt: HostRuntime) -> Result<(), Fail> {
+    let alloc = rt.alloc();
+    let first = column(alloc, "i", plain_part(alloc, 20)?)?;
+    let second = column(alloc, "i", plain_part(alloc, 40)?)?;
+    assert_eq!(rt;
+        fault_of(alloc, first, second)?,
+        Some(NameFault::TwiceNamed(at(40)))
+    );
+    Ok(())
+}
+
+/// Nothing joins a part of a column with one behind a colon.
+#[test]
+fn a_column_shares_no_name_with_a_colon(rt: HostRuntime) -> Result<(), Fail> {
+    let alloc = rt.alloc();
+    let first = column(alloc, "i", plain_part(alloc, 20)?)?;
+    let second = lead(alloc, "j", plain_part(alloc, 40)?)?;
+    assert_eq!(rt;
+        fault_of(alloc, first, second)?,
+        Some(NameFault::TwiceNamed(at(40)))
+    );
+    Ok(())
+}
+
+/// An operand is a level of its own.
+#[test]
+fn an_operand_may_have_the_name_again(rt: HostRuntime) -> Result<(), Fail> {
+    let alloc = rt.alloc();
+    let inner = RawOperand::Column(plain_part(alloc, 30)?);
+    let mut items = Vec::new(alloc);
+    items.push(part(alloc, 20, inner)?)?;
+    let first = column(alloc, "i", items)?;
+    let second = column(alloc, "j", Vec::new(alloc))?;
+    assert_eq!(rt; fault_of(alloc, first, second)?, None);
     Ok(())
 }

@@ -49,14 +49,14 @@ all_edges es vs i le h = let none : drop i vs ≡ [] = drop_all i vs le in let h
 pub sort_edges-requires-clause-inside : goal.sort_edges-requires-clause-inside
 sort_edges-requires-clause-inside c =
     let columns = items_of c.args.columns.now in
-    let edges : c.deref-2.result.now ≡ all_neighbours columns = c.deref-2.ensures.value ∙ all_edges c.loop-column.edges.items c.args.columns.now c.loop-column.column-index (omega arith) c.loop-column.invariant in
+    let edges : c.deref-3.result.now ≡ all_neighbours columns = c.deref-3.ensures.value ∙ all_edges c.loop-column.edges.items c.args.columns.now c.loop-column.column-index (omega arith) c.loop-column.invariant in
     rw edges (neighbours_inside c.args.count columns c.requires.inside)
 
 pub returns-clause-woven : goal.returns-clause-woven
 returns-clause-woven c =
     let n = c.args.count in
     let columns = items_of c.args.columns.now in
-    let edges : c.deref-2.result.now ≡ all_neighbours columns = c.deref-2.ensures.value ∙ all_edges c.loop-column.edges.items c.args.columns.now c.loop-column.column-index (omega arith) c.loop-column.invariant in
+    let edges : c.deref-3.result.now ≡ all_neighbours columns = c.deref-3.ensures.value ∙ all_edges c.loop-column.edges.items c.args.columns.now c.loop-column.column-index (omega arith) c.loop-column.invariant in
     if_whole c.sort_edges.result (λ o. IsWhole n (Leads (all_neighbours columns)) o.items) (λ o. IsWoven n columns o.items)
     (λ o w. woven n columns o.items c.requires.inside (whole_far n (Leads (all_neighbours columns)) (Precedes columns) (columns_made columns) o.items w))
     (rw edges at c.sort_edges.ensures.whole)
@@ -65,7 +65,7 @@ pub returns-clause-crossed : goal.returns-clause-crossed
 returns-clause-crossed c =
     let n = c.args.count in
     let columns = items_of c.args.columns.now in
-    let edges : c.deref-2.result.now ≡ all_neighbours columns = c.deref-2.ensures.value ∙ all_edges c.loop-column.edges.items c.args.columns.now c.loop-column.column-index (omega arith) c.loop-column.invariant in
+    let edges : c.deref-3.result.now ≡ all_neighbours columns = c.deref-3.ensures.value ∙ all_edges c.loop-column.edges.items c.args.columns.now c.loop-column.column-index (omega arith) c.loop-column.invariant in
     if_stuck c.sort_edges.result (IsStuckAt n (Leads (all_neighbours columns))) (IsCrossedAt n columns)
     (λ x w. stuck_far n (Leads (all_neighbours columns)) (Precedes columns) (columns_made columns) x w)
     (rw edges at c.sort_edges.ensures.stuck)

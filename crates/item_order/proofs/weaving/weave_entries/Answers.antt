@@ -1,0 +1,25 @@
+use Rattle.std.proofs.Common.{rules, ◌≡◌, ℕ, List, length, IfOk, subst}
+use Rattle.item_order.specs.Answers.{IfWhole, IfStuck}
+use Rattle.item_order.specs.Weaving.{HasColumn, IsCrossedAt, IsWoven}
+use Rattle.item_order.proofs.EntryColumns.{lists_of, columns_low}
+use Rattle.item_order.proofs.weaving.weave_entries.Goals as goal
+
+pub weave-requires : goal.weave-requires
+weave-requires c =
+    let long : length c.as_slice.result.now ≡ c.args.columns = search rules in
+    let same = lists_of c.args.columns c.args.entries.now c.as_slice.result.now c.in_ok-lists.lists.items c.as_slice.ensures.value long c.in_ok-lists.ensures.targets in
+    record {
+      inside = λ column mine. columns_low c.args.columns c.args.count 0 c.args.columns c.args.entries.now c.requires.inside column (subst (λ (cs : List (List ℕ)). HasColumn cs column) same mine);
+    }
+
+pub returns-clause-woven : goal.returns-clause-woven
+returns-clause-woven c =
+    let long : length c.as_slice.result.now ≡ c.args.columns = search rules in
+    let same = lists_of c.args.columns c.args.entries.now c.as_slice.result.now c.in_ok-lists.lists.items c.as_slice.ensures.value long c.in_ok-lists.ensures.targets in
+    subst (λ (cs : List (List ℕ)). IfOk c.weave.result (λ sorted. IfWhole sorted (λ order. IsWoven c.args.count cs order.items))) same c.weave.ensures.woven
+
+pub returns-clause-crossed : goal.returns-clause-crossed
+returns-clause-crossed c =
+    let long : length c.as_slice.result.now ≡ c.args.columns = search rules in
+    let same = lists_of c.args.columns c.args.entries.now c.as_slice.result.now c.in_ok-lists.lists.items c.as_slice.ensures.value long c.in_ok-lists.ensures.targets in
+    subst (λ (cs : List (List ℕ)). IfOk c.weave.result (λ sorted. IfStuck sorted (IsCrossedAt c.args.count cs))) same c.weave.ensures.crossed

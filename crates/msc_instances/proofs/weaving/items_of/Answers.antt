@@ -1,0 +1,16 @@
+use Rattle.std.proofs.Common.{rules, ◌≡◌, ◌++◌, ◌∷◌, [], ℕ, Some, length, get_or, slice_get, refl}
+use Rattle.std.proofs.lemmas.Option.{slice_get_read}
+use Rattle.msc_instances.specs.BodyEdges.{IsCopy}
+use Rattle.msc_instances.specs.EventViews.{event_view}
+use Rattle.msc_instances.proofs.BodyLaws.{items_more}
+use Rattle.msc_instances.proofs.weaving.items_of.Goals as goal
+
+pub loop-number-preserved : goal.loop-number-preserved
+loop-number-preserved c =
+    let x : ℕ = get_or c.args.order.now c.loop-number.number-index 0 in
+    let at : slice_get c.args.events.now x ≡ Some c.index-events-number.result =
+    slice_get_read c.args.events.now (length c.args.events.now) x c.index-events-number.result refl (c.requires c.loop-number.number-index 0 c.loop-number-test.true) c.index-events-number.is in
+    let copy : IsCopy (event_view c.index-events-number.result) x c.in_ok-item_of.field-0 = search rules in
+    let made : c.push.new.self ≡ c.loop-number.items ++ c.in_ok-item_of.field-0 ∷ [] = search rules in
+    items_more c.args.events.now c.args.order.now c.loop-number.number-index x c.index-events-number.result c.in_ok-item_of.field-0 c.loop-number.items c.push.new.self
+    c.loop-number-test.true refl at copy c.loop-number.invariant made

@@ -1,0 +1,52 @@
+-- Outputs and inputs by numbers: each key has a class, and a mark says the class and the direction of an event.
+use Rattle.std.specs.Prelude.{◌≡◌, ◌&&◌, ℕ, suc, Bool, false, List, [], ◌∷◌, ◌++◌, length, Option, Some, None, nat_eq, position, if◌then◌else◌}
+use Rattle.item_order.specs.declared.edge.Edge.{Edge}
+use Rattle.item_order.specs.Counts.{Leads}
+use Rattle.msc_instances.specs.Entries.{PlacedEvent}
+use Rattle.msc_instances.specs.declared.matching.Mark.{Mark}
+use Rattle.msc_instances.specs.declared.matching.MessageKey.{MessageKey}
+use Rattle.msc_instances.specs.Messages.{Key, way, key_of, is_key, bool_eq, IsPaired}
+
+-- the plain key that a key stands for
+abbrev pub key_view : MessageKey → Key
+key_view key = record { sender = key.sender.items; receiver = key.receiver.items; text = key.text.items; pairing = key.pairing.items }
+
+-- the mark says the event's direction, and its class is the place of its key among those known
+abbrev pub IsMark : List Key → PlacedEvent → Option Mark → Type 0
+IsMark keys e None = way e ≡ None
+IsMark keys e (Some m) = (way e ≡ Some m.puts) × (position (is_key (key_of e)) keys ≡ Some m.class)
+
+-- the marks of the events, one after another
+abbrev pub AreMarks : List Key → List PlacedEvent → List (Option Mark) → Type 0
+AreMarks keys [] [] = Unit {0}
+AreMarks keys [] (m ∷ ms) = ⊥
+AreMarks keys (e ∷ es) [] = ⊥
+AreMarks keys (e ∷ es) (m ∷ ms) = IsMark keys e m × AreMarks keys es ms
+
+-- the marks tell the keys of the events apart, by so many classes
+pub record AreMarked (events : List PlacedEvent) (marks : List (Option Mark)) (classes : ℕ) : Type 0 where
+  pub keys : List Key
+  pub are : AreMarks keys events marks
+  pub count : length keys ≡ classes
+
+-- a key that was known has the number that it had
+abbrev pub KeepsNumbers : List Key → List Key → Type 0
+KeepsNumbers old new = (key : Key) (n : ℕ) → position (is_key key) old ≡ Some n → position (is_key key) new ≡ Some n
+
+-- the mark is of this class and direction
+abbrev pub is_end : ℕ → Bool → Option Mark → Bool
+is_end class puts None = false
+is_end class puts (Some m) = bool_eq puts m.puts && nat_eq m.class class
+
+abbrev pub end_edges : Bool → ℕ → Option Mark → List Edge
+end_edges puts n None = []
+end_edges puts n (Some m) = if bool_eq puts m.puts then (record { from = m.class; to = n }) ∷ [] else []
+
+-- the ends of one direction, each leading from its class to its number, from this number on
+abbrev pub edges_from : Bool → ℕ → List (Option Mark) → List Edge
+edges_from puts n [] = []
+edges_from puts n (m ∷ ms) = end_edges puts n m ++ edges_from puts (suc n) ms
+
+-- the pairs lead from each output to its input
+abbrev pub LeadsPairs : List PlacedEvent → List Edge → Type 0
+LeadsPairs events pairs = (p q : ℕ) → (Leads pairs p q → IsPaired events p q) × (IsPaired events p q → Leads pairs p q)

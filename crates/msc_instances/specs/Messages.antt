@@ -1,0 +1,100 @@
+-- Which input takes in what an output puts out: of each message with its pairing name, the k-th input takes the k-th output. An
+-- output of a message to j stands in the column of its sender, and the input in that of j, so each is counted in its column.
+use Rattle.std.specs.Prelude.{◌≡◌, ◌⊎◌, ℕ, Bool, true, false, not, ◌&&◌, List, [], ◌∷◌, ◌++◌, take, count_by, Option, Some, None, slice_get, codes}
+use Rattle.std.specs.Str.{bytes_eq}
+use Rattle.msc_base.specs.declared.label.Kind.{Kind}
+use Rattle.msc_base.specs.declared.label.Kind.TheVariants.{Output, Input}
+use Rattle.msc_base.specs.declared.place.Place.{Place}
+use Rattle.msc_tree.specs.declared.event.Target.{Target}
+use Rattle.msc_tree.specs.declared.event.Target.TheVariants.{Nobody, Env, Instance, Gate}
+use Rattle.msc_instances.specs.Entries.{PlacedEvent}
+
+-- the instance at the far end
+abbrev pub far_name : Target → List ℕ
+far_name (Instance name) = name
+far_name Nobody = []
+far_name (Env gate) = []
+far_name (Gate reference gate) = []
+
+-- true for an output to an instance, false for an input from one, and none for other events
+abbrev pub way_by : Kind → Target → Option Bool
+way_by Output (Instance name) = Some true
+way_by Input (Instance name) = Some false
+way_by _ _ = None
+
+abbrev pub way : PlacedEvent → Option Bool
+way e = way_by e.event.kind e.event.target
+
+abbrev pub bool_eq : Bool → Bool → Bool
+bool_eq true b = b
+bool_eq false b = not b
+
+abbrev pub goes : Bool → Option Bool → Bool
+goes puts None = false
+goes puts (Some b) = bool_eq puts b
+
+-- ---- texts: a list in parentheses behind the name of a message is part of its text
+
+abbrev pub with_commas : List (List ℕ) → List ℕ
+with_commas [] = []
+with_commas (item ∷ items) = codes "," ++ (item ++ with_commas items)
+
+abbrev pub inside_text : List (List ℕ) → List ℕ
+inside_text [] = []
+inside_text (item ∷ items) = item ++ with_commas items
+
+abbrev pub list_text : Option (List (List ℕ)) → List ℕ
+list_text None = []
+list_text (Some items) = codes "(" ++ (inside_text items ++ codes ")")
+
+-- the tokens of the text, without blanks between them
+abbrev pub text_of : PlacedEvent → List ℕ
+text_of e = e.event.text ++ list_text e.event.parameters
+
+-- ---- pairs
+
+-- what an output and the input that takes it in have in common; where there is no pairing name it is empty, and no name is
+pub record Key : Type 0 where
+  pub sender : List ℕ
+  pub receiver : List ℕ
+  pub text : List ℕ
+  pub pairing : List ℕ
+
+abbrev pub key_by : Kind → List ℕ → List ℕ → List ℕ → List ℕ → Key
+key_by Input at far text pairing = record { sender = far; receiver = at; text = text; pairing = pairing }
+key_by _ at far text pairing = record { sender = at; receiver = far; text = text; pairing = pairing }
+
+abbrev pub or_empty : Option (List ℕ) → List ℕ
+or_empty None = []
+or_empty (Some name) = name
+
+abbrev pub key_of : PlacedEvent → Key
+key_of e = key_by e.event.kind e.at (far_name e.event.target) (text_of e) (or_empty e.event.pairing)
+
+abbrev pub is_key : Key → Key → Bool
+is_key k l = bytes_eq k.sender l.sender && (bytes_eq k.receiver l.receiver && (bytes_eq k.text l.text && bytes_eq k.pairing l.pairing))
+
+-- how many of the events put out, or take in, what has this key
+abbrev pub ends_of : Bool → Key → List PlacedEvent → ℕ
+ends_of puts k events = count_by (λ e. goes puts (way e) && is_key k (key_of e)) events
+
+-- the events at p and q are an output and an input of one key, and for some k each is the k-th of its direction
+pub record IsPaired (events : List PlacedEvent) (p q : ℕ) : Type 0 where
+  pub output : PlacedEvent
+  pub input : PlacedEvent
+  pub output_at : slice_get events p ≡ Some output
+  pub input_at : slice_get events q ≡ Some input
+  pub puts : way output ≡ Some true
+  pub takes : way input ≡ Some false
+  pub same : key_of output ≡ key_of input
+  pub ranked : ends_of true (key_of output) (take p events) ≡ ends_of false (key_of input) (take q events)
+
+-- an output to an instance or an input from one that is paired with none, and where it stands
+pub record IsUnmatched (events : List PlacedEvent) (place : Place) : Type 0 where
+  pub number : ℕ
+  pub event : PlacedEvent
+  pub puts : Bool
+  pub event_at : slice_get events number ≡ Some event
+  pub message : way event ≡ Some puts
+  pub alone : (q : ℕ) → IsPaired events number q ⊎ IsPaired events q number → ⊥
+  pub there : event.event.place ≡ place

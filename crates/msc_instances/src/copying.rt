@@ -1,0 +1,87 @@
+ghost use Rattle.std.specs.Prelude.{◌≡◌, IfOk};
+
+use msc_base::{Items, Name, Names, NoMemory, Text, Words};
+use msc_tree::{RawEvent, Target};
+use std::alloc::Global;
+
+/// The same names once more.
+pub fn copy_names(alloc: Global, names: &[Name]) -> Result<Names, NoMemory>
+    ensures { IfOk result (λ copied. copied ≡ names.now) }
+{
+    let mut copied = Items::new(alloc);
+    for name in names {
+        copied.push(name.copy(alloc)?)?;
+    }
+    Ok(copied)
+}
+
+/// The same texts once more.
+fn copy_words(alloc: Global, words: &[Text]) -> Result<Words, NoMemory>
+    ensures { IfOk result (λ copied. copied ≡ words.now) }
+{
+    let mut copied = Items::new(alloc);
+    for word in words {
+        copied.push(word.copy(alloc)?)?;
+    }
+    Ok(copied)
+}
+
+/// The same name once more, where there is one.
+fn copy_name(alloc: Global, name: &Option<Name>) -> Result<Option<Name>, NoMemory>
+    ensures { IfOk result (λ copied. copied ≡ name.now) }
+{
+    match name {
+        Some(name) => Ok(Some(name.copy(alloc)?)),
+        None => Ok(None),
+    }
+}
+
+/// The same parameters once more, where there are some.
+fn copy_parameters(alloc: Global, words: &Option<Words>) -> Result<Option<Words>, NoMemory>
+    ensures { IfOk result (λ copied. copied ≡ words.now) }
+{
+    match words {
+        Some(words) => Ok(Some(copy_words(alloc, words.as_slice())?)),
+        None => Ok(None),
+    }
+}
+
+/// The same other end once more.
+fn copy_target(alloc: Global, target: &Target) -> Result<Target, NoMemory>
+    ensures { IfOk result (λ copied. copied ≡ target.now) }
+{
+    match target {
+        Target::Nobody => Ok(Target::Nobody),
+        Target::Env(gate) => Ok(Target::Env(copy_name(alloc, gate)?)),
+        Target::Instance(name) => Ok(Target::Instance(name.copy(alloc)?)),
+        Target::Gate(reference, gate) => {
+            let reference = reference.copy(alloc)?;
+            let gate = gate.copy(alloc)?;
+            Ok(Target::Gate(reference, gate))
+        }
+    }
+}
+
+/// The same event once more.
+pub fn copy_event(alloc: Global, event: &RawEvent) -> Result<RawEvent, NoMemory>
+    ensures { IfOk result (λ copied. copied ≡ event.now) }
+{
+    let tag = copy_name(alloc, &event.tag)?;
+    let text = event.text.copy(alloc)?;
+    let parameters = copy_parameters(alloc, &event.parameters)?;
+    let pairing = copy_name(alloc, &event.pairing)?;
+    let target = copy_target(alloc, &event.target)?;
+    let earlier_than = copy_names(alloc, event.earlier_than.as_slice())?;
+    let later_than = copy_names(alloc, event.later_than.as_slice())?;
+    Ok(RawEvent {
+        tag,
+        kind: event.kind,
+        text,
+        parameters,
+        pairing,
+        target,
+        earlier_than,
+        later_than,
+        place: event.place,
+    })
+}

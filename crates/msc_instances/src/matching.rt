@@ -1,0 +1,224 @@
+ghost use Rattle.std.specs.Prelude.{◌≡◌, ◌++◌, IfOk, OnOk, Some, codes, map};
+ghost use Rattle.msc_instances.specs.EventViews.{event_view};
+ghost use Rattle.msc_instances.specs.Marks.{AreMarked, IsMark, KeepsNumbers, LeadsPairs, edges_from, end_edges, key_view};
+ghost use Rattle.msc_instances.specs.Messages.{far_name, inside_text, key_of, list_text, or_empty, way, way_by, with_commas};
+
+use crate::PlacedEvent;
+use crate::columns::number_of;
+use indexmap::IndexSet;
+use item_order::{Edge, pair_up};
+use msc_base::{Kind, Name, NoMemory, Text};
+use msc_tree::{RawEvent, Target};
+use std::alloc::Global;
+
+/// What an output and the input that takes it in have in common. The pairing name is empty where there is none.
+#[derive(Drop, PartialEq, Eq, Hash)]
+struct MessageKey {
+    sender: Vec<u8>,
+    receiver: Vec<u8>,
+    text: Vec<u8>,
+    pairing: Vec<u8>,
+}
+
+/// What the pairing sees of an event: the number of its key, and whether it puts it out or takes it in.
+#[derive(Clone, Copy)]
+struct Mark {
+    class: u32,
+    puts: bool,
+}
+
+/// The marks of events, and how many classes they have.
+#[derive(Drop)]
+struct Marks {
+    held: Vec<Option<Mark>>,
+    classes: u32,
+}
+
+/// True for an output to an instance, false for an input from one, and none for other events.
+pub fn way_of(event: &RawEvent) -> Option<bool>
+    ensures { result ≡ way_by event.now.kind event.now.target }
+{
+    match (event.kind, &event.target) {
+        (Kind::Output, Target::Instance(_)) => Some(true),
+        (Kind::Input, Target::Instance(_)) => Some(false),
+        _ => None,
+    }
+}
+
+/// The name of the far end, and no bytes where that is no instance.
+fn far_bytes(target: &Target) -> &[u8]
+    ensures { result.now ≡ far_name target.now }
+{
+    match target {
+        Target::Instance(name) => name.bytes(),
+        Target::Nobody => &[],
+        Target::Env(_) => &[],
+        Target::Gate(_, _) => &[],
+    }
+}
+
+/// The bytes of the name, and none where there is no name.
+fn name_bytes(name: &Option<Name>) -> &[u8]
+    ensures { result.now ≡ or_empty name.now }
+{
+    match name {
+        Some(name) => name.bytes(),
+        None => &[],
+    }
+}
+
+/// Appends the item behind a comma.
+fn push_item(text: &mut Vec<u8>, item: &[u8]) -> Result<(), NoMemory>
+    ensures { OnOk result (text.new.items ≡ text.old.items ++ (codes "," ++ item.now)) }
+{
+    text.push(b',')?;
+    text.extend_from_slice(item)?;
+    Ok(())
+}
+
+/// Appends the items, each behind a comma.
+fn push_items(text: &mut Vec<u8>, items: &[Text]) -> Result<(), NoMemory>
+    ensures { OnOk result (text.new.items ≡ text.old.items ++ with_commas items.now) }
+{
+    for item in items {
+        push_item(text, item.bytes())?;
+    }
+    Ok(())
+}
+
+/// Appends the items with commas between them.
+fn push_inside(text: &mut Vec<u8>, items: &[Text]) -> Result<(), NoMemory>
+    ensures { OnOk result (text.new.items ≡ text.old.items ++ inside_text items.now) }
+{
+    let Some((first, others)) = items.split_first() else {
+        return Ok(());
+    };
+    text.extend_from_slice(first.bytes())?;
+    push_items(text, others)
+}
+
+/// Appends the items in parentheses.
+fn push_list(text: &mut Vec<u8>, items: &[Text]) -> Result<(), NoMemory>
+    ensures { OnOk result (text.new.items ≡ text.old.items ++ list_text (Some items.now)) }
+{
+    text.push(b'(')?;
+    push_inside(text, items)?;
+    text.push(b')')?;
+    Ok(())
+}
+
+/// The text of an event: that of its name or action, with its list in parentheses.
+fn text_of(alloc: Global, event: &RawEvent) -> Result<Vec<u8>, NoMemory>
+    ensures { IfOk result (λ text. text.items ≡ event.now.text ++ list_text event.now.parameters) }
+{
+    let mut text = Vec::from_slice(alloc, event.text.bytes())?;
+    if let Some(items) = &event.parameters {
+        push_list(&mut text, items.as_slice())?;
+    }
+    Ok(text)
+}
+
+/// The key of an output, or of an input.
+fn message_key(alloc: Global, placed: PlacedEvent<'_>, puts: bool) -> Result<MessageKey, NoMemory>
+    requires { way (event_view placed) ≡ Some puts }
+    ensures { IfOk result (λ key. key_view key ≡ key_of (event_view placed.entry)) }
+{
+    let at = Vec::from_slice(alloc, placed.at.bytes())?;
+    let far = Vec::from_slice(alloc, far_bytes(&placed.event.target))?;
+    let text = text_of(alloc, placed.event)?;
+    let pairing = Vec::from_slice(alloc, name_bytes(&placed.event.pairing))?;
+    if puts {
+        Ok(MessageKey {
+            sender: at,
+            receiver: far,
+            text,
+            pairing,
+        })
+    } else {
+        Ok(MessageKey {
+            sender: far,
+            receiver: at,
+            text,
+            pairing,
+        })
+    }
+}
+
+/// The mark of an event, whose key is numbered where it is new.
+fn mark_of(
+    alloc: Global,
+    keys: &mut IndexSet<MessageKey>,
+    placed: PlacedEvent<'_>,
+) -> Result<Option<Mark>, NoMemory>
+    ensures mark { IfOk result (IsMark (map key_view keys.new.keys) (event_view placed.entry)) }
+    ensures kept { KeepsNumbers (map key_view keys.old.keys) (map key_view keys.new.keys) }
+{
+    let Some(puts) = way_of(placed.event) else {
+        return Ok(None);
+    };
+    let key = message_key(alloc, placed, puts)?;
+    let (number, _) = keys.insert_full(key)?;
+    let class = number_of(number)?;
+    Ok(Some(Mark { class, puts }))
+}
+
+/// The marks of the events.
+fn marks_of(alloc: Global, events: &[PlacedEvent<'_>]) -> Result<Marks, NoMemory>
+    ensures { IfOk result (λ marks. AreMarked (map event_view events.now) marks.held.items marks.classes) }
+{
+    let mut keys = IndexSet::new(alloc);
+    let mut held = Vec::new(alloc);
+    for placed in events {
+        let mark = mark_of(alloc, &mut keys, *placed)?;
+        held.push(mark)?;
+    }
+    let classes = number_of(keys.len())?;
+    Ok(Marks { held, classes })
+}
+
+/// Appends the edge of the event of this number, where it goes that way.
+fn push_edge(
+    edges: &mut Vec<Edge>,
+    mark: &Option<Mark>,
+    puts: bool,
+    number: u32,
+) -> Result<(), NoMemory>
+    ensures { OnOk result (edges.new.items ≡ edges.old.items ++ end_edges puts number mark.now) }
+{
+    match mark {
+        Some(mark) => {
+            if mark.puts == puts {
+                edges.push(Edge {
+                    from: mark.class,
+                    to: number,
+                })?;
+            }
+            Ok(())
+        }
+        None => Ok(()),
+    }
+}
+
+/// The ends of one direction, each leading from its class to its event.
+fn edges_of(alloc: Global, marks: &[Option<Mark>], puts: bool) -> Result<Vec<Edge>, NoMemory>
+    ensures { IfOk result (λ edges. edges.items ≡ edges_from puts 0 marks.now) }
+{
+    let mut edges = Vec::new(alloc);
+    let mut place = 0;
+    for mark in marks {
+        let number = number_of(place)?;
+        push_edge(&mut edges, mark, puts, number)?;
+        place += 1;
+    }
+    Ok(edges)
+}
+
+/// The pairs of outputs and inputs, by the numbers of the events.
+pub fn pairs_of(alloc: Global, events: &[PlacedEvent<'_>]) -> Result<Vec<Edge>, NoMemory>
+    ensures { IfOk result (λ pairs. LeadsPairs (map event_view events.now) pairs.items) }
+{
+    let marks = marks_of(alloc, events)?;
+    let outputs = edges_of(alloc, marks.held.as_slice(), true)?;
+    let inputs = edges_of(alloc, marks.held.as_slice(), false)?;
+    pair_up(alloc, marks.classes, outputs.as_slice(), inputs.as_slice())
+}
