@@ -15,6 +15,8 @@ mod loops;
 mod passing;
 mod permission;
 mod row_end;
+#[cfg(test)]
+mod samples;
 mod successors;
 #[cfg(test)]
 mod tests;
