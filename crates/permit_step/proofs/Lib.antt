@@ -74,3 +74,4 @@ pub mod ChildReady
 pub mod Tallying
 pub mod Searching
 pub mod SoundReady
+pub mod Nearest

@@ -24,3 +24,4 @@ pub mod Touching
 pub mod Successors
 pub mod Searches
 pub mod ReadyBySoundness
+pub mod Held

@@ -1,4 +1,4 @@
-ghost use Rattle.std.specs.Prelude.{◌≡◌, ◌≤◌, ◌<◌, ◌==◌, ◌+◌, ◌++◌, ◌∷◌, ℕ, [], IfOk, OnOk, length, take, drop, if◌then◌else◌};
+ghost use Rattle.std.specs.Prelude.{◌≡◌, ◌≤◌, ◌<◌, ◌==◌, ◌+◌, ◌++◌, ◌∷◌, ℕ, [], IfOk, OnOk, length, take, drop, reverse, true, if◌then◌else◌};
 ghost use Rattle.chart_term.specs.NormalForms.{join_all};
 ghost use Rattle.chart_term.specs.Properties.{Each, MayHave};
 ghost use Rattle.chart_term.specs.Rows.{part_of};
@@ -10,9 +10,10 @@ ghost use Rattle.hmsc_graph.specs.Spots.{spot_of, goal_of, IsSpotBelow, IsGoalBe
 ghost use Rattle.chart_term.specs.Tables.{net_count, net_of};
 ghost use Rattle.msc_base.specs.Patterns.{row, aside};
 ghost use Rattle.permit_step.specs.Children.{put};
+ghost use Rattle.permit_step.specs.Held.{HasHeld, IsHeld};
 ghost use Rattle.permit_step.specs.Normality.{IsSet};
 ghost use Rattle.permit_step.specs.Permission.{permits_of, permit_all};
-ghost use Rattle.permit_step.specs.Ready.{IsReady, AreReadyTables, IsReadyLoop};
+ghost use Rattle.permit_step.specs.Ready.{IsReady, AreReadyTables, IsReadyPart, AreReadyParts, IsReadyLoop};
 ghost use Rattle.permit_step.specs.Searches.{IsTaken, AreReadyFrames, child_count, is_gap, part_before, put_all, tail_of};
 ghost use Rattle.permit_step.specs.Listing.{may_begin};
 ghost use Rattle.permit_step.specs.Taking.{down, fewer};
@@ -172,7 +173,8 @@ fn put_in_row(
     }
 }
 
-/// What permission leaves of each of the first parts, or None where it fails for one.
+/// What permission leaves of each of the first parts, or None where it fails for one. The last of them is tried first, since events of
+/// one label are mostly held by the nearest part that has it too.
 #[tactic(auto, using(crate::proofs::Permits::permits))]
 fn permit_first(
     alloc: Global,
@@ -186,14 +188,28 @@ fn permit_first(
     requires count { count ≤ length parts.now }
     ensures { IfOk result (λ left. left ≡ permit_all (permits_of nets.now.tables) (block_of block.now) (trees (take count parts.now))) }
 {
-    let mut kept = TermList::new(alloc);
-    for index in 0..count {
+    let mut kept = Vec::new(alloc);
+    let mut index = count;
+    while index > 0 {
+        index -= 1;
         match permit(alloc, nets, parts.at(index), block)? {
             Some(part) => kept.push(part)?,
             None => return Ok(None),
         }
     }
-    Ok(Some(kept))
+    Ok(Some(reversed(alloc, kept)?))
+}
+
+/// The terms, the last of them first.
+fn reversed(alloc: Global, terms: Vec<Term>) -> Result<TermList, NoMemory>
+    ensures { IfOk result (λ list. list ≡ reverse terms.items) }
+{
+    let mut list = TermList::new(alloc);
+    let mut rest = terms;
+    while let Some(term) = rest.pop() {
+        list.push(term)?;
+    }
+    Ok(list)
 }
 
 /// Adds the first of the pair where the second is this number.
@@ -348,6 +364,45 @@ fn is_gap(part: &RowPart) -> bool
     matches!(part, RowPart::Gap(_))
 }
 
+/// Whether the part is a begun turn of which permission leaves nothing.
+fn is_held(alloc: Global, nets: &Nets, part: &RowPart, block: &Block) -> Result<bool, NoMemory>
+    requires tables { AreReadyTables nets.now.tables }
+    requires part { IsReadyPart nets.now.tables (part_of part.now) }
+    ensures { IfOk result (λ held. held ≡ true → IsHeld (permits_of nets.now.tables) (block_of block.now) (part_of part.now)) }
+{
+    match part {
+        RowPart::Gap(_) => Ok(false),
+        RowPart::Turn(turn) => match permit(alloc, nets, turn, block)? {
+            Some(_) => Ok(false),
+            None => Ok(true),
+        },
+    }
+}
+
+/// Whether permission leaves nothing of one of the begun turns among the first parts. The last of them is tried first.
+#[tactic(auto, using(crate::proofs::Nearest::nearest))]
+fn has_held(
+    alloc: Global,
+    nets: &Nets,
+    row: &RowList,
+    count: usize,
+    block: &Block,
+) -> Result<bool, NoMemory>
+    requires tables { AreReadyTables nets.now.tables }
+    requires row { AreReadyParts nets.now.tables row.now }
+    requires count { count ≤ length row.now }
+    ensures { IfOk result (λ held. held ≡ true → HasHeld (permits_of nets.now.tables) (block_of block.now) (take count row.now)) }
+{
+    let mut index = count;
+    while index > 0 {
+        index -= 1;
+        if is_held(alloc, nets, row.at(index), block)? {
+            return Ok(true);
+        }
+    }
+    Ok(false)
+}
+
 /// What is left of a loop, where a begun turn leaves this or a turn begins in a gap.
 ///
 /// No earlier turn may do anything at the event's instances from now on.
@@ -381,6 +436,9 @@ fn put_in_loop(
     let before = last_before(begins, place, count);
     let all = touched(alloc, nets, body)?;
     let narrow = common(alloc, &taken.at, &all)?;
+    if has_held(alloc, nets, row, before, &taken.at)? {
+        return Ok(None);
+    }
     let mut end = RowEnd::new(alloc);
     put_tail(alloc, upper, row, behind, count, &mut end)?;
     end.put_turn(left)?;

@@ -36,7 +36,7 @@ fn add(nets: &mut Nets, label: Label) -> Result<(), NoMemory>
     }
 }
 
-/// Adds the labels a, b and c, which become 0, 1 and 2.
+/// Adds the labels a to f, which become 0 to 5.
 fn add_all(alloc: Global, nets: &mut Nets) -> Result<(), Fail>
     requires { length nets.old.labels < 90 }
     ensures { OnOk result (nets.new.tables ≡ nets.old.tables) }
@@ -44,6 +44,9 @@ fn add_all(alloc: Global, nets: &mut Nets) -> Result<(), Fail>
     add(nets, label(alloc, "a")?)?;
     add(nets, label(alloc, "b")?)?;
     add(nets, label(alloc, "c")?)?;
+    add(nets, label(alloc, "d")?)?;
+    add(nets, label(alloc, "e")?)?;
+    add(nets, label(alloc, "f")?)?;
     Ok(())
 }
 
@@ -196,15 +199,23 @@ fn more_than_is_wanted_is_told(rt: HostRuntime) -> Result<(), Fail> {
     Ok(())
 }
 
-/// A loop of messages.
+/// A loop of the term.
 #[tactic(auto, using(crate::proofs::ReadyTerms::alone))]
-fn messages(alloc: Global, lower: u64, upper: Option<u64>) -> Result<Term, NoMemory>
+fn repeated(alloc: Global, body: Term, lower: u64, upper: Option<u64>) -> Result<Term, NoMemory>
+    requires { IsReady [] body }
     ensures { IfOk result (λ term. IsReady [] term) }
 {
     let nets = Nets::new(alloc);
-    let body = message(alloc)?;
     let term = turns(alloc, &nets, body, lower, upper)?;
     Ok(term)
+}
+
+/// A loop of messages.
+fn messages(alloc: Global, lower: u64, upper: Option<u64>) -> Result<Term, NoMemory>
+    ensures { IfOk result (λ term. IsReady [] term) }
+{
+    let body = message(alloc)?;
+    repeated(alloc, body, lower, upper)
 }
 
 /// Two messages in a loop: both outputs may come before the first input, and then no third.
@@ -282,6 +293,71 @@ fn shared_event_decides_nothing(rt: HostRuntime) -> Result<(), Fail> {
     let alloc = rt.alloc();
     assert!(rt; weighs(alloc, branches(alloc)?, &["a", "b"], &[7, 2, 1])?);
     assert!(rt; weighs(alloc, branches(alloc)?, &["a", "c"], &[7, 2, 1])?);
+    Ok(())
+}
+
+/// A message back from instance 1 to instance 0: its output has this number and label, and its input the next ones.
+fn answer(alloc: Global, number: u32, label: u32) -> Result<Term, NoMemory>
+    requires number { number < 1000 }
+    requires label { label < 1000 }
+    ensures { IfOk result (λ term. IsReady [] term) }
+{
+    let output = event(alloc, number, 1, label)?;
+    let input = event(alloc, number + 1, 0, label + 1)?;
+    let events = row(alloc, output, input)?;
+    tied(alloc, events, number, number + 1)
+}
+
+/// A loop of a request and one of two answers.
+fn exchanges(alloc: Global) -> Result<Term, NoMemory>
+    ensures { IfOk result (λ term. IsReady [] term) }
+{
+    let yes = answer(alloc, 3, 2)?;
+    let no = answer(alloc, 5, 4)?;
+    let answers = either(alloc, yes, no)?;
+    let output = event(alloc, 1, 0, 0)?;
+    let input = event(alloc, 2, 1, 1)?;
+    let taken = row(alloc, input, answers)?;
+    let whole = row(alloc, output, taken)?;
+    let turn = tied(alloc, whole, 1, 2)?;
+    repeated(alloc, turn, 1, None)
+}
+
+/// What a turn leaves is the loop as it began, whichever the answer was.
+#[test]
+fn exchanges_weigh_the_same_in_each_turn(rt: HostRuntime) -> Result<(), Fail> {
+    let alloc = rt.alloc();
+    let texts = ["a", "b", "c", "d", "a", "b", "e", "f"];
+    let weights = [18, 31, 29, 19, 18, 31, 29, 19, 18];
+    assert!(rt; weighs(alloc, exchanges(alloc)?, &texts, &weights)?);
+    Ok(())
+}
+
+/// So many choices of a or b, one behind the other, and one more.
+fn choices(alloc: Global, count: u32) -> Result<Term, NoMemory>
+    ensures { IfOk result (λ term. IsReady [] term) }
+{
+    let first = event(alloc, 0, 0, 0)?;
+    let second = event(alloc, 0, 0, 1)?;
+    let mut all = either(alloc, first, second)?;
+    for number in 0..count {
+        let first = event(alloc, number, 0, 0)?;
+        let second = event(alloc, number, 0, 1)?;
+        let next = either(alloc, first, second)?;
+        all = row(alloc, all, next)?;
+    }
+    Ok(all)
+}
+
+/// Each of forty choices is made by itself: one term is left, and it is lighter by one choice.
+#[test]
+fn forty_choices_leave_one_term(rt: HostRuntime) -> Result<(), Fail> {
+    let alloc = rt.alloc();
+    let weights = [
+        121, 118, 115, 112, 109, 106, 103, 100, 97, 94, 91, 88, 85, 82, 79, 76, 73, 70, 67, 64, 61,
+        58, 55, 52, 49, 46, 43, 40, 37, 34, 31, 28, 25, 22, 19, 16, 13, 10, 7, 3, 1,
+    ];
+    assert!(rt; weighs(alloc, choices(alloc, 39)?, &["b"; 40], &weights)?);
     Ok(())
 }
 

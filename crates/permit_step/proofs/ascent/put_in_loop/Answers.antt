@@ -10,11 +10,12 @@ use Rattle.permit_step.specs.Searches.{is_gap, tail_of}
 use Rattle.permit_step.specs.Taking.{fewer, down}
 use Rattle.permit_step.specs.Values.{block_of}
 use Rattle.permit_step.proofs.LoopLeft.{loop-shut, loop-none, loop-some, counts-are}
+use Rattle.permit_step.proofs.Nearest.{held-none}
 use Rattle.permit_step.proofs.PermitLoops.{if-kept, if-lost}
 use Rattle.permit_step.proofs.ascent.put_in_loop.Goals as goal
 
-pub returns-then-branch : goal.returns-then-branch
-returns-then-branch c =
+pub returns-then-branch-2 : goal.returns-then-branch-2
+returns-then-branch-2 c =
     let high : c.fewer-upper.result ≡ fewer (is_gap (part_of c.at.result.now)) c.args.upper = c.fewer-upper.ensures ∙ ap (λ b. fewer b c.args.upper) c.is_gap-begins.ensures in
     let end : c.put_turn.new.self ≡ turn_before c.args.left (tail_of (fewer (is_gap (part_of c.at.result.now)) c.args.upper) (drop c.first_behind-behind.result c.args.row.now) no_rest) =
     c.in_ok-put_turn.ensures ∙ ap (turn_before c.args.left) (c.in_ok-put_tail.ensures ∙ (λ j. tail_of (high j) (drop c.first_behind-behind.result c.args.row.now) (c.new-end.ensures j))) in
@@ -38,3 +39,11 @@ returns c =
 pub returns-then-not-may_begin : goal.returns-then-not-may_begin
 returns-then-not-may_begin c =
     sym (loop-shut c.args.nets.now.tables c.args.taken.now c.requires.taken c.args.body.now c.args.lower c.args.upper c.args.row.now c.args.place (part_of c.at.result.now) c.args.left c.requires.row c.at.ensures (ap (λ b. may_begin b c.args.upper) (sym c.is_gap-begins.ensures) ∙ (sym c.may_begin.ensures ∙ c.if-not-may_begin.true)))
+
+pub returns-then-branch : goal.returns-then-branch
+returns-then-branch c =
+    let may : may_begin (is_gap (part_of c.at.result.now)) c.args.upper ≡ true = ap (λ b. may_begin b c.args.upper) (sym c.is_gap-begins.ensures) ∙ (sym c.may_begin.ensures ∙ c.if-not-may_begin.false) in
+    let counts = counts-are c.args.row.now c.args.place (part_of c.at.result.now) c.is_gap-begins.result c.last_before-before.result c.first_behind-behind.result c.at.ensures c.is_gap-begins.ensures c.last_before-before.ensures c.first_behind-behind.ensures in
+    let none = held-none (permits_of c.args.nets.now.tables) (block_of c.args.taken.now.at) (λ d. permit (permits_of c.args.nets.now.tables) (only d) c.args.body.now) (fewer (is_gap (part_of c.at.result.now)) c.args.upper) c.in_ok-narrow.narrow.instances
+    (turn_before c.args.left (tail_of (fewer (is_gap (part_of c.at.result.now)) c.args.upper) (drop c.first_behind-behind.result c.args.row.now) no_rest)) (take c.last_before-before.result c.args.row.now) (c.in_ok-has_held.ensures cc) in
+    sym (loop-none c.args.nets.now.tables c.args.taken.now c.requires.taken c.args.body.now c.args.lower c.args.upper c.args.row.now c.args.place (part_of c.at.result.now) c.args.left c.requires.row c.at.ensures c.in_ok-all.all.instances c.in_ok-narrow.narrow.instances c.in_ok-all.ensures (ap (λ (b : BlockValue). b.instances) c.in_ok-narrow.ensures) may c.last_before-before.result c.first_behind-behind.result counts none)
