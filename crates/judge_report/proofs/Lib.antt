@@ -1,3 +1,5 @@
+pub mod ListTexts
+pub mod NameTexts
 pub mod ObjectTexts
 pub mod PlainWords
 pub mod TextParts

@@ -1,3 +1,4 @@
+pub mod Lists
 pub mod Objects
 pub mod Texts
 pub mod Writing

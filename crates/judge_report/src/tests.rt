@@ -1,8 +1,10 @@
 //! Each text once, plain and as JSON, and a sink that takes a text in parts.
-use crate::{Fault, accepted_text, emit, fault_text, verdict_text};
+use crate::{Fault, accepted_text, emit, fault_text, instance_list_text, verdict_text};
 use event_log::LogFault;
-use msc_base::{MemSink, Place, Verdict};
+use msc_base::{Items, MemSink, Name, Place, Verdict};
 use msc_grammar::{Form, Rule};
+use msc_tree::{Decl, DeclList};
+use std::alloc::Global;
 use std::test::Fail;
 
 /// A verdict of each kind.
@@ -103,5 +105,37 @@ fn written(rt: HostRuntime) -> Result<(), Fail> {
     let mut small = MemSink::new(alloc, 5)?;
     assert!(rt; emit(&mut small, &text).is_err());
     assert_eq!(rt; small.bytes(), "accep".as_bytes());
+    Ok(())
+}
+
+/// The instance of this name, refined by this chart or by none.
+fn instance(alloc: Global, name: &[u8], refined: Option<Name>) -> Result<Decl, Fail> {
+    Ok(Decl {
+        name: Name::from_bytes(alloc, name)?,
+        kind: Items::new(alloc),
+        refined,
+        place: Place {
+            byte: 0,
+            line: 1,
+            column: 1,
+        },
+    })
+}
+
+/// Instances, one of which a chart refines: as JSON its name alone is told.
+#[test]
+fn instances(rt: HostRuntime) -> Result<(), Fail> {
+    let alloc = rt.alloc();
+    let mut listed: DeclList = Items::new(alloc);
+    let chart = Name::from_bytes(alloc, b"D")?;
+    listed.push(instance(alloc, b"i", Some(chart))?)?;
+    listed.push(instance(alloc, b"j.2", None)?)?;
+    let text = instance_list_text(alloc, &listed, false)?;
+    assert_eq!(rt; text.bytes(), "i decomposed as D\nj.2\n".as_bytes());
+    let text = instance_list_text(alloc, &listed, true)?;
+    assert_eq!(rt;
+        text.bytes(),
+        "{\"instances\":[\"i\",\"j.2\"]}\n".as_bytes()
+    );
     Ok(())
 }

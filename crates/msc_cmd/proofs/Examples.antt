@@ -3,7 +3,7 @@ use Rattle.std.proofs.Common.{◌≡◌, refl, codes, true, false, [], ◌∷◌
 use Rattle.std.specs.Str.{is_utf8}
 use Rattle.clap.proofs.OnLiterals.{clap_on_literals}
 use Rattle.event_log.specs.declared.event.LogForm.TheVariants.{Lines, Json}
-use Rattle.msc_cmd.specs.declared.requests.Request.TheVariants.{Judge, Print}
+use Rattle.msc_cmd.specs.declared.requests.Request.TheVariants.{Judge, Check, List, Print}
 use Rattle.msc_cmd.specs.Requests.{request_of}
 
 -- three words
@@ -106,7 +106,7 @@ no_words : request_of ([]) ≡ None
 unfolding clap_on_literals is_utf8
 no_words = refl
 
-other_command : request_of (codes "check" ∷ codes "d" ∷ []) ≡ None
+other_command : request_of (codes "sample" ∷ codes "2" ∷ codes "7" ∷ []) ≡ None
 unfolding clap_on_literals is_utf8
 other_command = refl
 
@@ -119,6 +119,68 @@ capital = refl
 no_text : request_of (codes "judge" ∷ codes "d" ∷ codes "A" ∷ (255 ∷ []) ∷ []) ≡ None
 unfolding clap_on_literals is_utf8
 no_text = refl
+
+-- ---- check
+
+check : request_of (codes "check" ∷ codes "d" ∷ []) ≡ Some (Check (codes "d") false)
+unfolding clap_on_literals is_utf8
+check = refl
+
+check_json : request_of (codes "check" ∷ codes "--json" ∷ codes "d" ∷ []) ≡ Some (Check (codes "d") true)
+unfolding clap_on_literals is_utf8
+check_json = refl
+
+check_nothing : request_of (codes "check" ∷ codes "--json" ∷ []) ≡ None
+unfolding clap_on_literals is_utf8
+check_nothing = refl
+
+check_two : request_of (codes "check" ∷ codes "d" ∷ codes "A" ∷ []) ≡ None
+unfolding clap_on_literals is_utf8
+check_two = refl
+
+-- it has no other options
+check_log_json : request_of (codes "check" ∷ codes "d" ∷ codes "--log-json" ∷ []) ≡ None
+unfolding clap_on_literals is_utf8
+check_log_json = refl
+
+check_json_twice : request_of (codes "check" ∷ codes "--json" ∷ codes "d" ∷ codes "--json" ∷ []) ≡ None
+unfolding clap_on_literals is_utf8
+check_json_twice = refl
+
+-- ---- list
+
+list : request_of (codes "list" ∷ codes "d" ∷ []) ≡ Some (List (codes "d") None false)
+unfolding clap_on_literals is_utf8
+list = refl
+
+list_chart : request_of (codes "list" ∷ codes "d" ∷ codes "A" ∷ []) ≡ Some (List (codes "d") (Some (codes "A")) false)
+unfolding clap_on_literals is_utf8
+list_chart = refl
+
+list_json : request_of (codes "list" ∷ codes "d" ∷ codes "--json" ∷ codes "A" ∷ []) ≡ Some (List (codes "d") (Some (codes "A")) true)
+unfolding clap_on_literals is_utf8
+list_json = refl
+
+list_behind_dashes : request_of (codes "list" ∷ codes "--json" ∷ codes "--" ∷ codes "d" ∷ codes "--json" ∷ []) ≡ Some (List (codes "d") (Some (codes "--json")) true)
+unfolding clap_on_literals is_utf8
+list_behind_dashes = refl
+
+-- the empty word is the name of a chart that there isn't
+list_empty : request_of (codes "list" ∷ codes "d" ∷ [] ∷ []) ≡ Some (List (codes "d") (Some []) false)
+unfolding clap_on_literals is_utf8
+list_empty = refl
+
+list_nothing : request_of (codes "list" ∷ []) ≡ None
+unfolding clap_on_literals is_utf8
+list_nothing = refl
+
+list_three : request_of (codes "list" ∷ codes "d" ∷ codes "A" ∷ codes "B" ∷ []) ≡ None
+unfolding clap_on_literals is_utf8
+list_three = refl
+
+list_log_json : request_of (codes "list" ∷ codes "d" ∷ codes "--log-json" ∷ []) ≡ None
+unfolding clap_on_literals is_utf8
+list_log_json = refl
 
 -- ---- print
 

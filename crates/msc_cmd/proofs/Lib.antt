@@ -7,6 +7,7 @@ pub mod JudgeLists
 pub mod JudgePartners
 pub mod JudgeStates
 pub mod JudgeSteps
+pub mod Listings
 pub mod LogOutcomes
 pub mod LogTaking
 pub mod NumberedRuns

@@ -1,5 +1,5 @@
 -- Replies to what the shelf gave.
-use Rattle.std.proofs.Common.{◌≡◌, ◌<◌, ◌≤◌, ◌⊎◌, inl, inr, Bool, false, ℕ, List, arith, sym, ap, ◌∙◌, subst, Option, Some, None, Result, Ok, Err, IfOk, zero, suc}
+use Rattle.std.proofs.Common.{◌≡◌, ◌<◌, ◌≤◌, ◌⊎◌, inl, inr, Bool, false, ℕ, List, arith, sym, ap, ◌∙◌, subst, Option, Some, None, Result, Ok, Err, IfOk, zero, suc, length}
 use Rattle.std.specs.Io.KnownBytes.{Appends}
 use Rattle.msc_base.specs.Shelves.{Files}
 use Rattle.msc_base.specs.declared.place.Place.{Place}
@@ -11,60 +11,65 @@ use Rattle.event_log.specs.declared.event.LogForm.{LogForm}
 use Rattle.msc_cmd.specs.declared.requests.Request.{Request}
 use Rattle.msc_cmd.specs.Requests.{request_of, IsNoRequest}
 use Rattle.judge_report.specs.declared.fault.Fault.TheVariants.{Document, Log, LogRead, NoChart, Usage}
-use Rattle.judge_report.specs.Texts.{fault_line}
+use Rattle.judge_report.specs.Texts.{accepted_line, fault_line}
 use Rattle.judge_report.specs.Writing.{AppendsPart}
 use Rattle.msc_cmd.specs.Documents.{IsDocument, HasDocumentFault, IsOnlyDocument, IsOnlyFault, chart_named}
 use Rattle.msc_cmd.specs.Intakes.{IsHeld}
 use Rattle.msc_cmd.specs.LogIntakes.{IsTheLog, IsToldLog}
 use Rattle.msc_cmd.specs.declared.log_intake.Log.{Log as TheLog}
 use Rattle.msc_cmd.specs.declared.log_intake.Log.TheVariants.{Events, Refused}
-use Rattle.msc_cmd.specs.Outcomes.{LogOutcome, EntryOutcome, FilesOutcome, refused, no_chart, of_log, IfTold, IsTheOne, RequestOutcome, IsOutcome, no_request, of_request}
+use Rattle.msc_cmd.specs.Outcomes.{LogOutcome, EntryOutcome, DocumentOutcome, refused, of_charts, ChartOutcome, no_chart, of_chart, Says, CheckAnswer, JudgeAnswer, FilesOutcome, IfTold, IsTheOne, RequestOutcome, IsOutcome, no_request, of_request}
 use Rattle.msc_cmd.specs.Failures.{FailedAt, HasChart, CannotRead, CannotJudge}
 use Rattle.msc_cmd.proofs.LogOutcomes.{one_entry, entry_one, faulty_one}
 
--- the one outcome where the document is refused
-refused_one : (form : LogForm) (json : Bool) (files : Files) (document name log bytes : List ℕ) (broken : Rule) (place : Place) (status : ℕ) (text : List ℕ) → files document ≡ Some bytes → IsOnlyFault bytes broken place → status ≡ 4
-    → text ≡ fault_line json (Document broken place) → IsTheOne (FilesOutcome form json files document name log) status text
-refused_one form json files document name log bytes broken place status text held f s t = record { is = refused bytes broken place held f.is s t; only = λ other others o. by other others o }
+-- the one outcome where the document is refused, whatever is answered of its charts
+refused_one : (json : Bool) (files : Files) (document bytes : List ℕ) (Answer : List PlainChart → ℕ → List ℕ → Type 0) (broken : Rule) (place : Place) (status : ℕ) (text : List ℕ) → files document ≡ Some bytes → IsOnlyFault bytes broken place → status ≡ 4
+    → text ≡ fault_line json (Document broken place) → IsTheOne (DocumentOutcome json files document Answer) status text
+refused_one json files document bytes Answer broken place status text held f s t = record { is = refused bytes broken place held f.is s t; only = λ other others o. by other others o }
   where
-    by : (other : ℕ) (others : List ℕ) → FilesOutcome form json files document name log other others → (other ≡ status) × (others ≡ text)
+    by : (other : ℕ) (others : List ℕ) → DocumentOutcome json files document Answer other others → (other ≡ status) × (others ≡ text)
     by other others (refused bs b p h n os ot) =
         let e = f.only b p (subst (λ us. HasDocumentFault us b p) (one_entry files document bytes bs held h) n) in
         (os ∙ sym s, ot ∙ ap (λ (u : Rule). fault_line json (Document u p)) e.0 ∙ ap (λ (u : Place). fault_line json (Document broken u)) e.1 ∙ sym t)
-    by other others (no_chart bs charts h d n os ot) = absurd (f.none charts (subst (λ us. IsDocument us charts) (one_entry files document bytes bs held h) d))
-    by other others (of_log bs charts chart h d n o) = absurd (f.none charts (subst (λ us. IsDocument us charts) (one_entry files document bytes bs held h) d))
+    by other others (of_charts bs charts h d o) = absurd (f.none charts (subst (λ us. IsDocument us charts) (one_entry files document bytes bs held h) d))
 
 -- the charts of a document that is held
 held_charts : (files : Files) (document bytes bs : List ℕ) (charts others : List PlainChart) → files document ≡ Some bytes → IsOnlyDocument bytes charts → files document ≡ Some bs → IsDocument bs others → others ≡ charts
 held_charts files document bytes bs charts others held d h o = d.only others (subst (λ us. IsDocument us others) (one_entry files document bytes bs held h) o)
 
--- the one outcome where the document lacks the chart
-no_chart_one : (form : LogForm) (json : Bool) (files : Files) (document name log bytes : List ℕ) (charts : List PlainChart) (status : ℕ) (text : List ℕ) → files document ≡ Some bytes → IsOnlyDocument bytes charts → chart_named name charts ≡ None → status ≡ 4 → text ≡ fault_line json NoChart
-    → IsTheOne (FilesOutcome form json files document name log) status text
-no_chart_one form json files document name log bytes charts status text held d lacks s t = record { is = no_chart bytes charts held d.is lacks s t; only = λ other others o. by other others o }
+-- the one outcome where it is accepted is the one answer for its charts
+charts_one : (json : Bool) (files : Files) (document bytes : List ℕ) (Answer : List PlainChart → ℕ → List ℕ → Type 0) (charts : List PlainChart) (status : ℕ) (text : List ℕ) → files document ≡ Some bytes → IsOnlyDocument bytes charts
+    → IsTheOne (Answer charts) status text → IsTheOne (DocumentOutcome json files document Answer) status text
+charts_one json files document bytes Answer charts status text held d one = record { is = of_charts bytes charts held d.is one.is; only = λ other others o. by other others o }
   where
-    by : (other : ℕ) (others : List ℕ) → FilesOutcome form json files document name log other others → (other ≡ status) × (others ≡ text)
+    by : (other : ℕ) (others : List ℕ) → DocumentOutcome json files document Answer other others → (other ≡ status) × (others ≡ text)
     by other others (refused bs b p h n os ot) = absurd (d.faultless b p (subst (λ us. HasDocumentFault us b p) (one_entry files document bytes bs held h) n))
-    by other others (no_chart bs cs h e n os ot) = (os ∙ sym s, ot ∙ sym t)
-    by other others (of_log bs cs c h e n o) =
-        let there : chart_named name charts ≡ Some c = ap (λ (u : List PlainChart). chart_named name u) (sym (held_charts files document bytes bs charts cs held d h e)) ∙ n in
-        let bad : None ≡ Some c = sym lacks ∙ there in cc
+    by other others (of_charts bs cs h e o) = one.only other others (subst (λ (us : List PlainChart). Answer us other others) (held_charts files document bytes bs charts cs held d h e) o)
 
--- the one outcome where the log is judged
-of_log_one : (form : LogForm) (json : Bool) (files : Files) (document name log bytes : List ℕ) (charts : List PlainChart) (chart : PlainChart) (status : ℕ) (text : List ℕ) → files document ≡ Some bytes → IsOnlyDocument bytes charts → chart_named name charts ≡ Some chart
-    → IsTheOne (EntryOutcome form json files chart log) status text → IsTheOne (FilesOutcome form json files document name log) status text
-of_log_one form json files document name log bytes charts chart status text held d named one = record { is = of_log bytes charts chart held d.is named one.is; only = λ other others o. by other others o }
+-- the one outcome where the document lacks the chart
+pub no_chart_one : (json : Bool) (name : List ℕ) (charts : List PlainChart) (Answer : PlainChart → ℕ → List ℕ → Type 0) (status : ℕ) (text : List ℕ) → chart_named name charts ≡ None → status ≡ 4 → text ≡ fault_line json NoChart
+    → IsTheOne (ChartOutcome json name charts Answer) status text
+no_chart_one json name charts Answer status text lacks s t = record { is = no_chart lacks s t; only = λ other others o. by other others o }
   where
-    by : (other : ℕ) (others : List ℕ) → FilesOutcome form json files document name log other others → (other ≡ status) × (others ≡ text)
-    by other others (refused bs b p h n os ot) = absurd (d.faultless b p (subst (λ us. HasDocumentFault us b p) (one_entry files document bytes bs held h) n))
-    by other others (no_chart bs cs h e n os ot) =
-        let there : chart_named name charts ≡ None = ap (λ (u : List PlainChart). chart_named name u) (sym (held_charts files document bytes bs charts cs held d h e)) ∙ n in
-        let bad : None ≡ Some chart = sym there ∙ named in cc
-    by other others (of_log bs cs c h e n o) =
-        let there : chart_named name charts ≡ Some c = ap (λ (u : List PlainChart). chart_named name u) (sym (held_charts files document bytes bs charts cs held d h e)) ∙ n in
-        let both : Some c ≡ Some chart = sym there ∙ named in
+    by : (other : ℕ) (others : List ℕ) → ChartOutcome json name charts Answer other others → (other ≡ status) × (others ≡ text)
+    by other others (no_chart n os ot) = (os ∙ sym s, ot ∙ sym t)
+    by other others (of_chart c n o) = let bad : None ≡ Some c = sym lacks ∙ n in cc
+
+-- and where it has it, the one answer for the chart
+pub chart_one : (json : Bool) (name : List ℕ) (charts : List PlainChart) (Answer : PlainChart → ℕ → List ℕ → Type 0) (chart : PlainChart) (status : ℕ) (text : List ℕ) → chart_named name charts ≡ Some chart
+    → IsTheOne (Answer chart) status text → IsTheOne (ChartOutcome json name charts Answer) status text
+chart_one json name charts Answer chart status text named one = record { is = of_chart chart named one.is; only = λ other others o. by other others o }
+  where
+    by : (other : ℕ) (others : List ℕ) → ChartOutcome json name charts Answer other others → (other ≡ status) × (others ≡ text)
+    by other others (no_chart n os ot) = let bad : None ≡ Some chart = sym n ∙ named in cc
+    by other others (of_chart c n o) =
+        let both : Some c ≡ Some chart = sym n ∙ named in
         let same : c ≡ chart = cc in
-        one.only other others (subst (λ us. EntryOutcome form json files us log other others) same o)
+        one.only other others (subst (λ (u : PlainChart). Answer u other others) same o)
+
+-- one text is said with status 0
+pub said_one : (words : List ℕ) (status : ℕ) (text : List ℕ) → status ≡ 0 → text ≡ words → IsTheOne (Says words) status text
+said_one words status text s t = record { is = (s, t); only = λ other others o. (o.0 ∙ sym s, o.1 ∙ sym t) }
 
 asked_one : (words : List (List ℕ)) (files : Files) (request : Request) (status : ℕ) (text : List ℕ) → request_of words ≡ Some request → IsTheOne (RequestOutcome request files) status text → IsTheOne (IsOutcome words files) status text
 asked_one words files request status text asked one = record { is = of_request request asked one.is; only = λ other others o. by other others o }
@@ -92,25 +97,40 @@ log_told form json None chart name bytes (Err e) h k = tt
 log_told form json (Some f) chart name bytes (Ok x) h k = λ _. entry_one form json f chart name bytes x.status x.text h k
 log_told form json (Some f) chart name bytes (Err e) h k = tt
 
-pub refused_told : {E : Type 0} (form : LogForm) (json : Bool) (files : Option Files) (d n l bytes : List ℕ) (broken : Rule) (place : Place) (r : Result Reply E) → IsHeld files d bytes → IsOnlyFault bytes broken place → IfOk r (λ x. x.status ≡ 4)
-    → IfOk r (λ x. x.text ≡ fault_line json (Document broken place)) → IfOk r (λ x. x.status < 7 → IfTold files (λ f. IsTheOne (FilesOutcome form json f d n l) x.status x.text))
-refused_told form json None d n l bytes broken place (Ok x) h o s t = λ _. tt
-refused_told form json None d n l bytes broken place (Err e) h o s t = tt
-refused_told form json (Some f) d n l bytes broken place (Ok x) h o s t = λ _. refused_one form json f d n l bytes broken place x.status x.text h o s t
-refused_told form json (Some f) d n l bytes broken place (Err e) h o s t = tt
+pub refused_told : {E : Type 0} (json : Bool) (files : Option Files) (d bytes : List ℕ) (Answer : Files → List PlainChart → ℕ → List ℕ → Type 0) (broken : Rule) (place : Place) (r : Result Reply E) → IsHeld files d bytes → IsOnlyFault bytes broken place
+    → IfOk r (λ x. x.status ≡ 4) → IfOk r (λ x. x.text ≡ fault_line json (Document broken place)) → IfOk r (λ x. x.status < 7 → IfTold files (λ f. IsTheOne (DocumentOutcome json f d (Answer f)) x.status x.text))
+refused_told json None d bytes Answer broken place (Ok x) h o s t = λ _. tt
+refused_told json None d bytes Answer broken place (Err e) h o s t = tt
+refused_told json (Some f) d bytes Answer broken place (Ok x) h o s t = λ _. refused_one json f d bytes (Answer f) broken place x.status x.text h o s t
+refused_told json (Some f) d bytes Answer broken place (Err e) h o s t = tt
+
+pub charts_told : {E : Type 0} (json : Bool) (files : Option Files) (d bytes : List ℕ) (Answer : List PlainChart → ℕ → List ℕ → Type 0) (charts : List PlainChart) (r : Result Reply E) → IsHeld files d bytes → IsOnlyDocument bytes charts
+    → IfOk r (λ x. IsTheOne (Answer charts) x.status x.text) → IfOk r (λ x. x.status < 7 → IfTold files (λ f. IsTheOne (DocumentOutcome json f d Answer) x.status x.text))
+charts_told json None d bytes Answer charts (Ok x) h doc one = λ _. tt
+charts_told json None d bytes Answer charts (Err e) h doc one = tt
+charts_told json (Some f) d bytes Answer charts (Ok x) h doc one = λ _. charts_one json f d bytes Answer charts x.status x.text h doc one
+charts_told json (Some f) d bytes Answer charts (Err e) h doc one = tt
+
+pub checked_told : (json : Bool) (files : Option Files) (d bytes : List ℕ) (charts : List PlainChart) (count : ℕ) (x : Reply) → IsHeld files d bytes → IsOnlyDocument bytes charts → x.status ≡ 0 → count ≡ length charts → x.text ≡ accepted_line json count
+    → x.status < 7 → IfTold files (λ f. IsTheOne (DocumentOutcome json f d (CheckAnswer json)) x.status x.text)
+checked_told json None d bytes charts count x h doc s n t = λ _. tt
+checked_told json (Some f) d bytes charts count x h doc s n t =
+    λ _. charts_one json f d bytes (CheckAnswer json) charts x.status x.text h doc (said_one (accepted_line json (length charts)) x.status x.text s (t ∙ ap (accepted_line json) n))
 
 pub no_chart_told : {E : Type 0} (form : LogForm) (json : Bool) (files : Option Files) (d n l bytes : List ℕ) (charts : List PlainChart) (r : Result Reply E) → IsHeld files d bytes → IsOnlyDocument bytes charts → chart_named n charts ≡ None → IfOk r (λ x. x.status ≡ 4)
     → IfOk r (λ x. x.text ≡ fault_line json NoChart) → IfOk r (λ x. x.status < 7 → IfTold files (λ f. IsTheOne (FilesOutcome form json f d n l) x.status x.text))
 no_chart_told form json None d n l bytes charts (Ok x) h doc lacks s t = λ _. tt
 no_chart_told form json None d n l bytes charts (Err e) h doc lacks s t = tt
-no_chart_told form json (Some f) d n l bytes charts (Ok x) h doc lacks s t = λ _. no_chart_one form json f d n l bytes charts x.status x.text h doc lacks s t
+no_chart_told form json (Some f) d n l bytes charts (Ok x) h doc lacks s t =
+    λ _. charts_one json f d bytes (JudgeAnswer form json f n l) charts x.status x.text h doc (no_chart_one json n charts (λ chart. EntryOutcome form json f chart l) x.status x.text lacks s t)
 no_chart_told form json (Some f) d n l bytes charts (Err e) h doc lacks s t = tt
 
 pub judged_told : {E : Type 0} (form : LogForm) (json : Bool) (files : Option Files) (d n l bytes : List ℕ) (charts : List PlainChart) (chart : PlainChart) (r : Result Reply E) → IsHeld files d bytes → IsOnlyDocument bytes charts → chart_named n charts ≡ Some chart
     → IfOk r (λ x. x.status < 7 → IfTold files (λ f. IsTheOne (EntryOutcome form json f chart l) x.status x.text)) → IfOk r (λ x. x.status < 7 → IfTold files (λ f. IsTheOne (FilesOutcome form json f d n l) x.status x.text))
 judged_told form json None d n l bytes charts chart (Ok x) h doc same k = λ _. tt
 judged_told form json None d n l bytes charts chart (Err e) h doc same k = tt
-judged_told form json (Some f) d n l bytes charts chart (Ok x) h doc same k = λ lt. of_log_one form json f d n l bytes charts chart x.status x.text h doc same (k lt)
+judged_told form json (Some f) d n l bytes charts chart (Ok x) h doc same k =
+    λ lt. charts_one json f d bytes (JudgeAnswer form json f n l) charts x.status x.text h doc (chart_one json n charts (λ c. EntryOutcome form json f c l) chart x.status x.text same (k lt))
 judged_told form json (Some f) d n l bytes charts chart (Err e) h doc same k = tt
 
 has_chart : (files : Option Files) (d n bytes : List ℕ) (charts : List PlainChart) (chart : PlainChart) → IsHeld files d bytes → IsDocument bytes charts → chart_named n charts ≡ Some chart → IfTold files (HasChart d n)
@@ -139,6 +159,11 @@ unasked_told None words (Ok x) none s t = λ _. tt
 unasked_told None words (Err e) none s t = tt
 unasked_told (Some f) words (Ok x) none s t = λ _. no_request_one words f x.status x.text none s t
 unasked_told (Some f) words (Err e) none s t = tt
+
+-- what is answered to a request is answered to what it is
+pub served : {E : Type 0} (files : Option Files) (asked request : Request) (r : Result Reply E) → asked ≡ request → IfOk r (λ x. x.status < 7 → IfTold files (λ f. IsTheOne (RequestOutcome request f) x.status x.text))
+    → IfOk r (λ x. x.status < 7 → IfTold files (λ f. IsTheOne (RequestOutcome asked f) x.status x.text))
+served files asked request r is k = subst (λ (q : Request). IfOk r (λ x. x.status < 7 → IfTold files (λ f. IsTheOne (RequestOutcome q f) x.status x.text))) (sym is) k
 
 -- The clauses of the top call
 

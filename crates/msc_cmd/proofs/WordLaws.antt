@@ -1,5 +1,5 @@
 -- The commands are such that `clap` has words for them, and what its answers mean for a request.
-use Rattle.std.proofs.Common.{◌≡◌, ◌∙◌, ◌&&◌, ap, refl, Bool, true, false, Bor, map, ◌++◌, append-nil, append_assoc, [], ◌∷◌, Option, None, List, ℕ, Result, sym, subst, inl, inr, codes}
+use Rattle.std.proofs.Common.{◌≡◌, ◌∙◌, ◌&&◌, ap, refl, Bool, true, false, Bor, map, ◌++◌, append-nil, append_assoc, [], ◌∷◌, Option, None, List, ℕ, Result, Err, IsErrOf, sym, subst, inl, inr, codes}
 use Rattle.std.proofs.lemmas.List.{map-append}
 use Rattle.std.proofs.lemmas.Str.{IsUtf8-from_is_utf8}
 use Rattle.std.specs.List.{list_all}
@@ -15,7 +15,8 @@ use Rattle.clap.proofs.OnLiterals.{clap_on_literals}
 use Rattle.clap.proofs.WalkLemmas.{first_value-rows}
 use Rattle.msc_cmd.specs.declared.requests.Request.{Request}
 use Rattle.msc_cmd.specs.declared.requests.WordFault.{WordFault}
-use Rattle.msc_cmd.specs.Requests.{Answers, command_request, judge_app, print_app, print_from, print_in, judge_request, print_request, request_by, request_from, request_of, request_in, unless_fault}
+use Rattle.msc_cmd.specs.declared.requests.WordFault.TheVariants.{NoRequest, NoMemory}
+use Rattle.msc_cmd.specs.Requests.{Answers, HasNoRequest, IsFound, check_app, check_from, check_in, check_request, command_request, judge_app, judge_request, list_app, list_from, list_in, list_request, print_app, print_from, print_in, print_request, request_by, request_from, request_in, request_of, unless_fault}
 
 pub judge_simple : is_simple judge_app ≡ true
 unfolding clap_on_literals
@@ -24,6 +25,22 @@ judge_simple = refl
 pub judge_free : is_simple_and_free judge_app ≡ true
 unfolding clap_on_literals
 judge_free = refl
+
+pub check_simple : is_simple check_app ≡ true
+unfolding clap_on_literals
+check_simple = refl
+
+pub check_free : is_simple_and_free check_app ≡ true
+unfolding clap_on_literals
+check_free = refl
+
+pub list_simple : is_simple list_app ≡ true
+unfolding clap_on_literals
+list_simple = refl
+
+pub list_free : is_simple_and_free list_app ≡ true
+unfolding clap_on_literals
+list_free = refl
 
 pub print_simple : is_simple print_app ≡ true
 unfolding clap_on_literals
@@ -42,30 +59,40 @@ faulty : (kinds : Kinds) (kind : ErrorKind) (request : Option Request) → IsAmo
 faulty [] kind request h = absurd h
 faulty (k ∷ ks) kind request h = refl
 
-module _ (meant : App) (asked : List Row → Option Request) where
-  found : (app : App) (words : List (List ℕ)) (rows : List Row) → app ≡ meant → fault_of app words ≡ [] → rows ≡ matches_of app words → request_by meant asked words ≡ asked rows
-  found app words rows is none same =
-      fits (fault_of meant words) (asked (matches_of meant words)) (ap (λ (a : App). fault_of a words) (sym is) ∙ none)
-      ∙ ap (λ (a : App). asked (matches_of a words)) (sym is) ∙ ap asked (sym same)
+-- what is answered of the matches is answered of the words
+pub found_answers : (meant : App) (asked : List Row → Option Request) (app : App) (words : List (List ℕ)) (rows : List Row) (answer : Result Request WordFault) → app ≡ meant → IsFound app words rows
+    → Answers (asked rows) answer → Answers (request_by meant asked words) answer
+found_answers meant asked app words rows answer is found h = subst (λ (o : Option Request). Answers o answer) (sym same) h
+  where
+    same : request_by meant asked words ≡ asked rows
+    same =
+        fits (fault_of meant words) (asked (matches_of meant words)) (ap (λ (a : App). fault_of a words) (sym is) ∙ found.0)
+        ∙ ap (λ (a : App). asked (matches_of a words)) (sym is) ∙ ap asked (sym found.1)
 
-  -- what is answered of the matches is answered of the words
-  pub found_answers : (app : App) (words : List (List ℕ)) (rows : List Row) (answer : Result Request WordFault) → app ≡ meant → fault_of app words ≡ [] → rows ≡ matches_of app words
-      → Answers (asked rows) answer → Answers (request_by meant asked words) answer
-  found_answers app words rows answer is none same h = subst (λ (o : Option Request). Answers o answer) (sym (found app words rows is none same)) h
+-- an error other than want of memory refuses the words
+pub refused : (app : App) (words : List (List ℕ)) (error : Error) → HasKind (fault_of app words) error → (kind_of error ≡ OutOfMemory → ⊥) → HasNoRequest app words
+refused app words error h other asked = elim h [
+  | inl m ↦ absurd (other m)
+  | inr among ↦ faulty (fault_of app words) (kind_of error) (asked (matches_of app words)) among
+]
 
-  -- an error other than want of memory refuses the words
-  pub refused : (app : App) (words : List (List ℕ)) (error : Error) → app ≡ meant → HasKind (fault_of app words) error → (kind_of error ≡ OutOfMemory → ⊥) → request_by meant asked words ≡ None
-  refused app words error is h other = elim h [
-    | inl m ↦ absurd (other m)
-    | inr among ↦ ap (λ (a : App). unless_fault (fault_of a words) (asked (matches_of meant words))) (sym is)
-        ∙ faulty (fault_of app words) (kind_of error) (asked (matches_of meant words)) among
-  ]
+-- no request is the answer to such words
+pub none_answered : {T : Type 0} (meant : App) (asked : List Row → Option Request) (app : App) (words : List (List ℕ)) (fault : WordFault) → app ≡ meant → (IsErrOf {T = T} (Err fault) NoRequest → HasNoRequest app words)
+    → Answers (request_by meant asked words) (Err fault)
+none_answered meant asked app words NoRequest is none = ap (λ (a : App). request_by a asked words) (sym is) ∙ none refl asked
+none_answered meant asked app words NoMemory is none = tt
 
 -- the first values of the arguments are those of the rows
 pub firsts : (f : Found) (d c l j k : Option (List ℕ)) → d ≡ first_value f (codes "document") → c ≡ first_value f (codes "chart") → l ≡ first_value f (codes "log")
     → j ≡ first_value f (codes "json") → k ≡ first_value f (codes "log-json") → request_from d c l j k ≡ request_in (rows_of f)
 firsts f d c l j k hd hc hl hj hk =
     rw (hd, hc, hl, hj, hk, first_value-rows f (codes "document"), first_value-rows f (codes "chart"), first_value-rows f (codes "log"), first_value-rows f (codes "json"), first_value-rows f (codes "log-json")) refl
+
+pub checked_firsts : (f : Found) (d j : Option (List ℕ)) → d ≡ first_value f (codes "document") → j ≡ first_value f (codes "json") → check_from d j ≡ check_in (rows_of f)
+checked_firsts f d j hd hj = rw (hd, hj, first_value-rows f (codes "document"), first_value-rows f (codes "json")) refl
+
+pub listed_firsts : (f : Found) (d c j : Option (List ℕ)) → d ≡ first_value f (codes "document") → c ≡ first_value f (codes "chart") → j ≡ first_value f (codes "json") → list_from d c j ≡ list_in (rows_of f)
+listed_firsts f d c j hd hc hj = rw (hd, hc, hj, first_value-rows f (codes "document"), first_value-rows f (codes "chart"), first_value-rows f (codes "json")) refl
 
 pub first_document : (f : Found) (d : Option (List ℕ)) → d ≡ first_value f (codes "document") → print_from d ≡ print_in (rows_of f)
 first_document f d hd = rw (hd, first_value-rows f (codes "document")) refl
@@ -105,14 +132,21 @@ all_utf8 rest words r h = sym h ∙ ap (list_all is_utf8) r
 pub judge_command : (command : List ℕ) (words : List (List ℕ)) → command ≡ codes "judge" → command_request command words ≡ judge_request words
 judge_command command words e = rw e refl
 
+pub check_command : (command : List ℕ) (words : List (List ℕ)) → command ≡ codes "check" → command_request command words ≡ check_request words
+check_command command words e = rw e refl
+
+pub list_command : (command : List ℕ) (words : List (List ℕ)) → command ≡ codes "list" → command_request command words ≡ list_request words
+list_command command words e = rw e refl
+
 pub print_command : (command : List ℕ) (words : List (List ℕ)) → command ≡ codes "print" → command_request command words ≡ print_request words
 print_command command words e = rw e refl
 
 differs : (a b : List ℕ) → (a ≡ b → ⊥) → bytes_eq a b ≡ false
 differs a b other = false_from_ne_true (bytes_eq a b) (λ e. other ((bytes_eq-Decides a b).0 e))
 
-pub no_command : (command : List ℕ) (words : List (List ℕ)) → (command ≡ codes "judge" → ⊥) → (command ≡ codes "print" → ⊥) → command_request command words ≡ None
-no_command command words j p = rw (differs command (codes "judge") j, differs command (codes "print") p) refl
+pub no_command : (command : List ℕ) (words : List (List ℕ)) → (command ≡ codes "judge" → ⊥) → (command ≡ codes "check" → ⊥) → (command ≡ codes "list" → ⊥) → (command ≡ codes "print" → ⊥)
+    → command_request command words ≡ None
+no_command command words j c l p = rw (differs command (codes "judge") j, differs command (codes "check") c, differs command (codes "list") l, differs command (codes "print") p) refl
 
 -- what is answered of the words behind a command is answered of all
 pub commanded : (command : List ℕ) (rest texts words : List (List ℕ)) (answer : Result Request WordFault) → words ≡ command ∷ rest → list_all is_utf8 rest ≡ true → texts ≡ rest

@@ -1,11 +1,11 @@
 -- What the bytes of a document are: charts, or the first rule that they break.
-use Rattle.std.specs.Prelude.{◌≡◌, ℕ, List, [], ◌∷◌, All, Option, Some, None, if◌then◌else◌}
-use Rattle.std.specs.Str.{bytes_eq}
+use Rattle.std.specs.Prelude.{◌≡◌, ℕ, List, All, Option, option_and_then, position, slice_get}
 use Rattle.msc_base.specs.declared.place.Place.{Place}
 use Rattle.msc_tree.specs.Charts.{Document as Tree}
 use Rattle.msc_grammar.specs.declared.rule.Rule.{Rule}
 use Rattle.msc_expand.specs.declared.plain_chart.PlainChart.{PlainChart}
 use Rattle.msc_expand.specs.Acceptance.{HasFault, IsAccepted}
+use Rattle.msc_expand.specs.Listing.{is_named}
 use Rattle.msc_expand.specs.Plain.{IsPlain}
 use Rattle.msc_cmd.specs.DocumentTexts.{ReadsDocument, HasTextFault}
 use Rattle.msc_cmd.specs.declared.document.Document.{Document}
@@ -41,8 +41,7 @@ IsTheDocument bytes (Refused broken place) = IsOnlyFault bytes broken place
 
 -- the chart of a name: in an accepted document there is one at most
 abbrev pub chart_named : List ℕ → List PlainChart → Option PlainChart
-chart_named name [] = None
-chart_named name (c ∷ charts) = if bytes_eq c.name name then Some c else chart_named name charts
+chart_named name charts = option_and_then (λ number. slice_get charts number) (position (is_named name) charts)
 
 -- ---- documents that have been read
 

@@ -6,7 +6,8 @@ use Rattle.msc_expand.specs.declared.plain_chart.PlainChart.{PlainChart}
 use Rattle.judge_report.specs.declared.fault.Fault.TheVariants.{DocumentRead, LogRead}
 use Rattle.judge_report.specs.Texts.{fault_line}
 use Rattle.msc_cmd.specs.declared.requests.Request.{Request}
-use Rattle.msc_cmd.specs.declared.requests.Request.TheVariants.{Judge, Print}
+use Rattle.msc_cmd.specs.declared.requests.Request.TheVariants.{Judge, Check, Print}
+use Rattle.msc_cmd.specs.declared.requests.Request.TheVariants as requests
 use Rattle.msc_cmd.specs.Documents.{IsDocument, chart_named}
 use Rattle.msc_cmd.specs.Requests.{request_of}
 use Rattle.msc_cmd.specs.Outcomes.{IfTold}
@@ -21,20 +22,22 @@ pub record FailedAt (before now : ℕ) (broken : Bool) (last : Option (List ℕ)
 abbrev pub HasChart : List ℕ → List ℕ → Files → Type 0
 HasChart document name files = (bytes : List ℕ) × (charts : List PlainChart) × (chart : PlainChart) × (files document ≡ Some bytes) × IsDocument bytes charts × (chart_named name charts ≡ Some chart)
 
+-- the shelf failed at the document, and the line says so
+abbrev pub CannotOpen : Bool → ℕ → ℕ → Bool → Option (List ℕ) → List ℕ → List ℕ → Type 0
+CannotOpen json before now broken last document text = FailedAt before now broken last document × (text ≡ fault_line json DocumentRead)
+
 -- the shelf failed at the document, or at the log of an accepted one, and the line says which
 abbrev pub CannotRead : Bool → Option Files → ℕ → ℕ → Bool → Option (List ℕ) → List ℕ → List ℕ → List ℕ → List ℕ → Type 0
 CannotRead json files before now broken last document name log text =
-    (FailedAt before now broken last document × (text ≡ fault_line json DocumentRead))
+    CannotOpen json before now broken last document text
     ⊎ (FailedAt before now broken last log × (text ≡ fault_line json LogRead) × IfTold files (HasChart document name))
-
--- the shelf failed at the document that is to be printed, and the line says so
-abbrev pub CannotPrint : ℕ → ℕ → Bool → Option (List ℕ) → List ℕ → List ℕ → Type 0
-CannotPrint before now broken last document text = FailedAt before now broken last document × (text ≡ fault_line false DocumentRead)
 
 -- an entry of the request can't be read
 abbrev pub CannotServe : Request → Option Files → ℕ → ℕ → Bool → Option (List ℕ) → List ℕ → Type 0
 CannotServe (Judge document chart log budget json form) files before now broken last text = CannotRead json files before now broken last document chart log text
-CannotServe (Print document) files before now broken last text = CannotPrint before now broken last document text
+CannotServe (Check document json) files before now broken last text = CannotOpen json before now broken last document text
+CannotServe (requests.List document chart json) files before now broken last text = CannotOpen json before now broken last document text
+CannotServe (Print document) files before now broken last text = CannotOpen false before now broken last document text
 
 -- the words are a request, and one of its entries can't be read
 pub record CannotJudge (words : List (List ℕ)) (files : Option Files) (before now : ℕ) (broken : Bool) (last : Option (List ℕ)) (text : List ℕ) : Type 0 where

@@ -1,5 +1,5 @@
 -- What the command answers to its words and the entries of the shelf.
-use Rattle.std.specs.Prelude.{◌≡◌, ℕ, Bool, false, List, Option, Some, None}
+use Rattle.std.specs.Prelude.{◌≡◌, ℕ, Bool, false, List, length, Option, Some, None}
 use Rattle.msc_base.specs.Shelves.{Files}
 use Rattle.msc_base.specs.declared.place.Place.{Place}
 use Rattle.msc_base.specs.declared.verdict.Verdict.{Verdict}
@@ -7,15 +7,18 @@ use Rattle.msc_base.specs.declared.verdict.Verdict.TheVariants.{Conforms, Fails,
 use Rattle.msc_tree.specs.Charts.{Document as Tree}
 use Rattle.msc_print.specs.ChartWords.{canonical_text}
 use Rattle.msc_expand.specs.declared.plain_chart.PlainChart.{PlainChart}
+use Rattle.msc_expand.specs.Listing.{listed_of}
 use Rattle.msc_grammar.specs.declared.rule.Rule.{Rule}
 use Rattle.event_log.specs.declared.event.LineEvent.{LineEvent}
 use Rattle.event_log.specs.declared.event.LogFault.{LogFault}
 use Rattle.event_log.specs.declared.event.LogForm.{LogForm}
 use Rattle.event_log.specs.Logs.{LogOf}
 use Rattle.judge_report.specs.declared.fault.Fault.TheVariants.{Document, NoChart, Log, Usage}
-use Rattle.judge_report.specs.Texts.{fault_line, verdict_line}
+use Rattle.judge_report.specs.Lists.{chart_list, instance_list}
+use Rattle.judge_report.specs.Texts.{accepted_line, fault_line, verdict_line}
 use Rattle.msc_cmd.specs.declared.requests.Request.{Request}
-use Rattle.msc_cmd.specs.declared.requests.Request.TheVariants.{Judge, Print}
+use Rattle.msc_cmd.specs.declared.requests.Request.TheVariants.{Judge, Check, Print}
+use Rattle.msc_cmd.specs.declared.requests.Request.TheVariants as requests
 use Rattle.msc_cmd.specs.DocumentTexts.{ReadsDocument, HasTextFault}
 use Rattle.msc_cmd.specs.Documents.{IsDocument, HasDocumentFault, chart_named}
 use Rattle.msc_cmd.specs.Requests.{request_of, IsNoRequest}
@@ -37,14 +40,37 @@ pub data LogOutcome (form : LogForm) (json : Bool) (chart : PlainChart) (bytes :
 pub data EntryOutcome (form : LogForm) (json : Bool) (files : Files) (chart : PlainChart) (name : List ℕ) (status : ℕ) (text : List ℕ) : Type 0 where
   of_bytes : (bytes : List ℕ) → files name ≡ Some bytes → LogOutcome form json chart bytes status text → EntryOutcome form json files chart name status text
 
--- what the entries of these names give
-pub data FilesOutcome (form : LogForm) (json : Bool) (files : Files) (document name log : List ℕ) (status : ℕ) (text : List ℕ) : Type 0 where
+-- what the entry of a document gives: its first fault, or what is answered of its charts
+pub data DocumentOutcome (json : Bool) (files : Files) (document : List ℕ) (Answer : List PlainChart → ℕ → List ℕ → Type 0) (status : ℕ) (text : List ℕ) : Type 0 where
   refused : (bytes : List ℕ) (broken : Rule) (place : Place) → files document ≡ Some bytes → HasDocumentFault bytes broken place → status ≡ 4 → text ≡ fault_line json (Document broken place)
-      → FilesOutcome form json files document name log status text
-  no_chart : (bytes : List ℕ) (charts : List PlainChart) → files document ≡ Some bytes → IsDocument bytes charts → chart_named name charts ≡ None → status ≡ 4 → text ≡ fault_line json NoChart
-      → FilesOutcome form json files document name log status text
-  of_log : (bytes : List ℕ) (charts : List PlainChart) (chart : PlainChart) → files document ≡ Some bytes → IsDocument bytes charts → chart_named name charts ≡ Some chart → EntryOutcome form json files chart log status text
-      → FilesOutcome form json files document name log status text
+      → DocumentOutcome json files document Answer status text
+  of_charts : (bytes : List ℕ) (charts : List PlainChart) → files document ≡ Some bytes → IsDocument bytes charts → Answer charts status text → DocumentOutcome json files document Answer status text
+
+-- what the chart of a name gives: that there is none, or what is answered of it
+pub data ChartOutcome (json : Bool) (name : List ℕ) (charts : List PlainChart) (Answer : PlainChart → ℕ → List ℕ → Type 0) (status : ℕ) (text : List ℕ) : Type 0 where
+  no_chart : chart_named name charts ≡ None → status ≡ 4 → text ≡ fault_line json NoChart → ChartOutcome json name charts Answer status text
+  of_chart : (chart : PlainChart) → chart_named name charts ≡ Some chart → Answer chart status text → ChartOutcome json name charts Answer status text
+
+-- the status is 0, and the text this one
+abbrev pub Says : List ℕ → ℕ → List ℕ → Type 0
+Says words status text = (status ≡ 0) × (text ≡ words)
+
+-- where a log is judged: what it gives for the chart
+abbrev pub JudgeAnswer : LogForm → Bool → Files → List ℕ → List ℕ → List PlainChart → ℕ → List ℕ → Type 0
+JudgeAnswer form json files name log charts = ChartOutcome json name charts (λ chart. EntryOutcome form json files chart log)
+
+-- where a document is checked: how many charts it has
+abbrev pub CheckAnswer : Bool → List PlainChart → ℕ → List ℕ → Type 0
+CheckAnswer json charts = Says (accepted_line json (length charts))
+
+-- where it is listed: its charts, or the instances of one
+abbrev pub ListAnswer : Bool → Option (List ℕ) → List PlainChart → ℕ → List ℕ → Type 0
+ListAnswer json None charts = Says (chart_list json charts)
+ListAnswer json (Some name) charts = ChartOutcome json name charts (λ chart. Says (instance_list json (listed_of chart)))
+
+-- what the entries of these names give
+abbrev pub FilesOutcome : LogForm → Bool → Files → List ℕ → List ℕ → List ℕ → ℕ → List ℕ → Type 0
+FilesOutcome form json files document name log = DocumentOutcome json files document (JudgeAnswer form json files name log)
 
 -- what the entry of this name gives where it is to be printed: later rules than those of the text aren't looked at
 pub data PrintOutcome (files : Files) (document : List ℕ) (status : ℕ) (text : List ℕ) : Type 0 where
@@ -55,6 +81,8 @@ pub data PrintOutcome (files : Files) (document : List ℕ) (status : ℕ) (text
 -- what a request gives for the entries
 abbrev pub RequestOutcome : Request → Files → ℕ → List ℕ → Type 0
 RequestOutcome (Judge document chart log budget json form) files = FilesOutcome form json files document chart log
+RequestOutcome (Check document json) files = DocumentOutcome json files document (CheckAnswer json)
+RequestOutcome (requests.List document chart json) files = DocumentOutcome json files document (ListAnswer json chart)
 RequestOutcome (Print document) files = PrintOutcome files document
 
 -- what the words give for the entries: the status, and the text that is written

@@ -122,7 +122,7 @@ pub fn judge_files<S: Shelf>(
             return make_reply(alloc, 4, &Fault::Document { rule, place }, json);
         }
     };
-    let Some(chart) = chart_of(accepted.as_slice(), name.bytes()) else {
+    let Some(chart) = chart_of(&accepted, name.bytes()) else {
         return make_reply(alloc, 4, &Fault::NoChart, json);
     };
     judge_log(alloc, chart, log, form, json, shelf)

@@ -7,6 +7,8 @@ ghost use Rattle.msc_cmd.specs.Outcomes.{IsOutcome, IfTold, IsTheOne, RequestOut
 ghost use Rattle.msc_cmd.specs.Failures.{CannotJudge, CannotServe};
 
 use crate::answer::{Reply, judge_files, make_reply};
+use crate::checking::check_file;
+use crate::listing::list_file;
 use crate::printing::print_file;
 use crate::requests::{Request, WordFault, request_of};
 use judge_report::{Fault, emit};
@@ -29,6 +31,12 @@ fn serve<S: Shelf>(alloc: Global, request: &Request, shelf: &mut S) -> Result<Re
             form,
             ..
         } => judge_files(alloc, document, chart, log, *form, *json, shelf),
+        Request::Check { document, json } => check_file(alloc, document, *json, shelf),
+        Request::List {
+            document,
+            chart,
+            json,
+        } => list_file(alloc, document, chart, *json, shelf),
         Request::Print { document } => print_file(alloc, document, shelf),
     }
 }
@@ -53,7 +61,7 @@ fn answer<S: Shelf>(alloc: Global, words: &Words, shelf: &mut S) -> Result<Reply
 ///
 /// | Status | Meaning |
 /// |---|---|
-/// | 0 | the log conforms; the document is printed |
+/// | 0 | the log conforms; the document is accepted, listed or printed |
 /// | 1 | the log fails at an event |
 /// | 2 | the words are no request |
 /// | 3 | the log stops early |

@@ -42,15 +42,11 @@ pub fn settle(alloc: Global, text: DocumentText) -> Result<Document, NoMemory>
 }
 
 /// The chart of the name, if there is one.
-pub fn chart_of<'a>(charts: &'a [PlainChart], name: &[u8]) -> Option<&'a PlainChart>
-    requires { All IsPlain charts.now }
-    ensures named { option_copied result ≡ chart_named name.now charts.now }
+pub fn chart_of<'a>(accepted: &'a Accepted, name: &[u8]) -> Option<&'a PlainChart>
+    requires { All IsPlain accepted.now }
+    ensures named { option_copied result ≡ chart_named name.now accepted.now }
     ensures plain { IfSome result (λ chart. IsPlain chart.now) }
 {
-    for chart in charts {
-        if chart.name.bytes() == name {
-            return Some(chart);
-        }
-    }
-    None
+    let number = accepted.chart(name)?;
+    accepted.as_slice().get(number as usize)
 }

@@ -4,6 +4,7 @@
 #![tactic(auto)]
 
 mod answer;
+mod checking;
 mod columns;
 mod command;
 mod document;
@@ -11,6 +12,7 @@ mod document_text;
 mod entry;
 mod intake;
 mod judge;
+mod listing;
 mod log_intake;
 mod log_reading;
 mod printing;

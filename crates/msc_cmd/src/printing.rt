@@ -1,5 +1,5 @@
-ghost use Rattle.std.specs.Prelude.{◌≡◌, ◌<◌, ◌≤◌, IfOk};
-ghost use Rattle.msc_cmd.specs.Failures.{CannotPrint};
+ghost use Rattle.std.specs.Prelude.{◌≡◌, ◌<◌, ◌≤◌, IfOk, false};
+ghost use Rattle.msc_cmd.specs.Failures.{CannotOpen};
 ghost use Rattle.msc_cmd.specs.Outcomes.{IfTold, IsTheOne, PrintOutcome};
 
 use crate::answer::{Reply, make_reply};
@@ -20,7 +20,7 @@ pub fn print_file<S: Shelf>(
     ensures small { IfOk result (λ r. r.status ≤ 7) }
     ensures not_two { IfOk result (λ r. r.status ≡ 2 → ⊥) }
     ensures outcome { IfOk result (λ r. r.status < 7 → IfTold (S.files shelf.old) (λ f. IsTheOne (PrintOutcome f document.now) r.status r.text)) }
-    ensures failed { IfOk result (λ r. r.status ≡ 7 → CannotPrint (S.faults shelf.old) (S.faults shelf.new) (S.broken shelf.new) (S.last shelf.new) document.now r.text) }
+    ensures failed { IfOk result (λ r. r.status ≡ 7 → CannotOpen false (S.faults shelf.old) (S.faults shelf.new) (S.broken shelf.new) (S.last shelf.new) document.now r.text) }
 {
     let read = match take_text(alloc, shelf, document) {
         Ok(read) => read,

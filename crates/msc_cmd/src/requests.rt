@@ -1,10 +1,10 @@
 ghost use Rattle.std.specs.Prelude.{◌≡◌, IfOk, IfNone, IfSome, IsErrOf, map, option_map, true, false};
 ghost use Rattle.std.specs.List.{list_all};
 ghost use Rattle.std.specs.Str.{is_utf8};
-ghost use Rattle.clap.specs.Words.{app_of, with_rule, rows_of, found_of};
+ghost use Rattle.clap.specs.Words.{app_of, found_of, is_simple, is_simple_and_free, rows_of, with_rule};
 ghost use Rattle.msc_base.specs.declared.limits.TheConstants.Limits.{BUDGET_DEFAULT};
-ghost use Rattle.msc_cmd.specs.Requests.{Answers, bare, command_request, wanted, flag, form_of, is_true, judge_app, judge_request, print_app, print_from, print_in, print_request, request_of as request_in_words, request_from, request_in};
-ghost use Rattle.msc_cmd.specs.declared.requests.Request.TheVariants.{Judge, Print};
+ghost use Rattle.msc_cmd.specs.Requests.{Answers, HasNoRequest, IsFound, bare, check_app, check_from, check_in, check_request, command_request, flag, form_of, is_true, judge_app, judge_request, list_app, list_from, list_in, list_request, optional, print_app, print_from, print_in, print_request, request_from, request_in, request_of as request_in_words, wanted};
+ghost use Rattle.msc_cmd.specs.declared.requests.Request.TheVariants.{Judge, List};
 ghost use Rattle.msc_cmd.specs.declared.requests.WordFault.TheVariants.{NoRequest};
 
 use clap::error::ErrorKind;
@@ -24,6 +24,17 @@ pub enum Request {
         budget: u64,
         json: bool,
         form: LogForm,
+    },
+    /// Say whether this document is accepted.
+    Check {
+        document: Text,
+        json: bool,
+    },
+    /// List the charts of this document, or the instances of the chart that is named.
+    List {
+        document: Text,
+        chart: Option<Text>,
+        json: bool,
     },
     /// Print this document in its canonical form.
     Print {
@@ -49,6 +60,18 @@ fn with_wanted<'a>(
     ensures { IfOk result (λ c. app_of c ≡ with_rule (app_of command.entry) (wanted name.entry.now)) }
 {
     let argument = Arg::new(alloc, name).required(true).action(ArgAction::Set);
+    command.arg(argument)
+}
+
+/// Adds a word that may be there.
+fn with_optional<'a>(
+    alloc: Global,
+    command: Command<'a>,
+    name: &'a str,
+) -> Result<Command<'a>, AllocError>
+    ensures { IfOk result (λ c. app_of c ≡ with_rule (app_of command.entry) (optional name.entry.now)) }
+{
+    let argument = Arg::new(alloc, name).action(ArgAction::Set);
     command.arg(argument)
 }
 
@@ -83,6 +106,25 @@ fn judge_command<'a>(alloc: Global) -> Result<Command<'a>, AllocError>
     let command = with_wanted(alloc, command, "log")?;
     let command = with_flag(alloc, command, "json")?;
     with_flag(alloc, command, "log-json")
+}
+
+/// What may stand behind `check`.
+fn check_command<'a>(alloc: Global) -> Result<Command<'a>, AllocError>
+    ensures { IfOk result (λ c. app_of c ≡ check_app) }
+{
+    let command = bare_command(alloc, "check");
+    let command = with_wanted(alloc, command, "document")?;
+    with_flag(alloc, command, "json")
+}
+
+/// What may stand behind `list`.
+fn list_command<'a>(alloc: Global) -> Result<Command<'a>, AllocError>
+    ensures { IfOk result (λ c. app_of c ≡ list_app) }
+{
+    let command = bare_command(alloc, "list");
+    let command = with_wanted(alloc, command, "document")?;
+    let command = with_optional(alloc, command, "chart")?;
+    with_flag(alloc, command, "json")
 }
 
 /// What may stand behind `print`.
@@ -167,6 +209,72 @@ fn request_of_texts(
     }
 }
 
+/// The request to check, from what each argument was given.
+fn check_of_texts(
+    alloc: Global,
+    document: Option<&str>,
+    json: Option<&str>,
+) -> Result<Request, WordFault>
+    ensures { Answers (check_from (option_map (λ s. s.now) document.entry) (option_map (λ s. s.now) json.entry)) result }
+{
+    let Some(document) = document else {
+        return Err(WordFault::NoRequest);
+    };
+    match Text::from_bytes(alloc, document.as_bytes()) {
+        Ok(document) => Ok(Request::Check {
+            document,
+            json: is_given(json),
+        }),
+        Err(_) => Err(WordFault::NoMemory),
+    }
+}
+
+/// A text of its own of what an argument was given, where it was given something.
+fn own_text(alloc: Global, text: Option<&str>) -> Result<Option<Text>, NoMemory>
+    ensures { IfOk result (λ own. own ≡ option_map (λ s. s.now) text.entry) }
+{
+    match text {
+        Some(text) => Ok(Some(Text::from_bytes(alloc, text.as_bytes())?)),
+        None => Ok(None),
+    }
+}
+
+/// The request to list, with texts of its own.
+fn list_of(
+    alloc: Global,
+    document: &str,
+    chart: Option<&str>,
+    json: bool,
+) -> Result<Request, NoMemory>
+    ensures { IfOk result (λ r. r ≡ List document.now (option_map (λ s. s.now) chart.entry) json) }
+{
+    let document = Text::from_bytes(alloc, document.as_bytes())?;
+    let chart = own_text(alloc, chart)?;
+    Ok(Request::List {
+        document,
+        chart,
+        json,
+    })
+}
+
+/// The request to list, from what each argument was given.
+fn list_of_texts(
+    alloc: Global,
+    document: Option<&str>,
+    chart: Option<&str>,
+    json: Option<&str>,
+) -> Result<Request, WordFault>
+    ensures { Answers (list_from (option_map (λ s. s.now) document.entry) (option_map (λ s. s.now) chart.entry) (option_map (λ s. s.now) json.entry)) result }
+{
+    let Some(document) = document else {
+        return Err(WordFault::NoRequest);
+    };
+    match list_of(alloc, document, chart, is_given(json)) {
+        Ok(request) => Ok(request),
+        Err(_) => Err(WordFault::NoMemory),
+    }
+}
+
 /// The request to print, from what its argument was given.
 fn print_of_text(alloc: Global, document: Option<&str>) -> Result<Request, WordFault>
     ensures { Answers (print_from (option_map (λ s. s.now) document.entry)) result }
@@ -194,11 +302,46 @@ fn request_of_matches(alloc: Global, matches: &ArgMatches) -> Result<Request, Wo
     )
 }
 
+/// The request to check in what `clap` found.
+fn check_of_matches(alloc: Global, matches: &ArgMatches) -> Result<Request, WordFault>
+    ensures { Answers (check_in (rows_of (found_of matches.now))) result }
+{
+    check_of_texts(alloc, matches.get_str("document"), matches.get_str("json"))
+}
+
+/// The request to list in what `clap` found.
+fn list_of_matches(alloc: Global, matches: &ArgMatches) -> Result<Request, WordFault>
+    ensures { Answers (list_in (rows_of (found_of matches.now))) result }
+{
+    list_of_texts(
+        alloc,
+        matches.get_str("document"),
+        matches.get_str("chart"),
+        matches.get_str("json"),
+    )
+}
+
 /// The request to print in what `clap` found.
 fn print_of_matches(alloc: Global, matches: &ArgMatches) -> Result<Request, WordFault>
     ensures { Answers (print_in (rows_of (found_of matches.now))) result }
 {
     print_of_text(alloc, matches.get_str("document"))
+}
+
+/// What `clap` finds in the words behind a command.
+fn matches_in<'a>(command: Command<'a>, words: &'a [&str]) -> Result<ArgMatches<'a>, WordFault>
+    requires simple { is_simple (app_of command) ≡ true }
+    requires free { is_simple_and_free (app_of command) ≡ true }
+    ensures found { IfOk result (λ m. IsFound (app_of command.entry) (map (λ w. w.now) words.entry.now) (rows_of (found_of m))) }
+    ensures none { IsErrOf result NoRequest → HasNoRequest (app_of command.entry) (map (λ w. w.now) words.entry.now) }
+{
+    match command.try_get_matches_from(words) {
+        Ok(matches) => Ok(matches),
+        Err(error) => match error.kind() {
+            ErrorKind::OutOfMemory => Err(WordFault::NoMemory),
+            _ => Err(WordFault::NoRequest),
+        },
+    }
 }
 
 /// The request that the words behind `judge` make.
@@ -208,13 +351,30 @@ fn judge_words(alloc: Global, words: &[&str]) -> Result<Request, WordFault>
     let Ok(command) = judge_command(alloc) else {
         return Err(WordFault::NoMemory);
     };
-    match command.try_get_matches_from(words) {
-        Ok(matches) => request_of_matches(alloc, &matches),
-        Err(error) => match error.kind() {
-            ErrorKind::OutOfMemory => Err(WordFault::NoMemory),
-            _ => Err(WordFault::NoRequest),
-        },
-    }
+    let matches = matches_in(command, words)?;
+    request_of_matches(alloc, &matches)
+}
+
+/// The request that the words behind `check` make.
+fn check_words(alloc: Global, words: &[&str]) -> Result<Request, WordFault>
+    ensures { Answers (check_request (map (λ w. w.now) words.entry.now)) result }
+{
+    let Ok(command) = check_command(alloc) else {
+        return Err(WordFault::NoMemory);
+    };
+    let matches = matches_in(command, words)?;
+    check_of_matches(alloc, &matches)
+}
+
+/// The request that the words behind `list` make.
+fn list_words(alloc: Global, words: &[&str]) -> Result<Request, WordFault>
+    ensures { Answers (list_request (map (λ w. w.now) words.entry.now)) result }
+{
+    let Ok(command) = list_command(alloc) else {
+        return Err(WordFault::NoMemory);
+    };
+    let matches = matches_in(command, words)?;
+    list_of_matches(alloc, &matches)
 }
 
 /// The request that the words behind `print` make.
@@ -224,13 +384,8 @@ fn print_words(alloc: Global, words: &[&str]) -> Result<Request, WordFault>
     let Ok(command) = print_command(alloc) else {
         return Err(WordFault::NoMemory);
     };
-    match command.try_get_matches_from(words) {
-        Ok(matches) => print_of_matches(alloc, &matches),
-        Err(error) => match error.kind() {
-            ErrorKind::OutOfMemory => Err(WordFault::NoMemory),
-            _ => Err(WordFault::NoRequest),
-        },
-    }
+    let matches = matches_in(command, words)?;
+    print_of_matches(alloc, &matches)
 }
 
 /// The request that the words behind this command make.
@@ -239,6 +394,12 @@ fn command_words(alloc: Global, command: &Text, words: &[&str]) -> Result<Reques
 {
     if is_text(command.bytes(), "judge") {
         return judge_words(alloc, words);
+    }
+    if is_text(command.bytes(), "check") {
+        return check_words(alloc, words);
+    }
+    if is_text(command.bytes(), "list") {
+        return list_words(alloc, words);
     }
     if is_text(command.bytes(), "print") {
         return print_words(alloc, words);

@@ -1,21 +1,23 @@
 -- From groups of rules to the first fault of a document, and to its charts.
-use Rattle.std.proofs.Common.{◌≡◌, ℕ, ◌<◌, ◌≤◌, ◌⊎◌, inl, inr, List, [], ◌∷◌, map, flat_map, Option, Some, None, Bool, true, false, zero, suc, arith, refl, sym, ap, ◌∙◌, subst, nat_eq, if◌then◌else◌, All}
+use Rattle.std.proofs.Common.{◌≡◌, ℕ, ◌≤◌, inl, inr, List, [], ◌∷◌, map, flat_map, arith, refl, sym, ap, ◌∙◌, subst, nat_eq, if◌then◌else◌, All, length}
+use Rattle.msc_base.specs.declared.limits.TheConstants.Limits.{CHARTS}
 use Rattle.msc_base.specs.declared.place.Place.{Place}
 use Rattle.msc_tree.specs.Charts.{Document}
 use Rattle.msc_grammar.specs.declared.rule.Rule.{Rule}
 use Rattle.item_order.specs.declared.first_fault.Broken.{Broken}
-use Rattle.item_order.specs.FirstFaults.{IsOf, IsInSome, AreGroups, IsFirst, IsEarliest, IsFirstFault, IsFaultless, Keeps}
+use Rattle.item_order.specs.FirstFaults.{IsOf, IsInSome, AreGroups, IsFirst, IsFaultless, Keeps}
 use Rattle.item_order.specs.Places.{IsNoLater}
-use Rattle.item_order.proofs.FirstOnes.{first_fault, faultless, one_first_fault, never_faultless}
+use Rattle.item_order.proofs.FirstOnes.{first_fault, faultless, one_first_fault}
 use Rattle.msc_expand.specs.declared.check.Check.{Check}
 use Rattle.msc_expand.specs.declared.check.Check.TheVariants.{Unbuilt, Charts, Instances, TwiceNamed, Undeclared, Size, Total, Unmatched, Early}
-use Rattle.msc_expand.specs.declared.outline.Outline.{Outline}
 use Rattle.msc_expand.specs.declared.plain_chart.PlainChart.{PlainChart}
 use Rattle.msc_expand.specs.Acceptance.{number_of, group_of, rule_of, Breaks, BreaksOf, HasFault, IsAccepted, ArePlainOf}
-use Rattle.msc_expand.specs.Deciding.{limits, names, sizes, messages, inputs, later_groups, all_groups, AllKept}
+use Rattle.msc_expand.specs.Deciding.{names, sizes, messages, inputs, later_groups, all_groups, AllKept}
+use Rattle.msc_expand.specs.Forms.{unbuilt_chart}
 use Rattle.msc_expand.specs.Outlines.{outline_of}
 use Rattle.msc_expand.specs.Plain.{IsPlain}
 use Rattle.msc_expand.proofs.ChartLaws.{all_plain, same_charts}
+use Rattle.msc_expand.proofs.ListingLaws.{all_graphs, all_listed, few_charts, nothing_among}
 use Rattle.msc_expand.proofs.SoundLaws.{charts_sound}
 
 -- ---- numbers and groups
@@ -163,7 +165,13 @@ settled_kept d none k = (unbuilt_kept d none, kept_same (BreaksOf (map outline_o
 -- ---- what is accepted
 
 pub accepted : (d : Document) (charts : List PlainChart) → AllKept (Breaks d) all_groups → ArePlainOf (map outline_of d.charts) charts → IsAccepted d charts
-accepted d charts kept are = record { faultless = faultless (Breaks d) all_groups (λ r p b. in_some r) kept; charts_are = are }
+accepted d charts kept are =
+    let free : IsFaultless (Breaks d) = faultless (Breaks d) all_groups (λ r p b. in_some r) kept in
+    let built : flat_map unbuilt_chart d.charts ≡ [] = nothing_among (flat_map unbuilt_chart d.charts) (λ p h. free Unbuilt p h) in
+    record { faultless = free; charts_are = are; graphs_are = all_graphs d.charts charts built are; listed_are = all_listed d.charts charts built are }
+
+pub accepted_few : (d : Document) (charts : List PlainChart) → IsAccepted d charts → length charts ≤ CHARTS
+accepted_few d charts a = few_charts (map outline_of d.charts) charts (λ p h. a.faultless Charts p h) a.charts_are
 
 pub accepted_only : (d : Document) (charts others : List PlainChart) → IsAccepted d charts → IsAccepted d others → others ≡ charts
 accepted_only d charts others a b = same_charts (map outline_of d.charts) others charts b.charts_are a.charts_are

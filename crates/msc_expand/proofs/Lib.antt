@@ -7,6 +7,7 @@ pub mod EdgeLaws
 pub mod GroupLaws
 pub mod JoinLaws
 pub mod Keys
+pub mod ListingLaws
 pub mod LonelyLaws
 pub mod LonelySteps
 pub mod MarkLaws

@@ -1,5 +1,6 @@
 -- What is settled of a document.
-use Rattle.std.proofs.Common.{◌≡◌, List, [], ◌∷◌, map, flat_map, Option, Some, None, All, Result, Ok, Err, IfOk, Vec, Global, sym, ap, ◌∙◌, refl, subst}
+use Rattle.std.proofs.Common.{◌≡◌, List, [], ◌∷◌, map, flat_map, Option, Some, None, All, Result, Ok, Err, IfOk, Vec, Global, sym, ap, refl, subst, ◌≤◌, length}
+use Rattle.msc_base.specs.declared.limits.TheConstants.Limits.{CHARTS}
 use Rattle.msc_base.specs.declared.place.Place.{Place}
 use Rattle.msc_tree.specs.declared.chart.RawChart.{RawChart}
 use Rattle.msc_tree.specs.Charts.{Document}
@@ -14,13 +15,13 @@ use Rattle.msc_expand.specs.declared.deciding.Decision.{Decision}
 use Rattle.msc_expand.specs.declared.deciding.Decision.TheVariants as decision
 use Rattle.msc_expand.specs.declared.outline.Outline.{Outline}
 use Rattle.msc_expand.specs.declared.plain_chart.PlainChart.{PlainChart}
-use Rattle.msc_expand.specs.Acceptance.{number_of, rule_of, Breaks, BreaksOf, HasFault, IsAccepted}
+use Rattle.msc_expand.specs.Acceptance.{number_of, rule_of, Breaks, HasFault, IsAccepted}
 use Rattle.msc_expand.specs.Deciding.{IsDecided, IsSettled, all_groups}
 use Rattle.msc_expand.specs.Forms.{unbuilt_chart}
 use Rattle.msc_expand.specs.Outlines.{outline_of}
 use Rattle.msc_expand.specs.Plain.{IsPlain}
 use Rattle.msc_expand.specs.Rules.{IsAmong, earliest_of}
-use Rattle.msc_expand.proofs.AcceptLaws.{unbuilt_first, settled_first, settled_kept, accepted, accepted_only, accepted_plain, accepted_faultless, has_fault, only_fault, none_accepted}
+use Rattle.msc_expand.proofs.AcceptLaws.{unbuilt_first, settled_first, settled_kept, accepted, accepted_only, accepted_plain, accepted_few, accepted_faultless, has_fault, only_fault, none_accepted}
 use Rattle.msc_expand.proofs.Among.{least_among}
 
 least_unbuilt : (d : Document) (x : Option Place) → x ≡ earliest_of None (flat_map unbuilt_chart d.charts) → IsLeast (IsAmong (flat_map unbuilt_chart d.charts)) x
@@ -49,6 +50,9 @@ plain_only d charts h others a = accepted_only d charts.items others (plain_acce
 
 pub plain_plain : (d : Document) (charts : Vec PlainChart Global) → IsSettled d (decision.Plain charts) → All IsPlain charts.items
 plain_plain d charts h = accepted_plain d charts.items (plain_accepted d charts h)
+
+pub plain_few : (d : Document) (charts : Vec PlainChart Global) → IsSettled d (decision.Plain charts) → length charts.items ≤ CHARTS
+plain_few d charts h = accepted_few d charts.items (plain_accepted d charts h)
 
 pub plain_faultless : (d : Document) (charts : Vec PlainChart Global) → IsSettled d (decision.Plain charts) → (rule : Rule) (place : Place) → HasFault d rule place → ⊥
 plain_faultless d charts h rule place f = accepted_faultless d charts.items (plain_accepted d charts h) rule place f

@@ -11,6 +11,7 @@ use Rattle.msc_expand.specs.declared.check.Check.TheVariants.{Unbuilt, Charts, I
 use Rattle.msc_expand.specs.declared.outline.Outline.{Outline}
 use Rattle.msc_expand.specs.declared.outline.WovenEvent.{WovenEvent}
 use Rattle.msc_expand.specs.Forms.{unbuilt_chart}
+use Rattle.msc_expand.specs.Listing.{is_graph_in, is_graph_of, listed_in, listed_of}
 use Rattle.msc_expand.specs.Outlines.{outline_of}
 use Rattle.msc_expand.specs.Pairings.{ArePartnersOf}
 use Rattle.msc_expand.specs.Rules.{IsAmong, chart_places, instance_places, twice_places, undeclared_places, size_places, total_places, HasUnmatched, HasEarly}
@@ -92,3 +93,6 @@ ArePlainOf (o ∷ outlines) (c ∷ charts) = IsPlainOf o c × ArePlainOf outline
 pub record IsAccepted (document : Document) (charts : List PlainChart) : Type 0 where
   pub faultless : IsFaultless (Breaks document)
   pub charts_are : ArePlainOf (map outline_of document.charts) charts
+  -- they are graphs, and have their instances, as the text says
+  pub graphs_are : map is_graph_of charts ≡ map is_graph_in document.charts
+  pub listed_are : map listed_of charts ≡ map listed_in document.charts

@@ -5,6 +5,7 @@ pub mod Meanings
 pub mod Pairings
 pub mod Marks
 pub mod Rules
+pub mod Listing
 pub mod Acceptance
 pub mod Lonely
 pub mod Deciding

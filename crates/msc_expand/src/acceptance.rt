@@ -30,7 +30,7 @@ fn settle(alloc: Global, raw: &RawDocument) -> Result<Decision, NoMemory>
 }
 
 /// The charts of the document, or the first rule that it breaks, and where.
-#[tactic(auto, using(crate::proofs::SettleLaws::plain_accepted, crate::proofs::SettleLaws::plain_faultless, crate::proofs::SettleLaws::faulty_fault, crate::proofs::SettleLaws::faulty_none))]
+#[tactic(auto, using(crate::proofs::SettleLaws::plain_faultless, crate::proofs::SettleLaws::faulty_fault, crate::proofs::SettleLaws::faulty_none))]
 pub fn accept(alloc: Global, raw: &RawDocument) -> Result<Accepted, DocFault>
     ensures ok { IfOk result (IsAccepted (document_view raw.now)) }
     ensures only { IfOk result (λ accepted. (others : List PlainChart) → IsAccepted (document_view raw.now) others → others ≡ accepted) }

@@ -1,7 +1,7 @@
 use Rattle.std.proofs.Common.{◌≡◌, codes, rules, subst, sym, Option, map}
 use Rattle.msc_cmd.specs.declared.requests.Request.{Request}
 use Rattle.msc_cmd.specs.Requests.{Answers}
-use Rattle.msc_cmd.proofs.WordLaws.{judge_command, print_command, no_command}
+use Rattle.msc_cmd.proofs.WordLaws.{judge_command, check_command, list_command, print_command, no_command}
 use Rattle.msc_cmd.proofs.requests.command_words.Goals as goal
 
 pub returns-then-is_text : goal.returns-then-is_text
@@ -11,11 +11,23 @@ returns-then-is_text c =
 
 pub returns-then-is_text-2 : goal.returns-then-is_text-2
 returns-then-is_text-2 c =
+    let is : c.args.command.now ≡ codes "check" = search rules in
+    subst (λ (o : Option Request). Answers o c.check_words.result) (sym (check_command c.args.command.now (map (λ w. w.now) c.args.words.now) is)) c.check_words.ensures
+
+pub returns-then-is_text-3 : goal.returns-then-is_text-3
+returns-then-is_text-3 c =
+    let is : c.args.command.now ≡ codes "list" = search rules in
+    subst (λ (o : Option Request). Answers o c.list_words.result) (sym (list_command c.args.command.now (map (λ w. w.now) c.args.words.now) is)) c.list_words.ensures
+
+pub returns-then-is_text-4 : goal.returns-then-is_text-4
+returns-then-is_text-4 c =
     let is : c.args.command.now ≡ codes "print" = search rules in
     subst (λ (o : Option Request). Answers o c.print_words.result) (sym (print_command c.args.command.now (map (λ w. w.now) c.args.words.now) is)) c.print_words.ensures
 
 pub returns : goal.returns
 returns c =
-    let first : c.args.command.now ≡ codes "judge" → ⊥ = search rules in
-    let second : c.args.command.now ≡ codes "print" → ⊥ = search rules in
-    no_command c.args.command.now (map (λ w. w.now) c.args.words.now) first second
+    let judge : c.args.command.now ≡ codes "judge" → ⊥ = search rules in
+    let check : c.args.command.now ≡ codes "check" → ⊥ = search rules in
+    let list : c.args.command.now ≡ codes "list" → ⊥ = search rules in
+    let print : c.args.command.now ≡ codes "print" → ⊥ = search rules in
+    no_command c.args.command.now (map (λ w. w.now) c.args.words.now) judge check list print

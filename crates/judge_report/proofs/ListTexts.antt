@@ -1,0 +1,91 @@
+-- What is told of a list is its text.
+use Rattle.std.proofs.Common.{◌≡◌, ◌<◌, ◌+◌, ◌∙◌, ℕ, Bool, true, false, List, [], ◌∷◌, ◌++◌, codes, length, map, flat_map, take, get_or, refl, sym, ap, append_assoc}
+use Rattle.std.proofs.lemmas.Bool.{and_parts}
+use Rattle.std.proofs.lemmas.List.{flat_map_more, take_more}
+use Rattle.std.specs.Fmt.{decimal}
+use Rattle.std.specs.List.{list_all}
+use Rattle.serde_json.specs.Data.{Data, number, unsigned, string, object, member, no_members}
+use Rattle.serde_json.specs.View.{items_of}
+use Rattle.serde_json.specs.Written.{compact_text, has_float, items_have_float, items_text}
+use Rattle.serde_json.proofs.OnLiterals.{serde_json_on_literals}
+use Rattle.msc_tree.specs.declared.chart.Decl.{Decl}
+use Rattle.msc_expand.specs.declared.plain_chart.PlainChart.{PlainChart}
+use Rattle.msc_expand.specs.Listing.{is_graph_of, listed_of}
+use Rattle.judge_report.specs.Lists.{array_data, chart_data, chart_json, chart_list, instance_data, instance_json, instance_list, kind_word, separated}
+use Rattle.judge_report.specs.Texts.{is_plain}
+use Rattle.judge_report.proofs.PlainWords.{quoted_plain}
+
+-- one item more
+pub more_items : {X : Type 0} (text : X → List ℕ) (xs : List X) (i : ℕ) (x : X) (old new : List ℕ) → i < length xs → x ≡ get_or xs i x → old ≡ flat_map text (take i xs) → new ≡ old ++ text x
+    → new ≡ flat_map text (take (i + 1) xs)
+more_items text xs i x old new lt is o n =
+    n ∙ ap (λ t. t ++ text x) o ∙ flat_map_more text [] (take i xs) x
+    ∙ ap (λ y. flat_map text (take i xs ++ y ∷ [])) is ∙ ap (λ ys. flat_map text ys) (sym (take_more xs i x lt))
+
+-- ---- the text of an array
+
+module _ {X : Type 0} (shown : X → Data) (text : X → List ℕ) (plain : X → Bool) (same : (x : X) → plain x ≡ true → compact_text (shown x) ≡ text x) where
+  items_shown : (xs : List X) → list_all plain xs ≡ true → items_text false (items_of (map shown xs)) ≡ separated (map text xs) ++ 93 ∷ []
+  items_shown [] h = refl
+  items_shown (x ∷ []) h = ap (λ t. t ++ 93 ∷ []) (same x (and_parts (plain x) true h).0)
+  items_shown (x ∷ y ∷ ys) h =
+      let parts = and_parts (plain x) (list_all plain (y ∷ ys)) h in
+      ap (λ t. t ++ 44 ∷ items_text false (items_of (map shown (y ∷ ys)))) (same x parts.0)
+      ∙ ap (λ t. text x ++ 44 ∷ t) (items_shown (y ∷ ys) parts.1)
+      ∙ sym (append_assoc (text x) (44 ∷ separated (map text (y ∷ ys))) (93 ∷ []))
+
+no_float_among : {X : Type 0} (shown : X → Data) → ((x : X) → has_float (shown x) ≡ false) → (xs : List X) → items_have_float (items_of (map shown xs)) ≡ false
+no_float_among shown none [] = refl
+no_float_among shown none (x ∷ xs) = rw (none x) (no_float_among shown none xs)
+
+closed : (text : List ℕ) → ((text ++ 93 ∷ []) ++ 125 ∷ []) ++ 10 ∷ [] ≡ text ++ 93 ∷ 125 ∷ 10 ∷ []
+closed text = append_assoc (text ++ 93 ∷ []) (125 ∷ []) (10 ∷ []) ∙ append_assoc text (93 ∷ []) (125 ∷ 10 ∷ [])
+
+-- ---- charts
+
+chart_object : (count : ℕ) (graph : Bool) (name : List ℕ) → is_plain name ≡ true
+    → compact_text (object (member (codes "instances") (number (unsigned count)) (member (codes "kind") (string (kind_word graph)) (member (codes "name") (string name) no_members))))
+    ≡ codes "{\"instances\":" ++ (decimal count ++ (codes ",\"kind\":\"" ++ (kind_word graph ++ (codes "\",\"name\":\"" ++ (name ++ codes "\"}")))))
+unfolding serde_json_on_literals
+chart_object count false name h =
+    ap (λ t. codes "{\"instances\":" ++ (decimal count ++ (codes ",\"kind\":\"basic\",\"name\":" ++ (t ++ 125 ∷ [])))) (quoted_plain name h)
+    ∙ ap (λ t. codes "{\"instances\":" ++ (decimal count ++ (codes ",\"kind\":\"basic\",\"name\":\"" ++ t))) (append_assoc name (34 ∷ []) (125 ∷ []))
+chart_object count true name h =
+    ap (λ t. codes "{\"instances\":" ++ (decimal count ++ (codes ",\"kind\":\"graph\",\"name\":" ++ (t ++ 125 ∷ [])))) (quoted_plain name h)
+    ∙ ap (λ t. codes "{\"instances\":" ++ (decimal count ++ (codes ",\"kind\":\"graph\",\"name\":\"" ++ t))) (append_assoc name (34 ∷ []) (125 ∷ []))
+
+chart_shown : (c : PlainChart) → is_plain c.name ≡ true → compact_text (chart_data c) ≡ chart_json c
+chart_shown c h = chart_object (length (listed_of c)) (is_graph_of c) c.name h
+
+charts_text : (charts : List PlainChart) → list_all (λ c. is_plain c.name) charts ≡ true → compact_text (array_data (codes "charts") (map chart_data charts)) ++ 10 ∷ [] ≡ chart_list true charts
+unfolding serde_json_on_literals
+charts_text charts h =
+    ap (λ t. codes "{\"charts\":[" ++ ((t ++ 125 ∷ []) ++ 10 ∷ [])) (items_shown chart_data chart_json (λ c. is_plain c.name) chart_shown charts h)
+    ∙ ap (λ t. codes "{\"charts\":[" ++ t) (closed (separated (map chart_json charts)))
+
+pub charts_shown : (line : List ℕ) (value : Data) (held : List Data) (charts : List PlainChart) → list_all (λ c. is_plain c.name) charts ≡ true → held ≡ map chart_data charts → value ≡ array_data (codes "charts") held
+    → line ≡ compact_text value ++ 10 ∷ [] → line ≡ chart_list true charts
+charts_shown line value held charts h are is e =
+    e ∙ ap (λ d. compact_text d ++ 10 ∷ []) is ∙ ap (λ ds. compact_text (array_data (codes "charts") ds) ++ 10 ∷ []) are ∙ charts_text charts h
+
+pub charts_no_float : (value : Data) (held : List Data) (charts : List PlainChart) → held ≡ map chart_data charts → value ≡ array_data (codes "charts") held → has_float value ≡ false
+charts_no_float value held charts are is = rw (is, are) rw (no_float_among chart_data (λ c. refl) charts) refl
+
+-- ---- instances
+
+instance_shown : (d : Decl) → is_plain d.name ≡ true → compact_text (instance_data d) ≡ instance_json d
+instance_shown d h = quoted_plain d.name h
+
+instances_text : (listed : List Decl) → list_all (λ d. is_plain d.name) listed ≡ true → compact_text (array_data (codes "instances") (map instance_data listed)) ++ 10 ∷ [] ≡ instance_list true listed
+unfolding serde_json_on_literals
+instances_text listed h =
+    ap (λ t. codes "{\"instances\":[" ++ ((t ++ 125 ∷ []) ++ 10 ∷ [])) (items_shown instance_data instance_json (λ d. is_plain d.name) instance_shown listed h)
+    ∙ ap (λ t. codes "{\"instances\":[" ++ t) (closed (separated (map instance_json listed)))
+
+pub instances_shown : (line : List ℕ) (value : Data) (held : List Data) (listed : List Decl) → list_all (λ d. is_plain d.name) listed ≡ true → held ≡ map instance_data listed → value ≡ array_data (codes "instances") held
+    → line ≡ compact_text value ++ 10 ∷ [] → line ≡ instance_list true listed
+instances_shown line value held listed h are is e =
+    e ∙ ap (λ d. compact_text d ++ 10 ∷ []) is ∙ ap (λ ds. compact_text (array_data (codes "instances") ds) ++ 10 ∷ []) are ∙ instances_text listed h
+
+pub instances_no_float : (value : Data) (held : List Data) (listed : List Decl) → held ≡ map instance_data listed → value ≡ array_data (codes "instances") held → has_float value ≡ false
+instances_no_float value held listed are is = rw (is, are) rw (no_float_among instance_data (λ d. refl) listed) refl

@@ -1,0 +1,79 @@
+ghost use Rattle.std.specs.Prelude.{◌≡◌, ◌<◌, ◌≤◌, IfOk};
+ghost use Rattle.msc_expand.specs.Listing.{listed_of};
+ghost use Rattle.judge_report.specs.Lists.{instance_list};
+ghost use Rattle.msc_cmd.specs.Failures.{CannotOpen};
+ghost use Rattle.msc_cmd.specs.Outcomes.{ChartOutcome, DocumentOutcome, IfTold, IsTheOne, ListAnswer, Says};
+
+use crate::answer::{Reply, make_reply};
+use crate::document::Document;
+use crate::entry::ReadFault;
+use crate::reading::take_document;
+use judge_report::{Fault, chart_list_text, instance_list_text};
+use msc_base::{NoMemory, Shelf, Text};
+use msc_expand::Accepted;
+use std::alloc::Global;
+
+/// The reply that lists the instances of the chart of this name.
+fn list_instances(
+    alloc: Global,
+    accepted: &Accepted,
+    name: &Text,
+    json: bool,
+) -> Result<Reply, NoMemory>
+    ensures small { IfOk result (λ r. r.status < 7) }
+    ensures not_two { IfOk result (λ r. r.status ≡ 2 → ⊥) }
+    ensures outcome { IfOk result (λ r. IsTheOne (ChartOutcome json name.now accepted.now (λ chart. Says (instance_list json (listed_of chart)))) r.status r.text) }
+{
+    let Some(chart) = accepted.chart(name.bytes()) else {
+        return make_reply(alloc, 4, &Fault::NoChart, json);
+    };
+    let listed = accepted.listed(alloc, chart)?;
+    let text = instance_list_text(alloc, &listed, json)?;
+    Ok(Reply { status: 0, text })
+}
+
+/// The reply that lists the charts of the document, or the instances of the chart that is named.
+fn list_accepted(
+    alloc: Global,
+    accepted: &Accepted,
+    chart: &Option<Text>,
+    json: bool,
+) -> Result<Reply, NoMemory>
+    ensures small { IfOk result (λ r. r.status < 7) }
+    ensures not_two { IfOk result (λ r. r.status ≡ 2 → ⊥) }
+    ensures outcome { IfOk result (λ r. IsTheOne (ListAnswer json chart.now accepted.now) r.status r.text) }
+{
+    match chart {
+        None => {
+            let text = chart_list_text(alloc, accepted, json)?;
+            Ok(Reply { status: 0, text })
+        }
+        Some(name) => list_instances(alloc, accepted, name, json),
+    }
+}
+
+/// The reply that lists the document of this name, or refuses it.
+pub fn list_file<S: Shelf>(
+    alloc: Global,
+    document: &Text,
+    chart: &Option<Text>,
+    json: bool,
+    shelf: &mut S,
+) -> Result<Reply, NoMemory>
+    ensures small { IfOk result (λ r. r.status ≤ 7) }
+    ensures not_two { IfOk result (λ r. r.status ≡ 2 → ⊥) }
+    ensures outcome { IfOk result (λ r. r.status < 7 → IfTold (S.files shelf.old) (λ f. IsTheOne (DocumentOutcome json f document.now (ListAnswer json chart.now)) r.status r.text)) }
+    ensures failed { IfOk result (λ r. r.status ≡ 7 → CannotOpen json (S.faults shelf.old) (S.faults shelf.new) (S.broken shelf.new) (S.last shelf.new) document.now r.text) }
+{
+    let read = match take_document(alloc, shelf, document) {
+        Ok(read) => read,
+        Err(ReadFault::Failed) => return make_reply(alloc, 7, &Fault::DocumentRead, json),
+        Err(ReadFault::NoMemory) => return Err(NoMemory),
+    };
+    match read {
+        Document::Charts(accepted) => list_accepted(alloc, &accepted, chart, json),
+        Document::Refused(rule, place) => {
+            make_reply(alloc, 4, &Fault::Document { rule, place }, json)
+        }
+    }
+}
