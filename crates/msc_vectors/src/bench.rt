@@ -2,7 +2,8 @@
 ghost use Rattle.std.specs.Prelude.{◌≡◌, IfOk};
 ghost use Rattle.msc_base.specs.MemoryShelves.{calls_of};
 
-use msc_base::{Items, MemShelf, NoMemory, Text, Words};
+use msc_base::{Items, MemShelf, MemSink, NoMemory, Text, Words};
+use msc_cmd::run;
 use std::alloc::Global;
 
 /// A chart of one message.
@@ -40,4 +41,19 @@ pub fn shelf_with(alloc: Global, document: &str, log: &[u8]) -> Result<MemShelf,
     let mut shelf = shelf_of(alloc, document)?;
     shelf.put(&Text::from_bytes(alloc, b"l")?, log)?;
     Ok(shelf)
+}
+
+/// Whether these words about the document `d` write this, with this status.
+pub fn answers(
+    alloc: Global,
+    words: &[&str],
+    document: &str,
+    want: &str,
+    status: u8,
+) -> Result<bool, NoMemory> {
+    let words = words_of(alloc, words)?;
+    let mut shelf = shelf_of(alloc, document)?;
+    let mut out = MemSink::new(alloc, 10_000)?;
+    let got = run(alloc, &words, &mut shelf, &mut out);
+    Ok(got == status && out.bytes() == want.as_bytes())
 }

@@ -1,18 +1,8 @@
 //! Documents that are printed in their canonical form.
-use crate::bench::{shelf_with, words_of};
-use msc_base::{MemSink, NoMemory};
+use crate::bench::{answers, shelf_with, words_of};
+use msc_base::MemSink;
 use msc_cmd::run;
-use std::alloc::Global;
 use std::test::Fail;
-
-/// Whether `print` writes this, with this status.
-fn prints(alloc: Global, document: &str, want: &str, status: u8) -> Result<bool, NoMemory> {
-    let words = words_of(alloc, &["print", "d"])?;
-    let mut shelf = shelf_with(alloc, document, b"")?;
-    let mut out = MemSink::new(alloc, 10_000)?;
-    let got = run(alloc, &words, &mut shelf, &mut out);
-    Ok(got == status && out.bytes() == want.as_bytes())
-}
 
 /// A document and its print, which prints as itself.
 #[test]
@@ -29,8 +19,14 @@ fn prints_of_documents(rt: HostRuntime) -> Result<(), Fail> {
         ),
     ];
     for (document, want) in rows {
-        assert!(rt; prints(alloc, document, want, 0)?, "of {document}");
-        assert!(rt; prints(alloc, want, want, 0)?, "of {want}");
+        assert!(rt;
+            answers(alloc, &["print", "d"], document, want, 0)?,
+            "of {document}"
+        );
+        assert!(rt;
+            answers(alloc, &["print", "d"], want, want, 0)?,
+            "of {want}"
+        );
     }
     Ok(())
 }
@@ -59,7 +55,10 @@ fn faults_of_texts(rt: HostRuntime) -> Result<(), Fail> {
         ),
     ];
     for (document, want, status) in rows {
-        assert!(rt; prints(alloc, document, want, status)?, "of {document}");
+        assert!(rt;
+            answers(alloc, &["print", "d"], document, want, status)?,
+            "of {document}"
+        );
     }
     Ok(())
 }
