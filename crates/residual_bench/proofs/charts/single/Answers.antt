@@ -1,0 +1,5 @@
+use Rattle.residual_bench.proofs.Sound.{sound_event}
+use Rattle.residual_bench.proofs.charts.single.Goals as goal
+
+pub returns : goal.returns
+returns c = sound_event _ _ _ _ c.in_ok-term.ensures c.requires.label

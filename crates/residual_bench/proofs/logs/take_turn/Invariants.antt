@@ -1,0 +1,10 @@
+use Rattle.std.specs.Prelude.{◌≡◌, ◌+◌}
+use Rattle.residual_set.specs.Sets.{IsServing}
+use Rattle.residual_set.specs.Tracks.{IfHeld}
+use Rattle.residual_bench.proofs.logs.take_turn.Given as goal
+
+abbrev pub invariant-loop-index : goal.invariant-loop-index
+invariant-loop-index l = record {
+  serves : IfHeld (λ set. IsServing l.nets set) l.track;
+  count : l.track.events ≡ l.initial.track.events + l.index;
+}

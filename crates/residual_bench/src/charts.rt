@@ -1,0 +1,377 @@
+//! The charts that are measured, as terms over one table of labels.
+ghost use Rattle.std.specs.Prelude.{◌≡◌, ◌<◌, ◌+◌, [], ◌∷◌, length, IfOk, OnOk};
+ghost use Rattle.chart_term.specs.NormalForms.{bound_of};
+ghost use Rattle.chart_term.specs.Properties.{Each};
+ghost use Rattle.chart_term.specs.Terms.{Event as EventTree};
+ghost use Rattle.permit_step.specs.FullSoundness.{IsSoundNode};
+ghost use Rattle.residual_bench.specs.Charts.{labels, event, message, answer, exchange, ordered};
+
+use crate::fault::Fault;
+use chart_term::{Nets, Term, TermList, beside, bound, choice, then};
+use msc_base::{Far, Kind, Label, Name, NoMemory, Pair, PairList, Text};
+use permit_step::turns;
+use std::alloc::Global;
+
+/// How many labels the charts have.
+const LABELS: u32 = 9;
+
+/// The label of the event that stands within all choices of nested ones: an input of instance c.
+pub(crate) const INNERMOST: u32 = 3;
+
+/// The label of an input of instance c in each of them.
+const ALTERNATIVE: u32 = 5;
+
+/// The label of an action of instance c.
+pub(crate) const ACTION: u32 = 6;
+
+/// The label of another one.
+pub(crate) const OTHER_ACTION: u32 = 7;
+
+/// The label of an action of instance s.
+pub(crate) const DISTANT_ACTION: u32 = 8;
+
+/// The name of one of two instances.
+fn name(alloc: Global, at: u32) -> Result<Name, Fault> {
+    let bytes: &[u8] = if at == 0 { b"c" } else { b"s" };
+    match Name::from_bytes(alloc, bytes) {
+        Ok(name) => Ok(name),
+        Err(_) => Err(Fault::Chart),
+    }
+}
+
+/// The label of a message's event at an instance.
+fn message_label(alloc: Global, kind: Kind, at: u32, text: &[u8]) -> Result<Label, Fault> {
+    let far = if at == 0 { 1 } else { 0 };
+    Ok(Label {
+        at: name(alloc, at)?,
+        kind,
+        text: Text::from_bytes(alloc, text)?,
+        far: Far::Instance(name(alloc, far)?),
+    })
+}
+
+/// The label of an action.
+fn action_label(alloc: Global, at: u32, text: &[u8]) -> Result<Label, Fault> {
+    Ok(Label {
+        at: name(alloc, at)?,
+        kind: Kind::Action,
+        text: Text::from_bytes(alloc, text)?,
+        far: Far::Nobody,
+    })
+}
+
+/// The label of that number: the output and the input of a request from c to s, of the answer `yes` and of the answer `no`, two
+/// actions of c, and one of s.
+pub(crate) fn label(alloc: Global, number: u32) -> Result<Label, Fault> {
+    match number {
+        0 => message_label(alloc, Kind::Output, 0, b"req"),
+        1 => message_label(alloc, Kind::Input, 1, b"req"),
+        2 => message_label(alloc, Kind::Output, 1, b"yes"),
+        3 => message_label(alloc, Kind::Input, 0, b"yes"),
+        4 => message_label(alloc, Kind::Output, 1, b"no"),
+        5 => message_label(alloc, Kind::Input, 0, b"no"),
+        ACTION => action_label(alloc, 0, b"'x'"),
+        OTHER_ACTION => action_label(alloc, 0, b"'y'"),
+        _ => action_label(alloc, 1, b"'x'"),
+    }
+}
+
+/// Adds a label that the tables lack.
+fn add(nets: &mut Nets, label: Label) -> Result<(), Fault>
+    requires { length nets.old.labels < labels }
+    ensures tables { OnOk result (nets.new.tables ≡ nets.old.tables) }
+    ensures labels { OnOk result (length nets.new.labels ≡ length nets.old.labels + 1) }
+{
+    match nets.label(&label) {
+        Some(_) => Err(Fault::Chart),
+        None => {
+            nets.add_label(label)?;
+            Ok(())
+        }
+    }
+}
+
+/// Tables of the labels, without nets.
+pub(crate) fn tables(alloc: Global) -> Result<Nets, Fault>
+    ensures nets { IfOk result (λ nets. nets.tables ≡ []) }
+    ensures labels { IfOk result (λ nets. length nets.labels ≡ labels) }
+{
+    let mut nets = Nets::new(alloc);
+    for number in 0..LABELS {
+        add(&mut nets, label(alloc, number)?)?;
+    }
+    Ok(nets)
+}
+
+/// An event at an instance.
+fn event(alloc: Global, number: u32, at: u32, label: u32) -> Result<Term, NoMemory>
+    requires { at < 1024 }
+    ensures { IfOk result (λ term. term ≡ EventTree (event number at label)) }
+{
+    let term = Term::event(alloc, number, at, None, label)?;
+    Ok(term)
+}
+
+/// A list of two terms.
+fn two(alloc: Global, first: Term, second: Term) -> Result<TermList, NoMemory>
+    ensures { IfOk result (λ list. list ≡ first ∷ second ∷ []) }
+{
+    let mut parts = TermList::new(alloc);
+    parts.push(first)?;
+    parts.push(second)?;
+    Ok(parts)
+}
+
+/// A list of three terms.
+fn three(alloc: Global, first: Term, second: Term, third: Term) -> Result<TermList, NoMemory>
+    ensures { IfOk result (λ list. list ≡ first ∷ second ∷ third ∷ []) }
+{
+    let mut parts = two(alloc, first, second)?;
+    parts.push(third)?;
+    Ok(parts)
+}
+
+/// The term, in which the event of the first number comes before that of the second.
+#[tactic(auto, using(crate::proofs::Sound::tie_rules))]
+fn tied(alloc: Global, inner: Term, first: u32, second: u32) -> Result<Term, NoMemory>
+    ensures { IfOk result (λ term. term ≡ bound_of inner ((first, second) ∷ [])) }
+{
+    let mut pairs = PairList::new(alloc);
+    pairs.push(Pair { first, second })?;
+    let term = bound(alloc, inner, pairs)?;
+    Ok(term)
+}
+
+/// A message from one instance to another: its output has this number and label, its input the next ones.
+fn message(alloc: Global, number: u32, from: u32, to: u32) -> Result<Term, NoMemory>
+    requires number { number < 1000 }
+    requires from { from < 1024 }
+    requires to { to < 1024 }
+    ensures { IfOk result (λ term. term ≡ message number from to) }
+{
+    let output = event(alloc, number, from, number)?;
+    let input = event(alloc, number + 1, to, number + 1)?;
+    let row = then(alloc, two(alloc, output, input)?)?;
+    tied(alloc, row, number, number + 1)
+}
+
+/// One of two answers.
+#[tactic(auto, using(crate::proofs::Sound::answer_rules))]
+fn answer(alloc: Global) -> Result<Term, NoMemory>
+    ensures { IfOk result (λ term. term ≡ answer) }
+{
+    let yes = message(alloc, 2, 1, 0)?;
+    let no = message(alloc, 4, 1, 0)?;
+    let term = choice(alloc, two(alloc, yes, no)?)?;
+    Ok(term)
+}
+
+/// A request and an answer.
+fn exchange(alloc: Global) -> Result<Term, NoMemory>
+    ensures { IfOk result (λ term. IsSoundNode labels [] term) }
+{
+    let output = event(alloc, 0, 0, 0)?;
+    let input = event(alloc, 1, 1, 1)?;
+    let answer = answer(alloc)?;
+    let parts = three(alloc, output, input, answer)?;
+    let row = then(alloc, parts)?;
+    let term = tied(alloc, row, 0, 1)?;
+    Ok(term)
+}
+
+/// A loop without end, of at least one turn.
+#[tactic(auto, using(crate::proofs::Sound::loop_rules))]
+fn endless(alloc: Global, body: Term) -> Result<Term, NoMemory>
+    requires { IsSoundNode labels [] body }
+    ensures { IfOk result (λ term. IsSoundNode labels [] term) }
+{
+    let nets = Nets::new(alloc);
+    let term = turns(alloc, &nets, body, 1, None)?;
+    Ok(term)
+}
+
+/// Requests without end, and no answers.
+pub(crate) fn requests(alloc: Global) -> Result<Term, NoMemory>
+    ensures { IfOk result (λ term. IsSoundNode labels [] term) }
+{
+    let body = message(alloc, 0, 0, 1)?;
+    endless(alloc, body)
+}
+
+/// Requests without end, each with an answer.
+pub(crate) fn exchanges(alloc: Global) -> Result<Term, NoMemory>
+    ensures { IfOk result (λ term. IsSoundNode labels [] term) }
+{
+    let body = exchange(alloc)?;
+    endless(alloc, body)
+}
+
+/// Three actions in a coregion, two of them alike, of which one comes before the third.
+pub(crate) fn ordered(alloc: Global) -> Result<Term, NoMemory>
+    ensures { IfOk result (λ term. IsSoundNode labels [] term) }
+{
+    let first = event(alloc, 0, 0, ACTION)?;
+    let second = event(alloc, 1, 0, ACTION)?;
+    let third = event(alloc, 2, 0, OTHER_ACTION)?;
+    let parts = three(alloc, first, second, third)?;
+    let all = beside(alloc, parts)?;
+    let term = tied(alloc, all, 1, 2)?;
+    Ok(term)
+}
+
+/// An event of an instance, as a whole chart.
+fn single(alloc: Global, number: u32, at: u32, label: u32) -> Result<Term, NoMemory>
+    requires at { at < 1024 }
+    requires label { label < labels }
+    ensures { IfOk result (λ term. IsSoundNode labels [] term) }
+{
+    let term = event(alloc, number, at, label)?;
+    Ok(term)
+}
+
+/// A chart and another behind it.
+fn in_row(alloc: Global, first: Term, second: Term) -> Result<Term, NoMemory>
+    requires first { IsSoundNode labels [] first }
+    requires second { IsSoundNode labels [] second }
+    ensures { IfOk result (λ term. IsSoundNode labels [] term) }
+{
+    let parts = two(alloc, first, second)?;
+    let term = then(alloc, parts)?;
+    Ok(term)
+}
+
+/// One of two charts.
+fn either(alloc: Global, first: Term, second: Term) -> Result<Term, NoMemory>
+    requires first { IsSoundNode labels [] first }
+    requires second { IsSoundNode labels [] second }
+    ensures { IfOk result (λ term. IsSoundNode labels [] term) }
+{
+    let parts = two(alloc, first, second)?;
+    let term = choice(alloc, parts)?;
+    Ok(term)
+}
+
+/// So many events of an instance with that label.
+#[tactic(auto, using(crate::proofs::Sound::list_rules))]
+fn singles(alloc: Global, count: u32, at: u32, label: u32) -> Result<TermList, NoMemory>
+    requires at { at < 1024 }
+    requires label { label < labels }
+    ensures { IfOk result (λ parts. Each (IsSoundNode labels []) parts) }
+{
+    let mut parts = TermList::new(alloc);
+    for number in 0..count {
+        parts.push(single(alloc, number, at, label)?)?;
+    }
+    Ok(parts)
+}
+
+/// So many equal actions in a coregion.
+pub(crate) fn coregion(alloc: Global, count: u32) -> Result<Term, NoMemory>
+    ensures { IfOk result (λ term. IsSoundNode labels [] term) }
+{
+    let parts = singles(alloc, count, 0, ACTION)?;
+    let term = beside(alloc, parts)?;
+    Ok(term)
+}
+
+/// So many events of an instance in a row, all with that label.
+fn repeated(alloc: Global, count: u32, at: u32, label: u32) -> Result<Term, NoMemory>
+    requires at { at < 1024 }
+    requires label { label < labels }
+    ensures { IfOk result (λ term. IsSoundNode labels [] term) }
+{
+    let parts = singles(alloc, count, at, label)?;
+    let term = then(alloc, parts)?;
+    Ok(term)
+}
+
+/// So many equal actions of c in a row, and behind them as many of s.
+pub(crate) fn behind(alloc: Global, count: u32) -> Result<Term, NoMemory>
+    ensures { IfOk result (λ term. IsSoundNode labels [] term) }
+{
+    let near = repeated(alloc, count, 0, ACTION)?;
+    let distant = repeated(alloc, count, 1, DISTANT_ACTION)?;
+    in_row(alloc, near, distant)
+}
+
+/// So many terms, each the choice of one of both actions.
+#[tactic(auto, using(crate::proofs::Sound::list_rules))]
+fn choice_list(alloc: Global, count: u32) -> Result<TermList, NoMemory>
+    ensures { IfOk result (λ parts. Each (IsSoundNode labels []) parts) }
+{
+    let mut parts = TermList::new(alloc);
+    for number in 0..count {
+        let first = single(alloc, number, 0, ACTION)?;
+        let second = single(alloc, number, 0, OTHER_ACTION)?;
+        parts.push(either(alloc, first, second)?)?;
+    }
+    Ok(parts)
+}
+
+/// One of both actions, so many times in a row.
+pub(crate) fn choices(alloc: Global, count: u32) -> Result<Term, NoMemory>
+    ensures { IfOk result (λ term. IsSoundNode labels [] term) }
+{
+    let parts = choice_list(alloc, count)?;
+    let term = then(alloc, parts)?;
+    Ok(term)
+}
+
+/// Nothing.
+fn nothing(alloc: Global) -> Result<Term, NoMemory>
+    ensures { IfOk result (λ term. IsSoundNode labels [] term) }
+{
+    let term = Term::nil(alloc)?;
+    Ok(term)
+}
+
+/// An input of c, or an optional action of s and behind it the term.
+fn around(alloc: Global, inner: Term) -> Result<Term, NoMemory>
+    requires { IsSoundNode labels [] inner }
+    ensures { IfOk result (λ term. IsSoundNode labels [] term) }
+{
+    let optional = either(alloc, nothing(alloc)?, single(alloc, 0, 1, DISTANT_ACTION)?)?;
+    let row = in_row(alloc, optional, inner)?;
+    let input = single(alloc, 0, 0, ALTERNATIVE)?;
+    either(alloc, row, input)
+}
+
+/// So many choices, each within the one before it.
+fn tower(alloc: Global, levels: u32) -> Result<Term, NoMemory>
+    ensures { IfOk result (λ term. IsSoundNode labels [] term) }
+{
+    let mut inner = single(alloc, 0, 0, INNERMOST)?;
+    for _ in 0..levels {
+        inner = around(alloc, inner)?;
+    }
+    Ok(inner)
+}
+
+/// The term beside two equal actions of c.
+fn beside_actions(alloc: Global, inner: Term) -> Result<Term, NoMemory>
+    requires { IsSoundNode labels [] inner }
+    ensures { IfOk result (λ term. IsSoundNode labels [] term) }
+{
+    let first = single(alloc, 1, 0, ACTION)?;
+    let second = single(alloc, 2, 0, ACTION)?;
+    let parts = three(alloc, inner, first, second)?;
+    let term = beside(alloc, parts)?;
+    Ok(term)
+}
+
+/// So many choices, each within the one before it, beside two equal actions; behind all of them another action of the same instance.
+pub(crate) fn nested(alloc: Global, levels: u32) -> Result<Term, NoMemory>
+    ensures { IfOk result (λ term. IsSoundNode labels [] term) }
+{
+    let all = beside_actions(alloc, tower(alloc, levels)?)?;
+    let last = single(alloc, 3, 0, OTHER_ACTION)?;
+    in_row(alloc, all, last)
+}
+
+/// An action, and behind it so many choices, each within the one before it.
+pub(crate) fn held(alloc: Global, levels: u32) -> Result<Term, NoMemory>
+    ensures { IfOk result (λ term. IsSoundNode labels [] term) }
+{
+    let first = single(alloc, 1, 0, ACTION)?;
+    in_row(alloc, first, tower(alloc, levels)?)
+}

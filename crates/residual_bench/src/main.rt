@@ -1,0 +1,39 @@
+//! Steps a set of residual terms through the events of a log, and prints the verdict and the largest weight of the set: the program
+//! that `bench/residuals.py` measures.
+#![tactic(auto)]
+
+mod charts;
+mod fault;
+mod logs;
+mod work;
+
+use crate::fault::Fault;
+use crate::logs::Judged;
+use crate::work::{Work, judge, work_of};
+use std::env;
+use std::process::ExitCode;
+use std::rt::Env;
+
+/// The work that the program's words name.
+fn asked<R: Env + AllocGlobal>(rt: &R) -> Option<Work> {
+    let mut words = env::args(rt).ok()?.skip(1);
+    let kind = words.next()?;
+    let count = words.next()?;
+    work_of(kind.as_str(), count.as_str())
+}
+
+fn main(rt: HostRuntime) -> ExitCode {
+    let Some(work) = asked(&rt) else {
+        return ExitCode::from(2);
+    };
+    let judged = match judge(rt.alloc(), work) {
+        Ok(judged) => judged,
+        Err(Fault::NoMemory) => return ExitCode::from(9),
+        Err(Fault::Chart) => return ExitCode::from(1),
+    };
+    let Judged { verdict, largest } = judged;
+    match println!(rt; "{verdict:?}, largest weight {largest}") {
+        Ok(()) => ExitCode::SUCCESS,
+        Err(_) => ExitCode::from(8),
+    }
+}
