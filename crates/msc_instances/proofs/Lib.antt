@@ -13,3 +13,4 @@ pub mod PairLaws
 pub mod ColumnLaws
 pub mod AloneLaws
 pub mod BodyLaws
+pub mod OrderLaws

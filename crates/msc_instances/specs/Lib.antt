@@ -14,3 +14,4 @@ pub mod Alone
 pub mod Unwoven
 pub mod Bodies
 pub mod BodyEdges
+pub mod Laws

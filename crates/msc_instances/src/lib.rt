@@ -7,6 +7,7 @@ mod body;
 mod columns;
 mod copying;
 mod events;
+pub mod laws;
 mod levels;
 mod matching;
 mod naming;

@@ -1,0 +1,56 @@
+-- The columns of events are in the order of the text.
+use Rattle.std.proofs.Common.{◌≡◌, ℕ, ◌<◌, ◌≤◌, ◌+◌, zero, suc, Bool, true, false, cond, List, [], ◌∷◌, inl, inr, length, subst, sym, refl, arith}
+use Rattle.std.specs.Str.{bytes_eq}
+use Rattle.msc_base.specs.declared.place.Place.{Place}
+use Rattle.item_order.specs.Laws.{AreInOrder, NeverWovenAndCrossed, TextIsWoven, WovenIsOne, numbers_from}
+use Rattle.item_order.specs.Orders.{Has}
+use Rattle.item_order.specs.Weaving.{Before, HasColumn, IsWoven}
+use Rattle.msc_instances.specs.declared.body.Body.{Body}
+use Rattle.msc_instances.specs.Bodies.{AreItems, IsCrossing, IsWovenBody, level_columns}
+use Rattle.msc_instances.specs.Entries.{PlacedEvent, column_of, columns_of, entries_from}
+use Rattle.msc_instances.specs.Laws.{ItemsAreInOrder, NoColumnsCross}
+
+column_within : (k : ℕ) (events : List PlacedEvent) (name : List ℕ) (x : ℕ) → Has (column_of (entries_from k events) name) x → (k ≤ x) × (x < k + length events)
+column_within k [] name x h = absurd h
+column_within k (e ∷ events) name x h = by (bytes_eq e.at name) h (column_within (suc k) events name x)
+  where
+    by : (b : Bool) → Has (cond b (k ∷ column_of (entries_from (suc k) events) name) (column_of (entries_from (suc k) events) name)) x
+        → (Has (column_of (entries_from (suc k) events) name) x → (suc k ≤ x) × (x < suc k + length events)) → (k ≤ x) × (x < k + length (e ∷ events))
+    by true g rest = elim g [
+      | inl is ↦ (omega (arith, is), omega (arith, is))
+      | inr r ↦ let t = rest r in (omega (arith, t.0), omega (arith, t.1))
+    ]
+    by false g rest = let t = rest g in (omega (arith, t.0), omega (arith, t.1))
+
+column_rises : (k : ℕ) (events : List PlacedEvent) (name : List ℕ) (y x : ℕ) → Before (column_of (entries_from k events) name) y x → y < x
+column_rises k [] name y x h = absurd h
+column_rises k (e ∷ events) name y x h = by (bytes_eq e.at name) h (column_rises (suc k) events name y x)
+  where
+    by : (b : Bool) → Before (cond b (k ∷ column_of (entries_from (suc k) events) name) (column_of (entries_from (suc k) events) name)) y x
+        → (Before (column_of (entries_from (suc k) events) name) y x → y < x) → y < x
+    by true g rest = elim g [
+      | inl t ↦ let w = column_within (suc k) events name x t.1 in omega (arith, t.0, w.0)
+      | inr r ↦ rest r
+    ]
+    by false g rest = rest g
+
+in_order : (events : List PlacedEvent) (names : List (List ℕ)) → AreInOrder (length events) (level_columns names events)
+in_order events [] = λ column mine. absurd mine
+in_order events (name ∷ names) = λ column mine. elim mine [
+  | inl is ↦ (
+    λ x h. let w = column_within 0 events name x (subst (λ (c : List ℕ). Has c x) (sym is) h) in omega (arith, w.1),
+    λ y x h. column_rises 0 events name y x (subst (λ (c : List ℕ). Before c y x) (sym is) h),
+  )
+  | inr more ↦ in_order events names column more
+]
+
+text_woven : TextIsWoven → (names : List (List ℕ)) (events : List PlacedEvent) → IsWoven (length events) (level_columns names events) (numbers_from 0 (length events))
+text_woven text names events = text (length events) (level_columns names events) (in_order events names)
+
+pub items_in_order : TextIsWoven → WovenIsOne → ItemsAreInOrder
+items_in_order text one names events body is =
+    let same : is.order ≡ numbers_from 0 (length events) = one (length events) (level_columns names events) is.order (numbers_from 0 (length events)) is.woven (text_woven text names events) in
+    subst (λ (xs : List ℕ). AreItems events xs body.items) same is.items
+
+pub none_cross : TextIsWoven → NeverWovenAndCrossed → NoColumnsCross
+none_cross text never names events place is = never (length events) (level_columns names events) (numbers_from 0 (length events)) is.item (text_woven text names events) is.crossed
