@@ -19,3 +19,5 @@ mod printing;
 mod refusals;
 #[cfg(test)]
 mod rows;
+#[cfg(test)]
+mod sizes;
