@@ -1,6 +1,1 @@
-pub mod EventGrammar
-pub mod EventReaders
-pub mod Events
-pub mod Refusals
-pub mod Refused
 pub mod Rules

@@ -1,14 +1,6 @@
-//! The grammar of single events, and of their texts in a log; the rules of documents by name.
-//!
-//! `specs/` says which tokens read as an event, where tokens that read as none are refused, and each rule's text.
+//! The rules of documents by name, with the text of each.
 #![tactic(auto)]
 
-mod event;
-mod fault;
-mod log_event;
-mod message;
 mod rule;
 
-pub use fault::{ParseFault, form_of};
-pub use log_event::{parse_event, parse_text};
 pub use rule::{Form, Rule};

@@ -1,10 +1,11 @@
-ghost use Rattle.std.specs.Prelude.{◌≡◌};
+ghost use Rattle.std.specs.Prelude.{◌≡◌, ◌++◌, List, length};
 ghost use Rattle.std.specs.Str.{bytes_eq};
+ghost use Rattle.msc_tokens.specs.declared.token.Token.{Token};
 ghost use Rattle.msc_reading.specs.Classes.{is_one_of};
-ghost use Rattle.msc_grammar.specs.Refused.{form_of, guard_texts, data_texts, time_texts, method_texts, qualifier_texts, inheritance_texts};
+ghost use Rattle.msc_reading.specs.Refused.{fault_at, fault_by, form_of, guard_texts, data_texts, time_texts, method_texts, qualifier_texts, inheritance_texts};
 
-use crate::rule::Form;
 use msc_base::Place;
+use msc_grammar::Form;
 use msc_tokens::Token;
 
 /// Why tokens aren't read.
@@ -103,5 +104,29 @@ pub fn form_of(token: &Token) -> Option<Form>
         Some(Form::ExcForm)
     } else {
         None
+    }
+}
+
+/// The refusal of a token, by the form that it belongs to.
+fn refusal_of(token: &Token) -> ParseFault
+    ensures { result ≡ fault_by (form_of token.now.bytes) token.now.place }
+{
+    match form_of(token) {
+        Some(form) => ParseFault::Unsupported(form, token.place),
+        None => ParseFault::Syntax(token.place),
+    }
+}
+
+/// The refusal of the first of the last so many tokens, or of the text's end where there is none.
+pub fn refusal(tokens: &[Token], left: usize, end: Place) -> ParseFault
+    ensures { (front rest : List Token) → tokens.now ≡ front ++ rest → left ≡ length rest → result ≡ fault_at rest end }
+{
+    if left > tokens.len() {
+        return ParseFault::Syntax(end);
+    }
+    let rest = &tokens[tokens.len() - left..];
+    match rest.split_first() {
+        Some((token, _)) => refusal_of(token),
+        None => ParseFault::Syntax(end),
     }
 }

@@ -5,8 +5,8 @@ use Rattle.msc_tokens.specs.declared.token.Token.{Token}
 use Rattle.msc_reading.specs.Classes.{is_one_of}
 use Rattle.msc_grammar.specs.declared.rule.Form.{Form}
 use Rattle.msc_grammar.specs.declared.rule.Form.TheVariants.{Guard, DataForm, TimeForm, Method, Qualifier, Inheritance, GateForm, ExcForm}
-use Rattle.msc_grammar.specs.declared.fault.ParseFault.{ParseFault}
-use Rattle.msc_grammar.specs.declared.fault.ParseFault.TheVariants.{Syntax, Unsupported}
+use Rattle.msc_reading.specs.declared.fault.ParseFault.{ParseFault}
+use Rattle.msc_reading.specs.declared.fault.ParseFault.TheVariants.{Syntax, Unsupported}
 
 abbrev pub guard_texts : List (List ℕ)
 guard_texts = codes "when" ∷ codes "otherwise" ∷ []
