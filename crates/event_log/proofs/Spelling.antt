@@ -7,10 +7,11 @@ use Rattle.msc_tokens.specs.Faults.{IfNamed}
 use Rattle.msc_tokens.specs.Spelling.{Spells}
 use Rattle.msc_tokens.specs.declared.fault.LexFault.{LexFault}
 use Rattle.msc_tokens.specs.declared.fault.LexFault.TheVariants as lexing
-use Rattle.msc_grammar.specs.Events.{texts, ReadsEvent}
-use Rattle.msc_grammar.specs.Refusals.{IsRefusal}
-use Rattle.msc_grammar.specs.declared.fault.ParseFault.{ParseFault}
-use Rattle.msc_grammar.specs.declared.fault.ParseFault.TheVariants as fault
+use Rattle.msc_reading.specs.Languages.{texts}
+use Rattle.msc_items.specs.LogEvents.{ReadsEvent}
+use Rattle.msc_reading.specs.Refusals.{IsRefusal}
+use Rattle.msc_reading.specs.declared.fault.ParseFault.{ParseFault}
+use Rattle.msc_reading.specs.declared.fault.ParseFault.TheVariants as fault
 use Rattle.event_log.specs.Meanings.{Only, Never, StatesVersion, IsEventOf, SaysBy, Says}
 use Rattle.event_log.specs.Objects.{Spelled, IsAllowed}
 use Rattle.event_log.specs.Faults.{IsFault}

@@ -1,6 +1,6 @@
 use Rattle.std.proofs.Common.{rules}
 use Rattle.msc_tokens.specs.Spelling.{Spells}
-use Rattle.msc_grammar.specs.Events.{ReadsText}
+use Rattle.msc_items.specs.LogEvents.{ReadsText}
 use Rattle.event_log.specs.Meanings.{Only, Never}
 use Rattle.event_log.proofs.Spelling.{spelled_answer}
 use Rattle.event_log.proofs.object.text_of.Goals as goal
