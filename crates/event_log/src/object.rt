@@ -1,15 +1,16 @@
 ghost use Rattle.std.specs.Prelude.{◌≡◌, ◌<◌, ◌^◌, ◌↔◌, length, IfOk, MatchOption, Some, None, option_map};
 ghost use Rattle.msc_base.specs.Names.{IsName};
-ghost use Rattle.msc_reading.specs.Languages.{texts};
-ghost use Rattle.msc_items.specs.LogEvents.{ReadsText};
-ghost use Rattle.event_log.specs.Meanings.{Only, Never};
+ghost use Rattle.token_grammar.specs.Languages.{texts};
+ghost use Rattle.msc_events.specs.LogEvents.{ReadsText};
+ghost use Rattle.msc_base.specs.Only.{Never};
+ghost use Rattle.msc_base.specs.Only.{Only};
 ghost use Rattle.event_log.specs.Objects.{Said, Spelled, IsSaid, IsFarOf, IsEnd, IsInstance, kind_of, message_kind_of, local_kind_of};
 
 use crate::Version;
 use crate::text_line::{is_allowed, tokens_of};
 use msc_base::{Far, Kind, Label, Name, NameRefused, NoMemory, Text};
-use msc_items::parse_text;
-use msc_reading::ParseFault;
+use msc_events::parse_text;
+use token_grammar::ParseFault;
 use msc_tokens::TokenList;
 use std::alloc::Global;
 

@@ -4,9 +4,9 @@ use Rattle.msc_base.specs.declared.place.Place.{Place}
 use Rattle.msc_tokens.specs.declared.token.Token.{Token}
 use Rattle.msc_tree.specs.declared.chart.RawDocument.{RawDocument}
 use Rattle.msc_tree.specs.Views.{document_view}
-use Rattle.msc_reading.specs.Refusals.{IsFault}
-use Rattle.msc_reading.specs.declared.fault.ParseFault.{ParseFault}
-use Rattle.msc_reading.specs.declared.fault.ParseFault.TheVariants.{NoMemory}
+use Rattle.token_grammar.specs.Refusals.{IsFault}
+use Rattle.token_grammar.specs.declared.fault.ParseFault.{ParseFault}
+use Rattle.token_grammar.specs.declared.fault.ParseFault.TheVariants.{NoMemory}
 use Rattle.msc_document.specs.DocumentGrammar.{document}
 
 -- the answer for tokens of a text that ends there

@@ -2,30 +2,30 @@ ghost use Rattle.std.specs.Prelude.{◌≡◌, ◌++◌, ◌∷◌, List, ℕ, I
 ghost use Rattle.msc_tokens.specs.declared.token.Token.{Token};
 ghost use Rattle.msc_tree.specs.Charts.{Document};
 ghost use Rattle.msc_tree.specs.Views.{document_view};
-ghost use Rattle.msc_reading.specs.declared.fault.ParseFault.{ParseFault};
-ghost use Rattle.msc_reading.specs.declared.fault.ParseFault.TheVariants.{Deep};
-ghost use Rattle.msc_reading.specs.Refusals.{IsFault, IsRefusal};
+ghost use Rattle.token_grammar.specs.declared.fault.ParseFault.{ParseFault};
+ghost use Rattle.token_grammar.specs.declared.fault.ParseFault.TheVariants.{TooDeep};
+ghost use Rattle.token_grammar.specs.Refusals.{IsFault, IsRefusal};
 ghost use Rattle.msc_document.specs.DocumentGrammar.{document};
 ghost use Rattle.msc_document.specs.DocumentAnswers.{IsAnswer};
 
 use crate::document::document;
 use msc_base::Place;
-use msc_reading::{ParseFault, ReadFault, refusal};
+use token_grammar::{ParseFault, ReadFault, refusal};
 use msc_tokens::{Token, TokenList};
 use msc_tree::RawDocument;
 use std::alloc::Global;
 
 /// That the first of the last so many tokens opens a level too many.
 fn too_deep(tokens: &[Token], left: usize, end: Place) -> ParseFault
-    ensures { (front rest : List Token) (token : Token) → tokens.now ≡ front ++ token ∷ rest → left ≡ length (token ∷ rest) → result ≡ Deep token.place }
+    ensures { (prefix rest : List Token) (token : Token) → tokens.now ≡ prefix ++ token ∷ rest → left ≡ length (token ∷ rest) → result ≡ TooDeep token.place }
 {
     if left > tokens.len() {
-        return ParseFault::Deep(end);
+        return ParseFault::TooDeep(end);
     }
     let rest = &tokens[tokens.len() - left..];
     match rest.split_first() {
-        Some((token, _)) => ParseFault::Deep(token.place),
-        None => ParseFault::Deep(end),
+        Some((token, _)) => ParseFault::TooDeep(token.place),
+        None => ParseFault::TooDeep(end),
     }
 }
 
@@ -47,7 +47,7 @@ fn read_document(
             }
         }
         Err(ReadFault::Refused(left)) => Err(refusal(tokens, left, end)),
-        Err(ReadFault::Deep(left)) => Err(too_deep(tokens, left, end)),
+        Err(ReadFault::TooDeep(left)) => Err(too_deep(tokens, left, end)),
         Err(ReadFault::NoMemory) => Err(ParseFault::NoMemory),
     }
 }
@@ -56,7 +56,7 @@ fn read_document(
 /// and so does each parenthesis, `loop` and `opt` of a reference's expression and each `expr` of a frame.
 ///
 /// Where they are none, the first fault is answered: the token with which they begin no document, or the text's end
-/// where they are only a front of one, or the token that opens level 65.
+/// where they are only a prefix of one, or the token that opens level 65.
 pub fn parse(alloc: Global, tokens: &TokenList) -> Result<RawDocument, ParseFault>
     ensures ok { IfOk result (λ read. (document 64).reads tokens.now.tokens (document_view read)) }
     ensures only { IfOk result (λ read. (levels : ℕ) (other : Document) → (document levels).reads tokens.now.tokens other → other ≡ document_view read) }
