@@ -1,12 +1,13 @@
 -- Which input takes in what an output puts out: of each message with its pairing name, the k-th input takes the k-th output. An
 -- output of a message to j stands in the column of its sender, and the input in that of j, so each is counted in its column.
-use Rattle.std.specs.Prelude.{◌≡◌, ◌⊎◌, ℕ, Bool, true, false, not, ◌&&◌, List, [], ◌∷◌, ◌++◌, take, count_by, Option, Some, None, slice_get, codes}
+use Rattle.std.specs.Prelude.{◌≡◌, ◌⊎◌, ℕ, Bool, true, false, not, ◌&&◌, List, [], ◌∷◌, ◌++◌, take, count_by, Option, Some, None, slice_get}
 use Rattle.std.specs.Str.{bytes_eq}
 use Rattle.msc_base.specs.declared.label.Kind.{Kind}
 use Rattle.msc_base.specs.declared.label.Kind.TheVariants.{Output, Input}
 use Rattle.msc_base.specs.declared.place.Place.{Place}
 use Rattle.msc_tree.specs.declared.event.Target.{Target}
 use Rattle.msc_tree.specs.declared.event.Target.TheVariants.{Nobody, Env, Instance, Gate}
+use Rattle.msc_tree.specs.Labels.{list_text}
 use Rattle.msc_instances.specs.Entries.{PlacedEvent}
 
 -- the instance at the far end
@@ -34,18 +35,6 @@ goes puts None = false
 goes puts (Some b) = bool_eq puts b
 
 -- ---- texts: a list in parentheses behind the name of a message is part of its text
-
-abbrev pub with_commas : List (List ℕ) → List ℕ
-with_commas [] = []
-with_commas (item ∷ items) = codes "," ++ (item ++ with_commas items)
-
-abbrev pub inside_text : List (List ℕ) → List ℕ
-inside_text [] = []
-inside_text (item ∷ items) = item ++ with_commas items
-
-abbrev pub list_text : Option (List (List ℕ)) → List ℕ
-list_text None = []
-list_text (Some items) = codes "(" ++ (inside_text items ++ codes ")")
 
 -- the tokens of the text, without blanks between them
 abbrev pub text_of : PlacedEvent → List ℕ

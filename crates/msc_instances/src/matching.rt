@@ -1,14 +1,14 @@
-ghost use Rattle.std.specs.Prelude.{◌≡◌, ◌++◌, IfOk, OnOk, Some, codes, map};
+ghost use Rattle.std.specs.Prelude.{◌≡◌, ◌++◌, IfOk, OnOk, Some, map};
 ghost use Rattle.msc_instances.specs.EventViews.{event_view};
 ghost use Rattle.msc_instances.specs.Marks.{AreMarked, IsMark, KeepsNumbers, LeadsPairs, edges_from, end_edges, key_view};
-ghost use Rattle.msc_instances.specs.Messages.{far_name, inside_text, key_of, list_text, or_empty, way, way_by, with_commas};
+ghost use Rattle.msc_instances.specs.Messages.{far_name, key_of, or_empty, way, way_by};
 
 use crate::PlacedEvent;
 use crate::columns::number_of;
 use indexmap::IndexSet;
 use item_order::{Edge, pair_up};
-use msc_base::{Kind, Name, NoMemory, Text};
-use msc_tree::{RawEvent, Target};
+use msc_base::{Kind, Name, NoMemory};
+use msc_tree::{RawEvent, Target, label_text};
 use std::alloc::Global;
 
 /// What an output and the input that takes it in have in common. The pairing name is empty where there is none.
@@ -67,57 +67,6 @@ fn name_bytes(name: &Option<Name>) -> &[u8]
     }
 }
 
-/// Appends the item behind a comma.
-fn push_item(text: &mut Vec<u8>, item: &[u8]) -> Result<(), NoMemory>
-    ensures { OnOk result (text.new.items ≡ text.old.items ++ (codes "," ++ item.now)) }
-{
-    text.push(b',')?;
-    text.extend_from_slice(item)?;
-    Ok(())
-}
-
-/// Appends the items, each behind a comma.
-fn push_items(text: &mut Vec<u8>, items: &[Text]) -> Result<(), NoMemory>
-    ensures { OnOk result (text.new.items ≡ text.old.items ++ with_commas items.now) }
-{
-    for item in items {
-        push_item(text, item.bytes())?;
-    }
-    Ok(())
-}
-
-/// Appends the items with commas between them.
-fn push_inside(text: &mut Vec<u8>, items: &[Text]) -> Result<(), NoMemory>
-    ensures { OnOk result (text.new.items ≡ text.old.items ++ inside_text items.now) }
-{
-    let Some((first, others)) = items.split_first() else {
-        return Ok(());
-    };
-    text.extend_from_slice(first.bytes())?;
-    push_items(text, others)
-}
-
-/// Appends the items in parentheses.
-fn push_list(text: &mut Vec<u8>, items: &[Text]) -> Result<(), NoMemory>
-    ensures { OnOk result (text.new.items ≡ text.old.items ++ list_text (Some items.now)) }
-{
-    text.push(b'(')?;
-    push_inside(text, items)?;
-    text.push(b')')?;
-    Ok(())
-}
-
-/// The text of an event: that of its name or action, with its list in parentheses.
-fn text_of(alloc: Global, event: &RawEvent) -> Result<Vec<u8>, NoMemory>
-    ensures { IfOk result (λ text. text.items ≡ event.now.text ++ list_text event.now.parameters) }
-{
-    let mut text = Vec::from_slice(alloc, event.text.bytes())?;
-    if let Some(items) = &event.parameters {
-        push_list(&mut text, items.as_slice())?;
-    }
-    Ok(text)
-}
-
 /// The key of an output, or of an input.
 fn message_key(alloc: Global, placed: PlacedEvent<'_>, puts: bool) -> Result<MessageKey, NoMemory>
     requires { way (event_view placed) ≡ Some puts }
@@ -125,7 +74,7 @@ fn message_key(alloc: Global, placed: PlacedEvent<'_>, puts: bool) -> Result<Mes
 {
     let at = Vec::from_slice(alloc, placed.at.bytes())?;
     let far = Vec::from_slice(alloc, far_bytes(&placed.event.target))?;
-    let text = text_of(alloc, placed.event)?;
+    let text = label_text(alloc, placed.event.text.bytes(), &placed.event.parameters)?;
     let pairing = Vec::from_slice(alloc, name_bytes(&placed.event.pairing))?;
     if puts {
         Ok(MessageKey {

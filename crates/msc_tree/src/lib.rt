@@ -7,6 +7,7 @@ mod chart;
 mod event;
 mod expression;
 mod graph;
+mod labelling;
 mod reference;
 mod statement;
 
@@ -14,6 +15,7 @@ pub use chart::{Content, Cover, Decl, DeclList, Heading, RawChart, RawDocument};
 pub use event::{RawEvent, RawEventList, Target};
 pub use expression::RefExpr;
 pub use graph::{NodeKind, RawGraph, RawLine};
+pub use labelling::{label_of, label_text};
 pub use reference::{InlineForm, Join, JoinEnd, JoinList};
 pub use statement::{RawForm, RawInline, RawItem, RawOperand, RawReference, Statement};
 
