@@ -11,7 +11,7 @@ use Rattle.msc_rules.specs.Rules.{number_of}
 use Rattle.msc_expand.specs.Acceptance.{BreaksOf}
 use Rattle.msc_expand.specs.Deciding.{limits, names, sizes, messages, inputs}
 use Rattle.msc_expand.specs.Lonely.{AllPartners, all_lonely, all_early}
-use Rattle.msc_expand.specs.Rules.{IsAmong, earliest_of, chart_places, instance_places, twice_places, undeclared_places, size_places, total_places, HasUnmatched, HasCyclic}
+use Rattle.msc_expand.specs.Rules.{IsAmong, earliest_of, chart_places, instance_places, twice_places, undeclared_places, size_places, total_places, HasUnmatched, HasEarly}
 use Rattle.msc_expand.proofs.Among.{least_among, least_same}
 use Rattle.msc_expand.proofs.LonelyLaws.{has_unmatched, unmatched_has, has_early, early_has}
 
@@ -44,4 +44,4 @@ pub inputs_best : (outlines : List Outline) (lists : List (List ℕ)) (a : Optio
     → IsBest number_of (BreaksOf outlines) inputs (fault_of Cyclic a)
 inputs_best outlines lists a are e =
     best_of_one number_of (BreaksOf outlines) Cyclic a
-    (least_same (IsAmong (all_early outlines lists)) (HasCyclic outlines) a (λ q h. has_early outlines lists q are h) (λ q h. early_has outlines lists q are h) (least_of (all_early outlines lists) a e))
+    (least_same (IsAmong (all_early outlines lists)) (HasEarly outlines) a (λ q h. has_early outlines lists q are h) (λ q h. early_has outlines lists q are h) (least_of (all_early outlines lists) a e))
