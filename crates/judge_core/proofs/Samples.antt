@@ -4,8 +4,8 @@ use Rattle.std.proofs.Common.{sym, subst}
 use Rattle.msc_base.specs.Patterns.{row}
 use Rattle.chart_term.specs.NetValues.{NetsValue}
 use Rattle.chart_term.specs.Terms.{Tree, Nil}
-use Rattle.permit_step.specs.FullSoundness.{IsFullySound}
-use Rattle.permit_step.proofs.SoundForms.{constructors_keep_soundness}
+use Rattle.term_laws.specs.FullSoundness.{IsFullySound}
+use Rattle.term_laws.proofs.SoundForms.{constructors_keep_soundness}
 use Rattle.residual_set.specs.Sets.{IsSoundFor}
 
 pub sound_nil : (v : NetsValue) (x : Tree) → v ≡ record { labels = []; tables = [] } → x ≡ Nil → IsSoundFor v x

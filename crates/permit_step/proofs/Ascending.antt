@@ -13,18 +13,18 @@ use Rattle.chart_term.specs.Terms.{TermEvent, Block, has, Tree, Nil, Event, Join
 use Rattle.chart_term.specs.Views.{event_of}
 use Rattle.chart_term.proofs.Lists.{items-trees}
 use Rattle.permit_step.specs.Children.{parts_left, put}
-use Rattle.permit_step.specs.Listing.{stay}
-use Rattle.permit_step.specs.Permission.{permit, permit_all, permits_of}
+use Rattle.term_laws.specs.Listing.{stay}
+use Rattle.term_laws.specs.Permission.{permit, permit_all, permits_of}
 use Rattle.permit_step.specs.Ready.{IsReady}
 use Rattle.permit_step.specs.Searches.{IsTaken, put_some, put_all, AreReadyFrames, part_before, tail_of}
 use Rattle.permit_step.specs.RowRests.{RowRest}
-use Rattle.permit_step.specs.Values.{block_of}
+use Rattle.term_laws.specs.Values.{block_of}
 use Rattle.permit_step.specs.declared.ascent.Frame.{Frame}
 use Rattle.permit_step.specs.declared.ascent.Taken.{Taken}
-use Rattle.permit_step.proofs.Alike.{AgreeOn, permit-alike}
+use Rattle.term_laws.proofs.Alike.{AgreeOn, permit-alike}
 use Rattle.permit_step.proofs.PermitRows.{drop_next, drop_over, get_take}
-use Rattle.permit_step.proofs.SetFacts.{has_added}
-use Rattle.permit_step.proofs.Unions.{insert-add}
+use Rattle.term_laws.proofs.SetFacts.{has_added}
+use Rattle.term_laws.proofs.Unions.{insert-add}
 use Rattle.std.proofs.lemmas.Bool.Decides.{nat_tests}
 use Rattle.msc_base.specs.declared.label.Pair.{Pair}
 use Rattle.chart_term.specs.Views.{pairs_of}

@@ -10,15 +10,15 @@ use Rattle.chart_term.specs.Tables.{Tables, net_of, nodes_of, node_of, net_count
 use Rattle.chart_term.specs.Terms.{Block, Tree, Nil, Event, Join, Choice, Bound, Turns, Trail, trees, items, Part, Gap, Turn, parts, row_of, ◌∪◌}
 use Rattle.chart_term.proofs.Lists.{items-trees, parts-row_of}
 use Rattle.permit_step.specs.Children.{child, row_child, new_turn, first_alone}
-use Rattle.permit_step.specs.Permission.{permit, permits_of}
+use Rattle.term_laws.specs.Permission.{permit, permits_of}
 use Rattle.permit_step.specs.Ready.{IsReady, IsReadyPart, IsReadyLoop, AreReadyTables}
 use Rattle.permit_step.specs.Searches.{child_count}
 use Rattle.permit_step.proofs.NodeTerms.{node-is, sizes-are}
 use Rattle.permit_step.proofs.PermitLoops.{ready-loop}
 use Rattle.permit_step.proofs.PermitRows.{ready-part}
 use Rattle.permit_step.proofs.PermitWalks.{ready-walk}
-use Rattle.permit_step.specs.Normality.{IsSet}
-use Rattle.permit_step.specs.Values.{block_of}
+use Rattle.term_laws.specs.Normality.{IsSet}
+use Rattle.term_laws.specs.Values.{block_of}
 use Rattle.msc_base.specs.Blocks.{BlockValue}
 use Rattle.hmsc_graph.specs.declared.spot.Spot.{Spot as SpotShown}
 use Rattle.hmsc_graph.specs.declared.spot.Goal.{Goal as GoalShown}

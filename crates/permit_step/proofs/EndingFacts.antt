@@ -11,10 +11,10 @@ use Rattle.chart_term.specs.Tables.{Tables, net_of, node_of, terms_over}
 use Rattle.chart_term.specs.TermMeanings.{NetTerms, aim}
 use Rattle.chart_term.specs.Terms.{TermEvent, Tree, Nil, Event, Join, Choice, Bound, Turns, Trail, Trees, trees, items, Part, Gap, Turn, row_of}
 use Rattle.chart_term.proofs.Lists.{items-trees, parts-row_of}
-use Rattle.permit_step.proofs.Measures.{rank-then, rank-beside, rank-some, rank-bound, rank-loop}
+use Rattle.term_laws.proofs.Measures.{rank-then, rank-beside, rank-some, rank-bound, rank-loop}
 use Rattle.permit_step.proofs.Permits.{ready-then, ready-beside, ready-choice, ready-bound}
 use Rattle.permit_step.specs.Endings.{AreEnding, MayPartEnd}
-use Rattle.permit_step.specs.Taking.{HasGap, MayEnd, end_nil, end_join, end_choice, end_bound, end_zero, end_turns, end_trail, EndAll, end_none, end_more, EndOne, end_this, end_that, EndTurns, no_turns, past_gap, one_turn, EndWalk, last_edge, inner_edge}
+use Rattle.term_laws.specs.Taking.{HasGap, MayEnd, end_nil, end_join, end_choice, end_bound, end_zero, end_turns, end_trail, EndAll, end_none, end_more, EndOne, end_this, end_that, EndTurns, no_turns, past_gap, one_turn, EndWalk, last_edge, inner_edge}
 
 take_next : {A : Type 0} → (xs : List A) (i : ℕ) (x : A) → slice_get xs i ≡ Some x → take (suc i) xs ≡ take i xs ++ x ∷ []
 take_next [] i x p = cc

@@ -5,7 +5,7 @@ use Rattle.std.proofs.lemmas.List.{reverse-append}
 use Rattle.chart_term.specs.NormalForms.{NetPermits, and_then}
 use Rattle.chart_term.specs.Terms.{Block, Tree, trees, Part, Gap, Turn}
 use Rattle.permit_step.specs.Held.{IsHeld, HasHeld}
-use Rattle.permit_step.specs.Permission.{permit, permit_all}
+use Rattle.term_laws.specs.Permission.{permit, permit_all}
 use Rattle.permit_step.specs.RowRests.{RowRest, kept_before, keep_first, keep_parts}
 use Rattle.permit_step.proofs.PermitRows.{drop_next, get_take, ready-part}
 

@@ -10,12 +10,12 @@ use Rattle.chart_term.specs.NormalForms.{NetPermits, and_then, or_skip}
 use Rattle.chart_term.specs.Properties.{Each}
 use Rattle.chart_term.specs.Tables.{Tables}
 use Rattle.chart_term.specs.Terms.{Block, TermEvent, Tree, Nil, Event, Join, Choice, Bound, trees}
-use Rattle.permit_step.specs.Normality.{AreNormal}
-use Rattle.permit_step.specs.Permission.{permit, permit_all, permit_some, permits_of}
+use Rattle.term_laws.specs.Normality.{AreNormal}
+use Rattle.term_laws.specs.Permission.{permit, permit_all, permit_some, permits_of}
 use Rattle.permit_step.specs.Ready.{IsReady, AreWithin}
-use Rattle.permit_step.specs.Values.{block_of}
-use Rattle.permit_step.proofs.Missed.{permit-misses, hits-unless}
-use Rattle.permit_step.proofs.Measures.{rank-then, rank-beside, rank-some, rank-bound, rank-loop, rank-at}
+use Rattle.term_laws.specs.Values.{block_of}
+use Rattle.term_laws.proofs.Missed.{permit-misses, hits-unless}
+use Rattle.term_laws.proofs.Measures.{rank-then, rank-beside, rank-some, rank-bound, rank-loop, rank-at}
 
 pub take_next : {A : Type 0} → (xs : List A) (i : ℕ) (x : A) → slice_get xs i ≡ Some x → take (suc i) xs ≡ take i xs ++ x ∷ []
 take_next [] i x p = cc

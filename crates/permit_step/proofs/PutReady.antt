@@ -11,13 +11,13 @@ use Rattle.chart_term.specs.Tables.{Tables, nodes_of}
 use Rattle.chart_term.specs.TermPatterns.{instances_of, earlier}
 use Rattle.chart_term.specs.Terms.{TermEvent, Block, Tree, Nil, Event, Join, Choice, Bound, Turns, Trail, Trees, none, more, Row, ends, gap, turn, items, Part, Gap, Turn, parts, ◌∪◌}
 use Rattle.permit_step.specs.Children.{parts_left, RowLeft, turn_first, gap_first, row_left, where_so, loop_left, three, put}
-use Rattle.permit_step.specs.Listing.{stay, may_begin, may_lead}
-use Rattle.permit_step.specs.Normality.{IsSet, IsNormal, AreNormal, IsNormalRow}
-use Rattle.permit_step.specs.Permission.{permit, permits_of}
+use Rattle.term_laws.specs.Listing.{stay, may_begin, may_lead}
+use Rattle.term_laws.specs.Normality.{IsSet, IsNormal, AreNormal, IsNormalRow}
+use Rattle.term_laws.specs.Permission.{permit, permits_of}
 use Rattle.permit_step.specs.Ready.{IsReady, IsWithin, AreWithin, IsRowWithin, AreReadyTables}
 use Rattle.permit_step.specs.Searches.{child_count}
-use Rattle.permit_step.specs.Taking.{fewer, down}
-use Rattle.permit_step.proofs.Normalising.{union_set, turns_normal, trail_normal}
+use Rattle.term_laws.specs.Taking.{fewer, down}
+use Rattle.term_laws.proofs.Normalising.{union_set, turns_normal, trail_normal}
 use Rattle.permit_step.proofs.NodeTerms.{sizes-are}
 use Rattle.permit_step.proofs.ReadyTerms.{ready_is_kept}
 use Rattle.permit_step.proofs.Within.{may_both, permit-ready, turns_within, trail_in}

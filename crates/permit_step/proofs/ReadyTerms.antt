@@ -9,14 +9,14 @@ use Rattle.chart_term.specs.NormalForms.{join_all, choice_of, bound_of}
 use Rattle.chart_term.specs.Properties.{Each, MayHave}
 use Rattle.chart_term.specs.Tables.{Tables, NetEntry, net_count}
 use Rattle.chart_term.specs.Terms.{TermEvent, Tree, Nil, Event}
-use Rattle.permit_step.specs.Normality.{IsNormalOver}
-use Rattle.permit_step.specs.Permission.{permits_of}
+use Rattle.term_laws.specs.Normality.{IsNormalOver}
+use Rattle.term_laws.specs.Permission.{permits_of}
 use Rattle.permit_step.specs.Ready.{AreReadyTables, IsReady, IsWithin}
 use Rattle.permit_step.specs.ReadyLaws.{ReadyIsKept}
 use Rattle.permit_step.specs.Successors.{AppendsFound}
 use Rattle.permit_step.proofs.NodeTerms.{up_ready}
-use Rattle.permit_step.proofs.Normalising.{join_normal, choice_normal, bound_normal}
-use Rattle.permit_step.proofs.TidyTables.{at_some}
+use Rattle.term_laws.proofs.Normalising.{join_normal, choice_normal, bound_normal}
+use Rattle.term_laws.proofs.TidyTables.{at_some}
 use Rattle.permit_step.proofs.Within.{join_in, choice_in, bound_in, may_both}
 
 module _ (w : Tables) where

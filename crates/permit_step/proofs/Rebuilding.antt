@@ -6,7 +6,7 @@ use Rattle.chart_term.specs.Properties.{MayHave}
 use Rattle.chart_term.specs.Tables.{Tables}
 use Rattle.chart_term.specs.Terms.{TermEvent, Tree, Event}
 use Rattle.permit_step.specs.Children.{child, put}
-use Rattle.permit_step.specs.Permission.{permits_of}
+use Rattle.term_laws.specs.Permission.{permits_of}
 use Rattle.permit_step.specs.Ready.{IsReady, AreReadyTables}
 use Rattle.permit_step.specs.Searches.{AreReadyFrames, child_count, put_some, put_all, IsResult, IsNoEvent}
 use Rattle.permit_step.specs.declared.ascent.Frame.{Frame}

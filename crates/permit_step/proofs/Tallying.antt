@@ -14,12 +14,12 @@ use Rattle.chart_term.specs.OrderLaws.{tree_equal, tree_itself}
 use Rattle.std.specs.declared.cmp.Ordering.{Ordering}
 use Rattle.std.specs.declared.cmp.Ordering.TheVariants.{Less, Equal, Greater}
 use Rattle.chart_term.proofs.Equal.{same_tree_is_exact}
-use Rattle.permit_step.specs.Listing.{IsAmong, set_weight}
-use Rattle.permit_step.specs.Normality.{AreDifferent}
+use Rattle.term_laws.specs.Listing.{IsAmong, set_weight}
+use Rattle.term_laws.specs.Normality.{AreDifferent}
 use Rattle.permit_step.specs.Searches.{IsTally, IsBounded, Gains, AddsOne, is_listed}
 use Rattle.permit_step.specs.Successors.{IsJustAbove}
 use Rattle.permit_step.specs.declared.found.Found.{Found}
-use Rattle.permit_step.proofs.Keeping.{each_app}
+use Rattle.term_laws.proofs.Keeping.{each_app}
 
 pub set_weight-snoc : (xs : List Tree) (t : Tree) → set_weight (xs ++ t ∷ []) ≡ set_weight xs + weight t
 set_weight-snoc [] t = omega arith

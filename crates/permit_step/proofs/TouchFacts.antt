@@ -6,10 +6,10 @@ use Rattle.chart_term.specs.Facts.{has_trail, any_trail, row_trail, instances, i
 use Rattle.chart_term.specs.Terms.{TermEvent, has, ◌∪◌, Tree, Nil, Event, Join, Choice, Bound, Turns, Trail, Trees, none, more, Row, ends, gap, turn, trees, Part, Gap, Turn, row_of}
 use Rattle.chart_term.specs.Spreads.{touch, touch_all, touch_row}
 use Rattle.permit_step.specs.Touching.{net_touch, net_touch_all, net_touch_row, net_touch_part, IsUnion}
-use Rattle.permit_step.proofs.Measures.{rank-then, rank-beside, rank-some, rank-bound, rank-loop}
+use Rattle.term_laws.proofs.Measures.{rank-then, rank-beside, rank-some, rank-bound, rank-loop}
 use Rattle.permit_step.proofs.Permits.{ready-then, ready-beside, ready-choice, ready-bound}
-use Rattle.permit_step.proofs.SetFacts.{has_added}
-use Rattle.permit_step.proofs.Unions.{each-union}
+use Rattle.term_laws.proofs.SetFacts.{has_added}
+use Rattle.term_laws.proofs.Unions.{each-union}
 
 pub has_both : (c d : List ℕ) (n : ℕ) → has (c ++ d) n ≡ (has c n || has d n)
 has_both [] d n = refl

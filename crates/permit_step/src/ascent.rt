@@ -11,13 +11,13 @@ ghost use Rattle.chart_term.specs.Tables.{net_count, net_of};
 ghost use Rattle.msc_base.specs.Patterns.{row, aside};
 ghost use Rattle.permit_step.specs.Children.{put};
 ghost use Rattle.permit_step.specs.Held.{HasHeld, IsHeld};
-ghost use Rattle.permit_step.specs.Normality.{IsSet};
-ghost use Rattle.permit_step.specs.Permission.{permits_of, permit_all};
+ghost use Rattle.term_laws.specs.Normality.{IsSet};
+ghost use Rattle.term_laws.specs.Permission.{permits_of, permit_all};
 ghost use Rattle.permit_step.specs.Ready.{IsReady, AreReadyTables, IsReadyPart, AreReadyParts, IsReadyLoop};
 ghost use Rattle.permit_step.specs.Searches.{IsTaken, AreReadyFrames, child_count, is_gap, part_before, put_all, tail_of};
-ghost use Rattle.permit_step.specs.Listing.{may_begin};
-ghost use Rattle.permit_step.specs.Taking.{down, fewer};
-ghost use Rattle.permit_step.specs.Values.{block_of};
+ghost use Rattle.term_laws.specs.Listing.{may_begin};
+ghost use Rattle.term_laws.specs.Taking.{down, fewer};
+ghost use Rattle.term_laws.specs.Values.{block_of};
 
 use crate::blocks::common;
 use crate::descent::node_at;

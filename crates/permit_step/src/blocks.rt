@@ -2,7 +2,7 @@ ghost use Rattle.std.specs.Prelude.{◌≡◌, ◌<◌, ◌&&◌, [], if◌then�
 ghost use Rattle.chart_term.specs.NormalForms.{cut};
 ghost use Rattle.chart_term.specs.Terms.{◌∪◌};
 ghost use Rattle.msc_base.specs.Blocks.{IsRising, insert_rising};
-ghost use Rattle.permit_step.specs.Normality.{IsSet};
+ghost use Rattle.term_laws.specs.Normality.{IsSet};
 
 use msc_base::{Block, Limits, NoMemory};
 use std::alloc::Global;

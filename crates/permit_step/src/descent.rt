@@ -3,7 +3,7 @@ ghost use Rattle.chart_term.specs.Rows.{part_of};
 ghost use Rattle.chart_term.specs.Tables.{net_count, net_of};
 ghost use Rattle.hmsc_graph.specs.Nets.{size_of};
 ghost use Rattle.permit_step.specs.Children.{child, row_child};
-ghost use Rattle.permit_step.specs.Permission.{permits_of};
+ghost use Rattle.term_laws.specs.Permission.{permits_of};
 ghost use Rattle.permit_step.specs.Ready.{IsReady, AreReadyTables, IsReadyPart};
 ghost use Rattle.permit_step.specs.Searches.{child_count};
 

@@ -9,7 +9,7 @@ ghost use Rattle.hmsc_graph.specs.Nets.{IsNet, size_of};
 ghost use Rattle.hmsc_graph.specs.Spots.{spot_of, goal_of, IsSpotBelow, IsGoalBelow};
 ghost use Rattle.permit_step.specs.Endings.{AreEnding, MayPartEnd};
 ghost use Rattle.permit_step.specs.Ready.{IsReady, AreReadyTables, IsReadyPart, AreReadyParts, IsReadyLoop};
-ghost use Rattle.permit_step.specs.Taking.{MayEnd, EndAll, EndOne, EndTurns, EndWalk};
+ghost use Rattle.term_laws.specs.Taking.{MayEnd, EndAll, EndOne, EndTurns, EndWalk};
 
 use chart_term::{Look, Nets, RowList, RowPart, Term, TermList};
 use hmsc_graph::{Goal, NodeSet, Spot, has_walk};

@@ -6,7 +6,7 @@ ghost use Rattle.hmsc_graph.specs.Graphs.{Start};
 ghost use Rattle.hmsc_graph.specs.Nets.{size_of};
 ghost use Rattle.hmsc_graph.specs.Spots.{goal_of, IsGoalBelow};
 ghost use Rattle.permit_step.specs.Fresh.{IsFreshLoop, IsUnreached, MayTurn, MayNotTurn};
-ghost use Rattle.permit_step.specs.Permission.{permits_of};
+ghost use Rattle.term_laws.specs.Permission.{permits_of};
 ghost use Rattle.permit_step.specs.Ready.{IsReady, AreReadyTables};
 
 use crate::permission::walk;

@@ -6,13 +6,13 @@ ghost use Rattle.chart_term.specs.Tables.{net_count, net_of};
 ghost use Rattle.chart_term.specs.Terms.{Turns, trees, row_of, ◌∪◌};
 ghost use Rattle.hmsc_graph.specs.Nets.{size_of};
 ghost use Rattle.hmsc_graph.specs.Spots.{spot_of, goal_of, IsSpotBelow, IsGoalBelow};
-ghost use Rattle.permit_step.specs.Normality.{IsSet};
+ghost use Rattle.term_laws.specs.Normality.{IsSet};
 ghost use Rattle.permit_step.specs.Passing.{ArePassable};
-ghost use Rattle.permit_step.specs.Permission.{permits_of, permit_all, permit_some};
-ghost use Rattle.permit_step.specs.Permission.{permit as permitted};
+ghost use Rattle.term_laws.specs.Permission.{permits_of, permit_all, permit_some};
+ghost use Rattle.term_laws.specs.Permission.{permit as permitted};
 ghost use Rattle.permit_step.specs.Ready.{IsReady, AreReadyTables, IsReadyPart, AreReadyParts, IsReadyLoop};
 ghost use Rattle.permit_step.specs.RowRests.{open_before, keep_part, keep_parts};
-ghost use Rattle.permit_step.specs.Values.{block_of};
+ghost use Rattle.term_laws.specs.Values.{block_of};
 
 use crate::blocks::{common, widened};
 use crate::loops::loop_end;

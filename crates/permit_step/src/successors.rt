@@ -1,7 +1,7 @@
 ghost use Rattle.std.specs.Prelude.{◌≡◌, ◌<◌, ◌≤◌, ◌++◌, List, IfOk, IfSome, IfNone, OnOk, OnErr};
 ghost use Rattle.chart_term.specs.Terms.{Tree, Event as EventTree};
 ghost use Rattle.chart_term.specs.Views.{event_of};
-ghost use Rattle.permit_step.specs.Listing.{set_weight};
+ghost use Rattle.term_laws.specs.Listing.{set_weight};
 ghost use Rattle.permit_step.specs.Ready.{IsReady, AreReadyTables};
 ghost use Rattle.permit_step.specs.Searches.{AreReadyFrames, Gathers, IsNoEvent, IsTaken, IsTally};
 ghost use Rattle.permit_step.specs.Successors.{AppendsFound};

@@ -3,7 +3,7 @@ ghost use Rattle.std.specs.Prelude.{◌≡◌, ◌<◌, ◌+◌, [], ◌∷◌, 
 ghost use Rattle.chart_term.specs.NormalForms.{bound_of};
 ghost use Rattle.chart_term.specs.Properties.{Each};
 ghost use Rattle.chart_term.specs.Terms.{Event as EventTree};
-ghost use Rattle.permit_step.specs.FullSoundness.{IsSoundNode};
+ghost use Rattle.term_laws.specs.FullSoundness.{IsSoundNode};
 ghost use Rattle.residual_bench.specs.Charts.{labels, event, message, answer, exchange, ordered};
 
 use crate::fault::Fault;

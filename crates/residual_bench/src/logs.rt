@@ -1,6 +1,6 @@
 //! Logs that are made of turns, and what a term's residuals come to on one.
 ghost use Rattle.std.specs.Prelude.{◌≡◌, ◌≤◌, ◌+◌, [], length, IfOk, OnOk};
-ghost use Rattle.permit_step.specs.FullSoundness.{IsSoundNode};
+ghost use Rattle.term_laws.specs.FullSoundness.{IsSoundNode};
 ghost use Rattle.residual_bench.specs.Charts.{labels};
 ghost use Rattle.residual_set.specs.Sets.{IsServing};
 ghost use Rattle.residual_set.specs.Tracks.{IfHeld};

@@ -1,6 +1,6 @@
 //! What is measured: a chart, and a log of it.
 ghost use Rattle.std.specs.Prelude.{◌≡◌, ◌≤◌, [], length, IfOk};
-ghost use Rattle.permit_step.specs.FullSoundness.{IsSoundNode};
+ghost use Rattle.term_laws.specs.FullSoundness.{IsSoundNode};
 ghost use Rattle.residual_bench.specs.Charts.{labels};
 
 #[cfg(test)]

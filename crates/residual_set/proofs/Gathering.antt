@@ -17,11 +17,11 @@ use Rattle.chart_term.specs.OrderLaws.{tree_equal}
 use Rattle.chart_term.specs.Properties.{Each}
 use Rattle.chart_term.specs.TermPatterns.{Both}
 use Rattle.chart_term.specs.Terms.{Tree, weight}
-use Rattle.permit_step.specs.Listing.{IsAmong, set_weight}
+use Rattle.term_laws.specs.Listing.{IsAmong, set_weight}
 use Rattle.chart_term.specs.Tables.{terms_over}
 use Rattle.permit_step.specs.Ready.{IsReady, AreReadyTables}
 use Rattle.permit_step.specs.Successors.{IsSuccessor, AreFound, AppendsFound}
-use Rattle.permit_step.specs.Taking.{MayEnd}
+use Rattle.term_laws.specs.Taking.{MayEnd}
 use Rattle.permit_step.proofs.SoundReady.{ready_by_soundness}
 use Rattle.residual_set.specs.Gathers.{IsOver, JoinsAll}
 use Rattle.residual_set.specs.Logs.{AreResiduals}

@@ -8,8 +8,8 @@ use Rattle.chart_term.specs.NormalForms.{join_all}
 use Rattle.chart_term.specs.Properties.{Each}
 use Rattle.chart_term.specs.Tables.{Tables}
 use Rattle.chart_term.specs.Terms.{TermEvent, Tree, Nil, Event}
-use Rattle.permit_step.specs.FullSoundness.{IsSoundNode, IsFullySound}
-use Rattle.permit_step.proofs.SoundForms.{constructors_keep_soundness}
+use Rattle.term_laws.specs.FullSoundness.{IsSoundNode, IsFullySound}
+use Rattle.term_laws.proofs.SoundForms.{constructors_keep_soundness}
 use Rattle.residual_set.specs.Sets.{IsSoundFor}
 
 pub sound_event : (x : Tree) (e : TermEvent) → x ≡ Event e → e.label < 2 → IsSoundNode 2 [] x

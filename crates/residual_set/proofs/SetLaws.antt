@@ -6,17 +6,17 @@ use Rattle.chart_term.specs.NetValues.{NetsValue, label_number}
 use Rattle.chart_term.specs.Properties.{Each}
 use Rattle.chart_term.specs.Tables.{Tables}
 use Rattle.chart_term.specs.Terms.{Tree}
-use Rattle.permit_step.specs.Listing.{IsDeepEnough, next_set, set_weight}
-use Rattle.permit_step.specs.Permission.{permits_of}
-use Rattle.permit_step.specs.Residuals.{IsResidual, res_none}
-use Rattle.permit_step.specs.Soundness.{AreTidyTables}
+use Rattle.term_laws.specs.Listing.{IsDeepEnough, next_set, set_weight}
+use Rattle.term_laws.specs.Permission.{permits_of}
+use Rattle.term_laws.specs.Residuals.{IsResidual, res_none}
+use Rattle.term_laws.specs.Soundness.{AreTidyTables}
 use Rattle.permit_step.specs.Successors.{IsSuccessor}
-use Rattle.permit_step.specs.Taking.{IsAfter}
-use Rattle.permit_step.proofs.FullSound.{full_soundness_is_kept, tidy_tables}
-use Rattle.permit_step.proofs.Normalising.{are_different}
-use Rattle.permit_step.proofs.Ranking.{rank}
-use Rattle.permit_step.proofs.SetExact.{set_sound, set_whole, deep_at}
-use Rattle.permit_step.proofs.TermSentences.{net_rank}
+use Rattle.term_laws.specs.Taking.{IsAfter}
+use Rattle.term_laws.proofs.FullSound.{full_soundness_is_kept, tidy_tables}
+use Rattle.term_laws.proofs.Normalising.{are_different}
+use Rattle.term_laws.proofs.Ranking.{rank}
+use Rattle.term_laws.proofs.SetExact.{set_sound, set_whole, deep_at}
+use Rattle.term_laws.proofs.TermSentences.{net_rank}
 use Rattle.residual_set.specs.Laws.{SetsGoOn}
 use Rattle.residual_set.specs.Logs.{AreResiduals}
 use Rattle.residual_set.specs.Sets.{IsSoundFor, IsLeftOf, AreSuccessors, PassBudget}

@@ -7,7 +7,7 @@ use Rattle.msc_base.specs.declared.verdict.Verdict.{Verdict}
 use Rattle.msc_base.specs.declared.verdict.Verdict.TheVariants.{Conforms, Fails, Early, TooLarge}
 use Rattle.chart_term.specs.NetValues.{NetsValue}
 use Rattle.chart_term.specs.Terms.{Tree, weight}
-use Rattle.permit_step.specs.Listing.{IsAmong, set_weight}
+use Rattle.term_laws.specs.Listing.{IsAmong, set_weight}
 use Rattle.residual_set.specs.Logs.{LoggedEvent, labels_of, AreResiduals, IsWithin, IsAbove}
 use Rattle.residual_set.specs.Sets.{SetValue, IsSoundFor, IsNextSet, PassBudget, HasEnding}
 use Rattle.residual_set.specs.Verdicts.{AreWithin, HasLeft, IsVerdict, Weighs, IsReached, by_front, by_none, IsLargest}

@@ -6,7 +6,7 @@ use Rattle.msc_base.specs.declared.verdict.Verdict.{Verdict}
 use Rattle.msc_base.specs.declared.verdict.Verdict.TheVariants.{Conforms, Fails, Early, TooLarge}
 use Rattle.chart_term.specs.NetValues.{NetsValue}
 use Rattle.chart_term.specs.Terms.{Tree}
-use Rattle.permit_step.specs.Listing.{set_weight}
+use Rattle.term_laws.specs.Listing.{set_weight}
 use Rattle.residual_set.specs.Laws.{VerdictsTellRuns}
 use Rattle.residual_set.specs.Logs.{LoggedEvent, labels_of, IsLeft, AreResiduals, Begins, IsWithin, IsAbove}
 use Rattle.residual_set.specs.Sets.{IsSoundFor}

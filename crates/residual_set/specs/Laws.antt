@@ -5,7 +5,7 @@ use Rattle.msc_base.specs.declared.verdict.Verdict.{Verdict}
 use Rattle.chart_term.specs.NetValues.{NetsValue}
 use Rattle.chart_term.specs.TermPatterns.{Both}
 use Rattle.chart_term.specs.Terms.{Tree}
-use Rattle.permit_step.specs.Listing.{set_weight}
+use Rattle.term_laws.specs.Listing.{set_weight}
 use Rattle.residual_set.specs.Logs.{LoggedEvent, AreResiduals, Begins, IsRun}
 use Rattle.residual_set.specs.Sets.{IsSoundFor, AreSuccessors, HasEnding}
 use Rattle.residual_set.specs.Verdicts.{IsVerdict, TellsRuns}

@@ -4,10 +4,10 @@ use Rattle.msc_base.specs.declared.label.Label.{Label}
 use Rattle.chart_term.specs.NetValues.{NetsValue, label_number}
 use Rattle.chart_term.specs.TermPatterns.{Both}
 use Rattle.chart_term.specs.Terms.{Tree}
-use Rattle.permit_step.specs.Listing.{IsAmong, set_weight}
-use Rattle.permit_step.specs.Normality.{AreDifferent}
-use Rattle.permit_step.specs.Permission.{permits_of}
-use Rattle.permit_step.specs.Residuals.{IsResidual, BeginsRun, IsFinishedRun}
+use Rattle.term_laws.specs.Listing.{IsAmong, set_weight}
+use Rattle.term_laws.specs.Normality.{AreDifferent}
+use Rattle.term_laws.specs.Permission.{permits_of}
+use Rattle.term_laws.specs.Residuals.{IsResidual, BeginsRun, IsFinishedRun}
 
 -- an event that was taken, with its line
 pub record LoggedEvent : Type 0 where

@@ -8,11 +8,11 @@ use Rattle.chart_term.specs.Properties.{Each}
 use Rattle.chart_term.specs.Tables.{terms_over}
 use Rattle.chart_term.specs.TermPatterns.{Both}
 use Rattle.chart_term.specs.Terms.{Tree}
-use Rattle.permit_step.specs.FullSoundness.{IsFullySound}
-use Rattle.permit_step.specs.Listing.{IsAmong, set_weight}
-use Rattle.permit_step.specs.Normality.{AreDifferent}
+use Rattle.term_laws.specs.FullSoundness.{IsFullySound}
+use Rattle.term_laws.specs.Listing.{IsAmong, set_weight}
+use Rattle.term_laws.specs.Normality.{AreDifferent}
 use Rattle.permit_step.specs.Successors.{IsSuccessor}
-use Rattle.permit_step.specs.Taking.{MayEnd}
+use Rattle.term_laws.specs.Taking.{MayEnd}
 
 -- a set: the terms held, their budget, and whether the budget was passed
 pub record SetValue : Type 0 where

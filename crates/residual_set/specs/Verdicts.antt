@@ -5,8 +5,8 @@ use Rattle.msc_base.specs.declared.verdict.Verdict.TheVariants.{Conforms, Fails,
 use Rattle.chart_term.specs.NetValues.{NetsValue}
 use Rattle.chart_term.specs.Tables.{terms_over}
 use Rattle.chart_term.specs.Terms.{Tree}
-use Rattle.permit_step.specs.Listing.{set_weight}
-use Rattle.permit_step.specs.Taking.{MayEnd}
+use Rattle.term_laws.specs.Listing.{set_weight}
+use Rattle.term_laws.specs.Taking.{MayEnd}
 use Rattle.residual_set.specs.Logs.{LoggedEvent, labels_of, IsLeft, AreResiduals, Begins, IsRun, IsWithin, IsAbove}
 
 -- what is left after each front of the events is within the budget

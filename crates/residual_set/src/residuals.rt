@@ -3,7 +3,7 @@ ghost use Rattle.chart_term.specs.NetValues.{NetsValue};
 ghost use Rattle.chart_term.specs.Properties.{Each};
 ghost use Rattle.chart_term.specs.TermPatterns.{Both};
 ghost use Rattle.chart_term.specs.Terms.{Tree, weight};
-ghost use Rattle.permit_step.specs.Listing.{IsAmong, set_weight};
+ghost use Rattle.term_laws.specs.Listing.{IsAmong, set_weight};
 ghost use Rattle.permit_step.specs.Successors.{IsSuccessor};
 ghost use Rattle.residual_set.specs.Sets.{SetValue, IsSoundFor, IsServing, IsLeftOf, AreSuccessors, PassBudget, HasEnding, AreRising};
 ghost use Rattle.residual_set.specs.Gathers.{IsOver, JoinsAll};
@@ -33,7 +33,7 @@ impl Model for Residuals {
     ghost use Rattle.std.specs.Prelude.{◌≡◌};
     ghost use Rattle.std.specs.Coded.{codes};
     ghost use Rattle.chart_term.specs.Codes.{coded_tree};
-    ghost use Rattle.permit_step.specs.Listing.{set_weight};
+    ghost use Rattle.term_laws.specs.Listing.{set_weight};
     ghost use Rattle.residual_set.specs.Sets.{SetValue};
 
     ghost Value = { SetValue };

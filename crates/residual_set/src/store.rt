@@ -2,7 +2,7 @@ ghost use Rattle.std.specs.Prelude.{◌≡◌, ◌≤◌, ◌<◌, ◌↔◌, �
 ghost use Rattle.msc_base.specs.declared.label.Label.{Label};
 ghost use Rattle.chart_term.specs.NetValues.{NetsValue};
 ghost use Rattle.chart_term.specs.Terms.{Tree, weight};
-ghost use Rattle.permit_step.specs.Listing.{set_weight};
+ghost use Rattle.term_laws.specs.Listing.{set_weight};
 ghost use Rattle.residual_set.specs.Logs.{AreResiduals, Begins, IsRun};
 ghost use Rattle.residual_set.specs.Sets.{SetValue, IsSoundFor, IsServing, IsNextSet, HasEnding};
 ghost use Rattle.residual_set.specs.Steps.{IsStepFault};

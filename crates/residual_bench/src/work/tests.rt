@@ -1,5 +1,5 @@
 ghost use Rattle.std.specs.Prelude.{◌≡◌, [], length, IfOk};
-ghost use Rattle.permit_step.specs.FullSoundness.{IsSoundNode};
+ghost use Rattle.term_laws.specs.FullSoundness.{IsSoundNode};
 ghost use Rattle.residual_bench.specs.Charts.{labels};
 ghost use Rattle.residual_set.specs.Sets.{IsServing};
 

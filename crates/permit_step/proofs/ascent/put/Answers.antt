@@ -1,6 +1,6 @@
 use Rattle.std.proofs.Common.{◌≡◌, ◌<◌, ◌∙◌, ap, sym, subst, arith, ℕ, length}
 use Rattle.chart_term.specs.Views.{event_of}
-use Rattle.permit_step.specs.Permission.{permits_of}
+use Rattle.term_laws.specs.Permission.{permits_of}
 use Rattle.permit_step.proofs.Ascending.{aside-whole}
 use Rattle.permit_step.proofs.Descending.{count-then, count-beside, count-loop, child-node}
 use Rattle.permit_step.proofs.Permits.{ready-then}

@@ -5,7 +5,7 @@ use Rattle.chart_term.specs.Terms.{Tree, row_of}
 use Rattle.msc_base.specs.Blocks.{BlockValue, insert_each}
 use Rattle.chart_term.specs.Spreads.{spread_of}
 use Rattle.permit_step.specs.Touching.{net_touch, net_touch_row, IsUnion}
-use Rattle.permit_step.proofs.Measures.{rank-loop, rank-at, rank-part}
+use Rattle.term_laws.proofs.Measures.{rank-loop, rank-at, rank-part}
 use Rattle.permit_step.proofs.PermitLoops.{ready-loop}
 use Rattle.permit_step.proofs.PermitRows.{ready-part}
 use Rattle.permit_step.proofs.Permits.{ready-at}

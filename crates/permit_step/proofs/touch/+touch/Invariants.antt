@@ -3,7 +3,7 @@ use Rattle.chart_term.specs.Rows.{part_of}
 use Rattle.chart_term.specs.Terms.{trees, row_of}
 use Rattle.chart_term.specs.Spreads.{spread_of}
 use Rattle.permit_step.specs.Touching.{net_touch_all, net_touch_row, IsUnion}
-use Rattle.permit_step.proofs.Measures.{rank_in, rank_all, rank_part, rank_row}
+use Rattle.term_laws.proofs.Measures.{rank_in, rank_all, rank_part, rank_row}
 use Rattle.permit_step.proofs.touch.+touch.Given as goal
 
 abbrev pub decreases-add_nets : goal.decreases-add_nets

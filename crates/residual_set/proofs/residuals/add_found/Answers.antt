@@ -1,7 +1,7 @@
 use Rattle.std.proofs.Common.{◌≡◌, ◌⊎◌, subst, arith}
 use Rattle.chart_term.specs.TermPatterns.{Both}
 use Rattle.chart_term.specs.Terms.{Tree}
-use Rattle.permit_step.specs.Listing.{IsAmong}
+use Rattle.term_laws.specs.Listing.{IsAmong}
 use Rattle.residual_set.proofs.Gathering.{joins_more, joins_over}
 use Rattle.residual_set.proofs.residuals.add_found.Goals as goal
 

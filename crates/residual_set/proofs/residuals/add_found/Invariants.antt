@@ -1,5 +1,5 @@
 use Rattle.std.proofs.Common.{take}
-use Rattle.permit_step.specs.Listing.{IsAmong}
+use Rattle.term_laws.specs.Listing.{IsAmong}
 use Rattle.residual_set.specs.Gathers.{JoinsAll}
 use Rattle.residual_set.proofs.residuals.add_found.Given as goal
 
