@@ -23,7 +23,7 @@ use Rattle.permit_step.specs.declared.ascent.Frame.{Frame}
 use Rattle.permit_step.specs.declared.ascent.Taken.{Taken}
 use Rattle.term_laws.proofs.Alike.{AgreeOn, permit-alike}
 use Rattle.permit_step.proofs.PermitRows.{drop_next, drop_over, get_take}
-use Rattle.term_laws.proofs.SetFacts.{has_added}
+use Rattle.chart_term.proofs.Instances.{has_added}
 use Rattle.term_laws.proofs.Unions.{insert-add}
 use Rattle.std.proofs.lemmas.Bool.Decides.{nat_tests}
 use Rattle.msc_base.specs.declared.label.Pair.{Pair}

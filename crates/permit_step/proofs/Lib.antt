@@ -8,6 +8,7 @@ pub mod PermitWalks
 pub mod EndingFacts
 pub mod FreshFacts
 pub mod Children
+pub mod BlockFacts
 pub mod TouchFacts
 pub mod Within
 pub mod ReadyTerms

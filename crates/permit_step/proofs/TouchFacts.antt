@@ -8,7 +8,7 @@ use Rattle.chart_term.specs.Spreads.{touch, touch_all, touch_row}
 use Rattle.permit_step.specs.Touching.{net_touch, net_touch_all, net_touch_row, net_touch_part, IsUnion}
 use Rattle.term_laws.proofs.Measures.{rank-then, rank-beside, rank-some, rank-bound, rank-loop}
 use Rattle.permit_step.proofs.Permits.{ready-then, ready-beside, ready-choice, ready-bound}
-use Rattle.term_laws.proofs.SetFacts.{has_added}
+use Rattle.chart_term.proofs.Instances.{has_added}
 use Rattle.term_laws.proofs.Unions.{each-union}
 
 pub has_both : (c d : List ℕ) (n : ℕ) → has (c ++ d) n ≡ (has c n || has d n)

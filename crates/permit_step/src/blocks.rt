@@ -8,7 +8,7 @@ use msc_base::{Block, Limits, NoMemory};
 use std::alloc::Global;
 
 /// A block of the instances of both.
-#[tactic(auto, using(crate::proofs::Unions::unions))]
+#[tactic(auto, using(crate::proofs::BlockFacts::blocks))]
 pub(crate) fn widened(alloc: Global, block: &Block, other: &Block) -> Result<Block, NoMemory>
     requires { IsSet block.now.instances }
     ensures { IfOk result (λ wide. wide ≡ record { instances = block.now.instances ∪ other.now.instances; events = [] }) }
@@ -33,7 +33,7 @@ fn add_where(block: &mut Block, at: u32, here: bool, there: bool) -> Result<(), 
 }
 
 /// A block of the instances that are in both.
-#[tactic(auto, using(crate::proofs::SetFacts::sets))]
+#[tactic(auto, using(crate::proofs::BlockFacts::blocks))]
 pub(crate) fn common(alloc: Global, block: &Block, all: &Block) -> Result<Block, NoMemory>
     ensures { IfOk result (λ both. both ≡ record { instances = cut all.now.instances block.now.instances; events = [] }) }
 {

@@ -30,5 +30,3 @@ none-union (n ∷ c) h = ap (add_member n) (none-union c h.1) ∙ first_added n 
 
 pub both-union : (c d : List ℕ) → IsSet c → insert_each (insert_each [] c) d ≡ c ∪ d
 both-union c d h = each-union (insert_each [] c) d ∙ ap (λ l. l ∪ d) (each-union [] c ∙ none-union c h)
-
-pub ruleset unions = (both-union)
