@@ -11,7 +11,6 @@ mod facts;
 mod joins;
 pub mod laws;
 mod look;
-mod nets;
 mod term;
 #[cfg(test)]
 mod tests;
@@ -21,5 +20,4 @@ pub use choices::choice;
 pub use event::Event;
 pub use joins::{beside, then};
 pub use look::Look;
-pub use nets::Nets;
 pub use term::{RowList, RowPart, Term, TermList};

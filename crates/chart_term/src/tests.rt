@@ -1,7 +1,5 @@
 ghost use Rattle.std.specs.Prelude.{◌<◌, ◌≡◌, ◌++◌, ◌∷◌, IfOk, length};
 
-mod tables;
-
 use crate::{Look, RowList, RowPart, Term, TermList, beside, bound, choice, then};
 use hmsc_graph::{Goal, Spot};
 use msc_base::{Block, NoMemory, Pair, PairList};

@@ -2,7 +2,7 @@
 use Rattle.std.specs.Prelude.{ℕ, ◌≡◌, Bool, true, false, List, [], ◌++◌, length, Option, Some, None}
 use Rattle.std.proofs.Common.{sym, subst, append-nil}
 use Rattle.msc_base.specs.declared.verdict.Verdict.{Verdict}
-use Rattle.chart_term.specs.NetValues.{NetsValue}
+use Rattle.term_tables.specs.NetValues.{NetsValue}
 use Rattle.chart_term.specs.Terms.{Tree}
 use Rattle.event_log.specs.Faults.{IsFault}
 use Rattle.event_log.specs.States.{LogState, IsFaultOf, IsAnswer}

@@ -2,7 +2,7 @@
 use Rattle.std.specs.Prelude.{◌≡◌, []}
 use Rattle.std.proofs.Common.{sym, subst}
 use Rattle.msc_base.specs.Patterns.{row}
-use Rattle.chart_term.specs.NetValues.{NetsValue}
+use Rattle.term_tables.specs.NetValues.{NetsValue}
 use Rattle.chart_term.specs.Terms.{Tree, Nil}
 use Rattle.term_laws.specs.FullSoundness.{IsFullySound}
 use Rattle.term_laws.proofs.SoundForms.{constructors_keep_soundness}

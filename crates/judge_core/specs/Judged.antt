@@ -1,7 +1,7 @@
 -- What a log's bytes are for a term: a verdict on the log's events, or the log's first fault.
 use Rattle.std.specs.Prelude.{ℕ, Bool, true, false, List, Option, Some, None, Result, Ok, Err, map}
 use Rattle.msc_base.specs.declared.verdict.Verdict.{Verdict}
-use Rattle.chart_term.specs.NetValues.{NetsValue}
+use Rattle.term_tables.specs.NetValues.{NetsValue}
 use Rattle.chart_term.specs.Terms.{Tree}
 use Rattle.event_log.specs.Faults.{IsFault}
 use Rattle.event_log.specs.States.{IsFaultOf}

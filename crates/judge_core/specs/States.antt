@@ -1,6 +1,6 @@
 -- What a judge has been fed.
 use Rattle.std.specs.Prelude.{ℕ, ◌≡◌, false, true, List, Option, Some, None}
-use Rattle.chart_term.specs.NetValues.{NetsValue}
+use Rattle.term_tables.specs.NetValues.{NetsValue}
 use Rattle.chart_term.specs.Terms.{Tree}
 use Rattle.event_log.specs.Faults.{IsFault}
 use Rattle.event_log.specs.States.{LogState}

@@ -1,6 +1,6 @@
 -- How the events of a log are taken from its reader.
 use Rattle.std.specs.Prelude.{ℕ, ◌≡◌, Bool, List, length, Some, None, slice_get}
-use Rattle.chart_term.specs.NetValues.{NetsValue}
+use Rattle.term_tables.specs.NetValues.{NetsValue}
 use Rattle.chart_term.specs.Terms.{Tree}
 use Rattle.event_log.specs.Logs.{HoldsEvent}
 use Rattle.event_log.specs.Meanings.{Never}

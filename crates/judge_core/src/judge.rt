@@ -1,5 +1,5 @@
 ghost use Rattle.std.specs.Prelude.{◌≡◌, ◌≤◌, ◌++◌, [], ℕ, List, true, false, None, Some, Err, IfOk, IfErr, IfSome, OnErr};
-ghost use Rattle.chart_term.specs.NetValues.{NetsValue};
+ghost use Rattle.term_tables.specs.NetValues.{NetsValue};
 ghost use Rattle.chart_term.specs.Terms.{Tree};
 ghost use Rattle.event_log.specs.declared.event.LogForm.{LogForm};
 ghost use Rattle.residual_set.specs.Sets.{IsSoundFor};
@@ -11,12 +11,13 @@ mod tests;
 
 use crate::JudgeFault;
 use crate::taking::{feed_parts, finish_parts};
-use chart_term::{Nets, Term};
+use chart_term::Term;
 use event_log::{LogForm, LogReader};
 use msc_base::{NoMemory, Verdict};
 use residual_set::{Store, Track};
 use std::alloc::Global;
 use std::marker::Model;
+use term_tables::Nets;
 
 /// Judges a log, which it is fed in pieces, by a chart's term.
 #[derive(Drop)]

@@ -9,10 +9,10 @@ ghost use Rattle.judge_core.specs.Taking.{IsCounted, TakesSome, TakesAll};
 
 use crate::JudgeFault;
 use crate::fault::fault_of;
-use chart_term::Nets;
 use event_log::{LineEvent, LogReader};
 use msc_base::NoMemory;
 use residual_set::{Store, Track};
+use term_tables::Nets;
 
 /// Takes one event. After want of memory the track is as it was.
 fn take_event<S: Store + Drop>(

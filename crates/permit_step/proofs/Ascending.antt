@@ -1,25 +1,23 @@
 -- What is left of a term where a child of it leaves something.
 use Rattle.std.specs.Option.{option_map}
 use Rattle.std.specs.Prelude.{ℕ, zero, suc, ◌+◌, ◌<◌, ◌≤◌, ◌==◌, Bool, true, false, List, [], ◌∷◌, ◌++◌, ◌≡◌, ◌||◌, Option, Some, None, refl, length, take, drop, slice_get}
-use Rattle.std.proofs.Common.{ap, sym, ◌∙◌, subst, add-one, append_assoc, append-nil, arith}
+use Rattle.std.proofs.Common.{ap, sym, ◌∙◌, add-one, append_assoc, append-nil, arith}
 use Rattle.std.proofs.Math.Seq.{take-length}
 use Rattle.msc_base.specs.Blocks.{BlockValue, insert_rising}
-use Rattle.msc_base.specs.Patterns.{Mode, row, aside}
-use Rattle.chart_term.specs.NormalForms.{NetPermits, only, join_all, and_then, bound_of}
+use Rattle.msc_base.specs.Patterns.{row, aside}
+use Rattle.chart_term.specs.NormalForms.{NetPermits, only, join_all, and_then}
 use Rattle.chart_term.specs.Properties.{Each}
 use Rattle.chart_term.specs.Tables.{Tables}
 use Rattle.chart_term.specs.TermPatterns.{instances_of, earlier, before_in, put_if}
-use Rattle.chart_term.specs.Terms.{TermEvent, Block, has, Tree, Nil, Event, Join, Choice, Bound, Turns, Trail, trees, items, Part}
+use Rattle.chart_term.specs.Terms.{TermEvent, Block, has, Tree, Join, trees, items, Part}
 use Rattle.chart_term.specs.Views.{event_of}
 use Rattle.chart_term.proofs.Lists.{items-trees}
 use Rattle.permit_step.specs.Children.{parts_left, put}
-use Rattle.term_laws.specs.Listing.{stay}
 use Rattle.term_laws.specs.Permission.{permit, permit_all, permits_of}
 use Rattle.permit_step.specs.Ready.{IsReady}
-use Rattle.permit_step.specs.Searches.{IsTaken, put_some, put_all, AreReadyFrames, part_before, tail_of}
+use Rattle.permit_step.specs.Searches.{IsTaken, part_before, tail_of}
 use Rattle.permit_step.specs.RowRests.{RowRest}
 use Rattle.term_laws.specs.Values.{block_of}
-use Rattle.permit_step.specs.declared.ascent.Frame.{Frame}
 use Rattle.permit_step.specs.declared.ascent.Taken.{Taken}
 use Rattle.term_laws.proofs.Alike.{AgreeOn, permit-alike}
 use Rattle.permit_step.proofs.PermitRows.{drop_next, drop_over, get_take}

@@ -9,7 +9,6 @@ pub mod EndingFacts
 pub mod FreshFacts
 pub mod Children
 pub mod BlockFacts
-pub mod TouchFacts
 pub mod Within
 pub mod ReadyTerms
 pub mod Descending

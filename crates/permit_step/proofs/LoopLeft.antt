@@ -1,13 +1,13 @@
 -- What is left of a loop, by its row's parts from their end.
 use Rattle.std.specs.Option.{option_map}
-use Rattle.std.specs.Prelude.{ℕ, zero, suc, ◌+◌, ◌<◌, ◌≤◌, Bool, true, false, List, [], ◌∷◌, ◌≡◌, ◌||◌, ◌&&◌, Option, Some, None, refl, length, take, drop, slice_get}
-use Rattle.std.proofs.Common.{ap, sym, ◌∙◌, subst, add-one, arith, cond}
+use Rattle.std.specs.Prelude.{ℕ, zero, suc, ◌+◌, ◌<◌, Bool, true, false, List, [], ◌∷◌, ◌≡◌, ◌||◌, ◌&&◌, Option, Some, None, refl, length, take, drop, slice_get}
+use Rattle.std.proofs.Common.{ap, sym, ◌∙◌, add-one, arith, cond}
 use Rattle.chart_term.specs.NormalForms.{NetPermits, only, cut, is_nil, some_kept, turns_of}
 use Rattle.chart_term.specs.Properties.{EachGap}
 use Rattle.chart_term.specs.Spreads.{touch, spread_of}
 use Rattle.chart_term.specs.Tables.{Tables}
 use Rattle.chart_term.specs.TermPatterns.{instances_of}
-use Rattle.chart_term.specs.Terms.{TermEvent, has, Tree, Turns, Part, Gap, Turn, parts, row_of, ◌∪◌}
+use Rattle.chart_term.specs.Terms.{TermEvent, has, Tree, Turns, Part, Gap, Turn, row_of, ◌∪◌}
 use Rattle.chart_term.specs.Views.{event_of}
 use Rattle.chart_term.proofs.Lists.{parts-row_of}
 use Rattle.chart_term.proofs.Instances.{has_union}
@@ -15,8 +15,8 @@ use Rattle.permit_step.specs.Children.{RowLeft, turn_first, gap_first, row_left,
 use Rattle.term_laws.specs.Listing.{may_begin}
 use Rattle.term_laws.specs.Normality.{IsSet}
 use Rattle.term_laws.specs.Permission.{permit, permits_of}
-use Rattle.permit_step.specs.Ready.{IsReady, AreReadyParts, IsReadyLoop}
-use Rattle.permit_step.specs.RowRests.{RowRest, no_rest, turn_before, gap_before, tried_before, open_before, rest_of, rest_end, kept_before, keep_first, keep_part, keep_parts}
+use Rattle.permit_step.specs.Ready.{AreReadyParts, IsReadyLoop}
+use Rattle.permit_step.specs.RowRests.{RowRest, no_rest, turn_before, gap_before, tried_before, open_before, rest_of, rest_end, kept_before, keep_first, keep_parts}
 use Rattle.permit_step.specs.Searches.{IsTaken, is_gap, part_before, tail_of}
 use Rattle.term_laws.specs.Taking.{fewer, down}
 use Rattle.term_laws.specs.Values.{block_of}

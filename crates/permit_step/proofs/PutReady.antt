@@ -1,12 +1,12 @@
 -- What is left of a ready term is ready.
 use Rattle.std.specs.Option.{option_map}
-use Rattle.std.specs.Prelude.{ℕ, zero, suc, ◌+◌, ◌<◌, Bool, true, false, List, [], ◌∷◌, ◌≡◌, Option, Some, None, refl, length}
-use Rattle.std.proofs.Common.{ap, sym, ◌∙◌, subst, arith}
+use Rattle.std.specs.Prelude.{ℕ, zero, suc, ◌<◌, Bool, true, false, List, [], ◌∷◌, Option, Some, None, refl, length}
+use Rattle.std.proofs.Common.{arith}
 use Rattle.msc_base.specs.Patterns.{Mode, row, aside}
 use Rattle.hmsc_graph.specs.Graphs.{Spot, At, Goal, To}
 use Rattle.chart_term.specs.NormalForms.{NetPermits, only, cut, join_all, and_then, bound_of, turns_of, trail_of}
 use Rattle.chart_term.specs.Properties.{Each, EachTurn, EachGap, MayHave}
-use Rattle.chart_term.specs.Spreads.{touch, spread_of}
+use Rattle.chart_term.specs.Spreads.{touch}
 use Rattle.chart_term.specs.Tables.{Tables, nodes_of}
 use Rattle.chart_term.specs.TermPatterns.{instances_of, earlier}
 use Rattle.chart_term.specs.Terms.{TermEvent, Block, Tree, Nil, Event, Join, Choice, Bound, Turns, Trail, Trees, none, more, Row, ends, gap, turn, items, Part, Gap, Turn, parts, ◌∪◌}

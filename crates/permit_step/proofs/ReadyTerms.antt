@@ -4,11 +4,11 @@ use Rattle.std.proofs.Common.{◌∙◌, ap, sym, subst}
 use Rattle.msc_base.specs.Patterns.{Mode, row, aside}
 use Rattle.msc_base.specs.declared.label.Label.{Label}
 use Rattle.hmsc_graph.specs.Nets.{size_of}
-use Rattle.chart_term.specs.NetValues.{NetsValue}
+use Rattle.term_tables.specs.NetValues.{NetsValue}
 use Rattle.chart_term.specs.NormalForms.{join_all, choice_of, bound_of}
-use Rattle.chart_term.specs.Properties.{Each, MayHave}
+use Rattle.chart_term.specs.Properties.{Each}
 use Rattle.chart_term.specs.Tables.{Tables, NetEntry, net_count}
-use Rattle.chart_term.specs.Terms.{TermEvent, Tree, Nil, Event}
+use Rattle.chart_term.specs.Terms.{TermEvent, Tree, Event}
 use Rattle.term_laws.specs.Normality.{IsNormalOver}
 use Rattle.term_laws.specs.Permission.{permits_of}
 use Rattle.permit_step.specs.Ready.{AreReadyTables, IsReady, IsWithin}

@@ -1,5 +1,5 @@
 -- The search: what it finds is what is left, and all of it.
-use Rattle.std.specs.Prelude.{ℕ, zero, suc, ◌+◌, ◌<◌, ◌≤◌, ◌⊎◌, ◌||◌, Bool, true, false, List, [], ◌∷◌, ◌++◌, ◌≡◌, Option, Some, None, refl, length}
+use Rattle.std.specs.Prelude.{ℕ, ◌+◌, ◌<◌, ◌≤◌, ◌⊎◌, ◌||◌, Bool, true, false, List, [], ◌∷◌, ◌++◌, ◌≡◌, Option, Some, None, refl}
 use Rattle.std.proofs.Common.{ap, sym, ◌∙◌, subst, arith, append_assoc, append-nil, inl, inr}
 use Rattle.chart_term.specs.Properties.{Each, MayHave}
 use Rattle.chart_term.specs.Tables.{Tables}
@@ -11,7 +11,7 @@ use Rattle.term_laws.specs.Permission.{permits_of}
 use Rattle.permit_step.specs.Ready.{IsReady, AreReadyTables}
 use Rattle.permit_step.specs.Searches.{child_count, put_all, IsResult, IsFinding, IsTally, IsBounded, Gains, Gathers, GathersBelow, AddsOne, IsNoEvent, IsTaken}
 use Rattle.msc_base.specs.declared.label.Label.{Label}
-use Rattle.chart_term.specs.NetValues.{NetsValue, label_number}
+use Rattle.term_tables.specs.NetValues.{NetsValue, label_number}
 use Rattle.permit_step.specs.Successors.{IsJustAbove, IsSuccessor, AppendsFound}
 use Rattle.term_laws.specs.Taking.{IsAfter, after_event}
 use Rattle.chart_term.specs.Facts.{instances}
@@ -20,7 +20,7 @@ use Rattle.chart_term.specs.declared.event.Event.{Event as EventShown}
 use Rattle.msc_base.specs.Blocks.{BlockValue}
 use Rattle.permit_step.specs.declared.ascent.Frame.{Frame}
 use Rattle.permit_step.specs.declared.found.Found.{Found}
-use Rattle.permit_step.proofs.Children.{IsInChild, in-child}
+use Rattle.permit_step.proofs.Children.{in-child}
 use Rattle.permit_step.proofs.ChildReady.{child-good}
 use Rattle.term_laws.proofs.Keeping.{each_app}
 use Rattle.permit_step.proofs.Rebuilding.{result-child, result-up}

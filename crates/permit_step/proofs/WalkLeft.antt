@@ -1,9 +1,9 @@
 -- What is left of a walk, by the walk to a node and the walk on from it.
-use Rattle.std.specs.Prelude.{ℕ, zero, suc, ◌+◌, ◌<◌, ◌==◌, Bool, true, false, List, [], ◌∷◌, ◌++◌, ◌≡◌, ◌||◌, ◌&&◌, ◌⊎◌, Option, Some, None, refl, length}
-use Rattle.std.proofs.Common.{ap, sym, ◌∙◌, subst, arith, cond, filter, inl, inr}
+use Rattle.std.specs.Prelude.{ℕ, zero, suc, ◌<◌, ◌==◌, Bool, true, false, List, [], ◌∷◌, ◌++◌, ◌≡◌, ◌||◌, ◌&&◌, Option, Some, None, refl, length}
+use Rattle.std.proofs.Common.{ap, sym, ◌∙◌, arith, cond, filter, inl, inr}
 use Rattle.msc_base.specs.Patterns.{row}
 use Rattle.hmsc_graph.specs.Graphs.{Spot, At, Goal, To, End, Any, IsIn, reach}
-use Rattle.chart_term.specs.NormalForms.{NetPermits, only, cut, join_all, some_kept, allowed, are_nil, walk_form, trail_cut, trail_of}
+use Rattle.chart_term.specs.NormalForms.{only, cut, join_all, some_kept, allowed, are_nil, walk_form, trail_of}
 use Rattle.chart_term.specs.Properties.{Each, IsBelow}
 use Rattle.chart_term.specs.Spreads.{touch, touch_list, spread_of}
 use Rattle.chart_term.specs.Tables.{Tables, NetEntry, net_count, choose, count_from, nth_tree, node_of, nodes_of}
@@ -11,15 +11,15 @@ use Rattle.chart_term.specs.TermPatterns.{instances_of}
 use Rattle.chart_term.specs.Terms.{TermEvent, has, Tree, Trail, ◌∪◌}
 use Rattle.chart_term.specs.Views.{event_of}
 use Rattle.chart_term.proofs.Instances.{has_app}
-use Rattle.permit_step.specs.Children.{where_so, three, walk_left, put}
+use Rattle.permit_step.specs.Children.{where_so, three, put}
 use Rattle.term_laws.specs.Listing.{may_lead}
 use Rattle.term_laws.specs.Normality.{IsSet}
-use Rattle.term_laws.specs.Permission.{permit, permits_of}
+use Rattle.term_laws.specs.Permission.{permits_of}
 use Rattle.permit_step.specs.Ready.{IsReady, AreReadyTables}
 use Rattle.permit_step.specs.Searches.{IsTaken}
 use Rattle.permit_step.specs.declared.ascent.Taken.{Taken}
 use Rattle.term_laws.proofs.Agreeing.{same_touch}
-use Rattle.term_laws.proofs.Alike.{AreIn, AgreeOn, permit-alike, union-alike, in_left, in_right}
+use Rattle.term_laws.proofs.Alike.{AreIn, AgreeOn, permit-alike, union-alike}
 use Rattle.permit_step.proofs.NodeTerms.{node-is, below, count_length}
 use Rattle.permit_step.proofs.PermitWalks.{nodes_in}
 use Rattle.term_laws.proofs.SetFacts.{has_cut}

@@ -6,7 +6,6 @@ pub mod Passing
 pub mod Endings
 pub mod Fresh
 pub mod Children
-pub mod Touching
 pub mod Successors
 pub mod Searches
 pub mod ReadyBySoundness

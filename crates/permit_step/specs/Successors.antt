@@ -1,7 +1,7 @@
 -- What is left of a term after an event with a given label, as a list that is cut off above a weight.
 use Rattle.std.specs.Prelude.{ℕ, Bool, true, false, List, [], ◌∷◌, ◌++◌, ◌≡◌, ◌≤◌, ◌<◌, Some}
 use Rattle.msc_base.specs.declared.label.Label.{Label}
-use Rattle.chart_term.specs.NetValues.{label_number, NetsValue}
+use Rattle.term_tables.specs.NetValues.{label_number, NetsValue}
 use Rattle.chart_term.specs.Properties.{Each}
 use Rattle.chart_term.specs.Terms.{TermEvent, Tree}
 use Rattle.term_laws.specs.Listing.{IsAmong, set_weight}

@@ -24,11 +24,11 @@ use crate::descent::node_at;
 use crate::loops::loop_end;
 use crate::permission::{copy_pairs, keep_parts, permit, widened_walk};
 use crate::row_end::RowEnd;
-use crate::touch::touched;
-use chart_term::{Event, Look, Nets, RowList, RowPart, Term, TermList, beside, bound, then};
+use chart_term::{Event, Look, RowList, RowPart, Term, TermList, beside, bound, then};
 use hmsc_graph::{Goal, Spot};
 use msc_base::{Block, NoMemory, Pair, PairList};
 use std::alloc::Global;
+use term_tables::Nets;
 
 /// A term, and the place in it from which an event is taken.
 #[derive(Drop)]
@@ -434,7 +434,7 @@ fn put_in_loop(
     let upper = fewer(begins, upper);
     let behind = first_behind(begins, place, count);
     let before = last_before(begins, place, count);
-    let all = touched(alloc, nets, body)?;
+    let all = nets.touched(alloc, body)?;
     let narrow = common(alloc, &taken.at, &all)?;
     if has_held(alloc, nets, row, before, &taken.at)? {
         return Ok(None);

@@ -9,9 +9,10 @@ ghost use Rattle.permit_step.specs.Searches.{child_count};
 
 use crate::blocks::widened;
 use crate::permission::permit;
-use chart_term::{Look, Nets, RowPart, Term};
+use chart_term::{Look, RowPart, Term};
 use msc_base::{Block, NoMemory};
 use std::alloc::Global;
+use term_tables::Nets;
 
 /// From how many places of the term an event may be taken.
 #[tactic(auto, using(crate::proofs::Descending::descending))]

@@ -11,10 +11,11 @@ ghost use Rattle.permit_step.specs.Endings.{AreEnding, MayPartEnd};
 ghost use Rattle.permit_step.specs.Ready.{IsReady, AreReadyTables, IsReadyPart, AreReadyParts, IsReadyLoop};
 ghost use Rattle.term_laws.specs.Taking.{MayEnd, EndAll, EndOne, EndTurns, EndWalk};
 
-use chart_term::{Look, Nets, RowList, RowPart, Term, TermList};
+use chart_term::{Look, RowList, RowPart, Term, TermList};
 use hmsc_graph::{Goal, NodeSet, Spot, has_walk};
 use msc_base::NoMemory;
 use std::alloc::Global;
+use term_tables::Nets;
 
 /// Whether the term may end: whether the empty pattern is one of its finished patterns.
 #[cycle(may_end)]

@@ -11,10 +11,11 @@ ghost use Rattle.permit_step.specs.Ready.{IsReady, AreReadyTables};
 
 use crate::permission::walk;
 use crate::row_end::is_empty;
-use chart_term::{Nets, RowList, RowPart, Term};
+use chart_term::{RowList, RowPart, Term};
 use hmsc_graph::{Goal, Spot};
 use msc_base::{Block, NoMemory};
 use std::alloc::Global;
+use term_tables::Nets;
 
 /// Whether the counts of a loop allow a turn.
 fn may_turn(lower: u64, upper: Option<u64>) -> bool

@@ -18,11 +18,11 @@ use crate::blocks::{common, widened};
 use crate::loops::loop_end;
 use crate::passing::{Passable, is_aimed, passes_full};
 use crate::row_end::{RowEnd, is_empty};
-use crate::touch::touched;
-use chart_term::{Look, Nets, RowList, RowPart, Term, TermList, beside, bound, choice, then};
+use chart_term::{Look, RowList, RowPart, Term, TermList, beside, bound, choice, then};
 use hmsc_graph::{Goal, Spot, has_walk};
 use msc_base::{Block, NoMemory, PairList};
 use std::alloc::Global;
+use term_tables::Nets;
 
 /// What is left of the term where no event of the block may happen, or None where permission fails.
 ///
@@ -173,7 +173,7 @@ fn permit_turns(
     requires row { IsReadyLoop nets.now.tables body.now upper row.now }
     ensures { IfOk result (λ left. left ≡ permitted (permits_of nets.now.tables) (block_of block.now) (Turns body.now lower upper (row_of row.now))) }
 {
-    let all = touched(alloc, nets, body)?;
+    let all = nets.touched(alloc, body)?;
     let narrow = common(alloc, block, &all)?;
     let mut end = RowEnd::new(alloc);
     if keep_parts(

@@ -13,9 +13,10 @@ use crate::ascent::{Frame, Taken, rebuilt};
 use crate::blocks::widened;
 use crate::descent::{child, child_count};
 use crate::found::Found;
-use chart_term::{Event, Look, Nets, Term, TermList};
+use chart_term::{Event, Look, Term, TermList};
 use msc_base::{Block, Label, NoMemory};
 use std::alloc::Global;
+use term_tables::Nets;
 
 /// Appends what is left of the term after an event with the label: each such term once. It says whether these are all.
 ///

@@ -2,11 +2,12 @@ ghost use Rattle.std.specs.Prelude.{◌<◌};
 
 use crate::samples::{message, ring_tables};
 use crate::{may_end, permit, trail, turns};
-use chart_term::{Nets, Term};
+use chart_term::Term;
 use hmsc_graph::Goal;
 use msc_base::{Block, NoMemory};
 use std::alloc::Global;
 use std::test::Fail;
+use term_tables::Nets;
 
 /// What permission by a block of that instance leaves of the message: whether it is the message itself.
 #[tactic(auto, using(crate::proofs::ReadyTerms::ready))]

@@ -7,10 +7,11 @@ ghost use Rattle.term_laws.specs.FullSoundness.{IsSoundNode};
 ghost use Rattle.residual_bench.specs.Charts.{labels, event, message, answer, exchange, ordered};
 
 use crate::fault::Fault;
-use chart_term::{Nets, Term, TermList, beside, bound, choice, then};
+use chart_term::{Term, TermList, beside, bound, choice, then};
 use msc_base::{Far, Kind, Label, Name, NoMemory, Pair, PairList, Text};
 use permit_step::turns;
 use std::alloc::Global;
+use term_tables::Nets;
 
 /// How many labels the charts have.
 const LABELS: u32 = 9;

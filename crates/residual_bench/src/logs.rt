@@ -5,10 +5,11 @@ ghost use Rattle.residual_bench.specs.Charts.{labels};
 ghost use Rattle.residual_set.specs.Sets.{IsServing};
 ghost use Rattle.residual_set.specs.Tracks.{IfHeld};
 
-use chart_term::{Nets, Term};
+use chart_term::Term;
 use msc_base::{LabelList, NoMemory, Verdict};
 use residual_set::{Residuals, Track};
 use std::alloc::Global;
+use term_tables::Nets;
 
 /// The budget of a set.
 const BUDGET: u64 = 4_000_000;

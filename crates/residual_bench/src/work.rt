@@ -12,9 +12,10 @@ use crate::charts::{
 };
 use crate::fault::Fault;
 use crate::logs::{Judged, Log, Order, follow};
-use chart_term::{Nets, Term};
+use chart_term::Term;
 use msc_base::{LabelList, NoMemory};
 use std::alloc::Global;
+use term_tables::Nets;
 
 /// A chart, and how long a log of it is, or how large it is itself.
 #[derive(Clone, Copy, Debug, PartialEq, Eq)]

@@ -3,7 +3,7 @@ use Rattle.std.specs.Prelude.{ℕ, ◌≡◌, ◌<◌, List, [], ◌∷◌, ◌+
 use Rattle.std.proofs.Common.{ap, sym, ◌∙◌, subst}
 use Rattle.msc_base.specs.Patterns.{row, aside}
 use Rattle.msc_base.specs.declared.label.Label.{Label}
-use Rattle.chart_term.specs.NetValues.{NetsValue}
+use Rattle.term_tables.specs.NetValues.{NetsValue}
 use Rattle.chart_term.specs.NormalForms.{join_all}
 use Rattle.chart_term.specs.Properties.{Each}
 use Rattle.chart_term.specs.Tables.{Tables}

@@ -5,7 +5,7 @@ use Rattle.std.proofs.lemmas.Bool.{cases_lt}
 use Rattle.msc_base.specs.declared.label.Label.{Label}
 use Rattle.msc_base.specs.declared.verdict.Verdict.{Verdict}
 use Rattle.msc_base.specs.declared.verdict.Verdict.TheVariants.{Conforms, Fails, Early, TooLarge}
-use Rattle.chart_term.specs.NetValues.{NetsValue}
+use Rattle.term_tables.specs.NetValues.{NetsValue}
 use Rattle.chart_term.specs.Terms.{Tree, weight}
 use Rattle.term_laws.specs.Listing.{IsAmong, set_weight}
 use Rattle.residual_set.specs.Logs.{LoggedEvent, labels_of, AreResiduals, IsWithin, IsAbove}

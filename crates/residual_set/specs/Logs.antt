@@ -1,7 +1,7 @@
 -- The residual terms after a list of labels, and what that list is for the term: a run, or the beginning of one.
 use Rattle.std.specs.Prelude.{ℕ, ◌≡◌, ◌≤◌, ◌<◌, List, [], ◌∷◌, Some, map}
 use Rattle.msc_base.specs.declared.label.Label.{Label}
-use Rattle.chart_term.specs.NetValues.{NetsValue, label_number}
+use Rattle.term_tables.specs.NetValues.{NetsValue, label_number}
 use Rattle.chart_term.specs.TermPatterns.{Both}
 use Rattle.chart_term.specs.Terms.{Tree}
 use Rattle.term_laws.specs.Listing.{IsAmong, set_weight}

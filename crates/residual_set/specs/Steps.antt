@@ -1,7 +1,7 @@
 -- The faults of a step.
 use Rattle.std.specs.Prelude.{◌≡◌}
 use Rattle.msc_base.specs.declared.label.Label.{Label}
-use Rattle.chart_term.specs.NetValues.{NetsValue}
+use Rattle.term_tables.specs.NetValues.{NetsValue}
 use Rattle.residual_set.specs.Sets.{SetValue, IsTooLarge}
 use Rattle.residual_set.specs.declared.store.StepFault.{StepFault}
 use Rattle.residual_set.specs.declared.store.StepFault.TheVariants.{TooLarge, NoMemory}

@@ -2,7 +2,7 @@
 use Rattle.std.specs.Prelude.{ℕ, ◌≡◌, ◌≤◌, ◌+◌, List, [], ◌∷◌, ◌++◌, length}
 use Rattle.msc_base.specs.declared.verdict.Verdict.{Verdict}
 use Rattle.msc_base.specs.declared.verdict.Verdict.TheVariants.{Conforms, Fails, Early, TooLarge}
-use Rattle.chart_term.specs.NetValues.{NetsValue}
+use Rattle.term_tables.specs.NetValues.{NetsValue}
 use Rattle.chart_term.specs.Tables.{terms_over}
 use Rattle.chart_term.specs.Terms.{Tree}
 use Rattle.term_laws.specs.Listing.{set_weight}

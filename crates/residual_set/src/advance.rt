@@ -2,8 +2,8 @@ ghost use Rattle.std.specs.Prelude.{◌≡◌, IfOk, OnErr};
 ghost use Rattle.residual_set.specs.Advances.{Advances, LeavesOver};
 
 use crate::{StepFault, Store};
-use chart_term::Nets;
 use msc_base::{Label, NoMemory};
+use term_tables::Nets;
 
 /// What became of a set at an event.
 #[derive(Clone, Copy, Debug, PartialEq, Eq)]

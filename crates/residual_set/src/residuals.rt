@@ -1,5 +1,5 @@
 ghost use Rattle.std.specs.Prelude.{◌≡◌, ◌≤◌, ◌<◌, ◌⊎◌, ◌↔◌, [], ◌∷◌, ◌++◌, ℕ, List, length, take, IfOk, OnOk, OnErr, IsTrue, true, false, MatchOption};
-ghost use Rattle.chart_term.specs.NetValues.{NetsValue};
+ghost use Rattle.term_tables.specs.NetValues.{NetsValue};
 ghost use Rattle.chart_term.specs.Properties.{Each};
 ghost use Rattle.chart_term.specs.TermPatterns.{Both};
 ghost use Rattle.chart_term.specs.Terms.{Tree, weight};
@@ -10,11 +10,12 @@ ghost use Rattle.residual_set.specs.Gathers.{IsOver, JoinsAll};
 
 use crate::gathered::Gathered;
 use crate::{StepFault, Store};
-use chart_term::{Nets, Term, TermList};
+use chart_term::{Term, TermList};
 use msc_base::{Label, NoMemory};
 use permit_step::{after, may_end};
 use std::alloc::Global;
 use std::marker::Model;
+use term_tables::Nets;
 
 /// A set of residual terms as a sorted list.
 #[derive(Drop)]

@@ -1,6 +1,6 @@
 ghost use Rattle.std.specs.Prelude.{◌≡◌, ◌≤◌, ◌<◌, ◌↔◌, ◌++◌, ◌∷◌, [], List, true, false, IfOk, IfErr, OnOk, OnErr, IsTrue, Err};
 ghost use Rattle.msc_base.specs.declared.label.Label.{Label};
-ghost use Rattle.chart_term.specs.NetValues.{NetsValue};
+ghost use Rattle.term_tables.specs.NetValues.{NetsValue};
 ghost use Rattle.chart_term.specs.Terms.{Tree, weight};
 ghost use Rattle.term_laws.specs.Listing.{set_weight};
 ghost use Rattle.residual_set.specs.Logs.{AreResiduals, Begins, IsRun};
@@ -8,9 +8,10 @@ ghost use Rattle.residual_set.specs.Sets.{SetValue, IsSoundFor, IsServing, IsNex
 ghost use Rattle.residual_set.specs.Steps.{IsStepFault};
 ghost use Rattle.residual_set.specs.declared.store.StepFault.TheVariants.{TooLarge, NoMemory};
 
-use chart_term::{Nets, Term};
+use chart_term::Term;
 use msc_base::{Label, NoMemory};
 use std::alloc::Global;
+use term_tables::Nets;
 
 /// Why a set doesn't take an event.
 #[derive(Clone, Copy, Debug, PartialEq, Eq)]

@@ -3,10 +3,11 @@ ghost use Rattle.term_laws.specs.FullSoundness.{IsSoundNode};
 ghost use Rattle.residual_set.specs.Tracks.{IfHeld};
 
 use crate::{Residuals, Store, Track};
-use chart_term::{Nets, Term, TermList, beside};
+use chart_term::{Term, TermList, beside};
 use msc_base::{Far, Kind, Label, Name, NoMemory, Text, Verdict};
 use std::alloc::Global;
 use std::test::Fail;
+use term_tables::Nets;
 
 /// An action of instance i.
 fn action(alloc: Global, text: &str) -> Result<Label, Fail> {

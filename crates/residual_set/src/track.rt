@@ -1,5 +1,5 @@
 ghost use Rattle.std.specs.Prelude.{◌≡◌, ◌≤◌, ◌<◌, ◌+◌, ◌++◌, ◌∷◌, [], ℕ, List, IfOk, OnOk, OnErr};
-ghost use Rattle.chart_term.specs.NetValues.{NetsValue};
+ghost use Rattle.term_tables.specs.NetValues.{NetsValue};
 ghost use Rattle.chart_term.specs.Terms.{Tree};
 ghost use Rattle.residual_set.specs.Advances.{Follows, FollowsOpen, settled, risen, IsOpenVerdict};
 ghost use Rattle.residual_set.specs.Logs.{LoggedEvent};
@@ -12,10 +12,11 @@ mod tests;
 
 use crate::advance::{Outcome, advance};
 use crate::{StepFault, Store};
-use chart_term::{Nets, Term};
+use chart_term::Term;
 use msc_base::{Label, NoMemory, Verdict};
 use std::alloc::Global;
 use std::marker::Model;
+use term_tables::Nets;
 
 /// Follows the events of one log to a verdict, by a set of residual terms.
 #[derive(Drop)]

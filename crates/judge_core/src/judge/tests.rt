@@ -1,11 +1,12 @@
 use super::Judge;
 use crate::JudgeFault;
-use chart_term::{Nets, Term};
+use chart_term::Term;
 use event_log::{LogFault, LogForm};
 use msc_base::Verdict;
 use residual_set::Residuals;
 use std::alloc::Global;
 use std::test::Fail;
+use term_tables::Nets;
 
 /// A judge by the empty term.
 fn empty(alloc: Global) -> Result<Judge<Residuals>, Fail> {

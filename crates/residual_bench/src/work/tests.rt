@@ -10,11 +10,12 @@ use crate::charts::{
 };
 use crate::fault::Fault;
 use crate::logs::Judged;
-use chart_term::{Nets, Term};
+use chart_term::Term;
 use msc_base::{Items, Verdict};
 use residual_set::{Residuals, StepFault, Store};
 use std::alloc::Global;
 use std::test::Fail;
+use term_tables::Nets;
 
 /// The budget of a set, so small that twenty equal actions pass it.
 const BUDGET: u64 = 1_000_000;

@@ -2,9 +2,10 @@ ghost use Rattle.std.specs.Prelude.{◌≤◌};
 
 use super::Track;
 use crate::Residuals;
-use chart_term::{Nets, Term};
+use chart_term::Term;
 use std::alloc::Global;
 use std::test::Fail;
+use term_tables::Nets;
 
 /// A track of the empty term.
 fn empty(alloc: Global, budget: u64) -> Result<Track<Residuals>, Fail>

@@ -1,8 +1,8 @@
-use Rattle.std.proofs.Common.{◌≡◌, ◌<◌, ◌∙◌, ap, sym, subst, arith, ℕ, length}
+use Rattle.std.proofs.Common.{◌<◌, arith, length}
 use Rattle.chart_term.specs.Views.{event_of}
 use Rattle.term_laws.specs.Permission.{permits_of}
 use Rattle.permit_step.proofs.Ascending.{aside-whole}
-use Rattle.permit_step.proofs.Descending.{count-then, count-beside, count-loop, child-node}
+use Rattle.permit_step.proofs.Descending.{count-then, count-beside, count-loop}
 use Rattle.permit_step.proofs.Permits.{ready-then}
 use Rattle.permit_step.proofs.PermitLoops.{ready-loop}
 use Rattle.permit_step.proofs.PermitWalks.{ready-walk}

@@ -1,4 +1,4 @@
-use Rattle.std.proofs.Common.{◌≡◌, ◌∙◌, ap, sym, subst, true, false, take, drop, Option, IfOk}
+use Rattle.std.proofs.Common.{◌≡◌, ◌∙◌, ap, sym, subst, true, take, drop, Option, IfOk}
 use Rattle.msc_base.specs.Blocks.{BlockValue}
 use Rattle.chart_term.specs.NormalForms.{only}
 use Rattle.chart_term.specs.Rows.{part_of}

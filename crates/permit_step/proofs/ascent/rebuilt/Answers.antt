@@ -1,4 +1,4 @@
-use Rattle.std.proofs.Common.{◌≡◌, ◌∙◌, ◌-◌, ap, sym, arith, Some, None, slice_get}
+use Rattle.std.proofs.Common.{◌≡◌, ◌∙◌, ◌-◌, sym, arith, Some, slice_get}
 use Rattle.chart_term.specs.Terms.{Nil}
 use Rattle.chart_term.specs.Views.{event_of}
 use Rattle.term_laws.specs.Permission.{permits_of}
