@@ -1,6 +1,6 @@
 //! Documents that are accepted, and the first rules that others break.
 use crate::bench::{judge_words, shelf_with};
-use msc_base::MemSink;
+use outside::MemSink;
 use msc_cmd::run;
 use std::test::Fail;
 

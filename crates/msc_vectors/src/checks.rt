@@ -1,6 +1,6 @@
 //! Documents that are checked, and listed.
 use crate::bench::{CHART, answers, shelf_of, words_of};
-use msc_base::MemSink;
+use outside::MemSink;
 use msc_cmd::run;
 use std::test::Fail;
 

@@ -1,6 +1,6 @@
 //! Shelves and sinks that fail.
 use crate::bench::{CHART, RUN, judge_words, shelf_of, shelf_with};
-use msc_base::MemSink;
+use outside::MemSink;
 use msc_cmd::run;
 use std::test::Fail;
 

@@ -1,6 +1,7 @@
 //! The limits of documents and logs, and bytes that are no text.
 use crate::bench::{CHART, RUN, judge_words, shelf_with};
-use msc_base::{MemSink, NoMemory};
+use msc_base::NoMemory;
+use outside::MemSink;
 use msc_cmd::run;
 use std::alloc::Global;
 use std::test::Fail;

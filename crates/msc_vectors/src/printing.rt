@@ -1,6 +1,6 @@
 //! Documents that are printed in their canonical form.
 use crate::bench::{answers, shelf_with, words_of};
-use msc_base::MemSink;
+use outside::MemSink;
 use msc_cmd::run;
 use std::test::Fail;
 

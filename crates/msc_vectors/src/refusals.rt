@@ -1,6 +1,7 @@
 //! Documents that are refused by the grammar. Expected places are those of an independent model of the notation.
 use crate::bench::{judge_words, shelf_with};
-use msc_base::{MemSink, NoMemory};
+use msc_base::NoMemory;
+use outside::MemSink;
 use msc_cmd::run;
 use std::alloc::Global;
 use std::test::Fail;
@@ -200,17 +201,17 @@ fn each_place(rt: HostRuntime) -> Result<(), Fail> {
             if *byte != b' ' {
                 continue;
             }
-            let (front, behind) = chart.split_at(at);
-            let end = front.len().wrapping_add(1);
+            let (prefix, behind) = chart.split_at(at);
+            let end = prefix.len().wrapping_add(1);
             let want = format!(in alloc; "document refused at 1:{end}: syntax\n")?;
-            assert!(rt; is_refused(alloc, front, want.as_str())?, "of {front}");
+            assert!(rt; is_refused(alloc, prefix, want.as_str())?, "of {prefix}");
 
-            let mark = front.len().wrapping_add(2);
-            let spoilt = format!(in alloc; "{front} <<{behind}")?;
+            let mark = prefix.len().wrapping_add(2);
+            let spoilt = format!(in alloc; "{prefix} <<{behind}")?;
             let want = format!(in alloc; "document refused at 1:{mark}: unsupported, qualifier\n")?;
             assert!(rt;
                 is_refused(alloc, spoilt.as_str(), want.as_str())?,
-                "of {front}"
+                "of {prefix}"
             );
             places = places.wrapping_add(1);
         }

@@ -1,6 +1,7 @@
 //! Documents, logs and words.
 use crate::bench::{CHART, RUN, judge_words, shelf_with, words_of};
-use msc_base::{Items, MemSink, Text};
+use msc_base::{Items, Text};
+use outside::MemSink;
 use msc_cmd::run;
 use std::test::Fail;
 

@@ -22,6 +22,6 @@ mod successors;
 mod tests;
 
 pub use finishes::may_end;
-pub use fresh::{trail, turns};
+pub use fresh::{fresh_loop, fresh_walk};
 pub use permission::permit;
 pub use successors::after;

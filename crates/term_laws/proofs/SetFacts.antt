@@ -2,7 +2,7 @@
 use Rattle.std.specs.Prelude.{ℕ, ◌<◌, ◌==◌, Bool, true, false, ltb, List, [], ◌∷◌, ◌≡◌, ◌||◌, ◌&&◌, refl}
 use Rattle.std.proofs.Common.{ap, sym, ◌∙◌, subst, arith, cond}
 use Rattle.std.proofs.lemmas.Bool.Decides.{nat_tests}
-use Rattle.msc_base.specs.Blocks.{IsRising, AreAbove}
+use Rattle.bit_sets.specs.Blocks.{IsRising, AreAbove}
 use Rattle.chart_term.specs.NormalForms.{cut}
 use Rattle.chart_term.specs.Terms.{has}
 use Rattle.term_laws.specs.Normality.{IsSet, IsAbove}

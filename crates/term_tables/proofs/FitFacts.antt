@@ -6,7 +6,7 @@ use Rattle.chart_term.specs.Terms.{Tree, trees, Part, Gap, Turn, row_of}
 use Rattle.chart_term.proofs.Lists.{take_step}
 use Rattle.term_tables.specs.Fitting.{fits, fits_all, fits_row, fits_part}
 use Rattle.term_tables.specs.NetValues.{NetsValue}
-use Rattle.term_tables.proofs.Nodes.{nodes-then, nodes-beside, nodes-choice, nodes-bound, nodes-loop, nodes-at, nodes-part}
+use Rattle.term_tables.proofs.Nodes.{nodes-then, nodes-par, nodes-choice, nodes-tied, nodes-loop, nodes-at, nodes-part}
 
 and_true : (b : Bool) → b ≡ (b && true)
 and_true true = refl
@@ -68,4 +68,4 @@ module _ (v : NetsValue) where
   pub row_fits-stop : (ps : List Part) (i : ℕ) (t : Part) → slice_get ps i ≡ Some t → fits_row v (row_of (take i ps)) ≡ true → false ≡ fits_part v t → false ≡ fits_row v (row_of ps)
   row_fits-stop ps i t p h f = sym (unfit-row ps (i + 1) (row_fits-next ps i t p h ∙ sym f))
 
-pub ruleset fitting = (fits-more, row_fits-more, fits-first, row_fits-first, fits-stop, row_fits-stop, nodes-then, nodes-beside, nodes-choice, nodes-bound, nodes-loop, nodes-at, nodes-part)
+pub ruleset fitting = (fits-more, row_fits-more, fits-first, row_fits-first, fits-stop, row_fits-stop, nodes-then, nodes-par, nodes-choice, nodes-tied, nodes-loop, nodes-at, nodes-part)

@@ -15,12 +15,12 @@ pub(crate) fn term_fits(nets: &Nets, term: &Term) -> bool
     match term.look() {
         Look::Nil => true,
         Look::Event { label, .. } => nets.has_label(label),
-        Look::Then(parts) => all_fit(nets, parts),
-        Look::Beside(parts) => all_fit(nets, parts),
+        Look::Seq(parts) => all_fit(nets, parts),
+        Look::Par(parts) => all_fit(nets, parts),
         Look::Choice(parts) => all_fit(nets, parts),
-        Look::Bound(inner, _) => term_fits(nets, inner),
-        Look::Turns { body, row, .. } => term_fits(nets, body) && row_fits(nets, row),
-        Look::Trail { net, from, to, .. } => nets.has_ends(net, from, to),
+        Look::Tied(inner, _) => term_fits(nets, inner),
+        Look::Loop { body, row, .. } => term_fits(nets, body) && row_fits(nets, row),
+        Look::Walk { net, from, to, .. } => nets.has_ends(net, from, to),
     }
 }
 

@@ -12,7 +12,8 @@ use crate::touched::{add_all, add_term};
 use chart_term::{Term, TermList};
 use hmsc_graph::{Goal, Net, Spot};
 use label_table::LabelTable;
-use msc_base::{Block, Label, NoMemory};
+use bit_sets::Block;
+use msc_base::{Label, NoMemory};
 use std::alloc::Global;
 use std::marker::Model;
 

@@ -7,7 +7,8 @@ ghost use Rattle.term_tables.specs.Unions.{IsUnion};
 
 use crate::nets::StoredNet;
 use chart_term::{Look, RowList, RowPart, Term, TermList};
-use msc_base::{Block, NoMemory};
+use bit_sets::Block;
+use msc_base::NoMemory;
 
 /// Adds the instances of the events of the term, of its loop operands, begun turns and nets.
 #[cycle(touched)]
@@ -15,21 +16,21 @@ use msc_base::{Block, NoMemory};
 pub(crate) fn add_term(stored: &[StoredNet], term: &Term, block: &mut Block) -> Result<(), NoMemory>
     ensures { OnOk result (IsUnion block.old.instances (touch (spread_at stored.now) term.now) block.new.instances) }
 {
-    if !term.has_trail() {
+    if !term.holds_walk() {
         return block.add_instances(term.instances());
     }
     match term.look() {
         Look::Nil => Ok(()),
         Look::Event { .. } => block.add_instances(term.instances()),
-        Look::Then(parts) => add_all(stored, parts, block),
-        Look::Beside(parts) => add_all(stored, parts, block),
+        Look::Seq(parts) => add_all(stored, parts, block),
+        Look::Par(parts) => add_all(stored, parts, block),
         Look::Choice(parts) => add_all(stored, parts, block),
-        Look::Bound(inner, _) => add_term(stored, inner, block),
-        Look::Turns { body, row, .. } => {
+        Look::Tied(inner, _) => add_term(stored, inner, block),
+        Look::Loop { body, row, .. } => {
             add_term(stored, body, block)?;
             add_row(stored, row, block)
         }
-        Look::Trail { net, .. } => add_net(stored, net, block),
+        Look::Walk { net, .. } => add_net(stored, net, block),
     }
 }
 

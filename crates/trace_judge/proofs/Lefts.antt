@@ -56,18 +56,18 @@ numbers_more table (b ∷ l) [] a n h q = absurd h
 numbers_more table (b ∷ l) (m ∷ ns) a n h q = (h.0, numbers_more table l ns a n h.1 q)
 
 record LastNumber (table l : List Label) (a : Label) (ns : List ℕ) : Type 0 where
-  pub front : List ℕ
+  pub prefix : List ℕ
   pub number : ℕ
-  pub are : ns ≡ front ++ number ∷ []
-  pub numbers : AreNumbers table l front
+  pub are : ns ≡ prefix ++ number ∷ []
+  pub numbers : AreNumbers table l prefix
   pub is : label_number table a ≡ Some number
 
 last_number : (table l : List Label) (a : Label) (ns : List ℕ) → AreNumbers table (l ++ a ∷ []) ns → LastNumber table l a ns
 last_number table [] a [] h = absurd h
-last_number table [] a (n ∷ []) h = record { front = []; number = n; are = refl; numbers = tt; is = h.0 }
+last_number table [] a (n ∷ []) h = record { prefix = []; number = n; are = refl; numbers = tt; is = h.0 }
 last_number table [] a (n ∷ (m ∷ ns)) h = absurd h.1
 last_number table (b ∷ l) a [] h = absurd h
-last_number table (b ∷ l) a (n ∷ ns) h = let i = last_number table l a ns h.1 in record { front = n ∷ i.front; number = i.number; are = ap (λ (ms : List ℕ). n ∷ ms) i.are; numbers = (h.0, i.numbers); is = i.is }
+last_number table (b ∷ l) a (n ∷ ns) h = let i = last_number table l a ns h.1 in record { prefix = n ∷ i.prefix; number = i.number; are = ap (λ (ms : List ℕ). n ∷ ms) i.are; numbers = (h.0, i.numbers); is = i.is }
 
 -- by labels
 
@@ -86,10 +86,10 @@ pub record LastLeft (v : NetsValue) (x z : Tree) (l : List Label) (a : Label) : 
 pub left_last : (v : NetsValue) (x z : Tree) (l : List Label) (a : Label) → IsLeft v x (l ++ a ∷ []) z → LastLeft v x z l a
 left_last v x z l a h =
     let n = last_number v.labels l a h.numbers h.are in
-    let r = last_one (permits_of v.tables) x z n.front n.number (subst (λ (ns : List ℕ). IsResidual (permits_of v.tables) x ns z) n.are h.left) in
+    let r = last_one (permits_of v.tables) x z n.prefix n.number (subst (λ (ns : List ℕ). IsResidual (permits_of v.tables) x ns z) n.are h.left) in
     record {
       term = r.term;
-      left = record { numbers = n.front; are = n.numbers; left = r.left };
+      left = record { numbers = n.prefix; are = n.numbers; left = r.left };
       after = record { event = r.event; labelled = n.is ∙ ap Some (sym r.is); after = r.after };
     }
 

@@ -1,6 +1,6 @@
 use Rattle.std.proofs.lemmas.Bool.{ltb-true, ltb-false}
 use Rattle.std.proofs.Common.{◌≡◌, ◌≤◌, List, ℕ, length, ap, sym, subst}
-use Rattle.msc_base.specs.Blocks.{BlockValue, insert_each}
+use Rattle.bit_sets.specs.Blocks.{BlockValue, insert_each}
 use Rattle.chart_term.specs.Terms.{has}
 use Rattle.term_tables.specs.NetTables.{spread_at}
 use Rattle.term_tables.specs.Unions.{IsUnion}
