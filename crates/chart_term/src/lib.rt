@@ -4,7 +4,6 @@
 //! of a term, its weight, its patterns and the normalising constructors.
 #![tactic(auto)]
 
-mod ties;
 mod choices;
 mod event;
 mod facts;
@@ -14,10 +13,11 @@ mod look;
 mod term;
 #[cfg(test)]
 mod tests;
+mod ties;
 
-pub use ties::tied;
 pub use choices::choice;
 pub use event::Event;
 pub use joins::{par, seq};
 pub use look::Look;
 pub use term::{RowList, RowPart, Term, TermList};
+pub use ties::tied;

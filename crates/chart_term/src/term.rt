@@ -12,8 +12,8 @@ mod order;
 
 use crate::facts::Facts;
 use crate::{Event, Look};
-use hmsc_graph::{Goal, Spot};
 use bit_sets::Block;
+use hmsc_graph::{Goal, Spot};
 use msc_base::{Limits, NoMemory, PairList};
 use std::alloc::Global;
 use std::marker::Model;

@@ -9,8 +9,8 @@ ghost use Rattle.permit_step.specs.Searches.{child_count};
 
 use crate::blocks::widened;
 use crate::permission::permit;
-use chart_term::{Look, RowPart, Term};
 use bit_sets::Block;
+use chart_term::{Look, RowPart, Term};
 use msc_base::NoMemory;
 use std::alloc::Global;
 use term_tables::Nets;

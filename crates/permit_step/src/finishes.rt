@@ -11,8 +11,8 @@ ghost use Rattle.permit_step.specs.Endings.{AreEnding, MayPartEnd};
 ghost use Rattle.permit_step.specs.Ready.{IsReady, AreReadyTables, IsReadyPart, AreReadyParts, IsReadyLoop};
 ghost use Rattle.term_laws.specs.Taking.{MayEnd, EndAll, EndOne, EndLoop, EndWalk};
 
-use chart_term::{Look, RowList, RowPart, Term, TermList};
 use bit_sets::NodeSet;
+use chart_term::{Look, RowList, RowPart, Term, TermList};
 use hmsc_graph::{Goal, Spot, has_walk};
 use msc_base::NoMemory;
 use std::alloc::Global;

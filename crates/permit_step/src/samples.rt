@@ -4,7 +4,7 @@ ghost use Rattle.chart_term.specs.Properties.{Each};
 ghost use Rattle.chart_term.specs.Tables.{net_count};
 ghost use Rattle.permit_step.specs.Ready.{IsReady, AreReadyTables};
 
-use chart_term::{Term, TermList, tied, seq};
+use chart_term::{Term, TermList, seq, tied};
 use hmsc_graph::{Net, Shape, ShapeLine, ShapeLines};
 use msc_base::{LabelRef, LabelRefs, Name, NoMemory, Pair, PairList, Place};
 use std::alloc::Global;

@@ -1,10 +1,10 @@
 ghost use Rattle.std.specs.Prelude.{◌<◌};
 
 use crate::samples::{message, ring_tables};
-use crate::{may_end, permit, fresh_loop, fresh_walk};
+use crate::{fresh_loop, fresh_walk, may_end, permit};
+use bit_sets::Block;
 use chart_term::Term;
 use hmsc_graph::Goal;
-use bit_sets::Block;
 use msc_base::NoMemory;
 use std::alloc::Global;
 use std::test::Fail;

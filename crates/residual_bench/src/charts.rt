@@ -7,7 +7,7 @@ ghost use Rattle.term_laws.specs.FullSoundness.{IsSoundNode};
 ghost use Rattle.residual_bench.specs.Charts.{labels, event, message, answer, exchange, ordered};
 
 use crate::fault::Fault;
-use chart_term::{Term, TermList, par, tied, choice, seq};
+use chart_term::{Term, TermList, choice, par, seq, tied};
 use msc_base::{Far, Kind, Label, Name, NoMemory, Pair, PairList, Text};
 use permit_step::fresh_loop;
 use std::alloc::Global;

@@ -18,7 +18,7 @@ use Rattle.term_laws.proofs.ConstructorProofs.{normal_forms_keep_patterns}
 use Rattle.term_laws.proofs.Keeping.{join_keeps, choice_keeps, tied_keeps, turns_keep}
 use Rattle.term_laws.proofs.NormalTables.{some_pattern}
 use Rattle.term_laws.proofs.Normalising.{join_normal, choice_normal, bound_normal, turns_normal, trail_normal}
-use Rattle.term_laws.proofs.TidyKept.{Loop, Replaces, good_kind}
+use Rattle.term_laws.proofs.TidyKept.{TidyLoop, Replaces, good_kind}
 use Rattle.term_laws.proofs.TidyTables.{nets_good}
 
 all_tidy : (w : Tables) (xs : List Tree) → Each (IsFormed w) xs → Each (IsTidyOver w) xs
@@ -46,26 +46,26 @@ formed w (Some y) t n = record { tidy = t; normal = n }
 module _ (w : Tables) (h : AreTidyTables w) where
   join_formed : (m : Mode) (xs : List Tree) → Each (IsFormed w) xs → IsFormed w (join_all m xs)
   join_formed m xs f = record {
-    tidy = join_keeps (permits_of w) (IsTidyOver w) (IsTidyOver w) (Loop (permits_of w) (node_of w) true (NetLacks w) (IsKnown w) (nets_good true w h)) (Replaces (permits_of w) (node_of w) true (NetLacks w) (IsKnown w) (nets_good true w h)) (good_kind (permits_of w) (node_of w) true (NetLacks w) (IsKnown w) (nets_good true w h)) m xs (all_tidy w xs f);
+    tidy = join_keeps (permits_of w) (IsTidyOver w) (IsTidyOver w) (TidyLoop (permits_of w) (node_of w) true (NetLacks w) (IsKnown w) (nets_good true w h)) (Replaces (permits_of w) (node_of w) true (NetLacks w) (IsKnown w) (nets_good true w h)) (good_kind (permits_of w) (node_of w) true (NetLacks w) (IsKnown w) (nets_good true w h)) m xs (all_tidy w xs f);
     normal = join_normal (permits_of w) m xs (all_normal w xs f);
   }
 
   choice_formed : (xs : List Tree) → Each (IsFormed w) xs → MayHave (IsFormed w) (choice_of xs)
   choice_formed xs f =
       formed w (choice_of xs)
-      (choice_keeps (permits_of w) (IsTidyOver w) (IsTidyOver w) (Loop (permits_of w) (node_of w) true (NetLacks w) (IsKnown w) (nets_good true w h)) (Replaces (permits_of w) (node_of w) true (NetLacks w) (IsKnown w) (nets_good true w h)) (good_kind (permits_of w) (node_of w) true (NetLacks w) (IsKnown w) (nets_good true w h)) xs (all_tidy w xs f))
+      (choice_keeps (permits_of w) (IsTidyOver w) (IsTidyOver w) (TidyLoop (permits_of w) (node_of w) true (NetLacks w) (IsKnown w) (nets_good true w h)) (Replaces (permits_of w) (node_of w) true (NetLacks w) (IsKnown w) (nets_good true w h)) (good_kind (permits_of w) (node_of w) true (NetLacks w) (IsKnown w) (nets_good true w h)) xs (all_tidy w xs f))
       (choice_normal (permits_of w) xs (all_normal w xs f))
 
   bound_formed : (x : Tree) (q : List (ℕ × ℕ)) → IsTidyOver w (Tied x q) → IsNormalOver w x → IsFormed w (tie_of x q)
   bound_formed x q t n = record {
-    tidy = tied_keeps (permits_of w) (IsTidyOver w) (IsTidyOver w) (Loop (permits_of w) (node_of w) true (NetLacks w) (IsKnown w) (nets_good true w h)) (Replaces (permits_of w) (node_of w) true (NetLacks w) (IsKnown w) (nets_good true w h)) (good_kind (permits_of w) (node_of w) true (NetLacks w) (IsKnown w) (nets_good true w h)) x q t;
+    tidy = tied_keeps (permits_of w) (IsTidyOver w) (IsTidyOver w) (TidyLoop (permits_of w) (node_of w) true (NetLacks w) (IsKnown w) (nets_good true w h)) (Replaces (permits_of w) (node_of w) true (NetLacks w) (IsKnown w) (nets_good true w h)) (good_kind (permits_of w) (node_of w) true (NetLacks w) (IsKnown w) (nets_good true w h)) x q t;
     normal = bound_normal (permits_of w) x q n;
   }
 
   turns_formed : (x : Tree) (lo : ℕ) (hi : Option ℕ) (ps : List Part) → IsFormed w x → UpTo hi lo → IsFormedRow w ps → MayHave (IsFormed w) (loop_of (λ c. permit (permits_of w) (only c) x) (touch (permits_of w).spread x) x lo hi ps)
   turns_formed x lo hi ps f u r =
       formed w (loop_of (λ c. permit (permits_of w) (only c) x) (touch (permits_of w).spread x) x lo hi ps)
-      (turns_keep (permits_of w) (IsTidyOver w) (IsTidyOver w) (Loop (permits_of w) (node_of w) true (NetLacks w) (IsKnown w) (nets_good true w h)) (Replaces (permits_of w) (node_of w) true (NetLacks w) (IsKnown w) (nets_good true w h)) (good_kind (permits_of w) (node_of w) true (NetLacks w) (IsKnown w) (nets_good true w h)) x lo hi ps (f.tidy, u, r.falls) (turns_tidy w ps r.turns))
+      (turns_keep (permits_of w) (IsTidyOver w) (IsTidyOver w) (TidyLoop (permits_of w) (node_of w) true (NetLacks w) (IsKnown w) (nets_good true w h)) (Replaces (permits_of w) (node_of w) true (NetLacks w) (IsKnown w) (nets_good true w h)) (good_kind (permits_of w) (node_of w) true (NetLacks w) (IsKnown w) (nets_good true w h)) x lo hi ps (f.tidy, u, r.falls) (turns_tidy w ps r.turns))
       (turns_normal (permits_of w) x lo hi ps f.normal (turns_all_normal w ps r.turns) r.sets)
 
 module _ (w : Tables) where

@@ -12,8 +12,8 @@ use Rattle.term_laws.proofs.Even.{AllEven, RowEven, IsEvenOver}
 use Rattle.term_laws.proofs.Selfless.{runs_of, tidy_from}
 
 module _ (labels : ℕ) (w : Tables) where
-  abbrev Walk : ℕ → Spot → Goal → Type 0
-  Walk n f t = IsKnown w n × IsSpotOf w n f × IsGoalOf w n t
+  abbrev KnownWalk : ℕ → Spot → Goal → Type 0
+  KnownWalk n f t = IsKnown w n × IsSpotOf w n f × IsGoalOf w n t
 
   abbrev Tie : Tree → List (ℕ × ℕ) → Type 0
   Tie y q = (j : ℕ) → InPairs j q → IsOutside (NetLacks w) j y
@@ -28,12 +28,12 @@ module _ (labels : ℕ) (w : Tables) where
     even_of (Loop x lo hi r) k o f c = (even_of x k.0 o.0 f.0 c.0, row_even_of r k.2 o.2 f.2 c.2, c.1, f.1)
     even_of (Walk n f t c) k o i j = k.0
 
-    all_even_of : (xs : Trees) → EveryPartOf (λ e. e.label < labels) (λ y q. Unit {0}) (λ y. Unit {0}) Walk xs → EveryPartOf (λ e. Unit {0}) Tie (λ y. Unit {0}) (λ n f t. Unit {0}) xs
+    all_even_of : (xs : Trees) → EveryPartOf (λ e. e.label < labels) (λ y q. Unit {0}) (λ y. Unit {0}) KnownWalk xs → EveryPartOf (λ e. Unit {0}) Tie (λ y. Unit {0}) (λ n f t. Unit {0}) xs
         → EveryLoopOf (λ lo hi ps. NeverGrows ps) xs → EveryLoopOf (λ lo hi ps. UpTo hi lo) xs → AllEven (NetLacks w) (IsKnown w) xs
     all_even_of none k o f c = tt
     all_even_of (more x xs) k o f c = (even_of x k.0 o.0 f.0 c.0, all_even_of xs k.1 o.1 f.1 c.1)
 
-    row_even_of : (r : Row) → EveryRowPart (λ e. e.label < labels) (λ y q. Unit {0}) (λ y. Unit {0}) Walk r → EveryRowPart (λ e. Unit {0}) Tie (λ y. Unit {0}) (λ n f t. Unit {0}) r
+    row_even_of : (r : Row) → EveryRowPart (λ e. e.label < labels) (λ y q. Unit {0}) (λ y. Unit {0}) KnownWalk r → EveryRowPart (λ e. Unit {0}) Tie (λ y. Unit {0}) (λ n f t. Unit {0}) r
         → EveryRowLoop (λ lo hi ps. NeverGrows ps) r → EveryRowLoop (λ lo hi ps. UpTo hi lo) r → RowEven (NetLacks w) (IsKnown w) r
     row_even_of ends k o f c = tt
     row_even_of (gap d r) k o f c = row_even_of r k o f c

@@ -450,13 +450,13 @@ module _ (k : NetPermits) (node : ℕ → ℕ → Tree) (o : Bool) (NL : ℕ →
     pub never_some : (p : Option (List Part)) (qs : List Part) → p ≡ Some qs → NeverOf p → NeverGrows qs
     never_some p qs e h = rw e at h
 
-    abbrev pub Loop : Tree → ℕ → Option ℕ → List Part → Type 0
-    Loop x lo hi ps = Tidy x × UpTo hi lo × NeverGrows ps
+    abbrev pub TidyLoop : Tree → ℕ → Option ℕ → List Part → Type 0
+    TidyLoop x lo hi ps = Tidy x × UpTo hi lo × NeverGrows ps
 
     abbrev pub Replaces : Tree → Tree → Type 0
     Replaces x z = (j : ℕ) → IsOutside NL j x → IsOutside NL j z
 
-    pub good_kind : Kind k Tidy Tidy Loop Replaces
+    pub good_kind : Kind k Tidy Tidy TidyLoop Replaces
     good_kind = record {
       nil = tt;
       join_in = λ m xs h. good_in xs h;
@@ -486,10 +486,10 @@ module _ (k : NetPermits) (node : ℕ → ℕ → Tree) (o : Bool) (NL : ℕ →
         never_same ps h = rw (parts-row_of ps) h
 
     pub permit_good : (b : Block) (x : Tree) → Tidy x → MayHave Tidy (permit k b x)
-    permit_good = permit_keeps k Tidy Tidy Loop Replaces good_kind
+    permit_good = permit_keeps k Tidy Tidy TidyLoop Replaces good_kind
 
     pub after_good : {x y : Tree} {e : TermEvent} → IsAfter k x e y → Tidy x → Tidy y
-    after_good = after_keeps k Tidy Tidy Loop Replaces good_kind (λ n m f t c d x h e. nets.good n m d x h e)
+    after_good = after_keeps k Tidy Tidy TidyLoop Replaces good_kind (λ n m f t c d x h e. nets.good n m d x h e)
 
     -- a block whose numbers a pattern lacks is avoided where its instances are
     free_of : (b : Block) (s : Shape) → ((j : ℕ) → has b.numbers j ≡ true → NoNumber j s) → Avoids (only b.instances) s → Avoids b s

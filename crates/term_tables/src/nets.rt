@@ -9,10 +9,10 @@ ghost use Rattle.chart_term.specs.Terms.{has};
 
 use crate::fits::term_fits;
 use crate::touched::{add_all, add_term};
+use bit_sets::Block;
 use chart_term::{Term, TermList};
 use hmsc_graph::{Goal, Net, Spot};
 use label_table::LabelTable;
-use bit_sets::Block;
 use msc_base::{Label, NoMemory};
 use std::alloc::Global;
 use std::marker::Model;

@@ -2,9 +2,9 @@ ghost use Rattle.std.specs.Prelude.{◌<◌, ◌≡◌, ◌+◌, [], IfOk, lengt
 ghost use Rattle.chart_term.specs.Tables.{net_count};
 
 use crate::Nets;
+use bit_sets::Block;
 use chart_term::{RowList, RowPart, Term, TermList, seq};
 use hmsc_graph::{Goal, Net, Shape, ShapeLine, ShapeLines, Spot};
-use bit_sets::Block;
 use msc_base::{Far, Kind, Label, LabelRef, LabelRefs, Name, NoMemory, Place, Text};
 use std::alloc::Global;
 use std::test::Fail;

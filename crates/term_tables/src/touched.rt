@@ -6,8 +6,8 @@ ghost use Rattle.term_tables.specs.NetTables.{spread_at};
 ghost use Rattle.term_tables.specs.Unions.{IsUnion};
 
 use crate::nets::StoredNet;
-use chart_term::{Look, RowList, RowPart, Term, TermList};
 use bit_sets::Block;
+use chart_term::{Look, RowList, RowPart, Term, TermList};
 use msc_base::NoMemory;
 
 /// Adds the instances of the events of the term, of its loop operands, begun turns and nets.
