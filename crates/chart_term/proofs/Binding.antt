@@ -3,10 +3,10 @@ use Rattle.std.specs.Prelude.{ℕ, Bool, true, false, List, [], ◌∷◌, ◌�
 use Rattle.std.proofs.Common.{ap, sym, ◌∙◌, arith, inl, inr}
 use Rattle.std.proofs.lemmas.Bool.Decides.{nat_tests}
 use Rattle.msc_base.specs.Patterns.{bind}
-use Rattle.chart_term.specs.NormalForms.{numbers, unless_pair, without_pair, with_pair, kept_pairs, bound_form, bound_of}
-use Rattle.chart_term.specs.TermMeanings.{NetTerms, HasPattern, has_bound, ◌⊑◌}
+use Rattle.chart_term.specs.NormalForms.{numbers, unless_pair, without_pair, with_pair, kept_pairs, bound_form, tie_of}
+use Rattle.chart_term.specs.TermMeanings.{NetTerms, HasPattern, holds_tie, ◌⊑◌}
 use Rattle.chart_term.specs.TermPatterns.{Shape, Occurs, pairs, Agree, InPairs, same, back, on, bind_none, bind_as}
-use Rattle.chart_term.specs.Terms.{Tree, Bound, has}
+use Rattle.chart_term.specs.Terms.{Tree, Tied, has}
 
 -- pairs that are left out twice
 same_end : (a b m n : ℕ) (c d : ℕ) → ((a == c) && (b == d)) ≡ true → ((m == a) && (n == b)) ≡ ((m == c) && (n == d))
@@ -128,24 +128,24 @@ module _ (w : NetTerms) (o : Bool) where
       go true e = let (u, v) = said_in q m n e in sym (kept_says (numbers y) q m n (f m u s a h) (f n v s a i))
       go false e = e ∙ sym (kept_less (numbers y) q m n e)
 
-  form_to : (y : Tree) (r : List (ℕ × ℕ)) → HasPattern w o (bound_form y r) ⊑ HasPattern w o (Bound y r)
-  form_to y [] s a = (bind s [], has_bound a, back bind_none)
+  form_to : (y : Tree) (r : List (ℕ × ℕ)) → HasPattern w o (bound_form y r) ⊑ HasPattern w o (Tied y r)
+  form_to y [] s a = (bind s [], holds_tie a, back bind_none)
   form_to y (p ∷ r) s a = (s, a, same)
 
-  form_from : (y : Tree) (r : List (ℕ × ℕ)) → HasPattern w o (Bound y r) ⊑ HasPattern w o (bound_form y r)
-  form_from y [] s (has_bound a) = (_, a, bind_none)
+  form_from : (y : Tree) (r : List (ℕ × ℕ)) → HasPattern w o (Tied y r) ⊑ HasPattern w o (bound_form y r)
+  form_from y [] s (holds_tie a) = (_, a, bind_none)
   form_from y (p ∷ r) s a = (s, a, same)
 
-  tied : (y : Tree) (q r : List (ℕ × ℕ)) → ((s : Shape) → HasPattern w o y s → Agree q r s) → HasPattern w o (Bound y q) ⊑ HasPattern w o (Bound y r)
-  tied y q r f s (has_bound {s = u} a) = (bind u r, has_bound a, bind_as (f u a))
+  tied : (y : Tree) (q r : List (ℕ × ℕ)) → ((s : Shape) → HasPattern w o y s → Agree q r s) → HasPattern w o (Tied y q) ⊑ HasPattern w o (Tied y r)
+  tied y q r f s (holds_tie {s = u} a) = (bind u r, holds_tie a, bind_as (f u a))
 
-  pub bound_to : (y : Tree) (q : List (ℕ × ℕ)) → ((j : ℕ) → InPairs j q → Shows y j) → HasPattern w o (bound_of y q) ⊑ HasPattern w o (Bound y q)
+  pub bound_to : (y : Tree) (q : List (ℕ × ℕ)) → ((j : ℕ) → InPairs j q → Shows y j) → HasPattern w o (tie_of y q) ⊑ HasPattern w o (Tied y q)
   bound_to y q f s a =
       let i = form_to y (kept_pairs (numbers y) q) s a in
       let j = tied y (kept_pairs (numbers y) q) q (λ u b m n h k. sym (agrees y q f u b m n h k)) i.0 i.1 in
       (j.0, j.1, on i.2 j.2)
 
-  pub bound_from : (y : Tree) (q : List (ℕ × ℕ)) → ((j : ℕ) → InPairs j q → Shows y j) → HasPattern w o (Bound y q) ⊑ HasPattern w o (bound_of y q)
+  pub bound_from : (y : Tree) (q : List (ℕ × ℕ)) → ((j : ℕ) → InPairs j q → Shows y j) → HasPattern w o (Tied y q) ⊑ HasPattern w o (tie_of y q)
   bound_from y q f s a =
       let i = tied y q (kept_pairs (numbers y) q) (agrees y q f) s a in
       let j = form_from y (kept_pairs (numbers y) q) i.0 i.1 in

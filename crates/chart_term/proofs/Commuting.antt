@@ -1,15 +1,15 @@
 -- Two minimal events can be taken out in either order.
 use Rattle.std.specs.Prelude.{ℕ, List, ◌∷◌, ◌≡◌, ◌⊎◌, refl}
 use Rattle.std.proofs.Common.{ap, inl, inr}
-use Rattle.msc_base.specs.Patterns.{Mode, row, aside, join, bind}
+use Rattle.msc_base.specs.Patterns.{Mode, seq, par, join, bind}
 use Rattle.chart_term.specs.TermPatterns.{Shape, Avoids, Lets, instances_of, earlier, Takes, take_one, take_first, take_later, take_bind, HasNoEvent}
 use Rattle.chart_term.specs.TermRuns.{Runs, run_end, run_take}
 use Rattle.chart_term.specs.Terms.{TermEvent}
 use Rattle.chart_term.proofs.Sameness.{avoids_left}
 
 lets_left : (m : Mode) {x x' : Shape} {e : TermEvent} (f : TermEvent) → Takes x e x' → Lets m f x → Lets m f x'
-lets_left row f h l = avoids_left (instances_of f) h l
-lets_left aside f h l = tt
+lets_left seq f h l = avoids_left (instances_of f) h l
+lets_left par f h l = tt
 
 abbrev Meets : Shape → TermEvent → Shape → TermEvent → Type 0
 Meets t f u e = (t ≡ u) ⊎ ((v : Shape) × Takes t f v × Takes u e v)

@@ -5,7 +5,7 @@ use Rattle.std.proofs.lemmas.List.{get_or-map}
 use Rattle.std.specs.Ordering.{nat_cmp, ordering_then, ordering_index}
 use Rattle.std.specs.declared.cmp.Ordering.{Ordering}
 use Rattle.std.specs.declared.cmp.Ordering.TheVariants.{Less, Equal, Greater}
-use Rattle.msc_base.specs.Blocks.{set_cmp}
+use Rattle.bit_sets.specs.Blocks.{set_cmp}
 use Rattle.msc_base.specs.declared.label.Pair.{Pair}
 use Rattle.chart_term.specs.Order.{pair_cmp, pairs_cmp, part_cmp, tree_cmp, trees_cmp, row_cmp}
 use Rattle.chart_term.specs.OrderLaws.{tree_equal, tree_itself}

@@ -2,10 +2,10 @@
 use Rattle.std.specs.Prelude.{ℕ, Bool, true, false, List, [], ◌∷◌, ◌≡◌, Option, Some, None, ◌&&◌, ◌==◌, refl}
 use Rattle.std.proofs.Common.{ap, arith}
 use Rattle.std.proofs.lemmas.Bool.Decides.{nat_tests}
-use Rattle.msc_base.specs.Patterns.{Mode, row, aside}
+use Rattle.msc_base.specs.Patterns.{Mode, seq, par}
 use Rattle.hmsc_graph.specs.Graphs.{Spot, Start, At, Goal, To, End, Any}
 use Rattle.chart_term.specs.Equality.{same_maybe, same_event, same_mode, same_spot, same_goal, same_numbers, same_pairs, same_tree, same_trees, same_row, SameTreeIsExact}
-use Rattle.chart_term.specs.Terms.{TermEvent, Tree, Nil, Event, Join, Choice, Bound, Turns, Trail, Trees, none, more, Row, ends, gap, turn}
+use Rattle.chart_term.specs.Terms.{TermEvent, Tree, Nil, Event, Join, Choice, Tied, Loop, Walk, Trees, none, more, Row, ends, gap, turn}
 
 and_both : (a b : Bool) → (a && b) ≡ true → (a ≡ true) × (b ≡ true)
 and_both true b h = (refl, h)
@@ -21,10 +21,10 @@ maybe_is None (Some n) h = cc
 maybe_is (Some m) None h = cc
 
 mode_is : (a b : Mode) → same_mode a b ≡ true → a ≡ b
-mode_is row row h = refl
-mode_is aside aside h = refl
-mode_is row aside h = cc
-mode_is aside row h = cc
+mode_is seq seq h = refl
+mode_is par par h = refl
+mode_is seq par h = cc
+mode_is par seq h = cc
 
 spot_is : (a b : Spot) → same_spot a b ≡ true → a ≡ b
 spot_is Start Start h = refl
@@ -72,17 +72,17 @@ mutual
   tree_is (Event e) (Event f) h = ap Event (event_is e f h)
   tree_is (Join m xs) (Join n ys) h = let (p, q) = and_both (same_mode m n) (same_trees xs ys) h in λ i. Join (mode_is m n p i) (trees_are xs ys q i)
   tree_is (Choice xs) (Choice ys) h = ap Choice (trees_are xs ys h)
-  tree_is (Bound x q) (Bound y r) h = let (a, b) = and_both (same_tree x y) (same_pairs q r) h in λ i. Bound (tree_is x y a i) (pairs_are q r b i)
-  tree_is (Turns x lo hi r) (Turns y low high s) h =
+  tree_is (Tied x q) (Tied y r) h = let (a, b) = and_both (same_tree x y) (same_pairs q r) h in λ i. Tied (tree_is x y a i) (pairs_are q r b i)
+  tree_is (Loop x lo hi r) (Loop y low high s) h =
       let (a, b) = and_both (same_tree x y && (lo == low)) (same_maybe hi high && same_row r s) h in
       let (u, v) = and_both (same_tree x y) (lo == low) a in
       let (p, q) = and_both (same_maybe hi high) (same_row r s) b in
-      λ i. Turns (tree_is x y u i) (number_is lo low v i) (maybe_is hi high p i) (row_is r s q i)
-  tree_is (Trail n f t c) (Trail m g u d) h =
+      λ i. Loop (tree_is x y u i) (number_is lo low v i) (maybe_is hi high p i) (row_is r s q i)
+  tree_is (Walk n f t c) (Walk m g u d) h =
       let (a, b) = and_both ((n == m) && same_spot f g) (same_goal t u && same_numbers c d) h in
       let (x, y) = and_both (n == m) (same_spot f g) a in
       let (p, q) = and_both (same_goal t u) (same_numbers c d) b in
-      λ i. Trail (number_is n m x i) (spot_is f g y i) (goal_is t u p i) (numbers_are c d q i)
+      λ i. Walk (number_is n m x i) (spot_is f g y i) (goal_is t u p i) (numbers_are c d q i)
   tree_is x y h = cc
 
   trees_are : (xs ys : Trees) → same_trees xs ys ≡ true → xs ≡ ys
@@ -109,8 +109,8 @@ maybe_self None = refl
 maybe_self (Some n) = number_self n
 
 mode_self : (m : Mode) → same_mode m m ≡ true
-mode_self row = refl
-mode_self aside = refl
+mode_self seq = refl
+mode_self par = refl
 
 spot_self : (a : Spot) → same_spot a a ≡ true
 spot_self Start = refl
@@ -140,10 +140,10 @@ mutual
   tree_self (Event e) = event_self e
   tree_self (Join m xs) = and_is (same_mode m m) (same_trees xs xs) (mode_self m) (trees_self xs)
   tree_self (Choice xs) = trees_self xs
-  tree_self (Bound x q) = and_is (same_tree x x) (same_pairs q q) (tree_self x) (pairs_self q)
-  tree_self (Turns x lo hi r) =
+  tree_self (Tied x q) = and_is (same_tree x x) (same_pairs q q) (tree_self x) (pairs_self q)
+  tree_self (Loop x lo hi r) =
       and_is (same_tree x x && (lo == lo)) (same_maybe hi hi && same_row r r) (and_is (same_tree x x) (lo == lo) (tree_self x) (number_self lo)) (and_is (same_maybe hi hi) (same_row r r) (maybe_self hi) (row_self r))
-  tree_self (Trail n f t c) =
+  tree_self (Walk n f t c) =
       and_is ((n == n) && same_spot f f) (same_goal t t && same_numbers c c) (and_is (n == n) (same_spot f f) (number_self n) (spot_self f)) (and_is (same_goal t t) (same_numbers c c) (goal_self t) (numbers_self c))
 
   trees_self : (xs : Trees) → same_trees xs xs ≡ true

@@ -6,12 +6,12 @@ use Rattle.chart_term.specs.declared.term.RowPart.{RowPart}
 use Rattle.chart_term.specs.declared.term.RowPart.TheVariants as part
 use Rattle.chart_term.specs.Rows.{part_of, parts_of}
 use Rattle.std.proofs.lemmas.List.Folds.{list_any-append}
-use Rattle.msc_base.specs.Blocks.{BlockValue, share}
+use Rattle.bit_sets.specs.Blocks.{BlockValue, share}
 use Rattle.chart_term.specs.declared.facts.Facts.{Facts}
 use Rattle.chart_term.specs.declared.facts.Span.{Span}
 use Rattle.chart_term.specs.NormalForms.{numbers, numbers_all, numbers_row}
-use Rattle.chart_term.specs.Facts.{AreFacts, Adds, HasFacts, HaveFacts, RowHasFacts, has_trail, any_trail, row_trail, instances, instances_all, instances_row, misses, facts_miss, span_of, lies_in, most_stored, wider}
-use Rattle.chart_term.specs.Terms.{Tree, Turns, Row, trees, weight, weights, row_weight, Part, Gap, Turn, row_of, has}
+use Rattle.chart_term.specs.Facts.{AreFacts, Adds, HasFacts, HaveFacts, RowHasFacts, holds_walk, any_walk, row_walk, instances, instances_all, instances_row, misses, facts_miss, span_of, lies_in, most_stored, wider}
+use Rattle.chart_term.specs.Terms.{Tree, Loop, Row, trees, weight, weights, row_weight, Part, Gap, Turn, row_of, has}
 use Rattle.chart_term.proofs.Flattening.{taken_next}
 use Rattle.chart_term.proofs.Members.{facts_added, span_of-append}
 
@@ -27,9 +27,9 @@ weights-snoc : (xs : List Tree) (x : Tree) → weights (trees xs) + weight x ≡
 weights-snoc [] x = omega arith
 weights-snoc (y ∷ ys) x = omega (arith, weights-snoc ys x)
 
-trail-snoc : (xs : List Tree) (x : Tree) → (any_trail (trees xs) || has_trail x) ≡ any_trail (trees (xs ++ x ∷ []))
-trail-snoc [] x = sym (or_none (has_trail x))
-trail-snoc (y ∷ ys) x = sym (or_last (has_trail y) (any_trail (trees ys)) (has_trail x)) ∙ ap (λ b. has_trail y || b) (trail-snoc ys x)
+trail-snoc : (xs : List Tree) (x : Tree) → (any_walk (trees xs) || holds_walk x) ≡ any_walk (trees (xs ++ x ∷ []))
+trail-snoc [] x = sym (or_none (holds_walk x))
+trail-snoc (y ∷ ys) x = sym (or_last (holds_walk y) (any_walk (trees ys)) (holds_walk x)) ∙ ap (λ b. holds_walk y || b) (trail-snoc ys x)
 
 instances-snoc : (xs : List Tree) (x : Tree) → instances_all (trees xs) ++ instances x ≡ instances_all (trees (xs ++ x ∷ []))
 instances-snoc [] x = sym (append-nil (instances x))
@@ -51,9 +51,9 @@ moved v w a b ps qs ms ns f p q r s facts = record {
 -- one more term
 pub have_facts-snoc : (xs : List Tree) (x : Tree) (f g h : Facts) → HaveFacts (trees xs) f → HasFacts x g → Adds f g h → HaveFacts (trees (xs ++ x ∷ [])) h
 have_facts-snoc xs x f g h p q s =
-    moved (weights (trees xs) + weight x) (weights (trees (xs ++ x ∷ []))) (any_trail (trees xs) || has_trail x) (any_trail (trees (xs ++ x ∷ []))) (instances_all (trees xs) ++ instances x) (instances_all (trees (xs ++ x ∷ []))) (numbers_all (trees xs) ++ numbers x) (numbers_all (trees (xs ++ x ∷ []))) h
+    moved (weights (trees xs) + weight x) (weights (trees (xs ++ x ∷ []))) (any_walk (trees xs) || holds_walk x) (any_walk (trees (xs ++ x ∷ []))) (instances_all (trees xs) ++ instances x) (instances_all (trees (xs ++ x ∷ []))) (numbers_all (trees xs) ++ numbers x) (numbers_all (trees (xs ++ x ∷ []))) h
     (weights-snoc xs x) (trail-snoc xs x) (instances-snoc xs x) (numbers-snoc xs x)
-    (facts_added (weights (trees xs)) (weight x) (any_trail (trees xs)) (has_trail x) (instances_all (trees xs)) (instances x) (numbers_all (trees xs)) (numbers x) f g h p q s)
+    (facts_added (weights (trees xs)) (weight x) (any_walk (trees xs)) (holds_walk x) (instances_all (trees xs)) (instances x) (numbers_all (trees xs)) (numbers x) f g h p q s)
 
 -- one more begun turn
 row_weight-turn : (ps : List Part) (x : Tree) → row_weight (row_of ps) + weight x ≡ row_weight (row_of (ps ++ Turn x ∷ []))
@@ -61,10 +61,10 @@ row_weight-turn [] x = omega arith
 row_weight-turn (Gap c ∷ ps) x = omega (arith, row_weight-turn ps x)
 row_weight-turn (Turn y ∷ ps) x = omega (arith, row_weight-turn ps x)
 
-row_trail-turn : (ps : List Part) (x : Tree) → (row_trail (row_of ps) || has_trail x) ≡ row_trail (row_of (ps ++ Turn x ∷ []))
-row_trail-turn [] x = sym (or_none (has_trail x))
-row_trail-turn (Gap c ∷ ps) x = row_trail-turn ps x
-row_trail-turn (Turn y ∷ ps) x = sym (or_last (has_trail y) (row_trail (row_of ps)) (has_trail x)) ∙ ap (λ b. has_trail y || b) (row_trail-turn ps x)
+row_walk-turn : (ps : List Part) (x : Tree) → (row_walk (row_of ps) || holds_walk x) ≡ row_walk (row_of (ps ++ Turn x ∷ []))
+row_walk-turn [] x = sym (or_none (holds_walk x))
+row_walk-turn (Gap c ∷ ps) x = row_walk-turn ps x
+row_walk-turn (Turn y ∷ ps) x = sym (or_last (holds_walk y) (row_walk (row_of ps)) (holds_walk x)) ∙ ap (λ b. holds_walk y || b) (row_walk-turn ps x)
 
 row_instances-turn : (ps : List Part) (x : Tree) → instances_row (row_of ps) ++ instances x ≡ instances_row (row_of (ps ++ Turn x ∷ []))
 row_instances-turn [] x = sym (append-nil (instances x))
@@ -78,9 +78,9 @@ row_numbers-turn (Turn y ∷ ps) x = append_assoc (numbers y) (numbers_row (row_
 
 pub row_facts-turn : (ps : List Part) (x : Tree) (f g h : Facts) → RowHasFacts (row_of ps) f → HasFacts x g → Adds f g h → RowHasFacts (row_of (ps ++ Turn x ∷ [])) h
 row_facts-turn ps x f g h p q s =
-    moved (row_weight (row_of ps) + weight x) (row_weight (row_of (ps ++ Turn x ∷ []))) (row_trail (row_of ps) || has_trail x) (row_trail (row_of (ps ++ Turn x ∷ []))) (instances_row (row_of ps) ++ instances x) (instances_row (row_of (ps ++ Turn x ∷ []))) (numbers_row (row_of ps) ++ numbers x) (numbers_row (row_of (ps ++ Turn x ∷ []))) h
-    (row_weight-turn ps x) (row_trail-turn ps x) (row_instances-turn ps x) (row_numbers-turn ps x)
-    (facts_added (row_weight (row_of ps)) (weight x) (row_trail (row_of ps)) (has_trail x) (instances_row (row_of ps)) (instances x) (numbers_row (row_of ps)) (numbers x) f g h p q s)
+    moved (row_weight (row_of ps) + weight x) (row_weight (row_of (ps ++ Turn x ∷ []))) (row_walk (row_of ps) || holds_walk x) (row_walk (row_of (ps ++ Turn x ∷ []))) (instances_row (row_of ps) ++ instances x) (instances_row (row_of (ps ++ Turn x ∷ []))) (numbers_row (row_of ps) ++ numbers x) (numbers_row (row_of (ps ++ Turn x ∷ []))) h
+    (row_weight-turn ps x) (row_walk-turn ps x) (row_instances-turn ps x) (row_numbers-turn ps x)
+    (facts_added (row_weight (row_of ps)) (weight x) (row_walk (row_of ps)) (holds_walk x) (instances_row (row_of ps)) (instances x) (numbers_row (row_of ps)) (numbers x) f g h p q s)
 
 -- one more gap
 row_weight-gap : (ps : List Part) (c : List ℕ) → row_weight (row_of ps) + 1 ≡ row_weight (row_of (ps ++ Gap c ∷ []))
@@ -88,10 +88,10 @@ row_weight-gap [] c = omega arith
 row_weight-gap (Gap d ∷ ps) c = omega (arith, row_weight-gap ps c)
 row_weight-gap (Turn y ∷ ps) c = omega (arith, row_weight-gap ps c)
 
-row_trail-gap : (ps : List Part) (c : List ℕ) → row_trail (row_of ps) ≡ row_trail (row_of (ps ++ Gap c ∷ []))
-row_trail-gap [] c = refl
-row_trail-gap (Gap d ∷ ps) c = row_trail-gap ps c
-row_trail-gap (Turn y ∷ ps) c = ap (λ b. has_trail y || b) (row_trail-gap ps c)
+row_walk-gap : (ps : List Part) (c : List ℕ) → row_walk (row_of ps) ≡ row_walk (row_of (ps ++ Gap c ∷ []))
+row_walk-gap [] c = refl
+row_walk-gap (Gap d ∷ ps) c = row_walk-gap ps c
+row_walk-gap (Turn y ∷ ps) c = ap (λ b. holds_walk y || b) (row_walk-gap ps c)
 
 row_instances-gap : (ps : List Part) (c : List ℕ) → instances_row (row_of ps) ≡ instances_row (row_of (ps ++ Gap c ∷ []))
 row_instances-gap [] c = refl
@@ -106,7 +106,7 @@ row_numbers-gap (Turn y ∷ ps) c = ap (λ l. numbers y ++ l) (row_numbers-gap p
 pub row_facts-gap : (ps : List Part) (c : List ℕ) (f h : Facts) → RowHasFacts (row_of ps) f → h ≡ record f { weight = min (f.weight + 1) most_stored } → RowHasFacts (row_of (ps ++ Gap c ∷ [])) h
 row_facts-gap ps c f h p e = subst (RowHasFacts (row_of (ps ++ Gap c ∷ []))) (sym e) (record {
   weight = omega (arith, p.weight, row_weight-gap ps c);
-  trail = p.trail ∙ row_trail-gap ps c;
+  trail = p.trail ∙ row_walk-gap ps c;
   instances = λ n. p.instances n ∙ ap (λ l. has l n) (row_instances-gap ps c);
   span = p.span ∙ ap span_of (row_numbers-gap ps c);
 })
@@ -127,10 +127,10 @@ lies_in_none : (ns : List ℕ) → list_any (lies_in None) ns ≡ false
 lies_in_none [] = refl
 lies_in_none (n ∷ ns) = lies_in_none ns
 
-pub miss_none : (b : BlockValue) (f : Facts) → f.has_trail ≡ false → share b.instances f.instances.instances ≡ false → f.span ≡ None → true ≡ facts_miss b f
+pub miss_none : (b : BlockValue) (f : Facts) → f.holds_walk ≡ false → share b.instances f.instances.instances ≡ false → f.span ≡ None → true ≡ facts_miss b f
 miss_none b f p q r = sym (ap₂ (λ m n. m && n) (ap₂ (λ m n. not m && not n) p q) (ap (λ s. not (list_any (lies_in s) b.events)) r ∙ ap not (lies_in_none b.events)))
 
-pub miss_some : (b : BlockValue) (f : Facts) (s : Span) (any : Bool) → f.has_trail ≡ false → share b.instances f.instances.instances ≡ false → f.span ≡ Some s → any ≡ list_any (lies_in (Some s)) b.events → not any ≡ facts_miss b f
+pub miss_some : (b : BlockValue) (f : Facts) (s : Span) (any : Bool) → f.holds_walk ≡ false → share b.instances f.instances.instances ≡ false → f.span ≡ Some s → any ≡ list_any (lies_in (Some s)) b.events → not any ≡ facts_miss b f
 miss_some b f s any p q r e = sym (ap₂ (λ m n. m && n) (ap₂ (λ m n. not m && not n) p q) (ap (λ s. not (list_any (lies_in s) b.events)) r ∙ ap not (sym e)))
 
 or_turned : (a b : Bool) → (a || b) ≡ (b || a)
@@ -152,12 +152,12 @@ wider_turned (Some r) (Some s) = λ i. Some (record { least = least_turned i; gr
     greatest_turned = omega arith
 
 -- the facts of a loop, from those of its row and its operand
-pub loop_facts : (x : Tree) (lo : ℕ) (hi : Option ℕ) (r : Row) (f g h k : Facts) → RowHasFacts r f → HasFacts x g → Adds f g h → k ≡ record h { weight = min (h.weight + 1) most_stored } → HasFacts (Turns x lo hi r) k
+pub loop_facts : (x : Tree) (lo : ℕ) (hi : Option ℕ) (r : Row) (f g h k : Facts) → RowHasFacts r f → HasFacts x g → Adds f g h → k ≡ record h { weight = min (h.weight + 1) most_stored } → HasFacts (Loop x lo hi r) k
 loop_facts x lo hi r f g h k p q s e =
-    let both : AreFacts (row_weight r + weight x) (row_trail r || has_trail x) (instances_row r ++ instances x) (numbers_row r ++ numbers x) h = facts_added (row_weight r) (weight x) (row_trail r) (has_trail x) (instances_row r) (instances x) (numbers_row r) (numbers x) f g h p q s in
-    subst (HasFacts (Turns x lo hi r)) (sym e) (record {
+    let both : AreFacts (row_weight r + weight x) (row_walk r || holds_walk x) (instances_row r ++ instances x) (numbers_row r ++ numbers x) h = facts_added (row_weight r) (weight x) (row_walk r) (holds_walk x) (instances_row r) (instances x) (numbers_row r) (numbers x) f g h p q s in
+    subst (HasFacts (Loop x lo hi r)) (sym e) (record {
       weight = omega (arith, both.weight);
-      trail = both.trail ∙ or_turned (row_trail r) (has_trail x);
+      trail = both.trail ∙ or_turned (row_walk r) (holds_walk x);
       instances = λ n. both.instances n ∙ list_any-append (λ m. nat_eq m n) (instances_row r) (instances x) ∙ or_turned (has (instances_row r) n) (has (instances x) n) ∙ sym (list_any-append (λ m. nat_eq m n) (instances x) (instances_row r));
       span = both.span ∙ span_of-append (numbers_row r) (numbers x) ∙ wider_turned (span_of (numbers_row r)) (span_of (numbers x)) ∙ sym (span_of-append (numbers x) (numbers_row r));
     })

@@ -1,10 +1,10 @@
 -- A join in normal form has the patterns of its parts.
 use Rattle.std.specs.Prelude.{Bool, List, [], ◌∷◌, ◌++◌, ◌⊎◌, true, false, ◌≡◌, refl}
-use Rattle.msc_base.specs.Patterns.{Mode, row, aside, empty, join}
+use Rattle.msc_base.specs.Patterns.{Mode, seq, par, empty, join}
 use Rattle.chart_term.specs.NormalForms.{open_part, flat, join_of, join_all, choice_of, unless_same, without, distinct, open_choice, open_choices, choice_form}
 use Rattle.chart_term.specs.TermMeanings.{NetTerms, HasPattern, has_nil, has_join, has_choice, HasParts, no_part, one_part, HasChoice, this_one, that_one, PatternSet, ◌⊑◌, PatternsOf}
 use Rattle.chart_term.specs.TermPatterns.{Shape, ◌≈◌, same, back, on, in_join, assoc, left, right}
-use Rattle.chart_term.specs.Terms.{Tree, Nil, Event, Join, Choice, Bound, Turns, Trail, items}
+use Rattle.chart_term.specs.Terms.{Tree, Nil, Event, Join, Choice, Tied, Loop, Walk, items}
 use Rattle.chart_term.proofs.Lists.{items-trees}
 use Rattle.chart_term.specs.Equality.{same_tree}
 use Rattle.chart_term.proofs.Equal.{tree_is}
@@ -36,30 +36,30 @@ module _ (w : NetTerms) (o : Bool) where
 
   open_to : (m : Mode) (x : Tree) → HasParts w o m (open_part m x) ⊑ HasPattern w o x
   open_to m Nil = nil_to m
-  open_to row (Join row xs) = λ s h. (s, has_join h, same)
-  open_to row (Join aside xs) = alone_to row (Join aside xs)
-  open_to aside (Join row xs) = alone_to aside (Join row xs)
-  open_to aside (Join aside xs) = λ s h. (s, has_join h, same)
+  open_to seq (Join seq xs) = λ s h. (s, has_join h, same)
+  open_to seq (Join par xs) = alone_to seq (Join par xs)
+  open_to par (Join seq xs) = alone_to par (Join seq xs)
+  open_to par (Join par xs) = λ s h. (s, has_join h, same)
   open_to m (Event e) = alone_to m (Event e)
   open_to m (Choice xs) = alone_to m (Choice xs)
-  open_to m (Bound x q) = alone_to m (Bound x q)
-  open_to m (Turns x lo hi r) = alone_to m (Turns x lo hi r)
-  open_to m (Trail n f t c) = alone_to m (Trail n f t c)
+  open_to m (Tied x q) = alone_to m (Tied x q)
+  open_to m (Loop x lo hi r) = alone_to m (Loop x lo hi r)
+  open_to m (Walk n f t c) = alone_to m (Walk n f t c)
 
   join_from_parts : {m : Mode} {xs : _} (s : Shape) → HasPattern w o (Join m xs) s → (t : Shape) × HasParts w o m (items xs) t × (s ≈ t)
   join_from_parts s (has_join h) = (s, h, same)
 
   open_from : (m : Mode) (x : Tree) → HasPattern w o x ⊑ HasParts w o m (open_part m x)
   open_from m Nil = nil_from m
-  open_from row (Join row xs) = join_from_parts
-  open_from row (Join aside xs) = alone_from row (Join aside xs)
-  open_from aside (Join row xs) = alone_from aside (Join row xs)
-  open_from aside (Join aside xs) = join_from_parts
+  open_from seq (Join seq xs) = join_from_parts
+  open_from seq (Join par xs) = alone_from seq (Join par xs)
+  open_from par (Join seq xs) = alone_from par (Join seq xs)
+  open_from par (Join par xs) = join_from_parts
   open_from m (Event e) = alone_from m (Event e)
   open_from m (Choice xs) = alone_from m (Choice xs)
-  open_from m (Bound x q) = alone_from m (Bound x q)
-  open_from m (Turns x lo hi r) = alone_from m (Turns x lo hi r)
-  open_from m (Trail n f t c) = alone_from m (Trail n f t c)
+  open_from m (Tied x q) = alone_from m (Tied x q)
+  open_from m (Loop x lo hi r) = alone_from m (Loop x lo hi r)
+  open_from m (Walk n f t c) = alone_from m (Walk n f t c)
 
   flat_to : (m : Mode) (xs : List Tree) → HasParts w o m (flat m xs) ⊑ HasParts w o m xs
   flat_to m [] s h = (s, h, same)
@@ -164,18 +164,18 @@ module _ (w : NetTerms) (o : Bool) where
   opened_to Nil s h = lone_to Nil s h
   opened_to (Event e) s h = lone_to (Event e) s h
   opened_to (Join m xs) s h = lone_to (Join m xs) s h
-  opened_to (Bound x q) s h = lone_to (Bound x q) s h
-  opened_to (Turns x lo hi r) s h = lone_to (Turns x lo hi r) s h
-  opened_to (Trail n f t c) s h = lone_to (Trail n f t c) s h
+  opened_to (Tied x q) s h = lone_to (Tied x q) s h
+  opened_to (Loop x lo hi r) s h = lone_to (Loop x lo hi r) s h
+  opened_to (Walk n f t c) s h = lone_to (Walk n f t c) s h
 
   opened_from : (x : Tree) (s : Shape) → HasPattern w o x s → HasChoice w o (open_choice x) s
   opened_from (Choice xs) s (has_choice h) = h
   opened_from Nil s h = this_one h
   opened_from (Event e) s h = this_one h
   opened_from (Join m xs) s h = this_one h
-  opened_from (Bound x q) s h = this_one h
-  opened_from (Turns x lo hi r) s h = this_one h
-  opened_from (Trail n f t c) s h = this_one h
+  opened_from (Tied x q) s h = this_one h
+  opened_from (Loop x lo hi r) s h = this_one h
+  opened_from (Walk n f t c) s h = this_one h
 
   choices_to : (xs : List Tree) (s : Shape) → HasChoice w o (open_choices xs) s → HasChoice w o xs s
   choices_to [] s h = h

@@ -1,11 +1,11 @@
 -- A loop in normal form has the patterns of its row.
 use Rattle.std.specs.Prelude.{ℕ, zero, suc, ◌+◌, ◌-◌, ◌≤◌, Bool, true, false, List, [], ◌∷◌, ◌≡◌, Option, Some, None, ◌||◌, refl}
 use Rattle.std.proofs.Common.{arith, zero-add, suc-add}
-use Rattle.msc_base.specs.Patterns.{row, empty}
-use Rattle.chart_term.specs.NormalForms.{only, cut, cut_gaps, put_turn, drop_nil, only_turns, at_zero, live_gap, live, is_nil, has_free, free_gap, drop_free, lower_of, thin_gap, thin, has_gap, begun, no_gap, turns_form, tidy, turns_of}
-use Rattle.chart_term.specs.TermMeanings.{NetTerms, UpTo, HasPattern, has_nil, has_turns, HasParts, no_part, one_part, HasRow, gaps_end, gaps_turn, gaps_shut, gaps_more, PatternSet, ◌⊑◌, Avoiding, PatternsOf, Leaves}
+use Rattle.msc_base.specs.Patterns.{seq, empty}
+use Rattle.chart_term.specs.NormalForms.{only, cut, cut_gaps, put_turn, drop_nil, only_turns, at_zero, live_gap, live, is_nil, has_free, free_gap, drop_free, lower_of, thin_gap, thin, has_gap, begun, no_gap, turns_form, tidy, loop_of}
+use Rattle.chart_term.specs.TermMeanings.{NetTerms, UpTo, HasPattern, has_nil, holds_loop, HasParts, no_part, one_part, HasRow, gaps_end, gaps_turn, gaps_shut, gaps_more, PatternSet, ◌⊑◌, Avoiding, PatternsOf, Leaves}
 use Rattle.chart_term.specs.TermPatterns.{Shape, Avoids, ◌≈◌, same, back, on, in_join, left}
-use Rattle.chart_term.specs.Terms.{Tree, Nil, Event, Join, Choice, Bound, Turns, Trail, Part, Gap, Turn}
+use Rattle.chart_term.specs.Terms.{Tree, Nil, Event, Join, Choice, Tied, Loop, Walk, Part, Gap, Turn}
 use Rattle.chart_term.proofs.Joining.{trans, join_to, join_from}
 use Rattle.chart_term.proofs.Lists.{parts-row_of}
 use Rattle.chart_term.specs.Properties.{EachGap}
@@ -16,9 +16,9 @@ nil_is (Some Nil) h = refl
 nil_is (Some (Event e)) h = cc
 nil_is (Some (Join m xs)) h = cc
 nil_is (Some (Choice xs)) h = cc
-nil_is (Some (Bound x q)) h = cc
-nil_is (Some (Turns x lo hi r)) h = cc
-nil_is (Some (Trail n s t c)) h = cc
+nil_is (Some (Tied x q)) h = cc
+nil_is (Some (Loop x lo hi r)) h = cc
+nil_is (Some (Walk n s t c)) h = cc
 
 -- the first has some of the gaps of the second, in their order
 pub data IsSubRow : List Part → List Part → Type 0 where
@@ -33,9 +33,9 @@ sub_put Nil h = sub_over h
 sub_put (Event e) h = sub_turn h
 sub_put (Join m xs) h = sub_turn h
 sub_put (Choice xs) h = sub_turn h
-sub_put (Bound x q) h = sub_turn h
-sub_put (Turns x lo hi r) h = sub_turn h
-sub_put (Trail n s t c) h = sub_turn h
+sub_put (Tied x q) h = sub_turn h
+sub_put (Loop x lo hi r) h = sub_turn h
+sub_put (Walk n s t c) h = sub_turn h
 
 pub sub_nil : (ps : List Part) → IsSubRow (drop_nil ps) ps
 sub_nil [] = sub_end
@@ -130,18 +130,18 @@ module _ (w : NetTerms) (o : Bool) (x : Tree) where
   put_to (Event e) ps qs f = at_turn (Event e) ps qs f
   put_to (Join m xs) ps qs f = at_turn (Join m xs) ps qs f
   put_to (Choice xs) ps qs f = at_turn (Choice xs) ps qs f
-  put_to (Bound y q) ps qs f = at_turn (Bound y q) ps qs f
-  put_to (Turns y lo hi r) ps qs f = at_turn (Turns y lo hi r) ps qs f
-  put_to (Trail n g t c) ps qs f = at_turn (Trail n g t c) ps qs f
+  put_to (Tied y q) ps qs f = at_turn (Tied y q) ps qs f
+  put_to (Loop y lo hi r) ps qs f = at_turn (Loop y lo hi r) ps qs f
+  put_to (Walk n g t c) ps qs f = at_turn (Walk n g t c) ps qs f
 
   put_from : (y : Tree) (ps qs : List Part) → Steps ps qs → Steps (Turn y ∷ ps) (put_turn y qs)
   put_from Nil ps qs f = over_from ps qs f
   put_from (Event e) ps qs f = at_turn (Event e) ps qs f
   put_from (Join m xs) ps qs f = at_turn (Join m xs) ps qs f
   put_from (Choice xs) ps qs f = at_turn (Choice xs) ps qs f
-  put_from (Bound y q) ps qs f = at_turn (Bound y q) ps qs f
-  put_from (Turns y lo hi r) ps qs f = at_turn (Turns y lo hi r) ps qs f
-  put_from (Trail n g t c) ps qs f = at_turn (Trail n g t c) ps qs f
+  put_from (Tied y q) ps qs f = at_turn (Tied y q) ps qs f
+  put_from (Loop y lo hi r) ps qs f = at_turn (Loop y lo hi r) ps qs f
+  put_from (Walk n g t c) ps qs f = at_turn (Walk n g t c) ps qs f
 
   nil_drop_to : (ps : List Part) → Steps (drop_nil ps) ps
   nil_drop_to [] = stay []
@@ -335,13 +335,13 @@ module _ (w : NetTerms) (o : Bool) (x : Tree) where
   thin_from (Turn y ∷ ps) e = at_turn y ps (thin ps) (thin_from ps e)
 
   -- a row without a gap
-  begun_from : (ps : List Part) → has_gap ps ≡ false → (n : ℕ) (s : Shape) → Rows ps n s → (n ≡ zero) × HasParts w o row (begun ps) s
+  begun_from : (ps : List Part) → has_gap ps ≡ false → (n : ℕ) (s : Shape) → Rows ps n s → (n ≡ zero) × HasParts w o seq (begun ps) s
   begun_from [] h zero s gaps_end = (refl, no_part)
   begun_from [] h (suc n) s r = elim r [ ]
   begun_from (Gap c ∷ ps) h n s r = cc
   begun_from (Turn y ∷ ps) h n s (gaps_turn a r) = let k = begun_from ps h n _ r in (k.0, one_part a k.1)
 
-  begun_to : (ps : List Part) → has_gap ps ≡ false → (s : Shape) → HasParts w o row (begun ps) s → Rows ps zero s
+  begun_to : (ps : List Part) → has_gap ps ≡ false → (s : Shape) → HasParts w o seq (begun ps) s → Rows ps zero s
   begun_to [] h s no_part = gaps_end
   begun_to (Gap c ∷ ps) h s r = cc
   begun_to (Turn y ∷ ps) h s (one_part a r) = gaps_turn a (begun_to ps h _ r)
@@ -372,20 +372,20 @@ module _ (w : NetTerms) (o : Bool) (x : Tree) where
 
   -- what is left of the row
   end_to : (lo : ℕ) (hi : Option ℕ) (rs : List Part) (t : Bool) → has_gap rs ≡ t → PatternsOf w o (turns_form t x lo hi rs) ⊑ Spread lo hi rs
-  end_to lo hi rs true e s (has_turns n r l u) = (s, (n, rw (parts-row_of rs) at r, l, u), same)
-  end_to zero hi rs false e s a = let k = join_to w o row (begun rs) s a in (k.0, (zero, begun_to rs e k.0 k.1, omega arith, at_least hi), k.2)
+  end_to lo hi rs true e s (holds_loop n r l u) = (s, (n, rw (parts-row_of rs) at r, l, u), same)
+  end_to zero hi rs false e s a = let k = join_to w o seq (begun rs) s a in (k.0, (zero, begun_to rs e k.0 k.1, omega arith, at_least hi), k.2)
     where
       at_least : (hi : Option ℕ) → UpTo hi zero
       at_least None = tt
       at_least (Some m) = omega arith
   end_to (suc lo) hi rs false e s a = absurd a
 
-  no_gap_from : (lo : ℕ) (rs : List Part) (s : Shape) → lo ≤ zero → HasParts w o row (begun rs) s → (t : Shape) × PatternsOf w o (no_gap lo rs) t × (s ≈ t)
-  no_gap_from zero rs s l a = join_from w o row (begun rs) s a
+  no_gap_from : (lo : ℕ) (rs : List Part) (s : Shape) → lo ≤ zero → HasParts w o seq (begun rs) s → (t : Shape) × PatternsOf w o (no_gap lo rs) t × (s ≈ t)
+  no_gap_from zero rs s l a = join_from w o seq (begun rs) s a
   no_gap_from (suc lo) rs s l a = absurd (omega arith)
 
   end_from : (lo : ℕ) (hi : Option ℕ) (rs : List Part) (t : Bool) → has_gap rs ≡ t → Spread lo hi rs ⊑ PatternsOf w o (turns_form t x lo hi rs)
-  end_from lo hi rs true e s (n, r, l, u) = (s, has_turns n (rw (parts-row_of rs) r) l u, same)
+  end_from lo hi rs true e s (n, r, l, u) = (s, holds_loop n (rw (parts-row_of rs) r) l u, same)
   end_from lo hi rs false e s (n, r, l, u) = let k = begun_from rs e n s r in no_gap_from lo rs s (omega arith) k.1
 
   module _ (p : List ℕ → Option Tree) (holds : (c : List ℕ) → Leaves w o (only c) x (p c)) where
@@ -437,7 +437,7 @@ module _ (w : NetTerms) (o : Bool) (x : Tree) where
           let c = at_zero hi b in
           falls_sub {qs = c} (sub_live p c) (falls_sub {qs = b} (sub_zero hi b) (falls_sub {qs = a} (sub_nil a) (falls_cut all ease hard ps d)))
 
-      pub turns_to : (lo : ℕ) (hi : Option ℕ) (ps : List Part) → UpTo hi lo → PatternsOf w o (turns_of p all x lo hi ps) ⊑ Spread lo hi ps
+      pub turns_to : (lo : ℕ) (hi : Option ℕ) (ps : List Part) → UpTo hi lo → PatternsOf w o (loop_of p all x lo hi ps) ⊑ Spread lo hi ps
       turns_to lo hi ps h s a =
           let qs = tidy p all hi ps in
           let f = has_free p qs in
@@ -447,7 +447,7 @@ module _ (w : NetTerms) (o : Bool) (x : Tree) where
           let k = tidy_to hi ps j.1.0 j.0 j.1.1 in
           (k.0, (j.1.0, k.1, j.1.2, j.1.3), on i.2 (on j.2 k.2))
 
-      pub turns_from : (lo : ℕ) (hi : Option ℕ) (ps : List Part) → Falls ps → Spread lo hi ps ⊑ PatternsOf w o (turns_of p all x lo hi ps)
+      pub turns_from : (lo : ℕ) (hi : Option ℕ) (ps : List Part) → Falls ps → Spread lo hi ps ⊑ PatternsOf w o (loop_of p all x lo hi ps)
       turns_from lo hi ps d s (n, r, l, u) =
           let qs = tidy p all hi ps in
           let f = has_free p qs in

@@ -2,7 +2,7 @@
 use Rattle.std.proofs.Common.{◌≡◌, ℕ, ◌+◌, inl, inr, Bool, true, false, ◌||◌, nat_eq, List, [], ◌∷◌, ◌++◌, refl, ap, ap₂, sym, ◌∙◌, arith, min, max, Option, Some, None}
 use Rattle.std.proofs.lemmas.Bool.{eq-eqb, lt-ltb, le-ltb, ne_eqb, cases_order}
 use Rattle.std.proofs.lemmas.List.Folds.{list_any-append}
-use Rattle.msc_base.specs.Blocks.{insert_rising, insert_each}
+use Rattle.bit_sets.specs.Blocks.{insert_rising, insert_each}
 use Rattle.chart_term.specs.declared.facts.Facts.{Facts}
 use Rattle.chart_term.specs.declared.facts.Span.{Span}
 use Rattle.chart_term.specs.Facts.{AreFacts, Adds, wider, span_of}

@@ -1,7 +1,7 @@
 -- Positions of a pattern, and taking out a minimal one.
 use Rattle.std.specs.Prelude.{ℕ, Bool, true, false, List, ◌≡◌, refl}
 use Rattle.std.proofs.Common.{ap, sym, ◌∙◌, inl, inr}
-use Rattle.msc_base.specs.Patterns.{Mode, row, aside, Position, event_at, Crosses, empty, one, join, bind}
+use Rattle.msc_base.specs.Patterns.{Mode, seq, par, Position, event_at, Crosses, empty, one, join, bind}
 use Rattle.chart_term.specs.TermPatterns.{numbered, Shape, Avoids, Lets, instances_of, earlier, Takes, take_one, take_first, take_later, take_bind}
 use Rattle.chart_term.specs.Terms.{TermEvent, Block, hits}
 use Rattle.chart_term.proofs.Sameness.{hits_earlier}
@@ -28,12 +28,12 @@ at_avoids b (join m x y) h (inr p) i = at_avoids b y h.1 p i
 at_avoids b (bind x r) h p i = at_avoids b x h p i
 
 lets_at : (m : Mode) (e : TermEvent) (x : Shape) → ((p : Position x) → Crosses numbered m (event_at numbered x p) e → ⊥) → Lets m e x
-lets_at row e x h = avoids_at (instances_of e) x h
-lets_at aside e x h = tt
+lets_at seq e x h = avoids_at (instances_of e) x h
+lets_at par e x h = tt
 
 at_lets : (m : Mode) (e : TermEvent) (x : Shape) → Lets m e x → (p : Position x) → Crosses numbered m (event_at numbered x p) e → ⊥
-at_lets row e x h p i = at_avoids (instances_of e) x h p i
-at_lets aside e x h p i = i
+at_lets seq e x h p i = at_avoids (instances_of e) x h p i
+at_lets par e x h p i = i
 
 -- a minimal position can be taken
 pub minimal_taken : (s : Shape) (p : Position s) → IsMinimal s p → Takes s (event_at numbered s p) (taken_out s p)
@@ -57,11 +57,11 @@ taken_minimal (take_later {m = m} {x = x} {y = y} {e = e} l h) = let i = taken_m
     later : (m : Mode) (x y : Shape) (p : Position y) → Lets m (event_at numbered y p) x → IsMinimal y p → IsMinimal (join m x y) (inr p)
     later m x y p l f (inl q) h = at_lets m (event_at numbered y p) x l q h
     later m x y p l f (inr q) h = f q h
-taken_minimal (take_bind {x = x} {q = r} h a) = let i = taken_minimal h in (i.0, i.1, ap (λ z. bind z r) i.2, bound x r i.0 (rw (← i.1) at a) i.3)
+taken_minimal (take_bind {x = x} {q = r} h a) = let i = taken_minimal h in (i.0, i.1, ap (λ z. bind z r) i.2, tied x r i.0 (rw (← i.1) at a) i.3)
   where
-    bound : (x : Shape) (r : List (ℕ × ℕ)) (p : Position x) → Avoids (earlier r (event_at numbered x p)) x → IsMinimal x p → IsMinimal (bind x r) p
-    bound x r p a f q (inl h) = f q h
-    bound x r p a f q (inr h) = at_avoids (earlier r (event_at numbered x p)) x a q (hits_earlier r (event_at numbered x p) (event_at numbered x q) ∙ h)
+    tied : (x : Shape) (r : List (ℕ × ℕ)) (p : Position x) → Avoids (earlier r (event_at numbered x p)) x → IsMinimal x p → IsMinimal (bind x r) p
+    tied x r p a f q (inl h) = f q h
+    tied x r p a f q (inr h) = at_avoids (earlier r (event_at numbered x p)) x a q (hits_earlier r (event_at numbered x p) (event_at numbered x q) ∙ h)
 
 pub takes_at : TakesMinimal
 takes_at = record {

@@ -2,7 +2,7 @@
 use Rattle.std.specs.Prelude.{ℕ, Bool, true, false, List, [], ◌∷◌, ◌≡◌, Option, Some, None, ◌||◌, ◌&&◌, ◌==◌, refl}
 use Rattle.std.proofs.Common.{ap, sym, ◌∙◌, inl, inr, arith}
 use Rattle.std.proofs.lemmas.Bool.Decides.{nat_tests}
-use Rattle.msc_base.specs.Patterns.{Mode, row, aside, empty, one, join, bind}
+use Rattle.msc_base.specs.Patterns.{Mode, seq, par, empty, one, join, bind}
 use Rattle.chart_term.specs.TermPatterns.{Shape, Avoids, Lets, instances_of, put_if, before_in, earlier, Takes, take_one, take_first, take_later, take_bind, Occurs, pairs, Agree, ◌≈◌, same, back, on, in_join, in_bind, assoc, left, right, bind_none, bind_as, Both}
 use Rattle.chart_term.specs.Terms.{TermEvent, Block, hits, has, has_some}
 
@@ -19,24 +19,24 @@ avoids b bind_none = record { to = λ h. h; from = λ h. h }
 avoids b (bind_as a) = record { to = λ h. h; from = λ h. h }
 
 pub lets : {x y : Shape} (m : Mode) (e : TermEvent) → x ≈ y → Lets m e x → Lets m e y
-lets row e p h = (avoids (instances_of e) p).to h
-lets aside e p h = tt
+lets seq e p h = (avoids (instances_of e) p).to h
+lets par e p h = tt
 
 lets_empty : (m : Mode) (e : TermEvent) → Lets m e empty
-lets_empty row e = tt
-lets_empty aside e = tt
+lets_empty seq e = tt
+lets_empty par e = tt
 
 lets_both : (m : Mode) (e : TermEvent) (x y : Shape) → Lets m e x → Lets m e y → Lets m e (join m x y)
-lets_both row e x y h k = (h, k)
-lets_both aside e x y h k = tt
+lets_both seq e x y h k = (h, k)
+lets_both par e x y h k = tt
 
 lets_first : (m : Mode) (e : TermEvent) (x y : Shape) → Lets m e (join m x y) → Lets m e x
-lets_first row e x y h = h.0
-lets_first aside e x y h = tt
+lets_first seq e x y h = h.0
+lets_first par e x y h = tt
 
 lets_second : (m : Mode) (e : TermEvent) (x y : Shape) → Lets m e (join m x y) → Lets m e y
-lets_second row e x y h = h.1
-lets_second aside e x y h = tt
+lets_second seq e x y h = h.1
+lets_second par e x y h = tt
 
 -- the event that was taken occurs in the pattern
 pub taken_occurs : {x x' : Shape} {e : TermEvent} → Takes x e x' → Occurs e.number x

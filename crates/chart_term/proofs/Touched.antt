@@ -3,15 +3,15 @@ use Rattle.std.specs.Prelude.{slice_get, Some, ◌==◌}
 use Rattle.std.proofs.Common.{◌≡◌, ℕ, zero, suc, ◌+◌, ◌<◌, ◌≤◌, Bool, true, false, ◌||◌, nat_eq, List, [], ◌∷◌, ◌++◌, refl, ap, ap₂, subst, sym, ◌∙◌, arith, length, take, get_or, append_assoc, append-nil, inl, inr}
 use Rattle.std.proofs.lemmas.Bool.{eq-eqb, ne_eqb, cases_order}
 use Rattle.std.proofs.lemmas.List.Folds.{list_any-append}
-use Rattle.msc_base.specs.Blocks.{insert_each}
+use Rattle.bit_sets.specs.Blocks.{insert_each}
 use Rattle.chart_term.specs.declared.nets.StoredNet.{StoredNet}
 use Rattle.chart_term.specs.declared.term.RowPart.{RowPart}
-use Rattle.chart_term.specs.Facts.{has_trail, any_trail, row_trail, instances, instances_all, instances_row}
+use Rattle.chart_term.specs.Facts.{holds_walk, any_walk, row_walk, instances, instances_all, instances_row}
 use Rattle.chart_term.specs.NetTables.{spread_at, tables_of}
 use Rattle.chart_term.specs.Rows.{part_of, parts_of}
 use Rattle.chart_term.specs.Spreads.{IsUnion, touch, touch_all, touch_row, touch_part, touch_list, spread_of}
 use Rattle.chart_term.specs.Tables.{choose}
-use Rattle.chart_term.specs.Terms.{has, Tree, Nil, Event, Join, Choice, Bound, Turns, Trail, Trees, none, more, Row, ends, gap, turn, trees, Part, Gap, Turn, row_of}
+use Rattle.chart_term.specs.Terms.{has, Tree, Nil, Event, Join, Choice, Tied, Loop, Walk, Trees, none, more, Row, ends, gap, turn, trees, Part, Gap, Turn, row_of}
 use Rattle.chart_term.proofs.Flattening.{taken_next}
 use Rattle.chart_term.proofs.Gathering.{parts_next}
 use Rattle.chart_term.proofs.Members.{has-insert_each}
@@ -49,25 +49,25 @@ or_last false b h = h
 module _ (k : ℕ → List ℕ) where
   -- a term without walks touches its own instances alone
   mutual
-    pub touch-own : (x : Tree) → has_trail x ≡ false → instances x ≡ touch k x
+    pub touch-own : (x : Tree) → holds_walk x ≡ false → instances x ≡ touch k x
     touch-own Nil h = refl
     touch-own (Event e) h = refl
     touch-own (Join m xs) h = touch-own_all xs h
     touch-own (Choice xs) h = touch-own_all xs h
-    touch-own (Bound x q) h = touch-own x h
-    touch-own (Turns x lo hi r) h = λ i. touch-own x (or_first (has_trail x) (row_trail r) h) i ++ touch-own_row r (or_last (has_trail x) (row_trail r) h) i
-    touch-own (Trail n s t c) h = cc
+    touch-own (Tied x q) h = touch-own x h
+    touch-own (Loop x lo hi r) h = λ i. touch-own x (or_first (holds_walk x) (row_walk r) h) i ++ touch-own_row r (or_last (holds_walk x) (row_walk r) h) i
+    touch-own (Walk n s t c) h = cc
 
-    touch-own_all : (xs : Trees) → any_trail xs ≡ false → instances_all xs ≡ touch_all k xs
+    touch-own_all : (xs : Trees) → any_walk xs ≡ false → instances_all xs ≡ touch_all k xs
     touch-own_all none h = refl
-    touch-own_all (more x xs) h = λ i. touch-own x (or_first (has_trail x) (any_trail xs) h) i ++ touch-own_all xs (or_last (has_trail x) (any_trail xs) h) i
+    touch-own_all (more x xs) h = λ i. touch-own x (or_first (holds_walk x) (any_walk xs) h) i ++ touch-own_all xs (or_last (holds_walk x) (any_walk xs) h) i
 
-    touch-own_row : (r : Row) → row_trail r ≡ false → instances_row r ≡ touch_row k r
+    touch-own_row : (r : Row) → row_walk r ≡ false → instances_row r ≡ touch_row k r
     touch-own_row ends h = refl
     touch-own_row (gap c r) h = touch-own_row r h
-    touch-own_row (turn x r) h = λ i. touch-own x (or_first (has_trail x) (row_trail r) h) i ++ touch-own_row r (or_last (has_trail x) (row_trail r) h) i
+    touch-own_row (turn x r) h = λ i. touch-own x (or_first (holds_walk x) (row_walk r) h) i ++ touch-own_row r (or_last (holds_walk x) (row_walk r) h) i
 
-  pub union-own : (c a d : List ℕ) (x : Tree) → has_trail x ≡ false → ((n : ℕ) → has a n ≡ has (instances x) n) → d ≡ insert_each c a → IsUnion c (touch k x) d
+  pub union-own : (c a d : List ℕ) (x : Tree) → holds_walk x ≡ false → ((n : ℕ) → has a n ≡ has (instances x) n) → d ≡ insert_each c a → IsUnion c (touch k x) d
   union-own c a d x h f e = union-insert c a (touch k x) d (λ n. f n ∙ ap (λ l. has l n) (touch-own x h)) e
 
   all-snoc : (xs : List Tree) (x : Tree) → touch_all k (trees (xs ++ x ∷ [])) ≡ touch_all k (trees xs) ++ touch k x
@@ -123,9 +123,9 @@ module _ (k j : ℕ → List ℕ) (f : (i n : ℕ) → has (k i) n ≡ has (j i)
     same_touch (Event e) n = refl
     same_touch (Join m xs) n = same_all xs n
     same_touch (Choice xs) n = same_all xs n
-    same_touch (Bound x q) n = same_touch x n
-    same_touch (Turns x lo hi r) n = both_same (touch k x) (touch_row k r) (touch j x) (touch_row j r) n (same_touch x n) (same_row r n)
-    same_touch (Trail m s t c) n = f m n
+    same_touch (Tied x q) n = same_touch x n
+    same_touch (Loop x lo hi r) n = both_same (touch k x) (touch_row k r) (touch j x) (touch_row j r) n (same_touch x n) (same_row r n)
+    same_touch (Walk m s t c) n = f m n
 
     same_all : (xs : Trees) (n : ℕ) → has (touch_all k xs) n ≡ has (touch_all j xs) n
     same_all none n = refl

@@ -4,12 +4,13 @@ use Rattle.std.specs.Prelude.{ℕ, Bool, true, false, List, [], ◌∷◌, ◌�
 use Rattle.std.proofs.Common.{arith, inl, inr, cond}
 use Rattle.std.proofs.lemmas.Bool.Decides.{nat_tests}
 use Rattle.msc_base.specs.Patterns.{empty}
-use Rattle.hmsc_graph.specs.Graphs.{Spot, At, Goal, To, End, Any, Net, behind, IsIn, Walk, last, step, reach}
+use Rattle.hmsc_graph.specs.Graphs.{Spot, At, Goal, To, End, Any, Net, behind, WalkThrough, last, step, reach}
+use Rattle.msc_base.specs.Lists.{IsIn}
 use Rattle.hmsc_graph.proofs.Reaching.{reach_sound, reach_whole, glue as walk_on}
-use Rattle.chart_term.specs.NormalForms.{NetPermits, only, cut, is_nil, some_kept, allowed, are_nil, walk_form, walk_of, trail_cut, trail_of}
-use Rattle.chart_term.specs.TermMeanings.{NetTerms, MayStop, aim, HasPattern, has_nil as nil_pattern, has_trail, HasWalk, walk_stop, walk_last, walk_step, PatternSet, ◌⊑◌, PatternsOf, Leaves, terms_of}
+use Rattle.chart_term.specs.NormalForms.{NetPermits, only, cut, is_nil, some_kept, allowed, are_nil, walk_form, walk_by, walk_cut, walk_of}
+use Rattle.chart_term.specs.TermMeanings.{NetTerms, MayStop, aim, HasPattern, has_nil as nil_pattern, holds_walk, HasWalk, walk_stop, walk_last, walk_step, PatternSet, ◌⊑◌, PatternsOf, Leaves, terms_of}
 use Rattle.chart_term.specs.TermPatterns.{Shape, Avoids, ◌≈◌, same, back, on, in_join, left}
-use Rattle.chart_term.specs.Terms.{Block, Tree, Nil, Trail}
+use Rattle.chart_term.specs.Terms.{Block, Tree, Nil, Walk}
 use Rattle.chart_term.proofs.Instances.{IsInside, cut_avoids}
 use Rattle.chart_term.proofs.Looping.{nil_is}
 
@@ -47,7 +48,7 @@ all_in t (k ∷ ms) m h (inr i) = all_in t ms m (and_parts (t k) (list_all t ms)
 here : (m : ℕ) → (m == m) ≡ true
 here m = grind (arith, nat_tests)
 
-glue : {g : Net} {ks : List ℕ} {s : Spot} {t : Goal} {k : ℕ} → IsIn k ks → Walk g ks s (To k) → Walk g ks (At k) t → Walk g ks s t
+glue : {g : Net} {ks : List ℕ} {s : Spot} {t : Goal} {k : ℕ} → IsIn k ks → WalkThrough g ks s (To k) → WalkThrough g ks (At k) t → WalkThrough g ks s t
 glue j u v = walk_on j u v
 
 is_kept : (w : NetTerms) (o : Bool) (r : Option Tree) (s : Shape) → PatternsOf w o r s → some_kept r ≡ true
@@ -91,14 +92,14 @@ module _ (k : NetPermits) (node : ℕ → ℕ → Tree) (o : Bool) (n : ℕ) whe
     may_pass c m s i a av = let r = (fine.holds m i c).whole s (a, av) in in_filter (λ j. some_kept (k.kept n j c)) (k.nodes n) m i (is_kept (terms_of k node) o (k.kept n m c) r.0 r.1)
 
     module _ (t : Goal) (aims : aim t ≡ t) (stops : MayStop t o → ⊥) (c : List ℕ) where
-      pub walk_from : (f : Spot) (s : Shape) → Walks f t c s → Walk (k.net n) (allowed k n c) f t
+      pub walk_from : (f : Spot) (s : Shape) → Walks f t c s → WalkThrough (k.net n) (allowed k n c) f t
       walk_from f s (walk_stop h) = absurd (stops h)
       walk_from f s (walk_last m i a) = last m i (rw aims at a)
       walk_from f s (walk_step m i a av r) = step m i (may_pass c m _ (fine.within f m i) a av) (walk_from (At m) _ r)
 
       -- every node on a walk leaves only the empty pattern
       module _ (from : Spot) (nils : are_nil k n from t c (allowed k n c) ≡ true) where
-        on_way : (m : ℕ) → IsIn m (allowed k n c) → Walk (k.net n) (allowed k n c) from (To m) → Walk (k.net n) (allowed k n c) (At m) t → is_nil (k.kept n m c) ≡ true
+        on_way : (m : ℕ) → IsIn m (allowed k n c) → WalkThrough (k.net n) (allowed k n c) from (To m) → WalkThrough (k.net n) (allowed k n c) (At m) t → is_nil (k.kept n m c) ≡ true
         on_way m j u v =
             let ks = allowed k n c in
             all_in (λ i. is_nil (k.kept n i c)) _ m nils
@@ -106,9 +107,9 @@ module _ (k : NetPermits) (node : ℕ → ℕ → Tree) (o : Bool) (n : ℕ) whe
             (and_made _ _ (reach_whole (k.net n) ks from (To m) u) (reach_whole (k.net n) ks (At m) t v)))
 
         abbrev Led : Spot → Type 0
-        Led f = (m : ℕ) → IsIn m (behind (k.net n) f) → Walk (k.net n) (allowed k n c) from (To m)
+        Led f = (m : ℕ) → IsIn m (behind (k.net n) f) → WalkThrough (k.net n) (allowed k n c) from (To m)
 
-        next : (m : ℕ) → IsIn m (allowed k n c) → Walk (k.net n) (allowed k n c) from (To m) → Led (At m)
+        next : (m : ℕ) → IsIn m (allowed k n c) → WalkThrough (k.net n) (allowed k n c) from (To m) → Led (At m)
         next m j u q i = glue j u (last q i (here q))
 
         all_empty : (f : Spot) → Led f → (s : Shape) → Walks f t c s → s ≈ empty
@@ -119,7 +120,7 @@ module _ (k : NetPermits) (node : ℕ → ℕ → Tree) (o : Bool) (n : ℕ) whe
             let e = on_way m j (led m i) (walk_from (At m) _ r) in
             on (in_join (only_empty (terms_of k node) o (only c) (node n m) (k.kept n m c) (fine.holds m (fine.within f m i) c) e _ a av) (all_empty (At m) (next m j (led m i)) _ r)) left
 
-        one_empty : (f : Spot) → Led f → Walk (k.net n) (allowed k n c) f t → (s : Shape) × Walks f t c s × (empty ≈ s)
+        one_empty : (f : Spot) → Led f → WalkThrough (k.net n) (allowed k n c) f t → (s : Shape) × Walks f t c s × (empty ≈ s)
         one_empty f led (last m i a) = (empty, walk_last m i (rw aims a), same)
         one_empty f led (step m i j v) =
             let e = on_way m j (led m i) v in
@@ -127,40 +128,40 @@ module _ (k : NetPermits) (node : ℕ → ℕ → Tree) (o : Bool) (n : ℕ) whe
             let r = one_empty (At m) (next m j (led m i)) v in
             (_, walk_step m i a.1 a.2 r.1, on (back left) (in_join a.3 r.2))
 
-      start : (from : Spot) → (m : ℕ) → IsIn m (behind (k.net n) from) → Walk (k.net n) (allowed k n c) from (To m)
+      start : (from : Spot) → (m : ℕ) → IsIn m (behind (k.net n) from) → WalkThrough (k.net n) (allowed k n c) from (To m)
       start from m i = last m i (here m)
 
-      form_to : (f : Spot) (a b : Bool) → reach (k.net n) (allowed k n c) f t ≡ a → are_nil k n f t c (allowed k n c) ≡ b → PatternsOf (terms_of k node) o (walk_form a b (Trail n f t c)) ⊑ Walks f t c
+      form_to : (f : Spot) (a b : Bool) → reach (k.net n) (allowed k n c) f t ≡ a → are_nil k n f t c (allowed k n c) ≡ b → PatternsOf (terms_of k node) o (walk_form a b (Walk n f t c)) ⊑ Walks f t c
       form_to f false b p q s h = absurd h
-      form_to f true false p q s (has_trail h) = (s, h, same)
+      form_to f true false p q s (holds_walk h) = (s, h, same)
       form_to f true true p q s nil_pattern = one_empty f q f (start f) (reach_sound (k.net n) (allowed k n c) f t p)
 
-      form_from : (f : Spot) (a b : Bool) → reach (k.net n) (allowed k n c) f t ≡ a → are_nil k n f t c (allowed k n c) ≡ b → Walks f t c ⊑ PatternsOf (terms_of k node) o (walk_form a b (Trail n f t c))
+      form_from : (f : Spot) (a b : Bool) → reach (k.net n) (allowed k n c) f t ≡ a → are_nil k n f t c (allowed k n c) ≡ b → Walks f t c ⊑ PatternsOf (terms_of k node) o (walk_form a b (Walk n f t c))
       form_from f false b p q s h = let e = reach_whole (k.net n) (allowed k n c) f t (walk_from f s h) in cc
-      form_from f true false p q s h = (s, has_trail h, same)
+      form_from f true false p q s h = (s, holds_walk h, same)
       form_from f true true p q s h = (empty, nil_pattern, all_empty f q f (start f) s h)
 
-      pub walk_of_to : (f : Spot) → PatternsOf (terms_of k node) o (walk_of k n f t c (allowed k n c)) ⊑ Walks f t c
+      pub walk_of_to : (f : Spot) → PatternsOf (terms_of k node) o (walk_by k n f t c (allowed k n c)) ⊑ Walks f t c
       walk_of_to f = form_to f (reach (k.net n) (allowed k n c) f t) (are_nil k n f t c (allowed k n c)) refl refl
 
-      pub walk_of_from : (f : Spot) → Walks f t c ⊑ PatternsOf (terms_of k node) o (walk_of k n f t c (allowed k n c))
+      pub walk_of_from : (f : Spot) → Walks f t c ⊑ PatternsOf (terms_of k node) o (walk_by k n f t c (allowed k n c))
       walk_of_from f = form_from f (reach (k.net n) (allowed k n c) f t) (are_nil k n f t c (allowed k n c)) refl refl
 
-    any_to : (f : Spot) (c : List ℕ) → HasPattern (terms_of k node) o (Trail n f Any c) ⊑ Walks f Any c
-    any_to f c s (has_trail h) = (s, h, same)
+    any_to : (f : Spot) (c : List ℕ) → HasPattern (terms_of k node) o (Walk n f Any c) ⊑ Walks f Any c
+    any_to f c s (holds_walk h) = (s, h, same)
 
-    cut_form_to : (f : Spot) (t : Goal) (c : List ℕ) → PatternsOf (terms_of k node) o (trail_cut k n f t c) ⊑ Walks f t c
+    cut_form_to : (f : Spot) (t : Goal) (c : List ℕ) → PatternsOf (terms_of k node) o (walk_cut k n f t c) ⊑ Walks f t c
     cut_form_to f Any c = any_to f c
     cut_form_to f End c = walk_of_to End refl (λ h. h) c f
     cut_form_to f (To m) c = walk_of_to (To m) refl (λ h. h) c f
 
-    cut_form_from : (f : Spot) (t : Goal) (c : List ℕ) → Walks f t c ⊑ PatternsOf (terms_of k node) o (trail_cut k n f t c)
-    cut_form_from f Any c = λ s h. (s, has_trail h, same)
+    cut_form_from : (f : Spot) (t : Goal) (c : List ℕ) → Walks f t c ⊑ PatternsOf (terms_of k node) o (walk_cut k n f t c)
+    cut_form_from f Any c = λ s h. (s, holds_walk h, same)
     cut_form_from f End c = walk_of_from End refl (λ h. h) c f
     cut_form_from f (To m) c = walk_of_from (To m) refl (λ h. h) c f
 
-    pub trail_to : (f : Spot) (t : Goal) (c : List ℕ) → PatternsOf (terms_of k node) o (trail_of k n f t c) ⊑ Walks f t c
+    pub trail_to : (f : Spot) (t : Goal) (c : List ℕ) → PatternsOf (terms_of k node) o (walk_of k n f t c) ⊑ Walks f t c
     trail_to f t c s h = let r = cut_form_to f t (cut (k.spread n) c) s h in (r.0, cut_to f t c r.0 r.1, r.2)
 
-    pub trail_from : (f : Spot) (t : Goal) (c : List ℕ) → Walks f t c ⊑ PatternsOf (terms_of k node) o (trail_of k n f t c)
+    pub trail_from : (f : Spot) (t : Goal) (c : List ℕ) → Walks f t c ⊑ PatternsOf (terms_of k node) o (walk_of k n f t c)
     trail_from f t c s h = cut_form_from f t (cut (k.spread n) c) s (cut_from f t c s h)

@@ -3,9 +3,9 @@ use Rattle.std.specs.Prelude.{ℕ, List, ◌≡◌, ◌≢◌, Option, ◌⊎◌
 use Rattle.std.specs.Coded.{Coded, coded_ℕ, coded_list, coded_option, code_by, coded×, coded⊎}
 use Rattle.std.proofs.Common.{ap, arith, inl, inr}
 use base.Stored.{Gv, gnil, gnum, gcons}
-use Rattle.msc_base.specs.Patterns.{Mode, row, aside}
+use Rattle.msc_base.specs.Patterns.{Mode, seq, par}
 use Rattle.hmsc_graph.specs.Graphs.{Spot, Start, At, Goal, To, End, Any}
-use Rattle.chart_term.specs.Terms.{TermEvent, Tree, Nil, Event, Join, Choice, Bound, Turns, Trail, Trees, none, more, Row, ends, gap, turn, Part, Gap, Turn}
+use Rattle.chart_term.specs.Terms.{TermEvent, Tree, Nil, Event, Join, Choice, Tied, Loop, Walk, Trees, none, more, Row, ends, gap, turn, Part, Gap, Turn}
 
 -- an event is stored as the tuple of its fields
 abbrev coded_event : Coded TermEvent
@@ -32,14 +32,14 @@ apart : (m n : ℕ) {a b : Gv} → gcons (gnum m) a ≡ gcons (gnum n) b → m �
 apart m n p other = other (cc)
 
 abbrev pub mode_code : Mode → Gv
-mode_code row = gcons (gnum 0) gnil
-mode_code aside = gcons (gnum 1) gnil
+mode_code seq = gcons (gnum 0) gnil
+mode_code par = gcons (gnum 1) gnil
 
 pub mode_inj : (x y : Mode) → mode_code x ≡ mode_code y → x ≡ y
-mode_inj row row p = refl
-mode_inj row aside p = absurd (apart 0 1 p (omega arith))
-mode_inj aside row p = absurd (apart 1 0 p (omega arith))
-mode_inj aside aside p = refl
+mode_inj seq seq p = refl
+mode_inj seq par p = absurd (apart 0 1 p (omega arith))
+mode_inj par seq p = absurd (apart 1 0 p (omega arith))
+mode_inj par par p = refl
 
 abbrev pub spot_code : Spot → Gv
 spot_code Start = gcons (gnum 0) gnil
@@ -73,9 +73,9 @@ abbrev mutual
   tree_code (Event a0) = gcons (gnum 1) (gcons (coded_event.code a0) gnil)
   tree_code (Join a0 a1) = gcons (gnum 2) (gcons (mode_code a0) (gcons (trees_code a1) gnil))
   tree_code (Choice a0) = gcons (gnum 3) (gcons (trees_code a0) gnil)
-  tree_code (Bound a0 a1) = gcons (gnum 4) (gcons (tree_code a0) (gcons ((coded_list (coded× coded_ℕ coded_ℕ)).code a1) gnil))
-  tree_code (Turns a0 a1 a2 a3) = gcons (gnum 5) (gcons (tree_code a0) (gcons (coded_ℕ.code a1) (gcons ((coded_option coded_ℕ).code a2) (gcons (row_code a3) gnil))))
-  tree_code (Trail a0 a1 a2 a3) = gcons (gnum 6) (gcons (coded_ℕ.code a0) (gcons (spot_code a1) (gcons (goal_code a2) (gcons ((coded_list coded_ℕ).code a3) gnil))))
+  tree_code (Tied a0 a1) = gcons (gnum 4) (gcons (tree_code a0) (gcons ((coded_list (coded× coded_ℕ coded_ℕ)).code a1) gnil))
+  tree_code (Loop a0 a1 a2 a3) = gcons (gnum 5) (gcons (tree_code a0) (gcons (coded_ℕ.code a1) (gcons ((coded_option coded_ℕ).code a2) (gcons (row_code a3) gnil))))
+  tree_code (Walk a0 a1 a2 a3) = gcons (gnum 6) (gcons (coded_ℕ.code a0) (gcons (spot_code a1) (gcons (goal_code a2) (gcons ((coded_list coded_ℕ).code a3) gnil))))
 
   pub trees_code : Trees → Gv
   trees_code none = gcons (gnum 0) gnil
@@ -92,51 +92,51 @@ mutual
   tree_inj Nil (Event b0) p = absurd (apart 0 1 p (omega arith))
   tree_inj Nil (Join b0 b1) p = absurd (apart 0 2 p (omega arith))
   tree_inj Nil (Choice b0) p = absurd (apart 0 3 p (omega arith))
-  tree_inj Nil (Bound b0 b1) p = absurd (apart 0 4 p (omega arith))
-  tree_inj Nil (Turns b0 b1 b2 b3) p = absurd (apart 0 5 p (omega arith))
-  tree_inj Nil (Trail b0 b1 b2 b3) p = absurd (apart 0 6 p (omega arith))
+  tree_inj Nil (Tied b0 b1) p = absurd (apart 0 4 p (omega arith))
+  tree_inj Nil (Loop b0 b1 b2 b3) p = absurd (apart 0 5 p (omega arith))
+  tree_inj Nil (Walk b0 b1 b2 b3) p = absurd (apart 0 6 p (omega arith))
   tree_inj (Event a0) Nil p = absurd (apart 1 0 p (omega arith))
   tree_inj (Event a0) (Event b0) p = λ i. Event (coded_event.inj a0 b0 (ap (λ g. first_of (second_of g)) p) i)
   tree_inj (Event a0) (Join b0 b1) p = absurd (apart 1 2 p (omega arith))
   tree_inj (Event a0) (Choice b0) p = absurd (apart 1 3 p (omega arith))
-  tree_inj (Event a0) (Bound b0 b1) p = absurd (apart 1 4 p (omega arith))
-  tree_inj (Event a0) (Turns b0 b1 b2 b3) p = absurd (apart 1 5 p (omega arith))
-  tree_inj (Event a0) (Trail b0 b1 b2 b3) p = absurd (apart 1 6 p (omega arith))
+  tree_inj (Event a0) (Tied b0 b1) p = absurd (apart 1 4 p (omega arith))
+  tree_inj (Event a0) (Loop b0 b1 b2 b3) p = absurd (apart 1 5 p (omega arith))
+  tree_inj (Event a0) (Walk b0 b1 b2 b3) p = absurd (apart 1 6 p (omega arith))
   tree_inj (Join a0 a1) Nil p = absurd (apart 2 0 p (omega arith))
   tree_inj (Join a0 a1) (Event b0) p = absurd (apart 2 1 p (omega arith))
   tree_inj (Join a0 a1) (Join b0 b1) p = λ i. Join (mode_inj a0 b0 (ap (λ g. first_of (second_of g)) p) i) (trees_inj a1 b1 (ap (λ g. first_of (second_of (second_of g))) p) i)
   tree_inj (Join a0 a1) (Choice b0) p = absurd (apart 2 3 p (omega arith))
-  tree_inj (Join a0 a1) (Bound b0 b1) p = absurd (apart 2 4 p (omega arith))
-  tree_inj (Join a0 a1) (Turns b0 b1 b2 b3) p = absurd (apart 2 5 p (omega arith))
-  tree_inj (Join a0 a1) (Trail b0 b1 b2 b3) p = absurd (apart 2 6 p (omega arith))
+  tree_inj (Join a0 a1) (Tied b0 b1) p = absurd (apart 2 4 p (omega arith))
+  tree_inj (Join a0 a1) (Loop b0 b1 b2 b3) p = absurd (apart 2 5 p (omega arith))
+  tree_inj (Join a0 a1) (Walk b0 b1 b2 b3) p = absurd (apart 2 6 p (omega arith))
   tree_inj (Choice a0) Nil p = absurd (apart 3 0 p (omega arith))
   tree_inj (Choice a0) (Event b0) p = absurd (apart 3 1 p (omega arith))
   tree_inj (Choice a0) (Join b0 b1) p = absurd (apart 3 2 p (omega arith))
   tree_inj (Choice a0) (Choice b0) p = λ i. Choice (trees_inj a0 b0 (ap (λ g. first_of (second_of g)) p) i)
-  tree_inj (Choice a0) (Bound b0 b1) p = absurd (apart 3 4 p (omega arith))
-  tree_inj (Choice a0) (Turns b0 b1 b2 b3) p = absurd (apart 3 5 p (omega arith))
-  tree_inj (Choice a0) (Trail b0 b1 b2 b3) p = absurd (apart 3 6 p (omega arith))
-  tree_inj (Bound a0 a1) Nil p = absurd (apart 4 0 p (omega arith))
-  tree_inj (Bound a0 a1) (Event b0) p = absurd (apart 4 1 p (omega arith))
-  tree_inj (Bound a0 a1) (Join b0 b1) p = absurd (apart 4 2 p (omega arith))
-  tree_inj (Bound a0 a1) (Choice b0) p = absurd (apart 4 3 p (omega arith))
-  tree_inj (Bound a0 a1) (Bound b0 b1) p = λ i. Bound (tree_inj a0 b0 (ap (λ g. first_of (second_of g)) p) i) ((coded_list (coded× coded_ℕ coded_ℕ)).inj a1 b1 (ap (λ g. first_of (second_of (second_of g))) p) i)
-  tree_inj (Bound a0 a1) (Turns b0 b1 b2 b3) p = absurd (apart 4 5 p (omega arith))
-  tree_inj (Bound a0 a1) (Trail b0 b1 b2 b3) p = absurd (apart 4 6 p (omega arith))
-  tree_inj (Turns a0 a1 a2 a3) Nil p = absurd (apart 5 0 p (omega arith))
-  tree_inj (Turns a0 a1 a2 a3) (Event b0) p = absurd (apart 5 1 p (omega arith))
-  tree_inj (Turns a0 a1 a2 a3) (Join b0 b1) p = absurd (apart 5 2 p (omega arith))
-  tree_inj (Turns a0 a1 a2 a3) (Choice b0) p = absurd (apart 5 3 p (omega arith))
-  tree_inj (Turns a0 a1 a2 a3) (Bound b0 b1) p = absurd (apart 5 4 p (omega arith))
-  tree_inj (Turns a0 a1 a2 a3) (Turns b0 b1 b2 b3) p = λ i. Turns (tree_inj a0 b0 (ap (λ g. first_of (second_of g)) p) i) (coded_ℕ.inj a1 b1 (ap (λ g. first_of (second_of (second_of g))) p) i) ((coded_option coded_ℕ).inj a2 b2 (ap (λ g. first_of (second_of (second_of (second_of g)))) p) i) (row_inj a3 b3 (ap (λ g. first_of (second_of (second_of (second_of (second_of g))))) p) i)
-  tree_inj (Turns a0 a1 a2 a3) (Trail b0 b1 b2 b3) p = absurd (apart 5 6 p (omega arith))
-  tree_inj (Trail a0 a1 a2 a3) Nil p = absurd (apart 6 0 p (omega arith))
-  tree_inj (Trail a0 a1 a2 a3) (Event b0) p = absurd (apart 6 1 p (omega arith))
-  tree_inj (Trail a0 a1 a2 a3) (Join b0 b1) p = absurd (apart 6 2 p (omega arith))
-  tree_inj (Trail a0 a1 a2 a3) (Choice b0) p = absurd (apart 6 3 p (omega arith))
-  tree_inj (Trail a0 a1 a2 a3) (Bound b0 b1) p = absurd (apart 6 4 p (omega arith))
-  tree_inj (Trail a0 a1 a2 a3) (Turns b0 b1 b2 b3) p = absurd (apart 6 5 p (omega arith))
-  tree_inj (Trail a0 a1 a2 a3) (Trail b0 b1 b2 b3) p = λ i. Trail (coded_ℕ.inj a0 b0 (ap (λ g. first_of (second_of g)) p) i) (spot_inj a1 b1 (ap (λ g. first_of (second_of (second_of g))) p) i) (goal_inj a2 b2 (ap (λ g. first_of (second_of (second_of (second_of g)))) p) i) ((coded_list coded_ℕ).inj a3 b3 (ap (λ g. first_of (second_of (second_of (second_of (second_of g))))) p) i)
+  tree_inj (Choice a0) (Tied b0 b1) p = absurd (apart 3 4 p (omega arith))
+  tree_inj (Choice a0) (Loop b0 b1 b2 b3) p = absurd (apart 3 5 p (omega arith))
+  tree_inj (Choice a0) (Walk b0 b1 b2 b3) p = absurd (apart 3 6 p (omega arith))
+  tree_inj (Tied a0 a1) Nil p = absurd (apart 4 0 p (omega arith))
+  tree_inj (Tied a0 a1) (Event b0) p = absurd (apart 4 1 p (omega arith))
+  tree_inj (Tied a0 a1) (Join b0 b1) p = absurd (apart 4 2 p (omega arith))
+  tree_inj (Tied a0 a1) (Choice b0) p = absurd (apart 4 3 p (omega arith))
+  tree_inj (Tied a0 a1) (Tied b0 b1) p = λ i. Tied (tree_inj a0 b0 (ap (λ g. first_of (second_of g)) p) i) ((coded_list (coded× coded_ℕ coded_ℕ)).inj a1 b1 (ap (λ g. first_of (second_of (second_of g))) p) i)
+  tree_inj (Tied a0 a1) (Loop b0 b1 b2 b3) p = absurd (apart 4 5 p (omega arith))
+  tree_inj (Tied a0 a1) (Walk b0 b1 b2 b3) p = absurd (apart 4 6 p (omega arith))
+  tree_inj (Loop a0 a1 a2 a3) Nil p = absurd (apart 5 0 p (omega arith))
+  tree_inj (Loop a0 a1 a2 a3) (Event b0) p = absurd (apart 5 1 p (omega arith))
+  tree_inj (Loop a0 a1 a2 a3) (Join b0 b1) p = absurd (apart 5 2 p (omega arith))
+  tree_inj (Loop a0 a1 a2 a3) (Choice b0) p = absurd (apart 5 3 p (omega arith))
+  tree_inj (Loop a0 a1 a2 a3) (Tied b0 b1) p = absurd (apart 5 4 p (omega arith))
+  tree_inj (Loop a0 a1 a2 a3) (Loop b0 b1 b2 b3) p = λ i. Loop (tree_inj a0 b0 (ap (λ g. first_of (second_of g)) p) i) (coded_ℕ.inj a1 b1 (ap (λ g. first_of (second_of (second_of g))) p) i) ((coded_option coded_ℕ).inj a2 b2 (ap (λ g. first_of (second_of (second_of (second_of g)))) p) i) (row_inj a3 b3 (ap (λ g. first_of (second_of (second_of (second_of (second_of g))))) p) i)
+  tree_inj (Loop a0 a1 a2 a3) (Walk b0 b1 b2 b3) p = absurd (apart 5 6 p (omega arith))
+  tree_inj (Walk a0 a1 a2 a3) Nil p = absurd (apart 6 0 p (omega arith))
+  tree_inj (Walk a0 a1 a2 a3) (Event b0) p = absurd (apart 6 1 p (omega arith))
+  tree_inj (Walk a0 a1 a2 a3) (Join b0 b1) p = absurd (apart 6 2 p (omega arith))
+  tree_inj (Walk a0 a1 a2 a3) (Choice b0) p = absurd (apart 6 3 p (omega arith))
+  tree_inj (Walk a0 a1 a2 a3) (Tied b0 b1) p = absurd (apart 6 4 p (omega arith))
+  tree_inj (Walk a0 a1 a2 a3) (Loop b0 b1 b2 b3) p = absurd (apart 6 5 p (omega arith))
+  tree_inj (Walk a0 a1 a2 a3) (Walk b0 b1 b2 b3) p = λ i. Walk (coded_ℕ.inj a0 b0 (ap (λ g. first_of (second_of g)) p) i) (spot_inj a1 b1 (ap (λ g. first_of (second_of (second_of g))) p) i) (goal_inj a2 b2 (ap (λ g. first_of (second_of (second_of (second_of g)))) p) i) ((coded_list coded_ℕ).inj a3 b3 (ap (λ g. first_of (second_of (second_of (second_of (second_of g))))) p) i)
 
   pub trees_inj : (x y : Trees) → trees_code x ≡ trees_code y → x ≡ y
   trees_inj none none p = refl

@@ -1,8 +1,8 @@
 -- Whether two terms are equal.
 use Rattle.std.specs.Prelude.{ℕ, Bool, true, false, List, [], ◌∷◌, Option, Some, None, ◌&&◌, ◌==◌, ◌≡◌}
-use Rattle.msc_base.specs.Patterns.{Mode, row, aside}
+use Rattle.msc_base.specs.Patterns.{Mode, seq, par}
 use Rattle.hmsc_graph.specs.Graphs.{Spot, Start, At, Goal, To, End, Any}
-use Rattle.chart_term.specs.Terms.{TermEvent, Tree, Nil, Event, Join, Choice, Bound, Turns, Trail, Trees, none, more, Row, ends, gap, turn}
+use Rattle.chart_term.specs.Terms.{TermEvent, Tree, Nil, Event, Join, Choice, Tied, Loop, Walk, Trees, none, more, Row, ends, gap, turn}
 
 -- both are none, or both the same number
 abbrev pub same_maybe : Option ℕ → Option ℕ → Bool
@@ -16,8 +16,8 @@ same_event e f = ((e.number == f.number) && (e.at == f.at)) && (same_maybe e.als
 
 -- both in a row, or both side by side
 abbrev pub same_mode : Mode → Mode → Bool
-same_mode row row = true
-same_mode aside aside = true
+same_mode seq seq = true
+same_mode par par = true
 same_mode _ _ = false
 
 -- both are the start, or the same node
@@ -52,9 +52,9 @@ abbrev mutual
   same_tree (Event e) (Event f) = same_event e f
   same_tree (Join m xs) (Join n ys) = same_mode m n && same_trees xs ys
   same_tree (Choice xs) (Choice ys) = same_trees xs ys
-  same_tree (Bound x q) (Bound y r) = same_tree x y && same_pairs q r
-  same_tree (Turns x lo hi r) (Turns y low high s) = (same_tree x y && (lo == low)) && (same_maybe hi high && same_row r s)
-  same_tree (Trail n f t c) (Trail m g u d) = ((n == m) && same_spot f g) && (same_goal t u && same_numbers c d)
+  same_tree (Tied x q) (Tied y r) = same_tree x y && same_pairs q r
+  same_tree (Loop x lo hi r) (Loop y low high s) = (same_tree x y && (lo == low)) && (same_maybe hi high && same_row r s)
+  same_tree (Walk n f t c) (Walk m g u d) = ((n == m) && same_spot f g) && (same_goal t u && same_numbers c d)
   same_tree _ _ = false
 
   pub same_trees : Trees → Trees → Bool

@@ -1,32 +1,32 @@
 -- The facts that a node of a term stores beside its parts.
 use Rattle.std.specs.List.{list_any}
 use Rattle.std.specs.Prelude.{ℕ, ◌+◌, ◌≡◌, Bool, true, false, List, [], ◌∷◌, ◌++◌, Option, Some, None, ◌||◌, ◌&&◌, not, min, max, nat_le}
-use Rattle.msc_base.specs.Blocks.{BlockValue, share}
+use Rattle.bit_sets.specs.Blocks.{BlockValue, share}
 use Rattle.chart_term.specs.declared.facts.Facts.{Facts}
 use Rattle.chart_term.specs.declared.facts.Span.{Span}
 use Rattle.chart_term.specs.NormalForms.{numbers, numbers_all, numbers_row}
 use Rattle.chart_term.specs.TermPatterns.{instances_of}
-use Rattle.chart_term.specs.Terms.{Tree, Nil, Event, Join, Choice, Bound, Turns, Trail, Trees, none, more, Row, ends, gap, turn, weight, weights, row_weight, has}
+use Rattle.chart_term.specs.Terms.{Tree, Nil, Event, Join, Choice, Tied, Loop, Walk, Trees, none, more, Row, ends, gap, turn, weight, weights, row_weight, has}
 
 -- whether a walk stands in the term, in a loop operand of it or in a begun turn
 abbrev mutual
-  pub has_trail : Tree → Bool
-  has_trail Nil = false
-  has_trail (Event e) = false
-  has_trail (Join m xs) = any_trail xs
-  has_trail (Choice xs) = any_trail xs
-  has_trail (Bound x q) = has_trail x
-  has_trail (Turns x lo hi r) = has_trail x || row_trail r
-  has_trail (Trail n s t c) = true
+  pub holds_walk : Tree → Bool
+  holds_walk Nil = false
+  holds_walk (Event e) = false
+  holds_walk (Join m xs) = any_walk xs
+  holds_walk (Choice xs) = any_walk xs
+  holds_walk (Tied x q) = holds_walk x
+  holds_walk (Loop x lo hi r) = holds_walk x || row_walk r
+  holds_walk (Walk n s t c) = true
 
-  pub any_trail : Trees → Bool
-  any_trail none = false
-  any_trail (more x xs) = has_trail x || any_trail xs
+  pub any_walk : Trees → Bool
+  any_walk none = false
+  any_walk (more x xs) = holds_walk x || any_walk xs
 
-  pub row_trail : Row → Bool
-  row_trail ends = false
-  row_trail (gap c r) = row_trail r
-  row_trail (turn x r) = has_trail x || row_trail r
+  pub row_walk : Row → Bool
+  row_walk ends = false
+  row_walk (gap c r) = row_walk r
+  row_walk (turn x r) = holds_walk x || row_walk r
 
 -- the instances of the events of the term, of its loop operands and begun turns, but not of nets
 abbrev mutual
@@ -35,9 +35,9 @@ abbrev mutual
   instances (Event e) = (instances_of e).instances
   instances (Join m xs) = instances_all xs
   instances (Choice xs) = instances_all xs
-  instances (Bound x q) = instances x
-  instances (Turns x lo hi r) = instances x ++ instances_row r
-  instances (Trail n s t c) = []
+  instances (Tied x q) = instances x
+  instances (Loop x lo hi r) = instances x ++ instances_row r
+  instances (Walk n s t c) = []
 
   pub instances_all : Trees → List ℕ
   instances_all none = []
@@ -71,34 +71,34 @@ lies_in (Some s) n = nat_le s.least n && nat_le n s.greatest
 -- facts of a weight, of whether there is a walk, of these instances and of these event numbers
 pub record AreFacts (w : ℕ) (walks : Bool) (places ns : List ℕ) (f : Facts) : Type 0 where
   pub weight : f.weight ≡ min w most_stored
-  pub trail : f.has_trail ≡ walks
+  pub trail : f.holds_walk ≡ walks
   pub instances : (n : ℕ) → has f.instances.instances n ≡ has places n
   pub span : f.span ≡ span_of ns
 
 -- the facts of a term
 abbrev pub HasFacts : Tree → Facts → Type 0
-HasFacts x f = AreFacts (weight x) (has_trail x) (instances x) (numbers x) f
+HasFacts x f = AreFacts (weight x) (holds_walk x) (instances x) (numbers x) f
 
 -- the facts of several terms together
 abbrev pub HaveFacts : Trees → Facts → Type 0
-HaveFacts xs f = AreFacts (weights xs) (any_trail xs) (instances_all xs) (numbers_all xs) f
+HaveFacts xs f = AreFacts (weights xs) (any_walk xs) (instances_all xs) (numbers_all xs) f
 
 -- the facts of a row
 abbrev pub RowHasFacts : Row → Facts → Type 0
-RowHasFacts r f = AreFacts (row_weight r) (row_trail r) (instances_row r) (numbers_row r) f
+RowHasFacts r f = AreFacts (row_weight r) (row_walk r) (instances_row r) (numbers_row r) f
 
 -- no event of the term can be hit by the block: no walk is in it, none of its instances is in the block,
 -- and no number of the block lies from its least to its greatest
 abbrev pub misses : BlockValue → Tree → Bool
-misses b x = (not (has_trail x) && not (list_any (has (instances x)) b.instances)) && not (list_any (lies_in (span_of (numbers x))) b.events)
+misses b x = (not (holds_walk x) && not (list_any (has (instances x)) b.instances)) && not (list_any (lies_in (span_of (numbers x))) b.events)
 
 -- the new facts are the old ones and those of another term together
 pub record Adds (old other new : Facts) : Type 0 where
   pub weight : new.weight ≡ min (old.weight + other.weight) most_stored
-  pub trail : new.has_trail ≡ (old.has_trail || other.has_trail)
+  pub trail : new.holds_walk ≡ (old.holds_walk || other.holds_walk)
   pub instances : (n : ℕ) → has new.instances.instances n ≡ (has old.instances.instances n || has other.instances.instances n)
   pub span : new.span ≡ wider old.span other.span
 
 -- the same by the stored facts
 abbrev pub facts_miss : BlockValue → Facts → Bool
-facts_miss b f = (not f.has_trail && not (share b.instances f.instances.instances)) && not (list_any (lies_in f.span) b.events)
+facts_miss b f = (not f.holds_walk && not (share b.instances f.instances.instances)) && not (list_any (lies_in f.span) b.events)

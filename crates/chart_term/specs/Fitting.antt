@@ -3,7 +3,7 @@ use Rattle.std.specs.Prelude.{ℕ, Bool, true, ◌&&◌, nat_lt, length}
 use Rattle.hmsc_graph.specs.Graphs.{Spot, Start, At, Goal, To, End, Any}
 use Rattle.chart_term.specs.NetValues.{NetsValue}
 use Rattle.chart_term.specs.Tables.{net_count, nodes_of, Tables}
-use Rattle.chart_term.specs.Terms.{Tree, Nil, Event, Join, Choice, Bound, Turns, Trail, Trees, none, more, Row, ends, gap, turn, Part, Gap, Turn}
+use Rattle.chart_term.specs.Terms.{Tree, Nil, Event, Join, Choice, Tied, Loop, Walk, Trees, none, more, Row, ends, gap, turn, Part, Gap, Turn}
 
 -- the walk begins at the start, or at one of so many nodes
 abbrev pub spot_fits : ℕ → Spot → Bool
@@ -28,9 +28,9 @@ abbrev mutual
   fits v (Event e) = nat_lt e.label (length v.labels)
   fits v (Join m xs) = fits_all v xs
   fits v (Choice xs) = fits_all v xs
-  fits v (Bound x q) = fits v x
-  fits v (Turns x lo hi r) = fits v x && fits_row v r
-  fits v (Trail n s t c) = walk_fits v.tables n s t
+  fits v (Tied x q) = fits v x
+  fits v (Loop x lo hi r) = fits v x && fits_row v r
+  fits v (Walk n s t c) = walk_fits v.tables n s t
 
   pub fits_all : NetsValue → Trees → Bool
   fits_all v none = true

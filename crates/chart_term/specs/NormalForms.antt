@@ -1,9 +1,9 @@
 -- The normalising constructors of terms.
 use Rattle.std.specs.List.{list_all}
 use Rattle.std.specs.Prelude.{ℕ, zero, suc, Bool, true, false, List, [], ◌∷◌, ◌++◌, Option, Some, None, ◌||◌, ◌&&◌, filter, ◌==◌}
-use Rattle.msc_base.specs.Patterns.{Mode, row, aside}
+use Rattle.msc_base.specs.Patterns.{Mode, seq, par}
 use Rattle.hmsc_graph.specs.Graphs.{Spot, At, Goal, To, End, Any, Net, reach}
-use Rattle.chart_term.specs.Terms.{Block, has, Tree, Nil, Event, Join, Choice, Bound, Turns, Trail, items, trees, Part, Gap, Turn, row_of, Trees, more, Row, gap, turn, none, ends}
+use Rattle.chart_term.specs.Terms.{Block, has, Tree, Nil, Event, Join, Choice, Tied, Loop, Walk, items, trees, Part, Gap, Turn, row_of, Trees, more, Row, gap, turn, none, ends}
 use Rattle.chart_term.specs.Equality.{same_tree}
 
 -- what the normal forms need to know of the tables
@@ -21,14 +21,14 @@ only c = record { instances = c; numbers = [] }
 abbrev pub open_part : Mode → Tree → List Tree
 open_part m Nil = []
 open_part m (Event e) = Event e ∷ []
-open_part row (Join row xs) = items xs
-open_part row (Join aside xs) = Join aside xs ∷ []
-open_part aside (Join row xs) = Join row xs ∷ []
-open_part aside (Join aside xs) = items xs
+open_part seq (Join seq xs) = items xs
+open_part seq (Join par xs) = Join par xs ∷ []
+open_part par (Join seq xs) = Join seq xs ∷ []
+open_part par (Join par xs) = items xs
 open_part m (Choice xs) = Choice xs ∷ []
-open_part m (Bound x q) = Bound x q ∷ []
-open_part m (Turns x lo hi r) = Turns x lo hi r ∷ []
-open_part m (Trail n s t c) = Trail n s t c ∷ []
+open_part m (Tied x q) = Tied x q ∷ []
+open_part m (Loop x lo hi r) = Loop x lo hi r ∷ []
+open_part m (Walk n s t c) = Walk n s t c ∷ []
 
 -- the parts of all parts of a join: joins of its kind are opened, Nil is dropped
 abbrev pub flat : Mode → List Tree → List Tree
@@ -103,9 +103,9 @@ abbrev mutual
   numbers (Event e) = e.number ∷ []
   numbers (Join m xs) = numbers_all xs
   numbers (Choice xs) = numbers_all xs
-  numbers (Bound x q) = numbers x
-  numbers (Turns x lo hi r) = numbers x ++ numbers_row r
-  numbers (Trail n s t c) = []
+  numbers (Tied x q) = numbers x
+  numbers (Loop x lo hi r) = numbers x ++ numbers_row r
+  numbers (Walk n s t c) = []
 
   pub numbers_all : Trees → List ℕ
   numbers_all none = []
@@ -139,11 +139,11 @@ kept_pairs ns (p ∷ q) = with_pair (has ns p.0 && has ns p.1) p (kept_pairs ns 
 -- without pairs it is the term itself
 abbrev pub bound_form : Tree → List (ℕ × ℕ) → Tree
 bound_form x [] = x
-bound_form x (p ∷ q) = Bound x (p ∷ q)
+bound_form x (p ∷ q) = Tied x (p ∷ q)
 
 -- a bound term: a pair equal to an earlier one is dropped, and so are pairs with an end that doesn't occur in the term
-abbrev pub bound_of : Tree → List (ℕ × ℕ) → Tree
-bound_of x q = bound_form x (kept_pairs (numbers x) q)
+abbrev pub tie_of : Tree → List (ℕ × ℕ) → Tree
+tie_of x q = bound_form x (kept_pairs (numbers x) q)
 
 -- the members of a set that are in another
 abbrev pub cut : List ℕ → List ℕ → List ℕ
@@ -161,9 +161,9 @@ put_turn Nil ps = ps
 put_turn (Event e) ps = Turn (Event e) ∷ ps
 put_turn (Join m xs) ps = Turn (Join m xs) ∷ ps
 put_turn (Choice xs) ps = Turn (Choice xs) ∷ ps
-put_turn (Bound x q) ps = Turn (Bound x q) ∷ ps
-put_turn (Turns x lo hi r) ps = Turn (Turns x lo hi r) ∷ ps
-put_turn (Trail n s t c) ps = Turn (Trail n s t c) ∷ ps
+put_turn (Tied x q) ps = Turn (Tied x q) ∷ ps
+put_turn (Loop x lo hi r) ps = Turn (Loop x lo hi r) ∷ ps
+put_turn (Walk n s t c) ps = Turn (Walk n s t c) ∷ ps
 
 -- each begun turn that is over is dropped
 abbrev pub drop_nil : List Part → List Part
@@ -201,9 +201,9 @@ is_nil (Some Nil) = true
 is_nil (Some (Event e)) = false
 is_nil (Some (Join m xs)) = false
 is_nil (Some (Choice xs)) = false
-is_nil (Some (Bound x q)) = false
-is_nil (Some (Turns x lo hi r)) = false
-is_nil (Some (Trail n s t c)) = false
+is_nil (Some (Tied x q)) = false
+is_nil (Some (Loop x lo hi r)) = false
+is_nil (Some (Walk n s t c)) = false
 
 -- some gap leaves only the empty pattern
 abbrev pub has_free : (List ℕ → Option Tree) → List Part → Bool
@@ -253,12 +253,12 @@ begun (Turn x ∷ ps) = x ∷ begun ps
 
 -- without a gap it is its begun turns in a row, and none where a turn is owed
 abbrev pub no_gap : ℕ → List Part → Option Tree
-no_gap zero ps = Some (join_all row (begun ps))
+no_gap zero ps = Some (join_all seq (begun ps))
 no_gap (suc n) ps = None
 
 -- a loop where a gap is left
 abbrev pub turns_form : Bool → Tree → ℕ → Option ℕ → List Part → Option Tree
-turns_form true x lo hi ps = Some (Turns x lo hi (row_of ps))
+turns_form true x lo hi ps = Some (Loop x lo hi (row_of ps))
 turns_form false x lo hi ps = no_gap lo ps
 
 -- a row whose gaps are cut, live and no more than hi asks for
@@ -270,13 +270,13 @@ abbrev pub turns_end : Tree → ℕ → Option ℕ → List Part → Option Tree
 turns_end x lo hi ps = turns_form (has_gap ps) x lo hi ps
 
 -- p is what permission leaves of the operand, all is the instances that it touches
-abbrev pub turns_of : (List ℕ → Option Tree) → List ℕ → Tree → ℕ → Option ℕ → List Part → Option Tree
-turns_of p all x lo hi ps = let qs = tidy p all hi ps in turns_end x (lower_of (has_free p qs) lo) hi (thin (drop_free p qs))
+abbrev pub loop_of : (List ℕ → Option Tree) → List ℕ → Tree → ℕ → Option ℕ → List Part → Option Tree
+loop_of p all x lo hi ps = let qs = tidy p all hi ps in turns_end x (lower_of (has_free p qs) lo) hi (thin (drop_free p qs))
 
 -- a loop in normal form, where its row is there
 abbrev pub turns_in : (List ℕ → Option Tree) → List ℕ → Tree → ℕ → Option ℕ → Option (List Part) → Option Tree
 turns_in p all x lo hi None = None
-turns_in p all x lo hi (Some ps) = turns_of p all x lo hi ps
+turns_in p all x lo hi (Some ps) = loop_of p all x lo hi ps
 
 -- it doesn't fail
 abbrev pub some_kept : Option Tree → Bool
@@ -298,15 +298,15 @@ walk_form true true x = Some Nil
 walk_form true false x = Some x
 
 -- a walk to a node or to an end in normal form
-abbrev pub walk_of : NetPermits → ℕ → Spot → Goal → List ℕ → List ℕ → Option Tree
-walk_of k n s t c ks = walk_form (reach (k.net n) ks s t) (are_nil k n s t c ks) (Trail n s t c)
+abbrev pub walk_by : NetPermits → ℕ → Spot → Goal → List ℕ → List ℕ → Option Tree
+walk_by k n s t c ks = walk_form (reach (k.net n) ks s t) (are_nil k n s t c ks) (Walk n s t c)
 
 -- a walk with a block that is cut; a walk to any node stays as it is
-abbrev pub trail_cut : NetPermits → ℕ → Spot → Goal → List ℕ → Option Tree
-trail_cut k n s Any c = Some (Trail n s Any c)
-trail_cut k n s (To m) c = walk_of k n s (To m) c (allowed k n c)
-trail_cut k n s End c = walk_of k n s End c (allowed k n c)
+abbrev pub walk_cut : NetPermits → ℕ → Spot → Goal → List ℕ → Option Tree
+walk_cut k n s Any c = Some (Walk n s Any c)
+walk_cut k n s (To m) c = walk_by k n s (To m) c (allowed k n c)
+walk_cut k n s End c = walk_by k n s End c (allowed k n c)
 
 -- a walk in normal form: its block is cut to the instances of the net
-abbrev pub trail_of : NetPermits → ℕ → Spot → Goal → List ℕ → Option Tree
-trail_of k n s t c = trail_cut k n s t (cut (k.spread n) c)
+abbrev pub walk_of : NetPermits → ℕ → Spot → Goal → List ℕ → Option Tree
+walk_of k n s t c = walk_cut k n s t (cut (k.spread n) c)

@@ -4,21 +4,21 @@ use Rattle.std.specs.Ordering.{nat_cmp, ordering_then}
 use Rattle.std.specs.Prelude.{ℕ, List, [], ◌∷◌, Option, Some, None, ◌≡◌}
 use Rattle.std.specs.declared.cmp.Ordering.{Ordering}
 use Rattle.std.specs.declared.cmp.Ordering.TheVariants.{Less, Equal, Greater}
-use Rattle.msc_base.specs.Blocks.{set_cmp}
-use Rattle.msc_base.specs.Patterns.{row, aside}
+use Rattle.bit_sets.specs.Blocks.{set_cmp}
+use Rattle.msc_base.specs.Patterns.{seq, par}
 use Rattle.hmsc_graph.specs.Graphs.{Spot, Start, At, Goal, To, End, Any}
-use Rattle.chart_term.specs.Terms.{TermEvent, Tree, Nil, Event, Join, Choice, Bound, Turns, Trail, Trees, none, more, Row, ends, gap, turn, Part, Gap, Turn}
+use Rattle.chart_term.specs.Terms.{TermEvent, Tree, Nil, Event, Join, Choice, Tied, Loop, Walk, Trees, none, more, Row, ends, gap, turn, Part, Gap, Turn}
 
 -- the constructor's place in the table of weights
 abbrev pub rank : Tree → ℕ
 rank Nil = 0
 rank (Event e) = 1
-rank (Join row xs) = 2
-rank (Join aside xs) = 3
+rank (Join seq xs) = 2
+rank (Join par xs) = 3
 rank (Choice xs) = 4
-rank (Bound x q) = 5
-rank (Turns x lo hi r) = 6
-rank (Trail n s t c) = 7
+rank (Tied x q) = 5
+rank (Loop x lo hi r) = 6
+rank (Walk n s t c) = 7
 
 -- none first
 abbrev pub maybe_cmp : Option ℕ → Option ℕ → Ordering
@@ -66,12 +66,12 @@ abbrev mutual
   pub tree_cmp : Tree → Tree → Ordering
   tree_cmp Nil Nil = Equal
   tree_cmp (Event e) (Event f) = event_cmp e f
-  tree_cmp (Join row xs) (Join row ys) = trees_cmp xs ys
-  tree_cmp (Join aside xs) (Join aside ys) = trees_cmp xs ys
+  tree_cmp (Join seq xs) (Join seq ys) = trees_cmp xs ys
+  tree_cmp (Join par xs) (Join par ys) = trees_cmp xs ys
   tree_cmp (Choice xs) (Choice ys) = trees_cmp xs ys
-  tree_cmp (Bound x q) (Bound y r) = ordering_then (tree_cmp x y) (pairs_cmp q r)
-  tree_cmp (Turns x lo hi r) (Turns y low high s) = ordering_then (tree_cmp x y) (ordering_then (nat_cmp lo low) (ordering_then (maybe_cmp hi high) (row_cmp r s)))
-  tree_cmp (Trail n s t c) (Trail m u v d) = ordering_then (nat_cmp n m) (ordering_then (spot_cmp s u) (ordering_then (goal_cmp t v) (set_cmp c d)))
+  tree_cmp (Tied x q) (Tied y r) = ordering_then (tree_cmp x y) (pairs_cmp q r)
+  tree_cmp (Loop x lo hi r) (Loop y low high s) = ordering_then (tree_cmp x y) (ordering_then (nat_cmp lo low) (ordering_then (maybe_cmp hi high) (row_cmp r s)))
+  tree_cmp (Walk n s t c) (Walk m u v d) = ordering_then (nat_cmp n m) (ordering_then (spot_cmp s u) (ordering_then (goal_cmp t v) (set_cmp c d)))
   tree_cmp x y = nat_cmp (rank x) (rank y)
 
   pub trees_cmp : Trees → Trees → Ordering

@@ -7,11 +7,11 @@ use Rattle.std.specs.Ordering.{nat_cmp, ordering_then, ordering_reverse}
 use Rattle.std.specs.Prelude.{ℕ, List, [], ◌∷◌, Option, Some, None, ◌≡◌, ◌⊎◌, refl}
 use Rattle.std.specs.declared.cmp.Ordering.{Ordering}
 use Rattle.std.specs.declared.cmp.Ordering.TheVariants.{Less, Equal, Greater}
-use Rattle.msc_base.specs.Blocks.{set_cmp}
-use Rattle.msc_base.specs.Patterns.{row, aside}
+use Rattle.bit_sets.specs.Blocks.{set_cmp}
+use Rattle.msc_base.specs.Patterns.{seq, par}
 use Rattle.hmsc_graph.specs.Graphs.{Spot, Start, At, Goal, To, End, Any}
 use Rattle.chart_term.specs.Order.{maybe_cmp, event_cmp, pair_cmp, pairs_cmp, spot_cmp, goal_cmp, tree_cmp, trees_cmp, row_cmp, TermsAreOrdered}
-use Rattle.chart_term.specs.Terms.{TermEvent, Tree, Nil, Event, Join, Choice, Bound, Turns, Trail, Trees, none, more, Row, ends, gap, turn}
+use Rattle.chart_term.specs.Terms.{TermEvent, Tree, Nil, Event, Join, Choice, Tied, Loop, Walk, Trees, none, more, Row, ends, gap, turn}
 
 -- a key: a tree of numbers
 pub data Key : Type 0 where
@@ -227,12 +227,12 @@ abbrev mutual
   pub tree_key : Tree → Key
   tree_key Nil = Both (Num 0) (Empty)
   tree_key (Event a0) = Both (Num 1) (event_key a0)
-  tree_key (Join row a0) = Both (Num 2) (trees_key a0)
-  tree_key (Join aside a0) = Both (Num 3) (trees_key a0)
+  tree_key (Join seq a0) = Both (Num 2) (trees_key a0)
+  tree_key (Join par a0) = Both (Num 3) (trees_key a0)
   tree_key (Choice a0) = Both (Num 4) (trees_key a0)
-  tree_key (Bound a0 a1) = Both (Num 5) (Both (tree_key a0) (pairs_key a1))
-  tree_key (Turns a0 a1 a2 a3) = Both (Num 6) (Both (tree_key a0) (Both (Num a1) (Both (maybe_key a2) (row_key a3))))
-  tree_key (Trail a0 a1 a2 a3) = Both (Num 7) (Both (Num a0) (Both (spot_key a1) (Both (goal_key a2) (set_key a3))))
+  tree_key (Tied a0 a1) = Both (Num 5) (Both (tree_key a0) (pairs_key a1))
+  tree_key (Loop a0 a1 a2 a3) = Both (Num 6) (Both (tree_key a0) (Both (Num a1) (Both (maybe_key a2) (row_key a3))))
+  tree_key (Walk a0 a1 a2 a3) = Both (Num 7) (Both (Num a0) (Both (spot_key a1) (Both (goal_key a2) (set_key a3))))
 
   pub trees_key : Trees → Key
   trees_key none = Empty
@@ -247,68 +247,68 @@ mutual
   tree_by_key : (x y : Tree) → tree_cmp x y ≡ key_cmp (tree_key x) (tree_key y)
   tree_by_key Nil Nil = refl
   tree_by_key Nil (Event b0) = refl
-  tree_by_key Nil (Join row b0) = refl
-  tree_by_key Nil (Join aside b0) = refl
+  tree_by_key Nil (Join seq b0) = refl
+  tree_by_key Nil (Join par b0) = refl
   tree_by_key Nil (Choice b0) = refl
-  tree_by_key Nil (Bound b0 b1) = refl
-  tree_by_key Nil (Turns b0 b1 b2 b3) = refl
-  tree_by_key Nil (Trail b0 b1 b2 b3) = refl
+  tree_by_key Nil (Tied b0 b1) = refl
+  tree_by_key Nil (Loop b0 b1 b2 b3) = refl
+  tree_by_key Nil (Walk b0 b1 b2 b3) = refl
   tree_by_key (Event a0) Nil = refl
   tree_by_key (Event a0) (Event b0) = event_by_key a0 b0
-  tree_by_key (Event a0) (Join row b0) = refl
-  tree_by_key (Event a0) (Join aside b0) = refl
+  tree_by_key (Event a0) (Join seq b0) = refl
+  tree_by_key (Event a0) (Join par b0) = refl
   tree_by_key (Event a0) (Choice b0) = refl
-  tree_by_key (Event a0) (Bound b0 b1) = refl
-  tree_by_key (Event a0) (Turns b0 b1 b2 b3) = refl
-  tree_by_key (Event a0) (Trail b0 b1 b2 b3) = refl
-  tree_by_key (Join row a0) Nil = refl
-  tree_by_key (Join row a0) (Event b0) = refl
-  tree_by_key (Join row a0) (Join row b0) = trees_by_key a0 b0
-  tree_by_key (Join row a0) (Join aside b0) = refl
-  tree_by_key (Join row a0) (Choice b0) = refl
-  tree_by_key (Join row a0) (Bound b0 b1) = refl
-  tree_by_key (Join row a0) (Turns b0 b1 b2 b3) = refl
-  tree_by_key (Join row a0) (Trail b0 b1 b2 b3) = refl
-  tree_by_key (Join aside a0) Nil = refl
-  tree_by_key (Join aside a0) (Event b0) = refl
-  tree_by_key (Join aside a0) (Join row b0) = refl
-  tree_by_key (Join aside a0) (Join aside b0) = trees_by_key a0 b0
-  tree_by_key (Join aside a0) (Choice b0) = refl
-  tree_by_key (Join aside a0) (Bound b0 b1) = refl
-  tree_by_key (Join aside a0) (Turns b0 b1 b2 b3) = refl
-  tree_by_key (Join aside a0) (Trail b0 b1 b2 b3) = refl
+  tree_by_key (Event a0) (Tied b0 b1) = refl
+  tree_by_key (Event a0) (Loop b0 b1 b2 b3) = refl
+  tree_by_key (Event a0) (Walk b0 b1 b2 b3) = refl
+  tree_by_key (Join seq a0) Nil = refl
+  tree_by_key (Join seq a0) (Event b0) = refl
+  tree_by_key (Join seq a0) (Join seq b0) = trees_by_key a0 b0
+  tree_by_key (Join seq a0) (Join par b0) = refl
+  tree_by_key (Join seq a0) (Choice b0) = refl
+  tree_by_key (Join seq a0) (Tied b0 b1) = refl
+  tree_by_key (Join seq a0) (Loop b0 b1 b2 b3) = refl
+  tree_by_key (Join seq a0) (Walk b0 b1 b2 b3) = refl
+  tree_by_key (Join par a0) Nil = refl
+  tree_by_key (Join par a0) (Event b0) = refl
+  tree_by_key (Join par a0) (Join seq b0) = refl
+  tree_by_key (Join par a0) (Join par b0) = trees_by_key a0 b0
+  tree_by_key (Join par a0) (Choice b0) = refl
+  tree_by_key (Join par a0) (Tied b0 b1) = refl
+  tree_by_key (Join par a0) (Loop b0 b1 b2 b3) = refl
+  tree_by_key (Join par a0) (Walk b0 b1 b2 b3) = refl
   tree_by_key (Choice a0) Nil = refl
   tree_by_key (Choice a0) (Event b0) = refl
-  tree_by_key (Choice a0) (Join row b0) = refl
-  tree_by_key (Choice a0) (Join aside b0) = refl
+  tree_by_key (Choice a0) (Join seq b0) = refl
+  tree_by_key (Choice a0) (Join par b0) = refl
   tree_by_key (Choice a0) (Choice b0) = trees_by_key a0 b0
-  tree_by_key (Choice a0) (Bound b0 b1) = refl
-  tree_by_key (Choice a0) (Turns b0 b1 b2 b3) = refl
-  tree_by_key (Choice a0) (Trail b0 b1 b2 b3) = refl
-  tree_by_key (Bound a0 a1) Nil = refl
-  tree_by_key (Bound a0 a1) (Event b0) = refl
-  tree_by_key (Bound a0 a1) (Join row b0) = refl
-  tree_by_key (Bound a0 a1) (Join aside b0) = refl
-  tree_by_key (Bound a0 a1) (Choice b0) = refl
-  tree_by_key (Bound a0 a1) (Bound b0 b1) = ap₂ ordering_then (tree_by_key a0 b0) (pairs_by_key a1 b1)
-  tree_by_key (Bound a0 a1) (Turns b0 b1 b2 b3) = refl
-  tree_by_key (Bound a0 a1) (Trail b0 b1 b2 b3) = refl
-  tree_by_key (Turns a0 a1 a2 a3) Nil = refl
-  tree_by_key (Turns a0 a1 a2 a3) (Event b0) = refl
-  tree_by_key (Turns a0 a1 a2 a3) (Join row b0) = refl
-  tree_by_key (Turns a0 a1 a2 a3) (Join aside b0) = refl
-  tree_by_key (Turns a0 a1 a2 a3) (Choice b0) = refl
-  tree_by_key (Turns a0 a1 a2 a3) (Bound b0 b1) = refl
-  tree_by_key (Turns a0 a1 a2 a3) (Turns b0 b1 b2 b3) = ap₂ ordering_then (tree_by_key a0 b0) (ap₂ ordering_then refl (ap₂ ordering_then (maybe_by_key a2 b2) (row_by_key a3 b3)))
-  tree_by_key (Turns a0 a1 a2 a3) (Trail b0 b1 b2 b3) = refl
-  tree_by_key (Trail a0 a1 a2 a3) Nil = refl
-  tree_by_key (Trail a0 a1 a2 a3) (Event b0) = refl
-  tree_by_key (Trail a0 a1 a2 a3) (Join row b0) = refl
-  tree_by_key (Trail a0 a1 a2 a3) (Join aside b0) = refl
-  tree_by_key (Trail a0 a1 a2 a3) (Choice b0) = refl
-  tree_by_key (Trail a0 a1 a2 a3) (Bound b0 b1) = refl
-  tree_by_key (Trail a0 a1 a2 a3) (Turns b0 b1 b2 b3) = refl
-  tree_by_key (Trail a0 a1 a2 a3) (Trail b0 b1 b2 b3) = ap₂ ordering_then refl (ap₂ ordering_then (spot_by_key a1 b1) (ap₂ ordering_then (goal_by_key a2 b2) (set_by_key a3 b3)))
+  tree_by_key (Choice a0) (Tied b0 b1) = refl
+  tree_by_key (Choice a0) (Loop b0 b1 b2 b3) = refl
+  tree_by_key (Choice a0) (Walk b0 b1 b2 b3) = refl
+  tree_by_key (Tied a0 a1) Nil = refl
+  tree_by_key (Tied a0 a1) (Event b0) = refl
+  tree_by_key (Tied a0 a1) (Join seq b0) = refl
+  tree_by_key (Tied a0 a1) (Join par b0) = refl
+  tree_by_key (Tied a0 a1) (Choice b0) = refl
+  tree_by_key (Tied a0 a1) (Tied b0 b1) = ap₂ ordering_then (tree_by_key a0 b0) (pairs_by_key a1 b1)
+  tree_by_key (Tied a0 a1) (Loop b0 b1 b2 b3) = refl
+  tree_by_key (Tied a0 a1) (Walk b0 b1 b2 b3) = refl
+  tree_by_key (Loop a0 a1 a2 a3) Nil = refl
+  tree_by_key (Loop a0 a1 a2 a3) (Event b0) = refl
+  tree_by_key (Loop a0 a1 a2 a3) (Join seq b0) = refl
+  tree_by_key (Loop a0 a1 a2 a3) (Join par b0) = refl
+  tree_by_key (Loop a0 a1 a2 a3) (Choice b0) = refl
+  tree_by_key (Loop a0 a1 a2 a3) (Tied b0 b1) = refl
+  tree_by_key (Loop a0 a1 a2 a3) (Loop b0 b1 b2 b3) = ap₂ ordering_then (tree_by_key a0 b0) (ap₂ ordering_then refl (ap₂ ordering_then (maybe_by_key a2 b2) (row_by_key a3 b3)))
+  tree_by_key (Loop a0 a1 a2 a3) (Walk b0 b1 b2 b3) = refl
+  tree_by_key (Walk a0 a1 a2 a3) Nil = refl
+  tree_by_key (Walk a0 a1 a2 a3) (Event b0) = refl
+  tree_by_key (Walk a0 a1 a2 a3) (Join seq b0) = refl
+  tree_by_key (Walk a0 a1 a2 a3) (Join par b0) = refl
+  tree_by_key (Walk a0 a1 a2 a3) (Choice b0) = refl
+  tree_by_key (Walk a0 a1 a2 a3) (Tied b0 b1) = refl
+  tree_by_key (Walk a0 a1 a2 a3) (Loop b0 b1 b2 b3) = refl
+  tree_by_key (Walk a0 a1 a2 a3) (Walk b0 b1 b2 b3) = ap₂ ordering_then refl (ap₂ ordering_then (spot_by_key a1 b1) (ap₂ ordering_then (goal_by_key a2 b2) (set_by_key a3 b3)))
 
   trees_by_key : (xs ys : Trees) → trees_cmp xs ys ≡ key_cmp (trees_key xs) (trees_key ys)
   trees_by_key none none = refl
@@ -331,68 +331,68 @@ mutual
   pub tree_equal : (x y : Tree) → tree_cmp x y ≡ Equal → x ≡ y
   tree_equal Nil Nil h = refl
   tree_equal Nil (Event b0) h = cc
-  tree_equal Nil (Join row b0) h = cc
-  tree_equal Nil (Join aside b0) h = cc
+  tree_equal Nil (Join seq b0) h = cc
+  tree_equal Nil (Join par b0) h = cc
   tree_equal Nil (Choice b0) h = cc
-  tree_equal Nil (Bound b0 b1) h = cc
-  tree_equal Nil (Turns b0 b1 b2 b3) h = cc
-  tree_equal Nil (Trail b0 b1 b2 b3) h = cc
+  tree_equal Nil (Tied b0 b1) h = cc
+  tree_equal Nil (Loop b0 b1 b2 b3) h = cc
+  tree_equal Nil (Walk b0 b1 b2 b3) h = cc
   tree_equal (Event a0) Nil h = cc
   tree_equal (Event a0) (Event b0) h = λ k. Event (event_equal a0 b0 h k)
-  tree_equal (Event a0) (Join row b0) h = cc
-  tree_equal (Event a0) (Join aside b0) h = cc
+  tree_equal (Event a0) (Join seq b0) h = cc
+  tree_equal (Event a0) (Join par b0) h = cc
   tree_equal (Event a0) (Choice b0) h = cc
-  tree_equal (Event a0) (Bound b0 b1) h = cc
-  tree_equal (Event a0) (Turns b0 b1 b2 b3) h = cc
-  tree_equal (Event a0) (Trail b0 b1 b2 b3) h = cc
-  tree_equal (Join row a0) Nil h = cc
-  tree_equal (Join row a0) (Event b0) h = cc
-  tree_equal (Join row a0) (Join row b0) h = λ k. Join row (trees_equal a0 b0 h k)
-  tree_equal (Join row a0) (Join aside b0) h = cc
-  tree_equal (Join row a0) (Choice b0) h = cc
-  tree_equal (Join row a0) (Bound b0 b1) h = cc
-  tree_equal (Join row a0) (Turns b0 b1 b2 b3) h = cc
-  tree_equal (Join row a0) (Trail b0 b1 b2 b3) h = cc
-  tree_equal (Join aside a0) Nil h = cc
-  tree_equal (Join aside a0) (Event b0) h = cc
-  tree_equal (Join aside a0) (Join row b0) h = cc
-  tree_equal (Join aside a0) (Join aside b0) h = λ k. Join aside (trees_equal a0 b0 h k)
-  tree_equal (Join aside a0) (Choice b0) h = cc
-  tree_equal (Join aside a0) (Bound b0 b1) h = cc
-  tree_equal (Join aside a0) (Turns b0 b1 b2 b3) h = cc
-  tree_equal (Join aside a0) (Trail b0 b1 b2 b3) h = cc
+  tree_equal (Event a0) (Tied b0 b1) h = cc
+  tree_equal (Event a0) (Loop b0 b1 b2 b3) h = cc
+  tree_equal (Event a0) (Walk b0 b1 b2 b3) h = cc
+  tree_equal (Join seq a0) Nil h = cc
+  tree_equal (Join seq a0) (Event b0) h = cc
+  tree_equal (Join seq a0) (Join seq b0) h = λ k. Join seq (trees_equal a0 b0 h k)
+  tree_equal (Join seq a0) (Join par b0) h = cc
+  tree_equal (Join seq a0) (Choice b0) h = cc
+  tree_equal (Join seq a0) (Tied b0 b1) h = cc
+  tree_equal (Join seq a0) (Loop b0 b1 b2 b3) h = cc
+  tree_equal (Join seq a0) (Walk b0 b1 b2 b3) h = cc
+  tree_equal (Join par a0) Nil h = cc
+  tree_equal (Join par a0) (Event b0) h = cc
+  tree_equal (Join par a0) (Join seq b0) h = cc
+  tree_equal (Join par a0) (Join par b0) h = λ k. Join par (trees_equal a0 b0 h k)
+  tree_equal (Join par a0) (Choice b0) h = cc
+  tree_equal (Join par a0) (Tied b0 b1) h = cc
+  tree_equal (Join par a0) (Loop b0 b1 b2 b3) h = cc
+  tree_equal (Join par a0) (Walk b0 b1 b2 b3) h = cc
   tree_equal (Choice a0) Nil h = cc
   tree_equal (Choice a0) (Event b0) h = cc
-  tree_equal (Choice a0) (Join row b0) h = cc
-  tree_equal (Choice a0) (Join aside b0) h = cc
+  tree_equal (Choice a0) (Join seq b0) h = cc
+  tree_equal (Choice a0) (Join par b0) h = cc
   tree_equal (Choice a0) (Choice b0) h = λ k. Choice (trees_equal a0 b0 h k)
-  tree_equal (Choice a0) (Bound b0 b1) h = cc
-  tree_equal (Choice a0) (Turns b0 b1 b2 b3) h = cc
-  tree_equal (Choice a0) (Trail b0 b1 b2 b3) h = cc
-  tree_equal (Bound a0 a1) Nil h = cc
-  tree_equal (Bound a0 a1) (Event b0) h = cc
-  tree_equal (Bound a0 a1) (Join row b0) h = cc
-  tree_equal (Bound a0 a1) (Join aside b0) h = cc
-  tree_equal (Bound a0 a1) (Choice b0) h = cc
-  tree_equal (Bound a0 a1) (Bound b0 b1) h = let (p0, q0) = both_equal (tree_cmp a0 b0) (pairs_cmp a1 b1) h in λ k. Bound (tree_equal a0 b0 p0 k) (pairs_equal a1 b1 q0 k)
-  tree_equal (Bound a0 a1) (Turns b0 b1 b2 b3) h = cc
-  tree_equal (Bound a0 a1) (Trail b0 b1 b2 b3) h = cc
-  tree_equal (Turns a0 a1 a2 a3) Nil h = cc
-  tree_equal (Turns a0 a1 a2 a3) (Event b0) h = cc
-  tree_equal (Turns a0 a1 a2 a3) (Join row b0) h = cc
-  tree_equal (Turns a0 a1 a2 a3) (Join aside b0) h = cc
-  tree_equal (Turns a0 a1 a2 a3) (Choice b0) h = cc
-  tree_equal (Turns a0 a1 a2 a3) (Bound b0 b1) h = cc
-  tree_equal (Turns a0 a1 a2 a3) (Turns b0 b1 b2 b3) h = let (p0, q0) = both_equal (tree_cmp a0 b0) (ordering_then (nat_cmp a1 b1) (ordering_then (maybe_cmp a2 b2) (row_cmp a3 b3))) h in let (p1, q1) = both_equal (nat_cmp a1 b1) (ordering_then (maybe_cmp a2 b2) (row_cmp a3 b3)) q0 in let (p2, q2) = both_equal (maybe_cmp a2 b2) (row_cmp a3 b3) q1 in λ k. Turns (tree_equal a0 b0 p0 k) (number_equal a1 b1 p1 k) (maybe_equal a2 b2 p2 k) (row_equal a3 b3 q2 k)
-  tree_equal (Turns a0 a1 a2 a3) (Trail b0 b1 b2 b3) h = cc
-  tree_equal (Trail a0 a1 a2 a3) Nil h = cc
-  tree_equal (Trail a0 a1 a2 a3) (Event b0) h = cc
-  tree_equal (Trail a0 a1 a2 a3) (Join row b0) h = cc
-  tree_equal (Trail a0 a1 a2 a3) (Join aside b0) h = cc
-  tree_equal (Trail a0 a1 a2 a3) (Choice b0) h = cc
-  tree_equal (Trail a0 a1 a2 a3) (Bound b0 b1) h = cc
-  tree_equal (Trail a0 a1 a2 a3) (Turns b0 b1 b2 b3) h = cc
-  tree_equal (Trail a0 a1 a2 a3) (Trail b0 b1 b2 b3) h = let (p0, q0) = both_equal (nat_cmp a0 b0) (ordering_then (spot_cmp a1 b1) (ordering_then (goal_cmp a2 b2) (set_cmp a3 b3))) h in let (p1, q1) = both_equal (spot_cmp a1 b1) (ordering_then (goal_cmp a2 b2) (set_cmp a3 b3)) q0 in let (p2, q2) = both_equal (goal_cmp a2 b2) (set_cmp a3 b3) q1 in λ k. Trail (number_equal a0 b0 p0 k) (spot_equal a1 b1 p1 k) (goal_equal a2 b2 p2 k) (set_equal a3 b3 q2 k)
+  tree_equal (Choice a0) (Tied b0 b1) h = cc
+  tree_equal (Choice a0) (Loop b0 b1 b2 b3) h = cc
+  tree_equal (Choice a0) (Walk b0 b1 b2 b3) h = cc
+  tree_equal (Tied a0 a1) Nil h = cc
+  tree_equal (Tied a0 a1) (Event b0) h = cc
+  tree_equal (Tied a0 a1) (Join seq b0) h = cc
+  tree_equal (Tied a0 a1) (Join par b0) h = cc
+  tree_equal (Tied a0 a1) (Choice b0) h = cc
+  tree_equal (Tied a0 a1) (Tied b0 b1) h = let (p0, q0) = both_equal (tree_cmp a0 b0) (pairs_cmp a1 b1) h in λ k. Tied (tree_equal a0 b0 p0 k) (pairs_equal a1 b1 q0 k)
+  tree_equal (Tied a0 a1) (Loop b0 b1 b2 b3) h = cc
+  tree_equal (Tied a0 a1) (Walk b0 b1 b2 b3) h = cc
+  tree_equal (Loop a0 a1 a2 a3) Nil h = cc
+  tree_equal (Loop a0 a1 a2 a3) (Event b0) h = cc
+  tree_equal (Loop a0 a1 a2 a3) (Join seq b0) h = cc
+  tree_equal (Loop a0 a1 a2 a3) (Join par b0) h = cc
+  tree_equal (Loop a0 a1 a2 a3) (Choice b0) h = cc
+  tree_equal (Loop a0 a1 a2 a3) (Tied b0 b1) h = cc
+  tree_equal (Loop a0 a1 a2 a3) (Loop b0 b1 b2 b3) h = let (p0, q0) = both_equal (tree_cmp a0 b0) (ordering_then (nat_cmp a1 b1) (ordering_then (maybe_cmp a2 b2) (row_cmp a3 b3))) h in let (p1, q1) = both_equal (nat_cmp a1 b1) (ordering_then (maybe_cmp a2 b2) (row_cmp a3 b3)) q0 in let (p2, q2) = both_equal (maybe_cmp a2 b2) (row_cmp a3 b3) q1 in λ k. Loop (tree_equal a0 b0 p0 k) (number_equal a1 b1 p1 k) (maybe_equal a2 b2 p2 k) (row_equal a3 b3 q2 k)
+  tree_equal (Loop a0 a1 a2 a3) (Walk b0 b1 b2 b3) h = cc
+  tree_equal (Walk a0 a1 a2 a3) Nil h = cc
+  tree_equal (Walk a0 a1 a2 a3) (Event b0) h = cc
+  tree_equal (Walk a0 a1 a2 a3) (Join seq b0) h = cc
+  tree_equal (Walk a0 a1 a2 a3) (Join par b0) h = cc
+  tree_equal (Walk a0 a1 a2 a3) (Choice b0) h = cc
+  tree_equal (Walk a0 a1 a2 a3) (Tied b0 b1) h = cc
+  tree_equal (Walk a0 a1 a2 a3) (Loop b0 b1 b2 b3) h = cc
+  tree_equal (Walk a0 a1 a2 a3) (Walk b0 b1 b2 b3) h = let (p0, q0) = both_equal (nat_cmp a0 b0) (ordering_then (spot_cmp a1 b1) (ordering_then (goal_cmp a2 b2) (set_cmp a3 b3))) h in let (p1, q1) = both_equal (spot_cmp a1 b1) (ordering_then (goal_cmp a2 b2) (set_cmp a3 b3)) q0 in let (p2, q2) = both_equal (goal_cmp a2 b2) (set_cmp a3 b3) q1 in λ k. Walk (number_equal a0 b0 p0 k) (spot_equal a1 b1 p1 k) (goal_equal a2 b2 p2 k) (set_equal a3 b3 q2 k)
 
   trees_equal : (xs ys : Trees) → trees_cmp xs ys ≡ Equal → xs ≡ ys
   trees_equal none none h = refl

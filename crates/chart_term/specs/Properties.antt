@@ -1,6 +1,6 @@
 -- Properties of all parts, events and nets of a term.
 use Rattle.std.specs.Prelude.{ℕ, List, [], ◌∷◌, Option, Some, None, ◌<◌}
-use Rattle.chart_term.specs.Terms.{TermEvent, Tree, Nil, Event, Join, Choice, Bound, Turns, Trail, Trees, none, more, Row, ends, gap, turn, Part, Gap, Turn}
+use Rattle.chart_term.specs.Terms.{TermEvent, Tree, Nil, Event, Join, Choice, Tied, Loop, Walk, Trees, none, more, Row, ends, gap, turn, Part, Gap, Turn}
 
 -- each term of the list has the property
 abbrev pub Each : (Tree → Type 0) → List Tree → Type 0
@@ -25,9 +25,9 @@ abbrev mutual
   Every E N (Event e) = E e
   Every E N (Join m xs) = EveryOf E N xs
   Every E N (Choice xs) = EveryOf E N xs
-  Every E N (Bound x q) = Every E N x
-  Every E N (Turns x lo hi r) = Every E N x × EveryRow E N r
-  Every E N (Trail n f t c) = N n
+  Every E N (Tied x q) = Every E N x
+  Every E N (Loop x lo hi r) = Every E N x × EveryRow E N r
+  Every E N (Walk n f t c) = N n
 
   pub EveryOf : (TermEvent → Type 0) → (ℕ → Type 0) → Trees → Type 0
   EveryOf E N none = Unit {0}

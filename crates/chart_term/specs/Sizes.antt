@@ -2,7 +2,7 @@
 use Rattle.std.specs.Prelude.{ℕ, ◌+◌, ◌*◌, ◌≤◌, ◌≡◌, List, [], ◌∷◌, refl}
 use Rattle.std.proofs.Common.{ap, arith}
 use denote.Param.Weighed.{most}
-use Rattle.chart_term.specs.Terms.{Tree, Nil, Event, Join, Choice, Bound, Turns, Trail, Trees, none, more, Row, ends, gap, turn, trees, Part, Gap, Turn, row_of}
+use Rattle.chart_term.specs.Terms.{Tree, Nil, Event, Join, Choice, Tied, Loop, Walk, Trees, none, more, Row, ends, gap, turn, trees, Part, Gap, Turn, row_of}
 
 abbrev mutual
   pub nodes : Tree → ℕ
@@ -10,9 +10,9 @@ abbrev mutual
   nodes (Event e) = 1
   nodes (Join m xs) = nodes_all xs + 1
   nodes (Choice xs) = nodes_all xs + 1
-  nodes (Bound x q) = nodes x + 1
-  nodes (Turns x lo hi r) = nodes x + nodes_row r + 1
-  nodes (Trail n s t c) = 1
+  nodes (Tied x q) = nodes x + 1
+  nodes (Loop x lo hi r) = nodes x + nodes_row r + 1
+  nodes (Walk n s t c) = 1
 
   pub nodes_all : Trees → ℕ
   nodes_all none = 1

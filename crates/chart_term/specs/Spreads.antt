@@ -2,7 +2,7 @@
 use Rattle.std.specs.Prelude.{ℕ, List, [], ◌∷◌, ◌++◌, ◌==◌, ◌||◌, ◌≡◌}
 use Rattle.chart_term.specs.Tables.{choose, net_count, Tables}
 use Rattle.chart_term.specs.TermPatterns.{instances_of}
-use Rattle.chart_term.specs.Terms.{has, Tree, Nil, Event, Join, Choice, Bound, Turns, Trail, Trees, none, more, Row, ends, gap, turn, Part, Gap, Turn}
+use Rattle.chart_term.specs.Terms.{has, Tree, Nil, Event, Join, Choice, Tied, Loop, Walk, Trees, none, more, Row, ends, gap, turn, Part, Gap, Turn}
 
 -- the instances of the events of a term, of its loop operands, begun turns and nets, where those of each net are given
 abbrev mutual
@@ -11,9 +11,9 @@ abbrev mutual
   touch k (Event e) = (instances_of e).instances
   touch k (Join m xs) = touch_all k xs
   touch k (Choice xs) = touch_all k xs
-  touch k (Bound x q) = touch k x
-  touch k (Turns x lo hi r) = touch k x ++ touch_row k r
-  touch k (Trail n s t c) = k n
+  touch k (Tied x q) = touch k x
+  touch k (Loop x lo hi r) = touch k x ++ touch_row k r
+  touch k (Walk n s t c) = k n
 
   pub touch_all : (ℕ → List ℕ) → Trees → List ℕ
   touch_all k none = []

@@ -1,10 +1,11 @@
 -- The patterns of a term.
 use Rattle.std.specs.Prelude.{ℕ, zero, suc, ◌≤◌, Bool, true, false, List, [], ◌∷◌, ◌≡◌, Option, Some, None}
-use Rattle.msc_base.specs.Patterns.{Mode, row, empty, one, join, bind}
-use Rattle.hmsc_graph.specs.Graphs.{Spot, At, Goal, To, End, Any, Net, behind, arrives, IsIn}
+use Rattle.msc_base.specs.Patterns.{Mode, seq, empty, one, join, bind}
+use Rattle.hmsc_graph.specs.Graphs.{Spot, At, Goal, To, End, Any, Net, behind, arrives}
+use Rattle.msc_base.specs.Lists.{IsIn}
 use Rattle.chart_term.specs.NormalForms.{only, NetPermits}
 use Rattle.chart_term.specs.TermPatterns.{Shape, Avoids, Takes, ◌≈◌}
-use Rattle.chart_term.specs.Terms.{TermEvent, Block, Tree, Nil, Event, Join, Choice, Bound, Turns, Trail, Trees, Row, items, Part, Gap, Turn, parts}
+use Rattle.chart_term.specs.Terms.{TermEvent, Block, Tree, Nil, Event, Join, Choice, Tied, Loop, Walk, Trees, Row, items, Part, Gap, Turn, parts}
 
 -- the graphs, and the terms of their nodes
 pub record NetTerms : Type 0 where
@@ -36,9 +37,9 @@ mutual
     has_event : {e : TermEvent} → HasPattern w o (Event e) (one e)
     has_join : {m : Mode} {xs : Trees} {s : Shape} → HasParts w o m (items xs) s → HasPattern w o (Join m xs) s
     has_choice : {xs : Trees} {s : Shape} → HasChoice w o (items xs) s → HasPattern w o (Choice xs) s
-    has_bound : {x : Tree} {q : List (ℕ × ℕ)} {s : Shape} → HasPattern w o x s → HasPattern w o (Bound x q) (bind s q)
-    has_turns : {x : Tree} {lo : ℕ} {hi : Option ℕ} {r : Row} {s : Shape} (n : ℕ) → HasRow w o x (parts r) n s → lo ≤ n → UpTo hi n → HasPattern w o (Turns x lo hi r) s
-    has_trail : {n : ℕ} {f : Spot} {t : Goal} {c : List ℕ} {s : Shape} → HasWalk w o n f t c s → HasPattern w o (Trail n f t c) s
+    holds_tie : {x : Tree} {q : List (ℕ × ℕ)} {s : Shape} → HasPattern w o x s → HasPattern w o (Tied x q) (bind s q)
+    holds_loop : {x : Tree} {lo : ℕ} {hi : Option ℕ} {r : Row} {s : Shape} (n : ℕ) → HasRow w o x (parts r) n s → lo ≤ n → UpTo hi n → HasPattern w o (Loop x lo hi r) s
+    holds_walk : {n : ℕ} {f : Spot} {t : Goal} {c : List ℕ} {s : Shape} → HasWalk w o n f t c s → HasPattern w o (Walk n f t c) s
 
   pub data HasParts (w : NetTerms) (o : Bool) : Mode → List Tree → Shape → Type 0 where
     no_part : {m : Mode} → HasParts w o m [] empty
@@ -51,14 +52,14 @@ mutual
   -- n turns of the operand are spread over the gaps
   pub data HasRow (w : NetTerms) (o : Bool) : Tree → List Part → ℕ → Shape → Type 0 where
     gaps_end : {x : Tree} → HasRow w o x [] zero empty
-    gaps_turn : {x y : Tree} {ps : List Part} {n : ℕ} {s u : Shape} → HasPattern w o y s → HasRow w o x ps n u → HasRow w o x (Turn y ∷ ps) n (join row s u)
+    gaps_turn : {x y : Tree} {ps : List Part} {n : ℕ} {s u : Shape} → HasPattern w o y s → HasRow w o x ps n u → HasRow w o x (Turn y ∷ ps) n (join seq s u)
     gaps_shut : {x : Tree} {c : List ℕ} {ps : List Part} {n : ℕ} {u : Shape} → HasRow w o x ps n u → HasRow w o x (Gap c ∷ ps) n u
-    gaps_more : {x : Tree} {c : List ℕ} {ps : List Part} {n : ℕ} {s u : Shape} → HasPattern w o x s → Avoids (only c) s → HasRow w o x (Gap c ∷ ps) n u → HasRow w o x (Gap c ∷ ps) (suc n) (join row s u)
+    gaps_more : {x : Tree} {c : List ℕ} {ps : List Part} {n : ℕ} {s u : Shape} → HasPattern w o x s → Avoids (only c) s → HasRow w o x (Gap c ∷ ps) n u → HasRow w o x (Gap c ∷ ps) (suc n) (join seq s u)
 
   pub data HasWalk (w : NetTerms) (o : Bool) : ℕ → Spot → Goal → List ℕ → Shape → Type 0 where
     walk_stop : {n : ℕ} {f : Spot} {t : Goal} {c : List ℕ} → MayStop t o → HasWalk w o n f t c empty
     walk_last : {n : ℕ} {f : Spot} {t : Goal} {c : List ℕ} (m : ℕ) → IsIn m (behind (w.net n) f) → arrives (w.net n) (aim t) m ≡ true → HasWalk w o n f t c empty
-    walk_step : {n : ℕ} {f : Spot} {t : Goal} {c : List ℕ} (m : ℕ) {s u : Shape} → IsIn m (behind (w.net n) f) → HasPattern w o (w.node n m) s → Avoids (only c) s → HasWalk w o n (At m) t c u → HasWalk w o n f t c (join row s u)
+    walk_step : {n : ℕ} {f : Spot} {t : Goal} {c : List ℕ} (m : ℕ) {s u : Shape} → IsIn m (behind (w.net n) f) → HasPattern w o (w.node n m) s → Avoids (only c) s → HasWalk w o n (At m) t c u → HasWalk w o n f t c (join seq s u)
 
 -- a set of patterns
 abbrev pub PatternSet : Type 1

@@ -1,6 +1,6 @@
 -- Patterns of terms: events with numbers, and pairs of numbers that tie them.
 use Rattle.std.specs.Prelude.{ℕ, Bool, true, false, List, [], ◌∷◌, ◌≡◌, Option, Some, None, ◌||◌, ◌&&◌, ◌==◌, ◌⊎◌}
-use Rattle.msc_base.specs.Patterns.{Mode, row, aside, Pattern, empty, one, join, bind, Reading}
+use Rattle.msc_base.specs.Patterns.{Mode, seq, par, Pattern, empty, one, join, bind, Reading}
 use Rattle.chart_term.specs.Terms.{TermEvent, Block, hits}
 
 -- a pattern of a term: its ties are pairs of event numbers
@@ -39,8 +39,8 @@ earlier q e = record { instances = []; numbers = before_in q e.number }
 
 -- what stands before an event in a join lets it go
 abbrev pub Lets : Mode → TermEvent → Shape → Type 0
-Lets row e x = Avoids (instances_of e) x
-Lets aside e x = Unit {0}
+Lets seq e x = Avoids (instances_of e) x
+Lets par e x = Unit {0}
 
 -- a minimal event is taken out of the first, and leaves the second
 pub data Takes : Shape → TermEvent → Shape → Type 0 where

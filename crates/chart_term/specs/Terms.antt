@@ -54,9 +54,9 @@ mutual
     Event : TermEvent → Tree
     Join : Mode → Trees → Tree
     Choice : Trees → Tree
-    Bound : Tree → List (ℕ × ℕ) → Tree
-    Turns : Tree → ℕ → Option ℕ → Row → Tree
-    Trail : ℕ → Spot → Goal → List ℕ → Tree
+    Tied : Tree → List (ℕ × ℕ) → Tree
+    Loop : Tree → ℕ → Option ℕ → Row → Tree
+    Walk : ℕ → Spot → Goal → List ℕ → Tree
 
   pub data Trees : Type 0 where
     none : Trees
@@ -101,9 +101,9 @@ abbrev mutual
   weight (Event e) = 1
   weight (Join m xs) = 1 + weights xs
   weight (Choice xs) = 1 + weights xs
-  weight (Bound x q) = 1 + weight x + length q
-  weight (Turns x lo hi r) = 1 + weight x + row_weight r
-  weight (Trail n s t c) = 1
+  weight (Tied x q) = 1 + weight x + length q
+  weight (Loop x lo hi r) = 1 + weight x + row_weight r
+  weight (Walk n s t c) = 1
 
   pub weights : Trees → ℕ
   weights none = 0

@@ -6,7 +6,8 @@ ghost use Rattle.chart_term.specs.Views.{event_of};
 ghost use Rattle.chart_term.specs.Terms.{Event as EventTree};
 
 use crate::Event;
-use msc_base::{Block, Limits, NoMemory};
+use bit_sets::Block;
+use msc_base::{Limits, NoMemory};
 use std::alloc::Global;
 
 /// The least and the greatest of some event numbers.
@@ -22,7 +23,7 @@ pub(crate) struct Facts {
     /// The weight, or the largest `u64` where it is larger.
     pub(crate) weight: u64,
     /// Whether a walk stands in the term, in a loop operand of it or in a begun turn.
-    pub(crate) has_trail: bool,
+    pub(crate) holds_walk: bool,
     /// The instances of the events of the term, of its loop operands and of its begun turns.
     pub(crate) instances: Block,
     /// The least and the greatest number of these events.
@@ -68,7 +69,7 @@ impl Facts {
     {
         Facts {
             weight: 0,
-            has_trail: false,
+            holds_walk: false,
             instances: Block::empty(alloc),
             span: None,
         }
@@ -91,7 +92,7 @@ impl Facts {
         };
         Ok(Facts {
             weight: 1,
-            has_trail: false,
+            holds_walk: false,
             instances,
             span: Some(span),
         })
@@ -103,7 +104,7 @@ impl Facts {
     {
         Facts {
             weight: 1,
-            has_trail: true,
+            holds_walk: true,
             instances: Block::empty(alloc),
             span: None,
         }
@@ -115,7 +116,7 @@ impl Facts {
     {
         self.instances.add_instances(&other.instances)?;
         self.weight = self.weight.saturating_add(other.weight);
-        self.has_trail |= other.has_trail;
+        self.holds_walk |= other.holds_walk;
         self.span = widened(self.span, other.span);
         Ok(())
     }
@@ -134,7 +135,7 @@ impl Facts {
         let instances = self.instances.copy(alloc)?;
         Ok(Facts {
             weight: self.weight,
-            has_trail: self.has_trail,
+            holds_walk: self.holds_walk,
             instances,
             span: self.span,
         })
@@ -145,7 +146,7 @@ impl Facts {
     pub(crate) fn misses(&self, block: &Block) -> bool
         ensures { result ≡ facts_miss block.now self.now }
     {
-        if self.has_trail || block.shares_instance(&self.instances) {
+        if self.holds_walk || block.shares_instance(&self.instances) {
             return false;
         }
         match self.span {

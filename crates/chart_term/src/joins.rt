@@ -1,5 +1,5 @@
 ghost use Rattle.std.specs.Prelude.{◌≡◌, ◌++◌, IfOk, OnOk};
-ghost use Rattle.msc_base.specs.Patterns.{row, aside};
+ghost use Rattle.msc_base.specs.Patterns.{seq, par};
 ghost use Rattle.chart_term.specs.Modes.{mode_of};
 ghost use Rattle.chart_term.specs.NormalForms.{open_part, join_of, join_all};
 
@@ -11,9 +11,9 @@ use std::alloc::Global;
 #[derive(Clone, Copy, Debug, PartialEq, Eq)]
 enum Mode {
     /// In weak sequence.
-    Row,
+    Seq,
     /// Side by side.
-    Aside,
+    Par,
 }
 
 /// Appends the part, opened where it is a join of this kind.
@@ -23,8 +23,8 @@ fn push_opened(list: &mut TermList, alloc: Global, mode: Mode, part: &Term) -> R
 {
     match (mode, part.look()) {
         (_, Look::Nil) => Ok(()),
-        (Mode::Row, Look::Then(parts)) => list.append_copies(alloc, parts),
-        (Mode::Aside, Look::Beside(parts)) => list.append_copies(alloc, parts),
+        (Mode::Seq, Look::Seq(parts)) => list.append_copies(alloc, parts),
+        (Mode::Par, Look::Par(parts)) => list.append_copies(alloc, parts),
         _ => list.push(part.copy(alloc)?),
     }
 }
@@ -36,8 +36,8 @@ fn join_of(alloc: Global, mode: Mode, parts: TermList) -> Result<Term, NoMemory>
     let mut parts = parts;
     if parts.len() > 1 {
         return match mode {
-            Mode::Row => Term::row_of(alloc, parts),
-            Mode::Aside => Term::aside_of(alloc, parts),
+            Mode::Seq => Term::seq_of(alloc, parts),
+            Mode::Par => Term::par_of(alloc, parts),
         };
     }
     match parts.pop() {
@@ -60,16 +60,16 @@ fn join(alloc: Global, mode: Mode, parts: &TermList) -> Result<Term, NoMemory>
 
 /// The parts in weak sequence, in normal form: parts that are such rows are opened, and empty
 /// parts dropped; of no part it is empty, of one that one.
-pub fn then(alloc: Global, parts: TermList) -> Result<Term, NoMemory>
-    ensures { IfOk result (λ term. term ≡ join_all row parts) }
+pub fn seq(alloc: Global, parts: TermList) -> Result<Term, NoMemory>
+    ensures { IfOk result (λ term. term ≡ join_all seq parts) }
 {
-    join(alloc, Mode::Row, &parts)
+    join(alloc, Mode::Seq, &parts)
 }
 
 /// The parts side by side, in normal form: parts that stand side by side themselves are opened,
 /// and empty parts dropped; of no part it is empty, of one that one.
-pub fn beside(alloc: Global, parts: TermList) -> Result<Term, NoMemory>
-    ensures { IfOk result (λ term. term ≡ join_all aside parts) }
+pub fn par(alloc: Global, parts: TermList) -> Result<Term, NoMemory>
+    ensures { IfOk result (λ term. term ≡ join_all par parts) }
 {
-    join(alloc, Mode::Aside, &parts)
+    join(alloc, Mode::Par, &parts)
 }

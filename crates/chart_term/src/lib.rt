@@ -4,7 +4,7 @@
 //! of a term, its weight, its patterns and the normalising constructors.
 #![tactic(auto)]
 
-mod bounds;
+mod ties;
 mod choices;
 mod event;
 mod facts;
@@ -16,10 +16,10 @@ mod term;
 #[cfg(test)]
 mod tests;
 
-pub use bounds::bound;
+pub use ties::tied;
 pub use choices::choice;
 pub use event::Event;
-pub use joins::{beside, then};
+pub use joins::{par, seq};
 pub use look::Look;
 pub use nets::Nets;
 pub use term::{RowList, RowPart, Term, TermList};

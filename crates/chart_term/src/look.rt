@@ -1,6 +1,7 @@
 use crate::{RowList, Term, TermList};
 use hmsc_graph::{Goal, Spot};
-use msc_base::{Block, PairList};
+use bit_sets::Block;
+use msc_base::PairList;
 
 /// The parts of a term.
 #[derive(Drop)]
@@ -19,15 +20,15 @@ pub enum Look<'a> {
         label: u32,
     },
     /// Parts in weak sequence.
-    Then(&'a TermList),
+    Seq(&'a TermList),
     /// Parts side by side.
-    Beside(&'a TermList),
+    Par(&'a TermList),
     /// One of these parts (delayed choice).
     Choice(&'a TermList),
     /// A term below a tie of these pairs: the first of a pair comes before the second.
-    Bound(&'a Term, &'a PairList),
+    Tied(&'a Term, &'a PairList),
     /// A loop.
-    Turns {
+    Loop {
         /// The loop's operand.
         body: &'a Term,
         /// How many turns have to come yet.
@@ -38,7 +39,7 @@ pub enum Look<'a> {
         row: &'a RowList,
     },
     /// A walk through a net.
-    Trail {
+    Walk {
         /// The net's number.
         net: u32,
         /// Where the walk begins.

@@ -10,7 +10,8 @@ ghost use Rattle.chart_term.specs.Terms.{has};
 use crate::{Term, TermList};
 use hmsc_graph::{Goal, Net, Spot};
 use label_table::LabelTable;
-use msc_base::{Block, Label, NoMemory};
+use bit_sets::Block;
+use msc_base::{Label, NoMemory};
 use std::alloc::Global;
 use std::marker::Model;
 

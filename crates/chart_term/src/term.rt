@@ -1,8 +1,8 @@
 ghost use Rattle.std.specs.Prelude.{◌≡◌, ◌+◌, ◌++◌, ◌∷◌, ◌<◌, ℕ, [], length, slice_get, min, IfOk, OnOk, OnErr, Some, MatchOption};
 ghost use Rattle.std.specs.Option.{ForSome};
-ghost use Rattle.chart_term.specs.Facts.{HasFacts, HaveFacts, RowHasFacts, has_trail, instances, misses, most_stored};
-ghost use Rattle.chart_term.specs.Terms.{Nil, Event as EventTree, Join, Choice, Turns, Trail, Bound, has, trees, row_of, weight};
-ghost use Rattle.msc_base.specs.Patterns.{row, aside};
+ghost use Rattle.chart_term.specs.Facts.{HasFacts, HaveFacts, RowHasFacts, holds_walk, instances, misses, most_stored};
+ghost use Rattle.chart_term.specs.Terms.{Nil, Event as EventTree, Join, Choice, Loop, Walk, Tied, has, trees, row_of, weight};
+ghost use Rattle.msc_base.specs.Patterns.{seq, par};
 ghost use Rattle.hmsc_graph.specs.Spots.{spot_of, goal_of};
 ghost use Rattle.chart_term.specs.NormalForms.{open_choice};
 ghost use Rattle.chart_term.specs.Views.{pairs_of};
@@ -15,7 +15,8 @@ mod touched;
 use crate::facts::Facts;
 use crate::{Event, Look};
 use hmsc_graph::{Goal, Spot};
-use msc_base::{Block, Limits, NoMemory, PairList};
+use bit_sets::Block;
+use msc_base::{Limits, NoMemory, PairList};
 use std::alloc::Global;
 use std::marker::Model;
 use std::rc::Rc;
@@ -43,12 +44,12 @@ pub(crate) struct Node {
 pub(crate) enum Form {
     Nil,
     Event(Event),
-    Then(TermList),
-    Beside(TermList),
+    Seq(TermList),
+    Par(TermList),
     Choice(TermList),
-    Bound(Term, PairList),
-    Turns(Term, u64, Option<u64>, RowList),
-    Trail(u32, Spot, Goal, Block),
+    Tied(Term, PairList),
+    Loop(Term, u64, Option<u64>, RowList),
+    Walk(u32, Spot, Goal, Block),
 }
 
 /// A list of terms.
@@ -338,32 +339,32 @@ impl Term {
         upper: Option<u64>,
         row: RowList,
     ) -> Result<Term, NoMemory>
-        ensures { IfOk result (λ term. term ≡ Turns body lower upper (row_of row)) }
+        ensures { IfOk result (λ term. term ≡ Loop body lower upper (row_of row)) }
     {
         let mut facts = row.facts(alloc)?;
         facts.add(body.facts())?;
         facts.add_weight(1);
-        let form = Form::Turns(body, lower, upper, row);
+        let form = Form::Loop(body, lower, upper, row);
         Term::share(alloc, Node { form, facts })
     }
 
     /// The parts one after another, as they are.
-    pub(crate) fn row_of(alloc: Global, parts: TermList) -> Result<Term, NoMemory>
-        ensures { IfOk result (λ term. term ≡ Join row (trees parts)) }
+    pub(crate) fn seq_of(alloc: Global, parts: TermList) -> Result<Term, NoMemory>
+        ensures { IfOk result (λ term. term ≡ Join seq (trees parts)) }
     {
         let mut facts = parts.facts(alloc)?;
         facts.add_weight(1);
-        let form = Form::Then(parts);
+        let form = Form::Seq(parts);
         Term::share(alloc, Node { form, facts })
     }
 
     /// The parts side by side, as they are.
-    pub(crate) fn aside_of(alloc: Global, parts: TermList) -> Result<Term, NoMemory>
-        ensures { IfOk result (λ term. term ≡ Join aside (trees parts)) }
+    pub(crate) fn par_of(alloc: Global, parts: TermList) -> Result<Term, NoMemory>
+        ensures { IfOk result (λ term. term ≡ Join par (trees parts)) }
     {
         let mut facts = parts.facts(alloc)?;
         facts.add_weight(1);
-        let form = Form::Beside(parts);
+        let form = Form::Par(parts);
         Term::share(alloc, Node { form, facts })
     }
 
@@ -379,13 +380,13 @@ impl Term {
     }
 
     /// The term below a tie of these pairs, as they are.
-    pub(crate) fn bound_of(alloc: Global, inner: Term, pairs: PairList) -> Result<Term, NoMemory>
-        ensures { IfOk result (λ term. term ≡ Bound inner (pairs_of pairs)) }
+    pub(crate) fn tie_of(alloc: Global, inner: Term, pairs: PairList) -> Result<Term, NoMemory>
+        ensures { IfOk result (λ term. term ≡ Tied inner (pairs_of pairs)) }
     {
         let mut facts = inner.facts().copy(alloc)?;
         facts.add_weight(pairs.len() as u64);
         facts.add_weight(1);
-        let form = Form::Bound(inner, pairs);
+        let form = Form::Tied(inner, pairs);
         Term::share(alloc, Node { form, facts })
     }
 
@@ -398,10 +399,10 @@ impl Term {
         block: Block,
     ) -> Result<Term, NoMemory>
         ensures { IfOk result (λ term.
-            term ≡ Trail net (spot_of from) (goal_of to) block.instances) }
+            term ≡ Walk net (spot_of from) (goal_of to) block.instances) }
     {
         let facts = Facts::of_trail(alloc);
-        let form = Form::Trail(net, from, to, block);
+        let form = Form::Walk(net, from, to, block);
         Term::share(alloc, Node { form, facts })
     }
 
@@ -418,17 +419,17 @@ impl Term {
                 also: event.also,
                 label: event.label,
             },
-            Form::Then(parts) => Look::Then(parts),
-            Form::Beside(parts) => Look::Beside(parts),
+            Form::Seq(parts) => Look::Seq(parts),
+            Form::Par(parts) => Look::Par(parts),
             Form::Choice(parts) => Look::Choice(parts),
-            Form::Bound(inner, pairs) => Look::Bound(inner, pairs),
-            Form::Turns(body, lower, upper, row) => Look::Turns {
+            Form::Tied(inner, pairs) => Look::Tied(inner, pairs),
+            Form::Loop(body, lower, upper, row) => Look::Loop {
                 body,
                 lower: *lower,
                 upper: *upper,
                 row,
             },
-            Form::Trail(net, from, to, block) => Look::Trail {
+            Form::Walk(net, from, to, block) => Look::Walk {
                 net: *net,
                 from: *from,
                 to: *to,
@@ -486,10 +487,10 @@ impl Term {
     }
 
     /// Whether a walk stands in the term, in a loop operand of it or in a begun turn. It takes no memory.
-    pub fn has_trail(&self) -> bool
-        ensures { result ≡ has_trail self.now }
+    pub fn holds_walk(&self) -> bool
+        ensures { result ≡ holds_walk self.now }
     {
-        self.facts().has_trail
+        self.facts().holds_walk
     }
 
     /// The weight, or the largest `u64` where the weight is larger. It takes no memory.

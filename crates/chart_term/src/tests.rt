@@ -2,9 +2,10 @@ ghost use Rattle.std.specs.Prelude.{◌<◌, ◌≡◌, ◌++◌, ◌∷◌, IfO
 
 mod tables;
 
-use crate::{Look, RowList, RowPart, Term, TermList, beside, bound, choice, then};
+use crate::{Look, RowList, RowPart, Term, TermList, par, tied, choice, seq};
 use hmsc_graph::{Goal, Spot};
-use msc_base::{Block, NoMemory, Pair, PairList};
+use bit_sets::Block;
+use msc_base::{NoMemory, Pair, PairList};
 use std::alloc::Global;
 use std::test::Fail;
 
@@ -38,7 +39,7 @@ fn message(alloc: Global, output: u32) -> Result<Term, NoMemory>
 {
     let input = output + 1;
     let events = both(alloc, event(alloc, output, 0)?, event(alloc, input, 1)?)?;
-    bound(alloc, then(alloc, events)?, pair(alloc, output, input)?)
+    tied(alloc, seq(alloc, events)?, pair(alloc, output, input)?)
 }
 
 /// A block of one instance and one event.
@@ -65,11 +66,11 @@ fn message_weighs_five_then_one_then_one(rt: HostRuntime) -> Result<(), Fail> {
     let alloc = rt.alloc();
     assert_eq!(rt; message(alloc, 1)?.weight(), 5);
     let rest = both(alloc, Term::nil(alloc)?, event(alloc, 2, 1)?)?;
-    let input = bound(alloc, then(alloc, rest)?, pair(alloc, 1, 2)?)?;
+    let input = tied(alloc, seq(alloc, rest)?, pair(alloc, 1, 2)?)?;
     assert_eq!(rt; input.weight(), 1);
     assert!(rt; input.same(&event(alloc, 2, 1)?));
     let over = both(alloc, Term::nil(alloc)?, Term::nil(alloc)?)?;
-    let nothing = then(alloc, over)?;
+    let nothing = seq(alloc, over)?;
     assert_eq!(rt; nothing.weight(), 1);
     assert!(rt; nothing.same(&Term::nil(alloc)?));
     Ok(())
@@ -80,18 +81,18 @@ fn coregion_of_three_actions_weighs_six_then_five_and_three(rt: HostRuntime) -> 
     let alloc = rt.alloc();
     let mut actions = both(alloc, event(alloc, 1, 0)?, event(alloc, 2, 0)?)?;
     actions.push(event(alloc, 3, 0)?)?;
-    let start = bound(alloc, beside(alloc, actions)?, pair(alloc, 2, 3)?)?;
+    let start = tied(alloc, par(alloc, actions)?, pair(alloc, 2, 3)?)?;
     assert_eq!(rt; start.weight(), 6);
-    let tied = beside(
+    let tied = par(
         alloc,
         both(alloc, event(alloc, 2, 0)?, event(alloc, 3, 0)?)?,
     )?;
-    assert_eq!(rt; bound(alloc, tied, pair(alloc, 2, 3)?)?.weight(), 5);
-    let loose = beside(
+    assert_eq!(rt; tied(alloc, tied, pair(alloc, 2, 3)?)?.weight(), 5);
+    let loose = par(
         alloc,
         both(alloc, event(alloc, 1, 0)?, event(alloc, 3, 0)?)?,
     )?;
-    assert_eq!(rt; bound(alloc, loose, pair(alloc, 2, 3)?)?.weight(), 3);
+    assert_eq!(rt; tied(alloc, loose, pair(alloc, 2, 3)?)?.weight(), 3);
     Ok(())
 }
 
@@ -103,7 +104,7 @@ fn loop_of_a_request_and_its_answer_weighs_eighteen(rt: HostRuntime) -> Result<(
     assert_eq!(rt; answer.weight(), 11);
     let mut turn = both(alloc, event(alloc, 1, 0)?, event(alloc, 2, 1)?)?;
     turn.push(answer)?;
-    let body = bound(alloc, then(alloc, turn)?, pair(alloc, 1, 2)?)?;
+    let body = tied(alloc, seq(alloc, turn)?, pair(alloc, 1, 2)?)?;
     assert_eq!(rt; body.weight(), 16);
     let mut row = RowList::new(alloc);
     row.push(RowPart::Gap(Block::empty(alloc)))?;
@@ -155,7 +156,7 @@ fn walk_and_its_parts(rt: HostRuntime) -> Result<(), Fail> {
     let alloc = rt.alloc();
     let walk = Term::walk_of(alloc, 2, Spot::Start, Goal::Node(7), block(alloc, 3, 9)?)?;
     assert_eq!(rt; walk.weight(), 1);
-    let Look::Trail {
+    let Look::Walk {
         net,
         from,
         to,
@@ -193,7 +194,7 @@ fn constructors_are_ordered_as_the_table_of_weights(rt: HostRuntime) -> Result<(
         alloc,
         both(alloc, event(alloc, 1, 0)?, event(alloc, 2, 0)?)?,
     )?)?;
-    terms.push(beside(
+    terms.push(par(
         alloc,
         both(alloc, event(alloc, 1, 0)?, event(alloc, 2, 0)?)?,
     )?)?;

@@ -4,7 +4,8 @@ use Rattle.std.proofs.lemmas.List.{take_all}
 use Rattle.msc_base.specs.declared.limits.TheConstants.Limits.{LINE_BYTES, LOG_BYTES}
 use Rattle.event_log.specs.Faults.{IsFault}
 use Rattle.event_log.specs.Lines.{cut_of, decided, last_line, lines_of}
-use Rattle.event_log.specs.Meanings.{Only, Never}
+use Rattle.msc_base.specs.Only.{Never}
+use Rattle.msc_base.specs.Only.{Only}
 use Rattle.event_log.specs.Logs.{Stage, first_stage, HasFault, Reading, Reaches, limited, LogOf, HoldsEvent}
 use Rattle.event_log.specs.States.{LogState, HandsOut, TakesLine, RefusesLine, IsGoing, IsSettled, IsWanting, HoldsAt, Fed, IsFaultOf, IsAnswer}
 use Rattle.event_log.specs.declared.event.LineEvent.{LineEvent}
@@ -102,11 +103,11 @@ end_same (Some fault.NoMemory) form b n s t e h = wanting_same form false b n s 
 end_same (Some x) form b n s t e h = settled_same form false b n (Some x) s t e h
 
 -- the first byte behind the limit
-pub limit_reached : (form : LogForm) (b piece front rest : List ℕ) (n : ℕ) (s : LogState) → IsGoing form (b ++ front) n s → piece ≡ front ++ rest → 0 < length rest → LOG_BYTES ≤ s.count
+pub limit_reached : (form : LogForm) (b piece prefix rest : List ℕ) (n : ℕ) (s : LogState) → IsGoing form (b ++ prefix) n s → piece ≡ prefix ++ rest → 0 < length rest → LOG_BYTES ≤ s.count
     → HoldsAt (Some (fault.LogLimit s.number)) false form (b ++ piece) n s
-limit_reached form b piece front rest n s h e some full =
-    let text = b ++ front in
-    let is : b ++ piece ≡ text ++ rest = ap (λ (t : List ℕ). b ++ t) e ∙ sym (append_assoc b front rest) in
+limit_reached form b piece prefix rest n s h e some full =
+    let text = b ++ prefix in
+    let is : b ++ piece ≡ text ++ rest = ap (λ (t : List ℕ). b ++ t) e ∙ sym (append_assoc b prefix rest) in
     let le : length text ≤ LOG_BYTES = omega (arith, h.count_is, h.within) in
     let full_text : LOG_BYTES ≤ length text = omega (arith, h.count_is, full) in
     let far : LOG_BYTES < length (text ++ rest) = omega (arith, length-append text rest, some, full_text) in
@@ -308,20 +309,20 @@ pub fed_again : (x : LogFault) (form : LogForm) (b p : List ℕ) (n : ℕ) (s : 
 fed_again x form b p n s e f h = holds_on form b p n x s (is_fed (Some x) false form b n s e f h)
 
 -- a text cut in two
-pub split_there : (k : ℕ) (piece front back : List ℕ) → front ≡ take k piece → back ≡ drop k piece → piece ≡ front ++ back
-split_there k piece front back f b = rw (f, b) (both k piece)
+pub split_there : (k : ℕ) (piece prefix back : List ℕ) → prefix ≡ take k piece → back ≡ drop k piece → piece ≡ prefix ++ back
+split_there k piece prefix back f b = rw (f, b) (both k piece)
   where
     both : (j : ℕ) (xs : List ℕ) → xs ≡ take j xs ++ drop j xs
     both zero xs = refl
     both (suc j) [] = refl
     both (suc j) (x ∷ xs) = ap (λ (ys : List ℕ). x ∷ ys) (both j xs)
 
--- a fault within the front of a piece is one of the piece
-pub front_fails : {T : Type 0} (form : LogForm) (b piece front back : List ℕ) (n : ℕ) (s : LogState) (answer : Result T LogFault) → piece ≡ front ++ back
-    → IfErr answer (λ x. HoldsAt (Some x) false form (b ++ front) n s) → IfErr answer (λ x. HoldsAt (Some x) false form (b ++ piece) n s)
-front_fails form b piece front back n s (Ok v) e h = tt
-front_fails form b piece front back n s (Err x) e h =
-    subst (λ t. HoldsAt (Some x) false form t n s) (append_assoc b front back ∙ ap (λ (t : List ℕ). b ++ t) (sym e)) (holds_on form (b ++ front) back n x s h)
+-- a fault within the prefix of a piece is one of the piece
+pub front_fails : {T : Type 0} (form : LogForm) (b piece prefix back : List ℕ) (n : ℕ) (s : LogState) (answer : Result T LogFault) → piece ≡ prefix ++ back
+    → IfErr answer (λ x. HoldsAt (Some x) false form (b ++ prefix) n s) → IfErr answer (λ x. HoldsAt (Some x) false form (b ++ piece) n s)
+front_fails form b piece prefix back n s (Ok v) e h = tt
+front_fails form b piece prefix back n s (Err x) e h =
+    subst (λ t. HoldsAt (Some x) false form t n s) (append_assoc b prefix back ∙ ap (λ (t : List ℕ). b ++ t) (sym e)) (holds_on form (b ++ prefix) back n x s h)
 
 -- what is held behind the answer, an event or none
 pub next_fed : (o : Option LineEvent) (s t : LogState) → s.waiting ≡ option_to_list o ++ t.waiting → t ≡ with_waiting s t.waiting → (form : LogForm) (b : List ℕ) (n : ℕ) → Fed form b n s

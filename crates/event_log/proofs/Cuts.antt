@@ -99,7 +99,7 @@ long_on g c (b ∷ bs) lt = long_byte g c b bs (nat_eq b 10) refl lt (λ more. l
 -- lines grow: more follow, and only a last one that is too long may grow itself
 pub data LinesGrow (ls ks : List (List ℕ)) : Type 0 where
   more_lines : (more : List (List ℕ)) → ks ≡ ls ++ more → LinesGrow ls ks
-  longer_line : (front : List (List ℕ)) (l k : List ℕ) (more : List (List ℕ)) → ls ≡ front ++ l ∷ [] → ks ≡ front ++ k ∷ more → LINE_BYTES < length l → length l ≤ length k → LinesGrow ls ks
+  longer_line : (prefix : List (List ℕ)) (l k : List ℕ) (more : List (List ℕ)) → ls ≡ prefix ++ l ∷ [] → ks ≡ prefix ++ k ∷ more → LINE_BYTES < length l → length l ≤ length k → LinesGrow ls ks
 
 decided_grow : (g : Bool) (b c : List ℕ) → LinesGrow (decided true b) (decided g (b ++ c))
 decided_grow g b c = elim (cases_lt LINE_BYTES (length (cut_of b).tail)) [

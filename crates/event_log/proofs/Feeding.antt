@@ -13,7 +13,7 @@ use Rattle.event_log.specs.declared.event.LogFault.TheVariants as fault
 use Rattle.event_log.specs.declared.event.LogForm.{LogForm}
 use Rattle.event_log.specs.declared.event.Version.{Version}
 use Rattle.event_log.specs.declared.line.Line.{Line}
-use Rattle.event_log.specs.declared.line.Line.TheVariants.{Blank, Edition, Event, Bad}
+use Rattle.event_log.specs.declared.line.Line.TheVariants.{Blank, VersionLine, Event, NoEvent}
 use Rattle.event_log.proofs.Cuts.{with_append, with_free, short_line, too_long_line, within_is, beyond_is, lines_within, lines_beyond, lines_grow, take_front}
 use Rattle.event_log.proofs.Readings.{reading_pass, reading_fault, fault_stays, reading_reaches, reach_stays}
 
@@ -29,8 +29,8 @@ beyond_less b e = grind (arith, nat_tests)
 same_lines : (g : Bool) (b c : List ℕ) → LOG_BYTES < length b → lines_of true b ≡ lines_of g (b ++ c)
 same_lines g b c lt =
     let far : LOG_BYTES < length (b ++ c) = omega (arith, length-append b c) in
-    let front : take LOG_BYTES (b ++ c) ≡ take LOG_BYTES b = take_front LOG_BYTES b c (omega arith) in
-    lines_beyond true b lt ∙ ap (λ (t : List ℕ). decided true t) (sym front) ∙ sym (lines_beyond g (b ++ c) far)
+    let prefix : take LOG_BYTES (b ++ c) ≡ take LOG_BYTES b = take_front LOG_BYTES b c (omega arith) in
+    lines_beyond true b lt ∙ ap (λ (t : List ℕ). decided true t) (sym prefix) ∙ sym (lines_beyond g (b ++ c) far)
 
 pub limited_beyond : (b : List ℕ) (t : Stage) → LOG_BYTES < length b → limited b t None ≡ Some (fault.LogLimit t.number)
 limited_beyond b t lt = rw (beyond_is b lt) refl
@@ -188,8 +188,8 @@ stands_next t n s u Blank h k = subst (λ v. Stands t Blank n v) (sym k) (record
   after = refl;
   stands = record { version_is = h.version_is; number_is = ap (λ (i : ℕ). i + 1) h.number_is; read_is = h.read_is; events = h.events };
 })
-stands_next t n s u (Edition None) h k = absurd k
-stands_next t n s u (Edition (Some v)) h k = subst (λ w. Stands t (Edition (Some v)) n w) (sym k) (record {
+stands_next t n s u (VersionLine None) h k = absurd k
+stands_next t n s u (VersionLine (Some v)) h k = subst (λ w. Stands t (VersionLine (Some v)) n w) (sym k) (record {
   stage = record { version = v; number = t.number + 1; events = t.events };
   after = refl;
   stands = record { version_is = refl; number_is = ap (λ (i : ℕ). i + 1) h.number_is; read_is = h.read_is; events = h.events };
@@ -204,14 +204,14 @@ stands_next t n s u (Event a) h k =
       after = (omega (arith, k.0, h.read_is), refl);
       stands = record { version_is = h.version_is; number_is = ap (λ (i : ℕ). i + 1) h.number_is; read_is = omega (arith, h.read_is, length-append t.events (d ∷ [])); events = more };
     })
-stands_next t n s u Bad h k = absurd k
+stands_next t n s u NoEvent h k = absurd k
 
 breaks_too : (t : Stage) (n : ℕ) (s : LogState) (m : Line) (x : LogFault) → StandsAt t n s → Refuses s m x → Breaks t m x
 breaks_too t n s Blank x h k = k
-breaks_too t n s (Edition None) x h k = k ∙ ap (λ (i : ℕ). fault.Version i) h.number_is
-breaks_too t n s (Edition (Some v)) x h k = k
+breaks_too t n s (VersionLine None) x h k = k ∙ ap (λ (i : ℕ). fault.Version i) h.number_is
+breaks_too t n s (VersionLine (Some v)) x h k = k
 breaks_too t n s (Event a) x h k = (omega (arith, k.0, h.read_is), k.1 ∙ ap (λ (i : ℕ). fault.LogLimit i) h.number_is)
-breaks_too t n s Bad x h k = k ∙ ap (λ (i : ℕ). fault.Syntax i) h.number_is
+breaks_too t n s NoEvent x h k = k ∙ ap (λ (i : ℕ). fault.Syntax i) h.number_is
 
 says_there : (form : LogForm) (t : Stage) (n : ℕ) (s : LogState) (line : List ℕ) (m : Line) → s.form ≡ form → StandsAt t n s → s.line ≡ line → Says s.form s.version s.number s.line m → Says form t.version t.number line m
 says_there form t n s line m f h l says =
@@ -255,10 +255,10 @@ left_next s u v r w e = record {
 
 left_by : (s u : LogState) (m : Line) → Takes s m u → Left s u
 left_by s u Blank k = left_next s u s.version s.read s.waiting k
-left_by s u (Edition None) k = absurd k
-left_by s u (Edition (Some v)) k = left_next s u v s.read s.waiting k
+left_by s u (VersionLine None) k = absurd k
+left_by s u (VersionLine (Some v)) k = left_next s u v s.read s.waiting k
 left_by s u (Event a) k = left_next s u s.version (s.read + 1) (s.waiting ++ (record { label = a; line = s.number }) ∷ []) k.1
-left_by s u Bad k = absurd k
+left_by s u NoEvent k = absurd k
 
 pub left_line : (s u : LogState) → TakesLine s u → Left s u
 left_line s u k = left_by s u k.meaning k.takes
@@ -343,7 +343,7 @@ line_fails s t (Err x) same refuses lt form b n more h =
     (counted_settled form true (b ++ 10 ∷ more) n (Some x) s (subst (λ c. IsSettled form true c n (Some x) s) (append_assoc b (10 ∷ []) more)
     (settled_stays form (b ++ 10 ∷ []) more n x s (going_refused form b n s x h (refuses tt) lt))))
 
--- of the piece a front has been taken
+-- of the piece a prefix has been taken
 pub record HasTaken (old : LogState) (piece rest : List ℕ) (s : LogState) : Type 0 where
   pub taken : List ℕ
   pub are : piece ≡ taken ++ rest
@@ -401,8 +401,8 @@ rest_fails old s u piece rest answer h fails form b n g =
     subst (λ t. IfErr answer (λ x. HoldsAt (Some x) false form t n u)) all (fails form (b ++ h.taken) n [] (h.going form b n g))
 
 -- a text cut at its first line feed
-pub cut_there : (n : ℕ) (rest front behind after : List ℕ) → n < length rest → front ≡ take n rest → behind ≡ drop n rest → after ≡ drop 1 behind → slice_index rest n ≡ 10 → rest ≡ front ++ 10 ∷ after
-cut_there n rest front behind after lt f b a ten = rw (f, a, b) (cut_at n rest lt ten)
+pub cut_there : (n : ℕ) (rest prefix behind after : List ℕ) → n < length rest → prefix ≡ take n rest → behind ≡ drop n rest → after ≡ drop 1 behind → slice_index rest n ≡ 10 → rest ≡ prefix ++ 10 ∷ after
+cut_there n rest prefix behind after lt f b a ten = rw (f, a, b) (cut_at n rest lt ten)
   where
     cut_at : (k : ℕ) (xs : List ℕ) → k < length xs → slice_index xs k ≡ 10 → xs ≡ take k xs ++ 10 ∷ drop 1 (drop k xs)
     cut_at k [] lt ten = absurd (omega arith)

@@ -15,12 +15,14 @@ use Rattle.msc_base.specs.declared.label.Kind.{Kind}
 use Rattle.msc_base.specs.declared.label.Kind.TheVariants.{Output, Input, OutputLost, InputFound, Action, TimerStart, TimerStop, Timeout, Create}
 use Rattle.msc_base.specs.declared.label.Far.{Far}
 use Rattle.msc_grammar.specs.Events.{ReadsText}
-use Rattle.event_log.specs.Meanings.{Only, Never, IsBlankByte, SaysBy, Says}
+use Rattle.event_log.specs.Meanings.{IsBlankByte, SaysBy, Says}
+use Rattle.msc_base.specs.Only.{Never}
+use Rattle.msc_base.specs.Only.{Only}
 use Rattle.event_log.specs.Objects.{Spelled, Written, IsAllowed, all_members, HasMembers, IsVersionObject, Said, kind_of, IsEndBy, IsFarOf, IsSaid, IsEventObject}
 use Rattle.event_log.specs.declared.event.LogForm.TheVariants.{Json}
 use Rattle.event_log.specs.declared.event.Version.{Version}
 use Rattle.event_log.specs.declared.line.Line.{Line}
-use Rattle.event_log.specs.declared.line.Line.TheVariants.{Blank, Edition, Event, Bad}
+use Rattle.event_log.specs.declared.line.Line.TheVariants.{Blank, VersionLine, Event, NoEvent}
 
 known_members : (p : List ℕ → Bool) (es : List (String Global × Value)) → all_members p (members_view es) ≡ list_all (λ k. p (string_bytes k)) (map (λ e. e.0) es)
 known_members p [] = refl
@@ -108,9 +110,9 @@ never_written P line d r n = λ y p. n y (subst (λ v. P v y) (some_same p.value
 says_value : (version : Version) (number : ℕ) (line : List ℕ) (d : Data) (m : Line) → (All IsBlankByte line → ⊥) → IsUtf8 line → read line ≡ Some d
     → SaysBy (IsVersionObject d) (IsEventObject version d) number m → Says Json version number line m
 says_value version number line d Blank full utf8 r h = absurd h
-says_value version number line d (Edition stated) full utf8 r h = (full, (h.0, only_written IsVersionObject line d stated utf8 r h.1))
+says_value version number line d (VersionLine stated) full utf8 r h = (full, (h.0, only_written IsVersionObject line d stated utf8 r h.1))
 says_value version number line d (Event label) full utf8 r h = (full, (λ first. never_written IsVersionObject line d r (h.0 first), only_written (IsEventObject version) line d label utf8 r h.1))
-says_value version number line d Bad full utf8 r h = (full, (λ first. never_written IsVersionObject line d r (h.0 first), never_written (IsEventObject version) line d r h.1))
+says_value version number line d NoEvent full utf8 r h = (full, (λ first. never_written IsVersionObject line d r (h.0 first), never_written (IsEventObject version) line d r h.1))
 
 -- what the value says is what the line says
 pub says_written : (version : Version) (number : ℕ) (line : List ℕ) (d : Data) (answer : Result Line NoMemory) → (All IsBlankByte line → ⊥) → IsUtf8 line → read line ≡ Some d
@@ -125,5 +127,5 @@ no_value : (line : List ℕ) (d : Data) → (IsUtf8 line → read line ≡ None)
 no_value line d none utf8 r = some_none d (sym r ∙ none utf8)
 
 -- bytes that are no value say nothing
-pub says_unwritten : (version : Version) (number : ℕ) (line : List ℕ) → (All IsBlankByte line → ⊥) → (IsUtf8 line → read line ≡ None) → Says Json version number line Bad
+pub says_unwritten : (version : Version) (number : ℕ) (line : List ℕ) → (All IsBlankByte line → ⊥) → (IsUtf8 line → read line ≡ None) → Says Json version number line NoEvent
 says_unwritten version number line full none = (full, (λ first. λ y p. no_value line p.value none p.utf8 p.reads, λ y p. no_value line p.value none p.utf8 p.reads))

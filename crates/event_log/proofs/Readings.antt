@@ -9,48 +9,48 @@ use Rattle.event_log.specs.declared.event.LogFault.{LogFault}
 use Rattle.event_log.specs.declared.event.LogForm.{LogForm}
 use Rattle.event_log.specs.declared.event.Version.{Version}
 use Rattle.event_log.specs.declared.line.Line.{Line}
-use Rattle.event_log.specs.declared.line.Line.TheVariants.{Blank, Edition, Event, Bad}
+use Rattle.event_log.specs.declared.line.Line.TheVariants.{Blank, VersionLine, Event, NoEvent}
 use Rattle.event_log.proofs.Cuts.{LinesGrow, more_lines, longer_line}
 
 -- a line says one thing
 one_meaning : (form : LogForm) (v : Version) (k : ℕ) (l : List ℕ) (m n : Line) → Says form v k l m → Says form v k l n → m ≡ n
 one_meaning form v k l Blank Blank h g = refl
-one_meaning form v k l Blank (Edition o) h g = absurd (g.0 h)
+one_meaning form v k l Blank (VersionLine o) h g = absurd (g.0 h)
 one_meaning form v k l Blank (Event a) h g = absurd (g.0 h)
-one_meaning form v k l Blank Bad h g = absurd (g.0 h)
-one_meaning form v k l (Edition o) Blank h g = absurd (h.0 g)
+one_meaning form v k l Blank NoEvent h g = absurd (g.0 h)
+one_meaning form v k l (VersionLine o) Blank h g = absurd (h.0 g)
 one_meaning form v k l (Event a) Blank h g = absurd (h.0 g)
-one_meaning form v k l Bad Blank h g = absurd (h.0 g)
-one_meaning form v k l (Edition o) (Edition p) h g = ap (λ (x : Option Version). Edition x) (g.1.1.alone o h.1.1.holds)
-one_meaning form v k l (Edition o) (Event a) h g = absurd (g.1.0 h.1.0 o h.1.1.holds)
-one_meaning form v k l (Edition o) Bad h g = absurd (g.1.0 h.1.0 o h.1.1.holds)
-one_meaning form v k l (Event a) (Edition o) h g = absurd (h.1.0 g.1.0 o g.1.1.holds)
-one_meaning form v k l Bad (Edition o) h g = absurd (h.1.0 g.1.0 o g.1.1.holds)
+one_meaning form v k l NoEvent Blank h g = absurd (h.0 g)
+one_meaning form v k l (VersionLine o) (VersionLine p) h g = ap (λ (x : Option Version). VersionLine x) (g.1.1.alone o h.1.1.holds)
+one_meaning form v k l (VersionLine o) (Event a) h g = absurd (g.1.0 h.1.0 o h.1.1.holds)
+one_meaning form v k l (VersionLine o) NoEvent h g = absurd (g.1.0 h.1.0 o h.1.1.holds)
+one_meaning form v k l (Event a) (VersionLine o) h g = absurd (h.1.0 g.1.0 o g.1.1.holds)
+one_meaning form v k l NoEvent (VersionLine o) h g = absurd (h.1.0 g.1.0 o g.1.1.holds)
 one_meaning form v k l (Event a) (Event b) h g = ap (λ (x : Label). Event x) (g.1.1.alone a h.1.1.holds)
-one_meaning form v k l (Event a) Bad h g = absurd (g.1.1 a h.1.1.holds)
-one_meaning form v k l Bad (Event a) h g = absurd (h.1.1 a g.1.1.holds)
-one_meaning form v k l Bad Bad h g = refl
+one_meaning form v k l (Event a) NoEvent h g = absurd (g.1.1 a h.1.1.holds)
+one_meaning form v k l NoEvent (Event a) h g = absurd (h.1.1 a g.1.1.holds)
+one_meaning form v k l NoEvent NoEvent h g = refl
 
 one_after : (s : Stage) (m : Line) (t u : Stage) → After s m t → After s m u → t ≡ u
 one_after s Blank t u h g = h ∙ sym g
-one_after s (Edition None) t u h g = absurd h
-one_after s (Edition (Some v)) t u h g = h ∙ sym g
+one_after s (VersionLine None) t u h g = absurd h
+one_after s (VersionLine (Some v)) t u h g = h ∙ sym g
 one_after s (Event a) t u h g = h.1 ∙ sym g.1
-one_after s Bad t u h g = absurd h
+one_after s NoEvent t u h g = absurd h
 
 one_break : (s : Stage) (m : Line) (x y : LogFault) → Breaks s m x → Breaks s m y → x ≡ y
 one_break s Blank x y h g = absurd h
-one_break s (Edition None) x y h g = h ∙ sym g
-one_break s (Edition (Some v)) x y h g = absurd h
+one_break s (VersionLine None) x y h g = h ∙ sym g
+one_break s (VersionLine (Some v)) x y h g = absurd h
 one_break s (Event a) x y h g = h.1 ∙ sym g.1
-one_break s Bad x y h g = h ∙ sym g
+one_break s NoEvent x y h g = h ∙ sym g
 
 after_or_break : (s : Stage) (m : Line) (t : Stage) (x : LogFault) → After s m t → Breaks s m x → ⊥
 after_or_break s Blank t x h g = g
-after_or_break s (Edition None) t x h g = h
-after_or_break s (Edition (Some v)) t x h g = g
+after_or_break s (VersionLine None) t x h g = h
+after_or_break s (VersionLine (Some v)) t x h g = g
 after_or_break s (Event a) t x h g = omega (arith, h.0, g.0)
-after_or_break s Bad t x h g = h
+after_or_break s NoEvent t x h g = h
 
 pub one_pass : (form : LogForm) (s : Stage) (l : List ℕ) (t u : Stage) → Passes form s l t → Passes form s l u → t ≡ u
 one_pass form s l t u p q =
@@ -109,18 +109,18 @@ reading_stays form s [] ks t x h = let some : Some x ≡ None = h.1 in cc
 reading_stays form s (l ∷ ls) ks t x (inl h) = inl (h.0, h.1, reading_stays form h.0 ls ks t x h.2)
 reading_stays form s (l ∷ ls) ks t x (inr h) = inr h
 
-reading_longer : (form : LogForm) (s : Stage) (front : List (List ℕ)) (l k : List ℕ) (more : List (List ℕ)) (t : Stage) (x : LogFault) → LINE_BYTES < length l → length l ≤ length k
-    → Reading form s (front ++ l ∷ []) t (Some x) → Reading form s (front ++ k ∷ more) t (Some x)
+reading_longer : (form : LogForm) (s : Stage) (prefix : List (List ℕ)) (l k : List ℕ) (more : List (List ℕ)) (t : Stage) (x : LogFault) → LINE_BYTES < length l → length l ≤ length k
+    → Reading form s (prefix ++ l ∷ []) t (Some x) → Reading form s (prefix ++ k ∷ more) t (Some x)
 reading_longer form s [] l k more t x lt le (inl h) = absurd (omega (arith, h.1.short))
 reading_longer form s [] l k more t x lt le (inr h) = inr (h.0, (h.1.0, h.1.1, longer_fault form s l k h.1.0 lt le h.1.2))
-reading_longer form s (f ∷ front) l k more t x lt le (inl h) = inl (h.0, h.1, reading_longer form h.0 front l k more t x lt le h.2)
-reading_longer form s (f ∷ front) l k more t x lt le (inr h) = inr h
+reading_longer form s (f ∷ prefix) l k more t x lt le (inl h) = inl (h.0, h.1, reading_longer form h.0 prefix l k more t x lt le h.2)
+reading_longer form s (f ∷ prefix) l k more t x lt le (inr h) = inr h
 
 -- a fault that was found is found in any lines to which these grow
 pub fault_stays : (form : LogForm) (s : Stage) (ls ks : List (List ℕ)) (t : Stage) (x : LogFault) → LinesGrow ls ks → Reading form s ls t (Some x) → Reading form s ks t (Some x)
 fault_stays form s ls ks t x (more_lines more are) h = subst (λ js. Reading form s js t (Some x)) (sym are) (reading_stays form s ls more t x h)
-fault_stays form s ls ks t x (longer_line front l k more is are lt le) h =
-    subst (λ js. Reading form s js t (Some x)) (sym are) (reading_longer form s front l k more t x lt le (subst (λ js. Reading form s js t (Some x)) is h))
+fault_stays form s ls ks t x (longer_line prefix l k more is are lt le) h =
+    subst (λ js. Reading form s js t (Some x)) (sym are) (reading_longer form s prefix l k more t x lt le (subst (λ js. Reading form s js t (Some x)) is h))
 
 -- what is reached
 pub reaches_here : (form : LogForm) (s : Stage) (ls : List (List ℕ)) → Reaches form s ls s
@@ -137,16 +137,16 @@ reaches_more form s [] ks t h = subst (λ u. Reaches form s ks u) (sym h) (reach
 reaches_more form s (l ∷ ls) ks t (inl h) = inl h
 reaches_more form s (l ∷ ls) ks t (inr h) = inr (h.0, h.1, reaches_more form h.0 ls ks t h.2)
 
-reaches_longer : (form : LogForm) (s : Stage) (front : List (List ℕ)) (l : List ℕ) (ks : List (List ℕ)) (t : Stage) → LINE_BYTES < length l → Reaches form s (front ++ l ∷ []) t → Reaches form s (front ++ ks) t
+reaches_longer : (form : LogForm) (s : Stage) (prefix : List (List ℕ)) (l : List ℕ) (ks : List (List ℕ)) (t : Stage) → LINE_BYTES < length l → Reaches form s (prefix ++ l ∷ []) t → Reaches form s (prefix ++ ks) t
 reaches_longer form s [] l ks t lt (inl h) = subst (λ u. Reaches form s ks u) (sym h) (reaches_here form s ks)
 reaches_longer form s [] l ks t lt (inr h) = absurd (omega (arith, h.1.short))
-reaches_longer form s (f ∷ front) l ks t lt (inl h) = inl h
-reaches_longer form s (f ∷ front) l ks t lt (inr h) = inr (h.0, h.1, reaches_longer form h.0 front l ks t lt h.2)
+reaches_longer form s (f ∷ prefix) l ks t lt (inl h) = inl h
+reaches_longer form s (f ∷ prefix) l ks t lt (inr h) = inr (h.0, h.1, reaches_longer form h.0 prefix l ks t lt h.2)
 
 pub reach_stays : (form : LogForm) (s : Stage) (ls ks : List (List ℕ)) (t : Stage) → LinesGrow ls ks → Reaches form s ls t → Reaches form s ks t
 reach_stays form s ls ks t (more_lines more are) h = subst (λ js. Reaches form s js t) (sym are) (reaches_more form s ls more t h)
-reach_stays form s ls ks t (longer_line front l k more is are lt le) h =
-    subst (λ js. Reaches form s js t) (sym are) (reaches_longer form s front l (k ∷ more) t lt (subst (λ js. Reaches form s js t) is h))
+reach_stays form s ls ks t (longer_line prefix l k more is are lt le) h =
+    subst (λ js. Reaches form s js t) (sym are) (reaches_longer form s prefix l (k ∷ more) t lt (subst (λ js. Reaches form s js t) is h))
 
 -- the events of a stage go on with those of a later one
 pub record GoesOn (es ds : List LineEvent) : Type 0 where
@@ -158,10 +158,10 @@ here es = record { more = []; are = sym (append-nil es) }
 
 after_goes_on : (s : Stage) (m : Line) (t : Stage) → After s m t → GoesOn s.events t.events
 after_goes_on s Blank t h = record { more = []; are = ap (λ (u : Stage). u.events) h ∙ sym (append-nil s.events) }
-after_goes_on s (Edition None) t h = absurd h
-after_goes_on s (Edition (Some v)) t h = record { more = []; are = ap (λ (u : Stage). u.events) h ∙ sym (append-nil s.events) }
+after_goes_on s (VersionLine None) t h = absurd h
+after_goes_on s (VersionLine (Some v)) t h = record { more = []; are = ap (λ (u : Stage). u.events) h ∙ sym (append-nil s.events) }
 after_goes_on s (Event a) t h = record { more = (record { label = a; line = s.number }) ∷ []; are = ap (λ (u : Stage). u.events) h.1 }
-after_goes_on s Bad t h = absurd h
+after_goes_on s NoEvent t h = absurd h
 
 along : (es ds cs : List LineEvent) → GoesOn es ds → GoesOn ds cs → GoesOn es cs
 along es ds cs h g = record { more = h.more ++ g.more; are = g.are ∙ ap (λ (xs : List LineEvent). xs ++ g.more) h.are ∙ append_assoc es h.more g.more }

@@ -11,7 +11,9 @@ use Rattle.msc_grammar.specs.Events.{texts, ReadsEvent}
 use Rattle.msc_grammar.specs.Refusals.{IsRefusal}
 use Rattle.msc_grammar.specs.declared.fault.ParseFault.{ParseFault}
 use Rattle.msc_grammar.specs.declared.fault.ParseFault.TheVariants as fault
-use Rattle.event_log.specs.Meanings.{Only, Never, StatesVersion, IsEventOf, SaysBy, Says}
+use Rattle.event_log.specs.Meanings.{StatesVersion, IsEventOf, SaysBy, Says}
+use Rattle.msc_base.specs.Only.{Never}
+use Rattle.msc_base.specs.Only.{Only}
 use Rattle.event_log.specs.Objects.{Spelled, IsAllowed}
 use Rattle.event_log.specs.Faults.{IsFault}
 use Rattle.event_log.specs.States.{LogState, Refuses, RefusesLine}
@@ -20,7 +22,7 @@ use Rattle.event_log.specs.declared.event.LogForm.{LogForm}
 use Rattle.event_log.specs.declared.event.LogForm.TheVariants.{Lines}
 use Rattle.event_log.specs.declared.event.Version.{Version}
 use Rattle.event_log.specs.declared.line.Line.{Line}
-use Rattle.event_log.specs.declared.line.Line.TheVariants.{Blank, Edition, Event, Bad}
+use Rattle.event_log.specs.declared.line.Line.TheVariants.{Blank, VersionLine, Event, NoEvent}
 
 pub only_spelled : {A : Type 0} (P : List (List ℕ) → A → Type 0) (line : List ℕ) (tokens : List Token) (x : A) → Only (Spells line) tokens → Only (P (texts tokens)) x → Only (Spelled P line) x
 only_spelled P line tokens x s o = record {
@@ -37,9 +39,9 @@ not_empty line tokens s some h = omega (arith, ap length (s.alone [] h))
 says_one : (version : Version) (number : ℕ) (line : List ℕ) (tokens : List Token) (m : Line) → Only (Spells line) tokens → 0 < length tokens
     → SaysBy (StatesVersion (texts tokens)) (IsEventOf version (texts tokens)) number m → Says Lines version number line m
 says_one version number line tokens Blank s some h = absurd h
-says_one version number line tokens (Edition stated) s some h = (not_empty line tokens s some, (h.0, only_spelled StatesVersion line tokens stated s h.1))
+says_one version number line tokens (VersionLine stated) s some h = (not_empty line tokens s some, (h.0, only_spelled StatesVersion line tokens stated s h.1))
 says_one version number line tokens (Event label) s some h = (not_empty line tokens s some, (λ first. never_spelled StatesVersion line tokens s (h.0 first), only_spelled (IsEventOf version) line tokens label s h.1))
-says_one version number line tokens Bad s some h = (not_empty line tokens s some, (λ first. never_spelled StatesVersion line tokens s (h.0 first), never_spelled (IsEventOf version) line tokens s h.1))
+says_one version number line tokens NoEvent s some h = (not_empty line tokens s some, (λ first. never_spelled StatesVersion line tokens s (h.0 first), never_spelled (IsEventOf version) line tokens s h.1))
 
 -- what the tokens say is what the line says
 pub says_spelled : (version : Version) (number : ℕ) (line : List ℕ) (tokens : List Token) (answer : Result Line NoMemory) → Only (Spells line) tokens → 0 < length tokens
@@ -48,7 +50,7 @@ says_spelled version number line tokens (Ok m) s some h = says_one version numbe
 says_spelled version number line tokens (Err e) s some h = tt
 
 -- bytes that have no reading as tokens say nothing
-pub says_unspelled : (version : Version) (number : ℕ) (line : List ℕ) → Never (Spells line) → Says Lines version number line Bad
+pub says_unspelled : (version : Version) (number : ℕ) (line : List ℕ) → Never (Spells line) → Says Lines version number line NoEvent
 says_unspelled version number line h = (λ s. h [] s, (λ first. λ y p. h p.tokens p.spells, λ y p. h p.tokens p.spells))
 
 -- a fault of the reading that is no want of memory is a refusal

@@ -10,7 +10,7 @@ use Rattle.event_log.specs.declared.event.LogForm.{LogForm}
 use Rattle.event_log.specs.declared.event.Version.{Version}
 use Rattle.event_log.specs.declared.event.Version.TheVariants.{First}
 use Rattle.event_log.specs.declared.line.Line.{Line}
-use Rattle.event_log.specs.declared.line.Line.TheVariants.{Blank, Edition, Event, Bad}
+use Rattle.event_log.specs.declared.line.Line.TheVariants.{Blank, VersionLine, Event, NoEvent}
 
 -- how far lines have been read: the log's version, the number of the next line, and the events so far
 pub record Stage : Type 0 where
@@ -27,11 +27,11 @@ IsShort line = length line ≤ LINE_BYTES
 -- a line that says this passes, and is followed by this stage
 abbrev pub After : Stage → Line → Stage → Type 0
 After s Blank t = t ≡ record { version = s.version; number = s.number + 1; events = s.events }
-After s (Edition (Some version)) t = t ≡ record { version = version; number = s.number + 1; events = s.events }
-After s (Edition None) t = ⊥
+After s (VersionLine (Some version)) t = t ≡ record { version = version; number = s.number + 1; events = s.events }
+After s (VersionLine None) t = ⊥
 After s (Event label) t = (length s.events < LOG_EVENTS)
     × (t ≡ record { version = s.version; number = s.number + 1; events = s.events ++ (record { label = label; line = s.number }) ∷ [] })
-After s Bad t = ⊥
+After s NoEvent t = ⊥
 
 pub record Passes (form : LogForm) (s : Stage) (line : List ℕ) (t : Stage) : Type 0 where
   pub short : IsShort line
@@ -42,10 +42,10 @@ pub record Passes (form : LogForm) (s : Stage) (line : List ℕ) (t : Stage) : T
 -- a line that says this has this fault
 abbrev pub Breaks : Stage → Line → LogFault → Type 0
 Breaks s Blank x = ⊥
-Breaks s (Edition (Some version)) x = ⊥
-Breaks s (Edition None) x = x ≡ fault.Version s.number
+Breaks s (VersionLine (Some version)) x = ⊥
+Breaks s (VersionLine None) x = x ≡ fault.Version s.number
 Breaks s (Event label) x = (LOG_EVENTS ≤ length s.events) × (x ≡ fault.LogLimit s.number)
-Breaks s Bad x = x ≡ fault.Syntax s.number
+Breaks s NoEvent x = x ≡ fault.Syntax s.number
 
 -- the fault of a line: it is too long, else it is that of what the line says
 pub data HasFault (form : LogForm) (s : Stage) (line : List ℕ) (x : LogFault) : Type 0 where

@@ -10,7 +10,7 @@ use Rattle.event_log.specs.declared.event.LogForm.TheVariants.{Lines, Json}
 use Rattle.event_log.specs.declared.event.Version.{Version}
 use Rattle.event_log.specs.declared.event.Version.TheVariants.{First, Second}
 use Rattle.event_log.specs.declared.line.Line.{Line}
-use Rattle.event_log.specs.declared.line.Line.TheVariants.{Blank, Edition, Event, Bad}
+use Rattle.event_log.specs.declared.line.Line.TheVariants.{Blank, VersionLine, Event, NoEvent}
 
 -- the fact holds of this value and of no other
 pub record Only {A : Type 0} (P : A → Type 0) (x : A) : Type 0 where
@@ -63,13 +63,13 @@ IsEventLine Json version line label = Written (IsEventObject version) line label
 -- what a line says by the versions that it states and the events that it is: the first states a version, else it is an event, else bad
 abbrev pub SaysBy : (Option Version → Type 0) → (Label → Type 0) → ℕ → Line → Type 0
 SaysBy states is number Blank = ⊥
-SaysBy states is number (Edition stated) = (number ≡ 1) × Only states stated
+SaysBy states is number (VersionLine stated) = (number ≡ 1) × Only states stated
 SaysBy states is number (Event label) = (number ≡ 1 → Never states) × Only is label
-SaysBy states is number Bad = (number ≡ 1 → Never states) × Never is
+SaysBy states is number NoEvent = (number ≡ 1 → Never states) × Never is
 
 -- what the line says, which has this number, in a log of this version
 abbrev pub Says : LogForm → Version → ℕ → List ℕ → Line → Type 0
 Says form version number line Blank = IsBlankLine form line
-Says form version number line (Edition stated) = (IsBlankLine form line → ⊥) × SaysBy (IsVersionLine form line) (IsEventLine form version line) number (Edition stated)
+Says form version number line (VersionLine stated) = (IsBlankLine form line → ⊥) × SaysBy (IsVersionLine form line) (IsEventLine form version line) number (VersionLine stated)
 Says form version number line (Event label) = (IsBlankLine form line → ⊥) × SaysBy (IsVersionLine form line) (IsEventLine form version line) number (Event label)
-Says form version number line Bad = (IsBlankLine form line → ⊥) × SaysBy (IsVersionLine form line) (IsEventLine form version line) number Bad
+Says form version number line NoEvent = (IsBlankLine form line → ⊥) × SaysBy (IsVersionLine form line) (IsEventLine form version line) number NoEvent

@@ -10,7 +10,7 @@ use Rattle.event_log.specs.declared.event.LogFault.TheVariants as fault
 use Rattle.event_log.specs.declared.event.LogForm.{LogForm}
 use Rattle.event_log.specs.declared.event.Version.{Version}
 use Rattle.event_log.specs.declared.line.Line.{Line}
-use Rattle.event_log.specs.declared.line.Line.TheVariants.{Blank, Edition, Event, Bad}
+use Rattle.event_log.specs.declared.line.Line.TheVariants.{Blank, VersionLine, Event, NoEvent}
 
 pub record LogState : Type 0 where
   pub form : LogForm
@@ -60,18 +60,18 @@ next_line s version read waiting = record {
 -- the state takes a line that says this
 abbrev pub Takes : LogState → Line → LogState → Type 0
 Takes s Blank t = t ≡ next_line s s.version s.read s.waiting
-Takes s (Edition (Some version)) t = t ≡ next_line s version s.read s.waiting
-Takes s (Edition None) t = ⊥
+Takes s (VersionLine (Some version)) t = t ≡ next_line s version s.read s.waiting
+Takes s (VersionLine None) t = ⊥
 Takes s (Event label) t = (s.read < LOG_EVENTS) × (t ≡ next_line s s.version (s.read + 1) (s.waiting ++ (record { label = label; line = s.number }) ∷ []))
-Takes s Bad t = ⊥
+Takes s NoEvent t = ⊥
 
 -- the state refuses a line that says this
 abbrev pub Refuses : LogState → Line → LogFault → Type 0
 Refuses s Blank x = ⊥
-Refuses s (Edition (Some version)) x = ⊥
-Refuses s (Edition None) x = x ≡ fault.Version s.number
+Refuses s (VersionLine (Some version)) x = ⊥
+Refuses s (VersionLine None) x = x ≡ fault.Version s.number
 Refuses s (Event label) x = (LOG_EVENTS ≤ s.read) × (x ≡ fault.LogLimit s.number)
-Refuses s Bad x = x ≡ fault.Syntax s.number
+Refuses s NoEvent x = x ≡ fault.Syntax s.number
 
 -- the state takes its line, or refuses it
 pub record TakesLine (s t : LogState) : Type 0 where
@@ -85,12 +85,12 @@ pub record RefusesLine (s : LogState) (x : LogFault) : Type 0 where
   pub refuses : Refuses s meaning x
 
 -- the state takes bytes of its line, or they make it too long
-pub record Grows (s : LogState) (front : List ℕ) (t : LogState) : Type 0 where
-  pub short : length s.line + length front ≤ LINE_BYTES
-  pub is : t ≡ record s { line = s.line ++ front; count = s.count + length front }
+pub record Grows (s : LogState) (prefix : List ℕ) (t : LogState) : Type 0 where
+  pub short : length s.line + length prefix ≤ LINE_BYTES
+  pub is : t ≡ record s { line = s.line ++ prefix; count = s.count + length prefix }
 
-pub record IsTooLong (s : LogState) (front : List ℕ) (x : LogFault) : Type 0 where
-  pub long : LINE_BYTES < length s.line + length front
+pub record IsTooLong (s : LogState) (prefix : List ℕ) (x : LogFault) : Type 0 where
+  pub long : LINE_BYTES < length s.line + length prefix
   pub is : x ≡ fault.LongLine s.number
 
 -- the state with one byte more counted

@@ -4,7 +4,9 @@ ghost use Rattle.std.specs.BTreeMap.{keys};
 ghost use Rattle.serde_json.specs.View.{view, members_view};
 ghost use Rattle.serde_json.specs.Find.{get};
 ghost use Rattle.serde_json.specs.Read.{read};
-ghost use Rattle.event_log.specs.Meanings.{Only, Never, IsBlankByte, SaysBy, Says};
+ghost use Rattle.event_log.specs.Meanings.{IsBlankByte, SaysBy, Says};
+ghost use Rattle.msc_base.specs.Only.{Never};
+ghost use Rattle.msc_base.specs.Only.{Only};
 ghost use Rattle.event_log.specs.Objects.{IsVersionObject, IsEventObject, HasMembers, is_version_member, is_event_member, text_at, text_or_none, version_of_number};
 ghost use Rattle.event_log.specs.declared.event.LogForm.TheVariants.{Json};
 
@@ -160,11 +162,11 @@ fn read_value(alloc: Global, version: Version, number: u64, value: &Value) -> Re
     ensures { IfOk result (λ line. SaysBy (IsVersionObject (view value.now)) (IsEventObject version (view value.now)) number line) }
 {
     if let Some(stated) = first_version(number, value) {
-        return Ok(Line::Edition(stated));
+        return Ok(Line::VersionLine(stated));
     }
     match object_event(alloc, version, value)? {
         Some(label) => Ok(Line::Event(label)),
-        None => Ok(Line::Bad),
+        None => Ok(Line::NoEvent),
     }
 }
 
@@ -194,7 +196,7 @@ pub fn read_json_line(
         return Ok(Line::Blank);
     }
     let Some(value) = value_of(alloc, bytes)? else {
-        return Ok(Line::Bad);
+        return Ok(Line::NoEvent);
     };
     read_value(alloc, version, number, &value)
 }

@@ -13,11 +13,11 @@ pub enum Line {
     /// It has no token.
     Blank,
     /// It is the first, and states a version: one of the two, or another.
-    Edition(Option<Version>),
+    VersionLine(Option<Version>),
     /// It is one event.
     Event(Label),
     /// It is none of these.
-    Bad,
+    NoEvent,
 }
 
 /// What the line of this number says, in a log of this version.

@@ -2,7 +2,8 @@ ghost use Rattle.std.specs.Prelude.{◌≡◌, ◌<◌, ◌^◌, ◌↔◌, leng
 ghost use Rattle.msc_base.specs.Names.{IsName};
 ghost use Rattle.msc_grammar.specs.Events.{texts};
 ghost use Rattle.msc_grammar.specs.Events.{ReadsText};
-ghost use Rattle.event_log.specs.Meanings.{Only, Never};
+ghost use Rattle.msc_base.specs.Only.{Never};
+ghost use Rattle.msc_base.specs.Only.{Only};
 ghost use Rattle.event_log.specs.Objects.{Said, Spelled, IsSaid, IsFarOf, IsEnd, IsInstance, kind_of, message_kind_of, local_kind_of};
 
 use crate::Version;

@@ -1,7 +1,9 @@
 ghost use Rattle.std.specs.Prelude.{◌≡◌, ◌<◌, ◌≤◌, ◌+◌, ◌++◌, ◌∷◌, [], ℕ, List, Bool, true, false, not, length, All, ◌≢◌, take, drop, get_or, slice_index, IfOk, IfErr, OnOk, OnErr, IfSome, MatchOption, IsTrue, ◌↔◌, Option, Some, None, Ok, Err, option_to_list};
 ghost use Rattle.event_log.specs.Faults.{IsFault};
 ghost use Rattle.event_log.specs.Logs.{LogOf, HoldsEvent};
-ghost use Rattle.event_log.specs.Meanings.{Says, Only, Never};
+ghost use Rattle.event_log.specs.Meanings.{Says};
+ghost use Rattle.msc_base.specs.Only.{Never};
+ghost use Rattle.msc_base.specs.Only.{Only};
 ghost use Rattle.event_log.specs.States.{LogState, IsGoing, HoldsAt, Fed, IsAnswer, fault_in, Takes, Refuses, TakesLine, RefusesLine, Grows, IsTooLong, counted, next_line};
 ghost use Rattle.event_log.specs.declared.event.LineEvent.{LineEvent};
 ghost use Rattle.event_log.specs.declared.event.LogFault.{LogFault};
@@ -81,11 +83,11 @@ fn line_feed(bytes: &[u8]) -> Option<usize>
 }
 
 /// Appends the bytes. After want of memory the bytes are as they were.
-fn add_bytes(line: &mut Vec<u8>, front: &[u8]) -> Result<(), NoMemory>
-    ensures ok { OnOk result (line.new.items ≡ line.old.items ++ front.now) }
+fn add_bytes(line: &mut Vec<u8>, prefix: &[u8]) -> Result<(), NoMemory>
+    ensures ok { OnOk result (line.new.items ≡ line.old.items ++ prefix.now) }
     ensures err { OnErr result (line.new.items ≡ line.old.items) }
 {
-    line.extend_from_slice(front)?;
+    line.extend_from_slice(prefix)?;
     Ok(())
 }
 
@@ -155,13 +157,13 @@ impl LogReader {
                 self.pass_line(version);
                 Ok(())
             }
-            Line::Edition(Some(version)) => {
+            Line::VersionLine(Some(version)) => {
                 self.pass_line(version);
                 Ok(())
             }
-            Line::Edition(None) => Err(LogFault::Version(self.number)),
+            Line::VersionLine(None) => Err(LogFault::Version(self.number)),
             Line::Event(label) => self.keep(label),
-            Line::Bad => Err(LogFault::Syntax(self.number)),
+            Line::NoEvent => Err(LogFault::Syntax(self.number)),
         }
     }
 
@@ -183,18 +185,18 @@ impl LogReader {
     }
 
     /// Takes bytes of the line. After a fault no more than the count of bytes has changed.
-    fn append(&mut self, front: &[u8]) -> Result<(), LogFault>
-        requires { self.old.count + length front.now ≤ LOG_BYTES }
-        ensures ok { OnOk result (Grows self.old front.now self.new) }
+    fn append(&mut self, prefix: &[u8]) -> Result<(), LogFault>
+        requires { self.old.count + length prefix.now ≤ LOG_BYTES }
+        ensures ok { OnOk result (Grows self.old prefix.now self.new) }
         ensures err { OnErr result (self.new ≡ self.old) }
-        ensures fault { IfErr result (λ fault. IsFault fault → IsTooLong self.old front.now fault) }
+        ensures fault { IfErr result (λ fault. IsFault fault → IsTooLong self.old prefix.now fault) }
     {
         let room = Limits::LINE_BYTES as usize - self.line.len();
-        if front.len() > room {
+        if prefix.len() > room {
             return Err(LogFault::LongLine(self.number));
         }
-        add_bytes(&mut self.line, front)?;
-        self.count += front.len() as u64;
+        add_bytes(&mut self.line, prefix)?;
+        self.count += prefix.len() as u64;
         Ok(())
     }
 
@@ -210,18 +212,18 @@ impl LogReader {
     }
 
     /// Takes a line with its end.
-    fn take_ended(&mut self, front: &[u8]) -> Result<(), LogFault>
-        requires free { All (λ b. b ≢ 10) front.now }
-        requires room { self.old.count + length front.now < LOG_BYTES }
+    fn take_ended(&mut self, prefix: &[u8]) -> Result<(), LogFault>
+        requires free { All (λ b. b ≢ 10) prefix.now }
+        requires room { self.old.count + length prefix.now < LOG_BYTES }
         ensures ok { (form : LogForm) (b : List ℕ) (n : ℕ) → IsGoing form b n self.old
-            → OnOk result (IsGoing form (b ++ (front.now ++ 10 ∷ [])) n self.new) }
+            → OnOk result (IsGoing form (b ++ (prefix.now ++ 10 ∷ [])) n self.new) }
         ensures err { (form : LogForm) (b : List ℕ) (n : ℕ) (more : List ℕ) → IsGoing form b n self.old
-            → IfErr result (λ fault. HoldsAt (Some fault) false form (b ++ (front.now ++ 10 ∷ more)) n self.new) }
-        ensures count { OnOk result (self.new.count ≡ self.old.count + length front.now + 1) }
+            → IfErr result (λ fault. HoldsAt (Some fault) false form (b ++ (prefix.now ++ 10 ∷ more)) n self.new) }
+        ensures count { OnOk result (self.new.count ≡ self.old.count + length prefix.now + 1) }
         ensures fault { self.new.fault ≡ self.old.fault }
         ensures finished { self.new.finished ≡ self.old.finished }
     {
-        self.append(front)?;
+        self.append(prefix)?;
         self.end_line()
     }
 
@@ -238,8 +240,8 @@ impl LogReader {
     {
         let mut rest = piece;
         while let Some(end) = line_feed(rest) {
-            let (front, behind) = rest.split_at(end);
-            self.take_ended(front)?;
+            let (prefix, behind) = rest.split_at(end);
+            self.take_ended(prefix)?;
             let (_, after) = behind.split_at(1);
             rest = after;
         }
@@ -259,8 +261,8 @@ impl LogReader {
         if piece.len() <= room {
             return self.feed_within(piece);
         }
-        let (front, _) = piece.split_at(room);
-        self.feed_within(front)?;
+        let (prefix, _) = piece.split_at(room);
+        self.feed_within(prefix)?;
         Err(LogFault::LogLimit(self.number))
     }
 

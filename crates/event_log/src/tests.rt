@@ -647,15 +647,15 @@ fn long_lines(rt: HostRuntime) -> Result<(), Fail> {
     let line = vec![in alloc; b' '; 4096]?;
     for form in [LogForm::Lines, LogForm::Json] {
         for cut in [0usize, 1, 4095, 4096] {
-            let (front, back) = line.as_slice().split_at(cut.min(line.len()));
+            let (prefix, back) = line.as_slice().split_at(cut.min(line.len()));
             let mut reader = LogReader::new(alloc, form)?;
             assert!(rt; reader.feed(b"\n").is_ok());
-            assert!(rt; reader.feed(front).is_ok());
+            assert!(rt; reader.feed(prefix).is_ok());
             assert!(rt; reader.feed(back).is_ok(), "at {cut}");
             assert_eq!(rt; reader.feed(b" "), Err(LogFault::LongLine(2)), "at {cut}");
 
             let mut reader = LogReader::new(alloc, form)?;
-            assert!(rt; reader.feed(front).is_ok());
+            assert!(rt; reader.feed(prefix).is_ok());
             assert!(rt; reader.feed(back).is_ok());
             assert!(rt; reader.feed(b"\n").is_ok(), "at {cut}");
             assert!(rt; reader.finish().is_ok(), "at {cut}");

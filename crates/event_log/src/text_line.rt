@@ -1,7 +1,9 @@
 ghost use Rattle.std.specs.Prelude.{◌≡◌, ◌<◌, ◌≤◌, ◌^◌, ◌↔◌, ◌∷◌, [], IfOk, MatchOption, IsTrue, length, All, codes, List, ℕ};
 ghost use Rattle.msc_tokens.specs.Spelling.{Spells};
 ghost use Rattle.msc_grammar.specs.Events.{texts};
-ghost use Rattle.event_log.specs.Meanings.{IsDigit, Says, version_of, StatesVersion, IsEventOf, Never, Only, SaysBy};
+ghost use Rattle.event_log.specs.Meanings.{IsDigit, Says, version_of, StatesVersion, IsEventOf, SaysBy};
+ghost use Rattle.msc_base.specs.Only.{Never};
+ghost use Rattle.msc_base.specs.Only.{Only};
 ghost use Rattle.event_log.specs.Objects.{IsAllowed};
 ghost use Rattle.event_log.specs.declared.event.LogForm.TheVariants.{Lines};
 
@@ -113,11 +115,11 @@ fn read_tokens(
     ensures { IfOk result (λ line. SaysBy (StatesVersion (texts tokens.now.tokens)) (IsEventOf version (texts tokens.now.tokens)) number line) }
 {
     if let Some(stated) = first_version(number, tokens.as_slice()) {
-        return Ok(Line::Edition(stated));
+        return Ok(Line::VersionLine(stated));
     }
     match event_of(alloc, version, tokens)? {
         Some(label) => Ok(Line::Event(label)),
-        None => Ok(Line::Bad),
+        None => Ok(Line::NoEvent),
     }
 }
 
@@ -133,7 +135,7 @@ pub fn read_text_line(
     ensures { IfOk result (λ line. Says Lines version number bytes.now line) }
 {
     let Some(tokens) = tokens_of(alloc, bytes)? else {
-        return Ok(Line::Bad);
+        return Ok(Line::NoEvent);
     };
     if tokens.len() == 0 {
         return Ok(Line::Blank);

@@ -3,7 +3,8 @@ use Rattle.std.proofs.Common.{ℕ, zero, suc, ◌+◌, ◌<◌, ◌≡◌, ◌�
 use Rattle.std.proofs.Math.Seq.{take-append_seam}
 use Rattle.std.proofs.lemmas.Bool.{cases_eq, cases_lt, true≢false}
 use Rattle.std.proofs.lemmas.List.{get_or-set_same, get_or-set_other, length-set, get_or_past}
-use Rattle.hmsc_graph.specs.Graphs.{Net, At, IsIn, behind}
+use Rattle.hmsc_graph.specs.Graphs.{Net, At, behind}
+use Rattle.msc_base.specs.Lists.{IsIn}
 use Rattle.hmsc_graph.specs.Reversals.{HasEdges}
 use Rattle.hmsc_graph.specs.Graphs.{End, arrives}
 use Rattle.hmsc_graph.specs.Nets.{IsNet, size_of, graph_of}

@@ -2,7 +2,8 @@
 use Rattle.std.proofs.Common.{ℕ, ◌<◌, ◌≡◌, ◌↔◌, ◌⊎◌, inl, inr, List, Bool, true, false, IsTrue, refl, sym, subst, ◌∙◌, Option, Some, None}
 use Rattle.std.proofs.lemmas.Bool.{true≢false, cases_lt}
 use Rattle.std.proofs.lemmas.List.{get_or_past}
-use Rattle.hmsc_graph.specs.Graphs.{Net, Spot, Start, At, Goal, To, End, IsIn, Walk, last, step, arrives}
+use Rattle.hmsc_graph.specs.Graphs.{Net, Spot, Start, At, Goal, To, End, WalkThrough, last, step, arrives}
+use Rattle.msc_base.specs.Lists.{IsIn}
 use Rattle.hmsc_graph.specs.Nets.{IsNet, size_of}
 use Rattle.hmsc_graph.specs.Reversals.{IsReversed}
 use Rattle.hmsc_graph.specs.Searches.{IsFirstLost}
@@ -13,19 +14,19 @@ use Rattle.hmsc_graph.proofs.SearchFacts.{behind_below, walk_below, number_same,
 -- a walk to an `end` line is a walk to that line
 pub record EndsAt (g : Net) (allowed : List ℕ) (s : Spot) : Type 0 where
   pub node : ℕ
-  pub walk : Walk g allowed s (To node)
+  pub walk : WalkThrough g allowed s (To node)
   pub is : arrives g End node ≡ true
 
-pub ends_at : (g : Net) (allowed : List ℕ) (s : Spot) → Walk g allowed s End → EndsAt g allowed s
+pub ends_at : (g : Net) (allowed : List ℕ) (s : Spot) → WalkThrough g allowed s End → EndsAt g allowed s
 ends_at g allowed s (last m i a) = record { node = m; walk = last m i (number_same m m refl); is = a }
 ends_at g allowed s (step m i j w) = let e = ends_at g allowed (At m) w in record { node = e.node; walk = step m i j e.walk; is = e.is }
 
-pub to_end : (g : Net) (allowed : List ℕ) (s : Spot) (node : ℕ) → arrives g End node ≡ true → Walk g allowed s (To node) → Walk g allowed s End
+pub to_end : (g : Net) (allowed : List ℕ) (s : Spot) (node : ℕ) → arrives g End node ≡ true → WalkThrough g allowed s (To node) → WalkThrough g allowed s End
 to_end g allowed s node is (last m i a) = last m i (subst (λ (n : ℕ). arrives g End n ≡ true) (sym (same_number m node a)) is)
 to_end g allowed s node is (step m i j w) = step m i j (to_end g allowed (At m) node is w)
 
-pub leads_to_end : (g : Net) (allowed : List ℕ) (s : Spot) (reached : List ℕ) (b : Bool) → ((m : ℕ) → IsIn m reached ↔ Walk g allowed s (To m)) → (IsTrue b ↔ ((m : ℕ) × IsIn m reached × (arrives g End m ≡ true)))
-    → IsTrue b ↔ Walk g allowed s End
+pub leads_to_end : (g : Net) (allowed : List ℕ) (s : Spot) (reached : List ℕ) (b : Bool) → ((m : ℕ) → IsIn m reached ↔ WalkThrough g allowed s (To m)) → (IsTrue b ↔ ((m : ℕ) × IsIn m reached × (arrives g End m ≡ true)))
+    → IsTrue b ↔ WalkThrough g allowed s End
 leads_to_end g allowed s reached b exact has = (
   (λ h. let e = has.0 h in to_end g allowed s e.0 e.2 ((exact e.0).0 e.1)),
   (λ w. let e = ends_at g allowed s w in has.1 (e.node, (exact e.node).1 e.walk, e.is)),
@@ -39,42 +40,42 @@ end_below g m is = elim (cases_lt m (size_of g)) [
 ]
 
 -- every node may be passed
-pub pass_all : (g : Net) (passed all : List ℕ) (s : Spot) (t : Goal) → IsNet g → ((n : ℕ) → n < size_of g → IsIn n all) → Walk g passed s t → Walk g all s t
+pub pass_all : (g : Net) (passed all : List ℕ) (s : Spot) (t : Goal) → IsNet g → ((n : ℕ) → n < size_of g → IsIn n all) → WalkThrough g passed s t → WalkThrough g all s t
 pass_all g passed all s t net each (last m i a) = last m i a
 pass_all g passed all s t net each (step m i j w) = step m i (each m (behind_below g s m net i)) (pass_all g passed all (At m) t net each w)
 
 module _ (g h : Net) (rev : IsReversed g h) (all : List ℕ) where
   -- a walk the other way, from a node
-  turned : (b m : ℕ) → Walk h all (At b) (To m) → Walk g all (At m) (To b)
-  turned b m (last a i e) = subst (λ (x : ℕ). Walk g all (At x) (To b)) (same_number a m e) (last b ((rev.edges a b).0 i) (number_same b b refl))
+  turned : (b m : ℕ) → WalkThrough h all (At b) (To m) → WalkThrough g all (At m) (To b)
+  turned b m (last a i e) = subst (λ (x : ℕ). WalkThrough g all (At x) (To b)) (same_number a m e) (last b ((rev.edges a b).0 i) (number_same b b refl))
   turned b m (step a i j w) = glue j (turned a m w) (last b ((rev.edges a b).0 i) (number_same b b refl))
 
   -- what is reached the other way is an `end` line, or can reach one
-  pub turned_end : (m : ℕ) → Walk h all Start (To m) → (arrives g End m ≡ true) ⊎ Walk g all (At m) End
+  pub turned_end : (m : ℕ) → WalkThrough h all Start (To m) → (arrives g End m ≡ true) ⊎ WalkThrough g all (At m) End
   turned_end m (last a i e) = inl (subst (λ (x : ℕ). arrives g End x ≡ true) (same_number a m e) ((rev.starts a).0 i))
   turned_end m (step a i j w) = inr (to_end g all (At m) a ((rev.starts a).0 i) (turned a m w))
 
   -- an `end` line is reached the other way, and what can reach one
-  pub end_turned : (m : ℕ) → arrives g End m ≡ true → Walk h all Start (To m)
+  pub end_turned : (m : ℕ) → arrives g End m ≡ true → WalkThrough h all Start (To m)
   end_turned m is = last m ((rev.starts m).1 is) (number_same m m refl)
 
-  pub way_turned : ((n : ℕ) → n < size_of g → IsIn n all) → (m : ℕ) → Walk g all (At m) End → Walk h all Start (To m)
+  pub way_turned : ((n : ℕ) → n < size_of g → IsIn n all) → (m : ℕ) → WalkThrough g all (At m) End → WalkThrough h all Start (To m)
   way_turned each m (last b i is) = step b ((rev.starts b).1 is) (each b (end_below g b is)) (last m ((rev.edges m b).1 i) (number_same m m refl))
   way_turned each m (step b i j w) = glue j (way_turned each b w) (last m ((rev.edges m b).1 i) (number_same m m refl))
 
-way : (g : Net) (all : List ℕ) (s : Spot) (t : Goal) → Walk g all s t → MayReach g s t
+way : (g : Net) (all : List ℕ) (s : Spot) (t : Goal) → WalkThrough g all s t → MayReach g s t
 way g all s t w = (all, w)
 
 -- the first node that is reached and isn't met the other way is the first endless one
 pub first_endless : (g h : Net) (all reached ending : List ℕ) (found : Option ℕ) → IsNet g → IsReversed g h → ((n : ℕ) → n < size_of g → IsIn n all)
-    → ((m : ℕ) → IsIn m reached ↔ Walk g all Start (To m)) → ((m : ℕ) → IsIn m ending ↔ Walk h all Start (To m))
+    → ((m : ℕ) → IsIn m reached ↔ WalkThrough g all Start (To m)) → ((m : ℕ) → IsIn m ending ↔ WalkThrough h all Start (To m))
     → IsFirstLost (size_of g) reached ending found → IsFirstEndless g found
 first_endless g h all reached ending found net rev each forth back lost = choose found lost
   where
     meets : (m : ℕ) → MayReach g Start (To m) → IsIn m reached
     meets m w = (forth m).1 (pass_all g w.0 all Start (To m) net each w.1)
 
-    inner_end : (m : ℕ) → arrives g End m ≡ false → (arrives g End m ≡ true) ⊎ Walk g all (At m) End → MayReach g (At m) End
+    inner_end : (m : ℕ) → arrives g End m ≡ false → (arrives g End m ≡ true) ⊎ WalkThrough g all (At m) End → MayReach g (At m) End
     inner_end m inner (inl is) = absurd (true≢false (sym is ∙ inner))
     inner_end m inner (inr w) = way g all (At m) End w
 

@@ -140,7 +140,7 @@ label_either before line i name h = elim (get_either before line i h.line h.at) 
 twice_kept : (before : List ShapeLine) (line : ShapeLine) (q : Place) → IsTwice before q → IsTwice (before ++ line ∷ []) q
 twice_kept before line q t = record { first = t.first; second = t.second; line = t.line; at = get_kept before (line ∷ []) t.second t.line t.at; here = t.here; before = t.before; again = label_kept before (line ∷ []) t.first t.line.label t.again }
 
--- a line whose label comes a second time comes so in the front, or it is the last
+-- a line whose label comes a second time comes so in the prefix, or it is the last
 pub record IsAgain (before : List ShapeLine) (line : ShapeLine) (q : Place) : Type 0 where
   pub first : ℕ
   pub again : HasLabel before first line.label

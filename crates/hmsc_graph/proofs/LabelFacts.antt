@@ -14,7 +14,7 @@ use Rattle.hmsc_graph.specs.declared.shape.ShapeLine.{ShapeLine}
 use Rattle.hmsc_graph.specs.declared.shape.Shape.{Shape}
 use Rattle.hmsc_graph.specs.declared.labels.Labels.{Labels}
 use Rattle.msc_base.specs.declared.limits.TheConstants.Limits.{NODE_LINES}
-use Rattle.hmsc_graph.specs.Graphs.{IsIn}
+use Rattle.msc_base.specs.Lists.{IsIn}
 use Rattle.hmsc_graph.specs.Nets.{IsNet}
 use Rattle.hmsc_graph.specs.Labels.{earlier_of, has_name, with_line, with_label, number_in, graph_in}
 

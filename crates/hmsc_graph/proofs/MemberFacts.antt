@@ -1,6 +1,6 @@
 -- Members of lists of numbers.
 use Rattle.std.proofs.Common.{ℕ, zero, suc, ◌<◌, ◌≡◌, ◌⊎◌, inl, inr, List, [], ◌∷◌, ◌++◌, length, get_or, take, refl, arith}
-use Rattle.hmsc_graph.specs.Graphs.{IsIn}
+use Rattle.msc_base.specs.Lists.{IsIn}
 
 pub in_left : (m : ℕ) (xs ys : List ℕ) → IsIn m xs → IsIn m (xs ++ ys)
 in_left m [] ys h = absurd h

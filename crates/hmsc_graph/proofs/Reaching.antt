@@ -3,7 +3,8 @@ use Rattle.std.specs.List.{list_any}
 use Rattle.std.specs.Prelude.{ℕ, Bool, true, false, List, [], ◌∷◌, ◌≡◌, ◌||◌, ◌&&◌, ◌==◌, ◌⊎◌, refl}
 use Rattle.std.proofs.Common.{inl, inr, arith, ⊎_elim}
 use Rattle.std.proofs.lemmas.Bool.Decides.{nat_tests}
-use Rattle.hmsc_graph.specs.Graphs.{Spot, At, Goal, To, Net, behind, arrives, IsIn, Walk, last, step, reach, ReachIsExact}
+use Rattle.hmsc_graph.specs.Graphs.{Spot, At, Goal, To, Net, behind, arrives, WalkThrough, last, step, reach, ReachIsExact}
+use Rattle.msc_base.specs.Lists.{IsIn}
 
 same_node : (m k : ℕ) → (m == k) ≡ true → m ≡ k
 same_node m k h = grind (arith, nat_tests)
@@ -29,26 +30,26 @@ arrives_some g t (n ∷ ms) m (inr i) h = rw (arrives_some g t ms m i h) (or_tru
 arrives_some g t [] m i h = absurd i
 
 -- more nodes are allowed
-pub more_allowed : {g : Net} {ks js : List ℕ} {s : Spot} {t : Goal} → ((m : ℕ) → IsIn m ks → IsIn m js) → Walk g ks s t → Walk g js s t
+pub more_allowed : {g : Net} {ks js : List ℕ} {s : Spot} {t : Goal} → ((m : ℕ) → IsIn m ks → IsIn m js) → WalkThrough g ks s t → WalkThrough g js s t
 more_allowed f (last m i a) = last m i a
 more_allowed f (step m i j w) = step m i (f m j) (more_allowed f w)
 
 -- one walk and then another
-pub glue : {g : Net} {ks : List ℕ} {s : Spot} {t : Goal} {k : ℕ} → IsIn k ks → Walk g ks s (To k) → Walk g ks (At k) t → Walk g ks s t
+pub glue : {g : Net} {ks : List ℕ} {s : Spot} {t : Goal} {k : ℕ} → IsIn k ks → WalkThrough g ks s (To k) → WalkThrough g ks (At k) t → WalkThrough g ks s t
 glue {k = k} j (last m i a) w = step m i (rw (same_node m k a) j) (rw (same_node m k a) w)
 glue j (step m i l u) w = step m i l (glue j u w)
 
 -- a walk passes k, or it does not
-split : {g : Net} (k : ℕ) (ks : List ℕ) {s : Spot} {t : Goal} → Walk g (k ∷ ks) s t → Walk g ks s t ⊎ (Walk g ks s (To k) × Walk g ks (At k) t)
+split : {g : Net} (k : ℕ) (ks : List ℕ) {s : Spot} {t : Goal} → WalkThrough g (k ∷ ks) s t → WalkThrough g ks s t ⊎ (WalkThrough g ks s (To k) × WalkThrough g ks (At k) t)
 split k ks (last m i a) = inl (last m i a)
 split {g} k ks {s} {t} (step m i (inl e) w) = inr (via (split k ks w))
   where
-    via : Walk g ks (At m) t ⊎ (Walk g ks (At m) (To k) × Walk g ks (At k) t) → Walk g ks s (To k) × Walk g ks (At k) t
+    via : WalkThrough g ks (At m) t ⊎ (WalkThrough g ks (At m) (To k) × WalkThrough g ks (At k) t) → WalkThrough g ks s (To k) × WalkThrough g ks (At k) t
     via (inl v) = (last m i (node_same m k e), rw e at v)
     via (inr v) = (last m i (node_same m k e), v.1)
 split {g} k ks {s} {t} (step m i (inr j) w) = via (split k ks w)
   where
-    via : Walk g ks (At m) t ⊎ (Walk g ks (At m) (To k) × Walk g ks (At k) t) → Walk g ks s t ⊎ (Walk g ks s (To k) × Walk g ks (At k) t)
+    via : WalkThrough g ks (At m) t ⊎ (WalkThrough g ks (At m) (To k) × WalkThrough g ks (At k) t) → WalkThrough g ks s t ⊎ (WalkThrough g ks s (To k) × WalkThrough g ks (At k) t)
     via (inl v) = inl (step m i j v)
     via (inr v) = inr (step m i j v.0, v.1)
 
@@ -69,7 +70,7 @@ and_from : (a b : Bool) → a ≡ true → b ≡ true → (a && b) ≡ true
 and_from true b h k = k
 and_from false b h k = cc
 
-pub reach_sound : (g : Net) (ks : List ℕ) (s : Spot) (t : Goal) → reach g ks s t ≡ true → Walk g ks s t
+pub reach_sound : (g : Net) (ks : List ℕ) (s : Spot) (t : Goal) → reach g ks s t ≡ true → WalkThrough g ks s t
 reach_sound g [] s t h = let r = some_arrives g t (behind g s) h in last r.0 r.1 r.2
 reach_sound g (k ∷ ks) s t h =
     ⊎_elim (λ p. more_allowed (λ m j. inr j) (reach_sound g ks s t p))
@@ -77,12 +78,12 @@ reach_sound g (k ∷ ks) s t h =
     (or_cases _ _ h)
 
 reach_via : (g : Net) (k : ℕ) (ks : List ℕ) (s : Spot) (t : Goal)
-    → (Walk g ks s t → reach g ks s t ≡ true) → (Walk g ks s (To k) → reach g ks s (To k) ≡ true) → (Walk g ks (At k) t → reach g ks (At k) t ≡ true)
-    → Walk g ks s t ⊎ (Walk g ks s (To k) × Walk g ks (At k) t) → reach g (k ∷ ks) s t ≡ true
+    → (WalkThrough g ks s t → reach g ks s t ≡ true) → (WalkThrough g ks s (To k) → reach g ks s (To k) ≡ true) → (WalkThrough g ks (At k) t → reach g ks (At k) t ≡ true)
+    → WalkThrough g ks s t ⊎ (WalkThrough g ks s (To k) × WalkThrough g ks (At k) t) → reach g (k ∷ ks) s t ≡ true
 reach_via g k ks s t f p q (inl v) = or_from _ _ (inl (f v))
 reach_via g k ks s t f p q (inr v) = or_from _ _ (inr (and_from _ _ (p v.0) (q v.1)))
 
-pub reach_whole : (g : Net) (ks : List ℕ) (s : Spot) (t : Goal) → Walk g ks s t → reach g ks s t ≡ true
+pub reach_whole : (g : Net) (ks : List ℕ) (s : Spot) (t : Goal) → WalkThrough g ks s t → reach g ks s t ≡ true
 reach_whole g [] s t (last m i a) = arrives_some g t (behind g s) m i a
 reach_whole g [] s t (step m i j w) = absurd j
 reach_whole g (k ∷ ks) s t w = reach_via g k ks s t (reach_whole g ks s t) (reach_whole g ks s (To k)) (reach_whole g ks (At k) t) (split k ks w)

@@ -3,9 +3,10 @@ use Rattle.std.proofs.Common.{ℕ, zero, suc, ◌+◌, ◌<◌, ◌≡◌, ◌�
 use Rattle.std.proofs.lemmas.Bool.{cases_eq, true≢false}
 use Rattle.std.proofs.lemmas.Bool.Decides.{nat_tests}
 use Rattle.std.specs.List.{list_any}
-use Rattle.hmsc_graph.specs.Graphs.{Net, Spot, Start, At, To, IsIn, Walk, last, step, behind}
+use Rattle.hmsc_graph.specs.Graphs.{Net, Spot, Start, At, To, WalkThrough, last, step, behind}
+use Rattle.msc_base.specs.Lists.{IsIn}
 use Rattle.hmsc_graph.specs.Nets.{IsNet, size_of}
-use Rattle.hmsc_graph.specs.NodeSets.{NodeSetValue}
+use Rattle.bit_sets.specs.NodeSets.{NodeSetValue}
 use Rattle.hmsc_graph.specs.Searches.{missing, HasEntered, IsSearch}
 use Rattle.hmsc_graph.proofs.MemberFacts.{in_left, in_pushed, pushed_in}
 use Rattle.hmsc_graph.proofs.Reaching.{glue}
@@ -166,7 +167,7 @@ pub number_same : (m n : ℕ) → m ≡ n → (m == n) ≡ true
 number_same m n h = grind (arith, nat_tests)
 
 -- a walk leads to a node
-pub walk_below : (g : Net) (allowed : List ℕ) (s : Spot) (m : ℕ) → IsNet g → Walk g allowed s (To m) → m < size_of g
+pub walk_below : (g : Net) (allowed : List ℕ) (s : Spot) (m : ℕ) → IsNet g → WalkThrough g allowed s (To m) → m < size_of g
 walk_below g allowed s m net (last n i a) = omega (arith, behind_below g s n net i, same_number n m a)
 walk_below g allowed s m net (step n i j w) = walk_below g allowed (At n) m net w
 
@@ -201,7 +202,7 @@ search_on g allowed from r s w rest waits k is b h = record {
     ]
 
 -- where nothing waits each walk has been followed
-followed : (g : Net) (allowed : List ℕ) (from s : Spot) (reached : List ℕ) (m : ℕ) → IsSearch g allowed from reached [] → ((n : ℕ) → IsIn n (behind g s) → IsIn n reached) → Walk g allowed s (To m) → IsIn m reached
+followed : (g : Net) (allowed : List ℕ) (from s : Spot) (reached : List ℕ) (m : ℕ) → IsSearch g allowed from reached [] → ((n : ℕ) → IsIn n (behind g s) → IsIn n reached) → WalkThrough g allowed s (To m) → IsIn m reached
 followed g allowed from s reached m b here (last n i a) = subst (λ (x : ℕ). IsIn x reached) (same_number n m a) (here n i)
 followed g allowed from s reached m b here (step n i j w) = followed g allowed from (At n) reached m b (λ x y. next (b.done n (here n i) j) x y) w
   where
@@ -210,14 +211,14 @@ followed g allowed from s reached m b here (step n i j w) = followed g allowed f
     next (inr d) = d
 
 -- where nothing waits the search has reached what walks lead to
-search_done : (g : Net) (allowed : List ℕ) (from : Spot) (reached : List ℕ) → IsSearch g allowed from reached [] → (m : ℕ) → IsIn m reached ↔ Walk g allowed from (To m)
+search_done : (g : Net) (allowed : List ℕ) (from : Spot) (reached : List ℕ) → IsSearch g allowed from reached [] → (m : ℕ) → IsIn m reached ↔ WalkThrough g allowed from (To m)
 search_done g allowed from reached b m = (b.sound m, λ w. followed g allowed from from reached m b b.begun w)
 
 none_left : (w : List ℕ) → length w ≡ 0 → w ≡ []
 none_left [] e = refl
 none_left (x ∷ w) e = absurd (omega arith)
 
-pub search_ended : (g : Net) (allowed : List ℕ) (from : Spot) (reached w : List ℕ) → length w ≡ 0 → IsSearch g allowed from reached w → (m : ℕ) → IsIn m reached ↔ Walk g allowed from (To m)
+pub search_ended : (g : Net) (allowed : List ℕ) (from : Spot) (reached w : List ℕ) → length w ≡ 0 → IsSearch g allowed from reached w → (m : ℕ) → IsIn m reached ↔ WalkThrough g allowed from (To m)
 search_ended g allowed from reached w e b = search_done g allowed from reached (subst (λ l. IsSearch g allowed from reached l) (none_left w e) b)
 
 -- what waits is a node

@@ -37,9 +37,9 @@ IsIn m [] = ⊥
 IsIn m (k ∷ ks) = (m ≡ k) ⊎ IsIn m ks
 
 -- a walk of at least one edge, whose inner nodes are all allowed
-pub data Walk (g : Net) (ks : List ℕ) : Spot → Goal → Type 0 where
-  last : {s : Spot} {t : Goal} (m : ℕ) → IsIn m (behind g s) → arrives g t m ≡ true → Walk g ks s t
-  step : {s : Spot} {t : Goal} (m : ℕ) → IsIn m (behind g s) → IsIn m ks → Walk g ks (At m) t → Walk g ks s t
+pub data WalkThrough (g : Net) (ks : List ℕ) : Spot → Goal → Type 0 where
+  last : {s : Spot} {t : Goal} (m : ℕ) → IsIn m (behind g s) → arrives g t m ≡ true → WalkThrough g ks s t
+  step : {s : Spot} {t : Goal} (m : ℕ) → IsIn m (behind g s) → IsIn m ks → WalkThrough g ks (At m) t → WalkThrough g ks s t
 
 -- whether there is such a walk: by the last of the allowed nodes, which a walk needs to pass only once
 abbrev pub reach : Net → List ℕ → Spot → Goal → Bool
@@ -48,5 +48,5 @@ reach g (k ∷ ks) s t = reach g ks s t || (reach g ks s (To k) && reach g ks (A
 
 -- the test is exact
 pub record ReachIsExact : Type 0 where
-  pub sound : (g : Net) (ks : List ℕ) (s : Spot) (t : Goal) → reach g ks s t ≡ true → Walk g ks s t
-  pub whole : (g : Net) (ks : List ℕ) (s : Spot) (t : Goal) → Walk g ks s t → reach g ks s t ≡ true
+  pub sound : (g : Net) (ks : List ℕ) (s : Spot) (t : Goal) → reach g ks s t ≡ true → WalkThrough g ks s t
+  pub whole : (g : Net) (ks : List ℕ) (s : Spot) (t : Goal) → WalkThrough g ks s t → reach g ks s t ≡ true

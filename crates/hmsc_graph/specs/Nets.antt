@@ -1,7 +1,8 @@
 -- What holds of each graph that is made.
 use Rattle.std.specs.Prelude.{ℕ, Bool, List, length, ◌≡◌, ◌<◌, ◌≤◌}
 use Rattle.msc_base.specs.declared.limits.TheConstants.Limits.{NODE_LINES}
-use Rattle.hmsc_graph.specs.Graphs.{Net, IsIn, At, behind}
+use Rattle.hmsc_graph.specs.Graphs.{Net, At, behind}
+use Rattle.msc_base.specs.Lists.{IsIn}
 
 -- a graph of these parts
 abbrev pub graph_of : List ℕ → List (List ℕ) → List Bool → Net

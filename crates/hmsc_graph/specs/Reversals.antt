@@ -1,7 +1,8 @@
 -- Graphs whose edges lead the other way.
 use Rattle.std.specs.Prelude.{ℕ, ◌≡◌, ◌<◌, ◌↔◌, ◌⊎◌, true, List, [], length}
 use Rattle.std.proofs.Common.{get_or}
-use Rattle.hmsc_graph.specs.Graphs.{Net, Start, At, End, IsIn, behind, arrives}
+use Rattle.hmsc_graph.specs.Graphs.{Net, Start, At, End, behind, arrives}
+use Rattle.msc_base.specs.Lists.{IsIn}
 use Rattle.hmsc_graph.specs.Nets.{size_of}
 
 -- each edge leads the other way, and the starts are the ends

@@ -1,8 +1,9 @@
 -- A search for the nodes that are reached: what was met, and what waits to be searched from.
 use Rattle.std.specs.Prelude.{ℕ, zero, suc, ◌≡◌, ◌≤◌, ◌<◌, ◌+◌, ◌==◌, ◌⊎◌, List, Option, Some, None, length, if◌then◌else◌}
 use Rattle.std.specs.List.{list_any}
-use Rattle.hmsc_graph.specs.Graphs.{Net, Spot, At, To, IsIn, Walk, behind}
-use Rattle.hmsc_graph.specs.NodeSets.{NodeSetValue}
+use Rattle.hmsc_graph.specs.Graphs.{Net, Spot, At, To, WalkThrough, behind}
+use Rattle.msc_base.specs.Lists.{IsIn}
+use Rattle.bit_sets.specs.NodeSets.{NodeSetValue}
 
 -- how many of the first numbers the list lacks
 abbrev pub missing : List ℕ → ℕ → ℕ
@@ -22,7 +23,7 @@ pub record HasEntered (allowed nodes : List ℕ) (was : NodeSetValue) (waited : 
 
 -- how far a search from a spot has come
 pub record IsSearch (g : Net) (allowed : List ℕ) (from : Spot) (reached waits : List ℕ) : Type 0 where
-  pub sound : (m : ℕ) → IsIn m reached → Walk g allowed from (To m)
+  pub sound : (m : ℕ) → IsIn m reached → WalkThrough g allowed from (To m)
   pub begun : (m : ℕ) → IsIn m (behind g from) → IsIn m reached
   pub due : (m : ℕ) → IsIn m waits → IsIn m reached × IsIn m allowed
   pub done : (k : ℕ) → IsIn k reached → IsIn k allowed → IsIn k waits ⊎ ((m : ℕ) → IsIn m (behind g (At k)) → IsIn m reached)

@@ -1,16 +1,16 @@
 -- Where walks lead.
 use Rattle.std.specs.Prelude.{ℕ, false, List, ◌≡◌, ◌<◌, Option, Some, None}
-use Rattle.hmsc_graph.specs.Graphs.{Net, Spot, Start, At, Goal, To, End, Any, Walk, arrives}
+use Rattle.hmsc_graph.specs.Graphs.{Net, Spot, Start, At, Goal, To, End, Any, WalkThrough, arrives}
 
 -- a walk leads there, all inner nodes of which are allowed; anywhere is always reached
 abbrev pub Leads : Net → List ℕ → Spot → Goal → Type 0
-Leads g allowed from (To node) = Walk g allowed from (To node)
-Leads g allowed from End = Walk g allowed from End
+Leads g allowed from (To node) = WalkThrough g allowed from (To node)
+Leads g allowed from End = WalkThrough g allowed from End
 Leads g allowed from Any = Unit {0}
 
 -- a walk leads there, whatever it passes
 abbrev pub MayReach : Net → Spot → Goal → Type 0
-MayReach g from to = (passed : List ℕ) × Walk g passed from to
+MayReach g from to = (passed : List ℕ) × WalkThrough g passed from to
 
 -- a node that is reached, is no `end` line and can't reach one
 pub record IsEndless (g : Net) (node : ℕ) : Type 0 where

@@ -1,5 +1,6 @@
 ghost use Rattle.std.specs.Prelude.{◌≡◌, ◌≤◌, ◌<◌, ◌↔◌, ℕ, None, [], fold, length, replicate, true, IfOk, IfErr, OnOk};
-ghost use Rattle.hmsc_graph.specs.Graphs.{Net as GraphValue, End, IsIn, arrives, behind};
+ghost use Rattle.hmsc_graph.specs.Graphs.{Net as GraphValue, End, arrives, behind};
+ghost use Rattle.msc_base.specs.Lists.{IsIn};
 ghost use Rattle.hmsc_graph.specs.Labels.{fault_of, graph_in, with_label};
 ghost use Rattle.hmsc_graph.specs.declared.net.NetFault.TheVariants.{NoMemory};
 ghost use Rattle.hmsc_graph.specs.Nets.{IsNet, size_of};

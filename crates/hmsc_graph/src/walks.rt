@@ -1,5 +1,6 @@
 ghost use Rattle.std.specs.Prelude.{◌≡◌, ◌<◌, ◌↔◌, ℕ, IfOk, OnOk, IsTrue, true};
-ghost use Rattle.hmsc_graph.specs.Graphs.{IsIn, To, End, Walk, arrives};
+ghost use Rattle.hmsc_graph.specs.Graphs.{To, End, WalkThrough, arrives};
+ghost use Rattle.msc_base.specs.Lists.{IsIn};
 ghost use Rattle.hmsc_graph.specs.Nets.{size_of};
 ghost use Rattle.hmsc_graph.specs.Spots.{spot_of, goal_of, IsSpotBelow, IsGoalBelow};
 ghost use Rattle.hmsc_graph.specs.Searches.{HasEntered};
@@ -38,7 +39,7 @@ pub fn reach(alloc: Global, net: &Net, from: Spot, allowed: &NodeSet) -> Result<
     requires from { IsSpotBelow (size_of net.now) from }
     ensures size { IfOk result (λ reached. reached.size ≡ size_of net.now) }
     ensures nodes { IfOk result (λ reached. (m : ℕ) →
-        IsIn m reached.nodes ↔ Walk net.now allowed.now.nodes (spot_of from) (To m)) }
+        IsIn m reached.nodes ↔ WalkThrough net.now allowed.now.nodes (spot_of from) (To m)) }
 {
     let mut reached = NodeSet::empty(alloc, net.size())?;
     let mut waiting = Vec::new(alloc);

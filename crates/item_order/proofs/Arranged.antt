@@ -45,7 +45,7 @@ module _ (n : ℕ) (precedes : ℕ → ℕ → Type 0) (within : (y x : ℕ) →
           omega (arith, e, t.1)
 
   pub stuck_no_order : (x : ℕ) → IsStuckAt n precedes x → (order : List ℕ) → IsOrder n precedes order → ⊥
-  stuck_no_order x s order o = s.remains (all_in n precedes s.front rank (λ y z p. (within y z p).0) rises s.stuck (suc (rank x)) x (omega arith) s.inside)
+  stuck_no_order x s order o = s.remains (all_in n precedes s.prefix rank (λ y z p. (within y z p).0) rises s.stuck (suc (rank x)) x (omega arith) s.inside)
     where
       pick : (y : ℕ) → (y < n) ⊎ (n ≤ y) → ℕ
       pick y (inl lt) = (o.every y lt).0

@@ -98,10 +98,10 @@ column_precedes (c ∷ cs) column y x (inl e) b = inl (subst (λ (k : List ℕ).
 column_precedes (c ∷ cs) column y x (inr h) b = inr (column_precedes cs column y x h b)
 
 module _ (n : ℕ) (columns : List (List ℕ)) (column : List ℕ) (mine : HasColumn columns column) where
-  head_is : (front xs past rest : List ℕ) (x : ℕ) → IsNext n (Precedes columns) front x → column ≡ past ++ rest → ((x : ℕ) → Has past x → Has front x) → ((x : ℕ) → Has rest x → Has front x → ⊥) → Has column x → (rs : List ℕ) × (rest ≡ x ∷ rs)
-  head_is front xs past [] x next is in_front later h =
+  head_is : (prefix xs past rest : List ℕ) (x : ℕ) → IsNext n (Precedes columns) prefix x → column ≡ past ++ rest → ((x : ℕ) → Has past x → Has prefix x) → ((x : ℕ) → Has rest x → Has prefix x → ⊥) → Has column x → (rs : List ℕ) × (rest ≡ x ∷ rs)
+  head_is prefix xs past [] x next is in_front later h =
       absurd (next.due.remains (in_front x (subst (λ (k : List ℕ). Has k x) (is ∙ append-nil past) h)))
-  head_is front xs past (r ∷ rs) x next is in_front later h = elim (has_either past (r ∷ rs) x (subst (λ (k : List ℕ). Has k x) is h)) [
+  head_is prefix xs past (r ∷ rs) x next is in_front later h = elim (has_either past (r ∷ rs) x (subst (λ (k : List ℕ). Has k x) is h)) [
     | inl l ↦ absurd (next.due.remains (in_front x l))
     | inr g ↦ elim g [
       | inl e ↦ (rs, ap (λ (z : ℕ). z ∷ rs) e)
@@ -112,43 +112,43 @@ module _ (n : ℕ) (columns : List (List ℕ)) (column : List ℕ) (mine : HasCo
   snoc_has : (xs : List ℕ) (u x : ℕ) → Has (xs ++ u ∷ []) x → Has xs x ⊎ (u ≡ x)
   snoc_has xs u x h = elim (has_either xs (u ∷ []) x h) [ inl l ↦ inl l | inr r ↦ elim r [ inl e ↦ inr e | inr b ↦ absurd b ] ]
 
-  rest_after : (front past rs : List ℕ) (x : ℕ) → IsNext n (Precedes columns) front x → column ≡ past ++ (x ∷ rs) → ((y : ℕ) → Has (x ∷ rs) y → Has front y → ⊥) → (y : ℕ) → Has rs y → Has (front ++ x ∷ []) y → ⊥
-  rest_after front past rs x next is later y h g = elim (snoc_has front x y g) [
+  rest_after : (prefix past rs : List ℕ) (x : ℕ) → IsNext n (Precedes columns) prefix x → column ≡ past ++ (x ∷ rs) → ((y : ℕ) → Has (x ∷ rs) y → Has prefix y → ⊥) → (y : ℕ) → Has rs y → Has (prefix ++ x ∷ []) y → ⊥
+  rest_after prefix past rs x next is later y h g = elim (snoc_has prefix x y g) [
     | inl l ↦ later y (inr h) l
     | inr e ↦ next.due.remains (next.due.ready x (column_precedes columns column x x mine (subst (λ (k : List ℕ). Before k x x) (sym is) (before_right past (x ∷ rs) x x (inl (refl, subst (λ (z : ℕ). Has rs z) (sym e) h))))))
   ]
 
-  pub restrict : (front xs past rest : List ℕ) → Follows n (Precedes columns) front xs → column ≡ past ++ rest → ((x : ℕ) → Has past x → Has front x) → ((x : ℕ) → Has rest x → Has front x → ⊥) → ((x : ℕ) → Has rest x → Has xs x) → restricted column xs ≡ rest
-  restrict front [] past [] f is in_front later every = refl
-  restrict front [] past (r ∷ rs) f is in_front later every = absurd (every r (inl refl))
-  restrict front (x ∷ xs) past rest f is in_front later every = choose (has column x) refl
-      (λ rs e. restrict (front ++ x ∷ []) xs (past ++ x ∷ []) rs f.1
+  pub restrict : (prefix xs past rest : List ℕ) → Follows n (Precedes columns) prefix xs → column ≡ past ++ rest → ((x : ℕ) → Has past x → Has prefix x) → ((x : ℕ) → Has rest x → Has prefix x → ⊥) → ((x : ℕ) → Has rest x → Has xs x) → restricted column xs ≡ rest
+  restrict prefix [] past [] f is in_front later every = refl
+  restrict prefix [] past (r ∷ rs) f is in_front later every = absurd (every r (inl refl))
+  restrict prefix (x ∷ xs) past rest f is in_front later every = choose (has column x) refl
+      (λ rs e. restrict (prefix ++ x ∷ []) xs (past ++ x ∷ []) rs f.1
       (is ∙ ap (λ (k : List ℕ). past ++ k) e ∙ sym (append_assoc past (x ∷ []) rs))
-      (λ y h. elim (snoc_has past x y h) [ inl l ↦ has_left front (x ∷ []) y (in_front y l) | inr q ↦ has_right front (x ∷ []) y (inl q) ])
-      (rest_after front past rs x f.0 (is ∙ ap (λ (k : List ℕ). past ++ k) e) (λ y h. later y (subst (λ (k : List ℕ). Has k y) (sym e) h)))
+      (λ y h. elim (snoc_has past x y h) [ inl l ↦ has_left prefix (x ∷ []) y (in_front y l) | inr q ↦ has_right prefix (x ∷ []) y (inl q) ])
+      (rest_after prefix past rs x f.0 (is ∙ ap (λ (k : List ℕ). past ++ k) e) (λ y h. later y (subst (λ (k : List ℕ). Has k y) (sym e) h)))
       (λ y h. elim (every y (subst (λ (k : List ℕ). Has k y) (sym e) (inr h))) [
-        | inl q ↦ absurd (rest_after front past rs x f.0 (is ∙ ap (λ (k : List ℕ). past ++ k) e) (λ z g. later z (subst (λ (k : List ℕ). Has k z) (sym e) g)) y h (has_right front (x ∷ []) y (inl q)))
+        | inl q ↦ absurd (rest_after prefix past rs x f.0 (is ∙ ap (λ (k : List ℕ). past ++ k) e) (λ z g. later z (subst (λ (k : List ℕ). Has k z) (sym e) g)) y h (has_right prefix (x ∷ []) y (inl q)))
         | inr t ↦ t
       ]))
-      (λ lacks. restrict (front ++ x ∷ []) xs past rest f.1 is
-      (λ y h. has_left front (x ∷ []) y (in_front y h))
-      (λ y h g. elim (snoc_has front x y g) [ inl l ↦ later y h l | inr q ↦ lacks (subst (λ (k : List ℕ). Has k x) (sym is) (has_right past rest x (subst (λ (z : ℕ). Has rest z) (sym q) h))) ])
+      (λ lacks. restrict (prefix ++ x ∷ []) xs past rest f.1 is
+      (λ y h. has_left prefix (x ∷ []) y (in_front y h))
+      (λ y h g. elim (snoc_has prefix x y g) [ inl l ↦ later y h l | inr q ↦ lacks (subst (λ (k : List ℕ). Has k x) (sym is) (has_right past rest x (subst (λ (z : ℕ). Has rest z) (sym q) h))) ])
       (λ y h. elim (every y h) [ inl q ↦ absurd (lacks (subst (λ (k : List ℕ). Has k x) (sym is) (has_right past rest x (subst (λ (z : ℕ). Has rest z) (sym q) h)))) | inr t ↦ t ]))
     where
       choose : (b : Bool) → has column x ≡ b → ((rs : List ℕ) → rest ≡ x ∷ rs → restricted column xs ≡ rs) → ((Has column x → ⊥) → restricted column xs ≡ rest) → (if b then x ∷ restricted column xs else restricted column xs) ≡ rest
       choose true e held lacking =
-          let t = head_is front xs past rest x f.0 is in_front later (true_has column x e) in
+          let t = head_is prefix xs past rest x f.0 is in_front later (true_has column x e) in
           ap (λ (k : List ℕ). x ∷ k) (held t.0 t.1) ∙ sym t.1
       choose false e held lacking = lacking (false_has column x e)
 
-follows_different : (n : ℕ) (precedes : ℕ → ℕ → Type 0) (front xs : List ℕ) → Follows n precedes front xs → AreDifferent xs × ((x : ℕ) → Has xs x → (x < n) × (Has front x → ⊥))
-follows_different n precedes front [] f = (tt, λ x h. absurd h)
-follows_different n precedes front (y ∷ ys) f =
-    let r = follows_different n precedes (front ++ y ∷ []) ys f.1 in (
-      (λ h. (r.1 y h).1 (has_right front (y ∷ []) y (inl refl)), r.0),
+follows_different : (n : ℕ) (precedes : ℕ → ℕ → Type 0) (prefix xs : List ℕ) → Follows n precedes prefix xs → AreDifferent xs × ((x : ℕ) → Has xs x → (x < n) × (Has prefix x → ⊥))
+follows_different n precedes prefix [] f = (tt, λ x h. absurd h)
+follows_different n precedes prefix (y ∷ ys) f =
+    let r = follows_different n precedes (prefix ++ y ∷ []) ys f.1 in (
+      (λ h. (r.1 y h).1 (has_right prefix (y ∷ []) y (inl refl)), r.0),
       λ x h. elim h [
-        | inl e ↦ (subst (λ (z : ℕ). z < n) e f.0.due.inside, λ g. f.0.due.remains (subst (λ (z : ℕ). Has front z) (sym e) g))
-        | inr t ↦ ((r.1 x t).0, λ g. (r.1 x t).1 (has_left front (y ∷ []) x g))
+        | inl e ↦ (subst (λ (z : ℕ). z < n) e f.0.due.inside, λ g. f.0.due.remains (subst (λ (z : ℕ). Has prefix z) (sym e) g))
+        | inr t ↦ ((r.1 x t).0, λ g. (r.1 x t).1 (has_left prefix (y ∷ []) x g))
       ],
     )
 

@@ -48,7 +48,7 @@ has_snoc (y ∷ ys) u x = go (nat_eq y x) (has_snoc ys u x)
     go true e = refl
     go false e = e
 
--- taking u into the front ends the wait of the edges from u
+-- taking u into the prefix ends the wait of the edges from u
 one : (t f s : Bool) → (f ≡ true → s ≡ false) → (w v k : ℕ) → w ≡ v + k
     → (if t then (if f then 0 else 1) else 0) + w ≡ ((if t then (if (if f then true else s) then 0 else 1) else 0) + v) + ((if s then (if t then 1 else 0) else 0) + k)
 one true true true h w v k e = let bad : true ≡ false = h refl in cc
@@ -62,45 +62,45 @@ times_targets : (s : Bool) (to x : ℕ) (ts : List ℕ) → times x (if s then t
 times_targets true to x ts = refl
 times_targets false to x ts = omega arith
 
-pub waiting_release : (es : List Edge) (front : List ℕ) (u x : ℕ) → has front u ≡ false → waiting es front x ≡ waiting es (front ++ u ∷ []) x + times x (targets es u)
-waiting_release [] front u x f = omega arith
-waiting_release (e ∷ es) front u x f =
-    let ih : waiting es front x ≡ waiting es (front ++ u ∷ []) x + times x (targets es u) = waiting_release es front u x f in
+pub waiting_release : (es : List Edge) (prefix : List ℕ) (u x : ℕ) → has prefix u ≡ false → waiting es prefix x ≡ waiting es (prefix ++ u ∷ []) x + times x (targets es u)
+waiting_release [] prefix u x f = omega arith
+waiting_release (e ∷ es) prefix u x f =
+    let ih : waiting es prefix x ≡ waiting es (prefix ++ u ∷ []) x + times x (targets es u) = waiting_release es prefix u x f in
     let turn : nat_eq e.from u ≡ nat_eq u e.from = grind (arith, nat_tests) in
-    let other : has front e.from ≡ true → nat_eq e.from u ≡ false = λ t. eq_false e.from u (λ is. let bad : true ≡ false = sym t ∙ ap (has front) is ∙ f in cc) in
-    let snoc : has (front ++ u ∷ []) e.from ≡ (if has front e.from then true else nat_eq e.from u) = has_snoc front u e.from ∙ ap (λ (b : Bool). if has front e.from then true else b) (sym turn) in
-    rw (snoc, times_targets (nat_eq e.from u) e.to x (targets es u)) (one (nat_eq e.to x) (has front e.from) (nat_eq e.from u) other (waiting es front x) (waiting es (front ++ u ∷ []) x) (times x (targets es u)) ih)
+    let other : has prefix e.from ≡ true → nat_eq e.from u ≡ false = λ t. eq_false e.from u (λ is. let bad : true ≡ false = sym t ∙ ap (has prefix) is ∙ f in cc) in
+    let snoc : has (prefix ++ u ∷ []) e.from ≡ (if has prefix e.from then true else nat_eq e.from u) = has_snoc prefix u e.from ∙ ap (λ (b : Bool). if has prefix e.from then true else b) (sym turn) in
+    rw (snoc, times_targets (nat_eq e.from u) e.to x (targets es u)) (one (nat_eq e.to x) (has prefix e.from) (nat_eq e.from u) other (waiting es prefix x) (waiting es (prefix ++ u ∷ []) x) (times x (targets es u)) ih)
 
-pub waiting_le : (es : List Edge) (front : List ℕ) (x : ℕ) → waiting es front x ≤ length es
-waiting_le [] front x = omega arith
-waiting_le (e ∷ es) front x = let ih : waiting es front x ≤ length es = waiting_le es front x in go (nat_eq e.to x) (has front e.from) ih
+pub waiting_le : (es : List Edge) (prefix : List ℕ) (x : ℕ) → waiting es prefix x ≤ length es
+waiting_le [] prefix x = omega arith
+waiting_le (e ∷ es) prefix x = let ih : waiting es prefix x ≤ length es = waiting_le es prefix x in go (nat_eq e.to x) (has prefix e.from) ih
   where
-    go : (t f : Bool) → waiting es front x ≤ length es → (if t then (if f then 0 else 1) else 0) + waiting es front x ≤ suc (length es)
+    go : (t f : Bool) → waiting es prefix x ≤ length es → (if t then (if f then 0 else 1) else 0) + waiting es prefix x ≤ suc (length es)
     go true true h = omega arith
     go true false h = omega arith
     go false f h = omega arith
 
 -- an item has no waiting edge exactly where all that lead to it are in front
-pub no_waiting : (es : List Edge) (front : List ℕ) (x : ℕ) → waiting es front x ≡ 0 → (y : ℕ) → Leads es y x → Has front y
-no_waiting [] front x h y l = absurd l
-no_waiting (e ∷ es) front x h y (inl p) =
+pub no_waiting : (es : List Edge) (prefix : List ℕ) (x : ℕ) → waiting es prefix x ≡ 0 → (y : ℕ) → Leads es y x → Has prefix y
+no_waiting [] prefix x h y l = absurd l
+no_waiting (e ∷ es) prefix x h y (inl p) =
     let t : nat_eq e.to x ≡ true = eq_true e.to x p.1 in
-    subst (λ (z : ℕ). Has front z) p.0 (go (has front e.from) refl (rw t at h))
+    subst (λ (z : ℕ). Has prefix z) p.0 (go (has prefix e.from) refl (rw t at h))
   where
-    go : (b : Bool) → has front e.from ≡ b → (if b then 0 else 1) + waiting es front x ≡ 0 → Has front e.from
-    go true is h = true_has front e.from is
+    go : (b : Bool) → has prefix e.from ≡ b → (if b then 0 else 1) + waiting es prefix x ≡ 0 → Has prefix e.from
+    go true is h = true_has prefix e.from is
     go false is h = absurd (omega arith)
-no_waiting (e ∷ es) front x h y (inr l) = no_waiting es front x (go (if nat_eq e.to x then (if has front e.from then 0 else 1) else 0) h) y l
+no_waiting (e ∷ es) prefix x h y (inr l) = no_waiting es prefix x (go (if nat_eq e.to x then (if has prefix e.from then 0 else 1) else 0) h) y l
   where
-    go : (k : ℕ) → k + waiting es front x ≡ 0 → waiting es front x ≡ 0
+    go : (k : ℕ) → k + waiting es prefix x ≡ 0 → waiting es prefix x ≡ 0
     go k h = omega arith
 
-pub all_waiting : (es : List Edge) (front : List ℕ) (x : ℕ) → ((y : ℕ) → Leads es y x → Has front y) → waiting es front x ≡ 0
-all_waiting [] front x h = refl
-all_waiting (e ∷ es) front x h =
-    let ih : waiting es front x ≡ 0 = all_waiting es front x (λ y l. h y (inr l)) in
+pub all_waiting : (es : List Edge) (prefix : List ℕ) (x : ℕ) → ((y : ℕ) → Leads es y x → Has prefix y) → waiting es prefix x ≡ 0
+all_waiting [] prefix x h = refl
+all_waiting (e ∷ es) prefix x h =
+    let ih : waiting es prefix x ≡ 0 = all_waiting es prefix x (λ y l. h y (inr l)) in
     elim (cases_eq e.to x) [
-      | inl is ↦ let b : has front e.from ≡ true = has_true front e.from (h e.from (inl (refl, is))) in
+      | inl is ↦ let b : has prefix e.from ≡ true = has_true prefix e.from (h e.from (inl (refl, is))) in
           let t : nat_eq e.to x ≡ true = eq_true e.to x is in rw (t, b) (omega arith)
       | inr ne ↦ let t : nat_eq e.to x ≡ false = eq_false e.to x ne in rw t (omega arith)
     ]
@@ -122,36 +122,36 @@ times_outside n x (t ∷ ts) all le =
 
 -- how many of the first n items aren't in front
 abbrev pub free : ℕ → List ℕ → ℕ
-free zero front = 0
-free (suc n) front = (if has front n then 0 else 1) + free n front
+free zero prefix = 0
+free (suc n) prefix = (if has prefix n then 0 else 1) + free n prefix
 
-free_other : (n : ℕ) (front : List ℕ) (x : ℕ) → n ≤ x → free n (front ++ x ∷ []) ≡ free n front
-free_other zero front x le = refl
-free_other (suc n) front x le =
-    let s : has (front ++ x ∷ []) n ≡ (if has front n then true else nat_eq x n) = has_snoc front x n in
+free_other : (n : ℕ) (prefix : List ℕ) (x : ℕ) → n ≤ x → free n (prefix ++ x ∷ []) ≡ free n prefix
+free_other zero prefix x le = refl
+free_other (suc n) prefix x le =
+    let s : has (prefix ++ x ∷ []) n ≡ (if has prefix n then true else nat_eq x n) = has_snoc prefix x n in
     let b : nat_eq x n ≡ false = eq_false x n (λ e. omega arith) in
-    rw (s, b, free_other n front x (omega arith)) (go (has front n))
+    rw (s, b, free_other n prefix x (omega arith)) (go (has prefix n))
   where
-    go : (b : Bool) → (if (if b then true else false) then 0 else 1) + free n front ≡ (if b then 0 else 1) + free n front
+    go : (b : Bool) → (if (if b then true else false) then 0 else 1) + free n prefix ≡ (if b then 0 else 1) + free n prefix
     go true = refl
     go false = refl
 
-pub free_less : (n : ℕ) (front : List ℕ) (x : ℕ) → x < n → has front x ≡ false → free n (front ++ x ∷ []) < free n front
-free_less zero front x lt f = absurd (omega arith)
-free_less (suc n) front x lt f = elim (cases_eq x n) [
+pub free_less : (n : ℕ) (prefix : List ℕ) (x : ℕ) → x < n → has prefix x ≡ false → free n (prefix ++ x ∷ []) < free n prefix
+free_less zero prefix x lt f = absurd (omega arith)
+free_less (suc n) prefix x lt f = elim (cases_eq x n) [
   | inl e ↦
       let b : nat_eq x n ≡ true = eq_true x n e in
-      let g : has front n ≡ false = subst (λ (z : ℕ). has front z ≡ false) e f in
-      let s : has (front ++ x ∷ []) n ≡ true = has_snoc front x n ∙ rw (g, b) refl in
-      let o : free n (front ++ x ∷ []) ≡ free n front = free_other n front x (omega arith) in
+      let g : has prefix n ≡ false = subst (λ (z : ℕ). has prefix z ≡ false) e f in
+      let s : has (prefix ++ x ∷ []) n ≡ true = has_snoc prefix x n ∙ rw (g, b) refl in
+      let o : free n (prefix ++ x ∷ []) ≡ free n prefix = free_other n prefix x (omega arith) in
       rw (s, g, o) (omega arith)
   | inr ne ↦
       let b : nat_eq x n ≡ false = eq_false x n ne in
-      let ih : free n (front ++ x ∷ []) < free n front = free_less n front x (omega arith) f in
-      let s : has (front ++ x ∷ []) n ≡ (if has front n then true else nat_eq x n) = has_snoc front x n in
-      rw (s, b) (go (has front n) ih)
+      let ih : free n (prefix ++ x ∷ []) < free n prefix = free_less n prefix x (omega arith) f in
+      let s : has (prefix ++ x ∷ []) n ≡ (if has prefix n then true else nat_eq x n) = has_snoc prefix x n in
+      rw (s, b) (go (has prefix n) ih)
 ]
   where
-    go : (b : Bool) → free n (front ++ x ∷ []) < free n front → (if (if b then true else false) then 0 else 1) + free n (front ++ x ∷ []) < (if b then 0 else 1) + free n front
+    go : (b : Bool) → free n (prefix ++ x ∷ []) < free n prefix → (if (if b then true else false) then 0 else 1) + free n (prefix ++ x ∷ []) < (if b then 0 else 1) + free n prefix
     go true h = omega arith
     go false h = omega arith

@@ -24,43 +24,43 @@ pub record MakesUp (near far : ℕ → ℕ → Type 0) : Type 0 where
 
 module _ (n : ℕ) (near far : ℕ → ℕ → Type 0) (made : MakesUp near far) where
   abbrev Closed : List ℕ → Type 0
-  Closed front = (y z : ℕ) → Has front z → far y z → Has front y
+  Closed prefix = (y z : ℕ) → Has prefix z → far y z → Has prefix y
 
-  due_far : (front : List ℕ) (x : ℕ) → Closed front → IsDue n near front x → IsDue n far front x
-  due_far front x closed d = record {
+  due_far : (prefix : List ℕ) (x : ℕ) → Closed prefix → IsDue n near prefix x → IsDue n far prefix x
+  due_far prefix x closed d = record {
     inside = d.inside;
     remains = d.remains;
     ready = λ y p. elim (made.steps y x p) [ inl e ↦ d.ready y e | inr t ↦ closed y t.0 (d.ready t.0 t.2) t.1 ];
   }
 
-  due_near : (front : List ℕ) (x : ℕ) → IsDue n far front x → IsDue n near front x
-  due_near front x d = record { inside = d.inside; remains = d.remains; ready = λ y e. d.ready y (made.within y x e) }
+  due_near : (prefix : List ℕ) (x : ℕ) → IsDue n far prefix x → IsDue n near prefix x
+  due_near prefix x d = record { inside = d.inside; remains = d.remains; ready = λ y e. d.ready y (made.within y x e) }
 
-  next_far : (front : List ℕ) (x : ℕ) → Closed front → IsNext n near front x → IsNext n far front x
-  next_far front x closed h = record { due = due_far front x closed h.due; earliest = λ y d. h.earliest y (due_near front y d) }
+  next_far : (prefix : List ℕ) (x : ℕ) → Closed prefix → IsNext n near prefix x → IsNext n far prefix x
+  next_far prefix x closed h = record { due = due_far prefix x closed h.due; earliest = λ y d. h.earliest y (due_near prefix y d) }
 
-  next_near : (front : List ℕ) (x : ℕ) → Closed front → IsNext n far front x → IsNext n near front x
-  next_near front x closed h = record { due = due_near front x h.due; earliest = λ y d. h.earliest y (due_far front y closed d) }
+  next_near : (prefix : List ℕ) (x : ℕ) → Closed prefix → IsNext n far prefix x → IsNext n near prefix x
+  next_near prefix x closed h = record { due = due_near prefix x h.due; earliest = λ y d. h.earliest y (due_far prefix y closed d) }
 
-  closed_snoc : (front : List ℕ) (x : ℕ) → Closed front → IsDue n far front x → Closed (front ++ x ∷ [])
-  closed_snoc front x closed d y z h p = elim (has_either front (x ∷ []) z h) [
-    | inl l ↦ has_left front (x ∷ []) y (closed y z l p)
-    | inr r ↦ elim r [ inl e ↦ has_left front (x ∷ []) y (d.ready y (subst (λ (w : ℕ). far y w) (sym e) p)) | inr b ↦ absurd b ]
+  closed_snoc : (prefix : List ℕ) (x : ℕ) → Closed prefix → IsDue n far prefix x → Closed (prefix ++ x ∷ [])
+  closed_snoc prefix x closed d y z h p = elim (has_either prefix (x ∷ []) z h) [
+    | inl l ↦ has_left prefix (x ∷ []) y (closed y z l p)
+    | inr r ↦ elim r [ inl e ↦ has_left prefix (x ∷ []) y (d.ready y (subst (λ (w : ℕ). far y w) (sym e) p)) | inr b ↦ absurd b ]
   ]
 
-  pub follows_far : (front xs : List ℕ) → Closed front → Follows n near front xs → Follows n far front xs
-  follows_far front [] closed f = tt
-  follows_far front (x ∷ xs) closed f =
-      let h : IsNext n far front x = next_far front x closed f.0 in
-      (h, follows_far (front ++ x ∷ []) xs (closed_snoc front x closed h.due) f.1)
+  pub follows_far : (prefix xs : List ℕ) → Closed prefix → Follows n near prefix xs → Follows n far prefix xs
+  follows_far prefix [] closed f = tt
+  follows_far prefix (x ∷ xs) closed f =
+      let h : IsNext n far prefix x = next_far prefix x closed f.0 in
+      (h, follows_far (prefix ++ x ∷ []) xs (closed_snoc prefix x closed h.due) f.1)
 
-  pub follows_near : (front xs : List ℕ) → Closed front → Follows n far front xs → Follows n near front xs
-  follows_near front [] closed f = tt
-  follows_near front (x ∷ xs) closed f = (next_near front x closed f.0, follows_near (front ++ x ∷ []) xs (closed_snoc front x closed f.0.due) f.1)
+  pub follows_near : (prefix xs : List ℕ) → Closed prefix → Follows n far prefix xs → Follows n near prefix xs
+  follows_near prefix [] closed f = tt
+  follows_near prefix (x ∷ xs) closed f = (next_near prefix x closed f.0, follows_near (prefix ++ x ∷ []) xs (closed_snoc prefix x closed f.0.due) f.1)
 
-  pub closed_follows : (front xs : List ℕ) → Closed front → Follows n far front xs → Closed (front ++ xs)
-  closed_follows front [] closed f = subst (λ (l : List ℕ). Closed l) (sym (append-nil front)) closed
-  closed_follows front (x ∷ xs) closed f = rw append_assoc at (closed_follows (front ++ x ∷ []) xs (closed_snoc front x closed f.0.due) f.1)
+  pub closed_follows : (prefix xs : List ℕ) → Closed prefix → Follows n far prefix xs → Closed (prefix ++ xs)
+  closed_follows prefix [] closed f = subst (λ (l : List ℕ). Closed l) (sym (append-nil prefix)) closed
+  closed_follows prefix (x ∷ xs) closed f = rw append_assoc at (closed_follows (prefix ++ x ∷ []) xs (closed_snoc prefix x closed f.0.due) f.1)
 
   none : Closed []
   none y z h p = h
@@ -73,9 +73,9 @@ module _ (n : ℕ) (near far : ℕ → ℕ → Type 0) (made : MakesUp near far)
 
   pub stuck_far : (x : ℕ) → IsStuckAt n near x → IsStuckAt n far x
   stuck_far x s = record {
-    front = s.front;
-    earliest = from_follows n far [] s.front (follows_far [] s.front none (to_follows n near [] s.front s.earliest));
-    stuck = λ y d. s.stuck y (due_near s.front y d);
+    prefix = s.prefix;
+    earliest = from_follows n far [] s.prefix (follows_far [] s.prefix none (to_follows n near [] s.prefix s.earliest));
+    stuck = λ y d. s.stuck y (due_near s.prefix y d);
     inside = s.inside;
     remains = s.remains;
     first = s.first;

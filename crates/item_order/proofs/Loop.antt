@@ -82,7 +82,7 @@ module _ (n : ℕ) (es : List Edge) (counts : List ℕ) (Ready : ℕ → Type 0)
 
   pub is_stuck : ((y : ℕ) → Ready y → ⊥) → (x : ℕ) → x < n → 0 < get_or counts x 0 → ((y : ℕ) → y < n → 0 < get_or counts y 0 → x ≤ y) → IsStuckAt n (Leads es) x
   is_stuck none x lt some first = record {
-    front = order;
+    prefix = order;
     earliest = from_follows n (Leads es) [] order k.follows;
     stuck = λ y d. none y (due_ready y d);
     inside = lt;

@@ -10,13 +10,13 @@ has_or_not (y ∷ ys) x = elim (cases_eq y x) [
   | inr ne ↦ elim (has_or_not ys x) [ inl h ↦ inl (inr h) | inr lacks ↦ inr (λ h. elim h [ inl e ↦ ne e | inr t ↦ lacks t ]) ]
 ]
 
--- every item below n is in a front that can't go on, where the items have ranks along the relation
-pub all_in : (n : ℕ) (precedes : ℕ → ℕ → Type 0) (front : List ℕ) (rank : ℕ → ℕ) → ((y x : ℕ) → precedes y x → y < n) → ((y x : ℕ) → precedes y x → rank y < rank x) → ((y : ℕ) → IsDue n precedes front y → ⊥)
-    → (m x : ℕ) → rank x < m → x < n → Has front x
-all_in n precedes front rank within rises stuck zero x lt inside = absurd (omega arith)
-all_in n precedes front rank within rises stuck (suc m) x lt inside = elim (has_or_not front x) [
+-- every item below n is in a prefix that can't go on, where the items have ranks along the relation
+pub all_in : (n : ℕ) (precedes : ℕ → ℕ → Type 0) (prefix : List ℕ) (rank : ℕ → ℕ) → ((y x : ℕ) → precedes y x → y < n) → ((y x : ℕ) → precedes y x → rank y < rank x) → ((y : ℕ) → IsDue n precedes prefix y → ⊥)
+    → (m x : ℕ) → rank x < m → x < n → Has prefix x
+all_in n precedes prefix rank within rises stuck zero x lt inside = absurd (omega arith)
+all_in n precedes prefix rank within rises stuck (suc m) x lt inside = elim (has_or_not prefix x) [
   | inl h ↦ h
-  | inr lacks ↦ absurd (stuck x (record { inside = inside; remains = lacks; ready = λ y p. let less : rank y < rank x = rises y x p in all_in n precedes front rank within rises stuck m y (omega (arith, less)) (within y x p) }))
+  | inr lacks ↦ absurd (stuck x (record { inside = inside; remains = lacks; ready = λ y p. let less : rank y < rank x = rises y x p in all_in n precedes prefix rank within rises stuck m y (omega (arith, less)) (within y x p) }))
 ]
 
 -- items from real on are helpers; each stands for items below real
@@ -29,11 +29,11 @@ pub record Helps (real n : ℕ) (near far : ℕ → ℕ → Type 0) (stands : �
   pub rises : (y x : ℕ) → near y x → real ≤ y → real ≤ x → y < x
   pub real_is : (y u : ℕ) → stands y u → u < real
 
-module _ (real n : ℕ) (near far stands : ℕ → ℕ → Type 0) (helps : Helps real n near far stands) (fits : real ≤ n) (front : List ℕ) (stuck : (y : ℕ) → IsDue n near front y → ⊥) where
+module _ (real n : ℕ) (near far stands : ℕ → ℕ → Type 0) (helps : Helps real n near far stands) (fits : real ≤ n) (prefix : List ℕ) (stuck : (y : ℕ) → IsDue n near prefix y → ⊥) where
   -- a helper is in front where all are for which it stands
-  helper_in : (m x : ℕ) → x < m → real ≤ x → x < n → ((u : ℕ) → stands x u → Has front u) → Has front x
+  helper_in : (m x : ℕ) → x < m → real ≤ x → x < n → ((u : ℕ) → stands x u → Has prefix u) → Has prefix x
   helper_in zero x lt low inside all = absurd (omega arith)
-  helper_in (suc m) x lt low inside all = elim (has_or_not front x) [
+  helper_in (suc m) x lt low inside all = elim (has_or_not prefix x) [
     | inl h ↦ h
     | inr lacks ↦ absurd (stuck x (record {
       inside = inside;
@@ -46,9 +46,9 @@ module _ (real n : ℕ) (near far stands : ℕ → ℕ → Type 0) (helps : Help
     }))
   ]
 
-  pub real_in : (rank : ℕ → ℕ) → ((u v : ℕ) → far u v → rank u < rank v) → (m x : ℕ) → rank x < m → x < real → Has front x
+  pub real_in : (rank : ℕ → ℕ) → ((u v : ℕ) → far u v → rank u < rank v) → (m x : ℕ) → rank x < m → x < real → Has prefix x
   real_in rank rises zero x lt inside = absurd (omega arith)
-  real_in rank rises (suc m) x lt inside = elim (has_or_not front x) [
+  real_in rank rises (suc m) x lt inside = elim (has_or_not prefix x) [
     | inl h ↦ h
     | inr lacks ↦ absurd (stuck x (record {
       inside = omega arith;

@@ -19,21 +19,21 @@ crossed_is_one n columns x y c d = stuck_same n (Precedes columns) x y c d
 
 -- ---- the order of the text
 
-front_more : (front : List ℕ) (k : ℕ) → ((y : ℕ) → Has front y ↔ (y < k)) → (y : ℕ) → Has (front ++ k ∷ []) y ↔ (y < suc k)
-front_more front k is y = (
-  (λ h. elim (has_either front (k ∷ []) y h) [
+front_more : (prefix : List ℕ) (k : ℕ) → ((y : ℕ) → Has prefix y ↔ (y < k)) → (y : ℕ) → Has (prefix ++ k ∷ []) y ↔ (y < suc k)
+front_more prefix k is y = (
+  (λ h. elim (has_either prefix (k ∷ []) y h) [
     | inl l ↦ let low : y < k = (is y).0 l in omega arith
     | inr r ↦ elim r [ inl e ↦ omega arith | inr b ↦ absurd b ]
   ]),
   λ low. elim (cases_lt y k) [
-    | inl lt ↦ has_left front (k ∷ []) y ((is y).1 lt)
-    | inr ge ↦ let e : k ≡ y = omega arith in has_right front (k ∷ []) y (inl e)
+    | inl lt ↦ has_left prefix (k ∷ []) y ((is y).1 lt)
+    | inr ge ↦ let e : k ≡ y = omega arith in has_right prefix (k ∷ []) y (inl e)
   ],
 )
 
 module _ (n : ℕ) (precedes : ℕ → ℕ → Type 0) (rises : (y x : ℕ) → precedes y x → y < x) where
-  next_is : (front : List ℕ) (k : ℕ) → k < n → ((y : ℕ) → Has front y ↔ (y < k)) → IsNext n precedes front k
-  next_is front k low is = record {
+  next_is : (prefix : List ℕ) (k : ℕ) → k < n → ((y : ℕ) → Has prefix y ↔ (y < k)) → IsNext n precedes prefix k
+  next_is prefix k low is = record {
     due = record {
       inside = low;
       remains = λ h. let own : k < k = (is k).0 h in omega arith;
@@ -42,9 +42,9 @@ module _ (n : ℕ) (precedes : ℕ → ℕ → Type 0) (rises : (y x : ℕ) → 
     earliest = λ y d. elim (cases_lt y k) [ inl lt ↦ absurd (d.remains ((is y).1 lt)) | inr ge ↦ ge ];
   }
 
-  text_follows : (front : List ℕ) (k m : ℕ) → k + m ≡ n → ((y : ℕ) → Has front y ↔ (y < k)) → Follows n precedes front (numbers_from k m)
-  text_follows front k zero e is = tt
-  text_follows front k (suc m) e is = (next_is front k (omega arith) is, text_follows (front ++ k ∷ []) (suc k) m (omega arith) (front_more front k is))
+  text_follows : (prefix : List ℕ) (k m : ℕ) → k + m ≡ n → ((y : ℕ) → Has prefix y ↔ (y < k)) → Follows n precedes prefix (numbers_from k m)
+  text_follows prefix k zero e is = tt
+  text_follows prefix k (suc m) e is = (next_is prefix k (omega arith) is, text_follows (prefix ++ k ∷ []) (suc k) m (omega arith) (front_more prefix k is))
 
 has_number : (k m x : ℕ) → k ≤ x → x < k + m → Has (numbers_from k m) x
 has_number k zero x low high = absurd (omega arith)

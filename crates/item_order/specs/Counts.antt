@@ -20,8 +20,8 @@ times x (y ∷ ys) = (if nat_eq y x then 1 else 0) + times x ys
 
 -- how many edges lead to x from items that aren't in front
 abbrev pub waiting : List Edge → List ℕ → ℕ → ℕ
-waiting [] front x = 0
-waiting (e ∷ es) front x = (if nat_eq e.to x then (if has front e.from then 0 else 1) else 0) + waiting es front x
+waiting [] prefix x = 0
+waiting (e ∷ es) prefix x = (if nat_eq e.to x then (if has prefix e.from then 0 else 1) else 0) + waiting es prefix x
 
 -- where the edges from y lead
 abbrev pub targets : List Edge → ℕ → List ℕ

@@ -11,15 +11,15 @@ abbrev pub IsAt : List ℕ → ℕ → ℕ → Type 0
 IsAt xs i x = slice_get xs i ≡ Some x
 
 -- x is one of the first n items, isn't among those in front, and all that must stand before it are
-pub record IsDue (n : ℕ) (precedes : ℕ → ℕ → Type 0) (front : List ℕ) (x : ℕ) : Type 0 where
+pub record IsDue (n : ℕ) (precedes : ℕ → ℕ → Type 0) (prefix : List ℕ) (x : ℕ) : Type 0 where
   pub inside : x < n
-  pub remains : Has front x → ⊥
-  pub ready : (y : ℕ) → precedes y x → Has front y
+  pub remains : Has prefix x → ⊥
+  pub ready : (y : ℕ) → precedes y x → Has prefix y
 
 -- and it is the earliest such item
-pub record IsNext (n : ℕ) (precedes : ℕ → ℕ → Type 0) (front : List ℕ) (x : ℕ) : Type 0 where
-  pub due : IsDue n precedes front x
-  pub earliest : (y : ℕ) → IsDue n precedes front y → x ≤ y
+pub record IsNext (n : ℕ) (precedes : ℕ → ℕ → Type 0) (prefix : List ℕ) (x : ℕ) : Type 0 where
+  pub due : IsDue n precedes prefix x
+  pub earliest : (y : ℕ) → IsDue n precedes prefix y → x ≤ y
 
 -- at each position stands the earliest item that is due there
 abbrev pub IsEarliestFirst : ℕ → (ℕ → ℕ → Type 0) → List ℕ → Type 0
@@ -32,9 +32,9 @@ pub record IsWhole (n : ℕ) (precedes : ℕ → ℕ → Type 0) (order : List �
 
 -- behind a list that can't go on, x is the earliest item that remains
 pub record IsStuckAt (n : ℕ) (precedes : ℕ → ℕ → Type 0) (x : ℕ) : Type 0 where
-  pub front : List ℕ
-  pub earliest : IsEarliestFirst n precedes front
-  pub stuck : (y : ℕ) → IsDue n precedes front y → ⊥
+  pub prefix : List ℕ
+  pub earliest : IsEarliestFirst n precedes prefix
+  pub stuck : (y : ℕ) → IsDue n precedes prefix y → ⊥
   pub inside : x < n
-  pub remains : Has front x → ⊥
-  pub first : (y : ℕ) → y < n → (Has front y → ⊥) → x ≤ y
+  pub remains : Has prefix x → ⊥
+  pub first : (y : ℕ) → y < n → (Has prefix y → ⊥) → x ≤ y

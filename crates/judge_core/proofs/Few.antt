@@ -7,14 +7,14 @@ use Rattle.event_log.specs.Logs.{Stage, first_stage, After, Reaches, HoldsEvent}
 use Rattle.event_log.specs.declared.event.LineEvent.{LineEvent}
 use Rattle.event_log.specs.declared.event.LogForm.{LogForm}
 use Rattle.event_log.specs.declared.line.Line.{Line}
-use Rattle.event_log.specs.declared.line.Line.TheVariants.{Blank, Edition, Event, Bad}
+use Rattle.event_log.specs.declared.line.Line.TheVariants.{Blank, VersionLine, Event, NoEvent}
 
 after_few : (s t : Stage) (m : Line) → After s m t → length s.events ≤ LOG_EVENTS → length t.events ≤ LOG_EVENTS
 after_few s t Blank h l = let q : length t.events ≡ length s.events = ap (λ (u : Stage). length u.events) h in omega arith
-after_few s t (Edition (Some v)) h l = let q : length t.events ≡ length s.events = ap (λ (u : Stage). length u.events) h in omega arith
-after_few s t (Edition None) h l = absurd h
+after_few s t (VersionLine (Some v)) h l = let q : length t.events ≡ length s.events = ap (λ (u : Stage). length u.events) h in omega arith
+after_few s t (VersionLine None) h l = absurd h
 after_few s t (Event label) h l = let q : length t.events ≡ length (s.events ++ (record { label = label; line = s.number }) ∷ []) = ap (λ (u : Stage). length u.events) h.1 in omega (arith, h.0, length-append s.events (record { label = label; line = s.number } ∷ []))
-after_few s t Bad h l = absurd h
+after_few s t NoEvent h l = absurd h
 
 reaches_few : (form : LogForm) (s t : Stage) (ls : List (List ℕ)) → Reaches form s ls t → length s.events ≤ LOG_EVENTS → length t.events ≤ LOG_EVENTS
 reaches_few form s t [] h l = let q : length t.events ≡ length s.events = ap (λ (u : Stage). length u.events) h in omega arith

@@ -1,7 +1,7 @@
 -- The term of the tests is sound.
 use Rattle.std.specs.Prelude.{◌≡◌, []}
 use Rattle.std.proofs.Common.{sym, subst}
-use Rattle.msc_base.specs.Patterns.{row}
+use Rattle.msc_base.specs.Patterns.{seq}
 use Rattle.chart_term.specs.NetValues.{NetsValue}
 use Rattle.chart_term.specs.Terms.{Tree, Nil}
 use Rattle.permit_step.specs.FullSoundness.{IsFullySound}
@@ -9,4 +9,4 @@ use Rattle.permit_step.proofs.SoundForms.{constructors_keep_soundness}
 use Rattle.residual_set.specs.Sets.{IsSoundFor}
 
 pub sound_nil : (v : NetsValue) (x : Tree) → v ≡ record { labels = []; tables = [] } → x ≡ Nil → IsSoundFor v x
-sound_nil v x p q = subst (λ (w : NetsValue). IsSoundFor w x) (sym p) (subst (IsFullySound 0 []) (sym q) (record { nets = tt; term = (constructors_keep_soundness.join 0 [] row [] tt tt).sound }))
+sound_nil v x p q = subst (λ (w : NetsValue). IsSoundFor w x) (sym p) (subst (IsFullySound 0 []) (sym q) (record { nets = tt; term = (constructors_keep_soundness.join 0 [] seq [] tt tt).sound }))

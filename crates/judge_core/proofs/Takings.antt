@@ -4,7 +4,8 @@ use Rattle.std.proofs.Common.{ap, sym, ◌∙◌, subst, inl, inr, length-append
 use Rattle.chart_term.specs.NetValues.{NetsValue}
 use Rattle.chart_term.specs.Terms.{Tree}
 use Rattle.event_log.specs.Logs.{HoldsEvent}
-use Rattle.event_log.specs.Meanings.{Only, Never}
+use Rattle.msc_base.specs.Only.{Never}
+use Rattle.msc_base.specs.Only.{Only}
 use Rattle.event_log.specs.States.{LogState, IsFaultOf, IsAnswer}
 use Rattle.event_log.specs.States as reader
 use Rattle.event_log.specs.declared.event.LineEvent.{LineEvent}

@@ -3,7 +3,7 @@ use Rattle.std.specs.Prelude.{ℕ, ◌≡◌, Bool, List, length, Some, None, sl
 use Rattle.chart_term.specs.NetValues.{NetsValue}
 use Rattle.chart_term.specs.Terms.{Tree}
 use Rattle.event_log.specs.Logs.{HoldsEvent}
-use Rattle.event_log.specs.Meanings.{Never}
+use Rattle.msc_base.specs.Only.{Never}
 use Rattle.event_log.specs.States.{LogState}
 use Rattle.event_log.specs.States as reader
 use Rattle.event_log.specs.declared.event.LineEvent.{LineEvent}

@@ -10,11 +10,11 @@ use Rattle.serde_json.specs.Data.{string}
 use Rattle.serde_json.specs.Written.{compact_text}
 use Rattle.serde_json.proofs.OnLiterals.{serde_json_on_literals}
 use Rattle.msc_base.specs.declared.place.Place.{Place}
-use Rattle.msc_grammar.specs.declared.rule.Form.{Form}
-use Rattle.msc_grammar.specs.declared.rule.Form.TheVariants.{Guard}
-use Rattle.msc_grammar.specs.declared.rule.Rule.{Rule}
-use Rattle.msc_grammar.specs.declared.rule.Rule.TheVariants.{Unsupported}
-use Rattle.msc_grammar.specs.Rules.{rule_text}
+use Rattle.msc_rules.specs.declared.rule.Form.{Form}
+use Rattle.msc_rules.specs.declared.rule.Form.TheVariants.{Guard}
+use Rattle.msc_rules.specs.declared.rule.Rule.{Rule}
+use Rattle.msc_rules.specs.declared.rule.Rule.TheVariants.{Unsupported}
+use Rattle.msc_rules.specs.Rules.{rule_text}
 use Rattle.event_log.specs.Faults.{fault_text}
 use Rattle.event_log.specs.declared.event.LogFault.{LogFault}
 use Rattle.event_log.specs.declared.event.LogFault.TheVariants.{Syntax, LongLine, LogLimit, Version, NoMemory}
@@ -67,8 +67,8 @@ rule_plain (Unsupported form) = form_plain form
 rule_plain _ = refl
 
 -- words, a number and words behind them
-number_plain : (front back : List ℕ) (n : ℕ) → is_plain front ≡ true → n < 2 ^ 64 → is_plain back ≡ true → is_plain (front ++ (decimal n ++ back)) ≡ true
-number_plain front back n f small b = plain_append front (decimal n ++ back) f (plain_append (decimal n) back (plain_decimal n small) b)
+number_plain : (prefix back : List ℕ) (n : ℕ) → is_plain front ≡ true → n < 2 ^ 64 → is_plain back ≡ true → is_plain (prefix ++ (decimal n ++ back)) ≡ true
+number_plain front back n f small b = plain_append prefix (decimal n ++ back) f (plain_append (decimal n) back (plain_decimal n small) b)
 
 pub document_plain : (rule : Rule) (place : Place) → place.line < 2 ^ 64 → place.column < 2 ^ 64 → is_plain (document_words rule place) ≡ true
 document_plain rule place l c =

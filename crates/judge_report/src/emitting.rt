@@ -1,9 +1,10 @@
 ghost use Rattle.std.specs.Prelude.{◌≡◌, ◌≤◌, ◌<◌, length, OnOk, OnErr};
 ghost use Rattle.std.specs.Io.KnownBytes.{Appends};
-ghost use Rattle.msc_base.specs.Causes.{HasCause};
+ghost use Rattle.outside.specs.Causes.{HasCause};
 ghost use Rattle.judge_report.specs.Writing.{AppendsPart};
 
-use msc_base::{Failed, Sink, Text};
+use msc_base::Text;
+use outside::{Failed, Sink};
 
 #[tactic(auto, using(crate::proofs::TextParts::appends_more, crate::proofs::TextParts::appends_kept, crate::proofs::TextParts::appends_none, crate::proofs::TextParts::appends_all))]
 /// Writes a text.

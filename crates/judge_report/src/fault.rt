@@ -5,7 +5,7 @@ ghost use Rattle.judge_report.specs.Texts.{IsTold, document_words, fault_line, l
 use crate::lines::fault_line_of;
 use event_log::LogFault;
 use msc_base::{NoMemory, Place, Text};
-use msc_grammar::Rule;
+use msc_rules::Rule;
 use std::alloc::{AllocError, Global};
 
 /// Why there is no verdict.

@@ -1,8 +1,9 @@
 //! Each text once, plain and as JSON, and a sink that takes a text in parts.
 use crate::{Fault, accepted_text, emit, fault_text, instance_list_text, verdict_text};
 use event_log::LogFault;
-use msc_base::{Items, MemSink, Name, Place, Verdict};
-use msc_grammar::{Form, Rule};
+use msc_base::{Items, Name, Place, Verdict};
+use outside::MemSink;
+use msc_rules::{Form, Rule};
 use msc_tree::{Decl, DeclList};
 use std::alloc::Global;
 use std::test::Fail;

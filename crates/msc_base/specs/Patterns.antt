@@ -4,8 +4,8 @@ use Rattle.std.proofs.Common.{inl, inr}
 
 -- how two parts are joined: one after another (weak sequence), or side by side
 pub data Mode : Type 0 where
-  row : Mode
-  aside : Mode
+  seq : Mode
+  par : Mode
 
 pub data Pattern (E Q : Type 0) : Type 0 where
   empty : Pattern E Q
@@ -39,8 +39,8 @@ event_at r empty p = absurd p
 
 -- one after another, two events that share an instance are in order; side by side no two are
 abbrev pub Crosses : {E Q : Type 0} → Reading E Q → Mode → E → E → Type 0
-Crosses r row e f = r.meets e f ≡ true
-Crosses r aside e f = ⊥
+Crosses r seq e f = r.meets e f ≡ true
+Crosses r par e f = ⊥
 
 -- the pairs of a pattern: the first position is to stand before the second
 abbrev pub Before : {E Q : Type 0} → (r : Reading E Q) → (s : Pattern E Q) → Position s → Position s → Type 0

@@ -1,5 +1,6 @@
 ghost use Rattle.std.specs.Prelude.{◌≡◌, ◌≤◌, ◌↔◌, List, ℕ, length, All, Any, IsTrue, IfOk, IsErrOf};
-ghost use Rattle.msc_base.specs.Names.{IsLetterOrDigit, IsWordByte, IsWord, IsName, IsReserved, IsOneOf, reserved_to_decomposed, reserved_to_inst, reserved_to_out, reserved_to_when};
+ghost use Rattle.msc_base.specs.Names.{IsLetterOrDigit, IsWordByte, IsWord, IsName, IsReserved, reserved_to_decomposed, reserved_to_inst, reserved_to_out, reserved_to_when};
+ghost use Rattle.msc_base.specs.Lists.{IsAmong};
 
 use crate::{NoMemory, Text};
 use std::alloc::Global;
@@ -60,7 +61,7 @@ pub fn is_text(bytes: &[u8], text: &str) -> bool
 
 /// Whether the bytes are one of the reserved words from `action` to `decomposed`.
 fn is_reserved_to_decomposed(bytes: &[u8]) -> bool
-    ensures { IsTrue result ↔ IsOneOf reserved_to_decomposed bytes.now }
+    ensures { IsTrue result ↔ IsAmong reserved_to_decomposed bytes.now }
 {
     is_text(bytes, "action")
         || is_text(bytes, "after")
@@ -76,7 +77,7 @@ fn is_reserved_to_decomposed(bytes: &[u8]) -> bool
 
 /// Whether the bytes are one of the reserved words from `endconcurrent` to `inst`.
 fn is_reserved_to_inst(bytes: &[u8]) -> bool
-    ensures { IsTrue result ↔ IsOneOf reserved_to_inst bytes.now }
+    ensures { IsTrue result ↔ IsAmong reserved_to_inst bytes.now }
 {
     is_text(bytes, "endconcurrent")
         || is_text(bytes, "endexpr")
@@ -94,7 +95,7 @@ fn is_reserved_to_inst(bytes: &[u8]) -> bool
 
 /// Whether the bytes are one of the reserved words from `instance` to `out`.
 fn is_reserved_to_out(bytes: &[u8]) -> bool
-    ensures { IsTrue result ↔ IsOneOf reserved_to_out bytes.now }
+    ensures { IsTrue result ↔ IsAmong reserved_to_out bytes.now }
 {
     is_text(bytes, "instance")
         || is_text(bytes, "label")
@@ -110,7 +111,7 @@ fn is_reserved_to_out(bytes: &[u8]) -> bool
 
 /// Whether the bytes are one of the reserved words from `par` to `when`.
 fn is_reserved_to_when(bytes: &[u8]) -> bool
-    ensures { IsTrue result ↔ IsOneOf reserved_to_when bytes.now }
+    ensures { IsTrue result ↔ IsAmong reserved_to_when bytes.now }
 {
     is_text(bytes, "par")
         || is_text(bytes, "reference")

@@ -1,7 +1,7 @@
--- Fronts of linear orders by numbers: the front of an order, an order from a front, and what labels say of a front.
+-- Prefixes of linear orders by numbers: the prefix of an order, an order from a prefix, and what labels say of a prefix.
 use Rattle.std.proofs.Common.{◌≡◌, ◌<◌, ◌+◌, inl, inr, ℕ, zero, suc, List, ◌++◌, length, take, Bool, true, false, sym, refl, subst, arith}
 use Rattle.std.proofs.lemmas.Bool.{cases_lt, cases_eq}
-use Rattle.msc_cmd.proofs.Orders.{IsAt, IsFront}
+use Rattle.msc_cmd.proofs.Orders.{IsAt, IsPrefix}
 use Rattle.msc_cmd.proofs.Places.{below_length, at_take, take_at, at_left, at_right, at_either, at_below}
 use Rattle.msc_cmd.proofs.OtherNumbers.{has, others, at_has, has_at, others_inside, others_every, others_once, others_order, true_false}
 
@@ -12,16 +12,16 @@ pub record IsLinearOrder (n : ℕ) (pair : ℕ → ℕ → Type 0) (order : List
   pub once : (i j p : ℕ) → IsAt order i p → IsAt order j p → i ≡ j
   pub kept : (i j p q : ℕ) → IsAt order i p → IsAt order j q → pair p q → i < j
 
--- a linear order is a front
-pub order_front : (n : ℕ) (pair : ℕ → ℕ → Type 0) (order : List ℕ) → ((p q : ℕ) → pair p q → p < n) → IsLinearOrder n pair order → IsFront n pair order
+-- a linear order is a prefix
+pub order_front : (n : ℕ) (pair : ℕ → ℕ → Type 0) (order : List ℕ) → ((p q : ℕ) → pair p q → p < n) → IsLinearOrder n pair order → IsPrefix n pair order
 order_front n pair order within l = record {
   inside = l.inside;
   once = l.once;
   closed = λ j p q h pr. let e = l.every p (within p q pr) in (e.0, l.kept e.0 j p q e.1 h pr, e.1);
 }
 
--- the front of a front is one
-pub front_front : (n : ℕ) (pair : ℕ → ℕ → Type 0) (ps : List ℕ) (k : ℕ) → IsFront n pair ps → IsFront n pair (take k ps)
+-- the prefix of a prefix is one
+pub front_front : (n : ℕ) (pair : ℕ → ℕ → Type 0) (ps : List ℕ) (k : ℕ) → IsPrefix n pair ps → IsPrefix n pair (take k ps)
 front_front n pair ps k f = record {
   inside = λ i p h. f.inside i p (at_take k ps i p h).0;
   once = λ i j p h g. f.once i j p (at_take k ps i p h).0 (at_take k ps j p g).0;
@@ -31,19 +31,19 @@ front_front n pair ps k f = record {
       (e.0, e.1, take_at k ps e.0 p e.2 (omega (arith, e.1, here.1)));
 }
 
--- the front of a linear order is a front
-pub front_of : (n : ℕ) (pair : ℕ → ℕ → Type 0) (order : List ℕ) (k : ℕ) → ((p q : ℕ) → pair p q → p < n) → IsLinearOrder n pair order → IsFront n pair (take k order)
-front_of n pair order k within l = front_front n pair order k (order_front n pair order within l)
+-- the prefix of a linear order is a prefix
+pub prefix_of_list : (n : ℕ) (pair : ℕ → ℕ → Type 0) (order : List ℕ) (k : ℕ) → ((p q : ℕ) → pair p q → p < n) → IsLinearOrder n pair order → IsPrefix n pair (take k order)
+prefix_of_list n pair order k within l = front_front n pair order k (order_front n pair order within l)
 
--- a front that has every number is a linear order
-pub whole_front : (n : ℕ) (pair : ℕ → ℕ → Type 0) (ps : List ℕ) → IsFront n pair ps → ((p : ℕ) → p < n → (i : ℕ) × IsAt ps i p) → IsLinearOrder n pair ps
+-- a prefix that has every number is a linear order
+pub whole_front : (n : ℕ) (pair : ℕ → ℕ → Type 0) (ps : List ℕ) → IsPrefix n pair ps → ((p : ℕ) → p < n → (i : ℕ) × IsAt ps i p) → IsLinearOrder n pair ps
 whole_front n pair ps f all = record { inside = f.inside; every = all; once = f.once; kept = kept }
   where
     kept : (i j p q : ℕ) → IsAt ps i p → IsAt ps j q → pair p q → i < j
     kept i j p q h g pr = let c = f.closed j p q g pr in omega (arith, c.1, f.once i c.0 p h c.2)
 
--- a front goes on to a linear order, with the other numbers in rising order
-pub completes : (n : ℕ) (pair : ℕ → ℕ → Type 0) (ps : List ℕ) → ((p q : ℕ) → pair p q → p < q) → IsFront n pair ps → IsLinearOrder n pair (ps ++ others ps 0 n)
+-- a prefix goes on to a linear order, with the other numbers in rising order
+pub completes : (n : ℕ) (pair : ℕ → ℕ → Type 0) (ps : List ℕ) → ((p q : ℕ) → pair p q → p < q) → IsPrefix n pair ps → IsLinearOrder n pair (ps ++ others ps 0 n)
 completes n pair ps forward f = record { inside = inside_all; every = every_one; once = once_each; kept = kept_all }
   where
     inside_all : (i p : ℕ) → IsAt (ps ++ others ps 0 n) i p → p < n
@@ -86,9 +86,9 @@ pub record IsShownAs {L : Type 0} (shows : ℕ → L → Type 0) (p q : ℕ) : T
   pub left : shows p label
   pub right : shows q label
 
--- two fronts that show the same labels are the same, where two numbers with one label are a pair
+-- two prefixes that show the same labels are the same, where two numbers with one label are a pair
 pub determined : {L : Type 0} (n : ℕ) (pair : ℕ → ℕ → Type 0) (shows : ℕ → L → Type 0) (ps qs : List ℕ) → ((p q : ℕ) (a : L) → shows p a → shows q a → p < q → pair p q)
-    → IsFront n pair ps → IsFront n pair qs → ((i p q : ℕ) → IsAt ps i p → IsAt qs i q → IsShownAs shows p q) → (m i p q : ℕ) → i < m → IsAt ps i p → IsAt qs i q → p ≡ q
+    → IsPrefix n pair ps → IsPrefix n pair qs → ((i p q : ℕ) → IsAt ps i p → IsAt qs i q → IsShownAs shows p q) → (m i p q : ℕ) → i < m → IsAt ps i p → IsAt qs i q → p ≡ q
 determined n pair shows ps qs column f g same zero i p q lt h e = absurd (omega arith)
 determined {L} n pair shows ps qs column f g same (suc m) i p q lt h e = elim (cases_eq p q) [
   | inl is ↦ is

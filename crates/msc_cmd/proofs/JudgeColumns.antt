@@ -4,9 +4,9 @@ use Rattle.std.specs.Str.{bytes_eq}
 use Rattle.std.proofs.lemmas.Bool.{cases_eq}
 use Rattle.std.proofs.lemmas.List.{length-set}
 use Rattle.std.proofs.lemmas.Option.{slice_get_within, slice_get-get_or}
-use Rattle.msc_base.specs.Names.{AreDifferent}
+use Rattle.msc_base.specs.Lists.{AreDifferent}
 use Rattle.msc_base.specs.declared.label.Label.{Label}
-use Rattle.msc_base.specs.Names.{IsOneOf}
+use Rattle.msc_base.specs.Lists.{IsAmong}
 use Rattle.msc_cmd.specs.Judging.{IsFirst, AreFirst, AreNext}
 use Rattle.msc_cmd.proofs.JudgeLists.{all_at, set_here, set_other, position_at, position_of, different_at}
 
@@ -84,7 +84,7 @@ next_step names events heads next k left column l e is at f g = record {
 }
 
 -- each event has a column
-pub has_column : (names : List (List ℕ)) (events : List Label) (k : ℕ) (l : Label) → All (λ (x : Label). IsOneOf names x.at) events → slice_get events k ≡ Some l → position (bytes_eq l.at) names ≡ None → ⊥
+pub has_column : (names : List (List ℕ)) (events : List Label) (k : ℕ) (l : Label) → All (λ (x : Label). IsAmong names x.at) events → slice_get events k ≡ Some l → position (bytes_eq l.at) names ≡ None → ⊥
 has_column names events k l listed is none =
-    let c = position_of names l.at (all_at (λ (x : Label). IsOneOf names x.at) events k l listed is) in
+    let c = position_of names l.at (all_at (λ (x : Label). IsAmong names x.at) events k l listed is) in
     let bad : None ≡ Some c.0 = sym none ∙ c.1 in cc

@@ -5,34 +5,34 @@ use Rattle.std.proofs.lemmas.List.{map-append, take_all, length-take-le}
 use Rattle.std.proofs.lemmas.Option.{slice_get_within, slice_get-get_or}
 use Rattle.msc_base.specs.declared.label.Label.{Label}
 use Rattle.msc_expand.specs.declared.plain_chart.PlainChart.{PlainChart}
-use Rattle.msc_base.specs.Names.{IsOneOf}
+use Rattle.msc_base.specs.Lists.{IsAmong}
 use Rattle.msc_expand.specs.Plain.{IsPlain}
 use Rattle.msc_expand.specs.Meanings.{Conforms, Begins}
 use Rattle.event_log.specs.declared.event.LineEvent.{LineEvent}
 use Rattle.msc_cmd.specs.Judging.{AreNext, IsDue}
 use Rattle.msc_cmd.specs.Verdicts.{labels, FailsAt, StopsEarly}
-use Rattle.msc_cmd.proofs.Orders.{IsAt, IsAbove, IsPairOf, IsFront}
-use Rattle.msc_cmd.proofs.Begun.{HasFront, HasAll, front_begins, front_conforms, begins_front, conforms_front, one_front, front_grows}
+use Rattle.msc_cmd.proofs.Orders.{IsAt, IsAbove, IsPairOf, IsPrefix}
+use Rattle.msc_cmd.proofs.Begun.{HasPrefix, HasAll, front_begins, front_conforms, begins_front, conforms_front, one_front, front_grows}
 use Rattle.msc_cmd.proofs.JudgeLists.{get_within, all_at, all_from, at_left, at_last, at_before, last_some, take_get, split_at, position_at, position_of}
 use Rattle.msc_cmd.proofs.JudgePartners.{given_by}
 use Rattle.msc_cmd.proofs.JudgeSteps.{state_step}
 use Rattle.msc_cmd.proofs.JudgeStates.{IsHead, AreHeads, AreMarks, IsState}
 
--- the event that comes next in a grown front has the label that comes next
-grown_label : (chart : PlainChart) (before : List Label) (label : Label) (ps : List ℕ) (q : ℕ) → HasFront chart before ps → HasFront chart (before ++ label ∷ []) (ps ++ q ∷ []) → slice_get chart.events q ≡ Some label
+-- the event that comes next in a grown prefix has the label that comes next
+grown_label : (chart : PlainChart) (before : List Label) (label : Label) (ps : List ℕ) (q : ℕ) → HasPrefix chart before ps → HasPrefix chart (before ++ label ∷ []) (ps ++ q ∷ []) → slice_get chart.events q ≡ Some label
 grown_label chart before label ps q f g =
     let left = map-append (λ (p : ℕ). slice_get chart.events p) ps (q ∷ []) in
     let right = map-append (λ (l : Label). Some l) before (label ∷ []) in
     last_some (map (λ (p : ℕ). slice_get chart.events p) ps) (map (λ (l : Label). Some l) before) (slice_get chart.events q) (Some label) f.shows (sym left ∙ g.shows ∙ right)
 
--- what comes before the last event of a grown front was in the front
-in_front : (chart : PlainChart) (ps : List ℕ) (p q : ℕ) → IsFront (length chart.events) (IsPairOf chart) (ps ++ q ∷ []) → IsPairOf chart p q → (i : ℕ) × IsAt ps i p
+-- what comes before the last event of a grown prefix was in the prefix
+in_front : (chart : PlainChart) (ps : List ℕ) (p q : ℕ) → IsPrefix (length chart.events) (IsPairOf chart) (ps ++ q ∷ []) → IsPairOf chart p q → (i : ℕ) × IsAt ps i p
 in_front chart ps p q f pair =
     let t = f.closed (length ps) p q (at_last ps q) pair in
     (t.0, at_before ps q p t.0 t.2 t.1)
 
 -- that event stands first in its column
-is_head : (chart : PlainChart) (ps : List ℕ) (label : Label) (q h : ℕ) → IsFront (length chart.events) (IsPairOf chart) (ps ++ q ∷ []) → slice_get chart.events q ≡ Some label
+is_head : (chart : PlainChart) (ps : List ℕ) (label : Label) (q h : ℕ) → IsPrefix (length chart.events) (IsPairOf chart) (ps ++ q ∷ []) → slice_get chart.events q ≡ Some label
     → IsHead chart.events ps label.at h → h ≡ q
 is_head chart ps label q h f is head = elim (cases_lt q h) [
   | inl less ↦
@@ -57,9 +57,9 @@ is_head chart ps label q h f is head = elim (cases_lt q h) [
 
 -- so it was due
 was_due : (chart : PlainChart) (heads : List ℕ) (happened : List Bool) (ps : List ℕ) (label : Label) (q : ℕ) → IsPlain chart → AreHeads chart.instances chart.events ps heads → AreMarks chart.events ps happened
-    → IsFront (length chart.events) (IsPairOf chart) (ps ++ q ∷ []) → slice_get chart.events q ≡ Some label → (column : ℕ) × IsDue chart chart.instances heads happened label column q
+    → IsPrefix (length chart.events) (IsPairOf chart) (ps ++ q ∷ []) → slice_get chart.events q ≡ Some label → (column : ℕ) × IsDue chart chart.instances heads happened label column q
 was_due chart heads happened ps label q plain h m f is =
-    let c = position_of chart.instances label.at (all_at (λ (l : Label). IsOneOf chart.instances l.at) chart.events q label plain.listed is) in
+    let c = position_of chart.instances label.at (all_at (λ (l : Label). IsAmong chart.instances l.at) chart.events q label plain.listed is) in
     let named : slice_get chart.instances c.0 ≡ Some label.at = position_at chart.instances label.at c.0 c.1 in
     let wide : c.0 < length heads = omega (arith, slice_get_within chart.instances c.0 label.at named, h.each) in
     let head = get_within heads c.0 wide in
@@ -82,14 +82,14 @@ pub state_hopeless : (chart : PlainChart) (heads : List ℕ) (happened : List Bo
     → ((column place : ℕ) → IsDue chart chart.instances heads happened label column place → ⊥) → Begins chart (before ++ label ∷ []) → ⊥
 state_hopeless chart heads happened before label plain s none b =
     let f = begins_front chart (before ++ label ∷ []) plain b in
-    let grown = front_grows chart before label s.ps f.0 plain s.front f.1 in
-    let front : HasFront chart (before ++ label ∷ []) (s.ps ++ grown.0 ∷ []) = subst (HasFront chart (before ++ label ∷ [])) grown.1 f.1 in
-    let is : slice_get chart.events grown.0 ≡ Some label = grown_label chart before label s.ps grown.0 s.front front in
-    let due = was_due chart heads happened s.ps label grown.0 plain s.heads_are s.marks_are front.front is in
+    let grown = front_grows chart before label s.ps f.0 plain s.prefix f.1 in
+    let prefix : HasPrefix chart (before ++ label ∷ []) (s.ps ++ grown.0 ∷ []) = subst (HasPrefix chart (before ++ label ∷ [])) grown.1 f.1 in
+    let is : slice_get chart.events grown.0 ≡ Some label = grown_label chart before label s.ps grown.0 s.prefix prefix in
+    let due = was_due chart heads happened s.ps label grown.0 plain s.heads_are s.marks_are prefix.prefix is in
     none due.0 grown.0 due.1
 
 pub state_conforms : (chart : PlainChart) (heads : List ℕ) (happened : List Bool) (before : List Label) → IsPlain chart → IsState chart heads happened before → All IsTrue happened → Conforms chart before
-state_conforms chart heads happened before plain s all = front_conforms chart before s.ps plain s.front (λ p lt.
+state_conforms chart heads happened before plain s all = front_conforms chart before s.ps plain s.prefix (λ p lt.
     let b = get_within happened p (omega (arith, lt, s.marks_are.each)) in
     let t : b.0 ≡ true = all_at IsTrue happened p b.0 all b.1 in
     s.marks_are.taken p (b.1 ∙ ap (λ (x : Bool). Some x) t))
@@ -98,7 +98,7 @@ pub state_unfinished : (chart : PlainChart) (heads : List ℕ) (happened : List 
     → Conforms chart before → ⊥
 state_unfinished chart heads happened before plain s some run =
     let f = conforms_front chart before plain run in
-    let same : f.0 ≡ s.ps = one_front chart before s.ps f.0 plain s.front f.1 in
+    let same : f.0 ≡ s.ps = one_front chart before s.ps f.0 plain s.prefix f.1 in
     let every : HasAll chart s.ps = subst (HasAll chart) same f.2 in
     some (all_from IsTrue happened (λ i x is.
     let t = every i (omega (arith, slice_get_within happened i x is, s.marks_are.each)) in
@@ -129,13 +129,13 @@ pub verdict_fails : (chart : PlainChart) (events : List LineEvent) (heads : List
     → IsState chart heads happened (labels (take k events)) → slice_get events k ≡ Some e → ((column place : ℕ) → IsDue chart chart.instances heads happened e.label column place → ⊥)
     → number ≡ k + 1 → line ≡ e.line → FailsAt chart events number line
 verdict_fails chart events heads happened k e number line plain s is none n l = record {
-  front = take k events;
+  prefix = take k events;
   at = e;
   back = drop (suc k) events;
   are = split_at events k e is;
   number_is = n ∙ ap (λ (x : ℕ). x + 1) (sym (length-take-le k events (omega (arith, slice_get_within events k e is))));
   line_is = l;
-  begins = front_begins chart (labels (take k events)) s.ps plain s.front;
+  begins = front_begins chart (labels (take k events)) s.ps plain s.prefix;
   hopeless = λ b. state_hopeless chart heads happened (labels (take k events)) e.label plain s none
       (subst (Begins chart) (map-append (λ (x : LineEvent). x.label) (take k events) (e ∷ [])) b);
 }
@@ -151,6 +151,6 @@ verdict_conforms chart events heads happened k plain s long all =
 pub verdict_early : (chart : PlainChart) (events : List LineEvent) (heads : List ℕ) (happened : List Bool) (k : ℕ) → IsPlain chart → IsState chart heads happened (labels (take k events))
     → length events ≤ k → (All IsTrue happened → ⊥) → StopsEarly chart events
 verdict_early chart events heads happened k plain s long some = record {
-  begins = subst (Begins chart) (labels_all events k long) (front_begins chart (labels (take k events)) s.ps plain s.front);
+  begins = subst (Begins chart) (labels_all events k long) (front_begins chart (labels (take k events)) s.ps plain s.prefix);
   unfinished = λ run. state_unfinished chart heads happened (labels (take k events)) plain s some (subst (Conforms chart) (sym (labels_all events k long)) run);
 }

@@ -9,7 +9,8 @@ use Rattle.std.proofs.lemmas.List.Quantifiers.{position-Some}
 use Rattle.std.proofs.lemmas.List.{take-append-drop}
 use Rattle.std.proofs.Math.Seq.{take-append_seam}
 use Rattle.std.proofs.lemmas.Option.{slice_get_within, get_or_from_slice_get, slice_get-get_or}
-use Rattle.msc_base.specs.Names.{IsOneOf, AreDifferent}
+use Rattle.msc_base.specs.Lists.{AreDifferent}
+use Rattle.msc_base.specs.Lists.{IsAmong}
 use Rattle.msc_base.specs.NameTables.{with_name}
 
 -- an element for each place
@@ -121,7 +122,7 @@ other_name name other ne = tell (bytes_eq name other) (bytes_eq-Decides name oth
     tell true t = absurd (ne (t refl))
     tell false t = refl
 
-first_below : (names : List (List ℕ)) (name : List ℕ) → IsOneOf names name → position_or_len (bytes_eq name) names < length names
+first_below : (names : List (List ℕ)) (name : List ℕ) → IsAmong names name → position_or_len (bytes_eq name) names < length names
 first_below [] name one = absurd one
 first_below (n ∷ ns) name (inl e) = let t : bytes_eq name n ≡ true = subst (λ (m : List ℕ). bytes_eq name m ≡ true) e (same_name name) in rw t (omega arith)
 first_below (n ∷ ns) name (inr one) = tell (bytes_eq name n) (first_below ns name one)
@@ -130,13 +131,13 @@ first_below (n ∷ ns) name (inr one) = tell (bytes_eq name n) (first_below ns n
     tell true lt = omega arith
     tell false lt = omega arith
 
-pub position_of : (names : List (List ℕ)) (name : List ℕ) → IsOneOf names name → (c : ℕ) × (position (bytes_eq name) names ≡ Some c)
+pub position_of : (names : List (List ℕ)) (name : List ℕ) → IsAmong names name → (c : ℕ) × (position (bytes_eq name) names ≡ Some c)
 position_of names name one =
     let lt : position_or_len (bytes_eq name) names < length names = first_below names name one in
     let t : nat_lt (position_or_len (bytes_eq name) names) (length names) ≡ true = grind (arith, nat_tests) in
     (position_or_len (bytes_eq name) names, ap (λ (b : Bool). cond b (Some (position_or_len (bytes_eq name) names)) None) t)
 
-pub one_of_at : (names : List (List ℕ)) (name : List ℕ) (c : ℕ) → slice_get names c ≡ Some name → IsOneOf names name
+pub one_of_at : (names : List (List ℕ)) (name : List ℕ) (c : ℕ) → slice_get names c ≡ Some name → IsAmong names name
 one_of_at [] name c is = cc
 one_of_at (n ∷ ns) name zero is = inl cc
 one_of_at (n ∷ ns) name (suc c) is = inr (one_of_at ns name c is)
@@ -144,15 +145,15 @@ one_of_at (n ∷ ns) name (suc c) is = inr (one_of_at ns name c is)
 pub different_at : (names : List (List ℕ)) (name : List ℕ) (c d : ℕ) → AreDifferent names → slice_get names c ≡ Some name → slice_get names d ≡ Some name → c ≡ d
 different_at [] name c d different isc isd = cc
 different_at (n ∷ ns) name zero zero different isc isd = refl
-different_at (n ∷ ns) name zero (suc d) different isc isd = let e : name ≡ n = cc in absurd (different.0 (subst (IsOneOf ns) e (one_of_at ns name d isd)))
-different_at (n ∷ ns) name (suc c) zero different isc isd = let e : name ≡ n = cc in absurd (different.0 (subst (IsOneOf ns) e (one_of_at ns name c isc)))
+different_at (n ∷ ns) name zero (suc d) different isc isd = let e : name ≡ n = cc in absurd (different.0 (subst (IsAmong ns) e (one_of_at ns name d isd)))
+different_at (n ∷ ns) name (suc c) zero different isc isd = let e : name ≡ n = cc in absurd (different.0 (subst (IsAmong ns) e (one_of_at ns name c isc)))
 different_at (n ∷ ns) name (suc c) (suc d) different isc isd = ap suc (different_at ns name c d different.1 isc isd)
 
 is_new : (names : List (List ℕ)) (name : List ℕ) (i : ℕ) → AreDifferent names → slice_get names i ≡ Some name → list_any (bytes_eq name) (take i names) ≡ false
 is_new [] name i different is = cc
 is_new (n ∷ ns) name zero different is = refl
 is_new (n ∷ ns) name (suc i) different is =
-    let other : bytes_eq name n ≡ false = other_name name n (λ e. different.0 (subst (IsOneOf ns) e (one_of_at ns name i is))) in
+    let other : bytes_eq name n ≡ false = other_name name n (λ e. different.0 (subst (IsAmong ns) e (one_of_at ns name i is))) in
     rw other (is_new ns name i different.1 is)
 
 -- a table of different names grows by each

@@ -1,4 +1,4 @@
--- The judge's steps on a front of the chart's events.
+-- The judge's steps on a prefix of the chart's events.
 use Rattle.std.proofs.Common.{◌≡◌, ◌<◌, ◌≤◌, ◌+◌, inl, inr, ℕ, Bool, true, false, List, [], ◌∷◌, ◌++◌, length, Option, Some, slice_get, slice_set, slice_index_or, replicate, arith, sym, refl, ap, ap₂, subst, ◌∙◌}
 use Rattle.std.proofs.lemmas.Bool.{cases_eq, cases_lt}
 use Rattle.std.proofs.lemmas.List.{length-set, length-replicate, map-append}
@@ -7,7 +7,7 @@ use Rattle.msc_base.specs.declared.label.Label.{Label}
 use Rattle.msc_expand.specs.declared.plain_chart.PlainChart.{PlainChart}
 use Rattle.msc_expand.specs.Plain.{IsPlain}
 use Rattle.msc_cmd.specs.Judging.{IsFirst, AreFirst, AreNext, MayHappen, IsDue}
-use Rattle.msc_cmd.proofs.Orders.{IsAt, IsMessage, IsPairOf, IsFront}
+use Rattle.msc_cmd.proofs.Orders.{IsAt, IsMessage, IsPairOf, IsPrefix}
 use Rattle.msc_cmd.proofs.JudgeLists.{set_here, set_other, replicate_at, at_left, at_last, at_either, position_at, different_at}
 use Rattle.msc_cmd.proofs.JudgePartners.{taken_by}
 use Rattle.msc_cmd.proofs.JudgeStates.{IsHead, AreHeads, AreMarks, IsState}
@@ -24,8 +24,8 @@ head_begins events name q f = record {
 pub state_begins : (chart : PlainChart) (heads : List ℕ) → AreFirst chart.instances chart.events 0 heads → IsState chart heads (replicate (length chart.events) false) []
 state_begins chart heads f = record {
   ps = [];
-  front = record {
-    front = record { inside = λ i p at. cc; once = λ i j p at bt. cc; closed = λ j p q at pair. cc };
+  prefix = record {
+    prefix = record { inside = λ i p at. cc; once = λ i j p at bt. cc; closed = λ j p q at pair. cc };
     shows = refl;
   };
   heads_are = record { each = f.each; are = λ c q name isname isq. head_begins chart.events name q (f.are c q name isname isq) };
@@ -36,9 +36,9 @@ state_begins chart heads f = record {
   };
 }
 
--- a front takes in one more event, where all that is to come before it has happened
-front_more : (n : ℕ) (pair : ℕ → ℕ → Type 0) (ps : List ℕ) (place : ℕ) → IsFront n pair ps → place < n → ((i : ℕ) → IsAt ps i place → ⊥) → ((p : ℕ) → pair p place → (i : ℕ) × IsAt ps i p)
-    → IsFront n pair (ps ++ place ∷ [])
+-- a prefix takes in one more event, where all that is to come before it has happened
+front_more : (n : ℕ) (pair : ℕ → ℕ → Type 0) (ps : List ℕ) (place : ℕ) → IsPrefix n pair ps → place < n → ((i : ℕ) → IsAt ps i place → ⊥) → ((p : ℕ) → pair p place → (i : ℕ) × IsAt ps i p)
+    → IsPrefix n pair (ps ++ place ∷ [])
 front_more n pair ps place f lt free before = record { inside = inside_all; once = once_each; closed = closed_all }
   where
     inside_all : (i p : ℕ) → IsAt (ps ++ place ∷ []) i p → p < n
@@ -160,10 +160,10 @@ state_step chart heads next happened labels label column place r plain s g due i
     let lt : place < length chart.events = slice_get_within chart.events place label due.may.event_is in
     record {
       ps = s.ps ++ place ∷ [];
-      front = record {
-        front = front_more (length chart.events) (IsPairOf chart) s.ps place s.front.front lt (λ i at. h.free i place label (omega arith) due.may.event_is refl at)
+      prefix = record {
+        prefix = front_more (length chart.events) (IsPairOf chart) s.ps place s.prefix.prefix lt (λ i at. h.free i place label (omega arith) due.may.event_is refl at)
             (comes_before chart s.ps happened label place plain h s.marks_are due.may);
-        shows = map-append (λ (p : ℕ). slice_get chart.events p) s.ps (place ∷ []) ∙ ap₂ (λ (a b : List (Option Label)). a ++ b) s.front.shows (ap (λ (o : Option Label). o ∷ []) due.may.event_is)
+        shows = map-append (λ (p : ℕ). slice_get chart.events p) s.ps (place ∷ []) ∙ ap₂ (λ (a b : List (Option Label)). a ++ b) s.prefix.shows (ap (λ (o : Option Label). o ∷ []) due.may.event_is)
             ∙ sym (map-append (λ (l : Label). Some l) labels (label ∷ []));
       };
       heads_are = heads_step chart s.ps heads next happened label column place r plain s.heads_are g due isr;

@@ -1,7 +1,7 @@
 -- The one outcome of a log.
 use Rattle.std.proofs.Common.{◌≡◌, ℕ, List, sym, ap, ◌∙◌, subst, Bool, Some, None}
 use Rattle.msc_base.specs.declared.verdict.Verdict.{Verdict}
-use Rattle.msc_base.specs.Shelves.{Files}
+use Rattle.outside.specs.Shelves.{Files}
 use Rattle.msc_expand.specs.declared.plain_chart.PlainChart.{PlainChart}
 use Rattle.event_log.specs.declared.event.LineEvent.{LineEvent}
 use Rattle.event_log.specs.declared.event.LogFault.{LogFault}

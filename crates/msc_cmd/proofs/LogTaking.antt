@@ -1,9 +1,10 @@
 -- Taking a log piece by piece.
 use Rattle.std.proofs.Common.{◌≡◌, ◌≢◌, ◌<◌, ◌≤◌, ◌+◌, ◌⊎◌, inl, inr, ℕ, zero, suc, Bool, true, false, List, [], ◌∷◌, ◌++◌, length, take, arith, sym, refl, ap, ◌∙◌, subst, Option, Some, None, append-nil, append_assoc, length-append, slice_get}
-use Rattle.msc_base.specs.Shelves.{Files, MovesKnown, Opens}
+use Rattle.outside.specs.Shelves.{Files, MovesKnown, Opens}
 use Rattle.msc_base.specs.declared.limits.TheConstants.Limits.{LOG_BYTES}
 use Rattle.event_log.specs.Logs.{LogOf, HoldsEvent}
-use Rattle.event_log.specs.Meanings.{Only, Never}
+use Rattle.msc_base.specs.Only.{Never}
+use Rattle.msc_base.specs.Only.{Only}
 use Rattle.event_log.specs.States.{LogState, Fed, HoldsAt, IsGoing, IsAnswer, IsFaultOf}
 use Rattle.event_log.specs.declared.event.LineEvent.{LineEvent}
 use Rattle.event_log.specs.declared.event.LogFault.{LogFault}
@@ -112,33 +113,33 @@ read_end form files name rest left old new intake moves some h = record { bytes 
     held (Some f) (Some r) (Some l) m k = k ∙ ap (λ (bs : List ℕ). Some (h.bytes ++ bs)) (m.moved ∙ m.end refl some)
 
 -- a piece of the entry
-pub read_piece : (form : LogForm) (files : Option Files) (name : List ℕ) (rest left : Option (List ℕ)) (n : ℕ) (old new front : List ℕ) (before after : LogIntake) → MovesKnown n rest left old new → front ≡ take n new → 0 < length front
-    → ((bytes : List ℕ) → HasTakenLog form bytes before → HasTakenLog form (bytes ++ front) after) → IsReadingLog form files name rest before → IsStep form files name left before.reader.count after More
-read_piece form files name rest left n old new front before after moves cut some takes h =
+pub read_piece : (form : LogForm) (files : Option Files) (name : List ℕ) (rest left : Option (List ℕ)) (n : ℕ) (old new prefix : List ℕ) (before after : LogIntake) → MovesKnown n rest left old new → prefix ≡ take n new → 0 < length prefix
+    → ((bytes : List ℕ) → HasTakenLog form bytes before → HasTakenLog form (bytes ++ prefix) after) → IsReadingLog form files name rest before → IsStep form files name left before.reader.count after More
+read_piece form files name rest left n old new prefix before after moves cut some takes h =
     let taken = takes h.bytes h.taken in
     let was = taken_count form h.bytes before h.taken in
-    let now = taken_count form (h.bytes ++ front) after taken in
-    (omega (arith, was.0, now.0, length-append h.bytes front, some), now.1, record { bytes = h.bytes ++ front; taken = taken; held = held files rest left moves h.held })
+    let now = taken_count form (h.bytes ++ prefix) after taken in
+    (omega (arith, was.0, now.0, length-append h.bytes prefix, some), now.1, record { bytes = h.bytes ++ prefix; taken = taken; held = held files rest left moves h.held })
   where
-    held : (f : Option Files) (r l : Option (List ℕ)) → MovesKnown n r l old new → HasRead f name r h.bytes → HasRead f name l (h.bytes ++ front)
+    held : (f : Option Files) (r l : Option (List ℕ)) → MovesKnown n r l old new → HasRead f name r h.bytes → HasRead f name l (h.bytes ++ prefix)
     held None r l m k = tt
     held (Some f) None l m k = absurd k
     held (Some f) (Some r) None m k = absurd m
     held (Some f) (Some r) (Some l) m k =
-        k ∙ ap (λ (bs : List ℕ). Some (h.bytes ++ bs)) (m.moved ∙ ap (λ (bs : List ℕ). bs ++ l) (sym cut)) ∙ ap (λ (bs : List ℕ). Some bs) (sym (append_assoc h.bytes front l))
+        k ∙ ap (λ (bs : List ℕ). Some (h.bytes ++ bs)) (m.moved ∙ ap (λ (bs : List ℕ). bs ++ l) (sym cut)) ∙ ap (λ (bs : List ℕ). Some bs) (sym (append_assoc h.bytes prefix l))
 
 -- a piece in which a fault is decided
-pub read_fault : (form : LogForm) (files : Option Files) (name : List ℕ) (rest left : Option (List ℕ)) (n : ℕ) (old new front : List ℕ) (before : LogIntake) (x : LogFault) → MovesKnown n rest left old new → front ≡ take n new
-    → (x ≡ fault.NoMemory → ⊥) → ((bytes : List ℕ) → HasTakenLog form bytes before → (more : List ℕ) → IsAnswer form false ((bytes ++ front) ++ more) (Some x))
+pub read_fault : (form : LogForm) (files : Option Files) (name : List ℕ) (rest left : Option (List ℕ)) (n : ℕ) (old new prefix : List ℕ) (before : LogIntake) (x : LogFault) → MovesKnown n rest left old new → prefix ≡ take n new
+    → (x ≡ fault.NoMemory → ⊥) → ((bytes : List ℕ) → HasTakenLog form bytes before → (more : List ℕ) → IsAnswer form false ((bytes ++ prefix) ++ more) (Some x))
     → IsReadingLog form files name rest before → IsLogOf form files name (Refused x)
-read_fault form None name rest left n old new front before x moves cut other answers h =
-    record { bytes = (h.bytes ++ front) ++ []; held = tt; is = refused_log form ((h.bytes ++ front) ++ []) x other (answers h.bytes h.taken []) }
-read_fault form (Some f) name None left n old new front before x moves cut other answers h = absurd h.held
-read_fault form (Some f) name (Some r) None n old new front before x moves cut other answers h = absurd moves
-read_fault form (Some f) name (Some r) (Some l) n old new front before x moves cut other answers h = record {
-  bytes = (h.bytes ++ front) ++ l;
-  held = h.held ∙ ap (λ (bs : List ℕ). Some (h.bytes ++ bs)) (moves.moved ∙ ap (λ (bs : List ℕ). bs ++ l) (sym cut)) ∙ ap (λ (bs : List ℕ). Some bs) (sym (append_assoc h.bytes front l));
-  is = refused_log form ((h.bytes ++ front) ++ l) x other (answers h.bytes h.taken l);
+read_fault form None name rest left n old new prefix before x moves cut other answers h =
+    record { bytes = (h.bytes ++ prefix) ++ []; held = tt; is = refused_log form ((h.bytes ++ prefix) ++ []) x other (answers h.bytes h.taken []) }
+read_fault form (Some f) name None left n old new prefix before x moves cut other answers h = absurd h.held
+read_fault form (Some f) name (Some r) None n old new prefix before x moves cut other answers h = absurd moves
+read_fault form (Some f) name (Some r) (Some l) n old new prefix before x moves cut other answers h = record {
+  bytes = (h.bytes ++ prefix) ++ l;
+  held = h.held ∙ ap (λ (bs : List ℕ). Some (h.bytes ++ bs)) (moves.moved ∙ ap (λ (bs : List ℕ). bs ++ l) (sym cut)) ∙ ap (λ (bs : List ℕ). Some bs) (sym (append_assoc h.bytes prefix l));
+  is = refused_log form ((h.bytes ++ prefix) ++ l) x other (answers h.bytes h.taken l);
 }
 
 -- the log of an entry that has been read to its end

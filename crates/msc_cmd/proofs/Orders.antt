@@ -1,4 +1,4 @@
--- A plain chart's pattern by the numbers of its events: which come first, and fronts of linear orders.
+-- A plain chart's pattern by the numbers of its events: which come first, and prefixes of linear orders.
 use Rattle.std.proofs.Common.{◌≡◌, ◌⊎◌, ◌<◌, ℕ, List, map, Some, slice_get}
 use Rattle.msc_base.specs.declared.label.Label.{Label}
 use Rattle.msc_base.specs.declared.label.Kind.TheVariants.{Output}
@@ -30,7 +30,7 @@ abbrev pub IsPairOf : PlainChart → ℕ → ℕ → Type 0
 IsPairOf chart p q = IsAbove chart.events p q ⊎ IsMessage chart p q
 
 -- what may have happened so far: each once, and nothing before what is to come first
-pub record IsFront (n : ℕ) (pair : ℕ → ℕ → Type 0) (ps : List ℕ) : Type 0 where
+pub record IsPrefix (n : ℕ) (pair : ℕ → ℕ → Type 0) (ps : List ℕ) : Type 0 where
   pub inside : (i p : ℕ) → IsAt ps i p → p < n
   pub once : (i j p : ℕ) → IsAt ps i p → IsAt ps j p → i ≡ j
   pub closed : (j p q : ℕ) → IsAt ps j q → pair p q → (i : ℕ) × (i < j) × IsAt ps i p

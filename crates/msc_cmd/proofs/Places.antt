@@ -8,14 +8,14 @@ below_length [] i p h = cc
 below_length (x ∷ ps) zero p h = omega arith
 below_length (x ∷ ps) (suc i) p h = omega (arith, below_length ps i p h)
 
--- what stands in the front of a list stands in it
+-- what stands in the prefix of a list stands in it
 pub at_take : (k : ℕ) (ps : List ℕ) (i p : ℕ) → IsAt (take k ps) i p → IsAt ps i p × (i < k)
 at_take zero ps i p h = cc
 at_take (suc k) [] i p h = cc
 at_take (suc k) (x ∷ ps) zero p h = (h, omega arith)
 at_take (suc k) (x ∷ ps) (suc i) p h = let r = at_take k ps i p h in (r.0, omega (arith, r.1))
 
--- what stands in a list early enough stands in its front
+-- what stands in a list early enough stands in its prefix
 pub take_at : (k : ℕ) (ps : List ℕ) (i p : ℕ) → IsAt ps i p → i < k → IsAt (take k ps) i p
 take_at zero ps i p h lt = absurd (omega arith)
 take_at (suc k) [] i p h lt = h

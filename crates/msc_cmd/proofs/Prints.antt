@@ -1,10 +1,10 @@
 -- Replies to a request to print.
 use Rattle.std.proofs.Common.{◌≡◌, ◌<◌, false, ℕ, List, sym, ap, ◌∙◌, subst, Option, Some, None, Result, Ok, Err, IfOk}
-use Rattle.msc_base.specs.Shelves.{Files}
+use Rattle.outside.specs.Shelves.{Files}
 use Rattle.msc_base.specs.declared.place.Place.{Place}
 use Rattle.msc_tokens.specs.declared.token.Token.{Token}
 use Rattle.msc_tree.specs.Charts.{Document as Tree}
-use Rattle.msc_grammar.specs.declared.rule.Rule.{Rule}
+use Rattle.msc_rules.specs.declared.rule.Rule.{Rule}
 use Rattle.msc_print.specs.ChartWords.{canonical_text}
 use Rattle.judge_report.specs.declared.fault.Fault.TheVariants.{Document}
 use Rattle.judge_report.specs.Texts.{fault_line}

@@ -1,9 +1,9 @@
 -- Replies to what the shelf gave.
 use Rattle.std.proofs.Common.{◌≡◌, ◌<◌, ◌≤◌, ◌⊎◌, inl, inr, Bool, false, ℕ, List, arith, sym, ap, ◌∙◌, subst, Option, Some, None, Result, Ok, Err, IfOk, zero, suc, length}
 use Rattle.std.specs.Io.KnownBytes.{Appends}
-use Rattle.msc_base.specs.Shelves.{Files}
+use Rattle.outside.specs.Shelves.{Files}
 use Rattle.msc_base.specs.declared.place.Place.{Place}
-use Rattle.msc_grammar.specs.declared.rule.Rule.{Rule}
+use Rattle.msc_rules.specs.declared.rule.Rule.{Rule}
 use Rattle.msc_expand.specs.declared.plain_chart.PlainChart.{PlainChart}
 use Rattle.msc_cmd.specs.declared.answer.Reply.{Reply}
 use Rattle.event_log.specs.declared.event.LogFault.{LogFault}

@@ -40,15 +40,15 @@ shows_both events ps qs labels rest h g =
     let at : ℕ → Option Label = λ p. slice_get events p in
     map-append at ps qs ∙ (ap (λ (xs : List (Option Label)). xs ++ map at qs) h ∙ (ap (λ (xs : List (Option Label)). somes labels ++ xs) g ∙ sym (map-append (λ (l : Label). Some l) labels rest)))
 
--- the front of the numbers shows the front of the labels
+-- the prefix of the numbers shows the prefix of the labels
 pub shows_front : (events : List Label) (ps : List ℕ) (labels rest : List Label) → Shows events ps (labels ++ rest) → Shows events (take (length labels) ps) labels
 shows_front events ps [] rest h = refl
 shows_front events [] (l ∷ labels) rest h = cc
 shows_front events (p ∷ ps) (l ∷ labels) rest h =
     let more : Shows events ps (labels ++ rest) = cc in
     let one : slice_get events p ≡ Some l = cc in
-    let front : Shows events (take (length labels) ps) labels = shows_front events ps labels rest more in
-    ap (λ (x : Option Label). x ∷ map (λ (q : ℕ). slice_get events q) (take (length labels) ps)) one ∙ ap (λ (xs : List (Option Label)). Some l ∷ xs) front
+    let prefix : Shows events (take (length labels) ps) labels = shows_front events ps labels rest more in
+    ap (λ (x : Option Label). x ∷ map (λ (q : ℕ). slice_get events q) (take (length labels) ps)) one ∙ ap (λ (xs : List (Option Label)). Some l ∷ xs) prefix
 
 -- one label more is shown by one number more
 pub shows_last : (events : List Label) (ps : List ℕ) (labels : List Label) (label : Label) → Shows events ps (labels ++ label ∷ []) → (q : ℕ) × (ps ≡ take (length labels) ps ++ q ∷ [])

@@ -1,7 +1,7 @@
 -- Taking a document piece by piece.
 use Rattle.std.proofs.Common.{◌≡◌, ◌<◌, ◌≤◌, ◌+◌, ◌-◌, inl, inr, ℕ, List, [], ◌∷◌, ◌++◌, length, min, take, arith, sym, refl, ap, ◌∙◌, subst, zero, suc, Option, Some, None, append-nil, length-append}
 use Rattle.std.proofs.lemmas.List.{take_all, take_min}
-use Rattle.msc_base.specs.Shelves.{Files}
+use Rattle.outside.specs.Shelves.{Files}
 use Rattle.msc_base.specs.declared.limits.TheConstants.Limits.{DOCUMENT_BYTES}
 use Rattle.msc_base.specs.declared.place.Place.{Place}
 use Rattle.msc_tokens.specs.Lexing.{Fed}
@@ -21,25 +21,25 @@ past_both p [] ys = refl
 past_both p (x ∷ xs) ys = past_both (after_byte p x) xs ys
 
 -- one more piece has been taken
-pub taken_more : (bytes piece front : List ℕ) (old new : Intake) → old.count ≤ DOCUMENT_BYTES → front ≡ take (min (DOCUMENT_BYTES - old.count) (length piece)) piece
-    → ((bs : List ℕ) → Fed bs old.lexer → Fed (bs ++ front) new.lexer) → new.place ≡ past old.place front → new.count ≡ old.count + length piece → HasTaken bytes old → HasTaken (bytes ++ piece) new
-taken_more bytes piece front old new room is feeds goes counts h =
+pub taken_more : (bytes piece prefix : List ℕ) (old new : Intake) → old.count ≤ DOCUMENT_BYTES → prefix ≡ take (min (DOCUMENT_BYTES - old.count) (length piece)) piece
+    → ((bs : List ℕ) → Fed bs old.lexer → Fed (bs ++ prefix) new.lexer) → new.place ≡ past old.place prefix → new.count ≡ old.count + length piece → HasTaken bytes old → HasTaken (bytes ++ piece) new
+taken_more bytes piece prefix old new room is feeds goes counts h =
     let short : length bytes ≤ DOCUMENT_BYTES = omega (arith, h.counted) in
     let whole : take DOCUMENT_BYTES bytes ≡ bytes = take_all DOCUMENT_BYTES bytes short in
-    let cut : front ≡ take (DOCUMENT_BYTES - length bytes) piece = is ∙ take_min (DOCUMENT_BYTES - old.count) piece ∙ ap (λ (n : ℕ). take (DOCUMENT_BYTES - n) piece) h.counted in
-    let all : take DOCUMENT_BYTES (bytes ++ piece) ≡ take DOCUMENT_BYTES bytes ++ front = take_over DOCUMENT_BYTES bytes piece short ∙ ap (λ (bs : List ℕ). bytes ++ bs) (sym cut) ∙ ap (λ (bs : List ℕ). bs ++ front) (sym whole) in
+    let cut : prefix ≡ take (DOCUMENT_BYTES - length bytes) piece = is ∙ take_min (DOCUMENT_BYTES - old.count) piece ∙ ap (λ (n : ℕ). take (DOCUMENT_BYTES - n) piece) h.counted in
+    let all : take DOCUMENT_BYTES (bytes ++ piece) ≡ take DOCUMENT_BYTES bytes ++ prefix = take_over DOCUMENT_BYTES bytes piece short ∙ ap (λ (bs : List ℕ). bytes ++ bs) (sym cut) ∙ ap (λ (bs : List ℕ). bs ++ prefix) (sym whole) in
     record {
       counted = omega (arith, counts, h.counted, length-append bytes piece);
       fed = subst (λ (bs : List ℕ). Fed bs new.lexer) (sym all) (feeds (take DOCUMENT_BYTES bytes) h.fed);
-      behind = goes ∙ ap (λ (p : Place). past p front) h.behind ∙ sym (past_both first_place (take DOCUMENT_BYTES bytes) front) ∙ ap (past first_place) (sym all);
+      behind = goes ∙ ap (λ (p : Place). past p prefix) h.behind ∙ sym (past_both first_place (take DOCUMENT_BYTES bytes) prefix) ∙ ap (past first_place) (sym all);
     }
 
 -- a document that was read to its end, or behind the limit
 pub holds_end : (files : Option Files) (name : List ℕ) (intake : Intake) → IsReading files name (Some []) intake → HoldsDocument files name intake
-holds_end None name intake r = record { bytes = r.bytes; held = tt; front = r.bytes; taken = r.taken; front_of = record { rest = []; are = sym (append-nil r.bytes); enough = inl refl } }
-holds_end (Some f) name intake r = record { bytes = r.bytes; held = rw append-nil at r.held; front = r.bytes; taken = r.taken; front_of = record { rest = []; are = sym (append-nil r.bytes); enough = inl refl } }
+holds_end None name intake r = record { bytes = r.bytes; held = tt; prefix = r.bytes; taken = r.taken; prefix_of_list = record { rest = []; are = sym (append-nil r.bytes); enough = inl refl } }
+holds_end (Some f) name intake r = record { bytes = r.bytes; held = rw append-nil at r.held; prefix = r.bytes; taken = r.taken; prefix_of_list = record { rest = []; are = sym (append-nil r.bytes); enough = inl refl } }
 
 pub holds_over : (files : Option Files) (name : List ℕ) (rest : Option (List ℕ)) (intake : Intake) → DOCUMENT_BYTES < intake.count → IsReading files name rest intake → HoldsDocument files name intake
-holds_over None name rest intake over r = record { bytes = r.bytes; held = tt; front = r.bytes; taken = r.taken; front_of = record { rest = []; are = sym (append-nil r.bytes); enough = inl refl } }
+holds_over None name rest intake over r = record { bytes = r.bytes; held = tt; prefix = r.bytes; taken = r.taken; prefix_of_list = record { rest = []; are = sym (append-nil r.bytes); enough = inl refl } }
 holds_over (Some f) name None intake over r = absurd r.held
-holds_over (Some f) name (Some left) intake over r = record { bytes = r.bytes ++ left; held = r.held; front = r.bytes; taken = r.taken; front_of = record { rest = left; are = refl; enough = inr (omega (arith, over, r.taken.counted)) } }
+holds_over (Some f) name (Some left) intake over r = record { bytes = r.bytes ++ left; held = r.held; prefix = r.bytes; taken = r.taken; prefix_of_list = record { rest = left; are = refl; enough = inr (omega (arith, over, r.taken.counted)) } }

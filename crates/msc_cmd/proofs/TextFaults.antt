@@ -4,7 +4,7 @@ use Rattle.std.proofs.lemmas.List.{take_all, take-append-le}
 use Rattle.msc_base.specs.declared.limits.TheConstants.Limits.{DOCUMENT_BYTES}
 use Rattle.msc_base.specs.declared.memory.NoMemory.{NoMemory}
 use Rattle.msc_base.specs.declared.place.Place.{Place}
-use Rattle.msc_base.specs.Shelves.{Files}
+use Rattle.outside.specs.Shelves.{Files}
 use Rattle.msc_tokens.specs.Faults.{IfNamed}
 use Rattle.msc_tokens.specs.Lexing.{Fed}
 use Rattle.msc_tokens.specs.Places.{first_place, past}
@@ -17,27 +17,27 @@ use Rattle.msc_tree.specs.Views.{document_view}
 use Rattle.msc_grammar.specs.Refusals.{IsRefusal}
 use Rattle.msc_grammar.specs.declared.fault.ParseFault.{ParseFault}
 use Rattle.msc_grammar.specs.declared.fault.ParseFault.TheVariants as grammar
-use Rattle.msc_grammar.specs.declared.rule.Rule.{Rule}
-use Rattle.msc_grammar.specs.declared.rule.Rule.TheVariants as rule
+use Rattle.msc_rules.specs.declared.rule.Rule.{Rule}
+use Rattle.msc_rules.specs.declared.rule.Rule.TheVariants as rule
 use Rattle.msc_document.specs.DocumentGrammar.{document as documents}
 use Rattle.msc_document.specs.Faults.{IsFault}
 use Rattle.msc_cmd.specs.declared.document_text.DocumentText.{DocumentText}
 use Rattle.msc_cmd.specs.declared.document_text.DocumentText.TheVariants.{Read, Refused}
 use Rattle.msc_cmd.specs.DocumentTexts.{BreaksRule, BreaksGrammar, HasTextFault, too_long, lexical_fault, grammar_fault, IsOnlyText, IsOnlyTextFault, IsTheText, ReadsAlone, MisreadsAlone, ParsesAs}
-use Rattle.msc_cmd.specs.Intakes.{HasTaken, IsFrontOf, HoldsDocument, IsTextOf}
+use Rattle.msc_cmd.specs.Intakes.{HasTaken, IsPrefixOf, HoldsDocument, IsTextOf}
 use Rattle.msc_cmd.specs.declared.intake.Intake.{Intake}
 
 -- where more than the limit was taken, the whole is longer, and begins so
-over_long : (front bytes : List ℕ) → IsFrontOf front bytes → DOCUMENT_BYTES < length front → (DOCUMENT_BYTES < length bytes) × (take DOCUMENT_BYTES front ≡ take DOCUMENT_BYTES bytes)
-over_long front bytes f over =
-    (omega (arith, ap length f.are, length-append front f.rest), sym (ap (take DOCUMENT_BYTES) f.are ∙ take-append-le DOCUMENT_BYTES front f.rest (omega arith)))
+over_long : (prefix bytes : List ℕ) → IsPrefixOf prefix bytes → DOCUMENT_BYTES < length prefix → (DOCUMENT_BYTES < length bytes) × (take DOCUMENT_BYTES prefix ≡ take DOCUMENT_BYTES bytes)
+over_long prefix bytes f over =
+    (omega (arith, ap length f.are, length-append prefix f.rest), sym (ap (take DOCUMENT_BYTES) f.are ∙ take-append-le DOCUMENT_BYTES prefix f.rest (omega arith)))
 
 -- where no more was taken, it is the whole
-within : (front bytes : List ℕ) → IsFrontOf front bytes → length front ≤ DOCUMENT_BYTES → front ≡ bytes
+within : (prefix bytes : List ℕ) → IsPrefixOf prefix bytes → length prefix ≤ DOCUMENT_BYTES → prefix ≡ bytes
 within front bytes f short = by f.enough
   where
-    by : (f.rest ≡ []) ⊎ (DOCUMENT_BYTES < length front) → front ≡ bytes
-    by (inl e) = sym (f.are ∙ ap (λ (r : List ℕ). front ++ r) e ∙ append-nil front)
+    by : (f.rest ≡ []) ⊎ (DOCUMENT_BYTES < length prefix) → prefix ≡ bytes
+    by (inl e) = sym (f.are ∙ ap (λ (r : List ℕ). prefix ++ r) e ∙ append-nil prefix)
     by (inr over) = absurd (omega arith)
 
 -- a text that is too long has this fault alone
@@ -65,7 +65,7 @@ broken_one lexical.NoMemory a b p q x y = absurd x
 misread_one : (fault : ParseFault) (a b : Rule) (p q : Place) → BreaksGrammar fault a p → BreaksGrammar fault b q → (b ≡ a) × (q ≡ p)
 misread_one (grammar.Syntax at) a b p q x y = (y.0 ∙ sym x.0, y.1 ∙ sym x.1)
 misread_one (grammar.Unsupported form at) a b p q x y = (y.0 ∙ sym x.0, y.1 ∙ sym x.1)
-misread_one (grammar.Deep at) a b p q x y = (y.0 ∙ sym x.0, y.1 ∙ sym x.1)
+misread_one (grammar.TooDeep at) a b p q x y = (y.0 ∙ sym x.0, y.1 ∙ sym x.1)
 misread_one grammar.NoMemory a b p q x y = absurd x
 
 -- a text that has a fault, and no tokens
@@ -115,11 +115,11 @@ only_read bytes tokens document short spells alone faultless r = record {
     by broken place (grammar_fault s ts sp f h x) = r.faultless f (subst (λ (us : List Token). IsFault documents 64 us (past first_place bytes) f) (alone ts sp) h)
 
 -- what was fed is the whole text
-fed_whole : (front bytes : List ℕ) (intake : Intake) → HasTaken front intake → IsFrontOf front bytes → intake.count ≤ DOCUMENT_BYTES → (length bytes ≤ DOCUMENT_BYTES) × Fed bytes intake.lexer
-fed_whole front bytes intake h f small =
-    let short : length front ≤ DOCUMENT_BYTES = omega (arith, h.counted) in
-    let same : front ≡ bytes = within front bytes f short in
-    let all : take DOCUMENT_BYTES front ≡ bytes = take_all DOCUMENT_BYTES front short ∙ same in
+fed_whole : (prefix bytes : List ℕ) (intake : Intake) → HasTaken prefix intake → IsPrefixOf prefix bytes → intake.count ≤ DOCUMENT_BYTES → (length bytes ≤ DOCUMENT_BYTES) × Fed bytes intake.lexer
+fed_whole prefix bytes intake h f small =
+    let short : length prefix ≤ DOCUMENT_BYTES = omega (arith, h.counted) in
+    let same : prefix ≡ bytes = within front bytes f short in
+    let all : take DOCUMENT_BYTES prefix ≡ bytes = take_all DOCUMENT_BYTES prefix short ∙ same in
     (omega (arith, ap length same), subst (λ (bs : List ℕ). Fed bs intake.lexer) all h.fed)
 
 -- a fault that breaks a rule is no want of memory
@@ -133,7 +133,7 @@ named lexical.NoMemory broken place P b h = absurd b
 refusal : (fault : ParseFault) (broken : Rule) (place : Place) → BreaksGrammar fault broken place → IsRefusal fault
 refusal (grammar.Syntax at) broken place b = tt
 refusal (grammar.Unsupported form at) broken place b = tt
-refusal (grammar.Deep at) broken place b = tt
+refusal (grammar.TooDeep at) broken place b = tt
 refusal grammar.NoMemory broken place b = absurd b
 
 -- tokens that have a fault
@@ -144,16 +144,16 @@ misread tokens end fault broken place b has only none =
     let is = refusal fault broken place b in
     record { fault = fault; is = has is; breaks = b; only = only is; none = none is }
 
-pub settled_long : (front bytes : List ℕ) (intake : Intake) → DOCUMENT_BYTES < intake.count → HasTaken front intake → IsFrontOf front bytes → IsOnlyTextFault bytes rule.Bytes intake.place
-settled_long front bytes intake over h f =
-    let l = over_long front bytes f (omega (arith, over, h.counted)) in
+pub settled_long : (prefix bytes : List ℕ) (intake : Intake) → DOCUMENT_BYTES < intake.count → HasTaken prefix intake → IsPrefixOf prefix bytes → IsOnlyTextFault bytes rule.Bytes intake.place
+settled_long prefix bytes intake over h f =
+    let l = over_long prefix bytes f (omega (arith, over, h.counted)) in
     only_long bytes intake.place l.0 (h.behind ∙ ap (past first_place) l.1)
 
-pub settled_fault : (front bytes : List ℕ) (intake : Intake) (fault : LexFault) (broken : Rule) (place : Place) → intake.count ≤ DOCUMENT_BYTES
+pub settled_fault : (prefix bytes : List ℕ) (intake : Intake) (fault : LexFault) (broken : Rule) (place : Place) → intake.count ≤ DOCUMENT_BYTES
     → ((bs : List ℕ) → Fed bs intake.lexer → IfNamed fault (HasLexFault bs fault)) → ((bs : List ℕ) → Fed bs intake.lexer → IfNamed fault ((others : LexFault) → HasLexFault bs others → others ≡ fault))
-    → ((bs : List ℕ) → Fed bs intake.lexer → IfNamed fault ((others : List Token) → Spells bs others → ⊥)) → BreaksRule fault broken place → HasTaken front intake → IsFrontOf front bytes → IsOnlyTextFault bytes broken place
-settled_fault front bytes intake fault broken place small has only none b h f =
-    let w = fed_whole front bytes intake h f small in
+    → ((bs : List ℕ) → Fed bs intake.lexer → IfNamed fault ((others : List Token) → Spells bs others → ⊥)) → BreaksRule fault broken place → HasTaken prefix intake → IsPrefixOf prefix bytes → IsOnlyTextFault bytes broken place
+settled_fault prefix bytes intake fault broken place small has only none b h f =
+    let w = fed_whole prefix bytes intake h f small in
     only_lexical bytes fault broken place w.0 (named fault broken place (HasLexFault bytes fault) b (has bytes w.1)) (named fault broken place ((others : LexFault) → HasLexFault bytes others → others ≡ fault) b (only bytes w.1))
     (named fault broken place ((others : List Token) → Spells bytes others → ⊥) b (none bytes w.1)) b
 
@@ -163,16 +163,16 @@ as_text bytes tokens (Read document list) short spells alone faultless r =
     subst (λ (ts : List Token). IsOnlyText bytes (document_view document) ts) (sym r.1) (only_read bytes tokens (document_view document) short spells alone faultless r.0)
 as_text bytes tokens (Refused broken place) short spells alone faultless r = only_misread bytes tokens broken place short spells alone faultless r
 
-pub settled_tokens : (front bytes : List ℕ) (intake : Intake) (tokens : List Token) (end : Place) (r : Result DocumentText NoMemory) → intake.count ≤ DOCUMENT_BYTES → ((bs : List ℕ) → Fed bs intake.lexer → Spells bs tokens)
+pub settled_tokens : (prefix bytes : List ℕ) (intake : Intake) (tokens : List Token) (end : Place) (r : Result DocumentText NoMemory) → intake.count ≤ DOCUMENT_BYTES → ((bs : List ℕ) → Fed bs intake.lexer → Spells bs tokens)
     → ((bs : List ℕ) → Fed bs intake.lexer → end ≡ past first_place bs) → ((bs : List ℕ) → Fed bs intake.lexer → (others : List Token) → Spells bs others → others ≡ tokens)
-    → ((bs : List ℕ) → Fed bs intake.lexer → (fault : LexFault) → HasLexFault bs fault → ⊥) → IfOk r (ParsesAs tokens end) → HasTaken front intake → IsFrontOf front bytes → IfOk r (IsTheText bytes)
-settled_tokens front bytes intake tokens end (Err e) small ok ends only faultless reads h f = tt
-settled_tokens front bytes intake tokens end (Ok text) small ok ends only faultless reads h f =
-    let w = fed_whole front bytes intake h f small in
+    → ((bs : List ℕ) → Fed bs intake.lexer → (fault : LexFault) → HasLexFault bs fault → ⊥) → IfOk r (ParsesAs tokens end) → HasTaken prefix intake → IsPrefixOf prefix bytes → IfOk r (IsTheText bytes)
+settled_tokens prefix bytes intake tokens end (Err e) small ok ends only faultless reads h f = tt
+settled_tokens prefix bytes intake tokens end (Ok text) small ok ends only faultless reads h f =
+    let w = fed_whole prefix bytes intake h f small in
     as_text bytes tokens text w.0 (ok bytes w.1) (only bytes w.1) (faultless bytes w.1) (subst (λ (p : Place). ParsesAs tokens p text) (ends bytes w.1) reads)
 
 -- what the text of a document that was taken is
 pub taken_text : (files : Option Files) (name : List ℕ) (intake : Intake) (r : Result DocumentText NoMemory) → HoldsDocument files name intake
-    → ((front bytes : List ℕ) → HasTaken front intake → IsFrontOf front bytes → IfOk r (IsTheText bytes)) → IfOk r (IsTextOf files name)
-taken_text files name intake (Ok text) h settles = record { bytes = h.bytes; held = h.held; is = settles h.front h.bytes h.taken h.front_of }
+    → ((prefix bytes : List ℕ) → HasTaken prefix intake → IsPrefixOf prefix bytes → IfOk r (IsTheText bytes)) → IfOk r (IsTextOf files name)
+taken_text files name intake (Ok text) h settles = record { bytes = h.bytes; held = h.held; is = settles h.prefix h.bytes h.taken h.prefix_of_list }
 taken_text files name intake (Err e) h settles = tt

@@ -4,7 +4,7 @@ use Rattle.std.proofs.lemmas.List.{map-append}
 use Rattle.msc_base.specs.declared.label.Label.{Label}
 use Rattle.msc_base.specs.declared.verdict.Verdict.{Verdict}
 use Rattle.msc_base.specs.declared.verdict.Verdict.TheVariants.{Conforms as SaysConforms, Fails, Early, TooLarge}
-use Rattle.msc_base.specs.Runs.{IsRunOf}
+use Rattle.msc_unfolding.specs.Runs.{IsRunOf}
 use Rattle.msc_expand.specs.declared.plain_chart.PlainChart.{PlainChart}
 use Rattle.msc_expand.specs.Meanings.{Unfolds, Conforms, Begins}
 use Rattle.event_log.specs.declared.event.LineEvent.{LineEvent}
@@ -13,21 +13,21 @@ use Rattle.msc_cmd.specs.Verdicts.{labels, FailsAt, IsVerdict}
 labels-append : (xs ys : List LineEvent) → labels (xs ++ ys) ≡ labels xs ++ labels ys
 labels-append xs ys = map-append (λ (e : LineEvent). e.label) xs ys
 
--- a front of what begins a run begins one
-begins_less : (chart : PlainChart) (front back : List Label) → Begins chart (front ++ back) → Begins chart front
-begins_less chart front back b = record { rest = back ++ b.rest; runs = subst (IsRunOf (Unfolds chart)) (append_assoc front back b.rest) b.runs }
+-- a prefix of what begins a run begins one
+begins_less : (chart : PlainChart) (prefix back : List Label) → Begins chart (prefix ++ back) → Begins chart prefix
+begins_less chart prefix back b = record { rest = back ++ b.rest; runs = subst (IsRunOf (Unfolds chart)) (append_assoc prefix back b.rest) b.runs }
 
 run_begins : (chart : PlainChart) (ls : List Label) → Conforms chart ls → Begins chart ls
 run_begins chart ls c = record { rest = []; runs = subst (IsRunOf (Unfolds chart)) (sym (append-nil ls)) c }
 
 -- a log that goes on behind its first hopeless event begins no run
-gone : (chart : PlainChart) (events front back : List LineEvent) (at : LineEvent) → events ≡ front ++ at ∷ back → (Begins chart (labels (front ++ at ∷ [])) → ⊥) → Begins chart (labels events) → ⊥
-gone chart events front back at are hopeless b =
-    let cut : events ≡ (front ++ at ∷ []) ++ back = are ∙ sym (append_assoc front (at ∷ []) back) in
-    let all : labels events ≡ labels (front ++ at ∷ []) ++ labels back = ap labels cut ∙ labels-append (front ++ at ∷ []) back in
-    hopeless (begins_less chart (labels (front ++ at ∷ [])) (labels back) (subst (Begins chart) all b))
+gone : (chart : PlainChart) (events prefix back : List LineEvent) (at : LineEvent) → events ≡ prefix ++ at ∷ back → (Begins chart (labels (prefix ++ at ∷ [])) → ⊥) → Begins chart (labels events) → ⊥
+gone chart events prefix back at are hopeless b =
+    let cut : events ≡ (prefix ++ at ∷ []) ++ back = are ∙ sym (append_assoc prefix (at ∷ []) back) in
+    let all : labels events ≡ labels (prefix ++ at ∷ []) ++ labels back = ap labels cut ∙ labels-append (prefix ++ at ∷ []) back in
+    hopeless (begins_less chart (labels (prefix ++ at ∷ [])) (labels back) (subst (Begins chart) all b))
 
--- of two splits at one element the one that comes first goes on in the front of the other
+-- of two splits at one element the one that comes first goes on in the prefix of the other
 pub data Splits (a b : List LineEvent) (x y : LineEvent) : Type 0 where
   same_split : length a ≡ length b → x ≡ y → Splits a b x y
   before_split : (more : List LineEvent) → b ≡ (a ++ x ∷ []) ++ more → Splits a b x y
@@ -51,24 +51,24 @@ begins_front : (chart : PlainChart) (a b : List LineEvent) (x : LineEvent) (more
 begins_front chart a b x more e h = begins_less chart (labels (a ++ x ∷ [])) (labels more) (subst (Begins chart) (ap labels e ∙ labels-append (a ++ x ∷ []) more) h)
 
 two_fails : (chart : PlainChart) (events : List LineEvent) (k l m n : ℕ) → FailsAt chart events k l → FailsAt chart events m n → (k ≡ m) × (l ≡ n)
-two_fails chart events k l m n f g = by (splits_of f.front g.front f.back g.back f.at g.at (sym f.are ∙ g.are))
+two_fails chart events k l m n f g = by (splits_of f.prefix g.prefix f.back g.back f.at g.at (sym f.are ∙ g.are))
   where
-    by : Splits f.front g.front f.at g.at → (k ≡ m) × (l ≡ n)
+    by : Splits f.prefix g.prefix f.at g.at → (k ≡ m) × (l ≡ n)
     by (same_split h i) = (f.number_is ∙ ap (λ (t : ℕ). t + 1) h ∙ sym g.number_is, f.line_is ∙ ap (λ (t : LineEvent). t.line) i ∙ sym g.line_is)
-    by (before_split more i) = absurd (f.hopeless (begins_front chart f.front g.front f.at more i g.begins))
-    by (behind_split more i) = absurd (g.hopeless (begins_front chart g.front f.front g.at more i f.begins))
+    by (before_split more i) = absurd (f.hopeless (begins_front chart f.prefix g.prefix f.at more i g.begins))
+    by (behind_split more i) = absurd (g.hopeless (begins_front chart g.prefix f.prefix g.at more i f.begins))
 
 pub one_verdict : (chart : PlainChart) (events : List LineEvent) (v w : Verdict) → IsVerdict chart events v → IsVerdict chart events w → v ≡ w
 one_verdict chart events (SaysConforms n) (SaysConforms m) a b = ap (λ (t : ℕ). SaysConforms t) (a.0 ∙ sym b.0)
-one_verdict chart events (SaysConforms n) (Fails k l) a b = absurd (gone chart events b.front b.back b.at b.are b.hopeless (run_begins chart (labels events) a.1))
+one_verdict chart events (SaysConforms n) (Fails k l) a b = absurd (gone chart events b.prefix b.back b.at b.are b.hopeless (run_begins chart (labels events) a.1))
 one_verdict chart events (SaysConforms n) (Early m) a b = absurd (b.1.unfinished a.1)
 one_verdict chart events (SaysConforms n) (TooLarge m) a b = absurd b
-one_verdict chart events (Fails k l) (SaysConforms m) a b = absurd (gone chart events a.front a.back a.at a.are a.hopeless (run_begins chart (labels events) b.1))
+one_verdict chart events (Fails k l) (SaysConforms m) a b = absurd (gone chart events a.prefix a.back a.at a.are a.hopeless (run_begins chart (labels events) b.1))
 one_verdict chart events (Fails k l) (Fails m n) a b = let e = two_fails chart events k l m n a b in ap (λ (t : ℕ). Fails t l) e.0 ∙ ap (λ (t : ℕ). Fails m t) e.1
-one_verdict chart events (Fails k l) (Early m) a b = absurd (gone chart events a.front a.back a.at a.are a.hopeless b.1.begins)
+one_verdict chart events (Fails k l) (Early m) a b = absurd (gone chart events a.prefix a.back a.at a.are a.hopeless b.1.begins)
 one_verdict chart events (Fails k l) (TooLarge m) a b = absurd b
 one_verdict chart events (Early n) (SaysConforms m) a b = absurd (a.1.unfinished b.1)
-one_verdict chart events (Early n) (Fails k l) a b = absurd (gone chart events b.front b.back b.at b.are b.hopeless a.1.begins)
+one_verdict chart events (Early n) (Fails k l) a b = absurd (gone chart events b.prefix b.back b.at b.are b.hopeless a.1.begins)
 one_verdict chart events (Early n) (Early m) a b = ap (λ (t : ℕ). Early t) (a.0 ∙ sym b.0)
 one_verdict chart events (Early n) (TooLarge m) a b = absurd b
 one_verdict chart events (TooLarge n) w a b = absurd a

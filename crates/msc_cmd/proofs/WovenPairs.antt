@@ -5,7 +5,7 @@ use Rattle.std.proofs.lemmas.Bool.Decides.{nat_tests, Decides-and}
 use Rattle.msc_base.specs.declared.label.Label.{Label}
 use Rattle.msc_base.specs.declared.label.Kind.{Kind}
 use Rattle.msc_base.specs.declared.label.Kind.TheVariants.{Output}
-use Rattle.msc_base.specs.Unfoldings.{Tag, Own, is_pair, joins}
+use Rattle.msc_unfolding.specs.Unfoldings.{Tag, Own, is_pair, joins}
 use Rattle.msc_expand.specs.Meanings.{pairs_by, message_pairs}
 
 -- the event at p is an output, and q is its partner

@@ -3,7 +3,7 @@ use Rattle.std.proofs.Common.{◌≡◌, ◌<◌, ◌+◌, inl, inr, ℕ, zero, 
 use Rattle.std.proofs.lemmas.Slice.Eq.{bytes_eq-Decides}
 use Rattle.msc_base.specs.declared.label.Label.{Label}
 use Rattle.msc_base.specs.Patterns.{Position, event_at, Before}
-use Rattle.msc_base.specs.Unfoldings.{Happening, plain, share, instances_of}
+use Rattle.msc_unfolding.specs.Unfoldings.{Happening, plain, share, instances_of}
 use Rattle.msc_expand.specs.Meanings.{event_of, woven}
 use Rattle.msc_cmd.proofs.Orders.{IsAbove}
 

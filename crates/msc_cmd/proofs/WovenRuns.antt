@@ -4,8 +4,8 @@ use Rattle.std.proofs.lemmas.Option.{slice_get_within}
 use Rattle.msc_base.specs.declared.label.Label.{Label}
 use Rattle.msc_base.specs.declared.label.Kind.TheVariants.{Output, Input}
 use Rattle.msc_base.specs.Patterns.{Position, event_at, Before}
-use Rattle.msc_base.specs.Unfoldings.{Tag, Own, Happening, plain, is_pair, joins}
-use Rattle.msc_base.specs.Runs.{labels_at, IsRun}
+use Rattle.msc_unfolding.specs.Unfoldings.{Tag, Own, Happening, plain, is_pair, joins}
+use Rattle.msc_unfolding.specs.Runs.{labels_at, IsRun}
 use Rattle.msc_expand.specs.declared.plain_chart.PlainChart.{PlainChart}
 use Rattle.msc_expand.specs.Meanings.{woven, message_pairs, unfolding_of}
 use Rattle.msc_expand.specs.Plain.{HavePartners}

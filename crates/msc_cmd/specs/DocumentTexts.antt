@@ -11,8 +11,8 @@ use Rattle.msc_tree.specs.Charts.{Document}
 use Rattle.msc_tree.specs.Views.{document_view}
 use Rattle.msc_grammar.specs.declared.fault.ParseFault.{ParseFault}
 use Rattle.msc_grammar.specs.declared.fault.ParseFault.TheVariants as grammar
-use Rattle.msc_grammar.specs.declared.rule.Rule.{Rule}
-use Rattle.msc_grammar.specs.declared.rule.Rule.TheVariants as rule
+use Rattle.msc_rules.specs.declared.rule.Rule.{Rule}
+use Rattle.msc_rules.specs.declared.rule.Rule.TheVariants as rule
 use Rattle.msc_document.specs.DocumentGrammar.{document as documents}
 use Rattle.msc_document.specs.Faults.{IsFault}
 use Rattle.msc_cmd.specs.declared.document_text.DocumentText.{DocumentText}
@@ -37,7 +37,7 @@ BreaksRule lexical.NoMemory broken place = ⊥
 abbrev pub BreaksGrammar : ParseFault → Rule → Place → Type 0
 BreaksGrammar (grammar.Syntax at) broken place = (broken ≡ rule.Syntax) × (place ≡ at)
 BreaksGrammar (grammar.Unsupported form at) broken place = (broken ≡ rule.Unsupported form) × (place ≡ at)
-BreaksGrammar (grammar.Deep at) broken place = (broken ≡ rule.Deep) × (place ≡ at)
+BreaksGrammar (grammar.TooDeep at) broken place = (broken ≡ rule.TooDeep) × (place ≡ at)
 BreaksGrammar grammar.NoMemory broken place = ⊥
 
 -- The first rule that the text breaks, and its place: the bytes are too long, can't be cut into tokens, or have tokens

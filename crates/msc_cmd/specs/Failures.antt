@@ -1,7 +1,7 @@
 -- When the command may say that the shelf failed.
 use Rattle.std.specs.Prelude.{◌≡◌, ◌⊎◌, ℕ, List, Option, Some, Bool, true, false}
-use Rattle.msc_base.specs.Causes.{Rose}
-use Rattle.msc_base.specs.Shelves.{Files}
+use Rattle.outside.specs.Causes.{Rose}
+use Rattle.outside.specs.Shelves.{Files}
 use Rattle.msc_expand.specs.declared.plain_chart.PlainChart.{PlainChart}
 use Rattle.judge_report.specs.declared.fault.Fault.TheVariants.{DocumentRead, LogRead}
 use Rattle.judge_report.specs.Texts.{fault_line}

@@ -1,6 +1,6 @@
 -- A document as far as it has been read.
 use Rattle.std.specs.Prelude.{◌≡◌, ◌<◌, ◌⊎◌, ℕ, List, [], ◌++◌, length, take, Option, Some, None, ⊤}
-use Rattle.msc_base.specs.Shelves.{Files}
+use Rattle.outside.specs.Shelves.{Files}
 use Rattle.msc_base.specs.declared.limits.TheConstants.Limits.{DOCUMENT_BYTES}
 use Rattle.msc_tokens.specs.Lexing.{Fed}
 use Rattle.msc_tokens.specs.Places.{first_place, past}
@@ -24,10 +24,10 @@ pub record IsReading (files : Option Files) (name : List ℕ) (rest : Option (Li
   pub held : HasRead files name rest bytes
 
 -- they have been read to their end, or behind the limit
-pub record IsFrontOf (front bytes : List ℕ) : Type 0 where
+pub record IsPrefixOf (prefix bytes : List ℕ) : Type 0 where
   pub rest : List ℕ
-  pub are : bytes ≡ front ++ rest
-  pub enough : (rest ≡ []) ⊎ (DOCUMENT_BYTES < length front)
+  pub are : bytes ≡ prefix ++ rest
+  pub enough : (rest ≡ []) ⊎ (DOCUMENT_BYTES < length prefix)
 
 -- the entry of this name has these bytes, where it is told
 abbrev pub IsHeld : Option Files → List ℕ → List ℕ → Type 0
@@ -38,9 +38,9 @@ IsHeld (Some files) name bytes = files name ≡ Some bytes
 pub record HoldsDocument (files : Option Files) (name : List ℕ) (intake : Intake) : Type 0 where
   pub bytes : List ℕ
   pub held : IsHeld files name bytes
-  pub front : List ℕ
-  pub taken : HasTaken front intake
-  pub front_of : IsFrontOf front bytes
+  pub prefix : List ℕ
+  pub taken : HasTaken prefix intake
+  pub prefix_of_list : IsPrefixOf prefix bytes
 
 -- the entry of this name is this text, or has this fault; its bytes are told where the entries are
 pub record IsTextOf (files : Option Files) (name : List ℕ) (text : DocumentText) : Type 0 where

@@ -1,6 +1,6 @@
 -- A log as far as it has been read.
 use Rattle.std.specs.Prelude.{◌≡◌, ◌<◌, ◌≤◌, ℕ, Bool, true, false, List, [], length, Option, Some, None, slice_get}
-use Rattle.msc_base.specs.Shelves.{Files}
+use Rattle.outside.specs.Shelves.{Files}
 use Rattle.msc_base.specs.declared.limits.TheConstants.Limits.{LOG_BYTES}
 use Rattle.event_log.specs.Faults.{IsFault}
 use Rattle.event_log.specs.Logs.{LogOf, HoldsEvent}

@@ -12,14 +12,14 @@ labels events = map (λ e. e.label) events
 
 -- the first event after which no run of the chart begins so
 pub record FailsAt (chart : PlainChart) (events : List LineEvent) (number line : ℕ) : Type 0 where
-  pub front : List LineEvent
+  pub prefix : List LineEvent
   pub at : LineEvent
   pub back : List LineEvent
-  pub are : events ≡ front ++ at ∷ back
-  pub number_is : number ≡ length front + 1
+  pub are : events ≡ prefix ++ at ∷ back
+  pub number_is : number ≡ length prefix + 1
   pub line_is : line ≡ at.line
-  pub begins : Begins chart (labels front)
-  pub hopeless : Begins chart (labels (front ++ at ∷ [])) → ⊥
+  pub begins : Begins chart (labels prefix)
+  pub hopeless : Begins chart (labels (prefix ++ at ∷ [])) → ⊥
 
 -- the log begins a run of the chart and is none
 pub record StopsEarly (chart : PlainChart) (events : List LineEvent) : Type 0 where

@@ -15,7 +15,8 @@ use crate::log_reading::take_log;
 use crate::reading::take_document;
 use event_log::LogForm;
 use judge_report::{Fault, fault_text, verdict_text};
-use msc_base::{NoMemory, Shelf, Text, Verdict};
+use msc_base::{NoMemory, Text, Verdict};
+use outside::Shelf;
 use msc_expand::PlainChart;
 use std::alloc::Global;
 

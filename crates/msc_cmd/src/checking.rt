@@ -7,7 +7,8 @@ use crate::document::Document;
 use crate::entry::ReadFault;
 use crate::reading::take_document;
 use judge_report::{Fault, accepted_text};
-use msc_base::{NoMemory, Shelf, Text};
+use msc_base::{NoMemory, Text};
+use outside::Shelf;
 use std::alloc::Global;
 
 /// The reply that tells how many charts the document of this name has, or refuses it.

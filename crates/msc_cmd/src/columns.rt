@@ -1,5 +1,6 @@
 ghost use Rattle.std.specs.Prelude.{◌≡◌, All, IfOk, length, replicate};
-ghost use Rattle.msc_base.specs.Names.{AreDifferent, IsOneOf};
+ghost use Rattle.msc_base.specs.Lists.{AreDifferent};
+ghost use Rattle.msc_base.specs.Lists.{IsAmong};
 ghost use Rattle.msc_cmd.specs.Judging.{AreColumns, AreFirst, AreNext};
 
 use msc_base::{Label, Name, NameTable, NoMemory};
@@ -31,7 +32,7 @@ fn table_of(alloc: Global, names: &[Name]) -> Result<NameTable, NoMemory>
 /// Goes through the events from the last to the first, and notes each before those behind it.
 fn fill(instances: &NameTable, events: &[Label], heads: &mut [usize], next: &mut [usize])
     requires different { AreDifferent instances.now }
-    requires listed { All (λ l. IsOneOf instances.now l.at) events.now }
+    requires listed { All (λ l. IsAmong instances.now l.at) events.now }
     requires empty { heads.old ≡ replicate (length instances.now) (length events.now) }
     requires each { length next.old ≡ length events.now }
     ensures heads { AreFirst instances.now events.now 0 heads.new }
@@ -50,7 +51,7 @@ fn fill(instances: &NameTable, events: &[Label], heads: &mut [usize], next: &mut
 /// The columns of these events, none of which has happened.
 pub fn columns_of(alloc: Global, instances: &[Name], events: &[Label]) -> Result<Columns, NoMemory>
     requires different { AreDifferent instances.now }
-    requires listed { All (λ l. IsOneOf instances.now l.at) events.now }
+    requires listed { All (λ l. IsAmong instances.now l.at) events.now }
     ensures { IfOk result (AreColumns instances.now events.now) }
 {
     let table = table_of(alloc, instances)?;

@@ -1,6 +1,6 @@
 ghost use Rattle.std.specs.Prelude.{◌≡◌, ◌<◌, ◌≤◌, ◌⊎◌, ◌++◌, ◌∷◌, [], List, ℕ, IfOk};
 ghost use Rattle.std.specs.Io.KnownBytes.{Appends, Keeps};
-ghost use Rattle.msc_base.specs.Causes.{Rose};
+ghost use Rattle.outside.specs.Causes.{Rose};
 ghost use Rattle.msc_cmd.specs.Requests.{IsNoRequest};
 ghost use Rattle.judge_report.specs.Writing.{AppendsPart};
 ghost use Rattle.msc_cmd.specs.Outcomes.{IsOutcome, IfTold, IsTheOne, RequestOutcome};
@@ -12,7 +12,8 @@ use crate::listing::list_file;
 use crate::printing::print_file;
 use crate::requests::{Request, WordFault, request_of};
 use judge_report::{Fault, emit};
-use msc_base::{NoMemory, Shelf, Sink, Words};
+use msc_base::{NoMemory, Words};
+use outside::{Shelf, Sink};
 use std::alloc::Global;
 
 /// The reply to a request.
@@ -80,7 +81,7 @@ pub fn run<S: Shelf, O: Sink>(alloc: Global, words: &Words, shelf: &mut S, out: 
         × CannotJudge words.now (S.files shelf.old) (S.faults shelf.old) (S.faults shelf.new) (S.broken shelf.new) (S.last shelf.new) text
         × Appends (O.written out.old) (O.written out.new) text }
 
-    // The sink failed in this call, and a proper front of what was to be written stands there.
+    // The sink failed in this call, and a proper prefix of what was to be written stands there.
     ensures sink_failed { result ≡ 8 → Rose (O.faults out.old) (O.faults out.new) }
     ensures part { result ≡ 8 → IfTold (S.files shelf.old) (λ f. (text : List ℕ) × AppendsPart (O.written out.old) (O.written out.new) text
         × (((status : ℕ) × IsTheOne (IsOutcome words.now f) status text)

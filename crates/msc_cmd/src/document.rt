@@ -7,7 +7,7 @@ ghost use Rattle.msc_cmd.specs.Documents.{ComesTo, IsTheDocument, chart_named};
 use crate::document_text::DocumentText;
 use msc_base::{NoMemory, Place};
 use msc_expand::{Accepted, DocFault, PlainChart, accept};
-use msc_grammar::Rule;
+use msc_rules::Rule;
 use msc_tree::RawDocument;
 use std::alloc::Global;
 

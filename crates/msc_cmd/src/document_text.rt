@@ -1,11 +1,12 @@
 ghost use Rattle.std.specs.Prelude.{ℕ, List, IfOk, IfSome};
 ghost use Rattle.msc_cmd.specs.DocumentTexts.{BreaksGrammar, BreaksRule, IsTheText, ParsesAs};
-ghost use Rattle.msc_cmd.specs.Intakes.{HasTaken, IsFrontOf};
+ghost use Rattle.msc_cmd.specs.Intakes.{HasTaken, IsPrefixOf};
 
 use crate::intake::Intake;
 use msc_base::{Limits, NoMemory, Place};
 use msc_document::parse;
-use msc_grammar::{ParseFault, Rule};
+use msc_grammar::ParseFault;
+use msc_rules::Rule;
 use msc_tokens::{LexFault, TokenList};
 use msc_tree::RawDocument;
 use std::alloc::Global;
@@ -39,7 +40,7 @@ fn misread_by(fault: &ParseFault) -> Option<(Rule, Place)>
     match *fault {
         ParseFault::Syntax(at) => Some((Rule::Syntax, at)),
         ParseFault::Unsupported(form, at) => Some((Rule::Unsupported(form), at)),
-        ParseFault::Deep(at) => Some((Rule::Deep, at)),
+        ParseFault::TooDeep(at) => Some((Rule::TooDeep, at)),
         ParseFault::NoMemory => None,
     }
 }
@@ -59,7 +60,7 @@ fn parsed(alloc: Global, tokens: TokenList) -> Result<DocumentText, NoMemory>
 
 /// What the text of the document that has been taken is.
 pub fn text_of(alloc: Global, intake: Intake) -> Result<DocumentText, NoMemory>
-    ensures { (front : List ℕ) (bytes : List ℕ) → HasTaken front intake → IsFrontOf front bytes → IfOk result (IsTheText bytes) }
+    ensures { (prefix : List ℕ) (bytes : List ℕ) → HasTaken prefix intake → IsPrefixOf prefix bytes → IfOk result (IsTheText bytes) }
 {
     let Intake {
         lexer,

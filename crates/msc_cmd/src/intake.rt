@@ -50,12 +50,12 @@ impl Intake {
         ensures taken { (bytes : List ℕ) → HasTaken bytes self.old → OnOk result (HasTaken (bytes ++ piece.now) self.new) }
     {
         let room = (Limits::DOCUMENT_BYTES - self.count) as usize;
-        let (front, _) = piece.split_at(room.min(piece.len()));
+        let (prefix, _) = piece.split_at(room.min(piece.len()));
         self.count += piece.len() as u64;
-        if let Err(LexFault::NoMemory) = self.lexer.feed(front) {
+        if let Err(LexFault::NoMemory) = self.lexer.feed(prefix) {
             return Err(NoMemory);
         }
-        self.place = place_behind(self.place, front);
+        self.place = place_behind(self.place, prefix);
         Ok(())
     }
 }

@@ -9,7 +9,8 @@ use crate::document::Document;
 use crate::entry::ReadFault;
 use crate::reading::take_document;
 use judge_report::{Fault, chart_list_text, instance_list_text};
-use msc_base::{NoMemory, Shelf, Text};
+use msc_base::{NoMemory, Text};
+use outside::Shelf;
 use msc_expand::Accepted;
 use std::alloc::Global;
 

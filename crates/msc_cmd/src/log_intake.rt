@@ -1,7 +1,7 @@
 ghost use Rattle.std.specs.Prelude.{◌≡◌, ◌++◌, ◌∷◌, [], ℕ, List, Bool, true, false, not, length, IfOk, IfErr, OnOk, Some, None};
 ghost use Rattle.event_log.specs.Faults.{IsFault};
 ghost use Rattle.event_log.specs.Logs.{HoldsEvent};
-ghost use Rattle.event_log.specs.Meanings.{Never};
+ghost use Rattle.msc_base.specs.Only.{Never};
 ghost use Rattle.event_log.specs.States.{IsAnswer};
 ghost use Rattle.event_log.specs.declared.event.LogForm.{LogForm};
 ghost use Rattle.msc_cmd.specs.LogIntakes.{HasFed, HasTakenLog, IsTheLog};

@@ -1,13 +1,14 @@
 ghost use Rattle.std.specs.Prelude.{◌≡◌, ◌<◌, ◌≤◌, ℕ, List, [], Option, Some, IfOk, IsErrOf, IsTrue, true, false};
-ghost use Rattle.msc_base.specs.Causes.{Rose};
-ghost use Rattle.msc_base.specs.Shelves.{Files};
+ghost use Rattle.outside.specs.Causes.{Rose};
+ghost use Rattle.outside.specs.Shelves.{Files};
 ghost use Rattle.event_log.specs.declared.event.LogForm.{LogForm};
 ghost use Rattle.msc_cmd.specs.LogIntakes.{IsLogOf, IsReadingLog, IsStep};
 
 use crate::entry::ReadFault;
 use crate::log_intake::{Log, LogIntake};
 use event_log::{LogFault, LogForm};
-use msc_base::{Failed, NoMemory, Shelf, Text};
+use msc_base::{NoMemory, Text};
+use outside::{Failed, Shelf};
 use std::alloc::Global;
 
 /// What came of one read.
@@ -48,8 +49,8 @@ fn take_more<S: Shelf>(
     if count == 0 {
         return Ok(Step::End);
     }
-    let (front, _) = buf.split_at(count);
-    match intake.take(front) {
+    let (prefix, _) = buf.split_at(count);
+    match intake.take(prefix) {
         Ok(()) => Ok(Step::More),
         Err(LogFault::NoMemory) => Err(ReadFault::NoMemory),
         Err(fault) => Ok(Step::Fault(fault)),

@@ -7,7 +7,8 @@ use crate::document_text::DocumentText;
 use crate::entry::ReadFault;
 use crate::reading::take_text;
 use judge_report::Fault;
-use msc_base::{NoMemory, Shelf, Text};
+use msc_base::{NoMemory, Text};
+use outside::Shelf;
 use msc_print::print_document;
 use std::alloc::Global;
 

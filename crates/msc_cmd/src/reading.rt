@@ -1,5 +1,5 @@
 ghost use Rattle.std.specs.Prelude.{◌≡◌, ◌≤◌, ◌+◌, IfOk, OnOk, IsErrOf, IsTrue, Some, [], true};
-ghost use Rattle.msc_base.specs.Causes.{Rose};
+ghost use Rattle.outside.specs.Causes.{Rose};
 ghost use Rattle.msc_base.specs.declared.limits.TheConstants.Limits.{DOCUMENT_BYTES};
 ghost use Rattle.msc_cmd.specs.Intakes.{IsReading, HoldsDocument, IsDocumentOf, IsTextOf};
 
@@ -7,7 +7,8 @@ use crate::document::{Document, settle};
 use crate::document_text::{DocumentText, text_of};
 use crate::entry::ReadFault;
 use crate::intake::Intake;
-use msc_base::{Failed, Limits, NoMemory, Shelf, Text};
+use msc_base::{Limits, NoMemory, Text};
+use outside::{Failed, Shelf};
 use std::alloc::Global;
 
 /// Reads once, and takes what came. 0 is the end of the entry.
@@ -32,8 +33,8 @@ fn take_more<S: Shelf>(shelf: &mut S, name: &Text, intake: &mut Intake) -> Resul
         Ok(count) => count,
         Err(Failed) => return Err(ReadFault::Failed),
     };
-    let (front, _) = buf.split_at(count);
-    intake.take(front)?;
+    let (prefix, _) = buf.split_at(count);
+    intake.take(prefix)?;
     Ok(count)
 }
 

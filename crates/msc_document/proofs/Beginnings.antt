@@ -4,10 +4,10 @@ use Rattle.msc_base.specs.declared.place.Place.{Place}
 use Rattle.msc_tokens.specs.declared.token.Token.{Token}
 use Rattle.msc_tree.specs.declared.chart.Cover.TheVariants.{All, Listed}
 use Rattle.msc_tree.specs.Statements.{Item, Statement, Column, Covered, Heading, Ended, items, item_list}
-use Rattle.msc_reading.specs.Languages.{Set, just}
-use Rattle.msc_reading.specs.Grammars.{Grammar, seq, or, read_as, word, behind}
-use Rattle.msc_reading.specs.Parts.{ending, lead, name_list}
-use Rattle.msc_items.specs.Declarations.{declaration}
+use Rattle.token_grammar.specs.Languages.{Set, just}
+use Rattle.token_grammar.specs.Grammars.{Grammar, seq, or, read_as, word, behind}
+use Rattle.token_grammar.specs.Parts.{ending, lead, name_list}
+use Rattle.msc_events.specs.Declarations.{declaration}
 use Rattle.msc_document.specs.DocumentGrammar.{Line, happen, list, declare, finish, lead_statement, covered_of, some}
 use Rattle.msc_document.specs.DocumentReaders.{State, idle, events, multis, cover_kind, kind, long}
 use Rattle.msc_document.proofs.Continued.{nothing, Continued, some_continued, seq_continued, or_continued, as_continued, whole_continued}

@@ -4,12 +4,12 @@ use Rattle.msc_base.specs.declared.place.Place.{Place}
 use Rattle.msc_tokens.specs.declared.token.Token.{Token}
 use Rattle.msc_tree.specs.declared.chart.Heading.{Heading}
 use Rattle.msc_tree.specs.Charts.{Chart, Content, Document}
-use Rattle.msc_reading.specs.Languages.{Read, ◌>>=◌, starts, just, seq_at, map_at, until_at, each_at, chain_at, tail_at, word_at}
-use Rattle.msc_reading.specs.PartReaders.{name_at, ending_at}
-use Rattle.msc_reading.proofs.Optionals.{mapped, paired}
-use Rattle.msc_items.specs.Declarations.{Head, declared_by}
-use Rattle.msc_items.specs.declared.head_parts.Heads.{Heads}
-use Rattle.msc_items.specs.DeclarationReaders.{heading_at, head_at, head_words, heads_at}
+use Rattle.token_grammar.specs.Languages.{Read, ◌>>=◌, starts, just, seq_at, map_at, until_at, each_at, chain_at, tail_at, word_at}
+use Rattle.token_grammar.specs.PartReaders.{name_at, ending_at}
+use Rattle.token_grammar.proofs.Optionals.{mapped, paired}
+use Rattle.msc_events.specs.Declarations.{Head, declared_by}
+use Rattle.msc_events.specs.declared.head_parts.Heads.{Heads}
+use Rattle.msc_events.specs.DeclarationReaders.{heading_at, head_at, head_words, heads_at}
 use Rattle.msc_document.specs.DocumentGrammar.{chart_of}
 use Rattle.msc_document.specs.DocumentReaders.{parts_of, headed, unheaded, ended, content_at, chart_at, parts_at, document_end_at, document_at}
 use Rattle.msc_document.specs.ChartReaders.{chart_parts_at, charts_at, some_end_at, headed_at, unheaded_at, some_document_at}

@@ -3,15 +3,15 @@ use Rattle.std.proofs.Common.{ℕ, ◌≡◌, ◌++◌, true, List, [], ◌∷�
 use Rattle.msc_tree.specs.declared.chart.Decl.{Decl}
 use Rattle.msc_tree.specs.Charts.{Basic, HighLevel}
 use Rattle.msc_tree.specs.Statements.{Item, Statement, Column, items}
-use Rattle.msc_reading.specs.Languages.{Set, apart, just, seq_at}
-use Rattle.msc_reading.specs.Grammars.{Grammar, seq, or, read_as, word, behind}
-use Rattle.msc_reading.specs.Parts.{ending}
-use Rattle.msc_reading.specs.PartReaders.{ending_at}
-use Rattle.msc_reading.proofs.Optionals.{none, behind_law, behind_rule}
-use Rattle.msc_reading.proofs.PartRules.{ends, name_law, name_rule, ending_law, ending_rule, placed_law, placed_rule}
-use Rattle.msc_reading.proofs.Rules.{Law, Rule, seq_law, seq_rule, or_law, or_rule, as_law, as_rule, until_law, until_rule, same_law, same_rule}
-use Rattle.msc_items.specs.Declarations.{decl, declared_by}
-use Rattle.msc_items.proofs.DeclarationRules.{after_decl, after_parts, after_kind, decl_law, decl_rule, head_law, head_rule}
+use Rattle.token_grammar.specs.Languages.{Set, apart, just, seq_at}
+use Rattle.token_grammar.specs.Grammars.{Grammar, seq, or, read_as, word, behind}
+use Rattle.token_grammar.specs.Parts.{ending}
+use Rattle.token_grammar.specs.PartReaders.{ending_at}
+use Rattle.token_grammar.proofs.Optionals.{none, behind_law, behind_rule}
+use Rattle.token_grammar.proofs.PartRules.{ends, name_law, name_rule, ending_law, ending_rule, placed_law, placed_rule}
+use Rattle.token_grammar.proofs.Rules.{Law, Rule, seq_law, seq_rule, or_law, or_rule, as_law, as_rule, until_law, until_rule, same_law, same_rule}
+use Rattle.msc_events.specs.Declarations.{decl, declared_by}
+use Rattle.msc_events.proofs.DeclarationRules.{after_decl, after_parts, after_kind, decl_law, decl_rule, head_law, head_rule}
 use Rattle.msc_expression.proofs.GraphRules.{chart_graph_law, chart_graph_rule}
 use Rattle.msc_document.specs.Inlines.{each, before}
 use Rattle.msc_document.specs.DocumentGrammar.{column_event, covered, statement, chart_end, content, chart, chart_of}

@@ -4,18 +4,18 @@ use Rattle.msc_tokens.specs.declared.token.Token.{Token}
 use Rattle.msc_tree.specs.declared.reference.InlineForm.{InlineForm}
 use Rattle.msc_tree.specs.declared.reference.InlineForm.TheVariants.{Alt, Opt, Par, Loop, Exc}
 use Rattle.msc_tree.specs.Statements.{Item}
-use Rattle.msc_reading.specs.Classes.{token_of}
-use Rattle.msc_reading.specs.Languages.{Set, Read, Stop, among, apart, within, starts, second, just, word_at, map_at}
-use Rattle.msc_reading.specs.Grammars.{Grammar, read_as, word}
-use Rattle.msc_reading.specs.Rows.{rows_at}
-use Rattle.msc_reading.proofs.Lists.{not_both}
-use Rattle.msc_reading.proofs.Base.{Viable, opening_starts}
-use Rattle.msc_reading.proofs.Flats.{Eats, eats_of, rule_by}
-use Rattle.msc_reading.proofs.Levels.{reads_of, brink_of}
-use Rattle.msc_reading.proofs.Optionals.{none, mapped, paired}
-use Rattle.msc_reading.proofs.PartRules.{ends}
-use Rattle.msc_reading.proofs.Rows.{Late, rows_law, rows_rule}
-use Rattle.msc_reading.proofs.Rules.{Law, Rule, as_law, as_rule, equal_law, equal_rule}
+use Rattle.token_grammar.specs.Classes.{token_of}
+use Rattle.token_grammar.specs.Languages.{Set, Read, Stop, among, apart, within, starts, second, just, word_at, map_at}
+use Rattle.token_grammar.specs.Grammars.{Grammar, read_as, word}
+use Rattle.token_grammar.specs.Rows.{rows_at}
+use Rattle.token_grammar.proofs.Lists.{not_both}
+use Rattle.token_grammar.proofs.Base.{Viable, opening_starts}
+use Rattle.token_grammar.proofs.Flats.{Eats, eats_of, rule_by}
+use Rattle.token_grammar.proofs.Levels.{reads_of, brink_of}
+use Rattle.token_grammar.proofs.Optionals.{none, mapped, paired}
+use Rattle.token_grammar.proofs.PartRules.{ends}
+use Rattle.token_grammar.proofs.Rows.{Late, rows_law, rows_rule}
+use Rattle.token_grammar.proofs.Rules.{Law, Rule, as_law, as_rule, equal_law, equal_rule}
 use Rattle.msc_expression.specs.ExpressionReaders.{expression_at}
 use Rattle.msc_document.specs.Inlines.{Tail, each, before}
 use Rattle.msc_document.specs.DocumentGrammar.{column_event, column_operand}

@@ -3,22 +3,22 @@ use Rattle.std.proofs.Common.{ℕ, suc, ◌≡◌, ◌∙◌, ◌++◌, ◌⊎�
 use Rattle.msc_tokens.specs.declared.token.Token.{Token}
 use Rattle.msc_tree.specs.declared.chart.Heading.{Heading}
 use Rattle.msc_tree.specs.Charts.{Chart, Document}
-use Rattle.msc_reading.specs.Languages.{Set, Read, refused, deep, apart, starts, just, tail_ends, ◌>>=◌}
-use Rattle.msc_reading.specs.Languages as rules
-use Rattle.msc_reading.specs.Grammars.{Grammar, or, read_as, chain, tail, behind}
-use Rattle.msc_reading.specs.Parts.{ending}
-use Rattle.msc_reading.specs.Parsing.{Begins, Level, IsRefused, IsTooDeep, OneReading}
-use Rattle.msc_reading.proofs.Lists.{starts_some}
-use Rattle.msc_reading.proofs.Eaches.{last}
-use Rattle.msc_reading.proofs.Chains.{ends_of}
-use Rattle.msc_reading.proofs.Optionals.{none, behind_law, behind_rule}
-use Rattle.msc_reading.proofs.PartRules.{ending_law, ending_rule}
-use Rattle.msc_reading.proofs.Parses.{one_value, refused_parse, deep_parse, whole_parse, left_parse}
-use Rattle.msc_reading.proofs.Rules.{Law, Rule, or_law, or_rule, as_law, as_rule, chain_law, chain_rule, tail_law, tail_rule}
-use Rattle.msc_reading.proofs.Shallow.{behind_shallow}
-use Rattle.msc_reading.specs.Exactness.{IsExact}
-use Rattle.msc_items.specs.Declarations.{heading}
-use Rattle.msc_items.proofs.DeclarationRules.{heading_law, heading_rule}
+use Rattle.token_grammar.specs.Languages.{Set, Read, refused, deep, apart, starts, just, tail_ends, ◌>>=◌}
+use Rattle.token_grammar.specs.Languages as rules
+use Rattle.token_grammar.specs.Grammars.{Grammar, or, read_as, chain, tail, behind}
+use Rattle.token_grammar.specs.Parts.{ending}
+use Rattle.token_grammar.specs.Parsing.{Begins, Level, IsRefused, IsTooDeep, OneReading}
+use Rattle.token_grammar.proofs.Lists.{starts_some}
+use Rattle.token_grammar.proofs.Eaches.{last}
+use Rattle.token_grammar.proofs.Chains.{ends_of}
+use Rattle.token_grammar.proofs.Optionals.{none, behind_law, behind_rule}
+use Rattle.token_grammar.proofs.PartRules.{ending_law, ending_rule}
+use Rattle.token_grammar.proofs.Parses.{one_value, refused_parse, deep_parse, whole_parse, left_parse}
+use Rattle.token_grammar.proofs.Rules.{Law, Rule, or_law, or_rule, as_law, as_rule, chain_law, chain_rule, tail_law, tail_rule}
+use Rattle.token_grammar.proofs.Shallow.{behind_shallow}
+use Rattle.token_grammar.specs.Exactness.{IsExact}
+use Rattle.msc_events.specs.Declarations.{heading}
+use Rattle.msc_events.proofs.DeclarationRules.{heading_law, heading_rule}
 use Rattle.msc_document.specs.DocumentGrammar.{chart, document}
 use Rattle.msc_document.specs.DocumentReaders.{Parts, parts_of, headed, unheaded, ended, empty_document, document_end_at, parts_at, document_at}
 use Rattle.msc_document.proofs.ChartRules.{chart_law, chart_rule}
@@ -164,33 +164,33 @@ one_document m n ts a b h k = pick (from_document m ts a h) (from_document n ts 
     pick (inr (q, r, s)) (inr (u, v, w)) = s ∙ ap parts_of (one_value parts (just (codes "mscdocument") ++ (msc_word ++ end_word)) after_parts parts_law m n ts q u r v) ∙ sym w
 
 module _ (n : ℕ) (t : Token) (ts : List Token) where
-  begins_document : (m : ℕ) (front : List Token) → Begins parts m front → Begins document m front
-  begins_document m front b = record { more = b.more; value = parts_of b.value; reads = to_document m (front ++ b.more) b.value b.reads }
+  begins_document : (m : ℕ) (prefix : List Token) → Begins parts m prefix → Begins document m prefix
+  begins_document m prefix b = record { more = b.more; value = parts_of b.value; reads = to_document m (prefix ++ b.more) b.value b.reads }
 
-  begins_parts : (m : ℕ) (front : List Token) (token : Token) → Begins document m (front ++ token ∷ []) → Begins parts m (front ++ token ∷ [])
-  begins_parts m front token b = pick (from_document m ((front ++ token ∷ []) ++ b.more) b.value b.reads)
+  begins_parts : (m : ℕ) (prefix : List Token) (token : Token) → Begins document m (prefix ++ token ∷ []) → Begins parts m (prefix ++ token ∷ [])
+  begins_parts m prefix token b = pick (from_document m ((prefix ++ token ∷ []) ++ b.more) b.value b.reads)
     where
       some : (l : List Token) → (l ++ token ∷ []) ++ b.more ≡ [] → ⊥
       some [] e = cc
       some (u ∷ l) e = cc
 
-      pick : Known m ((front ++ token ∷ []) ++ b.more) b.value → Begins parts m (front ++ token ∷ [])
-      pick (inl (e, p)) = absurd (some front e)
+      pick : Known m ((prefix ++ token ∷ []) ++ b.more) b.value → Begins parts m (prefix ++ token ∷ [])
+      pick (inl (e, p)) = absurd (some prefix e)
       pick (inr (q, r, s)) = record { more = b.more; value = q; reads = r }
 
   refused_document : (left : ℕ) → IsRefused parts n (t ∷ ts) left → IsRefused document n (t ∷ ts) left
   refused_document left r = record {
-    front = r.front;
+    prefix = r.prefix;
     rest = r.rest;
     cut = r.cut;
     counted = r.counted;
-    begins = begins_document (suc n) r.front r.begins;
+    begins = begins_document (suc n) r.prefix r.begins;
     level = λ p q e k. r.level p q e (from_document_brink n p k);
-    stops = λ m token behind e b. r.stops m token behind e (begins_parts m r.front token b);
-    ends = λ e m value h. ends e m value (from_document m r.front value h);
+    stops = λ m token behind e b. r.stops m token behind e (begins_parts m r.prefix token b);
+    ends = λ e m value h. ends e m value (from_document m r.prefix value h);
   }
     where
-      ends : r.rest ≡ [] → (m : ℕ) (value : Document) → Known m r.front value → ⊥
+      ends : r.rest ≡ [] → (m : ℕ) (value : Document) → Known m r.prefix value → ⊥
       ends e m value (inl (f, p)) = none_there (r.cut ∙ ap₂ (λ a b. a ++ b) f e)
         where
           none_there : t ∷ ts ≡ [] → ⊥
@@ -199,12 +199,12 @@ module _ (n : ℕ) (t : Token) (ts : List Token) where
 
   deep_document : (left : ℕ) → IsTooDeep parts n (t ∷ ts) left → IsTooDeep document n (t ∷ ts) left
   deep_document left r = record {
-    front = r.front;
+    prefix = r.prefix;
     token = r.token;
     rest = r.rest;
     cut = r.cut;
     counted = r.counted;
-    opens = to_document_brink n (r.front ++ r.token ∷ []) r.opens;
+    opens = to_document_brink n (r.prefix ++ r.token ∷ []) r.opens;
     level = λ p q e k. r.level p q e (from_document_brink n p k);
   }
 

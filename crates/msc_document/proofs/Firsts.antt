@@ -1,17 +1,17 @@
 -- Tokens have one first refusal at most: the first token with which they begin nothing, or that opens a level too many.
 use Rattle.std.proofs.Common.{ℕ, suc, ◌≡◌, ◌∙◌, ◌++◌, ◌⊎◌, List, [], ◌∷◌, refl, sym, ap, inl, inr, subst, append-nil, append_assoc}
 use Rattle.msc_tokens.specs.declared.token.Token.{Token}
-use Rattle.msc_reading.specs.Grammars.{Grammar}
-use Rattle.msc_reading.specs.Parsing.{Begins, Level, IsRefused, IsTooDeep}
+use Rattle.token_grammar.specs.Grammars.{Grammar}
+use Rattle.token_grammar.specs.Parsing.{Begins, Level, IsRefused, IsTooDeep}
 
 -- ---- two ways to cut a list
 
--- what the second front has more than the first, which ends before a token
+-- what the second prefix has more than the first, which ends before a token
 abbrev Longer : List Token → List Token → List Token → Type 0
-Longer front rest longer = (token : Token) × (behind : List Token) × (more : List Token) × (rest ≡ token ∷ behind) × (longer ≡ front ++ token ∷ more)
+Longer prefix rest longer = (token : Token) × (behind : List Token) × (more : List Token) × (rest ≡ token ∷ behind) × (longer ≡ prefix ++ token ∷ more)
 
-later : (t : Token) (front rest longer : List Token) → Longer front rest longer → Longer (t ∷ front) rest (t ∷ longer)
-later t front rest longer (token, behind, more, e, h) = (token, behind, more, e, ap (λ l. t ∷ l) h)
+later : (t : Token) (prefix rest longer : List Token) → Longer prefix rest longer → Longer (t ∷ prefix) rest (t ∷ longer)
+later t prefix rest longer (token, behind, more, e, h) = (token, behind, more, e, ap (λ l. t ∷ l) h)
 
 abbrev Cuts : List Token → List Token → List Token → List Token → Type 0
 Cuts a x b y = ((a ≡ b) × (x ≡ y)) ⊎ (Longer a x b ⊎ Longer b y a)
@@ -32,48 +32,48 @@ cuts (t ∷ a) x (u ∷ b) y e =
 
 module _ {A : Type 0} (R : ℕ → Grammar A) (n : ℕ) (ts : List Token) where
   -- what refuses a token also refuses whatever begins with the tokens up to it
-  refuses : (left : ℕ) (r : IsRefused R n ts left) (m : ℕ) (longer : List Token) → Longer r.front r.rest longer → Begins R m longer → ⊥
+  refuses : (left : ℕ) (r : IsRefused R n ts left) (m : ℕ) (longer : List Token) → Longer r.prefix r.rest longer → Begins R m longer → ⊥
   refuses left r m longer (token, behind, more, e, h) b =
       r.stops m token behind e (record { more = more ++ b.more; value = b.value; reads = subst (λ l. (R m).reads l b.value) (ap (λ l. l ++ b.more) h ∙ shifted) b.reads })
     where
-      shifted : (r.front ++ token ∷ more) ++ b.more ≡ (r.front ++ token ∷ []) ++ (more ++ b.more)
-      shifted = append_assoc r.front (token ∷ more) b.more ∙ sym (append_assoc r.front (token ∷ []) (more ++ b.more))
+      shifted : (r.prefix ++ token ∷ more) ++ b.more ≡ (r.prefix ++ token ∷ []) ++ (more ++ b.more)
+      shifted = append_assoc r.prefix (token ∷ more) b.more ∙ sym (append_assoc r.prefix (token ∷ []) (more ++ b.more))
 
   -- an opening too many is in all that is longer
-  opens_in : (left : ℕ) (r : IsTooDeep R n ts left) (longer : List Token) → Longer r.front (r.token ∷ r.rest) longer → Level R n longer → ⊥
+  opens_in : (left : ℕ) (r : IsTooDeep R n ts left) (longer : List Token) → Longer r.prefix (r.token ∷ r.rest) longer → Level R n longer → ⊥
   opens_in left r longer (token, behind, more, e, h) level =
       let same : r.token ≡ token = cc in
-      level (r.front ++ r.token ∷ []) more (h ∙ ap (λ (t : Token). r.front ++ t ∷ more) (sym same) ∙ sym (append_assoc r.front (r.token ∷ []) more)) r.opens
+      level (r.prefix ++ r.token ∷ []) more (h ∙ ap (λ (t : Token). r.prefix ++ t ∷ more) (sym same) ∙ sym (append_assoc r.prefix (r.token ∷ []) more)) r.opens
 
   -- ---- one refusal
 
   pub one_refused : (k j : ℕ) (r : IsRefused R n ts k) (s : IsRefused R n ts j) → r.rest ≡ s.rest
-  one_refused k j r s = pick (cuts r.front r.rest s.front s.rest (sym r.cut ∙ s.cut))
+  one_refused k j r s = pick (cuts r.prefix r.rest s.prefix s.rest (sym r.cut ∙ s.cut))
     where
-      pick : Cuts r.front r.rest s.front s.rest → r.rest ≡ s.rest
+      pick : Cuts r.prefix r.rest s.prefix s.rest → r.rest ≡ s.rest
       pick (inl (same, rest)) = rest
-      pick (inr (inl h)) = absurd (refuses k r (suc n) s.front h s.begins)
-      pick (inr (inr h)) = absurd (refuses j s (suc n) r.front h r.begins)
+      pick (inr (inl h)) = absurd (refuses k r (suc n) s.prefix h s.begins)
+      pick (inr (inr h)) = absurd (refuses j s (suc n) r.prefix h r.begins)
 
   pub one_too_deep : (k j : ℕ) (r : IsTooDeep R n ts k) (s : IsTooDeep R n ts j) → r.token ≡ s.token
-  one_too_deep k j r s = pick (cuts r.front (r.token ∷ r.rest) s.front (s.token ∷ s.rest) (sym r.cut ∙ s.cut))
+  one_too_deep k j r s = pick (cuts r.prefix (r.token ∷ r.rest) s.prefix (s.token ∷ s.rest) (sym r.cut ∙ s.cut))
     where
-      pick : Cuts r.front (r.token ∷ r.rest) s.front (s.token ∷ s.rest) → r.token ≡ s.token
+      pick : Cuts r.prefix (r.token ∷ r.rest) s.prefix (s.token ∷ s.rest) → r.token ≡ s.token
       pick (inl (same, rest)) = cc
-      pick (inr (inl h)) = absurd (opens_in k r s.front h s.level)
-      pick (inr (inr h)) = absurd (opens_in j s r.front h r.level)
+      pick (inr (inl h)) = absurd (opens_in k r s.prefix h s.level)
+      pick (inr (inr h)) = absurd (opens_in j s r.prefix h r.level)
 
   -- where an opening too many goes on with one level more
   pub not_both : ((p : List Token) → (R n).brink p → Begins R (suc n) p) → (k j : ℕ) → IsRefused R n ts k → IsTooDeep R n ts j → ⊥
-  not_both opened k j r s = pick (cuts r.front r.rest s.front (s.token ∷ s.rest) (sym r.cut ∙ s.cut))
+  not_both opened k j r s = pick (cuts r.prefix r.rest s.prefix (s.token ∷ s.rest) (sym r.cut ∙ s.cut))
     where
-      here : Longer r.front r.rest (s.front ++ s.token ∷ []) → ⊥
-      here h = refuses k r (suc n) (s.front ++ s.token ∷ []) h (opened (s.front ++ s.token ∷ []) s.opens)
+      here : Longer r.prefix r.rest (s.prefix ++ s.token ∷ []) → ⊥
+      here h = refuses k r (suc n) (s.prefix ++ s.token ∷ []) h (opened (s.prefix ++ s.token ∷ []) s.opens)
 
-      pick : Cuts r.front r.rest s.front (s.token ∷ s.rest) → ⊥
+      pick : Cuts r.prefix r.rest s.prefix (s.token ∷ s.rest) → ⊥
       pick (inl (same, rest)) = here (s.token, s.rest, [], rest, ap (λ l. l ++ s.token ∷ []) (sym same))
-      pick (inr (inl (token, behind, more, e, h))) = here (token, behind, more ++ s.token ∷ [], e, ap (λ l. l ++ s.token ∷ []) h ∙ append_assoc r.front (token ∷ more) (s.token ∷ []))
-      pick (inr (inr h)) = opens_in j s r.front h r.level
+      pick (inr (inl (token, behind, more, e, h))) = here (token, behind, more ++ s.token ∷ [], e, ap (λ l. l ++ s.token ∷ []) h ∙ append_assoc r.prefix (token ∷ more) (s.token ∷ []))
+      pick (inr (inr h)) = opens_in j s r.prefix h r.level
 
   -- ---- what is refused reads as nothing
 
@@ -81,8 +81,8 @@ module _ {A : Type 0} (R : ℕ → Grammar A) (n : ℕ) (ts : List Token) where
   refused_none left r m a h = none r.rest refl
     where
       none : (rest : List Token) → r.rest ≡ rest → ⊥
-      none [] q = r.ends q m a (subst (λ l. (R m).reads l a) (r.cut ∙ ap (λ l. r.front ++ l) q ∙ append-nil r.front) h)
-      none (t ∷ behind) q = r.stops m t behind q (record { more = behind; value = a; reads = subst (λ l. (R m).reads l a) (r.cut ∙ ap (λ l. r.front ++ l) q ∙ sym (append_assoc r.front (t ∷ []) behind)) h })
+      none [] q = r.ends q m a (subst (λ l. (R m).reads l a) (r.cut ∙ ap (λ l. r.prefix ++ l) q ∙ append-nil r.prefix) h)
+      none (t ∷ behind) q = r.stops m t behind q (record { more = behind; value = a; reads = subst (λ l. (R m).reads l a) (r.cut ∙ ap (λ l. r.prefix ++ l) q ∙ sym (append_assoc r.prefix (t ∷ []) behind)) h })
 
   pub deep_none : ((x : List Token) (a : A) → (R n).reads x a → Level R n x) → (left : ℕ) → IsTooDeep R n ts left → (a : A) → (R n).reads ts a → ⊥
-  deep_none proper left r a h = proper ts a h (r.front ++ r.token ∷ []) r.rest (r.cut ∙ sym (append_assoc r.front (r.token ∷ []) r.rest)) r.opens
+  deep_none proper left r a h = proper ts a h (r.prefix ++ r.token ∷ []) r.rest (r.cut ∙ sym (append_assoc r.prefix (r.token ∷ []) r.rest)) r.opens

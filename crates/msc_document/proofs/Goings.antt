@@ -1,43 +1,43 @@
 -- A loop that reads one after another while they go on, and appends each to those that there are.
 use Rattle.std.proofs.Common.{ℕ, ◌≡◌, ◌++◌, Bool, true, false, List, [], ◌∷◌, refl, sym, ap, subst, append_assoc, append-nil, suc, zero, length, Ok, Err}
 use Rattle.msc_tokens.specs.declared.token.Token.{Token}
-use Rattle.msc_reading.specs.Languages.{Read, ◌>>=◌, each_at, until_at}
-use Rattle.msc_reading.specs.PartReaders.{more_at}
-use Rattle.msc_reading.specs.Answers.{Fails}
-use Rattle.msc_reading.specs.declared.readers.ReadFault.{ReadFault}
-use Rattle.msc_reading.specs.declared.readers.ReadFault.TheVariants as fault
-use Rattle.msc_reading.proofs.Optionals.{mapped, paired}
+use Rattle.token_grammar.specs.Languages.{Read, ◌>>=◌, each_at, until_at}
+use Rattle.token_grammar.specs.PartReaders.{more_at}
+use Rattle.token_grammar.specs.Answers.{Fails}
+use Rattle.token_grammar.specs.declared.readers.ReadFault.{ReadFault}
+use Rattle.token_grammar.specs.declared.readers.ReadFault.TheVariants as fault
+use Rattle.token_grammar.proofs.Optionals.{mapped, paired}
 use Rattle.msc_document.specs.Inlines.{firsts}
 use Rattle.msc_document.specs.DocumentReaders.{going_at, end_words, next_part_at, closing_at, several_at}
 use Rattle.msc_document.specs.ItemReaders.{more_going_at, listed_operands_at}
 
 module _ {A : Type 0} (goes : List Token → Bool) (q : List Token → Read A) where
-  pub none_goes : (front : List A) (m : ℕ) (ts : List Token) → m ≡ 0 → more_going_at goes q front m ts ≡ Ok (front, ts)
-  none_goes front zero ts e = ap (λ (l : List A). Ok (l, ts)) (append-nil front)
-  none_goes front (suc m) ts e = cc
+  pub none_goes : (prefix : List A) (m : ℕ) (ts : List Token) → m ≡ 0 → more_going_at goes q prefix m ts ≡ Ok (prefix, ts)
+  none_goes prefix zero ts e = ap (λ (l : List A). Ok (l, ts)) (append-nil prefix)
+  none_goes prefix (suc m) ts e = cc
 
-  pub goes_no_more : (front : List A) (m : ℕ) (ts : List Token) → goes ts ≡ false → more_going_at goes q front m ts ≡ Ok (front, ts)
-  goes_no_more front zero ts e = none_goes front zero ts refl
-  goes_no_more front (suc m) ts e = rw e (ap (λ (l : List A). Ok (l, ts)) (append-nil front))
+  pub goes_no_more : (prefix : List A) (m : ℕ) (ts : List Token) → goes ts ≡ false → more_going_at goes q prefix m ts ≡ Ok (prefix, ts)
+  goes_no_more prefix zero ts e = none_goes prefix zero ts refl
+  goes_no_more prefix (suc m) ts e = rw e (ap (λ (l : List A). Ok (l, ts)) (append-nil prefix))
 
-  one_more : (front : List A) (a : A) (e : Read (List A)) → mapped (λ l. front ++ l) (mapped (λ l. a ∷ l) e) ≡ mapped (λ l. (front ++ a ∷ []) ++ l) e
-  one_more front a (Ok y) = ap (λ (l : List A). Ok (l, y.1)) (sym (append_assoc front (a ∷ []) y.0))
-  one_more front a (Err e) = refl
+  one_more : (prefix : List A) (a : A) (e : Read (List A)) → mapped (λ l. prefix ++ l) (mapped (λ l. a ∷ l) e) ≡ mapped (λ l. (prefix ++ a ∷ []) ++ l) e
+  one_more prefix a (Ok y) = ap (λ (l : List A). Ok (l, y.1)) (sym (append_assoc prefix (a ∷ []) y.0))
+  one_more prefix a (Err e) = refl
 
-  pub goes_one : (front longer : List A) (a : A) (m k : ℕ) (ts behind : List Token) → goes ts ≡ true → m ≡ suc k → q ts ≡ Ok (a, behind) → longer ≡ front ++ a ∷ []
-      → more_going_at goes q front m ts ≡ more_going_at goes q longer k behind
-  goes_one front longer a zero k ts behind is e h l = cc
-  goes_one front longer a (suc m) k ts behind is e h l =
+  pub goes_one : (prefix longer : List A) (a : A) (m k : ℕ) (ts behind : List Token) → goes ts ≡ true → m ≡ suc k → q ts ≡ Ok (a, behind) → longer ≡ prefix ++ a ∷ []
+      → more_going_at goes q prefix m ts ≡ more_going_at goes q longer k behind
+  goes_one prefix longer a zero k ts behind is e h l = cc
+  goes_one prefix longer a (suc m) k ts behind is e h l =
       let same : m ≡ k = cc in
-      subst (λ (t : List A). more_going_at goes q front (suc m) ts ≡ more_going_at goes q t k behind) (sym l)
-      (subst (λ (j : ℕ). more_going_at goes q front (suc m) ts ≡ more_going_at goes q (front ++ a ∷ []) j behind) same (rw (is, h) (one_more front a (going_at goes q m behind))))
+      subst (λ (t : List A). more_going_at goes q prefix (suc m) ts ≡ more_going_at goes q t k behind) (sym l)
+      (subst (λ (j : ℕ). more_going_at goes q prefix (suc m) ts ≡ more_going_at goes q (prefix ++ a ∷ []) j behind) same (rw (is, h) (one_more prefix a (going_at goes q m behind))))
 
-  pub goes_stops : (f : ReadFault) (front : List A) (m k : ℕ) (ts : List Token) → goes ts ≡ true → m ≡ suc k → Fails f (q ts) → Fails f (more_going_at goes q front m ts)
-  goes_stops fault.NoMemory front m k ts is e h = tt
-  goes_stops (fault.Refused left) front zero k ts is e h = cc
-  goes_stops (fault.Refused left) front (suc m) k ts is e h = rw (is, h) refl
-  goes_stops (fault.Deep left) front zero k ts is e h = cc
-  goes_stops (fault.Deep left) front (suc m) k ts is e h = rw (is, h) refl
+  pub goes_stops : (f : ReadFault) (prefix : List A) (m k : ℕ) (ts : List Token) → goes ts ≡ true → m ≡ suc k → Fails f (q ts) → Fails f (more_going_at goes q prefix m ts)
+  goes_stops fault.NoMemory prefix m k ts is e h = tt
+  goes_stops (fault.Refused left) prefix zero k ts is e h = cc
+  goes_stops (fault.Refused left) prefix (suc m) k ts is e h = rw (is, h) refl
+  goes_stops (fault.TooDeep left) prefix zero k ts is e h = cc
+  goes_stops (fault.TooDeep left) prefix (suc m) k ts is e h = rw (is, h) refl
 
 -- ---- operands one by one
 

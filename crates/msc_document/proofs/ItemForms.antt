@@ -4,10 +4,10 @@ use Rattle.msc_tokens.specs.declared.token.Token.{Token}
 use Rattle.msc_tree.specs.declared.reference.InlineForm.{InlineForm}
 use Rattle.msc_tree.specs.declared.reference.InlineForm.TheVariants.{Alt, Opt, Par, Loop, Exc}
 use Rattle.msc_tree.specs.Statements.{Operand}
-use Rattle.msc_reading.specs.Languages.{Set, Read, among, starts, refused, just, opens_at, map_at, word_at}
-use Rattle.msc_reading.specs.PartReaders.{placed_at}
-use Rattle.msc_reading.proofs.Optionals.{mapped, paired}
-use Rattle.msc_items.specs.EventReaders.{single_words}
+use Rattle.token_grammar.specs.Languages.{Set, Read, among, starts, refused, just, opens_at, map_at, word_at}
+use Rattle.token_grammar.specs.PartReaders.{placed_at}
+use Rattle.token_grammar.proofs.Optionals.{mapped, paired}
+use Rattle.msc_events.specs.EventReaders.{single_words}
 use Rattle.msc_expression.specs.Bounds.{loop_bounds_at}
 use Rattle.msc_expression.specs.declared.bounds.Bounds.{Bounds}
 use Rattle.msc_expression.specs.ExpressionReaders.{expression_at}

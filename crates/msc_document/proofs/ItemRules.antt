@@ -6,22 +6,22 @@ use Rattle.msc_tree.specs.declared.reference.InlineForm.{InlineForm}
 use Rattle.msc_tree.specs.declared.reference.InlineForm.TheVariants.{Alt, Opt, Par, Loop, Exc}
 use Rattle.msc_tree.specs.Statements.{Item, Operand, Single, Coregion, Condition, Refer, Stop}
 use Rattle.msc_tree.specs.Statements as tree
-use Rattle.msc_reading.specs.Classes.{token_of}
-use Rattle.msc_reading.specs.Languages.{Set, Read, among, apart, starts, second, just, map_at}
-use Rattle.msc_reading.specs.Grammars.{Grammar, word, or, read_as}
-use Rattle.msc_reading.specs.Parts.{ending}
-use Rattle.msc_reading.proofs.Lists.{apart_none, among-append, two_starts}
-use Rattle.msc_reading.proofs.Base.{Viable, opening_starts}
-use Rattle.msc_reading.proofs.Levels.{Opened, reads_of, brink_of}
-use Rattle.msc_reading.proofs.Rules.{Law, Rule, Word, seq_law, seq_rule, or_law, or_rule, as_law, as_rule, shut_law, inner_law, shut_rule, inner_rule}
-use Rattle.msc_reading.proofs.Optionals.{none}
-use Rattle.msc_reading.proofs.PartRules.{ends, placed_law, placed_rule}
-use Rattle.msc_items.specs.Events.{single, coregion, stop}
-use Rattle.msc_items.specs.Multis.{condition}
-use Rattle.msc_items.specs.EventReaders.{single_words, single_at, coregion_at, stop_at}
-use Rattle.msc_items.specs.MultiReaders.{condition_at}
-use Rattle.msc_items.proofs.EventRules.{single_law, single_rule, coregion_law, coregion_rule, stop_law, stop_rule}
-use Rattle.msc_items.proofs.MultiRules.{condition_law, condition_rule}
+use Rattle.token_grammar.specs.Classes.{token_of}
+use Rattle.token_grammar.specs.Languages.{Set, Read, among, apart, starts, second, just, map_at}
+use Rattle.token_grammar.specs.Grammars.{Grammar, word, or, read_as}
+use Rattle.token_grammar.specs.Parts.{ending}
+use Rattle.token_grammar.proofs.Lists.{apart_none, among-append, two_starts}
+use Rattle.token_grammar.proofs.Base.{Viable, opening_starts}
+use Rattle.token_grammar.proofs.Levels.{Opened, reads_of, brink_of}
+use Rattle.token_grammar.proofs.Rules.{Law, Rule, Word, seq_law, seq_rule, or_law, or_rule, as_law, as_rule, shut_law, inner_law, shut_rule, inner_rule}
+use Rattle.token_grammar.proofs.Optionals.{none}
+use Rattle.token_grammar.proofs.PartRules.{ends, placed_law, placed_rule}
+use Rattle.msc_events.specs.Events.{single, coregion, stop}
+use Rattle.msc_events.specs.Multis.{condition}
+use Rattle.msc_events.specs.EventReaders.{single_words, single_at, coregion_at, stop_at}
+use Rattle.msc_events.specs.MultiReaders.{condition_at}
+use Rattle.msc_events.proofs.EventRules.{single_law, single_rule, coregion_law, coregion_rule, stop_law, stop_rule}
+use Rattle.msc_events.proofs.MultiRules.{condition_law, condition_rule}
 use Rattle.msc_expression.specs.declared.bounds.Bounds.{Bounds}
 use Rattle.msc_expression.specs.Bounds.{bounds, bounds_of, kept, or_once, with_bounds}
 use Rattle.msc_expression.proofs.BoundRules.{with_bounds_law, with_bounds_rule}

@@ -1,12 +1,12 @@
 -- The law and the rule of statements up to a word, by those of the flat list.
 use Rattle.std.proofs.Common.{ℕ, ◌≡◌, ◌∙◌, ◌++◌, ◌⊎◌, List, [], ◌∷◌, refl, sym, ap, inl, inr, subst}
 use Rattle.msc_tokens.specs.declared.token.Token.{Token}
-use Rattle.msc_reading.specs.Languages.{Set, Read, map_at}
-use Rattle.msc_reading.specs.Languages as rules
-use Rattle.msc_reading.specs.Grammars.{Grammar, word, read_as}
-use Rattle.msc_reading.specs.Rows.{rows_brink}
-use Rattle.msc_reading.proofs.Rules.{Law, Rule, as_law, as_rule, same_law, same_rule}
-use Rattle.msc_reading.proofs.Rows.{Rows, after_all, begun_items}
+use Rattle.token_grammar.specs.Languages.{Set, Read, map_at}
+use Rattle.token_grammar.specs.Languages as rules
+use Rattle.token_grammar.specs.Grammars.{Grammar, word, read_as}
+use Rattle.token_grammar.specs.Rows.{rows_brink}
+use Rattle.token_grammar.proofs.Rules.{Law, Rule, as_law, as_rule, same_law, same_rule}
+use Rattle.token_grammar.proofs.Rows.{Rows, after_all, begun_items}
 use Rattle.msc_document.specs.Inlines.{each, before}
 use Rattle.msc_document.proofs.Continued.{Continued}
 use Rattle.msc_document.proofs.Lines.{grouped, next_state, Mixed, to_flat, from_flat, to_flat_brink, from_flat_brink, SplitBrink}
@@ -44,11 +44,11 @@ module _ {A B Q : Type 0} (w : Set) (kind : A → Q) (long : A → List B → A)
     to : (m : ℕ) (x : List Token) (xs : List A) → (Flats q m).reads x xs → (Upto m).reads x xs
     to m x xs h =
         let r = from_flat w kind long (L m) (S m) (λ s. N s m) (λ s. R s m) (f.continued m) (f.mixed m) h.0.0 q x h.0.1 h.1 in
-        (((grouped long h.0.0).1, h.0.1), (r.1, r.2, r.3 ∙ ap (λ l. l ++ (r.1 ++ r.2)) (front (grouped long h.0.0).0 r.0 r.4), r.5, r.6), h.2)
+        (((grouped long h.0.0).1, h.0.1), (r.1, r.2, r.3 ∙ ap (λ l. l ++ (r.1 ++ r.2)) (prefix (grouped long h.0.0).0 r.0 r.4), r.5, r.6), h.2)
       where
-        front : (bs : List B) (y : List Token) → rules.each (N q m).reads y bs → y ≡ []
-        front [] y e = e
-        front (b ∷ bs) y e = absurd (f.none_first m e.0 b e.3)
+        prefix : (bs : List B) (y : List Token) → rules.each (N q m).reads y bs → y ≡ []
+        prefix [] y e = e
+        prefix (b ∷ bs) y e = absurd (f.none_first m e.0 b e.3)
 
     from : (m : ℕ) (x : List Token) (xs : List A) → (Upto m).reads x xs → (Flats q m).reads x xs
     from m x xs h =
@@ -59,13 +59,13 @@ module _ {A B Q : Type 0} (w : Set) (kind : A → Q) (long : A → List B → A)
     to_brink : (m : ℕ) (p : List Token) → (Flats q m).brink p → (Upto m).brink p
     to_brink m p h = pick (from_flat_brink w kind long (L m) (S m) (λ s. N s m) (λ s. R s m) (f.continued m) (f.mixed m) h.0 q p h.1)
       where
-        front : (bs : List B) (y : List Token) → rules.each (N q m).reads y bs → y ≡ []
-        front [] y e = e
-        front (b ∷ bs) y e = absurd (f.none_first m e.0 b e.3)
+        prefix : (bs : List B) (y : List Token) → rules.each (N q m).reads y bs → y ≡ []
+        prefix [] y e = e
+        prefix (b ∷ bs) y e = absurd (f.none_first m e.0 b e.3)
 
         pick : SplitBrink w kind long (L m) (S m) (λ s. N s m) (λ s. R s m) (f.continued m) (f.mixed m) q p → (Upto m).brink p
         pick (inl k) = absurd (f.no_opening m k.1 k.5)
-        pick (inr (y, z, u, bs, xs, cut, e, each_z, k)) = inl (z, u, xs, cut ∙ ap (λ l. l ++ (z ++ u)) (front bs y e), each_z, k)
+        pick (inr (y, z, u, bs, xs, cut, e, each_z, k)) = inl (z, u, xs, cut ∙ ap (λ l. l ++ (z ++ u)) (prefix bs y e), each_z, k)
 
     from_brink : (m : ℕ) (p : List Token) → (Upto m).brink p → (Flats q m).brink p
     from_brink m p (inl k) =

@@ -3,9 +3,9 @@ use Rattle.std.proofs.Common.{ℕ, zero, suc, ◌≡◌, ◌∙◌, Bool, true, 
 use Rattle.msc_tokens.specs.declared.token.Token.{Token}
 use Rattle.msc_tree.specs.declared.reference.InlineForm.{InlineForm}
 use Rattle.msc_tree.specs.declared.reference.InlineForm.TheVariants.{Alt, Opt, Par, Loop, Exc}
-use Rattle.msc_reading.specs.Languages.{Set, Read, starts, ◌>>=◌, each_at, until_at}
-use Rattle.msc_reading.specs.PartReaders.{ending_at}
-use Rattle.msc_reading.proofs.Optionals.{mapped, paired}
+use Rattle.token_grammar.specs.Languages.{Set, Read, starts, ◌>>=◌, each_at, until_at}
+use Rattle.token_grammar.specs.PartReaders.{ending_at}
+use Rattle.token_grammar.proofs.Optionals.{mapped, paired}
 use Rattle.msc_document.specs.Inlines.{Naming, firsts}
 use Rattle.msc_document.specs.DocumentReaders.{end_words, closing_at, next_part_at, several_at, single_operand_at, naming_at, operands_at, body_at}
 

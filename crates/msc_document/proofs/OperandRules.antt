@@ -1,17 +1,17 @@
 -- The laws and rules of operands with their words, by those of one operand with the word behind it.
 use Rattle.std.proofs.Common.{ℕ, ◌≡◌, ◌++◌, ◌&&◌, List, [], ◌∷◌, refl, Bool, true, false, codes}
 use Rattle.std.specs.List.{list_all}
-use Rattle.msc_reading.specs.Classes.{differ}
-use Rattle.msc_reading.proofs.Lists.{apart_none}
+use Rattle.token_grammar.specs.Classes.{differ}
+use Rattle.token_grammar.proofs.Lists.{apart_none}
 use Rattle.msc_tokens.specs.declared.token.Token.{Token}
-use Rattle.msc_reading.specs.Languages.{Set, Read, apart, just, names}
-use Rattle.msc_reading.specs.Grammars.{Grammar, word}
-use Rattle.msc_reading.specs.Parts.{ending, kept}
-use Rattle.msc_reading.proofs.Rules.{Law, Rule, seq_law, seq_rule, as_law, as_rule, until_law, until_rule, same_law, same_rule}
-use Rattle.msc_reading.proofs.Optionals.{none, optional_rule, behind_law, behind_rule}
-use Rattle.msc_reading.proofs.PartRules.{ends, ending_law, ending_rule, name_rule}
-use Rattle.msc_items.specs.MultiReaders.{shared_words}
-use Rattle.msc_items.proofs.MultiRules.{shared_in_rule}
+use Rattle.token_grammar.specs.Languages.{Set, Read, apart, just, names}
+use Rattle.token_grammar.specs.Grammars.{Grammar, word}
+use Rattle.token_grammar.specs.Parts.{ending, kept}
+use Rattle.token_grammar.proofs.Rules.{Law, Rule, seq_law, seq_rule, as_law, as_rule, until_law, until_rule, same_law, same_rule}
+use Rattle.token_grammar.proofs.Optionals.{none, optional_rule, behind_law, behind_rule}
+use Rattle.token_grammar.proofs.PartRules.{ends, ending_law, ending_rule, name_rule}
+use Rattle.msc_events.specs.MultiReaders.{shared_words}
+use Rattle.msc_events.proofs.MultiRules.{shared_in_rule}
 use Rattle.msc_document.specs.Inlines.{before, closing, firsts, several, single}
 use Rattle.msc_document.specs.DocumentGrammar.{naming}
 use Rattle.msc_document.specs.DocumentReaders.{closing_at, several_at, single_operand_at, naming_at}

@@ -6,11 +6,11 @@ use Rattle.msc_tokens.specs.declared.token.Token.{Token}
 use Rattle.msc_tree.specs.declared.chart.RawDocument.{RawDocument}
 use Rattle.msc_tree.specs.Charts.{Document}
 use Rattle.msc_tree.specs.Views.{document_view}
-use Rattle.msc_reading.specs.Answers.{Fails}
-use Rattle.msc_reading.specs.Exactness.{IsExact}
-use Rattle.msc_reading.specs.Languages.{Read, refused, deep}
-use Rattle.msc_reading.specs.Parsing.{IsRefused, IsTooDeep}
-use Rattle.msc_reading.specs.declared.readers.ReadFault.{ReadFault}
+use Rattle.token_grammar.specs.Answers.{Fails}
+use Rattle.token_grammar.specs.Exactness.{IsExact}
+use Rattle.token_grammar.specs.Languages.{Read, refused, deep}
+use Rattle.token_grammar.specs.Parsing.{IsRefused, IsTooDeep}
+use Rattle.token_grammar.specs.declared.readers.ReadFault.{ReadFault}
 use Rattle.msc_grammar.specs.declared.fault.ParseFault.{ParseFault}
 use Rattle.msc_grammar.specs.declared.fault.ParseFault.TheVariants as fault
 use Rattle.msc_grammar.specs.Refusals.{IsRefusal}
@@ -55,13 +55,13 @@ module _ (n : ℕ) (ts : List Token) (end : Place) where
   pub answered : (f : ParseFault) → IsFault document n ts end f → IsAnswer n ts end (Err f)
   answered (fault.Syntax at) h = h
   answered (fault.Unsupported form at) h = h
-  answered (fault.Deep at) h = h
+  answered (fault.TooDeep at) h = h
   answered fault.NoMemory h = tt
 
   fault_of : (f : ParseFault) → IsRefusal f → IsAnswer n ts end (Err f) → IsFault document n ts end f
   fault_of (fault.Syntax at) is h = h
   fault_of (fault.Unsupported form at) is h = h
-  fault_of (fault.Deep at) is h = h
+  fault_of (fault.TooDeep at) is h = h
   fault_of fault.NoMemory is h = absurd is
 
   no_document : (f : ParseFault) → IsFault document n ts end f → (d : Document) → (document n).reads ts d → ⊥
@@ -70,7 +70,7 @@ module _ (n : ℕ) (ts : List Token) (end : Place) where
 
   one_fault : (f g : ParseFault) → IsFault document n ts end f → IsFault document n ts end g → g ≡ f
   one_fault f g (inl r) (inl s) = s.at ∙ ap (λ (l : List Token). fault_at l end) (one_refused document n ts s.left r.left s.first r.first) ∙ sym r.at
-  one_fault f g (inr r) (inr s) = s.at ∙ ap (λ (t : Token). fault.Deep t.place) (one_too_deep document n ts s.left r.left s.first r.first) ∙ sym r.at
+  one_fault f g (inr r) (inr s) = s.at ∙ ap (λ (t : Token). fault.TooDeep t.place) (one_too_deep document n ts s.left r.left s.first r.first) ∙ sym r.at
   one_fault f g (inl r) (inr s) = absurd (not_both document n ts (opened_document n) r.left s.left r.first s.first)
   one_fault f g (inr r) (inl s) = absurd (not_both document n ts (opened_document n) s.left r.left s.first r.first)
 

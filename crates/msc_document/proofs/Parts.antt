@@ -1,8 +1,8 @@
 -- What a reading of some small forms is made of.
 use Rattle.std.proofs.Common.{◌≡◌, ◌∙◌, ◌++◌, true, List, [], ◌∷◌, refl, sym, ap, inl, inr, subst}
 use Rattle.msc_tokens.specs.declared.token.Token.{Token}
-use Rattle.msc_reading.specs.Languages.{Set, among}
-use Rattle.msc_reading.specs.Grammars.{Grammar, word, behind}
+use Rattle.token_grammar.specs.Languages.{Set, among}
+use Rattle.token_grammar.specs.Grammars.{Grammar, word, behind}
 use Rattle.msc_document.specs.Inlines.{after, before}
 
 module _ {A : Type 0} (w : Set) (R : Grammar A) where

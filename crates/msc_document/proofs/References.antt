@@ -7,23 +7,23 @@ use Rattle.msc_tree.specs.declared.chart.Cover.{Cover}
 use Rattle.msc_tree.specs.declared.reference.Join.{Join}
 use Rattle.msc_tree.specs.Expressions.{Expression, Chart, Empty}
 use Rattle.msc_tree.specs.Statements.{Reference}
-use Rattle.msc_reading.specs.Classes.{is_name}
-use Rattle.msc_reading.specs.Languages.{Set, Read, refused, deep, among, apart, starts, just, names, second, map_at, seq_at, second_at}
-use Rattle.msc_reading.specs.Grammars.{Grammar, seq, or, read_as, behind, optional, bytes_of}
-use Rattle.msc_reading.specs.PartReaders.{ending_at}
-use Rattle.msc_reading.specs.Parts.{name, mark, ending, all_or_none, separated}
-use Rattle.msc_reading.proofs.Lists.{NotStart, apart_start, no_start, starts-append, cancel, heads, not_both, two_starts}
-use Rattle.msc_reading.proofs.Base.{Viable, Laws, Meant}
-use Rattle.msc_reading.proofs.Levels.{reads_of, brink_of}
-use Rattle.msc_reading.proofs.Rules.{Law, Rule, seq_rule, as_rule}
-use Rattle.msc_reading.proofs.Optionals.{none, optional_rule, behind_rule}
-use Rattle.msc_reading.proofs.PartRules.{name_rule, ending_rule, ends, placed_rule}
-use Rattle.msc_reading.proofs.Seconds.{second_rule}
-use Rattle.msc_reading.proofs.Shallow.{optional_shallow}
+use Rattle.token_grammar.specs.Classes.{is_name}
+use Rattle.token_grammar.specs.Languages.{Set, Read, refused, deep, among, apart, starts, just, names, second, map_at, seq_at, second_at}
+use Rattle.token_grammar.specs.Grammars.{Grammar, seq, or, read_as, behind, optional, bytes_of}
+use Rattle.token_grammar.specs.PartReaders.{ending_at}
+use Rattle.token_grammar.specs.Parts.{name, mark, ending, all_or_none, separated}
+use Rattle.token_grammar.proofs.Lists.{NotStart, apart_start, no_start, starts-append, cancel, heads, not_both, two_starts}
+use Rattle.token_grammar.proofs.Base.{Viable, Laws, Meant}
+use Rattle.token_grammar.proofs.Levels.{reads_of, brink_of}
+use Rattle.token_grammar.proofs.Rules.{Law, Rule, seq_rule, as_rule}
+use Rattle.token_grammar.proofs.Optionals.{none, optional_rule, behind_rule}
+use Rattle.token_grammar.proofs.PartRules.{name_rule, ending_rule, ends, placed_rule}
+use Rattle.token_grammar.proofs.Seconds.{second_rule}
+use Rattle.token_grammar.proofs.Shallow.{optional_shallow}
 use Rattle.msc_document.proofs.Shallows.{joins_shallow, shared_in_shallow}
-use Rattle.msc_items.specs.Multis.{shared_in, joins}
-use Rattle.msc_items.specs.MultiReaders.{shared_words, shared_in_at}
-use Rattle.msc_items.proofs.MultiRules.{shared_in_rule, joins_rule}
+use Rattle.msc_events.specs.Multis.{shared_in, joins}
+use Rattle.msc_events.specs.MultiReaders.{shared_words, shared_in_at}
+use Rattle.msc_events.proofs.MultiRules.{shared_in_rule, joins_rule}
 use Rattle.msc_expression.specs.ExpressionGrammar.{expression, prefix, parallel, sequence, chart_names}
 use Rattle.msc_expression.specs.ExpressionReaders.{expression_at}
 use Rattle.msc_expression.proofs.ExpressionRules.{first_words, after_expression, expression_law, expression_rule}

@@ -1,10 +1,10 @@
 -- Operands with a word between them and behind the last: the word is read with the operand before it.
 use Rattle.std.proofs.Common.{◌≡◌, ◌∙◌, ◌++◌, List, [], ◌∷◌, refl, sym, ap, ap₂, inl, inr, append_assoc}
 use Rattle.msc_tokens.specs.declared.token.Token.{Token}
-use Rattle.msc_reading.specs.Languages.{Set, among}
-use Rattle.msc_reading.specs.Languages as rules
-use Rattle.msc_reading.specs.Grammars.{Grammar, seq, read_as, until, word, behind}
-use Rattle.msc_reading.proofs.Shallow.{Shallow}
+use Rattle.token_grammar.specs.Languages.{Set, among}
+use Rattle.token_grammar.specs.Languages as rules
+use Rattle.token_grammar.specs.Grammars.{Grammar, seq, read_as, until, word, behind}
+use Rattle.token_grammar.proofs.Shallow.{Shallow}
 use Rattle.msc_document.specs.Inlines.{after, before, firsts}
 use Rattle.msc_document.proofs.Parts.{behind_in, behind_out, behind_brink_in, behind_brink_out, before_in, before_out, before_brink_out, after_in, after_out}
 

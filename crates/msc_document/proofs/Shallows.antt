@@ -2,13 +2,13 @@
 use Rattle.std.proofs.Common.{ℕ, List, [], ◌∷◌, Some, None, Bool, true, false, codes}
 use Rattle.msc_tree.specs.declared.chart.Cover.TheVariants.{All, Listed}
 use Rattle.msc_tree.specs.declared.reference.JoinEnd.TheVariants.{Env, Reference}
-use Rattle.msc_reading.specs.Classes.{string}
-use Rattle.msc_reading.specs.Languages.{Set, just, names}
-use Rattle.msc_reading.specs.Grammars.{Grammar, word}
-use Rattle.msc_reading.specs.Parts.{ending, dropped, all_of, separated, kept}
-use Rattle.msc_reading.proofs.Shallow.{Shallow, bytes_shallow, read_shallow, seq_shallow, chain_shallow, or_shallow, optional_shallow, behind_shallow}
-use Rattle.msc_items.specs.Multis.{sharers, cover_of, shared_in, join_end, joins}
-use Rattle.msc_items.specs.Declarations.{heading}
+use Rattle.token_grammar.specs.Classes.{string}
+use Rattle.token_grammar.specs.Languages.{Set, just, names}
+use Rattle.token_grammar.specs.Grammars.{Grammar, word}
+use Rattle.token_grammar.specs.Parts.{ending, dropped, all_of, separated, kept}
+use Rattle.token_grammar.proofs.Shallow.{Shallow, bytes_shallow, read_shallow, seq_shallow, chain_shallow, or_shallow, optional_shallow, behind_shallow}
+use Rattle.msc_events.specs.Multis.{sharers, cover_of, shared_in, join_end, joins}
+use Rattle.msc_events.specs.Declarations.{heading}
 use Rattle.msc_document.specs.Inlines.{closing}
 
 word_shallow : (s : Set) → Shallow (word s)

@@ -7,12 +7,12 @@ use Rattle.msc_tree.specs.declared.chart.Cover.TheVariants.{All, Listed}
 use Rattle.msc_tree.specs.declared.chart.Decl.{Decl}
 use Rattle.msc_tree.specs.declared.reference.InlineForm.{InlineForm}
 use Rattle.msc_tree.specs.Statements.{Item, Items, Statement, Column, Covered, Heading, Ended, items}
-use Rattle.msc_reading.specs.Languages.{Read, ◌>>=◌, just, starts, word_at, each_at, map_at, seq_at, either_at, behind_at}
-use Rattle.msc_reading.specs.Parts.{leads}
-use Rattle.msc_reading.specs.PartReaders.{name_at, lead_at, comma_name_at, ending_at}
-use Rattle.msc_reading.proofs.Optionals.{mapped}
-use Rattle.msc_items.specs.Declarations.{decl_of}
-use Rattle.msc_items.specs.DeclarationReaders.{declaration_at, decl_at}
+use Rattle.token_grammar.specs.Languages.{Read, ◌>>=◌, just, starts, word_at, each_at, map_at, seq_at, either_at, behind_at}
+use Rattle.token_grammar.specs.Parts.{leads}
+use Rattle.token_grammar.specs.PartReaders.{name_at, lead_at, comma_name_at, ending_at}
+use Rattle.token_grammar.proofs.Optionals.{mapped}
+use Rattle.msc_events.specs.Declarations.{decl_of}
+use Rattle.msc_events.specs.DeclarationReaders.{declaration_at, decl_at}
 use Rattle.msc_document.specs.DocumentGrammar.{Line, lead_statement}
 use Rattle.msc_document.specs.DocumentReaders.{State, alone, cover_kind, kind, long, going_at, more_at, event_words, statement_goes_on, statement_at, opening_at, colon_line_at, list_line_at, outside_event_at, outside_multi_at, outside_tails_at, column_at, column_event_at}
 use Rattle.msc_document.specs.ItemReaders.{event_item_at, multi_item_at, more_going_at}

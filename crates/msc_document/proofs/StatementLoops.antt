@@ -3,11 +3,11 @@ use Rattle.std.proofs.Common.{ℕ, zero, suc, ◌≡◌, ◌∙◌, ◌++◌, �
 use Rattle.msc_tokens.specs.declared.token.Token.{Token}
 use Rattle.msc_tree.specs.declared.reference.InlineForm.{InlineForm}
 use Rattle.msc_tree.specs.Statements.{Item, Statement}
-use Rattle.msc_reading.specs.Languages.{Set, Read, among, apart, starts, ◌>>=◌, word_at, each_at, map_at, either_at}
-use Rattle.msc_reading.specs.Rows.{rows_at, goes_on}
-use Rattle.msc_reading.proofs.Lists.{among-append, apart_among}
-use Rattle.msc_reading.proofs.Flats.{Eats}
-use Rattle.msc_reading.proofs.Optionals.{mapped, paired}
+use Rattle.token_grammar.specs.Languages.{Set, Read, among, apart, starts, ◌>>=◌, word_at, each_at, map_at, either_at}
+use Rattle.token_grammar.specs.Rows.{rows_at, goes_on}
+use Rattle.token_grammar.proofs.Lists.{among-append, apart_among}
+use Rattle.token_grammar.proofs.Flats.{Eats}
+use Rattle.token_grammar.proofs.Optionals.{mapped, paired}
 use Rattle.msc_document.specs.DocumentReaders.{State, idle, events, multis, kind, long, more_words, more_seconds, more_at, statement_goes_on, statement_at, going_at, closer_word}
 use Rattle.msc_document.proofs.Lines.{grouped, next_state}
 

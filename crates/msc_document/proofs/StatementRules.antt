@@ -5,19 +5,19 @@ use Rattle.msc_tree.specs.declared.reference.InlineForm.{InlineForm}
 use Rattle.msc_tree.specs.declared.reference.InlineForm.TheVariants.{Alt, Opt, Par, Loop, Exc}
 use Rattle.msc_tree.specs.declared.chart.Cover.TheVariants.{All}
 use Rattle.msc_tree.specs.Statements.{Item, Statement, Covered, items}
-use Rattle.msc_reading.specs.Classes.{token_of}
-use Rattle.msc_reading.specs.Languages.{Set, Read, among, apart, within, starts, second, just, each_at, word_at, ◌>>=◌}
-use Rattle.msc_reading.specs.Rows.{rows_at}
-use Rattle.msc_reading.specs.Grammars.{Grammar, or, read_as, word}
-use Rattle.msc_reading.proofs.Lists.{not_both}
-use Rattle.msc_reading.proofs.Base.{Viable, opening_starts}
-use Rattle.msc_reading.proofs.Flats.{Eats, eats_of, rule_by}
-use Rattle.msc_reading.proofs.Levels.{reads_of, brink_of}
-use Rattle.msc_reading.proofs.Optionals.{none, mapped, paired, behind_law, behind_rule}
-use Rattle.msc_reading.proofs.PartRules.{ends, lead_law, lead_rule, name_list_law, name_list_rule, ending_law, ending_rule}
-use Rattle.msc_reading.proofs.Rows.{Late, rows_law, rows_rule}
-use Rattle.msc_reading.proofs.Rules.{Law, Rule, seq_law, seq_rule, or_law, or_rule, as_law, as_rule}
-use Rattle.msc_items.proofs.DeclarationRules.{declaration_law, declaration_rule}
+use Rattle.token_grammar.specs.Classes.{token_of}
+use Rattle.token_grammar.specs.Languages.{Set, Read, among, apart, within, starts, second, just, each_at, word_at, ◌>>=◌}
+use Rattle.token_grammar.specs.Rows.{rows_at}
+use Rattle.token_grammar.specs.Grammars.{Grammar, or, read_as, word}
+use Rattle.token_grammar.proofs.Lists.{not_both}
+use Rattle.token_grammar.proofs.Base.{Viable, opening_starts}
+use Rattle.token_grammar.proofs.Flats.{Eats, eats_of, rule_by}
+use Rattle.token_grammar.proofs.Levels.{reads_of, brink_of}
+use Rattle.token_grammar.proofs.Optionals.{none, mapped, paired, behind_law, behind_rule}
+use Rattle.token_grammar.proofs.PartRules.{ends, lead_law, lead_rule, name_list_law, name_list_rule, ending_law, ending_rule}
+use Rattle.token_grammar.proofs.Rows.{Late, rows_law, rows_rule}
+use Rattle.token_grammar.proofs.Rules.{Law, Rule, seq_law, seq_rule, or_law, or_rule, as_law, as_rule}
+use Rattle.msc_events.proofs.DeclarationRules.{declaration_law, declaration_rule}
 use Rattle.msc_document.specs.Inlines.{each, before}
 use Rattle.msc_document.specs.DocumentGrammar.{happen, list, declare, finish, lead_statement, covered_of, some, covered, outside_operand}
 use Rattle.msc_document.specs.DocumentReaders.{State, idle, events, multis, kind, long, alone, form_word, event_words, multi_words, closer_word, closer_seconds, opening_words, opening_at, more_words, more_seconds, more_at, statement_goes_on, statement_at, going_at, statements_at, Tails, outside_event_at, outside_multi_at, outside_at, outside_tails_at}

@@ -2,10 +2,10 @@
 use Rattle.std.specs.Prelude.{ℕ, List, [], ◌∷◌, length, Some, None, codes}
 use Rattle.msc_tokens.specs.declared.token.Token.{Token}
 use Rattle.msc_tree.specs.Charts.{Chart, Document}
-use Rattle.msc_reading.specs.Languages.{Read, ◌>>=◌, just, seq_at, either_at, map_at, optional_at}
-use Rattle.msc_reading.specs.Parts.{dropped}
-use Rattle.msc_reading.specs.PartReaders.{name_at, ending_at, placed_at, more_at}
-use Rattle.msc_items.specs.DeclarationReaders.{heading_at, heads_at}
+use Rattle.token_grammar.specs.Languages.{Read, ◌>>=◌, just, seq_at, either_at, map_at, optional_at}
+use Rattle.token_grammar.specs.Parts.{dropped}
+use Rattle.token_grammar.specs.PartReaders.{name_at, ending_at, placed_at, more_at}
+use Rattle.msc_events.specs.DeclarationReaders.{heading_at, heads_at}
 use Rattle.msc_document.specs.DocumentGrammar.{chart_of}
 use Rattle.msc_document.specs.DocumentReaders.{content_at, chart_at, document_end_at, empty_document}
 

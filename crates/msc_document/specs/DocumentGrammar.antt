@@ -9,13 +9,13 @@ use Rattle.msc_tree.specs.Charts.{Chart, Content, Document, Basic, HighLevel}
 use Rattle.msc_tree.specs.Expressions.{Expression}
 use Rattle.msc_tree.specs.Statements.{Item, Operand, Statement, Reference, Single, Coregion, Condition, Refer, Stop, InColumn, Outside, Column, Covered, Heading, Ended, items, statements}
 use Rattle.msc_tree.specs.Statements as tree
-use Rattle.msc_reading.specs.Languages.{just}
-use Rattle.msc_reading.specs.Grammars.{Grammar, Inner, shut, inner, seq, or, read_as, chain, optional, behind}
-use Rattle.msc_reading.specs.Parts.{name, ending, kept, all_or_none, all_of, placed, lead, name_list}
-use Rattle.msc_items.specs.Declarations.{heading, decl, decl_of, declaration, head, declared_by}
-use Rattle.msc_items.specs.Events.{single, coregion, stop}
-use Rattle.msc_items.specs.Multis.{shared_in, condition, joins}
-use Rattle.msc_items.specs.declared.head_parts.Heads.{Heads}
+use Rattle.token_grammar.specs.Languages.{just}
+use Rattle.token_grammar.specs.Grammars.{Grammar, Inner, shut, inner, seq, or, read_as, chain, optional, behind}
+use Rattle.token_grammar.specs.Parts.{name, ending, kept, all_or_none, all_of, placed, lead, name_list}
+use Rattle.msc_events.specs.Declarations.{heading, decl, decl_of, declaration, head, declared_by}
+use Rattle.msc_events.specs.Events.{single, coregion, stop}
+use Rattle.msc_events.specs.Multis.{shared_in, condition, joins}
+use Rattle.msc_events.specs.declared.head_parts.Heads.{Heads}
 use Rattle.msc_expression.specs.ExpressionGrammar.{expression}
 use Rattle.msc_expression.specs.GraphGrammar.{chart_graph}
 use Rattle.msc_document.specs.Inlines.{each, Naming, inline}

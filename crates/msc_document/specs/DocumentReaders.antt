@@ -12,14 +12,14 @@ use Rattle.msc_tree.specs.Charts.{Chart, Content, Document, Basic, HighLevel}
 use Rattle.msc_tree.specs.Expressions.{Expression}
 use Rattle.msc_tree.specs.Statements.{Item, Operand, Statement, Reference, Single, Coregion, Condition, Refer, Stop, Column, Covered, item_list}
 use Rattle.msc_tree.specs.Statements as tree
-use Rattle.msc_reading.specs.Languages.{Set, Read, just, names, ◌>>=◌, word_at, each_at, chain_at, tail_at, seq_at, either_at, map_at, until_at, optional_at, behind_at, second_at, opens_at}
-use Rattle.msc_reading.specs.Rows.{goes_on}
-use Rattle.msc_reading.specs.Parts.{kept, all_or_none, leads}
-use Rattle.msc_reading.specs.PartReaders.{name_at, lead_at, name_list_at, ending_at, placed_at}
-use Rattle.msc_items.specs.Declarations.{declared_by}
-use Rattle.msc_items.specs.DeclarationReaders.{heading_at, decl_at, declaration_at, head_at, head_words}
-use Rattle.msc_items.specs.EventReaders.{single_at, single_words, coregion_at, stop_at}
-use Rattle.msc_items.specs.MultiReaders.{shared_in_at, condition_at, joins_at}
+use Rattle.token_grammar.specs.Languages.{Set, Read, just, names, ◌>>=◌, word_at, each_at, chain_at, tail_at, seq_at, either_at, map_at, until_at, optional_at, behind_at, second_at, opens_at}
+use Rattle.token_grammar.specs.Rows.{goes_on}
+use Rattle.token_grammar.specs.Parts.{kept, all_or_none, leads}
+use Rattle.token_grammar.specs.PartReaders.{name_at, lead_at, name_list_at, ending_at, placed_at}
+use Rattle.msc_events.specs.Declarations.{declared_by}
+use Rattle.msc_events.specs.DeclarationReaders.{heading_at, decl_at, declaration_at, head_at, head_words}
+use Rattle.msc_events.specs.EventReaders.{single_at, single_words, coregion_at, stop_at}
+use Rattle.msc_events.specs.MultiReaders.{shared_in_at, condition_at, joins_at}
 use Rattle.msc_expression.specs.Bounds.{loop_bounds_at}
 use Rattle.msc_expression.specs.ExpressionReaders.{expression_at}
 use Rattle.msc_expression.specs.GraphReaders.{chart_graph_at}

@@ -4,10 +4,10 @@ use Rattle.msc_base.specs.declared.place.Place.{Place}
 use Rattle.msc_tokens.specs.declared.token.Token.{Token}
 use Rattle.msc_tree.specs.declared.chart.RawDocument.{RawDocument}
 use Rattle.msc_tree.specs.Views.{document_view}
-use Rattle.msc_reading.specs.Grammars.{Grammar}
-use Rattle.msc_reading.specs.Parsing.{IsRefused, IsTooDeep}
+use Rattle.token_grammar.specs.Grammars.{Grammar}
+use Rattle.token_grammar.specs.Parsing.{IsRefused, IsTooDeep}
 use Rattle.msc_grammar.specs.declared.fault.ParseFault.{ParseFault}
-use Rattle.msc_grammar.specs.declared.fault.ParseFault.TheVariants.{Deep, NoMemory}
+use Rattle.msc_grammar.specs.declared.fault.ParseFault.TheVariants.{TooDeep, NoMemory}
 use Rattle.msc_grammar.specs.Refused.{fault_at}
 use Rattle.msc_document.specs.DocumentGrammar.{document}
 
@@ -22,7 +22,7 @@ pub record RefusesAt {A : Type 0} (R : ℕ → Grammar A) (levels : ℕ) (tokens
 pub record OpensAt {A : Type 0} (R : ℕ → Grammar A) (levels : ℕ) (tokens : List Token) (fault : ParseFault) : Type 0 where
   pub left : ℕ
   pub first : IsTooDeep R levels tokens left
-  pub at : fault ≡ Deep first.token.place
+  pub at : fault ≡ TooDeep first.token.place
 
 abbrev pub IsFault : {A : Type 0} → (ℕ → Grammar A) → ℕ → List Token → Place → ParseFault → Type 0
 IsFault R levels tokens end fault = RefusesAt R levels tokens end fault ⊎ OpensAt R levels tokens fault

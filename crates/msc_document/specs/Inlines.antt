@@ -7,10 +7,10 @@ use Rattle.msc_tree.specs.declared.reference.InlineForm.{InlineForm}
 use Rattle.msc_tree.specs.declared.reference.InlineForm.TheVariants.{Alt, Opt, Par, Loop, Exc}
 use Rattle.msc_tree.specs.Statements.{Item, Inline, InlineHead, Operand, Operands, operands}
 use Rattle.msc_tree.specs.Statements as tree
-use Rattle.msc_reading.specs.Languages.{Set, just}
-use Rattle.msc_reading.specs.Languages as rules
-use Rattle.msc_reading.specs.Grammars.{Grammar, Inner, inside, seq, or, read_as, until, behind, behind_each, opens}
-use Rattle.msc_reading.specs.Parts.{ending, placed}
+use Rattle.token_grammar.specs.Languages.{Set, just}
+use Rattle.token_grammar.specs.Languages as rules
+use Rattle.token_grammar.specs.Grammars.{Grammar, Inner, inside, seq, or, read_as, until, behind, behind_each, opens}
+use Rattle.token_grammar.specs.Parts.{ending, placed}
 use Rattle.msc_expression.specs.declared.bounds.Bounds.{Bounds}
 use Rattle.msc_expression.specs.Bounds.{with_bounds}
 

@@ -6,9 +6,9 @@ use Rattle.msc_tree.specs.declared.reference.InlineForm.{InlineForm}
 use Rattle.msc_tree.specs.declared.reference.InlineForm.TheVariants.{Alt, Opt, Par, Loop, Exc}
 use Rattle.msc_tree.specs.Statements.{Item, Operand, Inline, operands}
 use Rattle.msc_tree.specs.Statements as tree
-use Rattle.msc_reading.specs.Languages.{Read, ◌>>=◌, just, seq_at, either_at, map_at}
-use Rattle.msc_reading.specs.PartReaders.{placed_at, more_at}
-use Rattle.msc_items.specs.EventReaders.{single_words}
+use Rattle.token_grammar.specs.Languages.{Read, ◌>>=◌, just, seq_at, either_at, map_at}
+use Rattle.token_grammar.specs.PartReaders.{placed_at, more_at}
+use Rattle.msc_events.specs.EventReaders.{single_words}
 use Rattle.msc_expression.specs.Bounds.{loop_bounds_at}
 use Rattle.msc_expression.specs.ExpressionReaders.{expression_at}
 use Rattle.msc_expression.specs.Levels.{within_at}
@@ -57,7 +57,7 @@ event_item_at column n = either_at single_words single_item_at (either_at (just 
 
 -- at most so many while they go on, behind those that there are
 abbrev pub more_going_at : {A : Type 0} → (List Token → Bool) → (List Token → Read A) → List A → ℕ → List Token → Read (List A)
-more_going_at goes q front k ts = going_at goes q k ts >>= λ x. Ok (front ++ x.0, x.1)
+more_going_at goes q prefix k ts = going_at goes q k ts >>= λ x. Ok (prefix ++ x.0, x.1)
 
 -- operands one by one, and the last end
 abbrev pub listed_operands_at : {A : Type 0} → (List Token → Read A) → List Token → Read (List A)

@@ -6,10 +6,10 @@ use Rattle.msc_tree.specs.declared.chart.Cover.{Cover}
 use Rattle.msc_tree.specs.declared.chart.Cover.TheVariants.{All, Listed}
 use Rattle.msc_tree.specs.declared.reference.InlineForm.{InlineForm}
 use Rattle.msc_tree.specs.Statements.{Item, Statement, Covered, Heading, Ended, items}
-use Rattle.msc_reading.specs.Languages.{Set, Read, ◌>>=◌, just, starts, word_at, map_at, behind_at}
-use Rattle.msc_reading.specs.Parts.{leads}
-use Rattle.msc_reading.specs.PartReaders.{name_at, lead_at, more_names_at, ending_at}
-use Rattle.msc_items.specs.DeclarationReaders.{declared_at}
+use Rattle.token_grammar.specs.Languages.{Set, Read, ◌>>=◌, just, starts, word_at, map_at, behind_at}
+use Rattle.token_grammar.specs.Parts.{leads}
+use Rattle.token_grammar.specs.PartReaders.{name_at, lead_at, more_names_at, ending_at}
+use Rattle.msc_events.specs.DeclarationReaders.{declared_at}
 use Rattle.msc_document.specs.DocumentReaders.{State, events, multis, alone, event_words, opening_words, chart_words, statement_goes_on, statement_at, statements_at, outside_event_at, outside_multi_at, outside_tails_at, covered_opening_at, chart_opening_at, instance_at}
 use Rattle.msc_document.specs.DocumentReaders as document
 use Rattle.msc_document.specs.ItemReaders.{more_going_at}

@@ -1,14 +1,14 @@
 ghost use Rattle.std.specs.Prelude.{◌≡◌, ◌++◌, map, codes};
 ghost use Rattle.msc_tree.specs.Views.{content_view, chart_view};
-ghost use Rattle.msc_reading.specs.Answers.{Gives};
-ghost use Rattle.msc_reading.specs.Languages.{starts, just};
+ghost use Rattle.token_grammar.specs.Answers.{Gives};
+ghost use Rattle.token_grammar.specs.Languages.{starts, just};
 ghost use Rattle.msc_document.specs.DocumentReaders.{chart_words, chart_end_at, content_at, chart_at};
 ghost use Rattle.msc_document.specs.ChartReaders.{chart_parts_at};
 
 use crate::statements::chart_statements;
 use msc_expression::graph;
-use msc_items::heads;
-use msc_reading::{
+use msc_events::heads;
+use token_grammar::{
     ReadFault, ending, own_name, starts_with, starts_with_either, starts_with_lead, word,
 };
 use msc_tokens::Token;

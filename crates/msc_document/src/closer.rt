@@ -1,11 +1,11 @@
 ghost use Rattle.std.specs.Prelude.{◌≡◌};
-ghost use Rattle.msc_reading.specs.Answers.{Gives};
-ghost use Rattle.msc_reading.specs.Languages.{starts, word_at};
+ghost use Rattle.token_grammar.specs.Answers.{Gives};
+ghost use Rattle.token_grammar.specs.Languages.{starts, word_at};
 ghost use Rattle.msc_document.specs.DocumentReaders as specs;
 ghost use Rattle.msc_document.specs.StatementReaders.{state_of, statement_words};
 
 use crate::starts::{starts_with_event, starts_with_multi, word_of};
-use msc_reading::{ReadFault, starts_with, starts_with_either, starts_with_lead, word};
+use token_grammar::{ReadFault, starts_with, starts_with_either, starts_with_lead, word};
 use msc_tokens::Token;
 use msc_tree::InlineForm;
 

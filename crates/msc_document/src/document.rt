@@ -1,12 +1,12 @@
 ghost use Rattle.std.specs.Prelude.{◌≡◌, [], ◌∷◌, length, map, codes};
 ghost use Rattle.msc_tree.specs.Views.{chart_view, document_view};
-ghost use Rattle.msc_reading.specs.Answers.{Gives};
+ghost use Rattle.token_grammar.specs.Answers.{Gives};
 ghost use Rattle.msc_document.specs.DocumentReaders.{document_end_at, document_at};
 ghost use Rattle.msc_document.specs.ChartReaders.{more_charts_at, charts_at, some_charts_at, some_end_at, headed_at, unheaded_at, some_document_at};
 
 use crate::chart::chart;
-use msc_items::heading;
-use msc_reading::{ReadFault, ending, starts_with, word};
+use msc_events::heading;
+use token_grammar::{ReadFault, ending, starts_with, word};
 use msc_tokens::Token;
 use msc_tree::{RawChart, RawDocument};
 use std::alloc::Global;
@@ -16,11 +16,11 @@ fn more_charts(
     alloc: Global,
     tokens: &[Token],
     levels: usize,
-    front: Vec<RawChart>,
+    prefix: Vec<RawChart>,
 ) -> Result<(Vec<RawChart>, &[Token]), ReadFault>
-    ensures { Gives (λ x. (map chart_view x.0.items, x.1.now)) result (more_charts_at levels (map chart_view front.items) (length tokens.now) tokens.now) }
+    ensures { Gives (λ x. (map chart_view x.0.items, x.1.now)) result (more_charts_at levels (map chart_view prefix.items) (length tokens.now) tokens.now) }
 {
-    let mut charts = front;
+    let mut charts = prefix;
     let mut rest = tokens;
     for _k in 0..tokens.len() {
         if !starts_with(rest, "msc") {
@@ -57,9 +57,9 @@ fn some_charts(
     ensures { Gives (λ x. (map chart_view x.0.items, x.1.now)) result (some_charts_at levels tokens.now) }
 {
     let (first, rest) = chart(alloc, tokens, levels)?;
-    let mut front = Vec::new(alloc);
-    front.push(first)?;
-    more_charts(alloc, rest, levels, front)
+    let mut prefix = Vec::new(alloc);
+    prefix.push(first)?;
+    more_charts(alloc, rest, levels, prefix)
 }
 
 /// The end of a document.

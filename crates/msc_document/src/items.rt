@@ -1,8 +1,8 @@
 ghost use Rattle.std.specs.Prelude.{◌≡◌, [], length, map};
 ghost use Rattle.msc_tree.specs.Views.{item_view, operand_view, statement_view};
-ghost use Rattle.msc_reading.specs.Answers.{Gives};
-ghost use Rattle.msc_reading.specs.Languages.{map_at};
-ghost use Rattle.msc_reading.specs.PartReaders.{more_at};
+ghost use Rattle.token_grammar.specs.Answers.{Gives};
+ghost use Rattle.token_grammar.specs.Languages.{map_at};
+ghost use Rattle.token_grammar.specs.PartReaders.{more_at};
 ghost use Rattle.msc_document.specs.DocumentReaders.{alone, column_at, column_event_at, column_goes_on, end_words, instance_at, next_part_at, operands_at, several_at, single_operand_at, statement_goes_on};
 ghost use Rattle.msc_document.specs.ItemReaders.{event_item_at, multi_item_at, inline_item_at, inline_form_at, inline_tail_at, level_at, inline_body_at, listed_operands_at, operand_at, more_going_at};
 ghost use Rattle.msc_document.specs.StatementReaders.{state_of, outside_item_at, run_at, colon_form_at, list_form_at, led_form_at, covered_form_at, statement_words, any_statement_at, some_statements_at, statement_form_at};
@@ -16,8 +16,8 @@ use crate::naming::{closing, naming};
 use crate::starts::{starts_with_event, starts_with_form, starts_with_multi};
 use msc_base::{Name, Names, Place};
 use msc_expression::{Bounds, loop_bounds, open};
-use msc_items::{decl, starts_with_single};
-use msc_reading::{
+use msc_events::{decl, starts_with_single};
+use token_grammar::{
     ReadFault, ending, placed_lead, starts_with, starts_with_either, starts_with_lead, word,
 };
 use msc_tokens::Token;
@@ -234,9 +234,9 @@ fn listed(
     ensures { Gives (λ x. (map operand_view x.0.items, x.1.now)) result (listed_operands_at (operand_at column form levels) tokens.now) }
 {
     let (first, rest) = operand(alloc, tokens, levels, column, form)?;
-    let mut front = Vec::new(alloc);
-    front.push(first)?;
-    let (operands, rest) = more_operands(alloc, rest, levels, column, form, front)?;
+    let mut prefix = Vec::new(alloc);
+    prefix.push(first)?;
+    let (operands, rest) = more_operands(alloc, rest, levels, column, form, prefix)?;
     let rest = closing(rest)?;
     Ok((operands, rest))
 }
@@ -249,11 +249,11 @@ fn more_operands(
     levels: usize,
     column: bool,
     form: InlineForm,
-    front: Vec<RawOperand>,
+    prefix: Vec<RawOperand>,
 ) -> Result<(Vec<RawOperand>, &[Token]), ReadFault>
-    ensures { Gives (λ x. (map operand_view x.0.items, x.1.now)) result (more_at end_words (next_part_at (operand_at column form levels)) (map operand_view front.items) (length tokens.now) tokens.now) }
+    ensures { Gives (λ x. (map operand_view x.0.items, x.1.now)) result (more_at end_words (next_part_at (operand_at column form levels)) (map operand_view prefix.items) (length tokens.now) tokens.now) }
 {
-    let mut operands = front;
+    let mut operands = prefix;
     let mut rest = tokens;
     for _k in 0..tokens.len() {
         if !starts_with_either(rest, "comment", ";") {
@@ -547,11 +547,11 @@ fn more_items(
     levels: usize,
     closer: Option<InlineForm>,
     any: bool,
-    front: Vec<RawItem>,
+    prefix: Vec<RawItem>,
 ) -> Result<(Vec<RawItem>, &[Token]), ReadFault>
-    ensures { Gives (λ x. (map item_view x.0.items, x.1.now)) result (more_going_at (statement_goes_on closer (state_of any)) (outside_item_at levels any) (map item_view front.items) (length tokens.now) tokens.now) }
+    ensures { Gives (λ x. (map item_view x.0.items, x.1.now)) result (more_going_at (statement_goes_on closer (state_of any)) (outside_item_at levels any) (map item_view prefix.items) (length tokens.now) tokens.now) }
 {
-    let mut items = front;
+    let mut items = prefix;
     let mut rest = tokens;
     for _k in 0..tokens.len() {
         if !statement_goes_on(rest, any, closer) {

@@ -1,7 +1,7 @@
 ghost use Rattle.std.specs.Prelude.{ℕ, List};
 ghost use Rattle.msc_tokens.specs.declared.token.Token.{Token};
-ghost use Rattle.msc_reading.specs.Parsing.{OneReading};
-ghost use Rattle.msc_reading.specs.Exactness.{IsExact};
+ghost use Rattle.token_grammar.specs.Parsing.{OneReading};
+ghost use Rattle.token_grammar.specs.Exactness.{IsExact};
 ghost use Rattle.msc_document.specs.DocumentGrammar.{document};
 ghost use Rattle.msc_document.specs.DocumentReaders.{document_at};
 

@@ -1,15 +1,15 @@
 ghost use Rattle.std.specs.Prelude.{◌≡◌, map, codes};
 ghost use Rattle.msc_tree.specs.Statements.{Column, Covered, Heading, Ended, items};
 ghost use Rattle.msc_tree.specs.Views.{item_view, statement_view};
-ghost use Rattle.msc_reading.specs.Answers.{Gives};
-ghost use Rattle.msc_reading.specs.Languages.{just, map_at, behind_at};
-ghost use Rattle.msc_reading.specs.PartReaders.{ending_at};
-ghost use Rattle.msc_items.specs.DeclarationReaders.{declared_at};
+ghost use Rattle.token_grammar.specs.Answers.{Gives};
+ghost use Rattle.token_grammar.specs.Languages.{just, map_at, behind_at};
+ghost use Rattle.token_grammar.specs.PartReaders.{ending_at};
+ghost use Rattle.msc_events.specs.DeclarationReaders.{declared_at};
 ghost use Rattle.msc_document.specs.StatementReaders.{other_names_at};
 
 use msc_base::{Items, Name, Names, Place};
-use msc_items::declared;
-use msc_reading::{ReadFault, ending, more_names, own_name, word};
+use msc_events::declared;
+use token_grammar::{ReadFault, ending, more_names, own_name, word};
 use msc_tokens::Token;
 use msc_tree::{Cover, Decl, RawItem, Statement};
 use std::alloc::Global;

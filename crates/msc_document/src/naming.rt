@@ -1,10 +1,10 @@
 ghost use Rattle.std.specs.Prelude.{◌≡◌};
-ghost use Rattle.msc_reading.specs.Answers.{Gives};
+ghost use Rattle.token_grammar.specs.Answers.{Gives};
 ghost use Rattle.msc_document.specs.DocumentReaders.{some_name_at, naming_at, closing_at};
 
 use msc_base::Name;
-use msc_items::shared_in;
-use msc_reading::{ReadFault, ending, own_name, starts_with_name, word};
+use msc_events::shared_in;
+use token_grammar::{ReadFault, ending, own_name, starts_with_name, word};
 use msc_tokens::Token;
 use msc_tree::Cover;
 use std::alloc::Global;

@@ -3,7 +3,7 @@ ghost use Rattle.msc_tokens.specs.declared.token.Token.{Token};
 ghost use Rattle.msc_tree.specs.Charts.{Document};
 ghost use Rattle.msc_tree.specs.Views.{document_view};
 ghost use Rattle.msc_grammar.specs.declared.fault.ParseFault.{ParseFault};
-ghost use Rattle.msc_grammar.specs.declared.fault.ParseFault.TheVariants.{Deep};
+ghost use Rattle.msc_grammar.specs.declared.fault.ParseFault.TheVariants.{TooDeep};
 ghost use Rattle.msc_grammar.specs.Refused.{fault_at, fault_by, form_of};
 ghost use Rattle.msc_grammar.specs.Refusals.{IsRefusal};
 ghost use Rattle.msc_document.specs.DocumentGrammar.{document};
@@ -12,7 +12,7 @@ ghost use Rattle.msc_document.specs.Faults.{IsFault, IsAnswer};
 use crate::document::document;
 use msc_base::Place;
 use msc_grammar::{ParseFault, form_of};
-use msc_reading::ReadFault;
+use token_grammar::ReadFault;
 use msc_tokens::{Token, TokenList};
 use msc_tree::RawDocument;
 use std::alloc::Global;
@@ -29,7 +29,7 @@ fn refusal_of(token: &Token) -> ParseFault
 
 /// The refusal of the first of the last so many tokens, or of the text's end where there is none.
 fn refusal(tokens: &[Token], left: usize, end: Place) -> ParseFault
-    ensures { (front rest : List Token) → tokens.now ≡ front ++ rest → left ≡ length rest → result ≡ fault_at rest end }
+    ensures { (prefix rest : List Token) → tokens.now ≡ prefix ++ rest → left ≡ length rest → result ≡ fault_at rest end }
 {
     if left > tokens.len() {
         return ParseFault::Syntax(end);
@@ -43,15 +43,15 @@ fn refusal(tokens: &[Token], left: usize, end: Place) -> ParseFault
 
 /// That the first of the last so many tokens opens a level too many.
 fn too_deep(tokens: &[Token], left: usize, end: Place) -> ParseFault
-    ensures { (front rest : List Token) (token : Token) → tokens.now ≡ front ++ token ∷ rest → left ≡ length (token ∷ rest) → result ≡ Deep token.place }
+    ensures { (prefix rest : List Token) (token : Token) → tokens.now ≡ prefix ++ token ∷ rest → left ≡ length (token ∷ rest) → result ≡ TooDeep token.place }
 {
     if left > tokens.len() {
-        return ParseFault::Deep(end);
+        return ParseFault::TooDeep(end);
     }
     let rest = &tokens[tokens.len() - left..];
     match rest.split_first() {
-        Some((token, _)) => ParseFault::Deep(token.place),
-        None => ParseFault::Deep(end),
+        Some((token, _)) => ParseFault::TooDeep(token.place),
+        None => ParseFault::TooDeep(end),
     }
 }
 
@@ -73,7 +73,7 @@ fn read_document(
             }
         }
         Err(ReadFault::Refused(left)) => Err(refusal(tokens, left, end)),
-        Err(ReadFault::Deep(left)) => Err(too_deep(tokens, left, end)),
+        Err(ReadFault::TooDeep(left)) => Err(too_deep(tokens, left, end)),
         Err(ReadFault::NoMemory) => Err(ParseFault::NoMemory),
     }
 }
@@ -82,7 +82,7 @@ fn read_document(
 /// and so does each parenthesis, `loop` and `opt` of a reference's expression and each `expr` of a frame.
 ///
 /// Where they are none, the first fault is answered: the token with which they begin no document, or the text's end
-/// where they are only a front of one, or the token that opens level 65.
+/// where they are only a prefix of one, or the token that opens level 65.
 pub fn parse(alloc: Global, tokens: &TokenList) -> Result<RawDocument, ParseFault>
     ensures ok { IfOk result (λ read. (document 64).reads tokens.now.tokens (document_view read)) }
     ensures only { IfOk result (λ read. (levels : ℕ) (other : Document) → (document levels).reads tokens.now.tokens other → other ≡ document_view read) }

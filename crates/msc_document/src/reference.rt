@@ -1,14 +1,14 @@
 ghost use Rattle.std.specs.Prelude.{◌≡◌, codes};
 ghost use Rattle.msc_tree.specs.Views.{expression_view, reference_view};
-ghost use Rattle.msc_reading.specs.Answers.{Gives};
-ghost use Rattle.msc_reading.specs.Languages.{just, names, second};
+ghost use Rattle.token_grammar.specs.Answers.{Gives};
+ghost use Rattle.token_grammar.specs.Languages.{just, names, second};
 ghost use Rattle.msc_expression.specs.ExpressionReaders.{expression_at};
 ghost use Rattle.msc_document.specs.DocumentReaders as specs;
 
 use msc_base::Place;
 use msc_expression::expression;
-use msc_items::{joins, shared_in};
-use msc_reading::{ReadFault, ending, own_name, starts_with, starts_with_name, word};
+use msc_events::{joins, shared_in};
+use token_grammar::{ReadFault, ending, own_name, starts_with, starts_with_name, word};
 use msc_tokens::Token;
 use msc_tree::{Cover, JoinList, RawReference, RefExpr};
 use std::alloc::Global;

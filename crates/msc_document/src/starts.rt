@@ -1,9 +1,9 @@
 ghost use Rattle.std.specs.Prelude.{◌≡◌};
-ghost use Rattle.msc_reading.specs.Languages.{starts, just};
+ghost use Rattle.token_grammar.specs.Languages.{starts, just};
 ghost use Rattle.msc_document.specs.DocumentReaders as specs;
 
-use msc_items::starts_with_single;
-use msc_reading::{starts_with, starts_with_either};
+use msc_events::starts_with_single;
+use token_grammar::{starts_with, starts_with_either};
 use msc_tokens::Token;
 use msc_tree::InlineForm;
 

@@ -1,10 +1,10 @@
 ghost use Rattle.std.specs.Prelude.{◌≡◌, map};
 ghost use Rattle.msc_tree.specs.Views.{statement_view};
-ghost use Rattle.msc_reading.specs.Answers.{Gives};
+ghost use Rattle.token_grammar.specs.Answers.{Gives};
 ghost use Rattle.msc_document.specs.DocumentReaders.{chart_statements_at};
 
 use crate::items::statements;
-use msc_reading::ReadFault;
+use token_grammar::ReadFault;
 use msc_tokens::Token;
 use msc_tree::Statement;
 use std::alloc::Global;

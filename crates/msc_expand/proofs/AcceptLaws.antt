@@ -3,17 +3,17 @@ use Rattle.std.proofs.Common.{◌≡◌, ℕ, ◌≤◌, inl, inr, List, [], ◌
 use Rattle.msc_base.specs.declared.limits.TheConstants.Limits.{CHARTS}
 use Rattle.msc_base.specs.declared.place.Place.{Place}
 use Rattle.msc_tree.specs.Charts.{Document}
-use Rattle.msc_grammar.specs.declared.rule.Rule.{Rule}
-use Rattle.item_order.specs.declared.first_fault.Broken.{Broken}
-use Rattle.item_order.specs.FirstFaults.{IsOf, IsInSome, AreGroups, IsFirst, IsFaultless, Keeps}
-use Rattle.item_order.specs.Places.{IsNoLater}
-use Rattle.item_order.proofs.FirstOnes.{first_fault, faultless, one_first_fault}
+use Rattle.msc_rules.specs.declared.rule.Rule.{Rule}
+use Rattle.msc_rules.specs.declared.first_fault.Broken.{Broken}
+use Rattle.msc_rules.specs.FirstFaults.{IsOf, IsInSome, AreGroups, IsFirst, IsFaultless, Keeps}
+use Rattle.msc_base.specs.Places.{IsNoLater}
+use Rattle.msc_rules.proofs.FirstOnes.{first_fault, faultless, one_first_fault}
 use Rattle.msc_expand.specs.declared.check.Check.{Check}
-use Rattle.msc_expand.specs.declared.check.Check.TheVariants.{Unbuilt, Charts, Instances, TwiceNamed, Undeclared, Size, Total, Unmatched, Early}
+use Rattle.msc_expand.specs.declared.check.Check.TheVariants.{NotBuilt, Charts, Instances, NamedTwice, Undeclared, Size, Total, Unmatched, Early}
 use Rattle.msc_expand.specs.declared.plain_chart.PlainChart.{PlainChart}
 use Rattle.msc_expand.specs.Acceptance.{number_of, group_of, rule_of, Breaks, BreaksOf, HasFault, IsAccepted, ArePlainOf}
 use Rattle.msc_expand.specs.Deciding.{names, sizes, messages, inputs, later_groups, all_groups, AllKept}
-use Rattle.msc_expand.specs.Forms.{unbuilt_chart}
+use Rattle.msc_expand.specs.Forms.{not_built_chart}
 use Rattle.msc_expand.specs.Outlines.{outline_of}
 use Rattle.msc_expand.specs.Plain.{IsPlain}
 use Rattle.msc_expand.proofs.ChartLaws.{all_plain, same_charts}
@@ -23,15 +23,15 @@ use Rattle.msc_expand.proofs.SoundLaws.{charts_sound}
 -- ---- numbers and groups
 
 decoded : ℕ → Check
-decoded n = if nat_eq n 41 then Unbuilt else (if nat_eq n 9 then Charts else (if nat_eq n 10 then Instances else (if nat_eq n 13 then TwiceNamed else (if nat_eq n 14 then Undeclared
+decoded n = if nat_eq n 41 then NotBuilt else (if nat_eq n 9 then Charts else (if nat_eq n 10 then Instances else (if nat_eq n 13 then NamedTwice else (if nat_eq n 14 then Undeclared
     else (if nat_eq n 19 then Size else (if nat_eq n 20 then Total else (if nat_eq n 25 then Unmatched else Early)))))))
 
 decodes : (c : Check) → decoded (number_of c) ≡ c
 unfolding decoded
-decodes Unbuilt = refl
+decodes NotBuilt = refl
 decodes Charts = refl
 decodes Instances = refl
-decodes TwiceNamed = refl
+decodes NamedTwice = refl
 decodes Undeclared = refl
 decodes Size = refl
 decodes Total = refl
@@ -57,21 +57,21 @@ low_sizes : (s : Check) → IsInSome (sizes ∷ messages ∷ inputs ∷ []) s �
 low_sizes s h = elim h [ inl m ↦ omega (arith, in_two Size Total s refl m) | inr r ↦ omega (arith, low_messages s r) ]
 
 low_names : (s : Check) → IsInSome (names ∷ sizes ∷ messages ∷ inputs ∷ []) s → 2 ≤ group_of s
-low_names s h = elim h [ inl m ↦ omega (arith, in_two TwiceNamed Undeclared s refl m) | inr r ↦ omega (arith, low_sizes s r) ]
+low_names s h = elim h [ inl m ↦ omega (arith, in_two NamedTwice Undeclared s refl m) | inr r ↦ omega (arith, low_sizes s r) ]
 
 low_limits : (s : Check) → IsInSome later_groups s → 1 ≤ group_of s
 low_limits s h = elim h [ inl m ↦ omega (arith, in_two Charts Instances s refl m) | inr r ↦ omega (arith, low_names s r) ]
 
 are_groups : AreGroups group_of all_groups
 are_groups = (
-  λ r s m n. in_one Unbuilt r m ∙ sym (in_one Unbuilt s n),
-  λ r s m n. omega (arith, in_one Unbuilt r m, low_limits s n),
+  λ r s m n. in_one NotBuilt r m ∙ sym (in_one NotBuilt s n),
+  λ r s m n. omega (arith, in_one NotBuilt r m, low_limits s n),
   (
     λ r s m n. in_two Charts Instances r refl m ∙ sym (in_two Charts Instances s refl n),
     λ r s m n. omega (arith, in_two Charts Instances r refl m, low_names s n),
     (
-      λ r s m n. in_two TwiceNamed Undeclared r refl m ∙ sym (in_two TwiceNamed Undeclared s refl n),
-      λ r s m n. omega (arith, in_two TwiceNamed Undeclared r refl m, low_sizes s n),
+      λ r s m n. in_two NamedTwice Undeclared r refl m ∙ sym (in_two NamedTwice Undeclared s refl n),
+      λ r s m n. omega (arith, in_two NamedTwice Undeclared r refl m, low_sizes s n),
       (
         λ r s m n. in_two Size Total r refl m ∙ sym (in_two Size Total s refl n),
         λ r s m n. omega (arith, in_two Size Total r refl m, low_messages s n),
@@ -86,10 +86,10 @@ are_groups = (
 )
 
 in_some : (c : Check) → IsInSome all_groups c
-in_some Unbuilt = inl (inl refl)
+in_some NotBuilt = inl (inl refl)
 in_some Charts = inr (inl (inl refl))
 in_some Instances = inr (inl (inr (inl refl)))
-in_some TwiceNamed = inr (inr (inl (inl refl)))
+in_some NamedTwice = inr (inr (inl (inl refl)))
 in_some Undeclared = inr (inr (inl (inr (inl refl))))
 in_some Size = inr (inr (inr (inl (inl refl))))
 in_some Total = inr (inr (inr (inl (inr (inl refl)))))
@@ -98,25 +98,25 @@ in_some Early = inr (inr (inr (inr (inr (inl (inl refl))))))
 
 -- ---- outlines and documents
 
-later : (s : Check) → IsInSome later_groups s → s ≡ Unbuilt → ⊥
+later : (s : Check) → IsInSome later_groups s → s ≡ NotBuilt → ⊥
 later s h e = omega (arith, low_limits s h, ap group_of e)
 
-of_document : (d : Document) (s : Check) (p : Place) → (s ≡ Unbuilt → ⊥) → BreaksOf (map outline_of d.charts) s p → Breaks d s p
-of_document d Unbuilt p ne b = absurd (ne refl)
+of_document : (d : Document) (s : Check) (p : Place) → (s ≡ NotBuilt → ⊥) → BreaksOf (map outline_of d.charts) s p → Breaks d s p
+of_document d NotBuilt p ne b = absurd (ne refl)
 of_document d Charts p ne b = b
 of_document d Instances p ne b = b
-of_document d TwiceNamed p ne b = b
+of_document d NamedTwice p ne b = b
 of_document d Undeclared p ne b = b
 of_document d Size p ne b = b
 of_document d Total p ne b = b
 of_document d Unmatched p ne b = b
 of_document d Early p ne b = b
 
-of_outlines : (d : Document) (s : Check) (p : Place) → (s ≡ Unbuilt → ⊥) → Breaks d s p → BreaksOf (map outline_of d.charts) s p
-of_outlines d Unbuilt p ne b = absurd (ne refl)
+of_outlines : (d : Document) (s : Check) (p : Place) → (s ≡ NotBuilt → ⊥) → Breaks d s p → BreaksOf (map outline_of d.charts) s p
+of_outlines d NotBuilt p ne b = absurd (ne refl)
 of_outlines d Charts p ne b = b
 of_outlines d Instances p ne b = b
-of_outlines d TwiceNamed p ne b = b
+of_outlines d NamedTwice p ne b = b
 of_outlines d Undeclared p ne b = b
 of_outlines d Size p ne b = b
 of_outlines d Total p ne b = b
@@ -144,30 +144,30 @@ first_same A B (rules ∷ more) f to from (inr t) =
 
 -- ---- what is settled
 
-pub unbuilt_first : (d : Document) (p : Place) → Breaks d Unbuilt p → ((q : Place) → Breaks d Unbuilt q → IsNoLater p q) → IsFirst number_of (Breaks d) all_groups (record { rule = Unbuilt; place = p })
-unbuilt_first d p broken least = inl (record {
+pub not_built_first : (d : Document) (p : Place) → Breaks d NotBuilt p → ((q : Place) → Breaks d NotBuilt q → IsNoLater p q) → IsFirst number_of (Breaks d) all_groups (record { rule = NotBuilt; place = p })
+not_built_first d p broken least = inl (record {
   mine = inl refl;
   broken = broken;
   earliest = λ s q m b. elim m [ inl e ↦ least q (subst (λ (x : Check). Breaks d x q) (sym e) b) | inr n ↦ absurd n ];
-  lowest = λ s m b. elim m [ inl e ↦ subst (λ (x : Check). number_of Unbuilt ≤ number_of x) e (omega arith) | inr n ↦ absurd n ];
+  lowest = λ s m b. elim m [ inl e ↦ subst (λ (x : Check). number_of NotBuilt ≤ number_of x) e (omega arith) | inr n ↦ absurd n ];
 })
 
-unbuilt_kept : (d : Document) → ((q : Place) → Breaks d Unbuilt q → ⊥) → Keeps (Breaks d) (Unbuilt ∷ [])
-unbuilt_kept d none = λ s q m b. elim m [ inl e ↦ none q (subst (λ (x : Check). Breaks d x q) (sym e) b) | inr n ↦ n ]
+not_built_kept : (d : Document) → ((q : Place) → Breaks d NotBuilt q → ⊥) → Keeps (Breaks d) (NotBuilt ∷ [])
+not_built_kept d none = λ s q m b. elim m [ inl e ↦ none q (subst (λ (x : Check). Breaks d x q) (sym e) b) | inr n ↦ n ]
 
-pub settled_first : (d : Document) (f : Broken Check) → ((q : Place) → Breaks d Unbuilt q → ⊥) → IsFirst number_of (BreaksOf (map outline_of d.charts)) later_groups f → IsFirst number_of (Breaks d) all_groups f
+pub settled_first : (d : Document) (f : Broken Check) → ((q : Place) → Breaks d NotBuilt q → ⊥) → IsFirst number_of (BreaksOf (map outline_of d.charts)) later_groups f → IsFirst number_of (Breaks d) all_groups f
 settled_first d f none h =
-    inr (unbuilt_kept d none, first_same (BreaksOf (map outline_of d.charts)) (Breaks d) later_groups f (λ s p m a. of_document d s p (later s m) a) (λ s p m b. of_outlines d s p (later s m) b) h)
+    inr (not_built_kept d none, first_same (BreaksOf (map outline_of d.charts)) (Breaks d) later_groups f (λ s p m a. of_document d s p (later s m) a) (λ s p m b. of_outlines d s p (later s m) b) h)
 
-pub settled_kept : (d : Document) → ((q : Place) → Breaks d Unbuilt q → ⊥) → AllKept (BreaksOf (map outline_of d.charts)) later_groups → AllKept (Breaks d) all_groups
-settled_kept d none k = (unbuilt_kept d none, kept_same (BreaksOf (map outline_of d.charts)) (Breaks d) later_groups (λ s p m b. of_outlines d s p (later s m) b) k)
+pub settled_kept : (d : Document) → ((q : Place) → Breaks d NotBuilt q → ⊥) → AllKept (BreaksOf (map outline_of d.charts)) later_groups → AllKept (Breaks d) all_groups
+settled_kept d none k = (not_built_kept d none, kept_same (BreaksOf (map outline_of d.charts)) (Breaks d) later_groups (λ s p m b. of_outlines d s p (later s m) b) k)
 
 -- ---- what is accepted
 
 pub accepted : (d : Document) (charts : List PlainChart) → AllKept (Breaks d) all_groups → ArePlainOf (map outline_of d.charts) charts → IsAccepted d charts
 accepted d charts kept are =
     let free : IsFaultless (Breaks d) = faultless (Breaks d) all_groups (λ r p b. in_some r) kept in
-    let built : flat_map unbuilt_chart d.charts ≡ [] = nothing_among (flat_map unbuilt_chart d.charts) (λ p h. free Unbuilt p h) in
+    let built : flat_map not_built_chart d.charts ≡ [] = nothing_among (flat_map not_built_chart d.charts) (λ p h. free NotBuilt p h) in
     record { faultless = free; charts_are = are; graphs_are = all_graphs d.charts charts built are; listed_are = all_listed d.charts charts built are }
 
 pub accepted_few : (d : Document) (charts : List PlainChart) → IsAccepted d charts → length charts ≤ CHARTS

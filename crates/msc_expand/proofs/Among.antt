@@ -1,8 +1,8 @@
 -- Places among others, and the earliest of them.
 use Rattle.std.proofs.Common.{◌≡◌, ◌⊎◌, inl, inr, List, [], ◌∷◌, ◌++◌, Option, Some, None, Bool, true, false, refl, sym, ap, ◌∙◌, subst}
 use Rattle.msc_base.specs.declared.place.Place.{Place}
-use Rattle.item_order.specs.Places.{earliest, IsLeast}
-use Rattle.item_order.proofs.Narrowing.{Narrows, narrows_start, narrows_bad, narrows_end, narrows_rest}
+use Rattle.msc_base.specs.Places.{earliest, IsLeast}
+use Rattle.msc_base.proofs.Narrowing.{Narrows, narrows_start, narrows_bad, narrows_end, narrows_rest}
 use Rattle.msc_expand.specs.Rules.{IsAmong, where_so, earliest_of}
 
 pub among_left : (ps qs : List Place) (q : Place) → IsAmong ps q → IsAmong (ps ++ qs) q

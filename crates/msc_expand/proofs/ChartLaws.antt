@@ -6,7 +6,8 @@ use Rattle.std.proofs.lemmas.List.{length-map}
 use Rattle.std.proofs.lemmas.Bool.{cases_lt, cases_eq, or_left, or_right, or_cases}
 use Rattle.std.proofs.lemmas.Option.{slice_get_within, slice_get-get_or}
 use Rattle.std.proofs.lemmas.Slice.Eq.{bytes_eq-Decides}
-use Rattle.msc_base.specs.Names.{IsOneOf, AreDifferent}
+use Rattle.msc_base.specs.Lists.{AreDifferent}
+use Rattle.msc_base.specs.Lists.{IsAmong}
 use Rattle.msc_base.specs.NameTables.{with_name}
 use Rattle.msc_base.specs.declared.label.Label.{Label}
 use Rattle.msc_base.specs.declared.label.Kind.{Kind}
@@ -134,21 +135,21 @@ same_charts (o ∷ os) (c ∷ a) (d ∷ b) x y = ap₂ (λ (h : PlainChart) (t :
 -- an outline whose instances are different and have each event
 pub record IsSound (o : Outline) : Type 0 where
   pub different : AreDifferent o.instances
-  pub listed : All (λ (e : WovenEvent). IsOneOf o.instances e.label.at) o.events
+  pub listed : All (λ (e : WovenEvent). IsAmong o.instances e.label.at) o.events
 
-all_labels : (names : List (List ℕ)) (events : List WovenEvent) → All (λ (e : WovenEvent). IsOneOf names e.label.at) events → All (λ (l : Label). IsOneOf names l.at) (labels_of events)
+all_labels : (names : List (List ℕ)) (events : List WovenEvent) → All (λ (e : WovenEvent). IsAmong names e.label.at) events → All (λ (l : Label). IsAmong names l.at) (labels_of events)
 all_labels names [] h = λ k d lt. absurd (omega arith)
 all_labels names (e ∷ events) h = λ k d lt. by (h zero e (omega arith)) (all_labels names events (λ j c less. h (suc j) c (omega arith))) k d lt
   where
-    by : IsOneOf names e.label.at → All (λ (l : Label). IsOneOf names l.at) (labels_of events) → (k : ℕ) (d : Label) → k < length (labels_of (e ∷ events)) → IsOneOf names (get_or (labels_of (e ∷ events)) k d).at
+    by : IsAmong names e.label.at → All (λ (l : Label). IsAmong names l.at) (labels_of events) → (k : ℕ) (d : Label) → k < length (labels_of (e ∷ events)) → IsAmong names (get_or (labels_of (e ∷ events)) k d).at
     by here rest zero d lt = here
     by here rest (suc k) d lt = rest k d (omega arith)
 
 plain_of : (o : Outline) (c : PlainChart) → IsSound o → IsPlainOf o c → ((place : Place) → IsEarly o.events place → ⊥) → IsPlain c
 plain_of o c sound is late = record {
   different = subst AreDifferent (sym is.instances_are) sound.different;
-  listed = subst (λ (ls : List Label). All (λ (l : Label). IsOneOf c.instances l.at) ls) (sym is.events_are)
-      (subst (λ (ns : List (List ℕ)). All (λ (l : Label). IsOneOf ns l.at) (labels_of o.events)) (sym is.instances_are) (all_labels o.instances o.events sound.listed));
+  listed = subst (λ (ls : List Label). All (λ (l : Label). IsAmong c.instances l.at) ls) (sym is.events_are)
+      (subst (λ (ns : List (List ℕ)). All (λ (l : Label). IsAmong ns l.at) (labels_of o.events)) (sym is.instances_are) (all_labels o.instances o.events sound.listed));
   partners = subst (λ (ls : List Label). HavePartners ls c.partners) (sym is.events_are) (have_partners o.events c.partners is.partners_are late);
 }
 

@@ -2,11 +2,11 @@
 use Rattle.std.proofs.Common.{◌≡◌, ◌<◌, ◌+◌, ℕ, suc, List, [], ◌∷◌, ◌++◌, drop, map, flat_map, Option, Some, None, slice_get, refl, sym, ap, ◌∙◌, arith}
 use Rattle.std.proofs.lemmas.List.Concat.{flat_map-cons}
 use Rattle.msc_base.specs.declared.place.Place.{Place}
-use Rattle.item_order.specs.Places.{earliest}
+use Rattle.msc_base.specs.Places.{earliest}
 use Rattle.msc_tree.specs.declared.statement.RawItem.{RawItem}
 use Rattle.msc_tree.specs.Statements.{items}
 use Rattle.msc_tree.specs.Views.{item_view}
-use Rattle.msc_expand.specs.Forms.{unbuilt_item, unbuilt_items}
+use Rattle.msc_expand.specs.Forms.{not_built_item, not_built_items}
 use Rattle.msc_expand.specs.Rules.{earliest_of}
 use Rattle.msc_expand.proofs.Walks.{drop_get}
 
@@ -23,9 +23,9 @@ earliest_step f xs k x so_far next is e =
     ∙ ap (λ ys. earliest_of so_far (flat_map f ys)) (sym (drop_get k xs x is))
 
 -- one item of a column further
-pub items_step : (xs : List RawItem) (k : ℕ) (x : RawItem) (so_far next : Option Place) → slice_get xs k ≡ Some x → next ≡ earliest_of so_far (unbuilt_item (item_view x))
-    → earliest_of next (unbuilt_items (items (map item_view (drop (k + 1) xs)))) ≡ earliest_of so_far (unbuilt_items (items (map item_view (drop k xs))))
+pub items_step : (xs : List RawItem) (k : ℕ) (x : RawItem) (so_far next : Option Place) → slice_get xs k ≡ Some x → next ≡ earliest_of so_far (not_built_item (item_view x))
+    → earliest_of next (not_built_items (items (map item_view (drop (k + 1) xs)))) ≡ earliest_of so_far (not_built_items (items (map item_view (drop k xs))))
 items_step xs k x so_far next is e =
-    ap (λ (o : Option Place). earliest_of o (unbuilt_items (items (map item_view (drop (k + 1) xs))))) e
-    ∙ sym (earliest_append so_far (unbuilt_item (item_view x)) (unbuilt_items (items (map item_view (drop (k + 1) xs)))))
-    ∙ ap (λ (ys : List RawItem). earliest_of so_far (unbuilt_items (items (map item_view ys)))) (sym (drop_get k xs x is))
+    ap (λ (o : Option Place). earliest_of o (not_built_items (items (map item_view (drop (k + 1) xs))))) e
+    ∙ sym (earliest_append so_far (not_built_item (item_view x)) (not_built_items (items (map item_view (drop (k + 1) xs)))))
+    ∙ ap (λ (ys : List RawItem). earliest_of so_far (not_built_items (items (map item_view ys)))) (sym (drop_get k xs x is))

@@ -1,11 +1,11 @@
 -- The first fault of each group of rules.
 use Rattle.std.proofs.Common.{◌≡◌, ℕ, List, [], ◌∷◌, ◌++◌, flat_map, Option, None, sym, subst}
 use Rattle.msc_base.specs.declared.place.Place.{Place}
-use Rattle.item_order.specs.FirstFaults.{IsBest, fault_of, earlier_of}
-use Rattle.item_order.specs.Places.{IsLeast}
-use Rattle.item_order.proofs.Joining.{best_of_one, best_with}
+use Rattle.msc_rules.specs.FirstFaults.{IsBest, fault_of, earlier_of}
+use Rattle.msc_base.specs.Places.{IsLeast}
+use Rattle.msc_rules.proofs.Joining.{best_of_one, best_with}
 use Rattle.msc_expand.specs.declared.check.Check.{Check}
-use Rattle.msc_expand.specs.declared.check.Check.TheVariants.{Charts, Instances, TwiceNamed, Undeclared, Size, Total, Unmatched, Early}
+use Rattle.msc_expand.specs.declared.check.Check.TheVariants.{Charts, Instances, NamedTwice, Undeclared, Size, Total, Unmatched, Early}
 use Rattle.msc_expand.specs.declared.outline.Outline.{Outline}
 use Rattle.msc_expand.specs.Acceptance.{number_of, BreaksOf}
 use Rattle.msc_expand.specs.Deciding.{limits, names, sizes, messages, inputs}
@@ -23,9 +23,9 @@ limits_best outlines a b e f =
     best_with number_of (BreaksOf outlines) (Charts ∷ []) Instances (fault_of Charts a) b (best_of_one number_of (BreaksOf outlines) Charts a (least_of (chart_places outlines) a e)) (least_of (instance_places [] outlines) b f)
 
 pub names_best : (outlines : List Outline) (a b : Option Place) → a ≡ earliest_of None (twice_places [] outlines) → b ≡ earliest_of None (flat_map undeclared_places outlines)
-    → IsBest number_of (BreaksOf outlines) names (earlier_of number_of (fault_of TwiceNamed a) (fault_of Undeclared b))
+    → IsBest number_of (BreaksOf outlines) names (earlier_of number_of (fault_of NamedTwice a) (fault_of Undeclared b))
 names_best outlines a b e f =
-    best_with number_of (BreaksOf outlines) (TwiceNamed ∷ []) Undeclared (fault_of TwiceNamed a) b (best_of_one number_of (BreaksOf outlines) TwiceNamed a (least_of (twice_places [] outlines) a e))
+    best_with number_of (BreaksOf outlines) (NamedTwice ∷ []) Undeclared (fault_of NamedTwice a) b (best_of_one number_of (BreaksOf outlines) NamedTwice a (least_of (twice_places [] outlines) a e))
     (least_of (flat_map undeclared_places outlines) b f)
 
 pub sizes_best : (outlines : List Outline) (a b : Option Place) → a ≡ earliest_of None (flat_map size_places outlines) → b ≡ earliest_of None (total_places 0 outlines)

@@ -5,37 +5,37 @@ use Rattle.msc_base.specs.declared.place.Place.{Place}
 use Rattle.msc_tree.specs.declared.chart.RawChart.{RawChart}
 use Rattle.msc_tree.specs.Charts.{Document}
 use Rattle.msc_tree.specs.Views.{chart_view}
-use Rattle.msc_grammar.specs.declared.rule.Rule.{Rule}
-use Rattle.item_order.specs.declared.first_fault.Broken.{Broken}
-use Rattle.item_order.specs.FirstFaults.{IsFirst}
-use Rattle.item_order.specs.Places.{IsLeast}
+use Rattle.msc_rules.specs.declared.rule.Rule.{Rule}
+use Rattle.msc_rules.specs.declared.first_fault.Broken.{Broken}
+use Rattle.msc_rules.specs.FirstFaults.{IsFirst}
+use Rattle.msc_base.specs.Places.{IsLeast}
 use Rattle.msc_expand.specs.declared.check.Check.{Check}
-use Rattle.msc_expand.specs.declared.check.Check.TheVariants.{Unbuilt}
+use Rattle.msc_expand.specs.declared.check.Check.TheVariants.{NotBuilt}
 use Rattle.msc_expand.specs.declared.deciding.Decision.{Decision}
 use Rattle.msc_expand.specs.declared.deciding.Decision.TheVariants as decision
 use Rattle.msc_expand.specs.declared.outline.Outline.{Outline}
 use Rattle.msc_expand.specs.declared.plain_chart.PlainChart.{PlainChart}
 use Rattle.msc_expand.specs.Acceptance.{number_of, rule_of, Breaks, HasFault, IsAccepted}
 use Rattle.msc_expand.specs.Deciding.{IsDecided, IsSettled, all_groups}
-use Rattle.msc_expand.specs.Forms.{unbuilt_chart}
+use Rattle.msc_expand.specs.Forms.{not_built_chart}
 use Rattle.msc_expand.specs.Outlines.{outline_of}
 use Rattle.msc_expand.specs.Plain.{IsPlain}
 use Rattle.msc_expand.specs.Rules.{IsAmong, earliest_of}
-use Rattle.msc_expand.proofs.AcceptLaws.{unbuilt_first, settled_first, settled_kept, accepted, accepted_only, accepted_plain, accepted_few, accepted_faultless, has_fault, only_fault, none_accepted}
+use Rattle.msc_expand.proofs.AcceptLaws.{not_built_first, settled_first, settled_kept, accepted, accepted_only, accepted_plain, accepted_few, accepted_faultless, has_fault, only_fault, none_accepted}
 use Rattle.msc_expand.proofs.Among.{least_among}
 
-least_unbuilt : (d : Document) (x : Option Place) → x ≡ earliest_of None (flat_map unbuilt_chart d.charts) → IsLeast (IsAmong (flat_map unbuilt_chart d.charts)) x
-least_unbuilt d x e = subst (λ (y : Option Place). IsLeast (IsAmong (flat_map unbuilt_chart d.charts)) y) (sym e) (least_among (flat_map unbuilt_chart d.charts))
+least_not_built : (d : Document) (x : Option Place) → x ≡ earliest_of None (flat_map not_built_chart d.charts) → IsLeast (IsAmong (flat_map not_built_chart d.charts)) x
+least_not_built d x e = subst (λ (y : Option Place). IsLeast (IsAmong (flat_map not_built_chart d.charts)) y) (sym e) (least_among (flat_map not_built_chart d.charts))
 
-pub settled_unbuilt : (d : Document) (p : Place) → Some p ≡ earliest_of None (flat_map unbuilt_chart d.charts) → IsFirst number_of (Breaks d) all_groups (record { rule = Unbuilt; place = p })
-settled_unbuilt d p e = let l = least_unbuilt d (Some p) e in unbuilt_first d p l.0 l.1
+pub settled_not_built : (d : Document) (p : Place) → Some p ≡ earliest_of None (flat_map not_built_chart d.charts) → IsFirst number_of (Breaks d) all_groups (record { rule = NotBuilt; place = p })
+settled_not_built d p e = let l = least_not_built d (Some p) e in not_built_first d p l.0 l.1
 
-pub settled_by : (d : Document) (decided : Decision) → None ≡ earliest_of None (flat_map unbuilt_chart d.charts) → IsDecided (map outline_of d.charts) decided → IsSettled d decided
-settled_by d (decision.Plain charts) e h = (settled_kept d (least_unbuilt d None e) h.0, h.1)
-settled_by d (decision.Faulty fault) e h = settled_first d fault (least_unbuilt d None e) h
+pub settled_by : (d : Document) (decided : Decision) → None ≡ earliest_of None (flat_map not_built_chart d.charts) → IsDecided (map outline_of d.charts) decided → IsSettled d decided
+settled_by d (decision.Plain charts) e h = (settled_kept d (least_not_built d None e) h.0, h.1)
+settled_by d (decision.Faulty fault) e h = settled_first d fault (least_not_built d None e) h
 
 -- a document's outlines are those of its charts
-pub settled_if : {E : Type 0} (d : Document) (outlines : List Outline) (result : Result Decision E) → None ≡ earliest_of None (flat_map unbuilt_chart d.charts) → outlines ≡ map outline_of d.charts
+pub settled_if : {E : Type 0} (d : Document) (outlines : List Outline) (result : Result Decision E) → None ≡ earliest_of None (flat_map not_built_chart d.charts) → outlines ≡ map outline_of d.charts
     → IfOk result (IsDecided outlines) → IfOk result (IsSettled d)
 settled_if d outlines (Err e) none are found = found
 settled_if d outlines (Ok decided) none are found = settled_by d decided none (subst (λ (os : List Outline). IsDecided os decided) are found)

@@ -5,7 +5,8 @@ use Rattle.std.specs.Str.{bytes_eq}
 use Rattle.std.proofs.lemmas.Bool.{or_left, or_right, or_cases, true≢false}
 use Rattle.std.proofs.lemmas.List.Concat.{flat_map-cons}
 use Rattle.std.proofs.lemmas.Slice.Eq.{bytes_eq-Decides}
-use Rattle.msc_base.specs.Names.{IsOneOf, AreDifferent}
+use Rattle.msc_base.specs.Lists.{AreDifferent}
+use Rattle.msc_base.specs.Lists.{IsAmong}
 use Rattle.msc_base.specs.NameTables.{with_name}
 use Rattle.msc_tree.specs.declared.chart.Cover.{Cover}
 use Rattle.msc_tree.specs.declared.chart.Cover.TheVariants as cover
@@ -18,31 +19,31 @@ use Rattle.msc_expand.proofs.ChartLaws.{IsSound, AreSound}
 
 -- ---- names, each once
 
-one_either : (names : List (List ℕ)) (n m : List ℕ) → IsOneOf (names ++ n ∷ []) m → IsOneOf names m ⊎ (m ≡ n)
+one_either : (names : List (List ℕ)) (n m : List ℕ) → IsAmong (names ++ n ∷ []) m → IsAmong names m ⊎ (m ≡ n)
 one_either [] n m (inl e) = inr e
 one_either [] n m (inr h) = absurd h
 one_either (w ∷ names) n m (inl e) = inl (inl e)
 one_either (w ∷ names) n m (inr h) = elim (one_either names n m h) [ inl a ↦ inl (inr a) | inr e ↦ inr e ]
 
-one_left : (names more : List (List ℕ)) (m : List ℕ) → IsOneOf names m → IsOneOf (names ++ more) m
+one_left : (names more : List (List ℕ)) (m : List ℕ) → IsAmong names m → IsAmong (names ++ more) m
 one_left [] more m h = absurd h
 one_left (w ∷ names) more m (inl e) = inl e
 one_left (w ∷ names) more m (inr h) = inr (one_left names more m h)
 
-one_right : (names more : List (List ℕ)) (m : List ℕ) → IsOneOf more m → IsOneOf (names ++ more) m
+one_right : (names more : List (List ℕ)) (m : List ℕ) → IsAmong more m → IsAmong (names ++ more) m
 one_right [] more m h = h
 one_right (w ∷ names) more m h = inr (one_right names more m h)
 
-any_from_one : (names : List (List ℕ)) (n : List ℕ) → IsOneOf names n → list_any (bytes_eq n) names ≡ true
+any_from_one : (names : List (List ℕ)) (n : List ℕ) → IsAmong names n → list_any (bytes_eq n) names ≡ true
 any_from_one [] n h = absurd h
 any_from_one (w ∷ ws) n (inl e) = or_left (bytes_eq n w) (list_any (bytes_eq n) ws) ((bytes_eq-Decides n w).1 e)
 any_from_one (w ∷ ws) n (inr r) = or_right (bytes_eq n w) (list_any (bytes_eq n) ws) (any_from_one ws n r)
 
-one_from_any : (names : List (List ℕ)) (n : List ℕ) → list_any (bytes_eq n) names ≡ true → IsOneOf names n
+one_from_any : (names : List (List ℕ)) (n : List ℕ) → list_any (bytes_eq n) names ≡ true → IsAmong names n
 one_from_any [] n h = absurd (true≢false (sym h))
 one_from_any (w ∷ ws) n h = elim (or_cases (bytes_eq n w) (list_any (bytes_eq n) ws) h) [ inl e ↦ inl ((bytes_eq-Decides n w).0 e) | inr r ↦ inr (one_from_any ws n r) ]
 
-snoc_different : (names : List (List ℕ)) (n : List ℕ) → AreDifferent names → (IsOneOf names n → ⊥) → AreDifferent (names ++ n ∷ [])
+snoc_different : (names : List (List ℕ)) (n : List ℕ) → AreDifferent names → (IsAmong names n → ⊥) → AreDifferent (names ++ n ∷ [])
 snoc_different [] n d new = (λ h. h, tt)
 snoc_different (w ∷ names) n d new =
     (λ h. elim (one_either names n w h) [ inl a ↦ d.0 a | inr e ↦ new (inl (sym e)) ], snoc_different names n d.1 (λ h. new (inr h)))
@@ -58,48 +59,48 @@ with_names_different : (seen names : List (List ℕ)) → AreDifferent seen → 
 with_names_different seen [] d = d
 with_names_different seen (n ∷ names) d = with_names_different (with_name seen n) names (with_name_different seen n d)
 
-one_kept : (names : List (List ℕ)) (n m : List ℕ) → IsOneOf names m → IsOneOf (with_name names n) m
+one_kept : (names : List (List ℕ)) (n m : List ℕ) → IsAmong names m → IsAmong (with_name names n) m
 one_kept names n m h = by (list_any (bytes_eq n) names)
   where
-    by : (b : Bool) → IsOneOf (if b then names else names ++ n ∷ []) m
+    by : (b : Bool) → IsAmong (if b then names else names ++ n ∷ []) m
     by true = h
     by false = one_left names (n ∷ []) m h
 
-one_added : (names : List (List ℕ)) (n : List ℕ) → IsOneOf (with_name names n) n
+one_added : (names : List (List ℕ)) (n : List ℕ) → IsAmong (with_name names n) n
 one_added names n = by (list_any (bytes_eq n) names) refl
   where
-    by : (b : Bool) → list_any (bytes_eq n) names ≡ b → IsOneOf (if b then names else names ++ n ∷ []) n
+    by : (b : Bool) → list_any (bytes_eq n) names ≡ b → IsAmong (if b then names else names ++ n ∷ []) n
     by true e = one_from_any names n e
     by false e = one_right names (n ∷ []) n (inl refl)
 
-all_kept : (seen names : List (List ℕ)) (m : List ℕ) → IsOneOf seen m → IsOneOf (with_names seen names) m
+all_kept : (seen names : List (List ℕ)) (m : List ℕ) → IsAmong seen m → IsAmong (with_names seen names) m
 all_kept seen [] m h = h
 all_kept seen (n ∷ names) m h = all_kept (with_name seen n) names m (one_kept seen n m h)
 
-all_added : (seen names : List (List ℕ)) (m : List ℕ) → IsOneOf names m → IsOneOf (with_names seen names) m
+all_added : (seen names : List (List ℕ)) (m : List ℕ) → IsAmong names m → IsAmong (with_names seen names) m
 all_added seen [] m h = absurd h
-all_added seen (n ∷ names) m (inl e) = all_kept (with_name seen n) names m (subst (λ (x : List ℕ). IsOneOf (with_name seen n) x) (sym e) (one_added seen n))
+all_added seen (n ∷ names) m (inl e) = all_kept (with_name seen n) names m (subst (λ (x : List ℕ). IsAmong (with_name seen n) x) (sym e) (one_added seen n))
 all_added seen (n ∷ names) m (inr h) = all_added (with_name seen n) names m h
 
 -- ---- events
 
 abbrev EachAt : List (List ℕ) → List WovenEvent → Type 0
 EachAt names [] = Unit {0}
-EachAt names (e ∷ events) = IsOneOf names e.label.at × EachAt names events
+EachAt names (e ∷ events) = IsAmong names e.label.at × EachAt names events
 
 each_append : (names : List (List ℕ)) (events more : List WovenEvent) → EachAt names events → EachAt names more → EachAt names (events ++ more)
 each_append names [] more h g = g
 each_append names (e ∷ events) more h g = (h.0, each_append names events more h.1 g)
 
-each_wider : (names wider : List (List ℕ)) (events : List WovenEvent) → ((m : List ℕ) → IsOneOf names m → IsOneOf wider m) → EachAt names events → EachAt wider events
+each_wider : (names wider : List (List ℕ)) (events : List WovenEvent) → ((m : List ℕ) → IsAmong names m → IsAmong wider m) → EachAt names events → EachAt wider events
 each_wider names wider [] w h = tt
 each_wider names wider (e ∷ events) w h = (w e.label.at h.0, each_wider names wider events w h.1)
 
-each_all : (names : List (List ℕ)) (events : List WovenEvent) → EachAt names events → All (λ (e : WovenEvent). IsOneOf names e.label.at) events
+each_all : (names : List (List ℕ)) (events : List WovenEvent) → EachAt names events → All (λ (e : WovenEvent). IsAmong names e.label.at) events
 each_all names [] h = λ k d lt. absurd (omega arith)
 each_all names (e ∷ events) h = λ k d lt. by h.0 (each_all names events h.1) k d lt
   where
-    by : IsOneOf names e.label.at → All (λ (x : WovenEvent). IsOneOf names x.label.at) events → (k : ℕ) (d : WovenEvent) → k < length (e ∷ events) → IsOneOf names (get_or (e ∷ events) k d).label.at
+    by : IsAmong names e.label.at → All (λ (x : WovenEvent). IsAmong names x.label.at) events → (k : ℕ) (d : WovenEvent) → k < length (e ∷ events) → IsAmong names (get_or (e ∷ events) k d).label.at
     by here rest zero d lt = here
     by here rest (suc k) d lt = rest k d (omega arith)
 

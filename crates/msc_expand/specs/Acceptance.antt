@@ -3,14 +3,14 @@ use Rattle.std.specs.Prelude.{◌≡◌, ⊤, ℕ, List, [], ◌∷◌, map, fla
 use Rattle.msc_base.specs.declared.place.Place.{Place}
 use Rattle.msc_tree.specs.Charts.{Document}
 use Rattle.msc_expand.specs.declared.plain_chart.PlainChart.{PlainChart}
-use Rattle.msc_grammar.specs.declared.rule.Rule.{Rule}
-use Rattle.msc_grammar.specs.declared.rule.Rule.TheVariants as rule
-use Rattle.item_order.specs.FirstFaults.{IsFirstFault, IsFaultless}
+use Rattle.msc_rules.specs.declared.rule.Rule.{Rule}
+use Rattle.msc_rules.specs.declared.rule.Rule.TheVariants as rule
+use Rattle.msc_rules.specs.FirstFaults.{IsFirstFault, IsFaultless}
 use Rattle.msc_expand.specs.declared.check.Check.{Check}
-use Rattle.msc_expand.specs.declared.check.Check.TheVariants.{Unbuilt, Charts, Instances, TwiceNamed, Undeclared, Size, Total, Unmatched, Early}
+use Rattle.msc_expand.specs.declared.check.Check.TheVariants.{NotBuilt, Charts, Instances, NamedTwice, Undeclared, Size, Total, Unmatched, Early}
 use Rattle.msc_expand.specs.declared.outline.Outline.{Outline}
 use Rattle.msc_expand.specs.declared.outline.WovenEvent.{WovenEvent}
-use Rattle.msc_expand.specs.Forms.{unbuilt_chart}
+use Rattle.msc_expand.specs.Forms.{not_built_chart}
 use Rattle.msc_expand.specs.Listing.{is_graph_in, is_graph_of, listed_in, listed_of}
 use Rattle.msc_expand.specs.Outlines.{outline_of}
 use Rattle.msc_expand.specs.Pairings.{ArePartnersOf}
@@ -18,22 +18,22 @@ use Rattle.msc_expand.specs.Rules.{IsAmong, chart_places, instance_places, twice
 
 -- the rule that is broken. A form that isn't built, and an input before its output, are both not built yet
 abbrev pub rule_of : Check → Rule
-rule_of Unbuilt = rule.NotYet
+rule_of NotBuilt = rule.NotBuilt
 rule_of Charts = rule.Charts
 rule_of Instances = rule.Instances
-rule_of TwiceNamed = rule.TwiceNamed
+rule_of NamedTwice = rule.NamedTwice
 rule_of Undeclared = rule.Undeclared
 rule_of Size = rule.Size
 rule_of Total = rule.Total
 rule_of Unmatched = rule.Unmatched
-rule_of Early = rule.NotYet
+rule_of Early = rule.NotBuilt
 
 -- its number: at one place the lowest comes first. An early input stands in for a cycle, and has that rule's number
 abbrev pub number_of : Check → ℕ
-number_of Unbuilt = 41
+number_of NotBuilt = 41
 number_of Charts = 9
 number_of Instances = 10
-number_of TwiceNamed = 13
+number_of NamedTwice = 13
 number_of Undeclared = 14
 number_of Size = 19
 number_of Total = 20
@@ -42,10 +42,10 @@ number_of Early = 37
 
 -- its group: what isn't built, limits, names, sizes, messages, cycles
 abbrev pub group_of : Check → ℕ
-group_of Unbuilt = 0
+group_of NotBuilt = 0
 group_of Charts = 1
 group_of Instances = 1
-group_of TwiceNamed = 2
+group_of NamedTwice = 2
 group_of Undeclared = 2
 group_of Size = 3
 group_of Total = 3
@@ -54,10 +54,10 @@ group_of Early = 5
 
 -- the charts break the rule at that place
 abbrev pub BreaksOf : List Outline → Check → Place → Type 0
-BreaksOf charts Unbuilt place = ⊥
+BreaksOf charts NotBuilt place = ⊥
 BreaksOf charts Charts place = IsAmong (chart_places charts) place
 BreaksOf charts Instances place = IsAmong (instance_places [] charts) place
-BreaksOf charts TwiceNamed place = IsAmong (twice_places [] charts) place
+BreaksOf charts NamedTwice place = IsAmong (twice_places [] charts) place
 BreaksOf charts Undeclared place = IsAmong (flat_map undeclared_places charts) place
 BreaksOf charts Size place = IsAmong (flat_map size_places charts) place
 BreaksOf charts Total place = IsAmong (total_places 0 charts) place
@@ -66,7 +66,7 @@ BreaksOf charts Early place = HasEarly charts place
 
 -- the document breaks it at that place
 abbrev pub Breaks : Document → Check → Place → Type 0
-Breaks document Unbuilt place = IsAmong (flat_map unbuilt_chart document.charts) place
+Breaks document NotBuilt place = IsAmong (flat_map not_built_chart document.charts) place
 Breaks document check place = BreaksOf (map outline_of document.charts) check place
 
 -- the first rule that the document breaks, by group, then by place, then by number

@@ -2,9 +2,9 @@
 use Rattle.std.specs.Prelude.{◌≡◌, ⊤, List, [], ◌∷◌, map}
 use Rattle.msc_base.specs.declared.place.Place.{Place}
 use Rattle.msc_tree.specs.Charts.{Document}
-use Rattle.item_order.specs.FirstFaults.{Keeps, IsFirst}
+use Rattle.msc_rules.specs.FirstFaults.{Keeps, IsFirst}
 use Rattle.msc_expand.specs.declared.check.Check.{Check}
-use Rattle.msc_expand.specs.declared.check.Check.TheVariants.{Unbuilt, Charts, Instances, TwiceNamed, Undeclared, Size, Total, Unmatched, Early}
+use Rattle.msc_expand.specs.declared.check.Check.TheVariants.{NotBuilt, Charts, Instances, NamedTwice, Undeclared, Size, Total, Unmatched, Early}
 use Rattle.msc_expand.specs.declared.deciding.Decision.{Decision}
 use Rattle.msc_expand.specs.declared.deciding.Decision.TheVariants as decision
 use Rattle.msc_expand.specs.declared.outline.Outline.{Outline}
@@ -15,7 +15,7 @@ abbrev pub limits : List Check
 limits = Charts ∷ Instances ∷ []
 
 abbrev pub names : List Check
-names = TwiceNamed ∷ Undeclared ∷ []
+names = NamedTwice ∷ Undeclared ∷ []
 
 abbrev pub sizes : List Check
 sizes = Size ∷ Total ∷ []
@@ -36,7 +36,7 @@ AllKept Breaks (rules ∷ more) = Keeps Breaks rules × AllKept Breaks more
 
 -- all groups
 abbrev pub all_groups : List (List Check)
-all_groups = (Unbuilt ∷ []) ∷ later_groups
+all_groups = (NotBuilt ∷ []) ∷ later_groups
 
 -- these outlines keep all rules and are these charts, or they have this first fault
 abbrev pub IsDecided : List Outline → Decision → Type 0

@@ -28,41 +28,41 @@ is_creation Create = true
 is_creation _ = false
 
 -- an event with a label, before or after, with a gate, or a creation
-abbrev pub is_unbuilt : RawEvent → Bool
-is_unbuilt e = is_some e.tag || (has_some e.earlier_than || (has_some e.later_than || (has_gate e.target || is_creation e.kind)))
+abbrev pub is_not_built : RawEvent → Bool
+is_not_built e = is_some e.event_name || (has_some e.earlier_than || (has_some e.later_than || (has_gate e.target || is_creation e.kind)))
 
 -- coregions, inline expressions, references and stops too
-abbrev pub unbuilt_form : Place → Form → List Place
-unbuilt_form p (Single e) = if is_unbuilt e then e.place ∷ [] else []
-unbuilt_form p (Condition names shared) = []
-unbuilt_form p _ = p ∷ []
+abbrev pub not_built_form : Place → Form → List Place
+not_built_form p (Single e) = if is_not_built e then e.place ∷ [] else []
+not_built_form p (Condition names shared) = []
+not_built_form p _ = p ∷ []
 
-abbrev pub unbuilt_item : Item → List Place
-unbuilt_item (placed p form) = unbuilt_form p form
+abbrev pub not_built_item : Item → List Place
+not_built_item (placed p form) = not_built_form p form
 
-abbrev pub unbuilt_items : Items → List Place
-unbuilt_items no_items = []
-unbuilt_items (item_and item items) = unbuilt_item item ++ unbuilt_items items
+abbrev pub not_built_items : Items → List Place
+not_built_items no_items = []
+not_built_items (item_and item items) = not_built_item item ++ not_built_items items
 
 -- a decomposition
-abbrev pub unbuilt_by : Option (List ℕ) → Place → List Place
-unbuilt_by None p = []
-unbuilt_by (Some chart) p = p ∷ []
+abbrev pub not_built_by : Option (List ℕ) → Place → List Place
+not_built_by None p = []
+not_built_by (Some chart) p = p ∷ []
 
-abbrev pub unbuilt_decl : Decl → List Place
-unbuilt_decl d = unbuilt_by d.refined d.place
+abbrev pub not_built_decl : Decl → List Place
+not_built_decl d = not_built_by d.refined d.place
 
-abbrev pub unbuilt_statement : Statement → List Place
-unbuilt_statement (Column decl items) = unbuilt_decl decl ++ unbuilt_items items
-unbuilt_statement (Covered cover items) = unbuilt_items items
-unbuilt_statement (Heading decl) = unbuilt_decl decl
-unbuilt_statement (Ended name) = []
+abbrev pub not_built_statement : Statement → List Place
+not_built_statement (Column decl items) = not_built_decl decl ++ not_built_items items
+not_built_statement (Covered cover items) = not_built_items items
+not_built_statement (Heading decl) = not_built_decl decl
+not_built_statement (Ended name) = []
 
-abbrev pub unbuilt_content : Place → Content → List Place
-unbuilt_content p (Basic statements) = flat_map unbuilt_statement statements
-unbuilt_content p (HighLevel net) = p ∷ []
+abbrev pub not_built_content : Place → Content → List Place
+not_built_content p (Basic statements) = flat_map not_built_statement statements
+not_built_content p (HighLevel net) = p ∷ []
 
 -- where a chart has such a form: in its heads, at the outermost level of its statements, or as it is a graph. What stands inside
 -- an inline expression stands behind it
-abbrev pub unbuilt_chart : Chart → List Place
-unbuilt_chart c = flat_map unbuilt_decl c.decls ++ unbuilt_content c.place c.content
+abbrev pub not_built_chart : Chart → List Place
+not_built_chart c = flat_map not_built_decl c.decls ++ not_built_content c.place c.content

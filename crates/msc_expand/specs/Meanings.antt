@@ -3,9 +3,9 @@ use Rattle.std.specs.Prelude.{◌≡◌, ℕ, suc, List, [], ◌∷◌, ◌++◌
 use Rattle.msc_base.specs.declared.label.Label.{Label}
 use Rattle.msc_base.specs.declared.label.Kind.{Kind}
 use Rattle.msc_base.specs.declared.label.Kind.TheVariants.{Output}
-use Rattle.msc_base.specs.Patterns.{row, empty, one, join, bind}
-use Rattle.msc_base.specs.Unfoldings.{Tag, Own, Happening, Unfolding, level_tie}
-use Rattle.msc_base.specs.Runs.{IsRunOf, BeginsRunOf}
+use Rattle.msc_base.specs.Patterns.{seq, empty, one, join, bind}
+use Rattle.msc_unfolding.specs.Unfoldings.{Tag, Own, Happening, Unfolding, level_tie}
+use Rattle.msc_unfolding.specs.Runs.{IsRunOf, BeginsRunOf}
 use Rattle.msc_expand.specs.declared.plain_chart.PlainChart.{PlainChart}
 
 -- the event of this number
@@ -15,7 +15,7 @@ event_of n label = record { label = label; also = None; tags = Own n ∷ [] }
 -- the woven list of a plain chart is that of its text: each event stands in one column alone
 abbrev pub woven : ℕ → List Label → Unfolding
 woven n [] = empty
-woven n (l ∷ ls) = join row (one (event_of n l)) (woven (suc n) ls)
+woven n (l ∷ ls) = join seq (one (event_of n l)) (woven (suc n) ls)
 
 -- an output's number before that of the input that takes it in, where it has one
 abbrev pub pairs_by : Kind → ℕ → ℕ → List (Tag × Tag)

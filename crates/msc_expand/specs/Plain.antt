@@ -1,6 +1,7 @@
 -- What a plain chart keeps, whatever its text.
 use Rattle.std.specs.Prelude.{◌≡◌, ◌<◌, ◌⊎◌, ℕ, List, Some, All, length, slice_get}
-use Rattle.msc_base.specs.Names.{IsOneOf, AreDifferent}
+use Rattle.msc_base.specs.Lists.{AreDifferent}
+use Rattle.msc_base.specs.Lists.{IsAmong}
 use Rattle.msc_base.specs.declared.label.Label.{Label}
 use Rattle.msc_base.specs.declared.label.Kind.TheVariants.{Output, Input}
 use Rattle.msc_expand.specs.declared.plain_chart.PlainChart.{PlainChart}
@@ -25,5 +26,5 @@ pub record HavePartners (events : List Label) (partners : List ℕ) : Type 0 whe
 -- the instances are different, the events stand on them, and each input stands behind its output
 pub record IsPlain (chart : PlainChart) : Type 0 where
   pub different : AreDifferent chart.instances
-  pub listed : All (λ (l : Label). IsOneOf chart.instances l.at) chart.events
+  pub listed : All (λ (l : Label). IsAmong chart.instances l.at) chart.events
   pub partners : HavePartners chart.events chart.partners

@@ -8,7 +8,7 @@ use Rattle.msc_base.specs.declared.label.Kind.{Kind}
 use Rattle.msc_base.specs.declared.label.Kind.TheVariants.{Output, Input}
 use Rattle.msc_base.specs.declared.limits.TheConstants.Limits.{CHARTS, INSTANCES, EXPANDED_SIZE, TOTAL_SIZE}
 use Rattle.msc_base.specs.declared.place.Place.{Place}
-use Rattle.item_order.specs.Places.{earliest}
+use Rattle.msc_base.specs.Places.{earliest}
 use Rattle.msc_expand.specs.declared.outline.Outline.{Outline}
 use Rattle.msc_expand.specs.declared.outline.SharedList.{SharedList}
 use Rattle.msc_expand.specs.declared.outline.WovenEvent.{WovenEvent}

@@ -5,12 +5,12 @@ ghost use Rattle.msc_expand.specs.Deciding.{IsSettled};
 ghost use Rattle.msc_expand.specs.Plain.{IsPlain};
 
 use crate::deciding::{Decision, decide};
-use crate::forms::first_unbuilt;
+use crate::forms::first_not_built;
 use crate::reading::outlines;
 use crate::{Accepted, Check, DocFault, PlainChart};
-use item_order::Broken;
+use msc_rules::Broken;
 use msc_base::{NoMemory, Place};
-use msc_grammar::Rule;
+use msc_rules::Rule;
 use msc_tree::RawDocument;
 use std::alloc::Global;
 
@@ -19,9 +19,9 @@ fn settle(alloc: Global, raw: &RawDocument) -> Result<Decision, NoMemory>
     ensures { IfOk result (IsSettled (document_view raw.now)) }
 {
     let charts = raw.charts.as_slice();
-    if let Some(place) = first_unbuilt(charts) {
+    if let Some(place) = first_not_built(charts) {
         return Ok(Decision::Faulty(Broken {
-            rule: Check::Unbuilt,
+            rule: Check::NotBuilt,
             place,
         }));
     }

@@ -4,7 +4,7 @@ ghost use Rattle.msc_expand.specs.Listing.{is_graph_of, is_named, listed_of};
 
 use crate::PlainChart;
 use msc_base::{Name, NoMemory, Place};
-use msc_grammar::Rule;
+use msc_rules::Rule;
 use msc_tree::DeclList;
 use std::alloc::Global;
 use std::marker::Model;

@@ -1,20 +1,20 @@
 ghost use Rattle.std.specs.Prelude.{◌≡◌};
 ghost use Rattle.msc_expand.specs.Acceptance.{number_of, rule_of};
 
-use item_order::Numbered;
-use msc_grammar::Rule;
+use msc_rules::Numbered;
+use msc_rules::Rule;
 
 /// What is asked of a document behind its grammar.
 #[derive(Clone, Copy, Debug, PartialEq, Eq)]
 pub enum Check {
     /// No form that isn't built yet.
-    Unbuilt,
+    NotBuilt,
     /// No chart above the limit.
     Charts,
     /// No instance above the limit.
     Instances,
     /// No second chart of a name.
-    TwiceNamed,
+    NamedTwice,
     /// No name that is no instance.
     Undeclared,
     /// No chart above the limit of sizes.
@@ -34,10 +34,10 @@ impl Numbered for Check {
         ensures { result ≡ number_of self.now }
     {
         match self {
-            Check::Unbuilt => 41,
+            Check::NotBuilt => 41,
             Check::Charts => 9,
             Check::Instances => 10,
-            Check::TwiceNamed => 13,
+            Check::NamedTwice => 13,
             Check::Undeclared => 14,
             Check::Size => 19,
             Check::Total => 20,
@@ -53,10 +53,10 @@ impl Check {
         ensures { result ≡ rule_of self.now }
     {
         match self {
-            Check::Unbuilt | Check::Early => Rule::NotYet,
+            Check::NotBuilt | Check::Early => Rule::NotBuilt,
             Check::Charts => Rule::Charts,
             Check::Instances => Rule::Instances,
-            Check::TwiceNamed => Rule::TwiceNamed,
+            Check::NamedTwice => Rule::NamedTwice,
             Check::Undeclared => Rule::Undeclared,
             Check::Size => Rule::Size,
             Check::Total => Rule::Total,

@@ -1,5 +1,5 @@
 ghost use Rattle.std.specs.Prelude.{◌≡◌, IfOk, map};
-ghost use Rattle.item_order.specs.FirstFaults.{IsBest};
+ghost use Rattle.msc_rules.specs.FirstFaults.{IsBest};
 ghost use Rattle.msc_expand.specs.Acceptance.{ArePlainOf, BreaksOf, IsPlainOf, number_of};
 ghost use Rattle.msc_expand.specs.Deciding.{IsDecided, inputs, limits, messages, names, sizes};
 ghost use Rattle.msc_expand.specs.Lonely.{AllPartners};
@@ -11,7 +11,7 @@ use crate::names::{second_chart, undeclared};
 use crate::reading::copy_names;
 use crate::sizes::{large_chart, large_total};
 use crate::{Check, Outline, PlainChart, WovenEvent};
-use item_order::{Broken, broken_at, earlier_fault};
+use msc_rules::{Broken, broken_at, earlier_fault};
 use msc_base::{Items, LabelList, NoMemory, NumberList};
 use std::alloc::Global;
 
@@ -39,7 +39,7 @@ fn name_fault(alloc: Global, outlines: &[Outline]) -> Result<Option<Broken<Check
     ensures { IfOk result (IsBest number_of (BreaksOf outlines.now) names) }
 {
     let again = second_chart(alloc, outlines)?;
-    let twice = broken_at(Check::TwiceNamed, again);
+    let twice = broken_at(Check::NamedTwice, again);
     let place = undeclared(alloc, outlines)?;
     let other = broken_at(Check::Undeclared, place);
     Ok(earlier_fault(twice, other))

@@ -1,10 +1,10 @@
 ghost use Rattle.std.specs.Prelude.{◌≡◌, ◌++◌, flat_map, map};
 ghost use Rattle.msc_tree.specs.Statements.{items as item_tree};
 ghost use Rattle.msc_tree.specs.Views.{chart_view, content_view, item_view, statement_view};
-ghost use Rattle.msc_expand.specs.Forms.{has_gate, has_some, is_creation, is_some, is_unbuilt, unbuilt_chart, unbuilt_content, unbuilt_decl, unbuilt_item, unbuilt_items, unbuilt_statement};
+ghost use Rattle.msc_expand.specs.Forms.{has_gate, has_some, is_creation, is_some, is_not_built, not_built_chart, not_built_content, not_built_decl, not_built_item, not_built_items, not_built_statement};
 ghost use Rattle.msc_expand.specs.Rules.{earliest_of};
 
-use item_order::earlier_place;
+use msc_base::earlier_place;
 use msc_base::{Kind, Name, Names, Place};
 use msc_tree::{Content, Decl, RawChart, RawEvent, RawForm, RawItem, Statement, Target};
 
@@ -47,10 +47,10 @@ fn creates(kind: Kind) -> bool
 }
 
 /// Whether the event has a form that isn't built.
-fn is_unbuilt_event(event: &RawEvent) -> bool
-    ensures { result ≡ is_unbuilt event.now }
+fn is_not_built_event(event: &RawEvent) -> bool
+    ensures { result ≡ is_not_built event.now }
 {
-    is_named(&event.tag)
+    is_named(&event.event_name)
         || has_names(&event.earlier_than)
         || has_names(&event.later_than)
         || goes_through_gate(&event.target)
@@ -59,11 +59,11 @@ fn is_unbuilt_event(event: &RawEvent) -> bool
 
 /// The earliest place so far, or that of the item where it isn't built.
 fn search_item(item: &RawItem, so_far: Option<Place>) -> Option<Place>
-    ensures { result ≡ earliest_of so_far (unbuilt_item (item_view item.now)) }
+    ensures { result ≡ earliest_of so_far (not_built_item (item_view item.now)) }
 {
     match &item.form {
         RawForm::Single(event) => {
-            if is_unbuilt_event(event) {
+            if is_not_built_event(event) {
                 earlier_place(so_far, event.place)
             } else {
                 so_far
@@ -79,7 +79,7 @@ fn search_item(item: &RawItem, so_far: Option<Place>) -> Option<Place>
 
 /// The same of all items.
 fn search_items(items: &[RawItem], so_far: Option<Place>) -> Option<Place>
-    ensures { result ≡ earliest_of so_far (unbuilt_items (item_tree (map item_view items.now))) }
+    ensures { result ≡ earliest_of so_far (not_built_items (item_tree (map item_view items.now))) }
 {
     let mut earliest = so_far;
     for item in items {
@@ -90,7 +90,7 @@ fn search_items(items: &[RawItem], so_far: Option<Place>) -> Option<Place>
 
 /// The earliest place so far, or that of the declaration's decomposition.
 fn search_decl(decl: &Decl, so_far: Option<Place>) -> Option<Place>
-    ensures { result ≡ earliest_of so_far (unbuilt_decl decl.now) }
+    ensures { result ≡ earliest_of so_far (not_built_decl decl.now) }
 {
     match &decl.refined {
         Some(_) => earlier_place(so_far, decl.place),
@@ -100,7 +100,7 @@ fn search_decl(decl: &Decl, so_far: Option<Place>) -> Option<Place>
 
 /// The same of all declarations.
 fn search_decls(decls: &[Decl], so_far: Option<Place>) -> Option<Place>
-    ensures { result ≡ earliest_of so_far (flat_map unbuilt_decl decls.now) }
+    ensures { result ≡ earliest_of so_far (flat_map not_built_decl decls.now) }
 {
     let mut earliest = so_far;
     for decl in decls {
@@ -111,7 +111,7 @@ fn search_decls(decls: &[Decl], so_far: Option<Place>) -> Option<Place>
 
 /// The earliest place so far, or the first in the column.
 fn search_column(decl: &Decl, items: &[RawItem], so_far: Option<Place>) -> Option<Place>
-    ensures { result ≡ earliest_of so_far (unbuilt_decl decl.now ++ unbuilt_items (item_tree (map item_view items.now))) }
+    ensures { result ≡ earliest_of so_far (not_built_decl decl.now ++ not_built_items (item_tree (map item_view items.now))) }
 {
     let declared = search_decl(decl, so_far);
     search_items(items, declared)
@@ -119,7 +119,7 @@ fn search_column(decl: &Decl, items: &[RawItem], so_far: Option<Place>) -> Optio
 
 /// The earliest place so far, or the first in the statement of what isn't built.
 fn search_statement(statement: &Statement, so_far: Option<Place>) -> Option<Place>
-    ensures { result ≡ earliest_of so_far (unbuilt_statement (statement_view statement.now)) }
+    ensures { result ≡ earliest_of so_far (not_built_statement (statement_view statement.now)) }
 {
     match statement {
         Statement::Column(decl, items) => search_column(decl, items.as_slice(), so_far),
@@ -131,7 +131,7 @@ fn search_statement(statement: &Statement, so_far: Option<Place>) -> Option<Plac
 
 /// The same of all statements.
 fn search_statements(statements: &[Statement], so_far: Option<Place>) -> Option<Place>
-    ensures { result ≡ earliest_of so_far (flat_map (λ s. unbuilt_statement (statement_view s)) statements.now) }
+    ensures { result ≡ earliest_of so_far (flat_map (λ s. not_built_statement (statement_view s)) statements.now) }
 {
     let mut earliest = so_far;
     for statement in statements {
@@ -142,7 +142,7 @@ fn search_statements(statements: &[Statement], so_far: Option<Place>) -> Option<
 
 /// The same of what a chart at that place holds.
 fn search_content(content: &Content, place: Place, so_far: Option<Place>) -> Option<Place>
-    ensures { result ≡ earliest_of so_far (unbuilt_content place (content_view content.now)) }
+    ensures { result ≡ earliest_of so_far (not_built_content place (content_view content.now)) }
 {
     match content {
         Content::Events(statements) => search_statements(statements.as_slice(), so_far),
@@ -152,15 +152,15 @@ fn search_content(content: &Content, place: Place, so_far: Option<Place>) -> Opt
 
 /// The same of a chart.
 fn search_chart(chart: &RawChart, so_far: Option<Place>) -> Option<Place>
-    ensures { result ≡ earliest_of so_far (unbuilt_chart (chart_view chart.now)) }
+    ensures { result ≡ earliest_of so_far (not_built_chart (chart_view chart.now)) }
 {
     let declared = search_decls(chart.decls.as_slice(), so_far);
     search_content(&chart.content, chart.place, declared)
 }
 
 /// The earliest place of what isn't built in these charts.
-pub fn first_unbuilt(charts: &[RawChart]) -> Option<Place>
-    ensures { result ≡ earliest_of None (flat_map (λ c. unbuilt_chart (chart_view c)) charts.now) }
+pub fn first_not_built(charts: &[RawChart]) -> Option<Place>
+    ensures { result ≡ earliest_of None (flat_map (λ c. not_built_chart (chart_view c)) charts.now) }
 {
     let mut earliest = None;
     for chart in charts {

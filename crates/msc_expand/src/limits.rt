@@ -4,7 +4,7 @@ ghost use Rattle.msc_expand.specs.Rules.{chart_places, earliest_of, instance_pla
 
 use crate::Outline;
 use crate::table::add_names;
-use item_order::earlier_place;
+use msc_base::earlier_place;
 use msc_base::{Limits, NameTable, NoMemory, Place};
 use std::alloc::Global;
 

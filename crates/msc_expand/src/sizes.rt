@@ -4,7 +4,7 @@ ghost use Rattle.msc_expand.specs.Rules.{earliest_of, size_of, size_places, tota
 
 use crate::Outline;
 use crate::limits::at_place;
-use item_order::earlier_place;
+use msc_base::earlier_place;
 use msc_base::{Limits, Place};
 
 /// The size of a chart.

@@ -1,13 +1,13 @@
 -- The readers of bounds are exact.
 use Rattle.std.proofs.Common.{ℕ, ◌≡◌, ◌++◌, true, List, [], refl, Option, Some, None, codes}
 use Rattle.msc_tokens.specs.declared.token.Token.{Token}
-use Rattle.msc_reading.specs.Languages.{Set, apart, just, numbers, Read, seq_at}
-use Rattle.msc_reading.specs.Grammars.{Grammar}
-use Rattle.msc_reading.specs.Parts.{kept as as_written}
-use Rattle.msc_reading.proofs.Lists.{apart_none}
-use Rattle.msc_reading.proofs.Rules.{Law, Rule, seq_rule, or_rule, as_rule}
-use Rattle.msc_reading.proofs.Optionals.{none, optional_law, optional_rule, behind_rule}
-use Rattle.msc_reading.proofs.PartRules.{law_by, digits_rule, mark_rule}
+use Rattle.token_grammar.specs.Languages.{Set, apart, just, numbers, Read, seq_at}
+use Rattle.token_grammar.specs.Grammars.{Grammar}
+use Rattle.token_grammar.specs.Parts.{kept as as_written}
+use Rattle.token_grammar.proofs.Lists.{apart_none}
+use Rattle.token_grammar.proofs.Rules.{Law, Rule, seq_rule, or_rule, as_rule}
+use Rattle.token_grammar.proofs.Optionals.{none, optional_law, optional_rule, behind_rule}
+use Rattle.token_grammar.proofs.PartRules.{law_by, digits_rule, mark_rule}
 use Rattle.msc_expression.specs.Bounds.{kept, bound, upper_bound, bounds_of, bounds, or_once, with_bounds, bound_at, upper_bound_at, bounds_at, loop_bounds_at}
 
 bound_rule : (n : ℕ) → Rule (λ m. bound) n numbers none bound_at

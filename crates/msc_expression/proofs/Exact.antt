@@ -2,16 +2,16 @@
 use Rattle.std.proofs.Common.{ℕ, List, refl, codes}
 use Rattle.msc_tokens.specs.declared.token.Token.{Token}
 use Rattle.msc_tree.specs.Graphs.{Graph}
-use Rattle.msc_reading.specs.Languages.{just, seq_at}
-use Rattle.msc_reading.specs.Grammars.{Grammar}
-use Rattle.msc_reading.specs.Parts.{mark}
-use Rattle.msc_reading.specs.PartReaders.{mark_at}
-use Rattle.msc_reading.proofs.Optionals.{none}
-use Rattle.msc_reading.proofs.PartRules.{mark_law, mark_rule}
-use Rattle.msc_reading.proofs.Parses.{one_value}
-use Rattle.msc_reading.proofs.Exact.{exact}
-use Rattle.msc_reading.specs.Parsing.{OneReading}
-use Rattle.msc_reading.specs.Exactness.{IsExact}
+use Rattle.token_grammar.specs.Languages.{just, seq_at}
+use Rattle.token_grammar.specs.Grammars.{Grammar}
+use Rattle.token_grammar.specs.Parts.{mark}
+use Rattle.token_grammar.specs.PartReaders.{mark_at}
+use Rattle.token_grammar.proofs.Optionals.{none}
+use Rattle.token_grammar.proofs.PartRules.{mark_law, mark_rule}
+use Rattle.token_grammar.proofs.Parses.{one_value}
+use Rattle.token_grammar.proofs.Exact.{exact}
+use Rattle.token_grammar.specs.Parsing.{OneReading}
+use Rattle.token_grammar.specs.Exactness.{IsExact}
 use Rattle.msc_expression.specs.ExpressionGrammar.{expression}
 use Rattle.msc_expression.specs.ExpressionReaders.{expression_at}
 use Rattle.msc_expression.specs.GraphGrammar.{chart_graph}

@@ -2,16 +2,16 @@
 use Rattle.std.proofs.Common.{ℕ, ◌≡◌, ◌++◌, List, [], ◌∷◌, refl, sym, append-nil, inl, inr, suc, zero, Option, Some, None, codes}
 use Rattle.msc_tokens.specs.declared.token.Token.{Token}
 use Rattle.msc_tree.specs.Expressions.{Expression, Empty, Chart, Alt, Par, Seq, Opt, Loop}
-use Rattle.msc_reading.specs.Classes.{token_of}
-use Rattle.msc_reading.specs.Languages.{Set, Read, just, map_at, either_at, opens_at, bytes_at}
-use Rattle.msc_reading.specs.Grammars.{Grammar, or, read_as, bytes_of}
-use Rattle.msc_reading.specs.Parts.{mark, separated}
-use Rattle.msc_reading.specs.PartReaders.{mark_at, separated_at}
-use Rattle.msc_reading.proofs.Flats.{rule_by}
-use Rattle.msc_reading.proofs.Levels.{Opened}
-use Rattle.msc_reading.proofs.Rules.{Law, Rule, Word, seq_law, seq_rule, or_law, or_rule, as_law, as_rule, shut_law, inner_law, shut_rule, inner_rule, equal_law, equal_rule}
-use Rattle.msc_reading.proofs.Optionals.{none, bytes_law, bytes_rule}
-use Rattle.msc_reading.proofs.PartRules.{mark_law, mark_rule, separated_law, separated_rule}
+use Rattle.token_grammar.specs.Classes.{token_of}
+use Rattle.token_grammar.specs.Languages.{Set, Read, just, map_at, either_at, opens_at, bytes_at}
+use Rattle.token_grammar.specs.Grammars.{Grammar, or, read_as, bytes_of}
+use Rattle.token_grammar.specs.Parts.{mark, separated}
+use Rattle.token_grammar.specs.PartReaders.{mark_at, separated_at}
+use Rattle.token_grammar.proofs.Flats.{rule_by}
+use Rattle.token_grammar.proofs.Levels.{Opened}
+use Rattle.token_grammar.proofs.Rules.{Law, Rule, Word, seq_law, seq_rule, or_law, or_rule, as_law, as_rule, shut_law, inner_law, shut_rule, inner_rule, equal_law, equal_rule}
+use Rattle.token_grammar.proofs.Optionals.{none, bytes_law, bytes_rule}
+use Rattle.token_grammar.proofs.PartRules.{mark_law, mark_rule, separated_law, separated_rule}
 use Rattle.msc_expression.specs.declared.expressions.Operator.TheVariants as operator
 use Rattle.msc_expression.specs.Bounds.{or_once}
 use Rattle.msc_expression.specs.ExpressionGrammar.{joined, sequence, parallel, expression_of, loop_of, loop_rest, closed, chart_names, prefix, expression}

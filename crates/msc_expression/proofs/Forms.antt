@@ -4,8 +4,8 @@ use Rattle.std.specs.Str.{bytes_eq}
 use Rattle.std.proofs.lemmas.Bool.{ne_eqb}
 use Rattle.msc_tokens.specs.declared.token.Token.{Token}
 use Rattle.msc_tree.specs.Expressions.{Chart}
-use Rattle.msc_reading.specs.Languages.{Set, Read, ◌>>=◌, among, refused, starts, just, names, either_at, map_at, opens_at, bytes_at}
-use Rattle.msc_reading.specs.PartReaders.{name_at}
+use Rattle.token_grammar.specs.Languages.{Set, Read, ◌>>=◌, among, refused, starts, just, names, either_at, map_at, opens_at, bytes_at}
+use Rattle.token_grammar.specs.PartReaders.{name_at}
 use Rattle.msc_expression.specs.Levels.{within_at}
 use Rattle.msc_expression.specs.ExpressionGrammar.{chart_names}
 use Rattle.msc_expression.specs.ExpressionReaders.{Reader, loop_rest_at, opt_rest_at, closed_at, empty_at, prefix_at, form_at}

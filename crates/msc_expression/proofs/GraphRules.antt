@@ -4,17 +4,17 @@ use Rattle.msc_base.specs.declared.label.LabelRef.{LabelRef}
 use Rattle.msc_tokens.specs.declared.token.Token.{Token}
 use Rattle.msc_tokens.specs.Places.{first_place}
 use Rattle.msc_tree.specs.Graphs.{Graph, Line, Node, Ends, Connect, Condition, Refer, Frames, graph, lines, no_lines, graphs}
-use Rattle.msc_reading.specs.Classes.{token_of}
-use Rattle.msc_reading.specs.Languages.{Set, Read, apart, just, names, seq_at, word_at, map_at, until_at, opens_at, behind_at}
-use Rattle.msc_reading.specs.Grammars.{Grammar, seq, read_as, behind}
-use Rattle.msc_reading.specs.Parts.{ending, mark}
-use Rattle.msc_reading.specs.PartReaders.{ending_at, mark_at}
-use Rattle.msc_reading.proofs.Lists.{apart_none}
-use Rattle.msc_reading.proofs.Levels.{Opened}
-use Rattle.msc_reading.proofs.Flats.{rule_by}
-use Rattle.msc_reading.proofs.Rules.{Law, Rule, Word, seq_law, seq_rule, or_law, or_rule, as_law, as_rule, until_law, until_rule, shut_law, inner_law, shut_rule, inner_rule, equal_law, equal_rule}
-use Rattle.msc_reading.proofs.Optionals.{none, behind_law, behind_rule, mapped, paired}
-use Rattle.msc_reading.proofs.PartRules.{law_by, mark_law, mark_rule, ending_law, ending_rule, placed_name_rule, name_list_law, name_list_rule, separated_law, separated_rule}
+use Rattle.token_grammar.specs.Classes.{token_of}
+use Rattle.token_grammar.specs.Languages.{Set, Read, apart, just, names, seq_at, word_at, map_at, until_at, opens_at, behind_at}
+use Rattle.token_grammar.specs.Grammars.{Grammar, seq, read_as, behind}
+use Rattle.token_grammar.specs.Parts.{ending, mark}
+use Rattle.token_grammar.specs.PartReaders.{ending_at, mark_at}
+use Rattle.token_grammar.proofs.Lists.{apart_none}
+use Rattle.token_grammar.proofs.Levels.{Opened}
+use Rattle.token_grammar.proofs.Flats.{rule_by}
+use Rattle.token_grammar.proofs.Rules.{Law, Rule, Word, seq_law, seq_rule, or_law, or_rule, as_law, as_rule, until_law, until_rule, shut_law, inner_law, shut_rule, inner_rule, equal_law, equal_rule}
+use Rattle.token_grammar.proofs.Optionals.{none, behind_law, behind_rule, mapped, paired}
+use Rattle.token_grammar.proofs.PartRules.{law_by, mark_law, mark_rule, ending_law, ending_rule, placed_name_rule, name_list_law, name_list_rule, separated_law, separated_rule}
 use Rattle.msc_expression.specs.ExpressionGrammar.{expression}
 use Rattle.msc_expression.specs.ExpressionReaders.{expression_at}
 use Rattle.msc_expression.specs.GraphGrammar.{label_of, label, labels, graph_of, graph_rest, frame_rest, node_of, next, line_of, line_rest, line_in, graph_line, chart_graph}

@@ -5,7 +5,7 @@ use Rattle.std.specs.List.{list_all}
 use Rattle.std.proofs.lemmas.Bool.{cases_lt}
 use Rattle.std.proofs.lemmas.Bool.Decides.{nat_tests}
 use Rattle.std.proofs.lemmas.List.Folds.{list_all_at}
-use Rattle.msc_reading.specs.Classes.{is_digit}
+use Rattle.token_grammar.specs.Classes.{is_digit}
 
 -- a value that is kept to a bound stays so with one more digit
 pub kept_step : (value digit cap : ℕ) → min (min value cap * 10 + digit) cap ≡ min (value * 10 + digit) cap

@@ -3,7 +3,7 @@ use Rattle.std.proofs.Common.{ℕ, ◌≡◌, List, ap, suc, zero, Some, None, c
 use Rattle.std.proofs.Math.Path.{fun_ext}
 use Rattle.msc_tokens.specs.declared.token.Token.{Token}
 use Rattle.msc_tree.specs.Graphs.{Graph}
-use Rattle.msc_reading.specs.Languages.{Read, just}
+use Rattle.token_grammar.specs.Languages.{Read, just}
 use Rattle.msc_expression.specs.ExpressionReaders.{expression_at}
 use Rattle.msc_expression.specs.GraphReaders.{frame_rest_at, frame_at, line_in_at, graph_line_at}
 use Rattle.msc_expression.proofs.Forms.{none_left, one_more_level}

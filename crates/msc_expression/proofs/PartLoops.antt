@@ -2,10 +2,10 @@
 use Rattle.std.proofs.Common.{ℕ, ◌≡◌, ◌∙◌, ◌++◌, Bool, true, false, List, [], ◌∷◌, length, map, refl, sym, ap, subst, suc, zero, Ok, Err, append-nil}
 use Rattle.msc_tokens.specs.declared.token.Token.{Token}
 use Rattle.msc_tree.specs.Expressions.{Expression}
-use Rattle.msc_reading.specs.Languages.{Read, ◌>>=◌, just, each_at, map_at}
-use Rattle.msc_reading.specs.Parts.{all_of}
-use Rattle.msc_reading.specs.PartReaders.{separated_at}
-use Rattle.msc_reading.proofs.Optionals.{mapped, paired}
+use Rattle.token_grammar.specs.Languages.{Read, ◌>>=◌, just, each_at, map_at}
+use Rattle.token_grammar.specs.Parts.{all_of}
+use Rattle.token_grammar.specs.PartReaders.{separated_at}
+use Rattle.token_grammar.proofs.Optionals.{mapped, paired}
 use Rattle.msc_expression.specs.declared.expressions.Operator.{Operator}
 use Rattle.msc_expression.specs.declared.expressions.Operator.TheVariants as operator
 use Rattle.msc_expression.specs.ExpressionGrammar.{joined}

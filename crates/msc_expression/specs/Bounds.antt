@@ -2,10 +2,10 @@
 use Rattle.std.specs.Prelude.{ℕ, List, Option, Some, None, codes, min}
 use Rattle.std.specs.Str.Parse.{digits_value}
 use Rattle.msc_tokens.specs.declared.token.Token.{Token}
-use Rattle.msc_reading.specs.Languages.{Read, just, seq_at, either_at, map_at, optional_at, behind_at}
-use Rattle.msc_reading.specs.Grammars.{Grammar, seq, or, read_as, optional, behind}
-use Rattle.msc_reading.specs.Parts.{digits, mark, kept as as_written}
-use Rattle.msc_reading.specs.PartReaders.{digits_at, mark_at}
+use Rattle.token_grammar.specs.Languages.{Read, just, seq_at, either_at, map_at, optional_at, behind_at}
+use Rattle.token_grammar.specs.Grammars.{Grammar, seq, or, read_as, optional, behind}
+use Rattle.token_grammar.specs.Parts.{digits, mark, kept as as_written}
+use Rattle.token_grammar.specs.PartReaders.{digits_at, mark_at}
 use Rattle.msc_expression.specs.declared.bounds.Bounds.{Bounds}
 
 -- the number, where it is at most 1,000,000, and 1,000,001 otherwise

@@ -2,10 +2,10 @@
 -- A level is opened by `loop`, by `opt` and by an opening parenthesis.
 use Rattle.std.specs.Prelude.{ℕ, zero, suc, List, [], ◌∷◌, Option, None, codes}
 use Rattle.msc_tree.specs.Expressions.{Expression, Expressions, Empty, Chart, Alt, Par, Seq, Opt, Loop, expressions}
-use Rattle.msc_reading.specs.Classes.{name_but}
-use Rattle.msc_reading.specs.Languages.{Set, just}
-use Rattle.msc_reading.specs.Grammars.{Grammar, Inner, shut, inner, inside, seq, or, read_as, opens, bytes_of}
-use Rattle.msc_reading.specs.Parts.{mark, separated}
+use Rattle.token_grammar.specs.Classes.{name_but}
+use Rattle.token_grammar.specs.Languages.{Set, just}
+use Rattle.token_grammar.specs.Grammars.{Grammar, Inner, shut, inner, inside, seq, or, read_as, opens, bytes_of}
+use Rattle.token_grammar.specs.Parts.{mark, separated}
 use Rattle.msc_expression.specs.declared.bounds.Bounds.{Bounds}
 use Rattle.msc_expression.specs.Bounds.{with_bounds}
 

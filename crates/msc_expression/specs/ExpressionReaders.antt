@@ -2,8 +2,8 @@
 use Rattle.std.specs.Prelude.{ℕ, zero, suc, List, [], ◌∷◌, length, Option, Some, None, Ok, option_map, codes}
 use Rattle.msc_tokens.specs.declared.token.Token.{Token}
 use Rattle.msc_tree.specs.Expressions.{Expression, Expressions, Empty, Chart, Alt, Par, Seq, Opt}
-use Rattle.msc_reading.specs.Languages.{Read, ◌>>=◌, just, seq_at, either_at, map_at, opens_at, behind_at, bytes_at}
-use Rattle.msc_reading.specs.PartReaders.{name_at, mark_at, more_at}
+use Rattle.token_grammar.specs.Languages.{Read, ◌>>=◌, just, seq_at, either_at, map_at, opens_at, behind_at, bytes_at}
+use Rattle.token_grammar.specs.PartReaders.{name_at, mark_at, more_at}
 use Rattle.msc_expression.specs.declared.expressions.Operator.{Operator}
 use Rattle.msc_expression.specs.declared.expressions.Operator.TheVariants as operator
 use Rattle.msc_expression.specs.Bounds.{loop_bounds_at}
@@ -31,7 +31,7 @@ next_part_at o q = behind_at (just (word_of o)) q
 
 -- other parts behind those that there are
 abbrev pub more_parts_at : Operator → Reader → List Expression → List Token → Read (List Expression)
-more_parts_at o q front ts = more_at (just (word_of o)) (next_part_at o q) front (length ts) ts
+more_parts_at o q prefix ts = more_at (just (word_of o)) (next_part_at o q) prefix (length ts) ts
 
 -- the expression of a first part and those behind it
 abbrev pub other_parts_at : Operator → Reader → Expression → Reader

@@ -6,9 +6,9 @@ use Rattle.msc_base.specs.declared.label.LabelRef.{LabelRef}
 use Rattle.msc_base.specs.declared.place.Place.{Place}
 use Rattle.msc_tree.specs.Expressions.{Expression}
 use Rattle.msc_tree.specs.Graphs.{Graph, Line, Node, Ends, Connect, Condition, Refer, Frames, graph, line, lines, graphs}
-use Rattle.msc_reading.specs.Languages.{just}
-use Rattle.msc_reading.specs.Grammars.{Grammar, Inner, shut, inner, inside, seq, or, read_as, until, behind, opens}
-use Rattle.msc_reading.specs.Parts.{placed_name, mark, ending, name_list, separated}
+use Rattle.token_grammar.specs.Languages.{just}
+use Rattle.token_grammar.specs.Grammars.{Grammar, Inner, shut, inner, inside, seq, or, read_as, until, behind, opens}
+use Rattle.token_grammar.specs.Parts.{placed_name, mark, ending, name_list, separated}
 use Rattle.msc_expression.specs.ExpressionGrammar.{expression}
 
 -- a label is a name, and stands where its token stands

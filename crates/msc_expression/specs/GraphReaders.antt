@@ -4,8 +4,8 @@ use Rattle.msc_base.specs.declared.label.LabelRef.{LabelRef}
 use Rattle.msc_tokens.specs.declared.token.Token.{Token}
 use Rattle.msc_tree.specs.Expressions.{Expression}
 use Rattle.msc_tree.specs.Graphs.{Graph, Line, Node, Ends, Connect, Condition, Refer, Frames, graph, lines, graphs}
-use Rattle.msc_reading.specs.Languages.{Read, just, names, seq_at, either_at, map_at, each_at, opens_at, behind_at}
-use Rattle.msc_reading.specs.PartReaders.{mark_at, ending_at, name_list_at, placed_name_at, more_at, separated_at}
+use Rattle.token_grammar.specs.Languages.{Read, just, names, seq_at, either_at, map_at, each_at, opens_at, behind_at}
+use Rattle.token_grammar.specs.PartReaders.{mark_at, ending_at, name_list_at, placed_name_at, more_at, separated_at}
 use Rattle.msc_expression.specs.ExpressionReaders.{expression_at}
 use Rattle.msc_expression.specs.Levels.{within_at}
 use Rattle.msc_expression.specs.GraphGrammar.{label_of, line_of}

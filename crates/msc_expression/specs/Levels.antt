@@ -1,7 +1,7 @@
 -- Readers of a word that opens a level.
 use Rattle.std.specs.Prelude.{ℕ, ◌==◌, ◌-◌, List, Option, Some, None, Ok, if◌then◌else◌}
 use Rattle.msc_tokens.specs.declared.token.Token.{Token}
-use Rattle.msc_reading.specs.Languages.{Set, Read, ◌>>=◌, opens_at}
+use Rattle.token_grammar.specs.Languages.{Set, Read, ◌>>=◌, opens_at}
 
 -- how many levels may be opened behind the word
 abbrev pub open_at : Set → ℕ → List Token → Read ℕ

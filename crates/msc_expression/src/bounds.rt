@@ -1,10 +1,10 @@
 ghost use Rattle.std.specs.Prelude.{◌≡◌, true};
 ghost use Rattle.std.specs.List.{list_all};
-ghost use Rattle.msc_reading.specs.Answers.{Gives};
-ghost use Rattle.msc_reading.specs.Classes.{is_digit};
+ghost use Rattle.token_grammar.specs.Answers.{Gives};
+ghost use Rattle.token_grammar.specs.Classes.{is_digit};
 ghost use Rattle.msc_expression.specs.Bounds as specs;
 
-use msc_reading::{ReadFault, number, starts_with, word};
+use token_grammar::{ReadFault, number, starts_with, word};
 use msc_tokens::Token;
 
 /// The bounds of a loop.

@@ -1,13 +1,13 @@
 ghost use Rattle.std.specs.Prelude.{◌≡◌, ◌∷◌, [], map};
 ghost use Rattle.msc_tree.specs.Views.{expression_view};
-ghost use Rattle.msc_reading.specs.Answers.{Gives};
-ghost use Rattle.msc_reading.specs.Languages.{starts, just};
+ghost use Rattle.token_grammar.specs.Answers.{Gives};
+ghost use Rattle.token_grammar.specs.Languages.{starts, just};
 ghost use Rattle.msc_expression.specs.ExpressionGrammar.{joined};
 ghost use Rattle.msc_expression.specs.ExpressionReaders.{word_of, join_of, part_at, next_part_at, more_parts_at, other_parts_at, parts_at, loop_rest_at, opt_rest_at, closed_at, prefix_at, form_at, expression_at};
 
 use crate::bounds::loop_bounds;
 use crate::level::open;
-use msc_reading::{ReadFault, own_name, starts_with, word};
+use token_grammar::{ReadFault, own_name, starts_with, word};
 use msc_tokens::Token;
 use msc_tree::RefExpr;
 use std::alloc::Global;

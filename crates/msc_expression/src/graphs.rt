@@ -1,15 +1,15 @@
 ghost use Rattle.std.specs.Prelude.{◌≡◌, map, length, codes};
 ghost use Rattle.msc_tree.specs.Views.{graph_view, line_view, node_view};
-ghost use Rattle.msc_reading.specs.Answers.{Gives};
-ghost use Rattle.msc_reading.specs.Languages.{just};
-ghost use Rattle.msc_reading.specs.PartReaders.{more_at, separated_at};
+ghost use Rattle.token_grammar.specs.Answers.{Gives};
+ghost use Rattle.token_grammar.specs.Languages.{just};
+ghost use Rattle.token_grammar.specs.PartReaders.{more_at, separated_at};
 ghost use Rattle.msc_expression.specs.ExpressionReaders.{expression_at};
 ghost use Rattle.msc_expression.specs.GraphReaders.{label_at, next_label_at, more_labels_at, labels_at, lines_at, graph_rest_at, frame_rest_at, frame_at, next_frame_at, more_frames_at, reference_node_at, condition_at, node_at, next_at, line_rest_at, line_in_at, graph_line_at, chart_graph_at};
 
 use crate::expressions::expression;
 use crate::level::open;
 use msc_base::{LabelRef, LabelRefs};
-use msc_reading::{ReadFault, ending, names, placed_name, starts_with, starts_with_name, word};
+use token_grammar::{ReadFault, ending, names, placed_name, starts_with, starts_with_name, word};
 use msc_tokens::Token;
 use msc_tree::{NodeKind, RawGraph, RawLine};
 use std::alloc::Global;
@@ -34,11 +34,11 @@ fn next_label(alloc: Global, tokens: &[Token]) -> Result<(LabelRef, &[Token]), R
 fn more_labels(
     alloc: Global,
     tokens: &[Token],
-    front: LabelRefs,
+    prefix: LabelRefs,
 ) -> Result<(LabelRefs, &[Token]), ReadFault>
-    ensures { Gives (λ x. (x.0, x.1.now)) result (more_labels_at front (length tokens.now) tokens.now) }
+    ensures { Gives (λ x. (x.0, x.1.now)) result (more_labels_at prefix (length tokens.now) tokens.now) }
 {
-    let mut labels = front;
+    let mut labels = prefix;
     let mut rest = tokens;
     for _k in 0..tokens.len() {
         if !starts_with(rest, "alt") {
@@ -231,9 +231,9 @@ fn frames(
     ensures { Gives (λ x. (map graph_view x.0.items, x.1.now)) result (separated_at (codes "par") (frame_at levels) tokens.now) }
 {
     let (first, rest) = frame(alloc, tokens, levels)?;
-    let mut front = Vec::new(alloc);
-    front.push(first)?;
-    more_frames(alloc, rest, levels, front)
+    let mut prefix = Vec::new(alloc);
+    prefix.push(first)?;
+    more_frames(alloc, rest, levels, prefix)
 }
 
 /// Other frames, each behind `par`, appended to those that there are.
@@ -242,11 +242,11 @@ fn more_frames(
     alloc: Global,
     tokens: &[Token],
     levels: usize,
-    front: Vec<RawGraph>,
+    prefix: Vec<RawGraph>,
 ) -> Result<(Vec<RawGraph>, &[Token]), ReadFault>
-    ensures { Gives (λ x. (map graph_view x.0.items, x.1.now)) result (more_frames_at levels (map graph_view front.items) (length tokens.now) tokens.now) }
+    ensures { Gives (λ x. (map graph_view x.0.items, x.1.now)) result (more_frames_at levels (map graph_view prefix.items) (length tokens.now) tokens.now) }
 {
-    let mut frames = front;
+    let mut frames = prefix;
     let mut rest = tokens;
     for _k in 0..tokens.len() {
         if !starts_with(rest, "par") {

@@ -1,10 +1,10 @@
 ghost use Rattle.std.specs.Prelude.{ℕ, List, codes};
 ghost use Rattle.msc_tokens.specs.declared.token.Token.{Token};
-ghost use Rattle.msc_reading.specs.Exactness.{IsExact};
-ghost use Rattle.msc_reading.specs.Languages.{seq_at};
-ghost use Rattle.msc_reading.specs.Parsing.{OneReading};
-ghost use Rattle.msc_reading.specs.Parts.{mark};
-ghost use Rattle.msc_reading.specs.PartReaders.{mark_at};
+ghost use Rattle.token_grammar.specs.Exactness.{IsExact};
+ghost use Rattle.token_grammar.specs.Languages.{seq_at};
+ghost use Rattle.token_grammar.specs.Parsing.{OneReading};
+ghost use Rattle.token_grammar.specs.Parts.{mark};
+ghost use Rattle.token_grammar.specs.PartReaders.{mark_at};
 ghost use Rattle.msc_expression.specs.ExpressionGrammar.{expression};
 ghost use Rattle.msc_expression.specs.ExpressionReaders.{expression_at};
 ghost use Rattle.msc_expression.specs.GraphGrammar.{chart_graph};

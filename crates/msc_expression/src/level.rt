@@ -1,8 +1,8 @@
-ghost use Rattle.msc_reading.specs.Answers.{Gives};
-ghost use Rattle.msc_reading.specs.Languages.{just};
+ghost use Rattle.token_grammar.specs.Answers.{Gives};
+ghost use Rattle.token_grammar.specs.Languages.{just};
 ghost use Rattle.msc_expression.specs.Levels.{open_at};
 
-use msc_reading::{ReadFault, word};
+use token_grammar::{ReadFault, word};
 use msc_tokens::Token;
 
 /// How many levels may be opened behind a word that opens one, and the tokens behind it. Where none may be opened, the
@@ -16,7 +16,7 @@ pub fn open<'a>(
 {
     let (_word, rest) = word(tokens, text)?;
     if levels == 0 {
-        return Err(ReadFault::Deep(tokens.len()));
+        return Err(ReadFault::TooDeep(tokens.len()));
     }
     Ok((levels - 1, rest))
 }

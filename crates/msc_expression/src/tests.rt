@@ -3,7 +3,7 @@ ghost use Rattle.std.specs.Prelude.{◌<◌, ◌^◌, length};
 
 use crate::{expression, graph};
 use msc_base::LabelRefs;
-use msc_reading::ReadFault;
+use token_grammar::ReadFault;
 use msc_tokens::{TokenList, lex_all};
 use msc_tree::{NodeKind, RefExpr};
 use std::alloc::{AllocError, Global};
@@ -139,10 +139,10 @@ fn refused_expressions(rt: HostRuntime) -> Result<(), Fail> {
         ("loop <1,2,3> a", 64, Err(ReadFault::Refused(4))),
         ("a b", 64, Ok(1)),
         ("a : b", 64, Ok(2)),
-        ("(a)", 0, Err(ReadFault::Deep(3))),
-        ("opt (a)", 1, Err(ReadFault::Deep(3))),
+        ("(a)", 0, Err(ReadFault::TooDeep(3))),
+        ("opt (a)", 1, Err(ReadFault::TooDeep(3))),
         ("opt loop a seq (a)", 2, Ok(0)),
-        ("opt loop opt a", 2, Err(ReadFault::Deep(2))),
+        ("opt loop opt a", 2, Err(ReadFault::TooDeep(2))),
     ];
     for (text, levels, want) in rows {
         assert_eq!(rt; end_of(alloc, text.as_bytes(), levels)?, want, "of {text}");
@@ -166,12 +166,12 @@ fn levels(rt: HostRuntime) -> Result<(), Fail> {
     let alloc = rt.alloc();
     let rows = [
         ("(", 64, "a )", Err(ReadFault::Refused(0))),
-        ("(", 65, "a )", Err(ReadFault::Deep(3))),
+        ("(", 65, "a )", Err(ReadFault::TooDeep(3))),
         ("opt ", 64, "a", Ok(0)),
-        ("opt ", 65, "a", Err(ReadFault::Deep(2))),
+        ("opt ", 65, "a", Err(ReadFault::TooDeep(2))),
         ("loop <2> ", 64, "a", Ok(0)),
-        ("loop <2> ", 65, "a", Err(ReadFault::Deep(5))),
-        ("opt loop (", 21, "opt (a)", Err(ReadFault::Deep(3))),
+        ("loop <2> ", 65, "a", Err(ReadFault::TooDeep(5))),
+        ("opt loop (", 21, "opt (a)", Err(ReadFault::TooDeep(3))),
     ];
     for (text, times, last, want) in rows {
         let bytes = repeated(alloc, text, times, last)?;
@@ -227,7 +227,7 @@ fn ends_of_graphs(rt: HostRuntime) -> Result<(), Fail> {
         ),
         ("expr a; a: (X) seq (a);", 0, Ok(0)),
         ("expr a; a: ((X)) seq (a);", 1, Ok(0)),
-        ("expr a; a: ((X)) seq (a);", 0, Err(ReadFault::Deep(9))),
+        ("expr a; a: ((X)) seq (a);", 0, Err(ReadFault::TooDeep(9))),
         ("expr a; a: condition c,d seq (a alt b);", 0, Ok(0)),
         (
             "expr a; a: condition c, seq (a);",
@@ -238,7 +238,7 @@ fn ends_of_graphs(rt: HostRuntime) -> Result<(), Fail> {
         (
             "expr a; a: expr b; b: end; endexpr seq (a);",
             0,
-            Err(ReadFault::Deep(13)),
+            Err(ReadFault::TooDeep(13)),
         ),
         (
             "expr a; a: expr b; endexpr par expr c; endexpr seq (a);",
@@ -253,7 +253,7 @@ fn ends_of_graphs(rt: HostRuntime) -> Result<(), Fail> {
         (
             "expr a; a: expr b; b: (opt X) seq (b); endexpr seq (a);",
             1,
-            Err(ReadFault::Deep(14)),
+            Err(ReadFault::TooDeep(14)),
         ),
         (
             "expr a; a: (X) par (Y) seq (a);",

@@ -7,20 +7,20 @@ use Rattle.msc_base.specs.declared.label.Kind.TheVariants.{Output, Input, Output
 use Rattle.msc_base.specs.declared.label.Far.TheVariants.{Nobody, Env, Instance}
 use Rattle.msc_base.specs.declared.place.Place.{Place}
 use Rattle.msc_tokens.specs.declared.token.Token.{Token}
-use Rattle.msc_reading.specs.Classes.{string}
-use Rattle.msc_reading.specs.Languages.{Set, just, names, names_or_strings, starts, texts, Read, Stop, refused, deep, tail_ends}
-use Rattle.msc_reading.specs.Answers.{Fails}
-use Rattle.msc_reading.specs.declared.readers.ReadFault.{ReadFault}
-use Rattle.msc_reading.specs.Parsing.{IsRefused}
-use Rattle.msc_reading.specs.Grammars.{Grammar}
-use Rattle.msc_reading.specs.Parts.{name, mark, dropped, ending}
-use Rattle.msc_reading.specs.Messages.{item, start_words, stop_words}
-use Rattle.msc_reading.specs.PartReaders.{item_at, name_at}
-use Rattle.msc_reading.proofs.Optionals.{none, mapped}
-use Rattle.msc_reading.proofs.PartRules.{item_rule, name_rule}
-use Rattle.msc_reading.proofs.Texts.{Textual, bytes_textual, behind_textual, seq_textual, read_textual, or_textual, chain_textual, tail_textual, optional_textual}
-use Rattle.msc_reading.proofs.Shallow.{Shallow, bytes_shallow, behind_shallow, seq_shallow, read_shallow, or_shallow, chain_shallow, tail_shallow, optional_shallow}
-use Rattle.msc_reading.proofs.LevelFree.{reads_all, some_left, is_refused, never_deep, one_textual, no_reading}
+use Rattle.token_grammar.specs.Classes.{string}
+use Rattle.token_grammar.specs.Languages.{Set, just, names, names_or_strings, starts, texts, Read, Stop, refused, deep, tail_ends}
+use Rattle.token_grammar.specs.Answers.{Fails}
+use Rattle.token_grammar.specs.declared.readers.ReadFault.{ReadFault}
+use Rattle.token_grammar.specs.Parsing.{IsRefused}
+use Rattle.token_grammar.specs.Grammars.{Grammar}
+use Rattle.token_grammar.specs.Parts.{name, mark, dropped, ending}
+use Rattle.token_grammar.specs.Messages.{item, start_words, stop_words}
+use Rattle.token_grammar.specs.PartReaders.{item_at, name_at}
+use Rattle.token_grammar.proofs.Optionals.{none, mapped}
+use Rattle.token_grammar.proofs.PartRules.{item_rule, name_rule}
+use Rattle.token_grammar.proofs.Texts.{Textual, bytes_textual, behind_textual, seq_textual, read_textual, or_textual, chain_textual, tail_textual, optional_textual}
+use Rattle.token_grammar.proofs.Shallow.{Shallow, bytes_shallow, behind_shallow, seq_shallow, read_shallow, or_shallow, chain_shallow, tail_shallow, optional_shallow}
+use Rattle.token_grammar.proofs.LevelFree.{reads_all, some_left, is_refused, never_deep, one_textual, no_reading}
 use Rattle.msc_grammar.specs.declared.fault.ParseFault.{ParseFault}
 use Rattle.msc_grammar.specs.EventGrammar.{listed, message, far_end, exchange, action, timer, creation, act, label_of, event, plain_message, in_parentheses, or_nothing, far_of}
 use Rattle.msc_grammar.specs.EventReaders.{event_at, plain_message_at, glued, text_at}
@@ -194,10 +194,10 @@ text_none _ ts left r b k = no_reading plain_message plain_textual ts k.spelled 
 -- ---- the fault
 
 abbrev pub Stands : List Token → ℕ → Place → ParseFault → Type 0
-Stands ts left end fault = (front rest : List Token) → ts ≡ front ++ rest → left ≡ length rest → fault ≡ fault_at rest end
+Stands ts left end fault = (prefix rest : List Token) → ts ≡ prefix ++ rest → left ≡ length rest → fault ≡ fault_at rest end
 
 pub refused_at : {A : Type 0} (R : Grammar A) (ts : List Token) (left : ℕ) (end : Place) (fault : ParseFault) → IsRefused (λ m. R) 0 ts left → Stands ts left end fault → RefusedAt R ts end fault
-refused_at R ts left end fault r at = record { left = left; first = r; at = at r.front r.rest r.cut r.counted }
+refused_at R ts left end fault r at = record { left = left; first = r; at = at r.prefix r.rest r.cut r.counted }
 
 pub text_refused_at : (kind : Kind) (ts : List Token) (left : ℕ) (end : Place) (fault : ParseFault) → IsTextRefusal kind ts left → Stands ts left end fault → IsTextRefused kind ts end fault
 text_refused_at Action ts left end fault r at = refused_at item ts left end fault r at
@@ -205,17 +205,17 @@ text_refused_at Create ts left end fault r at = refused_at name ts left end faul
 text_refused_at _ ts left end fault r at = refused_at plain_message ts left end fault r at
 
 -- the rest of a list, by its length
-pub drop_rest : (ts front rest : List Token) (left : ℕ) → ts ≡ front ++ rest → left ≡ length rest → drop (length ts - left) ts ≡ rest
-drop_rest ts front rest left e n =
-    let count : length ts - left ≡ length front = omega (arith, ap (λ (l : List Token). length l) e, length-append front rest) in
-    rw count (subst (λ (l : List Token). drop (length front) l ≡ rest) (sym e) (behind_front front rest))
+pub drop_rest : (ts prefix rest : List Token) (left : ℕ) → ts ≡ prefix ++ rest → left ≡ length rest → drop (length ts - left) ts ≡ rest
+drop_rest ts prefix rest left e n =
+    let count : length ts - left ≡ length prefix = omega (arith, ap (λ (l : List Token). length l) e, length-append prefix rest) in
+    rw count (subst (λ (l : List Token). drop (length prefix) l ≡ rest) (sym e) (behind_front prefix rest))
   where
-    behind_front : (front rest : List Token) → drop (length front) (front ++ rest) ≡ rest
+    behind_front : (prefix rest : List Token) → drop (length prefix) (prefix ++ rest) ≡ rest
     behind_front [] rest = refl
-    behind_front (t ∷ front) rest = behind_front front rest
+    behind_front (t ∷ prefix) rest = behind_front prefix rest
 
-pub too_many_left : (ts front rest : List Token) (left : ℕ) → ts ≡ front ++ rest → left ≡ length rest → length ts < left → ⊥
-too_many_left ts front rest left e n lt = omega (arith, ap (λ (l : List Token). length l) e, length-append front rest)
+pub too_many_left : (ts prefix rest : List Token) (left : ℕ) → ts ≡ prefix ++ rest → left ≡ length rest → length ts < left → ⊥
+too_many_left ts prefix rest left e n lt = omega (arith, ap (λ (l : List Token). length l) e, length-append prefix rest)
 
 pub empty_of : (ts : List Token) → (length ts == 0) ≡ true → ts ≡ []
 empty_of [] e = refl

@@ -4,19 +4,19 @@ use Rattle.msc_base.specs.declared.label.Kind.{Kind}
 use Rattle.msc_base.specs.declared.label.Kind.TheVariants.{Output, Input, OutputLost, InputFound, Action, TimerStart, TimerStop, Timeout, Create}
 use Rattle.msc_base.specs.declared.label.Far.TheVariants.{Nobody, Env, Instance}
 use Rattle.msc_tokens.specs.declared.token.Token.{Token}
-use Rattle.msc_reading.specs.Classes.{token_of}
-use Rattle.msc_reading.specs.Languages.{Set, among, apart, just, names, Read, seq_at, map_at, tail_ends}
-use Rattle.msc_reading.specs.Grammars.{Grammar, behind}
-use Rattle.msc_reading.specs.Messages.{item, start_words, stop_words}
-use Rattle.msc_reading.specs.Parts.{dropped}
-use Rattle.msc_reading.specs.PartReaders.{comma_item_at, name_at}
-use Rattle.msc_reading.proofs.Eaches.{last}
-use Rattle.msc_reading.proofs.Chains.{ends_of}
-use Rattle.msc_reading.proofs.Lists.{apart_none}
-use Rattle.msc_reading.proofs.Flats.{rule_by}
-use Rattle.msc_reading.proofs.Rules.{Rule, seq_rule, or_rule, as_rule, chain_rule, tail_rule}
-use Rattle.msc_reading.proofs.Optionals.{none, optional_rule, behind_rule, regrouped}
-use Rattle.msc_reading.proofs.PartRules.{item_rule, name_rule, mark_rule, ending_rule}
+use Rattle.token_grammar.specs.Classes.{token_of}
+use Rattle.token_grammar.specs.Languages.{Set, among, apart, just, names, Read, seq_at, map_at, tail_ends}
+use Rattle.token_grammar.specs.Grammars.{Grammar, behind}
+use Rattle.token_grammar.specs.Messages.{item, start_words, stop_words}
+use Rattle.token_grammar.specs.Parts.{dropped}
+use Rattle.token_grammar.specs.PartReaders.{comma_item_at, name_at}
+use Rattle.token_grammar.proofs.Eaches.{last}
+use Rattle.token_grammar.proofs.Chains.{ends_of}
+use Rattle.token_grammar.proofs.Lists.{apart_none}
+use Rattle.token_grammar.proofs.Flats.{rule_by}
+use Rattle.token_grammar.proofs.Rules.{Rule, seq_rule, or_rule, as_rule, chain_rule, tail_rule}
+use Rattle.token_grammar.proofs.Optionals.{none, optional_rule, behind_rule, regrouped}
+use Rattle.token_grammar.proofs.PartRules.{item_rule, name_rule, mark_rule, ending_rule}
 use Rattle.msc_grammar.specs.EventGrammar.{in_parentheses, listed, or_nothing, message, far_of, far_end, output, input, action, timer, creation, act, label_of, event, plain_message}
 use Rattle.msc_grammar.specs.EventReaders.{listed_at, pairing_at, list_at, message_at, far_end_at, output_at, input_at, action_at, timer_at, creation_at, act_at, event_at, plain_message_at}
 

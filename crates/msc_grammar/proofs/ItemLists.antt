@@ -1,13 +1,13 @@
 -- Items behind commas, read one by one.
 use Rattle.std.proofs.Common.{ℕ, ◌≡◌, ◌++◌, true, false, List, ◌∷◌, refl, sym, ap, subst, codes, append_assoc, append-nil, suc, zero, Some, Ok, Err}
 use Rattle.msc_tokens.specs.declared.token.Token.{Token}
-use Rattle.msc_reading.specs.Languages.{Set, just, starts, Read, Stop, refused, deep, each_at}
-use Rattle.msc_reading.specs.Answers.{Fails}
-use Rattle.msc_reading.specs.declared.readers.ReadFault.{ReadFault}
-use Rattle.msc_reading.specs.declared.readers.ReadFault.TheVariants as fault
-use Rattle.msc_reading.proofs.Optionals.{mapped}
+use Rattle.token_grammar.specs.Languages.{Set, just, starts, Read, Stop, refused, deep, each_at}
+use Rattle.token_grammar.specs.Answers.{Fails}
+use Rattle.token_grammar.specs.declared.readers.ReadFault.{ReadFault}
+use Rattle.token_grammar.specs.declared.readers.ReadFault.TheVariants as fault
+use Rattle.token_grammar.proofs.Optionals.{mapped}
 use Rattle.msc_grammar.specs.EventGrammar.{with_commas, in_parentheses}
-use Rattle.msc_reading.specs.PartReaders.{comma_item_at}
+use Rattle.token_grammar.specs.PartReaders.{comma_item_at}
 use Rattle.msc_grammar.specs.EventReaders.{more_items_at}
 
 abbrev commas : Set
@@ -38,8 +38,8 @@ pub stops_here : (f : ReadFault) (text : List ℕ) (m k : ℕ) (ts : List Token)
 stops_here fault.NoMemory text m k ts s e h = tt
 stops_here (fault.Refused left) text zero k ts s e h = cc
 stops_here (fault.Refused left) text (suc m) k ts s e h = rw (s, h) refl
-stops_here (fault.Deep left) text zero k ts s e h = cc
-stops_here (fault.Deep left) text (suc m) k ts s e h = rw (s, h) refl
+stops_here (fault.TooDeep left) text zero k ts s e h = cc
+stops_here (fault.TooDeep left) text (suc m) k ts s e h = rw (s, h) refl
 
 -- ---- in parentheses
 
@@ -59,5 +59,5 @@ pub inside_stops : (f : ReadFault) (item : List ℕ) (e : Read (List (List ℕ))
 inside_stops fault.NoMemory item e h = tt
 inside_stops (fault.Refused left) item (Ok y) h = cc
 inside_stops (fault.Refused left) item (Err e) h = (let same : e ≡ refused left = cc in ap (λ (x : Stop). Err x) same)
-inside_stops (fault.Deep left) item (Ok y) h = cc
-inside_stops (fault.Deep left) item (Err e) h = (let same : e ≡ deep left = cc in ap (λ (x : Stop). Err x) same)
+inside_stops (fault.TooDeep left) item (Ok y) h = cc
+inside_stops (fault.TooDeep left) item (Err e) h = (let same : e ≡ deep left = cc in ap (λ (x : Stop). Err x) same)

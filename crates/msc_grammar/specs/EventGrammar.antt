@@ -6,10 +6,10 @@ use Rattle.msc_base.specs.declared.label.Kind.{Kind}
 use Rattle.msc_base.specs.declared.label.Kind.TheVariants.{Output, Input, OutputLost, InputFound, Action, TimerStart, TimerStop, Timeout, Create}
 use Rattle.msc_base.specs.declared.label.Far.{Far}
 use Rattle.msc_base.specs.declared.label.Far.TheVariants.{Nobody, Env, Instance}
-use Rattle.msc_reading.specs.Languages.{Set, just}
-use Rattle.msc_reading.specs.Grammars.{Grammar, seq, or, read_as, chain, tail, optional, behind}
-use Rattle.msc_reading.specs.Parts.{name, mark, dropped, ending}
-use Rattle.msc_reading.specs.Messages.{item, start_words, stop_words}
+use Rattle.token_grammar.specs.Languages.{Set, just}
+use Rattle.token_grammar.specs.Grammars.{Grammar, seq, or, read_as, chain, tail, optional, behind}
+use Rattle.token_grammar.specs.Parts.{name, mark, dropped, ending}
+use Rattle.token_grammar.specs.Messages.{item, start_words, stop_words}
 
 -- ---- messages
 

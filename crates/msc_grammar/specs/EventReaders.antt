@@ -1,4 +1,4 @@
--- Readers of the front of a list of tokens, of the shape of the productions of an event; for private clauses.
+-- Readers of the prefix of a list of tokens, of the shape of the productions of an event; for private clauses.
 use Rattle.std.specs.Prelude.{ℕ, List, ◌++◌, Option, Ok, codes}
 use Rattle.msc_base.specs.declared.label.Label.{Label}
 use Rattle.msc_base.specs.declared.label.Kind.{Kind}
@@ -6,10 +6,10 @@ use Rattle.msc_base.specs.declared.label.Kind.TheVariants.{Output, Input, Output
 use Rattle.msc_base.specs.declared.label.Far.{Far}
 use Rattle.msc_base.specs.declared.label.Far.TheVariants.{Nobody, Env, Instance}
 use Rattle.msc_tokens.specs.declared.token.Token.{Token}
-use Rattle.msc_reading.specs.Languages.{Set, Read, just, names, names_or_strings, ◌>>=◌, each_at, seq_at, either_at, map_at, chain_at, tail_at, optional_at, behind_at}
-use Rattle.msc_reading.specs.Parts.{dropped}
-use Rattle.msc_reading.specs.Messages.{start_words, stop_words}
-use Rattle.msc_reading.specs.PartReaders.{item_at, comma_item_at, name_at, mark_at, ending_at}
+use Rattle.token_grammar.specs.Languages.{Set, Read, just, names, names_or_strings, ◌>>=◌, each_at, seq_at, either_at, map_at, chain_at, tail_at, optional_at, behind_at}
+use Rattle.token_grammar.specs.Parts.{dropped}
+use Rattle.token_grammar.specs.Messages.{start_words, stop_words}
+use Rattle.token_grammar.specs.PartReaders.{item_at, comma_item_at, name_at, mark_at, ending_at}
 use Rattle.msc_grammar.specs.EventGrammar.{Act, with_commas, in_parentheses, or_nothing, far_of, label_of}
 use Rattle.msc_grammar.specs.declared.event.Act.{Act as ActValue}
 

@@ -4,8 +4,8 @@ use Rattle.msc_base.specs.declared.label.Label.{Label}
 use Rattle.msc_base.specs.declared.label.Kind.{Kind}
 use Rattle.msc_base.specs.declared.label.Kind.TheVariants.{Action, Create}
 use Rattle.msc_tokens.specs.declared.token.Token.{Token}
-use Rattle.msc_reading.specs.Parts.{name}
-use Rattle.msc_reading.specs.Messages.{item}
+use Rattle.token_grammar.specs.Parts.{name}
+use Rattle.token_grammar.specs.Messages.{item}
 use Rattle.msc_grammar.specs.EventGrammar.{event, plain_message, or_nothing}
 
 -- the bytes of each token

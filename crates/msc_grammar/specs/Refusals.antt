@@ -4,12 +4,12 @@ use Rattle.msc_base.specs.declared.label.Kind.{Kind}
 use Rattle.msc_base.specs.declared.label.Kind.TheVariants.{Action, Create}
 use Rattle.msc_base.specs.declared.place.Place.{Place}
 use Rattle.msc_tokens.specs.declared.token.Token.{Token}
-use Rattle.msc_reading.specs.Grammars.{Grammar}
-use Rattle.msc_reading.specs.Parsing.{IsRefused}
+use Rattle.token_grammar.specs.Grammars.{Grammar}
+use Rattle.token_grammar.specs.Parsing.{IsRefused}
 use Rattle.msc_grammar.specs.declared.fault.ParseFault.{ParseFault}
-use Rattle.msc_grammar.specs.declared.fault.ParseFault.TheVariants.{Syntax, Unsupported, Deep, NoMemory}
-use Rattle.msc_reading.specs.Parts.{name}
-use Rattle.msc_reading.specs.Messages.{item}
+use Rattle.msc_grammar.specs.declared.fault.ParseFault.TheVariants.{Syntax, Unsupported, TooDeep, NoMemory}
+use Rattle.token_grammar.specs.Parts.{name}
+use Rattle.token_grammar.specs.Messages.{item}
 use Rattle.msc_grammar.specs.EventGrammar.{plain_message}
 use Rattle.msc_grammar.specs.Refused.{fault_at}
 
@@ -17,7 +17,7 @@ use Rattle.msc_grammar.specs.Refused.{fault_at}
 abbrev pub IsRefusal : ParseFault → Type 0
 IsRefusal (Syntax at) = Unit {0}
 IsRefusal (Unsupported form at) = Unit {0}
-IsRefusal (Deep at) = Unit {0}
+IsRefusal (TooDeep at) = Unit {0}
 IsRefusal NoMemory = ⊥
 
 -- The tokens up to one of them begin what the grammar reads, those up to and with it don't, and the fault is at it.

@@ -2,9 +2,9 @@
 use Rattle.std.specs.Prelude.{ℕ, List, [], ◌∷◌, Option, Some, None, codes, if◌then◌else◌}
 use Rattle.msc_base.specs.declared.place.Place.{Place}
 use Rattle.msc_tokens.specs.declared.token.Token.{Token}
-use Rattle.msc_reading.specs.Classes.{is_one_of}
-use Rattle.msc_grammar.specs.declared.rule.Form.{Form}
-use Rattle.msc_grammar.specs.declared.rule.Form.TheVariants.{Guard, DataForm, TimeForm, Method, Qualifier, Inheritance, GateForm, ExcForm}
+use Rattle.token_grammar.specs.Classes.{is_one_of}
+use Rattle.msc_rules.specs.declared.rule.Form.{Form}
+use Rattle.msc_rules.specs.declared.rule.Form.TheVariants.{Guard, DataForm, TimeForm, Method, Qualifier, Inheritance, GateForm, ExcForm}
 use Rattle.msc_grammar.specs.declared.fault.ParseFault.{ParseFault}
 use Rattle.msc_grammar.specs.declared.fault.ParseFault.TheVariants.{Syntax, Unsupported}
 

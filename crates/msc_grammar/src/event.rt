@@ -1,10 +1,10 @@
 ghost use Rattle.std.specs.Prelude.{◌≡◌};
-ghost use Rattle.msc_reading.specs.Answers.{Gives};
+ghost use Rattle.token_grammar.specs.Answers.{Gives};
 ghost use Rattle.msc_grammar.specs.EventReaders.{far_end_at, far_name_at, to_name_at, to_env_at, to_lost_at, output_at, input_at, action_at, timer_end_at, timer_act, creation_at, timers_at, act_at, event_at, act_view};
 
 use crate::message::message;
 use msc_base::{Far, Kind, Label, Text};
-use msc_reading::{
+use token_grammar::{
     ReadFault, either_word, ending, name, name_of, name_or_string, own_name, starts_with,
     starts_with_either, starts_with_name, word,
 };
@@ -200,7 +200,7 @@ fn act_end(alloc: Global, tokens: &[Token]) -> Result<(Act, &[Token]), ReadFault
     timers(alloc, tokens)
 }
 
-/// The event at the front of the tokens.
+/// The event at the prefix of the tokens.
 pub fn event(alloc: Global, tokens: &[Token]) -> Result<(Label, &[Token]), ReadFault>
     ensures { Gives (λ x. (x.0, x.1.now)) result (event_at tokens.now) }
 {

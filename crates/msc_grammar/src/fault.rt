@@ -1,6 +1,6 @@
 ghost use Rattle.std.specs.Prelude.{◌≡◌};
 ghost use Rattle.std.specs.Str.{bytes_eq};
-ghost use Rattle.msc_reading.specs.Classes.{is_one_of};
+ghost use Rattle.token_grammar.specs.Classes.{is_one_of};
 ghost use Rattle.msc_grammar.specs.Refused.{form_of, guard_texts, data_texts, time_texts, method_texts, qualifier_texts, inheritance_texts};
 
 use crate::rule::Form;
@@ -15,7 +15,7 @@ pub enum ParseFault {
     /// The same, where the token is a word or mark of a form that isn't taken.
     Unsupported(Form, Place),
     /// The token here opens a level too many.
-    Deep(Place),
+    TooDeep(Place),
     /// Want of memory.
     NoMemory,
 }

@@ -1,7 +1,7 @@
 ghost use Rattle.std.specs.Prelude.{◌≡◌, ◌++◌, List, ℕ, IfOk, IfErr, length};
 ghost use Rattle.msc_base.specs.declared.label.Label.{Label};
 ghost use Rattle.msc_tokens.specs.declared.token.Token.{Token};
-ghost use Rattle.msc_reading.specs.Answers.{Gives};
+ghost use Rattle.token_grammar.specs.Answers.{Gives};
 ghost use Rattle.msc_grammar.specs.EventGrammar.{event};
 ghost use Rattle.msc_grammar.specs.EventReaders.{text_at, glued_message_at};
 ghost use Rattle.msc_grammar.specs.Events.{texts, ReadsEvent, ReadsText};
@@ -12,7 +12,7 @@ use crate::event::event;
 use crate::fault::{ParseFault, form_of};
 use crate::message::{joined, listed};
 use msc_base::{Kind, Label, Place, Text};
-use msc_reading::{ReadFault, name, name_or_string, starts_with};
+use token_grammar::{ReadFault, name, name_or_string, starts_with};
 use msc_tokens::{Token, TokenList};
 use std::alloc::Global;
 
@@ -28,7 +28,7 @@ fn refusal_of(token: &Token) -> ParseFault
 
 /// The refusal of the first of the last so many tokens, or of the text's end where there is none.
 fn refusal(tokens: &[Token], left: usize, end: Place) -> ParseFault
-    ensures { (front rest : List Token) → tokens.now ≡ front ++ rest → left ≡ length rest → result ≡ fault_at rest end }
+    ensures { (prefix rest : List Token) → tokens.now ≡ prefix ++ rest → left ≡ length rest → result ≡ fault_at rest end }
 {
     if left > tokens.len() {
         return ParseFault::Syntax(end);
@@ -56,7 +56,7 @@ fn read_event(alloc: Global, tokens: &[Token], end: Place) -> Result<Label, Pars
             }
         }
         Err(ReadFault::Refused(left)) => Err(refusal(tokens, left, end)),
-        Err(ReadFault::Deep(left)) => Err(refusal(tokens, left, end)),
+        Err(ReadFault::TooDeep(left)) => Err(refusal(tokens, left, end)),
         Err(ReadFault::NoMemory) => Err(ParseFault::NoMemory),
     }
 }
@@ -83,7 +83,7 @@ fn plain_message(alloc: Global, tokens: &[Token]) -> Result<(Text, &[Token]), Re
     Ok((joined(alloc, first.bytes.bytes(), &[])?, rest))
 }
 
-/// The text of an event of this kind, at the front of the tokens.
+/// The text of an event of this kind, at the prefix of the tokens.
 fn text(alloc: Global, kind: Kind, tokens: &[Token]) -> Result<(Text, &[Token]), ReadFault>
     ensures { Gives (λ x. (x.0, x.1.now)) result (text_at kind tokens.now) }
 {
@@ -116,7 +116,7 @@ fn read_text(alloc: Global, kind: Kind, tokens: &[Token], end: Place) -> Result<
             }
         }
         Err(ReadFault::Refused(left)) => Err(refusal(tokens, left, end)),
-        Err(ReadFault::Deep(left)) => Err(refusal(tokens, left, end)),
+        Err(ReadFault::TooDeep(left)) => Err(refusal(tokens, left, end)),
         Err(ReadFault::NoMemory) => Err(ParseFault::NoMemory),
     }
 }

@@ -1,10 +1,10 @@
 ghost use Rattle.std.specs.Prelude.{◌≡◌, ◌++◌, length, codes, IfOk};
-ghost use Rattle.msc_reading.specs.Answers.{Gives};
-ghost use Rattle.msc_reading.specs.PartReaders.{comma_item_at};
+ghost use Rattle.token_grammar.specs.Answers.{Gives};
+ghost use Rattle.token_grammar.specs.PartReaders.{comma_item_at};
 ghost use Rattle.msc_grammar.specs.EventReaders.{more_items_at, inside_at, listed_at, pairing_at, list_at, message_at};
 
 use msc_base::{NoMemory, Text};
-use msc_reading::{ReadFault, name, name_or_string, starts_with, starts_with_item, word};
+use token_grammar::{ReadFault, name, name_or_string, starts_with, starts_with_item, word};
 use msc_tokens::Token;
 use std::alloc::Global;
 

@@ -6,8 +6,8 @@ use Rattle.std.proofs.lemmas.Option.{slice_get_within, slice_get-get_or}
 use Rattle.msc_base.specs.declared.place.Place.{Place}
 use Rattle.item_order.specs.declared.edge.Edge.{Edge}
 use Rattle.item_order.specs.Counts.{Leads}
-use Rattle.item_order.specs.Places.{IsLeast, earliest_if}
-use Rattle.item_order.proofs.Narrowing.{Narrows, narrows_end, narrows_step}
+use Rattle.msc_base.specs.Places.{IsLeast, earliest_if}
+use Rattle.msc_base.proofs.Narrowing.{Narrows, narrows_end, narrows_step}
 use Rattle.msc_instances.specs.Alone.{AreTold, HasEnd, IsAlone, is_message}
 use Rattle.msc_instances.specs.Entries.{PlacedEvent}
 use Rattle.msc_instances.specs.EventViews.{event_view}

@@ -11,7 +11,8 @@ use Rattle.std.proofs.lemmas.Slice.Eq.{bytes_eq-Decides}
 use Rattle.item_order.specs.declared.edge.Edge.{Edge}
 use Rattle.item_order.specs.Columns.{columns_from}
 use Rattle.item_order.specs.Counts.{targets}
-use Rattle.msc_base.specs.Names.{AreDifferent, IsOneOf}
+use Rattle.msc_base.specs.Lists.{AreDifferent}
+use Rattle.msc_base.specs.Lists.{IsAmong}
 use Rattle.msc_base.specs.NameTables.{with_name}
 use Rattle.msc_instances.specs.declared.events.PlacedEvent as code
 use Rattle.msc_instances.specs.Entries.{Entry, PlacedEvent, column_of, columns_of, entries_from}
@@ -26,7 +27,7 @@ use Rattle.msc_instances.proofs.Walks.{assoc, drop_read}
 
 -- ---- different names
 
-one_of_at : (names : List (List ℕ)) (k : ℕ) (x : List ℕ) → slice_get names k ≡ Some x → IsOneOf names x
+one_of_at : (names : List (List ℕ)) (k : ℕ) (x : List ℕ) → slice_get names k ≡ Some x → IsAmong names x
 one_of_at [] k x at = cc
 one_of_at (n ∷ names) zero x at = let e : x ≡ n = cc in inl e
 one_of_at (n ∷ names) (suc k) x at = inr (one_of_at names k x at)
@@ -35,14 +36,14 @@ one_of_at (n ∷ names) (suc k) x at = inr (one_of_at names k x at)
 one_place : (names : List (List ℕ)) (c k : ℕ) (x : List ℕ) → AreDifferent names → slice_get names c ≡ Some x → slice_get names k ≡ Some x → c ≡ k
 one_place [] c k x d a b = cc
 one_place (n ∷ names) zero zero x d a b = refl
-one_place (n ∷ names) zero (suc k) x d a b = let e : x ≡ n = cc in absurd (d.0 (subst (IsOneOf names) e (one_of_at names k x b)))
-one_place (n ∷ names) (suc c) zero x d a b = let e : x ≡ n = cc in absurd (d.0 (subst (IsOneOf names) e (one_of_at names c x a)))
+one_place (n ∷ names) zero (suc k) x d a b = let e : x ≡ n = cc in absurd (d.0 (subst (IsAmong names) e (one_of_at names k x b)))
+one_place (n ∷ names) (suc c) zero x d a b = let e : x ≡ n = cc in absurd (d.0 (subst (IsAmong names) e (one_of_at names c x a)))
 one_place (n ∷ names) (suc c) (suc k) x d a b = ap suc (one_place names c k x d.1 a b)
 
-not_before : (names : List (List ℕ)) (k : ℕ) (x : List ℕ) → AreDifferent names → slice_get names k ≡ Some x → IsOneOf (take k names) x → ⊥
+not_before : (names : List (List ℕ)) (k : ℕ) (x : List ℕ) → AreDifferent names → slice_get names k ≡ Some x → IsAmong (take k names) x → ⊥
 not_before [] k x d at h = cc
 not_before (n ∷ names) zero x d at h = h
-not_before (n ∷ names) (suc k) x d at (inl e) = d.0 (subst (IsOneOf names) e (one_of_at names k x at))
+not_before (n ∷ names) (suc k) x d at (inl e) = d.0 (subst (IsAmong names) e (one_of_at names k x at))
 not_before (n ∷ names) (suc k) x d at (inr h) = not_before names k x d.1 at h
 
 -- a table with one of them more
@@ -52,13 +53,13 @@ table_step names k x table after d low at is same made =
     made ∙ ap (λ (t : List (List ℕ)). with_name t x) same ∙ with_new (take k names) x (not_before names k x d at)
     ∙ ap (λ (y : List ℕ). take k names ++ y ∷ []) is ∙ sym (take_more names k x low)
 
-none_snoc : (names : List (List ℕ)) (n m : List ℕ) → (n ≡ m → ⊥) → (IsOneOf names m → ⊥) → IsOneOf (names ++ n ∷ []) m → ⊥
+none_snoc : (names : List (List ℕ)) (n m : List ℕ) → (n ≡ m → ⊥) → (IsAmong names m → ⊥) → IsAmong (names ++ n ∷ []) m → ⊥
 none_snoc [] n m ne lacks (inl e) = ne (sym e)
 none_snoc [] n m ne lacks (inr h) = h
 none_snoc (w ∷ ws) n m ne lacks (inl e) = lacks (inl e)
 none_snoc (w ∷ ws) n m ne lacks (inr h) = none_snoc ws n m ne (λ g. lacks (inr g)) h
 
-different_snoc : (names : List (List ℕ)) (n : List ℕ) → AreDifferent names → (IsOneOf names n → ⊥) → AreDifferent (names ++ n ∷ [])
+different_snoc : (names : List (List ℕ)) (n : List ℕ) → AreDifferent names → (IsAmong names n → ⊥) → AreDifferent (names ++ n ∷ [])
 different_snoc [] n d lacks = (λ h. h, tt)
 different_snoc (w ∷ ws) n d lacks = (none_snoc ws n w (λ e. lacks (inl e)) d.0, different_snoc ws n d.1 (λ h. lacks (inr h)))
 
@@ -101,7 +102,7 @@ number_tells names k c n a d at is =
 none_tells : (names : List (List ℕ)) (k : ℕ) (n a : List ℕ) → slice_get names k ≡ Some n → position (bytes_eq a) names ≡ None → bytes_eq a n ≡ false
 none_tells names k n a at is = false_from_ne_true (bytes_eq a n) (λ t.
     let one : n ≡ a = sym ((bytes_eq-Decides a n).0 t) in
-    let some : is_some (position (bytes_eq a) names) ≡ true = number_of_one names a (subst (IsOneOf names) one (one_of_at names k n at)) in
+    let some : is_some (position (bytes_eq a) names) ≡ true = number_of_one names a (subst (IsAmong names) one (one_of_at names k n at)) in
     true≢false (sym some ∙ ap is_some is))
 
 target_column : (names : List (List ℕ)) (k : ℕ) (n : List ℕ) → AreDifferent names → slice_get names k ≡ Some n → (entries : List Entry) → targets (entry_edges names entries) k ≡ column_of entries n

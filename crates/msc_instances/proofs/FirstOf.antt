@@ -1,9 +1,9 @@
 -- The first of two faults is the earlier one, and at one place that of a second name.
 use Rattle.std.proofs.Common.{◌≡◌, ◌⊎◌, ℕ, List, [], sym, Option, None, Some, inl, inr, subst}
 use Rattle.msc_base.specs.declared.place.Place.{Place}
-use Rattle.item_order.specs.Places.{IsBefore, IsLeast, IsNoLater, earliest}
-use Rattle.item_order.proofs.Narrowing.{IsReached, earliest_is}
-use Rattle.item_order.proofs.PlaceFacts.{before_cases, before_through, no_later_through}
+use Rattle.msc_base.specs.Places.{IsBefore, IsLeast, IsNoLater, earliest}
+use Rattle.msc_base.proofs.Narrowing.{IsReached, earliest_is}
+use Rattle.msc_base.proofs.PlaceFacts.{before_cases, before_through, no_later_through}
 use Rattle.msc_instances.specs.Notes.{Note}
 use Rattle.msc_instances.specs.Parts.{NamedPart}
 use Rattle.msc_instances.specs.declared.naming.NameFault.{NameFault}

@@ -4,7 +4,7 @@ use Rattle.std.proofs.lemmas.Bool.{or_cases, or_left, or_right, true≢false, an
 use Rattle.std.proofs.lemmas.Slice.Eq.{bytes_eq-Decides}
 use Rattle.std.specs.List.{list_any}
 use Rattle.std.specs.Str.{bytes_eq}
-use Rattle.msc_base.specs.Names.{IsOneOf}
+use Rattle.msc_base.specs.Lists.{IsAmong}
 use Rattle.msc_base.specs.NameTables.{with_name}
 use Rattle.msc_instances.specs.declared.again.Met.{Met}
 use Rattle.msc_instances.specs.declared.again.PartKey.{PartKey}
@@ -15,24 +15,24 @@ use Rattle.msc_instances.proofs.Tables.{one_from_any}
 
 -- ---- one name more
 
-one_snoc : (names : List (List ℕ)) (m n : List ℕ) → IsOneOf (names ++ m ∷ []) n → (n ≡ m) ⊎ IsOneOf names n
+one_snoc : (names : List (List ℕ)) (m n : List ℕ) → IsAmong (names ++ m ∷ []) n → (n ≡ m) ⊎ IsAmong names n
 one_snoc [] m n (inl e) = inl e
 one_snoc [] m n (inr h) = absurd h
 one_snoc (w ∷ ws) m n (inl e) = inr (inl e)
 one_snoc (w ∷ ws) m n (inr h) = elim (one_snoc ws m n h) [ inl e ↦ inl e | inr r ↦ inr (inr r) ]
 
-snoc_one : (names : List (List ℕ)) (m n : List ℕ) → (n ≡ m) ⊎ IsOneOf names n → IsOneOf (names ++ m ∷ []) n
+snoc_one : (names : List (List ℕ)) (m n : List ℕ) → (n ≡ m) ⊎ IsAmong names n → IsAmong (names ++ m ∷ []) n
 snoc_one [] m n (inl e) = inl e
 snoc_one [] m n (inr h) = absurd h
 snoc_one (w ∷ ws) m n (inl e) = inr (snoc_one ws m n (inl e))
 snoc_one (w ∷ ws) m n (inr (inl e)) = inl e
 snoc_one (w ∷ ws) m n (inr (inr h)) = inr (snoc_one ws m n (inr h))
 
-one_with : (names : List (List ℕ)) (m n : List ℕ) → IsOneOf (with_name names m) n ↔ ((n ≡ m) ⊎ IsOneOf names n)
+one_with : (names : List (List ℕ)) (m n : List ℕ) → IsAmong (with_name names m) n ↔ ((n ≡ m) ⊎ IsAmong names n)
 one_with names m n = by (list_any (bytes_eq m) names) refl
   where
-    by : (b : Bool) → list_any (bytes_eq m) names ≡ b → IsOneOf (cond b names (names ++ m ∷ [])) n ↔ ((n ≡ m) ⊎ IsOneOf names n)
-    by true e = (λ h. inr h, λ s. elim s [ inl is ↦ subst (IsOneOf names) (sym is) (one_from_any names m e) | inr h ↦ h ])
+    by : (b : Bool) → list_any (bytes_eq m) names ≡ b → IsAmong (cond b names (names ++ m ∷ [])) n ↔ ((n ≡ m) ⊎ IsAmong names n)
+    by true e = (λ h. inr h, λ s. elim s [ inl is ↦ subst (IsAmong names) (sym is) (one_from_any names m e) | inr h ↦ h ])
     by false e = (one_snoc names m n, snoc_one names m n)
 
 -- ---- one key more
@@ -93,12 +93,12 @@ pub knows_outside : (old new : Met) (before : List NamedPart) (part : NamedPart)
     → new.names ≡ with_name old.names name → new.outside ≡ with_name old.outside name → new.inside.keys ≡ old.inside.keys → Knows new (part ∷ before)
 knows_outside old new before part name k is none names outside inside = record {
   names = λ n. (
-    λ h. elim ((one_with old.names name n).0 (subst (λ (ns : List (List ℕ)). IsOneOf ns n) names h)) [ inl e ↦ inl (is ∙ sym e) | inr r ↦ inr ((k.names n).0 r) ],
-    λ h. subst (λ (ns : List (List ℕ)). IsOneOf ns n) (sym names) ((one_with old.names name n).1 (elim h [ inl e ↦ inl (sym e ∙ is) | inr r ↦ inr ((k.names n).1 r) ])),
+    λ h. elim ((one_with old.names name n).0 (subst (λ (ns : List (List ℕ)). IsAmong ns n) names h)) [ inl e ↦ inl (is ∙ sym e) | inr r ↦ inr ((k.names n).0 r) ],
+    λ h. subst (λ (ns : List (List ℕ)). IsAmong ns n) (sym names) ((one_with old.names name n).1 (elim h [ inl e ↦ inl (sym e ∙ is) | inr r ↦ inr ((k.names n).1 r) ])),
   );
   outside = λ n. (
-    λ h. elim ((one_with old.outside name n).0 (subst (λ (ns : List (List ℕ)). IsOneOf ns n) outside h)) [ inl e ↦ inl (is ∙ sym e, none) | inr r ↦ inr ((k.outside n).0 r) ],
-    λ h. subst (λ (ns : List (List ℕ)). IsOneOf ns n) (sym outside) ((one_with old.outside name n).1 (elim h [ inl e ↦ inl (sym e.0 ∙ is) | inr r ↦ inr ((k.outside n).1 r) ])),
+    λ h. elim ((one_with old.outside name n).0 (subst (λ (ns : List (List ℕ)). IsAmong ns n) outside h)) [ inl e ↦ inl (is ∙ sym e, none) | inr r ↦ inr ((k.outside n).0 r) ],
+    λ h. subst (λ (ns : List (List ℕ)). IsAmong ns n) (sym outside) ((one_with old.outside name n).1 (elim h [ inl e ↦ inl (sym e.0 ∙ is) | inr r ↦ inr ((k.outside n).1 r) ])),
   );
   inside = λ n c. (
     λ h. inr ((k.inside n c).0 (subst (λ (ks : List PartKey). HasKey ks n c) inside h)),
@@ -115,12 +115,12 @@ pub knows_inside : (old new : Met) (before : List NamedPart) (part : NamedPart) 
     → new.inside.keys ≡ cond (list_any (eq-value.it key) old.inside.keys) old.inside.keys (old.inside.keys ++ key ∷ []) → Knows new (part ∷ before)
 knows_inside old new before part name column key k is some key_name key_column names outside inside = record {
   names = λ n. (
-    λ h. elim ((one_with old.names name n).0 (subst (λ (ns : List (List ℕ)). IsOneOf ns n) names h)) [ inl e ↦ inl (is ∙ sym e) | inr r ↦ inr ((k.names n).0 r) ],
-    λ h. subst (λ (ns : List (List ℕ)). IsOneOf ns n) (sym names) ((one_with old.names name n).1 (elim h [ inl e ↦ inl (sym e ∙ is) | inr r ↦ inr ((k.names n).1 r) ])),
+    λ h. elim ((one_with old.names name n).0 (subst (λ (ns : List (List ℕ)). IsAmong ns n) names h)) [ inl e ↦ inl (is ∙ sym e) | inr r ↦ inr ((k.names n).0 r) ],
+    λ h. subst (λ (ns : List (List ℕ)). IsAmong ns n) (sym names) ((one_with old.names name n).1 (elim h [ inl e ↦ inl (sym e ∙ is) | inr r ↦ inr ((k.names n).1 r) ])),
   );
   outside = λ n. (
-    λ h. inr ((k.outside n).0 (subst (λ (ns : List (List ℕ)). IsOneOf ns n) outside h)),
-    λ h. subst (λ (ns : List (List ℕ)). IsOneOf ns n) (sym outside) (elim h [ inl e ↦ absurd (never (sym some ∙ e.1)) | inr r ↦ (k.outside n).1 r ]),
+    λ h. inr ((k.outside n).0 (subst (λ (ns : List (List ℕ)). IsAmong ns n) outside h)),
+    λ h. subst (λ (ns : List (List ℕ)). IsAmong ns n) (sym outside) (elim h [ inl e ↦ absurd (never (sym some ∙ e.1)) | inr r ↦ (k.outside n).1 r ]),
   );
   inside = λ n c. (
     λ h. elim ((key_with old.inside.keys key n c).0 (subst (λ (ks : List PartKey). HasKey ks n c) inside h)) [
@@ -197,7 +197,7 @@ retold (Err e) P Q f h = tt
 
 -- what the key says, where no part outside columns has the name
 pub inside_told : (met : Met) (before : List NamedPart) (name column : List ℕ) (key : PartKey) (new : Bool) → Knows met before → key.name.items ≡ name → key.column.items ≡ column
-    → (IsOneOf met.outside name → ⊥) → new ≡ not (list_any (eq-value.it key) met.inside.keys) → IsTrue (not new) ↔ (HasPart before name None ⊎ HasPart before name (Some column))
+    → (IsAmong met.outside name → ⊥) → new ≡ not (list_any (eq-value.it key) met.inside.keys) → IsTrue (not new) ↔ (HasPart before name None ⊎ HasPart before name (Some column))
 inside_told met before name column key new k key_name key_column none added = (
   λ t. inr ((k.inside name column).0 (same_key met.inside.keys key.name.items name key.column.items column key_name key_column (key_from_any met.inside.keys key (held new _ added t)))),
   λ h. elim h [

@@ -2,10 +2,10 @@
 use Rattle.std.proofs.Common.{◌≡◌, ℕ, ◌<◌, ◌+◌, suc, Bool, true, List, [], ◌∷◌, Option, map, drop, get_or, length, arith, sym, subst, ap, ◌∙◌}
 use Rattle.std.proofs.Math.Seq.{drop-cons}
 use Rattle.msc_base.specs.declared.place.Place.{Place}
-use Rattle.msc_base.specs.Names.{IsOneOf}
+use Rattle.msc_base.specs.Lists.{IsAmong}
 use Rattle.msc_base.specs.NameTables.{with_name}
-use Rattle.item_order.specs.Places.{earliest_if}
-use Rattle.item_order.proofs.Narrowing.{Narrows, narrows_step}
+use Rattle.msc_base.specs.Places.{earliest_if}
+use Rattle.msc_base.proofs.Narrowing.{Narrows, narrows_step}
 use Rattle.msc_instances.specs.Instances.{DecomposesAgain}
 use Rattle.msc_instances.specs.NoteViews.{note_view}
 use Rattle.msc_instances.specs.Notes.{Decomposed}
@@ -20,7 +20,7 @@ split list i item low is =
 pub again_step : (all : List plain.Note) (list : List Note) (i : ℕ) (name : List ℕ) (place : Place) (item : Note) (b : Bool) (before after : List (List ℕ)) (best next : Option Place)
     → Narrows (DecomposesAgain [] all) (λ q. DecomposesAgain before (map note_view (drop i list)) q) best
     → i < length list → item ≡ get_or list i item → note_view item ≡ Decomposed name place
-    → (b ≡ true → IsOneOf before name) → (IsOneOf before name → b ≡ true)
+    → (b ≡ true → IsAmong before name) → (IsAmong before name → b ≡ true)
     → next ≡ earliest_if b best place → after ≡ with_name before name
     → Narrows (DecomposesAgain [] all) (λ q. DecomposesAgain after (map note_view (drop (i + 1) list)) q) next
 again_step all list i name place item b before after best next k low is view f g made grown =
@@ -29,7 +29,7 @@ again_step all list i name place item b before after best next k low is view f g
     let now : Narrows (DecomposesAgain [] all) (λ q. DecomposesAgain before (Decomposed name place ∷ map note_view (drop (i + 1) list)) q) best =
     subst (λ (ns : List plain.Note). Narrows (DecomposesAgain [] all) (λ q. DecomposesAgain before ns q) best) rest k in
     let done : Narrows (DecomposesAgain [] all) (λ q. DecomposesAgain (with_name before name) (map note_view (drop (i + 1) list)) q) (earliest_if b best place) =
-    narrows_step (DecomposesAgain [] all) (λ q. DecomposesAgain (with_name before name) (map note_view (drop (i + 1) list)) q) best place b (IsOneOf before name) now f g in
+    narrows_step (DecomposesAgain [] all) (λ q. DecomposesAgain (with_name before name) (map note_view (drop (i + 1) list)) q) best place b (IsAmong before name) now f g in
     let at : Narrows (DecomposesAgain [] all) (λ q. DecomposesAgain after (map note_view (drop (i + 1) list)) q) (earliest_if b best place) =
     subst (λ (ns : List (List ℕ)). Narrows (DecomposesAgain [] all) (λ q. DecomposesAgain ns (map note_view (drop (i + 1) list)) q) (earliest_if b best place)) (sym grown) done in
     subst (λ (o : Option Place). Narrows (DecomposesAgain [] all) (λ q. DecomposesAgain after (map note_view (drop (i + 1) list)) q) o) (sym made) at

@@ -2,8 +2,8 @@
 use Rattle.std.proofs.Common.{◌≡◌, ◌⊎◌, inl, inr, ℕ, ◌<◌, ◌+◌, zero, suc, Bool, true, List, [], ◌∷◌, Option, Some, map, drop, get_or, length, arith, sym, refl, subst, ap, ◌∙◌}
 use Rattle.std.proofs.Math.Seq.{drop-cons}
 use Rattle.msc_base.specs.declared.place.Place.{Place}
-use Rattle.item_order.specs.Places.{IsLeast, earliest_if}
-use Rattle.item_order.proofs.Narrowing.{Narrows, IsReached, narrows_step, narrows_end, narrows_part}
+use Rattle.msc_base.specs.Places.{IsLeast, earliest_if}
+use Rattle.msc_base.proofs.Narrowing.{Narrows, IsReached, narrows_step, narrows_end, narrows_part}
 use Rattle.msc_instances.specs.declared.again.Met.{Met}
 use Rattle.msc_instances.specs.declared.parts.NamedPart.{NamedPart}
 use Rattle.msc_instances.specs.Meetings.{Knows}

@@ -5,17 +5,17 @@ use Rattle.std.proofs.lemmas.Slice.Eq.{bytes_eq-Decides}
 use Rattle.std.specs.List.{position, list_any, prefix_len}
 use Rattle.std.specs.Option.{is_some}
 use Rattle.std.specs.Str.{bytes_eq}
-use Rattle.msc_base.specs.Names.{IsOneOf}
+use Rattle.msc_base.specs.Lists.{IsAmong}
 use Rattle.msc_base.specs.NameTables.{with_name}
 
-pub one_from_any : (names : List (List ℕ)) (n : List ℕ) → list_any (bytes_eq n) names ≡ true → IsOneOf names n
+pub one_from_any : (names : List (List ℕ)) (n : List ℕ) → list_any (bytes_eq n) names ≡ true → IsAmong names n
 one_from_any [] n h = absurd (true≢false (sym h))
 one_from_any (w ∷ ws) n h = elim (or_cases (bytes_eq n w) (list_any (bytes_eq n) ws) h) [
   | inl e ↦ inl ((bytes_eq-Decides n w).0 e)
   | inr r ↦ inr (one_from_any ws n r)
 ]
 
-pub any_from_one : (names : List (List ℕ)) (n : List ℕ) → IsOneOf names n → list_any (bytes_eq n) names ≡ true
+pub any_from_one : (names : List (List ℕ)) (n : List ℕ) → IsAmong names n → list_any (bytes_eq n) names ≡ true
 any_from_one [] n h = absurd h
 any_from_one (w ∷ ws) n (inl e) = or_left (bytes_eq n w) (list_any (bytes_eq n) ws) ((bytes_eq-Decides n w).1 e)
 any_from_one (w ∷ ws) n (inr r) = or_right (bytes_eq n w) (list_any (bytes_eq n) ws) (any_from_one ws n r)
@@ -50,18 +50,18 @@ module _ (p : List ℕ → Bool) where
       choose true e h = below_found xs (ltb-true _ _ e)
       choose false e h = absurd (true≢false (sym h))
 
-pub one_of_number : (table : List (List ℕ)) (n : List ℕ) → is_some (position (bytes_eq n) table) ≡ true → IsOneOf table n
+pub one_of_number : (table : List (List ℕ)) (n : List ℕ) → is_some (position (bytes_eq n) table) ≡ true → IsAmong table n
 one_of_number table n h = one_from_any table n (any_from_some (bytes_eq n) table h)
 
-pub number_of_one : (table : List (List ℕ)) (n : List ℕ) → IsOneOf table n → is_some (position (bytes_eq n) table) ≡ true
+pub number_of_one : (table : List (List ℕ)) (n : List ℕ) → IsAmong table n → is_some (position (bytes_eq n) table) ≡ true
 number_of_one table n h = some_from_any (bytes_eq n) table (any_from_one table n h)
 
 -- a name that the table has leaves it as it is
-pub with_old : (table : List (List ℕ)) (n : List ℕ) → IsOneOf table n → with_name table n ≡ table
+pub with_old : (table : List (List ℕ)) (n : List ℕ) → IsAmong table n → with_name table n ≡ table
 with_old table n h = rw (any_from_one table n h) refl
 
 -- another stands at its end
-pub with_new : (table : List (List ℕ)) (n : List ℕ) → (IsOneOf table n → ⊥) → with_name table n ≡ table ++ n ∷ []
+pub with_new : (table : List (List ℕ)) (n : List ℕ) → (IsAmong table n → ⊥) → with_name table n ≡ table ++ n ∷ []
 with_new table n none = choose (list_any (bytes_eq n) table) refl
   where
     choose : (b : Bool) → list_any (bytes_eq n) table ≡ b → cond b table (table ++ n ∷ []) ≡ table ++ n ∷ []

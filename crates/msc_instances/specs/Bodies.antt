@@ -2,7 +2,7 @@
 use Rattle.std.specs.Prelude.{◌≡◌, ◌⊎◌, ⊤, ℕ, List, [], ◌∷◌, Some, length, slice_get}
 use Rattle.msc_base.specs.declared.label.Pair.{Pair}
 use Rattle.msc_base.specs.declared.place.Place.{Place}
-use Rattle.item_order.specs.Places.{IsLeast}
+use Rattle.msc_base.specs.Places.{IsLeast}
 use Rattle.item_order.specs.Weaving.{IsWoven, IsCrossedAt}
 use Rattle.msc_tree.specs.Charts.{Chart}
 use Rattle.msc_instances.specs.declared.body.Body.{Body}
@@ -13,7 +13,7 @@ use Rattle.msc_instances.specs.declared.weaving.WeaveFault.TheVariants.{NotBuilt
 use Rattle.msc_instances.specs.Entries.{PlacedEvent, chart_events, columns_of, entries_from}
 use Rattle.msc_instances.specs.Instances.{instances}
 use Rattle.msc_instances.specs.Messages.{IsPaired, IsUnmatched}
-use Rattle.msc_instances.specs.Unwoven.{IsUnwoven}
+use Rattle.msc_instances.specs.NotBuilt.{IsNotBuilt}
 
 -- the columns of a level, by its events and instances
 abbrev pub level_columns : List (List ℕ) → List PlacedEvent → List (List ℕ)
@@ -68,11 +68,11 @@ IsLevelFault names events NoMemory = ⊤
 
 -- every form that stands in the chart's outermost level is woven
 abbrev pub IsBuilt : Chart → Type 0
-IsBuilt chart = (p : Place) → IsUnwoven chart p → ⊥
+IsBuilt chart = (p : Place) → IsNotBuilt chart p → ⊥
 
 -- the first fault of a chart: a form that isn't woven yet; else columns that cross; else a message without partner
 abbrev pub IsWeaveFault : Chart → WeaveFault → Type 0
-IsWeaveFault chart (NotBuilt p) = IsLeast (IsUnwoven chart) (Some p)
+IsWeaveFault chart (NotBuilt p) = IsLeast (IsNotBuilt chart) (Some p)
 IsWeaveFault chart (Crossed p) = IsBuilt chart × IsCrossing (instances chart) (chart_events chart) p
 IsWeaveFault chart (Unmatched p) = IsBuilt chart × IsLonely (instances chart) (chart_events chart) p
 IsWeaveFault chart NoMemory = ⊤

@@ -1,7 +1,7 @@
 -- The instances of a basic chart, in the order in which they are first declared, and what breaks the rules on them.
 use Rattle.std.specs.Prelude.{◌≡◌, ◌⊎◌, ℕ, List, [], ◌∷◌}
 use Rattle.msc_base.specs.declared.place.Place.{Place}
-use Rattle.msc_base.specs.Names.{IsOneOf}
+use Rattle.msc_base.specs.Lists.{IsAmong}
 use Rattle.msc_base.specs.NameTables.{with_name}
 use Rattle.msc_tree.specs.Charts.{Chart}
 use Rattle.msc_instances.specs.Notes.{Scope, Whole, Within, Note, Declared, Decomposed, Named, chart_notes}
@@ -21,13 +21,13 @@ instances chart = with_declared [] (chart_notes chart)
 abbrev pub DecomposesAgain : List (List ℕ) → List Note → Place → Type 0
 DecomposesAgain before [] p = ⊥
 DecomposesAgain before (Declared name ∷ notes) p = DecomposesAgain before notes p
-DecomposesAgain before (Decomposed name place ∷ notes) p = ((place ≡ p) × IsOneOf before name) ⊎ DecomposesAgain (with_name before name) notes p
+DecomposesAgain before (Decomposed name place ∷ notes) p = ((place ≡ p) × IsAmong before name) ⊎ DecomposesAgain (with_name before name) notes p
 DecomposesAgain before (Named name place scope ∷ notes) p = DecomposesAgain before notes p
 
 -- the name may stand there: it is an instance, and in the scope
 abbrev pub MayName : List (List ℕ) → Scope → List ℕ → Type 0
-MayName names Whole name = IsOneOf names name
-MayName names (Within cover) name = IsOneOf names name × IsOneOf cover name
+MayName names Whole name = IsAmong names name
+MayName names (Within cover) name = IsAmong names name × IsAmong cover name
 
 -- at that place a name stands that may not
 abbrev pub NamesOther : List (List ℕ) → List Note → Place → Type 0

@@ -11,7 +11,7 @@ pub mod EntryEdges
 pub mod Messages
 pub mod Marks
 pub mod Alone
-pub mod Unwoven
+pub mod NotBuilt
 pub mod Bodies
 pub mod BodyEdges
 pub mod Laws

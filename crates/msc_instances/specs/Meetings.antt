@@ -1,6 +1,6 @@
 -- What tables know of the parts of a level that were met.
 use Rattle.std.specs.Prelude.{◌≡◌, ◌⊎◌, ◌↔◌, ℕ, List, [], ◌∷◌, Option, Some, None}
-use Rattle.msc_base.specs.Names.{IsOneOf}
+use Rattle.msc_base.specs.Lists.{IsAmong}
 use Rattle.msc_instances.specs.declared.again.Met.{Met}
 use Rattle.msc_instances.specs.declared.again.PartKey.{PartKey}
 use Rattle.msc_instances.specs.Parts.{NamedPart}
@@ -22,6 +22,6 @@ HasKey (k ∷ keys) n c = ((k.name.items ≡ n) × (k.column.items ≡ c)) ⊎ H
 
 -- the tables know these parts
 pub record Knows (met : Met) (before : List NamedPart) : Type 0 where
-  pub names : (n : List ℕ) → IsOneOf met.names n ↔ HasName before n
-  pub outside : (n : List ℕ) → IsOneOf met.outside n ↔ HasPart before n None
+  pub names : (n : List ℕ) → IsAmong met.names n ↔ HasName before n
+  pub outside : (n : List ℕ) → IsAmong met.outside n ↔ HasPart before n None
   pub inside : (n c : List ℕ) → HasKey met.inside.keys n c ↔ HasPart before n (Some c)

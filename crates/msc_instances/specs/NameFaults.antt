@@ -1,10 +1,10 @@
 -- The first fault of the names of a chart.
 use Rattle.std.specs.Prelude.{⊤, ◌⊎◌, List, [], Option, None, Some, if◌then◌else◌}
 use Rattle.msc_base.specs.declared.place.Place.{Place}
-use Rattle.item_order.specs.Places.{IsBefore, IsLeast, IsNoLater, is_before}
+use Rattle.msc_base.specs.Places.{IsBefore, IsLeast, IsNoLater, is_before}
 use Rattle.msc_tree.specs.Charts.{Chart}
 use Rattle.msc_instances.specs.declared.naming.NameFault.{NameFault}
-use Rattle.msc_instances.specs.declared.naming.NameFault.TheVariants.{TwiceNamed, Undeclared, NoMemory}
+use Rattle.msc_instances.specs.declared.naming.NameFault.TheVariants.{NamedTwice, Undeclared, NoMemory}
 use Rattle.msc_instances.specs.Instances.{DecomposesAgain, NamesOther, with_declared}
 use Rattle.msc_instances.specs.Notes.{Note, chart_notes}
 use Rattle.msc_instances.specs.Parts.{NamedPart, SomeNamesAgain, chart_levels}
@@ -20,7 +20,7 @@ pub record KeepNames (notes : List Note) (levels : List (List NamedPart)) : Type
 
 -- the earliest fault, and at one place that of a second name
 abbrev pub IsFaultOf : List Note → List (List NamedPart) → NameFault → Type 0
-IsFaultOf notes levels (TwiceNamed p) = IsLeast (NamesTwice notes levels) (Some p) × ((q : Place) → NamesOther (with_declared [] notes) notes q → IsNoLater p q)
+IsFaultOf notes levels (NamedTwice p) = IsLeast (NamesTwice notes levels) (Some p) × ((q : Place) → NamesOther (with_declared [] notes) notes q → IsNoLater p q)
 IsFaultOf notes levels (Undeclared p) = IsLeast (NamesOther (with_declared [] notes) notes) (Some p) × ((q : Place) → NamesTwice notes levels q → IsBefore p q)
 IsFaultOf notes levels NoMemory = ⊤
 
@@ -34,6 +34,6 @@ IsNameFault chart fault = IsFaultOf (chart_notes chart) (chart_levels chart) fau
 -- the first of two such faults
 abbrev pub first_of : Option Place → Option Place → Option NameFault
 first_of None None = None
-first_of (Some p) None = Some (TwiceNamed p)
+first_of (Some p) None = Some (NamedTwice p)
 first_of None (Some q) = Some (Undeclared q)
-first_of (Some p) (Some q) = if is_before q p then Some (Undeclared q) else Some (TwiceNamed p)
+first_of (Some p) (Some q) = if is_before q p then Some (Undeclared q) else Some (NamedTwice p)

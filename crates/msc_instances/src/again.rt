@@ -1,5 +1,5 @@
 ghost use Rattle.std.specs.Prelude.{◌≡◌, ◌⊎◌, ◌∷◌, ◌↔◌, [], IsTrue, IfOk, OnOk, List, map, None, Some};
-ghost use Rattle.item_order.specs.Places.{IsLeast};
+ghost use Rattle.msc_base.specs.Places.{IsLeast};
 ghost use Rattle.msc_instances.specs.Meetings.{Knows, HasName, HasPart};
 ghost use Rattle.msc_instances.specs.Parts as plain;
 ghost use Rattle.msc_instances.specs.PartViews.{part_view};
@@ -7,7 +7,7 @@ ghost use Rattle.msc_instances.specs.PartViews.{part_view};
 use crate::naming::has_name;
 use crate::{NamedPart, PartList, Setting};
 use indexmap::IndexSet;
-use item_order::earlier_if;
+use msc_base::earlier_if;
 use msc_base::{Name, NameTable, NoMemory, Place};
 use std::alloc::Global;
 

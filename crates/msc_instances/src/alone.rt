@@ -1,5 +1,5 @@
 ghost use Rattle.std.specs.Prelude.{◌≡◌, ◌<◌, All, Bool, IfOk, false, get_or, length, map, not, ◌&&◌, true, ◌↔◌, ℕ};
-ghost use Rattle.item_order.specs.Places.{IsLeast};
+ghost use Rattle.msc_base.specs.Places.{IsLeast};
 ghost use Rattle.msc_instances.specs.Alone.{AreTold, IsAlone, is_message};
 ghost use Rattle.msc_instances.specs.EventViews.{event_view};
 ghost use Rattle.msc_instances.specs.Marks.{LeadsPairs};
@@ -7,7 +7,8 @@ ghost use Rattle.msc_instances.specs.Messages.{IsUnmatched, way};
 
 use crate::PlacedEvent;
 use crate::matching::way_of;
-use item_order::{Edge, earlier_if};
+use item_order::Edge;
+use msc_base::earlier_if;
 use msc_base::{NoMemory, Place};
 use std::alloc::Global;
 

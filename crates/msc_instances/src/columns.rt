@@ -2,7 +2,7 @@ ghost use Rattle.std.specs.Prelude.{◌≡◌, ◌++◌, IfOk, OnOk, length, map
 ghost use Rattle.std.specs.Str.{bytes_eq};
 ghost use Rattle.item_order.specs.Answers.{IfStuck, IfWhole};
 ghost use Rattle.item_order.specs.Weaving.{IsCrossedAt, IsWoven};
-ghost use Rattle.msc_base.specs.Names.{AreDifferent};
+ghost use Rattle.msc_base.specs.Lists.{AreDifferent};
 ghost use Rattle.msc_instances.specs.Entries.{columns_of, entries_from};
 ghost use Rattle.msc_instances.specs.EntryEdges.{edge_of, entry_edges};
 ghost use Rattle.msc_instances.specs.EventViews.{event_view};

@@ -66,7 +66,7 @@ fn copy_target(alloc: Global, target: &Target) -> Result<Target, NoMemory>
 pub fn copy_event(alloc: Global, event: &RawEvent) -> Result<RawEvent, NoMemory>
     ensures { IfOk result (λ copied. copied ≡ event.now) }
 {
-    let tag = copy_name(alloc, &event.tag)?;
+    let event_name = copy_name(alloc, &event.event_name)?;
     let text = event.text.copy(alloc)?;
     let parameters = copy_parameters(alloc, &event.parameters)?;
     let pairing = copy_name(alloc, &event.pairing)?;
@@ -74,7 +74,7 @@ pub fn copy_event(alloc: Global, event: &RawEvent) -> Result<RawEvent, NoMemory>
     let earlier_than = copy_names(alloc, event.earlier_than.as_slice())?;
     let later_than = copy_names(alloc, event.later_than.as_slice())?;
     Ok(RawEvent {
-        tag,
+        event_name,
         kind: event.kind,
         text,
         parameters,

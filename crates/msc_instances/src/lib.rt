@@ -15,7 +15,7 @@ mod notes;
 mod parts;
 #[cfg(test)]
 mod tests;
-mod unwoven;
+mod not_built;
 mod walk;
 mod weaving;
 

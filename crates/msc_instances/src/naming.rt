@@ -1,6 +1,6 @@
 ghost use Rattle.std.specs.Prelude.{◌≡◌, ◌↔◌, IsTrue, IfOk, IfErr, OnOk, map, []};
-ghost use Rattle.item_order.specs.Places.{IsLeast};
-ghost use Rattle.msc_base.specs.Names.{IsOneOf};
+ghost use Rattle.msc_base.specs.Places.{IsLeast};
+ghost use Rattle.msc_base.specs.Lists.{IsAmong};
 ghost use Rattle.msc_base.specs.NameTables.{with_name};
 ghost use Rattle.msc_instances.specs.Instances.{DecomposesAgain, MayName, NamesOther, instances, with_declared};
 ghost use Rattle.msc_instances.specs.NameFaults.{IsFaultOf, IsNameFault, KeepNames, KeepsNames, NamesTwice, first_of};
@@ -10,7 +10,7 @@ ghost use Rattle.msc_tree.specs.Views.{chart_view};
 
 use crate::again::named_again;
 use crate::{Note, PartList, Scope, chart_levels, chart_notes};
-use item_order::{comes_before, earlier_if, earlier_place};
+use msc_base::{comes_before, earlier_if, earlier_place};
 use msc_base::{Name, NameTable, Names, NoMemory, Place};
 use msc_tree::RawChart;
 use std::alloc::Global;
@@ -20,7 +20,7 @@ use std::alloc::Global;
 pub enum NameFault {
     /// At that place an instance is decomposed a second time, or an inline expression or reference has the name of another of its
     /// level that is in the same column, or where one of the two is in no column.
-    TwiceNamed(Place),
+    NamedTwice(Place),
     /// At that place a name stands that is none of the chart's instances, or of those that an operand covers.
     Undeclared(Place),
     /// Memory was wanting.
@@ -44,14 +44,14 @@ struct Instances {
 
 /// Whether a name is in the table.
 pub fn has_name(table: &NameTable, name: &[u8]) -> bool
-    ensures { IsTrue result ↔ IsOneOf table.now name.now }
+    ensures { IsTrue result ↔ IsAmong table.now name.now }
 {
     table.number_of(name).is_some()
 }
 
 /// Whether a name is one of the list.
 fn is_listed(names: &[Name], name: &Name) -> bool
-    ensures { IsTrue result ↔ IsOneOf names.now name.now }
+    ensures { IsTrue result ↔ IsAmong names.now name.now }
 {
     for other in names {
         if name.same(other) {
@@ -163,13 +163,13 @@ fn first_fault(twice: Option<Place>, undeclared: Option<Place>) -> Option<NameFa
 {
     match (twice, undeclared) {
         (None, None) => None,
-        (Some(p), None) => Some(NameFault::TwiceNamed(p)),
+        (Some(p), None) => Some(NameFault::NamedTwice(p)),
         (None, Some(q)) => Some(NameFault::Undeclared(q)),
         (Some(p), Some(q)) => {
             if comes_before(q, p) {
                 Some(NameFault::Undeclared(q))
             } else {
-                Some(NameFault::TwiceNamed(p))
+                Some(NameFault::NamedTwice(p))
             }
         }
     }

@@ -36,7 +36,7 @@ fn event(
         Some(name(alloc, pairing)?)
     };
     let event = RawEvent {
-        tag: None,
+        event_name: None,
         kind,
         text: Text::from_bytes(alloc, b"a")?,
         parameters: None,
@@ -173,7 +173,7 @@ fn a_second_name_is_found(rt: HostRuntime) -> Result<(), Fail> {
     let second = lead(alloc, "j", plain_part(alloc, 40)?)?;
     assert_eq!(rt;
         fault_of(alloc, first, second)?,
-        Some(NameFault::TwiceNamed(at(40)))
+        Some(NameFault::NamedTwice(at(40)))
     );
     Ok(())
 }
@@ -196,7 +196,7 @@ fn one_column_has_a_name_once(rt: HostRuntime) -> Result<(), Fail> {
     let second = column(alloc, "i", plain_part(alloc, 40)?)?;
     assert_eq!(rt;
         fault_of(alloc, first, second)?,
-        Some(NameFault::TwiceNamed(at(40)))
+        Some(NameFault::NamedTwice(at(40)))
     );
     Ok(())
 }
@@ -209,7 +209,7 @@ fn a_column_shares_no_name_with_a_colon(rt: HostRuntime) -> Result<(), Fail> {
     let second = lead(alloc, "j", plain_part(alloc, 40)?)?;
     assert_eq!(rt;
         fault_of(alloc, first, second)?,
-        Some(NameFault::TwiceNamed(at(40)))
+        Some(NameFault::NamedTwice(at(40)))
     );
     Ok(())
 }

@@ -1,6 +1,6 @@
 ghost use Rattle.std.specs.Prelude.{◌≡◌, ◌<◌, All, IfErr, IfOk, length, map};
 ghost use Rattle.item_order.specs.Weaving.{IsWoven};
-ghost use Rattle.msc_base.specs.Names.{AreDifferent};
+ghost use Rattle.msc_base.specs.Lists.{AreDifferent};
 ghost use Rattle.msc_instances.specs.Bodies.{AreItems, IsBodyOf, IsLevelFault, IsWeaveFault, IsWovenBody, level_columns};
 ghost use Rattle.msc_instances.specs.BodyEdges.{IsCopy, pair_of};
 ghost use Rattle.msc_instances.specs.EventViews.{event_view};
@@ -12,7 +12,7 @@ use crate::alone::first_unmatched;
 use crate::columns::woven_order;
 use crate::copying::{copy_event, copy_names};
 use crate::matching::pairs_of;
-use crate::unwoven::first_unwoven;
+use crate::not_built::first_not_built;
 use crate::{Body, EventNode, Item, PlacedEvent, chart_events};
 use item_order::{Edge, Sorted};
 use msc_base::{Items, Name, Names, NoMemory, Pair, PairList, Place};
@@ -125,7 +125,7 @@ pub fn weave(alloc: Global, chart: &RawChart, names: &Names) -> Result<Body, Wea
     ensures ok { IfOk result (IsBodyOf (chart_view chart.now)) }
     ensures fault { IfErr result (IsWeaveFault (chart_view chart.now)) }
 {
-    if let Some(place) = first_unwoven(alloc, chart)? {
+    if let Some(place) = first_not_built(alloc, chart)? {
         return Err(WeaveFault::NotBuilt(place));
     }
     let events = chart_events(alloc, chart)?;

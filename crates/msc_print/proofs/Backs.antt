@@ -2,12 +2,12 @@
 use Rattle.std.proofs.Common.{ℕ, ◌&&◌, ◌⊎◌, ◌≡◌, ◌∙◌, ◌++◌, true, false, not, List, [], ◌∷◌, Option, Some, None, map, refl, sym, ap, subst, inl, inr, append-nil, option_map}
 use Rattle.msc_base.specs.declared.place.Place.{Place}
 use Rattle.msc_tokens.specs.declared.token.Token.{Token}
-use Rattle.msc_reading.specs.Languages.{Set, among, any_fits, just, names_or_strings, texts}
-use Rattle.msc_reading.specs.Languages as language
-use Rattle.msc_reading.specs.Grammars.{Grammar, word, seq, or, read_as, chain, until, tail, opens, inner, maybe, optional, behind, bytes_of}
-use Rattle.msc_reading.specs.Parts.{placed, separated, all_of}
+use Rattle.token_grammar.specs.Languages.{Set, among, any_fits, just, names_or_strings, texts}
+use Rattle.token_grammar.specs.Languages as language
+use Rattle.token_grammar.specs.Grammars.{Grammar, word, seq, or, read_as, chain, until, tail, opens, inner, maybe, optional, behind, bytes_of}
+use Rattle.token_grammar.specs.Parts.{placed, separated, all_of}
 use Rattle.std.proofs.lemmas.Bool.{and_parts, or_cases}
-use Rattle.msc_reading.specs.Classes.{is_name, is_string, is_one_of, name_but, string, fits}
+use Rattle.token_grammar.specs.Classes.{is_name, is_string, is_one_of, name_but, string, fits}
 use Rattle.msc_print.specs.Texts.{IsText}
 use Rattle.msc_print.proofs.Tidy.{Tidy, done, Proper, is_fixed, tidy_append, fixed_tidy, proper_append, name_tidy, string_tidy}
 use Rattle.msc_print.specs.Words.{Words, alone, all_words, each_behind, separated_words}

@@ -12,10 +12,10 @@ use Rattle.std.proofs.lemmas.Bool.Decides.{nat_tests}
 use Rattle.std.proofs.lemmas.Str.Parse.{digit_from_value}
 use Rattle.std.proofs.lemmas.Fmt.{decimal_is_IsNumeral, length-decimal-le}
 use Rattle.msc_tokens.specs.declared.token.Token.{Token}
-use Rattle.msc_reading.specs.Classes.{is_digit, is_number, is_letter_or_digit, is_word_byte, is_word}
-use Rattle.msc_reading.specs.Languages.{just, numbers}
-use Rattle.msc_reading.specs.Grammars.{Grammar, read_as, seq, optional, maybe, behind}
-use Rattle.msc_reading.specs.Parts.{mark, kept as as_written}
+use Rattle.token_grammar.specs.Classes.{is_digit, is_number, is_letter_or_digit, is_word_byte, is_word}
+use Rattle.token_grammar.specs.Languages.{just, numbers}
+use Rattle.token_grammar.specs.Grammars.{Grammar, read_as, seq, optional, maybe, behind}
+use Rattle.token_grammar.specs.Parts.{mark, kept as as_written}
 use Rattle.msc_expression.specs.declared.bounds.Bounds.{Bounds}
 use Rattle.msc_expression.specs.Bounds.{kept, bound, upper_bound, bounds_of, bounds, or_once, with_bounds}
 use Rattle.msc_print.specs.ExpressionWords.{upper_word, bound_words}

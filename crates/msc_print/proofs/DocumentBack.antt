@@ -6,12 +6,12 @@ use Rattle.msc_tree.specs.declared.chart.Decl.{Decl}
 use Rattle.msc_tree.specs.declared.chart.Heading.{Heading}
 use Rattle.msc_tree.specs.Charts.{Chart, Content, Document, Basic, HighLevel}
 use Rattle.msc_tree.specs.Statements.{Statement, statements}
-use Rattle.msc_reading.specs.Languages.{just, texts}
-use Rattle.msc_reading.specs.Languages as language
-use Rattle.msc_reading.specs.Grammars.{Grammar, seq, behind}
-use Rattle.msc_reading.specs.Parts.{name, ending, placed, separated, name_list}
-use Rattle.msc_items.specs.Declarations.{heading, decl, decl_list, Head, of_decls, of_messages, of_timers, line, head, with_head, with_heads, declared_by}
-use Rattle.msc_items.specs.declared.head_parts.Heads.{Heads}
+use Rattle.token_grammar.specs.Languages.{just, texts}
+use Rattle.token_grammar.specs.Languages as language
+use Rattle.token_grammar.specs.Grammars.{Grammar, seq, behind}
+use Rattle.token_grammar.specs.Parts.{name, ending, placed, separated, name_list}
+use Rattle.msc_events.specs.Declarations.{heading, decl, decl_list, Head, of_decls, of_messages, of_timers, line, head, with_head, with_heads, declared_by}
+use Rattle.msc_events.specs.declared.head_parts.Heads.{Heads}
 use Rattle.msc_expression.specs.GraphGrammar.{chart_graph}
 use Rattle.msc_document.specs.Inlines.{each}
 use Rattle.msc_document.specs.DocumentGrammar.{statement, chart_end, content, chart_of, chart, perhaps, document}
@@ -50,14 +50,14 @@ Heads_read h = All_read decl h.decls × All_read name h.messages × All_read nam
 line_list : {A : Type 0} (text : List ℕ) (R : Grammar A) (x : List Token) (a : A) → (line text R).reads x a → (y : List Token) × R.reads y a
 line_list text R x a h = (h.1.1.4.0, subst (λ b. R.reads h.1.1.4.0 b) (sym (h.2 ∙ ap (λ p. p.0) h.1.2)) h.1.1.4.3)
 
-with_head_read : (front : Heads) (x : List Token) (one : Head) → Heads_read front → head.reads x one → Heads_read (with_head front one)
-with_head_read front x one f (inl h) = subst (λ o. Heads_read (with_head front o)) (sym h.2) (let l = line_list (codes "inst") decl_list x h.0 h.1 in (joined_read decl front.decls h.0 f.0 (list_read (codes ",") decl l.0 h.0 l.1), f.1, f.2))
-with_head_read front x one f (inr (inl h)) = subst (λ o. Heads_read (with_head front o)) (sym h.2) (let l = line_list (codes "msg") name_list x h.0 h.1 in (f.0, joined_read name front.messages h.0 f.1 (list_read (codes ",") name l.0 h.0 l.1), f.2))
-with_head_read front x one f (inr (inr h)) = subst (λ o. Heads_read (with_head front o)) (sym h.2) (let l = line_list (codes "timer") name_list x h.0 h.1 in (f.0, f.1, joined_read name front.timers h.0 f.2 (list_read (codes ",") name l.0 h.0 l.1)))
+with_head_read : (prefix : Heads) (x : List Token) (one : Head) → Heads_read prefix → head.reads x one → Heads_read (with_head prefix one)
+with_head_read prefix x one f (inl h) = subst (λ o. Heads_read (with_head prefix o)) (sym h.2) (let l = line_list (codes "inst") decl_list x h.0 h.1 in (joined_read decl prefix.decls h.0 f.0 (list_read (codes ",") decl l.0 h.0 l.1), f.1, f.2))
+with_head_read prefix x one f (inr (inl h)) = subst (λ o. Heads_read (with_head prefix o)) (sym h.2) (let l = line_list (codes "msg") name_list x h.0 h.1 in (f.0, joined_read name prefix.messages h.0 f.1 (list_read (codes ",") name l.0 h.0 l.1), f.2))
+with_head_read prefix x one f (inr (inr h)) = subst (λ o. Heads_read (with_head prefix o)) (sym h.2) (let l = line_list (codes "timer") name_list x h.0 h.1 in (f.0, f.1, joined_read name prefix.timers h.0 f.2 (list_read (codes ",") name l.0 h.0 l.1)))
 
-with_heads_read : (front : Heads) (x : List Token) (hs : List Head) → Heads_read front → language.each head.reads x hs → Heads_read (with_heads front hs)
-with_heads_read front x [] f h = f
-with_heads_read front x (one ∷ hs) f h = with_heads_read (with_head front one) h.1 hs (with_head_read front h.0 one f h.3) h.4
+with_heads_read : (prefix : Heads) (x : List Token) (hs : List Head) → Heads_read prefix → language.each head.reads x hs → Heads_read (with_heads prefix hs)
+with_heads_read prefix x [] f h = f
+with_heads_read prefix x (one ∷ hs) f h = with_heads_read (with_head prefix one) h.1 hs (with_head_read prefix h.0 one f h.3) h.4
 
 -- the list's head, where it isn't empty
 abbrev made : {A : Type 0} → (List A → Head) → List A → List Head
@@ -172,16 +172,16 @@ decls_back = back_separated (codes ",") decl refl decl_back
 abbrev HeadsTidy : Heads → Type 0
 HeadsTidy h = Tidy (separated_words (codes ",") decl_words h.decls) × Tidy (separated_words (codes ",") alone h.messages) × Tidy (separated_words (codes ",") alone h.timers)
 
-with_head_tidy : (front : Heads) (x : List Token) (one : Head) → HeadsTidy front → head.reads x one → Proper x → HeadsTidy (with_head front one)
-with_head_tidy front x one f (inl h) proper = subst (λ o. HeadsTidy (with_head front o)) (sym h.2) (joined_tidy (codes ",") decl_words front.decls h.0 refl f.0 (line_tidy (codes "inst") decl_list decls_back x h.0 h.1 proper), f.1, f.2)
-with_head_tidy front x one f (inr (inl h)) proper = subst (λ o. HeadsTidy (with_head front o)) (sym h.2) (f.0, joined_tidy (codes ",") alone front.messages h.0 refl f.1 (line_tidy (codes "msg") name_list names_back x h.0 h.1 proper), f.2)
-with_head_tidy front x one f (inr (inr h)) proper = subst (λ o. HeadsTidy (with_head front o)) (sym h.2) (f.0, f.1, joined_tidy (codes ",") alone front.timers h.0 refl f.2 (line_tidy (codes "timer") name_list names_back x h.0 h.1 proper))
+with_head_tidy : (prefix : Heads) (x : List Token) (one : Head) → HeadsTidy prefix → head.reads x one → Proper x → HeadsTidy (with_head prefix one)
+with_head_tidy prefix x one f (inl h) proper = subst (λ o. HeadsTidy (with_head prefix o)) (sym h.2) (joined_tidy (codes ",") decl_words prefix.decls h.0 refl f.0 (line_tidy (codes "inst") decl_list decls_back x h.0 h.1 proper), f.1, f.2)
+with_head_tidy prefix x one f (inr (inl h)) proper = subst (λ o. HeadsTidy (with_head prefix o)) (sym h.2) (f.0, joined_tidy (codes ",") alone prefix.messages h.0 refl f.1 (line_tidy (codes "msg") name_list names_back x h.0 h.1 proper), f.2)
+with_head_tidy prefix x one f (inr (inr h)) proper = subst (λ o. HeadsTidy (with_head prefix o)) (sym h.2) (f.0, f.1, joined_tidy (codes ",") alone prefix.timers h.0 refl f.2 (line_tidy (codes "timer") name_list names_back x h.0 h.1 proper))
 
-with_heads_tidy : (front : Heads) (x : List Token) (hs : List Head) → HeadsTidy front → language.each head.reads x hs → Proper x → HeadsTidy (with_heads front hs)
-with_heads_tidy front x [] f h proper = f
-with_heads_tidy front x (one ∷ hs) f h proper =
+with_heads_tidy : (prefix : Heads) (x : List Token) (hs : List Head) → HeadsTidy prefix → language.each head.reads x hs → Proper x → HeadsTidy (with_heads prefix hs)
+with_heads_tidy prefix x [] f h proper = f
+with_heads_tidy prefix x (one ∷ hs) f h proper =
     let known = proper_append h.0 h.1 (subst Proper h.2 proper) in
-    with_heads_tidy (with_head front one) h.1 hs (with_head_tidy front h.0 one f h.3 known.0) h.4 known.1
+    with_heads_tidy (with_head prefix one) h.1 hs (with_head_tidy prefix h.0 one f h.3 known.0) h.4 known.1
 
 end_tidy : Tidy end_words
 end_tidy = fixed_tidy (codes ";") [] refl done

@@ -4,10 +4,10 @@ use Rattle.std.proofs.lemmas.Bool.{cases_lt}
 use Rattle.std.proofs.lemmas.Bool.Decides.{nat_tests}
 use Rattle.msc_tokens.specs.declared.token.Token.{Token}
 use Rattle.msc_tree.specs.Expressions.{Expression, Expressions, Empty, Chart, Alt, Par, Seq, Opt, Loop, expressions}
-use Rattle.msc_reading.specs.Languages.{any_fits, just}
-use Rattle.msc_reading.specs.Languages as language
-use Rattle.msc_reading.specs.Grammars.{Grammar, read_as, behind, bytes_of}
-use Rattle.msc_reading.specs.Parts.{mark, separated}
+use Rattle.token_grammar.specs.Languages.{any_fits, just}
+use Rattle.token_grammar.specs.Languages as language
+use Rattle.token_grammar.specs.Grammars.{Grammar, read_as, behind, bytes_of}
+use Rattle.token_grammar.specs.Parts.{mark, separated}
 use Rattle.msc_expression.specs.ExpressionGrammar.{joined, sequence, parallel, loop_rest, closed, chart_names, prefix, expression}
 use Rattle.msc_expression.specs.declared.bounds.Bounds.{Bounds}
 use Rattle.msc_expression.specs.Bounds.{bounds, with_bounds}

@@ -3,9 +3,9 @@ use Rattle.std.proofs.Common.{ℕ, ◌≡◌, ◌∙◌, ◌++◌, false, List, 
 use Rattle.msc_base.specs.declared.label.LabelRef.{LabelRef}
 use Rattle.msc_tokens.specs.Places.{first_place}
 use Rattle.msc_tree.specs.Graphs.{Graph, Lines, Line, Node, Ends, Connect, Condition, Refer, Frames, graph, line, lines, graphs}
-use Rattle.msc_reading.specs.Languages.{just, names}
-use Rattle.msc_reading.specs.Grammars.{Grammar, Inner, shut, inner, inside, seq, read_as, until, behind, opens}
-use Rattle.msc_reading.specs.Parts.{placed_name, mark, ending, name_list, separated}
+use Rattle.token_grammar.specs.Languages.{just, names}
+use Rattle.token_grammar.specs.Grammars.{Grammar, Inner, shut, inner, inside, seq, read_as, until, behind, opens}
+use Rattle.token_grammar.specs.Parts.{placed_name, mark, ending, name_list, separated}
 use Rattle.msc_expression.specs.ExpressionGrammar.{expression}
 use Rattle.msc_expression.specs.GraphGrammar.{label, label_of, labels, graph_of, graph_rest, frame_rest, node_of, next, line_of, line_rest, line_in, graph_line, chart_graph}
 use Rattle.msc_print.specs.Words.{Words, all_words, each_behind, separated_words, end_words}

@@ -11,12 +11,12 @@ use Rattle.msc_tree.specs.declared.reference.InlineForm.TheVariants.{Alt, Opt, P
 use Rattle.msc_tree.specs.Expressions.{Expression}
 use Rattle.msc_tree.specs.Statements.{Reference, Item, Form, Single, Coregion, Condition, Inline, Refer, Stop, Items, Operand, InColumn, Outside, Operands, Statement, Column, Covered, Heading, Ended, Statements, items, operands, statements}
 use Rattle.msc_tree.specs.Statements as tree
-use Rattle.msc_reading.specs.Languages.{just, texts}
-use Rattle.msc_reading.specs.Grammars.{Grammar, Inner, shut, inner, inside, seq, or, read_as, chain, until, optional, behind, opens}
-use Rattle.msc_reading.specs.Parts.{name, ending, kept, all_or_none, all_of, placed, lead, leads, other_leads, name_list}
-use Rattle.msc_items.specs.Declarations.{decl, declaration}
-use Rattle.msc_items.specs.Events.{single, coregion, stop}
-use Rattle.msc_items.specs.Multis.{shared_in, condition, joins}
+use Rattle.token_grammar.specs.Languages.{just, texts}
+use Rattle.token_grammar.specs.Grammars.{Grammar, Inner, shut, inner, inside, seq, or, read_as, chain, until, optional, behind, opens}
+use Rattle.token_grammar.specs.Parts.{name, ending, kept, all_or_none, all_of, placed, lead, leads, other_leads, name_list}
+use Rattle.msc_events.specs.Declarations.{decl, declaration}
+use Rattle.msc_events.specs.Events.{single, coregion, stop}
+use Rattle.msc_events.specs.Multis.{shared_in, condition, joins}
 use Rattle.msc_expression.specs.declared.bounds.Bounds.{Bounds}
 use Rattle.msc_expression.specs.Bounds.{with_bounds}
 use Rattle.msc_expression.specs.ExpressionGrammar.{expression}

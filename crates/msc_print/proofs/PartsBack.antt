@@ -11,16 +11,16 @@ use Rattle.msc_tree.specs.declared.event.Target.{Target}
 use Rattle.msc_tree.specs.declared.event.Target.TheVariants.{Nobody, Env, Instance, Gate}
 use Rattle.msc_tree.specs.declared.reference.Join.{Join}
 use Rattle.msc_tree.specs.declared.reference.JoinEnd.TheVariants as join_end
-use Rattle.msc_reading.specs.Languages.{Set, among, just, names, names_or_strings}
-use Rattle.msc_reading.specs.Grammars.{Grammar, word, seq, until, tail, optional, behind}
-use Rattle.msc_reading.specs.Parts.{name, placed_name, mark, ending, kept, all_or_none, placed, separated, name_list}
-use Rattle.msc_reading.specs.Messages.{Message, item, parameters, message, start_words, stop_words}
-use Rattle.msc_items.specs.Declarations.{kind_of, kind, refinement, decl_of, decl, declaration, heading}
-use Rattle.msc_items.specs.Events.{orders, named, address_of, address, event_of, exchange, output, input, plain, action, timer, creation, act, tagged, label, single, coregion, stop}
-use Rattle.msc_items.specs.Multis as multis
-use Rattle.msc_items.specs.Multis.{sharers, cover_of, shared, shared_in, condition, join, joins}
-use Rattle.msc_items.specs.declared.event_parts.Orders.{Orders}
-use Rattle.msc_items.specs.declared.event_parts.Address.{Address}
+use Rattle.token_grammar.specs.Languages.{Set, among, just, names, names_or_strings}
+use Rattle.token_grammar.specs.Grammars.{Grammar, word, seq, until, tail, optional, behind}
+use Rattle.token_grammar.specs.Parts.{name, placed_name, mark, ending, kept, all_or_none, placed, separated, name_list}
+use Rattle.token_grammar.specs.Messages.{Message, item, parameters, message, start_words, stop_words}
+use Rattle.msc_events.specs.Declarations.{kind_of, kind, refinement, decl_of, decl, declaration, heading}
+use Rattle.msc_events.specs.Events.{orders, named, address_of, address, event_of, exchange, output, input, plain, action, timer, creation, act, tagged, label, single, coregion, stop}
+use Rattle.msc_events.specs.Multis as multis
+use Rattle.msc_events.specs.Multis.{sharers, cover_of, shared, shared_in, condition, join, joins}
+use Rattle.msc_events.specs.declared.event_parts.Orders.{Orders}
+use Rattle.msc_events.specs.declared.event_parts.Address.{Address}
 use Rattle.msc_print.specs.Words.{Words, alone, name_words, names_behind, separated_words, if_any, end_words}
 use Rattle.msc_print.specs.EventWords.{act_words, coregion_words, event_words, message_words, pairing_words, parameter_words, tag_words, target_words}
 use Rattle.msc_print.specs.ExpressionWords.{enclosed}
@@ -243,16 +243,16 @@ act_back =
     timer_back words text k fits is = back_as (λ p. event_of p.0 p.1.0 (address_of k Nobody p.1.1)) (placed words (message orders)) Any untagged unplaced_event (λ c. event_of first_place c.0 (address_of k Nobody c.1))
         (back_placed words text _ fits (message_back orders orders_back)) (λ p m. tt) (λ p m. ap (λ l. l ++ orders_words p.1.1) (is (event_of p.0 p.1.0 (address_of k Nobody p.1.1)))) (λ p. refl)
 
-act_tagged : (k : Kind) (tag : Option (List ℕ)) (e : RawEvent) → act_words k (tagged tag e) ≡ act_words k e
-act_tagged Output tag e = refl
-act_tagged Input tag e = refl
-act_tagged OutputLost tag e = refl
-act_tagged InputFound tag e = refl
-act_tagged Action tag e = refl
-act_tagged TimerStart tag e = refl
-act_tagged TimerStop tag e = refl
-act_tagged Timeout tag e = refl
-act_tagged Create tag e = refl
+act_tagged : (k : Kind) (event_name : Option (List ℕ)) (e : RawEvent) → act_words k (tagged event_name e) ≡ act_words k e
+act_tagged Output event_name e = refl
+act_tagged Input event_name e = refl
+act_tagged OutputLost event_name e = refl
+act_tagged InputFound event_name e = refl
+act_tagged Action event_name e = refl
+act_tagged TimerStart event_name e = refl
+act_tagged TimerStop event_name e = refl
+act_tagged Timeout event_name e = refl
+act_tagged Create event_name e = refl
 
 label_back : Back label Any (λ n. codes "label" ∷ n ∷ end_words) same
 label_back = back_behind (just (codes "label")) (codes "label") _ refl

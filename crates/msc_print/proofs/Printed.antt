@@ -6,7 +6,7 @@ use Rattle.msc_tokens.specs.declared.token.Token.{Token}
 use Rattle.msc_tokens.specs.Places.{first_place, past}
 use Rattle.msc_tokens.specs.Spelling.{IsPair, Piece, Blank, Note, OneWord, OneString, OneMark, LongMark, text, tokens_from, IsWellCut, Spells}
 use Rattle.msc_tree.specs.Charts.{Document}
-use Rattle.msc_reading.specs.Classes.{is_string}
+use Rattle.token_grammar.specs.Classes.{is_string}
 use Rattle.msc_document.specs.DocumentGrammar.{document}
 use Rattle.msc_print.specs.ChartWords.{document_words}
 use Rattle.msc_print.specs.Texts.{word, quoted, mark, AreTexts}

@@ -5,12 +5,13 @@ use Rattle.std.proofs.lemmas.List.{map-append}
 use Rattle.std.proofs.lemmas.Slice.Eq.{bytes_eq-Decides}
 use Rattle.std.specs.Str.{bytes_eq}
 use Rattle.msc_base.specs.declared.place.Place.{Place}
-use Rattle.msc_base.specs.Names.{IsWordByte, IsOneOf}
+use Rattle.msc_base.specs.Names.{IsWordByte}
+use Rattle.msc_base.specs.Lists.{IsAmong}
 use Rattle.msc_tokens.specs.declared.token.Token.{Token}
 use Rattle.msc_tokens.specs.Places.{first_place, past}
 use Rattle.msc_tokens.specs.Spelling.{IsBlank, IsPair, BeginsWith, Piece, Blank, OneWord, OneString, OneMark, text, bytes_of, token_of, tokens_from, IsPiece, Ends, IsWellCut}
-use Rattle.msc_reading.specs.Classes.{is_one_of}
-use Rattle.msc_reading.specs.Languages.{texts}
+use Rattle.token_grammar.specs.Classes.{is_one_of}
+use Rattle.token_grammar.specs.Languages.{texts}
 use Rattle.msc_print.specs.Words.{Words}
 use Rattle.msc_print.specs.Layout.{ends_line, joins_before, joins_behind, gap, laid_out}
 use Rattle.msc_print.specs.Texts.{IsText, word, quoted, mark, Parts, AreTexts, SpellsTexts}
@@ -76,14 +77,14 @@ begins_open (c ∷ w) (word h) rest no_open k = let first : IsWordByte c = h.byt
 begins_open (c ∷ w) (quoted ps e h) rest no_open k = let first : c ≡ 39 = cc in omega arith
 begins_open (c ∷ w) (mark b e h) rest no_open k = no_open (let first : c ≡ b = cc in let none : w ≡ [] = cc in rw (k, none) refl)
 
-one_of : (ws : Words) (v : List ℕ) → is_one_of ws v ≡ true → IsOneOf ws v
+one_of : (ws : Words) (v : List ℕ) → is_one_of ws v ≡ true → IsAmong ws v
 one_of [] v m = absurd cc
 one_of (w ∷ ws) v m = elim (or_cases (bytes_eq v w) (is_one_of ws v) m) [ inl a ↦ inl ((bytes_eq-Decides v w).0 a) | inr b ↦ inr (one_of ws v b) ]
 
 closing_mark : (v : List ℕ) → joins_before v ≡ true → (c : ℕ) × (v ≡ c ∷ []) × IsClosing c
 closing_mark v m = by (one_of (codes ";" ∷ codes "," ∷ codes ":" ∷ codes ")" ∷ codes ">" ∷ []) v m)
   where
-    by : IsOneOf (codes ";" ∷ codes "," ∷ codes ":" ∷ codes ")" ∷ codes ">" ∷ []) v → (c : ℕ) × (v ≡ c ∷ []) × IsClosing c
+    by : IsAmong (codes ";" ∷ codes "," ∷ codes ":" ∷ codes ")" ∷ codes ">" ∷ []) v → (c : ℕ) × (v ≡ c ∷ []) × IsClosing c
     by (inl e) = (59, e, inl refl)
     by (inr (inl e)) = (44, e, inr (inl refl))
     by (inr (inr (inl e))) = (58, e, inr (inr (inl refl)))
@@ -104,7 +105,7 @@ pair_opens (c ∷ x) (inr (inr k)) = let first = k.0 in absurd (omega arith)
 ends_opening : (w : List ℕ) (t : IsText w) (v : List ℕ) (r : Words) → IsText v → joins_behind w ≡ true → (w ≡ codes "<" → v ≡ codes "<" → ⊥) → Ends (piece_of w t) (laid_out (v ∷ r))
 ends_opening w t v r tv m apart = by (one_of (codes "(" ∷ codes "<" ∷ []) w m)
   where
-    by : IsOneOf (codes "(" ∷ codes "<" ∷ []) w → Ends (piece_of w t) (v ++ (gap v r ++ laid_out r))
+    by : IsAmong (codes "(" ∷ codes "<" ∷ []) w → Ends (piece_of w t) (v ++ (gap v r ++ laid_out r))
     by (inl e) = subst (λ (p : Piece). Ends p (v ++ (gap v r ++ laid_out r))) (sym (one_byte 40 w t e (λ k. grind arith) (λ k. omega arith))) (no_pair (v ++ (gap v r ++ laid_out r)))
     by (inr (inl e)) = subst (λ (p : Piece). Ends p (v ++ (gap v r ++ laid_out r))) (sym (one_byte 60 w t e (λ k. grind arith) (λ k. omega arith)))
         (λ k. begins_open v tv (gap v r ++ laid_out r) (apart e) (pair_opens (v ++ (gap v r ++ laid_out r)) k))

@@ -5,11 +5,12 @@ use Rattle.std.specs.Bool.{Decides}
 use Rattle.std.proofs.lemmas.Bool.Decides.{nat_tests, Decides-by_and}
 use Rattle.std.proofs.lemmas.List.Folds.{Any-from_list_any}
 use Rattle.std.specs.List.{list_all, list_any}
-use Rattle.msc_base.specs.Names.{IsWord, IsWordByte, IsLetterOrDigit, IsOneOf}
+use Rattle.msc_base.specs.Names.{IsWord, IsWordByte, IsLetterOrDigit}
+use Rattle.msc_base.specs.Lists.{IsAmong}
 use Rattle.msc_tokens.specs.declared.token.Token.{Token}
 use Rattle.msc_tokens.specs.Spelling.{IsMark}
-use Rattle.msc_reading.specs.Classes.{is_letter_or_digit, is_word_byte, is_word, is_name, is_string, is_one_of}
-use Rattle.msc_reading.proofs.Classes.{name_decides, one_of_decides}
+use Rattle.token_grammar.specs.Classes.{is_letter_or_digit, is_word_byte, is_word, is_name, is_string, is_one_of}
+use Rattle.token_grammar.proofs.Classes.{name_decides, one_of_decides}
 use Rattle.msc_print.specs.Words.{Words}
 use Rattle.msc_print.specs.Texts.{IsText, word, mark, Parts, AreTexts}
 
@@ -100,7 +101,7 @@ fixed_tidy w rest is k = elim (or_cases (is_word w) (is_one_of (codes ";" ∷ co
     marked : (b : ℕ) → w ≡ b ∷ [] → IsMark b → (b ≡ 60 → ⊥) → (b ≡ 62 → ⊥) → Tidy (w ∷ rest)
     marked b e m no_open no_close = then w rest (mark b e m) (λ i. no_open (sym (ap first e) ∙ i)) (λ i. no_close (sym (ap first e) ∙ i)) k
 
-    by : IsOneOf (codes ";" ∷ codes "," ∷ codes ":" ∷ codes "(" ∷ codes ")" ∷ []) w → Tidy (w ∷ rest)
+    by : IsAmong (codes ";" ∷ codes "," ∷ codes ":" ∷ codes "(" ∷ codes ")" ∷ []) w → Tidy (w ∷ rest)
     by (inl e) = marked 59 e (inl refl) (λ i. omega arith) (λ i. omega arith)
     by (inr (inl e)) = marked 44 e (inr (inr (inl refl))) (λ i. omega arith) (λ i. omega arith)
     by (inr (inr (inl e))) = marked 58 e (inr (inl refl)) (λ i. omega arith) (λ i. omega arith)

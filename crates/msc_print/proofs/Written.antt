@@ -1,8 +1,8 @@
 -- Tokens with texts that are written for a value read as it.
 use Rattle.std.proofs.Common.{ℕ, ◌≡◌, ◌++◌, true, List, [], ◌∷◌, refl, sym}
 use Rattle.msc_tokens.specs.declared.token.Token.{Token}
-use Rattle.msc_reading.specs.Languages.{Set, among, any_fits, just, texts}
-use Rattle.msc_reading.specs.Grammars.{Grammar, seq, behind, bytes_of, opens, inner}
+use Rattle.token_grammar.specs.Languages.{Set, among, any_fits, just, texts}
+use Rattle.token_grammar.specs.Grammars.{Grammar, seq, behind, bytes_of, opens, inner}
 use Rattle.msc_print.specs.Words.{Words}
 use Rattle.msc_print.proofs.Backs.{cut, one_token, first_token}
 

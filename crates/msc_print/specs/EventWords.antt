@@ -45,11 +45,11 @@ act_words Create e = codes "create" ∷ e.text ∷ []
 
 -- "label" name ";"
 abbrev pub tag_words : Option (List ℕ) → Words
-tag_words = if_any (λ tag. codes "label" ∷ (tag ∷ end_words))
+tag_words = if_any (λ event_name. codes "label" ∷ (event_name ∷ end_words))
 
 -- [ "label" name ";" ] act [ "before" names ] [ "after" names ] end
 abbrev pub event_words : RawEvent → Words
-event_words e = tag_words e.tag ++ (act_words e.kind e ++ (names_behind (codes "before") e.earlier_than ++ (names_behind (codes "after") e.later_than ++ end_words)))
+event_words e = tag_words e.event_name ++ (act_words e.kind e ++ (names_behind (codes "before") e.earlier_than ++ (names_behind (codes "after") e.later_than ++ end_words)))
 
 -- "concurrent" end { single } "endconcurrent" end
 abbrev pub coregion_words : List RawEvent → Words

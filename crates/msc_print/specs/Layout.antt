@@ -1,7 +1,7 @@
 -- How tokens are laid out in a text: a line feed behind each semicolon, and a blank between two tokens of a line, but none
 -- in front of `;` `,` `:` `)` `>` and none behind `(` `<`.
 use Rattle.std.specs.Prelude.{ℕ, Bool, List, [], ◌∷◌, ◌++◌, codes, if◌then◌else◌}
-use Rattle.msc_reading.specs.Classes.{is_one_of}
+use Rattle.token_grammar.specs.Classes.{is_one_of}
 use Rattle.msc_print.specs.Words.{Words}
 
 abbrev pub ends_line : List ℕ → Bool

@@ -3,7 +3,7 @@ use Rattle.std.specs.Prelude.{ℕ, ◌≡◌, List, [], ◌∷◌, ◌++◌, cod
 use Rattle.msc_base.specs.Names.{IsWord}
 use Rattle.msc_tokens.specs.declared.token.Token.{Token}
 use Rattle.msc_tokens.specs.Spelling.{Part, held, AreParts, IsMark, Spells}
-use Rattle.msc_reading.specs.Languages.{texts}
+use Rattle.token_grammar.specs.Languages.{texts}
 use Rattle.msc_print.specs.Words.{Words}
 
 -- the text of a token: a word, a string, or a mark of one byte

@@ -15,7 +15,7 @@ unplaced_decl d = record { name = d.name; kind = d.kind; refined = d.refined; pl
 
 abbrev pub unplaced_event : RawEvent → RawEvent
 unplaced_event e = record {
-  tag = e.tag;
+  event_name = e.event_name;
   kind = e.kind;
   text = e.text;
   parameters = e.parameters;

@@ -150,10 +150,10 @@ fn act(page: &mut Page, event: &RawEvent) -> Result<(), NoMemory>
 }
 
 /// Writes the name by which general orderings know the event, where it has one.
-fn tag(page: &mut Page, tag: &Option<Name>) -> Result<(), NoMemory>
-    ensures { OnOk result (page.new ≡ put_all page.old (tag_words tag.now)) }
+fn event_name(page: &mut Page, event_name: &Option<Name>) -> Result<(), NoMemory>
+    ensures { OnOk result (page.new ≡ put_all page.old (tag_words event_name.now)) }
 {
-    if let Some(name) = tag {
+    if let Some(name) = event_name {
         page.word("label")?;
         page.put(name.bytes())?;
         end(page)?;
@@ -166,7 +166,7 @@ fn tag(page: &mut Page, tag: &Option<Name>) -> Result<(), NoMemory>
 pub fn event(page: &mut Page, event: &RawEvent) -> Result<(), NoMemory>
     ensures { OnOk result (page.new ≡ put_all page.old (event_words event.now)) }
 {
-    tag(page, &event.tag)?;
+    event_name(page, &event.event_name)?;
     act(page, event)?;
     names_after(page, "before", event.earlier_than.as_slice())?;
     names_after(page, "after", event.later_than.as_slice())?;

@@ -2,7 +2,7 @@ ghost use Rattle.std.specs.Prelude.{◌≡◌, ℕ, List};
 ghost use Rattle.msc_tokens.specs.declared.token.Token.{Token};
 ghost use Rattle.msc_tokens.specs.Spelling.{Spells};
 ghost use Rattle.msc_tree.specs.Expressions.{Expression};
-ghost use Rattle.msc_reading.specs.Languages.{texts};
+ghost use Rattle.token_grammar.specs.Languages.{texts};
 ghost use Rattle.msc_expression.specs.ExpressionGrammar.{expression};
 ghost use Rattle.msc_print.specs.ExpressionWords.{expression_words};
 ghost use Rattle.msc_tree.specs.Charts.{Document};

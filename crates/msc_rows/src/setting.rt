@@ -1,8 +1,9 @@
 //! What a row runs on, and what comes out.
 ghost use Rattle.std.specs.Prelude.{◌≡◌, ◌≤◌, IfOk, OnOk};
-ghost use Rattle.msc_base.specs.MemoryShelves.{calls_of};
+ghost use Rattle.outside.specs.MemoryShelves.{calls_of};
 
-use msc_base::{Items, MemShelf, MemSink, NoMemory, Text, Words};
+use msc_base::{Items, NoMemory, Text, Words};
+use outside::{MemShelf, MemSink};
 use msc_cmd::run;
 use std::alloc::Global;
 

@@ -172,16 +172,16 @@ impl Table {
     /// Whether the document that is cut before this blank is refused at its end, and the one with a mark behind the
     /// blank, which stands in no production, at the mark.
     fn is_refused_at(&mut self, document: &[u8], at: usize) -> Result<bool, Unread> {
-        let (front, behind) = document.split_at(at.min(document.len()));
+        let (prefix, behind) = document.split_at(at.min(document.len()));
         let end = at.wrapping_add(1);
         let want = format!(in self.alloc; "document refused at 1:{end}: syntax\n")?;
-        let cut = self.is_refused(Vec::from_slice(self.alloc, front)?, want.as_str())?;
+        let cut = self.is_refused(Vec::from_slice(self.alloc, prefix)?, want.as_str())?;
 
         let mark = at.wrapping_add(2);
         let want = format!(in self.alloc;
             "document refused at 1:{mark}: unsupported, qualifier\n"
         )?;
-        let mut spoilt = Vec::from_slice(self.alloc, front)?;
+        let mut spoilt = Vec::from_slice(self.alloc, prefix)?;
         spoilt.extend_from_slice(b" <<")?;
         spoilt.extend_from_slice(behind)?;
         Ok(cut && self.is_refused(spoilt, want.as_str())?)

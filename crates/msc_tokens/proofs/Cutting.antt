@@ -1,4 +1,4 @@
--- One more piece at the front of a text.
+-- One more piece at the prefix of a text.
 use Rattle.std.proofs.Common.{◌≡◌, List, ℕ, ◌++◌, [], ◌∷◌, Result, Ok, Err, sym, refl, ap, ◌∙◌, append_assoc, append-nil, subst}
 use Rattle.msc_base.specs.declared.place.Place.{Place}
 use Rattle.msc_tokens.specs.declared.token.Token.{Token}
@@ -49,6 +49,6 @@ piece_more x at before bytes (Err fault) is ends h = record {
   breaks = subst (λ p. Breaks p h.rest fault) (sym (past-append at (text x) (bytes_of h.pieces))) h.breaks;
 }
 
--- a fault that stands at the front
+-- a fault that stands at the prefix
 pub broken_here : (at : Place) (bytes : List ℕ) (fault : LexFault) → Breaks at bytes fault → IsBroken at bytes fault
 broken_here at bytes fault h = record { pieces = []; rest = bytes; spelled = refl; cut = tt; breaks = h }

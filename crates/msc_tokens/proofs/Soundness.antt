@@ -103,7 +103,7 @@ known_begun bytes known s c = go (class_of c) refl
         (c, record { text_is = refl; start_is = refl; place_is = refl }, mark_class c e, refl)
     go class.Other e = known mode.BadByte (refused s) (c ∷ []) s.place refl (λ more. bad_byte c more refl (other_class c e) refl)
 
--- only the front of a note's bytes says whether they close it
+-- only the prefix of a note's bytes says whether they close it
 noted_front : (bs : List ℕ) → IsNoted (bs ++ 42 ∷ []) → IsNoted bs
 noted_front [] h = tt
 noted_front (b ∷ []) h = (h.0, λ s z. z, tt)
@@ -248,8 +248,8 @@ known_behind_star : (bytes : List ℕ) → Known bytes → (s : State) (c : ℕ)
     → Reads at s.tokens (pend ++ c ∷ bytes) (answer (next mode.Star s c) bytes)
 known_behind_star bytes known s c pend at h = go (c == 47) refl (c == 42) refl (is_inside c) refl
   where
-    front : List ℕ
-    front = h.0 ++ 42 ∷ []
+    prefix : List ℕ
+    prefix = h.0 ++ 42 ∷ []
 
     joined : pend ++ c ∷ [] ≡ 47 ∷ 42 ∷ ((h.0 ++ 42 ∷ []) ++ c ∷ [])
     joined = ap (λ (bs : List ℕ). bs ++ c ∷ []) h.4
@@ -363,6 +363,6 @@ known_all [] m s pend at is h = subst (λ (k : Mode). Reads at s.tokens (pend ++
 known_all (c ∷ bytes) m s pend at is h =
     subst (λ (k : Mode). Reads at s.tokens (pend ++ c ∷ bytes) (answer (next k s c) bytes)) (sym is) (known_next bytes (known_all bytes) m s c pend at is h)
 
--- what the machine answers from the front of a text is what the text is
+-- what the machine answers from the prefix of a text is what the text is
 pub sound : (bytes : List ℕ) → Reads first_place [] bytes (answer first_state bytes)
 sound bytes = known_all bytes mode.Between first_state [] first_place refl (refl, refl)

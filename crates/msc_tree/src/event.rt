@@ -17,7 +17,7 @@ pub enum Target {
 #[derive(Drop)]
 pub struct RawEvent {
     /// The name by which general orderings know it, where it has one.
-    pub tag: Option<Name>,
+    pub event_name: Option<Name>,
     /// What it does.
     pub kind: Kind,
     /// The name of the message or timer, the action, or the name of the child.
@@ -32,7 +32,7 @@ pub struct RawEvent {
     pub earlier_than: Names,
     /// The events that it comes after.
     pub later_than: Names,
-    /// Where it stands, behind its tag.
+    /// Where it stands, behind its event_name.
     pub place: Place,
 }
 

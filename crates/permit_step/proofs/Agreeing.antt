@@ -4,11 +4,11 @@ use Rattle.std.specs.Prelude.{ℕ, ◌<◌, Bool, List, ◌++◌, ◌≡◌, Opt
 use Rattle.std.proofs.Common.{ap, sym, ◌∙◌, ◌∷◌, filter}
 use Rattle.msc_base.specs.Patterns.{Mode}
 use Rattle.hmsc_graph.specs.Graphs.{Spot, Goal, To, End, Any, Net, reach}
-use Rattle.chart_term.specs.NormalForms.{NetPermits, only, join_all, and_then, or_skip, choice_of, bound_of, turns_in, trail_of, are_nil, allowed, some_kept, cut, is_nil}
+use Rattle.chart_term.specs.NormalForms.{NetPermits, only, join_all, and_then, or_skip, choice_of, tie_of, turns_in, walk_of, are_nil, allowed, some_kept, cut, is_nil}
 use Rattle.chart_term.specs.Properties.{EveryOf, EveryRow, Each, EachTurn, IsBelow, EachGap}
-use Rattle.chart_term.specs.TermMeanings.{NetTerms, HasPattern, has_nil, has_event, has_join, has_choice, has_bound, has_turns, has_trail, HasParts, no_part, one_part, HasChoice, this_one, that_one, HasRow, gaps_end, gaps_turn, gaps_shut, gaps_more, HasWalk, walk_stop, walk_last, walk_step}
+use Rattle.chart_term.specs.TermMeanings.{NetTerms, HasPattern, has_nil, has_event, has_join, has_choice, holds_tie, holds_loop, holds_walk, HasParts, no_part, one_part, HasChoice, this_one, that_one, HasRow, gaps_end, gaps_turn, gaps_shut, gaps_more, HasWalk, walk_stop, walk_last, walk_step}
 use Rattle.chart_term.specs.TermPatterns.{Shape}
-use Rattle.chart_term.specs.Terms.{Block, Tree, Nil, Event, Join, Choice, Bound, Turns, Trail, Trees, none, more, Row, ends, gap, turn, Part, ◌∪◌, parts, Gap, Turn}
+use Rattle.chart_term.specs.Terms.{Block, Tree, Nil, Event, Join, Choice, Tied, Loop, Walk, Trees, none, more, Row, ends, gap, turn, Part, ◌∪◌, parts, Gap, Turn}
 use Rattle.chart_term.specs.Spreads.{touch, touch_all, touch_row}
 use Rattle.permit_step.specs.Permission.{permit, permit_all, permit_some, permit_row, wider, with_turn}
 use Rattle.permit_step.proofs.Everywhere.{every_out, every_row_out}
@@ -20,14 +20,14 @@ module _ (k j : NetPermits) (top : ℕ)
   only_at : Net → List ℕ → (ℕ → List ℕ → Option Tree) → List ℕ → NetPermits
   only_at g ms f s = record { net = λ n. g; nodes = λ n. ms; kept = λ n m c. f m c; spread = λ n. s }
 
-  at_net : (h : NetPermits) (n : ℕ) (f : Spot) (t : Goal) (c : List ℕ) → trail_of h n f t c ≡ trail_of (only_at (h.net n) (h.nodes n) (h.kept n) (h.spread n)) n f t c
+  at_net : (h : NetPermits) (n : ℕ) (f : Spot) (t : Goal) (c : List ℕ) → walk_of h n f t c ≡ walk_of (only_at (h.net n) (h.nodes n) (h.kept n) (h.spread n)) n f t c
   unfolding only_at
   at_net h n f Any c = refl
   at_net h n f End c = refl
   at_net h n f (To m) c = refl
 
-  same_trail : (n : ℕ) → n < top → (f : Spot) (t : Goal) (c : List ℕ) → trail_of k n f t c ≡ trail_of j n f t c
-  same_trail n l f t c = at_net k n f t c ∙ ((λ i. trail_of (only_at (same_net n l i) (same_nodes n l i) (λ m d. same_kept n l m d i) (same_spread n l i)) n f t c) ∙ sym (at_net j n f t c))
+  same_trail : (n : ℕ) → n < top → (f : Spot) (t : Goal) (c : List ℕ) → walk_of k n f t c ≡ walk_of j n f t c
+  same_trail n l f t c = at_net k n f t c ∙ ((λ i. walk_of (only_at (same_net n l i) (same_nodes n l i) (λ m d. same_kept n l m d i) (same_spread n l i)) n f t c) ∙ sym (at_net j n f t c))
 
   mutual
     pub same_touch : (x : Tree) → IsBelow top x → touch k.spread x ≡ touch j.spread x
@@ -35,9 +35,9 @@ module _ (k j : NetPermits) (top : ℕ)
     same_touch (Event e) h = refl
     same_touch (Join m xs) h = same_touch_all xs h
     same_touch (Choice xs) h = same_touch_all xs h
-    same_touch (Bound x q) h = same_touch x h
-    same_touch (Turns x lo hi r) h = λ i. same_touch x h.0 i ++ same_touch_row r h.1 i
-    same_touch (Trail n f t c) h = same_spread n h
+    same_touch (Tied x q) h = same_touch x h
+    same_touch (Loop x lo hi r) h = λ i. same_touch x h.0 i ++ same_touch_row r h.1 i
+    same_touch (Walk n f t c) h = same_spread n h
 
     same_touch_all : (xs : Trees) → EveryOf (λ e. Unit {0}) (λ m. m < top) xs → touch_all k.spread xs ≡ touch_all j.spread xs
     same_touch_all none h = refl
@@ -54,9 +54,9 @@ module _ (k j : NetPermits) (top : ℕ)
     same_permit (Event e) h b = refl
     same_permit (Join m xs) h b = ap (option_map (join_all m)) (same_all xs h b)
     same_permit (Choice xs) h b = ap choice_of (same_some xs h b)
-    same_permit (Bound x q) h b = ap (option_map (λ y. bound_of y q)) (same_permit x h b)
-    same_permit (Turns x lo hi r) h b = λ i. turns_in (λ c. same_permit x h.0 (only c) i) (same_touch x h.0 i) x lo hi (same_row r h.1 b i)
-    same_permit (Trail n f t c) h b = same_trail n h f t (c ∪ b.instances)
+    same_permit (Tied x q) h b = ap (option_map (λ y. tie_of y q)) (same_permit x h b)
+    same_permit (Loop x lo hi r) h b = λ i. turns_in (λ c. same_permit x h.0 (only c) i) (same_touch x h.0 i) x lo hi (same_row r h.1 b i)
+    same_permit (Walk n f t c) h b = same_trail n h f t (c ∪ b.instances)
 
     same_all : (xs : Trees) → EveryOf (λ e. Unit {0}) (λ m. m < top) xs → (b : Block) → permit_all k b xs ≡ permit_all j b xs
     same_all none h b = refl
@@ -111,9 +111,9 @@ module _ (k j : NetPermits) (top : ℕ)
     same_normal (Event e) b h = tt
     same_normal (Join m xs) b h = (same_normal_all xs b h.0, h.1, h.2)
     same_normal (Choice xs) b h = (same_normal_all xs b h.0, h.1, h.2, h.3)
-    same_normal (Bound x q) b h = (same_normal x b h.0, h.1, h.2, h.3)
-    same_normal (Turns x lo hi r) b h = (same_normal x b.0 h.0, same_normal_row r b.1 h.1, same_loop x b.0 hi (parts r) h.2)
-    same_normal (Trail n f t c) b h = record { set = h.set; cuts = ap (λ l. cut l c) (sym (same_spread n b)) ∙ h.cuts; leads = same_leading n b f t c h.leads }
+    same_normal (Tied x q) b h = (same_normal x b h.0, h.1, h.2, h.3)
+    same_normal (Loop x lo hi r) b h = (same_normal x b.0 h.0, same_normal_row r b.1 h.1, same_loop x b.0 hi (parts r) h.2)
+    same_normal (Walk n f t c) b h = record { set = h.set; cuts = ap (λ l. cut l c) (sym (same_spread n b)) ∙ h.cuts; leads = same_leading n b f t c h.leads }
 
     same_normal_all : (xs : Trees) → EveryOf (λ e. Unit {0}) (λ m. m < top) xs → AreNormal k xs → AreNormal j xs
     same_normal_all none b h = tt
@@ -135,9 +135,9 @@ module _ (v w : NetTerms) (o : Bool) (top : ℕ) (same_net : (n : ℕ) → n < t
     same_all_of has_event h = has_event
     same_all_of (has_join {xs = xs} a) h = has_join (same_parts a (every_out (λ e. Unit {0}) (λ m. m < top) xs h))
     same_all_of (has_choice {xs = xs} a) h = has_choice (same_one a (every_out (λ e. Unit {0}) (λ m. m < top) xs h))
-    same_all_of (has_bound a) h = has_bound (same_all_of a h)
-    same_all_of (has_turns {r = r} n a l u) h = has_turns n (same_gaps a h.0 (every_row_out (λ e. Unit {0}) (λ m. m < top) r h.1)) l u
-    same_all_of (has_trail a) h = has_trail (same_walk a h)
+    same_all_of (holds_tie a) h = holds_tie (same_all_of a h)
+    same_all_of (holds_loop {r = r} n a l u) h = holds_loop n (same_gaps a h.0 (every_row_out (λ e. Unit {0}) (λ m. m < top) r h.1)) l u
+    same_all_of (holds_walk a) h = holds_walk (same_walk a h)
 
     same_parts : {m : Mode} {xs : List Tree} {s : Shape} → HasParts v o m xs s → Low xs → HasParts w o m xs s
     same_parts no_part h = no_part

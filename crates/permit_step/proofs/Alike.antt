@@ -4,10 +4,10 @@ use Rattle.std.specs.Prelude.{ℕ, ◌+◌, ◌<◌, ◌==◌, Bool, true, false
 use Rattle.std.proofs.Common.{ap, sym, ◌∙◌, subst, arith, cond}
 use Rattle.std.proofs.lemmas.Bool.Decides.{nat_tests}
 use Rattle.msc_base.specs.Patterns.{Mode}
-use Rattle.chart_term.specs.NormalForms.{NetPermits, only, cut, cut_gaps, drop_nil, at_zero, live, has_free, drop_free, lower_of, thin, turns_end, trail_cut, join_all, and_then, or_skip, unless, choice_of, bound_of, turns_in, trail_of}
+use Rattle.chart_term.specs.NormalForms.{NetPermits, only, cut, cut_gaps, drop_nil, at_zero, live, has_free, drop_free, lower_of, thin, turns_end, walk_cut, join_all, and_then, or_skip, unless, choice_of, tie_of, turns_in, walk_of}
 use Rattle.chart_term.specs.Properties.{EachGap}
 use Rattle.chart_term.specs.TermPatterns.{instances_of, some_list}
-use Rattle.chart_term.specs.Terms.{TermEvent, Block, has, has_some, hits, Tree, Nil, Event, Join, Choice, Bound, Turns, Trail, Trees, none, more, Row, ends, gap, turn, Part, Gap, Turn, parts, ◌∪◌}
+use Rattle.chart_term.specs.Terms.{TermEvent, Block, has, has_some, hits, Tree, Nil, Event, Join, Choice, Tied, Loop, Walk, Trees, none, more, Row, ends, gap, turn, Part, Gap, Turn, parts, ◌∪◌}
 use Rattle.chart_term.specs.Spreads.{touch, touch_all, touch_row}
 use Rattle.permit_step.specs.Normality.{IsSet, IsNormal, AreNormal, IsNormalRow}
 use Rattle.permit_step.specs.Permission.{permit, permit_all, permit_some, permit_row, wider, with_turn}
@@ -104,10 +104,10 @@ module _ (k : NetPermits) (all : List ℕ) (b d : Block) (alike : AgreeOn all b 
     permit-alike (Event e) i h = ap (λ t. unless t (Event e)) (event_alike e i)
     permit-alike (Join m xs) i h = ap (option_map (join_all m)) (all_alike xs i h.0)
     permit-alike (Choice xs) i h = ap choice_of (some_parts xs i h.0)
-    permit-alike (Bound x q) i h = ap (option_map (λ y. bound_of y q)) (permit-alike x i h.0)
-    permit-alike (Turns x lo hi r) i h =
+    permit-alike (Tied x q) i h = ap (option_map (λ y. tie_of y q)) (permit-alike x i h.0)
+    permit-alike (Loop x lo hi r) i h =
         rows_alike x lo hi (permit_row k b r) (permit_row k d r) (row_alike (touch k.spread x) (in_left (touch k.spread x) (touch_row k.spread r) all i) r (in_right (touch k.spread x) (touch_row k.spread r) all i) h.1 h.2.sets)
-    permit-alike (Trail n s t c) i h = ap (trail_cut k n s t) (cut-alike (k.spread n) c b.instances d.instances h.set (λ m e. alike.instances m (i m e)))
+    permit-alike (Walk n s t c) i h = ap (walk_cut k n s t) (cut-alike (k.spread n) c b.instances d.instances h.set (λ m e. alike.instances m (i m e)))
 
     all_alike : (xs : Trees) → AreIn (touch_all k.spread xs) all → AreNormal k xs → permit_all k b xs ≡ permit_all k d xs
     all_alike none i h = refl

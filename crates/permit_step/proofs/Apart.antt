@@ -1,11 +1,11 @@
 -- Lists of terms that share no label, or only one that stands outside choices and loops of the earlier term.
 use Rattle.std.specs.Prelude.{ℕ, Bool, true, false, List, [], ◌∷◌, ◌++◌, ◌≡◌, ◌⊎◌, Option, Some}
 use Rattle.std.proofs.Common.{inl, inr}
-use Rattle.msc_base.specs.Patterns.{Mode, row, aside}
+use Rattle.msc_base.specs.Patterns.{Mode, seq, par}
 use Rattle.chart_term.specs.Equality.{same_tree}
 use Rattle.chart_term.specs.NormalForms.{NetPermits, open_part, flat, open_choice, open_choices, unless_same, without, distinct}
 use Rattle.chart_term.specs.Properties.{Each, MayHave}
-use Rattle.chart_term.specs.Terms.{TermEvent, Block, Tree, Nil, Event, Join, Choice, Bound, Turns, Trail, Trees, none, more, items}
+use Rattle.chart_term.specs.Terms.{TermEvent, Block, Tree, Nil, Event, Join, Choice, Tied, Loop, Walk, Trees, none, more, items}
 use Rattle.permit_step.specs.Permission.{permit}
 use Rattle.permit_step.specs.Taking.{IsAfter}
 use Rattle.permit_step.proofs.Keeping.{each_app}
@@ -13,8 +13,8 @@ use Rattle.permit_step.proofs.Steady.{Lacks, LackAll, Sure, SureAll, permit_lack
 
 -- each label of the later term stands in the earlier one outside choices and loops, if at all; side by side, not at all
 abbrev pub Apart : Mode → Tree → Tree → Type 0
-Apart row x y = (a : ℕ) → Sure a x ⊎ Lacks a y
-Apart aside x y = (a : ℕ) → Lacks a x ⊎ Lacks a y
+Apart seq x y = (a : ℕ) → Sure a x ⊎ Lacks a y
+Apart par x y = (a : ℕ) → Lacks a x ⊎ Lacks a y
 
 abbrev pub AllApart : Mode → List Tree → Type 0
 AllApart m [] = Unit {0}
@@ -32,8 +32,8 @@ pub fewer_on : (x y z : Tree) → Fewer x y → Fewer y z → Fewer x z
 fewer_on x y z f g = record { lacks = λ a h. g.lacks a (f.lacks a h); sure = λ a h. g.sure a (f.sure a h) }
 
 pub fewer_apart : (m : Mode) (x x' y y' : Tree) → Fewer x x' → Fewer y y' → Apart m x y → Apart m x' y'
-fewer_apart row x x' y y' f g h = λ a. elim (h a) [ inl i ↦ inl (f.sure a i) | inr i ↦ inr (g.lacks a i) ]
-fewer_apart aside x x' y y' f g h = λ a. elim (h a) [ inl i ↦ inl (f.lacks a i) | inr i ↦ inr (g.lacks a i) ]
+fewer_apart seq x x' y y' f g h = λ a. elim (h a) [ inl i ↦ inl (f.sure a i) | inr i ↦ inr (g.lacks a i) ]
+fewer_apart par x x' y y' f g h = λ a. elim (h a) [ inl i ↦ inl (f.lacks a i) | inr i ↦ inr (g.lacks a i) ]
 
 lacks_some : (a : ℕ) (r : Option Tree) (y : Tree) → r ≡ Some y → MayHave (Lacks a) r → Lacks a y
 lacks_some a r y e h = rw e at h
@@ -81,45 +81,45 @@ second : {A B C : Type 0} → (B → C) → A ⊎ B → A ⊎ C
 second f (inl a) = inl a
 second f (inr b) = inr (f b)
 
-sure_items : (y : Tree) (xs : Trees) → ((a : ℕ) → SureAll a xs ⊎ Lacks a y) → Each (λ x. Apart row x y) (items xs)
+sure_items : (y : Tree) (xs : Trees) → ((a : ℕ) → SureAll a xs ⊎ Lacks a y) → Each (λ x. Apart seq x y) (items xs)
 sure_items y none h = tt
 sure_items y (more x xs) h = (λ a. first (λ i. i.0) (h a), sure_items y xs (λ a. first (λ i. i.1) (h a)))
 
-lack_items : (y : Tree) (xs : Trees) → ((a : ℕ) → LackAll a xs ⊎ Lacks a y) → Each (λ x. Apart aside x y) (items xs)
+lack_items : (y : Tree) (xs : Trees) → ((a : ℕ) → LackAll a xs ⊎ Lacks a y) → Each (λ x. Apart par x y) (items xs)
 lack_items y none h = tt
 lack_items y (more x xs) h = (λ a. first (λ i. i.0) (h a), lack_items y xs (λ a. first (λ i. i.1) (h a)))
 
-row_later : (x : Tree) (ys : Trees) → ((a : ℕ) → Sure a x ⊎ LackAll a ys) → Each (Apart row x) (items ys)
+row_later : (x : Tree) (ys : Trees) → ((a : ℕ) → Sure a x ⊎ LackAll a ys) → Each (Apart seq x) (items ys)
 row_later x none h = tt
 row_later x (more y ys) h = (λ a. second (λ i. i.0) (h a), row_later x ys (λ a. second (λ i. i.1) (h a)))
 
-aside_later : (x : Tree) (ys : Trees) → ((a : ℕ) → Lacks a x ⊎ LackAll a ys) → Each (Apart aside x) (items ys)
+aside_later : (x : Tree) (ys : Trees) → ((a : ℕ) → Lacks a x ⊎ LackAll a ys) → Each (Apart par x) (items ys)
 aside_later x none h = tt
 aside_later x (more y ys) h = (λ a. second (λ i. i.0) (h a), aside_later x ys (λ a. second (λ i. i.1) (h a)))
 
 open_first : (m : Mode) (x y : Tree) → Apart m x y → Each (λ z. Apart m z y) (open_part m x)
 open_first m Nil y h = tt
-open_first row (Join row xs) y h = sure_items y xs h
-open_first row (Join aside xs) y h = (h, tt)
-open_first aside (Join row xs) y h = (h, tt)
-open_first aside (Join aside xs) y h = lack_items y xs h
+open_first seq (Join seq xs) y h = sure_items y xs h
+open_first seq (Join par xs) y h = (h, tt)
+open_first par (Join seq xs) y h = (h, tt)
+open_first par (Join par xs) y h = lack_items y xs h
 open_first m (Event e) y h = (h, tt)
 open_first m (Choice xs) y h = (h, tt)
-open_first m (Bound x q) y h = (h, tt)
-open_first m (Turns x lo hi r) y h = (h, tt)
-open_first m (Trail n f t c) y h = (h, tt)
+open_first m (Tied x q) y h = (h, tt)
+open_first m (Loop x lo hi r) y h = (h, tt)
+open_first m (Walk n f t c) y h = (h, tt)
 
 open_later : (m : Mode) (x y : Tree) → Apart m x y → Each (Apart m x) (open_part m y)
 open_later m x Nil h = tt
-open_later row x (Join row ys) h = row_later x ys h
-open_later row x (Join aside ys) h = (h, tt)
-open_later aside x (Join row ys) h = (h, tt)
-open_later aside x (Join aside ys) h = aside_later x ys h
+open_later seq x (Join seq ys) h = row_later x ys h
+open_later seq x (Join par ys) h = (h, tt)
+open_later par x (Join seq ys) h = (h, tt)
+open_later par x (Join par ys) h = aside_later x ys h
 open_later m x (Event e) h = (h, tt)
 open_later m x (Choice ys) h = (h, tt)
-open_later m x (Bound y q) h = (h, tt)
-open_later m x (Turns y lo hi r) h = (h, tt)
-open_later m x (Trail n f t c) h = (h, tt)
+open_later m x (Tied y q) h = (h, tt)
+open_later m x (Loop y lo hi r) h = (h, tt)
+open_later m x (Walk n f t c) h = (h, tt)
 
 -- the parts of a join
 flat_later : (m : Mode) (x : Tree) (ys : List Tree) → Each (Apart m x) ys → Each (Apart m x) (flat m ys)
@@ -148,39 +148,39 @@ flat_apart m [] o h = tt
 flat_apart m (x ∷ xs) o h = each_from m (open_part m x) (flat m xs) (each_flat m (open_part m x) xs (cross m x xs h.0)) o.0 (flat_apart m xs o.1 h.1)
 
 -- the parts of a choice
-choice_first : (x y : Tree) → Apart aside x y → Each (λ z. Apart aside z y) (open_choice x)
+choice_first : (x y : Tree) → Apart par x y → Each (λ z. Apart par z y) (open_choice x)
 choice_first (Choice xs) y h = lack_items y xs h
 choice_first Nil y h = (h, tt)
 choice_first (Event e) y h = (h, tt)
 choice_first (Join m xs) y h = (h, tt)
-choice_first (Bound x q) y h = (h, tt)
-choice_first (Turns x lo hi r) y h = (h, tt)
-choice_first (Trail n f t c) y h = (h, tt)
+choice_first (Tied x q) y h = (h, tt)
+choice_first (Loop x lo hi r) y h = (h, tt)
+choice_first (Walk n f t c) y h = (h, tt)
 
-choice_later : (x y : Tree) → Apart aside x y → Each (Apart aside x) (open_choice y)
+choice_later : (x y : Tree) → Apart par x y → Each (Apart par x) (open_choice y)
 choice_later x (Choice ys) h = aside_later x ys h
 choice_later x Nil h = (h, tt)
 choice_later x (Event e) h = (h, tt)
 choice_later x (Join m ys) h = (h, tt)
-choice_later x (Bound y q) h = (h, tt)
-choice_later x (Turns y lo hi r) h = (h, tt)
-choice_later x (Trail n f t c) h = (h, tt)
+choice_later x (Tied y q) h = (h, tt)
+choice_later x (Loop y lo hi r) h = (h, tt)
+choice_later x (Walk n f t c) h = (h, tt)
 
-choices_later : (x : Tree) (ys : List Tree) → Each (Apart aside x) ys → Each (Apart aside x) (open_choices ys)
+choices_later : (x : Tree) (ys : List Tree) → Each (Apart par x) ys → Each (Apart par x) (open_choices ys)
 choices_later x [] h = tt
-choices_later x (y ∷ ys) h = each_app (Apart aside x) (open_choice y) (open_choices ys) (choice_later x y h.0) (choices_later x ys h.1)
+choices_later x (y ∷ ys) h = each_app (Apart par x) (open_choice y) (open_choices ys) (choice_later x y h.0) (choices_later x ys h.1)
 
-each_choices : (xs ys : List Tree) → Each (λ x. Each (Apart aside x) ys) xs → Each (λ x. Each (Apart aside x) (open_choices ys)) xs
+each_choices : (xs ys : List Tree) → Each (λ x. Each (Apart par x) ys) xs → Each (λ x. Each (Apart par x) (open_choices ys)) xs
 each_choices [] ys h = tt
 each_choices (x ∷ xs) ys h = (choices_later x ys h.0, each_choices xs ys h.1)
 
-cross_choice : (x : Tree) (ys : List Tree) → Each (Apart aside x) ys → Each (λ z. Each (Apart aside z) ys) (open_choice x)
-cross_choice x [] h = cross_none aside (open_choice x)
-cross_choice x (y ∷ ys) h = cross_more aside (open_choice x) y ys (choice_first x y h.0) (cross_choice x ys h.1)
+cross_choice : (x : Tree) (ys : List Tree) → Each (Apart par x) ys → Each (λ z. Each (Apart par z) ys) (open_choice x)
+cross_choice x [] h = cross_none par (open_choice x)
+cross_choice x (y ∷ ys) h = cross_more par (open_choice x) y ys (choice_first x y h.0) (cross_choice x ys h.1)
 
-pub choices_apart : (xs : List Tree) → Each (λ x. AllApart aside (open_choice x)) xs → AllApart aside xs → AllApart aside (open_choices xs)
+pub choices_apart : (xs : List Tree) → Each (λ x. AllApart par (open_choice x)) xs → AllApart par xs → AllApart par (open_choices xs)
 choices_apart [] o h = tt
-choices_apart (x ∷ xs) o h = each_from aside (open_choice x) (open_choices xs) (each_choices (open_choice x) xs (cross_choice x xs h.0)) o.0 (choices_apart xs o.1 h.1)
+choices_apart (x ∷ xs) o h = each_from par (open_choice x) (open_choices xs) (each_choices (open_choice x) xs (cross_choice x xs h.0)) o.0 (choices_apart xs o.1 h.1)
 
 -- each term once
 unless_thins : (t : Bool) (y : Tree) (xs ys : List Tree) → Thins xs ys → Thins (y ∷ xs) (unless_same t y ys)

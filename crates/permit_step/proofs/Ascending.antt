@@ -3,13 +3,13 @@ use Rattle.std.specs.Option.{option_map}
 use Rattle.std.specs.Prelude.{ℕ, zero, suc, ◌+◌, ◌<◌, ◌≤◌, ◌==◌, Bool, true, false, List, [], ◌∷◌, ◌++◌, ◌≡◌, ◌||◌, Option, Some, None, refl, length, take, drop, slice_get}
 use Rattle.std.proofs.Common.{ap, sym, ◌∙◌, subst, add-one, append_assoc, append-nil, arith}
 use Rattle.std.proofs.Math.Seq.{take-length}
-use Rattle.msc_base.specs.Blocks.{BlockValue, insert_rising}
-use Rattle.msc_base.specs.Patterns.{Mode, row, aside}
-use Rattle.chart_term.specs.NormalForms.{NetPermits, only, join_all, and_then, bound_of}
+use Rattle.bit_sets.specs.Blocks.{BlockValue, insert_rising}
+use Rattle.msc_base.specs.Patterns.{Mode, seq, par}
+use Rattle.chart_term.specs.NormalForms.{NetPermits, only, join_all, and_then, tie_of}
 use Rattle.chart_term.specs.Properties.{Each}
 use Rattle.chart_term.specs.Tables.{Tables}
 use Rattle.chart_term.specs.TermPatterns.{instances_of, earlier, before_in, put_if}
-use Rattle.chart_term.specs.Terms.{TermEvent, Block, has, Tree, Nil, Event, Join, Choice, Bound, Turns, Trail, trees, items, Part}
+use Rattle.chart_term.specs.Terms.{TermEvent, Block, has, Tree, Nil, Event, Join, Choice, Tied, Loop, Walk, trees, items, Part}
 use Rattle.chart_term.specs.Views.{event_of}
 use Rattle.chart_term.proofs.Lists.{items-trees}
 use Rattle.permit_step.specs.Children.{parts_left, put}
@@ -53,20 +53,20 @@ pub earlier-none : (q : List (ℕ × ℕ)) (m : ℕ) → q ≡ [] → (n : ℕ) 
 earlier-none q m e n = rw e refl
 
 -- parts side by side
-aside_left : (k : NetPermits) (e : TermEvent) (xs : List Tree) (i : ℕ) (y : Tree) → i < length xs → parts_left k aside e xs i y ≡ Some (take i xs ++ y ∷ drop (suc i) xs)
+aside_left : (k : NetPermits) (e : TermEvent) (xs : List Tree) (i : ℕ) (y : Tree) → i < length xs → parts_left k par e xs i y ≡ Some (take i xs ++ y ∷ drop (suc i) xs)
 aside_left k e [] i y l = absurd (omega arith)
 aside_left k e (x ∷ xs) zero y l = refl
 aside_left k e (x ∷ xs) (suc i) y l = ap (and_then (Some x)) (aside_left k e xs i y (omega arith))
 
-pub aside-whole : (k : NetPermits) (e : TermEvent) (x : Tree) (xs : List Tree) (i : ℕ) (y z : Tree) → x ≡ Join aside (trees xs) → i < length xs → z ≡ join_all aside (take i xs ++ y ∷ drop (i + 1) xs) → Some z ≡ put k e x i y
-aside-whole k e x xs i y z s l h =
-    let left : option_map (join_all aside) (parts_left k aside e (items (trees xs)) i y) ≡ Some (join_all aside (take i xs ++ y ∷ drop (suc i) xs)) = ap (λ l. option_map (join_all aside) (parts_left k aside e l i y)) (items-trees xs) ∙ ap (option_map (join_all aside)) (aside_left k e xs i y l) in
-    ap Some (h ∙ ap (λ n. join_all aside (take i xs ++ y ∷ drop n xs)) (add-one i)) ∙ sym (ap (λ u. put k e u i y) s ∙ left)
+pub par-whole : (k : NetPermits) (e : TermEvent) (x : Tree) (xs : List Tree) (i : ℕ) (y z : Tree) → x ≡ Join par (trees xs) → i < length xs → z ≡ join_all par (take i xs ++ y ∷ drop (i + 1) xs) → Some z ≡ put k e x i y
+par-whole k e x xs i y z s l h =
+    let left : option_map (join_all par) (parts_left k par e (items (trees xs)) i y) ≡ Some (join_all par (take i xs ++ y ∷ drop (suc i) xs)) = ap (λ l. option_map (join_all par) (parts_left k par e l i y)) (items-trees xs) ∙ ap (option_map (join_all par)) (aside_left k e xs i y l) in
+    ap Some (h ∙ ap (λ n. join_all par (take i xs ++ y ∷ drop n xs)) (add-one i)) ∙ sym (ap (λ u. put k e u i y) s ∙ left)
 
-pub aside-parts : (xs k0 k1 k2 : List Tree) (i n : ℕ) (y : Tree) → k0 ≡ [] ++ drop 0 (take i xs) → k1 ≡ k0 ++ y ∷ [] → n ≡ length xs → k2 ≡ k1 ++ drop (i + 1) (take n xs) → join_all aside k2 ≡ join_all aside (take i xs ++ y ∷ drop (i + 1) xs)
-aside-parts xs k0 k1 k2 i n y e0 e1 en e2 =
+pub par-parts : (xs k0 k1 k2 : List Tree) (i n : ℕ) (y : Tree) → k0 ≡ [] ++ drop 0 (take i xs) → k1 ≡ k0 ++ y ∷ [] → n ≡ length xs → k2 ≡ k1 ++ drop (i + 1) (take n xs) → join_all par k2 ≡ join_all par (take i xs ++ y ∷ drop (i + 1) xs)
+par-parts xs k0 k1 k2 i n y e0 e1 en e2 =
     let tail : drop (i + 1) (take n xs) ≡ drop (i + 1) xs = ap (λ m. drop (i + 1) (take m xs)) en ∙ ap (drop (i + 1)) (take-length xs) in
-    ap (join_all aside) (e2 ∙ ((λ j. (e1 ∙ ap (λ l. l ++ y ∷ []) e0) j ++ tail j) ∙ append_assoc (take i xs) (y ∷ []) (drop (i + 1) xs)))
+    ap (join_all par) (e2 ∙ ((λ j. (e1 ∙ ap (λ l. l ++ y ∷ []) e0) j ++ tail j) ∙ append_assoc (take i xs) (y ∷ []) (drop (i + 1) xs)))
 
 -- an event's block
 pub taken-agrees : (t : Taken) → IsTaken t → (all : List ℕ) → AgreeOn all (block_of t.at) (only (instances_of (event_of t.event)).instances)
@@ -85,25 +85,25 @@ module _ (w : Tables) (t : Taken) (taken : IsTaken t) where
   first_map (Some x) None zs = refl
   first_map (Some x) (Some ks) zs = refl
 
-  row_left : (xs : List Tree) (i : ℕ) (y : Tree) → Each (IsReady w) xs → i < length xs → parts_left (permits_of w) row e xs i y ≡ option_map (λ ks. ks ++ y ∷ drop (suc i) xs) (permit_all (permits_of w) (block_of t.at) (trees (take i xs)))
+  row_left : (xs : List Tree) (i : ℕ) (y : Tree) → Each (IsReady w) xs → i < length xs → parts_left (permits_of w) seq e xs i y ≡ option_map (λ ks. ks ++ y ∷ drop (suc i) xs) (permit_all (permits_of w) (block_of t.at) (trees (take i xs)))
   row_left [] i y r l = absurd (omega arith)
   row_left (x ∷ xs) zero y r l = refl
   row_left (x ∷ xs) (suc i) y r l =
       (λ j. and_then (sym (taken-permits w t taken x r.0) j) (row_left xs i y r.1 (omega arith) j)) ∙ first_map (permit (permits_of w) (block_of t.at) x) (permit_all (permits_of w) (block_of t.at) (trees (take i xs))) (y ∷ drop (suc i) xs)
 
   put_row : (xs : List Tree) (i : ℕ) (y : Tree) → Each (IsReady w) xs → i < length xs
-      → put (permits_of w) e (Join row (trees xs)) i y ≡ option_map (join_all row) (option_map (λ ks. ks ++ y ∷ drop (suc i) xs) (permit_all (permits_of w) (block_of t.at) (trees (take i xs))))
-  put_row xs i y r l = ap (λ l. option_map (join_all row) (parts_left (permits_of w) row e l i y)) (items-trees xs) ∙ ap (option_map (join_all row)) (row_left xs i y r l)
+      → put (permits_of w) e (Join seq (trees xs)) i y ≡ option_map (join_all seq) (option_map (λ ks. ks ++ y ∷ drop (suc i) xs) (permit_all (permits_of w) (block_of t.at) (trees (take i xs))))
+  put_row xs i y r l = ap (λ l. option_map (join_all seq) (parts_left (permits_of w) seq e l i y)) (items-trees xs) ∙ ap (option_map (join_all seq)) (row_left xs i y r l)
 
-  pub row-none : (xs : List Tree) (i : ℕ) (y : Tree) → Each (IsReady w) xs → i < length xs → permit_all (permits_of w) (block_of t.at) (trees (take i xs)) ≡ None → put (permits_of w) e (Join row (trees xs)) i y ≡ None
-  row-none xs i y r l h = put_row xs i y r l ∙ ap (λ o. option_map (join_all row) (option_map (λ ks. ks ++ y ∷ drop (suc i) xs) o)) h
+  pub row-none : (xs : List Tree) (i : ℕ) (y : Tree) → Each (IsReady w) xs → i < length xs → permit_all (permits_of w) (block_of t.at) (trees (take i xs)) ≡ None → put (permits_of w) e (Join seq (trees xs)) i y ≡ None
+  row-none xs i y r l h = put_row xs i y r l ∙ ap (λ o. option_map (join_all seq) (option_map (λ ks. ks ++ y ∷ drop (suc i) xs) o)) h
 
-  pub row-whole : (xs ks k1 k2 : List Tree) (i n : ℕ) (y z : Tree) → Each (IsReady w) xs → i < length xs → permit_all (permits_of w) (block_of t.at) (trees (take i xs)) ≡ Some ks → k1 ≡ ks ++ y ∷ [] → n ≡ length xs → k2 ≡ k1 ++ drop (i + 1) (take n xs) → z ≡ join_all row k2
-      → Some z ≡ put (permits_of w) e (Join row (trees xs)) i y
+  pub row-whole : (xs ks k1 k2 : List Tree) (i n : ℕ) (y z : Tree) → Each (IsReady w) xs → i < length xs → permit_all (permits_of w) (block_of t.at) (trees (take i xs)) ≡ Some ks → k1 ≡ ks ++ y ∷ [] → n ≡ length xs → k2 ≡ k1 ++ drop (i + 1) (take n xs) → z ≡ join_all seq k2
+      → Some z ≡ put (permits_of w) e (Join seq (trees xs)) i y
   row-whole xs ks k1 k2 i n y z r l h e1 en e2 ez =
       let tail : drop (i + 1) (take n xs) ≡ drop (suc i) xs = ap (λ m. drop m (take n xs)) (add-one i) ∙ (ap (λ m. drop (suc i) (take m xs)) en ∙ ap (drop (suc i)) (take-length xs)) in
       let all : k2 ≡ ks ++ y ∷ drop (suc i) xs = e2 ∙ ((λ j. e1 j ++ tail j) ∙ append_assoc ks (y ∷ []) (drop (suc i) xs)) in
-      ap Some (ez ∙ ap (join_all row) all) ∙ sym (put_row xs i y r l ∙ ap (λ o. option_map (join_all row) (option_map (λ ks. ks ++ y ∷ drop (suc i) xs) o)) h)
+      ap Some (ez ∙ ap (join_all seq) all) ∙ sym (put_row xs i y r l ∙ ap (λ o. option_map (join_all seq) (option_map (λ ks. ks ++ y ∷ drop (suc i) xs) o)) h)
 
   -- below a tie
   pub tie-permits : (q : List (ℕ × ℕ)) (b : BlockValue) (y : Tree) → b.instances ≡ [] → ((n : ℕ) → has b.events n ≡ has (before_in q t.event.number) n) → IsReady w y → permit (permits_of w) (block_of b) y ≡ permit (permits_of w) (earlier q e) y

@@ -4,7 +4,7 @@ use Rattle.std.proofs.Common.{ap, sym, ◌∙◌, subst, arith}
 use Rattle.chart_term.specs.NormalForms.{only}
 use Rattle.chart_term.specs.Properties.{Each, MayHave}
 use Rattle.chart_term.specs.Tables.{Tables, NetEntry, net_count, choose, count_from, nodes_of, node_of}
-use Rattle.chart_term.specs.Terms.{Block, Tree, Nil, Event, Join, Choice, Bound, Turns, Trail, Trees, none, more, Row, ends, gap, turn, items, Part, Gap, Turn, parts}
+use Rattle.chart_term.specs.Terms.{Block, Tree, Nil, Event, Join, Choice, Tied, Loop, Walk, Trees, none, more, Row, ends, gap, turn, items, Part, Gap, Turn, parts}
 use Rattle.permit_step.specs.Children.{child, row_child, new_turn, first_alone}
 use Rattle.permit_step.specs.Permission.{permit, permit_nth, kept_of, permits_of}
 use Rattle.permit_step.specs.Ready.{IsReady, AreReadyTables, IsWithin, IsRowWithin}
@@ -86,14 +86,14 @@ module _ (w : Tables) (tables : AreReadyTables w) where
       record { within = at_within (items xs) i y e; ready = ready-at w (items xs) i y e (each_out w xs h.within h.normal.0); rank = omega (arith, rank-at w (items xs) i y e, items_rank w xs) }
   child-good (Choice xs) i y h e =
       record { within = at_within (items xs) i y e; ready = ready-at w (items xs) i y e (each_out w xs h.within h.normal.0); rank = omega (arith, rank-at w (items xs) i y e, items_rank w xs) }
-  child-good (Bound x q) zero y h e =
+  child-good (Tied x q) zero y h e =
       let p : x ≡ y = cc in
-      record { within = omega arith; ready = subst (λ (u : Tree). IsReady w u) p (record { within = h.within; normal = h.normal.0 }); rank = subst (λ (u : Tree). rank_in w u < rank_in w (Bound x q)) p (omega arith) }
-  child-good (Bound x q) (suc i) y h e = cc
-  child-good (Turns x lo hi r) i y h e =
+      record { within = omega arith; ready = subst (λ (u : Tree). IsReady w u) p (record { within = h.within; normal = h.normal.0 }); rank = subst (λ (u : Tree). rank_in w u < rank_in w (Tied x q)) p (omega arith) }
+  child-good (Tied x q) (suc i) y h e = cc
+  child-good (Loop x lo hi r) i y h e =
       let g = turn_good w x hi r i y (record { within = h.within.0; normal = h.normal.0 }) h.within.1 h.normal.1 e in
       record { within = g.within; ready = g.ready; rank = omega (arith, g.rank) }
-  child-good (Trail n f t c) i y h e =
+  child-good (Walk n f t c) i y h e =
       let there : i < length (nodes_of w n) = kept_within w n i c y e in
       let node = node-is w tables n i h.within.0 there in
       let size = sizes-are w tables n h.within.0 in

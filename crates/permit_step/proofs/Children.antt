@@ -2,17 +2,17 @@
 use Rattle.std.specs.Option.{option_map}
 use Rattle.std.specs.Prelude.{ℕ, zero, suc, Bool, true, false, List, [], ◌∷◌, ◌≡◌, ◌⊎◌, Option, Some, None, refl, slice_get}
 use Rattle.std.proofs.Common.{ap, sym, ◌∙◌, subst, inl, inr}
-use Rattle.msc_base.specs.Patterns.{Mode, row, aside}
+use Rattle.msc_base.specs.Patterns.{Mode, seq, par}
 use Rattle.hmsc_graph.specs.Graphs.{Spot, At, Goal, To, End, Any}
 use Rattle.hmsc_graph.proofs.Reaching.{reach_sound, reach_whole}
-use Rattle.chart_term.specs.NormalForms.{NetPermits, only, join_all, and_then, bound_of, turns_of, trail_of, allowed}
+use Rattle.chart_term.specs.NormalForms.{NetPermits, only, join_all, and_then, tie_of, loop_of, walk_of, allowed}
 use Rattle.chart_term.specs.TermPatterns.{instances_of, earlier}
-use Rattle.chart_term.specs.Terms.{TermEvent, Tree, Nil, Event, Join, Choice, Bound, Turns, Trail, Trees, none, more, items, Part, Gap, Turn, parts, ◌∪◌}
+use Rattle.chart_term.specs.Terms.{TermEvent, Tree, Nil, Event, Join, Choice, Tied, Loop, Walk, Trees, none, more, items, Part, Gap, Turn, parts, ◌∪◌}
 use Rattle.permit_step.specs.Children.{parts_left, RowLeft, turn_first, gap_first, row_left, where_so, loop_left, three, put, new_turn, row_child, first_alone, child}
 use Rattle.permit_step.specs.Listing.{stay, may_begin, may_lead}
 use Rattle.chart_term.specs.Spreads.{touch}
 use Rattle.permit_step.specs.Permission.{permit}
-use Rattle.permit_step.specs.Taking.{Stays, fewer, down, HasMore, Leads, IsAfter, after_event, after_choice, after_join, after_bound, after_turns, after_trail, IsAfterOne, first_one, later_one, IsAfterJoin, first_part, later_part, IsAfterRow, in_turn, in_gap, past_turn, past_gap}
+use Rattle.permit_step.specs.Taking.{Stays, fewer, down, HasMore, Leads, IsAfter, after_event, after_choice, after_join, after_tied, after_loop, after_walk, IsAfterOne, first_one, later_one, IsAfterJoin, first_part, later_part, IsAfterRow, in_turn, in_gap, past_turn, past_gap}
 
 and_some : (o : Option Tree) (p : Option (List Tree)) (ys : List Tree) → and_then o p ≡ Some ys → (x : Tree) × (zs : List Tree) × (o ≡ Some x) × (p ≡ Some zs) × (x ∷ zs ≡ ys)
 and_some None p ys h = cc
@@ -40,7 +40,7 @@ so_some : (b : Bool) (o : Option Tree) (z : Tree) → where_so b o ≡ Some z �
 so_some true o z h = (refl, h)
 so_some false o z h = cc
 
-three_some : (u : Option Tree) (y : Tree) (v : Option Tree) (z : Tree) → three u y v ≡ Some z → (a : Tree) × (b : Tree) × (u ≡ Some a) × (v ≡ Some b) × (join_all row (a ∷ y ∷ b ∷ []) ≡ z)
+three_some : (u : Option Tree) (y : Tree) (v : Option Tree) (z : Tree) → three u y v ≡ Some z → (a : Tree) × (b : Tree) × (u ≡ Some a) × (v ≡ Some b) × (join_all seq (a ∷ y ∷ b ∷ []) ≡ z)
 three_some None y v z h = cc
 three_some (Some a) y None z h = cc
 three_some (Some a) y (Some b) z h = (a, b, refl, refl, cc)
@@ -57,12 +57,12 @@ module _ (k : NetPermits) where
 
   -- parts of a join
   stays_some : (m : Mode) (e : TermEvent) (x x' : Tree) → Stays k m e x x' → stay k m e x ≡ Some x'
-  stays_some row e x x' h = h
-  stays_some aside e x x' h = ap Some (sym h)
+  stays_some seq e x x' h = h
+  stays_some par e x x' h = ap Some (sym h)
 
   some_stays : (m : Mode) (e : TermEvent) (x x' : Tree) → stay k m e x ≡ Some x' → Stays k m e x x'
-  some_stays row e x x' h = h
-  some_stays aside e x x' h = let p : x ≡ x' = cc in sym p
+  some_stays seq e x x' h = h
+  some_stays par e x x' h = let p : x ≡ x' = cc in sym p
 
   join_to : {m : Mode} {xs : Trees} {e : TermEvent} {ys : List Tree} → IsAfterJoin k m xs e ys
       → (i : ℕ) × (x : Tree) × (y : Tree) × (slice_get (items xs) i ≡ Some x) × IsAfter k x e y × (parts_left k m e (items xs) i y ≡ Some ys)
@@ -151,11 +151,11 @@ module _ (k : NetPermits) where
   in-child after_event = inl (refl, refl)
   in-child (after_choice {y = y} a) = let (i, x, g, t) = one_to a in inr (record { place = i; inner = x; left = y; there = g; taken = t; whole = refl })
   in-child (after_join {m = m} a) = let (i, x, y, g, t, l) = join_to a in inr (record { place = i; inner = x; left = y; there = g; taken = t; whole = ap (option_map (join_all m)) l })
-  in-child (after_bound {x = x} {y = y} {q = q} a p) = inr (record { place = 0; inner = x; left = y; there = refl; taken = a; whole = ap (option_map (λ z. bound_of z q)) p })
-  in-child (after_turns {x = x} {lo = lo} {hi = hi} {r = r} {e = e} b {ps = ps} a h p) =
+  in-child (after_tied {x = x} {y = y} {q = q} a p) = inr (record { place = 0; inner = x; left = y; there = refl; taken = a; whole = ap (option_map (λ z. tie_of z q)) p })
+  in-child (after_loop {x = x} {lo = lo} {hi = hi} {r = r} {e = e} b {ps = ps} a h p) =
       let (i, u, y, g, t, l) = row_to hi h a in
-      inr (record { place = i; inner = u; left = y; there = g; taken = t; whole = ap (loop_left k x lo hi) l ∙ ((λ j. where_so (more_may b hi h j) (turns_of (λ c. permit k (only c) x) (touch k.spread x) x (down b lo) (fewer b hi) ps)) ∙ p) })
-  in-child (after_trail {n = n} {s = f} {t = t} {c = c} {e = e} m {x = x} {y = y} {u = u} {v = v} p a l1 l2 q r) =
+      inr (record { place = i; inner = u; left = y; there = g; taken = t; whole = ap (loop_left k x lo hi) l ∙ ((λ j. where_so (more_may b hi h j) (loop_of (λ c. permit k (only c) x) (touch k.spread x) x (down b lo) (fewer b hi) ps)) ∙ p) })
+  in-child (after_walk {n = n} {s = f} {t = t} {c = c} {e = e} m {x = x} {y = y} {u = u} {v = v} p a l1 l2 q r) =
       inr (record { place = m; inner = x; left = y; there = p; taken = a; whole = λ j. where_so (leads_may n f (To m) (c ∪ (instances_of e).instances) l1 j) (where_so (leads_may n (At m) t c l2 j) (three (q j) y (r j))) })
 
   pub from-child : (x z : Tree) (e : TermEvent) → IsInChild x e z → IsAfter k x e z
@@ -165,24 +165,24 @@ module _ (k : NetPermits) where
       let (ys, l, q) = map_some (join_all m) (parts_left k m e (items xs) h.place h.left) z h.whole in
       subst (λ (v : Tree). IsAfter k (Join m xs) e v) q (after_join (join_from m xs e h.place h.inner h.left ys h.there h.taken l))
   from-child (Choice xs) z e h = let q : h.left ≡ z = cc in subst (λ (v : Tree). IsAfter k (Choice xs) e v) q (after_choice (one_from xs e h.place h.inner h.left h.there h.taken))
-  from-child (Bound x q) z e h = bound_from h.place h.there h.whole
+  from-child (Tied x q) z e h = bound_from h.place h.there h.whole
     where
-      bound_from : (i : ℕ) → first_alone x i ≡ Some h.inner → option_map (λ u. bound_of u q) (permit k (earlier q e) h.left) ≡ Some z → IsAfter k (Bound x q) e z
+      bound_from : (i : ℕ) → first_alone x i ≡ Some h.inner → option_map (λ u. tie_of u q) (permit k (earlier q e) h.left) ≡ Some z → IsAfter k (Tied x q) e z
       bound_from zero g w =
           let p : x ≡ h.inner = cc in
-          let (u, r, s) = tie_some (λ u. bound_of u q) (permit k (earlier q e) h.left) z w in
-          subst (λ (v : Tree). IsAfter k (Bound x q) e v) s (after_bound (subst (λ (v : Tree). IsAfter k v e h.left) (sym p) h.taken) r)
+          let (u, r, s) = tie_some (λ u. tie_of u q) (permit k (earlier q e) h.left) z w in
+          subst (λ (v : Tree). IsAfter k (Tied x q) e v) s (after_tied (subst (λ (v : Tree). IsAfter k v e h.left) (sym p) h.taken) r)
       bound_from (suc i) g w = cc
-  from-child (Turns x lo hi r) z e h = turns_from (row_left k e (parts r) h.place h.left) refl h.whole
+  from-child (Loop x lo hi r) z e h = turns_from (row_left k e (parts r) h.place h.left) refl h.whole
     where
-      turns_from : (o : Option RowLeft) → row_left k e (parts r) h.place h.left ≡ o → loop_left k x lo hi o ≡ Some z → IsAfter k (Turns x lo hi r) e z
+      turns_from : (o : Option RowLeft) → row_left k e (parts r) h.place h.left ≡ o → loop_left k x lo hi o ≡ Some z → IsAfter k (Loop x lo hi r) e z
       turns_from None q w = cc
       turns_from (Some s) q w =
-          let (b, p) = so_some (may_begin s.begins hi) (turns_of (λ c. permit k (only c) x) (touch k.spread x) x (down s.begins lo) (fewer s.begins hi) s.row_parts) z w in
-          after_turns s.begins (row_from x hi (parts r) e h.place h.inner h.left s h.there h.taken q) (may_more s.begins hi b) p
-  from-child (Trail n f t c) z e h =
+          let (b, p) = so_some (may_begin s.begins hi) (loop_of (λ c. permit k (only c) x) (touch k.spread x) x (down s.begins lo) (fewer s.begins hi) s.row_parts) z w in
+          after_loop s.begins (row_from x hi (parts r) e h.place h.inner h.left s h.there h.taken q) (may_more s.begins hi b) p
+  from-child (Walk n f t c) z e h =
       let d = c ∪ (instances_of e).instances in
-      let (a, w) = so_some (may_lead k n f (To h.place) d) (where_so (may_lead k n (At h.place) t c) (three (trail_of k n f (To h.place) d) h.left (trail_of k n (At h.place) t c))) z h.whole in
-      let (b, s) = so_some (may_lead k n (At h.place) t c) (three (trail_of k n f (To h.place) d) h.left (trail_of k n (At h.place) t c)) z w in
-      let (u, v, p, q, r) = three_some (trail_of k n f (To h.place) d) h.left (trail_of k n (At h.place) t c) z s in
-      subst (λ (y : Tree). IsAfter k (Trail n f t c) e y) r (after_trail h.place h.there h.taken (may_leads n f (To h.place) d a) (may_leads n (At h.place) t c b) p q)
+      let (a, w) = so_some (may_lead k n f (To h.place) d) (where_so (may_lead k n (At h.place) t c) (three (walk_of k n f (To h.place) d) h.left (walk_of k n (At h.place) t c))) z h.whole in
+      let (b, s) = so_some (may_lead k n (At h.place) t c) (three (walk_of k n f (To h.place) d) h.left (walk_of k n (At h.place) t c)) z w in
+      let (u, v, p, q, r) = three_some (walk_of k n f (To h.place) d) h.left (walk_of k n (At h.place) t c) z s in
+      subst (λ (y : Tree). IsAfter k (Walk n f t c) e y) r (after_walk h.place h.there h.taken (may_leads n f (To h.place) d a) (may_leads n (At h.place) t c b) p q)

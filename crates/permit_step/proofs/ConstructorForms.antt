@@ -2,12 +2,12 @@
 use Rattle.std.specs.Prelude.{ℕ, Bool, true, false, List, [], ◌∷◌, ◌≡◌, Option, Some, None, refl}
 use Rattle.msc_base.specs.Patterns.{Mode}
 use Rattle.hmsc_graph.specs.Graphs.{Spot, Goal, To, End, Any, reach}
-use Rattle.chart_term.specs.NormalForms.{only, cut, join_all, choice_of, bound_of, turns_of, walk_form, trail_of, trail_cut, allowed, are_nil}
+use Rattle.chart_term.specs.NormalForms.{only, cut, join_all, choice_of, tie_of, loop_of, walk_form, walk_of, walk_cut, allowed, are_nil}
 use Rattle.chart_term.specs.Properties.{Each, EachTurn, MayHave}
 use Rattle.chart_term.specs.Tables.{Tables, node_of, terms_over}
 use Rattle.chart_term.specs.TermMeanings.{HasPattern, PatternsOf, UpTo, HasChoice}
 use Rattle.chart_term.specs.TermPatterns.{Shape, Both}
-use Rattle.chart_term.specs.Terms.{Tree, Bound, Turns, Trail, Part, Gap, Turn, row_of}
+use Rattle.chart_term.specs.Terms.{Tree, Tied, Loop, Walk, Part, Gap, Turn, row_of}
 use Rattle.permit_step.specs.ConstructorLaws.{IsFormed, IsFormedRow, HaveSame, ConstructorsKeepForm}
 use Rattle.permit_step.specs.Normality.{IsSet, IsNormalOver}
 use Rattle.chart_term.specs.Spreads.{touch}
@@ -56,31 +56,31 @@ module _ (w : Tables) (h : AreTidyTables w) where
       (choice_keeps (permits_of w) (IsTidyOver w) (IsTidyOver w) (Loop (permits_of w) (node_of w) true (NetLacks w) (IsKnown w) (nets_good true w h)) (Replaces (permits_of w) (node_of w) true (NetLacks w) (IsKnown w) (nets_good true w h)) (good_kind (permits_of w) (node_of w) true (NetLacks w) (IsKnown w) (nets_good true w h)) xs (all_tidy w xs f))
       (choice_normal (permits_of w) xs (all_normal w xs f))
 
-  bound_formed : (x : Tree) (q : List (ℕ × ℕ)) → IsTidyOver w (Bound x q) → IsNormalOver w x → IsFormed w (bound_of x q)
+  bound_formed : (x : Tree) (q : List (ℕ × ℕ)) → IsTidyOver w (Tied x q) → IsNormalOver w x → IsFormed w (tie_of x q)
   bound_formed x q t n = record {
     tidy = tied_keeps (permits_of w) (IsTidyOver w) (IsTidyOver w) (Loop (permits_of w) (node_of w) true (NetLacks w) (IsKnown w) (nets_good true w h)) (Replaces (permits_of w) (node_of w) true (NetLacks w) (IsKnown w) (nets_good true w h)) (good_kind (permits_of w) (node_of w) true (NetLacks w) (IsKnown w) (nets_good true w h)) x q t;
     normal = bound_normal (permits_of w) x q n;
   }
 
-  turns_formed : (x : Tree) (lo : ℕ) (hi : Option ℕ) (ps : List Part) → IsFormed w x → UpTo hi lo → IsFormedRow w ps → MayHave (IsFormed w) (turns_of (λ c. permit (permits_of w) (only c) x) (touch (permits_of w).spread x) x lo hi ps)
+  turns_formed : (x : Tree) (lo : ℕ) (hi : Option ℕ) (ps : List Part) → IsFormed w x → UpTo hi lo → IsFormedRow w ps → MayHave (IsFormed w) (loop_of (λ c. permit (permits_of w) (only c) x) (touch (permits_of w).spread x) x lo hi ps)
   turns_formed x lo hi ps f u r =
-      formed w (turns_of (λ c. permit (permits_of w) (only c) x) (touch (permits_of w).spread x) x lo hi ps)
+      formed w (loop_of (λ c. permit (permits_of w) (only c) x) (touch (permits_of w).spread x) x lo hi ps)
       (turns_keep (permits_of w) (IsTidyOver w) (IsTidyOver w) (Loop (permits_of w) (node_of w) true (NetLacks w) (IsKnown w) (nets_good true w h)) (Replaces (permits_of w) (node_of w) true (NetLacks w) (IsKnown w) (nets_good true w h)) (good_kind (permits_of w) (node_of w) true (NetLacks w) (IsKnown w) (nets_good true w h)) x lo hi ps (f.tidy, u, r.falls) (turns_tidy w ps r.turns))
       (turns_normal (permits_of w) x lo hi ps f.normal (turns_all_normal w ps r.turns) r.sets)
 
 module _ (w : Tables) where
-  walk_tidy : (a b : Bool) (n : ℕ) (f : Spot) (t : Goal) (c : List ℕ) → IsKnown w n → MayHave (IsTidyOver w) (walk_form a b (Trail n f t c))
+  walk_tidy : (a b : Bool) (n : ℕ) (f : Spot) (t : Goal) (c : List ℕ) → IsKnown w n → MayHave (IsTidyOver w) (walk_form a b (Walk n f t c))
   walk_tidy false b n f t c l = tt
   walk_tidy true true n f t c l = tt
   walk_tidy true false n f t c l = l
 
-  cut_tidy : (n : ℕ) (f : Spot) (t : Goal) (c : List ℕ) → IsKnown w n → MayHave (IsTidyOver w) (trail_cut (permits_of w) n f t c)
+  cut_tidy : (n : ℕ) (f : Spot) (t : Goal) (c : List ℕ) → IsKnown w n → MayHave (IsTidyOver w) (walk_cut (permits_of w) n f t c)
   cut_tidy n f Any c l = l
   cut_tidy n f (To m) c l = walk_tidy (reach ((permits_of w).net n) (allowed (permits_of w) n c) f (To m)) (are_nil (permits_of w) n f (To m) c (allowed (permits_of w) n c)) n f (To m) c l
   cut_tidy n f End c l = walk_tidy (reach ((permits_of w).net n) (allowed (permits_of w) n c) f End) (are_nil (permits_of w) n f End c (allowed (permits_of w) n c)) n f End c l
 
-  trail_formed : (n : ℕ) (f : Spot) (t : Goal) (c : List ℕ) → IsKnown w n → IsSet c → MayHave (IsFormed w) (trail_of (permits_of w) n f t c)
-  trail_formed n f t c l s = formed w (trail_of (permits_of w) n f t c) (cut_tidy n f t (cut ((permits_of w).spread n) c) l) (trail_normal (permits_of w) n f t c s)
+  trail_formed : (n : ℕ) (f : Spot) (t : Goal) (c : List ℕ) → IsKnown w n → IsSet c → MayHave (IsFormed w) (walk_of (permits_of w) n f t c)
+  trail_formed n f t c l s = formed w (walk_of (permits_of w) n f t c) (cut_tidy n f t (cut ((permits_of w).spread n) c) l) (trail_normal (permits_of w) n f t c s)
 
 -- they fail exactly where there is no pattern
 some_none : (y : Tree) → Some y ≡ None → ⊥
@@ -98,11 +98,11 @@ constructors_keep_form = record {
   join = join_formed_at;
   choice = choice_formed_at;
   choice_fails = λ w xs h f. fails_exactly w h (HasChoice (terms_over w) true xs) (choice_of xs) (choice_formed w h.tidy xs f) (normal_forms_keep_patterns.choice true w xs);
-  bound = bound_formed_at;
+  tied = bound_formed_at;
   turns = turns_formed_at;
-  turns_fail = λ w x lo hi ps h f u r. fails_exactly w h (HasPattern (terms_over w) true (Turns x lo hi (row_of ps))) (turns_of (λ c. permit (permits_of w) (only c) x) (touch (permits_of w).spread x) x lo hi ps) (turns_formed w h.tidy x lo hi ps f u r) (normal_forms_keep_patterns.turns true w x lo hi ps h.tidy f.tidy r.falls u);
+  turns_fail = λ w x lo hi ps h f u r. fails_exactly w h (HasPattern (terms_over w) true (Loop x lo hi (row_of ps))) (loop_of (λ c. permit (permits_of w) (only c) x) (touch (permits_of w).spread x) x lo hi ps) (turns_formed w h.tidy x lo hi ps f u r) (normal_forms_keep_patterns.turns true w x lo hi ps h.tidy f.tidy r.falls u);
   trail = λ w n f t c l s. trail_formed w n f t c l s;
-  trail_fails = λ w n f t c h l s. fails_exactly w h (HasPattern (terms_over w) true (Trail n f t c)) (trail_of (permits_of w) n f t c) (trail_formed w n f t c l s) (normal_forms_keep_patterns.trail true w n f t c h.tidy l);
+  trail_fails = λ w n f t c h l s. fails_exactly w h (HasPattern (terms_over w) true (Walk n f t c)) (walk_of (permits_of w) n f t c) (trail_formed w n f t c l s) (normal_forms_keep_patterns.trail true w n f t c h.tidy l);
 }
   where
     join_formed_at : (w : Tables) (m : Mode) (xs : List Tree) → AreTidyTables w → Each (IsFormed w) xs → IsFormed w (join_all m xs)
@@ -111,8 +111,8 @@ constructors_keep_form = record {
     choice_formed_at : (w : Tables) (xs : List Tree) → AreTidyTables w → Each (IsFormed w) xs → MayHave (IsFormed w) (choice_of xs)
     choice_formed_at w xs h f = choice_formed w h xs f
 
-    bound_formed_at : (w : Tables) (x : Tree) (q : List (ℕ × ℕ)) → AreTidyTables w → IsTidyOver w (Bound x q) → IsNormalOver w x → IsFormed w (bound_of x q)
+    bound_formed_at : (w : Tables) (x : Tree) (q : List (ℕ × ℕ)) → AreTidyTables w → IsTidyOver w (Tied x q) → IsNormalOver w x → IsFormed w (tie_of x q)
     bound_formed_at w x q h t n = bound_formed w h x q t n
 
-    turns_formed_at : (w : Tables) (x : Tree) (lo : ℕ) (hi : Option ℕ) (ps : List Part) → AreTidyTables w → IsFormed w x → UpTo hi lo → IsFormedRow w ps → MayHave (IsFormed w) (turns_of (λ c. permit (permits_of w) (only c) x) (touch (permits_of w).spread x) x lo hi ps)
+    turns_formed_at : (w : Tables) (x : Tree) (lo : ℕ) (hi : Option ℕ) (ps : List Part) → AreTidyTables w → IsFormed w x → UpTo hi lo → IsFormedRow w ps → MayHave (IsFormed w) (loop_of (λ c. permit (permits_of w) (only c) x) (touch (permits_of w).spread x) x lo hi ps)
     turns_formed_at w x lo hi ps h f u r = turns_formed w h x lo hi ps f u r

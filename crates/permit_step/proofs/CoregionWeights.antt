@@ -2,7 +2,7 @@
 use Rattle.std.specs.Prelude.{ℕ, zero, suc, ◌+◌, ◌-◌, ◌<◌, ◌≤◌, false, List, [], ◌∷◌, ◌≡◌, ◌==◌, refl, length}
 use Rattle.std.proofs.Common.{ap, sym, subst, ◌∙◌, arith}
 use Rattle.std.proofs.lemmas.Bool.Decides.{nat_tests}
-use Rattle.msc_base.specs.Patterns.{aside}
+use Rattle.msc_base.specs.Patterns.{par}
 use Rattle.chart_term.specs.Properties.{Each}
 use Rattle.chart_term.specs.Terms.{Tree, Join, trees}
 use Rattle.permit_step.specs.Listing.{residual_set, set_weight, AreDeepAlong, IsDeepEnough, IsResidualSet}
@@ -38,8 +38,8 @@ weight_left ns h m x l e d = (λ i. weigh (e i) (d i)) ∙ ap set_weight (coregi
 twenty_removed : set_weight (coregions (removals 3 (from 1 20))) ≡ 20520
 twenty_removed = refl
 
-pub twenty_three : weigh (Join aside (alike 1 20)) (0 ∷ 0 ∷ 0 ∷ []) ≡ 20520
-twenty_three = weight_left (from 1 20) (no_repeats 1 20) 3 (Join aside (alike 1 20)) (0 ∷ 0 ∷ 0 ∷ []) refl refl ∙ twenty_removed
+pub twenty_three : weigh (Join par (alike 1 20)) (0 ∷ 0 ∷ 0 ∷ []) ≡ 20520
+twenty_three = weight_left (from 1 20) (no_repeats 1 20) 3 (Join par (alike 1 20)) (0 ∷ 0 ∷ 0 ∷ []) refl refl ∙ twenty_removed
 
 -- the set that was weighed is the set of residual terms: no coregion on the way is larger than the first
 longer : (n b : ℕ) (xs : List (List ℕ)) → 1 ≤ b → EachList (λ x. length x ≤ b - 1) xs → EachList (λ x. length x ≤ b) (with_first n xs)
@@ -73,5 +73,5 @@ deep_along ns h b (suc m) j =
 set_left : (ns : List ℕ) → HasNoRepeats ns → length ns ≤ 39 → (m : ℕ) (x : Tree) (l : List ℕ) → x ≡ coregion_of ns → l ≡ labels m → IsResidualSet [] x l (residual_set 40 (permits_of []) (x ∷ []) l)
 set_left ns h b m x l e d = rw e (rw d (residual_set_is_exact.set [] 40 (coregion_of ns) (labels m) (deep_along ns h b m 0)))
 
-pub twenty_set : IsResidualSet [] (Join aside (alike 1 20)) (0 ∷ 0 ∷ 0 ∷ []) (residual_set 40 (permits_of []) (Join aside (alike 1 20) ∷ []) (0 ∷ 0 ∷ 0 ∷ []))
-twenty_set = set_left (from 1 20) (no_repeats 1 20) (omega arith) 3 (Join aside (alike 1 20)) (0 ∷ 0 ∷ 0 ∷ []) refl refl
+pub twenty_set : IsResidualSet [] (Join par (alike 1 20)) (0 ∷ 0 ∷ 0 ∷ []) (residual_set 40 (permits_of []) (Join par (alike 1 20) ∷ []) (0 ∷ 0 ∷ 0 ∷ []))
+twenty_set = set_left (from 1 20) (no_repeats 1 20) (omega arith) 3 (Join par (alike 1 20)) (0 ∷ 0 ∷ 0 ∷ []) refl refl

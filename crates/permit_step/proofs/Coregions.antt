@@ -1,7 +1,7 @@
 -- Coregions of equal actions: their residual terms are the coregions with so many actions taken out.
 use Rattle.std.specs.Prelude.{ℕ, zero, suc, Bool, true, false, ◌&&◌, List, [], ◌∷◌, ◌++◌, None, ◌≡◌, ◌==◌, refl}
 use Rattle.std.proofs.Common.{ap, sym, ◌∙◌}
-use Rattle.msc_base.specs.Patterns.{aside}
+use Rattle.msc_base.specs.Patterns.{par}
 use Rattle.chart_term.specs.Equality.{same_numbers, same_tree, same_trees}
 use Rattle.chart_term.specs.NormalForms.{NetPermits, flat, join_of, unless_same, without, distinct}
 use Rattle.chart_term.specs.Terms.{TermEvent, Tree, Event, items, trees}
@@ -18,7 +18,7 @@ actions (n ∷ ns) = Event (action n) ∷ actions ns
 
 -- the coregion of these actions, and of each list of them
 abbrev pub coregion_of : List ℕ → Tree
-coregion_of ns = join_of aside (actions ns)
+coregion_of ns = join_of par (actions ns)
 
 abbrev pub coregions : List (List ℕ) → List Tree
 coregions [] = []
@@ -71,7 +71,7 @@ distinct_coregions [] = refl
 distinct_coregions (x ∷ xs) = ap (λ l. coregion_of x ∷ l) (ap (without (coregion_of x)) (distinct_coregions xs) ∙ without_coregions x (once xs))
 
 -- what is left when one action is taken
-flat_actions : (ns : List ℕ) → flat aside (items (trees (actions ns))) ≡ actions ns
+flat_actions : (ns : List ℕ) → flat par (items (trees (actions ns))) ≡ actions ns
 flat_actions [] = refl
 flat_actions (n ∷ ns) = ap (λ l. Event (action n) ∷ l) (flat_actions ns)
 
@@ -82,11 +82,11 @@ left_one false x xs = xs
 
 abbrev left : List TakenParts → List (List Tree)
 left [] = []
-left (p ∷ ps) = left_one (p.event.label == 0) (flat aside p.parts_left) (left ps)
+left (p ∷ ps) = left_one (p.event.label == 0) (flat par p.parts_left) (left ps)
 
 abbrev joins : List (List Tree) → List Tree
 joins [] = []
-joins (x ∷ xs) = join_of aside x ∷ joins xs
+joins (x ∷ xs) = join_of par x ∷ joins xs
 
 abbrev before_each : Tree → List (List Tree) → List (List Tree)
 before_each x [] = []
@@ -96,12 +96,12 @@ abbrev each_actions : List (List ℕ) → List (List Tree)
 each_actions [] = []
 each_actions (x ∷ xs) = actions x ∷ each_actions xs
 
-labelled_joined : (ps : List TakenParts) → labelled 0 (joined aside ps) ≡ joins (left ps)
+labelled_joined : (ps : List TakenParts) → labelled 0 (joined par ps) ≡ joins (left ps)
 labelled_joined [] = refl
 labelled_joined (p ∷ ps) = go (p.event.label == 0) (labelled_joined ps)
   where
-    go : (t : Bool) → labelled 0 (joined aside ps) ≡ joins (left ps) → labelled_one t (join_of aside (flat aside p.parts_left)) (labelled 0 (joined aside ps)) ≡ joins (left_one t (flat aside p.parts_left) (left ps))
-    go true h = ap (λ l. join_of aside (flat aside p.parts_left) ∷ l) h
+    go : (t : Bool) → labelled 0 (joined par ps) ≡ joins (left ps) → labelled_one t (join_of par (flat par p.parts_left)) (labelled 0 (joined par ps)) ≡ joins (left_one t (flat par p.parts_left) (left ps))
+    go true h = ap (λ l. join_of par (flat par p.parts_left) ∷ l) h
     go false h = h
 
 joins_actions : (xs : List (List ℕ)) → joins (each_actions xs) ≡ coregions xs
@@ -113,21 +113,21 @@ before_actions n [] = refl
 before_actions n (x ∷ xs) = ap (λ l. actions (n ∷ x) ∷ l) (before_actions n xs)
 
 module _ (k : NetPermits) (g : Tree → List Taken) where
-  left_behind : (n : ℕ) (ps : List TakenParts) → left (behind_part k aside (Event (action n)) ps) ≡ before_each (Event (action n)) (left ps)
+  left_behind : (n : ℕ) (ps : List TakenParts) → left (behind_part k par (Event (action n)) ps) ≡ before_each (Event (action n)) (left ps)
   left_behind n [] = refl
   left_behind n (p ∷ ps) = go (p.event.label == 0) (left_behind n ps)
     where
-      go : (t : Bool) → left (behind_part k aside (Event (action n)) ps) ≡ before_each (Event (action n)) (left ps)
-          → left_one t (Event (action n) ∷ flat aside p.parts_left) (left (behind_part k aside (Event (action n)) ps)) ≡ before_each (Event (action n)) (left_one t (flat aside p.parts_left) (left ps))
-      go true h = ap (λ l. (Event (action n) ∷ flat aside p.parts_left) ∷ l) h
+      go : (t : Bool) → left (behind_part k par (Event (action n)) ps) ≡ before_each (Event (action n)) (left ps)
+          → left_one t (Event (action n) ∷ flat par p.parts_left) (left (behind_part k par (Event (action n)) ps)) ≡ before_each (Event (action n)) (left_one t (flat par p.parts_left) (left ps))
+      go true h = ap (λ l. (Event (action n) ∷ flat par p.parts_left) ∷ l) h
       go false h = h
 
-  left_parts : (ns : List ℕ) → left (listed_parts k g aside (trees (actions ns))) ≡ each_actions (removals 1 ns)
+  left_parts : (ns : List ℕ) → left (listed_parts k g par (trees (actions ns))) ≡ each_actions (removals 1 ns)
   left_parts [] = refl
-  left_parts (n ∷ ns) = λ i. flat_actions ns i ∷ (left_behind n (listed_parts k g aside (trees (actions ns))) ∙ ap (before_each (Event (action n))) (left_parts ns) ∙ before_actions n (removals 1 ns)) i
+  left_parts (n ∷ ns) = λ i. flat_actions ns i ∷ (left_behind n (listed_parts k g par (trees (actions ns))) ∙ ap (before_each (Event (action n))) (left_parts ns) ∙ before_actions n (removals 1 ns)) i
 
-  taken_actions : (ns : List ℕ) → labelled 0 (joined aside (listed_parts k g aside (trees (actions ns)))) ≡ coregions (removals 1 ns)
-  taken_actions ns = labelled_joined (listed_parts k g aside (trees (actions ns))) ∙ ap joins (left_parts ns) ∙ joins_actions (removals 1 ns)
+  taken_actions : (ns : List ℕ) → labelled 0 (joined par (listed_parts k g par (trees (actions ns)))) ≡ coregions (removals 1 ns)
+  taken_actions ns = labelled_joined (listed_parts k g par (trees (actions ns))) ∙ ap joins (left_parts ns) ∙ joins_actions (removals 1 ns)
 
   pub taken_coregion : (ns : List ℕ) → labelled 0 (listed k g (coregion_of ns)) ≡ coregions (removals 1 ns)
   taken_coregion [] = refl

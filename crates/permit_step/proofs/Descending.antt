@@ -1,13 +1,13 @@
 -- The children of a term that a look shows.
 use Rattle.std.specs.Prelude.{ℕ, zero, suc, ◌+◌, ◌<◌, ◌≤◌, List, [], ◌∷◌, ◌≡◌, Option, Some, None, refl, length, slice_get, true, Bool}
 use Rattle.std.proofs.Common.{ap, sym, ◌∙◌, subst, arith}
-use Rattle.msc_base.specs.Patterns.{Mode, row, aside}
+use Rattle.msc_base.specs.Patterns.{Mode, seq, par}
 use Rattle.hmsc_graph.specs.Graphs.{Spot, Goal}
 use Rattle.hmsc_graph.specs.Nets.{size_of}
 use Rattle.hmsc_graph.specs.Spots.{spot_of, goal_of}
 use Rattle.chart_term.specs.NormalForms.{NetPermits, only}
 use Rattle.chart_term.specs.Tables.{Tables, net_of, nodes_of, node_of, net_count}
-use Rattle.chart_term.specs.Terms.{Block, Tree, Nil, Event, Join, Choice, Bound, Turns, Trail, trees, items, Part, Gap, Turn, parts, row_of, ◌∪◌}
+use Rattle.chart_term.specs.Terms.{Block, Tree, Nil, Event, Join, Choice, Tied, Loop, Walk, trees, items, Part, Gap, Turn, parts, row_of, ◌∪◌}
 use Rattle.chart_term.proofs.Lists.{items-trees, parts-row_of}
 use Rattle.permit_step.specs.Children.{child, row_child, new_turn, first_alone}
 use Rattle.permit_step.specs.Permission.{permit, permits_of}
@@ -19,47 +19,47 @@ use Rattle.permit_step.proofs.PermitRows.{ready-part}
 use Rattle.permit_step.proofs.PermitWalks.{ready-walk}
 use Rattle.permit_step.specs.Normality.{IsSet}
 use Rattle.permit_step.specs.Values.{block_of}
-use Rattle.msc_base.specs.Blocks.{BlockValue}
+use Rattle.bit_sets.specs.Blocks.{BlockValue}
 use Rattle.hmsc_graph.specs.declared.spot.Spot.{Spot as SpotShown}
 use Rattle.hmsc_graph.specs.declared.spot.Goal.{Goal as GoalShown}
 
 module _ (w : Tables) where
-  pub count-then : (x : Tree) (xs : List Tree) → x ≡ Join row (trees xs) → child_count w x ≡ length xs
-  count-then x xs e = ap (child_count w) e ∙ ap length (items-trees xs)
+  pub count-seq : (x : Tree) (xs : List Tree) → x ≡ Join seq (trees xs) → child_count w x ≡ length xs
+  count-seq x xs e = ap (child_count w) e ∙ ap length (items-trees xs)
 
-  pub count-beside : (x : Tree) (xs : List Tree) → x ≡ Join aside (trees xs) → child_count w x ≡ length xs
-  count-beside x xs e = ap (child_count w) e ∙ ap length (items-trees xs)
+  pub count-par : (x : Tree) (xs : List Tree) → x ≡ Join par (trees xs) → child_count w x ≡ length xs
+  count-par x xs e = ap (child_count w) e ∙ ap length (items-trees xs)
 
   pub count-choice : (x : Tree) (xs : List Tree) → x ≡ Choice (trees xs) → child_count w x ≡ length xs
   count-choice x xs e = ap (child_count w) e ∙ ap length (items-trees xs)
 
-  pub count-bound : (x y : Tree) (q : List (ℕ × ℕ)) → x ≡ Bound y q → child_count w x ≡ 1
-  count-bound x y q e = ap (child_count w) e
+  pub count-tied : (x y : Tree) (q : List (ℕ × ℕ)) → x ≡ Tied y q → child_count w x ≡ 1
+  count-tied x y q e = ap (child_count w) e
 
-  pub count-loop : (x y : Tree) (lo : ℕ) (hi : Option ℕ) (ps : List Part) → x ≡ Turns y lo hi (row_of ps) → child_count w x ≡ length ps
+  pub count-loop : (x y : Tree) (lo : ℕ) (hi : Option ℕ) (ps : List Part) → x ≡ Loop y lo hi (row_of ps) → child_count w x ≡ length ps
   count-loop x y lo hi ps e = ap (child_count w) e ∙ ap length (parts-row_of ps)
 
-  pub count-walk : (x : Tree) (n : ℕ) (f : Spot) (t : Goal) (c : List ℕ) → x ≡ Trail n f t c → child_count w x ≡ size_of (net_of w n)
+  pub count-walk : (x : Tree) (n : ℕ) (f : Spot) (t : Goal) (c : List ℕ) → x ≡ Walk n f t c → child_count w x ≡ size_of (net_of w n)
   count-walk x n f t c e = ap (child_count w) e
 
   pub count-nil : (x : Tree) → x ≡ Nil → child_count w x ≡ 0
   count-nil x e = ap (child_count w) e
 
 module _ (k : NetPermits) where
-  pub child-then : (x y : Tree) (xs : List Tree) (i : ℕ) → x ≡ Join row (trees xs) → slice_get xs i ≡ Some y → child k x i ≡ Some y
-  child-then x y xs i e h = ap (λ u. child k u i) e ∙ (ap (λ l. slice_get l i) (items-trees xs) ∙ h)
+  pub child-seq : (x y : Tree) (xs : List Tree) (i : ℕ) → x ≡ Join seq (trees xs) → slice_get xs i ≡ Some y → child k x i ≡ Some y
+  child-seq x y xs i e h = ap (λ u. child k u i) e ∙ (ap (λ l. slice_get l i) (items-trees xs) ∙ h)
 
-  pub child-beside : (x y : Tree) (xs : List Tree) (i : ℕ) → x ≡ Join aside (trees xs) → slice_get xs i ≡ Some y → child k x i ≡ Some y
-  child-beside x y xs i e h = ap (λ u. child k u i) e ∙ (ap (λ l. slice_get l i) (items-trees xs) ∙ h)
+  pub child-par : (x y : Tree) (xs : List Tree) (i : ℕ) → x ≡ Join par (trees xs) → slice_get xs i ≡ Some y → child k x i ≡ Some y
+  child-par x y xs i e h = ap (λ u. child k u i) e ∙ (ap (λ l. slice_get l i) (items-trees xs) ∙ h)
 
   pub child-choice : (x y : Tree) (xs : List Tree) (i : ℕ) → x ≡ Choice (trees xs) → slice_get xs i ≡ Some y → child k x i ≡ Some y
   child-choice x y xs i e h = ap (λ u. child k u i) e ∙ (ap (λ l. slice_get l i) (items-trees xs) ∙ h)
 
-  pub child-bound : (x y : Tree) (q : List (ℕ × ℕ)) (i : ℕ) → x ≡ Bound y q → i < 1 → child k x i ≡ Some y
-  child-bound x y q zero e l = ap (λ u. child k u 0) e
-  child-bound x y q (suc i) e l = absurd (omega arith)
+  pub child-tied : (x y : Tree) (q : List (ℕ × ℕ)) (i : ℕ) → x ≡ Tied y q → i < 1 → child k x i ≡ Some y
+  child-tied x y q zero e l = ap (λ u. child k u 0) e
+  child-tied x y q (suc i) e l = absurd (omega arith)
 
-  pub child-loop : (x y : Tree) (lo : ℕ) (hi : Option ℕ) (ps : List Part) (i : ℕ) (t : Part) → x ≡ Turns y lo hi (row_of ps) → slice_get ps i ≡ Some t → child k x i ≡ row_child k y hi (Some t)
+  pub child-loop : (x y : Tree) (lo : ℕ) (hi : Option ℕ) (ps : List Part) (i : ℕ) (t : Part) → x ≡ Loop y lo hi (row_of ps) → slice_get ps i ≡ Some t → child k x i ≡ row_child k y hi (Some t)
   child-loop x y lo hi ps i t e h = ap (λ u. child k u i) e ∙ (ap (λ l. row_child k y hi (slice_get l i)) (parts-row_of ps) ∙ ap (row_child k y hi) h)
 
   pub child-none : (x : Tree) (i : ℕ) → x ≡ Nil → child k x i ≡ None
@@ -83,7 +83,7 @@ module _ (w : Tables) (tables : AreReadyTables w) where
     pub set : IsSet c
     pub child : child (permits_of w) x place ≡ permit (permits_of w) (only c) (node_of w n place)
 
-  pub child-node : (x : Tree) (n : ℕ) (f : SpotShown) (t : GoalShown) (c : List ℕ) (place : ℕ) → x ≡ Trail n (spot_of f) (goal_of t) c → IsReady w x → place < child_count w x → IsChildNode x n place c
+  pub child-node : (x : Tree) (n : ℕ) (f : SpotShown) (t : GoalShown) (c : List ℕ) (place : ℕ) → x ≡ Walk n (spot_of f) (goal_of t) c → IsReady w x → place < child_count w x → IsChildNode x n place c
   child-node x n f t c place e h l =
       let r = ready-walk w x n f t c tables e h in
       let size = sizes-are w tables n r.net in
@@ -92,14 +92,14 @@ module _ (w : Tables) (tables : AreReadyTables w) where
       let i = node-is w tables n place r.net node in
       record { net = r.net; within = within; node = node; ready = i.ready; set = r.set; child = ap (λ u. child (permits_of w) u place) e ∙ i.kept c }
 
-  pub ready-turn : (x y : Tree) (lo : ℕ) (hi : Option ℕ) (ps : List Part) (i : ℕ) (t : Part) → x ≡ Turns y lo hi (row_of ps) → IsReady w x → slice_get ps i ≡ Some t → IsReadyPart w t
+  pub ready-turn : (x y : Tree) (lo : ℕ) (hi : Option ℕ) (ps : List Part) (i : ℕ) (t : Part) → x ≡ Loop y lo hi (row_of ps) → IsReady w x → slice_get ps i ≡ Some t → IsReadyPart w t
   ready-turn x y lo hi ps i t e h s = ready-part w ps i t s (ready-loop w x y lo hi ps e h).parts
 
-  pub ready-body : (x y : Tree) (lo : ℕ) (hi : Option ℕ) (ps : List Part) → x ≡ Turns y lo hi (row_of ps) → IsReady w x → IsReady w y
+  pub ready-body : (x y : Tree) (lo : ℕ) (hi : Option ℕ) (ps : List Part) → x ≡ Loop y lo hi (row_of ps) → IsReady w x → IsReady w y
   ready-body x y lo hi ps e h = (ready-loop w x y lo hi ps e h).body
 
 -- a block without event numbers
 pub alone-block : (c : List ℕ) (own d : BlockValue) → own ≡ record { instances = c ∪ d.instances; events = [] } → d ≡ record { instances = []; events = [] } → block_of own ≡ only c
 alone-block c own d e h = ap block_of e ∙ ap (λ (b : BlockValue). only (c ∪ b.instances)) h
 
-pub ruleset descending = (ready-body, count-then, count-beside, count-choice, count-bound, count-loop, count-walk, count-nil, child-then, child-beside, child-choice, child-bound, child-loop, child-none, gap-child, gap-shut)
+pub ruleset descending = (ready-body, count-seq, count-par, count-choice, count-tied, count-loop, count-walk, count-nil, child-seq, child-par, child-choice, child-tied, child-loop, child-none, gap-child, gap-shut)

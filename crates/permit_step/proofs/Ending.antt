@@ -4,10 +4,10 @@ use Rattle.std.proofs.Common.{arith, inl, inr}
 use Rattle.msc_base.specs.Patterns.{Mode, empty, one, join, bind}
 use Rattle.hmsc_graph.specs.Graphs.{Spot, Goal, To, End, Any}
 use Rattle.chart_term.specs.NormalForms.{only}
-use Rattle.chart_term.specs.TermMeanings.{NetTerms, UpTo, MayStop, HasPattern, has_nil, has_event, has_join, has_choice, has_bound, has_turns, has_trail, HasParts, no_part, one_part, HasChoice, this_one, that_one, HasRow, gaps_end, gaps_turn, gaps_shut, gaps_more, HasWalk, walk_stop, walk_last, walk_step}
+use Rattle.chart_term.specs.TermMeanings.{NetTerms, UpTo, MayStop, HasPattern, has_nil, has_event, has_join, has_choice, holds_tie, holds_loop, holds_walk, HasParts, no_part, one_part, HasChoice, this_one, that_one, HasRow, gaps_end, gaps_turn, gaps_shut, gaps_more, HasWalk, walk_stop, walk_last, walk_step}
 use Rattle.chart_term.specs.TermPatterns.{Shape, Avoids, HasNoEvent}
-use Rattle.chart_term.specs.Terms.{Tree, Nil, Event, Join, Choice, Bound, Turns, Trail, Trees, none, more, Row, ends, gap, turn, items, Part, Gap, Turn, parts}
-use Rattle.permit_step.specs.Taking.{HasGap, past_gap, EndTurns, end_none, EndOne, end_trail, end_choice, end_nil, end_that, EndWalk, end_more, one_turn, inner_edge, last_edge, no_turns, end_bound, end_join, MayEnd, end_turns, end_this, end_zero, EndAll}
+use Rattle.chart_term.specs.Terms.{Tree, Nil, Event, Join, Choice, Tied, Loop, Walk, Trees, none, more, Row, ends, gap, turn, items, Part, Gap, Turn, parts}
+use Rattle.permit_step.specs.Taking.{HasGap, past_gap, EndLoop, end_none, EndOne, end_trail, end_choice, end_nil, end_that, EndWalk, end_more, one_turn, inner_edge, last_edge, no_turns, end_bound, end_join, MayEnd, end_turns, end_this, end_zero, EndAll}
 
 no_event_avoids : (c : List ℕ) (s : Shape) → HasNoEvent s → Avoids (only c) s
 no_event_avoids c empty h = tt
@@ -43,9 +43,9 @@ module _ (w : NetTerms) where
       Counts (Event e) = Unit {0}
       Counts (Join m xs) = CountsAll xs
       Counts (Choice xs) = CountsAll xs
-      Counts (Bound x q) = Counts x
-      Counts (Turns x lo hi r) = Counts x × CountsRow r × UpTo hi lo
-      Counts (Trail n f t c) = N n
+      Counts (Tied x q) = Counts x
+      Counts (Loop x lo hi r) = Counts x × CountsRow r × UpTo hi lo
+      Counts (Walk n f t c) = N n
 
       pub CountsAll : Trees → Type 0
       CountsAll none = Unit {0}
@@ -80,12 +80,12 @@ module _ (w : NetTerms) where
         end_sound end_nil g = (empty, has_nil, tt)
         end_sound (end_join {m = m} {xs = xs} h) g = let k = all_sound m h (counts_in xs g) in (k.0, has_join k.1, k.2)
         end_sound (end_choice {xs = xs} h) g = let k = one_sound h (counts_in xs g) in (k.0, has_choice k.1, k.2)
-        end_sound (end_bound {q = q} h) g = let k = end_sound h g in (bind k.0 q, has_bound k.1, k.2)
-        end_sound (end_zero {x = x} {hi = hi} {r = r} h) g = let k = turns_sound x h (counts_of r g.1) in (k.0, has_turns zero k.1 (omega arith) (zero_fits hi), k.2)
+        end_sound (end_bound {q = q} h) g = let k = end_sound h g in (bind k.0 q, holds_tie k.1, k.2)
+        end_sound (end_zero {x = x} {hi = hi} {r = r} h) g = let k = turns_sound x h (counts_of r g.1) in (k.0, holds_loop zero k.1 (omega arith) (zero_fits hi), k.2)
         end_sound (end_turns {x = x} {lo = lo} {hi = hi} {r = r} h p e) g =
             let k = any_turns x (parts r) p (end_sound e g.0) lo (turns_sound x h (counts_of r g.1)) in
-            (k.0, has_turns lo k.1 (omega arith) g.2, k.2)
-        end_sound (end_trail {c = c} h) g = let k = walk_sound c h g in (k.0, has_trail k.1, k.2)
+            (k.0, holds_loop lo k.1 (omega arith) g.2, k.2)
+        end_sound (end_trail {c = c} h) g = let k = walk_sound c h g in (k.0, holds_walk k.1, k.2)
 
         all_sound : {xs : List Tree} (m : Mode) → EndAll w xs → CountsIn xs → (s : Shape) × HasParts w false m xs s × HasNoEvent s
         all_sound m end_none g = (empty, no_part, tt)
@@ -95,7 +95,7 @@ module _ (w : NetTerms) where
         one_sound (end_this h) g = let k = end_sound h g.0 in (k.0, this_one k.1, k.2)
         one_sound (end_that h) g = let k = one_sound h g.1 in (k.0, that_one k.1, k.2)
 
-        turns_sound : {ps : List Part} (x : Tree) → EndTurns w ps → CountsOf ps → QuietRow x ps zero
+        turns_sound : {ps : List Part} (x : Tree) → EndLoop w ps → CountsOf ps → QuietRow x ps zero
         turns_sound x no_turns g = (empty, gaps_end, tt)
         turns_sound x (past_gap h) g = let k = turns_sound x h g in (k.0, gaps_shut k.1, k.2)
         turns_sound x (one_turn h r) g = let k = end_sound h g.0 in let l = turns_sound x r g.1 in (_, gaps_turn k.1 l.1, (k.2, l.2))
@@ -113,7 +113,7 @@ module _ (w : NetTerms) where
   no_stop End p = p
   no_stop (To m) p = p
 
-  pair_end : {x : Tree} {hi : Option ℕ} {r : Row} (n lo : ℕ) → lo ≤ n → EndTurns w (parts r) → ((n ≡ zero) ⊎ (HasGap (parts r) × MayEnd w x)) → MayEnd w (Turns x lo hi r)
+  pair_end : {x : Tree} {hi : Option ℕ} {r : Row} (n lo : ℕ) → lo ≤ n → EndLoop w (parts r) → ((n ≡ zero) ⊎ (HasGap (parts r) × MayEnd w x)) → MayEnd w (Loop x lo hi r)
   pair_end n zero l h q = end_zero h
   pair_end n (suc lo) l h (inl e) = absurd (omega arith)
   pair_end n (suc lo) l h (inr q) = end_turns h q.0 q.1
@@ -124,9 +124,9 @@ module _ (w : NetTerms) where
     end_whole has_event h = absurd h
     end_whole (has_join a) h = end_join (all_whole a h)
     end_whole (has_choice a) h = end_choice (one_whole a h)
-    end_whole (has_bound a) h = end_bound (end_whole a h)
-    end_whole (has_turns {lo = lo} n a l u) h = let k = gaps_whole a h in pair_end n lo l k.0 k.1
-    end_whole (has_trail a) h = end_trail (walk_whole a h)
+    end_whole (holds_tie a) h = end_bound (end_whole a h)
+    end_whole (holds_loop {lo = lo} n a l u) h = let k = gaps_whole a h in pair_end n lo l k.0 k.1
+    end_whole (holds_walk a) h = end_trail (walk_whole a h)
 
     all_whole : {m : Mode} {xs : List Tree} {s : Shape} → HasParts w false m xs s → HasNoEvent s → EndAll w xs
     all_whole no_part h = end_none
@@ -136,7 +136,7 @@ module _ (w : NetTerms) where
     one_whole (this_one a) h = end_this (end_whole a h)
     one_whole (that_one a) h = end_that (one_whole a h)
 
-    gaps_whole : {x : Tree} {ps : List Part} {n : ℕ} {s : Shape} → HasRow w false x ps n s → HasNoEvent s → EndTurns w ps × ((n ≡ zero) ⊎ (HasGap ps × MayEnd w x))
+    gaps_whole : {x : Tree} {ps : List Part} {n : ℕ} {s : Shape} → HasRow w false x ps n s → HasNoEvent s → EndLoop w ps × ((n ≡ zero) ⊎ (HasGap ps × MayEnd w x))
     gaps_whole gaps_end h = (no_turns, inl refl)
     gaps_whole (gaps_turn a r) h = let k = gaps_whole r h.1 in (one_turn (end_whole a h.0) k.0, k.1)
     gaps_whole (gaps_shut {x = x} {c = c} {ps = ps} {n = n} r) h = let k = gaps_whole r h in (past_gap k.0, some_gap x ps n c k.1)

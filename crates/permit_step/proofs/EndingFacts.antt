@@ -1,20 +1,21 @@
 -- Whether a term may end, part by part.
 use Rattle.std.specs.Prelude.{ℕ, zero, suc, ◌+◌, ◌<◌, Bool, true, false, List, [], ◌∷◌, ◌++◌, ◌≡◌, ◌↔◌, ◌⊎◌, Option, Some, refl, take, slice_get, IsTrue, Result, Ok, Err, IfOk}
 use Rattle.std.proofs.Common.{ap, sym, subst, add-one, arith, inl, inr}
-use Rattle.msc_base.specs.Patterns.{Mode, row, aside}
-use Rattle.hmsc_graph.specs.Graphs.{Net, Spot, Start, At, Goal, To, End, Any, IsIn, Walk, last, step, behind}
+use Rattle.msc_base.specs.Patterns.{Mode, seq, par}
+use Rattle.hmsc_graph.specs.Graphs.{Net, Spot, Start, At, Goal, To, End, Any, WalkThrough, last, step, behind}
+use Rattle.msc_base.specs.Lists.{IsIn}
 use Rattle.hmsc_graph.specs.Nets.{IsNet, size_of}
-use Rattle.hmsc_graph.specs.NodeSets.{NodeSetValue, HasNoNodes}
+use Rattle.bit_sets.specs.NodeSets.{NodeSetValue, HasNoNodes}
 use Rattle.hmsc_graph.specs.Walks.{Leads}
 use Rattle.chart_term.specs.NormalForms.{has_gap}
 use Rattle.chart_term.specs.Tables.{Tables, net_of, node_of, terms_over}
 use Rattle.chart_term.specs.TermMeanings.{NetTerms, aim}
-use Rattle.chart_term.specs.Terms.{TermEvent, Tree, Nil, Event, Join, Choice, Bound, Turns, Trail, Trees, trees, items, Part, Gap, Turn, row_of}
+use Rattle.chart_term.specs.Terms.{TermEvent, Tree, Nil, Event, Join, Choice, Tied, Loop, Walk, Trees, trees, items, Part, Gap, Turn, row_of}
 use Rattle.chart_term.proofs.Lists.{items-trees, parts-row_of}
-use Rattle.permit_step.proofs.Measures.{rank-then, rank-beside, rank-some, rank-bound, rank-loop}
-use Rattle.permit_step.proofs.Permits.{ready-then, ready-beside, ready-choice, ready-bound}
+use Rattle.permit_step.proofs.Measures.{rank-seq, rank-par, rank-some, rank-tied, rank-loop}
+use Rattle.permit_step.proofs.Permits.{ready-seq, ready-par, ready-choice, ready-tied}
 use Rattle.permit_step.specs.Endings.{AreEnding, MayPartEnd}
-use Rattle.permit_step.specs.Taking.{HasGap, MayEnd, end_nil, end_join, end_choice, end_bound, end_zero, end_turns, end_trail, EndAll, end_none, end_more, EndOne, end_this, end_that, EndTurns, no_turns, past_gap, one_turn, EndWalk, last_edge, inner_edge}
+use Rattle.permit_step.specs.Taking.{HasGap, MayEnd, end_nil, end_join, end_choice, end_bound, end_zero, end_turns, end_trail, EndAll, end_none, end_more, EndOne, end_this, end_that, EndLoop, no_turns, past_gap, one_turn, EndWalk, last_edge, inner_edge}
 
 take_next : {A : Type 0} → (xs : List A) (i : ℕ) (x : A) → slice_get xs i ≡ Some x → take (suc i) xs ≡ take i xs ++ x ∷ []
 take_next [] i x p = cc
@@ -64,20 +65,20 @@ module _ (w : NetTerms) where
   none-first (x ∷ xs) h = elim h [ ]
 
   -- a row
-  turns_push : (ps : List Part) (t : Part) → EndTurns w ps → MayPartEnd w t → EndTurns w (ps ++ t ∷ [])
+  turns_push : (ps : List Part) (t : Part) → EndLoop w ps → MayPartEnd w t → EndLoop w (ps ++ t ∷ [])
   turns_push [] (Gap c) h e = past_gap no_turns
   turns_push [] (Turn x) h e = one_turn e no_turns
   turns_push (Gap c ∷ ps) t (past_gap h) e = past_gap (turns_push ps t h e)
   turns_push (Turn y ∷ ps) t (one_turn a h) e = one_turn a (turns_push ps t h e)
 
-  pub turns-first : (ps : List Part) → EndTurns w (take 0 ps)
+  pub turns-first : (ps : List Part) → EndLoop w (take 0 ps)
   turns-first [] = no_turns
   turns-first (t ∷ ps) = no_turns
 
-  pub turns-part : (ps : List Part) (i : ℕ) (t : Part) → slice_get ps i ≡ Some t → EndTurns w (take i ps) → MayPartEnd w t → EndTurns w (take (i + 1) ps)
-  turns-part ps i t p h e = subst (λ (l : List Part). EndTurns w l) (sym (take_step ps i t p)) (turns_push (take i ps) t h e)
+  pub turns-part : (ps : List Part) (i : ℕ) (t : Part) → slice_get ps i ≡ Some t → EndLoop w (take i ps) → MayPartEnd w t → EndLoop w (take (i + 1) ps)
+  turns-part ps i t p h e = subst (λ (l : List Part). EndLoop w l) (sym (take_step ps i t p)) (turns_push (take i ps) t h e)
 
-  pub turns-at : (ps : List Part) (i : ℕ) (t : Part) → slice_get ps i ≡ Some t → EndTurns w ps → MayPartEnd w t
+  pub turns-at : (ps : List Part) (i : ℕ) (t : Part) → slice_get ps i ≡ Some t → EndLoop w ps → MayPartEnd w t
   turns-at [] i t p h = cc
   turns-at (Gap c ∷ ps) zero t p (past_gap h) = let e : Gap c ≡ t = cc in subst (λ (u : Part). MayPartEnd w u) e tt
   turns-at (Gap c ∷ ps) (suc i) t p (past_gap h) = turns-at ps i t p h
@@ -91,10 +92,10 @@ module _ (w : NetTerms) where
   choice_out : (xs : Trees) → MayEnd w (Choice xs) → EndOne w (items xs)
   choice_out xs (end_choice h) = h
 
-  bound_out : (x : Tree) (q : List (ℕ × ℕ)) → MayEnd w (Bound x q) → MayEnd w x
+  bound_out : (x : Tree) (q : List (ℕ × ℕ)) → MayEnd w (Tied x q) → MayEnd w x
   bound_out x q (end_bound h) = h
 
-  trail_out : (n : ℕ) (f : Spot) (t : Goal) (c : List ℕ) → MayEnd w (Trail n f t c) → EndWalk w n f t
+  trail_out : (n : ℕ) (f : Spot) (t : Goal) (c : List ℕ) → MayEnd w (Walk n f t c) → EndWalk w n f t
   trail_out n f t c (end_trail h) = h
 
   abbrev Ends : Bool → Type 0 → Type 0
@@ -104,21 +105,21 @@ module _ (w : NetTerms) where
   join_ends m b xs h =
       (λ e. end_join (subst (λ (l : List Tree). EndAll w l) (sym (items-trees xs)) (h.0 e)), λ e. h.1 (subst (λ (l : List Tree). EndAll w l) (items-trees xs) (join_out m (trees xs) e)))
 
-  pub then-ends : (b : Bool) (x : Tree) (xs : List Tree) → x ≡ Join row (trees xs) → Ends b (EndAll w xs) → Ends b (MayEnd w x)
-  then-ends b x xs p h = subst (λ (z : Tree). Ends b (MayEnd w z)) (sym p) (join_ends row b xs h)
+  pub seq-ends : (b : Bool) (x : Tree) (xs : List Tree) → x ≡ Join seq (trees xs) → Ends b (EndAll w xs) → Ends b (MayEnd w x)
+  seq-ends b x xs p h = subst (λ (z : Tree). Ends b (MayEnd w z)) (sym p) (join_ends seq b xs h)
 
-  pub beside-ends : (b : Bool) (x : Tree) (xs : List Tree) → x ≡ Join aside (trees xs) → Ends b (EndAll w xs) → Ends b (MayEnd w x)
-  beside-ends b x xs p h = subst (λ (z : Tree). Ends b (MayEnd w z)) (sym p) (join_ends aside b xs h)
+  pub par-ends : (b : Bool) (x : Tree) (xs : List Tree) → x ≡ Join par (trees xs) → Ends b (EndAll w xs) → Ends b (MayEnd w x)
+  par-ends b x xs p h = subst (λ (z : Tree). Ends b (MayEnd w z)) (sym p) (join_ends par b xs h)
 
   pub choice-ends : (b : Bool) (x : Tree) (xs : List Tree) → x ≡ Choice (trees xs) → Ends b (EndOne w xs) → Ends b (MayEnd w x)
   choice-ends b x xs p h =
       subst (λ (z : Tree). Ends b (MayEnd w z)) (sym p)
       (λ e. end_choice (subst (λ (l : List Tree). EndOne w l) (sym (items-trees xs)) (h.0 e)), λ e. h.1 (subst (λ (l : List Tree). EndOne w l) (items-trees xs) (choice_out (trees xs) e)))
 
-  pub bound-ends : (b : Bool) (x y : Tree) (q : List (ℕ × ℕ)) → x ≡ Bound y q → Ends b (MayEnd w y) → Ends b (MayEnd w x)
-  bound-ends b x y q p h = subst (λ (z : Tree). Ends b (MayEnd w z)) (sym p) (λ e. end_bound (h.0 e), λ e. h.1 (bound_out y q e))
+  pub tied-ends : (b : Bool) (x y : Tree) (q : List (ℕ × ℕ)) → x ≡ Tied y q → Ends b (MayEnd w y) → Ends b (MayEnd w x)
+  tied-ends b x y q p h = subst (λ (z : Tree). Ends b (MayEnd w z)) (sym p) (λ e. end_bound (h.0 e), λ e. h.1 (bound_out y q e))
 
-  pub trail-ends : (b : Bool) (x : Tree) (n : ℕ) (f : Spot) (t : Goal) (c : List ℕ) → x ≡ Trail n f t c → Ends b (EndWalk w n f t) → Ends b (MayEnd w x)
+  pub trail-ends : (b : Bool) (x : Tree) (n : ℕ) (f : Spot) (t : Goal) (c : List ℕ) → x ≡ Walk n f t c → Ends b (EndWalk w n f t) → Ends b (MayEnd w x)
   trail-ends b x n f t c p h = subst (λ (z : Tree). Ends b (MayEnd w z)) (sym p) (λ e. end_trail (h.0 e), λ e. h.1 (trail_out n f t c e))
 
   pub turns-ends : (b : Bool) (x y : Tree) → x ≡ y → Ends b (MayEnd w y) → Ends b (MayEnd w x)
@@ -134,26 +135,26 @@ module _ (w : NetTerms) where
   event-not x e p h = no_event e (subst (λ (z : Tree). MayEnd w z) p h)
 
   -- loops
-  turns_out : (x : Tree) (lo : ℕ) (hi : Option ℕ) (ps : List Part) → MayEnd w (Turns x lo hi (row_of ps)) → EndTurns w ps × ((lo ≡ 0) ⊎ MayEnd w x)
-  turns_out x zero hi ps (end_zero h) = (subst (λ (l : List Part). EndTurns w l) (parts-row_of ps) h, inl refl)
-  turns_out x lo hi ps (end_turns h g e) = (subst (λ (l : List Part). EndTurns w l) (parts-row_of ps) h, inr e)
+  turns_out : (x : Tree) (lo : ℕ) (hi : Option ℕ) (ps : List Part) → MayEnd w (Loop x lo hi (row_of ps)) → EndLoop w ps × ((lo ≡ 0) ⊎ MayEnd w x)
+  turns_out x zero hi ps (end_zero h) = (subst (λ (l : List Part). EndLoop w l) (parts-row_of ps) h, inl refl)
+  turns_out x lo hi ps (end_turns h g e) = (subst (λ (l : List Part). EndLoop w l) (parts-row_of ps) h, inr e)
 
   gap_there : (ps : List Part) → has_gap ps ≡ true → HasGap ps
   gap_there [] h = cc
   gap_there (Gap c ∷ ps) h = tt
   gap_there (Turn x ∷ ps) h = gap_there ps h
 
-  turns_in : (x : Tree) (lo : ℕ) (hi : Option ℕ) (ps : List Part) → has_gap ps ≡ true → EndTurns w ps → (lo ≡ 0) ⊎ MayEnd w x → MayEnd w (Turns x lo hi (row_of ps))
-  turns_in x lo hi ps g h (inl e) = subst (λ (n : ℕ). MayEnd w (Turns x n hi (row_of ps))) (sym e) (end_zero (subst (λ (l : List Part). EndTurns w l) (sym (parts-row_of ps)) h))
-  turns_in x lo hi ps g h (inr e) = end_turns (subst (λ (l : List Part). EndTurns w l) (sym (parts-row_of ps)) h) (subst (λ (l : List Part). HasGap l) (sym (parts-row_of ps)) (gap_there ps g)) e
+  turns_in : (x : Tree) (lo : ℕ) (hi : Option ℕ) (ps : List Part) → has_gap ps ≡ true → EndLoop w ps → (lo ≡ 0) ⊎ MayEnd w x → MayEnd w (Loop x lo hi (row_of ps))
+  turns_in x lo hi ps g h (inl e) = subst (λ (n : ℕ). MayEnd w (Loop x n hi (row_of ps))) (sym e) (end_zero (subst (λ (l : List Part). EndLoop w l) (sym (parts-row_of ps)) h))
+  turns_in x lo hi ps g h (inr e) = end_turns (subst (λ (l : List Part). EndLoop w l) (sym (parts-row_of ps)) h) (subst (λ (l : List Part). HasGap l) (sym (parts-row_of ps)) (gap_there ps g)) e
 
-  pub loop-not : (x : Tree) (lo : ℕ) (hi : Option ℕ) (ps : List Part) (b : Bool) → Ends b (EndTurns w ps) → b ≡ false → Ends b (MayEnd w (Turns x lo hi (row_of ps)))
+  pub loop-not : (x : Tree) (lo : ℕ) (hi : Option ℕ) (ps : List Part) (b : Bool) → Ends b (EndLoop w ps) → b ≡ false → Ends b (MayEnd w (Loop x lo hi (row_of ps)))
   loop-not x lo hi ps b h e = (λ i. cc, λ i. h.1 (turns_out x lo hi ps i).0)
 
-  pub loop-zero : (x : Tree) (lo : ℕ) (hi : Option ℕ) (ps : List Part) (b : Bool) → has_gap ps ≡ true → Ends b (EndTurns w ps) → lo ≡ 0 → Ends b (MayEnd w (Turns x lo hi (row_of ps)))
+  pub loop-zero : (x : Tree) (lo : ℕ) (hi : Option ℕ) (ps : List Part) (b : Bool) → has_gap ps ≡ true → Ends b (EndLoop w ps) → lo ≡ 0 → Ends b (MayEnd w (Loop x lo hi (row_of ps)))
   loop-zero x lo hi ps b g h e = (λ i. turns_in x lo hi ps g (h.0 i) (inl e), λ i. h.1 (turns_out x lo hi ps i).0)
 
-  pub loop-owed : (x : Tree) (lo : ℕ) (hi : Option ℕ) (ps : List Part) (b d : Bool) → has_gap ps ≡ true → Ends b (EndTurns w ps) → b ≡ true → 0 < lo → Ends d (MayEnd w x) → Ends d (MayEnd w (Turns x lo hi (row_of ps)))
+  pub loop-owed : (x : Tree) (lo : ℕ) (hi : Option ℕ) (ps : List Part) (b d : Bool) → has_gap ps ≡ true → Ends b (EndLoop w ps) → b ≡ true → 0 < lo → Ends d (MayEnd w x) → Ends d (MayEnd w (Loop x lo hi (row_of ps)))
   loop-owed x lo hi ps b d g h e l f =
       (λ i. turns_in x lo hi ps g (h.0 e) (inr (f.0 i)), λ i. elim (turns_out x lo hi ps i).1 [ inl z ↦ absurd (omega arith) | inr r ↦ f.1 r ])
 
@@ -163,20 +164,20 @@ module _ (w : Tables) (n : ℕ) (ms : List ℕ) (net : IsNet (net_of w n)) (h : 
   below_size Start m i = net.starts_below m i
   below_size (At k) m i = net.next_below k m i
 
-  walk_in : {f : Spot} {t : Goal} → EndWalk (terms_over w) n f t → Walk (net_of w n) ms f (aim t)
+  walk_in : {f : Spot} {t : Goal} → EndWalk (terms_over w) n f t → WalkThrough (net_of w n) ms f (aim t)
   walk_in (last_edge m i a) = last m i a
   walk_in (inner_edge {f = f} m i e r) = step m i ((h.exact m).1 (below_size f m i, e)) (walk_in r)
 
-  walk_out : {f : Spot} {u : Goal} (t : Goal) → u ≡ aim t → Walk (net_of w n) ms f u → EndWalk (terms_over w) n f t
+  walk_out : {f : Spot} {u : Goal} (t : Goal) → u ≡ aim t → WalkThrough (net_of w n) ms f u → EndWalk (terms_over w) n f t
   walk_out t e (last m i a) = last_edge m i (rw e at a)
   walk_out t e (step m i k r) = inner_edge m i ((h.exact m).0 k).1 (walk_out t e r)
 
-  lead_in : (f : Spot) (t : Goal) → Walk (net_of w n) ms f (aim t) → Leads (net_of w n) ms f (aim t)
+  lead_in : (f : Spot) (t : Goal) → WalkThrough (net_of w n) ms f (aim t) → Leads (net_of w n) ms f (aim t)
   lead_in f (To m) r = r
   lead_in f End r = r
   lead_in f Any r = r
 
-  lead_out : (f : Spot) (t : Goal) → Leads (net_of w n) ms f (aim t) → Walk (net_of w n) ms f (aim t)
+  lead_out : (f : Spot) (t : Goal) → Leads (net_of w n) ms f (aim t) → WalkThrough (net_of w n) ms f (aim t)
   lead_out f (To m) r = r
   lead_out f End r = r
   lead_out f Any r = r
@@ -217,4 +218,4 @@ pub ok-map : {A E : Type 0} (P Q : A → Type 0) (r : Result A E) → ((a : A) �
 ok-map P Q (Ok a) f h = f a h
 ok-map P Q (Err e) f h = h
 
-pub ruleset endings = (nil-ends, event-not, ending-none, ready-then, ready-beside, ready-choice, ready-bound, rank-then, rank-beside, rank-some, rank-bound, rank-loop)
+pub ruleset endings = (nil-ends, event-not, ending-none, ready-seq, ready-par, ready-choice, ready-tied, rank-seq, rank-par, rank-some, rank-tied, rank-loop)

@@ -6,7 +6,7 @@ use Rattle.chart_term.specs.Properties.{Each, EachTurn, MayHave}
 use Rattle.chart_term.specs.Tables.{Tables, node_of, terms_over}
 use Rattle.chart_term.specs.TermMeanings.{HasPattern, UpTo, terms_of}
 use Rattle.chart_term.specs.TermPatterns.{Shape, InPairs}
-use Rattle.chart_term.specs.Terms.{Block, Tree, Nil, Event, Join, Choice, Bound, Turns, Trail, Trees, none, more, Row, ends, gap, turn, items, trees, Part, Gap, Turn, parts, row_of}
+use Rattle.chart_term.specs.Terms.{Block, Tree, Nil, Event, Join, Choice, Tied, Loop, Walk, Trees, none, more, Row, ends, gap, turn, items, trees, Part, Gap, Turn, parts, row_of}
 use Rattle.chart_term.proofs.Binding.{kept_in}
 use Rattle.chart_term.proofs.Lists.{parts-row_of}
 use Rattle.permit_step.specs.Normality.{AreNormalTables, IsNormalOver}
@@ -30,9 +30,9 @@ module _ (NL : ℕ → ℕ → Type 0) (NG : ℕ → Type 0) where
     Even (Event e) = Unit {0}
     Even (Join m xs) = AllEven xs
     Even (Choice xs) = AllEven xs
-    Even (Bound x q) = Even x × ((j : ℕ) → InPairs j q → IsOutside NL j x)
-    Even (Turns x lo hi r) = Even x × RowEven r × UpTo hi lo × NeverGrows (parts r)
-    Even (Trail n f t c) = NG n
+    Even (Tied x q) = Even x × ((j : ℕ) → InPairs j q → IsOutside NL j x)
+    Even (Loop x lo hi r) = Even x × RowEven r × UpTo hi lo × NeverGrows (parts r)
+    Even (Walk n f t c) = NG n
 
     pub AllEven : Trees → Type 0
     AllEven none = Unit {0}
@@ -74,9 +74,9 @@ module _ (NL : ℕ → ℕ → Type 0) (NG : ℕ → Type 0) where
       tidy_even (Event e) h = tt
       tidy_even (Join m xs) h = all_tidy_even xs h
       tidy_even (Choice xs) h = all_tidy_even xs h
-      tidy_even (Bound x q) h = (tidy_even x h.0, h.1)
-      tidy_even (Turns x lo hi r) h = (tidy_even x h.0, row_tidy_even r h.1, h.2, h.3)
-      tidy_even (Trail n f t c) h = h
+      tidy_even (Tied x q) h = (tidy_even x h.0, h.1)
+      tidy_even (Loop x lo hi r) h = (tidy_even x h.0, row_tidy_even r h.1, h.2, h.3)
+      tidy_even (Walk n f t c) h = h
 
       pub all_tidy_even : (xs : Trees) → AreTidy NL NG xs → AllEven xs
       all_tidy_even none h = tt
@@ -132,9 +132,9 @@ module _ (NL : ℕ → ℕ → Type 0) (NG : ℕ → Type 0) where
         even_ok (Event e) h = tt
         even_ok (Join m xs) h = all_even_ok xs h
         even_ok (Choice xs) h = all_even_ok xs h
-        even_ok (Bound x q) h = (even_ok x h.0, permit_shows k node o NL NG nets q x h.1)
-        even_ok (Turns x lo hi r) h = (even_ok x h.0, row_even_ok r h.1, h.2, falls_of (terms_of k node) o x (parts r) h.3)
-        even_ok (Trail n f t c) h = nets.fine n h
+        even_ok (Tied x q) h = (even_ok x h.0, permit_shows k node o NL NG nets q x h.1)
+        even_ok (Loop x lo hi r) h = (even_ok x h.0, row_even_ok r h.1, h.2, falls_of (terms_of k node) o x (parts r) h.3)
+        even_ok (Walk n f t c) h = nets.fine n h
 
         all_even_ok : (xs : Trees) → AllEven xs → AreRegular k node o xs
         all_even_ok none h = tt
@@ -150,7 +150,7 @@ module _ (NL : ℕ → ℕ → Type 0) (NG : ℕ → Type 0) where
         ok = even_ok;
         joined = λ m x xs h. (h.0, h.1);
         chosen = λ x xs h. (h.0, h.1);
-        bound = λ x q h. h.0;
+        tied = λ x q h. h.0;
         operand = λ x lo hi r h. h.0;
         begun = λ x lo hi y r h i. begun_even y (parts r) (row_out r h.1) i;
         permitted = λ c x y h e. at_some Even (permit k (only c) x) y e (permit_even (only c) x h);

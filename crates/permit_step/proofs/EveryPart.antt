@@ -2,10 +2,10 @@
 use Rattle.std.specs.Prelude.{ℕ, ◌<◌, ◌==◌, Bool, true, false, List, [], ◌∷◌, ◌≡◌, Option, Some}
 use Rattle.msc_base.specs.Patterns.{Mode}
 use Rattle.hmsc_graph.specs.Graphs.{Spot, Goal}
-use Rattle.chart_term.specs.NormalForms.{NetPermits, only, join_all, choice_of, bound_of, kept_pairs, numbers, turns_of}
+use Rattle.chart_term.specs.NormalForms.{NetPermits, only, join_all, choice_of, tie_of, kept_pairs, numbers, loop_of}
 use Rattle.chart_term.specs.Properties.{Each, EachTurn, EveryOf, EveryRow, IsBelow, MayHave}
 use Rattle.chart_term.specs.Tables.{NetEntry, Tables, net_count, choose}
-use Rattle.chart_term.specs.Terms.{TermEvent, Block, Tree, Nil, Event, Join, Choice, Bound, Turns, Trail, Trees, none, more, Row, ends, gap, turn, items, trees, Part, Gap, Turn, parts, row_of}
+use Rattle.chart_term.specs.Terms.{TermEvent, Block, Tree, Nil, Event, Join, Choice, Tied, Loop, Walk, Trees, none, more, Row, ends, gap, turn, items, trees, Part, Gap, Turn, parts, row_of}
 use Rattle.permit_step.specs.FullSoundness.{EveryPart, EveryPartOf, EveryRowPart}
 use Rattle.chart_term.specs.Spreads.{touch}
 use Rattle.permit_step.specs.Permission.{permit, permit_nth, permits_of}
@@ -83,10 +83,10 @@ module _ (E : TermEvent → Type 0) (B : Tree → List (ℕ × ℕ) → Type 0) 
     pub choice_part : (xs : List Tree) → Each EP xs → MayHave EP (choice_of xs)
     choice_part = choice_keeps k EP EP Operand Keeps part_kind
 
-    pub bound_part : (x : Tree) (q : List (ℕ × ℕ)) → EP (Bound x q) → EP (bound_of x q)
+    pub bound_part : (x : Tree) (q : List (ℕ × ℕ)) → EP (Tied x q) → EP (tie_of x q)
     bound_part = tied_keeps k EP EP Operand Keeps part_kind
 
-    pub fresh_part : (x : Tree) (lo : ℕ) (hi : Option ℕ) (ps : List Part) → EP x → L x → EachTurn EP ps → MayHave EP (turns_of (λ c. permit k (only c) x) (touch k.spread x) x lo hi ps)
+    pub fresh_part : (x : Tree) (lo : ℕ) (hi : Option ℕ) (ps : List Part) → EP x → L x → EachTurn EP ps → MayHave EP (loop_of (λ c. permit k (only c) x) (touch k.spread x) x lo hi ps)
     fresh_part x lo hi ps h l d = turns_keep k EP EP (λ x lo hi ps. EP x × L x) (λ x z. (q : List (ℕ × ℕ)) → B x q → B z q) part_kind x lo hi ps (h, l) d
 
     pub after_part : ((n m : ℕ) (d : List ℕ) (x : Tree) → k.kept n m d ≡ Some x → EP x) → {x y : Tree} {e : TermEvent} → IsAfter k x e y → EP x → EP y
@@ -102,9 +102,9 @@ module _ (E F : TermEvent → Type 0) (B C : Tree → List (ℕ × ℕ) → Type
     part_map (Event e) b h = event e h
     part_map (Join m xs) b h = parts_map xs b h
     part_map (Choice xs) b h = parts_map xs b h
-    part_map (Bound x q) b h = (part_map x b h.0, tie x q b h.1)
-    part_map (Turns x lo hi r) b h = (part_map x b.0 h.0, operand x b.0 h.1, row_map r b.1 h.2)
-    part_map (Trail n f t c) b h = walk n f t b h
+    part_map (Tied x q) b h = (part_map x b h.0, tie x q b h.1)
+    part_map (Loop x lo hi r) b h = (part_map x b.0 h.0, operand x b.0 h.1, row_map r b.1 h.2)
+    part_map (Walk n f t c) b h = walk n f t b h
 
     parts_map : (xs : Trees) → EveryOf (λ e. Unit {0}) (λ m. m < top) xs → EveryPartOf E B L N xs → EveryPartOf F C M O xs
     parts_map none b h = tt

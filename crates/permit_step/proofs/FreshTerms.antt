@@ -1,15 +1,15 @@
 -- Loops that no turn has begun, and walks from the start, are sound.
 use Rattle.std.specs.Prelude.{ℕ, zero, suc, ◌<◌, ◌==◌, ◌≡◌, ◌||◌, Bool, true, false, List, [], ◌∷◌, ◌++◌, Option, Some, None, refl}
 use Rattle.std.proofs.Common.{arith}
-use Rattle.msc_base.specs.Patterns.{Mode, row, aside, empty, one, join, bind}
-use Rattle.hmsc_graph.specs.Graphs.{Spot, Start, Goal, To, End, Any, Net, arrives, Walk, last, step, reach}
-use Rattle.chart_term.specs.NormalForms.{only, cut, trail_cut, walk_form, allowed, are_nil}
+use Rattle.msc_base.specs.Patterns.{Mode, seq, par, empty, one, join, bind}
+use Rattle.hmsc_graph.specs.Graphs.{Spot, Start, Goal, To, End, Any, Net, arrives, WalkThrough, last, step, reach}
+use Rattle.chart_term.specs.NormalForms.{only, cut, walk_cut, walk_form, allowed, are_nil}
 use Rattle.chart_term.specs.Properties.{IsBelow, MayHave}
 use Rattle.chart_term.specs.Tables.{Tables, net_count, net_of, nodes_of, nth_tree, node_of, terms_over}
-use Rattle.chart_term.specs.TermMeanings.{aim, MayStop, HasPattern, has_nil, has_turns, has_trail, HasRow, gaps_end, gaps_shut, gaps_more, HasWalk, walk_stop, walk_last, walk_step, PatternsOf, UpTo, ◌⊑◌}
+use Rattle.chart_term.specs.TermMeanings.{aim, MayStop, HasPattern, has_nil, holds_loop, holds_walk, HasRow, gaps_end, gaps_shut, gaps_more, HasWalk, walk_stop, walk_last, walk_step, PatternsOf, UpTo, ◌⊑◌}
 use Rattle.chart_term.specs.TermPatterns.{Shape, Avoids, Lets, instances_of, HasNoEvent, take_first, take_later, back, Both}
 use Rattle.chart_term.specs.TermRuns.{Runs, run_end, run_take}
-use Rattle.chart_term.specs.Terms.{TermEvent, Block, hits, has_some, Tree, Nil, Turns, Trail, Gap, gap, ends}
+use Rattle.chart_term.specs.Terms.{TermEvent, Block, hits, has_some, Tree, Nil, Loop, Walk, Gap, gap, ends}
 use Rattle.chart_term.proofs.Arranging.{runs_linear, linear_run}
 use Rattle.chart_term.proofs.Running.{runs_same}
 use Rattle.permit_step.specs.ConstructorLaws.{IsFormed}
@@ -37,8 +37,8 @@ avoids_any b (join m x y) h = (avoids_any b x h.0, avoids_any b y h.1)
 avoids_any b (bind x q) h = avoids_any b x h
 
 lets_any : (m : Mode) (e : TermEvent) (s : Shape) → HasNoEvent s → Lets m e s
-lets_any row e s h = avoids_any (instances_of e) s h
-lets_any aside e s h = tt
+lets_any seq e s h = avoids_any (instances_of e) s h
+lets_any par e s h = tt
 
 later_runs : (m : Mode) {s t : Shape} {l : List ℕ} → HasNoEvent s → Runs t l → Runs (join m s t) l
 later_runs m h (run_end i) = run_end (h, i)
@@ -95,10 +95,10 @@ module _ (labels : ℕ) (w : Tables) (x : Tree) (lo : ℕ) (hi : Option ℕ) (h 
   turn_runs : (n : ℕ) (s : Shape) → HasRow (terms_over w) true x (Gap [] ∷ []) n s → (l : List ℕ) × Runs s l
   turn_runs zero s (gaps_shut gaps_end) = ([], run_end tt)
   turn_runs (suc n) s (gaps_shut a) = elim a [ ]
-  turn_runs (suc n) s (gaps_more {s = t} {u = v} a av b) = let i = run_of t (h.term.ordered t a) in let j = turn_runs n v b in (i.0 ++ j.0, join_runs row i.1 j.1)
+  turn_runs (suc n) s (gaps_more {s = t} {u = v} a av b) = let i = run_of t (h.term.ordered t a) in let j = turn_runs n v b in (i.0 ++ j.0, join_runs seq i.1 j.1)
 
-  loop_runs : (s : Shape) → HasPattern (terms_over w) true (Turns x lo hi (gap [] ends)) s → (l : List ℕ) × Runs s l
-  loop_runs s (has_turns n a l v) = turn_runs n s a
+  loop_runs : (s : Shape) → HasPattern (terms_over w) true (Loop x lo hi (gap [] ends)) s → (l : List ℕ) × Runs s l
+  loop_runs s (holds_loop n a l v) = turn_runs n s a
 
   formed : IsFormed w x
   formed = record { tidy = tidy_of labels w x h.nets h.term; normal = h.term.normal }
@@ -115,19 +115,19 @@ module _ (labels : ℕ) (w : Tables) (x : Tree) (lo : ℕ) (hi : Option ℕ) (h 
       (fresh_part (λ e. Unit {0}) (OnceTie w) (λ y. Unit {0}) (λ n f t. Unit {0}) (permits_of w) (λ n f g t u h s a. tt) (tie_fewer w tidy) (tie_permit w tidy) (tie_taken w tidy) x lo hi (Gap [] ∷ [])
       (ties_to w tidy (normal_tables labels w h.nets) x (sound_even labels w x h.term) h.term.normal h.term.once) tt tt)
       (may_last (fresh_loop w x lo hi) (fresh_part (λ e. Unit {0}) (λ y q. Unit {0}) (λ y. Unit {0}) (λ n f t. IsNotAny t) (permits_of w) (walk_left (permits_of w)) (λ x q h. tt) (λ b x z e q h. tt) (λ x y z b e a p q h. tt) x lo hi (Gap [] ∷ []) c tt tt))
-      (orders_of w (fresh_loop w x lo hi) (HasPattern (terms_over w) true (Turns x lo hi (gap [] ends))) (normal_forms_keep_patterns.turns true w x lo hi (Gap [] ∷ []) tidy (tidy_of labels w x h.nets h.term) (tt, tt) u).to loop_runs)
+      (orders_of w (fresh_loop w x lo hi) (HasPattern (terms_over w) true (Loop x lo hi (gap [] ends))) (normal_forms_keep_patterns.turns true w x lo hi (Gap [] ∷ []) tidy (tidy_of labels w x h.nets h.term) (tt, tt) u).to loop_runs)
       (fresh_part (λ e. Unit {0}) (λ y q. Unit {0}) (HasOrders w) (λ n f t. Unit {0}) (permits_of w) (λ n f g t u h s a. tt) (λ x q h. tt) (λ b x z e q h. tt) (λ x y z b e a p q h. tt) x lo hi (Gap [] ∷ []) h.term.operands h.term.ordered tt)
 
   -- as many patterns of the operand as are owed
   pub loop_row : (s : Shape) → HasPattern (terms_over w) true x s → (n : ℕ) → (u : Shape) × HasRow (terms_over w) true x (Gap [] ∷ []) n u
   loop_row s a zero = (empty, gaps_shut gaps_end)
-  loop_row s a (suc n) = let i = loop_row s a n in (join row s i.0, gaps_more a (avoids_nothing s) i.1)
+  loop_row s a (suc n) = let i = loop_row s a n in (join seq s i.0, gaps_more a (avoids_nothing s) i.1)
 
   loop_there : fresh_loop w x lo hi ≡ None → ⊥
   loop_there e =
       let i = sound_has_pattern.some w x (is_sound labels w x h) in
       let r = loop_row i.pattern i.has lo in
-      (constructors_keep_form.turns_fail w x lo hi (Gap [] ∷ []) (record { tidy = tidy; normal = normal_tables labels w h.nets }) formed u (record { sets = (tt, tt); falls = (tt, tt); turns = tt })).to e r.0 (has_turns lo r.1 (omega arith) u)
+      (constructors_keep_form.turns_fail w x lo hi (Gap [] ∷ []) (record { tidy = tidy; normal = normal_tables labels w h.nets }) formed u (record { sets = (tt, tt); falls = (tt, tt); turns = tt })).to e r.0 (holds_loop lo r.1 (omega arith) u)
 
   loop_sound : MustHave (IsFullySound labels w) (fresh_loop w x lo hi)
   loop_sound = must (IsFullySound labels w) (fresh_loop w x lo hi) loop_there loop_may
@@ -183,31 +183,31 @@ module _ (labels : ℕ) (w : Tables) (n : ℕ) (h : AreSoundNets labels w) (l : 
   walk_runs : {f : Spot} {t : Goal} {c : List ℕ} {s : Shape} → HasWalk (terms_over w) true n f t c s → (k : List ℕ) × Runs s k
   walk_runs (walk_stop a) = ([], run_end tt)
   walk_runs (walk_last m i a) = ([], run_end tt)
-  walk_runs (walk_step m {s = s} i a av b) = let p = run_of s (node_orders labels w h n l m s a) in let q = walk_runs b in (p.0 ++ q.0, join_runs row p.1 q.1)
+  walk_runs (walk_step m {s = s} i a av b) = let p = run_of s (node_orders labels w h n l m s a) in let q = walk_runs b in (p.0 ++ q.0, join_runs seq p.1 q.1)
 
-  trail_runs : (t : Goal) (s : Shape) → HasPattern (terms_over w) true (Trail n Start t []) s → (k : List ℕ) × Runs s k
-  trail_runs t s (has_trail a) = walk_runs a
+  trail_runs : (t : Goal) (s : Shape) → HasPattern (terms_over w) true (Walk n Start t []) s → (k : List ℕ) × Runs s k
+  trail_runs t s (holds_walk a) = walk_runs a
 
   -- walks and their patterns
-  walk_some : {f : Spot} {t : Goal} → IsNotAny t → Walk (net_of w n) (nodes_of w n) f t → (s : Shape) × HasWalk (terms_over w) true n f t [] s
+  walk_some : {f : Spot} {t : Goal} → IsNotAny t → WalkThrough (net_of w n) (nodes_of w n) f t → (s : Shape) × HasWalk (terms_over w) true n f t [] s
   walk_some {t = t} a (last m i e) = (empty, walk_last m i (arrives_aim (net_of w n) t m (aimed t a) e))
-  walk_some a (step m i j v) = let p = node_some labels w h n l m in let q = walk_some a v in (join row p.pattern q.0, walk_step m i p.has (avoids_nothing p.pattern) q.1)
+  walk_some a (step m i j v) = let p = node_some labels w h n l m in let q = walk_some a v in (join seq p.pattern q.0, walk_step m i p.has (avoids_nothing p.pattern) q.1)
 
-  some_walk : {f : Spot} {t : Goal} {c : List ℕ} {s : Shape} → IsNotAny t → HasWalk (terms_over w) true n f t c s → Walk (net_of w n) (nodes_of w n) f t
+  some_walk : {f : Spot} {t : Goal} {c : List ℕ} {s : Shape} → IsNotAny t → HasWalk (terms_over w) true n f t c s → WalkThrough (net_of w n) (nodes_of w n) f t
   some_walk {t = t} a (walk_stop p) = absurd (no_stop t a p)
   some_walk {t = t} a (walk_last m i e) = last m i (arrives_goal (net_of w n) t m (aimed t a) e)
   some_walk {f = f} a (walk_step m i p av r) = step m i (((nets_good true w (tidy_tables labels w h)).fine n l).within f m i) (some_walk a r)
 
-  walk_fails : (t : Goal) → IsNotAny t → Both (fresh_walk w n t ≡ None) (Walk (net_of w n) (nodes_of w n) Start t → ⊥)
+  walk_fails : (t : Goal) → IsNotAny t → Both (fresh_walk w n t ≡ None) (WalkThrough (net_of w n) (nodes_of w n) Start t → ⊥)
   walk_fails t a =
       let b = constructors_keep_form.trail_fails w n Start t [] (record { tidy = tidy_tables labels w h; normal = normal_tables labels w h }) l tt in
       record {
-        to = λ e v. let i = walk_some a v in b.to e i.0 (has_trail i.1);
+        to = λ e v. let i = walk_some a v in b.to e i.0 (holds_walk i.1);
         from = λ f. b.from (λ s p. f (walk_of_trail s p));
       }
     where
-      walk_of_trail : (s : Shape) → HasPattern (terms_over w) true (Trail n Start t []) s → Walk (net_of w n) (nodes_of w n) Start t
-      walk_of_trail s (has_trail p) = some_walk a p
+      walk_of_trail : (s : Shape) → HasPattern (terms_over w) true (Walk n Start t []) s → WalkThrough (net_of w n) (nodes_of w n) Start t
+      walk_of_trail s (holds_walk p) = some_walk a p
 
   -- what is left of a walk is a walk, or Nil
   form_has : (P : Tree → Type 0) (a b : Bool) (x : Tree) → P Nil → P x → MayHave P (walk_form a b x)
@@ -215,12 +215,12 @@ module _ (labels : ℕ) (w : Tables) (n : ℕ) (h : AreSoundNets labels w) (l : 
   form_has P true true x i j = i
   form_has P true false x i j = j
 
-  cut_has : (P : Tree → Type 0) (f : Spot) (t : Goal) (c : List ℕ) → P Nil → P (Trail n f t c) → MayHave P (trail_cut (permits_of w) n f t c)
+  cut_has : (P : Tree → Type 0) (f : Spot) (t : Goal) (c : List ℕ) → P Nil → P (Walk n f t c) → MayHave P (walk_cut (permits_of w) n f t c)
   cut_has P f Any c i j = j
-  cut_has P f (To m) c i j = form_has P (reach ((permits_of w).net n) (allowed (permits_of w) n c) f (To m)) (are_nil (permits_of w) n f (To m) c (allowed (permits_of w) n c)) (Trail n f (To m) c) i j
-  cut_has P f End c i j = form_has P (reach ((permits_of w).net n) (allowed (permits_of w) n c) f End) (are_nil (permits_of w) n f End c (allowed (permits_of w) n c)) (Trail n f End c) i j
+  cut_has P f (To m) c i j = form_has P (reach ((permits_of w).net n) (allowed (permits_of w) n c) f (To m)) (are_nil (permits_of w) n f (To m) c (allowed (permits_of w) n c)) (Walk n f (To m) c) i j
+  cut_has P f End c i j = form_has P (reach ((permits_of w).net n) (allowed (permits_of w) n c) f End) (are_nil (permits_of w) n f End c (allowed (permits_of w) n c)) (Walk n f End c) i j
 
-  pub walk_has : (P : Tree → Type 0) (t : Goal) → P Nil → ((c : List ℕ) → P (Trail n Start t c)) → MayHave P (fresh_walk w n t)
+  pub walk_has : (P : Tree → Type 0) (t : Goal) → P Nil → ((c : List ℕ) → P (Walk n Start t c)) → MayHave P (fresh_walk w n t)
   walk_has P t i j = cut_has P Start t (cut ((permits_of w).spread n) []) i (j (cut ((permits_of w).spread n) []))
 
   walk_sound : (t : Goal) → IsGoalOf w n t → MayHave (IsFullySound labels w) (fresh_walk w n t)
@@ -230,7 +230,7 @@ module _ (labels : ℕ) (w : Tables) (n : ℕ) (h : AreSoundNets labels w) (l : 
       (walk_has (AreNumbersKnown labels w) t tt (λ c. (l, tt, g)))
       (walk_has (TiesOnce (NetLacks w)) t tt (λ c. tt))
       (walk_has IsOpenWalkLast t tt (λ c. tt))
-      (orders_of w (fresh_walk w n t) (HasPattern (terms_over w) true (Trail n Start t [])) (normal_forms_keep_patterns.trail true w n Start t [] (tidy_tables labels w h) l).to (trail_runs t))
+      (orders_of w (fresh_walk w n t) (HasPattern (terms_over w) true (Walk n Start t [])) (normal_forms_keep_patterns.trail true w n Start t [] (tidy_tables labels w h) l).to (trail_runs t))
       (walk_has (HaveOperandsOrders w) t tt (λ c. tt))
 
 pub fresh_terms_are_sound : FreshTermsAreSound

@@ -6,7 +6,7 @@ use Rattle.chart_term.specs.NormalForms.{only, kept_pairs, numbers}
 use Rattle.chart_term.specs.Properties.{EveryOf, IsBelow, MayHave}
 use Rattle.chart_term.specs.Tables.{NetEntry, Tables, net_count}
 use Rattle.chart_term.specs.TermPatterns.{InPairs}
-use Rattle.chart_term.specs.Terms.{TermEvent, Block, Tree, Nil, Event, Join, Choice, Bound, Turns, Trail, Trees, none, more}
+use Rattle.chart_term.specs.Terms.{TermEvent, Block, Tree, Nil, Event, Join, Choice, Tied, Loop, Walk, Trees, none, more}
 use Rattle.chart_term.proofs.Binding.{kept_in}
 use Rattle.permit_step.specs.FullSoundness.{IsSpotOf, IsGoalOf, AreNumbersKnown, HasOrders, HaveOperandsOrders, HasNoOpenWalk, IsOpenWalkLast, IsSoundOver, IsSoundNode, AreSoundNets, IsFullySound, FullSoundnessIsKept}
 use Rattle.permit_step.specs.Laws.{Fits}
@@ -133,9 +133,9 @@ module _ (e : NetEntry) (es : Tables) (t : AreTidyTables es) (j : ℕ) where
     once_up (Event f) b h = tt
     once_up (Join m xs) b h = once_all_up xs b h
     once_up (Choice xs) b h = once_each_up xs b h
-    once_up (Bound x q) b h = once_up x b h
-    once_up (Turns x lo hi r) b h = (lacks_tree true e es t j x b.0 h.0, lacks_row true e es t j r b.1 h.1)
-    once_up (Trail n f u c) b h = lacks_up true e es t j n b h
+    once_up (Tied x q) b h = once_up x b h
+    once_up (Loop x lo hi r) b h = (lacks_tree true e es t j x b.0 h.0, lacks_row true e es t j r b.1 h.1)
+    once_up (Walk n f u c) b h = lacks_up true e es t j n b h
 
     once_all_up : (xs : Trees) → EveryOf (λ e. Unit {0}) (λ m. m < net_count es) xs → OnceAll (NetLacks es) j xs → OnceAll (NetLacks (e ∷ es)) j xs
     once_all_up none b h = tt

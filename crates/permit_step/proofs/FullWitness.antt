@@ -7,7 +7,7 @@ use Rattle.chart_term.specs.Tables.{terms_over}
 use Rattle.chart_term.specs.TermMeanings.{HasPattern, has_event}
 use Rattle.chart_term.specs.TermPatterns.{Shape, take_one}
 use Rattle.chart_term.specs.TermRuns.{run_end, run_take}
-use Rattle.chart_term.specs.Terms.{Nil, Turns, Trail, gap, ends}
+use Rattle.chart_term.specs.Terms.{Nil, Loop, Walk, gap, ends}
 use Rattle.permit_step.specs.FullSoundness.{IsSoundNode, IsFullySound, AreSoundNets, AreEndsNil}
 use Rattle.permit_step.specs.Sound.{HasOrder}
 use Rattle.permit_step.proofs.FreshTerms.{fresh_terms_are_sound, nil_orders, order_of}
@@ -50,7 +50,7 @@ message_full = record {
 
 -- A loop of messages
 
-messages_full : IsFullySound 2 [] (Turns message 1 None (gap [] ends))
+messages_full : IsFullySound 2 [] (Loop message 1 None (gap [] ends))
 messages_full = fresh_terms_are_sound.loop 2 [] message 1 None message_full ((tt, (tt, tt)), tt) tt
 
 -- A graph with a node of one action, which leads to itself and to an end
@@ -78,8 +78,8 @@ ends_nil (suc (suc m)) h = refl
 graph_nets : AreSoundNets 2 (entry ∷ [])
 graph_nets = (tt, (action_node, (nil_node, tt)), (tt, (tt, tt)), within, ends_nil, refl)
 
-finished_full : IsFullySound 2 (entry ∷ []) (Trail 0 Start End [])
+finished_full : IsFullySound 2 (entry ∷ []) (Walk 0 Start End [])
 finished_full = fresh_terms_are_sound.walk 2 (entry ∷ []) 0 End graph_nets (omega arith) tt
 
-under_way_full : IsFullySound 2 (entry ∷ []) (Trail 0 Start Any [])
+under_way_full : IsFullySound 2 (entry ∷ []) (Walk 0 Start Any [])
 under_way_full = fresh_terms_are_sound.walk 2 (entry ∷ []) 0 Any graph_nets (omega arith) tt

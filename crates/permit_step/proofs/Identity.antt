@@ -2,13 +2,13 @@
 use Rattle.std.specs.Prelude.{ℕ, zero, suc, Bool, true, false, List, [], ◌∷◌, ◌++◌, ◌≡◌, ◌&&◌, ◌||◌, ◌==◌, Option, Some, None, refl}
 use Rattle.std.specs.Option.{option_map}
 use Rattle.std.proofs.Common.{ap, ◌∙◌}
-use Rattle.msc_base.specs.Patterns.{Mode, row, aside}
+use Rattle.msc_base.specs.Patterns.{Mode, seq, par}
 use Rattle.hmsc_graph.specs.Graphs.{Spot, Goal, To, End, Any, reach}
 use Rattle.chart_term.specs.Equality.{same_tree}
-use Rattle.chart_term.specs.NormalForms.{NetPermits, only, cut, open_part, flat, join_of, join_all, and_then, or_skip, unless, choice_of, choice_form, unless_same, without, distinct, open_choice, open_choices, unless_pair, without_pair, with_pair, kept_pairs, bound_form, bound_of, numbers, cut_gaps, put_turn, drop_nil, at_zero, live_gap, live, is_nil, has_free, free_gap, drop_free, lower_of, thin_gap, thin, turns_form, turns_end, turns_of, turns_in, some_kept, trail_of, trail_cut, walk_form, allowed, are_nil}
+use Rattle.chart_term.specs.NormalForms.{NetPermits, only, cut, open_part, flat, join_of, join_all, and_then, or_skip, unless, choice_of, choice_form, unless_same, without, distinct, open_choice, open_choices, unless_pair, without_pair, with_pair, kept_pairs, bound_form, tie_of, numbers, cut_gaps, put_turn, drop_nil, at_zero, live_gap, live, is_nil, has_free, free_gap, drop_free, lower_of, thin_gap, thin, turns_form, turns_end, loop_of, turns_in, some_kept, walk_of, walk_cut, walk_form, allowed, are_nil}
 use Rattle.chart_term.specs.Properties.{Each, EachTurn, EachGap}
 use Rattle.chart_term.specs.TermPatterns.{pairs}
-use Rattle.chart_term.specs.Terms.{TermEvent, has, has_some, hits, Tree, Nil, Event, Join, Choice, Bound, Turns, Trail, Trees, none, more, Row, ends, gap, turn, items, trees, Part, Gap, Turn, parts, row_of}
+use Rattle.chart_term.specs.Terms.{TermEvent, has, has_some, hits, Tree, Nil, Event, Join, Choice, Tied, Loop, Walk, Trees, none, more, Row, ends, gap, turn, items, trees, Part, Gap, Turn, parts, row_of}
 use Rattle.permit_step.specs.Normality.{IsPartOf, IsAlternative, AreTwoOrMore, AreDifferent, IsSomePair, AreShown, ArePairsOnce, IsPositive, IsNotNil, IsTurnFirst, AreApart, IsNormalLoop, IsLeading, IsNormalWalk, IsNormal, AreNormal, IsNormalRow}
 use Rattle.chart_term.specs.Spreads.{touch}
 use Rattle.permit_step.specs.Permission.{permit, permit_all, permit_some, permit_row, wider, with_turn}
@@ -26,14 +26,14 @@ row-parts (turn x r) = ap (λ l. turn x l) (row-parts r)
 open_same : (m : Mode) (x : Tree) → IsPartOf m x → open_part m x ≡ x ∷ []
 open_same m Nil h = absurd h
 open_same m (Event e) h = refl
-open_same row (Join row xs) h = absurd h
-open_same row (Join aside xs) h = refl
-open_same aside (Join row xs) h = refl
-open_same aside (Join aside xs) h = absurd h
+open_same seq (Join seq xs) h = absurd h
+open_same seq (Join par xs) h = refl
+open_same par (Join seq xs) h = refl
+open_same par (Join par xs) h = absurd h
 open_same m (Choice xs) h = refl
-open_same m (Bound x q) h = refl
-open_same m (Turns x lo hi r) h = refl
-open_same m (Trail n f t c) h = refl
+open_same m (Tied x q) h = refl
+open_same m (Loop x lo hi r) h = refl
+open_same m (Walk n f t c) h = refl
 
 flat_same : (m : Mode) (xs : List Tree) → Each (IsPartOf m) xs → flat m xs ≡ xs
 flat_same m [] h = refl
@@ -53,9 +53,9 @@ alone_same Nil h = refl
 alone_same (Event e) h = refl
 alone_same (Join m xs) h = refl
 alone_same (Choice xs) h = absurd h
-alone_same (Bound x q) h = refl
-alone_same (Turns x lo hi r) h = refl
-alone_same (Trail n f t c) h = refl
+alone_same (Tied x q) h = refl
+alone_same (Loop x lo hi r) h = refl
+alone_same (Walk n f t c) h = refl
 
 choices_same : (xs : List Tree) → Each IsAlternative xs → open_choices xs ≡ xs
 choices_same [] h = refl
@@ -94,11 +94,11 @@ pairs_same : (ns : List ℕ) (q : List (ℕ × ℕ)) → AreShown ns q → ArePa
 pairs_same ns [] h o = refl
 pairs_same ns (p ∷ q) h o = (λ i. with_pair (and_true (has ns p.0) (has ns p.1) h.0 h.1 i) p (pairs_same ns q h.2 o.1 i)) ∙ ap (λ l. p ∷ l) (without_pair_same p q o.0)
 
-tie_same : (x : Tree) (q : List (ℕ × ℕ)) → IsSomePair q → bound_form x q ≡ Bound x q
+tie_same : (x : Tree) (q : List (ℕ × ℕ)) → IsSomePair q → bound_form x q ≡ Tied x q
 tie_same x [] h = absurd h
 tie_same x (p ∷ q) h = refl
 
-pub bound_same : (x : Tree) (q : List (ℕ × ℕ)) → IsSomePair q → AreShown (numbers x) q → ArePairsOnce q → bound_of x q ≡ Bound x q
+pub bound_same : (x : Tree) (q : List (ℕ × ℕ)) → IsSomePair q → AreShown (numbers x) q → ArePairsOnce q → tie_of x q ≡ Tied x q
 bound_same x q s h o = ap (bound_form x) (pairs_same (numbers x) q h o) ∙ tie_same x q s
 
 -- loops
@@ -112,9 +112,9 @@ put_same Nil ps h = cc
 put_same (Event e) ps h = refl
 put_same (Join m xs) ps h = refl
 put_same (Choice xs) ps h = refl
-put_same (Bound x q) ps h = refl
-put_same (Turns x lo hi r) ps h = refl
-put_same (Trail n f t c) ps h = refl
+put_same (Tied x q) ps h = refl
+put_same (Loop x lo hi r) ps h = refl
+put_same (Walk n f t c) ps h = refl
 
 nil_same : (ps : List Part) → EachTurn IsNotNil ps → drop_nil ps ≡ ps
 nil_same [] h = refl
@@ -156,7 +156,7 @@ thin_same (Gap c ∷ ps) h = ap (thin_gap c) (thin_same ps h.1) ∙ gap_same c p
 thin_same (Turn x ∷ ps) h = ap (λ l. Turn x ∷ l) (thin_same ps h)
 
 module _ (k : NetPermits) where
-  pub turns_same : (x : Tree) (lo : ℕ) (hi : Option ℕ) (r : Row) → IsNormalLoop k x hi (parts r) → turns_of (λ c. permit k (only c) x) (touch k.spread x) x lo hi (parts r) ≡ Some (Turns x lo hi r)
+  pub turns_same : (x : Tree) (lo : ℕ) (hi : Option ℕ) (r : Row) → IsNormalLoop k x hi (parts r) → loop_of (λ c. permit k (only c) x) (touch k.spread x) x lo hi (parts r) ≡ Some (Loop x lo hi r)
   turns_same x lo hi r h =
       let p : List ℕ → Option Tree = λ c. permit k (only c) x in
       let all : List ℕ = touch k.spread x in
@@ -166,18 +166,18 @@ module _ (k : NetPermits) where
       (λ i. turns_end x (lower_of (has_free p (e i)) lo) hi (thin (drop_free p (e i))))
       ∙ ((λ i. turns_end x (lower_of (none_free p ps h.not_free i) lo) hi (thin (free_same p ps h.not_free i)))
       ∙ ((λ i. turns_end x lo hi (thin_same ps h.apart i))
-      ∙ ((λ i. turns_form (h.some i) x lo hi ps) ∙ ap (λ s. Some (Turns x lo hi s)) (row-parts r))))
+      ∙ ((λ i. turns_form (h.some i) x lo hi ps) ∙ ap (λ s. Some (Loop x lo hi s)) (row-parts r))))
 
   walk_same : (a b : Bool) (x : Tree) → a ≡ true → b ≡ false → walk_form a b x ≡ Some x
   walk_same a b x e f = λ i. walk_form (e i) (f i) x
 
-  cut_same : (n : ℕ) (f : Spot) (t : Goal) (c : List ℕ) → IsLeading k n f t c → trail_cut k n f t c ≡ Some (Trail n f t c)
+  cut_same : (n : ℕ) (f : Spot) (t : Goal) (c : List ℕ) → IsLeading k n f t c → walk_cut k n f t c ≡ Some (Walk n f t c)
   cut_same n f Any c h = refl
-  cut_same n f (To m) c h = walk_same (reach (k.net n) (allowed k n c) f (To m)) (are_nil k n f (To m) c (allowed k n c)) (Trail n f (To m) c) h.0 h.1
-  cut_same n f End c h = walk_same (reach (k.net n) (allowed k n c) f End) (are_nil k n f End c (allowed k n c)) (Trail n f End c) h.0 h.1
+  cut_same n f (To m) c h = walk_same (reach (k.net n) (allowed k n c) f (To m)) (are_nil k n f (To m) c (allowed k n c)) (Walk n f (To m) c) h.0 h.1
+  cut_same n f End c h = walk_same (reach (k.net n) (allowed k n c) f End) (are_nil k n f End c (allowed k n c)) (Walk n f End c) h.0 h.1
 
-  trail_same : (n : ℕ) (f : Spot) (t : Goal) (c : List ℕ) → IsNormalWalk k n f t c → trail_of k n f t c ≡ Some (Trail n f t c)
-  trail_same n f t c h = ap (trail_cut k n f t) h.cuts ∙ cut_same n f t c h.leads
+  trail_same : (n : ℕ) (f : Spot) (t : Goal) (c : List ℕ) → IsNormalWalk k n f t c → walk_of k n f t c ≡ Some (Walk n f t c)
+  trail_same n f t c h = ap (walk_cut k n f t) h.cuts ∙ cut_same n f t c h.leads
 
   no_hit : (e : TermEvent) → hits (only []) e ≡ false
   no_hit e = go e.also
@@ -192,9 +192,9 @@ module _ (k : NetPermits) where
     permit_same (Event e) h = ap (λ t. unless t (Event e)) (no_hit e)
     permit_same (Join m xs) h = ap (option_map (join_all m)) (all_same xs h.0) ∙ ap Some (join_same m xs h.1 h.2)
     permit_same (Choice xs) h = ap choice_of (some_same xs h.0) ∙ choice_same xs h.1 h.2 h.3
-    permit_same (Bound x q) h = ap (option_map (λ y. bound_of y q)) (permit_same x h.0) ∙ ap Some (bound_same x q h.1 h.2 h.3)
-    permit_same (Turns x lo hi r) h = ap (turns_in (λ c. permit k (only c) x) (touch k.spread x) x lo hi) (row_same r h.1) ∙ turns_same x lo hi r h.2
-    permit_same (Trail n f t c) h = trail_same n f t c h
+    permit_same (Tied x q) h = ap (option_map (λ y. tie_of y q)) (permit_same x h.0) ∙ ap Some (bound_same x q h.1 h.2 h.3)
+    permit_same (Loop x lo hi r) h = ap (turns_in (λ c. permit k (only c) x) (touch k.spread x) x lo hi) (row_same r h.1) ∙ turns_same x lo hi r h.2
+    permit_same (Walk n f t c) h = trail_same n f t c h
 
     all_same : (xs : Trees) → AreNormal k xs → permit_all k (only []) xs ≡ Some (items xs)
     all_same none h = refl

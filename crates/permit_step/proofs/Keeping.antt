@@ -1,16 +1,16 @@
 -- What permission and taking keep of a property of terms.
 use Rattle.std.specs.Option.{option_map}
 use Rattle.std.specs.Prelude.{ℕ, zero, suc, Bool, true, false, List, [], ◌∷◌, ◌++◌, ◌≡◌, Option, Some, None, refl}
-use Rattle.msc_base.specs.Patterns.{Mode, row, aside}
+use Rattle.msc_base.specs.Patterns.{Mode, seq, par}
 use Rattle.hmsc_graph.specs.Graphs.{Spot, At, Goal, To, End, Any, reach}
-use Rattle.chart_term.specs.NormalForms.{NetPermits, only, cut, open_part, flat, join_of, join_all, and_then, or_skip, unless, choice_of, choice_form, unless_same, without, distinct, open_choice, open_choices, bound_form, bound_of, kept_pairs, numbers, cut_gaps, drop_nil, at_zero, live_gap, live, drop_free, has_free, lower_of, thin, thin_gap, has_gap, begun, turns_form, turns_of, trail_of, trail_cut, walk_form, allowed, are_nil, turns_in}
+use Rattle.chart_term.specs.NormalForms.{NetPermits, only, cut, open_part, flat, join_of, join_all, and_then, or_skip, unless, choice_of, choice_form, unless_same, without, distinct, open_choice, open_choices, bound_form, tie_of, kept_pairs, numbers, cut_gaps, drop_nil, at_zero, live_gap, live, drop_free, has_free, lower_of, thin, thin_gap, has_gap, begun, turns_form, loop_of, walk_of, walk_cut, walk_form, allowed, are_nil, turns_in}
 use Rattle.chart_term.specs.Properties.{Each, EachTurn, MayHave}
 use Rattle.chart_term.specs.TermPatterns.{instances_of, earlier}
-use Rattle.chart_term.specs.Terms.{TermEvent, Block, hits, Tree, Nil, Event, Join, Choice, Bound, Turns, Trail, Trees, none, more, Row, ends, gap, turn, items, trees, Part, Gap, Turn, parts, row_of, ◌∪◌}
+use Rattle.chart_term.specs.Terms.{TermEvent, Block, hits, Tree, Nil, Event, Join, Choice, Tied, Loop, Walk, Trees, none, more, Row, ends, gap, turn, items, trees, Part, Gap, Turn, parts, row_of, ◌∪◌}
 use Rattle.chart_term.proofs.Looping.{IsSubRow, sub_end, sub_gap, sub_drop, sub_turn, sub_over, sub_nil, sub_zero, sub_live, sub_free}
 use Rattle.chart_term.specs.Spreads.{touch}
 use Rattle.permit_step.specs.Permission.{permit, permit_all, permit_some, permit_row, wider, with_turn}
-use Rattle.permit_step.specs.Taking.{Stays, fewer, down, HasMore, IsAfter, after_event, after_choice, after_join, after_bound, after_turns, after_trail, IsAfterOne, first_one, later_one, IsAfterJoin, first_part, later_part, IsAfterRow, in_turn, in_gap, past_turn, past_gap}
+use Rattle.permit_step.specs.Taking.{Stays, fewer, down, HasMore, IsAfter, after_event, after_choice, after_join, after_tied, after_loop, after_walk, IsAfterOne, first_one, later_one, IsAfterJoin, first_part, later_part, IsAfterRow, in_turn, in_gap, past_turn, past_gap}
 use Rattle.chart_term.specs.Equality.{same_tree}
 
 -- a gap whose block leaves something of the operand
@@ -44,11 +44,11 @@ pub record Kind (k : NetPermits) (P T : Tree → Type 0) (X : Tree → ℕ → O
   pub join_out : (m : Mode) (xs : Trees) → P (Join m xs) → Each P (items xs)
   pub choice_in : (x y : Tree) (xs : List Tree) → P x → P y → Each P xs → P (Choice (trees (x ∷ y ∷ xs)))
   pub choice_out : (xs : Trees) → P (Choice xs) → Each P (items xs)
-  pub bound_out : (x : Tree) (q : List (ℕ × ℕ)) → P (Bound x q) → P x
-  pub bound_in : (x z : Tree) (q : List (ℕ × ℕ)) → P (Bound x q) → D x z → P z → P (Bound z q)
-  pub bound_fewer : (x : Tree) (q : List (ℕ × ℕ)) → P (Bound x q) → P (Bound x (kept_pairs (numbers x) q))
-  pub turns_in : (x : Tree) (lo : ℕ) (hi : Option ℕ) (ps : List Part) → X x lo hi ps → EachTurn T ps → has_gap ps ≡ true → AliveGaps k x ps → P (Turns x lo hi (row_of ps))
-  pub turns_out : (x : Tree) (lo : ℕ) (hi : Option ℕ) (r : Row) → P (Turns x lo hi r) → X x lo hi (parts r) × EachTurn T (parts r)
+  pub bound_out : (x : Tree) (q : List (ℕ × ℕ)) → P (Tied x q) → P x
+  pub bound_in : (x z : Tree) (q : List (ℕ × ℕ)) → P (Tied x q) → D x z → P z → P (Tied z q)
+  pub bound_fewer : (x : Tree) (q : List (ℕ × ℕ)) → P (Tied x q) → P (Tied x (kept_pairs (numbers x) q))
+  pub turns_in : (x : Tree) (lo : ℕ) (hi : Option ℕ) (ps : List Part) → X x lo hi ps → EachTurn T ps → has_gap ps ≡ true → AliveGaps k x ps → P (Loop x lo hi (row_of ps))
+  pub turns_out : (x : Tree) (lo : ℕ) (hi : Option ℕ) (r : Row) → P (Loop x lo hi r) → X x lo hi (parts r) × EachTurn T (parts r)
   pub release : (x : Tree) → T x → P x
   pub turn_permit : (b : Block) (x : Tree) → T x → MayHave P (permit k b x) → MayHave T (permit k b x)
   pub turn_after : (x y : Tree) (e : TermEvent) → T x → IsAfter k x e y → P y → T y
@@ -58,7 +58,7 @@ pub record Kind (k : NetPermits) (P T : Tree → Type 0) (X : Tree → ℕ → O
   pub low : (x : Tree) (lo : ℕ) (hi : Option ℕ) (ps : List Part) (b : Bool) → X x lo hi ps → X x (lower_of b lo) hi ps
   pub wide : (b : Block) (x : Tree) (lo : ℕ) (hi : Option ℕ) (r : Row) (qs : List Part) → permit_row k b r ≡ Some qs → X x lo hi (parts r) → X x lo hi qs
   pub after_row : (x : Tree) (lo : ℕ) (hi : Option ℕ) (r : Row) (qs : List Part) (b : Bool) (e : TermEvent) → IsAfterRow k x b (parts r) e qs → HasMore b hi → X x lo hi (parts r) → X x (down b lo) (fewer b hi) qs
-  pub trail_in : (n : ℕ) (f g : Spot) (t u : Goal) (c d : List ℕ) → P (Trail n f t c) → Begins k n f g → Aims k n t u → Leading k n g u d → P (Trail n g u d)
+  pub trail_in : (n : ℕ) (f g : Spot) (t u : Goal) (c d : List ℕ) → P (Walk n f t c) → Begins k n f g → Aims k n t u → Leading k n g u d → P (Walk n g u d)
   pub permitted : (b : Block) (x z : Tree) → permit k b x ≡ Some z → D x z
   pub taken : (x y z : Tree) (b : Block) (e : TermEvent) → IsAfter k x e y → permit k b y ≡ Some z → D x z
 
@@ -116,15 +116,15 @@ module _ (k : NetPermits) where
 module _ (k : NetPermits) (P T : Tree → Type 0) (X : Tree → ℕ → Option ℕ → List Part → Type 0) (D : Tree → Tree → Type 0) (kind : Kind k P T X D) where
   open_keeps : (m : Mode) (x : Tree) → P x → Each P (open_part m x)
   open_keeps m Nil h = tt
-  open_keeps row (Join row xs) h = kind.join_out row xs h
-  open_keeps row (Join aside xs) h = (h, tt)
-  open_keeps aside (Join row xs) h = (h, tt)
-  open_keeps aside (Join aside xs) h = kind.join_out aside xs h
+  open_keeps seq (Join seq xs) h = kind.join_out seq xs h
+  open_keeps seq (Join par xs) h = (h, tt)
+  open_keeps par (Join seq xs) h = (h, tt)
+  open_keeps par (Join par xs) h = kind.join_out par xs h
   open_keeps m (Event e) h = (h, tt)
   open_keeps m (Choice xs) h = (h, tt)
-  open_keeps m (Bound x q) h = (h, tt)
-  open_keeps m (Turns x lo hi r) h = (h, tt)
-  open_keeps m (Trail n f t c) h = (h, tt)
+  open_keeps m (Tied x q) h = (h, tt)
+  open_keeps m (Loop x lo hi r) h = (h, tt)
+  open_keeps m (Walk n f t c) h = (h, tt)
 
   flat_keeps : (m : Mode) (xs : List Tree) → Each P xs → Each P (flat m xs)
   flat_keeps m [] h = tt
@@ -160,9 +160,9 @@ module _ (k : NetPermits) (P T : Tree → Type 0) (X : Tree → ℕ → Option �
   opened_keeps Nil h = (h, tt)
   opened_keeps (Event e) h = (h, tt)
   opened_keeps (Join m xs) h = (h, tt)
-  opened_keeps (Bound x q) h = (h, tt)
-  opened_keeps (Turns x lo hi r) h = (h, tt)
-  opened_keeps (Trail n f t c) h = (h, tt)
+  opened_keeps (Tied x q) h = (h, tt)
+  opened_keeps (Loop x lo hi r) h = (h, tt)
+  opened_keeps (Walk n f t c) h = (h, tt)
 
   choices_keep : (xs : List Tree) → Each P xs → Each P (open_choices xs)
   choices_keep [] h = tt
@@ -171,11 +171,11 @@ module _ (k : NetPermits) (P T : Tree → Type 0) (X : Tree → ℕ → Option �
   pub choice_keeps : (xs : List Tree) → Each P xs → MayHave P (choice_of xs)
   choice_keeps xs h = alternatives_keep (distinct (open_choices xs)) (distinct_keeps (open_choices xs) (choices_keep xs h))
 
-  tie_keeps : (x : Tree) (q : List (ℕ × ℕ)) → P x → P (Bound x q) → P (bound_form x q)
+  tie_keeps : (x : Tree) (q : List (ℕ × ℕ)) → P x → P (Tied x q) → P (bound_form x q)
   tie_keeps x [] h i = h
   tie_keeps x (p ∷ q) h i = i
 
-  pub tied_keeps : (x : Tree) (q : List (ℕ × ℕ)) → P (Bound x q) → P (bound_of x q)
+  pub tied_keeps : (x : Tree) (q : List (ℕ × ℕ)) → P (Tied x q) → P (tie_of x q)
   tied_keeps x q h = tie_keeps x (kept_pairs (numbers x) q) (kind.bound_out x q h) (kind.bound_fewer x q h)
 
   begun_keeps : (ps : List Part) → EachTurn T ps → Each P (begun ps)
@@ -185,10 +185,10 @@ module _ (k : NetPermits) (P T : Tree → Type 0) (X : Tree → ℕ → Option �
 
   form_keeps : (t : Bool) (x : Tree) (lo : ℕ) (hi : Option ℕ) (ps : List Part) → has_gap ps ≡ t → AliveGaps k x ps → X x lo hi ps → EachTurn T ps → MayHave P (turns_form t x lo hi ps)
   form_keeps true x lo hi ps g a h d = kind.turns_in x lo hi ps h d g a
-  form_keeps false x zero hi ps g a h d = join_keeps row (begun ps) (begun_keeps ps d)
+  form_keeps false x zero hi ps g a h d = join_keeps seq (begun ps) (begun_keeps ps d)
   form_keeps false x (suc lo) hi ps g a h d = tt
 
-  pub turns_keep : (x : Tree) (lo : ℕ) (hi : Option ℕ) (ps : List Part) → X x lo hi ps → EachTurn T ps → MayHave P (turns_of (λ c. permit k (only c) x) (touch k.spread x) x lo hi ps)
+  pub turns_keep : (x : Tree) (lo : ℕ) (hi : Option ℕ) (ps : List Part) → X x lo hi ps → EachTurn T ps → MayHave P (loop_of (λ c. permit k (only c) x) (touch k.spread x) x lo hi ps)
   turns_keep x lo hi ps h d =
       let p : List ℕ → Option Tree = λ c. permit k (only c) x in
       let a0 = cut_gaps (touch k.spread x) ps in
@@ -211,17 +211,17 @@ module _ (k : NetPermits) (P T : Tree → Type 0) (X : Tree → ℕ → Option �
       let d5 = each_turn_sub T (sub_thin a4) d4 in
       form_keeps (has_gap a5) x (lower_of (has_free p a3) lo) hi a5 refl (alive_sub k x (sub_thin a4) (alive_sub k x (sub_free p a3) (alive_live k x a2))) (kind.low x lo hi a5 (has_free p a3) h5) d5
 
-  walk_keeps : (a b : Bool) (n : ℕ) (f : Spot) (t : Goal) (c : List ℕ) → (a ≡ true → P (Trail n f t c)) → MayHave P (walk_form a b (Trail n f t c))
+  walk_keeps : (a b : Bool) (n : ℕ) (f : Spot) (t : Goal) (c : List ℕ) → (a ≡ true → P (Walk n f t c)) → MayHave P (walk_form a b (Walk n f t c))
   walk_keeps false b n f t c h = tt
   walk_keeps true true n f t c h = kind.nil
   walk_keeps true false n f t c h = h refl
 
-  trail_cut_keeps : (n : ℕ) (f g : Spot) (t u : Goal) (c d : List ℕ) → P (Trail n f t c) → Begins k n f g → Aims k n t u → MayHave P (trail_cut k n g u d)
+  trail_cut_keeps : (n : ℕ) (f g : Spot) (t u : Goal) (c d : List ℕ) → P (Walk n f t c) → Begins k n f g → Aims k n t u → MayHave P (walk_cut k n g u d)
   trail_cut_keeps n f g t Any c d h s a = kind.trail_in n f g t Any c d h s a tt
   trail_cut_keeps n f g t (To m) c d h s a = walk_keeps (reach (k.net n) (allowed k n d) g (To m)) (are_nil k n g (To m) d (allowed k n d)) n g (To m) d (λ e. kind.trail_in n f g t (To m) c d h s a e)
   trail_cut_keeps n f g t End c d h s a = walk_keeps (reach (k.net n) (allowed k n d) g End) (are_nil k n g End d (allowed k n d)) n g End d (λ e. kind.trail_in n f g t End c d h s a e)
 
-  trail_keeps : (n : ℕ) (f g : Spot) (t u : Goal) (c d : List ℕ) → P (Trail n f t c) → Begins k n f g → Aims k n t u → MayHave P (trail_of k n g u d)
+  trail_keeps : (n : ℕ) (f g : Spot) (t u : Goal) (c d : List ℕ) → P (Walk n f t c) → Begins k n f g → Aims k n t u → MayHave P (walk_of k n g u d)
   trail_keeps n f g t u c d h s a = trail_cut_keeps n f g t u c (cut (k.spread n) d) h s a
 
   abbrev EachOpt : Option (List Tree) → Type 0
@@ -245,7 +245,7 @@ module _ (k : NetPermits) (P T : Tree → Type 0) (X : Tree → ℕ → Option �
   skip_keeps None xs h i = i
   skip_keeps (Some x) xs h i = (h, i)
 
-  bound_keeps : (x : Tree) (q : List (ℕ × ℕ)) (b : Block) (r : Option Tree) → permit k b x ≡ r → P (Bound x q) → MayHave P r → MayHave P (option_map (λ y. bound_of y q) r)
+  bound_keeps : (x : Tree) (q : List (ℕ × ℕ)) (b : Block) (r : Option Tree) → permit k b x ≡ r → P (Tied x q) → MayHave P r → MayHave P (option_map (λ y. tie_of y q) r)
   bound_keeps x q b None e h i = tt
   bound_keeps x q b (Some z) e h i = tied_keeps z q (kind.bound_in x z q h (kind.permitted b x z e) i)
 
@@ -272,9 +272,9 @@ module _ (k : NetPermits) (P T : Tree → Type 0) (X : Tree → ℕ → Option �
     permit_keeps b (Event e) h = event_keeps (hits b e) e h
     permit_keeps b (Join m xs) h = map_keeps m (permit_all k b xs) (all_keep b xs (kind.join_out m xs h))
     permit_keeps b (Choice xs) h = choice_keeps (permit_some k b xs) (some_keep b xs (kind.choice_out xs h))
-    permit_keeps b (Bound x q) h = bound_keeps x q b (permit k b x) refl h (permit_keeps b x (kind.bound_out x q h))
-    permit_keeps b (Turns x lo hi r) h = let i = kind.turns_out x lo hi r h in in_keeps b x lo hi r (permit_row k b r) refl i.0 (turn_keep b r i.1)
-    permit_keeps b (Trail n f t c) h = trail_keeps n f f t t c (c ∪ b.instances) h as_before as_before
+    permit_keeps b (Tied x q) h = bound_keeps x q b (permit k b x) refl h (permit_keeps b x (kind.bound_out x q h))
+    permit_keeps b (Loop x lo hi r) h = let i = kind.turns_out x lo hi r h in in_keeps b x lo hi r (permit_row k b r) refl i.0 (turn_keep b r i.1)
+    permit_keeps b (Walk n f t c) h = trail_keeps n f f t t c (c ∪ b.instances) h as_before as_before
 
     all_keep : (b : Block) (xs : Trees) → Each P (items xs) → EachOpt (permit_all k b xs)
     all_keep b none h = tt
@@ -296,23 +296,23 @@ module _ (k : NetPermits) (P T : Tree → Type 0) (X : Tree → ℕ → Option �
   turn_some r y e h = rw e at h
 
   stays_keeps : (m : Mode) (e : TermEvent) (x x' : Tree) → P x → Stays k m e x x' → P x'
-  stays_keeps row e x x' h s = at_some (permit k (only (instances_of e).instances) x) x' s (permit_keeps (only (instances_of e).instances) x h)
-  stays_keeps aside e x x' h s = rw s h
+  stays_keeps seq e x x' h s = at_some (permit k (only (instances_of e).instances) x) x' s (permit_keeps (only (instances_of e).instances) x h)
+  stays_keeps par e x x' h s = rw s h
 
   -- where what permission leaves of the node terms has it too
-  module _ (kept : (n m : ℕ) (f : Spot) (t : Goal) (c d : List ℕ) (x : Tree) → P (Trail n f t c) → k.kept n m d ≡ Some x → P x) where
+  module _ (kept : (n m : ℕ) (f : Spot) (t : Goal) (c d : List ℕ) (x : Tree) → P (Walk n f t c) → k.kept n m d ≡ Some x → P x) where
     mutual
       pub after_keeps : {x y : Tree} {e : TermEvent} → IsAfter k x e y → P x → P y
       after_keeps after_event h = kind.nil
       after_keeps (after_choice {xs = xs} a) h = one_keeps a (kind.choice_out xs h)
       after_keeps (after_join {m = m} {xs = xs} {ys = ys} a) h = join_keeps m ys (parts_keep a (kind.join_out m xs h))
-      after_keeps (after_bound {x = x} {y = y} {z = z} {q = q} {e = e} a p) h =
+      after_keeps (after_tied {x = x} {y = y} {z = z} {q = q} {e = e} a p) h =
           tied_keeps z q (kind.bound_in x z q h (kind.taken x y z (earlier q e) e a p) (at_some (permit k (earlier q e) y) z p (permit_keeps (earlier q e) y (after_keeps a (kind.bound_out x q h)))))
-      after_keeps (after_turns {x = x} {z = z} {lo = lo} {hi = hi} {r = r} {e = e} b {ps = ps} a hm p) h =
+      after_keeps (after_loop {x = x} {z = z} {lo = lo} {hi = hi} {r = r} {e = e} b {ps = ps} a hm p) h =
           let i = kind.turns_out x lo hi r h in
           at_some _ z p (turns_keep x (down b lo) (fewer b hi) ps (kind.after_row x lo hi r ps b e a hm i.0) (row_keeps a lo hi (parts r) i.0 i.1))
-      after_keeps (after_trail {n = n} {s = f} {t = t} {c = c} {e = e} m {x = x} {y = y} {u = u} {v = v} p a l1 l2 q r) h =
-          join_keeps row (u ∷ y ∷ v ∷ [])
+      after_keeps (after_walk {n = n} {s = f} {t = t} {c = c} {e = e} m {x = x} {y = y} {u = u} {v = v} p a l1 l2 q r) h =
+          join_keeps seq (u ∷ y ∷ v ∷ [])
           (at_some _ u q (trail_keeps n f f t (To m) c (c ∪ (instances_of e).instances) h as_before (to_node m c x p)), (after_keeps a (kept n m f t c c x h p), (at_some _ v r (trail_keeps n f (At m) t t c c h (at_node m c x p) as_before), tt)))
 
       one_keeps : {xs : Trees} {y : Tree} {e : TermEvent} → IsAfterOne k xs e y → Each P (items xs) → P y

@@ -2,7 +2,7 @@
 use Rattle.std.specs.Prelude.{◌<◌, ◌==◌, true, false, ◌∷◌, ◌≡◌, refl}
 use Rattle.chart_term.specs.Properties.{EveryOf, EveryRow, IsBelow}
 use Rattle.chart_term.specs.Tables.{Tables, NetEntry, net_count}
-use Rattle.chart_term.specs.Terms.{Block, Tree, Nil, Event, Join, Choice, Bound, Turns, Trail, Trees, none, more, Row, ends, gap, turn}
+use Rattle.chart_term.specs.Terms.{Block, Tree, Nil, Event, Join, Choice, Tied, Loop, Walk, Trees, none, more, Row, ends, gap, turn}
 use Rattle.permit_step.specs.LaterTables.{LaterTablesAgree}
 use Rattle.permit_step.specs.Permission.{permit, permits_of}
 use Rattle.permit_step.specs.Soundness.{IsTidyOver, AreTidy, IsTidyRow, NetLacks, IsKnown}
@@ -17,9 +17,9 @@ mutual
   tidy_below w (Event e) h = tt
   tidy_below w (Join m xs) h = tidy_below_all w xs h
   tidy_below w (Choice xs) h = tidy_below_all w xs h
-  tidy_below w (Bound x q) h = tidy_below w x h.0
-  tidy_below w (Turns x lo hi r) h = (tidy_below w x h.0, tidy_below_row w r h.1)
-  tidy_below w (Trail n f t c) h = h
+  tidy_below w (Tied x q) h = tidy_below w x h.0
+  tidy_below w (Loop x lo hi r) h = (tidy_below w x h.0, tidy_below_row w r h.1)
+  tidy_below w (Walk n f t c) h = h
 
   tidy_below_all : (w : Tables) (xs : Trees) → AreTidy (NetLacks w) (IsKnown w) xs → EveryOf (λ e. Unit {0}) (λ m. m < net_count w) xs
   tidy_below_all w none h = tt

@@ -1,16 +1,17 @@
 -- The lists of residual terms are exact.
 use Rattle.std.specs.Prelude.{ℕ, zero, suc, ◌≤◌, Bool, true, false, List, [], ◌∷◌, ◌++◌, ◌≡◌, ◌⊎◌, Option, Some, None, refl}
 use Rattle.std.proofs.Common.{ap, sym, arith, inl, inr}
-use Rattle.msc_base.specs.Patterns.{Mode, row, aside}
-use Rattle.hmsc_graph.specs.Graphs.{Spot, At, Goal, To, End, Any, IsIn}
+use Rattle.msc_base.specs.Patterns.{Mode, seq, par}
+use Rattle.hmsc_graph.specs.Graphs.{Spot, At, Goal, To, End, Any}
+use Rattle.msc_base.specs.Lists.{IsIn}
 use Rattle.hmsc_graph.proofs.Reaching.{reach_sound, reach_whole}
-use Rattle.chart_term.specs.NormalForms.{NetPermits, only, join_all, bound_of, turns_of, trail_of, allowed}
+use Rattle.chart_term.specs.NormalForms.{NetPermits, only, join_all, tie_of, loop_of, walk_of, allowed}
 use Rattle.chart_term.specs.TermPatterns.{instances_of, earlier}
-use Rattle.chart_term.specs.Terms.{TermEvent, ◌∪◌, Tree, Nil, Event, Join, Choice, Bound, Turns, Trail, Trees, none, more, Row, ends, gap, turn, items, Part, Gap, Turn, parts}
+use Rattle.chart_term.specs.Terms.{TermEvent, ◌∪◌, Tree, Nil, Event, Join, Choice, Tied, Loop, Walk, Trees, none, more, Row, ends, gap, turn, items, Part, Gap, Turn, parts}
 use Rattle.permit_step.specs.Listing.{Taken, TakenParts, TakenRow, stay, tied, all_tied, joined, first_taken, behind_one, behind_part, turn_taken, gap_taken, gap_begun, behind_gap, behind_turned, behind_turn, may_begin, turned, all_turned, may_lead, walked, all_walked, node_walked, nodes_walked, listed, listed_parts, listed_all, listed_row, after_list, IsAmong, ListIsExact}
 use Rattle.chart_term.specs.Spreads.{touch}
 use Rattle.permit_step.specs.Permission.{permit, permits_of}
-use Rattle.permit_step.specs.Taking.{Stays, fewer, down, HasMore, Leads, IsAfter, after_event, after_choice, after_join, after_bound, after_turns, after_trail, IsAfterOne, first_one, later_one, IsAfterJoin, first_part, later_part, IsAfterRow, in_turn, in_gap, past_turn, past_gap}
+use Rattle.permit_step.specs.Taking.{Stays, fewer, down, HasMore, Leads, IsAfter, after_event, after_choice, after_join, after_tied, after_loop, after_walk, IsAfterOne, first_one, later_one, IsAfterJoin, first_part, later_part, IsAfterRow, in_turn, in_gap, past_turn, past_gap}
 use Rattle.permit_step.proofs.Ranking.{rank, ranks, row_rank, permit_rank}
 use Rattle.permit_step.proofs.TermSentences.{net_rank, kept_rank}
 use Rattle.permit_step.proofs.TidyTables.{nets_good}
@@ -47,13 +48,13 @@ module _ (k : NetPermits) where
     joined_sound m xs (p ∷ ps) f t (inl e) = moved (Join m xs) (record { event = p.event; term = join_all m p.parts_left }) t e (after_join (f p (inl refl)))
     joined_sound m xs (p ∷ ps) f t (inr h) = joined_sound m xs ps (λ q i. f q (inr i)) t h
 
-    tied_sound : (x : Tree) (q : List (ℕ × ℕ)) (ps : List Taken) → ((p : Taken) → IsAmong p ps → IsAfter k x p.event p.term) → (t : Taken) → IsAmong t (all_tied k q ps) → IsAfter k (Bound x q) t.event t.term
+    tied_sound : (x : Tree) (q : List (ℕ × ℕ)) (ps : List Taken) → ((p : Taken) → IsAmong p ps → IsAfter k x p.event p.term) → (t : Taken) → IsAmong t (all_tied k q ps) → IsAfter k (Tied x q) t.event t.term
     tied_sound x q [] f t h = absurd h
     tied_sound x q (p ∷ ps) f t h = go (permit k (earlier q p.event) p.term) refl h (tied_sound x q ps (λ r i. f r (inr i)) t)
       where
-        go : (r : Option Tree) → permit k (earlier q p.event) p.term ≡ r → IsAmong t (tied r p.event q (all_tied k q ps)) → (IsAmong t (all_tied k q ps) → IsAfter k (Bound x q) t.event t.term) → IsAfter k (Bound x q) t.event t.term
+        go : (r : Option Tree) → permit k (earlier q p.event) p.term ≡ r → IsAmong t (tied r p.event q (all_tied k q ps)) → (IsAmong t (all_tied k q ps) → IsAfter k (Tied x q) t.event t.term) → IsAfter k (Tied x q) t.event t.term
         go None e h i = i h
-        go (Some z) e (inl d) i = moved (Bound x q) (record { event = p.event; term = bound_of z q }) t d (after_bound (f p (inl refl)) e)
+        go (Some z) e (inl d) i = moved (Tied x q) (record { event = p.event; term = tie_of z q }) t d (after_tied (f p (inl refl)) e)
         go (Some z) e (inr h) i = i h
 
     first_sound : (m : Mode) (x : Tree) (xs : Trees) (ps : List Taken) → ((p : Taken) → IsAmong p ps → IsAfter k x p.event p.term) → (t : TakenParts) → IsAmong t (first_taken (items xs) ps) → IsAfterJoin k m (more x xs) t.event t.parts_left
@@ -62,8 +63,8 @@ module _ (k : NetPermits) where
     first_sound m x xs (p ∷ ps) f t (inr h) = first_sound m x xs ps (λ q i. f q (inr i)) t h
 
     stays : (m : Mode) (e : TermEvent) (x y : Tree) → stay k m e x ≡ Some y → Stays k m e x y
-    stays row e x y h = h
-    stays aside e x y h = some_is x y h
+    stays seq e x y h = h
+    stays par e x y h = some_is x y h
       where
         some_is : (x y : Tree) → Some x ≡ Some y → y ≡ x
         some_is x y h = cc
@@ -112,14 +113,14 @@ module _ (k : NetPermits) where
     more_sound true None h = tt
     more_sound false hi h = tt
 
-    turned_sound : (x : Tree) (lo : ℕ) (hi : Option ℕ) (r : Row) (ts : List TakenRow) → ((p : TakenRow) → IsAmong p ts → IsAfterRow k x p.begins (parts r) p.event p.row_left) → (t : Taken) → IsAmong t (all_turned k x lo hi ts) → IsAfter k (Turns x lo hi r) t.event t.term
+    turned_sound : (x : Tree) (lo : ℕ) (hi : Option ℕ) (r : Row) (ts : List TakenRow) → ((p : TakenRow) → IsAmong p ts → IsAfterRow k x p.begins (parts r) p.event p.row_left) → (t : Taken) → IsAmong t (all_turned k x lo hi ts) → IsAfter k (Loop x lo hi r) t.event t.term
     turned_sound x lo hi r [] f t h = absurd h
     turned_sound x lo hi r (p ∷ ts) f t h =
-        go (may_begin p.begins hi) refl (turns_of (λ c. permit k (only c) x) (touch k.spread x) x (down p.begins lo) (fewer p.begins hi) p.row_left) refl h (turned_sound x lo hi r ts (λ q i. f q (inr i)) t)
+        go (may_begin p.begins hi) refl (loop_of (λ c. permit k (only c) x) (touch k.spread x) x (down p.begins lo) (fewer p.begins hi) p.row_left) refl h (turned_sound x lo hi r ts (λ q i. f q (inr i)) t)
       where
-        go : (b : Bool) → may_begin p.begins hi ≡ b → (o : Option Tree) → turns_of (λ c. permit k (only c) x) (touch k.spread x) x (down p.begins lo) (fewer p.begins hi) p.row_left ≡ o → IsAmong t (turned b o p.event (all_turned k x lo hi ts))
-            → (IsAmong t (all_turned k x lo hi ts) → IsAfter k (Turns x lo hi r) t.event t.term) → IsAfter k (Turns x lo hi r) t.event t.term
-        go true m (Some z) e (inl d) i = moved (Turns x lo hi r) (record { event = p.event; term = z }) t d (after_turns p.begins (f p (inl refl)) (more_sound p.begins hi m) e)
+        go : (b : Bool) → may_begin p.begins hi ≡ b → (o : Option Tree) → loop_of (λ c. permit k (only c) x) (touch k.spread x) x (down p.begins lo) (fewer p.begins hi) p.row_left ≡ o → IsAmong t (turned b o p.event (all_turned k x lo hi ts))
+            → (IsAmong t (all_turned k x lo hi ts) → IsAfter k (Loop x lo hi r) t.event t.term) → IsAfter k (Loop x lo hi r) t.event t.term
+        go true m (Some z) e (inl d) i = moved (Loop x lo hi r) (record { event = p.event; term = z }) t d (after_loop p.begins (f p (inl refl)) (more_sound p.begins hi m) e)
         go true m (Some z) e (inr h) i = i h
         go true m None e h i = i h
         go false m o e h i = i h
@@ -129,28 +130,28 @@ module _ (k : NetPermits) where
     lead_sound n f End c h = reach_sound (k.net n) (allowed k n c) f End h
     lead_sound n f (To m) c h = reach_sound (k.net n) (allowed k n c) f (To m) h
 
-    walked_sound : (n : ℕ) (f : Spot) (u : Goal) (c : List ℕ) (m : ℕ) (x : Tree) → k.kept n m c ≡ Some x → (ps : List Taken) → ((p : Taken) → IsAmong p ps → IsAfter k x p.event p.term) → (t : Taken) → IsAmong t (all_walked k n f u c m ps) → IsAfter k (Trail n f u c) t.event t.term
+    walked_sound : (n : ℕ) (f : Spot) (u : Goal) (c : List ℕ) (m : ℕ) (x : Tree) → k.kept n m c ≡ Some x → (ps : List Taken) → ((p : Taken) → IsAmong p ps → IsAfter k x p.event p.term) → (t : Taken) → IsAmong t (all_walked k n f u c m ps) → IsAfter k (Walk n f u c) t.event t.term
     walked_sound n f u c m x d [] q t h = absurd h
     walked_sound n f u c m x d (p ∷ ps) q t h =
-        go (may_lead k n f (To m) (c ∪ (instances_of p.event).instances)) refl (may_lead k n (At m) u c) refl (trail_of k n f (To m) (c ∪ (instances_of p.event).instances)) refl (trail_of k n (At m) u c) refl h
+        go (may_lead k n f (To m) (c ∪ (instances_of p.event).instances)) refl (may_lead k n (At m) u c) refl (walk_of k n f (To m) (c ∪ (instances_of p.event).instances)) refl (walk_of k n (At m) u c) refl h
         (walked_sound n f u c m x d ps (λ r i. q r (inr i)) t)
       where
-        go : (a : Bool) → may_lead k n f (To m) (c ∪ (instances_of p.event).instances) ≡ a → (b : Bool) → may_lead k n (At m) u c ≡ b → (v : Option Tree) → trail_of k n f (To m) (c ∪ (instances_of p.event).instances) ≡ v → (z : Option Tree) → trail_of k n (At m) u c ≡ z
-            → IsAmong t (walked a b v z p (all_walked k n f u c m ps)) → (IsAmong t (all_walked k n f u c m ps) → IsAfter k (Trail n f u c) t.event t.term) → IsAfter k (Trail n f u c) t.event t.term
+        go : (a : Bool) → may_lead k n f (To m) (c ∪ (instances_of p.event).instances) ≡ a → (b : Bool) → may_lead k n (At m) u c ≡ b → (v : Option Tree) → walk_of k n f (To m) (c ∪ (instances_of p.event).instances) ≡ v → (z : Option Tree) → walk_of k n (At m) u c ≡ z
+            → IsAmong t (walked a b v z p (all_walked k n f u c m ps)) → (IsAmong t (all_walked k n f u c m ps) → IsAfter k (Walk n f u c) t.event t.term) → IsAfter k (Walk n f u c) t.event t.term
         go true l1 true l2 (Some v) e1 (Some z) e2 (inl j) i =
-            moved (Trail n f u c) (record { event = p.event; term = join_all row (v ∷ p.term ∷ z ∷ []) }) t j
-            (after_trail m d (q p (inl refl)) (lead_sound n f (To m) (c ∪ (instances_of p.event).instances) l1) (lead_sound n (At m) u c l2) e1 e2)
+            moved (Walk n f u c) (record { event = p.event; term = join_all seq (v ∷ p.term ∷ z ∷ []) }) t j
+            (after_walk m d (q p (inl refl)) (lead_sound n f (To m) (c ∪ (instances_of p.event).instances) l1) (lead_sound n (At m) u c l2) e1 e2)
         go true l1 true l2 (Some v) e1 (Some z) e2 (inr h) i = i h
         go true l1 true l2 (Some v) e1 None e2 h i = i h
         go true l1 true l2 None e1 z e2 h i = i h
         go true l1 false l2 v e1 z e2 h i = i h
         go false l1 b l2 v e1 z e2 h i = i h
 
-    node_sound : (n : ℕ) (f : Spot) (u : Goal) (c : List ℕ) (m : ℕ) (r : Option Tree) → k.kept n m c ≡ r → (t : Taken) → IsAmong t (node_walked k g n f u c m r) → IsAfter k (Trail n f u c) t.event t.term
+    node_sound : (n : ℕ) (f : Spot) (u : Goal) (c : List ℕ) (m : ℕ) (r : Option Tree) → k.kept n m c ≡ r → (t : Taken) → IsAmong t (node_walked k g n f u c m r) → IsAfter k (Walk n f u c) t.event t.term
     node_sound n f u c m None d t h = absurd h
     node_sound n f u c m (Some x) d t h = walked_sound n f u c m x d (g x) (gs x) t h
 
-    nodes_sound : (n : ℕ) (f : Spot) (u : Goal) (c ms : List ℕ) (t : Taken) → IsAmong t (nodes_walked k g n f u c ms) → IsAfter k (Trail n f u c) t.event t.term
+    nodes_sound : (n : ℕ) (f : Spot) (u : Goal) (c ms : List ℕ) (t : Taken) → IsAmong t (nodes_walked k g n f u c ms) → IsAfter k (Walk n f u c) t.event t.term
     nodes_sound n f u c [] t h = absurd h
     nodes_sound n f u c (m ∷ ms) t h = elim (among_app t (node_walked k g n f u c m (k.kept n m c)) (nodes_walked k g n f u c ms) h) [ inl i ↦ node_sound n f u c m (k.kept n m c) refl t i | inr i ↦ nodes_sound n f u c ms t i ]
 
@@ -161,9 +162,9 @@ module _ (k : NetPermits) where
       listed_sound (Event e) t (inr h) = absurd h
       listed_sound (Join m xs) t h = joined_sound m xs (listed_parts k g m xs) (parts_sound m xs) t h
       listed_sound (Choice xs) t h = after_choice (all_sound xs t h)
-      listed_sound (Bound x q) t h = tied_sound x q (listed k g x) (listed_sound x) t h
-      listed_sound (Turns x lo hi r) t h = turned_sound x lo hi r (listed_row k g x r) (row_sound x r) t h
-      listed_sound (Trail n f u c) t h = nodes_sound n f u c (k.nodes n) t h
+      listed_sound (Tied x q) t h = tied_sound x q (listed k g x) (listed_sound x) t h
+      listed_sound (Loop x lo hi r) t h = turned_sound x lo hi r (listed_row k g x r) (row_sound x r) t h
+      listed_sound (Walk n f u c) t h = nodes_sound n f u c (k.nodes n) t h
 
       parts_sound : (m : Mode) (xs : Trees) (t : TakenParts) → IsAmong t (listed_parts k g m xs) → IsAfterJoin k m xs t.event t.parts_left
       parts_sound m none t h = absurd h
@@ -194,18 +195,18 @@ module _ (k : NetPermits) where
   joined_in m e ys (p ∷ ps) (inl d) = inl (ap (λ t. record { event = t.event; term = join_all m t.parts_left }) d)
   joined_in m e ys (p ∷ ps) (inr h) = inr (joined_in m e ys ps h)
 
-  tied_in : (q : List (ℕ × ℕ)) (e : TermEvent) (y z : Tree) → permit k (earlier q e) y ≡ Some z → (ps : List Taken) → IsAmong (record { event = e; term = y }) ps → IsAmong (record { event = e; term = bound_of z q }) (all_tied k q ps)
+  tied_in : (q : List (ℕ × ℕ)) (e : TermEvent) (y z : Tree) → permit k (earlier q e) y ≡ Some z → (ps : List Taken) → IsAmong (record { event = e; term = y }) ps → IsAmong (record { event = e; term = tie_of z q }) (all_tied k q ps)
   tied_in q e y z d [] h = absurd h
   tied_in q e y z d (p ∷ ps) (inl i) = here p i
     where
-      put : (r : Option Tree) → r ≡ Some z → IsAmong (record { event = e; term = bound_of z q }) (tied r e q (all_tied k q ps))
+      put : (r : Option Tree) → r ≡ Some z → IsAmong (record { event = e; term = tie_of z q }) (tied r e q (all_tied k q ps))
       put r s = rw s (inl refl)
 
-      here : (p : Taken) → p ≡ record { event = e; term = y } → IsAmong (record { event = e; term = bound_of z q }) (tied (permit k (earlier q p.event) p.term) p.event q (all_tied k q ps))
+      here : (p : Taken) → p ≡ record { event = e; term = y } → IsAmong (record { event = e; term = tie_of z q }) (tied (permit k (earlier q p.event) p.term) p.event q (all_tied k q ps))
       here p i = rw i (put (permit k (earlier q e) y) d)
   tied_in q e y z d (p ∷ ps) (inr h) = past (permit k (earlier q p.event) p.term) (tied_in q e y z d ps h)
     where
-      past : (r : Option Tree) → IsAmong (record { event = e; term = bound_of z q }) (all_tied k q ps) → IsAmong (record { event = e; term = bound_of z q }) (tied r p.event q (all_tied k q ps))
+      past : (r : Option Tree) → IsAmong (record { event = e; term = tie_of z q }) (all_tied k q ps) → IsAmong (record { event = e; term = tie_of z q }) (tied r p.event q (all_tied k q ps))
       past None i = i
       past (Some x) i = inr i
 
@@ -215,8 +216,8 @@ module _ (k : NetPermits) where
   first_in xs e y (p ∷ ps) (inr h) = inr (first_in xs e y ps h)
 
   stay_is : (m : Mode) (e : TermEvent) (x y : Tree) → Stays k m e x y → stay k m e x ≡ Some y
-  stay_is row e x y h = h
-  stay_is aside e x y h = ap Some (sym h)
+  stay_is seq e x y h = h
+  stay_is par e x y h = ap Some (sym h)
 
   behind_in : (m : Mode) (x x' : Tree) (e : TermEvent) (ys : List Tree) → stay k m e x ≡ Some x' → (ps : List TakenParts) → IsAmong (record { event = e; parts_left = ys }) ps → IsAmong (record { event = e; parts_left = x' ∷ ys }) (behind_part k m x ps)
   behind_in m x x' e ys d [] h = absurd h
@@ -273,7 +274,7 @@ module _ (k : NetPermits) where
   begins true None h = refl
   begins false hi h = refl
 
-  turned_in : (x : Tree) (lo : ℕ) (hi : Option ℕ) (b : Bool) (e : TermEvent) (qs : List Part) (z : Tree) → may_begin b hi ≡ true → turns_of (λ c. permit k (only c) x) (touch k.spread x) x (down b lo) (fewer b hi) qs ≡ Some z → (ts : List TakenRow)
+  turned_in : (x : Tree) (lo : ℕ) (hi : Option ℕ) (b : Bool) (e : TermEvent) (qs : List Part) (z : Tree) → may_begin b hi ≡ true → loop_of (λ c. permit k (only c) x) (touch k.spread x) x (down b lo) (fewer b hi) qs ≡ Some z → (ts : List TakenRow)
       → IsAmong (record { begins = b; event = e; row_left = qs }) ts → IsAmong (record { event = e; term = z }) (all_turned k x lo hi ts)
   turned_in x lo hi b e qs z m d [] h = absurd h
   turned_in x lo hi b e qs z m d (t ∷ ts) (inl i) = here t i
@@ -282,10 +283,10 @@ module _ (k : NetPermits) where
       put a r s u = rw (s, u) (inl refl)
 
       here : (t : TakenRow) → t ≡ record { begins = b; event = e; row_left = qs }
-          → IsAmong (record { event = e; term = z }) (turned (may_begin t.begins hi) (turns_of (λ c. permit k (only c) x) (touch k.spread x) x (down t.begins lo) (fewer t.begins hi) t.row_left) t.event (all_turned k x lo hi ts))
-      here t i = rw i (put (may_begin b hi) (turns_of (λ c. permit k (only c) x) (touch k.spread x) x (down b lo) (fewer b hi) qs) m d)
+          → IsAmong (record { event = e; term = z }) (turned (may_begin t.begins hi) (loop_of (λ c. permit k (only c) x) (touch k.spread x) x (down t.begins lo) (fewer t.begins hi) t.row_left) t.event (all_turned k x lo hi ts))
+      here t i = rw i (put (may_begin b hi) (loop_of (λ c. permit k (only c) x) (touch k.spread x) x (down b lo) (fewer b hi) qs) m d)
   turned_in x lo hi b e qs z m d (t ∷ ts) (inr h) =
-      past (may_begin t.begins hi) (turns_of (λ c. permit k (only c) x) (touch k.spread x) x (down t.begins lo) (fewer t.begins hi) t.row_left) (turned_in x lo hi b e qs z m d ts h)
+      past (may_begin t.begins hi) (loop_of (λ c. permit k (only c) x) (touch k.spread x) x (down t.begins lo) (fewer t.begins hi) t.row_left) (turned_in x lo hi b e qs z m d ts h)
     where
       past : (a : Bool) (r : Option Tree) → IsAmong (record { event = e; term = z }) (all_turned k x lo hi ts) → IsAmong (record { event = e; term = z }) (turned a r t.event (all_turned k x lo hi ts))
       past true None i = i
@@ -298,20 +299,20 @@ module _ (k : NetPermits) where
   lead_is n f (To m) c h = reach_whole (k.net n) (allowed k n c) f (To m) h
 
   walked_in : (n : ℕ) (f : Spot) (t : Goal) (c : List ℕ) (m : ℕ) (e : TermEvent) (y u v : Tree) → may_lead k n f (To m) (c ∪ (instances_of e).instances) ≡ true → may_lead k n (At m) t c ≡ true
-      → trail_of k n f (To m) (c ∪ (instances_of e).instances) ≡ Some u → trail_of k n (At m) t c ≡ Some v → (ps : List Taken) → IsAmong (record { event = e; term = y }) ps → IsAmong (record { event = e; term = join_all row (u ∷ y ∷ v ∷ []) }) (all_walked k n f t c m ps)
+      → walk_of k n f (To m) (c ∪ (instances_of e).instances) ≡ Some u → walk_of k n (At m) t c ≡ Some v → (ps : List Taken) → IsAmong (record { event = e; term = y }) ps → IsAmong (record { event = e; term = join_all seq (u ∷ y ∷ v ∷ []) }) (all_walked k n f t c m ps)
   walked_in n f t c m e y u v l1 l2 d1 d2 [] h = absurd h
   walked_in n f t c m e y u v l1 l2 d1 d2 (p ∷ ps) (inl i) = here p i
     where
-      put : (a b : Bool) (r s : Option Tree) → a ≡ true → b ≡ true → r ≡ Some u → s ≡ Some v → IsAmong (record { event = e; term = join_all row (u ∷ y ∷ v ∷ []) }) (walked a b r s (record { event = e; term = y }) (all_walked k n f t c m ps))
+      put : (a b : Bool) (r s : Option Tree) → a ≡ true → b ≡ true → r ≡ Some u → s ≡ Some v → IsAmong (record { event = e; term = join_all seq (u ∷ y ∷ v ∷ []) }) (walked a b r s (record { event = e; term = y }) (all_walked k n f t c m ps))
       put a b r s i j q w = rw (i, j, q, w) (inl refl)
 
-      here : (p : Taken) → p ≡ record { event = e; term = y } → IsAmong (record { event = e; term = join_all row (u ∷ y ∷ v ∷ []) })
-          (walked (may_lead k n f (To m) (c ∪ (instances_of p.event).instances)) (may_lead k n (At m) t c) (trail_of k n f (To m) (c ∪ (instances_of p.event).instances)) (trail_of k n (At m) t c) p (all_walked k n f t c m ps))
-      here p i = rw i (put (may_lead k n f (To m) (c ∪ (instances_of e).instances)) (may_lead k n (At m) t c) (trail_of k n f (To m) (c ∪ (instances_of e).instances)) (trail_of k n (At m) t c) l1 l2 d1 d2)
+      here : (p : Taken) → p ≡ record { event = e; term = y } → IsAmong (record { event = e; term = join_all seq (u ∷ y ∷ v ∷ []) })
+          (walked (may_lead k n f (To m) (c ∪ (instances_of p.event).instances)) (may_lead k n (At m) t c) (walk_of k n f (To m) (c ∪ (instances_of p.event).instances)) (walk_of k n (At m) t c) p (all_walked k n f t c m ps))
+      here p i = rw i (put (may_lead k n f (To m) (c ∪ (instances_of e).instances)) (may_lead k n (At m) t c) (walk_of k n f (To m) (c ∪ (instances_of e).instances)) (walk_of k n (At m) t c) l1 l2 d1 d2)
   walked_in n f t c m e y u v l1 l2 d1 d2 (p ∷ ps) (inr h) =
-      past (may_lead k n f (To m) (c ∪ (instances_of p.event).instances)) (may_lead k n (At m) t c) (trail_of k n f (To m) (c ∪ (instances_of p.event).instances)) (trail_of k n (At m) t c) (walked_in n f t c m e y u v l1 l2 d1 d2 ps h)
+      past (may_lead k n f (To m) (c ∪ (instances_of p.event).instances)) (may_lead k n (At m) t c) (walk_of k n f (To m) (c ∪ (instances_of p.event).instances)) (walk_of k n (At m) t c) (walked_in n f t c m e y u v l1 l2 d1 d2 ps h)
     where
-      past : (a b : Bool) (r s : Option Tree) → IsAmong (record { event = e; term = join_all row (u ∷ y ∷ v ∷ []) }) (all_walked k n f t c m ps) → IsAmong (record { event = e; term = join_all row (u ∷ y ∷ v ∷ []) }) (walked a b r s p (all_walked k n f t c m ps))
+      past : (a b : Bool) (r s : Option Tree) → IsAmong (record { event = e; term = join_all seq (u ∷ y ∷ v ∷ []) }) (all_walked k n f t c m ps) → IsAmong (record { event = e; term = join_all seq (u ∷ y ∷ v ∷ []) }) (walked a b r s p (all_walked k n f t c m ps))
       past true true (Some r) (Some s) i = inr i
       past true true (Some r) None i = i
       past true true None s i = i
@@ -337,11 +338,11 @@ module _ (k : NetPermits) where
         listed_whole (Event f) y e l after_event = inl refl
         listed_whole (Join m xs) y e l (after_join {ys = ys} a) = joined_in m e ys (listed_parts k g m xs) (parts_whole m xs ys e (omega arith) a)
         listed_whole (Choice xs) y e l (after_choice a) = all_whole xs y e (omega arith) a
-        listed_whole (Bound x q) y e l (after_bound {y = u} {z = z} a p) = tied_in q e u z p (listed k g x) (listed_whole x u e (omega arith) a)
-        listed_whole (Turns x lo hi r) y e l (after_turns b {ps = ps} a h p) = turned_in x lo hi b e ps y (begins b hi h) p (listed_row k g x r) (row_whole x r b ps e (omega arith) (omega arith) a)
-        listed_whole (Trail n f t c) y e l (after_trail m {x = x} {y = u} {u = v} {v = z} p a l1 l2 q r) =
+        listed_whole (Tied x q) y e l (after_tied {y = u} {z = z} a p) = tied_in q e u z p (listed k g x) (listed_whole x u e (omega arith) a)
+        listed_whole (Loop x lo hi r) y e l (after_loop b {ps = ps} a h p) = turned_in x lo hi b e ps y (begins b hi h) p (listed_row k g x r) (row_whole x r b ps e (omega arith) (omega arith) a)
+        listed_whole (Walk n f t c) y e l (after_walk m {x = x} {y = u} {u = v} {v = z} p a l1 l2 q r) =
             let i = kept_rank n m c x p in
-            nodes_in g n f t c (record { event = e; term = join_all row (v ∷ u ∷ z ∷ []) }) m x p
+            nodes_in g n f t c (record { event = e; term = join_all seq (v ∷ u ∷ z ∷ []) }) m x p
             (walked_in n f t c m e u v z (lead_is n f (To m) (c ∪ (instances_of e).instances) l1) (lead_is n (At m) t c l2) q r (g x) (ih x u e (omega arith) a)) (k.nodes n) (known n m c x p)
 
         parts_whole : (m : Mode) (xs : Trees) (ys : List Tree) (e : TermEvent) → ranks nr xs ≤ suc d → IsAfterJoin k m xs e ys → IsAmong (record { event = e; parts_left = ys }) (listed_parts k g m xs)
@@ -374,9 +375,9 @@ module _ (k : NetPermits) where
     no_rank (Event e) l = absurd (omega arith)
     no_rank (Join m xs) l = absurd (omega arith)
     no_rank (Choice xs) l = absurd (omega arith)
-    no_rank (Bound x q) l = absurd (omega arith)
-    no_rank (Turns x lo hi r) l = absurd (omega arith)
-    no_rank (Trail n f t c) l = absurd (omega arith)
+    no_rank (Tied x q) l = absurd (omega arith)
+    no_rank (Loop x lo hi r) l = absurd (omega arith)
+    no_rank (Walk n f t c) l = absurd (omega arith)
 
     pub list_whole : (n : ℕ) (x y : Tree) (e : TermEvent) → rank nr x ≤ n → IsAfter k x e y → IsAmong (record { event = e; term = y }) (after_list n k x)
     list_whole zero x y e l a = absurd (no_rank x l)

@@ -1,14 +1,15 @@
 -- Terms in which every gap, choice and walk leaves something: each has a pattern.
 use Rattle.std.specs.Prelude.{ℕ, zero, suc, ◌≤◌, Bool, true, List, [], ◌∷◌, ◌≡◌, Option, Some, None, refl}
 use Rattle.std.proofs.Common.{ap, arith, inl, inr}
-use Rattle.msc_base.specs.Patterns.{Mode, row, empty, one, join, bind}
-use Rattle.hmsc_graph.specs.Graphs.{Spot, At, Goal, To, End, Any, IsIn, Walk, last, step}
+use Rattle.msc_base.specs.Patterns.{Mode, seq, empty, one, join, bind}
+use Rattle.hmsc_graph.specs.Graphs.{Spot, At, Goal, To, End, Any, WalkThrough, last, step}
+use Rattle.msc_base.specs.Lists.{IsIn}
 use Rattle.hmsc_graph.proofs.Reaching.{reach_sound}
 use Rattle.chart_term.specs.NormalForms.{NetPermits, only, allowed, has_gap, some_kept}
 use Rattle.chart_term.specs.Properties.{Each, EachTurn, MayHave}
-use Rattle.chart_term.specs.TermMeanings.{NetTerms, aim, HasPattern, has_nil, has_event, has_join, has_choice, has_bound, has_turns, has_trail, HasParts, no_part, one_part, HasChoice, this_one, HasRow, gaps_end, gaps_turn, gaps_shut, gaps_more, HasWalk, walk_stop, walk_last, walk_step, terms_of}
+use Rattle.chart_term.specs.TermMeanings.{NetTerms, aim, HasPattern, has_nil, has_event, has_join, has_choice, holds_tie, holds_loop, holds_walk, HasParts, no_part, one_part, HasChoice, this_one, HasRow, gaps_end, gaps_turn, gaps_shut, gaps_more, HasWalk, walk_stop, walk_last, walk_step, terms_of}
 use Rattle.chart_term.specs.TermPatterns.{Shape, Avoids}
-use Rattle.chart_term.specs.Terms.{TermEvent, Block, Tree, Nil, Event, Join, Choice, Bound, Turns, Trail, Trees, none, more, Row, ends, gap, turn, items, trees, Part, Gap, Turn, parts, row_of}
+use Rattle.chart_term.specs.Terms.{TermEvent, Block, Tree, Nil, Event, Join, Choice, Tied, Loop, Walk, Trees, none, more, Row, ends, gap, turn, items, trees, Part, Gap, Turn, parts, row_of}
 use Rattle.chart_term.proofs.Lists.{parts-row_of}
 use Rattle.chart_term.proofs.Walking.{IsExactNet, out_filter}
 use Rattle.permit_step.specs.Permission.{permit}
@@ -23,11 +24,11 @@ pub record IsHeld (k : NetPermits) (node : ℕ → ℕ → Tree) (o : Bool) (IsG
   pub ok : (x : Tree) → IsGood x → IsRegular k node o x
   pub joined : (m : Mode) (x : Tree) (xs : Trees) → IsGood (Join m (more x xs)) → IsGood x × IsGood (Join m xs)
   pub chosen : (x : Tree) (xs : Trees) → IsGood (Choice (more x xs)) → IsGood x × IsGood (Choice xs)
-  pub bound : (x : Tree) (q : List (ℕ × ℕ)) → IsGood (Bound x q) → IsGood x
-  pub operand : (x : Tree) (lo : ℕ) (hi : Option ℕ) (r : Row) → IsGood (Turns x lo hi r) → IsGood x
-  pub begun : (x : Tree) (lo : ℕ) (hi : Option ℕ) (y : Tree) (r : Row) → IsGood (Turns x lo hi r) → IsTurnOf y (parts r) → IsGood y
+  pub tied : (x : Tree) (q : List (ℕ × ℕ)) → IsGood (Tied x q) → IsGood x
+  pub operand : (x : Tree) (lo : ℕ) (hi : Option ℕ) (r : Row) → IsGood (Loop x lo hi r) → IsGood x
+  pub begun : (x : Tree) (lo : ℕ) (hi : Option ℕ) (y : Tree) (r : Row) → IsGood (Loop x lo hi r) → IsTurnOf y (parts r) → IsGood y
   pub permitted : (c : List ℕ) (x y : Tree) → IsGood x → permit k (only c) x ≡ Some y → IsGood y
-  pub kept : (n : ℕ) (f : Spot) (t : Goal) (c d : List ℕ) (m : ℕ) (x : Tree) → IsGood (Trail n f t c) → IsIn m (k.nodes n) → k.kept n m d ≡ Some x → IsGood x
+  pub kept : (n : ℕ) (f : Spot) (t : Goal) (c d : List ℕ) (m : ℕ) (x : Tree) → IsGood (Walk n f t c) → IsIn m (k.nodes n) → k.kept n m d ≡ Some x → IsGood x
 
 module _ (k : NetPermits) (NL : ℕ → Type 0) where
   abbrev pub Some_of : Trees → Type 0
@@ -40,9 +41,9 @@ module _ (k : NetPermits) (NL : ℕ → Type 0) where
     Live (Event e) = Unit {0}
     Live (Join m xs) = LiveAll xs
     Live (Choice xs) = LiveAll xs × Some_of xs
-    Live (Bound x q) = Live x
-    Live (Turns x lo hi r) = Live x × LiveRow r × AliveGaps k x (parts r) × (has_gap (parts r) ≡ true)
-    Live (Trail n f t c) = NL n × Leading k n f t c
+    Live (Tied x q) = Live x
+    Live (Loop x lo hi r) = Live x × LiveRow r × AliveGaps k x (parts r) × (has_gap (parts r) ≡ true)
+    Live (Walk n f t c) = NL n × Leading k n f t c
 
     pub LiveAll : Trees → Type 0
     LiveAll none = Unit {0}
@@ -150,17 +151,17 @@ module _ (k : NetPermits) (NL : ℕ → Type 0) where
 
       fill : (x : Tree) (c : List ℕ) (ps : List Part) → (s : Shape) × HasPattern w true x s × Avoids (only c) s → (n : ℕ) → RowHas x ps zero → RowHas x (Gap c ∷ ps) n
       fill x c ps a zero r = (r.0, gaps_shut r.1)
-      fill x c ps a (suc n) r = let i = fill x c ps a n r in (join row a.0 i.0, gaps_more a.1 a.2 i.1)
+      fill x c ps a (suc n) r = let i = fill x c ps a n r in (join seq a.0 i.0, gaps_more a.1 a.2 i.1)
 
       turns_have : (x : Tree) (ps : List Part) → ((y : Tree) → IsTurnOf y ps → Has y) → RowHas x ps zero
       turns_have x [] f = (empty, gaps_end)
       turns_have x (Gap c ∷ ps) f = let i = turns_have x ps f in (i.0, gaps_shut i.1)
-      turns_have x (Turn y ∷ ps) f = let i = f y (inl refl) in let j = turns_have x ps (λ z p. f z (inr p)) in (join row i.0 j.0, gaps_turn i.1 j.1)
+      turns_have x (Turn y ∷ ps) f = let i = f y (inl refl) in let j = turns_have x ps (λ z p. f z (inr p)) in (join seq i.0 j.0, gaps_turn i.1 j.1)
 
       rows_have : (x : Tree) (ps : List Part) → IsGood x → AliveGaps k x ps → has_gap ps ≡ true → ((c : List ℕ) (y : Tree) → permit k (only c) x ≡ Some y → Has y) → ((y : Tree) → IsTurnOf y ps → Has y) → (n : ℕ) → RowHas x ps n
       rows_have x [] g a h f t n = cc
       rows_have x (Gap c ∷ ps) g a h f t n = fill x c ps (through x c g a.0 (f c)) n (turns_have x ps t)
-      rows_have x (Turn y ∷ ps) g a h f t n = let i = t y (inl refl) in let j = rows_have x ps g a h f (λ z p. t z (inr p)) n in (join row i.0 j.0, gaps_turn i.1 j.1)
+      rows_have x (Turn y ∷ ps) g a h f t n = let i = t y (inl refl) in let j = rows_have x ps g a h f (λ z p. t z (inr p)) n in (join seq i.0 j.0, gaps_turn i.1 j.1)
 
       turn_rank : (r : Row) (y : Tree) → IsTurnOf y (parts r) → rank nr y ≤ row_rank nr r
       turn_rank ends y h = absurd h
@@ -178,7 +179,7 @@ module _ (k : NetPermits) (NL : ℕ → Type 0) where
       kept_some None h = cc
       kept_some (Some y) h = (y, refl)
 
-      walk_has : (n : ℕ) → IsExactNet k node true n → (c : List ℕ) → ((m : ℕ) (y : Tree) → IsIn m (k.nodes n) → k.kept n m c ≡ Some y → Has y) → (f : Spot) (t : Goal) → aim t ≡ t → Walk (k.net n) (allowed k n c) f t → (s : Shape) × HasWalk w true n f t c s
+      walk_has : (n : ℕ) → IsExactNet k node true n → (c : List ℕ) → ((m : ℕ) (y : Tree) → IsIn m (k.nodes n) → k.kept n m c ≡ Some y → Has y) → (f : Spot) (t : Goal) → aim t ≡ t → WalkThrough (k.net n) (allowed k n c) f t → (s : Shape) × HasWalk w true n f t c s
       walk_has n fine c g f t e (last m i a) = (empty, walk_last m i (rw e a))
       walk_has n fine c g f t e (step m i j v) =
           let r = out_filter (λ m. some_kept (k.kept n m c)) (k.nodes n) m j in
@@ -187,7 +188,7 @@ module _ (k : NetPermits) (NL : ℕ → Type 0) where
           let p = g m y.0 r.0 y.1 in
           let q = f1 p.0 p.1 in
           let z = walk_has n fine c g (At m) t e v in
-          (join row q.0 z.0, walk_step m i q.1.0 q.1.1 z.1)
+          (join seq q.0 z.0, walk_step m i q.1.0 q.1.1 z.1)
 
       trail_has : (n : ℕ) (f : Spot) (t : Goal) (c : List ℕ) → IsExactNet k node true n → Leading k n f t c → ((m : ℕ) (y : Tree) → IsIn m (k.nodes n) → k.kept n m c ≡ Some y → Has y) → (s : Shape) × HasWalk w true n f t c s
       trail_has n f Any c fine l g = (empty, walk_stop tt)
@@ -199,25 +200,25 @@ module _ (k : NetPermits) (NL : ℕ → Type 0) where
       next n ih (Event e) l g h = (one e, has_event)
       next n ih (Join m xs) l g h = let i = all_have n ih m xs (omega arith) g h in (i.0, has_join i.1)
       next n ih (Choice xs) l g h = let i = one_has n ih xs (omega arith) g h.0 h.1 in (i.0, has_choice i.1)
-      next n ih (Bound x q) l g h = let i = ih x (omega arith) (closed.bound x q g) h in (bind i.0 q, has_bound i.1)
-      next n ih (Turns x lo hi r) l g h =
+      next n ih (Tied x q) l g h = let i = ih x (omega arith) (closed.tied x q g) h in (bind i.0 q, holds_tie i.1)
+      next n ih (Loop x lo hi r) l g h =
           let gx = closed.operand x lo hi r g in
           let i = rows_have x (parts r) gx h.2 h.3
           (λ c y e. let p = permit_rank (only c) x y e in ih y (omega arith) (closed.permitted c x y gx e) (at_some (permit k (only c) x) y e (permit_live (only c) x h.0)))
           (λ y i. let p = turn_rank r y i in ih y (omega arith) (closed.begun x lo hi y r g i) (turn_live (parts r) (live_row_out r h.1) y i)) lo in
-          (i.0, has_turns lo i.1 (omega arith) ((closed.ok (Turns x lo hi r) g).2))
-      next n ih (Trail j f t c) l g h =
-          let i = trail_has j f t c (closed.ok (Trail j f t c) g) h.1 (λ m y q e. let p = kept_rank j m c y e in ih y (omega arith) (closed.kept j f t c c m y g q e) (nets j m c y h.0 e)) in
-          (i.0, has_trail i.1)
+          (i.0, holds_loop lo i.1 (omega arith) ((closed.ok (Loop x lo hi r) g).2))
+      next n ih (Walk j f t c) l g h =
+          let i = trail_has j f t c (closed.ok (Walk j f t c) g) h.1 (λ m y q e. let p = kept_rank j m c y e in ih y (omega arith) (closed.kept j f t c c m y g q e) (nets j m c y h.0 e)) in
+          (i.0, holds_walk i.1)
 
       start : Claim zero
       start Nil l g h = absurd (omega arith)
       start (Event e) l g h = absurd (omega arith)
       start (Join m xs) l g h = absurd (omega arith)
       start (Choice xs) l g h = absurd (omega arith)
-      start (Bound x q) l g h = absurd (omega arith)
-      start (Turns x lo hi r) l g h = absurd (omega arith)
-      start (Trail n f t c) l g h = absurd (omega arith)
+      start (Tied x q) l g h = absurd (omega arith)
+      start (Loop x lo hi r) l g h = absurd (omega arith)
+      start (Walk n f t c) l g h = absurd (omega arith)
 
       claim : (n : ℕ) → Claim n
       claim zero x l g h = start x l g h

@@ -2,12 +2,12 @@
 use Rattle.std.specs.Option.{option_map}
 use Rattle.std.specs.Prelude.{ℕ, zero, suc, ◌+◌, ◌<◌, ◌≤◌, Bool, true, false, List, [], ◌∷◌, ◌≡◌, ◌||◌, ◌&&◌, Option, Some, None, refl, length, take, drop, slice_get}
 use Rattle.std.proofs.Common.{ap, sym, ◌∙◌, subst, add-one, arith, cond}
-use Rattle.chart_term.specs.NormalForms.{NetPermits, only, cut, is_nil, some_kept, turns_of}
+use Rattle.chart_term.specs.NormalForms.{NetPermits, only, cut, is_nil, some_kept, loop_of}
 use Rattle.chart_term.specs.Properties.{EachGap}
 use Rattle.chart_term.specs.Spreads.{touch, spread_of}
 use Rattle.chart_term.specs.Tables.{Tables}
 use Rattle.chart_term.specs.TermPatterns.{instances_of}
-use Rattle.chart_term.specs.Terms.{TermEvent, has, Tree, Turns, Part, Gap, Turn, parts, row_of, ◌∪◌}
+use Rattle.chart_term.specs.Terms.{TermEvent, has, Tree, Loop, Part, Gap, Turn, parts, row_of, ◌∪◌}
 use Rattle.chart_term.specs.Views.{event_of}
 use Rattle.chart_term.proofs.Lists.{parts-row_of}
 use Rattle.permit_step.specs.Children.{RowLeft, turn_first, gap_first, row_left, where_so, loop_left, put}
@@ -175,12 +175,12 @@ module _ (w : Tables) (t : Taken) (taken : IsTaken t) (x : Tree) (lo : ℕ) (hi 
   shut_loop h None e = refl
   shut_loop h (Some r) e =
       let b : r.begins ≡ is_gap u = begins_is (permits_of w) (event_of t.event) ps i u y r there e in
-      λ j. where_so ((ap (λ s. may_begin s hi) b ∙ h) j) (turns_of (λ c. permit (permits_of w) (only c) x) (touch (permits_of w).spread x) x (down r.begins lo) (fewer r.begins hi) r.row_parts)
+      λ j. where_so ((ap (λ s. may_begin s hi) b ∙ h) j) (loop_of (λ c. permit (permits_of w) (only c) x) (touch (permits_of w).spread x) x (down r.begins lo) (fewer r.begins hi) r.row_parts)
 
-  put_loop : put (permits_of w) (event_of t.event) (Turns x lo hi (row_of ps)) i y ≡ loop_left (permits_of w) x lo hi (row_left (permits_of w) (event_of t.event) ps i y)
+  put_loop : put (permits_of w) (event_of t.event) (Loop x lo hi (row_of ps)) i y ≡ loop_left (permits_of w) x lo hi (row_left (permits_of w) (event_of t.event) ps i y)
   put_loop = ap (λ l. loop_left (permits_of w) x lo hi (row_left (permits_of w) (event_of t.event) l i y)) (parts-row_of ps)
 
-  pub loop-shut : may_begin (is_gap u) hi ≡ false → put (permits_of w) (event_of t.event) (Turns x lo hi (row_of ps)) i y ≡ None
+  pub loop-shut : may_begin (is_gap u) hi ≡ false → put (permits_of w) (event_of t.event) (Loop x lo hi (row_of ps)) i y ≡ None
   loop-shut h = put_loop ∙ shut_loop h (row_left (permits_of w) (event_of t.event) ps i y) refl
 
   module _ (allof d : List ℕ) (alike : (n : ℕ) → has allof n ≡ has (touch (spread_of w) x) n) (narrow : d ≡ cut allof t.at.instances) (may : may_begin (is_gap u) hi ≡ true) (n m : ℕ) (counts : (kept_count ps i ≡ n) × (tail_place ps i ≡ m)) where
@@ -200,11 +200,11 @@ module _ (w : Tables) (t : Taken) (taken : IsTaken t) (x : Tree) (lo : ℕ) (hi 
     some_left r (Some s) e h =
         let b : s.begins ≡ is_gap u = begins_is (permits_of w) (event_of t.event) ps i u y s there e in
         let f : rest_of (λ c. permit (permits_of w) (only c) x) (touch (permits_of w).spread x) (fewer (is_gap u) hi) s.row_parts ≡ r = cc in
-        (λ j. where_so ((ap (λ v. may_begin v hi) b ∙ may) j) (turns_of (λ c. permit (permits_of w) (only c) x) (touch (permits_of w).spread x) x (down (b j) lo) (fewer (b j) hi) s.row_parts))
+        (λ j. where_so ((ap (λ v. may_begin v hi) b ∙ may) j) (loop_of (λ c. permit (permits_of w) (only c) x) (touch (permits_of w).spread x) x (down (b j) lo) (fewer (b j) hi) s.row_parts))
         ∙ (turns-rest (λ c. permit (permits_of w) (only c) x) (touch (permits_of w).spread x) x (down (is_gap u) lo) (fewer (is_gap u) hi) s.row_parts ∙ ap (rest_end x (down (is_gap u) lo) (fewer (is_gap u) hi)) f)
 
-    pub loop-none : sides d n m ≡ None → put (permits_of w) (event_of t.event) (Turns x lo hi (row_of ps)) i y ≡ None
+    pub loop-none : sides d n m ≡ None → put (permits_of w) (event_of t.event) (Loop x lo hi (row_of ps)) i y ≡ None
     loop-none h = put_loop ∙ none_left (row_left (permits_of w) (event_of t.event) ps i y) (sym sides_are ∙ h)
 
-    pub loop-some : (r : RowRest) → sides d n m ≡ Some r → put (permits_of w) (event_of t.event) (Turns x lo hi (row_of ps)) i y ≡ rest_end x (down (is_gap u) lo) (fewer (is_gap u) hi) r
+    pub loop-some : (r : RowRest) → sides d n m ≡ Some r → put (permits_of w) (event_of t.event) (Loop x lo hi (row_of ps)) i y ≡ rest_end x (down (is_gap u) lo) (fewer (is_gap u) hi) r
     loop-some r h = put_loop ∙ some_left r (row_left (permits_of w) (event_of t.event) ps i y) refl (sym sides_are ∙ h)

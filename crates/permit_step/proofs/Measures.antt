@@ -1,9 +1,9 @@
 -- By what permission falls: the rank of a term over the tables.
 use Rattle.std.specs.Prelude.{ℕ, zero, suc, ◌+◌, ◌<◌, ◌≤◌, List, [], ◌∷◌, ◌≡◌, Option, Some, refl, slice_get}
 use Rattle.std.proofs.Common.{ap, arith}
-use Rattle.msc_base.specs.Patterns.{Mode, row, aside}
+use Rattle.msc_base.specs.Patterns.{Mode, seq, par}
 use Rattle.chart_term.specs.Tables.{Tables}
-use Rattle.chart_term.specs.Terms.{Tree, Join, Choice, Bound, Turns, trees, Part, Gap, Turn, row_of}
+use Rattle.chart_term.specs.Terms.{Tree, Join, Choice, Tied, Loop, trees, Part, Gap, Turn, row_of}
 use Rattle.permit_step.proofs.Ranking.{rank, ranks, row_rank}
 use Rattle.permit_step.proofs.TermSentences.{net_rank}
 
@@ -37,23 +37,23 @@ rank-join w m xs = ap (λ n. 1 + n) (ranks-trees w xs)
 pub rank-choice : (w : Tables) (xs : List Tree) → rank_in w (Choice (trees xs)) ≡ 1 + rank_all w xs
 rank-choice w xs = ap (λ n. 1 + n) (ranks-trees w xs)
 
-pub rank-turns : (w : Tables) (x : Tree) (lo : ℕ) (hi : Option ℕ) (ps : List Part) → rank_in w (Turns x lo hi (row_of ps)) ≡ 1 + rank_in w x + rank_row w ps
+pub rank-turns : (w : Tables) (x : Tree) (lo : ℕ) (hi : Option ℕ) (ps : List Part) → rank_in w (Loop x lo hi (row_of ps)) ≡ 1 + rank_in w x + rank_row w ps
 rank-turns w x lo hi ps = ap (λ n. 1 + rank_in w x + n) (row_rank-row_of w ps)
 
 -- for the terms that a look shows
-pub rank-then : (w : Tables) (x : Tree) (xs : List Tree) → x ≡ Join row (trees xs) → rank_all w xs < rank_in w x
-rank-then w x xs e = rw e (omega (arith, rank-join w row xs))
+pub rank-seq : (w : Tables) (x : Tree) (xs : List Tree) → x ≡ Join seq (trees xs) → rank_all w xs < rank_in w x
+rank-seq w x xs e = rw e (omega (arith, rank-join w seq xs))
 
-pub rank-beside : (w : Tables) (x : Tree) (xs : List Tree) → x ≡ Join aside (trees xs) → rank_all w xs < rank_in w x
-rank-beside w x xs e = rw e (omega (arith, rank-join w aside xs))
+pub rank-par : (w : Tables) (x : Tree) (xs : List Tree) → x ≡ Join par (trees xs) → rank_all w xs < rank_in w x
+rank-par w x xs e = rw e (omega (arith, rank-join w par xs))
 
 pub rank-some : (w : Tables) (x : Tree) (xs : List Tree) → x ≡ Choice (trees xs) → rank_all w xs < rank_in w x
 rank-some w x xs e = rw e (omega (arith, rank-choice w xs))
 
-pub rank-bound : (w : Tables) (x y : Tree) (q : List (ℕ × ℕ)) → x ≡ Bound y q → rank_in w y < rank_in w x
-rank-bound w x y q e = rw e (omega arith)
+pub rank-tied : (w : Tables) (x y : Tree) (q : List (ℕ × ℕ)) → x ≡ Tied y q → rank_in w y < rank_in w x
+rank-tied w x y q e = rw e (omega arith)
 
-pub rank-loop : (w : Tables) (x y : Tree) (lo : ℕ) (hi : Option ℕ) (ps : List Part) → x ≡ Turns y lo hi (row_of ps) → rank_in w y + rank_row w ps < rank_in w x
+pub rank-loop : (w : Tables) (x y : Tree) (lo : ℕ) (hi : Option ℕ) (ps : List Part) → x ≡ Loop y lo hi (row_of ps) → rank_in w y + rank_row w ps < rank_in w x
 rank-loop w x y lo hi ps e = rw e (omega (arith, rank-turns w y lo hi ps))
 
 pub rank-at : (w : Tables) (xs : List Tree) (i : ℕ) (x : Tree) → slice_get xs i ≡ Some x → rank_in w x ≤ rank_all w xs

@@ -6,12 +6,12 @@ use Rattle.std.proofs.Common.{ap, ap₂, subst, ◌∙◌, sym, arith, cond}
 use Rattle.std.proofs.lemmas.Bool.{eq-eqb, eqb-true}
 use Rattle.std.proofs.lemmas.Bool.Decides.{nat_tests}
 use Rattle.std.proofs.lemmas.List.Folds.{list_any-append}
-use Rattle.msc_base.specs.Blocks.{BlockValue}
+use Rattle.bit_sets.specs.Blocks.{BlockValue}
 use Rattle.chart_term.specs.declared.facts.Span.{Span}
-use Rattle.chart_term.specs.Facts.{has_trail, any_trail, row_trail, instances, instances_all, instances_row, misses, span_of, lies_in, wider as wider_span}
-use Rattle.chart_term.specs.NormalForms.{NetPermits, only, cut, join_all, and_then, or_skip, unless, choice_of, bound_of, cut_gaps, drop_nil, at_zero, live, has_free, drop_free, lower_of, thin, turns_end, turns_in, numbers, numbers_all, numbers_row}
+use Rattle.chart_term.specs.Facts.{holds_walk, any_walk, row_walk, instances, instances_all, instances_row, misses, span_of, lies_in, wider as wider_span}
+use Rattle.chart_term.specs.NormalForms.{NetPermits, only, cut, join_all, and_then, or_skip, unless, choice_of, tie_of, cut_gaps, drop_nil, at_zero, live, has_free, drop_free, lower_of, thin, turns_end, turns_in, numbers, numbers_all, numbers_row}
 use Rattle.chart_term.specs.TermPatterns.{instances_of, some_list}
-use Rattle.chart_term.specs.Terms.{Block, TermEvent, has, has_some, hits, add_at, add_member, ◌∪◌, Tree, Nil, Event, Join, Choice, Bound, Turns, Trail, Trees, none, more, Row, ends, gap, turn, items, Part, Gap, Turn, parts}
+use Rattle.chart_term.specs.Terms.{Block, TermEvent, has, has_some, hits, add_at, add_member, ◌∪◌, Tree, Nil, Event, Join, Choice, Tied, Loop, Walk, Trees, none, more, Row, ends, gap, turn, items, Part, Gap, Turn, parts}
 use Rattle.permit_step.specs.Missed.{PermitOfMissed}
 use Rattle.permit_step.specs.Normality.{IsNormal, AreNormal, IsNormalRow}
 use Rattle.chart_term.specs.Spreads.{touch, touch_all, touch_row}
@@ -89,34 +89,34 @@ cut_widened all d (Turn x ∷ ps) h = ap (λ l. Turn x ∷ l) (cut_widened all d
 
 -- without a walk a term touches the instances of its events
 mutual
-  touch_same : (k : ℕ → List ℕ) (x : Tree) → has_trail x ≡ false → touch k x ≡ instances x
+  touch_same : (k : ℕ → List ℕ) (x : Tree) → holds_walk x ≡ false → touch k x ≡ instances x
   touch_same k Nil h = refl
   touch_same k (Event e) h = refl
   touch_same k (Join m xs) h = touch_same_all k xs h
   touch_same k (Choice xs) h = touch_same_all k xs h
-  touch_same k (Bound x q) h = touch_same k x h
-  touch_same k (Turns x lo hi r) h = let (a, b) = or_parts (has_trail x) (row_trail r) h in λ i. touch_same k x a i ++ touch_same_row k r b i
-  touch_same k (Trail n f t c) h = cc
+  touch_same k (Tied x q) h = touch_same k x h
+  touch_same k (Loop x lo hi r) h = let (a, b) = or_parts (holds_walk x) (row_walk r) h in λ i. touch_same k x a i ++ touch_same_row k r b i
+  touch_same k (Walk n f t c) h = cc
 
-  touch_same_all : (k : ℕ → List ℕ) (xs : Trees) → any_trail xs ≡ false → touch_all k xs ≡ instances_all xs
+  touch_same_all : (k : ℕ → List ℕ) (xs : Trees) → any_walk xs ≡ false → touch_all k xs ≡ instances_all xs
   touch_same_all k none h = refl
-  touch_same_all k (more x xs) h = let (a, b) = or_parts (has_trail x) (any_trail xs) h in λ i. touch_same k x a i ++ touch_same_all k xs b i
+  touch_same_all k (more x xs) h = let (a, b) = or_parts (holds_walk x) (any_walk xs) h in λ i. touch_same k x a i ++ touch_same_all k xs b i
 
-  touch_same_row : (k : ℕ → List ℕ) (r : Row) → row_trail r ≡ false → touch_row k r ≡ instances_row r
+  touch_same_row : (k : ℕ → List ℕ) (r : Row) → row_walk r ≡ false → touch_row k r ≡ instances_row r
   touch_same_row k ends h = refl
   touch_same_row k (gap c r) h = touch_same_row k r h
-  touch_same_row k (turn x r) h = let (a, b) = or_parts (has_trail x) (row_trail r) h in λ i. touch_same k x a i ++ touch_same_row k r b i
+  touch_same_row k (turn x r) h = let (a, b) = or_parts (holds_walk x) (row_walk r) h in λ i. touch_same k x a i ++ touch_same_row k r b i
 
 module _ (k : NetPermits) (b : Block) where
   mutual
-    missed_same : (x : Tree) → IsNormal k x → has_trail x ≡ false → IsApart b.instances (instances x) → IsApart b.numbers (numbers x) → permit k b x ≡ Some x
+    missed_same : (x : Tree) → IsNormal k x → holds_walk x ≡ false → IsApart b.instances (instances x) → IsApart b.numbers (numbers x) → permit k b x ≡ Some x
     missed_same Nil h w p q = refl
     missed_same (Event e) h w p q = ap (λ t. unless t (Event e)) (event_missed b e p q)
     missed_same (Join m xs) h w p q = ap (option_map (join_all m)) (missed_all xs h.0 w p q) ∙ ap Some (join_same m xs h.1 h.2)
     missed_same (Choice xs) h w p q = ap choice_of (missed_some xs h.0 w p q) ∙ choice_same xs h.1 h.2 h.3
-    missed_same (Bound x t) h w p q = ap (option_map (λ y. bound_of y t)) (missed_same x h.0 w p q) ∙ ap Some (bound_same x t h.1 h.2 h.3)
-    missed_same (Turns x lo hi r) h w p q =
-        let (u, v) = or_parts (has_trail x) (row_trail r) w in
+    missed_same (Tied x t) h w p q = ap (option_map (λ y. tie_of y t)) (missed_same x h.0 w p q) ∙ ap Some (bound_same x t h.1 h.2 h.3)
+    missed_same (Loop x lo hi r) h w p q =
+        let (u, v) = or_parts (holds_walk x) (row_walk r) w in
         let (c, d) = apart_parts b.instances (instances x) (instances_row r) p in
         let (e, f) = apart_parts b.numbers (numbers x) (numbers_row r) q in
         let all : List ℕ = touch k.spread x in
@@ -124,29 +124,29 @@ module _ (k : NetPermits) (b : Block) where
         let cuts : cut_gaps all (widened b.instances (parts r)) ≡ cut_gaps all (parts r) = cut_widened all b.instances (parts r) (subst (IsApart b.instances) (sym (touch_same k.spread x u)) c) in
         ap (turns_in left all x lo hi) (missed_row r h.1 v d f)
         ∙ (ap (λ l. let qs = live left (at_zero hi (drop_nil l)) in turns_end x (lower_of (has_free left qs) lo) hi (thin (drop_free left qs))) cuts ∙ turns_same k x lo hi r h.2)
-    missed_same (Trail n f t c) h w p q = cc
+    missed_same (Walk n f t c) h w p q = cc
 
-    missed_all : (xs : Trees) → AreNormal k xs → any_trail xs ≡ false → IsApart b.instances (instances_all xs) → IsApart b.numbers (numbers_all xs) → permit_all k b xs ≡ Some (items xs)
+    missed_all : (xs : Trees) → AreNormal k xs → any_walk xs ≡ false → IsApart b.instances (instances_all xs) → IsApart b.numbers (numbers_all xs) → permit_all k b xs ≡ Some (items xs)
     missed_all none h w p q = refl
     missed_all (more x xs) h w p q =
-        let (u, v) = or_parts (has_trail x) (any_trail xs) w in
+        let (u, v) = or_parts (holds_walk x) (any_walk xs) w in
         let (c, d) = apart_parts b.instances (instances x) (instances_all xs) p in
         let (e, f) = apart_parts b.numbers (numbers x) (numbers_all xs) q in
         λ i. and_then (missed_same x h.0 u c e i) (missed_all xs h.1 v d f i)
 
-    missed_some : (xs : Trees) → AreNormal k xs → any_trail xs ≡ false → IsApart b.instances (instances_all xs) → IsApart b.numbers (numbers_all xs) → permit_some k b xs ≡ items xs
+    missed_some : (xs : Trees) → AreNormal k xs → any_walk xs ≡ false → IsApart b.instances (instances_all xs) → IsApart b.numbers (numbers_all xs) → permit_some k b xs ≡ items xs
     missed_some none h w p q = refl
     missed_some (more x xs) h w p q =
-        let (u, v) = or_parts (has_trail x) (any_trail xs) w in
+        let (u, v) = or_parts (holds_walk x) (any_walk xs) w in
         let (c, d) = apart_parts b.instances (instances x) (instances_all xs) p in
         let (e, f) = apart_parts b.numbers (numbers x) (numbers_all xs) q in
         λ i. or_skip (missed_same x h.0 u c e i) (missed_some xs h.1 v d f i)
 
-    missed_row : (r : Row) → IsNormalRow k r → row_trail r ≡ false → IsApart b.instances (instances_row r) → IsApart b.numbers (numbers_row r) → permit_row k b r ≡ Some (widened b.instances (parts r))
+    missed_row : (r : Row) → IsNormalRow k r → row_walk r ≡ false → IsApart b.instances (instances_row r) → IsApart b.numbers (numbers_row r) → permit_row k b r ≡ Some (widened b.instances (parts r))
     missed_row ends h w p q = refl
     missed_row (gap c r) h w p q = ap (λ o. wider c o b.instances) (missed_row r h w p q)
     missed_row (turn x r) h w p q =
-        let (u, v) = or_parts (has_trail x) (row_trail r) w in
+        let (u, v) = or_parts (holds_walk x) (row_walk r) w in
         let (c, d) = apart_parts b.instances (instances x) (instances_row r) p in
         let (e, f) = apart_parts b.numbers (numbers x) (numbers_row r) q in
         λ i. with_turn (missed_same x h.0 u c e i) (missed_row r h.1 v d f i)
@@ -199,9 +199,9 @@ apart_lies (m ∷ ms) ns h = let (a, b) = or_parts (lies_in (span_of ns) m) (lis
 -- permission by a block that misses a term in normal form gives the term back
 pub permit-misses : (k : NetPermits) (b : BlockValue) (x : Tree) → IsNormal k x → misses b x ≡ true → permit k (block_of b) x ≡ Some x
 permit-misses k b x h m =
-    let (front, last) = and_parts (not (has_trail x) && not (list_any (has (instances x)) b.instances)) (not (list_any (lies_in (span_of (numbers x))) b.events)) m in
-    let (walk, places) = and_parts (not (has_trail x)) (not (list_any (has (instances x)) b.instances)) front in
-    missed_same k (block_of b) x h (not_true (has_trail x) walk) (apart_any b.instances (instances x) (not_true (list_any (has (instances x)) b.instances) places)) (apart_lies b.events (numbers x) (not_true (list_any (lies_in (span_of (numbers x))) b.events) last))
+    let (prefix, last) = and_parts (not (holds_walk x) && not (list_any (has (instances x)) b.instances)) (not (list_any (lies_in (span_of (numbers x))) b.events)) m in
+    let (walk, places) = and_parts (not (holds_walk x)) (not (list_any (has (instances x)) b.instances)) prefix in
+    missed_same k (block_of b) x h (not_true (holds_walk x) walk) (apart_any b.instances (instances x) (not_true (list_any (has (instances x)) b.instances) places)) (apart_lies b.events (numbers x) (not_true (list_any (lies_in (span_of (numbers x))) b.events) last))
 
 pub permit_of_missed : PermitOfMissed
 permit_of_missed = record { same = λ w b x h m. permit-misses (permits_of w) b x h m }

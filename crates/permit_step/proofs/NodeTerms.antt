@@ -6,7 +6,7 @@ use Rattle.hmsc_graph.specs.Nets.{size_of}
 use Rattle.chart_term.specs.NormalForms.{only}
 use Rattle.chart_term.specs.Properties.{Each, IsBelow, EveryOf, EveryRow}
 use Rattle.chart_term.specs.Tables.{Tables, NetEntry, net_count, choose, count_from, nth_tree, node_of, net_of, nodes_of}
-use Rattle.chart_term.specs.Terms.{Block, Tree, Nil, Event, Join, Choice, Bound, Turns, Trail, Trees, none, more, Row, ends, gap, turn}
+use Rattle.chart_term.specs.Terms.{Block, Tree, Nil, Event, Join, Choice, Tied, Loop, Walk, Trees, none, more, Row, ends, gap, turn}
 use Rattle.permit_step.specs.Permission.{permit, permit_nth, permits_of}
 use Rattle.permit_step.specs.Ready.{IsSpotWithin, IsGoalWithin, IsWithin, AreWithin, IsRowWithin, IsReady, AreReadyTables}
 use Rattle.permit_step.proofs.Agreeing.{same_permit}
@@ -22,9 +22,9 @@ mutual
   below w (Event e) h = tt
   below w (Join m xs) h = below_all w xs h
   below w (Choice xs) h = below_all w xs h
-  below w (Bound x q) h = below w x h
-  below w (Turns x lo hi r) h = (below w x h.0, below_row w r h.1)
-  below w (Trail n f t c) h = h.0
+  below w (Tied x q) h = below w x h
+  below w (Loop x lo hi r) h = (below w x h.0, below_row w r h.1)
+  below w (Walk n f t c) h = h.0
 
   below_all : (w : Tables) (xs : Trees) → AreWithin w xs → EveryOf (λ e. Unit {0}) (λ m. m < net_count w) xs
   below_all w none h = tt
@@ -52,9 +52,9 @@ module _ (e : NetEntry) (es : Tables) where
     up_within (Event g) h = tt
     up_within (Join m xs) h = up_all xs h
     up_within (Choice xs) h = up_all xs h
-    up_within (Bound x q) h = up_within x h
-    up_within (Turns x lo hi r) h = (up_within x h.0, up_row r h.1)
-    up_within (Trail n f t c) h = (omega (arith, h.0), up_spot n f h.0 h.1, up_goal n t h.0 h.2)
+    up_within (Tied x q) h = up_within x h
+    up_within (Loop x lo hi r) h = (up_within x h.0, up_row r h.1)
+    up_within (Walk n f t c) h = (omega (arith, h.0), up_spot n f h.0 h.1, up_goal n t h.0 h.2)
 
     up_all : (xs : Trees) → AreWithin es xs → AreWithin (e ∷ es) xs
     up_all none h = tt

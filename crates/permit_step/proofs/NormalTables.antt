@@ -6,7 +6,7 @@ use Rattle.chart_term.specs.Properties.{IsBelow, EachGap}
 use Rattle.chart_term.specs.Tables.{Tables, NetEntry, net_count, choose, node_of, terms_over}
 use Rattle.chart_term.specs.TermMeanings.{HasPattern}
 use Rattle.chart_term.specs.TermPatterns.{Shape}
-use Rattle.chart_term.specs.Terms.{Tree, Nil, Event, Join, Choice, Bound, Turns, Trail, Trees, none, more, Row, ends, gap, turn, Part, Gap, Turn, parts}
+use Rattle.chart_term.specs.Terms.{Tree, Nil, Event, Join, Choice, Tied, Loop, Walk, Trees, none, more, Row, ends, gap, turn, Part, Gap, Turn, parts}
 use Rattle.permit_step.specs.Normality.{AreNormal, IsNormalRow, IsNormalOver, AreNormalTables, IsLeading}
 use Rattle.permit_step.specs.Permission.{permit, permit_nth, permits_of}
 use Rattle.permit_step.specs.Soundness.{AreTidyTables, IsTidyOver, NetLacks, IsKnown}
@@ -62,9 +62,9 @@ module _ (w : Tables) where
     live (Join m xs) h = live_all xs h.0
     live (Choice none) h = absurd h.2
     live (Choice (more x xs)) h = (live_all (more x xs) h.0, tt)
-    live (Bound x q) h = live x h.0
-    live (Turns x lo hi r) h = (live x h.0, live_row r h.1, alive x (parts r) h.2.leaves, h.2.some)
-    live (Trail n f t c) h = (tt, leads n f t c h.leads)
+    live (Tied x q) h = live x h.0
+    live (Loop x lo hi r) h = (live x h.0, live_row r h.1, alive x (parts r) h.2.leaves, h.2.some)
+    live (Walk n f t c) h = (tt, leads n f t c h.leads)
 
     live_all : (xs : Trees) → AreNormal (permits_of w) xs → LiveAll (permits_of w) (λ n. Unit {0}) xs
     live_all none h = tt
@@ -78,7 +78,7 @@ module _ (w : Tables) where
   tidy_held : AreTidyTables w → IsHeld (permits_of w) (node_of w) true (IsTidyOver w)
   tidy_held h =
       let c = closed (permits_of w) (node_of w) true (NetLacks w) (IsKnown w) (nets_good true w h) in
-      record { ok = c.ok; joined = c.joined; chosen = c.chosen; bound = c.bound; operand = c.operand; begun = c.begun; permitted = c.permitted; kept = c.kept }
+      record { ok = c.ok; joined = c.joined; chosen = c.chosen; tied = c.tied; operand = c.operand; begun = c.begun; permitted = c.permitted; kept = c.kept }
 
   -- every tidy term in normal form has a pattern, walks under way included
   pub some_pattern : AreTidyTables w → AreNormalTables w → (x : Tree) → IsTidyOver w x → IsNormalOver w x → (s : Shape) × HasPattern (terms_over w) true x s

@@ -3,19 +3,19 @@ use Rattle.std.specs.Prelude.{ℕ, zero, suc, ◌<◌, Bool, true, false, ltb, L
 use Rattle.std.specs.Option.{option_map}
 use Rattle.std.proofs.Common.{ap, ◌∙◌, arith, cond}
 use Rattle.std.proofs.lemmas.Bool.Decides.{nat_tests}
-use Rattle.msc_base.specs.Patterns.{Mode, row, aside}
+use Rattle.msc_base.specs.Patterns.{Mode, seq, par}
 use Rattle.hmsc_graph.specs.Graphs.{Spot, At, Goal, To, End, Any, reach}
 use Rattle.chart_term.specs.Equality.{same_tree}
-use Rattle.chart_term.specs.NormalForms.{NetPermits, only, cut, open_part, flat, join_of, join_all, and_then, or_skip, unless, choice_of, choice_form, unless_same, without, distinct, open_choice, open_choices, unless_pair, without_pair, with_pair, kept_pairs, bound_form, bound_of, numbers, cut_gaps, put_turn, drop_nil, only_turns, at_zero, live_gap, live, is_nil, has_free, free_gap, drop_free, lower_of, thin_gap, thin, has_gap, begun, turns_form, turns_of, turns_in, some_kept, trail_of, trail_cut, walk_form, allowed, are_nil}
+use Rattle.chart_term.specs.NormalForms.{NetPermits, only, cut, open_part, flat, join_of, join_all, and_then, or_skip, unless, choice_of, choice_form, unless_same, without, distinct, open_choice, open_choices, unless_pair, without_pair, with_pair, kept_pairs, bound_form, tie_of, numbers, cut_gaps, put_turn, drop_nil, only_turns, at_zero, live_gap, live, is_nil, has_free, free_gap, drop_free, lower_of, thin_gap, thin, has_gap, begun, turns_form, loop_of, turns_in, some_kept, walk_of, walk_cut, walk_form, allowed, are_nil}
 use Rattle.chart_term.specs.Properties.{Each, EachTurn, EachGap, MayHave}
 use Rattle.chart_term.specs.TermPatterns.{instances_of, earlier, pairs}
-use Rattle.chart_term.specs.Terms.{TermEvent, Block, has, hits, add_at, add_member, ◌∪◌, Tree, Nil, Event, Join, Choice, Bound, Turns, Trail, Trees, none, more, Row, ends, gap, turn, items, trees, Part, Gap, Turn, parts, row_of}
+use Rattle.chart_term.specs.Terms.{TermEvent, Block, has, hits, add_at, add_member, ◌∪◌, Tree, Nil, Event, Join, Choice, Tied, Loop, Walk, Trees, none, more, Row, ends, gap, turn, items, trees, Part, Gap, Turn, parts, row_of}
 use Rattle.chart_term.proofs.Lists.{items-trees, parts-row_of}
 use Rattle.chart_term.proofs.Looping.{IsSubRow, sub_end, sub_gap, sub_drop, sub_turn, sub_over, sub_nil, sub_zero, sub_live, sub_free}
 use Rattle.permit_step.specs.Normality.{IsAbove, IsSet, IsPartOf, IsAlternative, AreDifferent, AreShown, ArePairsOnce, IsPositive, IsNotNil, AreApart, IsNormalLoop, IsNormalWalk, IsNormal, AreNormal, IsNormalRow}
 use Rattle.chart_term.specs.Spreads.{touch}
 use Rattle.permit_step.specs.Permission.{permit, permit_all, permit_some, permit_row, wider, with_turn}
-use Rattle.permit_step.specs.Taking.{Stays, fewer, down, IsAfter, after_event, after_choice, after_join, after_bound, after_turns, after_trail, IsAfterOne, first_one, later_one, IsAfterJoin, first_part, later_part, IsAfterRow, in_turn, in_gap, past_turn, past_gap}
+use Rattle.permit_step.specs.Taking.{Stays, fewer, down, IsAfter, after_event, after_choice, after_join, after_tied, after_loop, after_walk, IsAfterOne, first_one, later_one, IsAfterJoin, first_part, later_part, IsAfterRow, in_turn, in_gap, past_turn, past_gap}
 use Rattle.permit_step.proofs.Keeping.{sub_thin, each_app, each_turn_sub, each_turn_cut}
 
 -- Sets
@@ -117,9 +117,9 @@ put_not_nil Nil ps h = h
 put_not_nil (Event e) ps h = (refl, h)
 put_not_nil (Join m xs) ps h = (refl, h)
 put_not_nil (Choice xs) ps h = (refl, h)
-put_not_nil (Bound x q) ps h = (refl, h)
-put_not_nil (Turns x lo hi r) ps h = (refl, h)
-put_not_nil (Trail n f t c) ps h = (refl, h)
+put_not_nil (Tied x q) ps h = (refl, h)
+put_not_nil (Loop x lo hi r) ps h = (refl, h)
+put_not_nil (Walk n f t c) ps h = (refl, h)
 
 not_nil : (ps : List Part) → EachTurn IsNotNil (drop_nil ps)
 not_nil [] = tt
@@ -285,27 +285,27 @@ module _ (k : NetPermits) where
   -- joins
   open_normal : (m : Mode) (x : Tree) → IsNormal k x → Each (IsNormal k) (open_part m x)
   open_normal m Nil h = tt
-  open_normal row (Join row xs) h = normal_out xs h.0
-  open_normal row (Join aside xs) h = (h, tt)
-  open_normal aside (Join row xs) h = (h, tt)
-  open_normal aside (Join aside xs) h = normal_out xs h.0
+  open_normal seq (Join seq xs) h = normal_out xs h.0
+  open_normal seq (Join par xs) h = (h, tt)
+  open_normal par (Join seq xs) h = (h, tt)
+  open_normal par (Join par xs) h = normal_out xs h.0
   open_normal m (Event e) h = (h, tt)
   open_normal m (Choice xs) h = (h, tt)
-  open_normal m (Bound x q) h = (h, tt)
-  open_normal m (Turns x lo hi r) h = (h, tt)
-  open_normal m (Trail n f t c) h = (h, tt)
+  open_normal m (Tied x q) h = (h, tt)
+  open_normal m (Loop x lo hi r) h = (h, tt)
+  open_normal m (Walk n f t c) h = (h, tt)
 
   open_parts : (m : Mode) (x : Tree) → IsNormal k x → Each (IsPartOf m) (open_part m x)
   open_parts m Nil h = tt
-  open_parts row (Join row xs) h = h.1
-  open_parts row (Join aside xs) h = (tt, tt)
-  open_parts aside (Join row xs) h = (tt, tt)
-  open_parts aside (Join aside xs) h = h.1
+  open_parts seq (Join seq xs) h = h.1
+  open_parts seq (Join par xs) h = (tt, tt)
+  open_parts par (Join seq xs) h = (tt, tt)
+  open_parts par (Join par xs) h = h.1
   open_parts m (Event e) h = (tt, tt)
   open_parts m (Choice xs) h = (tt, tt)
-  open_parts m (Bound x q) h = (tt, tt)
-  open_parts m (Turns x lo hi r) h = (tt, tt)
-  open_parts m (Trail n f t c) h = (tt, tt)
+  open_parts m (Tied x q) h = (tt, tt)
+  open_parts m (Loop x lo hi r) h = (tt, tt)
+  open_parts m (Walk n f t c) h = (tt, tt)
 
   flat_normal : (m : Mode) (xs : List Tree) → Each (IsNormal k) xs → Each (IsNormal k) (flat m xs)
   flat_normal m [] h = tt
@@ -329,18 +329,18 @@ module _ (k : NetPermits) where
   opened_normal Nil h = (h, tt)
   opened_normal (Event e) h = (h, tt)
   opened_normal (Join m xs) h = (h, tt)
-  opened_normal (Bound x q) h = (h, tt)
-  opened_normal (Turns x lo hi r) h = (h, tt)
-  opened_normal (Trail n f t c) h = (h, tt)
+  opened_normal (Tied x q) h = (h, tt)
+  opened_normal (Loop x lo hi r) h = (h, tt)
+  opened_normal (Walk n f t c) h = (h, tt)
 
   opened_parts : (x : Tree) → IsNormal k x → Each IsAlternative (open_choice x)
   opened_parts (Choice xs) h = h.1
   opened_parts Nil h = (tt, tt)
   opened_parts (Event e) h = (tt, tt)
   opened_parts (Join m xs) h = (tt, tt)
-  opened_parts (Bound x q) h = (tt, tt)
-  opened_parts (Turns x lo hi r) h = (tt, tt)
-  opened_parts (Trail n f t c) h = (tt, tt)
+  opened_parts (Tied x q) h = (tt, tt)
+  opened_parts (Loop x lo hi r) h = (tt, tt)
+  opened_parts (Walk n f t c) h = (tt, tt)
 
   choices_normal : (xs : List Tree) → Each (IsNormal k) xs → Each (IsNormal k) (open_choices xs)
   choices_normal [] h = tt
@@ -364,7 +364,7 @@ module _ (k : NetPermits) where
   tie_normal x [] h i o = h
   tie_normal x (p ∷ q) h i o = (h, tt, i, o)
 
-  pub bound_normal : (x : Tree) (q : List (ℕ × ℕ)) → IsNormal k x → IsNormal k (bound_of x q)
+  pub bound_normal : (x : Tree) (q : List (ℕ × ℕ)) → IsNormal k x → IsNormal k (tie_of x q)
   bound_normal x q h = tie_normal x (kept_pairs (numbers x) q) h (kept_shown (numbers x) q) (kept_once (numbers x) q)
 
   -- loops
@@ -378,10 +378,10 @@ module _ (k : NetPermits) where
 
   turn_form : (t : Bool) (x : Tree) (lo : ℕ) (hi : Option ℕ) (ps : List Part) → has_gap ps ≡ t → IsNormal k x → EachTurn (IsNormal k) ps → (has_gap ps ≡ true → IsNormalLoop k x hi ps) → MayHave (IsNormal k) (turns_form t x lo hi ps)
   turn_form true x lo hi ps g h d f = (h, normal_row_in ps d, loop_same x hi ps (f g))
-  turn_form false x zero hi ps g h d f = join_normal row (begun ps) (begun_normal ps d)
+  turn_form false x zero hi ps g h d f = join_normal seq (begun ps) (begun_normal ps d)
   turn_form false x (suc lo) hi ps g h d f = tt
 
-  pub turns_normal : (x : Tree) (lo : ℕ) (hi : Option ℕ) (ps : List Part) → IsNormal k x → EachTurn (IsNormal k) ps → EachGap IsSet ps → MayHave (IsNormal k) (turns_of (λ c. permit k (only c) x) (touch k.spread x) x lo hi ps)
+  pub turns_normal : (x : Tree) (lo : ℕ) (hi : Option ℕ) (ps : List Part) → IsNormal k x → EachTurn (IsNormal k) ps → EachGap IsSet ps → MayHave (IsNormal k) (loop_of (λ c. permit k (only c) x) (touch k.spread x) x lo hi ps)
   turns_normal x lo hi ps h d g =
       let p : List ℕ → Option Tree = λ c. permit k (only c) x in
       let a0 = cut_gaps (touch k.spread x) ps in
@@ -411,17 +411,17 @@ module _ (k : NetPermits) where
       })
 
   -- walks
-  leading : (a b : Bool) (n : ℕ) (f : Spot) (t : Goal) (c : List ℕ) → ((a ≡ true) → (b ≡ false) → IsNormalWalk k n f t c) → MayHave (IsNormal k) (walk_form a b (Trail n f t c))
+  leading : (a b : Bool) (n : ℕ) (f : Spot) (t : Goal) (c : List ℕ) → ((a ≡ true) → (b ≡ false) → IsNormalWalk k n f t c) → MayHave (IsNormal k) (walk_form a b (Walk n f t c))
   leading false b n f t c h = tt
   leading true true n f t c h = tt
   leading true false n f t c h = h refl refl
 
-  cut_normal : (n : ℕ) (f : Spot) (t : Goal) (c : List ℕ) → IsSet c → cut (k.spread n) c ≡ c → MayHave (IsNormal k) (trail_cut k n f t c)
+  cut_normal : (n : ℕ) (f : Spot) (t : Goal) (c : List ℕ) → IsSet c → cut (k.spread n) c ≡ c → MayHave (IsNormal k) (walk_cut k n f t c)
   cut_normal n f Any c h e = record { set = h; cuts = e; leads = tt }
   cut_normal n f (To m) c h e = leading (reach (k.net n) (allowed k n c) f (To m)) (are_nil k n f (To m) c (allowed k n c)) n f (To m) c (λ a b. record { set = h; cuts = e; leads = (a, b) })
   cut_normal n f End c h e = leading (reach (k.net n) (allowed k n c) f End) (are_nil k n f End c (allowed k n c)) n f End c (λ a b. record { set = h; cuts = e; leads = (a, b) })
 
-  pub trail_normal : (n : ℕ) (f : Spot) (t : Goal) (c : List ℕ) → IsSet c → MayHave (IsNormal k) (trail_of k n f t c)
+  pub trail_normal : (n : ℕ) (f : Spot) (t : Goal) (c : List ℕ) → IsSet c → MayHave (IsNormal k) (walk_of k n f t c)
   trail_normal n f t c h = cut_normal n f t (cut (k.spread n) c) (cut_set (k.spread n) c h) (cut_again (k.spread n) c)
 
   -- permission
@@ -441,7 +441,7 @@ module _ (k : NetPermits) where
   map_normal m None h = tt
   map_normal m (Some xs) h = join_normal m xs h
 
-  tied_normal : (q : List (ℕ × ℕ)) (r : Option Tree) → MayHave (IsNormal k) r → MayHave (IsNormal k) (option_map (λ y. bound_of y q) r)
+  tied_normal : (q : List (ℕ × ℕ)) (r : Option Tree) → MayHave (IsNormal k) r → MayHave (IsNormal k) (option_map (λ y. tie_of y q) r)
   tied_normal q None h = tt
   tied_normal q (Some y) h = bound_normal y q h
 
@@ -473,9 +473,9 @@ module _ (k : NetPermits) where
     permit_normal b (Event e) h = event_normal (hits b e) e
     permit_normal b (Join m xs) h = map_normal m (permit_all k b xs) (all_normal b xs h.0)
     permit_normal b (Choice xs) h = choice_normal (permit_some k b xs) (some_normal b xs h.0)
-    permit_normal b (Bound x q) h = tied_normal q (permit k b x) (permit_normal b x h.0)
-    permit_normal b (Turns x lo hi r) h = in_normal x lo hi (permit_row k b r) h.0 (row_normal b r h.1 h.2.sets)
-    permit_normal b (Trail n f t c) h = trail_normal n f t (c ∪ b.instances) (union_set c b.instances h.set)
+    permit_normal b (Tied x q) h = tied_normal q (permit k b x) (permit_normal b x h.0)
+    permit_normal b (Loop x lo hi r) h = in_normal x lo hi (permit_row k b r) h.0 (row_normal b r h.1 h.2.sets)
+    permit_normal b (Walk n f t c) h = trail_normal n f t (c ∪ b.instances) (union_set c b.instances h.set)
 
     all_normal : (b : Block) (xs : Trees) → AreNormal k xs → MayAll (permit_all k b xs)
     all_normal b none h = tt
@@ -495,8 +495,8 @@ module _ (k : NetPermits) where
 
   -- taking out
   stays_normal : (m : Mode) (e : TermEvent) (x x' : Tree) → IsNormal k x → Stays k m e x x' → IsNormal k x'
-  stays_normal row e x x' h s = at_some (permit k (only (instances_of e).instances) x) x' s (permit_normal (only (instances_of e).instances) x h)
-  stays_normal aside e x x' h s = rw s h
+  stays_normal seq e x x' h s = at_some (permit k (only (instances_of e).instances) x) x' s (permit_normal (only (instances_of e).instances) x h)
+  stays_normal par e x x' h s = rw s h
 
   module _ (nets : (n m : ℕ) (d : List ℕ) (x : Tree) → k.kept n m d ≡ Some x → IsNormal k x) where
     mutual
@@ -504,14 +504,14 @@ module _ (k : NetPermits) where
       after_normal after_event h = tt
       after_normal (after_choice {xs = xs} a) h = one_normal a (normal_out xs h.0)
       after_normal (after_join {m = m} {xs = xs} {ys = ys} a) h = join_normal m ys (parts_normal a (normal_out xs h.0))
-      after_normal (after_bound {x = x} {y = y} {z = z} {q = q} {e = e} a p) h = bound_normal z q (at_some (permit k (earlier q e) y) z p (permit_normal (earlier q e) y (after_normal a h.0)))
-      after_normal (after_turns {x = x} {z = z} {lo = lo} {hi = hi} {r = r} {e = e} b {ps = ps} a hm p) h =
+      after_normal (after_tied {x = x} {y = y} {z = z} {q = q} {e = e} a p) h = bound_normal z q (at_some (permit k (earlier q e) y) z p (permit_normal (earlier q e) y (after_normal a h.0)))
+      after_normal (after_loop {x = x} {z = z} {lo = lo} {hi = hi} {r = r} {e = e} b {ps = ps} a hm p) h =
           let i = row_left a h.0 (normal_row_out r h.1) h.2.sets in
-          at_some (turns_of (λ c. permit k (only c) x) (touch k.spread x) x (down b lo) (fewer b hi) ps) z p (turns_normal x (down b lo) (fewer b hi) ps h.0 i.0 i.1)
-      after_normal (after_trail {n = n} {s = f} {t = t} {c = c} {e = e} m {x = x} {y = y} {u = u} {v = v} p a l1 l2 q r) h =
-          join_normal row (u ∷ y ∷ v ∷ []) (
-            at_some (trail_of k n f (To m) (c ∪ (instances_of e).instances)) u q (trail_normal n f (To m) (c ∪ (instances_of e).instances) (union_set c (instances_of e).instances h.set)),
-            (after_normal a (nets n m c x p), (at_some (trail_of k n (At m) t c) v r (trail_normal n (At m) t c h.set), tt)),
+          at_some (loop_of (λ c. permit k (only c) x) (touch k.spread x) x (down b lo) (fewer b hi) ps) z p (turns_normal x (down b lo) (fewer b hi) ps h.0 i.0 i.1)
+      after_normal (after_walk {n = n} {s = f} {t = t} {c = c} {e = e} m {x = x} {y = y} {u = u} {v = v} p a l1 l2 q r) h =
+          join_normal seq (u ∷ y ∷ v ∷ []) (
+            at_some (walk_of k n f (To m) (c ∪ (instances_of e).instances)) u q (trail_normal n f (To m) (c ∪ (instances_of e).instances) (union_set c (instances_of e).instances h.set)),
+            (after_normal a (nets n m c x p), (at_some (walk_of k n (At m) t c) v r (trail_normal n (At m) t c h.set), tt)),
           )
 
       one_normal : {xs : Trees} {y : Tree} {e : TermEvent} → IsAfterOne k xs e y → Each (IsNormal k) (items xs) → IsNormal k y

@@ -2,14 +2,14 @@
 use Rattle.std.specs.Option.{option_map}
 use Rattle.std.specs.Prelude.{ℕ, ◌≢◌, Bool, true, false, List, [], ◌∷◌, ◌++◌, ◌≡◌, ◌⊎◌, Option, Some, None}
 use Rattle.std.proofs.Common.{inl, inr}
-use Rattle.msc_base.specs.Patterns.{Mode, row, aside}
-use Rattle.chart_term.specs.NormalForms.{NetPermits, only, open_part, flat, join_of, join_all, and_then, or_skip, unless, open_choice, open_choices, distinct, choice_form, choice_of, bound_form, bound_of, kept_pairs, numbers}
+use Rattle.msc_base.specs.Patterns.{Mode, seq, par}
+use Rattle.chart_term.specs.NormalForms.{NetPermits, only, open_part, flat, join_of, join_all, and_then, or_skip, unless, open_choice, open_choices, distinct, choice_form, choice_of, bound_form, tie_of, kept_pairs, numbers}
 use Rattle.chart_term.specs.Properties.{Each, MayHave, EveryOf, EveryRow}
 use Rattle.chart_term.specs.TermPatterns.{instances_of, earlier}
-use Rattle.chart_term.specs.Terms.{TermEvent, Block, hits, Tree, Nil, Event, Join, Choice, Bound, Turns, Trail, Trees, none, more, items, trees}
+use Rattle.chart_term.specs.Terms.{TermEvent, Block, hits, Tree, Nil, Event, Join, Choice, Tied, Loop, Walk, Trees, none, more, items, trees}
 use Rattle.permit_step.specs.Permission.{permit, permit_all, permit_some}
 use Rattle.permit_step.specs.Soundness.{Lacks}
-use Rattle.permit_step.specs.Taking.{Stays, IsAfter, after_event, after_choice, after_join, after_bound, after_turns, after_trail, IsAfterOne, first_one, later_one, IsAfterJoin, first_part, later_part}
+use Rattle.permit_step.specs.Taking.{Stays, IsAfter, after_event, after_choice, after_join, after_tied, after_loop, after_walk, IsAfterOne, first_one, later_one, IsAfterJoin, first_part, later_part}
 use Rattle.permit_step.proofs.Everywhere.{every_out, permit_every, after_every}
 use Rattle.permit_step.proofs.Keeping.{each_app}
 use Rattle.permit_step.proofs.Normalising.{each_distinct}
@@ -28,9 +28,9 @@ module _ (NL : ℕ → ℕ → Type 0) (j : ℕ) where
     Once (Event e) = Unit {0}
     Once (Join m xs) = OnceAll xs
     Once (Choice xs) = OnceEach xs
-    Once (Bound x q) = Once x
-    Once (Turns x lo hi r) = Free x × EveryRow (λ e. e.number ≢ j) (NL j) r
-    Once (Trail n f t c) = NL j n
+    Once (Tied x q) = Once x
+    Once (Loop x lo hi r) = Free x × EveryRow (λ e. e.number ≢ j) (NL j) r
+    Once (Walk n f t c) = NL j n
 
     pub OnceAll : Trees → Type 0
     OnceAll none = Unit {0}
@@ -50,9 +50,9 @@ module _ (NL : ℕ → ℕ → Type 0) (j : ℕ) where
     free_once (Event e) h = tt
     free_once (Join m xs) h = free_once_all xs h
     free_once (Choice xs) h = free_once_each xs h
-    free_once (Bound x q) h = free_once x h
-    free_once (Turns x lo hi r) h = h
-    free_once (Trail n f t c) h = h
+    free_once (Tied x q) h = free_once x h
+    free_once (Loop x lo hi r) h = h
+    free_once (Walk n f t c) h = h
 
     free_once_all : (xs : Trees) → FreeAll xs → OnceAll xs
     free_once_all none h = tt
@@ -100,27 +100,27 @@ module _ (NL : ℕ → ℕ → Type 0) (j : ℕ) where
 
   open_free : (m : Mode) (x : Tree) → Free x → Each Free (open_part m x)
   open_free m Nil h = tt
-  open_free row (Join row xs) h = free_out xs h
-  open_free row (Join aside xs) h = (h, tt)
-  open_free aside (Join row xs) h = (h, tt)
-  open_free aside (Join aside xs) h = free_out xs h
+  open_free seq (Join seq xs) h = free_out xs h
+  open_free seq (Join par xs) h = (h, tt)
+  open_free par (Join seq xs) h = (h, tt)
+  open_free par (Join par xs) h = free_out xs h
   open_free m (Event e) h = (h, tt)
   open_free m (Choice xs) h = (h, tt)
-  open_free m (Bound x q) h = (h, tt)
-  open_free m (Turns x lo hi r) h = (h, tt)
-  open_free m (Trail n f t c) h = (h, tt)
+  open_free m (Tied x q) h = (h, tt)
+  open_free m (Loop x lo hi r) h = (h, tt)
+  open_free m (Walk n f t c) h = (h, tt)
 
   open_once : (m : Mode) (x : Tree) → Once x → OnceList (open_part m x)
   open_once m Nil h = tt
-  open_once row (Join row xs) h = once_out xs h
-  open_once row (Join aside xs) h = inr (h, tt)
-  open_once aside (Join row xs) h = inr (h, tt)
-  open_once aside (Join aside xs) h = once_out xs h
+  open_once seq (Join seq xs) h = once_out xs h
+  open_once seq (Join par xs) h = inr (h, tt)
+  open_once par (Join seq xs) h = inr (h, tt)
+  open_once par (Join par xs) h = once_out xs h
   open_once m (Event e) h = inr (h, tt)
   open_once m (Choice xs) h = inr (h, tt)
-  open_once m (Bound x q) h = inr (h, tt)
-  open_once m (Turns x lo hi r) h = inr (h, tt)
-  open_once m (Trail n f t c) h = inr (h, tt)
+  open_once m (Tied x q) h = inr (h, tt)
+  open_once m (Loop x lo hi r) h = inr (h, tt)
+  open_once m (Walk n f t c) h = inr (h, tt)
 
   flat_free : (m : Mode) (xs : List Tree) → Each Free xs → Each Free (flat m xs)
   flat_free m [] h = tt
@@ -146,9 +146,9 @@ module _ (NL : ℕ → ℕ → Type 0) (j : ℕ) where
   opened_once Nil h = (h, tt)
   opened_once (Event e) h = (h, tt)
   opened_once (Join m xs) h = (h, tt)
-  opened_once (Bound x q) h = (h, tt)
-  opened_once (Turns x lo hi r) h = (h, tt)
-  opened_once (Trail n f t c) h = (h, tt)
+  opened_once (Tied x q) h = (h, tt)
+  opened_once (Loop x lo hi r) h = (h, tt)
+  opened_once (Walk n f t c) h = (h, tt)
 
   choices_once : (xs : List Tree) → Each Once xs → Each Once (open_choices xs)
   choices_once [] h = tt
@@ -167,7 +167,7 @@ module _ (NL : ℕ → ℕ → Type 0) (j : ℕ) where
   tie_once x [] h = h
   tie_once x (p ∷ q) h = h
 
-  bound_once : (x : Tree) (q : List (ℕ × ℕ)) → Once x → Once (bound_of x q)
+  bound_once : (x : Tree) (q : List (ℕ × ℕ)) → Once x → Once (tie_of x q)
   bound_once x q h = tie_once x (kept_pairs (numbers x) q) h
 
   may_once : (r : Option Tree) → MayHave Free r → MayHave Once r
@@ -213,7 +213,7 @@ module _ (NL : ℕ → ℕ → Type 0) (j : ℕ) where
     map_once m None h = tt
     map_once m (Some ys) h = join_once m ys h
 
-    tied_once : (q : List (ℕ × ℕ)) (r : Option Tree) → MayHave Once r → MayHave Once (option_map (λ y. bound_of y q) r)
+    tied_once : (q : List (ℕ × ℕ)) (r : Option Tree) → MayHave Once r → MayHave Once (option_map (λ y. tie_of y q) r)
     tied_once q None h = tt
     tied_once q (Some y) h = bound_once y q h
 
@@ -231,9 +231,9 @@ module _ (NL : ℕ → ℕ → Type 0) (j : ℕ) where
       permit_once b (Event e) h = event_once (hits b e) e
       permit_once b (Join m xs) h = map_once m (permit_all k b xs) (all_once b xs h)
       permit_once b (Choice xs) h = choice_once (permit_some k b xs) (some_once b xs h)
-      permit_once b (Bound x q) h = tied_once q (permit k b x) (permit_once b x h)
-      permit_once b (Turns x lo hi r) h = may_once (permit k b (Turns x lo hi r)) (permit_free b (Turns x lo hi r) h)
-      permit_once b (Trail n f t c) h = may_once (permit k b (Trail n f t c)) (permit_free b (Trail n f t c) h)
+      permit_once b (Tied x q) h = tied_once q (permit k b x) (permit_once b x h)
+      permit_once b (Loop x lo hi r) h = may_once (permit k b (Loop x lo hi r)) (permit_free b (Loop x lo hi r) h)
+      permit_once b (Walk n f t c) h = may_once (permit k b (Walk n f t c)) (permit_free b (Walk n f t c) h)
 
       all_once : (b : Block) (xs : Trees) → OnceAll xs → AllOnce (permit_all k b xs)
       all_once b none h = tt
@@ -250,12 +250,12 @@ module _ (NL : ℕ → ℕ → Type 0) (j : ℕ) where
       after_free = after_every (λ e. e.number ≢ j) (NL j) k kept
 
       stays_free : (m : Mode) (e : TermEvent) (x y : Tree) → Stays k m e x y → Free x → Free y
-      stays_free row e x y s h = some_of Free (permit k (only (instances_of e).instances) x) y s (permit_free (only (instances_of e).instances) x h)
-      stays_free aside e x y s h = rw s h
+      stays_free seq e x y s h = some_of Free (permit k (only (instances_of e).instances) x) y s (permit_free (only (instances_of e).instances) x h)
+      stays_free par e x y s h = rw s h
 
       stays_once : (m : Mode) (e : TermEvent) (x y : Tree) → Stays k m e x y → Once x → Once y
-      stays_once row e x y s h = some_of Once (permit k (only (instances_of e).instances) x) y s (permit_once (only (instances_of e).instances) x h)
-      stays_once aside e x y s h = rw s h
+      stays_once seq e x y s h = some_of Once (permit k (only (instances_of e).instances) x) y s (permit_once (only (instances_of e).instances) x h)
+      stays_once par e x y s h = rw s h
 
       parts_free : {m : Mode} {xs : Trees} {ys : List Tree} {e : TermEvent} → IsAfterJoin k m xs e ys → FreeAll xs → Each Free ys
       parts_free (first_part {x = x} {y = y} {xs = xs} a) h = (after_free {x = x} {y = y} a h.0, free_out xs h.1)
@@ -266,10 +266,10 @@ module _ (NL : ℕ → ℕ → Type 0) (j : ℕ) where
         after_once after_event h = tt
         after_once (after_choice a) h = one_once a h
         after_once (after_join {m = m} {ys = ys} a) h = join_once m ys (parts_once a h)
-        after_once (after_bound {y = y} {z = z} {q = q} {e = e} a p) h = bound_once z q (some_of Once (permit k (earlier q e) y) z p (permit_once (earlier q e) y (after_once a h)))
-        after_once (after_turns {x = x} {z = z} {lo = lo} {hi = hi} {r = r} b a g p) h = free_once z (after_free {x = Turns x lo hi r} {y = z} (after_turns b a g p) h)
-        after_once (after_trail {n = n} {s = f} {t = t} {c = c} m {y = y} {u = u} {v = v} p a l1 l2 q r) h =
-            free_once (join_all row (u ∷ y ∷ v ∷ [])) (after_free {x = Trail n f t c} {y = join_all row (u ∷ y ∷ v ∷ [])} (after_trail m p a l1 l2 q r) h)
+        after_once (after_tied {y = y} {z = z} {q = q} {e = e} a p) h = bound_once z q (some_of Once (permit k (earlier q e) y) z p (permit_once (earlier q e) y (after_once a h)))
+        after_once (after_loop {x = x} {z = z} {lo = lo} {hi = hi} {r = r} b a g p) h = free_once z (after_free {x = Loop x lo hi r} {y = z} (after_loop b a g p) h)
+        after_once (after_walk {n = n} {s = f} {t = t} {c = c} m {y = y} {u = u} {v = v} p a l1 l2 q r) h =
+            free_once (join_all seq (u ∷ y ∷ v ∷ [])) (after_free {x = Walk n f t c} {y = join_all seq (u ∷ y ∷ v ∷ [])} (after_walk m p a l1 l2 q r) h)
 
         one_once : {xs : Trees} {y : Tree} {e : TermEvent} → IsAfterOne k xs e y → OnceEach xs → Once y
         one_once (first_one a) h = after_once a h.0

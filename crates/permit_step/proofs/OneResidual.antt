@@ -3,12 +3,12 @@ use Rattle.std.specs.Prelude.{ℕ, suc, ◌+◌, ◌*◌, ◌≤◌, ◌==◌, �
 use Rattle.std.proofs.Common.{ap, sym, ◌∙◌, arith, inl, inr}
 use Rattle.std.proofs.Math.Nat.{suc-mul, mul-le-mul_right}
 use Rattle.std.proofs.lemmas.List.{map-append}
-use Rattle.msc_base.specs.Patterns.{Mode, row, aside}
+use Rattle.msc_base.specs.Patterns.{Mode, seq, par}
 use Rattle.chart_term.specs.Equality.{same_tree}
 use Rattle.chart_term.specs.NormalForms.{NetPermits}
 use Rattle.chart_term.specs.Properties.{Each, Every, EveryOf, EveryRow}
 use Rattle.chart_term.specs.Tables.{Tables}
-use Rattle.chart_term.specs.Terms.{TermEvent, has, Tree, Nil, Event, Join, Choice, Bound, Turns, Trail, Trees, none, more, Row, ends, gap, turn, items, weight, weights}
+use Rattle.chart_term.specs.Terms.{TermEvent, has, Tree, Nil, Event, Join, Choice, Tied, Loop, Walk, Trees, none, more, Row, ends, gap, turn, items, weight, weights}
 use Rattle.chart_term.proofs.Equal.{same_tree_is_exact}
 use Rattle.permit_step.specs.Listing.{IsAmong, residual_set, set_weight}
 use Rattle.permit_step.specs.Normality.{AreDifferent}
@@ -55,9 +55,9 @@ mutual
   lacks_of a (Event e) g h = number_not e.label a (or_false (e.label == a) false h)
   lacks_of a (Join m xs) g h = lack_all_of a xs g h
   lacks_of a (Choice xs) g h = lack_all_of a xs g h
-  lacks_of a (Bound x q) g h = lacks_of a x g h
-  lacks_of a (Turns x lo hi r) g h = let i = lacks_both (labels_of x) (labels_of_row r) a h in (lacks_of a x g.0 i.0, lack_row_of a r g.1 i.1)
-  lacks_of a (Trail n f t c) g h = absurd g
+  lacks_of a (Tied x q) g h = lacks_of a x g h
+  lacks_of a (Loop x lo hi r) g h = let i = lacks_both (labels_of x) (labels_of_row r) a h in (lacks_of a x g.0 i.0, lack_row_of a r g.1 i.1)
+  lacks_of a (Walk n f t c) g h = absurd g
 
   lack_all_of : (a : ℕ) (xs : Trees) → EveryOf (λ e. Unit {0}) (λ n. ⊥) xs → has (labels_of_all xs) a ≡ false → LackAll a xs
   lack_all_of a none g h = tt
@@ -69,12 +69,12 @@ mutual
   lack_row_of a (turn x r) g h = let i = lacks_both (labels_of x) (labels_of_row r) a h in (lacks_of a x g.0 i.0, lack_row_of a r g.1 i.1)
 
 apart_one : (m : Mode) (x y : Tree) → HasNoGraph x → ((a : ℕ) → has (labels_of x) a ≡ true → Lacks a y) → Apart m x y
-apart_one row x y g f = λ a. go a (has (labels_of x) a) refl
+apart_one seq x y g f = λ a. go a (has (labels_of x) a) refl
   where
     go : (a : ℕ) (t : Bool) → has (labels_of x) a ≡ t → Sure a x ⊎ Lacks a y
     go a true e = inr (f a e)
     go a false e = inl (lacks_sure a x (lacks_of a x g e))
-apart_one aside x y g f = λ a. go a (has (labels_of x) a) refl
+apart_one par x y g f = λ a. go a (has (labels_of x) a) refl
   where
     go : (a : ℕ) (t : Bool) → has (labels_of x) a ≡ t → Lacks a x ⊎ Lacks a y
     go a true e = inr (f a e)
@@ -94,9 +94,9 @@ mutual
   plain_of (Event e) h g = tt
   plain_of (Join m xs) h g = plains_of xs h g
   plain_of (Choice xs) h g = absurd h
-  plain_of (Bound x q) h g = plain_of x h g
-  plain_of (Turns x lo hi r) h g = absurd h
-  plain_of (Trail n f t c) h g = absurd g
+  plain_of (Tied x q) h g = plain_of x h g
+  plain_of (Loop x lo hi r) h g = absurd h
+  plain_of (Walk n f t c) h g = absurd g
 
   plains_of : (xs : Trees) → AreStraight xs → EveryOf (λ e. Unit {0}) (λ n. ⊥) xs → PlainAll xs
   plains_of none h g = tt
@@ -109,9 +109,9 @@ mutual
   no_loops (Event e) h = tt
   no_loops (Join m xs) h = none_loops xs h
   no_loops (Choice xs) h = absurd h
-  no_loops (Bound x q) h = no_loops x h
-  no_loops (Turns x lo hi r) h = absurd h
-  no_loops (Trail n f t c) h = tt
+  no_loops (Tied x q) h = no_loops x h
+  no_loops (Loop x lo hi r) h = absurd h
+  no_loops (Walk n f t c) h = tt
 
   none_loops : (xs : Trees) → AreStraight xs → HaveStraightLoops xs
   none_loops none h = tt
@@ -130,10 +130,10 @@ mutual
   single_of m Nil w o g h = tt
   single_of m (Event e) w o g h = tt
   single_of m (Join n xs) w o g h = (singles_of m xs (omega arith) o g h, all_apart n xs g o)
-  single_of m (Choice xs) w o g h = (singles_of m xs (omega arith) o g h, all_apart aside xs g o)
-  single_of m (Bound x q) w o g h = single_of m x (omega arith) o g h
-  single_of m (Turns x lo hi r) w o g h = ((plain_of x h.0 g.0, single_of m x (omega arith) (once_left (labels_of x) (labels_of_row r) o) g.0 (no_loops x h.0)), single_row m r h.1, omega arith)
-  single_of m (Trail n f t c) w o g h = absurd g
+  single_of m (Choice xs) w o g h = (singles_of m xs (omega arith) o g h, all_apart par xs g o)
+  single_of m (Tied x q) w o g h = single_of m x (omega arith) o g h
+  single_of m (Loop x lo hi r) w o g h = ((plain_of x h.0 g.0, single_of m x (omega arith) (once_left (labels_of x) (labels_of_row r) o) g.0 (no_loops x h.0)), single_row m r h.1, omega arith)
+  single_of m (Walk n f t c) w o g h = absurd g
 
   singles_of : (m : ℕ) (xs : Trees) → weights xs ≤ m → AreOnce (labels_of_all xs) → EveryOf (λ e. Unit {0}) (λ n. ⊥) xs → HaveStraightLoops xs → SingleAll m xs
   singles_of m none w o g h = tt
@@ -148,9 +148,9 @@ abbrev mutual
   events_of (Event e) = e ∷ []
   events_of (Join m xs) = events_all xs
   events_of (Choice xs) = events_all xs
-  events_of (Bound x q) = events_of x
-  events_of (Turns x lo hi r) = events_of x ++ events_row r
-  events_of (Trail n f t c) = []
+  events_of (Tied x q) = events_of x
+  events_of (Loop x lo hi r) = events_of x ++ events_row r
+  events_of (Walk n f t c) = []
 
   events_all : Trees → List TermEvent
   events_all none = []
@@ -173,9 +173,9 @@ mutual
   same_labels (Event e) = refl
   same_labels (Join m xs) = same_all xs
   same_labels (Choice xs) = same_all xs
-  same_labels (Bound x q) = same_labels x
-  same_labels (Turns x lo hi r) = app_labels (events_of x) (events_row r) (labels_of x) (labels_of_row r) (same_labels x) (same_row r)
-  same_labels (Trail n f t c) = refl
+  same_labels (Tied x q) = same_labels x
+  same_labels (Loop x lo hi r) = app_labels (events_of x) (events_row r) (labels_of x) (labels_of_row r) (same_labels x) (same_row r)
+  same_labels (Walk n f t c) = refl
 
   same_all : (xs : Trees) → labels (events_all xs) ≡ labels_of_all xs
   same_all none = refl
@@ -195,9 +195,9 @@ mutual
   each_known es (Event e) g f = f e (inl refl)
   each_known es (Join m xs) g f = all_known es xs g f
   each_known es (Choice xs) g f = all_known es xs g f
-  each_known es (Bound x q) g f = each_known es x g f
-  each_known es (Turns x lo hi r) g f = (each_known es x g.0 (λ e i. f e (among_left e (events_of x) (events_row r) i)), row_known es r g.1 (λ e i. f e (among_right e (events_of x) (events_row r) i)))
-  each_known es (Trail n f t c) g h = absurd g
+  each_known es (Tied x q) g f = each_known es x g f
+  each_known es (Loop x lo hi r) g f = (each_known es x g.0 (λ e i. f e (among_left e (events_of x) (events_row r) i)), row_known es r g.1 (λ e i. f e (among_right e (events_of x) (events_row r) i)))
+  each_known es (Walk n f t c) g h = absurd g
 
   all_known : (es : List TermEvent) (xs : Trees) → EveryOf (λ e. Unit {0}) (λ n. ⊥) xs → ((e : TermEvent) → IsAmong e (events_all xs) → IsAmong e es) → EveryOf (λ e. IsAmong e es) (λ n. ⊥) xs
   all_known es none g f = tt

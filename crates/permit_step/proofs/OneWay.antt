@@ -1,14 +1,14 @@
 -- In a single term an event leaves one term.
 use Rattle.std.specs.Prelude.{ℕ, Bool, List, [], ◌∷◌, ◌≡◌, ◌≢◌, ◌⊎◌, Option, Some, None, refl}
 use Rattle.std.proofs.Common.{ap, sym, ◌∙◌, inl, inr}
-use Rattle.msc_base.specs.Patterns.{Mode, row, aside}
-use Rattle.chart_term.specs.NormalForms.{NetPermits, only, join_all, bound_of, turns_of}
+use Rattle.msc_base.specs.Patterns.{Mode, seq, par}
+use Rattle.chart_term.specs.NormalForms.{NetPermits, only, join_all, tie_of, loop_of}
 use Rattle.chart_term.specs.Properties.{Each, EachTurn}
 use Rattle.chart_term.specs.TermPatterns.{instances_of, earlier}
 use Rattle.chart_term.specs.Terms.{TermEvent, Tree, Trees, items, Part, Gap, Turn, ◌∪◌}
 use Rattle.chart_term.specs.Spreads.{touch}
 use Rattle.permit_step.specs.Permission.{permit}
-use Rattle.permit_step.specs.Taking.{Stays, fewer, down, IsAfter, after_event, after_choice, after_join, after_bound, after_turns, after_trail, IsAfterOne, first_one, later_one, IsAfterJoin, first_part, later_part, IsAfterRow, in_turn, in_gap, past_turn, past_gap}
+use Rattle.permit_step.specs.Taking.{Stays, fewer, down, IsAfter, after_event, after_choice, after_join, after_tied, after_loop, after_walk, IsAfterOne, first_one, later_one, IsAfterJoin, first_part, later_part, IsAfterRow, in_turn, in_gap, past_turn, past_gap}
 use Rattle.permit_step.proofs.Apart.{Apart, AllApart}
 use Rattle.permit_step.proofs.Single.{Single, SingleAll, Begun, permit_begun, Lasting, lasting, turns_begun, none_last}
 use Rattle.permit_step.proofs.Steady.{Lacks, Sure, plain_sure, sure_blocks, taken_every}
@@ -37,11 +37,11 @@ module _ (m : ℕ) (k : NetPermits) where
   one_of P (first_one {e = f} a) h = elim h.0 [ inl p ↦ p | inr l ↦ absurd (taken_every k (λ g. g.label ≢ f.label) a l refl) ]
   one_of P (later_one a) h = one_of P a h.1
 
-  rows_at : (a : ℕ) (x : Tree) (ys : List Tree) → Each (Apart row x) ys → Each (λ y. Sure a x ⊎ Lacks a y) ys
+  rows_at : (a : ℕ) (x : Tree) (ys : List Tree) → Each (Apart seq x) ys → Each (λ y. Sure a x ⊎ Lacks a y) ys
   rows_at a x [] h = tt
   rows_at a x (y ∷ ys) h = (h.0 a, rows_at a x ys h.1)
 
-  asides_at : (a : ℕ) (x : Tree) (ys : List Tree) → Each (Apart aside x) ys → Each (λ y. Lacks a x ⊎ Lacks a y) ys
+  asides_at : (a : ℕ) (x : Tree) (ys : List Tree) → Each (Apart par x) ys → Each (λ y. Lacks a x ⊎ Lacks a y) ys
   asides_at a x [] h = tt
   asides_at a x (y ∷ ys) h = (h.0 a, asides_at a x ys h.1)
 
@@ -57,15 +57,15 @@ module _ (m : ℕ) (k : NetPermits) where
 
   -- an event that a part can give is taken from no later part
   ahead : (n : Mode) (z : Tree) {x y : Tree} {xs : Trees} {zs : List Tree} {e f : TermEvent} → IsAfter k x e y → Stays k n f x z → IsAfterJoin k n xs f zs → e ≡ f → Each (Apart n x) (items xs) → ⊥
-  ahead row z {x = x} {xs = xs} {f = f} a s b q h = blocked a q (part_of (Sure f.label x) b (rows_at f.label x (items xs) h)) s
-  ahead aside z {x = x} {xs = xs} {f = f} a s b q h = lacking a q (part_of (Lacks f.label x) b (asides_at f.label x (items xs) h))
+  ahead seq z {x = x} {xs = xs} {f = f} a s b q h = blocked a q (part_of (Sure f.label x) b (rows_at f.label x (items xs) h)) s
+  ahead par z {x = x} {xs = xs} {f = f} a s b q h = lacking a q (part_of (Lacks f.label x) b (asides_at f.label x (items xs) h))
 
-  chosen : {x y z : Tree} {xs : Trees} {e f : TermEvent} → IsAfter k x e y → IsAfterOne k xs f z → e ≡ f → Each (Apart aside x) (items xs) → ⊥
+  chosen : {x y z : Tree} {xs : Trees} {e f : TermEvent} → IsAfter k x e y → IsAfterOne k xs f z → e ≡ f → Each (Apart par x) (items xs) → ⊥
   chosen {x = x} {xs = xs} {f = f} a b q h = lacking a q (one_of (Lacks f.label x) b (asides_at f.label x (items xs) h))
 
   stays_same : (n : Mode) (x y z : Tree) (e f : TermEvent) → Stays k n e x y → Stays k n f x z → e ≡ f → y ≡ z
-  stays_same row x y z e f s t q = some_same (permit k (only (instances_of e).instances) x) (permit k (only (instances_of f).instances) x) y z (λ i. permit k (only (instances_of (q i)).instances) x) s t
-  stays_same aside x y z e f s t q = s ∙ sym t
+  stays_same seq x y z e f s t q = some_same (permit k (only (instances_of e).instances) x) (permit k (only (instances_of f).instances) x) y z (λ i. permit k (only (instances_of (q i)).instances) x) s t
+  stays_same par x y z e f s t q = s ∙ sym t
 
   moved : (x y z : Tree) (f : TermEvent) → x ≡ y → IsAfter k y f z → IsAfter k x f z
   moved x y z f p a = rw p a
@@ -75,16 +75,16 @@ module _ (m : ℕ) (k : NetPermits) where
     same_after after_event after_event q h = refl
     same_after (after_choice a) (after_choice b) q h = same_one a b q h.0 h.1
     same_after (after_join {m = n} a) (after_join b) q h = ap (join_all n) (same_parts a b q h.0 h.1)
-    same_after (after_bound {y = y} {z = z} {q = r} {e = e} a p) (after_bound {y = u} {z = v} {e = f} b o) q h =
+    same_after (after_tied {y = y} {z = z} {q = r} {e = e} a p) (after_tied {y = u} {z = v} {e = f} b o) q h =
         let i : y ≡ u = same_after a b q h in
-        ap (λ t. bound_of t r) (some_same (permit k (earlier r e) y) (permit k (earlier r f) u) z v (λ j. permit k (earlier r (q j)) (i j)) p o)
-    same_after (after_turns {x = x} {z = z} {lo = lo} {hi = hi} {r = r} t {ps = ps} a g p) (after_turns {z = v} u {ps = qs} b l o) q h =
+        ap (λ t. tie_of t r) (some_same (permit k (earlier r e) y) (permit k (earlier r f) u) z v (λ j. permit k (earlier r (q j)) (i j)) p o)
+    same_after (after_loop {x = x} {z = z} {lo = lo} {hi = hi} {r = r} t {ps = ps} a g p) (after_loop {z = v} u {ps = qs} b l o) q h =
         let i = same_row a b q h.0 (turns_begun m k r h.1) (lasting m k r h.1) in
-        some_same (turns_of (λ c. permit k (only c) x) (touch k.spread x) x (down t lo) (fewer t hi) ps) (turns_of (λ c. permit k (only c) x) (touch k.spread x) x (down u lo) (fewer u hi) qs) z v
-        (λ j. turns_of (λ c. permit k (only c) x) (touch k.spread x) x (down (i.0 j) lo) (fewer (i.0 j) hi) (i.1 j)) p o
-    same_after (after_trail n p a l1 l2 r s) b q h = absurd h
+        some_same (loop_of (λ c. permit k (only c) x) (touch k.spread x) x (down t lo) (fewer t hi) ps) (loop_of (λ c. permit k (only c) x) (touch k.spread x) x (down u lo) (fewer u hi) qs) z v
+        (λ j. loop_of (λ c. permit k (only c) x) (touch k.spread x) x (down (i.0 j) lo) (fewer (i.0 j) hi) (i.1 j)) p o
+    same_after (after_walk n p a l1 l2 r s) b q h = absurd h
 
-    same_one : {xs : Trees} {y z : Tree} {e f : TermEvent} → IsAfterOne k xs e y → IsAfterOne k xs f z → e ≡ f → SingleAll m xs → AllApart aside (items xs) → y ≡ z
+    same_one : {xs : Trees} {y z : Tree} {e f : TermEvent} → IsAfterOne k xs e y → IsAfterOne k xs f z → e ≡ f → SingleAll m xs → AllApart par (items xs) → y ≡ z
     same_one (first_one a) (first_one b) q h i = same_after a b q h.0
     same_one (first_one a) (later_one b) q h i = absurd (chosen a b q i.0)
     same_one (later_one a) (first_one b) q h i = absurd (chosen b a (sym q) i.0)

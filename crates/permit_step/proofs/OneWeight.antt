@@ -1,14 +1,14 @@
 -- What an event leaves of a single term weighs little more than the term.
 use Rattle.std.specs.Prelude.{ℕ, zero, ◌+◌, ◌≤◌, ◌<◌, Bool, List, ◌≡◌, Some}
 use Rattle.std.proofs.Common.{arith}
-use Rattle.msc_base.specs.Patterns.{Mode, row, aside}
-use Rattle.chart_term.specs.NormalForms.{NetPermits, only, numbers, kept_pairs, turns_of}
+use Rattle.msc_base.specs.Patterns.{Mode, seq, par}
+use Rattle.chart_term.specs.NormalForms.{NetPermits, only, numbers, kept_pairs, loop_of}
 use Rattle.chart_term.specs.Properties.{EachTurn}
 use Rattle.chart_term.specs.TermPatterns.{instances_of, earlier}
-use Rattle.chart_term.specs.Terms.{TermEvent, Tree, Nil, Event, Join, Choice, Bound, Turns, Trail, Trees, none, more, Part, parts, weight}
+use Rattle.chart_term.specs.Terms.{TermEvent, Tree, Nil, Event, Join, Choice, Tied, Loop, Walk, Trees, none, more, Part, parts, weight}
 use Rattle.chart_term.specs.Spreads.{touch}
 use Rattle.permit_step.specs.Permission.{permit}
-use Rattle.permit_step.specs.Taking.{Stays, fewer, down, IsAfter, after_event, after_choice, after_join, after_bound, after_turns, after_trail, IsAfterOne, first_one, later_one, IsAfterJoin, first_part, later_part, IsAfterRow, in_turn, in_gap, past_turn, past_gap}
+use Rattle.permit_step.specs.Taking.{Stays, fewer, down, IsAfter, after_event, after_choice, after_join, after_tied, after_loop, after_walk, IsAfterOne, first_one, later_one, IsAfterJoin, first_part, later_part, IsAfterRow, in_turn, in_gap, past_turn, past_gap}
 use Rattle.permit_step.proofs.Single.{Single, SingleAll, Begun, permit_begun, turns_begun}
 use Rattle.permit_step.proofs.Ranking.{rank, ranks, row_rank, list_rank, parts_rank, ranks-items, rank-parts, join_rank, turns_rank, tie_rank, kept_length, at_some, permit_rank, weight_rank}
 use Rattle.permit_step.proofs.Steady.{Plain, PlainAll}
@@ -24,9 +24,9 @@ mutual
   plain_zero m (Event e) h s = tt
   plain_zero m (Join n xs) h s = (plains_zero m xs h s.0, s.1)
   plain_zero m (Choice xs) h s = absurd h
-  plain_zero m (Bound x q) h s = plain_zero m x h s
-  plain_zero m (Turns x lo hi r) h s = absurd h
-  plain_zero m (Trail n f t c) h s = absurd h
+  plain_zero m (Tied x q) h s = plain_zero m x h s
+  plain_zero m (Loop x lo hi r) h s = absurd h
+  plain_zero m (Walk n f t c) h s = absurd h
 
   plains_zero : (m : ℕ) (xs : Trees) → PlainAll xs → SingleAll m xs → SingleAll zero xs
   plains_zero m none h s = tt
@@ -40,26 +40,26 @@ module _ (k : NetPermits) where
   falls c x y e = permit_rank k no_net (only c) x y e
 
   stays_rank : (n : Mode) (e : TermEvent) (x y : Tree) → Stays k n e x y → R y ≤ R x
-  stays_rank row e x y s = falls (instances_of e).instances x y s
-  stays_rank aside e x y s = rw s (omega arith)
+  stays_rank seq e x y s = falls (instances_of e).instances x y s
+  stays_rank par e x y s = rw s (omega arith)
 
   mutual
     after_rank : (m : ℕ) {x y : Tree} {e : TermEvent} → IsAfter k x e y → Single m x → R y ≤ R x + m
     after_rank m after_event h = omega arith
     after_rank m (after_choice a) h = let l = one_rank m a h.0 in omega arith
     after_rank m (after_join {m = n} {ys = ys} a) h = let l = part_rank m a h.0 in omega (arith, join_rank k no_net n ys)
-    after_rank m (after_bound {x = x} {y = y} {z = z} {q = q} {e = e} a p) h =
+    after_rank m (after_tied {x = x} {y = y} {z = z} {q = q} {e = e} a p) h =
         let l = after_rank m a h in
         let i = permit_rank k no_net (earlier q e) y z p in
         omega (arith, tie_rank k no_net z (kept_pairs (numbers z) q), kept_length k no_net (numbers z) q)
-    after_rank m (after_turns {x = x} {z = z} {lo = lo} {hi = hi} {r = r} b {ps = ps} a g p) h =
+    after_rank m (after_loop {x = x} {z = z} {lo = lo} {hi = hi} {r = r} b {ps = ps} a g p) h =
         let l = row_after_rank m a h.0 h.2 (turns_begun m k r h.1) in
         let i : parts_rank k no_net (parts r) ≡ row_rank no_net r = rank-parts k no_net r in
         let j : R z ≤ 1 + R x + (row_rank no_net r + m) =
-        at_some k no_net (turns_of (λ c. permit k (only c) x) (touch k.spread x) x (down b lo) (fewer b hi) ps) z (1 + R x + (row_rank no_net r + m)) p
+        at_some k no_net (loop_of (λ c. permit k (only c) x) (touch k.spread x) x (down b lo) (fewer b hi) ps) z (1 + R x + (row_rank no_net r + m)) p
         (turns_rank k no_net (λ c. permit k (only c) x) (touch k.spread x) x (down b lo) (fewer b hi) ps (row_rank no_net r + m) (omega arith)) in
         omega arith
-    after_rank m (after_trail n p a l1 l2 q r) h = absurd h
+    after_rank m (after_walk n p a l1 l2 q r) h = absurd h
 
     one_rank : (m : ℕ) {xs : Trees} {y : Tree} {e : TermEvent} → IsAfterOne k xs e y → SingleAll m xs → R y ≤ ranks no_net xs + m
     one_rank m (first_one a) h = let l = after_rank m a h.0 in omega arith

@@ -1,7 +1,7 @@
 -- Terms that are unambiguous, and terms that aren't, of which a list of events leaves more than one term.
 use Rattle.std.specs.Prelude.{ℕ, List, [], ◌∷◌, ◌≡◌, Some, None, length, refl}
-use Rattle.msc_base.specs.Patterns.{row, aside}
-use Rattle.chart_term.specs.Terms.{Tree, Nil, Event, Join, Choice, Bound, Turns, none, more, gap, ends}
+use Rattle.msc_base.specs.Patterns.{seq, par}
+use Rattle.chart_term.specs.Terms.{Tree, Nil, Event, Join, Choice, Tied, Loop, none, more, gap, ends}
 use Rattle.permit_step.specs.Listing.{residual_set}
 use Rattle.permit_step.specs.OneResidual.{IsUnambiguous, AreOnce, HasNoGraph, labels_of}
 use Rattle.permit_step.specs.Permission.{permits_of}
@@ -11,21 +11,21 @@ event n i a = Event (record { number = n; at = i; also = None; label = a })
 
 -- a message from one instance to another
 abbrev message : Tree
-message = Bound (Join row (more (event 1 0 0) (more (event 2 1 1) none))) ((1, 2) ∷ [])
+message = Tied (Join seq (more (event 1 0 0) (more (event 2 1 1) none))) ((1, 2) ∷ [])
 
 message_unambiguous : IsUnambiguous message
 message_unambiguous = record { labels = (refl, (refl, tt)); no_graph = (tt, (tt, tt)); loops = (tt, (tt, tt)) }
 
 -- a loop of messages
 abbrev messages : Tree
-messages = Turns message 1 None (gap [] ends)
+messages = Loop message 1 None (gap [] ends)
 
 messages_unambiguous : IsUnambiguous messages
 messages_unambiguous = record { labels = (refl, (refl, tt)); no_graph = ((tt, (tt, tt)), tt); loops = ((tt, (tt, tt)), tt) }
 
 -- a loop of messages, and then one of two answers
 abbrev answered : Tree
-answered = Join row (more messages (more (Choice (more (event 3 1 2) (more (event 4 1 3) none))) none))
+answered = Join seq (more messages (more (Choice (more (event 3 1 2) (more (event 4 1 3) none))) none))
 
 answered_unambiguous : IsUnambiguous answered
 answered_unambiguous = record { labels = (refl, (refl, (refl, (refl, tt)))); no_graph = (((tt, (tt, tt)), tt), ((tt, (tt, tt)), tt)); loops = (((tt, (tt, tt)), tt), ((tt, (tt, tt)), tt)) }
@@ -41,10 +41,10 @@ answered_one = refl
 
 -- a loop in a loop: a second c belongs to the first turn of the outer loop, or begins a second one before its a
 abbrev inner : Tree
-inner = Turns (event 2 1 1) 1 (Some 2) (gap [] ends)
+inner = Loop (event 2 1 1) 1 (Some 2) (gap [] ends)
 
 abbrev outer : Tree
-outer = Turns (Join row (more (event 1 0 0) (more inner none))) 1 None (gap [] ends)
+outer = Loop (Join seq (more (event 1 0 0) (more inner none))) 1 None (gap [] ends)
 
 outer_labels : AreOnce (labels_of outer)
 outer_labels = (refl, (refl, tt))
@@ -60,7 +60,7 @@ outer_two = refl
 
 -- a choice in a loop: after two a the b belongs to the first turn, to the second, or to a third one that it begins
 abbrev optional : Tree
-optional = Turns (Join row (more (event 1 0 0) (more (Choice (more (event 2 1 1) (more Nil none))) none))) 1 None (gap [] ends)
+optional = Loop (Join seq (more (event 1 0 0) (more (Choice (more (event 2 1 1) (more Nil none))) none))) 1 None (gap [] ends)
 
 optional_labels : AreOnce (labels_of optional)
 optional_labels = (refl, (refl, tt))
@@ -70,7 +70,7 @@ optional_three = refl
 
 -- one label at two events, side by side
 abbrev alike : Tree
-alike = Join aside (more (event 1 0 0) (more (event 2 1 0) none))
+alike = Join par (more (event 1 0 0) (more (event 2 1 0) none))
 
 alike_two : count alike (0 ∷ []) ≡ 2
 alike_two = refl

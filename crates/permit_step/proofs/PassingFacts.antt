@@ -2,7 +2,8 @@
 use Rattle.std.specs.Prelude.{ℕ, ◌<◌, ◌≡◌, ◌↔◌, ◌⊎◌, Bool, true, false, List}
 use Rattle.std.proofs.Common.{inl, inr, refl, arith}
 use Rattle.std.proofs.lemmas.Bool.Decides.{nat_tests}
-use Rattle.hmsc_graph.specs.Graphs.{Net, Spot, Start, At, Goal, To, End, Any, IsIn, Walk, last, step, behind}
+use Rattle.hmsc_graph.specs.Graphs.{Net, Spot, Start, At, Goal, To, End, Any, WalkThrough, last, step, behind}
+use Rattle.msc_base.specs.Lists.{IsIn}
 use Rattle.hmsc_graph.specs.Nets.{IsNet, size_of}
 
 -- a member that is added under a test
@@ -13,14 +14,14 @@ pub kept_out : (P B : Type 0) (t : Bool) → t ≡ false → (P ↔ (P ⊎ (B ×
 kept_out P B t e = (λ p. inl p, λ q. elim q [ inl a ↦ a | inr b ↦ cc ])
 
 -- a node to which a walk leads is one of the graph
-pub walk-below : (g : Net) (ks : List ℕ) (s : Spot) (m : ℕ) → IsNet g → Walk g ks s (To m) → m < size_of g
+pub walk-below : (g : Net) (ks : List ℕ) (s : Spot) (m : ℕ) → IsNet g → WalkThrough g ks s (To m) → m < size_of g
 walk-below g ks s m h w = go w refl
   where
     behind_below : (f : Spot) (j : ℕ) → IsIn j (behind g f) → j < size_of g
     behind_below Start j i = h.starts_below j i
     behind_below (At k) j i = h.next_below k j i
 
-    go : {f : Spot} {t : Goal} → Walk g ks f t → t ≡ To m → m < size_of g
+    go : {f : Spot} {t : Goal} → WalkThrough g ks f t → t ≡ To m → m < size_of g
     go (last {s = f} {t = To k} j i a) e = let q : j ≡ k = grind (arith, nat_tests) in let r : k ≡ m = cc in let l = behind_below f j i in omega arith
     go (last {s = f} {t = End} j i a) e = cc
     go (last {s = f} {t = Any} j i a) e = cc

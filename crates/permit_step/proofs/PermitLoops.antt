@@ -7,7 +7,7 @@ use Rattle.std.proofs.Math.Seq.{take-length}
 use Rattle.chart_term.specs.NormalForms.{NetPermits, only, cut, turns_in}
 use Rattle.chart_term.specs.Properties.{EachGap}
 use Rattle.chart_term.specs.Tables.{Tables}
-use Rattle.chart_term.specs.Terms.{Block, has, add_at, add_member, ◌∪◌, Tree, Turns, Part, Gap, Turn, row_of}
+use Rattle.chart_term.specs.Terms.{Block, has, add_at, add_member, ◌∪◌, Tree, Loop, Part, Gap, Turn, row_of}
 use Rattle.chart_term.proofs.Lists.{parts-row_of}
 use Rattle.permit_step.specs.Normality.{IsSet, IsAbove, IsNormalLoop, IsNormalRow}
 use Rattle.chart_term.specs.Spreads.{touch, spread_of}
@@ -122,10 +122,10 @@ module _ (k : NetPermits) (x : Tree) (hi : Option ℕ) (b : Block) (all d : List
     turns_alike lo None = refl
     turns_alike lo (Some ps) = turns-rest p (touch k.spread x) x lo hi ps ∙ (ap (rest_end x lo hi) (sym (rest_alike ps)) ∙ sym (turns-rest p all x lo hi ps))
 
-    kept_end : (lo : ℕ) (ps : List Part) (r : RowRest) → IsNormalLoop k x hi ps → keep_parts p q hi d ps no_rest ≡ Some r → permit k b (Turns x lo hi (row_of ps)) ≡ rest_end x lo hi r
+    kept_end : (lo : ℕ) (ps : List Part) (r : RowRest) → IsNormalLoop k x hi ps → keep_parts p q hi d ps no_rest ≡ Some r → permit k b (Loop x lo hi (row_of ps)) ≡ rest_end x lo hi r
     kept_end lo ps r n h = turns_alike lo (permit_row k b (row_of ps)) ∙ row_end lo (permit_row k b (row_of ps)) r (sym (parts_kept ps n.sets (gaps_alike ps n.cuts)) ∙ h)
 
-    kept_none : (lo : ℕ) (ps : List Part) → IsNormalLoop k x hi ps → keep_parts p q hi d ps no_rest ≡ None → permit k b (Turns x lo hi (row_of ps)) ≡ None
+    kept_none : (lo : ℕ) (ps : List Part) → IsNormalLoop k x hi ps → keep_parts p q hi d ps no_rest ≡ None → permit k b (Loop x lo hi (row_of ps)) ≡ None
     kept_none lo ps n h = turns_alike lo (permit_row k b (row_of ps)) ∙ row_none lo (permit_row k b (row_of ps)) (sym (parts_kept ps n.sets (gaps_alike ps n.cuts)) ∙ h)
 
 module _ (w : Tables) (x : Tree) (lo : ℕ) (hi : Option ℕ) (ps : List Part) (b : Block) (all d : List ℕ) (h : IsReadyLoop w x hi ps) (alike : (n : ℕ) → has all n ≡ has (touch (spread_of w) x) n) (narrow : d ≡ cut all b.instances) where
@@ -135,10 +135,10 @@ module _ (w : Tables) (x : Tree) (lo : ℕ) (hi : Option ℕ) (ps : List Part) (
   whole : kept ≡ keep_parts (λ c. permit (permits_of w) (only c) x) (λ y. permit (permits_of w) b y) hi d ps no_rest
   whole = ap (λ l. keep_parts (λ c. permit (permits_of w) (only c) x) (λ y. permit (permits_of w) b y) hi d l no_rest) (take-length ps)
 
-  pub loop-left : (r : RowRest) → kept ≡ Some r → permit (permits_of w) b (Turns x lo hi (row_of ps)) ≡ rest_end x lo hi r
+  pub loop-left : (r : RowRest) → kept ≡ Some r → permit (permits_of w) b (Loop x lo hi (row_of ps)) ≡ rest_end x lo hi r
   loop-left r e = kept_end (permits_of w) x hi b all d narrow alike lo ps r h.normal (sym whole ∙ e)
 
-  pub loop-none : kept ≡ None → permit (permits_of w) b (Turns x lo hi (row_of ps)) ≡ None
+  pub loop-none : kept ≡ None → permit (permits_of w) b (Loop x lo hi (row_of ps)) ≡ None
   loop-none e = kept_none (permits_of w) x hi b all d narrow alike lo ps h.normal (sym whole ∙ e)
 
 -- the parts of a loop that is ready
@@ -147,12 +147,12 @@ row_ready w [] h n s = tt
 row_ready w (Gap c ∷ ps) h n s = (s.0, row_ready w ps h n s.1)
 row_ready w (Turn y ∷ ps) h n s = (record { within = h.0; normal = n.0 }, row_ready w ps h.1 n.1 s)
 
-turns_ready : (w : Tables) (x : Tree) (lo : ℕ) (hi : Option ℕ) (ps : List Part) → IsReady w (Turns x lo hi (row_of ps)) → IsReadyLoop w x hi ps
+turns_ready : (w : Tables) (x : Tree) (lo : ℕ) (hi : Option ℕ) (ps : List Part) → IsReady w (Loop x lo hi (row_of ps)) → IsReadyLoop w x hi ps
 turns_ready w x lo hi ps h =
     let n : IsNormalLoop (permits_of w) x hi ps = rw (parts-row_of ps) at h.normal.2 in
     record { body = record { within = h.within.0; normal = h.normal.0 }; parts = row_ready w ps h.within.1 h.normal.1 n.sets; normal = n }
 
-pub ready-loop : (w : Tables) (x y : Tree) (lo : ℕ) (hi : Option ℕ) (ps : List Part) → x ≡ Turns y lo hi (row_of ps) → IsReady w x → IsReadyLoop w y hi ps
+pub ready-loop : (w : Tables) (x y : Tree) (lo : ℕ) (hi : Option ℕ) (ps : List Part) → x ≡ Loop y lo hi (row_of ps) → IsReady w x → IsReadyLoop w y hi ps
 ready-loop w x y lo hi ps e h = turns_ready w y lo hi ps (rw e at h)
 
 -- what a test said

@@ -2,19 +2,20 @@
 use Rattle.std.specs.Prelude.{ℕ, ◌+◌, ◌<◌, ◌≤◌, ◌==◌, Bool, true, false, List, [], ◌∷◌, ◌≡◌, ◌↔◌, ◌⊎◌, ◌&&◌, Option, Some, None, refl, length, IsTrue, not}
 use Rattle.std.specs.List.{list_all}
 use Rattle.std.proofs.Common.{ap, sym, ◌∙◌, subst, arith, filter, inl, inr, cond}
-use Rattle.hmsc_graph.specs.Graphs.{Net, Spot, At, Goal, To, End, Any, IsIn, Walk, reach}
+use Rattle.hmsc_graph.specs.Graphs.{Net, Spot, At, Goal, To, End, Any, WalkThrough, reach}
+use Rattle.msc_base.specs.Lists.{IsIn}
 use Rattle.hmsc_graph.specs.Nets.{size_of}
 use Rattle.hmsc_graph.specs.Spots.{spot_of, goal_of, IsSpotBelow, IsGoalBelow}
 use Rattle.hmsc_graph.specs.declared.spot.Spot.{Spot as SpotShown}
 use Rattle.hmsc_graph.specs.declared.spot.Goal.{Goal as GoalShown}
 use Rattle.hmsc_graph.specs.declared.spot.Spot.TheVariants.{Start as StartSpot, Node as NodeSpot}
 use Rattle.hmsc_graph.specs.declared.spot.Goal.TheVariants.{Node as NodeGoal, End as EndGoal, Any as AnyGoal}
-use Rattle.hmsc_graph.specs.NodeSets.{NodeSetValue, HasNoNodes}
+use Rattle.bit_sets.specs.NodeSets.{NodeSetValue, HasNoNodes}
 use Rattle.hmsc_graph.specs.Walks.{Leads}
 use Rattle.hmsc_graph.proofs.Reaching.{more_allowed, reach_sound, reach_whole}
-use Rattle.chart_term.specs.NormalForms.{NetPermits, only, is_nil, some_kept, allowed, are_nil, walk_form, trail_cut}
+use Rattle.chart_term.specs.NormalForms.{NetPermits, only, is_nil, some_kept, allowed, are_nil, walk_form, walk_cut}
 use Rattle.chart_term.specs.Tables.{Tables, net_count, net_of, nodes_of, node_of, count_from, choose}
-use Rattle.chart_term.specs.Terms.{Tree, Nil, Trail}
+use Rattle.chart_term.specs.Terms.{Tree, Nil, Walk}
 use Rattle.chart_term.proofs.Walking.{out_filter}
 use Rattle.permit_step.specs.Normality.{IsSet}
 use Rattle.permit_step.specs.Passing.{is_full, ArePassable, PassesFull, IsAimed}
@@ -55,12 +56,12 @@ nodes_in (e ∷ es) n m = go (n == net_count es) (nodes_in es n m)
     go true h = (λ i. omega (arith, (counted 0 m e.nodes i).1, count_length 0 e.nodes), λ l. in_count 0 m e.nodes (omega arith) (omega (arith, count_length 0 e.nodes)))
     go false h = h
 
-lead_walk : (g : Net) (ks : List ℕ) (s : Spot) (t : Goal) → IsAimed t → Leads g ks s t → Walk g ks s t
+lead_walk : (g : Net) (ks : List ℕ) (s : Spot) (t : Goal) → IsAimed t → Leads g ks s t → WalkThrough g ks s t
 lead_walk g ks s (To m) a h = h
 lead_walk g ks s End a h = h
 lead_walk g ks s Any a h = absurd a
 
-walk_lead : (g : Net) (ks : List ℕ) (s : Spot) (t : Goal) → Walk g ks s t → Leads g ks s t
+walk_lead : (g : Net) (ks : List ℕ) (s : Spot) (t : Goal) → WalkThrough g ks s t → Leads g ks s t
 walk_lead g ks s (To m) h = h
 walk_lead g ks s End h = h
 walk_lead g ks s Any h = tt
@@ -156,26 +157,26 @@ module _ (w : Tables) (n : ℕ) (c : List ℕ) (size : ℕ) (ms ns : List ℕ) (
         (λ q. f
         (m, (h.full m).1 (p.0, q), reach_leads s (To m) (and_first (reach g ks s (To m)) (reach g ks (At m) t) r.1), reach_leads (At m) t (and_second (reach g ks s (To m)) (reach g ks (At m) t) r.1))))
 
-    cut_is : trail_cut (permits_of w) n s t c ≡ walk_form (reach g ks s t) (are_nil (permits_of w) n s t c ks) (Trail n s t c)
+    cut_is : walk_cut (permits_of w) n s t c ≡ walk_form (reach g ks s t) (are_nil (permits_of w) n s t c ks) (Walk n s t c)
     cut_is = at t a
       where
-        at : (u : Goal) → IsAimed u → trail_cut (permits_of w) n s u c ≡ walk_form (reach g ks s u) (are_nil (permits_of w) n s u c ks) (Trail n s u c)
+        at : (u : Goal) → IsAimed u → walk_cut (permits_of w) n s u c ≡ walk_form (reach g ks s u) (are_nil (permits_of w) n s u c ks) (Walk n s u c)
         at (To m) b = refl
         at End b = refl
         at Any b = absurd b
 
-    pub walk-none : (Leads g ms s t → ⊥) → trail_cut (permits_of w) n s t c ≡ None
+    pub walk-none : (Leads g ms s t → ⊥) → walk_cut (permits_of w) n s t c ≡ None
     walk-none f = cut_is ∙ go (reach g ks s t) refl
       where
-        go : (b : Bool) → reach g ks s t ≡ b → walk_form b (are_nil (permits_of w) n s t c ks) (Trail n s t c) ≡ None
+        go : (b : Bool) → reach g ks s t ≡ b → walk_form b (are_nil (permits_of w) n s t c ks) (Walk n s t c) ≡ None
         go true e = absurd (f (reach_leads s t e))
         go false e = refl
 
-    pub walk-full : Leads g ms s t → PassesFull g ms ns s t → trail_cut (permits_of w) n s t c ≡ Some (Trail n s t c)
-    walk-full l p = cut_is ∙ (λ i. walk_form (leads_reach s t a l i) (full_false p i) (Trail n s t c))
+    pub walk-full : Leads g ms s t → PassesFull g ms ns s t → walk_cut (permits_of w) n s t c ≡ Some (Walk n s t c)
+    walk-full l p = cut_is ∙ (λ i. walk_form (leads_reach s t a l i) (full_false p i) (Walk n s t c))
 
-    pub walk-nil : Leads g ms s t → (PassesFull g ms ns s t → ⊥) → trail_cut (permits_of w) n s t c ≡ Some Nil
-    walk-nil l f = cut_is ∙ (λ i. walk_form (leads_reach s t a l i) (no_full_true f i) (Trail n s t c))
+    pub walk-nil : Leads g ms s t → (PassesFull g ms ns s t → ⊥) → walk_cut (permits_of w) n s t c ≡ Some Nil
+    walk-nil l f = cut_is ∙ (λ i. walk_form (leads_reach s t a l i) (no_full_true f i) (Walk n s t c))
 
 -- what the searches said
 module _ (w : Tables) (n : ℕ) (c ms ns : List ℕ) (s : Spot) (t : Goal) (g : Net) (same : g ≡ net_of w n) (ready : AreReadyTables w) (known : n < net_count w) (aim : IsAimed t)
@@ -187,17 +188,17 @@ module _ (w : Tables) (n : ℕ) (c ms ns : List ℕ) (s : Spot) (t : Goal) (g : 
     to_lead : b ≡ true → Leads (net_of w n) ms s t
     to_lead e = subst (λ (f : Net). Leads f ms s t) same (leads.0 e)
 
-    pub walk-lost : b ≡ false → None ≡ trail_cut (permits_of w) n s t c
+    pub walk-lost : b ≡ false → None ≡ walk_cut (permits_of w) n s t c
     walk-lost e = sym (walk-none w n c size ms ns (sizes-are w ready n known) h s t aim (λ l. let q : b ≡ true = leads.1 (subst (λ (f : Net). Leads f ms s t) (sym same) l) in cc))
 
     module _ (d : Bool) (passes : IsTrue d ↔ PassesFull g ms ns s t) (there : b ≡ true) where
-      pub walk-passes : d ≡ true → Some (Trail n s t c) ≡ trail_cut (permits_of w) n s t c
+      pub walk-passes : d ≡ true → Some (Walk n s t c) ≡ walk_cut (permits_of w) n s t c
       walk-passes e = sym (walk-full w n c size ms ns (sizes-are w ready n known) h s t aim (to_lead there) (subst (λ (f : Net). PassesFull f ms ns s t) same (passes.0 e)))
 
-      pub walk-empty : d ≡ false → Some Nil ≡ trail_cut (permits_of w) n s t c
+      pub walk-empty : d ≡ false → Some Nil ≡ walk_cut (permits_of w) n s t c
       walk-empty e = sym (walk-nil w n c size ms ns (sizes-are w ready n known) h s t aim (to_lead there) (λ p. let q : d ≡ true = passes.1 (subst (λ (f : Net). PassesFull f ms ns s t) (sym same) p) in cc))
 
-pub walk-any : (k : NetPermits) (n : ℕ) (s : Spot) (t : Goal) (c : List ℕ) → t ≡ Any → Some (Trail n s t c) ≡ trail_cut k n s t c
+pub walk-any : (k : NetPermits) (n : ℕ) (s : Spot) (t : Goal) (c : List ℕ) → t ≡ Any → Some (Walk n s t c) ≡ walk_cut k n s t c
 walk-any k n s t c e = rw e refl
 
 -- a walk that is ready
@@ -217,7 +218,7 @@ goal_below a b (NodeGoal m) e h = omega arith
 goal_below a b EndGoal e h = tt
 goal_below a b AnyGoal e h = tt
 
-walk_ready : (w : Tables) (n : ℕ) (f : SpotShown) (t : GoalShown) (c : List ℕ) → AreReadyTables w → IsReady w (Trail n (spot_of f) (goal_of t) c) → IsReadyWalk w (Trail n (spot_of f) (goal_of t) c) n f t c
+walk_ready : (w : Tables) (n : ℕ) (f : SpotShown) (t : GoalShown) (c : List ℕ) → AreReadyTables w → IsReady w (Walk n (spot_of f) (goal_of t) c) → IsReadyWalk w (Walk n (spot_of f) (goal_of t) c) n f t c
 walk_ready w n f t c r h =
     let sized : length (nodes_of w n) ≡ size_of (net_of w n) = sym (sizes-are w r n h.within.0) in
     record {
@@ -228,7 +229,7 @@ walk_ready w n f t c r h =
       rank = omega arith;
     }
 
-pub ready-walk : (w : Tables) (x : Tree) (n : ℕ) (f : SpotShown) (t : GoalShown) (c : List ℕ) → AreReadyTables w → x ≡ Trail n (spot_of f) (goal_of t) c → IsReady w x → IsReadyWalk w x n f t c
+pub ready-walk : (w : Tables) (x : Tree) (n : ℕ) (f : SpotShown) (t : GoalShown) (c : List ℕ) → AreReadyTables w → x ≡ Walk n (spot_of f) (goal_of t) c → IsReady w x → IsReadyWalk w x n f t c
 ready-walk w x n f t c r e h = rw e (walk_ready w n f t c r (rw e at h))
 
 -- which nodes can be passed, one more at a time

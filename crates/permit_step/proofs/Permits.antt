@@ -3,19 +3,19 @@ use Rattle.std.specs.Prelude.{ℕ, zero, suc, ◌+◌, true, false, List, [], �
 use Rattle.std.specs.List.{list_any}
 use Rattle.std.specs.Option.{option_map}
 use Rattle.std.proofs.Common.{ap, ◌∙◌, add-one, append-nil}
-use Rattle.msc_base.specs.Blocks.{BlockValue}
-use Rattle.msc_base.specs.Patterns.{Mode, row, aside}
+use Rattle.bit_sets.specs.Blocks.{BlockValue}
+use Rattle.msc_base.specs.Patterns.{Mode, seq, par}
 use Rattle.chart_term.specs.Facts.{misses}
 use Rattle.chart_term.specs.NormalForms.{NetPermits, and_then, or_skip}
 use Rattle.chart_term.specs.Properties.{Each}
 use Rattle.chart_term.specs.Tables.{Tables}
-use Rattle.chart_term.specs.Terms.{Block, TermEvent, Tree, Nil, Event, Join, Choice, Bound, trees}
+use Rattle.chart_term.specs.Terms.{Block, TermEvent, Tree, Nil, Event, Join, Choice, Tied, trees}
 use Rattle.permit_step.specs.Normality.{AreNormal}
 use Rattle.permit_step.specs.Permission.{permit, permit_all, permit_some, permits_of}
 use Rattle.permit_step.specs.Ready.{IsReady, AreWithin}
 use Rattle.permit_step.specs.Values.{block_of}
 use Rattle.permit_step.proofs.Missed.{permit-misses, hits-unless}
-use Rattle.permit_step.proofs.Measures.{rank-then, rank-beside, rank-some, rank-bound, rank-loop, rank-at}
+use Rattle.permit_step.proofs.Measures.{rank-seq, rank-par, rank-some, rank-tied, rank-loop, rank-at}
 
 pub take_next : {A : Type 0} → (xs : List A) (i : ℕ) (x : A) → slice_get xs i ≡ Some x → take (suc i) xs ≡ take i xs ++ x ∷ []
 take_next [] i x p = cc
@@ -72,20 +72,20 @@ module _ (w : Tables) where
   choice_ready : (xs : List Tree) → IsReady w (Choice (trees xs)) → Each (IsReady w) xs
   choice_ready xs h = each_ready xs h.within h.normal.0
 
-  bound_ready : (y : Tree) (q : List (ℕ × ℕ)) → IsReady w (Bound y q) → IsReady w y
+  bound_ready : (y : Tree) (q : List (ℕ × ℕ)) → IsReady w (Tied y q) → IsReady w y
   bound_ready y q h = record { within = h.within; normal = h.normal.0 }
 
-  pub ready-then : (x : Tree) (xs : List Tree) → x ≡ Join row (trees xs) → IsReady w x → Each (IsReady w) xs
-  ready-then x xs e h = join_ready row xs (rw e at h)
+  pub ready-seq : (x : Tree) (xs : List Tree) → x ≡ Join seq (trees xs) → IsReady w x → Each (IsReady w) xs
+  ready-seq x xs e h = join_ready seq xs (rw e at h)
 
-  pub ready-beside : (x : Tree) (xs : List Tree) → x ≡ Join aside (trees xs) → IsReady w x → Each (IsReady w) xs
-  ready-beside x xs e h = join_ready aside xs (rw e at h)
+  pub ready-par : (x : Tree) (xs : List Tree) → x ≡ Join par (trees xs) → IsReady w x → Each (IsReady w) xs
+  ready-par x xs e h = join_ready par xs (rw e at h)
 
   pub ready-choice : (x : Tree) (xs : List Tree) → x ≡ Choice (trees xs) → IsReady w x → Each (IsReady w) xs
   ready-choice x xs e h = choice_ready xs (rw e at h)
 
-  pub ready-bound : (x y : Tree) (q : List (ℕ × ℕ)) → x ≡ Bound y q → IsReady w x → IsReady w y
-  ready-bound x y q e h = bound_ready y q (rw e at h)
+  pub ready-tied : (x y : Tree) (q : List (ℕ × ℕ)) → x ≡ Tied y q → IsReady w x → IsReady w y
+  ready-tied x y q e h = bound_ready y q (rw e at h)
 
   pub ready-at : (xs : List Tree) (i : ℕ) (x : Tree) → slice_get xs i ≡ Some x → Each (IsReady w) xs → IsReady w x
   ready-at [] i x e h = cc
@@ -106,4 +106,4 @@ hit-nil b = none_hit b.instances b.events
     none_hit : (c d : List ℕ) → ((not false && not (list_any (λ n. false) c)) && not (list_any (λ n. false) d)) ≡ true
     none_hit c d = λ i. (not false && not (never c i)) && not (never d i)
 
-pub ruleset permits = (permit-misses, all-more, all-none, some-more, some-skip, ready-then, ready-beside, ready-choice, ready-bound, ready-at, hit-event, hit-nil, rank-then, rank-beside, rank-some, rank-bound, rank-loop, rank-at)
+pub ruleset permits = (permit-misses, all-more, all-none, some-more, some-skip, ready-seq, ready-par, ready-choice, ready-tied, ready-at, hit-event, hit-nil, rank-seq, rank-par, rank-some, rank-tied, rank-loop, rank-at)

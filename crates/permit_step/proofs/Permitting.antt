@@ -1,12 +1,13 @@
 -- What permission leaves of a term are its patterns that avoid the block.
 use Rattle.std.specs.Option.{option_map}
 use Rattle.std.specs.Prelude.{ℕ, suc, Bool, true, false, List, [], ◌∷◌, ◌++◌, ◌≡◌, ◌||◌, Option, Some, None, refl}
-use Rattle.msc_base.specs.Patterns.{Mode, row, empty, one, join, bind}
-use Rattle.hmsc_graph.specs.Graphs.{Spot, At, Goal, IsIn}
-use Rattle.chart_term.specs.NormalForms.{NetPermits, only, cut, join_all, and_then, or_skip, unless, choice_of, bound_of, turns_of, turns_in, trail_of}
-use Rattle.chart_term.specs.TermMeanings.{NetTerms, UpTo, HasPattern, has_nil, has_event, has_join, has_choice, has_bound, has_turns, has_trail, HasParts, no_part, one_part, HasChoice, this_one, that_one, HasRow, gaps_end, gaps_turn, gaps_shut, gaps_more, HasWalk, walk_stop, walk_last, walk_step, PatternSet, ◌⊑◌, Avoiding, PatternsOf, Leaves, terms_of}
+use Rattle.msc_base.specs.Patterns.{Mode, seq, empty, one, join, bind}
+use Rattle.hmsc_graph.specs.Graphs.{Spot, At, Goal}
+use Rattle.msc_base.specs.Lists.{IsIn}
+use Rattle.chart_term.specs.NormalForms.{NetPermits, only, cut, join_all, and_then, or_skip, unless, choice_of, tie_of, loop_of, turns_in, walk_of}
+use Rattle.chart_term.specs.TermMeanings.{NetTerms, UpTo, HasPattern, has_nil, has_event, has_join, has_choice, holds_tie, holds_loop, holds_walk, HasParts, no_part, one_part, HasChoice, this_one, that_one, HasRow, gaps_end, gaps_turn, gaps_shut, gaps_more, HasWalk, walk_stop, walk_last, walk_step, PatternSet, ◌⊑◌, Avoiding, PatternsOf, Leaves, terms_of}
 use Rattle.chart_term.specs.TermPatterns.{Shape, Avoids, same, on, in_join, in_bind, Both, InPairs}
-use Rattle.chart_term.specs.Terms.{TermEvent, Block, hits, has, has_some, Tree, Nil, Event, Join, Choice, Bound, Turns, Trail, Trees, more, Row, ends, gap, turn, items, Part, Gap, Turn, parts, ◌∪◌, none}
+use Rattle.chart_term.specs.Terms.{TermEvent, Block, hits, has, has_some, Tree, Nil, Event, Join, Choice, Tied, Loop, Walk, Trees, more, Row, ends, gap, turn, items, Part, Gap, Turn, parts, ◌∪◌, none}
 use Rattle.chart_term.proofs.Instances.{IsInside, inside_left, inside_right, inside_own, cut_avoids, both_avoids}
 use Rattle.chart_term.proofs.Joining.{join_to, join_from, choice_to, choice_from}
 use Rattle.chart_term.proofs.Looping.{Eases, Falls, Rows, turns_to, turns_from}
@@ -27,9 +28,9 @@ module _ (k : NetPermits) (node : ℕ → ℕ → Tree) (o : Bool) where
     IsRegular (Event e) = Unit {0}
     IsRegular (Join m xs) = AreRegular xs
     IsRegular (Choice xs) = AreRegular xs
-    IsRegular (Bound x q) = IsRegular x × ((j : ℕ) → InPairs j q → (b : Block) (y : Tree) → permit k b x ≡ Some y → Shows w o y j)
-    IsRegular (Turns x lo hi r) = IsRegular x × IsRegularRow r × UpTo hi lo × Falls w o x (parts r)
-    IsRegular (Trail n f t c) = IsExactNet k node o n
+    IsRegular (Tied x q) = IsRegular x × ((j : ℕ) → InPairs j q → (b : Block) (y : Tree) → permit k b x ≡ Some y → Shows w o y j)
+    IsRegular (Loop x lo hi r) = IsRegular x × IsRegularRow r × UpTo hi lo × Falls w o x (parts r)
+    IsRegular (Walk n f t c) = IsExactNet k node o n
 
     pub AreRegular : Trees → Type 0
     AreRegular none = Unit {0}
@@ -50,9 +51,9 @@ module _ (k : NetPermits) (node : ℕ → ℕ → Tree) (o : Bool) where
     Fits b (Event e) = Unit {0}
     Fits b (Join m xs) = FitsAll b xs
     Fits b (Choice xs) = FitsAll b xs
-    Fits b (Bound x q) = Fits b x
-    Fits b (Turns x lo hi r) = IsFree b x × FitsRow b r
-    Fits b (Trail n f t c) = (m : ℕ) → IsIn m (k.nodes n) → IsFree b (node n m)
+    Fits b (Tied x q) = Fits b x
+    Fits b (Loop x lo hi r) = IsFree b x × FitsRow b r
+    Fits b (Walk n f t c) = (m : ℕ) → IsIn m (k.nodes n) → IsFree b (node n m)
 
     pub FitsAll : Block → Trees → Type 0
     FitsAll b none = Unit {0}
@@ -69,9 +70,9 @@ module _ (k : NetPermits) (node : ℕ → ℕ → Tree) (o : Bool) where
     only_fits c (Event e) = tt
     only_fits c (Join m xs) = only_fits_all c xs
     only_fits c (Choice xs) = only_fits_all c xs
-    only_fits c (Bound x q) = only_fits c x
-    only_fits c (Turns x lo hi r) = (λ s a h. h, only_fits_row c r)
-    only_fits c (Trail n f t d) = λ m i s a h. h
+    only_fits c (Tied x q) = only_fits c x
+    only_fits c (Loop x lo hi r) = (λ s a h. h, only_fits_row c r)
+    only_fits c (Walk n f t d) = λ m i s a h. h
 
     only_fits_all : (c : List ℕ) (xs : Trees) → FitsAll (only c) xs
     only_fits_all c none = tt
@@ -101,9 +102,9 @@ module _ (k : NetPermits) (node : ℕ → ℕ → Tree) (o : Bool) where
     inside (Event e) h s has_event = inside_own e
     inside (Join m xs) h s (has_join a) = inside_all m xs h s a
     inside (Choice xs) h s (has_choice a) = inside_one xs h s a
-    inside (Bound x q) h s (has_bound a) = inside x h.0 _ a
-    inside (Turns x lo hi r) h s (has_turns n a l u) = inside_row x r h.1 (touch k.spread x ++ touch_row k.spread r) (inside_right (touch k.spread x) (touch_row k.spread r)) (λ t b. inside_left (touch k.spread x) (touch_row k.spread r) t (inside x h.0 t b)) n s a
-    inside (Trail n f t c) h s (has_trail a) = inside_walk n h f t c s a
+    inside (Tied x q) h s (holds_tie a) = inside x h.0 _ a
+    inside (Loop x lo hi r) h s (holds_loop n a l u) = inside_row x r h.1 (touch k.spread x ++ touch_row k.spread r) (inside_right (touch k.spread x) (touch_row k.spread r)) (λ t b. inside_left (touch k.spread x) (touch_row k.spread r) t (inside x h.0 t b)) n s a
+    inside (Walk n f t c) h s (holds_walk a) = inside_walk n h f t c s a
 
     inside_all : (m : Mode) (xs : Trees) → AreRegular xs → (s : Shape) → HasParts w o m (items xs) s → IsInside (touch_all k.spread xs) s
     inside_all m none h s no_part = tt
@@ -161,18 +162,18 @@ module _ (k : NetPermits) (node : ℕ → ℕ → Tree) (o : Bool) where
   abbrev ShowsAll : List (ℕ × ℕ) → Option Tree → Type 0
   ShowsAll q r = (j : ℕ) → InPairs j q → (y : Tree) → r ≡ Some y → Shows w o y j
 
-  bound_sound : (b : Block) (x : Tree) (q : List (ℕ × ℕ)) (r : Option Tree) → ShowsAll q r → PatternsOf w o r ⊑ Avoiding b (HasPattern w o x) → PatternsOf w o (option_map (λ y. bound_of y q) r) ⊑ Avoiding b (HasPattern w o (Bound x q))
+  bound_sound : (b : Block) (x : Tree) (q : List (ℕ × ℕ)) (r : Option Tree) → ShowsAll q r → PatternsOf w o r ⊑ Avoiding b (HasPattern w o x) → PatternsOf w o (option_map (λ y. tie_of y q) r) ⊑ Avoiding b (HasPattern w o (Tied x q))
   bound_sound b x q None v f s h = absurd h
   bound_sound b x q (Some y) v f s h = let j = bound_to w o y q (λ n i. v n i y refl) s h in let k = bound_parts b x y q f j.0 j.1 in (k.0, k.1, on j.2 k.2)
     where
-      bound_parts : (b : Block) (x y : Tree) (q : List (ℕ × ℕ)) → HasPattern w o y ⊑ Avoiding b (HasPattern w o x) → HasPattern w o (Bound y q) ⊑ Avoiding b (HasPattern w o (Bound x q))
-      bound_parts b x y q f s (has_bound h) = let i = f _ h in (bind i.0 q, (has_bound i.1.0, i.1.1), in_bind i.2)
+      bound_parts : (b : Block) (x y : Tree) (q : List (ℕ × ℕ)) → HasPattern w o y ⊑ Avoiding b (HasPattern w o x) → HasPattern w o (Tied y q) ⊑ Avoiding b (HasPattern w o (Tied x q))
+      bound_parts b x y q f s (holds_tie h) = let i = f _ h in (bind i.0 q, (holds_tie i.1.0, i.1.1), in_bind i.2)
 
-  bound_whole : (b : Block) (x : Tree) (q : List (ℕ × ℕ)) (r : Option Tree) → ShowsAll q r → Avoiding b (HasPattern w o x) ⊑ PatternsOf w o r → Avoiding b (HasPattern w o (Bound x q)) ⊑ PatternsOf w o (option_map (λ y. bound_of y q) r)
-  bound_whole b x q None v f s (has_bound h, a) = absurd (f _ (h, a)).1
-  bound_whole b x q (Some y) v f s (has_bound h, a) =
+  bound_whole : (b : Block) (x : Tree) (q : List (ℕ × ℕ)) (r : Option Tree) → ShowsAll q r → Avoiding b (HasPattern w o x) ⊑ PatternsOf w o r → Avoiding b (HasPattern w o (Tied x q)) ⊑ PatternsOf w o (option_map (λ y. tie_of y q) r)
+  bound_whole b x q None v f s (holds_tie h, a) = absurd (f _ (h, a)).1
+  bound_whole b x q (Some y) v f s (holds_tie h, a) =
       let i = f _ (h, a) in
-      let j = bound_from w o y q (λ n d. v n d y refl) (bind i.0 q) (has_bound i.1) in
+      let j = bound_from w o y q (λ n d. v n d y refl) (bind i.0 q) (holds_tie i.1) in
       (j.0, j.1, on (in_bind i.2) j.2)
 
   -- choices
@@ -236,7 +237,7 @@ module _ (k : NetPermits) (node : ℕ → ℕ → Tree) (o : Bool) where
   gap_to b x c d g ps qs f (suc n) s (gaps_more {s = u} a av r) =
       let i = gap_to b x c d g ps qs f n _ r in
       let p = g u a av in
-      (join row u i.0, (gaps_more a p.0 i.1.0, (p.1, i.1.1)), in_join same i.2)
+      (join seq u i.0, (gaps_more a p.0 i.1.0, (p.1, i.1.1)), in_join same i.2)
 
   or_drop : (a b : Bool) → (a || b) ≡ false → (a || false) ≡ false
   or_drop true b h = cc
@@ -253,7 +254,7 @@ module _ (k : NetPermits) (node : ℕ → ℕ → Tree) (o : Bool) where
   gap_from b x c ps qs f n s (gaps_shut r, h) = let i = f n s (r, h) in (i.0, gaps_shut i.1, i.2)
   gap_from b x c ps qs f (suc n) s (gaps_more {s = u} a av r, h) =
       let i = gap_from b x c ps qs f n _ (r, h.1) in
-      (join row u i.0, gaps_more a ((both_avoids c b.instances u).from (av, instances_only b u h.0)) i.1, in_join same i.2)
+      (join seq u i.0, gaps_more a ((both_avoids c b.instances u).from (av, instances_only b u h.0)) i.1, in_join same i.2)
 
   row_gap : (b : Block) (x : Tree) → IsFree b x → (c : List ℕ) (ps : List Part) (r : Option (List Part)) → RowLeaves b x ps r → RowLeaves b x (Gap c ∷ ps) (wider c r b.instances)
   row_gap b x free c ps None h = record { to = λ n s a. absurd a; from = λ n. none n }
@@ -269,15 +270,15 @@ module _ (k : NetPermits) (node : ℕ → ℕ → Tree) (o : Bool) where
       to : (n : ℕ) (t : Option Tree) (r : Option (List Part)) → PatternsOf w o t ⊑ Avoiding b (HasPattern w o y) → ((n : ℕ) → RowsOf x r n ⊑ Avoiding b (Rows w o x ps n)) → RowsOf x (with_turn t r) n ⊑ Avoiding b (Rows w o x (Turn y ∷ ps) n)
       to n None r f g s a = absurd a
       to n (Some z) None f g s a = absurd a
-      to n (Some z) (Some qs) f g s (gaps_turn a q) = let i = f _ a in let j = g n _ q in (join row i.0 j.0, (gaps_turn i.1.0 j.1.0, (i.1.1, j.1.1)), in_join i.2 j.2)
+      to n (Some z) (Some qs) f g s (gaps_turn a q) = let i = f _ a in let j = g n _ q in (join seq i.0 j.0, (gaps_turn i.1.0 j.1.0, (i.1.1, j.1.1)), in_join i.2 j.2)
 
-      pair : (t : Option Tree) (r : Option (List Part)) (n : ℕ) (s u : Shape) → PatternsOf w o t s → RowsOf x r n u → RowsOf x (with_turn t r) n (join row s u)
+      pair : (t : Option Tree) (r : Option (List Part)) (n : ℕ) (s u : Shape) → PatternsOf w o t s → RowsOf x r n u → RowsOf x (with_turn t r) n (join seq s u)
       pair None r n s u a q = absurd a
       pair (Some z) None n s u a q = absurd q
       pair (Some z) (Some qs) n s u a q = gaps_turn a q
 
       from : (n : ℕ) → Avoiding b (Rows w o x (Turn y ∷ ps) n) ⊑ RowsOf x (with_turn t r) n
-      from n s (gaps_turn a q, e) = let i = g.whole _ (a, e.0) in let j = h.from n _ (q, e.1) in (join row i.0 j.0, pair t r n i.0 j.0 i.1 j.1, in_join i.2 j.2)
+      from n s (gaps_turn a q, e) = let i = g.whole _ (a, e.0) in let j = h.from n _ (q, e.1) in (join seq i.0 j.0, pair t r n i.0 j.0 i.1 j.1, in_join i.2 j.2)
 
   -- the blocks of the permitted row do not grow either
   pub wide_ease : (b : Block) (x : Tree) (c d : List ℕ) → Eases w o x c d → Eases w o x (c ∪ b.instances) (d ∪ b.instances)
@@ -321,11 +322,11 @@ module _ (k : NetPermits) (node : ℕ → ℕ → Tree) (o : Bool) where
 
   -- a loop
   loop_law : (b : Block) (x : Tree) → IsRegular x → ((c : List ℕ) → Leaves w o (only c) x (permit k (only c) x)) → (lo : ℕ) (hi : Option ℕ) → UpTo hi lo → (r : Row) (p : Option (List Part)) → FallsOf x p → RowLeaves b x (parts r) p
-      → Leaves w o b (Turns x lo hi r) (turns_in (λ c. permit k (only c) x) (touch k.spread x) x lo hi p)
+      → Leaves w o b (Loop x lo hi r) (turns_in (λ c. permit k (only c) x) (touch k.spread x) x lo hi p)
   loop_law b x h f lo hi u r None d g = record { sound = λ s a. absurd a; whole = none }
     where
-      none : Avoiding b (HasPattern w o (Turns x lo hi r)) ⊑ (λ s. ⊥)
-      none s (has_turns n a l v, e) = g.from n s (a, e)
+      none : Avoiding b (HasPattern w o (Loop x lo hi r)) ⊑ (λ s. ⊥)
+      none s (holds_loop n a l v, e) = g.from n s (a, e)
   loop_law b x h f lo hi u r (Some ps) d g = record { sound = to; whole = from }
     where
       ease : (c : List ℕ) → Eases w o x (cut (touch k.spread x) c) c
@@ -334,20 +335,20 @@ module _ (k : NetPermits) (node : ℕ → ℕ → Tree) (o : Bool) where
       hard : (c : List ℕ) → Eases w o x c (cut (touch k.spread x) c)
       hard c s a = (touched x h c s a).from
 
-      to : PatternsOf w o (turns_of (λ c. permit k (only c) x) (touch k.spread x) x lo hi ps) ⊑ Avoiding b (HasPattern w o (Turns x lo hi r))
+      to : PatternsOf w o (loop_of (λ c. permit k (only c) x) (touch k.spread x) x lo hi ps) ⊑ Avoiding b (HasPattern w o (Loop x lo hi r))
       to s a =
           let i = turns_to w o x (λ c. permit k (only c) x) f (touch k.spread x) ease hard lo hi ps u s a in
           let j = g.to i.1.0 i.0 i.1.1 in
-          (j.0, (has_turns i.1.0 j.1.0 i.1.2 i.1.3, j.1.1), on i.2 j.2)
+          (j.0, (holds_loop i.1.0 j.1.0 i.1.2 i.1.3, j.1.1), on i.2 j.2)
 
-      from : Avoiding b (HasPattern w o (Turns x lo hi r)) ⊑ PatternsOf w o (turns_of (λ c. permit k (only c) x) (touch k.spread x) x lo hi ps)
-      from s (has_turns n a l v, e) =
+      from : Avoiding b (HasPattern w o (Loop x lo hi r)) ⊑ PatternsOf w o (loop_of (λ c. permit k (only c) x) (touch k.spread x) x lo hi ps)
+      from s (holds_loop n a l v, e) =
           let i = g.from n s (a, e) in
           let j = turns_from w o x (λ c. permit k (only c) x) f (touch k.spread x) ease hard lo hi ps d i.0 (n, i.1, l, v) in
           (j.0, j.1, on i.2 j.2)
 
   -- a walk
-  trail_law : (b : Block) (n : ℕ) (f : Spot) (t : Goal) (c : List ℕ) → IsExactNet k node o n → ((m : ℕ) → IsIn m (k.nodes n) → IsFree b (node n m)) → Leaves w o b (Trail n f t c) (trail_of k n f t (c ∪ b.instances))
+  trail_law : (b : Block) (n : ℕ) (f : Spot) (t : Goal) (c : List ℕ) → IsExactNet k node o n → ((m : ℕ) → IsIn m (k.nodes n) → IsFree b (node n m)) → Leaves w o b (Walk n f t c) (walk_of k n f t (c ∪ b.instances))
   trail_law b n f t c h g = record { sound = to; whole = from }
     where
       avoided : (f : Spot) (t : Goal) (s : Shape) → Walks k node o n f t (c ∪ b.instances) s → Avoids b s
@@ -355,18 +356,18 @@ module _ (k : NetPermits) (node : ℕ → ℕ → Tree) (o : Bool) where
       avoided f t s (walk_last m i a) = tt
       avoided f t s (walk_step m {s = u} i a av r) = (g m (h.within f m i) u a ((both_avoids c b.instances u).to av).1, avoided (At m) t _ r)
 
-      to : PatternsOf w o (trail_of k n f t (c ∪ b.instances)) ⊑ Avoiding b (HasPattern w o (Trail n f t c))
+      to : PatternsOf w o (walk_of k n f t (c ∪ b.instances)) ⊑ Avoiding b (HasPattern w o (Walk n f t c))
       to s a =
           let i = trail_to k node o n h f t (c ∪ b.instances) s a in
-          (i.0, (has_trail (change k node o n h (c ∪ b.instances) c (λ m j u p q. ((both_avoids c b.instances u).to q).0) f t i.0 i.1), avoided f t i.0 i.1), i.2)
+          (i.0, (holds_walk (change k node o n h (c ∪ b.instances) c (λ m j u p q. ((both_avoids c b.instances u).to q).0) f t i.0 i.1), avoided f t i.0 i.1), i.2)
 
       narrow : (f : Spot) (t : Goal) (s : Shape) → Walks k node o n f t c s → Avoids b s → Walks k node o n f t (c ∪ b.instances) s
       narrow f t s (walk_stop a) e = walk_stop a
       narrow f t s (walk_last m i a) e = walk_last m i a
       narrow f t s (walk_step m {s = u} i a av r) e = walk_step m i a ((both_avoids c b.instances u).from (av, instances_only b u e.0)) (narrow (At m) t _ r e.1)
 
-      from : Avoiding b (HasPattern w o (Trail n f t c)) ⊑ PatternsOf w o (trail_of k n f t (c ∪ b.instances))
-      from s (has_trail a, e) = trail_from k node o n h f t (c ∪ b.instances) s (narrow f t s a e)
+      from : Avoiding b (HasPattern w o (Walk n f t c)) ⊑ PatternsOf w o (walk_of k n f t (c ∪ b.instances))
+      from s (holds_walk a, e) = trail_from k node o n h f t (c ∪ b.instances) s (narrow f t s a e)
 
   -- what is known of the parts of a join and a choice
   pub record AllLeave (b : Block) (xs : Trees) : Type 0 where
@@ -387,12 +388,12 @@ module _ (k : NetPermits) (node : ℕ → ℕ → Tree) (o : Bool) where
     permit_law (Event e) h b g = record { sound = event_sound b e (hits b e) refl; whole = event_whole b e (hits b e) refl }
     permit_law (Join m xs) h b g = let r = permits_law xs h b g in record { sound = join_sound m b xs (permit_all k b xs) (r.to m); whole = join_whole m b xs (permit_all k b xs) (r.from m) }
     permit_law (Choice xs) h b g = let r = permits_law xs h b g in record { sound = choice_sound b xs (permit_some k b xs) r.one_to; whole = choice_whole b xs (permit_some k b xs) r.one_from }
-    permit_law (Bound x q) h b g =
+    permit_law (Tied x q) h b g =
         let r = permit_law x h.0 b g in
         let v : ShowsAll q (permit k b x) = λ j i y e. h.1 j i b y e in
         record { sound = bound_sound b x q (permit k b x) v r.sound; whole = bound_whole b x q (permit k b x) v r.whole }
-    permit_law (Turns x lo hi r) h b g = loop_law b x h.0 (λ c. permit_law x h.0 (only c) (only_fits c x)) lo hi h.2 r (permit_row k b r) (falls_wide b x r h.3) (row_law x r h.1 b g.0 g.1)
-    permit_law (Trail n f t c) h b g = trail_law b n f t c h g
+    permit_law (Loop x lo hi r) h b g = loop_law b x h.0 (λ c. permit_law x h.0 (only c) (only_fits c x)) lo hi h.2 r (permit_row k b r) (falls_wide b x r h.3) (row_law x r h.1 b g.0 g.1)
+    permit_law (Walk n f t c) h b g = trail_law b n f t c h g
 
     pub permits_law : (xs : Trees) → AreRegular xs → (b : Block) → FitsAll b xs → AllLeave b xs
     permits_law none h b g = record { to = λ m. no_parts_sound m b; from = λ m. no_parts_whole m b; one_to = no_one_to b; one_from = no_one_from b }

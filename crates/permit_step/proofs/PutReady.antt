@@ -2,14 +2,14 @@
 use Rattle.std.specs.Option.{option_map}
 use Rattle.std.specs.Prelude.{ℕ, zero, suc, ◌+◌, ◌<◌, Bool, true, false, List, [], ◌∷◌, ◌≡◌, Option, Some, None, refl, length}
 use Rattle.std.proofs.Common.{ap, sym, ◌∙◌, subst, arith}
-use Rattle.msc_base.specs.Patterns.{Mode, row, aside}
+use Rattle.msc_base.specs.Patterns.{Mode, seq, par}
 use Rattle.hmsc_graph.specs.Graphs.{Spot, At, Goal, To}
-use Rattle.chart_term.specs.NormalForms.{NetPermits, only, cut, join_all, and_then, bound_of, turns_of, trail_of}
+use Rattle.chart_term.specs.NormalForms.{NetPermits, only, cut, join_all, and_then, tie_of, loop_of, walk_of}
 use Rattle.chart_term.specs.Properties.{Each, EachTurn, EachGap, MayHave}
 use Rattle.chart_term.specs.Spreads.{touch, spread_of}
 use Rattle.chart_term.specs.Tables.{Tables, nodes_of}
 use Rattle.chart_term.specs.TermPatterns.{instances_of, earlier}
-use Rattle.chart_term.specs.Terms.{TermEvent, Block, Tree, Nil, Event, Join, Choice, Bound, Turns, Trail, Trees, none, more, Row, ends, gap, turn, items, Part, Gap, Turn, parts, ◌∪◌}
+use Rattle.chart_term.specs.Terms.{TermEvent, Block, Tree, Nil, Event, Join, Choice, Tied, Loop, Walk, Trees, none, more, Row, ends, gap, turn, items, Part, Gap, Turn, parts, ◌∪◌}
 use Rattle.permit_step.specs.Children.{parts_left, RowLeft, turn_first, gap_first, row_left, where_so, loop_left, three, put}
 use Rattle.permit_step.specs.Listing.{stay, may_begin, may_lead}
 use Rattle.permit_step.specs.Normality.{IsSet, IsNormal, AreNormal, IsNormalRow}
@@ -62,8 +62,8 @@ module _ (w : Tables) (tables : AreReadyTables w) (e : TermEvent) where
   and_each (Some x) (Some xs) h g = (h, g)
 
   stay_ready : (m : Mode) (x : Tree) → IsReady w x → MayHave (IsReady w) (stay k m e x)
-  stay_ready row x h = may_ready (only (instances_of e).instances) x h
-  stay_ready aside x h = h
+  stay_ready seq x h = may_ready (only (instances_of e).instances) x h
+  stay_ready par x h = h
 
   parts_ready : (m : Mode) (xs : List Tree) (i : ℕ) (y : Tree) → Each (IsReady w) xs → IsReady w y → MayEach (parts_left k m e xs i y)
   parts_ready m [] i y h r = tt
@@ -74,9 +74,9 @@ module _ (w : Tables) (tables : AreReadyTables w) (e : TermEvent) where
   join_ready m None h = tt
   join_ready m (Some xs) h = ready_is_kept.join w m xs h
 
-  tie_ready : (q : List (ℕ × ℕ)) (o : Option Tree) → MayHave (IsReady w) o → MayHave (IsReady w) (option_map (λ z. bound_of z q) o)
+  tie_ready : (q : List (ℕ × ℕ)) (o : Option Tree) → MayHave (IsReady w) o → MayHave (IsReady w) (option_map (λ z. tie_of z q) o)
   tie_ready q None h = tt
-  tie_ready q (Some x) h = ready_is_kept.bound w x q h
+  tie_ready q (Some x) h = ready_is_kept.tied w x q h
 
   turn_row : (o : Option Tree) (p : Option RowLeft) → MayHave (IsReady w) o → MayRow p → MayRow (turn_first o p)
   turn_row None p h g = tt
@@ -98,36 +98,36 @@ module _ (w : Tables) (tables : AreReadyTables w) (e : TermEvent) where
   so_ready true o h = h
   so_ready false o h = tt
 
-  turns_are : (x : Tree) (lo : ℕ) (hi : Option ℕ) (ps : List Part) → IsReady w x → EachTurn (IsReady w) ps → EachGap IsSet ps → MayHave (IsReady w) (turns_of (λ c. permit k (only c) x) (touch k.spread x) x lo hi ps)
+  turns_are : (x : Tree) (lo : ℕ) (hi : Option ℕ) (ps : List Part) → IsReady w x → EachTurn (IsReady w) ps → EachGap IsSet ps → MayHave (IsReady w) (loop_of (λ c. permit k (only c) x) (touch k.spread x) x lo hi ps)
   turns_are x lo hi ps h g s =
-      may_both w (turns_of (λ c. permit k (only c) x) (touch k.spread x) x lo hi ps) (turns_within w (λ c. permit k (only c) x) (touch k.spread x) x lo hi ps h.within (turns_in_net w ps g)) (turns_normal k x lo hi ps h.normal (turns_in_form w ps g) s)
+      may_both w (loop_of (λ c. permit k (only c) x) (touch k.spread x) x lo hi ps) (turns_within w (λ c. permit k (only c) x) (touch k.spread x) x lo hi ps h.within (turns_in_net w ps g)) (turns_normal k x lo hi ps h.normal (turns_in_form w ps g) s)
 
   loop_ready : (x : Tree) (lo : ℕ) (hi : Option ℕ) (o : Option RowLeft) → IsReady w x → MayRow o → MayHave (IsReady w) (loop_left k x lo hi o)
   loop_ready x lo hi None h g = tt
   loop_ready x lo hi (Some r) h g =
-      so_ready (may_begin r.begins hi) (turns_of (λ c. permit k (only c) x) (touch k.spread x) x (down r.begins lo) (fewer r.begins hi) r.row_parts) (turns_are x (down r.begins lo) (fewer r.begins hi) r.row_parts h g.0 g.1)
+      so_ready (may_begin r.begins hi) (loop_of (λ c. permit k (only c) x) (touch k.spread x) x (down r.begins lo) (fewer r.begins hi) r.row_parts) (turns_are x (down r.begins lo) (fewer r.begins hi) r.row_parts h g.0 g.1)
 
-  trail_ready : (n : ℕ) (f : Spot) (t : Goal) (c d : List ℕ) → IsWithin w (Trail n f t c) → IsSet d → MayHave (IsReady w) (trail_of k n f t d)
-  trail_ready n f t c d h s = may_both w (trail_of k n f t d) (trail_in w n f t c (cut (k.spread n) d) h) (trail_normal k n f t d s)
+  trail_ready : (n : ℕ) (f : Spot) (t : Goal) (c d : List ℕ) → IsWithin w (Walk n f t c) → IsSet d → MayHave (IsReady w) (walk_of k n f t d)
+  trail_ready n f t c d h s = may_both w (walk_of k n f t d) (trail_in w n f t c (cut (k.spread n) d) h) (trail_normal k n f t d s)
 
   three_ready : (u v : Option Tree) (y : Tree) → MayHave (IsReady w) u → IsReady w y → MayHave (IsReady w) v → MayHave (IsReady w) (three u y v)
   three_ready None v y h r g = tt
   three_ready (Some u) None y h r g = tt
-  three_ready (Some u) (Some v) y h r g = ready_is_kept.join w row (u ∷ y ∷ v ∷ []) (h, (r, (g, tt)))
+  three_ready (Some u) (Some v) y h r g = ready_is_kept.join w seq (u ∷ y ∷ v ∷ []) (h, (r, (g, tt)))
 
   pub put-ready : (x : Tree) (i : ℕ) (y : Tree) → IsReady w x → i < child_count w x → IsReady w y → MayHave (IsReady w) (put k e x i y)
   put-ready Nil i y h l r = tt
   put-ready (Event f) i y h l r = tt
   put-ready (Join m xs) i y h l r = join_ready m (parts_left k m e (items xs) i y) (parts_ready m (items xs) i y (each_out w xs h.within h.normal.0) r)
   put-ready (Choice xs) i y h l r = r
-  put-ready (Bound x q) i y h l r = tie_ready q (permit k (earlier q e) y) (may_ready (earlier q e) y r)
-  put-ready (Turns x lo hi r) i y h l s =
+  put-ready (Tied x q) i y h l r = tie_ready q (permit k (earlier q e) y) (may_ready (earlier q e) y r)
+  put-ready (Loop x lo hi r) i y h l s =
       loop_ready x lo hi (row_left k e (parts r) i y) (record { within = h.within.0; normal = h.normal.0 }) (row_ready (parts r) i y (turns_out w r h.within.1 h.normal.1) h.normal.2.sets s)
-  put-ready (Trail n f t c) i y h l r =
+  put-ready (Walk n f t c) i y h l r =
       let size = sizes-are w tables n h.within.0 in
       let there : i < length (nodes_of w n) = omega arith in
-      so_ready (may_lead k n f (To i) (c ∪ (instances_of e).instances)) (where_so (may_lead k n (At i) t c) (three (trail_of k n f (To i) (c ∪ (instances_of e).instances)) y (trail_of k n (At i) t c)))
-      (so_ready (may_lead k n (At i) t c) (three (trail_of k n f (To i) (c ∪ (instances_of e).instances)) y (trail_of k n (At i) t c))
-      (three_ready (trail_of k n f (To i) (c ∪ (instances_of e).instances)) (trail_of k n (At i) t c) y
+      so_ready (may_lead k n f (To i) (c ∪ (instances_of e).instances)) (where_so (may_lead k n (At i) t c) (three (walk_of k n f (To i) (c ∪ (instances_of e).instances)) y (walk_of k n (At i) t c)))
+      (so_ready (may_lead k n (At i) t c) (three (walk_of k n f (To i) (c ∪ (instances_of e).instances)) y (walk_of k n (At i) t c))
+      (three_ready (walk_of k n f (To i) (c ∪ (instances_of e).instances)) (walk_of k n (At i) t c) y
       (trail_ready n f (To i) c (c ∪ (instances_of e).instances) (h.within.0, h.within.1, there) (union_set c (instances_of e).instances h.normal.set)) r
       (trail_ready n (At i) t c c (h.within.0, there, h.within.2) h.normal.set)))

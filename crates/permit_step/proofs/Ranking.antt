@@ -2,10 +2,10 @@
 use Rattle.std.specs.Option.{option_map}
 use Rattle.std.specs.Prelude.{ℕ, zero, suc, ◌+◌, ◌≤◌, List, [], ◌∷◌, ◌≡◌, Option, Some, None, Bool, true, false, ◌++◌, refl, length, ◌&&◌, ◌==◌}
 use Rattle.std.proofs.Common.{ap, arith}
-use Rattle.msc_base.specs.Patterns.{Mode, row, aside}
+use Rattle.msc_base.specs.Patterns.{Mode, seq, par}
 use Rattle.hmsc_graph.specs.Graphs.{Spot, Goal, To, End, Any, reach}
-use Rattle.chart_term.specs.NormalForms.{NetPermits, only, cut, open_part, flat, join_of, join_all, and_then, or_skip, unless, choice_of, choice_form, unless_same, without, distinct, open_choice, open_choices, bound_form, bound_of, kept_pairs, numbers, cut_gaps, drop_nil, at_zero, live, drop_free, has_free, lower_of, thin, thin_gap, has_gap, begun, turns_form, turns_of, turns_in, trail_cut, walk_form, allowed, are_nil, unless_pair, without_pair, with_pair}
-use Rattle.chart_term.specs.Terms.{TermEvent, Tree, Nil, Event, Join, Choice, Bound, Turns, Trail, Trees, none, more, Row, ends, gap, turn, Block, hits, items, trees, Part, Gap, Turn, parts, row_of, ◌∪◌, has, weight, weights, row_weight}
+use Rattle.chart_term.specs.NormalForms.{NetPermits, only, cut, open_part, flat, join_of, join_all, and_then, or_skip, unless, choice_of, choice_form, unless_same, without, distinct, open_choice, open_choices, bound_form, tie_of, kept_pairs, numbers, cut_gaps, drop_nil, at_zero, live, drop_free, has_free, lower_of, thin, thin_gap, has_gap, begun, turns_form, loop_of, turns_in, walk_cut, walk_form, allowed, are_nil, unless_pair, without_pair, with_pair}
+use Rattle.chart_term.specs.Terms.{TermEvent, Tree, Nil, Event, Join, Choice, Tied, Loop, Walk, Trees, none, more, Row, ends, gap, turn, Block, hits, items, trees, Part, Gap, Turn, parts, row_of, ◌∪◌, has, weight, weights, row_weight}
 use Rattle.chart_term.proofs.Looping.{IsSubRow, sub_end, sub_gap, sub_drop, sub_turn, sub_over, sub_nil, sub_zero, sub_live, sub_free}
 use Rattle.chart_term.specs.Spreads.{touch}
 use Rattle.permit_step.specs.Permission.{permit, permit_all, permit_some, permit_row, wider, with_turn}
@@ -17,9 +17,9 @@ abbrev mutual
   rank f (Event e) = 1
   rank f (Join m xs) = 1 + ranks f xs
   rank f (Choice xs) = 1 + ranks f xs
-  rank f (Bound x q) = 1 + rank f x + length q
-  rank f (Turns x lo hi r) = 1 + rank f x + row_rank f r
-  rank f (Trail n s t c) = 1 + f n
+  rank f (Tied x q) = 1 + rank f x + length q
+  rank f (Loop x lo hi r) = 1 + rank f x + row_rank f r
+  rank f (Walk n s t c) = 1 + f n
 
   pub ranks : (ℕ → ℕ) → Trees → ℕ
   ranks f none = 0
@@ -64,15 +64,15 @@ module _ (k : NetPermits) (nr : ℕ → ℕ) where
 
   open_rank : (m : Mode) (x : Tree) → list_rank (open_part m x) ≤ rank nr x
   open_rank m Nil = omega arith
-  open_rank row (Join row xs) = omega (arith, ranks-items xs)
-  open_rank row (Join aside xs) = omega arith
-  open_rank aside (Join row xs) = omega arith
-  open_rank aside (Join aside xs) = omega (arith, ranks-items xs)
+  open_rank seq (Join seq xs) = omega (arith, ranks-items xs)
+  open_rank seq (Join par xs) = omega arith
+  open_rank par (Join seq xs) = omega arith
+  open_rank par (Join par xs) = omega (arith, ranks-items xs)
   open_rank m (Event e) = omega arith
   open_rank m (Choice xs) = omega arith
-  open_rank m (Bound x q) = omega arith
-  open_rank m (Turns x lo hi r) = omega arith
-  open_rank m (Trail n f t c) = omega arith
+  open_rank m (Tied x q) = omega arith
+  open_rank m (Loop x lo hi r) = omega arith
+  open_rank m (Walk n f t c) = omega arith
 
   flat_rank : (m : Mode) (xs : List Tree) → list_rank (flat m xs) ≤ list_rank xs
   flat_rank m [] = omega arith
@@ -127,10 +127,10 @@ module _ (k : NetPermits) (nr : ℕ → ℕ) where
 
   form_rank : (t : Bool) (x : Tree) (lo : ℕ) (hi : Option ℕ) (ps : List Part) (n : ℕ) → parts_rank ps ≤ n → OptLe (turns_form t x lo hi ps) (1 + rank nr x + n)
   form_rank true x lo hi ps n l = omega (arith, rank-row_of ps)
-  form_rank false x zero hi ps n l = omega (arith, join_rank row (begun ps), begun_rank ps)
+  form_rank false x zero hi ps n l = omega (arith, join_rank seq (begun ps), begun_rank ps)
   form_rank false x (suc lo) hi ps n l = tt
 
-  pub turns_rank : (p : List ℕ → Option Tree) (all : List ℕ) (x : Tree) (lo : ℕ) (hi : Option ℕ) (ps : List Part) (n : ℕ) → parts_rank ps ≤ n → OptLe (turns_of p all x lo hi ps) (1 + rank nr x + n)
+  pub turns_rank : (p : List ℕ → Option Tree) (all : List ℕ) (x : Tree) (lo : ℕ) (hi : Option ℕ) (ps : List Part) (n : ℕ) → parts_rank ps ≤ n → OptLe (loop_of p all x lo hi ps) (1 + rank nr x + n)
   turns_rank p all x lo hi ps n l =
       let a = cut_gaps all ps in
       let b = drop_nil a in
@@ -149,12 +149,12 @@ module _ (k : NetPermits) (nr : ℕ → ℕ) where
   turns_in_rank p all x lo hi None n l = tt
   turns_in_rank p all x lo hi (Some ps) n l = turns_rank p all x lo hi ps n l
 
-  walk_rank : (a b : Bool) (n : ℕ) (f : Spot) (t : Goal) (c : List ℕ) → OptLe (walk_form a b (Trail n f t c)) (1 + nr n)
+  walk_rank : (a b : Bool) (n : ℕ) (f : Spot) (t : Goal) (c : List ℕ) → OptLe (walk_form a b (Walk n f t c)) (1 + nr n)
   walk_rank false b n f t c = tt
   walk_rank true true n f t c = omega arith
   walk_rank true false n f t c = omega arith
 
-  trail_cut_rank : (n : ℕ) (f : Spot) (t : Goal) (c : List ℕ) → OptLe (trail_cut k n f t c) (1 + nr n)
+  trail_cut_rank : (n : ℕ) (f : Spot) (t : Goal) (c : List ℕ) → OptLe (walk_cut k n f t c) (1 + nr n)
   trail_cut_rank n f Any c = omega arith
   trail_cut_rank n f (To m) c = walk_rank (reach (k.net n) (allowed k n c) f (To m)) (are_nil k n f (To m) c (allowed k n c)) n f (To m) c
   trail_cut_rank n f End c = walk_rank (reach (k.net n) (allowed k n c) f End) (are_nil k n f End c (allowed k n c)) n f End c
@@ -194,9 +194,9 @@ module _ (k : NetPermits) (nr : ℕ → ℕ) where
   opened_rank Nil = omega arith
   opened_rank (Event e) = omega arith
   opened_rank (Join m xs) = omega arith
-  opened_rank (Bound x q) = omega arith
-  opened_rank (Turns x lo hi r) = omega arith
-  opened_rank (Trail n f t c) = omega arith
+  opened_rank (Tied x q) = omega arith
+  opened_rank (Loop x lo hi r) = omega arith
+  opened_rank (Walk n f t c) = omega arith
 
   choices_rank : (xs : List Tree) → list_rank (open_choices xs) ≤ list_rank xs
   choices_rank [] = omega arith
@@ -228,7 +228,7 @@ module _ (k : NetPermits) (nr : ℕ → ℕ) where
   kept_length ns [] = omega arith
   kept_length ns (p ∷ q) = omega (arith, with_length (has ns p.0 && has ns p.1) p (kept_pairs ns q), kept_length ns q)
 
-  bound_rank : (r : Option Tree) (q : List (ℕ × ℕ)) (n : ℕ) → OptLe r n → OptLe (option_map (λ y. bound_of y q) r) (1 + n + length q)
+  bound_rank : (r : Option Tree) (q : List (ℕ × ℕ)) (n : ℕ) → OptLe r n → OptLe (option_map (λ y. tie_of y q) r) (1 + n + length q)
   bound_rank None q n l = tt
   bound_rank (Some y) q n l = omega (arith, tie_rank y (kept_pairs (numbers y) q), kept_length (numbers y) q)
 
@@ -251,9 +251,9 @@ module _ (k : NetPermits) (nr : ℕ → ℕ) where
     permit_le b (Event e) = event_rank (hits b e) e
     permit_le b (Join m xs) = map_join_rank m (permit_all k b xs) (ranks nr xs) (all_le b xs)
     permit_le b (Choice xs) = choice_rank (permit_some k b xs) (ranks nr xs) (some_le b xs)
-    permit_le b (Bound x q) = bound_rank (permit k b x) q (rank nr x) (permit_le b x)
-    permit_le b (Turns x lo hi r) = turns_in_rank (λ c. permit k (only c) x) (touch k.spread x) x lo hi (permit_row k b r) (row_rank nr r) (row_le b r)
-    permit_le b (Trail n f t c) = trail_cut_rank n f t (cut (k.spread n) (c ∪ b.instances))
+    permit_le b (Tied x q) = bound_rank (permit k b x) q (rank nr x) (permit_le b x)
+    permit_le b (Loop x lo hi r) = turns_in_rank (λ c. permit k (only c) x) (touch k.spread x) x lo hi (permit_row k b r) (row_rank nr r) (row_le b r)
+    permit_le b (Walk n f t c) = trail_cut_rank n f t (cut (k.spread n) (c ∪ b.instances))
 
     all_le : (b : Block) (xs : Trees) → ListLe (permit_all k b xs) (ranks nr xs)
     all_le b none = omega arith
@@ -281,9 +281,9 @@ mutual
   weight_rank (Event e) = refl
   weight_rank (Join m xs) = ap (λ n. 1 + n) (weights_rank xs)
   weight_rank (Choice xs) = ap (λ n. 1 + n) (weights_rank xs)
-  weight_rank (Bound x q) = ap (λ n. 1 + n + length q) (weight_rank x)
-  weight_rank (Turns x lo hi r) = λ i. 1 + weight_rank x i + row_weight_rank r i
-  weight_rank (Trail n s t c) = refl
+  weight_rank (Tied x q) = ap (λ n. 1 + n + length q) (weight_rank x)
+  weight_rank (Loop x lo hi r) = λ i. 1 + weight_rank x i + row_weight_rank r i
+  weight_rank (Walk n s t c) = refl
 
   weights_rank : (xs : Trees) → weights xs ≡ ranks (λ n. 0) xs
   weights_rank none = refl

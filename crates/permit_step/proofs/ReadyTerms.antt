@@ -1,11 +1,11 @@
 -- Ready terms are made of ready terms, and stay ready with one more net.
 use Rattle.std.specs.Prelude.{ℕ, Bool, List, [], ◌∷◌, ◌++◌, ◌≡◌, Some, length}
 use Rattle.std.proofs.Common.{◌∙◌, ap, sym, subst}
-use Rattle.msc_base.specs.Patterns.{Mode, row, aside}
+use Rattle.msc_base.specs.Patterns.{Mode, seq, par}
 use Rattle.msc_base.specs.declared.label.Label.{Label}
 use Rattle.hmsc_graph.specs.Nets.{size_of}
 use Rattle.chart_term.specs.NetValues.{NetsValue}
-use Rattle.chart_term.specs.NormalForms.{join_all, choice_of, bound_of}
+use Rattle.chart_term.specs.NormalForms.{join_all, choice_of, tie_of}
 use Rattle.chart_term.specs.Properties.{Each, MayHave}
 use Rattle.chart_term.specs.Tables.{Tables, NetEntry, net_count}
 use Rattle.chart_term.specs.Terms.{TermEvent, Tree, Nil, Event}
@@ -31,7 +31,7 @@ module _ (w : Tables) where
   ready_join : (m : Mode) (xs : List Tree) → Each (IsReady w) xs → IsReady w (join_all m xs)
   ready_join m xs h = record { within = join_in w m xs (each_within xs h); normal = join_normal (permits_of w) m xs (each_normal xs h) }
 
-  ready_bound : (x : Tree) (q : List (ℕ × ℕ)) → IsReady w x → IsReady w (bound_of x q)
+  ready_bound : (x : Tree) (q : List (ℕ × ℕ)) → IsReady w x → IsReady w (tie_of x q)
   ready_bound x q h = record { within = bound_in w x q h.within; normal = bound_normal (permits_of w) x q h.normal }
 
   ready_event : (e : TermEvent) → IsReady w (Event e)
@@ -43,21 +43,21 @@ ready_is_kept = record {
   event = ready_event;
   join = ready_join;
   choice = λ w xs h. may_both w (choice_of xs) (choice_in w xs (each_within w xs h)) (choice_normal (permits_of w) xs (each_normal w xs h));
-  bound = ready_bound;
+  tied = ready_bound;
   later = λ w e x h. up_ready e w x h;
 }
 
 pub ready-event : (w : Tables) (x : Tree) (e : TermEvent) → x ≡ Event e → IsReady w x
 ready-event w x e q = subst (IsReady w) (sym q) (ready_event w e)
 
-pub ready-row : (w : Tables) (x : Tree) (xs : List Tree) → x ≡ join_all row xs → Each (IsReady w) xs → IsReady w x
-ready-row w x xs q h = subst (IsReady w) (sym q) (ready_join w row xs h)
+pub ready-row : (w : Tables) (x : Tree) (xs : List Tree) → x ≡ join_all seq xs → Each (IsReady w) xs → IsReady w x
+ready-row w x xs q h = subst (IsReady w) (sym q) (ready_join w seq xs h)
 
-pub ready-tied : (w : Tables) (x y : Tree) (q : List (ℕ × ℕ)) → x ≡ bound_of y q → IsReady w y → IsReady w x
+pub ready-tied : (w : Tables) (x y : Tree) (q : List (ℕ × ℕ)) → x ≡ tie_of y q → IsReady w y → IsReady w x
 ready-tied w x y q p h = subst (IsReady w) (sym p) (ready_bound w y q h)
 
-pub aside_ready : (w : Tables) (x : Tree) (xs : List Tree) → x ≡ join_all aside xs → Each (IsReady w) xs → IsReady w x
-aside_ready w x xs q h = subst (IsReady w) (sym q) (ready_join w aside xs h)
+pub aside_ready : (w : Tables) (x : Tree) (xs : List Tree) → x ≡ join_all par xs → Each (IsReady w) xs → IsReady w x
+aside_ready w x xs q h = subst (IsReady w) (sym q) (ready_join w par xs h)
 
 pub choice_ready : (w : Tables) (x : Tree) (xs : List Tree) → choice_of xs ≡ Some x → Each (IsReady w) xs → IsReady w x
 choice_ready w x xs q h = at_some (IsReady w) (choice_of xs) x q (ready_is_kept.choice w xs h)

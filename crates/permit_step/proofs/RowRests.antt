@@ -1,8 +1,8 @@
 -- The normal form of a row is made part by part from its end.
 use Rattle.std.specs.Prelude.{ℕ, zero, suc, Bool, true, false, List, [], ◌∷◌, ◌≡◌, ◌||◌, Option, Some, None, refl}
 use Rattle.std.proofs.Common.{ap, ◌∙◌}
-use Rattle.chart_term.specs.NormalForms.{cut, cut_gaps, put_turn, drop_nil, at_zero, live, live_gap, is_nil, has_free, free_gap, drop_free, thin, turns_of}
-use Rattle.chart_term.specs.Terms.{Tree, Nil, Event, Join, Choice, Bound, Turns, Trail, Part, Gap, Turn}
+use Rattle.chart_term.specs.NormalForms.{cut, cut_gaps, put_turn, drop_nil, at_zero, live, live_gap, is_nil, has_free, free_gap, drop_free, thin, loop_of}
+use Rattle.chart_term.specs.Terms.{Tree, Nil, Event, Join, Choice, Tied, Loop, Walk, Part, Gap, Turn}
 use Rattle.permit_step.specs.RowRests.{RowRest, no_rest, turn_before, gap_before, tried_before, open_before, rest_of, rest_end}
 
 module _ (p : List ℕ → Option Tree) where
@@ -31,23 +31,23 @@ module _ (p : List ℕ → Option Tree) where
   turn_step None (Event e) qs = refl
   turn_step None (Join m xs) qs = refl
   turn_step None (Choice xs) qs = refl
-  turn_step None (Bound x q) qs = refl
-  turn_step None (Turns x lo h r) qs = refl
-  turn_step None (Trail n s t c) qs = refl
+  turn_step None (Tied x q) qs = refl
+  turn_step None (Loop x lo h r) qs = refl
+  turn_step None (Walk n s t c) qs = refl
   turn_step (Some zero) Nil qs = refl
   turn_step (Some zero) (Event e) qs = refl
   turn_step (Some zero) (Join m xs) qs = refl
   turn_step (Some zero) (Choice xs) qs = refl
-  turn_step (Some zero) (Bound x q) qs = refl
-  turn_step (Some zero) (Turns x lo h r) qs = refl
-  turn_step (Some zero) (Trail n s t c) qs = refl
+  turn_step (Some zero) (Tied x q) qs = refl
+  turn_step (Some zero) (Loop x lo h r) qs = refl
+  turn_step (Some zero) (Walk n s t c) qs = refl
   turn_step (Some (suc n)) Nil qs = refl
   turn_step (Some (suc n)) (Event e) qs = refl
   turn_step (Some (suc n)) (Join m xs) qs = refl
   turn_step (Some (suc n)) (Choice xs) qs = refl
-  turn_step (Some (suc n)) (Bound x q) qs = refl
-  turn_step (Some (suc n)) (Turns x lo h r) qs = refl
-  turn_step (Some (suc n)) (Trail k s t c) qs = refl
+  turn_step (Some (suc n)) (Tied x q) qs = refl
+  turn_step (Some (suc n)) (Loop x lo h r) qs = refl
+  turn_step (Some (suc n)) (Walk k s t c) qs = refl
 
   none_step : (hi : Option ℕ) → after_zero hi [] ≡ no_rest
   none_step None = refl
@@ -59,5 +59,5 @@ module _ (p : List ℕ → Option Tree) where
   rest_is all hi (Gap c ∷ ps) = gap_step hi (cut all c) (drop_nil (cut_gaps all ps)) ∙ ap (open_before hi (p (cut all c)) (cut all c)) (rest_is all hi ps)
   rest_is all hi (Turn x ∷ ps) = turn_step hi x (drop_nil (cut_gaps all ps)) ∙ ap (turn_before x) (rest_is all hi ps)
 
-  pub turns-rest : (all : List ℕ) (x : Tree) (lo : ℕ) (hi : Option ℕ) (ps : List Part) → turns_of p all x lo hi ps ≡ rest_end x lo hi (rest_of p all hi ps)
+  pub turns-rest : (all : List ℕ) (x : Tree) (lo : ℕ) (hi : Option ℕ) (ps : List Part) → loop_of p all x lo hi ps ≡ rest_end x lo hi (rest_of p all hi ps)
   turns-rest all x lo hi ps = ap (rest_end x lo hi) (rest_is all hi ps)

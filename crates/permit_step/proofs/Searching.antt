@@ -16,7 +16,7 @@ use Rattle.permit_step.specs.Taking.{IsAfter, after_event}
 use Rattle.chart_term.specs.Facts.{instances}
 use Rattle.chart_term.specs.Views.{event_of}
 use Rattle.chart_term.specs.declared.event.Event.{Event as EventShown}
-use Rattle.msc_base.specs.Blocks.{BlockValue}
+use Rattle.bit_sets.specs.Blocks.{BlockValue}
 use Rattle.permit_step.proofs.TouchFacts.{union_has}
 use Rattle.permit_step.specs.declared.ascent.Frame.{Frame}
 use Rattle.permit_step.specs.declared.found.Found.{Found}

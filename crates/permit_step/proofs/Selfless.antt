@@ -1,14 +1,14 @@
 -- In a sound term no number stands before itself, since each pattern has a linear order.
 use Rattle.std.specs.Prelude.{ℕ, ◌≤◌, ◌==◌, ◌&&◌, ◌||◌, ◌⊎◌, Bool, true, false, List, [], ◌∷◌, ◌≡◌, Option, refl}
 use Rattle.std.proofs.Common.{arith, inl, inr, sym, ◌∙◌}
-use Rattle.msc_base.specs.Patterns.{Mode, row, empty, one, join, bind}
+use Rattle.msc_base.specs.Patterns.{Mode, seq, empty, one, join, bind}
 use Rattle.chart_term.specs.NormalForms.{numbers}
 use Rattle.chart_term.specs.Properties.{Each, EachTurn}
 use Rattle.chart_term.specs.Tables.{Tables, terms_over}
-use Rattle.chart_term.specs.TermMeanings.{HasPattern, has_join, has_choice, has_bound, has_turns, HasParts, one_part, HasChoice, this_one, that_one, HasRow, gaps_end, gaps_turn, gaps_shut, gaps_more}
+use Rattle.chart_term.specs.TermMeanings.{HasPattern, has_join, has_choice, holds_tie, holds_loop, HasParts, one_part, HasChoice, this_one, that_one, HasRow, gaps_end, gaps_turn, gaps_shut, gaps_more}
 use Rattle.chart_term.specs.TermPatterns.{Shape, Avoids, Takes, take_one, take_first, take_later, take_bind, earlier, HasNoEvent, InPairs, pairs}
 use Rattle.chart_term.specs.TermRuns.{Runs, run_end, run_take}
-use Rattle.chart_term.specs.Terms.{TermEvent, Block, has, hits, Tree, Nil, Event, Join, Choice, Bound, Turns, Trail, Trees, none, more, Row, ends, gap, turn, items, Part, parts}
+use Rattle.chart_term.specs.Terms.{TermEvent, Block, has, hits, Tree, Nil, Event, Join, Choice, Tied, Loop, Walk, Trees, none, more, Row, ends, gap, turn, items, Part, parts}
 use Rattle.chart_term.proofs.Arranging.{linear_run}
 use Rattle.chart_term.proofs.Sameness.{hits_earlier}
 use Rattle.permit_step.specs.FullSoundness.{EveryPartOf, EveryRowPart, times, HasOrders, HaveOperandsOrders}
@@ -111,12 +111,12 @@ module _ (w : Tables) where
 
   row_runs : {x : Tree} {ps : List Part} {n : ℕ} {s : Shape} → HasRow (terms_over w) true x ps n s → ((u : Shape) → HasRow (terms_over w) true x ps n u → (l : List ℕ) × Runs u l) → EachTurn RunsOf ps
   row_runs gaps_end f = tt
-  row_runs (gaps_turn {s = t} {u = u} b r) f = (λ s a. first_runs (f (join row s u) (gaps_turn a r)).1, row_runs r (λ v c. second_runs (f (join row t v) (gaps_turn b c)).1))
+  row_runs (gaps_turn {s = t} {u = u} b r) f = (λ s a. first_runs (f (join seq s u) (gaps_turn a r)).1, row_runs r (λ v c. second_runs (f (join seq t v) (gaps_turn b c)).1))
   row_runs (gaps_shut r) f = row_runs r (λ v c. f v (gaps_shut c))
-  row_runs (gaps_more {s = t} a av r) f = row_runs r (λ v c. second_runs (f (join row t v) (gaps_more a av c)).1)
+  row_runs (gaps_more {s = t} a av r) f = row_runs r (λ v c. second_runs (f (join seq t v) (gaps_more a av c)).1)
 
-  turns_runs : {x : Tree} {lo : ℕ} {hi : Option ℕ} {r : Row} {s : Shape} → HasPattern (terms_over w) true (Turns x lo hi r) s → RunsOf (Turns x lo hi r) → EachTurn RunsOf (parts r)
-  turns_runs (has_turns n a l u) f = row_runs a (λ v c. f v (has_turns n c l u))
+  turns_runs : {x : Tree} {lo : ℕ} {hi : Option ℕ} {r : Row} {s : Shape} → HasPattern (terms_over w) true (Loop x lo hi r) s → RunsOf (Loop x lo hi r) → EachTurn RunsOf (parts r)
+  turns_runs (holds_loop n a l u) f = row_runs a (λ v c. f v (holds_loop n c l u))
 
   module _ (h : AreTidyTables w) (g : AreNormalTables w) where
     parts_runs : (m : Mode) (xs : Trees) → AllEven (NetLacks w) (IsKnown w) xs → AreNormal (permits_of w) xs → ((s : Shape) → HasParts (terms_over w) true m (items xs) s → (l : List ℕ) × Runs s l) → Each RunsOf (items xs)
@@ -126,13 +126,13 @@ module _ (w : Tables) where
       parts_runs m xs e.1 n.1 (λ s a. let r = some_even w h g x e.0 n.0 in second_runs (f (join m r.0 s) (one_part r.1 a)).1),
     )
 
-    self_free : (x : Tree) (q : List (ℕ × ℕ)) → IsEvenOver w (Bound x q) → IsNormalOver w (Bound x q) → RunsOf (Bound x q) → (j : ℕ) → pairs q j j ≡ false
+    self_free : (x : Tree) (q : List (ℕ × ℕ)) → IsEvenOver w (Tied x q) → IsNormalOver w (Tied x q) → RunsOf (Tied x q) → (j : ℕ) → pairs q j j ≡ false
     self_free x q e n f j = go (pairs q j j) refl
       where
         go : (t : Bool) → pairs q j j ≡ t → pairs q j j ≡ false
         go true p =
             let i = some_with w h j g x (e.1 j (in_pairs q j p)) e.0 n.0 (shown (numbers x) q j n.2 p) in
-            absurd (stuck j q p (f (bind i.0 q) (has_bound i.1)).1 i.2)
+            absurd (stuck j q p (f (bind i.0 q) (holds_tie i.1)).1 i.2)
         go false p = p
 
     abbrev OperandsOf : Trees → Type 0
@@ -147,11 +147,11 @@ module _ (w : Tables) where
       tidy_from (Event d) e n f o = tt
       tidy_from (Join m xs) e n f o = all_from xs e n.0 (parts_runs m xs e n.0 (λ s a. f s (has_join a))) o
       tidy_from (Choice xs) e n f o = all_from xs e n.0 (choice_runs xs (λ s a. f s (has_choice a))) o
-      tidy_from (Bound x q) e n f o = (tidy_from x e.0 n.0 (λ s a. inner_runs (f (bind s q) (has_bound a)).1) o.0, e.1, self_free x q e n f)
-      tidy_from (Turns x lo hi r) e n f o =
-          let i = some_even w h g (Turns x lo hi r) e n in
+      tidy_from (Tied x q) e n f o = (tidy_from x e.0 n.0 (λ s a. inner_runs (f (bind s q) (holds_tie a)).1) o.0, e.1, self_free x q e n f)
+      tidy_from (Loop x lo hi r) e n f o =
+          let i = some_even w h g (Loop x lo hi r) e n in
           (tidy_from x e.0 n.0 (runs_of x o.1) o.0, row_from r e.1 n.1 (turns_runs i.1 f) o.2, e.2, e.3)
-      tidy_from (Trail n f t c) e m r o = e
+      tidy_from (Walk n f t c) e m r o = e
 
       all_from : (xs : Trees) → AllEven (NetLacks w) (IsKnown w) xs → AreNormal (permits_of w) xs → Each RunsOf (items xs) → OperandsOf xs → AreTidy (NetLacks w) (IsKnown w) xs
       all_from none e n f o = tt

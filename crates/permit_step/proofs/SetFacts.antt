@@ -2,7 +2,7 @@
 use Rattle.std.specs.Prelude.{ℕ, zero, suc, ◌+◌, ◌<◌, ◌==◌, Bool, true, false, ltb, List, [], ◌∷◌, ◌≡◌, ◌↔◌, ◌||◌, ◌&&◌, refl, length, Contains, slice_index_or, IsTrue}
 use Rattle.std.proofs.Common.{ap, sym, ◌∙◌, subst, arith, cond}
 use Rattle.std.proofs.lemmas.Bool.Decides.{nat_tests}
-use Rattle.msc_base.specs.Blocks.{IsRising, AreAbove, AreBelow, IsBlock, BlockValue, insert_rising}
+use Rattle.bit_sets.specs.Blocks.{IsRising, AreAbove, AreBelow, IsBlock, BlockValue, insert_rising}
 use Rattle.msc_base.specs.declared.limits.TheConstants.Limits.{INSTANCES}
 use Rattle.chart_term.specs.NormalForms.{cut}
 use Rattle.chart_term.specs.Terms.{has, add_at, add_member}

@@ -3,17 +3,17 @@
 use Rattle.std.specs.Option.{option_map}
 use Rattle.std.specs.Prelude.{ℕ, zero, suc, ◌<◌, ◌==◌, Bool, true, false, List, [], ◌∷◌, ◌≡◌, ◌⊎◌, ◌||◌, Option, Some, None, refl}
 use Rattle.std.proofs.Common.{ap, ◌∙◌, inl, inr}
-use Rattle.msc_base.specs.Patterns.{Mode, row, aside}
-use Rattle.chart_term.specs.NormalForms.{NetPermits, only, cut, open_part, flat, join_of, join_all, and_then, or_skip, unless, open_choice, open_choices, distinct, choice_form, choice_of, bound_form, bound_of, kept_pairs, numbers, cut_gaps, drop_nil, at_zero, live, drop_free, has_free, lower_of, thin, has_gap, begun, turns_form, turns_of, turns_in}
+use Rattle.msc_base.specs.Patterns.{Mode, seq, par}
+use Rattle.chart_term.specs.NormalForms.{NetPermits, only, cut, open_part, flat, join_of, join_all, and_then, or_skip, unless, open_choice, open_choices, distinct, choice_form, choice_of, bound_form, tie_of, kept_pairs, numbers, cut_gaps, drop_nil, at_zero, live, drop_free, has_free, lower_of, thin, has_gap, begun, turns_form, loop_of, turns_in}
 use Rattle.chart_term.specs.Properties.{Each, EachTurn, MayHave, Every, EveryOf}
 use Rattle.chart_term.specs.TermPatterns.{instances_of, earlier, some_list}
-use Rattle.chart_term.specs.Terms.{TermEvent, Block, has, has_some, hits, Tree, Nil, Event, Join, Choice, Bound, Turns, Trail, Trees, none, more, Row, ends, gap, turn, items, trees, Part, Gap, Turn, parts, row_of, weight, ◌∪◌}
+use Rattle.chart_term.specs.Terms.{TermEvent, Block, has, has_some, hits, Tree, Nil, Event, Join, Choice, Tied, Loop, Walk, Trees, none, more, Row, ends, gap, turn, items, trees, Part, Gap, Turn, parts, row_of, weight, ◌∪◌}
 use Rattle.chart_term.proofs.Instances.{has_self, has_left, has_right, has_union, or_true, cut_into}
 use Rattle.chart_term.proofs.Lists.{items-trees}
 use Rattle.chart_term.proofs.Looping.{IsSubRow, sub_end, sub_gap, sub_drop, sub_turn, sub_over, sub_nil, sub_zero, sub_live, sub_free}
 use Rattle.chart_term.specs.Spreads.{touch, touch_all}
 use Rattle.permit_step.specs.Permission.{permit, permit_all, permit_some, permit_row, with_turn}
-use Rattle.permit_step.specs.Taking.{Stays, fewer, down, IsAfter, after_event, after_choice, after_join, after_bound, after_turns, after_trail, IsAfterOne, first_one, later_one, IsAfterJoin, first_part, later_part, IsAfterRow, in_turn, in_gap, past_turn, past_gap}
+use Rattle.permit_step.specs.Taking.{Stays, fewer, down, IsAfter, after_event, after_choice, after_join, after_tied, after_loop, after_walk, IsAfterOne, first_one, later_one, IsAfterJoin, first_part, later_part, IsAfterRow, in_turn, in_gap, past_turn, past_gap}
 use Rattle.permit_step.proofs.Apart.{Apart, AllApart, Fewer, fewer_self, permit_fewer, after_fewer, Thins, thin_end, thin_keep, thin_skip, thins_self, apart_thins, flat_apart, choices_apart, distinct_thins}
 use Rattle.permit_step.proofs.Everywhere.{permit_every}
 use Rattle.permit_step.proofs.Keeping.{AliveAt, AliveGaps, alive_sub, alive_live, each_app, each_turn_sub, each_turn_cut, sub_thin}
@@ -34,10 +34,10 @@ module _ (m : ℕ) where
     Single Nil = Unit {0}
     Single (Event e) = Unit {0}
     Single (Join n xs) = SingleAll xs × AllApart n (items xs)
-    Single (Choice xs) = SingleAll xs × AllApart aside (items xs)
-    Single (Bound x q) = Single x
-    Single (Turns x lo hi r) = (Plain x × Single x) × SingleRow r × (weight x < m)
-    Single (Trail n f t c) = ⊥
+    Single (Choice xs) = SingleAll xs × AllApart par (items xs)
+    Single (Tied x q) = Single x
+    Single (Loop x lo hi r) = (Plain x × Single x) × SingleRow r × (weight x < m)
+    Single (Walk n f t c) = ⊥
 
     pub SingleAll : Trees → Type 0
     SingleAll none = Unit {0}
@@ -62,27 +62,27 @@ module _ (m : ℕ) where
   -- joins
   open_single : (n : Mode) (x : Tree) → Single x → Each Single (open_part n x)
   open_single n Nil h = tt
-  open_single row (Join row xs) h = single_out xs h.0
-  open_single row (Join aside xs) h = (h, tt)
-  open_single aside (Join row xs) h = (h, tt)
-  open_single aside (Join aside xs) h = single_out xs h.0
+  open_single seq (Join seq xs) h = single_out xs h.0
+  open_single seq (Join par xs) h = (h, tt)
+  open_single par (Join seq xs) h = (h, tt)
+  open_single par (Join par xs) h = single_out xs h.0
   open_single n (Event e) h = (h, tt)
   open_single n (Choice xs) h = (h, tt)
-  open_single n (Bound x q) h = (h, tt)
-  open_single n (Turns x lo hi r) h = (h, tt)
-  open_single n (Trail i f t c) h = (h, tt)
+  open_single n (Tied x q) h = (h, tt)
+  open_single n (Loop x lo hi r) h = (h, tt)
+  open_single n (Walk i f t c) h = (h, tt)
 
   open_apart : (n : Mode) (x : Tree) → Single x → AllApart n (open_part n x)
   open_apart n Nil h = tt
-  open_apart row (Join row xs) h = h.1
-  open_apart row (Join aside xs) h = (tt, tt)
-  open_apart aside (Join row xs) h = (tt, tt)
-  open_apart aside (Join aside xs) h = h.1
+  open_apart seq (Join seq xs) h = h.1
+  open_apart seq (Join par xs) h = (tt, tt)
+  open_apart par (Join seq xs) h = (tt, tt)
+  open_apart par (Join par xs) h = h.1
   open_apart n (Event e) h = (tt, tt)
   open_apart n (Choice xs) h = (tt, tt)
-  open_apart n (Bound x q) h = (tt, tt)
-  open_apart n (Turns x lo hi r) h = (tt, tt)
-  open_apart n (Trail i f t c) h = (tt, tt)
+  open_apart n (Tied x q) h = (tt, tt)
+  open_apart n (Loop x lo hi r) h = (tt, tt)
+  open_apart n (Walk i f t c) h = (tt, tt)
 
   each_open : (n : Mode) (xs : List Tree) → Each Single xs → Each (λ x. AllApart n (open_part n x)) xs
   each_open n [] h = tt
@@ -109,20 +109,20 @@ module _ (m : ℕ) where
   opened_single Nil h = (h, tt)
   opened_single (Event e) h = (h, tt)
   opened_single (Join n xs) h = (h, tt)
-  opened_single (Bound x q) h = (h, tt)
-  opened_single (Turns x lo hi r) h = (h, tt)
-  opened_single (Trail i f t c) h = (h, tt)
+  opened_single (Tied x q) h = (h, tt)
+  opened_single (Loop x lo hi r) h = (h, tt)
+  opened_single (Walk i f t c) h = (h, tt)
 
-  opened_apart : (x : Tree) → Single x → AllApart aside (open_choice x)
+  opened_apart : (x : Tree) → Single x → AllApart par (open_choice x)
   opened_apart (Choice xs) h = h.1
   opened_apart Nil h = (tt, tt)
   opened_apart (Event e) h = (tt, tt)
   opened_apart (Join n xs) h = (tt, tt)
-  opened_apart (Bound x q) h = (tt, tt)
-  opened_apart (Turns x lo hi r) h = (tt, tt)
-  opened_apart (Trail i f t c) h = (tt, tt)
+  opened_apart (Tied x q) h = (tt, tt)
+  opened_apart (Loop x lo hi r) h = (tt, tt)
+  opened_apart (Walk i f t c) h = (tt, tt)
 
-  each_opened : (xs : List Tree) → Each Single xs → Each (λ x. AllApart aside (open_choice x)) xs
+  each_opened : (xs : List Tree) → Each Single xs → Each (λ x. AllApart par (open_choice x)) xs
   each_opened [] h = tt
   each_opened (x ∷ xs) h = (opened_apart x h.0, each_opened xs h.1)
 
@@ -130,24 +130,24 @@ module _ (m : ℕ) where
   choices_single [] h = tt
   choices_single (x ∷ xs) h = each_app Single (open_choice x) (open_choices xs) (opened_single x h.0) (choices_single xs h.1)
 
-  form_single : (xs : List Tree) → Each Single xs → AllApart aside xs → MayHave Single (choice_form xs)
+  form_single : (xs : List Tree) → Each Single xs → AllApart par xs → MayHave Single (choice_form xs)
   form_single [] h a = tt
   form_single (x ∷ []) h a = h.0
   form_single (x ∷ y ∷ ys) h a = (single_in (x ∷ y ∷ ys) h, apart_trees (x ∷ y ∷ ys) a)
     where
-      apart_trees : (xs : List Tree) → AllApart aside xs → AllApart aside (items (trees xs))
+      apart_trees : (xs : List Tree) → AllApart par xs → AllApart par (items (trees xs))
       apart_trees xs a = rw (items-trees xs) a
 
-  pub choice_single : (xs : List Tree) → Each Single xs → AllApart aside xs → MayHave Single (choice_of xs)
+  pub choice_single : (xs : List Tree) → Each Single xs → AllApart par xs → MayHave Single (choice_of xs)
   choice_single xs h a =
-      form_single (distinct (open_choices xs)) (each_distinct Single (open_choices xs) (choices_single xs h)) (apart_thins aside (distinct_thins (open_choices xs)) (choices_apart xs (each_opened xs h) a))
+      form_single (distinct (open_choices xs)) (each_distinct Single (open_choices xs) (choices_single xs h)) (apart_thins par (distinct_thins (open_choices xs)) (choices_apart xs (each_opened xs h) a))
 
   -- ties
   tie_single : (x : Tree) (q : List (ℕ × ℕ)) → Single x → Single (bound_form x q)
   tie_single x [] h = h
   tie_single x (p ∷ q) h = h
 
-  bound_single : (x : Tree) (q : List (ℕ × ℕ)) → Single x → Single (bound_of x q)
+  bound_single : (x : Tree) (q : List (ℕ × ℕ)) → Single x → Single (tie_of x q)
   bound_single x q h = tie_single x (kept_pairs (numbers x) q) h
 
   pub single_some : (r : Option Tree) (y : Tree) → r ≡ Some y → MayHave Single r → Single y
@@ -231,9 +231,9 @@ module _ (m : ℕ) where
       plain_held c i g (Event e) h t = ap (λ u. unless u (Event e)) (hit_by c i e.at e.also t g)
       plain_held c i g (Join n xs) h t = join_fails n (permit_all k (only c) xs) (plains_held c i g xs h t)
       plain_held c i g (Choice xs) h t = absurd h
-      plain_held c i g (Bound x q) h t = ap (option_map (λ y. bound_of y q)) (plain_held c i g x h t)
-      plain_held c i g (Turns x lo hi r) h t = absurd h
-      plain_held c i g (Trail n f u d) h t = absurd h
+      plain_held c i g (Tied x q) h t = ap (option_map (λ y. tie_of y q)) (plain_held c i g x h t)
+      plain_held c i g (Loop x lo hi r) h t = absurd h
+      plain_held c i g (Walk n f u d) h t = absurd h
 
       plains_held : (c : List ℕ) (i : ℕ) → has c i ≡ true → (xs : Trees) → PlainAll xs → has (touch_all k.spread xs) i ≡ true → permit_all k (only c) xs ≡ None
       plains_held c i g none h t = cc
@@ -250,9 +250,9 @@ module _ (m : ℕ) where
       touched all (Event e) h f = f e.at (has_self e.at (some_list e.also))
       touched all (Join n xs) h f = all_touched all xs h f
       touched all (Choice xs) h f = absurd h
-      touched all (Bound x q) h f = touched all x h f
-      touched all (Turns x lo hi r) h f = absurd h
-      touched all (Trail n g t c) h f = absurd h
+      touched all (Tied x q) h f = touched all x h f
+      touched all (Loop x lo hi r) h f = absurd h
+      touched all (Walk n g t c) h f = absurd h
 
       all_touched : (all : List ℕ) (xs : Trees) → PlainAll xs → ((n : ℕ) → has (touch_all k.spread xs) n ≡ true → has all n ≡ true) → EveryOf (λ f. has all f.at ≡ true) (λ n. ⊥) xs
       all_touched all none h f = tt
@@ -295,21 +295,21 @@ module _ (m : ℕ) where
     begun_single (Gap c ∷ ps) h = begun_single ps h
     begun_single (Turn x ∷ ps) h = (h.0.1, begun_single ps h.1)
 
-    begun_apart : (ps : List Part) → EachTurn Begun ps → AllApart row (begun ps)
+    begun_apart : (ps : List Part) → EachTurn Begun ps → AllApart seq (begun ps)
     begun_apart [] h = tt
     begun_apart (Gap c ∷ ps) h = begun_apart ps h
     begun_apart (Turn x ∷ ps) h = (each_sure (begun ps), begun_apart ps h.1)
       where
-        each_sure : (ys : List Tree) → Each (Apart row x) ys
+        each_sure : (ys : List Tree) → Each (Apart seq x) ys
         each_sure [] = tt
         each_sure (y ∷ ys) = (λ a. inl (plain_sure a x h.0.0), each_sure ys)
 
     form_single_loop : (t : Bool) (x : Tree) (lo : ℕ) (hi : Option ℕ) (ps : List Part) → Begun x → weight x < m → EachTurn Begun ps → Settled (touch k.spread x) ps → AliveGaps k x ps → MayHave Single (turns_form t x lo hi ps)
     form_single_loop true x lo hi ps h l d s a = (h, row_single x h.0 ps d s a, l)
-    form_single_loop false x zero hi ps h l d s a = join_single row (begun ps) (begun_single ps d) (begun_apart ps d)
+    form_single_loop false x zero hi ps h l d s a = join_single seq (begun ps) (begun_single ps d) (begun_apart ps d)
     form_single_loop false x (suc lo) hi ps h l d s a = tt
 
-    turns_single : (x : Tree) (lo : ℕ) (hi : Option ℕ) (ps : List Part) → Begun x → weight x < m → EachTurn Begun ps → Settled (touch k.spread x) ps → MayHave Single (turns_of (λ c. permit k (only c) x) (touch k.spread x) x lo hi ps)
+    turns_single : (x : Tree) (lo : ℕ) (hi : Option ℕ) (ps : List Part) → Begun x → weight x < m → EachTurn Begun ps → Settled (touch k.spread x) ps → MayHave Single (loop_of (λ c. permit k (only c) x) (touch k.spread x) x lo hi ps)
     turns_single x lo hi ps h l d s =
         let p : List ℕ → Option Tree = λ c. permit k (only c) x in
         let a0 = cut_gaps (touch k.spread x) ps in
@@ -345,7 +345,7 @@ module _ (m : ℕ) where
     map_single n xs None h a = tt
     map_single n xs (Some ys) h a = join_single n ys h.0 (apart_thins n h.1 a)
 
-    tied_single : (q : List (ℕ × ℕ)) (r : Option Tree) → MayHave Single r → MayHave Single (option_map (λ y. bound_of y q) r)
+    tied_single : (q : List (ℕ × ℕ)) (r : Option Tree) → MayHave Single r → MayHave Single (option_map (λ y. tie_of y q) r)
     tied_single q None h = tt
     tied_single q (Some y) h = bound_single y q h
 
@@ -371,10 +371,10 @@ module _ (m : ℕ) where
       permit_single b Nil h = tt
       permit_single b (Event e) h = event_single (hits b e) e
       permit_single b (Join n xs) h = map_single n (items xs) (permit_all k b xs) (all_single b xs h.0) h.1
-      permit_single b (Choice xs) h = let i = some_single b xs h.0 in choice_single (permit_some k b xs) i.0 (apart_thins aside i.1 h.1)
-      permit_single b (Bound x q) h = tied_single q (permit k b x) (permit_single b x h)
-      permit_single b (Turns x lo hi r) h = in_single x lo hi (permit_row k b r) h.0 h.2 (row_permit b (touch k.spread x) r h.1)
-      permit_single b (Trail n f t c) h = absurd h
+      permit_single b (Choice xs) h = let i = some_single b xs h.0 in choice_single (permit_some k b xs) i.0 (apart_thins par i.1 h.1)
+      permit_single b (Tied x q) h = tied_single q (permit k b x) (permit_single b x h)
+      permit_single b (Loop x lo hi r) h = in_single x lo hi (permit_row k b r) h.0 h.2 (row_permit b (touch k.spread x) r h.1)
+      permit_single b (Walk n f t c) h = absurd h
 
       all_single : (b : Block) (xs : Trees) → SingleAll xs → AllOf (items xs) (permit_all k b xs)
       all_single b none h = (tt, thin_end)
@@ -399,12 +399,12 @@ module _ (m : ℕ) where
 
     -- taking
     stays_single : (n : Mode) (e : TermEvent) (x y : Tree) → Stays k n e x y → Single x → Single y
-    stays_single row e x y s h = single_some (permit k (only (instances_of e).instances) x) y s (permit_single (only (instances_of e).instances) x h)
-    stays_single aside e x y s h = rw s h
+    stays_single seq e x y s h = single_some (permit k (only (instances_of e).instances) x) y s (permit_single (only (instances_of e).instances) x h)
+    stays_single par e x y s h = rw s h
 
     stays_fewer : (n : Mode) (e : TermEvent) (x y : Tree) → Stays k n e x y → Fewer x y
-    stays_fewer row e x y s = permit_fewer k (only (instances_of e).instances) x y s
-    stays_fewer aside e x y s = rw s (fewer_self x)
+    stays_fewer seq e x y s = permit_fewer k (only (instances_of e).instances) x y s
+    stays_fewer par e x y s = rw s (fewer_self x)
 
     parts_thin : {n : Mode} {xs : Trees} {ys : List Tree} {e : TermEvent} → IsAfterJoin k n xs e ys → Thins (items xs) ys
     parts_thin (first_part {xs = xs} a) = thin_keep (after_fewer k a) (thins_self (items xs))
@@ -447,11 +447,11 @@ module _ (m : ℕ) where
       after_single after_event h = tt
       after_single (after_choice a) h = one_single a h.0
       after_single (after_join {m = n} {xs = xs} {ys = ys} a) h = join_single n ys (parts_single a h.0) (apart_thins n (parts_thin a) h.1)
-      after_single (after_bound {y = y} {z = z} {q = q} {e = e} a p) h = bound_single z q (single_some (permit k (earlier q e) y) z p (permit_single (earlier q e) y (after_single a h)))
-      after_single (after_turns {x = x} {z = z} {lo = lo} {hi = hi} {r = r} {e = e} b {ps = ps} a g p) h =
+      after_single (after_tied {y = y} {z = z} {q = q} {e = e} a p) h = bound_single z q (single_some (permit k (earlier q e) y) z p (permit_single (earlier q e) y (after_single a h)))
+      after_single (after_loop {x = x} {z = z} {lo = lo} {hi = hi} {r = r} {e = e} b {ps = ps} a g p) h =
           let i = row_after a h.0 (turns_begun r h.1) (lasting r h.1) in
-          single_some (turns_of (λ c. permit k (only c) x) (touch k.spread x) x (down b lo) (fewer b hi) ps) z p (turns_single x (down b lo) (fewer b hi) ps h.0 h.2 i.0 i.1)
-      after_single (after_trail n p a l1 l2 q r) h = absurd h
+          single_some (loop_of (λ c. permit k (only c) x) (touch k.spread x) x (down b lo) (fewer b hi) ps) z p (turns_single x (down b lo) (fewer b hi) ps h.0 h.2 i.0 i.1)
+      after_single (after_walk n p a l1 l2 q r) h = absurd h
 
       one_single : {xs : Trees} {y : Tree} {e : TermEvent} → IsAfterOne k xs e y → SingleAll xs → Single y
       one_single (first_one a) h = after_single a h.0

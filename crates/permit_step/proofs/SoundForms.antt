@@ -2,13 +2,13 @@
 use Rattle.std.specs.Prelude.{ℕ, ◌<◌, ◌≡◌, true, false, List, [], ◌∷◌, ◌++◌, Option, Some, None}
 use Rattle.msc_base.specs.Patterns.{Mode}
 use Rattle.hmsc_graph.specs.Graphs.{Goal}
-use Rattle.chart_term.specs.NormalForms.{join_all, choice_of, bound_of}
+use Rattle.chart_term.specs.NormalForms.{join_all, choice_of, tie_of}
 use Rattle.chart_term.specs.Properties.{Each, MayHave}
 use Rattle.chart_term.specs.Tables.{Tables, node_of, terms_over}
 use Rattle.chart_term.specs.TermMeanings.{HasPattern, has_event, HasParts, no_part, one_part, HasChoice, this_one, that_one, UpTo}
 use Rattle.chart_term.specs.TermPatterns.{Shape, take_one, pairs}
 use Rattle.chart_term.specs.TermRuns.{Runs, run_end, run_take}
-use Rattle.chart_term.specs.Terms.{TermEvent, Tree, Event, Bound, Gap}
+use Rattle.chart_term.specs.Terms.{TermEvent, Tree, Event, Tied, Gap}
 use Rattle.permit_step.specs.ConstructorLaws.{IsFormed}
 use Rattle.permit_step.specs.FullSoundness.{AreNumbersKnown, AreTiesOnce, AreTiesOutside, HasOrders, HaveOperandsOrders, HasNoOpenWalk, IsNotAny, IsOpenWalkLast, IsGoalOf, IsSoundNode, AreSoundNets, IsFullySound, fresh_loop, fresh_walk, MustHave, ConstructorsKeepSoundness}
 use Rattle.permit_step.specs.Permission.{permits_of}
@@ -97,16 +97,16 @@ module _ (labels : ℕ) (w : Tables) (h : AreSoundNets labels w) where
       let p = sound_has_pattern.some w x (is_sound labels w x (record { nets = h; term = i.0.sound })) in
       (constructors_keep_form.choice_fails w (x ∷ xs) (record { tidy = tidy; normal = normal_tables labels w h }) (each_formed (x ∷ xs) i)).to e p.pattern (this_one p.has)
 
-  bound_sound : (x : Tree) (q : List (ℕ × ℕ)) → Node x → AreTiesOutside w (Bound x q) → AreTiesOnce w (Bound x q) → ((j : ℕ) → pairs q j j ≡ false) → HasOrders w (Bound x q) → Node (bound_of x q)
+  bound_sound : (x : Tree) (q : List (ℕ × ℕ)) → Node x → AreTiesOutside w (Tied x q) → AreTiesOnce w (Tied x q) → ((j : ℕ) → pairs q j j ≡ false) → HasOrders w (Tied x q) → Node (tie_of x q)
   bound_sound x q i out o free f =
-      let t : IsTidyOver w (Bound x q) = (tidy_of labels w x h i.sound, out.1, free) in
+      let t : IsTidyOver w (Tied x q) = (tidy_of labels w x h i.sound, out.1, free) in
       let c = bound_part (λ e. Unit {0}) (λ y q. Unit {0}) (λ y. Unit {0}) (λ n f t. IsNotAny t) (permits_of w) (walk_left (permits_of w)) (λ x q h. tt) (λ b x z e q h. tt) (λ x y z b e a p q h. tt) x q (i.closed, tt) in
-      let d : IsFullySound labels w (bound_of x q) = sound_of labels w (Some (bound_of x q)) h (constructors_keep_form.bound w x q tidy t i.sound.normal)
+      let d : IsFullySound labels w (tie_of x q) = sound_of labels w (Some (tie_of x q)) h (constructors_keep_form.tied w x q tidy t i.sound.normal)
       (bound_part (λ e. e.label < labels) (λ y q. Unit {0}) (λ y. Unit {0}) (walk_known labels w) (permits_of w) (known_left labels w tidy) (λ x q h. tt) (λ b x z e q h. tt) (λ x y z b e a p q h. tt) x q (i.sound.known, tt))
       (bound_part (λ e. Unit {0}) (OnceTie w) (λ y. Unit {0}) (λ n f t. Unit {0}) (permits_of w) (λ n f g t u h s a. tt) (tie_fewer w tidy) (tie_permit w tidy) (tie_taken w tidy) x q
       (ties x i, λ j p. once_if w tidy j (normal_tables labels w h) x (t.1 j p) (sound_even labels w x i.sound) i.sound.normal (o.1 j p)))
-      (closed_last (bound_of x q) c)
-      (orders_of w (Some (bound_of x q)) (HasPattern (terms_over w) true (Bound x q)) (normal_forms_keep_patterns.bound true w x q tidy (λ j p. outside_bare (permits_of w) (node_of w) true (NetLacks w) (IsKnown w) j x (t.1 j p))).to (λ s a. run_of s (f s a)))
+      (closed_last (tie_of x q) c)
+      (orders_of w (Some (tie_of x q)) (HasPattern (terms_over w) true (Tied x q)) (normal_forms_keep_patterns.tied true w x q tidy (λ j p. outside_bare (permits_of w) (node_of w) true (NetLacks w) (IsKnown w) j x (t.1 j p))).to (λ s a. run_of s (f s a)))
       (bound_part (λ e. Unit {0}) (λ y q. Unit {0}) (HasOrders w) (λ n f t. Unit {0}) (permits_of w) (λ n f g t u h s a. tt) (λ x q h. tt) (λ b x z e q h. tt) (λ x y z b e a p q h. tt) x q (i.sound.operands, tt)) in
       record { sound = d.term; closed = c }
 
@@ -123,7 +123,7 @@ constructors_keep_soundness = record {
   event = event_node;
   join = λ labels w m xs h i. join_sound labels w h m xs i;
   choice = λ labels w x xs h i. must (IsSoundNode labels w) (choice_of (x ∷ xs)) (some_choice labels w h x xs i) (choice_sound labels w h (x ∷ xs) i);
-  bound = λ labels w x q h i t o e f. bound_sound labels w h x q i t o e f;
+  tied = λ labels w x q h i t o e f. bound_sound labels w h x q i t o e f;
   loop = λ labels w x lo hi h i u. loop_sound labels w h x lo hi i u;
   walk = λ labels w n t h l g a. walk_sound labels w h n t l g a;
 }

@@ -4,7 +4,7 @@ use Rattle.hmsc_graph.specs.Graphs.{Spot, Goal}
 use Rattle.chart_term.specs.Tables.{Tables}
 use Rattle.chart_term.specs.TermMeanings.{UpTo}
 use Rattle.chart_term.specs.TermPatterns.{InPairs}
-use Rattle.chart_term.specs.Terms.{Tree, Nil, Event, Join, Choice, Bound, Turns, Trail, Trees, none, more, Row, ends, gap, turn, Part, parts}
+use Rattle.chart_term.specs.Terms.{Tree, Nil, Event, Join, Choice, Tied, Loop, Walk, Trees, none, more, Row, ends, gap, turn, Part, parts}
 use Rattle.permit_step.specs.FullSoundness.{EveryPartOf, EveryRowPart, EveryLoop, EveryLoopOf, EveryRowLoop, IsSpotOf, IsGoalOf, AreNumbersKnown, AreTiesOutside, DoBlocksFall, AreCountsOrdered, IsSoundOver}
 use Rattle.permit_step.specs.Normality.{AreNormalTables}
 use Rattle.permit_step.specs.Soundness.{NeverGrows, IsOutside, NetLacks, IsKnown, AreTidy, IsTidyRow, AreTidyTables, IsTidyOver}
@@ -24,9 +24,9 @@ module _ (labels : ℕ) (w : Tables) where
     even_of (Event e) k o f c = tt
     even_of (Join m xs) k o f c = all_even_of xs k o f c
     even_of (Choice xs) k o f c = all_even_of xs k o f c
-    even_of (Bound x q) k o f c = (even_of x k.0 o.0 f c, o.1)
-    even_of (Turns x lo hi r) k o f c = (even_of x k.0 o.0 f.0 c.0, row_even_of r k.2 o.2 f.2 c.2, c.1, f.1)
-    even_of (Trail n f t c) k o i j = k.0
+    even_of (Tied x q) k o f c = (even_of x k.0 o.0 f c, o.1)
+    even_of (Loop x lo hi r) k o f c = (even_of x k.0 o.0 f.0 c.0, row_even_of r k.2 o.2 f.2 c.2, c.1, f.1)
+    even_of (Walk n f t c) k o i j = k.0
 
     all_even_of : (xs : Trees) → EveryPartOf (λ e. e.label < labels) (λ y q. Unit {0}) (λ y. Unit {0}) Walk xs → EveryPartOf (λ e. Unit {0}) Tie (λ y. Unit {0}) (λ n f t. Unit {0}) xs
         → EveryLoopOf (λ lo hi ps. NeverGrows ps) xs → EveryLoopOf (λ lo hi ps. UpTo hi lo) xs → AllEven (NetLacks w) (IsKnown w) xs
@@ -53,9 +53,9 @@ module _ (w : Tables) where
     outside_of (Event e) h = tt
     outside_of (Join m xs) h = all_outside xs h
     outside_of (Choice xs) h = all_outside xs h
-    outside_of (Bound x q) h = (outside_of x h.0, h.1)
-    outside_of (Turns x lo hi r) h = (outside_of x h.0, tt, row_outside r h.1)
-    outside_of (Trail n f t c) h = tt
+    outside_of (Tied x q) h = (outside_of x h.0, h.1)
+    outside_of (Loop x lo hi r) h = (outside_of x h.0, tt, row_outside r h.1)
+    outside_of (Walk n f t c) h = tt
 
     all_outside : (xs : Trees) → AreTidy (NetLacks w) (IsKnown w) xs → EveryPartOf (λ e. Unit {0}) (λ y q. (j : ℕ) → InPairs j q → IsOutside (NetLacks w) j y) (λ y. Unit {0}) (λ n f t. Unit {0}) xs
     all_outside none h = tt
@@ -73,9 +73,9 @@ module _ (w : Tables) where
       loops_of (Event e) h = tt
       loops_of (Join m xs) h = all_loops xs h
       loops_of (Choice xs) h = all_loops xs h
-      loops_of (Bound x q) h = loops_of x h.0
-      loops_of (Turns x lo hi r) h = (loops_of x h.0, holds lo hi (parts r) h.2 h.3, row_loops r h.1)
-      loops_of (Trail n f t c) h = tt
+      loops_of (Tied x q) h = loops_of x h.0
+      loops_of (Loop x lo hi r) h = (loops_of x h.0, holds lo hi (parts r) h.2 h.3, row_loops r h.1)
+      loops_of (Walk n f t c) h = tt
 
       all_loops : (xs : Trees) → AreTidy (NetLacks w) (IsKnown w) xs → EveryLoopOf L xs
       all_loops none h = tt

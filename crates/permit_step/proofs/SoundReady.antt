@@ -2,7 +2,7 @@
 use Rattle.std.specs.Prelude.{ℕ, ◌<◌, List, [], ◌∷◌, length}
 use Rattle.hmsc_graph.specs.Graphs.{Spot, Start, At, Goal, To, End, Any}
 use Rattle.chart_term.specs.Tables.{Tables, nodes_of}
-use Rattle.chart_term.specs.Terms.{Tree, Nil, Event, Join, Choice, Bound, Turns, Trail, Trees, none, more, Row, ends, gap, turn}
+use Rattle.chart_term.specs.Terms.{Tree, Nil, Event, Join, Choice, Tied, Loop, Walk, Trees, none, more, Row, ends, gap, turn}
 use Rattle.permit_step.specs.FullSoundness.{EveryPartOf, EveryRowPart, IsSpotOf, IsGoalOf, AreNumbersKnown, IsSoundNode, IsSoundOver, AreSoundNets}
 use Rattle.permit_step.specs.Ready.{IsSpotWithin, IsGoalWithin, IsWithin, AreWithin, IsRowWithin, IsReady, AreReadyTables}
 use Rattle.permit_step.specs.ReadyBySoundness.{ReadyBySoundness}
@@ -26,9 +26,9 @@ module _ (labels : ℕ) (w : Tables) where
     known_within (Event e) h = tt
     known_within (Join m xs) h = all_within xs h
     known_within (Choice xs) h = all_within xs h
-    known_within (Bound x q) h = known_within x h.0
-    known_within (Turns x lo hi r) h = (known_within x h.0, row_within r h.2)
-    known_within (Trail n f t c) h = (h.0, spot_within n f h.1, goal_within n t h.2)
+    known_within (Tied x q) h = known_within x h.0
+    known_within (Loop x lo hi r) h = (known_within x h.0, row_within r h.2)
+    known_within (Walk n f t c) h = (h.0, spot_within n f h.1, goal_within n t h.2)
 
     all_within : (xs : Trees) → EveryPartOf (λ e. e.label < labels) (λ y q. Unit {0}) (λ y. Unit {0}) (λ n f t. IsKnown w n × IsSpotOf w n f × IsGoalOf w n t) xs → AreWithin w xs
     all_within none h = tt

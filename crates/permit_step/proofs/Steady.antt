@@ -3,14 +3,14 @@
 use Rattle.std.specs.Option.{option_map}
 use Rattle.std.specs.Prelude.{ℕ, ◌≢◌, Bool, true, false, List, [], ◌∷◌, ◌≡◌, Option, Some, None, refl}
 use Rattle.std.proofs.Common.{ap}
-use Rattle.msc_base.specs.Patterns.{Mode, row, aside}
-use Rattle.chart_term.specs.NormalForms.{NetPermits, only, open_part, flat, join_of, join_all, and_then, unless, bound_form, bound_of, kept_pairs, numbers}
+use Rattle.msc_base.specs.Patterns.{Mode, seq, par}
+use Rattle.chart_term.specs.NormalForms.{NetPermits, only, open_part, flat, join_of, join_all, and_then, unless, bound_form, tie_of, kept_pairs, numbers}
 use Rattle.chart_term.specs.Properties.{Each, EachTurn, MayHave, Every, EveryOf, EveryRow}
 use Rattle.chart_term.specs.TermPatterns.{instances_of, earlier}
-use Rattle.chart_term.specs.Terms.{TermEvent, Block, has, hits, Tree, Nil, Event, Join, Choice, Bound, Turns, Trail, Trees, none, more, Row, items, trees, Part}
+use Rattle.chart_term.specs.Terms.{TermEvent, Block, has, hits, Tree, Nil, Event, Join, Choice, Tied, Loop, Walk, Trees, none, more, Row, items, trees, Part}
 use Rattle.chart_term.proofs.Instances.{has_self}
 use Rattle.permit_step.specs.Permission.{permit, permit_all}
-use Rattle.permit_step.specs.Taking.{Stays, IsAfter, after_event, after_choice, after_join, after_bound, after_turns, after_trail, IsAfterOne, first_one, later_one, IsAfterJoin, first_part, later_part, IsAfterRow, in_turn, in_gap, past_turn, past_gap}
+use Rattle.permit_step.specs.Taking.{Stays, IsAfter, after_event, after_choice, after_join, after_tied, after_loop, after_walk, IsAfterOne, first_one, later_one, IsAfterJoin, first_part, later_part, IsAfterRow, in_turn, in_gap, past_turn, past_gap}
 use Rattle.permit_step.proofs.Everywhere.{permit_every, after_every, every_row_out}
 use Rattle.permit_step.proofs.Keeping.{each_app}
 
@@ -29,9 +29,9 @@ module _ (C : Trees → Type 0) (L : Tree → Row → Type 0) where
     Steady (Event e) = Unit {0}
     Steady (Join m xs) = SteadyAll xs
     Steady (Choice xs) = C xs
-    Steady (Bound x q) = Steady x
-    Steady (Turns x lo hi r) = L x r
-    Steady (Trail n f t c) = ⊥
+    Steady (Tied x q) = Steady x
+    Steady (Loop x lo hi r) = L x r
+    Steady (Walk n f t c) = ⊥
 
     pub SteadyAll : Trees → Type 0
     SteadyAll none = Unit {0}
@@ -47,15 +47,15 @@ module _ (C : Trees → Type 0) (L : Tree → Row → Type 0) where
 
   pub open_steady : (m : Mode) (x : Tree) → Steady x → Each Steady (open_part m x)
   open_steady m Nil h = tt
-  open_steady row (Join row xs) h = steady_out xs h
-  open_steady row (Join aside xs) h = (h, tt)
-  open_steady aside (Join row xs) h = (h, tt)
-  open_steady aside (Join aside xs) h = steady_out xs h
+  open_steady seq (Join seq xs) h = steady_out xs h
+  open_steady seq (Join par xs) h = (h, tt)
+  open_steady par (Join seq xs) h = (h, tt)
+  open_steady par (Join par xs) h = steady_out xs h
   open_steady m (Event e) h = (h, tt)
   open_steady m (Choice xs) h = (h, tt)
-  open_steady m (Bound x q) h = (h, tt)
-  open_steady m (Turns x lo hi r) h = (h, tt)
-  open_steady m (Trail n f t c) h = (h, tt)
+  open_steady m (Tied x q) h = (h, tt)
+  open_steady m (Loop x lo hi r) h = (h, tt)
+  open_steady m (Walk n f t c) h = (h, tt)
 
   flat_steady : (m : Mode) (xs : List Tree) → Each Steady xs → Each Steady (flat m xs)
   flat_steady m [] h = tt
@@ -73,7 +73,7 @@ module _ (C : Trees → Type 0) (L : Tree → Row → Type 0) where
   tie_steady x [] h = h
   tie_steady x (p ∷ q) h = h
 
-  bound_steady : (x : Tree) (q : List (ℕ × ℕ)) → Steady x → Steady (bound_of x q)
+  bound_steady : (x : Tree) (q : List (ℕ × ℕ)) → Steady x → Steady (tie_of x q)
   bound_steady x q h = tie_steady x (kept_pairs (numbers x) q) h
 
   abbrev AllSteady : Option (List Tree) → Type 0
@@ -89,7 +89,7 @@ module _ (C : Trees → Type 0) (L : Tree → Row → Type 0) where
   map_steady m None h = tt
   map_steady m (Some xs) h = join_steady m xs h
 
-  tied_steady : (q : List (ℕ × ℕ)) (r : Option Tree) → MayHave Steady r → MayHave Steady (option_map (λ y. bound_of y q) r)
+  tied_steady : (q : List (ℕ × ℕ)) (r : Option Tree) → MayHave Steady r → MayHave Steady (option_map (λ y. tie_of y q) r)
   tied_steady q None h = tt
   tied_steady q (Some x) h = bound_steady x q h
 
@@ -103,35 +103,35 @@ module _ (C : Trees → Type 0) (L : Tree → Row → Type 0) where
   -- where permission and taking keep it of choices and loops
   module _ (k : NetPermits)
       (choice_permit : (b : Block) (xs : Trees) → C xs → MayHave Steady (permit k b (Choice xs)))
-      (turns_permit : (b : Block) (x : Tree) (lo : ℕ) (hi : Option ℕ) (r : Row) → L x r → MayHave Steady (permit k b (Turns x lo hi r)))
+      (turns_permit : (b : Block) (x : Tree) (lo : ℕ) (hi : Option ℕ) (r : Row) → L x r → MayHave Steady (permit k b (Loop x lo hi r)))
       (choice_after : (xs : Trees) (e : TermEvent) (y : Tree) → IsAfter k (Choice xs) e y → C xs → Steady y)
-      (turns_after : (x : Tree) (lo : ℕ) (hi : Option ℕ) (r : Row) (e : TermEvent) (y : Tree) → IsAfter k (Turns x lo hi r) e y → L x r → Steady y) where
+      (turns_after : (x : Tree) (lo : ℕ) (hi : Option ℕ) (r : Row) (e : TermEvent) (y : Tree) → IsAfter k (Loop x lo hi r) e y → L x r → Steady y) where
     mutual
       pub permit_steady : (b : Block) (x : Tree) → Steady x → MayHave Steady (permit k b x)
       permit_steady b Nil h = tt
       permit_steady b (Event e) h = event_steady (hits b e) e
       permit_steady b (Join m xs) h = map_steady m (permit_all k b xs) (all_steady b xs h)
       permit_steady b (Choice xs) h = choice_permit b xs h
-      permit_steady b (Bound x q) h = tied_steady q (permit k b x) (permit_steady b x h)
-      permit_steady b (Turns x lo hi r) h = turns_permit b x lo hi r h
-      permit_steady b (Trail n f t c) h = absurd h
+      permit_steady b (Tied x q) h = tied_steady q (permit k b x) (permit_steady b x h)
+      permit_steady b (Loop x lo hi r) h = turns_permit b x lo hi r h
+      permit_steady b (Walk n f t c) h = absurd h
 
       all_steady : (b : Block) (xs : Trees) → SteadyAll xs → AllSteady (permit_all k b xs)
       all_steady b none h = tt
       all_steady b (more x xs) h = and_steady (permit k b x) (permit_all k b xs) (permit_steady b x h.0) (all_steady b xs h.1)
 
     stays_steady : (m : Mode) (e : TermEvent) (x y : Tree) → Stays k m e x y → Steady x → Steady y
-    stays_steady row e x y s h = steady_some (permit k (only (instances_of e).instances) x) y s (permit_steady (only (instances_of e).instances) x h)
-    stays_steady aside e x y s h = rw s h
+    stays_steady seq e x y s h = steady_some (permit k (only (instances_of e).instances) x) y s (permit_steady (only (instances_of e).instances) x h)
+    stays_steady par e x y s h = rw s h
 
     mutual
       pub after_steady : {x y : Tree} {e : TermEvent} → IsAfter k x e y → Steady x → Steady y
       after_steady after_event h = tt
       after_steady (after_choice {xs = xs} {e = e} {y = y} a) h = choice_after xs e y (after_choice a) h
       after_steady (after_join {m = m} {xs = xs} {ys = ys} a) h = join_steady m ys (parts_steady a h)
-      after_steady (after_bound {y = y} {z = z} {q = q} {e = e} a p) h = bound_steady z q (steady_some (permit k (earlier q e) y) z p (permit_steady (earlier q e) y (after_steady a h)))
-      after_steady (after_turns {x = x} {z = z} {lo = lo} {hi = hi} {r = r} {e = e} b a m p) h = turns_after x lo hi r e z (after_turns b a m p) h
-      after_steady (after_trail m p a l1 l2 q r) h = absurd h
+      after_steady (after_tied {y = y} {z = z} {q = q} {e = e} a p) h = bound_steady z q (steady_some (permit k (earlier q e) y) z p (permit_steady (earlier q e) y (after_steady a h)))
+      after_steady (after_loop {x = x} {z = z} {lo = lo} {hi = hi} {r = r} {e = e} b a m p) h = turns_after x lo hi r e z (after_loop b a m p) h
+      after_steady (after_walk m p a l1 l2 q r) h = absurd h
 
       parts_steady : {m : Mode} {xs : Trees} {ys : List Tree} {e : TermEvent} → IsAfterJoin k m xs e ys → SteadyAll xs → Each Steady ys
       parts_steady (first_part {xs = xs} a) h = (after_steady a h.0, steady_out xs h.1)
@@ -159,9 +159,9 @@ mutual
   plain_sure a (Event e) h = tt
   plain_sure a (Join m xs) h = plain_sure_all a xs h
   plain_sure a (Choice xs) h = absurd h
-  plain_sure a (Bound x q) h = plain_sure a x h
-  plain_sure a (Turns x lo hi r) h = absurd h
-  plain_sure a (Trail n f t c) h = absurd h
+  plain_sure a (Tied x q) h = plain_sure a x h
+  plain_sure a (Loop x lo hi r) h = absurd h
+  plain_sure a (Walk n f t c) h = absurd h
 
   plain_sure_all : (a : ℕ) (xs : Trees) → PlainAll xs → SureAll a xs
   plain_sure_all a none h = tt
@@ -173,9 +173,9 @@ mutual
   lacks_sure a (Event e) h = tt
   lacks_sure a (Join m xs) h = lacks_sure_all a xs h
   lacks_sure a (Choice xs) h = h
-  lacks_sure a (Bound x q) h = lacks_sure a x h
-  lacks_sure a (Turns x lo hi r) h = h
-  lacks_sure a (Trail n f t c) h = absurd h
+  lacks_sure a (Tied x q) h = lacks_sure a x h
+  lacks_sure a (Loop x lo hi r) h = h
+  lacks_sure a (Walk n f t c) h = absurd h
 
   lacks_sure_all : (a : ℕ) (xs : Trees) → LackAll a xs → SureAll a xs
   lacks_sure_all a none h = tt
@@ -201,14 +201,14 @@ module _ (k : NetPermits) where
   pub permit_sure : (a : ℕ) (b : Block) (x : Tree) → Sure a x → MayHave (Sure a) (permit k b x)
   permit_sure a =
       permit_steady (λ xs. LackAll a xs) (λ x r. Lacks a x × EveryRow (λ e. e.label ≢ a) (λ n. ⊥) r) k
-      (λ b xs h. may_sure a (permit k b (Choice xs)) (permit_lacks a b (Choice xs) h)) (λ b x lo hi r h. may_sure a (permit k b (Turns x lo hi r)) (permit_lacks a b (Turns x lo hi r) h))
-      (λ xs e y p h. lacks_sure a y (after_lacks a {x = Choice xs} p h)) (λ x lo hi r e y p h. lacks_sure a y (after_lacks a {x = Turns x lo hi r} p h))
+      (λ b xs h. may_sure a (permit k b (Choice xs)) (permit_lacks a b (Choice xs) h)) (λ b x lo hi r h. may_sure a (permit k b (Loop x lo hi r)) (permit_lacks a b (Loop x lo hi r) h))
+      (λ xs e y p h. lacks_sure a y (after_lacks a {x = Choice xs} p h)) (λ x lo hi r e y p h. lacks_sure a y (after_lacks a {x = Loop x lo hi r} p h))
 
   pub after_sure : (a : ℕ) {x y : Tree} {e : TermEvent} → IsAfter k x e y → Sure a x → Sure a y
   after_sure a =
       after_steady (λ xs. LackAll a xs) (λ x r. Lacks a x × EveryRow (λ e. e.label ≢ a) (λ n. ⊥) r) k
-      (λ b xs h. may_sure a (permit k b (Choice xs)) (permit_lacks a b (Choice xs) h)) (λ b x lo hi r h. may_sure a (permit k b (Turns x lo hi r)) (permit_lacks a b (Turns x lo hi r) h))
-      (λ xs e y p h. lacks_sure a y (after_lacks a {x = Choice xs} p h)) (λ x lo hi r e y p h. lacks_sure a y (after_lacks a {x = Turns x lo hi r} p h))
+      (λ b xs h. may_sure a (permit k b (Choice xs)) (permit_lacks a b (Choice xs) h)) (λ b x lo hi r h. may_sure a (permit k b (Loop x lo hi r)) (permit_lacks a b (Loop x lo hi r) h))
+      (λ xs e y p h. lacks_sure a y (after_lacks a {x = Choice xs} p h)) (λ x lo hi r e y p h. lacks_sure a y (after_lacks a {x = Loop x lo hi r} p h))
 
   -- an event that can happen first is one of the term's
   module _ (E : TermEvent → Type 0) where
@@ -220,9 +220,9 @@ module _ (k : NetPermits) where
       taken_every after_event h = h
       taken_every (after_choice a) h = taken_one a h
       taken_every (after_join a) h = taken_part a h
-      taken_every (after_bound a p) h = taken_every a h
-      taken_every (after_turns {r = r} b a m p) h = taken_row a h.0 (every_row_out E (λ n. ⊥) r h.1)
-      taken_every (after_trail m p a l1 l2 q r) h = absurd h
+      taken_every (after_tied a p) h = taken_every a h
+      taken_every (after_loop {r = r} b a m p) h = taken_row a h.0 (every_row_out E (λ n. ⊥) r h.1)
+      taken_every (after_walk m p a l1 l2 q r) h = absurd h
 
       taken_one : {xs : Trees} {y : Tree} {e : TermEvent} → IsAfterOne k xs e y → EveryOf E (λ n. ⊥) xs → E e
       taken_one (first_one a) h = taken_every a h.0
@@ -254,9 +254,9 @@ module _ (k : NetPermits) where
     sure_blocks (after_event {e = e}) h = ap (λ t. unless t (Event e)) (own_hit e)
     sure_blocks (after_choice {e = e} a) h = absurd (taken_one (λ f. f.label ≢ e.label) a h refl)
     sure_blocks (after_join {m = m} {xs = xs} {e = e} a) h = join_fails m (permit_all k (only (instances_of e).instances) xs) (sure_fails a h)
-    sure_blocks (after_bound {q = q} a p) h = ap (option_map (λ y. bound_of y q)) (sure_blocks a h)
-    sure_blocks (after_turns {r = r} {e = e} b a m p) h = absurd (taken_row (λ f. f.label ≢ e.label) a h.0 (every_row_out (λ f. f.label ≢ e.label) (λ n. ⊥) r h.1) refl)
-    sure_blocks (after_trail m p a l1 l2 q r) h = absurd h
+    sure_blocks (after_tied {q = q} a p) h = ap (option_map (λ y. tie_of y q)) (sure_blocks a h)
+    sure_blocks (after_loop {r = r} {e = e} b a m p) h = absurd (taken_row (λ f. f.label ≢ e.label) a h.0 (every_row_out (λ f. f.label ≢ e.label) (λ n. ⊥) r h.1) refl)
+    sure_blocks (after_walk m p a l1 l2 q r) h = absurd h
 
     sure_fails : {m : Mode} {xs : Trees} {ys : List Tree} {e : TermEvent} → IsAfterJoin k m xs e ys → SureAll e.label xs → permit_all k (only (instances_of e).instances) xs ≡ None
     sure_fails (first_part {xs = xs} {e = e} a) h = ap (λ r. and_then r (permit_all k (only (instances_of e).instances) xs)) (sure_blocks a h.0)

@@ -2,12 +2,13 @@
 use Rattle.std.specs.Prelude.{ℕ, zero, suc, ◌≤◌, Bool, true, false, List, [], ◌∷◌, ◌≡◌, Option, Some, None, ◌==◌, ◌⊎◌, refl}
 use Rattle.std.proofs.Common.{ap, arith, inl, inr}
 use Rattle.std.proofs.lemmas.Bool.Decides.{nat_tests}
-use Rattle.msc_base.specs.Patterns.{Mode, row, aside, empty, one, join, bind}
-use Rattle.hmsc_graph.specs.Graphs.{Spot, At, Goal, To, IsIn}
-use Rattle.chart_term.specs.NormalForms.{NetPermits, only, join_all, turns_of, trail_of, bound_of}
-use Rattle.chart_term.specs.TermMeanings.{NetTerms, UpTo, HasPattern, has_nil, has_event, has_join, has_choice, has_bound, has_turns, has_trail, HasParts, no_part, one_part, HasChoice, this_one, that_one, gaps_turn, gaps_shut, gaps_more, walk_stop, walk_last, walk_step, PatternSet, ◌⊑◌, Avoiding, Taking, Leaves, terms_of}
+use Rattle.msc_base.specs.Patterns.{Mode, seq, par, empty, one, join, bind}
+use Rattle.hmsc_graph.specs.Graphs.{Spot, At, Goal, To}
+use Rattle.msc_base.specs.Lists.{IsIn}
+use Rattle.chart_term.specs.NormalForms.{NetPermits, only, join_all, loop_of, walk_of, tie_of}
+use Rattle.chart_term.specs.TermMeanings.{NetTerms, UpTo, HasPattern, has_nil, has_event, has_join, has_choice, holds_tie, holds_loop, holds_walk, HasParts, no_part, one_part, HasChoice, this_one, that_one, gaps_turn, gaps_shut, gaps_more, walk_stop, walk_last, walk_step, PatternSet, ◌⊑◌, Avoiding, Taking, Leaves, terms_of}
 use Rattle.chart_term.specs.TermPatterns.{Shape, Avoids, Lets, take_one, take_first, take_later, take_bind, ◌≈◌, same, on, in_join, in_bind, assoc, left, right, instances_of, earlier, InPairs}
-use Rattle.chart_term.specs.Terms.{TermEvent, hits, Tree, Nil, Event, Join, Choice, Bound, Turns, Trail, Trees, more, Row, items, Part, Gap, Turn, parts, ◌∪◌}
+use Rattle.chart_term.specs.Terms.{TermEvent, hits, Tree, Nil, Event, Join, Choice, Tied, Loop, Walk, Trees, more, Row, items, Part, Gap, Turn, parts, ◌∪◌}
 use Rattle.chart_term.proofs.Instances.{cut_avoids, both_avoids}
 use Rattle.chart_term.proofs.Joining.{join_to, trans}
 use Rattle.chart_term.proofs.Looping.{Falls, Rows, turns_to}
@@ -15,7 +16,7 @@ use Rattle.chart_term.proofs.Sameness.{avoids, follows, avoids_before}
 use Rattle.chart_term.proofs.Walking.{IsExactNet, Walks, change, trail_to}
 use Rattle.chart_term.specs.Spreads.{touch}
 use Rattle.permit_step.specs.Permission.{permit}
-use Rattle.permit_step.specs.Taking.{Stays, fewer, down, HasMore, IsAfter, after_event, after_choice, after_join, after_bound, after_turns, after_trail, IsAfterOne, first_one, later_one, IsAfterJoin, first_part, later_part, IsAfterRow, in_turn, in_gap, past_turn, past_gap}
+use Rattle.permit_step.specs.Taking.{Stays, fewer, down, HasMore, IsAfter, after_event, after_choice, after_join, after_tied, after_loop, after_walk, IsAfterOne, first_one, later_one, IsAfterJoin, first_part, later_part, IsAfterRow, in_turn, in_gap, past_turn, past_gap}
 use Rattle.permit_step.proofs.Permitting.{IsRegular, permit_law, only_fits, inside}
 use Rattle.chart_term.proofs.Binding.{Shows, bound_to}
 
@@ -37,16 +38,16 @@ module _ (k : NetPermits) (node : ℕ → ℕ → Tree) (o : Bool) where
     pub ok : (x : Tree) → IsGood x → IsRegular k node o x
     pub joined : (m : Mode) (x : Tree) (xs : Trees) → IsGood (Join m (more x xs)) → IsGood x × IsGood (Join m xs)
     pub chosen : (x : Tree) (xs : Trees) → IsGood (Choice (more x xs)) → IsGood x × IsGood (Choice xs)
-    pub bound : (x : Tree) (q : List (ℕ × ℕ)) → IsGood (Bound x q) → IsGood x
-    pub operand : (x : Tree) (lo : ℕ) (hi : Option ℕ) (r : Row) → IsGood (Turns x lo hi r) → IsGood x
-    pub begun : (x : Tree) (lo : ℕ) (hi : Option ℕ) (y : Tree) (r : Row) → IsGood (Turns x lo hi r) → IsTurnOf y (parts r) → IsGood y
+    pub tied : (x : Tree) (q : List (ℕ × ℕ)) → IsGood (Tied x q) → IsGood x
+    pub operand : (x : Tree) (lo : ℕ) (hi : Option ℕ) (r : Row) → IsGood (Loop x lo hi r) → IsGood x
+    pub begun : (x : Tree) (lo : ℕ) (hi : Option ℕ) (y : Tree) (r : Row) → IsGood (Loop x lo hi r) → IsTurnOf y (parts r) → IsGood y
     pub permitted : (c : List ℕ) (x y : Tree) → IsGood x → permit k (only c) x ≡ Some y → IsGood y
-    pub kept : (n : ℕ) (f : Spot) (t : Goal) (c d : List ℕ) (m : ℕ) (x : Tree) → IsGood (Trail n f t c) → IsIn m (k.nodes n) → k.kept n m d ≡ Some x → IsGood x
+    pub kept : (n : ℕ) (f : Spot) (t : Goal) (c d : List ℕ) (m : ℕ) (x : Tree) → IsGood (Walk n f t c) → IsIn m (k.nodes n) → k.kept n m d ≡ Some x → IsGood x
     pub known : (n m : ℕ) (d : List ℕ) (x : Tree) → k.kept n m d ≡ Some x → IsIn m (k.nodes n)
-    pub fits : (x y : Tree) (q : List (ℕ × ℕ)) (e : TermEvent) → IsGood (Bound x q) → IsAfter k x e y → Leaves w o (earlier q e) y (permit k (earlier q e) y)
-    pub shows : (x y z : Tree) (q : List (ℕ × ℕ)) (e : TermEvent) → IsGood (Bound x q) → IsAfter k x e y → permit k (earlier q e) y ≡ Some z → (j : ℕ) → InPairs j q → Shows w o z j
-    pub no_self : (x : Tree) (q : List (ℕ × ℕ)) (e : TermEvent) → IsGood (Bound x q) → hits (earlier q e) e ≡ false
-    pub falls : (x : Tree) (b : Bool) (lo : ℕ) (hi : Option ℕ) (r : Row) (e : TermEvent) (ps : List Part) → IsGood (Turns x lo hi r) → IsAfterRow k x b (parts r) e ps → Falls w o x ps
+    pub fits : (x y : Tree) (q : List (ℕ × ℕ)) (e : TermEvent) → IsGood (Tied x q) → IsAfter k x e y → Leaves w o (earlier q e) y (permit k (earlier q e) y)
+    pub shows : (x y z : Tree) (q : List (ℕ × ℕ)) (e : TermEvent) → IsGood (Tied x q) → IsAfter k x e y → permit k (earlier q e) y ≡ Some z → (j : ℕ) → InPairs j q → Shows w o z j
+    pub no_self : (x : Tree) (q : List (ℕ × ℕ)) (e : TermEvent) → IsGood (Tied x q) → hits (earlier q e) e ≡ false
+    pub falls : (x : Tree) (b : Bool) (lo : ℕ) (hi : Option ℕ) (r : Row) (e : TermEvent) (ps : List Part) → IsGood (Loop x lo hi r) → IsAfterRow k x b (parts r) e ps → Falls w o x ps
 
   module _ (IsGood : Tree → Type 0) (closed : IsClosed IsGood) where
     leaves : (x : Tree) → IsGood x → (c : List ℕ) → Leaves w o (only c) x (permit k (only c) x)
@@ -57,8 +58,8 @@ module _ (k : NetPermits) (node : ℕ → ℕ → Tree) (o : Bool) where
     seen x y c g e = rw e at ((leaves x g c).sound)
 
     stays_sound : (m : Mode) (e : TermEvent) (x x' : Tree) → IsGood x → Stays k m e x x' → (s : Shape) → HasPattern w o x' s → (t : Shape) × HasPattern w o x t × Lets m e t × (s ≈ t)
-    stays_sound row e x x' g h s a = let i = seen x x' (instances_of e).instances g h s a in (i.0, i.1.0, i.1.1, i.2)
-    stays_sound aside e x x' g h s a = (s, rw h at a, tt, same)
+    stays_sound seq e x x' g h s a = let i = seen x x' (instances_of e).instances g h s a in (i.0, i.1.0, i.1.1, i.2)
+    stays_sound par e x x' g h s a = (s, rw h at a, tt, same)
 
     -- the rows that are left
     abbrev TakingRow : Bool → Tree → List Part → TermEvent → ℕ → PatternSet
@@ -97,7 +98,7 @@ module _ (k : NetPermits) (node : ℕ → ℕ → Tree) (o : Bool) where
     same_node : (m i : ℕ) → (m == i) ≡ true → m ≡ i
     same_node m i h = grind (arith, nat_tests)
 
-    join_walks : (n m : ℕ) (f : Spot) (t : Goal) (c : List ℕ) (u s v : Shape) → Walks k node o n f (To m) c u → HasPattern w o (node n m) s → Avoids (only c) s → Walks k node o n (At m) t c v → (z : Shape) × Walks k node o n f t c z × (join row u (join row s v) ≈ z)
+    join_walks : (n m : ℕ) (f : Spot) (t : Goal) (c : List ℕ) (u s v : Shape) → Walks k node o n f (To m) c u → HasPattern w o (node n m) s → Avoids (only c) s → Walks k node o n (At m) t c v → (z : Shape) × Walks k node o n f t c z × (join seq u (join seq s v) ≈ z)
     join_walks n m f t c u s v (walk_stop h) a av r = absurd h
     join_walks n m f t c u s v (walk_last i j p) a av r = let e = same_node i m p in (_, walk_step m (rw e at j) a av r, left)
     join_walks n m f t c u s v (walk_step i j b bv q) a av r = let z = join_walks n m (At i) t c _ s v q a av r in (_, walk_step i j b bv z.1, on assoc (in_join same z.2))
@@ -110,14 +111,14 @@ module _ (k : NetPermits) (node : ℕ → ℕ → Tree) (o : Bool) where
         go j g f t s (walk_last m i a) = tt
         go j g f t s (walk_step m {s = u} i a av r) = (g u av, go j g (At m) t _ r)
 
-    three : (x y z : Tree) (s : Shape) → HasParts w o row (x ∷ y ∷ z ∷ []) s → (a : Shape) × (b : Shape) × (c : Shape) × HasPattern w o x a × HasPattern w o y b × HasPattern w o z c × (s ≈ join row a (join row b c))
+    three : (x y z : Tree) (s : Shape) → HasParts w o seq (x ∷ y ∷ z ∷ []) s → (a : Shape) × (b : Shape) × (c : Shape) × HasPattern w o x a × HasPattern w o y b × HasPattern w o z c × (s ≈ join seq a (join seq b c))
     three x y z s (one_part a (one_part b (one_part c no_part))) = (_, _, _, a, b, c, in_join same (in_join same right))
 
     trail_sound : (n : ℕ) (f : Spot) (t : Goal) (c : List ℕ) (e : TermEvent) (m : ℕ) (x y u v : Tree) → IsExactNet k node o n → IsIn m (k.nodes n) → k.kept n m c ≡ Some x → HasPattern w o y ⊑ Taking e (HasPattern w o x)
-        → trail_of k n f (To m) (c ∪ (instances_of e).instances) ≡ Some u → trail_of k n (At m) t c ≡ Some v
-        → HasPattern w o (join_all row (u ∷ y ∷ v ∷ [])) ⊑ Taking e (HasPattern w o (Trail n f t c))
+        → walk_of k n f (To m) (c ∪ (instances_of e).instances) ≡ Some u → walk_of k n (At m) t c ≡ Some v
+        → HasPattern w o (join_all seq (u ∷ y ∷ v ∷ [])) ⊑ Taking e (HasPattern w o (Walk n f t c))
     trail_sound n f t c e m x y u v fine inside p h q r s a =
-        let i = join_to w o row (u ∷ y ∷ v ∷ []) s a in
+        let i = join_to w o seq (u ∷ y ∷ v ∷ []) s a in
         let (sa, sb, sc, ua, yb, vc, eq) = three u y v i.0 i.1 in
         let d = c ∪ (instances_of e).instances in
         let U = rw q at (trail_to k node o n fine f (To m) d) in
@@ -130,12 +131,12 @@ module _ (k : NetPermits) (node : ℕ → ℕ → Tree) (o : Bool) where
         let fx = (follows tx.2).0 e ty.0 ty.1.2 in
         let wc = change k node o n fine d c (λ j g b l q. ((both_avoids c (instances_of e).instances b).to q).0) f (To m) wu.0 wu.1 in
         let z = join_walks n m f t c wu.0 tx.0 wv.0 wc tx.1.0 tx.1.1 wv.1 in
-        let tz = (follows z.2).0 e (join row wu.0 (join row fx.0 wv.0)) (take_later (walk_avoids n f (To m) c (instances_of e).instances wu.0 wu.1) (take_first fx.1)) in
-        (tz.0, (z.0, has_trail z.1, tz.1), on i.2 (on eq (on (in_join wu.2 (in_join (on ty.2 fx.2) wv.2)) tz.2)))
+        let tz = (follows z.2).0 e (join seq wu.0 (join seq fx.0 wv.0)) (take_later (walk_avoids n f (To m) c (instances_of e).instances wu.0 wu.1) (take_first fx.1)) in
+        (tz.0, (z.0, holds_walk z.1, tz.1), on i.2 (on eq (on (in_join wu.2 (in_join (on ty.2 fx.2) wv.2)) tz.2)))
 
-    loop_sound : (x z : Tree) (b : Bool) (lo : ℕ) (hi : Option ℕ) (r : Row) (e : TermEvent) (ps : List Part) → IsGood (Turns x lo hi r) → UpTo hi lo → Falls w o x ps → HasMore b hi
+    loop_sound : (x z : Tree) (b : Bool) (lo : ℕ) (hi : Option ℕ) (r : Row) (e : TermEvent) (ps : List Part) → IsGood (Loop x lo hi r) → UpTo hi lo → Falls w o x ps → HasMore b hi
         → ((m : ℕ) → Rows w o x ps m ⊑ TakingRow b x (parts r) e m)
-        → turns_of (λ c. permit k (only c) x) (touch k.spread x) x (down b lo) (fewer b hi) ps ≡ Some z → HasPattern w o z ⊑ Taking e (HasPattern w o (Turns x lo hi r))
+        → loop_of (λ c. permit k (only c) x) (touch k.spread x) x (down b lo) (fewer b hi) ps ≡ Some z → HasPattern w o z ⊑ Taking e (HasPattern w o (Loop x lo hi r))
     loop_sound x z b lo hi r e ps g u d hm h q s a =
         let gx = closed.operand x lo hi r g in
         let okx = closed.ok x gx in
@@ -144,7 +145,7 @@ module _ (k : NetPermits) (node : ℕ → ℕ → Tree) (o : Bool) where
         (down b lo) (fewer b hi) ps (fewer_down b lo hi hm u)) in
         let i = T s a in
         let j = h i.1.0 i.0 i.1.1 in
-        (j.0, (j.1.2.0, has_turns j.1.0 j.1.2.1 (low_up b lo j.1.0 i.1.0 j.1.1 i.1.2) (high_up b hi j.1.0 i.1.0 j.1.1 hm i.1.3), j.1.2.2), on i.2 j.2)
+        (j.0, (j.1.2.0, holds_loop j.1.0 j.1.2.1 (low_up b lo j.1.0 i.1.0 j.1.1 i.1.2) (high_up b hi j.1.0 i.1.0 j.1.1 hm i.1.3), j.1.2.2), on i.2 j.2)
 
     -- the parts of a row, one after another
     turn_passed : (b : Bool) (x y z : Tree) (ps qs : List Part) (e : TermEvent) → HasPattern w o z ⊑ Avoiding (instances_of e) (HasPattern w o y) → ((m : ℕ) → Rows w o x qs m ⊑ TakingRow b x ps e m) → (m : ℕ) → Rows w o x (Turn z ∷ qs) m ⊑ TakingRow b x (Turn y ∷ ps) e m
@@ -178,7 +179,7 @@ module _ (k : NetPermits) (node : ℕ → ℕ → Tree) (o : Bool) where
     GoodTurns (Gap c ∷ ps) = GoodTurns ps
     GoodTurns (Turn y ∷ ps) = IsGood y × GoodTurns ps
 
-    good_turns : (x : Tree) (lo : ℕ) (hi : Option ℕ) (r : Row) → IsGood (Turns x lo hi r) → (ps : List Part) → ((y : Tree) → IsTurnOf y ps → IsTurnOf y (parts r)) → GoodTurns ps
+    good_turns : (x : Tree) (lo : ℕ) (hi : Option ℕ) (r : Row) → IsGood (Loop x lo hi r) → (ps : List Part) → ((y : Tree) → IsTurnOf y ps → IsTurnOf y (parts r)) → GoodTurns ps
     good_turns x lo hi r g [] f = tt
     good_turns x lo hi r g (Gap c ∷ ps) f = good_turns x lo hi r g ps f
     good_turns x lo hi r g (Turn y ∷ ps) f = (closed.begun x lo hi y r g (f y (inl refl)), good_turns x lo hi r g ps (λ z i. f z (inr i)))
@@ -189,10 +190,10 @@ module _ (k : NetPermits) (node : ℕ → ℕ → Tree) (o : Bool) where
     choice_sound : (xs : Trees) (y : Tree) (e : TermEvent) → HasPattern w o y ⊑ Taking e (HasChoice w o (items xs)) → HasPattern w o y ⊑ Taking e (HasPattern w o (Choice xs))
     choice_sound xs y e f s a = let i = f s a in (i.0, (i.1.0, has_choice i.1.1, i.1.2), i.2)
 
-    bound_sound : (x y z : Tree) (q : List (ℕ × ℕ)) (e : TermEvent) → hits (earlier q e) e ≡ false → HasPattern w o z ⊑ Avoiding (earlier q e) (HasPattern w o y) → HasPattern w o y ⊑ Taking e (HasPattern w o x) → HasPattern w o (Bound z q) ⊑ Taking e (HasPattern w o (Bound x q))
-    bound_sound x y z q e g f h s (has_bound a) =
+    bound_sound : (x y z : Tree) (q : List (ℕ × ℕ)) (e : TermEvent) → hits (earlier q e) e ≡ false → HasPattern w o z ⊑ Avoiding (earlier q e) (HasPattern w o y) → HasPattern w o y ⊑ Taking e (HasPattern w o x) → HasPattern w o (Tied z q) ⊑ Taking e (HasPattern w o (Tied x q))
+    bound_sound x y z q e g f h s (holds_tie a) =
         let i = f _ a in let j = h i.0 i.1.0 in
-        (bind j.0 q, (bind j.1.0 q, has_bound j.1.1, take_bind j.1.2 (avoids_before (earlier q e) j.1.2 g ((avoids (earlier q e) j.2).to i.1.1))), in_bind (on i.2 j.2))
+        (bind j.0 q, (bind j.1.0 q, holds_tie j.1.1, take_bind j.1.2 (avoids_before (earlier q e) j.1.2 g ((avoids (earlier q e) j.2).to i.1.1))), in_bind (on i.2 j.2))
 
     first_sound : (m : Mode) (x y : Tree) (xs : List Tree) (e : TermEvent) → HasPattern w o y ⊑ Taking e (HasPattern w o x) → HasParts w o m (y ∷ xs) ⊑ Taking e (HasParts w o m (x ∷ xs))
     first_sound m x y xs e f s (one_part a r) = let i = f _ a in (_, (_, one_part i.1.1 r, take_first i.1.2), in_join i.2 same)
@@ -211,14 +212,14 @@ module _ (k : NetPermits) (node : ℕ → ℕ → Tree) (o : Bool) where
       after_sound {e = e} after_event g = event_sound e
       after_sound {y = y} {e = e} (after_choice {xs = xs} h) g = choice_sound xs y e (one_sound h g)
       after_sound {e = e} (after_join {m = m} {xs = xs} {ys = ys} h) g = join_sound m xs ys e (parts_sound h g)
-      after_sound {e = e} (after_bound {x = x} {y = y} {z = z} {q = q} h p) g =
-          trans (HasPattern w o (bound_of z q)) (HasPattern w o (Bound z q)) (Taking e (HasPattern w o (Bound x q))) (bound_to w o z q (closed.shows x y z q e g h p))
-          (bound_sound x y z q e (closed.no_self x q e g) (rw p at ((closed.fits x y q e g h).sound)) (after_sound h (closed.bound x q g)))
-      after_sound {e = e} (after_turns {x = x} {z = z} {lo = lo} {hi = hi} {r = r} b {ps = ps} h hm q) g =
-          loop_sound x z b lo hi r e ps g ((closed.ok (Turns x lo hi r) g).2) (closed.falls x b lo hi r e ps g h) hm
+      after_sound {e = e} (after_tied {x = x} {y = y} {z = z} {q = q} h p) g =
+          trans (HasPattern w o (tie_of z q)) (HasPattern w o (Tied z q)) (Taking e (HasPattern w o (Tied x q))) (bound_to w o z q (closed.shows x y z q e g h p))
+          (bound_sound x y z q e (closed.no_self x q e g) (rw p at ((closed.fits x y q e g h).sound)) (after_sound h (closed.tied x q g)))
+      after_sound {e = e} (after_loop {x = x} {z = z} {lo = lo} {hi = hi} {r = r} b {ps = ps} h hm q) g =
+          loop_sound x z b lo hi r e ps g ((closed.ok (Loop x lo hi r) g).2) (closed.falls x b lo hi r e ps g h) hm
           (row_sound h (closed.operand x lo hi r g) (good_turns x lo hi r g (parts r) (λ y i. i))) q
-      after_sound {e = e} (after_trail {n = n} {s = f} {t = t} {c = c} m {x = x} {y = y} {u = u} {v = v} p h p1 p2 q r) g =
-          trail_sound n f t c e m x y u v (closed.ok (Trail n f t c) g) (closed.known n m c x p) p (after_sound h (closed.kept n f t c c m x g (closed.known n m c x p) p)) q r
+      after_sound {e = e} (after_walk {n = n} {s = f} {t = t} {c = c} m {x = x} {y = y} {u = u} {v = v} p h p1 p2 q r) g =
+          trail_sound n f t c e m x y u v (closed.ok (Walk n f t c) g) (closed.known n m c x p) p (after_sound h (closed.kept n f t c c m x g (closed.known n m c x p) p)) q r
 
       one_sound : {xs : Trees} {y : Tree} {e : TermEvent} → IsAfterOne k xs e y → IsGood (Choice xs) → HasPattern w o y ⊑ Taking e (HasChoice w o (items xs))
       one_sound {y = y} {e = e} (first_one {x = x} {xs = xs} h) g = this_sound x y (items xs) e (after_sound h ((closed.chosen x xs g).0))

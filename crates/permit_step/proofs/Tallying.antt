@@ -128,7 +128,7 @@ added-new old new t key all h within e free seen terms heavy most test = record 
   among = subst (λ (xs : List Tree). IsAmong t xs) (sym terms) (among_snoc old.terms t);
   bounded = record {
     within = λ a. low a;
-    beyond = λ a. record { front = old.terms; last = t; are = terms; below = omega arith; above = high a };
+    beyond = λ a. record { prefix = old.terms; last = t; are = terms; below = omega arith; above = high a };
   };
 }
   where

@@ -2,7 +2,7 @@
 use Rattle.std.specs.Prelude.{ℕ, ◌<◌, ◌==◌, [], ◌∷◌}
 use Rattle.std.proofs.Common.{arith}
 use Rattle.chart_term.specs.Tables.{Tables, net_count, nth_tree, node_of, terms_over}
-use Rattle.chart_term.specs.Terms.{Tree, Nil, Event, Join, Choice, Bound, Turns, Trail, Trees, none, more, Row, ends, gap, turn}
+use Rattle.chart_term.specs.Terms.{Tree, Nil, Event, Join, Choice, Tied, Loop, Walk, Trees, none, more, Row, ends, gap, turn}
 use Rattle.permit_step.specs.Laws.{PermitIsExact, AfterIsExact, MayEndIsExact, RunsAreLinearOrders}
 use Rattle.permit_step.specs.Permission.{permits_of}
 use Rattle.permit_step.specs.Soundness.{AreTidyTables, IsTidyOver, AreTidy, IsTidyRow, NetLacks, IsKnown}
@@ -32,9 +32,9 @@ module _ (N : ℕ → Type 0) (es : Tables) (all : Tables) (known : (n : ℕ) �
     counts (Event e) h = tt
     counts (Join m xs) h = counts_all xs h
     counts (Choice xs) h = counts_all xs h
-    counts (Bound x q) h = counts x h.0
-    counts (Turns x lo hi r) h = (counts x h.0, counts_row r h.1, h.2)
-    counts (Trail n f t c) h = known n h
+    counts (Tied x q) h = counts x h.0
+    counts (Loop x lo hi r) h = (counts x h.0, counts_row r h.1, h.2)
+    counts (Walk n f t c) h = known n h
 
     counts_all : (xs : Trees) → AreTidy (NetLacks es) (IsKnown es) xs → CountsAll (terms_over all) N xs
     counts_all none h = tt

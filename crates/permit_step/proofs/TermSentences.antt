@@ -4,7 +4,7 @@ use Rattle.std.proofs.Common.{ap, arith}
 use Rattle.chart_term.specs.NormalForms.{NetPermits, only}
 use Rattle.chart_term.specs.Properties.{EveryOf, EveryRow, IsBelow}
 use Rattle.chart_term.specs.Tables.{NetEntry, net_count, choose}
-use Rattle.chart_term.specs.Terms.{Block, Tree, Nil, Event, Join, Choice, Bound, Turns, Trail, Trees, none, more, Row, ends, gap, turn}
+use Rattle.chart_term.specs.Terms.{Block, Tree, Nil, Event, Join, Choice, Tied, Loop, Walk, Trees, none, more, Row, ends, gap, turn}
 use Rattle.permit_step.specs.Permission.{permits_of, permit_nth}
 use Rattle.permit_step.specs.Soundness.{AreTidyTables}
 use Rattle.permit_step.proofs.Ranking.{rank, ranks, row_rank, permit_rank}
@@ -26,9 +26,9 @@ module _ (f g : ℕ → ℕ) (top : ℕ) (alike : (n : ℕ) → n < top → f n 
     same_rank (Event e) h = refl
     same_rank (Join m xs) h = ap (λ n. 1 + n) (same_ranks xs h)
     same_rank (Choice xs) h = ap (λ n. 1 + n) (same_ranks xs h)
-    same_rank (Bound x q) h = ap (λ n. 1 + n + length q) (same_rank x h)
-    same_rank (Turns x lo hi r) h = λ i. 1 + same_rank x h.0 i + same_row r h.1 i
-    same_rank (Trail n s t c) h = ap (λ n. 1 + n) (alike n h)
+    same_rank (Tied x q) h = ap (λ n. 1 + n + length q) (same_rank x h)
+    same_rank (Loop x lo hi r) h = λ i. 1 + same_rank x h.0 i + same_row r h.1 i
+    same_rank (Walk n s t c) h = ap (λ n. 1 + n) (alike n h)
 
     same_ranks : (xs : Trees) → EveryOf (λ e. Unit {0}) (λ m. m < top) xs → ranks f xs ≡ ranks g xs
     same_ranks none h = refl

@@ -3,12 +3,13 @@ use Rattle.std.specs.Prelude.{ℕ, ◌≢◌, ◌==◌, Bool, true, false, List,
 use Rattle.std.proofs.Common.{◌∙◌, arith, inl, inr, sym, ap}
 use Rattle.std.proofs.lemmas.Bool.Decides.{nat_tests}
 use Rattle.msc_base.specs.Patterns.{Mode, empty, one, join, bind}
-use Rattle.hmsc_graph.specs.Graphs.{Spot, Goal, IsIn}
+use Rattle.hmsc_graph.specs.Graphs.{Spot, Goal}
+use Rattle.msc_base.specs.Lists.{IsIn}
 use Rattle.chart_term.specs.NormalForms.{NetPermits, only, lower_of, cut_gaps, cut, numbers, numbers_row, numbers_all}
 use Rattle.chart_term.specs.Properties.{Each, EachTurn, MayHave, EveryRow, EveryOf, Every, EachGap}
-use Rattle.chart_term.specs.TermMeanings.{NetTerms, UpTo, HasPattern, has_nil, has_event, has_join, has_choice, has_bound, has_turns, has_trail, HasParts, no_part, one_part, HasChoice, this_one, that_one, HasRow, gaps_end, gaps_turn, gaps_shut, gaps_more, HasWalk, walk_stop, walk_last, walk_step, terms_of}
+use Rattle.chart_term.specs.TermMeanings.{NetTerms, UpTo, HasPattern, has_nil, has_event, has_join, has_choice, holds_tie, holds_loop, holds_walk, HasParts, no_part, one_part, HasChoice, this_one, that_one, HasRow, gaps_end, gaps_turn, gaps_shut, gaps_more, HasWalk, walk_stop, walk_last, walk_step, terms_of}
 use Rattle.chart_term.specs.TermPatterns.{instances_of, earlier, Shape, Avoids, put_if, before_in, InPairs, Occurs}
-use Rattle.chart_term.specs.Terms.{TermEvent, Block, hits, has, Tree, Nil, Event, Join, Choice, Bound, Turns, Trail, Trees, none, more, Row, ends, gap, turn, items, trees, Part, Gap, Turn, parts, row_of, ◌∪◌}
+use Rattle.chart_term.specs.Terms.{TermEvent, Block, hits, has, Tree, Nil, Event, Join, Choice, Tied, Loop, Walk, Trees, none, more, Row, ends, gap, turn, items, trees, Part, Gap, Turn, parts, row_of, ◌∪◌}
 use Rattle.chart_term.proofs.Instances.{has_union, includes_avoids, or_true, cut_out, cut_into, has_self, has_left, has_right}
 use Rattle.chart_term.proofs.Lists.{parts-row_of}
 use Rattle.chart_term.proofs.Looping.{Eases, Falls, IsSubRow, sub_end, sub_gap, sub_drop, sub_turn, sub_over}
@@ -151,9 +152,9 @@ module _ (k : NetPermits) (node : ℕ → ℕ → Tree) (o : Bool) (NL : ℕ →
     lacks_out j (Event e) h = tt
     lacks_out j (Join m xs) h = lacks_out_all j xs h
     lacks_out j (Choice xs) h = lacks_out_all j xs h
-    lacks_out j (Bound x q) h = lacks_out j x h
-    lacks_out j (Turns x lo hi r) h = h
-    lacks_out j (Trail n f t c) h = h
+    lacks_out j (Tied x q) h = lacks_out j x h
+    lacks_out j (Loop x lo hi r) h = h
+    lacks_out j (Walk n f t c) h = h
 
     lacks_out_all : (j : ℕ) (xs : Trees) → EveryOf (λ e. e.number ≢ j) (NL j) xs → AreOutside NL j xs
     lacks_out_all j none h = tt
@@ -165,9 +166,9 @@ module _ (k : NetPermits) (node : ℕ → ℕ → Tree) (o : Bool) (NL : ℕ →
     lacks_fits j (Event e) h = tt
     lacks_fits j (Join m xs) h = lacks_fit_all j xs h
     lacks_fits j (Choice xs) h = lacks_fit_all j xs h
-    lacks_fits j (Bound x q) h = lacks_fits j x h
-    lacks_fits j (Turns x lo hi r) h = (h.0, lacks_fit_row j r h.1)
-    lacks_fits j (Trail n f t c) h = h
+    lacks_fits j (Tied x q) h = lacks_fits j x h
+    lacks_fits j (Loop x lo hi r) h = (h.0, lacks_fit_row j r h.1)
+    lacks_fits j (Walk n f t c) h = h
 
     lacks_fit_all : (j : ℕ) (xs : Trees) → EveryOf (λ e. e.number ≢ j) (NL j) xs → AreFitting NL j xs
     lacks_fit_all j none h = tt
@@ -185,9 +186,9 @@ module _ (k : NetPermits) (node : ℕ → ℕ → Tree) (o : Bool) (NL : ℕ →
     outside_fits j (Event e) h = tt
     outside_fits j (Join m xs) h = outside_fit_all j xs h
     outside_fits j (Choice xs) h = outside_fit_all j xs h
-    outside_fits j (Bound x q) h = outside_fits j x h
-    outside_fits j (Turns x lo hi r) h = (h.0, lacks_fit_row j r h.1)
-    outside_fits j (Trail n f t c) h = h
+    outside_fits j (Tied x q) h = outside_fits j x h
+    outside_fits j (Loop x lo hi r) h = (h.0, lacks_fit_row j r h.1)
+    outside_fits j (Walk n f t c) h = h
 
     outside_fit_all : (j : ℕ) (xs : Trees) → AreOutside NL j xs → AreFitting NL j xs
     outside_fit_all j none h = tt
@@ -229,9 +230,9 @@ module _ (k : NetPermits) (node : ℕ → ℕ → Tree) (o : Bool) (NL : ℕ →
     lacks_bare j (Event e) h = tt
     lacks_bare j (Join m xs) h = lacks_bare_all j xs h
     lacks_bare j (Choice xs) h = lacks_bare_all j xs h
-    lacks_bare j (Bound x q) h = lacks_bare j x h
-    lacks_bare j (Turns x lo hi r) h = (lacks_bare j x h.0, lacks_bare_row j r h.1)
-    lacks_bare j (Trail n f t c) h = h
+    lacks_bare j (Tied x q) h = lacks_bare j x h
+    lacks_bare j (Loop x lo hi r) h = (lacks_bare j x h.0, lacks_bare_row j r h.1)
+    lacks_bare j (Walk n f t c) h = h
 
     lacks_bare_all : (j : ℕ) (xs : Trees) → EveryOf (λ e. e.number ≢ j) (NL j) xs → EveryOf (λ e. Unit {0}) (NL j) xs
     lacks_bare_all j none h = tt
@@ -248,9 +249,9 @@ module _ (k : NetPermits) (node : ℕ → ℕ → Tree) (o : Bool) (NL : ℕ →
     outside_bare j (Event e) h = tt
     outside_bare j (Join m xs) h = outside_bare_all j xs h
     outside_bare j (Choice xs) h = outside_bare_all j xs h
-    outside_bare j (Bound x q) h = outside_bare j x h
-    outside_bare j (Turns x lo hi r) h = (lacks_bare j x h.0, lacks_bare_row j r h.1)
-    outside_bare j (Trail n f t c) h = h
+    outside_bare j (Tied x q) h = outside_bare j x h
+    outside_bare j (Loop x lo hi r) h = (lacks_bare j x h.0, lacks_bare_row j r h.1)
+    outside_bare j (Walk n f t c) h = h
 
     outside_bare_all : (j : ℕ) (xs : Trees) → AreOutside NL j xs → EveryOf (λ e. Unit {0}) (NL j) xs
     outside_bare_all j none h = tt
@@ -305,9 +306,9 @@ module _ (k : NetPermits) (node : ℕ → ℕ → Tree) (o : Bool) (NL : ℕ →
       lacks_none j has_event h = h
       lacks_none j (has_join {xs = xs} a) h = lacks_parts j a (every_out (λ e. e.number ≢ j) (NL j) xs h)
       lacks_none j (has_choice {xs = xs} a) h = lacks_one j a (every_out (λ e. e.number ≢ j) (NL j) xs h)
-      lacks_none j (has_bound a) h = lacks_none j a h
-      lacks_none j (has_turns {r = r} n a l u) h = lacks_gaps j a h.0 (every_row_out (λ e. e.number ≢ j) (NL j) r h.1)
-      lacks_none j (has_trail a) h = lacks_walk j a h
+      lacks_none j (holds_tie a) h = lacks_none j a h
+      lacks_none j (holds_loop {r = r} n a l u) h = lacks_gaps j a h.0 (every_row_out (λ e. e.number ≢ j) (NL j) r h.1)
+      lacks_none j (holds_walk a) h = lacks_walk j a h
 
       lacks_parts : {m : Mode} {xs : List Tree} {s : Shape} (j : ℕ) → HasParts w o m xs s → Each (Lacks NL j) xs → NoNumber j s
       lacks_parts j no_part h = tt
@@ -369,9 +370,9 @@ module _ (k : NetPermits) (node : ℕ → ℕ → Tree) (o : Bool) (NL : ℕ →
       shows_of j (has_event {e = e}) h i = rw i (has_self e.number [])
       shows_of j (has_join {xs = xs} a) h i = all_numbers xs j (shows_parts j a (every_out (λ e. Unit {0}) (NL j) xs h) i)
       shows_of j (has_choice {xs = xs} a) h i = all_numbers xs j (shows_one j a (every_out (λ e. Unit {0}) (NL j) xs h) i)
-      shows_of j (has_bound a) h i = shows_of j a h i
-      shows_of j (has_turns {x = x} {r = r} n a l u) h i = elim (shows_gaps j a h.0 (every_row_out (λ e. Unit {0}) (NL j) r h.1) i) [ inl p ↦ has_left (numbers x) (numbers_row r) j p | inr p ↦ has_right (numbers x) (numbers_row r) j (row_numbers r j p) ]
-      shows_of j (has_trail {s = s} a) h i = absurd (clash j s (lacks_walk j a h) i)
+      shows_of j (holds_tie a) h i = shows_of j a h i
+      shows_of j (holds_loop {x = x} {r = r} n a l u) h i = elim (shows_gaps j a h.0 (every_row_out (λ e. Unit {0}) (NL j) r h.1) i) [ inl p ↦ has_left (numbers x) (numbers_row r) j p | inr p ↦ has_right (numbers x) (numbers_row r) j (row_numbers r j p) ]
+      shows_of j (holds_walk {s = s} a) h i = absurd (clash j s (lacks_walk j a h) i)
 
       shows_parts : {m : Mode} {xs : List Tree} {s : Shape} (j : ℕ) → HasParts w o m xs s → Each (Bare j) xs → Occurs j s → has (list_numbers xs) j ≡ true
       shows_parts j no_part h i = absurd i
@@ -403,9 +404,9 @@ module _ (k : NetPermits) (node : ℕ → ℕ → Tree) (o : Bool) (NL : ℕ →
       good_ok (Event e) h = tt
       good_ok (Join m xs) h = goods_ok xs h
       good_ok (Choice xs) h = goods_ok xs h
-      good_ok (Bound x q) h = (good_ok x h.0, permit_shows q x h.1)
-      good_ok (Turns x lo hi r) h = (good_ok x h.0, row_ok r h.1, h.2, falls_of w o x (parts r) h.3)
-      good_ok (Trail n f t c) h = nets.fine n h
+      good_ok (Tied x q) h = (good_ok x h.0, permit_shows q x h.1)
+      good_ok (Loop x lo hi r) h = (good_ok x h.0, row_ok r h.1, h.2, falls_of w o x (parts r) h.3)
+      good_ok (Walk n f t c) h = nets.fine n h
 
       goods_ok : (xs : Trees) → AreTidy NL NG xs → AreRegular k node o xs
       goods_ok none h = tt
@@ -511,9 +512,9 @@ module _ (k : NetPermits) (node : ℕ → ℕ → Tree) (o : Bool) (NL : ℕ →
       outs_fit b (Event e) h = tt
       outs_fit b (Join m xs) h = outs_fit_all b xs h
       outs_fit b (Choice xs) h = outs_fit_all b xs h
-      outs_fit b (Bound x q) h = outs_fit b x h
-      outs_fit b (Turns x lo hi r) h = (λ s a i. free_of b s (λ j p. lacks_none j a (h j p).0) i, outs_fit_row b r (λ j p. (h j p).1))
-      outs_fit b (Trail n f t c) h = λ m i s a d. free_of b s (λ j p. lacks_none j a (nets.node_lacks j n m (h j p))) d
+      outs_fit b (Tied x q) h = outs_fit b x h
+      outs_fit b (Loop x lo hi r) h = (λ s a i. free_of b s (λ j p. lacks_none j a (h j p).0) i, outs_fit_row b r (λ j p. (h j p).1))
+      outs_fit b (Walk n f t c) h = λ m i s a d. free_of b s (λ j p. lacks_none j a (nets.node_lacks j n m (h j p))) d
 
       outs_fit_all : (b : Block) (xs : Trees) → ((j : ℕ) → has b.numbers j ≡ true → AreFitting NL j xs) → FitsAll k node o b xs
       outs_fit_all b none h = tt
@@ -535,7 +536,7 @@ module _ (k : NetPermits) (node : ℕ → ℕ → Tree) (o : Bool) (NL : ℕ →
       ok = good_ok;
       joined = λ m x xs h. (h.0, h.1);
       chosen = λ x xs h. (h.0, h.1);
-      bound = λ x q h. h.0;
+      tied = λ x q h. h.0;
       operand = λ x lo hi r h. h.0;
       begun = λ x lo hi y r h i. begun_good y (parts r) (good_row_out r h.1) i;
       permitted = λ c x y h e. at_some Tidy (permit k (only c) x) y e (permit_good (only c) x h);

@@ -2,13 +2,14 @@
 use Rattle.std.specs.Prelude.{ℕ, zero, suc, ◌+◌, ◌<◌, ◌≤◌, ◌==◌, ◌≢◌, Bool, true, false, List, [], ◌∷◌, ◌≡◌, Option, Some, None, refl}
 use Rattle.std.proofs.Common.{sym, arith, inl, inr}
 use Rattle.std.proofs.lemmas.Bool.Decides.{nat_tests}
-use Rattle.hmsc_graph.specs.Graphs.{Spot, behind, IsIn}
+use Rattle.hmsc_graph.specs.Graphs.{Spot, behind}
+use Rattle.msc_base.specs.Lists.{IsIn}
 use Rattle.chart_term.specs.NormalForms.{NetPermits, only}
 use Rattle.chart_term.specs.Properties.{Each, MayHave, Every, EveryOf, EveryRow, IsBelow}
 use Rattle.chart_term.specs.Tables.{NetEntry, net_count, choose, count_from, nth_tree, node_of}
 use Rattle.chart_term.specs.TermMeanings.{NetTerms, HasPattern, has_nil, PatternsOf, Leaves, terms_of}
 use Rattle.chart_term.specs.TermPatterns.{Shape}
-use Rattle.chart_term.specs.Terms.{Block, Tree, Nil, Event, Join, Choice, Bound, Turns, Trail, Trees, none, more, Row, ends, gap, turn}
+use Rattle.chart_term.specs.Terms.{Block, Tree, Nil, Event, Join, Choice, Tied, Loop, Walk, Trees, none, more, Row, ends, gap, turn}
 use Rattle.chart_term.proofs.Instances.{IsInside, inside_left, inside_right}
 use Rattle.chart_term.specs.Spreads.{touch, touch_list}
 use Rattle.permit_step.specs.Permission.{permit, permits_of, permit_nth}
@@ -37,9 +38,9 @@ module _ (a b : ℕ) (l : a ≤ b) where
     higher (Event e) h = tt
     higher (Join m xs) h = higher_all xs h
     higher (Choice xs) h = higher_all xs h
-    higher (Bound x q) h = higher x h
-    higher (Turns x lo hi r) h = (higher x h.0, higher_row r h.1)
-    higher (Trail n f t c) h = omega arith
+    higher (Tied x q) h = higher x h
+    higher (Loop x lo hi r) h = (higher x h.0, higher_row r h.1)
+    higher (Walk n f t c) h = omega arith
 
     higher_all : (xs : Trees) → EveryOf (λ e. Unit {0}) (λ m. m < a) xs → EveryOf (λ e. Unit {0}) (λ m. m < b) xs
     higher_all none h = tt
@@ -149,9 +150,9 @@ module _ (o : Bool) (e : NetEntry) (es : List NetEntry) (sound : AreTidyTables e
     lacks_tree i (Event f) b h = h
     lacks_tree i (Join m xs) b h = lacks_all i xs b h
     lacks_tree i (Choice xs) b h = lacks_all i xs b h
-    lacks_tree i (Bound x q) b h = lacks_tree i x b h
-    lacks_tree i (Turns x lo hi r) b h = (lacks_tree i x b.0 h.0, lacks_row i r b.1 h.1)
-    lacks_tree i (Trail n f t c) b h = lacks_up i n b h
+    lacks_tree i (Tied x q) b h = lacks_tree i x b h
+    lacks_tree i (Loop x lo hi r) b h = (lacks_tree i x b.0 h.0, lacks_row i r b.1 h.1)
+    lacks_tree i (Walk n f t c) b h = lacks_up i n b h
 
     pub lacks_all : (i : ℕ) (xs : Trees) → EveryOf (λ e. Unit {0}) (λ m. m < top) xs → EveryOf (λ f. f.number ≢ i) (NetLacks es i) xs → EveryOf (λ f. f.number ≢ i) (NetLacks (e ∷ es) i) xs
     lacks_all i none b h = tt
@@ -174,9 +175,9 @@ module _ (o : Bool) (e : NetEntry) (es : List NetEntry) (sound : AreTidyTables e
     out_tree i (Event f) b h = tt
     out_tree i (Join m xs) b h = out_all i xs b h
     out_tree i (Choice xs) b h = out_all i xs b h
-    out_tree i (Bound x q) b h = out_tree i x b h
-    out_tree i (Turns x lo hi r) b h = (lacks_tree i x b.0 h.0, lacks_row i r b.1 h.1)
-    out_tree i (Trail n f t c) b h = lacks_up i n b h
+    out_tree i (Tied x q) b h = out_tree i x b h
+    out_tree i (Loop x lo hi r) b h = (lacks_tree i x b.0 h.0, lacks_row i r b.1 h.1)
+    out_tree i (Walk n f t c) b h = lacks_up i n b h
 
     out_all : (i : ℕ) (xs : Trees) → EveryOf (λ e. Unit {0}) (λ m. m < top) xs → AreOutside (NetLacks es) i xs → AreOutside (NetLacks (e ∷ es)) i xs
     out_all i none b h = tt
@@ -188,9 +189,9 @@ module _ (o : Bool) (e : NetEntry) (es : List NetEntry) (sound : AreTidyTables e
     good_tree (Event f) b h = tt
     good_tree (Join m xs) b h = good_all xs b h
     good_tree (Choice xs) b h = good_all xs b h
-    good_tree (Bound x q) b h = (good_tree x b h.0, λ i p. out_tree i x b (h.1 i p), h.2)
-    good_tree (Turns x lo hi r) b h = (good_tree x b.0 h.0, good_row r b.1 h.1, h.2, h.3)
-    good_tree (Trail n f t c) b h = omega arith
+    good_tree (Tied x q) b h = (good_tree x b h.0, λ i p. out_tree i x b (h.1 i p), h.2)
+    good_tree (Loop x lo hi r) b h = (good_tree x b.0 h.0, good_row r b.1 h.1, h.2, h.3)
+    good_tree (Walk n f t c) b h = omega arith
 
     good_all : (xs : Trees) → EveryOf (λ e. Unit {0}) (λ m. m < top) xs → AreTidy (NetLacks es) (IsKnown es) xs → AreTidy (NetLacks (e ∷ es)) (IsKnown (e ∷ es)) xs
     good_all none b h = tt

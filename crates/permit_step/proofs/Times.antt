@@ -5,9 +5,9 @@ use Rattle.msc_base.specs.Patterns.{Mode, empty, one, join, bind}
 use Rattle.chart_term.specs.NormalForms.{numbers, numbers_all, numbers_row}
 use Rattle.chart_term.specs.Properties.{Each, EveryRow}
 use Rattle.chart_term.specs.Tables.{Tables, net_count, node_of, terms_over}
-use Rattle.chart_term.specs.TermMeanings.{HasPattern, has_nil, has_event, has_join, has_choice, has_bound, has_turns, has_trail, HasParts, no_part, one_part, HasChoice, this_one, that_one}
+use Rattle.chart_term.specs.TermMeanings.{HasPattern, has_nil, has_event, has_join, has_choice, holds_tie, holds_loop, holds_walk, HasParts, no_part, one_part, HasChoice, this_one, that_one}
 use Rattle.chart_term.specs.TermPatterns.{Shape, InPairs}
-use Rattle.chart_term.specs.Terms.{TermEvent, has, Tree, Nil, Event, Join, Choice, Bound, Turns, Trail, Trees, none, more, Row, ends, gap, turn, items}
+use Rattle.chart_term.specs.Terms.{TermEvent, has, Tree, Nil, Event, Join, Choice, Tied, Loop, Walk, Trees, none, more, Row, ends, gap, turn, items}
 use Rattle.permit_step.specs.FullSoundness.{times, EveryPart, EveryPartOf, EveryRowPart, AreTiesOnce}
 use Rattle.permit_step.specs.Normality.{AreNormalTables, IsNormalOver, AreNormal, IsNormalRow}
 use Rattle.permit_step.specs.Permission.{permits_of}
@@ -63,9 +63,9 @@ module _ (NL : ℕ → ℕ → Type 0) (j : ℕ) where
         go false p i = not_both false i refl
     lacks_numbers (Join m xs) h i = lacks_all_numbers xs h i
     lacks_numbers (Choice xs) h i = lacks_all_numbers xs h i
-    lacks_numbers (Bound x q) h i = lacks_numbers x h i
-    lacks_numbers (Turns x lo hi r) h i = elim (has_either (numbers x) (numbers_row r) j i) [ inl p ↦ lacks_numbers x h.0 p | inr p ↦ lacks_row_numbers r h.1 p ]
-    lacks_numbers (Trail n f t c) h i = not_both false i refl
+    lacks_numbers (Tied x q) h i = lacks_numbers x h i
+    lacks_numbers (Loop x lo hi r) h i = elim (has_either (numbers x) (numbers_row r) j i) [ inl p ↦ lacks_numbers x h.0 p | inr p ↦ lacks_row_numbers r h.1 p ]
+    lacks_numbers (Walk n f t c) h i = not_both false i refl
 
     lacks_all_numbers : (xs : Trees) → FreeAll NL j xs → has (numbers_all xs) j ≡ true → ⊥
     lacks_all_numbers none h i = not_both false i refl
@@ -82,9 +82,9 @@ module _ (NL : ℕ → ℕ → Type 0) (j : ℕ) where
     lacks_if (Event e) o h = number_not e.number j (or_false (e.number == j) false h)
     lacks_if (Join m xs) o h = all_lacks_if xs o h
     lacks_if (Choice xs) o h = all_lacks_if xs o h
-    lacks_if (Bound x q) o h = lacks_if x o h
-    lacks_if (Turns x lo hi r) o h = o
-    lacks_if (Trail n f t c) o h = o
+    lacks_if (Tied x q) o h = lacks_if x o h
+    lacks_if (Loop x lo hi r) o h = o
+    lacks_if (Walk n f t c) o h = o
 
     all_lacks_if : (xs : Trees) → AreOutside NL j xs → has (numbers_all xs) j ≡ false → FreeAll NL j xs
     all_lacks_if none o h = tt
@@ -111,9 +111,9 @@ module _ (w : Tables) (h : AreTidyTables w) (j : ℕ) where
     once_times (has_event {e = e}) o = one_if (e.number == j)
     once_times (has_join {xs = xs} a) o = parts_times a (once_out (NetLacks w) j xs o)
     once_times (has_choice {xs = xs} a) o = choice_times a (each_out (NetLacks w) j xs o)
-    once_times (has_bound a) o = once_times a o
-    once_times (has_turns {x = x} {lo = lo} {hi = hi} {r = r} n a l u) o = let p = free_zero {x = Turns x lo hi r} (has_turns n a l u) o in omega arith
-    once_times (has_trail {n = n} {f = f} {t = t} {c = c} a) o = let p = free_zero {x = Trail n f t c} (has_trail a) o in omega arith
+    once_times (holds_tie a) o = once_times a o
+    once_times (holds_loop {x = x} {lo = lo} {hi = hi} {r = r} n a l u) o = let p = free_zero {x = Loop x lo hi r} (holds_loop n a l u) o in omega arith
+    once_times (holds_walk {n = n} {f = f} {t = t} {c = c} a) o = let p = free_zero {x = Walk n f t c} (holds_walk a) o in omega arith
 
     parts_times : {m : Mode} {xs : List Tree} {s : Shape} → HasParts (terms_over w) true m xs s → OnceList (NetLacks w) j xs → times j s ≤ 1
     parts_times no_part o = omega arith
@@ -140,9 +140,9 @@ module _ (w : Tables) (h : AreTidyTables w) (j : ℕ) where
       some_with (Event e) o t n i = (one e, has_event, event_times j e i)
       some_with (Join m xs) o t n i = let r = some_in m xs o t n.0 i in (r.0, has_join r.1, r.2)
       some_with (Choice xs) o t n i = let r = some_one xs o t n.0 i in (r.0, has_choice r.1, r.2)
-      some_with (Bound x q) o t n i = let r = some_with x o t.0 n.0 i in (bind r.0 q, has_bound r.1, r.2)
-      some_with (Turns x lo hi r) o t n i = absurd (lacks_numbers (NetLacks w) j (Turns x lo hi r) o i)
-      some_with (Trail n f t c) o l m i = absurd (not_both false i refl)
+      some_with (Tied x q) o t n i = let r = some_with x o t.0 n.0 i in (bind r.0 q, holds_tie r.1, r.2)
+      some_with (Loop x lo hi r) o t n i = absurd (lacks_numbers (NetLacks w) j (Loop x lo hi r) o i)
+      some_with (Walk n f t c) o l m i = absurd (not_both false i refl)
 
       some_in : (m : Mode) (xs : Trees) → AreOutside (NetLacks w) j xs → AllEven (NetLacks w) (IsKnown w) xs → AreNormal (permits_of w) xs → has (numbers_all xs) j ≡ true → (s : Shape) × Parts m xs s × (1 ≤ times j s)
       some_in m none o t n i = absurd (not_both false i refl)
@@ -182,9 +182,9 @@ module _ (w : Tables) (h : AreTidyTables w) (j : ℕ) where
       once_if (Event e) o t n f = tt
       once_if (Join m xs) o t n f = once_all_if m xs o t n.0 (λ s a. f s (has_join a))
       once_if (Choice xs) o t n f = once_each_if xs o t n.0 (λ s a. f s (has_choice a))
-      once_if (Bound x q) o t n f = once_if x o t.0 n.0 (λ s a. f (bind s q) (has_bound a))
-      once_if (Turns x lo hi r) o t n f = o
-      once_if (Trail n f t c) o l m g = o
+      once_if (Tied x q) o t n f = once_if x o t.0 n.0 (λ s a. f (bind s q) (holds_tie a))
+      once_if (Loop x lo hi r) o t n f = o
+      once_if (Walk n f t c) o l m g = o
 
       once_all_if : (m : Mode) (xs : Trees) → AreOutside (NetLacks w) j xs → AllEven (NetLacks w) (IsKnown w) xs → AreNormal (permits_of w) xs → ((s : Shape) → Parts m xs s → times j s ≤ 1) → OnceAll (NetLacks w) j xs
       once_all_if m none o t n f = tt
@@ -222,9 +222,9 @@ module _ (w : Tables) (h : AreTidyTables w) where
       ties_to (Event e) t n i = tt
       ties_to (Join m xs) t n i = all_ties_to xs t n.0 i
       ties_to (Choice xs) t n i = all_ties_to xs t n.0 i
-      ties_to (Bound x q) t n i = (ties_to x t.0 n.0 i.0, λ j p. once_if w h j g x (t.1 j p) t.0 n.0 (i.1 j p))
-      ties_to (Turns x lo hi r) t n i = (ties_to x t.0 n.0 i.0, tt, row_ties_to r t.1 n.1 i.2)
-      ties_to (Trail n f t c) l m i = tt
+      ties_to (Tied x q) t n i = (ties_to x t.0 n.0 i.0, λ j p. once_if w h j g x (t.1 j p) t.0 n.0 (i.1 j p))
+      ties_to (Loop x lo hi r) t n i = (ties_to x t.0 n.0 i.0, tt, row_ties_to r t.1 n.1 i.2)
+      ties_to (Walk n f t c) l m i = tt
 
       all_ties_to : (xs : Trees) → AllEven (NetLacks w) (IsKnown w) xs → AreNormal (permits_of w) xs → TiesOf xs → FormTies xs
       all_ties_to none t n i = tt

@@ -1,13 +1,13 @@
 -- The instances that a term touches, with those of its nets.
 use Rattle.std.specs.Prelude.{ℕ, zero, suc, ◌+◌, Bool, true, false, List, [], ◌∷◌, ◌++◌, ◌≡◌, ◌||◌, ◌==◌, Some, refl, take, slice_get, Result, Ok, Err, OnOk}
 use Rattle.std.proofs.Common.{ap, sym, ◌∙◌, subst, add-one, append_assoc, append-nil}
-use Rattle.msc_base.specs.Blocks.{insert_each}
-use Rattle.chart_term.specs.Facts.{has_trail, any_trail, row_trail, instances, instances_all, instances_row}
-use Rattle.chart_term.specs.Terms.{TermEvent, has, ◌∪◌, Tree, Nil, Event, Join, Choice, Bound, Turns, Trail, Trees, none, more, Row, ends, gap, turn, trees, Part, Gap, Turn, row_of}
+use Rattle.bit_sets.specs.Blocks.{insert_each}
+use Rattle.chart_term.specs.Facts.{holds_walk, any_walk, row_walk, instances, instances_all, instances_row}
+use Rattle.chart_term.specs.Terms.{TermEvent, has, ◌∪◌, Tree, Nil, Event, Join, Choice, Tied, Loop, Walk, Trees, none, more, Row, ends, gap, turn, trees, Part, Gap, Turn, row_of}
 use Rattle.chart_term.specs.Spreads.{touch, touch_all, touch_row}
 use Rattle.permit_step.specs.Touching.{net_touch, net_touch_all, net_touch_row, net_touch_part, IsUnion}
-use Rattle.permit_step.proofs.Measures.{rank-then, rank-beside, rank-some, rank-bound, rank-loop}
-use Rattle.permit_step.proofs.Permits.{ready-then, ready-beside, ready-choice, ready-bound}
+use Rattle.permit_step.proofs.Measures.{rank-seq, rank-par, rank-some, rank-tied, rank-loop}
+use Rattle.permit_step.proofs.Permits.{ready-seq, ready-par, ready-choice, ready-tied}
 use Rattle.permit_step.proofs.SetFacts.{has_added}
 use Rattle.permit_step.proofs.Unions.{each-union}
 
@@ -60,9 +60,9 @@ module _ (k : ℕ → List ℕ) where
     split (Event e) n = or_none (has (instances (Event e)) n)
     split (Join m xs) n = split_all xs n
     split (Choice xs) n = split_all xs n
-    split (Bound x q) n = split x n
-    split (Turns x lo hi r) n = split_both (touch k x) (touch_row k r) (instances x) (net_touch k x) (instances_row r) (net_touch_row k r) n (split x n) (split_row r n)
-    split (Trail m s t c) n = refl
+    split (Tied x q) n = split x n
+    split (Loop x lo hi r) n = split_both (touch k x) (touch_row k r) (instances x) (net_touch k x) (instances_row r) (net_touch_row k r) n (split x n) (split_row r n)
+    split (Walk m s t c) n = refl
 
     split_all : (xs : Trees) (n : ℕ) → has (touch_all k xs) n ≡ (has (instances_all xs) n || has (net_touch_all k xs) n)
     split_all none n = refl
@@ -83,25 +83,25 @@ module _ (k : ℕ → List ℕ) where
 
   -- a term without walks has no nets
   mutual
-    no_nets : (x : Tree) → has_trail x ≡ false → net_touch k x ≡ []
+    no_nets : (x : Tree) → holds_walk x ≡ false → net_touch k x ≡ []
     no_nets Nil h = refl
     no_nets (Event e) h = refl
     no_nets (Join m xs) h = no_nets_all xs h
     no_nets (Choice xs) h = no_nets_all xs h
-    no_nets (Bound x q) h = no_nets x h
-    no_nets (Turns x lo hi r) h = λ i. no_nets x (or_first (has_trail x) (row_trail r) h) i ++ no_nets_row r (or_last (has_trail x) (row_trail r) h) i
-    no_nets (Trail n s t c) h = cc
+    no_nets (Tied x q) h = no_nets x h
+    no_nets (Loop x lo hi r) h = λ i. no_nets x (or_first (holds_walk x) (row_walk r) h) i ++ no_nets_row r (or_last (holds_walk x) (row_walk r) h) i
+    no_nets (Walk n s t c) h = cc
 
-    no_nets_all : (xs : Trees) → any_trail xs ≡ false → net_touch_all k xs ≡ []
+    no_nets_all : (xs : Trees) → any_walk xs ≡ false → net_touch_all k xs ≡ []
     no_nets_all none h = refl
-    no_nets_all (more x xs) h = λ i. no_nets x (or_first (has_trail x) (any_trail xs) h) i ++ no_nets_all xs (or_last (has_trail x) (any_trail xs) h) i
+    no_nets_all (more x xs) h = λ i. no_nets x (or_first (holds_walk x) (any_walk xs) h) i ++ no_nets_all xs (or_last (holds_walk x) (any_walk xs) h) i
 
-    no_nets_row : (r : Row) → row_trail r ≡ false → net_touch_row k r ≡ []
+    no_nets_row : (r : Row) → row_walk r ≡ false → net_touch_row k r ≡ []
     no_nets_row ends h = refl
     no_nets_row (gap c r) h = no_nets_row r h
-    no_nets_row (turn x r) h = λ i. no_nets x (or_first (has_trail x) (row_trail r) h) i ++ no_nets_row r (or_last (has_trail x) (row_trail r) h) i
+    no_nets_row (turn x r) h = λ i. no_nets x (or_first (holds_walk x) (row_walk r) h) i ++ no_nets_row r (or_last (holds_walk x) (row_walk r) h) i
 
-  pub union-missing : (c : List ℕ) (x : Tree) → has_trail x ≡ false → IsUnion c (net_touch k x) c
+  pub union-missing : (c : List ℕ) (x : Tree) → holds_walk x ≡ false → IsUnion c (net_touch k x) c
   union-missing c x h = subst (λ (d : List ℕ). IsUnion c d c) (sym (no_nets x h)) (union-none c)
 
   -- all of a term
@@ -156,4 +156,4 @@ pub on-map : {A E : Type 0} (P Q : Type 0) (r : Result A E) → (P → Q) → On
 on-map P Q (Ok a) f h = f h
 on-map P Q (Err e) f h = h
 
-pub ruleset touching = (union-none, union-nil, union-event, ready-then, ready-beside, ready-choice, ready-bound, rank-then, rank-beside, rank-some, rank-bound, rank-loop)
+pub ruleset touching = (union-none, union-nil, union-event, ready-seq, ready-par, ready-choice, ready-tied, rank-seq, rank-par, rank-some, rank-tied, rank-loop)

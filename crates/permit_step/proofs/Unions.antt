@@ -2,7 +2,7 @@
 use Rattle.std.specs.Prelude.{ℕ, Bool, true, false, List, [], ◌∷◌, ◌≡◌, ◌==◌, refl, ltb, nat_lt}
 use Rattle.std.proofs.Common.{ap, ◌∙◌, arith}
 use Rattle.std.proofs.lemmas.Bool.Decides.{nat_tests}
-use Rattle.msc_base.specs.Blocks.{insert_rising, insert_each}
+use Rattle.bit_sets.specs.Blocks.{insert_rising, insert_each}
 use Rattle.chart_term.specs.Terms.{add_member, ◌∪◌}
 use Rattle.permit_step.specs.Normality.{IsSet, IsAbove}
 

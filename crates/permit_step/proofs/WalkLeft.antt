@@ -1,14 +1,15 @@
 -- What is left of a walk, by the walk to a node and the walk on from it.
 use Rattle.std.specs.Prelude.{ℕ, zero, suc, ◌+◌, ◌<◌, ◌==◌, Bool, true, false, List, [], ◌∷◌, ◌++◌, ◌≡◌, ◌||◌, ◌&&◌, ◌⊎◌, Option, Some, None, refl, length}
 use Rattle.std.proofs.Common.{ap, sym, ◌∙◌, subst, arith, cond, filter, inl, inr}
-use Rattle.msc_base.specs.Patterns.{row}
-use Rattle.hmsc_graph.specs.Graphs.{Spot, At, Goal, To, End, Any, IsIn, reach}
-use Rattle.chart_term.specs.NormalForms.{NetPermits, only, cut, join_all, some_kept, allowed, are_nil, walk_form, trail_cut, trail_of}
+use Rattle.msc_base.specs.Patterns.{seq}
+use Rattle.hmsc_graph.specs.Graphs.{Spot, At, Goal, To, End, Any, reach}
+use Rattle.msc_base.specs.Lists.{IsIn}
+use Rattle.chart_term.specs.NormalForms.{NetPermits, only, cut, join_all, some_kept, allowed, are_nil, walk_form, walk_cut, walk_of}
 use Rattle.chart_term.specs.Properties.{Each, IsBelow}
 use Rattle.chart_term.specs.Spreads.{touch, touch_list, spread_of}
 use Rattle.chart_term.specs.Tables.{Tables, NetEntry, net_count, choose, count_from, nth_tree, node_of, nodes_of}
 use Rattle.chart_term.specs.TermPatterns.{instances_of}
-use Rattle.chart_term.specs.Terms.{TermEvent, has, Tree, Trail, ◌∪◌}
+use Rattle.chart_term.specs.Terms.{TermEvent, has, Tree, Walk, ◌∪◌}
 use Rattle.chart_term.specs.Views.{event_of}
 use Rattle.permit_step.specs.Children.{where_so, three, walk_left, put}
 use Rattle.permit_step.specs.Listing.{may_lead}
@@ -99,16 +100,16 @@ module _ (w : Tables) (tables : AreReadyTables w) (n : ℕ) (known : n < net_cou
   form_some true b x u h = refl
   form_some false b x u h = cc
 
-  pub trail-leads : (f : Spot) (t : Goal) (c : List ℕ) (u : Tree) → trail_of (permits_of w) n f t c ≡ Some u → may_lead (permits_of w) n f t c ≡ true
+  pub trail-leads : (f : Spot) (t : Goal) (c : List ℕ) (u : Tree) → walk_of (permits_of w) n f t c ≡ Some u → may_lead (permits_of w) n f t c ≡ true
   trail-leads f Any c u h = refl
   trail-leads f End c u h =
       let d = cut (spread_of w n) c in
       ap (λ ks. reach ((permits_of w).net n) ks f End) (sym (allowed_cut c))
-      ∙ form_some (reach ((permits_of w).net n) (allowed (permits_of w) n d) f End) (are_nil (permits_of w) n f End d (allowed (permits_of w) n d)) (Trail n f End d) u h
+      ∙ form_some (reach ((permits_of w).net n) (allowed (permits_of w) n d) f End) (are_nil (permits_of w) n f End d (allowed (permits_of w) n d)) (Walk n f End d) u h
   trail-leads f (To m) c u h =
       let d = cut (spread_of w n) c in
       ap (λ ks. reach ((permits_of w).net n) ks f (To m)) (sym (allowed_cut c))
-      ∙ form_some (reach ((permits_of w).net n) (allowed (permits_of w) n d) f (To m)) (are_nil (permits_of w) n f (To m) d (allowed (permits_of w) n d)) (Trail n f (To m) d) u h
+      ∙ form_some (reach ((permits_of w).net n) (allowed (permits_of w) n d) f (To m)) (are_nil (permits_of w) n f (To m) d (allowed (permits_of w) n d)) (Walk n f (To m) d) u h
 
   module _ (t : Taken) (taken : IsTaken t) (f : Spot) (g : Goal) (c : List ℕ) (set : IsSet c) (m : ℕ) (y : Tree) where
     abbrev e : TermEvent
@@ -131,21 +132,21 @@ module _ (w : Tables) (tables : AreReadyTables w) (n : ℕ) (known : n < net_cou
     no_last true false u = refl
     no_last false b u = refl
 
-    pub walk-none-first : None ≡ trail_of (permits_of w) n f (To m) (c ∪ t.at.instances) → None ≡ put (permits_of w) e (Trail n f g c) m y
+    pub walk-none-first : None ≡ walk_of (permits_of w) n f (To m) (c ∪ t.at.instances) → None ≡ put (permits_of w) e (Walk n f g c) m y
     walk-none-first h =
-        let first : trail_of (permits_of w) n f (To m) (c ∪ (instances_of e).instances) ≡ None = ap (trail_of (permits_of w) n f (To m)) (sym wide) ∙ sym h in
-        sym (ap (λ u. sides u (trail_of (permits_of w) n (At m) g c)) first ∙ no_first (may_lead (permits_of w) n f (To m) (c ∪ (instances_of e).instances)) (may_lead (permits_of w) n (At m) g c) (trail_of (permits_of w) n (At m) g c))
+        let first : walk_of (permits_of w) n f (To m) (c ∪ (instances_of e).instances) ≡ None = ap (walk_of (permits_of w) n f (To m)) (sym wide) ∙ sym h in
+        sym (ap (λ u. sides u (walk_of (permits_of w) n (At m) g c)) first ∙ no_first (may_lead (permits_of w) n f (To m) (c ∪ (instances_of e).instances)) (may_lead (permits_of w) n (At m) g c) (walk_of (permits_of w) n (At m) g c))
 
-    pub walk-none-last : (d : List ℕ) → d ≡ [] → None ≡ trail_of (permits_of w) n (At m) g (c ∪ d) → None ≡ put (permits_of w) e (Trail n f g c) m y
+    pub walk-none-last : (d : List ℕ) → d ≡ [] → None ≡ walk_of (permits_of w) n (At m) g (c ∪ d) → None ≡ put (permits_of w) e (Walk n f g c) m y
     walk-none-last d s h =
-        let last : trail_of (permits_of w) n (At m) g c ≡ None = sym (h ∙ ap (λ l. trail_of (permits_of w) n (At m) g (c ∪ l)) s) in
-        sym (ap (sides (trail_of (permits_of w) n f (To m) (c ∪ (instances_of e).instances))) last ∙ no_last (may_lead (permits_of w) n f (To m) (c ∪ (instances_of e).instances)) (may_lead (permits_of w) n (At m) g c) (trail_of (permits_of w) n f (To m) (c ∪ (instances_of e).instances)))
+        let last : walk_of (permits_of w) n (At m) g c ≡ None = sym (h ∙ ap (λ l. walk_of (permits_of w) n (At m) g (c ∪ l)) s) in
+        sym (ap (sides (walk_of (permits_of w) n f (To m) (c ∪ (instances_of e).instances))) last ∙ no_last (may_lead (permits_of w) n f (To m) (c ∪ (instances_of e).instances)) (may_lead (permits_of w) n (At m) g c) (walk_of (permits_of w) n f (To m) (c ∪ (instances_of e).instances)))
 
-    pub walk-whole : (d : List ℕ) (u v z : Tree) (l1 l2 l3 : List Tree) → d ≡ [] → Some u ≡ trail_of (permits_of w) n f (To m) (c ∪ t.at.instances) → Some v ≡ trail_of (permits_of w) n (At m) g (c ∪ d) → l1 ≡ [] ++ u ∷ [] → l2 ≡ l1 ++ y ∷ [] → l3 ≡ l2 ++ v ∷ [] → z ≡ join_all row l3
-        → Some z ≡ put (permits_of w) e (Trail n f g c) m y
+    pub walk-whole : (d : List ℕ) (u v z : Tree) (l1 l2 l3 : List Tree) → d ≡ [] → Some u ≡ walk_of (permits_of w) n f (To m) (c ∪ t.at.instances) → Some v ≡ walk_of (permits_of w) n (At m) g (c ∪ d) → l1 ≡ [] ++ u ∷ [] → l2 ≡ l1 ++ y ∷ [] → l3 ≡ l2 ++ v ∷ [] → z ≡ join_all seq l3
+        → Some z ≡ put (permits_of w) e (Walk n f g c) m y
     walk-whole d u v z l1 l2 l3 s hu hv e1 e2 e3 ez =
-        let first : trail_of (permits_of w) n f (To m) (c ∪ (instances_of e).instances) ≡ Some u = ap (trail_of (permits_of w) n f (To m)) (sym wide) ∙ sym hu in
-        let last : trail_of (permits_of w) n (At m) g c ≡ Some v = sym (hv ∙ ap (λ l. trail_of (permits_of w) n (At m) g (c ∪ l)) s) in
+        let first : walk_of (permits_of w) n f (To m) (c ∪ (instances_of e).instances) ≡ Some u = ap (walk_of (permits_of w) n f (To m)) (sym wide) ∙ sym hu in
+        let last : walk_of (permits_of w) n (At m) g c ≡ Some v = sym (hv ∙ ap (λ l. walk_of (permits_of w) n (At m) g (c ∪ l)) s) in
         let all : l3 ≡ u ∷ y ∷ v ∷ [] = e3 ∙ ap (λ l. l ++ v ∷ []) (e2 ∙ ap (λ l. l ++ y ∷ []) e1) in
-        ap Some (ez ∙ ap (join_all row) all)
+        ap Some (ez ∙ ap (join_all seq) all)
         ∙ sym (λ j. where_so (trail-leads f (To m) (c ∪ (instances_of e).instances) u first j) (where_so (trail-leads (At m) g c v last j) (three (first j) y (last j))))

@@ -1,7 +1,7 @@
 -- Weights of sets of residual terms, worked by computation.
 use Rattle.std.specs.Prelude.{ℕ, zero, suc, ◌+◌, List, [], ◌∷◌, ◌≡◌, None, refl, ◌≤◌}
-use Rattle.msc_base.specs.Patterns.{row, aside}
-use Rattle.chart_term.specs.Terms.{Tree, Event, Join, Choice, Bound, Turns, Trees, none, more, gap, ends}
+use Rattle.msc_base.specs.Patterns.{seq, par}
+use Rattle.chart_term.specs.Terms.{Tree, Event, Join, Choice, Tied, Loop, Trees, none, more, gap, ends}
 use Rattle.permit_step.specs.Listing.{residual_set, set_weight, AreDeepAlong, IsResidualSet, IsDeepEnough}
 use Rattle.permit_step.specs.Permission.{permits_of}
 use Rattle.permit_step.proofs.SetExact.{deep_at, residual_set_is_exact}
@@ -17,7 +17,7 @@ weigh x l = set_weight (residual_set 40 (permits_of []) (x ∷ []) l)
 
 -- a message from one instance to another: 5, then 1, then 1
 abbrev message : Tree
-message = Bound (Join row (more (event 1 0 0) (more (event 2 1 1) none))) ((1, 2) ∷ [])
+message = Tied (Join seq (more (event 1 0 0) (more (event 2 1 1) none))) ((1, 2) ∷ [])
 
 message_at_first : weigh message [] ≡ 5
 message_at_first = refl
@@ -30,7 +30,7 @@ message_received = refl
 
 -- a coregion of three actions, two of them alike, one before the third: 6, then two terms that weigh 5 and 3, then 1, then 1
 abbrev coregion : Tree
-coregion = Bound (Join aside (more (event 1 0 0) (more (event 2 0 0) (more (event 3 0 1) none)))) ((2, 3) ∷ [])
+coregion = Tied (Join par (more (event 1 0 0) (more (event 2 0 0) (more (event 3 0 1) none)))) ((2, 3) ∷ [])
 
 coregion_at_first : weigh coregion [] ≡ 6
 coregion_at_first = refl
@@ -46,10 +46,10 @@ coregion_three = refl
 
 -- a loop of a request and one of two answers: 18, and in each turn 31, 29, 19 and 18
 abbrev answer : ℕ → Tree
-answer n = Bound (Join row (more (event n 1 n) (more (event (n + 1) 0 (n + 1)) none))) ((n, n + 1) ∷ [])
+answer n = Tied (Join seq (more (event n 1 n) (more (event (n + 1) 0 (n + 1)) none))) ((n, n + 1) ∷ [])
 
 abbrev requests : Tree
-requests = Turns (Bound (Join row (more (event 1 0 1) (more (event 2 1 2) (more (Choice (more (answer 3) (more (answer 5) none))) none)))) ((1, 2) ∷ [])) 1 None (gap [] ends)
+requests = Loop (Tied (Join seq (more (event 1 0 1) (more (event 2 1 2) (more (Choice (more (answer 3) (more (answer 5) none))) none)))) ((1, 2) ∷ [])) 1 None (gap [] ends)
 
 requests_at_first : weigh requests [] ≡ 18
 requests_at_first = refl
@@ -74,23 +74,23 @@ abbrev pub alike : ℕ → ℕ → Trees
 alike n zero = none
 alike n (suc m) = more (event n 0 0) (alike (n + 1) m)
 
-twenty_at_first : weigh (Join aside (alike 1 20)) [] ≡ 21
+twenty_at_first : weigh (Join par (alike 1 20)) [] ≡ 21
 twenty_at_first = refl
 
-twenty_one : weigh (Join aside (alike 1 20)) (0 ∷ []) ≡ 400
+twenty_one : weigh (Join par (alike 1 20)) (0 ∷ []) ≡ 400
 twenty_one = refl
 
 -- of eight: 9, 64, 196 and 336
-eight_one : weigh (Join aside (alike 1 8)) (0 ∷ []) ≡ 64
+eight_one : weigh (Join par (alike 1 8)) (0 ∷ []) ≡ 64
 eight_one = refl
 
-eight_two : weigh (Join aside (alike 1 8)) (0 ∷ 0 ∷ []) ≡ 196
+eight_two : weigh (Join par (alike 1 8)) (0 ∷ 0 ∷ []) ≡ 196
 eight_two = refl
 
-twenty_two : weigh (Join aside (alike 1 20)) (0 ∷ 0 ∷ []) ≡ 3610
+twenty_two : weigh (Join par (alike 1 20)) (0 ∷ 0 ∷ []) ≡ 3610
 twenty_two = refl
 
-eight_three : weigh (Join aside (alike 1 8)) (0 ∷ 0 ∷ 0 ∷ []) ≡ 336
+eight_three : weigh (Join par (alike 1 8)) (0 ∷ 0 ∷ 0 ∷ []) ≡ 336
 eight_three = refl
 
 -- the sets that were weighed are the sets of residual terms

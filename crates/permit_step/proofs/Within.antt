@@ -2,17 +2,17 @@
 use Rattle.std.specs.Option.{option_map}
 use Rattle.std.specs.Prelude.{ℕ, zero, suc, ◌<◌, ◌⊎◌, Bool, true, false, List, [], ◌∷◌, ◌++◌, ◌≡◌, Option, Some, None, length}
 use Rattle.std.proofs.Common.{sym, subst, arith, inl, inr}
-use Rattle.msc_base.specs.Patterns.{Mode, row, aside}
+use Rattle.msc_base.specs.Patterns.{Mode, seq, par}
 use Rattle.hmsc_graph.specs.Graphs.{Spot, Start, Goal, To, End, Any, reach}
 use Rattle.hmsc_graph.specs.Spots.{goal_of, IsGoalBelow}
 use Rattle.hmsc_graph.specs.declared.spot.Goal.{Goal as GoalShown}
 use Rattle.hmsc_graph.specs.declared.spot.Goal.TheVariants.{Node as NodeGoal, End as EndGoal, Any as AnyGoal}
 use Rattle.chart_term.specs.Equality.{same_tree}
-use Rattle.chart_term.specs.NormalForms.{only, cut, open_part, flat, join_of, join_all, and_then, or_skip, unless, choice_of, choice_form, unless_same, without, distinct, open_choice, open_choices, bound_form, bound_of, kept_pairs, numbers, cut_gaps, drop_nil, at_zero, live, drop_free, has_free, lower_of, thin, has_gap, begun, turns_form, turns_of, turns_in, trail_of, trail_cut, walk_form, allowed, are_nil}
+use Rattle.chart_term.specs.NormalForms.{only, cut, open_part, flat, join_of, join_all, and_then, or_skip, unless, choice_of, choice_form, unless_same, without, distinct, open_choice, open_choices, bound_form, tie_of, kept_pairs, numbers, cut_gaps, drop_nil, at_zero, live, drop_free, has_free, lower_of, thin, has_gap, begun, turns_form, loop_of, turns_in, walk_of, walk_cut, walk_form, allowed, are_nil}
 use Rattle.chart_term.specs.Properties.{Each, EachTurn, MayHave}
 use Rattle.chart_term.specs.Tables.{Tables, net_count, nodes_of}
 use Rattle.chart_term.specs.TermMeanings.{UpTo}
-use Rattle.chart_term.specs.Terms.{TermEvent, Block, hits, Tree, Nil, Event, Join, Choice, Bound, Turns, Trail, Trees, none, more, Row, ends, gap, turn, items, trees, Part, Gap, Turn, parts, row_of, ◌∪◌}
+use Rattle.chart_term.specs.Terms.{TermEvent, Block, hits, Tree, Nil, Event, Join, Choice, Tied, Loop, Walk, Trees, none, more, Row, ends, gap, turn, items, trees, Part, Gap, Turn, parts, row_of, ◌∪◌}
 use Rattle.chart_term.proofs.Looping.{sub_nil, sub_zero, sub_live, sub_free}
 use Rattle.permit_step.specs.Fresh.{IsFreshLoop}
 use Rattle.permit_step.specs.Normality.{IsNormalOver}
@@ -49,14 +49,14 @@ module _ (w : Tables) where
   open_in : (m : Mode) (x : Tree) → IsWithin w x → Each (IsWithin w) (open_part m x)
   open_in m Nil h = tt
   open_in m (Event e) h = (h, tt)
-  open_in row (Join row xs) h = all_out xs h
-  open_in row (Join aside xs) h = (h, tt)
-  open_in aside (Join row xs) h = (h, tt)
-  open_in aside (Join aside xs) h = all_out xs h
+  open_in seq (Join seq xs) h = all_out xs h
+  open_in seq (Join par xs) h = (h, tt)
+  open_in par (Join seq xs) h = (h, tt)
+  open_in par (Join par xs) h = all_out xs h
   open_in m (Choice xs) h = (h, tt)
-  open_in m (Bound x q) h = (h, tt)
-  open_in m (Turns x lo hi r) h = (h, tt)
-  open_in m (Trail n f t c) h = (h, tt)
+  open_in m (Tied x q) h = (h, tt)
+  open_in m (Loop x lo hi r) h = (h, tt)
+  open_in m (Walk n f t c) h = (h, tt)
 
   flat_in : (m : Mode) (xs : List Tree) → Each (IsWithin w) xs → Each (IsWithin w) (flat m xs)
   flat_in m [] h = tt
@@ -76,9 +76,9 @@ module _ (w : Tables) where
   alone_in Nil h = (h, tt)
   alone_in (Event e) h = (h, tt)
   alone_in (Join m xs) h = (h, tt)
-  alone_in (Bound x q) h = (h, tt)
-  alone_in (Turns x lo hi r) h = (h, tt)
-  alone_in (Trail n f t c) h = (h, tt)
+  alone_in (Tied x q) h = (h, tt)
+  alone_in (Loop x lo hi r) h = (h, tt)
+  alone_in (Walk n f t c) h = (h, tt)
 
   choices_in : (xs : List Tree) → Each (IsWithin w) xs → Each (IsWithin w) (open_choices xs)
   choices_in [] h = tt
@@ -109,7 +109,7 @@ module _ (w : Tables) where
   tie_in x [] h = h
   tie_in x (p ∷ q) h = h
 
-  pub bound_in : (x : Tree) (q : List (ℕ × ℕ)) → IsWithin w x → IsWithin w (bound_of x q)
+  pub bound_in : (x : Tree) (q : List (ℕ × ℕ)) → IsWithin w x → IsWithin w (tie_of x q)
   bound_in x q h = tie_in x (kept_pairs (numbers x) q) h
 
   -- loops
@@ -120,10 +120,10 @@ module _ (w : Tables) where
 
   loop_in : (b : Bool) (x : Tree) (lo : ℕ) (hi : Option ℕ) (ps : List Part) → IsWithin w x → EachTurn (IsWithin w) ps → MayHave (IsWithin w) (turns_form b x lo hi ps)
   loop_in true x lo hi ps h g = (h, row_in ps g)
-  loop_in false x zero hi ps h g = join_in row (begun ps) (begun_in ps g)
+  loop_in false x zero hi ps h g = join_in seq (begun ps) (begun_in ps g)
   loop_in false x (suc lo) hi ps h g = tt
 
-  pub turns_within : (p : List ℕ → Option Tree) (all : List ℕ) (x : Tree) (lo : ℕ) (hi : Option ℕ) (ps : List Part) → IsWithin w x → EachTurn (IsWithin w) ps → MayHave (IsWithin w) (turns_of p all x lo hi ps)
+  pub turns_within : (p : List ℕ → Option Tree) (all : List ℕ) (x : Tree) (lo : ℕ) (hi : Option ℕ) (ps : List Part) → IsWithin w x → EachTurn (IsWithin w) ps → MayHave (IsWithin w) (loop_of p all x lo hi ps)
   turns_within p all x lo hi ps h g =
       let a0 = cut_gaps all ps in
       let a1 = drop_nil a0 in
@@ -134,12 +134,12 @@ module _ (w : Tables) where
       (each_turn_sub (IsWithin w) (sub_thin a4) (each_turn_sub (IsWithin w) (sub_free p a3) (each_turn_sub (IsWithin w) (sub_live p a2) (each_turn_sub (IsWithin w) (sub_zero hi a1) (each_turn_sub (IsWithin w) (sub_nil a0) (each_turn_cut (IsWithin w) all ps g))))))
 
   -- walks
-  walk_in : (a b : Bool) (n : ℕ) (f : Spot) (t : Goal) (c d : List ℕ) → IsWithin w (Trail n f t c) → MayHave (IsWithin w) (walk_form a b (Trail n f t d))
+  walk_in : (a b : Bool) (n : ℕ) (f : Spot) (t : Goal) (c d : List ℕ) → IsWithin w (Walk n f t c) → MayHave (IsWithin w) (walk_form a b (Walk n f t d))
   walk_in false b n f t c d h = tt
   walk_in true true n f t c d h = tt
   walk_in true false n f t c d h = h
 
-  pub trail_in : (n : ℕ) (f : Spot) (t : Goal) (c d : List ℕ) → IsWithin w (Trail n f t c) → MayHave (IsWithin w) (trail_cut (permits_of w) n f t d)
+  pub trail_in : (n : ℕ) (f : Spot) (t : Goal) (c d : List ℕ) → IsWithin w (Walk n f t c) → MayHave (IsWithin w) (walk_cut (permits_of w) n f t d)
   trail_in n f Any c d h = h
   trail_in n f End c d h = walk_in (reach ((permits_of w).net n) (allowed (permits_of w) n d) f End) (are_nil (permits_of w) n f End d (allowed (permits_of w) n d)) n f End c d h
   trail_in n f (To m) c d h = walk_in (reach ((permits_of w).net n) (allowed (permits_of w) n d) f (To m)) (are_nil (permits_of w) n f (To m) d (allowed (permits_of w) n d)) n f (To m) c d h
@@ -161,7 +161,7 @@ module _ (w : Tables) where
   map_in m None h = tt
   map_in m (Some xs) h = join_in m xs h
 
-  tied_in : (q : List (ℕ × ℕ)) (r : Option Tree) → MayHave (IsWithin w) r → MayHave (IsWithin w) (option_map (λ y. bound_of y q) r)
+  tied_in : (q : List (ℕ × ℕ)) (r : Option Tree) → MayHave (IsWithin w) r → MayHave (IsWithin w) (option_map (λ y. tie_of y q) r)
   tied_in q None h = tt
   tied_in q (Some y) h = bound_in y q h
 
@@ -193,9 +193,9 @@ module _ (w : Tables) where
     permit_in b (Event e) h = event_in (hits b e) e
     permit_in b (Join m xs) h = map_in m (permit_all (permits_of w) b xs) (permit_all_in b xs h)
     permit_in b (Choice xs) h = choice_in (permit_some (permits_of w) b xs) (permit_some_in b xs h)
-    permit_in b (Bound x q) h = tied_in q (permit (permits_of w) b x) (permit_in b x h)
-    permit_in b (Turns x lo hi r) h = in_within (λ c. permit (permits_of w) (only c) x) (touch (permits_of w).spread x) x lo hi (permit_row (permits_of w) b r) h.0 (permit_row_in b r h.1)
-    permit_in b (Trail n f t c) h = trail_in n f t c (cut ((permits_of w).spread n) (c ∪ b.instances)) h
+    permit_in b (Tied x q) h = tied_in q (permit (permits_of w) b x) (permit_in b x h)
+    permit_in b (Loop x lo hi r) h = in_within (λ c. permit (permits_of w) (only c) x) (touch (permits_of w).spread x) x lo hi (permit_row (permits_of w) b r) h.0 (permit_row_in b r h.1)
+    permit_in b (Walk n f t c) h = trail_in n f t c (cut ((permits_of w).spread n) (c ∪ b.instances)) h
 
     permit_all_in : (b : Block) (xs : Trees) → AreWithin w xs → MayAll (permit_all (permits_of w) b xs)
     permit_all_in b none h = tt
@@ -219,11 +219,11 @@ pub permit-ready : (w : Tables) (b : Block) (x : Tree) (o : Option Tree) → IsR
 permit-ready w b x o h e = subst (λ (p : Option Tree). MayHave (IsReady w) p) (sym e) (may_both w (permit (permits_of w) b x) (permit_in w b x h.within) (permit_normal (permits_of w) b x h.normal))
 
 -- so does the loop before its first turn
-fresh_some : (w : Tables) (x : Tree) (lo : ℕ) (hi : Option ℕ) (y : Tree) → IsReady w x → turns_of (λ c. permit (permits_of w) (only c) x) (touch (permits_of w).spread x) x lo hi (Gap [] ∷ []) ≡ Some y → IsReady w y
+fresh_some : (w : Tables) (x : Tree) (lo : ℕ) (hi : Option ℕ) (y : Tree) → IsReady w x → loop_of (λ c. permit (permits_of w) (only c) x) (touch (permits_of w).spread x) x lo hi (Gap [] ∷ []) ≡ Some y → IsReady w y
 fresh_some w x lo hi y h e =
     let p : List ℕ → Option Tree = λ c. permit (permits_of w) (only c) x in
-    let r : MayHave (IsReady w) (turns_of p (touch (permits_of w).spread x) x lo hi (Gap [] ∷ [])) =
-    may_both w (turns_of p (touch (permits_of w).spread x) x lo hi (Gap [] ∷ [])) (turns_within w p (touch (permits_of w).spread x) x lo hi (Gap [] ∷ []) h.within tt) (turns_normal (permits_of w) x lo hi (Gap [] ∷ []) h.normal tt (tt, tt)) in
+    let r : MayHave (IsReady w) (loop_of p (touch (permits_of w).spread x) x lo hi (Gap [] ∷ [])) =
+    may_both w (loop_of p (touch (permits_of w).spread x) x lo hi (Gap [] ∷ [])) (turns_within w p (touch (permits_of w).spread x) x lo hi (Gap [] ∷ []) h.within tt) (turns_normal (permits_of w) x lo hi (Gap [] ∷ []) h.normal tt (tt, tt)) in
     subst (λ (o : Option Tree). MayHave (IsReady w) o) e r
 
 up_to : (lo : ℕ) (hi : Option ℕ) → UpTo hi lo ⊎ (UpTo hi lo → ⊥)
@@ -237,10 +237,10 @@ fresh-ready w x lo hi y h f = elim (up_to lo hi) [
 ]
 
 -- and so does the walk from the start
-pub trail-ready : (w : Tables) (n : ℕ) (t : Goal) (o : Option Tree) → n < net_count w → IsGoalWithin (length (nodes_of w n)) t → o ≡ trail_of (permits_of w) n Start t [] → MayHave (IsReady w) o
+pub trail-ready : (w : Tables) (n : ℕ) (t : Goal) (o : Option Tree) → n < net_count w → IsGoalWithin (length (nodes_of w n)) t → o ≡ walk_of (permits_of w) n Start t [] → MayHave (IsReady w) o
 trail-ready w n t o l g e =
     subst (λ (p : Option Tree). MayHave (IsReady w) p) (sym e)
-    (may_both w (trail_of (permits_of w) n Start t []) (trail_in w n Start t [] [] (l, tt, g)) (trail_normal (permits_of w) n Start t [] tt))
+    (may_both w (walk_of (permits_of w) n Start t []) (trail_in w n Start t [] [] (l, tt, g)) (trail_normal (permits_of w) n Start t [] tt))
 
 pub shown-goal : (a b : ℕ) (t : GoalShown) → a ≡ b → IsGoalBelow a t → IsGoalWithin b (goal_of t)
 shown-goal a b (NodeGoal m) e h = omega arith

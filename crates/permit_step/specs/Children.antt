@@ -1,11 +1,11 @@
 -- From which part of a term an event can be taken, and what is left of the whole then.
 use Rattle.std.specs.Option.{option_map}
 use Rattle.std.specs.Prelude.{ℕ, zero, suc, Bool, true, false, List, [], ◌∷◌, Option, Some, None, slice_get}
-use Rattle.msc_base.specs.Patterns.{Mode, row}
+use Rattle.msc_base.specs.Patterns.{Mode, seq}
 use Rattle.hmsc_graph.specs.Graphs.{Spot, At, Goal, To}
-use Rattle.chart_term.specs.NormalForms.{NetPermits, only, join_all, and_then, bound_of, turns_of, trail_of}
+use Rattle.chart_term.specs.NormalForms.{NetPermits, only, join_all, and_then, tie_of, loop_of, walk_of}
 use Rattle.chart_term.specs.TermPatterns.{instances_of, earlier}
-use Rattle.chart_term.specs.Terms.{TermEvent, Tree, Nil, Event, Join, Choice, Bound, Turns, Trail, items, Part, Gap, Turn, parts, ◌∪◌}
+use Rattle.chart_term.specs.Terms.{TermEvent, Tree, Nil, Event, Join, Choice, Tied, Loop, Walk, items, Part, Gap, Turn, parts, ◌∪◌}
 use Rattle.permit_step.specs.Listing.{stay, may_begin, may_lead}
 use Rattle.chart_term.specs.Spreads.{touch}
 use Rattle.permit_step.specs.Permission.{permit}
@@ -48,18 +48,18 @@ where_so false o = None
 -- what is left of a loop of which this row is left
 abbrev pub loop_left : NetPermits → Tree → ℕ → Option ℕ → Option RowLeft → Option Tree
 loop_left k x lo hi None = None
-loop_left k x lo hi (Some r) = where_so (may_begin r.begins hi) (turns_of (λ c. permit k (only c) x) (touch k.spread x) x (down r.begins lo) (fewer r.begins hi) r.row_parts)
+loop_left k x lo hi (Some r) = where_so (may_begin r.begins hi) (loop_of (λ c. permit k (only c) x) (touch k.spread x) x (down r.begins lo) (fewer r.begins hi) r.row_parts)
 
 -- the walk up to a node, what is left of the node's term, and the walk on
 abbrev pub three : Option Tree → Tree → Option Tree → Option Tree
 three None y v = None
 three (Some u) y None = None
-three (Some u) y (Some v) = Some (join_all row (u ∷ y ∷ v ∷ []))
+three (Some u) y (Some v) = Some (join_all seq (u ∷ y ∷ v ∷ []))
 
 -- what is left of a walk where the term of this node leaves y
 abbrev pub walk_left : NetPermits → TermEvent → ℕ → Spot → Goal → List ℕ → ℕ → Tree → Option Tree
 walk_left k e n f t c m y =
-    where_so (may_lead k n f (To m) (c ∪ (instances_of e).instances)) (where_so (may_lead k n (At m) t c) (three (trail_of k n f (To m) (c ∪ (instances_of e).instances)) y (trail_of k n (At m) t c)))
+    where_so (may_lead k n f (To m) (c ∪ (instances_of e).instances)) (where_so (may_lead k n (At m) t c) (three (walk_of k n f (To m) (c ∪ (instances_of e).instances)) y (walk_of k n (At m) t c)))
 
 -- what is left of a term where its child of this place leaves y
 abbrev pub put : NetPermits → TermEvent → Tree → ℕ → Tree → Option Tree
@@ -67,9 +67,9 @@ put k e Nil i y = None
 put k e (Event f) i y = None
 put k e (Join m xs) i y = option_map (join_all m) (parts_left k m e (items xs) i y)
 put k e (Choice xs) i y = Some y
-put k e (Bound x q) i y = option_map (λ z. bound_of z q) (permit k (earlier q e) y)
-put k e (Turns x lo hi r) i y = loop_left k x lo hi (row_left k e (parts r) i y)
-put k e (Trail n f t c) i y = walk_left k e n f t c i y
+put k e (Tied x q) i y = option_map (λ z. tie_of z q) (permit k (earlier q e) y)
+put k e (Loop x lo hi r) i y = loop_left k x lo hi (row_left k e (parts r) i y)
+put k e (Walk n f t c) i y = walk_left k e n f t c i y
 
 -- a turn that may begin in a gap which leaves this of the operand
 abbrev pub new_turn : Option ℕ → Option Tree → Option Tree
@@ -95,6 +95,6 @@ child k Nil i = None
 child k (Event f) i = None
 child k (Join m xs) i = slice_get (items xs) i
 child k (Choice xs) i = slice_get (items xs) i
-child k (Bound x q) i = first_alone x i
-child k (Turns x lo hi r) i = row_child k x hi (slice_get (parts r) i)
-child k (Trail n f t c) i = k.kept n i c
+child k (Tied x q) i = first_alone x i
+child k (Loop x lo hi r) i = row_child k x hi (slice_get (parts r) i)
+child k (Walk n f t c) i = k.kept n i c

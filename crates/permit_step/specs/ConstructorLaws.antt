@@ -2,12 +2,12 @@
 use Rattle.std.specs.Prelude.{ℕ, ◌≤◌, ◌≢◌, Bool, List, [], ◌≡◌, Option, Some, None, true}
 use Rattle.msc_base.specs.Patterns.{Mode}
 use Rattle.hmsc_graph.specs.Graphs.{Spot, Goal}
-use Rattle.chart_term.specs.NormalForms.{only, join_all, choice_of, bound_of, turns_of, trail_of}
+use Rattle.chart_term.specs.NormalForms.{only, join_all, choice_of, tie_of, loop_of, walk_of}
 use Rattle.chart_term.specs.Properties.{Every, Each, EachTurn, EachGap, MayHave}
 use Rattle.chart_term.specs.Tables.{Tables, terms_over}
 use Rattle.chart_term.specs.TermMeanings.{HasPattern, HasParts, HasChoice, PatternsOf, UpTo, ◌⊑◌}
 use Rattle.chart_term.specs.TermPatterns.{Shape, InPairs, Both}
-use Rattle.chart_term.specs.Terms.{Block, Tree, Bound, Turns, Trail, Part, row_of, weight}
+use Rattle.chart_term.specs.Terms.{Block, Tree, Tied, Loop, Walk, Part, row_of, weight}
 use Rattle.permit_step.specs.Normality.{IsNormalOver, IsSet}
 use Rattle.chart_term.specs.Spreads.{touch}
 use Rattle.permit_step.specs.Permission.{permit, permits_of}
@@ -36,12 +36,12 @@ pub record HaveSame (p q : Shape → Type 0) : Type 0 where
 pub record NormalFormsKeepPatterns : Type 0 where
   pub join : (o : Bool) (w : Tables) (m : Mode) (xs : List Tree) → HaveSame (HasPattern (terms_over w) o (join_all m xs)) (HasParts (terms_over w) o m xs)
   pub choice : (o : Bool) (w : Tables) (xs : List Tree) → HaveSame (PatternsOf (terms_over w) o (choice_of xs)) (HasChoice (terms_over w) o xs)
-  pub bound : (o : Bool) (w : Tables) (x : Tree) (q : List (ℕ × ℕ)) → AreTidyTables w → ((j : ℕ) → InPairs j q → Every (λ e. Unit {0}) (NetLacks w j) x)
-      → HaveSame (HasPattern (terms_over w) o (bound_of x q)) (HasPattern (terms_over w) o (Bound x q))
+  pub tied : (o : Bool) (w : Tables) (x : Tree) (q : List (ℕ × ℕ)) → AreTidyTables w → ((j : ℕ) → InPairs j q → Every (λ e. Unit {0}) (NetLacks w j) x)
+      → HaveSame (HasPattern (terms_over w) o (tie_of x q)) (HasPattern (terms_over w) o (Tied x q))
   pub turns : (o : Bool) (w : Tables) (x : Tree) (lo : ℕ) (hi : Option ℕ) (ps : List Part) → AreTidyTables w → IsTidyOver w x → NeverGrows ps → UpTo hi lo
-      → HaveSame (PatternsOf (terms_over w) o (turns_of (λ c. permit (permits_of w) (only c) x) (touch (permits_of w).spread x) x lo hi ps)) (HasPattern (terms_over w) o (Turns x lo hi (row_of ps)))
+      → HaveSame (PatternsOf (terms_over w) o (loop_of (λ c. permit (permits_of w) (only c) x) (touch (permits_of w).spread x) x lo hi ps)) (HasPattern (terms_over w) o (Loop x lo hi (row_of ps)))
   pub trail : (o : Bool) (w : Tables) (n : ℕ) (f : Spot) (t : Goal) (c : List ℕ) → AreTidyTables w → IsKnown w n
-      → HaveSame (PatternsOf (terms_over w) o (trail_of (permits_of w) n f t c)) (HasPattern (terms_over w) o (Trail n f t c))
+      → HaveSame (PatternsOf (terms_over w) o (walk_of (permits_of w) n f t c)) (HasPattern (terms_over w) o (Walk n f t c))
 
 -- tidy and in normal form
 pub record IsFormed (w : Tables) (x : Tree) : Type 0 where
@@ -59,11 +59,11 @@ pub record ConstructorsKeepForm : Type 0 where
   pub join : (w : Tables) (m : Mode) (xs : List Tree) → AreTidyTables w → Each (IsFormed w) xs → IsFormed w (join_all m xs)
   pub choice : (w : Tables) (xs : List Tree) → AreTidyTables w → Each (IsFormed w) xs → MayHave (IsFormed w) (choice_of xs)
   pub choice_fails : (w : Tables) (xs : List Tree) → AreSoundTables w → Each (IsFormed w) xs → Both (choice_of xs ≡ None) ((s : Shape) → HasChoice (terms_over w) true xs s → ⊥)
-  pub bound : (w : Tables) (x : Tree) (q : List (ℕ × ℕ)) → AreTidyTables w → IsTidyOver w (Bound x q) → IsNormalOver w x → IsFormed w (bound_of x q)
+  pub tied : (w : Tables) (x : Tree) (q : List (ℕ × ℕ)) → AreTidyTables w → IsTidyOver w (Tied x q) → IsNormalOver w x → IsFormed w (tie_of x q)
   pub turns : (w : Tables) (x : Tree) (lo : ℕ) (hi : Option ℕ) (ps : List Part) → AreTidyTables w → IsFormed w x → UpTo hi lo → IsFormedRow w ps
-      → MayHave (IsFormed w) (turns_of (λ c. permit (permits_of w) (only c) x) (touch (permits_of w).spread x) x lo hi ps)
+      → MayHave (IsFormed w) (loop_of (λ c. permit (permits_of w) (only c) x) (touch (permits_of w).spread x) x lo hi ps)
   pub turns_fail : (w : Tables) (x : Tree) (lo : ℕ) (hi : Option ℕ) (ps : List Part) → AreSoundTables w → IsFormed w x → UpTo hi lo → IsFormedRow w ps
-      → Both (turns_of (λ c. permit (permits_of w) (only c) x) (touch (permits_of w).spread x) x lo hi ps ≡ None) ((s : Shape) → HasPattern (terms_over w) true (Turns x lo hi (row_of ps)) s → ⊥)
-  pub trail : (w : Tables) (n : ℕ) (f : Spot) (t : Goal) (c : List ℕ) → IsKnown w n → IsSet c → MayHave (IsFormed w) (trail_of (permits_of w) n f t c)
+      → Both (loop_of (λ c. permit (permits_of w) (only c) x) (touch (permits_of w).spread x) x lo hi ps ≡ None) ((s : Shape) → HasPattern (terms_over w) true (Loop x lo hi (row_of ps)) s → ⊥)
+  pub trail : (w : Tables) (n : ℕ) (f : Spot) (t : Goal) (c : List ℕ) → IsKnown w n → IsSet c → MayHave (IsFormed w) (walk_of (permits_of w) n f t c)
   pub trail_fails : (w : Tables) (n : ℕ) (f : Spot) (t : Goal) (c : List ℕ) → AreSoundTables w → IsKnown w n → IsSet c
-      → Both (trail_of (permits_of w) n f t c ≡ None) ((s : Shape) → HasPattern (terms_over w) true (Trail n f t c) s → ⊥)
+      → Both (walk_of (permits_of w) n f t c ≡ None) ((s : Shape) → HasPattern (terms_over w) true (Walk n f t c) s → ⊥)

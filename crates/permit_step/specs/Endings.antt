@@ -1,6 +1,6 @@
 -- The nodes of a net whose terms may end.
 use Rattle.std.specs.Prelude.{ℕ, List, ◌<◌, ◌↔◌}
-use Rattle.hmsc_graph.specs.Graphs.{IsIn}
+use Rattle.msc_base.specs.Lists.{IsIn}
 use Rattle.chart_term.specs.Tables.{Tables, node_of, terms_over}
 use Rattle.chart_term.specs.TermMeanings.{NetTerms}
 use Rattle.chart_term.specs.Terms.{Part, Gap, Turn}

@@ -1,7 +1,7 @@
 -- Loops and walks as they begin.
 use Rattle.std.specs.Prelude.{ℕ, [], ◌∷◌, ◌≡◌, ◌<◌, ◌≤◌, ◌⊎◌, Option, Some, None}
-use Rattle.hmsc_graph.specs.Graphs.{Start, Goal, Walk}
-use Rattle.chart_term.specs.NormalForms.{only, turns_of}
+use Rattle.hmsc_graph.specs.Graphs.{Start, Goal, WalkThrough}
+use Rattle.chart_term.specs.NormalForms.{only, loop_of}
 use Rattle.chart_term.specs.Tables.{Tables, net_of, nodes_of}
 use Rattle.chart_term.specs.Terms.{Tree, Nil, Gap}
 use Rattle.chart_term.specs.TermMeanings.{UpTo}
@@ -11,7 +11,7 @@ use Rattle.permit_step.specs.Permission.{permit, permits_of}
 
 -- the loop in normal form whose row is one gap where any turn may begin; Nil where its counts allow no number of turns
 pub record IsFreshLoop (w : Tables) (x : Tree) (lo : ℕ) (hi : Option ℕ) (y : Tree) : Type 0 where
-  pub loop : UpTo hi lo → turns_of (λ c. permit (permits_of w) (only c) x) (touch (permits_of w).spread x) x lo hi (Gap [] ∷ []) ≡ Some y
+  pub loop : UpTo hi lo → loop_of (λ c. permit (permits_of w) (only c) x) (touch (permits_of w).spread x) x lo hi (Gap [] ∷ []) ≡ Some y
   pub crossed : (UpTo hi lo → ⊥) → y ≡ Nil
 
 -- the counts allow a turn
@@ -27,4 +27,4 @@ MayNotTurn lo (Some n) = (n ≡ 0) ⊎ (n < lo)
 -- no walk leads there from the start
 pub record IsUnreached (w : Tables) (n : ℕ) (t : Goal) : Type 0 where
   pub aimed : IsAimed t
-  pub none : Walk (net_of w n) (nodes_of w n) Start t → ⊥
+  pub none : WalkThrough (net_of w n) (nodes_of w n) Start t → ⊥

@@ -1,15 +1,16 @@
 -- Soundness in full: what holds of the terms of accepted charts, and of all that permission and taking leave of them.
 use Rattle.std.specs.Prelude.{ℕ, ◌+◌, ◌<◌, ◌≤◌, ◌==◌, true, false, List, [], ◌∷◌, ◌≡◌, Option, Some, None, cond, length}
 use Rattle.std.proofs.Common.{get_or}
-use Rattle.msc_base.specs.Patterns.{Mode, row, aside, empty, one, join, bind}
-use Rattle.hmsc_graph.specs.Graphs.{Spot, Start, At, Goal, To, End, Any, IsIn, Walk}
+use Rattle.msc_base.specs.Patterns.{Mode, seq, par, empty, one, join, bind}
+use Rattle.hmsc_graph.specs.Graphs.{Spot, Start, At, Goal, To, End, Any, WalkThrough}
+use Rattle.msc_base.specs.Lists.{IsIn}
 use Rattle.hmsc_graph.specs.Nets.{size_of}
-use Rattle.chart_term.specs.NormalForms.{only, join_all, choice_of, bound_of, turns_of, trail_of}
+use Rattle.chart_term.specs.NormalForms.{only, join_all, choice_of, tie_of, loop_of, walk_of}
 use Rattle.chart_term.specs.Properties.{Each, IsBelow, MayHave}
 use Rattle.chart_term.specs.Tables.{NetEntry, Tables, net_count, net_of, nodes_of, nth_tree, terms_over}
 use Rattle.chart_term.specs.TermMeanings.{HasPattern, UpTo}
 use Rattle.chart_term.specs.TermPatterns.{Shape, InPairs, pairs, Both}
-use Rattle.chart_term.specs.Terms.{TermEvent, Block, Tree, Nil, Event, Join, Choice, Bound, Turns, Trail, Trees, none, more, Row, ends, gap, turn, Part, Gap, parts}
+use Rattle.chart_term.specs.Terms.{TermEvent, Block, Tree, Nil, Event, Join, Choice, Tied, Loop, Walk, Trees, none, more, Row, ends, gap, turn, Part, Gap, parts}
 use Rattle.permit_step.specs.Laws.{Fits}
 use Rattle.permit_step.specs.Normality.{IsNormalOver}
 use Rattle.chart_term.specs.Spreads.{touch}
@@ -26,9 +27,9 @@ module _ (E : TermEvent → Type 0) (B : Tree → List (ℕ × ℕ) → Type 0) 
     EveryPart (Event e) = E e
     EveryPart (Join m xs) = EveryPartOf xs
     EveryPart (Choice xs) = EveryPartOf xs
-    EveryPart (Bound x q) = EveryPart x × B x q
-    EveryPart (Turns x lo hi r) = EveryPart x × L x × EveryRowPart r
-    EveryPart (Trail n f t c) = N n f t
+    EveryPart (Tied x q) = EveryPart x × B x q
+    EveryPart (Loop x lo hi r) = EveryPart x × L x × EveryRowPart r
+    EveryPart (Walk n f t c) = N n f t
 
     pub EveryPartOf : Trees → Type 0
     EveryPartOf none = Unit {0}
@@ -47,9 +48,9 @@ module _ (L : ℕ → Option ℕ → List Part → Type 0) where
     EveryLoop (Event e) = Unit {0}
     EveryLoop (Join m xs) = EveryLoopOf xs
     EveryLoop (Choice xs) = EveryLoopOf xs
-    EveryLoop (Bound x q) = EveryLoop x
-    EveryLoop (Turns x lo hi r) = EveryLoop x × L lo hi (parts r) × EveryRowLoop r
-    EveryLoop (Trail n f t c) = Unit {0}
+    EveryLoop (Tied x q) = EveryLoop x
+    EveryLoop (Loop x lo hi r) = EveryLoop x × L lo hi (parts r) × EveryRowLoop r
+    EveryLoop (Walk n f t c) = Unit {0}
 
     pub EveryLoopOf : Trees → Type 0
     EveryLoopOf none = Unit {0}
@@ -122,9 +123,9 @@ IsWalkOrClosed Nil = Unit {0}
 IsWalkOrClosed (Event e) = Unit {0}
 IsWalkOrClosed (Join m xs) = HasNoOpenWalk (Join m xs)
 IsWalkOrClosed (Choice xs) = HasNoOpenWalk (Choice xs)
-IsWalkOrClosed (Bound x q) = HasNoOpenWalk (Bound x q)
-IsWalkOrClosed (Turns x lo hi r) = HasNoOpenWalk (Turns x lo hi r)
-IsWalkOrClosed (Trail n f t c) = Unit {0}
+IsWalkOrClosed (Tied x q) = HasNoOpenWalk (Tied x q)
+IsWalkOrClosed (Loop x lo hi r) = HasNoOpenWalk (Loop x lo hi r)
+IsWalkOrClosed (Walk n f t c) = Unit {0}
 
 -- only the last of the terms is a walk to any node
 abbrev pub IsOpenWalkLastOf : Trees → Type 0
@@ -136,12 +137,12 @@ IsOpenWalkLastOf (more x (more y xs)) = HasNoOpenWalk x × IsOpenWalkLastOf (mor
 abbrev pub IsOpenWalkLast : Tree → Type 0
 IsOpenWalkLast Nil = Unit {0}
 IsOpenWalkLast (Event e) = Unit {0}
-IsOpenWalkLast (Join row xs) = IsOpenWalkLastOf xs
-IsOpenWalkLast (Join aside xs) = HasNoOpenWalk (Join aside xs)
+IsOpenWalkLast (Join seq xs) = IsOpenWalkLastOf xs
+IsOpenWalkLast (Join par xs) = HasNoOpenWalk (Join par xs)
 IsOpenWalkLast (Choice xs) = HasNoOpenWalk (Choice xs)
-IsOpenWalkLast (Bound x q) = HasNoOpenWalk (Bound x q)
-IsOpenWalkLast (Turns x lo hi r) = HasNoOpenWalk (Turns x lo hi r)
-IsOpenWalkLast (Trail n f t c) = Unit {0}
+IsOpenWalkLast (Tied x q) = HasNoOpenWalk (Tied x q)
+IsOpenWalkLast (Loop x lo hi r) = HasNoOpenWalk (Loop x lo hi r)
+IsOpenWalkLast (Walk n f t c) = Unit {0}
 
 -- what is asked of the term itself
 pub record IsSoundOver (labels : ℕ) (w : Tables) (x : Tree) : Type 0 where
@@ -183,11 +184,11 @@ pub record FullSoundnessIsKept : Type 0 where
 
 -- a loop that no turn has begun, in normal form
 abbrev pub fresh_loop : Tables → Tree → ℕ → Option ℕ → Option Tree
-fresh_loop w x lo hi = turns_of (λ c. permit (permits_of w) (only c) x) (touch (permits_of w).spread x) x lo hi (Gap [] ∷ [])
+fresh_loop w x lo hi = loop_of (λ c. permit (permits_of w) (only c) x) (touch (permits_of w).spread x) x lo hi (Gap [] ∷ [])
 
 -- a walk from the start, in normal form
 abbrev pub fresh_walk : Tables → ℕ → Goal → Option Tree
-fresh_walk w n t = trail_of (permits_of w) n Start t []
+fresh_walk w n t = walk_of (permits_of w) n Start t []
 
 -- it doesn't fail, and the term has the property
 abbrev pub MustHave : (Tree → Type 0) → Option Tree → Type 0
@@ -199,7 +200,7 @@ MustHave P (Some x) = P x
 pub record FreshTermsAreSound : Type 0 where
   pub loop : (labels : ℕ) (w : Tables) (x : Tree) (lo : ℕ) (hi : Option ℕ) → IsFullySound labels w x → HasNoOpenWalk x → UpTo hi lo → MustHave (IsFullySound labels w) (fresh_loop w x lo hi)
   pub walk : (labels : ℕ) (w : Tables) (n : ℕ) (t : Goal) → AreSoundNets labels w → IsKnown w n → IsGoalOf w n t → MayHave (IsFullySound labels w) (fresh_walk w n t)
-  pub walk_fails : (labels : ℕ) (w : Tables) (n : ℕ) (t : Goal) → AreSoundNets labels w → IsKnown w n → IsNotAny t → Both (fresh_walk w n t ≡ None) (Walk (net_of w n) (nodes_of w n) Start t → ⊥)
+  pub walk_fails : (labels : ℕ) (w : Tables) (n : ℕ) (t : Goal) → AreSoundNets labels w → IsKnown w n → IsNotAny t → Both (fresh_walk w n t ≡ None) (WalkThrough (net_of w n) (nodes_of w n) Start t → ⊥)
   pub open_walk : (w : Tables) (n : ℕ) → MustHave (λ x. Unit {0}) (fresh_walk w n Any)
 
 -- the normalising constructors make such terms of such terms, as node terms and the terms of basic charts are: sound in full, without
@@ -208,7 +209,7 @@ pub record ConstructorsKeepSoundness : Type 0 where
   pub event : (labels : ℕ) (w : Tables) (e : TermEvent) → e.label < labels → IsSoundNode labels w (Event e)
   pub join : (labels : ℕ) (w : Tables) (m : Mode) (xs : List Tree) → AreSoundNets labels w → Each (IsSoundNode labels w) xs → IsSoundNode labels w (join_all m xs)
   pub choice : (labels : ℕ) (w : Tables) (x : Tree) (xs : List Tree) → AreSoundNets labels w → Each (IsSoundNode labels w) (x ∷ xs) → MustHave (IsSoundNode labels w) (choice_of (x ∷ xs))
-  pub bound : (labels : ℕ) (w : Tables) (x : Tree) (q : List (ℕ × ℕ)) → AreSoundNets labels w → IsSoundNode labels w x → AreTiesOutside w (Bound x q) → AreTiesOnce w (Bound x q) → ((j : ℕ) → pairs q j j ≡ false) → HasOrders w (Bound x q)
-      → IsSoundNode labels w (bound_of x q)
+  pub tied : (labels : ℕ) (w : Tables) (x : Tree) (q : List (ℕ × ℕ)) → AreSoundNets labels w → IsSoundNode labels w x → AreTiesOutside w (Tied x q) → AreTiesOnce w (Tied x q) → ((j : ℕ) → pairs q j j ≡ false) → HasOrders w (Tied x q)
+      → IsSoundNode labels w (tie_of x q)
   pub loop : (labels : ℕ) (w : Tables) (x : Tree) (lo : ℕ) (hi : Option ℕ) → AreSoundNets labels w → IsSoundNode labels w x → UpTo hi lo → MustHave (IsSoundNode labels w) (fresh_loop w x lo hi)
   pub walk : (labels : ℕ) (w : Tables) (n : ℕ) (t : Goal) → AreSoundNets labels w → IsKnown w n → IsGoalOf w n t → IsNotAny t → MayHave (IsSoundNode labels w) (fresh_walk w n t)

@@ -1,11 +1,11 @@
 -- The residual terms as lists: the functions of which the relations speak, and the weight of a set of residual terms.
 use Rattle.std.specs.Prelude.{ℕ, zero, suc, ◌+◌, Bool, true, false, List, [], ◌∷◌, ◌++◌, ◌≡◌, ◌==◌, Option, Some, None, ◌⊎◌, ◌≤◌}
-use Rattle.msc_base.specs.Patterns.{Mode, row, aside}
+use Rattle.msc_base.specs.Patterns.{Mode, seq, par}
 use Rattle.hmsc_graph.specs.Graphs.{Spot, At, Goal, To, End, Any, reach}
-use Rattle.chart_term.specs.NormalForms.{NetPermits, only, join_all, bound_of, turns_of, trail_of, allowed, distinct}
+use Rattle.chart_term.specs.NormalForms.{NetPermits, only, join_all, tie_of, loop_of, walk_of, allowed, distinct}
 use Rattle.chart_term.specs.Tables.{Tables}
 use Rattle.chart_term.specs.TermPatterns.{instances_of, earlier, Both}
-use Rattle.chart_term.specs.Terms.{TermEvent, ◌∪◌, Tree, Nil, Event, Join, Choice, Bound, Turns, Trail, Trees, none, more, Row, ends, gap, turn, items, Part, Gap, Turn, parts, weight}
+use Rattle.chart_term.specs.Terms.{TermEvent, ◌∪◌, Tree, Nil, Event, Join, Choice, Tied, Loop, Walk, Trees, none, more, Row, ends, gap, turn, items, Part, Gap, Turn, parts, weight}
 use Rattle.chart_term.specs.Spreads.{touch}
 use Rattle.permit_step.specs.Permission.{permit, permits_of}
 use Rattle.permit_step.specs.Taking.{fewer, down, IsAfter}
@@ -32,13 +32,13 @@ pub record TakenRow : Type 0 where
 
 -- what an earlier part of a join leaves
 abbrev pub stay : NetPermits → Mode → TermEvent → Tree → Option Tree
-stay k row e x = permit k (only (instances_of e).instances) x
-stay k aside e x = Some x
+stay k seq e x = permit k (only (instances_of e).instances) x
+stay k par e x = Some x
 
 -- what is left below a tie, where permission doesn't fail
 abbrev pub tied : Option Tree → TermEvent → List (ℕ × ℕ) → List Taken → List Taken
 tied None e q ps = ps
-tied (Some z) e q ps = record { event = e; term = bound_of z q } ∷ ps
+tied (Some z) e q ps = record { event = e; term = tie_of z q } ∷ ps
 
 -- what is left below a tie
 abbrev pub all_tied : NetPermits → List (ℕ × ℕ) → List Taken → List Taken
@@ -112,7 +112,7 @@ turned false r e ps = ps
 abbrev pub all_turned : NetPermits → Tree → ℕ → Option ℕ → List TakenRow → List Taken
 all_turned k x lo hi [] = []
 all_turned k x lo hi (t ∷ ts) =
-    turned (may_begin t.begins hi) (turns_of (λ c. permit k (only c) x) (touch k.spread x) x (down t.begins lo) (fewer t.begins hi) t.row_left) t.event (all_turned k x lo hi ts)
+    turned (may_begin t.begins hi) (loop_of (λ c. permit k (only c) x) (touch k.spread x) x (down t.begins lo) (fewer t.begins hi) t.row_left) t.event (all_turned k x lo hi ts)
 
 -- whether a walk leads there; any node is always reached
 abbrev pub may_lead : NetPermits → ℕ → Spot → Goal → List ℕ → Bool
@@ -122,7 +122,7 @@ may_lead k n f (To m) c = reach (k.net n) (allowed k n c) f (To m)
 
 -- the walk that is left, if walks lead there
 abbrev pub walked : Bool → Bool → Option Tree → Option Tree → Taken → List Taken → List Taken
-walked true true (Some u) (Some v) p ps = record { event = p.event; term = join_all row (u ∷ p.term ∷ v ∷ []) } ∷ ps
+walked true true (Some u) (Some v) p ps = record { event = p.event; term = join_all seq (u ∷ p.term ∷ v ∷ []) } ∷ ps
 walked true true (Some u) None p ps = ps
 walked true true None v p ps = ps
 walked true false u v p ps = ps
@@ -132,7 +132,7 @@ walked false b u v p ps = ps
 abbrev pub all_walked : NetPermits → ℕ → Spot → Goal → List ℕ → ℕ → List Taken → List Taken
 all_walked k n f t c m [] = []
 all_walked k n f t c m (p ∷ ps) =
-    walked (may_lead k n f (To m) (c ∪ (instances_of p.event).instances)) (may_lead k n (At m) t c) (trail_of k n f (To m) (c ∪ (instances_of p.event).instances)) (trail_of k n (At m) t c) p (all_walked k n f t c m ps)
+    walked (may_lead k n f (To m) (c ∪ (instances_of p.event).instances)) (may_lead k n (At m) t c) (walk_of k n f (To m) (c ∪ (instances_of p.event).instances)) (walk_of k n (At m) t c) p (all_walked k n f t c m ps)
 
 -- what is left of a walk through this node
 abbrev pub node_walked : NetPermits → (Tree → List Taken) → ℕ → Spot → Goal → List ℕ → ℕ → Option Tree → List Taken
@@ -151,9 +151,9 @@ abbrev mutual
   listed k g (Event e) = record { event = e; term = Nil } ∷ []
   listed k g (Join m xs) = joined m (listed_parts k g m xs)
   listed k g (Choice xs) = listed_all k g xs
-  listed k g (Bound x q) = all_tied k q (listed k g x)
-  listed k g (Turns x lo hi r) = all_turned k x lo hi (listed_row k g x r)
-  listed k g (Trail n f t c) = nodes_walked k g n f t c (k.nodes n)
+  listed k g (Tied x q) = all_tied k q (listed k g x)
+  listed k g (Loop x lo hi r) = all_turned k x lo hi (listed_row k g x r)
+  listed k g (Walk n f t c) = nodes_walked k g n f t c (k.nodes n)
 
   pub listed_parts : NetPermits → (Tree → List Taken) → Mode → Trees → List TakenParts
   listed_parts k g m none = []

@@ -1,6 +1,6 @@
 -- Permission by a block that misses the term.
 use Rattle.std.specs.Prelude.{◌≡◌, true, Some}
-use Rattle.msc_base.specs.Blocks.{BlockValue}
+use Rattle.bit_sets.specs.Blocks.{BlockValue}
 use Rattle.chart_term.specs.Facts.{misses}
 use Rattle.chart_term.specs.Tables.{Tables}
 use Rattle.chart_term.specs.Terms.{Tree}

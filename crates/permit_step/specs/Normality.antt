@@ -1,13 +1,13 @@
 -- Terms in normal form: what the normalising constructors make.
 use Rattle.std.specs.Prelude.{ℕ, zero, suc, ◌<◌, true, false, List, [], ◌∷◌, ◌≡◌, Option, Some, None}
-use Rattle.msc_base.specs.Patterns.{Mode, row, aside}
+use Rattle.msc_base.specs.Patterns.{Mode, seq, par}
 use Rattle.hmsc_graph.specs.Graphs.{Spot, Goal, To, End, Any, reach}
 use Rattle.chart_term.specs.Equality.{same_tree}
 use Rattle.chart_term.specs.NormalForms.{NetPermits, only, cut, numbers, is_nil, some_kept, has_gap, allowed, are_nil}
 use Rattle.chart_term.specs.Properties.{Each, EachTurn, EachGap}
 use Rattle.chart_term.specs.Tables.{Tables}
 use Rattle.chart_term.specs.TermPatterns.{pairs}
-use Rattle.chart_term.specs.Terms.{has, Tree, Nil, Event, Join, Choice, Bound, Turns, Trail, Trees, none, more, Row, ends, gap, turn, items, Part, Gap, Turn, parts}
+use Rattle.chart_term.specs.Terms.{has, Tree, Nil, Event, Join, Choice, Tied, Loop, Walk, Trees, none, more, Row, ends, gap, turn, items, Part, Gap, Turn, parts}
 use Rattle.chart_term.specs.Spreads.{touch}
 use Rattle.permit_step.specs.Permission.{permit, permits_of}
 
@@ -25,14 +25,14 @@ IsSet (n ∷ c) = IsAbove n c × IsSet c
 abbrev pub IsPartOf : Mode → Tree → Type 0
 IsPartOf m Nil = ⊥
 IsPartOf m (Event e) = Unit {0}
-IsPartOf row (Join row xs) = ⊥
-IsPartOf row (Join aside xs) = Unit {0}
-IsPartOf aside (Join row xs) = Unit {0}
-IsPartOf aside (Join aside xs) = ⊥
+IsPartOf seq (Join seq xs) = ⊥
+IsPartOf seq (Join par xs) = Unit {0}
+IsPartOf par (Join seq xs) = Unit {0}
+IsPartOf par (Join par xs) = ⊥
 IsPartOf m (Choice xs) = Unit {0}
-IsPartOf m (Bound x q) = Unit {0}
-IsPartOf m (Turns x lo hi r) = Unit {0}
-IsPartOf m (Trail n f t c) = Unit {0}
+IsPartOf m (Tied x q) = Unit {0}
+IsPartOf m (Loop x lo hi r) = Unit {0}
+IsPartOf m (Walk n f t c) = Unit {0}
 
 -- a part of a choice: it is no choice
 abbrev pub IsAlternative : Tree → Type 0
@@ -40,9 +40,9 @@ IsAlternative Nil = Unit {0}
 IsAlternative (Event e) = Unit {0}
 IsAlternative (Join m xs) = Unit {0}
 IsAlternative (Choice xs) = ⊥
-IsAlternative (Bound x q) = Unit {0}
-IsAlternative (Turns x lo hi r) = Unit {0}
-IsAlternative (Trail n f t c) = Unit {0}
+IsAlternative (Tied x q) = Unit {0}
+IsAlternative (Loop x lo hi r) = Unit {0}
+IsAlternative (Walk n f t c) = Unit {0}
 
 -- there are two terms or more
 abbrev pub AreTwoOrMore : Trees → Type 0
@@ -124,9 +124,9 @@ module _ (k : NetPermits) where
     IsNormal (Event e) = Unit {0}
     IsNormal (Join m xs) = AreNormal xs × Each (IsPartOf m) (items xs) × AreTwoOrMore xs
     IsNormal (Choice xs) = AreNormal xs × Each IsAlternative (items xs) × AreTwoOrMore xs × AreDifferent (items xs)
-    IsNormal (Bound x q) = IsNormal x × IsSomePair q × AreShown (numbers x) q × ArePairsOnce q
-    IsNormal (Turns x lo hi r) = IsNormal x × IsNormalRow r × IsNormalLoop x hi (parts r)
-    IsNormal (Trail n f t c) = IsNormalWalk n f t c
+    IsNormal (Tied x q) = IsNormal x × IsSomePair q × AreShown (numbers x) q × ArePairsOnce q
+    IsNormal (Loop x lo hi r) = IsNormal x × IsNormalRow r × IsNormalLoop x hi (parts r)
+    IsNormal (Walk n f t c) = IsNormalWalk n f t c
 
     pub AreNormal : Trees → Type 0
     AreNormal none = Unit {0}

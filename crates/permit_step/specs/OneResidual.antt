@@ -2,7 +2,7 @@
 use Rattle.std.specs.Prelude.{ℕ, ◌+◌, ◌*◌, ◌≤◌, false, List, [], ◌∷◌, ◌++◌, ◌≡◌, length}
 use Rattle.chart_term.specs.Properties.{Every}
 use Rattle.chart_term.specs.Tables.{Tables}
-use Rattle.chart_term.specs.Terms.{has, Tree, Nil, Event, Join, Choice, Bound, Turns, Trail, Trees, none, more, Row, ends, gap, turn, weight}
+use Rattle.chart_term.specs.Terms.{has, Tree, Nil, Event, Join, Choice, Tied, Loop, Walk, Trees, none, more, Row, ends, gap, turn, weight}
 use Rattle.permit_step.specs.Listing.{residual_set, set_weight}
 use Rattle.permit_step.specs.Permission.{permits_of}
 use Rattle.permit_step.specs.Residuals.{IsResidual}
@@ -14,9 +14,9 @@ abbrev mutual
   labels_of (Event e) = e.label ∷ []
   labels_of (Join m xs) = labels_of_all xs
   labels_of (Choice xs) = labels_of_all xs
-  labels_of (Bound x q) = labels_of x
-  labels_of (Turns x lo hi r) = labels_of x ++ labels_of_row r
-  labels_of (Trail n f t c) = []
+  labels_of (Tied x q) = labels_of x
+  labels_of (Loop x lo hi r) = labels_of x ++ labels_of_row r
+  labels_of (Walk n f t c) = []
 
   pub labels_of_all : Trees → List ℕ
   labels_of_all none = []
@@ -43,9 +43,9 @@ abbrev mutual
   IsStraight (Event e) = Unit {0}
   IsStraight (Join m xs) = AreStraight xs
   IsStraight (Choice xs) = ⊥
-  IsStraight (Bound x q) = IsStraight x
-  IsStraight (Turns x lo hi r) = ⊥
-  IsStraight (Trail n f t c) = Unit {0}
+  IsStraight (Tied x q) = IsStraight x
+  IsStraight (Loop x lo hi r) = ⊥
+  IsStraight (Walk n f t c) = Unit {0}
 
   pub AreStraight : Trees → Type 0
   AreStraight none = Unit {0}
@@ -67,9 +67,9 @@ abbrev mutual
   HasStraightLoops (Event e) = Unit {0}
   HasStraightLoops (Join m xs) = HaveStraightLoops xs
   HasStraightLoops (Choice xs) = HaveStraightLoops xs
-  HasStraightLoops (Bound x q) = HasStraightLoops x
-  HasStraightLoops (Turns x lo hi r) = IsStraight x × IsUnbegun r
-  HasStraightLoops (Trail n f t c) = Unit {0}
+  HasStraightLoops (Tied x q) = HasStraightLoops x
+  HasStraightLoops (Loop x lo hi r) = IsStraight x × IsUnbegun r
+  HasStraightLoops (Walk n f t c) = Unit {0}
 
   pub HaveStraightLoops : Trees → Type 0
   HaveStraightLoops none = Unit {0}

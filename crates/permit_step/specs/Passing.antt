@@ -1,6 +1,7 @@
 -- Which nodes of a net a walk can pass, and whether one of them leaves more than the empty pattern.
 use Rattle.std.specs.Prelude.{ℕ, Bool, true, false, List, ◌≡◌, ◌<◌, ◌↔◌, not, Option, Some, None}
-use Rattle.hmsc_graph.specs.Graphs.{Net, Spot, At, Goal, To, End, Any, IsIn, Walk}
+use Rattle.hmsc_graph.specs.Graphs.{Net, Spot, At, Goal, To, End, Any, WalkThrough}
+use Rattle.msc_base.specs.Lists.{IsIn}
 use Rattle.hmsc_graph.specs.Walks.{Leads}
 use Rattle.chart_term.specs.NormalForms.{is_nil, some_kept}
 use Rattle.chart_term.specs.Tables.{Tables}
@@ -20,7 +21,7 @@ pub record ArePassable (w : Tables) (n : ℕ) (c : List ℕ) (top : ℕ) (ms ns 
 
 -- a walk that leads there, all of whose inner nodes can be passed, passes a full one
 abbrev pub PassesFull : Net → List ℕ → List ℕ → Spot → Goal → Type 0
-PassesFull g passed full s t = (m : ℕ) × IsIn m full × Walk g passed s (To m) × Leads g passed (At m) t
+PassesFull g passed full s t = (m : ℕ) × IsIn m full × WalkThrough g passed s (To m) × Leads g passed (At m) t
 
 -- a walk that isn't under way
 abbrev pub IsAimed : Goal → Type 0

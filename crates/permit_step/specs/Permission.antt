@@ -1,10 +1,10 @@
 -- Permission: what is left of a term where the events of a block may not happen (weak sequencing, Annex B of Z.120 in outline).
 use Rattle.std.specs.Option.{option_map}
 use Rattle.std.specs.Prelude.{ℕ, zero, suc, List, [], ◌∷◌, Option, Some, None, ◌==◌}
-use Rattle.chart_term.specs.NormalForms.{NetPermits, only, join_all, and_then, or_skip, unless, choice_of, bound_of, turns_in, trail_of}
+use Rattle.chart_term.specs.NormalForms.{NetPermits, only, join_all, and_then, or_skip, unless, choice_of, tie_of, turns_in, walk_of}
 use Rattle.chart_term.specs.Spreads.{touch, spread_of}
 use Rattle.chart_term.specs.Tables.{choose, net_count, Tables, net_of, nodes_of}
-use Rattle.chart_term.specs.Terms.{Block, hits, Tree, Nil, Event, Join, Choice, Bound, Turns, Trail, Trees, none, more, Row, ends, gap, turn, Part, Gap, Turn, ◌∪◌}
+use Rattle.chart_term.specs.Terms.{Block, hits, Tree, Nil, Event, Join, Choice, Tied, Loop, Walk, Trees, none, more, Row, ends, gap, turn, Part, Gap, Turn, ◌∪◌}
 
 -- a gap whose block grows
 abbrev pub wider : List ℕ → Option (List Part) → List ℕ → Option (List Part)
@@ -24,9 +24,9 @@ abbrev mutual
   permit k b (Event e) = unless (hits b e) (Event e)
   permit k b (Join m xs) = option_map (join_all m) (permit_all k b xs)
   permit k b (Choice xs) = choice_of (permit_some k b xs)
-  permit k b (Bound x q) = option_map (λ y. bound_of y q) (permit k b x)
-  permit k b (Turns x lo hi r) = turns_in (λ c. permit k (only c) x) (touch k.spread x) x lo hi (permit_row k b r)
-  permit k b (Trail n s t c) = trail_of k n s t (c ∪ b.instances)
+  permit k b (Tied x q) = option_map (λ y. tie_of y q) (permit k b x)
+  permit k b (Loop x lo hi r) = turns_in (λ c. permit k (only c) x) (touch k.spread x) x lo hi (permit_row k b r)
+  permit k b (Walk n s t c) = walk_of k n s t (c ∪ b.instances)
 
   pub permit_all : NetPermits → Block → Trees → Option (List Tree)
   permit_all k b none = Some []

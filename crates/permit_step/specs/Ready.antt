@@ -4,7 +4,7 @@ use Rattle.hmsc_graph.specs.Graphs.{Spot, Start, At, Goal, To, End, Any}
 use Rattle.hmsc_graph.specs.Nets.{size_of}
 use Rattle.chart_term.specs.Properties.{Each}
 use Rattle.chart_term.specs.Tables.{Tables, nodes_of, net_count}
-use Rattle.chart_term.specs.Terms.{Tree, Nil, Event, Join, Choice, Bound, Turns, Trail, Trees, none, more, Row, ends, gap, turn, Part, Gap, Turn}
+use Rattle.chart_term.specs.Terms.{Tree, Nil, Event, Join, Choice, Tied, Loop, Walk, Trees, none, more, Row, ends, gap, turn, Part, Gap, Turn}
 use Rattle.permit_step.specs.Normality.{IsSet, IsNormalLoop, IsNormalOver}
 use Rattle.permit_step.specs.Permission.{permits_of}
 
@@ -26,9 +26,9 @@ abbrev mutual
   IsWithin w (Event e) = Unit {0}
   IsWithin w (Join m xs) = AreWithin w xs
   IsWithin w (Choice xs) = AreWithin w xs
-  IsWithin w (Bound x q) = IsWithin w x
-  IsWithin w (Turns x lo hi r) = IsWithin w x × IsRowWithin w r
-  IsWithin w (Trail n f t c) = (n < net_count w) × IsSpotWithin (length (nodes_of w n)) f × IsGoalWithin (length (nodes_of w n)) t
+  IsWithin w (Tied x q) = IsWithin w x
+  IsWithin w (Loop x lo hi r) = IsWithin w x × IsRowWithin w r
+  IsWithin w (Walk n f t c) = (n < net_count w) × IsSpotWithin (length (nodes_of w n)) f × IsGoalWithin (length (nodes_of w n)) t
 
   pub AreWithin : Tables → Trees → Type 0
   AreWithin w none = Unit {0}

@@ -1,7 +1,7 @@
 -- Ready terms are made of ready terms, and stay ready with one more net.
 use Rattle.std.specs.Prelude.{ℕ, List, ◌∷◌}
 use Rattle.msc_base.specs.Patterns.{Mode}
-use Rattle.chart_term.specs.NormalForms.{join_all, choice_of, bound_of}
+use Rattle.chart_term.specs.NormalForms.{join_all, choice_of, tie_of}
 use Rattle.chart_term.specs.Properties.{Each, MayHave}
 use Rattle.chart_term.specs.Tables.{Tables, NetEntry}
 use Rattle.chart_term.specs.Terms.{TermEvent, Tree, Nil, Event}
@@ -13,5 +13,5 @@ pub record ReadyIsKept : Type 0 where
   pub event : (w : Tables) (e : TermEvent) → IsReady w (Event e)
   pub join : (w : Tables) (m : Mode) (xs : List Tree) → Each (IsReady w) xs → IsReady w (join_all m xs)
   pub choice : (w : Tables) (xs : List Tree) → Each (IsReady w) xs → MayHave (IsReady w) (choice_of xs)
-  pub bound : (w : Tables) (x : Tree) (q : List (ℕ × ℕ)) → IsReady w x → IsReady w (bound_of x q)
+  pub tied : (w : Tables) (x : Tree) (q : List (ℕ × ℕ)) → IsReady w x → IsReady w (tie_of x q)
   pub later : (w : Tables) (e : NetEntry) (x : Tree) → IsReady w x → IsReady (e ∷ w) x

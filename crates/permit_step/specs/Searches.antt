@@ -10,7 +10,7 @@ use Rattle.chart_term.specs.Order.{tree_cmp}
 use Rattle.chart_term.specs.Properties.{Each}
 use Rattle.chart_term.specs.Tables.{Tables, net_of}
 use Rattle.chart_term.specs.TermPatterns.{instances_of}
-use Rattle.chart_term.specs.Terms.{TermEvent, has, Tree, Nil, Event, Join, Choice, Bound, Turns, Trail, items, Part, Gap, Turn, parts}
+use Rattle.chart_term.specs.Terms.{TermEvent, has, Tree, Nil, Event, Join, Choice, Tied, Loop, Walk, items, Part, Gap, Turn, parts}
 use Rattle.chart_term.specs.Views.{event_of}
 use Rattle.permit_step.specs.Children.{child, put}
 use Rattle.permit_step.specs.Listing.{IsAmong, set_weight}
@@ -30,9 +30,9 @@ child_count w Nil = 0
 child_count w (Event e) = 0
 child_count w (Join m xs) = length (items xs)
 child_count w (Choice xs) = length (items xs)
-child_count w (Bound x q) = 1
-child_count w (Turns x lo hi r) = length (parts r)
-child_count w (Trail n f t c) = size_of (net_of w n)
+child_count w (Tied x q) = 1
+child_count w (Loop x lo hi r) = length (parts r)
+child_count w (Walk n f t c) = size_of (net_of w n)
 
 -- an event with a block of its instances alone
 pub record IsTaken (t : Taken) : Type 0 where
@@ -132,6 +132,6 @@ IsNoEvent Nil = Unit {0}
 IsNoEvent (Event e) = ⊥
 IsNoEvent (Join m xs) = Unit {0}
 IsNoEvent (Choice xs) = Unit {0}
-IsNoEvent (Bound x q) = Unit {0}
-IsNoEvent (Turns x lo hi r) = Unit {0}
-IsNoEvent (Trail n f t c) = Unit {0}
+IsNoEvent (Tied x q) = Unit {0}
+IsNoEvent (Loop x lo hi r) = Unit {0}
+IsNoEvent (Walk n f t c) = Unit {0}

@@ -1,11 +1,12 @@
 -- The syntactic property of terms and tables under which the laws hold.
 use Rattle.std.specs.Prelude.{ℕ, ◌≢◌, ◌==◌, ◌<◌, Bool, true, false, List, [], ◌∷◌, ◌≡◌}
-use Rattle.hmsc_graph.specs.Graphs.{Spot, IsIn, behind}
+use Rattle.hmsc_graph.specs.Graphs.{Spot, behind}
+use Rattle.msc_base.specs.Lists.{IsIn}
 use Rattle.chart_term.specs.Properties.{Each, Every, EveryRow, IsBelow, EachGap}
 use Rattle.chart_term.specs.Tables.{NetEntry, Tables, net_count, count_from}
 use Rattle.chart_term.specs.TermMeanings.{UpTo}
 use Rattle.chart_term.specs.TermPatterns.{pairs, InPairs}
-use Rattle.chart_term.specs.Terms.{has, Tree, Nil, Event, Join, Choice, Bound, Turns, Trail, Trees, none, more, Row, ends, gap, turn, Part, Gap, Turn, parts}
+use Rattle.chart_term.specs.Terms.{has, Tree, Nil, Event, Join, Choice, Tied, Loop, Walk, Trees, none, more, Row, ends, gap, turn, Part, Gap, Turn, parts}
 
 -- each member of the second set is one of the first
 abbrev pub Includes : List ℕ → List ℕ → Type 0
@@ -30,9 +31,9 @@ module _ (NL : ℕ → ℕ → Type 0) where
     IsOutside j (Event e) = Unit {0}
     IsOutside j (Join m xs) = AreOutside j xs
     IsOutside j (Choice xs) = AreOutside j xs
-    IsOutside j (Bound x q) = IsOutside j x
-    IsOutside j (Turns x lo hi r) = Lacks j x × EveryRow (λ e. e.number ≢ j) (NL j) r
-    IsOutside j (Trail n f t c) = NL j n
+    IsOutside j (Tied x q) = IsOutside j x
+    IsOutside j (Loop x lo hi r) = Lacks j x × EveryRow (λ e. e.number ≢ j) (NL j) r
+    IsOutside j (Walk n f t c) = NL j n
 
     pub AreOutside : ℕ → Trees → Type 0
     AreOutside j none = Unit {0}
@@ -45,9 +46,9 @@ module _ (NL : ℕ → ℕ → Type 0) where
     IsFitting j (Event e) = Unit {0}
     IsFitting j (Join m xs) = AreFitting j xs
     IsFitting j (Choice xs) = AreFitting j xs
-    IsFitting j (Bound x q) = IsFitting j x
-    IsFitting j (Turns x lo hi r) = Lacks j x × IsFittingRow j r
-    IsFitting j (Trail n f t c) = NL j n
+    IsFitting j (Tied x q) = IsFitting j x
+    IsFitting j (Loop x lo hi r) = Lacks j x × IsFittingRow j r
+    IsFitting j (Walk n f t c) = NL j n
 
     pub AreFitting : ℕ → Trees → Type 0
     AreFitting j none = Unit {0}
@@ -68,9 +69,9 @@ module _ (NL : ℕ → ℕ → Type 0) where
       IsTidy (Event e) = Unit {0}
       IsTidy (Join m xs) = AreTidy xs
       IsTidy (Choice xs) = AreTidy xs
-      IsTidy (Bound x q) = IsTidy x × ((j : ℕ) → InPairs j q → IsOutside j x) × ((j : ℕ) → pairs q j j ≡ false)
-      IsTidy (Turns x lo hi r) = IsTidy x × IsTidyRow r × UpTo hi lo × NeverGrows (parts r)
-      IsTidy (Trail n f t c) = NG n
+      IsTidy (Tied x q) = IsTidy x × ((j : ℕ) → InPairs j q → IsOutside j x) × ((j : ℕ) → pairs q j j ≡ false)
+      IsTidy (Loop x lo hi r) = IsTidy x × IsTidyRow r × UpTo hi lo × NeverGrows (parts r)
+      IsTidy (Walk n f t c) = NG n
 
       pub AreTidy : Trees → Type 0
       AreTidy none = Unit {0}

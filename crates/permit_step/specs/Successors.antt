@@ -18,10 +18,10 @@ pub record IsSuccessor (v : NetsValue) (label : Label) (x y : Tree) : Type 0 whe
 
 -- above, and without the last one not above
 pub record IsJustAbove (most : ℕ) (found : List Tree) : Type 0 where
-  pub front : List Tree
+  pub prefix : List Tree
   pub last : Tree
-  pub are : found ≡ front ++ last ∷ []
-  pub below : set_weight front ≤ most
+  pub are : found ≡ prefix ++ last ∷ []
+  pub below : set_weight prefix ≤ most
   pub above : most < set_weight found
 
 -- the terms that a call found: each once, and each is left; all of them, which together aren't above `most`, or so many that they

@@ -1,18 +1,19 @@
 -- What is left of a term after an event (its residual), and whether a term may end.
 use Rattle.std.specs.Prelude.{ℕ, zero, suc, ◌-◌, Bool, true, false, List, [], ◌∷◌, ◌≡◌, Option, Some, None}
-use Rattle.msc_base.specs.Patterns.{Mode, row, aside}
-use Rattle.hmsc_graph.specs.Graphs.{Spot, At, Goal, To, End, Any, Net, Walk, behind, arrives, IsIn}
-use Rattle.chart_term.specs.NormalForms.{NetPermits, only, join_all, turns_of, trail_of, allowed, bound_of}
+use Rattle.msc_base.specs.Patterns.{Mode, seq, par}
+use Rattle.hmsc_graph.specs.Graphs.{Spot, At, Goal, To, End, Any, Net, WalkThrough, behind, arrives}
+use Rattle.msc_base.specs.Lists.{IsIn}
+use Rattle.chart_term.specs.NormalForms.{NetPermits, only, join_all, loop_of, walk_of, allowed, tie_of}
 use Rattle.chart_term.specs.TermMeanings.{NetTerms, aim}
 use Rattle.chart_term.specs.TermPatterns.{instances_of, earlier}
-use Rattle.chart_term.specs.Terms.{TermEvent, Tree, Nil, Event, Join, Choice, Bound, Turns, Trail, Trees, more, Row, items, Part, Gap, Turn, parts, ◌∪◌}
+use Rattle.chart_term.specs.Terms.{TermEvent, Tree, Nil, Event, Join, Choice, Tied, Loop, Walk, Trees, more, Row, items, Part, Gap, Turn, parts, ◌∪◌}
 use Rattle.chart_term.specs.Spreads.{touch}
 use Rattle.permit_step.specs.Permission.{permit}
 
 -- what an earlier part of a join has to leave
 abbrev pub Stays : NetPermits → Mode → TermEvent → Tree → Tree → Type 0
-Stays k row e x x' = permit k (only (instances_of e).instances) x ≡ Some x'
-Stays k aside e x x' = x' ≡ x
+Stays k seq e x x' = permit k (only (instances_of e).instances) x ≡ Some x'
+Stays k par e x x' = x' ≡ x
 
 -- one less, where there is an end
 abbrev pub fewer : Bool → Option ℕ → Option ℕ
@@ -35,8 +36,8 @@ HasMore false hi = Unit {0}
 -- a walk leads there; any node is always reached
 abbrev pub Leads : Net → List ℕ → Spot → Goal → Type 0
 Leads g ks f Any = Unit {0}
-Leads g ks f End = Walk g ks f End
-Leads g ks f (To m) = Walk g ks f (To m)
+Leads g ks f End = WalkThrough g ks f End
+Leads g ks f (To m) = WalkThrough g ks f (To m)
 
 -- the event, and what is left
 mutual
@@ -44,13 +45,13 @@ mutual
     after_event : {e : TermEvent} → IsAfter k (Event e) e Nil
     after_choice : {xs : Trees} {e : TermEvent} {y : Tree} → IsAfterOne k xs e y → IsAfter k (Choice xs) e y
     after_join : {m : Mode} {xs : Trees} {e : TermEvent} {ys : List Tree} → IsAfterJoin k m xs e ys → IsAfter k (Join m xs) e (join_all m ys)
-    after_bound : {x y z : Tree} {q : List (ℕ × ℕ)} {e : TermEvent} → IsAfter k x e y → permit k (earlier q e) y ≡ Some z → IsAfter k (Bound x q) e (bound_of z q)
-    after_turns : {x z : Tree} {lo : ℕ} {hi : Option ℕ} {r : Row} {e : TermEvent} (b : Bool) {ps : List Part} → IsAfterRow k x b (parts r) e ps → HasMore b hi
-        → turns_of (λ c. permit k (only c) x) (touch k.spread x) x (down b lo) (fewer b hi) ps ≡ Some z → IsAfter k (Turns x lo hi r) e z
-    after_trail : {n : ℕ} {s : Spot} {t : Goal} {c : List ℕ} {e : TermEvent} (m : ℕ) {x y u v : Tree} → k.kept n m c ≡ Some x → IsAfter k x e y
+    after_tied : {x y z : Tree} {q : List (ℕ × ℕ)} {e : TermEvent} → IsAfter k x e y → permit k (earlier q e) y ≡ Some z → IsAfter k (Tied x q) e (tie_of z q)
+    after_loop : {x z : Tree} {lo : ℕ} {hi : Option ℕ} {r : Row} {e : TermEvent} (b : Bool) {ps : List Part} → IsAfterRow k x b (parts r) e ps → HasMore b hi
+        → loop_of (λ c. permit k (only c) x) (touch k.spread x) x (down b lo) (fewer b hi) ps ≡ Some z → IsAfter k (Loop x lo hi r) e z
+    after_walk : {n : ℕ} {s : Spot} {t : Goal} {c : List ℕ} {e : TermEvent} (m : ℕ) {x y u v : Tree} → k.kept n m c ≡ Some x → IsAfter k x e y
         → Leads (k.net n) (allowed k n (c ∪ (instances_of e).instances)) s (To m) → Leads (k.net n) (allowed k n c) (At m) t
-        → trail_of k n s (To m) (c ∪ (instances_of e).instances) ≡ Some u → trail_of k n (At m) t c ≡ Some v
-        → IsAfter k (Trail n s t c) e (join_all row (u ∷ y ∷ v ∷ []))
+        → walk_of k n s (To m) (c ∪ (instances_of e).instances) ≡ Some u → walk_of k n (At m) t c ≡ Some v
+        → IsAfter k (Walk n s t c) e (join_all seq (u ∷ y ∷ v ∷ []))
 
   pub data IsAfterOne (k : NetPermits) : Trees → TermEvent → Tree → Type 0 where
     first_one : {x y : Tree} {xs : Trees} {e : TermEvent} → IsAfter k x e y → IsAfterOne k (more x xs) e y
@@ -80,10 +81,10 @@ mutual
     end_nil : MayEnd w Nil
     end_join : {m : Mode} {xs : Trees} → EndAll w (items xs) → MayEnd w (Join m xs)
     end_choice : {xs : Trees} → EndOne w (items xs) → MayEnd w (Choice xs)
-    end_bound : {x : Tree} {q : List (ℕ × ℕ)} → MayEnd w x → MayEnd w (Bound x q)
-    end_zero : {x : Tree} {hi : Option ℕ} {r : Row} → EndTurns w (parts r) → MayEnd w (Turns x zero hi r)
-    end_turns : {x : Tree} {lo : ℕ} {hi : Option ℕ} {r : Row} → EndTurns w (parts r) → HasGap (parts r) → MayEnd w x → MayEnd w (Turns x lo hi r)
-    end_trail : {n : ℕ} {f : Spot} {t : Goal} {c : List ℕ} → EndWalk w n f t → MayEnd w (Trail n f t c)
+    end_bound : {x : Tree} {q : List (ℕ × ℕ)} → MayEnd w x → MayEnd w (Tied x q)
+    end_zero : {x : Tree} {hi : Option ℕ} {r : Row} → EndLoop w (parts r) → MayEnd w (Loop x zero hi r)
+    end_turns : {x : Tree} {lo : ℕ} {hi : Option ℕ} {r : Row} → EndLoop w (parts r) → HasGap (parts r) → MayEnd w x → MayEnd w (Loop x lo hi r)
+    end_trail : {n : ℕ} {f : Spot} {t : Goal} {c : List ℕ} → EndWalk w n f t → MayEnd w (Walk n f t c)
 
   pub data EndAll (w : NetTerms) : List Tree → Type 0 where
     end_none : EndAll w []
@@ -93,10 +94,10 @@ mutual
     end_this : {x : Tree} {xs : List Tree} → MayEnd w x → EndOne w (x ∷ xs)
     end_that : {x : Tree} {xs : List Tree} → EndOne w xs → EndOne w (x ∷ xs)
 
-  pub data EndTurns (w : NetTerms) : List Part → Type 0 where
-    no_turns : EndTurns w []
-    past_gap : {c : List ℕ} {ps : List Part} → EndTurns w ps → EndTurns w (Gap c ∷ ps)
-    one_turn : {x : Tree} {ps : List Part} → MayEnd w x → EndTurns w ps → EndTurns w (Turn x ∷ ps)
+  pub data EndLoop (w : NetTerms) : List Part → Type 0 where
+    no_turns : EndLoop w []
+    past_gap : {c : List ℕ} {ps : List Part} → EndLoop w ps → EndLoop w (Gap c ∷ ps)
+    one_turn : {x : Tree} {ps : List Part} → MayEnd w x → EndLoop w ps → EndLoop w (Turn x ∷ ps)
 
   pub data EndWalk (w : NetTerms) : ℕ → Spot → Goal → Type 0 where
     last_edge : {n : ℕ} {f : Spot} {t : Goal} (m : ℕ) → IsIn m (behind (w.net n) f) → arrives (w.net n) (aim t) m ≡ true → EndWalk w n f t

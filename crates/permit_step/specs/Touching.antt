@@ -1,6 +1,6 @@
 -- The instances that the nets of a term bring, beside those of its own events.
 use Rattle.std.specs.Prelude.{ℕ, List, [], ◌++◌, ◌≡◌, ◌||◌}
-use Rattle.chart_term.specs.Terms.{has, Tree, Nil, Event, Join, Choice, Bound, Turns, Trail, Trees, none, more, Row, ends, gap, turn, Part, Gap, Turn}
+use Rattle.chart_term.specs.Terms.{has, Tree, Nil, Event, Join, Choice, Tied, Loop, Walk, Trees, none, more, Row, ends, gap, turn, Part, Gap, Turn}
 
 -- the instances of the nets of a term, of its loop operands and of its begun turns
 abbrev mutual
@@ -9,9 +9,9 @@ abbrev mutual
   net_touch k (Event e) = []
   net_touch k (Join m xs) = net_touch_all k xs
   net_touch k (Choice xs) = net_touch_all k xs
-  net_touch k (Bound x q) = net_touch k x
-  net_touch k (Turns x lo hi r) = net_touch k x ++ net_touch_row k r
-  net_touch k (Trail n s t c) = k n
+  net_touch k (Tied x q) = net_touch k x
+  net_touch k (Loop x lo hi r) = net_touch k x ++ net_touch_row k r
+  net_touch k (Walk n s t c) = k n
 
   pub net_touch_all : (ℕ → List ℕ) → Trees → List ℕ
   net_touch_all k none = []

@@ -1,5 +1,5 @@
 -- The blocks of the code, as permission takes them.
-use Rattle.msc_base.specs.Blocks.{BlockValue}
+use Rattle.bit_sets.specs.Blocks.{BlockValue}
 use Rattle.chart_term.specs.Terms.{Block}
 
 -- the block

@@ -3,12 +3,12 @@ ghost use Rattle.chart_term.specs.NormalForms.{join_all};
 ghost use Rattle.chart_term.specs.Properties.{Each, MayHave};
 ghost use Rattle.chart_term.specs.Rows.{part_of};
 ghost use Rattle.chart_term.specs.TermPatterns.{before_in, put_if};
-ghost use Rattle.chart_term.specs.Terms.{Nil, Join, Bound, Turns, Trail, has, trees, row_of};
+ghost use Rattle.chart_term.specs.Terms.{Nil, Join, Tied, Loop, Walk, has, trees, row_of};
 ghost use Rattle.chart_term.specs.Views.{event_of, pairs_of};
 ghost use Rattle.hmsc_graph.specs.Nets.{size_of};
 ghost use Rattle.hmsc_graph.specs.Spots.{spot_of, goal_of, IsSpotBelow, IsGoalBelow};
 ghost use Rattle.chart_term.specs.Tables.{net_count, net_of};
-ghost use Rattle.msc_base.specs.Patterns.{row, aside};
+ghost use Rattle.msc_base.specs.Patterns.{seq, par};
 ghost use Rattle.permit_step.specs.Children.{put};
 ghost use Rattle.permit_step.specs.Held.{HasHeld, IsHeld};
 ghost use Rattle.permit_step.specs.Normality.{IsSet};
@@ -25,9 +25,10 @@ use crate::loops::loop_end;
 use crate::permission::{copy_pairs, keep_parts, permit, widened_walk};
 use crate::row_end::RowEnd;
 use crate::touch::touched;
-use chart_term::{Event, Look, Nets, RowList, RowPart, Term, TermList, beside, bound, then};
+use chart_term::{Event, Look, Nets, RowList, RowPart, Term, TermList, par, tied, seq};
 use hmsc_graph::{Goal, Spot};
-use msc_base::{Block, NoMemory, Pair, PairList};
+use bit_sets::Block;
+use msc_base::{NoMemory, Pair, PairList};
 use std::alloc::Global;
 
 /// A term, and the place in it from which an event is taken.
@@ -91,17 +92,17 @@ fn put(
 {
     match parent.look() {
         Look::Nil | Look::Event { .. } => Ok(None),
-        Look::Then(parts) => put_in_row(alloc, nets, taken, parts, place, left),
-        Look::Beside(parts) => Ok(Some(put_aside(alloc, parts, place, left)?)),
+        Look::Seq(parts) => put_in_row(alloc, nets, taken, parts, place, left),
+        Look::Par(parts) => Ok(Some(put_in_par(alloc, parts, place, left)?)),
         Look::Choice(_) => Ok(Some(left)),
-        Look::Bound(_, pairs) => put_below_tie(alloc, nets, taken, pairs, left),
-        Look::Turns {
+        Look::Tied(_, pairs) => put_below_tie(alloc, nets, taken, pairs, left),
+        Look::Loop {
             body,
             lower,
             upper,
             row,
         } => put_in_loop(alloc, nets, taken, body, lower, upper, row, place, left),
-        Look::Trail {
+        Look::Walk {
             net,
             from,
             to,
@@ -133,16 +134,16 @@ fn push_copies(
 
 /// The parts side by side, where that of the place is replaced.
 #[tactic(auto, using(crate::proofs::Ascending::ascending))]
-fn put_aside(alloc: Global, parts: &TermList, place: usize, left: Term) -> Result<Term, NoMemory>
+fn put_in_par(alloc: Global, parts: &TermList, place: usize, left: Term) -> Result<Term, NoMemory>
     requires { place < length parts.now }
-    ensures { IfOk result (λ whole. whole ≡ join_all aside (take place parts.now ++ left ∷ drop (place + 1) parts.now)) }
+    ensures { IfOk result (λ whole. whole ≡ join_all par (take place parts.now ++ left ∷ drop (place + 1) parts.now)) }
 {
     let count = parts.len();
     let mut kept = TermList::new(alloc);
     push_copies(alloc, parts, 0, place, &mut kept)?;
     kept.push(left)?;
     push_copies(alloc, parts, place + 1, count, &mut kept)?;
-    beside(alloc, kept)
+    par(alloc, kept)
 }
 
 /// What is left of parts in weak sequence: those before the place let the event pass.
@@ -159,7 +160,7 @@ fn put_in_row(
     requires taken { IsTaken taken.now }
     requires parts { Each (IsReady nets.now.tables) parts.now }
     requires place { place < length parts.now }
-    ensures { IfOk result (λ whole. whole ≡ put (permits_of nets.now.tables) (event_of taken.now.event) (Join row (trees parts.now)) place left) }
+    ensures { IfOk result (λ whole. whole ≡ put (permits_of nets.now.tables) (event_of taken.now.event) (Join seq (trees parts.now)) place left) }
 {
     let count = parts.len();
     match permit_first(alloc, nets, parts, place, &taken.at)? {
@@ -168,7 +169,7 @@ fn put_in_row(
             let mut kept = kept;
             kept.push(left)?;
             push_copies(alloc, parts, place + 1, count, &mut kept)?;
-            Ok(Some(then(alloc, kept)?))
+            Ok(Some(seq(alloc, kept)?))
         }
     }
 }
@@ -251,14 +252,14 @@ fn put_below_tie(
     requires tables { AreReadyTables nets.now.tables }
     requires taken { IsTaken taken.now }
     requires left { IsReady nets.now.tables left }
-    ensures { IfOk result (λ whole. whole ≡ put (permits_of nets.now.tables) (event_of taken.now.event) (Bound Nil (pairs_of pairs.now)) 0 left) }
+    ensures { IfOk result (λ whole. whole ≡ put (permits_of nets.now.tables) (event_of taken.now.event) (Tied Nil (pairs_of pairs.now)) 0 left) }
 {
     let block = earlier(alloc, pairs, taken.event.number)?;
     let Some(kept) = permit(alloc, nets, &left, &block)? else {
         return Ok(None);
     };
     let pairs = copy_pairs(alloc, pairs)?;
-    let whole = bound(alloc, kept, pairs)?;
+    let whole = tied(alloc, kept, pairs)?;
     Ok(Some(whole))
 }
 
@@ -423,7 +424,7 @@ fn put_in_loop(
     requires row { IsReadyLoop nets.now.tables body.now upper row.now }
     requires place { place < length row.now }
     requires left { IsReady nets.now.tables left }
-    ensures { IfOk result (λ whole. whole ≡ put (permits_of nets.now.tables) (event_of taken.now.event) (Turns body.now lower upper (row_of row.now)) place left) }
+    ensures { IfOk result (λ whole. whole ≡ put (permits_of nets.now.tables) (event_of taken.now.event) (Loop body.now lower upper (row_of row.now)) place left) }
 {
     let count = row.len();
     let begins = is_gap(row.at(place));
@@ -471,7 +472,7 @@ fn put_on_walk(
     requires to { IsGoalBelow (size_of (net_of nets.now.tables net)) to }
     requires own { IsSet own.now.instances }
     requires node { node < size_of (net_of nets.now.tables net) }
-    ensures { IfOk result (λ whole. whole ≡ put (permits_of nets.now.tables) (event_of taken.now.event) (Trail net (spot_of from) (goal_of to) own.now.instances) node left) }
+    ensures { IfOk result (λ whole. whole ≡ put (permits_of nets.now.tables) (event_of taken.now.event) (Walk net (spot_of from) (goal_of to) own.now.instances) node left) }
 {
     let Some(before) = widened_walk(alloc, nets, net, from, Goal::Node(node), own, &taken.at)?
     else {
@@ -485,5 +486,5 @@ fn put_on_walk(
     parts.push(before)?;
     parts.push(left)?;
     parts.push(behind)?;
-    Ok(Some(then(alloc, parts)?))
+    Ok(Some(seq(alloc, parts)?))
 }

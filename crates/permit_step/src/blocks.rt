@@ -1,10 +1,11 @@
 ghost use Rattle.std.specs.Prelude.{◌≡◌, ◌<◌, ◌&&◌, [], if◌then◌else◌, IfOk, OnOk};
 ghost use Rattle.chart_term.specs.NormalForms.{cut};
 ghost use Rattle.chart_term.specs.Terms.{◌∪◌};
-ghost use Rattle.msc_base.specs.Blocks.{IsRising, insert_rising};
+ghost use Rattle.bit_sets.specs.Blocks.{IsRising, insert_rising};
 ghost use Rattle.permit_step.specs.Normality.{IsSet};
 
-use msc_base::{Block, Limits, NoMemory};
+use bit_sets::Block;
+use msc_base::{Limits, NoMemory};
 use std::alloc::Global;
 
 /// A block of the instances of both.

@@ -10,7 +10,8 @@ ghost use Rattle.permit_step.specs.Searches.{child_count};
 use crate::blocks::widened;
 use crate::permission::permit;
 use chart_term::{Look, Nets, RowPart, Term};
-use msc_base::{Block, NoMemory};
+use bit_sets::Block;
+use msc_base::NoMemory;
 use std::alloc::Global;
 
 /// From how many places of the term an event may be taken.
@@ -23,12 +24,12 @@ pub(crate) fn child_count(nets: &Nets, term: &Term) -> usize
     match term.look() {
         Look::Nil => 0,
         Look::Event { .. } => 0,
-        Look::Then(parts) => parts.len(),
-        Look::Beside(parts) => parts.len(),
+        Look::Seq(parts) => parts.len(),
+        Look::Par(parts) => parts.len(),
         Look::Choice(parts) => parts.len(),
-        Look::Bound(_, _) => 1,
-        Look::Turns { row, .. } => row.len(),
-        Look::Trail { net, .. } => nets.net(net).size() as usize,
+        Look::Tied(_, _) => 1,
+        Look::Loop { row, .. } => row.len(),
+        Look::Walk { net, .. } => nets.net(net).size() as usize,
     }
 }
 
@@ -48,17 +49,17 @@ pub(crate) fn child(
 {
     match term.look() {
         Look::Nil | Look::Event { .. } => Ok(None),
-        Look::Then(parts) => Ok(Some(parts.at(place).copy(alloc)?)),
-        Look::Beside(parts) => Ok(Some(parts.at(place).copy(alloc)?)),
+        Look::Seq(parts) => Ok(Some(parts.at(place).copy(alloc)?)),
+        Look::Par(parts) => Ok(Some(parts.at(place).copy(alloc)?)),
         Look::Choice(parts) => Ok(Some(parts.at(place).copy(alloc)?)),
-        Look::Bound(inner, _) => Ok(Some(inner.copy(alloc)?)),
-        Look::Turns {
+        Look::Tied(inner, _) => Ok(Some(inner.copy(alloc)?)),
+        Look::Loop {
             body,
             upper,
             row,
             ..
         } => turn_of(alloc, nets, body, upper, row.at(place)),
-        Look::Trail { net, block, .. } => {
+        Look::Walk { net, block, .. } => {
             let own = widened(alloc, block, &Block::empty(alloc))?;
             let node = node_at(nets, net, place);
             let left = permit(alloc, nets, nets.node(net, node), &own)?;

@@ -3,16 +3,17 @@ ghost use Rattle.chart_term.specs.Properties.{Each};
 ghost use Rattle.chart_term.specs.Rows.{part_of};
 ghost use Rattle.chart_term.specs.Tables.{net_count, net_of, terms_over};
 ghost use Rattle.chart_term.specs.TermMeanings.{aim};
-ghost use Rattle.chart_term.specs.Terms.{Turns, row_of};
-ghost use Rattle.hmsc_graph.specs.Graphs.{IsIn};
+ghost use Rattle.chart_term.specs.Terms.{Loop, row_of};
+ghost use Rattle.msc_base.specs.Lists.{IsIn};
 ghost use Rattle.hmsc_graph.specs.Nets.{IsNet, size_of};
 ghost use Rattle.hmsc_graph.specs.Spots.{spot_of, goal_of, IsSpotBelow, IsGoalBelow};
 ghost use Rattle.permit_step.specs.Endings.{AreEnding, MayPartEnd};
 ghost use Rattle.permit_step.specs.Ready.{IsReady, AreReadyTables, IsReadyPart, AreReadyParts, IsReadyLoop};
-ghost use Rattle.permit_step.specs.Taking.{MayEnd, EndAll, EndOne, EndTurns, EndWalk};
+ghost use Rattle.permit_step.specs.Taking.{MayEnd, EndAll, EndOne, EndLoop, EndWalk};
 
 use chart_term::{Look, Nets, RowList, RowPart, Term, TermList};
-use hmsc_graph::{Goal, NodeSet, Spot, has_walk};
+use bit_sets::NodeSet;
+use hmsc_graph::{Goal, Spot, has_walk};
 use msc_base::NoMemory;
 use std::alloc::Global;
 
@@ -27,17 +28,17 @@ pub fn may_end(alloc: Global, nets: &Nets, term: &Term) -> Result<bool, NoMemory
     match term.look() {
         Look::Nil => Ok(true),
         Look::Event { .. } => Ok(false),
-        Look::Then(parts) => all_may_end(alloc, nets, parts),
-        Look::Beside(parts) => all_may_end(alloc, nets, parts),
+        Look::Seq(parts) => all_may_end(alloc, nets, parts),
+        Look::Par(parts) => all_may_end(alloc, nets, parts),
         Look::Choice(parts) => one_may_end(alloc, nets, parts),
-        Look::Bound(inner, _) => may_end(alloc, nets, inner),
-        Look::Turns {
+        Look::Tied(inner, _) => may_end(alloc, nets, inner),
+        Look::Loop {
             body,
             lower,
             upper,
             row,
         } => loop_may_end(alloc, nets, body, lower, upper, row),
-        Look::Trail { net, from, to, .. } => walk_may_end(alloc, nets, net, from, to),
+        Look::Walk { net, from, to, .. } => walk_may_end(alloc, nets, net, from, to),
     }
 }
 
@@ -86,7 +87,7 @@ fn loop_may_end(
 ) -> Result<bool, NoMemory>
     requires tables { AreReadyTables nets.now.tables }
     requires row { IsReadyLoop nets.now.tables body.now upper row.now }
-    ensures { IfOk result (λ ends. IsTrue ends ↔ MayEnd (terms_over nets.now.tables) (Turns body.now lower upper (row_of row.now))) }
+    ensures { IfOk result (λ ends. IsTrue ends ↔ MayEnd (terms_over nets.now.tables) (Loop body.now lower upper (row_of row.now))) }
 {
     if !turns_may_end(alloc, nets, row)? {
         return Ok(false);
@@ -103,7 +104,7 @@ fn loop_may_end(
 fn turns_may_end(alloc: Global, nets: &Nets, row: &RowList) -> Result<bool, NoMemory>
     requires tables { AreReadyTables nets.now.tables }
     requires row { AreReadyParts nets.now.tables row.now }
-    ensures { IfOk result (λ ends. IsTrue ends ↔ EndTurns (terms_over nets.now.tables) row.now) }
+    ensures { IfOk result (λ ends. IsTrue ends ↔ EndLoop (terms_over nets.now.tables) row.now) }
 {
     for index in 0..row.len() {
         if !part_may_end(alloc, nets, row.at(index))? {

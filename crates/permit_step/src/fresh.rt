@@ -1,5 +1,5 @@
 ghost use Rattle.std.specs.Prelude.{◌≡◌, ◌<◌, ◌↔◌, [], None, IfOk, true, false};
-ghost use Rattle.chart_term.specs.NormalForms.{trail_of};
+ghost use Rattle.chart_term.specs.NormalForms.{walk_of};
 ghost use Rattle.chart_term.specs.Properties.{MayHave};
 ghost use Rattle.chart_term.specs.Tables.{net_count, net_of};
 ghost use Rattle.hmsc_graph.specs.Graphs.{Start};
@@ -13,7 +13,8 @@ use crate::permission::walk;
 use crate::row_end::is_empty;
 use chart_term::{Nets, RowList, RowPart, Term};
 use hmsc_graph::{Goal, Spot};
-use msc_base::{Block, NoMemory};
+use bit_sets::Block;
+use msc_base::NoMemory;
 use std::alloc::Global;
 
 /// Whether the counts of a loop allow a turn.
@@ -49,7 +50,7 @@ fn fresh_loop(
 }
 
 /// The loop of this operand before its first turn, in normal form. It is Nil where `lower` is above `upper`.
-pub fn turns(
+pub fn fresh_loop(
     alloc: Global,
     nets: &Nets,
     body: Term,
@@ -69,11 +70,11 @@ pub fn turns(
 ///
 /// None comes exactly where the goal isn't `Any` and no walk leads to it.
 #[tactic(auto, using(crate::proofs::FreshFacts::fresh))]
-pub fn trail(alloc: Global, nets: &Nets, net: u32, goal: Goal) -> Result<Option<Term>, NoMemory>
+pub fn fresh_walk(alloc: Global, nets: &Nets, net: u32, goal: Goal) -> Result<Option<Term>, NoMemory>
     requires tables { AreReadyTables nets.now.tables }
     requires net { net < net_count nets.now.tables }
     requires goal { IsGoalBelow (size_of (net_of nets.now.tables net)) goal }
-    ensures walk { IfOk result (λ left. left ≡ trail_of (permits_of nets.now.tables) net Start (goal_of goal) []) }
+    ensures walk { IfOk result (λ left. left ≡ walk_of (permits_of nets.now.tables) net Start (goal_of goal) []) }
     ensures ready { IfOk result (λ left. MayHave (IsReady nets.now.tables) left) }
     ensures none { IfOk result (λ left. (left ≡ None) ↔ IsUnreached nets.now.tables net (goal_of goal)) }
 {

@@ -23,6 +23,6 @@ mod tests;
 mod touch;
 
 pub use finishes::may_end;
-pub use fresh::{trail, turns};
+pub use fresh::{fresh_loop, fresh_walk};
 pub use permission::permit;
 pub use successors::after;

@@ -2,7 +2,7 @@ ghost use Rattle.std.specs.Prelude.{◌≡◌, IfOk};
 ghost use Rattle.permit_step.specs.RowRests.{rest_end};
 
 use crate::row_end::RowEnd;
-use chart_term::{Term, then};
+use chart_term::{Term, seq};
 use msc_base::NoMemory;
 use std::alloc::Global;
 
@@ -26,5 +26,5 @@ pub(crate) fn loop_end(
         return Ok(None);
     }
     let turns = end.into_turns(alloc)?;
-    Ok(Some(then(alloc, turns)?))
+    Ok(Some(seq(alloc, turns)?))
 }

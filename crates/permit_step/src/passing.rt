@@ -1,14 +1,16 @@
 ghost use Rattle.std.specs.Prelude.{◌≡◌, ◌<◌, ◌⊎◌, ◌↔◌, ℕ, IfOk, IsTrue, true, false};
 ghost use Rattle.chart_term.specs.NormalForms.{some_kept};
-ghost use Rattle.hmsc_graph.specs.Graphs.{IsIn, Any};
+ghost use Rattle.hmsc_graph.specs.Graphs.{Any};
+ghost use Rattle.msc_base.specs.Lists.{IsIn};
 ghost use Rattle.hmsc_graph.specs.Nets.{size_of};
 ghost use Rattle.hmsc_graph.specs.Spots.{spot_of, goal_of, IsSpotBelow, IsGoalBelow};
-ghost use Rattle.hmsc_graph.specs.NodeSets.{HasNoNodes};
+ghost use Rattle.bit_sets.specs.NodeSets.{HasNoNodes};
 ghost use Rattle.permit_step.specs.Passing.{is_full, IsAimed, PassesFull};
 
 use crate::row_end::is_empty;
 use chart_term::Term;
-use hmsc_graph::{Goal, Net, NodeSet, Spot, has_walk, reach};
+use bit_sets::NodeSet;
+use hmsc_graph::{Goal, Net, Spot, has_walk, reach};
 use msc_base::NoMemory;
 use std::alloc::Global;
 

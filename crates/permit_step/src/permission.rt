@@ -1,9 +1,9 @@
 ghost use Rattle.std.specs.Prelude.{◌≡◌, ◌∷◌, ◌<◌, ◌≤◌, Bool, IfOk, OnOk, Some, None, if◌then◌else◌, length, take, map};
-ghost use Rattle.chart_term.specs.NormalForms.{choice_of, only, trail_of, trail_cut};
+ghost use Rattle.chart_term.specs.NormalForms.{choice_of, only, walk_of, walk_cut};
 ghost use Rattle.chart_term.specs.Properties.{Each, MayHave};
 ghost use Rattle.chart_term.specs.Rows.{part_of};
 ghost use Rattle.chart_term.specs.Tables.{net_count, net_of};
-ghost use Rattle.chart_term.specs.Terms.{Turns, trees, row_of, ◌∪◌};
+ghost use Rattle.chart_term.specs.Terms.{Loop, trees, row_of, ◌∪◌};
 ghost use Rattle.hmsc_graph.specs.Nets.{size_of};
 ghost use Rattle.hmsc_graph.specs.Spots.{spot_of, goal_of, IsSpotBelow, IsGoalBelow};
 ghost use Rattle.permit_step.specs.Normality.{IsSet};
@@ -19,9 +19,10 @@ use crate::loops::loop_end;
 use crate::passing::{Passable, is_aimed, passes_full};
 use crate::row_end::{RowEnd, is_empty};
 use crate::touch::touched;
-use chart_term::{Look, Nets, RowList, RowPart, Term, TermList, beside, bound, choice, then};
+use chart_term::{Look, Nets, RowList, RowPart, Term, TermList, par, tied, choice, seq};
 use hmsc_graph::{Goal, Spot, has_walk};
-use msc_base::{Block, NoMemory, PairList};
+use bit_sets::Block;
+use msc_base::{NoMemory, PairList};
 use std::alloc::Global;
 
 /// What is left of the term where no event of the block may happen, or None where permission fails.
@@ -60,29 +61,29 @@ fn permit_term(
     }
     match term.look() {
         Look::Nil | Look::Event { .. } => Ok(None),
-        Look::Then(parts) => match permit_all(alloc, nets, parts, block)? {
-            Some(kept) => Ok(Some(then(alloc, kept)?)),
+        Look::Seq(parts) => match permit_all(alloc, nets, parts, block)? {
+            Some(kept) => Ok(Some(seq(alloc, kept)?)),
             None => Ok(None),
         },
-        Look::Beside(parts) => match permit_all(alloc, nets, parts, block)? {
-            Some(kept) => Ok(Some(beside(alloc, kept)?)),
+        Look::Par(parts) => match permit_all(alloc, nets, parts, block)? {
+            Some(kept) => Ok(Some(par(alloc, kept)?)),
             None => Ok(None),
         },
         Look::Choice(parts) => {
             let kept = permit_some(alloc, nets, parts, block)?;
             chosen(alloc, kept)
         }
-        Look::Bound(inner, pairs) => match permit_term(alloc, nets, inner, block)? {
-            Some(kept) => Ok(Some(bound(alloc, kept, copy_pairs(alloc, pairs)?)?)),
+        Look::Tied(inner, pairs) => match permit_term(alloc, nets, inner, block)? {
+            Some(kept) => Ok(Some(tied(alloc, kept, copy_pairs(alloc, pairs)?)?)),
             None => Ok(None),
         },
-        Look::Turns {
+        Look::Loop {
             body,
             lower,
             upper,
             row,
         } => permit_turns(alloc, nets, body, lower, upper, row, block),
-        Look::Trail {
+        Look::Walk {
             net,
             from,
             to,
@@ -171,7 +172,7 @@ fn permit_turns(
 ) -> Result<Option<Term>, NoMemory>
     requires tables { AreReadyTables nets.now.tables }
     requires row { IsReadyLoop nets.now.tables body.now upper row.now }
-    ensures { IfOk result (λ left. left ≡ permitted (permits_of nets.now.tables) (block_of block.now) (Turns body.now lower upper (row_of row.now))) }
+    ensures { IfOk result (λ left. left ≡ permitted (permits_of nets.now.tables) (block_of block.now) (Loop body.now lower upper (row_of row.now))) }
 {
     let all = touched(alloc, nets, body)?;
     let narrow = common(alloc, block, &all)?;
@@ -309,7 +310,7 @@ pub(crate) fn widened_walk(
     requires from { IsSpotBelow (size_of (net_of nets.now.tables net)) from }
     requires to { IsGoalBelow (size_of (net_of nets.now.tables net)) to }
     requires own { IsSet own.now.instances }
-    ensures { IfOk result (λ left. left ≡ trail_of (permits_of nets.now.tables) net (spot_of from) (goal_of to) (own.now.instances ∪ block.now.instances)) }
+    ensures { IfOk result (λ left. left ≡ walk_of (permits_of nets.now.tables) net (spot_of from) (goal_of to) (own.now.instances ∪ block.now.instances)) }
 {
     let wide = widened(alloc, own, block)?;
     let narrow = common(alloc, &wide, nets.spread(net))?;
@@ -332,7 +333,7 @@ pub(crate) fn walk(
     requires from { IsSpotBelow (size_of (net_of nets.now.tables net)) from }
     requires to { IsGoalBelow (size_of (net_of nets.now.tables net)) to }
     requires block { block_of block ≡ only block.instances }
-    ensures { IfOk result (λ left. left ≡ trail_cut (permits_of nets.now.tables) net (spot_of from) (goal_of to) block.instances) }
+    ensures { IfOk result (λ left. left ≡ walk_cut (permits_of nets.now.tables) net (spot_of from) (goal_of to) block.instances) }
 {
     if !is_aimed(to) {
         return Ok(Some(Term::walk_of(alloc, net, from, to, block)?));

@@ -4,7 +4,8 @@ ghost use Rattle.std.specs.Prelude.{Some};
 ghost use Rattle.permit_step.specs.RowRests.{no_rest, turn_before, gap_before};
 
 use chart_term::{Look, RowList, RowPart, Term, TermList};
-use msc_base::{Block, NoMemory};
+use bit_sets::Block;
+use msc_base::NoMemory;
 use std::alloc::Global;
 use std::marker::Model;
 

@@ -4,7 +4,7 @@ ghost use Rattle.chart_term.specs.Properties.{Each};
 ghost use Rattle.chart_term.specs.Tables.{net_count};
 ghost use Rattle.permit_step.specs.Ready.{IsReady, AreReadyTables};
 
-use chart_term::{Nets, Term, TermList, bound, then};
+use chart_term::{Nets, Term, TermList, tied, seq};
 use hmsc_graph::{Net, Shape, ShapeLine, ShapeLines};
 use msc_base::{LabelRef, LabelRefs, Name, NoMemory, Pair, PairList, Place};
 use std::alloc::Global;
@@ -40,7 +40,7 @@ pub(crate) fn row(alloc: Global, first: Term, second: Term) -> Result<Term, NoMe
     requires second { IsReady [] second }
     ensures { IfOk result (λ term. IsReady [] term) }
 {
-    let term = then(alloc, both(alloc, first, second)?)?;
+    let term = seq(alloc, both(alloc, first, second)?)?;
     Ok(term)
 }
 
@@ -52,7 +52,7 @@ pub(crate) fn tied(alloc: Global, inner: Term, first: u32, second: u32) -> Resul
 {
     let mut pairs = PairList::new(alloc);
     pairs.push(Pair { first, second })?;
-    let term = bound(alloc, inner, pairs)?;
+    let term = tied(alloc, inner, pairs)?;
     Ok(term)
 }
 

@@ -14,7 +14,8 @@ use crate::blocks::widened;
 use crate::descent::{child, child_count};
 use crate::found::Found;
 use chart_term::{Event, Look, Nets, Term, TermList};
-use msc_base::{Block, Label, NoMemory};
+use bit_sets::Block;
+use msc_base::{Label, NoMemory};
 use std::alloc::Global;
 
 /// Appends what is left of the term after an event with the label: each such term once. It says whether these are all.
@@ -33,7 +34,7 @@ pub fn after(
     requires term { IsReady nets.now.tables term.now }
     requires most { most < 18446744073709551615 }
     ensures found { IfOk result (λ all. AppendsFound nets.now label.now term.now most out.old out.new all) }
-    ensures front { OnErr result ((found : List Tree) × (out.new ≡ out.old ++ found)) }
+    ensures prefix { OnErr result ((found : List Tree) × (out.new ≡ out.old ++ found)) }
 {
     let Some(number) = nets.label(label) else {
         return Ok(true);

@@ -1,10 +1,11 @@
 ghost use Rattle.std.specs.Prelude.{◌<◌};
 
 use crate::samples::{message, ring_tables};
-use crate::{may_end, permit, trail, turns};
+use crate::{may_end, permit, fresh_loop, fresh_walk};
 use chart_term::{Nets, Term};
 use hmsc_graph::Goal;
-use msc_base::{Block, NoMemory};
+use bit_sets::Block;
+use msc_base::NoMemory;
 use std::alloc::Global;
 use std::test::Fail;
 
@@ -41,7 +42,7 @@ fn other_instance_leaves_a_message(rt: HostRuntime) -> Result<(), Fail> {
 #[tactic(auto, using(crate::proofs::ReadyTerms::ready))]
 fn loop_is(alloc: Global, lower: u64, upper: Option<u64>) -> Result<(bool, bool), NoMemory> {
     let nets = Nets::new(alloc);
-    let term = turns(alloc, &nets, message(alloc)?, lower, upper)?;
+    let term = fresh_loop(alloc, &nets, message(alloc)?, lower, upper)?;
     let ends = may_end(alloc, &nets, &term)?;
     Ok((term.same(&Term::nil(alloc)?), ends))
 }
@@ -72,7 +73,7 @@ fn loop_with_owed_turn_may_not_end(rt: HostRuntime) -> Result<(), Fail> {
 fn walk_ends(alloc: Global, to_end: bool) -> Result<Option<bool>, Fail> {
     let nets = ring_tables(alloc)?;
     let to = if to_end { Goal::End } else { Goal::Any };
-    match trail(alloc, &nets, 0, to)? {
+    match fresh_walk(alloc, &nets, 0, to)? {
         Some(walk) => Ok(Some(may_end(alloc, &nets, &walk)?)),
         None => Ok(None),
     }

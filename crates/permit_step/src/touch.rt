@@ -7,7 +7,8 @@ ghost use Rattle.permit_step.specs.Ready.{IsReady, IsReadyPart, AreReadyParts};
 ghost use Rattle.permit_step.specs.Touching.{net_touch, net_touch_all, net_touch_row, net_touch_part, IsUnion};
 
 use chart_term::{Look, Nets, RowList, RowPart, Term, TermList};
-use msc_base::{Block, NoMemory};
+use bit_sets::Block;
+use msc_base::NoMemory;
 use std::alloc::Global;
 
 /// The instances of the events of the term, of its loop operands and of its nets.
@@ -28,21 +29,21 @@ fn add_nets(nets: &Nets, term: &Term, block: &mut Block) -> Result<(), NoMemory>
     requires { IsReady nets.now.tables term.now }
     ensures { OnOk result (IsUnion block.old.instances (net_touch (spread_of nets.now.tables) term.now) block.new.instances) }
 {
-    if !term.has_trail() {
+    if !term.holds_walk() {
         return Ok(());
     }
     match term.look() {
         Look::Nil => Ok(()),
         Look::Event { .. } => Ok(()),
-        Look::Then(parts) => add_all(nets, parts, block),
-        Look::Beside(parts) => add_all(nets, parts, block),
+        Look::Seq(parts) => add_all(nets, parts, block),
+        Look::Par(parts) => add_all(nets, parts, block),
         Look::Choice(parts) => add_all(nets, parts, block),
-        Look::Bound(inner, _) => add_nets(nets, inner, block),
-        Look::Turns { body, row, .. } => {
+        Look::Tied(inner, _) => add_nets(nets, inner, block),
+        Look::Loop { body, row, .. } => {
             add_nets(nets, body, block)?;
             add_row(nets, row, block)
         }
-        Look::Trail { net, .. } => block.add_instances(nets.spread(net)),
+        Look::Walk { net, .. } => block.add_instances(nets.spread(net)),
     }
 }
 

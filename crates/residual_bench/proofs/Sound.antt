@@ -2,10 +2,10 @@
 use Rattle.std.specs.Prelude.{ℕ, ◌≡◌, ◌<◌, ◌==◌, ◌||◌, ◌&&◌, false, List, [], ◌∷◌, ◌++◌, Option, Some, None, length, refl}
 use Rattle.std.proofs.Common.{ap, sym, ◌∙◌, subst, arith}
 use Rattle.std.proofs.lemmas.Bool.Decides.{nat_tests}
-use Rattle.msc_base.specs.Patterns.{Mode, row, aside}
+use Rattle.msc_base.specs.Patterns.{Mode, seq, par}
 use Rattle.msc_base.specs.declared.label.Pair.{Pair}
 use Rattle.chart_term.specs.NetValues.{NetsValue}
-use Rattle.chart_term.specs.NormalForms.{join_all, choice_of, bound_of}
+use Rattle.chart_term.specs.NormalForms.{join_all, choice_of, tie_of}
 use Rattle.chart_term.specs.Properties.{Each}
 use Rattle.chart_term.specs.Tables.{Tables}
 use Rattle.chart_term.specs.Terms.{TermEvent, Tree, Nil, Event}
@@ -28,8 +28,8 @@ event_sound e l = constructors_keep_soundness.event labels [] e l
 
 first_sound : Sound (message 0 0 1)
 first_sound =
-    constructors_keep_soundness.bound labels [] (join_all row (Event (event 0 0 0) ∷ Event (event 1 1 1) ∷ [])) ((0, 1) ∷ []) tt
-    (constructors_keep_soundness.join labels [] row (Event (event 0 0 0) ∷ Event (event 1 1 1) ∷ []) tt (event_sound (event 0 0 0) (omega arith), (event_sound (event 1 1 1) (omega arith), tt)))
+    constructors_keep_soundness.tied labels [] (join_all seq (Event (event 0 0 0) ∷ Event (event 1 1 1) ∷ [])) ((0, 1) ∷ []) tt
+    (constructors_keep_soundness.join labels [] seq (Event (event 0 0 0) ∷ Event (event 1 1 1) ∷ []) tt (event_sound (event 0 0 0) (omega arith), (event_sound (event 1 1 1) (omega arith), tt)))
     ((tt, (tt, tt)), λ j p. (tt, (tt, tt))) ((tt, (tt, tt)), λ j p s a. message_once (event 0 0 0) (event 1 1 1) (λ q. omega arith) j s a) (λ j. not_self j) first_orders
   where
     not_self : (j : ℕ) → (((j == 0) && (j == 1)) || false) ≡ false
@@ -37,8 +37,8 @@ first_sound =
 
 second_sound : Sound (message 2 1 0)
 second_sound =
-    constructors_keep_soundness.bound labels [] (join_all row (Event (event 2 1 2) ∷ Event (event 3 0 3) ∷ [])) ((2, 3) ∷ []) tt
-    (constructors_keep_soundness.join labels [] row (Event (event 2 1 2) ∷ Event (event 3 0 3) ∷ []) tt (event_sound (event 2 1 2) (omega arith), (event_sound (event 3 0 3) (omega arith), tt)))
+    constructors_keep_soundness.tied labels [] (join_all seq (Event (event 2 1 2) ∷ Event (event 3 0 3) ∷ [])) ((2, 3) ∷ []) tt
+    (constructors_keep_soundness.join labels [] seq (Event (event 2 1 2) ∷ Event (event 3 0 3) ∷ []) tt (event_sound (event 2 1 2) (omega arith), (event_sound (event 3 0 3) (omega arith), tt)))
     ((tt, (tt, tt)), λ j p. (tt, (tt, tt))) ((tt, (tt, tt)), λ j p s a. message_once (event 2 1 2) (event 3 0 3) (λ q. omega arith) j s a) (λ j. not_self j) second_orders
   where
     not_self : (j : ℕ) → (((j == 2) && (j == 3)) || false) ≡ false
@@ -46,8 +46,8 @@ second_sound =
 
 third_sound : Sound (message 4 1 0)
 third_sound =
-    constructors_keep_soundness.bound labels [] (join_all row (Event (event 4 1 4) ∷ Event (event 5 0 5) ∷ [])) ((4, 5) ∷ []) tt
-    (constructors_keep_soundness.join labels [] row (Event (event 4 1 4) ∷ Event (event 5 0 5) ∷ []) tt (event_sound (event 4 1 4) (omega arith), (event_sound (event 5 0 5) (omega arith), tt)))
+    constructors_keep_soundness.tied labels [] (join_all seq (Event (event 4 1 4) ∷ Event (event 5 0 5) ∷ [])) ((4, 5) ∷ []) tt
+    (constructors_keep_soundness.join labels [] seq (Event (event 4 1 4) ∷ Event (event 5 0 5) ∷ []) tt (event_sound (event 4 1 4) (omega arith), (event_sound (event 5 0 5) (omega arith), tt)))
     ((tt, (tt, tt)), λ j p. (tt, (tt, tt))) ((tt, (tt, tt)), λ j p s a. message_once (event 4 1 4) (event 5 0 5) (λ q. omega arith) j s a) (λ j. not_self j) third_orders
   where
     not_self : (j : ℕ) → (((j == 4) && (j == 5)) || false) ≡ false
@@ -58,8 +58,8 @@ answer_sound = constructors_keep_soundness.choice labels [] (message 2 1 0) (mes
 
 exchange_sound : Sound exchange
 exchange_sound =
-    constructors_keep_soundness.bound labels [] (join_all row (Event (event 0 0 0) ∷ Event (event 1 1 1) ∷ answer ∷ [])) ((0, 1) ∷ []) tt
-    (constructors_keep_soundness.join labels [] row (Event (event 0 0 0) ∷ Event (event 1 1 1) ∷ answer ∷ []) tt (event_sound (event 0 0 0) (omega arith), (event_sound (event 1 1 1) (omega arith), (answer_sound, tt))))
+    constructors_keep_soundness.tied labels [] (join_all seq (Event (event 0 0 0) ∷ Event (event 1 1 1) ∷ answer ∷ [])) ((0, 1) ∷ []) tt
+    (constructors_keep_soundness.join labels [] seq (Event (event 0 0 0) ∷ Event (event 1 1 1) ∷ answer ∷ []) tt (event_sound (event 0 0 0) (omega arith), (event_sound (event 1 1 1) (omega arith), (answer_sound, tt))))
     ((tt, (tt, (answer_sound.sound.outside, tt))), λ j p. (tt, (tt, (((tt, (tt, tt)), ((tt, (tt, tt)), tt)), tt)))) ((tt, (tt, (answer_sound.sound.once, tt))), λ j p s a. exchange_once j p s a) (λ j. not_self j) exchange_orders
   where
     not_self : (j : ℕ) → (((j == 0) && (j == 1)) || false) ≡ false
@@ -67,8 +67,8 @@ exchange_sound =
 
 pub ordered_sound : Sound ordered
 ordered_sound =
-    constructors_keep_soundness.bound labels [] (join_all aside (Event (event 0 0 6) ∷ Event (event 1 0 6) ∷ Event (event 2 0 7) ∷ [])) ((1, 2) ∷ []) tt
-    (constructors_keep_soundness.join labels [] aside (Event (event 0 0 6) ∷ Event (event 1 0 6) ∷ Event (event 2 0 7) ∷ []) tt (event_sound (event 0 0 6) (omega arith), (event_sound (event 1 0 6) (omega arith), (event_sound (event 2 0 7) (omega arith), tt))))
+    constructors_keep_soundness.tied labels [] (join_all par (Event (event 0 0 6) ∷ Event (event 1 0 6) ∷ Event (event 2 0 7) ∷ [])) ((1, 2) ∷ []) tt
+    (constructors_keep_soundness.join labels [] par (Event (event 0 0 6) ∷ Event (event 1 0 6) ∷ Event (event 2 0 7) ∷ []) tt (event_sound (event 0 0 6) (omega arith), (event_sound (event 1 0 6) (omega arith), (event_sound (event 2 0 7) (omega arith), tt))))
     ((tt, (tt, (tt, tt))), λ j p. (tt, (tt, (tt, tt)))) ((tt, (tt, (tt, tt))), λ j p s a. three_once j p s a) (λ j. not_self j) three_orders
   where
     not_self : (j : ℕ) → (((j == 1) && (j == 2)) || false) ≡ false
@@ -88,23 +88,23 @@ pub sound_message : (x : Tree) → x ≡ message 0 0 1 → Sound x
 sound_message x q = subst Sound (sym q) first_sound
 
 -- a tie around three parts
-tied_three : (m : Mode) (x y a b c k l n : Tree) (xs : List Tree) (p : List (ℕ × ℕ)) → xs ≡ a ∷ b ∷ c ∷ [] → a ≡ k → b ≡ l → c ≡ n → y ≡ join_all m xs → x ≡ bound_of y p
-    → x ≡ bound_of (join_all m (k ∷ l ∷ n ∷ [])) p
-tied_three m x y a b c k l n xs p q r s t u v = v ∙ ap (λ z. bound_of z p) (u ∙ ap (join_all m) (q ∙ (λ i. r i ∷ s i ∷ t i ∷ [])))
+tied_three : (m : Mode) (x y a b c k l n : Tree) (xs : List Tree) (p : List (ℕ × ℕ)) → xs ≡ a ∷ b ∷ c ∷ [] → a ≡ k → b ≡ l → c ≡ n → y ≡ join_all m xs → x ≡ tie_of y p
+    → x ≡ tie_of (join_all m (k ∷ l ∷ n ∷ [])) p
+tied_three m x y a b c k l n xs p q r s t u v = v ∙ ap (λ z. tie_of z p) (u ∙ ap (join_all m) (q ∙ (λ i. r i ∷ s i ∷ t i ∷ [])))
 
 pub sound_exchange : (x y a b c : Tree) (xs : List Tree) → xs ≡ a ∷ b ∷ c ∷ [] → a ≡ Event (event 0 0 0) → b ≡ Event (event 1 1 1) → c ≡ answer
-    → y ≡ join_all row xs → x ≡ bound_of y ((0, 1) ∷ []) → Sound x
-sound_exchange x y a b c xs q r s t u v = subst Sound (sym (tied_three row x y a b c _ _ _ xs ((0, 1) ∷ []) q r s t u v)) exchange_sound
+    → y ≡ join_all seq xs → x ≡ tie_of y ((0, 1) ∷ []) → Sound x
+sound_exchange x y a b c xs q r s t u v = subst Sound (sym (tied_three seq x y a b c _ _ _ xs ((0, 1) ∷ []) q r s t u v)) exchange_sound
 
 pub sound_ordered : (x y a b c : Tree) (xs : List Tree) → xs ≡ a ∷ b ∷ c ∷ [] → a ≡ Event (event 0 0 6) → b ≡ Event (event 1 0 6) → c ≡ Event (event 2 0 7)
-    → y ≡ join_all aside xs → x ≡ bound_of y ((1, 2) ∷ []) → Sound x
-sound_ordered x y a b c xs q r s t u v = subst Sound (sym (tied_three aside x y a b c _ _ _ xs ((1, 2) ∷ []) q r s t u v)) ordered_sound
+    → y ≡ join_all par xs → x ≡ tie_of y ((1, 2) ∷ []) → Sound x
+sound_ordered x y a b c xs q r s t u v = subst Sound (sym (tied_three par x y a b c _ _ _ xs ((1, 2) ∷ []) q r s t u v)) ordered_sound
 
 pub sound_event : (x : Tree) (n i a : ℕ) → x ≡ Event (event n i a) → a < labels → Sound x
 sound_event x n i a q l = subst Sound (sym q) (event_sound (event n i a) l)
 
 pub sound_nil : (x : Tree) → x ≡ Nil → Sound x
-sound_nil x q = subst Sound (sym q) (constructors_keep_soundness.join labels [] row [] tt tt)
+sound_nil x q = subst Sound (sym q) (constructors_keep_soundness.join labels [] seq [] tt tt)
 
 pub sound_two : (xs : List Tree) (x y : Tree) → xs ≡ x ∷ y ∷ [] → Sound x → Sound y → Each Sound xs
 sound_two xs x y q h i = subst (Each Sound) (sym q) (h, (i, tt))

@@ -1,15 +1,15 @@
 //! The charts that are measured, as terms over one table of labels.
 ghost use Rattle.std.specs.Prelude.{◌≡◌, ◌<◌, ◌+◌, [], ◌∷◌, length, IfOk, OnOk};
-ghost use Rattle.chart_term.specs.NormalForms.{bound_of};
+ghost use Rattle.chart_term.specs.NormalForms.{tie_of};
 ghost use Rattle.chart_term.specs.Properties.{Each};
 ghost use Rattle.chart_term.specs.Terms.{Event as EventTree};
 ghost use Rattle.permit_step.specs.FullSoundness.{IsSoundNode};
 ghost use Rattle.residual_bench.specs.Charts.{labels, event, message, answer, exchange, ordered};
 
 use crate::fault::Fault;
-use chart_term::{Nets, Term, TermList, beside, bound, choice, then};
+use chart_term::{Nets, Term, TermList, par, tied, choice, seq};
 use msc_base::{Far, Kind, Label, Name, NoMemory, Pair, PairList, Text};
-use permit_step::turns;
+use permit_step::fresh_loop;
 use std::alloc::Global;
 
 /// How many labels the charts have.
@@ -134,11 +134,11 @@ fn three(alloc: Global, first: Term, second: Term, third: Term) -> Result<TermLi
 /// The term, in which the event of the first number comes before that of the second.
 #[tactic(auto, using(crate::proofs::Sound::tie_rules))]
 fn tied(alloc: Global, inner: Term, first: u32, second: u32) -> Result<Term, NoMemory>
-    ensures { IfOk result (λ term. term ≡ bound_of inner ((first, second) ∷ [])) }
+    ensures { IfOk result (λ term. term ≡ tie_of inner ((first, second) ∷ [])) }
 {
     let mut pairs = PairList::new(alloc);
     pairs.push(Pair { first, second })?;
-    let term = bound(alloc, inner, pairs)?;
+    let term = tied(alloc, inner, pairs)?;
     Ok(term)
 }
 
@@ -151,7 +151,7 @@ fn message(alloc: Global, number: u32, from: u32, to: u32) -> Result<Term, NoMem
 {
     let output = event(alloc, number, from, number)?;
     let input = event(alloc, number + 1, to, number + 1)?;
-    let row = then(alloc, two(alloc, output, input)?)?;
+    let row = seq(alloc, two(alloc, output, input)?)?;
     tied(alloc, row, number, number + 1)
 }
 
@@ -174,7 +174,7 @@ fn exchange(alloc: Global) -> Result<Term, NoMemory>
     let input = event(alloc, 1, 1, 1)?;
     let answer = answer(alloc)?;
     let parts = three(alloc, output, input, answer)?;
-    let row = then(alloc, parts)?;
+    let row = seq(alloc, parts)?;
     let term = tied(alloc, row, 0, 1)?;
     Ok(term)
 }
@@ -186,7 +186,7 @@ fn endless(alloc: Global, body: Term) -> Result<Term, NoMemory>
     ensures { IfOk result (λ term. IsSoundNode labels [] term) }
 {
     let nets = Nets::new(alloc);
-    let term = turns(alloc, &nets, body, 1, None)?;
+    let term = fresh_loop(alloc, &nets, body, 1, None)?;
     Ok(term)
 }
 
@@ -214,7 +214,7 @@ pub(crate) fn ordered(alloc: Global) -> Result<Term, NoMemory>
     let second = event(alloc, 1, 0, ACTION)?;
     let third = event(alloc, 2, 0, OTHER_ACTION)?;
     let parts = three(alloc, first, second, third)?;
-    let all = beside(alloc, parts)?;
+    let all = par(alloc, parts)?;
     let term = tied(alloc, all, 1, 2)?;
     Ok(term)
 }
@@ -236,7 +236,7 @@ fn in_row(alloc: Global, first: Term, second: Term) -> Result<Term, NoMemory>
     ensures { IfOk result (λ term. IsSoundNode labels [] term) }
 {
     let parts = two(alloc, first, second)?;
-    let term = then(alloc, parts)?;
+    let term = seq(alloc, parts)?;
     Ok(term)
 }
 
@@ -270,7 +270,7 @@ pub(crate) fn coregion(alloc: Global, count: u32) -> Result<Term, NoMemory>
     ensures { IfOk result (λ term. IsSoundNode labels [] term) }
 {
     let parts = singles(alloc, count, 0, ACTION)?;
-    let term = beside(alloc, parts)?;
+    let term = par(alloc, parts)?;
     Ok(term)
 }
 
@@ -281,7 +281,7 @@ fn repeated(alloc: Global, count: u32, at: u32, label: u32) -> Result<Term, NoMe
     ensures { IfOk result (λ term. IsSoundNode labels [] term) }
 {
     let parts = singles(alloc, count, at, label)?;
-    let term = then(alloc, parts)?;
+    let term = seq(alloc, parts)?;
     Ok(term)
 }
 
@@ -313,7 +313,7 @@ pub(crate) fn choices(alloc: Global, count: u32) -> Result<Term, NoMemory>
     ensures { IfOk result (λ term. IsSoundNode labels [] term) }
 {
     let parts = choice_list(alloc, count)?;
-    let term = then(alloc, parts)?;
+    let term = seq(alloc, parts)?;
     Ok(term)
 }
 
@@ -355,7 +355,7 @@ fn beside_actions(alloc: Global, inner: Term) -> Result<Term, NoMemory>
     let first = single(alloc, 1, 0, ACTION)?;
     let second = single(alloc, 2, 0, ACTION)?;
     let parts = three(alloc, inner, first, second)?;
-    let term = beside(alloc, parts)?;
+    let term = par(alloc, parts)?;
     Ok(term)
 }
 

@@ -1,12 +1,12 @@
--- Fronts of lists.
+-- Prefixes of lists.
 use Rattle.std.specs.Prelude.{◌≡◌, List, [], ◌∷◌, ◌++◌, map, refl}
 use Rattle.std.proofs.Common.{ap, sym}
 
 module _ {A : Type 0} where
-  -- of a list with one more at its end: the whole, or a front of the list
-  pub data IsCutAt (xs : List A) (x : A) (front back : List A) : Type 0 where
-    whole : front ≡ xs ++ x ∷ [] → back ≡ [] → IsCutAt xs x front back
-    within : (rest : List A) → xs ≡ front ++ rest → back ≡ rest ++ x ∷ [] → IsCutAt xs x front back
+  -- of a list with one more at its end: the whole, or a prefix of the list
+  pub data IsCutAt (xs : List A) (x : A) (prefix back : List A) : Type 0 where
+    whole : prefix ≡ xs ++ x ∷ [] → back ≡ [] → IsCutAt xs x prefix back
+    within : (rest : List A) → xs ≡ prefix ++ rest → back ≡ rest ++ x ∷ [] → IsCutAt xs x prefix back
 
   tail_is : (x y : A) (xs ys : List A) → x ∷ xs ≡ y ∷ ys → xs ≡ ys
   tail_is x y xs ys e = cc
@@ -17,7 +17,7 @@ module _ {A : Type 0} where
   pub both_are : (x y : A) (xs ys : List A) → x ≡ y → xs ≡ ys → x ∷ xs ≡ y ∷ ys
   both_are x y xs ys p q = λ i. p i ∷ q i
 
-  pub cut_at : (xs : List A) (x : A) (front back : List A) → xs ++ x ∷ [] ≡ front ++ back → IsCutAt xs x front back
+  pub cut_at : (xs : List A) (x : A) (prefix back : List A) → xs ++ x ∷ [] ≡ prefix ++ back → IsCutAt xs x prefix back
   cut_at xs x [] back e = within xs refl (sym e)
   cut_at [] x (f ∷ []) [] e = whole (sym e) refl
   cut_at [] x (f ∷ []) (b ∷ bs) e = cc
@@ -31,7 +31,7 @@ module _ {A : Type 0} where
       later (whole q r) = whole (both_are f y fs (xs ++ x ∷ []) (sym p) q) r
       later (within rest q r) = within rest (both_are y f xs (fs ++ rest) p q) r
 
-  -- of two fronts of a list the first is a front of the second, or the second one of the first, and shorter
+  -- of two prefixes of a list the first is a prefix of the second, or the second one of the first, and shorter
   pub data AreOrdered (f g : List A) : Type 0 where
     first : (rest : List A) → g ≡ f ++ rest → AreOrdered f g
     second : (x : A) (rest : List A) → f ≡ g ++ x ∷ rest → AreOrdered f g
@@ -48,7 +48,7 @@ module _ {A : Type 0} where
       more (first rest q) = first rest (both_are y x g (f ++ rest) (sym p) q)
       more (second z rest q) = second z rest (both_are x y f (g ++ z ∷ rest) p q)
 
-  -- lists with one front go on in the same way
+  -- lists with one prefix go on in the same way
   pub same_rest : (f b c : List A) → f ++ b ≡ f ++ c → b ≡ c
   same_rest [] b c e = e
   same_rest (x ∷ f) b c e = same_rest f b c (tail_is x x (f ++ b) (f ++ c) e)

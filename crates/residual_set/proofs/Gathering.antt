@@ -116,7 +116,7 @@ at_among [] i x e = cc
 at_among (y ∷ ys) zero x e = inl cc
 at_among (y ∷ ys) (suc i) x e = inr (at_among ys i x e)
 
--- one more of the front of a list
+-- one more of the prefix of a list
 
 suc_among : (xs : List Tree) (i : ℕ) (x y : Tree) → slice_get xs i ≡ Some x → IsAmong y (take (suc i) xs) → (x ≡ y) ⊎ IsAmong y (take i xs)
 suc_among [] i x y e h = cc

@@ -1,4 +1,4 @@
-mod Fronts
+mod Prefixes
 mod Lists
 mod Lefts
 mod SetLaws

@@ -1,7 +1,7 @@
 -- Terms of the tests are sound.
 use Rattle.std.specs.Prelude.{ℕ, ◌≡◌, ◌<◌, List, [], ◌∷◌, ◌++◌, length}
 use Rattle.std.proofs.Common.{ap, sym, ◌∙◌, subst}
-use Rattle.msc_base.specs.Patterns.{row, aside}
+use Rattle.msc_base.specs.Patterns.{seq, par}
 use Rattle.msc_base.specs.declared.label.Label.{Label}
 use Rattle.chart_term.specs.NetValues.{NetsValue}
 use Rattle.chart_term.specs.NormalForms.{join_all}
@@ -15,8 +15,8 @@ use Rattle.residual_set.specs.Sets.{IsSoundFor}
 pub sound_event : (x : Tree) (e : TermEvent) → x ≡ Event e → e.label < 2 → IsSoundNode 2 [] x
 sound_event x e q l = subst (IsSoundNode 2 []) (sym q) (constructors_keep_soundness.event 2 [] e l)
 
-pub sound_aside : (x : Tree) (xs : List Tree) → x ≡ join_all aside xs → Each (IsSoundNode 2 []) xs → IsSoundNode 2 [] x
-sound_aside x xs q h = subst (IsSoundNode 2 []) (sym q) (constructors_keep_soundness.join 2 [] aside xs tt h)
+pub sound_aside : (x : Tree) (xs : List Tree) → x ≡ join_all par xs → Each (IsSoundNode 2 []) xs → IsSoundNode 2 [] x
+sound_aside x xs q h = subst (IsSoundNode 2 []) (sym q) (constructors_keep_soundness.join 2 [] par xs tt h)
 
 pub each_more : (xs ys : List Tree) (x : Tree) → ys ≡ xs ++ x ∷ [] → Each (IsSoundNode 2 []) xs → IsSoundNode 2 [] x → Each (IsSoundNode 2 []) ys
 each_more xs ys x q h i = subst (Each (IsSoundNode 2 [])) (sym q) (go xs h)
@@ -38,6 +38,6 @@ two_labels o p q a b d e f =
     ap (λ (m : List Label). length m) l
 
 pub sound_nil : (v : NetsValue) (x : Tree) → v ≡ record { labels = []; tables = [] } → x ≡ Nil → IsSoundFor v x
-sound_nil v x p q = subst (λ (w : NetsValue). IsSoundFor w x) (sym p) (subst (IsFullySound 0 []) (sym q) (record { nets = tt; term = (constructors_keep_soundness.join 0 [] row [] tt tt).sound }))
+sound_nil v x p q = subst (λ (w : NetsValue). IsSoundFor w x) (sym p) (subst (IsFullySound 0 []) (sym q) (record { nets = tt; term = (constructors_keep_soundness.join 0 [] seq [] tt tt).sound }))
 
 pub ruleset samples = (sound_event, sound_aside, each_more, each_none, sound_here, two_labels, sound_nil)

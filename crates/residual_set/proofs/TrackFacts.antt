@@ -15,7 +15,7 @@ use Rattle.residual_set.specs.Tracks.{TrackValue, IsGoing, IsSettled, Stands, Fe
 use Rattle.residual_set.specs.Advances.{Advances, settled, risen}
 use Rattle.residual_set.specs.declared.advance.Outcome.{Outcome}
 use Rattle.residual_set.specs.declared.advance.Outcome.TheVariants.{Goes, Empties, Passes}
-use Rattle.residual_set.proofs.Fronts.{IsCutAt, whole, within, cut_at, ends_empty, map_more}
+use Rattle.residual_set.proofs.Prefixes.{IsCutAt, whole, within, cut_at, ends_empty, map_more}
 use Rattle.residual_set.proofs.SetLaws.{set_start, set_step, set_weighs}
 use Rattle.residual_set.proofs.VerdictLaws.{front_left, not_both}
 
@@ -55,10 +55,10 @@ module _ (v : NetsValue) (x : Tree) (budget : ℕ) where
     lasts : (verdict : Verdict) → IsSettled v x budget events verdict → IsSettled v x budget (events ++ e ∷ []) verdict
     lasts (Conforms n) h = h
     lasts (Fails n k) h = record {
-      front = h.front;
+      prefix = h.prefix;
       at = h.at;
       back = h.back ++ e ∷ [];
-      are = ap (λ (l : List LoggedEvent). l ++ e ∷ []) h.are ∙ append_assoc h.front (h.at ∷ h.back) (e ∷ []);
+      are = ap (λ (l : List LoggedEvent). l ++ e ∷ []) h.are ∙ append_assoc h.prefix (h.at ∷ h.back) (e ∷ []);
       number_is = h.number_is;
       line_is = h.line_is;
       within = h.within;
@@ -67,9 +67,9 @@ module _ (v : NetsValue) (x : Tree) (budget : ℕ) where
     }
     lasts (Early n) h = h
     lasts (TooLarge n) h = record {
-      front = h.front;
+      prefix = h.prefix;
       back = h.back ++ e ∷ [];
-      are = ap (λ (l : List LoggedEvent). l ++ e ∷ []) h.are ∙ append_assoc h.front h.back (e ∷ []);
+      are = ap (λ (l : List LoggedEvent). l ++ e ∷ []) h.are ∙ append_assoc h.prefix h.back (e ∷ []);
       number_is = h.number_is;
       within = h.within;
       above = h.above;
@@ -77,26 +77,26 @@ module _ (v : NetsValue) (x : Tree) (budget : ℕ) where
 
     -- the largest weight, where what is left after one event more weighs no more, or isn't looked at
     largest_lasts : (n : ℕ) → IsLargest v x budget events n → ((m : ℕ) → Weighs v x budget (events ++ e ∷ []) m → m ≤ n) → IsLargest v x budget (events ++ e ∷ []) n
-    largest_lasts n h f = record { reached = reach h.reached; bound = λ front back m q w. bound front back m w (cut_at events e front back q) }
+    largest_lasts n h f = record { reached = reach h.reached; bound = λ prefix back m q w. bound prefix back m w (cut_at events e prefix back q) }
       where
         reach : IsReached v x budget events n → IsReached v x budget (events ++ e ∷ []) n
-        reach (by_front front back q w) = by_front front (back ++ e ∷ []) (ap (λ (l : List LoggedEvent). l ++ e ∷ []) q ∙ append_assoc front back (e ∷ [])) w
+        reach (by_front prefix back q w) = by_front prefix (back ++ e ∷ []) (ap (λ (l : List LoggedEvent). l ++ e ∷ []) q ∙ append_assoc prefix back (e ∷ [])) w
         reach (by_none a z) = by_none a z
 
-        bound : (front back : List LoggedEvent) (m : ℕ) → Weighs v x budget front m → IsCutAt events e front back → m ≤ n
-        bound front back m w (whole q r) = f m (subst (λ (g : List LoggedEvent). Weighs v x budget g m) q w)
-        bound front back m w (within rest q r) = h.bound front rest m q w
+        bound : (prefix back : List LoggedEvent) (m : ℕ) → Weighs v x budget prefix m → IsCutAt events e prefix back → m ≤ n
+        bound prefix back m w (whole q r) = f m (subst (λ (g : List LoggedEvent). Weighs v x budget g m) q w)
+        bound prefix back m w (within rest q r) = h.bound prefix rest m q w
 
     -- one event more
     within_more : AreWithin v x budget events → IsWithin v x budget (labels_of (events ++ e ∷ [])) → AreWithin v x budget (events ++ e ∷ [])
-    within_more h i front back q = go (cut_at events e front back q)
+    within_more h i prefix back q = go (cut_at events e prefix back q)
       where
-        go : IsCutAt events e front back → IsWithin v x budget (labels_of front)
+        go : IsCutAt events e prefix back → IsWithin v x budget (labels_of prefix)
         go (whole p r) = subst (λ (g : List LoggedEvent). IsWithin v x budget (labels_of g)) (sym p) i
-        go (within rest p r) = h front rest p
+        go (within rest p r) = h prefix rest p
 
     largest_rises : (n m : ℕ) → IsLargest v x budget events n → Weighs v x budget (events ++ e ∷ []) m → IsLargest v x budget (events ++ e ∷ []) (max n m)
-    largest_rises n m h w = record { reached = reach h.reached; bound = λ front back k q u. bound front back k u (cut_at events e front back q) }
+    largest_rises n m h w = record { reached = reach h.reached; bound = λ prefix back k q u. bound prefix back k u (cut_at events e prefix back q) }
       where
         which : (max n m ≡ n) ⊎ (max n m ≡ m)
         which = elim (cases_lt n m) [ inl l ↦ inr (omega arith) | inr l ↦ inl (omega arith) ]
@@ -105,14 +105,14 @@ module _ (v : NetsValue) (x : Tree) (budget : ℕ) where
         reach r = elim which [ inl p ↦ old p r | inr p ↦ by_front (events ++ e ∷ []) [] (sym (ends_empty (events ++ e ∷ []))) (record { within = w.within; set = w.set; are = w.are; is = p ∙ w.is }) ]
           where
             old : max n m ≡ n → IsReached v x budget events n → IsReached v x budget (events ++ e ∷ []) (max n m)
-            old p (by_front front back q u) = by_front front (back ++ e ∷ []) (ap (λ (l : List LoggedEvent). l ++ e ∷ []) q ∙ append_assoc front back (e ∷ [])) (record { within = u.within; set = u.set; are = u.are; is = p ∙ u.is })
+            old p (by_front prefix back q u) = by_front prefix (back ++ e ∷ []) (ap (λ (l : List LoggedEvent). l ++ e ∷ []) q ∙ append_assoc prefix back (e ∷ [])) (record { within = u.within; set = u.set; are = u.are; is = p ∙ u.is })
             old p (by_none a z) = by_none a (p ∙ z)
 
-        bound : (front back : List LoggedEvent) (k : ℕ) → Weighs v x budget front k → IsCutAt events e front back → k ≤ max n m
-        bound front back k u (whole q r) =
+        bound : (prefix back : List LoggedEvent) (k : ℕ) → Weighs v x budget prefix k → IsCutAt events e prefix back → k ≤ max n m
+        bound prefix back k u (whole q r) =
             let s = set_weighs v x (labels_of (events ++ e ∷ [])) u.set w.set (subst (λ (g : List LoggedEvent). AreResiduals v x (labels_of g) u.set) q u.are) w.are in
             omega (arith, u.is, w.is, s)
-        bound front back k u (within rest q r) = omega (arith, h.bound front rest k q u)
+        bound prefix back k u (within rest q r) = omega (arith, h.bound prefix rest k q u)
 
     -- after a settled verdict nothing more is weighed
     settled_largest : (n : ℕ) (verdict : Verdict) → IsSettled v x budget events verdict → IsLargest v x budget events n → IsLargest v x budget (events ++ e ∷ []) n
@@ -121,14 +121,14 @@ module _ (v : NetsValue) (x : Tree) (budget : ℕ) where
       where
         gone : HasLeft v x (events ++ e ∷ []) → ⊥
         gone i =
-            let q : events ++ e ∷ [] ≡ (s.front ++ s.at ∷ []) ++ (s.back ++ e ∷ []) = ap (λ (l : List LoggedEvent). l ++ e ∷ []) (s.are ∙ sym (append_assoc s.front (s.at ∷ []) s.back)) ∙ append_assoc (s.front ++ s.at ∷ []) s.back (e ∷ []) in
-            s.nothing (front_left v x (s.front ++ s.at ∷ []) (s.back ++ e ∷ []) (subst (HasLeft v x) q i))
+            let q : events ++ e ∷ [] ≡ (s.prefix ++ s.at ∷ []) ++ (s.back ++ e ∷ []) = ap (λ (l : List LoggedEvent). l ++ e ∷ []) (s.are ∙ sym (append_assoc s.prefix (s.at ∷ []) s.back)) ∙ append_assoc (s.prefix ++ s.at ∷ []) s.back (e ∷ []) in
+            s.nothing (front_left v x (s.prefix ++ s.at ∷ []) (s.back ++ e ∷ []) (subst (HasLeft v x) q i))
 
         nothing : (m : ℕ) (w : Weighs v x budget (events ++ e ∷ []) m) (set : List Tree) → AreResiduals v x (labels_of (events ++ e ∷ [])) set → w.set ≡ set → m ≤ n
         nothing m w [] r q = let z : set_weight w.set ≡ 0 = ap set_weight q in omega (arith, w.is)
         nothing m w (y ∷ ys) r q = absurd (gone (record { term = y; left = (r.exact y).to (inl refl) }))
     settled_largest n (Early k) s h = absurd s
-    settled_largest n (TooLarge k) s h = largest_lasts n h (λ m w. absurd (not_both v x budget (labels_of s.front) (w.within s.front (s.back ++ e ∷ []) (ap (λ (l : List LoggedEvent). l ++ e ∷ []) s.are ∙ append_assoc s.front s.back (e ∷ []))) s.above))
+    settled_largest n (TooLarge k) s h = largest_lasts n h (λ m w. absurd (not_both v x budget (labels_of s.prefix) (w.within s.prefix (s.back ++ e ∷ []) (ap (λ (l : List LoggedEvent). l ++ e ∷ []) s.are ∙ append_assoc s.prefix s.back (e ∷ []))) s.above))
 
   -- what the events leave
   set_left : (events : List LoggedEvent) (set : List Tree) → AreResiduals v x (labels_of events) set → (set ≡ [] → ⊥) → HasLeft v x events
@@ -156,7 +156,7 @@ module _ {S : Type 0} (holds : S → SetValue) (v : NetsValue) (x : Tree) (budge
   new_large t h l e = subst (Fed holds v x budget []) (sym e) (record {
     sound = h;
     count = refl;
-    stands = record { front = []; back = []; are = refl; number_is = refl; within = λ f at b q. absurd (no_event f at b q); above = start_above v x budget l };
+    stands = record { prefix = []; back = []; are = refl; number_is = refl; within = λ f at b q. absurd (no_event f at b q); above = start_above v x budget l };
     without = record { to = λ z. l; from = λ z. refl };
     largest = above_largest v x budget l;
   })
@@ -213,7 +213,7 @@ module _ {S : Type 0} (holds : S → SetValue) (v : NetsValue) (x : Tree) (budge
         stand : (o : Outcome) → Advances v e.label (holds s) (holds t) o → Stands holds v x budget (events ++ e ∷ []) (Some t) (settled o (old.events + 1) e.line)
         stand (Goes n) h = record { small = h.0.stays_small; budget_is = h.0.same_budget ∙ g.budget_is; are = next_are (holds s) (holds t) g h.0; some = h.1.0; within = next_within (holds s) (holds t) g h.0 }
         stand Empties h = record {
-          front = events;
+          prefix = events;
           at = e;
           back = [];
           are = refl;
@@ -224,17 +224,17 @@ module _ {S : Type 0} (holds : S → SetValue) (v : NetsValue) (x : Tree) (budge
           nothing = set_gone v x budget (events ++ e ∷ []) (holds t).terms (next_are (holds s) (holds t) g h.0) h.1;
         }
         stand Passes h = record {
-          front = events ++ e ∷ [];
+          prefix = events ++ e ∷ [];
           back = [];
           are = sym (ends_empty (events ++ e ∷ []));
           number_is = counted old (old.events + 1) f refl;
-          within = λ front at back z. before front at back (cut_at events e front (at ∷ back) z);
+          within = λ prefix at back z. before prefix at back (cut_at events e prefix (at ∷ back) z);
           above = passed h.why;
         }
           where
-            before : (front : List LoggedEvent) (at : LoggedEvent) (back : List LoggedEvent) → IsCutAt events e front (at ∷ back) → IsWithin v x budget (labels_of front)
-            before front at back (whole z y) = cc
-            before front at back (within rest z y) = g.within front rest z
+            before : (prefix : List LoggedEvent) (at : LoggedEvent) (back : List LoggedEvent) → IsCutAt events e prefix (at ∷ back) → IsWithin v x budget (labels_of prefix)
+            before prefix at back (whole z y) = cc
+            before prefix at back (within rest z y) = g.within front rest z
 
             passed : ((holds s).too_large ≡ true) ⊎ PassBudget v e.label (holds s).terms (holds s).budget → IsAbove v x budget (labels_of (events ++ e ∷ []))
             passed (inl z) = let bad : false ≡ true = sym g.small ∙ z in cc

@@ -15,12 +15,12 @@ impl Term {
         match &node.form {
             Form::Nil => true,
             Form::Event(event) => nets.has_label(event.label),
-            Form::Then(parts) => parts.fit(nets),
-            Form::Beside(parts) => parts.fit(nets),
+            Form::Seq(parts) => parts.fit(nets),
+            Form::Par(parts) => parts.fit(nets),
             Form::Choice(parts) => parts.fit(nets),
-            Form::Bound(inner, _) => inner.fits(nets),
-            Form::Turns(body, _, _, row) => body.fits(nets) && row.fit(nets),
-            Form::Trail(net, from, to, _) => nets.has_ends(*net, *from, *to),
+            Form::Tied(inner, _) => inner.fits(nets),
+            Form::Loop(body, _, _, row) => body.fits(nets) && row.fit(nets),
+            Form::Walk(net, from, to, _) => nets.has_ends(*net, *from, *to),
         }
     }
 }

@@ -17,16 +17,16 @@ impl Term {
     {
         let node: &Node = &self.node;
         match &node.form {
-            Form::Nil | Form::Trail(_, _, _, _) => Ok(()),
+            Form::Nil | Form::Walk(_, _, _, _) => Ok(()),
             Form::Event(event) => {
                 found.insert(event.number)?;
                 Ok(())
             }
-            Form::Then(parts) => parts.add_numbers(found),
-            Form::Beside(parts) => parts.add_numbers(found),
+            Form::Seq(parts) => parts.add_numbers(found),
+            Form::Par(parts) => parts.add_numbers(found),
             Form::Choice(parts) => parts.add_numbers(found),
-            Form::Bound(inner, _) => inner.add_numbers(found),
-            Form::Turns(body, _, _, row) => {
+            Form::Tied(inner, _) => inner.add_numbers(found),
+            Form::Loop(body, _, _, row) => {
                 body.add_numbers(found)?;
                 row.add_numbers(found)
             }

@@ -100,12 +100,12 @@ impl Form {
         match self {
             Form::Nil => 0,
             Form::Event(_) => 1,
-            Form::Then(_) => 2,
-            Form::Beside(_) => 3,
+            Form::Seq(_) => 2,
+            Form::Par(_) => 3,
             Form::Choice(_) => 4,
-            Form::Bound(_, _) => 5,
-            Form::Turns(_, _, _, _) => 6,
-            Form::Trail(_, _, _, _) => 7,
+            Form::Tied(_, _) => 5,
+            Form::Loop(_, _, _, _) => 6,
+            Form::Walk(_, _, _, _) => 7,
         }
     }
 }
@@ -122,23 +122,23 @@ impl Term {
         match (&node.form, &other_node.form) {
             (Form::Nil, Form::Nil) => Ordering::Equal,
             (Form::Event(event), Form::Event(second)) => compare_events(event, second),
-            (Form::Then(parts), Form::Then(others)) => parts.compare(others),
-            (Form::Beside(parts), Form::Beside(others)) => parts.compare(others),
+            (Form::Seq(parts), Form::Seq(others)) => parts.compare(others),
+            (Form::Par(parts), Form::Par(others)) => parts.compare(others),
             (Form::Choice(parts), Form::Choice(others)) => parts.compare(others),
-            (Form::Bound(inner, pairs), Form::Bound(second, others)) => {
+            (Form::Tied(inner, pairs), Form::Tied(second, others)) => {
                 match inner.compare(second) {
                     Ordering::Equal => compare_pairs(pairs.as_slice(), others.as_slice()),
                     order => order,
                 }
             }
-            (Form::Turns(body, low, high, row), Form::Turns(second, lower, upper, others)) => {
+            (Form::Loop(body, low, high, row), Form::Loop(second, lower, upper, others)) => {
                 let counts = low.cmp(lower).then(compare_counts(*high, *upper));
                 match body.compare(second).then(counts) {
                     Ordering::Equal => row.compare(others),
                     order => order,
                 }
             }
-            (Form::Trail(net, from, to, block), Form::Trail(second, spot, goal, others)) => {
+            (Form::Walk(net, from, to, block), Form::Walk(second, spot, goal, others)) => {
                 let spots = compare_spots(*from, *spot);
                 let goals = compare_goals(*to, *goal);
                 let blocks = block.compare_instances(others);

@@ -5,7 +5,8 @@ ghost use Rattle.chart_term.specs.Terms.{row_of, trees};
 
 use super::{Form, Node, RowList, RowPart, Term, TermList};
 use crate::nets::StoredNet;
-use msc_base::{Block, NoMemory};
+use bit_sets::Block;
+use msc_base::NoMemory;
 
 impl Term {
     /// Adds the instances of the events of the term, of its loop operands, begun turns and nets.
@@ -13,22 +14,22 @@ impl Term {
     fn add_touched(&self, stored: &[StoredNet], block: &mut Block) -> Result<(), NoMemory>
         ensures { OnOk result (IsUnion block.old.instances (touch (spread_at stored.now) self.now) block.new.instances) }
     {
-        if !self.has_trail() {
+        if !self.holds_walk() {
             block.add_instances(self.instances())?;
             return Ok(());
         }
         let node: &Node = &self.node;
         match &node.form {
             Form::Nil | Form::Event(_) => Ok(()),
-            Form::Then(parts) => parts.add_touched(stored, block),
-            Form::Beside(parts) => parts.add_touched(stored, block),
+            Form::Seq(parts) => parts.add_touched(stored, block),
+            Form::Par(parts) => parts.add_touched(stored, block),
             Form::Choice(parts) => parts.add_touched(stored, block),
-            Form::Bound(inner, _) => inner.add_touched(stored, block),
-            Form::Turns(body, _, _, row) => {
+            Form::Tied(inner, _) => inner.add_touched(stored, block),
+            Form::Loop(body, _, _, row) => {
                 body.add_touched(stored, block)?;
                 row.add_touched(stored, block)
             }
-            Form::Trail(net, _, _, _) => match stored.get(*net as usize) {
+            Form::Walk(net, _, _, _) => match stored.get(*net as usize) {
                 Some(older) => {
                     block.add_instances(&older.spread)?;
                     Ok(())

@@ -2,9 +2,10 @@ ghost use Rattle.std.specs.Prelude.{◌<◌, ◌≡◌, ◌+◌, [], IfOk};
 ghost use Rattle.chart_term.specs.Tables.{net_count};
 
 use super::{both, event, loop_shut};
-use crate::{Nets, RowList, RowPart, Term, TermList, then};
+use crate::{Nets, RowList, RowPart, Term, TermList, seq};
 use hmsc_graph::{Goal, Net, Shape, ShapeLine, ShapeLines, Spot};
-use msc_base::{Block, Far, Kind, Label, LabelRef, LabelRefs, Name, NoMemory, Place, Text};
+use bit_sets::Block;
+use msc_base::{Far, Kind, Label, LabelRef, LabelRefs, Name, NoMemory, Place, Text};
 use std::alloc::Global;
 use std::test::Fail;
 
@@ -154,7 +155,7 @@ fn numbers_beyond_the_tables_do_not_fit(rt: HostRuntime) -> Result<(), Fail> {
     assert!(rt; fits(alloc, event(alloc, 1, 0)?)?);
     assert!(rt; !fits(alloc, event(alloc, 2, 0)?)?);
     let later = both(alloc, event(alloc, 1, 0)?, event(alloc, 2, 0)?)?;
-    assert!(rt; !fits(alloc, then(alloc, later)?)?);
+    assert!(rt; !fits(alloc, seq(alloc, later)?)?);
     assert!(rt; !fits(alloc, loop_shut(alloc, event(alloc, 2, 0)?, 0)?)?);
     let mut row = RowList::new(alloc);
     row.push(RowPart::Turn(event(alloc, 2, 0)?))?;

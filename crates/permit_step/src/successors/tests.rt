@@ -4,8 +4,8 @@ ghost use Rattle.permit_step.specs.Ready.{IsReady, AreReadyTables};
 
 use super::after;
 use crate::samples::{both, event, message, ring_tables, row, tied};
-use crate::{trail, turns};
-use chart_term::{Nets, Term, TermList, beside, choice};
+use crate::{fresh_loop, fresh_walk};
+use chart_term::{Nets, Term, TermList, par, choice};
 use hmsc_graph::Goal;
 use msc_base::{Far, Kind, Label, Name, NoMemory, Text};
 use std::alloc::Global;
@@ -148,12 +148,12 @@ fn input_waits_for_its_output(rt: HostRuntime) -> Result<(), Fail> {
 
 /// Both terms side by side.
 #[tactic(auto, using(crate::proofs::ReadyTerms::aside_ready))]
-fn aside(alloc: Global, first: Term, second: Term) -> Result<Term, NoMemory>
+fn par(alloc: Global, first: Term, second: Term) -> Result<Term, NoMemory>
     requires first { IsReady [] first }
     requires second { IsReady [] second }
     ensures { IfOk result (λ term. IsReady [] term) }
 {
-    let term = beside(alloc, both(alloc, first, second)?)?;
+    let term = par(alloc, both(alloc, first, second)?)?;
     Ok(term)
 }
 
@@ -164,8 +164,8 @@ fn coregion(alloc: Global) -> Result<Term, NoMemory>
     let first = event(alloc, 1, 0, 0)?;
     let second = event(alloc, 2, 0, 0)?;
     let third = event(alloc, 3, 0, 1)?;
-    let others = aside(alloc, second, third)?;
-    let all = aside(alloc, first, others)?;
+    let others = par(alloc, second, third)?;
+    let all = par(alloc, first, others)?;
     tied(alloc, all, 2, 3)
 }
 
@@ -206,7 +206,7 @@ fn repeated(alloc: Global, body: Term, lower: u64, upper: Option<u64>) -> Result
     ensures { IfOk result (λ term. IsReady [] term) }
 {
     let nets = Nets::new(alloc);
-    let term = turns(alloc, &nets, body, lower, upper)?;
+    let term = fresh_loop(alloc, &nets, body, lower, upper)?;
     Ok(term)
 }
 
@@ -367,7 +367,7 @@ fn walk_goes_round(rt: HostRuntime) -> Result<(), Fail> {
     let alloc = rt.alloc();
     let mut nets = ring_tables(alloc)?;
     add_all(alloc, &mut nets)?;
-    let walk = trail(alloc, &nets, 0, Goal::Any)?;
+    let walk = fresh_walk(alloc, &nets, 0, Goal::Any)?;
     let Some(walk) = walk else {
         return Err(Fail::from("no walk"));
     };

@@ -1,7 +1,8 @@
 use Rattle.std.proofs.Common.{◌≡◌, List, ℕ, Some, option_map, rules, subst, ◌∙◌}
 use Rattle.msc_base.specs.Names.{IsName}
 use Rattle.msc_grammar.specs.Events.{ReadsText}
-use Rattle.event_log.specs.Meanings.{Only, Never}
+use Rattle.msc_base.specs.Only.{Never}
+use Rattle.msc_base.specs.Only.{Only}
 use Rattle.event_log.specs.Objects.{Said, Spelled, IsAllowed, kind_of, IsFarOf}
 use Rattle.event_log.proofs.Objects.{no_text, no_far, only_said}
 use Rattle.event_log.proofs.object.said_event.Goals as goal

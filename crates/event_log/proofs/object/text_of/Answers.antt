@@ -1,7 +1,8 @@
 use Rattle.std.proofs.Common.{rules}
 use Rattle.msc_tokens.specs.Spelling.{Spells}
 use Rattle.msc_grammar.specs.Events.{ReadsText}
-use Rattle.event_log.specs.Meanings.{Only, Never}
+use Rattle.msc_base.specs.Only.{Never}
+use Rattle.msc_base.specs.Only.{Only}
 use Rattle.event_log.proofs.Spelling.{spelled_answer}
 use Rattle.event_log.proofs.object.text_of.Goals as goal
 

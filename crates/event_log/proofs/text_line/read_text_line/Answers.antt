@@ -1,6 +1,7 @@
 use Rattle.std.proofs.Common.{◌<◌, length, rules}
 use Rattle.msc_tokens.specs.Spelling.{Spells}
-use Rattle.event_log.specs.Meanings.{Only, Never}
+use Rattle.msc_base.specs.Only.{Never}
+use Rattle.msc_base.specs.Only.{Only}
 use Rattle.event_log.proofs.Spelling.{says_spelled, says_unspelled}
 use Rattle.event_log.proofs.text_line.read_text_line.Goals as goal
 

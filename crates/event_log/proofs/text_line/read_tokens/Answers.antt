@@ -1,6 +1,7 @@
 use Rattle.std.proofs.Common.{◌≡◌, rules, subst}
 use Rattle.msc_grammar.specs.Events.{texts}
-use Rattle.event_log.specs.Meanings.{Never, StatesVersion, IsEventOf}
+use Rattle.event_log.specs.Meanings.{StatesVersion, IsEventOf}
+use Rattle.msc_base.specs.Only.{Never}
 use Rattle.event_log.proofs.text_line.read_tokens.Goals as goal
 
 pub returns-in-None : goal.returns-in-None

@@ -1,5 +1,5 @@
 use Rattle.std.proofs.Common.{◌<◌, ℕ, arith, subst}
-use Rattle.hmsc_graph.specs.Graphs.{IsIn}
+use Rattle.msc_base.specs.Lists.{IsIn}
 use Rattle.hmsc_graph.specs.Nets.{size_of}
 use Rattle.hmsc_graph.specs.Searches.{IsFirstLost}
 use Rattle.hmsc_graph.proofs.EndFacts.{first_endless}

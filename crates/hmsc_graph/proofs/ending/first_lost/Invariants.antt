@@ -1,5 +1,5 @@
 use Rattle.std.proofs.Common.{◌<◌, ℕ}
-use Rattle.hmsc_graph.specs.Graphs.{IsIn}
+use Rattle.msc_base.specs.Lists.{IsIn}
 use Rattle.hmsc_graph.proofs.ending.first_lost.Given as goal
 
 abbrev pub invariant-loop-node : goal.invariant-loop-node

@@ -1,5 +1,6 @@
 use Rattle.std.proofs.Common.{◌≡◌, ◌<◌, [], ◌∙◌, ℕ, List, arith, rules, subst, length}
-use Rattle.hmsc_graph.specs.Graphs.{IsIn, At, behind}
+use Rattle.hmsc_graph.specs.Graphs.{At, behind}
+use Rattle.msc_base.specs.Lists.{IsIn}
 use Rattle.hmsc_graph.specs.Nets.{size_of}
 use Rattle.hmsc_graph.specs.Spots.{spot_of}
 use Rattle.hmsc_graph.specs.Searches.{HasEntered}

@@ -1,6 +1,7 @@
 use Rattle.std.proofs.Common.{◌≡◌, ◌∙◌, ℕ, Bool, None, not, rules, sym, subst}
 use Rattle.event_log.specs.Logs.{HoldsEvent}
-use Rattle.event_log.specs.Meanings.{Only, Never}
+use Rattle.msc_base.specs.Only.{Never}
+use Rattle.msc_base.specs.Only.{Only}
 use Rattle.event_log.specs.States.{Fed}
 use Rattle.judge_core.proofs.Few.{held_few}
 use Rattle.judge_core.proofs.Takings.{event_taken, all_taken}

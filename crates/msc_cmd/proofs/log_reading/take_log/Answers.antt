@@ -1,5 +1,5 @@
 use Rattle.std.proofs.Common.{◌≡◌, ◌≤◌, ◌∙◌, Option, Some, true, IfOk, arith, rules, sym, subst}
-use Rattle.msc_base.specs.Shelves.{Files, Opens}
+use Rattle.outside.specs.Shelves.{Files, Opens}
 use Rattle.msc_cmd.specs.LogIntakes.{IsLogOf, IsStep}
 use Rattle.msc_cmd.specs.declared.log_intake.Log.TheVariants.{Refused}
 use Rattle.msc_cmd.specs.declared.log_reading.Step.{Step}

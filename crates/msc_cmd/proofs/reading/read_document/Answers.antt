@@ -1,5 +1,5 @@
 use Rattle.std.proofs.Common.{◌≡◌, rules, Some, [], subst, ◌∙◌, Option}
-use Rattle.msc_base.specs.Shelves.{Files}
+use Rattle.outside.specs.Shelves.{Files}
 use Rattle.msc_cmd.specs.Intakes.{IsReading, HoldsDocument}
 use Rattle.msc_cmd.proofs.Taking.{holds_end, holds_over}
 use Rattle.msc_cmd.proofs.reading.read_document.Goals as goal

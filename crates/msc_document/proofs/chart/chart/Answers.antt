@@ -1,8 +1,8 @@
 use Rattle.std.proofs.Common.{subst}
 use Rattle.msc_tree.specs.Charts.{Chart}
 use Rattle.msc_tree.specs.Views.{chart_view}
-use Rattle.msc_reading.specs.Answers.{Gives}
-use Rattle.msc_reading.specs.Languages.{Read}
+use Rattle.token_grammar.specs.Answers.{Gives}
+use Rattle.token_grammar.specs.Languages.{Read}
 use Rattle.msc_document.proofs.ChartForms.{chart_is}
 use Rattle.msc_document.proofs.chart.chart.Goals as goal
 

@@ -1,8 +1,8 @@
 use Rattle.std.proofs.Common.{subst}
 use Rattle.msc_tree.specs.Charts.{Document}
 use Rattle.msc_tree.specs.Views.{document_view}
-use Rattle.msc_reading.specs.Answers.{Gives}
-use Rattle.msc_reading.specs.Languages.{Read}
+use Rattle.token_grammar.specs.Answers.{Gives}
+use Rattle.token_grammar.specs.Languages.{Read}
 use Rattle.msc_document.proofs.ChartForms.{some_is}
 use Rattle.msc_document.proofs.document.document.Goals as goal
 

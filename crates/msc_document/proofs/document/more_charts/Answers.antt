@@ -1,9 +1,9 @@
 use Rattle.std.proofs.Common.{◌∙◌, ◌∷◌, [], sym, ap, subst, map, length, ◌-◌, ◌+◌, arith, codes}
 use Rattle.std.proofs.lemmas.List.{map-append}
 use Rattle.msc_tree.specs.Views.{chart_view}
-use Rattle.msc_reading.specs.Answers.{Fails}
-use Rattle.msc_reading.specs.Languages.{just}
-use Rattle.msc_reading.proofs.Loops.{no_more, ends_here, next_one, stops_here}
+use Rattle.token_grammar.specs.Answers.{Fails}
+use Rattle.token_grammar.specs.Languages.{just}
+use Rattle.token_grammar.proofs.Loops.{no_more, ends_here, next_one, stops_here}
 use Rattle.msc_document.specs.DocumentReaders.{chart_at}
 use Rattle.msc_document.proofs.document.more_charts.Goals.{else-loop-k-test, then-loop-k-test+then-not-starts_with}
 use Rattle.msc_document.proofs.document.more_charts.Goals as goal

@@ -3,9 +3,9 @@ use Rattle.std.proofs.lemmas.List.{map-append}
 use Rattle.msc_tree.specs.Views.{item_view, operand_view, statement_view}
 use Rattle.msc_tree.specs.Statements.{Item, Operand}
 use Rattle.std.specs.Prelude.{List}
-use Rattle.msc_reading.specs.Answers.{Gives, Fails}
-use Rattle.msc_reading.specs.Languages.{Read}
-use Rattle.msc_reading.proofs.Loops.{no_more, ends_here, next_one, stops_here}
+use Rattle.token_grammar.specs.Answers.{Gives, Fails}
+use Rattle.token_grammar.specs.Languages.{Read}
+use Rattle.token_grammar.proofs.Loops.{no_more, ends_here, next_one, stops_here}
 use Rattle.msc_document.specs.DocumentReaders.{column_event_at, column_goes_on, statement_goes_on, end_words, next_part_at}
 use Rattle.msc_document.specs.ItemReaders.{operand_at}
 use Rattle.msc_document.specs.StatementReaders.{state_of, outside_item_at, statement_words, any_statement_at}
@@ -37,10 +37,10 @@ more_operands-returns-in-Err t c =
 pub more_operands-returns : goal.more_operands-returns
 more_operands-returns t c =
     let q = next_part_at (operand_at c.args.column c.args.form c.args.levels) in
-    let front = map operand_view c.loop-k.operands.items in
+    let prefix = map operand_view c.loop-k.operands.items in
     elim c.loop-k-test.branch [
-      | more_operands-else-loop-k-test w ↦ sym c.loop-k.invariant ∙ no_more end_words q front _ c.loop-k.rest.now (omega arith)
-      | more_operands-then-loop-k-test+then-not-starts_with_either w ↦ sym c.loop-k.invariant ∙ ends_here end_words q front _ c.loop-k.rest.now (sym w.starts_with_either.ensures ∙ w.if-not-starts_with_either.true)
+      | more_operands-else-loop-k-test w ↦ sym c.loop-k.invariant ∙ no_more end_words q prefix _ c.loop-k.rest.now (omega arith)
+      | more_operands-then-loop-k-test+then-not-starts_with_either w ↦ sym c.loop-k.invariant ∙ ends_here end_words q prefix _ c.loop-k.rest.now (sym w.starts_with_either.ensures ∙ w.if-not-starts_with_either.true)
     ]
 
 pub column_events-loop-k-preserved : goal.column_events-loop-k-preserved
@@ -65,10 +65,10 @@ pub column_events-returns : goal.column_events-returns
 column_events-returns t c =
     let g = column_goes_on c.args.closer in
     let q = column_event_at c.args.levels in
-    let front = map item_view c.loop-k.items.items in
+    let prefix = map item_view c.loop-k.items.items in
     elim c.loop-k-test.branch [
-      | column_events-else-loop-k-test w ↦ sym c.loop-k.invariant ∙ none_goes g q front _ c.loop-k.rest.now (omega arith)
-      | column_events-then-loop-k-test+then-not-column_goes_on w ↦ sym c.loop-k.invariant ∙ goes_no_more g q front _ c.loop-k.rest.now (sym w.column_goes_on.ensures ∙ w.if-not-column_goes_on.true)
+      | column_events-else-loop-k-test w ↦ sym c.loop-k.invariant ∙ none_goes g q prefix _ c.loop-k.rest.now (omega arith)
+      | column_events-then-loop-k-test+then-not-column_goes_on w ↦ sym c.loop-k.invariant ∙ goes_no_more g q prefix _ c.loop-k.rest.now (sym w.column_goes_on.ensures ∙ w.if-not-column_goes_on.true)
     ]
 
 pub several_statements-loop-k-preserved : goal.several_statements-loop-k-preserved
@@ -93,10 +93,10 @@ pub several_statements-returns : goal.several_statements-returns
 several_statements-returns t c =
     let s = statement_words c.args.closer in
     let q = any_statement_at c.args.closer c.args.levels in
-    let front = map statement_view c.loop-k.statements.items in
+    let prefix = map statement_view c.loop-k.statements.items in
     elim c.loop-k-test.branch [
-      | several_statements-else-loop-k-test w ↦ sym c.loop-k.invariant ∙ no_more s q front _ c.loop-k.rest.now (omega arith)
-      | several_statements-then-loop-k-test+then-not-starts_with_statement w ↦ sym c.loop-k.invariant ∙ ends_here s q front _ c.loop-k.rest.now (sym w.starts_with_statement.ensures ∙ w.if-not-starts_with_statement.true)
+      | several_statements-else-loop-k-test w ↦ sym c.loop-k.invariant ∙ no_more s q prefix _ c.loop-k.rest.now (omega arith)
+      | several_statements-then-loop-k-test+then-not-starts_with_statement w ↦ sym c.loop-k.invariant ∙ ends_here s q prefix _ c.loop-k.rest.now (sym w.starts_with_statement.ensures ∙ w.if-not-starts_with_statement.true)
     ]
 
 pub more_items-loop-k-preserved : goal.more_items-loop-k-preserved
@@ -121,10 +121,10 @@ pub more_items-returns : goal.more_items-returns
 more_items-returns t c =
     let g = statement_goes_on c.args.closer (state_of c.args.any) in
     let q = outside_item_at c.args.levels c.args.any in
-    let front = map item_view c.loop-k.items.items in
+    let prefix = map item_view c.loop-k.items.items in
     elim c.loop-k-test.branch [
-      | more_items-else-loop-k-test w ↦ sym c.loop-k.invariant ∙ none_goes g q front _ c.loop-k.rest.now (omega arith)
-      | more_items-then-loop-k-test+then-not-statement_goes_on w ↦ sym c.loop-k.invariant ∙ goes_no_more g q front _ c.loop-k.rest.now (sym w.statement_goes_on.ensures ∙ w.if-not-statement_goes_on.true)
+      | more_items-else-loop-k-test w ↦ sym c.loop-k.invariant ∙ none_goes g q prefix _ c.loop-k.rest.now (omega arith)
+      | more_items-then-loop-k-test+then-not-statement_goes_on w ↦ sym c.loop-k.invariant ∙ goes_no_more g q prefix _ c.loop-k.rest.now (sym w.statement_goes_on.ensures ∙ w.if-not-statement_goes_on.true)
     ]
 
 pub next_item-returns-then-any : goal.next_item-returns-then-any

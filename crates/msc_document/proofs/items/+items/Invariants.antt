@@ -1,6 +1,6 @@
 use Rattle.std.proofs.Common.{◌≡◌, map, length, [], ◌+◌, ◌-◌, ◌*◌}
 use Rattle.msc_tree.specs.Views.{item_view, operand_view, statement_view}
-use Rattle.msc_reading.specs.PartReaders.{more_at}
+use Rattle.token_grammar.specs.PartReaders.{more_at}
 use Rattle.msc_document.specs.DocumentReaders.{column_event_at, column_goes_on, statement_goes_on, end_words, next_part_at}
 use Rattle.msc_document.specs.ItemReaders.{operand_at, more_going_at}
 use Rattle.msc_document.specs.StatementReaders.{state_of, outside_item_at, statement_words, any_statement_at}
@@ -93,7 +93,7 @@ decreases-level l = l.levels * 40 + 16
 abbrev pub invariant-more_operands-loop-k : goal.invariant-more_operands-loop-k
 invariant-more_operands-loop-k l =
     more_at end_words (next_part_at (operand_at l.column l.form l.levels)) (map operand_view l.operands.items) (l._k-end - l._k) l.rest
-    ≡ more_at end_words (next_part_at (operand_at l.column l.form l.levels)) (map operand_view l.fn.front.items) (length l.fn.tokens) l.fn.tokens
+    ≡ more_at end_words (next_part_at (operand_at l.column l.form l.levels)) (map operand_view l.fn.prefix.items) (length l.fn.tokens) l.fn.tokens
 
 abbrev pub invariant-column_events-loop-k : goal.invariant-column_events-loop-k
 invariant-column_events-loop-k l =
@@ -108,4 +108,4 @@ invariant-several_statements-loop-k l =
 abbrev pub invariant-more_items-loop-k : goal.invariant-more_items-loop-k
 invariant-more_items-loop-k l =
     more_going_at (statement_goes_on l.closer (state_of l.any)) (outside_item_at l.levels l.any) (map item_view l.items.items) (l._k-end - l._k) l.rest
-    ≡ more_going_at (statement_goes_on l.closer (state_of l.any)) (outside_item_at l.levels l.any) (map item_view l.fn.front.items) (length l.fn.tokens) l.fn.tokens
+    ≡ more_going_at (statement_goes_on l.closer (state_of l.any)) (outside_item_at l.levels l.any) (map item_view l.fn.prefix.items) (length l.fn.tokens) l.fn.tokens

@@ -1,6 +1,6 @@
 use Rattle.std.proofs.Common.{◌≡◌, Option, subst, sym}
-use Rattle.item_order.specs.declared.first_fault.Broken.{Broken}
-use Rattle.item_order.specs.FirstFaults.{IsBest}
+use Rattle.msc_rules.specs.declared.first_fault.Broken.{Broken}
+use Rattle.msc_rules.specs.FirstFaults.{IsBest}
 use Rattle.msc_expand.specs.declared.check.Check.{Check}
 use Rattle.msc_expand.specs.Acceptance.{number_of, BreaksOf}
 use Rattle.msc_expand.specs.Deciding.{inputs}

@@ -1,6 +1,6 @@
 use Rattle.std.proofs.Common.{rules, ◌≡◌, [], None, flat_map, Option, subst, sym, ap₂, ◌∙◌}
-use Rattle.item_order.specs.declared.first_fault.Broken.{Broken}
-use Rattle.item_order.specs.FirstFaults.{IsBest, earlier_of, fault_of}
+use Rattle.msc_rules.specs.declared.first_fault.Broken.{Broken}
+use Rattle.msc_rules.specs.FirstFaults.{IsBest, earlier_of, fault_of}
 use Rattle.msc_expand.specs.declared.check.Check.{Check}
 use Rattle.msc_expand.specs.declared.check.Check.TheVariants.{Charts, Instances}
 use Rattle.msc_expand.specs.Acceptance.{number_of, BreaksOf}

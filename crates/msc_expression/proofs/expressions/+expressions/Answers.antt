@@ -3,9 +3,9 @@ use Rattle.std.proofs.lemmas.List.{map-append}
 use Rattle.msc_tokens.specs.declared.token.Token.{Token}
 use Rattle.msc_tree.specs.Expressions.{Expression}
 use Rattle.msc_tree.specs.Views.{expression_view}
-use Rattle.msc_reading.specs.Answers.{Gives, Fails}
-use Rattle.msc_reading.specs.Languages.{just, Read}
-use Rattle.msc_reading.proofs.Loops.{no_more, ends_here, next_one, stops_here}
+use Rattle.token_grammar.specs.Answers.{Gives, Fails}
+use Rattle.token_grammar.specs.Languages.{just, Read}
+use Rattle.token_grammar.proofs.Loops.{no_more, ends_here, next_one, stops_here}
 use Rattle.msc_expression.specs.ExpressionReaders.{word_of, part_at, next_part_at, prefix_at}
 use Rattle.msc_expression.proofs.Forms.{form_is}
 use Rattle.msc_expression.proofs.expressions.+expressions.Goals.{more_parts-else-loop-k-test, more_parts-then-loop-k-test+then-not-starts}

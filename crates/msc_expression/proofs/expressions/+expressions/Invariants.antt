@@ -1,7 +1,7 @@
 use Rattle.std.proofs.Common.{◌≡◌, map, ℕ, ◌+◌, ◌-◌, ◌*◌}
 use Rattle.msc_tree.specs.Views.{expression_view}
-use Rattle.msc_reading.specs.Languages.{just}
-use Rattle.msc_reading.specs.PartReaders.{more_at}
+use Rattle.token_grammar.specs.Languages.{just}
+use Rattle.token_grammar.specs.PartReaders.{more_at}
 use Rattle.msc_expression.specs.ExpressionReaders.{word_of, part_at, next_part_at, more_parts_at, prefix_at}
 use Rattle.msc_expression.proofs.PartLoops.{tightness}
 use Rattle.msc_expression.proofs.expressions.+expressions.Given as goal

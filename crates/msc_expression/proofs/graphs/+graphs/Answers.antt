@@ -3,9 +3,9 @@ use Rattle.std.proofs.lemmas.List.{map-append}
 use Rattle.msc_tokens.specs.declared.token.Token.{Token}
 use Rattle.msc_tree.specs.Graphs.{Line}
 use Rattle.msc_tree.specs.Views.{graph_view, line_view}
-use Rattle.msc_reading.specs.Answers.{Gives, Fails}
-use Rattle.msc_reading.specs.Languages.{just, names, Read}
-use Rattle.msc_reading.proofs.Loops.{no_more, ends_here, next_one, stops_here}
+use Rattle.token_grammar.specs.Answers.{Gives, Fails}
+use Rattle.token_grammar.specs.Languages.{just, names, Read}
+use Rattle.token_grammar.proofs.Loops.{no_more, ends_here, next_one, stops_here}
 use Rattle.msc_expression.specs.GraphReaders.{graph_line_at, next_frame_at}
 use Rattle.msc_expression.proofs.LineForms.{line_is}
 use Rattle.msc_expression.proofs.graphs.+graphs.Goals.{lines-else-loop-k-test, lines-then-loop-k-test+then-not-starts_with_name, more_frames-else-loop-k-test, more_frames-then-loop-k-test+then-not-starts_with}
@@ -36,10 +36,10 @@ lines-returns-in-Err t c =
 pub lines-returns : goal.lines-returns
 lines-returns t c =
     let q = graph_line_at c.args.levels in
-    let front = map line_view c.loop-k.lines.items in
+    let prefix = map line_view c.loop-k.lines.items in
     elim c.loop-k-test.branch [
-      | lines-else-loop-k-test w ↦ sym c.loop-k.invariant ∙ no_more names q front _ c.loop-k.rest.now (omega arith)
-      | lines-then-loop-k-test+then-not-starts_with_name w ↦ sym c.loop-k.invariant ∙ ends_here names q front _ c.loop-k.rest.now (sym w.starts_with_name.ensures ∙ w.if-not-starts_with_name.true)
+      | lines-else-loop-k-test w ↦ sym c.loop-k.invariant ∙ no_more names q prefix _ c.loop-k.rest.now (omega arith)
+      | lines-then-loop-k-test+then-not-starts_with_name w ↦ sym c.loop-k.invariant ∙ ends_here names q prefix _ c.loop-k.rest.now (sym w.starts_with_name.ensures ∙ w.if-not-starts_with_name.true)
     ]
 
 -- ---- frames
@@ -63,8 +63,8 @@ more_frames-returns-in-Err t c =
 pub more_frames-returns : goal.more_frames-returns
 more_frames-returns t c =
     let q = next_frame_at c.args.levels in
-    let front = map graph_view c.loop-k.frames.items in
+    let prefix = map graph_view c.loop-k.frames.items in
     elim c.loop-k-test.branch [
-      | more_frames-else-loop-k-test w ↦ sym c.loop-k.invariant ∙ no_more (just (codes "par")) q front _ c.loop-k.rest.now (omega arith)
-      | more_frames-then-loop-k-test+then-not-starts_with w ↦ sym c.loop-k.invariant ∙ ends_here (just (codes "par")) q front _ c.loop-k.rest.now (sym w.starts_with.ensures ∙ w.if-not-starts_with.true)
+      | more_frames-else-loop-k-test w ↦ sym c.loop-k.invariant ∙ no_more (just (codes "par")) q prefix _ c.loop-k.rest.now (omega arith)
+      | more_frames-then-loop-k-test+then-not-starts_with w ↦ sym c.loop-k.invariant ∙ ends_here (just (codes "par")) q prefix _ c.loop-k.rest.now (sym w.starts_with.ensures ∙ w.if-not-starts_with.true)
     ]

@@ -1,7 +1,7 @@
 use Rattle.std.proofs.Common.{◌≡◌, [], map, length, ℕ, ◌+◌, ◌-◌, ◌*◌}
 use Rattle.msc_tree.specs.Views.{graph_view, line_view}
-use Rattle.msc_reading.specs.Languages.{names}
-use Rattle.msc_reading.specs.PartReaders.{more_at}
+use Rattle.token_grammar.specs.Languages.{names}
+use Rattle.token_grammar.specs.PartReaders.{more_at}
 use Rattle.msc_expression.specs.GraphReaders.{graph_line_at, lines_at, more_frames_at}
 use Rattle.msc_expression.proofs.graphs.+graphs.Given as goal
 
@@ -43,4 +43,4 @@ invariant-lines-loop-k l = more_at names (graph_line_at l.levels) (map line_view
 
 abbrev pub invariant-more_frames-loop-k : goal.invariant-more_frames-loop-k
 invariant-more_frames-loop-k l =
-    more_frames_at l.levels (map graph_view l.frames.items) (l._k-end - l._k) l.rest ≡ more_frames_at l.levels (map graph_view l.fn.front.items) (length l.fn.tokens) l.fn.tokens
+    more_frames_at l.levels (map graph_view l.frames.items) (l._k-end - l._k) l.rest ≡ more_frames_at l.levels (map graph_view l.fn.prefix.items) (length l.fn.tokens) l.fn.tokens

@@ -1,7 +1,7 @@
 use Rattle.std.proofs.Common.{◌∙◌, sym, subst, arith, length, ◌-◌, ◌+◌, codes}
-use Rattle.msc_reading.specs.Answers.{Fails}
-use Rattle.msc_reading.specs.Languages.{just}
-use Rattle.msc_reading.proofs.Loops.{no_more, ends_here, next_one, stops_here}
+use Rattle.token_grammar.specs.Answers.{Fails}
+use Rattle.token_grammar.specs.Languages.{just}
+use Rattle.token_grammar.proofs.Loops.{no_more, ends_here, next_one, stops_here}
 use Rattle.msc_expression.specs.GraphReaders.{next_label_at}
 use Rattle.msc_expression.proofs.graphs.more_labels.Goals.{else-loop-k-test, then-loop-k-test+then-not-starts_with}
 use Rattle.msc_expression.proofs.graphs.more_labels.Goals as goal

@@ -1,5 +1,5 @@
 use Rattle.std.proofs.Common.{◌∙◌, sym, length}
-use Rattle.msc_reading.specs.declared.readers.ReadFault.TheVariants.{Refused, Deep}
+use Rattle.token_grammar.specs.declared.readers.ReadFault.TheVariants.{Refused, TooDeep}
 use Rattle.msc_grammar.specs.EventReaders.{event_at}
 use Rattle.msc_grammar.specs.EventGrammar.{event}
 use Rattle.msc_grammar.proofs.EventAnswers.{at_fault, empty_of, event_deep, event_left, event_none, event_ok, event_only, event_refused, refused_at, some_of}
@@ -23,8 +23,8 @@ returns-in-Err-Refused-clause-none c = λ is. event_none c.args.tokens.now c.in-
 pub returns-in-Err-Refused-clause-place : goal.returns-in-Err-Refused-clause-place
 returns-in-Err-Refused-clause-place c = λ is. refused_at event c.args.tokens.now c.in-Err-Refused.left c.args.end c.refusal-in-Err-Refused.result (event_refused c.args.tokens.now c.in-Err-Refused.left (at_fault c.in-Err-Refused.field-0 (Refused c.in-Err-Refused.left) (event_at c.args.tokens.now) c.in-Err-Refused.field-0-is c.in-Err-Refused.ensures)) c.refusal-in-Err-Refused.ensures
 
-pub returns-in-Err-Deep-clause-none : goal.returns-in-Err-Deep-clause-none
-returns-in-Err-Deep-clause-none c = λ is. absurd (event_deep c.args.tokens.now c.in-Err-Deep.left (at_fault c.in-Err-Deep.field-0 (Deep c.in-Err-Deep.left) (event_at c.args.tokens.now) c.in-Err-Deep.field-0-is c.in-Err-Deep.ensures))
+pub returns-in-Err-TooDeep-clause-none : goal.returns-in-Err-TooDeep-clause-none
+returns-in-Err-TooDeep-clause-none c = λ is. absurd (event_deep c.args.tokens.now c.in-Err-TooDeep.left (at_fault c.in-Err-TooDeep.field-0 (TooDeep c.in-Err-TooDeep.left) (event_at c.args.tokens.now) c.in-Err-TooDeep.field-0-is c.in-Err-TooDeep.ensures))
 
-pub returns-in-Err-Deep-clause-place : goal.returns-in-Err-Deep-clause-place
-returns-in-Err-Deep-clause-place c = λ is. absurd (event_deep c.args.tokens.now c.in-Err-Deep.left (at_fault c.in-Err-Deep.field-0 (Deep c.in-Err-Deep.left) (event_at c.args.tokens.now) c.in-Err-Deep.field-0-is c.in-Err-Deep.ensures))
+pub returns-in-Err-TooDeep-clause-place : goal.returns-in-Err-TooDeep-clause-place
+returns-in-Err-TooDeep-clause-place c = λ is. absurd (event_deep c.args.tokens.now c.in-Err-TooDeep.left (at_fault c.in-Err-TooDeep.field-0 (TooDeep c.in-Err-TooDeep.left) (event_at c.args.tokens.now) c.in-Err-TooDeep.field-0-is c.in-Err-TooDeep.ensures))

@@ -1,5 +1,5 @@
 use Rattle.std.proofs.Common.{◌∙◌, sym, length}
-use Rattle.msc_reading.specs.declared.readers.ReadFault.TheVariants.{Refused, Deep}
+use Rattle.token_grammar.specs.declared.readers.ReadFault.TheVariants.{Refused, TooDeep}
 use Rattle.msc_grammar.specs.EventReaders.{text_at}
 use Rattle.msc_grammar.proofs.EventAnswers.{at_fault, empty_of, some_of, text_deep, text_left, text_none, text_ok, text_only, text_refused, text_refused_at}
 use Rattle.msc_grammar.proofs.log_event.read_text.Goals as goal
@@ -22,8 +22,8 @@ returns-in-Err-Refused-clause-none c = λ is. text_none c.args.kind c.args.token
 pub returns-in-Err-Refused-clause-place : goal.returns-in-Err-Refused-clause-place
 returns-in-Err-Refused-clause-place c = λ is. text_refused_at c.args.kind c.args.tokens.now c.in-Err-Refused.left c.args.end c.refusal-in-Err-Refused.result (text_refused c.args.kind c.args.tokens.now c.in-Err-Refused.left (at_fault c.in-Err-Refused.field-0 (Refused c.in-Err-Refused.left) (text_at c.args.kind c.args.tokens.now) c.in-Err-Refused.field-0-is c.in-Err-Refused.ensures)) c.refusal-in-Err-Refused.ensures
 
-pub returns-in-Err-Deep-clause-none : goal.returns-in-Err-Deep-clause-none
-returns-in-Err-Deep-clause-none c = λ is. absurd (text_deep c.args.kind c.args.tokens.now c.in-Err-Deep.left (at_fault c.in-Err-Deep.field-0 (Deep c.in-Err-Deep.left) (text_at c.args.kind c.args.tokens.now) c.in-Err-Deep.field-0-is c.in-Err-Deep.ensures))
+pub returns-in-Err-TooDeep-clause-none : goal.returns-in-Err-TooDeep-clause-none
+returns-in-Err-TooDeep-clause-none c = λ is. absurd (text_deep c.args.kind c.args.tokens.now c.in-Err-TooDeep.left (at_fault c.in-Err-TooDeep.field-0 (TooDeep c.in-Err-TooDeep.left) (text_at c.args.kind c.args.tokens.now) c.in-Err-TooDeep.field-0-is c.in-Err-TooDeep.ensures))
 
-pub returns-in-Err-Deep-clause-place : goal.returns-in-Err-Deep-clause-place
-returns-in-Err-Deep-clause-place c = λ is. absurd (text_deep c.args.kind c.args.tokens.now c.in-Err-Deep.left (at_fault c.in-Err-Deep.field-0 (Deep c.in-Err-Deep.left) (text_at c.args.kind c.args.tokens.now) c.in-Err-Deep.field-0-is c.in-Err-Deep.ensures))
+pub returns-in-Err-TooDeep-clause-place : goal.returns-in-Err-TooDeep-clause-place
+returns-in-Err-TooDeep-clause-place c = λ is. absurd (text_deep c.args.kind c.args.tokens.now c.in-Err-TooDeep.left (at_fault c.in-Err-TooDeep.field-0 (TooDeep c.in-Err-TooDeep.left) (text_at c.args.kind c.args.tokens.now) c.in-Err-TooDeep.field-0-is c.in-Err-TooDeep.ensures))

@@ -1,5 +1,5 @@
 use Rattle.std.proofs.Common.{◌++◌, List, ℕ, codes, ap, ◌∙◌, sym, subst, arith, length, ◌-◌, ◌+◌}
-use Rattle.msc_reading.specs.Answers.{Fails}
+use Rattle.token_grammar.specs.Answers.{Fails}
 use Rattle.msc_grammar.proofs.ItemLists.{no_more, ends_here, next_item, stops_here}
 use Rattle.msc_grammar.proofs.message.more_items.Goals.{else-loop-k-test, then-loop-k-test+then-not-starts_with}
 use Rattle.msc_grammar.proofs.message.more_items.Goals as goal

@@ -1,5 +1,5 @@
 use Rattle.std.proofs.Common.{rules, arith, ◌≡◌, List, map, ◌∷◌, IsTrue, ◌↔◌}
-use Rattle.item_order.specs.Places.{earliest_if}
+use Rattle.msc_base.specs.Places.{earliest_if}
 use Rattle.msc_instances.specs.Meetings.{Knows}
 use Rattle.msc_instances.specs.Parts.{NamedPart, Clashes}
 use Rattle.msc_instances.specs.PartViews.{part_view}

@@ -1,5 +1,5 @@
 use Rattle.std.proofs.Common.{◌≡◌, ◌⊎◌, List, [], Some, subst}
-use Rattle.item_order.specs.Places.{IsLeast}
+use Rattle.msc_base.specs.Places.{IsLeast}
 use Rattle.msc_instances.specs.Parts.{NamedPart, NamesAgain}
 use Rattle.msc_instances.proofs.PartSteps.{levels_step}
 use Rattle.msc_instances.proofs.again.named_again.Goals as goal

@@ -1,5 +1,5 @@
 use Rattle.std.proofs.Common.{drop}
-use Rattle.item_order.proofs.Narrowing.{Narrows}
+use Rattle.msc_base.proofs.Narrowing.{Narrows}
 use Rattle.msc_instances.specs.Parts.{SomeNamesAgain}
 use Rattle.msc_instances.proofs.again.named_again.Given as goal
 

@@ -1,6 +1,6 @@
 use Rattle.std.proofs.Common.{rules, ◌≡◌, refl, not}
 use Rattle.std.specs.List.{list_any}
-use Rattle.msc_base.specs.Names.{IsOneOf}
+use Rattle.msc_base.specs.Lists.{IsAmong}
 use Rattle.msc_base.specs.NameTables.{with_name}
 use Rattle.msc_instances.specs.contracts.again.PartKeyPartialEq.TheImpl.{eq-value}
 use Rattle.msc_instances.specs.declared.again.PartKey.{PartKey}
@@ -28,6 +28,6 @@ returns-else-outside-clause-told c =
     let key : PartKey = record { name = c.in_ok-from_slice.field-0; column = c.in_ok-from_slice-2.field-0 } in
     let key_name : key.name.items ≡ c.args.name.now = search rules in
     let key_column : key.column.items ≡ c.args.column.now = search rules in
-    let none : IsOneOf c.args.met.now.outside c.args.name.now → ⊥ = search rules in
+    let none : IsAmong c.args.met.now.outside c.args.name.now → ⊥ = search rules in
     let added : c.in_ok-new.new ≡ not (list_any (eq-value.it key) c.args.met.now.inside.keys) = c.in_ok-new.ensures.added in
     λ before k. inside_told c.args.met.now before c.args.name.now c.args.column.now key c.in_ok-new.new k key_name key_column none added

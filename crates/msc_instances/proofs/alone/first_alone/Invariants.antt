@@ -1,5 +1,5 @@
 use Rattle.std.proofs.Common.{◌≡◌, drop, map}
-use Rattle.item_order.proofs.Narrowing.{Narrows}
+use Rattle.msc_base.proofs.Narrowing.{Narrows}
 use Rattle.msc_instances.specs.Alone.{IsAlone}
 use Rattle.msc_instances.specs.EventViews.{event_view}
 use Rattle.msc_instances.proofs.alone.first_alone.Given as goal

@@ -1,6 +1,6 @@
 use Rattle.std.proofs.Common.{List, Bool, ℕ, length, map, sym, subst}
 use Rattle.std.proofs.lemmas.List.{length-map}
-use Rattle.item_order.specs.Places.{IsLeast}
+use Rattle.msc_base.specs.Places.{IsLeast}
 use Rattle.msc_instances.specs.Alone.{AreTold, IsAlone}
 use Rattle.msc_instances.specs.EventViews.{event_view}
 use Rattle.msc_instances.proofs.AloneLaws.{least_unmatched, pairs_within}

@@ -1,5 +1,5 @@
 use Rattle.std.proofs.Common.{drop, map}
-use Rattle.item_order.proofs.Narrowing.{Narrows}
+use Rattle.msc_base.proofs.Narrowing.{Narrows}
 use Rattle.msc_instances.specs.Instances.{NamesOther}
 use Rattle.msc_instances.specs.NoteViews.{note_view}
 use Rattle.msc_instances.proofs.naming.named_other.Given as goal

@@ -1,6 +1,6 @@
 use Rattle.std.proofs.Common.{rules, ◌≡◌, ◌∙◌, List, ℕ, Option, None, length, map, ap, sym, subst}
 use Rattle.std.proofs.lemmas.List.{length-map}
-use Rattle.item_order.specs.Places.{IsLeast}
+use Rattle.msc_base.specs.Places.{IsLeast}
 use Rattle.item_order.specs.Weaving.{IsWoven}
 use Rattle.msc_base.specs.declared.label.Pair.{Pair}
 use Rattle.msc_base.specs.declared.place.Place.{Place}

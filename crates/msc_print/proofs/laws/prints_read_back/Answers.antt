@@ -1,7 +1,7 @@
 use Rattle.std.proofs.Common.{◌≡◌, ◌∙◌, sym, ap, subst}
 use Rattle.msc_tokens.proofs.Unique.{one_spelling}
 use Rattle.msc_tree.specs.Charts.{Document}
-use Rattle.msc_reading.specs.Languages.{texts}
+use Rattle.token_grammar.specs.Languages.{texts}
 use Rattle.msc_print.specs.ChartWords.{canonical_text, document_words}
 use Rattle.msc_print.specs.Unplaced.{SameAside}
 use Rattle.msc_print.proofs.laws.prints_read_back.Goals as goal

@@ -1,5 +1,5 @@
 use Rattle.std.proofs.Common.{ap}
-use Rattle.msc_base.specs.Blocks.{BlockValue}
+use Rattle.bit_sets.specs.Blocks.{BlockValue}
 use Rattle.permit_step.proofs.Ascending.{added-has}
 use Rattle.permit_step.proofs.ascent.add_earlier.Goals as goal
 

@@ -1,5 +1,5 @@
 use Rattle.std.proofs.Common.{◌≡◌, ◌∙◌, ap, sym, subst, true, false, take, drop, Option, IfOk}
-use Rattle.msc_base.specs.Blocks.{BlockValue}
+use Rattle.bit_sets.specs.Blocks.{BlockValue}
 use Rattle.chart_term.specs.NormalForms.{only}
 use Rattle.chart_term.specs.Rows.{part_of}
 use Rattle.chart_term.specs.Terms.{Tree}

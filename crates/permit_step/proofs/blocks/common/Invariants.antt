@@ -1,5 +1,5 @@
 use Rattle.std.proofs.Common.{◌≡◌, ◌<◌, []}
-use Rattle.msc_base.specs.Blocks.{IsRising, IsBlock}
+use Rattle.bit_sets.specs.Blocks.{IsRising, IsBlock}
 use Rattle.permit_step.proofs.SetFacts.{IsCommon}
 use Rattle.permit_step.proofs.blocks.common.Given as goal
 

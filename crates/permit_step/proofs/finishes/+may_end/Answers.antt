@@ -6,11 +6,11 @@ use Rattle.chart_term.specs.Rows.{part_of}
 use Rattle.chart_term.specs.Tables.{net_of, nodes_of, terms_over}
 use Rattle.chart_term.specs.Terms.{Tree}
 use Rattle.hmsc_graph.specs.Walks.{Leads}
-use Rattle.chart_term.specs.Terms.{Turns, row_of}
+use Rattle.chart_term.specs.Terms.{Loop, row_of}
 use Rattle.permit_step.specs.Endings.{AreEnding}
 use Rattle.permit_step.specs.Ready.{IsReady}
 use Rattle.permit_step.specs.Taking.{MayEnd, EndAll, EndOne, EndWalk}
-use Rattle.permit_step.proofs.EndingFacts.{all-first, all-at, all-ending, one-at, none-ending, turns-first, turns-at, turns-part, then-ends, beside-ends, choice-ends, bound-ends, trail-ends, loop-not, loop-zero, loop-owed, walk-ends, ending-more, ok-map}
+use Rattle.permit_step.proofs.EndingFacts.{all-first, all-at, all-ending, one-at, none-ending, turns-first, turns-at, turns-part, seq-ends, par-ends, choice-ends, tied-ends, trail-ends, loop-not, loop-zero, loop-owed, walk-ends, ending-more, ok-map}
 use Rattle.permit_step.proofs.Measures.{rank_in, rank-loop, rank-at, rank-part}
 use Rattle.permit_step.proofs.NodeTerms.{node-is, sizes-are}
 use Rattle.permit_step.proofs.PermitLoops.{ready-loop}
@@ -104,57 +104,57 @@ ending_nodes-returns-clause-net t c = subst (λ (g : Net). IsNet g) c.net.ensure
 pub loop_may_end-returns-then-not-branch : goal.loop_may_end-returns-then-not-branch
 loop_may_end-returns-then-not-branch t c =
     let e : c.in_ok-turns_may_end.field-0 ≡ false = cc in
-    subst (λ (b : Bool). IsTrue b ↔ MayEnd (terms_over c.args.nets.now.tables) (Turns c.args.body.now c.args.lower c.args.upper (row_of c.args.row.now))) e
+    subst (λ (b : Bool). IsTrue b ↔ MayEnd (terms_over c.args.nets.now.tables) (Loop c.args.body.now c.args.lower c.args.upper (row_of c.args.row.now))) e
     (loop-not (terms_over c.args.nets.now.tables) c.args.body.now c.args.lower c.args.upper c.args.row.now c.in_ok-turns_may_end.field-0 c.in_ok-turns_may_end.ensures e)
 
 pub loop_may_end-returns-then-lower-eq0 : goal.loop_may_end-returns-then-lower-eq0
 loop_may_end-returns-then-lower-eq0 t c =
     let e : c.in_ok-turns_may_end.field-0 ≡ true = cc in
     let z : c.args.lower ≡ 0 = omega (arith, c.if-lower-eq0.true) in
-    subst (λ (b : Bool). IsTrue b ↔ MayEnd (terms_over c.args.nets.now.tables) (Turns c.args.body.now c.args.lower c.args.upper (row_of c.args.row.now))) e
+    subst (λ (b : Bool). IsTrue b ↔ MayEnd (terms_over c.args.nets.now.tables) (Loop c.args.body.now c.args.lower c.args.upper (row_of c.args.row.now))) e
     (loop-zero (terms_over c.args.nets.now.tables) c.args.body.now c.args.lower c.args.upper c.args.row.now c.in_ok-turns_may_end.field-0 c.requires.row.normal.some c.in_ok-turns_may_end.ensures z)
 
 pub loop_may_end-returns : goal.loop_may_end-returns
 loop_may_end-returns t c =
     let e : c.in_ok-turns_may_end.field-0 ≡ true = cc in
     let z : 0 < c.args.lower = omega (arith, c.if-lower-eq0.false) in
-    ok-map (λ (b : Bool). IsTrue b ↔ MayEnd (terms_over c.args.nets.now.tables) c.args.body.now) (λ (b : Bool). IsTrue b ↔ MayEnd (terms_over c.args.nets.now.tables) (Turns c.args.body.now c.args.lower c.args.upper (row_of c.args.row.now))) c.may_end.result
+    ok-map (λ (b : Bool). IsTrue b ↔ MayEnd (terms_over c.args.nets.now.tables) c.args.body.now) (λ (b : Bool). IsTrue b ↔ MayEnd (terms_over c.args.nets.now.tables) (Loop c.args.body.now c.args.lower c.args.upper (row_of c.args.row.now))) c.may_end.result
     (λ b h. loop-owed (terms_over c.args.nets.now.tables) c.args.body.now c.args.lower c.args.upper c.args.row.now c.in_ok-turns_may_end.field-0 b c.requires.row.normal.some c.in_ok-turns_may_end.ensures e z h) c.may_end.ensures
 
 pub may_end-loop_may_end-requires : goal.may_end-loop_may_end-requires
 may_end-loop_may_end-requires t c =
-    let r = rank-loop c.args.nets.now.tables c.args.term.now c.in-Turns.body.now c.in-Turns.lower c.in-Turns.upper c.in-Turns.row.now c.in-Turns.ensures in
-    (omega (arith, c.decreases), (c.requires.tables, ready-loop c.args.nets.now.tables c.args.term.now c.in-Turns.body.now c.in-Turns.lower c.in-Turns.upper c.in-Turns.row.now c.in-Turns.ensures c.requires.term))
+    let r = rank-loop c.args.nets.now.tables c.args.term.now c.in-Loop.body.now c.in-Loop.lower c.in-Loop.upper c.in-Loop.row.now c.in-Loop.ensures in
+    (omega (arith, c.decreases), (c.requires.tables, ready-loop c.args.nets.now.tables c.args.term.now c.in-Loop.body.now c.in-Loop.lower c.in-Loop.upper c.in-Loop.row.now c.in-Loop.ensures c.requires.term))
 
 pub may_end-walk_may_end-requires : goal.may_end-walk_may_end-requires
 may_end-walk_may_end-requires t c =
-    let r = ready-walk c.args.nets.now.tables c.args.term.now c.in-Trail.net c.in-Trail.from c.in-Trail.to _ c.requires.tables c.in-Trail.ensures c.requires.term in
+    let r = ready-walk c.args.nets.now.tables c.args.term.now c.in-Walk.net c.in-Walk.from c.in-Walk.to _ c.requires.tables c.in-Walk.ensures c.requires.term in
     (omega (arith, c.decreases, r.rank), (c.requires.tables, (r.net, (r.from, r.to))))
 
-pub may_end-returns-in-Then : goal.may_end-returns-in-Then
-may_end-returns-in-Then t c =
-    ok-map (λ (b : Bool). IsTrue b ↔ EndAll (terms_over c.args.nets.now.tables) c.in-Then.parts.now) (λ (b : Bool). IsTrue b ↔ MayEnd (terms_over c.args.nets.now.tables) c.args.term.now) c.all_may_end.result
-    (λ b h. then-ends (terms_over c.args.nets.now.tables) b c.args.term.now c.in-Then.parts.now c.in-Then.ensures h) c.all_may_end.ensures
+pub may_end-returns-in-Seq : goal.may_end-returns-in-Seq
+may_end-returns-in-Seq t c =
+    ok-map (λ (b : Bool). IsTrue b ↔ EndAll (terms_over c.args.nets.now.tables) c.in-Seq.parts.now) (λ (b : Bool). IsTrue b ↔ MayEnd (terms_over c.args.nets.now.tables) c.args.term.now) c.all_may_end.result
+    (λ b h. seq-ends (terms_over c.args.nets.now.tables) b c.args.term.now c.in-Seq.parts.now c.in-Seq.ensures h) c.all_may_end.ensures
 
-pub may_end-returns-in-Beside : goal.may_end-returns-in-Beside
-may_end-returns-in-Beside t c =
-    ok-map (λ (b : Bool). IsTrue b ↔ EndAll (terms_over c.args.nets.now.tables) c.in-Beside.parts.now) (λ (b : Bool). IsTrue b ↔ MayEnd (terms_over c.args.nets.now.tables) c.args.term.now) c.all_may_end-in-Beside.result
-    (λ b h. beside-ends (terms_over c.args.nets.now.tables) b c.args.term.now c.in-Beside.parts.now c.in-Beside.ensures h) c.all_may_end-in-Beside.ensures
+pub may_end-returns-in-Par : goal.may_end-returns-in-Par
+may_end-returns-in-Par t c =
+    ok-map (λ (b : Bool). IsTrue b ↔ EndAll (terms_over c.args.nets.now.tables) c.in-Par.parts.now) (λ (b : Bool). IsTrue b ↔ MayEnd (terms_over c.args.nets.now.tables) c.args.term.now) c.all_may_end-in-Par.result
+    (λ b h. par-ends (terms_over c.args.nets.now.tables) b c.args.term.now c.in-Par.parts.now c.in-Par.ensures h) c.all_may_end-in-Par.ensures
 
 pub may_end-returns-in-Choice : goal.may_end-returns-in-Choice
 may_end-returns-in-Choice t c =
     ok-map (λ (b : Bool). IsTrue b ↔ EndOne (terms_over c.args.nets.now.tables) c.in-Choice.parts.now) (λ (b : Bool). IsTrue b ↔ MayEnd (terms_over c.args.nets.now.tables) c.args.term.now) c.one_may_end.result
     (λ b h. choice-ends (terms_over c.args.nets.now.tables) b c.args.term.now c.in-Choice.parts.now c.in-Choice.ensures h) c.one_may_end.ensures
 
-pub may_end-returns-in-Bound : goal.may_end-returns-in-Bound
-may_end-returns-in-Bound t c =
-    ok-map (λ (b : Bool). IsTrue b ↔ MayEnd (terms_over c.args.nets.now.tables) c.in-Bound.inner.now) (λ (b : Bool). IsTrue b ↔ MayEnd (terms_over c.args.nets.now.tables) c.args.term.now) c.may_end.result
-    (λ b h. bound-ends (terms_over c.args.nets.now.tables) b c.args.term.now c.in-Bound.inner.now _ c.in-Bound.ensures h) c.may_end.ensures
+pub may_end-returns-in-Tied : goal.may_end-returns-in-Tied
+may_end-returns-in-Tied t c =
+    ok-map (λ (b : Bool). IsTrue b ↔ MayEnd (terms_over c.args.nets.now.tables) c.in-Tied.inner.now) (λ (b : Bool). IsTrue b ↔ MayEnd (terms_over c.args.nets.now.tables) c.args.term.now) c.may_end.result
+    (λ b h. tied-ends (terms_over c.args.nets.now.tables) b c.args.term.now c.in-Tied.inner.now _ c.in-Tied.ensures h) c.may_end.ensures
 
-pub may_end-returns-in-Trail : goal.may_end-returns-in-Trail
-may_end-returns-in-Trail t c =
-    ok-map (λ (b : Bool). IsTrue b ↔ EndWalk (terms_over c.args.nets.now.tables) c.in-Trail.net (spot_of c.in-Trail.from) (goal_of c.in-Trail.to)) (λ (b : Bool). IsTrue b ↔ MayEnd (terms_over c.args.nets.now.tables) c.args.term.now) c.walk_may_end.result
-    (λ b h. trail-ends (terms_over c.args.nets.now.tables) b c.args.term.now c.in-Trail.net (spot_of c.in-Trail.from) (goal_of c.in-Trail.to) _ c.in-Trail.ensures h) c.walk_may_end.ensures
+pub may_end-returns-in-Walk : goal.may_end-returns-in-Walk
+may_end-returns-in-Walk t c =
+    ok-map (λ (b : Bool). IsTrue b ↔ EndWalk (terms_over c.args.nets.now.tables) c.in-Walk.net (spot_of c.in-Walk.from) (goal_of c.in-Walk.to)) (λ (b : Bool). IsTrue b ↔ MayEnd (terms_over c.args.nets.now.tables) c.args.term.now) c.walk_may_end.result
+    (λ b h. trail-ends (terms_over c.args.nets.now.tables) b c.args.term.now c.in-Walk.net (spot_of c.in-Walk.from) (goal_of c.in-Walk.to) _ c.in-Walk.ensures h) c.walk_may_end.ensures
 
 pub walk_may_end-returns : goal.walk_may_end-returns
 walk_may_end-returns t c =

@@ -3,7 +3,7 @@ use Rattle.chart_term.specs.Rows.{part_of}
 use Rattle.chart_term.specs.Tables.{net_of, terms_over}
 use Rattle.hmsc_graph.specs.Nets.{size_of}
 use Rattle.permit_step.specs.Endings.{AreEnding}
-use Rattle.permit_step.specs.Taking.{EndAll, EndOne, EndTurns}
+use Rattle.permit_step.specs.Taking.{EndAll, EndOne, EndLoop}
 use Rattle.permit_step.proofs.Measures.{rank_in, rank_all, rank_row, rank_part}
 use Rattle.permit_step.proofs.TermSentences.{net_rank}
 use Rattle.permit_step.proofs.finishes.+may_end.Given as goal
@@ -36,7 +36,7 @@ abbrev pub invariant-one_may_end-loop-index : goal.invariant-one_may_end-loop-in
 invariant-one_may_end-loop-index l = EndOne (terms_over l.nets.tables) (take l.index l.parts) → ⊥
 
 abbrev pub invariant-turns_may_end-loop-index : goal.invariant-turns_may_end-loop-index
-invariant-turns_may_end-loop-index l = EndTurns (terms_over l.nets.tables) (take l.index l.row)
+invariant-turns_may_end-loop-index l = EndLoop (terms_over l.nets.tables) (take l.index l.row)
 
 abbrev pub invariant-ending_nodes-loop-node : goal.invariant-ending_nodes-loop-node
 invariant-ending_nodes-loop-node l = record {

@@ -1,5 +1,5 @@
 use Rattle.std.proofs.Common.{◌≡◌, ◌-◌, ◌∙◌, sym, ap, subst, arith, true, false, Option, Some, None, IfOk, take, length, ℕ, List, ◌≤◌}
-use Rattle.chart_term.specs.NormalForms.{only, cut, trail_cut}
+use Rattle.chart_term.specs.NormalForms.{only, cut, walk_cut}
 use Rattle.chart_term.specs.Terms.{Tree, ◌∪◌}
 use Rattle.chart_term.specs.Tables.{net_of, nodes_of, node_of}
 use Rattle.hmsc_graph.specs.Nets.{size_of}
@@ -9,7 +9,7 @@ use Rattle.chart_term.specs.Spreads.{spread_of}
 use Rattle.permit_step.specs.Permission.{permit, permits_of}
 use Rattle.permit_step.specs.Ready.{IsReady}
 use Rattle.permit_step.specs.RowRests.{keep_parts, no_rest}
-use Rattle.msc_base.specs.Blocks.{BlockValue}
+use Rattle.bit_sets.specs.Blocks.{BlockValue}
 use Rattle.permit_step.specs.Values.{block_of}
 use Rattle.chart_term.specs.Rows.{part_of}
 use Rattle.permit_step.proofs.PermitLoops.{loop-left, loop-none, ready-loop, if-kept, if-lost, cut_alike}
@@ -37,8 +37,8 @@ keep_parts-loop-index-preserved t c = record {
 
 pub permit_term-permit_turns-requires : goal.permit_term-permit_turns-requires
 permit_term-permit_turns-requires t c =
-    let r = rank-loop c.args.nets.now.tables c.args.term.now c.in-Turns.body.now c.in-Turns.lower c.in-Turns.upper c.in-Turns.row.now c.in-Turns.ensures in
-    (omega (arith, c.decreases), (c.requires.tables, ready-loop c.args.nets.now.tables c.args.term.now c.in-Turns.body.now c.in-Turns.lower c.in-Turns.upper c.in-Turns.row.now c.in-Turns.ensures c.requires.term))
+    let r = rank-loop c.args.nets.now.tables c.args.term.now c.in-Loop.body.now c.in-Loop.lower c.in-Loop.upper c.in-Loop.row.now c.in-Loop.ensures in
+    (omega (arith, c.decreases), (c.requires.tables, ready-loop c.args.nets.now.tables c.args.term.now c.in-Loop.body.now c.in-Loop.lower c.in-Loop.upper c.in-Loop.row.now c.in-Loop.ensures c.requires.term))
 
 pub permit_all-permit_term-requires : goal.permit_all-permit_term-requires
 permit_all-permit_term-requires t c =
@@ -94,7 +94,7 @@ passable-returns-clause-nodes t c =
 
 pub permit_term-widened_walk-requires : goal.permit_term-widened_walk-requires
 permit_term-widened_walk-requires t c =
-    let r = ready-walk c.args.nets.now.tables c.args.term.now c.in-Trail.net c.in-Trail.from c.in-Trail.to c.in-Trail.own.now.instances c.requires.tables c.in-Trail.ensures c.requires.term in
+    let r = ready-walk c.args.nets.now.tables c.args.term.now c.in-Walk.net c.in-Walk.from c.in-Walk.to c.in-Walk.own.now.instances c.requires.tables c.in-Walk.ensures c.requires.term in
     (omega (arith, c.decreases, r.rank), (c.requires.tables, (r.net, (r.from, (r.to, r.set)))))
 
 pub walk-returns-then-not-branch : goal.walk-returns-then-not-branch
@@ -125,4 +125,4 @@ widened_walk-returns t c =
     let w = c.args.nets.now.tables in
     let narrow : c.in_ok-narrow.narrow.instances ≡ cut (spread_of w c.args.net) (c.args.own.now.instances ∪ c.args.block.now.instances) =
     ap (λ (b : BlockValue). b.instances) c.in_ok-narrow.ensures ∙ ((λ i. cut c.spread.result.now.instances (ap (λ (b : BlockValue). b.instances) c.in_ok-wide.ensures i)) ∙ cut_alike c.spread.result.now.instances (spread_of w c.args.net) (c.args.own.now.instances ∪ c.args.block.now.instances) c.spread.ensures) in
-    subst (λ (d : List ℕ). IfOk c.walk.result (λ x. x ≡ trail_cut (permits_of w) c.args.net (spot_of c.args.from) (goal_of c.args.to) d)) narrow c.walk.ensures
+    subst (λ (d : List ℕ). IfOk c.walk.result (λ x. x ≡ walk_cut (permits_of w) c.args.net (spot_of c.args.from) (goal_of c.args.to) d)) narrow c.walk.ensures

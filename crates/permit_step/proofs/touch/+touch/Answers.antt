@@ -1,8 +1,8 @@
 use Rattle.std.proofs.Common.{◌≡◌, ◌++◌, sym, ◌∙◌, ap, subst, arith, OnOk, false}
-use Rattle.chart_term.specs.Facts.{has_trail}
+use Rattle.chart_term.specs.Facts.{holds_walk}
 use Rattle.chart_term.specs.Rows.{part_of}
 use Rattle.chart_term.specs.Terms.{Tree, row_of}
-use Rattle.msc_base.specs.Blocks.{BlockValue, insert_each}
+use Rattle.bit_sets.specs.Blocks.{BlockValue, insert_each}
 use Rattle.chart_term.specs.Spreads.{spread_of}
 use Rattle.permit_step.specs.Touching.{net_touch, net_touch_row, IsUnion}
 use Rattle.permit_step.proofs.Measures.{rank-loop, rank-at, rank-part}
@@ -34,36 +34,36 @@ add_all-loop-index-preserved t c = union-all (spread_of c.args.nets.now.tables) 
 pub add_row-loop-index-preserved : goal.add_row-loop-index-preserved
 add_row-loop-index-preserved t c = union-row (spread_of c.args.nets.now.tables) c.args.row.now c.loop-index.index (part_of c.at.result.now) c.args.block.now.instances c.loop-index.block.instances c.add_part.new.block.instances c.at.ensures c.loop-index.invariant c.in_ok-add_part.ensures
 
-pub add_nets-returns-then-not-has_trail : goal.add_nets-returns-then-not-has_trail
-add_nets-returns-then-not-has_trail t c = let no : c.has_trail.result ≡ false = cc in let h : has_trail c.args.term.now ≡ false = sym c.has_trail.ensures ∙ no in union-missing (spread_of c.args.nets.now.tables) c.args.block.now.instances c.args.term.now h
+pub add_nets-returns-then-not-holds_walk : goal.add_nets-returns-then-not-holds_walk
+add_nets-returns-then-not-holds_walk t c = let no : c.holds_walk.result ≡ false = cc in let h : holds_walk c.args.term.now ≡ false = sym c.holds_walk.ensures ∙ no in union-missing (spread_of c.args.nets.now.tables) c.args.block.now.instances c.args.term.now h
 
-pub add_nets-returns-in-Then : goal.add_nets-returns-in-Then
-add_nets-returns-in-Then t c = subst (λ (y : Tree). OnOk c.add_all.result (IsUnion c.args.block.now.instances (net_touch (spread_of c.args.nets.now.tables) y) c.add_all.new.block.instances)) (sym c.in-Then.ensures) c.add_all.ensures
+pub add_nets-returns-in-Seq : goal.add_nets-returns-in-Seq
+add_nets-returns-in-Seq t c = subst (λ (y : Tree). OnOk c.add_all.result (IsUnion c.args.block.now.instances (net_touch (spread_of c.args.nets.now.tables) y) c.add_all.new.block.instances)) (sym c.in-Seq.ensures) c.add_all.ensures
 
-pub add_nets-returns-in-Beside : goal.add_nets-returns-in-Beside
-add_nets-returns-in-Beside t c = subst (λ (y : Tree). OnOk c.add_all-in-Beside.result (IsUnion c.args.block.now.instances (net_touch (spread_of c.args.nets.now.tables) y) c.add_all-in-Beside.new.block.instances)) (sym c.in-Beside.ensures) c.add_all-in-Beside.ensures
+pub add_nets-returns-in-Par : goal.add_nets-returns-in-Par
+add_nets-returns-in-Par t c = subst (λ (y : Tree). OnOk c.add_all-in-Par.result (IsUnion c.args.block.now.instances (net_touch (spread_of c.args.nets.now.tables) y) c.add_all-in-Par.new.block.instances)) (sym c.in-Par.ensures) c.add_all-in-Par.ensures
 
 pub add_nets-returns-in-Choice : goal.add_nets-returns-in-Choice
 add_nets-returns-in-Choice t c = subst (λ (y : Tree). OnOk c.add_all-in-Choice.result (IsUnion c.args.block.now.instances (net_touch (spread_of c.args.nets.now.tables) y) c.add_all-in-Choice.new.block.instances)) (sym c.in-Choice.ensures) c.add_all-in-Choice.ensures
 
-pub add_nets-returns-in-Bound : goal.add_nets-returns-in-Bound
-add_nets-returns-in-Bound t c = subst (λ (y : Tree). OnOk c.add_nets.result (IsUnion c.args.block.now.instances (net_touch (spread_of c.args.nets.now.tables) y) c.add_nets.new.block.instances)) (sym c.in-Bound.ensures) c.add_nets.ensures
+pub add_nets-returns-in-Tied : goal.add_nets-returns-in-Tied
+add_nets-returns-in-Tied t c = subst (λ (y : Tree). OnOk c.add_nets.result (IsUnion c.args.block.now.instances (net_touch (spread_of c.args.nets.now.tables) y) c.add_nets.new.block.instances)) (sym c.in-Tied.ensures) c.add_nets.ensures
 
-pub add_nets-add_nets-requires-in-Turns : goal.add_nets-add_nets-requires-in-Turns
-add_nets-add_nets-requires-in-Turns t c =
-    let r = rank-loop c.args.nets.now.tables c.args.term.now c.in-Turns.body.now _ _ c.in-Turns.row.now c.in-Turns.ensures in
-    (omega (arith, c.decreases), (ready-loop c.args.nets.now.tables c.args.term.now c.in-Turns.body.now _ _ c.in-Turns.row.now c.in-Turns.ensures c.requires).body)
+pub add_nets-add_nets-requires-in-Loop : goal.add_nets-add_nets-requires-in-Loop
+add_nets-add_nets-requires-in-Loop t c =
+    let r = rank-loop c.args.nets.now.tables c.args.term.now c.in-Loop.body.now _ _ c.in-Loop.row.now c.in-Loop.ensures in
+    (omega (arith, c.decreases), (ready-loop c.args.nets.now.tables c.args.term.now c.in-Loop.body.now _ _ c.in-Loop.row.now c.in-Loop.ensures c.requires).body)
 
 pub add_nets-add_row-requires : goal.add_nets-add_row-requires
 add_nets-add_row-requires t c =
-    let r = rank-loop c.args.nets.now.tables c.args.term.now c.in-Turns.body.now _ _ c.in-Turns.row.now c.in-Turns.ensures in
-    (omega (arith, c.decreases), (ready-loop c.args.nets.now.tables c.args.term.now c.in-Turns.body.now _ _ c.in-Turns.row.now c.in-Turns.ensures c.requires).parts)
+    let r = rank-loop c.args.nets.now.tables c.args.term.now c.in-Loop.body.now _ _ c.in-Loop.row.now c.in-Loop.ensures in
+    (omega (arith, c.decreases), (ready-loop c.args.nets.now.tables c.args.term.now c.in-Loop.body.now _ _ c.in-Loop.row.now c.in-Loop.ensures c.requires).parts)
 
-pub add_nets-returns-in_ok-add_nets-in-Turns : goal.add_nets-returns-in_ok-add_nets-in-Turns
-add_nets-returns-in_ok-add_nets-in-Turns t c =
-    subst (λ (y : Tree). OnOk c.add_row.result (IsUnion c.args.block.now.instances (net_touch (spread_of c.args.nets.now.tables) y) c.add_row.new.block.instances)) (sym c.in-Turns.ensures)
-    (on-map (IsUnion c.add_nets-in-Turns.new.block.instances (net_touch_row (spread_of c.args.nets.now.tables) (row_of c.in-Turns.row.now)) c.add_row.new.block.instances) (IsUnion c.args.block.now.instances (net_touch (spread_of c.args.nets.now.tables) c.in-Turns.body.now ++ net_touch_row (spread_of c.args.nets.now.tables) (row_of c.in-Turns.row.now)) c.add_row.new.block.instances) c.add_row.result (λ u. union-more c.args.block.now.instances (net_touch (spread_of c.args.nets.now.tables) c.in-Turns.body.now) (net_touch_row (spread_of c.args.nets.now.tables) (row_of c.in-Turns.row.now)) c.add_nets-in-Turns.new.block.instances c.add_row.new.block.instances c.in_ok-add_nets-in-Turns.ensures u) c.add_row.ensures)
+pub add_nets-returns-in_ok-add_nets-in-Loop : goal.add_nets-returns-in_ok-add_nets-in-Loop
+add_nets-returns-in_ok-add_nets-in-Loop t c =
+    subst (λ (y : Tree). OnOk c.add_row.result (IsUnion c.args.block.now.instances (net_touch (spread_of c.args.nets.now.tables) y) c.add_row.new.block.instances)) (sym c.in-Loop.ensures)
+    (on-map (IsUnion c.add_nets-in-Loop.new.block.instances (net_touch_row (spread_of c.args.nets.now.tables) (row_of c.in-Loop.row.now)) c.add_row.new.block.instances) (IsUnion c.args.block.now.instances (net_touch (spread_of c.args.nets.now.tables) c.in-Loop.body.now ++ net_touch_row (spread_of c.args.nets.now.tables) (row_of c.in-Loop.row.now)) c.add_row.new.block.instances) c.add_row.result (λ u. union-more c.args.block.now.instances (net_touch (spread_of c.args.nets.now.tables) c.in-Loop.body.now) (net_touch_row (spread_of c.args.nets.now.tables) (row_of c.in-Loop.row.now)) c.add_nets-in-Loop.new.block.instances c.add_row.new.block.instances c.in_ok-add_nets-in-Loop.ensures u) c.add_row.ensures)
 
-pub add_nets-returns-in-Trail : goal.add_nets-returns-in-Trail
-add_nets-returns-in-Trail t c =
-    on-map (c.add_instances.new.self ≡ record c.args.block.now { instances = insert_each c.args.block.now.instances c.spread.result.now.instances }) (IsUnion c.args.block.now.instances (net_touch (spread_of c.args.nets.now.tables) c.args.term.now) c.add_instances.new.self.instances) c.add_instances.result (λ e. union-net (spread_of c.args.nets.now.tables) c.args.block.now.instances c.spread.result.now.instances c.add_instances.new.self.instances c.args.term.now c.in-Trail.net (ap (net_touch (spread_of c.args.nets.now.tables)) c.in-Trail.ensures) c.spread.ensures (ap (λ (b : BlockValue). b.instances) e)) c.add_instances.ensures.ok
+pub add_nets-returns-in-Walk : goal.add_nets-returns-in-Walk
+add_nets-returns-in-Walk t c =
+    on-map (c.add_instances.new.self ≡ record c.args.block.now { instances = insert_each c.args.block.now.instances c.spread.result.now.instances }) (IsUnion c.args.block.now.instances (net_touch (spread_of c.args.nets.now.tables) c.args.term.now) c.add_instances.new.self.instances) c.add_instances.result (λ e. union-net (spread_of c.args.nets.now.tables) c.args.block.now.instances c.spread.result.now.instances c.add_instances.new.self.instances c.args.term.now c.in-Walk.net (ap (net_touch (spread_of c.args.nets.now.tables)) c.in-Walk.ensures) c.spread.ensures (ap (λ (b : BlockValue). b.instances) e)) c.add_instances.ensures.ok

@@ -1,7 +1,7 @@
 use Rattle.std.proofs.Common.{◌∙◌, ap}
 use Rattle.chart_term.specs.Spreads.{spread_of}
 use Rattle.chart_term.specs.Terms.{has}
-use Rattle.msc_base.specs.Blocks.{BlockValue}
+use Rattle.bit_sets.specs.Blocks.{BlockValue}
 use Rattle.permit_step.proofs.TouchFacts.{union-touch}
 use Rattle.permit_step.proofs.touch.touched.Goals as goal
 

@@ -1,5 +1,5 @@
 use Rattle.std.proofs.Common.{ap, ◌∙◌, refl}
-use Rattle.msc_base.specs.Blocks.{BlockValue}
+use Rattle.bit_sets.specs.Blocks.{BlockValue}
 use Rattle.chart_term.specs.Terms.{has}
 use Rattle.chart_term.proofs.Members.{has-insert_each}
 use Rattle.chart_term.proofs.facts.Facts.add.Goals as goal

@@ -5,14 +5,14 @@ use Rattle.event_log.proofs.reader.LogReader.take_ended.Goals as goal
 
 pub returns-in_err-append-clause-err : goal.returns-in_err-append-clause-err
 returns-in_err-append-clause-err c =
-    let f = c.args.front.now in
+    let f = c.args.prefix.now in
     let is : c.from_residual.result ≡ Err c.in_err-append.field-0.0 = search rules in
     λ form b n more h. subst (λ r. IfErr r (λ x. HoldsAt (Some x) false form (b ++ (f ++ 10 ∷ more)) n c.append.new.self)) (c.in_err-append.was ∙ sym is)
     (append_fails c.args.self.now c.append.new.self f c.append.result c.append.ensures.err c.append.ensures.fault c.requires.free (omega arith) form b n (10 ∷ more) h)
 
 pub returns-clause-ok : goal.returns-clause-ok
 returns-clause-ok c =
-    let f = c.args.front.now in
+    let f = c.args.prefix.now in
     let grown : Grows c.args.self.now f c.append.new.self = search rules in
     let count : c.append.new.self.count ≡ c.args.self.now.count + length f = ap (λ (s : LogState). s.count) grown.is in
     λ form b n h.
@@ -22,7 +22,7 @@ returns-clause-ok c =
 
 pub returns-clause-err : goal.returns-clause-err
 returns-clause-err c =
-    let f = c.args.front.now in
+    let f = c.args.prefix.now in
     let grown : Grows c.args.self.now f c.append.new.self = search rules in
     let count : c.append.new.self.count ≡ c.args.self.now.count + length f = ap (λ (s : LogState). s.count) grown.is in
     λ form b n more h.

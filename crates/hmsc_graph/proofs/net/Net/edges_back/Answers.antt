@@ -1,5 +1,6 @@
 use Rattle.std.proofs.Common.{◌≡◌, ◌<◌, ◌+◌, ◌++◌, ◌∙◌, List, ℕ, length, take, drop, arith, rules, sym, ap, subst}
-use Rattle.hmsc_graph.specs.Graphs.{IsIn, At, behind}
+use Rattle.hmsc_graph.specs.Graphs.{At, behind}
+use Rattle.msc_base.specs.Lists.{IsIn}
 use Rattle.hmsc_graph.specs.Nets.{size_of}
 use Rattle.hmsc_graph.specs.Reversals.{AreEdgesBack, HasEdges}
 use Rattle.hmsc_graph.proofs.EdgeFacts.{edges_back_more, written}

@@ -1,6 +1,6 @@
 use Rattle.std.proofs.Common.{◌≡◌, Bool, false, length, not, rules, sym, subst}
 use Rattle.event_log.specs.Logs.{HoldsEvent}
-use Rattle.event_log.specs.Meanings.{Never}
+use Rattle.msc_base.specs.Only.{Never}
 use Rattle.event_log.specs.declared.event.LogFault.TheVariants as fault
 use Rattle.msc_cmd.specs.LogIntakes.{HasFed}
 use Rattle.msc_cmd.proofs.LogTaking.{piece_fed, refused_log, whole_log}

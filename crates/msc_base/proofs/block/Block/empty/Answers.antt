@@ -1,7 +1,0 @@
-use Rattle.std.proofs.Common.{[], ap, ◌∙◌}
-use Rattle.msc_base.specs.Blocks.{bits_of}
-use Rattle.msc_base.proofs.BitFacts.{bits_of-none, same_blocks}
-use Rattle.msc_base.proofs.block.Block.empty.Goals as goal
-
-pub returns : goal.returns
-returns c = same_blocks (bits_of c.new.result.items) [] c.new-2.result.items [] (ap bits_of c.new.ensures.items ∙ bits_of-none) c.new-2.ensures.items

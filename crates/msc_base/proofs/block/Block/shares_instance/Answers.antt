@@ -1,9 +1,0 @@
-use Rattle.std.proofs.Common.{subst, ap₂, ◌∙◌}
-use Rattle.msc_base.specs.Blocks.{BlockValue, share, ShareBit}
-use Rattle.msc_base.proofs.SetFacts.{shares}
-use Rattle.msc_base.proofs.block.Block.shares_instance.Goals as goal
-
-pub returns : goal.returns
-returns c =
-    shares c.self.inside.words.items c.other.inside.words.items c.share_bit.result c.self.invariant.few c.other.invariant.few (subst (λ l. ShareBit l c.other.inside.words.items c.share_bit.result) c.deref.ensures.value (subst (λ l. ShareBit c.deref.result.now l c.share_bit.result) c.deref-2.ensures.value c.share_bit.ensures))
-    ∙ ap₂ (λ (a b : BlockValue). share a.instances b.instances) c.self.view_is c.other.view_is

@@ -1,6 +1,0 @@
-use Rattle.std.proofs.Common.{◌≡◌, ℕ, ◌<◌}
-use Rattle.msc_base.specs.Blocks.{has_bit}
-use Rattle.msc_base.proofs.words.first_difference.Given as goal
-
-abbrev pub invariant-loop-at : goal.invariant-loop-at
-invariant-loop-at l = (m : ℕ) → m < l.at → has_bit l.words m ≡ has_bit l.others m

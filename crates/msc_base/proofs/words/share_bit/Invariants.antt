@@ -1,6 +1,0 @@
-use Rattle.std.proofs.Common.{◌≡◌, ℕ, ◌<◌, ◌/◌, true, false}
-use Rattle.msc_base.specs.Blocks.{has_bit}
-use Rattle.msc_base.proofs.words.share_bit.Given as goal
-
-abbrev pub invariant-loop-index : goal.invariant-loop-index
-invariant-loop-index l = (n : ℕ) → n / 64 < l.index → has_bit l.words n ≡ true → has_bit l.others n ≡ false

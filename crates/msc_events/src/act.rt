@@ -1,0 +1,157 @@
+ghost use Rattle.std.specs.Prelude.{◌≡◌};
+ghost use Rattle.msc_tree.specs.declared.event.Target.TheVariants.{Nobody};
+ghost use Rattle.token_grammar.specs.Answers.{Gives};
+ghost use Rattle.token_grammar.specs.PartReaders.{message_view};
+ghost use Rattle.msc_events.specs.Events.{address_of, event_of, plain};
+ghost use Rattle.msc_events.specs.EventReaders.{output_at, input_at, action_at, timing_at, creation_at, timers_at, act_at};
+
+use crate::address::{address, orders};
+use crate::event_parts::{Address, Orders};
+use msc_base::{Kind, Place, Text};
+use token_grammar::{
+    MessageParts, ReadFault, either_word, item, message, name, name_of, starts_with,
+    starts_with_either, word,
+};
+use msc_tokens::Token;
+use msc_tree::{RawEvent, Target};
+use std::alloc::Global;
+
+/// The event of these parts, without its label.
+fn made_event(place: Place, message: MessageParts, address: Address) -> RawEvent
+    ensures { result ≡ event_of place (message_view message) address }
+{
+    RawEvent {
+        event_name: None,
+        kind: address.kind,
+        text: message.text,
+        parameters: message.parameters,
+        pairing: message.pairing,
+        target: address.target,
+        earlier_than: address.orders.earlier_than,
+        later_than: address.orders.later_than,
+        place,
+    }
+}
+
+/// A text alone.
+fn plain_parts(text: Text) -> MessageParts
+    ensures { message_view result ≡ plain text }
+{
+    MessageParts {
+        text,
+        pairing: None,
+        parameters: None,
+    }
+}
+
+/// A message is sent (Z.120, clause 4.3).
+fn output(alloc: Global, tokens: &[Token]) -> Result<(RawEvent, &[Token]), ReadFault>
+    ensures { Gives (λ x. (x.0, x.1.now)) result (output_at tokens.now) }
+{
+    let (out, rest) = word(tokens, "out")?;
+    let (message, rest) = message(alloc, rest)?;
+    let (_to, rest) = word(rest, "to")?;
+    let (address, rest) = address(alloc, rest, "lost", Kind::Output, Kind::OutputLost)?;
+    Ok((made_event(out.place, message, address), rest))
+}
+
+/// A message is received (Z.120, clause 4.3).
+fn input(alloc: Global, tokens: &[Token]) -> Result<(RawEvent, &[Token]), ReadFault>
+    ensures { Gives (λ x. (x.0, x.1.now)) result (input_at tokens.now) }
+{
+    let (word_in, rest) = word(tokens, "in")?;
+    let (message, rest) = message(alloc, rest)?;
+    let (_from, rest) = word(rest, "from")?;
+    let (address, rest) = address(alloc, rest, "found", Kind::Input, Kind::InputFound)?;
+    Ok((made_event(word_in.place, message, address), rest))
+}
+
+/// A local action (Z.120, clause 4.9).
+fn action(alloc: Global, tokens: &[Token]) -> Result<(RawEvent, &[Token]), ReadFault>
+    ensures { Gives (λ x. (x.0, x.1.now)) result (action_at tokens.now) }
+{
+    let (action, rest) = word(tokens, "action")?;
+    let (text, rest) = item(alloc, rest)?;
+    let (orders, rest) = orders(alloc, rest)?;
+    let address = Address {
+        kind: Kind::Action,
+        target: Target::Nobody,
+        orders,
+    };
+    Ok((made_event(action.place, plain_parts(text), address), rest))
+}
+
+/// A timer and the orders of its event (Z.120, clause 4.8).
+fn timing(alloc: Global, tokens: &[Token]) -> Result<(MessageParts, Orders, &[Token]), ReadFault>
+    ensures { Gives (λ x. ((message_view x.0, x.1), x.2.now)) result (timing_at tokens.now) }
+{
+    let (timer, rest) = message(alloc, tokens)?;
+    let (orders, rest) = orders(alloc, rest)?;
+    Ok((timer, orders, rest))
+}
+
+/// A timer's event.
+fn timed(place: Place, kind: Kind, timer: MessageParts, orders: Orders) -> RawEvent
+    ensures { result ≡ event_of place (message_view timer) (address_of kind Nobody orders) }
+{
+    let address = Address {
+        kind,
+        target: Target::Nobody,
+        orders,
+    };
+    made_event(place, timer, address)
+}
+
+/// An instance is created (Z.120, clause 4.10): the text and the other end are the child.
+fn creation(alloc: Global, tokens: &[Token]) -> Result<(RawEvent, &[Token]), ReadFault>
+    ensures { Gives (λ x. (x.0, x.1.now)) result (creation_at tokens.now) }
+{
+    let (create, rest) = word(tokens, "create")?;
+    let (child, rest) = name(rest)?;
+    let (orders, rest) = orders(alloc, rest)?;
+    let text = child.bytes.copy(alloc)?;
+    let address = Address {
+        kind: Kind::Create,
+        target: Target::Instance(name_of(alloc, child)?),
+        orders,
+    };
+    Ok((made_event(create.place, plain_parts(text), address), rest))
+}
+
+/// A timer's event, or a creation.
+fn timers(alloc: Global, tokens: &[Token]) -> Result<(RawEvent, &[Token]), ReadFault>
+    ensures { Gives (λ x. (x.0, x.1.now)) result (timers_at tokens.now) }
+{
+    if starts_with_either(tokens, "starttimer", "set") {
+        let (start, rest) = either_word(tokens, "starttimer", "set")?;
+        let (timer, orders, rest) = timing(alloc, rest)?;
+        return Ok((timed(start.place, Kind::TimerStart, timer, orders), rest));
+    }
+    if starts_with_either(tokens, "stoptimer", "reset") {
+        let (stop, rest) = either_word(tokens, "stoptimer", "reset")?;
+        let (timer, orders, rest) = timing(alloc, rest)?;
+        return Ok((timed(stop.place, Kind::TimerStop, timer, orders), rest));
+    }
+    if starts_with(tokens, "timeout") {
+        let (timeout, rest) = word(tokens, "timeout")?;
+        let (timer, orders, rest) = timing(alloc, rest)?;
+        return Ok((timed(timeout.place, Kind::Timeout, timer, orders), rest));
+    }
+    creation(alloc, tokens)
+}
+
+/// What an event does, with its orders and its end.
+pub fn act(alloc: Global, tokens: &[Token]) -> Result<(RawEvent, &[Token]), ReadFault>
+    ensures { Gives (λ x. (x.0, x.1.now)) result (act_at tokens.now) }
+{
+    if starts_with(tokens, "out") {
+        return output(alloc, tokens);
+    }
+    if starts_with(tokens, "in") {
+        return input(alloc, tokens);
+    }
+    if starts_with(tokens, "action") {
+        return action(alloc, tokens);
+    }
+    timers(alloc, tokens)
+}

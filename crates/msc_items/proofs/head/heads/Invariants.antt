@@ -1,6 +1,0 @@
-use Rattle.std.proofs.Common.{◌≡◌, ◌-◌}
-use Rattle.msc_items.specs.DeclarationReaders.{more_heads_at, heads_at}
-use Rattle.msc_items.proofs.head.heads.Given as goal
-
-abbrev pub invariant-loop-k : goal.invariant-loop-k
-invariant-loop-k l = more_heads_at l.declared (l._k-end - l._k) l.rest ≡ heads_at l.fn.tokens

@@ -1,6 +1,0 @@
-use Rattle.std.proofs.Common.{◌∙◌, sym}
-use Rattle.msc_reading.proofs.Classes.{name_decides}
-use Rattle.msc_reading.proofs.readers.name.Goals as goal
-
-pub returns-then-is_name_token-clause-name : goal.returns-then-is_name_token-clause-name
-returns-then-is_name_token-clause-name c = (name_decides c.in-Some.first.now.bytes).0 (sym c.is_name_token.ensures ∙ c.if-is_name_token.true)

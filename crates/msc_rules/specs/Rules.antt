@@ -1,0 +1,65 @@
+-- The printed texts of the rules and of the forms that aren't taken.
+use Rattle.std.specs.Prelude.{ℕ, List, ◌++◌, codes}
+use Rattle.msc_rules.specs.declared.rule.Form.{Form}
+use Rattle.msc_rules.specs.declared.rule.Form.TheVariants.{Guard, DataForm, TimeForm, Method, Qualifier, Inheritance, GateForm, Create, Stop, ExcForm}
+use Rattle.msc_rules.specs.declared.rule.Rule.{Rule}
+use Rattle.msc_rules.specs.declared.rule.Rule.TheVariants.{Bytes, BadByte, OpenString, OpenNote, LongName, Syntax, Unsupported, TooDeep, Charts, Instances, Nodes, Bounds, NamedTwice, Undeclared, MissingChart, Recursive, Uncovered, Levels, Size, Total, NotShared, OperandMismatch, ExcPlace, Crossed, Unmatched, NoGate, GateTwice, GateWays, GateSplit, GateOnLoop, Mismatch, SharedPart, Inside, LocalEvent, UnknownEvent, TwiceEvent, Cyclic, UnknownLabel, TwiceLabel, Endless, CreatePlace, CreateTwice, AfterStop, NotBuilt}
+
+abbrev pub form_text : Form → List ℕ
+form_text Guard = codes "guard"
+form_text DataForm = codes "data"
+form_text TimeForm = codes "time"
+form_text Method = codes "method"
+form_text Qualifier = codes "qualifier"
+form_text Inheritance = codes "inheritance"
+form_text GateForm = codes "gate"
+form_text Create = codes "create"
+form_text Stop = codes "stop"
+form_text ExcForm = codes "exc"
+
+-- for a form that isn't taken, with the form's text behind it
+abbrev pub rule_text : Rule → List ℕ
+rule_text Bytes = codes "document too long"
+rule_text BadByte = codes "bad byte"
+rule_text OpenString = codes "open string"
+rule_text OpenNote = codes "open note"
+rule_text LongName = codes "long name"
+rule_text Syntax = codes "syntax"
+rule_text (Unsupported form) = codes "unsupported, " ++ form_text form
+rule_text TooDeep = codes "nesting"
+rule_text Charts = codes "too many charts"
+rule_text Instances = codes "too many instances"
+rule_text Nodes = codes "too many nodes"
+rule_text Bounds = codes "loop bound"
+rule_text NamedTwice = codes "named twice"
+rule_text Undeclared = codes "undeclared instance"
+rule_text MissingChart = codes "missing chart"
+rule_text Recursive = codes "recursive reference"
+rule_text Uncovered = codes "uncovered instance"
+rule_text Levels = codes "expanded nesting"
+rule_text Size = codes "expanded size"
+rule_text Total = codes "total size"
+rule_text NotShared = codes "not shared"
+rule_text OperandMismatch = codes "operands differ"
+rule_text ExcPlace = codes "exc placed"
+rule_text Crossed = codes "crossed"
+rule_text Unmatched = codes "unmatched message"
+rule_text NoGate = codes "no gate"
+rule_text GateTwice = codes "gate used twice"
+rule_text GateWays = codes "gate ways differ"
+rule_text GateSplit = codes "gate on two instances"
+rule_text GateOnLoop = codes "gate on a loop"
+rule_text Mismatch = codes "decomposition mismatch"
+rule_text SharedPart = codes "decomposed instance shared"
+rule_text Inside = codes "decomposition inside"
+rule_text LocalEvent = codes "local event"
+rule_text UnknownEvent = codes "unknown event"
+rule_text TwiceEvent = codes "event named twice"
+rule_text Cyclic = codes "cyclic order"
+rule_text UnknownLabel = codes "unknown label"
+rule_text TwiceLabel = codes "label named twice"
+rule_text Endless = codes "endless graph"
+rule_text CreatePlace = codes "create placed"
+rule_text CreateTwice = codes "created twice"
+rule_text AfterStop = codes "event after stop"
+rule_text NotBuilt = codes "not built yet"
