@@ -2,7 +2,7 @@ ghost use Rattle.std.specs.Prelude.{◌≡◌, ◌<◌, ◌↔◌, [], Contains,
 ghost use Rattle.bit_sets.specs.Blocks.{IsBlock, insert_rising, insert_each, share, set_cmp, with_bit, has_bit};
 
 use crate::words::{first_difference, share_bit, unite};
-use crate::{Limits, NoMemory};
+use msc_base::{Limits, NoMemory};
 use std::alloc::Global;
 use std::cmp::Ordering;
 use std::marker::Model;

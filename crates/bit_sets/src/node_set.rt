@@ -37,7 +37,7 @@ impl NodeSet {
     }
 
     /// The set of all numbers below the size. It fails only for want of memory.
-    pub(crate) fn full(alloc: Global, size: u32) -> Result<NodeSet, NoMemory>
+    pub fn full(alloc: Global, size: u32) -> Result<NodeSet, NoMemory>
         ensures size { IfOk result (λ set. set.size ≡ size) }
         ensures full { IfOk result (λ set. HasAllNodes set) }
     {

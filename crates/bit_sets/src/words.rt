@@ -2,7 +2,7 @@ ghost use Rattle.std.specs.Prelude.{◌≡◌, ◌*◌, ◌≤◌, length, OnOk,
 ghost use Rattle.bit_sets.specs.Blocks.{HasBitsOfBoth, IsFirstDifference, ShareBit};
 
 use crate::block::has_number;
-use crate::{Limits, NoMemory};
+use msc_base::{Limits, NoMemory};
 
 /// Sets the bits of the other words too.
 pub(crate) fn unite(words: &mut Vec<u64>, others: &[u64]) -> Result<(), NoMemory>

@@ -1,6 +1,6 @@
 -- Runs of patterns by taking out one minimal event after another, and by linear orders of all positions.
-use Rattle.std.specs.Prelude.{ℕ, List, [], ◌∷◌, ◌≡◌, map}
-use Rattle.msc_base.specs.Orders.{IsLinear}
+use Rattle.std.specs.Prelude.{ℕ, List, [], ◌∷◌, ◌≡◌}
+use Rattle.msc_base.specs.PatternRuns.{IsRunBy, labels_by}
 use Rattle.msc_base.specs.Patterns.{Position, event_at, Before, one, empty, join, bind}
 use Rattle.chart_term.specs.TermPatterns.{Shape, Takes, HasNoEvent, numbered, Both}
 use Rattle.chart_term.specs.Terms.{TermEvent}
@@ -11,15 +11,16 @@ pub data Runs : Shape → List ℕ → Type 0 where
   run_end : {s : Shape} → HasNoEvent s → Runs s []
   run_take : {s t : Shape} {e : TermEvent} {l : List ℕ} → Takes s e t → Runs t l → Runs s (e.label ∷ l)
 
+abbrev pub label_of : TermEvent → ℕ
+label_of e = e.label
+
 -- the labels at these positions
 abbrev pub labels : (s : Shape) → List (Position s) → List ℕ
-labels s l = map (λ p. (event_at numbered s p).label) l
+labels s l = labels_by numbered label_of s l
 
 -- a run by the plain reading: the labels of a linear order of all positions
-pub record IsLinearRun (s : Shape) (run : List ℕ) : Type 0 where
-  pub order : List (Position s)
-  pub linear : IsLinear (Before numbered s) order
-  pub are : labels s order ≡ run
+abbrev pub IsLinearRun : Shape → List ℕ → Type 0
+IsLinearRun = IsRunBy numbered label_of
 
 -- the pattern without a position and its pairs
 abbrev pub taken_out : (s : Shape) → Position s → Shape

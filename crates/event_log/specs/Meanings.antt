@@ -2,6 +2,7 @@
 use Rattle.std.specs.Prelude.{◌≡◌, ◌<◌, ◌≤◌, ◌⊎◌, ℕ, List, [], ◌∷◌, length, All, Option, Some, None, codes, if◌then◌else◌}
 use Rattle.std.specs.Str.{bytes_eq}
 use Rattle.msc_base.specs.declared.label.Label.{Label}
+use Rattle.msc_base.specs.Only.{Only, Never}
 use Rattle.msc_tokens.specs.Spelling.{Spells}
 use Rattle.msc_grammar.specs.Events.{ReadsEvent}
 use Rattle.event_log.specs.Objects.{Spelled, Written, IsAllowed, IsVersionObject, IsEventObject}
@@ -11,15 +12,6 @@ use Rattle.event_log.specs.declared.event.Version.{Version}
 use Rattle.event_log.specs.declared.event.Version.TheVariants.{First, Second}
 use Rattle.event_log.specs.declared.line.Line.{Line}
 use Rattle.event_log.specs.declared.line.Line.TheVariants.{Blank, VersionLine, Event, NoEvent}
-
--- the fact holds of this value and of no other
-pub record Only {A : Type 0} (P : A → Type 0) (x : A) : Type 0 where
-  pub holds : P x
-  pub alone : (y : A) → P y → y ≡ x
-
--- the fact holds of no value
-abbrev pub Never : {A : Type 0} → (A → Type 0) → Type 0
-Never {A} P = (x : A) → P x → ⊥
 
 abbrev pub IsDigit : ℕ → Type 0
 IsDigit b = (48 ≤ b) × (b ≤ 57)

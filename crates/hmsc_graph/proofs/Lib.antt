@@ -5,4 +5,3 @@ pub mod LabelFacts
 pub mod MemberFacts
 pub mod Reaching
 pub mod SearchFacts
-pub mod SetFacts

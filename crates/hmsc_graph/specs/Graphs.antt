@@ -2,6 +2,7 @@
 use Rattle.std.specs.List.{list_any}
 use Rattle.std.specs.Prelude.{ℕ, Bool, true, false, List, [], ◌∷◌, ◌≡◌, ◌||◌, ◌==◌, ◌&&◌, ◌⊎◌}
 use Rattle.std.proofs.Common.{get_or}
+use Rattle.msc_base.specs.Lists.{IsIn}
 
 -- where a walk begins, and where it goes
 pub data Spot : Type 0 where
@@ -30,11 +31,6 @@ abbrev pub arrives : Net → Goal → ℕ → Bool
 arrives g (To k) m = m == k
 arrives g End m = get_or g.ends m false
 arrives g Any m = true
-
--- the number is in the list
-abbrev pub IsIn : ℕ → List ℕ → Type 0
-IsIn m [] = ⊥
-IsIn m (k ∷ ks) = (m ≡ k) ⊎ IsIn m ks
 
 -- a walk of at least one edge, whose inner nodes are all allowed
 pub data WalkThrough (g : Net) (ks : List ℕ) : Spot → Goal → Type 0 where

@@ -1,7 +1,6 @@
 pub mod Graphs
 pub mod Labels
 pub mod Nets
-pub mod NodeSets
 pub mod Reversals
 pub mod Searches
 pub mod Shapes

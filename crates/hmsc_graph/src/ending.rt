@@ -3,7 +3,8 @@ ghost use Rattle.hmsc_graph.specs.Nets.{size_of};
 ghost use Rattle.hmsc_graph.specs.Searches.{IsFirstLost};
 ghost use Rattle.hmsc_graph.specs.Walks.{IsFirstEndless};
 
-use crate::{Net, NodeSet, Spot, reach};
+use crate::{Net, Spot, reach};
+use bit_sets::NodeSet;
 use msc_base::NoMemory;
 use std::alloc::Global;
 

@@ -7,7 +7,6 @@ mod ending;
 mod labels;
 pub mod laws;
 mod net;
-mod node_set;
 mod shape;
 mod spot;
 #[cfg(test)]
@@ -16,7 +15,6 @@ mod walks;
 
 pub use ending::endless;
 pub use net::{Net, NetFault};
-pub use node_set::NodeSet;
 pub use shape::{Shape, ShapeLine, ShapeLines};
 pub use spot::{Goal, Spot};
 pub use walks::{has_walk, reach};

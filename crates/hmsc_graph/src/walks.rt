@@ -6,7 +6,8 @@ ghost use Rattle.hmsc_graph.specs.Spots.{spot_of, goal_of, IsSpotBelow, IsGoalBe
 ghost use Rattle.hmsc_graph.specs.Searches.{HasEntered};
 ghost use Rattle.hmsc_graph.specs.Walks.{Leads};
 
-use crate::{Goal, Net, NodeSet, Spot};
+use crate::{Goal, Net, Spot};
+use bit_sets::NodeSet;
 use msc_base::NoMemory;
 use std::alloc::Global;
 

@@ -1,7 +1,3 @@
-pub mod PlaceFacts
-pub mod Narrowing
-pub mod Joining
-pub mod FirstOnes
 pub mod Agree
 pub mod Exchange
 pub mod Ranks

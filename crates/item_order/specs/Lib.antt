@@ -1,5 +1,3 @@
-pub mod Places
-pub mod FirstFaults
 pub mod Orders
 pub mod Weaving
 pub mod Counts

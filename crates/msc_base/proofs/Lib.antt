@@ -1,6 +1,3 @@
-pub mod BitFacts
-pub mod Moving
-pub mod RisingFacts
 pub mod TableFacts
-pub mod WordFacts
-pub mod SetFacts
+pub mod PlaceFacts
+pub mod Narrowing

@@ -1,13 +1,8 @@
-pub mod Blocks
-pub mod Calls
-pub mod Causes
-pub mod Entries
-pub mod MemoryShelves
-pub mod MemorySinks
+pub mod Lists
 pub mod NameTables
 pub mod Names
+pub mod Only
 pub mod Orders
 pub mod Patterns
-pub mod Runs
-pub mod Shelves
-pub mod Unfoldings
+pub mod Places
+pub mod PatternRuns

@@ -1,5 +1,7 @@
 -- What a word and a name are.
 use Rattle.std.specs.Prelude.{◌≡◌, ◌≤◌, ◌⊎◌, ℕ, List, [], ◌∷◌, length, codes, All, Any}
+use Rattle.msc_base.specs.declared.limits.TheConstants.Limits.{NAME_BYTES}
+use Rattle.msc_base.specs.Lists.{IsAmong}
 
 abbrev pub IsLetterOrDigit : ℕ → Type 0
 IsLetterOrDigit b = ((48 ≤ b) × (b ≤ 57)) ⊎ ((65 ≤ b) × (b ≤ 90)) ⊎ ((97 ≤ b) × (b ≤ 122))
@@ -8,11 +10,11 @@ IsLetterOrDigit b = ((48 ≤ b) × (b ≤ 57)) ⊎ ((65 ≤ b) × (b ≤ 90)) �
 abbrev pub IsWordByte : ℕ → Type 0
 IsWordByte b = IsLetterOrDigit b ⊎ (b ≡ 95) ⊎ (b ≡ 46)
 
--- word bytes alone, one of them a letter or a digit, at most 255 of them
+-- word bytes alone, one of them a letter or a digit, and no more than a name may have
 pub record IsWord (bytes : List ℕ) : Type 0 where
   pub bytes_are : All IsWordByte bytes
   pub has_one : Any IsLetterOrDigit bytes
-  pub short : length bytes ≤ 255
+  pub short : length bytes ≤ NAME_BYTES
 
 -- the reserved words, in the order of the alphabet, in groups
 abbrev pub reserved_to_decomposed : List (List ℕ)
@@ -31,21 +33,11 @@ abbrev pub reserved_to_when : List (List ℕ)
 reserved_to_when = codes "par" ∷ codes "reference" ∷ codes "reset" ∷ codes "seq" ∷ codes "set" ∷ codes "shared" ∷ codes "starttimer"
     ∷ codes "stoptimer" ∷ codes "timeout" ∷ codes "timer" ∷ codes "to" ∷ codes "via" ∷ codes "when" ∷ []
 
--- one of these texts
-abbrev pub IsOneOf : List (List ℕ) → List ℕ → Type 0
-IsOneOf [] bytes = ⊥
-IsOneOf (w ∷ ws) bytes = (bytes ≡ w) ⊎ IsOneOf ws bytes
-
 -- one of the reserved words
 abbrev pub IsReserved : List ℕ → Type 0
-IsReserved bytes = IsOneOf reserved_to_decomposed bytes ⊎ IsOneOf reserved_to_inst bytes ⊎ IsOneOf reserved_to_out bytes ⊎ IsOneOf reserved_to_when bytes
+IsReserved bytes = IsAmong reserved_to_decomposed bytes ⊎ IsAmong reserved_to_inst bytes ⊎ IsAmong reserved_to_out bytes ⊎ IsAmong reserved_to_when bytes
 
 -- a name is a word that isn't reserved
 pub record IsName (bytes : List ℕ) : Type 0 where
   pub word : IsWord bytes
   pub free : IsReserved bytes → ⊥
-
--- no name comes twice
-abbrev pub AreDifferent : List (List ℕ) → Type 0
-AreDifferent [] = Unit {0}
-AreDifferent (n ∷ ns) = (IsOneOf ns n → ⊥) × AreDifferent ns

@@ -2,7 +2,7 @@ ghost use Rattle.std.specs.Prelude.{◌≡◌, ◌≤◌, ◌↔◌, List, ℕ, 
 ghost use Rattle.msc_base.specs.Names.{IsLetterOrDigit, IsWordByte, IsWord, IsName, IsReserved, reserved_to_decomposed, reserved_to_inst, reserved_to_out, reserved_to_when};
 ghost use Rattle.msc_base.specs.Lists.{IsAmong};
 
-use crate::{NoMemory, Text};
+use crate::{Limits, NoMemory, Text};
 use std::alloc::Global;
 use std::marker::Model;
 
@@ -43,13 +43,13 @@ pub fn is_word_byte(byte: u8) -> bool
     is_letter_or_digit(byte) || byte == b'_' || byte == b'.'
 }
 
-/// Whether the bytes are a word: at most 255 word bytes, one of them a letter or a digit.
+/// Whether the bytes are a word: word bytes, no more than a name may have, one of them a letter or a digit.
 pub fn is_word(bytes: &[u8]) -> bool
     ensures { IsTrue result ↔ IsWord bytes.now }
 {
     bytes.iter().all(|byte| is_word_byte(*byte))
         && bytes.iter().any(|byte| is_letter_or_digit(*byte))
-        && bytes.len() <= 255
+        && bytes.len() as u64 <= Limits::NAME_BYTES
 }
 
 /// Whether the bytes are this text.

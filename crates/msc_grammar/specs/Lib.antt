@@ -3,4 +3,3 @@ pub mod EventReaders
 pub mod Events
 pub mod Refusals
 pub mod Refused
-pub mod Rules

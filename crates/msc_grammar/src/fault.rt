@@ -3,7 +3,7 @@ ghost use Rattle.std.specs.Str.{bytes_eq};
 ghost use Rattle.token_grammar.specs.Classes.{is_one_of};
 ghost use Rattle.msc_grammar.specs.Refused.{form_of, guard_texts, data_texts, time_texts, method_texts, qualifier_texts, inheritance_texts};
 
-use crate::rule::Form;
+use msc_rules::Form;
 use msc_base::Place;
 use msc_tokens::Token;
 

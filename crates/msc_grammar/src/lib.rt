@@ -7,8 +7,6 @@ mod event;
 mod fault;
 mod log_event;
 mod message;
-mod rule;
 
 pub use fault::{ParseFault, form_of};
 pub use log_event::{parse_event, parse_text};
-pub use rule::{Form, Rule};

@@ -1,8 +1,7 @@
 ghost use Rattle.std.specs.Prelude.{◌≡◌, ℕ};
 ghost use Rattle.msc_rules.specs.FirstFaults.{earlier_of, fault_of, is_ahead};
-ghost use Rattle.msc_base.specs.Places.{earliest, earliest_if, is_before};
 
-use msc_base::Place;
+use msc_base::{Place, comes_before};
 
 /// Rules that have numbers: at one place the lowest number decides.
 pub trait Numbered {
@@ -20,41 +19,6 @@ pub struct Broken<R> {
     pub rule: R,
     /// Where it is broken.
     pub place: Place,
-}
-
-/// Whether a place stands before another.
-pub fn comes_before(a: Place, b: Place) -> bool
-    ensures { result ≡ is_before a b }
-{
-    a.byte < b.byte
-        || (a.byte == b.byte && (a.line < b.line || (a.line == b.line && a.column < b.column)))
-}
-
-/// The earlier of the earliest place so far and one place more.
-pub fn earlier_place(so_far: Option<Place>, place: Place) -> Option<Place>
-    ensures { result ≡ earliest so_far place }
-{
-    match so_far {
-        None => Some(place),
-        Some(other) => {
-            if comes_before(place, other) {
-                Some(place)
-            } else {
-                Some(other)
-            }
-        }
-    }
-}
-
-/// The earliest place so far, or one more where that is earlier and something holds there.
-pub fn earlier_if(so_far: Option<Place>, place: Place, holds: bool) -> Option<Place>
-    ensures { result ≡ earliest_if holds so_far place }
-{
-    if holds {
-        earlier_place(so_far, place)
-    } else {
-        so_far
-    }
 }
 
 /// The fault of a rule that is broken at that place, if it is broken.

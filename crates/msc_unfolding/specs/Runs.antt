@@ -1,27 +1,25 @@
 -- The runs of an unfolding, and of a set of unfoldings.
-use Rattle.std.specs.Prelude.{◌≡◌, List, ◌++◌, map}
+use Rattle.std.specs.Prelude.{List}
 use Rattle.msc_base.specs.declared.label.Label.{Label}
-use Rattle.msc_base.specs.Patterns.{Position, event_at, Before}
-use Rattle.msc_base.specs.Orders.{IsLinear}
-use Rattle.msc_unfolding.specs.Unfoldings.{Unfolding, plain}
+use Rattle.msc_base.specs.Patterns.{Position}
+use Rattle.msc_base.specs.PatternRuns.{labels_by, IsRunBy, IsRunAmong, BeginsRunAmong}
+use Rattle.msc_unfolding.specs.Unfoldings.{Happening, Unfolding, plain}
+
+abbrev pub label_of : Happening → Label
+label_of h = h.label
 
 -- the labels of these positions
 abbrev pub labels_at : (u : Unfolding) → List (Position u) → List Label
-labels_at u order = map (λ p. (event_at plain u p).label) order
+labels_at u order = labels_by plain label_of u order
 
 -- the labels are those of a linear order of the unfolding
-pub record IsRun (u : Unfolding) (labels : List Label) : Type 0 where
-  pub order : List (Position u)
-  pub linear : IsLinear (Before plain u) order
-  pub are : labels_at u order ≡ labels
+abbrev pub IsRun : Unfolding → List Label → Type 0
+IsRun = IsRunBy plain label_of
 
 -- they are a run of one of these unfoldings
-pub record IsRunOf (unfolds : Unfolding → Type 0) (labels : List Label) : Type 0 where
-  pub of : Unfolding
-  pub is : unfolds of
-  pub run : IsRun of labels
+abbrev pub IsRunOf : (Unfolding → Type 0) → List Label → Type 0
+IsRunOf = IsRunAmong plain label_of
 
 -- a run of one of these unfoldings begins with them
-pub record BeginsRunOf (unfolds : Unfolding → Type 0) (labels : List Label) : Type 0 where
-  pub rest : List Label
-  pub runs : IsRunOf unfolds (labels ++ rest)
+abbrev pub BeginsRunOf : (Unfolding → Type 0) → List Label → Type 0
+BeginsRunOf = BeginsRunAmong plain label_of

@@ -2,7 +2,7 @@ ghost use Rattle.std.specs.Prelude.{◌≡◌};
 ghost use Rattle.std.specs.Option.{option_copied};
 ghost use Rattle.outside.specs.Entries.{file_at};
 
-use crate::Text;
+use msc_base::Text;
 
 /// A name and the bytes that it holds.
 #[derive(Drop)]

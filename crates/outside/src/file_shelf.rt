@@ -1,6 +1,7 @@
 ghost use Rattle.std.specs.Prelude.{◌≡◌, ◌≤◌, ◌<◌, ◌+◌, ◌-◌, ◌^◌, min, List, ℕ, length, None, Some, IfOk, IfSome, is_some, OnErr, false};
 
-use crate::{Failed, Shelf, Text};
+use crate::{Failed, Shelf};
+use msc_base::Text;
 use std::fs;
 use std::io::{ErrorKind, Read};
 use std::rt::Files;

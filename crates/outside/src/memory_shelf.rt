@@ -4,7 +4,8 @@ ghost use Rattle.outside.specs.Shelves.{Moves};
 
 use crate::calls::{fails_next, next_number};
 use crate::entry::find;
-use crate::{Entry, Failed, NoMemory, Shelf, Text};
+use crate::{Entry, Failed, Shelf};
+use msc_base::{NoMemory, Text};
 use std::alloc::Global;
 
 /// A shelf in memory, which can be told to fail.

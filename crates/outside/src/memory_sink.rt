@@ -1,7 +1,8 @@
 ghost use Rattle.std.specs.Prelude.{◌≡◌, ◌≤◌, ◌<◌, ◌++◌, List, ℕ, length, take, Some, vec_len, vec_capacity};
 
 use crate::calls::{fails_next, next_number};
-use crate::{Failed, NoMemory, Sink};
+use crate::{Failed, Sink};
+use msc_base::NoMemory;
 use std::alloc::Global;
 
 /// A sink in memory, of fixed room, which can be told to fail.

@@ -3,7 +3,7 @@ ghost use Rattle.std.specs.Io.KnownBytes.{Appends, Keeps};
 ghost use Rattle.outside.specs.Causes.{HasCause};
 ghost use Rattle.outside.specs.Shelves.{Files, Opens, MovesKnown};
 
-use crate::Text;
+use msc_base::Text;
 
 /// A call of a shelf or a sink that failed.
 #[derive(Clone, Copy, Debug, PartialEq, Eq)]

@@ -1,0 +1,5 @@
+pub mod BitFacts
+pub mod RisingFacts
+pub mod WordFacts
+pub mod SetFacts
+pub mod NodeSetFacts

@@ -1,0 +1,2 @@
+pub mod Unfoldings
+pub mod Runs
