@@ -1,3 +1,5 @@
+//! Names numbered as they are first seen: for the labels of graphs and events, and for the instances of charts.
+
 ghost use Rattle.std.specs.Prelude.{◌≡◌, ℕ, [], List, map, OnOk, OnErr, position, length};
 ghost use Rattle.std.specs.Str.{bytes_eq};
 ghost use Rattle.msc_base.specs.NameTables.{with_name};
