@@ -1,3 +1,5 @@
+//! What permission by a block leaves of a term, part by part. Descent and ascent ask it for what is before an event.
+
 ghost use Rattle.std.specs.Prelude.{◌≡◌, ◌∷◌, ◌<◌, ◌≤◌, Bool, IfOk, OnOk, Some, None, if◌then◌else◌, length, take, map};
 ghost use Rattle.chart_term.specs.NormalForms.{choice_of, only, walk_of, walk_cut};
 ghost use Rattle.chart_term.specs.Properties.{Each, MayHave};

@@ -1,3 +1,5 @@
+//! What is left of a term after an event with a label: a search down to each such event. trace_judge steps sets by it.
+
 ghost use Rattle.std.specs.Prelude.{◌≡◌, ◌<◌, ◌≤◌, ◌++◌, List, IfOk, IfSome, IfNone, OnOk, OnErr};
 ghost use Rattle.chart_term.specs.Terms.{Tree, Event as EventTree};
 ghost use Rattle.chart_term.specs.Views.{event_of};

@@ -1,3 +1,5 @@
+//! Follows the events of one log to a verdict, whatever the store. It knows labels and lines, and no bytes.
+
 ghost use Rattle.std.specs.Prelude.{◌≡◌, ◌≤◌, ◌<◌, ◌+◌, ◌++◌, ◌∷◌, [], ℕ, List, IfOk, OnOk, OnErr};
 ghost use Rattle.term_tables.specs.NetValues.{NetsValue};
 ghost use Rattle.chart_term.specs.Terms.{Tree};
