@@ -4,3 +4,4 @@ pub mod Graphs
 pub mod Labels
 pub mod Statements
 pub mod Views
+pub mod Directions
