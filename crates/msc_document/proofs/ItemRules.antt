@@ -1,5 +1,5 @@
 -- The laws and rules of inline expressions, multis and events, by those of operands with the word behind them.
-use Rattle.std.proofs.Common.{ℕ, zero, suc, ◌≡◌, ◌∙◌, ◌++◌, ◌⊎◌, List, [], ◌∷◌, refl, sym, ap, inl, inr, subst, append-nil, Bool, true, false, Some, None, codes}
+use Rattle.std.proofs.Common.{ℕ, zero, suc, ◌≡◌, ◌∙◌, ◌++◌, ◌⊎◌, List, [], ◌∷◌, refl, sym, ap, inl, inr, subst, append-nil, true, Some, None, codes}
 use Rattle.std.proofs.lemmas.Bool.{or_cases}
 use Rattle.msc_tokens.specs.declared.token.Token.{Token}
 use Rattle.msc_tree.specs.declared.reference.InlineForm.{InlineForm}

@@ -1,5 +1,5 @@
 -- Parts in which nothing opens a level.
-use Rattle.std.proofs.Common.{ℕ, List, [], ◌∷◌, Some, None, Bool, true, false, codes}
+use Rattle.std.proofs.Common.{ℕ, List, [], ◌∷◌, Some, None, codes}
 use Rattle.msc_tree.specs.declared.chart.Cover.TheVariants.{All, Listed}
 use Rattle.msc_tree.specs.declared.reference.JoinEnd.TheVariants.{Env, Reference}
 use Rattle.token_grammar.specs.Classes.{string}

@@ -1,5 +1,5 @@
 -- The laws and rules of statements outside columns, for all numbers of levels.
-use Rattle.std.proofs.Common.{ℕ, zero, suc, ◌≡◌, ◌∙◌, ◌++◌, ◌⊎◌, true, false, List, [], ◌∷◌, length, refl, sym, ap, inl, inr, subst, append-nil, Option, Some, None, Ok, Err, arith, codes}
+use Rattle.std.proofs.Common.{ℕ, zero, suc, ◌≡◌, ◌∙◌, ◌++◌, ◌⊎◌, true, List, [], ◌∷◌, length, refl, sym, ap, inl, inr, subst, append-nil, Option, Some, None, Ok, Err, arith, codes}
 use Rattle.msc_tokens.specs.declared.token.Token.{Token}
 use Rattle.msc_tree.specs.declared.reference.InlineForm.{InlineForm}
 use Rattle.msc_tree.specs.declared.reference.InlineForm.TheVariants.{Alt, Opt, Par, Loop, Exc}

@@ -8,12 +8,12 @@ ghost use Rattle.msc_document.specs.ItemReaders.{body_view, inline_parts, item_o
 
 use crate::reference::reference;
 use msc_base::{Name, Place};
-use msc_expression::Bounds;
 use msc_events::{Orientation, condition, coregion, single, stop};
-use token_grammar::ReadFault;
+use msc_expression::Bounds;
 use msc_tokens::Token;
 use msc_tree::{Cover, InlineForm, RawForm, RawInline, RawItem, RawOperand};
 use std::alloc::Global;
+use token_grammar::ReadFault;
 
 /// A single event.
 pub fn single_item(alloc: Global, tokens: &[Token]) -> Result<(RawItem, &[Token]), ReadFault>

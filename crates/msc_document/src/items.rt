@@ -15,14 +15,14 @@ use crate::line_parts::{column_of, covered_by, end_statement, heading_statement,
 use crate::naming::{closing, naming};
 use crate::starts::{starts_with_event, starts_with_form, starts_with_multi};
 use msc_base::{Name, Names, Place};
-use msc_expression::{Bounds, loop_bounds, open};
 use msc_events::{Orientation, decl, starts_with_single};
-use token_grammar::{
-    ReadFault, ending, placed_lead, starts_with, starts_with_either, starts_with_lead, word,
-};
+use msc_expression::{Bounds, loop_bounds, open};
 use msc_tokens::Token;
 use msc_tree::{Cover, InlineForm, RawItem, RawOperand, Statement};
 use std::alloc::Global;
+use token_grammar::{
+    ReadFault, ending, placed_lead, starts_with, starts_with_either, starts_with_lead, word,
+};
 
 /// An event of a column, or elsewhere, where so many levels may still be opened.
 #[cycle(items)]

@@ -4,10 +4,10 @@ ghost use Rattle.msc_document.specs.DocumentReaders.{some_name_at, naming_at, cl
 
 use msc_base::Name;
 use msc_events::{Orientation, shared_in};
-use token_grammar::{ReadFault, ending, own_name, starts_with_name, word};
 use msc_tokens::Token;
 use msc_tree::Cover;
 use std::alloc::Global;
+use token_grammar::{ReadFault, ending, own_name, starts_with_name, word};
 
 /// A name, where there is one.
 fn some_name(alloc: Global, tokens: &[Token]) -> Result<(Option<Name>, &[Token]), ReadFault>

@@ -6,12 +6,12 @@ ghost use Rattle.msc_expression.specs.ExpressionReaders.{expression_at};
 ghost use Rattle.msc_document.specs.DocumentReaders as specs;
 
 use msc_base::Place;
-use msc_expression::expression;
 use msc_events::{Orientation, joins, shared_in};
-use token_grammar::{ReadFault, ending, own_name, starts_with, starts_with_name, word};
+use msc_expression::expression;
 use msc_tokens::Token;
 use msc_tree::{Cover, JoinList, RawReference, RefExpr};
 use std::alloc::Global;
+use token_grammar::{ReadFault, ending, own_name, starts_with, starts_with_name, word};
 
 /// What the gates of a reference are joined with, where that is said.
 fn some_joins(alloc: Global, tokens: &[Token]) -> Result<(JoinList, &[Token]), ReadFault>

@@ -3,10 +3,10 @@ ghost use Rattle.msc_events.specs.MultiReaders.{sharers_at, some_sharers_at, sha
 
 use crate::orientation::Orientation;
 use msc_base::{Items, Names, Place};
-use token_grammar::{ReadFault, ending, names, starts_with, starts_with_name, word};
 use msc_tokens::Token;
 use msc_tree::Cover;
 use std::alloc::Global;
+use token_grammar::{ReadFault, ending, names, starts_with, starts_with_name, word};
 
 /// All instances, or those of these names.
 fn sharers(alloc: Global, tokens: &[Token]) -> Result<(Cover, &[Token]), ReadFault>
