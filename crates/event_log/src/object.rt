@@ -10,9 +10,9 @@ use crate::Version;
 use crate::text_line::{is_allowed, tokens_of};
 use msc_base::{Far, Kind, Label, Name, NameRefused, NoMemory, Text};
 use msc_events::parse_text;
-use token_grammar::ParseFault;
 use msc_tokens::TokenList;
 use std::alloc::Global;
+use token_grammar::ParseFault;
 
 /// The kind with a message that the text names.
 fn message_kind_of(text: &str) -> Option<Kind>

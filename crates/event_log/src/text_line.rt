@@ -11,9 +11,9 @@ use crate::Version;
 use crate::line::Line;
 use msc_base::{Kind, Label, NoMemory, is_text};
 use msc_events::parse_event;
-use token_grammar::ParseFault;
 use msc_tokens::{LexFault, Token, TokenList, lex_all};
 use std::alloc::Global;
+use token_grammar::ParseFault;
 
 /// Whether the bytes are digits.
 fn is_digits(bytes: &[u8]) -> bool

@@ -24,6 +24,7 @@ use Rattle.msc_document.proofs.Continued.{nothing, whole_continued}
 use Rattle.msc_document.proofs.ItemRules.{Events, TailLaws, TailRules, PartLaws, PartRules, shut_laws, inner_laws, shut_rules, inner_rules, events_law, events_rule, events_late, events_late_brink, events_begun, form_text, form_text_is, other_word}
 use Rattle.msc_document.proofs.LineRules.{Flattened, upto_law, upto_rule}
 use Rattle.msc_document.proofs.Lines.{grouped, next_state}
+use Rattle.msc_events.specs.declared.orientation.Orientation.TheVariants as written
 
 abbrev Held : ℕ → Grammar (List Item)
 Held m = each (column_event m)
@@ -53,7 +54,7 @@ no_closing Exc xs = refl
 no_closing Loop xs = refl
 
 abbrev ColumnEvents : ℕ → Grammar Item
-ColumnEvents n = Events true column_operand Held none_yet First Behind no_end no_closing n
+ColumnEvents n = Events written.Column column_operand Held none_yet First Behind no_end no_closing n
 
 events_are : (n : ℕ) → ColumnEvents n ≡ column_event n
 unfolding column_event
@@ -61,29 +62,29 @@ events_are zero = refl
 events_are (suc n) = refl
 
 abbrev ColumnLaws : ℕ → Type 0
-ColumnLaws n = TailLaws true column_operand Held none_yet First Behind no_end no_closing n
+ColumnLaws n = TailLaws written.Column column_operand Held none_yet First Behind no_end no_closing n
 
 abbrev ColumnRules : ℕ → (InlineForm → List Token → Read (Tail (List Item))) → Type 0
-ColumnRules n p = TailRules true column_operand Held none_yet First Behind no_end no_closing n p
+ColumnRules n p = TailRules written.Column column_operand Held none_yet First Behind no_end no_closing n p
 
 abbrev ColumnParts : ℕ → Type 0
-ColumnParts n = PartLaws true column_operand Held none_yet First Behind no_end no_closing n
+ColumnParts n = PartLaws written.Column column_operand Held none_yet First Behind no_end no_closing n
 
 -- what an event begins with, where it opens a level too many
 event_starts : (n : ℕ) (p : InlineForm → List Token → Read (Tail (List Item))) → ColumnRules n p → (x : List Token) → (ColumnEvents n).brink x → starts event_words x ≡ true
 event_starts n p t x h =
     subst (λ l. starts event_words l ≡ true) (append-nil x)
-    (opening_starts (reads_of ColumnEvents) (brink_of ColumnEvents) event_words none n (events_rule true column_operand Held none_yet First Behind no_end no_closing n p t).known x h [])
+    (opening_starts (reads_of ColumnEvents) (brink_of ColumnEvents) event_words none n (events_rule written.Column column_operand Held none_yet First Behind no_end no_closing n p t).known x h [])
 
 and_first : (a b : Bool) → (a && b) ≡ true → a ≡ true
 and_first true b g = refl
 and_first false b g = cc
 
 column_event_law : (n : ℕ) → ColumnLaws n → Law column_event n event_words none
-column_event_law n t = equal_law events_are (events_law true column_operand Held none_yet First Behind no_end no_closing n t)
+column_event_law n t = equal_law events_are (events_law written.Column column_operand Held none_yet First Behind no_end no_closing n t)
 
-column_event_rule : (n : ℕ) (p : InlineForm → List Token → Read (Tail (List Item))) → ColumnRules n p → Rule column_event n event_words none (event_at true column_operand (expression_at n) p)
-column_event_rule n p t = equal_rule events_are (events_rule true column_operand Held none_yet First Behind no_end no_closing n p t)
+column_event_rule : (n : ℕ) (p : InlineForm → List Token → Read (Tail (List Item))) → ColumnRules n p → Rule column_event n event_words none (event_at written.Column column_operand (expression_at n) p)
+column_event_rule n p t = equal_rule events_are (events_rule written.Column column_operand Held none_yet First Behind no_end no_closing n p t)
 
 -- ---- up to a word
 
@@ -147,10 +148,10 @@ module _ (closer : Option InlineForm) where
 
       pick : (c : Option InlineForm) → closer ≡ c → second W (closer_seconds closer) x ≡ true
       pick None same = other_word event_words W (closer_seconds closer) x (subst (λ (o : Option InlineForm). apart event_words (closer_word (codes "endinstance") o) ≡ true) (sym same) refl)
-          ((events_law true column_operand Held none_yet First Behind no_end no_closing n t).laws.begins m x h.0 e) w
+          ((events_law written.Column column_operand Held none_yet First Behind no_end no_closing n t).laws.begins m x h.0 e) w
       pick (Some form) same =
           subst (λ (o : Option InlineForm). second (closer_word (codes "endinstance") o) (closer_seconds o) x ≡ true) (sym same)
-          (events_late true column_operand Held none_yet First Behind no_end no_closing form n m t x h.0 e (subst (λ (o : Option InlineForm). starts (closer_word (codes "endinstance") o) x ≡ true) same w))
+          (events_late written.Column column_operand Held none_yet First Behind no_end no_closing form n m t x h.0 e (subst (λ (o : Option InlineForm). starts (closer_word (codes "endinstance") o) x ≡ true) same w))
 
   late_brink : (n : ℕ) (p : InlineForm → List Token → Read (Tail (List Item))) → ColumnRules n p → (q : Single) (x : List Token) → (Mix q n).brink x → starts W x ≡ true → second W (closer_seconds closer) x ≡ true
   late_brink n p t q x h w = pick closer refl
@@ -163,7 +164,7 @@ module _ (closer : Option InlineForm) where
           (event_starts n p t x e) w
       pick (Some form) same =
           subst (λ (o : Option InlineForm). second (closer_word (codes "endinstance") o) (closer_seconds o) x ≡ true) (sym same)
-          (events_late_brink true column_operand Held none_yet First Behind no_end no_closing form n p t x e (subst (λ (o : Option InlineForm). starts (closer_word (codes "endinstance") o) x ≡ true) same w))
+          (events_late_brink written.Column column_operand Held none_yet First Behind no_end no_closing form n p t x e (subst (λ (o : Option InlineForm). starts (closer_word (codes "endinstance") o) x ≡ true) same w))
 
   begun : (n : ℕ) → ((m : ℕ) → ColumnParts m) → (q : Single) (d e : Token) → among event_words d ≡ true → among W d ≡ true → among (closer_seconds closer) e ≡ true → Viable (reads_of (Mix q)) (suc n) (d ∷ e ∷ [])
   begun n laws q d e f w s = pick closer refl
@@ -171,7 +172,7 @@ module _ (closer : Option InlineForm) where
       pick : (c : Option InlineForm) → closer ≡ c → Viable (reads_of (Mix q)) (suc n) (d ∷ e ∷ [])
       pick None same = absurd (not_both (sym (subst (λ (o : Option InlineForm). among (closer_seconds o) e ≡ true) same s)))
       pick (Some form) same =
-          let v = events_begun true column_operand Held none_yet First Behind no_end no_closing laws form n d e (subst (λ (o : Option InlineForm). among (closer_word (codes "endinstance") o) d ≡ true) same w)
+          let v = events_begun written.Column column_operand Held none_yet First Behind no_end no_closing laws form n d e (subst (λ (o : Option InlineForm). among (closer_word (codes "endinstance") o) d ≡ true) same w)
           (subst (λ (o : Option InlineForm). among (closer_seconds o) e ≡ true) same s) in
           record { more = v.more; value = inl v.value; holds = (v.value, subst (λ g. g.reads (d ∷ e ∷ v.more) v.value) (events_are (suc n)) v.holds, refl) }
 
@@ -265,13 +266,13 @@ module _ (closer : Option InlineForm) where
       (rows_law W (next_state one_kind) Mix Words Seconds n (late n t) (column_mix_law n t) tt)
 
   upto_column_rule : (n : ℕ) → ((m : ℕ) → ColumnLaws m) → ((m : ℕ) → ColumnParts m) → (p : InlineForm → List Token → Read (Tail (List Item))) → ColumnRules n p
-      → Rule (λ m. before (Held m) (word W)) n (event_words ++ W) (λ xs. closer_seconds closer) (column_at closer (event_at true column_operand (expression_at n) p))
+      → Rule (λ m. before (Held m) (word W)) n (event_words ++ W) (λ xs. closer_seconds closer) (column_at closer (event_at written.Column column_operand (expression_at n) p))
   upto_column_rule n laws parts p t =
       let e = column_event_rule n p t in
-      rule_by (λ m. before (Held m) (word W)) n (event_words ++ W) (λ xs. closer_seconds closer) (λ ts. rows_here (event_at true column_operand (expression_at n) p) (eats_of column_event n event_words none (event_at true column_operand (expression_at n) p) e event_words) (length ts) ts) (column_at closer (event_at true column_operand (expression_at n) p))
-      (λ ts. same_loop (event_at true column_operand (expression_at n) p) (eats_of column_event n event_words none (event_at true column_operand (expression_at n) p) e event_words) (length ts) ts (omega arith))
+      rule_by (λ m. before (Held m) (word W)) n (event_words ++ W) (λ xs. closer_seconds closer) (λ ts. rows_here (event_at written.Column column_operand (expression_at n) p) (eats_of column_event n event_words none (event_at written.Column column_operand (expression_at n) p) e event_words) (length ts) ts) (column_at closer (event_at written.Column column_operand (expression_at n) p))
+      (λ ts. same_loop (event_at written.Column column_operand (expression_at n) p) (eats_of column_event n event_words none (event_at written.Column column_operand (expression_at n) p) e event_words) (length ts) ts (omega arith))
       (upto_rule W one_kind unchanged column_event column_event Nothing Mix Words Seconds tt flattened n
-      (rows_rule W (next_state one_kind) Mix Words Seconds n (late n (laws n)) (late_brink n p t) some_text.0 some_text.1 (begun n parts) able (λ q. map_at inl (event_at true column_operand (expression_at n) p)) (λ q. as_rule inl none e (λ a. refl)) tt))
+      (rows_rule W (next_state one_kind) Mix Words Seconds n (late n (laws n)) (late_brink n p t) some_text.0 some_text.1 (begun n parts) able (λ q. map_at inl (event_at written.Column column_operand (expression_at n) p)) (λ q. as_rule inl none e (λ a. refl)) tt))
 
 -- ---- all numbers of levels
 
@@ -279,20 +280,20 @@ column_part_laws : (n : ℕ) → ColumnLaws n → ColumnParts n
 column_part_laws n t k = upto_column_law (Some k) n t
 
 column_laws : (n : ℕ) → ColumnLaws n
-column_laws zero = shut_laws true column_operand Held none_yet First Behind no_end no_closing
-column_laws (suc n) = inner_laws true column_operand Held none_yet First Behind no_end no_closing n (column_part_laws n (column_laws n))
+column_laws zero = shut_laws written.Column column_operand Held none_yet First Behind no_end no_closing
+column_laws (suc n) = inner_laws written.Column column_operand Held none_yet First Behind no_end no_closing n (column_part_laws n (column_laws n))
 
 column_parts : (n : ℕ) → ColumnParts n
 column_parts n = column_part_laws n (column_laws n)
 
 column_part_rules : (n : ℕ) (p : InlineForm → List Token → Read (Tail (List Item))) → ColumnRules n p
-    → PartRules true column_operand Held none_yet First Behind no_end no_closing n (λ k. column_at (Some k) (event_at true column_operand (expression_at n) p))
+    → PartRules written.Column column_operand Held none_yet First Behind no_end no_closing n (λ k. column_at (Some k) (event_at written.Column column_operand (expression_at n) p))
 column_part_rules n p t k = upto_column_rule (Some k) n column_laws column_parts p t
 
 column_rules : (n : ℕ) → ColumnRules n (column_tails_at n)
 unfolding column_tails_at
-column_rules zero = shut_rules true column_operand Held none_yet First Behind no_end no_closing column_parts
-column_rules (suc n) = inner_rules true column_operand Held none_yet First Behind no_end no_closing n (λ k. column_at (Some k) (column_event_at n)) (column_part_rules n (column_tails_at n) (column_rules n))
+column_rules zero = shut_rules written.Column column_operand Held none_yet First Behind no_end no_closing column_parts
+column_rules (suc n) = inner_rules written.Column column_operand Held none_yet First Behind no_end no_closing n (λ k. column_at (Some k) (column_event_at n)) (column_part_rules n (column_tails_at n) (column_rules n))
 
 -- a column of a chart with the word behind it
 pub column_law : (n : ℕ) → Law (λ m. before (Held m) (word (just (codes "endinstance")))) n (event_words ++ just (codes "endinstance")) none

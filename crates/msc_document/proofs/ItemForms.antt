@@ -17,6 +17,7 @@ use Rattle.msc_document.specs.DocumentGrammar.{column_operand, outside_operand}
 use Rattle.msc_document.specs.DocumentReaders.{form_word, form_words, multi_words, single_item_at, coregion_item_at, stop_item_at, condition_item_at, reference_item_at, body_at, form_at, inline_at, multi_at, event_at, column_at, column_tails_at, column_event_at, outside_at, outside_tails_at}
 use Rattle.msc_document.specs.ItemReaders.{operand_at, inline_body_at, level_at, inline_tail_at, item_of, inline_form_at, inline_item_at, multi_item_at, event_item_at}
 use Rattle.msc_document.proofs.OperandMaps.{body_map}
+use Rattle.msc_events.specs.declared.orientation.Orientation.TheVariants as written
 
 module _ {A : Type 0} (g : A → Operand) where
   abbrev in_body : Naming × List A → Naming × List Operand
@@ -77,48 +78,48 @@ either_same false p q r t e f = f
 
 -- ---- in a column
 
-column_tails : (n : ℕ) (form : InlineForm) (ts : List Token) → inline_tail_at true form n ts ≡ mapped (in_tail column_operand) (column_tails_at n form ts)
+column_tails : (n : ℕ) (form : InlineForm) (ts : List Token) → inline_tail_at written.Column form n ts ≡ mapped (in_tail column_operand) (column_tails_at n form ts)
 unfolding column_tails_at
-column_tails zero Alt ts = ap (mapped taken_once) (sym (none_left (just (codes "begin")) (inline_body_at true Alt) ts) ∙ shut_same column_operand (just (codes "begin")) ts) ∙ once_same column_operand (opens_at (just (codes "begin")) None ts)
-column_tails zero Par ts = ap (mapped taken_once) (sym (none_left (just (codes "begin")) (inline_body_at true Par) ts) ∙ shut_same column_operand (just (codes "begin")) ts) ∙ once_same column_operand (opens_at (just (codes "begin")) None ts)
-column_tails zero Opt ts = ap (mapped taken_once) (sym (none_left (just (codes "begin")) (inline_body_at true Opt) ts) ∙ shut_same column_operand (just (codes "begin")) ts) ∙ once_same column_operand (opens_at (just (codes "begin")) None ts)
-column_tails zero Exc ts = ap (mapped taken_once) (sym (none_left (just (codes "begin")) (inline_body_at true Exc) ts) ∙ shut_same column_operand (just (codes "begin")) ts) ∙ once_same column_operand (opens_at (just (codes "begin")) None ts)
-column_tails zero Loop ts = bounds_same column_operand (level_at true Loop zero) (opens_at (just (codes "begin")) None) (λ us. sym (none_left (just (codes "begin")) (inline_body_at true Loop) us) ∙ shut_same column_operand (just (codes "begin")) us) (loop_bounds_at ts)
-column_tails (suc n) Alt ts = ap (mapped taken_once) (sym (one_more_level (just (codes "begin")) (inline_body_at true Alt) n ts) ∙ opened_same column_operand (just (codes "begin")) (inline_body_at true Alt n) (body_at true Alt (column_at (Some Alt) (column_event_at n))) (body_map column_operand (operand_at true Alt n) (column_at (Some Alt) (column_event_at n)) (λ vs. refl) true Alt) ts) ∙ once_same column_operand (opens_at (just (codes "begin")) (Some (body_at true Alt (column_at (Some Alt) (column_event_at n)))) ts)
-column_tails (suc n) Par ts = ap (mapped taken_once) (sym (one_more_level (just (codes "begin")) (inline_body_at true Par) n ts) ∙ opened_same column_operand (just (codes "begin")) (inline_body_at true Par n) (body_at true Par (column_at (Some Par) (column_event_at n))) (body_map column_operand (operand_at true Par n) (column_at (Some Par) (column_event_at n)) (λ vs. refl) true Par) ts) ∙ once_same column_operand (opens_at (just (codes "begin")) (Some (body_at true Par (column_at (Some Par) (column_event_at n)))) ts)
-column_tails (suc n) Opt ts = ap (mapped taken_once) (sym (one_more_level (just (codes "begin")) (inline_body_at true Opt) n ts) ∙ opened_same column_operand (just (codes "begin")) (inline_body_at true Opt n) (body_at true Opt (column_at (Some Opt) (column_event_at n))) (body_map column_operand (operand_at true Opt n) (column_at (Some Opt) (column_event_at n)) (λ vs. refl) true Opt) ts) ∙ once_same column_operand (opens_at (just (codes "begin")) (Some (body_at true Opt (column_at (Some Opt) (column_event_at n)))) ts)
-column_tails (suc n) Exc ts = ap (mapped taken_once) (sym (one_more_level (just (codes "begin")) (inline_body_at true Exc) n ts) ∙ opened_same column_operand (just (codes "begin")) (inline_body_at true Exc n) (body_at true Exc (column_at (Some Exc) (column_event_at n))) (body_map column_operand (operand_at true Exc n) (column_at (Some Exc) (column_event_at n)) (λ vs. refl) true Exc) ts) ∙ once_same column_operand (opens_at (just (codes "begin")) (Some (body_at true Exc (column_at (Some Exc) (column_event_at n)))) ts)
-column_tails (suc n) Loop ts = bounds_same column_operand (level_at true Loop (suc n)) (opens_at (just (codes "begin")) (Some (body_at true Loop (column_at (Some Loop) (column_event_at n))))) (λ us. sym (one_more_level (just (codes "begin")) (inline_body_at true Loop) n us) ∙ opened_same column_operand (just (codes "begin")) (inline_body_at true Loop n) (body_at true Loop (column_at (Some Loop) (column_event_at n))) (body_map column_operand (operand_at true Loop n) (column_at (Some Loop) (column_event_at n)) (λ vs. refl) true Loop) us) (loop_bounds_at ts)
+column_tails zero Alt ts = ap (mapped taken_once) (sym (none_left (just (codes "begin")) (inline_body_at written.Column Alt) ts) ∙ shut_same column_operand (just (codes "begin")) ts) ∙ once_same column_operand (opens_at (just (codes "begin")) None ts)
+column_tails zero Par ts = ap (mapped taken_once) (sym (none_left (just (codes "begin")) (inline_body_at written.Column Par) ts) ∙ shut_same column_operand (just (codes "begin")) ts) ∙ once_same column_operand (opens_at (just (codes "begin")) None ts)
+column_tails zero Opt ts = ap (mapped taken_once) (sym (none_left (just (codes "begin")) (inline_body_at written.Column Opt) ts) ∙ shut_same column_operand (just (codes "begin")) ts) ∙ once_same column_operand (opens_at (just (codes "begin")) None ts)
+column_tails zero Exc ts = ap (mapped taken_once) (sym (none_left (just (codes "begin")) (inline_body_at written.Column Exc) ts) ∙ shut_same column_operand (just (codes "begin")) ts) ∙ once_same column_operand (opens_at (just (codes "begin")) None ts)
+column_tails zero Loop ts = bounds_same column_operand (level_at written.Column Loop zero) (opens_at (just (codes "begin")) None) (λ us. sym (none_left (just (codes "begin")) (inline_body_at written.Column Loop) us) ∙ shut_same column_operand (just (codes "begin")) us) (loop_bounds_at ts)
+column_tails (suc n) Alt ts = ap (mapped taken_once) (sym (one_more_level (just (codes "begin")) (inline_body_at written.Column Alt) n ts) ∙ opened_same column_operand (just (codes "begin")) (inline_body_at written.Column Alt n) (body_at written.Column Alt (column_at (Some Alt) (column_event_at n))) (body_map column_operand (operand_at written.Column Alt n) (column_at (Some Alt) (column_event_at n)) (λ vs. refl) written.Column Alt) ts) ∙ once_same column_operand (opens_at (just (codes "begin")) (Some (body_at written.Column Alt (column_at (Some Alt) (column_event_at n)))) ts)
+column_tails (suc n) Par ts = ap (mapped taken_once) (sym (one_more_level (just (codes "begin")) (inline_body_at written.Column Par) n ts) ∙ opened_same column_operand (just (codes "begin")) (inline_body_at written.Column Par n) (body_at written.Column Par (column_at (Some Par) (column_event_at n))) (body_map column_operand (operand_at written.Column Par n) (column_at (Some Par) (column_event_at n)) (λ vs. refl) written.Column Par) ts) ∙ once_same column_operand (opens_at (just (codes "begin")) (Some (body_at written.Column Par (column_at (Some Par) (column_event_at n)))) ts)
+column_tails (suc n) Opt ts = ap (mapped taken_once) (sym (one_more_level (just (codes "begin")) (inline_body_at written.Column Opt) n ts) ∙ opened_same column_operand (just (codes "begin")) (inline_body_at written.Column Opt n) (body_at written.Column Opt (column_at (Some Opt) (column_event_at n))) (body_map column_operand (operand_at written.Column Opt n) (column_at (Some Opt) (column_event_at n)) (λ vs. refl) written.Column Opt) ts) ∙ once_same column_operand (opens_at (just (codes "begin")) (Some (body_at written.Column Opt (column_at (Some Opt) (column_event_at n)))) ts)
+column_tails (suc n) Exc ts = ap (mapped taken_once) (sym (one_more_level (just (codes "begin")) (inline_body_at written.Column Exc) n ts) ∙ opened_same column_operand (just (codes "begin")) (inline_body_at written.Column Exc n) (body_at written.Column Exc (column_at (Some Exc) (column_event_at n))) (body_map column_operand (operand_at written.Column Exc n) (column_at (Some Exc) (column_event_at n)) (λ vs. refl) written.Column Exc) ts) ∙ once_same column_operand (opens_at (just (codes "begin")) (Some (body_at written.Column Exc (column_at (Some Exc) (column_event_at n)))) ts)
+column_tails (suc n) Loop ts = bounds_same column_operand (level_at written.Column Loop (suc n)) (opens_at (just (codes "begin")) (Some (body_at written.Column Loop (column_at (Some Loop) (column_event_at n))))) (λ us. sym (one_more_level (just (codes "begin")) (inline_body_at written.Column Loop) n us) ∙ opened_same column_operand (just (codes "begin")) (inline_body_at written.Column Loop n) (body_at written.Column Loop (column_at (Some Loop) (column_event_at n))) (body_map column_operand (operand_at written.Column Loop n) (column_at (Some Loop) (column_event_at n)) (λ vs. refl) written.Column Loop) us) (loop_bounds_at ts)
 
-column_inline_is : (n : ℕ) (ts : List Token) → inline_item_at true n ts ≡ inline_at column_operand (column_tails_at n) ts
-column_inline_is n ts = either_same (starts (form_word Alt) ts) (inline_form_at true Alt n ts) (cond (starts (form_word Par) ts) (inline_form_at true Par n ts) (cond (starts (form_word Opt) ts) (inline_form_at true Opt n ts) (cond (starts (form_word Exc) ts) (inline_form_at true Exc n ts) (inline_form_at true Loop n ts)))) (form_at column_operand Alt (column_tails_at n Alt) ts) (cond (starts (form_word Par) ts) (form_at column_operand Par (column_tails_at n Par) ts) (cond (starts (form_word Opt) ts) (form_at column_operand Opt (column_tails_at n Opt) ts) (cond (starts (form_word Exc) ts) (form_at column_operand Exc (column_tails_at n Exc) ts) (form_at column_operand Loop (column_tails_at n Loop) ts)))) (form_same column_operand Alt (inline_tail_at true Alt n) (column_tails_at n Alt) (column_tails n Alt) ts) (either_same (starts (form_word Par) ts) (inline_form_at true Par n ts) (cond (starts (form_word Opt) ts) (inline_form_at true Opt n ts) (cond (starts (form_word Exc) ts) (inline_form_at true Exc n ts) (inline_form_at true Loop n ts))) (form_at column_operand Par (column_tails_at n Par) ts) (cond (starts (form_word Opt) ts) (form_at column_operand Opt (column_tails_at n Opt) ts) (cond (starts (form_word Exc) ts) (form_at column_operand Exc (column_tails_at n Exc) ts) (form_at column_operand Loop (column_tails_at n Loop) ts))) (form_same column_operand Par (inline_tail_at true Par n) (column_tails_at n Par) (column_tails n Par) ts) (either_same (starts (form_word Opt) ts) (inline_form_at true Opt n ts) (cond (starts (form_word Exc) ts) (inline_form_at true Exc n ts) (inline_form_at true Loop n ts)) (form_at column_operand Opt (column_tails_at n Opt) ts) (cond (starts (form_word Exc) ts) (form_at column_operand Exc (column_tails_at n Exc) ts) (form_at column_operand Loop (column_tails_at n Loop) ts)) (form_same column_operand Opt (inline_tail_at true Opt n) (column_tails_at n Opt) (column_tails n Opt) ts) (either_same (starts (form_word Exc) ts) (inline_form_at true Exc n ts) (inline_form_at true Loop n ts) (form_at column_operand Exc (column_tails_at n Exc) ts) (form_at column_operand Loop (column_tails_at n Loop) ts) (form_same column_operand Exc (inline_tail_at true Exc n) (column_tails_at n Exc) (column_tails n Exc) ts) (form_same column_operand Loop (inline_tail_at true Loop n) (column_tails_at n Loop) (column_tails n Loop) ts))))
+column_inline_is : (n : ℕ) (ts : List Token) → inline_item_at written.Column n ts ≡ inline_at column_operand (column_tails_at n) ts
+column_inline_is n ts = either_same (starts (form_word Alt) ts) (inline_form_at written.Column Alt n ts) (cond (starts (form_word Par) ts) (inline_form_at written.Column Par n ts) (cond (starts (form_word Opt) ts) (inline_form_at written.Column Opt n ts) (cond (starts (form_word Exc) ts) (inline_form_at written.Column Exc n ts) (inline_form_at written.Column Loop n ts)))) (form_at column_operand Alt (column_tails_at n Alt) ts) (cond (starts (form_word Par) ts) (form_at column_operand Par (column_tails_at n Par) ts) (cond (starts (form_word Opt) ts) (form_at column_operand Opt (column_tails_at n Opt) ts) (cond (starts (form_word Exc) ts) (form_at column_operand Exc (column_tails_at n Exc) ts) (form_at column_operand Loop (column_tails_at n Loop) ts)))) (form_same column_operand Alt (inline_tail_at written.Column Alt n) (column_tails_at n Alt) (column_tails n Alt) ts) (either_same (starts (form_word Par) ts) (inline_form_at written.Column Par n ts) (cond (starts (form_word Opt) ts) (inline_form_at written.Column Opt n ts) (cond (starts (form_word Exc) ts) (inline_form_at written.Column Exc n ts) (inline_form_at written.Column Loop n ts))) (form_at column_operand Par (column_tails_at n Par) ts) (cond (starts (form_word Opt) ts) (form_at column_operand Opt (column_tails_at n Opt) ts) (cond (starts (form_word Exc) ts) (form_at column_operand Exc (column_tails_at n Exc) ts) (form_at column_operand Loop (column_tails_at n Loop) ts))) (form_same column_operand Par (inline_tail_at written.Column Par n) (column_tails_at n Par) (column_tails n Par) ts) (either_same (starts (form_word Opt) ts) (inline_form_at written.Column Opt n ts) (cond (starts (form_word Exc) ts) (inline_form_at written.Column Exc n ts) (inline_form_at written.Column Loop n ts)) (form_at column_operand Opt (column_tails_at n Opt) ts) (cond (starts (form_word Exc) ts) (form_at column_operand Exc (column_tails_at n Exc) ts) (form_at column_operand Loop (column_tails_at n Loop) ts)) (form_same column_operand Opt (inline_tail_at written.Column Opt n) (column_tails_at n Opt) (column_tails n Opt) ts) (either_same (starts (form_word Exc) ts) (inline_form_at written.Column Exc n ts) (inline_form_at written.Column Loop n ts) (form_at column_operand Exc (column_tails_at n Exc) ts) (form_at column_operand Loop (column_tails_at n Loop) ts) (form_same column_operand Exc (inline_tail_at written.Column Exc n) (column_tails_at n Exc) (column_tails n Exc) ts) (form_same column_operand Loop (inline_tail_at written.Column Loop n) (column_tails_at n Loop) (column_tails n Loop) ts))))
 
-pub column_multi_is : (n : ℕ) (ts : List Token) → multi_item_at true n ts ≡ multi_at true column_operand (expression_at n) (column_tails_at n) ts
-column_multi_is n ts = ap (λ r. cond (starts (just (codes "condition")) ts) (condition_item_at true ts) (cond (starts form_words ts) r (reference_item_at true (expression_at n) ts))) (column_inline_is n ts)
+pub column_multi_is : (n : ℕ) (ts : List Token) → multi_item_at written.Column n ts ≡ multi_at written.Column column_operand (expression_at n) (column_tails_at n) ts
+column_multi_is n ts = ap (λ r. cond (starts (just (codes "condition")) ts) (condition_item_at written.Column ts) (cond (starts form_words ts) r (reference_item_at written.Column (expression_at n) ts))) (column_inline_is n ts)
 
-pub column_event_is : (n : ℕ) (ts : List Token) → event_item_at true n ts ≡ event_at true column_operand (expression_at n) (column_tails_at n) ts
+pub column_event_is : (n : ℕ) (ts : List Token) → event_item_at written.Column n ts ≡ event_at written.Column column_operand (expression_at n) (column_tails_at n) ts
 column_event_is n ts = ap (λ r. cond (starts single_words ts) (single_item_at ts) (cond (starts (just (codes "concurrent")) ts) (coregion_item_at ts) (cond (starts multi_words ts) r (stop_item_at ts)))) (column_multi_is n ts)
 
 -- ---- elsewhere
 
-outside_tails : (n : ℕ) (form : InlineForm) (ts : List Token) → inline_tail_at false form n ts ≡ mapped (in_tail outside_operand) (outside_tails_at n form ts)
+outside_tails : (n : ℕ) (form : InlineForm) (ts : List Token) → inline_tail_at written.Covered form n ts ≡ mapped (in_tail outside_operand) (outside_tails_at n form ts)
 unfolding outside_tails_at
-outside_tails zero Alt ts = ap (mapped taken_once) (sym (none_left (just (codes "begin")) (inline_body_at false Alt) ts) ∙ shut_same outside_operand (just (codes "begin")) ts) ∙ once_same outside_operand (opens_at (just (codes "begin")) None ts)
-outside_tails zero Par ts = ap (mapped taken_once) (sym (none_left (just (codes "begin")) (inline_body_at false Par) ts) ∙ shut_same outside_operand (just (codes "begin")) ts) ∙ once_same outside_operand (opens_at (just (codes "begin")) None ts)
-outside_tails zero Opt ts = ap (mapped taken_once) (sym (none_left (just (codes "begin")) (inline_body_at false Opt) ts) ∙ shut_same outside_operand (just (codes "begin")) ts) ∙ once_same outside_operand (opens_at (just (codes "begin")) None ts)
-outside_tails zero Exc ts = ap (mapped taken_once) (sym (none_left (just (codes "begin")) (inline_body_at false Exc) ts) ∙ shut_same outside_operand (just (codes "begin")) ts) ∙ once_same outside_operand (opens_at (just (codes "begin")) None ts)
-outside_tails zero Loop ts = bounds_same outside_operand (level_at false Loop zero) (opens_at (just (codes "begin")) None) (λ us. sym (none_left (just (codes "begin")) (inline_body_at false Loop) us) ∙ shut_same outside_operand (just (codes "begin")) us) (loop_bounds_at ts)
-outside_tails (suc n) Alt ts = ap (mapped taken_once) (sym (one_more_level (just (codes "begin")) (inline_body_at false Alt) n ts) ∙ opened_same outside_operand (just (codes "begin")) (inline_body_at false Alt n) (body_at false Alt (outside_at Alt n (outside_tails_at n))) (body_map outside_operand (operand_at false Alt n) (outside_at Alt n (outside_tails_at n)) (λ vs. refl) false Alt) ts) ∙ once_same outside_operand (opens_at (just (codes "begin")) (Some (body_at false Alt (outside_at Alt n (outside_tails_at n)))) ts)
-outside_tails (suc n) Par ts = ap (mapped taken_once) (sym (one_more_level (just (codes "begin")) (inline_body_at false Par) n ts) ∙ opened_same outside_operand (just (codes "begin")) (inline_body_at false Par n) (body_at false Par (outside_at Par n (outside_tails_at n))) (body_map outside_operand (operand_at false Par n) (outside_at Par n (outside_tails_at n)) (λ vs. refl) false Par) ts) ∙ once_same outside_operand (opens_at (just (codes "begin")) (Some (body_at false Par (outside_at Par n (outside_tails_at n)))) ts)
-outside_tails (suc n) Opt ts = ap (mapped taken_once) (sym (one_more_level (just (codes "begin")) (inline_body_at false Opt) n ts) ∙ opened_same outside_operand (just (codes "begin")) (inline_body_at false Opt n) (body_at false Opt (outside_at Opt n (outside_tails_at n))) (body_map outside_operand (operand_at false Opt n) (outside_at Opt n (outside_tails_at n)) (λ vs. refl) false Opt) ts) ∙ once_same outside_operand (opens_at (just (codes "begin")) (Some (body_at false Opt (outside_at Opt n (outside_tails_at n)))) ts)
-outside_tails (suc n) Exc ts = ap (mapped taken_once) (sym (one_more_level (just (codes "begin")) (inline_body_at false Exc) n ts) ∙ opened_same outside_operand (just (codes "begin")) (inline_body_at false Exc n) (body_at false Exc (outside_at Exc n (outside_tails_at n))) (body_map outside_operand (operand_at false Exc n) (outside_at Exc n (outside_tails_at n)) (λ vs. refl) false Exc) ts) ∙ once_same outside_operand (opens_at (just (codes "begin")) (Some (body_at false Exc (outside_at Exc n (outside_tails_at n)))) ts)
-outside_tails (suc n) Loop ts = bounds_same outside_operand (level_at false Loop (suc n)) (opens_at (just (codes "begin")) (Some (body_at false Loop (outside_at Loop n (outside_tails_at n))))) (λ us. sym (one_more_level (just (codes "begin")) (inline_body_at false Loop) n us) ∙ opened_same outside_operand (just (codes "begin")) (inline_body_at false Loop n) (body_at false Loop (outside_at Loop n (outside_tails_at n))) (body_map outside_operand (operand_at false Loop n) (outside_at Loop n (outside_tails_at n)) (λ vs. refl) false Loop) us) (loop_bounds_at ts)
+outside_tails zero Alt ts = ap (mapped taken_once) (sym (none_left (just (codes "begin")) (inline_body_at written.Covered Alt) ts) ∙ shut_same outside_operand (just (codes "begin")) ts) ∙ once_same outside_operand (opens_at (just (codes "begin")) None ts)
+outside_tails zero Par ts = ap (mapped taken_once) (sym (none_left (just (codes "begin")) (inline_body_at written.Covered Par) ts) ∙ shut_same outside_operand (just (codes "begin")) ts) ∙ once_same outside_operand (opens_at (just (codes "begin")) None ts)
+outside_tails zero Opt ts = ap (mapped taken_once) (sym (none_left (just (codes "begin")) (inline_body_at written.Covered Opt) ts) ∙ shut_same outside_operand (just (codes "begin")) ts) ∙ once_same outside_operand (opens_at (just (codes "begin")) None ts)
+outside_tails zero Exc ts = ap (mapped taken_once) (sym (none_left (just (codes "begin")) (inline_body_at written.Covered Exc) ts) ∙ shut_same outside_operand (just (codes "begin")) ts) ∙ once_same outside_operand (opens_at (just (codes "begin")) None ts)
+outside_tails zero Loop ts = bounds_same outside_operand (level_at written.Covered Loop zero) (opens_at (just (codes "begin")) None) (λ us. sym (none_left (just (codes "begin")) (inline_body_at written.Covered Loop) us) ∙ shut_same outside_operand (just (codes "begin")) us) (loop_bounds_at ts)
+outside_tails (suc n) Alt ts = ap (mapped taken_once) (sym (one_more_level (just (codes "begin")) (inline_body_at written.Covered Alt) n ts) ∙ opened_same outside_operand (just (codes "begin")) (inline_body_at written.Covered Alt n) (body_at written.Covered Alt (outside_at Alt n (outside_tails_at n))) (body_map outside_operand (operand_at written.Covered Alt n) (outside_at Alt n (outside_tails_at n)) (λ vs. refl) written.Covered Alt) ts) ∙ once_same outside_operand (opens_at (just (codes "begin")) (Some (body_at written.Covered Alt (outside_at Alt n (outside_tails_at n)))) ts)
+outside_tails (suc n) Par ts = ap (mapped taken_once) (sym (one_more_level (just (codes "begin")) (inline_body_at written.Covered Par) n ts) ∙ opened_same outside_operand (just (codes "begin")) (inline_body_at written.Covered Par n) (body_at written.Covered Par (outside_at Par n (outside_tails_at n))) (body_map outside_operand (operand_at written.Covered Par n) (outside_at Par n (outside_tails_at n)) (λ vs. refl) written.Covered Par) ts) ∙ once_same outside_operand (opens_at (just (codes "begin")) (Some (body_at written.Covered Par (outside_at Par n (outside_tails_at n)))) ts)
+outside_tails (suc n) Opt ts = ap (mapped taken_once) (sym (one_more_level (just (codes "begin")) (inline_body_at written.Covered Opt) n ts) ∙ opened_same outside_operand (just (codes "begin")) (inline_body_at written.Covered Opt n) (body_at written.Covered Opt (outside_at Opt n (outside_tails_at n))) (body_map outside_operand (operand_at written.Covered Opt n) (outside_at Opt n (outside_tails_at n)) (λ vs. refl) written.Covered Opt) ts) ∙ once_same outside_operand (opens_at (just (codes "begin")) (Some (body_at written.Covered Opt (outside_at Opt n (outside_tails_at n)))) ts)
+outside_tails (suc n) Exc ts = ap (mapped taken_once) (sym (one_more_level (just (codes "begin")) (inline_body_at written.Covered Exc) n ts) ∙ opened_same outside_operand (just (codes "begin")) (inline_body_at written.Covered Exc n) (body_at written.Covered Exc (outside_at Exc n (outside_tails_at n))) (body_map outside_operand (operand_at written.Covered Exc n) (outside_at Exc n (outside_tails_at n)) (λ vs. refl) written.Covered Exc) ts) ∙ once_same outside_operand (opens_at (just (codes "begin")) (Some (body_at written.Covered Exc (outside_at Exc n (outside_tails_at n)))) ts)
+outside_tails (suc n) Loop ts = bounds_same outside_operand (level_at written.Covered Loop (suc n)) (opens_at (just (codes "begin")) (Some (body_at written.Covered Loop (outside_at Loop n (outside_tails_at n))))) (λ us. sym (one_more_level (just (codes "begin")) (inline_body_at written.Covered Loop) n us) ∙ opened_same outside_operand (just (codes "begin")) (inline_body_at written.Covered Loop n) (body_at written.Covered Loop (outside_at Loop n (outside_tails_at n))) (body_map outside_operand (operand_at written.Covered Loop n) (outside_at Loop n (outside_tails_at n)) (λ vs. refl) written.Covered Loop) us) (loop_bounds_at ts)
 
-outside_inline_is : (n : ℕ) (ts : List Token) → inline_item_at false n ts ≡ inline_at outside_operand (outside_tails_at n) ts
-outside_inline_is n ts = either_same (starts (form_word Alt) ts) (inline_form_at false Alt n ts) (cond (starts (form_word Par) ts) (inline_form_at false Par n ts) (cond (starts (form_word Opt) ts) (inline_form_at false Opt n ts) (cond (starts (form_word Exc) ts) (inline_form_at false Exc n ts) (inline_form_at false Loop n ts)))) (form_at outside_operand Alt (outside_tails_at n Alt) ts) (cond (starts (form_word Par) ts) (form_at outside_operand Par (outside_tails_at n Par) ts) (cond (starts (form_word Opt) ts) (form_at outside_operand Opt (outside_tails_at n Opt) ts) (cond (starts (form_word Exc) ts) (form_at outside_operand Exc (outside_tails_at n Exc) ts) (form_at outside_operand Loop (outside_tails_at n Loop) ts)))) (form_same outside_operand Alt (inline_tail_at false Alt n) (outside_tails_at n Alt) (outside_tails n Alt) ts) (either_same (starts (form_word Par) ts) (inline_form_at false Par n ts) (cond (starts (form_word Opt) ts) (inline_form_at false Opt n ts) (cond (starts (form_word Exc) ts) (inline_form_at false Exc n ts) (inline_form_at false Loop n ts))) (form_at outside_operand Par (outside_tails_at n Par) ts) (cond (starts (form_word Opt) ts) (form_at outside_operand Opt (outside_tails_at n Opt) ts) (cond (starts (form_word Exc) ts) (form_at outside_operand Exc (outside_tails_at n Exc) ts) (form_at outside_operand Loop (outside_tails_at n Loop) ts))) (form_same outside_operand Par (inline_tail_at false Par n) (outside_tails_at n Par) (outside_tails n Par) ts) (either_same (starts (form_word Opt) ts) (inline_form_at false Opt n ts) (cond (starts (form_word Exc) ts) (inline_form_at false Exc n ts) (inline_form_at false Loop n ts)) (form_at outside_operand Opt (outside_tails_at n Opt) ts) (cond (starts (form_word Exc) ts) (form_at outside_operand Exc (outside_tails_at n Exc) ts) (form_at outside_operand Loop (outside_tails_at n Loop) ts)) (form_same outside_operand Opt (inline_tail_at false Opt n) (outside_tails_at n Opt) (outside_tails n Opt) ts) (either_same (starts (form_word Exc) ts) (inline_form_at false Exc n ts) (inline_form_at false Loop n ts) (form_at outside_operand Exc (outside_tails_at n Exc) ts) (form_at outside_operand Loop (outside_tails_at n Loop) ts) (form_same outside_operand Exc (inline_tail_at false Exc n) (outside_tails_at n Exc) (outside_tails n Exc) ts) (form_same outside_operand Loop (inline_tail_at false Loop n) (outside_tails_at n Loop) (outside_tails n Loop) ts))))
+outside_inline_is : (n : ℕ) (ts : List Token) → inline_item_at written.Covered n ts ≡ inline_at outside_operand (outside_tails_at n) ts
+outside_inline_is n ts = either_same (starts (form_word Alt) ts) (inline_form_at written.Covered Alt n ts) (cond (starts (form_word Par) ts) (inline_form_at written.Covered Par n ts) (cond (starts (form_word Opt) ts) (inline_form_at written.Covered Opt n ts) (cond (starts (form_word Exc) ts) (inline_form_at written.Covered Exc n ts) (inline_form_at written.Covered Loop n ts)))) (form_at outside_operand Alt (outside_tails_at n Alt) ts) (cond (starts (form_word Par) ts) (form_at outside_operand Par (outside_tails_at n Par) ts) (cond (starts (form_word Opt) ts) (form_at outside_operand Opt (outside_tails_at n Opt) ts) (cond (starts (form_word Exc) ts) (form_at outside_operand Exc (outside_tails_at n Exc) ts) (form_at outside_operand Loop (outside_tails_at n Loop) ts)))) (form_same outside_operand Alt (inline_tail_at written.Covered Alt n) (outside_tails_at n Alt) (outside_tails n Alt) ts) (either_same (starts (form_word Par) ts) (inline_form_at written.Covered Par n ts) (cond (starts (form_word Opt) ts) (inline_form_at written.Covered Opt n ts) (cond (starts (form_word Exc) ts) (inline_form_at written.Covered Exc n ts) (inline_form_at written.Covered Loop n ts))) (form_at outside_operand Par (outside_tails_at n Par) ts) (cond (starts (form_word Opt) ts) (form_at outside_operand Opt (outside_tails_at n Opt) ts) (cond (starts (form_word Exc) ts) (form_at outside_operand Exc (outside_tails_at n Exc) ts) (form_at outside_operand Loop (outside_tails_at n Loop) ts))) (form_same outside_operand Par (inline_tail_at written.Covered Par n) (outside_tails_at n Par) (outside_tails n Par) ts) (either_same (starts (form_word Opt) ts) (inline_form_at written.Covered Opt n ts) (cond (starts (form_word Exc) ts) (inline_form_at written.Covered Exc n ts) (inline_form_at written.Covered Loop n ts)) (form_at outside_operand Opt (outside_tails_at n Opt) ts) (cond (starts (form_word Exc) ts) (form_at outside_operand Exc (outside_tails_at n Exc) ts) (form_at outside_operand Loop (outside_tails_at n Loop) ts)) (form_same outside_operand Opt (inline_tail_at written.Covered Opt n) (outside_tails_at n Opt) (outside_tails n Opt) ts) (either_same (starts (form_word Exc) ts) (inline_form_at written.Covered Exc n ts) (inline_form_at written.Covered Loop n ts) (form_at outside_operand Exc (outside_tails_at n Exc) ts) (form_at outside_operand Loop (outside_tails_at n Loop) ts) (form_same outside_operand Exc (inline_tail_at written.Covered Exc n) (outside_tails_at n Exc) (outside_tails n Exc) ts) (form_same outside_operand Loop (inline_tail_at written.Covered Loop n) (outside_tails_at n Loop) (outside_tails n Loop) ts))))
 
-pub outside_multi_is : (n : ℕ) (ts : List Token) → multi_item_at false n ts ≡ multi_at false outside_operand (expression_at n) (outside_tails_at n) ts
-outside_multi_is n ts = ap (λ r. cond (starts (just (codes "condition")) ts) (condition_item_at false ts) (cond (starts form_words ts) r (reference_item_at false (expression_at n) ts))) (outside_inline_is n ts)
+pub outside_multi_is : (n : ℕ) (ts : List Token) → multi_item_at written.Covered n ts ≡ multi_at written.Covered outside_operand (expression_at n) (outside_tails_at n) ts
+outside_multi_is n ts = ap (λ r. cond (starts (just (codes "condition")) ts) (condition_item_at written.Covered ts) (cond (starts form_words ts) r (reference_item_at written.Covered (expression_at n) ts))) (outside_inline_is n ts)
 
-pub outside_event_is : (n : ℕ) (ts : List Token) → event_item_at false n ts ≡ event_at false outside_operand (expression_at n) (outside_tails_at n) ts
+pub outside_event_is : (n : ℕ) (ts : List Token) → event_item_at written.Covered n ts ≡ event_at written.Covered outside_operand (expression_at n) (outside_tails_at n) ts
 outside_event_is n ts = ap (λ r. cond (starts single_words ts) (single_item_at ts) (cond (starts (just (codes "concurrent")) ts) (coregion_item_at ts) (cond (starts multi_words ts) r (stop_item_at ts)))) (outside_multi_is n ts)

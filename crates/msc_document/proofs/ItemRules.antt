@@ -1,5 +1,5 @@
 -- The laws and rules of inline expressions, multis and events, by those of operands with the word behind them.
-use Rattle.std.proofs.Common.{ℕ, zero, suc, ◌≡◌, ◌∙◌, ◌++◌, ◌⊎◌, List, [], ◌∷◌, refl, sym, ap, inl, inr, subst, append-nil, Bool, true, false, Some, None, codes}
+use Rattle.std.proofs.Common.{ℕ, zero, suc, ◌≡◌, ◌∙◌, ◌++◌, ◌⊎◌, List, [], ◌∷◌, refl, sym, ap, inl, inr, subst, append-nil, true, Some, None, codes}
 use Rattle.std.proofs.lemmas.Bool.{or_cases}
 use Rattle.msc_tokens.specs.declared.token.Token.{Token}
 use Rattle.msc_tree.specs.declared.reference.InlineForm.{InlineForm}
@@ -35,6 +35,8 @@ use Rattle.msc_document.proofs.OperandRules.{several_law, several_rule, naming_w
 use Rattle.msc_document.proofs.OperandRules as operands
 use Rattle.msc_document.proofs.Parts.{behind_in}
 use Rattle.msc_document.proofs.References.{reference_law, reference_rule}
+use Rattle.msc_events.specs.declared.orientation.Orientation.{Orientation}
+use Rattle.msc_events.specs.declared.orientation.Orientation.TheVariants as written
 
 -- the words of two forms are one, or no token is both
 same_or_apart : (j k : InlineForm) → (apart (form_word j) (form_word k) ≡ true) ⊎ (j ≡ k)
@@ -116,17 +118,17 @@ some_bounds e is = (
 )
 
 -- operands with their words: what begins them, and what can't follow the word
-module _ {A : Type 0} (column : Bool) (f : A → Operand) (E : ℕ → Grammar A) (none_yet : (m : ℕ) → (a : A) × (E m).reads [] a) (P : InlineForm → Set) (D : InlineForm → A → Set)
+module _ {A : Type 0} (orientation : Orientation) (f : A → Operand) (E : ℕ → Grammar A) (none_yet : (m : ℕ) → (a : A) × (E m).reads [] a) (P : InlineForm → Set) (D : InlineForm → A → Set)
     (no_end : (k : InlineForm) (a : A) → apart ends (D k a) ≡ true) (no_closing : (k : InlineForm) (a : A) → apart (just (codes "end")) (D k a) ≡ true) where
   abbrev pub Part : InlineForm → ℕ → Grammar A
   Part k m = before (E m) (word (form_word k))
 
   abbrev Body : InlineForm → ℕ → Grammar (Naming × List A)
-  Body Alt m = body (naming column) (several (form_word Alt) (E m))
-  Body Par m = body (naming column) (several (form_word Par) (E m))
-  Body Opt m = body (naming column) (inlines.single (form_word Opt) (E m))
-  Body Exc m = body (naming column) (inlines.single (form_word Exc) (E m))
-  Body Loop m = body (naming column) (inlines.single (form_word Loop) (E m))
+  Body Alt m = body (naming orientation) (several (form_word Alt) (E m))
+  Body Par m = body (naming orientation) (several (form_word Par) (E m))
+  Body Opt m = body (naming orientation) (inlines.single (form_word Opt) (E m))
+  Body Exc m = body (naming orientation) (inlines.single (form_word Exc) (E m))
+  Body Loop m = body (naming orientation) (inlines.single (form_word Loop) (E m))
 
   abbrev pub TailOf : InlineForm → ℕ → Grammar (Tail A)
   TailOf Alt n = read_as taken_once (Opened (just (codes "begin")) (Body Alt) n)
@@ -142,10 +144,10 @@ module _ {A : Type 0} (column : Bool) (f : A → Operand) (E : ℕ → Grammar A
   Inlines n = or (FormOf Alt n) (or (FormOf Par n) (or (FormOf Opt n) (or (FormOf Exc n) (FormOf Loop n))))
 
   abbrev Conditions : ℕ → Grammar Item
-  Conditions n = read_as (λ p. tree.placed p.0 (Condition p.1 p.2)) (condition column)
+  Conditions n = read_as (λ p. tree.placed p.0 (Condition p.1 p.2)) (condition orientation)
 
   abbrev References : ℕ → Grammar Item
-  References n = read_as (λ p. tree.placed p.0 (Refer p.1)) (reference column (expression n))
+  References n = read_as (λ p. tree.placed p.0 (Refer p.1)) (reference orientation (expression n))
 
   abbrev pub Multis : ℕ → Grammar Item
   Multis n = or (Conditions n) (or (Inlines n) (References n))
@@ -177,10 +179,10 @@ module _ {A : Type 0} (column : Bool) (f : A → Operand) (E : ℕ → Grammar A
   inlines_law n t = or_law (form_law Alt n (t Alt)) (or_law (form_law Par n (t Par)) (or_law (form_law Opt n (t Opt)) (or_law (form_law Exc n (t Exc)) (form_law Loop n (t Loop)) refl) refl) refl) refl
 
   conditions_law : (n : ℕ) → Law Conditions n (just (codes "condition")) none
-  conditions_law n = as_law (λ p. tree.placed p.0 (Condition p.1 p.2)) none (condition_law column n) (λ a. refl)
+  conditions_law n = as_law (λ p. tree.placed p.0 (Condition p.1 p.2)) none (condition_law orientation n) (λ a. refl)
 
   references_law : (n : ℕ) → Law References n (just (codes "reference")) none
-  references_law n = as_law (λ p. tree.placed p.0 (Refer p.1)) none (reference_law column n) (λ a. refl)
+  references_law n = as_law (λ p. tree.placed p.0 (Refer p.1)) none (reference_law orientation n) (λ a. refl)
 
   singles_law : (n : ℕ) → Law Singles n single_words none
   singles_law n = as_law (λ e. tree.placed e.place (Single e)) none (single_law n) (λ a. refl)
@@ -197,12 +199,12 @@ module _ {A : Type 0} (column : Bool) (f : A → Operand) (E : ℕ → Grammar A
   pub events_law : (n : ℕ) → TailLaws n → Law Events n event_words none
   events_law n t = or_law (singles_law n) (or_law (coregions_law n) (or_law (multis_law n t) (stops_law n) refl) refl) refl
 
-  body_law : (k : InlineForm) (n : ℕ) → Law (Part k) n (P k) (D k) → Law (Body k) n (naming_words column) none
-  body_law Alt n r = seq_law (naming_law column n) (several_law (form_word Alt) E (P Alt) (D Alt) n (no_end Alt) (no_closing Alt) r) (λ a. apart_none (P Alt))
-  body_law Par n r = seq_law (naming_law column n) (several_law (form_word Par) E (P Par) (D Par) n (no_end Par) (no_closing Par) r) (λ a. apart_none (P Par))
-  body_law Opt n r = seq_law (naming_law column n) (operands.single_law (form_word Opt) E (P Opt) (D Opt) n (no_end Opt) (no_closing Opt) r) (λ a. apart_none (P Opt))
-  body_law Exc n r = seq_law (naming_law column n) (operands.single_law (form_word Exc) E (P Exc) (D Exc) n (no_end Exc) (no_closing Exc) r) (λ a. apart_none (P Exc))
-  body_law Loop n r = seq_law (naming_law column n) (operands.single_law (form_word Loop) E (P Loop) (D Loop) n (no_end Loop) (no_closing Loop) r) (λ a. apart_none (P Loop))
+  body_law : (k : InlineForm) (n : ℕ) → Law (Part k) n (P k) (D k) → Law (Body k) n (naming_words orientation) none
+  body_law Alt n r = seq_law (naming_law orientation n) (several_law (form_word Alt) E (P Alt) (D Alt) n (no_end Alt) (no_closing Alt) r) (λ a. apart_none (P Alt))
+  body_law Par n r = seq_law (naming_law orientation n) (several_law (form_word Par) E (P Par) (D Par) n (no_end Par) (no_closing Par) r) (λ a. apart_none (P Par))
+  body_law Opt n r = seq_law (naming_law orientation n) (operands.single_law (form_word Opt) E (P Opt) (D Opt) n (no_end Opt) (no_closing Opt) r) (λ a. apart_none (P Opt))
+  body_law Exc n r = seq_law (naming_law orientation n) (operands.single_law (form_word Exc) E (P Exc) (D Exc) n (no_end Exc) (no_closing Exc) r) (λ a. apart_none (P Exc))
+  body_law Loop n r = seq_law (naming_law orientation n) (operands.single_law (form_word Loop) E (P Loop) (D Loop) n (no_end Loop) (no_closing Loop) r) (λ a. apart_none (P Loop))
 
   pub shut_laws : TailLaws 0
   shut_laws Alt = as_law taken_once none (shut_law (just (codes "begin"))) (λ a. refl)
@@ -342,11 +344,11 @@ module _ {A : Type 0} (column : Bool) (f : A → Operand) (E : ℕ → Grammar A
   inlines_rule : (n : ℕ) (p : InlineForm → List Token → Read (Tail A)) → TailRules n p → Rule Inlines n form_words none (inline_at f p)
   inlines_rule n p t = or_rule (form_rule Alt n (t Alt)) (or_rule (form_rule Par n (t Par)) (or_rule (form_rule Opt n (t Opt)) (or_rule (form_rule Exc n (t Exc)) (form_rule Loop n (t Loop)) refl) refl) refl) refl
 
-  conditions_rule : (n : ℕ) → Rule Conditions n (just (codes "condition")) none (map_at (λ p. tree.placed p.0 (Condition p.1 p.2)) (condition_at column))
-  conditions_rule n = as_rule (λ p. tree.placed p.0 (Condition p.1 p.2)) none (condition_rule column n) (λ a. refl)
+  conditions_rule : (n : ℕ) → Rule Conditions n (just (codes "condition")) none (map_at (λ p. tree.placed p.0 (Condition p.1 p.2)) (condition_at orientation))
+  conditions_rule n = as_rule (λ p. tree.placed p.0 (Condition p.1 p.2)) none (condition_rule orientation n) (λ a. refl)
 
-  references_rule : (n : ℕ) → Rule References n (just (codes "reference")) none (map_at (λ p. tree.placed p.0 (Refer p.1)) (reference_at column (expression_at n)))
-  references_rule n = as_rule (λ p. tree.placed p.0 (Refer p.1)) none (reference_rule column n) (λ a. refl)
+  references_rule : (n : ℕ) → Rule References n (just (codes "reference")) none (map_at (λ p. tree.placed p.0 (Refer p.1)) (reference_at orientation (expression_at n)))
+  references_rule n = as_rule (λ p. tree.placed p.0 (Refer p.1)) none (reference_rule orientation n) (λ a. refl)
 
   singles_rule : (n : ℕ) → Rule Singles n single_words none (map_at (λ e. tree.placed e.place (Single e)) single_at)
   singles_rule n = as_rule (λ e. tree.placed e.place (Single e)) none (single_rule n) (λ a. refl)
@@ -357,10 +359,10 @@ module _ {A : Type 0} (column : Bool) (f : A → Operand) (E : ℕ → Grammar A
   stops_rule : (n : ℕ) → Rule Stops n (just (codes "stop")) none (map_at (λ place. tree.placed place Stop) stop_at)
   stops_rule n = as_rule (λ place. tree.placed place Stop) none (stop_rule n) (λ a. refl)
 
-  pub multis_rule : (n : ℕ) (p : InlineForm → List Token → Read (Tail A)) → TailRules n p → Rule Multis n multi_words none (multi_at column f (expression_at n) p)
+  pub multis_rule : (n : ℕ) (p : InlineForm → List Token → Read (Tail A)) → TailRules n p → Rule Multis n multi_words none (multi_at orientation f (expression_at n) p)
   multis_rule n p t = or_rule (conditions_rule n) (or_rule (inlines_rule n p t) (references_rule n) refl) refl
 
-  pub events_rule : (n : ℕ) (p : InlineForm → List Token → Read (Tail A)) → TailRules n p → Rule Events n event_words none (event_at column f (expression_at n) p)
+  pub events_rule : (n : ℕ) (p : InlineForm → List Token → Read (Tail A)) → TailRules n p → Rule Events n event_words none (event_at orientation f (expression_at n) p)
   events_rule n p t = or_rule (singles_rule n) (or_rule (coregions_rule n) (or_rule (multis_rule n p t) (stops_rule n) refl) refl) refl
 
   pub multis_late_brink : (k : InlineForm) (n : ℕ) (p : InlineForm → List Token → Read (Tail A)) → TailRules n p → LateBrink k (Multis n)
@@ -375,33 +377,33 @@ module _ {A : Type 0} (column : Bool) (f : A → Operand) (E : ℕ → Grammar A
   abbrev pub PartRules : ℕ → (InlineForm → List Token → Read A) → Type 0
   PartRules n q = (k : InlineForm) → Rule (Part k) n (P k) (D k) (q k)
 
-  body_rule : (k : InlineForm) (n : ℕ) {q : List Token → Read A} → Rule (Part k) n (P k) (D k) q → Rule (Body k) n (naming_words column) none (body_at column k q)
-  body_rule Alt n r = seq_rule (naming_rule column n) (several_rule (form_word Alt) E (P Alt) (D Alt) n (no_end Alt) (no_closing Alt) r) (λ a. apart_none (P Alt))
-  body_rule Par n r = seq_rule (naming_rule column n) (several_rule (form_word Par) E (P Par) (D Par) n (no_end Par) (no_closing Par) r) (λ a. apart_none (P Par))
-  body_rule Opt n r = seq_rule (naming_rule column n) (operands.single_rule (form_word Opt) E (P Opt) (D Opt) n (no_end Opt) (no_closing Opt) r) (λ a. apart_none (P Opt))
-  body_rule Exc n r = seq_rule (naming_rule column n) (operands.single_rule (form_word Exc) E (P Exc) (D Exc) n (no_end Exc) (no_closing Exc) r) (λ a. apart_none (P Exc))
-  body_rule Loop n r = seq_rule (naming_rule column n) (operands.single_rule (form_word Loop) E (P Loop) (D Loop) n (no_end Loop) (no_closing Loop) r) (λ a. apart_none (P Loop))
+  body_rule : (k : InlineForm) (n : ℕ) {q : List Token → Read A} → Rule (Part k) n (P k) (D k) q → Rule (Body k) n (naming_words orientation) none (body_at orientation k q)
+  body_rule Alt n r = seq_rule (naming_rule orientation n) (several_rule (form_word Alt) E (P Alt) (D Alt) n (no_end Alt) (no_closing Alt) r) (λ a. apart_none (P Alt))
+  body_rule Par n r = seq_rule (naming_rule orientation n) (several_rule (form_word Par) E (P Par) (D Par) n (no_end Par) (no_closing Par) r) (λ a. apart_none (P Par))
+  body_rule Opt n r = seq_rule (naming_rule orientation n) (operands.single_rule (form_word Opt) E (P Opt) (D Opt) n (no_end Opt) (no_closing Opt) r) (λ a. apart_none (P Opt))
+  body_rule Exc n r = seq_rule (naming_rule orientation n) (operands.single_rule (form_word Exc) E (P Exc) (D Exc) n (no_end Exc) (no_closing Exc) r) (λ a. apart_none (P Exc))
+  body_rule Loop n r = seq_rule (naming_rule orientation n) (operands.single_rule (form_word Loop) E (P Loop) (D Loop) n (no_end Loop) (no_closing Loop) r) (λ a. apart_none (P Loop))
 
   -- the shortest operands
-  no_naming : (column : Bool) → (naming column).reads (token_of (codes ";") ∷ []) (None, None)
-  no_naming true = ((None, (None, tt)), ((None, (None, tt)), inr ((None, tt), inr (tt, no_comment, refl), refl), refl), refl)
-  no_naming false = ((None, (None, tt)), ((None, (None, tt)), inr ((None, tt), (tt, no_comment, refl), refl), refl), refl)
+  no_naming : (orientation : Orientation) → (naming orientation).reads (token_of (codes ";") ∷ []) (None, None)
+  no_naming written.Column = ((None, (None, tt)), ((None, (None, tt)), inr ((None, tt), inr (tt, no_comment, refl), refl), refl), refl)
+  no_naming written.Covered = ((None, (None, tt)), ((None, (None, tt)), inr ((None, tt), (tt, no_comment, refl), refl), refl), refl)
 
   body_word : (k : InlineForm) → Word (Body k)
-  body_word Alt = record { more = token_of (codes ";") ∷ token_of (codes "alt") ∷ token_of (codes "end") ∷ token_of (codes ";") ∷ []; value = ((None, None), (none_yet 0).0 ∷ []); holds = (token_of (codes ";") ∷ [], token_of (codes "alt") ∷ token_of (codes "end") ∷ token_of (codes ";") ∷ [], refl, no_naming column, (((none_yet 0).0, ([], tt)), ([], token_of (codes "alt") ∷ token_of (codes "end") ∷ token_of (codes ";") ∷ [], refl, (none_yet 0).1, ([], token_of (codes "alt") ∷ token_of (codes "end") ∷ token_of (codes ";") ∷ [], refl, refl, behind_in (form_word Alt) closing (token_of (codes "alt")) (token_of (codes "end") ∷ token_of (codes ";") ∷ []) tt refl (behind_in (just (codes "end")) ending (token_of (codes "end")) (token_of (codes ";") ∷ []) tt refl no_comment))), refl)) }
-  body_word Par = record { more = token_of (codes ";") ∷ token_of (codes "par") ∷ token_of (codes "end") ∷ token_of (codes ";") ∷ []; value = ((None, None), (none_yet 0).0 ∷ []); holds = (token_of (codes ";") ∷ [], token_of (codes "par") ∷ token_of (codes "end") ∷ token_of (codes ";") ∷ [], refl, no_naming column, (((none_yet 0).0, ([], tt)), ([], token_of (codes "par") ∷ token_of (codes "end") ∷ token_of (codes ";") ∷ [], refl, (none_yet 0).1, ([], token_of (codes "par") ∷ token_of (codes "end") ∷ token_of (codes ";") ∷ [], refl, refl, behind_in (form_word Par) closing (token_of (codes "par")) (token_of (codes "end") ∷ token_of (codes ";") ∷ []) tt refl (behind_in (just (codes "end")) ending (token_of (codes "end")) (token_of (codes ";") ∷ []) tt refl no_comment))), refl)) }
-  body_word Opt = record { more = token_of (codes ";") ∷ token_of (codes "opt") ∷ token_of (codes "end") ∷ token_of (codes ";") ∷ []; value = ((None, None), (none_yet 0).0 ∷ []); holds = (token_of (codes ";") ∷ [], token_of (codes "opt") ∷ token_of (codes "end") ∷ token_of (codes ";") ∷ [], refl, no_naming column, (((none_yet 0).0, tt), ([], token_of (codes "opt") ∷ token_of (codes "end") ∷ token_of (codes ";") ∷ [], refl, (none_yet 0).1, behind_in (form_word Opt) closing (token_of (codes "opt")) (token_of (codes "end") ∷ token_of (codes ";") ∷ []) tt refl (behind_in (just (codes "end")) ending (token_of (codes "end")) (token_of (codes ";") ∷ []) tt refl no_comment)), refl)) }
-  body_word Exc = record { more = token_of (codes ";") ∷ token_of (codes "exc") ∷ token_of (codes "end") ∷ token_of (codes ";") ∷ []; value = ((None, None), (none_yet 0).0 ∷ []); holds = (token_of (codes ";") ∷ [], token_of (codes "exc") ∷ token_of (codes "end") ∷ token_of (codes ";") ∷ [], refl, no_naming column, (((none_yet 0).0, tt), ([], token_of (codes "exc") ∷ token_of (codes "end") ∷ token_of (codes ";") ∷ [], refl, (none_yet 0).1, behind_in (form_word Exc) closing (token_of (codes "exc")) (token_of (codes "end") ∷ token_of (codes ";") ∷ []) tt refl (behind_in (just (codes "end")) ending (token_of (codes "end")) (token_of (codes ";") ∷ []) tt refl no_comment)), refl)) }
-  body_word Loop = record { more = token_of (codes ";") ∷ token_of (codes "loop") ∷ token_of (codes "end") ∷ token_of (codes ";") ∷ []; value = ((None, None), (none_yet 0).0 ∷ []); holds = (token_of (codes ";") ∷ [], token_of (codes "loop") ∷ token_of (codes "end") ∷ token_of (codes ";") ∷ [], refl, no_naming column, (((none_yet 0).0, tt), ([], token_of (codes "loop") ∷ token_of (codes "end") ∷ token_of (codes ";") ∷ [], refl, (none_yet 0).1, behind_in (form_word Loop) closing (token_of (codes "loop")) (token_of (codes "end") ∷ token_of (codes ";") ∷ []) tt refl (behind_in (just (codes "end")) ending (token_of (codes "end")) (token_of (codes ";") ∷ []) tt refl no_comment)), refl)) }
+  body_word Alt = record { more = token_of (codes ";") ∷ token_of (codes "alt") ∷ token_of (codes "end") ∷ token_of (codes ";") ∷ []; value = ((None, None), (none_yet 0).0 ∷ []); holds = (token_of (codes ";") ∷ [], token_of (codes "alt") ∷ token_of (codes "end") ∷ token_of (codes ";") ∷ [], refl, no_naming orientation, (((none_yet 0).0, ([], tt)), ([], token_of (codes "alt") ∷ token_of (codes "end") ∷ token_of (codes ";") ∷ [], refl, (none_yet 0).1, ([], token_of (codes "alt") ∷ token_of (codes "end") ∷ token_of (codes ";") ∷ [], refl, refl, behind_in (form_word Alt) closing (token_of (codes "alt")) (token_of (codes "end") ∷ token_of (codes ";") ∷ []) tt refl (behind_in (just (codes "end")) ending (token_of (codes "end")) (token_of (codes ";") ∷ []) tt refl no_comment))), refl)) }
+  body_word Par = record { more = token_of (codes ";") ∷ token_of (codes "par") ∷ token_of (codes "end") ∷ token_of (codes ";") ∷ []; value = ((None, None), (none_yet 0).0 ∷ []); holds = (token_of (codes ";") ∷ [], token_of (codes "par") ∷ token_of (codes "end") ∷ token_of (codes ";") ∷ [], refl, no_naming orientation, (((none_yet 0).0, ([], tt)), ([], token_of (codes "par") ∷ token_of (codes "end") ∷ token_of (codes ";") ∷ [], refl, (none_yet 0).1, ([], token_of (codes "par") ∷ token_of (codes "end") ∷ token_of (codes ";") ∷ [], refl, refl, behind_in (form_word Par) closing (token_of (codes "par")) (token_of (codes "end") ∷ token_of (codes ";") ∷ []) tt refl (behind_in (just (codes "end")) ending (token_of (codes "end")) (token_of (codes ";") ∷ []) tt refl no_comment))), refl)) }
+  body_word Opt = record { more = token_of (codes ";") ∷ token_of (codes "opt") ∷ token_of (codes "end") ∷ token_of (codes ";") ∷ []; value = ((None, None), (none_yet 0).0 ∷ []); holds = (token_of (codes ";") ∷ [], token_of (codes "opt") ∷ token_of (codes "end") ∷ token_of (codes ";") ∷ [], refl, no_naming orientation, (((none_yet 0).0, tt), ([], token_of (codes "opt") ∷ token_of (codes "end") ∷ token_of (codes ";") ∷ [], refl, (none_yet 0).1, behind_in (form_word Opt) closing (token_of (codes "opt")) (token_of (codes "end") ∷ token_of (codes ";") ∷ []) tt refl (behind_in (just (codes "end")) ending (token_of (codes "end")) (token_of (codes ";") ∷ []) tt refl no_comment)), refl)) }
+  body_word Exc = record { more = token_of (codes ";") ∷ token_of (codes "exc") ∷ token_of (codes "end") ∷ token_of (codes ";") ∷ []; value = ((None, None), (none_yet 0).0 ∷ []); holds = (token_of (codes ";") ∷ [], token_of (codes "exc") ∷ token_of (codes "end") ∷ token_of (codes ";") ∷ [], refl, no_naming orientation, (((none_yet 0).0, tt), ([], token_of (codes "exc") ∷ token_of (codes "end") ∷ token_of (codes ";") ∷ [], refl, (none_yet 0).1, behind_in (form_word Exc) closing (token_of (codes "exc")) (token_of (codes "end") ∷ token_of (codes ";") ∷ []) tt refl (behind_in (just (codes "end")) ending (token_of (codes "end")) (token_of (codes ";") ∷ []) tt refl no_comment)), refl)) }
+  body_word Loop = record { more = token_of (codes ";") ∷ token_of (codes "loop") ∷ token_of (codes "end") ∷ token_of (codes ";") ∷ []; value = ((None, None), (none_yet 0).0 ∷ []); holds = (token_of (codes ";") ∷ [], token_of (codes "loop") ∷ token_of (codes "end") ∷ token_of (codes ";") ∷ [], refl, no_naming orientation, (((none_yet 0).0, tt), ([], token_of (codes "loop") ∷ token_of (codes "end") ∷ token_of (codes ";") ∷ [], refl, (none_yet 0).1, behind_in (form_word Loop) closing (token_of (codes "loop")) (token_of (codes "end") ∷ token_of (codes ";") ∷ []) tt refl (behind_in (just (codes "end")) ending (token_of (codes "end")) (token_of (codes ";") ∷ []) tt refl no_comment)), refl)) }
 
-  pub shut_rules : ((m : ℕ) → PartLaws m) → TailRules 0 (λ k. tail_of_at column k None)
+  pub shut_rules : ((m : ℕ) → PartLaws m) → TailRules 0 (λ k. tail_of_at orientation k None)
   shut_rules r Alt = as_rule taken_once none (shut_rule (just (codes "begin")) (codes "begin") refl (λ m. body_law Alt m (r m Alt)) (body_word Alt)) (λ a. refl)
   shut_rules r Par = as_rule taken_once none (shut_rule (just (codes "begin")) (codes "begin") refl (λ m. body_law Par m (r m Par)) (body_word Par)) (λ a. refl)
   shut_rules r Opt = as_rule taken_once none (shut_rule (just (codes "begin")) (codes "begin") refl (λ m. body_law Opt m (r m Opt)) (body_word Opt)) (λ a. refl)
   shut_rules r Exc = as_rule taken_once none (shut_rule (just (codes "begin")) (codes "begin") refl (λ m. body_law Exc m (r m Exc)) (body_word Exc)) (λ a. refl)
   shut_rules r Loop = with_bounds_rule (shut_rule (just (codes "begin")) (codes "begin") refl (λ m. body_law Loop m (r m Loop)) (body_word Loop)) refl
 
-  pub inner_rules : (n : ℕ) (q : InlineForm → List Token → Read A) → PartRules n q → TailRules (suc n) (λ k. tail_of_at column k (Some (q k)))
+  pub inner_rules : (n : ℕ) (q : InlineForm → List Token → Read A) → PartRules n q → TailRules (suc n) (λ k. tail_of_at orientation k (Some (q k)))
   inner_rules n q r Alt = as_rule taken_once none (inner_rule (just (codes "begin")) (codes "begin") refl (body_rule Alt n (r Alt))) (λ a. refl)
   inner_rules n q r Par = as_rule taken_once none (inner_rule (just (codes "begin")) (codes "begin") refl (body_rule Par n (r Par))) (λ a. refl)
   inner_rules n q r Opt = as_rule taken_once none (inner_rule (just (codes "begin")) (codes "begin") refl (body_rule Opt n (r Opt))) (λ a. refl)

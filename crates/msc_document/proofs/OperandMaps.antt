@@ -8,6 +8,7 @@ use Rattle.token_grammar.specs.PartReaders.{ending_at}
 use Rattle.token_grammar.proofs.Optionals.{mapped, paired}
 use Rattle.msc_document.specs.Inlines.{Naming, firsts}
 use Rattle.msc_document.specs.DocumentReaders.{end_words, closing_at, next_part_at, several_at, single_operand_at, naming_at, operands_at, body_at}
+use Rattle.msc_events.specs.declared.orientation.Orientation.{Orientation}
 
 module _ {A B : Type 0} (g : A → B) where
   abbrev all : List A → List B
@@ -101,5 +102,5 @@ module _ {A B : Type 0} (g : A → B) where
         last (Err e) = refl
     body_of form (Err e) = refl
 
-    pub body_map : (column : Bool) (form : InlineForm) (ts : List Token) → body_at column form q ts ≡ mapped in_body (body_at column form p ts)
-    body_map column form ts = body_of form (naming_at column ts)
+    pub body_map : (orientation : Orientation) (form : InlineForm) (ts : List Token) → body_at orientation form q ts ≡ mapped in_body (body_at orientation form p ts)
+    body_map orientation form ts = body_of form (naming_at orientation ts)

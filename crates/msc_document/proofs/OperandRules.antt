@@ -17,6 +17,8 @@ use Rattle.msc_document.specs.DocumentGrammar.{naming}
 use Rattle.msc_document.specs.DocumentReaders.{closing_at, several_at, single_operand_at, naming_at}
 use Rattle.msc_document.proofs.Separators.{gathered, gather, spread_out, gather_brink, spread_brink, gathered_one, gather_one, spread_of_one, gather_one_brink, spread_one_brink}
 use Rattle.msc_document.proofs.Shallows.{ending_shallow, closing_shallow}
+use Rattle.msc_events.specs.declared.orientation.Orientation.{Orientation}
+use Rattle.msc_events.specs.declared.orientation.Orientation.TheVariants as written
 
 pub closing_rule : (n : ℕ) → Rule (λ m. closing) n (just (codes "end")) none closing_at
 closing_rule n = behind_rule (just (codes "end")) (codes "end") refl (ending_rule n)
@@ -58,15 +60,15 @@ module _ {A : Type 0} (w : Set) (P : ℕ → Grammar A) (F : Set) (C : A → Set
       (as_rule (λ p. p.0 ∷ []) none (seq_rule r (closing_rule n) no_closing) (λ a. refl))
 
 -- what a name and a shared list with their end begin with
-abbrev pub naming_words : Bool → Set
-naming_words column = names ++ (shared_words column ++ ends)
+abbrev pub naming_words : Orientation → Set
+naming_words orientation = names ++ (shared_words orientation ++ ends)
 
-pub naming_rule : (column : Bool) (n : ℕ) → Rule (λ m. naming column) n (naming_words column) none (naming_at column)
-naming_rule column n = as_rule (λ p. (p.0, p.1.0)) none (optional_rule kept (name_rule n) (shared_in_rule refl refl refl column (ending_rule n)) (λ a. apart_none (shared_words column ++ ends)) (free column)) (λ a. refl)
+pub naming_rule : (orientation : Orientation) (n : ℕ) → Rule (λ m. naming orientation) n (naming_words orientation) none (naming_at orientation)
+naming_rule orientation n = as_rule (λ p. (p.0, p.1.0)) none (optional_rule kept (name_rule n) (shared_in_rule refl refl refl orientation (ending_rule n)) (λ a. apart_none (shared_words orientation ++ ends)) (free orientation)) (λ a. refl)
   where
-    free : (column : Bool) → apart names (shared_words column ++ ends) ≡ true
-    free true = refl
-    free false = refl
+    free : (orientation : Orientation) → apart names (shared_words orientation ++ ends) ≡ true
+    free written.Column = refl
+    free written.Covered = refl
 
-pub naming_law : (column : Bool) (n : ℕ) → Law (λ m. naming column) n (naming_words column) none
-naming_law column n = record { laws = (naming_rule column n).known.laws n }
+pub naming_law : (orientation : Orientation) (n : ℕ) → Law (λ m. naming orientation) n (naming_words orientation) none
+naming_law orientation n = record { laws = (naming_rule orientation n).known.laws n }

@@ -1,16 +1,13 @@
 -- The answers for whole documents.
-use Rattle.std.proofs.Common.{ℕ, ◌≡◌, ◌∙◌, ◌==◌, true, false, List, [], ◌∷◌, length, refl, sym, ap, subst, arith, inl, inr, Result, Ok, Err, IfOk, IfErr}
-use Rattle.std.proofs.lemmas.Bool.{eqb-true}
+use Rattle.std.proofs.Common.{ℕ, ◌≡◌, ◌∙◌, List, [], ◌∷◌, length, refl, sym, ap, subst, inl, inr, Result, Ok, Err, IfOk, IfErr}
 use Rattle.msc_base.specs.declared.place.Place.{Place}
 use Rattle.msc_tokens.specs.declared.token.Token.{Token}
 use Rattle.msc_tree.specs.declared.chart.RawDocument.{RawDocument}
 use Rattle.msc_tree.specs.Charts.{Document}
 use Rattle.msc_tree.specs.Views.{document_view}
-use Rattle.token_grammar.specs.Answers.{Fails}
 use Rattle.token_grammar.specs.Exactness.{IsExact}
 use Rattle.token_grammar.specs.Languages.{Read, refused, deep}
 use Rattle.token_grammar.specs.Parsing.{IsRefused, IsTooDeep}
-use Rattle.token_grammar.specs.declared.readers.ReadFault.{ReadFault}
 use Rattle.token_grammar.specs.declared.fault.ParseFault.{ParseFault}
 use Rattle.token_grammar.specs.declared.fault.ParseFault.TheVariants as fault
 use Rattle.token_grammar.specs.Refusals.{IsFault, IsRefusal}

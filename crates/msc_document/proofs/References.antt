@@ -30,6 +30,8 @@ use Rattle.msc_expression.proofs.ExpressionRules.{first_words, after_expression,
 use Rattle.msc_document.specs.DocumentGrammar.{reference_parts, reference_of, reference}
 use Rattle.msc_document.proofs.Parts.{behind_in, behind_out, behind_brink_out}
 use Rattle.msc_document.specs.DocumentReaders.{some_joins_at, reference_parts_at, named_reference_at, reference_at}
+use Rattle.msc_events.specs.declared.orientation.Orientation.{Orientation}
+use Rattle.msc_events.specs.declared.orientation.Orientation.TheVariants as written
 
 -- ---- the same first tokens under another name
 
@@ -89,30 +91,30 @@ abbrev pub Sharing : Type 0
 Sharing = List Join × (Option Cover × Unit {0})
 
 -- [ joins ] [ shared ] end
-abbrev sharing : Bool → Grammar Sharing
-sharing column = optional all_or_none joins (shared_in column ending)
+abbrev sharing : Orientation → Grammar Sharing
+sharing orientation = optional all_or_none joins (shared_in orientation ending)
 
-abbrev sharing_words : Bool → Set
-sharing_words column = just (codes "via") ++ (shared_words column ++ ends)
+abbrev sharing_words : Orientation → Set
+sharing_words orientation = just (codes "via") ++ (shared_words orientation ++ ends)
 
-sharing_rule : (column : Bool) (n : ℕ) → Rule (λ m. sharing column) n (sharing_words column) none (seq_at some_joins_at (seq_at (shared_in_at column) ending_at))
-sharing_rule column n = optional_rule all_or_none (joins_rule n) (shared_in_rule refl refl refl column (ending_rule n)) (free column) (other column)
+sharing_rule : (orientation : Orientation) (n : ℕ) → Rule (λ m. sharing orientation) n (sharing_words orientation) none (seq_at some_joins_at (seq_at (shared_in_at orientation) ending_at))
+sharing_rule orientation n = optional_rule all_or_none (joins_rule n) (shared_in_rule refl refl refl orientation (ending_rule n)) (free orientation) (other orientation)
   where
-    free : (column : Bool) (a : List Join) → apart (shared_words column ++ ends) (just (codes ",")) ≡ true
-    free true a = refl
-    free false a = refl
+    free : (orientation : Orientation) (a : List Join) → apart (shared_words orientation ++ ends) (just (codes ",")) ≡ true
+    free written.Column a = refl
+    free written.Covered a = refl
 
-    other : (column : Bool) → apart (just (codes "via")) (shared_words column ++ ends) ≡ true
-    other true = refl
-    other false = refl
+    other : (orientation : Orientation) → apart (just (codes "via")) (shared_words orientation ++ ends) ≡ true
+    other written.Column = refl
+    other written.Covered = refl
 
-behind_expression : (column : Bool) (a : Expression) → apart (sharing_words column) (after_expression a) ≡ true
-behind_expression true a = refl
-behind_expression false a = refl
+behind_expression : (orientation : Orientation) (a : Expression) → apart (sharing_words orientation) (after_expression a) ≡ true
+behind_expression written.Column a = refl
+behind_expression written.Covered a = refl
 
-no_colon : (column : Bool) → apart (just (codes ":")) (sharing_words column) ≡ true
-no_colon true = refl
-no_colon false = refl
+no_colon : (orientation : Orientation) → apart (just (codes ":")) (sharing_words orientation) ≡ true
+no_colon written.Column = refl
+no_colon written.Covered = refl
 
 -- ---- a name alone is an expression
 
@@ -147,15 +149,15 @@ name_expression n t e =
     )
 
 -- nothing of it opens a level
-shared_shallow : (column : Bool) (p : List Token) → (sharing column).brink p → ⊥
-shared_shallow column p k = (optional_shallow all_or_none joins_shallow (shared_in_shallow column)).none p k
+shared_shallow : (orientation : Orientation) (p : List Token) → (sharing orientation).brink p → ⊥
+shared_shallow orientation p k = (optional_shallow all_or_none joins_shallow (shared_in_shallow orientation)).none p k
 
-module _ (column : Bool) where
+module _ (orientation : Orientation) where
   abbrev Parts : ℕ → Grammar (Expression × (List Join × Option Cover))
-  Parts n = reference_parts column (expression n)
+  Parts n = reference_parts orientation (expression n)
 
-  parts_rule : (n : ℕ) → Rule Parts n expression_words none (reference_parts_at column (expression_at n))
-  parts_rule n = as_rule (λ p. (p.0, (p.1.0, p.1.1.0))) none (seq_rule (expression_rule_here n) (sharing_rule column n) (behind_expression column)) (λ a. refl)
+  parts_rule : (n : ℕ) → Rule Parts n expression_words none (reference_parts_at orientation (expression_at n))
+  parts_rule n = as_rule (λ p. (p.0, (p.1.0, p.1.1.0))) none (seq_rule (expression_rule_here n) (sharing_rule orientation n) (behind_expression orientation)) (λ a. refl)
 
   parts_law : (n : ℕ) → Law Parts n expression_words none
   parts_law n = record { laws = (parts_rule n).known.laws n }
@@ -166,10 +168,10 @@ module _ (column : Bool) where
   abbrev Unnamed : ℕ → Grammar Reference
   Unnamed n = read_as (reference_of None) (Parts n)
 
-  named_rule : (n : ℕ) → Rule Named n names none (named_reference_at column (expression_at n))
+  named_rule : (n : ℕ) → Rule Named n names none (named_reference_at orientation (expression_at n))
   named_rule n = as_rule (λ p. reference_of (Some p.0) p.1) none (seq_rule (name_rule n) (behind_rule (just (codes ":")) (codes ":") refl (parts_rule n)) (λ a. refl)) (λ a. refl)
 
-  unnamed_rule : (n : ℕ) → Rule Unnamed n expression_words none (map_at (reference_of None) (reference_parts_at column (expression_at n)))
+  unnamed_rule : (n : ℕ) → Rule Unnamed n expression_words none (map_at (reference_of None) (reference_parts_at orientation (expression_at n)))
   unnamed_rule n = as_rule (reference_of None) none (parts_rule n) (λ a. refl)
 
   -- ---- the second token
@@ -198,7 +200,7 @@ module _ (column : Bool) where
 
   -- a name and a colon begin no expression and what stands behind it
   colon_behind : (m : ℕ) (t : Token) (u : List Token) → among names t ≡ true → starts (just (codes ":")) u ≡ true → (y : List Token) (a : Expression) → (expression m).reads y a → (w : List Token)
-      → starts (sharing_words column) w ≡ true ⊎ (w ≡ []) → t ∷ u ≡ y ++ w → ⊥
+      → starts (sharing_words orientation) w ≡ true ⊎ (w ≡ []) → t ∷ u ≡ y ++ w → ⊥
   colon_behind m t u e g y a h w s line =
       let one = name_expression m t e in
       let nu : NotStart (just (codes "alt") ++ (just (codes "par") ++ just (codes "seq"))) u = apart_start (just (codes ":")) (after_expression a) u refl g in
@@ -206,12 +208,12 @@ module _ (column : Bool) where
       let rest : u ≡ w = cancel (t ∷ []) u w (line ∙ ap (λ l. l ++ w) (sym same.0)) in
       behind s rest
     where
-      not_more : starts (sharing_words column) w ≡ true ⊎ (w ≡ []) → NotStart (after_expression a) w
-      not_more (inl f) = apart_start (sharing_words column) (after_expression a) w (behind_expression column a) f
+      not_more : starts (sharing_words orientation) w ≡ true ⊎ (w ≡ []) → NotStart (after_expression a) w
+      not_more (inl f) = apart_start (sharing_words orientation) (after_expression a) w (behind_expression orientation a) f
       not_more (inr f) = subst (NotStart (after_expression a)) (sym f) (no_start (after_expression a))
 
-      behind : starts (sharing_words column) w ≡ true ⊎ (w ≡ []) → u ≡ w → ⊥
-      behind (inl f) rest = two_starts (just (codes ":")) (sharing_words column) u (no_colon column) g (subst (λ l. starts (sharing_words column) l ≡ true) (sym rest) f)
+      behind : starts (sharing_words orientation) w ≡ true ⊎ (w ≡ []) → u ≡ w → ⊥
+      behind (inl f) rest = two_starts (just (codes ":")) (sharing_words orientation) u (no_colon orientation) g (subst (λ l. starts (sharing_words orientation) l ≡ true) (sym rest) f)
       behind (inr f) rest = not_both (sym (subst (λ l. starts (just (codes ":")) l ≡ true) (rest ∙ f) g))
 
   -- where the second token would decide for a name
@@ -233,11 +235,11 @@ module _ (column : Bool) where
       no : (t : Token) (u : List Token) → x ++ v ≡ t ∷ u → among names t ≡ true → starts (just (codes ":")) u ≡ true → ⊥
       no t u e f g =
           let k = h.1.1 in
-          colon_behind m t u f g k.0 h.1.0.0 k.3 (k.1 ++ v) (inl (starts-append (sharing_words column) k.1 v (((sharing_rule column 0).known.laws 0).begins m k.1 h.1.0.1 k.4)))
+          colon_behind m t u f g k.0 h.1.0.0 k.3 (k.1 ++ v) (inl (starts-append (sharing_words orientation) k.1 v (((sharing_rule orientation 0).known.laws 0).begins m k.1 h.1.0.1 k.4)))
           (sym e ∙ ap (λ l. l ++ v) k.2 ∙ append_assoc k.0 k.1 v)
 
   unnamed_brink : (n : ℕ) (x : List Token) → (Unnamed n).brink x → (v : List Token) → second names (just (codes ":")) (x ++ v) ≡ false
-  unnamed_brink n x (inr k) v = absurd (shared_shallow column k.1 k.5)
+  unnamed_brink n x (inr k) v = absurd (shared_shallow orientation k.1 k.5)
   unnamed_brink n x (inl k) v = second_false x v no
     where
       open_here : Viable (reads_of expression) (suc n) x
@@ -265,11 +267,11 @@ module _ (column : Bool) where
 
   -- ---- the law and the rule
 
-  reference_second : (n : ℕ) → Rule (λ m. or (Named m) (Unnamed m)) n expression_words none (second_at names (just (codes ":")) (named_reference_at column (expression_at n)) (map_at (reference_of None) (reference_parts_at column (expression_at n))))
+  reference_second : (n : ℕ) → Rule (λ m. or (Named m) (Unnamed m)) n expression_words none (second_at names (just (codes ":")) (named_reference_at orientation (expression_at n)) (map_at (reference_of None) (reference_parts_at orientation (expression_at n))))
   reference_second n = second_rule Named Unnamed names (just (codes ":")) expression_words none named_second unnamed_second n (named_rule n) (unnamed_rule n) refl (begun n) (named_brink n) (unnamed_brink n)
 
-  pub reference_rule : (n : ℕ) → Rule (λ m. reference column (expression m)) n (just (codes "reference")) none (reference_at column (expression_at n))
+  pub reference_rule : (n : ℕ) → Rule (λ m. reference orientation (expression m)) n (just (codes "reference")) none (reference_at orientation (expression_at n))
   reference_rule n = placed_rule (just (codes "reference")) (codes "reference") refl (reference_second n)
 
-  pub reference_law : (n : ℕ) → Law (λ m. reference column (expression m)) n (just (codes "reference")) none
+  pub reference_law : (n : ℕ) → Law (λ m. reference orientation (expression m)) n (just (codes "reference")) none
   reference_law n = record { laws = (reference_rule n).known.laws n }

@@ -1,5 +1,5 @@
 -- Parts in which nothing opens a level.
-use Rattle.std.proofs.Common.{ℕ, List, [], ◌∷◌, Some, None, Bool, true, false, codes}
+use Rattle.std.proofs.Common.{ℕ, List, [], ◌∷◌, Some, None, codes}
 use Rattle.msc_tree.specs.declared.chart.Cover.TheVariants.{All, Listed}
 use Rattle.msc_tree.specs.declared.reference.JoinEnd.TheVariants.{Env, Reference}
 use Rattle.token_grammar.specs.Classes.{string}
@@ -10,6 +10,8 @@ use Rattle.token_grammar.proofs.Shallow.{Shallow, bytes_shallow, read_shallow, s
 use Rattle.msc_events.specs.Multis.{sharers, cover_of, shared_in, join_end, joins}
 use Rattle.msc_events.specs.Declarations.{heading}
 use Rattle.msc_document.specs.Inlines.{closing}
+use Rattle.msc_events.specs.declared.orientation.Orientation.{Orientation}
+use Rattle.msc_events.specs.declared.orientation.Orientation.TheVariants as written
 
 word_shallow : (s : Set) → Shallow (word s)
 word_shallow s = record { none = λ p h. h }
@@ -26,9 +28,9 @@ separated_shallow text r = read_shallow all_of (chain_shallow r (behind_shallow 
 sharers_shallow : Shallow sharers
 sharers_shallow = or_shallow (read_shallow (λ t. All) (word_shallow (just (codes "all")))) (read_shallow Listed (separated_shallow (codes ",") (bytes_shallow names)))
 
-pub shared_in_shallow : (column : Bool) → Shallow (shared_in column ending)
-shared_in_shallow true = or_shallow (read_shallow (λ p. (Some p.0, p.1)) (behind_shallow (just (codes "shared")) (optional_shallow cover_of sharers_shallow ending_shallow))) (read_shallow (λ a. (None, a)) ending_shallow)
-shared_in_shallow false = read_shallow (λ a. (None, a)) ending_shallow
+pub shared_in_shallow : (orientation : Orientation) → Shallow (shared_in orientation ending)
+shared_in_shallow written.Column = or_shallow (read_shallow (λ p. (Some p.0, p.1)) (behind_shallow (just (codes "shared")) (optional_shallow cover_of sharers_shallow ending_shallow))) (read_shallow (λ a. (None, a)) ending_shallow)
+shared_in_shallow written.Covered = read_shallow (λ a. (None, a)) ending_shallow
 
 join_end_shallow : Shallow join_end
 join_end_shallow = or_shallow (read_shallow Env (behind_shallow (just (codes "env")) (behind_shallow (just (codes "via")) (bytes_shallow names))))

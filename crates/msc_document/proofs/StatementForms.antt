@@ -18,6 +18,7 @@ use Rattle.msc_document.specs.DocumentReaders.{State, alone, cover_kind, kind, l
 use Rattle.msc_document.specs.ItemReaders.{event_item_at, multi_item_at, more_going_at}
 use Rattle.msc_document.specs.StatementReaders.{state_of, colon_form_at, list_form_at, led_form_at, all_form_at, covered_form_at, any_statement_at, statement_form_at, outside_item_at}
 use Rattle.msc_document.proofs.ItemForms.{outside_event_is, outside_multi_is}
+use Rattle.msc_events.specs.declared.orientation.Orientation.TheVariants as written
 
 module _ (closer : Option InlineForm) (e m : List Token → Read Item) where
   abbrev q : Bool → List Token → Read Item
@@ -188,10 +189,10 @@ module _ (n : ℕ) where
 
 -- ---- items elsewhere
 
-pub any_item : (n : ℕ) (any : Bool) (ts : List Token) → any ≡ true → event_item_at false n ts ≡ outside_item_at n any ts
+pub any_item : (n : ℕ) (any : Bool) (ts : List Token) → any ≡ true → event_item_at written.Covered n ts ≡ outside_item_at n any ts
 any_item n true ts h = outside_event_is n ts
 any_item n false ts h = cc
 
-pub item_alone : (n : ℕ) (any : Bool) (ts : List Token) → any ≡ false → multi_item_at false n ts ≡ outside_item_at n any ts
+pub item_alone : (n : ℕ) (any : Bool) (ts : List Token) → any ≡ false → multi_item_at written.Covered n ts ≡ outside_item_at n any ts
 item_alone n true ts h = cc
 item_alone n false ts h = outside_multi_is n ts

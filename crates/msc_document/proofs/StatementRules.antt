@@ -1,5 +1,5 @@
 -- The laws and rules of statements outside columns, for all numbers of levels.
-use Rattle.std.proofs.Common.{ℕ, zero, suc, ◌≡◌, ◌∙◌, ◌++◌, ◌⊎◌, true, false, List, [], ◌∷◌, length, refl, sym, ap, inl, inr, subst, append-nil, Option, Some, None, Ok, Err, arith, codes}
+use Rattle.std.proofs.Common.{ℕ, zero, suc, ◌≡◌, ◌∙◌, ◌++◌, ◌⊎◌, true, List, [], ◌∷◌, length, refl, sym, ap, inl, inr, subst, append-nil, Option, Some, None, Ok, Err, arith, codes}
 use Rattle.msc_tokens.specs.declared.token.Token.{Token}
 use Rattle.msc_tree.specs.declared.reference.InlineForm.{InlineForm}
 use Rattle.msc_tree.specs.declared.reference.InlineForm.TheVariants.{Alt, Opt, Par, Loop, Exc}
@@ -27,6 +27,7 @@ use Rattle.msc_document.proofs.ItemRules.{Events, Multis, TailLaws, TailRules, P
 use Rattle.msc_document.proofs.LineRules.{Flattened, upto_law, upto_rule, state_of}
 use Rattle.msc_document.proofs.Lines.{grouped, next_state}
 use Rattle.msc_document.proofs.StatementLoops.{state_words, mixed_at, same_loops}
+use Rattle.msc_events.specs.declared.orientation.Orientation.TheVariants as written
 
 abbrev pub Held : ℕ → Grammar (List Statement)
 Held m = each (covered m)
@@ -73,19 +74,19 @@ no_closing form xs = in_state form (state_of kind idle xs)
     in_state Loop multis = refl
 
 abbrev pub OutEvents : ℕ → Grammar Item
-OutEvents n = Events false outside_operand Held none_yet First Behind no_end no_closing n
+OutEvents n = Events written.Covered outside_operand Held none_yet First Behind no_end no_closing n
 
 abbrev pub OutMultis : ℕ → Grammar Item
-OutMultis n = Multis false outside_operand Held none_yet First Behind no_end no_closing n
+OutMultis n = Multis written.Covered outside_operand Held none_yet First Behind no_end no_closing n
 
 abbrev pub OutLaws : ℕ → Type 0
-OutLaws n = TailLaws false outside_operand Held none_yet First Behind no_end no_closing n
+OutLaws n = TailLaws written.Covered outside_operand Held none_yet First Behind no_end no_closing n
 
 abbrev pub OutRules : ℕ → Tails → Type 0
-OutRules n p = TailRules false outside_operand Held none_yet First Behind no_end no_closing n p
+OutRules n p = TailRules written.Covered outside_operand Held none_yet First Behind no_end no_closing n p
 
 abbrev pub OutParts : ℕ → Type 0
-OutParts n = PartLaws false outside_operand Held none_yet First Behind no_end no_closing n
+OutParts n = PartLaws written.Covered outside_operand Held none_yet First Behind no_end no_closing n
 
 pub covered_is : (n : ℕ) → covered_of (some (OutEvents n)) (some (OutMultis n)) ≡ covered n
 unfolding covered
@@ -93,16 +94,16 @@ covered_is zero = refl
 covered_is (suc n) = refl
 
 out_events_law : (n : ℕ) → OutLaws n → Law OutEvents n event_words none
-out_events_law n t = events_law false outside_operand Held none_yet First Behind no_end no_closing n t
+out_events_law n t = events_law written.Covered outside_operand Held none_yet First Behind no_end no_closing n t
 
 out_multis_law : (n : ℕ) → OutLaws n → Law OutMultis n multi_words none
-out_multis_law n t = multis_law false outside_operand Held none_yet First Behind no_end no_closing n t
+out_multis_law n t = multis_law written.Covered outside_operand Held none_yet First Behind no_end no_closing n t
 
 out_events_rule : (n : ℕ) (p : Tails) → OutRules n p → Rule OutEvents n event_words none (outside_event_at n p)
-out_events_rule n p t = events_rule false outside_operand Held none_yet First Behind no_end no_closing n p t
+out_events_rule n p t = events_rule written.Covered outside_operand Held none_yet First Behind no_end no_closing n p t
 
 out_multis_rule : (n : ℕ) (p : Tails) → OutRules n p → Rule OutMultis n multi_words none (outside_multi_at n p)
-out_multis_rule n p t = multis_rule false outside_operand Held none_yet First Behind no_end no_closing n p t
+out_multis_rule n p t = multis_rule written.Covered outside_operand Held none_yet First Behind no_end no_closing n p t
 
 abbrev pub Openings : ℕ → Grammar Statement
 Openings n = opening_of (OutEvents n) (OutMultis n)
@@ -241,7 +242,7 @@ module _ (closer : Option InlineForm) (L S : ℕ → Grammar Statement) (B : Set
           pick : (c : Option InlineForm) → closer ≡ c → second W (closer_seconds closer) x ≡ true
           pick None same = other_word event_words W (closer_seconds closer) x (subst (λ (o : Option InlineForm). apart event_words (closer_word (codes "endmsc") o) ≡ true) (sym same) refl) ((out_events_law n t).laws.begins m x a h) w
           pick (Some form) same = subst (λ (o : Option InlineForm). second (closer_word (codes "endmsc") o) (closer_seconds o) x ≡ true) (sym same)
-              (events_late false outside_operand Held none_yet First Behind no_end no_closing form n m t x a h (subst (λ (o : Option InlineForm). starts (closer_word (codes "endmsc") o) x ≡ true) same w))
+              (events_late written.Covered outside_operand Held none_yet First Behind no_end no_closing form n m t x a h (subst (λ (o : Option InlineForm). starts (closer_word (codes "endmsc") o) x ≡ true) same w))
 
       multi_late : (m : ℕ) (x : List Token) (a : Item) → (OutMultis m).reads x a → starts W x ≡ true → second W (closer_seconds closer) x ≡ true
       multi_late m x a h w = pick closer refl
@@ -249,7 +250,7 @@ module _ (closer : Option InlineForm) (L S : ℕ → Grammar Statement) (B : Set
           pick : (c : Option InlineForm) → closer ≡ c → second W (closer_seconds closer) x ≡ true
           pick None same = other_word multi_words W (closer_seconds closer) x (subst (λ (o : Option InlineForm). apart multi_words (closer_word (codes "endmsc") o) ≡ true) (sym same) refl) ((out_multis_law n t).laws.begins m x a h) w
           pick (Some form) same = subst (λ (o : Option InlineForm). second (closer_word (codes "endmsc") o) (closer_seconds o) x ≡ true) (sym same)
-              (multis_late false outside_operand Held none_yet First Behind no_end no_closing form n m t x a h (subst (λ (o : Option InlineForm). starts (closer_word (codes "endmsc") o) x ≡ true) same w))
+              (multis_late written.Covered outside_operand Held none_yet First Behind no_end no_closing form n m t x a h (subst (λ (o : Option InlineForm). starts (closer_word (codes "endmsc") o) x ≡ true) same w))
 
       late : Late W (next_state kind) Mix Words Seconds
       late idle m x a h w = begin_late idle m x h.0 h.1 w
@@ -278,7 +279,7 @@ module _ (closer : Option InlineForm) (L S : ℕ → Grammar Statement) (B : Set
           pick None same = other_word event_words W (closer_seconds closer) x (subst (λ (o : Option InlineForm). apart event_words (closer_word (codes "endmsc") o) ≡ true) (sym same) refl)
               (subst (λ l. starts event_words l ≡ true) (append-nil x) (opening_starts (reads_of OutEvents) (brink_of OutEvents) event_words none n (out_events_rule n p r).known x h [])) w
           pick (Some form) same = subst (λ (o : Option InlineForm). second (closer_word (codes "endmsc") o) (closer_seconds o) x ≡ true) (sym same)
-              (events_late_brink false outside_operand Held none_yet First Behind no_end no_closing form n p r x h (subst (λ (o : Option InlineForm). starts (closer_word (codes "endmsc") o) x ≡ true) same w))
+              (events_late_brink written.Covered outside_operand Held none_yet First Behind no_end no_closing form n p r x h (subst (λ (o : Option InlineForm). starts (closer_word (codes "endmsc") o) x ≡ true) same w))
 
       multi_late_brink : (x : List Token) → (OutMultis n).brink x → starts W x ≡ true → second W (closer_seconds closer) x ≡ true
       multi_late_brink x h w = pick closer refl
@@ -287,7 +288,7 @@ module _ (closer : Option InlineForm) (L S : ℕ → Grammar Statement) (B : Set
           pick None same = other_word multi_words W (closer_seconds closer) x (subst (λ (o : Option InlineForm). apart multi_words (closer_word (codes "endmsc") o) ≡ true) (sym same) refl)
               (subst (λ l. starts multi_words l ≡ true) (append-nil x) (opening_starts (reads_of OutMultis) (brink_of OutMultis) multi_words none n (out_multis_rule n p r).known x h [])) w
           pick (Some form) same = subst (λ (o : Option InlineForm). second (closer_word (codes "endmsc") o) (closer_seconds o) x ≡ true) (sym same)
-              (multis_late_brink false outside_operand Held none_yet First Behind no_end no_closing form n p r x h (subst (λ (o : Option InlineForm). starts (closer_word (codes "endmsc") o) x ≡ true) same w))
+              (multis_late_brink written.Covered outside_operand Held none_yet First Behind no_end no_closing form n p r x h (subst (λ (o : Option InlineForm). starts (closer_word (codes "endmsc") o) x ≡ true) same w))
 
       late_brink : (q : State) (x : List Token) → (Mix q n).brink x → starts W x ≡ true → second W (Seconds q) x ≡ true
       late_brink idle x h w = begin_late_brink idle x h w
@@ -303,7 +304,7 @@ module _ (closer : Option InlineForm) (L S : ℕ → Grammar Statement) (B : Set
           pick : (c : Option InlineForm) → closer ≡ c → Viable (reads_of (Mix events)) (suc n) (d ∷ e ∷ [])
           pick None same = absurd (not_both (sym (subst (λ (o : Option InlineForm). among (closer_seconds o) e ≡ true) same g)))
           pick (Some form) same =
-              let v = events_begun false outside_operand Held none_yet First Behind no_end no_closing parts form n d e (subst (λ (o : Option InlineForm). among (closer_word (codes "endmsc") o) d ≡ true) same w)
+              let v = events_begun written.Covered outside_operand Held none_yet First Behind no_end no_closing parts form n d e (subst (λ (o : Option InlineForm). among (closer_word (codes "endmsc") o) d ≡ true) same w)
               (subst (λ (o : Option InlineForm). among (closer_seconds o) e ≡ true) same g) in
               record { more = v.more; value = inr v.value; holds = inr (v.value, v.holds, refl) }
       begun multis d e f w g = pick closer refl
@@ -311,7 +312,7 @@ module _ (closer : Option InlineForm) (L S : ℕ → Grammar Statement) (B : Set
           pick : (c : Option InlineForm) → closer ≡ c → Viable (reads_of (Mix multis)) (suc n) (d ∷ e ∷ [])
           pick None same = absurd (not_both (sym (subst (λ (o : Option InlineForm). among (closer_seconds o) e ≡ true) same g)))
           pick (Some form) same =
-              let v = multis_begun false outside_operand Held none_yet First Behind no_end no_closing parts form n d e (subst (λ (o : Option InlineForm). among (closer_word (codes "endmsc") o) d ≡ true) same w)
+              let v = multis_begun written.Covered outside_operand Held none_yet First Behind no_end no_closing parts form n d e (subst (λ (o : Option InlineForm). among (closer_word (codes "endmsc") o) d ≡ true) same w)
               (subst (λ (o : Option InlineForm). among (closer_seconds o) e ≡ true) same g) in
               record { more = v.more; value = inr v.value; holds = inr (v.value, v.holds, refl) }
 
@@ -407,17 +408,17 @@ out_part_laws : (n : ℕ) → OutLaws n → OutParts n
 out_part_laws n t form = statements_law (Some form) covered Openings opening_words (fits_operand form) n t (openings_law n t)
 
 pub out_laws : (n : ℕ) → OutLaws n
-out_laws zero = shut_laws false outside_operand Held none_yet First Behind no_end no_closing
-out_laws (suc n) = inner_laws false outside_operand Held none_yet First Behind no_end no_closing n (out_part_laws n (out_laws n))
+out_laws zero = shut_laws written.Covered outside_operand Held none_yet First Behind no_end no_closing
+out_laws (suc n) = inner_laws written.Covered outside_operand Held none_yet First Behind no_end no_closing n (out_part_laws n (out_laws n))
 
 pub out_parts : (n : ℕ) → OutParts n
 out_parts n = out_part_laws n (out_laws n)
 
-out_part_rules : (n : ℕ) (p : Tails) → OutRules n p → PartRules false outside_operand Held none_yet First Behind no_end no_closing n (λ form. outside_at form n p)
+out_part_rules : (n : ℕ) (p : Tails) → OutRules n p → PartRules written.Covered outside_operand Held none_yet First Behind no_end no_closing n (λ form. outside_at form n p)
 out_part_rules n p r form = statements_rule (Some form) covered Openings opening_words (fits_operand form) n out_parts (out_laws n) (openings_law n (out_laws n)) p r
     (opening_at (outside_event_at n p) (outside_multi_at n p)) (openings_rule n p r)
 
 pub out_rules : (n : ℕ) → OutRules n (outside_tails_at n)
 unfolding outside_tails_at
-out_rules zero = shut_rules false outside_operand Held none_yet First Behind no_end no_closing out_parts
-out_rules (suc n) = inner_rules false outside_operand Held none_yet First Behind no_end no_closing n (λ form. outside_at form n (outside_tails_at n)) (out_part_rules n (outside_tails_at n) (out_rules n))
+out_rules zero = shut_rules written.Covered outside_operand Held none_yet First Behind no_end no_closing out_parts
+out_rules (suc n) = inner_rules written.Covered outside_operand Held none_yet First Behind no_end no_closing n (λ form. outside_at form n (outside_tails_at n)) (out_part_rules n (outside_tails_at n) (out_rules n))

@@ -1,6 +1,6 @@
 -- How a document is written, production by production (Z.120, clauses 3, 4, 7.2 and 7.3).
 -- A production that ends with a part that may be missing takes what stands behind it: `[ x ] y` is `optional`.
-use Rattle.std.specs.Prelude.{ℕ, zero, suc, ◌≡◌, ◌⊎◌, List, [], ◌∷◌, Option, Some, None, Bool, true, false, codes}
+use Rattle.std.specs.Prelude.{ℕ, zero, suc, ◌≡◌, ◌⊎◌, List, [], ◌∷◌, Option, Some, None, codes}
 use Rattle.msc_base.specs.declared.place.Place.{Place}
 use Rattle.msc_tree.specs.declared.chart.Cover.{Cover}
 use Rattle.msc_tree.specs.declared.chart.Cover.TheVariants.{All, Listed}
@@ -19,36 +19,38 @@ use Rattle.msc_events.specs.declared.head_parts.Heads.{Heads}
 use Rattle.msc_expression.specs.ExpressionGrammar.{expression}
 use Rattle.msc_expression.specs.GraphGrammar.{chart_graph}
 use Rattle.msc_document.specs.Inlines.{each, Naming, inline}
+use Rattle.msc_events.specs.declared.orientation.Orientation.{Orientation}
+use Rattle.msc_events.specs.declared.orientation.Orientation.TheVariants as written
 
 -- behind `begin`: [ name ] [ shared ] end; the shared list stands only in a column
-abbrev pub naming : Bool → Grammar Naming
-naming column = read_as (λ p. (p.0, p.1.0)) (optional kept name (shared_in column ending))
+abbrev pub naming : Orientation → Grammar Naming
+naming orientation = read_as (λ p. (p.0, p.1.0)) (optional kept name (shared_in orientation ending))
 
 -- ---- references
 
 -- expr [ joins ] [ shared ] end
-abbrev pub reference_parts : Bool → Grammar Expression → Grammar (Expression × (List Join × Option Cover))
-reference_parts column X = read_as (λ p. (p.0, (p.1.0, p.1.1.0))) (seq X (optional all_or_none joins (shared_in column ending)))
+abbrev pub reference_parts : Orientation → Grammar Expression → Grammar (Expression × (List Join × Option Cover))
+reference_parts orientation X = read_as (λ p. (p.0, (p.1.0, p.1.1.0))) (seq X (optional all_or_none joins (shared_in orientation ending)))
 
 abbrev pub reference_of : Option (List ℕ) → Expression × (List Join × Option Cover) → Reference
 reference_of reference_name p = record { name = reference_name; expression = p.0; joins = p.1.0; shared = p.1.1 }
 
 -- "reference" [ name ":" ] expr [ joins ] [ shared ] end, with its place
-abbrev pub reference : Bool → Grammar Expression → Grammar (Place × Reference)
-reference column X = placed (just (codes "reference"))
-    (or (read_as (λ p. reference_of (Some p.0) p.1) (seq name (behind (just (codes ":")) (reference_parts column X)))) (read_as (reference_of None) (reference_parts column X)))
+abbrev pub reference : Orientation → Grammar Expression → Grammar (Place × Reference)
+reference orientation X = placed (just (codes "reference"))
+    (or (read_as (λ p. reference_of (Some p.0) p.1) (seq name (behind (just (codes ":")) (reference_parts orientation X)))) (read_as (reference_of None) (reference_parts orientation X)))
 
 -- ---- items, with so many levels left: X are expressions, and P operands one level deeper
 
 -- multi = "condition" .. | inline | "reference" ..
-abbrev pub multi_of : {A : Type 0} → Bool → (A → Operand) → Grammar Expression → Inner A → Grammar Item
-multi_of column f X P = or (read_as (λ p. tree.placed p.0 (Condition p.1 p.2)) (condition column)) (or (inline f (naming column) P)
-    (read_as (λ p. tree.placed p.0 (Refer p.1)) (reference column X)))
+abbrev pub multi_of : {A : Type 0} → Orientation → (A → Operand) → Grammar Expression → Inner A → Grammar Item
+multi_of orientation f X P = or (read_as (λ p. tree.placed p.0 (Condition p.1 p.2)) (condition orientation)) (or (inline f (naming orientation) P)
+    (read_as (λ p. tree.placed p.0 (Refer p.1)) (reference orientation X)))
 
 -- event = single | coregion | multi | "stop" end
-abbrev pub event_of : {A : Type 0} → Bool → (A → Operand) → Grammar Expression → Inner A → Grammar Item
-event_of column f X P = or (read_as (λ e. tree.placed e.place (Single e)) single) (or (read_as (λ p. tree.placed p.0 (Coregion p.1)) coregion)
-    (or (multi_of column f X P) (read_as (λ place. tree.placed place Stop) stop)))
+abbrev pub event_of : {A : Type 0} → Orientation → (A → Operand) → Grammar Expression → Inner A → Grammar Item
+event_of orientation f X P = or (read_as (λ e. tree.placed e.place (Single e)) single) (or (read_as (λ p. tree.placed p.0 (Coregion p.1)) coregion)
+    (or (multi_of orientation f X P) (read_as (λ place. tree.placed place Stop) stop)))
 
 -- ---- columns
 
@@ -57,8 +59,8 @@ column_operand held = InColumn (items held)
 
 -- an event in a column, with at most so many levels open
 unfoldable pub column_event : ℕ → Grammar Item
-column_event zero = event_of true column_operand (expression zero) shut
-column_event (suc n) = event_of true column_operand (expression (suc n)) (inner (each (column_event n)))
+column_event zero = event_of written.Column column_operand (expression zero) shut
+column_event (suc n) = event_of written.Column column_operand (expression (suc n)) (inner (each (column_event n)))
 
 -- ---- elsewhere
 
@@ -100,10 +102,10 @@ abbrev pub outside_operand : List Statement → Operand
 outside_operand held = Outside (statements held)
 
 abbrev pub outside_event : Grammar Expression → Inner (List Statement) → Grammar Item
-outside_event = event_of false outside_operand
+outside_event = event_of written.Covered outside_operand
 
 abbrev pub outside_multi : Grammar Expression → Inner (List Statement) → Grammar Item
-outside_multi = multi_of false outside_operand
+outside_multi = multi_of written.Covered outside_operand
 
 abbrev pub covered_in : Grammar Expression → Inner (List Statement) → Grammar Statement
 covered_in X P = covered_of (some (outside_event X P)) (some (outside_multi X P))

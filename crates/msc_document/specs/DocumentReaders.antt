@@ -1,5 +1,5 @@
 -- Readers of the productions of a document.
-use Rattle.std.specs.Prelude.{ℕ, zero, suc, List, [], ◌∷◌, ◌++◌, length, Option, Some, None, Ok, Bool, true, false, option_map, codes, if◌then◌else◌}
+use Rattle.std.specs.Prelude.{ℕ, zero, suc, List, [], ◌∷◌, ◌++◌, length, Option, Some, None, Ok, Bool, option_map, codes, if◌then◌else◌}
 use Rattle.msc_base.specs.declared.place.Place.{Place}
 use Rattle.msc_tokens.specs.declared.token.Token.{Token}
 use Rattle.msc_tree.specs.declared.chart.Cover.{Cover}
@@ -25,6 +25,8 @@ use Rattle.msc_expression.specs.ExpressionReaders.{expression_at}
 use Rattle.msc_expression.specs.GraphReaders.{chart_graph_at}
 use Rattle.msc_document.specs.Inlines.{Naming, Tail, taken_once, inline_item, firsts}
 use Rattle.msc_document.specs.DocumentGrammar.{Line, happen, list, declare, finish, lead_statement, reference_of, column_operand, outside_operand, chart_of}
+use Rattle.msc_events.specs.declared.orientation.Orientation.{Orientation}
+use Rattle.msc_events.specs.declared.orientation.Orientation.TheVariants as written
 
 -- what an end begins with
 abbrev pub end_words : Set
@@ -34,25 +36,25 @@ end_words = just (codes "comment") ++ just (codes ";")
 abbrev pub some_name_at : List Token → Read (Option (List ℕ))
 some_name_at = optional_at names kept name_at
 
-abbrev pub naming_at : Bool → List Token → Read Naming
-naming_at column = map_at (λ p. (p.0, p.1.0)) (seq_at some_name_at (seq_at (shared_in_at column) ending_at))
+abbrev pub naming_at : Orientation → List Token → Read Naming
+naming_at orientation = map_at (λ p. (p.0, p.1.0)) (seq_at some_name_at (seq_at (shared_in_at orientation) ending_at))
 
 -- ---- references
 
 abbrev pub some_joins_at : List Token → Read (List Join)
 some_joins_at = optional_at (just (codes "via")) all_or_none joins_at
 
-abbrev pub reference_parts_at : Bool → (List Token → Read Expression) → List Token → Read (Expression × (List Join × Option Cover))
-reference_parts_at column x = map_at (λ p. (p.0, (p.1.0, p.1.1.0))) (seq_at x (seq_at some_joins_at (seq_at (shared_in_at column) ending_at)))
+abbrev pub reference_parts_at : Orientation → (List Token → Read Expression) → List Token → Read (Expression × (List Join × Option Cover))
+reference_parts_at orientation x = map_at (λ p. (p.0, (p.1.0, p.1.1.0))) (seq_at x (seq_at some_joins_at (seq_at (shared_in_at orientation) ending_at)))
 
-abbrev pub named_reference_at : Bool → (List Token → Read Expression) → List Token → Read Reference
-named_reference_at column x = map_at (λ p. reference_of (Some p.0) p.1) (seq_at name_at (behind_at (just (codes ":")) (reference_parts_at column x)))
+abbrev pub named_reference_at : Orientation → (List Token → Read Expression) → List Token → Read Reference
+named_reference_at orientation x = map_at (λ p. reference_of (Some p.0) p.1) (seq_at name_at (behind_at (just (codes ":")) (reference_parts_at orientation x)))
 
-abbrev pub unnamed_reference_at : Bool → (List Token → Read Expression) → List Token → Read Reference
-unnamed_reference_at column x = map_at (reference_of None) (reference_parts_at column x)
+abbrev pub unnamed_reference_at : Orientation → (List Token → Read Expression) → List Token → Read Reference
+unnamed_reference_at orientation x = map_at (reference_of None) (reference_parts_at orientation x)
 
-abbrev pub reference_at : Bool → (List Token → Read Expression) → List Token → Read (Place × Reference)
-reference_at column x = placed_at (just (codes "reference")) (second_at names (just (codes ":")) (named_reference_at column x) (unnamed_reference_at column x))
+abbrev pub reference_at : Orientation → (List Token → Read Expression) → List Token → Read (Place × Reference)
+reference_at orientation x = placed_at (just (codes "reference")) (second_at names (just (codes ":")) (named_reference_at orientation x) (unnamed_reference_at orientation x))
 
 -- ---- operands
 
@@ -88,13 +90,13 @@ operands_at Alt p = several_at p
 operands_at Par p = several_at p
 operands_at _ p = single_operand_at p
 
-abbrev pub body_at : {A : Type 0} → Bool → InlineForm → (List Token → Read A) → List Token → Read (Naming × List A)
-body_at column form p = seq_at (naming_at column) (operands_at form p)
+abbrev pub body_at : {A : Type 0} → Orientation → InlineForm → (List Token → Read A) → List Token → Read (Naming × List A)
+body_at orientation form p = seq_at (naming_at orientation) (operands_at form p)
 
 -- behind the word of a form, where the reader of an operand with the word behind it is handed in, one level deeper
-abbrev pub tail_of_at : {A : Type 0} → Bool → InlineForm → Option (List Token → Read A) → List Token → Read (Tail A)
-tail_of_at column Loop p = seq_at loop_bounds_at (opens_at (just (codes "begin")) (option_map (body_at column Loop) p))
-tail_of_at column form p = map_at taken_once (opens_at (just (codes "begin")) (option_map (body_at column form) p))
+abbrev pub tail_of_at : {A : Type 0} → Orientation → InlineForm → Option (List Token → Read A) → List Token → Read (Tail A)
+tail_of_at orientation Loop p = seq_at loop_bounds_at (opens_at (just (codes "begin")) (option_map (body_at orientation Loop) p))
+tail_of_at orientation form p = map_at taken_once (opens_at (just (codes "begin")) (option_map (body_at orientation form) p))
 
 abbrev pub form_at : {A : Type 0} → (A → Operand) → InlineForm → (List Token → Read (Tail A)) → List Token → Read Item
 form_at f form p = map_at (inline_item f form) (placed_at (form_word form) p)
@@ -118,20 +120,20 @@ coregion_item_at = map_at (λ p. tree.placed p.0 (Coregion p.1)) coregion_at
 abbrev pub stop_item_at : List Token → Read Item
 stop_item_at = map_at (λ place. tree.placed place Stop) stop_at
 
-abbrev pub condition_item_at : Bool → List Token → Read Item
-condition_item_at column = map_at (λ p. tree.placed p.0 (Condition p.1 p.2)) (condition_at column)
+abbrev pub condition_item_at : Orientation → List Token → Read Item
+condition_item_at orientation = map_at (λ p. tree.placed p.0 (Condition p.1 p.2)) (condition_at orientation)
 
-abbrev pub reference_item_at : Bool → (List Token → Read Expression) → List Token → Read Item
-reference_item_at column x = map_at (λ p. tree.placed p.0 (Refer p.1)) (reference_at column x)
+abbrev pub reference_item_at : Orientation → (List Token → Read Expression) → List Token → Read Item
+reference_item_at orientation x = map_at (λ p. tree.placed p.0 (Refer p.1)) (reference_at orientation x)
 
-abbrev pub multi_at : {A : Type 0} → Bool → (A → Operand) → (List Token → Read Expression) → (InlineForm → List Token → Read (Tail A)) → List Token → Read Item
-multi_at column f x p = either_at (just (codes "condition")) (condition_item_at column) (either_at form_words (inline_at f p) (reference_item_at column x))
+abbrev pub multi_at : {A : Type 0} → Orientation → (A → Operand) → (List Token → Read Expression) → (InlineForm → List Token → Read (Tail A)) → List Token → Read Item
+multi_at orientation f x p = either_at (just (codes "condition")) (condition_item_at orientation) (either_at form_words (inline_at f p) (reference_item_at orientation x))
 
 abbrev pub multi_words : Set
 multi_words = just (codes "condition") ++ (form_words ++ just (codes "reference"))
 
-abbrev pub event_at : {A : Type 0} → Bool → (A → Operand) → (List Token → Read Expression) → (InlineForm → List Token → Read (Tail A)) → List Token → Read Item
-event_at column f x p = either_at single_words single_item_at (either_at (just (codes "concurrent")) coregion_item_at (either_at multi_words (multi_at column f x p) stop_item_at))
+abbrev pub event_at : {A : Type 0} → Orientation → (A → Operand) → (List Token → Read Expression) → (InlineForm → List Token → Read (Tail A)) → List Token → Read Item
+event_at orientation f x p = either_at single_words single_item_at (either_at (just (codes "concurrent")) coregion_item_at (either_at multi_words (multi_at orientation f x p) stop_item_at))
 
 abbrev pub event_words : Set
 event_words = single_words ++ (just (codes "concurrent") ++ (multi_words ++ just (codes "stop")))
@@ -164,11 +166,11 @@ column_at closer e = map_at (λ x. x.0) (seq_at (λ ts. going_at (column_goes_on
 
 -- what stands behind the word of a form, with so many levels left
 unfoldable pub column_tails_at : ℕ → InlineForm → List Token → Read (Tail (List Item))
-column_tails_at zero form = tail_of_at true form None
-column_tails_at (suc n) form = tail_of_at true form (Some (column_at (Some form) (event_at true column_operand (expression_at n) (column_tails_at n))))
+column_tails_at zero form = tail_of_at written.Column form None
+column_tails_at (suc n) form = tail_of_at written.Column form (Some (column_at (Some form) (event_at written.Column column_operand (expression_at n) (column_tails_at n))))
 
 abbrev pub column_event_at : ℕ → List Token → Read Item
-column_event_at n = event_at true column_operand (expression_at n) (column_tails_at n)
+column_event_at n = event_at written.Column column_operand (expression_at n) (column_tails_at n)
 
 -- ---- elsewhere
 
@@ -240,10 +242,10 @@ abbrev pub Tails : Type 0
 Tails = InlineForm → List Token → Read (Tail (List Statement))
 
 abbrev pub outside_event_at : ℕ → Tails → List Token → Read Item
-outside_event_at n p = event_at false outside_operand (expression_at n) p
+outside_event_at n p = event_at written.Covered outside_operand (expression_at n) p
 
 abbrev pub outside_multi_at : ℕ → Tails → List Token → Read Item
-outside_multi_at n p = multi_at false outside_operand (expression_at n) p
+outside_multi_at n p = multi_at written.Covered outside_operand (expression_at n) p
 
 -- the statements of an operand, with the form's word behind them
 abbrev pub outside_at : InlineForm → ℕ → Tails → List Token → Read (List Statement)
@@ -251,8 +253,8 @@ outside_at form n p = statements_at (Some form) opening_words (opening_at (outsi
 
 -- what stands behind the word of a form, with so many levels left
 unfoldable pub outside_tails_at : ℕ → Tails
-outside_tails_at zero form = tail_of_at false form None
-outside_tails_at (suc n) form = tail_of_at false form (Some (outside_at form n (outside_tails_at n)))
+outside_tails_at zero form = tail_of_at written.Covered form None
+outside_tails_at (suc n) form = tail_of_at written.Covered form (Some (outside_at form n (outside_tails_at n)))
 
 abbrev pub covered_opening_at : ℕ → List Token → Read Statement
 covered_opening_at n = opening_at (outside_event_at n (outside_tails_at n)) (outside_multi_at n (outside_tails_at n))

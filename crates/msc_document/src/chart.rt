@@ -6,14 +6,14 @@ ghost use Rattle.msc_document.specs.DocumentReaders.{chart_words, chart_end_at, 
 ghost use Rattle.msc_document.specs.ChartReaders.{chart_parts_at};
 
 use crate::statements::chart_statements;
-use msc_expression::graph;
 use msc_events::heads;
-use token_grammar::{
-    ReadFault, ending, own_name, starts_with, starts_with_either, starts_with_lead, word,
-};
+use msc_expression::graph;
 use msc_tokens::Token;
 use msc_tree::{Content, RawChart};
 use std::alloc::Global;
+use token_grammar::{
+    ReadFault, ending, own_name, starts_with, starts_with_either, starts_with_lead, word,
+};
 
 /// Whether the tokens start with a statement of a chart, or with the chart's end.
 fn starts_with_statement(tokens: &[Token]) -> bool

@@ -5,9 +5,9 @@ ghost use Rattle.msc_document.specs.DocumentReaders as specs;
 ghost use Rattle.msc_document.specs.StatementReaders.{state_of, statement_words};
 
 use crate::starts::{starts_with_event, starts_with_multi, word_of};
-use token_grammar::{ReadFault, starts_with, starts_with_either, starts_with_lead, word};
 use msc_tokens::Token;
 use msc_tree::InlineForm;
+use token_grammar::{ReadFault, starts_with, starts_with_either, starts_with_lead, word};
 
 /// The word that ends what is read, and the tokens behind it.
 pub fn close<'a>(

@@ -6,10 +6,10 @@ ghost use Rattle.msc_document.specs.ChartReaders.{more_charts_at, charts_at, som
 
 use crate::chart::chart;
 use msc_events::heading;
-use token_grammar::{ReadFault, ending, starts_with, word};
 use msc_tokens::Token;
 use msc_tree::{RawChart, RawDocument};
 use std::alloc::Global;
+use token_grammar::{ReadFault, ending, starts_with, word};
 
 /// Other charts, appended to those that there are.
 fn more_charts(

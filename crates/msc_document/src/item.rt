@@ -1,19 +1,19 @@
-ghost use Rattle.std.specs.Prelude.{◌≡◌, map};
+ghost use Rattle.std.specs.Prelude.{◌≡◌};
 ghost use Rattle.msc_tree.specs.Statements.{placed};
-ghost use Rattle.msc_tree.specs.Views.{item_view, inline_view, operand_view};
+ghost use Rattle.msc_tree.specs.Views.{item_view, inline_view};
 ghost use Rattle.token_grammar.specs.Answers.{Gives};
 ghost use Rattle.msc_expression.specs.ExpressionReaders.{expression_at};
 ghost use Rattle.msc_document.specs.DocumentReaders as specs;
-ghost use Rattle.msc_document.specs.ItemReaders.{inline_parts, item_of};
+ghost use Rattle.msc_document.specs.ItemReaders.{body_view, inline_parts, item_of};
 
 use crate::reference::reference;
 use msc_base::{Name, Place};
+use msc_events::{Orientation, condition, coregion, single, stop};
 use msc_expression::Bounds;
-use msc_events::{condition, coregion, single, stop};
-use token_grammar::ReadFault;
 use msc_tokens::Token;
 use msc_tree::{Cover, InlineForm, RawForm, RawInline, RawItem, RawOperand};
 use std::alloc::Global;
+use token_grammar::ReadFault;
 
 /// A single event.
 pub fn single_item(alloc: Global, tokens: &[Token]) -> Result<(RawItem, &[Token]), ReadFault>
@@ -61,12 +61,12 @@ pub fn stop_item(tokens: &[Token]) -> Result<(RawItem, &[Token]), ReadFault>
 /// A condition.
 pub fn condition_item(
     alloc: Global,
-    column: bool,
+    orientation: Orientation,
     tokens: &[Token],
 ) -> Result<(RawItem, &[Token]), ReadFault>
-    ensures { Gives (λ x. (item_view x.0, x.1.now)) result (specs.condition_item_at column tokens.now) }
+    ensures { Gives (λ x. (item_view x.0, x.1.now)) result (specs.condition_item_at orientation tokens.now) }
 {
-    let (place, names, shared, rest) = condition(alloc, column, tokens)?;
+    let (place, names, shared, rest) = condition(alloc, orientation, tokens)?;
     Ok((
         RawItem {
             place,
@@ -79,13 +79,13 @@ pub fn condition_item(
 /// A reference.
 pub fn reference_item(
     alloc: Global,
-    column: bool,
+    orientation: Orientation,
     tokens: &[Token],
     levels: usize,
 ) -> Result<(RawItem, &[Token]), ReadFault>
-    ensures { Gives (λ x. (item_view x.0, x.1.now)) result (specs.reference_item_at column (expression_at levels) tokens.now) }
+    ensures { Gives (λ x. (item_view x.0, x.1.now)) result (specs.reference_item_at orientation (expression_at levels) tokens.now) }
 {
-    let (place, reference, rest) = reference(alloc, column, tokens, levels)?;
+    let (place, reference, rest) = reference(alloc, orientation, tokens, levels)?;
     Ok((
         RawItem {
             place,
@@ -95,23 +95,28 @@ pub fn reference_item(
     ))
 }
 
+/// What stands in the level that an inline expression opens.
+#[derive(Drop)]
+pub struct InlineBody {
+    /// The name of the expression, where it has one.
+    pub name: Option<Name>,
+    /// Those that share it, where they are said.
+    pub shared: Option<Cover>,
+    /// Its operands.
+    pub operands: Vec<RawOperand>,
+}
+
 /// An inline expression of these parts.
-fn inline_of(
-    form: InlineForm,
-    bounds: Bounds,
-    name: Option<Name>,
-    shared: Option<Cover>,
-    operands: Vec<RawOperand>,
-) -> RawInline
-    ensures { inline_view result ≡ inline_parts form (bounds, ((name, shared), map operand_view operands.items)) }
+fn inline_of(form: InlineForm, bounds: Bounds, body: InlineBody) -> RawInline
+    ensures { inline_view result ≡ inline_parts form (bounds, body_view body) }
 {
     RawInline {
         form,
         lower: bounds.lower,
         upper: bounds.upper,
-        name,
-        shared,
-        operands,
+        name: body.name,
+        shared: body.shared,
+        operands: body.operands,
     }
 }
 
@@ -126,15 +131,8 @@ fn of_inline(place: Place, inline: RawInline) -> RawItem
 }
 
 /// The item of an inline expression.
-pub fn inline_item(
-    place: Place,
-    form: InlineForm,
-    bounds: Bounds,
-    name: Option<Name>,
-    shared: Option<Cover>,
-    operands: Vec<RawOperand>,
-) -> RawItem
-    ensures { item_view result ≡ item_of form (place, (bounds, ((name, shared), map operand_view operands.items))) }
+pub fn inline_item(place: Place, form: InlineForm, bounds: Bounds, body: InlineBody) -> RawItem
+    ensures { item_view result ≡ item_of form (place, (bounds, body_view body)) }
 {
-    of_inline(place, inline_of(form, bounds, name, shared, operands))
+    of_inline(place, inline_of(form, bounds, body))
 }

@@ -4,25 +4,25 @@ ghost use Rattle.token_grammar.specs.Answers.{Gives};
 ghost use Rattle.token_grammar.specs.Languages.{map_at};
 ghost use Rattle.token_grammar.specs.PartReaders.{more_at};
 ghost use Rattle.msc_document.specs.DocumentReaders.{alone, column_at, column_event_at, column_goes_on, end_words, instance_at, next_part_at, operands_at, several_at, single_operand_at, statement_goes_on};
-ghost use Rattle.msc_document.specs.ItemReaders.{event_item_at, multi_item_at, inline_item_at, inline_form_at, inline_tail_at, level_at, inline_body_at, listed_operands_at, operand_at, more_going_at};
+ghost use Rattle.msc_document.specs.ItemReaders.{body_view, event_item_at, multi_item_at, inline_item_at, inline_form_at, inline_tail_at, level_at, inline_body_at, listed_operands_at, operand_at, more_going_at};
 ghost use Rattle.msc_document.specs.StatementReaders.{state_of, outside_item_at, run_at, colon_form_at, list_form_at, led_form_at, covered_form_at, statement_words, any_statement_at, some_statements_at, statement_form_at};
 
 use crate::closer::{close, column_goes_on, form_token, starts_with_statement, statement_goes_on};
 use crate::item::{
-    condition_item, coregion_item, inline_item, reference_item, single_item, stop_item,
+    InlineBody, condition_item, coregion_item, inline_item, reference_item, single_item, stop_item,
 };
 use crate::line_parts::{column_of, covered_by, end_statement, heading_statement, other_names};
 use crate::naming::{closing, naming};
 use crate::starts::{starts_with_event, starts_with_form, starts_with_multi};
 use msc_base::{Name, Names, Place};
+use msc_events::{Orientation, decl, starts_with_single};
 use msc_expression::{Bounds, loop_bounds, open};
-use msc_events::{decl, starts_with_single};
-use token_grammar::{
-    ReadFault, ending, placed_lead, starts_with, starts_with_either, starts_with_lead, word,
-};
 use msc_tokens::Token;
 use msc_tree::{Cover, InlineForm, RawItem, RawOperand, Statement};
 use std::alloc::Global;
+use token_grammar::{
+    ReadFault, ending, placed_lead, starts_with, starts_with_either, starts_with_lead, word,
+};
 
 /// An event of a column, or elsewhere, where so many levels may still be opened.
 #[cycle(items)]
@@ -30,9 +30,9 @@ fn event(
     alloc: Global,
     tokens: &[Token],
     levels: usize,
-    column: bool,
+    orientation: Orientation,
 ) -> Result<(RawItem, &[Token]), ReadFault>
-    ensures { Gives (λ x. (item_view x.0, x.1.now)) result (event_item_at column levels tokens.now) }
+    ensures { Gives (λ x. (item_view x.0, x.1.now)) result (event_item_at orientation levels tokens.now) }
 {
     if starts_with_single(tokens) {
         return single_item(alloc, tokens);
@@ -41,7 +41,7 @@ fn event(
         return coregion_item(alloc, tokens);
     }
     if starts_with_multi(tokens) {
-        return multi(alloc, tokens, levels, column);
+        return multi(alloc, tokens, levels, orientation);
     }
     stop_item(tokens)
 }
@@ -52,17 +52,17 @@ fn multi(
     alloc: Global,
     tokens: &[Token],
     levels: usize,
-    column: bool,
+    orientation: Orientation,
 ) -> Result<(RawItem, &[Token]), ReadFault>
-    ensures { Gives (λ x. (item_view x.0, x.1.now)) result (multi_item_at column levels tokens.now) }
+    ensures { Gives (λ x. (item_view x.0, x.1.now)) result (multi_item_at orientation levels tokens.now) }
 {
     if starts_with(tokens, "condition") {
-        return condition_item(alloc, column, tokens);
+        return condition_item(alloc, orientation, tokens);
     }
     if starts_with_form(tokens) {
-        return inline(alloc, tokens, levels, column);
+        return inline(alloc, tokens, levels, orientation);
     }
-    reference_item(alloc, column, tokens, levels)
+    reference_item(alloc, orientation, tokens, levels)
 }
 
 /// An inline expression, by its word.
@@ -71,23 +71,23 @@ fn inline(
     alloc: Global,
     tokens: &[Token],
     levels: usize,
-    column: bool,
+    orientation: Orientation,
 ) -> Result<(RawItem, &[Token]), ReadFault>
-    ensures { Gives (λ x. (item_view x.0, x.1.now)) result (inline_item_at column levels tokens.now) }
+    ensures { Gives (λ x. (item_view x.0, x.1.now)) result (inline_item_at orientation levels tokens.now) }
 {
     if starts_with(tokens, "alt") {
-        return inline_form(alloc, tokens, levels, column, InlineForm::Alt);
+        return inline_form(alloc, tokens, levels, orientation, InlineForm::Alt);
     }
     if starts_with(tokens, "par") {
-        return inline_form(alloc, tokens, levels, column, InlineForm::Par);
+        return inline_form(alloc, tokens, levels, orientation, InlineForm::Par);
     }
     if starts_with(tokens, "opt") {
-        return inline_form(alloc, tokens, levels, column, InlineForm::Opt);
+        return inline_form(alloc, tokens, levels, orientation, InlineForm::Opt);
     }
     if starts_with(tokens, "exc") {
-        return inline_form(alloc, tokens, levels, column, InlineForm::Exc);
+        return inline_form(alloc, tokens, levels, orientation, InlineForm::Exc);
     }
-    inline_form(alloc, tokens, levels, column, InlineForm::Loop)
+    inline_form(alloc, tokens, levels, orientation, InlineForm::Loop)
 }
 
 /// An inline expression of this form.
@@ -96,14 +96,14 @@ fn inline_form(
     alloc: Global,
     tokens: &[Token],
     levels: usize,
-    column: bool,
+    orientation: Orientation,
     form: InlineForm,
 ) -> Result<(RawItem, &[Token]), ReadFault>
-    ensures { Gives (λ x. (item_view x.0, x.1.now)) result (inline_form_at column form levels tokens.now) }
+    ensures { Gives (λ x. (item_view x.0, x.1.now)) result (inline_form_at orientation form levels tokens.now) }
 {
     let (first, rest) = form_token(tokens, form)?;
-    let (bounds, name, shared, operands, rest) = tail(alloc, rest, levels, column, form)?;
-    let item = inline_item(first.place, form, bounds, name, shared, operands);
+    let (bounds, body, rest) = tail(alloc, rest, levels, orientation, form)?;
+    let item = inline_item(first.place, form, bounds, body);
     Ok((item, rest))
 }
 
@@ -113,31 +113,22 @@ fn tail(
     alloc: Global,
     tokens: &[Token],
     levels: usize,
-    column: bool,
+    orientation: Orientation,
     form: InlineForm,
-) -> Result<
-    (
-        Bounds,
-        Option<Name>,
-        Option<Cover>,
-        Vec<RawOperand>,
-        &[Token],
-    ),
-    ReadFault,
->
-    ensures { Gives (λ x. ((x.0, ((x.1, x.2), map operand_view x.3.items)), x.4.now)) result (inline_tail_at column form levels tokens.now) }
+) -> Result<(Bounds, InlineBody, &[Token]), ReadFault>
+    ensures { Gives (λ x. ((x.0, body_view x.1), x.2.now)) result (inline_tail_at orientation form levels tokens.now) }
 {
     if form == InlineForm::Loop {
         let (bounds, rest) = loop_bounds(tokens)?;
-        let (name, shared, operands, rest) = level(alloc, rest, levels, column, form)?;
-        return Ok((bounds, name, shared, operands, rest));
+        let (body, rest) = level(alloc, rest, levels, orientation, form)?;
+        return Ok((bounds, body, rest));
     }
-    let (name, shared, operands, rest) = level(alloc, tokens, levels, column, form)?;
+    let (body, rest) = level(alloc, tokens, levels, orientation, form)?;
     let once = Bounds {
         lower: 1,
         upper: Some(1),
     };
-    Ok((once, name, shared, operands, rest))
+    Ok((once, body, rest))
 }
 
 /// `begin`, and what stands in the level that it opens.
@@ -146,13 +137,13 @@ fn level(
     alloc: Global,
     tokens: &[Token],
     levels: usize,
-    column: bool,
+    orientation: Orientation,
     form: InlineForm,
-) -> Result<(Option<Name>, Option<Cover>, Vec<RawOperand>, &[Token]), ReadFault>
-    ensures { Gives (λ x. (((x.0, x.1), map operand_view x.2.items), x.3.now)) result (level_at column form levels tokens.now) }
+) -> Result<(InlineBody, &[Token]), ReadFault>
+    ensures { Gives (λ x. (body_view x.0, x.1.now)) result (level_at orientation form levels tokens.now) }
 {
     let (inner, rest) = open(tokens, "begin", levels)?;
-    body(alloc, rest, inner, column, form)
+    body(alloc, rest, inner, orientation, form)
 }
 
 /// The name, the shared list, and the operands up to the last end.
@@ -161,14 +152,21 @@ fn body(
     alloc: Global,
     tokens: &[Token],
     levels: usize,
-    column: bool,
+    orientation: Orientation,
     form: InlineForm,
-) -> Result<(Option<Name>, Option<Cover>, Vec<RawOperand>, &[Token]), ReadFault>
-    ensures { Gives (λ x. (((x.0, x.1), map operand_view x.2.items), x.3.now)) result (inline_body_at column form levels tokens.now) }
+) -> Result<(InlineBody, &[Token]), ReadFault>
+    ensures { Gives (λ x. (body_view x.0, x.1.now)) result (inline_body_at orientation form levels tokens.now) }
 {
-    let (name, shared, rest) = naming(alloc, column, tokens)?;
-    let (operands, rest) = operands(alloc, rest, levels, column, form)?;
-    Ok((name, shared, operands, rest))
+    let (name, shared, rest) = naming(alloc, orientation, tokens)?;
+    let (operands, rest) = operands(alloc, rest, levels, orientation, form)?;
+    Ok((
+        InlineBody {
+            name,
+            shared,
+            operands,
+        },
+        rest,
+    ))
 }
 
 /// The operands of a form, and the end.
@@ -177,15 +175,15 @@ fn operands(
     alloc: Global,
     tokens: &[Token],
     levels: usize,
-    column: bool,
+    orientation: Orientation,
     form: InlineForm,
 ) -> Result<(Vec<RawOperand>, &[Token]), ReadFault>
-    ensures { Gives (λ x. (map operand_view x.0.items, x.1.now)) result (operands_at form (operand_at column form levels) tokens.now) }
+    ensures { Gives (λ x. (map operand_view x.0.items, x.1.now)) result (operands_at form (operand_at orientation form levels) tokens.now) }
 {
     match form {
-        InlineForm::Alt | InlineForm::Par => several(alloc, tokens, levels, column, form),
+        InlineForm::Alt | InlineForm::Par => several(alloc, tokens, levels, orientation, form),
         InlineForm::Opt | InlineForm::Exc | InlineForm::Loop => {
-            single_operand(alloc, tokens, levels, column, form)
+            single_operand(alloc, tokens, levels, orientation, form)
         }
     }
 }
@@ -196,12 +194,12 @@ fn single_operand(
     alloc: Global,
     tokens: &[Token],
     levels: usize,
-    column: bool,
+    orientation: Orientation,
     form: InlineForm,
 ) -> Result<(Vec<RawOperand>, &[Token]), ReadFault>
-    ensures { Gives (λ x. (map operand_view x.0.items, x.1.now)) result (single_operand_at (operand_at column form levels) tokens.now) }
+    ensures { Gives (λ x. (map operand_view x.0.items, x.1.now)) result (single_operand_at (operand_at orientation form levels) tokens.now) }
 {
-    let (operand, rest) = operand(alloc, tokens, levels, column, form)?;
+    let (operand, rest) = operand(alloc, tokens, levels, orientation, form)?;
     let rest = closing(rest)?;
     let mut operands = Vec::new(alloc);
     operands.push(operand)?;
@@ -214,12 +212,12 @@ fn several(
     alloc: Global,
     tokens: &[Token],
     levels: usize,
-    column: bool,
+    orientation: Orientation,
     form: InlineForm,
 ) -> Result<(Vec<RawOperand>, &[Token]), ReadFault>
-    ensures { Gives (λ x. (map operand_view x.0.items, x.1.now)) result (several_at (operand_at column form levels) tokens.now) }
+    ensures { Gives (λ x. (map operand_view x.0.items, x.1.now)) result (several_at (operand_at orientation form levels) tokens.now) }
 {
-    listed(alloc, tokens, levels, column, form)
+    listed(alloc, tokens, levels, orientation, form)
 }
 
 /// The same, one operand after the other.
@@ -228,15 +226,15 @@ fn listed(
     alloc: Global,
     tokens: &[Token],
     levels: usize,
-    column: bool,
+    orientation: Orientation,
     form: InlineForm,
 ) -> Result<(Vec<RawOperand>, &[Token]), ReadFault>
-    ensures { Gives (λ x. (map operand_view x.0.items, x.1.now)) result (listed_operands_at (operand_at column form levels) tokens.now) }
+    ensures { Gives (λ x. (map operand_view x.0.items, x.1.now)) result (listed_operands_at (operand_at orientation form levels) tokens.now) }
 {
-    let (first, rest) = operand(alloc, tokens, levels, column, form)?;
+    let (first, rest) = operand(alloc, tokens, levels, orientation, form)?;
     let mut prefix = Vec::new(alloc);
     prefix.push(first)?;
-    let (operands, rest) = more_operands(alloc, rest, levels, column, form, prefix)?;
+    let (operands, rest) = more_operands(alloc, rest, levels, orientation, form, prefix)?;
     let rest = closing(rest)?;
     Ok((operands, rest))
 }
@@ -247,11 +245,11 @@ fn more_operands(
     alloc: Global,
     tokens: &[Token],
     levels: usize,
-    column: bool,
+    orientation: Orientation,
     form: InlineForm,
     prefix: Vec<RawOperand>,
 ) -> Result<(Vec<RawOperand>, &[Token]), ReadFault>
-    ensures { Gives (λ x. (map operand_view x.0.items, x.1.now)) result (more_at end_words (next_part_at (operand_at column form levels)) (map operand_view prefix.items) (length tokens.now) tokens.now) }
+    ensures { Gives (λ x. (map operand_view x.0.items, x.1.now)) result (more_at end_words (next_part_at (operand_at orientation form levels)) (map operand_view prefix.items) (length tokens.now) tokens.now) }
 {
     let mut operands = prefix;
     let mut rest = tokens;
@@ -259,7 +257,7 @@ fn more_operands(
         if !starts_with_either(rest, "comment", ";") {
             break;
         }
-        match next_operand(alloc, rest, levels, column, form) {
+        match next_operand(alloc, rest, levels, orientation, form) {
             Ok((operand, behind)) => {
                 operands.push(operand)?;
                 rest = behind;
@@ -276,13 +274,13 @@ fn next_operand(
     alloc: Global,
     tokens: &[Token],
     levels: usize,
-    column: bool,
+    orientation: Orientation,
     form: InlineForm,
 ) -> Result<(RawOperand, &[Token]), ReadFault>
-    ensures { Gives (λ x. (operand_view x.0, x.1.now)) result (next_part_at (operand_at column form levels) tokens.now) }
+    ensures { Gives (λ x. (operand_view x.0, x.1.now)) result (next_part_at (operand_at orientation form levels) tokens.now) }
 {
     let rest = ending(tokens)?;
-    operand(alloc, rest, levels, column, form)
+    operand(alloc, rest, levels, orientation, form)
 }
 
 /// An operand, and its form's word.
@@ -291,17 +289,21 @@ fn operand(
     alloc: Global,
     tokens: &[Token],
     levels: usize,
-    column: bool,
+    orientation: Orientation,
     form: InlineForm,
 ) -> Result<(RawOperand, &[Token]), ReadFault>
-    ensures { Gives (λ x. (operand_view x.0, x.1.now)) result (operand_at column form levels tokens.now) }
+    ensures { Gives (λ x. (operand_view x.0, x.1.now)) result (operand_at orientation form levels tokens.now) }
 {
-    if column {
-        let (items, rest) = column_items(alloc, tokens, levels, Some(form))?;
-        return Ok((RawOperand::Column(items), rest));
+    match orientation {
+        Orientation::Column => {
+            let (items, rest) = column_items(alloc, tokens, levels, Some(form))?;
+            Ok((RawOperand::Column(items), rest))
+        }
+        Orientation::Covered => {
+            let (statements, rest) = statements(alloc, tokens, levels, Some(form))?;
+            Ok((RawOperand::Covered(statements), rest))
+        }
     }
-    let (statements, rest) = statements(alloc, tokens, levels, Some(form))?;
-    Ok((RawOperand::Covered(statements), rest))
 }
 
 // ---- columns
@@ -337,7 +339,7 @@ fn column_events(
         if !column_goes_on(rest, closer) {
             break;
         }
-        match event(alloc, rest, levels, true) {
+        match event(alloc, rest, levels, Orientation::Column) {
             Ok((item, behind)) => {
                 items.push(item)?;
                 rest = behind;
@@ -579,7 +581,7 @@ fn next_item(
     ensures { Gives (λ x. (item_view x.0, x.1.now)) result (outside_item_at levels any tokens.now) }
 {
     if any {
-        return event(alloc, tokens, levels, false);
+        return event(alloc, tokens, levels, Orientation::Covered);
     }
-    multi(alloc, tokens, levels, false)
+    multi(alloc, tokens, levels, Orientation::Covered)
 }

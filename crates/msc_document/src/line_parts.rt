@@ -9,10 +9,10 @@ ghost use Rattle.msc_document.specs.StatementReaders.{other_names_at};
 
 use msc_base::{Items, Name, Names, Place};
 use msc_events::declared;
-use token_grammar::{ReadFault, ending, more_names, own_name, word};
 use msc_tokens::Token;
 use msc_tree::{Cover, Decl, RawItem, Statement};
 use std::alloc::Global;
+use token_grammar::{ReadFault, ending, more_names, own_name, word};
 
 /// The statement that is the column of an instance.
 pub fn column_of(decl: Decl, held: Vec<RawItem>) -> Statement

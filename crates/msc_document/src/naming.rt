@@ -3,11 +3,11 @@ ghost use Rattle.token_grammar.specs.Answers.{Gives};
 ghost use Rattle.msc_document.specs.DocumentReaders.{some_name_at, naming_at, closing_at};
 
 use msc_base::Name;
-use msc_events::shared_in;
-use token_grammar::{ReadFault, ending, own_name, starts_with_name, word};
+use msc_events::{Orientation, shared_in};
 use msc_tokens::Token;
 use msc_tree::Cover;
 use std::alloc::Global;
+use token_grammar::{ReadFault, ending, own_name, starts_with_name, word};
 
 /// A name, where there is one.
 fn some_name(alloc: Global, tokens: &[Token]) -> Result<(Option<Name>, &[Token]), ReadFault>
@@ -23,13 +23,13 @@ fn some_name(alloc: Global, tokens: &[Token]) -> Result<(Option<Name>, &[Token])
 /// The name of an inline expression and, in a column, the list of those that share it, where there are any.
 pub fn naming(
     alloc: Global,
-    column: bool,
+    orientation: Orientation,
     tokens: &[Token],
 ) -> Result<(Option<Name>, Option<Cover>, &[Token]), ReadFault>
-    ensures { Gives (λ x. ((x.0, x.1), x.2.now)) result (naming_at column tokens.now) }
+    ensures { Gives (λ x. ((x.0, x.1), x.2.now)) result (naming_at orientation tokens.now) }
 {
     let (name, rest) = some_name(alloc, tokens)?;
-    let (shared, rest) = shared_in(alloc, column, rest)?;
+    let (shared, rest) = shared_in(alloc, orientation, rest)?;
     let rest = ending(rest)?;
     Ok((name, shared, rest))
 }

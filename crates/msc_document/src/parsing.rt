@@ -11,10 +11,10 @@ ghost use Rattle.msc_document.specs.DocumentAnswers.{IsAnswer};
 
 use crate::document::document;
 use msc_base::{Limits, Place};
-use token_grammar::{ParseFault, ReadFault, refusal};
 use msc_tokens::{Token, TokenList};
 use msc_tree::RawDocument;
 use std::alloc::Global;
+use token_grammar::{ParseFault, ReadFault, refusal};
 
 /// That the first of the last so many tokens opens a level too many.
 fn too_deep(tokens: &[Token], left: usize, end: Place) -> ParseFault

@@ -6,12 +6,12 @@ ghost use Rattle.msc_expression.specs.ExpressionReaders.{expression_at};
 ghost use Rattle.msc_document.specs.DocumentReaders as specs;
 
 use msc_base::Place;
+use msc_events::{Orientation, joins, shared_in};
 use msc_expression::expression;
-use msc_events::{joins, shared_in};
-use token_grammar::{ReadFault, ending, own_name, starts_with, starts_with_name, word};
 use msc_tokens::Token;
 use msc_tree::{Cover, JoinList, RawReference, RefExpr};
 use std::alloc::Global;
+use token_grammar::{ReadFault, ending, own_name, starts_with, starts_with_name, word};
 
 /// What the gates of a reference are joined with, where that is said.
 fn some_joins(alloc: Global, tokens: &[Token]) -> Result<(JoinList, &[Token]), ReadFault>
@@ -26,15 +26,15 @@ fn some_joins(alloc: Global, tokens: &[Token]) -> Result<(JoinList, &[Token]), R
 /// The expression of a reference, what its gates are joined with, and the list of those that share it.
 fn parts(
     alloc: Global,
-    column: bool,
+    orientation: Orientation,
     tokens: &[Token],
     levels: usize,
 ) -> Result<(RefExpr, JoinList, Option<Cover>, &[Token]), ReadFault>
-    ensures { Gives (λ x. ((expression_view x.0, (x.1, x.2)), x.3.now)) result (specs.reference_parts_at column (expression_at levels) tokens.now) }
+    ensures { Gives (λ x. ((expression_view x.0, (x.1, x.2)), x.3.now)) result (specs.reference_parts_at orientation (expression_at levels) tokens.now) }
 {
     let (expr, rest) = expression(alloc, tokens, levels)?;
     let (joins, rest) = some_joins(alloc, rest)?;
-    let (shared, rest) = shared_in(alloc, column, rest)?;
+    let (shared, rest) = shared_in(alloc, orientation, rest)?;
     let rest = ending(rest)?;
     Ok((expr, joins, shared, rest))
 }
@@ -42,15 +42,15 @@ fn parts(
 /// A reference with a name.
 fn named(
     alloc: Global,
-    column: bool,
+    orientation: Orientation,
     tokens: &[Token],
     levels: usize,
 ) -> Result<(RawReference, &[Token]), ReadFault>
-    ensures { Gives (λ x. (reference_view x.0, x.1.now)) result (specs.named_reference_at column (expression_at levels) tokens.now) }
+    ensures { Gives (λ x. (reference_view x.0, x.1.now)) result (specs.named_reference_at orientation (expression_at levels) tokens.now) }
 {
     let (name, rest) = own_name(alloc, tokens)?;
     let (_colon, rest) = word(rest, ":")?;
-    let (expr, joins, shared, rest) = parts(alloc, column, rest, levels)?;
+    let (expr, joins, shared, rest) = parts(alloc, orientation, rest, levels)?;
     Ok((
         RawReference {
             name: Some(name),
@@ -65,13 +65,13 @@ fn named(
 /// A reference without a name.
 fn unnamed(
     alloc: Global,
-    column: bool,
+    orientation: Orientation,
     tokens: &[Token],
     levels: usize,
 ) -> Result<(RawReference, &[Token]), ReadFault>
-    ensures { Gives (λ x. (reference_view x.0, x.1.now)) result (specs.unnamed_reference_at column (expression_at levels) tokens.now) }
+    ensures { Gives (λ x. (reference_view x.0, x.1.now)) result (specs.unnamed_reference_at orientation (expression_at levels) tokens.now) }
 {
-    let (expr, joins, shared, rest) = parts(alloc, column, tokens, levels)?;
+    let (expr, joins, shared, rest) = parts(alloc, orientation, tokens, levels)?;
     Ok((
         RawReference {
             name: None,
@@ -96,17 +96,17 @@ fn is_named(tokens: &[Token]) -> bool
 /// A reference (Z.120, clause 7.3), with its place.
 pub fn reference(
     alloc: Global,
-    column: bool,
+    orientation: Orientation,
     tokens: &[Token],
     levels: usize,
 ) -> Result<(Place, RawReference, &[Token]), ReadFault>
-    ensures { Gives (λ x. ((x.0, reference_view x.1), x.2.now)) result (specs.reference_at column (expression_at levels) tokens.now) }
+    ensures { Gives (λ x. ((x.0, reference_view x.1), x.2.now)) result (specs.reference_at orientation (expression_at levels) tokens.now) }
 {
     let (reference, rest) = word(tokens, "reference")?;
     let (part, rest) = if is_named(rest) {
-        named(alloc, column, rest, levels)?
+        named(alloc, orientation, rest, levels)?
     } else {
-        unnamed(alloc, column, rest, levels)?
+        unnamed(alloc, orientation, rest, levels)?
     };
     Ok((reference.place, part, rest))
 }

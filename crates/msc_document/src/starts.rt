@@ -3,9 +3,9 @@ ghost use Rattle.token_grammar.specs.Languages.{starts, just};
 ghost use Rattle.msc_document.specs.DocumentReaders as specs;
 
 use msc_events::starts_with_single;
-use token_grammar::{starts_with, starts_with_either};
 use msc_tokens::Token;
 use msc_tree::InlineForm;
+use token_grammar::{starts_with, starts_with_either};
 
 /// The word of a form.
 pub fn word_of(form: InlineForm) -> &'static str

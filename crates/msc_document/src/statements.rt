@@ -4,10 +4,10 @@ ghost use Rattle.token_grammar.specs.Answers.{Gives};
 ghost use Rattle.msc_document.specs.DocumentReaders.{chart_statements_at};
 
 use crate::items::statements;
-use token_grammar::ReadFault;
 use msc_tokens::Token;
 use msc_tree::Statement;
 use std::alloc::Global;
+use token_grammar::ReadFault;
 
 /// The statements of a chart, and its word `endmsc`.
 pub fn chart_statements(

@@ -1,11 +1,11 @@
 -- The readers of single events are exact.
-use Rattle.std.proofs.Common.{ℕ, ◌≡◌, ◌++◌, true, List, [], ◌∷◌, Option, None, refl, codes}
+use Rattle.std.proofs.Common.{ℕ, ◌≡◌, ◌++◌, true, List, [], ◌∷◌, None, refl, codes}
 use Rattle.msc_base.specs.declared.label.Kind.{Kind}
 use Rattle.msc_base.specs.declared.label.Kind.TheVariants.{Output, Input, OutputLost, InputFound, Action, TimerStart, TimerStop, Timeout, Create}
 use Rattle.msc_tree.specs.declared.event.Target.TheVariants.{Nobody, Env, Instance, Gate}
 use Rattle.msc_tokens.specs.declared.token.Token.{Token}
 use Rattle.token_grammar.specs.Classes.{token_of}
-use Rattle.token_grammar.specs.Languages.{Set, Read, among, apart, just, names, seq_at}
+use Rattle.token_grammar.specs.Languages.{Set, among, apart, just, names, seq_at}
 use Rattle.token_grammar.specs.Parts.{kept, all_or_none}
 use Rattle.token_grammar.specs.Messages.{start_words, stop_words}
 use Rattle.token_grammar.proofs.Flats.{rule_by}

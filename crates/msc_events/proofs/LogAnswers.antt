@@ -1,5 +1,5 @@
 -- The answers of the readers of a log's event and of its text.
-use Rattle.std.proofs.Common.{ℕ, ◌≡◌, ◌∙◌, ◌++◌, true, List, [], ◌∷◌, length, refl, sym, ap, Option, Ok, Err, codes}
+use Rattle.std.proofs.Common.{ℕ, ◌≡◌, ◌∙◌, true, List, [], ◌∷◌, length, refl, sym, ap, Option, Ok, Err, codes}
 use Rattle.msc_base.specs.declared.label.Label.{Label}
 use Rattle.msc_base.specs.declared.label.Kind.{Kind}
 use Rattle.msc_base.specs.declared.label.Kind.TheVariants.{Action, Create}

@@ -1,5 +1,5 @@
 -- The bytes of a log's event decide what it says, and nothing in it opens a level.
-use Rattle.std.proofs.Common.{ℕ, ◌≡◌, ◌∙◌, ◌++◌, List, [], ◌∷◌, refl, sym, ap, inl, inr, Option, Some, None, codes}
+use Rattle.std.proofs.Common.{ℕ, ◌≡◌, ◌∙◌, ◌++◌, List, [], ◌∷◌, refl, sym, ap, inl, inr, Option, None, codes}
 use Rattle.msc_base.specs.declared.label.Label.{Label}
 use Rattle.msc_base.specs.declared.label.Kind.{Kind}
 use Rattle.msc_base.specs.declared.label.Kind.TheVariants.{Output, Input, OutputLost, InputFound, Action, TimerStart, TimerStop, Timeout, Create}
@@ -12,11 +12,11 @@ use Rattle.msc_tree.specs.declared.event.Target.TheVariants.{Nobody, Env, Instan
 use Rattle.token_grammar.specs.Classes.{string}
 use Rattle.token_grammar.specs.Languages.{Set, just, names, names_or_strings, texts}
 use Rattle.token_grammar.specs.Grammars.{Grammar, seq, or, read_as, behind}
-use Rattle.token_grammar.specs.Parts.{name, mark, dropped, kept, all_or_none, all_of, placed, ending}
-use Rattle.token_grammar.specs.Messages.{Message, item, parameters, message, start_words, stop_words}
+use Rattle.token_grammar.specs.Parts.{name, dropped, kept, all_or_none, all_of, placed, ending}
+use Rattle.token_grammar.specs.Messages.{Message, parameters, message, start_words, stop_words}
 use Rattle.token_grammar.proofs.Texts.{Textual, bytes_textual, behind_textual, seq_textual, read_textual, or_textual, chain_textual, tail_textual, optional_textual}
 use Rattle.token_grammar.proofs.Shallow.{Shallow, bytes_shallow, behind_shallow, seq_shallow, read_shallow, or_shallow, chain_shallow, tail_shallow, optional_shallow}
-use Rattle.msc_events.specs.Events.{no_orders, orders, named, address_of, through, to_lost, address, event_of, exchange, output, input, plain, action, timer, creation, act}
+use Rattle.msc_events.specs.Events.{no_orders, orders, named, address_of, address, event_of, exchange, plain, action, timer, creation, act}
 use Rattle.msc_events.specs.LogEvents.{event, plain_message}
 use Rattle.msc_events.specs.declared.event_parts.Orders.{Orders}
 use Rattle.msc_events.specs.declared.event_parts.Address.{Address}
@@ -65,9 +65,11 @@ module _ {A V : Type 0} (words : Set) (f : RawEvent → V) (g : Place × A → R
           moved b
         where
           moved : (behind words R).reads y q.1 → (read_as f (read_as g (placed words R))).reads y v
-          moved (u, m, is) =
-              (g (u.0.place, u.1), ((u.0.place, u.1), (u, m, refl), refl),
-              is_v ∙ ap f is_a ∙ same p ∙ ap (λ (w : Place × A). h w.1) is_p ∙ ap h is ∙ sym (same (u.0.place, u.1)))
+          moved (u, m, is) = (
+            g (u.0.place, u.1),
+            ((u.0.place, u.1), (u, m, refl), refl),
+            is_v ∙ ap f is_a ∙ same p ∙ ap (λ (w : Place × A). h w.1) is_p ∙ ap h is ∙ sym (same (u.0.place, u.1)),
+          )
 
 either_textual : {A V : Type 0} {R S : Grammar A} (f : A → V) → Textual (read_as f R) → Textual (read_as f S) → Textual (read_as f (or R S))
 either_textual {A = A} {V = V} {R = R} {S = S} f r s = record { keeps = keeps }

@@ -14,6 +14,8 @@ use Rattle.token_grammar.proofs.Optionals.{none, mapped, paired, optional_rule, 
 use Rattle.token_grammar.proofs.PartRules.{law_by, name_rule, placed_name_rule, ending_rule, ends, placed_rule, commas, separated_rule, name_list_rule}
 use Rattle.msc_events.specs.Multis.{sharers, cover_of, shared, shared_in, condition, join_end, join, joins}
 use Rattle.msc_events.specs.MultiReaders.{sharers_at, shared_at, shared_words, shared_in_at, condition_at, join_end_at, join_at, joins_at}
+use Rattle.msc_events.specs.declared.orientation.Orientation.{Orientation}
+use Rattle.msc_events.specs.declared.orientation.Orientation.TheVariants as written
 
 -- what can't follow a shared list
 abbrev pub after_cover : Cover → Set
@@ -56,14 +58,14 @@ module _ {A : Type 0} (q : List Token → Read A) where
   first (Ok z) = second z.0 (cover_at z.1)
   first (Err e) = refl
 
-  column_same : (ts : List Token) → either_at (just (codes "shared")) (λ us. with_list (apart_at us)) (λ us. without_list (q us)) ts ≡ seq_at (shared_in_at true) q ts
+  column_same : (ts : List Token) → either_at (just (codes "shared")) (λ us. with_list (apart_at us)) (λ us. without_list (q us)) ts ≡ seq_at (shared_in_at written.Column) q ts
   column_same ts = pick (starts (just (codes "shared")) ts)
     where
       pick : (b : Bool) → cond b (with_list (apart_at ts)) (without_list (q ts)) ≡ paired (cond b (mapped (λ c. kept (Some c)) (shared_at ts)) (Ok (None, ts))) q
       pick true = first (word_at (just (codes "shared")) ts)
       pick false = refl
 
-  other_same : (ts : List Token) → without_list (q ts) ≡ seq_at (shared_in_at false) q ts
+  other_same : (ts : List Token) → without_list (q ts) ≡ seq_at (shared_in_at written.Covered) q ts
   other_same [] = refl
   other_same (t ∷ ts) = refl
 
@@ -75,20 +77,20 @@ module _ {A : Type 0} {S : ℕ → Grammar A} {G : Set} {C : A → Set} {n : ℕ
       free All = apart_none G
       free (Listed list) = comma_apart
 
-  pub shared_in_rule : (column : Bool) {q : List Token → Read A} → Rule S n G C q → Rule (λ m. shared_in column (S m)) n (shared_words column ++ G) (λ x. C x.1) (seq_at (shared_in_at column) q)
-  shared_in_rule true {q = q} next =
-      rule_by (λ m. shared_in true (S m)) n (just (codes "shared") ++ G) (λ x. C x.1) (either_at (just (codes "shared")) (λ us. with_list q (apart_at q us)) (λ us. without_list q (q us))) (seq_at (shared_in_at true) q) (column_same q)
+  pub shared_in_rule : (orientation : Orientation) {q : List Token → Read A} → Rule S n G C q → Rule (λ m. shared_in orientation (S m)) n (shared_words orientation ++ G) (λ x. C x.1) (seq_at (shared_in_at orientation) q)
+  shared_in_rule written.Column {q = q} next =
+      rule_by (λ m. shared_in written.Column (S m)) n (just (codes "shared") ++ G) (λ x. C x.1) (either_at (just (codes "shared")) (λ us. with_list q (apart_at q us)) (λ us. without_list q (q us))) (seq_at (shared_in_at written.Column) q) (column_same q)
       (or_rule (as_rule (λ p. (Some p.0, p.1)) (λ x. C x.1) (shared_rule next) (λ a. refl)) (as_rule (λ a. (None, a)) (λ x. C x.1) next (λ a. refl)) shared_apart)
-  shared_in_rule false {q = q} next =
-      rule_by (λ m. shared_in false (S m)) n G (λ x. C x.1) (λ us. without_list q (q us)) (seq_at (shared_in_at false) q) (other_same q) (as_rule (λ a. (None, a)) (λ x. C x.1) next (λ a. refl))
+  shared_in_rule written.Covered {q = q} next =
+      rule_by (λ m. shared_in written.Covered (S m)) n G (λ x. C x.1) (λ us. without_list q (q us)) (seq_at (shared_in_at written.Covered) q) (other_same q) (as_rule (λ a. (None, a)) (λ x. C x.1) next (λ a. refl))
 
-pub condition_rule : (column : Bool) (n : ℕ) → Rule (λ m. condition column) n (just (codes "condition")) none (condition_at column)
-condition_rule column n = as_rule (λ p. (p.0, p.1.0, p.1.1.0)) none (placed_rule (just (codes "condition")) (codes "condition") refl
-    (seq_rule (name_list_rule n) (shared_in_rule refl refl refl column (ending_rule n)) (free column))) (λ a. refl)
+pub condition_rule : (orientation : Orientation) (n : ℕ) → Rule (λ m. condition orientation) n (just (codes "condition")) none (condition_at orientation)
+condition_rule orientation n = as_rule (λ p. (p.0, p.1.0, p.1.1.0)) none (placed_rule (just (codes "condition")) (codes "condition") refl
+    (seq_rule (name_list_rule n) (shared_in_rule refl refl refl orientation (ending_rule n)) (free orientation))) (λ a. refl)
   where
-    free : (column : Bool) (a : List (List ℕ)) → apart (shared_words column ++ ends) (just (codes ",")) ≡ true
-    free true a = refl
-    free false a = refl
+    free : (orientation : Orientation) (a : List (List ℕ)) → apart (shared_words orientation ++ ends) (just (codes ",")) ≡ true
+    free written.Column a = refl
+    free written.Covered a = refl
 
 -- ---- joins
 
@@ -105,8 +107,8 @@ joins_rule n = behind_rule (just (codes "via")) (codes "via") refl (separated_ru
 
 -- ---- their laws
 
-pub condition_law : (column : Bool) (n : ℕ) → Law (λ m. condition column) n (just (codes "condition")) none
-condition_law column = law_by (condition_rule column)
+pub condition_law : (orientation : Orientation) (n : ℕ) → Law (λ m. condition orientation) n (just (codes "condition")) none
+condition_law orientation = law_by (condition_rule orientation)
 
 pub joins_law : (n : ℕ) → Law (λ m. joins) n (just (codes "via")) commas
 joins_law = law_by joins_rule

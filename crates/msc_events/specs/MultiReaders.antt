@@ -1,5 +1,5 @@
 -- Readers of the productions of what several instances share.
-use Rattle.std.specs.Prelude.{ℕ, List, [], ◌++◌, Option, Bool, true, false, codes}
+use Rattle.std.specs.Prelude.{ℕ, List, [], ◌++◌, Option, None, Ok, codes}
 use Rattle.msc_base.specs.declared.place.Place.{Place}
 use Rattle.msc_tokens.specs.declared.token.Token.{Token}
 use Rattle.msc_tree.specs.declared.chart.Cover.{Cover}
@@ -11,6 +11,8 @@ use Rattle.token_grammar.specs.Languages.{Set, Read, just, names, word_at, seq_a
 use Rattle.token_grammar.specs.Parts.{kept}
 use Rattle.token_grammar.specs.PartReaders.{name_at, placed_name_at, placed_at, ending_at, separated_at, more_at, name_list_at}
 use Rattle.msc_events.specs.Multis.{cover_of}
+use Rattle.msc_events.specs.declared.orientation.Orientation.{Orientation}
+use Rattle.msc_events.specs.declared.orientation.Orientation.TheVariants as written
 
 abbrev pub sharers_at : List Token → Read Cover
 sharers_at = either_at (just (codes "all")) (map_at (λ t. All) (word_at (just (codes "all")))) (map_at Listed name_list_at)
@@ -21,16 +23,24 @@ some_sharers_at = optional_at (just (codes "all") ++ names) cover_of sharers_at
 abbrev pub shared_at : List Token → Read Cover
 shared_at = behind_at (just (codes "shared")) some_sharers_at
 
-abbrev pub shared_words : Bool → Set
-shared_words true = just (codes "shared")
-shared_words false = []
+abbrev pub shared_words : Orientation → Set
+shared_words written.Column = just (codes "shared")
+shared_words written.Covered = []
+
+-- a shared list, where there is one
+abbrev pub some_shared_at : List Token → Read (Option Cover)
+some_shared_at = optional_at (just (codes "shared")) kept shared_at
+
+abbrev pub nothing_shared_at : List Token → Read (Option Cover)
+nothing_shared_at ts = Ok (None, ts)
 
 -- a shared list, where it may stand and does
-abbrev pub shared_in_at : Bool → List Token → Read (Option Cover)
-shared_in_at column = optional_at (shared_words column) kept shared_at
+abbrev pub shared_in_at : Orientation → List Token → Read (Option Cover)
+shared_in_at written.Column = some_shared_at
+shared_in_at written.Covered = nothing_shared_at
 
-abbrev pub condition_at : Bool → List Token → Read (Place × List (List ℕ) × Option Cover)
-condition_at column = map_at (λ p. (p.0, p.1.0, p.1.1.0)) (placed_at (just (codes "condition")) (seq_at name_list_at (seq_at (shared_in_at column) ending_at)))
+abbrev pub condition_at : Orientation → List Token → Read (Place × List (List ℕ) × Option Cover)
+condition_at orientation = map_at (λ p. (p.0, p.1.0, p.1.1.0)) (placed_at (just (codes "condition")) (seq_at name_list_at (seq_at (shared_in_at orientation) ending_at)))
 
 abbrev pub env_end_at : List Token → Read JoinEnd
 env_end_at = map_at Env (behind_at (just (codes "env")) (behind_at (just (codes "via")) name_at))

@@ -8,13 +8,13 @@ ghost use Rattle.msc_events.specs.EventReaders.{output_at, input_at, action_at, 
 use crate::address::{address, orders};
 use crate::event_parts::{Address, Orders, Setting};
 use msc_base::{Kind, Place, Text};
+use msc_tokens::Token;
+use msc_tree::{RawEvent, Target};
+use std::alloc::Global;
 use token_grammar::{
     MessageParts, ReadFault, either_word, item, message, name, name_of, starts_with,
     starts_with_either, word,
 };
-use msc_tokens::Token;
-use msc_tree::{RawEvent, Target};
-use std::alloc::Global;
 
 /// The event of these parts, without its label.
 fn made_event(place: Place, message: MessageParts, address: Address) -> RawEvent
@@ -45,7 +45,11 @@ fn plain_parts(text: Text) -> MessageParts
 }
 
 /// A message is sent (Z.120, clause 4.3).
-fn output(alloc: Global, setting: Setting, tokens: &[Token]) -> Result<(RawEvent, &[Token]), ReadFault>
+fn output(
+    alloc: Global,
+    setting: Setting,
+    tokens: &[Token],
+) -> Result<(RawEvent, &[Token]), ReadFault>
     ensures { Gives (λ x. (x.0, x.1.now)) result (output_at setting tokens.now) }
 {
     let (out, rest) = word(tokens, "out")?;
@@ -56,7 +60,11 @@ fn output(alloc: Global, setting: Setting, tokens: &[Token]) -> Result<(RawEvent
 }
 
 /// A message is received (Z.120, clause 4.3).
-fn input(alloc: Global, setting: Setting, tokens: &[Token]) -> Result<(RawEvent, &[Token]), ReadFault>
+fn input(
+    alloc: Global,
+    setting: Setting,
+    tokens: &[Token],
+) -> Result<(RawEvent, &[Token]), ReadFault>
     ensures { Gives (λ x. (x.0, x.1.now)) result (input_at setting tokens.now) }
 {
     let (word_in, rest) = word(tokens, "in")?;
@@ -67,7 +75,11 @@ fn input(alloc: Global, setting: Setting, tokens: &[Token]) -> Result<(RawEvent,
 }
 
 /// A local action (Z.120, clause 4.9).
-fn action(alloc: Global, setting: Setting, tokens: &[Token]) -> Result<(RawEvent, &[Token]), ReadFault>
+fn action(
+    alloc: Global,
+    setting: Setting,
+    tokens: &[Token],
+) -> Result<(RawEvent, &[Token]), ReadFault>
     ensures { Gives (λ x. (x.0, x.1.now)) result (action_at setting tokens.now) }
 {
     let (action, rest) = word(tokens, "action")?;
@@ -82,7 +94,11 @@ fn action(alloc: Global, setting: Setting, tokens: &[Token]) -> Result<(RawEvent
 }
 
 /// A timer and the orders of its event (Z.120, clause 4.8).
-fn timing(alloc: Global, setting: Setting, tokens: &[Token]) -> Result<(MessageParts, Orders, &[Token]), ReadFault>
+fn timing(
+    alloc: Global,
+    setting: Setting,
+    tokens: &[Token],
+) -> Result<(MessageParts, Orders, &[Token]), ReadFault>
     ensures { Gives (λ x. ((message_view x.0, x.1), x.2.now)) result (timing_at setting tokens.now) }
 {
     let (timer, rest) = message(alloc, tokens)?;
@@ -103,7 +119,11 @@ fn timed(place: Place, kind: Kind, timer: MessageParts, orders: Orders) -> RawEv
 }
 
 /// An instance is created (Z.120, clause 4.10): the text and the other end are the child.
-fn creation(alloc: Global, setting: Setting, tokens: &[Token]) -> Result<(RawEvent, &[Token]), ReadFault>
+fn creation(
+    alloc: Global,
+    setting: Setting,
+    tokens: &[Token],
+) -> Result<(RawEvent, &[Token]), ReadFault>
     ensures { Gives (λ x. (x.0, x.1.now)) result (creation_at setting tokens.now) }
 {
     let (create, rest) = word(tokens, "create")?;
@@ -119,7 +139,11 @@ fn creation(alloc: Global, setting: Setting, tokens: &[Token]) -> Result<(RawEve
 }
 
 /// A timer's event, or a creation.
-fn timers(alloc: Global, setting: Setting, tokens: &[Token]) -> Result<(RawEvent, &[Token]), ReadFault>
+fn timers(
+    alloc: Global,
+    setting: Setting,
+    tokens: &[Token],
+) -> Result<(RawEvent, &[Token]), ReadFault>
     ensures { Gives (λ x. (x.0, x.1.now)) result (timers_at setting tokens.now) }
 {
     if starts_with_either(tokens, "starttimer", "set") {
@@ -141,7 +165,11 @@ fn timers(alloc: Global, setting: Setting, tokens: &[Token]) -> Result<(RawEvent
 }
 
 /// What an event does, with its orders and its end.
-pub fn act(alloc: Global, setting: Setting, tokens: &[Token]) -> Result<(RawEvent, &[Token]), ReadFault>
+pub fn act(
+    alloc: Global,
+    setting: Setting,
+    tokens: &[Token],
+) -> Result<(RawEvent, &[Token]), ReadFault>
     ensures { Gives (λ x. (x.0, x.1.now)) result (act_at setting tokens.now) }
 {
     if starts_with(tokens, "out") {

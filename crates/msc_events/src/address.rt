@@ -5,10 +5,10 @@ ghost use Rattle.msc_events.specs.EventReaders.{names_behind_at, own_orders_at, 
 
 use crate::event_parts::{Address, Orders, Setting};
 use msc_base::{Items, Kind, Name, Names};
-use token_grammar::{ReadFault, ending, names, own_name, starts_with, starts_with_name, word};
 use msc_tokens::Token;
 use msc_tree::Target;
 use std::alloc::Global;
+use token_grammar::{ReadFault, ending, names, own_name, starts_with, starts_with_name, word};
 
 /// The names behind this word, where it stands.
 fn names_behind<'a>(
@@ -70,7 +70,12 @@ pub fn orders(
 }
 
 /// An instance as other end.
-fn to_name(alloc: Global, setting: Setting, tokens: &[Token], kind: Kind) -> Result<(Address, &[Token]), ReadFault>
+fn to_name(
+    alloc: Global,
+    setting: Setting,
+    tokens: &[Token],
+    kind: Kind,
+) -> Result<(Address, &[Token]), ReadFault>
     ensures { Gives (λ x. (x.0, x.1.now)) result (to_name_at setting kind tokens.now) }
 {
     let (name, rest) = own_name(alloc, tokens)?;
@@ -113,7 +118,12 @@ fn via(
 }
 
 /// The environment as other end, through a gate or none (Z.120, clause 4.5).
-fn to_env(alloc: Global, setting: Setting, tokens: &[Token], kind: Kind) -> Result<(Address, &[Token]), ReadFault>
+fn to_env(
+    alloc: Global,
+    setting: Setting,
+    tokens: &[Token],
+    kind: Kind,
+) -> Result<(Address, &[Token]), ReadFault>
     ensures { Gives (λ x. (x.0, x.1.now)) result (to_env_at setting kind tokens.now) }
 {
     let (_env, rest) = word(tokens, "env")?;

@@ -4,10 +4,12 @@ ghost use Rattle.msc_events.specs.Declarations.{decl_of};
 ghost use Rattle.msc_events.specs.DeclarationReaders.{heading_at, related_at, kind_at, some_kind_at, colon_kind_at, refinement_at, some_refinement_at, decl_at, comma_decl_at, more_decls_at, decl_list_at, declared_at};
 
 use msc_base::{Items, Name, Names, Place};
-use token_grammar::{ReadFault, ending, own_name, placed_name, starts_with, starts_with_name, word};
 use msc_tokens::Token;
 use msc_tree::{Decl, DeclList, Heading};
 use std::alloc::Global;
+use token_grammar::{
+    ReadFault, ending, own_name, placed_name, starts_with, starts_with_name, word,
+};
 
 /// The document to which the document is related, where one is named.
 fn related(alloc: Global, tokens: &[Token]) -> Result<(Option<Name>, &[Token]), ReadFault>

@@ -7,10 +7,10 @@ ghost use Rattle.msc_events.specs.EventReaders.{label_at, some_label_at, single_
 use crate::act::act;
 use crate::event_parts::Setting;
 use msc_base::{Items, Name, Place};
-use token_grammar::{ReadFault, ending, own_name, starts_with, starts_with_either, word};
 use msc_tokens::Token;
 use msc_tree::{RawEvent, RawEventList};
 use std::alloc::Global;
+use token_grammar::{ReadFault, ending, own_name, starts_with, starts_with_either, word};
 
 /// The label of an event, by which general orderings know it (Z.120, clause 4.6).
 fn label(alloc: Global, tokens: &[Token]) -> Result<(Name, &[Token]), ReadFault>
@@ -37,7 +37,10 @@ fn some_label(alloc: Global, tokens: &[Token]) -> Result<(Option<Name>, &[Token]
 fn with_label(event_name: Option<Name>, event: RawEvent) -> RawEvent
     ensures { result ≡ tagged event_name event }
 {
-    RawEvent { event_name, ..event }
+    RawEvent {
+        event_name,
+        ..event
+    }
 }
 
 /// A single event of a chart (Z.120, clauses 4.3 to 4.10).

@@ -6,10 +6,12 @@ ghost use Rattle.msc_events.specs.DeclarationReaders.{decls_onto_at, names_onto_
 use crate::declaration::{decl, more_decls};
 use crate::head_parts::Heads;
 use msc_base::{Items, Names};
-use token_grammar::{ReadFault, ending, more_names, own_name, starts_with, starts_with_either, word};
 use msc_tokens::Token;
 use msc_tree::DeclList;
 use std::alloc::Global;
+use token_grammar::{
+    ReadFault, ending, more_names, own_name, starts_with, starts_with_either, word,
+};
 
 /// Declarations with commas between them, appended to the list.
 fn decls_onto(
@@ -26,7 +28,11 @@ fn decls_onto(
 }
 
 /// Names with commas between them, appended to the list.
-fn names_onto(alloc: Global, tokens: &[Token], prefix: Names) -> Result<(Names, &[Token]), ReadFault>
+fn names_onto(
+    alloc: Global,
+    tokens: &[Token],
+    prefix: Names,
+) -> Result<(Names, &[Token]), ReadFault>
     ensures { Gives (λ x. (x.0, x.1.now)) result (names_onto_at prefix tokens.now) }
 {
     let (first, rest) = own_name(alloc, tokens)?;
@@ -65,7 +71,11 @@ fn names_line<'a>(
 }
 
 /// The declarations of instances of one head, behind what was declared (Z.120, clause 4.2).
-fn decls_head(alloc: Global, tokens: &[Token], prefix: Heads) -> Result<(Heads, &[Token]), ReadFault>
+fn decls_head(
+    alloc: Global,
+    tokens: &[Token],
+    prefix: Heads,
+) -> Result<(Heads, &[Token]), ReadFault>
     ensures { Gives (λ x. (x.0, x.1.now)) result (decls_head_at prefix tokens.now) }
 {
     match decls_line(alloc, tokens, prefix.decls) {

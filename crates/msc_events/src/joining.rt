@@ -3,10 +3,10 @@ ghost use Rattle.token_grammar.specs.Answers.{Gives};
 ghost use Rattle.msc_events.specs.MultiReaders.{env_end_at, reference_end_at, join_end_at, join_at, comma_join_at, more_joins_at, join_list_at, joins_at};
 
 use msc_base::Items;
-use token_grammar::{ReadFault, own_name, placed_name, starts_with, word};
 use msc_tokens::Token;
 use msc_tree::{Join, JoinEnd, JoinList};
 use std::alloc::Global;
+use token_grammar::{ReadFault, own_name, placed_name, starts_with, word};
 
 /// A gate of what stands around a reference.
 fn env_end(alloc: Global, tokens: &[Token]) -> Result<(JoinEnd, &[Token]), ReadFault>

@@ -1,4 +1,4 @@
-ghost use Rattle.std.specs.Prelude.{List, Bool};
+ghost use Rattle.std.specs.Prelude.{List};
 ghost use Rattle.msc_tokens.specs.declared.token.Token.{Token};
 ghost use Rattle.token_grammar.specs.Parsing.{OneReading};
 ghost use Rattle.token_grammar.specs.Exactness.{IsExact};
@@ -8,6 +8,7 @@ ghost use Rattle.msc_events.specs.Events.{single, coregion, stop};
 ghost use Rattle.msc_events.specs.EventReaders.{single_at, coregion_at, stop_at};
 ghost use Rattle.msc_events.specs.Multis.{condition, joins};
 ghost use Rattle.msc_events.specs.MultiReaders.{condition_at, joins_at};
+ghost use Rattle.msc_events.specs.declared.orientation.Orientation.{Orientation};
 
 /// Tokens read as at most one heading, list of declarations, declaration or head, and what the reader answers is this, or
 /// the first token that is refused.
@@ -34,8 +35,8 @@ pub fn events_are_exact()
 
 /// The same of conditions, in a column and elsewhere, and of joins.
 pub fn shared_parts_are_exact()
-    ensures one_condition { (column : Bool) → OneReading (λ n. condition column) }
-    ensures condition { (column : Bool) (tokens : List Token) → IsExact (λ n. condition column) 0 tokens (condition_at column tokens) }
+    ensures one_condition { (orientation : Orientation) → OneReading (λ n. condition orientation) }
+    ensures condition { (orientation : Orientation) (tokens : List Token) → IsExact (λ n. condition orientation) 0 tokens (condition_at orientation tokens) }
     ensures one_joins { OneReading (λ n. joins) }
     ensures joins { (tokens : List Token) → IsExact (λ n. joins) 0 tokens (joins_at tokens) }
 {}

@@ -15,6 +15,7 @@ mod joining;
 mod laws;
 mod log_event;
 mod log_text;
+mod orientation;
 mod shared;
 #[cfg(test)]
 mod tests;
@@ -27,4 +28,5 @@ pub use joining::joins;
 pub use laws::{declarations_are_exact, events_are_exact, shared_parts_are_exact};
 pub use log_event::parse_event;
 pub use log_text::parse_text;
+pub use orientation::Orientation;
 pub use shared::{condition, shared_in};

@@ -9,10 +9,10 @@ ghost use Rattle.msc_events.specs.LogReaders.{event_at};
 use crate::act::act;
 use crate::event_parts::Setting;
 use msc_base::{Label, Place};
-use token_grammar::{ParseFault, ReadFault, own_name, refusal, word};
 use msc_tokens::{Token, TokenList};
 use msc_tree::label_of;
 use std::alloc::Global;
+use token_grammar::{ParseFault, ReadFault, own_name, refusal, word};
 
 /// The event at the prefix of the tokens.
 fn event(alloc: Global, tokens: &[Token]) -> Result<(Label, &[Token]), ReadFault>

@@ -7,10 +7,12 @@ ghost use Rattle.msc_events.specs.LogReaders.{text_at, glued_message_at};
 ghost use Rattle.msc_events.specs.LogRefusals.{IsTextRefused};
 
 use msc_base::{Kind, Place, Text};
-use token_grammar::{ParseFault, ReadFault, item, name, own_text, parameters, refusal, starts_with};
 use msc_tokens::{Token, TokenList};
 use msc_tree::label_text;
 use std::alloc::Global;
+use token_grammar::{
+    ParseFault, ReadFault, item, name, own_text, parameters, refusal, starts_with,
+};
 
 /// A message without pairing name.
 fn plain_message(alloc: Global, tokens: &[Token]) -> Result<(Text, &[Token]), ReadFault>

@@ -1,11 +1,12 @@
 ghost use Rattle.token_grammar.specs.Answers.{Gives};
-ghost use Rattle.msc_events.specs.MultiReaders.{sharers_at, some_sharers_at, shared_at, shared_in_at, condition_at};
+ghost use Rattle.msc_events.specs.MultiReaders.{sharers_at, some_sharers_at, shared_at, some_shared_at, shared_in_at, condition_at};
 
+use crate::orientation::Orientation;
 use msc_base::{Items, Names, Place};
-use token_grammar::{ReadFault, ending, names, starts_with, starts_with_name, word};
 use msc_tokens::Token;
 use msc_tree::Cover;
 use std::alloc::Global;
+use token_grammar::{ReadFault, ending, names, starts_with, starts_with_name, word};
 
 /// All instances, or those of these names.
 fn sharers(alloc: Global, tokens: &[Token]) -> Result<(Cover, &[Token]), ReadFault>
@@ -37,32 +38,42 @@ fn shared(alloc: Global, tokens: &[Token]) -> Result<(Cover, &[Token]), ReadFaul
     some_sharers(alloc, rest)
 }
 
-/// The list of the instances that share a part of a chart, where it may stand, as in a column, and does.
-pub fn shared_in(
-    alloc: Global,
-    column: bool,
-    tokens: &[Token],
-) -> Result<(Option<Cover>, &[Token]), ReadFault>
-    ensures { Gives (λ x. (x.0, x.1.now)) result (shared_in_at column tokens.now) }
+/// The list of the instances that share a part of a chart, where there is one.
+fn some_shared(alloc: Global, tokens: &[Token]) -> Result<(Option<Cover>, &[Token]), ReadFault>
+    ensures { Gives (λ x. (x.0, x.1.now)) result (some_shared_at tokens.now) }
 {
-    if column && starts_with(tokens, "shared") {
+    if starts_with(tokens, "shared") {
         let (cover, rest) = shared(alloc, tokens)?;
         return Ok((Some(cover), rest));
     }
     Ok((None, tokens))
 }
 
+/// The list of the instances that share a part of a chart, where it may stand, as in a column, and does.
+pub fn shared_in(
+    alloc: Global,
+    orientation: Orientation,
+    tokens: &[Token],
+) -> Result<(Option<Cover>, &[Token]), ReadFault>
+    ensures { Gives (λ x. (x.0, x.1.now)) result (shared_in_at orientation tokens.now) }
+{
+    match orientation {
+        Orientation::Column => some_shared(alloc, tokens),
+        Orientation::Covered => Ok((None, tokens)),
+    }
+}
+
 /// A condition (Z.120, clause 4.7), with its place, its names and, in a column, the list of those that share it.
 pub fn condition(
     alloc: Global,
-    column: bool,
+    orientation: Orientation,
     tokens: &[Token],
 ) -> Result<(Place, Names, Option<Cover>, &[Token]), ReadFault>
-    ensures { Gives (λ x. ((x.0, x.1, x.2), x.3.now)) result (condition_at column tokens.now) }
+    ensures { Gives (λ x. ((x.0, x.1, x.2), x.3.now)) result (condition_at orientation tokens.now) }
 {
     let (condition, rest) = word(tokens, "condition")?;
     let (names, rest) = names(alloc, rest)?;
-    let (shared, rest) = shared_in(alloc, column, rest)?;
+    let (shared, rest) = shared_in(alloc, orientation, rest)?;
     let rest = ending(rest)?;
     Ok((condition.place, names, shared, rest))
 }

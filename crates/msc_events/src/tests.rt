@@ -4,11 +4,11 @@ use crate::{
     starts_with_single, stop,
 };
 use msc_base::{Kind, Name, Names, Place, Words};
-use token_grammar::{ReadFault, placed_lead, word};
 use msc_tokens::{TokenList, lex_all};
 use msc_tree::{Cover, Decl, Join, JoinEnd, RawEvent, Target};
 use std::alloc::Global;
 use std::test::Fail;
+use token_grammar::{ReadFault, placed_lead, word};
 
 fn on_line_1(byte: u32) -> Place {
     Place {

@@ -5,8 +5,8 @@ ghost use Rattle.token_grammar.specs.Classes.{is_digit};
 ghost use Rattle.msc_expression.specs.Bounds as specs;
 
 use msc_base::Limits;
-use token_grammar::{ReadFault, number, starts_with, word};
 use msc_tokens::Token;
+use token_grammar::{ReadFault, number, starts_with, word};
 
 /// The bounds of a loop.
 #[derive(Clone, Copy, Debug, PartialEq, Eq)]

@@ -7,10 +7,10 @@ ghost use Rattle.msc_expression.specs.ExpressionReaders.{word_of, join_of, part_
 
 use crate::bounds::loop_bounds;
 use crate::level::open;
-use token_grammar::{ReadFault, own_name, starts_with, word};
 use msc_tokens::Token;
 use msc_tree::RefExpr;
 use std::alloc::Global;
+use token_grammar::{ReadFault, own_name, starts_with, word};
 
 /// What stands between parts of an expression.
 #[derive(Clone, Copy, Debug, PartialEq, Eq)]

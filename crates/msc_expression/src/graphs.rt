@@ -9,10 +9,10 @@ ghost use Rattle.msc_expression.specs.GraphReaders.{label_at, next_label_at, mor
 use crate::expressions::expression;
 use crate::level::open;
 use msc_base::{LabelRef, LabelRefs};
-use token_grammar::{ReadFault, ending, names, placed_name, starts_with, starts_with_name, word};
 use msc_tokens::Token;
 use msc_tree::{NodeKind, RawGraph, RawLine};
 use std::alloc::Global;
+use token_grammar::{ReadFault, ending, names, placed_name, starts_with, starts_with_name, word};
 
 /// A label.
 fn label(alloc: Global, tokens: &[Token]) -> Result<(LabelRef, &[Token]), ReadFault>

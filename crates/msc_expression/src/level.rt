@@ -2,8 +2,8 @@ ghost use Rattle.token_grammar.specs.Answers.{Gives};
 ghost use Rattle.token_grammar.specs.Languages.{just};
 ghost use Rattle.msc_expression.specs.Levels.{open_at};
 
-use token_grammar::{ReadFault, word};
 use msc_tokens::Token;
+use token_grammar::{ReadFault, word};
 
 /// How many levels may be opened behind a word that opens one, and the tokens behind it. Where none may be opened, the
 /// word is one too many.

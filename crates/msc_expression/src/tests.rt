@@ -3,11 +3,11 @@ ghost use Rattle.std.specs.Prelude.{◌<◌, ◌^◌, length};
 
 use crate::{expression, graph};
 use msc_base::LabelRefs;
-use token_grammar::ReadFault;
 use msc_tokens::{TokenList, lex_all};
 use msc_tree::{NodeKind, RefExpr};
 use std::alloc::{AllocError, Global};
 use std::test::Fail;
+use token_grammar::ReadFault;
 
 /// How many levels a chart may open.
 const LEVELS: usize = 64;

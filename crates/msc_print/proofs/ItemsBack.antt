@@ -32,6 +32,8 @@ use Rattle.msc_print.proofs.BoundsBack.{bounds_read, bounds_proper, bounds_tidy,
 use Rattle.msc_print.proofs.Tidy.{Tidy, Proper}
 use Rattle.msc_print.proofs.ExpressionsBack.{expression_back}
 use Rattle.msc_print.proofs.PartsBack.{ending_back, name_back, names_back, chart_in, decl_back, declaration_back, single_back, coregion_back, stop_back, shared_in_back, condition_back, joins_back}
+use Rattle.msc_events.specs.declared.orientation.Orientation.{Orientation}
+use Rattle.msc_events.specs.declared.orientation.Orientation.TheVariants as written
 
 -- ---- lists as trees
 
@@ -60,9 +62,9 @@ named_words p = naming_words p.0 ++ (shared_words p.1 ++ end_words)
 abbrev naming_in : Option (List ℕ) × (Option Cover × Unit {0}) → Naming
 naming_in c = (c.0, c.1.0)
 
-naming_back : (column : Bool) → Back (naming column) Any named_words same
-naming_back column = back_as (λ p. (p.0, p.1.0)) (optional kept name (shared_in column ending)) Any named_words same naming_in
-    (back_optional kept name (shared_in column ending) Any naming_words same same name_back (shared_in_back column ending ending_back) tt (λ a m. tt) refl (λ a m. refl) refl (λ a. refl)) (λ a m. tt) (λ a m. refl) (λ a. refl)
+naming_back : (orientation : Orientation) → Back (naming orientation) Any named_words same
+naming_back orientation = back_as (λ p. (p.0, p.1.0)) (optional kept name (shared_in orientation ending)) Any named_words same naming_in
+    (back_optional kept name (shared_in orientation ending) Any naming_words same same name_back (shared_in_back orientation ending ending_back) tt (λ a m. tt) refl (λ a m. refl) refl (λ a. refl)) (λ a m. tt) (λ a m. refl) (λ a. refl)
 
 -- ---- references
 
@@ -72,16 +74,16 @@ parts_words p = expression_words p.0 ++ (joins_words p.1.0 ++ (shared_words p.1.
 abbrev parts_in : Expression × (List Join × (Option Cover × Unit {0})) → Expression × (List Join × Option Cover)
 parts_in c = (c.0, (c.1.0, c.1.1.0))
 
-reference_parts_back : (column : Bool) (n : ℕ) → Back (reference_parts column (expression n)) Any parts_words (both same (both (map unplaced_join) same))
-reference_parts_back column n = back_as (λ p. (p.0, (p.1.0, p.1.1.0))) (seq (expression n) (optional all_or_none joins (shared_in column ending))) Any parts_words (both same (both (map unplaced_join) same)) parts_in
-    (back_seq (expression n) _ (expression_back n) (back_optional all_or_none joins (shared_in column ending) Any joins_words (map unplaced_join) all_or_none joins_back (shared_in_back column ending ending_back)
+reference_parts_back : (orientation : Orientation) (n : ℕ) → Back (reference_parts orientation (expression n)) Any parts_words (both same (both (map unplaced_join) same))
+reference_parts_back orientation n = back_as (λ p. (p.0, (p.1.0, p.1.1.0))) (seq (expression n) (optional all_or_none joins (shared_in orientation ending))) Any parts_words (both same (both (map unplaced_join) same)) parts_in
+    (back_seq (expression n) _ (expression_back n) (back_optional all_or_none joins (shared_in orientation ending) Any joins_words (map unplaced_join) all_or_none joins_back (shared_in_back orientation ending ending_back)
     tt (λ a m. tt) refl (λ a m. refl) refl (λ a. refl))) (λ a m. tt) (λ a m. refl) (λ a. refl)
 
-reference_back : (column : Bool) (n : ℕ) → Back (reference column (expression n)) Any (λ p. reference_words p.1) (λ p. unplaced_reference p.1)
-reference_back column n = back_so (reference column (expression n)) Any (λ p. reference_words p.1) (λ p. unplaced_reference p.1) same (back_placed (just (codes "reference")) (codes "reference") _ refl (back_or _ _
-    (back_as (λ p. reference_of (Some p.0) p.1) (seq name (behind (just (codes ":")) (reference_parts column (expression n)))) Any rest unplaced_reference (λ c. reference_of (Some c.0) c.1)
-    (back_seq name _ name_back (back_behind (just (codes ":")) (codes ":") _ refl (reference_parts_back column n))) (λ a m. tt) (λ a m. refl) (λ a. refl))
-    (back_as (reference_of None) (reference_parts column (expression n)) Any rest unplaced_reference (λ c. reference_of None c) (reference_parts_back column n) (λ a m. tt) (λ a m. refl) (λ a. refl))))
+reference_back : (orientation : Orientation) (n : ℕ) → Back (reference orientation (expression n)) Any (λ p. reference_words p.1) (λ p. unplaced_reference p.1)
+reference_back orientation n = back_so (reference orientation (expression n)) Any (λ p. reference_words p.1) (λ p. unplaced_reference p.1) same (back_placed (just (codes "reference")) (codes "reference") _ refl (back_or _ _
+    (back_as (λ p. reference_of (Some p.0) p.1) (seq name (behind (just (codes ":")) (reference_parts orientation (expression n)))) Any rest unplaced_reference (λ c. reference_of (Some c.0) c.1)
+    (back_seq name _ name_back (back_behind (just (codes ":")) (codes ":") _ refl (reference_parts_back orientation n))) (λ a m. tt) (λ a m. refl) (λ a. refl))
+    (back_as (reference_of None) (reference_parts orientation (expression n)) Any rest unplaced_reference (λ c. reference_of None c) (reference_parts_back orientation n) (λ a m. tt) (λ a m. refl) (λ a. refl))))
     (λ a m. tt) (λ a m. refl) (λ a. refl)
   where
     rest : Reference → Words
@@ -89,7 +91,7 @@ reference_back column n = back_so (reference column (expression n)) Any (λ p. r
 
 -- ---- inline expressions, where f makes an operand of what is read
 
-module _ {A : Type 0} (f : A → Operand) (column : Bool) where
+module _ {A : Type 0} (f : A → Operand) (orientation : Orientation) where
   abbrev shown : A → Operand
   shown a = unplaced_operand (f a)
 
@@ -134,14 +136,14 @@ module _ {A : Type 0} (f : A → Operand) (column : Bool) where
 
   abbrev Level : Inner A → Type 1
   Level P = (Q : Grammar A → Grammar (List A)) (text : List ℕ) → ((R : Grammar A) → Held R → Back (Q R) Any (held_words text) (map shown)) →
-      Back (opens (just (codes "begin")) (inside (λ p. body (naming column) (Q p)) P)) Any (level_words text) (both same (map shown))
+      Back (opens (just (codes "begin")) (inside (λ p. body (naming orientation) (Q p)) P)) Any (level_words text) (both same (map shown))
 
   level_shut : Level shut
   level_shut Q text q = record { back = λ x a h. absurd h; tidy = λ x a h proper. absurd h }
 
   level_inner : (R : Grammar A) → Held R → Level (inner R)
-  level_inner R r Q text q = back_so (opens (just (codes "begin")) (inner (body (naming column) (Q R)))) Any (level_words text) (both same (map shown)) same
-      (back_opens (just (codes "begin")) (codes "begin") (body (naming column) (Q R)) refl (back_seq (naming column) (Q R) (naming_back column) (q R r))) (λ p m. tt) (λ p m. refl) (λ p. refl)
+  level_inner R r Q text q = back_so (opens (just (codes "begin")) (inner (body (naming orientation) (Q R)))) Any (level_words text) (both same (map shown)) same
+      (back_opens (just (codes "begin")) (codes "begin") (body (naming orientation) (Q R)) refl (back_seq (naming orientation) (Q R) (naming_back orientation) (q R r))) (λ p m. tt) (λ p m. refl) (λ p. refl)
 
   -- the tail of a form, with the bounds that are written
   abbrev tail_words : InlineForm → Tail A → Words
@@ -186,23 +188,23 @@ module _ {A : Type 0} (f : A → Operand) (column : Bool) where
       regroup : (word : List ℕ) (a b c d : Words) → (word ∷ (a ++ b)) ++ (c ++ d) ≡ word ∷ (a ++ (b ++ (c ++ d)))
       regroup word a b c d = simp append_assoc
 
-  inline_back : (P : Inner A) → Level P → Back (inline f (naming column) P) Any item_words unplaced_item
+  inline_back : (P : Inner A) → Level P → Back (inline f (naming orientation) P) Any item_words unplaced_item
   inline_back P level =
-      back_or _ _ (form_back Alt (alt_tail (naming column) P) refl (once_back Alt _ (λ l u. refl) (level (several (just (codes "alt"))) (codes "alt") (several_back (codes "alt") refl))))
-      (back_or _ _ (form_back Par (par_tail (naming column) P) refl (once_back Par _ (λ l u. refl) (level (several (just (codes "par"))) (codes "par") (several_back (codes "par") refl))))
-      (back_or _ _ (form_back Opt (opt_tail (naming column) P) refl (once_back Opt _ (λ l u. refl) (level (inlines.single (just (codes "opt"))) (codes "opt") (single_operand_back (codes "opt") refl))))
-      (back_or _ _ (form_back Exc (exc_tail (naming column) P) refl (once_back Exc _ (λ l u. refl) (level (inlines.single (just (codes "exc"))) (codes "exc") (single_operand_back (codes "exc") refl))))
-      (form_back Loop (loop_tail (naming column) P) refl (loop_back _ (level (inlines.single (just (codes "loop"))) (codes "loop") (single_operand_back (codes "loop") refl)))))))
+      back_or _ _ (form_back Alt (alt_tail (naming orientation) P) refl (once_back Alt _ (λ l u. refl) (level (several (just (codes "alt"))) (codes "alt") (several_back (codes "alt") refl))))
+      (back_or _ _ (form_back Par (par_tail (naming orientation) P) refl (once_back Par _ (λ l u. refl) (level (several (just (codes "par"))) (codes "par") (several_back (codes "par") refl))))
+      (back_or _ _ (form_back Opt (opt_tail (naming orientation) P) refl (once_back Opt _ (λ l u. refl) (level (inlines.single (just (codes "opt"))) (codes "opt") (single_operand_back (codes "opt") refl))))
+      (back_or _ _ (form_back Exc (exc_tail (naming orientation) P) refl (once_back Exc _ (λ l u. refl) (level (inlines.single (just (codes "exc"))) (codes "exc") (single_operand_back (codes "exc") refl))))
+      (form_back Loop (loop_tail (naming orientation) P) refl (loop_back _ (level (inlines.single (just (codes "loop"))) (codes "loop") (single_operand_back (codes "loop") refl)))))))
 
   -- ---- items
 
-  multi_back : (n : ℕ) (P : Inner A) → Level P → Back (multi_of column f (expression n) P) Any item_words unplaced_item
+  multi_back : (n : ℕ) (P : Inner A) → Level P → Back (multi_of orientation f (expression n) P) Any item_words unplaced_item
   multi_back n P level = back_or _ _
-      (back_as (λ p. tree.placed p.0 (Condition p.1 p.2)) (condition column) Any item_words unplaced_item (λ c. tree.placed first_place (Condition c.0 c.1)) (condition_back column) (λ p m. tt) (λ p m. refl) (λ p. refl))
+      (back_as (λ p. tree.placed p.0 (Condition p.1 p.2)) (condition orientation) Any item_words unplaced_item (λ c. tree.placed first_place (Condition c.0 c.1)) (condition_back orientation) (λ p m. tt) (λ p m. refl) (λ p. refl))
       (back_or _ _ (inline_back P level)
-      (back_as (λ p. tree.placed p.0 (Refer p.1)) (reference column (expression n)) Any item_words unplaced_item (λ c. tree.placed first_place (Refer c)) (reference_back column n) (λ p m. tt) (λ p m. refl) (λ p. refl)))
+      (back_as (λ p. tree.placed p.0 (Refer p.1)) (reference orientation (expression n)) Any item_words unplaced_item (λ c. tree.placed first_place (Refer c)) (reference_back orientation n) (λ p m. tt) (λ p m. refl) (λ p. refl)))
 
-  event_back : (n : ℕ) (P : Inner A) → Level P → Back (event_of column f (expression n) P) Any item_words unplaced_item
+  event_back : (n : ℕ) (P : Inner A) → Level P → Back (event_of orientation f (expression n) P) Any item_words unplaced_item
   event_back n P level =
       back_or _ _ (back_as (λ e. tree.placed e.place (Single e)) single Any item_words unplaced_item (λ c. tree.placed first_place (Single c)) single_back (λ e m. tt) (λ e m. refl) (λ e. refl))
       (back_or _ _ (back_as (λ p. tree.placed p.0 (Coregion p.1)) coregion Any item_words unplaced_item (λ c. tree.placed first_place (Coregion c)) coregion_back (λ p m. tt) (λ p m. refl) (λ p. refl))
@@ -216,8 +218,8 @@ column_held R r = back_so (each R) Any (λ held. operand_words (column_operand h
 
 pub column_event_back : (n : ℕ) → Back (column_event n) Any item_words unplaced_item
 unfolding column_event
-column_event_back zero = event_back column_operand true 0 shut (level_shut column_operand true)
-column_event_back (suc n) = event_back column_operand true (suc n) (inner (each (column_event n))) (level_inner column_operand true (each (column_event n)) (column_held (column_event n) (column_event_back n)))
+column_event_back zero = event_back column_operand written.Column 0 shut (level_shut column_operand written.Column)
+column_event_back (suc n) = event_back column_operand written.Column (suc n) (inner (each (column_event n))) (level_inner column_operand written.Column (each (column_event n)) (column_held (column_event n) (column_event_back n)))
 
 -- ---- elsewhere
 
@@ -304,14 +306,14 @@ some_back R r = back_as all_of (chain R R) Any (all_words item_words) (map unpla
 outside_held : (R : Grammar Statement) → Back R Any statement_words unplaced_statement → Back (each R) Any (λ held. operand_words (outside_operand held)) (λ held. unplaced_operand (outside_operand held))
 outside_held R r = back_so (each R) Any (λ held. operand_words (outside_operand held)) (λ held. unplaced_operand (outside_operand held)) (λ c. Outside (statements c)) (list_back R r) (λ a m. tt) (λ a m. statements_are a) (λ a. ap Outside (statements_shown a))
 
-covered_in_back : (n : ℕ) (P : Inner (List Statement)) → Level outside_operand false P → Back (covered_in (expression n) P) Any statement_words unplaced_statement
+covered_in_back : (n : ℕ) (P : Inner (List Statement)) → Level outside_operand written.Covered P → Back (covered_in (expression n) P) Any statement_words unplaced_statement
 covered_in_back n P level = covered_back (some (outside_event (expression n) P)) (some (outside_multi (expression n) P))
-    (some_back _ (event_back outside_operand false n P level)) (some_back _ (multi_back outside_operand false n P level))
+    (some_back _ (event_back outside_operand written.Covered n P level)) (some_back _ (multi_back outside_operand written.Covered n P level))
 
 pub covered_statement_back : (n : ℕ) → Back (covered n) Any statement_words unplaced_statement
 unfolding covered
-covered_statement_back zero = covered_in_back 0 shut (level_shut outside_operand false)
-covered_statement_back (suc n) = covered_in_back (suc n) (inner (each (covered n))) (level_inner outside_operand false (each (covered n)) (outside_held (covered n) (covered_statement_back n)))
+covered_statement_back zero = covered_in_back 0 shut (level_shut outside_operand written.Covered)
+covered_statement_back (suc n) = covered_in_back (suc n) (inner (each (covered n))) (level_inner outside_operand written.Covered (each (covered n)) (outside_held (covered n) (covered_statement_back n)))
 
 pub statement_back : (n : ℕ) → Back (statement n) Any statement_words unplaced_statement
 statement_back n = back_or _ _

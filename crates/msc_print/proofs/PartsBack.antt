@@ -30,6 +30,8 @@ use Rattle.msc_print.specs.ChartWords.{heading_words, related_words}
 use Rattle.msc_print.specs.Unplaced.{unplaced_decl, unplaced_event, unplaced_join}
 use Rattle.msc_print.proofs.Backs.{Back, Any, same, nothing, both, beside, FitsFixed, Filled, one_token, back_seq, back_or, back_as, back_so, back_bytes, back_mark, back_word, back_placed_word, back_behind, back_placed, back_separated, back_until, back_optional, back_tail, but_plain, item_plain}
 use Rattle.msc_print.proofs.Tidy.{done, fixed_tidy}
+use Rattle.msc_events.specs.declared.orientation.Orientation.{Orientation}
+use Rattle.msc_events.specs.declared.orientation.Orientation.TheVariants as written
 
 pub ending_back : Back ending Any (λ u. end_words) same
 ending_back = record {
@@ -291,13 +293,13 @@ cover_is : (c : Cover) → cover_words c ≡ codes "shared" ∷ left_words c
 cover_is All = refl
 cover_is (Listed l) = refl
 
-pub shared_in_back : {A B : Type 0} (column : Bool) (R : Grammar A) {P : A → Type 0} {w : A → Words} {f : A → B} → Back R P w f → Back (shared_in column R) (λ p. P p.1) (beside shared_words w) (both same f)
-shared_in_back true R {P = P} {w = w} {f = f} r = back_or _ _
+pub shared_in_back : {A B : Type 0} (orientation : Orientation) (R : Grammar A) {P : A → Type 0} {w : A → Words} {f : A → B} → Back R P w f → Back (shared_in orientation R) (λ p. P p.1) (beside shared_words w) (both same f)
+shared_in_back written.Column R {P = P} {w = w} {f = f} r = back_or _ _
     (back_as (λ p. (Some p.0, p.1)) (shared R) (λ p. P p.1) (beside shared_words w) (both same f) (both Some same)
     (back_behind (just (codes "shared")) (codes "shared") _ refl (back_optional cover_of sharers R Any left_words same cover_of sharers_back r tt (λ a m. tt) refl (λ a m. refl) refl (λ a. refl)))
     (λ a m. m.1) (λ a m. ap (λ (l : Words). l ++ w a.1) (cover_is a.0)) (λ a. refl))
     (back_as (λ a. (None, a)) R (λ p. P p.1) (beside shared_words w) (both same f) (with_none {A = Cover}) r (λ a m. m) (λ a m. refl) (λ a. refl))
-shared_in_back false R {P = P} {w = w} {f = f} r = back_as (λ a. (None, a)) R (λ p. P p.1) (beside shared_words w) (both same f) (with_none {A = Cover}) r (λ a m. m) (λ a m. refl) (λ a. refl)
+shared_in_back written.Covered R {P = P} {w = w} {f = f} r = back_as (λ a. (None, a)) R (λ p. P p.1) (beside shared_words w) (both same f) (with_none {A = Cover}) r (λ a m. m) (λ a m. refl) (λ a. refl)
 
 abbrev pub conditions_of : Place × List (List ℕ) × Option Cover → List (List ℕ) × Option Cover
 conditions_of p = (p.1, p.2)
@@ -305,9 +307,9 @@ conditions_of p = (p.1, p.2)
 abbrev pub condition_said : Place × List (List ℕ) × Option Cover → Words
 condition_said p = condition_words p.1 p.2
 
-pub condition_back : (column : Bool) → Back (condition column) Any condition_said conditions_of
-condition_back column = back_as (λ p. (p.0, p.1.0, p.1.1.0)) (placed (just (codes "condition")) (seq name_list (shared_in column ending))) Any condition_said conditions_of (λ c. (c.0, c.1.0))
-    (back_placed (just (codes "condition")) (codes "condition") _ refl (back_seq name_list _ names_back (shared_in_back column ending ending_back))) (λ p m. tt) (λ p m. refl) (λ p. refl)
+pub condition_back : (orientation : Orientation) → Back (condition orientation) Any condition_said conditions_of
+condition_back orientation = back_as (λ p. (p.0, p.1.0, p.1.1.0)) (placed (just (codes "condition")) (seq name_list (shared_in orientation ending))) Any condition_said conditions_of (λ c. (c.0, c.1.0))
+    (back_placed (just (codes "condition")) (codes "condition") _ refl (back_seq name_list _ names_back (shared_in_back orientation ending ending_back))) (λ p m. tt) (λ p m. refl) (λ p. refl)
 
 join_end_back : Back multis.join_end Any join_end_words same
 join_end_back = back_or _ _

@@ -1,5 +1,5 @@
 -- The plain trees that the types of this crate stand for.
-use Rattle.std.specs.Prelude.{List, map, Option, Some, None}
+use Rattle.std.specs.Prelude.{map}
 use Rattle.std.specs.Box.{box_value}
 use Rattle.msc_tree.specs.declared.chart.Content.{Content}
 use Rattle.msc_tree.specs.declared.chart.Content.TheVariants.{Events, Graph}

@@ -2,11 +2,11 @@
 use Rattle.std.proofs.Common.{ℕ, ◌≡◌, ◌∙◌, ◌++◌, ◌⊎◌, ◌≤◌, ◌&&◌, ◌||◌, not, Bool, true, false, cond, List, [], ◌∷◌, length, refl, sym, ap, ap₂, inl, inr, append_assoc, append-nil, subst, suc, zero, Ok, Err, arith, length-append}
 use Rattle.msc_tokens.specs.declared.token.Token.{Token}
 use Rattle.token_grammar.specs.Classes.{token_of}
-use Rattle.token_grammar.specs.Languages.{Set, among, apart, within, starts, Layered, refused, deep, Read, ◌>>=◌, word_at, second}
+use Rattle.token_grammar.specs.Languages.{Set, among, within, starts, refused, deep, Read, ◌>>=◌, word_at, second}
 use Rattle.token_grammar.specs.Grammars.{Grammar}
 use Rattle.token_grammar.specs.Rows.{rows, rows_read, rows_brink, goes_on, rows_at}
-use Rattle.token_grammar.proofs.Lists.{NotStart, among-append, apart_start, starts_left, starts_right, starts-append, no_start, Cuts, longer, shorter, cuts, cancel, none_more, starts_some, some_here, not_both, front_empty, back_empty, within_among, heads}
-use Rattle.token_grammar.proofs.Base.{Meets, meets_front, prefix_start, Viable, Unique, Takes, Laws, Known, Refused, TooDeep, Meant}
+use Rattle.token_grammar.proofs.Lists.{NotStart, among-append, starts_left, starts_right, starts-append, no_start, Cuts, longer, shorter, cuts, cancel, none_more, starts_some, not_both, front_empty, back_empty, within_among, heads}
+use Rattle.token_grammar.proofs.Base.{Meets, meets_front, Viable, Takes, Laws, Known, Refused, TooDeep, Meant}
 use Rattle.token_grammar.proofs.Levels.{reads_of, brink_of}
 use Rattle.token_grammar.proofs.Optionals.{none}
 use Rattle.token_grammar.proofs.Rules.{Law, Rule}

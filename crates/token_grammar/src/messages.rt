@@ -36,7 +36,11 @@ fn comma_item(alloc: Global, tokens: &[Token]) -> Result<(Text, &[Token]), ReadF
 }
 
 /// Other items, each behind a comma, appended to the list.
-fn more_items(alloc: Global, tokens: &[Token], prefix: Words) -> Result<(Words, &[Token]), ReadFault>
+fn more_items(
+    alloc: Global,
+    tokens: &[Token],
+    prefix: Words,
+) -> Result<(Words, &[Token]), ReadFault>
     ensures { Gives (λ x. (x.0, x.1.now)) result (more_items_at prefix (length tokens.now) tokens.now) }
 {
     let mut items = prefix;

@@ -16,12 +16,12 @@ use Rattle.msc_document.proofs.items.+items.Goals.{more_operands-else-loop-k-tes
 use Rattle.msc_document.proofs.items.+items.Goals as goal
 
 pub several-returns : goal.several-returns
-several-returns t c = subst (λ (r : Read (List Operand)). Gives (λ x. (map operand_view x.0.items, x.1.now)) c.listed.result r) (sym (several_is (operand_at c.args.column c.args.form c.args.levels) c.args.tokens.now)) c.listed.ensures
+several-returns t c = subst (λ (r : Read (List Operand)). Gives (λ x. (map operand_view x.0.items, x.1.now)) c.listed.result r) (sym (several_is (operand_at c.args.orientation c.args.form c.args.levels) c.args.tokens.now)) c.listed.ensures
 
 pub more_operands-loop-k-preserved : goal.more_operands-loop-k-preserved
 more_operands-loop-k-preserved t c =
     let lt = c.loop-k-test.true in
-    let q = next_part_at (operand_at c.args.column c.args.form c.args.levels) in
+    let q = next_part_at (operand_at c.args.orientation c.args.form c.args.levels) in
     sym (next_one end_words q (map operand_view c.loop-k.operands.items) _ (operand_view c.in-Ok.operand) _ _ c.loop-k.rest.now c.in-Ok.behind.now
     (sym c.starts_with_either.ensures ∙ c.if-not-starts_with_either.false) (omega arith) c.in-Ok.ensures
     (ap (map operand_view) c.in_ok-push-in-Ok.ensures.items ∙ map-append operand_view c.loop-k.operands.items (c.in-Ok.operand ∷ []))) ∙ c.loop-k.invariant
@@ -29,14 +29,14 @@ more_operands-loop-k-preserved t c =
 pub more_operands-returns-in-Err : goal.more_operands-returns-in-Err
 more_operands-returns-in-Err t c =
     let lt = c.loop-k-test.true in
-    let q = next_part_at (operand_at c.args.column c.args.form c.args.levels) in
+    let q = next_part_at (operand_at c.args.orientation c.args.form c.args.levels) in
     subst (Fails c.in-Err.fault) c.loop-k.invariant
     (stops_here end_words q c.in-Err.fault (map operand_view c.loop-k.operands.items) _ (length c.args.tokens.now - (c.loop-k._k + 1)) c.loop-k.rest.now
     (sym c.starts_with_either.ensures ∙ c.if-not-starts_with_either.false) (omega arith) c.in-Err.ensures)
 
 pub more_operands-returns : goal.more_operands-returns
 more_operands-returns t c =
-    let q = next_part_at (operand_at c.args.column c.args.form c.args.levels) in
+    let q = next_part_at (operand_at c.args.orientation c.args.form c.args.levels) in
     let prefix = map operand_view c.loop-k.operands.items in
     elim c.loop-k-test.branch [
       | more_operands-else-loop-k-test w ↦ sym c.loop-k.invariant ∙ no_more end_words q prefix _ c.loop-k.rest.now (omega arith)

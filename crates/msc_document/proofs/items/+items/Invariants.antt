@@ -92,8 +92,8 @@ decreases-level l = l.levels * 40 + 16
 
 abbrev pub invariant-more_operands-loop-k : goal.invariant-more_operands-loop-k
 invariant-more_operands-loop-k l =
-    more_at end_words (next_part_at (operand_at l.column l.form l.levels)) (map operand_view l.operands.items) (l._k-end - l._k) l.rest
-    ≡ more_at end_words (next_part_at (operand_at l.column l.form l.levels)) (map operand_view l.fn.prefix.items) (length l.fn.tokens) l.fn.tokens
+    more_at end_words (next_part_at (operand_at l.orientation l.form l.levels)) (map operand_view l.operands.items) (l._k-end - l._k) l.rest
+    ≡ more_at end_words (next_part_at (operand_at l.orientation l.form l.levels)) (map operand_view l.fn.prefix.items) (length l.fn.tokens) l.fn.tokens
 
 abbrev pub invariant-column_events-loop-k : goal.invariant-column_events-loop-k
 invariant-column_events-loop-k l =

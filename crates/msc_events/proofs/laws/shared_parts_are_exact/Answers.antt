@@ -9,10 +9,10 @@ use Rattle.msc_events.proofs.MultiRules.{condition_rule, joins_rule}
 use Rattle.msc_events.proofs.laws.shared_parts_are_exact.Goals as goal
 
 pub returns-clause-one_condition : goal.returns-clause-one_condition
-returns-clause-one_condition c = λ column. one_reading (condition column) (just (codes "condition")) none (condition_at column) (condition_rule column)
+returns-clause-one_condition c = λ orientation. one_reading (condition orientation) (just (codes "condition")) none (condition_at orientation) (condition_rule orientation)
 
 pub returns-clause-condition : goal.returns-clause-condition
-returns-clause-condition c = λ column. exact_reader (condition column) (just (codes "condition")) none (condition_at column) (condition_rule column)
+returns-clause-condition c = λ orientation. exact_reader (condition orientation) (just (codes "condition")) none (condition_at orientation) (condition_rule orientation)
 
 pub returns-clause-one_joins : goal.returns-clause-one_joins
 returns-clause-one_joins c = one_reading joins (just (codes "via")) commas joins_at joins_rule
