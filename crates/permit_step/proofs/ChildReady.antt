@@ -18,7 +18,7 @@ use Rattle.term_laws.proofs.Ranking.{ranks, row_rank, permit_rank}
 use Rattle.term_laws.proofs.TermSentences.{net_rank}
 use Rattle.permit_step.proofs.Within.{permit-ready}
 
--- a child that is ready, of a lower rank, at a place that the term has
+-- a child that is ready, of a lower rank, at an index that the term has
 pub record IsGoodChild (w : Tables) (x : Tree) (i : ℕ) (y : Tree) : Type 0 where
   pub within : i < child_count w x
   pub ready : IsReady w y

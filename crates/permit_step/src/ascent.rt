@@ -24,11 +24,11 @@ use msc_base::NoMemory;
 use std::alloc::Global;
 use term_tables::Nets;
 
-/// A term, and the place in it from which an event is taken.
+/// A term, and the index in it from which an event is taken.
 #[derive(Drop)]
 pub(crate) struct Frame {
     pub(crate) parent: Term,
-    pub(crate) place: usize,
+    pub(crate) index: usize,
 }
 
 /// An event that is taken, and a block of its instances.
@@ -58,7 +58,7 @@ pub(crate) fn rebuilt(
     while index > 0 {
         index -= 1;
         let frame = &path[index];
-        match put(alloc, nets, taken, &frame.parent, frame.place, left)? {
+        match put(alloc, nets, taken, &frame.parent, frame.index, left)? {
             Some(term) => left = term,
             None => return Ok(None),
         }
@@ -66,27 +66,27 @@ pub(crate) fn rebuilt(
     Ok(Some(left))
 }
 
-/// What is left of the term whose child at the place leaves this, or None where another part doesn't let the event pass.
+/// What is left of the term whose child at the index leaves this, or None where another part doesn't let the event pass.
 #[tactic(auto, using(crate::proofs::Ascending::ascending))]
 fn put(
     alloc: Global,
     nets: &Nets,
     taken: &Taken,
     parent: &Term,
-    place: usize,
+    index: usize,
     left: Term,
 ) -> Result<Option<Term>, NoMemory>
     requires tables { AreReadyTables nets.now.tables }
     requires taken { IsTaken taken.now }
     requires parent { IsReady nets.now.tables parent.now }
-    requires place { place < child_count nets.now.tables parent.now }
+    requires index { index < child_count nets.now.tables parent.now }
     requires left { IsReady nets.now.tables left }
-    ensures { IfOk result (λ whole. whole ≡ put (permits_of nets.now.tables) (event_of taken.now.event) parent.now place left) }
+    ensures { IfOk result (λ whole. whole ≡ put (permits_of nets.now.tables) (event_of taken.now.event) parent.now index left) }
 {
     match parent.look() {
         Look::Nil | Look::Event { .. } => Ok(None),
-        Look::Seq(parts) => put_in_row(alloc, nets, taken, parts, place, left),
-        Look::Par(parts) => Ok(Some(put_in_par(alloc, parts, place, left)?)),
+        Look::Seq(parts) => put_in_row(alloc, nets, taken, parts, index, left),
+        Look::Par(parts) => Ok(Some(put_in_par(alloc, parts, index, left)?)),
         Look::Choice(_) => Ok(Some(left)),
         Look::Tied(_, pairs) => put_below_tie(alloc, nets, taken, pairs, left),
         Look::Loop {
@@ -101,7 +101,7 @@ fn put(
                 upper,
                 row,
             };
-            put_in_loop(alloc, nets, taken, turns, place, left)
+            put_in_loop(alloc, nets, taken, turns, index, left)
         }
         Look::Walk {
             net,
@@ -110,7 +110,7 @@ fn put(
             block: own,
         } => {
             let way = WalkParts { net, from, to, own };
-            let node = node_at(nets, net, place);
+            let node = node_at(nets, net, index);
             put_on_walk(alloc, nets, taken, way, node, left)
         }
     }

@@ -32,18 +32,18 @@ pub(super) fn put_in_loop(
     nets: &Nets,
     taken: &Taken,
     turns: LoopParts<'_>,
-    place: usize,
+    index: usize,
     left: Term,
 ) -> Result<Option<Term>, NoMemory>
     requires tables { AreReadyTables nets.now.tables }
     requires taken { IsTaken taken.now }
     requires row { IsReadyLoop nets.now.tables turns.body.now turns.upper turns.row.now }
-    requires place { place < length turns.row.now }
+    requires index { index < length turns.row.now }
     requires left { IsReady nets.now.tables left }
-    ensures { IfOk result (λ whole. whole ≡ put (permits_of nets.now.tables) (event_of taken.now.event) (Loop turns.entry.body.now turns.entry.lower turns.entry.upper (row_of turns.entry.row.now)) place left) }
+    ensures { IfOk result (λ whole. whole ≡ put (permits_of nets.now.tables) (event_of taken.now.event) (Loop turns.entry.body.now turns.entry.lower turns.entry.upper (row_of turns.entry.row.now)) index left) }
 {
     let count = turns.row.len();
-    let begins = is_gap(turns.row.at(place));
+    let begins = is_gap(turns.row.at(index));
     if !may_begin(begins, turns.upper) {
         return Ok(None);
     }
@@ -53,8 +53,8 @@ pub(super) fn put_in_loop(
         upper: fewer(begins, turns.upper),
         row: turns.row,
     };
-    let behind = first_behind(begins, place, count);
-    let before = last_before(begins, place, count);
+    let behind = first_behind(begins, index, count);
+    let before = last_before(begins, index, count);
     let all = nets.touched(alloc, onward.body)?;
     let narrow = common(alloc, &taken.at, &all)?;
     if has_held(alloc, nets, onward.row, before, &taken.at)? {
@@ -74,7 +74,7 @@ pub(super) fn put_in_loop(
     }
 }
 
-/// Puts the row's parts from one place to its end in front of this end, as they are; gaps only where further turns may begin.
+/// Puts the row's parts from one index to its end in front of this end, as they are; gaps only where further turns may begin.
 #[tactic(auto, using(crate::proofs::Ascending::ascending))]
 fn put_tail(
     alloc: Global,
@@ -151,22 +151,22 @@ fn may_begin(begins: bool, upper: Option<u64>) -> bool
     }
 }
 
-/// From which place on the parts of a row stay as they are: where a turn begins, its gap stays behind it.
-fn first_behind(begins: bool, place: usize, count: usize) -> usize
-    requires { place < count }
-    ensures { result ≡ (if begins then place else place + 1) }
+/// From which index on the parts of a row stay as they are: where a turn begins, its gap stays behind it.
+fn first_behind(begins: bool, index: usize, count: usize) -> usize
+    requires { index < count }
+    ensures { result ≡ (if begins then index else index + 1) }
 {
     let _ = count;
-    if begins { place } else { place + 1 }
+    if begins { index } else { index + 1 }
 }
 
 /// How many parts of a row stand before the turn: where one begins, its gap stands before it too.
-fn last_before(begins: bool, place: usize, count: usize) -> usize
-    requires { place < count }
-    ensures { result ≡ (if begins then place + 1 else place) }
+fn last_before(begins: bool, index: usize, count: usize) -> usize
+    requires { index < count }
+    ensures { result ≡ (if begins then index + 1 else index) }
 {
     let _ = count;
-    if begins { place + 1 } else { place }
+    if begins { index + 1 } else { index }
 }
 
 /// Whether the part is a gap.

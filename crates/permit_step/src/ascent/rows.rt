@@ -18,7 +18,7 @@ use msc_base::NoMemory;
 use std::alloc::Global;
 use term_tables::Nets;
 
-/// Appends copies of the parts from one place up to another.
+/// Appends copies of the parts from one index up to another.
 fn push_copies(
     alloc: Global,
     parts: &TermList,
@@ -36,48 +36,48 @@ fn push_copies(
     Ok(())
 }
 
-/// The parts side by side, where that of the place is replaced.
+/// The parts side by side, where that of the index is replaced.
 #[tactic(auto, using(crate::proofs::Ascending::ascending))]
 pub(super) fn put_in_par(
     alloc: Global,
     parts: &TermList,
-    place: usize,
+    index: usize,
     left: Term,
 ) -> Result<Term, NoMemory>
-    requires { place < length parts.now }
-    ensures { IfOk result (λ whole. whole ≡ join_all par (take place parts.now ++ left ∷ drop (place + 1) parts.now)) }
+    requires { index < length parts.now }
+    ensures { IfOk result (λ whole. whole ≡ join_all par (take index parts.now ++ left ∷ drop (index + 1) parts.now)) }
 {
     let count = parts.len();
     let mut kept = TermList::new(alloc);
-    push_copies(alloc, parts, 0, place, &mut kept)?;
+    push_copies(alloc, parts, 0, index, &mut kept)?;
     kept.push(left)?;
-    push_copies(alloc, parts, place + 1, count, &mut kept)?;
+    push_copies(alloc, parts, index + 1, count, &mut kept)?;
     par(alloc, kept)
 }
 
-/// What is left of parts in weak sequence: those before the place let the event pass.
+/// What is left of parts in weak sequence: those before the index let the event pass.
 #[tactic(auto, using(crate::proofs::Ascending::ascending))]
 pub(super) fn put_in_row(
     alloc: Global,
     nets: &Nets,
     taken: &Taken,
     parts: &TermList,
-    place: usize,
+    index: usize,
     left: Term,
 ) -> Result<Option<Term>, NoMemory>
     requires tables { AreReadyTables nets.now.tables }
     requires taken { IsTaken taken.now }
     requires parts { Each (IsReady nets.now.tables) parts.now }
-    requires place { place < length parts.now }
-    ensures { IfOk result (λ whole. whole ≡ put (permits_of nets.now.tables) (event_of taken.now.event) (Join seq (trees parts.now)) place left) }
+    requires index { index < length parts.now }
+    ensures { IfOk result (λ whole. whole ≡ put (permits_of nets.now.tables) (event_of taken.now.event) (Join seq (trees parts.now)) index left) }
 {
     let count = parts.len();
-    match permit_first(alloc, nets, parts, place, &taken.at)? {
+    match permit_first(alloc, nets, parts, index, &taken.at)? {
         None => Ok(None),
         Some(kept) => {
             let mut kept = kept;
             kept.push(left)?;
-            push_copies(alloc, parts, place + 1, count, &mut kept)?;
+            push_copies(alloc, parts, index + 1, count, &mut kept)?;
             Ok(Some(seq(alloc, kept)?))
         }
     }
