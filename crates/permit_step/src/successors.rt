@@ -150,10 +150,10 @@ fn search_children(
     ensures path { OnOk result (path.new.items ≡ path.old.items) }
     ensures found { IfOk result (λ all. Gathers nets.now.tables label path.old.items term.now found.old found.new all) }
 {
-    for place in 0..child_count(nets, term) {
-        if let Some(inner) = child(alloc, nets, term, place)? {
+    for index in 0..child_count(nets, term) {
+        if let Some(inner) = child(alloc, nets, term, index)? {
             let parent = term.copy(alloc)?;
-            path.push(Frame { parent, place })?;
+            path.push(Frame { parent, index })?;
             let all = search(alloc, nets, label, &inner, path, found)?;
             path.pop();
             if !all {
