@@ -14,8 +14,6 @@ mod head_parts;
 mod joining;
 mod laws;
 mod shared;
-#[cfg(test)]
-mod tests;
 
 pub use declaration::{decl, declared, decls, heading};
 pub use events::{coregion, single, starts_with_single, stop};

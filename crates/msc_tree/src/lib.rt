@@ -16,6 +16,3 @@ pub use expression::RefExpr;
 pub use graph::{NodeKind, RawGraph, RawLine};
 pub use reference::{InlineForm, Join, JoinEnd, JoinList};
 pub use statement::{RawForm, RawInline, RawItem, RawOperand, RawReference, Statement};
-
-#[cfg(test)]
-mod tests;
