@@ -18,7 +18,7 @@ IsInside all (one e) = (has all e.at ≡ true) × SomeIn all e.also
 IsInside all (join m x y) = IsInside all x × IsInside all y
 IsInside all (bind x q) = IsInside all x
 
-has_app : (a b : List ℕ) (n : ℕ) → has (a ++ b) n ≡ (has a n || has b n)
+pub has_app : (a b : List ℕ) (n : ℕ) → has (a ++ b) n ≡ (has a n || has b n)
 has_app [] b n = refl
 has_app (m ∷ a) b n = go (m == n) (has_app a b n)
   where

@@ -15,7 +15,4 @@ mod Comparing
 mod Distinct
 mod Flattening
 mod Gathering
-mod Members
-mod Tabling
-mod Touched
-mod Fits
+pub mod Members

@@ -2,11 +2,8 @@ pub mod Codes
 pub mod Equality
 pub mod Facts
 pub mod Falls
-pub mod Fitting
 pub mod Looks
 pub mod Modes
-pub mod NetTables
-pub mod NetValues
 pub mod NormalForms
 pub mod Numbers
 pub mod Order

@@ -1,8 +1,8 @@
 -- The instances of the events of a term and of its nets, and of the nets that these name.
-use Rattle.std.specs.Prelude.{ℕ, List, [], ◌∷◌, ◌++◌, ◌==◌, ◌||◌, ◌≡◌}
+use Rattle.std.specs.Prelude.{ℕ, List, [], ◌∷◌, ◌++◌, ◌==◌}
 use Rattle.chart_term.specs.Tables.{choose, net_count, Tables}
 use Rattle.chart_term.specs.TermPatterns.{instances_of}
-use Rattle.chart_term.specs.Terms.{has, Tree, Nil, Event, Join, Choice, Tied, Loop, Walk, Trees, none, more, Row, ends, gap, turn, Part, Gap, Turn}
+use Rattle.chart_term.specs.Terms.{Tree, Nil, Event, Join, Choice, Tied, Loop, Walk, Trees, none, more, Row, ends, gap, turn, Part, Gap, Turn}
 
 -- the instances of the events of a term, of its loop operands, begun turns and nets, where those of each net are given
 abbrev mutual
@@ -38,7 +38,3 @@ touch_list k (x ∷ xs) = touch k x ++ touch_list k xs
 abbrev pub spread_of : Tables → ℕ → List ℕ
 spread_of [] n = []
 spread_of (e ∷ es) n = choose (n == net_count es) (touch_list (spread_of es) e.nodes) (spread_of es n)
-
--- the new set has the members of the old one and these
-abbrev pub IsUnion : List ℕ → List ℕ → List ℕ → Type 0
-IsUnion old added new = (n : ℕ) → has new n ≡ (has old n || has added n)

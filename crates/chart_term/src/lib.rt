@@ -4,22 +4,20 @@
 //! of a term, its weight, its patterns and the normalising constructors.
 #![tactic(auto)]
 
-mod ties;
 mod choices;
 mod event;
 mod facts;
 mod joins;
 pub mod laws;
 mod look;
-mod nets;
 mod term;
 #[cfg(test)]
 mod tests;
+mod ties;
 
-pub use ties::tied;
 pub use choices::choice;
 pub use event::Event;
 pub use joins::{par, seq};
 pub use look::Look;
-pub use nets::Nets;
 pub use term::{RowList, RowPart, Term, TermList};
+pub use ties::tied;

@@ -1,6 +1,6 @@
 use crate::{RowList, Term, TermList};
-use hmsc_graph::{Goal, Spot};
 use bit_sets::Block;
+use hmsc_graph::{Goal, Spot};
 use msc_base::PairList;
 
 /// The parts of a term.

@@ -7,15 +7,13 @@ ghost use Rattle.hmsc_graph.specs.Spots.{spot_of, goal_of};
 ghost use Rattle.chart_term.specs.NormalForms.{open_choice};
 ghost use Rattle.chart_term.specs.Views.{pairs_of};
 
-mod fits;
 mod numbers;
 mod order;
-mod touched;
 
 use crate::facts::Facts;
 use crate::{Event, Look};
-use hmsc_graph::{Goal, Spot};
 use bit_sets::Block;
+use hmsc_graph::{Goal, Spot};
 use msc_base::{Limits, NoMemory, PairList};
 use std::alloc::Global;
 use std::marker::Model;

@@ -1,10 +1,8 @@
 ghost use Rattle.std.specs.Prelude.{◌<◌, ◌≡◌, ◌++◌, ◌∷◌, IfOk, length};
 
-mod tables;
-
-use crate::{Look, RowList, RowPart, Term, TermList, par, tied, choice, seq};
-use hmsc_graph::{Goal, Spot};
+use crate::{Look, RowList, RowPart, Term, TermList, choice, par, seq, tied};
 use bit_sets::Block;
+use hmsc_graph::{Goal, Spot};
 use msc_base::{NoMemory, Pair, PairList};
 use std::alloc::Global;
 use std::test::Fail;

@@ -14,7 +14,7 @@ use Rattle.msc_base.specs.declared.label.Label.{Label}
 use Rattle.msc_base.specs.declared.label.Kind.{Kind}
 use Rattle.msc_base.specs.declared.label.Kind.TheVariants.{Output, Input, OutputLost, InputFound, Action, TimerStart, TimerStop, Timeout, Create}
 use Rattle.msc_base.specs.declared.label.Far.{Far}
-use Rattle.msc_grammar.specs.Events.{ReadsText}
+use Rattle.msc_events.specs.LogEvents.{ReadsText}
 use Rattle.event_log.specs.Meanings.{IsBlankByte, SaysBy, Says}
 use Rattle.msc_base.specs.Only.{Never}
 use Rattle.msc_base.specs.Only.{Only}

@@ -7,10 +7,11 @@ use Rattle.msc_tokens.specs.Faults.{IfNamed}
 use Rattle.msc_tokens.specs.Spelling.{Spells}
 use Rattle.msc_tokens.specs.declared.fault.LexFault.{LexFault}
 use Rattle.msc_tokens.specs.declared.fault.LexFault.TheVariants as lexing
-use Rattle.msc_grammar.specs.Events.{texts, ReadsEvent}
-use Rattle.msc_grammar.specs.Refusals.{IsRefusal}
-use Rattle.msc_grammar.specs.declared.fault.ParseFault.{ParseFault}
-use Rattle.msc_grammar.specs.declared.fault.ParseFault.TheVariants as fault
+use Rattle.token_grammar.specs.Languages.{texts}
+use Rattle.msc_events.specs.LogEvents.{ReadsEvent}
+use Rattle.token_grammar.specs.Refusals.{IsRefusal}
+use Rattle.token_grammar.specs.declared.fault.ParseFault.{ParseFault}
+use Rattle.token_grammar.specs.declared.fault.ParseFault.TheVariants as fault
 use Rattle.event_log.specs.Meanings.{StatesVersion, IsEventOf, SaysBy, Says}
 use Rattle.msc_base.specs.Only.{Never}
 use Rattle.msc_base.specs.Only.{Only}

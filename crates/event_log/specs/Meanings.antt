@@ -4,7 +4,7 @@ use Rattle.std.specs.Str.{bytes_eq}
 use Rattle.msc_base.specs.declared.label.Label.{Label}
 use Rattle.msc_base.specs.Only.{Only, Never}
 use Rattle.msc_tokens.specs.Spelling.{Spells}
-use Rattle.msc_grammar.specs.Events.{ReadsEvent}
+use Rattle.msc_events.specs.LogEvents.{ReadsEvent}
 use Rattle.event_log.specs.Objects.{Spelled, Written, IsAllowed, IsVersionObject, IsEventObject}
 use Rattle.event_log.specs.declared.event.LogForm.{LogForm}
 use Rattle.event_log.specs.declared.event.LogForm.TheVariants.{Lines, Json}

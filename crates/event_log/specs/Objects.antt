@@ -12,8 +12,8 @@ use Rattle.msc_base.specs.declared.label.Far.{Far}
 use Rattle.msc_base.specs.declared.label.Far.TheVariants.{Nobody, Env, Instance}
 use Rattle.msc_tokens.specs.declared.token.Token.{Token}
 use Rattle.msc_tokens.specs.Spelling.{Spells}
-use Rattle.msc_grammar.specs.Events.{texts}
-use Rattle.msc_grammar.specs.Events.{ReadsText}
+use Rattle.token_grammar.specs.Languages.{texts}
+use Rattle.msc_events.specs.LogEvents.{ReadsText}
 use Rattle.event_log.specs.declared.event.Version.{Version}
 use Rattle.event_log.specs.declared.event.Version.TheVariants.{First, Second}
 

@@ -1,7 +1,7 @@
 ghost use Rattle.std.specs.Prelude.{◌≡◌, ◌<◌, ◌^◌, ◌↔◌, length, IfOk, MatchOption, Some, None, option_map};
 ghost use Rattle.msc_base.specs.Names.{IsName};
-ghost use Rattle.msc_grammar.specs.Events.{texts};
-ghost use Rattle.msc_grammar.specs.Events.{ReadsText};
+ghost use Rattle.token_grammar.specs.Languages.{texts};
+ghost use Rattle.msc_events.specs.LogEvents.{ReadsText};
 ghost use Rattle.msc_base.specs.Only.{Never};
 ghost use Rattle.msc_base.specs.Only.{Only};
 ghost use Rattle.event_log.specs.Objects.{Said, Spelled, IsSaid, IsFarOf, IsEnd, IsInstance, kind_of, message_kind_of, local_kind_of};
@@ -9,7 +9,8 @@ ghost use Rattle.event_log.specs.Objects.{Said, Spelled, IsSaid, IsFarOf, IsEnd,
 use crate::Version;
 use crate::text_line::{is_allowed, tokens_of};
 use msc_base::{Far, Kind, Label, Name, NameRefused, NoMemory, Text};
-use msc_grammar::{ParseFault, parse_text};
+use msc_events::parse_text;
+use token_grammar::ParseFault;
 use msc_tokens::TokenList;
 use std::alloc::Global;
 

@@ -1,6 +1,6 @@
 ghost use Rattle.std.specs.Prelude.{◌≡◌, ◌<◌, ◌≤◌, ◌^◌, ◌↔◌, ◌∷◌, [], IfOk, MatchOption, IsTrue, length, All, codes, List, ℕ};
 ghost use Rattle.msc_tokens.specs.Spelling.{Spells};
-ghost use Rattle.msc_grammar.specs.Events.{texts};
+ghost use Rattle.token_grammar.specs.Languages.{texts};
 ghost use Rattle.event_log.specs.Meanings.{IsDigit, Says, version_of, StatesVersion, IsEventOf, SaysBy};
 ghost use Rattle.msc_base.specs.Only.{Never};
 ghost use Rattle.msc_base.specs.Only.{Only};
@@ -10,7 +10,8 @@ ghost use Rattle.event_log.specs.declared.event.LogForm.TheVariants.{Lines};
 use crate::Version;
 use crate::line::Line;
 use msc_base::{Kind, Label, NoMemory, is_text};
-use msc_grammar::{ParseFault, parse_event};
+use msc_events::parse_event;
+use token_grammar::ParseFault;
 use msc_tokens::{LexFault, Token, TokenList, lex_all};
 use std::alloc::Global;
 

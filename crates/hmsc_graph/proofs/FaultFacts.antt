@@ -17,41 +17,25 @@ use Rattle.hmsc_graph.specs.declared.net.NetFault.{NetFault}
 use Rattle.hmsc_graph.specs.declared.net.NetFault.TheVariants.{UnknownLabel, TwiceLabel}
 use Rattle.hmsc_graph.specs.Graphs.{Net}
 use Rattle.hmsc_graph.specs.Nets.{graph_of}
-use Rattle.hmsc_graph.specs.Labels.{earlier_of, has_name, with_line, with_label, number_in, graph_in, fault_of}
+use Rattle.hmsc_graph.specs.Labels.{has_name, with_line, with_label, number_in, graph_in, fault_of}
 use Rattle.hmsc_graph.specs.Shapes.{HasLabel, IsUnknown, IsTwice, IsFaulty, IsFaultOf, IsGraphOf, AreNumbers, AreNext, line_number, named_by}
+use Rattle.msc_base.specs.Places.{IsBefore, IsLeast, IsNoLater, earliest, is_before}
+use Rattle.msc_base.proofs.PlaceFacts.{before_cases, before_or_at, no_later_through}
+use Rattle.msc_rules.specs.Rules.{group_of, number_of}
+use Rattle.msc_rules.specs.declared.rule.Rule.TheVariants as rule
+use Rattle.msc_rules.proofs.TwoRules.{first_leads, second_leads}
 use Rattle.hmsc_graph.proofs.LabelFacts.{labels_of, known_line, new_line, is_some-position}
 
--- the earliest of the places, where there is one
-abbrev pub IsEarliest : (Place → Type 0) → Option Place → Type 0
-IsEarliest P None = (place : Place) → P place → ⊥
-IsEarliest P (Some place) = P place × ((other : Place) → P other → place.byte ≤ other.byte)
-
-earliest_same : (P R : Place → Type 0) (o : Option Place) → ((q : Place) → P q → R q) → ((q : Place) → R q → P q) → IsEarliest P o → IsEarliest R o
+earliest_same : (P R : Place → Type 0) (o : Option Place) → ((q : Place) → P q → R q) → ((q : Place) → R q → P q) → IsLeast P o → IsLeast R o
 earliest_same P R None f g e = λ q h. e q (g q h)
 earliest_same P R (Some p) f g e = (f p e.0, λ q h. e.1 q (g q h))
 
-earliest_more : (P R : Place → Type 0) (o : Option Place) (p : Place) → ((q : Place) → P q → R q) → R p → ((q : Place) → R q → P q ⊎ (q ≡ p)) → IsEarliest P o → IsEarliest R (earlier_of o p)
-earliest_more P R None p f here g e = (here, λ q h. elim (g q h) [ inl x ↦ absurd (e q x) | inr is ↦ omega (arith, ap (λ (r : Place). r.byte) is) ])
-earliest_more P R (Some found) p f here g e = choose (nat_lt p.byte found.byte) refl
-  where
-    choose : (b : Bool) → nat_lt p.byte found.byte ≡ b → IsEarliest R (if b then Some p else Some found)
-    choose true lt = (
-      here,
-      λ q h. elim (g q h) [
-        | inl x ↦ omega (arith, ltb-true p.byte found.byte lt, e.1 q x)
-        | inr is ↦ omega (arith, ap (λ (r : Place). r.byte) is)
-      ],
-    )
-    choose false not_lt = (
-      f found e.0,
-      λ q h. elim (g q h) [
-        | inl x ↦ e.1 q x
-        | inr is ↦ elim (cases_lt p.byte found.byte) [
-          | inl lt ↦ absurd (true≢false (sym (lt-ltb p.byte found.byte lt) ∙ not_lt))
-          | inr le ↦ omega (arith, le, ap (λ (r : Place). r.byte) is)
-        ]
-      ],
-    )
+earliest_more : (P R : Place → Type 0) (o : Option Place) (p : Place) → ((q : Place) → P q → R q) → R p → ((q : Place) → R q → P q ⊎ (q ≡ p)) → IsLeast P o → IsLeast R (earliest o p)
+earliest_more P R None p f here g e = (here, λ q h. elim (g q h) [ inl x ↦ absurd (e q x) | inr is ↦ inr (sym is) ])
+earliest_more P R (Some found) p f here g e = elim (before_cases p found) [
+  | inl lt ↦ subst (IsLeast R) (ap (λ (b : Bool). if b then Some p else Some found) (sym lt.0)) (here, λ q h. elim (g q h) [ inl x ↦ inl (before_or_at p found q lt.1 (e.1 q x)) | inr is ↦ inr (sym is) ])
+  | inr ge ↦ subst (IsLeast R) (ap (λ (b : Bool). if b then Some p else Some found) (sym ge.0)) (f found e.0, λ q h. elim (g q h) [ inl x ↦ e.1 q x | inr is ↦ subst (IsNoLater found) (sym is) ge.1 ])
+]
 
 -- unknown labels
 module _ (lines : List ShapeLine) where
@@ -70,7 +54,7 @@ module _ (lines : List ShapeLine) where
   unknown_either (l ∷ before) after q (inr h) = elim (unknown_either before after q h) [ inl x ↦ inl (inr x) | inr y ↦ inr y ]
 
   module _ (names : List (List ℕ)) (members : (name : List ℕ) → has_name names name ≡ true → (i : ℕ) × HasLabel lines i name) (listed : (i : ℕ) (name : List ℕ) → HasLabel lines i name → has_name names name ≡ true) where
-    unknown_step : (before : List LabelRef) (l : LabelRef) (found : Option Place) → IsEarliest (IsUnknown lines before) found → IsEarliest (IsUnknown lines (before ++ l ∷ [])) (with_label names found l)
+    unknown_step : (before : List LabelRef) (l : LabelRef) (found : Option Place) → IsLeast (IsUnknown lines before) found → IsLeast (IsUnknown lines (before ++ l ∷ [])) (with_label names found l)
     unknown_step before l found e = choose (has_name names l.name) refl
       where
         only : IsUnknown lines (l ∷ []) l.place → (number : ℕ) → HasLabel lines number l.name → ⊥
@@ -85,19 +69,19 @@ module _ (lines : List ShapeLine) where
         here q (inl h) = sym h.0
         here q (inr h) = absurd h
 
-        choose : (b : Bool) → has_name names l.name ≡ b → IsEarliest (IsUnknown lines (before ++ l ∷ [])) (if b then found else earlier_of found l.place)
+        choose : (b : Bool) → has_name names l.name ≡ b → IsLeast (IsUnknown lines (before ++ l ∷ [])) (if b then found else earliest found l.place)
         choose true known = earliest_same (IsUnknown lines before) (IsUnknown lines (before ++ l ∷ [])) found (unknown_left before (l ∷ []))
             (λ q h. elim (unknown_either before (l ∷ []) q h) [ inl x ↦ x | inr y ↦ let m = members l.name known in absurd (lacks q y m.0 m.1) ]) e
         choose false new = earliest_more (IsUnknown lines before) (IsUnknown lines (before ++ l ∷ [])) found l.place (unknown_left before (l ∷ []))
             (unknown_right before (l ∷ []) l.place (inl (refl, λ number h. true≢false (sym (listed number l.name h) ∙ new))))
             (λ q h. elim (unknown_either before (l ∷ []) q h) [ inl x ↦ inl x | inr y ↦ inr (here q y) ]) e
 
-    unknown_folded : (before labels : List LabelRef) (found : Option Place) → IsEarliest (IsUnknown lines before) found → IsEarliest (IsUnknown lines (before ++ labels)) (fold (with_label names) found labels)
-    unknown_folded before [] found e = subst (λ (ls : List LabelRef). IsEarliest (IsUnknown lines ls) found) (sym (append-nil before)) e
-    unknown_folded before (l ∷ labels) found e = subst (λ (ls : List LabelRef). IsEarliest (IsUnknown lines ls) (fold (with_label names) (with_label names found l) labels)) (append_assoc before (l ∷ []) labels)
+    unknown_folded : (before labels : List LabelRef) (found : Option Place) → IsLeast (IsUnknown lines before) found → IsLeast (IsUnknown lines (before ++ labels)) (fold (with_label names) found labels)
+    unknown_folded before [] found e = subst (λ (ls : List LabelRef). IsLeast (IsUnknown lines ls) found) (sym (append-nil before)) e
+    unknown_folded before (l ∷ labels) found e = subst (λ (ls : List LabelRef). IsLeast (IsUnknown lines ls) (fold (with_label names) (with_label names found l) labels)) (append_assoc before (l ∷ []) labels)
         (unknown_folded (before ++ l ∷ []) labels (with_label names found l) (unknown_step before l found e))
 
-    pub earliest_unknown : (labels : List LabelRef) → IsEarliest (IsUnknown lines labels) (fold (with_label names) None labels)
+    pub earliest_unknown : (labels : List LabelRef) → IsLeast (IsUnknown lines labels) (fold (with_label names) None labels)
     earliest_unknown labels = unknown_folded [] labels None (λ q h. h)
 
 -- an item behind a list
@@ -167,12 +151,12 @@ pub record AreLabels (before : List ShapeLine) (labels : Labels) : Type 0 where
   pub members : (name : List ℕ) → has_name labels.table name ≡ true → (i : ℕ) × HasLabel before i name
   pub listed : (i : ℕ) (name : List ℕ) → HasLabel before i name → has_name labels.table name ≡ true
   pub few : length labels.table ≤ length before
-  pub first : IsEarliest (IsTwice before) labels.twice
+  pub first : IsLeast (IsTwice before) labels.twice
   pub same : labels.twice ≡ None → labels.table ≡ map (λ line. line.label) before
 
-some_earlier : (o : Option Place) (p : Place) → earlier_of o p ≡ None → ⊥
+some_earlier : (o : Option Place) (p : Place) → earliest o p ≡ None → ⊥
 some_earlier None p h = cc
-some_earlier (Some q) p h = choose (nat_lt p.byte q.byte) h
+some_earlier (Some q) p h = choose (is_before p q) h
   where
     choose : (b : Bool) → (if b then Some p else Some q) ≡ None → ⊥
     choose true h = cc
@@ -187,7 +171,7 @@ module _ (before : List ShapeLine) (line : ShapeLine) (labels : Labels) (a : Are
   longer = length-append before (line ∷ [])
 
   -- a line whose label is there
-  known : has_name labels.table line.label ≡ true → AreLabels (before ++ line ∷ []) (labels_of labels.table (earlier_of labels.twice line.place))
+  known : has_name labels.table line.label ≡ true → AreLabels (before ++ line ∷ []) (labels_of labels.table (earliest labels.twice line.place))
   known e = record {
     members = λ name h. let m = a.members name h in (m.0, label_kept before (line ∷ []) m.0 name m.1);
     listed = λ i name h. elim (label_either before line i name h) [ inl l ↦ a.listed i name l | inr r ↦ subst (λ (n : List ℕ). has_name labels.table n ≡ true) r.is e ];
@@ -230,7 +214,7 @@ module _ (before : List ShapeLine) (line : ShapeLine) (labels : Labels) (a : Are
   labels_step = choose (has_name labels.table line.label) refl
     where
       choose : (b : Bool) → has_name labels.table line.label ≡ b → AreLabels (before ++ line ∷ []) (with_line labels line)
-      choose true e = subst (AreLabels (before ++ line ∷ [])) (known_line labels line (earlier_of labels.twice line.place) e refl) (known e)
+      choose true e = subst (AreLabels (before ++ line ∷ [])) (known_line labels line (earliest labels.twice line.place) e refl) (known e)
       choose false e = subst (AreLabels (before ++ line ∷ [])) (new_line labels line (labels.table ++ line.label ∷ []) e (sym (rw e refl))) (fresh e)
 
 labels_folded : (before lines : List ShapeLine) (labels : Labels) → AreLabels before labels → AreLabels (before ++ lines) (fold with_line labels lines)
@@ -251,22 +235,31 @@ are_labels lines labels e = subst (AreLabels lines) (sym e) (labels_folded [] li
     }
 
 -- the fault that is answered
-module _ (shape : Shape) (labels : Labels) (unknown : Option Place) (a : AreLabels shape.lines labels) (u : IsEarliest (IsUnknown shape.lines (named_by shape)) unknown) where
-  answered : (o t : Option Place) (fault : NetFault) → fault_of o t ≡ Some fault → IsEarliest (IsUnknown shape.lines (named_by shape)) o → IsEarliest (IsTwice shape.lines) t → IsFaultOf shape fault
+module _ (shape : Shape) (labels : Labels) (unknown : Option Place) (a : AreLabels shape.lines labels) (u : IsLeast (IsUnknown shape.lines (named_by shape)) unknown) where
+  abbrev Unknown : Place → Type 0
+  Unknown = IsUnknown shape.lines (named_by shape)
+
+  abbrev Twice : Place → Type 0
+  Twice = IsTwice shape.lines
+
+  unknown_leads : (o : Place) → Unknown o → ((q : Place) → Unknown q → IsNoLater o q) → ((q : Place) → Twice q → IsNoLater o q) → IsFaultOf shape (UnknownLabel o)
+  unknown_leads o = first_leads number_of group_of rule.UnknownLabel rule.LabelNamedTwice Unknown Twice o refl (omega arith)
+
+  twice_leads : (t : Place) → Twice t → ((q : Place) → Twice q → IsNoLater t q) → ((q : Place) → Unknown q → IsBefore t q) → IsFaultOf shape (TwiceLabel t)
+  twice_leads t = second_leads number_of group_of rule.UnknownLabel rule.LabelNamedTwice Unknown Twice t refl
+
+  answered : (o t : Option Place) (fault : NetFault) → fault_of o t ≡ Some fault → IsLeast Unknown o → IsLeast Twice t → IsFaultOf shape fault
   answered None None fault h eo et = cc
-  answered None (Some t) fault h eo et = subst (IsFaultOf shape) (let is : TwiceLabel t ≡ fault = cc in is) (et.0, λ q f. elim f [ inl x ↦ absurd (eo q x) | inr y ↦ et.1 q y ])
-  answered (Some o) None fault h eo et = subst (IsFaultOf shape) (let is : UnknownLabel o ≡ fault = cc in is) (eo.0, λ q f. elim f [ inl x ↦ eo.1 q x | inr y ↦ absurd (et q y) ])
-  answered (Some o) (Some t) fault h eo et = choose (nat_lt t.byte o.byte) refl h
-    where
-      choose : (b : Bool) → nat_lt t.byte o.byte ≡ b → (if b then Some (TwiceLabel t) else Some (UnknownLabel o)) ≡ Some fault → IsFaultOf shape fault
-      choose true lt h = subst (IsFaultOf shape) (let is : TwiceLabel t ≡ fault = cc in is) (et.0, λ q f. elim f [ inl x ↦ omega (arith, ltb-true t.byte o.byte lt, eo.1 q x) | inr y ↦ et.1 q y ])
-      choose false not_lt h = subst (IsFaultOf shape) (let is : UnknownLabel o ≡ fault = cc in is) (
-        eo.0,
-        λ q f. elim f [
-          | inl x ↦ eo.1 q x
-          | inr y ↦ elim (cases_lt t.byte o.byte) [ inl lt ↦ absurd (true≢false (sym (lt-ltb t.byte o.byte lt) ∙ not_lt)) | inr le ↦ omega (arith, le, et.1 q y) ]
-        ],
-      )
+  answered None (Some t) fault h eo et = subst (IsFaultOf shape) (let is : TwiceLabel t ≡ fault = cc in is) (twice_leads t et.0 et.1 (λ q x. absurd (eo q x)))
+  answered (Some o) None fault h eo et = subst (IsFaultOf shape) (let is : UnknownLabel o ≡ fault = cc in is) (unknown_leads o eo.0 eo.1 (λ q y. absurd (et q y)))
+  answered (Some o) (Some t) fault h eo et = elim (before_cases t o) [
+    | inl lt ↦
+        let is : Some (TwiceLabel t) ≡ Some fault = ap (λ (b : Bool). if b then Some (TwiceLabel t) else Some (UnknownLabel o)) (sym lt.0) ∙ h in
+        subst (IsFaultOf shape) (let same : TwiceLabel t ≡ fault = cc in same) (twice_leads t et.0 et.1 (λ q x. before_or_at t o q lt.1 (eo.1 q x)))
+    | inr ge ↦
+        let is : Some (UnknownLabel o) ≡ Some fault = ap (λ (b : Bool). if b then Some (TwiceLabel t) else Some (UnknownLabel o)) (sym ge.0) ∙ h in
+        subst (IsFaultOf shape) (let same : UnknownLabel o ≡ fault = cc in same) (unknown_leads o eo.0 eo.1 (λ q y. no_later_through o t q ge.1 (et.1 q y)))
+  ]
 
   pub fault_is : (fault : NetFault) → fault_of unknown labels.twice ≡ Some fault → IsFaultOf shape fault
   fault_is fault h = answered unknown labels.twice fault h u a.first
@@ -275,7 +268,7 @@ module _ (shape : Shape) (labels : Labels) (unknown : Option Place) (a : AreLabe
   neither None None h = (refl, refl)
   neither None (Some t) h = cc
   neither (Some o) None h = cc
-  neither (Some o) (Some t) h = absurd (choose (nat_lt t.byte o.byte) h)
+  neither (Some o) (Some t) h = absurd (choose (is_before t o) h)
     where
       choose : (b : Bool) → (if b then Some (TwiceLabel t) else Some (UnknownLabel o)) ≡ None → ⊥
       choose true h = cc
@@ -283,10 +276,10 @@ module _ (shape : Shape) (labels : Labels) (unknown : Option Place) (a : AreLabe
 
   module _ (h : fault_of unknown labels.twice ≡ None) where
     no_unknown : (place : Place) → IsUnknown shape.lines (named_by shape) place → ⊥
-    no_unknown = subst (IsEarliest (IsUnknown shape.lines (named_by shape))) (neither unknown labels.twice h).0 u
+    no_unknown = subst (IsLeast (IsUnknown shape.lines (named_by shape))) (neither unknown labels.twice h).0 u
 
     no_twice : (place : Place) → IsTwice shape.lines place → ⊥
-    no_twice = subst (IsEarliest (IsTwice shape.lines)) (neither unknown labels.twice h).1 a.first
+    no_twice = subst (IsLeast (IsTwice shape.lines)) (neither unknown labels.twice h).1 a.first
 
     pub no_fault : (place : Place) → IsFaulty shape place → ⊥
     no_fault place (inl x) = no_unknown place x

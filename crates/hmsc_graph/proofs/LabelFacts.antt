@@ -16,7 +16,8 @@ use Rattle.hmsc_graph.specs.declared.labels.Labels.{Labels}
 use Rattle.msc_base.specs.declared.limits.TheConstants.Limits.{NODE_LINES}
 use Rattle.msc_base.specs.Lists.{IsIn}
 use Rattle.hmsc_graph.specs.Nets.{IsNet}
-use Rattle.hmsc_graph.specs.Labels.{earlier_of, has_name, with_line, with_label, number_in, graph_in}
+use Rattle.msc_base.specs.Places.{earliest}
+use Rattle.hmsc_graph.specs.Labels.{has_name, with_line, with_label, number_in, graph_in}
 
 -- whether a test passes, and where it passes first
 module _ {X : Type 0} (p : X → Bool) where
@@ -54,7 +55,7 @@ module _ {X : Type 0} (p : X → Bool) where
 abbrev pub labels_of : List (List ℕ) → Option Place → Labels
 labels_of table twice = record { table = table; twice = twice }
 
-pub known_line : (labels : Labels) (line : ShapeLine) (found : Option Place) → has_name labels.table line.label ≡ true → found ≡ earlier_of labels.twice line.place → labels_of labels.table found ≡ with_line labels line
+pub known_line : (labels : Labels) (line : ShapeLine) (found : Option Place) → has_name labels.table line.label ≡ true → found ≡ earliest labels.twice line.place → labels_of labels.table found ≡ with_line labels line
 known_line labels line found h e = rw h (ap (λ (o : Option Place). labels_of labels.table o) e)
 
 pub new_line : (labels : Labels) (line : ShapeLine) (table : List (List ℕ)) → has_name labels.table line.label ≡ false → table ≡ with_name labels.table line.label → labels_of table labels.twice ≡ with_line labels line
@@ -71,7 +72,7 @@ has_number names label = sym (is_some-position (bytes_eq label.name) names)
 pub label_known : (names : List (List ℕ)) (found : Option Place) (label : LabelRef) (n : ℕ) → number_in names label ≡ Some n → with_label names found label ≡ found
 label_known names found label n e = let known : has_name names label.name ≡ true = has_number names label ∙ ap is_some e in rw known refl
 
-pub label_new : (names : List (List ℕ)) (found : Option Place) (label : LabelRef) → number_in names label ≡ None → with_label names found label ≡ earlier_of found label.place
+pub label_new : (names : List (List ℕ)) (found : Option Place) (label : LabelRef) → number_in names label ≡ None → with_label names found label ≡ earliest found label.place
 label_new names found label e = let new : has_name names label.name ≡ false = has_number names label ∙ ap is_some e in rw new refl
 
 module _ {X Y : Type 0} (f : X → Option Y) where
@@ -99,7 +100,7 @@ module _ (names : List (List ℕ)) (labels : List LabelRef) (i : ℕ) (label : L
   pub new_numbers : number_in names label ≡ None → numbers ≡ filter_map (number_in names) (take (i + 1) labels)
   new_numbers e = numbers_are ∙ sym (ap (filter_map (number_in names)) taken ∙ number_left_out (number_in names) (take i labels) label e)
 
-  pub new_found : number_in names label ≡ None → earlier_of found label.place ≡ fold (with_label names) start (take (i + 1) labels)
+  pub new_found : number_in names label ≡ None → earliest found label.place ≡ fold (with_label names) start (take (i + 1) labels)
   new_found e = sym (folded ∙ label_new names found label e)
 
 -- one more line

@@ -1,10 +1,11 @@
 -- The labels of lines, as they are gathered from the first line on, and the faults that are met.
-use Rattle.std.specs.Prelude.{ℕ, List, Option, Some, None, Bool, nat_lt, map, if◌then◌else◌}
+use Rattle.std.specs.Prelude.{ℕ, List, Option, Some, None, Bool, map, if◌then◌else◌}
 use Rattle.std.specs.List.{list_any, position, filter_map}
 use Rattle.std.specs.Str.{bytes_eq}
 use Rattle.msc_base.specs.NameTables.{with_name}
 use Rattle.msc_base.specs.declared.label.LabelRef.{LabelRef}
 use Rattle.msc_base.specs.declared.place.Place.{Place}
+use Rattle.msc_base.specs.Places.{earliest, is_before}
 use Rattle.hmsc_graph.specs.declared.shape.ShapeLine.{ShapeLine}
 use Rattle.hmsc_graph.specs.declared.labels.Labels.{Labels}
 use Rattle.hmsc_graph.specs.declared.net.NetFault.{NetFault}
@@ -12,11 +13,6 @@ use Rattle.hmsc_graph.specs.declared.net.NetFault.TheVariants.{UnknownLabel, Twi
 use Rattle.hmsc_graph.specs.declared.shape.Shape.{Shape}
 use Rattle.hmsc_graph.specs.Graphs.{Net}
 use Rattle.hmsc_graph.specs.Nets.{graph_of}
-
--- the earlier of two places; the first where they are one
-abbrev pub earlier_of : Option Place → Place → Option Place
-earlier_of None place = Some place
-earlier_of (Some found) place = if nat_lt place.byte found.byte then Some place else Some found
 
 -- whether the names have it
 abbrev pub has_name : List (List ℕ) → List ℕ → Bool
@@ -26,12 +22,12 @@ has_name names name = list_any (bytes_eq name) names
 abbrev pub with_line : Labels → ShapeLine → Labels
 with_line labels line = record {
   table = with_name labels.table line.label;
-  twice = if has_name labels.table line.label then earlier_of labels.twice line.place else labels.twice;
+  twice = if has_name labels.table line.label then earliest labels.twice line.place else labels.twice;
 }
 
 -- the earliest unknown label with one more label
 abbrev pub with_label : List (List ℕ) → Option Place → LabelRef → Option Place
-with_label names found label = if has_name names label.name then found else earlier_of found label.place
+with_label names found label = if has_name names label.name then found else earliest found label.place
 
 -- the number of a label
 abbrev pub number_in : List (List ℕ) → LabelRef → Option ℕ
@@ -42,7 +38,7 @@ abbrev pub fault_of : Option Place → Option Place → Option NetFault
 fault_of None None = None
 fault_of None (Some twice) = Some (TwiceLabel twice)
 fault_of (Some unknown) None = Some (UnknownLabel unknown)
-fault_of (Some unknown) (Some twice) = if nat_lt twice.byte unknown.byte then Some (TwiceLabel twice) else Some (UnknownLabel unknown)
+fault_of (Some unknown) (Some twice) = if is_before twice unknown then Some (TwiceLabel twice) else Some (UnknownLabel unknown)
 
 -- the graph of the shape, without the edges to labels that the names lack
 abbrev pub graph_in : List (List ℕ) → Shape → Net

@@ -1,5 +1,5 @@
 -- Graphs as they are written: lines with labels, and labels that name lines.
-use Rattle.std.specs.Prelude.{ℕ, ◌≡◌, ◌<◌, ◌≤◌, ◌++◌, ◌⊎◌, List, [], ◌∷◌, Option, Some, map, slice_get}
+use Rattle.std.specs.Prelude.{ℕ, ◌≡◌, ◌<◌, ◌++◌, ◌⊎◌, List, [], ◌∷◌, Option, Some, map, slice_get}
 use Rattle.std.specs.List.{flat_map, position}
 use Rattle.std.specs.Str.{bytes_eq}
 use Rattle.msc_base.specs.declared.label.LabelRef.{LabelRef}
@@ -9,6 +9,10 @@ use Rattle.hmsc_graph.specs.declared.shape.Shape.{Shape}
 use Rattle.hmsc_graph.specs.declared.net.NetFault.{NetFault}
 use Rattle.hmsc_graph.specs.declared.net.NetFault.TheVariants.{UnknownLabel, TwiceLabel, NoMemory}
 use Rattle.hmsc_graph.specs.Graphs.{Net}
+use Rattle.msc_rules.specs.FirstFaults.{BreaksEither, IsFirstFault}
+use Rattle.msc_rules.specs.Rules.{group_of, number_of}
+use Rattle.msc_rules.specs.declared.rule.Rule.{Rule}
+use Rattle.msc_rules.specs.declared.rule.Rule.TheVariants as rule
 
 -- the number of the first line of that label, where the lines are numbered from 0
 abbrev pub line_number : List ShapeLine → List ℕ → Option ℕ
@@ -60,12 +64,12 @@ pub record IsTwice (lines : List ShapeLine) (place : Place) : Type 0 where
 abbrev pub IsFaulty : Shape → Place → Type 0
 IsFaulty shape place = IsUnknown shape.lines (named_by shape) place ⊎ IsTwice shape.lines place
 
--- no label that can't stand comes before the place
-abbrev pub IsFirst : Shape → Place → Type 0
-IsFirst shape place = (other : Place) → IsFaulty shape other → place.byte ≤ other.byte
+-- the rule of labels that is broken at that place
+abbrev pub BreaksLabels : Shape → Rule → Place → Type 0
+BreaksLabels shape = BreaksEither rule.UnknownLabel (IsUnknown shape.lines (named_by shape)) rule.LabelNamedTwice (IsTwice shape.lines)
 
--- the fault is at the first label that can't stand, and says why it can't
+-- the fault is the first, by place, and at one place by the rules' numbers
 abbrev pub IsFaultOf : Shape → NetFault → Type 0
-IsFaultOf shape (UnknownLabel place) = IsUnknown shape.lines (named_by shape) place × IsFirst shape place
-IsFaultOf shape (TwiceLabel place) = IsTwice shape.lines place × IsFirst shape place
+IsFaultOf shape (UnknownLabel place) = IsFirstFault number_of group_of (BreaksLabels shape) (record { rule = rule.UnknownLabel; place = place })
+IsFaultOf shape (TwiceLabel place) = IsFirstFault number_of group_of (BreaksLabels shape) (record { rule = rule.LabelNamedTwice; place = place })
 IsFaultOf shape NoMemory = Unit {0}

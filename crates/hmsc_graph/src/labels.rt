@@ -1,9 +1,9 @@
 ghost use Rattle.std.specs.Prelude.{◌≡◌, ◌≤◌, [], None, length, IfOk, OnOk, filter_map, fold};
 ghost use Rattle.msc_base.specs.declared.limits.TheConstants.Limits.{NODE_LINES};
-ghost use Rattle.hmsc_graph.specs.Labels.{earlier_of, with_line, with_label, number_in};
+ghost use Rattle.hmsc_graph.specs.Labels.{with_line, with_label, number_in};
 
 use crate::ShapeLine;
-use msc_base::{LabelRef, NameTable, NoMemory, NumberList, Place};
+use msc_base::{LabelRef, NameTable, NoMemory, NumberList, Place, earlier_place};
 use std::alloc::Global;
 
 /// The labels of lines, each once, and the earliest line whose label a line before it has.
@@ -13,16 +13,6 @@ pub struct Labels {
     pub twice: Option<Place>,
 }
 
-/// The earlier of the two places.
-fn earlier(found: Option<Place>, place: Place) -> Option<Place>
-    ensures { result ≡ earlier_of found place }
-{
-    match found {
-        Some(found) if found.byte <= place.byte => Some(found),
-        _ => Some(place),
-    }
-}
-
 impl Labels {
     /// Takes in the label of one more line.
     fn add(&mut self, alloc: Global, line: &ShapeLine) -> Result<(), NoMemory>
@@ -30,7 +20,7 @@ impl Labels {
     {
         let label = line.label.bytes();
         if self.table.number_of(label).is_some() {
-            self.twice = earlier(self.twice, line.place);
+            self.twice = earlier_place(self.twice, line.place);
             return Ok(());
         }
         self.table.add(alloc, label)
@@ -66,7 +56,7 @@ pub fn numbers_of(
     for label in labels {
         match table.number_of(label.name.bytes()) {
             Some(number) => numbers.push(number as u32)?,
-            None => *unknown = earlier(*unknown, label.place),
+            None => *unknown = earlier_place(*unknown, label.place),
         }
     }
     Ok(numbers)

@@ -12,7 +12,7 @@ ghost use Rattle.msc_base.specs.declared.place.Place.{Place as PlaceValue};
 
 use crate::labels::{Labels, numbers_of};
 use crate::{Shape, Spot};
-use msc_base::{NameTable, NoMemory, NumberList, Place};
+use msc_base::{NameTable, NoMemory, NumberList, Place, comes_before};
 use std::alloc::Global;
 use std::marker::Model;
 
@@ -56,14 +56,14 @@ impl Model for Net {
     ghost invariant = { λ n. IsNet (graph_of n.starts n.next.items n.ends.items) };
 }
 
-/// The fault of the earlier place.
+/// The fault of the earlier place, and at one place that of an unknown label.
 fn earlier_fault(unknown: Option<Place>, twice: Option<Place>) -> Option<NetFault>
     ensures { result ≡ fault_of unknown twice }
 {
     match (unknown, twice) {
-        (Some(unknown), Some(twice)) if twice.byte < unknown.byte => Some(NetFault::TwiceLabel(
-            twice,
-        )),
+        (Some(unknown), Some(twice)) if comes_before(twice, unknown) => {
+            Some(NetFault::TwiceLabel(twice))
+        }
         (Some(unknown), _) => Some(NetFault::UnknownLabel(unknown)),
         (None, Some(twice)) => Some(NetFault::TwiceLabel(twice)),
         (None, None) => None,

@@ -70,3 +70,8 @@ no_later_through p q r (inr e) h = subst (λ (z : Place). IsNoLater z r) (sym e)
 pub one_place : (p q : Place) → IsNoLater p q → IsNoLater q p → p ≡ q
 one_place p q (inl a) h = absurd (never_both p q a h)
 one_place p q (inr e) h = e
+
+-- before a place that is no later than a third
+pub before_or_at : (p q r : Place) → IsBefore p q → IsNoLater q r → IsBefore p r
+before_or_at p q r a (inl b) = before_through p q r a b
+before_or_at p q r a (inr e) = subst (λ (z : Place). IsBefore p z) e a

@@ -9,12 +9,12 @@ use Rattle.msc_tokens.specs.Places.{first_place, past}
 use Rattle.msc_tokens.specs.Spelling.{Spells, HasLexFault}
 use Rattle.msc_tree.specs.Charts.{Document}
 use Rattle.msc_tree.specs.Views.{document_view}
-use Rattle.msc_grammar.specs.declared.fault.ParseFault.{ParseFault}
-use Rattle.msc_grammar.specs.declared.fault.ParseFault.TheVariants as grammar
+use Rattle.token_grammar.specs.declared.fault.ParseFault.{ParseFault}
+use Rattle.token_grammar.specs.declared.fault.ParseFault.TheVariants as grammar
 use Rattle.msc_rules.specs.declared.rule.Rule.{Rule}
 use Rattle.msc_rules.specs.declared.rule.Rule.TheVariants as rule
 use Rattle.msc_document.specs.DocumentGrammar.{document as documents}
-use Rattle.msc_document.specs.Faults.{IsFault}
+use Rattle.token_grammar.specs.Refusals.{IsFault}
 use Rattle.msc_cmd.specs.declared.document_text.DocumentText.{DocumentText}
 use Rattle.msc_cmd.specs.declared.document_text.DocumentText.TheVariants.{Read, Refused}
 

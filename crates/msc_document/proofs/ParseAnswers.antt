@@ -11,27 +11,15 @@ use Rattle.token_grammar.specs.Exactness.{IsExact}
 use Rattle.token_grammar.specs.Languages.{Read, refused, deep}
 use Rattle.token_grammar.specs.Parsing.{IsRefused, IsTooDeep}
 use Rattle.token_grammar.specs.declared.readers.ReadFault.{ReadFault}
-use Rattle.msc_grammar.specs.declared.fault.ParseFault.{ParseFault}
-use Rattle.msc_grammar.specs.declared.fault.ParseFault.TheVariants as fault
-use Rattle.msc_grammar.specs.Refusals.{IsRefusal}
-use Rattle.msc_grammar.specs.Refused.{fault_at}
+use Rattle.token_grammar.specs.declared.fault.ParseFault.{ParseFault}
+use Rattle.token_grammar.specs.declared.fault.ParseFault.TheVariants as fault
+use Rattle.token_grammar.specs.Refusals.{IsFault, IsRefusal}
+use Rattle.token_grammar.specs.Refused.{fault_at}
 use Rattle.msc_document.specs.DocumentGrammar.{document}
 use Rattle.msc_document.specs.DocumentReaders.{document_at}
-use Rattle.msc_document.specs.Faults.{IsFault, IsAnswer}
+use Rattle.msc_document.specs.DocumentAnswers.{IsAnswer}
 use Rattle.msc_document.proofs.DocumentRules.{one_document, document_exact, opened_document, proper_document}
 use Rattle.msc_document.proofs.Firsts.{one_refused, one_too_deep, not_both, refused_none, deep_none}
-
-pub empty_of : (ts : List Token) → (length ts == 0) ≡ true → ts ≡ []
-empty_of [] e = refl
-empty_of (t ∷ ts) e = let h = eqb-true (length (t ∷ ts)) 0 e in absurd (omega arith)
-
-pub some_of : (ts : List Token) → (length ts == 0) ≡ false → ts ≡ [] → ⊥
-some_of ts e empty =
-    let h : true ≡ false = sym (ap (λ (l : List Token). length l == 0) empty) ∙ e in
-    cc
-
-pub at_fault : {Y : Type 0} (f g : ReadFault) (x : Read Y) → f ≡ g → Fails f x → Fails g x
-at_fault f g x e h = subst (λ (r : ReadFault). Fails r x) e h
 
 module _ (n : ℕ) (ts : List Token) where
   exact_by : (x : Read Document) → document_at n ts ≡ x → IsExact document n ts x

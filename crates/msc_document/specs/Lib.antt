@@ -1,7 +1,7 @@
 pub mod ChartReaders
+pub mod DocumentAnswers
 pub mod DocumentGrammar
 pub mod DocumentReaders
-pub mod Faults
 pub mod Inlines
 pub mod ItemReaders
 pub mod StatementReaders

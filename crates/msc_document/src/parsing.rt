@@ -2,44 +2,18 @@ ghost use Rattle.std.specs.Prelude.{◌≡◌, ◌++◌, ◌∷◌, List, ℕ, I
 ghost use Rattle.msc_tokens.specs.declared.token.Token.{Token};
 ghost use Rattle.msc_tree.specs.Charts.{Document};
 ghost use Rattle.msc_tree.specs.Views.{document_view};
-ghost use Rattle.msc_grammar.specs.declared.fault.ParseFault.{ParseFault};
-ghost use Rattle.msc_grammar.specs.declared.fault.ParseFault.TheVariants.{TooDeep};
-ghost use Rattle.msc_grammar.specs.Refused.{fault_at, fault_by, form_of};
-ghost use Rattle.msc_grammar.specs.Refusals.{IsRefusal};
+ghost use Rattle.token_grammar.specs.declared.fault.ParseFault.{ParseFault};
+ghost use Rattle.token_grammar.specs.declared.fault.ParseFault.TheVariants.{TooDeep};
+ghost use Rattle.token_grammar.specs.Refusals.{IsFault, IsRefusal};
 ghost use Rattle.msc_document.specs.DocumentGrammar.{document};
-ghost use Rattle.msc_document.specs.Faults.{IsFault, IsAnswer};
+ghost use Rattle.msc_document.specs.DocumentAnswers.{IsAnswer};
 
 use crate::document::document;
 use msc_base::Place;
-use msc_grammar::{ParseFault, form_of};
-use token_grammar::ReadFault;
+use token_grammar::{ParseFault, ReadFault, refusal};
 use msc_tokens::{Token, TokenList};
 use msc_tree::RawDocument;
 use std::alloc::Global;
-
-/// The refusal of a token, by the form that it belongs to.
-fn refusal_of(token: &Token) -> ParseFault
-    ensures { result ≡ fault_by (form_of token.now.bytes) token.now.place }
-{
-    match form_of(token) {
-        Some(form) => ParseFault::Unsupported(form, token.place),
-        None => ParseFault::Syntax(token.place),
-    }
-}
-
-/// The refusal of the first of the last so many tokens, or of the text's end where there is none.
-fn refusal(tokens: &[Token], left: usize, end: Place) -> ParseFault
-    ensures { (prefix rest : List Token) → tokens.now ≡ prefix ++ rest → left ≡ length rest → result ≡ fault_at rest end }
-{
-    if left > tokens.len() {
-        return ParseFault::Syntax(end);
-    }
-    let rest = &tokens[tokens.len() - left..];
-    match rest.split_first() {
-        Some((token, _)) => refusal_of(token),
-        None => ParseFault::Syntax(end),
-    }
-}
 
 /// That the first of the last so many tokens opens a level too many.
 fn too_deep(tokens: &[Token], left: usize, end: Place) -> ParseFault

@@ -1,4 +1,7 @@
 pub mod DeclarationRules
 pub mod EventRules
 pub mod HeadLists
+pub mod LogAnswers
+pub mod LogRules
+pub mod LogTexts
 pub mod MultiRules

@@ -2,5 +2,8 @@ pub mod DeclarationReaders
 pub mod Declarations
 pub mod EventReaders
 pub mod Events
+pub mod LogEvents
+pub mod LogReaders
+pub mod LogRefusals
 pub mod MultiReaders
 pub mod Multis

@@ -6,7 +6,7 @@ ghost use Rattle.msc_events.specs.Events.{address_of, event_of, plain};
 ghost use Rattle.msc_events.specs.EventReaders.{output_at, input_at, action_at, timing_at, creation_at, timers_at, act_at};
 
 use crate::address::{address, orders};
-use crate::event_parts::{Address, Orders};
+use crate::event_parts::{Address, Orders, Setting};
 use msc_base::{Kind, Place, Text};
 use token_grammar::{
     MessageParts, ReadFault, either_word, item, message, name, name_of, starts_with,
@@ -45,34 +45,34 @@ fn plain_parts(text: Text) -> MessageParts
 }
 
 /// A message is sent (Z.120, clause 4.3).
-fn output(alloc: Global, tokens: &[Token]) -> Result<(RawEvent, &[Token]), ReadFault>
-    ensures { Gives (λ x. (x.0, x.1.now)) result (output_at tokens.now) }
+fn output(alloc: Global, setting: Setting, tokens: &[Token]) -> Result<(RawEvent, &[Token]), ReadFault>
+    ensures { Gives (λ x. (x.0, x.1.now)) result (output_at setting tokens.now) }
 {
     let (out, rest) = word(tokens, "out")?;
     let (message, rest) = message(alloc, rest)?;
     let (_to, rest) = word(rest, "to")?;
-    let (address, rest) = address(alloc, rest, "lost", Kind::Output, Kind::OutputLost)?;
+    let (address, rest) = address(alloc, setting, rest, "lost", Kind::Output, Kind::OutputLost)?;
     Ok((made_event(out.place, message, address), rest))
 }
 
 /// A message is received (Z.120, clause 4.3).
-fn input(alloc: Global, tokens: &[Token]) -> Result<(RawEvent, &[Token]), ReadFault>
-    ensures { Gives (λ x. (x.0, x.1.now)) result (input_at tokens.now) }
+fn input(alloc: Global, setting: Setting, tokens: &[Token]) -> Result<(RawEvent, &[Token]), ReadFault>
+    ensures { Gives (λ x. (x.0, x.1.now)) result (input_at setting tokens.now) }
 {
     let (word_in, rest) = word(tokens, "in")?;
     let (message, rest) = message(alloc, rest)?;
     let (_from, rest) = word(rest, "from")?;
-    let (address, rest) = address(alloc, rest, "found", Kind::Input, Kind::InputFound)?;
+    let (address, rest) = address(alloc, setting, rest, "found", Kind::Input, Kind::InputFound)?;
     Ok((made_event(word_in.place, message, address), rest))
 }
 
 /// A local action (Z.120, clause 4.9).
-fn action(alloc: Global, tokens: &[Token]) -> Result<(RawEvent, &[Token]), ReadFault>
-    ensures { Gives (λ x. (x.0, x.1.now)) result (action_at tokens.now) }
+fn action(alloc: Global, setting: Setting, tokens: &[Token]) -> Result<(RawEvent, &[Token]), ReadFault>
+    ensures { Gives (λ x. (x.0, x.1.now)) result (action_at setting tokens.now) }
 {
     let (action, rest) = word(tokens, "action")?;
     let (text, rest) = item(alloc, rest)?;
-    let (orders, rest) = orders(alloc, rest)?;
+    let (orders, rest) = orders(alloc, setting, rest)?;
     let address = Address {
         kind: Kind::Action,
         target: Target::Nobody,
@@ -82,11 +82,11 @@ fn action(alloc: Global, tokens: &[Token]) -> Result<(RawEvent, &[Token]), ReadF
 }
 
 /// A timer and the orders of its event (Z.120, clause 4.8).
-fn timing(alloc: Global, tokens: &[Token]) -> Result<(MessageParts, Orders, &[Token]), ReadFault>
-    ensures { Gives (λ x. ((message_view x.0, x.1), x.2.now)) result (timing_at tokens.now) }
+fn timing(alloc: Global, setting: Setting, tokens: &[Token]) -> Result<(MessageParts, Orders, &[Token]), ReadFault>
+    ensures { Gives (λ x. ((message_view x.0, x.1), x.2.now)) result (timing_at setting tokens.now) }
 {
     let (timer, rest) = message(alloc, tokens)?;
-    let (orders, rest) = orders(alloc, rest)?;
+    let (orders, rest) = orders(alloc, setting, rest)?;
     Ok((timer, orders, rest))
 }
 
@@ -103,12 +103,12 @@ fn timed(place: Place, kind: Kind, timer: MessageParts, orders: Orders) -> RawEv
 }
 
 /// An instance is created (Z.120, clause 4.10): the text and the other end are the child.
-fn creation(alloc: Global, tokens: &[Token]) -> Result<(RawEvent, &[Token]), ReadFault>
-    ensures { Gives (λ x. (x.0, x.1.now)) result (creation_at tokens.now) }
+fn creation(alloc: Global, setting: Setting, tokens: &[Token]) -> Result<(RawEvent, &[Token]), ReadFault>
+    ensures { Gives (λ x. (x.0, x.1.now)) result (creation_at setting tokens.now) }
 {
     let (create, rest) = word(tokens, "create")?;
     let (child, rest) = name(rest)?;
-    let (orders, rest) = orders(alloc, rest)?;
+    let (orders, rest) = orders(alloc, setting, rest)?;
     let text = child.bytes.copy(alloc)?;
     let address = Address {
         kind: Kind::Create,
@@ -119,39 +119,39 @@ fn creation(alloc: Global, tokens: &[Token]) -> Result<(RawEvent, &[Token]), Rea
 }
 
 /// A timer's event, or a creation.
-fn timers(alloc: Global, tokens: &[Token]) -> Result<(RawEvent, &[Token]), ReadFault>
-    ensures { Gives (λ x. (x.0, x.1.now)) result (timers_at tokens.now) }
+fn timers(alloc: Global, setting: Setting, tokens: &[Token]) -> Result<(RawEvent, &[Token]), ReadFault>
+    ensures { Gives (λ x. (x.0, x.1.now)) result (timers_at setting tokens.now) }
 {
     if starts_with_either(tokens, "starttimer", "set") {
         let (start, rest) = either_word(tokens, "starttimer", "set")?;
-        let (timer, orders, rest) = timing(alloc, rest)?;
+        let (timer, orders, rest) = timing(alloc, setting, rest)?;
         return Ok((timed(start.place, Kind::TimerStart, timer, orders), rest));
     }
     if starts_with_either(tokens, "stoptimer", "reset") {
         let (stop, rest) = either_word(tokens, "stoptimer", "reset")?;
-        let (timer, orders, rest) = timing(alloc, rest)?;
+        let (timer, orders, rest) = timing(alloc, setting, rest)?;
         return Ok((timed(stop.place, Kind::TimerStop, timer, orders), rest));
     }
     if starts_with(tokens, "timeout") {
         let (timeout, rest) = word(tokens, "timeout")?;
-        let (timer, orders, rest) = timing(alloc, rest)?;
+        let (timer, orders, rest) = timing(alloc, setting, rest)?;
         return Ok((timed(timeout.place, Kind::Timeout, timer, orders), rest));
     }
-    creation(alloc, tokens)
+    creation(alloc, setting, tokens)
 }
 
 /// What an event does, with its orders and its end.
-pub fn act(alloc: Global, tokens: &[Token]) -> Result<(RawEvent, &[Token]), ReadFault>
-    ensures { Gives (λ x. (x.0, x.1.now)) result (act_at tokens.now) }
+pub fn act(alloc: Global, setting: Setting, tokens: &[Token]) -> Result<(RawEvent, &[Token]), ReadFault>
+    ensures { Gives (λ x. (x.0, x.1.now)) result (act_at setting tokens.now) }
 {
     if starts_with(tokens, "out") {
-        return output(alloc, tokens);
+        return output(alloc, setting, tokens);
     }
     if starts_with(tokens, "in") {
-        return input(alloc, tokens);
+        return input(alloc, setting, tokens);
     }
     if starts_with(tokens, "action") {
-        return action(alloc, tokens);
+        return action(alloc, setting, tokens);
     }
-    timers(alloc, tokens)
+    timers(alloc, setting, tokens)
 }

@@ -1,9 +1,9 @@
 ghost use Rattle.std.specs.Prelude.{◌≡◌};
 ghost use Rattle.token_grammar.specs.Answers.{Gives};
-ghost use Rattle.msc_events.specs.Events.{named};
-ghost use Rattle.msc_events.specs.EventReaders.{names_behind_at, orders_at, to_name_at, via_at, to_env_at, some_name_at, to_lost_at, to_gate_at, address_at};
+ghost use Rattle.msc_events.specs.Events.{named, no_orders};
+ghost use Rattle.msc_events.specs.EventReaders.{names_behind_at, own_orders_at, no_orders_at, orders_at, to_name_at, some_gate_at, via_at, to_env_at, some_name_at, to_lost_at, to_gate_at, lost_or_gate_at, apart_address_at, address_at};
 
-use crate::event_parts::{Address, Orders};
+use crate::event_parts::{Address, Orders, Setting};
 use msc_base::{Items, Kind, Name, Names};
 use token_grammar::{ReadFault, ending, names, own_name, starts_with, starts_with_name, word};
 use msc_tokens::Token;
@@ -25,9 +25,9 @@ fn names_behind<'a>(
     Ok((Items::new(alloc), tokens))
 }
 
-/// The orders of an event, and its end.
-pub fn orders(alloc: Global, tokens: &[Token]) -> Result<(Orders, &[Token]), ReadFault>
-    ensures { Gives (λ x. (x.0, x.1.now)) result (orders_at tokens.now) }
+/// The orders of an event of a chart, and its end.
+fn own_orders(alloc: Global, tokens: &[Token]) -> Result<(Orders, &[Token]), ReadFault>
+    ensures { Gives (λ x. (x.0, x.1.now)) result (own_orders_at tokens.now) }
 {
     let (earlier_than, rest) = names_behind(alloc, tokens, "before")?;
     let (later_than, rest) = names_behind(alloc, rest, "after")?;
@@ -41,12 +41,40 @@ pub fn orders(alloc: Global, tokens: &[Token]) -> Result<(Orders, &[Token]), Rea
     ))
 }
 
+/// The end of an event of a log, which has no orders.
+fn no_orders(alloc: Global, tokens: &[Token]) -> Result<(Orders, &[Token]), ReadFault>
+    ensures { Gives (λ x. (x.0, x.1.now)) result (no_orders_at tokens.now) }
+{
+    let rest = ending(tokens)?;
+    Ok((
+        Orders {
+            earlier_than: Items::new(alloc),
+            later_than: Items::new(alloc),
+        },
+        rest,
+    ))
+}
+
+/// The orders of an event, and its end.
+pub fn orders(
+    alloc: Global,
+    setting: Setting,
+    tokens: &[Token],
+) -> Result<(Orders, &[Token]), ReadFault>
+    ensures { Gives (λ x. (x.0, x.1.now)) result (orders_at setting tokens.now) }
+{
+    match setting {
+        Setting::Chart => own_orders(alloc, tokens),
+        Setting::Log => no_orders(alloc, tokens),
+    }
+}
+
 /// An instance as other end.
-fn to_name(alloc: Global, tokens: &[Token], kind: Kind) -> Result<(Address, &[Token]), ReadFault>
-    ensures { Gives (λ x. (x.0, x.1.now)) result (to_name_at kind tokens.now) }
+fn to_name(alloc: Global, setting: Setting, tokens: &[Token], kind: Kind) -> Result<(Address, &[Token]), ReadFault>
+    ensures { Gives (λ x. (x.0, x.1.now)) result (to_name_at setting kind tokens.now) }
 {
     let (name, rest) = own_name(alloc, tokens)?;
-    let (orders, rest) = orders(alloc, rest)?;
+    let (orders, rest) = orders(alloc, setting, rest)?;
     let target = Target::Instance(name);
     Ok((
         Address {
@@ -59,8 +87,8 @@ fn to_name(alloc: Global, tokens: &[Token], kind: Kind) -> Result<(Address, &[To
 }
 
 /// A gate behind `via`, where it is named.
-fn via(alloc: Global, tokens: &[Token]) -> Result<(Option<Name>, &[Token]), ReadFault>
-    ensures { Gives (λ x. (x.0, x.1.now)) result (via_at tokens.now) }
+fn some_gate(alloc: Global, tokens: &[Token]) -> Result<(Option<Name>, &[Token]), ReadFault>
+    ensures { Gives (λ x. (x.0, x.1.now)) result (some_gate_at tokens.now) }
 {
     if starts_with(tokens, "via") {
         let (_via, rest) = word(tokens, "via")?;
@@ -70,13 +98,27 @@ fn via(alloc: Global, tokens: &[Token]) -> Result<(Option<Name>, &[Token]), Read
     Ok((None, tokens))
 }
 
+/// A gate behind `via`, where it is named. A log names none.
+fn via(
+    alloc: Global,
+    setting: Setting,
+    tokens: &[Token],
+) -> Result<(Option<Name>, &[Token]), ReadFault>
+    ensures { Gives (λ x. (x.0, x.1.now)) result (via_at setting tokens.now) }
+{
+    match setting {
+        Setting::Chart => some_gate(alloc, tokens),
+        Setting::Log => Ok((None, tokens)),
+    }
+}
+
 /// The environment as other end, through a gate or none (Z.120, clause 4.5).
-fn to_env(alloc: Global, tokens: &[Token], kind: Kind) -> Result<(Address, &[Token]), ReadFault>
-    ensures { Gives (λ x. (x.0, x.1.now)) result (to_env_at kind tokens.now) }
+fn to_env(alloc: Global, setting: Setting, tokens: &[Token], kind: Kind) -> Result<(Address, &[Token]), ReadFault>
+    ensures { Gives (λ x. (x.0, x.1.now)) result (to_env_at setting kind tokens.now) }
 {
     let (_env, rest) = word(tokens, "env")?;
-    let (gate, rest) = via(alloc, rest)?;
-    let (orders, rest) = orders(alloc, rest)?;
+    let (gate, rest) = via(alloc, setting, rest)?;
+    let (orders, rest) = orders(alloc, setting, rest)?;
     let target = Target::Env(gate);
     Ok((
         Address {
@@ -112,15 +154,16 @@ fn target_of(name: Option<Name>) -> Target
 /// No other end, or one that doesn't take part.
 fn to_lost<'a>(
     alloc: Global,
+    setting: Setting,
     tokens: &'a [Token],
     lost: &str,
     kind: Kind,
 ) -> Result<(Address, &'a [Token]), ReadFault>
-    ensures { Gives (λ x. (x.0, x.1.now)) result (to_lost_at lost.now kind tokens.now) }
+    ensures { Gives (λ x. (x.0, x.1.now)) result (to_lost_at setting lost.now kind tokens.now) }
 {
     let (_lost, rest) = word(tokens, lost)?;
     let (name, rest) = some_name(alloc, rest)?;
-    let (orders, rest) = orders(alloc, rest)?;
+    let (orders, rest) = orders(alloc, setting, rest)?;
     let target = target_of(name);
     Ok((
         Address {
@@ -140,7 +183,7 @@ fn to_gate(alloc: Global, tokens: &[Token], kind: Kind) -> Result<(Address, &[To
     let (name, rest) = own_name(alloc, rest)?;
     let (_via, rest) = word(rest, "via")?;
     let (gate, rest) = own_name(alloc, rest)?;
-    let (orders, rest) = orders(alloc, rest)?;
+    let (orders, rest) = orders(alloc, Setting::Chart, rest)?;
     let target = Target::Gate(name, gate);
     Ok((
         Address {
@@ -152,24 +195,55 @@ fn to_gate(alloc: Global, tokens: &[Token], kind: Kind) -> Result<(Address, &[To
     ))
 }
 
-/// The other end of a message. The word says that it has none (Z.120, clause 4.3).
-pub fn address<'a>(
+/// No other end, or one that doesn't take part, or a gate.
+fn lost_or_gate<'a>(
     alloc: Global,
     tokens: &'a [Token],
     lost: &str,
     kind: Kind,
     lost_kind: Kind,
 ) -> Result<(Address, &'a [Token]), ReadFault>
-    ensures { Gives (λ x. (x.0, x.1.now)) result (address_at lost.now kind lost_kind tokens.now) }
+    ensures { Gives (λ x. (x.0, x.1.now)) result (lost_or_gate_at lost.now kind lost_kind tokens.now) }
 {
-    if starts_with_name(tokens) {
-        return to_name(alloc, tokens, kind);
-    }
-    if starts_with(tokens, "env") {
-        return to_env(alloc, tokens, kind);
-    }
     if starts_with(tokens, lost) {
-        return to_lost(alloc, tokens, lost, lost_kind);
+        return to_lost(alloc, Setting::Chart, tokens, lost, lost_kind);
     }
     to_gate(alloc, tokens, kind)
+}
+
+/// Another end that is no instance and not the environment. A log has no gates.
+fn apart_address<'a>(
+    alloc: Global,
+    setting: Setting,
+    tokens: &'a [Token],
+    lost: &str,
+    kind: Kind,
+    lost_kind: Kind,
+) -> Result<(Address, &'a [Token]), ReadFault>
+    ensures { Gives (λ x. (x.0, x.1.now)) result (apart_address_at setting lost.now kind lost_kind tokens.now) }
+{
+    match setting {
+        Setting::Chart => lost_or_gate(alloc, tokens, lost, kind, lost_kind),
+        Setting::Log => to_lost(alloc, Setting::Log, tokens, lost, lost_kind),
+    }
+}
+
+/// The other end of a message. The word says that it has none (Z.120, clause 4.3).
+pub fn address<'a>(
+    alloc: Global,
+    setting: Setting,
+    tokens: &'a [Token],
+    lost: &str,
+    kind: Kind,
+    lost_kind: Kind,
+) -> Result<(Address, &'a [Token]), ReadFault>
+    ensures { Gives (λ x. (x.0, x.1.now)) result (address_at setting lost.now kind lost_kind tokens.now) }
+{
+    if starts_with_name(tokens) {
+        return to_name(alloc, setting, tokens, kind);
+    }
+    if starts_with(tokens, "env") {
+        return to_env(alloc, setting, tokens, kind);
+    }
+    apart_address(alloc, setting, tokens, lost, kind, lost_kind)
 }

@@ -1,6 +1,15 @@
 use msc_base::{Kind, Names};
 use msc_tree::Target;
 
+/// Where an event is written.
+#[derive(Clone, Copy, Debug, PartialEq, Eq)]
+pub enum Setting {
+    /// In a chart, where it may have orders and gates.
+    Chart,
+    /// On a line of a log, where it has neither.
+    Log,
+}
+
 /// The events that an event comes before, and those that it comes after (Z.120, clause 4.6).
 #[derive(Drop)]
 pub struct Orders {

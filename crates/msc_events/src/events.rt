@@ -5,6 +5,7 @@ ghost use Rattle.msc_events.specs.Events.{tagged};
 ghost use Rattle.msc_events.specs.EventReaders.{label_at, some_label_at, single_at, single_words, timing_words, singles_at, coregion_end_at, coregion_at, stop_at};
 
 use crate::act::act;
+use crate::event_parts::Setting;
 use msc_base::{Items, Name, Place};
 use token_grammar::{ReadFault, ending, own_name, starts_with, starts_with_either, word};
 use msc_tokens::Token;
@@ -44,7 +45,7 @@ pub fn single(alloc: Global, tokens: &[Token]) -> Result<(RawEvent, &[Token]), R
     ensures { Gives (λ x. (x.0, x.1.now)) result (single_at tokens.now) }
 {
     let (event_name, rest) = some_label(alloc, tokens)?;
-    let (event, rest) = act(alloc, rest)?;
+    let (event, rest) = act(alloc, Setting::Chart, rest)?;
     Ok((with_label(event_name, event), rest))
 }
 

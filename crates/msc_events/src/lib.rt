@@ -1,7 +1,7 @@
 //! What of a chart has no nesting: the heading, declarations, single events, coregions, conditions, shared lists and
-//! joins.
+//! joins; and the event of a line of a log, by the same productions.
 //!
-//! `specs/` has the productions, line by line.
+//! `specs/` has the productions, line by line. The readers, `specs/*Readers.antt`, follow the code.
 #![tactic(auto)]
 
 mod act;
@@ -13,6 +13,8 @@ mod head;
 mod head_parts;
 mod joining;
 mod laws;
+mod log_event;
+mod log_text;
 mod shared;
 
 pub use declaration::{decl, declared, decls, heading};
@@ -21,4 +23,6 @@ pub use head::heads;
 pub use head_parts::Heads;
 pub use joining::joins;
 pub use laws::{declarations_are_exact, events_are_exact, shared_parts_are_exact};
+pub use log_event::parse_event;
+pub use log_text::parse_text;
 pub use shared::{condition, shared_in};

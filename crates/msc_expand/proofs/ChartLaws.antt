@@ -16,6 +16,7 @@ use Rattle.msc_base.specs.declared.label.Kind.TheVariants as kind
 use Rattle.msc_base.specs.declared.label.Far.{Far}
 use Rattle.msc_base.specs.declared.label.Far.TheVariants.{Nobody, Env, Instance}
 use Rattle.msc_base.specs.declared.place.Place.{Place}
+use Rattle.msc_tree.specs.declared.event.Direction.TheVariants.{Out, In}
 use Rattle.msc_expand.specs.declared.outline.Outline.{Outline}
 use Rattle.msc_expand.specs.declared.outline.WovenEvent.{WovenEvent}
 use Rattle.msc_expand.specs.declared.plain_chart.PlainChart.{PlainChart}
@@ -29,7 +30,7 @@ use Rattle.msc_expand.proofs.PairLaws.{one_mate, one_pairing, not_both}
 
 -- ---- ways
 
-output_way : (k : Kind) (f : Far) → way_by k f ≡ Some true → k ≡ Output
+output_way : (k : Kind) (f : Far) → way_by k f ≡ Some Out → k ≡ Output
 output_way Output (Instance n) h = refl
 output_way Output Env h = cc
 output_way Output Nobody h = cc
@@ -44,7 +45,7 @@ output_way kind.TimerStop f h = cc
 output_way kind.Timeout f h = cc
 output_way kind.Create f h = cc
 
-input_way : (k : Kind) (f : Far) → way_by k f ≡ Some false → k ≡ Input
+input_way : (k : Kind) (f : Far) → way_by k f ≡ Some In → k ≡ Input
 input_way Input (Instance n) h = refl
 input_way Input Env h = cc
 input_way Input Nobody h = cc

@@ -4,10 +4,11 @@ use Rattle.msc_base.specs.declared.place.Place.{Place}
 use Rattle.msc_rules.specs.FirstFaults.{IsBest, fault_of, earlier_of}
 use Rattle.msc_base.specs.Places.{IsLeast}
 use Rattle.msc_rules.proofs.Joining.{best_of_one, best_with}
-use Rattle.msc_expand.specs.declared.check.Check.{Check}
-use Rattle.msc_expand.specs.declared.check.Check.TheVariants.{Charts, Instances, NamedTwice, Undeclared, Size, Total, Unmatched, Early}
+use Rattle.msc_rules.specs.declared.rule.Rule.{Rule}
+use Rattle.msc_rules.specs.declared.rule.Rule.TheVariants.{Charts, Instances, NamedTwice, Undeclared, Size, Total, Unmatched, Cyclic}
 use Rattle.msc_expand.specs.declared.outline.Outline.{Outline}
-use Rattle.msc_expand.specs.Acceptance.{number_of, BreaksOf}
+use Rattle.msc_rules.specs.Rules.{number_of}
+use Rattle.msc_expand.specs.Acceptance.{BreaksOf}
 use Rattle.msc_expand.specs.Deciding.{limits, names, sizes, messages, inputs}
 use Rattle.msc_expand.specs.Lonely.{AllPartners, all_lonely, all_early}
 use Rattle.msc_expand.specs.Rules.{IsAmong, earliest_of, chart_places, instance_places, twice_places, undeclared_places, size_places, total_places, HasUnmatched, HasEarly}
@@ -40,7 +41,7 @@ messages_best outlines lists a are e =
     (least_same (IsAmong (all_lonely outlines lists)) (HasUnmatched outlines) a (λ q h. has_unmatched outlines lists q are h) (λ q h. unmatched_has outlines lists q are h) (least_of (all_lonely outlines lists) a e))
 
 pub inputs_best : (outlines : List Outline) (lists : List (List ℕ)) (a : Option Place) → AllPartners outlines lists → a ≡ earliest_of None (all_early outlines lists)
-    → IsBest number_of (BreaksOf outlines) inputs (fault_of Early a)
+    → IsBest number_of (BreaksOf outlines) inputs (fault_of Cyclic a)
 inputs_best outlines lists a are e =
-    best_of_one number_of (BreaksOf outlines) Early a
+    best_of_one number_of (BreaksOf outlines) Cyclic a
     (least_same (IsAmong (all_early outlines lists)) (HasEarly outlines) a (λ q h. has_early outlines lists q are h) (λ q h. early_has outlines lists q are h) (least_of (all_early outlines lists) a e))

@@ -17,5 +17,4 @@ pub mod Seen
 pub mod SettleLaws
 pub mod SoundLaws
 pub mod Tables
-pub mod Texts
 pub mod Walks

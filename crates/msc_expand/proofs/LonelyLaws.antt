@@ -4,6 +4,8 @@ use Rattle.std.proofs.lemmas.Bool.{cases_eq, cases_lt}
 use Rattle.std.proofs.lemmas.Bool.Decides.{nat_tests}
 use Rattle.std.proofs.lemmas.Option.{slice_get_within}
 use Rattle.msc_base.specs.declared.place.Place.{Place}
+use Rattle.msc_tree.specs.declared.event.Direction.{Direction}
+use Rattle.msc_tree.specs.declared.event.Direction.TheVariants.{Out, In}
 use Rattle.msc_expand.specs.declared.outline.Outline.{Outline}
 use Rattle.msc_expand.specs.declared.outline.WovenEvent.{WovenEvent}
 use Rattle.msc_expand.specs.Pairings.{way, IsPaired, IsMate, IsUnmatched, IsEarly, IsPartner, ArePartnersOf}
@@ -76,14 +78,14 @@ early_by n (e ∷ es) [] = refl
 early_by n (e ∷ es) (p ∷ ps) = ap (λ qs. where_so (is_taken (way e) && nat_lt n p) e.place ++ qs) (early_by (suc n) es ps)
 
 -- an event's way, where the tests hold
-message_way : (w : Option Bool) (n p : ℕ) → (is_message w && nat_eq p n) ≡ true → (b : Bool) × (w ≡ Some b) × (p ≡ n)
+message_way : (w : Option Direction) (n p : ℕ) → (is_message w && nat_eq p n) ≡ true → (b : Direction) × (w ≡ Some b) × (p ≡ n)
 message_way None n p h = cc
 message_way (Some b) n p h = (b, refl, grind (arith, nat_tests))
 
-taken_way : (w : Option Bool) (n p : ℕ) → (is_taken w && nat_lt n p) ≡ true → (w ≡ Some false) × (n < p)
+taken_way : (w : Option Direction) (n p : ℕ) → (is_taken w && nat_lt n p) ≡ true → (w ≡ Some In) × (n < p)
 taken_way None n p h = cc
-taken_way (Some true) n p h = cc
-taken_way (Some false) n p h = (refl, grind (arith, nat_tests))
+taken_way (Some Out) n p h = cc
+taken_way (Some In) n p h = (refl, grind (arith, nat_tests))
 
 -- no event is paired with itself
 not_itself : (events : List WovenEvent) (p : ℕ) → IsMate events p p → ⊥
@@ -100,7 +102,7 @@ lonely_unmatched events partners q are h =
     record {
       number = f.number;
       event = f.event;
-      puts = w.0;
+      direction = w.0;
       event_at = f.event_at;
       message = w.1;
       alone = λ r m. elim partner [ inl mate ↦ not_itself events f.number (subst (λ (x : ℕ). IsMate events f.number x) own mate) | inr none ↦ none.1 r m ];
@@ -115,7 +117,7 @@ unmatched_lonely events partners q are u =
       | inl mate ↦ absurd (u.alone p.0 mate)
       | inr none ↦
           let eq : nat_eq p.0 (0 + u.number) ≡ true = let e = none.0 in grind (arith, nat_tests) in
-          let so : lonely_test u.event (0 + u.number) p.0 ≡ true = ap₂ (λ (w : Option Bool) (b : Bool). is_message w && b) u.message eq in
+          let so : lonely_test u.event (0 + u.number) p.0 ≡ true = ap₂ (λ (w : Option Direction) (b : Bool). is_message w && b) u.message eq in
           let found : IsAmong (places_by lonely_test 0 events partners) u.event.place = at_found lonely_test 0 events partners u.number p.0 u.event u.event_at p.1 so in
           subst (λ (ps : List Place). IsAmong ps q) (sym (lonely_by 0 events partners)) (subst (λ (x : Place). IsAmong (places_by lonely_test 0 events partners) x) u.there found)
     ]
@@ -131,7 +133,7 @@ early_early events partners q are h =
         | inl a ↦
             let both : Some f.event ≡ Some a.output = sym f.event_at ∙ a.output_at in
             let one : f.event ≡ a.output = cc in
-            let ways : Some false ≡ Some true = sym w.0 ∙ ap way one ∙ a.puts in absurd cc
+            let ways : Some In ≡ Some Out = sym w.0 ∙ ap way one ∙ a.puts in absurd cc
         | inr a ↦ record { number = f.number; output = f.partner; event = f.event; event_at = f.event_at; paired = a; before = lt; there = f.there }
       ]
       | inr none ↦ absurd (omega (arith, none.0, lt))
@@ -147,8 +149,8 @@ is_early_found events partners q are u =
           let lt : nat_lt (0 + u.number) p.0 ≡ true = let b = u.before in grind (arith, nat_tests) in
           let both : Some u.event ≡ Some u.paired.input = sym u.event_at ∙ u.paired.input_at in
           let one : u.event ≡ u.paired.input = cc in
-          let goes : way u.event ≡ Some false = ap way one ∙ u.paired.takes in
-          let so : early_test u.event (0 + u.number) p.0 ≡ true = ap₂ (λ (w : Option Bool) (b : Bool). is_taken w && b) goes lt in
+          let goes : way u.event ≡ Some In = ap way one ∙ u.paired.takes in
+          let so : early_test u.event (0 + u.number) p.0 ≡ true = ap₂ (λ (w : Option Direction) (b : Bool). is_taken w && b) goes lt in
           let found : IsAmong (places_by early_test 0 events partners) u.event.place = at_found early_test 0 events partners u.number p.0 u.event u.event_at p.1 so in
           subst (λ (ps : List Place). IsAmong ps q) (sym (early_by 0 events partners)) (subst (λ (x : Place). IsAmong (places_by early_test 0 events partners) x) u.there found)
       | inr none ↦ absurd (none.1 u.output (inr u.paired))

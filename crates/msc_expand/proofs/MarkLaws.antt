@@ -7,7 +7,8 @@ use Rattle.msc_expand.specs.declared.outline.WovenEvent.{WovenEvent}
 use Rattle.msc_expand.specs.declared.pairing.Mark.{Mark}
 use Rattle.msc_expand.specs.declared.pairing.MessageKey.{MessageKey}
 use Rattle.msc_expand.specs.contracts.pairing.MessageKeyPartialEq.TheImpl.{eq-value}
-use Rattle.msc_expand.specs.Pairings.{Key, way, key_of, is_key, bool_eq, goes, ends_of}
+use Rattle.msc_tree.specs.declared.event.Direction.{Direction}
+use Rattle.msc_expand.specs.Pairings.{Key, way, key_of, is_key, goes, ends_of}
 use Rattle.msc_expand.specs.Marks.{IsMark, AreMarks, AreMarked, KeepsNumbers, key_view, is_end}
 use Rattle.msc_expand.proofs.Counts.{count_cons}
 use Rattle.msc_expand.proofs.Keys.{same_test, key_same}
@@ -69,12 +70,12 @@ event_at keys (e ∷ es) (k ∷ ms) zero m h at = let is : k ≡ m = cc in (e, r
 event_at keys (e ∷ es) (k ∷ ms) (suc i) m h at = event_at keys es ms i m h.1 at
 
 -- the test of an event is that of its mark
-tested : (keys : List Key) (b : Bool) (k : Key) (c : ℕ) (e : WovenEvent) (m : Option Mark) → position (is_key k) keys ≡ Some c → IsMark keys e m
+tested : (keys : List Key) (b : Direction) (k : Key) (c : ℕ) (e : WovenEvent) (m : Option Mark) → position (is_key k) keys ≡ Some c → IsMark keys e m
     → (goes b (way e) && is_key k (key_of e)) ≡ is_end c b m
 tested keys b k c e None at h = ap (λ w. goes b w && is_key k (key_of e)) h
 tested keys b k c e (Some m) at h = ap₂ (λ (x y : Bool). x && y) (ap (goes b) h.0) (same_test keys k (key_of e) c m.class at h.1)
 
-pub counted : (keys : List Key) (b : Bool) (k : Key) (c : ℕ) (n : ℕ) (es : List WovenEvent) (ms : List (Option Mark)) → position (is_key k) keys ≡ Some c
+pub counted : (keys : List Key) (b : Direction) (k : Key) (c : ℕ) (n : ℕ) (es : List WovenEvent) (ms : List (Option Mark)) → position (is_key k) keys ≡ Some c
     → AreMarks keys es ms → ends_of b k (take n es) ≡ count_by (is_end c b) (take n ms)
 counted keys b k c zero es ms at h = refl
 counted keys b k c (suc n) [] [] at h = refl

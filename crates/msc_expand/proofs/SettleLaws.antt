@@ -9,13 +9,13 @@ use Rattle.msc_rules.specs.declared.rule.Rule.{Rule}
 use Rattle.msc_rules.specs.declared.first_fault.Broken.{Broken}
 use Rattle.msc_rules.specs.FirstFaults.{IsFirst}
 use Rattle.msc_base.specs.Places.{IsLeast}
-use Rattle.msc_expand.specs.declared.check.Check.{Check}
-use Rattle.msc_expand.specs.declared.check.Check.TheVariants.{NotBuilt}
+use Rattle.msc_rules.specs.declared.rule.Rule.TheVariants.{NotBuilt}
 use Rattle.msc_expand.specs.declared.deciding.Decision.{Decision}
 use Rattle.msc_expand.specs.declared.deciding.Decision.TheVariants as decision
 use Rattle.msc_expand.specs.declared.outline.Outline.{Outline}
 use Rattle.msc_expand.specs.declared.plain_chart.PlainChart.{PlainChart}
-use Rattle.msc_expand.specs.Acceptance.{number_of, rule_of, Breaks, HasFault, IsAccepted}
+use Rattle.msc_rules.specs.Rules.{number_of}
+use Rattle.msc_expand.specs.Acceptance.{told_as, Breaks, HasFault, IsAccepted}
 use Rattle.msc_expand.specs.Deciding.{IsDecided, IsSettled, all_groups}
 use Rattle.msc_expand.specs.Forms.{not_built_chart}
 use Rattle.msc_expand.specs.Outlines.{outline_of}
@@ -57,14 +57,14 @@ plain_few d charts h = accepted_few d charts.items (plain_accepted d charts h)
 pub plain_faultless : (d : Document) (charts : Vec PlainChart Global) → IsSettled d (decision.Plain charts) → (rule : Rule) (place : Place) → HasFault d rule place → ⊥
 plain_faultless d charts h rule place f = accepted_faultless d charts.items (plain_accepted d charts h) rule place f
 
-pub faulty_fault : (d : Document) (fault : Broken Check) → IsSettled d (decision.Faulty fault) → HasFault d (rule_of fault.rule) fault.place
+pub faulty_fault : (d : Document) (fault : Broken Rule) → IsSettled d (decision.Faulty fault) → HasFault d (told_as fault.rule) fault.place
 faulty_fault d fault h = has_fault d fault h
 
-pub faulty_only : (d : Document) (fault : Broken Check) → IsSettled d (decision.Faulty fault) → (other : Rule) (there : Place) → HasFault d other there → (other ≡ rule_of fault.rule) × (there ≡ fault.place)
-faulty_only d fault h other there f = only_fault d (rule_of fault.rule) other fault.place there (has_fault d fault h) f
+pub faulty_only : (d : Document) (fault : Broken Rule) → IsSettled d (decision.Faulty fault) → (other : Rule) (there : Place) → HasFault d other there → (other ≡ told_as fault.rule) × (there ≡ fault.place)
+faulty_only d fault h other there f = only_fault d (told_as fault.rule) other fault.place there (has_fault d fault h) f
 
-pub faulty_none : (d : Document) (fault : Broken Check) → IsSettled d (decision.Faulty fault) → (charts : List PlainChart) → IsAccepted d charts → ⊥
-faulty_none d fault h charts a = none_accepted d (rule_of fault.rule) fault.place (has_fault d fault h) charts a
+pub faulty_none : (d : Document) (fault : Broken Rule) → IsSettled d (decision.Faulty fault) → (charts : List PlainChart) → IsAccepted d charts → ⊥
+faulty_none d fault h charts a = none_accepted d (told_as fault.rule) fault.place (has_fault d fault h) charts a
 
 -- the outlines of charts as they are read
 pub outlines_are : (charts : List RawChart) → map (λ c. outline_of (chart_view c)) charts ≡ map outline_of (map chart_view charts)

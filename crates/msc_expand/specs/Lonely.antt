@@ -1,18 +1,21 @@
 -- Where events stand without partner, and inputs before their outputs, by the partners.
 use Rattle.std.specs.Prelude.{◌≡◌, ⊤, ℕ, suc, Bool, true, false, not, ◌&&◌, nat_eq, nat_lt, List, [], ◌∷◌, ◌++◌, Option, Some, None}
 use Rattle.msc_base.specs.declared.place.Place.{Place}
+use Rattle.msc_tree.specs.declared.event.Direction.{Direction}
+use Rattle.msc_tree.specs.declared.event.Direction.TheVariants.{Out, In}
 use Rattle.msc_expand.specs.declared.outline.Outline.{Outline}
 use Rattle.msc_expand.specs.declared.outline.WovenEvent.{WovenEvent}
 use Rattle.msc_expand.specs.Pairings.{way, ArePartnersOf}
 use Rattle.msc_expand.specs.Rules.{where_so}
 
-abbrev pub is_message : Option Bool → Bool
+abbrev pub is_message : Option Direction → Bool
 is_message None = false
-is_message (Some puts) = true
+is_message (Some direction) = true
 
-abbrev pub is_taken : Option Bool → Bool
+abbrev pub is_taken : Option Direction → Bool
 is_taken None = false
-is_taken (Some puts) = not puts
+is_taken (Some Out) = false
+is_taken (Some In) = true
 
 -- from this number on, where the partner of an output or input is itself
 abbrev pub lonely_places : ℕ → List WovenEvent → List ℕ → List Place

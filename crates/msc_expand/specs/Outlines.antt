@@ -2,48 +2,22 @@
 -- that share a condition.
 use Rattle.std.specs.Prelude.{ℕ, List, [], ◌∷◌, ◌++◌, map, flat_map, Option, Some, None, slice_get}
 use Rattle.msc_base.specs.NameTables.{with_name}
-use Rattle.msc_base.specs.declared.label.Far.{Far}
-use Rattle.msc_base.specs.declared.label.Far.TheVariants.{Nobody, Env, Instance}
 use Rattle.msc_tree.specs.declared.chart.Cover.{Cover}
 use Rattle.msc_tree.specs.declared.chart.Cover.TheVariants.{All, Listed}
 use Rattle.msc_tree.specs.declared.chart.Decl.{Decl}
 use Rattle.msc_tree.specs.declared.event.RawEvent.{RawEvent}
-use Rattle.msc_tree.specs.declared.event.Target.{Target}
-use Rattle.msc_tree.specs.declared.event.Target.TheVariants as target
 use Rattle.msc_tree.specs.Charts.{Chart, Content, Basic, HighLevel}
+use Rattle.msc_tree.specs.Labels.{label_of}
 use Rattle.msc_tree.specs.Statements.{Item, Items, no_items, item_and, placed, Form, Single, Condition, Statement, Column, Covered, Heading, Ended}
-use Rattle.msc_grammar.specs.EventGrammar.{in_parentheses, with_commas}
 use Rattle.msc_expand.specs.declared.outline.Outline.{Outline}
 use Rattle.msc_expand.specs.declared.outline.SharedList.{SharedList}
 use Rattle.msc_expand.specs.declared.outline.WovenEvent.{WovenEvent}
 
 -- ---- events
 
--- what stands inside the parentheses
-abbrev pub inside_text : List (List ℕ) → List ℕ
-inside_text [] = []
-inside_text (item ∷ items) = item ++ with_commas items
-
--- a list in parentheses, where there is one, as it stands behind the name of a message or timer
-abbrev pub list_text : Option (List (List ℕ)) → List ℕ
-list_text None = []
-list_text (Some []) = in_parentheses None
-list_text (Some (item ∷ items)) = in_parentheses (Some (item, items))
-
--- the far end as a label has it; gates aren't built
-abbrev pub far_end : Target → Far
-far_end target.Nobody = Nobody
-far_end (target.Env gate) = Env
-far_end (target.Instance instance_name) = Instance instance_name
-far_end (target.Gate reference gate) = Env
-
--- an event in the column of the instance. The pairing name is no part of its label
+-- an event in the column of the instance
 abbrev pub event_of : List ℕ → RawEvent → WovenEvent
-event_of at e = record {
-  label = record { at = at; kind = e.kind; text = e.text ++ list_text e.parameters; far = far_end e.target };
-  pairing = e.pairing;
-  place = e.place;
-}
+event_of at e = record { label = label_of at e; pairing = e.pairing; place = e.place }
 
 abbrev pub form_events : List ℕ → Form → List WovenEvent
 form_events at (Single e) = event_of at e ∷ []

@@ -1,5 +1,8 @@
 -- Which input takes in what an output puts out: of each message with its pairing name, the k-th input takes the k-th output.
 use Rattle.std.specs.Prelude.{◌≡◌, ◌<◌, ◌⊎◌, ℕ, Bool, true, false, not, ◌&&◌, List, [], length, take, count_by, Option, Some, None, slice_get}
+use Rattle.msc_tree.specs.declared.event.Direction.{Direction}
+use Rattle.msc_tree.specs.declared.event.Direction.TheVariants.{Out, In}
+use Rattle.msc_tree.specs.Directions.{is_direction}
 use Rattle.std.specs.Str.{bytes_eq}
 use Rattle.msc_base.specs.declared.label.Far.{Far}
 use Rattle.msc_base.specs.declared.label.Far.TheVariants.{Nobody, Env, Instance}
@@ -14,22 +17,18 @@ far_name (Instance name) = name
 far_name Env = []
 far_name Nobody = []
 
--- true for an output to an instance, false for an input from one, and none for other events
-abbrev pub way_by : Kind → Far → Option Bool
-way_by Output (Instance name) = Some true
-way_by Input (Instance name) = Some false
+-- the direction of an output to an instance and of an input from one, and none for other events
+abbrev pub way_by : Kind → Far → Option Direction
+way_by Output (Instance name) = Some Out
+way_by Input (Instance name) = Some In
 way_by _ _ = None
 
-abbrev pub way : WovenEvent → Option Bool
+abbrev pub way : WovenEvent → Option Direction
 way e = way_by e.label.kind e.label.far
 
-abbrev pub bool_eq : Bool → Bool → Bool
-bool_eq true b = b
-bool_eq false b = not b
-
-abbrev pub goes : Bool → Option Bool → Bool
-goes puts None = false
-goes puts (Some b) = bool_eq puts b
+abbrev pub goes : Direction → Option Direction → Bool
+goes direction None = false
+goes direction (Some other) = is_direction direction other
 
 -- what an output and the input that takes it in have in common; where there is no pairing name it is empty, and no name is
 pub record Key : Type 0 where
@@ -53,8 +52,8 @@ abbrev pub is_key : Key → Key → Bool
 is_key k l = bytes_eq k.sender l.sender && (bytes_eq k.receiver l.receiver && (bytes_eq k.text l.text && bytes_eq k.pairing l.pairing))
 
 -- how many of the events put out, or take in, what has this key
-abbrev pub ends_of : Bool → Key → List WovenEvent → ℕ
-ends_of puts k events = count_by (λ e. goes puts (way e) && is_key k (key_of e)) events
+abbrev pub ends_of : Direction → Key → List WovenEvent → ℕ
+ends_of direction k events = count_by (λ e. goes direction (way e) && is_key k (key_of e)) events
 
 -- the events at p and q are an output and an input of one key, and for some k each is the k-th of its direction
 pub record IsPaired (events : List WovenEvent) (p q : ℕ) : Type 0 where
@@ -62,10 +61,10 @@ pub record IsPaired (events : List WovenEvent) (p q : ℕ) : Type 0 where
   pub input : WovenEvent
   pub output_at : slice_get events p ≡ Some output
   pub input_at : slice_get events q ≡ Some input
-  pub puts : way output ≡ Some true
-  pub takes : way input ≡ Some false
+  pub puts : way output ≡ Some Out
+  pub takes : way input ≡ Some In
   pub same : key_of output ≡ key_of input
-  pub ranked : ends_of true (key_of output) (take p events) ≡ ends_of false (key_of input) (take q events)
+  pub ranked : ends_of Out (key_of output) (take p events) ≡ ends_of In (key_of input) (take q events)
 
 -- the event at p is paired with that at q
 abbrev pub IsMate : List WovenEvent → ℕ → ℕ → Type 0
@@ -75,9 +74,9 @@ IsMate events p q = IsPaired events p q ⊎ IsPaired events q p
 pub record IsUnmatched (events : List WovenEvent) (place : Place) : Type 0 where
   pub number : ℕ
   pub event : WovenEvent
-  pub puts : Bool
+  pub direction : Direction
   pub event_at : slice_get events number ≡ Some event
-  pub message : way event ≡ Some puts
+  pub message : way event ≡ Some direction
   pub alone : (q : ℕ) → IsMate events number q → ⊥
   pub there : event.place ≡ place
 

@@ -1,18 +1,27 @@
 ghost use Rattle.std.specs.Prelude.{◌≡◌, All, IfOk, IsErrOf, List};
 ghost use Rattle.msc_tree.specs.Views.{document_view};
-ghost use Rattle.msc_expand.specs.Acceptance.{HasFault, IsAccepted, rule_of};
+ghost use Rattle.msc_expand.specs.Acceptance.{HasFault, IsAccepted, told_as};
 ghost use Rattle.msc_expand.specs.Deciding.{IsSettled};
 ghost use Rattle.msc_expand.specs.Plain.{IsPlain};
 
 use crate::deciding::{Decision, decide};
 use crate::forms::first_not_built;
 use crate::reading::outlines;
-use crate::{Accepted, Check, DocFault, PlainChart};
-use msc_rules::Broken;
+use crate::{Accepted, DocFault, PlainChart};
 use msc_base::{NoMemory, Place};
-use msc_rules::Rule;
+use msc_rules::{Broken, Rule};
 use msc_tree::RawDocument;
 use std::alloc::Global;
+
+/// As what a broken rule is told: an input before its output isn't built yet.
+fn told_as(rule: Rule) -> Rule
+    ensures { result ≡ told_as rule }
+{
+    match rule {
+        Rule::Cyclic => Rule::NotBuilt,
+        other => other,
+    }
+}
 
 /// What the document comes to.
 fn settle(alloc: Global, raw: &RawDocument) -> Result<Decision, NoMemory>
@@ -21,7 +30,7 @@ fn settle(alloc: Global, raw: &RawDocument) -> Result<Decision, NoMemory>
     let charts = raw.charts.as_slice();
     if let Some(place) = first_not_built(charts) {
         return Ok(Decision::Faulty(Broken {
-            rule: Check::NotBuilt,
+            rule: Rule::NotBuilt,
             place,
         }));
     }
@@ -43,7 +52,7 @@ pub fn accept(alloc: Global, raw: &RawDocument) -> Result<Accepted, DocFault>
     match settle(alloc, raw) {
         Ok(Decision::Plain(charts)) => Ok(Accepted::of_charts(charts)),
         Ok(Decision::Faulty(fault)) => Err(DocFault::Refused {
-            rule: fault.rule.rule(),
+            rule: told_as(fault.rule),
             place: fault.place,
         }),
         Err(NoMemory) => Err(DocFault::NoMemory),

@@ -1,6 +1,7 @@
 ghost use Rattle.std.specs.Prelude.{◌≡◌, IfOk, map};
 ghost use Rattle.msc_rules.specs.FirstFaults.{IsBest};
-ghost use Rattle.msc_expand.specs.Acceptance.{ArePlainOf, BreaksOf, IsPlainOf, number_of};
+ghost use Rattle.msc_rules.specs.Rules.{number_of};
+ghost use Rattle.msc_expand.specs.Acceptance.{ArePlainOf, BreaksOf, IsPlainOf};
 ghost use Rattle.msc_expand.specs.Deciding.{IsDecided, inputs, limits, messages, names, sizes};
 ghost use Rattle.msc_expand.specs.Lonely.{AllPartners};
 ghost use Rattle.msc_expand.specs.Pairings.{ArePartnersOf};
@@ -10,9 +11,9 @@ use crate::messages::{all_partners, early, list_of, unmatched};
 use crate::names::{second_chart, undeclared};
 use crate::reading::copy_names;
 use crate::sizes::{large_chart, large_total};
-use crate::{Check, Outline, PlainChart, WovenEvent};
-use msc_rules::{Broken, broken_at, earlier_fault};
+use crate::{Outline, PlainChart, WovenEvent};
 use msc_base::{Items, LabelList, NoMemory, NumberList};
+use msc_rules::{Broken, Rule, broken_at, earlier_fault};
 use std::alloc::Global;
 
 /// What a document comes to.
@@ -21,53 +22,53 @@ pub enum Decision {
     /// Its charts.
     Plain(Vec<PlainChart>),
     /// Its first fault.
-    Faulty(Broken<Check>),
+    Faulty(Broken<Rule>),
 }
 
 /// The first fault by the limits.
-fn limit_fault(alloc: Global, outlines: &[Outline]) -> Result<Option<Broken<Check>>, NoMemory>
+fn limit_fault(alloc: Global, outlines: &[Outline]) -> Result<Option<Broken<Rule>>, NoMemory>
     ensures { IfOk result (IsBest number_of (BreaksOf outlines.now) limits) }
 {
-    let charts = broken_at(Check::Charts, further_chart(outlines));
+    let charts = broken_at(Rule::Charts, further_chart(outlines));
     let place = further_instance(alloc, outlines)?;
-    let instances = broken_at(Check::Instances, place);
+    let instances = broken_at(Rule::Instances, place);
     Ok(earlier_fault(charts, instances))
 }
 
 /// The first fault of names.
-fn name_fault(alloc: Global, outlines: &[Outline]) -> Result<Option<Broken<Check>>, NoMemory>
+fn name_fault(alloc: Global, outlines: &[Outline]) -> Result<Option<Broken<Rule>>, NoMemory>
     ensures { IfOk result (IsBest number_of (BreaksOf outlines.now) names) }
 {
     let again = second_chart(alloc, outlines)?;
-    let twice = broken_at(Check::NamedTwice, again);
+    let twice = broken_at(Rule::NamedTwice, again);
     let place = undeclared(alloc, outlines)?;
-    let other = broken_at(Check::Undeclared, place);
+    let other = broken_at(Rule::Undeclared, place);
     Ok(earlier_fault(twice, other))
 }
 
 /// The first fault by sizes.
-fn size_fault(outlines: &[Outline]) -> Option<Broken<Check>>
+fn size_fault(outlines: &[Outline]) -> Option<Broken<Rule>>
     ensures { IsBest number_of (BreaksOf outlines.now) sizes result }
 {
-    let one = broken_at(Check::Size, large_chart(outlines));
-    let all = broken_at(Check::Total, large_total(outlines));
+    let one = broken_at(Rule::Size, large_chart(outlines));
+    let all = broken_at(Rule::Total, large_total(outlines));
     earlier_fault(one, all)
 }
 
 /// The first message without an end.
-fn message_fault(outlines: &[Outline], lists: &[NumberList]) -> Option<Broken<Check>>
+fn message_fault(outlines: &[Outline], lists: &[NumberList]) -> Option<Broken<Rule>>
     requires { AllPartners outlines.now lists.now }
     ensures { IsBest number_of (BreaksOf outlines.now) messages result }
 {
-    broken_at(Check::Unmatched, unmatched(outlines, lists))
+    broken_at(Rule::Unmatched, unmatched(outlines, lists))
 }
 
 /// The first input that stands before its output.
-fn input_fault(outlines: &[Outline], lists: &[NumberList]) -> Option<Broken<Check>>
+fn input_fault(outlines: &[Outline], lists: &[NumberList]) -> Option<Broken<Rule>>
     requires { AllPartners outlines.now lists.now }
     ensures { IsBest number_of (BreaksOf outlines.now) inputs result }
 {
-    broken_at(Check::Early, early(outlines, lists))
+    broken_at(Rule::Cyclic, early(outlines, lists))
 }
 
 /// The labels of the events.

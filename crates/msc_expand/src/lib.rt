@@ -5,7 +5,6 @@
 
 mod acceptance;
 mod accepted;
-mod check;
 mod deciding;
 mod forms;
 mod instances;
@@ -22,6 +21,5 @@ mod woven;
 
 pub use acceptance::accept;
 pub use accepted::{Accepted, DocFault};
-pub use check::Check;
 pub use outline::{Outline, SharedList, WovenEvent};
 pub use plain_chart::PlainChart;

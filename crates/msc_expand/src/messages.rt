@@ -7,6 +7,7 @@ use crate::limits::at_place;
 use crate::pairing::{partners_of, way_of};
 use crate::{Outline, WovenEvent};
 use msc_base::{Items, NoMemory, NumberList, Place};
+use msc_tree::Direction;
 use std::alloc::Global;
 
 /// The numbers as a list.
@@ -55,7 +56,8 @@ fn is_early(event: &WovenEvent, number: usize, partner: u32) -> bool
     ensures { result ≡ (is_taken (way event.now) && nat_lt number partner) }
 {
     match way_of(&event.label) {
-        Some(puts) => !puts && partner as usize > number,
+        Some(Direction::In) => partner as usize > number,
+        Some(Direction::Out) => false,
         None => false,
     }
 }

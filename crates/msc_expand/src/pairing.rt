@@ -6,6 +6,7 @@ use crate::WovenEvent;
 use indexmap::IndexSet;
 use item_order::{Edge, pair_up};
 use msc_base::{Far, Kind, Label, Name, NoMemory};
+use msc_tree::Direction;
 use std::alloc::Global;
 
 /// What an output and the input that takes it in have in common. The pairing name is empty where there is none.
@@ -17,11 +18,11 @@ struct MessageKey {
     pairing: Vec<u8>,
 }
 
-/// What the pairing sees of an event: the number of its key, and whether it puts it out or takes it in.
+/// What the pairing sees of an event: the number of its key, and its direction.
 #[derive(Clone, Copy)]
 struct Mark {
     class: u32,
-    puts: bool,
+    direction: Direction,
 }
 
 /// The marks of a chart's events, and how many classes they have.
@@ -31,13 +32,13 @@ struct Marks {
     classes: u32,
 }
 
-/// True for an output to an instance, false for an input from one, and none for other events.
-pub fn way_of(label: &Label) -> Option<bool>
+/// The direction of an output to an instance and of an input from one, and none for other events.
+pub fn way_of(label: &Label) -> Option<Direction>
     ensures { result ≡ way_by label.now.kind label.now.far }
 {
     match (label.kind, &label.far) {
-        (Kind::Output, Far::Instance(_)) => Some(true),
-        (Kind::Input, Far::Instance(_)) => Some(false),
+        (Kind::Output, Far::Instance(_)) => Some(Direction::Out),
+        (Kind::Input, Far::Instance(_)) => Some(Direction::In),
         _ => None,
     }
 }
@@ -64,28 +65,27 @@ fn name_bytes(name: &Option<Name>) -> &[u8]
 }
 
 /// The key of an output, or of an input.
-fn message_key(alloc: Global, event: &WovenEvent, puts: bool) -> Result<MessageKey, NoMemory>
-    requires { way event.now ≡ Some puts }
+fn message_key(alloc: Global, event: &WovenEvent, direction: Direction) -> Result<MessageKey, NoMemory>
+    requires { way event.now ≡ Some direction }
     ensures { IfOk result (λ key. key_view key ≡ key_of event.now) }
 {
     let at = Vec::from_slice(alloc, event.label.at.bytes())?;
     let far = Vec::from_slice(alloc, far_bytes(&event.label.far))?;
     let text = Vec::from_slice(alloc, event.label.text.bytes())?;
     let pairing = Vec::from_slice(alloc, name_bytes(&event.pairing))?;
-    if puts {
-        Ok(MessageKey {
-            sender: at,
-            receiver: far,
-            text,
-            pairing,
-        })
-    } else {
-        Ok(MessageKey {
-            sender: far,
-            receiver: at,
-            text,
-            pairing,
-        })
+    match direction {
+        Direction::Out => Ok(MessageKey {
+                sender: at,
+                receiver: far,
+                text,
+                pairing,
+            }),
+        Direction::In => Ok(MessageKey {
+                sender: far,
+                receiver: at,
+                text,
+                pairing,
+            }),
     }
 }
 
@@ -98,13 +98,13 @@ fn mark_of(
     ensures mark { IfOk result (IsMark (map key_view keys.new.keys) event.now) }
     ensures kept { KeepsNumbers (map key_view keys.old.keys) (map key_view keys.new.keys) }
 {
-    let Some(puts) = way_of(&event.label) else {
+    let Some(direction) = way_of(&event.label) else {
         return Ok(None);
     };
-    let key = message_key(alloc, event, puts)?;
+    let key = message_key(alloc, event, direction)?;
     let (number, _) = keys.insert_full(key)?;
     let class = number_of(number)?;
-    Ok(Some(Mark { class, puts }))
+    Ok(Some(Mark { class, direction }))
 }
 
 /// The marks of the events.
@@ -125,14 +125,14 @@ fn marks_of(alloc: Global, events: &[WovenEvent]) -> Result<Marks, NoMemory>
 fn push_edge(
     edges: &mut Vec<Edge>,
     mark: &Option<Mark>,
-    puts: bool,
+    direction: Direction,
     number: u32,
 ) -> Result<(), NoMemory>
-    ensures { OnOk result (edges.new.items ≡ edges.old.items ++ end_edges puts number mark.now) }
+    ensures { OnOk result (edges.new.items ≡ edges.old.items ++ end_edges direction number mark.now) }
 {
     match mark {
         Some(mark) => {
-            if mark.puts == puts {
+            if mark.direction.is(direction) {
                 edges.push(Edge {
                     from: mark.class,
                     to: number,
@@ -155,14 +155,14 @@ fn number_of(place: usize) -> Result<u32, NoMemory>
 }
 
 /// The ends of one direction, each leading from its class to its event.
-fn edges_of(alloc: Global, marks: &[Option<Mark>], puts: bool) -> Result<Vec<Edge>, NoMemory>
-    ensures { IfOk result (λ edges. edges.items ≡ edges_from puts 0 marks.now) }
+fn edges_of(alloc: Global, marks: &[Option<Mark>], direction: Direction) -> Result<Vec<Edge>, NoMemory>
+    ensures { IfOk result (λ edges. edges.items ≡ edges_from direction 0 marks.now) }
 {
     let mut edges = Vec::new(alloc);
     let mut place = 0;
     for mark in marks {
         let number = number_of(place)?;
-        push_edge(&mut edges, mark, puts, number)?;
+        push_edge(&mut edges, mark, direction, number)?;
         place += 1;
     }
     Ok(edges)
@@ -173,8 +173,8 @@ fn pairs_of(alloc: Global, events: &[WovenEvent]) -> Result<Vec<Edge>, NoMemory>
     ensures { IfOk result (λ pairs. LeadsPairs events.now pairs.items) }
 {
     let marks = marks_of(alloc, events)?;
-    let outputs = edges_of(alloc, marks.held.as_slice(), true)?;
-    let inputs = edges_of(alloc, marks.held.as_slice(), false)?;
+    let outputs = edges_of(alloc, marks.held.as_slice(), Direction::Out)?;
+    let inputs = edges_of(alloc, marks.held.as_slice(), Direction::In)?;
     pair_up(alloc, marks.classes, outputs.as_slice(), inputs.as_slice())
 }
 

@@ -8,6 +8,8 @@ use Rattle.item_order.specs.declared.edge.Edge.{Edge}
 use Rattle.item_order.specs.Counts.{Leads}
 use Rattle.msc_base.specs.Places.{IsLeast, earliest_if}
 use Rattle.msc_base.proofs.Narrowing.{Narrows, narrows_end, narrows_step}
+use Rattle.msc_tree.specs.declared.event.Direction.{Direction}
+use Rattle.msc_tree.specs.declared.event.Direction.TheVariants.{Out, In}
 use Rattle.msc_instances.specs.Alone.{AreTold, HasEnd, IsAlone, is_message}
 use Rattle.msc_instances.specs.Entries.{PlacedEvent}
 use Rattle.msc_instances.specs.EventViews.{event_view}
@@ -148,7 +150,7 @@ end_of (e ∷ pairs) p (inl h) = (e.to, inl (inl (h, refl)))
 end_of (e ∷ pairs) p (inr (inl h)) = (e.from, inr (inl (refl, h)))
 end_of (e ∷ pairs) p (inr (inr h)) = let r = end_of pairs p h in (r.0, elim r.1 [ inl l ↦ inl (inr l) | inr l ↦ inr (inr l) ])
 
-message_of : (w : Option Bool) → is_message w ≡ true → (b : Bool) × (w ≡ Some b)
+message_of : (w : Option Direction) → is_message w ≡ true → (b : Direction) × (w ≡ Some b)
 message_of None h = absurd (true≢false (sym h))
 message_of (Some b) h = (b, refl)
 
@@ -160,14 +162,14 @@ alone_unmatched events pairs told leads are q h =
     record {
       number = a.number;
       event = a.event;
-      puts = w.0;
+      direction = w.0;
       event_at = a.event_at;
       message = w.1;
       alone = λ r m. elim m [ inl l ↦ no_end (end_left pairs a.number r ((leads a.number r).1 l)) | inr l ↦ no_end (end_right pairs r a.number ((leads r a.number).1 l)) ];
       there = a.there;
     }
 
-is_message_so : (w : Option Bool) (b : Bool) → w ≡ Some b → is_message w ≡ true
+is_message_so : (w : Option Direction) (b : Direction) → w ≡ Some b → is_message w ≡ true
 is_message_so w b e = ap is_message e
 
 false_or_true : (b : Bool) → (b ≡ true → ⊥) → b ≡ false
@@ -179,7 +181,7 @@ unmatched_alone events pairs told leads are q u =
     let untold : get_or told u.number false ≡ false = false_or_true (get_or told u.number false) (λ t.
     let e = end_of pairs u.number ((are.are u.number).0 t) in
     u.alone e.0 (elim e.1 [ inl l ↦ inl ((leads u.number e.0).0 l) | inr l ↦ inr ((leads e.0 u.number).0 l) ])) in
-    subst (IsAlone events told) u.there (alone_at events told u.number u.event are.each u.event_at (is_message_so (way u.event) u.puts u.message) untold)
+    subst (IsAlone events told) u.there (alone_at events told u.number u.event are.each u.event_at (is_message_so (way u.event) u.direction u.message) untold)
 
 least_same : (P Q : Place → Type 0) (b : Option Place) → ((p : Place) → P p → Q p) → ((p : Place) → Q p → P p) → IsLeast P b → IsLeast Q b
 least_same P Q None f g k = λ q h. k q (g q h)

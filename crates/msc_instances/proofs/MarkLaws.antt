@@ -9,6 +9,7 @@ use Rattle.msc_instances.specs.EventViews.{event_view}
 use Rattle.msc_instances.specs.declared.matching.Mark.{Mark}
 use Rattle.msc_instances.specs.declared.matching.MessageKey.{MessageKey}
 use Rattle.msc_instances.specs.contracts.matching.MessageKeyPartialEq.TheImpl.{eq-value}
+use Rattle.msc_tree.specs.declared.event.Direction.{Direction}
 use Rattle.msc_instances.specs.Messages.{Key, way, key_of, is_key, goes, ends_of}
 use Rattle.msc_instances.specs.Marks.{IsMark, AreMarks, KeepsNumbers, key_view, is_end}
 use Rattle.msc_instances.proofs.Counts.{count_cons}
@@ -76,12 +77,12 @@ event_at keys (e ∷ es) (k ∷ ms) zero m h at = let is : k ≡ m = cc in (e, r
 event_at keys (e ∷ es) (k ∷ ms) (suc i) m h at = event_at keys es ms i m h.1 at
 
 -- the test of an event is that of its mark
-tested : (keys : List Key) (b : Bool) (k : Key) (c : ℕ) (e : PlacedEvent) (m : Option Mark) → position (is_key k) keys ≡ Some c → IsMark keys e m
+tested : (keys : List Key) (b : Direction) (k : Key) (c : ℕ) (e : PlacedEvent) (m : Option Mark) → position (is_key k) keys ≡ Some c → IsMark keys e m
     → (goes b (way e) && is_key k (key_of e)) ≡ is_end c b m
 tested keys b k c e None at h = ap (λ w. goes b w && is_key k (key_of e)) h
 tested keys b k c e (Some m) at h = ap₂ (λ (x y : Bool). x && y) (ap (goes b) h.0) (same_test keys k (key_of e) c m.class at h.1)
 
-pub counted : (keys : List Key) (b : Bool) (k : Key) (c : ℕ) (n : ℕ) (es : List PlacedEvent) (ms : List (Option Mark)) → position (is_key k) keys ≡ Some c
+pub counted : (keys : List Key) (b : Direction) (k : Key) (c : ℕ) (n : ℕ) (es : List PlacedEvent) (ms : List (Option Mark)) → position (is_key k) keys ≡ Some c
     → AreMarks keys es ms → ends_of b k (take n es) ≡ count_by (is_end c b) (take n ms)
 counted keys b k c zero es ms at h = refl
 counted keys b k c (suc n) [] [] at h = refl

@@ -1,7 +1,6 @@
 -- Walks over a list that take one item more.
 use Rattle.std.proofs.Common.{◌≡◌, ◌<◌, ◌+◌, ℕ, zero, suc, List, [], ◌∷◌, ◌++◌, drop, map, length, get_or, Some, slice_get, codes, refl, sym, ap, ◌∙◌, arith}
 use Rattle.std.proofs.Math.Seq.{drop-cons}
-use Rattle.msc_instances.specs.Messages.{with_commas}
 
 drop_suc : {X : Type 0} (k : ℕ) (xs : List X) (x : X) → slice_get xs k ≡ Some x → drop k xs ≡ x ∷ drop (suc k) xs
 drop_suc zero [] x is = cc
@@ -27,11 +26,3 @@ pub map_step : {X A : Type 0} (f : X → A) (xs : List X) (k : ℕ) (x : X) (hel
     → longer ++ map f (drop (k + 1) xs) ≡ held ++ map f (drop k xs)
 map_step f xs k x held longer low is e =
     ap (λ l. l ++ map f (drop (k + 1) xs)) e ∙ sym (assoc held (f x ∷ []) (map f (drop (k + 1) xs))) ∙ ap (λ ys. held ++ map f ys) (sym (drop_read xs k x low is))
-
--- one item more behind a comma
-pub comma_step : (items : List (List ℕ)) (k : ℕ) (item held longer : List ℕ) → k < length items → item ≡ get_or items k item → longer ≡ held ++ (codes "," ++ item)
-    → longer ++ with_commas (drop (k + 1) items) ≡ held ++ with_commas (drop k items)
-comma_step items k item held longer low is e =
-    ap (λ t. t ++ with_commas (drop (k + 1) items)) e ∙ sym (assoc held (codes "," ++ item) (with_commas (drop (k + 1) items)))
-    ∙ ap (λ t. held ++ t) (sym (assoc (codes ",") item (with_commas (drop (k + 1) items))))
-    ∙ ap (λ is. held ++ with_commas is) (sym (drop_read items k item low is))

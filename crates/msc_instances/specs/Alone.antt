@@ -2,6 +2,7 @@
 use Rattle.std.specs.Prelude.{◌≡◌, ◌⊎◌, ◌↔◌, ◌&&◌, ℕ, Bool, true, false, not, List, [], ◌∷◌, length, get_or, Option, Some, None}
 use Rattle.msc_base.specs.declared.place.Place.{Place}
 use Rattle.item_order.specs.declared.edge.Edge.{Edge}
+use Rattle.msc_tree.specs.declared.event.Direction.{Direction}
 use Rattle.msc_instances.specs.Entries.{PlacedEvent}
 use Rattle.msc_instances.specs.Messages.{way}
 
@@ -15,9 +16,9 @@ pub record AreTold (pairs : List Edge) (count : ℕ) (told : List Bool) : Type 0
   pub each : length told ≡ count
   pub are : (p : ℕ) → (get_or told p false ≡ true) ↔ HasEnd pairs p
 
-abbrev pub is_message : Option Bool → Bool
+abbrev pub is_message : Option Direction → Bool
 is_message None = false
-is_message (Some puts) = true
+is_message (Some direction) = true
 
 -- at that place an output or an input stands that no pair has
 abbrev pub IsAlone : List PlacedEvent → List Bool → Place → Type 0

@@ -1,11 +1,13 @@
 -- Outputs and inputs by numbers: each key has a class, and a mark says the class and the direction of an event.
 use Rattle.std.specs.Prelude.{◌≡◌, ◌&&◌, ℕ, suc, Bool, false, List, [], ◌∷◌, ◌++◌, length, Option, Some, None, nat_eq, position, if◌then◌else◌}
+use Rattle.msc_tree.specs.declared.event.Direction.{Direction}
+use Rattle.msc_tree.specs.Directions.{is_direction}
 use Rattle.item_order.specs.declared.edge.Edge.{Edge}
 use Rattle.item_order.specs.Counts.{Leads}
 use Rattle.msc_instances.specs.Entries.{PlacedEvent}
 use Rattle.msc_instances.specs.declared.matching.Mark.{Mark}
 use Rattle.msc_instances.specs.declared.matching.MessageKey.{MessageKey}
-use Rattle.msc_instances.specs.Messages.{Key, way, key_of, is_key, bool_eq, IsPaired}
+use Rattle.msc_instances.specs.Messages.{Key, way, key_of, is_key, IsPaired}
 
 -- the plain key that a key stands for
 abbrev pub key_view : MessageKey → Key
@@ -14,7 +16,7 @@ key_view key = record { sender = key.sender.items; receiver = key.receiver.items
 -- the mark says the event's direction, and its class is the place of its key among those known
 abbrev pub IsMark : List Key → PlacedEvent → Option Mark → Type 0
 IsMark keys e None = way e ≡ None
-IsMark keys e (Some m) = (way e ≡ Some m.puts) × (position (is_key (key_of e)) keys ≡ Some m.class)
+IsMark keys e (Some m) = (way e ≡ Some m.direction) × (position (is_key (key_of e)) keys ≡ Some m.class)
 
 -- the marks of the events, one after another
 abbrev pub AreMarks : List Key → List PlacedEvent → List (Option Mark) → Type 0
@@ -34,18 +36,18 @@ abbrev pub KeepsNumbers : List Key → List Key → Type 0
 KeepsNumbers old new = (key : Key) (n : ℕ) → position (is_key key) old ≡ Some n → position (is_key key) new ≡ Some n
 
 -- the mark is of this class and direction
-abbrev pub is_end : ℕ → Bool → Option Mark → Bool
-is_end class puts None = false
-is_end class puts (Some m) = bool_eq puts m.puts && nat_eq m.class class
+abbrev pub is_end : ℕ → Direction → Option Mark → Bool
+is_end class direction None = false
+is_end class direction (Some m) = is_direction direction m.direction && nat_eq m.class class
 
-abbrev pub end_edges : Bool → ℕ → Option Mark → List Edge
-end_edges puts n None = []
-end_edges puts n (Some m) = if bool_eq puts m.puts then (record { from = m.class; to = n }) ∷ [] else []
+abbrev pub end_edges : Direction → ℕ → Option Mark → List Edge
+end_edges direction n None = []
+end_edges direction n (Some m) = if is_direction direction m.direction then (record { from = m.class; to = n }) ∷ [] else []
 
 -- the ends of one direction, each leading from its class to its number, from this number on
-abbrev pub edges_from : Bool → ℕ → List (Option Mark) → List Edge
-edges_from puts n [] = []
-edges_from puts n (m ∷ ms) = end_edges puts n m ++ edges_from puts (suc n) ms
+abbrev pub edges_from : Direction → ℕ → List (Option Mark) → List Edge
+edges_from direction n [] = []
+edges_from direction n (m ∷ ms) = end_edges direction n m ++ edges_from direction (suc n) ms
 
 -- the pairs lead from each output to its input
 abbrev pub LeadsPairs : List PlacedEvent → List Edge → Type 0

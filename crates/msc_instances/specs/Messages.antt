@@ -1,12 +1,16 @@
 -- Which input takes in what an output puts out: of each message with its pairing name, the k-th input takes the k-th output. An
 -- output of a message to j stands in the column of its sender, and the input in that of j, so each is counted in its column.
-use Rattle.std.specs.Prelude.{◌≡◌, ◌⊎◌, ℕ, Bool, true, false, not, ◌&&◌, List, [], ◌∷◌, ◌++◌, take, count_by, Option, Some, None, slice_get, codes}
+use Rattle.std.specs.Prelude.{◌≡◌, ◌⊎◌, ℕ, Bool, true, false, not, ◌&&◌, List, [], ◌∷◌, ◌++◌, take, count_by, Option, Some, None, slice_get}
+use Rattle.msc_tree.specs.declared.event.Direction.{Direction}
+use Rattle.msc_tree.specs.declared.event.Direction.TheVariants.{Out, In}
+use Rattle.msc_tree.specs.Directions.{is_direction}
 use Rattle.std.specs.Str.{bytes_eq}
 use Rattle.msc_base.specs.declared.label.Kind.{Kind}
 use Rattle.msc_base.specs.declared.label.Kind.TheVariants.{Output, Input}
 use Rattle.msc_base.specs.declared.place.Place.{Place}
 use Rattle.msc_tree.specs.declared.event.Target.{Target}
 use Rattle.msc_tree.specs.declared.event.Target.TheVariants.{Nobody, Env, Instance, Gate}
+use Rattle.msc_tree.specs.Labels.{list_text}
 use Rattle.msc_instances.specs.Entries.{PlacedEvent}
 
 -- the instance at the far end
@@ -16,36 +20,20 @@ far_name Nobody = []
 far_name (Env gate) = []
 far_name (Gate reference gate) = []
 
--- true for an output to an instance, false for an input from one, and none for other events
-abbrev pub way_by : Kind → Target → Option Bool
-way_by Output (Instance name) = Some true
-way_by Input (Instance name) = Some false
+-- the direction of an output to an instance and of an input from one, and none for other events
+abbrev pub way_by : Kind → Target → Option Direction
+way_by Output (Instance name) = Some Out
+way_by Input (Instance name) = Some In
 way_by _ _ = None
 
-abbrev pub way : PlacedEvent → Option Bool
+abbrev pub way : PlacedEvent → Option Direction
 way e = way_by e.event.kind e.event.target
 
-abbrev pub bool_eq : Bool → Bool → Bool
-bool_eq true b = b
-bool_eq false b = not b
-
-abbrev pub goes : Bool → Option Bool → Bool
-goes puts None = false
-goes puts (Some b) = bool_eq puts b
+abbrev pub goes : Direction → Option Direction → Bool
+goes direction None = false
+goes direction (Some other) = is_direction direction other
 
 -- ---- texts: a list in parentheses behind the name of a message is part of its text
-
-abbrev pub with_commas : List (List ℕ) → List ℕ
-with_commas [] = []
-with_commas (item ∷ items) = codes "," ++ (item ++ with_commas items)
-
-abbrev pub inside_text : List (List ℕ) → List ℕ
-inside_text [] = []
-inside_text (item ∷ items) = item ++ with_commas items
-
-abbrev pub list_text : Option (List (List ℕ)) → List ℕ
-list_text None = []
-list_text (Some items) = codes "(" ++ (inside_text items ++ codes ")")
 
 -- the tokens of the text, without blanks between them
 abbrev pub text_of : PlacedEvent → List ℕ
@@ -75,8 +63,8 @@ abbrev pub is_key : Key → Key → Bool
 is_key k l = bytes_eq k.sender l.sender && (bytes_eq k.receiver l.receiver && (bytes_eq k.text l.text && bytes_eq k.pairing l.pairing))
 
 -- how many of the events put out, or take in, what has this key
-abbrev pub ends_of : Bool → Key → List PlacedEvent → ℕ
-ends_of puts k events = count_by (λ e. goes puts (way e) && is_key k (key_of e)) events
+abbrev pub ends_of : Direction → Key → List PlacedEvent → ℕ
+ends_of direction k events = count_by (λ e. goes direction (way e) && is_key k (key_of e)) events
 
 -- the events at p and q are an output and an input of one key, and for some k each is the k-th of its direction
 pub record IsPaired (events : List PlacedEvent) (p q : ℕ) : Type 0 where
@@ -84,17 +72,17 @@ pub record IsPaired (events : List PlacedEvent) (p q : ℕ) : Type 0 where
   pub input : PlacedEvent
   pub output_at : slice_get events p ≡ Some output
   pub input_at : slice_get events q ≡ Some input
-  pub puts : way output ≡ Some true
-  pub takes : way input ≡ Some false
+  pub puts : way output ≡ Some Out
+  pub takes : way input ≡ Some In
   pub same : key_of output ≡ key_of input
-  pub ranked : ends_of true (key_of output) (take p events) ≡ ends_of false (key_of input) (take q events)
+  pub ranked : ends_of Out (key_of output) (take p events) ≡ ends_of In (key_of input) (take q events)
 
 -- an output to an instance or an input from one that is paired with none, and where it stands
 pub record IsUnmatched (events : List PlacedEvent) (place : Place) : Type 0 where
   pub number : ℕ
   pub event : PlacedEvent
-  pub puts : Bool
+  pub direction : Direction
   pub event_at : slice_get events number ≡ Some event
-  pub message : way event ≡ Some puts
+  pub message : way event ≡ Some direction
   pub alone : (q : ℕ) → IsPaired events number q ⊎ IsPaired events q number → ⊥
   pub there : event.event.place ≡ place

@@ -1,7 +1,11 @@
 -- The first fault of the names of a chart.
 use Rattle.std.specs.Prelude.{⊤, ◌⊎◌, List, [], Option, None, Some, if◌then◌else◌}
 use Rattle.msc_base.specs.declared.place.Place.{Place}
-use Rattle.msc_base.specs.Places.{IsBefore, IsLeast, IsNoLater, is_before}
+use Rattle.msc_base.specs.Places.{is_before}
+use Rattle.msc_rules.specs.FirstFaults.{BreaksEither, IsFirstFault}
+use Rattle.msc_rules.specs.Rules.{group_of, number_of}
+use Rattle.msc_rules.specs.declared.rule.Rule.{Rule}
+use Rattle.msc_rules.specs.declared.rule.Rule.TheVariants as rule
 use Rattle.msc_tree.specs.Charts.{Chart}
 use Rattle.msc_instances.specs.declared.naming.NameFault.{NameFault}
 use Rattle.msc_instances.specs.declared.naming.NameFault.TheVariants.{NamedTwice, Undeclared, NoMemory}
@@ -18,10 +22,14 @@ pub record KeepNames (notes : List Note) (levels : List (List NamedPart)) : Type
   pub once : (p : Place) → NamesTwice notes levels p → ⊥
   pub declared : (p : Place) → NamesOther (with_declared [] notes) notes p → ⊥
 
--- the earliest fault, and at one place that of a second name
+-- the rule of names that is broken at that place
+abbrev pub BreaksNames : List Note → List (List NamedPart) → Rule → Place → Type 0
+BreaksNames notes levels = BreaksEither rule.NamedTwice (NamesTwice notes levels) rule.Undeclared (NamesOther (with_declared [] notes) notes)
+
+-- the fault is the first, by place, and at one place by the rules' numbers
 abbrev pub IsFaultOf : List Note → List (List NamedPart) → NameFault → Type 0
-IsFaultOf notes levels (NamedTwice p) = IsLeast (NamesTwice notes levels) (Some p) × ((q : Place) → NamesOther (with_declared [] notes) notes q → IsNoLater p q)
-IsFaultOf notes levels (Undeclared p) = IsLeast (NamesOther (with_declared [] notes) notes) (Some p) × ((q : Place) → NamesTwice notes levels q → IsBefore p q)
+IsFaultOf notes levels (NamedTwice p) = IsFirstFault number_of group_of (BreaksNames notes levels) (record { rule = rule.NamedTwice; place = p })
+IsFaultOf notes levels (Undeclared p) = IsFirstFault number_of group_of (BreaksNames notes levels) (record { rule = rule.Undeclared; place = p })
 IsFaultOf notes levels NoMemory = ⊤
 
 -- of a chart

@@ -1,14 +1,14 @@
-ghost use Rattle.std.specs.Prelude.{◌≡◌, ◌++◌, IfOk, OnOk, Some, codes, map};
+ghost use Rattle.std.specs.Prelude.{◌≡◌, ◌++◌, IfOk, OnOk, Some, map};
 ghost use Rattle.msc_instances.specs.EventViews.{event_view};
 ghost use Rattle.msc_instances.specs.Marks.{AreMarked, IsMark, KeepsNumbers, LeadsPairs, edges_from, end_edges, key_view};
-ghost use Rattle.msc_instances.specs.Messages.{far_name, inside_text, key_of, list_text, or_empty, way, way_by, with_commas};
+ghost use Rattle.msc_instances.specs.Messages.{far_name, key_of, or_empty, way, way_by};
 
 use crate::PlacedEvent;
 use crate::columns::number_of;
 use indexmap::IndexSet;
 use item_order::{Edge, pair_up};
-use msc_base::{Kind, Name, NoMemory, Text};
-use msc_tree::{RawEvent, Target};
+use msc_base::{Kind, Name, NoMemory};
+use msc_tree::{Direction, RawEvent, Target, label_text};
 use std::alloc::Global;
 
 /// What an output and the input that takes it in have in common. The pairing name is empty where there is none.
@@ -20,11 +20,11 @@ struct MessageKey {
     pairing: Vec<u8>,
 }
 
-/// What the pairing sees of an event: the number of its key, and whether it puts it out or takes it in.
+/// What the pairing sees of an event: the number of its key, and its direction.
 #[derive(Clone, Copy)]
 struct Mark {
     class: u32,
-    puts: bool,
+    direction: Direction,
 }
 
 /// The marks of events, and how many classes they have.
@@ -34,13 +34,13 @@ struct Marks {
     classes: u32,
 }
 
-/// True for an output to an instance, false for an input from one, and none for other events.
-pub fn way_of(event: &RawEvent) -> Option<bool>
+/// The direction of an output to an instance and of an input from one, and none for other events.
+pub fn way_of(event: &RawEvent) -> Option<Direction>
     ensures { result ≡ way_by event.now.kind event.now.target }
 {
     match (event.kind, &event.target) {
-        (Kind::Output, Target::Instance(_)) => Some(true),
-        (Kind::Input, Target::Instance(_)) => Some(false),
+        (Kind::Output, Target::Instance(_)) => Some(Direction::Out),
+        (Kind::Input, Target::Instance(_)) => Some(Direction::In),
         _ => None,
     }
 }
@@ -67,80 +67,28 @@ fn name_bytes(name: &Option<Name>) -> &[u8]
     }
 }
 
-/// Appends the item behind a comma.
-fn push_item(text: &mut Vec<u8>, item: &[u8]) -> Result<(), NoMemory>
-    ensures { OnOk result (text.new.items ≡ text.old.items ++ (codes "," ++ item.now)) }
-{
-    text.push(b',')?;
-    text.extend_from_slice(item)?;
-    Ok(())
-}
-
-/// Appends the items, each behind a comma.
-fn push_items(text: &mut Vec<u8>, items: &[Text]) -> Result<(), NoMemory>
-    ensures { OnOk result (text.new.items ≡ text.old.items ++ with_commas items.now) }
-{
-    for item in items {
-        push_item(text, item.bytes())?;
-    }
-    Ok(())
-}
-
-/// Appends the items with commas between them.
-fn push_inside(text: &mut Vec<u8>, items: &[Text]) -> Result<(), NoMemory>
-    ensures { OnOk result (text.new.items ≡ text.old.items ++ inside_text items.now) }
-{
-    let Some((first, others)) = items.split_first() else {
-        return Ok(());
-    };
-    text.extend_from_slice(first.bytes())?;
-    push_items(text, others)
-}
-
-/// Appends the items in parentheses.
-fn push_list(text: &mut Vec<u8>, items: &[Text]) -> Result<(), NoMemory>
-    ensures { OnOk result (text.new.items ≡ text.old.items ++ list_text (Some items.now)) }
-{
-    text.push(b'(')?;
-    push_inside(text, items)?;
-    text.push(b')')?;
-    Ok(())
-}
-
-/// The text of an event: that of its name or action, with its list in parentheses.
-fn text_of(alloc: Global, event: &RawEvent) -> Result<Vec<u8>, NoMemory>
-    ensures { IfOk result (λ text. text.items ≡ event.now.text ++ list_text event.now.parameters) }
-{
-    let mut text = Vec::from_slice(alloc, event.text.bytes())?;
-    if let Some(items) = &event.parameters {
-        push_list(&mut text, items.as_slice())?;
-    }
-    Ok(text)
-}
-
 /// The key of an output, or of an input.
-fn message_key(alloc: Global, placed: PlacedEvent<'_>, puts: bool) -> Result<MessageKey, NoMemory>
-    requires { way (event_view placed) ≡ Some puts }
+fn message_key(alloc: Global, placed: PlacedEvent<'_>, direction: Direction) -> Result<MessageKey, NoMemory>
+    requires { way (event_view placed) ≡ Some direction }
     ensures { IfOk result (λ key. key_view key ≡ key_of (event_view placed.entry)) }
 {
     let at = Vec::from_slice(alloc, placed.at.bytes())?;
     let far = Vec::from_slice(alloc, far_bytes(&placed.event.target))?;
-    let text = text_of(alloc, placed.event)?;
+    let text = label_text(alloc, placed.event.text.bytes(), &placed.event.parameters)?;
     let pairing = Vec::from_slice(alloc, name_bytes(&placed.event.pairing))?;
-    if puts {
-        Ok(MessageKey {
-            sender: at,
-            receiver: far,
-            text,
-            pairing,
-        })
-    } else {
-        Ok(MessageKey {
-            sender: far,
-            receiver: at,
-            text,
-            pairing,
-        })
+    match direction {
+        Direction::Out => Ok(MessageKey {
+                sender: at,
+                receiver: far,
+                text,
+                pairing,
+            }),
+        Direction::In => Ok(MessageKey {
+                sender: far,
+                receiver: at,
+                text,
+                pairing,
+            }),
     }
 }
 
@@ -153,13 +101,13 @@ fn mark_of(
     ensures mark { IfOk result (IsMark (map key_view keys.new.keys) (event_view placed.entry)) }
     ensures kept { KeepsNumbers (map key_view keys.old.keys) (map key_view keys.new.keys) }
 {
-    let Some(puts) = way_of(placed.event) else {
+    let Some(direction) = way_of(placed.event) else {
         return Ok(None);
     };
-    let key = message_key(alloc, placed, puts)?;
+    let key = message_key(alloc, placed, direction)?;
     let (number, _) = keys.insert_full(key)?;
     let class = number_of(number)?;
-    Ok(Some(Mark { class, puts }))
+    Ok(Some(Mark { class, direction }))
 }
 
 /// The marks of the events.
@@ -180,14 +128,14 @@ fn marks_of(alloc: Global, events: &[PlacedEvent<'_>]) -> Result<Marks, NoMemory
 fn push_edge(
     edges: &mut Vec<Edge>,
     mark: &Option<Mark>,
-    puts: bool,
+    direction: Direction,
     number: u32,
 ) -> Result<(), NoMemory>
-    ensures { OnOk result (edges.new.items ≡ edges.old.items ++ end_edges puts number mark.now) }
+    ensures { OnOk result (edges.new.items ≡ edges.old.items ++ end_edges direction number mark.now) }
 {
     match mark {
         Some(mark) => {
-            if mark.puts == puts {
+            if mark.direction.is(direction) {
                 edges.push(Edge {
                     from: mark.class,
                     to: number,
@@ -200,14 +148,14 @@ fn push_edge(
 }
 
 /// The ends of one direction, each leading from its class to its event.
-fn edges_of(alloc: Global, marks: &[Option<Mark>], puts: bool) -> Result<Vec<Edge>, NoMemory>
-    ensures { IfOk result (λ edges. edges.items ≡ edges_from puts 0 marks.now) }
+fn edges_of(alloc: Global, marks: &[Option<Mark>], direction: Direction) -> Result<Vec<Edge>, NoMemory>
+    ensures { IfOk result (λ edges. edges.items ≡ edges_from direction 0 marks.now) }
 {
     let mut edges = Vec::new(alloc);
     let mut place = 0;
     for mark in marks {
         let number = number_of(place)?;
-        push_edge(&mut edges, mark, puts, number)?;
+        push_edge(&mut edges, mark, direction, number)?;
         place += 1;
     }
     Ok(edges)
@@ -218,7 +166,7 @@ pub fn pairs_of(alloc: Global, events: &[PlacedEvent<'_>]) -> Result<Vec<Edge>, 
     ensures { IfOk result (λ pairs. LeadsPairs (map event_view events.now) pairs.items) }
 {
     let marks = marks_of(alloc, events)?;
-    let outputs = edges_of(alloc, marks.held.as_slice(), true)?;
-    let inputs = edges_of(alloc, marks.held.as_slice(), false)?;
+    let outputs = edges_of(alloc, marks.held.as_slice(), Direction::Out)?;
+    let inputs = edges_of(alloc, marks.held.as_slice(), Direction::In)?;
     pair_up(alloc, marks.classes, outputs.as_slice(), inputs.as_slice())
 }

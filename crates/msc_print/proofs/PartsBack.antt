@@ -21,6 +21,7 @@ use Rattle.msc_events.specs.Multis as multis
 use Rattle.msc_events.specs.Multis.{sharers, cover_of, shared, shared_in, condition, join, joins}
 use Rattle.msc_events.specs.declared.event_parts.Orders.{Orders}
 use Rattle.msc_events.specs.declared.event_parts.Address.{Address}
+use Rattle.msc_events.specs.declared.event_parts.Setting.TheVariants as setting
 use Rattle.msc_print.specs.Words.{Words, alone, name_words, names_behind, separated_words, if_any, end_words}
 use Rattle.msc_print.specs.EventWords.{act_words, coregion_words, event_words, message_words, pairing_words, parameter_words, tag_words, target_words}
 use Rattle.msc_print.specs.ExpressionWords.{enclosed}
@@ -128,7 +129,7 @@ decl_back = back_as (λ p. decl_of p.0.0 (all_or_none p.0.1) p.1) (tail (tail pl
 abbrev pub orders_words : Orders → Words
 orders_words o = names_behind (codes "before") o.earlier_than ++ (names_behind (codes "after") o.later_than ++ end_words)
 
-pub orders_back : Back orders Any orders_words same
+pub orders_back : Back (orders setting.Chart) Any orders_words same
 orders_back = back_as (λ p. record { earlier_than = p.0; later_than = p.1.0 }) (optional all_or_none (behind (just (codes "before")) name_list) (optional all_or_none (behind (just (codes "after")) name_list) ending))
     Any orders_words same (λ c. record { earlier_than = c.0; later_than = c.1.0 })
     (back_optional all_or_none (behind (just (codes "before")) name_list) (optional all_or_none (behind (just (codes "after")) name_list) ending) Any (names_behind (codes "before")) same all_or_none
@@ -185,20 +186,20 @@ module _ (lost : List ℕ) (kind lost_kind : Kind) (is : FitsFixed (just lost) l
   named_is None = refl
   named_is (Some n) = refl
 
-  address_back : Back (address lost kind lost_kind) OneOf address_words same
+  address_back : Back (address setting.Chart lost kind lost_kind) OneOf address_words same
   address_back = back_or _ _
-      (back_as (λ p. address_of kind (Instance p.0) p.1) (seq name orders) OneOf address_words same (λ c. address_of kind (Instance c.0) c.1) (back_seq name orders name_back orders_back)
+      (back_as (λ p. address_of kind (Instance p.0) p.1) (seq name (orders setting.Chart)) OneOf address_words same (λ c. address_of kind (Instance c.0) c.1) (back_seq name (orders setting.Chart) name_back orders_back)
       (λ a m. inl refl) (λ a m. ap (λ l. l ++ orders_words a.1) (plain_is (Instance a.0))) (λ a. refl))
       (back_or _ _
-      (back_as (λ p. address_of kind (Env p.0) p.1) (behind (just (codes "env")) (optional kept (behind (just (codes "via")) name) orders)) OneOf address_words same (λ c. address_of kind (Env c.0) c.1)
-      (back_behind (just (codes "env")) (codes "env") _ refl (back_optional kept (behind (just (codes "via")) name) orders Any (if_any (λ g. codes "via" ∷ g ∷ [])) same same (back_behind (just (codes "via")) (codes "via") name refl name_back) orders_back tt (λ a m. tt) refl (λ a m. refl) refl (λ a. refl)))
+      (back_as (λ p. address_of kind (Env p.0) p.1) (behind (just (codes "env")) (optional kept (behind (just (codes "via")) name) (orders setting.Chart))) OneOf address_words same (λ c. address_of kind (Env c.0) c.1)
+      (back_behind (just (codes "env")) (codes "env") _ refl (back_optional kept (behind (just (codes "via")) name) (orders setting.Chart) Any (if_any (λ g. codes "via" ∷ g ∷ [])) same same (back_behind (just (codes "via")) (codes "via") name refl name_back) orders_back tt (λ a m. tt) refl (λ a m. refl) refl (λ a. refl)))
       (λ a m. inl refl) (λ a m. ap (λ l. l ++ orders_words a.1) (plain_is (Env a.0) ∙ env_is a.0)) (λ a. refl))
       (back_or _ _
-      (back_as (λ p. address_of lost_kind (named p.0) p.1) (behind (just lost) (optional kept name orders)) OneOf address_words same (λ c. address_of lost_kind (named c.0) c.1)
-      (back_behind (just lost) lost _ is (back_optional kept name orders Any (if_any alone) same same name_back orders_back tt (λ a m. tt) refl (λ a m. refl) refl (λ a. refl)))
+      (back_as (λ p. address_of lost_kind (named p.0) p.1) (behind (just lost) (optional kept name (orders setting.Chart))) OneOf address_words same (λ c. address_of lost_kind (named c.0) c.1)
+      (back_behind (just lost) lost _ is (back_optional kept name (orders setting.Chart) Any (if_any alone) same same name_back orders_back tt (λ a m. tt) refl (λ a m. refl) refl (λ a. refl)))
       (λ a m. inr refl) (λ a m. ap (λ l. l ++ orders_words a.1) (lost_is (named a.0) ∙ ap (λ l. lost ∷ l) (named_is a.0))) (λ a. refl))
-      (back_as (λ p. address_of kind (Gate p.0 p.1.0) p.1.1) (behind (just (codes "reference")) (seq name (behind (just (codes "via")) (seq name orders)))) OneOf address_words same (λ c. address_of kind (Gate c.0 c.1.0) c.1.1)
-      (back_behind (just (codes "reference")) (codes "reference") _ refl (back_seq name _ name_back (back_behind (just (codes "via")) (codes "via") _ refl (back_seq name orders name_back orders_back))))
+      (back_as (λ p. address_of kind (Gate p.0 p.1.0) p.1.1) (behind (just (codes "reference")) (seq name (behind (just (codes "via")) (seq name (orders setting.Chart))))) OneOf address_words same (λ c. address_of kind (Gate c.0 c.1.0) c.1.1)
+      (back_behind (just (codes "reference")) (codes "reference") _ refl (back_seq name _ name_back (back_behind (just (codes "via")) (codes "via") _ refl (back_seq name (orders setting.Chart) name_back orders_back))))
       (λ a m. inl refl) (λ a m. ap (λ l. l ++ orders_words a.1.1) (plain_is (Gate a.0 a.1.0))) (λ a. refl))))
 
 abbrev pub orders_in : RawEvent → Orders
@@ -218,30 +219,30 @@ kind_is_either way toward lost kind lost_kind k e (inr is) one other = subst (λ
 module _ (way toward lost : List ℕ) (kind lost_kind : Kind) (way_fits : FitsFixed (just way) way) (toward_fits : FitsFixed (just toward) toward) (lost_fits : FitsFixed (just lost) lost)
     (plain_is : (t : Target) → far_words kind t ≡ target_words t) (lost_is : (t : Target) → far_words lost_kind t ≡ lost ∷ target_words t)
     (one : (e : RawEvent) → act_words kind e ≡ way ∷ (message_words e ++ toward ∷ far_words kind e.target)) (other : (e : RawEvent) → act_words lost_kind e ≡ way ∷ (message_words e ++ toward ∷ far_words lost_kind e.target)) where
-  exchange_back : Back (exchange way toward lost kind lost_kind) Any untagged unplaced_event
-  exchange_back = back_as (λ p. event_of p.0 p.1.0 p.1.1) (placed (just way) (message (behind (just toward) (address lost kind lost_kind)))) Any untagged unplaced_event (λ c. event_of first_place c.0 c.1)
-      (back_placed (just way) way _ way_fits (message_back (behind (just toward) (address lost kind lost_kind)) (back_behind (just toward) toward _ toward_fits (address_back lost kind lost_kind lost_fits plain_is lost_is))))
+  exchange_back : Back (exchange setting.Chart way toward lost kind lost_kind) Any untagged unplaced_event
+  exchange_back = back_as (λ p. event_of p.0 p.1.0 p.1.1) (placed (just way) (message (behind (just toward) (address setting.Chart lost kind lost_kind)))) Any untagged unplaced_event (λ c. event_of first_place c.0 c.1)
+      (back_placed (just way) way _ way_fits (message_back (behind (just toward) (address setting.Chart lost kind lost_kind)) (back_behind (just toward) toward _ toward_fits (address_back lost kind lost_kind lost_fits plain_is lost_is))))
       (λ p m. tt) (λ p m. ap (λ l. l ++ orders_words p.1.1.orders) (kind_is_either way toward lost kind lost_kind p.1.1.kind (event_of p.0 p.1.0 p.1.1) m (one (event_of p.0 p.1.0 p.1.1)) (other (event_of p.0 p.1.0 p.1.1)))
       ∙ regroup (said p.1.0) (far_words p.1.1.kind p.1.1.target) (orders_words p.1.1.orders)) (λ p. refl)
     where
       regroup : (a b c : Words) → (way ∷ (a ++ toward ∷ b)) ++ c ≡ way ∷ (a ++ toward ∷ (b ++ c))
       regroup a b c = simp append_assoc
 
-act_back : Back act Any untagged unplaced_event
+act_back : Back (act setting.Chart) Any untagged unplaced_event
 act_back =
-    back_or output _ (exchange_back (codes "out") (codes "to") (codes "lost") Output OutputLost refl refl refl (λ t. refl) (λ t. refl) (λ e. refl) (λ e. refl))
-    (back_or input _ (exchange_back (codes "in") (codes "from") (codes "found") Input InputFound refl refl refl (λ t. refl) (λ t. refl) (λ e. refl) (λ e. refl))
-    (back_or action _ (back_as (λ p. event_of p.0 (plain p.1.0) (address_of Action Nobody p.1.1)) (placed (just (codes "action")) (seq item orders)) Any untagged unplaced_event (λ c. event_of first_place (plain c.0) (address_of Action Nobody c.1))
-    (back_placed (just (codes "action")) (codes "action") _ refl (back_seq item orders (back_bytes names_or_strings item_plain) orders_back)) (λ p m. tt) (λ p m. refl) (λ p. refl))
-    (back_or (timer start_words TimerStart) _ (timer_back start_words (codes "starttimer") TimerStart refl (λ e. refl))
-    (back_or (timer stop_words TimerStop) _ (timer_back stop_words (codes "stoptimer") TimerStop refl (λ e. refl))
-    (back_or (timer (just (codes "timeout")) Timeout) creation (timer_back (just (codes "timeout")) (codes "timeout") Timeout refl (λ e. refl))
-    (back_as (λ p. event_of p.0 (plain p.1.0) (address_of Create (Instance p.1.0) p.1.1)) (placed (just (codes "create")) (seq name orders)) Any untagged unplaced_event (λ c. event_of first_place (plain c.0) (address_of Create (Instance c.0) c.1))
-    (back_placed (just (codes "create")) (codes "create") _ refl (back_seq name orders name_back orders_back)) (λ p m. tt) (λ p m. refl) (λ p. refl)))))))
+    back_or (output setting.Chart) _ (exchange_back (codes "out") (codes "to") (codes "lost") Output OutputLost refl refl refl (λ t. refl) (λ t. refl) (λ e. refl) (λ e. refl))
+    (back_or (input setting.Chart) _ (exchange_back (codes "in") (codes "from") (codes "found") Input InputFound refl refl refl (λ t. refl) (λ t. refl) (λ e. refl) (λ e. refl))
+    (back_or (action setting.Chart) _ (back_as (λ p. event_of p.0 (plain p.1.0) (address_of Action Nobody p.1.1)) (placed (just (codes "action")) (seq item (orders setting.Chart))) Any untagged unplaced_event (λ c. event_of first_place (plain c.0) (address_of Action Nobody c.1))
+    (back_placed (just (codes "action")) (codes "action") _ refl (back_seq item (orders setting.Chart) (back_bytes names_or_strings item_plain) orders_back)) (λ p m. tt) (λ p m. refl) (λ p. refl))
+    (back_or (timer setting.Chart start_words TimerStart) _ (timer_back start_words (codes "starttimer") TimerStart refl (λ e. refl))
+    (back_or (timer setting.Chart stop_words TimerStop) _ (timer_back stop_words (codes "stoptimer") TimerStop refl (λ e. refl))
+    (back_or (timer setting.Chart (just (codes "timeout")) Timeout) (creation setting.Chart) (timer_back (just (codes "timeout")) (codes "timeout") Timeout refl (λ e. refl))
+    (back_as (λ p. event_of p.0 (plain p.1.0) (address_of Create (Instance p.1.0) p.1.1)) (placed (just (codes "create")) (seq name (orders setting.Chart))) Any untagged unplaced_event (λ c. event_of first_place (plain c.0) (address_of Create (Instance c.0) c.1))
+    (back_placed (just (codes "create")) (codes "create") _ refl (back_seq name (orders setting.Chart) name_back orders_back)) (λ p m. tt) (λ p m. refl) (λ p. refl)))))))
   where
-    timer_back : (words : Set) (text : List ℕ) (k : Kind) → FitsFixed words text → ((e : RawEvent) → act_words k e ≡ text ∷ message_words e) → Back (timer words k) Any untagged unplaced_event
-    timer_back words text k fits is = back_as (λ p. event_of p.0 p.1.0 (address_of k Nobody p.1.1)) (placed words (message orders)) Any untagged unplaced_event (λ c. event_of first_place c.0 (address_of k Nobody c.1))
-        (back_placed words text _ fits (message_back orders orders_back)) (λ p m. tt) (λ p m. ap (λ l. l ++ orders_words p.1.1) (is (event_of p.0 p.1.0 (address_of k Nobody p.1.1)))) (λ p. refl)
+    timer_back : (words : Set) (text : List ℕ) (k : Kind) → FitsFixed words text → ((e : RawEvent) → act_words k e ≡ text ∷ message_words e) → Back (timer setting.Chart words k) Any untagged unplaced_event
+    timer_back words text k fits is = back_as (λ p. event_of p.0 p.1.0 (address_of k Nobody p.1.1)) (placed words (message (orders setting.Chart))) Any untagged unplaced_event (λ c. event_of first_place c.0 (address_of k Nobody c.1))
+        (back_placed words text _ fits (message_back (orders setting.Chart) orders_back)) (λ p m. tt) (λ p m. ap (λ l. l ++ orders_words p.1.1) (is (event_of p.0 p.1.0 (address_of k Nobody p.1.1)))) (λ p. refl)
 
 act_tagged : (k : Kind) (event_name : Option (List ℕ)) (e : RawEvent) → act_words k (tagged event_name e) ≡ act_words k e
 act_tagged Output event_name e = refl
@@ -259,8 +260,8 @@ label_back = back_behind (just (codes "label")) (codes "label") _ refl
     (back_as (λ p. p.0) (seq name (mark (codes ";"))) Any (λ n. n ∷ end_words) same (λ c. c.0) (back_seq name _ name_back (back_mark (just (codes ";")) (codes ";") refl)) (λ a m. tt) (λ a m. refl) (λ a. refl))
 
 pub single_back : Back single Any event_words unplaced_event
-single_back = back_as (λ p. tagged p.0 p.1) (optional kept label act) Any event_words unplaced_event (λ c. tagged c.0 c.1)
-    (back_optional kept label act Any tag_words same same label_back act_back tt (λ a m. tt) refl (λ a m. refl) refl (λ a. refl))
+single_back = back_as (λ p. tagged p.0 p.1) (optional kept label (act setting.Chart)) Any event_words unplaced_event (λ c. tagged c.0 c.1)
+    (back_optional kept label (act setting.Chart) Any tag_words same same label_back act_back tt (λ a m. tt) refl (λ a m. refl) refl (λ a. refl))
     (λ p m. tt) (λ p m. ap (λ (l : Words). tag_words p.0 ++ (l ++ orders_words (orders_in p.1))) (act_tagged p.1.kind p.0 p.1)) (λ p. refl)
 
 abbrev pub coregion_said : Place × List RawEvent → Words

@@ -50,17 +50,18 @@ faultless Breaks groups all k = λ r p b. kept Breaks groups k r p (all r p b) b
 same_fault : {R : Type 0} (f g : Broken R) → f.rule ≡ g.rule → f.place ≡ g.place → f ≡ g
 same_fault f g r p = ap (λ z. record { rule = z; place = f.place }) r ∙ ap (λ z. record { rule = g.rule; place = z }) p
 
-one_of : {R : Type 0} (number group : R → ℕ) (f g : Broken R) → ((r s : R) → number r ≡ number s → r ≡ s) → ComesFirst number group f g.rule g.place → ComesFirst number group g f.rule f.place → f ≡ g
+one_of : {R : Type 0} (number group : R → ℕ) (f g : Broken R) → (number f.rule ≡ number g.rule → f.rule ≡ g.rule) → ComesFirst number group f g.rule g.place → ComesFirst number group g f.rule f.place → f ≡ g
 one_of number group f g numbers (inl a) (inl b) = absurd (omega arith)
 one_of number group f g numbers (inl a) (inr b) = absurd (omega (arith, b.0))
 one_of number group f g numbers (inr a) (inl b) = absurd (omega (arith, a.0))
 one_of number group f g numbers (inr (e, inl a)) (inr (d, inl b)) = absurd (never_before f.place (before_through f.place g.place f.place a b))
 one_of number group f g numbers (inr (e, inl a)) (inr (d, inr b)) = absurd (never_before f.place (subst (λ (z : Place). IsBefore f.place z) b.0 a))
 one_of number group f g numbers (inr (e, inr a)) (inr (d, inl b)) = absurd (never_before g.place (subst (λ (z : Place). IsBefore g.place z) a.0 b))
-one_of number group f g numbers (inr (e, inr a)) (inr (d, inr b)) = same_fault f g (numbers f.rule g.rule (omega (arith, a.1, b.1))) a.0
+one_of number group f g numbers (inr (e, inr a)) (inr (d, inr b)) = same_fault f g (numbers (omega (arith, a.1, b.1))) a.0
 
-pub one_first_fault : {R : Type 0} (number group : R → ℕ) (Breaks : R → Place → Type 0) (f g : Broken R) → ((r s : R) → number r ≡ number s → r ≡ s) → IsFirstFault number group Breaks f → IsFirstFault number group Breaks g → f ≡ g
-one_first_fault number group Breaks f g numbers a b = one_of number group f g numbers (a.first g.rule g.place b.broken) (b.first f.rule f.place a.broken)
+-- where numbers tell apart the rules that are broken
+pub one_first_fault : {R : Type 0} (number group : R → ℕ) (Breaks : R → Place → Type 0) (f g : Broken R) → ((r s : R) (p q : Place) → Breaks r p → Breaks s q → number r ≡ number s → r ≡ s) → IsFirstFault number group Breaks f → IsFirstFault number group Breaks g → f ≡ g
+one_first_fault number group Breaks f g numbers a b = one_of number group f g (numbers f.rule g.rule f.place g.place a.broken b.broken) (a.first g.rule g.place b.broken) (b.first f.rule f.place a.broken)
 
 -- and none beside it
 pub never_faultless : {R : Type 0} (number group : R → ℕ) (Breaks : R → Place → Type 0) (f : Broken R) → IsFirstFault number group Breaks f → IsFaultless Breaks → ⊥

@@ -42,6 +42,10 @@ pub record IsFirstFault {R : Type 0} (number group : R → ℕ) (Breaks : R → 
   pub broken : Breaks fault.rule fault.place
   pub first : (r : R) (p : Place) → Breaks r p → ComesFirst number group fault r p
 
+-- two rules, of which the first is broken where A holds, and the second where B holds
+abbrev pub BreaksEither : {R : Type 0} → R → (Place → Type 0) → R → (Place → Type 0) → R → Place → Type 0
+BreaksEither a A b B rule place = ((rule ≡ a) × A place) ⊎ ((rule ≡ b) × B place)
+
 -- no rule is broken anywhere
 abbrev pub IsFaultless : {R : Type 0} → (R → Place → Type 0) → Type 0
 IsFaultless {R} Breaks = (r : R) (p : Place) → Breaks r p → ⊥

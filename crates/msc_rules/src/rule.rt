@@ -1,6 +1,8 @@
 ghost use Rattle.std.specs.Prelude.{◌≡◌};
 ghost use Rattle.msc_rules.specs.declared.rule.Rule.TheVariants.{Unsupported};
-ghost use Rattle.msc_rules.specs.Rules.{form_text, rule_text};
+ghost use Rattle.msc_rules.specs.Rules.{form_text, group_of, number_of, rule_text};
+
+use crate::Numbered;
 
 /// A form of the notation that is known and not taken.
 #[derive(Clone, Copy, Debug, PartialEq, Eq)]
@@ -91,7 +93,7 @@ pub enum Rule {
     /// Line 4,097 of a graph or frame.
     Nodes,
     /// A loop bound above 1,000,000.
-    Bounds,
+    LoopBound,
     /// A second thing of a name that only one may have.
     NamedTwice,
     /// A name that is no instance of the chart, or isn't covered.
@@ -103,7 +105,7 @@ pub enum Rule {
     /// A reference to a chart with an instance of the caller that isn't covered.
     Uncovered,
     /// Expanded nesting above 256.
-    Levels,
+    ExpandedNesting,
     /// Expanded size of a chart above 200,000.
     Size,
     /// Expanded sizes of all charts above 2,000,000.
@@ -111,7 +113,7 @@ pub enum Rule {
     /// A part that its columns don't share.
     NotShared,
     /// Parts of one name that differ.
-    OperandMismatch,
+    OperandsDiffer,
     /// An `exc` inside an operand, or not covering all instances.
     ExcPlace,
     /// Columns whose shared items cross.
@@ -129,7 +131,7 @@ pub enum Rule {
     /// A gate with an event inside a loop.
     GateOnLoop,
     /// A decomposition that doesn't have the events of its instance.
-    Mismatch,
+    DecompositionMismatch,
     /// A decomposed instance that takes part in a shared item.
     SharedPart,
     /// A decomposition whose inside is not of the form that is asked.
@@ -139,13 +141,13 @@ pub enum Rule {
     /// A name behind `before` or `after` that names no event.
     UnknownEvent,
     /// A second event of a label.
-    TwiceEvent,
+    EventNamedTwice,
     /// An order with a cycle.
     Cyclic,
     /// A label that the graph lacks.
     UnknownLabel,
     /// A second line of a label.
-    TwiceLabel,
+    LabelNamedTwice,
     /// A line from which no end is reached.
     Endless,
     /// A `create` or `stop` where none may stand.
@@ -175,17 +177,17 @@ impl Rule {
             Rule::Charts => "too many charts",
             Rule::Instances => "too many instances",
             Rule::Nodes => "too many nodes",
-            Rule::Bounds => "loop bound",
+            Rule::LoopBound => "loop bound",
             Rule::NamedTwice => "named twice",
             Rule::Undeclared => "undeclared instance",
             Rule::MissingChart => "missing chart",
             Rule::Recursive => "recursive reference",
             Rule::Uncovered => "uncovered instance",
-            Rule::Levels => "expanded nesting",
+            Rule::ExpandedNesting => "expanded nesting",
             Rule::Size => "expanded size",
             Rule::Total => "total size",
             Rule::NotShared => "not shared",
-            Rule::OperandMismatch => "operands differ",
+            Rule::OperandsDiffer => "operands differ",
             Rule::ExcPlace => "exc placed",
             Rule::Crossed => "crossed",
             Rule::Unmatched => "unmatched message",
@@ -194,20 +196,101 @@ impl Rule {
             Rule::GateWays => "gate ways differ",
             Rule::GateSplit => "gate on two instances",
             Rule::GateOnLoop => "gate on a loop",
-            Rule::Mismatch => "decomposition mismatch",
+            Rule::DecompositionMismatch => "decomposition mismatch",
             Rule::SharedPart => "decomposed instance shared",
             Rule::Inside => "decomposition inside",
             Rule::LocalEvent => "local event",
             Rule::UnknownEvent => "unknown event",
-            Rule::TwiceEvent => "event named twice",
+            Rule::EventNamedTwice => "event named twice",
             Rule::Cyclic => "cyclic order",
             Rule::UnknownLabel => "unknown label",
-            Rule::TwiceLabel => "label named twice",
+            Rule::LabelNamedTwice => "label named twice",
             Rule::Endless => "endless graph",
             Rule::CreatePlace => "create placed",
             Rule::CreateTwice => "created twice",
             Rule::AfterStop => "event after stop",
             Rule::NotBuilt => "not built yet",
+        }
+    }
+
+    /// The rule's group, from 0: bytes, tokens, grammar, what isn't built, limits, names, references, sizes, parts, weaving,
+    /// messages, gates, decomposition, event names, cycles, labels, graphs. The groups are looked at in this order.
+    pub fn group(&self) -> u32
+        ensures { result ≡ group_of self.now }
+    {
+        match self {
+            Rule::Bytes => 0,
+            Rule::BadByte | Rule::OpenString | Rule::OpenNote | Rule::LongName => 1,
+            Rule::Syntax | Rule::Unsupported(_) | Rule::TooDeep => 2,
+            Rule::NotBuilt => 3,
+            Rule::Charts | Rule::Instances | Rule::Nodes | Rule::LoopBound => 4,
+            Rule::NamedTwice | Rule::Undeclared => 5,
+            Rule::MissingChart | Rule::Recursive | Rule::Uncovered => 6,
+            Rule::ExpandedNesting | Rule::Size | Rule::Total => 7,
+            Rule::NotShared | Rule::OperandsDiffer | Rule::ExcPlace | Rule::CreatePlace | Rule::CreateTwice | Rule::AfterStop => 8,
+            Rule::Crossed => 9,
+            Rule::Unmatched => 10,
+            Rule::NoGate | Rule::GateTwice | Rule::GateWays | Rule::GateSplit | Rule::GateOnLoop => 11,
+            Rule::DecompositionMismatch | Rule::SharedPart | Rule::Inside | Rule::LocalEvent => 12,
+            Rule::UnknownEvent | Rule::EventNamedTwice => 13,
+            Rule::Cyclic => 14,
+            Rule::UnknownLabel | Rule::LabelNamedTwice => 15,
+            Rule::Endless => 16,
+        }
+    }
+}
+
+impl Numbered for Rule {
+    ghost number_of = { Rattle.msc_rules.specs.Rules.number_of };
+
+    fn number(&self) -> u32
+        ensures { result ≡ number_of self.now }
+    {
+        match self {
+            Rule::Bytes => 1,
+            Rule::BadByte => 2,
+            Rule::OpenString => 3,
+            Rule::OpenNote => 4,
+            Rule::LongName => 5,
+            Rule::Syntax => 6,
+            Rule::Unsupported(_) => 7,
+            Rule::TooDeep => 8,
+            Rule::Charts => 9,
+            Rule::Instances => 10,
+            Rule::Nodes => 11,
+            Rule::LoopBound => 12,
+            Rule::NamedTwice => 13,
+            Rule::Undeclared => 14,
+            Rule::MissingChart => 15,
+            Rule::Recursive => 16,
+            Rule::Uncovered => 17,
+            Rule::ExpandedNesting => 18,
+            Rule::Size => 19,
+            Rule::Total => 20,
+            Rule::NotShared => 21,
+            Rule::OperandsDiffer => 22,
+            Rule::ExcPlace => 23,
+            Rule::Crossed => 24,
+            Rule::Unmatched => 25,
+            Rule::NoGate => 26,
+            Rule::GateTwice => 27,
+            Rule::GateWays => 28,
+            Rule::GateSplit => 29,
+            Rule::GateOnLoop => 30,
+            Rule::DecompositionMismatch => 31,
+            Rule::SharedPart => 32,
+            Rule::Inside => 33,
+            Rule::LocalEvent => 34,
+            Rule::UnknownEvent => 35,
+            Rule::EventNamedTwice => 36,
+            Rule::Cyclic => 37,
+            Rule::UnknownLabel => 38,
+            Rule::LabelNamedTwice => 39,
+            Rule::Endless => 40,
+            Rule::NotBuilt => 41,
+            Rule::CreatePlace => 42,
+            Rule::CreateTwice => 43,
+            Rule::AfterStop => 44,
         }
     }
 }

@@ -1,3 +1,6 @@
+ghost use Rattle.std.specs.Prelude.{◌≡◌};
+ghost use Rattle.msc_tree.specs.Directions.{is_direction};
+
 use msc_base::{Items, Kind, Name, Names, Place, Text, Words};
 
 /// The other end of an event, as it is written.
@@ -38,3 +41,24 @@ pub struct RawEvent {
 
 /// A list of events.
 pub type RawEventList = Items<RawEvent>;
+
+/// Which way a message goes at the instance of its event.
+#[derive(Clone, Copy, Debug, PartialEq, Eq)]
+pub enum Direction {
+    /// It is put out.
+    Out,
+    /// It is taken in.
+    In,
+}
+
+impl Direction {
+    /// Whether it is the other's direction. It takes no memory.
+    pub fn is(self, other: Direction) -> bool
+        ensures { result ≡ is_direction self other }
+    {
+        matches!(
+            (self, other),
+            (Direction::Out, Direction::Out) | (Direction::In, Direction::In)
+        )
+    }
+}

@@ -7,12 +7,14 @@ mod chart;
 mod event;
 mod expression;
 mod graph;
+mod labelling;
 mod reference;
 mod statement;
 
 pub use chart::{Content, Cover, Decl, DeclList, Heading, RawChart, RawDocument};
-pub use event::{RawEvent, RawEventList, Target};
+pub use event::{Direction, RawEvent, RawEventList, Target};
 pub use expression::RefExpr;
 pub use graph::{NodeKind, RawGraph, RawLine};
+pub use labelling::{label_of, label_text};
 pub use reference::{InlineForm, Join, JoinEnd, JoinList};
 pub use statement::{RawForm, RawInline, RawItem, RawOperand, RawReference, Statement};

@@ -1,30 +1,28 @@
 -- What is left of a term where a child of it leaves something.
 use Rattle.std.specs.Option.{option_map}
 use Rattle.std.specs.Prelude.{ℕ, zero, suc, ◌+◌, ◌<◌, ◌≤◌, ◌==◌, Bool, true, false, List, [], ◌∷◌, ◌++◌, ◌≡◌, ◌||◌, Option, Some, None, refl, length, take, drop, slice_get}
-use Rattle.std.proofs.Common.{ap, sym, ◌∙◌, subst, add-one, append_assoc, append-nil, arith}
+use Rattle.std.proofs.Common.{ap, sym, ◌∙◌, add-one, append_assoc, append-nil, arith}
 use Rattle.std.proofs.Math.Seq.{take-length}
 use Rattle.bit_sets.specs.Blocks.{BlockValue, insert_rising}
-use Rattle.msc_base.specs.Patterns.{Mode, seq, par}
-use Rattle.chart_term.specs.NormalForms.{NetPermits, only, join_all, and_then, tie_of}
+use Rattle.msc_base.specs.Patterns.{seq, par}
+use Rattle.chart_term.specs.NormalForms.{NetPermits, only, join_all, and_then}
 use Rattle.chart_term.specs.Properties.{Each}
 use Rattle.chart_term.specs.Tables.{Tables}
 use Rattle.chart_term.specs.TermPatterns.{instances_of, earlier, before_in, put_if}
-use Rattle.chart_term.specs.Terms.{TermEvent, Block, has, Tree, Nil, Event, Join, Choice, Tied, Loop, Walk, trees, items, Part}
+use Rattle.chart_term.specs.Terms.{TermEvent, Block, has, Tree, Join, trees, items, Part}
 use Rattle.chart_term.specs.Views.{event_of}
 use Rattle.chart_term.proofs.Lists.{items-trees}
 use Rattle.permit_step.specs.Children.{parts_left, put}
-use Rattle.permit_step.specs.Listing.{stay}
-use Rattle.permit_step.specs.Permission.{permit, permit_all, permits_of}
+use Rattle.term_laws.specs.Permission.{permit, permit_all, permits_of}
 use Rattle.permit_step.specs.Ready.{IsReady}
-use Rattle.permit_step.specs.Searches.{IsTaken, put_some, put_all, AreReadyFrames, part_before, tail_of}
+use Rattle.permit_step.specs.Searches.{IsTaken, part_before, tail_of}
 use Rattle.permit_step.specs.RowRests.{RowRest}
-use Rattle.permit_step.specs.Values.{block_of}
-use Rattle.permit_step.specs.declared.ascent.Frame.{Frame}
+use Rattle.term_laws.specs.Values.{block_of}
 use Rattle.permit_step.specs.declared.ascent.Taken.{Taken}
-use Rattle.permit_step.proofs.Alike.{AgreeOn, permit-alike}
+use Rattle.term_laws.proofs.Alike.{AgreeOn, permit-alike}
 use Rattle.permit_step.proofs.PermitRows.{drop_next, drop_over, get_take}
-use Rattle.permit_step.proofs.SetFacts.{has_added}
-use Rattle.permit_step.proofs.Unions.{insert-add}
+use Rattle.chart_term.proofs.Instances.{has_added}
+use Rattle.term_laws.proofs.Unions.{insert-add}
 use Rattle.std.proofs.lemmas.Bool.Decides.{nat_tests}
 use Rattle.msc_base.specs.declared.label.Pair.{Pair}
 use Rattle.chart_term.specs.Views.{pairs_of}

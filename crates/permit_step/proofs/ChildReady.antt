@@ -2,20 +2,20 @@
 use Rattle.std.specs.Prelude.{ℕ, zero, suc, ◌+◌, ◌<◌, ◌≤◌, ◌==◌, Bool, true, false, List, [], ◌∷◌, ◌≡◌, Option, Some, None, refl, length, slice_get}
 use Rattle.std.proofs.Common.{ap, sym, ◌∙◌, subst, arith}
 use Rattle.chart_term.specs.NormalForms.{only}
-use Rattle.chart_term.specs.Properties.{Each, MayHave}
-use Rattle.chart_term.specs.Tables.{Tables, NetEntry, net_count, choose, count_from, nodes_of, node_of}
-use Rattle.chart_term.specs.Terms.{Block, Tree, Nil, Event, Join, Choice, Tied, Loop, Walk, Trees, none, more, Row, ends, gap, turn, items, Part, Gap, Turn, parts}
-use Rattle.permit_step.specs.Children.{child, row_child, new_turn, first_alone}
-use Rattle.permit_step.specs.Permission.{permit, permit_nth, kept_of, permits_of}
-use Rattle.permit_step.specs.Ready.{IsReady, AreReadyTables, IsWithin, IsRowWithin}
-use Rattle.permit_step.specs.Normality.{IsNormalRow}
+use Rattle.chart_term.specs.Properties.{MayHave}
+use Rattle.chart_term.specs.Tables.{Tables, net_count, choose, count_from, nodes_of, node_of}
+use Rattle.chart_term.specs.Terms.{Block, Tree, Nil, Event, Join, Choice, Tied, Loop, Walk, Trees, none, more, Row, ends, gap, turn, items, parts}
+use Rattle.permit_step.specs.Children.{child, row_child, new_turn}
+use Rattle.term_laws.specs.Permission.{permit, permit_nth, kept_of, permits_of}
+use Rattle.permit_step.specs.Ready.{IsReady, AreReadyTables, IsRowWithin}
+use Rattle.term_laws.specs.Normality.{IsNormalRow}
 use Rattle.permit_step.specs.Searches.{child_count}
-use Rattle.permit_step.proofs.Measures.{rank_in, rank_all, rank-at}
+use Rattle.term_laws.proofs.Measures.{rank_in, rank_all, rank-at}
 use Rattle.permit_step.proofs.NodeTerms.{node-is, sizes-are, count_length}
 use Rattle.permit_step.proofs.Permits.{ready-at}
 use Rattle.permit_step.proofs.PutReady.{each_out}
-use Rattle.permit_step.proofs.Ranking.{rank, ranks, row_rank, permit_rank}
-use Rattle.permit_step.proofs.TermSentences.{net_rank}
+use Rattle.term_laws.proofs.Ranking.{ranks, row_rank, permit_rank}
+use Rattle.term_laws.proofs.TermSentences.{net_rank}
 use Rattle.permit_step.proofs.Within.{permit-ready}
 
 -- a child that is ready, of a lower rank, at a place that the term has

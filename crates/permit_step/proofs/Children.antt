@@ -9,10 +9,10 @@ use Rattle.chart_term.specs.NormalForms.{NetPermits, only, join_all, and_then, t
 use Rattle.chart_term.specs.TermPatterns.{instances_of, earlier}
 use Rattle.chart_term.specs.Terms.{TermEvent, Tree, Nil, Event, Join, Choice, Tied, Loop, Walk, Trees, none, more, items, Part, Gap, Turn, parts, ◌∪◌}
 use Rattle.permit_step.specs.Children.{parts_left, RowLeft, turn_first, gap_first, row_left, where_so, loop_left, three, put, new_turn, row_child, first_alone, child}
-use Rattle.permit_step.specs.Listing.{stay, may_begin, may_lead}
+use Rattle.term_laws.specs.Listing.{stay, may_begin, may_lead}
 use Rattle.chart_term.specs.Spreads.{touch}
-use Rattle.permit_step.specs.Permission.{permit}
-use Rattle.permit_step.specs.Taking.{Stays, fewer, down, HasMore, Leads, IsAfter, after_event, after_choice, after_join, after_tied, after_loop, after_walk, IsAfterOne, first_one, later_one, IsAfterJoin, first_part, later_part, IsAfterRow, in_turn, in_gap, past_turn, past_gap}
+use Rattle.term_laws.specs.Permission.{permit}
+use Rattle.term_laws.specs.Taking.{Stays, fewer, down, HasMore, Leads, IsAfter, after_event, after_choice, after_join, after_tied, after_loop, after_walk, IsAfterOne, first_one, later_one, IsAfterJoin, first_part, later_part, IsAfterRow, in_turn, in_gap, past_turn, past_gap}
 
 and_some : (o : Option Tree) (p : Option (List Tree)) (ys : List Tree) → and_then o p ≡ Some ys → (x : Tree) × (zs : List Tree) × (o ≡ Some x) × (p ≡ Some zs) × (x ∷ zs ≡ ys)
 and_some None p ys h = cc

@@ -1,24 +1,24 @@
 -- The children of a term that a look shows.
-use Rattle.std.specs.Prelude.{ℕ, zero, suc, ◌+◌, ◌<◌, ◌≤◌, List, [], ◌∷◌, ◌≡◌, Option, Some, None, refl, length, slice_get, true, Bool}
-use Rattle.std.proofs.Common.{ap, sym, ◌∙◌, subst, arith}
-use Rattle.msc_base.specs.Patterns.{Mode, seq, par}
+use Rattle.std.specs.Prelude.{ℕ, zero, suc, ◌<◌, List, [], ◌≡◌, Option, Some, None, refl, length, slice_get}
+use Rattle.std.proofs.Common.{ap, ◌∙◌, arith}
+use Rattle.msc_base.specs.Patterns.{seq, par}
 use Rattle.hmsc_graph.specs.Graphs.{Spot, Goal}
 use Rattle.hmsc_graph.specs.Nets.{size_of}
 use Rattle.hmsc_graph.specs.Spots.{spot_of, goal_of}
 use Rattle.chart_term.specs.NormalForms.{NetPermits, only}
 use Rattle.chart_term.specs.Tables.{Tables, net_of, nodes_of, node_of, net_count}
-use Rattle.chart_term.specs.Terms.{Block, Tree, Nil, Event, Join, Choice, Tied, Loop, Walk, trees, items, Part, Gap, Turn, parts, row_of, ◌∪◌}
+use Rattle.chart_term.specs.Terms.{Tree, Nil, Join, Choice, Tied, Loop, Walk, trees, Part, Gap, row_of, ◌∪◌}
 use Rattle.chart_term.proofs.Lists.{items-trees, parts-row_of}
-use Rattle.permit_step.specs.Children.{child, row_child, new_turn, first_alone}
-use Rattle.permit_step.specs.Permission.{permit, permits_of}
-use Rattle.permit_step.specs.Ready.{IsReady, IsReadyPart, IsReadyLoop, AreReadyTables}
+use Rattle.permit_step.specs.Children.{child, row_child}
+use Rattle.term_laws.specs.Permission.{permit, permits_of}
+use Rattle.permit_step.specs.Ready.{IsReady, IsReadyPart, AreReadyTables}
 use Rattle.permit_step.specs.Searches.{child_count}
 use Rattle.permit_step.proofs.NodeTerms.{node-is, sizes-are}
 use Rattle.permit_step.proofs.PermitLoops.{ready-loop}
 use Rattle.permit_step.proofs.PermitRows.{ready-part}
 use Rattle.permit_step.proofs.PermitWalks.{ready-walk}
-use Rattle.permit_step.specs.Normality.{IsSet}
-use Rattle.permit_step.specs.Values.{block_of}
+use Rattle.term_laws.specs.Normality.{IsSet}
+use Rattle.term_laws.specs.Values.{block_of}
 use Rattle.bit_sets.specs.Blocks.{BlockValue}
 use Rattle.hmsc_graph.specs.declared.spot.Spot.{Spot as SpotShown}
 use Rattle.hmsc_graph.specs.declared.spot.Goal.{Goal as GoalShown}

@@ -1,6 +1,6 @@
 -- Whether a term may end, part by part.
 use Rattle.std.specs.Prelude.{ℕ, zero, suc, ◌+◌, ◌<◌, Bool, true, false, List, [], ◌∷◌, ◌++◌, ◌≡◌, ◌↔◌, ◌⊎◌, Option, Some, refl, take, slice_get, IsTrue, Result, Ok, Err, IfOk}
-use Rattle.std.proofs.Common.{ap, sym, subst, add-one, arith, inl, inr}
+use Rattle.std.proofs.Common.{sym, subst, arith, inl, inr}
 use Rattle.msc_base.specs.Patterns.{Mode, seq, par}
 use Rattle.hmsc_graph.specs.Graphs.{Net, Spot, Start, At, Goal, To, End, Any, WalkThrough, last, step, behind}
 use Rattle.msc_base.specs.Lists.{IsIn}
@@ -12,18 +12,11 @@ use Rattle.chart_term.specs.Tables.{Tables, net_of, node_of, terms_over}
 use Rattle.chart_term.specs.TermMeanings.{NetTerms, aim}
 use Rattle.chart_term.specs.Terms.{TermEvent, Tree, Nil, Event, Join, Choice, Tied, Loop, Walk, Trees, trees, items, Part, Gap, Turn, row_of}
 use Rattle.chart_term.proofs.Lists.{items-trees, parts-row_of}
-use Rattle.permit_step.proofs.Measures.{rank-seq, rank-par, rank-some, rank-tied, rank-loop}
+use Rattle.chart_term.proofs.Lists.{take_step}
+use Rattle.term_laws.proofs.Measures.{rank-seq, rank-par, rank-some, rank-tied, rank-loop}
 use Rattle.permit_step.proofs.Permits.{ready-seq, ready-par, ready-choice, ready-tied}
 use Rattle.permit_step.specs.Endings.{AreEnding, MayPartEnd}
-use Rattle.permit_step.specs.Taking.{HasGap, MayEnd, end_nil, end_join, end_choice, end_bound, end_zero, end_turns, end_trail, EndAll, end_none, end_more, EndOne, end_this, end_that, EndLoop, no_turns, past_gap, one_turn, EndWalk, last_edge, inner_edge}
-
-take_next : {A : Type 0} → (xs : List A) (i : ℕ) (x : A) → slice_get xs i ≡ Some x → take (suc i) xs ≡ take i xs ++ x ∷ []
-take_next [] i x p = cc
-take_next (y ∷ ys) zero x p = let e : y ≡ x = cc in rw e
-take_next (y ∷ ys) (suc i) x p = ap (λ l. y ∷ l) (take_next ys i x p)
-
-take_step : {A : Type 0} → (xs : List A) (i : ℕ) (x : A) → slice_get xs i ≡ Some x → take (i + 1) xs ≡ take i xs ++ x ∷ []
-take_step xs i x p = rw add-one (take_next xs i x p)
+use Rattle.term_laws.specs.Taking.{HasGap, MayEnd, end_nil, end_join, end_choice, end_bound, end_zero, end_turns, end_trail, EndAll, end_none, end_more, EndOne, end_this, end_that, EndLoop, no_turns, past_gap, one_turn, EndWalk, last_edge, inner_edge}
 
 module _ (w : NetTerms) where
   -- several parts

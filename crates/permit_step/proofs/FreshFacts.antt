@@ -11,10 +11,10 @@ use Rattle.chart_term.specs.TermMeanings.{UpTo}
 use Rattle.chart_term.proofs.Walking.{out_filter}
 use Rattle.permit_step.specs.Fresh.{IsFreshLoop, IsUnreached, MayTurn, MayNotTurn}
 use Rattle.chart_term.specs.Spreads.{touch}
-use Rattle.permit_step.specs.Permission.{permit, permits_of}
+use Rattle.term_laws.specs.Permission.{permit, permits_of}
 use Rattle.permit_step.specs.Ready.{IsReady, AreReadyTables}
 use Rattle.permit_step.specs.RowRests.{no_rest, gap_before, open_before, rest_end}
-use Rattle.permit_step.proofs.Identity.{permit_same}
+use Rattle.term_laws.proofs.Identity.{permit_same}
 use Rattle.permit_step.proofs.NodeTerms.{node-is}
 use Rattle.permit_step.proofs.PermitWalks.{in_filter, nodes_in}
 use Rattle.permit_step.proofs.RowRests.{turns-rest}

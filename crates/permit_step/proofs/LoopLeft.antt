@@ -1,35 +1,35 @@
 -- What is left of a loop, by its row's parts from their end.
 use Rattle.std.specs.Option.{option_map}
-use Rattle.std.specs.Prelude.{ℕ, zero, suc, ◌+◌, ◌<◌, ◌≤◌, Bool, true, false, List, [], ◌∷◌, ◌≡◌, ◌||◌, ◌&&◌, Option, Some, None, refl, length, take, drop, slice_get}
-use Rattle.std.proofs.Common.{ap, sym, ◌∙◌, subst, add-one, arith, cond}
+use Rattle.std.specs.Prelude.{ℕ, zero, suc, ◌+◌, ◌<◌, Bool, true, false, List, [], ◌∷◌, ◌≡◌, ◌||◌, ◌&&◌, Option, Some, None, refl, length, take, drop, slice_get}
+use Rattle.std.proofs.Common.{ap, sym, ◌∙◌, add-one, arith, cond}
 use Rattle.chart_term.specs.NormalForms.{NetPermits, only, cut, is_nil, some_kept, loop_of}
 use Rattle.chart_term.specs.Properties.{EachGap}
 use Rattle.chart_term.specs.Spreads.{touch, spread_of}
 use Rattle.chart_term.specs.Tables.{Tables}
 use Rattle.chart_term.specs.TermPatterns.{instances_of}
-use Rattle.chart_term.specs.Terms.{TermEvent, has, Tree, Loop, Part, Gap, Turn, parts, row_of, ◌∪◌}
+use Rattle.chart_term.specs.Terms.{TermEvent, has, Tree, Loop, Part, Gap, Turn, row_of, ◌∪◌}
 use Rattle.chart_term.specs.Views.{event_of}
 use Rattle.chart_term.proofs.Lists.{parts-row_of}
+use Rattle.chart_term.proofs.Instances.{has_union}
 use Rattle.permit_step.specs.Children.{RowLeft, turn_first, gap_first, row_left, where_so, loop_left, put}
-use Rattle.permit_step.specs.Listing.{may_begin}
-use Rattle.permit_step.specs.Normality.{IsSet}
-use Rattle.permit_step.specs.Permission.{permit, permits_of}
-use Rattle.permit_step.specs.Ready.{IsReady, AreReadyParts, IsReadyLoop}
-use Rattle.permit_step.specs.RowRests.{RowRest, no_rest, turn_before, gap_before, tried_before, open_before, rest_of, rest_end, kept_before, keep_first, keep_part, keep_parts}
+use Rattle.term_laws.specs.Listing.{may_begin}
+use Rattle.term_laws.specs.Normality.{IsSet}
+use Rattle.term_laws.specs.Permission.{permit, permits_of}
+use Rattle.permit_step.specs.Ready.{AreReadyParts, IsReadyLoop}
+use Rattle.permit_step.specs.RowRests.{RowRest, no_rest, turn_before, gap_before, tried_before, open_before, rest_of, rest_end, kept_before, keep_first, keep_parts}
 use Rattle.permit_step.specs.Searches.{IsTaken, is_gap, part_before, tail_of}
-use Rattle.permit_step.specs.Taking.{fewer, down}
-use Rattle.permit_step.specs.Values.{block_of}
+use Rattle.term_laws.specs.Taking.{fewer, down}
+use Rattle.term_laws.specs.Values.{block_of}
 use Rattle.permit_step.specs.declared.ascent.Taken.{Taken}
 use Rattle.permit_step.proofs.Ascending.{taken-permits}
 use Rattle.permit_step.proofs.PermitLoops.{cut_alike}
-use Rattle.permit_step.proofs.Normalising.{union_set, cut_set}
-use Rattle.permit_step.proofs.SetFacts.{set_ext, has_cut}
-use Rattle.permit_step.proofs.TouchFacts.{union_has}
+use Rattle.term_laws.proofs.Normalising.{union_set, cut_set}
+use Rattle.term_laws.proofs.SetFacts.{set_ext, has_cut}
 use Rattle.permit_step.proofs.RowRests.{turns-rest}
 
 -- a set with more members of the instances that count
 wide-alike : (all c d a b : List ℕ) → IsSet c → cut all c ≡ c → d ≡ cut all a → ((n : ℕ) → has a n ≡ has b n) → c ∪ d ≡ cut all (c ∪ b)
-wide-alike all c d a b s h e f = set_ext (c ∪ d) (cut all (c ∪ b)) (union_set c d s) (cut_set all (c ∪ b) (union_set c b s)) (λ n. union_has c d n ∙ ((λ i. own n i || other n i) ∙ (spread (has c n) (has b n) (has all n) ∙ sym (has_cut all (c ∪ b) n ∙ ap (λ t. t && has all n) (union_has c b n)))))
+wide-alike all c d a b s h e f = set_ext (c ∪ d) (cut all (c ∪ b)) (union_set c d s) (cut_set all (c ∪ b) (union_set c b s)) (λ n. has_union c d n ∙ ((λ i. own n i || other n i) ∙ (spread (has c n) (has b n) (has all n) ∙ sym (has_cut all (c ∪ b) n ∙ ap (λ t. t && has all n) (has_union c b n)))))
   where
     own : (n : ℕ) → has c n ≡ (has c n && has all n)
     own n = ap (λ l. has l n) (sym h) ∙ has_cut all c n

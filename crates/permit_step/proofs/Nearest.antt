@@ -1,11 +1,11 @@
 -- Parts that are tried from the last of them on.
 use Rattle.std.specs.Prelude.{ℕ, zero, suc, ◌+◌, ◌<◌, List, [], ◌∷◌, ◌++◌, ◌≡◌, Option, Some, None, refl, take, drop, reverse, slice_get}
-use Rattle.std.proofs.Common.{ap, sym, ◌∙◌, subst, add-one, arith}
+use Rattle.std.proofs.Common.{ap, sym, ◌∙◌, subst, add-one}
 use Rattle.std.proofs.lemmas.List.{reverse-append}
 use Rattle.chart_term.specs.NormalForms.{NetPermits, and_then}
 use Rattle.chart_term.specs.Terms.{Block, Tree, trees, Part, Gap, Turn}
 use Rattle.permit_step.specs.Held.{IsHeld, HasHeld}
-use Rattle.permit_step.specs.Permission.{permit, permit_all}
+use Rattle.term_laws.specs.Permission.{permit, permit_all}
 use Rattle.permit_step.specs.RowRests.{RowRest, kept_before, keep_first, keep_parts}
 use Rattle.permit_step.proofs.PermitRows.{drop_next, get_take, ready-part}
 

@@ -7,13 +7,13 @@ use Rattle.chart_term.specs.NormalForms.{only}
 use Rattle.chart_term.specs.Properties.{Each, IsBelow, EveryOf, EveryRow}
 use Rattle.chart_term.specs.Tables.{Tables, NetEntry, net_count, choose, count_from, nth_tree, node_of, net_of, nodes_of}
 use Rattle.chart_term.specs.Terms.{Block, Tree, Nil, Event, Join, Choice, Tied, Loop, Walk, Trees, none, more, Row, ends, gap, turn}
-use Rattle.permit_step.specs.Permission.{permit, permit_nth, permits_of}
+use Rattle.term_laws.specs.Permission.{permit, permit_nth, permits_of}
 use Rattle.permit_step.specs.Ready.{IsSpotWithin, IsGoalWithin, IsWithin, AreWithin, IsRowWithin, IsReady, AreReadyTables}
-use Rattle.permit_step.proofs.Agreeing.{same_permit}
-use Rattle.permit_step.proofs.Measures.{rank_in}
-use Rattle.permit_step.proofs.NormalTables.{up_normal}
-use Rattle.permit_step.proofs.TermSentences.{net_rank, sum_rank, same_rank, new_rank}
-use Rattle.permit_step.proofs.TidyTables.{not_same, less_or_same}
+use Rattle.term_laws.proofs.Agreeing.{same_permit}
+use Rattle.term_laws.proofs.Measures.{rank_in}
+use Rattle.term_laws.proofs.NormalTables.{up_normal}
+use Rattle.term_laws.proofs.TermSentences.{net_rank, sum_rank, same_rank, new_rank}
+use Rattle.term_laws.proofs.TidyTables.{not_same, less_or_same}
 
 -- a term that fits names only nets that are there
 mutual

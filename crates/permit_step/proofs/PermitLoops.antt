@@ -9,12 +9,12 @@ use Rattle.chart_term.specs.Properties.{EachGap}
 use Rattle.chart_term.specs.Tables.{Tables}
 use Rattle.chart_term.specs.Terms.{Block, has, add_at, add_member, ◌∪◌, Tree, Loop, Part, Gap, Turn, row_of}
 use Rattle.chart_term.proofs.Lists.{parts-row_of}
-use Rattle.permit_step.specs.Normality.{IsSet, IsAbove, IsNormalLoop, IsNormalRow}
+use Rattle.term_laws.specs.Normality.{IsSet, IsAbove, IsNormalLoop, IsNormalRow}
 use Rattle.chart_term.specs.Spreads.{touch, spread_of}
-use Rattle.permit_step.specs.Permission.{permit, permit_row, wider, with_turn, permits_of}
+use Rattle.term_laws.specs.Permission.{permit, permit_row, wider, with_turn, permits_of}
 use Rattle.permit_step.specs.Ready.{IsReady, AreReadyParts, IsReadyLoop, IsRowWithin}
 use Rattle.permit_step.specs.RowRests.{RowRest, no_rest, turn_before, open_before, rest_of, rest_end, kept_before, keep_first, keep_parts}
-use Rattle.permit_step.proofs.Normalising.{union_set}
+use Rattle.term_laws.proofs.Normalising.{union_set}
 use Rattle.permit_step.proofs.RowRests.{turns-rest}
 
 -- the cut of a union is the union of the cuts

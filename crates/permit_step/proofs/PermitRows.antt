@@ -5,7 +5,7 @@ use Rattle.chart_term.specs.Tables.{Tables}
 use Rattle.chart_term.specs.Terms.{Tree, Part}
 use Rattle.permit_step.specs.Ready.{IsReadyPart, AreReadyParts}
 use Rattle.permit_step.specs.RowRests.{RowRest, keep_part, keep_first, keep_parts}
-use Rattle.permit_step.proofs.Measures.{rank-part}
+use Rattle.term_laws.proofs.Measures.{rank-part}
 
 pub drop_next : {A : Type 0} → (xs : List A) (i : ℕ) (x : A) → slice_get xs i ≡ Some x → drop i xs ≡ x ∷ drop (suc i) xs
 drop_next [] i x p = cc

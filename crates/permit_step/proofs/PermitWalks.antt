@@ -17,13 +17,13 @@ use Rattle.chart_term.specs.NormalForms.{NetPermits, only, is_nil, some_kept, al
 use Rattle.chart_term.specs.Tables.{Tables, net_count, net_of, nodes_of, node_of, count_from, choose}
 use Rattle.chart_term.specs.Terms.{Tree, Nil, Walk}
 use Rattle.chart_term.proofs.Walking.{out_filter}
-use Rattle.permit_step.specs.Normality.{IsSet}
+use Rattle.term_laws.specs.Normality.{IsSet}
 use Rattle.permit_step.specs.Passing.{is_full, ArePassable, PassesFull, IsAimed}
-use Rattle.permit_step.specs.Permission.{permit, permits_of}
+use Rattle.term_laws.specs.Permission.{permit, permits_of}
 use Rattle.permit_step.specs.Ready.{IsReady, AreReadyTables, IsSpotWithin, IsGoalWithin}
-use Rattle.permit_step.proofs.Measures.{rank_in}
+use Rattle.term_laws.proofs.Measures.{rank_in}
 use Rattle.permit_step.proofs.NodeTerms.{IsNode, node-is, sizes-are, count_length}
-use Rattle.permit_step.proofs.TermSentences.{net_rank}
+use Rattle.term_laws.proofs.TermSentences.{net_rank}
 
 -- members of filtered lists and of counted ones
 pub in_filter : (t : ℕ → Bool) (ms : List ℕ) (m : ℕ) → IsIn m ms → t m ≡ true → IsIn m (filter t ms)

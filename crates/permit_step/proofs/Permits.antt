@@ -2,7 +2,7 @@
 use Rattle.std.specs.Prelude.{ℕ, zero, suc, ◌+◌, true, false, List, [], ◌∷◌, ◌++◌, ◌≡◌, ◌&&◌, Option, Some, None, refl, take, slice_get, not}
 use Rattle.std.specs.List.{list_any}
 use Rattle.std.specs.Option.{option_map}
-use Rattle.std.proofs.Common.{ap, ◌∙◌, add-one, append-nil}
+use Rattle.std.proofs.Common.{ap, ◌∙◌, append-nil}
 use Rattle.bit_sets.specs.Blocks.{BlockValue}
 use Rattle.msc_base.specs.Patterns.{Mode, seq, par}
 use Rattle.chart_term.specs.Facts.{misses}
@@ -10,20 +10,13 @@ use Rattle.chart_term.specs.NormalForms.{NetPermits, and_then, or_skip}
 use Rattle.chart_term.specs.Properties.{Each}
 use Rattle.chart_term.specs.Tables.{Tables}
 use Rattle.chart_term.specs.Terms.{Block, TermEvent, Tree, Nil, Event, Join, Choice, Tied, trees}
-use Rattle.permit_step.specs.Normality.{AreNormal}
-use Rattle.permit_step.specs.Permission.{permit, permit_all, permit_some, permits_of}
+use Rattle.chart_term.proofs.Lists.{take_step}
+use Rattle.term_laws.specs.Normality.{AreNormal}
+use Rattle.term_laws.specs.Permission.{permit, permit_all, permit_some, permits_of}
 use Rattle.permit_step.specs.Ready.{IsReady, AreWithin}
-use Rattle.permit_step.specs.Values.{block_of}
-use Rattle.permit_step.proofs.Missed.{permit-misses, hits-unless}
-use Rattle.permit_step.proofs.Measures.{rank-seq, rank-par, rank-some, rank-tied, rank-loop, rank-at}
-
-pub take_next : {A : Type 0} → (xs : List A) (i : ℕ) (x : A) → slice_get xs i ≡ Some x → take (suc i) xs ≡ take i xs ++ x ∷ []
-take_next [] i x p = cc
-take_next (y ∷ ys) zero x p = let e : y ≡ x = cc in rw e
-take_next (y ∷ ys) (suc i) x p = ap (λ l. y ∷ l) (take_next ys i x p)
-
-pub take_step : {A : Type 0} → (xs : List A) (i : ℕ) (x : A) → slice_get xs i ≡ Some x → take (i + 1) xs ≡ take i xs ++ x ∷ []
-take_step xs i x p = rw add-one (take_next xs i x p)
+use Rattle.term_laws.specs.Values.{block_of}
+use Rattle.term_laws.proofs.Missed.{permit-misses, hits-unless}
+use Rattle.term_laws.proofs.Measures.{rank-seq, rank-par, rank-some, rank-tied, rank-loop, rank-at}
 
 module _ (k : NetPermits) (b : Block) where
   move : (o : Option Tree) (p : Option (List Tree)) (y : Tree) → and_then o (option_map (λ ks. ks ++ y ∷ []) p) ≡ option_map (λ ks. ks ++ y ∷ []) (and_then o p)

@@ -1,23 +1,23 @@
 -- What is left of a ready term is ready.
 use Rattle.std.specs.Option.{option_map}
-use Rattle.std.specs.Prelude.{ℕ, zero, suc, ◌+◌, ◌<◌, Bool, true, false, List, [], ◌∷◌, ◌≡◌, Option, Some, None, refl, length}
-use Rattle.std.proofs.Common.{ap, sym, ◌∙◌, subst, arith}
+use Rattle.std.specs.Prelude.{ℕ, zero, suc, ◌<◌, Bool, true, false, List, [], ◌∷◌, Option, Some, None, refl, length}
+use Rattle.std.proofs.Common.{arith}
 use Rattle.msc_base.specs.Patterns.{Mode, seq, par}
 use Rattle.hmsc_graph.specs.Graphs.{Spot, At, Goal, To}
 use Rattle.chart_term.specs.NormalForms.{NetPermits, only, cut, join_all, and_then, tie_of, loop_of, walk_of}
 use Rattle.chart_term.specs.Properties.{Each, EachTurn, EachGap, MayHave}
-use Rattle.chart_term.specs.Spreads.{touch, spread_of}
+use Rattle.chart_term.specs.Spreads.{touch}
 use Rattle.chart_term.specs.Tables.{Tables, nodes_of}
 use Rattle.chart_term.specs.TermPatterns.{instances_of, earlier}
 use Rattle.chart_term.specs.Terms.{TermEvent, Block, Tree, Nil, Event, Join, Choice, Tied, Loop, Walk, Trees, none, more, Row, ends, gap, turn, items, Part, Gap, Turn, parts, ◌∪◌}
 use Rattle.permit_step.specs.Children.{parts_left, RowLeft, turn_first, gap_first, row_left, where_so, loop_left, three, put}
-use Rattle.permit_step.specs.Listing.{stay, may_begin, may_lead}
-use Rattle.permit_step.specs.Normality.{IsSet, IsNormal, AreNormal, IsNormalRow}
-use Rattle.permit_step.specs.Permission.{permit, permits_of}
+use Rattle.term_laws.specs.Listing.{stay, may_begin, may_lead}
+use Rattle.term_laws.specs.Normality.{IsSet, IsNormal, AreNormal, IsNormalRow}
+use Rattle.term_laws.specs.Permission.{permit, permits_of}
 use Rattle.permit_step.specs.Ready.{IsReady, IsWithin, AreWithin, IsRowWithin, AreReadyTables}
 use Rattle.permit_step.specs.Searches.{child_count}
-use Rattle.permit_step.specs.Taking.{fewer, down}
-use Rattle.permit_step.proofs.Normalising.{union_set, turns_normal, trail_normal}
+use Rattle.term_laws.specs.Taking.{fewer, down}
+use Rattle.term_laws.proofs.Normalising.{union_set, turns_normal, trail_normal}
 use Rattle.permit_step.proofs.NodeTerms.{sizes-are}
 use Rattle.permit_step.proofs.ReadyTerms.{ready_is_kept}
 use Rattle.permit_step.proofs.Within.{may_both, permit-ready, turns_within, trail_in}

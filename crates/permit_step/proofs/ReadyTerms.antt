@@ -4,19 +4,19 @@ use Rattle.std.proofs.Common.{◌∙◌, ap, sym, subst}
 use Rattle.msc_base.specs.Patterns.{Mode, seq, par}
 use Rattle.msc_base.specs.declared.label.Label.{Label}
 use Rattle.hmsc_graph.specs.Nets.{size_of}
-use Rattle.chart_term.specs.NetValues.{NetsValue}
+use Rattle.term_tables.specs.NetValues.{NetsValue}
 use Rattle.chart_term.specs.NormalForms.{join_all, choice_of, tie_of}
-use Rattle.chart_term.specs.Properties.{Each, MayHave}
+use Rattle.chart_term.specs.Properties.{Each}
 use Rattle.chart_term.specs.Tables.{Tables, NetEntry, net_count}
-use Rattle.chart_term.specs.Terms.{TermEvent, Tree, Nil, Event}
-use Rattle.permit_step.specs.Normality.{IsNormalOver}
-use Rattle.permit_step.specs.Permission.{permits_of}
+use Rattle.chart_term.specs.Terms.{TermEvent, Tree, Event}
+use Rattle.term_laws.specs.Normality.{IsNormalOver}
+use Rattle.term_laws.specs.Permission.{permits_of}
 use Rattle.permit_step.specs.Ready.{AreReadyTables, IsReady, IsWithin}
 use Rattle.permit_step.specs.ReadyLaws.{ReadyIsKept}
 use Rattle.permit_step.specs.Successors.{AppendsFound}
 use Rattle.permit_step.proofs.NodeTerms.{up_ready}
-use Rattle.permit_step.proofs.Normalising.{join_normal, choice_normal, bound_normal}
-use Rattle.permit_step.proofs.TidyTables.{at_some}
+use Rattle.term_laws.proofs.Normalising.{join_normal, choice_normal, bound_normal}
+use Rattle.term_laws.proofs.TidyTables.{at_some}
 use Rattle.permit_step.proofs.Within.{join_in, choice_in, bound_in, may_both}
 
 module _ (w : Tables) where

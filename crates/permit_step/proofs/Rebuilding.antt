@@ -1,17 +1,17 @@
 -- What is left of a whole term, from the frame at the path's end to its first.
-use Rattle.std.specs.Prelude.{ℕ, zero, suc, ◌+◌, ◌-◌, ◌<◌, ◌⊎◌, List, [], ◌∷◌, ◌++◌, ◌≡◌, Option, Some, None, refl, length, take, slice_get}
-use Rattle.std.proofs.Common.{ap, sym, ◌∙◌, subst, add-one, arith, get_or, inl, inr}
+use Rattle.std.specs.Prelude.{ℕ, zero, suc, ◌+◌, ◌-◌, ◌<◌, List, [], ◌∷◌, ◌++◌, ◌≡◌, Option, Some, None, refl, length, take, slice_get}
+use Rattle.std.proofs.Common.{ap, sym, ◌∙◌, subst, arith, get_or, inl, inr}
 use Rattle.chart_term.specs.NormalForms.{NetPermits}
 use Rattle.chart_term.specs.Properties.{MayHave}
 use Rattle.chart_term.specs.Tables.{Tables}
 use Rattle.chart_term.specs.Terms.{TermEvent, Tree, Event}
 use Rattle.permit_step.specs.Children.{child, put}
-use Rattle.permit_step.specs.Permission.{permits_of}
+use Rattle.term_laws.specs.Permission.{permits_of}
 use Rattle.permit_step.specs.Ready.{IsReady, AreReadyTables}
 use Rattle.permit_step.specs.Searches.{AreReadyFrames, child_count, put_some, put_all, IsResult, IsNoEvent}
 use Rattle.permit_step.specs.declared.ascent.Frame.{Frame}
-use Rattle.permit_step.proofs.Children.{IsInChild, in-child, from-child}
-use Rattle.permit_step.proofs.Permits.{take_step}
+use Rattle.permit_step.proofs.Children.{in-child, from-child}
+use Rattle.chart_term.proofs.Lists.{take_step}
 use Rattle.permit_step.proofs.PutReady.{put-ready}
 
 abbrev pub put_on : NetPermits → TermEvent → List Frame → Option Tree → Option Tree

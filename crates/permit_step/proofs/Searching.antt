@@ -1,28 +1,28 @@
 -- The search: what it finds is what is left, and all of it.
-use Rattle.std.specs.Prelude.{ℕ, zero, suc, ◌+◌, ◌<◌, ◌≤◌, ◌⊎◌, ◌||◌, Bool, true, false, List, [], ◌∷◌, ◌++◌, ◌≡◌, Option, Some, None, refl, length}
+use Rattle.std.specs.Prelude.{ℕ, ◌+◌, ◌<◌, ◌≤◌, ◌⊎◌, ◌||◌, Bool, true, false, List, [], ◌∷◌, ◌++◌, ◌≡◌, Option, Some, None, refl}
 use Rattle.std.proofs.Common.{ap, sym, ◌∙◌, subst, arith, append_assoc, append-nil, inl, inr}
 use Rattle.chart_term.specs.Properties.{Each, MayHave}
 use Rattle.chart_term.specs.Tables.{Tables}
 use Rattle.chart_term.specs.Terms.{TermEvent, Tree, Nil, Event, has, ◌∪◌}
+use Rattle.chart_term.proofs.Instances.{has_union}
 use Rattle.permit_step.specs.Children.{child}
-use Rattle.permit_step.specs.Listing.{IsAmong, set_weight}
-use Rattle.permit_step.specs.Permission.{permits_of}
+use Rattle.term_laws.specs.Listing.{IsAmong, set_weight}
+use Rattle.term_laws.specs.Permission.{permits_of}
 use Rattle.permit_step.specs.Ready.{IsReady, AreReadyTables}
 use Rattle.permit_step.specs.Searches.{child_count, put_all, IsResult, IsFinding, IsTally, IsBounded, Gains, Gathers, GathersBelow, AddsOne, IsNoEvent, IsTaken}
 use Rattle.msc_base.specs.declared.label.Label.{Label}
-use Rattle.chart_term.specs.NetValues.{NetsValue, label_number}
+use Rattle.term_tables.specs.NetValues.{NetsValue, label_number}
 use Rattle.permit_step.specs.Successors.{IsJustAbove, IsSuccessor, AppendsFound}
-use Rattle.permit_step.specs.Taking.{IsAfter, after_event}
+use Rattle.term_laws.specs.Taking.{IsAfter, after_event}
 use Rattle.chart_term.specs.Facts.{instances}
 use Rattle.chart_term.specs.Views.{event_of}
 use Rattle.chart_term.specs.declared.event.Event.{Event as EventShown}
 use Rattle.bit_sets.specs.Blocks.{BlockValue}
-use Rattle.permit_step.proofs.TouchFacts.{union_has}
 use Rattle.permit_step.specs.declared.ascent.Frame.{Frame}
 use Rattle.permit_step.specs.declared.found.Found.{Found}
-use Rattle.permit_step.proofs.Children.{IsInChild, in-child}
+use Rattle.permit_step.proofs.Children.{in-child}
 use Rattle.permit_step.proofs.ChildReady.{child-good}
-use Rattle.permit_step.proofs.Keeping.{each_app}
+use Rattle.term_laws.proofs.Keeping.{each_app}
 use Rattle.permit_step.proofs.Rebuilding.{result-child, result-up}
 
 -- lists that grow
@@ -165,7 +165,7 @@ module _ (w : Tables) (tables : AreReadyTables w) (a : ℕ) (fs : List Frame) (x
 pub taken-is : (x : Tree) (v : EventShown) (empty stored own : BlockValue) → x ≡ Event (event_of v) → ((n : ℕ) → has stored.instances n ≡ has (instances x) n) → empty ≡ record { instances = []; events = [] } → own ≡ record { instances = empty.instances ∪ stored.instances; events = [] }
     → IsTaken (record { event = v; at = own })
 taken-is x v empty stored own e h n o = record {
-  same = λ m. ap (λ (b : BlockValue). has b.instances m) o ∙ (union_has empty.instances stored.instances m ∙ ((λ i. has (ap (λ (b : BlockValue). b.instances) n i) m || h m i) ∙ ap (λ y. has (instances y) m) e));
+  same = λ m. ap (λ (b : BlockValue). has b.instances m) o ∙ (has_union empty.instances stored.instances m ∙ ((λ i. has (ap (λ (b : BlockValue). b.instances) n i) m || h m i) ∙ ap (λ y. has (instances y) m) e));
   alone = ap (λ (b : BlockValue). b.events) o;
 }
 

@@ -1,14 +1,14 @@
 -- Terms that are sound in full are ready.
-use Rattle.std.specs.Prelude.{ℕ, ◌<◌, List, [], ◌∷◌, length}
+use Rattle.std.specs.Prelude.{ℕ, ◌<◌, [], ◌∷◌, length}
 use Rattle.hmsc_graph.specs.Graphs.{Spot, Start, At, Goal, To, End, Any}
 use Rattle.chart_term.specs.Tables.{Tables, nodes_of}
 use Rattle.chart_term.specs.Terms.{Tree, Nil, Event, Join, Choice, Tied, Loop, Walk, Trees, none, more, Row, ends, gap, turn}
-use Rattle.permit_step.specs.FullSoundness.{EveryPartOf, EveryRowPart, IsSpotOf, IsGoalOf, AreNumbersKnown, IsSoundNode, IsSoundOver, AreSoundNets}
+use Rattle.term_laws.specs.FullSoundness.{EveryPartOf, EveryRowPart, IsSpotOf, IsGoalOf, AreNumbersKnown, IsSoundNode, IsSoundOver, AreSoundNets}
 use Rattle.permit_step.specs.Ready.{IsSpotWithin, IsGoalWithin, IsWithin, AreWithin, IsRowWithin, IsReady, AreReadyTables}
 use Rattle.permit_step.specs.ReadyBySoundness.{ReadyBySoundness}
-use Rattle.permit_step.specs.Soundness.{IsKnown}
+use Rattle.term_laws.specs.Soundness.{IsKnown}
 use Rattle.permit_step.proofs.PermitWalks.{nodes_in}
-use Rattle.permit_step.proofs.TidyTables.{each_map}
+use Rattle.term_laws.proofs.TidyTables.{each_map}
 
 module _ (labels : ℕ) (w : Tables) where
   spot_within : (n : ℕ) (f : Spot) → IsSpotOf w n f → IsSpotWithin (length (nodes_of w n)) f

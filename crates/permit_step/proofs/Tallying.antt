@@ -1,25 +1,22 @@
 -- The terms that were found: each once, with their weight.
 use Rattle.std.specs.BTreeSet.{contains}
-use Rattle.std.specs.List.{list_any}
 use Rattle.std.specs.Ordering.{is_eq}
-use Rattle.std.specs.Prelude.{ℕ, zero, suc, ◌+◌, ◌<◌, ◌≤◌, Bool, true, false, List, [], ◌∷◌, ◌++◌, ◌≡◌, ◌||◌, ◌⊎◌, refl, min, nat_le, not}
+use Rattle.std.specs.Prelude.{◌+◌, ◌<◌, ◌≤◌, Bool, true, false, List, [], ◌∷◌, ◌++◌, ◌≡◌, ◌||◌, ◌⊎◌, refl, min, nat_le, not}
 use Rattle.std.proofs.Common.{ap, sym, ◌∙◌, subst, arith, cond, inl, inr, append-nil}
 use Rattle.std.proofs.lemmas.Bool.Decides.{nat_tests}
 use Rattle.chart_term.specs.Equality.{same_tree}
 use Rattle.chart_term.specs.Facts.{most_stored}
 use Rattle.chart_term.specs.Order.{tree_cmp}
-use Rattle.chart_term.specs.Properties.{Each}
 use Rattle.chart_term.specs.Terms.{Tree, weight}
 use Rattle.chart_term.specs.OrderLaws.{tree_equal, tree_itself}
 use Rattle.std.specs.declared.cmp.Ordering.{Ordering}
 use Rattle.std.specs.declared.cmp.Ordering.TheVariants.{Less, Equal, Greater}
 use Rattle.chart_term.proofs.Equal.{same_tree_is_exact}
-use Rattle.permit_step.specs.Listing.{IsAmong, set_weight}
-use Rattle.permit_step.specs.Normality.{AreDifferent}
-use Rattle.permit_step.specs.Searches.{IsTally, IsBounded, Gains, AddsOne, is_listed}
-use Rattle.permit_step.specs.Successors.{IsJustAbove}
+use Rattle.term_laws.specs.Listing.{IsAmong, set_weight}
+use Rattle.term_laws.specs.Normality.{AreDifferent}
+use Rattle.permit_step.specs.Searches.{IsTally, AddsOne, is_listed}
 use Rattle.permit_step.specs.declared.found.Found.{Found}
-use Rattle.permit_step.proofs.Keeping.{each_app}
+use Rattle.term_laws.proofs.Keeping.{each_app}
 
 pub set_weight-snoc : (xs : List Tree) (t : Tree) → set_weight (xs ++ t ∷ []) ≡ set_weight xs + weight t
 set_weight-snoc [] t = omega arith

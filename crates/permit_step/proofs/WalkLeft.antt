@@ -1,30 +1,30 @@
 -- What is left of a walk, by the walk to a node and the walk on from it.
-use Rattle.std.specs.Prelude.{ℕ, zero, suc, ◌+◌, ◌<◌, ◌==◌, Bool, true, false, List, [], ◌∷◌, ◌++◌, ◌≡◌, ◌||◌, ◌&&◌, ◌⊎◌, Option, Some, None, refl, length}
-use Rattle.std.proofs.Common.{ap, sym, ◌∙◌, subst, arith, cond, filter, inl, inr}
+use Rattle.std.specs.Prelude.{ℕ, zero, suc, ◌<◌, ◌==◌, Bool, true, false, List, [], ◌∷◌, ◌++◌, ◌≡◌, ◌||◌, ◌&&◌, Option, Some, None, refl, length}
+use Rattle.std.proofs.Common.{ap, sym, ◌∙◌, arith, cond, filter, inl, inr}
 use Rattle.msc_base.specs.Patterns.{seq}
 use Rattle.hmsc_graph.specs.Graphs.{Spot, At, Goal, To, End, Any, reach}
 use Rattle.msc_base.specs.Lists.{IsIn}
-use Rattle.chart_term.specs.NormalForms.{NetPermits, only, cut, join_all, some_kept, allowed, are_nil, walk_form, walk_cut, walk_of}
+use Rattle.chart_term.specs.NormalForms.{only, cut, join_all, some_kept, allowed, are_nil, walk_form, walk_of}
 use Rattle.chart_term.specs.Properties.{Each, IsBelow}
 use Rattle.chart_term.specs.Spreads.{touch, touch_list, spread_of}
 use Rattle.chart_term.specs.Tables.{Tables, NetEntry, net_count, choose, count_from, nth_tree, node_of, nodes_of}
 use Rattle.chart_term.specs.TermPatterns.{instances_of}
 use Rattle.chart_term.specs.Terms.{TermEvent, has, Tree, Walk, ◌∪◌}
 use Rattle.chart_term.specs.Views.{event_of}
-use Rattle.permit_step.specs.Children.{where_so, three, walk_left, put}
-use Rattle.permit_step.specs.Listing.{may_lead}
-use Rattle.permit_step.specs.Normality.{IsSet}
-use Rattle.permit_step.specs.Permission.{permit, permits_of}
+use Rattle.chart_term.proofs.Instances.{has_app}
+use Rattle.permit_step.specs.Children.{where_so, three, put}
+use Rattle.term_laws.specs.Listing.{may_lead}
+use Rattle.term_laws.specs.Normality.{IsSet}
+use Rattle.term_laws.specs.Permission.{permits_of}
 use Rattle.permit_step.specs.Ready.{IsReady, AreReadyTables}
 use Rattle.permit_step.specs.Searches.{IsTaken}
 use Rattle.permit_step.specs.declared.ascent.Taken.{Taken}
-use Rattle.permit_step.proofs.Agreeing.{same_touch}
-use Rattle.permit_step.proofs.Alike.{AreIn, AgreeOn, permit-alike, union-alike, in_left, in_right}
+use Rattle.term_laws.proofs.Agreeing.{same_touch}
+use Rattle.term_laws.proofs.Alike.{AreIn, AgreeOn, permit-alike, union-alike}
 use Rattle.permit_step.proofs.NodeTerms.{node-is, below, count_length}
 use Rattle.permit_step.proofs.PermitWalks.{nodes_in}
-use Rattle.permit_step.proofs.SetFacts.{has_cut}
-use Rattle.permit_step.proofs.TidyTables.{not_same, less_or_same}
-use Rattle.permit_step.proofs.TouchFacts.{has_both}
+use Rattle.term_laws.proofs.SetFacts.{has_cut}
+use Rattle.term_laws.proofs.TidyTables.{not_same, less_or_same}
 
 -- a node's term touches instances of its net alone
 or_left : (a b : Bool) → a ≡ true → (a || b) ≡ true
@@ -37,8 +37,8 @@ or_right false b h = h
 
 nth_touch : (s : ℕ → List ℕ) (xs : List Tree) (m : ℕ) → m < length xs → AreIn (touch s (nth_tree xs m)) (touch_list s xs)
 nth_touch s [] m l = absurd (omega arith)
-nth_touch s (x ∷ xs) zero l = λ n i. has_both (touch s x) (touch_list s xs) n ∙ or_left (has (touch s x) n) (has (touch_list s xs) n) i
-nth_touch s (x ∷ xs) (suc m) l = λ n i. has_both (touch s x) (touch_list s xs) n ∙ or_right (has (touch s x) n) (has (touch_list s xs) n) (nth_touch s xs m (omega arith) n i)
+nth_touch s (x ∷ xs) zero l = λ n i. has_app (touch s x) (touch_list s xs) n ∙ or_left (has (touch s x) n) (has (touch_list s xs) n) i
+nth_touch s (x ∷ xs) (suc m) l = λ n i. has_app (touch s x) (touch_list s xs) n ∙ or_right (has (touch s x) n) (has (touch_list s xs) n) (nth_touch s xs m (omega arith) n i)
 
 nth_ready : (es : Tables) (xs : List Tree) (m : ℕ) → m < length xs → Each (IsReady es) xs → IsReady es (nth_tree xs m)
 nth_ready es [] m l h = absurd (omega arith)

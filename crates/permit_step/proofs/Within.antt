@@ -15,12 +15,12 @@ use Rattle.chart_term.specs.TermMeanings.{UpTo}
 use Rattle.chart_term.specs.Terms.{TermEvent, Block, hits, Tree, Nil, Event, Join, Choice, Tied, Loop, Walk, Trees, none, more, Row, ends, gap, turn, items, trees, Part, Gap, Turn, parts, row_of, ◌∪◌}
 use Rattle.chart_term.proofs.Looping.{sub_nil, sub_zero, sub_live, sub_free}
 use Rattle.permit_step.specs.Fresh.{IsFreshLoop}
-use Rattle.permit_step.specs.Normality.{IsNormalOver}
+use Rattle.term_laws.specs.Normality.{IsNormalOver}
 use Rattle.chart_term.specs.Spreads.{touch}
-use Rattle.permit_step.specs.Permission.{permit, permit_all, permit_some, permit_row, wider, with_turn, permits_of}
+use Rattle.term_laws.specs.Permission.{permit, permit_all, permit_some, permit_row, wider, with_turn, permits_of}
 use Rattle.permit_step.specs.Ready.{IsReady, IsWithin, AreWithin, IsRowWithin, IsGoalWithin}
-use Rattle.permit_step.proofs.Keeping.{sub_thin, each_turn_sub, each_turn_cut}
-use Rattle.permit_step.proofs.Normalising.{permit_normal, turns_normal, trail_normal}
+use Rattle.term_laws.proofs.Keeping.{sub_thin, each_turn_sub, each_turn_cut}
+use Rattle.term_laws.proofs.Normalising.{permit_normal, turns_normal, trail_normal}
 
 module _ (w : Tables) where
   pub all_in : (xs : List Tree) → Each (IsWithin w) xs → AreWithin w (trees xs)

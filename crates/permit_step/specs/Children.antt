@@ -6,10 +6,10 @@ use Rattle.hmsc_graph.specs.Graphs.{Spot, At, Goal, To}
 use Rattle.chart_term.specs.NormalForms.{NetPermits, only, join_all, and_then, tie_of, loop_of, walk_of}
 use Rattle.chart_term.specs.TermPatterns.{instances_of, earlier}
 use Rattle.chart_term.specs.Terms.{TermEvent, Tree, Nil, Event, Join, Choice, Tied, Loop, Walk, items, Part, Gap, Turn, parts, ◌∪◌}
-use Rattle.permit_step.specs.Listing.{stay, may_begin, may_lead}
+use Rattle.term_laws.specs.Listing.{stay, may_begin, may_lead}
 use Rattle.chart_term.specs.Spreads.{touch}
-use Rattle.permit_step.specs.Permission.{permit}
-use Rattle.permit_step.specs.Taking.{fewer, down}
+use Rattle.term_laws.specs.Permission.{permit}
+use Rattle.term_laws.specs.Taking.{fewer, down}
 
 -- what is left of the parts of a join where the part of this place leaves y
 abbrev pub parts_left : NetPermits → Mode → TermEvent → List Tree → ℕ → Tree → Option (List Tree)

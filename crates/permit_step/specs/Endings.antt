@@ -4,7 +4,7 @@ use Rattle.msc_base.specs.Lists.{IsIn}
 use Rattle.chart_term.specs.Tables.{Tables, node_of, terms_over}
 use Rattle.chart_term.specs.TermMeanings.{NetTerms}
 use Rattle.chart_term.specs.Terms.{Part, Gap, Turn}
-use Rattle.permit_step.specs.Taking.{MayEnd}
+use Rattle.term_laws.specs.Taking.{MayEnd}
 
 -- of the nodes below this one, those whose terms may end
 pub record AreEnding (w : Tables) (n top : ℕ) (ms : List ℕ) : Type 0 where

@@ -7,7 +7,7 @@ use Rattle.chart_term.specs.Terms.{Tree, Nil, Gap}
 use Rattle.chart_term.specs.TermMeanings.{UpTo}
 use Rattle.permit_step.specs.Passing.{IsAimed}
 use Rattle.chart_term.specs.Spreads.{touch}
-use Rattle.permit_step.specs.Permission.{permit, permits_of}
+use Rattle.term_laws.specs.Permission.{permit, permits_of}
 
 -- the loop in normal form whose row is one gap where any turn may begin; Nil where its counts allow no number of turns
 pub record IsFreshLoop (w : Tables) (x : Tree) (lo : ℕ) (hi : Option ℕ) (y : Tree) : Type 0 where

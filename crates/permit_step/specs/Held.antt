@@ -2,7 +2,7 @@
 use Rattle.std.specs.Prelude.{ℕ, List, ◌≡◌, Some, None, slice_get}
 use Rattle.chart_term.specs.NormalForms.{NetPermits}
 use Rattle.chart_term.specs.Terms.{Block, Part, Gap, Turn}
-use Rattle.permit_step.specs.Permission.{permit}
+use Rattle.term_laws.specs.Permission.{permit}
 
 -- a begun turn of which permission leaves nothing
 abbrev pub IsHeld : NetPermits → Block → Part → Type 0

@@ -6,7 +6,7 @@ use Rattle.hmsc_graph.specs.Walks.{Leads}
 use Rattle.chart_term.specs.NormalForms.{is_nil, some_kept}
 use Rattle.chart_term.specs.Tables.{Tables}
 use Rattle.chart_term.specs.Terms.{Tree}
-use Rattle.permit_step.specs.Permission.{permits_of}
+use Rattle.term_laws.specs.Permission.{permits_of}
 
 -- permission leaves more than the empty pattern
 abbrev pub is_full : Option Tree → Bool

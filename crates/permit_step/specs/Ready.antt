@@ -5,8 +5,8 @@ use Rattle.hmsc_graph.specs.Nets.{size_of}
 use Rattle.chart_term.specs.Properties.{Each}
 use Rattle.chart_term.specs.Tables.{Tables, nodes_of, net_count}
 use Rattle.chart_term.specs.Terms.{Tree, Nil, Event, Join, Choice, Tied, Loop, Walk, Trees, none, more, Row, ends, gap, turn, Part, Gap, Turn}
-use Rattle.permit_step.specs.Normality.{IsSet, IsNormalLoop, IsNormalOver}
-use Rattle.permit_step.specs.Permission.{permits_of}
+use Rattle.term_laws.specs.Normality.{IsSet, IsNormalLoop, IsNormalOver}
+use Rattle.term_laws.specs.Permission.{permits_of}
 
 -- the walk begins at the start or at a node
 abbrev pub IsSpotWithin : ℕ → Spot → Type 0

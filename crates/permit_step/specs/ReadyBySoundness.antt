@@ -2,7 +2,7 @@
 use Rattle.std.specs.Prelude.{ℕ}
 use Rattle.chart_term.specs.Tables.{Tables}
 use Rattle.chart_term.specs.Terms.{Tree}
-use Rattle.permit_step.specs.FullSoundness.{IsFullySound}
+use Rattle.term_laws.specs.FullSoundness.{IsFullySound}
 use Rattle.permit_step.specs.Ready.{IsReady, AreReadyTables}
 
 -- a sound term is within the tables and in normal form, and so are the node terms of each net, one for each node

@@ -13,13 +13,13 @@ use Rattle.chart_term.specs.TermPatterns.{instances_of}
 use Rattle.chart_term.specs.Terms.{TermEvent, has, Tree, Nil, Event, Join, Choice, Tied, Loop, Walk, items, Part, Gap, Turn, parts}
 use Rattle.chart_term.specs.Views.{event_of}
 use Rattle.permit_step.specs.Children.{child, put}
-use Rattle.permit_step.specs.Listing.{IsAmong, set_weight}
-use Rattle.permit_step.specs.Normality.{AreDifferent}
-use Rattle.permit_step.specs.Permission.{permits_of}
+use Rattle.term_laws.specs.Listing.{IsAmong, set_weight}
+use Rattle.term_laws.specs.Normality.{AreDifferent}
+use Rattle.term_laws.specs.Permission.{permits_of}
 use Rattle.permit_step.specs.Ready.{IsReady}
 use Rattle.permit_step.specs.RowRests.{RowRest, turn_before, gap_before}
 use Rattle.permit_step.specs.Successors.{IsJustAbove}
-use Rattle.permit_step.specs.Taking.{IsAfter}
+use Rattle.term_laws.specs.Taking.{IsAfter}
 use Rattle.permit_step.specs.declared.ascent.Frame.{Frame}
 use Rattle.permit_step.specs.declared.ascent.Taken.{Taken}
 use Rattle.permit_step.specs.declared.found.Found.{Found}

@@ -1,14 +1,14 @@
 -- What is left of a term after an event with a given label, as a list that is cut off above a weight.
 use Rattle.std.specs.Prelude.{ℕ, Bool, true, false, List, [], ◌∷◌, ◌++◌, ◌≡◌, ◌≤◌, ◌<◌, Some}
 use Rattle.msc_base.specs.declared.label.Label.{Label}
-use Rattle.chart_term.specs.NetValues.{label_number, NetsValue}
+use Rattle.term_tables.specs.NetValues.{label_number, NetsValue}
 use Rattle.chart_term.specs.Properties.{Each}
 use Rattle.chart_term.specs.Terms.{TermEvent, Tree}
-use Rattle.permit_step.specs.Listing.{IsAmong, set_weight}
-use Rattle.permit_step.specs.Normality.{AreDifferent}
-use Rattle.permit_step.specs.Permission.{permits_of}
+use Rattle.term_laws.specs.Listing.{IsAmong, set_weight}
+use Rattle.term_laws.specs.Normality.{AreDifferent}
+use Rattle.term_laws.specs.Permission.{permits_of}
 use Rattle.permit_step.specs.Ready.{IsReady}
-use Rattle.permit_step.specs.Taking.{IsAfter}
+use Rattle.term_laws.specs.Taking.{IsAfter}
 
 -- y is left of x after some event with the label
 pub record IsSuccessor (v : NetsValue) (label : Label) (x y : Tree) : Type 0 where

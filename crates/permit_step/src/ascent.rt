@@ -11,25 +11,25 @@ ghost use Rattle.chart_term.specs.Tables.{net_count, net_of};
 ghost use Rattle.msc_base.specs.Patterns.{seq, par};
 ghost use Rattle.permit_step.specs.Children.{put};
 ghost use Rattle.permit_step.specs.Held.{HasHeld, IsHeld};
-ghost use Rattle.permit_step.specs.Normality.{IsSet};
-ghost use Rattle.permit_step.specs.Permission.{permits_of, permit_all};
+ghost use Rattle.term_laws.specs.Normality.{IsSet};
+ghost use Rattle.term_laws.specs.Permission.{permits_of, permit_all};
 ghost use Rattle.permit_step.specs.Ready.{IsReady, AreReadyTables, IsReadyPart, AreReadyParts, IsReadyLoop};
 ghost use Rattle.permit_step.specs.Searches.{IsTaken, AreReadyFrames, child_count, is_gap, part_before, put_all, tail_of};
-ghost use Rattle.permit_step.specs.Listing.{may_begin};
-ghost use Rattle.permit_step.specs.Taking.{down, fewer};
-ghost use Rattle.permit_step.specs.Values.{block_of};
+ghost use Rattle.term_laws.specs.Listing.{may_begin};
+ghost use Rattle.term_laws.specs.Taking.{down, fewer};
+ghost use Rattle.term_laws.specs.Values.{block_of};
 
 use crate::blocks::common;
 use crate::descent::node_at;
 use crate::loops::loop_end;
 use crate::permission::{copy_pairs, keep_parts, permit, widened_walk};
 use crate::row_end::RowEnd;
-use crate::touch::touched;
-use chart_term::{Event, Look, Nets, RowList, RowPart, Term, TermList, par, tied, seq};
-use hmsc_graph::{Goal, Spot};
 use bit_sets::Block;
+use chart_term::{Event, Look, RowList, RowPart, Term, TermList, par, seq, tied};
+use hmsc_graph::{Goal, Spot};
 use msc_base::{NoMemory, Pair, PairList};
 use std::alloc::Global;
+use term_tables::Nets;
 
 /// A term, and the place in it from which an event is taken.
 #[derive(Drop)]
@@ -435,7 +435,7 @@ fn put_in_loop(
     let upper = fewer(begins, upper);
     let behind = first_behind(begins, place, count);
     let before = last_before(begins, place, count);
-    let all = touched(alloc, nets, body)?;
+    let all = nets.touched(alloc, body)?;
     let narrow = common(alloc, &taken.at, &all)?;
     if has_held(alloc, nets, row, before, &taken.at)? {
         return Ok(None);

@@ -2,14 +2,14 @@ ghost use Rattle.std.specs.Prelude.{◌≡◌, ◌<◌, ◌&&◌, [], if◌then�
 ghost use Rattle.chart_term.specs.NormalForms.{cut};
 ghost use Rattle.chart_term.specs.Terms.{◌∪◌};
 ghost use Rattle.bit_sets.specs.Blocks.{IsRising, insert_rising};
-ghost use Rattle.permit_step.specs.Normality.{IsSet};
+ghost use Rattle.term_laws.specs.Normality.{IsSet};
 
 use bit_sets::Block;
 use msc_base::{Limits, NoMemory};
 use std::alloc::Global;
 
 /// A block of the instances of both.
-#[tactic(auto, using(crate::proofs::Unions::unions))]
+#[tactic(auto, using(crate::proofs::BlockFacts::blocks))]
 pub(crate) fn widened(alloc: Global, block: &Block, other: &Block) -> Result<Block, NoMemory>
     requires { IsSet block.now.instances }
     ensures { IfOk result (λ wide. wide ≡ record { instances = block.now.instances ∪ other.now.instances; events = [] }) }
@@ -34,7 +34,7 @@ fn add_where(block: &mut Block, at: u32, here: bool, there: bool) -> Result<(), 
 }
 
 /// A block of the instances that are in both.
-#[tactic(auto, using(crate::proofs::SetFacts::sets))]
+#[tactic(auto, using(crate::proofs::BlockFacts::blocks))]
 pub(crate) fn common(alloc: Global, block: &Block, all: &Block) -> Result<Block, NoMemory>
     ensures { IfOk result (λ both. both ≡ record { instances = cut all.now.instances block.now.instances; events = [] }) }
 {

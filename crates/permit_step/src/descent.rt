@@ -3,16 +3,17 @@ ghost use Rattle.chart_term.specs.Rows.{part_of};
 ghost use Rattle.chart_term.specs.Tables.{net_count, net_of};
 ghost use Rattle.hmsc_graph.specs.Nets.{size_of};
 ghost use Rattle.permit_step.specs.Children.{child, row_child};
-ghost use Rattle.permit_step.specs.Permission.{permits_of};
+ghost use Rattle.term_laws.specs.Permission.{permits_of};
 ghost use Rattle.permit_step.specs.Ready.{IsReady, AreReadyTables, IsReadyPart};
 ghost use Rattle.permit_step.specs.Searches.{child_count};
 
 use crate::blocks::widened;
 use crate::permission::permit;
-use chart_term::{Look, Nets, RowPart, Term};
 use bit_sets::Block;
+use chart_term::{Look, RowPart, Term};
 use msc_base::NoMemory;
 use std::alloc::Global;
+use term_tables::Nets;
 
 /// From how many places of the term an event may be taken.
 #[tactic(auto, using(crate::proofs::Descending::descending))]

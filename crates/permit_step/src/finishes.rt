@@ -9,13 +9,14 @@ ghost use Rattle.hmsc_graph.specs.Nets.{IsNet, size_of};
 ghost use Rattle.hmsc_graph.specs.Spots.{spot_of, goal_of, IsSpotBelow, IsGoalBelow};
 ghost use Rattle.permit_step.specs.Endings.{AreEnding, MayPartEnd};
 ghost use Rattle.permit_step.specs.Ready.{IsReady, AreReadyTables, IsReadyPart, AreReadyParts, IsReadyLoop};
-ghost use Rattle.permit_step.specs.Taking.{MayEnd, EndAll, EndOne, EndLoop, EndWalk};
+ghost use Rattle.term_laws.specs.Taking.{MayEnd, EndAll, EndOne, EndLoop, EndWalk};
 
-use chart_term::{Look, Nets, RowList, RowPart, Term, TermList};
 use bit_sets::NodeSet;
+use chart_term::{Look, RowList, RowPart, Term, TermList};
 use hmsc_graph::{Goal, Spot, has_walk};
 use msc_base::NoMemory;
 use std::alloc::Global;
+use term_tables::Nets;
 
 /// Whether the term may end: whether the empty pattern is one of its finished patterns.
 #[cycle(may_end)]

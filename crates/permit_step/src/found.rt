@@ -1,7 +1,7 @@
 ghost use Rattle.std.specs.Prelude.{◌≡◌, ◌<◌, ◌≤◌, ◌++◌, List, [], IfOk, OnOk, OnErr};
 ghost use Rattle.chart_term.specs.Facts.{most_stored};
 ghost use Rattle.chart_term.specs.Terms.{Tree};
-ghost use Rattle.permit_step.specs.Listing.{set_weight};
+ghost use Rattle.term_laws.specs.Listing.{set_weight};
 ghost use Rattle.permit_step.specs.Searches.{AddsOne, IsTally};
 
 use chart_term::{Term, TermList};

@@ -6,16 +6,17 @@ ghost use Rattle.hmsc_graph.specs.Graphs.{Start};
 ghost use Rattle.hmsc_graph.specs.Nets.{size_of};
 ghost use Rattle.hmsc_graph.specs.Spots.{goal_of, IsGoalBelow};
 ghost use Rattle.permit_step.specs.Fresh.{IsFreshLoop, IsUnreached, MayTurn, MayNotTurn};
-ghost use Rattle.permit_step.specs.Permission.{permits_of};
+ghost use Rattle.term_laws.specs.Permission.{permits_of};
 ghost use Rattle.permit_step.specs.Ready.{IsReady, AreReadyTables};
 
 use crate::permission::walk;
 use crate::row_end::is_empty;
-use chart_term::{Nets, RowList, RowPart, Term};
-use hmsc_graph::{Goal, Spot};
 use bit_sets::Block;
+use chart_term::{RowList, RowPart, Term};
+use hmsc_graph::{Goal, Spot};
 use msc_base::NoMemory;
 use std::alloc::Global;
+use term_tables::Nets;
 
 /// Whether the counts of a loop allow a turn.
 fn may_turn(lower: u64, upper: Option<u64>) -> bool
@@ -30,7 +31,7 @@ fn may_turn(lower: u64, upper: Option<u64>) -> bool
 
 /// The loop whose row is one gap where any turn may begin.
 #[tactic(auto, using(crate::proofs::FreshFacts::fresh))]
-fn fresh_loop(
+fn unbegun_loop(
     alloc: Global,
     nets: &Nets,
     body: Term,
@@ -62,7 +63,7 @@ pub fn fresh_loop(
     ensures fresh { IfOk result (λ term. IsFreshLoop nets.now.tables body lower upper term) }
     ensures ready { IfOk result (λ term. IsReady nets.now.tables term) }
 {
-    let term = fresh_loop(alloc, nets, body, lower, upper)?;
+    let term = unbegun_loop(alloc, nets, body, lower, upper)?;
     Ok(term)
 }
 
@@ -70,7 +71,12 @@ pub fn fresh_loop(
 ///
 /// None comes exactly where the goal isn't `Any` and no walk leads to it.
 #[tactic(auto, using(crate::proofs::FreshFacts::fresh))]
-pub fn fresh_walk(alloc: Global, nets: &Nets, net: u32, goal: Goal) -> Result<Option<Term>, NoMemory>
+pub fn fresh_walk(
+    alloc: Global,
+    nets: &Nets,
+    net: u32,
+    goal: Goal,
+) -> Result<Option<Term>, NoMemory>
     requires tables { AreReadyTables nets.now.tables }
     requires net { net < net_count nets.now.tables }
     requires goal { IsGoalBelow (size_of (net_of nets.now.tables net)) goal }

@@ -20,7 +20,6 @@ mod samples;
 mod successors;
 #[cfg(test)]
 mod tests;
-mod touch;
 
 pub use finishes::may_end;
 pub use fresh::{fresh_loop, fresh_walk};

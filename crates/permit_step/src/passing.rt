@@ -8,8 +8,8 @@ ghost use Rattle.bit_sets.specs.NodeSets.{HasNoNodes};
 ghost use Rattle.permit_step.specs.Passing.{is_full, IsAimed, PassesFull};
 
 use crate::row_end::is_empty;
-use chart_term::Term;
 use bit_sets::NodeSet;
+use chart_term::Term;
 use hmsc_graph::{Goal, Net, Spot, has_walk, reach};
 use msc_base::NoMemory;
 use std::alloc::Global;

@@ -6,24 +6,24 @@ ghost use Rattle.chart_term.specs.Tables.{net_count, net_of};
 ghost use Rattle.chart_term.specs.Terms.{Loop, trees, row_of, ◌∪◌};
 ghost use Rattle.hmsc_graph.specs.Nets.{size_of};
 ghost use Rattle.hmsc_graph.specs.Spots.{spot_of, goal_of, IsSpotBelow, IsGoalBelow};
-ghost use Rattle.permit_step.specs.Normality.{IsSet};
+ghost use Rattle.term_laws.specs.Normality.{IsSet};
 ghost use Rattle.permit_step.specs.Passing.{ArePassable};
-ghost use Rattle.permit_step.specs.Permission.{permits_of, permit_all, permit_some};
-ghost use Rattle.permit_step.specs.Permission.{permit as permitted};
+ghost use Rattle.term_laws.specs.Permission.{permits_of, permit_all, permit_some};
+ghost use Rattle.term_laws.specs.Permission.{permit as permitted};
 ghost use Rattle.permit_step.specs.Ready.{IsReady, AreReadyTables, IsReadyPart, AreReadyParts, IsReadyLoop};
 ghost use Rattle.permit_step.specs.RowRests.{open_before, keep_part, keep_parts};
-ghost use Rattle.permit_step.specs.Values.{block_of};
+ghost use Rattle.term_laws.specs.Values.{block_of};
 
 use crate::blocks::{common, widened};
 use crate::loops::loop_end;
 use crate::passing::{Passable, is_aimed, passes_full};
 use crate::row_end::{RowEnd, is_empty};
-use crate::touch::touched;
-use chart_term::{Look, Nets, RowList, RowPart, Term, TermList, par, tied, choice, seq};
-use hmsc_graph::{Goal, Spot, has_walk};
 use bit_sets::Block;
+use chart_term::{Look, RowList, RowPart, Term, TermList, choice, par, seq, tied};
+use hmsc_graph::{Goal, Spot, has_walk};
 use msc_base::{NoMemory, PairList};
 use std::alloc::Global;
+use term_tables::Nets;
 
 /// What is left of the term where no event of the block may happen, or None where permission fails.
 ///
@@ -174,7 +174,7 @@ fn permit_turns(
     requires row { IsReadyLoop nets.now.tables body.now upper row.now }
     ensures { IfOk result (λ left. left ≡ permitted (permits_of nets.now.tables) (block_of block.now) (Loop body.now lower upper (row_of row.now))) }
 {
-    let all = touched(alloc, nets, body)?;
+    let all = nets.touched(alloc, body)?;
     let narrow = common(alloc, block, &all)?;
     let mut end = RowEnd::new(alloc);
     if keep_parts(

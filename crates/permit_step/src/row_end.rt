@@ -3,8 +3,8 @@ ghost use Rattle.chart_term.specs.NormalForms.{begun, has_gap, is_nil};
 ghost use Rattle.std.specs.Prelude.{Some};
 ghost use Rattle.permit_step.specs.RowRests.{no_rest, turn_before, gap_before};
 
-use chart_term::{Look, RowList, RowPart, Term, TermList};
 use bit_sets::Block;
+use chart_term::{Look, RowList, RowPart, Term, TermList};
 use msc_base::NoMemory;
 use std::alloc::Global;
 use std::marker::Model;

@@ -4,11 +4,12 @@ ghost use Rattle.chart_term.specs.Properties.{Each};
 ghost use Rattle.chart_term.specs.Tables.{net_count};
 ghost use Rattle.permit_step.specs.Ready.{IsReady, AreReadyTables};
 
-use chart_term::{Nets, Term, TermList, tied, seq};
+use chart_term::{Term, TermList, seq, tied};
 use hmsc_graph::{Net, Shape, ShapeLine, ShapeLines};
 use msc_base::{LabelRef, LabelRefs, Name, NoMemory, Pair, PairList, Place};
 use std::alloc::Global;
 use std::test::Fail;
+use term_tables::Nets;
 
 /// An event of that number at an instance, with that label.
 #[tactic(auto, using(crate::proofs::ReadyTerms::ready))]

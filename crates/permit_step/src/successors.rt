@@ -1,7 +1,7 @@
 ghost use Rattle.std.specs.Prelude.{◌≡◌, ◌<◌, ◌≤◌, ◌++◌, List, IfOk, IfSome, IfNone, OnOk, OnErr};
 ghost use Rattle.chart_term.specs.Terms.{Tree, Event as EventTree};
 ghost use Rattle.chart_term.specs.Views.{event_of};
-ghost use Rattle.permit_step.specs.Listing.{set_weight};
+ghost use Rattle.term_laws.specs.Listing.{set_weight};
 ghost use Rattle.permit_step.specs.Ready.{IsReady, AreReadyTables};
 ghost use Rattle.permit_step.specs.Searches.{AreReadyFrames, Gathers, IsNoEvent, IsTaken, IsTally};
 ghost use Rattle.permit_step.specs.Successors.{AppendsFound};
@@ -13,10 +13,11 @@ use crate::ascent::{Frame, Taken, rebuilt};
 use crate::blocks::widened;
 use crate::descent::{child, child_count};
 use crate::found::Found;
-use chart_term::{Event, Look, Nets, Term, TermList};
 use bit_sets::Block;
+use chart_term::{Event, Look, Term, TermList};
 use msc_base::{Label, NoMemory};
 use std::alloc::Global;
+use term_tables::Nets;
 
 /// Appends what is left of the term after an event with the label: each such term once. It says whether these are all.
 ///

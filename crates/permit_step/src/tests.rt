@@ -1,13 +1,14 @@
 ghost use Rattle.std.specs.Prelude.{◌<◌};
 
 use crate::samples::{message, ring_tables};
-use crate::{may_end, permit, fresh_loop, fresh_walk};
-use chart_term::{Nets, Term};
-use hmsc_graph::Goal;
+use crate::{fresh_loop, fresh_walk, may_end, permit};
 use bit_sets::Block;
+use chart_term::Term;
+use hmsc_graph::Goal;
 use msc_base::NoMemory;
 use std::alloc::Global;
 use std::test::Fail;
+use term_tables::Nets;
 
 /// What permission by a block of that instance leaves of the message: whether it is the message itself.
 #[tactic(auto, using(crate::proofs::ReadyTerms::ready))]

@@ -8,8 +8,8 @@ use Rattle.chart_term.specs.TermMeanings.{HasPattern, has_event, has_join, has_c
 use Rattle.chart_term.specs.TermPatterns.{Shape, InPairs, take_one, take_first, take_later, take_bind}
 use Rattle.chart_term.specs.TermRuns.{Runs, run_end, run_take}
 use Rattle.chart_term.specs.Terms.{TermEvent, Tree, Event, Join, Tied, none, more}
-use Rattle.permit_step.specs.FullSoundness.{times, HasOrders}
-use Rattle.permit_step.proofs.FreshTerms.{order_of}
+use Rattle.term_laws.specs.FullSoundness.{times, HasOrders}
+use Rattle.term_laws.proofs.FreshTerms.{order_of}
 use Rattle.residual_bench.specs.Charts.{event, answer}
 
 -- A message

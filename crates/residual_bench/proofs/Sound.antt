@@ -4,19 +4,19 @@ use Rattle.std.proofs.Common.{ap, sym, ◌∙◌, subst, arith}
 use Rattle.std.proofs.lemmas.Bool.Decides.{nat_tests}
 use Rattle.msc_base.specs.Patterns.{Mode, seq, par}
 use Rattle.msc_base.specs.declared.label.Pair.{Pair}
-use Rattle.chart_term.specs.NetValues.{NetsValue}
+use Rattle.term_tables.specs.NetValues.{NetsValue}
 use Rattle.chart_term.specs.NormalForms.{join_all, choice_of, tie_of}
 use Rattle.chart_term.specs.Properties.{Each}
 use Rattle.chart_term.specs.Tables.{Tables}
 use Rattle.chart_term.specs.Terms.{TermEvent, Tree, Nil, Event}
 use Rattle.chart_term.specs.Views.{pairs_of}
 use Rattle.permit_step.specs.Fresh.{IsFreshLoop}
-use Rattle.permit_step.specs.FullSoundness.{IsSoundNode, IsFullySound, fresh_loop, MustHave}
+use Rattle.term_laws.specs.FullSoundness.{IsSoundNode, IsFullySound, fresh_loop, MustHave}
 use Rattle.permit_step.specs.Ready.{IsReady, AreReadyTables}
-use Rattle.permit_step.proofs.SoundForms.{constructors_keep_soundness}
+use Rattle.term_laws.proofs.SoundForms.{constructors_keep_soundness}
 use Rattle.permit_step.proofs.SoundReady.{ready_by_soundness}
-use Rattle.permit_step.proofs.TidyTables.{at_some}
-use Rattle.residual_set.specs.Sets.{IsSoundFor}
+use Rattle.term_laws.proofs.TidyTables.{at_some}
+use Rattle.trace_judge.specs.Sets.{IsSoundFor}
 use Rattle.residual_bench.specs.Charts.{labels, event, message, answer, exchange, ordered}
 use Rattle.residual_bench.proofs.Orders.{message_once, first_orders, second_orders, third_orders, exchange_once, exchange_orders, three_once, three_orders}
 

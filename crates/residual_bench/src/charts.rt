@@ -3,14 +3,15 @@ ghost use Rattle.std.specs.Prelude.{◌≡◌, ◌<◌, ◌+◌, [], ◌∷◌, 
 ghost use Rattle.chart_term.specs.NormalForms.{tie_of};
 ghost use Rattle.chart_term.specs.Properties.{Each};
 ghost use Rattle.chart_term.specs.Terms.{Event as EventTree};
-ghost use Rattle.permit_step.specs.FullSoundness.{IsSoundNode};
+ghost use Rattle.term_laws.specs.FullSoundness.{IsSoundNode};
 ghost use Rattle.residual_bench.specs.Charts.{labels, event, message, answer, exchange, ordered};
 
 use crate::fault::Fault;
-use chart_term::{Nets, Term, TermList, par, tied, choice, seq};
+use chart_term::{Term, TermList, choice, par, seq, tied};
 use msc_base::{Far, Kind, Label, Name, NoMemory, Pair, PairList, Text};
 use permit_step::fresh_loop;
 use std::alloc::Global;
+use term_tables::Nets;
 
 /// How many labels the charts have.
 const LABELS: u32 = 9;

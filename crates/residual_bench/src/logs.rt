@@ -1,14 +1,15 @@
 //! Logs that are made of turns, and what a term's residuals come to on one.
 ghost use Rattle.std.specs.Prelude.{◌≡◌, ◌≤◌, ◌+◌, [], length, IfOk, OnOk};
-ghost use Rattle.permit_step.specs.FullSoundness.{IsSoundNode};
+ghost use Rattle.term_laws.specs.FullSoundness.{IsSoundNode};
 ghost use Rattle.residual_bench.specs.Charts.{labels};
-ghost use Rattle.residual_set.specs.Sets.{IsServing};
-ghost use Rattle.residual_set.specs.Tracks.{IfHeld};
+ghost use Rattle.trace_judge.specs.Sets.{IsServing};
+ghost use Rattle.trace_judge.specs.Tracks.{IfHeld};
 
-use chart_term::{Nets, Term};
+use chart_term::Term;
 use msc_base::{LabelList, NoMemory, Verdict};
-use residual_set::{Residuals, Track};
 use std::alloc::Global;
+use term_tables::Nets;
+use trace_judge::{Residuals, Track};
 
 /// The budget of a set.
 const BUDGET: u64 = 4_000_000;

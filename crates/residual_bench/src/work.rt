@@ -1,6 +1,6 @@
 //! What is measured: a chart, and a log of it.
 ghost use Rattle.std.specs.Prelude.{◌≡◌, ◌≤◌, [], length, IfOk};
-ghost use Rattle.permit_step.specs.FullSoundness.{IsSoundNode};
+ghost use Rattle.term_laws.specs.FullSoundness.{IsSoundNode};
 ghost use Rattle.residual_bench.specs.Charts.{labels};
 
 #[cfg(test)]
@@ -12,9 +12,10 @@ use crate::charts::{
 };
 use crate::fault::Fault;
 use crate::logs::{Judged, Log, Order, follow};
-use chart_term::{Nets, Term};
+use chart_term::Term;
 use msc_base::{LabelList, NoMemory};
 use std::alloc::Global;
+use term_tables::Nets;
 
 /// A chart, and how long a log of it is, or how large it is itself.
 #[derive(Clone, Copy, Debug, PartialEq, Eq)]

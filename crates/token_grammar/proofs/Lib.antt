@@ -16,6 +16,7 @@ pub mod Onlys
 pub mod Optionals
 pub mod Parses
 pub mod PartRules
+pub mod Refusals
 pub mod Rows
 pub mod Rules
 pub mod Seconds

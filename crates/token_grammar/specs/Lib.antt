@@ -8,4 +8,6 @@ pub mod Messages
 pub mod Parsing
 pub mod PartReaders
 pub mod Parts
+pub mod Refusals
+pub mod Refused
 pub mod Rows

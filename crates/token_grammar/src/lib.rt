@@ -2,15 +2,17 @@
 //!
 //! `specs/Languages.antt` says which tokens read as which value, `specs/Grammars.antt` puts grammars together, and
 //! `specs/Parsing.antt` says what a list of tokens parses as. `proofs/` has one rule for each way to put grammars
-//! together.
+//! together. `src/fault.rt` turns what a reader refuses into a fault with its place.
 #![tactic(auto)]
 
+mod fault;
 mod laws;
 mod leads;
 mod messages;
 mod parts;
 mod readers;
 
+pub use fault::{ParseFault, form_of, refusal};
 pub use laws::one_word;
 pub use leads::{is_other_lead, lead, starts_with_lead};
 pub use messages::{MessageParts, item, message, parameters};

@@ -5,11 +5,12 @@ ghost use Rattle.permit_step.specs.Ready.{IsReady, AreReadyTables};
 use super::after;
 use crate::samples::{both, event, message, ring_tables, row, tied};
 use crate::{fresh_loop, fresh_walk};
-use chart_term::{Nets, Term, TermList, par, choice};
+use chart_term::{Term, TermList, choice, par};
 use hmsc_graph::Goal;
 use msc_base::{Far, Kind, Label, Name, NoMemory, Text};
 use std::alloc::Global;
 use std::test::Fail;
+use term_tables::Nets;
 
 /// An action's label.
 fn label(alloc: Global, text: &str) -> Result<Label, Fail> {

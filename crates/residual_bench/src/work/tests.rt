@@ -1,7 +1,7 @@
 ghost use Rattle.std.specs.Prelude.{◌≡◌, [], length, IfOk};
-ghost use Rattle.permit_step.specs.FullSoundness.{IsSoundNode};
+ghost use Rattle.term_laws.specs.FullSoundness.{IsSoundNode};
 ghost use Rattle.residual_bench.specs.Charts.{labels};
-ghost use Rattle.residual_set.specs.Sets.{IsServing};
+ghost use Rattle.trace_judge.specs.Sets.{IsServing};
 
 use super::{Work, judge, work_of};
 use crate::charts::{
@@ -10,11 +10,12 @@ use crate::charts::{
 };
 use crate::fault::Fault;
 use crate::logs::Judged;
-use chart_term::{Nets, Term};
+use chart_term::Term;
 use msc_base::{Items, Verdict};
-use residual_set::{Residuals, StepFault, Store};
 use std::alloc::Global;
 use std::test::Fail;
+use term_tables::Nets;
+use trace_judge::{Residuals, StepFault, Store};
 
 /// The budget of a set, so small that twenty equal actions pass it.
 const BUDGET: u64 = 1_000_000;

@@ -1,6 +1,6 @@
 use Rattle.std.proofs.Common.{◌≡◌, List, ℕ, Some, option_map, rules, subst, ◌∙◌}
 use Rattle.msc_base.specs.Names.{IsName}
-use Rattle.msc_grammar.specs.Events.{ReadsText}
+use Rattle.msc_events.specs.LogEvents.{ReadsText}
 use Rattle.msc_base.specs.Only.{Never}
 use Rattle.msc_base.specs.Only.{Only}
 use Rattle.event_log.specs.Objects.{Said, Spelled, IsAllowed, kind_of, IsFarOf}

@@ -1,6 +1,6 @@
 use Rattle.std.proofs.Common.{rules}
 use Rattle.msc_tokens.specs.Spelling.{Spells}
-use Rattle.msc_grammar.specs.Events.{ReadsText}
+use Rattle.msc_events.specs.LogEvents.{ReadsText}
 use Rattle.msc_base.specs.Only.{Never}
 use Rattle.msc_base.specs.Only.{Only}
 use Rattle.event_log.proofs.Spelling.{spelled_answer}

@@ -1,5 +1,5 @@
 use Rattle.std.proofs.Common.{rules}
-use Rattle.msc_grammar.specs.Events.{texts}
+use Rattle.token_grammar.specs.Languages.{texts}
 use Rattle.event_log.specs.Objects.{IsAllowed}
 use Rattle.event_log.proofs.Spelling.{refusal, allowed_event, barred_event, not_both}
 use Rattle.event_log.proofs.text_line.event_of.Goals as goal

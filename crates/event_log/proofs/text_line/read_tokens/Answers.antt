@@ -1,5 +1,5 @@
 use Rattle.std.proofs.Common.{◌≡◌, rules, subst}
-use Rattle.msc_grammar.specs.Events.{texts}
+use Rattle.token_grammar.specs.Languages.{texts}
 use Rattle.event_log.specs.Meanings.{StatesVersion, IsEventOf}
 use Rattle.msc_base.specs.Only.{Never}
 use Rattle.event_log.proofs.text_line.read_tokens.Goals as goal

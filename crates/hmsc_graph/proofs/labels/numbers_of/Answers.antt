@@ -25,6 +25,6 @@ loop-label-preserved c =
           let none : number_in names label ≡ None = sym number ∙ w.in-None.is in
           rw (w.numbers-is, w.unknown-is) record {
             numbers = new_numbers names labels i label c.loop-label-test.true c.label-item.is c.args.unknown.now c.loop-label.unknown c.loop-label.numbers inv.numbers inv.unknown none;
-            unknown = w.earlier.ensures ∙ new_found names labels i label c.loop-label-test.true c.label-item.is c.args.unknown.now c.loop-label.unknown c.loop-label.numbers inv.numbers inv.unknown none;
+            unknown = w.earlier_place.ensures ∙ new_found names labels i label c.loop-label-test.true c.label-item.is c.args.unknown.now c.loop-label.unknown c.loop-label.numbers inv.numbers inv.unknown none;
           }
     ]

@@ -23,7 +23,7 @@ returns-in-Ok-take-clause-step g c =
     let prefix = c.split_at.result.0.now in
     let some : 0 < length prefix = search rules in
     λ form h. subst (λ (f : Option Files). IsStep form f c.args.name.now left c.args.intake.now.reader.count c.take.new.self More) (sym c.read.ensures.files)
-    (read_piece form (g.S.Shelf.files c.args.shelf.now) c.args.name.now rest left c.in-Ok.count _ c.read.new.buf prefix c.args.intake.now c.take.new.self c.in-Ok.ensures.bytes c.split_at.ensures.prefix some
+    (read_piece form (g.S.Shelf.files c.args.shelf.now) c.args.name.now rest left c.in-Ok.count _ c.read.new.buf prefix c.args.intake.now c.take.new.self c.in-Ok.ensures.bytes c.split_at.ensures.front some
     (λ bytes k. c.in-Ok-take.ensures.taken form bytes k) h)
 
 pub returns-in-Err-take-clause-step : goal.returns-in-Err-take-clause-step
@@ -33,5 +33,5 @@ returns-in-Err-take-clause-step g c =
     let prefix = c.split_at.result.0.now in
     let other : c.in-Err-take.fault ≡ fault.NoMemory → ⊥ = search rules in
     λ form h. subst (λ (f : Option Files). IsLogOf form f c.args.name.now (Refused c.in-Err-take.fault)) (sym c.read.ensures.files)
-    (read_fault form (g.S.Shelf.files c.args.shelf.now) c.args.name.now rest left c.in-Ok.count _ c.read.new.buf prefix c.args.intake.now c.in-Err-take.fault c.in-Ok.ensures.bytes c.split_at.ensures.prefix other
+    (read_fault form (g.S.Shelf.files c.args.shelf.now) c.args.name.now rest left c.in-Ok.count _ c.read.new.buf prefix c.args.intake.now c.in-Err-take.fault c.in-Ok.ensures.bytes c.split_at.ensures.front other
     (λ bytes k. c.in-Err-take.ensures.refused form bytes k) h)

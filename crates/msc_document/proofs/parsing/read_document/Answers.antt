@@ -2,7 +2,8 @@ use Rattle.std.proofs.Common.{◌∙◌, sym, length, inl, inr}
 use Rattle.msc_tree.specs.Views.{document_view}
 use Rattle.token_grammar.specs.declared.readers.ReadFault.TheVariants.{Refused, TooDeep}
 use Rattle.msc_document.specs.DocumentReaders.{document_at}
-use Rattle.msc_document.proofs.ParseAnswers.{empty_of, some_of, at_fault, whole_document, left_document, refused_by, deep_by, answered}
+use Rattle.token_grammar.proofs.Refusals.{empty_of, some_of, at_fault}
+use Rattle.msc_document.proofs.ParseAnswers.{whole_document, left_document, refused_by, deep_by, answered}
 use Rattle.msc_document.proofs.parsing.read_document.Goals as goal
 
 pub returns-then-is_empty : goal.returns-then-is_empty

@@ -22,10 +22,10 @@ pub returns-in-Ok-Faulty-clause-only_fault : goal.returns-in-Ok-Faulty-clause-on
 returns-in-Ok-Faulty-clause-only_fault c =
     let settled : IsSettled (document_view c.args.raw.now) (decision.Faulty c.in-Ok-Faulty.fault) = search rules in
     λ rule place e other there f.
-    let r : c.rule.result ≡ rule = cc in
+    let r : c.told_as.result ≡ rule = cc in
     let p : c.in-Ok-Faulty.fault.place ≡ place = cc in
     let o = faulty_only (document_view c.args.raw.now) c.in-Ok-Faulty.fault settled other there f in
-    (o.0 ∙ sym c.rule.ensures ∙ r, o.1 ∙ p)
+    (o.0 ∙ sym c.told_as.ensures ∙ r, o.1 ∙ p)
 
 pub of_charts-requires : goal.of_charts-requires
 of_charts-requires c =

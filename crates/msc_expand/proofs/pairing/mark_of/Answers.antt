@@ -10,7 +10,7 @@ use Rattle.msc_expand.proofs.pairing.mark_of.Goals as goal
 
 pub returns-clause-mark : goal.returns-clause-mark
 returns-clause-mark c =
-    let goes : way c.args.event.now ≡ Some c.in-Some.puts = search rules in
+    let goes : way c.args.event.now ≡ Some c.in-Some.direction = search rules in
     let key = c.in_ok-key.key in
     let same : key_view key ≡ key_of c.args.event.now = search rules in
     let test : MessageKey → Bool = eq-value.it key in

@@ -1,5 +1,7 @@
 use Rattle.std.proofs.Common.{rules, ◌≡◌, List, Option, true, false, All, ap, sym, subst, ◌<◌, ◌∙◌}
 use Rattle.item_order.specs.declared.edge.Edge.{Edge}
+use Rattle.msc_tree.specs.declared.event.Direction.{Direction}
+use Rattle.msc_tree.specs.declared.event.Direction.TheVariants.{Out, In}
 use Rattle.msc_expand.specs.declared.pairing.Mark.{Mark}
 use Rattle.msc_expand.specs.Marks.{AreMarked, edges_from}
 use Rattle.msc_expand.proofs.PairLaws.{pairs_found, classes_low}
@@ -8,21 +10,21 @@ use Rattle.msc_expand.proofs.pairing.pairs_of.Goals as goal
 pub pair_up-requires : goal.pair_up-requires
 pair_up-requires c =
     let marked : AreMarked c.args.events.now c.in_ok-marks.marks.held.items c.in_ok-marks.marks.classes = search rules in
-    let outs : c.in_ok-outputs.outputs.items ≡ edges_from true 0 c.as_slice.result.now = search rules in
-    let ins : c.in_ok-inputs.inputs.items ≡ edges_from false 0 c.as_slice-2.result.now = search rules in
-    let out : c.as_slice-3.result.now ≡ edges_from true 0 c.in_ok-marks.marks.held.items = c.as_slice-3.ensures.value ∙ outs ∙ ap (λ (ms : List (Option Mark)). edges_from true 0 ms) c.as_slice.ensures.value in
-    let into : c.as_slice-4.result.now ≡ edges_from false 0 c.in_ok-marks.marks.held.items = c.as_slice-4.ensures.value ∙ ins ∙ ap (λ (ms : List (Option Mark)). edges_from false 0 ms) c.as_slice-2.ensures.value in
+    let outs : c.in_ok-outputs.outputs.items ≡ edges_from Out 0 c.as_slice.result.now = search rules in
+    let ins : c.in_ok-inputs.inputs.items ≡ edges_from In 0 c.as_slice-2.result.now = search rules in
+    let out : c.as_slice-3.result.now ≡ edges_from Out 0 c.in_ok-marks.marks.held.items = c.as_slice-3.ensures.value ∙ outs ∙ ap (λ (ms : List (Option Mark)). edges_from Out 0 ms) c.as_slice.ensures.value in
+    let into : c.as_slice-4.result.now ≡ edges_from In 0 c.in_ok-marks.marks.held.items = c.as_slice-4.ensures.value ∙ ins ∙ ap (λ (ms : List (Option Mark)). edges_from In 0 ms) c.as_slice-2.ensures.value in
     record {
-      outs = subst (λ (es : List Edge). All (λ (e : Edge). e.from < c.in_ok-marks.marks.classes) es) (sym out) (classes_low c.args.events.now c.in_ok-marks.marks.held.items c.in_ok-marks.marks.classes true marked);
-      ins = subst (λ (es : List Edge). All (λ (e : Edge). e.from < c.in_ok-marks.marks.classes) es) (sym into) (classes_low c.args.events.now c.in_ok-marks.marks.held.items c.in_ok-marks.marks.classes false marked);
+      outs = subst (λ (es : List Edge). All (λ (e : Edge). e.from < c.in_ok-marks.marks.classes) es) (sym out) (classes_low c.args.events.now c.in_ok-marks.marks.held.items c.in_ok-marks.marks.classes Out marked);
+      ins = subst (λ (es : List Edge). All (λ (e : Edge). e.from < c.in_ok-marks.marks.classes) es) (sym into) (classes_low c.args.events.now c.in_ok-marks.marks.held.items c.in_ok-marks.marks.classes In marked);
     }
 
 pub returns : goal.returns
 returns c =
     let marked : AreMarked c.args.events.now c.in_ok-marks.marks.held.items c.in_ok-marks.marks.classes = search rules in
-    let outs : c.in_ok-outputs.outputs.items ≡ edges_from true 0 c.as_slice.result.now = search rules in
-    let ins : c.in_ok-inputs.inputs.items ≡ edges_from false 0 c.as_slice-2.result.now = search rules in
+    let outs : c.in_ok-outputs.outputs.items ≡ edges_from Out 0 c.as_slice.result.now = search rules in
+    let ins : c.in_ok-inputs.inputs.items ≡ edges_from In 0 c.as_slice-2.result.now = search rules in
     pairs_found c.args.events.now c.in_ok-marks.marks.held.items c.in_ok-marks.marks.classes c.as_slice-3.result.now c.as_slice-4.result.now c.pair_up.result marked
-    (c.as_slice-3.ensures.value ∙ outs ∙ ap (λ (ms : List (Option Mark)). edges_from true 0 ms) c.as_slice.ensures.value)
-    (c.as_slice-4.ensures.value ∙ ins ∙ ap (λ (ms : List (Option Mark)). edges_from false 0 ms) c.as_slice-2.ensures.value)
+    (c.as_slice-3.ensures.value ∙ outs ∙ ap (λ (ms : List (Option Mark)). edges_from Out 0 ms) c.as_slice.ensures.value)
+    (c.as_slice-4.ensures.value ∙ ins ∙ ap (λ (ms : List (Option Mark)). edges_from In 0 ms) c.as_slice-2.ensures.value)
     c.pair_up.ensures

@@ -11,7 +11,7 @@ use Rattle.msc_instances.proofs.matching.mark_of.Goals as goal
 
 pub returns-clause-mark : goal.returns-clause-mark
 returns-clause-mark c =
-    let goes : way (event_view c.args.placed) ≡ Some c.in-Some.puts = search rules in
+    let goes : way (event_view c.args.placed) ≡ Some c.in-Some.direction = search rules in
     let key = c.in_ok-key.key in
     let same : key_view key ≡ key_of (event_view c.args.placed) = search rules in
     let test : MessageKey → Bool = eq-value.it key in

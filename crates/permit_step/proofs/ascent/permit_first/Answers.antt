@@ -1,7 +1,7 @@
 use Rattle.std.proofs.Common.{arith, ap, ◌∙◌, sym, Some, ◌-◌}
 use Rattle.std.specs.Prelude.{reverse}
-use Rattle.permit_step.specs.Permission.{permits_of}
-use Rattle.permit_step.specs.Values.{block_of}
+use Rattle.term_laws.specs.Permission.{permits_of}
+use Rattle.term_laws.specs.Values.{block_of}
 use Rattle.permit_step.proofs.Ascending.{none-first}
 use Rattle.permit_step.proofs.Nearest.{first-more}
 use Rattle.permit_step.proofs.ascent.permit_first.Goals as goal

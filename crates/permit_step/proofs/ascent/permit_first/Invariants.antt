@@ -1,8 +1,8 @@
 use Rattle.std.proofs.Common.{◌≡◌, ◌≤◌, take, drop, Some}
 use Rattle.std.specs.Prelude.{reverse}
 use Rattle.chart_term.specs.Terms.{trees}
-use Rattle.permit_step.specs.Permission.{permit_all, permits_of}
-use Rattle.permit_step.specs.Values.{block_of}
+use Rattle.term_laws.specs.Permission.{permit_all, permits_of}
+use Rattle.term_laws.specs.Values.{block_of}
 use Rattle.permit_step.proofs.ascent.permit_first.Given as goal
 
 abbrev pub invariant-loop-index : goal.invariant-loop-index

@@ -1,8 +1,8 @@
-use Rattle.std.proofs.Common.{◌≡◌, ◌<◌, ◌∙◌, ap, sym, subst, arith, ℕ, length}
+use Rattle.std.proofs.Common.{◌<◌, arith, length}
 use Rattle.chart_term.specs.Views.{event_of}
-use Rattle.permit_step.specs.Permission.{permits_of}
+use Rattle.term_laws.specs.Permission.{permits_of}
 use Rattle.permit_step.proofs.Ascending.{par-whole}
-use Rattle.permit_step.proofs.Descending.{count-seq, count-par, count-loop, child-node}
+use Rattle.permit_step.proofs.Descending.{count-seq, count-par, count-loop}
 use Rattle.permit_step.proofs.Permits.{ready-seq}
 use Rattle.permit_step.proofs.PermitLoops.{ready-loop}
 use Rattle.permit_step.proofs.PermitWalks.{ready-walk}

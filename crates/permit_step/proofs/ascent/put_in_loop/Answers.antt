@@ -1,14 +1,14 @@
-use Rattle.std.proofs.Common.{◌≡◌, ◌∙◌, ap, sym, subst, true, false, take, drop, Option, IfOk}
+use Rattle.std.proofs.Common.{◌≡◌, ◌∙◌, ap, sym, subst, true, take, drop, Option, IfOk}
 use Rattle.bit_sets.specs.Blocks.{BlockValue}
 use Rattle.chart_term.specs.NormalForms.{only}
 use Rattle.chart_term.specs.Rows.{part_of}
 use Rattle.chart_term.specs.Terms.{Tree}
-use Rattle.permit_step.specs.Listing.{may_begin}
-use Rattle.permit_step.specs.Permission.{permit, permits_of}
+use Rattle.term_laws.specs.Listing.{may_begin}
+use Rattle.term_laws.specs.Permission.{permit, permits_of}
 use Rattle.permit_step.specs.RowRests.{keep_parts, no_rest, rest_end, turn_before}
 use Rattle.permit_step.specs.Searches.{is_gap, tail_of}
-use Rattle.permit_step.specs.Taking.{fewer, down}
-use Rattle.permit_step.specs.Values.{block_of}
+use Rattle.term_laws.specs.Taking.{fewer, down}
+use Rattle.term_laws.specs.Values.{block_of}
 use Rattle.permit_step.proofs.LoopLeft.{loop-shut, loop-none, loop-some, counts-are}
 use Rattle.permit_step.proofs.Nearest.{held-none}
 use Rattle.permit_step.proofs.PermitLoops.{if-kept, if-lost}

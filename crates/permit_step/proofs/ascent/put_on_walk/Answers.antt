@@ -1,4 +1,4 @@
-use Rattle.std.proofs.Common.{◌≡◌, ◌∙◌, ap, sym, List, [], ◌∷◌, ◌++◌}
+use Rattle.std.proofs.Common.{◌∙◌, ap, sym, List, [], ◌∷◌, ◌++◌}
 use Rattle.bit_sets.specs.Blocks.{BlockValue}
 use Rattle.chart_term.specs.Terms.{Tree}
 use Rattle.hmsc_graph.specs.Spots.{spot_of, goal_of}

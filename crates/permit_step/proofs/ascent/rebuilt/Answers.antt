@@ -1,7 +1,7 @@
-use Rattle.std.proofs.Common.{◌≡◌, ◌∙◌, ◌-◌, ap, sym, arith, Some, None, slice_get}
+use Rattle.std.proofs.Common.{◌≡◌, ◌∙◌, ◌-◌, sym, arith, Some, slice_get}
 use Rattle.chart_term.specs.Terms.{Nil}
 use Rattle.chart_term.specs.Views.{event_of}
-use Rattle.permit_step.specs.Permission.{permits_of}
+use Rattle.term_laws.specs.Permission.{permits_of}
 use Rattle.permit_step.specs.Searches.{put_all}
 use Rattle.permit_step.proofs.Rebuilding.{frame-at, frame-ready, put-is-ready, rebuilt-more, rebuilt-none}
 use Rattle.permit_step.proofs.ascent.rebuilt.Goals as goal

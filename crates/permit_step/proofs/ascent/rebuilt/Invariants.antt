@@ -1,7 +1,7 @@
 use Rattle.std.proofs.Common.{◌≡◌, ◌≤◌, take, length}
 use Rattle.chart_term.specs.Terms.{Nil}
 use Rattle.chart_term.specs.Views.{event_of}
-use Rattle.permit_step.specs.Permission.{permits_of}
+use Rattle.term_laws.specs.Permission.{permits_of}
 use Rattle.permit_step.specs.Ready.{IsReady}
 use Rattle.permit_step.specs.Searches.{put_all}
 use Rattle.permit_step.proofs.ascent.rebuilt.Given as goal

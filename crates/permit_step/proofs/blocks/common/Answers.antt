@@ -1,5 +1,5 @@
 use Rattle.std.proofs.Common.{◌+◌, ◌∙◌, List, ℕ, sym, subst, arith}
-use Rattle.permit_step.proofs.SetFacts.{IsCommon, common-more, common-all}
+use Rattle.permit_step.proofs.BlockFacts.{IsCommon, common-more, common-all}
 use Rattle.permit_step.proofs.blocks.common.Goals as goal
 
 pub loop-at-preserved : goal.loop-at-preserved

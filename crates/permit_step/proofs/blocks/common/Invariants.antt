@@ -1,6 +1,6 @@
 use Rattle.std.proofs.Common.{◌≡◌, ◌<◌, []}
 use Rattle.bit_sets.specs.Blocks.{IsRising, IsBlock}
-use Rattle.permit_step.proofs.SetFacts.{IsCommon}
+use Rattle.permit_step.proofs.BlockFacts.{IsCommon}
 use Rattle.permit_step.proofs.blocks.common.Given as goal
 
 abbrev pub invariant-loop-at : goal.invariant-loop-at

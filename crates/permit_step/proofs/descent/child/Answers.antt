@@ -2,10 +2,8 @@ use Rattle.std.proofs.Common.{ℕ, ◌≡◌, ◌<◌, ◌∙◌, sym, subst, ap
 use Rattle.chart_term.specs.Rows.{part_of}
 use Rattle.chart_term.specs.Tables.{node_of, nodes_of}
 use Rattle.chart_term.specs.Terms.{Tree}
-use Rattle.bit_sets.specs.Blocks.{BlockValue}
-use Rattle.permit_step.specs.Permission.{permit, permits_of}
+use Rattle.term_laws.specs.Permission.{permit, permits_of}
 use Rattle.permit_step.specs.Ready.{IsReady}
-use Rattle.permit_step.specs.Values.{block_of}
 use Rattle.permit_step.proofs.Descending.{alone-block, child-node, ready-turn}
 use Rattle.permit_step.proofs.descent.child.Goals as goal
 

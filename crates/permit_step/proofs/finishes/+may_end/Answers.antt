@@ -9,15 +9,15 @@ use Rattle.hmsc_graph.specs.Walks.{Leads}
 use Rattle.chart_term.specs.Terms.{Loop, row_of}
 use Rattle.permit_step.specs.Endings.{AreEnding}
 use Rattle.permit_step.specs.Ready.{IsReady}
-use Rattle.permit_step.specs.Taking.{MayEnd, EndAll, EndOne, EndWalk}
+use Rattle.term_laws.specs.Taking.{MayEnd, EndAll, EndOne, EndWalk}
 use Rattle.permit_step.proofs.EndingFacts.{all-first, all-at, all-ending, one-at, none-ending, turns-first, turns-at, turns-part, seq-ends, par-ends, choice-ends, tied-ends, trail-ends, loop-not, loop-zero, loop-owed, walk-ends, ending-more, ok-map}
-use Rattle.permit_step.proofs.Measures.{rank_in, rank-loop, rank-at, rank-part}
+use Rattle.term_laws.proofs.Measures.{rank_in, rank-loop, rank-at, rank-part}
 use Rattle.permit_step.proofs.NodeTerms.{node-is, sizes-are}
 use Rattle.permit_step.proofs.PermitLoops.{ready-loop}
 use Rattle.permit_step.proofs.PermitRows.{ready-part}
 use Rattle.permit_step.proofs.PermitWalks.{ready-walk}
 use Rattle.permit_step.proofs.Permits.{ready-at}
-use Rattle.permit_step.proofs.TermSentences.{net_rank}
+use Rattle.term_laws.proofs.TermSentences.{net_rank}
 use Rattle.permit_step.proofs.finishes.+may_end.Goals as goal
 
 pub all_may_end-loop-index-init : goal.all_may_end-loop-index-init

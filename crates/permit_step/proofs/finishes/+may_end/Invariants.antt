@@ -3,9 +3,9 @@ use Rattle.chart_term.specs.Rows.{part_of}
 use Rattle.chart_term.specs.Tables.{net_of, terms_over}
 use Rattle.hmsc_graph.specs.Nets.{size_of}
 use Rattle.permit_step.specs.Endings.{AreEnding}
-use Rattle.permit_step.specs.Taking.{EndAll, EndOne, EndLoop}
-use Rattle.permit_step.proofs.Measures.{rank_in, rank_all, rank_row, rank_part}
-use Rattle.permit_step.proofs.TermSentences.{net_rank}
+use Rattle.term_laws.specs.Taking.{EndAll, EndOne, EndLoop}
+use Rattle.term_laws.proofs.Measures.{rank_in, rank_all, rank_row, rank_part}
+use Rattle.term_laws.proofs.TermSentences.{net_rank}
 use Rattle.permit_step.proofs.finishes.+may_end.Given as goal
 
 abbrev pub decreases-may_end : goal.decreases-may_end

@@ -7,7 +7,7 @@ use Rattle.chart_term.specs.Tables.{net_of, nodes_of}
 use Rattle.permit_step.proofs.NodeTerms.{sizes-are}
 use Rattle.permit_step.proofs.Within.{trail-ready, shown-goal}
 use Rattle.bit_sets.specs.Blocks.{BlockValue}
-use Rattle.permit_step.specs.Permission.{permits_of}
+use Rattle.term_laws.specs.Permission.{permits_of}
 use Rattle.permit_step.proofs.FreshFacts.{trail-none}
 use Rattle.permit_step.proofs.fresh.fresh_walk.Goals as goal
 

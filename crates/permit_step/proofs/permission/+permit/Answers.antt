@@ -6,19 +6,19 @@ use Rattle.hmsc_graph.specs.Nets.{size_of}
 use Rattle.hmsc_graph.specs.Spots.{spot_of, goal_of}
 use Rattle.permit_step.specs.Passing.{ArePassable, IsAimed}
 use Rattle.chart_term.specs.Spreads.{spread_of}
-use Rattle.permit_step.specs.Permission.{permit, permits_of}
+use Rattle.term_laws.specs.Permission.{permit, permits_of}
 use Rattle.permit_step.specs.Ready.{IsReady}
 use Rattle.permit_step.specs.RowRests.{keep_parts, no_rest}
 use Rattle.bit_sets.specs.Blocks.{BlockValue}
-use Rattle.permit_step.specs.Values.{block_of}
+use Rattle.term_laws.specs.Values.{block_of}
 use Rattle.chart_term.specs.Rows.{part_of}
 use Rattle.permit_step.proofs.PermitLoops.{loop-left, loop-none, ready-loop, if-kept, if-lost, cut_alike}
 use Rattle.permit_step.proofs.PermitWalks.{passable-more, walk-lost, walk-passes, walk-empty, ready-walk}
 use Rattle.permit_step.proofs.NodeTerms.{node-is, sizes-are}
-use Rattle.permit_step.proofs.TermSentences.{net_rank}
+use Rattle.term_laws.proofs.TermSentences.{net_rank}
 use Rattle.permit_step.proofs.PermitRows.{keep-more, keep-none}
 use Rattle.permit_step.proofs.Permits.{ready-at}
-use Rattle.permit_step.proofs.Measures.{rank_in, rank-loop, rank-at}
+use Rattle.term_laws.proofs.Measures.{rank_in, rank-loop, rank-at}
 use Rattle.permit_step.proofs.permission.+permit.Goals as goal
 
 pub keep_parts-returns-then-not-branch : goal.keep_parts-returns-then-not-branch

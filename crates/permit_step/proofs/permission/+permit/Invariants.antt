@@ -2,14 +2,14 @@ use Rattle.std.proofs.Common.{◌≡◌, ◌+◌, ◌*◌, ◌≤◌, take, drop
 use Rattle.chart_term.specs.NormalForms.{only}
 use Rattle.chart_term.specs.Rows.{part_of}
 use Rattle.chart_term.specs.Terms.{trees}
-use Rattle.permit_step.specs.Permission.{permit, permit_all, permit_some, permits_of}
+use Rattle.term_laws.specs.Permission.{permit, permit_all, permit_some, permits_of}
 use Rattle.permit_step.specs.RowRests.{keep_parts}
-use Rattle.permit_step.specs.Values.{block_of}
-use Rattle.permit_step.proofs.Measures.{rank_in, rank_all, rank_part, rank_row}
+use Rattle.term_laws.specs.Values.{block_of}
+use Rattle.term_laws.proofs.Measures.{rank_in, rank_all, rank_part, rank_row}
 use Rattle.chart_term.specs.Tables.{net_of}
 use Rattle.hmsc_graph.specs.Nets.{size_of}
 use Rattle.permit_step.specs.Passing.{ArePassable}
-use Rattle.permit_step.proofs.TermSentences.{net_rank}
+use Rattle.term_laws.proofs.TermSentences.{net_rank}
 use Rattle.permit_step.proofs.permission.+permit.Given as goal
 
 abbrev pub decreases-permit_term : goal.decreases-permit_term

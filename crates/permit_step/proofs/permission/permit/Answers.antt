@@ -1,4 +1,4 @@
-use Rattle.permit_step.specs.Values.{block_of}
+use Rattle.term_laws.specs.Values.{block_of}
 use Rattle.permit_step.proofs.Within.{permit-ready}
 use Rattle.permit_step.proofs.permission.permit.Goals as goal
 

@@ -3,7 +3,7 @@ use Rattle.permit_step.specs.declared.found.Found.{Found}
 use Rattle.permit_step.proofs.successors.+search.Goals.{search_children-in-Some+in_ok-parent+in_ok-push+in_ok-all+else-not-all, search_children-in_default}
 use Rattle.chart_term.specs.Terms.{Tree}
 use Rattle.permit_step.specs.Children.{child}
-use Rattle.permit_step.specs.Permission.{permits_of}
+use Rattle.term_laws.specs.Permission.{permits_of}
 use Rattle.permit_step.specs.Searches.{AreReadyFrames, Gathers, GathersBelow}
 use Rattle.permit_step.specs.declared.ascent.Frame.{Frame}
 use Rattle.permit_step.proofs.ChildReady.{child-good}

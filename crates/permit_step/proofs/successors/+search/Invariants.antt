@@ -1,6 +1,6 @@
 use Rattle.std.proofs.Common.{◌≡◌, ◌+◌, ◌*◌}
 use Rattle.permit_step.specs.Searches.{GathersBelow}
-use Rattle.permit_step.proofs.Measures.{rank_in}
+use Rattle.term_laws.proofs.Measures.{rank_in}
 use Rattle.permit_step.proofs.successors.+search.Given as goal
 
 abbrev pub decreases-search : goal.decreases-search

@@ -1,4 +1,4 @@
-use Rattle.std.proofs.Common.{◌∙◌, sym, subst, ap, [], List}
+use Rattle.std.proofs.Common.{◌∙◌, sym, subst, List}
 use Rattle.permit_step.specs.Searches.{Gathers}
 use Rattle.permit_step.specs.declared.ascent.Frame.{Frame}
 use Rattle.permit_step.proofs.Searching.{found-all}

@@ -1,6 +1,6 @@
 use Rattle.std.specs.Prelude.{[]}
 use Rattle.chart_term.specs.Properties.{Each}
-use Rattle.permit_step.specs.FullSoundness.{IsSoundNode}
+use Rattle.term_laws.specs.FullSoundness.{IsSoundNode}
 use Rattle.residual_bench.specs.Charts.{labels}
 use Rattle.residual_bench.proofs.charts.singles.Given as goal
 

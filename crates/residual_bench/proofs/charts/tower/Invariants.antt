@@ -1,5 +1,5 @@
 use Rattle.std.specs.Prelude.{[]}
-use Rattle.permit_step.specs.FullSoundness.{IsSoundNode}
+use Rattle.term_laws.specs.FullSoundness.{IsSoundNode}
 use Rattle.residual_bench.specs.Charts.{labels}
 use Rattle.residual_bench.proofs.charts.tower.Given as goal
 

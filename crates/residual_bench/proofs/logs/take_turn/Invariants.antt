@@ -1,6 +1,6 @@
 use Rattle.std.specs.Prelude.{◌≡◌, ◌+◌}
-use Rattle.residual_set.specs.Sets.{IsServing}
-use Rattle.residual_set.specs.Tracks.{IfHeld}
+use Rattle.trace_judge.specs.Sets.{IsServing}
+use Rattle.trace_judge.specs.Tracks.{IfHeld}
 use Rattle.residual_bench.proofs.logs.take_turn.Given as goal
 
 abbrev pub invariant-loop-index : goal.invariant-loop-index

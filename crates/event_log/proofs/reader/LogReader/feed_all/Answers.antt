@@ -12,7 +12,7 @@ returns-in_err-feed_within-clause-err c =
     let back = c.split_at.result.1.now in
     let u = c.feed_within-2.new.self in
     let is : c.from_residual.result ≡ Err c.in_err-feed_within.field-0.0 = search rules in
-    let cut : piece ≡ prefix ++ back = split_there _ piece prefix back c.split_at.ensures.prefix c.split_at.ensures.back in
+    let cut : piece ≡ prefix ++ back = split_there _ piece prefix back c.split_at.ensures.front c.split_at.ensures.back in
     λ form b n h. subst (λ r. IfErr r (λ x. HoldsAt (Some x) false form (b ++ piece) n u)) (c.in_err-feed_within.was ∙ sym is)
     (front_fails form b piece prefix back n u c.feed_within-2.result cut (c.feed_within-2.ensures.err form b n h))
 
@@ -22,7 +22,7 @@ returns-clause-err c =
     let prefix = c.split_at.result.0.now in
     let back = c.split_at.result.1.now in
     let u = c.feed_within-2.new.self in
-    let cut : piece ≡ prefix ++ back = split_there _ piece prefix back c.split_at.ensures.prefix c.split_at.ensures.back in
+    let cut : piece ≡ prefix ++ back = split_there _ piece prefix back c.split_at.ensures.front c.split_at.ensures.back in
     let some : 0 < length back = omega arith in
     let before : c.self.inside.count ≡ c.args.self.now.count = ap (λ (s : LogState). s.count) c.self.view_is in
     let count : u.count ≡ c.args.self.now.count + length prefix = search rules in

@@ -12,7 +12,7 @@ returns-in_err-take_ended-clause-err c =
     let is : c.from_residual.result ≡ Err c.in_err-take_ended.field-0.0 = search rules in
     let within : c.in-Some.end < length rest = search rules in
     let ten : slice_index rest c.in-Some.end ≡ 10 = search rules in
-    let cut : rest ≡ prefix ++ 10 ∷ drop 1 behind = cut_there c.in-Some.end rest prefix behind (drop 1 behind) within c.split_at.ensures.prefix c.split_at.ensures.back refl ten in
+    let cut : rest ≡ prefix ++ 10 ∷ drop 1 behind = cut_there c.in-Some.end rest prefix behind (drop 1 behind) within c.split_at.ensures.front c.split_at.ensures.back refl ten in
     λ form b n h. subst (λ r. IfErr r (λ x. HoldsAt (Some x) false form (b ++ c.args.piece.now) n c.take_ended.new.self)) (c.in_err-take_ended.was ∙ sym is)
     (taken_fails c.args.self.now s c.take_ended.new.self c.args.piece.now rest prefix (drop 1 behind) c.take_ended.result c.loop-end.invariant.has cut c.take_ended.ensures.err form b n h)
 
@@ -26,7 +26,7 @@ loop-end-preserved c =
     let after = c.split_at-in-Some.result.1.now in
     let within : c.in-Some.end < length rest = search rules in
     let ten : slice_index rest c.in-Some.end ≡ 10 = search rules in
-    let cut : rest ≡ prefix ++ 10 ∷ after = cut_there c.in-Some.end rest prefix behind after within c.split_at.ensures.prefix c.split_at.ensures.back c.split_at-in-Some.ensures.back ten in
+    let cut : rest ≡ prefix ++ 10 ∷ after = cut_there c.in-Some.end rest prefix behind after within c.split_at.ensures.front c.split_at.ensures.back c.split_at-in-Some.ensures.back ten in
     let count : u.count ≡ s.count + length prefix + 1 = search rules in
     record {
       has = taken_line c.args.self.now s u c.args.piece.now rest prefix after c.take_ended.result c.in_ok-take_ended.field-0 c.in_ok-take_ended.was c.loop-end.invariant.has cut

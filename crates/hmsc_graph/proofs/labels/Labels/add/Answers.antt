@@ -10,7 +10,7 @@ pub returns-then-is_some : goal.returns-then-is_some
 returns-then-is_some c =
     let label = c.args.line.now.label in
     let some : true ≡ is_some (position (bytes_eq label) c.args.self.now.table) = rw (← c.bytes-label.ensures.bytes) (c.if-is_some.ensures ∙ ap is_some c.number_of.ensures) in
-    known_line c.args.self.now c.args.line.now c.earlier-self.result (sym (some ∙ is_some-position (bytes_eq label) c.args.self.now.table)) c.earlier-self.ensures
+    known_line c.args.self.now c.args.line.now c.earlier_place-self.result (sym (some ∙ is_some-position (bytes_eq label) c.args.self.now.table)) c.earlier_place-self.ensures
 
 pub returns : goal.returns
 returns c =

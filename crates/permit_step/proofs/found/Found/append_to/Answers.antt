@@ -1,5 +1,3 @@
-use Rattle.std.proofs.Common.{◌∙◌, ◌∷◌, ◌++◌, [], List, ap}
-use Rattle.chart_term.specs.Terms.{Tree}
 use Rattle.permit_step.proofs.Ascending.{copies-more}
 use Rattle.permit_step.proofs.found.Found.append_to.Goals as goal
 use Rattle.std.proofs.Common.{arith}

@@ -1,4 +1,4 @@
-use Rattle.residual_set.specs.Sets.{IsServing}
+use Rattle.trace_judge.specs.Sets.{IsServing}
 use Rattle.residual_bench.proofs.work.tests.weights.Given as goal
 
 abbrev pub invariant-loop-index : goal.invariant-loop-index

@@ -1,4 +1,0 @@
-mod Few
-mod Takings
-mod Judging
-mod Samples

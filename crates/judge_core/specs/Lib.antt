@@ -1,4 +1,0 @@
-pub mod Judged
-pub mod Taking
-pub mod States
-pub mod Faults

@@ -1,6 +1,0 @@
-use Rattle.std.proofs.Common.{◌≡◌, ◌++◌, drop}
-use Rattle.msc_grammar.specs.EventGrammar.{with_commas}
-use Rattle.msc_expand.proofs.woven.push_items.Given as goal
-
-abbrev pub invariant-loop-item : goal.invariant-loop-item
-invariant-loop-item l = l.text.items ++ with_commas (drop l.item-index l.items) ≡ l.fn.text.items ++ with_commas l.items

@@ -1,3 +1,0 @@
-pub mod EventAnswers
-pub mod EventRules
-pub mod ItemLists

@@ -1,6 +1,0 @@
-use Rattle.std.proofs.Common.{◌≡◌, ◌++◌, drop}
-use Rattle.msc_instances.specs.Messages.{with_commas}
-use Rattle.msc_instances.proofs.matching.push_items.Given as goal
-
-abbrev pub invariant-loop-item : goal.invariant-loop-item
-invariant-loop-item l = l.text.items ++ with_commas (drop l.item-index l.items) ≡ l.fn.text.items ++ with_commas l.items

@@ -1,7 +1,0 @@
-use Rattle.std.proofs.Common.{take}
-use Rattle.permit_step.specs.Listing.{IsAmong}
-use Rattle.residual_set.specs.Gathers.{JoinsAll}
-use Rattle.residual_set.proofs.residuals.add_found.Given as goal
-
-abbrev pub invariant-loop-index : goal.invariant-loop-index
-invariant-loop-index l = JoinsAll (λ y. IsAmong y (take l.index l.found)) l.budget l.initial.gathered l.gathered

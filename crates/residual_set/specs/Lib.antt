@@ -1,8 +1,0 @@
-pub mod Sets
-pub mod Logs
-pub mod Verdicts
-pub mod Tracks
-pub mod Laws
-pub mod Steps
-pub mod Gathers
-pub mod Advances

@@ -1,0 +1,14 @@
+pub mod Permission
+pub mod Residuals
+pub mod Soundness
+pub mod Taking
+pub mod Laws
+pub mod Normality
+pub mod Sound
+pub mod ConstructorLaws
+pub mod Listing
+pub mod LaterTables
+pub mod OneResidual
+pub mod FullSoundness
+pub mod Missed
+pub mod Values

@@ -1,0 +1,4 @@
+mod Nodes
+mod Tabling
+pub mod TouchFacts
+mod FitFacts

@@ -1,0 +1,4 @@
+pub mod NetValues
+pub mod Fitting
+pub mod NetTables
+pub mod Unions

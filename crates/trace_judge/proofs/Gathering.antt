@@ -1,0 +1,325 @@
+-- Gathering what is left of terms.
+use Rattle.std.specs.Prelude.{ℕ, zero, suc, ◌+◌, ◌≡◌, ◌≤◌, ◌<◌, ◌⊎◌, ◌↔◌, ◌||◌, Bool, true, false, IsTrue, List, [], ◌∷◌, ◌++◌, Option, Some, None, slice_get, take, length, not, Result, IfOk, MatchOption, refl}
+use Rattle.std.proofs.Common.{add-one, ap, sym, ◌∙◌, subst, arith, inl, inr}
+use Rattle.std.specs.BTreeMap.{is_at}
+use Rattle.std.specs.BTreeSet.{insert_key}
+use Rattle.std.specs.List.{AllByRecursion, list_any}
+use Rattle.std.specs.List.Sorted.{IsStrictlySortedBy}
+use Rattle.std.specs.Ordering.{match_ordering}
+use Rattle.std.specs.declared.cmp.Ordering.{Ordering}
+use Rattle.std.specs.declared.cmp.Ordering.TheVariants.{Less, Equal, Greater}
+use Rattle.std.proofs.lemmas.List.{take_all}
+use Rattle.std.proofs.lemmas.Result.{IfOk-weaker}
+use Rattle.msc_base.specs.declared.label.Label.{Label}
+use Rattle.term_tables.specs.NetValues.{NetsValue}
+use Rattle.chart_term.specs.Order.{tree_cmp}
+use Rattle.chart_term.specs.OrderLaws.{tree_equal}
+use Rattle.chart_term.specs.Properties.{Each}
+use Rattle.chart_term.specs.TermPatterns.{Both}
+use Rattle.chart_term.specs.Terms.{Tree, weight}
+use Rattle.term_laws.specs.Listing.{IsAmong, set_weight}
+use Rattle.chart_term.specs.Tables.{terms_over}
+use Rattle.permit_step.specs.Ready.{IsReady, AreReadyTables}
+use Rattle.permit_step.specs.Successors.{IsSuccessor, AreFound, AppendsFound}
+use Rattle.term_laws.specs.Taking.{MayEnd}
+use Rattle.permit_step.proofs.SoundReady.{ready_by_soundness}
+use Rattle.trace_judge.specs.Gathers.{IsOver, JoinsAll}
+use Rattle.trace_judge.specs.Logs.{AreResiduals}
+use Rattle.trace_judge.specs.Sets.{SetValue, IsSoundFor, IsServing, IsLeftOf, IsNextSet, PassBudget, AreRising, HasEnding}
+use Rattle.trace_judge.proofs.SetLaws.{set_step, over_passes, stays_sound}
+use Rattle.trace_judge.proofs.Lists.{each_at, each_from, rising_different, member_weight}
+
+-- a term put at its place
+
+pub insert_among : (y x : Tree) (xs : List Tree) → Both (IsAmong y (insert_key tree_cmp xs x)) ((y ≡ x) ⊎ IsAmong y xs)
+insert_among y x [] = record { to = λ h. elim h [ inl e ↦ inl (sym e) | inr b ↦ absurd b ]; from = λ h. elim h [ inl e ↦ inl (sym e) | inr b ↦ absurd b ] }
+insert_among y x (z ∷ zs) = go (tree_cmp x z) refl (insert_among y x zs)
+  where
+    to_front : IsAmong y (x ∷ z ∷ zs) → (y ≡ x) ⊎ IsAmong y (z ∷ zs)
+    to_front (inl e) = inl (sym e)
+    to_front (inr h) = inr h
+
+    from_front : (y ≡ x) ⊎ IsAmong y (z ∷ zs) → IsAmong y (x ∷ z ∷ zs)
+    from_front (inl e) = inl (sym e)
+    from_front (inr h) = inr h
+
+    from_same : x ≡ z → (y ≡ x) ⊎ IsAmong y (z ∷ zs) → IsAmong y (z ∷ zs)
+    from_same e (inl q) = inl (sym (q ∙ e))
+    from_same e (inr h) = h
+
+    to_later : (r : List Tree) → (IsAmong y r → (y ≡ x) ⊎ IsAmong y zs) → IsAmong y (z ∷ r) → (y ≡ x) ⊎ IsAmong y (z ∷ zs)
+    to_later r f (inl e) = inr (inl e)
+    to_later r f (inr h) = elim (f h) [ inl e ↦ inl e | inr i ↦ inr (inr i) ]
+
+    from_later : (r : List Tree) → ((y ≡ x) ⊎ IsAmong y zs → IsAmong y r) → (y ≡ x) ⊎ IsAmong y (z ∷ zs) → IsAmong y (z ∷ r)
+    from_later r f (inl e) = inr (f (inl e))
+    from_later r f (inr (inl e)) = inl e
+    from_later r f (inr (inr h)) = inr (f (inr h))
+
+    go : (o : Ordering) → tree_cmp x z ≡ o → Both (IsAmong y (insert_key tree_cmp zs x)) ((y ≡ x) ⊎ IsAmong y zs) → Both (IsAmong y (match_ordering o (x ∷ z ∷ zs) (z ∷ zs) (z ∷ insert_key tree_cmp zs x))) ((y ≡ x) ⊎ IsAmong y (z ∷ zs))
+    go Less e r = record { to = to_front; from = from_front }
+    go Equal e r = record { to = inr; from = from_same (tree_equal x z e) }
+    go Greater e r = record { to = to_later (insert_key tree_cmp zs x) r.to; from = from_later (insert_key tree_cmp zs x) r.from }
+
+pub rising_from : (xs : List Tree) → IsStrictlySortedBy tree_cmp xs → AreRising xs
+unfolding IsStrictlySortedBy
+rising_from [] h = tt
+rising_from (x ∷ xs) h = (all x xs h.0, rising_from xs h.1)
+  where
+    all : (x : Tree) (ys : List Tree) → AllByRecursion (λ y. tree_cmp x y ≡ Less) ys → Each (λ y. tree_cmp x y ≡ Less) ys
+    all x [] h = tt
+    all x (y ∷ ys) h = (h.0, all x ys h.1)
+
+insert_new : (x : Tree) (xs : List Tree) → list_any (is_at (tree_cmp x)) xs ≡ false → set_weight (insert_key tree_cmp xs x) ≡ set_weight xs + weight x
+insert_new x [] h = omega arith
+insert_new x (z ∷ zs) h = go (tree_cmp x z) refl (insert_new x zs)
+  where
+    rest : (b c : Bool) → (b || c) ≡ false → (b ≡ false) × (c ≡ false)
+    rest false c h = (refl, h)
+    rest true c h = cc
+
+    go : (o : Ordering) → tree_cmp x z ≡ o → (list_any (is_at (tree_cmp x)) zs ≡ false → set_weight (insert_key tree_cmp zs x) ≡ set_weight zs + weight x)
+        → set_weight (match_ordering o (x ∷ z ∷ zs) (z ∷ zs) (z ∷ insert_key tree_cmp zs x)) ≡ set_weight (z ∷ zs) + weight x
+    go Less e f = omega arith
+    go Equal e f = let t : is_at (tree_cmp x) z ≡ true = rw e in let bad : true ≡ false = sym t ∙ (rest (is_at (tree_cmp x) z) (list_any (is_at (tree_cmp x)) zs) h).0 in cc
+    go Greater e f = omega (arith, f (rest (is_at (tree_cmp x) z) (list_any (is_at (tree_cmp x)) zs) h).1)
+
+pub put_adds : (old new : List Tree) (x : Tree) → new ≡ insert_key tree_cmp old x → (y : Tree) → Both (IsAmong y new) ((y ≡ x) ⊎ IsAmong y old)
+put_adds old new x e y = subst (λ (l : List Tree). Both (IsAmong y l) ((y ≡ x) ⊎ IsAmong y old)) (sym e) (insert_among y x old)
+
+pub put_weighs : (old new : List Tree) (x : Tree) (added : Bool) → new ≡ insert_key tree_cmp old x → added ≡ not (list_any (is_at (tree_cmp x)) old) → added ≡ true → set_weight new ≡ set_weight old + weight x
+put_weighs old new x added e q t = ap set_weight e ∙ insert_new x old (none (list_any (is_at (tree_cmp x)) old) (sym q ∙ t))
+  where
+    none : (b : Bool) → not b ≡ true → b ≡ false
+    none true h = cc
+    none false h = refl
+
+pub ruleset placing = (put_adds, put_weighs, rising_from)
+
+-- endings
+
+pub tables_ready : (v : NetsValue) (xs : List Tree) (i : ℕ) (x : Tree) → slice_get xs i ≡ Some x → Each (IsSoundFor v) xs → AreReadyTables v.tables
+tables_ready v [] i x e h = cc
+tables_ready v (y ∷ ys) zero x e h = ready_by_soundness.tables _ v.tables y h.0
+tables_ready v (y ∷ ys) (suc i) x e h = tables_ready v ys i x e h.1
+
+pub term_sound : (v : NetsValue) (xs : List Tree) (i : ℕ) (x : Tree) → slice_get xs i ≡ Some x → Each (IsSoundFor v) xs → IsSoundFor v x
+term_sound v [] i x e h = cc
+term_sound v (y ∷ ys) zero x e h = let q : y ≡ x = cc in subst (IsSoundFor v) q h.0
+term_sound v (y ∷ ys) (suc i) x e h = term_sound v ys i x e h.1
+
+pub term_ready : (v : NetsValue) (xs : List Tree) (i : ℕ) (x : Tree) → slice_get xs i ≡ Some x → Each (IsSoundFor v) xs → IsReady v.tables x
+term_ready v xs i x e h = ready_by_soundness.term _ v.tables x (term_sound v xs i x e h)
+
+pub at_among : (xs : List Tree) (i : ℕ) (x : Tree) → slice_get xs i ≡ Some x → IsAmong x xs
+at_among [] i x e = cc
+at_among (y ∷ ys) zero x e = inl cc
+at_among (y ∷ ys) (suc i) x e = inr (at_among ys i x e)
+
+-- one more of the prefix of a list
+
+suc_among : (xs : List Tree) (i : ℕ) (x y : Tree) → slice_get xs i ≡ Some x → IsAmong y (take (suc i) xs) → (x ≡ y) ⊎ IsAmong y (take i xs)
+suc_among [] i x y e h = cc
+suc_among (z ∷ zs) zero x y e (inl q) = let p : z ≡ x = cc in inl (sym p ∙ q)
+suc_among (z ∷ zs) zero x y e (inr h) = absurd h
+suc_among (z ∷ zs) (suc i) x y e (inl q) = inr (inl q)
+suc_among (z ∷ zs) (suc i) x y e (inr h) = elim (suc_among zs i x y e h) [ inl q ↦ inl q | inr j ↦ inr (inr j) ]
+
+among_suc : (xs : List Tree) (i : ℕ) (x y : Tree) → slice_get xs i ≡ Some x → (x ≡ y) ⊎ IsAmong y (take i xs) → IsAmong y (take (suc i) xs)
+among_suc [] i x y e h = cc
+among_suc (z ∷ zs) zero x y e (inl q) = let p : z ≡ x = cc in inl (p ∙ q)
+among_suc (z ∷ zs) zero x y e (inr h) = absurd h
+among_suc (z ∷ zs) (suc i) x y e (inl q) = inr (among_suc zs i x y e (inl q))
+among_suc (z ∷ zs) (suc i) x y e (inr (inl q)) = inl q
+among_suc (z ∷ zs) (suc i) x y e (inr (inr h)) = inr (among_suc zs i x y e (inr h))
+
+pub take_among : (xs : List Tree) (i : ℕ) (x y : Tree) → slice_get xs i ≡ Some x → IsAmong y (take (i + 1) xs) → (x ≡ y) ⊎ IsAmong y (take i xs)
+take_among xs i x y e h = suc_among xs i x y e (subst (λ (n : ℕ). IsAmong y (take n xs)) (add-one i) h)
+
+pub among_take : (xs : List Tree) (i : ℕ) (x y : Tree) → slice_get xs i ≡ Some x → (x ≡ y) ⊎ IsAmong y (take i xs) → IsAmong y (take (i + 1) xs)
+among_take xs i x y e h = subst (λ (n : ℕ). IsAmong y (take n xs)) (sym (add-one i)) (among_suc xs i x y e h)
+
+pub among_some : (xs : List Tree) (i : ℕ) (y : Tree) → IsAmong y (take i xs) → IsAmong y xs
+among_some [] i y h = none i h
+  where
+    none : (i : ℕ) → IsAmong y (take i []) → ⊥
+    none zero h = h
+    none (suc i) h = h
+among_some (z ∷ zs) zero y h = absurd h
+among_some (z ∷ zs) (suc i) y (inl q) = inl q
+among_some (z ∷ zs) (suc i) y (inr h) = inr (among_some zs i y h)
+
+pub start_ends : (v : NetsValue) (xs : List Tree) → HasEnding v (take 0 xs) → ⊥
+start_ends v xs h = h.held
+
+pub this_ends : (v : NetsValue) (xs : List Tree) (i : ℕ) (x : Tree) (b : Bool) → slice_get xs i ≡ Some x → (IsTrue b ↔ MayEnd (terms_over v.tables) x) → b ≡ true → IsTrue true ↔ HasEnding v xs
+this_ends v xs i x b e h t = (λ u. record { term = x; held = at_among xs i x e; ends = h.0 t }, λ u. refl)
+
+true_false : true ≡ false → ⊥
+true_false e = cc
+
+pub more_ends : (v : NetsValue) (xs : List Tree) (i : ℕ) (x : Tree) (b : Bool) → slice_get xs i ≡ Some x → (IsTrue b ↔ MayEnd (terms_over v.tables) x) → b ≡ false → (HasEnding v (take i xs) → ⊥) → HasEnding v (take (i + 1) xs) → ⊥
+more_ends v xs i x b e h f g k = elim (take_among xs i x k.term e k.held) [
+  | inl q ↦ true_false (sym (h.1 (subst (MayEnd (terms_over v.tables)) (sym q) k.ends)) ∙ f)
+  | inr j ↦ g (record { term = k.term; held = j; ends = k.ends })
+]
+
+pub all_end : (v : NetsValue) (xs : List Tree) (i : ℕ) → length xs ≤ i → (HasEnding v (take i xs) → ⊥) → IsTrue false ↔ HasEnding v xs
+all_end v xs i l f = (λ b. absurd (true_false (sym b)), λ h. absurd (f (subst (HasEnding v) (sym (take_all i xs l)) h)))
+
+pub ruleset ending = (tables_ready, term_ready, start_ends, this_ends, more_ends, all_end)
+
+-- what is gathered
+
+pub joins_none : (xs old : List Tree) (budget : ℕ) → set_weight old ≤ budget → JoinsAll (λ y. IsAmong y (take 0 xs)) budget old old
+joins_none xs old budget l = record { exact = λ y. record { to = inl; from = λ h. elim h [ inl i ↦ i | inr b ↦ absurd b ] }; within = l }
+
+joins_up : (xs : List Tree) (i : ℕ) (x : Tree) (old mid new : List Tree) (budget : ℕ) → slice_get xs i ≡ Some x → JoinsAll (λ y. IsAmong y (take i xs)) budget old mid → ((y : Tree) → Both (IsAmong y new) ((y ≡ x) ⊎ IsAmong y mid))
+    → (y : Tree) → Both (IsAmong y new) (IsAmong y old ⊎ IsAmong y (take (i + 1) xs))
+joins_up xs i x old mid new budget e j a y = record { to = λ h. forth ((a y).to h); from = λ h. back h }
+  where
+    forth : (y ≡ x) ⊎ IsAmong y mid → IsAmong y old ⊎ IsAmong y (take (i + 1) xs)
+    forth (inl q) = inr (among_take xs i x y e (inl (sym q)))
+    forth (inr h) = elim ((j.exact y).to h) [ inl k ↦ inl k | inr k ↦ inr (among_take xs i x y e (inr k)) ]
+
+    back : IsAmong y old ⊎ IsAmong y (take (i + 1) xs) → IsAmong y new
+    back (inl k) = (a y).from (inr ((j.exact y).from (inl k)))
+    back (inr k) = elim (take_among xs i x y e k) [ inl q ↦ (a y).from (inl (sym q)) | inr m ↦ (a y).from (inr ((j.exact y).from (inr m))) ]
+
+pub joins_more : (xs : List Tree) (i : ℕ) (x : Tree) (old mid new : List Tree) (budget : ℕ) → slice_get xs i ≡ Some x → JoinsAll (λ y. IsAmong y (take i xs)) budget old mid → ((y : Tree) → Both (IsAmong y new) ((y ≡ x) ⊎ IsAmong y mid)) → set_weight new ≤ budget
+    → JoinsAll (λ y. IsAmong y (take (i + 1) xs)) budget old new
+joins_more xs i x old mid new budget e j a l = record { exact = joins_up xs i x old mid new budget e j a; within = l }
+
+pub joins_over : (xs : List Tree) (i : ℕ) (x : Tree) (old mid new : List Tree) (budget : ℕ) → slice_get xs i ≡ Some x → JoinsAll (λ y. IsAmong y (take i xs)) budget old mid → ((y : Tree) → Both (IsAmong y new) ((y ≡ x) ⊎ IsAmong y mid)) → AreRising new → budget < set_weight new
+    → IsOver (λ y. IsAmong y old ⊎ IsAmong y xs) budget
+joins_over xs i x old mid new budget e j a r l = record {
+  some = new;
+  different = rising_different new r;
+  each = λ y h. elim ((joins_up xs i x old mid new budget e j a y).to h) [ inl k ↦ inl k | inr k ↦ inr (among_some xs (i + 1) y k) ];
+  above = l;
+}
+
+pub joins_end : (xs : List Tree) (i : ℕ) (old new : List Tree) (budget : ℕ) → length xs ≤ i → JoinsAll (λ y. IsAmong y (take i xs)) budget old new → JoinsAll (λ y. IsAmong y xs) budget old new
+joins_end xs i old new budget l j = subst (λ (ys : List Tree). JoinsAll (λ y. IsAmong y ys) budget old new) (take_all i xs l) j
+
+pub light_at : (xs : List Tree) (i : ℕ) (x : Tree) (budget : ℕ) → slice_get xs i ≡ Some x → Each (λ y. weight y ≤ budget) xs → weight x ≤ budget
+light_at xs i x budget e h = each_at (λ y. weight y ≤ budget) xs x h (at_among xs i x e)
+
+-- what was found after an event
+
+module _ (v : NetsValue) (a : Label) (x : Tree) (budget : ℕ) (found : List Tree) (all : Bool) (h : AreFound v a x budget found all) where
+  pub found_light : all ≡ true → Each (λ y. weight y ≤ budget) found
+  found_light t = let l = h.within t in each_from (λ y. weight y ≤ budget) found (λ y i. let m = member_weight y found i in omega arith)
+
+  pub found_over : (old : List Tree) → all ≡ false → IsOver (λ y. IsAmong y old ⊎ IsSuccessor v a x y) budget
+  found_over old t = record { some = found; different = h.different; each = λ y i. inr (each_at (IsSuccessor v a x) found y h.each i); above = (h.beyond t).above }
+
+  pub found_joins : (old new : List Tree) → all ≡ true → JoinsAll (λ y. IsAmong y found) budget old new → JoinsAll (IsSuccessor v a x) budget old new
+  found_joins old new t j = record {
+    exact = λ y. record {
+      to = λ i. elim ((j.exact y).to i) [ inl k ↦ inl k | inr k ↦ inr (each_at (IsSuccessor v a x) found y h.each k) ];
+      from = λ i. elim i [ inl k ↦ (j.exact y).from (inl k) | inr s ↦ (j.exact y).from (inr (h.whole t y s)) ];
+    };
+    within = j.within;
+  }
+
+  pub found_passes : (old : List Tree) → IsOver (λ y. IsAmong y old ⊎ IsAmong y found) budget → IsOver (λ y. IsAmong y old ⊎ IsSuccessor v a x y) budget
+  found_passes old o = record { some = o.some; different = o.different; each = λ y i. elim (o.each y i) [ inl k ↦ inl k | inr k ↦ inr (each_at (IsSuccessor v a x) found y h.each k) ]; above = o.above }
+
+-- what is left of more and more terms
+
+module _ (v : NetsValue) (a : Label) (terms : List Tree) (budget : ℕ) where
+  pub left_none : (new : List Tree) → new ≡ [] → JoinsAll (IsLeftOf v a (take 0 terms)) budget [] new
+  left_none new e = subst (JoinsAll (IsLeftOf v a (take 0 terms)) budget []) (sym e) (record { exact = λ y. record { to = λ h. absurd h; from = λ h. elim h [ inl b ↦ b | inr l ↦ l.held ] }; within = omega arith })
+
+  module _ (i : ℕ) (x : Tree) (e : slice_get terms i ≡ Some x) (mid : List Tree) (j : JoinsAll (IsLeftOf v a (take i terms)) budget [] mid) where
+    old_left : (y : Tree) → IsAmong y mid → IsLeftOf v a (take i terms) y
+    old_left y h = elim ((j.exact y).to h) [ inl b ↦ absurd b | inr l ↦ l ]
+
+    pub left_more : (new : List Tree) → JoinsAll (IsSuccessor v a x) budget mid new → JoinsAll (IsLeftOf v a (take (i + 1) terms)) budget [] new
+    left_more new k = record { exact = λ y. record { to = λ h. inr (forth y ((k.exact y).to h)); from = λ h. elim h [ inl b ↦ absurd b | inr l ↦ back y l ] }; within = k.within }
+      where
+        forth : (y : Tree) → IsAmong y mid ⊎ IsSuccessor v a x y → IsLeftOf v a (take (i + 1) terms) y
+        forth y (inl h) = let l = old_left y h in record { term = l.term; held = among_take terms i x l.term e (inr l.held); left = l.left }
+        forth y (inr s) = record { term = x; held = among_take terms i x x e (inl refl); left = s }
+
+        back : (y : Tree) → IsLeftOf v a (take (i + 1) terms) y → IsAmong y new
+        back y l = elim (take_among terms i x l.term e l.held) [
+          | inl q ↦ (k.exact y).from (inr (subst (λ (t : Tree). IsSuccessor v a t y) (sym q) l.left))
+          | inr h ↦ (k.exact y).from (inl ((j.exact y).from (inr (record { term = l.term; held = h; left = l.left }))))
+        ]
+
+    pub left_over : IsOver (λ y. IsAmong y mid ⊎ IsSuccessor v a x y) budget → IsOver (IsLeftOf v a terms) budget
+    left_over o = record { some = o.some; different = o.different; each = λ y h. from y (o.each y h); above = o.above }
+      where
+        from : (y : Tree) → IsAmong y mid ⊎ IsSuccessor v a x y → IsLeftOf v a terms y
+        from y (inl h) = let l = old_left y h in record { term = l.term; held = among_some terms i l.term l.held; left = l.left }
+        from y (inr s) = record { term = x; held = at_among terms i x e; left = s }
+
+  pub left_end : (i : ℕ) (new : List Tree) → length terms ≤ i → JoinsAll (IsLeftOf v a (take i terms)) budget [] new → JoinsAll (IsLeftOf v a terms) budget [] new
+  left_end i new l j = subst (λ (ys : List Tree). JoinsAll (IsLeftOf v a ys) budget [] new) (take_all i terms l) j
+
+-- a call that appends what it found to no terms
+
+module _ (v : NetsValue) (a : Label) (x : Tree) (budget : ℕ) (old out : List Tree) (all : Bool) (p : old ≡ []) (h : AppendsFound v a x budget old out all) where
+  out_is : out ≡ h.found
+  out_is = h.are ∙ ap (λ (l : List Tree). l ++ h.found) p
+
+  pub appended_light : all ≡ true → Each (λ y. weight y ≤ budget) out
+  appended_light t = subst (Each (λ y. weight y ≤ budget)) (sym out_is) (found_light v a x budget h.found all h.they_are t)
+
+  pub appended_over : (held : List Tree) → all ≡ false → IsOver (λ y. IsAmong y held ⊎ IsSuccessor v a x y) budget
+  appended_over held t = found_over v a x budget h.found all h.they_are held t
+
+  pub appended_all : {E : Type 0} (held new : List Tree) (r : Result Bool E) → all ≡ true → IfOk r (λ fits. fits ≡ true → JoinsAll (λ y. IsAmong y out) budget held new) → IfOk r (λ fits. fits ≡ true → JoinsAll (IsSuccessor v a x) budget held new)
+  appended_all held new r t f = IfOk-weaker r _ _ (λ b g u. found_joins v a x budget h.found all h.they_are held new t (subst (λ (l : List Tree). JoinsAll (λ y. IsAmong y l) budget held new) out_is (g u))) f
+
+  pub appended_passes : {E : Type 0} (held : List Tree) (r : Result Bool E) → IfOk r (λ fits. fits ≡ false → IsOver (λ y. IsAmong y held ⊎ IsAmong y out) budget) → IfOk r (λ fits. fits ≡ false → IsOver (λ y. IsAmong y held ⊎ IsSuccessor v a x y) budget)
+  appended_passes held r f = IfOk-weaker r _ _ (λ b g u. found_passes v a x budget h.found all h.they_are held (subst (λ (l : List Tree). IsOver (λ y. IsAmong y held ⊎ IsAmong y l) budget) out_is (g u))) f
+
+-- a step
+
+some_sound : (v : NetsValue) (a : Label) (terms : List Tree) (budget : ℕ) (some : List Tree) → Each (IsSoundFor v) terms → ((y : Tree) → IsAmong y some → IsLeftOf v a terms y) → budget < set_weight some → (x : Tree) × IsSoundFor v x
+some_sound v a terms budget [] h f l = absurd (omega arith)
+some_sound v a terms budget (y ∷ ys) h f l = let i = f y (inl refl) in (i.term, each_at (IsSoundFor v) terms i.term h i.held)
+
+pub gathered_passes : (v : NetsValue) (a : Label) (terms : List Tree) (budget : ℕ) → Each (IsSoundFor v) terms → (o : Option (List Tree)) → MatchOption o (IsOver (IsLeftOf v a terms) budget) (λ all. JoinsAll (IsLeftOf v a terms) budget [] all)
+    → MatchOption o (PassBudget v a terms budget) (λ all. JoinsAll (IsLeftOf v a terms) budget [] all)
+gathered_passes v a terms budget h None o = over_passes v a (some_sound v a terms budget o.some h o.each o.above).0 terms budget (some_sound v a terms budget o.some h o.each o.above).1 o
+gathered_passes v a terms budget h (Some all) o = o
+
+module _ (v : NetsValue) (a : Label) (old new : SetValue) (found : List Tree) (serving : IsServing v old) (j : JoinsAll (IsLeftOf v a old.terms) old.budget [] found) (is : new ≡ record old { terms = found }) (rising : AreRising new.terms) where
+  new_terms : new.terms ≡ found
+  new_terms = ap (λ (s : SetValue). s.terms) is
+
+  left_of : (y : Tree) → IsAmong y new.terms → IsLeftOf v a old.terms y
+  left_of y i = elim ((j.exact y).to (subst (λ (l : List Tree). IsAmong y l) new_terms i)) [ inl b ↦ absurd b | inr l ↦ l ]
+
+  new_weight : set_weight new.terms ≤ old.budget
+  new_weight = let q : set_weight new.terms ≡ set_weight found = ap set_weight new_terms in omega (arith, j.within)
+
+  same_budget : new.budget ≡ old.budget
+  same_budget = ap (λ (s : SetValue). s.budget) is
+
+  pub step_next : old.too_large ≡ false → IsNextSet v a old new
+  step_next small = record {
+    small = small;
+    terms = record {
+      different = rising_different new.terms rising;
+      exact = λ y. record { to = left_of y; from = λ l. subst (λ (ts : List Tree). IsAmong y ts) (sym new_terms) ((j.exact y).from (inr l)) };
+    };
+    within = new_weight;
+    same_budget = same_budget;
+    stays_small = ap (λ (s : SetValue). s.too_large) is ∙ small;
+  }
+
+  pub step_serves : IsServing v new
+  step_serves = record {
+    sound = each_from (IsSoundFor v) new.terms (λ y i. let l = left_of y i in stays_sound v a l.term y (each_at (IsSoundFor v) old.terms l.term serving.sound l.held) l.left);
+    rising = rising;
+    within = omega (arith, new_weight, same_budget);
+    most = omega (arith, same_budget, serving.most);
+  }
+
+  pub step_residuals : old.too_large ≡ false → (x : Tree) (labels : List Label) → AreResiduals v x labels old.terms → AreResiduals v x (labels ++ a ∷ []) new.terms
+  step_residuals small x labels r = set_step v x labels a old.terms new.terms r (step_next small).terms

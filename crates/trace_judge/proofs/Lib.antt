@@ -1,0 +1,14 @@
+mod Prefixes
+mod Lists
+mod Lefts
+mod SetLaws
+mod RunLaws
+mod VerdictLaws
+mod TrackFacts
+mod Tracking
+mod Gathering
+mod Samples
+mod Few
+mod Takings
+mod Judging
+mod JudgeSamples

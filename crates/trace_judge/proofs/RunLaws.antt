@@ -1,0 +1,79 @@
+-- Sets of residual terms tell the runs of the term.
+use Rattle.std.specs.Prelude.{◌≡◌, ◌↔◌, Bool, IsTrue, List, [], ◌∷◌, length, refl}
+use Rattle.std.proofs.Common.{subst, inl}
+use Rattle.msc_base.specs.declared.label.Label.{Label}
+use Rattle.term_tables.specs.NetValues.{NetsValue}
+use Rattle.chart_term.specs.Terms.{Tree}
+use Rattle.term_laws.specs.Listing.{IsAmong}
+use Rattle.term_laws.specs.Sound.{IsSound}
+use Rattle.term_laws.proofs.FullSound.{full_soundness_is_kept}
+use Rattle.term_laws.proofs.SoundLaws.{residuals_are_exact}
+use Rattle.trace_judge.specs.Laws.{SetsTellRuns}
+use Rattle.trace_judge.specs.Logs.{LoggedEvent, labels_of, IsLeft, AreResiduals, Begins, IsRun}
+use Rattle.trace_judge.specs.Sets.{IsSoundFor, HasEnding}
+use Rattle.trace_judge.specs.Verdicts.{MayEndSo}
+
+sound_of : (v : NetsValue) (x : Tree) → IsSoundFor v x → IsSound v.tables x
+sound_of v x h = full_soundness_is_kept.suffices (length v.labels) v.tables x h
+
+pub left_begins : (v : NetsValue) (x y : Tree) (l : List Label) → IsSoundFor v x → IsLeft v x l y → Begins v x l
+left_begins v x y l h i = record {
+  numbers = i.numbers;
+  are = i.are;
+  begins = (residuals_are_exact.begins v.tables x i.numbers (sound_of v x h)).to (record { term = y; left = i.left });
+}
+
+pub record LeavesSome (v : NetsValue) (x : Tree) (l : List Label) : Type 0 where
+  pub term : Tree
+  pub left : IsLeft v x l term
+
+pub begins_left : (v : NetsValue) (x : Tree) (l : List Label) → IsSoundFor v x → Begins v x l → LeavesSome v x l
+begins_left v x l h b = let r = (residuals_are_exact.begins v.tables x b.numbers (sound_of v x h)).from b.begins in record { term = r.term; left = record { numbers = b.numbers; are = b.are; left = r.left } }
+
+none_empty : (v : NetsValue) (x : Tree) (l : List Label) (set : List Tree) → AreResiduals v x l set → ((y : Tree) → IsLeft v x l y → ⊥) → set ≡ []
+none_empty v x l [] r f = refl
+none_empty v x l (y ∷ ys) r f = absurd (f y ((r.exact y).to (inl refl)))
+
+empty_none : (set : List Tree) (y : Tree) → set ≡ [] → IsAmong y set → ⊥
+empty_none set y e i = subst (λ (s : List Tree). IsAmong y s) e i
+
+pub sets_tell_runs : SetsTellRuns
+sets_tell_runs = record {
+  empty = λ v x l set h r. record {
+    to = λ e b. let i = begins_left v x l h b in empty_none set i.term e ((r.exact i.term).from i.left);
+    from = λ f. none_empty v x l set r (λ y i. f (left_begins v x y l h i));
+  };
+  ends = λ v x l set h r. record {
+    to = λ e. let i = (r.exact e.term).to e.held in record {
+      numbers = i.numbers;
+      are = i.are;
+      run = (residuals_are_exact.ends v.tables x i.numbers (sound_of v x h)).to (record { term = e.term; left = i.left; ends = e.ends });
+    };
+    from = λ f. let e = (residuals_are_exact.ends v.tables x f.numbers (sound_of v x h)).from f.run in record {
+      term = e.term;
+      held = (r.exact e.term).from (record { numbers = f.numbers; are = f.are; left = e.left });
+      ends = e.ends;
+    };
+  };
+}
+
+pub ending_run : (v : NetsValue) (x : Tree) (events : List LoggedEvent) → IsSoundFor v x → MayEndSo v x events → IsRun v x (labels_of events)
+ending_run v x events h e = record {
+  numbers = e.left.numbers;
+  are = e.left.are;
+  run = (residuals_are_exact.ends v.tables x e.left.numbers (sound_of v x h)).to (record { term = e.term; left = e.left.left; ends = e.ends });
+}
+
+pub run_ending : (v : NetsValue) (x : Tree) (events : List LoggedEvent) → IsSoundFor v x → IsRun v x (labels_of events) → MayEndSo v x events
+run_ending v x events h f = let e = (residuals_are_exact.ends v.tables x f.numbers (sound_of v x h)).from f.run in record {
+  term = e.term;
+  left = record { numbers = f.numbers; are = f.are; left = e.left };
+  ends = e.ends;
+}
+
+-- what tests of a set tell
+pub tells_empty : (v : NetsValue) (x : Tree) (l : List Label) (set : List Tree) (b : Bool) → (IsTrue b ↔ (set ≡ [])) → IsSoundFor v x → AreResiduals v x l set → IsTrue b ↔ (Begins v x l → ⊥)
+tells_empty v x l set b e h r = let t = sets_tell_runs.empty v x l set h r in (λ u. t.to (e.0 u), λ f. e.1 (t.from f))
+
+pub tells_ends : (v : NetsValue) (x : Tree) (l : List Label) (set : List Tree) (b : Bool) → (IsTrue b ↔ HasEnding v set) → IsSoundFor v x → AreResiduals v x l set → IsTrue b ↔ IsRun v x l
+tells_ends v x l set b e h r = let t = sets_tell_runs.ends v x l set h r in (λ u. t.to (e.0 u), λ f. e.1 (t.from f))

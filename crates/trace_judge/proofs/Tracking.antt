@@ -1,0 +1,48 @@
+-- The steps of a track.
+use Rattle.std.specs.Prelude.{ℕ, ◌+◌, ◌≡◌, List, [], ◌∷◌, ◌++◌, Option, Some, None, Result, IfOk, refl}
+use Rattle.std.proofs.Common.{ap, sym, ◌∙◌, subst}
+use Rattle.std.proofs.lemmas.Result.{IfOk-weaker}
+use Rattle.msc_base.specs.declared.label.Label.{Label}
+use Rattle.msc_base.specs.declared.verdict.Verdict.{Verdict}
+use Rattle.msc_base.specs.declared.verdict.Verdict.TheVariants.{Conforms, Fails, Early, TooLarge}
+use Rattle.term_tables.specs.NetValues.{NetsValue}
+use Rattle.chart_term.specs.Terms.{Tree}
+use Rattle.trace_judge.specs.Advances.{FollowsOpen, IsOpenVerdict}
+use Rattle.trace_judge.specs.Logs.{LoggedEvent}
+use Rattle.trace_judge.specs.Sets.{SetValue}
+use Rattle.trace_judge.specs.Tracks.{TrackValue, Fed}
+use Rattle.trace_judge.specs.Verdicts.{IsVerdict, TellsRuns}
+use Rattle.trace_judge.proofs.TrackFacts.{take_settled, take_going, verdict_settled, verdict_conforms, verdict_early, none_settled}
+use Rattle.trace_judge.proofs.VerdictLaws.{tells_runs}
+
+module _ {S : Type 0} (holds : S → SetValue) (v : NetsValue) (x : Tree) (budget : ℕ) (events : List LoggedEvent) where
+  pub take_fed : (a : Label) (line : ℕ) (old mid new : TrackValue S) → FollowsOpen holds v a line old.ended old mid → new ≡ record mid { events = mid.events + 1 }
+      → Fed holds v x budget events old → Fed holds v x budget (events ++ record { label = a; line = line } ∷ []) new
+  take_fed a line old mid new h q f = go old.ended old.set refl refl h
+    where
+      go : (ended : Option Verdict) (set : Option S) → old.ended ≡ ended → old.set ≡ set → FollowsOpen holds v a line ended (record old { set = set }) mid → Fed holds v x budget (events ++ record { label = a; line = line } ∷ []) new
+      go None None p r h = absurd (none_settled holds v x budget events old f p r)
+      go None (Some s) p r h =
+          take_going holds v x budget events (record { label = a; line = line }) old new s h.set h.outcome f p r h.advances
+          (q ∙ (λ i. record { set = h.is i; events = h.events i + 1; ended = h.ended i; largest = h.largest i }))
+      go (Some w) set p r h =
+          take_settled holds v x budget events (record { label = a; line = line }) old new w f p
+          (q ∙ ap (λ (t : TrackValue S). record t { events = t.events + 1 }) (h ∙ (λ i. record old { set = sym r i })))
+
+  open_is : (t : TrackValue S) (s : S) → Fed holds v x budget events t → t.ended ≡ None → t.set ≡ Some s → (verdict : Verdict) → IsOpenVerdict v (holds s) t.events verdict → IsVerdict v x budget events verdict
+  open_is t s f p q (Conforms n) h = subst (λ (m : ℕ). IsVerdict v x budget events (Conforms m)) (sym h.0) (verdict_conforms holds v x budget events t s f p q h.1)
+  open_is t s f p q (Fails n k) h = absurd h
+  open_is t s f p q (Early n) h = subst (λ (m : ℕ). IsVerdict v x budget events (Early m)) (sym h.0) (verdict_early holds v x budget events t s f p q h.1)
+  open_is t s f p q (TooLarge n) h = absurd h
+
+  pub open_verdict_is : {E : Type 0} (t : TrackValue S) (s : S) (r : Result Verdict E) → t.ended ≡ None → t.set ≡ Some s → IfOk r (IsOpenVerdict v (holds s) t.events) → Fed holds v x budget events t → IfOk r (IsVerdict v x budget events)
+  open_verdict_is t s r p q h f = IfOk-weaker r _ _ (open_is t s f p q) h
+
+  pub open_verdict_tells : {E : Type 0} (t : TrackValue S) (s : S) (r : Result Verdict E) → t.ended ≡ None → t.set ≡ Some s → IfOk r (IsOpenVerdict v (holds s) t.events) → Fed holds v x budget events t → IfOk r (TellsRuns v x events)
+  open_verdict_tells t s r p q h f = IfOk-weaker r _ _ (λ w i. tells_runs v x budget events w f.sound (open_is t s f p q w i)) h
+
+  pub settled_is : (t : TrackValue S) (verdict : Verdict) → t.ended ≡ Some verdict → Fed holds v x budget events t → IsVerdict v x budget events verdict
+  settled_is t verdict p f = verdict_settled holds v x budget events t verdict f p
+
+  pub settled_tells : (t : TrackValue S) (verdict : Verdict) → t.ended ≡ Some verdict → Fed holds v x budget events t → TellsRuns v x events verdict
+  settled_tells t verdict p f = tells_runs v x budget events verdict f.sound (settled_is t verdict p f)

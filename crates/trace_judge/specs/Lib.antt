@@ -1,0 +1,12 @@
+pub mod Sets
+pub mod Logs
+pub mod Verdicts
+pub mod Tracks
+pub mod Laws
+pub mod Steps
+pub mod Gathers
+pub mod Advances
+pub mod Judged
+pub mod Taking
+pub mod States
+pub mod Faults

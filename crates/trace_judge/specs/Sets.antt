@@ -1,0 +1,73 @@
+-- Sets of residual terms, and how one event changes them.
+use Rattle.std.specs.Prelude.{ℕ, ◌≡◌, ◌≤◌, ◌<◌, ◌⊎◌, Bool, true, false, List, [], ◌∷◌, length}
+use Rattle.std.specs.declared.cmp.Ordering.TheVariants.{Less}
+use Rattle.msc_base.specs.declared.label.Label.{Label}
+use Rattle.term_tables.specs.NetValues.{NetsValue}
+use Rattle.chart_term.specs.Order.{tree_cmp}
+use Rattle.chart_term.specs.Properties.{Each}
+use Rattle.chart_term.specs.Tables.{terms_over}
+use Rattle.chart_term.specs.TermPatterns.{Both}
+use Rattle.chart_term.specs.Terms.{Tree}
+use Rattle.term_laws.specs.FullSoundness.{IsFullySound}
+use Rattle.term_laws.specs.Listing.{IsAmong, set_weight}
+use Rattle.term_laws.specs.Normality.{AreDifferent}
+use Rattle.permit_step.specs.Successors.{IsSuccessor}
+use Rattle.term_laws.specs.Taking.{MayEnd}
+
+-- a set: the terms held, their budget, and whether the budget was passed
+pub record SetValue : Type 0 where
+  pub terms : List Tree
+  pub budget : ℕ
+  pub too_large : Bool
+
+-- the term fits the tables, and is sound in full for them
+abbrev pub IsSoundFor : NetsValue → Tree → Type 0
+IsSoundFor v x = IsFullySound (length v.labels) v.tables x
+
+-- the terms rise in the order of terms
+abbrev pub AreRising : List Tree → Type 0
+AreRising [] = Unit {0}
+AreRising (x ∷ xs) = Each (λ y. tree_cmp x y ≡ Less) xs × AreRising xs
+
+-- the set serves the tables: each of its terms is sound for them; the terms rise, so that each is held once; they are within the budget
+pub record IsServing (v : NetsValue) (s : SetValue) : Type 0 where
+  pub sound : Each (IsSoundFor v) s.terms
+  pub rising : AreRising s.terms
+  pub within : set_weight s.terms ≤ s.budget
+  pub most : s.budget ≤ 4000000
+
+-- y is left of one of the terms after an event with the label
+pub record IsLeftOf (v : NetsValue) (label : Label) (terms : List Tree) (y : Tree) : Type 0 where
+  pub term : Tree
+  pub held : IsAmong term terms
+  pub left : IsSuccessor v label term y
+
+-- the list has exactly what is left of the terms after an event with the label, each once
+pub record AreSuccessors (v : NetsValue) (label : Label) (terms next : List Tree) : Type 0 where
+  pub different : AreDifferent next
+  pub exact : (y : Tree) → Both (IsAmong y next) (IsLeftOf v label terms y)
+
+-- all that is left of the terms weighs more than the budget
+pub record PassBudget (v : NetsValue) (label : Label) (terms : List Tree) (budget : ℕ) : Type 0 where
+  pub next : List Tree
+  pub are : AreSuccessors v label terms next
+  pub above : budget < set_weight next
+
+-- the set before and after an event with the label
+pub record IsNextSet (v : NetsValue) (label : Label) (old new : SetValue) : Type 0 where
+  pub small : old.too_large ≡ false
+  pub terms : AreSuccessors v label old.terms new.terms
+  pub within : set_weight new.terms ≤ old.budget
+  pub same_budget : new.budget ≡ old.budget
+  pub stays_small : new.too_large ≡ false
+
+-- the budget is passed at an event with the label, or was passed before; the set keeps its terms
+pub record IsTooLarge (v : NetsValue) (label : Label) (old new : SetValue) : Type 0 where
+  pub why : (old.too_large ≡ true) ⊎ PassBudget v label old.terms old.budget
+  pub is : new ≡ record old { too_large = true }
+
+-- one of the terms may end
+pub record HasEnding (v : NetsValue) (terms : List Tree) : Type 0 where
+  pub term : Tree
+  pub held : IsAmong term terms
+  pub ends : MayEnd (terms_over v.tables) term

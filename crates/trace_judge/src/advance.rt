@@ -1,0 +1,46 @@
+ghost use Rattle.std.specs.Prelude.{◌≡◌, IfOk, OnErr};
+ghost use Rattle.trace_judge.specs.Advances.{Advances, LeavesOver};
+
+use crate::{StepFault, Store};
+use msc_base::{Label, NoMemory};
+use term_tables::Nets;
+
+/// What became of a set at an event.
+#[derive(Clone, Copy, Debug, PartialEq, Eq)]
+pub(crate) enum Outcome {
+    /// Terms are left, of this weight.
+    Goes(u64),
+    /// Nothing is left.
+    Empties,
+    /// The budget is passed.
+    Passes,
+}
+
+/// What is left in the set after a step.
+fn outcome_of<S: Store>(set: &S) -> Outcome
+    ensures { LeavesOver (S.holds set.now) result }
+{
+    if set.is_empty() {
+        Outcome::Empties
+    } else {
+        Outcome::Goes(set.weight())
+    }
+}
+
+/// Takes an event with this label. After want of memory the set is as it was.
+pub(crate) fn advance<S: Store>(
+    set: &mut S,
+    nets: &Nets,
+    label: &Label,
+) -> Result<Outcome, NoMemory>
+    requires { S.serves set.old nets.now }
+    ensures serves { S.serves set.new nets.now }
+    ensures ok { IfOk result (λ outcome. Advances nets.now label.now (S.holds set.old) (S.holds set.new) outcome) }
+    ensures err { OnErr result (S.holds set.new ≡ S.holds set.old) }
+{
+    match set.step(nets, label) {
+        Ok(()) => Ok(outcome_of(set)),
+        Err(StepFault::TooLarge) => Ok(Outcome::Passes),
+        Err(StepFault::NoMemory) => Err(NoMemory),
+    }
+}
