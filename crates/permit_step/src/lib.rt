@@ -12,6 +12,7 @@ mod found;
 mod fresh;
 pub mod laws;
 mod loops;
+mod parts;
 mod passing;
 mod permission;
 mod row_end;

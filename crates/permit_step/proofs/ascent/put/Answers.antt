@@ -24,10 +24,10 @@ pub put_in_loop-requires-clause-place : goal.put_in_loop-requires-clause-place
 put_in_loop-requires-clause-place c = omega (arith, count-loop c.args.nets.now.tables c.args.parent.now c.in-Loop.body.now c.in-Loop.lower c.in-Loop.upper c.in-Loop.row.now c.in-Loop.ensures, c.requires.place)
 
 pub put_on_walk-requires-clause-from : goal.put_on_walk-requires-clause-from
-put_on_walk-requires-clause-from c = (ready-walk c.args.nets.now.tables c.args.parent.now c.in-Walk.net c.in-Walk.from c.in-Walk.to c.in-Walk.block.now.instances c.requires.tables c.in-Walk.ensures c.requires.parent).from
+put_on_walk-requires-clause-from c = (ready-walk c.args.nets.now.tables c.args.parent.now c.in-Walk.net c.in-Walk.from c.in-Walk.to c.in-Walk.own.now.instances c.requires.tables c.in-Walk.ensures c.requires.parent).from
 
 pub put_on_walk-requires-clause-to : goal.put_on_walk-requires-clause-to
-put_on_walk-requires-clause-to c = (ready-walk c.args.nets.now.tables c.args.parent.now c.in-Walk.net c.in-Walk.from c.in-Walk.to c.in-Walk.block.now.instances c.requires.tables c.in-Walk.ensures c.requires.parent).to
+put_on_walk-requires-clause-to c = (ready-walk c.args.nets.now.tables c.args.parent.now c.in-Walk.net c.in-Walk.from c.in-Walk.to c.in-Walk.own.now.instances c.requires.tables c.in-Walk.ensures c.requires.parent).to
 
 pub returns-in_ok-put_in_par-in-Par : goal.returns-in_ok-put_in_par-in-Par
 returns-in_ok-put_in_par-in-Par c =

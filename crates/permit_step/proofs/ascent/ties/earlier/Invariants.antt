@@ -2,7 +2,7 @@ use Rattle.std.proofs.Common.{◌≡◌, ◌≤◌, ℕ, [], drop, length}
 use Rattle.chart_term.specs.TermPatterns.{before_in}
 use Rattle.chart_term.specs.Terms.{has}
 use Rattle.chart_term.specs.Views.{pairs_of}
-use Rattle.permit_step.proofs.ascent.earlier.Given as goal
+use Rattle.permit_step.proofs.ascent.ties.earlier.Given as goal
 
 abbrev pub invariant-loop-index : goal.invariant-loop-index
 invariant-loop-index l = record {

@@ -4,7 +4,7 @@ use Rattle.term_laws.specs.Permission.{permits_of}
 use Rattle.term_laws.specs.Values.{block_of}
 use Rattle.permit_step.proofs.Ascending.{none-first}
 use Rattle.permit_step.proofs.Nearest.{first-more}
-use Rattle.permit_step.proofs.ascent.permit_first.Goals as goal
+use Rattle.permit_step.proofs.ascent.rows.permit_first.Goals as goal
 
 pub loop-index-preserved : goal.loop-index-preserved
 loop-index-preserved c = record {

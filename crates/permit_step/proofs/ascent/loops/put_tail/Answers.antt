@@ -1,7 +1,7 @@
 use Rattle.std.proofs.Common.{arith, ◌-◌}
 use Rattle.chart_term.specs.Rows.{part_of}
 use Rattle.permit_step.proofs.Ascending.{tail-more}
-use Rattle.permit_step.proofs.ascent.put_tail.Goals as goal
+use Rattle.permit_step.proofs.ascent.loops.put_tail.Goals as goal
 
 pub loop-index-preserved : goal.loop-index-preserved
 loop-index-preserved c = record {

@@ -1,6 +1,6 @@
 use Rattle.std.proofs.Common.{arith, ◌∙◌, ◌-◌}
 use Rattle.permit_step.proofs.Ascending.{earlier-more}
-use Rattle.permit_step.proofs.ascent.earlier.Goals as goal
+use Rattle.permit_step.proofs.ascent.ties.earlier.Goals as goal
 
 pub loop-index-preserved : goal.loop-index-preserved
 loop-index-preserved c = record {

@@ -1,5 +1,5 @@
 use Rattle.std.proofs.Common.{◌≤◌}
-use Rattle.permit_step.proofs.ascent.has_held.Given as goal
+use Rattle.permit_step.proofs.ascent.loops.has_held.Given as goal
 
 abbrev pub invariant-loop-index : goal.invariant-loop-index
 invariant-loop-index l = l.index ≤ l.count

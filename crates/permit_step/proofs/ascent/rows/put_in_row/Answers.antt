@@ -1,6 +1,6 @@
 use Rattle.std.proofs.Common.{◌∙◌, sym}
 use Rattle.permit_step.proofs.Ascending.{row-none, row-whole}
-use Rattle.permit_step.proofs.ascent.put_in_row.Goals as goal
+use Rattle.permit_step.proofs.ascent.rows.put_in_row.Goals as goal
 
 pub returns-in-None : goal.returns-in-None
 returns-in-None c =

@@ -1,6 +1,6 @@
 use Rattle.std.proofs.Common.{arith}
 use Rattle.permit_step.proofs.Ascending.{copies-more}
-use Rattle.permit_step.proofs.ascent.push_copies.Goals as goal
+use Rattle.permit_step.proofs.ascent.rows.push_copies.Goals as goal
 
 pub loop-index-preserved : goal.loop-index-preserved
 loop-index-preserved c =

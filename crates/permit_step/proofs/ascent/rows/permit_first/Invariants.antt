@@ -3,7 +3,7 @@ use Rattle.std.specs.Prelude.{reverse}
 use Rattle.chart_term.specs.Terms.{trees}
 use Rattle.term_laws.specs.Permission.{permit_all, permits_of}
 use Rattle.term_laws.specs.Values.{block_of}
-use Rattle.permit_step.proofs.ascent.permit_first.Given as goal
+use Rattle.permit_step.proofs.ascent.rows.permit_first.Given as goal
 
 abbrev pub invariant-loop-index : goal.invariant-loop-index
 invariant-loop-index l = record {

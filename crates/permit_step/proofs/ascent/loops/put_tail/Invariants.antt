@@ -1,6 +1,6 @@
 use Rattle.std.proofs.Common.{◌≡◌, ◌≤◌, drop, length}
 use Rattle.permit_step.specs.Searches.{tail_of}
-use Rattle.permit_step.proofs.ascent.put_tail.Given as goal
+use Rattle.permit_step.proofs.ascent.loops.put_tail.Given as goal
 
 abbrev pub invariant-loop-index : goal.invariant-loop-index
 invariant-loop-index l = record {

@@ -1,6 +1,6 @@
 use Rattle.std.proofs.Common.{◌≡◌, ◌++◌, length}
 use Rattle.std.specs.Prelude.{reverse}
-use Rattle.permit_step.proofs.ascent.reversed.Given as goal
+use Rattle.permit_step.proofs.ascent.rows.reversed.Given as goal
 
 abbrev pub invariant-loop-term : goal.invariant-loop-term
 invariant-loop-term l = l.list ++ reverse l.rest.items ≡ reverse l.fn.terms.items

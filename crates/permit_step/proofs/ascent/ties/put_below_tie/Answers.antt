@@ -5,7 +5,7 @@ use Rattle.chart_term.specs.NormalForms.{tie_of}
 use Rattle.chart_term.specs.Terms.{Tree}
 use Rattle.chart_term.specs.Views.{pairs_of}
 use Rattle.permit_step.proofs.Ascending.{tie-permits}
-use Rattle.permit_step.proofs.ascent.put_below_tie.Goals as goal
+use Rattle.permit_step.proofs.ascent.ties.put_below_tie.Goals as goal
 
 pub returns-in_default : goal.returns-in_default
 returns-in_default c =
