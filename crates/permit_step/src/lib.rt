@@ -16,11 +16,7 @@ mod parts;
 mod passing;
 mod permission;
 mod row_end;
-#[cfg(test)]
-mod samples;
 mod successors;
-#[cfg(test)]
-mod tests;
 
 pub use finishes::may_end;
 pub use fresh::{fresh_loop, fresh_walk};

@@ -8,9 +8,6 @@ ghost use Rattle.permit_step.specs.Ready.{IsReady, AreReadyTables};
 ghost use Rattle.permit_step.specs.Searches.{AreReadyFrames, Gathers, IsNoEvent, IsTaken, IsTally};
 ghost use Rattle.permit_step.specs.Successors.{AppendsFound};
 
-#[cfg(test)]
-mod tests;
-
 use crate::ascent::{Frame, Taken, rebuilt};
 use crate::blocks::widened;
 use crate::descent::{child, child_count};

@@ -8,9 +8,6 @@ ghost use Rattle.trace_judge.specs.Sets.{IsSoundFor};
 ghost use Rattle.trace_judge.specs.Judged.{IsJudged, IsJudgeFault, IsJudgeAnswer, IsLargestOf, fault_in};
 ghost use Rattle.trace_judge.specs.States.{Fed};
 
-#[cfg(test)]
-mod tests;
-
 use crate::taking::{feed_parts, finish_parts};
 use crate::{JudgeFault, Store, Track};
 use chart_term::Term;

@@ -9,9 +9,6 @@ ghost use Rattle.trace_judge.specs.Sets.{IsSoundFor};
 ghost use Rattle.trace_judge.specs.Tracks.{Fed, IfHeld, IsSame};
 ghost use Rattle.trace_judge.specs.Verdicts.{IsVerdict, TellsRuns, IsLargest};
 
-#[cfg(test)]
-mod tests;
-
 use crate::advance::{Outcome, advance};
 use crate::{StepFault, Store};
 use chart_term::Term;
