@@ -1,3 +1,5 @@
+//! Form and version of a log, its events with their lines, and its faults: what msc_cmd and trace_judge see of logs.
+
 ghost use Rattle.std.specs.Prelude.{◌≡◌};
 ghost use Rattle.event_log.specs.Faults.{IsFault, fault_text};
 ghost use Rattle.event_log.specs.declared.event.LogFault.TheVariants.{NoMemory};

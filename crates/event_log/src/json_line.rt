@@ -1,3 +1,5 @@
+//! What a line in JSON says: a version, an event, nothing, or neither. For `line` alone.
+
 ghost use Rattle.std.specs.Prelude.{◌≡◌, ◌<◌, ◌^◌, ◌↔◌, length, All, IsTrue, true, false, IfOk, MatchOption, Some, None, codes, option_map, option_and_then, string_bytes, IsUtf8};
 ghost use Rattle.std.specs.List.{list_all};
 ghost use Rattle.std.specs.BTreeMap.{keys};

@@ -1,3 +1,5 @@
+//! What a line says, in either form: for `reader`, which counts lines.
+
 ghost use Rattle.std.specs.Prelude.{◌≡◌, ◌<◌, ◌≤◌, ◌^◌, ◌↔◌, IfOk, IsTrue, length, All};
 ghost use Rattle.event_log.specs.Meanings.{IsDigit, Says, version_of};
 

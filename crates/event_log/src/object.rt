@@ -1,3 +1,5 @@
+//! The event that the members of a JSON object say: for `json_line` alone.
+
 ghost use Rattle.std.specs.Prelude.{◌≡◌, ◌<◌, ◌^◌, ◌↔◌, length, IfOk, MatchOption, Some, None, option_map};
 ghost use Rattle.msc_base.specs.Names.{IsName};
 ghost use Rattle.token_grammar.specs.Languages.{texts};

@@ -1,3 +1,5 @@
+//! The reader of a log in pieces: cuts it into lines and hands out events. msc_cmd and trace_judge feed it.
+
 ghost use Rattle.std.specs.Prelude.{◌≡◌, ◌<◌, ◌≤◌, ◌+◌, ◌++◌, ◌∷◌, [], ℕ, List, Bool, true, false, not, length, All, ◌≢◌, take, drop, get_or, slice_index, IfOk, IfErr, OnOk, OnErr, IfSome, MatchOption, IsTrue, ◌↔◌, Option, Some, None, Ok, Err, option_to_list};
 ghost use Rattle.event_log.specs.Faults.{IsFault};
 ghost use Rattle.event_log.specs.Logs.{LogOf, HoldsEvent};

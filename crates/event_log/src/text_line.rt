@@ -1,3 +1,5 @@
+//! What a line in the notation of charts says, and which kinds of events a version has: for `line` and `object`.
+
 ghost use Rattle.std.specs.Prelude.{◌≡◌, ◌<◌, ◌≤◌, ◌^◌, ◌↔◌, ◌∷◌, [], IfOk, MatchOption, IsTrue, length, All, codes, List, ℕ};
 ghost use Rattle.msc_tokens.specs.Spelling.{Spells};
 ghost use Rattle.token_grammar.specs.Languages.{texts};

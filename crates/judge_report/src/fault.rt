@@ -1,3 +1,5 @@
+//! What is told of each fault: msc_cmd names the fault, and never writes words of its own.
+
 ghost use Rattle.std.specs.Prelude.{◌≡◌, IfOk, string_bytes, true};
 ghost use Rattle.event_log.specs.Faults.{IsFault};
 ghost use Rattle.judge_report.specs.Texts.{IsTold, document_words, fault_line, line_number, log_words, is_plain};

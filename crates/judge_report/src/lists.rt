@@ -1,3 +1,5 @@
+//! The lists of charts and of instances: for the command `list` of msc_cmd.
+
 ghost use Rattle.std.specs.Prelude.{◌≡◌, ◌++◌, IfOk, OnOk, IsOk, codes, flat_map, map, true};
 ghost use Rattle.std.specs.List.{list_all};
 ghost use Rattle.serde_json.specs.View.{view};

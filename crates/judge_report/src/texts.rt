@@ -1,3 +1,5 @@
+//! What is told of verdicts and of accepted documents: for the commands `judge` and `check` of msc_cmd.
+
 ghost use Rattle.std.specs.Prelude.{◌≡◌, IfOk, false};
 ghost use Rattle.serde_json.specs.View.{view};
 ghost use Rattle.judge_report.specs.Objects.{accepted_data, verdict_data};

@@ -1,3 +1,5 @@
+//! Copies of names and of lists of them, and an index in 32 bits: for the readers of charts (msc_expand, msc_instances).
+
 ghost use Rattle.std.specs.Prelude.{◌≡◌, IfOk};
 
 use crate::{Items, Name, Names, NoMemory};

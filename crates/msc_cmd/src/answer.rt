@@ -1,3 +1,5 @@
+//! Replies, and the command `judge`: document, chart and log, one after another. `command` calls it.
+
 ghost use Rattle.std.specs.Prelude.{◌≡◌, ◌<◌, ◌≤◌, ℕ, List, IfOk};
 ghost use Rattle.event_log.specs.declared.event.LogForm.{LogForm};
 ghost use Rattle.judge_report.specs.declared.fault.Fault.TheVariants.{LogRead};

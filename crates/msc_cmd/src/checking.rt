@@ -1,3 +1,5 @@
+//! The command `check`: for `command` alone.
+
 ghost use Rattle.std.specs.Prelude.{◌≡◌, ◌<◌, ◌≤◌, IfOk};
 ghost use Rattle.msc_cmd.specs.Failures.{CannotOpen};
 ghost use Rattle.msc_cmd.specs.Outcomes.{CheckAnswer, DocumentOutcome, IfTold, IsTheOne};

@@ -1,3 +1,5 @@
+//! The columns of a chart as chains of event numbers: for `judge` alone.
+
 ghost use Rattle.std.specs.Prelude.{◌≡◌, All, IfOk, length, replicate};
 ghost use Rattle.msc_base.specs.Lists.{AreDifferent};
 ghost use Rattle.msc_base.specs.Lists.{IsAmong};

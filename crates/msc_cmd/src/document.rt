@@ -1,3 +1,5 @@
+//! What a document comes to, and the chart of a name: for the commands, behind `document_text`.
+
 ghost use Rattle.std.specs.Prelude.{◌≡◌, All, IfOk, IfSome, List, option_copied, ℕ};
 ghost use Rattle.msc_expand.specs.Plain.{IsPlain};
 ghost use Rattle.msc_tree.specs.Views.{document_view};

@@ -1,3 +1,5 @@
+//! What the bytes of a document are as a text, before any rule on charts: for `reading` and `printing`.
+
 ghost use Rattle.std.specs.Prelude.{ℕ, List, IfOk, IfSome};
 ghost use Rattle.msc_cmd.specs.DocumentTexts.{BreaksGrammar, BreaksRule, IsTheText, ParsesAs};
 ghost use Rattle.msc_cmd.specs.Intakes.{HasTaken, IsPrefixOf};

@@ -1,3 +1,5 @@
+//! Why an entry of the shelf wasn't read: for the modules that read, and those that answer for it.
+
 ghost use Rattle.std.specs.Prelude.{◌≡◌};
 ghost use Rattle.msc_cmd.specs.declared.entry.ReadFault.TheVariants.{NoMemory};
 

@@ -1,3 +1,5 @@
+//! A document under way: feeds its bytes to the lexer, and counts them up to the limit. For `reading`.
+
 ghost use Rattle.std.specs.Prelude.{◌≤◌, ◌+◌};
 
 use msc_base::{Limits, NoMemory, Place};

@@ -1,3 +1,5 @@
+//! The verdict on a log's events by a plain chart: for `answer`. It looks at no bytes.
+
 ghost use Rattle.std.specs.Prelude.{◌≡◌, ◌↔◌, ◌<◌, ℕ, All, IfNone, IfOk, IfSome, IsTrue, false, length, replicate, slice_index_or, slice_set, true};
 ghost use Rattle.msc_expand.specs.Plain.{IsPlain, HavePartners};
 ghost use Rattle.msc_cmd.specs.Judging.{IsDue, MayHappen};

@@ -1,3 +1,5 @@
+//! The command `list`: for `command` alone.
+
 ghost use Rattle.std.specs.Prelude.{◌≡◌, ◌<◌, ◌≤◌, IfOk};
 ghost use Rattle.msc_expand.specs.Listing.{listed_of};
 ghost use Rattle.judge_report.specs.Lists.{instance_list};

@@ -1,3 +1,5 @@
+//! Reads a log from the shelf, piece by piece, up to its end or a fault: for `answer`.
+
 ghost use Rattle.std.specs.Prelude.{◌≡◌, ◌<◌, ◌≤◌, ℕ, List, [], Option, Some, IfOk, IsErrOf, IsTrue, true, false};
 ghost use Rattle.outside.specs.Causes.{Rose};
 ghost use Rattle.outside.specs.Shelves.{Files};

@@ -1,3 +1,5 @@
+//! The command `print`, which ends before the rules on charts: for `command` alone.
+
 ghost use Rattle.std.specs.Prelude.{◌≡◌, ◌<◌, ◌≤◌, IfOk, false};
 ghost use Rattle.msc_cmd.specs.Failures.{CannotOpen};
 ghost use Rattle.msc_cmd.specs.Outcomes.{IfTold, IsTheOne, PrintOutcome};

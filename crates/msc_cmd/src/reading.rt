@@ -1,3 +1,5 @@
+//! Reads a document from the shelf, up to its end or the limit: for all four commands.
+
 ghost use Rattle.std.specs.Prelude.{◌≡◌, ◌≤◌, ◌+◌, IfOk, OnOk, IsErrOf, IsTrue, Some, [], true};
 ghost use Rattle.outside.specs.Causes.{Rose};
 ghost use Rattle.msc_base.specs.declared.limits.TheConstants.Limits.{DOCUMENT_BYTES};

@@ -1,3 +1,5 @@
+//! From words to a request, by clap: for `command`. It touches no shelf.
+
 ghost use Rattle.std.specs.Prelude.{◌≡◌, IfOk, IfNone, IfSome, IsErrOf, map, option_map, true, false};
 ghost use Rattle.std.specs.List.{list_all};
 ghost use Rattle.std.specs.Str.{is_utf8};

@@ -1,3 +1,5 @@
+//! Whether tokens go on with an item, or close what is read, by one or two tokens: for `items`.
+
 ghost use Rattle.std.specs.Prelude.{◌≡◌};
 ghost use Rattle.token_grammar.specs.Answers.{Gives};
 ghost use Rattle.token_grammar.specs.Languages.{starts, word_at};

@@ -1,3 +1,5 @@
+//! A document with or without heading: for `parsing` alone. It counts no place and no limit.
+
 ghost use Rattle.std.specs.Prelude.{◌≡◌, [], ◌∷◌, length, map, codes};
 ghost use Rattle.msc_tree.specs.Views.{chart_view, document_view};
 ghost use Rattle.token_grammar.specs.Answers.{Gives};

@@ -1,3 +1,5 @@
+//! Items of one kind each, made of what the readers of msc_events and `reference` read: for `items`.
+
 ghost use Rattle.std.specs.Prelude.{◌≡◌};
 ghost use Rattle.msc_tree.specs.Statements.{placed};
 ghost use Rattle.msc_tree.specs.Views.{item_view, inline_view};

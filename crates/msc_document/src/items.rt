@@ -1,3 +1,5 @@
+//! Statements, columns and inline expressions, which call each other: for `chart` and `statements`.
+
 ghost use Rattle.std.specs.Prelude.{◌≡◌, [], length, map};
 ghost use Rattle.msc_tree.specs.Views.{item_view, operand_view, statement_view};
 ghost use Rattle.token_grammar.specs.Answers.{Gives};

@@ -1,3 +1,5 @@
+//! The law of documents: tokens read as one at most, and are read so; as the contract of a function that does nothing.
+
 ghost use Rattle.std.specs.Prelude.{ℕ, List};
 ghost use Rattle.msc_tokens.specs.declared.token.Token.{Token};
 ghost use Rattle.token_grammar.specs.Parsing.{OneReading};

@@ -1,3 +1,5 @@
+//! Statements made of their parts, and declarations and ends that lead one: for `items`.
+
 ghost use Rattle.std.specs.Prelude.{◌≡◌, map, codes};
 ghost use Rattle.msc_tree.specs.Statements.{Column, Covered, Heading, Ended, items};
 ghost use Rattle.msc_tree.specs.Views.{item_view, statement_view};

@@ -1,3 +1,5 @@
+//! The name and the shared list of an inline expression, and its end: for `items`.
+
 ghost use Rattle.std.specs.Prelude.{◌≡◌};
 ghost use Rattle.token_grammar.specs.Answers.{Gives};
 ghost use Rattle.msc_document.specs.DocumentReaders.{some_name_at, naming_at, closing_at};

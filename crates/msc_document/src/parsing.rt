@@ -1,3 +1,5 @@
+//! From a list of tokens to the document, or the first fault with its place: `parse`, which msc_cmd calls.
+
 ghost use Rattle.std.specs.Prelude.{◌≡◌, ◌++◌, ◌∷◌, List, ℕ, IfOk, IfErr, length};
 ghost use Rattle.msc_base.specs.declared.limits.TheConstants.Limits.{NESTING};
 ghost use Rattle.msc_tokens.specs.declared.token.Token.{Token};

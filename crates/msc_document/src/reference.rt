@@ -1,3 +1,5 @@
+//! References with expression, joins and shared list: for `item`.
+
 ghost use Rattle.std.specs.Prelude.{◌≡◌, codes};
 ghost use Rattle.msc_tree.specs.Views.{expression_view, reference_view};
 ghost use Rattle.token_grammar.specs.Answers.{Gives};

@@ -1,3 +1,5 @@
+//! What tokens start with, by the first words: for `closer` and `items`, which choose by it.
+
 ghost use Rattle.std.specs.Prelude.{◌≡◌};
 ghost use Rattle.token_grammar.specs.Languages.{starts, just};
 ghost use Rattle.msc_document.specs.DocumentReaders as specs;

@@ -1,3 +1,5 @@
+//! The statements of a chart up to its last word: for `chart` alone.
+
 ghost use Rattle.std.specs.Prelude.{◌≡◌, map};
 ghost use Rattle.msc_tree.specs.Views.{statement_view};
 ghost use Rattle.token_grammar.specs.Answers.{Gives};

@@ -1,3 +1,5 @@
+//! What an event does, with its text and address: for events of charts (`events`) and of logs (`log_event`).
+
 ghost use Rattle.std.specs.Prelude.{◌≡◌};
 ghost use Rattle.msc_tree.specs.declared.event.Target.TheVariants.{Nobody};
 ghost use Rattle.token_grammar.specs.Answers.{Gives};

@@ -1,3 +1,5 @@
+//! The other end of an event, and its orders. Gates and orders stand in charts alone; `act` says where it reads.
+
 ghost use Rattle.std.specs.Prelude.{◌≡◌};
 ghost use Rattle.token_grammar.specs.Answers.{Gives};
 ghost use Rattle.msc_events.specs.Events.{named, no_orders};

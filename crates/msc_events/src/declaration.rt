@@ -1,3 +1,5 @@
+//! The heading of a document and declarations of instances: for `head`, and for msc_document.
+
 ghost use Rattle.std.specs.Prelude.{◌≡◌, [], ◌∷◌, ◌++◌, length};
 ghost use Rattle.token_grammar.specs.Answers.{Gives};
 ghost use Rattle.msc_events.specs.Declarations.{decl_of};

@@ -1,3 +1,5 @@
+//! Whether an event is a chart's or a log's, and the parts that `address` hands to `act`.
+
 use msc_base::{Kind, Names};
 use msc_tree::Target;
 

@@ -1,3 +1,5 @@
+//! Single events, coregions and stops of a chart: what msc_document puts into columns and operands.
+
 ghost use Rattle.std.specs.Prelude.{◌≡◌, length};
 ghost use Rattle.token_grammar.specs.Answers.{Gives};
 ghost use Rattle.token_grammar.specs.Languages.{among, starts};

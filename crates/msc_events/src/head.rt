@@ -1,3 +1,5 @@
+//! The heads of a chart, appended to what was declared: for the reader of charts in msc_document.
+
 ghost use Rattle.std.specs.Prelude.{◌≡◌, codes};
 ghost use Rattle.token_grammar.specs.Answers.{Gives};
 ghost use Rattle.token_grammar.specs.Languages.{starts};

@@ -1,3 +1,5 @@
+//! What the heads of a chart declare.
+
 use msc_base::Names;
 use msc_tree::DeclList;
 

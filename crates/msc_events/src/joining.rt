@@ -1,3 +1,5 @@
+//! The joins of a reference's gates: for the reader of references in msc_document.
+
 ghost use Rattle.std.specs.Prelude.{◌≡◌, [], ◌∷◌, ◌++◌, length};
 ghost use Rattle.token_grammar.specs.Answers.{Gives};
 ghost use Rattle.msc_events.specs.MultiReaders.{env_end_at, reference_end_at, join_end_at, join_at, comma_join_at, more_joins_at, join_list_at, joins_at};

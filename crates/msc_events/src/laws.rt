@@ -1,3 +1,5 @@
+//! The laws of readers: each is exact for its production. Each is the contract of a function that does nothing.
+
 ghost use Rattle.std.specs.Prelude.{List};
 ghost use Rattle.msc_tokens.specs.declared.token.Token.{Token};
 ghost use Rattle.token_grammar.specs.Parsing.{OneReading};

@@ -1,3 +1,5 @@
+//! The event of a line of a log. event_log calls it; no chart is known here.
+
 ghost use Rattle.std.specs.Prelude.{◌≡◌, IfOk, IfErr};
 ghost use Rattle.msc_base.specs.declared.label.Label.{Label};
 ghost use Rattle.token_grammar.specs.Answers.{Gives};

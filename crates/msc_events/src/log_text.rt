@@ -1,3 +1,5 @@
+//! The text of a log's event by its kind, for logs in JSON (event_log).
+
 ghost use Rattle.std.specs.Prelude.{◌≡◌, List, ℕ, IfOk, IfErr};
 ghost use Rattle.token_grammar.specs.Answers.{Gives};
 ghost use Rattle.token_grammar.specs.Languages.{texts};

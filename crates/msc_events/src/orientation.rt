@@ -1,3 +1,5 @@
+//! Whether events are written in columns or behind the names that they cover: for `shared`, and for msc_document.
+
 /// How the events of a chart are written (Z.120, clause 4.2).
 #[derive(Clone, Copy, Debug, PartialEq, Eq)]
 pub enum Orientation {

@@ -1,3 +1,5 @@
+//! Conditions, and the list of instances that share a part of a chart: for msc_document.
+
 ghost use Rattle.token_grammar.specs.Answers.{Gives};
 ghost use Rattle.msc_events.specs.MultiReaders.{sharers_at, some_sharers_at, shared_at, some_shared_at, shared_in_at, condition_at};
 

@@ -1,3 +1,5 @@
+//! Which documents are accepted: `accept`, which msc_cmd calls. It puts together the forms, the outlines and the rules.
+
 ghost use Rattle.std.specs.Prelude.{◌≡◌, All, IfOk, IsErrOf, List};
 ghost use Rattle.msc_tree.specs.Views.{document_view};
 ghost use Rattle.msc_expand.specs.Acceptance.{HasFault, IsAccepted, told_as};

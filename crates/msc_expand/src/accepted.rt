@@ -1,3 +1,5 @@
+//! The charts of an accepted document, asked by name and number: what judge_report and msc_cmd see.
+
 ghost use Rattle.std.specs.Prelude.{◌≡◌, ◌<◌, ◌≤◌, IfOk, Some, length, map, position, slice_get};
 ghost use Rattle.msc_base.specs.declared.limits.TheConstants.Limits.{CHARTS};
 ghost use Rattle.msc_expand.specs.Listing.{is_graph_of, is_named, listed_of};

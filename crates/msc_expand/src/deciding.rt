@@ -1,3 +1,5 @@
+//! The rules group by group, up to the first that is broken; else the charts. For `acceptance` alone.
+
 ghost use Rattle.std.specs.Prelude.{◌≡◌, IfOk, map};
 ghost use Rattle.msc_rules.specs.FirstFaults.{IsBest};
 ghost use Rattle.msc_rules.specs.Rules.{number_of};

@@ -1,3 +1,5 @@
+//! The earliest form that isn't built: for `acceptance`, which refuses it before the rules.
+
 ghost use Rattle.std.specs.Prelude.{◌≡◌, ◌++◌, flat_map, map};
 ghost use Rattle.msc_tree.specs.Statements.{items as item_tree};
 ghost use Rattle.msc_tree.specs.Views.{chart_view, content_view, item_view, statement_view};

@@ -1,3 +1,5 @@
+//! The instances of a chart in the order of declaration: for `reading`.
+
 ghost use Rattle.std.specs.Prelude.{◌≡◌, [], IfOk, OnOk, flat_map, map};
 ghost use Rattle.msc_base.specs.NameTables.{with_name};
 ghost use Rattle.msc_tree.specs.Views.{statement_view};

@@ -1,3 +1,5 @@
+//! The charts and instances above the limits: for `deciding`.
+
 ghost use Rattle.std.specs.Prelude.{◌≡◌, ◌&&◌, [], IfOk, None, length, not, nat_lt};
 ghost use Rattle.msc_base.specs.declared.limits.TheConstants.Limits.{INSTANCES};
 ghost use Rattle.msc_expand.specs.Rules.{chart_places, earliest_of, instance_places, where_so};

@@ -1,3 +1,5 @@
+//! Charts named twice, and names that are no instance of their chart: for `deciding`.
+
 ghost use Rattle.std.specs.Prelude.{◌≡◌, [], IfOk, List, None, flat_map, ℕ};
 ghost use Rattle.std.specs.List.{list_any};
 ghost use Rattle.std.specs.Str.{bytes_eq};

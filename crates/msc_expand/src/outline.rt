@@ -1,3 +1,5 @@
+//! What of a chart the rules look at: events, instances, shared lists. `reading` makes it, `deciding` judges it.
+
 use msc_base::{Items, Label, Name, Names, Place};
 
 /// An event of a chart, in the order of its woven list.

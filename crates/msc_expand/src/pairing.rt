@@ -1,3 +1,5 @@
+//! Pairs outputs with inputs by message, pairing name and both instances: for `messages`.
+
 ghost use Rattle.std.specs.Prelude.{◌≡◌, ◌++◌, ◌<◌, [], All, IfOk, OnOk, Some, length, map, slice_set, true, false};
 ghost use Rattle.msc_expand.specs.Marks.{AreJoined, AreMarked, IsMark, KeepsNumbers, LeadsPairs, edges_from, end_edges, key_view};
 ghost use Rattle.msc_expand.specs.Pairings.{ArePartnersOf, far_name, key_of, or_empty, way, way_by};

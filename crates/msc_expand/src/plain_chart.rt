@@ -1,3 +1,5 @@
+//! An accepted chart of events alone: msc_cmd judges logs by it, judge_report lists its instances.
+
 ghost use Rattle.std.specs.Prelude.{◌≡◌, IfOk, None, length};
 ghost use Rattle.msc_expand.specs.Listing.{as_listed, is_graph_of, listed_of};
 

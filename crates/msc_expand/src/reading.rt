@@ -1,3 +1,5 @@
+//! The outlines of a document's charts: for `acceptance`. It judges nothing.
+
 ghost use Rattle.std.specs.Prelude.{◌≡◌, ◌++◌, IfOk, OnOk, flat_map, map, option_copied};
 ghost use Rattle.msc_tree.specs.Charts.{Basic};
 ghost use Rattle.msc_tree.specs.Statements.{items as item_tree};

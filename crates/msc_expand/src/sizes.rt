@@ -1,3 +1,5 @@
+//! Charts, and sums of charts, above the limits of size: for `deciding`.
+
 ghost use Rattle.std.specs.Prelude.{◌≡◌, ◌<◌, ◌^◌, None, flat_map, nat_lt};
 ghost use Rattle.msc_base.specs.declared.limits.TheConstants.Limits.{EXPANDED_SIZE, TOTAL_SIZE};
 ghost use Rattle.msc_expand.specs.Rules.{earliest_of, size_of, size_places, total_places};

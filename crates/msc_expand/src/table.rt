@@ -1,3 +1,5 @@
+//! Names in a table of names: whether it has one, and adding those that are new.
+
 ghost use Rattle.std.specs.Prelude.{◌≡◌, OnOk};
 ghost use Rattle.std.specs.List.{list_any};
 ghost use Rattle.std.specs.Str.{bytes_eq};

@@ -1,3 +1,5 @@
+//! An event of a column with its label, as outlines have it: for `reading`.
+
 ghost use Rattle.std.specs.Prelude.{◌≡◌, IfOk};
 ghost use Rattle.msc_expand.specs.Outlines.{event_of};
 

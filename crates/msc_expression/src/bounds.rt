@@ -1,3 +1,5 @@
+//! The bounds of a loop, for loop expressions here and inline loops in msc_document.
+
 ghost use Rattle.std.specs.Prelude.{◌≡◌, true};
 ghost use Rattle.std.specs.List.{list_all};
 ghost use Rattle.token_grammar.specs.Answers.{Gives};

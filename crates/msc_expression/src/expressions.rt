@@ -1,3 +1,5 @@
+//! Reference expressions by precedence, and level by level: for nodes of graphs, and for references in msc_document.
+
 ghost use Rattle.std.specs.Prelude.{◌≡◌, ◌∷◌, [], map};
 ghost use Rattle.msc_tree.specs.Views.{expression_view};
 ghost use Rattle.token_grammar.specs.Answers.{Gives};

@@ -1,3 +1,5 @@
+//! Graphs of high-level charts with lines, nodes and frames: msc_document reads a chart's graph by it.
+
 ghost use Rattle.std.specs.Prelude.{◌≡◌, map, length, codes};
 ghost use Rattle.msc_tree.specs.Views.{graph_view, line_view, node_view};
 ghost use Rattle.token_grammar.specs.Answers.{Gives};

@@ -1,3 +1,5 @@
+//! The laws of the readers here: each is exact. Each is the contract of a function that does nothing.
+
 ghost use Rattle.std.specs.Prelude.{ℕ, List, codes};
 ghost use Rattle.msc_tokens.specs.declared.token.Token.{Token};
 ghost use Rattle.token_grammar.specs.Exactness.{IsExact};

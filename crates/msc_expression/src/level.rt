@@ -1,3 +1,5 @@
+//! One level opened, or the token that opens one too many: for all readers that nest, here and in msc_document.
+
 ghost use Rattle.token_grammar.specs.Answers.{Gives};
 ghost use Rattle.token_grammar.specs.Languages.{just};
 ghost use Rattle.msc_expression.specs.Levels.{open_at};

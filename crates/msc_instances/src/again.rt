@@ -1,3 +1,5 @@
+//! Names that stand a second time on one level, where that may not be: for `naming` alone.
+
 ghost use Rattle.std.specs.Prelude.{◌≡◌, ◌⊎◌, ◌∷◌, ◌↔◌, [], IsTrue, IfOk, OnOk, List, map, None, Some};
 ghost use Rattle.msc_base.specs.Places.{IsLeast};
 ghost use Rattle.msc_instances.specs.Meetings.{Knows, HasName, HasPart};

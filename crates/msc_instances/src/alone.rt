@@ -1,3 +1,5 @@
+//! The earliest output or input without partner: for `weaving` alone.
+
 ghost use Rattle.std.specs.Prelude.{◌≡◌, ◌<◌, All, Bool, IfOk, false, get_or, length, map, not, ◌&&◌, true, ◌↔◌, ℕ};
 ghost use Rattle.msc_base.specs.Places.{IsLeast};
 ghost use Rattle.msc_instances.specs.Alone.{AreTold, IsAlone, is_message};

@@ -1,3 +1,5 @@
+//! The woven body of a chart: its events in order, and the pairs of its messages. `weave` answers it.
+
 use msc_base::{Items, Name, Names, PairList};
 use msc_tree::RawEvent;
 

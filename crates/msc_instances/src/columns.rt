@@ -1,3 +1,5 @@
+//! Numbers events and instances, and weaves the columns by item_order: for `weaving`.
+
 ghost use Rattle.std.specs.Prelude.{◌≡◌, ◌++◌, IfOk, OnOk, length, map, position};
 ghost use Rattle.std.specs.Str.{bytes_eq};
 ghost use Rattle.item_order.specs.Answers.{IfStuck, IfWhole};

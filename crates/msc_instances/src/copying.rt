@@ -1,3 +1,5 @@
+//! Copies of written names and events, which a body owns: for `weaving` alone.
+
 ghost use Rattle.std.specs.Prelude.{◌≡◌, IfOk};
 
 use msc_base::{Items, NoMemory, Text, Words, copy_name, copy_names};

@@ -1,3 +1,5 @@
+//! The named parts of a chart, level by level, by a walk through its text: for `naming`.
+
 ghost use Rattle.std.specs.Prelude.{◌≡◌, ◌++◌, IfOk, OnOk, map};
 ghost use Rattle.msc_instances.specs.PartViews.{column_view};
 ghost use Rattle.msc_instances.specs.Parts.{chart_levels, content_levels, form_levels, form_parts, items_levels, items_parts, named_part, operand_levels, operands_levels, statement_levels, statement_parts, statements_levels, statements_parts};

@@ -1,3 +1,5 @@
+//! Pairs outputs with inputs by message, pairing name and both instances: for `weaving`.
+
 ghost use Rattle.std.specs.Prelude.{◌≡◌, ◌++◌, IfOk, OnOk, Some, map};
 ghost use Rattle.msc_instances.specs.EventViews.{event_view};
 ghost use Rattle.msc_instances.specs.Marks.{AreMarked, IsMark, KeepsNumbers, LeadsPairs, edges_from, end_edges, key_view};

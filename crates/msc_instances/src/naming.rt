@@ -1,3 +1,5 @@
+//! The instances of a chart, or the first fault of its names: `names`, which no crate calls yet.
+
 ghost use Rattle.std.specs.Prelude.{◌≡◌, ◌↔◌, IsTrue, IfOk, IfErr, OnOk, map, []};
 ghost use Rattle.msc_base.specs.Places.{IsLeast};
 ghost use Rattle.msc_base.specs.Lists.{IsAmong};

@@ -1,3 +1,5 @@
+//! The earliest form that isn't woven: for `weaving`, which refuses it.
+
 ghost use Rattle.std.specs.Prelude.{◌≡◌, ◌++◌, IfOk, OnOk, map};
 ghost use Rattle.msc_base.specs.Places.{IsLeast};
 ghost use Rattle.msc_instances.specs.NotBuilt.{IsAmong, IsNotBuilt, is_creation, not_built_content, not_built_form, not_built_items, not_built_statement, not_built_statements};

@@ -1,3 +1,5 @@
+//! What a chart writes of its instances, note by note: `walk` makes them, `naming` judges them.
+
 ghost use Rattle.std.specs.Prelude.{◌≡◌, ◌++◌, ◌∷◌, [], List, map, OnOk, OnErr};
 ghost use Rattle.msc_instances.specs.NoteViews.{note_view};
 ghost use Rattle.msc_instances.specs.Notes as plain;

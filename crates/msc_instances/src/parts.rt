@@ -1,3 +1,5 @@
+//! Inline expressions and references with names, and where they stand: `levels` gathers them, `again` judges them.
+
 ghost use Rattle.std.specs.Prelude.{◌≡◌, ◌++◌, ◌∷◌, [], List, map, OnOk, OnErr};
 ghost use Rattle.msc_instances.specs.PartViews.{part_view};
 ghost use Rattle.msc_instances.specs.Parts as plain;

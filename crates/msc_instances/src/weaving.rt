@@ -1,3 +1,5 @@
+//! Weaves a basic chart of events to a body, or tells why it can't: `weave`, which no program calls yet.
+
 ghost use Rattle.std.specs.Prelude.{◌≡◌, ◌<◌, All, IfErr, IfOk, length, map};
 ghost use Rattle.item_order.specs.Weaving.{IsWoven};
 ghost use Rattle.msc_base.specs.Lists.{AreDifferent};

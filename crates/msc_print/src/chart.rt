@@ -1,3 +1,5 @@
+//! Prints a chart with its heads: for `document` alone.
+
 ghost use Rattle.std.specs.Prelude.{◌≡◌, OnOk};
 ghost use Rattle.msc_print.specs.ChartWords.{chart_words, content_words, decl_head_words, heads_words, name_head_words};
 ghost use Rattle.msc_print.specs.Pages.{put_all};

@@ -1,3 +1,5 @@
+//! Prints declarations of instances: for `chart` and `statement`.
+
 ghost use Rattle.std.specs.Prelude.{◌≡◌, OnOk, codes};
 ghost use Rattle.msc_print.specs.Pages.{put_all};
 ghost use Rattle.msc_print.specs.StatementWords.{decl_words, heading_words, kind_words, refined_words};

@@ -1,3 +1,5 @@
+//! The canonical text of a document: `print_document`, which msc_cmd calls. The other modules write its parts.
+
 ghost use Rattle.std.specs.Prelude.{◌≡◌, IfOk, OnOk, map};
 ghost use Rattle.msc_print.specs.ChartWords.{canonical_text, chart_words, closing_words, document_words, heading_words, opening_words, related_words};
 ghost use Rattle.msc_print.specs.Pages.{blank, put_all};

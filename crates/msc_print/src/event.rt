@@ -1,3 +1,5 @@
+//! Prints events and coregions: for `statement`.
+
 ghost use Rattle.std.specs.Prelude.{◌≡◌, OnOk, ◌∷◌, [], codes};
 ghost use Rattle.msc_print.specs.EventWords.{act_words, coregion_words, event_words, message_words, parameter_words, pairing_words, tag_words, target_words, exchange_words};
 ghost use Rattle.msc_print.specs.Pages.{put_all};

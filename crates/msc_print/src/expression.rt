@@ -1,3 +1,5 @@
+//! Prints reference expressions with the parentheses that they need, and bounds of loops.
+
 ghost use Rattle.std.specs.Prelude.{◌≡◌, OnOk, codes, map};
 ghost use Rattle.msc_tree.specs.Expressions.{expressions};
 ghost use Rattle.msc_tree.specs.Views.{expression_view};

@@ -1,3 +1,5 @@
+//! Prints graphs and their frames: for `chart`.
+
 ghost use Rattle.std.specs.Prelude.{◌≡◌, OnOk, codes, map};
 ghost use Rattle.msc_tree.specs.Graphs.{graphs, lines as line_tree};
 ghost use Rattle.msc_tree.specs.Views.{expression_view, graph_view, line_view, node_view};

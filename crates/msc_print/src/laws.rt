@@ -1,3 +1,5 @@
+//! The laws of printed texts: they read back. Each is the contract of a function that does nothing.
+
 ghost use Rattle.std.specs.Prelude.{◌≡◌, ℕ, List};
 ghost use Rattle.msc_tokens.specs.declared.token.Token.{Token};
 ghost use Rattle.msc_tokens.specs.Spelling.{Spells};

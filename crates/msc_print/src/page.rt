@@ -1,3 +1,5 @@
+//! The text under way: puts blanks and line ends between tokens by one rule. It knows tokens alone, no charts.
+
 ghost use Rattle.std.specs.Prelude.{◌≡◌, ◌++◌, ◌||◌, IfOk, OnOk, string_bytes};
 ghost use Rattle.msc_print.specs.Layout.{ends_line, joins_before, joins_behind};
 ghost use Rattle.msc_print.specs.Pages.{blank, lead_in, line_end, put};

@@ -1,3 +1,5 @@
+//! Prints shared lists, conditions and references: for `statement`.
+
 ghost use Rattle.std.specs.Prelude.{◌≡◌, OnOk, codes};
 ghost use Rattle.msc_print.specs.Pages.{put_all};
 ghost use Rattle.msc_print.specs.StatementWords.{condition_words, cover_words, join_end_words, join_words, joins_words, known_words, left_words, reference_words, shared_words};

@@ -1,3 +1,5 @@
+//! What a byte can begin or continue: for `machine` alone.
+
 ghost use Rattle.std.specs.Prelude.{◌≡◌};
 ghost use Rattle.msc_tokens.specs.ByteTests.{is_blank, is_inside, is_mark_byte, is_pair, has_letter, makes_pair, class_of};
 ghost use Rattle.msc_base.specs.Names.{is_word_byte};

@@ -1,3 +1,5 @@
+//! Why a text has no tokens. msc_cmd and event_log tell it with its place.
+
 ghost use Rattle.msc_tokens.specs.declared.fault.LexFault.TheVariants.{NoMemory};
 ghost use Rattle.std.specs.Prelude.{◌≡◌};
 

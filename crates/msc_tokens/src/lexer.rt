@@ -1,3 +1,5 @@
+//! The lexer of a text in pieces (msc_cmd feeds documents to it), and of a whole text at once (lines of event_log).
+
 ghost use Rattle.std.specs.Prelude.{◌≡◌, ◌+◌, ◌<◌, ◌≤◌, ◌^◌, List, fold, length, IfOk, IfErr};
 ghost use Rattle.std.specs.Bool.{OnTrue};
 ghost use Rattle.msc_tokens.specs.declared.fault.LexFault.{LexFault};

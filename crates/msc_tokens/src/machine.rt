@@ -1,3 +1,5 @@
+//! One step of the lexer for each byte, with the token that is open and the tokens so far: for `lexer` alone.
+
 ghost use Rattle.std.specs.Prelude.{◌≤◌, ◌+◌};
 
 use crate::byte_class::{ByteClass, class_of, has_letter, is_inside, makes_pair};

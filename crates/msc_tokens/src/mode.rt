@@ -1,3 +1,5 @@
+//! What is open between two bytes: for `machine` alone.
+
 /// What is open between two bytes of a text.
 #[derive(Clone, Copy, Debug, PartialEq, Eq)]
 pub enum Mode {

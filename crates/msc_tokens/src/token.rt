@@ -1,3 +1,5 @@
+//! Tokens: kind, text and place. All readers of grammars take slices of them.
+
 use msc_base::{Place, Text};
 
 /// What a token is.

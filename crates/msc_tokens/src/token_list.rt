@@ -1,3 +1,5 @@
+//! The tokens of a text with the place of its end: what lexers answer, and documents and log lines are read from.
+
 ghost use Rattle.std.specs.Prelude.{◌≡◌, ◌<◌, ◌++◌, ◌∷◌, [], length, slice_get, OnOk, OnErr, Some};
 ghost use Rattle.msc_tokens.specs.Places.{first_place};
 

@@ -1,3 +1,5 @@
+//! Documents, charts and declarations of instances, as they are read. What they mean is not said here.
+
 use crate::{RawGraph, Statement};
 use msc_base::{Items, Name, Names, Place};
 

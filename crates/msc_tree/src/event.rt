@@ -1,3 +1,5 @@
+//! Single events as they are written in a chart, with gates and orders, and which way a message goes.
+
 ghost use Rattle.std.specs.Prelude.{◌≡◌};
 ghost use Rattle.msc_tree.specs.Directions.{is_direction};
 

@@ -1,3 +1,5 @@
+//! Reference expressions, of references and of the nodes of graphs.
+
 use msc_base::Name;
 
 /// The expression of a reference, or of a graph's node (Z.120, clause 7.3).

@@ -1,3 +1,5 @@
+//! Graphs as they are written: lines with labels, nodes, frames.
+
 use crate::RefExpr;
 use msc_base::{LabelRefs, Name, Names, Place};
 

@@ -1,3 +1,5 @@
+//! Inline forms, and the joins of a reference's gates.
+
 use msc_base::{Items, Name, Place};
 
 /// The form of an inline expression (Z.120, clause 7.2).

@@ -1,3 +1,5 @@
+//! Statements and items of a basic chart: columns, references, inline expressions with their operands.
+
 use crate::{Cover, Decl, InlineForm, JoinList, RawEvent, RawEventList, RefExpr};
 use msc_base::{Name, Names, Place};
 

@@ -1,3 +1,5 @@
+//! Rebuilds a term around what an event left of one child, from the event upwards: for `successors`.
+
 ghost use Rattle.std.specs.Prelude.{◌≡◌, ◌<◌, IfOk};
 ghost use Rattle.chart_term.specs.Properties.{MayHave};
 ghost use Rattle.chart_term.specs.Terms.{Nil};

@@ -1,3 +1,5 @@
+//! The parts of loops and walks as structs, which permission, ascent and descent hand on.
+
 use bit_sets::Block;
 use chart_term::{RowList, Term};
 use hmsc_graph::{Goal, Spot};

@@ -1,3 +1,5 @@
+//! From a refusal by tokens left to a fault at its place, and the forms that aren't taken: for who reads whole texts.
+
 ghost use Rattle.std.specs.Prelude.{◌≡◌, ◌++◌, List, length};
 ghost use Rattle.std.specs.Str.{bytes_eq};
 ghost use Rattle.msc_tokens.specs.declared.token.Token.{Token};

@@ -1,3 +1,5 @@
+//! The law that one word is read exactly, as the contract of a function that does nothing.
+
 ghost use Rattle.std.specs.Prelude.{ℕ};
 ghost use Rattle.token_grammar.specs.Languages.{Set};
 ghost use Rattle.token_grammar.specs.Grammars.{word};

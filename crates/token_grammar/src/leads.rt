@@ -1,3 +1,5 @@
+//! Names that may lead a statement, so no words that begin another one: for statements (msc_document) and `parts`.
+
 ghost use Rattle.std.specs.Prelude.{◌≡◌, ◌↔◌, IsTrue, IfOk};
 ghost use Rattle.msc_base.specs.Names.{IsName};
 ghost use Rattle.msc_base.specs.Lists.{IsAmong};

@@ -1,3 +1,5 @@
+//! Messages and timers with pairing name and list: for events of charts and logs alike (msc_events), and msc_document.
+
 ghost use Rattle.std.specs.Prelude.{◌≡◌, [], ◌∷◌, ◌++◌, length};
 ghost use Rattle.token_grammar.specs.Answers.{Gives};
 ghost use Rattle.token_grammar.specs.PartReaders.{comma_item_at, item_at, more_items_at, items_at, inside_at, parameters_at, pairing_at, list_at, message_at, message_view};

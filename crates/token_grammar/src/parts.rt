@@ -1,3 +1,5 @@
+//! Names as values, the end of a statement, lists of names: what the readers of msc_events and up are made of.
+
 ghost use Rattle.std.specs.Prelude.{◌≡◌, [], ◌∷◌, ◌++◌, length, IfOk};
 ghost use Rattle.msc_base.specs.Names.{IsName};
 ghost use Rattle.token_grammar.specs.Answers.{Gives};

@@ -1,3 +1,5 @@
+//! Single tokens: read, or refused by how many are left. All other readers stand on these; they tell no place.
+
 ghost use Rattle.std.specs.Prelude.{◌≡◌, [], ◌∷◌, IfOk};
 ghost use Rattle.std.specs.List.{list_all};
 ghost use Rattle.msc_base.specs.Names.{IsName};

@@ -1,3 +1,5 @@
+//! What is left of a loop after an event in a begun turn, or in one that begins in a gap: for `ascent`.
+
 ghost use Rattle.std.specs.Prelude.{◌≡◌, ◌≤◌, ◌<◌, ◌+◌, IfOk, OnOk, length, take, drop, true, if◌then◌else◌};
 ghost use Rattle.chart_term.specs.Rows.{part_of};
 ghost use Rattle.chart_term.specs.Terms.{Loop, row_of};

@@ -1,3 +1,5 @@
+//! What is left of rows and of parts side by side, where one of them has had an event: for `ascent`.
+
 ghost use Rattle.std.specs.Prelude.{◌≡◌, ◌≤◌, ◌<◌, ◌+◌, ◌++◌, ◌∷◌, IfOk, OnOk, length, take, drop, reverse};
 ghost use Rattle.chart_term.specs.NormalForms.{join_all};
 ghost use Rattle.chart_term.specs.Properties.{Each};

@@ -1,3 +1,5 @@
+//! What is left below a tie, where none of the events that come before this one may be left out: for `ascent`.
+
 ghost use Rattle.std.specs.Prelude.{◌≡◌, ◌==◌, ℕ, [], IfOk, OnOk};
 ghost use Rattle.chart_term.specs.TermPatterns.{before_in, put_if};
 ghost use Rattle.chart_term.specs.Terms.{Nil, Tied, has};

@@ -1,3 +1,5 @@
+//! What is left of a walk after an event in a node: the walk up to it, the node, the walk on from it: for `ascent`.
+
 ghost use Rattle.std.specs.Prelude.{◌≡◌, ◌<◌, IfOk};
 ghost use Rattle.chart_term.specs.Terms.{Walk};
 ghost use Rattle.chart_term.specs.Views.{event_of};
