@@ -1,3 +1,4 @@
 pub mod TableFacts
 pub mod PlaceFacts
 pub mod Narrowing
+pub mod NameFacts

@@ -1,5 +1,5 @@
 -- What a word and a name are.
-use Rattle.std.specs.Prelude.{◌≡◌, ◌≤◌, ◌⊎◌, ℕ, List, [], ◌∷◌, length, codes, All, Any}
+use Rattle.std.specs.Prelude.{◌≡◌, ◌≤◌, ◌⊎◌, ℕ, Bool, ◌==◌, ◌||◌, ◌&&◌, nat_le, List, [], ◌∷◌, length, codes, All, Any}
 use Rattle.msc_base.specs.declared.limits.TheConstants.Limits.{NAME_BYTES}
 use Rattle.msc_base.specs.Lists.{IsAmong}
 
@@ -9,6 +9,13 @@ IsLetterOrDigit b = ((48 ≤ b) × (b ≤ 57)) ⊎ ((65 ≤ b) × (b ≤ 90)) �
 -- a letter, a digit, `_` or `.`
 abbrev pub IsWordByte : ℕ → Type 0
 IsWordByte b = IsLetterOrDigit b ⊎ (b ≡ 95) ⊎ (b ≡ 46)
+
+-- the tests of both
+abbrev pub is_letter_or_digit : ℕ → Bool
+is_letter_or_digit b = (nat_le 48 b && nat_le b 57) || ((nat_le 65 b && nat_le b 90) || (nat_le 97 b && nat_le b 122))
+
+abbrev pub is_word_byte : ℕ → Bool
+is_word_byte b = is_letter_or_digit b || (b == 95 || b == 46)
 
 -- word bytes alone, one of them a letter or a digit, and no more than a name may have
 pub record IsWord (bytes : List ℕ) : Type 0 where

@@ -3,6 +3,7 @@
 //! `specs/` has the definitions of patterns, linear orders and runs.
 #![tactic(auto)]
 
+mod copies;
 mod label;
 mod limits;
 mod list;
@@ -13,6 +14,7 @@ mod place;
 mod text;
 mod verdict;
 
+pub use copies::{copy_name, copy_names, number_of};
 pub use label::{
     Far, Kind, Label, LabelList, LabelRef, LabelRefs, Names, NumberList, Pair, PairList, Words,
 };

@@ -1,5 +1,5 @@
 ghost use Rattle.std.specs.Prelude.{◌≡◌, ◌≤◌, ◌↔◌, List, ℕ, length, All, Any, IsTrue, IfOk, IsErrOf};
-ghost use Rattle.msc_base.specs.Names.{IsLetterOrDigit, IsWordByte, IsWord, IsName, IsReserved, reserved_to_decomposed, reserved_to_inst, reserved_to_out, reserved_to_when};
+ghost use Rattle.msc_base.specs.Names.{is_letter_or_digit as test_letter_or_digit, is_word_byte as test_word_byte, IsLetterOrDigit, IsWordByte, IsWord, IsName, IsReserved, reserved_to_decomposed, reserved_to_inst, reserved_to_out, reserved_to_when};
 ghost use Rattle.msc_base.specs.Lists.{IsAmong};
 
 use crate::{Limits, NoMemory, Text};
@@ -31,14 +31,16 @@ pub enum NameRefused {
 
 /// Whether the byte is an ASCII letter or digit.
 pub fn is_letter_or_digit(byte: u8) -> bool
-    ensures { IsTrue result ↔ IsLetterOrDigit byte }
+    ensures is { IsTrue result ↔ IsLetterOrDigit byte }
+    ensures test { result ≡ test_letter_or_digit byte }
 {
     matches!(byte, b'0'..=b'9' | b'A'..=b'Z' | b'a'..=b'z')
 }
 
 /// Whether a word may have the byte: a letter, a digit, `_` or `.`.
 pub fn is_word_byte(byte: u8) -> bool
-    ensures { IsTrue result ↔ IsWordByte byte }
+    ensures is { IsTrue result ↔ IsWordByte byte }
+    ensures test { result ≡ test_word_byte byte }
 {
     is_letter_or_digit(byte) || byte == b'_' || byte == b'.'
 }

@@ -1,8 +1,10 @@
-ghost use Rattle.std.specs.Prelude.{◌≡◌, ℕ, [], List, map, OnOk, OnErr, position, length};
+ghost use Rattle.std.specs.Prelude.{◌≡◌, ◌↔◌, ℕ, [], List, fold, map, IfOk, IsTrue, OnOk, OnErr, position, length};
+ghost use Rattle.std.specs.List.{list_any};
 ghost use Rattle.std.specs.Str.{bytes_eq};
+ghost use Rattle.msc_base.specs.Lists.{AreDifferent, IsAmong};
 ghost use Rattle.msc_base.specs.NameTables.{with_name};
 
-use crate::NoMemory;
+use crate::{Name, NoMemory};
 use indexmap::IndexSet;
 use std::alloc::Global;
 use std::marker::Model;
@@ -29,6 +31,19 @@ impl NameTable {
         }
     }
 
+    /// The table of these names: where they differ it has them as they stand, and in any case those alone.
+    pub fn of(alloc: Global, names: &[Name]) -> Result<NameTable, NoMemory>
+        ensures made { IfOk result (λ table. table ≡ fold with_name [] names.now) }
+        ensures different { IfOk result (λ table. AreDifferent names.now → table ≡ names.now) }
+        ensures has { IfOk result (λ table. (name : List ℕ) → list_any (bytes_eq name) table ≡ list_any (bytes_eq name) names.now) }
+    {
+        let mut table = NameTable::new(alloc);
+        for name in names {
+            table.add(alloc, name.bytes())?;
+        }
+        Ok(table)
+    }
+
     /// How many names the table has.
     pub fn len(&self) -> usize
         ensures { result ≡ length self.now }
@@ -41,6 +56,14 @@ impl NameTable {
         ensures { result ≡ position (bytes_eq name.now) self.now }
     {
         self.names.get_index_of(name)
+    }
+
+    /// Whether the table has the name.
+    pub fn has(&self, name: &[u8]) -> bool
+        ensures is { IsTrue result ↔ IsAmong self.now name.now }
+        ensures test { result ≡ list_any (bytes_eq name.now) self.now }
+    {
+        self.number_of(name).is_some()
     }
 
     /// Adds a name where it is new.

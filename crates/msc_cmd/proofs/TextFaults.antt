@@ -1,7 +1,7 @@
 -- What the text of a document that has been read is.
 use Rattle.std.proofs.Common.{◌≡◌, ◌<◌, ◌≤◌, ◌⊎◌, inl, inr, ℕ, List, [], ◌++◌, length, take, arith, sym, refl, ap, ◌∙◌, subst, append-nil, length-append, Result, Ok, Err, IfOk, Option}
 use Rattle.std.proofs.lemmas.List.{take_all, take-append-le}
-use Rattle.msc_base.specs.declared.limits.TheConstants.Limits.{DOCUMENT_BYTES}
+use Rattle.msc_base.specs.declared.limits.TheConstants.Limits.{DOCUMENT_BYTES, NESTING}
 use Rattle.msc_base.specs.declared.memory.NoMemory.{NoMemory}
 use Rattle.msc_base.specs.declared.place.Place.{Place}
 use Rattle.outside.specs.Shelves.{Files}
@@ -88,14 +88,14 @@ only_misread : (bytes : List ℕ) (tokens : List Token) (broken : Rule) (place :
 only_misread bytes tokens broken place short spells alone faultless m = record {
   is = grammar_fault short tokens spells m.fault m.is m.breaks;
   only = λ other there h. by other there h;
-  none = λ document d. m.none document (subst (λ (ts : List Token). (documents 64).reads ts document) (alone d.tokens d.spells) d.reads);
+  none = λ document d. m.none document (subst (λ (ts : List Token). (documents NESTING).reads ts document) (alone d.tokens d.spells) d.reads);
 }
   where
     by : (other : Rule) (there : Place) → HasTextFault bytes other there → (other ≡ broken) × (there ≡ place)
     by other there (too_long l e p) = absurd (omega arith)
     by other there (lexical_fault s f h x) = absurd (faultless f h)
     by other there (grammar_fault s ts sp f h x) =
-        let same : f ≡ m.fault = m.only f (subst (λ (us : List Token). IsFault documents 64 us (past first_place bytes) f) (alone ts sp) h) in
+        let same : f ≡ m.fault = m.only f (subst (λ (us : List Token). IsFault documents NESTING us (past first_place bytes) f) (alone ts sp) h) in
         misread_one m.fault broken other place there m.breaks (subst (λ (g : ParseFault). BreaksGrammar g other there) same x)
 
 -- a text whose tokens are a document
@@ -103,7 +103,7 @@ only_read : (bytes : List ℕ) (tokens : List Token) (document : Document) → l
     → ((fault : LexFault) → HasLexFault bytes fault → ⊥) → ReadsAlone tokens (past first_place bytes) document → IsOnlyText bytes document tokens
 only_read bytes tokens document short spells alone faultless r = record {
   is = record { short = short; tokens = tokens; spells = spells; reads = r.reads };
-  only = λ other d. r.only other (subst (λ (ts : List Token). (documents 64).reads ts other) (alone d.tokens d.spells) d.reads);
+  only = λ other d. r.only other (subst (λ (ts : List Token). (documents NESTING).reads ts other) (alone d.tokens d.spells) d.reads);
   faultless = λ broken place h. by broken place h;
   spells = spells;
   alone = alone;
@@ -112,7 +112,7 @@ only_read bytes tokens document short spells alone faultless r = record {
     by : (broken : Rule) (place : Place) → HasTextFault bytes broken place → ⊥
     by broken place (too_long l e p) = omega arith
     by broken place (lexical_fault s f h x) = faultless f h
-    by broken place (grammar_fault s ts sp f h x) = r.faultless f (subst (λ (us : List Token). IsFault documents 64 us (past first_place bytes) f) (alone ts sp) h)
+    by broken place (grammar_fault s ts sp f h x) = r.faultless f (subst (λ (us : List Token). IsFault documents NESTING us (past first_place bytes) f) (alone ts sp) h)
 
 -- what was fed is the whole text
 fed_whole : (prefix bytes : List ℕ) (intake : Intake) → HasTaken prefix intake → IsPrefixOf prefix bytes → intake.count ≤ DOCUMENT_BYTES → (length bytes ≤ DOCUMENT_BYTES) × Fed bytes intake.lexer
@@ -137,8 +137,8 @@ refusal (grammar.TooDeep at) broken place b = tt
 refusal grammar.NoMemory broken place b = absurd b
 
 -- tokens that have a fault
-pub misread : (tokens : List Token) (end : Place) (fault : ParseFault) (broken : Rule) (place : Place) → BreaksGrammar fault broken place → (IsRefusal fault → IsFault documents 64 tokens end fault)
-    → (IsRefusal fault → (other : ParseFault) → IsFault documents 64 tokens end other → other ≡ fault) → (IsRefusal fault → (other : Document) → (documents 64).reads tokens other → ⊥)
+pub misread : (tokens : List Token) (end : Place) (fault : ParseFault) (broken : Rule) (place : Place) → BreaksGrammar fault broken place → (IsRefusal fault → IsFault documents NESTING tokens end fault)
+    → (IsRefusal fault → (other : ParseFault) → IsFault documents NESTING tokens end other → other ≡ fault) → (IsRefusal fault → (other : Document) → (documents NESTING).reads tokens other → ⊥)
     → MisreadsAlone tokens end broken place
 misread tokens end fault broken place b has only none =
     let is = refusal fault broken place b in

@@ -1,6 +1,6 @@
 -- What the bytes of a document are as a text: a document by its grammar, or the first fault of the text.
 use Rattle.std.specs.Prelude.{◌≡◌, ◌<◌, ◌≤◌, ℕ, List, length, take}
-use Rattle.msc_base.specs.declared.limits.TheConstants.Limits.{DOCUMENT_BYTES}
+use Rattle.msc_base.specs.declared.limits.TheConstants.Limits.{DOCUMENT_BYTES, NESTING}
 use Rattle.msc_base.specs.declared.place.Place.{Place}
 use Rattle.msc_tokens.specs.declared.fault.LexFault.{LexFault}
 use Rattle.msc_tokens.specs.declared.fault.LexFault.TheVariants as lexical
@@ -18,12 +18,12 @@ use Rattle.token_grammar.specs.Refusals.{IsFault}
 use Rattle.msc_cmd.specs.declared.document_text.DocumentText.{DocumentText}
 use Rattle.msc_cmd.specs.declared.document_text.DocumentText.TheVariants.{Read, Refused}
 
--- the bytes are not too long, and their tokens read as this document, with at most 64 levels open
+-- the bytes are not too long, and their tokens read as this document, with no more levels open than may be
 pub record ReadsDocument (bytes : List ℕ) (document : Document) : Type 0 where
   pub short : length bytes ≤ DOCUMENT_BYTES
   pub tokens : List Token
   pub spells : Spells bytes tokens
-  pub reads : (documents 64).reads tokens document
+  pub reads : (documents NESTING).reads tokens document
 
 -- the rule that a fault of the bytes breaks, and its place
 abbrev pub BreaksRule : LexFault → Rule → Place → Type 0
@@ -45,7 +45,7 @@ BreaksGrammar grammar.NoMemory broken place = ⊥
 pub data HasTextFault (bytes : List ℕ) (broken : Rule) (place : Place) : Type 0 where
   too_long : DOCUMENT_BYTES < length bytes → broken ≡ rule.Bytes → place ≡ past first_place (take DOCUMENT_BYTES bytes) → HasTextFault bytes broken place
   lexical_fault : length bytes ≤ DOCUMENT_BYTES → (fault : LexFault) → HasLexFault bytes fault → BreaksRule fault broken place → HasTextFault bytes broken place
-  grammar_fault : length bytes ≤ DOCUMENT_BYTES → (tokens : List Token) → Spells bytes tokens → (fault : ParseFault) → IsFault documents 64 tokens (past first_place bytes) fault → BreaksGrammar fault broken place
+  grammar_fault : length bytes ≤ DOCUMENT_BYTES → (tokens : List Token) → Spells bytes tokens → (fault : ParseFault) → IsFault documents NESTING tokens (past first_place bytes) fault → BreaksGrammar fault broken place
       → HasTextFault bytes broken place
 
 -- the bytes are a text of this document and of no other, have these tokens and no others, and no fault
@@ -70,17 +70,17 @@ IsTheText bytes (Refused broken place) = IsOnlyTextFault bytes broken place
 
 -- the tokens, of a text that ends there, are this document and no other, and have no fault
 pub record ReadsAlone (tokens : List Token) (end : Place) (document : Document) : Type 0 where
-  pub reads : (documents 64).reads tokens document
-  pub only : (other : Document) → (documents 64).reads tokens other → other ≡ document
-  pub faultless : (fault : ParseFault) → IsFault documents 64 tokens end fault → ⊥
+  pub reads : (documents NESTING).reads tokens document
+  pub only : (other : Document) → (documents NESTING).reads tokens other → other ≡ document
+  pub faultless : (fault : ParseFault) → IsFault documents NESTING tokens end fault → ⊥
 
 -- they have one fault, which breaks this rule at this place, and are no document
 pub record MisreadsAlone (tokens : List Token) (end : Place) (broken : Rule) (place : Place) : Type 0 where
   pub fault : ParseFault
-  pub is : IsFault documents 64 tokens end fault
+  pub is : IsFault documents NESTING tokens end fault
   pub breaks : BreaksGrammar fault broken place
-  pub only : (other : ParseFault) → IsFault documents 64 tokens end other → other ≡ fault
-  pub none : (document : Document) → (documents 64).reads tokens document → ⊥
+  pub only : (other : ParseFault) → IsFault documents NESTING tokens end other → other ≡ fault
+  pub none : (document : Document) → (documents NESTING).reads tokens document → ⊥
 
 abbrev pub ParsesAs : List Token → Place → DocumentText → Type 0
 ParsesAs tokens end (Read document list) = ReadsAlone tokens end (document_view document) × (list.tokens ≡ tokens)

@@ -1,4 +1,5 @@
 ghost use Rattle.std.specs.Prelude.{◌≡◌, ◌++◌, ◌∷◌, List, ℕ, IfOk, IfErr, length};
+ghost use Rattle.msc_base.specs.declared.limits.TheConstants.Limits.{NESTING};
 ghost use Rattle.msc_tokens.specs.declared.token.Token.{Token};
 ghost use Rattle.msc_tree.specs.Charts.{Document};
 ghost use Rattle.msc_tree.specs.Views.{document_view};
@@ -9,7 +10,7 @@ ghost use Rattle.msc_document.specs.DocumentGrammar.{document};
 ghost use Rattle.msc_document.specs.DocumentAnswers.{IsAnswer};
 
 use crate::document::document;
-use msc_base::Place;
+use msc_base::{Limits, Place};
 use msc_tokens::{Token, TokenList};
 use msc_tree::RawDocument;
 use std::alloc::Global;
@@ -58,12 +59,12 @@ fn read_document(
 /// Where they are none, the first fault is answered: the token with which they begin no document, or the text's end
 /// where they are only a prefix of one, or the token that opens level 65.
 pub fn parse(alloc: Global, tokens: &TokenList) -> Result<RawDocument, ParseFault>
-    ensures ok { IfOk result (λ read. (document 64).reads tokens.now.tokens (document_view read)) }
+    ensures ok { IfOk result (λ read. (document NESTING).reads tokens.now.tokens (document_view read)) }
     ensures only { IfOk result (λ read. (levels : ℕ) (other : Document) → (document levels).reads tokens.now.tokens other → other ≡ document_view read) }
-    ensures faultless { IfOk result (λ read. (fault : ParseFault) → IsFault document 64 tokens.now.tokens tokens.now.end_place fault → ⊥) }
-    ensures none { IfErr result (λ fault. IsRefusal fault → (other : Document) → (document 64).reads tokens.now.tokens other → ⊥) }
-    ensures place { IfErr result (λ fault. IsRefusal fault → IsFault document 64 tokens.now.tokens tokens.now.end_place fault) }
-    ensures only_fault { IfErr result (λ fault. IsRefusal fault → (other : ParseFault) → IsFault document 64 tokens.now.tokens tokens.now.end_place other → other ≡ fault) }
+    ensures faultless { IfOk result (λ read. (fault : ParseFault) → IsFault document NESTING tokens.now.tokens tokens.now.end_place fault → ⊥) }
+    ensures none { IfErr result (λ fault. IsRefusal fault → (other : Document) → (document NESTING).reads tokens.now.tokens other → ⊥) }
+    ensures place { IfErr result (λ fault. IsRefusal fault → IsFault document NESTING tokens.now.tokens tokens.now.end_place fault) }
+    ensures only_fault { IfErr result (λ fault. IsRefusal fault → (other : ParseFault) → IsFault document NESTING tokens.now.tokens tokens.now.end_place other → other ≡ fault) }
 {
-    read_document(alloc, tokens.as_slice(), 64, tokens.end_place())
+    read_document(alloc, tokens.as_slice(), Limits::NESTING as usize, tokens.end_place())
 }

@@ -9,10 +9,9 @@ ghost use Rattle.msc_expand.specs.Pairings.{ArePartnersOf};
 use crate::limits::{further_chart, further_instance};
 use crate::messages::{all_partners, early, list_of, unmatched};
 use crate::names::{second_chart, undeclared};
-use crate::reading::copy_names;
 use crate::sizes::{large_chart, large_total};
 use crate::{Outline, PlainChart, WovenEvent};
-use msc_base::{Items, LabelList, NoMemory, NumberList};
+use msc_base::{Items, LabelList, NoMemory, NumberList, copy_names};
 use msc_rules::{Broken, Rule, broken_at, earlier_fault};
 use std::alloc::Global;
 

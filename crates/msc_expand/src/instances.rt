@@ -3,7 +3,6 @@ ghost use Rattle.msc_base.specs.NameTables.{with_name};
 ghost use Rattle.msc_tree.specs.Views.{statement_view};
 ghost use Rattle.msc_expand.specs.Outlines.{instances_of, statement_names, with_names};
 
-use crate::table::knows;
 use msc_base::{Items, Name, NameTable, Names, NoMemory};
 use msc_tree::{Cover, Decl, DeclList, Statement};
 use std::alloc::Global;
@@ -34,7 +33,7 @@ impl Gathered {
         ensures names { OnOk result (self.new.names ≡ with_name self.old.names name.now) }
         ensures table { OnOk result (self.new.table ≡ self.new.names) }
     {
-        if knows(&self.table, name) {
+        if self.table.has(name.bytes()) {
             return Ok(());
         }
         self.table.add(alloc, name.bytes())?;

@@ -4,7 +4,6 @@ ghost use Rattle.std.specs.Str.{bytes_eq};
 ghost use Rattle.msc_expand.specs.Rules.{earliest_of, is_exchange, is_far_stranger, is_stranger, list_places, stranger_places, twice_places, undeclared_places};
 
 use crate::limits::at_place;
-use crate::table::{add_names, knows};
 use crate::{Outline, SharedList, WovenEvent};
 use msc_base::{Far, Kind, Name, NameTable, NoMemory, Place};
 use std::alloc::Global;
@@ -16,27 +15,18 @@ pub fn second_chart(alloc: Global, outlines: &[Outline]) -> Result<Option<Place>
     let mut seen = NameTable::new(alloc);
     let mut earliest = None;
     for outline in outlines {
-        let again = knows(&seen, &outline.name);
+        let again = seen.has(outline.name.bytes());
         earliest = at_place(again, outline.place, earliest);
         seen.add(alloc, outline.name.bytes())?;
     }
     Ok(earliest)
 }
 
-/// A table that has these names and no others.
-fn table_of(alloc: Global, names: &[Name]) -> Result<NameTable, NoMemory>
-    ensures { IfOk result (λ table. (name : List ℕ) → list_any (bytes_eq name) table ≡ list_any (bytes_eq name) names.now) }
-{
-    let mut table = NameTable::new(alloc);
-    add_names(alloc, &mut table, names)?;
-    Ok(table)
-}
-
 /// Whether the name is none of the instances.
 fn is_other(table: &NameTable, name: &Name) -> bool
     ensures { result ≡ is_stranger table.now name.now }
 {
-    !knows(table, name)
+    !table.has(name.bytes())
 }
 
 /// Whether the far end is an instance that the chart lacks.
@@ -114,7 +104,7 @@ fn search_chart(
 ) -> Result<Option<Place>, NoMemory>
     ensures { IfOk result (λ place. place ≡ earliest_of so_far (undeclared_places outline.now)) }
 {
-    let table = table_of(alloc, outline.instances.as_slice())?;
+    let table = NameTable::of(alloc, outline.instances.as_slice())?;
     let found = search_events(&table, outline.events.as_slice(), so_far);
     Ok(search_lists(&table, outline.shared.as_slice(), found))
 }

@@ -5,7 +5,7 @@ ghost use Rattle.msc_expand.specs.Pairings.{ArePartnersOf, far_name, key_of, or_
 use crate::WovenEvent;
 use indexmap::IndexSet;
 use item_order::{Edge, pair_up};
-use msc_base::{Far, Kind, Label, Name, NoMemory};
+use msc_base::{Far, Kind, Label, Name, NoMemory, number_of};
 use msc_tree::Direction;
 use std::alloc::Global;
 
@@ -144,26 +144,16 @@ fn push_edge(
     }
 }
 
-/// The number as one of 32 bits; a larger one would want more memory than there is.
-fn number_of(place: usize) -> Result<u32, NoMemory>
-    ensures { IfOk result (λ number. number ≡ place) }
-{
-    match u32::try_from(place) {
-        Ok(number) => Ok(number),
-        Err(_) => Err(NoMemory),
-    }
-}
-
 /// The ends of one direction, each leading from its class to its event.
 fn edges_of(alloc: Global, marks: &[Option<Mark>], direction: Direction) -> Result<Vec<Edge>, NoMemory>
     ensures { IfOk result (λ edges. edges.items ≡ edges_from direction 0 marks.now) }
 {
     let mut edges = Vec::new(alloc);
-    let mut place = 0;
+    let mut index = 0;
     for mark in marks {
-        let number = number_of(place)?;
+        let number = number_of(index)?;
         push_edge(&mut edges, mark, direction, number)?;
-        place += 1;
+        index += 1;
     }
     Ok(edges)
 }
@@ -183,8 +173,8 @@ fn own_numbers(alloc: Global, count: usize) -> Result<Vec<u32>, NoMemory>
     ensures { IfOk result (λ numbers. AreJoined [] count numbers.items) }
 {
     let mut numbers = Vec::new(alloc);
-    for place in 0..count {
-        let number = number_of(place)?;
+    for index in 0..count {
+        let number = number_of(index)?;
         numbers.push(number)?;
     }
     Ok(numbers)
@@ -212,7 +202,7 @@ fn joined(alloc: Global, count: usize, pairs: &[Edge]) -> Result<Vec<u32>, NoMem
     Ok(partners)
 }
 
-/// For each event the place of the one that it is paired with, and its own where there is none.
+/// For each event the index of the one that it is paired with, and its own where there is none.
 #[tactic(auto, using(crate::proofs::JoinLaws::partners_joined, crate::proofs::JoinLaws::pairs_within))]
 pub fn partners_of(alloc: Global, events: &[WovenEvent]) -> Result<Vec<u32>, NoMemory>
     ensures { IfOk result (λ partners. ArePartnersOf events.now partners.items) }

@@ -7,7 +7,7 @@ ghost use Rattle.msc_expand.specs.Outlines.{content_outline, item_events, items_
 use crate::instances::instance_names;
 use crate::woven::woven_event;
 use crate::{Outline, SharedList, WovenEvent};
-use msc_base::{Items, Name, Names, NoMemory};
+use msc_base::{Items, Name, Names, NoMemory, copy_names};
 use msc_tree::{Content, Cover, RawChart, RawForm, RawItem, Statement};
 use std::alloc::Global;
 
@@ -79,17 +79,6 @@ fn events_of(alloc: Global, statements: &[Statement]) -> Result<Items<WovenEvent
         push_statement(alloc, statement, &mut events)?;
     }
     Ok(events)
-}
-
-/// The same names once more.
-pub fn copy_names(alloc: Global, names: &[Name]) -> Result<Names, NoMemory>
-    ensures { IfOk result (λ copied. copied ≡ names.now) }
-{
-    let mut copied = Items::new(alloc);
-    for name in names {
-        copied.push(name.copy(alloc)?)?;
-    }
-    Ok(copied)
 }
 
 /// Appends the list of instances that share the condition that the item is, where it is one and has one.

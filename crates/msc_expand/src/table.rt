@@ -6,14 +6,6 @@ ghost use Rattle.msc_expand.specs.Outlines.{with_names};
 use msc_base::{Name, NameTable, NoMemory};
 use std::alloc::Global;
 
-/// Whether the table has the name.
-#[tactic(auto, using(crate::proofs::Tables::numbered))]
-pub fn knows(table: &NameTable, name: &Name) -> bool
-    ensures { result ≡ list_any (bytes_eq name.now) table.now }
-{
-    table.number_of(name.bytes()).is_some()
-}
-
 /// Adds the names that are new.
 pub fn add_names(alloc: Global, table: &mut NameTable, names: &[Name]) -> Result<(), NoMemory>
     ensures { OnOk result (table.new ≡ with_names table.old names.now) }

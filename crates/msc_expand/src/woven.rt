@@ -2,19 +2,9 @@ ghost use Rattle.std.specs.Prelude.{◌≡◌, IfOk};
 ghost use Rattle.msc_expand.specs.Outlines.{event_of};
 
 use crate::WovenEvent;
-use msc_base::{Name, NoMemory};
+use msc_base::{Name, NoMemory, copy_name};
 use msc_tree::{RawEvent, label_of};
 use std::alloc::Global;
-
-/// The same name once more, where there is one.
-fn copy_name(alloc: Global, name: &Option<Name>) -> Result<Option<Name>, NoMemory>
-    ensures { IfOk result (λ copied. copied ≡ name.now) }
-{
-    match name {
-        Some(name) => Ok(Some(name.copy(alloc)?)),
-        None => Ok(None),
-    }
-}
 
 /// The event in the column of the instance.
 pub fn woven_event(alloc: Global, at: &Name, event: &RawEvent) -> Result<WovenEvent, NoMemory>

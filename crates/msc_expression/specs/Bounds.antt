@@ -1,6 +1,7 @@
 -- The bounds of a loop: how they are written, and their readers.
-use Rattle.std.specs.Prelude.{ℕ, List, Option, Some, None, codes, min}
+use Rattle.std.specs.Prelude.{ℕ, List, Option, Some, None, codes, min, ◌+◌}
 use Rattle.std.specs.Str.Parse.{digits_value}
+use Rattle.msc_base.specs.declared.limits.TheConstants.Limits.{LOOP_BOUND}
 use Rattle.msc_tokens.specs.declared.token.Token.{Token}
 use Rattle.token_grammar.specs.Languages.{Read, just, seq_at, either_at, map_at, optional_at, behind_at}
 use Rattle.token_grammar.specs.Grammars.{Grammar, seq, or, read_as, optional, behind}
@@ -8,9 +9,9 @@ use Rattle.token_grammar.specs.Parts.{digits, mark, kept as as_written}
 use Rattle.token_grammar.specs.PartReaders.{digits_at, mark_at}
 use Rattle.msc_expression.specs.declared.bounds.Bounds.{Bounds}
 
--- the number, where it is at most 1,000,000, and 1,000,001 otherwise
+-- the number, where it is within the limit, and one above the limit otherwise
 abbrev pub kept : List ℕ → ℕ
-kept text = min (digits_value 10 text) 1000001
+kept text = min (digits_value 10 text) (LOOP_BOUND + 1)
 
 abbrev pub bound : Grammar ℕ
 bound = read_as kept digits

@@ -4,6 +4,7 @@ ghost use Rattle.token_grammar.specs.Answers.{Gives};
 ghost use Rattle.token_grammar.specs.Classes.{is_digit};
 ghost use Rattle.msc_expression.specs.Bounds as specs;
 
+use msc_base::Limits;
 use msc_tokens::Token;
 use token_grammar::{ReadFault, number, starts_with, word};
 
@@ -16,8 +17,8 @@ pub struct Bounds {
     pub upper: Option<u64>,
 }
 
-/// What every bound above 1,000,000 is kept as.
-const ABOVE: u64 = 1_000_001;
+/// What every bound above the limit is kept as.
+const ABOVE: u64 = Limits::LOOP_BOUND + 1;
 
 /// The number that the digits write, as it is kept.
 fn kept(digits: &[u8]) -> u64

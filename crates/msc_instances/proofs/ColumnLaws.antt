@@ -22,7 +22,7 @@ use Rattle.msc_instances.specs.Instances.{instances, with_declared}
 use Rattle.msc_instances.specs.Notes.{Note, Declared, Decomposed, Named, chart_notes}
 use Rattle.msc_tree.specs.Charts.{Chart}
 use Rattle.msc_instances.proofs.Positions.{position_passes}
-use Rattle.msc_instances.proofs.Tables.{any_from_one, number_of_one, with_new}
+use Rattle.msc_base.proofs.NameFacts.{any_from_one, number_of_one, with_new}
 use Rattle.msc_instances.proofs.Walks.{assoc, drop_read}
 
 -- ---- different names
@@ -39,19 +39,6 @@ one_place (n ∷ names) zero zero x d a b = refl
 one_place (n ∷ names) zero (suc k) x d a b = let e : x ≡ n = cc in absurd (d.0 (subst (IsAmong names) e (one_of_at names k x b)))
 one_place (n ∷ names) (suc c) zero x d a b = let e : x ≡ n = cc in absurd (d.0 (subst (IsAmong names) e (one_of_at names c x a)))
 one_place (n ∷ names) (suc c) (suc k) x d a b = ap suc (one_place names c k x d.1 a b)
-
-not_before : (names : List (List ℕ)) (k : ℕ) (x : List ℕ) → AreDifferent names → slice_get names k ≡ Some x → IsAmong (take k names) x → ⊥
-not_before [] k x d at h = cc
-not_before (n ∷ names) zero x d at h = h
-not_before (n ∷ names) (suc k) x d at (inl e) = d.0 (subst (IsAmong names) e (one_of_at names k x at))
-not_before (n ∷ names) (suc k) x d at (inr h) = not_before names k x d.1 at h
-
--- a table with one of them more
-pub table_step : (names : List (List ℕ)) (k : ℕ) (x : List ℕ) (table after : List (List ℕ)) → AreDifferent names → k < length names → slice_get names k ≡ Some x → x ≡ get_or names k x
-    → table ≡ take k names → after ≡ with_name table x → after ≡ take (k + 1) names
-table_step names k x table after d low at is same made =
-    made ∙ ap (λ (t : List (List ℕ)). with_name t x) same ∙ with_new (take k names) x (not_before names k x d at)
-    ∙ ap (λ (y : List ℕ). take k names ++ y ∷ []) is ∙ sym (take_more names k x low)
 
 none_snoc : (names : List (List ℕ)) (n m : List ℕ) → (n ≡ m → ⊥) → (IsAmong names m → ⊥) → IsAmong (names ++ n ∷ []) m → ⊥
 none_snoc [] n m ne lacks (inl e) = ne (sym e)

@@ -11,7 +11,7 @@ use Rattle.msc_instances.specs.declared.again.PartKey.{PartKey}
 use Rattle.msc_instances.specs.contracts.again.PartKeyPartialEq.TheImpl.{eq-value}
 use Rattle.msc_instances.specs.Meetings.{HasName, HasPart, HasKey, Knows}
 use Rattle.msc_instances.specs.Parts.{NamedPart, Clashes, ExcludeEachOther}
-use Rattle.msc_instances.proofs.Tables.{one_from_any}
+use Rattle.msc_base.proofs.NameFacts.{one_from_any}
 
 -- ---- one name more
 

@@ -4,7 +4,6 @@ ghost use Rattle.msc_instances.specs.Meetings.{Knows, HasName, HasPart};
 ghost use Rattle.msc_instances.specs.Parts as plain;
 ghost use Rattle.msc_instances.specs.PartViews.{part_view};
 
-use crate::naming::has_name;
 use crate::{NamedPart, PartList, Setting};
 use indexmap::IndexSet;
 use msc_base::earlier_if;
@@ -42,7 +41,7 @@ fn note_outside(alloc: Global, met: &mut Met, name: &Name) -> Result<bool, NoMem
     ensures told { (before : List plain.NamedPart) → Knows met.old before → IfOk result (λ again. IsTrue again ↔ HasName before name.now) }
     ensures kept { (before : List plain.NamedPart) (part : plain.NamedPart) → Knows met.old before → part.name ≡ name.now → part.column ≡ None → OnOk result (Knows met.new (part ∷ before)) }
 {
-    let again = has_name(&met.names, name.bytes());
+    let again = met.names.has(name.bytes());
     met.names.add(alloc, name.bytes())?;
     met.outside.add(alloc, name.bytes())?;
     Ok(again)
@@ -53,7 +52,7 @@ fn note_inside(alloc: Global, met: &mut Met, name: &Name, column: &Name) -> Resu
     ensures told { (before : List plain.NamedPart) → Knows met.old before → IfOk result (λ again. IsTrue again ↔ (HasPart before name.now None ⊎ HasPart before name.now (Some column.now))) }
     ensures kept { (before : List plain.NamedPart) (part : plain.NamedPart) → Knows met.old before → part.name ≡ name.now → part.column ≡ Some column.now → OnOk result (Knows met.new (part ∷ before)) }
 {
-    let outside = has_name(&met.outside, name.bytes());
+    let outside = met.outside.has(name.bytes());
     met.names.add(alloc, name.bytes())?;
     let key = PartKey {
         name: Vec::from_slice(alloc, name.bytes())?,

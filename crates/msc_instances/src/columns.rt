@@ -9,30 +9,8 @@ ghost use Rattle.msc_instances.specs.EventViews.{event_view};
 
 use crate::PlacedEvent;
 use item_order::{Edge, Sorted, weave_entries};
-use msc_base::{Name, NameTable, NoMemory};
+use msc_base::{Name, NameTable, NoMemory, number_of};
 use std::alloc::Global;
-
-/// The number as one of 32 bits; a larger one would want more memory than there is.
-pub fn number_of(place: usize) -> Result<u32, NoMemory>
-    ensures { IfOk result (λ number. number ≡ place) }
-{
-    match u32::try_from(place) {
-        Ok(number) => Ok(number),
-        Err(_) => Err(NoMemory),
-    }
-}
-
-/// A table of different names.
-fn table_of(alloc: Global, names: &[Name]) -> Result<NameTable, NoMemory>
-    requires { AreDifferent names.now }
-    ensures { IfOk result (λ table. table ≡ names.now) }
-{
-    let mut table = NameTable::new(alloc);
-    for name in names {
-        table.add(alloc, name.bytes())?;
-    }
-    Ok(table)
-}
 
 /// Appends the edge of an entry: from the number of the instance to the item.
 fn push_entry(
@@ -81,7 +59,7 @@ pub fn woven_order(
     ensures woven { IfOk result (λ sorted. IfWhole sorted (λ order. IsWoven (length events.now) (columns_of (entries_from 0 (map event_view events.now)) names.now) order.items)) }
     ensures crossed { IfOk result (λ sorted. IfStuck sorted (IsCrossedAt (length events.now) (columns_of (entries_from 0 (map event_view events.now)) names.now))) }
 {
-    let table = table_of(alloc, names)?;
+    let table = NameTable::of(alloc, names)?;
     let edges = edges_of(alloc, &table, events)?;
     let count = number_of(events.len())?;
     let columns = number_of(table.len())?;

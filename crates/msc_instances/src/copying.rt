@@ -1,21 +1,10 @@
 ghost use Rattle.std.specs.Prelude.{◌≡◌, IfOk};
 
-use msc_base::{Items, Name, Names, NoMemory, Text, Words};
+use msc_base::{Items, NoMemory, Text, Words, copy_name, copy_names};
 use msc_tree::{RawEvent, Target};
 use std::alloc::Global;
 
-/// The same names once more.
-pub fn copy_names(alloc: Global, names: &[Name]) -> Result<Names, NoMemory>
-    ensures { IfOk result (λ copied. copied ≡ names.now) }
-{
-    let mut copied = Items::new(alloc);
-    for name in names {
-        copied.push(name.copy(alloc)?)?;
-    }
-    Ok(copied)
-}
-
-/// The same texts once more.
+/// A copy of the texts.
 fn copy_words(alloc: Global, words: &[Text]) -> Result<Words, NoMemory>
     ensures { IfOk result (λ copied. copied ≡ words.now) }
 {
@@ -26,17 +15,7 @@ fn copy_words(alloc: Global, words: &[Text]) -> Result<Words, NoMemory>
     Ok(copied)
 }
 
-/// The same name once more, where there is one.
-fn copy_name(alloc: Global, name: &Option<Name>) -> Result<Option<Name>, NoMemory>
-    ensures { IfOk result (λ copied. copied ≡ name.now) }
-{
-    match name {
-        Some(name) => Ok(Some(name.copy(alloc)?)),
-        None => Ok(None),
-    }
-}
-
-/// The same parameters once more, where there are some.
+/// A copy of the parameters, where there are some.
 fn copy_parameters(alloc: Global, words: &Option<Words>) -> Result<Option<Words>, NoMemory>
     ensures { IfOk result (λ copied. copied ≡ words.now) }
 {
@@ -46,7 +25,7 @@ fn copy_parameters(alloc: Global, words: &Option<Words>) -> Result<Option<Words>
     }
 }
 
-/// The same other end once more.
+/// A copy of the other end.
 fn copy_target(alloc: Global, target: &Target) -> Result<Target, NoMemory>
     ensures { IfOk result (λ copied. copied ≡ target.now) }
 {
@@ -62,7 +41,7 @@ fn copy_target(alloc: Global, target: &Target) -> Result<Target, NoMemory>
     }
 }
 
-/// The same event once more.
+/// A copy of the event.
 pub fn copy_event(alloc: Global, event: &RawEvent) -> Result<RawEvent, NoMemory>
     ensures { IfOk result (λ copied. copied ≡ event.now) }
 {

@@ -4,10 +4,9 @@ ghost use Rattle.msc_instances.specs.Marks.{AreMarked, IsMark, KeepsNumbers, Lea
 ghost use Rattle.msc_instances.specs.Messages.{far_name, key_of, or_empty, way, way_by};
 
 use crate::PlacedEvent;
-use crate::columns::number_of;
 use indexmap::IndexSet;
 use item_order::{Edge, pair_up};
-use msc_base::{Kind, Name, NoMemory};
+use msc_base::{Kind, Name, NoMemory, number_of};
 use msc_tree::{Direction, RawEvent, Target, label_text};
 use std::alloc::Global;
 
@@ -152,11 +151,11 @@ fn edges_of(alloc: Global, marks: &[Option<Mark>], direction: Direction) -> Resu
     ensures { IfOk result (λ edges. edges.items ≡ edges_from direction 0 marks.now) }
 {
     let mut edges = Vec::new(alloc);
-    let mut place = 0;
+    let mut index = 0;
     for mark in marks {
-        let number = number_of(place)?;
+        let number = number_of(index)?;
         push_edge(&mut edges, mark, direction, number)?;
-        place += 1;
+        index += 1;
     }
     Ok(edges)
 }

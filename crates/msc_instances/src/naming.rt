@@ -42,13 +42,6 @@ struct Instances {
     table: NameTable,
 }
 
-/// Whether a name is in the table.
-pub fn has_name(table: &NameTable, name: &[u8]) -> bool
-    ensures { IsTrue result ↔ IsAmong table.now name.now }
-{
-    table.number_of(name).is_some()
-}
-
 /// Whether a name is one of the list.
 fn is_listed(names: &[Name], name: &Name) -> bool
     ensures { IsTrue result ↔ IsAmong names.now name.now }
@@ -65,7 +58,7 @@ fn is_listed(names: &[Name], name: &Name) -> bool
 fn may_name(table: &NameTable, scope: &Scope<'_>, name: &Name) -> bool
     ensures { IsTrue result ↔ MayName table.now (scope_view scope.now) name.now }
 {
-    if !has_name(table, name.bytes()) {
+    if !table.has(name.bytes()) {
         return false;
     }
     match scope {
@@ -87,7 +80,7 @@ fn add_instance(
     ensures table { OnOk result (table.new ≡ with_name table.old name.now) }
     ensures names { OnOk result (names.new ≡ table.new) }
 {
-    if has_name(table, name.bytes()) {
+    if table.has(name.bytes()) {
         return Ok(());
     }
     names.push(name.copy(alloc)?)?;
@@ -119,7 +112,7 @@ fn decomposed_again(alloc: Global, notes: &[Note<'_>]) -> Result<Option<Place>, 
         let Note::Decomposed(name, place) = note else {
             continue;
         };
-        let again = has_name(&before, name.bytes());
+        let again = before.has(name.bytes());
         best = earlier_if(best, *place, again);
         before.add(alloc, name.bytes())?;
     }

@@ -1,6 +1,7 @@
 -- One byte at a time.
 use Rattle.std.specs.Prelude.{ℕ, ◌==◌, ◌++◌, List, [], ◌∷◌, length, nat_lt, if◌then◌else◌, fold, Option, Some, None, Result, Ok, Err}
 use Rattle.msc_base.specs.declared.place.Place.{Place}
+use Rattle.msc_base.specs.declared.limits.TheConstants.Limits.{NAME_BYTES}
 use Rattle.msc_tokens.specs.declared.token.Token.{Token}
 use Rattle.msc_tokens.specs.declared.token.TokenKind.{TokenKind}
 use Rattle.msc_tokens.specs.declared.token.TokenKind.TheVariants as kind
@@ -59,7 +60,7 @@ begun s c = begun_as (class_of c) s c
 
 abbrev pub next : Mode → State → ℕ → State
 next mode.Between s c = begun s c
-next mode.Word s c = if is_word_byte c then (if nat_lt (length s.text) 255 then grown mode.Word s c else in_mode mode.LongName s)
+next mode.Word s c = if is_word_byte c then (if nat_lt (length s.text) NAME_BYTES then grown mode.Word s c else in_mode mode.LongName s)
     else (if has_letter s.text then begun (closed kind.Word s) c else in_mode mode.BadByte s)
 next mode.Str s c = if c == 39 then grown mode.Quote s c else if is_inside c then grown mode.Str s c else refused s
 next mode.Quote s c = if c == 39 then grown mode.Str s c else begun (closed kind.Str s) c

@@ -1,6 +1,7 @@
 -- How a text is cut into tokens, and its first fault.
-use Rattle.std.specs.Prelude.{◌≡◌, ◌≢◌, ◌⊎◌, ◌<◌, ◌≤◌, ◌^◌, ℕ, List, [], ◌∷◌, ◌++◌, length, All, Any}
+use Rattle.std.specs.Prelude.{◌≡◌, ◌≢◌, ◌⊎◌, ◌<◌, ◌≤◌, ◌^◌, ◌+◌, ℕ, List, [], ◌∷◌, ◌++◌, length, All, Any}
 use Rattle.msc_base.specs.declared.place.Place.{Place}
+use Rattle.msc_base.specs.declared.limits.TheConstants.Limits.{NAME_BYTES}
 use Rattle.msc_base.specs.Names.{IsWord, IsWordByte, IsLetterOrDigit}
 use Rattle.msc_tokens.specs.declared.token.Token.{Token}
 use Rattle.msc_tokens.specs.declared.token.TokenKind.TheVariants.{Word, Str, Mark}
@@ -131,10 +132,10 @@ pub record BeginsNothing (b : ℕ) : Type 0 where
 
 -- the rest of a text, which begins at this place, begins no piece for this fault
 pub data Breaks (at : Place) (rest : List ℕ) (fault : LexFault) : Type 0 where
-  -- the first 256 bytes are of a word
-  long_word : (w behind : List ℕ) → rest ≡ w ++ behind → All IsWordByte w → length w ≡ 256 → fault ≡ LongName at → Breaks at rest fault
+  -- so many bytes are of a word, one more than a name may have
+  long_word : (w behind : List ℕ) → rest ≡ w ++ behind → All IsWordByte w → length w ≡ NAME_BYTES + 1 → fault ≡ LongName at → Breaks at rest fault
   -- a word that is short enough has no letter or digit
-  bad_word : (w behind : List ℕ) → rest ≡ w ++ behind → All IsWordByte w → (BeginsWith IsWordByte behind → ⊥) → 0 < length w → length w ≤ 255
+  bad_word : (w behind : List ℕ) → rest ≡ w ++ behind → All IsWordByte w → (BeginsWith IsWordByte behind → ⊥) → 0 < length w → length w ≤ NAME_BYTES
       → (Any IsLetterOrDigit w → ⊥) → fault ≡ BadByte at → Breaks at rest fault
   bad_byte : (b : ℕ) (behind : List ℕ) → rest ≡ b ∷ behind → BeginsNothing b → fault ≡ BadByte at → Breaks at rest fault
   -- a `/` that begins no note

@@ -4,7 +4,7 @@ use crate::byte_class::{ByteClass, class_of, has_letter, is_inside, is_word_byte
 use crate::mode::Mode;
 use crate::place::after;
 use crate::{LexFault, Token, TokenKind, TokenList};
-use msc_base::{Items, NoMemory, Place, Text};
+use msc_base::{Items, Limits, NoMemory, Place, Text};
 use std::alloc::Global;
 use std::mem;
 
@@ -174,7 +174,7 @@ impl Machine {
         ensures bound { self.new.place.byte ≤ self.old.place.byte + 1 }
     {
         if is_word_byte(byte) {
-            if self.text.len() < 255 {
+            if (self.text.len() as u64) < Limits::NAME_BYTES {
                 self.grow(Mode::Word, byte)
             } else {
                 self.fail(Mode::LongName);

@@ -25,7 +25,7 @@ is_one_of (w ∷ ws) bytes = bytes_eq bytes w || is_one_of ws bytes
 abbrev pub is_reserved : List ℕ → Bool
 is_reserved bytes = is_one_of reserved_to_decomposed bytes || (is_one_of reserved_to_inst bytes || (is_one_of reserved_to_out bytes || is_one_of reserved_to_when bytes))
 
--- word bytes alone, one of them a letter or a digit, at most 255 of them
+-- word bytes alone, one of them a letter or a digit, and no more than a name may have
 abbrev pub is_word : List ℕ → Bool
 is_word bytes = list_all is_word_byte bytes && (list_any is_letter_or_digit bytes && nat_lt (length bytes) 256)
 

@@ -4,6 +4,6 @@ use Rattle.msc_expand.proofs.pairing.edges_of.Given as goal
 
 abbrev pub invariant-loop-mark : goal.invariant-loop-mark
 invariant-loop-mark l = record {
-  place : l.place ≡ l.mark-index;
+  index : l.index ≡ l.mark-index;
   edges : l.edges.items ++ edges_from l.direction l.mark-index (drop l.mark-index l.marks) ≡ edges_from l.direction 0 l.marks;
 }

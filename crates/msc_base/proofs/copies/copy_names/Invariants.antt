@@ -1,5 +1,5 @@
 use Rattle.std.proofs.Common.{◌≡◌, take}
-use Rattle.msc_expand.proofs.reading.copy_names.Given as goal
+use Rattle.msc_base.proofs.copies.copy_names.Given as goal
 
 abbrev pub invariant-loop-name : goal.invariant-loop-name
 invariant-loop-name l = l.copied ≡ take l.name-index l.names
