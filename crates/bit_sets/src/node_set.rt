@@ -1,3 +1,5 @@
+//! Sets of node numbers below a size. The searches of hmsc_graph and permit_step mark nodes in them.
+
 ghost use Rattle.std.specs.Prelude.{◌≡◌, ◌<◌, ◌↔◌, ◌⊎◌, ℕ, IsTrue, IfOk};
 ghost use Rattle.msc_base.specs.Lists.{IsIn};
 ghost use Rattle.bit_sets.specs.NodeSets.{HasNoNodes, HasAllNodes};

@@ -1,3 +1,5 @@
+//! Union, common bit and first difference of two lists of words: for `block` alone.
+
 ghost use Rattle.std.specs.Prelude.{◌≡◌, ◌*◌, ◌≤◌, length, OnOk, OnErr};
 ghost use Rattle.bit_sets.specs.Blocks.{HasBitsOfBoth, IsFirstDifference, ShareBit};
 

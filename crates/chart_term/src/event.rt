@@ -1,3 +1,5 @@
+//! An event of a term, by numbers alone: what its label and instances are called stands in the tables (term_tables).
+
 /// An event of a term.
 #[derive(Clone, Copy, Debug, PartialEq, Eq)]
 pub struct Event {

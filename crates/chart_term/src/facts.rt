@@ -1,3 +1,5 @@
+//! What a node stores of its term: weight, instances, span of numbers. `term` keeps it; it looks at no table.
+
 ghost use Rattle.std.specs.Prelude.{◌≡◌, ◌+◌, ◌<◌, [], true, false, min, max, OnOk, IfOk, Some};
 ghost use Rattle.std.specs.List.{list_any};
 ghost use Rattle.std.specs.Option.{ForSome};

@@ -1,3 +1,5 @@
+//! Rows and parts side by side in normal form, opened and without empty parts. permit_step rebuilds terms by them.
+
 ghost use Rattle.std.specs.Prelude.{◌≡◌, ◌++◌, IfOk, OnOk};
 ghost use Rattle.msc_base.specs.Patterns.{seq, par};
 ghost use Rattle.chart_term.specs.Modes.{mode_of};

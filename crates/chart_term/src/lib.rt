@@ -11,8 +11,6 @@ mod joins;
 pub mod laws;
 mod look;
 mod term;
-#[cfg(test)]
-mod tests;
 mod ties;
 
 pub use choices::choice;

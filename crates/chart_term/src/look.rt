@@ -1,3 +1,5 @@
+//! The parts of a term, for those who walk down it: term_tables, permit_step, and the constructors here.
+
 use crate::{RowList, Term, TermList};
 use bit_sets::Block;
 use hmsc_graph::{Goal, Spot};

@@ -1,3 +1,5 @@
+//! Terms as shared nodes, and the constructors that make each node as it is; contracts see `Term` as a plain tree.
+
 ghost use Rattle.std.specs.Prelude.{◌≡◌, ◌+◌, ◌++◌, ◌∷◌, ◌<◌, ℕ, [], length, slice_get, min, IfOk, OnOk, OnErr, Some, MatchOption};
 ghost use Rattle.std.specs.Option.{ForSome};
 ghost use Rattle.chart_term.specs.Facts.{HasFacts, HaveFacts, RowHasFacts, holds_walk, instances, misses, most_stored};

@@ -1,3 +1,5 @@
+//! A term below a tie in normal form, without dead or repeated pairs. permit_step puts ties back by it.
+
 ghost use Rattle.std.specs.Prelude.{◌≡◌, IfOk};
 ghost use Rattle.chart_term.specs.NormalForms.{tie_of, kept_pairs, numbers};
 ghost use Rattle.chart_term.specs.Numbers.{HasExactly};

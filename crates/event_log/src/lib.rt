@@ -8,8 +8,6 @@ mod json_line;
 mod line;
 mod object;
 mod reader;
-#[cfg(test)]
-mod tests;
 mod text_line;
 
 pub use event::{LineEvent, LogFault, LogForm, Version};

@@ -1,3 +1,5 @@
+//! The labels of lines by number, the earliest that stands twice, the earliest that no line has: for `net` alone.
+
 ghost use Rattle.std.specs.Prelude.{◌≡◌, ◌≤◌, [], None, length, IfOk, OnOk, filter_map, fold};
 ghost use Rattle.msc_base.specs.declared.limits.TheConstants.Limits.{NODE_LINES};
 ghost use Rattle.hmsc_graph.specs.Labels.{with_line, with_label, number_in};

@@ -9,8 +9,6 @@ pub mod laws;
 mod net;
 mod shape;
 mod spot;
-#[cfg(test)]
-mod tests;
 mod walks;
 
 pub use ending::endless;

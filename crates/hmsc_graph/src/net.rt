@@ -1,3 +1,5 @@
+//! Graphs, made from labelled lines and asked for nodes and edges. term_tables keeps them. Nodes have no content here.
+
 ghost use Rattle.std.specs.Prelude.{◌≡◌, ◌≤◌, ◌<◌, ◌↔◌, ℕ, None, [], fold, length, replicate, true, IfOk, IfErr, OnOk};
 ghost use Rattle.hmsc_graph.specs.Graphs.{Net as GraphValue, End, arrives, behind};
 ghost use Rattle.msc_base.specs.Lists.{IsIn};

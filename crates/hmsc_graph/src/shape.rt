@@ -1,3 +1,5 @@
+//! A graph as it is written, by labels and places: what `net` makes a graph of.
+
 use msc_base::{Items, LabelRefs, Name, Place};
 
 /// A graph as it is written, without the contents of its nodes (Z.120, clause 7.5, high-level MSC).

@@ -1,3 +1,5 @@
+//! Where a walk begins and where it leads. Terms of walks (chart_term, permit_step) carry both.
+
 /// Where a walk begins.
 #[derive(Clone, Copy, Debug, PartialEq, Eq)]
 pub enum Spot {

@@ -1,3 +1,5 @@
+//! The nodes that walks through allowed nodes reach. permit_step asks by it whether a walk can go on.
+
 ghost use Rattle.std.specs.Prelude.{◌≡◌, ◌<◌, ◌↔◌, ℕ, IfOk, OnOk, IsTrue, true};
 ghost use Rattle.hmsc_graph.specs.Graphs.{To, End, WalkThrough, arrives};
 ghost use Rattle.msc_base.specs.Lists.{IsIn};

@@ -9,4 +9,3 @@ pub mod Ends
 pub mod EntryColumns
 pub mod Arranged
 pub mod WeavingLaws
-pub mod TestFacts

@@ -7,8 +7,6 @@ mod emitting;
 mod fault;
 mod lines;
 mod lists;
-#[cfg(test)]
-mod tests;
 mod texts;
 
 pub use emitting::emit;

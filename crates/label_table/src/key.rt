@@ -1,3 +1,5 @@
+//! Labels as numbers, so that one is found by its hash: for `table` alone.
+
 ghost use Rattle.std.specs.Prelude.{◌≡◌, IfSome, IfNone, IfOk};
 ghost use Rattle.label_table.specs.Keys.{IsFarKey, IsKey, IsNumbered, KeepsNumbers};
 

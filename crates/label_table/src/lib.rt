@@ -4,7 +4,5 @@
 mod key;
 pub mod laws;
 mod table;
-#[cfg(test)]
-mod tests;
 
 pub use table::LabelTable;

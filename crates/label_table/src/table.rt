@@ -1,3 +1,5 @@
+//! The table of labels by number. term_tables holds one, and terms name labels by its numbers.
+
 ghost use Rattle.std.specs.Prelude.{◌≡◌, ◌<◌, ◌++◌, ◌∷◌, [], Contains, length, slice_get, Some, IfSome, IfNone, IfOk, OnOk, OnErr};
 ghost use Rattle.label_table.specs.Labels.{label_number};
 

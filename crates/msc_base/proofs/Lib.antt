@@ -2,3 +2,4 @@ pub mod TableFacts
 pub mod PlaceFacts
 pub mod Narrowing
 pub mod NameFacts
+pub mod WordBytes

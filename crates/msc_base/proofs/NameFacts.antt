@@ -1,5 +1,5 @@
 -- Tables of names, the test of a name in one, and lists of different names.
-use Rattle.std.proofs.Common.{◌≡◌, ◌≢◌, ◌<◌, ◌+◌, ◌↔◌, ◌⊎◌, inl, inr, List, ℕ, length, ◌++◌, [], ◌∷◌, arith, sym, refl, ap, subst, ◌∙◌, Some, None, Bool, true, false, nat_lt, cond, not, ◌||◌, if◌then◌else◌, fold, IsTrue, append_assoc}
+use Rattle.std.proofs.Common.{◌≡◌, ◌<◌, ◌+◌, ◌⊎◌, inl, inr, List, ℕ, length, ◌++◌, [], ◌∷◌, arith, sym, refl, ap, subst, ◌∙◌, Some, None, Bool, true, false, nat_lt, cond, not, ◌||◌, if◌then◌else◌, fold, append_assoc}
 use Rattle.std.proofs.lemmas.Bool.{ltb-true, lt-ltb, or_cases, or_left, or_right, true≢false, false_from_ne_true}
 use Rattle.std.proofs.lemmas.List.{append-nil}
 use Rattle.std.proofs.lemmas.Slice.Eq.{bytes_eq-Decides}

@@ -1,3 +1,5 @@
+//! Labels: what an event says, where and with whom; and lists of names, numbers and pairs. For nearly all crates.
+
 ghost use Rattle.std.specs.Prelude.{◌≡◌, ◌↔◌, IfOk, IsTrue};
 
 use crate::{Items, Name, NoMemory, Place, Text};

@@ -1,3 +1,5 @@
+//! The limits of documents, logs and budgets, each once: the readers, the rules and the judge take them from here.
+
 /// The limits of documents, logs and words.
 pub struct Limits;
 

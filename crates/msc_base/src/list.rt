@@ -1,3 +1,5 @@
+//! `Items`, a vector that a contract sees as the list. The trees of documents and the lists of charts are made of it.
+
 ghost use Rattle.std.specs.Prelude.{◌≡◌, ◌<◌, ◌++◌, ◌∷◌, [], List, length, slice_get, OnOk, OnErr, Some};
 
 use crate::NoMemory;

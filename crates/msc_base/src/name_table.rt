@@ -1,3 +1,5 @@
+//! Names numbered as they are first seen: for the labels of graphs and events, and for the instances of charts.
+
 ghost use Rattle.std.specs.Prelude.{◌≡◌, ◌↔◌, ℕ, [], List, fold, map, IfOk, IsTrue, OnOk, OnErr, position, length};
 ghost use Rattle.std.specs.List.{list_any};
 ghost use Rattle.std.specs.Str.{bytes_eq};

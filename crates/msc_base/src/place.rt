@@ -1,3 +1,5 @@
+//! Places in a text, their order, and the earliest of several: tokens carry them, faults are told by them.
+
 ghost use Rattle.std.specs.Prelude.{◌≡◌};
 ghost use Rattle.msc_base.specs.Places.{earliest, earliest_if, is_before};
 

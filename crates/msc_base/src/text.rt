@@ -1,3 +1,5 @@
+//! Texts as bytes. What they mean is none of this module's business: names, labels and what is printed hold them.
+
 ghost use Rattle.std.specs.Prelude.{◌≡◌, IfOk, IsTrue, ◌↔◌, List, ℕ};
 ghost use Rattle.std.specs.Str.{bytes_eq};
 

@@ -1,3 +1,5 @@
+//! The verdict on a log: msc_cmd and trace_judge give it, judge_report prints it.
+
 /// What a log is for a chart. Events count from 1.
 #[derive(Clone, Copy, Debug, PartialEq, Eq)]
 pub enum Verdict {

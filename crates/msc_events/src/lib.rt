@@ -17,8 +17,6 @@ mod log_event;
 mod log_text;
 mod orientation;
 mod shared;
-#[cfg(test)]
-mod tests;
 
 pub use declaration::{decl, declared, decls, heading};
 pub use events::{coregion, single, starts_with_single, stop};

@@ -12,6 +12,3 @@ pub use expressions::expression;
 pub use graphs::graph;
 pub use laws::{expressions_are_exact, graphs_are_exact};
 pub use level::open;
-
-#[cfg(test)]
-mod tests;

@@ -11,11 +11,9 @@ pub mod laws;
 mod levels;
 mod matching;
 mod naming;
+mod not_built;
 mod notes;
 mod parts;
-#[cfg(test)]
-mod tests;
-mod not_built;
 mod walk;
 mod weaving;
 

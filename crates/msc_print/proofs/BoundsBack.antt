@@ -12,7 +12,8 @@ use Rattle.std.proofs.lemmas.Bool.Decides.{nat_tests}
 use Rattle.std.proofs.lemmas.Str.Parse.{digit_from_value}
 use Rattle.std.proofs.lemmas.Fmt.{decimal_is_IsNumeral, length-decimal-le}
 use Rattle.msc_tokens.specs.declared.token.Token.{Token}
-use Rattle.token_grammar.specs.Classes.{is_digit, is_number, is_letter_or_digit, is_word_byte, is_word}
+use Rattle.token_grammar.specs.Classes.{is_digit, is_number, is_word}
+use Rattle.msc_base.specs.Names.{is_letter_or_digit, is_word_byte}
 use Rattle.token_grammar.specs.Languages.{just, numbers}
 use Rattle.token_grammar.specs.Grammars.{Grammar, read_as, seq, optional, maybe, behind}
 use Rattle.token_grammar.specs.Parts.{mark, kept as as_written}

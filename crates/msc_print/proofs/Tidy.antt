@@ -9,7 +9,9 @@ use Rattle.msc_base.specs.Names.{IsWord, IsWordByte, IsLetterOrDigit}
 use Rattle.msc_base.specs.Lists.{IsAmong}
 use Rattle.msc_tokens.specs.declared.token.Token.{Token}
 use Rattle.msc_tokens.specs.Spelling.{IsMark}
-use Rattle.token_grammar.specs.Classes.{is_letter_or_digit, is_word_byte, is_word, is_name, is_string, is_one_of}
+use Rattle.msc_base.proofs.WordBytes.{letter_test, word_test}
+use Rattle.token_grammar.specs.Classes.{is_word, is_name, is_string, is_one_of}
+use Rattle.msc_base.specs.Names.{is_letter_or_digit, is_word_byte}
 use Rattle.token_grammar.proofs.Classes.{name_decides, one_of_decides}
 use Rattle.msc_print.specs.Words.{Words}
 use Rattle.msc_print.specs.Texts.{IsText, word, mark, Parts, AreTexts}
@@ -76,13 +78,7 @@ word_of w h =
     let q = and_parts (list_any is_letter_or_digit w) (nat_lt (length w) 256) p.1 in
     let some = Any-from_list_any is_letter_or_digit w q.0 in
     let few : nat_lt (length w) 256 ≡ true = q.1 in
-    record { bytes_are = (Decides-by_and is_word_byte IsWordByte (list_all is_word_byte) byte_test refl (λ _ _. refl) w).0 p.0; has_one = (some.0, some.1, some.2, some.3, (letter_test (some.1)).0 some.4); short = grind (arith, nat_tests) }
-  where
-    letter_test : (b : ℕ) → Decides (is_letter_or_digit b) (IsLetterOrDigit b)
-    letter_test b = (λ e. grind (arith, nat_tests), λ k. grind (arith, nat_tests))
-
-    byte_test : (b : ℕ) → Decides (is_word_byte b) (IsWordByte b)
-    byte_test b = (λ e. grind (arith, nat_tests), λ k. grind (arith, nat_tests))
+    record { bytes_are = (Decides-by_and is_word_byte IsWordByte (list_all is_word_byte) word_test refl (λ _ _. refl) w).0 p.0; has_one = (some.0, some.1, some.2, some.3, (letter_test (some.1)).0 some.4); short = grind (arith, nat_tests) }
 
 -- a text that stands alone
 pub word_tidy : (w : List ℕ) (rest : Words) → IsWord w → Tidy rest → Tidy (w ∷ rest)

@@ -14,8 +14,6 @@ mod page;
 mod parts;
 mod shared;
 mod statement;
-#[cfg(test)]
-mod tests;
 
 pub use document::print_document;
 pub use laws::{

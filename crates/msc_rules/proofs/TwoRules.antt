@@ -1,8 +1,7 @@
 -- The first fault of two rules of one group.
-use Rattle.std.proofs.Common.{◌≡◌, ◌≤◌, ◌<◌, ℕ, inl, inr, refl, sym, ap, ◌∙◌, arith}
+use Rattle.std.proofs.Common.{◌≡◌, ◌≤◌, ℕ, inl, inr, refl, sym, ap, ◌∙◌, arith}
 use Rattle.msc_base.specs.declared.place.Place.{Place}
 use Rattle.msc_base.specs.Places.{IsBefore, IsNoLater}
-use Rattle.msc_rules.specs.declared.first_fault.Broken.{Broken}
 use Rattle.msc_rules.specs.FirstFaults.{BreaksEither, ComesFirst, IsFirstFault}
 
 module _ {R : Type 0} (number group : R → ℕ) (a b : R) (A B : Place → Type 0) (p : Place) (one_group : group a ≡ group b) where

@@ -1,3 +1,5 @@
+//! The table of rules: text, number and group of each. Who breaks one says its name; judge_report prints its text.
+
 ghost use Rattle.std.specs.Prelude.{◌≡◌};
 ghost use Rattle.msc_rules.specs.declared.rule.Rule.TheVariants.{Unsupported};
 ghost use Rattle.msc_rules.specs.Rules.{form_text, group_of, number_of, rule_text};
@@ -227,10 +229,16 @@ impl Rule {
             Rule::NamedTwice | Rule::Undeclared => 5,
             Rule::MissingChart | Rule::Recursive | Rule::Uncovered => 6,
             Rule::ExpandedNesting | Rule::Size | Rule::Total => 7,
-            Rule::NotShared | Rule::OperandsDiffer | Rule::ExcPlace | Rule::CreatePlace | Rule::CreateTwice | Rule::AfterStop => 8,
+            Rule::NotShared
+            | Rule::OperandsDiffer
+            | Rule::ExcPlace
+            | Rule::CreatePlace
+            | Rule::CreateTwice
+            | Rule::AfterStop => 8,
             Rule::Crossed => 9,
             Rule::Unmatched => 10,
-            Rule::NoGate | Rule::GateTwice | Rule::GateWays | Rule::GateSplit | Rule::GateOnLoop => 11,
+            Rule::NoGate | Rule::GateTwice | Rule::GateWays | Rule::GateSplit | Rule::GateOnLoop =>
+                11,
             Rule::DecompositionMismatch | Rule::SharedPart | Rule::Inside | Rule::LocalEvent => 12,
             Rule::UnknownEvent | Rule::EventNamedTwice => 13,
             Rule::Cyclic => 14,

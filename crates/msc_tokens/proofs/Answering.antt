@@ -10,7 +10,8 @@ use Rattle.msc_tokens.specs.declared.fault.LexFault.{LexFault}
 use Rattle.msc_tokens.specs.declared.fault.LexFault.TheVariants as fault
 use Rattle.msc_tokens.specs.declared.mode.Mode.{Mode}
 use Rattle.msc_tokens.specs.declared.mode.Mode.TheVariants as mode
-use Rattle.msc_tokens.specs.ByteTests.{is_letter_or_digit, has_letter}
+use Rattle.msc_tokens.specs.ByteTests.{has_letter}
+use Rattle.msc_base.specs.Names.{is_letter_or_digit}
 use Rattle.msc_tokens.specs.Faults.{IfNamed}
 use Rattle.msc_tokens.specs.Places.{first_place, past}
 use Rattle.msc_tokens.specs.Machine.{State, in_mode, grown, closed, step, first_state, state_of, settled, listed, ended}

@@ -6,17 +6,13 @@ use Rattle.std.proofs.lemmas.List.Folds.{Any-from_list_any, list_any-from_Any}
 use Rattle.msc_base.specs.Names.{IsLetterOrDigit, IsWordByte}
 use Rattle.msc_tokens.specs.declared.byte_class.ByteClass.{ByteClass}
 use Rattle.msc_tokens.specs.declared.byte_class.ByteClass.TheVariants as class
-use Rattle.msc_tokens.specs.ByteTests.{is_blank, is_letter_or_digit, is_word_byte, is_inside, is_mark_byte, is_pair, has_letter, class_of}
+use Rattle.msc_tokens.specs.ByteTests.{is_blank, is_inside, is_mark_byte, is_pair, has_letter, class_of}
+use Rattle.msc_base.specs.Names.{is_letter_or_digit, is_word_byte}
+pub use Rattle.msc_base.proofs.WordBytes.{letter_test, word_test}
 use Rattle.msc_tokens.specs.Spelling.{IsBlank, IsInside, IsMark, IsPair, BeginsNothing}
 
 pub blank_test : (b : ℕ) → Decides (is_blank b) (IsBlank b)
 blank_test b = (λ e. grind (arith, nat_tests), λ h. grind (arith, nat_tests))
-
-pub letter_test : (b : ℕ) → Decides (is_letter_or_digit b) (IsLetterOrDigit b)
-letter_test b = (λ e. grind (arith, nat_tests), λ h. grind (arith, nat_tests))
-
-pub word_test : (b : ℕ) → Decides (is_word_byte b) (IsWordByte b)
-word_test b = (λ e. grind (arith, nat_tests), λ h. grind (arith, nat_tests))
 
 pub inside_test : (b : ℕ) → Decides (is_inside b) (IsInside b)
 inside_test b = (λ e. grind (arith, nat_tests), λ h. grind (arith, nat_tests))

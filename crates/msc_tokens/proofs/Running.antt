@@ -12,7 +12,8 @@ use Rattle.msc_tokens.specs.declared.fault.LexFault.TheVariants as fault
 use Rattle.msc_tokens.specs.declared.byte_class.ByteClass.{ByteClass}
 use Rattle.msc_tokens.specs.declared.mode.Mode.{Mode}
 use Rattle.msc_tokens.specs.declared.mode.Mode.TheVariants as mode
-use Rattle.msc_tokens.specs.ByteTests.{is_word_byte, is_inside, has_letter, is_pair, class_of}
+use Rattle.msc_tokens.specs.ByteTests.{is_inside, has_letter, is_pair, class_of}
+use Rattle.msc_base.specs.Names.{is_word_byte}
 use Rattle.msc_tokens.specs.Places.{after_byte, past}
 use Rattle.msc_tokens.specs.Machine.{State, in_mode, grown, closed, refused, begun_as, begun, step, listed}
 use Rattle.msc_tokens.specs.Spelling.{IsInside, IsMark, IsPair, BeginsWith, IsApostrophe, IsSlash, Part, Plain, Doubled, held, AreParts, IsNoted}

@@ -1,17 +1,12 @@
 -- Tests of bytes, as the lexer makes them.
 use Rattle.std.specs.Prelude.{ℕ, Bool, ◌==◌, ◌||◌, ◌&&◌, nat_le, false, List, [], ◌∷◌, if◌then◌else◌}
 use Rattle.std.specs.List.{list_any}
+use Rattle.msc_base.specs.Names.{is_letter_or_digit, is_word_byte}
 use Rattle.msc_tokens.specs.declared.byte_class.ByteClass.{ByteClass}
 use Rattle.msc_tokens.specs.declared.byte_class.ByteClass.TheVariants as class
 
 abbrev pub is_blank : ℕ → Bool
 is_blank b = b == 9 || (b == 10 || (b == 13 || b == 32))
-
-abbrev pub is_letter_or_digit : ℕ → Bool
-is_letter_or_digit b = (nat_le 48 b && nat_le b 57) || ((nat_le 65 b && nat_le b 90) || (nat_le 97 b && nat_le b 122))
-
-abbrev pub is_word_byte : ℕ → Bool
-is_word_byte b = is_letter_or_digit b || (b == 95 || b == 46)
 
 abbrev pub is_inside : ℕ → Bool
 is_inside b = b == 9 || (b == 10 || (b == 13 || ((nat_le 32 b && nat_le b 126) || nat_le 128 b)))

@@ -12,7 +12,8 @@ use Rattle.msc_tokens.specs.declared.byte_class.ByteClass.{ByteClass}
 use Rattle.msc_tokens.specs.declared.byte_class.ByteClass.TheVariants as class
 use Rattle.msc_tokens.specs.declared.mode.Mode.{Mode}
 use Rattle.msc_tokens.specs.declared.mode.Mode.TheVariants as mode
-use Rattle.msc_tokens.specs.ByteTests.{is_word_byte, is_inside, has_letter, makes_pair, class_of}
+use Rattle.msc_tokens.specs.ByteTests.{is_inside, has_letter, makes_pair, class_of}
+use Rattle.msc_base.specs.Names.{is_word_byte}
 use Rattle.msc_tokens.specs.Places.{first_place, after_byte}
 
 -- where a text stands between two bytes: what is open, where it began, what is kept of it, the place, and the tokens so far

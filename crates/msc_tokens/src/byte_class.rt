@@ -1,5 +1,8 @@
 ghost use Rattle.std.specs.Prelude.{◌≡◌};
-ghost use Rattle.msc_tokens.specs.ByteTests.{is_blank, is_word_byte, is_inside, is_mark_byte, is_pair, has_letter, makes_pair, class_of};
+ghost use Rattle.msc_tokens.specs.ByteTests.{is_blank, is_inside, is_mark_byte, is_pair, has_letter, makes_pair, class_of};
+ghost use Rattle.msc_base.specs.Names.{is_word_byte};
+
+use msc_base::{is_letter_or_digit, is_word_byte};
 
 /// What a byte can begin where nothing is open.
 #[derive(Clone, Copy, Debug, PartialEq, Eq)]
@@ -22,13 +25,6 @@ fn is_blank(byte: u8) -> bool
     ensures { result ≡ is_blank byte }
 {
     byte == b'\t' || byte == b'\n' || byte == b'\r' || byte == b' '
-}
-
-/// Whether a word may have the byte.
-pub fn is_word_byte(byte: u8) -> bool
-    ensures { result ≡ is_word_byte byte }
-{
-    byte.is_ascii_alphanumeric() || byte == b'_' || byte == b'.'
 }
 
 /// Whether a string or a note may have the byte inside.
@@ -77,7 +73,7 @@ pub fn makes_pair(text: &[u8], byte: u8) -> bool
 pub fn has_letter(text: &[u8]) -> bool
     ensures { result ≡ has_letter text.now }
 {
-    text.iter().any(|byte| byte.is_ascii_alphanumeric())
+    text.iter().any(|byte| is_letter_or_digit(*byte))
 }
 
 /// What the byte can begin.

@@ -15,6 +15,3 @@ pub use lexer::{Lexer, lex_all};
 pub use place::place_behind;
 pub use token::{Token, TokenKind};
 pub use token_list::TokenList;
-
-#[cfg(test)]
-mod tests;

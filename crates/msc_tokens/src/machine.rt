@@ -1,10 +1,10 @@
 ghost use Rattle.std.specs.Prelude.{◌≤◌, ◌+◌};
 
-use crate::byte_class::{ByteClass, class_of, has_letter, is_inside, is_word_byte, makes_pair};
+use crate::byte_class::{ByteClass, class_of, has_letter, is_inside, makes_pair};
 use crate::mode::Mode;
 use crate::place::after;
 use crate::{LexFault, Token, TokenKind, TokenList};
-use msc_base::{Items, Limits, NoMemory, Place, Text};
+use msc_base::{Items, Limits, NoMemory, Place, Text, is_word_byte};
 use std::alloc::Global;
 use std::mem;
 

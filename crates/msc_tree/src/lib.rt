@@ -18,6 +18,3 @@ pub use graph::{NodeKind, RawGraph, RawLine};
 pub use labelling::{label_of, label_text};
 pub use reference::{InlineForm, Join, JoinEnd, JoinList};
 pub use statement::{RawForm, RawInline, RawItem, RawOperand, RawReference, Statement};
-
-#[cfg(test)]
-mod tests;

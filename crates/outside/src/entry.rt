@@ -1,3 +1,5 @@
+//! A name with its bytes, and the first of that name: what the shelf in memory holds.
+
 ghost use Rattle.std.specs.Prelude.{◌≡◌};
 ghost use Rattle.std.specs.Option.{option_copied};
 ghost use Rattle.outside.specs.Entries.{file_at};

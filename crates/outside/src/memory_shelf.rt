@@ -1,3 +1,5 @@
+//! A shelf whose entries and failing calls are told beforehand: for tests and rows, which need no file.
+
 ghost use Rattle.std.specs.Prelude.{◌≡◌, ◌≤◌, ◌+◌, ℕ, List, length, drop, min, max, Some};
 ghost use Rattle.outside.specs.Entries.{file_at, left_at};
 ghost use Rattle.outside.specs.Shelves.{Moves};

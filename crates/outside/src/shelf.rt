@@ -1,3 +1,5 @@
+//! What msc_cmd asks of the outside: entries that are read, and what takes bytes. Which calls fail it leaves open.
+
 ghost use Rattle.std.specs.Prelude.{◌≡◌, ◌<◌, ◌≤◌, List, ℕ, Bool, length, take, IsTrue, IfOk, OnOk, OnErr, Option, Some, is_ok, is_err};
 ghost use Rattle.std.specs.Io.KnownBytes.{Appends, Keeps};
 ghost use Rattle.outside.specs.Causes.{HasCause};

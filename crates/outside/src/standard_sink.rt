@@ -1,3 +1,5 @@
+//! Standard output as a sink. The program mscjudge alone uses it; it tells no bytes.
+
 ghost use Rattle.std.specs.Prelude.{◌≡◌, ◌≤◌, ◌<◌, ◌+◌, ◌-◌, ◌^◌, min, List, ℕ, length, None, Some, IfOk, IfSome, is_some, OnErr};
 
 use crate::{Failed, Sink};

@@ -1,24 +1,24 @@
 -- Children of a ready term are ready, and of a lower rank.
-use Rattle.std.specs.Prelude.{ℕ, zero, suc, ◌+◌, ◌<◌, ◌≤◌, ◌==◌, Bool, true, false, List, [], ◌∷◌, ◌≡◌, Option, Some, None, refl, length, slice_get}
+use Rattle.std.specs.Prelude.{ℕ, zero, suc, ◌+◌, ◌<◌, ◌≤◌, List, [], ◌∷◌, ◌≡◌, Option, Some, None, refl, length, slice_get}
 use Rattle.std.proofs.Common.{ap, sym, ◌∙◌, subst, arith}
 use Rattle.chart_term.specs.NormalForms.{only}
 use Rattle.chart_term.specs.Properties.{MayHave}
-use Rattle.chart_term.specs.Tables.{Tables, net_count, choose, count_from, nodes_of, node_of}
-use Rattle.chart_term.specs.Terms.{Block, Tree, Nil, Event, Join, Choice, Tied, Loop, Walk, Trees, none, more, Row, ends, gap, turn, items, parts}
+use Rattle.chart_term.specs.Tables.{Tables, nodes_of, node_of}
+use Rattle.chart_term.specs.Terms.{Tree, Nil, Event, Join, Choice, Tied, Loop, Walk, Trees, none, more, Row, ends, gap, turn, items, parts}
 use Rattle.permit_step.specs.Children.{child, row_child, new_turn}
-use Rattle.term_laws.specs.Permission.{permit, permit_nth, kept_of, permits_of}
+use Rattle.term_laws.specs.Permission.{permit, permits_of}
 use Rattle.permit_step.specs.Ready.{IsReady, AreReadyTables, IsRowWithin}
 use Rattle.term_laws.specs.Normality.{IsNormalRow}
 use Rattle.permit_step.specs.Searches.{child_count}
 use Rattle.term_laws.proofs.Measures.{rank_in, rank_all, rank-at}
-use Rattle.permit_step.proofs.NodeTerms.{node-is, sizes-are, count_length}
+use Rattle.permit_step.proofs.NodeTerms.{node-is, sizes-are}
 use Rattle.permit_step.proofs.Permits.{ready-at}
 use Rattle.permit_step.proofs.PutReady.{each_out}
 use Rattle.term_laws.proofs.Ranking.{ranks, row_rank, permit_rank}
 use Rattle.term_laws.proofs.TermSentences.{net_rank}
-use Rattle.permit_step.proofs.Within.{permit-ready}
+use Rattle.permit_step.proofs.Within.{kept_within, permit-ready}
 
--- a child that is ready, of a lower rank, at a place that the term has
+-- a child that is ready, of a lower rank, at an index that the term has
 pub record IsGoodChild (w : Tables) (x : Tree) (i : ℕ) (y : Tree) : Type 0 where
   pub within : i < child_count w x
   pub ready : IsReady w y
@@ -32,19 +32,6 @@ at_within (y ∷ ys) (suc i) x h = omega (arith, at_within ys i x h)
 items_rank : (w : Tables) (xs : Trees) → rank_all w (items xs) ≡ ranks (net_rank w) xs
 items_rank w none = refl
 items_rank w (more x xs) = ap (λ n. rank_in w x + n) (items_rank w xs)
-
-nth_within : (w : Tables) (b : Block) (xs : List Tree) (m : ℕ) (y : Tree) → permit_nth (permits_of w) b xs m ≡ Some y → m < length xs
-nth_within w b [] m y h = cc
-nth_within w b (x ∷ xs) zero y h = omega arith
-nth_within w b (x ∷ xs) (suc m) y h = omega (arith, nth_within w b xs m y h)
-
-kept_within : (w : Tables) (n m : ℕ) (c : List ℕ) (y : Tree) → kept_of w n m c ≡ Some y → m < length (nodes_of w n)
-kept_within [] n m c y h = cc
-kept_within (e ∷ es) n m c y h = go (n == net_count es) h (kept_within es n m c y)
-  where
-    go : (t : Bool) → choose t (permit_nth (permits_of es) (only c) e.nodes m) (kept_of es n m c) ≡ Some y → (kept_of es n m c ≡ Some y → m < length (nodes_of es n)) → m < length (choose t (count_from 0 e.nodes) (nodes_of es n))
-    go true p f = omega (arith, nth_within es (only c) e.nodes m y p, count_length 0 e.nodes)
-    go false p f = f p
 
 some_ready : (w : Tables) (o : Option Tree) (y : Tree) → o ≡ Some y → MayHave (IsReady w) o → IsReady w y
 some_ready w o y e h = subst (λ (p : Option Tree). MayHave (IsReady w) p) e h
@@ -88,10 +75,10 @@ module _ (w : Tables) (tables : AreReadyTables w) where
       record { within = at_within (items xs) i y e; ready = ready-at w (items xs) i y e (each_out w xs h.within h.normal.0); rank = omega (arith, rank-at w (items xs) i y e, items_rank w xs) }
   child-good (Tied x q) zero y h e =
       let p : x ≡ y = cc in
-      record { within = omega arith; ready = subst (λ (u : Tree). IsReady w u) p (record { within = h.within; normal = h.normal.0 }); rank = subst (λ (u : Tree). rank_in w u < rank_in w (Tied x q)) p (omega arith) }
+      record { within = omega arith; ready = subst (λ (u : Tree). IsReady w u) p (record { within = h.within.0; normal = h.normal.0 }); rank = subst (λ (u : Tree). rank_in w u < rank_in w (Tied x q)) p (omega arith) }
   child-good (Tied x q) (suc i) y h e = cc
   child-good (Loop x lo hi r) i y h e =
-      let g = turn_good w x hi r i y (record { within = h.within.0; normal = h.normal.0 }) h.within.1 h.normal.1 e in
+      let g = turn_good w x hi r i y (record { within = h.within.0; normal = h.normal.0 }) h.within.2 h.normal.1 e in
       record { within = g.within; ready = g.ready; rank = omega (arith, g.rank) }
   child-good (Walk n f t c) i y h e =
       let there : i < length (nodes_of w n) = kept_within w n i c y e in

@@ -48,12 +48,12 @@ three_some (Some a) y (Some b) z h = (a, b, refl, refl, cc)
 module _ (k : NetPermits) where
   -- an event is taken from a child
   pub record IsInChild (x : Tree) (e : TermEvent) (z : Tree) : Type 0 where
-    pub place : ℕ
+    pub index : ℕ
     pub inner : Tree
     pub left : Tree
-    pub there : child k x place ≡ Some inner
+    pub there : child k x index ≡ Some inner
     pub taken : IsAfter k inner e left
-    pub whole : put k e x place left ≡ Some z
+    pub whole : put k e x index left ≡ Some z
 
   -- parts of a join
   stays_some : (m : Mode) (e : TermEvent) (x x' : Tree) → Stays k m e x x' → stay k m e x ≡ Some x'
@@ -149,23 +149,23 @@ module _ (k : NetPermits) where
   -- an event is taken from a child, unless the term is the event
   pub in-child : {x z : Tree} {e : TermEvent} → IsAfter k x e z → ((x ≡ Event e) × (z ≡ Nil)) ⊎ IsInChild x e z
   in-child after_event = inl (refl, refl)
-  in-child (after_choice {y = y} a) = let (i, x, g, t) = one_to a in inr (record { place = i; inner = x; left = y; there = g; taken = t; whole = refl })
-  in-child (after_join {m = m} a) = let (i, x, y, g, t, l) = join_to a in inr (record { place = i; inner = x; left = y; there = g; taken = t; whole = ap (option_map (join_all m)) l })
-  in-child (after_tied {x = x} {y = y} {q = q} a p) = inr (record { place = 0; inner = x; left = y; there = refl; taken = a; whole = ap (option_map (λ z. tie_of z q)) p })
+  in-child (after_choice {y = y} a) = let (i, x, g, t) = one_to a in inr (record { index = i; inner = x; left = y; there = g; taken = t; whole = refl })
+  in-child (after_join {m = m} a) = let (i, x, y, g, t, l) = join_to a in inr (record { index = i; inner = x; left = y; there = g; taken = t; whole = ap (option_map (join_all m)) l })
+  in-child (after_tied {x = x} {y = y} {q = q} a p) = inr (record { index = 0; inner = x; left = y; there = refl; taken = a; whole = ap (option_map (λ z. tie_of z q)) p })
   in-child (after_loop {x = x} {lo = lo} {hi = hi} {r = r} {e = e} b {ps = ps} a h p) =
       let (i, u, y, g, t, l) = row_to hi h a in
-      inr (record { place = i; inner = u; left = y; there = g; taken = t; whole = ap (loop_left k x lo hi) l ∙ ((λ j. where_so (more_may b hi h j) (loop_of (λ c. permit k (only c) x) (touch k.spread x) x (down b lo) (fewer b hi) ps)) ∙ p) })
+      inr (record { index = i; inner = u; left = y; there = g; taken = t; whole = ap (loop_left k x lo hi) l ∙ ((λ j. where_so (more_may b hi h j) (loop_of (λ c. permit k (only c) x) (touch k.spread x) x (down b lo) (fewer b hi) ps)) ∙ p) })
   in-child (after_walk {n = n} {s = f} {t = t} {c = c} {e = e} m {x = x} {y = y} {u = u} {v = v} p a l1 l2 q r) =
-      inr (record { place = m; inner = x; left = y; there = p; taken = a; whole = λ j. where_so (leads_may n f (To m) (c ∪ (instances_of e).instances) l1 j) (where_so (leads_may n (At m) t c l2 j) (three (q j) y (r j))) })
+      inr (record { index = m; inner = x; left = y; there = p; taken = a; whole = λ j. where_so (leads_may n f (To m) (c ∪ (instances_of e).instances) l1 j) (where_so (leads_may n (At m) t c l2 j) (three (q j) y (r j))) })
 
   pub from-child : (x z : Tree) (e : TermEvent) → IsInChild x e z → IsAfter k x e z
   from-child Nil z e h = let g = h.there in cc
   from-child (Event f) z e h = let g = h.there in cc
   from-child (Join m xs) z e h =
-      let (ys, l, q) = map_some (join_all m) (parts_left k m e (items xs) h.place h.left) z h.whole in
-      subst (λ (v : Tree). IsAfter k (Join m xs) e v) q (after_join (join_from m xs e h.place h.inner h.left ys h.there h.taken l))
-  from-child (Choice xs) z e h = let q : h.left ≡ z = cc in subst (λ (v : Tree). IsAfter k (Choice xs) e v) q (after_choice (one_from xs e h.place h.inner h.left h.there h.taken))
-  from-child (Tied x q) z e h = bound_from h.place h.there h.whole
+      let (ys, l, q) = map_some (join_all m) (parts_left k m e (items xs) h.index h.left) z h.whole in
+      subst (λ (v : Tree). IsAfter k (Join m xs) e v) q (after_join (join_from m xs e h.index h.inner h.left ys h.there h.taken l))
+  from-child (Choice xs) z e h = let q : h.left ≡ z = cc in subst (λ (v : Tree). IsAfter k (Choice xs) e v) q (after_choice (one_from xs e h.index h.inner h.left h.there h.taken))
+  from-child (Tied x q) z e h = bound_from h.index h.there h.whole
     where
       bound_from : (i : ℕ) → first_alone x i ≡ Some h.inner → option_map (λ u. tie_of u q) (permit k (earlier q e) h.left) ≡ Some z → IsAfter k (Tied x q) e z
       bound_from zero g w =
@@ -173,16 +173,16 @@ module _ (k : NetPermits) where
           let (u, r, s) = tie_some (λ u. tie_of u q) (permit k (earlier q e) h.left) z w in
           subst (λ (v : Tree). IsAfter k (Tied x q) e v) s (after_tied (subst (λ (v : Tree). IsAfter k v e h.left) (sym p) h.taken) r)
       bound_from (suc i) g w = cc
-  from-child (Loop x lo hi r) z e h = turns_from (row_left k e (parts r) h.place h.left) refl h.whole
+  from-child (Loop x lo hi r) z e h = turns_from (row_left k e (parts r) h.index h.left) refl h.whole
     where
-      turns_from : (o : Option RowLeft) → row_left k e (parts r) h.place h.left ≡ o → loop_left k x lo hi o ≡ Some z → IsAfter k (Loop x lo hi r) e z
+      turns_from : (o : Option RowLeft) → row_left k e (parts r) h.index h.left ≡ o → loop_left k x lo hi o ≡ Some z → IsAfter k (Loop x lo hi r) e z
       turns_from None q w = cc
       turns_from (Some s) q w =
           let (b, p) = so_some (may_begin s.begins hi) (loop_of (λ c. permit k (only c) x) (touch k.spread x) x (down s.begins lo) (fewer s.begins hi) s.row_parts) z w in
-          after_loop s.begins (row_from x hi (parts r) e h.place h.inner h.left s h.there h.taken q) (may_more s.begins hi b) p
+          after_loop s.begins (row_from x hi (parts r) e h.index h.inner h.left s h.there h.taken q) (may_more s.begins hi b) p
   from-child (Walk n f t c) z e h =
       let d = c ∪ (instances_of e).instances in
-      let (a, w) = so_some (may_lead k n f (To h.place) d) (where_so (may_lead k n (At h.place) t c) (three (walk_of k n f (To h.place) d) h.left (walk_of k n (At h.place) t c))) z h.whole in
-      let (b, s) = so_some (may_lead k n (At h.place) t c) (three (walk_of k n f (To h.place) d) h.left (walk_of k n (At h.place) t c)) z w in
-      let (u, v, p, q, r) = three_some (walk_of k n f (To h.place) d) h.left (walk_of k n (At h.place) t c) z s in
-      subst (λ (y : Tree). IsAfter k (Walk n f t c) e y) r (after_walk h.place h.there h.taken (may_leads n f (To h.place) d a) (may_leads n (At h.place) t c b) p q)
+      let (a, w) = so_some (may_lead k n f (To h.index) d) (where_so (may_lead k n (At h.index) t c) (three (walk_of k n f (To h.index) d) h.left (walk_of k n (At h.index) t c))) z h.whole in
+      let (b, s) = so_some (may_lead k n (At h.index) t c) (three (walk_of k n f (To h.index) d) h.left (walk_of k n (At h.index) t c)) z w in
+      let (u, v, p, q, r) = three_some (walk_of k n f (To h.index) d) h.left (walk_of k n (At h.index) t c) z s in
+      subst (λ (y : Tree). IsAfter k (Walk n f t c) e y) r (after_walk h.index h.there h.taken (may_leads n f (To h.index) d a) (may_leads n (At h.index) t c b) p q)

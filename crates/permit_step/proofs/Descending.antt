@@ -75,22 +75,22 @@ module _ (k : NetPermits) where
 
 module _ (w : Tables) (tables : AreReadyTables w) where
   -- a walk's node that there is
-  pub record IsChildNode (x : Tree) (n place : ℕ) (c : List ℕ) : Type 0 where
+  pub record IsChildNode (x : Tree) (n index : ℕ) (c : List ℕ) : Type 0 where
     pub net : n < net_count w
-    pub within : place < size_of (net_of w n)
-    pub node : place < length (nodes_of w n)
-    pub ready : IsReady w (node_of w n place)
+    pub within : index < size_of (net_of w n)
+    pub node : index < length (nodes_of w n)
+    pub ready : IsReady w (node_of w n index)
     pub set : IsSet c
-    pub child : child (permits_of w) x place ≡ permit (permits_of w) (only c) (node_of w n place)
+    pub child : child (permits_of w) x index ≡ permit (permits_of w) (only c) (node_of w n index)
 
-  pub child-node : (x : Tree) (n : ℕ) (f : SpotShown) (t : GoalShown) (c : List ℕ) (place : ℕ) → x ≡ Walk n (spot_of f) (goal_of t) c → IsReady w x → place < child_count w x → IsChildNode x n place c
-  child-node x n f t c place e h l =
+  pub child-node : (x : Tree) (n : ℕ) (f : SpotShown) (t : GoalShown) (c : List ℕ) (index : ℕ) → x ≡ Walk n (spot_of f) (goal_of t) c → IsReady w x → index < child_count w x → IsChildNode x n index c
+  child-node x n f t c index e h l =
       let r = ready-walk w x n f t c tables e h in
       let size = sizes-are w tables n r.net in
-      let within : place < size_of (net_of w n) = omega (arith, count-walk w x n (spot_of f) (goal_of t) c e) in
-      let node : place < length (nodes_of w n) = omega arith in
-      let i = node-is w tables n place r.net node in
-      record { net = r.net; within = within; node = node; ready = i.ready; set = r.set; child = ap (λ u. child (permits_of w) u place) e ∙ i.kept c }
+      let within : index < size_of (net_of w n) = omega (arith, count-walk w x n (spot_of f) (goal_of t) c e) in
+      let node : index < length (nodes_of w n) = omega arith in
+      let i = node-is w tables n index r.net node in
+      record { net = r.net; within = within; node = node; ready = i.ready; set = r.set; child = ap (λ u. child (permits_of w) u index) e ∙ i.kept c }
 
   pub ready-turn : (x y : Tree) (lo : ℕ) (hi : Option ℕ) (ps : List Part) (i : ℕ) (t : Part) → x ≡ Loop y lo hi (row_of ps) → IsReady w x → slice_get ps i ≡ Some t → IsReadyPart w t
   ready-turn x y lo hi ps i t e h s = ready-part w ps i t s (ready-loop w x y lo hi ps e h).parts

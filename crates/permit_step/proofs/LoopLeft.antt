@@ -44,7 +44,7 @@ wide-alike all c d a b s h e f = set_ext (c ∪ d) (cut all (c ∪ b)) (union_se
     spread true false false = refl
     spread false y z = refl
 
--- how many parts stand before what is left of the place, and from which place on the parts stay
+-- how many parts stand before what is left of the index, and from which index on the parts stay
 abbrev pub kept_count : List Part → ℕ → ℕ
 kept_count [] i = 0
 kept_count (Turn x ∷ ps) zero = 0

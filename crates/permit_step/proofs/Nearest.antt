@@ -18,7 +18,7 @@ first-more k b xs ks n i j x y g e l p h =
 
 -- a begun turn of which nothing is left
 pub held_at : (k : NetPermits) (b : Block) (ps : List Part) (n i : ℕ) (t : Part) → i < n → slice_get ps i ≡ Some t → IsHeld k b t → HasHeld k b (take n ps)
-held_at k b ps n i t l g h = record { place = i; part = t; there = get_take ps n i t l g; held = h }
+held_at k b ps n i t l g h = record { index = i; part = t; there = get_take ps n i t l g; held = h }
 
 module _ (k : NetPermits) (b : Block) (p : List ℕ → Option Tree) (hi : Option ℕ) (d : List ℕ) (r : RowRest) where
   held_first : (t : Part) → IsHeld k b t → (o : Option RowRest) → keep_first p (permit k b) hi d t o ≡ None
@@ -32,6 +32,6 @@ module _ (k : NetPermits) (b : Block) (p : List ℕ → Option Tree) (hi : Optio
   held_place (u ∷ us) (suc i) t g h = ap (keep_first p (permit k b) hi d u) (held_place us i t g h)
 
   pub held-none : (ps : List Part) → HasHeld k b ps → keep_parts p (permit k b) hi d ps r ≡ None
-  held-none ps h = held_place ps h.place h.part h.there h.held
+  held-none ps h = held_place ps h.index h.part h.there h.held
 
 pub ruleset nearest = (held_at, ready-part)

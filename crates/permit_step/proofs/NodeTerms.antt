@@ -4,36 +4,21 @@ use Rattle.std.proofs.Common.{ap, sym, ◌∙◌, subst, arith}
 use Rattle.hmsc_graph.specs.Graphs.{Spot, Goal}
 use Rattle.hmsc_graph.specs.Nets.{size_of}
 use Rattle.chart_term.specs.NormalForms.{only}
-use Rattle.chart_term.specs.Properties.{Each, IsBelow, EveryOf, EveryRow}
+use Rattle.chart_term.specs.Properties.{Each, IsBelow}
 use Rattle.chart_term.specs.Tables.{Tables, NetEntry, net_count, choose, count_from, nth_tree, node_of, net_of, nodes_of}
-use Rattle.chart_term.specs.Terms.{Block, Tree, Nil, Event, Join, Choice, Tied, Loop, Walk, Trees, none, more, Row, ends, gap, turn}
+use Rattle.chart_term.specs.Terms.{Block, Tree}
 use Rattle.term_laws.specs.Permission.{permit, permit_nth, permits_of}
-use Rattle.permit_step.specs.Ready.{IsSpotWithin, IsGoalWithin, IsWithin, AreWithin, IsRowWithin, IsReady, AreReadyTables}
+use Rattle.permit_step.specs.Ready.{IsSpotWithin, IsGoalWithin, IsWalkWithin, IsWithin, IsReady, AreReadyTables}
+use Rattle.term_laws.proofs.EveryPart.{part_below, part_map}
 use Rattle.term_laws.proofs.Agreeing.{same_permit}
 use Rattle.term_laws.proofs.Measures.{rank_in}
 use Rattle.term_laws.proofs.NormalTables.{up_normal}
 use Rattle.term_laws.proofs.TermSentences.{net_rank, sum_rank, same_rank, new_rank}
 use Rattle.term_laws.proofs.TidyTables.{not_same, less_or_same}
 
--- a term that fits names only nets that are there
-mutual
-  pub below : (w : Tables) (x : Tree) → IsWithin w x → IsBelow (net_count w) x
-  below w Nil h = tt
-  below w (Event e) h = tt
-  below w (Join m xs) h = below_all w xs h
-  below w (Choice xs) h = below_all w xs h
-  below w (Tied x q) h = below w x h
-  below w (Loop x lo hi r) h = (below w x h.0, below_row w r h.1)
-  below w (Walk n f t c) h = h.0
-
-  below_all : (w : Tables) (xs : Trees) → AreWithin w xs → EveryOf (λ e. Unit {0}) (λ m. m < net_count w) xs
-  below_all w none h = tt
-  below_all w (more x xs) h = (below w x h.0, below_all w xs h.1)
-
-  below_row : (w : Tables) (r : Row) → IsRowWithin w r → EveryRow (λ e. Unit {0}) (λ m. m < net_count w) r
-  below_row w ends h = tt
-  below_row w (gap c r) h = below_row w r h
-  below_row w (turn x r) h = (below w x h.0, below_row w r h.1)
+-- a term within the tables names only their nets
+pub below : (w : Tables) (x : Tree) → IsWithin w x → IsBelow (net_count w) x
+below w x h = part_below (λ e. Unit {0}) (λ y q. Unit {0}) (λ y. Unit {0}) (IsWalkWithin w) (net_count w) (λ n f t i. i.0) x h
 
 -- what holds over the older nets holds with one more
 module _ (e : NetEntry) (es : Tables) where
@@ -46,24 +31,10 @@ module _ (e : NetEntry) (es : Tables) where
   up_goal : (n : ℕ) (t : Goal) → n < net_count es → IsGoalWithin (length (nodes_of es n)) t → IsGoalWithin (length (nodes_of (e ∷ es) n)) t
   up_goal n t l h = let p = old_nodes n l in rw (← p) h
 
-  mutual
-    up_within : (x : Tree) → IsWithin es x → IsWithin (e ∷ es) x
-    up_within Nil h = tt
-    up_within (Event g) h = tt
-    up_within (Join m xs) h = up_all xs h
-    up_within (Choice xs) h = up_all xs h
-    up_within (Tied x q) h = up_within x h
-    up_within (Loop x lo hi r) h = (up_within x h.0, up_row r h.1)
-    up_within (Walk n f t c) h = (omega (arith, h.0), up_spot n f h.0 h.1, up_goal n t h.0 h.2)
-
-    up_all : (xs : Trees) → AreWithin es xs → AreWithin (e ∷ es) xs
-    up_all none h = tt
-    up_all (more x xs) h = (up_within x h.0, up_all xs h.1)
-
-    up_row : (r : Row) → IsRowWithin es r → IsRowWithin (e ∷ es) r
-    up_row ends h = tt
-    up_row (gap c r) h = up_row r h
-    up_row (turn x r) h = (up_within x h.0, up_row r h.1)
+  up_within : (x : Tree) → IsWithin es x → IsWithin (e ∷ es) x
+  up_within x h =
+      part_map (λ e. Unit {0}) (λ e. Unit {0}) (λ y q. Unit {0}) (λ y q. Unit {0}) (λ y. Unit {0}) (λ y. Unit {0}) (IsWalkWithin es) (IsWalkWithin (e ∷ es)) (net_count es)
+      (λ e i. tt) (λ x q b i. tt) (λ x b i. tt) (λ n f t l i. (omega (arith, l), up_spot n f l i.1, up_goal n t l i.2)) x (below es x h) h
 
   pub up_ready : (x : Tree) → IsReady es x → IsReady (e ∷ es) x
   up_ready x h = record { within = up_within x h.within; normal = up_normal e es x (below es x h.within) h.normal }

@@ -150,7 +150,7 @@ row_ready w (Turn y ∷ ps) h n s = (record { within = h.0; normal = n.0 }, row_
 turns_ready : (w : Tables) (x : Tree) (lo : ℕ) (hi : Option ℕ) (ps : List Part) → IsReady w (Loop x lo hi (row_of ps)) → IsReadyLoop w x hi ps
 turns_ready w x lo hi ps h =
     let n : IsNormalLoop (permits_of w) x hi ps = rw (parts-row_of ps) at h.normal.2 in
-    record { body = record { within = h.within.0; normal = h.normal.0 }; parts = row_ready w ps h.within.1 h.normal.1 n.sets; normal = n }
+    record { body = record { within = h.within.0; normal = h.normal.0 }; parts = row_ready w ps h.within.2 h.normal.1 n.sets; normal = n }
 
 pub ready-loop : (w : Tables) (x y : Tree) (lo : ℕ) (hi : Option ℕ) (ps : List Part) → x ≡ Loop y lo hi (row_of ps) → IsReady w x → IsReadyLoop w y hi ps
 ready-loop w x y lo hi ps e h = turns_ready w y lo hi ps (rw e at h)

@@ -66,7 +66,7 @@ module _ (w : Tables) where
   choice_ready xs h = each_ready xs h.within h.normal.0
 
   bound_ready : (y : Tree) (q : List (ℕ × ℕ)) → IsReady w (Tied y q) → IsReady w y
-  bound_ready y q h = record { within = h.within; normal = h.normal.0 }
+  bound_ready y q h = record { within = h.within.0; normal = h.normal.0 }
 
   pub ready-seq : (x : Tree) (xs : List Tree) → x ≡ Join seq (trees xs) → IsReady w x → Each (IsReady w) xs
   ready-seq x xs e h = join_ready seq xs (rw e at h)

@@ -4,7 +4,7 @@ use Rattle.std.specs.Prelude.{ℕ, zero, suc, ◌<◌, Bool, true, false, List, 
 use Rattle.std.proofs.Common.{arith}
 use Rattle.msc_base.specs.Patterns.{Mode, seq, par}
 use Rattle.hmsc_graph.specs.Graphs.{Spot, At, Goal, To}
-use Rattle.chart_term.specs.NormalForms.{NetPermits, only, cut, join_all, and_then, tie_of, loop_of, walk_of}
+use Rattle.chart_term.specs.NormalForms.{NetPermits, only, join_all, and_then, tie_of, loop_of, walk_of}
 use Rattle.chart_term.specs.Properties.{Each, EachTurn, EachGap, MayHave}
 use Rattle.chart_term.specs.Spreads.{touch}
 use Rattle.chart_term.specs.Tables.{Tables, nodes_of}
@@ -20,7 +20,7 @@ use Rattle.term_laws.specs.Taking.{fewer, down}
 use Rattle.term_laws.proofs.Normalising.{union_set, turns_normal, trail_normal}
 use Rattle.permit_step.proofs.NodeTerms.{sizes-are}
 use Rattle.permit_step.proofs.ReadyTerms.{ready_is_kept}
-use Rattle.permit_step.proofs.Within.{may_both, permit-ready, turns_within, trail_in}
+use Rattle.permit_step.proofs.Within.{may_both, permit-ready, turns_within, walk_in}
 
 pub each_out : (w : Tables) (xs : Trees) → AreWithin w xs → AreNormal (permits_of w) xs → Each (IsReady w) (items xs)
 each_out w none h n = tt
@@ -100,7 +100,7 @@ module _ (w : Tables) (tables : AreReadyTables w) (e : TermEvent) where
 
   turns_are : (x : Tree) (lo : ℕ) (hi : Option ℕ) (ps : List Part) → IsReady w x → EachTurn (IsReady w) ps → EachGap IsSet ps → MayHave (IsReady w) (loop_of (λ c. permit k (only c) x) (touch k.spread x) x lo hi ps)
   turns_are x lo hi ps h g s =
-      may_both w (loop_of (λ c. permit k (only c) x) (touch k.spread x) x lo hi ps) (turns_within w (λ c. permit k (only c) x) (touch k.spread x) x lo hi ps h.within (turns_in_net w ps g)) (turns_normal k x lo hi ps h.normal (turns_in_form w ps g) s)
+      may_both w (loop_of (λ c. permit k (only c) x) (touch k.spread x) x lo hi ps) (turns_within w x lo hi ps h.within (turns_in_net w ps g)) (turns_normal k x lo hi ps h.normal (turns_in_form w ps g) s)
 
   loop_ready : (x : Tree) (lo : ℕ) (hi : Option ℕ) (o : Option RowLeft) → IsReady w x → MayRow o → MayHave (IsReady w) (loop_left k x lo hi o)
   loop_ready x lo hi None h g = tt
@@ -108,7 +108,7 @@ module _ (w : Tables) (tables : AreReadyTables w) (e : TermEvent) where
       so_ready (may_begin r.begins hi) (loop_of (λ c. permit k (only c) x) (touch k.spread x) x (down r.begins lo) (fewer r.begins hi) r.row_parts) (turns_are x (down r.begins lo) (fewer r.begins hi) r.row_parts h g.0 g.1)
 
   trail_ready : (n : ℕ) (f : Spot) (t : Goal) (c d : List ℕ) → IsWithin w (Walk n f t c) → IsSet d → MayHave (IsReady w) (walk_of k n f t d)
-  trail_ready n f t c d h s = may_both w (walk_of k n f t d) (trail_in w n f t c (cut (k.spread n) d) h) (trail_normal k n f t d s)
+  trail_ready n f t c d h s = may_both w (walk_of k n f t d) (walk_in w n f t d h) (trail_normal k n f t d s)
 
   three_ready : (u v : Option Tree) (y : Tree) → MayHave (IsReady w) u → IsReady w y → MayHave (IsReady w) v → MayHave (IsReady w) (three u y v)
   three_ready None v y h r g = tt
@@ -122,7 +122,7 @@ module _ (w : Tables) (tables : AreReadyTables w) (e : TermEvent) where
   put-ready (Choice xs) i y h l r = r
   put-ready (Tied x q) i y h l r = tie_ready q (permit k (earlier q e) y) (may_ready (earlier q e) y r)
   put-ready (Loop x lo hi r) i y h l s =
-      loop_ready x lo hi (row_left k e (parts r) i y) (record { within = h.within.0; normal = h.normal.0 }) (row_ready (parts r) i y (turns_out w r h.within.1 h.normal.1) h.normal.2.sets s)
+      loop_ready x lo hi (row_left k e (parts r) i y) (record { within = h.within.0; normal = h.normal.0 }) (row_ready (parts r) i y (turns_out w r h.within.2 h.normal.1) h.normal.2.sets s)
   put-ready (Walk n f t c) i y h l r =
       let size = sizes-are w tables n h.within.0 in
       let there : i < length (nodes_of w n) = omega arith in

@@ -27,32 +27,32 @@ module _ (k : NetPermits) (e : TermEvent) where
   on_more g fs None = refl
   on_more g fs (Some y) = refl
 
-  pub put-snoc : (fs : List Frame) (f : Frame) (y : Tree) → put_all k e (fs ++ f ∷ []) y ≡ put_on k e fs (put k e f.parent f.place y)
-  put-snoc [] f y = on_none (put k e f.parent f.place y)
-  put-snoc (g ∷ fs) f y = ap (put_some k e g) (put-snoc fs f y) ∙ on_more g fs (put k e f.parent f.place y)
+  pub put-snoc : (fs : List Frame) (f : Frame) (y : Tree) → put_all k e (fs ++ f ∷ []) y ≡ put_on k e fs (put k e f.parent f.index y)
+  put-snoc [] f y = on_none (put k e f.parent f.index y)
+  put-snoc (g ∷ fs) f y = ap (put_some k e g) (put-snoc fs f y) ∙ on_more g fs (put k e f.parent f.index y)
 
-  pub rebuilt-more : (path : List Frame) (i j : ℕ) (f : Frame) (left z : Tree) (whole : Option Tree) → slice_get path i ≡ Some f → i + 1 ≡ j → whole ≡ put_all k e (take j path) left → Some z ≡ put k e f.parent f.place left → whole ≡ put_all k e (take i path) z
+  pub rebuilt-more : (path : List Frame) (i j : ℕ) (f : Frame) (left z : Tree) (whole : Option Tree) → slice_get path i ≡ Some f → i + 1 ≡ j → whole ≡ put_all k e (take j path) left → Some z ≡ put k e f.parent f.index left → whole ≡ put_all k e (take i path) z
   rebuilt-more path i j f left z whole g n h p =
       let here : take j path ≡ take i path ++ f ∷ [] = ap (λ m. take m path) (sym n) ∙ take_step path i f g in
       h ∙ (ap (λ l. put_all k e l left) here ∙ (put-snoc (take i path) f left ∙ ap (put_on k e (take i path)) (sym p)))
 
-  pub rebuilt-none : (path : List Frame) (i j : ℕ) (f : Frame) (left : Tree) (whole : Option Tree) → slice_get path i ≡ Some f → i + 1 ≡ j → whole ≡ put_all k e (take j path) left → None ≡ put k e f.parent f.place left → None ≡ whole
+  pub rebuilt-none : (path : List Frame) (i j : ℕ) (f : Frame) (left : Tree) (whole : Option Tree) → slice_get path i ≡ Some f → i + 1 ≡ j → whole ≡ put_all k e (take j path) left → None ≡ put k e f.parent f.index left → None ≡ whole
   rebuilt-none path i j f left whole g n h p =
       let here : take j path ≡ take i path ++ f ∷ [] = ap (λ m. take m path) (sym n) ∙ take_step path i f g in
       sym (h ∙ (ap (λ l. put_all k e l left) here ∙ (put-snoc (take i path) f left ∙ ap (put_on k e (take i path)) (sym p))))
 
--- a frame by its place
+-- a frame by its index
 pub frame-at : (fs : List Frame) (i : ℕ) (f : Frame) → i < length fs → f ≡ get_or fs i f → slice_get fs i ≡ Some f
 frame-at [] i f l h = absurd (omega arith)
 frame-at (g ∷ fs) zero f l h = ap Some (sym h)
 frame-at (g ∷ fs) (suc i) f l h = frame-at fs i f (omega arith) h
 
-pub frame-ready : (w : Tables) (fs : List Frame) (i : ℕ) (f : Frame) → AreReadyFrames w fs → slice_get fs i ≡ Some f → IsReady w f.parent × (f.place < child_count w f.parent)
+pub frame-ready : (w : Tables) (fs : List Frame) (i : ℕ) (f : Frame) → AreReadyFrames w fs → slice_get fs i ≡ Some f → IsReady w f.parent × (f.index < child_count w f.parent)
 frame-ready w [] i f h g = cc
-frame-ready w (u ∷ us) zero f h g = let p : u ≡ f = cc in subst (λ (v : Frame). IsReady w v.parent × (v.place < child_count w v.parent)) p (h.0, h.1)
+frame-ready w (u ∷ us) zero f h g = let p : u ≡ f = cc in subst (λ (v : Frame). IsReady w v.parent × (v.index < child_count w v.parent)) p (h.0, h.1)
 frame-ready w (u ∷ us) (suc i) f h g = frame-ready w us i f h.2 g
 
-pub frames-more : (w : Tables) (fs : List Frame) (x : Tree) (p : ℕ) → AreReadyFrames w fs → IsReady w x → p < child_count w x → AreReadyFrames w (fs ++ record { parent = x; place = p } ∷ [])
+pub frames-more : (w : Tables) (fs : List Frame) (x : Tree) (p : ℕ) → AreReadyFrames w fs → IsReady w x → p < child_count w x → AreReadyFrames w (fs ++ record { parent = x; index = p } ∷ [])
 frames-more w [] x p h r l = (r, l, tt)
 frames-more w (u ∷ us) x p h r l = (h.0, h.1, frames-more w us x p h.2 r l)
 
@@ -64,11 +64,11 @@ no_event : (x : Tree) (e : TermEvent) → IsNoEvent x → x ≡ Event e → ⊥
 no_event x e h p = subst (λ (y : Tree). IsNoEvent y) p h
 
 pub result-child : (w : Tables) (a : ℕ) (fs : List Frame) (x z : Tree) → IsNoEvent x → IsResult w a fs x z
-    → (p : ℕ) × (y : Tree) × (child (permits_of w) x p ≡ Some y) × IsResult w a (fs ++ record { parent = x; place = p } ∷ []) y z
+    → (p : ℕ) × (y : Tree) × (child (permits_of w) x p ≡ Some y) × IsResult w a (fs ++ record { parent = x; index = p } ∷ []) y z
 result-child w a fs x z n r = elim (in-child (permits_of w) r.taken) [
   | inl h ↦ absurd (no_event x r.event n h.0)
   | inr h ↦ (
-    h.place,
+    h.index,
     h.inner,
     h.there,
     record {
@@ -76,7 +76,7 @@ result-child w a fs x z n r = elim (in-child (permits_of w) r.taken) [
       labelled = r.labelled;
       left = h.left;
       taken = h.taken;
-      whole = put-snoc (permits_of w) r.event fs (record { parent = x; place = h.place }) h.left ∙ (ap (put_on (permits_of w) r.event fs) h.whole ∙ r.whole);
+      whole = put-snoc (permits_of w) r.event fs (record { parent = x; index = h.index }) h.left ∙ (ap (put_on (permits_of w) r.event fs) h.whole ∙ r.whole);
     },
   )
 ]
@@ -85,14 +85,14 @@ on_some : (k : NetPermits) (e : TermEvent) (fs : List Frame) (o : Option Tree) (
 on_some k e fs None z h = cc
 on_some k e fs (Some y) z h = (y, refl, h)
 
-pub result-up : (w : Tables) (a : ℕ) (fs : List Frame) (x : Tree) (p : ℕ) (y z : Tree) → child (permits_of w) x p ≡ Some y → IsResult w a (fs ++ record { parent = x; place = p } ∷ []) y z → IsResult w a fs x z
+pub result-up : (w : Tables) (a : ℕ) (fs : List Frame) (x : Tree) (p : ℕ) (y z : Tree) → child (permits_of w) x p ≡ Some y → IsResult w a (fs ++ record { parent = x; index = p } ∷ []) y z → IsResult w a fs x z
 result-up w a fs x p y z c r =
-    let (u, h, g) = on_some (permits_of w) r.event fs (put (permits_of w) r.event x p r.left) z (sym (put-snoc (permits_of w) r.event fs (record { parent = x; place = p }) r.left) ∙ r.whole) in
+    let (u, h, g) = on_some (permits_of w) r.event fs (put (permits_of w) r.event x p r.left) z (sym (put-snoc (permits_of w) r.event fs (record { parent = x; index = p }) r.left) ∙ r.whole) in
     record {
       event = r.event;
       labelled = r.labelled;
       left = u;
-      taken = from-child (permits_of w) x u r.event (record { place = p; inner = y; left = r.left; there = c; taken = r.taken; whole = h });
+      taken = from-child (permits_of w) x u r.event (record { index = p; inner = y; left = r.left; there = c; taken = r.taken; whole = h });
       whole = g;
     }
 

@@ -104,7 +104,7 @@ module _ (w : Tables) (a : ℕ) (fs : List Frame) (e : TermEvent) (old : Found) 
 -- the children, one after another
 module _ (w : Tables) (tables : AreReadyTables w) (a : ℕ) (fs : List Frame) (x : Tree) where
   abbrev here : ℕ → List Frame
-  here p = fs ++ record { parent = x; place = p } ∷ []
+  here p = fs ++ record { parent = x; index = p } ∷ []
 
   from_child : (p : ℕ) (y : Tree) → child (permits_of w) x p ≡ Some y → (z : Tree) → IsFinding w a (here p) y z → IsFinding w a fs x z
   from_child p y c z f = record { result = result-up w a fs x p y z c f.result; ready = f.ready }
@@ -112,30 +112,30 @@ module _ (w : Tables) (tables : AreReadyTables w) (a : ℕ) (fs : List Frame) (x
   pub below-start : (old : Found) → IsTally old → set_weight old.terms ≤ old.most → GathersBelow w a fs x 0 old old
   below-start old h l = record { gains = gains_none (IsFinding w a fs x) old h; within = l; whole = λ p q. absurd (omega arith) }
 
-  cut_place : (p place : ℕ) → p < place + 1 → (p < place) ⊎ (p ≡ place)
-  cut_place p place l = grind arith
+  cut_place : (p index : ℕ) → p < index + 1 → (p < index) ⊎ (p ≡ index)
+  cut_place p index l = grind arith
 
-  pub below-more : (place next : ℕ) (y : Tree) (old mid new : Found) (all : Bool) → child (permits_of w) x place ≡ Some y → next ≡ place + 1 → GathersBelow w a fs x place old mid → Gathers w a (here place) y mid new all → all ≡ true → GathersBelow w a fs x next old new
-  below-more place next y old mid new all c n g h t = record {
-    gains = gains_both (IsFinding w a fs x) (IsFinding w a (here place) y) (from_child place y c) old mid new g.gains h.gains;
+  pub below-more : (index next : ℕ) (y : Tree) (old mid new : Found) (all : Bool) → child (permits_of w) x index ≡ Some y → next ≡ index + 1 → GathersBelow w a fs x index old mid → Gathers w a (here index) y mid new all → all ≡ true → GathersBelow w a fs x next old new
+  below-more index next y old mid new all c n g h t = record {
+    gains = gains_both (IsFinding w a fs x) (IsFinding w a (here index) y) (from_child index y c) old mid new g.gains h.gains;
     within = h.bounded.within t;
-    whole = λ p l u e z r. elim (cut_place p place (omega arith)) [
-      | inl b ↦ gains_stay (IsFinding w a (here place) y) mid new h.gains z (g.whole p b u e z r)
+    whole = λ p l u e z r. elim (cut_place p index (omega arith)) [
+      | inl b ↦ gains_stay (IsFinding w a (here index) y) mid new h.gains z (g.whole p b u e z r)
       | inr q ↦ h.whole t z (moved p q u e z r)
     ];
   }
     where
-      moved : (p : ℕ) → p ≡ place → (u : Tree) → child (permits_of w) x p ≡ Some u → (z : Tree) → IsResult w a (here p) u z → IsResult w a (here place) y z
+      moved : (p : ℕ) → p ≡ index → (u : Tree) → child (permits_of w) x p ≡ Some u → (z : Tree) → IsResult w a (here p) u z → IsResult w a (here index) y z
       moved p q u e z r =
           let s : Some u ≡ Some y = sym e ∙ (ap (child (permits_of w) x) q ∙ c) in
           let v : u ≡ y = cc in
-          subst (λ (t : Tree). IsResult w a (here place) t z) v (subst (λ (j : ℕ). IsResult w a (here j) u z) q r)
+          subst (λ (t : Tree). IsResult w a (here index) t z) v (subst (λ (j : ℕ). IsResult w a (here j) u z) q r)
 
-  pub below-skip : (place next : ℕ) (o : Option Tree) (old mid : Found) → o ≡ child (permits_of w) x place → o ≡ None → next ≡ place + 1 → GathersBelow w a fs x place old mid → GathersBelow w a fs x next old mid
-  below-skip place next o old mid c n t g = record {
+  pub below-skip : (index next : ℕ) (o : Option Tree) (old mid : Found) → o ≡ child (permits_of w) x index → o ≡ None → next ≡ index + 1 → GathersBelow w a fs x index old mid → GathersBelow w a fs x next old mid
+  below-skip index next o old mid c n t g = record {
     gains = g.gains;
     within = g.within;
-    whole = λ p l u e z r. elim (cut_place p place (omega arith)) [
+    whole = λ p l u e z r. elim (cut_place p index (omega arith)) [
       | inl b ↦ g.whole p b u e z r
       | inr q ↦ no u z (sym n ∙ (c ∙ (ap (child (permits_of w) x) (sym q) ∙ e)))
     ];
@@ -144,15 +144,15 @@ module _ (w : Tables) (tables : AreReadyTables w) (a : ℕ) (fs : List Frame) (x
       no : (u z : Tree) → None ≡ Some u → IsAmong z mid.terms
       no u z q = cc
 
-  pub below-cut : (place : ℕ) (y : Tree) (old mid new : Found) (all : Bool) → child (permits_of w) x place ≡ Some y → GathersBelow w a fs x place old mid → Gathers w a (here place) y mid new all → all ≡ false → Gathers w a fs x old new false
-  below-cut place y old mid new all c g h t = record {
-    gains = gains_both (IsFinding w a fs x) (IsFinding w a (here place) y) (from_child place y c) old mid new g.gains h.gains;
+  pub below-cut : (index : ℕ) (y : Tree) (old mid new : Found) (all : Bool) → child (permits_of w) x index ≡ Some y → GathersBelow w a fs x index old mid → Gathers w a (here index) y mid new all → all ≡ false → Gathers w a fs x old new false
+  below-cut index y old mid new all c g h t = record {
+    gains = gains_both (IsFinding w a fs x) (IsFinding w a (here index) y) (from_child index y c) old mid new g.gains h.gains;
     bounded = record { within = λ b. cc; beyond = λ b. h.bounded.beyond t };
     whole = λ b. cc;
   }
 
-  pub below-all : (place : ℕ) (old new : Found) → IsReady w x → IsNoEvent x → child_count w x ≤ place → GathersBelow w a fs x place old new → Gathers w a fs x old new true
-  below-all place old new r n l g = record {
+  pub below-all : (index : ℕ) (old new : Found) → IsReady w x → IsNoEvent x → child_count w x ≤ index → GathersBelow w a fs x index old new → Gathers w a fs x old new true
+  below-all index old new r n l g = record {
     gains = g.gains;
     bounded = record { within = λ b. g.within; beyond = λ b. cc };
     whole = λ b z s. last z (result-child w a fs x z n s);

@@ -1,13 +1,14 @@
 -- Terms that are sound in full are ready.
 use Rattle.std.specs.Prelude.{ℕ, ◌<◌, [], ◌∷◌, length}
 use Rattle.hmsc_graph.specs.Graphs.{Spot, Start, At, Goal, To, End, Any}
-use Rattle.chart_term.specs.Tables.{Tables, nodes_of}
-use Rattle.chart_term.specs.Terms.{Tree, Nil, Event, Join, Choice, Tied, Loop, Walk, Trees, none, more, Row, ends, gap, turn}
-use Rattle.term_laws.specs.FullSoundness.{EveryPartOf, EveryRowPart, IsSpotOf, IsGoalOf, AreNumbersKnown, IsSoundNode, IsSoundOver, AreSoundNets}
-use Rattle.permit_step.specs.Ready.{IsSpotWithin, IsGoalWithin, IsWithin, AreWithin, IsRowWithin, IsReady, AreReadyTables}
+use Rattle.chart_term.specs.Tables.{Tables, net_count, nodes_of}
+use Rattle.chart_term.specs.Terms.{Tree}
+use Rattle.term_laws.specs.FullSoundness.{IsSpotOf, IsGoalOf, AreNumbersKnown, IsSoundNode, IsSoundOver, AreSoundNets}
+use Rattle.permit_step.specs.Ready.{IsSpotWithin, IsGoalWithin, IsWalkWithin, IsWithin, IsReady, AreReadyTables}
 use Rattle.permit_step.specs.ReadyBySoundness.{ReadyBySoundness}
 use Rattle.term_laws.specs.Soundness.{IsKnown}
 use Rattle.permit_step.proofs.PermitWalks.{nodes_in}
+use Rattle.term_laws.proofs.EveryPart.{part_below, part_map}
 use Rattle.term_laws.proofs.TidyTables.{each_map}
 
 module _ (labels : ℕ) (w : Tables) where
@@ -20,24 +21,11 @@ module _ (labels : ℕ) (w : Tables) where
   goal_within n End h = tt
   goal_within n Any h = tt
 
-  mutual
-    known_within : (x : Tree) → AreNumbersKnown labels w x → IsWithin w x
-    known_within Nil h = tt
-    known_within (Event e) h = tt
-    known_within (Join m xs) h = all_within xs h
-    known_within (Choice xs) h = all_within xs h
-    known_within (Tied x q) h = known_within x h.0
-    known_within (Loop x lo hi r) h = (known_within x h.0, row_within r h.2)
-    known_within (Walk n f t c) h = (h.0, spot_within n f h.1, goal_within n t h.2)
-
-    all_within : (xs : Trees) → EveryPartOf (λ e. e.label < labels) (λ y q. Unit {0}) (λ y. Unit {0}) (λ n f t. IsKnown w n × IsSpotOf w n f × IsGoalOf w n t) xs → AreWithin w xs
-    all_within none h = tt
-    all_within (more x xs) h = (known_within x h.0, all_within xs h.1)
-
-    row_within : (r : Row) → EveryRowPart (λ e. e.label < labels) (λ y q. Unit {0}) (λ y. Unit {0}) (λ n f t. IsKnown w n × IsSpotOf w n f × IsGoalOf w n t) r → IsRowWithin w r
-    row_within ends h = tt
-    row_within (gap c r) h = row_within r h
-    row_within (turn x r) h = (known_within x h.0, row_within r h.1)
+  known_within : (x : Tree) → AreNumbersKnown labels w x → IsWithin w x
+  known_within x h =
+      part_map (λ e. e.label < labels) (λ e. Unit {0}) (λ y q. Unit {0}) (λ y q. Unit {0}) (λ y. Unit {0}) (λ y. Unit {0}) (λ n f t. IsKnown w n × IsSpotOf w n f × IsGoalOf w n t) (IsWalkWithin w) (net_count w)
+      (λ e i. tt) (λ x q b i. tt) (λ x b i. tt) (λ n f t l i. (l, spot_within n f i.1, goal_within n t i.2)) x
+      (part_below (λ e. e.label < labels) (λ y q. Unit {0}) (λ y. Unit {0}) (λ n f t. IsKnown w n × IsSpotOf w n f × IsGoalOf w n t) (net_count w) (λ n f t i. i.0) x h) h
 
   ready_term : (x : Tree) → IsSoundOver labels w x → IsReady w x
   ready_term x h = record { within = known_within x h.known; normal = h.normal }

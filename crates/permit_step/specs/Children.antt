@@ -11,7 +11,7 @@ use Rattle.chart_term.specs.Spreads.{touch}
 use Rattle.term_laws.specs.Permission.{permit}
 use Rattle.term_laws.specs.Taking.{fewer, down}
 
--- what is left of the parts of a join where the part of this place leaves y
+-- what is left of the parts of a join where the part of this index leaves y
 abbrev pub parts_left : NetPermits → Mode → TermEvent → List Tree → ℕ → Tree → Option (List Tree)
 parts_left k m e [] i y = None
 parts_left k m e (x ∷ xs) zero y = Some (y ∷ xs)
@@ -32,7 +32,7 @@ abbrev pub gap_first : List ℕ → Option RowLeft → Option RowLeft
 gap_first c None = None
 gap_first c (Some r) = Some (record { begins = r.begins; row_parts = Gap c ∷ r.row_parts })
 
--- what is left of a row where the part of this place leaves y
+-- what is left of a row where the part of this index leaves y
 abbrev pub row_left : NetPermits → TermEvent → List Part → ℕ → Tree → Option RowLeft
 row_left k e [] i y = None
 row_left k e (Turn z ∷ ps) zero y = Some (record { begins = false; row_parts = Turn y ∷ ps })
@@ -61,7 +61,7 @@ abbrev pub walk_left : NetPermits → TermEvent → ℕ → Spot → Goal → Li
 walk_left k e n f t c m y =
     where_so (may_lead k n f (To m) (c ∪ (instances_of e).instances)) (where_so (may_lead k n (At m) t c) (three (walk_of k n f (To m) (c ∪ (instances_of e).instances)) y (walk_of k n (At m) t c)))
 
--- what is left of a term where its child of this place leaves y
+-- what is left of a term where its child of this index leaves y
 abbrev pub put : NetPermits → TermEvent → Tree → ℕ → Tree → Option Tree
 put k e Nil i y = None
 put k e (Event f) i y = None
@@ -88,7 +88,7 @@ abbrev pub first_alone : Tree → ℕ → Option Tree
 first_alone x zero = Some x
 first_alone x (suc i) = None
 
--- from what an event can be taken in place of the whole term: a part, a begun turn, what is permitted of a loop operand in a gap
+-- from what an event can be taken in index of the whole term: a part, a begun turn, what is permitted of a loop operand in a gap
 -- or of a node term on a walk
 abbrev pub child : NetPermits → Tree → ℕ → Option Tree
 child k Nil i = None

@@ -11,7 +11,7 @@ IsHeld k b (Turn x) = permit k b x ≡ None
 
 -- one of the parts is such a turn
 pub record HasHeld (k : NetPermits) (b : Block) (ps : List Part) : Type 0 where
-  pub place : ℕ
+  pub index : ℕ
   pub part : Part
-  pub there : slice_get ps place ≡ Some part
+  pub there : slice_get ps index ≡ Some part
   pub held : IsHeld k b part

@@ -4,7 +4,8 @@ use Rattle.hmsc_graph.specs.Graphs.{Spot, Start, At, Goal, To, End, Any}
 use Rattle.hmsc_graph.specs.Nets.{size_of}
 use Rattle.chart_term.specs.Properties.{Each}
 use Rattle.chart_term.specs.Tables.{Tables, nodes_of, net_count}
-use Rattle.chart_term.specs.Terms.{Tree, Nil, Event, Join, Choice, Tied, Loop, Walk, Trees, none, more, Row, ends, gap, turn, Part, Gap, Turn}
+use Rattle.chart_term.specs.Terms.{Tree, Trees, Row, Part, Gap, Turn}
+use Rattle.term_laws.specs.FullSoundness.{EveryPart, EveryPartOf, EveryRowPart}
 use Rattle.term_laws.specs.Normality.{IsSet, IsNormalLoop, IsNormalOver}
 use Rattle.term_laws.specs.Permission.{permits_of}
 
@@ -19,25 +20,19 @@ IsGoalWithin size (To m) = m < size
 IsGoalWithin size End = Unit {0}
 IsGoalWithin size Any = Unit {0}
 
+-- the net is in the tables, and the walk is at its nodes
+abbrev pub IsWalkWithin : Tables → ℕ → Spot → Goal → Type 0
+IsWalkWithin w n f t = (n < net_count w) × IsSpotWithin (length (nodes_of w n)) f × IsGoalWithin (length (nodes_of w n)) t
+
 -- each net that the term names is in the tables, and so is each node
-abbrev mutual
-  pub IsWithin : Tables → Tree → Type 0
-  IsWithin w Nil = Unit {0}
-  IsWithin w (Event e) = Unit {0}
-  IsWithin w (Join m xs) = AreWithin w xs
-  IsWithin w (Choice xs) = AreWithin w xs
-  IsWithin w (Tied x q) = IsWithin w x
-  IsWithin w (Loop x lo hi r) = IsWithin w x × IsRowWithin w r
-  IsWithin w (Walk n f t c) = (n < net_count w) × IsSpotWithin (length (nodes_of w n)) f × IsGoalWithin (length (nodes_of w n)) t
+abbrev pub IsWithin : Tables → Tree → Type 0
+IsWithin w x = EveryPart (λ e. Unit {0}) (λ y q. Unit {0}) (λ y. Unit {0}) (IsWalkWithin w) x
 
-  pub AreWithin : Tables → Trees → Type 0
-  AreWithin w none = Unit {0}
-  AreWithin w (more x xs) = IsWithin w x × AreWithin w xs
+abbrev pub AreWithin : Tables → Trees → Type 0
+AreWithin w xs = EveryPartOf (λ e. Unit {0}) (λ y q. Unit {0}) (λ y. Unit {0}) (IsWalkWithin w) xs
 
-  pub IsRowWithin : Tables → Row → Type 0
-  IsRowWithin w ends = Unit {0}
-  IsRowWithin w (gap c r) = IsRowWithin w r
-  IsRowWithin w (turn x r) = IsWithin w x × IsRowWithin w r
+abbrev pub IsRowWithin : Tables → Row → Type 0
+IsRowWithin w r = EveryRowPart (λ e. Unit {0}) (λ y q. Unit {0}) (λ y. Unit {0}) (IsWalkWithin w) r
 
 -- the term fits the tables and is in normal form for them
 pub record IsReady (w : Tables) (x : Tree) : Type 0 where

@@ -42,12 +42,12 @@ pub record IsTaken (t : Taken) : Type 0 where
 -- the frames' terms are ready, and have such places
 abbrev pub AreReadyFrames : Tables → List Frame → Type 0
 AreReadyFrames w [] = Unit {0}
-AreReadyFrames w (f ∷ fs) = IsReady w f.parent × (f.place < child_count w f.parent) × AreReadyFrames w fs
+AreReadyFrames w (f ∷ fs) = IsReady w f.parent × (f.index < child_count w f.parent) × AreReadyFrames w fs
 
 -- what is left of the frame's term where its child leaves this
 abbrev pub put_some : NetPermits → TermEvent → Frame → Option Tree → Option Tree
 put_some k e f None = None
-put_some k e f (Some y) = put k e f.parent f.place y
+put_some k e f (Some y) = put k e f.parent f.index y
 
 -- what is left of the first frame's term where the child of the last leaves y
 abbrev pub put_all : NetPermits → TermEvent → List Frame → Tree → Option Tree
@@ -114,11 +114,11 @@ pub record Gathers (w : Tables) (a : ℕ) (fs : List Frame) (x : Tree) (old new 
   pub bounded : IsBounded new.most new.terms all
   pub whole : all ≡ true → (z : Tree) → IsResult w a fs x z → IsAmong z new.terms
 
--- the same of the children before a place alone
-pub record GathersBelow (w : Tables) (a : ℕ) (fs : List Frame) (x : Tree) (place : ℕ) (old new : Found) : Type 0 where
+-- the same of the children before an index alone
+pub record GathersBelow (w : Tables) (a : ℕ) (fs : List Frame) (x : Tree) (index : ℕ) (old new : Found) : Type 0 where
   pub gains : Gains (IsFinding w a fs x) old new
   pub within : set_weight new.terms ≤ new.most
-  pub whole : (p : ℕ) → p < place → (y : Tree) → child (permits_of w) x p ≡ Some y → (z : Tree) → IsResult w a (fs ++ record { parent = x; place = p } ∷ []) y z → IsAmong z new.terms
+  pub whole : (p : ℕ) → p < index → (y : Tree) → child (permits_of w) x p ≡ Some y → (z : Tree) → IsResult w a (fs ++ record { parent = x; index = p } ∷ []) y z → IsAmong z new.terms
 
 -- the term is there once, and the others are as they were
 pub record AddsOne (t : Tree) (old new : Found) (all : Bool) : Type 0 where

@@ -1,3 +1,5 @@
+//! Unions and common instances of blocks: for permission, descent and ascent.
+
 ghost use Rattle.std.specs.Prelude.{◌≡◌, ◌<◌, ◌&&◌, [], if◌then◌else◌, IfOk, OnOk};
 ghost use Rattle.chart_term.specs.NormalForms.{cut};
 ghost use Rattle.chart_term.specs.Terms.{◌∪◌};

@@ -1,3 +1,5 @@
+//! The children of a term from which an event may be taken, one by one: the way down of `successors`.
+
 ghost use Rattle.std.specs.Prelude.{◌≡◌, ◌<◌, IfOk, Some};
 ghost use Rattle.chart_term.specs.Rows.{part_of};
 ghost use Rattle.chart_term.specs.Tables.{net_count, net_of};
@@ -34,49 +36,49 @@ pub(crate) fn child_count(nets: &Nets, term: &Term) -> usize
     }
 }
 
-/// What an event of that place is taken from: a part, a begun turn, a turn that may begin in a gap, or a node's term where the
+/// What an event of that index is taken from: a part, a begun turn, a turn that may begin in a gap, or a node's term where the
 /// walk may pass it. None where there is nothing.
 #[tactic(auto, using(crate::proofs::Descending::descending))]
 pub(crate) fn child(
     alloc: Global,
     nets: &Nets,
     term: &Term,
-    place: usize,
+    index: usize,
 ) -> Result<Option<Term>, NoMemory>
     requires tables { AreReadyTables nets.now.tables }
     requires term { IsReady nets.now.tables term.now }
-    requires place { place < child_count nets.now.tables term.now }
-    ensures { IfOk result (λ inner. inner ≡ child (permits_of nets.now.tables) term.now place) }
+    requires index { index < child_count nets.now.tables term.now }
+    ensures { IfOk result (λ inner. inner ≡ child (permits_of nets.now.tables) term.now index) }
 {
     match term.look() {
         Look::Nil | Look::Event { .. } => Ok(None),
-        Look::Seq(parts) => Ok(Some(parts.at(place).copy(alloc)?)),
-        Look::Par(parts) => Ok(Some(parts.at(place).copy(alloc)?)),
-        Look::Choice(parts) => Ok(Some(parts.at(place).copy(alloc)?)),
+        Look::Seq(parts) => Ok(Some(parts.at(index).copy(alloc)?)),
+        Look::Par(parts) => Ok(Some(parts.at(index).copy(alloc)?)),
+        Look::Choice(parts) => Ok(Some(parts.at(index).copy(alloc)?)),
         Look::Tied(inner, _) => Ok(Some(inner.copy(alloc)?)),
         Look::Loop {
             body,
             upper,
             row,
             ..
-        } => turn_of(alloc, nets, body, upper, row.at(place)),
+        } => turn_of(alloc, nets, body, upper, row.at(index)),
         Look::Walk { net, block, .. } => {
             let own = widened(alloc, block, &Block::empty(alloc))?;
-            let node = node_at(nets, net, place);
+            let node = node_at(nets, net, index);
             let left = permit(alloc, nets, nets.node(net, node), &own)?;
             Ok(left)
         }
     }
 }
 
-/// The number of the net's node of that place.
-pub(crate) fn node_at(nets: &Nets, net: u32, place: usize) -> u32
+/// The number of the net's node of that index.
+pub(crate) fn node_at(nets: &Nets, net: u32, index: usize) -> u32
     requires net { net < net_count nets.now.tables }
-    requires place { place < size_of (net_of nets.now.tables net) }
-    ensures { result ≡ place }
+    requires index { index < size_of (net_of nets.now.tables net) }
+    ensures { result ≡ index }
 {
     let size = nets.net(net).size() as usize;
-    place.min(size) as u32
+    index.min(size) as u32
 }
 
 /// The begun turn, or the turn that may begin in a gap, if there is one.

@@ -1,3 +1,5 @@
+//! Whether a term may end: trace_judge asks it at a log's end. It takes no event and looks at no block.
+
 ghost use Rattle.std.specs.Prelude.{◌≡◌, ◌<◌, ◌↔◌, ◌⊎◌, ℕ, IfOk, IsTrue, true};
 ghost use Rattle.chart_term.specs.Properties.{Each};
 ghost use Rattle.chart_term.specs.Rows.{part_of};

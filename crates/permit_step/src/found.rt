@@ -1,3 +1,5 @@
+//! The terms that a search found, each once, and their weight, above which the search ends: for `successors`.
+
 ghost use Rattle.std.specs.Prelude.{◌≡◌, ◌<◌, ◌≤◌, ◌++◌, List, [], IfOk, OnOk, OnErr};
 ghost use Rattle.chart_term.specs.Facts.{most_stored};
 ghost use Rattle.chart_term.specs.Terms.{Tree};

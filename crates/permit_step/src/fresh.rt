@@ -1,3 +1,5 @@
+//! A loop before its first turn and a walk at its start, in normal form: for who makes the terms of charts.
+
 ghost use Rattle.std.specs.Prelude.{◌≡◌, ◌<◌, ◌↔◌, [], None, IfOk, true, false};
 ghost use Rattle.chart_term.specs.NormalForms.{walk_of};
 ghost use Rattle.chart_term.specs.Properties.{MayHave};

@@ -12,14 +12,11 @@ mod found;
 mod fresh;
 pub mod laws;
 mod loops;
+mod parts;
 mod passing;
 mod permission;
 mod row_end;
-#[cfg(test)]
-mod samples;
 mod successors;
-#[cfg(test)]
-mod tests;
 
 pub use finishes::may_end;
 pub use fresh::{fresh_loop, fresh_walk};

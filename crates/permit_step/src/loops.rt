@@ -1,3 +1,5 @@
+//! What the row of a loop comes to once its parts are put together: for permission and ascent.
+
 ghost use Rattle.std.specs.Prelude.{◌≡◌, IfOk};
 ghost use Rattle.permit_step.specs.RowRests.{rest_end};
 

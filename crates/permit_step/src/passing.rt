@@ -1,3 +1,5 @@
+//! Which nodes of a net permission lets a walk pass, and whether such a walk leaves something: for `permission`.
+
 ghost use Rattle.std.specs.Prelude.{◌≡◌, ◌<◌, ◌⊎◌, ◌↔◌, ℕ, IfOk, IsTrue, true, false};
 ghost use Rattle.chart_term.specs.NormalForms.{some_kept};
 ghost use Rattle.hmsc_graph.specs.Graphs.{Any};

@@ -1,3 +1,5 @@
+//! What permission by a block leaves of a term, part by part. Descent and ascent ask it for what is before an event.
+
 ghost use Rattle.std.specs.Prelude.{◌≡◌, ◌∷◌, ◌<◌, ◌≤◌, Bool, IfOk, OnOk, Some, None, if◌then◌else◌, length, take, map};
 ghost use Rattle.chart_term.specs.NormalForms.{choice_of, only, walk_of, walk_cut};
 ghost use Rattle.chart_term.specs.Properties.{Each, MayHave};
@@ -16,10 +18,11 @@ ghost use Rattle.term_laws.specs.Values.{block_of};
 
 use crate::blocks::{common, widened};
 use crate::loops::loop_end;
+use crate::parts::{LoopBlock, LoopParts, WalkParts};
 use crate::passing::{Passable, is_aimed, passes_full};
 use crate::row_end::{RowEnd, is_empty};
 use bit_sets::Block;
-use chart_term::{Look, RowList, RowPart, Term, TermList, choice, par, seq, tied};
+use chart_term::{Look, RowPart, Term, TermList, choice, par, seq, tied};
 use hmsc_graph::{Goal, Spot, has_walk};
 use msc_base::{NoMemory, PairList};
 use std::alloc::Global;
@@ -82,13 +85,24 @@ fn permit_term(
             lower,
             upper,
             row,
-        } => permit_turns(alloc, nets, body, lower, upper, row, block),
+        } => {
+            let turns = LoopParts {
+                body,
+                lower,
+                upper,
+                row,
+            };
+            permit_loop(alloc, nets, turns, block)
+        }
         Look::Walk {
             net,
             from,
             to,
             block: own,
-        } => widened_walk(alloc, nets, net, from, to, own, block),
+        } => {
+            let way = WalkParts { net, from, to, own };
+            widened_walk(alloc, nets, way, block)
+        }
     }
 }
 
@@ -161,34 +175,25 @@ fn permit_some(
 /// What is left of a loop.
 #[cycle(permit)]
 #[tactic(auto, using(crate::proofs::Permits::permits))]
-fn permit_turns(
+fn permit_loop(
     alloc: Global,
     nets: &Nets,
-    body: &Term,
-    lower: u64,
-    upper: Option<u64>,
-    row: &RowList,
+    turns: LoopParts<'_>,
     block: &Block,
 ) -> Result<Option<Term>, NoMemory>
     requires tables { AreReadyTables nets.now.tables }
-    requires row { IsReadyLoop nets.now.tables body.now upper row.now }
-    ensures { IfOk result (λ left. left ≡ permitted (permits_of nets.now.tables) (block_of block.now) (Loop body.now lower upper (row_of row.now))) }
+    requires row { IsReadyLoop nets.now.tables turns.body.now turns.upper turns.row.now }
+    ensures { IfOk result (λ left. left ≡ permitted (permits_of nets.now.tables) (block_of block.now) (Loop turns.entry.body.now turns.entry.lower turns.entry.upper (row_of turns.entry.row.now))) }
 {
-    let all = nets.touched(alloc, body)?;
+    let all = nets.touched(alloc, turns.body)?;
     let narrow = common(alloc, block, &all)?;
+    let by = LoopBlock {
+        whole: block,
+        narrow: &narrow,
+    };
     let mut end = RowEnd::new(alloc);
-    if keep_parts(
-        alloc,
-        nets,
-        body,
-        upper,
-        row,
-        row.len(),
-        block,
-        &narrow,
-        &mut end,
-    )? {
-        loop_end(alloc, body, lower, upper, end)
+    if keep_parts(alloc, nets, turns, turns.row.len(), by, &mut end)? {
+        loop_end(alloc, turns.body, turns.lower, turns.upper, end)
     } else {
         Ok(None)
     }
@@ -200,25 +205,22 @@ fn permit_turns(
 pub(crate) fn keep_parts(
     alloc: Global,
     nets: &Nets,
-    body: &Term,
-    upper: Option<u64>,
-    row: &RowList,
+    turns: LoopParts<'_>,
     count: usize,
-    block: &Block,
-    narrow: &Block,
+    by: LoopBlock<'_>,
     end: &mut RowEnd,
 ) -> Result<bool, NoMemory>
     requires tables { AreReadyTables nets.now.tables }
-    requires body { IsReady nets.now.tables body.now }
-    requires row { AreReadyParts nets.now.tables row.now }
-    requires count { count ≤ length row.now }
+    requires body { IsReady nets.now.tables turns.body.now }
+    requires row { AreReadyParts nets.now.tables turns.row.now }
+    requires count { count ≤ length turns.row.now }
     ensures { IfOk result (λ kept. (if kept then Some end.new else None)
-        ≡ keep_parts (λ c. permitted (permits_of nets.now.tables) (only c) body.now) (λ y. permitted (permits_of nets.now.tables) (block_of block.now) y) upper narrow.now.instances (take count row.now) end.old) }
+        ≡ keep_parts (λ c. permitted (permits_of nets.now.tables) (only c) turns.entry.body.now) (λ y. permitted (permits_of nets.now.tables) (block_of by.entry.whole.now) y) turns.entry.upper by.entry.narrow.now.instances (take count turns.entry.row.now) end.old) }
 {
     let mut index = count;
     while index > 0 {
         index -= 1;
-        if !keep_part(alloc, nets, body, upper, row.at(index), block, narrow, end)? {
+        if !keep_part(alloc, nets, turns, turns.row.at(index), by, end)? {
             return Ok(false);
         }
     }
@@ -231,26 +233,24 @@ pub(crate) fn keep_parts(
 fn keep_part(
     alloc: Global,
     nets: &Nets,
-    body: &Term,
-    upper: Option<u64>,
+    turns: LoopParts<'_>,
     part: &RowPart,
-    block: &Block,
-    narrow: &Block,
+    by: LoopBlock<'_>,
     end: &mut RowEnd,
 ) -> Result<bool, NoMemory>
     requires tables { AreReadyTables nets.now.tables }
-    requires body { IsReady nets.now.tables body.now }
+    requires body { IsReady nets.now.tables turns.body.now }
     requires part { IsReadyPart nets.now.tables (part_of part.now) }
     ensures { IfOk result (λ kept. (if kept then Some end.new else None)
-        ≡ keep_part (λ c. permitted (permits_of nets.now.tables) (only c) body.now) (λ y. permitted (permits_of nets.now.tables) (block_of block.now) y) upper narrow.now.instances (part_of part.now) end.old) }
+        ≡ keep_part (λ c. permitted (permits_of nets.now.tables) (only c) turns.entry.body.now) (λ y. permitted (permits_of nets.now.tables) (block_of by.entry.whole.now) y) turns.entry.upper by.entry.narrow.now.instances (part_of part.now) end.old) }
 {
     match part {
         RowPart::Gap(gap) => {
-            let wide = widened(alloc, gap, narrow)?;
-            put_gap(alloc, nets, body, upper, wide, end)?;
+            let wide = widened(alloc, gap, by.narrow)?;
+            put_gap(alloc, nets, turns.body, turns.upper, wide, end)?;
             Ok(true)
         }
-        RowPart::Turn(turn) => match permit_term(alloc, nets, turn, block)? {
+        RowPart::Turn(turn) => match permit_term(alloc, nets, turn, by.whole)? {
             Some(left) => {
                 end.put_turn(left)?;
                 Ok(true)
@@ -299,22 +299,19 @@ fn put_gap(
 pub(crate) fn widened_walk(
     alloc: Global,
     nets: &Nets,
-    net: u32,
-    from: Spot,
-    to: Goal,
-    own: &Block,
+    way: WalkParts<'_>,
     block: &Block,
 ) -> Result<Option<Term>, NoMemory>
     requires tables { AreReadyTables nets.now.tables }
-    requires net { net < net_count nets.now.tables }
-    requires from { IsSpotBelow (size_of (net_of nets.now.tables net)) from }
-    requires to { IsGoalBelow (size_of (net_of nets.now.tables net)) to }
-    requires own { IsSet own.now.instances }
-    ensures { IfOk result (λ left. left ≡ walk_of (permits_of nets.now.tables) net (spot_of from) (goal_of to) (own.now.instances ∪ block.now.instances)) }
+    requires net { way.net < net_count nets.now.tables }
+    requires from { IsSpotBelow (size_of (net_of nets.now.tables way.net)) way.from }
+    requires to { IsGoalBelow (size_of (net_of nets.now.tables way.net)) way.to }
+    requires own { IsSet way.own.now.instances }
+    ensures { IfOk result (λ left. left ≡ walk_of (permits_of nets.now.tables) way.entry.net (spot_of way.entry.from) (goal_of way.entry.to) (way.entry.own.now.instances ∪ block.now.instances)) }
 {
-    let wide = widened(alloc, own, block)?;
-    let narrow = common(alloc, &wide, nets.spread(net))?;
-    walk(alloc, nets, net, from, to, narrow)
+    let wide = widened(alloc, way.own, block)?;
+    let narrow = common(alloc, &wide, nets.spread(way.net))?;
+    walk(alloc, nets, way.net, way.from, way.to, narrow)
 }
 
 /// The walk in normal form, whose block is one of the net's instances.

@@ -1,3 +1,5 @@
+//! The end of a loop's row in normal form, to which parts are put in front: for permission and ascent.
+
 ghost use Rattle.std.specs.Prelude.{◌≡◌, [], true, false, IfOk, OnOk};
 ghost use Rattle.chart_term.specs.NormalForms.{begun, has_gap, is_nil};
 ghost use Rattle.std.specs.Prelude.{Some};

@@ -1,3 +1,5 @@
+//! What is left of a term after an event with a label: a search down to each such event. trace_judge steps sets by it.
+
 ghost use Rattle.std.specs.Prelude.{◌≡◌, ◌<◌, ◌≤◌, ◌++◌, List, IfOk, IfSome, IfNone, OnOk, OnErr};
 ghost use Rattle.chart_term.specs.Terms.{Tree, Event as EventTree};
 ghost use Rattle.chart_term.specs.Views.{event_of};
@@ -5,9 +7,6 @@ ghost use Rattle.term_laws.specs.Listing.{set_weight};
 ghost use Rattle.permit_step.specs.Ready.{IsReady, AreReadyTables};
 ghost use Rattle.permit_step.specs.Searches.{AreReadyFrames, Gathers, IsNoEvent, IsTaken, IsTally};
 ghost use Rattle.permit_step.specs.Successors.{AppendsFound};
-
-#[cfg(test)]
-mod tests;
 
 use crate::ascent::{Frame, Taken, rebuilt};
 use crate::blocks::widened;
@@ -148,10 +147,10 @@ fn search_children(
     ensures path { OnOk result (path.new.items ≡ path.old.items) }
     ensures found { IfOk result (λ all. Gathers nets.now.tables label path.old.items term.now found.old found.new all) }
 {
-    for place in 0..child_count(nets, term) {
-        if let Some(inner) = child(alloc, nets, term, place)? {
+    for index in 0..child_count(nets, term) {
+        if let Some(inner) = child(alloc, nets, term, index)? {
             let parent = term.copy(alloc)?;
-            path.push(Frame { parent, place })?;
+            path.push(Frame { parent, index })?;
             let all = search(alloc, nets, label, &inner, path, found)?;
             path.pop();
             if !all {

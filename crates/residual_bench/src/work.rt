@@ -3,9 +3,6 @@ ghost use Rattle.std.specs.Prelude.{◌≡◌, ◌≤◌, [], length, IfOk};
 ghost use Rattle.term_laws.specs.FullSoundness.{IsSoundNode};
 ghost use Rattle.residual_bench.specs.Charts.{labels};
 
-#[cfg(test)]
-mod tests;
-
 use crate::charts::{
     ACTION, DISTANT_ACTION, INNERMOST, OTHER_ACTION, behind, choices, coregion, exchanges, held,
     label, nested, requests, tables,

@@ -2,7 +2,7 @@
 use Rattle.std.specs.Prelude.{ℕ, ◌<◌, ◌==◌, Bool, true, false, List, [], ◌∷◌, ◌≡◌, Option, Some}
 use Rattle.msc_base.specs.Patterns.{Mode}
 use Rattle.hmsc_graph.specs.Graphs.{Spot, Goal}
-use Rattle.chart_term.specs.NormalForms.{NetPermits, only, join_all, choice_of, tie_of, kept_pairs, numbers, loop_of}
+use Rattle.chart_term.specs.NormalForms.{NetPermits, only, join_all, choice_of, tie_of, kept_pairs, numbers, loop_of, walk_of}
 use Rattle.chart_term.specs.Properties.{Each, EachTurn, EveryOf, EveryRow, IsBelow, MayHave}
 use Rattle.chart_term.specs.Tables.{NetEntry, Tables, net_count, choose}
 use Rattle.chart_term.specs.Terms.{TermEvent, Block, Tree, Nil, Event, Join, Choice, Tied, Loop, Walk, Trees, none, more, Row, ends, gap, turn, items, trees, Part, Gap, Turn, parts, row_of}
@@ -11,7 +11,7 @@ use Rattle.chart_term.specs.Spreads.{touch}
 use Rattle.term_laws.specs.Permission.{permit, permit_nth, permits_of}
 use Rattle.term_laws.specs.Soundness.{AreTidyTables}
 use Rattle.term_laws.specs.Taking.{IsAfter}
-use Rattle.term_laws.proofs.Keeping.{Kind, Begins, Aims, join_keeps, choice_keeps, tied_keeps, turns_keep, permit_keeps, after_keeps}
+use Rattle.term_laws.proofs.Keeping.{Kind, Begins, Aims, join_keeps, choice_keeps, tied_keeps, turns_keep, trail_keeps, permit_keeps, after_keeps}
 use Rattle.term_laws.proofs.TermSentences.{kept_below, low_nth}
 use Rattle.term_laws.proofs.TidyTables.{nth_has, at_some}
 
@@ -19,7 +19,7 @@ module _ (E : TermEvent → Type 0) (B : Tree → List (ℕ × ℕ) → Type 0) 
   abbrev EP : Tree → Type 0
   EP x = EveryPart E B L N x
 
-  part_in : (xs : List Tree) → Each EP xs → EveryPartOf E B L N (trees xs)
+  pub part_in : (xs : List Tree) → Each EP xs → EveryPartOf E B L N (trees xs)
   part_in [] h = tt
   part_in (x ∷ xs) h = (h.0, part_in xs h.1)
 
@@ -27,12 +27,12 @@ module _ (E : TermEvent → Type 0) (B : Tree → List (ℕ × ℕ) → Type 0) 
   part_out none h = tt
   part_out (more x xs) h = (h.0, part_out xs h.1)
 
-  row_in : (ps : List Part) → EachTurn EP ps → EveryRowPart E B L N (row_of ps)
+  pub row_in : (ps : List Part) → EachTurn EP ps → EveryRowPart E B L N (row_of ps)
   row_in [] h = tt
   row_in (Gap c ∷ ps) h = row_in ps h
   row_in (Turn x ∷ ps) h = (h.0, row_in ps h.1)
 
-  row_out : (r : Row) → EveryRowPart E B L N r → EachTurn EP (parts r)
+  pub row_out : (r : Row) → EveryRowPart E B L N r → EachTurn EP (parts r)
   row_out ends h = tt
   row_out (gap c r) h = row_out r h
   row_out (turn x r) h = (h.0, row_out r h.1)
@@ -89,8 +89,32 @@ module _ (E : TermEvent → Type 0) (B : Tree → List (ℕ × ℕ) → Type 0) 
     pub fresh_part : (x : Tree) (lo : ℕ) (hi : Option ℕ) (ps : List Part) → EP x → L x → EachTurn EP ps → MayHave EP (loop_of (λ c. permit k (only c) x) (touch k.spread x) x lo hi ps)
     fresh_part x lo hi ps h l d = turns_keep k EP EP (λ x lo hi ps. EP x × L x) (λ x z. (q : List (ℕ × ℕ)) → B x q → B z q) part_kind x lo hi ps (h, l) d
 
+    pub walk_part : (n : ℕ) (f g : Spot) (t u : Goal) (c d : List ℕ) → EP (Walk n f t c) → Begins k n f g → Aims k n t u → MayHave EP (walk_of k n g u d)
+    walk_part = trail_keeps k EP EP Operand Keeps part_kind
+
     pub after_part : ((n m : ℕ) (d : List ℕ) (x : Tree) → k.kept n m d ≡ Some x → EP x) → {x y : Tree} {e : TermEvent} → IsAfter k x e y → EP x → EP y
     after_part kept = after_keeps k EP EP (λ x lo hi ps. EP x × L x) (λ x z. (q : List (ℕ × ℕ)) → B x q → B z q) part_kind (λ n m f t c d x h e. kept n m d x e)
+
+-- where each walk is in a net below a number, the term names only nets below it
+module _ (E : TermEvent → Type 0) (B : Tree → List (ℕ × ℕ) → Type 0) (L : Tree → Type 0) (N : ℕ → Spot → Goal → Type 0) (top : ℕ) (low : (n : ℕ) (f : Spot) (t : Goal) → N n f t → n < top) where
+  mutual
+    pub part_below : (x : Tree) → EveryPart E B L N x → IsBelow top x
+    part_below Nil h = tt
+    part_below (Event e) h = tt
+    part_below (Join m xs) h = parts_below xs h
+    part_below (Choice xs) h = parts_below xs h
+    part_below (Tied x q) h = part_below x h.0
+    part_below (Loop x lo hi r) h = (part_below x h.0, row_below r h.2)
+    part_below (Walk n f t c) h = low n f t h
+
+    parts_below : (xs : Trees) → EveryPartOf E B L N xs → EveryOf (λ e. Unit {0}) (λ m. m < top) xs
+    parts_below none h = tt
+    parts_below (more x xs) h = (part_below x h.0, parts_below xs h.1)
+
+    row_below : (r : Row) → EveryRowPart E B L N r → EveryRow (λ e. Unit {0}) (λ m. m < top) r
+    row_below ends h = tt
+    row_below (gap c r) h = row_below r h
+    row_below (turn x r) h = (part_below x h.0, row_below r h.1)
 
 -- what is asked may change, for terms that name only nets below a number
 module _ (E F : TermEvent → Type 0) (B C : Tree → List (ℕ × ℕ) → Type 0) (L M : Tree → Type 0) (N O : ℕ → Spot → Goal → Type 0) (top : ℕ)

@@ -221,7 +221,7 @@ module _ (k : NetPermits) (P T : Tree → Type 0) (X : Tree → ℕ → Option �
   trail_cut_keeps n f g t (To m) c d h s a = walk_keeps (reach (k.net n) (allowed k n d) g (To m)) (are_nil k n g (To m) d (allowed k n d)) n g (To m) d (λ e. kind.trail_in n f g t (To m) c d h s a e)
   trail_cut_keeps n f g t End c d h s a = walk_keeps (reach (k.net n) (allowed k n d) g End) (are_nil k n g End d (allowed k n d)) n g End d (λ e. kind.trail_in n f g t End c d h s a e)
 
-  trail_keeps : (n : ℕ) (f g : Spot) (t u : Goal) (c d : List ℕ) → P (Walk n f t c) → Begins k n f g → Aims k n t u → MayHave P (walk_of k n g u d)
+  pub trail_keeps : (n : ℕ) (f g : Spot) (t u : Goal) (c d : List ℕ) → P (Walk n f t c) → Begins k n f g → Aims k n t u → MayHave P (walk_of k n g u d)
   trail_keeps n f g t u c d h s a = trail_cut_keeps n f g t u c (cut (k.spread n) d) h s a
 
   abbrev EachOpt : Option (List Tree) → Type 0

@@ -1,3 +1,5 @@
+//! Whether a term names only labels, nets and nodes that the tables have: for `Nets::fits`.
+
 ghost use Rattle.std.specs.Prelude.{◌≡◌};
 ghost use Rattle.chart_term.specs.Rows.{part_of};
 ghost use Rattle.chart_term.specs.Terms.{row_of, trees};

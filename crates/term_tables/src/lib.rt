@@ -6,8 +6,6 @@
 
 mod fits;
 mod nets;
-#[cfg(test)]
-mod tests;
 mod touched;
 
 pub use nets::Nets;

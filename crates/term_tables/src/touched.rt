@@ -1,3 +1,5 @@
+//! The instances that a term touches, with those of its nets: for `Nets::touched` and the spread of each net.
+
 ghost use Rattle.std.specs.Prelude.{◌≡◌, OnOk};
 ghost use Rattle.chart_term.specs.Rows.{part_of};
 ghost use Rattle.chart_term.specs.Spreads.{touch, touch_all, touch_part, touch_row};

@@ -9,7 +9,9 @@ use Rattle.std.proofs.lemmas.List.Folds.{Any-from_list_any, list_any-from_Any}
 use Rattle.std.proofs.lemmas.Slice.Eq.{bytes_eq-Decides}
 use Rattle.msc_base.specs.Names.{IsLetterOrDigit, IsWordByte, IsWord, IsReserved, IsName, reserved_to_decomposed, reserved_to_inst, reserved_to_out, reserved_to_when}
 use Rattle.msc_base.specs.Lists.{IsAmong}
-use Rattle.token_grammar.specs.Classes.{Class, exactly, name_but, string, number, fits, differ, covers, is_digit, is_letter_or_digit, is_word_byte, is_one_of, is_reserved, is_word, is_name, is_string, is_number}
+use Rattle.msc_base.proofs.WordBytes.{letter_test, word_test}
+use Rattle.token_grammar.specs.Classes.{Class, exactly, name_but, string, number, fits, differ, covers, is_digit, is_one_of, is_reserved, is_word, is_name, is_string, is_number}
+use Rattle.msc_base.specs.Names.{is_letter_or_digit, is_word_byte}
 
 both : true ≡ false → ⊥
 both e = cc
@@ -96,18 +98,6 @@ class_covers number number bytes h m = m
 
 -- ---- the tests of words and names say what the definitions say
 
-byte_within : (low high b : ℕ) → Decides (nat_lt low b && nat_lt b (suc high)) ((suc low ≤ b) × (b ≤ high))
-byte_within low high b =
-    let parts = Decides-and (nat_lt low b) (nat_lt b (suc high)) (Decides-ltb low b) (Decides-ltb b (suc high)) in
-    (λ e. let h = parts.0 e in (omega (arith, h.0), omega (arith, h.1)), λ h. parts.1 (omega (arith, h.0), omega (arith, h.1)))
-
-letter_decides : (b : ℕ) → Decides (is_letter_or_digit b) (IsLetterOrDigit b)
-letter_decides b = Decides-or (is_digit b) ((nat_lt 64 b && nat_lt b 91) || (nat_lt 96 b && nat_lt b 123)) (byte_within 47 57 b)
-    (Decides-or (nat_lt 64 b && nat_lt b 91) (nat_lt 96 b && nat_lt b 123) (byte_within 64 90 b) (byte_within 96 122 b))
-
-byte_decides : (b : ℕ) → Decides (is_word_byte b) (IsWordByte b)
-byte_decides b = Decides-or (is_letter_or_digit b) (nat_eq b 95 || nat_eq b 46) (letter_decides b) (Decides-or (nat_eq b 95) (nat_eq b 46) (Decides-eqb b 95) (Decides-eqb b 46))
-
 any_decides : {X : Type 0} (p : X → Bool) (P : X → Type 0) → ((x : X) → Decides (p x) (P x)) → (xs : List X) → Decides (list_any p xs) (Any P xs)
 any_decides p P each xs = (
   λ e. let h = Any-from_list_any p xs e in (h.0, h.1, h.2, h.3, (each h.1).0 h.4),
@@ -127,8 +117,8 @@ reserved_decides bytes =
 word_decides : (bytes : List ℕ) → Decides (is_word bytes) (IsWord bytes)
 word_decides bytes =
     let parts = Decides-and (list_all is_word_byte bytes) (list_any is_letter_or_digit bytes && nat_lt (length bytes) 256)
-    (Decides-by_and is_word_byte IsWordByte (list_all is_word_byte) byte_decides refl (λ _ _. refl) bytes)
-    (Decides-and (list_any is_letter_or_digit bytes) (nat_lt (length bytes) 256) (any_decides is_letter_or_digit IsLetterOrDigit letter_decides bytes) (Decides-ltb (length bytes) 256)) in
+    (Decides-by_and is_word_byte IsWordByte (list_all is_word_byte) word_test refl (λ _ _. refl) bytes)
+    (Decides-and (list_any is_letter_or_digit bytes) (nat_lt (length bytes) 256) (any_decides is_letter_or_digit IsLetterOrDigit letter_test bytes) (Decides-ltb (length bytes) 256)) in
     (λ e. let h = parts.0 e in record { bytes_are = h.0; has_one = h.1.0; short = omega (arith, h.1.1) }, λ w. parts.1 (w.bytes_are, (w.has_one, omega (arith, w.short))))
 
 pub name_decides : (bytes : List ℕ) → Decides (is_name bytes) (IsName bytes)

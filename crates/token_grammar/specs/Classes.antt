@@ -1,21 +1,15 @@
 -- Classes of tokens: one text, the names, the strings, the numbers. A token's bytes decide its classes.
-use Rattle.std.specs.Prelude.{ℕ, Bool, true, false, not, ◌&&◌, ◌||◌, List, [], ◌∷◌, length, nat_eq, nat_lt}
+use Rattle.std.specs.Prelude.{ℕ, Bool, true, false, not, ◌&&◌, ◌||◌, List, [], ◌∷◌, length, nat_eq, nat_lt, ◌+◌}
 use Rattle.std.specs.List.{list_any, list_all}
 use Rattle.std.specs.Str.{bytes_eq}
-use Rattle.msc_base.specs.Names.{reserved_to_decomposed, reserved_to_inst, reserved_to_out, reserved_to_when}
+use Rattle.msc_base.specs.declared.limits.TheConstants.Limits.{NAME_BYTES}
+use Rattle.msc_base.specs.Names.{is_letter_or_digit, is_word_byte, reserved_to_decomposed, reserved_to_inst, reserved_to_out, reserved_to_when}
 use Rattle.msc_tokens.specs.declared.token.Token.{Token}
 use Rattle.msc_tokens.specs.declared.token.TokenKind.TheVariants.{Mark}
 use Rattle.msc_tokens.specs.Places.{first_place}
 
 abbrev pub is_digit : ℕ → Bool
 is_digit b = nat_lt 47 b && nat_lt b 58
-
-abbrev pub is_letter_or_digit : ℕ → Bool
-is_letter_or_digit b = is_digit b || ((nat_lt 64 b && nat_lt b 91) || (nat_lt 96 b && nat_lt b 123))
-
--- a letter, a digit, `_` or `.`
-abbrev pub is_word_byte : ℕ → Bool
-is_word_byte b = is_letter_or_digit b || (nat_eq b 95 || nat_eq b 46)
 
 -- one of these texts
 abbrev pub is_one_of : List (List ℕ) → List ℕ → Bool
@@ -27,7 +21,7 @@ is_reserved bytes = is_one_of reserved_to_decomposed bytes || (is_one_of reserve
 
 -- word bytes alone, one of them a letter or a digit, and no more than a name may have
 abbrev pub is_word : List ℕ → Bool
-is_word bytes = list_all is_word_byte bytes && (list_any is_letter_or_digit bytes && nat_lt (length bytes) 256)
+is_word bytes = list_all is_word_byte bytes && (list_any is_letter_or_digit bytes && nat_lt (length bytes) (NAME_BYTES + 1))
 
 -- a name is a word that isn't reserved
 abbrev pub is_name : List ℕ → Bool

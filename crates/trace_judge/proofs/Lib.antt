@@ -7,8 +7,6 @@ mod VerdictLaws
 mod TrackFacts
 mod Tracking
 mod Gathering
-mod Samples
 mod Few
 mod Takings
 mod Judging
-mod JudgeSamples

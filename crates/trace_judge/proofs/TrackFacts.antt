@@ -234,7 +234,7 @@ module _ {S : Type 0} (holds : S → SetValue) (v : NetsValue) (x : Tree) (budge
           where
             before : (prefix : List LoggedEvent) (at : LoggedEvent) (back : List LoggedEvent) → IsCutAt events e prefix (at ∷ back) → IsWithin v x budget (labels_of prefix)
             before prefix at back (whole z y) = cc
-            before prefix at back (within rest z y) = g.within front rest z
+            before prefix at back (within rest z y) = g.within prefix rest z
 
             passed : ((holds s).too_large ≡ true) ⊎ PassBudget v e.label (holds s).terms (holds s).budget → IsAbove v x budget (labels_of (events ++ e ∷ []))
             passed (inl z) = let bad : false ≡ true = sym g.small ∙ z in cc

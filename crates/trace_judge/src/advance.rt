@@ -1,3 +1,5 @@
+//! One event for a set of residual terms, and what became of the set: for `track` alone.
+
 ghost use Rattle.std.specs.Prelude.{◌≡◌, IfOk, OnErr};
 ghost use Rattle.trace_judge.specs.Advances.{Advances, LeavesOver};
 

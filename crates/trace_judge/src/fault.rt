@@ -1,3 +1,5 @@
+//! Why a judge gives no verdict: a fault of the log, or want of memory.
+
 ghost use Rattle.std.specs.Prelude.{◌≡◌};
 ghost use Rattle.trace_judge.specs.Faults.{judge_fault};
 ghost use Rattle.trace_judge.specs.declared.fault.JudgeFault.TheVariants.{NoMemory};

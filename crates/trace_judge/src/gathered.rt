@@ -1,3 +1,5 @@
+//! Terms each once with their weight, as a set that is under way: for `residuals` alone.
+
 ghost use Rattle.std.specs.Prelude.{◌≡◌, ◌≤◌, ◌+◌, ◌⊎◌, [], ℕ, IfOk, OnOk, OnErr, true, false};
 ghost use Rattle.chart_term.specs.Terms.{Tree, weight};
 ghost use Rattle.chart_term.specs.TermPatterns.{Both};

@@ -1,3 +1,5 @@
+//! The judge of a log in pieces, over any store: it ties the reader of logs to a track. It knows no text of a verdict.
+
 ghost use Rattle.std.specs.Prelude.{◌≡◌, ◌≤◌, ◌++◌, [], ℕ, List, true, false, None, Some, Err, IfOk, IfErr, IfSome, OnErr};
 ghost use Rattle.term_tables.specs.NetValues.{NetsValue};
 ghost use Rattle.chart_term.specs.Terms.{Tree};
@@ -5,9 +7,6 @@ ghost use Rattle.event_log.specs.declared.event.LogForm.{LogForm};
 ghost use Rattle.trace_judge.specs.Sets.{IsSoundFor};
 ghost use Rattle.trace_judge.specs.Judged.{IsJudged, IsJudgeFault, IsJudgeAnswer, IsLargestOf, fault_in};
 ghost use Rattle.trace_judge.specs.States.{Fed};
-
-#[cfg(test)]
-mod tests;
 
 use crate::taking::{feed_parts, finish_parts};
 use crate::{JudgeFault, Store, Track};

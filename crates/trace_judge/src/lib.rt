@@ -13,8 +13,6 @@ pub mod laws;
 mod residuals;
 mod store;
 mod taking;
-#[cfg(test)]
-mod tests;
 mod track;
 
 pub use fault::JudgeFault;

@@ -1,3 +1,5 @@
+//! Hands each event of the reader to the track once, after each piece and at the end: for `judge` alone.
+
 ghost use Rattle.std.specs.Prelude.{◌≡◌, ◌<◌, ◌+◌, ◌++◌, ◌∷◌, [], ℕ, List, true, false, not, OnOk, IfErr};
 ghost use Rattle.chart_term.specs.Terms.{Tree};
 ghost use Rattle.event_log.specs.declared.event.LogForm.{LogForm};

@@ -1,3 +1,5 @@
+//! Follows the events of one log to a verdict, whatever the store. It knows labels and lines, and no bytes.
+
 ghost use Rattle.std.specs.Prelude.{◌≡◌, ◌≤◌, ◌<◌, ◌+◌, ◌++◌, ◌∷◌, [], ℕ, List, IfOk, OnOk, OnErr};
 ghost use Rattle.term_tables.specs.NetValues.{NetsValue};
 ghost use Rattle.chart_term.specs.Terms.{Tree};
@@ -6,9 +8,6 @@ ghost use Rattle.trace_judge.specs.Logs.{LoggedEvent};
 ghost use Rattle.trace_judge.specs.Sets.{IsSoundFor};
 ghost use Rattle.trace_judge.specs.Tracks.{Fed, IfHeld, IsSame};
 ghost use Rattle.trace_judge.specs.Verdicts.{IsVerdict, TellsRuns, IsLargest};
-
-#[cfg(test)]
-mod tests;
 
 use crate::advance::{Outcome, advance};
 use crate::{StepFault, Store};

@@ -1,3 +1,5 @@
+//! The numbers of the events of a term, for `ties`, which drops pairs that name no event below them.
+
 ghost use Rattle.std.specs.Prelude.{◌≡◌, ℕ, ◌||◌, OnOk};
 ghost use Rattle.std.specs.BTreeSet.{contains};
 ghost use Rattle.std.specs.Ordering.{nat_cmp};

@@ -1,3 +1,5 @@
+//! The order and the equality of terms, part by part: by them sets of terms (trace_judge) and choices keep each once.
+
 ghost use Rattle.std.specs.Prelude.{◌≡◌, ◌↔◌, IsTrue};
 ghost use Rattle.std.specs.declared.cmp.Ordering.TheVariants.{Less};
 ghost use Rattle.hmsc_graph.specs.Spots.{spot_of, goal_of};

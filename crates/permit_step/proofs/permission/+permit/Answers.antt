@@ -24,19 +24,19 @@ use Rattle.permit_step.proofs.permission.+permit.Goals as goal
 pub keep_parts-returns-then-not-branch : goal.keep_parts-returns-then-not-branch
 keep_parts-returns-then-not-branch t c =
     sym
-    (keep-none (λ d. permit (permits_of c.args.nets.now.tables) (only d) c.args.body.now) (λ y. permit (permits_of c.args.nets.now.tables) (block_of c.args.block.now) y) c.args.upper c.args.narrow.now.instances c.args.row.now c.args.count (c.loop-index.index - 1) c.loop-index.index (part_of c.at.result.now) c.args.end.now c.loop-index.end c.loop-index.invariant.kept (omega arith) (omega arith) c.at.ensures
+    (keep-none (λ d. permit (permits_of c.args.nets.now.tables) (only d) c.args.turns.body.now) (λ y. permit (permits_of c.args.nets.now.tables) (block_of c.args.by.whole.now) y) c.args.turns.upper c.args.by.narrow.now.instances c.args.turns.row.now c.args.count (c.loop-index.index - 1) c.loop-index.index (part_of c.at.result.now) c.args.end.now c.loop-index.end c.loop-index.invariant.kept (omega arith) (omega arith) c.at.ensures
     (if-lost _ _ _ c.in_ok-keep_part.ensures (cc)))
 
 pub keep_parts-loop-index-preserved : goal.keep_parts-loop-index-preserved
 keep_parts-loop-index-preserved t c = record {
   within = omega arith;
   kept =
-      keep-more (λ d. permit (permits_of c.args.nets.now.tables) (only d) c.args.body.now) (λ y. permit (permits_of c.args.nets.now.tables) (block_of c.args.block.now) y) c.args.upper c.args.narrow.now.instances c.args.row.now c.args.count (c.loop-index.index - 1) c.loop-index.index (part_of c.at.result.now) c.args.end.now c.loop-index.end c.loop-index.invariant.kept (omega arith) (omega arith) c.at.ensures
+      keep-more (λ d. permit (permits_of c.args.nets.now.tables) (only d) c.args.turns.body.now) (λ y. permit (permits_of c.args.nets.now.tables) (block_of c.args.by.whole.now) y) c.args.turns.upper c.args.by.narrow.now.instances c.args.turns.row.now c.args.count (c.loop-index.index - 1) c.loop-index.index (part_of c.at.result.now) c.args.end.now c.loop-index.end c.loop-index.invariant.kept (omega arith) (omega arith) c.at.ensures
       ∙ if-kept _ _ _ c.in_ok-keep_part.ensures (cc);
 }
 
-pub permit_term-permit_turns-requires : goal.permit_term-permit_turns-requires
-permit_term-permit_turns-requires t c =
+pub permit_term-permit_loop-requires : goal.permit_term-permit_loop-requires
+permit_term-permit_loop-requires t c =
     let r = rank-loop c.args.nets.now.tables c.args.term.now c.in-Loop.body.now c.in-Loop.lower c.in-Loop.upper c.in-Loop.row.now c.in-Loop.ensures in
     (omega (arith, c.decreases), (c.requires.tables, ready-loop c.args.nets.now.tables c.args.term.now c.in-Loop.body.now c.in-Loop.lower c.in-Loop.upper c.in-Loop.row.now c.in-Loop.ensures c.requires.term))
 
@@ -50,20 +50,20 @@ permit_some-permit_term-requires t c =
     let r = rank-at c.args.nets.now.tables c.args.parts.now c.loop-index.index c.at.result.now c.at.ensures in
     (omega (arith, c.decreases), (c.requires.tables, ready-at c.args.nets.now.tables c.args.parts.now c.loop-index.index c.at.result.now c.at.ensures c.requires.parts))
 
-pub permit_turns-returns-then-branch : goal.permit_turns-returns-then-branch
-permit_turns-returns-then-branch t c =
+pub permit_loop-returns-then-branch : goal.permit_loop-returns-then-branch
+permit_loop-returns-then-branch t c =
     let w = c.args.nets.now.tables in
     let kept = if-kept _ _ _ c.in_ok-keep_parts.ensures cc in
-    let start : keep_parts (λ d. permit (permits_of w) (only d) c.args.body.now) (λ y. permit (permits_of w) (block_of c.args.block.now) y) c.args.upper c.in_ok-narrow.narrow.instances (take (length c.args.row.now) c.args.row.now) no_rest ≡ Some c.keep_parts.new.end = (λ i. keep_parts (λ d. permit (permits_of w) (only d) c.args.body.now) (λ y. permit (permits_of w) (block_of c.args.block.now) y) c.args.upper c.in_ok-narrow.narrow.instances (take (sym c.len.ensures i) c.args.row.now) (sym c.new-end.ensures i)) ∙ kept in
-    let left = loop-left w c.args.body.now c.args.lower c.args.upper c.args.row.now (block_of c.args.block.now) c.in_ok-all.all.instances c.in_ok-narrow.narrow.instances c.requires.row c.in_ok-all.ensures (ap (λ (b : BlockValue). b.instances) c.in_ok-narrow.ensures) c.keep_parts.new.end start in
+    let start : keep_parts (λ d. permit (permits_of w) (only d) c.args.turns.body.now) (λ y. permit (permits_of w) (block_of c.args.block.now) y) c.args.turns.upper c.in_ok-narrow.narrow.instances (take (length c.args.turns.row.now) c.args.turns.row.now) no_rest ≡ Some c.keep_parts.new.end = (λ i. keep_parts (λ d. permit (permits_of w) (only d) c.args.turns.body.now) (λ y. permit (permits_of w) (block_of c.args.block.now) y) c.args.turns.upper c.in_ok-narrow.narrow.instances (take (sym c.len.ensures i) c.args.turns.row.now) (sym c.new-end.ensures i)) ∙ kept in
+    let left = loop-left w c.args.turns.body.now c.args.turns.lower c.args.turns.upper c.args.turns.row.now (block_of c.args.block.now) c.in_ok-all.all.instances c.in_ok-narrow.narrow.instances c.requires.row c.in_ok-all.ensures (ap (λ (b : BlockValue). b.instances) c.in_ok-narrow.ensures) c.keep_parts.new.end start in
     subst (λ (v : Option Tree). IfOk c.loop_end.result (λ x. x ≡ v)) (sym left) c.loop_end.ensures
 
-pub permit_turns-returns : goal.permit_turns-returns
-permit_turns-returns t c =
+pub permit_loop-returns : goal.permit_loop-returns
+permit_loop-returns t c =
     let w = c.args.nets.now.tables in
     let lost = if-lost _ _ _ c.in_ok-keep_parts.ensures cc in
-    let start : keep_parts (λ d. permit (permits_of w) (only d) c.args.body.now) (λ y. permit (permits_of w) (block_of c.args.block.now) y) c.args.upper c.in_ok-narrow.narrow.instances (take (length c.args.row.now) c.args.row.now) no_rest ≡ None = (λ i. keep_parts (λ d. permit (permits_of w) (only d) c.args.body.now) (λ y. permit (permits_of w) (block_of c.args.block.now) y) c.args.upper c.in_ok-narrow.narrow.instances (take (sym c.len.ensures i) c.args.row.now) (sym c.new-end.ensures i)) ∙ lost in
-    sym (loop-none w c.args.body.now c.args.lower c.args.upper c.args.row.now (block_of c.args.block.now) c.in_ok-all.all.instances c.in_ok-narrow.narrow.instances c.requires.row c.in_ok-all.ensures (ap (λ (b : BlockValue). b.instances) c.in_ok-narrow.ensures) start)
+    let start : keep_parts (λ d. permit (permits_of w) (only d) c.args.turns.body.now) (λ y. permit (permits_of w) (block_of c.args.block.now) y) c.args.turns.upper c.in_ok-narrow.narrow.instances (take (length c.args.turns.row.now) c.args.turns.row.now) no_rest ≡ None = (λ i. keep_parts (λ d. permit (permits_of w) (only d) c.args.turns.body.now) (λ y. permit (permits_of w) (block_of c.args.block.now) y) c.args.turns.upper c.in_ok-narrow.narrow.instances (take (sym c.len.ensures i) c.args.turns.row.now) (sym c.new-end.ensures i)) ∙ lost in
+    sym (loop-none w c.args.turns.body.now c.args.turns.lower c.args.turns.upper c.args.turns.row.now (block_of c.args.block.now) c.in_ok-all.all.instances c.in_ok-narrow.narrow.instances c.requires.row c.in_ok-all.ensures (ap (λ (b : BlockValue). b.instances) c.in_ok-narrow.ensures) start)
 
 pub passable-permit_term-requires : goal.passable-permit_term-requires
 passable-permit_term-requires t c =
@@ -123,6 +123,6 @@ walk-returns-in_ok-nil t c =
 pub widened_walk-returns : goal.widened_walk-returns
 widened_walk-returns t c =
     let w = c.args.nets.now.tables in
-    let narrow : c.in_ok-narrow.narrow.instances ≡ cut (spread_of w c.args.net) (c.args.own.now.instances ∪ c.args.block.now.instances) =
-    ap (λ (b : BlockValue). b.instances) c.in_ok-narrow.ensures ∙ ((λ i. cut c.spread.result.now.instances (ap (λ (b : BlockValue). b.instances) c.in_ok-wide.ensures i)) ∙ cut_alike c.spread.result.now.instances (spread_of w c.args.net) (c.args.own.now.instances ∪ c.args.block.now.instances) c.spread.ensures) in
-    subst (λ (d : List ℕ). IfOk c.walk.result (λ x. x ≡ walk_cut (permits_of w) c.args.net (spot_of c.args.from) (goal_of c.args.to) d)) narrow c.walk.ensures
+    let narrow : c.in_ok-narrow.narrow.instances ≡ cut (spread_of w c.args.way.net) (c.args.way.own.now.instances ∪ c.args.block.now.instances) =
+    ap (λ (b : BlockValue). b.instances) c.in_ok-narrow.ensures ∙ ((λ i. cut c.spread.result.now.instances (ap (λ (b : BlockValue). b.instances) c.in_ok-wide.ensures i)) ∙ cut_alike c.spread.result.now.instances (spread_of w c.args.way.net) (c.args.way.own.now.instances ∪ c.args.block.now.instances) c.spread.ensures) in
+    subst (λ (d : List ℕ). IfOk c.walk.result (λ x. x ≡ walk_cut (permits_of w) c.args.way.net (spot_of c.args.way.from) (goal_of c.args.way.to) d)) narrow c.walk.ensures

@@ -21,14 +21,14 @@ decreases-permit_all l = 4 * rank_all l.nets.now.tables l.parts.now + 2
 abbrev pub decreases-permit_some : goal.decreases-permit_some
 decreases-permit_some l = 4 * rank_all l.nets.now.tables l.parts.now + 2
 
-abbrev pub decreases-permit_turns : goal.decreases-permit_turns
-decreases-permit_turns l = 4 * (rank_in l.nets.now.tables l.body.now + rank_row l.nets.now.tables l.row.now) + 3
+abbrev pub decreases-permit_loop : goal.decreases-permit_loop
+decreases-permit_loop l = 4 * (rank_in l.nets.now.tables l.turns.body.now + rank_row l.nets.now.tables l.turns.row.now) + 3
 
 abbrev pub decreases-keep_parts : goal.decreases-keep_parts
-decreases-keep_parts l = 4 * (rank_in l.nets.now.tables l.body.now + rank_row l.nets.now.tables l.row.now) + 2
+decreases-keep_parts l = 4 * (rank_in l.nets.now.tables l.turns.body.now + rank_row l.nets.now.tables l.turns.row.now) + 2
 
 abbrev pub decreases-keep_part : goal.decreases-keep_part
-decreases-keep_part l = 4 * (rank_in l.nets.now.tables l.body.now + rank_part l.nets.now.tables (part_of l.part.now)) + 1
+decreases-keep_part l = 4 * (rank_in l.nets.now.tables l.turns.body.now + rank_part l.nets.now.tables (part_of l.part.now)) + 1
 
 abbrev pub decreases-put_gap : goal.decreases-put_gap
 decreases-put_gap l = 4 * rank_in l.nets.now.tables l.body.now + 1
@@ -42,14 +42,14 @@ invariant-permit_some-loop-index l = permit_some (permits_of l.nets.tables) (blo
 abbrev pub invariant-keep_parts-loop-index : goal.invariant-keep_parts-loop-index
 invariant-keep_parts-loop-index l = record {
   within : l.index ≤ l.fn.count;
-  kept : keep_parts (λ c. permit (permits_of l.nets.tables) (only c) l.body) (λ y. permit (permits_of l.nets.tables) (block_of l.block) y) l.upper l.narrow.instances (drop l.index (take l.fn.count l.row)) l.initial.end ≡ Some l.end;
+  kept : keep_parts (λ c. permit (permits_of l.nets.tables) (only c) l.turns.body.now) (λ y. permit (permits_of l.nets.tables) (block_of l.by.whole.now) y) l.turns.upper l.by.narrow.now.instances (drop l.index (take l.fn.count l.turns.row.now)) l.initial.end ≡ Some l.end;
 }
 
 abbrev pub decreases-keep_parts-loop-index : goal.decreases-keep_parts-loop-index
 decreases-keep_parts-loop-index l = l.index
 
 abbrev pub decreases-widened_walk : goal.decreases-widened_walk
-decreases-widened_walk l = 4 * net_rank l.nets.now.tables l.net + 3
+decreases-widened_walk l = 4 * net_rank l.nets.now.tables l.way.net + 3
 
 abbrev pub decreases-walk : goal.decreases-walk
 decreases-walk l = 4 * net_rank l.nets.now.tables l.net + 2

@@ -9,8 +9,8 @@ decreases-search l = 2 * rank_in l.nets.now.tables l.term.now + 1
 abbrev pub decreases-search_children : goal.decreases-search_children
 decreases-search_children l = 2 * rank_in l.nets.now.tables l.term.now
 
-abbrev pub invariant-search_children-loop-place : goal.invariant-search_children-loop-place
-invariant-search_children-loop-place l = record {
+abbrev pub invariant-search_children-loop-index : goal.invariant-search_children-loop-index
+invariant-search_children-loop-index l = record {
   path : l.path.items ≡ l.fn.path.items;
-  below : GathersBelow l.nets.tables l.label l.fn.path.items l.term l.place l.fn.found l.found;
+  below : GathersBelow l.nets.tables l.label l.fn.path.items l.term l.index l.fn.found l.found;
 }

@@ -1,0 +1,3 @@
+mod ReadyTerms
+mod Samples
+mod TestFacts

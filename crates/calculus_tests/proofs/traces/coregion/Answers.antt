@@ -1,0 +1,5 @@
+use Rattle.calculus_tests.proofs.Samples.{sound_aside}
+use Rattle.calculus_tests.proofs.traces.coregion.Goals as goal
+
+pub returns : goal.returns
+returns c = sound_aside c.in_ok-term.term c.loop-number.parts c.in_ok-term.ensures c.loop-number.invariant

@@ -1,0 +1,7 @@
+//! What no row of a table reaches of the command: texts of reports, and a judge that is fed in pieces.
+#![tactic(auto)]
+
+#[cfg(test)]
+mod judging;
+#[cfg(test)]
+mod reports;

@@ -1,6 +1,0 @@
-use Rattle.std.proofs.Common.{take}
-use Rattle.msc_tokens.specs.Lexing.{Fed}
-use Rattle.msc_tokens.proofs.tests.lex_bytewise.Given as goal
-
-abbrev pub invariant-loop-byte : goal.invariant-loop-byte
-invariant-loop-byte l = Fed (take l.byte-index l.text) l.lexer

@@ -1,6 +1,0 @@
-use Rattle.std.specs.Prelude.{[]}
-use Rattle.permit_step.specs.Ready.{IsReady}
-use Rattle.permit_step.proofs.successors.tests.choices.Given as goal
-
-abbrev pub invariant-loop-number : goal.invariant-loop-number
-invariant-loop-number l = IsReady [] l.all

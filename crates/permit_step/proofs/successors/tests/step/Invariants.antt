@@ -1,6 +1,0 @@
-use Rattle.chart_term.specs.Properties.{Each}
-use Rattle.permit_step.specs.Ready.{IsReady}
-use Rattle.permit_step.proofs.successors.tests.step.Given as goal
-
-abbrev pub invariant-loop-index : goal.invariant-loop-index
-invariant-loop-index l = Each (IsReady l.nets.tables) l.next

@@ -1,6 +1,0 @@
-use Rattle.chart_term.specs.Properties.{Each}
-use Rattle.permit_step.specs.Ready.{IsReady}
-use Rattle.permit_step.proofs.successors.tests.weigh.Given as goal
-
-abbrev pub invariant-loop-text : goal.invariant-loop-text
-invariant-loop-text l = Each (IsReady l.nets.tables) l.set

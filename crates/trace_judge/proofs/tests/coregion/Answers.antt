@@ -1,5 +1,0 @@
-use Rattle.trace_judge.proofs.Samples.{sound_aside}
-use Rattle.trace_judge.proofs.tests.coregion.Goals as goal
-
-pub returns : goal.returns
-returns c = sound_aside c.in_ok-term.term c.loop-number.parts c.in_ok-term.ensures c.loop-number.invariant

@@ -1,7 +1,0 @@
-use Rattle.std.proofs.Common.{[]}
-use Rattle.chart_term.specs.Properties.{Each}
-use Rattle.term_laws.specs.FullSoundness.{IsSoundNode}
-use Rattle.trace_judge.proofs.tests.coregion.Given as goal
-
-abbrev pub invariant-loop-number : goal.invariant-loop-number
-invariant-loop-number l = Each (IsSoundNode 2 []) l.parts

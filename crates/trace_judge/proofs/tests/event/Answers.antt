@@ -1,6 +1,0 @@
-use Rattle.std.proofs.Common.{arith}
-use Rattle.trace_judge.proofs.Samples.{sound_event}
-use Rattle.trace_judge.proofs.tests.event.Goals as goal
-
-pub returns : goal.returns
-returns c = sound_event c.in_ok-term.term _ c.in_ok-term.ensures (omega (arith))

@@ -1,6 +1,0 @@
-use Rattle.std.proofs.Common.{◌≡◌}
-use Rattle.trace_judge.specs.Tracks.{IfHeld}
-use Rattle.trace_judge.proofs.tests.feed.Given as goal
-
-abbrev pub invariant-loop-index : goal.invariant-loop-index
-invariant-loop-index g l = IfHeld (λ set. g.S.Store.serves set l.nets) l.track × (l.track.events ≡ l.index)

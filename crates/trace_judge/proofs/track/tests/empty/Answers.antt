@@ -1,5 +1,0 @@
-use Rattle.trace_judge.proofs.Samples.{sound_nil}
-use Rattle.trace_judge.proofs.track.tests.empty.Goals as goal
-
-pub new-requires-clause-sound : goal.new-requires-clause-sound
-new-requires-clause-sound c = sound_nil c.new-nets.result c.in_ok-term.term c.new-nets.ensures c.in_ok-term.ensures
