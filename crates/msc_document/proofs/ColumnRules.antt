@@ -1,6 +1,7 @@
 -- The laws and rules of events in columns, for all numbers of levels.
 use Rattle.std.proofs.Common.{ℕ, zero, suc, ◌≡◌, ◌∙◌, ◌++◌, ◌⊎◌, ◌≤◌, ◌&&◌, ◌||◌, Bool, true, false, List, [], ◌∷◌, length, refl, sym, ap, inl, inr, not, subst, append-nil, Option, Some, None, Ok, Err, arith, codes}
 use Rattle.msc_tokens.specs.declared.token.Token.{Token}
+use Rattle.msc_tree.specs.Forms.{form_text}
 use Rattle.msc_tree.specs.declared.reference.InlineForm.{InlineForm}
 use Rattle.msc_tree.specs.declared.reference.InlineForm.TheVariants.{Alt, Opt, Par, Loop, Exc}
 use Rattle.msc_tree.specs.Statements.{Item}
@@ -21,7 +22,7 @@ use Rattle.msc_document.specs.Inlines.{Tail, each, before}
 use Rattle.msc_document.specs.DocumentGrammar.{column_event, column_operand}
 use Rattle.msc_document.specs.DocumentReaders.{form_word, form_seconds, event_words, event_at, going_at, closer_word, closer_seconds, column_goes_on, column_at, column_tails_at, column_event_at}
 use Rattle.msc_document.proofs.Continued.{nothing, whole_continued}
-use Rattle.msc_document.proofs.ItemRules.{Events, TailLaws, TailRules, PartLaws, PartRules, shut_laws, inner_laws, shut_rules, inner_rules, events_law, events_rule, events_late, events_late_brink, events_begun, form_text, form_text_is, other_word}
+use Rattle.msc_document.proofs.ItemRules.{Events, TailLaws, TailRules, PartLaws, PartRules, shut_laws, inner_laws, shut_rules, inner_rules, events_law, events_rule, events_late, events_late_brink, events_begun, form_text_is, other_word}
 use Rattle.msc_document.proofs.LineRules.{Flattened, upto_law, upto_rule}
 use Rattle.msc_document.proofs.Lines.{grouped, next_state}
 use Rattle.msc_events.specs.declared.orientation.Orientation.TheVariants as written

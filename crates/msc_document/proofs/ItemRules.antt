@@ -2,6 +2,7 @@
 use Rattle.std.proofs.Common.{ℕ, zero, suc, ◌≡◌, ◌∙◌, ◌++◌, ◌⊎◌, List, [], ◌∷◌, refl, sym, ap, inl, inr, subst, append-nil, true, Some, None, codes}
 use Rattle.std.proofs.lemmas.Bool.{or_cases}
 use Rattle.msc_tokens.specs.declared.token.Token.{Token}
+use Rattle.msc_tree.specs.Forms.{form_text}
 use Rattle.msc_tree.specs.declared.reference.InlineForm.{InlineForm}
 use Rattle.msc_tree.specs.declared.reference.InlineForm.TheVariants.{Alt, Opt, Par, Loop, Exc}
 use Rattle.msc_tree.specs.Statements.{Item, Operand, Single, Coregion, Condition, Refer, Stop}
@@ -66,16 +67,7 @@ same_or_apart Loop Opt = inl refl
 same_or_apart Loop Exc = inl refl
 same_or_apart Loop Loop = inr refl
 
--- a text that names the form's word
-pub form_text : InlineForm → List ℕ
-form_text Alt = codes "alt"
-form_text Par = codes "par"
-form_text Opt = codes "opt"
-form_text Exc = codes "exc"
-form_text Loop = codes "loop"
-
 pub form_text_is : (k : InlineForm) → among (form_word k) (token_of (form_text k)) ≡ true
-unfolding form_text
 form_text_is Alt = refl
 form_text_is Par = refl
 form_text_is Opt = refl

@@ -1,6 +1,7 @@
 -- The laws and rules of statements outside columns, for all numbers of levels.
 use Rattle.std.proofs.Common.{ℕ, zero, suc, ◌≡◌, ◌∙◌, ◌++◌, ◌⊎◌, true, List, [], ◌∷◌, length, refl, sym, ap, inl, inr, subst, append-nil, Option, Some, None, Ok, Err, arith, codes}
 use Rattle.msc_tokens.specs.declared.token.Token.{Token}
+use Rattle.msc_tree.specs.Forms.{form_text}
 use Rattle.msc_tree.specs.declared.reference.InlineForm.{InlineForm}
 use Rattle.msc_tree.specs.declared.reference.InlineForm.TheVariants.{Alt, Opt, Par, Loop, Exc}
 use Rattle.msc_tree.specs.declared.chart.Cover.TheVariants.{All}
@@ -23,7 +24,7 @@ use Rattle.msc_document.specs.DocumentGrammar.{happen, list, declare, finish, le
 use Rattle.msc_document.specs.DocumentReaders.{State, idle, events, multis, kind, long, alone, form_word, event_words, multi_words, closer_word, closer_seconds, opening_words, opening_at, more_words, more_seconds, more_at, statement_goes_on, statement_at, going_at, statements_at, Tails, outside_event_at, outside_multi_at, outside_at, outside_tails_at}
 use Rattle.msc_document.proofs.Beginnings.{same_kind, opening_of, more, covered_continued}
 use Rattle.msc_document.proofs.Continued.{Continued}
-use Rattle.msc_document.proofs.ItemRules.{Events, Multis, TailLaws, TailRules, PartLaws, PartRules, shut_laws, inner_laws, shut_rules, inner_rules, events_law, events_rule, events_late, events_late_brink, events_begun, multis_law, multis_rule, multis_late, multis_late_brink, multis_begun, form_text, form_text_is, other_word}
+use Rattle.msc_document.proofs.ItemRules.{Events, Multis, TailLaws, TailRules, PartLaws, PartRules, shut_laws, inner_laws, shut_rules, inner_rules, events_law, events_rule, events_late, events_late_brink, events_begun, multis_law, multis_rule, multis_late, multis_late_brink, multis_begun, form_text_is, other_word}
 use Rattle.msc_document.proofs.LineRules.{Flattened, upto_law, upto_rule, state_of}
 use Rattle.msc_document.proofs.Lines.{grouped, next_state}
 use Rattle.msc_document.proofs.StatementLoops.{state_words, mixed_at, same_loops}

@@ -4,6 +4,7 @@ use Rattle.msc_base.specs.declared.place.Place.{Place}
 use Rattle.msc_tokens.specs.declared.token.Token.{Token}
 use Rattle.msc_tree.specs.declared.chart.Cover.{Cover}
 use Rattle.msc_tree.specs.declared.chart.Cover.TheVariants.{All, Listed}
+use Rattle.msc_tree.specs.Forms.{form_text}
 use Rattle.msc_tree.specs.declared.reference.InlineForm.{InlineForm}
 use Rattle.msc_tree.specs.declared.reference.InlineForm.TheVariants.{Alt, Opt, Par, Loop, Exc}
 use Rattle.msc_tree.specs.declared.reference.Join.{Join}
@@ -73,11 +74,7 @@ abbrev pub single_operand_at : {A : Type 0} → (List Token → Read A) → List
 single_operand_at p = map_at (λ x. x.0 ∷ []) (seq_at p closing_at)
 
 abbrev pub form_word : InlineForm → Set
-form_word Alt = just (codes "alt")
-form_word Par = just (codes "par")
-form_word Opt = just (codes "opt")
-form_word Exc = just (codes "exc")
-form_word Loop = just (codes "loop")
+form_word form = just (form_text form)
 
 -- what stands behind the word of a form that begins an inline expression
 abbrev pub form_seconds : InlineForm → Set

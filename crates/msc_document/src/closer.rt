@@ -6,7 +6,7 @@ ghost use Rattle.token_grammar.specs.Languages.{starts, word_at};
 ghost use Rattle.msc_document.specs.DocumentReaders as specs;
 ghost use Rattle.msc_document.specs.StatementReaders.{state_of, statement_words};
 
-use crate::starts::{starts_with_event, starts_with_multi, word_of};
+use crate::starts::{starts_with_event, starts_with_multi};
 use msc_tokens::Token;
 use msc_tree::InlineForm;
 use token_grammar::{ReadFault, starts_with, starts_with_either, starts_with_lead, word};
@@ -20,7 +20,7 @@ pub fn close<'a>(
     ensures { Gives (λ x. (x.0.now, x.1.now)) result (word_at (specs.closer_word outer.now closer) tokens.now) }
 {
     match closer {
-        Some(form) => word(tokens, word_of(form)),
+        Some(form) => word(tokens, form.word()),
         None => word(tokens, outer),
     }
 }
@@ -30,7 +30,7 @@ fn starts_with_closer(tokens: &[Token], outer: &str, closer: Option<InlineForm>)
     ensures { result ≡ starts (specs.closer_word outer.now closer) tokens.now }
 {
     match closer {
-        Some(form) => starts_with(tokens, word_of(form)),
+        Some(form) => starts_with(tokens, form.word()),
         None => starts_with(tokens, outer),
     }
 }
@@ -116,5 +116,5 @@ pub fn starts_with_statement(tokens: &[Token], closer: Option<InlineForm>) -> bo
 pub fn form_token(tokens: &[Token], form: InlineForm) -> Result<(&Token, &[Token]), ReadFault>
     ensures { Gives (λ x. (x.0.now, x.1.now)) result (word_at (specs.form_word form) tokens.now) }
 {
-    word(tokens, word_of(form))
+    word(tokens, form.word())
 }

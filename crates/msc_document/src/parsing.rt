@@ -68,5 +68,10 @@ pub fn parse(alloc: Global, tokens: &TokenList) -> Result<RawDocument, ParseFaul
     ensures place { IfErr result (λ fault. IsRefusal fault → IsFault document NESTING tokens.now.tokens tokens.now.end_place fault) }
     ensures only_fault { IfErr result (λ fault. IsRefusal fault → (other : ParseFault) → IsFault document NESTING tokens.now.tokens tokens.now.end_place other → other ≡ fault) }
 {
-    read_document(alloc, tokens.as_slice(), Limits::NESTING as usize, tokens.end_place())
+    read_document(
+        alloc,
+        tokens.as_slice(),
+        Limits::NESTING as usize,
+        tokens.end_place(),
+    )
 }

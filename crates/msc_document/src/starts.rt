@@ -1,26 +1,12 @@
 //! What tokens start with, by the first words: for `closer` and `items`, which choose by it.
 
 ghost use Rattle.std.specs.Prelude.{◌≡◌};
-ghost use Rattle.token_grammar.specs.Languages.{starts, just};
+ghost use Rattle.token_grammar.specs.Languages.{starts};
 ghost use Rattle.msc_document.specs.DocumentReaders as specs;
 
 use msc_events::starts_with_single;
 use msc_tokens::Token;
-use msc_tree::InlineForm;
 use token_grammar::{starts_with, starts_with_either};
-
-/// The word of a form.
-pub fn word_of(form: InlineForm) -> &'static str
-    ensures { just result.now ≡ specs.form_word form }
-{
-    match form {
-        InlineForm::Alt => "alt",
-        InlineForm::Par => "par",
-        InlineForm::Opt => "opt",
-        InlineForm::Exc => "exc",
-        InlineForm::Loop => "loop",
-    }
-}
 
 /// Whether the tokens start with the word of a form.
 pub fn starts_with_form(tokens: &[Token]) -> bool

@@ -14,7 +14,8 @@ use Rattle.msc_tree.specs.Graphs.{lines, Lines, Node, graph, line}
 use Rattle.msc_tree.specs.Statements.{InlineHead, Inline, Items, Operands, operands, Column, Covered}
 use Rattle.msc_print.specs.Words.{Words, end_words}
 use Rattle.msc_print.specs.GraphWords.{graph_words, label_words, line_words, lines_words, next_words, node_words}
-use Rattle.msc_print.specs.StatementWords.{begun_words, bounds_in, column_words, decl_words, form_word, operands_words, what_words}
+use Rattle.msc_tree.specs.Forms.{form_text}
+use Rattle.msc_print.specs.StatementWords.{begun_words, bounds_in, column_words, decl_words, operands_words, what_words}
 use Rattle.msc_print.specs.Pages.{Sheet, put, put_all}
 use Rattle.msc_print.proofs.Putting.{put_append}
 
@@ -31,10 +32,10 @@ pub line_done : (s : Sheet) (label : List ℕ) (place : Place) (node : Node) (la
 line_done s label place node labels = sym (put_append (put (put s label) (codes ":")) (node_words node) (next_words node labels))
 
 pub inline_done : (s : Sheet) (h : InlineHead) (held : Operands) →
-    put (put (put (put_all (put_all (put_all (put s (form_word h.form)) (bounds_in h.form h.lower h.upper)) (begun_words h.name h.shared)) (operands_words (form_word h.form) held)) (form_word h.form)) (codes "end")) (codes ";")
+    put (put (put (put_all (put_all (put_all (put s (form_text h.form)) (bounds_in h.form h.lower h.upper)) (begun_words h.name h.shared)) (operands_words (form_text h.form) held)) (form_text h.form)) (codes "end")) (codes ";")
     ≡ put_all s (what_words (Inline h held))
 inline_done s h held =
-    let word = form_word h.form in
+    let word = form_text h.form in
     let last = word ∷ codes "end" ∷ end_words in
     sym (put_append (put s word) (bounds_in h.form h.lower h.upper ++ begun_words h.name h.shared) (operands_words word held ++ last)
     ∙ ap (λ (t : Sheet). put_all t (operands_words word held ++ last)) (put_append (put s word) (bounds_in h.form h.lower h.upper) (begun_words h.name h.shared))

@@ -25,7 +25,8 @@ use Rattle.msc_document.specs.Inlines as inlines
 use Rattle.msc_document.specs.DocumentGrammar.{naming, reference_parts, reference_of, reference, multi_of, event_of, column_operand, column_event, Line, happen, list, declare, finish, lead_statement, covered_of, some, outside_operand, outside_event, outside_multi, covered_in, covered, statement}
 use Rattle.msc_print.specs.Words.{Words, all_words, name_words, end_words}
 use Rattle.msc_print.specs.ExpressionWords.{bound_words, expression_words}
-use Rattle.msc_print.specs.StatementWords.{begun_words, bounds_in, decl_words, form_word, item_words, items_words, joins_words, known_words, naming_words, operand_words, operands_words, other_operand_words, refined_words, reference_words, shared_words, statement_words, statements_words}
+use Rattle.msc_tree.specs.Forms.{form_text}
+use Rattle.msc_print.specs.StatementWords.{begun_words, bounds_in, decl_words, item_words, items_words, joins_words, known_words, naming_words, operand_words, operands_words, other_operand_words, refined_words, reference_words, shared_words, statement_words, statements_words}
 use Rattle.msc_print.specs.Unplaced.{unplaced_decl, unplaced_join, unplaced_item, unplaced_items, unplaced_operand, unplaced_operands, unplaced_reference, unplaced_statement, unplaced_statements}
 use Rattle.msc_print.proofs.Backs.{Back, Any, same, both, Filled, FitsFixed, cut, pair_is, back_seq, back_or, back_as, back_so, back_behind, back_placed, back_placed_word, back_opens, back_each, back_until, back_chain, back_optional, each_tidy, but_plain}
 use Rattle.msc_print.proofs.BoundsBack.{bounds_read, bounds_proper, bounds_tidy, writes_bounds}
@@ -147,7 +148,7 @@ module _ {A : Type 0} (f : A → Operand) (orientation : Orientation) where
 
   -- the tail of a form, with the bounds that are written
   abbrev tail_words : InlineForm → Tail A → Words
-  tail_words kind p = bounds_in kind p.0.lower p.0.upper ++ level_words (form_word kind) p.1
+  tail_words kind p = bounds_in kind p.0.lower p.0.upper ++ level_words (form_text kind) p.1
 
   abbrev tail_shown : Tail A → Bounds × (Naming × List Operand)
   tail_shown p = (p.0, both same (map shown) p.1)
@@ -155,8 +156,8 @@ module _ {A : Type 0} (f : A → Operand) (orientation : Orientation) where
   abbrev at_once : Naming × List Operand → Bounds × (Naming × List Operand)
   at_once c = (inlines.once, c)
 
-  once_back : (kind : InlineForm) (T : Grammar (Naming × List A)) → ((l : ℕ) (u : Option ℕ) → bounds_in kind l u ≡ []) → Back T Any (level_words (form_word kind)) (both same (map shown)) → Back (read_as taken_once T) Any (tail_words kind) tail_shown
-  once_back kind T none r = back_as taken_once T Any (tail_words kind) tail_shown at_once r (λ p m. tt) (λ p m. ap (λ (w : Words). w ++ level_words (form_word kind) p) (none 1 (Some 1))) (λ p. refl)
+  once_back : (kind : InlineForm) (T : Grammar (Naming × List A)) → ((l : ℕ) (u : Option ℕ) → bounds_in kind l u ≡ []) → Back T Any (level_words (form_text kind)) (both same (map shown)) → Back (read_as taken_once T) Any (tail_words kind) tail_shown
+  once_back kind T none r = back_as taken_once T Any (tail_words kind) tail_shown at_once r (λ p m. tt) (λ p m. ap (λ (w : Words). w ++ level_words (form_text kind) p) (none 1 (Some 1))) (λ p. refl)
 
   loop_back : (T : Grammar (Naming × List A)) → Back T Any (level_words (codes "loop")) (both same (map shown)) → Back (with_bounds T) Any (tail_words Loop) tail_shown
   loop_back T r = record { back = read; tidy = keeps }
@@ -178,11 +179,11 @@ module _ {A : Type 0} (f : A → Operand) (orientation : Orientation) where
                 ((b, back.0), ((Some b, back.0), inl ((b, back.0), (c.0, c.1, c.2, writes_bounds b s.0 s.1 c.0 c.3, back.1), refl), refl), pair_is b b (both same (map shown) back.0) (both same (map shown) p) refl back.2),
           )
 
-  form_back : (kind : InlineForm) (T : Grammar (Tail A)) → FitsFixed (just (form_word kind)) (form_word kind) → Back T Any (tail_words kind) tail_shown → Back (form f kind (just (form_word kind)) T) Any item_words unplaced_item
-  form_back kind T is r = back_as (inline_item f kind) (placed (just (form_word kind)) T) Any item_words unplaced_item
+  form_back : (kind : InlineForm) (T : Grammar (Tail A)) → FitsFixed (just (form_text kind)) (form_text kind) → Back T Any (tail_words kind) tail_shown → Back (form f kind (just (form_text kind)) T) Any item_words unplaced_item
+  form_back kind T is r = back_as (inline_item f kind) (placed (just (form_text kind)) T) Any item_words unplaced_item
       (λ c. tree.placed first_place (Inline (record { form = kind; lower = c.0.lower; upper = c.0.upper; name = c.1.0.0; shared = c.1.0.1 }) (operands c.1.1)))
-      (back_placed (just (form_word kind)) (form_word kind) T is r) (λ p m. tt)
-      (λ p m. regroup (form_word kind) (bounds_in kind p.1.0.lower p.1.0.upper) (begun_words p.1.1.0.0 p.1.1.0.1) (operands_words (form_word kind) (operands (map f p.1.1.1))) (last (form_word kind)))
+      (back_placed (just (form_text kind)) (form_text kind) T is r) (λ p m. tt)
+      (λ p m. regroup (form_text kind) (bounds_in kind p.1.0.lower p.1.0.upper) (begun_words p.1.1.0.0 p.1.1.0.1) (operands_words (form_text kind) (operands (map f p.1.1.1))) (last (form_text kind)))
       (λ p. ap (λ (l : Operands). tree.placed first_place (Inline (record { form = kind; lower = p.1.0.lower; upper = p.1.0.upper; name = p.1.1.0.0; shared = p.1.1.0.1 }) l)) (operands_shown p.1.1.1))
     where
       regroup : (word : List ℕ) (a b c d : Words) → (word ∷ (a ++ b)) ++ (c ++ d) ≡ word ∷ (a ++ (b ++ (c ++ d)))

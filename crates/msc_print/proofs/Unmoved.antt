@@ -13,7 +13,8 @@ use Rattle.msc_print.specs.Words.{Words, all_words, each_behind, separated_words
 use Rattle.msc_print.specs.EventWords.{act_words, event_words, tag_words}
 use Rattle.msc_print.specs.ExpressionWords.{expression_words, enclosed}
 use Rattle.msc_print.specs.GraphWords.{graph_words, lines_words, line_words, node_words, next_words, label_word, label_words, frame_words, other_frame_words}
-use Rattle.msc_print.specs.StatementWords.{decl_words, join_words, joins_words, known_words, shared_words, reference_words, item_words, what_words, items_words, operand_words, operands_words, other_operand_words, statement_words, statements_words, form_word, head_words, column_words, covered_words}
+use Rattle.msc_tree.specs.Forms.{form_text}
+use Rattle.msc_print.specs.StatementWords.{decl_words, join_words, joins_words, known_words, shared_words, reference_words, item_words, what_words, items_words, operand_words, operands_words, other_operand_words, statement_words, statements_words, head_words, column_words, covered_words}
 use Rattle.msc_print.specs.ChartWords.{canonical_text, chart_words, content_words, head_list, decl_head_words, name_head_words, opening_words, closing_words}
 use Rattle.msc_print.specs.Layout.{laid_out}
 use Rattle.msc_print.specs.Unplaced.{unplaced_decl, unplaced_event, unplaced_label, unplaced_join, unplaced_reference, unplaced_graph, unplaced_lines, unplaced_line, unplaced_node, unplaced_graphs, unplaced_item, unplaced_form, unplaced_items, unplaced_operand, unplaced_operands, unplaced_statement, unplaced_statements, unplaced_content, unplaced_chart, without_places, SameAside}
@@ -111,7 +112,7 @@ mutual
   form_unmoved (Single e) = event_unmoved e
   form_unmoved (Coregion es) = ap (λ (w : Words). codes "concurrent" ∷ (end_words ++ (w ++ codes "endconcurrent" ∷ end_words))) (all_unmoved event_words unplaced_event event_unmoved es)
   form_unmoved (tree.Condition names shared) = refl
-  form_unmoved (Inline head held) = ap (λ (w : Words). head_words head ++ (w ++ form_word head.form ∷ codes "end" ∷ end_words)) (operands_unmoved (form_word head.form) held)
+  form_unmoved (Inline head held) = ap (λ (w : Words). head_words head ++ (w ++ form_text head.form ∷ codes "end" ∷ end_words)) (operands_unmoved (form_text head.form) held)
   form_unmoved (tree.Refer r) = reference_unmoved r
   form_unmoved Stop = refl
 

@@ -1,5 +1,6 @@
 -- The tokens of items, inline expressions and statements.
 use Rattle.std.specs.Prelude.{ℕ, List, [], ◌∷◌, ◌++◌, Option, codes}
+use Rattle.msc_tree.specs.Forms.{form_text}
 use Rattle.msc_tree.specs.declared.chart.Cover.{Cover}
 use Rattle.msc_tree.specs.declared.chart.Cover.TheVariants.{All, Listed}
 use Rattle.msc_tree.specs.declared.chart.Decl.{Decl}
@@ -63,14 +64,6 @@ reference_words r = codes "reference" ∷ (known_words r.name ++ (expression_wor
 
 -- ---- items, operands and statements
 
--- the word of a form
-abbrev pub form_word : InlineForm → List ℕ
-form_word form.Alt = codes "alt"
-form_word form.Opt = codes "opt"
-form_word form.Par = codes "par"
-form_word form.Loop = codes "loop"
-form_word form.Exc = codes "exc"
-
 -- the bounds of a loop; no other form has any
 abbrev pub bounds_in : InlineForm → ℕ → Option ℕ → Words
 bounds_in form.Loop lower upper = bound_words lower upper
@@ -85,7 +78,7 @@ begun_words known shared = codes "begin" ∷ (naming_words known ++ (shared_word
 
 -- W [ bounds ] "begin" [ name ] [ shared ] end
 abbrev pub head_words : InlineHead → Words
-head_words h = form_word h.form ∷ (bounds_in h.form h.lower h.upper ++ begun_words h.name h.shared)
+head_words h = form_text h.form ∷ (bounds_in h.form h.lower h.upper ++ begun_words h.name h.shared)
 
 -- name ":" "instance" [ name [ name ] ] [ "decomposed" "as" name ] end
 abbrev pub heading_words : Decl → Words
@@ -116,7 +109,7 @@ abbrev mutual
   what_words (Single event) = event_words event
   what_words (Coregion events) = coregion_words events
   what_words (Condition names shared) = condition_words names shared
-  what_words (Inline head operands) = head_words head ++ (operands_words (form_word head.form) operands ++ form_word head.form ∷ codes "end" ∷ end_words)
+  what_words (Inline head operands) = head_words head ++ (operands_words (form_text head.form) operands ++ form_text head.form ∷ codes "end" ∷ end_words)
   what_words (Refer reference) = reference_words reference
   what_words Stop = codes "stop" ∷ end_words
 

@@ -2,7 +2,7 @@
 
 ghost use Rattle.std.specs.Prelude.{◌≡◌, OnOk, ◌∷◌, codes, map};
 ghost use Rattle.msc_print.specs.Pages.{put_all};
-ghost use Rattle.msc_print.specs.StatementWords.{begun_words, bounds_in, column_words, covered_words, ended_words, form_word, item_words, items_words, naming_words, operand_words, operands_words, statement_words, statements_words, what_words};
+ghost use Rattle.msc_print.specs.StatementWords.{begun_words, bounds_in, column_words, covered_words, ended_words, item_words, items_words, naming_words, operand_words, operands_words, statement_words, statements_words, what_words};
 ghost use Rattle.msc_print.specs.Words.{end_words, separator};
 ghost use Rattle.msc_tree.specs.Statements.{items as item_tree, operands as operand_tree, statements as statement_tree};
 ghost use Rattle.msc_tree.specs.Views.{form_view, inline_view, item_view, operand_view, statement_view};
@@ -15,19 +15,6 @@ use crate::parts::end;
 use crate::shared::{condition, left, reference, shared};
 use msc_base::{Name, NoMemory};
 use msc_tree::{Cover, Decl, InlineForm, RawForm, RawInline, RawItem, RawOperand, Statement};
-
-/// The word of a form.
-fn word_of(form: InlineForm) -> &'static str
-    ensures { result.now ≡ form_word form }
-{
-    match form {
-        InlineForm::Alt => "alt",
-        InlineForm::Opt => "opt",
-        InlineForm::Par => "par",
-        InlineForm::Loop => "loop",
-        InlineForm::Exc => "exc",
-    }
-}
 
 /// Writes the bounds of a loop.
 fn bounds_of(
@@ -118,7 +105,7 @@ fn form(page: &mut Page, form: &RawForm) -> Result<(), NoMemory>
 fn inline(page: &mut Page, inline: &RawInline) -> Result<(), NoMemory>
     ensures { OnOk result (page.new ≡ put_all page.old (what_words (inline_view inline.now))) }
 {
-    let word = word_of(inline.form);
+    let word = inline.form.word();
     page.word(word)?;
     bounds_of(page, inline.form, inline.lower, inline.upper)?;
     begun(page, &inline.name, &inline.shared)?;

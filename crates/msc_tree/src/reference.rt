@@ -1,5 +1,8 @@
 //! Inline forms, and the joins of a reference's gates.
 
+ghost use Rattle.std.specs.Prelude.{◌≡◌};
+ghost use Rattle.msc_tree.specs.Forms.{form_text};
+
 use msc_base::{Items, Name, Place};
 
 /// The form of an inline expression (Z.120, clause 7.2).
@@ -15,6 +18,21 @@ pub enum InlineForm {
     Loop,
     /// The operand in place of what stands behind it, or what stands behind it.
     Exc,
+}
+
+impl InlineForm {
+    /// The word that begins and ends an expression of this form.
+    pub fn word(self) -> &'static str
+        ensures { result.now ≡ form_text self }
+    {
+        match self {
+            InlineForm::Alt => "alt",
+            InlineForm::Opt => "opt",
+            InlineForm::Par => "par",
+            InlineForm::Loop => "loop",
+            InlineForm::Exc => "exc",
+        }
+    }
 }
 
 /// What a gate of a reference is joined with.

@@ -10,7 +10,7 @@ pub inline-returns : goal.inline-returns
 inline-returns t c =
     let i = out-RawInline c.args.inline.now in
     at_ok c.end.result _ _ c.end.ensures (λ e.
-    rw (e, c.in_ok-word-3.ensures, c.in_ok-word-2.ensures, c.in_ok-operands.ensures, c.in_ok-begun.ensures, c.in_ok-bounds_of.ensures, c.in_ok-word.ensures, c.word_of-word.ensures, c.as_slice.ensures.value, inline_view_is c.args.inline.now) (inline_done c.args.page.now _ (operands (map operand_view i.operands.items))))
+    rw (e, c.in_ok-word-3.ensures, c.in_ok-word-2.ensures, c.in_ok-operands.ensures, c.in_ok-begun.ensures, c.in_ok-bounds_of.ensures, c.in_ok-word.ensures, c.word-word.ensures, c.as_slice.ensures.value, inline_view_is c.args.inline.now) (inline_done c.args.page.now _ (operands (map operand_view i.operands.items))))
 
 pub column-returns : goal.column-returns
 column-returns t c =
