@@ -63,7 +63,7 @@ distinct_some [] h = absurd (omega arith)
 distinct_some (x ∷ xs) h = omega arith
 
 -- the order and the test of equality agree
-same_by_order : (x y : Tree) → is_eq (tree_cmp x y) ≡ same_tree x y
+pub same_by_order : (x y : Tree) → is_eq (tree_cmp x y) ≡ same_tree x y
 same_by_order x y = by_case (same_tree x y) refl
   where
     is_equal : (o : Ordering) → is_eq o ≡ true → o ≡ Equal

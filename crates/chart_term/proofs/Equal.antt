@@ -2,16 +2,13 @@
 use Rattle.std.specs.Prelude.{ℕ, Bool, true, false, List, [], ◌∷◌, ◌≡◌, Option, Some, None, ◌&&◌, ◌==◌, refl}
 use Rattle.std.proofs.Common.{ap, arith}
 use Rattle.std.proofs.lemmas.Bool.Decides.{nat_tests}
+use Rattle.std.proofs.lemmas.Bool.{and_parts}
 use Rattle.msc_base.specs.Patterns.{Mode, seq, par}
 use Rattle.hmsc_graph.specs.Graphs.{Spot, Start, At, Goal, To, End, Any}
 use Rattle.chart_term.specs.Equality.{same_maybe, same_event, same_mode, same_spot, same_goal, same_numbers, same_pairs, same_tree, same_trees, same_row, SameTreeIsExact}
 use Rattle.chart_term.specs.Terms.{TermEvent, Tree, Nil, Event, Join, Choice, Tied, Loop, Walk, Trees, none, more, Row, ends, gap, turn}
 
-and_both : (a b : Bool) → (a && b) ≡ true → (a ≡ true) × (b ≡ true)
-and_both true b h = (refl, h)
-and_both false b h = cc
-
-number_is : (m n : ℕ) → (m == n) ≡ true → m ≡ n
+pub number_is : (m n : ℕ) → (m == n) ≡ true → m ≡ n
 number_is m n h = grind (arith, nat_tests)
 
 maybe_is : (a b : Option ℕ) → same_maybe a b ≡ true → a ≡ b
@@ -45,24 +42,24 @@ goal_is Any End h = cc
 
 numbers_are : (c d : List ℕ) → same_numbers c d ≡ true → c ≡ d
 numbers_are [] [] h = refl
-numbers_are (m ∷ c) (n ∷ d) h = let (p, q) = and_both (m == n) (same_numbers c d) h in λ i. number_is m n p i ∷ numbers_are c d q i
+numbers_are (m ∷ c) (n ∷ d) h = let (p, q) = and_parts (m == n) (same_numbers c d) h in λ i. number_is m n p i ∷ numbers_are c d q i
 numbers_are [] (n ∷ d) h = cc
 numbers_are (m ∷ c) [] h = cc
 
 pairs_are : (c d : List (ℕ × ℕ)) → same_pairs c d ≡ true → c ≡ d
 pairs_are [] [] h = refl
 pairs_are (p ∷ q) (r ∷ s) h =
-    let (a, b) = and_both ((p.0 == r.0) && (p.1 == r.1)) (same_pairs q s) h in
-    let (u, v) = and_both (p.0 == r.0) (p.1 == r.1) a in
+    let (a, b) = and_parts ((p.0 == r.0) && (p.1 == r.1)) (same_pairs q s) h in
+    let (u, v) = and_parts (p.0 == r.0) (p.1 == r.1) a in
     λ i. (number_is p.0 r.0 u i, number_is p.1 r.1 v i) ∷ pairs_are q s b i
 pairs_are [] (n ∷ d) h = cc
 pairs_are (m ∷ c) [] h = cc
 
 event_is : (e f : TermEvent) → same_event e f ≡ true → e ≡ f
 event_is e f h =
-    let (a, b) = and_both ((e.number == f.number) && (e.at == f.at)) (same_maybe e.also f.also && (e.label == f.label)) h in
-    let (u, v) = and_both (e.number == f.number) (e.at == f.at) a in
-    let (x, y) = and_both (same_maybe e.also f.also) (e.label == f.label) b in
+    let (a, b) = and_parts ((e.number == f.number) && (e.at == f.at)) (same_maybe e.also f.also && (e.label == f.label)) h in
+    let (u, v) = and_parts (e.number == f.number) (e.at == f.at) a in
+    let (x, y) = and_parts (same_maybe e.also f.also) (e.label == f.label) b in
     λ i. record { number = number_is e.number f.number u i; at = number_is e.at f.at v i; also = maybe_is e.also f.also x i; label = number_is e.label f.label y i }
 
 mutual
@@ -70,31 +67,31 @@ mutual
   pub tree_is : (x y : Tree) → same_tree x y ≡ true → x ≡ y
   tree_is Nil Nil h = refl
   tree_is (Event e) (Event f) h = ap Event (event_is e f h)
-  tree_is (Join m xs) (Join n ys) h = let (p, q) = and_both (same_mode m n) (same_trees xs ys) h in λ i. Join (mode_is m n p i) (trees_are xs ys q i)
+  tree_is (Join m xs) (Join n ys) h = let (p, q) = and_parts (same_mode m n) (same_trees xs ys) h in λ i. Join (mode_is m n p i) (trees_are xs ys q i)
   tree_is (Choice xs) (Choice ys) h = ap Choice (trees_are xs ys h)
-  tree_is (Tied x q) (Tied y r) h = let (a, b) = and_both (same_tree x y) (same_pairs q r) h in λ i. Tied (tree_is x y a i) (pairs_are q r b i)
+  tree_is (Tied x q) (Tied y r) h = let (a, b) = and_parts (same_tree x y) (same_pairs q r) h in λ i. Tied (tree_is x y a i) (pairs_are q r b i)
   tree_is (Loop x lo hi r) (Loop y low high s) h =
-      let (a, b) = and_both (same_tree x y && (lo == low)) (same_maybe hi high && same_row r s) h in
-      let (u, v) = and_both (same_tree x y) (lo == low) a in
-      let (p, q) = and_both (same_maybe hi high) (same_row r s) b in
+      let (a, b) = and_parts (same_tree x y && (lo == low)) (same_maybe hi high && same_row r s) h in
+      let (u, v) = and_parts (same_tree x y) (lo == low) a in
+      let (p, q) = and_parts (same_maybe hi high) (same_row r s) b in
       λ i. Loop (tree_is x y u i) (number_is lo low v i) (maybe_is hi high p i) (row_is r s q i)
   tree_is (Walk n f t c) (Walk m g u d) h =
-      let (a, b) = and_both ((n == m) && same_spot f g) (same_goal t u && same_numbers c d) h in
-      let (x, y) = and_both (n == m) (same_spot f g) a in
-      let (p, q) = and_both (same_goal t u) (same_numbers c d) b in
+      let (a, b) = and_parts ((n == m) && same_spot f g) (same_goal t u && same_numbers c d) h in
+      let (x, y) = and_parts (n == m) (same_spot f g) a in
+      let (p, q) = and_parts (same_goal t u) (same_numbers c d) b in
       λ i. Walk (number_is n m x i) (spot_is f g y i) (goal_is t u p i) (numbers_are c d q i)
   tree_is x y h = cc
 
   trees_are : (xs ys : Trees) → same_trees xs ys ≡ true → xs ≡ ys
   trees_are none none h = refl
-  trees_are (more x xs) (more y ys) h = let (p, q) = and_both (same_tree x y) (same_trees xs ys) h in λ i. more (tree_is x y p i) (trees_are xs ys q i)
+  trees_are (more x xs) (more y ys) h = let (p, q) = and_parts (same_tree x y) (same_trees xs ys) h in λ i. more (tree_is x y p i) (trees_are xs ys q i)
   trees_are none (more y ys) h = cc
   trees_are (more x xs) none h = cc
 
   row_is : (r s : Row) → same_row r s ≡ true → r ≡ s
   row_is ends ends h = refl
-  row_is (gap c r) (gap d s) h = let (p, q) = and_both (same_numbers c d) (same_row r s) h in λ i. gap (numbers_are c d p i) (row_is r s q i)
-  row_is (turn x r) (turn y s) h = let (p, q) = and_both (same_tree x y) (same_row r s) h in λ i. turn (tree_is x y p i) (row_is r s q i)
+  row_is (gap c r) (gap d s) h = let (p, q) = and_parts (same_numbers c d) (same_row r s) h in λ i. gap (numbers_are c d p i) (row_is r s q i)
+  row_is (turn x r) (turn y s) h = let (p, q) = and_parts (same_tree x y) (same_row r s) h in λ i. turn (tree_is x y p i) (row_is r s q i)
   row_is r s h = cc
 
 and_is : (a b : Bool) → a ≡ true → b ≡ true → (a && b) ≡ true

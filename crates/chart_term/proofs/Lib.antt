@@ -12,7 +12,7 @@ pub mod Equal
 pub mod Binding
 mod Binds
 mod Comparing
-mod Distinct
+pub mod Distinct
 mod Flattening
 mod Gathering
 pub mod Members

@@ -3,10 +3,11 @@ use Rattle.std.specs.List.{list_all}
 use Rattle.std.specs.Prelude.{ℕ, Bool, true, false, List, [], ◌∷◌, ◌≡◌, Option, Some, None, ◌&&◌, ◌==◌, refl, filter}
 use Rattle.std.proofs.Common.{arith, inl, inr, cond}
 use Rattle.std.proofs.lemmas.Bool.Decides.{nat_tests}
+use Rattle.std.proofs.lemmas.Bool.{and_parts}
 use Rattle.msc_base.specs.Patterns.{empty}
-use Rattle.hmsc_graph.specs.Graphs.{Spot, At, Goal, To, End, Any, Net, behind, WalkThrough, last, step, reach}
+use Rattle.hmsc_graph.specs.Graphs.{Spot, At, Goal, To, End, Any, behind, WalkThrough, last, step, reach}
 use Rattle.msc_base.specs.Lists.{IsIn}
-use Rattle.hmsc_graph.proofs.Reaching.{reach_sound, reach_whole, glue as walk_on}
+use Rattle.hmsc_graph.proofs.Reaching.{reach_sound, reach_whole, glue}
 use Rattle.chart_term.specs.NormalForms.{NetPermits, only, cut, is_nil, some_kept, allowed, are_nil, walk_form, walk_by, walk_cut, walk_of}
 use Rattle.chart_term.specs.TermMeanings.{NetTerms, MayStop, aim, HasPattern, has_nil as nil_pattern, holds_walk, HasWalk, walk_stop, walk_last, walk_step, PatternSet, ◌⊑◌, PatternsOf, Leaves, terms_of}
 use Rattle.chart_term.specs.TermPatterns.{Shape, Avoids, ◌≈◌, same, back, on, in_join, left}
@@ -18,7 +19,7 @@ in_cond : (b : Bool) (m k : ℕ) (ms : List ℕ) → IsIn m ms → IsIn m (cond 
 in_cond true m k ms i = inr i
 in_cond false m k ms i = i
 
-in_filter : (t : ℕ → Bool) (ms : List ℕ) (m : ℕ) → IsIn m ms → t m ≡ true → IsIn m (filter t ms)
+pub in_filter : (t : ℕ → Bool) (ms : List ℕ) (m : ℕ) → IsIn m ms → t m ≡ true → IsIn m (filter t ms)
 in_filter t (k ∷ ms) m (inl e) h = let g : t k ≡ true = rw e at h in rw g (inl e)
 in_filter t (k ∷ ms) m (inr i) h = in_cond (t k) m k (filter t ms) (in_filter t ms m i h)
 in_filter t [] m i h = absurd i
@@ -32,10 +33,6 @@ pub out_filter : (t : ℕ → Bool) (ms : List ℕ) (m : ℕ) → IsIn m (filter
 out_filter t [] m i = absurd i
 out_filter t (k ∷ ms) m i = out_cond t (t k) m k ms refl i (out_filter t ms m)
 
-and_parts : (a b : Bool) → (a && b) ≡ true → (a ≡ true) × (b ≡ true)
-and_parts true b h = (refl, h)
-and_parts false b h = cc
-
 and_made : (a b : Bool) → a ≡ true → b ≡ true → (a && b) ≡ true
 and_made true b h k = k
 and_made false b h k = cc
@@ -47,9 +44,6 @@ all_in t (k ∷ ms) m h (inr i) = all_in t ms m (and_parts (t k) (list_all t ms)
 
 here : (m : ℕ) → (m == m) ≡ true
 here m = grind (arith, nat_tests)
-
-glue : {g : Net} {ks : List ℕ} {s : Spot} {t : Goal} {k : ℕ} → IsIn k ks → WalkThrough g ks s (To k) → WalkThrough g ks (At k) t → WalkThrough g ks s t
-glue j u v = walk_on j u v
 
 is_kept : (w : NetTerms) (o : Bool) (r : Option Tree) (s : Shape) → PatternsOf w o r s → some_kept r ≡ true
 is_kept w o None s h = absurd h

@@ -8,7 +8,7 @@ use Rattle.chart_term.specs.NormalForms.{only, is_nil, some_kept, allowed, are_n
 use Rattle.chart_term.specs.Tables.{Tables, net_count, net_of, nodes_of, node_of}
 use Rattle.chart_term.specs.Terms.{Tree, Nil, Loop, Walk, Gap, row_of}
 use Rattle.chart_term.specs.TermMeanings.{UpTo}
-use Rattle.chart_term.proofs.Walking.{out_filter}
+use Rattle.chart_term.proofs.Walking.{out_filter, in_filter}
 use Rattle.permit_step.specs.Fresh.{IsFreshLoop, IsUnreached, MayTurn, MayNotTurn}
 use Rattle.chart_term.specs.Spreads.{touch}
 use Rattle.term_laws.specs.Permission.{permit, permits_of}
@@ -16,7 +16,7 @@ use Rattle.permit_step.specs.Ready.{IsReady, AreReadyTables}
 use Rattle.permit_step.specs.RowRests.{no_rest, gap_before, open_before, rest_end}
 use Rattle.term_laws.proofs.Identity.{permit_same}
 use Rattle.permit_step.proofs.NodeTerms.{node-is}
-use Rattle.permit_step.proofs.PermitWalks.{in_filter, nodes_in}
+use Rattle.permit_step.proofs.PermitWalks.{nodes_in}
 use Rattle.permit_step.proofs.RowRests.{turns-rest}
 
 module _ (w : Tables) (x : Tree) (lo : ℕ) (h : IsReady w x) where

@@ -1,5 +1,5 @@
 -- The node terms of tables that are ready.
-use Rattle.std.specs.Prelude.{ℕ, zero, suc, ◌+◌, ◌<◌, ◌≤◌, ◌==◌, Bool, true, false, List, [], ◌∷◌, ◌≡◌, refl, length}
+use Rattle.std.specs.Prelude.{ℕ, zero, suc, ◌<◌, ◌≤◌, ◌==◌, Bool, true, false, List, [], ◌∷◌, ◌≡◌, refl, length}
 use Rattle.std.proofs.Common.{ap, sym, ◌∙◌, subst, arith}
 use Rattle.hmsc_graph.specs.Graphs.{Spot, Goal}
 use Rattle.hmsc_graph.specs.Nets.{size_of}
@@ -7,6 +7,7 @@ use Rattle.chart_term.specs.NormalForms.{only}
 use Rattle.chart_term.specs.Properties.{Each, IsBelow}
 use Rattle.chart_term.specs.Tables.{Tables, NetEntry, net_count, choose, count_from, nth_tree, node_of, net_of, nodes_of}
 use Rattle.chart_term.specs.Terms.{Block, Tree}
+use Rattle.chart_term.proofs.Lists.{count_length}
 use Rattle.term_laws.specs.Permission.{permit, permit_nth, permits_of}
 use Rattle.permit_step.specs.Ready.{IsSpotWithin, IsGoalWithin, IsWalkWithin, IsWithin, IsReady, AreReadyTables}
 use Rattle.term_laws.proofs.EveryPart.{part_below, part_map}
@@ -49,10 +50,6 @@ module _ (e : NetEntry) (es : Tables) where
 
   up_rank : (x : Tree) → IsBelow (net_count es) x → rank_in es x ≡ rank_in (e ∷ es) x
   up_rank x h = same_rank (net_rank es) (net_rank (e ∷ es)) (net_count es) (new_rank e es) x h
-
-pub count_length : (i : ℕ) (xs : List Tree) → length (count_from i xs) ≡ length xs
-count_length i [] = refl
-count_length i (x ∷ xs) = ap (λ n. suc n) (count_length (i + 1) xs)
 
 nth_each : (P : Tree → Type 0) (xs : List Tree) (m : ℕ) → m < length xs → Each P xs → P (nth_tree xs m)
 nth_each P [] m l h = absurd (omega arith)

@@ -14,25 +14,13 @@ use Rattle.chart_term.specs.Spreads.{touch, spread_of}
 use Rattle.term_laws.specs.Permission.{permit, permit_row, wider, with_turn, permits_of}
 use Rattle.permit_step.specs.Ready.{IsReady, AreReadyParts, IsReadyLoop, IsRowWithin}
 use Rattle.permit_step.specs.RowRests.{RowRest, no_rest, turn_before, open_before, rest_of, rest_end, kept_before, keep_first, keep_parts}
-use Rattle.term_laws.proofs.Normalising.{union_set}
+use Rattle.term_laws.proofs.Normalising.{union_set, above_cut}
 use Rattle.permit_step.proofs.RowRests.{turns-rest}
 
 -- the cut of a union is the union of the cuts
 above_added : (n : ℕ) (c : List ℕ) → IsAbove n c → add_member n c ≡ n ∷ c
 above_added n [] h = refl
 above_added n (m ∷ c) h = let e : (n == m) ≡ false = grind (arith, nat_tests) in let l : ltb n m ≡ true = grind (arith, nat_tests) in rw (e, l)
-
-above_less : (n m : ℕ) (c : List ℕ) → n < m → IsAbove m c → IsAbove n c
-above_less n m [] l h = tt
-above_less n m (k ∷ c) l h = omega arith
-
-above_cut : (all : List ℕ) (n : ℕ) (c : List ℕ) → IsSet c → IsAbove n c → IsAbove n (cut all c)
-above_cut all n [] h l = tt
-above_cut all n (m ∷ c) h l = go (has all m) (above_cut all n c h.1 (above_less n m c l h.0))
-  where
-    go : (t : Bool) → IsAbove n (cut all c) → IsAbove n (cond t (m ∷ cut all c) (cut all c))
-    go true r = l
-    go false r = r
 
 cut_in : (all : List ℕ) (n : ℕ) (c : List ℕ) → has all n ≡ true → IsSet c → cut all (add_member n c) ≡ add_member n (cut all c)
 cut_in all n [] h s = ap (λ t. cond t (n ∷ []) []) h

@@ -1,7 +1,8 @@
 -- What permission leaves of a walk, by the nodes that can be passed.
 use Rattle.std.specs.Prelude.{ℕ, ◌+◌, ◌<◌, ◌≤◌, ◌==◌, Bool, true, false, List, [], ◌∷◌, ◌≡◌, ◌↔◌, ◌⊎◌, ◌&&◌, Option, Some, None, refl, length, IsTrue, not}
 use Rattle.std.specs.List.{list_all}
-use Rattle.std.proofs.Common.{ap, sym, ◌∙◌, subst, arith, filter, inl, inr, cond}
+use Rattle.std.proofs.Common.{ap, sym, ◌∙◌, subst, arith, filter, inl, inr}
+use Rattle.std.proofs.lemmas.Bool.{and_from}
 use Rattle.hmsc_graph.specs.Graphs.{Net, Spot, At, Goal, To, End, Any, WalkThrough, reach}
 use Rattle.msc_base.specs.Lists.{IsIn}
 use Rattle.hmsc_graph.specs.Nets.{size_of}
@@ -16,25 +17,17 @@ use Rattle.hmsc_graph.proofs.Reaching.{more_allowed, reach_sound, reach_whole}
 use Rattle.chart_term.specs.NormalForms.{NetPermits, only, is_nil, some_kept, allowed, are_nil, walk_form, walk_cut}
 use Rattle.chart_term.specs.Tables.{Tables, net_count, net_of, nodes_of, node_of, count_from, choose}
 use Rattle.chart_term.specs.Terms.{Tree, Nil, Walk}
-use Rattle.chart_term.proofs.Walking.{out_filter}
+use Rattle.chart_term.proofs.Walking.{out_filter, in_filter}
+use Rattle.chart_term.proofs.Lists.{count_length}
 use Rattle.term_laws.specs.Normality.{IsSet}
 use Rattle.permit_step.specs.Passing.{is_full, ArePassable, PassesFull, IsAimed}
 use Rattle.term_laws.specs.Permission.{permit, permits_of}
 use Rattle.permit_step.specs.Ready.{IsReady, AreReadyTables, IsSpotWithin, IsGoalWithin}
 use Rattle.term_laws.proofs.Measures.{rank_in}
-use Rattle.permit_step.proofs.NodeTerms.{IsNode, node-is, sizes-are, count_length}
+use Rattle.permit_step.proofs.NodeTerms.{IsNode, node-is, sizes-are}
 use Rattle.term_laws.proofs.TermSentences.{net_rank}
 
 -- members of filtered lists and of counted ones
-pub in_filter : (t : ℕ → Bool) (ms : List ℕ) (m : ℕ) → IsIn m ms → t m ≡ true → IsIn m (filter t ms)
-in_filter t [] m h e = h
-in_filter t (n ∷ ms) m h e = go (t n) refl h (λ i. in_filter t ms m i e)
-  where
-    go : (b : Bool) → t n ≡ b → (m ≡ n) ⊎ IsIn m ms → (IsIn m ms → IsIn m (filter t ms)) → IsIn m (cond b (n ∷ filter t ms) (filter t ms))
-    go true q (inl i) f = inl i
-    go true q (inr i) f = inr (f i)
-    go false q (inl i) f = let r : t m ≡ t n = ap t i in cc
-    go false q (inr i) f = f i
 
 counted : (i m : ℕ) (xs : List Tree) → IsIn m (count_from i xs) → (i ≤ m) × (m < i + length xs)
 counted i m [] h = absurd h
@@ -66,10 +59,6 @@ walk_lead g ks s (To m) h = h
 walk_lead g ks s End h = h
 walk_lead g ks s Any h = tt
 
-and_both : (a b : Bool) → a ≡ true → b ≡ true → (a && b) ≡ true
-and_both true b h k = k
-and_both false b h k = cc
-
 and_first : (a b : Bool) → (a && b) ≡ true → a ≡ true
 and_first true b h = refl
 and_first false b h = cc
@@ -89,7 +78,7 @@ all_false p (n ∷ ms) m (inr i) e = ap (λ t. p n && t) (all_false p ms m i e) 
 
 all_true : (p : ℕ → Bool) (ms : List ℕ) → ((m : ℕ) → IsIn m ms → p m ≡ true) → list_all p ms ≡ true
 all_true p [] f = refl
-all_true p (n ∷ ms) f = and_both (p n) (list_all p ms) (f n (inl refl)) (all_true p ms (λ m i. f m (inr i)))
+all_true p (n ∷ ms) f = and_from (p n) (list_all p ms) (f n (inl refl)) (all_true p ms (λ m i. f m (inr i)))
 
 full_is : (o : Option Tree) → is_full o ≡ true → (some_kept o ≡ true) × (is_nil o ≡ false)
 full_is None h = cc
@@ -144,7 +133,7 @@ module _ (w : Tables) (n : ℕ) (c : List ℕ) (size : ℕ) (ms ns : List ℕ) (
         let r = (h.full m).0 i in
         let f = full_is (kept_at m) r.1 in
         let inside : IsIn m ks = to_allowed m ((h.passed m).1 (r.0, f.0)) in
-        let way : (reach g ks s (To m) && reach g ks (At m) t) ≡ true = and_both (reach g ks s (To m)) (reach g ks (At m) t) (leads_reach s (To m) tt u) (leads_reach (At m) t a v) in
+        let way : (reach g ks s (To m) && reach g ks (At m) t) ≡ true = and_from (reach g ks s (To m)) (reach g ks (At m) t) (leads_reach s (To m) tt u) (leads_reach (At m) t a v) in
         all_false (λ j. is_nil ((permits_of w).kept n j c)) (filter (λ j. reach g ks s (To j) && reach g ks (At j) t) ks) m (in_filter (λ j. reach g ks s (To j) && reach g ks (At j) t) ks m inside way) f.1
 
     no_full_true : (PassesFull g ms ns s t → ⊥) → are_nil (permits_of w) n s t c ks ≡ true

@@ -16,7 +16,7 @@ use Rattle.permit_step.specs.ReadyLaws.{ReadyIsKept}
 use Rattle.permit_step.specs.Successors.{AppendsFound}
 use Rattle.permit_step.proofs.NodeTerms.{up_ready}
 use Rattle.term_laws.proofs.Normalising.{join_normal, choice_normal, bound_normal}
-use Rattle.term_laws.proofs.TidyTables.{at_some}
+use Rattle.term_laws.proofs.Keeping.{at_some}
 use Rattle.permit_step.proofs.Within.{join_in, choice_in, bound_in, may_both}
 
 module _ (w : Tables) where

@@ -8,10 +8,8 @@ use Rattle.chart_term.specs.Equality.{same_tree}
 use Rattle.chart_term.specs.Facts.{most_stored}
 use Rattle.chart_term.specs.Order.{tree_cmp}
 use Rattle.chart_term.specs.Terms.{Tree, weight}
-use Rattle.chart_term.specs.OrderLaws.{tree_equal, tree_itself}
-use Rattle.std.specs.declared.cmp.Ordering.{Ordering}
-use Rattle.std.specs.declared.cmp.Ordering.TheVariants.{Less, Equal, Greater}
 use Rattle.chart_term.proofs.Equal.{same_tree_is_exact}
+use Rattle.chart_term.proofs.Distinct.{same_by_order}
 use Rattle.term_laws.specs.Listing.{IsAmong, set_weight}
 use Rattle.term_laws.specs.Normality.{AreDifferent}
 use Rattle.permit_step.specs.Searches.{IsTally, AddsOne, is_listed}
@@ -47,24 +45,6 @@ among_listed (x ∷ xs) t h = go (same_tree x t) refl h (among_listed xs t)
     go false e l f = inr (f l)
 
 -- the order and the test of equality agree
-same_by_order : (x y : Tree) → is_eq (tree_cmp x y) ≡ same_tree x y
-same_by_order x y = by_case (same_tree x y) refl
-  where
-    is_equal : (o : Ordering) → is_eq o ≡ true → o ≡ Equal
-    is_equal Less h = cc
-    is_equal Equal h = refl
-    is_equal Greater h = cc
-
-    other : (b : Bool) → (b ≡ true → ⊥) → b ≡ false
-    other true h = absurd (h refl)
-    other false h = refl
-
-    apart : (b : Bool) → b ≡ false → b ≡ true → ⊥
-    apart b p q = cc
-
-    by_case : (b : Bool) → same_tree x y ≡ b → is_eq (tree_cmp x y) ≡ same_tree x y
-    by_case true e = ap is_eq (ap (λ z. tree_cmp x z) (sym (same_tree_is_exact.sound x y e)) ∙ tree_itself x) ∙ sym e
-    by_case false e = other (is_eq (tree_cmp x y)) (λ h. apart (same_tree x y) e (same_tree_is_exact.whole x y (tree_equal x y (is_equal (tree_cmp x y) h)))) ∙ sym e
 
 -- one more item
 listed_more : (xs : List Tree) (t y : Tree) → is_listed y (xs ++ t ∷ []) ≡ (is_listed y xs || same_tree t y)

@@ -1,6 +1,7 @@
 -- What is left of a walk, by the walk to a node and the walk on from it.
-use Rattle.std.specs.Prelude.{ℕ, zero, suc, ◌<◌, ◌==◌, Bool, true, false, List, [], ◌∷◌, ◌++◌, ◌≡◌, ◌||◌, ◌&&◌, Option, Some, None, refl, length}
+use Rattle.std.specs.Prelude.{ℕ, zero, suc, ◌<◌, ◌==◌, Bool, true, false, List, [], ◌∷◌, ◌++◌, ◌≡◌, ◌&&◌, Option, Some, None, refl, length}
 use Rattle.std.proofs.Common.{ap, sym, ◌∙◌, arith, cond, filter, inl, inr}
+use Rattle.std.proofs.lemmas.Bool.{or_left, or_right}
 use Rattle.msc_base.specs.Patterns.{seq}
 use Rattle.hmsc_graph.specs.Graphs.{Spot, At, Goal, To, End, Any, reach}
 use Rattle.msc_base.specs.Lists.{IsIn}
@@ -12,6 +13,7 @@ use Rattle.chart_term.specs.TermPatterns.{instances_of}
 use Rattle.chart_term.specs.Terms.{TermEvent, has, Tree, Walk, ◌∪◌}
 use Rattle.chart_term.specs.Views.{event_of}
 use Rattle.chart_term.proofs.Instances.{has_app}
+use Rattle.chart_term.proofs.Lists.{count_length}
 use Rattle.permit_step.specs.Children.{where_so, three, put}
 use Rattle.term_laws.specs.Listing.{may_lead}
 use Rattle.term_laws.specs.Normality.{IsSet}
@@ -21,19 +23,12 @@ use Rattle.permit_step.specs.Searches.{IsTaken}
 use Rattle.permit_step.specs.declared.ascent.Taken.{Taken}
 use Rattle.term_laws.proofs.Agreeing.{same_touch}
 use Rattle.term_laws.proofs.Alike.{AreIn, AgreeOn, permit-alike, union-alike}
-use Rattle.permit_step.proofs.NodeTerms.{node-is, below, count_length}
+use Rattle.permit_step.proofs.NodeTerms.{node-is, below}
 use Rattle.permit_step.proofs.PermitWalks.{nodes_in}
 use Rattle.term_laws.proofs.SetFacts.{has_cut}
 use Rattle.term_laws.proofs.TidyTables.{not_same, less_or_same}
 
 -- a node's term touches instances of its net alone
-or_left : (a b : Bool) → a ≡ true → (a || b) ≡ true
-or_left true b h = refl
-or_left false b h = cc
-
-or_right : (a b : Bool) → b ≡ true → (a || b) ≡ true
-or_right true b h = refl
-or_right false b h = h
 
 nth_touch : (s : ℕ → List ℕ) (xs : List Tree) (m : ℕ) → m < length xs → AreIn (touch s (nth_tree xs m)) (touch_list s xs)
 nth_touch s [] m l = absurd (omega arith)

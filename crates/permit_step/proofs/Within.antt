@@ -12,6 +12,7 @@ use Rattle.chart_term.specs.Spreads.{touch}
 use Rattle.chart_term.specs.Tables.{Tables, choose, count_from, net_count, nodes_of}
 use Rattle.chart_term.specs.TermMeanings.{UpTo}
 use Rattle.chart_term.specs.Terms.{Block, Tree, Part, Gap}
+use Rattle.chart_term.proofs.Lists.{count_length}
 use Rattle.term_laws.specs.Normality.{IsNormalOver}
 use Rattle.term_laws.specs.Permission.{kept_of, permit, permit_nth, permits_of}
 use Rattle.term_laws.proofs.EveryPart.{join_part, choice_part, bound_part, fresh_part, walk_part, permit_part}
@@ -19,7 +20,6 @@ use Rattle.term_laws.proofs.Keeping.{Begins, Aims, as_before, at_node, to_node}
 use Rattle.term_laws.proofs.Normalising.{permit_normal, turns_normal, trail_normal}
 use Rattle.permit_step.specs.Fresh.{IsFreshLoop}
 use Rattle.permit_step.specs.Ready.{IsReady, IsWithin, IsWalkWithin, IsSpotWithin, IsGoalWithin}
-use Rattle.permit_step.proofs.NodeTerms.{count_length}
 
 -- a node whose term permission leaves is one of the net
 nth_within : (w : Tables) (b : Block) (xs : List Tree) (m : ℕ) (y : Tree) → permit_nth (permits_of w) b xs m ≡ Some y → m < length xs

@@ -9,7 +9,7 @@ use Rattle.chart_term.specs.TermPatterns.{Shape, InPairs, take_one, take_first, 
 use Rattle.chart_term.specs.TermRuns.{Runs, run_end, run_take}
 use Rattle.chart_term.specs.Terms.{TermEvent, Tree, Event, Join, Tied, none, more}
 use Rattle.term_laws.specs.FullSoundness.{times, HasOrders}
-use Rattle.term_laws.proofs.FreshTerms.{order_of}
+use Rattle.term_laws.proofs.SoundLaws.{order_of}
 use Rattle.residual_bench.specs.Charts.{event, answer}
 
 -- A message

@@ -14,8 +14,8 @@ use Rattle.permit_step.specs.Fresh.{IsFreshLoop}
 use Rattle.term_laws.specs.FullSoundness.{IsSoundNode, IsFullySound, fresh_loop, MustHave}
 use Rattle.permit_step.specs.Ready.{IsReady, AreReadyTables}
 use Rattle.term_laws.proofs.SoundForms.{constructors_keep_soundness}
+use Rattle.term_laws.proofs.Keeping.{at_some}
 use Rattle.permit_step.proofs.SoundReady.{ready_by_soundness}
-use Rattle.term_laws.proofs.TidyTables.{at_some}
 use Rattle.trace_judge.specs.Sets.{IsSoundFor}
 use Rattle.residual_bench.specs.Charts.{labels, event, message, answer, exchange, ordered}
 use Rattle.residual_bench.proofs.Orders.{message_once, first_orders, second_orders, third_orders, exchange_once, exchange_orders, three_once, three_orders}

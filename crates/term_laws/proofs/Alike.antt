@@ -1,14 +1,14 @@
 -- Blocks that say the same of the instances that a term touches permit the same of it.
 use Rattle.std.specs.Option.{option_map}
 use Rattle.std.specs.Prelude.{ℕ, ◌==◌, Bool, true, false, List, [], ◌∷◌, ◌++◌, ◌≡◌, ◌||◌, ◌&&◌, Option, Some, None, refl}
-use Rattle.std.proofs.Common.{ap, sym, ◌∙◌, arith}
-use Rattle.std.proofs.lemmas.Bool.Decides.{nat_tests}
+use Rattle.std.proofs.Common.{ap, sym, ◌∙◌}
+use Rattle.std.proofs.lemmas.Bool.{or_left, or_right}
 use Rattle.chart_term.specs.NormalForms.{NetPermits, only, cut, cut_gaps, drop_nil, at_zero, live, has_free, drop_free, lower_of, thin, turns_end, walk_cut, join_all, and_then, or_skip, unless, choice_of, tie_of, turns_in}
 use Rattle.chart_term.specs.Properties.{EachGap}
 use Rattle.chart_term.specs.TermPatterns.{instances_of, some_list}
 use Rattle.chart_term.specs.Terms.{TermEvent, Block, has, has_some, hits, Tree, Nil, Event, Join, Choice, Tied, Loop, Walk, Trees, none, more, Row, ends, gap, turn, Part, Gap, Turn, parts, ◌∪◌}
 use Rattle.chart_term.specs.Spreads.{touch, touch_all, touch_row}
-use Rattle.chart_term.proofs.Instances.{has_union, has_app}
+use Rattle.chart_term.proofs.Instances.{has_union, has_app, has_self}
 use Rattle.term_laws.specs.Normality.{IsSet, IsNormal, AreNormal, IsNormalRow}
 use Rattle.term_laws.specs.Permission.{permit, permit_all, permit_some, permit_row, wider, with_turn}
 use Rattle.term_laws.proofs.Normalising.{union_set, cut_set}
@@ -18,22 +18,11 @@ use Rattle.term_laws.proofs.SetFacts.{set_ext, has_cut}
 abbrev pub AreIn : List ℕ → List ℕ → Type 0
 AreIn c d = (n : ℕ) → has c n ≡ true → has d n ≡ true
 
-or_left : (a b : Bool) → a ≡ true → (a || b) ≡ true
-or_left true b h = refl
-or_left false b h = cc
-
-or_right : (a b : Bool) → b ≡ true → (a || b) ≡ true
-or_right true b h = refl
-or_right false b h = h
-
 pub in_left : (c d all : List ℕ) → AreIn (c ++ d) all → AreIn c all
 in_left c d all h n e = h n (has_app c d n ∙ or_left (has c n) (has d n) e)
 
 pub in_right : (c d all : List ℕ) → AreIn (c ++ d) all → AreIn d all
 in_right c d all h n e = h n (has_app c d n ∙ or_right (has c n) (has d n) e)
-
-pub has_itself : (n : ℕ) (c : List ℕ) → has (n ∷ c) n ≡ true
-has_itself n c = let e : (n == n) ≡ true = grind (arith, nat_tests) in ap (λ t. t || has c n) e
 
 -- the blocks say the same of these instances, and of all numbers
 pub record AgreeOn (all : List ℕ) (b d : Block) : Type 0 where
@@ -65,11 +54,11 @@ cut_ended p x lo hi rs = let qs = live p (at_zero hi (drop_nil rs)) in turns_end
 module _ (k : NetPermits) (all : List ℕ) (b d : Block) (alike : AgreeOn all b d) where
   some_alike : (o : Option ℕ) → AreIn (some_list o) all → has_some b.instances o ≡ has_some d.instances o
   some_alike None h = refl
-  some_alike (Some n) h = alike.instances n (h n (has_itself n []))
+  some_alike (Some n) h = alike.instances n (h n (has_self n []))
 
   event_alike : (e : TermEvent) → AreIn (instances_of e).instances all → hits b e ≡ hits d e
   event_alike e h =
-      let first : has b.instances e.at ≡ has d.instances e.at = alike.instances e.at (h e.at (has_itself e.at (some_list e.also))) in
+      let first : has b.instances e.at ≡ has d.instances e.at = alike.instances e.at (h e.at (has_self e.at (some_list e.also))) in
       let second : has_some b.instances e.also ≡ has_some d.instances e.also = some_alike e.also (λ n i. h n (or_right (e.at == n) (has (some_list e.also) n) i)) in
       λ i. (first i || second i) || alike.numbers e.number i
 

@@ -20,7 +20,8 @@ use Rattle.term_laws.proofs.Identity.{permit_same}
 use Rattle.term_laws.proofs.Permitting.{IsRegular, touched, permit_law, only_fits}
 use Rattle.term_laws.proofs.Ranking.{permit_weight}
 use Rattle.term_laws.proofs.TidyKept.{good_ok, falls_of, shows_of}
-use Rattle.term_laws.proofs.TidyTables.{nets_good, at_some}
+use Rattle.term_laws.proofs.TidyTables.{nets_good}
+use Rattle.term_laws.proofs.Keeping.{at_some}
 
 pub permit_only_falls : PermitOnlyFalls
 permit_only_falls = record {

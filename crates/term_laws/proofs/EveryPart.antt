@@ -11,9 +11,9 @@ use Rattle.chart_term.specs.Spreads.{touch}
 use Rattle.term_laws.specs.Permission.{permit, permit_nth, permits_of}
 use Rattle.term_laws.specs.Soundness.{AreTidyTables}
 use Rattle.term_laws.specs.Taking.{IsAfter}
-use Rattle.term_laws.proofs.Keeping.{Kind, Begins, Aims, join_keeps, choice_keeps, tied_keeps, turns_keep, trail_keeps, permit_keeps, after_keeps}
+use Rattle.term_laws.proofs.Keeping.{Kind, Begins, Aims, join_keeps, choice_keeps, tied_keeps, turns_keep, trail_keeps, permit_keeps, after_keeps, at_some}
 use Rattle.term_laws.proofs.TermSentences.{kept_below, low_nth}
-use Rattle.term_laws.proofs.TidyTables.{nth_has, at_some}
+use Rattle.term_laws.proofs.TidyTables.{nth_has}
 
 module _ (E : TermEvent → Type 0) (B : Tree → List (ℕ × ℕ) → Type 0) (L : Tree → Type 0) (N : ℕ → Spot → Goal → Type 0) where
   abbrev EP : Tree → Type 0

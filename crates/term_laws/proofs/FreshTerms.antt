@@ -10,20 +10,18 @@ use Rattle.chart_term.specs.TermMeanings.{aim, MayStop, HasPattern, has_nil, hol
 use Rattle.chart_term.specs.TermPatterns.{Shape, Avoids, Lets, instances_of, HasNoEvent, take_first, take_later, back, Both}
 use Rattle.chart_term.specs.TermRuns.{Runs, run_end, run_take}
 use Rattle.chart_term.specs.Terms.{TermEvent, Block, hits, has_some, Tree, Nil, Loop, Walk, Gap, gap, ends}
-use Rattle.chart_term.proofs.Arranging.{runs_linear, linear_run}
 use Rattle.chart_term.proofs.Running.{runs_same}
 use Rattle.term_laws.specs.ConstructorLaws.{IsFormed}
 use Rattle.term_laws.specs.FullSoundness.{AreNumbersKnown, HasOrders, HaveOperandsOrders, HasNoOpenWalk, IsNotAny, IsOpenWalkLast, IsGoalOf, IsSoundNode, AreSoundNets, IsFullySound, fresh_loop, fresh_walk, MustHave, FreshTermsAreSound}
 use Rattle.term_laws.specs.Laws.{HasSome}
 use Rattle.term_laws.specs.Permission.{permits_of}
-use Rattle.term_laws.specs.Sound.{HasOrder}
 use Rattle.term_laws.specs.Soundness.{AreTidyTables, NetLacks, IsKnown}
 use Rattle.term_laws.proofs.ConstructorForms.{constructors_keep_form}
 use Rattle.term_laws.proofs.ConstructorProofs.{normal_forms_keep_patterns}
 use Rattle.term_laws.proofs.EveryPart.{fresh_part}
 use Rattle.term_laws.proofs.FullSound.{is_sound, tidy_of, tidy_tables, normal_tables, walk_known, known_left, orders_up, OnceTie, tie_fewer, tie_permit, tie_taken}
 use Rattle.term_laws.proofs.OpenWalks.{walk_left, closed_last}
-use Rattle.term_laws.proofs.SoundLaws.{sound_has_pattern}
+use Rattle.term_laws.proofs.SoundLaws.{sound_has_pattern, order_of, run_of}
 use Rattle.term_laws.proofs.SoundParts.{sound_even, outside_of, falling_of, counts_of}
 use Rattle.term_laws.proofs.TidyTables.{each_map, each_nth, picked, less_or_same, node_below, nets_good, up}
 use Rattle.term_laws.proofs.Times.{TiesOnce, ties_to, ties_from}
@@ -47,12 +45,6 @@ later_runs m {s = s} h (run_take {e = e} a r) = run_take (take_later (lets_any m
 pub join_runs : (m : Mode) {s t : Shape} {l k : List ℕ} → Runs s l → Runs t k → Runs (join m s t) (l ++ k)
 join_runs m (run_end h) r = later_runs m h r
 join_runs m (run_take a q) r = run_take (take_first a) (join_runs m q r)
-
-pub run_of : (s : Shape) → HasOrder s → (l : List ℕ) × Runs s l
-run_of s h = (h.run, linear_run s h.run h.is)
-
-pub order_of : (s : Shape) (l : List ℕ) → Runs s l → HasOrder s
-order_of s l h = record { run = l; is = runs_linear h }
 
 -- nothing is blocked
 nothing_hit : (e : TermEvent) → hits (only []) e ≡ false

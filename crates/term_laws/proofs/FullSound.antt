@@ -16,12 +16,12 @@ use Rattle.term_laws.specs.Sound.{IsSound}
 use Rattle.term_laws.specs.Soundness.{AreTidyTables, IsTidyOver, NetLacks, IsKnown}
 use Rattle.term_laws.specs.Taking.{IsAfter}
 use Rattle.term_laws.proofs.EveryPart.{permit_part, after_part, part_map, NodesHave, kept_has_it}
-use Rattle.term_laws.proofs.Keeping.{Begins, Aims, as_before, at_node, to_node}
+use Rattle.term_laws.proofs.Keeping.{Begins, Aims, as_before, at_node, to_node, at_some}
 use Rattle.term_laws.proofs.Once.{Once, OnceAll, OnceEach, permit_once, after_once}
 use Rattle.term_laws.proofs.OpenWalks.{permit_closed, permit_last, after_last}
 use Rattle.term_laws.proofs.SoundLaws.{soundness_is_kept}
 use Rattle.term_laws.proofs.SoundParts.{sound_even, sound_tidy, outside_of, falling_of, counts_of}
-use Rattle.term_laws.proofs.TidyTables.{not_same, each_map, at_some, down, lacks_tree, lacks_all, lacks_row, lacks_up, nets_good}
+use Rattle.term_laws.proofs.TidyTables.{not_same, each_map, down, lacks_tree, lacks_all, lacks_row, lacks_up, nets_good}
 use Rattle.term_laws.proofs.Times.{TiesOnce, ties_to, ties_from}
 
 -- What the laws ask of tables

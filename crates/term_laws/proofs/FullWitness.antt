@@ -10,9 +10,10 @@ use Rattle.chart_term.specs.TermRuns.{run_end, run_take}
 use Rattle.chart_term.specs.Terms.{Nil, Loop, Walk, gap, ends}
 use Rattle.term_laws.specs.FullSoundness.{IsSoundNode, IsFullySound, AreSoundNets, AreEndsNil}
 use Rattle.term_laws.specs.Sound.{HasOrder}
-use Rattle.term_laws.proofs.FreshTerms.{fresh_terms_are_sound, nil_orders, order_of}
+use Rattle.term_laws.proofs.FreshTerms.{fresh_terms_are_sound, nil_orders}
 use Rattle.term_laws.proofs.Times.{ties_from}
 use Rattle.term_laws.proofs.Witness.{message, message_sound, action, entry, within}
+use Rattle.term_laws.proofs.SoundLaws.{order_of}
 
 -- A message: each number stands at one event
 

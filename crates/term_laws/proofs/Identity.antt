@@ -2,6 +2,7 @@
 use Rattle.std.specs.Prelude.{ℕ, zero, suc, Bool, true, false, List, [], ◌∷◌, ◌++◌, ◌≡◌, ◌&&◌, ◌||◌, ◌==◌, Option, Some, None, refl}
 use Rattle.std.specs.Option.{option_map}
 use Rattle.std.proofs.Common.{ap, ◌∙◌}
+use Rattle.std.proofs.lemmas.Bool.{or_parts, and_from}
 use Rattle.msc_base.specs.Patterns.{Mode, seq, par}
 use Rattle.hmsc_graph.specs.Graphs.{Spot, Goal, To, End, Any, reach}
 use Rattle.chart_term.specs.Equality.{same_tree}
@@ -78,21 +79,14 @@ pub choice_same : (xs : Trees) → Each IsAlternative (items xs) → AreTwoOrMor
 choice_same xs h t d = (λ i. choice_form (distinct (choices_same (items xs) h i))) ∙ (ap choice_form (distinct_same (items xs) d) ∙ form_same xs t)
 
 -- bound terms
-or_parts : (a b : Bool) → (a || b) ≡ false → (a ≡ false) × (b ≡ false)
-or_parts true b h = cc
-or_parts false b h = (refl, h)
 
 without_pair_same : (p : ℕ × ℕ) (q : List (ℕ × ℕ)) → pairs q p.0 p.1 ≡ false → without_pair p q ≡ q
 without_pair_same p [] h = refl
 without_pair_same p (r ∷ q) h = let (u, v) = or_parts ((p.0 == r.0) && (p.1 == r.1)) (pairs q p.0 p.1) h in λ i. unless_pair (u i) r (without_pair_same p q v i)
 
-and_true : (a b : Bool) → a ≡ true → b ≡ true → (a && b) ≡ true
-and_true true b h k = k
-and_true false b h k = cc
-
 pairs_same : (ns : List ℕ) (q : List (ℕ × ℕ)) → AreShown ns q → ArePairsOnce q → kept_pairs ns q ≡ q
 pairs_same ns [] h o = refl
-pairs_same ns (p ∷ q) h o = (λ i. with_pair (and_true (has ns p.0) (has ns p.1) h.0 h.1 i) p (pairs_same ns q h.2 o.1 i)) ∙ ap (λ l. p ∷ l) (without_pair_same p q o.0)
+pairs_same ns (p ∷ q) h o = (λ i. with_pair (and_from (has ns p.0) (has ns p.1) h.0 h.1 i) p (pairs_same ns q h.2 o.1 i)) ∙ ap (λ l. p ∷ l) (without_pair_same p q o.0)
 
 tie_same : (x : Tree) (q : List (ℕ × ℕ)) → IsSomePair q → bound_form x q ≡ Tied x q
 tie_same x [] h = absurd h

@@ -95,6 +95,9 @@ pub each_app : (P : Tree → Type 0) (xs ys : List Tree) → Each P xs → Each 
 each_app P [] ys h i = i
 each_app P (x ∷ xs) ys h i = (h.0, each_app P xs ys h.1 i)
 
+pub at_some : (P : Tree → Type 0) (r : Option Tree) (y : Tree) → r ≡ Some y → MayHave P r → P y
+at_some P r y e h = rw e at h
+
 -- a gap that is left leaves something of the operand
 module _ (k : NetPermits) where
   pub alive_sub : (x : Tree) {ps qs : List Part} → IsSubRow qs ps → AliveGaps k x ps → AliveGaps k x qs
@@ -289,14 +292,8 @@ module _ (k : NetPermits) (P T : Tree → Type 0) (X : Tree → ℕ → Option �
     some_keep b none h = tt
     some_keep b (more x xs) h = skip_keeps (permit k b x) (permit_some k b xs) (permit_keeps b x h.0) (some_keep b xs h.1)
 
-  at_some : (r : Option Tree) (y : Tree) → r ≡ Some y → MayHave P r → P y
-  at_some r y e h = rw e at h
-
-  turn_some : (r : Option Tree) (y : Tree) → r ≡ Some y → MayHave T r → T y
-  turn_some r y e h = rw e at h
-
   stays_keeps : (m : Mode) (e : TermEvent) (x x' : Tree) → P x → Stays k m e x x' → P x'
-  stays_keeps seq e x x' h s = at_some (permit k (only (instances_of e).instances) x) x' s (permit_keeps (only (instances_of e).instances) x h)
+  stays_keeps seq e x x' h s = at_some P (permit k (only (instances_of e).instances) x) x' s (permit_keeps (only (instances_of e).instances) x h)
   stays_keeps par e x x' h s = rw s h
 
   -- where what permission leaves of the node terms has it too
@@ -307,13 +304,13 @@ module _ (k : NetPermits) (P T : Tree → Type 0) (X : Tree → ℕ → Option �
       after_keeps (after_choice {xs = xs} a) h = one_keeps a (kind.choice_out xs h)
       after_keeps (after_join {m = m} {xs = xs} {ys = ys} a) h = join_keeps m ys (parts_keep a (kind.join_out m xs h))
       after_keeps (after_tied {x = x} {y = y} {z = z} {q = q} {e = e} a p) h =
-          tied_keeps z q (kind.bound_in x z q h (kind.taken x y z (earlier q e) e a p) (at_some (permit k (earlier q e) y) z p (permit_keeps (earlier q e) y (after_keeps a (kind.bound_out x q h)))))
+          tied_keeps z q (kind.bound_in x z q h (kind.taken x y z (earlier q e) e a p) (at_some P (permit k (earlier q e) y) z p (permit_keeps (earlier q e) y (after_keeps a (kind.bound_out x q h)))))
       after_keeps (after_loop {x = x} {z = z} {lo = lo} {hi = hi} {r = r} {e = e} b {ps = ps} a hm p) h =
           let i = kind.turns_out x lo hi r h in
-          at_some _ z p (turns_keep x (down b lo) (fewer b hi) ps (kind.after_row x lo hi r ps b e a hm i.0) (row_keeps a lo hi (parts r) i.0 i.1))
+          at_some P _ z p (turns_keep x (down b lo) (fewer b hi) ps (kind.after_row x lo hi r ps b e a hm i.0) (row_keeps a lo hi (parts r) i.0 i.1))
       after_keeps (after_walk {n = n} {s = f} {t = t} {c = c} {e = e} m {x = x} {y = y} {u = u} {v = v} p a l1 l2 q r) h =
           join_keeps seq (u ∷ y ∷ v ∷ [])
-          (at_some _ u q (trail_keeps n f f t (To m) c (c ∪ (instances_of e).instances) h as_before (to_node m c x p)), (after_keeps a (kept n m f t c c x h p), (at_some _ v r (trail_keeps n f (At m) t t c c h (at_node m c x p) as_before), tt)))
+          (at_some P _ u q (trail_keeps n f f t (To m) c (c ∪ (instances_of e).instances) h as_before (to_node m c x p)), (after_keeps a (kept n m f t c c x h p), (at_some P _ v r (trail_keeps n f (At m) t t c c h (at_node m c x p) as_before), tt)))
 
       one_keeps : {xs : Trees} {y : Tree} {e : TermEvent} → IsAfterOne k xs e y → Each P (items xs) → P y
       one_keeps (first_one a) h = after_keeps a h.0
@@ -326,7 +323,7 @@ module _ (k : NetPermits) (P T : Tree → Type 0) (X : Tree → ℕ → Option �
       row_keeps : {x : Tree} {b : Bool} {ps qs : List Part} {e : TermEvent} → IsAfterRow k x b ps e qs → (lo : ℕ) (hi : Option ℕ) (rs : List Part) → X x lo hi rs → EachTurn T ps → EachTurn T qs
       row_keeps (in_turn {y = y} {z = z} {e = e} a) lo hi rs h d = (kind.turn_after y z e d.0 a (after_keeps a (kind.release y d.0)), d.1)
       row_keeps (in_gap {x = x} {y = y} {z = z} {c = c} {e = e} p a) lo hi rs h d =
-          (kind.new_turn x y z c lo hi rs e h p a (λ i. after_keeps a (at_some (permit k (only c) x) y p (permit_keeps (only c) x i))), d)
+          (kind.new_turn x y z c lo hi rs e h p a (λ i. after_keeps a (at_some P (permit k (only c) x) y p (permit_keeps (only c) x i))), d)
       row_keeps (past_turn {y = y} {z = z} {e = e} p a) lo hi rs h d =
-          (turn_some (permit k (only (instances_of e).instances) y) z p (kind.turn_permit (only (instances_of e).instances) y d.0 (permit_keeps (only (instances_of e).instances) y (kind.release y d.0))), row_keeps a lo hi rs h d.1)
+          (at_some T (permit k (only (instances_of e).instances) y) z p (kind.turn_permit (only (instances_of e).instances) y d.0 (permit_keeps (only (instances_of e).instances) y (kind.release y d.0))), row_keeps a lo hi rs h d.1)
       row_keeps (past_gap a) lo hi rs h d = row_keeps a lo hi rs h d

@@ -3,7 +3,7 @@ use Rattle.std.specs.Prelude.{ℕ, Bool, true, false, List, [], ◌∷◌, ◌++
 use Rattle.std.specs.List.{list_any}
 use Rattle.std.specs.Option.{option_map}
 use Rattle.std.proofs.Common.{ap, ap₂, subst, ◌∙◌, sym, arith, cond}
-use Rattle.std.proofs.lemmas.Bool.{eq-eqb, eqb-true}
+use Rattle.std.proofs.lemmas.Bool.{eq-eqb, eqb-true, and_parts, or_parts}
 use Rattle.std.proofs.lemmas.Bool.Decides.{nat_tests}
 use Rattle.std.proofs.lemmas.List.Folds.{list_any-append}
 use Rattle.bit_sets.specs.Blocks.{BlockValue}
@@ -15,6 +15,7 @@ use Rattle.chart_term.specs.Terms.{Block, TermEvent, has, has_some, hits, add_at
 use Rattle.term_laws.specs.Missed.{PermitOfMissed}
 use Rattle.term_laws.specs.Normality.{IsNormal, AreNormal, IsNormalRow}
 use Rattle.chart_term.specs.Spreads.{touch, touch_all, touch_row}
+use Rattle.chart_term.proofs.Instances.{or_true}
 use Rattle.term_laws.specs.Permission.{permit, permit_all, permit_some, permit_row, permits_of, wider, with_turn}
 use Rattle.term_laws.specs.Values.{block_of}
 use Rattle.term_laws.proofs.Identity.{join_same, choice_same, bound_same, turns_same}
@@ -23,10 +24,6 @@ use Rattle.term_laws.proofs.Identity.{join_same, choice_same, bound_same, turns_
 abbrev IsApart : List ℕ → List ℕ → Type 0
 IsApart [] ns = Unit {0}
 IsApart (m ∷ ms) ns = (has ns m ≡ false) × IsApart ms ns
-
-or_parts : (a b : Bool) → (a || b) ≡ false → (a ≡ false) × (b ≡ false)
-or_parts true b h = cc
-or_parts false b h = (refl, h)
 
 apart_parts : (ms ps qs : List ℕ) → IsApart ms (ps ++ qs) → IsApart ms ps × IsApart ms qs
 apart_parts [] ps qs h = (tt, tt)
@@ -43,10 +40,6 @@ apart_has (m ∷ ms) ns n h k = go (m == n) refl (apart_has ms ns n h.1 k)
     go : (b : Bool) → (m == n) ≡ b → has ms n ≡ false → ((m == n) || has ms n) ≡ false
     go true e rest = let bad : true ≡ false = sym k ∙ (ap (has ns) (sym (eqb-true m n e)) ∙ h.0) in cc
     go false e rest = ap₂ (λ a b. a || b) e rest
-
-or_true : (b : Bool) → (b || true) ≡ true
-or_true true = refl
-or_true false = refl
 
 -- an event that is missed isn't hit
 event_missed : (b : Block) (e : TermEvent) → IsApart b.instances (instances_of e).instances → IsApart b.numbers (e.number ∷ []) → hits b e ≡ false
@@ -152,9 +145,6 @@ module _ (k : NetPermits) (b : Block) where
         λ i. with_turn (missed_same x h.0 u c e i) (missed_row r h.1 v d f i)
 
 -- the test tells it
-and_parts : (a b : Bool) → (a && b) ≡ true → (a ≡ true) × (b ≡ true)
-and_parts true b h = (refl, h)
-and_parts false b h = cc
 
 not_true : (a : Bool) → not a ≡ true → a ≡ false
 not_true true h = cc

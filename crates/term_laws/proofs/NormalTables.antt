@@ -11,13 +11,13 @@ use Rattle.term_laws.specs.Normality.{AreNormal, IsNormalRow, IsNormalOver, AreN
 use Rattle.term_laws.specs.Permission.{permit, permit_nth, permits_of}
 use Rattle.term_laws.specs.Soundness.{AreTidyTables, IsTidyOver, NetLacks, IsKnown}
 use Rattle.term_laws.proofs.Agreeing.{same_normal}
-use Rattle.term_laws.proofs.Keeping.{AliveGaps, Leading}
+use Rattle.term_laws.proofs.Keeping.{AliveGaps, Leading, at_some}
 use Rattle.term_laws.proofs.Living.{IsHeld, Live, LiveAll, LiveRow, has_pattern}
 use Rattle.term_laws.proofs.Normalising.{permit_normal}
 use Rattle.term_laws.proofs.Ranking.{permit_rank}
 use Rattle.term_laws.proofs.TermSentences.{net_rank, kept_rank, kept_below, low_nth}
 use Rattle.term_laws.proofs.TidyKept.{closed}
-use Rattle.term_laws.proofs.TidyTables.{nets_good, not_same, nth_has, at_some}
+use Rattle.term_laws.proofs.TidyTables.{nets_good, not_same, nth_has}
 
 -- a term in normal form over the older nets is in normal form with one more net
 pub up_normal : (e : NetEntry) (es : Tables) (x : Tree) → IsBelow (net_count es) x → IsNormalOver es x → IsNormalOver (e ∷ es) x

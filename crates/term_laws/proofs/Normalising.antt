@@ -16,11 +16,11 @@ use Rattle.term_laws.specs.Normality.{IsAbove, IsSet, IsPartOf, IsAlternative, A
 use Rattle.chart_term.specs.Spreads.{touch}
 use Rattle.term_laws.specs.Permission.{permit, permit_all, permit_some, permit_row, wider, with_turn}
 use Rattle.term_laws.specs.Taking.{Stays, fewer, down, IsAfter, after_event, after_choice, after_join, after_tied, after_loop, after_walk, IsAfterOne, first_one, later_one, IsAfterJoin, first_part, later_part, IsAfterRow, in_turn, in_gap, past_turn, past_gap}
-use Rattle.term_laws.proofs.Keeping.{sub_thin, each_app, each_turn_sub, each_turn_cut}
+use Rattle.term_laws.proofs.Keeping.{sub_thin, each_app, each_turn_sub, each_turn_cut, at_some}
 
 -- Sets
 
-above_less : (n m : ℕ) (c : List ℕ) → n < m → IsAbove m c → IsAbove n c
+pub above_less : (n m : ℕ) (c : List ℕ) → n < m → IsAbove m c → IsAbove n c
 above_less n m [] l h = tt
 above_less n m (k ∷ c) l h = omega arith
 
@@ -52,7 +52,7 @@ pub union_set : (c d : List ℕ) → IsSet c → IsSet (c ∪ d)
 union_set c [] h = h
 union_set c (n ∷ d) h = add_set n (c ∪ d) (union_set c d h)
 
-above_cut : (all : List ℕ) (n : ℕ) (c : List ℕ) → IsSet c → IsAbove n c → IsAbove n (cut all c)
+pub above_cut : (all : List ℕ) (n : ℕ) (c : List ℕ) → IsSet c → IsAbove n c → IsAbove n (cut all c)
 above_cut all n [] h l = tt
 above_cut all n (m ∷ c) h l = go (has all m) (above_cut all n c h.1 (above_less n m c l h.0))
   where
@@ -490,12 +490,9 @@ module _ (k : NetPermits) where
     row_normal b (gap c r) h g = wider_normal c b.instances (permit_row k b r) g.0 (row_normal b r h g.1)
     row_normal b (turn x r) h g = with_normal (permit k b x) (permit_row k b r) (permit_normal b x h.0) (row_normal b r h.1 g)
 
-  at_some : (r : Option Tree) (y : Tree) → r ≡ Some y → MayHave (IsNormal k) r → IsNormal k y
-  at_some r y e h = rw e at h
-
   -- taking out
   stays_normal : (m : Mode) (e : TermEvent) (x x' : Tree) → IsNormal k x → Stays k m e x x' → IsNormal k x'
-  stays_normal seq e x x' h s = at_some (permit k (only (instances_of e).instances) x) x' s (permit_normal (only (instances_of e).instances) x h)
+  stays_normal seq e x x' h s = at_some (IsNormal k) (permit k (only (instances_of e).instances) x) x' s (permit_normal (only (instances_of e).instances) x h)
   stays_normal par e x x' h s = rw s h
 
   module _ (nets : (n m : ℕ) (d : List ℕ) (x : Tree) → k.kept n m d ≡ Some x → IsNormal k x) where
@@ -504,14 +501,14 @@ module _ (k : NetPermits) where
       after_normal after_event h = tt
       after_normal (after_choice {xs = xs} a) h = one_normal a (normal_out xs h.0)
       after_normal (after_join {m = m} {xs = xs} {ys = ys} a) h = join_normal m ys (parts_normal a (normal_out xs h.0))
-      after_normal (after_tied {x = x} {y = y} {z = z} {q = q} {e = e} a p) h = bound_normal z q (at_some (permit k (earlier q e) y) z p (permit_normal (earlier q e) y (after_normal a h.0)))
+      after_normal (after_tied {x = x} {y = y} {z = z} {q = q} {e = e} a p) h = bound_normal z q (at_some (IsNormal k) (permit k (earlier q e) y) z p (permit_normal (earlier q e) y (after_normal a h.0)))
       after_normal (after_loop {x = x} {z = z} {lo = lo} {hi = hi} {r = r} {e = e} b {ps = ps} a hm p) h =
           let i = row_left a h.0 (normal_row_out r h.1) h.2.sets in
-          at_some (loop_of (λ c. permit k (only c) x) (touch k.spread x) x (down b lo) (fewer b hi) ps) z p (turns_normal x (down b lo) (fewer b hi) ps h.0 i.0 i.1)
+          at_some (IsNormal k) (loop_of (λ c. permit k (only c) x) (touch k.spread x) x (down b lo) (fewer b hi) ps) z p (turns_normal x (down b lo) (fewer b hi) ps h.0 i.0 i.1)
       after_normal (after_walk {n = n} {s = f} {t = t} {c = c} {e = e} m {x = x} {y = y} {u = u} {v = v} p a l1 l2 q r) h =
           join_normal seq (u ∷ y ∷ v ∷ []) (
-            at_some (walk_of k n f (To m) (c ∪ (instances_of e).instances)) u q (trail_normal n f (To m) (c ∪ (instances_of e).instances) (union_set c (instances_of e).instances h.set)),
-            (after_normal a (nets n m c x p), (at_some (walk_of k n (At m) t c) v r (trail_normal n (At m) t c h.set), tt)),
+            at_some (IsNormal k) (walk_of k n f (To m) (c ∪ (instances_of e).instances)) u q (trail_normal n f (To m) (c ∪ (instances_of e).instances) (union_set c (instances_of e).instances h.set)),
+            (after_normal a (nets n m c x p), (at_some (IsNormal k) (walk_of k n (At m) t c) v r (trail_normal n (At m) t c h.set), tt)),
           )
 
       one_normal : {xs : Trees} {y : Tree} {e : TermEvent} → IsAfterOne k xs e y → Each (IsNormal k) (items xs) → IsNormal k y
@@ -525,8 +522,8 @@ module _ (k : NetPermits) where
       row_left : {x : Tree} {b : Bool} {ps qs : List Part} {e : TermEvent} → IsAfterRow k x b ps e qs → IsNormal k x → EachTurn (IsNormal k) ps → EachGap IsSet ps → EachTurn (IsNormal k) qs × EachGap IsSet qs
       row_left (in_turn a) h d g = ((after_normal a d.0, d.1), g)
       row_left (in_gap {x = x} {y = y} {c = c} {e = e} p a) h d g =
-          ((after_normal a (at_some (permit k (only c) x) y p (permit_normal (only c) x h)), d), (union_set c (instances_of e).instances g.0, (g.0, g.1)))
+          ((after_normal a (at_some (IsNormal k) (permit k (only c) x) y p (permit_normal (only c) x h)), d), (union_set c (instances_of e).instances g.0, (g.0, g.1)))
       row_left (past_turn {y = y} {z = z} {e = e} p a) h d g =
           let i = row_left a h d.1 g in
-          ((at_some (permit k (only (instances_of e).instances) y) z p (permit_normal (only (instances_of e).instances) y d.0), i.0), i.1)
+          ((at_some (IsNormal k) (permit k (only (instances_of e).instances) y) z p (permit_normal (only (instances_of e).instances) y d.0), i.0), i.1)
       row_left (past_gap {c = c} {e = e} a) h d g = let i = row_left a h d g.1 in (i.0, (union_set c (instances_of e).instances g.0, i.1))

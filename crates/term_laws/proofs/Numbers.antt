@@ -4,9 +4,6 @@ use Rattle.std.proofs.Common.{arith, inl, inr}
 use Rattle.std.proofs.lemmas.Bool.Decides.{nat_tests}
 use Rattle.chart_term.specs.Terms.{has}
 
-pub number_is : (m n : ℕ) → (m == n) ≡ true → m ≡ n
-number_is m n h = grind (arith, nat_tests)
-
 pub number_not : (m n : ℕ) → (m == n) ≡ false → m ≢ n
 number_not m n h = λ e. grind (arith, nat_tests)
 

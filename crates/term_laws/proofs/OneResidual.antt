@@ -9,7 +9,7 @@ use Rattle.chart_term.specs.NormalForms.{NetPermits}
 use Rattle.chart_term.specs.Properties.{Each, Every, EveryOf, EveryRow}
 use Rattle.chart_term.specs.Tables.{Tables}
 use Rattle.chart_term.specs.Terms.{TermEvent, has, Tree, Nil, Event, Join, Choice, Tied, Loop, Walk, Trees, none, more, Row, ends, gap, turn, items, weight, weights}
-use Rattle.chart_term.proofs.Equal.{same_tree_is_exact}
+use Rattle.chart_term.proofs.Equal.{same_tree_is_exact, number_is}
 use Rattle.term_laws.specs.Listing.{IsAmong, residual_set, set_weight}
 use Rattle.term_laws.specs.Normality.{AreDifferent}
 use Rattle.term_laws.specs.OneResidual.{labels_of, labels_of_all, labels_of_row, AreOnce, HasNoGraph, IsStraight, AreStraight, IsUnbegun, HasStraightLoops, HaveStraightLoops, IsUnambiguous, OneResidual}
@@ -19,7 +19,7 @@ use Rattle.term_laws.proofs.Apart.{Apart, AllApart}
 use Rattle.term_laws.proofs.Single.{Single, SingleAll, SingleRow, after_single}
 use Rattle.term_laws.proofs.Everywhere.{after_every}
 use Rattle.term_laws.proofs.ListingExact.{among_left, among_right}
-use Rattle.term_laws.proofs.Numbers.{number_is, number_not, number_self, or_false, lacks_both}
+use Rattle.term_laws.proofs.Numbers.{number_not, number_self, or_false, lacks_both}
 use Rattle.term_laws.proofs.OneWay.{same_after}
 use Rattle.term_laws.proofs.OneWeight.{after_weight}
 use Rattle.term_laws.proofs.SetExact.{set_sound, different, alone}

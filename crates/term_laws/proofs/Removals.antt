@@ -1,8 +1,10 @@
 -- Lists of numbers with members taken out: taking out one more from each, each list once, is taking out one more at the start.
 use Rattle.std.specs.Prelude.{ℕ, zero, suc, Bool, true, false, ◌&&◌, ◌||◌, List, [], ◌∷◌, ◌++◌, ◌≡◌, ◌==◌, refl}
 use Rattle.std.proofs.Common.{ap, sym, ◌∙◌, subst, append_assoc}
+use Rattle.std.proofs.lemmas.Bool.{and_parts}
 use Rattle.chart_term.specs.Equality.{same_numbers}
-use Rattle.term_laws.proofs.Numbers.{number_is, number_self}
+use Rattle.chart_term.proofs.Equal.{number_is}
+use Rattle.term_laws.proofs.Numbers.{number_self}
 
 -- the lists with this number before
 abbrev pub with_first : ℕ → List (List ℕ) → List (List ℕ)
@@ -61,13 +63,10 @@ EachList P [] = Unit {0}
 EachList P (x ∷ xs) = P x × EachList P xs
 
 -- equal lists
-and_both : (a b : Bool) → (a && b) ≡ true → (a ≡ true) × (b ≡ true)
-and_both true b h = (refl, h)
-and_both false b h = cc
 
 same_is : (c d : List ℕ) → same_numbers c d ≡ true → c ≡ d
 same_is [] [] h = refl
-same_is (m ∷ c) (n ∷ d) h = let (p, q) = and_both (m == n) (same_numbers c d) h in λ i. number_is m n p i ∷ same_is c d q i
+same_is (m ∷ c) (n ∷ d) h = let (p, q) = and_parts (m == n) (same_numbers c d) h in λ i. number_is m n p i ∷ same_is c d q i
 same_is [] (n ∷ d) h = cc
 same_is (m ∷ c) [] h = cc
 

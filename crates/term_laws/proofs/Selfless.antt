@@ -11,12 +11,12 @@ use Rattle.chart_term.specs.TermRuns.{Runs, run_end, run_take}
 use Rattle.chart_term.specs.Terms.{TermEvent, Block, has, hits, Tree, Nil, Event, Join, Choice, Tied, Loop, Walk, Trees, none, more, Row, ends, gap, turn, items, Part, parts}
 use Rattle.chart_term.proofs.Arranging.{linear_run}
 use Rattle.chart_term.proofs.Sameness.{hits_earlier}
+use Rattle.chart_term.proofs.Equal.{number_is}
 use Rattle.term_laws.specs.FullSoundness.{EveryPartOf, EveryRowPart, times, HasOrders, HaveOperandsOrders}
 use Rattle.term_laws.specs.Normality.{AreShown, AreNormalTables, AreNormal, IsNormalRow, IsNormalOver}
 use Rattle.term_laws.specs.Permission.{permits_of}
 use Rattle.term_laws.specs.Soundness.{AreTidyTables, AreTidy, IsTidyRow, IsTidyOver, NetLacks, IsKnown}
 use Rattle.term_laws.proofs.Even.{AllEven, RowEven, IsEvenOver, some_even}
-use Rattle.term_laws.proofs.Numbers.{number_is}
 use Rattle.term_laws.proofs.Times.{one_or_none, some_parts, some_with}
 
 -- Runs of the parts of a pattern

@@ -6,7 +6,7 @@ use Rattle.chart_term.specs.NormalForms.{NetPermits, unless_same, without, disti
 use Rattle.chart_term.specs.Properties.{Each}
 use Rattle.chart_term.specs.Tables.{Tables}
 use Rattle.chart_term.specs.Terms.{TermEvent, Tree}
-use Rattle.chart_term.proofs.Equal.{tree_is}
+use Rattle.chart_term.proofs.Equal.{tree_is, number_is}
 use Rattle.term_laws.specs.Listing.{Taken, after_list, labelled_one, labelled, all_after, next_set, residual_set, IsAmong, IsDeepEnough, AreDeepAlong, ResidualSetIsExact}
 use Rattle.term_laws.specs.Normality.{AreDifferent}
 use Rattle.term_laws.specs.Permission.{permits_of}
@@ -14,7 +14,7 @@ use Rattle.term_laws.specs.Residuals.{IsResidual, res_none, res_more}
 use Rattle.term_laws.specs.Taking.{IsAfter}
 use Rattle.term_laws.proofs.ListingExact.{among_app, among_left, among_right, list_sound, list_whole}
 use Rattle.term_laws.proofs.Normalising.{are_different}
-use Rattle.term_laws.proofs.Numbers.{number_is, number_self}
+use Rattle.term_laws.proofs.Numbers.{number_self}
 use Rattle.term_laws.proofs.TermSentences.{net_rank, kept_rank}
 use Rattle.term_laws.proofs.TidyTables.{nets_good}
 use Rattle.term_laws.proofs.Ranking.{rank}

@@ -5,6 +5,7 @@ use Rattle.std.proofs.lemmas.Bool.Decides.{nat_tests}
 use Rattle.bit_sets.specs.Blocks.{IsRising, AreAbove}
 use Rattle.chart_term.specs.NormalForms.{cut}
 use Rattle.chart_term.specs.Terms.{has}
+use Rattle.chart_term.proofs.Instances.{has_self}
 use Rattle.term_laws.specs.Normality.{IsSet, IsAbove}
 
 -- sets with the same members
@@ -24,13 +25,10 @@ not_below m (n ∷ c) s h = let e : (n == m) ≡ false = grind (arith, nat_tests
     over m n [] l h = tt
     over m n (k ∷ c) l h = omega arith
 
-itself : (n : ℕ) (c : List ℕ) → has (n ∷ c) n ≡ true
-itself n c = let e : (n == n) ≡ true = grind (arith, nat_tests) in ap (λ t. t || has c n) e
-
 pub set_ext : (c d : List ℕ) → IsSet c → IsSet d → ((n : ℕ) → has c n ≡ has d n) → c ≡ d
 set_ext [] [] s t h = refl
-set_ext [] (n ∷ d) s t h = let e = itself n d in let f = h n in cc
-set_ext (m ∷ c) [] s t h = let e = itself m c in let f = h m in cc
+set_ext [] (n ∷ d) s t h = let e = has_self n d in let f = h n in cc
+set_ext (m ∷ c) [] s t h = let e = has_self m c in let f = h m in cc
 set_ext (m ∷ c) (n ∷ d) s t h = go (m == n) (ltb m n) refl refl (λ same. set_ext c d s.1 t.1 (tails same))
   where
     tails : m ≡ n → (k : ℕ) → has c k ≡ has d k
@@ -50,8 +48,8 @@ set_ext (m ∷ c) (n ∷ d) s t h = go (m == n) (ltb m n) refl refl (λ same. se
 
     go : (a b : Bool) → (m == n) ≡ a → ltb m n ≡ b → (m ≡ n → c ≡ d) → m ∷ c ≡ n ∷ d
     go true b e l r = let f : m ≡ n = grind (arith, nat_tests) in λ i. f i ∷ r f i
-    go false true e l r = let f : m < n = grind (arith, nat_tests) in let g = less f in let p = itself m c in let q = h m in cc
-    go false false e l r = let f : n < m = grind (arith, nat_tests) in let g = more f in let p = itself n d in let q = h n in cc
+    go false true e l r = let f : m < n = grind (arith, nat_tests) in let g = less f in let p = has_self m c in let q = h m in cc
+    go false false e l r = let f : n < m = grind (arith, nat_tests) in let g = more f in let p = has_self n d in let q = h n in cc
 
 pub has_cut : (all c : List ℕ) (n : ℕ) → has (cut all c) n ≡ (has c n && has all n)
 has_cut all [] n = refl

@@ -12,13 +12,14 @@ use Rattle.chart_term.proofs.Instances.{has_self, has_left, has_right, has_union
 use Rattle.chart_term.proofs.Lists.{items-trees}
 use Rattle.chart_term.proofs.Looping.{IsSubRow, sub_end, sub_gap, sub_drop, sub_turn, sub_over, sub_nil, sub_zero, sub_live, sub_free}
 use Rattle.chart_term.specs.Spreads.{touch, touch_all}
+use Rattle.chart_term.proofs.Equal.{number_is}
 use Rattle.term_laws.specs.Permission.{permit, permit_all, permit_some, permit_row, with_turn}
 use Rattle.term_laws.specs.Taking.{Stays, fewer, down, IsAfter, after_event, after_choice, after_join, after_tied, after_loop, after_walk, IsAfterOne, first_one, later_one, IsAfterJoin, first_part, later_part, IsAfterRow, in_turn, in_gap, past_turn, past_gap}
 use Rattle.term_laws.proofs.Apart.{Apart, AllApart, Fewer, fewer_self, permit_fewer, after_fewer, Thins, thin_end, thin_keep, thin_skip, thins_self, apart_thins, flat_apart, choices_apart, distinct_thins}
 use Rattle.term_laws.proofs.Everywhere.{permit_every}
 use Rattle.term_laws.proofs.Keeping.{AliveAt, AliveGaps, alive_sub, alive_live, each_app, each_turn_sub, each_turn_cut, sub_thin}
 use Rattle.term_laws.proofs.Normalising.{each_distinct}
-use Rattle.term_laws.proofs.Numbers.{number_is, has_either}
+use Rattle.term_laws.proofs.Numbers.{has_either}
 use Rattle.term_laws.proofs.Steady.{Plain, PlainAll, plain_sure, permit_plain, after_plain, taken_every}
 
 -- nothing stands behind a gap

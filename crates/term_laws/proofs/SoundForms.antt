@@ -16,10 +16,10 @@ use Rattle.term_laws.specs.Soundness.{AreTidyTables, IsTidyOver, NetLacks, IsKno
 use Rattle.term_laws.proofs.ConstructorForms.{constructors_keep_form}
 use Rattle.term_laws.proofs.ConstructorProofs.{normal_forms_keep_patterns}
 use Rattle.term_laws.proofs.EveryPart.{join_part, choice_part, bound_part, fresh_part}
-use Rattle.term_laws.proofs.FreshTerms.{must, join_runs, run_of, order_of, orders_of, sound_of, fresh_terms_are_sound, walk_has}
+use Rattle.term_laws.proofs.FreshTerms.{must, join_runs, orders_of, sound_of, fresh_terms_are_sound, walk_has}
 use Rattle.term_laws.proofs.FullSound.{is_sound, tidy_of, tidy_tables, normal_tables, walk_known, known_left, OnceTie, tie_fewer, tie_permit, tie_taken}
 use Rattle.term_laws.proofs.OpenWalks.{walk_left, closed_last}
-use Rattle.term_laws.proofs.SoundLaws.{sound_has_pattern}
+use Rattle.term_laws.proofs.SoundLaws.{sound_has_pattern, run_of, order_of}
 use Rattle.term_laws.proofs.SoundParts.{sound_even}
 use Rattle.term_laws.proofs.TidyKept.{outside_bare}
 use Rattle.term_laws.proofs.TidyTables.{each_map}

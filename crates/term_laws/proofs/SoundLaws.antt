@@ -21,12 +21,13 @@ use Rattle.term_laws.proofs.Residue.{residual_of, runs_before, left_order}
 use Rattle.term_laws.proofs.TermLaws.{permit_is_exact, may_end_is_exact}
 use Rattle.term_laws.proofs.TermSentences.{net_rank, kept_rank}
 use Rattle.term_laws.proofs.TidyKept.{permit_good, after_good}
-use Rattle.term_laws.proofs.TidyTables.{nets_good, at_some}
+use Rattle.term_laws.proofs.TidyTables.{nets_good}
+use Rattle.term_laws.proofs.Keeping.{at_some}
 
-run_of : (s : Shape) → HasOrder s → (r : List ℕ) × Runs s r
+pub run_of : (s : Shape) → HasOrder s → (r : List ℕ) × Runs s r
 run_of s h = (h.run, linear_run s h.run h.is)
 
-order_of : (s : Shape) (r : List ℕ) → Runs s r → HasOrder s
+pub order_of : (s : Shape) (r : List ℕ) → Runs s r → HasOrder s
 order_of s r h = record { run = r; is = runs_linear h }
 
 permit_sound : (w : Tables) (x y : Tree) (b : Block) → IsSound w x → Fits w b x → permit (permits_of w) b x ≡ Some y → IsSound w y

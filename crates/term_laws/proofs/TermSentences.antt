@@ -9,7 +9,8 @@ use Rattle.term_laws.specs.Permission.{permits_of, permit_nth}
 use Rattle.term_laws.specs.Soundness.{AreTidyTables}
 use Rattle.term_laws.proofs.Ranking.{rank, ranks, row_rank, permit_rank}
 use Rattle.term_laws.proofs.Everywhere.{permit_every}
-use Rattle.term_laws.proofs.TidyTables.{kept_has, not_same, at_some, nth_has, same_is}
+use Rattle.term_laws.proofs.TidyTables.{kept_has, not_same, nth_has, same_is}
+use Rattle.term_laws.proofs.Keeping.{at_some}
 
 abbrev pub sum_rank : (ℕ → ℕ) → List Tree → ℕ
 sum_rank f [] = 0

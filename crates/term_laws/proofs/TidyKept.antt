@@ -19,7 +19,7 @@ use Rattle.chart_term.specs.Spreads.{touch}
 use Rattle.term_laws.specs.Permission.{permit, permit_row, wider, with_turn}
 use Rattle.term_laws.specs.Soundness.{Includes, NeverGrows, IsTidy, Lacks, IsOutside, AreOutside, AreTidy, IsTidyRow, IsFitting, AreFitting, IsFittingRow}
 use Rattle.term_laws.specs.Taking.{fewer, down, HasMore, IsAfter, IsAfterRow, in_turn, in_gap, past_turn, past_gap}
-use Rattle.term_laws.proofs.Keeping.{Kind, permit_keeps, after_keeps}
+use Rattle.term_laws.proofs.Keeping.{Kind, permit_keeps, after_keeps, at_some}
 use Rattle.term_laws.proofs.Permitting.{IsRegular, AreRegular, IsRegularRow, Fits, FitsAll, FitsRow, permit_law}
 use Rattle.term_laws.proofs.TakingSound.{IsClosed, IsTurnOf}
 use Rattle.term_laws.proofs.Everywhere.{permit_every, after_every, every_row_in, every_out, every_row_out}
@@ -219,9 +219,6 @@ module _ (k : NetPermits) (node : ℕ → ℕ → Tree) (o : Bool) (NL : ℕ →
   good_row_out ends h = tt
   good_row_out (gap c r) h = good_row_out r h
   good_row_out (turn x r) h = (h.0, good_row_out r h.1)
-
-  at_some : (P : Tree → Type 0) (r : Option Tree) (y : Tree) → r ≡ Some y → MayHave P r → P y
-  at_some P r y e h = rw e at h
 
   -- a number that is outside is in no net
   mutual

@@ -18,6 +18,7 @@ use Rattle.term_laws.proofs.Agreeing.{same_all_of}
 use Rattle.term_laws.proofs.Permitting.{permit_law, inside, only_fits}
 use Rattle.term_laws.proofs.TidyKept.{AreExactNets, good_ok, permit_good}
 use Rattle.term_laws.proofs.Everywhere.{permit_every}
+use Rattle.term_laws.proofs.Keeping.{at_some}
 
 pub less_or_same : (n k : ℕ) → n < suc k → (n == k) ≡ false → n < k
 less_or_same n k h e = grind (arith, nat_tests)
@@ -54,9 +55,6 @@ module _ (a b : ℕ) (l : a ≤ b) where
 pub each_map : (P Q : Tree → Type 0) → ((x : Tree) → P x → Q x) → (xs : List Tree) → Each P xs → Each Q xs
 each_map P Q f [] h = tt
 each_map P Q f (x ∷ xs) h = (f x h.0, each_map P Q f xs h.1)
-
-pub at_some : (P : Tree → Type 0) (r : Option Tree) (y : Tree) → r ≡ Some y → MayHave P r → P y
-at_some P r y e h = rw e at h
 
 pub nth_has : (P : Tree → Type 0) (k : NetPermits) (b : Block) (xs : List Tree) → ((x : Tree) → P x → MayHave P (permit k b x)) → Each P xs → (m : ℕ) → MayHave P (permit_nth k b xs m)
 nth_has P k b [] f h m = tt

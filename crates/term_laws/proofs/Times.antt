@@ -8,6 +8,7 @@ use Rattle.chart_term.specs.Tables.{Tables, net_count, node_of, terms_over}
 use Rattle.chart_term.specs.TermMeanings.{HasPattern, has_nil, has_event, has_join, has_choice, holds_tie, holds_loop, holds_walk, HasParts, no_part, one_part, HasChoice, this_one, that_one}
 use Rattle.chart_term.specs.TermPatterns.{Shape, InPairs}
 use Rattle.chart_term.specs.Terms.{TermEvent, has, Tree, Nil, Event, Join, Choice, Tied, Loop, Walk, Trees, none, more, Row, ends, gap, turn, items}
+use Rattle.chart_term.proofs.Equal.{number_is}
 use Rattle.term_laws.specs.FullSoundness.{times, EveryPart, EveryPartOf, EveryRowPart, AreTiesOnce}
 use Rattle.term_laws.specs.Normality.{AreNormalTables, IsNormalOver, AreNormal, IsNormalRow}
 use Rattle.term_laws.specs.Permission.{permits_of}
@@ -15,7 +16,7 @@ use Rattle.term_laws.specs.Soundness.{AreTidyTables, IsTidyOver, IsOutside, AreO
 use Rattle.term_laws.proofs.EveryPart.{part_map}
 use Rattle.term_laws.proofs.Even.{AllEven, RowEven, IsEvenOver, some_even}
 use Rattle.term_laws.proofs.Later.{tidy_below}
-use Rattle.term_laws.proofs.Numbers.{number_is, number_not, or_false, lacks_both, has_either}
+use Rattle.term_laws.proofs.Numbers.{number_not, or_false, lacks_both, has_either}
 use Rattle.term_laws.proofs.Once.{Once, OnceAll, OnceEach, OnceList, FreeAll, once_out, each_out}
 use Rattle.term_laws.proofs.TidyKept.{NoNumber, lacks_none}
 use Rattle.term_laws.proofs.TidyTables.{nets_good}

@@ -10,7 +10,6 @@ use Rattle.chart_term.specs.TermMeanings.{HasPattern, has_event, has_join, holds
 use Rattle.chart_term.specs.TermPatterns.{Shape, take_one, take_first, take_later, take_bind, back, left}
 use Rattle.chart_term.specs.TermRuns.{Runs, run_end, run_take}
 use Rattle.chart_term.specs.Terms.{TermEvent, Tree, Nil, Event, Join, Tied, Loop, Walk, none, more, ends, gap, turn, Gap}
-use Rattle.chart_term.proofs.Arranging.{runs_linear}
 use Rattle.chart_term.proofs.Running.{runs_same}
 use Rattle.term_laws.specs.Laws.{Fits}
 use Rattle.term_laws.specs.Listing.{residual_set}
@@ -18,12 +17,10 @@ use Rattle.term_laws.specs.Permission.{permit, permits_of}
 use Rattle.term_laws.specs.Sound.{HasOrder, AreSoundTables, IsSound}
 use Rattle.term_laws.specs.Soundness.{LeadsWithin}
 use Rattle.term_laws.specs.Taking.{IsAfter, after_event, after_join, after_tied, first_part, MayEnd, end_zero, past_gap, no_turns}
+use Rattle.term_laws.proofs.SoundLaws.{order_of}
 
 abbrev pub event : ℕ → ℕ → ℕ → TermEvent
 event n i a = record { number = n; at = i; also = None; label = a }
-
-order_of : (s : Shape) (r : List ℕ) → Runs s r → HasOrder s
-order_of s r h = record { run = r; is = runs_linear h }
 
 abbrev no_nets : AreSoundTables []
 no_nets = record { tidy = tt; normal = tt }

@@ -2,6 +2,7 @@
 use Rattle.std.specs.Prelude.{slice_get, Some}
 use Rattle.std.proofs.Common.{◌≡◌, ℕ, ◌+◌, Bool, true, false, ◌&&◌, List, [], ◌∷◌, ◌++◌, refl, ap, sym, ◌∙◌, take, drop}
 use Rattle.std.proofs.lemmas.List.{take-append-drop}
+use Rattle.std.proofs.lemmas.Bool.{and_left}
 use Rattle.chart_term.specs.Terms.{Tree, trees, Part, Gap, Turn, row_of}
 use Rattle.chart_term.proofs.Lists.{take_step}
 use Rattle.term_tables.specs.Fitting.{fits, fits_all, fits_row, fits_part}
@@ -15,10 +16,6 @@ and_true false = refl
 and_group : (a b c : Bool) → (a && (b && c)) ≡ ((a && b) && c)
 and_group true b c = refl
 and_group false b c = refl
-
-and_false : (a b : Bool) → a ≡ false → (a && b) ≡ false
-and_false true b p = cc
-and_false false b p = refl
 
 module _ (v : NetsValue) where
   all-append : (xs ys : List Tree) → fits_all v (trees (xs ++ ys)) ≡ (fits_all v (trees xs) && fits_all v (trees ys))
@@ -57,10 +54,10 @@ module _ (v : NetsValue) where
 
   -- where the first ones don't fit, not all do
   unfit-all : (xs : List Tree) (i : ℕ) → fits_all v (trees (take i xs)) ≡ false → fits_all v (trees xs) ≡ false
-  unfit-all xs i h = ap (λ l. fits_all v (trees l)) (sym (take-append-drop i xs)) ∙ all-append (take i xs) (drop i xs) ∙ and_false (fits_all v (trees (take i xs))) (fits_all v (trees (drop i xs))) h
+  unfit-all xs i h = ap (λ l. fits_all v (trees l)) (sym (take-append-drop i xs)) ∙ all-append (take i xs) (drop i xs) ∙ and_left (fits_all v (trees (take i xs))) (fits_all v (trees (drop i xs))) h
 
   unfit-row : (ps : List Part) (i : ℕ) → fits_row v (row_of (take i ps)) ≡ false → fits_row v (row_of ps) ≡ false
-  unfit-row ps i h = ap (λ l. fits_row v (row_of l)) (sym (take-append-drop i ps)) ∙ row-append (take i ps) (drop i ps) ∙ and_false (fits_row v (row_of (take i ps))) (fits_row v (row_of (drop i ps))) h
+  unfit-row ps i h = ap (λ l. fits_row v (row_of l)) (sym (take-append-drop i ps)) ∙ row-append (take i ps) (drop i ps) ∙ and_left (fits_row v (row_of (take i ps))) (fits_row v (row_of (drop i ps))) h
 
   pub fits-stop : (xs : List Tree) (i : ℕ) (x : Tree) → slice_get xs i ≡ Some x → fits_all v (trees (take i xs)) ≡ true → false ≡ fits v x → false ≡ fits_all v (trees xs)
   fits-stop xs i x p h f = sym (unfit-all xs (i + 1) (fits-next xs i x p h ∙ sym f))

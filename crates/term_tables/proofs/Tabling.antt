@@ -7,6 +7,7 @@ use Rattle.term_tables.specs.declared.nets.StoredNet.{StoredNet}
 use Rattle.term_tables.specs.NetTables.{entry_of, entries_onto, tables_of, AreSized}
 use Rattle.chart_term.specs.Tables.{Tables, NetEntry, choose, count_from, nth_tree, net_count, net_of, nodes_of, node_of}
 use Rattle.chart_term.specs.Terms.{Tree}
+use Rattle.chart_term.proofs.Lists.{count_length}
 
 entries_onto-snoc : (es : List StoredNet) (e : StoredNet) (t : Tables) → entries_onto (es ++ e ∷ []) t ≡ entry_of e ∷ entries_onto es t
 entries_onto-snoc [] e t = refl
@@ -72,12 +73,8 @@ net_at es i e p = let (o, r) = look-onto net_of (λ d t. d.net) (λ d t n. refl)
 pub nodes_at : (es : List StoredNet) (i : ℕ) (e : StoredNet) → slice_get es i ≡ Some e → nodes_of (tables_of es) i ≡ count_from 0 e.nodes
 nodes_at es i e p = let (o, r) = look-onto nodes_of (λ d t. count_from 0 d.nodes) (λ d t n. refl) es i e [] p in ap (nodes_of (tables_of es)) (plus_none i) ∙ r
 
-count_from-length : (i : ℕ) (xs : List Tree) → length (count_from i xs) ≡ length xs
-count_from-length i [] = refl
-count_from-length i (x ∷ xs) = ap suc (count_from-length (i + 1) xs)
-
 pub nodes_length : (es : List StoredNet) (i : ℕ) (e : StoredNet) → slice_get es i ≡ Some e → length (nodes_of (tables_of es) i) ≡ length e.nodes
-nodes_length es i e p = ap length (nodes_at es i e p) ∙ count_from-length 0 e.nodes
+nodes_length es i e p = ap length (nodes_at es i e p) ∙ count_length 0 e.nodes
 
 nth-at : (xs : List Tree) (m : ℕ) (x : Tree) → slice_get xs m ≡ Some x → nth_tree xs m ≡ x
 nth-at [] m x p = cc
