@@ -1,3 +1,3 @@
 mod ReadyTerms
-mod Samples
+mod SoundTerms
 mod TestFacts

@@ -21,7 +21,7 @@ fn action(alloc: Global, text: &str) -> Result<Label, Fail> {
 }
 
 /// Tables of the actions x and y.
-#[tactic(auto, using(crate::proofs::Samples::samples))]
+#[tactic(auto, using(crate::proofs::SoundTerms::samples))]
 fn tables(alloc: Global) -> Result<Nets, Fail>
     ensures nets { IfOk result (λ nets. nets.tables ≡ []) }
     ensures labels { IfOk result (λ nets. length nets.labels ≡ 2) }
@@ -47,7 +47,7 @@ fn event(alloc: Global, number: u32) -> Result<Term, NoMemory>
 }
 
 /// So many actions x side by side, as in a coregion.
-#[tactic(auto, using(crate::proofs::Samples::samples))]
+#[tactic(auto, using(crate::proofs::SoundTerms::samples))]
 fn coregion(alloc: Global, count: u32) -> Result<Term, NoMemory>
     ensures { IfOk result (λ term. IsSoundNode 2 [] term) }
 {

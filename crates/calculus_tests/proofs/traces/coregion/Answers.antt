@@ -1,4 +1,4 @@
-use Rattle.calculus_tests.proofs.Samples.{sound_aside}
+use Rattle.calculus_tests.proofs.SoundTerms.{sound_aside}
 use Rattle.calculus_tests.proofs.traces.coregion.Goals as goal
 
 pub returns : goal.returns

@@ -1,5 +1,5 @@
 use Rattle.std.proofs.Common.{arith}
-use Rattle.calculus_tests.proofs.Samples.{sound_event}
+use Rattle.calculus_tests.proofs.SoundTerms.{sound_event}
 use Rattle.calculus_tests.proofs.traces.event.Goals as goal
 
 pub returns : goal.returns

@@ -1,4 +1,4 @@
-use Rattle.calculus_tests.proofs.Samples.{sound_here}
+use Rattle.calculus_tests.proofs.SoundTerms.{sound_here}
 use Rattle.calculus_tests.proofs.traces.judged.Goals as goal
 
 pub new-requires-clause-sound : goal.new-requires-clause-sound
