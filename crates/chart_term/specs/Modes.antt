@@ -1,3 +1,4 @@
+-- Serves private contracts alone.
 -- How the code joins parts.
 use Rattle.msc_base.specs.Patterns as pattern
 use Rattle.chart_term.specs.declared.joins.Mode.{Mode}

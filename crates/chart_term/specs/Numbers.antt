@@ -1,3 +1,4 @@
+-- Serves private contracts alone.
 -- Sets of event numbers that the code gathers.
 use Rattle.std.specs.BTreeSet.{BTreeSet, contains}
 use Rattle.std.specs.Ordering.{nat_cmp}

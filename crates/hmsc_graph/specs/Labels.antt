@@ -1,3 +1,4 @@
+-- Serves private contracts alone.
 -- The labels of lines, as they are gathered from the first line on, and the faults that are met.
 use Rattle.std.specs.Prelude.{ℕ, List, Option, Some, None, Bool, map, if◌then◌else◌}
 use Rattle.std.specs.List.{list_any, position, filter_map}

@@ -1,3 +1,4 @@
+-- Serves private contracts alone.
 -- Graphs whose edges lead the other way.
 use Rattle.std.specs.Prelude.{ℕ, ◌≡◌, ◌<◌, ◌↔◌, ◌⊎◌, true, List, [], length}
 use Rattle.std.proofs.Common.{get_or}

@@ -1,3 +1,4 @@
+-- Serves private contracts alone.
 -- A search for the nodes that are reached: what was met, and what waits to be searched from.
 use Rattle.std.specs.Prelude.{ℕ, zero, suc, ◌≡◌, ◌≤◌, ◌<◌, ◌+◌, ◌==◌, ◌⊎◌, List, Option, Some, None, length, if◌then◌else◌}
 use Rattle.std.specs.List.{list_any}

@@ -1,3 +1,4 @@
+-- Serves private contracts alone.
 -- The JSON objects that are printed, as data.
 use Rattle.std.specs.Prelude.{ℕ, List, codes}
 use Rattle.serde_json.specs.Data.{Data, number, unsigned, string, object, member, no_members}

@@ -1,4 +1,4 @@
-//! Copies of names and of lists of them, and an index in 32 bits: for the readers of charts (msc_expand, msc_instances).
+//! Copies of names and of lists of them, and an index in 32 bits: for who reads charts (msc_expand, msc_instances).
 
 ghost use Rattle.std.specs.Prelude.{◌≡◌, IfOk};
 

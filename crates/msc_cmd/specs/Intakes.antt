@@ -1,3 +1,4 @@
+-- Serves private contracts alone.
 -- A document as far as it has been read.
 use Rattle.std.specs.Prelude.{◌≡◌, ◌<◌, ◌⊎◌, ℕ, List, [], ◌++◌, length, take, Option, Some, None, ⊤}
 use Rattle.outside.specs.Shelves.{Files}

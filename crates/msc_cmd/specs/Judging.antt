@@ -1,3 +1,4 @@
+-- Serves private contracts alone.
 -- The judge's columns: for each instance its first event from a place on, and for each event the next one of its instance.
 use Rattle.std.specs.Prelude.{◌≡◌, ◌≤◌, ◌<◌, ◌+◌, ℕ, Bool, true, List, length, Some, slice_get, position}
 use Rattle.std.specs.Str.{bytes_eq}

@@ -1,3 +1,4 @@
+-- Serves private contracts alone.
 -- A log as far as it has been read.
 use Rattle.std.specs.Prelude.{◌≡◌, ◌<◌, ◌≤◌, ℕ, Bool, true, false, List, [], length, Option, Some, None, slice_get}
 use Rattle.outside.specs.Shelves.{Files}

@@ -1,3 +1,4 @@
+-- Serves private contracts alone.
 -- Readers of charts and documents in the form that the code has.
 use Rattle.std.specs.Prelude.{ℕ, List, [], ◌∷◌, length, Some, None, codes}
 use Rattle.msc_tokens.specs.declared.token.Token.{Token}

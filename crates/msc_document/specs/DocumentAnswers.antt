@@ -1,3 +1,4 @@
+-- Serves private contracts alone.
 -- What the answer for a document's tokens says.
 use Rattle.std.specs.Prelude.{ℕ, List, Result, Ok, Err}
 use Rattle.msc_base.specs.declared.place.Place.{Place}

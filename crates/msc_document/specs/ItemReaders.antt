@@ -1,3 +1,4 @@
+-- Serves private contracts alone.
 -- Readers of items in the form that the code has: one for columns and elsewhere, with operands as they are held.
 use Rattle.std.specs.Prelude.{ℕ, List, [], ◌∷◌, ◌++◌, length, map, Bool, Some, Ok, codes}
 use Rattle.msc_base.specs.declared.place.Place.{Place}

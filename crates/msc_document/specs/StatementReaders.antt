@@ -1,3 +1,4 @@
+-- Serves private contracts alone.
 -- Readers of statements in the form that the code has: an item, and those that go on with it, behind what covers them.
 use Rattle.std.specs.Prelude.{ℕ, List, [], ◌∷◌, length, Option, Some, None, Ok, Bool, true, false, codes, if◌then◌else◌}
 use Rattle.msc_base.specs.declared.place.Place.{Place}

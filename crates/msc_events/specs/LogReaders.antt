@@ -1,3 +1,4 @@
+-- Serves private contracts alone.
 -- Readers of the prefix of a list of tokens, of the shape of the productions of a log's event; for private clauses.
 use Rattle.std.specs.Prelude.{ℕ, List, ◌++◌, Option, codes}
 use Rattle.msc_base.specs.declared.label.Label.{Label}

@@ -1,3 +1,4 @@
+-- Serves private contracts alone.
 -- What a document comes to: its charts, or its first fault.
 use Rattle.std.specs.Prelude.{◌≡◌, ⊤, List, [], ◌∷◌, map}
 use Rattle.msc_base.specs.declared.place.Place.{Place}

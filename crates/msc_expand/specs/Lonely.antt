@@ -1,3 +1,4 @@
+-- Serves private contracts alone.
 -- Where events stand without partner, and inputs before their outputs, by the partners.
 use Rattle.std.specs.Prelude.{◌≡◌, ⊤, ℕ, suc, Bool, true, false, not, ◌&&◌, nat_eq, nat_lt, List, [], ◌∷◌, ◌++◌, Option, Some, None}
 use Rattle.msc_base.specs.declared.place.Place.{Place}

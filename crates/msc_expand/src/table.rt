@@ -1,4 +1,4 @@
-//! Names in a table of names: whether it has one, and adding those that are new.
+//! Names added to a table of names where they are new: for the rules on names and limits.
 
 ghost use Rattle.std.specs.Prelude.{◌≡◌, OnOk};
 ghost use Rattle.std.specs.List.{list_any};

@@ -1,3 +1,4 @@
+-- Serves private contracts alone.
 -- Events that no pair has.
 use Rattle.std.specs.Prelude.{◌≡◌, ◌⊎◌, ◌↔◌, ◌&&◌, ℕ, Bool, true, false, not, List, [], ◌∷◌, length, get_or, Option, Some, None}
 use Rattle.msc_base.specs.declared.place.Place.{Place}

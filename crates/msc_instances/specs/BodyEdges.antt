@@ -1,3 +1,4 @@
+-- Serves private contracts alone.
 -- How the items and pairs of a body come from events and edges.
 use Rattle.std.specs.Prelude.{◌≡◌, ℕ}
 use Rattle.msc_base.specs.declared.label.Pair.{Pair}

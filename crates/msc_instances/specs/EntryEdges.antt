@@ -1,3 +1,4 @@
+-- Serves private contracts alone.
 -- Entries as edges: each leads from the number of its instance to its item.
 use Rattle.std.specs.Prelude.{ℕ, List, [], ◌∷◌, ◌++◌, Option, Some, None, position}
 use Rattle.std.specs.Str.{bytes_eq}

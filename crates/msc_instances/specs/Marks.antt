@@ -1,3 +1,4 @@
+-- Serves private contracts alone.
 -- Outputs and inputs by numbers: each key has a class, and a mark says the class and the direction of an event.
 use Rattle.std.specs.Prelude.{◌≡◌, ◌&&◌, ℕ, suc, Bool, false, List, [], ◌∷◌, ◌++◌, length, Option, Some, None, nat_eq, position, if◌then◌else◌}
 use Rattle.msc_tree.specs.declared.event.Direction.{Direction}

@@ -1,3 +1,4 @@
+-- Serves private contracts alone.
 -- What tables know of the parts of a level that were met.
 use Rattle.std.specs.Prelude.{◌≡◌, ◌⊎◌, ◌↔◌, ℕ, List, [], ◌∷◌, Option, Some, None}
 use Rattle.msc_base.specs.Lists.{IsAmong}

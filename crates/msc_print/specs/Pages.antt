@@ -1,3 +1,4 @@
+-- Serves private contracts alone.
 -- A text as it is written, token by token.
 use Rattle.std.specs.Prelude.{ℕ, Bool, true, List, [], ◌∷◌, ◌++◌, ◌||◌, if◌then◌else◌}
 use Rattle.msc_print.specs.Words.{Words}

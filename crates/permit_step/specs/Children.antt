@@ -1,3 +1,4 @@
+-- Serves private contracts alone.
 -- From which part of a term an event can be taken, and what is left of the whole then.
 use Rattle.std.specs.Option.{option_map}
 use Rattle.std.specs.Prelude.{ℕ, zero, suc, Bool, true, false, List, [], ◌∷◌, Option, Some, None, slice_get}

@@ -1,3 +1,4 @@
+-- Serves private contracts alone.
 -- The nodes of a net whose terms may end.
 use Rattle.std.specs.Prelude.{ℕ, List, ◌<◌, ◌↔◌}
 use Rattle.msc_base.specs.Lists.{IsIn}

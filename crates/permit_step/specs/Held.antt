@@ -1,3 +1,4 @@
+-- Serves private contracts alone.
 -- Begun turns that an event can't pass.
 use Rattle.std.specs.Prelude.{ℕ, List, ◌≡◌, Some, None, slice_get}
 use Rattle.chart_term.specs.NormalForms.{NetPermits}

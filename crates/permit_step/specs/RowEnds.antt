@@ -1,3 +1,4 @@
+-- Serves private contracts alone.
 -- The parts of a row that are held the last first.
 use Rattle.std.specs.Prelude.{List, map, reverse}
 use Rattle.chart_term.specs.declared.term.RowPart.{RowPart}

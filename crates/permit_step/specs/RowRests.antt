@@ -1,3 +1,4 @@
+-- Serves private contracts alone.
 -- The normal form of a row, part by part from its end.
 use Rattle.std.specs.Prelude.{ℕ, zero, suc, Bool, true, false, List, [], ◌∷◌, Option, Some, None}
 use Rattle.chart_term.specs.NormalForms.{cut, put_turn, is_nil, thin_gap, lower_of, turns_end}

@@ -1,3 +1,4 @@
+-- Serves private contracts alone.
 -- The search for the events that can be taken from a term, through its children.
 use Rattle.std.specs.BTreeSet.{contains}
 use Rattle.std.specs.List.{list_any}

@@ -1,3 +1,4 @@
+-- Serves private contracts alone.
 -- What a set becomes when the members of another are added.
 use Rattle.std.specs.Prelude.{ℕ, List, ◌≡◌, ◌||◌}
 use Rattle.chart_term.specs.Terms.{has}

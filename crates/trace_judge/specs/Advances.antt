@@ -1,3 +1,4 @@
+-- Serves private contracts alone.
 -- What becomes of a set, and of a track, at an event.
 use Rattle.std.specs.Prelude.{ℕ, ◌+◌, ◌≡◌, Option, Some, None, max}
 use Rattle.msc_base.specs.declared.label.Label.{Label}

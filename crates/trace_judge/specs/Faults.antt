@@ -1,3 +1,4 @@
+-- Serves private contracts alone.
 -- The faults of a judge.
 use Rattle.event_log.specs.declared.event.LogFault.{LogFault}
 use Rattle.event_log.specs.declared.event.LogFault.TheVariants as fault
