@@ -222,6 +222,14 @@ wide_enough old words n h e =
     let none : n / 64 + 1 - length old ≡ 0 = omega arith in
     e ∙ sym (ap (λ k. old ++ replicate k 0) none ∙ append-nil old)
 
+-- words that were widened have the bit where the shorter ones have it
+pub with_bit_widened : (old words : List ℕ) (n : ℕ) → words ≡ old ++ replicate (n / 64 + 1 - length old) 0 → with_bit words n ≡ with_bit old n
+with_bit_widened old words n e =
+    let h = widened_enough old words n e in
+    let w = get_or words (n / 64) 0 in
+    let is : w ≡ get_or words (n / 64) w = sym (get_or_default_zero words (n / 64) w h) in
+    sym (with_bit_is words words n w (wide_enough words words n h refl) h is) ∙ with_bit_is old words n w e h is
+
 pub stored_after : {T E : Type 0} (words new events : List ℕ) (n : ℕ) (r : Result T E) → n < INSTANCES → OnOk r (new ≡ with_bit words n) → OnErr r (new ≡ words) → IsStored words events → IsStored new events
 stored_after words new events n (Ok t) h e k s = subst (λ (l : List ℕ). IsStored l events) (sym e) (stored_with words events n h s)
 stored_after words new events n (Err t) h e k s = subst (λ (l : List ℕ). IsStored l events) (sym k) s

@@ -105,19 +105,9 @@ added size words n m below = (there, back)
       | inr ne ↦ in_numbers size (with_bit words n) m p.0 (has_bit-with_other words n m ne ∙ p.1)
     ]
 
-pub added_set : (size : ℕ) (words : List ℕ) (n m w : ℕ) (v : NodeSetValue) → set_of size words ≡ v → n < v.size → size ≤ 64 * length words → w ≡ get_or words (n / 64) w
-    → IsIn m (numbers_in size (set words (n / 64) (bit_or w (1 * 2 ^ (n % 64) % 2 ^ 64)))) ↔ (IsIn m v.nodes ⊎ (m ≡ n))
-added_set size words n m w v view below room is =
+pub added_set : (size : ℕ) (words after : List ℕ) (n m : ℕ) (v : NodeSetValue) → set_of size words ≡ v → n < v.size → after ≡ with_bit words n → IsIn m (numbers_in size after) ↔ (IsIn m v.nodes ⊎ (m ≡ n))
+added_set size words after n m v view below written =
     let low : n < size = omega (arith, ap (λ (x : NodeSetValue). x.size) view) in
-    let inside : n / 64 < length words = omega arith in
-    let written : set words (n / 64) (bit_or w (1 * 2 ^ (n % 64) % 2 ^ 64)) ≡ with_bit words n = with_bit_is words words n w (wide_enough words words n inside refl) inside is in
     let is_added = added size words n m low in
-    subst (λ (x : NodeSetValue). IsIn m (numbers_in size (set words (n / 64) (bit_or w (1 * 2 ^ (n % 64) % 2 ^ 64)))) ↔ (IsIn m x.nodes ⊎ (m ≡ n))) view
+    subst (λ (x : NodeSetValue). IsIn m (numbers_in size after) ↔ (IsIn m x.nodes ⊎ (m ≡ n))) view
     (subst (λ (l : List ℕ). IsIn m (numbers_in size l) ↔ (IsIn m (numbers_in size words) ⊎ (m ≡ n))) (sym written) is_added)
-
--- the test as the code makes it
-pub bit_test : (size : ℕ) (words : List ℕ) (n w : ℕ) → n < size → size ≤ 64 * length words → w ≡ get_or words (n / 64) w → nat_eq (bit_and (w / 2 ^ (n % 64)) 1) 1 ≡ has_bit words n
-unfolding has_bit
-bit_test size words n w below room is =
-    let read : w ≡ get_or words (n / 64) 0 = is ∙ get_or_default_zero words (n / 64) w (omega arith) in
-    ap (λ b. nat_eq b 1) (shr_and_one w (n % 64) ∙ ap (λ x. bit_at x (n % 64)) read)

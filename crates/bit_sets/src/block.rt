@@ -3,7 +3,7 @@
 ghost use Rattle.std.specs.Prelude.{◌≡◌, ◌<◌, ◌↔◌, [], Contains, OnOk, OnErr, IfOk, IsTrue};
 ghost use Rattle.bit_sets.specs.Blocks.{IsBlock, insert_rising, insert_each, share, set_cmp, with_bit, has_bit};
 
-use crate::words::{first_difference, share_bit, unite};
+use crate::words::{first_difference, has_number, set_bit, share_bit, unite};
 use msc_base::{Limits, NoMemory};
 use std::alloc::Global;
 use std::cmp::Ordering;
@@ -31,14 +31,6 @@ impl Model for Block {
     ghost invariant = { λ b. IsStored b.words.items b.events.items };
 }
 
-/// Whether the words have the bit of that number.
-pub(crate) fn has_number(words: &[u64], at: u32) -> bool
-    ensures { result ≡ has_bit words.now at }
-{
-    let index = (at / 64) as usize;
-    index < words.len() && (words[index] >> (at % 64)) & 1 == 1
-}
-
 /// Sets the bit of that number, in new words where there are too few.
 fn set_number(words: &mut Vec<u64>, at: u32) -> Result<(), NoMemory>
     ensures ok { OnOk result (words.new.items ≡ with_bit words.old.items at) }
@@ -48,7 +40,7 @@ fn set_number(words: &mut Vec<u64>, at: u32) -> Result<(), NoMemory>
     if index >= words.len() {
         words.resize(index + 1, 0)?;
     }
-    words[index] |= 1 << (at % 64);
+    set_bit(words, at);
     Ok(())
 }
 

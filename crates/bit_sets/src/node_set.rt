@@ -4,6 +4,7 @@ ghost use Rattle.std.specs.Prelude.{◌≡◌, ◌<◌, ◌↔◌, ◌⊎◌, �
 ghost use Rattle.msc_base.specs.Lists.{IsIn};
 ghost use Rattle.bit_sets.specs.NodeSets.{HasNoNodes, HasAllNodes};
 
+use crate::words::{has_number, set_bit};
 use msc_base::NoMemory;
 use std::alloc::Global;
 use std::marker::Model;
@@ -56,7 +57,7 @@ impl NodeSet {
         ensures size { self.new.size ≡ self.old.size }
         ensures nodes { (n : ℕ) → IsIn n self.new.nodes ↔ (IsIn n self.old.nodes ⊎ (n ≡ node)) }
     {
-        self.words[(node / 64) as usize] |= 1 << (node % 64);
+        set_bit(&mut self.words, node);
     }
 
     /// Whether the number is in the set. It takes no memory.
@@ -64,6 +65,6 @@ impl NodeSet {
         ensures has { IsTrue result ↔ IsIn node self.now.nodes }
         ensures below { IsTrue result → node < self.now.size }
     {
-        node < self.size && (self.words[(node / 64) as usize] >> (node % 64)) & 1 == 1
+        node < self.size && has_number(self.words.as_slice(), node)
     }
 }

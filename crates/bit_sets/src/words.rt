@@ -1,10 +1,25 @@
 //! Union, common bit and first difference of two lists of words: for `block` alone.
 
-ghost use Rattle.std.specs.Prelude.{◌≡◌, ◌*◌, ◌≤◌, length, OnOk, OnErr};
-ghost use Rattle.bit_sets.specs.Blocks.{HasBitsOfBoth, IsFirstDifference, ShareBit};
+ghost use Rattle.std.specs.Prelude.{◌≡◌, ◌*◌, ◌≤◌, length, OnOk, OnErr, ◌/◌, ◌<◌};
+ghost use Rattle.bit_sets.specs.Blocks.{HasBitsOfBoth, IsFirstDifference, ShareBit, has_bit, with_bit};
 
-use crate::block::has_number;
 use msc_base::{Limits, NoMemory};
+
+/// Whether the words have the bit of that number.
+pub(crate) fn has_number(words: &[u64], at: u32) -> bool
+    ensures { result ≡ has_bit words.now at }
+{
+    let index = (at / 64) as usize;
+    index < words.len() && (words[index] >> (at % 64)) & 1 == 1
+}
+
+/// Sets the bit of that number.
+pub(crate) fn set_bit(words: &mut Vec<u64>, at: u32)
+    requires { at / 64 < length words.old.items }
+    ensures { words.new.items ≡ with_bit words.old.items at }
+{
+    words[(at / 64) as usize] |= 1 << (at % 64);
+}
 
 /// Sets the bits of the other words too.
 pub(crate) fn unite(words: &mut Vec<u64>, others: &[u64]) -> Result<(), NoMemory>

@@ -29,6 +29,15 @@ pub struct Reply {
     pub text: Text,
 }
 
+/// How a log is written, and how the answer is told.
+#[derive(Clone, Copy, Debug, PartialEq, Eq)]
+pub struct Style {
+    /// The form of the log.
+    pub form: LogForm,
+    /// Whether the answer is told in JSON.
+    pub json: bool,
+}
+
 /// The reply that tells a fault.
 pub fn make_reply(alloc: Global, status: u8, fault: &Fault, json: bool) -> Result<Reply, NoMemory>
     requires { IsTold fault.now }
@@ -105,28 +114,27 @@ pub fn judge_files<S: Shelf>(
     document: &Text,
     name: &Text,
     log: &Text,
-    form: LogForm,
-    json: bool,
+    style: Style,
     shelf: &mut S,
 ) -> Result<Reply, NoMemory>
     ensures small { IfOk result (λ r. r.status ≤ 7) }
     ensures not_two { IfOk result (λ r. r.status ≡ 2 → ⊥) }
-    ensures outcome { IfOk result (λ r. r.status < 7 → IfTold (S.files shelf.old) (λ f. IsTheOne (FilesOutcome form json f document.now name.now log.now) r.status r.text)) }
-    ensures failed { IfOk result (λ r. r.status ≡ 7 → CannotRead json (S.files shelf.old) (S.faults shelf.old) (S.faults shelf.new) (S.broken shelf.new) (S.last shelf.new) document.now name.now log.now r.text) }
+    ensures outcome { IfOk result (λ r. r.status < 7 → IfTold (S.files shelf.old) (λ f. IsTheOne (FilesOutcome style.form style.json f document.now name.now log.now) r.status r.text)) }
+    ensures failed { IfOk result (λ r. r.status ≡ 7 → CannotRead style.json (S.files shelf.old) (S.faults shelf.old) (S.faults shelf.new) (S.broken shelf.new) (S.last shelf.new) document.now name.now log.now r.text) }
 {
     let read = match take_document(alloc, shelf, document) {
         Ok(read) => read,
-        Err(ReadFault::Failed) => return make_reply(alloc, 7, &Fault::DocumentRead, json),
+        Err(ReadFault::Failed) => return make_reply(alloc, 7, &Fault::DocumentRead, style.json),
         Err(ReadFault::NoMemory) => return Err(NoMemory),
     };
     let accepted = match read {
         Document::Charts(accepted) => accepted,
         Document::Refused(rule, place) => {
-            return make_reply(alloc, 4, &Fault::Document { rule, place }, json);
+            return make_reply(alloc, 4, &Fault::Document { rule, place }, style.json);
         }
     };
     let Some(chart) = chart_of(&accepted, name.bytes()) else {
-        return make_reply(alloc, 4, &Fault::NoChart, json);
+        return make_reply(alloc, 4, &Fault::NoChart, style.json);
     };
-    judge_log(alloc, chart, log, form, json, shelf)
+    judge_log(alloc, chart, log, style.form, style.json, shelf)
 }

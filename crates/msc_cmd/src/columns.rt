@@ -19,18 +19,6 @@ pub struct Columns {
     pub next: Vec<usize>,
 }
 
-/// The table of these names.
-fn table_of(alloc: Global, names: &[Name]) -> Result<NameTable, NoMemory>
-    requires { AreDifferent names.now }
-    ensures { IfOk result (λ table. table ≡ names.now) }
-{
-    let mut table = NameTable::new(alloc);
-    for name in names {
-        table.add(alloc, name.bytes())?;
-    }
-    Ok(table)
-}
-
 /// Goes through the events from the last to the first, and notes each before those behind it.
 fn fill(instances: &NameTable, events: &[Label], heads: &mut [usize], next: &mut [usize])
     requires different { AreDifferent instances.now }
@@ -56,7 +44,7 @@ pub fn columns_of(alloc: Global, instances: &[Name], events: &[Label]) -> Result
     requires listed { All (λ l. IsAmong instances.now l.at) events.now }
     ensures { IfOk result (AreColumns instances.now events.now) }
 {
-    let table = table_of(alloc, instances)?;
+    let table = NameTable::of(alloc, instances)?;
     let none = events.len();
     let mut heads = vec![in alloc; none; table.len()]?;
     let mut next = vec![in alloc; none; none]?;

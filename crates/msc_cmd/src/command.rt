@@ -8,7 +8,7 @@ ghost use Rattle.judge_report.specs.Writing.{AppendsPart};
 ghost use Rattle.msc_cmd.specs.Outcomes.{IsOutcome, IfTold, IsTheOne, RequestOutcome};
 ghost use Rattle.msc_cmd.specs.Failures.{CannotJudge, CannotServe};
 
-use crate::answer::{Reply, judge_files, make_reply};
+use crate::answer::{Reply, Style, judge_files, make_reply};
 use crate::checking::check_file;
 use crate::listing::list_file;
 use crate::printing::print_file;
@@ -33,7 +33,13 @@ fn serve<S: Shelf>(alloc: Global, request: &Request, shelf: &mut S) -> Result<Re
             json,
             form,
             ..
-        } => judge_files(alloc, document, chart, log, *form, *json, shelf),
+        } => {
+            let style = Style {
+                form: *form,
+                json: *json,
+            };
+            judge_files(alloc, document, chart, log, style, shelf)
+        }
         Request::Check { document, json } => check_file(alloc, document, *json, shelf),
         Request::List {
             document,

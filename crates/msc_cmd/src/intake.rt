@@ -6,6 +6,9 @@ use msc_base::{Limits, NoMemory, Place};
 use msc_tokens::{LexFault, Lexer, place_behind};
 use std::alloc::Global;
 
+/// How many bytes a read asks for at most.
+pub const PIECE_BYTES: usize = 4_096;
+
 /// A document as far as it has been read.
 #[derive(Drop)]
 pub struct Intake {
@@ -24,7 +27,8 @@ pub struct Intake {
 impl Intake {
     ghost use Rattle.std.specs.Prelude.{◌≡◌, ◌≤◌, ◌+◌, ◌++◌, [], ℕ, List, length, IfOk, OnOk};
     ghost use Rattle.msc_base.specs.declared.limits.TheConstants.Limits.{DOCUMENT_BYTES};
-    ghost use Rattle.msc_cmd.specs.Intakes.{HasTaken};
+    ghost use Rattle.msc_cmd.specs.declared.intake.TheConstants.{PIECE_BYTES};
+ghost use Rattle.msc_cmd.specs.Intakes.{HasTaken};
 
     /// A document of which nothing has been read.
     pub fn new(alloc: Global) -> Result<Intake, NoMemory>
@@ -47,7 +51,7 @@ impl Intake {
     /// Takes the next piece.
     pub fn take(&mut self, piece: &[u8]) -> Result<(), NoMemory>
         requires room { self.old.count ≤ DOCUMENT_BYTES }
-        requires piece { length piece.now ≤ 4096 }
+        requires piece { length piece.now ≤ PIECE_BYTES }
         ensures count { OnOk result (self.new.count ≡ self.old.count + length piece.now) }
         ensures taken { (bytes : List ℕ) → HasTaken bytes self.old → OnOk result (HasTaken (bytes ++ piece.now) self.new) }
     {

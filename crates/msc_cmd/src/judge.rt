@@ -11,26 +11,26 @@ use msc_base::{Label, NoMemory, Verdict};
 use msc_expand::PlainChart;
 use std::alloc::Global;
 
-/// Whether the event at this place has this label and may happen next, as far as its partner goes.
-fn may_happen(chart: &PlainChart, happened: &[bool], label: &Label, place: usize) -> bool
+/// Whether the event at this index has this label and may happen next, as far as its partner goes.
+fn may_happen(chart: &PlainChart, happened: &[bool], label: &Label, index: usize) -> bool
     requires partners { HavePartners chart.now.events chart.now.partners }
     requires each { length happened.now ≡ length chart.now.events }
-    ensures { IsTrue result ↔ MayHappen chart.now happened.now label.now place }
+    ensures { IsTrue result ↔ MayHappen chart.now happened.now label.now index }
 {
-    if place >= chart.events.len() {
+    if index >= chart.events.len() {
         return false;
     }
-    if !chart.events.at(place).same(label) {
+    if !chart.events.at(index).same(label) {
         return false;
     }
-    let partner = *chart.partners.at(place) as usize;
-    if partner >= place {
+    let partner = *chart.partners.at(index) as usize;
+    if partner >= index {
         return true;
     }
     happened[partner]
 }
 
-/// The column of a label's instance and the place of its event, if this event may happen next.
+/// The column of a label's instance and the index of its event, if this event may happen next.
 fn due(
     chart: &PlainChart,
     columns: &Columns,
@@ -42,15 +42,15 @@ fn due(
     requires each { length happened.now ≡ length chart.now.events }
     ensures some { IfSome result
         (λ d. IsDue chart.now columns.now.instances columns.now.heads.items happened.now label.now d.0 d.1) }
-    ensures none { IfNone result ((column place : ℕ) →
-        IsDue chart.now columns.now.instances columns.now.heads.items happened.now label.now column place → ⊥) }
+    ensures none { IfNone result ((column index : ℕ) →
+        IsDue chart.now columns.now.instances columns.now.heads.items happened.now label.now column index → ⊥) }
 {
     let column = columns.instances.number_of(label.at.bytes())?;
-    let place = columns.heads[column];
-    if !may_happen(chart, happened, label, place) {
+    let index = columns.heads[column];
+    if !may_happen(chart, happened, label, index) {
         return None;
     }
-    Some((column, place))
+    Some((column, index))
 }
 
 /// The marks of events none of which has happened.
@@ -68,19 +68,19 @@ fn are_all(happened: &[bool]) -> bool
     happened.iter().all(|event| *event)
 }
 
-/// Notes that the event at this place happens: it is marked, and its column goes on to the next one.
-fn take_event(columns: &mut Columns, happened: &mut Vec<bool>, column: usize, place: usize)
+/// Notes that the event at this index happens: it is marked, and its column goes on to the next one.
+fn take_event(columns: &mut Columns, happened: &mut Vec<bool>, column: usize, index: usize)
     requires column { column < length columns.old.heads.items }
-    requires place { place < length columns.old.next.items }
-    requires mark { place < length happened.old.items }
+    requires index { index < length columns.old.next.items }
+    requires mark { index < length happened.old.items }
     ensures instances { columns.new.instances ≡ columns.old.instances }
     ensures next { columns.new.next.items ≡ columns.old.next.items }
     ensures heads { columns.new.heads.items ≡
-        slice_set columns.old.heads.items column (slice_index_or columns.old.next.items place 0) }
-    ensures marks { happened.new.items ≡ slice_set happened.old.items place true }
+        slice_set columns.old.heads.items column (slice_index_or columns.old.next.items index 0) }
+    ensures marks { happened.new.items ≡ slice_set happened.old.items index true }
 {
-    happened[place] = true;
-    columns.heads[column] = columns.next[place];
+    happened[index] = true;
+    columns.heads[column] = columns.next[index];
 }
 
 /// The verdict on a log's events.
@@ -93,13 +93,13 @@ pub fn judge(alloc: Global, chart: &PlainChart, events: &[LineEvent]) -> Result<
     let mut done = 0;
     while done < events.len() {
         let event = &events[done];
-        let Some((column, place)) = due(chart, &columns, happened.as_slice(), &event.label) else {
+        let Some((column, index)) = due(chart, &columns, happened.as_slice(), &event.label) else {
             return Ok(Verdict::Fails {
                 event: done as u64 + 1,
                 line: event.line,
             });
         };
-        take_event(&mut columns, &mut happened, column, place);
+        take_event(&mut columns, &mut happened, column, index);
         done += 1;
     }
     let count = done as u64;

@@ -7,6 +7,7 @@ ghost use Rattle.event_log.specs.declared.event.LogForm.{LogForm};
 ghost use Rattle.msc_cmd.specs.LogIntakes.{IsLogOf, IsReadingLog, IsStep};
 
 use crate::entry::ReadFault;
+use crate::intake::PIECE_BYTES;
 use crate::log_intake::{Log, LogIntake};
 use event_log::{LogFault, LogForm};
 use msc_base::{NoMemory, Text};
@@ -43,7 +44,7 @@ fn take_more<S: Shelf>(
     ensures failed { IsErrOf result ReadFault.Failed → Rose (S.faults shelf.old) (S.faults shelf.new) }
     ensures broken { IsErrOf result ReadFault.Failed → S.broken shelf.new ≡ true }
 {
-    let mut buf = [0u8; 4096];
+    let mut buf = [0u8; PIECE_BYTES];
     let count = match shelf.read(&mut buf) {
         Ok(count) => count,
         Err(Failed) => return Err(ReadFault::Failed),

@@ -8,7 +8,7 @@ ghost use Rattle.msc_cmd.specs.Intakes.{IsReading, HoldsDocument, IsDocumentOf, 
 use crate::document::{Document, settle};
 use crate::document_text::{DocumentText, text_of};
 use crate::entry::ReadFault;
-use crate::intake::Intake;
+use crate::intake::{Intake, PIECE_BYTES};
 use msc_base::{Limits, NoMemory, Text};
 use outside::{Failed, Shelf};
 use std::alloc::Global;
@@ -30,7 +30,7 @@ fn take_more<S: Shelf>(shelf: &mut S, name: &Text, intake: &mut Intake) -> Resul
     ensures failed { IsErrOf result ReadFault.Failed → Rose (S.faults shelf.old) (S.faults shelf.new) }
     ensures broken { IsErrOf result ReadFault.Failed → S.broken shelf.new ≡ true }
 {
-    let mut buf = [0u8; 4096];
+    let mut buf = [0u8; PIECE_BYTES];
     let count = match shelf.read(&mut buf) {
         Ok(count) => count,
         Err(Failed) => return Err(ReadFault::Failed),

@@ -5,7 +5,7 @@ use Rattle.msc_cmd.proofs.columns.columns_of.Goals as goal
 
 pub returns : goal.returns
 returns c =
-    let names : c.in_ok-table.table ≡ c.args.instances.now = search rules in
+    let names : c.in_ok-table.table ≡ c.args.instances.now = c.in_ok-table.ensures.different c.requires.different in
     let first : AreFirst c.in_ok-table.table c.args.events.now 0 c.fill.new.heads = c.fill.ensures.heads in
     let after : AreNext c.args.events.now 0 c.fill.new.next = c.fill.ensures.next in
     let heads_long : length c.fill.new.heads ≡ c.in_ok-heads.heads.len = omega arith in

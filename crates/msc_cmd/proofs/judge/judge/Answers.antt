@@ -36,11 +36,11 @@ returns-in_default c =
 
 pub take_event-requires : goal.take_event-requires
 take_event-requires c =
-    let due : IsDue c.args.chart.now c.loop-done.columns.instances c.loop-done.columns.heads.items c.loop-done.happened.items c.index-events-done.result.label c.in-Some.column c.in-Some.place = search rules in
-    let within : c.in-Some.place < length c.args.chart.now.events = slice_get_within c.args.chart.now.events c.in-Some.place c.index-events-done.result.label due.may.event_is in
+    let due : IsDue c.args.chart.now c.loop-done.columns.instances c.loop-done.columns.heads.items c.loop-done.happened.items c.index-events-done.result.label c.in-Some.column c.in-Some.index = search rules in
+    let within : c.in-Some.index < length c.args.chart.now.events = slice_get_within c.args.chart.now.events c.in-Some.index c.index-events-done.result.label due.may.event_is in
     record {
-      column = slice_get_within c.loop-done.columns.heads.items c.in-Some.column c.in-Some.place due.head_is;
-      place = omega (arith, within, c.loop-done.invariant.next_are.each);
+      column = slice_get_within c.loop-done.columns.heads.items c.in-Some.column c.in-Some.index due.head_is;
+      index = omega (arith, within, c.loop-done.invariant.next_are.each);
       mark = omega (arith, within, c.loop-done.invariant.state.marks_are.each);
     }
 
@@ -48,15 +48,15 @@ pub loop-done-preserved : goal.loop-done-preserved
 loop-done-preserved c =
     let is : slice_get c.args.events.now c.loop-done.done ≡ Some c.index-events-done.result =
     slice_get_read c.args.events.now (length c.args.events.now) c.loop-done.done c.index-events-done.result refl (omega arith) c.index-events-done.is in
-    let due : IsDue c.args.chart.now c.loop-done.columns.instances c.loop-done.columns.heads.items c.loop-done.happened.items c.index-events-done.result.label c.in-Some.column c.in-Some.place = search rules in
-    let ready = subst (λ (names : List (List ℕ)). IsDue c.args.chart.now names c.loop-done.columns.heads.items c.loop-done.happened.items c.index-events-done.result.label c.in-Some.column c.in-Some.place)
+    let due : IsDue c.args.chart.now c.loop-done.columns.instances c.loop-done.columns.heads.items c.loop-done.happened.items c.index-events-done.result.label c.in-Some.column c.in-Some.index = search rules in
+    let ready = subst (λ (names : List (List ℕ)). IsDue c.args.chart.now names c.loop-done.columns.heads.items c.loop-done.happened.items c.index-events-done.result.label c.in-Some.column c.in-Some.index)
     c.loop-done.invariant.names_are due in
     record {
       short = omega arith;
       names_are = c.take_event.ensures.instances ∙ c.loop-done.invariant.names_are;
       next_are = subst (AreNext c.args.chart.now.events 0) (sym c.take_event.ensures.next) c.loop-done.invariant.next_are;
       state = state_after c.args.chart.now c.args.events.now c.loop-done.columns.heads.items c.loop-done.columns.next.items c.take_event.new.columns.heads.items c.loop-done.happened.items
-          c.take_event.new.happened.items c.loop-done.done c.in-Some.column c.in-Some.place c.index-events-done.result c.requires c.loop-done.invariant.state c.loop-done.invariant.next_are is ready
+          c.take_event.new.happened.items c.loop-done.done c.in-Some.column c.in-Some.index c.index-events-done.result c.requires c.loop-done.invariant.state c.loop-done.invariant.next_are is ready
           c.take_event.ensures.heads c.take_event.ensures.marks;
     }
 

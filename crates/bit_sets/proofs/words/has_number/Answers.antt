@@ -3,7 +3,7 @@ use Rattle.std.proofs.lemmas.Bool.{le-ltb}
 use Rattle.std.proofs.lemmas.Nat.Bits.{shr_and_one}
 use Rattle.bit_sets.specs.Blocks.{has_bit}
 use Rattle.bit_sets.proofs.BitFacts.{has_bit-past}
-use Rattle.bit_sets.proofs.block.has_number.Goals as goal
+use Rattle.bit_sets.proofs.words.has_number.Goals as goal
 
 pub returns-then-index-words : goal.returns-then-index-words
 unfolding has_bit
