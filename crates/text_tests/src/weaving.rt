@@ -42,7 +42,7 @@ fn told(alloc: Global, body: &Body) -> Result<String, AllocError> {
 fn woven(alloc: Global, chart: &RawChart) -> Result<String, AllocError> {
     let listed = match names(alloc, chart) {
         Ok(listed) => listed,
-        Err(NameFault::TwiceNamed(place)) => return at(alloc, "twice", place),
+        Err(NameFault::NamedTwice(place)) => return at(alloc, "twice", place),
         Err(NameFault::Undeclared(place)) => return at(alloc, "undeclared", place),
         Err(NameFault::NoMemory) => return Err(AllocError),
     };
