@@ -239,7 +239,7 @@ def rename_calls(crate, text):
 def rename_prefixes(path, text):
     if "msc_expression/proofs/expressions" in path or path.endswith("msc_expression/src/expressions.rt"):
         return text
-    return re.sub(r"(?<!in )(?<![\w'-])front(?![\w'-]|\()", "prefix", text)
+    return re.sub(r"(?<!\bin )(?<![\w'-])front(?![\w'-]|\()", "prefix", text)
 
 
 def main():

@@ -67,8 +67,8 @@ rule_plain (Unsupported form) = form_plain form
 rule_plain _ = refl
 
 -- words, a number and words behind them
-number_plain : (prefix back : List ℕ) (n : ℕ) → is_plain front ≡ true → n < 2 ^ 64 → is_plain back ≡ true → is_plain (prefix ++ (decimal n ++ back)) ≡ true
-number_plain front back n f small b = plain_append prefix (decimal n ++ back) f (plain_append (decimal n) back (plain_decimal n small) b)
+number_plain : (prefix back : List ℕ) (n : ℕ) → is_plain prefix ≡ true → n < 2 ^ 64 → is_plain back ≡ true → is_plain (prefix ++ (decimal n ++ back)) ≡ true
+number_plain prefix back n f small b = plain_append prefix (decimal n ++ back) f (plain_append (decimal n) back (plain_decimal n small) b)
 
 pub document_plain : (rule : Rule) (place : Place) → place.line < 2 ^ 64 → place.column < 2 ^ 64 → is_plain (document_words rule place) ≡ true
 document_plain rule place l c =

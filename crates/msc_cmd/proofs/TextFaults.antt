@@ -34,7 +34,7 @@ over_long prefix bytes f over =
 
 -- where no more was taken, it is the whole
 within : (prefix bytes : List ℕ) → IsPrefixOf prefix bytes → length prefix ≤ DOCUMENT_BYTES → prefix ≡ bytes
-within front bytes f short = by f.enough
+within prefix bytes f short = by f.enough
   where
     by : (f.rest ≡ []) ⊎ (DOCUMENT_BYTES < length prefix) → prefix ≡ bytes
     by (inl e) = sym (f.are ∙ ap (λ (r : List ℕ). prefix ++ r) e ∙ append-nil prefix)
@@ -118,7 +118,7 @@ only_read bytes tokens document short spells alone faultless r = record {
 fed_whole : (prefix bytes : List ℕ) (intake : Intake) → HasTaken prefix intake → IsPrefixOf prefix bytes → intake.count ≤ DOCUMENT_BYTES → (length bytes ≤ DOCUMENT_BYTES) × Fed bytes intake.lexer
 fed_whole prefix bytes intake h f small =
     let short : length prefix ≤ DOCUMENT_BYTES = omega (arith, h.counted) in
-    let same : prefix ≡ bytes = within front bytes f short in
+    let same : prefix ≡ bytes = within prefix bytes f short in
     let all : take DOCUMENT_BYTES prefix ≡ bytes = take_all DOCUMENT_BYTES prefix short ∙ same in
     (omega (arith, ap length same), subst (λ (bs : List ℕ). Fed bs intake.lexer) all h.fed)
 

@@ -6,7 +6,7 @@ ghost use Rattle.outside.specs.Shelves.{Files};
 ghost use Rattle.event_log.specs.declared.event.LogForm.{LogForm};
 ghost use Rattle.msc_cmd.specs.LogIntakes.{IsLogOf, IsReadingLog, IsStep};
 
-use crate::entry::ReadFault;
+use crate::entry::{ReadFault, start_entry};
 use crate::intake::PIECE_BYTES;
 use crate::log_intake::{Log, LogIntake};
 use event_log::{LogFault, LogForm};
@@ -85,10 +85,7 @@ pub fn take_log<S: Shelf>(
     ensures broken { IsErrOf result ReadFault.Failed → S.broken shelf.new ≡ true }
     ensures last { IsErrOf result ReadFault.Failed → S.last shelf.new ≡ Some name.now }
 {
-    let given = name.copy(alloc)?;
-    if shelf.start(given).is_err() {
-        return Err(ReadFault::Failed);
-    }
+    start_entry(alloc, shelf, name)?;
     let mut intake = LogIntake::new(alloc, form)?;
     loop {
         match take_more(shelf, name, &mut intake)? {

@@ -7,7 +7,7 @@ ghost use Rattle.msc_cmd.specs.Intakes.{IsReading, HoldsDocument, IsDocumentOf, 
 
 use crate::document::{Document, settle};
 use crate::document_text::{DocumentText, text_of};
-use crate::entry::ReadFault;
+use crate::entry::{ReadFault, start_entry};
 use crate::intake::{Intake, PIECE_BYTES};
 use msc_base::{Limits, NoMemory, Text};
 use outside::{Failed, Shelf};
@@ -50,10 +50,7 @@ fn read_document<S: Shelf>(alloc: Global, shelf: &mut S, name: &Text) -> Result<
     ensures broken { IsErrOf result ReadFault.Failed → S.broken shelf.new ≡ true }
     ensures last { IsErrOf result ReadFault.Failed → S.last shelf.new ≡ Some name.now }
 {
-    let given = name.copy(alloc)?;
-    if shelf.start(given).is_err() {
-        return Err(ReadFault::Failed);
-    }
+    start_entry(alloc, shelf, name)?;
     let mut intake = Intake::new(alloc)?;
     while intake.count <= Limits::DOCUMENT_BYTES {
         let count = take_more(shelf, name, &mut intake)?;

@@ -9,18 +9,18 @@ use Rattle.msc_cmd.proofs.log_reading.take_log.Goals as goal
 
 pub loop-intake-init : goal.loop-intake-init
 loop-intake-init g c =
-    let files : g.S.Shelf.files c.start.new.self ≡ g.S.Shelf.files c.args.shelf.now = search rules in
-    let begun : g.S.Shelf.begun c.start.new.self ≡ true = search rules in
-    let last : g.S.Shelf.last c.start.new.self ≡ Some c.args.name.now = search rules in
-    let later : g.S.Shelf.faults c.args.shelf.now ≤ g.S.Shelf.faults c.start.new.self = search rules in
-    let opens : Opens (g.S.Shelf.files c.args.shelf.now) c.args.name.now (g.S.Shelf.rest c.start.new.self) = search rules in
+    let files : g.S.Shelf.files c.start_entry.new.shelf ≡ g.S.Shelf.files c.args.shelf.now = search rules in
+    let begun : g.S.Shelf.begun c.start_entry.new.shelf ≡ true = search rules in
+    let last : g.S.Shelf.last c.start_entry.new.shelf ≡ Some c.args.name.now = search rules in
+    let later : g.S.Shelf.faults c.args.shelf.now ≤ g.S.Shelf.faults c.start_entry.new.shelf = search rules in
+    let opens : Opens (g.S.Shelf.files c.args.shelf.now) c.args.name.now (g.S.Shelf.rest c.start_entry.new.shelf) = search rules in
     record {
       files = files;
       begun = begun;
       last = last;
       later = later;
-      reading = opened c.args.form (g.S.Shelf.files c.start.new.self) c.args.name.now (g.S.Shelf.rest c.start.new.self) c.in_ok-intake.intake
-          (subst (λ (f : Option Files). Opens f c.args.name.now (g.S.Shelf.rest c.start.new.self)) (sym files) opens) c.in_ok-intake.ensures;
+      reading = opened c.args.form (g.S.Shelf.files c.start_entry.new.shelf) c.args.name.now (g.S.Shelf.rest c.start_entry.new.shelf) c.in_ok-intake.intake
+          (subst (λ (f : Option Files). Opens f c.args.name.now (g.S.Shelf.rest c.start_entry.new.shelf)) (sym files) opens) c.in_ok-intake.ensures;
     }
 
 pub take_more-requires-clause-open : goal.take_more-requires-clause-open
