@@ -14,6 +14,7 @@ use Rattle.msc_base.specs.declared.label.Label.{Label}
 use Rattle.term_tables.specs.NetValues.{NetsValue, label_number}
 use Rattle.permit_step.specs.Successors.{IsJustAbove, IsSuccessor, AppendsFound}
 use Rattle.term_laws.specs.Taking.{IsAfter, after_event}
+use Rattle.term_laws.proofs.Opening.{each_app}
 use Rattle.chart_term.specs.Facts.{instances}
 use Rattle.chart_term.specs.Views.{event_of}
 use Rattle.chart_term.specs.declared.event.Event.{Event as EventShown}
@@ -22,7 +23,6 @@ use Rattle.permit_step.specs.declared.ascent.Frame.{Frame}
 use Rattle.permit_step.specs.declared.found.Found.{Found}
 use Rattle.permit_step.proofs.Children.{in-child}
 use Rattle.permit_step.proofs.ChildReady.{child-good}
-use Rattle.term_laws.proofs.Keeping.{each_app}
 use Rattle.permit_step.proofs.Rebuilding.{result-child, result-up}
 
 -- lists that grow

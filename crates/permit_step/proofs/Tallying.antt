@@ -12,9 +12,9 @@ use Rattle.chart_term.proofs.Equal.{same_tree_is_exact}
 use Rattle.chart_term.proofs.Distinct.{same_by_order}
 use Rattle.term_laws.specs.Listing.{IsAmong, set_weight}
 use Rattle.term_laws.specs.Normality.{AreDifferent}
+use Rattle.term_laws.proofs.Opening.{each_app}
 use Rattle.permit_step.specs.Searches.{IsTally, AddsOne, is_listed}
 use Rattle.permit_step.specs.declared.found.Found.{Found}
-use Rattle.term_laws.proofs.Keeping.{each_app}
 
 pub set_weight-snoc : (xs : List Tree) (t : Tree) → set_weight (xs ++ t ∷ []) ≡ set_weight xs + weight t
 set_weight-snoc [] t = omega arith

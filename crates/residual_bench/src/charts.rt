@@ -134,7 +134,7 @@ fn three(alloc: Global, first: Term, second: Term, third: Term) -> Result<TermLi
 
 /// The term, in which the event of the first number comes before that of the second.
 #[tactic(auto, using(crate::proofs::Sound::tie_rules))]
-fn tied(alloc: Global, inner: Term, first: u32, second: u32) -> Result<Term, NoMemory>
+fn tied_pair(alloc: Global, inner: Term, first: u32, second: u32) -> Result<Term, NoMemory>
     ensures { IfOk result (λ term. term ≡ tie_of inner ((first, second) ∷ [])) }
 {
     let mut pairs = PairList::new(alloc);
@@ -153,7 +153,7 @@ fn message(alloc: Global, number: u32, from: u32, to: u32) -> Result<Term, NoMem
     let output = event(alloc, number, from, number)?;
     let input = event(alloc, number + 1, to, number + 1)?;
     let row = seq(alloc, two(alloc, output, input)?)?;
-    tied(alloc, row, number, number + 1)
+    tied_pair(alloc, row, number, number + 1)
 }
 
 /// One of two answers.
@@ -176,7 +176,7 @@ fn exchange(alloc: Global) -> Result<Term, NoMemory>
     let answer = answer(alloc)?;
     let parts = three(alloc, output, input, answer)?;
     let row = seq(alloc, parts)?;
-    let term = tied(alloc, row, 0, 1)?;
+    let term = tied_pair(alloc, row, 0, 1)?;
     Ok(term)
 }
 
@@ -216,7 +216,7 @@ pub(crate) fn ordered(alloc: Global) -> Result<Term, NoMemory>
     let third = event(alloc, 2, 0, OTHER_ACTION)?;
     let parts = three(alloc, first, second, third)?;
     let all = par(alloc, parts)?;
-    let term = tied(alloc, all, 1, 2)?;
+    let term = tied_pair(alloc, all, 1, 2)?;
     Ok(term)
 }
 

@@ -8,8 +8,8 @@ use Rattle.chart_term.specs.Properties.{Each, MayHave}
 use Rattle.chart_term.specs.Terms.{TermEvent, Block, Tree, Nil, Event, Join, Choice, Tied, Loop, Walk, Trees, none, more, items}
 use Rattle.term_laws.specs.Permission.{permit}
 use Rattle.term_laws.specs.Taking.{IsAfter}
-use Rattle.term_laws.proofs.Keeping.{each_app}
 use Rattle.term_laws.proofs.Steady.{Lacks, LackAll, Sure, SureAll, permit_lacks, after_lacks, permit_sure, after_sure}
+use Rattle.term_laws.proofs.Opening.{each_app}
 
 -- each label of the later term stands in the earlier one outside choices and loops, if at all; side by side, not at all
 abbrev pub Apart : Mode → Tree → Tree → Type 0

@@ -1,9 +1,9 @@
 -- What permission and taking keep of a property of terms.
 use Rattle.std.specs.Option.{option_map}
-use Rattle.std.specs.Prelude.{ℕ, zero, suc, Bool, true, false, List, [], ◌∷◌, ◌++◌, ◌≡◌, Option, Some, None, refl}
+use Rattle.std.specs.Prelude.{ℕ, zero, suc, Bool, true, false, List, [], ◌∷◌, ◌≡◌, Option, Some, None, refl}
 use Rattle.msc_base.specs.Patterns.{Mode, seq, par}
 use Rattle.hmsc_graph.specs.Graphs.{Spot, At, Goal, To, End, Any, reach}
-use Rattle.chart_term.specs.NormalForms.{NetPermits, only, cut, open_part, flat, join_of, join_all, and_then, or_skip, unless, choice_of, choice_form, unless_same, without, distinct, open_choice, open_choices, bound_form, tie_of, kept_pairs, numbers, cut_gaps, drop_nil, at_zero, live_gap, live, drop_free, has_free, lower_of, thin, thin_gap, has_gap, begun, turns_form, loop_of, walk_of, walk_cut, walk_form, allowed, are_nil, turns_in}
+use Rattle.chart_term.specs.NormalForms.{NetPermits, only, cut, flat, join_of, join_all, and_then, or_skip, unless, choice_of, choice_form, distinct, open_choices, bound_form, tie_of, kept_pairs, numbers, cut_gaps, drop_nil, at_zero, live_gap, live, drop_free, has_free, lower_of, thin, thin_gap, has_gap, begun, turns_form, loop_of, walk_of, walk_cut, walk_form, allowed, are_nil, turns_in}
 use Rattle.chart_term.specs.Properties.{Each, EachTurn, MayHave}
 use Rattle.chart_term.specs.TermPatterns.{instances_of, earlier}
 use Rattle.chart_term.specs.Terms.{TermEvent, Block, hits, Tree, Nil, Event, Join, Choice, Tied, Loop, Walk, Trees, none, more, Row, ends, gap, turn, items, trees, Part, Gap, Turn, parts, row_of, ◌∪◌}
@@ -11,7 +11,7 @@ use Rattle.chart_term.proofs.Looping.{IsSubRow, sub_end, sub_gap, sub_drop, sub_
 use Rattle.chart_term.specs.Spreads.{touch}
 use Rattle.term_laws.specs.Permission.{permit, permit_all, permit_some, permit_row, wider, with_turn}
 use Rattle.term_laws.specs.Taking.{Stays, fewer, down, HasMore, IsAfter, after_event, after_choice, after_join, after_tied, after_loop, after_walk, IsAfterOne, first_one, later_one, IsAfterJoin, first_part, later_part, IsAfterRow, in_turn, in_gap, past_turn, past_gap}
-use Rattle.chart_term.specs.Equality.{same_tree}
+use Rattle.term_laws.proofs.Opening.{each_flat, each_choices, each_distinct}
 
 -- a gap whose block leaves something of the operand
 abbrev pub AliveAt : NetPermits → Tree → List ℕ → Type 0
@@ -91,10 +91,6 @@ each_turn_cut T all [] h = tt
 each_turn_cut T all (Gap c ∷ ps) h = each_turn_cut T all ps h
 each_turn_cut T all (Turn x ∷ ps) h = (h.0, each_turn_cut T all ps h.1)
 
-pub each_app : (P : Tree → Type 0) (xs ys : List Tree) → Each P xs → Each P ys → Each P (xs ++ ys)
-each_app P [] ys h i = i
-each_app P (x ∷ xs) ys h i = (h.0, each_app P xs ys h.1 i)
-
 pub at_some : (P : Tree → Type 0) (r : Option Tree) (y : Tree) → r ≡ Some y → MayHave P r → P y
 at_some P r y e h = rw e at h
 
@@ -117,21 +113,8 @@ module _ (k : NetPermits) where
   alive_live x (Turn y ∷ ps) = alive_live x ps
 
 module _ (k : NetPermits) (P T : Tree → Type 0) (X : Tree → ℕ → Option ℕ → List Part → Type 0) (D : Tree → Tree → Type 0) (kind : Kind k P T X D) where
-  open_keeps : (m : Mode) (x : Tree) → P x → Each P (open_part m x)
-  open_keeps m Nil h = tt
-  open_keeps seq (Join seq xs) h = kind.join_out seq xs h
-  open_keeps seq (Join par xs) h = (h, tt)
-  open_keeps par (Join seq xs) h = (h, tt)
-  open_keeps par (Join par xs) h = kind.join_out par xs h
-  open_keeps m (Event e) h = (h, tt)
-  open_keeps m (Choice xs) h = (h, tt)
-  open_keeps m (Tied x q) h = (h, tt)
-  open_keeps m (Loop x lo hi r) h = (h, tt)
-  open_keeps m (Walk n f t c) h = (h, tt)
-
   flat_keeps : (m : Mode) (xs : List Tree) → Each P xs → Each P (flat m xs)
-  flat_keeps m [] h = tt
-  flat_keeps m (x ∷ xs) h = each_app P (open_part m x) (flat m xs) (open_keeps m x h.0) (flat_keeps m xs h.1)
+  flat_keeps m xs h = each_flat P m (kind.join_out m) xs h
 
   of_keeps : (m : Mode) (xs : List Tree) → Each P xs → P (join_of m xs)
   of_keeps m [] h = kind.nil
@@ -146,33 +129,11 @@ module _ (k : NetPermits) (P T : Tree → Type 0) (X : Tree → ℕ → Option �
   alternatives_keep (x ∷ []) h = h.0
   alternatives_keep (x ∷ y ∷ ys) h = kind.choice_in x y ys h.0 h.1.0 h.1.1
 
-  unless_keeps : (t : Bool) (y : Tree) (ys : List Tree) → P y → Each P ys → Each P (unless_same t y ys)
-  unless_keeps true y ys h i = i
-  unless_keeps false y ys h i = (h, i)
-
-  without_keeps : (x : Tree) (ys : List Tree) → Each P ys → Each P (without x ys)
-  without_keeps x [] h = tt
-  without_keeps x (y ∷ ys) h = unless_keeps (same_tree x y) y (without x ys) h.0 (without_keeps x ys h.1)
-
-  distinct_keeps : (xs : List Tree) → Each P xs → Each P (distinct xs)
-  distinct_keeps [] h = tt
-  distinct_keeps (x ∷ xs) h = (h.0, without_keeps x (distinct xs) (distinct_keeps xs h.1))
-
-  opened_keeps : (x : Tree) → P x → Each P (open_choice x)
-  opened_keeps (Choice xs) h = kind.choice_out xs h
-  opened_keeps Nil h = (h, tt)
-  opened_keeps (Event e) h = (h, tt)
-  opened_keeps (Join m xs) h = (h, tt)
-  opened_keeps (Tied x q) h = (h, tt)
-  opened_keeps (Loop x lo hi r) h = (h, tt)
-  opened_keeps (Walk n f t c) h = (h, tt)
-
   choices_keep : (xs : List Tree) → Each P xs → Each P (open_choices xs)
-  choices_keep [] h = tt
-  choices_keep (x ∷ xs) h = each_app P (open_choice x) (open_choices xs) (opened_keeps x h.0) (choices_keep xs h.1)
+  choices_keep xs h = each_choices P kind.choice_out xs h
 
   pub choice_keeps : (xs : List Tree) → Each P xs → MayHave P (choice_of xs)
-  choice_keeps xs h = alternatives_keep (distinct (open_choices xs)) (distinct_keeps (open_choices xs) (choices_keep xs h))
+  choice_keeps xs h = alternatives_keep (distinct (open_choices xs)) (each_distinct P (open_choices xs) (choices_keep xs h))
 
   tie_keeps : (x : Tree) (q : List (ℕ × ℕ)) → P x → P (Tied x q) → P (bound_form x q)
   tie_keeps x [] h i = h

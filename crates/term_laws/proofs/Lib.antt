@@ -1,5 +1,6 @@
 pub mod Agreeing
 pub mod Ending
+pub mod Opening
 pub mod Keeping
 pub mod Living
 pub mod Permitting

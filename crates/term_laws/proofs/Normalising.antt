@@ -16,7 +16,8 @@ use Rattle.term_laws.specs.Normality.{IsAbove, IsSet, IsPartOf, IsAlternative, A
 use Rattle.chart_term.specs.Spreads.{touch}
 use Rattle.term_laws.specs.Permission.{permit, permit_all, permit_some, permit_row, wider, with_turn}
 use Rattle.term_laws.specs.Taking.{Stays, fewer, down, IsAfter, after_event, after_choice, after_join, after_tied, after_loop, after_walk, IsAfterOne, first_one, later_one, IsAfterJoin, first_part, later_part, IsAfterRow, in_turn, in_gap, past_turn, past_gap}
-use Rattle.term_laws.proofs.Keeping.{sub_thin, each_app, each_turn_sub, each_turn_cut, at_some}
+use Rattle.term_laws.proofs.Keeping.{sub_thin, each_turn_sub, each_turn_cut, at_some}
+use Rattle.term_laws.proofs.Opening.{each_flat, each_choices, each_without, each_distinct, each_app}
 
 -- Sets
 
@@ -228,18 +229,6 @@ kept_shown ns (p ∷ q) = go (has ns p.0 && has ns p.1) refl (kept_shown ns q)
 
 -- Alternatives
 
-each_without : (P : Tree → Type 0) (x : Tree) (ys : List Tree) → Each P ys → Each P (without x ys)
-each_without P x [] h = tt
-each_without P x (y ∷ ys) h = go (same_tree x y) (each_without P x ys h.1)
-  where
-    go : (t : Bool) → Each P (without x ys) → Each P (unless_same t y (without x ys))
-    go true i = i
-    go false i = (h.0, i)
-
-pub each_distinct : (P : Tree → Type 0) (xs : List Tree) → Each P xs → Each P (distinct xs)
-each_distinct P [] h = tt
-each_distinct P (x ∷ xs) h = (h.0, each_without P x (distinct xs) (each_distinct P xs h.1))
-
 none_same : (x : Tree) (ys : List Tree) → Each (λ y. same_tree x y ≡ false) (without x ys)
 none_same x [] = tt
 none_same x (y ∷ ys) = go (same_tree x y) refl (none_same x ys)
@@ -283,17 +272,6 @@ module _ (k : NetPermits) where
   normal_row_out (turn x r) h = (h.0, normal_row_out r h.1)
 
   -- joins
-  open_normal : (m : Mode) (x : Tree) → IsNormal k x → Each (IsNormal k) (open_part m x)
-  open_normal m Nil h = tt
-  open_normal seq (Join seq xs) h = normal_out xs h.0
-  open_normal seq (Join par xs) h = (h, tt)
-  open_normal par (Join seq xs) h = (h, tt)
-  open_normal par (Join par xs) h = normal_out xs h.0
-  open_normal m (Event e) h = (h, tt)
-  open_normal m (Choice xs) h = (h, tt)
-  open_normal m (Tied x q) h = (h, tt)
-  open_normal m (Loop x lo hi r) h = (h, tt)
-  open_normal m (Walk n f t c) h = (h, tt)
 
   open_parts : (m : Mode) (x : Tree) → IsNormal k x → Each (IsPartOf m) (open_part m x)
   open_parts m Nil h = tt
@@ -308,8 +286,7 @@ module _ (k : NetPermits) where
   open_parts m (Walk n f t c) h = (tt, tt)
 
   flat_normal : (m : Mode) (xs : List Tree) → Each (IsNormal k) xs → Each (IsNormal k) (flat m xs)
-  flat_normal m [] h = tt
-  flat_normal m (x ∷ xs) h = each_app (IsNormal k) (open_part m x) (flat m xs) (open_normal m x h.0) (flat_normal m xs h.1)
+  flat_normal m xs h = each_flat (IsNormal k) m (λ ys i. normal_out ys i.0) xs h
 
   flat_parts : (m : Mode) (xs : List Tree) → Each (IsNormal k) xs → Each (IsPartOf m) (flat m xs)
   flat_parts m [] h = tt
@@ -324,14 +301,6 @@ module _ (k : NetPermits) where
   join_normal m xs h = of_normal m (flat m xs) (flat_normal m xs h) (flat_parts m xs h)
 
   -- choices
-  opened_normal : (x : Tree) → IsNormal k x → Each (IsNormal k) (open_choice x)
-  opened_normal (Choice xs) h = normal_out xs h.0
-  opened_normal Nil h = (h, tt)
-  opened_normal (Event e) h = (h, tt)
-  opened_normal (Join m xs) h = (h, tt)
-  opened_normal (Tied x q) h = (h, tt)
-  opened_normal (Loop x lo hi r) h = (h, tt)
-  opened_normal (Walk n f t c) h = (h, tt)
 
   opened_parts : (x : Tree) → IsNormal k x → Each IsAlternative (open_choice x)
   opened_parts (Choice xs) h = h.1
@@ -343,8 +312,7 @@ module _ (k : NetPermits) where
   opened_parts (Walk n f t c) h = (tt, tt)
 
   choices_normal : (xs : List Tree) → Each (IsNormal k) xs → Each (IsNormal k) (open_choices xs)
-  choices_normal [] h = tt
-  choices_normal (x ∷ xs) h = each_app (IsNormal k) (open_choice x) (open_choices xs) (opened_normal x h.0) (choices_normal xs h.1)
+  choices_normal xs h = each_choices (IsNormal k) (λ ys i. normal_out ys i.0) xs h
 
   choices_parts : (xs : List Tree) → Each (IsNormal k) xs → Each IsAlternative (open_choices xs)
   choices_parts [] h = tt

@@ -3,7 +3,7 @@ use Rattle.std.specs.Option.{option_map}
 use Rattle.std.specs.Prelude.{ℕ, ◌≢◌, Bool, true, false, List, [], ◌∷◌, ◌++◌, ◌≡◌, ◌⊎◌, Option, Some, None}
 use Rattle.std.proofs.Common.{inl, inr}
 use Rattle.msc_base.specs.Patterns.{Mode, seq, par}
-use Rattle.chart_term.specs.NormalForms.{NetPermits, only, open_part, flat, join_of, join_all, and_then, or_skip, unless, open_choice, open_choices, distinct, choice_form, choice_of, bound_form, tie_of, kept_pairs, numbers}
+use Rattle.chart_term.specs.NormalForms.{NetPermits, only, open_part, flat, join_of, join_all, and_then, or_skip, unless, open_choices, distinct, choice_form, choice_of, bound_form, tie_of, kept_pairs, numbers}
 use Rattle.chart_term.specs.Properties.{Each, MayHave, EveryOf, EveryRow}
 use Rattle.chart_term.specs.TermPatterns.{instances_of, earlier}
 use Rattle.chart_term.specs.Terms.{TermEvent, Block, hits, Tree, Nil, Event, Join, Choice, Tied, Loop, Walk, Trees, none, more, items, trees}
@@ -11,8 +11,7 @@ use Rattle.term_laws.specs.Permission.{permit, permit_all, permit_some}
 use Rattle.term_laws.specs.Soundness.{Lacks}
 use Rattle.term_laws.specs.Taking.{Stays, IsAfter, after_event, after_choice, after_join, after_tied, after_loop, after_walk, IsAfterOne, first_one, later_one, IsAfterJoin, first_part, later_part}
 use Rattle.term_laws.proofs.Everywhere.{every_out, permit_every, after_every}
-use Rattle.term_laws.proofs.Keeping.{each_app}
-use Rattle.term_laws.proofs.Normalising.{each_distinct}
+use Rattle.term_laws.proofs.Opening.{each_open, each_flat, each_choices, each_app, each_distinct}
 
 module _ (NL : ℕ → ℕ → Type 0) (j : ℕ) where
   abbrev pub Free : Tree → Type 0
@@ -99,16 +98,7 @@ module _ (NL : ℕ → ℕ → Type 0) (j : ℕ) where
   once_app (x ∷ xs) ys (inr o) h = inr (o.0, each_app Free xs ys o.1 h)
 
   open_free : (m : Mode) (x : Tree) → Free x → Each Free (open_part m x)
-  open_free m Nil h = tt
-  open_free seq (Join seq xs) h = free_out xs h
-  open_free seq (Join par xs) h = (h, tt)
-  open_free par (Join seq xs) h = (h, tt)
-  open_free par (Join par xs) h = free_out xs h
-  open_free m (Event e) h = (h, tt)
-  open_free m (Choice xs) h = (h, tt)
-  open_free m (Tied x q) h = (h, tt)
-  open_free m (Loop x lo hi r) h = (h, tt)
-  open_free m (Walk n f t c) h = (h, tt)
+  open_free m x h = each_open Free m (λ ys i. free_out ys i) x h
 
   open_once : (m : Mode) (x : Tree) → Once x → OnceList (open_part m x)
   open_once m Nil h = tt
@@ -123,8 +113,7 @@ module _ (NL : ℕ → ℕ → Type 0) (j : ℕ) where
   open_once m (Walk n f t c) h = inr (h, tt)
 
   flat_free : (m : Mode) (xs : List Tree) → Each Free xs → Each Free (flat m xs)
-  flat_free m [] h = tt
-  flat_free m (x ∷ xs) h = each_app Free (open_part m x) (flat m xs) (open_free m x h.0) (flat_free m xs h.1)
+  flat_free m xs h = each_flat Free m (λ ys i. free_out ys i) xs h
 
   flat_once : (m : Mode) (xs : List Tree) → OnceList xs → OnceList (flat m xs)
   flat_once m [] h = tt
@@ -141,18 +130,9 @@ module _ (NL : ℕ → ℕ → Type 0) (j : ℕ) where
   join_once m xs h = of_once m (flat m xs) (flat_once m xs h)
 
   -- choices
-  opened_once : (x : Tree) → Once x → Each Once (open_choice x)
-  opened_once (Choice xs) h = each_out xs h
-  opened_once Nil h = (h, tt)
-  opened_once (Event e) h = (h, tt)
-  opened_once (Join m xs) h = (h, tt)
-  opened_once (Tied x q) h = (h, tt)
-  opened_once (Loop x lo hi r) h = (h, tt)
-  opened_once (Walk n f t c) h = (h, tt)
 
   choices_once : (xs : List Tree) → Each Once xs → Each Once (open_choices xs)
-  choices_once [] h = tt
-  choices_once (x ∷ xs) h = each_app Once (open_choice x) (open_choices xs) (opened_once x h.0) (choices_once xs h.1)
+  choices_once xs h = each_choices Once (λ ys i. each_out ys i) xs h
 
   form_once : (xs : List Tree) → Each Once xs → MayHave Once (choice_form xs)
   form_once [] h = tt

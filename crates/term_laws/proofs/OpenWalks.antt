@@ -12,6 +12,7 @@ use Rattle.term_laws.specs.Permission.{permit, permit_all}
 use Rattle.term_laws.specs.Taking.{IsAfter, after_join, after_walk, IsAfterJoin, first_part, later_part}
 use Rattle.term_laws.proofs.EveryPart.{part_out, permit_part, after_part}
 use Rattle.term_laws.proofs.Keeping.{Begins, Aims, as_before, to_node}
+use Rattle.term_laws.proofs.Opening.{each_open}
 
 -- terms without walks to any node
 abbrev pub ClosedAll : Trees → Type 0
@@ -93,16 +94,7 @@ closed_app (x ∷ xs) ys h i = closed_more x (xs ++ ys) h.0 (closed_app xs ys h.
 
 -- the parts of a row
 open_closed : (m : Mode) (x : Tree) → HasNoOpenWalk x → Each HasNoOpenWalk (open_part m x)
-open_closed m Nil h = tt
-open_closed seq (Join seq xs) h = closed_out xs h
-open_closed seq (Join par xs) h = (h, tt)
-open_closed par (Join seq xs) h = (h, tt)
-open_closed par (Join par xs) h = closed_out xs h
-open_closed m (Event e) h = (h, tt)
-open_closed m (Choice xs) h = (h, tt)
-open_closed m (Tied x q) h = (h, tt)
-open_closed m (Loop x lo hi r) h = (h, tt)
-open_closed m (Walk n f t c) h = (h, tt)
+open_closed m x h = each_open HasNoOpenWalk m closed_out x h
 
 last_out : (xs : Trees) → IsOpenWalkLastOf xs → LastWalk (items xs)
 last_out none h = tt

@@ -17,10 +17,10 @@ use Rattle.term_laws.specs.Permission.{permit, permit_all, permit_some, permit_r
 use Rattle.term_laws.specs.Taking.{Stays, fewer, down, IsAfter, after_event, after_choice, after_join, after_tied, after_loop, after_walk, IsAfterOne, first_one, later_one, IsAfterJoin, first_part, later_part, IsAfterRow, in_turn, in_gap, past_turn, past_gap}
 use Rattle.term_laws.proofs.Apart.{Apart, AllApart, Fewer, fewer_self, permit_fewer, after_fewer, Thins, thin_end, thin_keep, thin_skip, thins_self, apart_thins, flat_apart, choices_apart, distinct_thins}
 use Rattle.term_laws.proofs.Everywhere.{permit_every}
-use Rattle.term_laws.proofs.Keeping.{AliveAt, AliveGaps, alive_sub, alive_live, each_app, each_turn_sub, each_turn_cut, sub_thin}
-use Rattle.term_laws.proofs.Normalising.{each_distinct}
+use Rattle.term_laws.proofs.Keeping.{AliveAt, AliveGaps, alive_sub, alive_live, each_turn_sub, each_turn_cut, sub_thin}
 use Rattle.term_laws.proofs.Numbers.{has_either}
 use Rattle.term_laws.proofs.Steady.{Plain, PlainAll, plain_sure, permit_plain, after_plain, taken_every}
+use Rattle.term_laws.proofs.Opening.{each_flat, each_choices, each_distinct}
 
 -- nothing stands behind a gap
 abbrev pub IsEnd : Row → Type 0
@@ -61,17 +61,6 @@ module _ (m : ℕ) where
   single_out (more x xs) h = (h.0, single_out xs h.1)
 
   -- joins
-  open_single : (n : Mode) (x : Tree) → Single x → Each Single (open_part n x)
-  open_single n Nil h = tt
-  open_single seq (Join seq xs) h = single_out xs h.0
-  open_single seq (Join par xs) h = (h, tt)
-  open_single par (Join seq xs) h = (h, tt)
-  open_single par (Join par xs) h = single_out xs h.0
-  open_single n (Event e) h = (h, tt)
-  open_single n (Choice xs) h = (h, tt)
-  open_single n (Tied x q) h = (h, tt)
-  open_single n (Loop x lo hi r) h = (h, tt)
-  open_single n (Walk i f t c) h = (h, tt)
 
   open_apart : (n : Mode) (x : Tree) → Single x → AllApart n (open_part n x)
   open_apart n Nil h = tt
@@ -90,8 +79,7 @@ module _ (m : ℕ) where
   each_open n (x ∷ xs) h = (open_apart n x h.0, each_open n xs h.1)
 
   flat_single : (n : Mode) (xs : List Tree) → Each Single xs → Each Single (flat n xs)
-  flat_single n [] h = tt
-  flat_single n (x ∷ xs) h = each_app Single (open_part n x) (flat n xs) (open_single n x h.0) (flat_single n xs h.1)
+  flat_single n xs h = each_flat Single n (λ ys i. single_out ys i.0) xs h
 
   of_single : (n : Mode) (xs : List Tree) → Each Single xs → AllApart n xs → Single (join_of n xs)
   of_single n [] h a = tt
@@ -105,14 +93,6 @@ module _ (m : ℕ) where
   join_single n xs h a = of_single n (flat n xs) (flat_single n xs h) (flat_apart n xs (each_open n xs h) a)
 
   -- choices
-  opened_single : (x : Tree) → Single x → Each Single (open_choice x)
-  opened_single (Choice xs) h = single_out xs h.0
-  opened_single Nil h = (h, tt)
-  opened_single (Event e) h = (h, tt)
-  opened_single (Join n xs) h = (h, tt)
-  opened_single (Tied x q) h = (h, tt)
-  opened_single (Loop x lo hi r) h = (h, tt)
-  opened_single (Walk i f t c) h = (h, tt)
 
   opened_apart : (x : Tree) → Single x → AllApart par (open_choice x)
   opened_apart (Choice xs) h = h.1
@@ -128,8 +108,7 @@ module _ (m : ℕ) where
   each_opened (x ∷ xs) h = (opened_apart x h.0, each_opened xs h.1)
 
   choices_single : (xs : List Tree) → Each Single xs → Each Single (open_choices xs)
-  choices_single [] h = tt
-  choices_single (x ∷ xs) h = each_app Single (open_choice x) (open_choices xs) (opened_single x h.0) (choices_single xs h.1)
+  choices_single xs h = each_choices Single (λ ys i. single_out ys i.0) xs h
 
   form_single : (xs : List Tree) → Each Single xs → AllApart par xs → MayHave Single (choice_form xs)
   form_single [] h a = tt

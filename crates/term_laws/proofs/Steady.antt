@@ -12,7 +12,7 @@ use Rattle.chart_term.proofs.Instances.{has_self}
 use Rattle.term_laws.specs.Permission.{permit, permit_all}
 use Rattle.term_laws.specs.Taking.{Stays, IsAfter, after_event, after_choice, after_join, after_tied, after_loop, after_walk, IsAfterOne, first_one, later_one, IsAfterJoin, first_part, later_part, IsAfterRow, in_turn, in_gap, past_turn, past_gap}
 use Rattle.term_laws.proofs.Everywhere.{permit_every, after_every, every_row_out}
-use Rattle.term_laws.proofs.Keeping.{each_app}
+use Rattle.term_laws.proofs.Opening.{each_open, each_flat}
 
 -- no event of the term has the label, and it holds no graph
 abbrev pub Lacks : ℕ → Tree → Type 0
@@ -46,20 +46,10 @@ module _ (C : Trees → Type 0) (L : Tree → Row → Type 0) where
   steady_out (more x xs) h = (h.0, steady_out xs h.1)
 
   pub open_steady : (m : Mode) (x : Tree) → Steady x → Each Steady (open_part m x)
-  open_steady m Nil h = tt
-  open_steady seq (Join seq xs) h = steady_out xs h
-  open_steady seq (Join par xs) h = (h, tt)
-  open_steady par (Join seq xs) h = (h, tt)
-  open_steady par (Join par xs) h = steady_out xs h
-  open_steady m (Event e) h = (h, tt)
-  open_steady m (Choice xs) h = (h, tt)
-  open_steady m (Tied x q) h = (h, tt)
-  open_steady m (Loop x lo hi r) h = (h, tt)
-  open_steady m (Walk n f t c) h = (h, tt)
+  open_steady m x h = each_open Steady m (λ ys i. steady_out ys i) x h
 
   flat_steady : (m : Mode) (xs : List Tree) → Each Steady xs → Each Steady (flat m xs)
-  flat_steady m [] h = tt
-  flat_steady m (x ∷ xs) h = each_app Steady (open_part m x) (flat m xs) (open_steady m x h.0) (flat_steady m xs h.1)
+  flat_steady m xs h = each_flat Steady m (λ ys i. steady_out ys i) xs h
 
   of_steady : (m : Mode) (xs : List Tree) → Each Steady xs → Steady (join_of m xs)
   of_steady m [] h = tt
