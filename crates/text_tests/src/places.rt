@@ -1,7 +1,7 @@
 //! Places that are in no print.
 use msc_base::{LabelRefs, Place};
-use msc_expression::graph;
 use msc_events::joins;
+use msc_expression::graph;
 use msc_tokens::lex_all;
 use msc_tree::{Join, JoinEnd, NodeKind};
 use std::alloc::Global;
