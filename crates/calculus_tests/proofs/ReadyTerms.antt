@@ -12,7 +12,7 @@ use Rattle.chart_term.specs.Terms.{TermEvent, Tree, Event}
 use Rattle.permit_step.specs.Ready.{AreReadyTables, IsReady}
 use Rattle.permit_step.specs.Successors.{AppendsFound}
 use Rattle.permit_step.proofs.ReadyTerms.{ready_is_kept}
-use Rattle.term_laws.proofs.TidyTables.{at_some}
+use Rattle.term_laws.proofs.Keeping.{at_some}
 
 pub ready-event : (w : Tables) (x : Tree) (e : TermEvent) → x ≡ Event e → IsReady w x
 ready-event w x e q = subst (IsReady w) (sym q) (ready_is_kept.event w e)

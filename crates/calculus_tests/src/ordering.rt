@@ -116,7 +116,10 @@ fn orders_of_items(rt: HostRuntime) -> Result<(), Fail> {
     let due = sorted(alloc, Edge { from: 2, to: 1 }, Edge { from: 0, to: 3 })?;
     assert_eq!(rt; order_of(alloc, &due)?.as_slice(), [0, 2, 1, 3].as_slice());
     let column = woven(alloc, Edge { from: 3, to: 2 }, Edge { from: 3, to: 1 })?;
-    assert_eq!(rt; order_of(alloc, &column)?.as_slice(), [0, 2, 1, 3].as_slice());
+    assert_eq!(rt;
+        order_of(alloc, &column)?.as_slice(),
+        [0, 2, 1, 3].as_slice()
+    );
     let columns: Vec<Vec<u32>> = Vec::new(alloc);
     let free = weave(alloc, 3, columns.as_slice())?;
     assert_eq!(rt; order_of(alloc, &free)?.as_slice(), [0, 1, 2].as_slice());

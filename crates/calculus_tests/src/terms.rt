@@ -1,8 +1,8 @@
 //! Terms: what they weigh, and when two are the same.
 ghost use Rattle.std.specs.Prelude.{◌<◌, ◌≡◌, ◌++◌, ◌∷◌, IfOk, length};
 
-use chart_term::{Look, RowList, RowPart, Term, TermList, choice, par, seq, tied};
 use bit_sets::Block;
+use chart_term::{Look, RowList, RowPart, Term, TermList, choice, par, seq, tied};
 use hmsc_graph::{Goal, Spot};
 use msc_base::{NoMemory, Pair, PairList};
 use std::alloc::Global;

@@ -3,8 +3,8 @@ ghost use Rattle.std.specs.Prelude.{◌≡◌, ◌≤◌, IfOk, OnOk};
 ghost use Rattle.outside.specs.MemoryShelves.{calls_of};
 
 use msc_base::{Items, NoMemory, Text, Words};
-use outside::{MemShelf, MemSink};
 use msc_cmd::run;
+use outside::{MemShelf, MemSink};
 use std::alloc::Global;
 
 /// Calls of a shelf, by their numbers from 1 on.
