@@ -1,5 +1,5 @@
 -- Facts on the numbers whose bits words have.
-use Rattle.std.proofs.Common.{◌≡◌, ◌≢◌, ℕ, suc, zero, ◌+◌, ◌-◌, ◌*◌, ◌/◌, ◌%◌, ◌^◌, ◌<◌, ◌≤◌, inl, inr, Bool, true, false, nat_eq, cond, List, [], ◌∷◌, ◌++◌, length, get_or, set, replicate, refl, ap, subst, sym, ◌∙◌, arith, Contains, ◌↔◌, IsTrue, length-append}
+use Rattle.std.proofs.Common.{◌≡◌, ◌≢◌, ℕ, suc, zero, ◌+◌, ◌-◌, ◌*◌, ◌/◌, ◌%◌, ◌^◌, ◌<◌, ◌≤◌, inl, inr, Bool, true, false, nat_eq, cond, List, [], ◌∷◌, ◌++◌, length, get_or, set, replicate, refl, ap, subst, sym, ◌∙◌, arith, Contains, ◌↔◌, IsTrue, length-append, Result, Ok, Err, OnOk, OnErr, ap₂, take}
 use Rattle.std.specs.Int.{bit_at}
 use Rattle.std.specs.Int.Bits.{bit_or}
 use Rattle.std.proofs.lemmas.Bool.{eq-eqb, cases_eq, cases_lt}
@@ -7,7 +7,6 @@ use Rattle.std.proofs.lemmas.List.{append-nil, take_all, get_or_past, get_or-rep
 use Rattle.std.proofs.lemmas.Nat.{pow_pos, le_or_r, one_shl}
 use Rattle.std.proofs.lemmas.Grind.{get_or_default_zero}
 use Rattle.std.specs.List.{insert}
-use Rattle.std.proofs.Common.{Result, Ok, Err, OnOk, OnErr, ap₂, take}
 use Rattle.std.proofs.lemmas.Nat.Bits.{bit_at_or, bit_at-pow_same, bit_at-pow_other, bit_at-lt, bit_at-zero}
 use Rattle.msc_base.specs.declared.limits.TheConstants.Limits.{INSTANCES}
 use Rattle.bit_sets.specs.Blocks.{BlockValue, AreAbove, AreBelow, IsRising, IsBlock, IsStored, insert_rising, has_bit, numbers_that, bits_of, with_bit}

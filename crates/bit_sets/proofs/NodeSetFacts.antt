@@ -1,11 +1,10 @@
 -- Sets of node numbers in words.
-use Rattle.std.proofs.Common.{ℕ, zero, suc, ◌+◌, ◌*◌, ◌/◌, ◌%◌, ◌^◌, ◌<◌, ◌≤◌, ◌≡◌, ◌↔◌, ◌⊎◌, inl, inr, List, [], ◌∷◌, length, get_or, replicate, set, Bool, true, false, cond, IsTrue, refl, sym, subst, arith, ap, ◌∙◌, nat_eq, bit_or, bit_and}
+use Rattle.std.proofs.Common.{ℕ, zero, suc, ◌+◌, ◌*◌, ◌/◌, ◌%◌, ◌^◌, ◌<◌, ◌≤◌, ◌≡◌, ◌↔◌, ◌⊎◌, inl, inr, List, [], ◌∷◌, get_or, replicate, set, Bool, true, false, cond, IsTrue, refl, sym, subst, arith, ap, ◌∙◌, nat_eq}
 use Rattle.std.proofs.lemmas.Bool.{cases_eq, true≢false}
-use Rattle.std.proofs.lemmas.Nat.Bits.{bit_at-zero, shr_and_one}
-use Rattle.std.proofs.lemmas.Grind.{get_or_default_zero}
+use Rattle.std.proofs.lemmas.Nat.Bits.{bit_at-zero}
 use Rattle.std.specs.Int.{bit_at}
 use Rattle.bit_sets.specs.Blocks.{has_bit, numbers_that, with_bit}
-use Rattle.bit_sets.proofs.BitFacts.{has_bit-with_same, has_bit-with_other, with_bit_is, wide_enough}
+use Rattle.bit_sets.proofs.BitFacts.{has_bit-with_same, has_bit-with_other}
 use Rattle.msc_base.specs.Lists.{IsIn}
 use Rattle.bit_sets.specs.NodeSets.{NodeSetValue, numbers_in}
 

@@ -1,7 +1,7 @@
 //! Sets of instances and of events, by number. chart_term, term_tables and permit_step say by them what a term touches.
 
 ghost use Rattle.std.specs.Prelude.{◌≡◌, ◌<◌, ◌↔◌, [], Contains, OnOk, OnErr, IfOk, IsTrue};
-ghost use Rattle.bit_sets.specs.Blocks.{IsBlock, insert_rising, insert_each, share, set_cmp, with_bit, has_bit};
+ghost use Rattle.bit_sets.specs.Blocks.{IsBlock, insert_rising, insert_each, share, set_cmp, with_bit};
 
 use crate::words::{first_difference, has_number, set_bit, share_bit, unite};
 use msc_base::{Limits, NoMemory};

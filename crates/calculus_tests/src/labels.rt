@@ -1,5 +1,5 @@
 //! Numbers of labels.
-ghost use Rattle.std.specs.Prelude.{◌≡◌, IfOk};
+ghost use Rattle.std.specs.Prelude.{◌≡◌};
 
 use label_table::LabelTable;
 use msc_base::{Far, Kind, Label, Name, NoMemory, Text};

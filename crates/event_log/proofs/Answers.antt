@@ -4,8 +4,7 @@ use Rattle.std.proofs.lemmas.List.{take_all}
 use Rattle.msc_base.specs.declared.limits.TheConstants.Limits.{LINE_BYTES, LOG_BYTES}
 use Rattle.event_log.specs.Faults.{IsFault}
 use Rattle.event_log.specs.Lines.{cut_of, decided, last_line, lines_of}
-use Rattle.msc_base.specs.Only.{Never}
-use Rattle.msc_base.specs.Only.{Only}
+use Rattle.msc_base.specs.Only.{Never, Only}
 use Rattle.event_log.specs.Logs.{Stage, first_stage, HasFault, Reading, Reaches, limited, LogOf, HoldsEvent}
 use Rattle.event_log.specs.States.{LogState, HandsOut, TakesLine, RefusesLine, IsGoing, IsSettled, IsWanting, HoldsAt, Fed, IsFaultOf, IsAnswer}
 use Rattle.event_log.specs.declared.event.LineEvent.{LineEvent}

@@ -16,8 +16,7 @@ use Rattle.msc_base.specs.declared.label.Kind.TheVariants.{Output, Input, Output
 use Rattle.msc_base.specs.declared.label.Far.{Far}
 use Rattle.msc_events.specs.LogEvents.{ReadsText}
 use Rattle.event_log.specs.Meanings.{IsBlankByte, SaysBy, Says}
-use Rattle.msc_base.specs.Only.{Never}
-use Rattle.msc_base.specs.Only.{Only}
+use Rattle.msc_base.specs.Only.{Never, Only}
 use Rattle.event_log.specs.Objects.{Spelled, Written, IsAllowed, all_members, HasMembers, IsVersionObject, Said, kind_of, IsEndBy, IsFarOf, IsSaid, IsEventObject}
 use Rattle.event_log.specs.declared.event.LogForm.TheVariants.{Json}
 use Rattle.event_log.specs.declared.event.Version.{Version}

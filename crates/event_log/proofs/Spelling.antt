@@ -13,8 +13,7 @@ use Rattle.token_grammar.specs.Refusals.{IsRefusal}
 use Rattle.token_grammar.specs.declared.fault.ParseFault.{ParseFault}
 use Rattle.token_grammar.specs.declared.fault.ParseFault.TheVariants as fault
 use Rattle.event_log.specs.Meanings.{StatesVersion, IsEventOf, SaysBy, Says}
-use Rattle.msc_base.specs.Only.{Never}
-use Rattle.msc_base.specs.Only.{Only}
+use Rattle.msc_base.specs.Only.{Never, Only}
 use Rattle.event_log.specs.Objects.{Spelled, IsAllowed}
 use Rattle.event_log.specs.Faults.{IsFault}
 use Rattle.event_log.specs.States.{LogState, Refuses, RefusesLine}

@@ -1,14 +1,13 @@
 //! What a line in JSON says: a version, an event, nothing, or neither. For `line` alone.
 
-ghost use Rattle.std.specs.Prelude.{◌≡◌, ◌<◌, ◌^◌, ◌↔◌, length, All, IsTrue, true, false, IfOk, MatchOption, Some, None, codes, option_map, option_and_then, string_bytes, IsUtf8};
+ghost use Rattle.std.specs.Prelude.{◌≡◌, ◌<◌, ◌^◌, ◌↔◌, All, IsTrue, false, IfOk, MatchOption, Some, None, codes, option_map, string_bytes, IsUtf8};
 ghost use Rattle.std.specs.List.{list_all};
 ghost use Rattle.std.specs.BTreeMap.{keys};
-ghost use Rattle.serde_json.specs.View.{view, members_view};
+ghost use Rattle.serde_json.specs.View.{view};
 ghost use Rattle.serde_json.specs.Find.{get};
 ghost use Rattle.serde_json.specs.Read.{read};
 ghost use Rattle.event_log.specs.Meanings.{IsBlankByte, SaysBy, Says};
-ghost use Rattle.msc_base.specs.Only.{Never};
-ghost use Rattle.msc_base.specs.Only.{Only};
+ghost use Rattle.msc_base.specs.Only.{Never, Only};
 ghost use Rattle.event_log.specs.Objects.{IsVersionObject, IsEventObject, HasMembers, is_version_member, is_event_member, text_at, text_or_none, version_of_number};
 ghost use Rattle.event_log.specs.declared.event.LogForm.TheVariants.{Json};
 

@@ -1,7 +1,7 @@
 //! What a line says, in either form: for `reader`, which counts lines.
 
-ghost use Rattle.std.specs.Prelude.{◌≡◌, ◌<◌, ◌≤◌, ◌^◌, ◌↔◌, IfOk, IsTrue, length, All};
-ghost use Rattle.event_log.specs.Meanings.{IsDigit, Says, version_of};
+ghost use Rattle.std.specs.Prelude.{◌≡◌, ◌<◌, ◌≤◌, ◌^◌, ◌↔◌, IfOk, length};
+ghost use Rattle.event_log.specs.Meanings.{Says};
 
 use crate::json_line::read_json_line;
 use crate::text_line::read_text_line;

@@ -4,8 +4,7 @@ ghost use Rattle.std.specs.Prelude.{◌≡◌, ◌<◌, ◌^◌, ◌↔◌, leng
 ghost use Rattle.msc_base.specs.Names.{IsName};
 ghost use Rattle.token_grammar.specs.Languages.{texts};
 ghost use Rattle.msc_events.specs.LogEvents.{ReadsText};
-ghost use Rattle.msc_base.specs.Only.{Never};
-ghost use Rattle.msc_base.specs.Only.{Only};
+ghost use Rattle.msc_base.specs.Only.{Never, Only};
 ghost use Rattle.event_log.specs.Objects.{Said, Spelled, IsSaid, IsFarOf, IsEnd, IsInstance, kind_of, message_kind_of, local_kind_of};
 
 use crate::Version;

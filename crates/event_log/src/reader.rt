@@ -1,11 +1,9 @@
 //! The reader of a log in pieces: cuts it into lines and hands out events. msc_cmd and trace_judge feed it.
 
-ghost use Rattle.std.specs.Prelude.{◌≡◌, ◌<◌, ◌≤◌, ◌+◌, ◌++◌, ◌∷◌, [], ℕ, List, Bool, true, false, not, length, All, ◌≢◌, take, drop, get_or, slice_index, IfOk, IfErr, OnOk, OnErr, IfSome, MatchOption, IsTrue, ◌↔◌, Option, Some, None, Ok, Err, option_to_list};
+ghost use Rattle.std.specs.Prelude.{◌≡◌, ◌<◌, ◌≤◌, ◌+◌, ◌++◌, ◌∷◌, [], ℕ, List, true, false, not, length, All, ◌≢◌, take, slice_index, IfOk, IfErr, OnOk, OnErr, IfSome, MatchOption, ◌↔◌, Option, Some, None, Ok, Err, option_to_list};
 ghost use Rattle.event_log.specs.Faults.{IsFault};
-ghost use Rattle.event_log.specs.Logs.{LogOf, HoldsEvent};
-ghost use Rattle.event_log.specs.Meanings.{Says};
-ghost use Rattle.msc_base.specs.Only.{Never};
-ghost use Rattle.msc_base.specs.Only.{Only};
+ghost use Rattle.event_log.specs.Logs.{HoldsEvent};
+ghost use Rattle.msc_base.specs.Only.{Never, Only};
 ghost use Rattle.event_log.specs.States.{LogState, IsGoing, HoldsAt, Fed, IsAnswer, fault_in, Takes, Refuses, TakesLine, RefusesLine, Grows, IsTooLong, counted, next_line};
 ghost use Rattle.event_log.specs.declared.event.LineEvent.{LineEvent};
 ghost use Rattle.event_log.specs.declared.event.LogFault.{LogFault};

@@ -1,11 +1,10 @@
 //! What a line in the notation of charts says, and which kinds of events a version has: for `line` and `object`.
 
-ghost use Rattle.std.specs.Prelude.{◌≡◌, ◌<◌, ◌≤◌, ◌^◌, ◌↔◌, ◌∷◌, [], IfOk, MatchOption, IsTrue, length, All, codes, List, ℕ};
+ghost use Rattle.std.specs.Prelude.{◌≡◌, ◌<◌, ◌≤◌, ◌^◌, ◌↔◌, ◌∷◌, [], IfOk, MatchOption, IsTrue, length, All, ℕ};
 ghost use Rattle.msc_tokens.specs.Spelling.{Spells};
 ghost use Rattle.token_grammar.specs.Languages.{texts};
 ghost use Rattle.event_log.specs.Meanings.{IsDigit, Says, version_of, StatesVersion, IsEventOf, SaysBy};
-ghost use Rattle.msc_base.specs.Only.{Never};
-ghost use Rattle.msc_base.specs.Only.{Only};
+ghost use Rattle.msc_base.specs.Only.{Never, Only};
 ghost use Rattle.event_log.specs.Objects.{IsAllowed};
 ghost use Rattle.event_log.specs.declared.event.LogForm.TheVariants.{Lines};
 

@@ -3,12 +3,10 @@ use Rattle.std.proofs.Common.{ℕ, zero, suc, ◌+◌, ◌<◌, ◌≡◌, ◌�
 use Rattle.std.proofs.Math.Seq.{take-append_seam}
 use Rattle.std.proofs.lemmas.Bool.{cases_eq, cases_lt, true≢false}
 use Rattle.std.proofs.lemmas.List.{get_or-set_same, get_or-set_other, length-set, get_or_past}
-use Rattle.hmsc_graph.specs.Graphs.{Net, At, behind}
+use Rattle.hmsc_graph.specs.Graphs.{Net, At, behind, End, arrives}
 use Rattle.msc_base.specs.Lists.{IsIn}
-use Rattle.hmsc_graph.specs.Reversals.{HasEdges}
-use Rattle.hmsc_graph.specs.Graphs.{End, arrives}
+use Rattle.hmsc_graph.specs.Reversals.{HasEdges, AreEdgesBack, IsReversed}
 use Rattle.hmsc_graph.specs.Nets.{IsNet, size_of, graph_of}
-use Rattle.hmsc_graph.specs.Reversals.{AreEdgesBack, IsReversed}
 use Rattle.hmsc_graph.proofs.MemberFacts.{in_left, in_pushed, pushed_in}
 
 pub edges_none : (back : List (List ℕ)) (node : ℕ) → HasEdges back node [] back

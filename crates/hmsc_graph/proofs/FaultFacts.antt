@@ -1,6 +1,6 @@
 -- The first label that can't stand, and the graph where there is none.
-use Rattle.std.proofs.Common.{ℕ, zero, suc, ◌+◌, ◌<◌, ◌≤◌, ◌≡◌, ◌⊎◌, inl, inr, List, [], ◌∷◌, ◌++◌, length, map, Bool, true, false, nat_lt, ◌||◌, Option, Some, None, fold, refl, sym, subst, arith, ap, ap₂, ◌∙◌, length-append, append_assoc, filter_map, slice_get, if◌then◌else◌}
-use Rattle.std.proofs.lemmas.Bool.{ltb-true, lt-ltb, true≢false, or_cases, or_left, or_right, cases_lt}
+use Rattle.std.proofs.Common.{ℕ, zero, suc, ◌+◌, ◌<◌, ◌≤◌, ◌≡◌, ◌⊎◌, inl, inr, List, [], ◌∷◌, ◌++◌, length, map, Bool, true, false, ◌||◌, Option, Some, None, fold, refl, sym, subst, arith, ap, ap₂, ◌∙◌, length-append, append_assoc, filter_map, slice_get, if◌then◌else◌}
+use Rattle.std.proofs.lemmas.Bool.{true≢false, or_cases, or_left, or_right}
 use Rattle.std.proofs.lemmas.Slice.Eq.{bytes_eq-Decides}
 use Rattle.std.proofs.lemmas.Option.{slice_get_within}
 use Rattle.std.proofs.lemmas.List.{append-nil}

@@ -1,7 +1,6 @@
 //! The first node that is reached and can't end, by a search forwards and one backwards. No crate calls it yet.
 
 ghost use Rattle.std.specs.Prelude.{◌≡◌, IfOk};
-ghost use Rattle.hmsc_graph.specs.Nets.{size_of};
 ghost use Rattle.hmsc_graph.specs.Searches.{IsFirstLost};
 ghost use Rattle.hmsc_graph.specs.Walks.{IsFirstEndless};
 

@@ -1,8 +1,8 @@
 //! Pairs the k-th end with the k-th, class by class: msc_expand and msc_instances pair outputs with inputs by it.
 
-ghost use Rattle.std.specs.Prelude.{◌≡◌, ◌<◌, ◌++◌, ◌↔◌, All, IfOk, OnOk, length, ℕ};
+ghost use Rattle.std.specs.Prelude.{◌≡◌, ◌<◌, ◌++◌, ◌↔◌, All, IfOk, OnOk, ℕ};
 ghost use Rattle.item_order.specs.Counts.{Leads};
-ghost use Rattle.item_order.specs.Pairing.{IsPair, zipped, pairs_of};
+ghost use Rattle.item_order.specs.Pairing.{IsPair, zipped};
 
 use crate::Edge;
 use crate::sorting::targets_of;

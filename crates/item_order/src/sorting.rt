@@ -1,6 +1,6 @@
 //! The earliest order under edges, by counting what each item still waits for. `weaving` and `pairing` stand on it.
 
-ghost use Rattle.std.specs.Prelude.{◌≡◌, ◌^◌, Vec, ℕ, ◌<◌, ◌≤◌, ◌+◌, ◌↔◌, ◌⊎◌, ◌∷◌, ◌++◌, [], List, All, length, get_or, IfOk, OnOk, IsTrue, true, Option, Some, None, IfSome, IfNone, slice_get, take};
+ghost use Rattle.std.specs.Prelude.{◌≡◌, ◌^◌, Vec, ℕ, ◌<◌, ◌≤◌, ◌+◌, ◌↔◌, ◌⊎◌, ◌∷◌, ◌++◌, [], All, length, get_or, IfOk, OnOk, IsTrue, Option, Some, None, IfSome, IfNone, slice_get};
 ghost use Rattle.std.specs.Ordering.{nat_cmp};
 ghost use Rattle.std.specs.Vec.{vec_len};
 ghost use Rattle.std.specs.BTreeSet.{contains};

@@ -1,6 +1,6 @@
 //! Weaves columns to one list, by sorting the edges between neighbours. msc_instances weaves levels of a chart by it.
 
-ghost use Rattle.std.specs.Prelude.{◌≡◌, ◌^◌, Vec, ℕ, ◌<◌, ◌++◌, List, All, length, IfOk, OnOk, OnErr};
+ghost use Rattle.std.specs.Prelude.{◌≡◌, ◌^◌, Vec, ℕ, ◌<◌, ◌++◌, List, All, length, IfOk, OnOk};
 ghost use Rattle.item_order.specs.Answers.{IfWhole, IfStuck};
 ghost use Rattle.item_order.specs.Columns.{columns_from, items_of, neighbours};
 ghost use Rattle.item_order.specs.Orders.{Has};

@@ -1,6 +1,6 @@
 //! Writes a text to a sink, whole or up to a failure: msc_cmd calls it once, at the end.
 
-ghost use Rattle.std.specs.Prelude.{◌≡◌, ◌≤◌, ◌<◌, length, OnOk, OnErr};
+ghost use Rattle.std.specs.Prelude.{◌≡◌, ◌≤◌, ◌<◌, OnOk, OnErr};
 ghost use Rattle.std.specs.Io.KnownBytes.{Appends};
 ghost use Rattle.outside.specs.Causes.{HasCause};
 ghost use Rattle.judge_report.specs.Writing.{AppendsPart};

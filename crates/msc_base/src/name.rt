@@ -1,6 +1,6 @@
 //! Names and reserved words. The grammar of tokens, the trees and the logs make their names here.
 
-ghost use Rattle.std.specs.Prelude.{◌≡◌, ◌≤◌, ◌↔◌, List, ℕ, length, All, Any, IsTrue, IfOk, IsErrOf};
+ghost use Rattle.std.specs.Prelude.{◌≡◌, ◌≤◌, ◌↔◌, List, ℕ, IsTrue, IfOk, IsErrOf};
 ghost use Rattle.msc_base.specs.Names.{is_letter_or_digit as test_letter_or_digit, is_word_byte as test_word_byte, IsLetterOrDigit, IsWordByte, IsWord, IsName, IsReserved, reserved_to_decomposed, reserved_to_inst, reserved_to_out, reserved_to_when};
 ghost use Rattle.msc_base.specs.Lists.{IsAmong};
 

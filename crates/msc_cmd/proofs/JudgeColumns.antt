@@ -4,9 +4,8 @@ use Rattle.std.specs.Str.{bytes_eq}
 use Rattle.std.proofs.lemmas.Bool.{cases_eq}
 use Rattle.std.proofs.lemmas.List.{length-set}
 use Rattle.std.proofs.lemmas.Option.{slice_get_within, slice_get-get_or}
-use Rattle.msc_base.specs.Lists.{AreDifferent}
+use Rattle.msc_base.specs.Lists.{AreDifferent, IsAmong}
 use Rattle.msc_base.specs.declared.label.Label.{Label}
-use Rattle.msc_base.specs.Lists.{IsAmong}
 use Rattle.msc_cmd.specs.Judging.{IsFirst, AreFirst, AreNext}
 use Rattle.msc_cmd.proofs.JudgeLists.{all_at, set_here, set_other, position_at, position_of, different_at}
 

@@ -9,8 +9,7 @@ use Rattle.std.proofs.lemmas.List.Quantifiers.{position-Some}
 use Rattle.std.proofs.lemmas.List.{take-append-drop}
 use Rattle.std.proofs.Math.Seq.{take-append_seam}
 use Rattle.std.proofs.lemmas.Option.{slice_get_within, get_or_from_slice_get, slice_get-get_or}
-use Rattle.msc_base.specs.Lists.{AreDifferent}
-use Rattle.msc_base.specs.Lists.{IsAmong}
+use Rattle.msc_base.specs.Lists.{AreDifferent, IsAmong}
 use Rattle.msc_base.specs.NameTables.{with_name}
 
 -- an element for each place

@@ -7,7 +7,7 @@ use Rattle.msc_base.specs.declared.label.Label.{Label}
 use Rattle.msc_expand.specs.declared.plain_chart.PlainChart.{PlainChart}
 use Rattle.msc_expand.specs.Plain.{IsPlain}
 use Rattle.msc_cmd.specs.Judging.{IsFirst, AreFirst, AreNext, MayHappen, IsDue}
-use Rattle.msc_cmd.proofs.Orders.{IsAt, IsMessage, IsPairOf, IsPrefix}
+use Rattle.msc_cmd.proofs.Orders.{IsAt, IsPairOf, IsPrefix}
 use Rattle.msc_cmd.proofs.JudgeLists.{set_here, set_other, replicate_at, at_left, at_last, at_either, position_at, different_at}
 use Rattle.msc_cmd.proofs.JudgePartners.{taken_by}
 use Rattle.msc_cmd.proofs.JudgeStates.{IsHead, AreHeads, AreMarks, IsState}

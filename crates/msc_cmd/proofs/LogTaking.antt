@@ -3,8 +3,7 @@ use Rattle.std.proofs.Common.{◌≡◌, ◌≢◌, ◌<◌, ◌≤◌, ◌+◌,
 use Rattle.outside.specs.Shelves.{Files, MovesKnown, Opens}
 use Rattle.msc_base.specs.declared.limits.TheConstants.Limits.{LOG_BYTES}
 use Rattle.event_log.specs.Logs.{LogOf, HoldsEvent}
-use Rattle.msc_base.specs.Only.{Never}
-use Rattle.msc_base.specs.Only.{Only}
+use Rattle.msc_base.specs.Only.{Never, Only}
 use Rattle.event_log.specs.States.{LogState, Fed, HoldsAt, IsGoing, IsAnswer, IsFaultOf}
 use Rattle.event_log.specs.declared.event.LineEvent.{LineEvent}
 use Rattle.event_log.specs.declared.event.LogFault.{LogFault}

@@ -1,5 +1,5 @@
 -- What a document whose text has been read is.
-use Rattle.std.proofs.Common.{◌≡◌, ℕ, List, sym, refl, subst, Result, Ok, Err, IfOk, Option}
+use Rattle.std.proofs.Common.{◌≡◌, ℕ, List, subst, Result, Ok, Err, IfOk, Option}
 use Rattle.msc_base.specs.declared.memory.NoMemory.{NoMemory}
 use Rattle.msc_base.specs.declared.place.Place.{Place}
 use Rattle.outside.specs.Shelves.{Files}
@@ -11,8 +11,8 @@ use Rattle.msc_expand.specs.Acceptance.{HasFault, IsAccepted}
 use Rattle.msc_cmd.specs.declared.document.Document.{Document}
 use Rattle.msc_cmd.specs.declared.document.Document.TheVariants.{Charts, Refused}
 use Rattle.msc_cmd.specs.declared.document_text.DocumentText.{DocumentText}
-use Rattle.msc_cmd.specs.DocumentTexts.{ReadsDocument, IsOnlyText, IsOnlyTextFault, IsTheText}
-use Rattle.msc_cmd.specs.Documents.{IsDocument, HasDocumentFault, of_text, of_charts, IsOnlyDocument, IsOnlyFault, IsTheDocument, AcceptsAlone, RefusesAlone, ComesTo}
+use Rattle.msc_cmd.specs.DocumentTexts.{IsOnlyText, IsOnlyTextFault, IsTheText}
+use Rattle.msc_cmd.specs.Documents.{HasDocumentFault, of_text, of_charts, IsOnlyDocument, IsOnlyFault, IsTheDocument, AcceptsAlone, RefusesAlone, ComesTo}
 use Rattle.msc_cmd.specs.Intakes.{IsTextOf, IsDocumentOf}
 
 -- a text whose document is refused

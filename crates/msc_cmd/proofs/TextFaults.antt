@@ -14,13 +14,12 @@ use Rattle.msc_tokens.specs.declared.fault.LexFault.TheVariants as lexical
 use Rattle.msc_tokens.specs.declared.token.Token.{Token}
 use Rattle.msc_tree.specs.Charts.{Document}
 use Rattle.msc_tree.specs.Views.{document_view}
-use Rattle.token_grammar.specs.Refusals.{IsRefusal}
+use Rattle.token_grammar.specs.Refusals.{IsRefusal, IsFault}
 use Rattle.token_grammar.specs.declared.fault.ParseFault.{ParseFault}
 use Rattle.token_grammar.specs.declared.fault.ParseFault.TheVariants as grammar
 use Rattle.msc_rules.specs.declared.rule.Rule.{Rule}
 use Rattle.msc_rules.specs.declared.rule.Rule.TheVariants as rule
 use Rattle.msc_document.specs.DocumentGrammar.{document as documents}
-use Rattle.token_grammar.specs.Refusals.{IsFault}
 use Rattle.msc_cmd.specs.declared.document_text.DocumentText.{DocumentText}
 use Rattle.msc_cmd.specs.declared.document_text.DocumentText.TheVariants.{Read, Refused}
 use Rattle.msc_cmd.specs.DocumentTexts.{BreaksRule, BreaksGrammar, HasTextFault, too_long, lexical_fault, grammar_fault, IsOnlyText, IsOnlyTextFault, IsTheText, ReadsAlone, MisreadsAlone, ParsesAs}

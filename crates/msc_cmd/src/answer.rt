@@ -18,8 +18,8 @@ use crate::reading::take_document;
 use event_log::LogForm;
 use judge_report::{Fault, fault_text, verdict_text};
 use msc_base::{NoMemory, Text, Verdict};
-use outside::Shelf;
 use msc_expand::PlainChart;
+use outside::Shelf;
 use std::alloc::Global;
 
 /// What is written, and the status that goes with it.

@@ -1,8 +1,7 @@
 //! The columns of a chart as chains of event numbers: for `judge` alone.
 
 ghost use Rattle.std.specs.Prelude.{◌≡◌, All, IfOk, length, replicate};
-ghost use Rattle.msc_base.specs.Lists.{AreDifferent};
-ghost use Rattle.msc_base.specs.Lists.{IsAmong};
+ghost use Rattle.msc_base.specs.Lists.{AreDifferent, IsAmong};
 ghost use Rattle.msc_cmd.specs.Judging.{AreColumns, AreFirst, AreNext};
 
 use msc_base::{Label, Name, NameTable, NoMemory};

@@ -8,10 +8,10 @@ use crate::intake::Intake;
 use msc_base::{Limits, NoMemory, Place};
 use msc_document::parse;
 use msc_rules::Rule;
-use token_grammar::ParseFault;
 use msc_tokens::{LexFault, TokenList};
 use msc_tree::RawDocument;
 use std::alloc::Global;
+use token_grammar::ParseFault;
 
 /// What the bytes of a document are as a text.
 #[derive(Drop)]

@@ -28,7 +28,7 @@ impl Intake {
     ghost use Rattle.std.specs.Prelude.{◌≡◌, ◌≤◌, ◌+◌, ◌++◌, [], ℕ, List, length, IfOk, OnOk};
     ghost use Rattle.msc_base.specs.declared.limits.TheConstants.Limits.{DOCUMENT_BYTES};
     ghost use Rattle.msc_cmd.specs.declared.intake.TheConstants.{PIECE_BYTES};
-ghost use Rattle.msc_cmd.specs.Intakes.{HasTaken};
+    ghost use Rattle.msc_cmd.specs.Intakes.{HasTaken};
 
     /// A document of which nothing has been read.
     pub fn new(alloc: Global) -> Result<Intake, NoMemory>

@@ -12,8 +12,8 @@ use crate::entry::ReadFault;
 use crate::reading::take_document;
 use judge_report::{Fault, chart_list_text, instance_list_text};
 use msc_base::{NoMemory, Text};
-use outside::Shelf;
 use msc_expand::Accepted;
+use outside::Shelf;
 use std::alloc::Global;
 
 /// The reply that lists the instances of the chart of this name.

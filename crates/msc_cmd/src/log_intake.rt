@@ -1,7 +1,6 @@
 //! A log under way: feeds its bytes to the reader of logs, and gathers the events. For `log_reading`.
 
-ghost use Rattle.std.specs.Prelude.{◌≡◌, ◌++◌, ◌∷◌, [], ℕ, List, Bool, true, false, not, length, IfOk, IfErr, OnOk, Some, None};
-ghost use Rattle.event_log.specs.Faults.{IsFault};
+ghost use Rattle.std.specs.Prelude.{◌≡◌, ◌++◌, ◌∷◌, [], ℕ, List, false, not, length, IfOk, IfErr, OnOk, Some};
 ghost use Rattle.event_log.specs.Logs.{HoldsEvent};
 ghost use Rattle.msc_base.specs.Only.{Never};
 ghost use Rattle.event_log.specs.States.{IsAnswer};

@@ -10,8 +10,8 @@ use crate::entry::ReadFault;
 use crate::reading::take_text;
 use judge_report::Fault;
 use msc_base::{NoMemory, Text};
-use outside::Shelf;
 use msc_print::print_document;
+use outside::Shelf;
 use std::alloc::Global;
 
 /// The reply that prints the document of this name in its canonical form.

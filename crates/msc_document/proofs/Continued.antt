@@ -1,7 +1,6 @@
 -- A grammar that is a short one, and then any number of items that go on with it.
 use Rattle.std.proofs.Common.{◌≡◌, ◌∙◌, ◌++◌, ◌⊎◌, List, [], ◌∷◌, refl, sym, ap, inl, inr, append_assoc, append-nil, subst}
 use Rattle.msc_tokens.specs.declared.token.Token.{Token}
-use Rattle.token_grammar.specs.Languages.{Set, among}
 use Rattle.token_grammar.specs.Languages as rules
 use Rattle.token_grammar.specs.Grammars.{Grammar, seq, or, read_as, chain, behind_each}
 use Rattle.token_grammar.specs.Parts.{all_of}

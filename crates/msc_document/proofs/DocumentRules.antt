@@ -3,7 +3,7 @@ use Rattle.std.proofs.Common.{ℕ, suc, ◌≡◌, ◌∙◌, ◌++◌, ◌⊎�
 use Rattle.msc_tokens.specs.declared.token.Token.{Token}
 use Rattle.msc_tree.specs.declared.chart.Heading.{Heading}
 use Rattle.msc_tree.specs.Charts.{Chart, Document}
-use Rattle.token_grammar.specs.Languages.{Set, Read, refused, deep, apart, starts, just, tail_ends, ◌>>=◌}
+use Rattle.token_grammar.specs.Languages.{Set, Read, refused, deep, apart, just, tail_ends, ◌>>=◌}
 use Rattle.token_grammar.specs.Languages as rules
 use Rattle.token_grammar.specs.Grammars.{Grammar, or, read_as, chain, tail, behind}
 use Rattle.token_grammar.specs.Parts.{ending}

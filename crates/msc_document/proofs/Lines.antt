@@ -1,7 +1,7 @@
 -- Statements up to a word, and the flat list of their beginnings and of what goes on with them.
 use Rattle.std.proofs.Common.{◌≡◌, ◌∙◌, ◌++◌, ◌⊎◌, List, [], ◌∷◌, refl, sym, ap, inl, inr, append_assoc, append-nil, subst}
 use Rattle.msc_tokens.specs.declared.token.Token.{Token}
-use Rattle.token_grammar.specs.Languages.{Set, among}
+use Rattle.token_grammar.specs.Languages.{Set}
 use Rattle.token_grammar.specs.Languages as rules
 use Rattle.token_grammar.specs.Grammars.{Grammar, behind_each}
 use Rattle.token_grammar.specs.Rows.{rows_read, rows_brink}

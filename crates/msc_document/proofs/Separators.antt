@@ -1,7 +1,7 @@
 -- Operands with a word between them and behind the last: the word is read with the operand before it.
 use Rattle.std.proofs.Common.{◌≡◌, ◌∙◌, ◌++◌, List, [], ◌∷◌, refl, sym, ap, ap₂, inl, inr, append_assoc}
 use Rattle.msc_tokens.specs.declared.token.Token.{Token}
-use Rattle.token_grammar.specs.Languages.{Set, among}
+use Rattle.token_grammar.specs.Languages.{Set}
 use Rattle.token_grammar.specs.Languages as rules
 use Rattle.token_grammar.specs.Grammars.{Grammar, seq, read_as, until, word, behind}
 use Rattle.token_grammar.proofs.Shallow.{Shallow}

@@ -5,7 +5,7 @@ use Rattle.msc_base.specs.declared.place.Place.{Place}
 use Rattle.msc_tree.specs.declared.chart.Cover.{Cover}
 use Rattle.msc_tree.specs.declared.reference.InlineForm.{InlineForm}
 use Rattle.msc_tree.specs.declared.reference.InlineForm.TheVariants.{Alt, Opt, Par, Loop, Exc}
-use Rattle.msc_tree.specs.Statements.{Item, Inline, InlineHead, Operand, Operands, operands}
+use Rattle.msc_tree.specs.Statements.{Item, Inline, Operand, operands}
 use Rattle.msc_tree.specs.Statements as tree
 use Rattle.token_grammar.specs.Languages.{Set, just}
 use Rattle.token_grammar.specs.Languages as rules

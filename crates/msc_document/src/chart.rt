@@ -1,6 +1,6 @@
 //! A chart: heads, then statements or a graph. For `document` alone.
 
-ghost use Rattle.std.specs.Prelude.{◌≡◌, ◌++◌, map, codes};
+ghost use Rattle.std.specs.Prelude.{◌≡◌, ◌++◌, codes};
 ghost use Rattle.msc_tree.specs.Views.{content_view, chart_view};
 ghost use Rattle.token_grammar.specs.Answers.{Gives};
 ghost use Rattle.token_grammar.specs.Languages.{starts, just};

@@ -1,6 +1,6 @@
 //! A document with or without heading: for `parsing` alone. It counts no place and no limit.
 
-ghost use Rattle.std.specs.Prelude.{◌≡◌, [], ◌∷◌, length, map, codes};
+ghost use Rattle.std.specs.Prelude.{◌≡◌, [], ◌∷◌, length, map};
 ghost use Rattle.msc_tree.specs.Views.{chart_view, document_view};
 ghost use Rattle.token_grammar.specs.Answers.{Gives};
 ghost use Rattle.msc_document.specs.DocumentReaders.{document_end_at, document_at};

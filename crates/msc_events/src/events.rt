@@ -1,8 +1,8 @@
 //! Single events, coregions and stops of a chart: what msc_document puts into columns and operands.
 
-ghost use Rattle.std.specs.Prelude.{◌≡◌, length};
+ghost use Rattle.std.specs.Prelude.{◌≡◌};
 ghost use Rattle.token_grammar.specs.Answers.{Gives};
-ghost use Rattle.token_grammar.specs.Languages.{among, starts};
+ghost use Rattle.token_grammar.specs.Languages.{starts};
 ghost use Rattle.msc_events.specs.Events.{tagged};
 ghost use Rattle.msc_events.specs.EventReaders.{label_at, some_label_at, single_at, single_words, timing_words, singles_at, coregion_end_at, coregion_at, stop_at};
 

@@ -1,5 +1,5 @@
 -- Places among others, and the earliest of them.
-use Rattle.std.proofs.Common.{◌≡◌, ◌⊎◌, inl, inr, List, [], ◌∷◌, ◌++◌, Option, Some, None, Bool, true, false, refl, sym, ap, ◌∙◌, subst}
+use Rattle.std.proofs.Common.{◌≡◌, ◌⊎◌, inl, inr, List, [], ◌∷◌, ◌++◌, Option, Some, None, Bool, true, false, refl, ◌∙◌}
 use Rattle.msc_base.specs.declared.place.Place.{Place}
 use Rattle.msc_base.specs.Places.{earliest, IsLeast}
 use Rattle.msc_base.proofs.Narrowing.{Narrows, narrows_start, narrows_bad, narrows_end, narrows_rest}

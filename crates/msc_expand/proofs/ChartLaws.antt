@@ -1,14 +1,9 @@
 -- The charts of outlines that break no rule are plain, and there is one list of them.
-use Rattle.std.proofs.Common.{◌≡◌, ℕ, ◌<◌, ◌+◌, ◌⊎◌, inl, inr, List, [], ◌∷◌, ◌++◌, map, flat_map, Option, Some, None, slice_get, length, Bool, true, false, zero, suc, arith, refl, sym, ap, ap₂, ◌∙◌, subst, ◌||◌, All, get_or}
-use Rattle.std.specs.List.{list_any}
-use Rattle.std.specs.Str.{bytes_eq}
+use Rattle.std.proofs.Common.{◌≡◌, ℕ, ◌<◌, ◌+◌, ◌⊎◌, inl, inr, List, [], ◌∷◌, ◌++◌, map, Some, slice_get, length, zero, suc, arith, refl, sym, ap, ap₂, ◌∙◌, subst, ◌||◌, All, get_or}
 use Rattle.std.proofs.lemmas.List.{length-map}
-use Rattle.std.proofs.lemmas.Bool.{cases_lt, cases_eq, or_left, or_right, or_cases}
-use Rattle.std.proofs.lemmas.Option.{slice_get_within, slice_get-get_or}
-use Rattle.std.proofs.lemmas.Slice.Eq.{bytes_eq-Decides}
-use Rattle.msc_base.specs.Lists.{AreDifferent}
-use Rattle.msc_base.specs.Lists.{IsAmong}
-use Rattle.msc_base.specs.NameTables.{with_name}
+use Rattle.std.proofs.lemmas.Bool.{cases_lt, cases_eq}
+use Rattle.std.proofs.lemmas.Option.{slice_get_within}
+use Rattle.msc_base.specs.Lists.{AreDifferent, IsAmong}
 use Rattle.msc_base.specs.declared.label.Label.{Label}
 use Rattle.msc_base.specs.declared.label.Kind.{Kind}
 use Rattle.msc_base.specs.declared.label.Kind.TheVariants.{Output, Input}
@@ -21,8 +16,7 @@ use Rattle.msc_expand.specs.declared.outline.Outline.{Outline}
 use Rattle.msc_expand.specs.declared.outline.WovenEvent.{WovenEvent}
 use Rattle.msc_expand.specs.declared.plain_chart.PlainChart.{PlainChart}
 use Rattle.msc_expand.specs.Acceptance.{IsPlainOf, ArePlainOf}
-use Rattle.msc_expand.specs.Outlines.{with_names}
-use Rattle.msc_expand.specs.Pairings.{way, way_by, IsPaired, IsMate, IsPartner, IsEarly, ArePartnersOf}
+use Rattle.msc_expand.specs.Pairings.{way_by, IsPaired, IsMate, IsEarly, ArePartnersOf}
 use Rattle.msc_expand.specs.Plain.{IsPlain, IsTakenIn, HavePartners}
 use Rattle.msc_expand.specs.Rules.{HasEarly}
 use Rattle.msc_expand.proofs.Counts.{some_at}

@@ -1,5 +1,5 @@
 -- The earliest of several places, list by list.
-use Rattle.std.proofs.Common.{◌≡◌, ◌<◌, ◌+◌, ℕ, suc, List, [], ◌∷◌, ◌++◌, drop, map, flat_map, Option, Some, None, slice_get, refl, sym, ap, ◌∙◌, arith}
+use Rattle.std.proofs.Common.{◌≡◌, ◌<◌, ◌+◌, ℕ, List, [], ◌∷◌, ◌++◌, drop, map, flat_map, Option, Some, slice_get, refl, sym, ap, ◌∙◌}
 use Rattle.std.proofs.lemmas.List.Concat.{flat_map-cons}
 use Rattle.msc_base.specs.declared.place.Place.{Place}
 use Rattle.msc_base.specs.Places.{earliest}

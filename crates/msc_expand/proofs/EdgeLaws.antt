@@ -1,5 +1,5 @@
 -- The edges of one direction are the marks of that direction, with their ranks.
-use Rattle.std.proofs.Common.{◌≡◌, ℕ, ◌<◌, ◌+◌, inl, inr, List, [], ◌∷◌, ◌++◌, Option, Some, None, slice_get, take, drop, length, Bool, true, false, not, zero, suc, arith, refl, sym, ap, ◌∙◌, subst, nat_eq, if◌then◌else◌, ◌&&◌, All, get_or}
+use Rattle.std.proofs.Common.{◌≡◌, ℕ, ◌<◌, ◌+◌, List, [], ◌∷◌, ◌++◌, Option, Some, None, slice_get, take, drop, Bool, true, false, zero, suc, arith, refl, sym, ap, ◌∙◌, subst, nat_eq, if◌then◌else◌, ◌&&◌, All, get_or}
 use Rattle.std.specs.List.{count_by}
 use Rattle.std.proofs.lemmas.Option.{slice_get-get_or}
 use Rattle.item_order.specs.declared.edge.Edge.{Edge}

@@ -4,7 +4,6 @@ use Rattle.msc_base.specs.declared.place.Place.{Place}
 use Rattle.msc_rules.specs.FirstFaults.{IsBest, fault_of, earlier_of}
 use Rattle.msc_base.specs.Places.{IsLeast}
 use Rattle.msc_rules.proofs.Joining.{best_of_one, best_with}
-use Rattle.msc_rules.specs.declared.rule.Rule.{Rule}
 use Rattle.msc_rules.specs.declared.rule.Rule.TheVariants.{Charts, Instances, NamedTwice, Undeclared, Size, Total, Unmatched, Cyclic}
 use Rattle.msc_expand.specs.declared.outline.Outline.{Outline}
 use Rattle.msc_rules.specs.Rules.{number_of}

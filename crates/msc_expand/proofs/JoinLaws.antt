@@ -1,12 +1,12 @@
 -- Pairs that are noted one after another.
-use Rattle.std.proofs.Common.{◌≡◌, ℕ, ◌<◌, ◌+◌, ◌⊎◌, inl, inr, List, [], ◌∷◌, ◌++◌, Option, Some, slice_get, slice_set, take, length, zero, suc, arith, refl, sym, ap, ◌∙◌, subst, All, get_or, Result, Ok, Err, IfOk, Vec, Global}
+use Rattle.std.proofs.Common.{◌≡◌, ℕ, ◌<◌, ◌+◌, ◌⊎◌, inl, inr, List, [], ◌∷◌, ◌++◌, Some, slice_get, slice_set, length, zero, suc, arith, refl, sym, ap, ◌∙◌, subst, All, get_or, Result, Ok, Err, IfOk, Vec, Global}
 use Rattle.std.proofs.lemmas.Bool.{cases_eq}
 use Rattle.std.proofs.lemmas.List.{length-set}
 use Rattle.std.proofs.lemmas.Option.{slice_get_within, slice_get-get_or}
 use Rattle.item_order.specs.declared.edge.Edge.{Edge}
 use Rattle.item_order.specs.Counts.{Leads}
 use Rattle.msc_expand.specs.declared.outline.WovenEvent.{WovenEvent}
-use Rattle.msc_expand.specs.Pairings.{IsPaired, IsMate, IsPartner, ArePartnersOf}
+use Rattle.msc_expand.specs.Pairings.{IsMate, ArePartnersOf}
 use Rattle.msc_expand.specs.Marks.{LeadsPairs, Joins, AreJoined}
 
 pub set_here : {X : Type 0} (xs : List X) (i : ℕ) (v : X) → i < length xs → slice_get (slice_set xs i v) i ≡ Some v

@@ -1,5 +1,5 @@
 -- The test of two keys, and the numbers that a list gives to keys.
-use Rattle.std.proofs.Common.{◌≡◌, ℕ, inl, inr, List, [], ◌∷◌, ◌++◌, map, Option, Some, None, slice_get, Bool, true, false, refl, sym, ap, ◌∙◌, subst, nat_eq, ◌&&◌}
+use Rattle.std.proofs.Common.{◌≡◌, ℕ, inl, inr, List, [], ◌∷◌, ◌++◌, Some, slice_get, true, refl, sym, ap, ◌∙◌, subst, nat_eq, ◌&&◌}
 use Rattle.std.specs.List.{position}
 use Rattle.std.specs.Str.{bytes_eq}
 use Rattle.std.specs.Bool.{Decides}

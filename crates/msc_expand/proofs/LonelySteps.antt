@@ -1,6 +1,5 @@
 -- One event further, and one chart further, in the search for events without partner and for early inputs.
-use Rattle.std.proofs.Common.{◌≡◌, ℕ, ◌<◌, ◌+◌, suc, zero, inl, inr, List, [], ◌∷◌, ◌++◌, take, drop, Option, Some, None, slice_get, length, Bool, ◌&&◌, nat_eq, nat_lt, arith, refl, sym, ap, ap₂, ◌∙◌, subst}
-use Rattle.std.proofs.lemmas.Option.{slice_get_within}
+use Rattle.std.proofs.Common.{◌≡◌, ℕ, ◌<◌, ◌+◌, suc, zero, List, [], ◌∷◌, ◌++◌, drop, Option, Some, slice_get, length, ◌&&◌, nat_eq, nat_lt, arith, refl, sym, ap, ap₂, ◌∙◌, subst}
 use Rattle.msc_base.specs.declared.place.Place.{Place}
 use Rattle.msc_expand.specs.declared.outline.Outline.{Outline}
 use Rattle.msc_expand.specs.declared.outline.WovenEvent.{WovenEvent}
@@ -9,7 +8,6 @@ use Rattle.msc_expand.specs.Acceptance.{IsPlainOf, ArePlainOf}
 use Rattle.msc_expand.specs.Lonely.{is_message, is_taken, lonely_places, early_places, all_lonely, all_early, AllPartners}
 use Rattle.msc_expand.specs.Pairings.{way, ArePartnersOf}
 use Rattle.msc_expand.specs.Rules.{where_so, earliest_of}
-use Rattle.msc_expand.proofs.Counts.{some_at}
 use Rattle.msc_expand.proofs.Earliest.{earliest_append}
 use Rattle.msc_expand.proofs.Walks.{drop_get}
 

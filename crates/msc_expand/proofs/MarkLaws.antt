@@ -1,7 +1,7 @@
 -- What is so of the marks is so of their events.
-use Rattle.std.proofs.Common.{◌≡◌, ℕ, ◌<◌, ◌+◌, ◌⊎◌, inl, inr, List, [], ◌∷◌, ◌++◌, map, Option, Some, None, slice_get, take, length, Bool, true, false, zero, suc, arith, refl, sym, ap, ap₂, ◌∙◌, subst, nat_eq, if◌then◌else◌, ◌&&◌, get_or}
+use Rattle.std.proofs.Common.{◌≡◌, ℕ, ◌<◌, ◌+◌, ◌⊎◌, List, [], ◌∷◌, ◌++◌, map, Option, Some, None, slice_get, take, length, Bool, true, zero, suc, refl, sym, ap, ap₂, ◌∙◌, subst, if◌then◌else◌, ◌&&◌, get_or}
 use Rattle.std.specs.List.{position, count_by}
-use Rattle.std.proofs.lemmas.List.{take_more, take_all}
+use Rattle.std.proofs.lemmas.List.{take_more}
 use Rattle.std.proofs.lemmas.Option.{slice_get_within}
 use Rattle.msc_expand.specs.declared.outline.WovenEvent.{WovenEvent}
 use Rattle.msc_expand.specs.declared.pairing.Mark.{Mark}
@@ -9,10 +9,10 @@ use Rattle.msc_expand.specs.declared.pairing.MessageKey.{MessageKey}
 use Rattle.msc_expand.specs.contracts.pairing.MessageKeyPartialEq.TheImpl.{eq-value}
 use Rattle.msc_tree.specs.declared.event.Direction.{Direction}
 use Rattle.msc_expand.specs.Pairings.{Key, way, key_of, is_key, goes, ends_of}
-use Rattle.msc_expand.specs.Marks.{IsMark, AreMarks, AreMarked, KeepsNumbers, key_view, is_end}
+use Rattle.msc_expand.specs.Marks.{IsMark, AreMarks, KeepsNumbers, key_view, is_end}
 use Rattle.msc_expand.proofs.Counts.{count_cons}
 use Rattle.msc_expand.proofs.Keys.{same_test, key_same}
-use Rattle.msc_expand.proofs.Positions.{position_map, position_inserted, position_passes}
+use Rattle.msc_expand.proofs.Positions.{position_map, position_passes}
 
 -- two keys are the same where their plain keys are
 pub same_key : (a b : MessageKey) → is_key (key_view a) (key_view b) ≡ eq-value.it a b

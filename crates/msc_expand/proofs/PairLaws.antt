@@ -1,18 +1,17 @@
 -- Pairs of the ends are pairs of the events, and an event has one partner.
-use Rattle.std.proofs.Common.{◌≡◌, ℕ, ◌<◌, ◌+◌, ◌⊎◌, inl, inr, List, [], ◌∷◌, ◌++◌, Option, Some, None, slice_get, take, length, Bool, true, false, zero, suc, arith, refl, sym, ap, ap₂, ◌∙◌, subst, ◌&&◌, All, ◌↔◌, Result, Ok, Err, IfOk, Vec, Global}
+use Rattle.std.proofs.Common.{◌≡◌, ℕ, ◌<◌, ◌+◌, ◌⊎◌, inl, inr, List, [], ◌∷◌, ◌++◌, Option, Some, None, slice_get, take, length, true, suc, arith, refl, sym, ap, ap₂, ◌∙◌, subst, ◌&&◌, All, ◌↔◌, Result, Ok, Err, IfOk, Vec, Global}
 use Rattle.std.specs.List.{count_by, position}
-use Rattle.std.proofs.lemmas.Bool.{cases_eq, and_from}
-use Rattle.std.proofs.lemmas.Option.{slice_get_within, slice_get-get_or}
+use Rattle.std.proofs.lemmas.Bool.{and_from}
 use Rattle.item_order.specs.declared.edge.Edge.{Edge}
 use Rattle.item_order.specs.Counts.{Leads}
-use Rattle.item_order.specs.Pairing.{count, IsKth, IsPair}
+use Rattle.item_order.specs.Pairing.{count, IsPair}
 use Rattle.msc_expand.specs.declared.outline.WovenEvent.{WovenEvent}
 use Rattle.msc_expand.specs.declared.pairing.Mark.{Mark}
 use Rattle.msc_tree.specs.declared.event.Direction.{Direction}
 use Rattle.msc_tree.specs.declared.event.Direction.TheVariants.{Out, In}
 use Rattle.msc_expand.specs.Pairings.{Key, way, key_of, is_key, goes, ends_of, IsPaired, IsMate, IsPartner, ArePartnersOf}
-use Rattle.msc_expand.specs.Marks.{IsMark, AreMarks, AreMarked, is_end, edges_from, LeadsPairs, Joins, AreJoined}
-use Rattle.msc_expand.proofs.Counts.{rank_once, some_at}
+use Rattle.msc_expand.specs.Marks.{IsMark, AreMarks, AreMarked, is_end, edges_from, LeadsPairs}
+use Rattle.msc_expand.proofs.Counts.{rank_once}
 use Rattle.msc_expand.proofs.EdgeLaws.{edge_at, at_edge, edges_low}
 use Rattle.msc_expand.proofs.Keys.{one_key, key_same}
 use Rattle.msc_expand.proofs.MarkLaws.{mark_at, event_at, counted, class_low}

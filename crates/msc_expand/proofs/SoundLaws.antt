@@ -1,20 +1,18 @@
 -- A chart's instances are different, and each event stands on one of them.
-use Rattle.std.proofs.Common.{◌≡◌, ℕ, ◌<◌, ◌⊎◌, inl, inr, List, [], ◌∷◌, ◌++◌, map, flat_map, Option, Some, None, length, Bool, true, false, zero, suc, arith, refl, sym, ap, ◌∙◌, subst, if◌then◌else◌, All, get_or}
+use Rattle.std.proofs.Common.{◌≡◌, ℕ, ◌<◌, ◌⊎◌, inl, inr, List, [], ◌∷◌, ◌++◌, map, flat_map, length, Bool, true, false, zero, suc, arith, refl, sym, ◌∙◌, subst, if◌then◌else◌, All, get_or}
 use Rattle.std.specs.List.{list_any}
 use Rattle.std.specs.Str.{bytes_eq}
 use Rattle.std.proofs.lemmas.Bool.{or_left, or_right, or_cases, true≢false}
 use Rattle.std.proofs.lemmas.List.Concat.{flat_map-cons}
 use Rattle.std.proofs.lemmas.Slice.Eq.{bytes_eq-Decides}
-use Rattle.msc_base.specs.Lists.{AreDifferent}
-use Rattle.msc_base.specs.Lists.{IsAmong}
+use Rattle.msc_base.specs.Lists.{AreDifferent, IsAmong}
 use Rattle.msc_base.specs.NameTables.{with_name}
-use Rattle.msc_tree.specs.declared.chart.Cover.{Cover}
 use Rattle.msc_tree.specs.declared.chart.Cover.TheVariants as cover
 use Rattle.msc_tree.specs.declared.chart.Decl.{Decl}
 use Rattle.msc_tree.specs.Charts.{Chart, Content, Basic, HighLevel}
-use Rattle.msc_tree.specs.Statements.{Item, Items, no_items, item_and, placed, Form, Single, Coregion, Condition, Inline, Refer, Stop, Statement, Column, Covered, Heading, Ended}
+use Rattle.msc_tree.specs.Statements.{Item, Items, no_items, item_and, placed, Single, Coregion, Condition, Inline, Refer, Stop, Statement, Column, Covered, Heading, Ended}
 use Rattle.msc_expand.specs.declared.outline.WovenEvent.{WovenEvent}
-use Rattle.msc_expand.specs.Outlines.{item_events, items_events, lead_of, lead_events, statement_events, statement_names, cover_names, with_names, instances_of, content_outline, outline_of}
+use Rattle.msc_expand.specs.Outlines.{item_events, items_events, statement_events, statement_names, with_names, instances_of, content_outline, outline_of}
 use Rattle.msc_expand.proofs.ChartLaws.{IsSound, AreSound}
 
 -- ---- names, each once

@@ -1,9 +1,7 @@
 -- Tables of names, and the test of a name in one.
-use Rattle.std.proofs.Common.{◌≡◌, ◌<◌, ◌+◌, List, ℕ, length, ◌++◌, [], ◌∷◌, arith, sym, refl, ap, ◌∙◌, Some, None, Bool, true, false, nat_lt, cond, not, ◌||◌, if◌then◌else◌, inl, inr}
-use Rattle.std.proofs.lemmas.Bool.{ltb-true, lt-ltb, or_left, or_right, or_cases, true≢false, false_from_ne_true}
-use Rattle.std.proofs.lemmas.Slice.Eq.{bytes_eq-Decides}
-use Rattle.std.specs.List.{position, list_any, prefix_len}
-use Rattle.std.specs.Option.{is_some}
+use Rattle.std.proofs.Common.{◌≡◌, ◌<◌, ◌+◌, List, ℕ, ◌++◌, [], ◌∷◌, refl, ◌∙◌, true, false, ◌||◌, if◌then◌else◌}
+use Rattle.std.proofs.lemmas.Bool.{true≢false}
+use Rattle.std.specs.List.{list_any}
 use Rattle.std.specs.Str.{bytes_eq}
 use Rattle.msc_base.specs.NameTables.{with_name}
 use Rattle.msc_expand.specs.Outlines.{with_names}

@@ -1,6 +1,6 @@
 -- Serves private contracts alone.
 -- Outputs and inputs by numbers: each key has a class, and a mark says the class and the direction of an event.
-use Rattle.std.specs.Prelude.{◌≡◌, ◌⊎◌, ◌&&◌, ℕ, suc, Bool, false, List, [], ◌∷◌, ◌++◌, length, map, count_by, Option, Some, None, nat_eq, position, slice_get, if◌then◌else◌}
+use Rattle.std.specs.Prelude.{◌≡◌, ◌⊎◌, ◌&&◌, ℕ, suc, Bool, false, List, [], ◌∷◌, ◌++◌, length, Option, Some, None, nat_eq, position, slice_get, if◌then◌else◌}
 use Rattle.msc_tree.specs.declared.event.Direction.{Direction}
 use Rattle.msc_tree.specs.Directions.{is_direction}
 use Rattle.item_order.specs.declared.edge.Edge.{Edge}

@@ -1,5 +1,5 @@
 -- Which input takes in what an output puts out: of each message with its pairing name, the k-th input takes the k-th output.
-use Rattle.std.specs.Prelude.{◌≡◌, ◌<◌, ◌⊎◌, ℕ, Bool, true, false, not, ◌&&◌, List, [], length, take, count_by, Option, Some, None, slice_get}
+use Rattle.std.specs.Prelude.{◌≡◌, ◌<◌, ◌⊎◌, ℕ, Bool, false, ◌&&◌, List, [], length, take, count_by, Option, Some, None, slice_get}
 use Rattle.msc_tree.specs.declared.event.Direction.{Direction}
 use Rattle.msc_tree.specs.declared.event.Direction.TheVariants.{Out, In}
 use Rattle.msc_tree.specs.Directions.{is_direction}

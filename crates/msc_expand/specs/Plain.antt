@@ -1,7 +1,6 @@
 -- What a plain chart keeps, whatever its text.
 use Rattle.std.specs.Prelude.{◌≡◌, ◌<◌, ◌⊎◌, ℕ, List, Some, All, length, slice_get}
-use Rattle.msc_base.specs.Lists.{AreDifferent}
-use Rattle.msc_base.specs.Lists.{IsAmong}
+use Rattle.msc_base.specs.Lists.{AreDifferent, IsAmong}
 use Rattle.msc_base.specs.declared.label.Label.{Label}
 use Rattle.msc_base.specs.declared.label.Kind.TheVariants.{Output, Input}
 use Rattle.msc_expand.specs.declared.plain_chart.PlainChart.{PlainChart}

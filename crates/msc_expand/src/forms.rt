@@ -6,8 +6,7 @@ ghost use Rattle.msc_tree.specs.Views.{chart_view, content_view, item_view, stat
 ghost use Rattle.msc_expand.specs.Forms.{has_gate, has_some, is_creation, is_some, is_not_built, not_built_chart, not_built_content, not_built_decl, not_built_item, not_built_items, not_built_statement};
 ghost use Rattle.msc_expand.specs.Rules.{earliest_of};
 
-use msc_base::earlier_place;
-use msc_base::{Kind, Name, Names, Place};
+use msc_base::{Kind, Name, Names, Place, earlier_place};
 use msc_tree::{Content, Decl, RawChart, RawEvent, RawForm, RawItem, Statement, Target};
 
 /// Whether there is a name.

@@ -6,8 +6,7 @@ ghost use Rattle.msc_expand.specs.Rules.{chart_places, earliest_of, instance_pla
 
 use crate::Outline;
 use crate::table::add_names;
-use msc_base::earlier_place;
-use msc_base::{Limits, NameTable, NoMemory, Place};
+use msc_base::{Limits, NameTable, NoMemory, Place, earlier_place};
 use std::alloc::Global;
 
 /// The earliest place so far, or this one where something is so.

@@ -1,6 +1,6 @@
 //! Messages without partner, and inputs before their outputs: for `deciding`.
 
-ghost use Rattle.std.specs.Prelude.{◌≡◌, ◌&&◌, IfOk, None, OnOk, length, nat_eq, nat_lt};
+ghost use Rattle.std.specs.Prelude.{◌≡◌, ◌&&◌, IfOk, None, length, nat_eq, nat_lt};
 ghost use Rattle.msc_expand.specs.Lonely.{AllPartners, all_early, all_lonely, early_places, is_message, is_taken, lonely_places};
 ghost use Rattle.msc_expand.specs.Pairings.{ArePartnersOf, way};
 ghost use Rattle.msc_expand.specs.Rules.{earliest_of};

@@ -1,8 +1,7 @@
 //! Charts named twice, and names that are no instance of their chart: for `deciding`.
 
-ghost use Rattle.std.specs.Prelude.{◌≡◌, [], IfOk, List, None, flat_map, ℕ};
+ghost use Rattle.std.specs.Prelude.{◌≡◌, [], IfOk, None, flat_map, ℕ};
 ghost use Rattle.std.specs.List.{list_any};
-ghost use Rattle.std.specs.Str.{bytes_eq};
 ghost use Rattle.msc_expand.specs.Rules.{earliest_of, is_exchange, is_far_stranger, is_stranger, list_places, stranger_places, twice_places, undeclared_places};
 
 use crate::limits::at_place;

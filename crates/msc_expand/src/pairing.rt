@@ -1,6 +1,6 @@
 //! Pairs outputs with inputs by message, pairing name and both instances: for `messages`.
 
-ghost use Rattle.std.specs.Prelude.{◌≡◌, ◌++◌, ◌<◌, [], All, IfOk, OnOk, Some, length, map, slice_set, true, false};
+ghost use Rattle.std.specs.Prelude.{◌≡◌, ◌++◌, ◌<◌, [], All, IfOk, OnOk, Some, length, map, slice_set};
 ghost use Rattle.msc_expand.specs.Marks.{AreJoined, AreMarked, IsMark, KeepsNumbers, LeadsPairs, edges_from, end_edges, key_view};
 ghost use Rattle.msc_expand.specs.Pairings.{ArePartnersOf, far_name, key_of, or_empty, way, way_by};
 
@@ -67,7 +67,11 @@ fn name_bytes(name: &Option<Name>) -> &[u8]
 }
 
 /// The key of an output, or of an input.
-fn message_key(alloc: Global, event: &WovenEvent, direction: Direction) -> Result<MessageKey, NoMemory>
+fn message_key(
+    alloc: Global,
+    event: &WovenEvent,
+    direction: Direction,
+) -> Result<MessageKey, NoMemory>
     requires { way event.now ≡ Some direction }
     ensures { IfOk result (λ key. key_view key ≡ key_of event.now) }
 {
@@ -77,17 +81,17 @@ fn message_key(alloc: Global, event: &WovenEvent, direction: Direction) -> Resul
     let pairing = Vec::from_slice(alloc, name_bytes(&event.pairing))?;
     match direction {
         Direction::Out => Ok(MessageKey {
-                sender: at,
-                receiver: far,
-                text,
-                pairing,
-            }),
+            sender: at,
+            receiver: far,
+            text,
+            pairing,
+        }),
         Direction::In => Ok(MessageKey {
-                sender: far,
-                receiver: at,
-                text,
-                pairing,
-            }),
+            sender: far,
+            receiver: at,
+            text,
+            pairing,
+        }),
     }
 }
 
@@ -147,7 +151,11 @@ fn push_edge(
 }
 
 /// The ends of one direction, each leading from its class to its event.
-fn edges_of(alloc: Global, marks: &[Option<Mark>], direction: Direction) -> Result<Vec<Edge>, NoMemory>
+fn edges_of(
+    alloc: Global,
+    marks: &[Option<Mark>],
+    direction: Direction,
+) -> Result<Vec<Edge>, NoMemory>
     ensures { IfOk result (λ edges. edges.items ≡ edges_from direction 0 marks.now) }
 {
     let mut edges = Vec::new(alloc);

@@ -6,8 +6,7 @@ ghost use Rattle.msc_expand.specs.Rules.{earliest_of, size_of, size_places, tota
 
 use crate::Outline;
 use crate::limits::at_place;
-use msc_base::earlier_place;
-use msc_base::{Limits, Place};
+use msc_base::{Limits, Place, earlier_place};
 
 /// The size of a chart.
 fn size(outline: &Outline) -> u128

@@ -1,8 +1,6 @@
 //! Names added to a table of names where they are new: for the rules on names and limits.
 
 ghost use Rattle.std.specs.Prelude.{◌≡◌, OnOk};
-ghost use Rattle.std.specs.List.{list_any};
-ghost use Rattle.std.specs.Str.{bytes_eq};
 ghost use Rattle.msc_expand.specs.Outlines.{with_names};
 
 use msc_base::{Name, NameTable, NoMemory};

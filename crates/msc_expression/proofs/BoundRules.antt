@@ -1,5 +1,5 @@
 -- The readers of bounds are exact.
-use Rattle.std.proofs.Common.{ℕ, ◌≡◌, ◌++◌, true, List, [], refl, Option, Some, None, codes}
+use Rattle.std.proofs.Common.{ℕ, ◌≡◌, ◌++◌, true, List, [], refl, Some, None, codes}
 use Rattle.msc_tokens.specs.declared.token.Token.{Token}
 use Rattle.token_grammar.specs.Languages.{Set, apart, just, numbers, Read, seq_at}
 use Rattle.token_grammar.specs.Grammars.{Grammar}

@@ -1,9 +1,9 @@
 -- The readers of expressions are exact.
-use Rattle.std.proofs.Common.{ℕ, ◌≡◌, ◌++◌, List, [], ◌∷◌, refl, sym, append-nil, inl, inr, suc, zero, Option, Some, None, codes}
+use Rattle.std.proofs.Common.{ℕ, ◌≡◌, ◌++◌, List, [], ◌∷◌, refl, sym, append-nil, inr, suc, zero, Option, Some, None, codes}
 use Rattle.msc_tokens.specs.declared.token.Token.{Token}
 use Rattle.msc_tree.specs.Expressions.{Expression, Empty, Chart, Alt, Par, Seq, Opt, Loop}
 use Rattle.token_grammar.specs.Classes.{token_of}
-use Rattle.token_grammar.specs.Languages.{Set, Read, just, map_at, either_at, opens_at, bytes_at}
+use Rattle.token_grammar.specs.Languages.{Set, just, map_at, either_at, opens_at, bytes_at}
 use Rattle.token_grammar.specs.Grammars.{Grammar, or, read_as, bytes_of}
 use Rattle.token_grammar.specs.Parts.{mark, separated}
 use Rattle.token_grammar.specs.PartReaders.{mark_at, separated_at}
@@ -14,7 +14,7 @@ use Rattle.token_grammar.proofs.Optionals.{none, bytes_law, bytes_rule}
 use Rattle.token_grammar.proofs.PartRules.{mark_law, mark_rule, separated_law, separated_rule}
 use Rattle.msc_expression.specs.declared.expressions.Operator.TheVariants as operator
 use Rattle.msc_expression.specs.Bounds.{or_once}
-use Rattle.msc_expression.specs.ExpressionGrammar.{joined, sequence, parallel, expression_of, loop_of, loop_rest, closed, chart_names, prefix, expression}
+use Rattle.msc_expression.specs.ExpressionGrammar.{joined, sequence, parallel, loop_of, loop_rest, closed, chart_names, prefix, expression}
 use Rattle.msc_expression.specs.ExpressionReaders.{Reader, sequence_at, parallel_at, expression_of_at, loop_rest_at, opt_rest_at, closed_at, prefix_at, expression_at}
 use Rattle.msc_expression.proofs.BoundRules.{with_bounds_law, with_bounds_rule}
 use Rattle.msc_expression.proofs.PartLoops.{one_by_one}

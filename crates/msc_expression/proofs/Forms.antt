@@ -1,10 +1,9 @@
 -- The forms that are told apart by their first tokens are those of the grammar's readers.
-use Rattle.std.proofs.Common.{ℕ, ◌≡◌, ◌∙◌, ◌-◌, ◌==◌, ◌||◌, Bool, true, false, cond, List, [], ◌∷◌, length, refl, sym, ap, suc, zero, Some, None, Ok, Err, arith, codes}
-use Rattle.std.specs.Str.{bytes_eq}
+use Rattle.std.proofs.Common.{ℕ, ◌≡◌, ◌∙◌, ◌-◌, ◌==◌, ◌||◌, Bool, true, false, cond, List, [], ◌∷◌, length, refl, suc, zero, Some, None, Ok, Err, arith, codes}
 use Rattle.std.proofs.lemmas.Bool.{ne_eqb}
 use Rattle.msc_tokens.specs.declared.token.Token.{Token}
 use Rattle.msc_tree.specs.Expressions.{Chart}
-use Rattle.token_grammar.specs.Languages.{Set, Read, ◌>>=◌, among, refused, starts, just, names, either_at, map_at, opens_at, bytes_at}
+use Rattle.token_grammar.specs.Languages.{Set, Read, ◌>>=◌, among, refused, starts, just, either_at, map_at, opens_at, bytes_at}
 use Rattle.token_grammar.specs.PartReaders.{name_at}
 use Rattle.msc_expression.specs.Levels.{within_at}
 use Rattle.msc_expression.specs.ExpressionGrammar.{chart_names}

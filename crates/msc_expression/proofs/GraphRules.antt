@@ -1,14 +1,13 @@
 -- The readers of graphs are exact.
-use Rattle.std.proofs.Common.{ℕ, ◌≡◌, ◌∙◌, ◌++◌, true, List, [], ◌∷◌, length, refl, sym, subst, inl, inr, suc, zero, Option, Some, None, Ok, Err, codes}
+use Rattle.std.proofs.Common.{ℕ, ◌≡◌, ◌∙◌, ◌++◌, true, List, [], ◌∷◌, refl, inr, suc, zero, None, Ok, Err, codes}
 use Rattle.msc_base.specs.declared.label.LabelRef.{LabelRef}
 use Rattle.msc_tokens.specs.declared.token.Token.{Token}
 use Rattle.msc_tokens.specs.Places.{first_place}
 use Rattle.msc_tree.specs.Graphs.{Graph, Line, Node, Ends, Connect, Condition, Refer, Frames, graph, lines, no_lines, graphs}
 use Rattle.token_grammar.specs.Classes.{token_of}
-use Rattle.token_grammar.specs.Languages.{Set, Read, apart, just, names, seq_at, word_at, map_at, until_at, opens_at, behind_at}
+use Rattle.token_grammar.specs.Languages.{Set, Read, apart, just, names, seq_at, word_at, map_at, until_at, behind_at}
 use Rattle.token_grammar.specs.Grammars.{Grammar, seq, read_as, behind}
-use Rattle.token_grammar.specs.Parts.{ending, mark}
-use Rattle.token_grammar.specs.PartReaders.{ending_at, mark_at}
+use Rattle.token_grammar.specs.PartReaders.{ending_at}
 use Rattle.token_grammar.proofs.Lists.{apart_none}
 use Rattle.token_grammar.proofs.Levels.{Opened}
 use Rattle.token_grammar.proofs.Flats.{rule_by}
@@ -17,8 +16,8 @@ use Rattle.token_grammar.proofs.Optionals.{none, behind_law, behind_rule, mapped
 use Rattle.token_grammar.proofs.PartRules.{law_by, mark_law, mark_rule, ending_law, ending_rule, placed_name_rule, name_list_law, name_list_rule, separated_law, separated_rule}
 use Rattle.msc_expression.specs.ExpressionGrammar.{expression}
 use Rattle.msc_expression.specs.ExpressionReaders.{expression_at}
-use Rattle.msc_expression.specs.GraphGrammar.{label_of, label, labels, graph_of, graph_rest, frame_rest, node_of, next, line_of, line_rest, line_in, graph_line, chart_graph}
-use Rattle.msc_expression.specs.GraphReaders.{label_at, labels_at, lines_at, graph_rest_at, frame_rest_at, frame_at, node_at, next_at, line_rest_at, line_in_at, graph_line_at, chart_graph_at}
+use Rattle.msc_expression.specs.GraphGrammar.{label_of, label, labels, graph_of, graph_rest, frame_rest, node_of, next, line_of, line_rest, graph_line, chart_graph}
+use Rattle.msc_expression.specs.GraphReaders.{label_at, labels_at, lines_at, graph_rest_at, frame_rest_at, node_at, next_at, line_rest_at, graph_line_at, chart_graph_at}
 use Rattle.msc_expression.proofs.ExpressionRules.{expression_law, expression_rule}
 
 label_rule : (n : ℕ) → Rule (λ m. label) n names none label_at

@@ -1,5 +1,5 @@
 -- A line's frames, with the levels that may be opened in them.
-use Rattle.std.proofs.Common.{ℕ, ◌≡◌, List, ap, suc, zero, Some, None, codes}
+use Rattle.std.proofs.Common.{ℕ, ◌≡◌, List, ap, suc, zero, codes}
 use Rattle.std.proofs.Math.Path.{fun_ext}
 use Rattle.msc_tokens.specs.declared.token.Token.{Token}
 use Rattle.msc_tree.specs.Graphs.{Graph}

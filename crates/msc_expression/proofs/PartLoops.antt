@@ -1,5 +1,5 @@
 -- Parts with an operator between them, read one by one.
-use Rattle.std.proofs.Common.{ℕ, ◌≡◌, ◌∙◌, ◌++◌, Bool, true, false, List, [], ◌∷◌, length, map, refl, sym, ap, subst, suc, zero, Ok, Err, append-nil}
+use Rattle.std.proofs.Common.{ℕ, ◌≡◌, ◌∙◌, ◌++◌, List, [], ◌∷◌, length, refl, Ok, Err}
 use Rattle.msc_tokens.specs.declared.token.Token.{Token}
 use Rattle.msc_tree.specs.Expressions.{Expression}
 use Rattle.token_grammar.specs.Languages.{Read, ◌>>=◌, just, each_at, map_at}

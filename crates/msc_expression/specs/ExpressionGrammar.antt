@@ -1,6 +1,6 @@
 -- How the expression of a reference is written, production by production (Z.120, clause 7.3).
 -- A level is opened by `loop`, by `opt` and by an opening parenthesis.
-use Rattle.std.specs.Prelude.{ℕ, zero, suc, List, [], ◌∷◌, Option, None, codes}
+use Rattle.std.specs.Prelude.{ℕ, zero, suc, List, [], ◌∷◌, codes}
 use Rattle.msc_tree.specs.Expressions.{Expression, Expressions, Empty, Chart, Alt, Par, Seq, Opt, Loop, expressions}
 use Rattle.token_grammar.specs.Classes.{name_but}
 use Rattle.token_grammar.specs.Languages.{Set, just}

@@ -1,5 +1,5 @@
 -- Readers of the productions of an expression.
-use Rattle.std.specs.Prelude.{ℕ, zero, suc, List, [], ◌∷◌, length, Option, Some, None, Ok, option_map, codes}
+use Rattle.std.specs.Prelude.{ℕ, zero, suc, List, [], ◌∷◌, length, Option, Some, None, option_map, codes}
 use Rattle.msc_tokens.specs.declared.token.Token.{Token}
 use Rattle.msc_tree.specs.Expressions.{Expression, Expressions, Empty, Chart, Alt, Par, Seq, Opt}
 use Rattle.token_grammar.specs.Languages.{Read, ◌>>=◌, just, seq_at, either_at, map_at, opens_at, behind_at, bytes_at}

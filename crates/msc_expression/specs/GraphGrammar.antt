@@ -1,7 +1,6 @@
 -- How the graph of a high-level chart is written, production by production (Z.120, clause 7.5).
 -- A level is opened by the `expr` of a frame, and as in expressions; a node's own parenthesis opens none.
 use Rattle.std.specs.Prelude.{ℕ, zero, suc, ◌⊎◌, List, [], codes}
-use Rattle.std.proofs.Common.{inl, inr}
 use Rattle.msc_base.specs.declared.label.LabelRef.{LabelRef}
 use Rattle.msc_base.specs.declared.place.Place.{Place}
 use Rattle.msc_tree.specs.Expressions.{Expression}

@@ -1,5 +1,5 @@
 -- Readers of a word that opens a level.
-use Rattle.std.specs.Prelude.{ℕ, ◌==◌, ◌-◌, List, Option, Some, None, Ok, if◌then◌else◌}
+use Rattle.std.specs.Prelude.{ℕ, ◌==◌, ◌-◌, List, Some, None, Ok, if◌then◌else◌}
 use Rattle.msc_tokens.specs.declared.token.Token.{Token}
 use Rattle.token_grammar.specs.Languages.{Set, Read, ◌>>=◌, opens_at}
 

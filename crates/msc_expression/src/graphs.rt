@@ -3,8 +3,7 @@
 ghost use Rattle.std.specs.Prelude.{◌≡◌, map, length, codes};
 ghost use Rattle.msc_tree.specs.Views.{graph_view, line_view, node_view};
 ghost use Rattle.token_grammar.specs.Answers.{Gives};
-ghost use Rattle.token_grammar.specs.Languages.{just};
-ghost use Rattle.token_grammar.specs.PartReaders.{more_at, separated_at};
+ghost use Rattle.token_grammar.specs.PartReaders.{separated_at};
 ghost use Rattle.msc_expression.specs.ExpressionReaders.{expression_at};
 ghost use Rattle.msc_expression.specs.GraphReaders.{label_at, next_label_at, more_labels_at, labels_at, lines_at, graph_rest_at, frame_rest_at, frame_at, next_frame_at, more_frames_at, reference_node_at, condition_at, node_at, next_at, line_rest_at, line_in_at, graph_line_at, chart_graph_at};
 

@@ -9,7 +9,6 @@ use Rattle.item_order.specs.Counts.{Leads}
 use Rattle.msc_base.specs.Places.{IsLeast, earliest_if}
 use Rattle.msc_base.proofs.Narrowing.{Narrows, narrows_end, narrows_step}
 use Rattle.msc_tree.specs.declared.event.Direction.{Direction}
-use Rattle.msc_tree.specs.declared.event.Direction.TheVariants.{Out, In}
 use Rattle.msc_instances.specs.Alone.{AreTold, HasEnd, IsAlone, is_message}
 use Rattle.msc_instances.specs.Entries.{PlacedEvent}
 use Rattle.msc_instances.specs.EventViews.{event_view}

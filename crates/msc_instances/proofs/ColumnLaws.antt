@@ -1,18 +1,16 @@
 -- The edges of entries lead from the columns that the instances have to their items.
-use Rattle.std.proofs.Common.{◌≡◌, inl, inr, ℕ, ◌<◌, ◌≤◌, ◌+◌, zero, suc, Bool, true, false, cond, nat_eq, List, [], ◌∷◌, ◌++◌, Option, Some, None, All, slice_get, get_or, take, drop, map, length, refl, sym, subst, ap, ap₂, ◌∙◌, arith}
+use Rattle.std.proofs.Common.{◌≡◌, inl, inr, ℕ, ◌<◌, ◌≤◌, ◌+◌, zero, suc, Bool, true, false, cond, nat_eq, List, [], ◌∷◌, ◌++◌, Option, Some, None, All, slice_get, get_or, drop, map, length, refl, sym, subst, ap, ap₂, ◌∙◌, arith}
 use Rattle.std.specs.List.{list_any, position}
 use Rattle.std.specs.Option.{is_some}
 use Rattle.std.specs.Str.{bytes_eq}
 use Rattle.std.proofs.lemmas.Bool.{cases_eq, eq-eqb, ne_eqb, false_from_ne_true, true≢false}
-use Rattle.std.proofs.lemmas.List.{take_more}
 use Rattle.std.proofs.lemmas.List.Elements.{All-cons, All-nil}
 use Rattle.std.proofs.lemmas.Option.{slice_get_within}
 use Rattle.std.proofs.lemmas.Slice.Eq.{bytes_eq-Decides}
 use Rattle.item_order.specs.declared.edge.Edge.{Edge}
 use Rattle.item_order.specs.Columns.{columns_from}
 use Rattle.item_order.specs.Counts.{targets}
-use Rattle.msc_base.specs.Lists.{AreDifferent}
-use Rattle.msc_base.specs.Lists.{IsAmong}
+use Rattle.msc_base.specs.Lists.{AreDifferent, IsAmong}
 use Rattle.msc_base.specs.NameTables.{with_name}
 use Rattle.msc_instances.specs.declared.events.PlacedEvent as code
 use Rattle.msc_instances.specs.Entries.{Entry, PlacedEvent, column_of, columns_of, entries_from}
@@ -22,7 +20,7 @@ use Rattle.msc_instances.specs.Instances.{instances, with_declared}
 use Rattle.msc_instances.specs.Notes.{Note, Declared, Decomposed, Named, chart_notes}
 use Rattle.msc_tree.specs.Charts.{Chart}
 use Rattle.msc_instances.proofs.Positions.{position_passes}
-use Rattle.msc_base.proofs.NameFacts.{any_from_one, number_of_one, with_new}
+use Rattle.msc_base.proofs.NameFacts.{any_from_one, number_of_one}
 use Rattle.msc_instances.proofs.Walks.{assoc, drop_read}
 
 -- ---- different names

@@ -1,13 +1,11 @@
 -- The columns of events are in the order of the text.
-use Rattle.std.proofs.Common.{◌≡◌, ℕ, ◌<◌, ◌≤◌, ◌+◌, zero, suc, Bool, true, false, cond, List, [], ◌∷◌, inl, inr, length, subst, sym, refl, arith}
+use Rattle.std.proofs.Common.{◌≡◌, ℕ, ◌<◌, ◌≤◌, ◌+◌, suc, Bool, true, false, cond, List, [], ◌∷◌, inl, inr, length, subst, sym, arith}
 use Rattle.std.specs.Str.{bytes_eq}
-use Rattle.msc_base.specs.declared.place.Place.{Place}
 use Rattle.item_order.specs.Laws.{AreInOrder, NeverWovenAndCrossed, TextIsWoven, WovenIsOne, numbers_from}
 use Rattle.item_order.specs.Orders.{Has}
-use Rattle.item_order.specs.Weaving.{Before, HasColumn, IsWoven}
-use Rattle.msc_instances.specs.declared.body.Body.{Body}
-use Rattle.msc_instances.specs.Bodies.{AreItems, IsCrossing, IsWovenBody, level_columns}
-use Rattle.msc_instances.specs.Entries.{PlacedEvent, column_of, columns_of, entries_from}
+use Rattle.item_order.specs.Weaving.{Before, IsWoven}
+use Rattle.msc_instances.specs.Bodies.{AreItems, level_columns}
+use Rattle.msc_instances.specs.Entries.{PlacedEvent, column_of, entries_from}
 use Rattle.msc_instances.specs.Laws.{ItemsAreInOrder, NoColumnsCross}
 
 column_within : (k : ℕ) (events : List PlacedEvent) (name : List ℕ) (x : ℕ) → Has (column_of (entries_from k events) name) x → (k ≤ x) × (x < k + length events)

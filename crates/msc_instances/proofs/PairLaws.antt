@@ -1,5 +1,5 @@
 -- Pairs of the ends are pairs of the events, and an event has one partner.
-use Rattle.std.proofs.Common.{◌≡◌, ℕ, ◌<◌, ◌+◌, List, Option, Some, None, slice_get, take, Bool, true, false, arith, refl, sym, ap, ap₂, ◌∙◌, subst, All, ◌↔◌, Result, Ok, Err, IfOk, Vec, Global}
+use Rattle.std.proofs.Common.{◌≡◌, ℕ, ◌<◌, ◌+◌, List, Option, Some, None, slice_get, take, arith, refl, sym, ap, ap₂, ◌∙◌, subst, All, ◌↔◌, Result, Ok, Err, IfOk, Vec, Global}
 use Rattle.std.specs.List.{count_by, position}
 use Rattle.item_order.specs.declared.edge.Edge.{Edge}
 use Rattle.item_order.specs.Counts.{Leads}

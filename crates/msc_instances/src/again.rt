@@ -8,8 +8,7 @@ ghost use Rattle.msc_instances.specs.PartViews.{part_view};
 
 use crate::{NamedPart, PartList, Setting};
 use indexmap::IndexSet;
-use msc_base::earlier_if;
-use msc_base::{Name, NameTable, NoMemory, Place};
+use msc_base::{Name, NameTable, NoMemory, Place, earlier_if};
 use std::alloc::Global;
 
 /// A name, and the column in which a part has it.

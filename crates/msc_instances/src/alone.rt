@@ -1,6 +1,6 @@
 //! The earliest output or input without partner: for `weaving` alone.
 
-ghost use Rattle.std.specs.Prelude.{◌≡◌, ◌<◌, All, Bool, IfOk, false, get_or, length, map, not, ◌&&◌, true, ◌↔◌, ℕ};
+ghost use Rattle.std.specs.Prelude.{◌≡◌, ◌<◌, All, IfOk, false, length, map, not, ◌&&◌, true, ◌↔◌, ℕ};
 ghost use Rattle.msc_base.specs.Places.{IsLeast};
 ghost use Rattle.msc_instances.specs.Alone.{AreTold, IsAlone, is_message};
 ghost use Rattle.msc_instances.specs.EventViews.{event_view};
@@ -10,8 +10,7 @@ ghost use Rattle.msc_instances.specs.Messages.{IsUnmatched, way};
 use crate::PlacedEvent;
 use crate::matching::way_of;
 use item_order::Edge;
-use msc_base::earlier_if;
-use msc_base::{NoMemory, Place};
+use msc_base::{NoMemory, Place, earlier_if};
 use std::alloc::Global;
 
 /// For each event whether a pair has it.

@@ -1,7 +1,7 @@
 //! The events of a basic chart with their instances, in the order of the text: for `weaving`.
 
 ghost use Rattle.std.specs.Prelude.{◌≡◌, ◌++◌, ◌∷◌, [], List, IfOk, OnOk, OnErr, map, option_copied};
-ghost use Rattle.msc_instances.specs.Entries.{chart_events, content_events, form_events, items_events, lead_of, lead_events, statement_events, statements_events};
+ghost use Rattle.msc_instances.specs.Entries.{chart_events, content_events, form_events, items_events, lead_of, statement_events, statements_events};
 ghost use Rattle.msc_instances.specs.Entries as plain;
 ghost use Rattle.msc_instances.specs.EventViews.{event_view};
 ghost use Rattle.msc_tree.specs.Statements.{items as item_tree, statements as statement_tree};

@@ -69,7 +69,11 @@ fn name_bytes(name: &Option<Name>) -> &[u8]
 }
 
 /// The key of an output, or of an input.
-fn message_key(alloc: Global, placed: PlacedEvent<'_>, direction: Direction) -> Result<MessageKey, NoMemory>
+fn message_key(
+    alloc: Global,
+    placed: PlacedEvent<'_>,
+    direction: Direction,
+) -> Result<MessageKey, NoMemory>
     requires { way (event_view placed) ≡ Some direction }
     ensures { IfOk result (λ key. key_view key ≡ key_of (event_view placed.entry)) }
 {
@@ -79,17 +83,17 @@ fn message_key(alloc: Global, placed: PlacedEvent<'_>, direction: Direction) -> 
     let pairing = Vec::from_slice(alloc, name_bytes(&placed.event.pairing))?;
     match direction {
         Direction::Out => Ok(MessageKey {
-                sender: at,
-                receiver: far,
-                text,
-                pairing,
-            }),
+            sender: at,
+            receiver: far,
+            text,
+            pairing,
+        }),
         Direction::In => Ok(MessageKey {
-                sender: far,
-                receiver: at,
-                text,
-                pairing,
-            }),
+            sender: far,
+            receiver: at,
+            text,
+            pairing,
+        }),
     }
 }
 
@@ -149,7 +153,11 @@ fn push_edge(
 }
 
 /// The ends of one direction, each leading from its class to its event.
-fn edges_of(alloc: Global, marks: &[Option<Mark>], direction: Direction) -> Result<Vec<Edge>, NoMemory>
+fn edges_of(
+    alloc: Global,
+    marks: &[Option<Mark>],
+    direction: Direction,
+) -> Result<Vec<Edge>, NoMemory>
     ensures { IfOk result (λ edges. edges.items ≡ edges_from direction 0 marks.now) }
 {
     let mut edges = Vec::new(alloc);

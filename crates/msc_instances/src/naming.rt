@@ -12,8 +12,7 @@ ghost use Rattle.msc_tree.specs.Views.{chart_view};
 
 use crate::again::named_again;
 use crate::{Note, PartList, Scope, chart_levels, chart_notes};
-use msc_base::{comes_before, earlier_if, earlier_place};
-use msc_base::{Name, NameTable, Names, NoMemory, Place};
+use msc_base::{Name, NameTable, Names, NoMemory, Place, comes_before, earlier_if, earlier_place};
 use msc_tree::RawChart;
 use std::alloc::Global;
 

@@ -6,8 +6,7 @@ ghost use Rattle.msc_instances.specs.NotBuilt.{IsAmong, IsNotBuilt, is_creation,
 ghost use Rattle.msc_tree.specs.Statements.{items as item_tree, statements as statement_tree};
 ghost use Rattle.msc_tree.specs.Views.{chart_view, content_view, form_view, item_view, statement_view};
 
-use msc_base::earlier_place;
-use msc_base::{Items, Kind, NoMemory, Place};
+use msc_base::{Items, Kind, NoMemory, Place, earlier_place};
 use msc_tree::{Content, RawChart, RawForm, RawItem, Statement};
 use std::alloc::Global;
 

@@ -1,8 +1,8 @@
 //! Goes through a chart and notes what it writes of its instances: for `naming`. It judges nothing.
 
-ghost use Rattle.std.specs.Prelude.{◌≡◌, ◌++◌, IfOk, OnOk, map, true, false, Bool};
+ghost use Rattle.std.specs.Prelude.{◌≡◌, ◌++◌, IfOk, OnOk, map, true, false};
 ghost use Rattle.msc_instances.specs.NoteViews.{scope_view};
-ghost use Rattle.msc_instances.specs.Notes.{Declared, chart_notes, content_notes, covered_scope, decl_notes, decls_notes, ended_notes, event_notes, events_notes, form_notes, item_notes, items_notes, left_notes, left_scope, named_notes, operand_notes, operands_notes, refined_notes, shared_notes, statement_notes, statements_notes};
+ghost use Rattle.msc_instances.specs.Notes.{Declared, chart_notes, content_notes, covered_scope, decl_notes, decls_notes, ended_notes, event_notes, events_notes, form_notes, items_notes, left_notes, left_scope, named_notes, operand_notes, operands_notes, shared_notes, statement_notes, statements_notes};
 ghost use Rattle.msc_tree.specs.Statements.{items as item_tree, operands as operand_tree, statements as statement_tree};
 ghost use Rattle.msc_tree.specs.Views.{chart_view, content_view, form_view, inline_view, item_view, operand_view, statement_view};
 

@@ -4,7 +4,7 @@ use Rattle.std.specs.Fmt.{decimal}
 use Rattle.std.specs.Char.{digit_value}
 use Rattle.std.specs.List.{list_all, list_any}
 use Rattle.std.proofs.lemmas.Bool.{and_from}
-use Rattle.msc_base.specs.Names.{IsWord}
+use Rattle.msc_base.specs.Names.{IsWord, is_letter_or_digit, is_word_byte}
 use Rattle.msc_print.specs.Words.{Words}
 use Rattle.msc_print.proofs.Tidy.{Tidy, bounded, Proper, proper_append, word_of}
 use Rattle.std.specs.Str.Parse.{AllDigits}
@@ -13,7 +13,6 @@ use Rattle.std.proofs.lemmas.Str.Parse.{digit_from_value}
 use Rattle.std.proofs.lemmas.Fmt.{decimal_is_IsNumeral, length-decimal-le}
 use Rattle.msc_tokens.specs.declared.token.Token.{Token}
 use Rattle.token_grammar.specs.Classes.{is_digit, is_number, is_word}
-use Rattle.msc_base.specs.Names.{is_letter_or_digit, is_word_byte}
 use Rattle.token_grammar.specs.Languages.{just, numbers}
 use Rattle.token_grammar.specs.Grammars.{Grammar, read_as, seq, optional, maybe, behind}
 use Rattle.token_grammar.specs.Parts.{mark, kept as as_written}

@@ -11,7 +11,7 @@ use Rattle.msc_tree.specs.Statements as held
 use Rattle.msc_tree.specs.Views.{graph_view, line_view, node_view, inline_view, operand_view, node_step, graph_step, line_step, form_step, operand_step, statement_step, inline_step, item_step}
 use Rattle.msc_tree.specs.Graphs as tree
 use Rattle.msc_tree.specs.Graphs.{lines, Lines, Node, graph, line}
-use Rattle.msc_tree.specs.Statements.{InlineHead, Inline, Items, Operands, operands, Column, Covered}
+use Rattle.msc_tree.specs.Statements.{InlineHead, Inline, Operands, operands}
 use Rattle.msc_print.specs.Words.{Words, end_words}
 use Rattle.msc_print.specs.GraphWords.{graph_words, label_words, line_words, lines_words, next_words, node_words}
 use Rattle.msc_tree.specs.Forms.{form_text}

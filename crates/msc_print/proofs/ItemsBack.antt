@@ -1,5 +1,5 @@
 -- Items and statements that were read are written so that they read back, with no more levels open.
-use Rattle.std.proofs.Common.{ℕ, Bool, ◌≡◌, ◌∙◌, ◌++◌, true, false, List, [], ◌∷◌, Option, Some, None, map, refl, ap, inl, suc, zero, append-nil, append_assoc, option_map, codes}
+use Rattle.std.proofs.Common.{ℕ, ◌≡◌, ◌∙◌, ◌++◌, List, [], ◌∷◌, Option, Some, None, map, refl, ap, inl, suc, zero, append-nil, append_assoc, option_map, codes}
 use Rattle.msc_base.specs.declared.place.Place.{Place}
 use Rattle.msc_tokens.specs.declared.token.Token.{Token}
 use Rattle.msc_tokens.specs.Places.{first_place}
@@ -9,7 +9,7 @@ use Rattle.msc_tree.specs.declared.reference.Join.{Join}
 use Rattle.msc_tree.specs.declared.reference.InlineForm.{InlineForm}
 use Rattle.msc_tree.specs.declared.reference.InlineForm.TheVariants.{Alt, Opt, Par, Loop, Exc}
 use Rattle.msc_tree.specs.Expressions.{Expression}
-use Rattle.msc_tree.specs.Statements.{Reference, Item, Form, Single, Coregion, Condition, Inline, Refer, Stop, Items, Operand, InColumn, Outside, Operands, Statement, Column, Covered, Heading, Ended, Statements, items, operands, statements}
+use Rattle.msc_tree.specs.Statements.{Reference, Item, Single, Coregion, Condition, Inline, Refer, Stop, Items, Operand, InColumn, Outside, Operands, Statement, Column, Covered, Statements, items, operands, statements}
 use Rattle.msc_tree.specs.Statements as tree
 use Rattle.token_grammar.specs.Languages.{just, texts}
 use Rattle.token_grammar.specs.Grammars.{Grammar, Inner, shut, inner, inside, seq, or, read_as, chain, until, optional, behind, opens}

@@ -1,5 +1,5 @@
 -- Parts of charts without nesting that were read are written so that they read back: names, declarations, events.
-use Rattle.std.proofs.Common.{ℕ, Bool, ◌≡◌, ◌∙◌, ◌++◌, ◌⊎◌, true, false, List, [], ◌∷◌, Option, Some, None, map, refl, sym, ap, subst, inl, inr, append_assoc, option_map, codes}
+use Rattle.std.proofs.Common.{ℕ, ◌≡◌, ◌∙◌, ◌++◌, ◌⊎◌, true, List, [], ◌∷◌, Option, Some, None, map, refl, sym, ap, subst, inl, inr, append_assoc, option_map, codes}
 use Rattle.msc_base.specs.declared.label.Kind.{Kind}
 use Rattle.msc_base.specs.declared.label.Kind.TheVariants.{Output, Input, OutputLost, InputFound, Action, TimerStart, TimerStop, Timeout, Create}
 use Rattle.msc_base.specs.declared.place.Place.{Place}

@@ -1,17 +1,15 @@
 -- Texts of tokens in which `<` and `>` stand only round the bounds of a loop.
 use Rattle.std.proofs.Common.{ℕ, Bool, true, ◌≡◌, ◌∙◌, ◌++◌, ◌||◌, ◌&&◌, List, [], ◌∷◌, length, inl, inr, refl, sym, ap, subst, codes, arith, nat_lt}
 use Rattle.std.proofs.lemmas.Bool.{and_parts, or_cases}
-use Rattle.std.specs.Bool.{Decides}
 use Rattle.std.proofs.lemmas.Bool.Decides.{nat_tests, Decides-by_and}
 use Rattle.std.proofs.lemmas.List.Folds.{Any-from_list_any}
 use Rattle.std.specs.List.{list_all, list_any}
-use Rattle.msc_base.specs.Names.{IsWord, IsWordByte, IsLetterOrDigit}
+use Rattle.msc_base.specs.Names.{IsWord, IsWordByte, is_letter_or_digit, is_word_byte}
 use Rattle.msc_base.specs.Lists.{IsAmong}
 use Rattle.msc_tokens.specs.declared.token.Token.{Token}
 use Rattle.msc_tokens.specs.Spelling.{IsMark}
 use Rattle.msc_base.proofs.WordBytes.{letter_test, word_test}
 use Rattle.token_grammar.specs.Classes.{is_word, is_name, is_string, is_one_of}
-use Rattle.msc_base.specs.Names.{is_letter_or_digit, is_word_byte}
 use Rattle.token_grammar.proofs.Classes.{name_decides, one_of_decides}
 use Rattle.msc_print.specs.Words.{Words}
 use Rattle.msc_print.specs.Texts.{IsText, word, mark, Parts, AreTexts}

@@ -2,7 +2,7 @@
 
 ghost use Rattle.std.specs.Prelude.{◌≡◌, IfOk, OnOk, map};
 ghost use Rattle.msc_print.specs.ChartWords.{canonical_text, chart_words, closing_words, document_words, heading_words, opening_words, related_words};
-ghost use Rattle.msc_print.specs.Pages.{blank, put_all};
+ghost use Rattle.msc_print.specs.Pages.{put_all};
 ghost use Rattle.msc_print.specs.Words.{all_words};
 ghost use Rattle.msc_tree.specs.Views.{chart_view, document_view};
 

@@ -1,6 +1,6 @@
 //! Prints reference expressions with the parentheses that they need, and bounds of loops.
 
-ghost use Rattle.std.specs.Prelude.{◌≡◌, OnOk, codes, map};
+ghost use Rattle.std.specs.Prelude.{◌≡◌, OnOk, map};
 ghost use Rattle.msc_tree.specs.Expressions.{expressions};
 ghost use Rattle.msc_tree.specs.Views.{expression_view};
 ghost use Rattle.msc_print.specs.ExpressionWords.{bound_words, expression_words, looseness, operator_words, part_words};

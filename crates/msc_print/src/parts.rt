@@ -1,6 +1,6 @@
 //! Prints lists of names, words between parts, and the end of a line: for all that print.
 
-ghost use Rattle.std.specs.Prelude.{◌≡◌, OnOk, ◌∷◌, [], codes, map};
+ghost use Rattle.std.specs.Prelude.{◌≡◌, OnOk, ◌∷◌, [], codes};
 ghost use Rattle.msc_print.specs.Pages.{put, put_all};
 ghost use Rattle.msc_print.specs.Words.{each_behind, name_words, names_behind, end_words, alone, separator};
 

@@ -1,6 +1,6 @@
 //! Prints statements, items and inline expressions: for `chart`.
 
-ghost use Rattle.std.specs.Prelude.{◌≡◌, OnOk, ◌∷◌, codes, map};
+ghost use Rattle.std.specs.Prelude.{◌≡◌, OnOk, ◌∷◌, map};
 ghost use Rattle.msc_print.specs.Pages.{put_all};
 ghost use Rattle.msc_print.specs.StatementWords.{begun_words, bounds_in, column_words, covered_words, ended_words, item_words, items_words, naming_words, operand_words, operands_words, statement_words, statements_words, what_words};
 ghost use Rattle.msc_print.specs.Words.{end_words, separator};

@@ -1,5 +1,5 @@
 //! What a row runs on, and what comes out.
-ghost use Rattle.std.specs.Prelude.{◌≡◌, ◌≤◌, IfOk, OnOk};
+ghost use Rattle.std.specs.Prelude.{◌≡◌, ◌≤◌, OnOk};
 ghost use Rattle.outside.specs.MemoryShelves.{calls_of};
 
 use msc_base::{Items, NoMemory, Text, Words};

@@ -3,11 +3,10 @@ use Rattle.std.proofs.Common.{◌≡◌, ℕ, Bool, true, false, cond, ◌==◌,
 use Rattle.std.specs.Bool.{Decides}
 use Rattle.std.proofs.lemmas.Bool.Decides.{nat_tests}
 use Rattle.std.proofs.lemmas.List.Folds.{Any-from_list_any, list_any-from_Any}
-use Rattle.msc_base.specs.Names.{IsLetterOrDigit, IsWordByte}
+use Rattle.msc_base.specs.Names.{IsLetterOrDigit, IsWordByte, is_letter_or_digit, is_word_byte}
 use Rattle.msc_tokens.specs.declared.byte_class.ByteClass.{ByteClass}
 use Rattle.msc_tokens.specs.declared.byte_class.ByteClass.TheVariants as class
 use Rattle.msc_tokens.specs.ByteTests.{is_blank, is_inside, is_mark_byte, is_pair, has_letter, class_of}
-use Rattle.msc_base.specs.Names.{is_letter_or_digit, is_word_byte}
 pub use Rattle.msc_base.proofs.WordBytes.{letter_test, word_test}
 use Rattle.msc_tokens.specs.Spelling.{IsBlank, IsInside, IsMark, IsPair, BeginsNothing}
 

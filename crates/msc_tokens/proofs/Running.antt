@@ -3,7 +3,7 @@ use Rattle.std.proofs.Common.{◌≡◌, ◌==◌, ◌<◌, ◌≤◌, ◌+◌, 
 use Rattle.std.proofs.lemmas.List.Elements.{All-head, All-tail}
 use Rattle.std.proofs.lemmas.Bool.Decides.{Decides-ltb}
 use Rattle.msc_base.specs.declared.place.Place.{Place}
-use Rattle.msc_base.specs.Names.{IsWordByte}
+use Rattle.msc_base.specs.Names.{IsWordByte, is_word_byte}
 use Rattle.msc_tokens.specs.declared.token.Token.{Token}
 use Rattle.msc_tokens.specs.declared.token.TokenKind.TheVariants as kind
 use Rattle.msc_tokens.specs.declared.token_list.TokenList.{TokenList}
@@ -13,7 +13,6 @@ use Rattle.msc_tokens.specs.declared.byte_class.ByteClass.{ByteClass}
 use Rattle.msc_tokens.specs.declared.mode.Mode.{Mode}
 use Rattle.msc_tokens.specs.declared.mode.Mode.TheVariants as mode
 use Rattle.msc_tokens.specs.ByteTests.{is_inside, has_letter, is_pair, class_of}
-use Rattle.msc_base.specs.Names.{is_word_byte}
 use Rattle.msc_tokens.specs.Places.{after_byte, past}
 use Rattle.msc_tokens.specs.Machine.{State, in_mode, grown, closed, refused, begun_as, begun, step, listed}
 use Rattle.msc_tokens.specs.Spelling.{IsInside, IsMark, IsPair, BeginsWith, IsApostrophe, IsSlash, Part, Plain, Doubled, held, AreParts, IsNoted}

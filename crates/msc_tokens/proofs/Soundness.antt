@@ -3,7 +3,7 @@ use Rattle.std.proofs.Common.{◌≡◌, ◌==◌, ◌<◌, ◌≤◌, Bool, tru
 use Rattle.std.specs.Prelude.{fold}
 use Rattle.std.proofs.lemmas.List.Elements.{All-push, All-nil, All-cons}
 use Rattle.msc_base.specs.declared.place.Place.{Place}
-use Rattle.msc_base.specs.Names.{IsWordByte, IsLetterOrDigit}
+use Rattle.msc_base.specs.Names.{IsWordByte, IsLetterOrDigit, is_word_byte}
 use Rattle.msc_tokens.specs.declared.token.Token.{Token}
 use Rattle.msc_tokens.specs.declared.token.TokenKind.{TokenKind}
 use Rattle.msc_tokens.specs.declared.token.TokenKind.TheVariants as kind
@@ -15,7 +15,6 @@ use Rattle.msc_tokens.specs.declared.byte_class.ByteClass.TheVariants as class
 use Rattle.msc_tokens.specs.declared.mode.Mode.{Mode}
 use Rattle.msc_tokens.specs.declared.mode.Mode.TheVariants as mode
 use Rattle.msc_tokens.specs.ByteTests.{is_inside, has_letter, is_pair, makes_pair, class_of}
-use Rattle.msc_base.specs.Names.{is_word_byte}
 use Rattle.msc_tokens.specs.Places.{first_place, after_byte, past}
 use Rattle.msc_tokens.specs.Machine.{State, in_mode, opened, passed, grown, closed, refused, begun_as, begun, next, step, first_state, listed, ended}
 use Rattle.msc_tokens.specs.Spelling.{IsInside, IsMark, IsPair, IsSlash, IsStar, Part, Plain, Doubled, held, AreParts, IsNoted, Piece, Blank, Note, OneWord, OneString, OneMark, LongMark, text, token_of, IsPiece, Ends, Breaks, long_word, bad_word, bad_byte, lone_slash, open_string, open_note, bad_in_string, bad_in_note}

@@ -1,6 +1,6 @@
 //! The count of calls, and whether the next one is told to fail: for the shelf and the sink in memory.
 
-ghost use Rattle.std.specs.Prelude.{◌≡◌, ◌↔◌, ℕ, List, IsTrue, Contains};
+ghost use Rattle.std.specs.Prelude.{◌≡◌, ◌↔◌, ℕ, IsTrue, Contains};
 ghost use Rattle.outside.specs.Calls.{next_call, FailsNext};
 
 /// The number of the call behind so many.

@@ -1,6 +1,6 @@
 //! The shelf of files. The program mscjudge alone uses it; it tells no bytes, so no clause speaks of what a file holds.
 
-ghost use Rattle.std.specs.Prelude.{◌≡◌, ◌≤◌, ◌<◌, ◌+◌, ◌-◌, ◌^◌, min, List, ℕ, length, None, Some, IfOk, IfSome, is_some, OnErr, false};
+ghost use Rattle.std.specs.Prelude.{◌≡◌, ◌≤◌, ◌<◌, ◌+◌, ◌-◌, ◌^◌, ℕ, length, None, Some, IfSome, is_some, false};
 
 use crate::{Failed, Shelf};
 use msc_base::Text;

@@ -1,6 +1,6 @@
 //! A sink whose room and failing writes are told beforehand: for tests and rows, which print nothing.
 
-ghost use Rattle.std.specs.Prelude.{◌≡◌, ◌≤◌, ◌<◌, ◌++◌, List, ℕ, length, take, Some, vec_len, vec_capacity};
+ghost use Rattle.std.specs.Prelude.{◌≡◌, ◌≤◌, ◌<◌, ◌++◌, ℕ, length, take, Some, vec_len, vec_capacity};
 
 use crate::calls::{fails_next, next_number};
 use crate::{Failed, Sink};

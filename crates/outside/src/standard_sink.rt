@@ -1,6 +1,6 @@
 //! Standard output as a sink. The program mscjudge alone uses it; it tells no bytes.
 
-ghost use Rattle.std.specs.Prelude.{◌≡◌, ◌≤◌, ◌<◌, ◌+◌, ◌-◌, ◌^◌, min, List, ℕ, length, None, Some, IfOk, IfSome, is_some, OnErr};
+ghost use Rattle.std.specs.Prelude.{◌≡◌, ◌≤◌, ◌<◌, ◌+◌, ◌-◌, ◌^◌, ℕ, length, None, Some, IfSome};
 
 use crate::{Failed, Sink};
 use std::io::ErrorKind;

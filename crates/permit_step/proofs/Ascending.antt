@@ -10,7 +10,7 @@ use Rattle.chart_term.specs.Properties.{Each}
 use Rattle.chart_term.specs.Tables.{Tables}
 use Rattle.chart_term.specs.TermPatterns.{instances_of, earlier, before_in, put_if}
 use Rattle.chart_term.specs.Terms.{TermEvent, Block, has, Tree, Join, trees, items, Part}
-use Rattle.chart_term.specs.Views.{event_of}
+use Rattle.chart_term.specs.Views.{event_of, pairs_of}
 use Rattle.chart_term.proofs.Lists.{items-trees}
 use Rattle.permit_step.specs.Children.{parts_left, put}
 use Rattle.term_laws.specs.Permission.{permit, permit_all, permits_of}
@@ -25,7 +25,6 @@ use Rattle.chart_term.proofs.Instances.{has_added}
 use Rattle.term_laws.proofs.Unions.{insert-add}
 use Rattle.std.proofs.lemmas.Bool.Decides.{nat_tests}
 use Rattle.msc_base.specs.declared.label.Pair.{Pair}
-use Rattle.chart_term.specs.Views.{pairs_of}
 use Rattle.permit_step.proofs.Permits.{all-none}
 use Rattle.chart_term.specs.Spreads.{touch}
 

@@ -11,8 +11,7 @@ use Rattle.chart_term.specs.NormalForms.{has_gap}
 use Rattle.chart_term.specs.Tables.{Tables, net_of, node_of, terms_over}
 use Rattle.chart_term.specs.TermMeanings.{NetTerms, aim}
 use Rattle.chart_term.specs.Terms.{TermEvent, Tree, Nil, Event, Join, Choice, Tied, Loop, Walk, Trees, trees, items, Part, Gap, Turn, row_of}
-use Rattle.chart_term.proofs.Lists.{items-trees, parts-row_of}
-use Rattle.chart_term.proofs.Lists.{take_step}
+use Rattle.chart_term.proofs.Lists.{items-trees, parts-row_of, take_step}
 use Rattle.term_laws.proofs.Measures.{rank-seq, rank-par, rank-some, rank-tied, rank-loop}
 use Rattle.permit_step.proofs.Permits.{ready-seq, ready-par, ready-choice, ready-tied}
 use Rattle.permit_step.specs.Endings.{AreEnding, MayPartEnd}

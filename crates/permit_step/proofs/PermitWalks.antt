@@ -24,7 +24,7 @@ use Rattle.permit_step.specs.Passing.{is_full, ArePassable, PassesFull, IsAimed}
 use Rattle.term_laws.specs.Permission.{permit, permits_of}
 use Rattle.permit_step.specs.Ready.{IsReady, AreReadyTables, IsSpotWithin, IsGoalWithin}
 use Rattle.term_laws.proofs.Measures.{rank_in}
-use Rattle.permit_step.proofs.NodeTerms.{IsNode, node-is, sizes-are}
+use Rattle.permit_step.proofs.NodeTerms.{node-is, sizes-are}
 use Rattle.term_laws.proofs.TermSentences.{net_rank}
 
 -- members of filtered lists and of counted ones

@@ -1,6 +1,6 @@
 //! What permission by a block leaves of a term, part by part. Descent and ascent ask it for what is before an event.
 
-ghost use Rattle.std.specs.Prelude.{◌≡◌, ◌∷◌, ◌<◌, ◌≤◌, Bool, IfOk, OnOk, Some, None, if◌then◌else◌, length, take, map};
+ghost use Rattle.std.specs.Prelude.{◌≡◌, ◌∷◌, ◌<◌, ◌≤◌, IfOk, OnOk, Some, None, if◌then◌else◌, length, take};
 ghost use Rattle.chart_term.specs.NormalForms.{choice_of, only, walk_of, walk_cut};
 ghost use Rattle.chart_term.specs.Properties.{Each, MayHave};
 ghost use Rattle.chart_term.specs.Rows.{part_of};
@@ -10,8 +10,7 @@ ghost use Rattle.hmsc_graph.specs.Nets.{size_of};
 ghost use Rattle.hmsc_graph.specs.Spots.{spot_of, goal_of, IsSpotBelow, IsGoalBelow};
 ghost use Rattle.term_laws.specs.Normality.{IsSet};
 ghost use Rattle.permit_step.specs.Passing.{ArePassable};
-ghost use Rattle.term_laws.specs.Permission.{permits_of, permit_all, permit_some};
-ghost use Rattle.term_laws.specs.Permission.{permit as permitted};
+ghost use Rattle.term_laws.specs.Permission.{permits_of, permit_all, permit_some, permit as permitted};
 ghost use Rattle.permit_step.specs.Ready.{IsReady, AreReadyTables, IsReadyPart, AreReadyParts, IsReadyLoop};
 ghost use Rattle.permit_step.specs.RowRests.{open_before, keep_part, keep_parts};
 ghost use Rattle.term_laws.specs.Values.{block_of};

@@ -1,8 +1,7 @@
 //! The end of a loop's row in normal form, to which parts are put in front: for permission and ascent.
 
-ghost use Rattle.std.specs.Prelude.{◌≡◌, [], true, false, IfOk, OnOk};
+ghost use Rattle.std.specs.Prelude.{◌≡◌, [], true, false, IfOk, OnOk, Some};
 ghost use Rattle.chart_term.specs.NormalForms.{begun, has_gap, is_nil};
-ghost use Rattle.std.specs.Prelude.{Some};
 ghost use Rattle.permit_step.specs.RowRests.{no_rest, turn_before, gap_before};
 
 use bit_sets::Block;

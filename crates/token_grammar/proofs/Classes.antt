@@ -1,17 +1,16 @@
 -- What the classes of a token tell of each other.
-use Rattle.std.proofs.Common.{ℕ, ◌≡◌, ◌≤◌, ◌∙◌, ◌&&◌, ◌||◌, Bool, true, false, not, nat_eq, nat_lt, List, [], ◌∷◌, length, refl, sym, ap, inl, inr, subst, arith, suc, Any}
+use Rattle.std.proofs.Common.{ℕ, ◌≡◌, ◌≤◌, ◌∙◌, ◌&&◌, ◌||◌, Bool, true, false, not, nat_eq, nat_lt, List, [], ◌∷◌, length, refl, sym, ap, inl, inr, subst, arith, Any}
 use Rattle.std.specs.Bool.{Decides}
 use Rattle.std.specs.List.{list_any, list_all}
 use Rattle.std.specs.Str.{bytes_eq}
 use Rattle.std.proofs.lemmas.Bool.{and_parts, not-true, or_cases, and_from}
-use Rattle.std.proofs.lemmas.Bool.Decides.{eqb_tells, Decides-and, Decides-or, Decides-not, Decides-by_and, Decides-ltb, Decides-eqb}
+use Rattle.std.proofs.lemmas.Bool.Decides.{eqb_tells, Decides-and, Decides-or, Decides-not, Decides-by_and, Decides-ltb}
 use Rattle.std.proofs.lemmas.List.Folds.{Any-from_list_any, list_any-from_Any}
 use Rattle.std.proofs.lemmas.Slice.Eq.{bytes_eq-Decides}
-use Rattle.msc_base.specs.Names.{IsLetterOrDigit, IsWordByte, IsWord, IsReserved, IsName, reserved_to_decomposed, reserved_to_inst, reserved_to_out, reserved_to_when}
+use Rattle.msc_base.specs.Names.{IsLetterOrDigit, IsWordByte, IsWord, IsReserved, IsName, reserved_to_decomposed, reserved_to_inst, reserved_to_out, reserved_to_when, is_letter_or_digit, is_word_byte}
 use Rattle.msc_base.specs.Lists.{IsAmong}
 use Rattle.msc_base.proofs.WordBytes.{letter_test, word_test}
 use Rattle.token_grammar.specs.Classes.{Class, exactly, name_but, string, number, fits, differ, covers, is_digit, is_one_of, is_reserved, is_word, is_name, is_string, is_number}
-use Rattle.msc_base.specs.Names.{is_letter_or_digit, is_word_byte}
 
 both : true ≡ false → ⊥
 both e = cc

@@ -1,8 +1,7 @@
 -- One loop reads what the factored readers read.
-use Rattle.std.proofs.Common.{ℕ, ◌≡◌, ◌∙◌, ◌≤◌, Bool, true, false, cond, List, [], ◌∷◌, length, refl, sym, ap, inl, inr, subst, suc, zero, Ok, Err, arith}
+use Rattle.std.proofs.Common.{ℕ, ◌≡◌, ◌∙◌, ◌≤◌, Bool, true, false, cond, List, [], ◌∷◌, length, refl, sym, ap, inl, inr, subst, suc, zero, Ok, Err, arith, length-append}
 use Rattle.msc_tokens.specs.declared.token.Token.{Token}
 use Rattle.token_grammar.specs.Languages.{Set, among, starts, Stop, refused, Read, ◌>>=◌, word_at, seq_at, map_at, each_at, until_at, only_at}
-use Rattle.std.proofs.Common.{length-append}
 use Rattle.token_grammar.specs.Grammars.{Grammar}
 use Rattle.token_grammar.proofs.Base.{Takes, Meant}
 use Rattle.token_grammar.proofs.Levels.{reads_of, brink_of}

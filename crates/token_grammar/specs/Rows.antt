@@ -1,7 +1,7 @@
 -- Items that are read in states, up to a word that may begin an item as well: what stands behind the word decides.
 use Rattle.std.specs.Prelude.{ℕ, zero, suc, ◌≡◌, ◌++◌, ◌&&◌, ◌||◌, not, Bool, false, List, [], ◌∷◌, length, Ok, Err, if◌then◌else◌}
 use Rattle.msc_tokens.specs.declared.token.Token.{Token}
-use Rattle.token_grammar.specs.Languages.{Set, Language, Read, refused, among, starts, ◌>>=◌, word_at}
+use Rattle.token_grammar.specs.Languages.{Set, Read, refused, among, starts, ◌>>=◌, word_at}
 use Rattle.token_grammar.specs.Languages as rules
 use Rattle.token_grammar.specs.Grammars.{Grammar}
 

@@ -4,8 +4,7 @@ use Rattle.std.proofs.Common.{ap, sym, ◌∙◌, subst, inl, inr, length-append
 use Rattle.term_tables.specs.NetValues.{NetsValue}
 use Rattle.chart_term.specs.Terms.{Tree}
 use Rattle.event_log.specs.Logs.{HoldsEvent}
-use Rattle.msc_base.specs.Only.{Never}
-use Rattle.msc_base.specs.Only.{Only}
+use Rattle.msc_base.specs.Only.{Never, Only}
 use Rattle.event_log.specs.States.{LogState, IsFaultOf, IsAnswer}
 use Rattle.event_log.specs.States as reader
 use Rattle.event_log.specs.declared.event.LineEvent.{LineEvent}

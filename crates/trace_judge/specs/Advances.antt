@@ -1,6 +1,6 @@
 -- Serves private contracts alone.
 -- What becomes of a set, and of a track, at an event.
-use Rattle.std.specs.Prelude.{ℕ, ◌+◌, ◌≡◌, Option, Some, None, max}
+use Rattle.std.specs.Prelude.{ℕ, ◌+◌, ◌≡◌, Option, Some, None, max, []}
 use Rattle.msc_base.specs.declared.label.Label.{Label}
 use Rattle.msc_base.specs.declared.verdict.Verdict.{Verdict}
 use Rattle.msc_base.specs.declared.verdict.Verdict.TheVariants.{Conforms, Fails, Early, TooLarge}
@@ -10,7 +10,6 @@ use Rattle.trace_judge.specs.Sets.{SetValue, IsNextSet, IsTooLarge, HasEnding}
 use Rattle.trace_judge.specs.Tracks.{TrackValue}
 use Rattle.trace_judge.specs.declared.advance.Outcome.{Outcome}
 use Rattle.trace_judge.specs.declared.advance.Outcome.TheVariants.{Goes, Empties, Passes}
-use Rattle.std.specs.Prelude.{[]}
 
 -- what is left in a set that didn't pass its budget
 abbrev pub LeavesOver : SetValue → Outcome → Type 0

@@ -1,13 +1,11 @@
 //! The set of residual terms as a sorted list, within a budget: the one store that there is.
 
-ghost use Rattle.std.specs.Prelude.{◌≡◌, ◌≤◌, ◌<◌, ◌⊎◌, ◌↔◌, [], ◌∷◌, ◌++◌, ℕ, List, length, take, IfOk, OnOk, OnErr, IsTrue, true, false, MatchOption};
-ghost use Rattle.term_tables.specs.NetValues.{NetsValue};
+ghost use Rattle.std.specs.Prelude.{◌≡◌, ◌≤◌, ◌<◌, ◌⊎◌, ◌↔◌, [], ◌∷◌, ◌++◌, ℕ, IfOk, OnOk, OnErr, IsTrue, true, false, MatchOption};
 ghost use Rattle.chart_term.specs.Properties.{Each};
-ghost use Rattle.chart_term.specs.TermPatterns.{Both};
-ghost use Rattle.chart_term.specs.Terms.{Tree, weight};
+ghost use Rattle.chart_term.specs.Terms.{weight};
 ghost use Rattle.term_laws.specs.Listing.{IsAmong, set_weight};
 ghost use Rattle.permit_step.specs.Successors.{IsSuccessor};
-ghost use Rattle.trace_judge.specs.Sets.{SetValue, IsSoundFor, IsServing, IsLeftOf, AreSuccessors, PassBudget, HasEnding, AreRising};
+ghost use Rattle.trace_judge.specs.Sets.{SetValue, IsSoundFor, IsServing, IsLeftOf, PassBudget, HasEnding, AreRising};
 ghost use Rattle.trace_judge.specs.Gathers.{IsOver, JoinsAll};
 
 use crate::gathered::Gathered;

@@ -1,6 +1,6 @@
 //! What a judge asks of a set of residual terms; `Track` and `Judge` know no more of it than this.
 
-ghost use Rattle.std.specs.Prelude.{◌≡◌, ◌≤◌, ◌<◌, ◌↔◌, ◌++◌, ◌∷◌, [], List, true, false, IfOk, IfErr, OnOk, OnErr, IsTrue, Err};
+ghost use Rattle.std.specs.Prelude.{◌≡◌, ◌≤◌, ◌<◌, ◌↔◌, ◌++◌, ◌∷◌, [], List, true, false, IfOk, IfErr, OnOk, IsTrue, Err};
 ghost use Rattle.msc_base.specs.declared.label.Label.{Label};
 ghost use Rattle.term_tables.specs.NetValues.{NetsValue};
 ghost use Rattle.chart_term.specs.Terms.{Tree, weight};

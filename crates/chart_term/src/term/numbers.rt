@@ -1,8 +1,6 @@
 //! The numbers of the events of a term, for `ties`, which drops pairs that name no event below them.
 
 ghost use Rattle.std.specs.Prelude.{◌≡◌, ℕ, ◌||◌, OnOk};
-ghost use Rattle.std.specs.BTreeSet.{contains};
-ghost use Rattle.std.specs.Ordering.{nat_cmp};
 ghost use Rattle.chart_term.specs.NormalForms.{numbers, numbers_all, numbers_row};
 ghost use Rattle.chart_term.specs.Numbers.{Gains};
 ghost use Rattle.chart_term.specs.Terms.{row_of, trees};

@@ -1,8 +1,7 @@
 use Rattle.std.proofs.Common.{◌≡◌, List, ℕ, Some, option_map, rules, subst, ◌∙◌}
 use Rattle.msc_base.specs.Names.{IsName}
 use Rattle.msc_events.specs.LogEvents.{ReadsText}
-use Rattle.msc_base.specs.Only.{Never}
-use Rattle.msc_base.specs.Only.{Only}
+use Rattle.msc_base.specs.Only.{Never, Only}
 use Rattle.event_log.specs.Objects.{Said, Spelled, IsAllowed, kind_of, IsFarOf}
 use Rattle.event_log.proofs.Objects.{no_text, no_far, only_said}
 use Rattle.event_log.proofs.object.said_event.Goals as goal

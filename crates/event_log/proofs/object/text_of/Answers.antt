@@ -1,8 +1,7 @@
 use Rattle.std.proofs.Common.{rules}
 use Rattle.msc_tokens.specs.Spelling.{Spells}
 use Rattle.msc_events.specs.LogEvents.{ReadsText}
-use Rattle.msc_base.specs.Only.{Never}
-use Rattle.msc_base.specs.Only.{Only}
+use Rattle.msc_base.specs.Only.{Never, Only}
 use Rattle.event_log.proofs.Spelling.{spelled_answer}
 use Rattle.event_log.proofs.object.text_of.Goals as goal
 

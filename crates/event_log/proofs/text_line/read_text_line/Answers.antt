@@ -1,7 +1,6 @@
 use Rattle.std.proofs.Common.{◌<◌, length, rules}
 use Rattle.msc_tokens.specs.Spelling.{Spells}
-use Rattle.msc_base.specs.Only.{Never}
-use Rattle.msc_base.specs.Only.{Only}
+use Rattle.msc_base.specs.Only.{Never, Only}
 use Rattle.event_log.proofs.Spelling.{says_spelled, says_unspelled}
 use Rattle.event_log.proofs.text_line.read_text_line.Goals as goal
 

@@ -1,4 +1,4 @@
-use Rattle.std.proofs.Common.{◌≡◌, ℕ, List, length, arith, rules, sym, subst}
+use Rattle.std.proofs.Common.{◌≡◌, ℕ, List, length, arith, sym, subst}
 use Rattle.msc_cmd.specs.Judging.{AreFirst, AreNext}
 use Rattle.msc_cmd.proofs.JudgeLists.{written_back}
 use Rattle.msc_cmd.proofs.columns.columns_of.Goals as goal

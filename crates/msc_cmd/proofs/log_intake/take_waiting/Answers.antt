@@ -1,7 +1,6 @@
 use Rattle.std.proofs.Common.{◌≡◌, ◌∙◌, Bool, None, length, not, rules, subst}
 use Rattle.event_log.specs.Logs.{HoldsEvent}
-use Rattle.msc_base.specs.Only.{Never}
-use Rattle.msc_base.specs.Only.{Only}
+use Rattle.msc_base.specs.Only.{Never, Only}
 use Rattle.msc_cmd.proofs.LogTaking.{event_taken, no_want}
 use Rattle.msc_cmd.proofs.log_intake.take_waiting.Goals as goal
 

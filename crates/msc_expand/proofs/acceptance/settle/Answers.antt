@@ -2,7 +2,6 @@ use Rattle.std.proofs.Common.{rules, ◌≡◌, List, Some, None, map, flat_map,
 use Rattle.std.proofs.lemmas.List.Folds.{flat_map-map}
 use Rattle.msc_tree.specs.declared.chart.RawChart.{RawChart}
 use Rattle.msc_tree.specs.Views.{chart_view, document_view}
-use Rattle.msc_expand.specs.declared.outline.Outline.{Outline}
 use Rattle.msc_expand.specs.Forms.{not_built_chart}
 use Rattle.msc_expand.specs.Outlines.{outline_of}
 use Rattle.msc_expand.specs.Rules.{earliest_of}

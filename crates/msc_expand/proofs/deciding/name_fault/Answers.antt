@@ -6,7 +6,7 @@ use Rattle.msc_rules.specs.declared.rule.Rule.TheVariants.{NamedTwice, Undeclare
 use Rattle.msc_rules.specs.Rules.{number_of}
 use Rattle.msc_expand.specs.Acceptance.{BreaksOf}
 use Rattle.msc_expand.specs.Deciding.{names}
-use Rattle.msc_expand.specs.Rules.{earliest_of, chart_places, instance_places, twice_places, undeclared_places, size_places, total_places}
+use Rattle.msc_expand.specs.Rules.{earliest_of, twice_places, undeclared_places}
 use Rattle.msc_expand.proofs.GroupLaws.{names_best}
 use Rattle.msc_expand.proofs.deciding.name_fault.Goals as goal
 

@@ -1,4 +1,4 @@
-use Rattle.std.proofs.Common.{rules, ◌≡◌, [], None, flat_map, Option, subst, sym, ap₂, ◌∙◌}
+use Rattle.std.proofs.Common.{◌≡◌, [], None, flat_map, Option, subst, sym, ap₂, ◌∙◌}
 use Rattle.msc_rules.specs.declared.first_fault.Broken.{Broken}
 use Rattle.msc_rules.specs.FirstFaults.{IsBest, earlier_of, fault_of}
 use Rattle.msc_rules.specs.declared.rule.Rule.{Rule}
@@ -6,7 +6,7 @@ use Rattle.msc_rules.specs.declared.rule.Rule.TheVariants.{Size, Total}
 use Rattle.msc_rules.specs.Rules.{number_of}
 use Rattle.msc_expand.specs.Acceptance.{BreaksOf}
 use Rattle.msc_expand.specs.Deciding.{sizes}
-use Rattle.msc_expand.specs.Rules.{earliest_of, chart_places, instance_places, twice_places, undeclared_places, size_places, total_places}
+use Rattle.msc_expand.specs.Rules.{earliest_of, size_places, total_places}
 use Rattle.msc_expand.proofs.GroupLaws.{sizes_best}
 use Rattle.msc_expand.proofs.deciding.size_fault.Goals as goal
 

@@ -1,7 +1,7 @@
 use Rattle.std.proofs.Common.{◌≡◌, List, flat_map, sym, ap, ◌∙◌, Option}
 use Rattle.msc_base.specs.declared.place.Place.{Place}
 use Rattle.msc_tree.specs.declared.chart.Decl.{Decl}
-use Rattle.msc_tree.specs.Views.{chart_view, content_view}
+use Rattle.msc_tree.specs.Views.{content_view}
 use Rattle.msc_expand.specs.Forms.{not_built_decl, not_built_content}
 use Rattle.msc_expand.specs.Rules.{earliest_of}
 use Rattle.msc_expand.proofs.Earliest.{earliest_append}

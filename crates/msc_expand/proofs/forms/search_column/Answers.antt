@@ -1,4 +1,4 @@
-use Rattle.std.proofs.Common.{◌≡◌, List, map, sym, ap, ◌∙◌, Option}
+use Rattle.std.proofs.Common.{◌≡◌, map, sym, ap, ◌∙◌, Option}
 use Rattle.msc_base.specs.declared.place.Place.{Place}
 use Rattle.msc_tree.specs.Statements.{items}
 use Rattle.msc_tree.specs.Views.{item_view}

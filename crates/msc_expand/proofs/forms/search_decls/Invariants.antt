@@ -1,4 +1,4 @@
-use Rattle.std.proofs.Common.{◌≡◌, drop, flat_map, None}
+use Rattle.std.proofs.Common.{◌≡◌, drop, flat_map}
 use Rattle.msc_expand.specs.Forms.{not_built_decl}
 use Rattle.msc_expand.specs.Rules.{earliest_of}
 use Rattle.msc_expand.proofs.forms.search_decls.Given as goal

@@ -1,4 +1,4 @@
-use Rattle.std.proofs.Common.{◌≡◌, drop, flat_map, None}
+use Rattle.std.proofs.Common.{◌≡◌, drop, flat_map}
 use Rattle.msc_tree.specs.Views.{statement_view}
 use Rattle.msc_expand.specs.Forms.{not_built_statement}
 use Rattle.msc_expand.specs.Rules.{earliest_of}

@@ -1,8 +1,7 @@
-use Rattle.std.proofs.Common.{rules, ◌≡◌, ◌<◌, List, ℕ, length, Some, slice_get, refl, arith, ap, ap₂, sym, subst, ◌∙◌}
+use Rattle.std.proofs.Common.{◌≡◌, ◌<◌, List, ℕ, length, Some, slice_get, refl, arith, ap, ap₂, sym, subst, ◌∙◌}
 use Rattle.std.proofs.lemmas.Option.{slice_get_read}
 use Rattle.msc_expand.specs.declared.outline.WovenEvent.{WovenEvent}
 use Rattle.msc_expand.specs.Lonely.{early_places}
-use Rattle.msc_expand.specs.Pairings.{ArePartnersOf}
 use Rattle.msc_expand.specs.Rules.{earliest_of}
 use Rattle.msc_expand.proofs.LonelySteps.{all_early_step, partners_length, partners_at}
 use Rattle.msc_expand.proofs.messages.early.Goals as goal

@@ -1,6 +1,6 @@
-use Rattle.std.proofs.Common.{rules, ◌≡◌, ◌<◌, ◌&&◌, ℕ, nat_eq, nat_lt, length, Some, slice_get, slice_index_or, refl, arith, ap, sym, subst, ◌∙◌}
+use Rattle.std.proofs.Common.{◌≡◌, ◌<◌, ◌&&◌, ℕ, nat_eq, length, Some, slice_get, slice_index_or, refl, arith, ap, subst, ◌∙◌}
 use Rattle.std.proofs.lemmas.Option.{slice_get_read, slice_get-get_or}
-use Rattle.msc_expand.specs.Lonely.{is_message, is_taken}
+use Rattle.msc_expand.specs.Lonely.{is_message}
 use Rattle.msc_expand.specs.Pairings.{way}
 use Rattle.msc_expand.specs.Rules.{earliest_of, where_so}
 use Rattle.msc_expand.proofs.LonelySteps.{lonely_step}

@@ -1,6 +1,4 @@
 use Rattle.std.proofs.Common.{rules, ◌≡◌, List, ℕ, flat_map, sym, ap, ap₂, subst, ◌∙◌, Option, ◌++◌}
-use Rattle.std.specs.List.{list_any}
-use Rattle.std.specs.Str.{bytes_eq}
 use Rattle.msc_base.specs.declared.place.Place.{Place}
 use Rattle.msc_expand.specs.declared.outline.SharedList.{SharedList}
 use Rattle.msc_expand.specs.declared.outline.WovenEvent.{WovenEvent}

@@ -1,4 +1,4 @@
-use Rattle.std.proofs.Common.{◌≡◌, drop, flat_map, None}
+use Rattle.std.proofs.Common.{◌≡◌, drop, flat_map}
 use Rattle.msc_expand.specs.Rules.{earliest_of, stranger_places}
 use Rattle.msc_expand.proofs.names.search_events.Given as goal
 

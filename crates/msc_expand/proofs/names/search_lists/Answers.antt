@@ -1,6 +1,6 @@
 use Rattle.std.proofs.Common.{◌≡◌, length, Some, slice_get, refl, arith, ◌∙◌}
 use Rattle.std.proofs.lemmas.Option.{slice_get_read}
-use Rattle.msc_expand.specs.Rules.{earliest_of, list_places}
+use Rattle.msc_expand.specs.Rules.{list_places}
 use Rattle.msc_expand.proofs.Earliest.{earliest_step}
 use Rattle.msc_expand.proofs.names.search_lists.Goals as goal
 

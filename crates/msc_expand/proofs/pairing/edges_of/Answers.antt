@@ -1,4 +1,4 @@
-use Rattle.std.proofs.Common.{rules, ◌≡◌, ◌++◌, length, Option, Some, None, get_or, slice_get, refl, arith, ap, ◌∙◌}
+use Rattle.std.proofs.Common.{rules, ◌≡◌, ◌++◌, Option, Some, None, get_or, slice_get, arith, ap, ◌∙◌}
 use Rattle.std.proofs.lemmas.Option.{slice_get-get_or}
 use Rattle.msc_expand.specs.declared.pairing.Mark.{Mark}
 use Rattle.msc_expand.specs.Marks.{end_edges}

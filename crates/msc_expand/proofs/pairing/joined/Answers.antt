@@ -1,4 +1,4 @@
-use Rattle.std.proofs.Common.{rules, ◌≡◌, ◌<◌, ◌++◌, ◌∷◌, [], ◌+◌, List, ℕ, take, length, get_or, slice_set, subst, sym, arith, ap, ◌∙◌}
+use Rattle.std.proofs.Common.{◌≡◌, ◌<◌, ◌++◌, ◌∷◌, [], ◌+◌, List, ℕ, take, get_or, subst, sym, arith, ◌∙◌}
 use Rattle.std.proofs.lemmas.List.{take_more}
 use Rattle.item_order.specs.declared.edge.Edge.{Edge}
 use Rattle.msc_expand.specs.Marks.{AreJoined}

@@ -1,6 +1,6 @@
-use Rattle.std.proofs.Common.{rules, ◌≡◌, ◌++◌, ◌∷◌, [], Some, map, Bool, if◌then◌else◌, ap, ◌∙◌}
-use Rattle.std.specs.List.{position, position_or_len, list_any}
-use Rattle.msc_expand.specs.Pairings.{way, key_of, is_key}
+use Rattle.std.proofs.Common.{rules, ◌≡◌, ◌++◌, ◌∷◌, [], Some, Bool, if◌then◌else◌, ◌∙◌}
+use Rattle.std.specs.List.{position_or_len, list_any}
+use Rattle.msc_expand.specs.Pairings.{way, key_of}
 use Rattle.msc_expand.specs.Marks.{key_view}
 use Rattle.msc_expand.specs.declared.pairing.MessageKey.{MessageKey}
 use Rattle.msc_expand.specs.contracts.pairing.MessageKeyPartialEq.TheImpl.{eq-value}

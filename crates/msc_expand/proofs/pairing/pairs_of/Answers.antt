@@ -1,6 +1,5 @@
-use Rattle.std.proofs.Common.{rules, ◌≡◌, List, Option, true, false, All, ap, sym, subst, ◌<◌, ◌∙◌}
+use Rattle.std.proofs.Common.{rules, ◌≡◌, List, Option, All, ap, sym, subst, ◌<◌, ◌∙◌}
 use Rattle.item_order.specs.declared.edge.Edge.{Edge}
-use Rattle.msc_tree.specs.declared.event.Direction.{Direction}
 use Rattle.msc_tree.specs.declared.event.Direction.TheVariants.{Out, In}
 use Rattle.msc_expand.specs.declared.pairing.Mark.{Mark}
 use Rattle.msc_expand.specs.Marks.{AreMarked, edges_from}

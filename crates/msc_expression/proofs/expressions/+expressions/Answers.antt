@@ -1,6 +1,5 @@
 use Rattle.std.proofs.Common.{◌≡◌, ◌∙◌, ◌++◌, [], ◌∷◌, sym, ap, subst, map, length, ◌-◌, ◌+◌, arith}
 use Rattle.std.proofs.lemmas.List.{map-append}
-use Rattle.msc_tokens.specs.declared.token.Token.{Token}
 use Rattle.msc_tree.specs.Expressions.{Expression}
 use Rattle.msc_tree.specs.Views.{expression_view}
 use Rattle.token_grammar.specs.Answers.{Gives, Fails}

@@ -1,6 +1,5 @@
-use Rattle.std.proofs.Common.{rules, map, ◌≡◌, List, Option, true, false, All, ap, sym, subst, ◌<◌, ◌∙◌}
+use Rattle.std.proofs.Common.{rules, map, ◌≡◌, List, Option, All, ap, sym, subst, ◌<◌, ◌∙◌}
 use Rattle.item_order.specs.declared.edge.Edge.{Edge}
-use Rattle.msc_tree.specs.declared.event.Direction.{Direction}
 use Rattle.msc_tree.specs.declared.event.Direction.TheVariants.{Out, In}
 use Rattle.msc_instances.specs.declared.matching.Mark.{Mark}
 use Rattle.msc_instances.specs.EventViews.{event_view}

@@ -1,8 +1,7 @@
-use Rattle.std.proofs.Common.{rules, ◌≡◌, map}
+use Rattle.std.proofs.Common.{rules, ◌≡◌, map, ◌↔◌, IsTrue}
 use Rattle.msc_instances.specs.NoteViews.{note_view}
 use Rattle.msc_instances.specs.Notes.{Decomposed}
 use Rattle.msc_base.specs.Lists.{IsAmong}
-use Rattle.std.proofs.Common.{◌↔◌, IsTrue}
 use Rattle.msc_instances.proofs.NoteSteps.{again_step}
 use Rattle.msc_instances.proofs.naming.decomposed_again.Goals as goal
 

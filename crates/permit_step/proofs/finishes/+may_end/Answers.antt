@@ -4,9 +4,8 @@ use Rattle.hmsc_graph.specs.Nets.{IsNet, size_of}
 use Rattle.hmsc_graph.specs.Spots.{spot_of, goal_of}
 use Rattle.chart_term.specs.Rows.{part_of}
 use Rattle.chart_term.specs.Tables.{net_of, nodes_of, terms_over}
-use Rattle.chart_term.specs.Terms.{Tree}
+use Rattle.chart_term.specs.Terms.{Tree, Loop, row_of}
 use Rattle.hmsc_graph.specs.Walks.{Leads}
-use Rattle.chart_term.specs.Terms.{Loop, row_of}
 use Rattle.permit_step.specs.Endings.{AreEnding}
 use Rattle.permit_step.specs.Ready.{IsReady}
 use Rattle.term_laws.specs.Taking.{MayEnd, EndAll, EndOne, EndWalk}

@@ -1,7 +1,6 @@
 use Rattle.std.proofs.Common.{◌≡◌, ◌∙◌, ℕ, Bool, None, not, rules, sym, subst}
 use Rattle.event_log.specs.Logs.{HoldsEvent}
-use Rattle.msc_base.specs.Only.{Never}
-use Rattle.msc_base.specs.Only.{Only}
+use Rattle.msc_base.specs.Only.{Never, Only}
 use Rattle.event_log.specs.States.{Fed}
 use Rattle.trace_judge.proofs.Few.{held_few}
 use Rattle.trace_judge.proofs.Takings.{event_taken, all_taken}

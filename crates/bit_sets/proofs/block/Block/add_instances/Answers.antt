@@ -1,5 +1,4 @@
-use Rattle.std.proofs.Common.{subst}
-use Rattle.std.proofs.Common.{ℕ, List, OnOk}
+use Rattle.std.proofs.Common.{subst, ℕ, List, OnOk}
 use Rattle.bit_sets.specs.Blocks.{HasBitsOfBoth}
 use Rattle.bit_sets.proofs.BitFacts.{block_of_stored}
 use Rattle.bit_sets.proofs.SetFacts.{stored_then, instances_added}

@@ -1,6 +1,5 @@
-use Rattle.std.proofs.Common.{ap, ◌∙◌}
+use Rattle.std.proofs.Common.{ap, ◌∙◌, nat_eq}
 use Rattle.std.specs.Ordering.{ordering_index}
-use Rattle.std.proofs.Common.{nat_eq}
 use Rattle.chart_term.proofs.Comparing.{equal_by_order}
 use Rattle.chart_term.proofs.term.Term.same.Goals as goal
 

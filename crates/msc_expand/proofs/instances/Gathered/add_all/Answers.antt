@@ -1,8 +1,7 @@
 use Rattle.std.proofs.Common.{rules, ◌≡◌, length, Some, slice_get, refl, arith, ◌∙◌}
 use Rattle.std.proofs.lemmas.Option.{slice_get_read}
 use Rattle.msc_base.specs.NameTables.{with_name}
-use Rattle.msc_expand.specs.Outlines.{with_names}
-use Rattle.msc_expand.proofs.Walks.{name_step, names_step, names_on}
+use Rattle.msc_expand.proofs.Walks.{names_on}
 use Rattle.msc_expand.proofs.instances.Gathered.add_all.Goals as goal
 
 pub loop-name-preserved : goal.loop-name-preserved

@@ -2,8 +2,7 @@ use Rattle.std.proofs.Common.{rules, ◌≡◌, length, Some, slice_get, refl, a
 use Rattle.std.proofs.lemmas.Option.{slice_get_read}
 use Rattle.msc_tree.specs.declared.chart.Decl.{Decl}
 use Rattle.msc_base.specs.NameTables.{with_name}
-use Rattle.msc_expand.specs.Outlines.{with_names}
-use Rattle.msc_expand.proofs.Walks.{name_step, names_step, names_on}
+use Rattle.msc_expand.proofs.Walks.{name_step}
 use Rattle.msc_expand.proofs.instances.Gathered.add_decls.Goals as goal
 
 pub loop-decl-preserved : goal.loop-decl-preserved

@@ -1,4 +1,4 @@
-use Rattle.std.proofs.Common.{◌≡◌, drop, map, flat_map}
+use Rattle.std.proofs.Common.{◌≡◌, drop, map}
 use Rattle.msc_tree.specs.declared.chart.Decl.{Decl}
 use Rattle.msc_expand.specs.Outlines.{with_names}
 use Rattle.msc_expand.proofs.instances.Gathered.add_decls.Given as goal

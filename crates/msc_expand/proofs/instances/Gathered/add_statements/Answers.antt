@@ -1,9 +1,8 @@
 use Rattle.std.proofs.Common.{rules, ◌≡◌, length, Some, slice_get, refl, arith, ◌∙◌}
 use Rattle.std.proofs.lemmas.Option.{slice_get_read}
 use Rattle.msc_tree.specs.Views.{statement_view}
-use Rattle.msc_base.specs.NameTables.{with_name}
 use Rattle.msc_expand.specs.Outlines.{statement_names, with_names}
-use Rattle.msc_expand.proofs.Walks.{name_step, names_step, names_on}
+use Rattle.msc_expand.proofs.Walks.{names_step}
 use Rattle.msc_expand.proofs.instances.Gathered.add_statements.Goals as goal
 
 pub loop-statement-preserved : goal.loop-statement-preserved

@@ -1,4 +1,4 @@
-use Rattle.std.proofs.Common.{◌≡◌, drop, map, flat_map}
+use Rattle.std.proofs.Common.{◌≡◌, drop, flat_map}
 use Rattle.msc_tree.specs.Views.{statement_view}
 use Rattle.msc_expand.specs.Outlines.{statement_names, with_names}
 use Rattle.msc_expand.proofs.instances.Gathered.add_statements.Given as goal

@@ -1,11 +1,10 @@
 use Rattle.std.proofs.Common.{[], ◌≡◌, ◌∙◌, ◌∷◌, length, arith, rules, ap, sym, subst}
 use Rattle.chart_term.specs.Spreads.{touch_all}
 use Rattle.term_tables.specs.Unions.{IsUnion}
-use Rattle.term_tables.specs.NetTables.{spread_at}
+use Rattle.term_tables.specs.NetTables.{spread_at, AreStored, tables_of}
 use Rattle.chart_term.specs.Terms.{trees}
 use Rattle.term_tables.proofs.TouchFacts.{spreads-snoc}
 use Rattle.std.proofs.lemmas.List.{length_push}
-use Rattle.term_tables.specs.NetTables.{AreStored, tables_of}
 use Rattle.chart_term.specs.Tables.{net_count}
 use Rattle.term_tables.specs.declared.nets.StoredNet.{StoredNet}
 use Rattle.term_tables.proofs.Tabling.{tables_of-snoc, count_of, sized-snoc}
