@@ -100,6 +100,7 @@ impl<S: Store + Drop> Judge<S> {
             → IfErr result (IsJudgeFault form false bytes) }
         ensures again { IfSome self.fault (λ fault. result ≡ Err fault) }
     {
+        // Each field is named: what a verdict rests on is these five, and a further one doesn't compile here.
         let Judge {
             alloc,
             mut reader,

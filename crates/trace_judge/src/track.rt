@@ -181,6 +181,13 @@ impl<S: Store + Drop> Track<S> {
         ensures { (v : NetsValue) (x : Tree) (budget : ℕ) (events : List LoggedEvent) → Fed S.holds v x budget events self.now
             → IsLargest v x budget events result }
     {
-        self.largest
+        // Each field is named: what a verdict rests on is these four, and a further one doesn't compile here.
+        let Track {
+            set: _,
+            events: _,
+            ended: _,
+            largest,
+        } = self;
+        *largest
     }
 }
