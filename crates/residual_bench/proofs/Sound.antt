@@ -2,7 +2,7 @@
 use Rattle.std.specs.Prelude.{ℕ, ◌≡◌, ◌<◌, ◌==◌, ◌||◌, ◌&&◌, false, List, [], ◌∷◌, ◌++◌, Option, Some, None, length, refl}
 use Rattle.std.proofs.Common.{ap, sym, ◌∙◌, subst, arith}
 use Rattle.std.proofs.lemmas.Bool.Decides.{nat_tests}
-use Rattle.msc_base.specs.Patterns.{Mode, seq, par}
+use Rattle.msc_base.specs.Patterns.{Mode, seq}
 use Rattle.msc_base.specs.declared.label.Pair.{Pair}
 use Rattle.term_tables.specs.NetValues.{NetsValue}
 use Rattle.chart_term.specs.NormalForms.{join_all, choice_of, tie_of}
@@ -17,8 +17,8 @@ use Rattle.term_laws.proofs.SoundForms.{constructors_keep_soundness}
 use Rattle.term_laws.proofs.Keeping.{at_some}
 use Rattle.permit_step.proofs.SoundReady.{ready_by_soundness}
 use Rattle.trace_judge.specs.Sets.{IsSoundFor}
-use Rattle.residual_bench.specs.Charts.{labels, event, message, answer, exchange, ordered}
-use Rattle.residual_bench.proofs.Orders.{message_once, first_orders, second_orders, third_orders, exchange_once, exchange_orders, three_once, three_orders}
+use Rattle.residual_bench.specs.Charts.{labels, event, message, answer, exchange}
+use Rattle.residual_bench.proofs.Orders.{message_once, first_orders, second_orders, third_orders, exchange_once, exchange_orders}
 
 abbrev Sound : Tree → Type 0
 Sound x = IsSoundNode labels [] x
@@ -65,15 +65,6 @@ exchange_sound =
     not_self : (j : ℕ) → (((j == 0) && (j == 1)) || false) ≡ false
     not_self j = grind (arith, nat_tests)
 
-pub ordered_sound : Sound ordered
-ordered_sound =
-    constructors_keep_soundness.tied labels [] (join_all par (Event (event 0 0 6) ∷ Event (event 1 0 6) ∷ Event (event 2 0 7) ∷ [])) ((1, 2) ∷ []) tt
-    (constructors_keep_soundness.join labels [] par (Event (event 0 0 6) ∷ Event (event 1 0 6) ∷ Event (event 2 0 7) ∷ []) tt (event_sound (event 0 0 6) (omega arith), (event_sound (event 1 0 6) (omega arith), (event_sound (event 2 0 7) (omega arith), tt))))
-    ((tt, (tt, (tt, tt))), λ j p. (tt, (tt, (tt, tt)))) ((tt, (tt, (tt, tt))), λ j p s a. three_once j p s a) (λ j. not_self j) three_orders
-  where
-    not_self : (j : ℕ) → (((j == 1) && (j == 2)) || false) ≡ false
-    not_self j = grind (arith, nat_tests)
-
 -- what the code makes
 
 pub one_pair : (none some : List Pair) (a b : ℕ) (p : Pair) → none ≡ [] → some ≡ none ++ p ∷ [] → p.first ≡ a → p.second ≡ b → pairs_of some ≡ (a, b) ∷ []
@@ -95,10 +86,6 @@ tied_three m x y a b c k l n xs p q r s t u v = v ∙ ap (λ z. tie_of z p) (u �
 pub sound_exchange : (x y a b c : Tree) (xs : List Tree) → xs ≡ a ∷ b ∷ c ∷ [] → a ≡ Event (event 0 0 0) → b ≡ Event (event 1 1 1) → c ≡ answer
     → y ≡ join_all seq xs → x ≡ tie_of y ((0, 1) ∷ []) → Sound x
 sound_exchange x y a b c xs q r s t u v = subst Sound (sym (tied_three seq x y a b c _ _ _ xs ((0, 1) ∷ []) q r s t u v)) exchange_sound
-
-pub sound_ordered : (x y a b c : Tree) (xs : List Tree) → xs ≡ a ∷ b ∷ c ∷ [] → a ≡ Event (event 0 0 6) → b ≡ Event (event 1 0 6) → c ≡ Event (event 2 0 7)
-    → y ≡ join_all par xs → x ≡ tie_of y ((1, 2) ∷ []) → Sound x
-sound_ordered x y a b c xs q r s t u v = subst Sound (sym (tied_three par x y a b c _ _ _ xs ((1, 2) ∷ []) q r s t u v)) ordered_sound
 
 pub sound_event : (x : Tree) (n i a : ℕ) → x ≡ Event (event n i a) → a < labels → Sound x
 sound_event x n i a q l = subst Sound (sym q) (event_sound (event n i a) l)

@@ -4,7 +4,7 @@ ghost use Rattle.chart_term.specs.NormalForms.{tie_of};
 ghost use Rattle.chart_term.specs.Properties.{Each};
 ghost use Rattle.chart_term.specs.Terms.{Event as EventTree};
 ghost use Rattle.term_laws.specs.FullSoundness.{IsSoundNode};
-ghost use Rattle.residual_bench.specs.Charts.{labels, event, message, answer, exchange, ordered};
+ghost use Rattle.residual_bench.specs.Charts.{labels, event, message, answer, exchange};
 
 use crate::fault::Fault;
 use chart_term::{Term, TermList, choice, par, seq, tied};
@@ -205,19 +205,6 @@ pub(crate) fn exchanges(alloc: Global) -> Result<Term, NoMemory>
 {
     let body = exchange(alloc)?;
     endless(alloc, body)
-}
-
-/// Three actions in a coregion, two of them alike, of which one comes before the third.
-pub(crate) fn ordered(alloc: Global) -> Result<Term, NoMemory>
-    ensures { IfOk result (λ term. IsSoundNode labels [] term) }
-{
-    let first = event(alloc, 0, 0, ACTION)?;
-    let second = event(alloc, 1, 0, ACTION)?;
-    let third = event(alloc, 2, 0, OTHER_ACTION)?;
-    let parts = three(alloc, first, second, third)?;
-    let all = par(alloc, parts)?;
-    let term = tied_pair(alloc, all, 1, 2)?;
-    Ok(term)
 }
 
 /// An event of an instance, as a whole chart.
