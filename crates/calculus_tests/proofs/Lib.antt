@@ -1,3 +1,1 @@
 mod ReadyTerms
-mod SoundTerms
-mod TestFacts

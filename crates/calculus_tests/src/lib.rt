@@ -1,4 +1,4 @@
-//! What no clause says of the calculus: outside values of weights, walks, permission, steps and verdicts, each call once.
+//! What no clause says of the calculus: outside values of weights, walks, permission and steps, each call once.
 #![tactic(auto)]
 
 #[cfg(test)]
@@ -7,8 +7,6 @@ mod blocks;
 mod graphs;
 #[cfg(test)]
 mod labels;
-#[cfg(test)]
-mod ordering;
 #[cfg(test)]
 mod permission;
 #[cfg(test)]
@@ -19,5 +17,3 @@ mod steps;
 mod tables;
 #[cfg(test)]
 mod terms;
-#[cfg(test)]
-mod traces;

@@ -23,19 +23,12 @@ pub fn second_chart(alloc: Global, outlines: &[Outline]) -> Result<Option<Place>
     Ok(earliest)
 }
 
-/// Whether the name is none of the instances.
-fn is_other(table: &NameTable, name: &Name) -> bool
-    ensures { result ≡ is_stranger table.now name.now }
-{
-    !table.has(name.bytes())
-}
-
 /// Whether the far end is an instance that the chart lacks.
 fn is_other_end(table: &NameTable, far: &Far) -> bool
     ensures { result ≡ is_far_stranger table.now far.now }
 {
     match far {
-        Far::Instance(name) => is_other(table, name),
+        Far::Instance(name) => !table.has(name.bytes()),
         Far::Env => false,
         Far::Nobody => false,
     }
@@ -75,7 +68,7 @@ fn search_events(table: &NameTable, events: &[WovenEvent], so_far: Option<Place>
 fn has_other(table: &NameTable, names: &[Name]) -> bool
     ensures { result ≡ list_any (is_stranger table.now) names.now }
 {
-    names.iter().any(|name| is_other(table, name))
+    names.iter().any(|name| !table.has(name.bytes()))
 }
 
 /// The earliest place so far, or that of a shared list with a name that the chart lacks.

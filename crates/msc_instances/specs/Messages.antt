@@ -3,28 +3,13 @@
 use Rattle.std.specs.Prelude.{◌≡◌, ◌⊎◌, ℕ, Bool, false, ◌&&◌, List, [], ◌∷◌, ◌++◌, take, count_by, Option, Some, None, slice_get}
 use Rattle.msc_tree.specs.declared.event.Direction.{Direction}
 use Rattle.msc_tree.specs.declared.event.Direction.TheVariants.{Out, In}
-use Rattle.msc_tree.specs.Directions.{is_direction}
+use Rattle.msc_tree.specs.Directions.{far_name, is_direction, way_by}
 use Rattle.std.specs.Str.{bytes_eq}
 use Rattle.msc_base.specs.declared.label.Kind.{Kind}
-use Rattle.msc_base.specs.declared.label.Kind.TheVariants.{Output, Input}
+use Rattle.msc_base.specs.declared.label.Kind.TheVariants.{Input}
 use Rattle.msc_base.specs.declared.place.Place.{Place}
-use Rattle.msc_tree.specs.declared.event.Target.{Target}
-use Rattle.msc_tree.specs.declared.event.Target.TheVariants.{Nobody, Env, Instance, Gate}
 use Rattle.msc_tree.specs.Labels.{list_text}
 use Rattle.msc_instances.specs.Entries.{PlacedEvent}
-
--- the instance at the far end
-abbrev pub far_name : Target → List ℕ
-far_name (Instance name) = name
-far_name Nobody = []
-far_name (Env gate) = []
-far_name (Gate reference gate) = []
-
--- the direction of an output to an instance and of an input from one, and none for other events
-abbrev pub way_by : Kind → Target → Option Direction
-way_by Output (Instance name) = Some Out
-way_by Input (Instance name) = Some In
-way_by _ _ = None
 
 abbrev pub way : PlacedEvent → Option Direction
 way e = way_by e.event.kind e.event.target

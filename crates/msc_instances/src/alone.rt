@@ -8,9 +8,9 @@ ghost use Rattle.msc_instances.specs.Marks.{LeadsPairs};
 ghost use Rattle.msc_instances.specs.Messages.{IsUnmatched, way};
 
 use crate::PlacedEvent;
-use crate::matching::way_of;
 use item_order::Edge;
 use msc_base::{NoMemory, Place, earlier_if};
+use msc_tree::way_of;
 use std::alloc::Global;
 
 /// For each event whether a pair has it.

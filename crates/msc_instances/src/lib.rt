@@ -5,7 +5,6 @@ mod again;
 mod alone;
 mod body;
 mod columns;
-mod copying;
 mod events;
 pub mod laws;
 mod levels;

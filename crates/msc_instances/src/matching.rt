@@ -3,13 +3,13 @@
 ghost use Rattle.std.specs.Prelude.{◌≡◌, ◌++◌, IfOk, OnOk, Some, map};
 ghost use Rattle.msc_instances.specs.EventViews.{event_view};
 ghost use Rattle.msc_instances.specs.Marks.{AreMarked, IsMark, KeepsNumbers, LeadsPairs, edges_from, end_edges, key_view};
-ghost use Rattle.msc_instances.specs.Messages.{far_name, key_of, or_empty, way, way_by};
+ghost use Rattle.msc_instances.specs.Messages.{key_of, or_empty, way};
 
 use crate::PlacedEvent;
 use indexmap::IndexSet;
 use item_order::{Edge, pair_up};
-use msc_base::{Kind, Name, NoMemory, number_of};
-use msc_tree::{Direction, RawEvent, Target, label_text};
+use msc_base::{Name, NoMemory, number_of};
+use msc_tree::{Direction, far_bytes, label_text, way_of};
 use std::alloc::Global;
 
 /// What an output and the input that takes it in have in common. The pairing name is empty where there is none.
@@ -33,29 +33,6 @@ struct Mark {
 struct Marks {
     held: Vec<Option<Mark>>,
     classes: u32,
-}
-
-/// The direction of an output to an instance and of an input from one, and none for other events.
-pub fn way_of(event: &RawEvent) -> Option<Direction>
-    ensures { result ≡ way_by event.now.kind event.now.target }
-{
-    match (event.kind, &event.target) {
-        (Kind::Output, Target::Instance(_)) => Some(Direction::Out),
-        (Kind::Input, Target::Instance(_)) => Some(Direction::In),
-        _ => None,
-    }
-}
-
-/// The name of the far end, and no bytes where that is no instance.
-fn far_bytes(target: &Target) -> &[u8]
-    ensures { result.now ≡ far_name target.now }
-{
-    match target {
-        Target::Instance(name) => name.bytes(),
-        Target::Nobody => &[],
-        Target::Env(_) => &[],
-        Target::Gate(_, _) => &[],
-    }
 }
 
 /// The bytes of the name, and none where there is no name.

@@ -12,13 +12,12 @@ ghost use Rattle.msc_tree.specs.Views.{chart_view};
 
 use crate::alone::first_unmatched;
 use crate::columns::woven_order;
-use crate::copying::copy_event;
 use crate::matching::pairs_of;
 use crate::not_built::first_not_built;
 use crate::{Body, EventNode, Item, PlacedEvent, chart_events};
 use item_order::{Edge, Sorted};
 use msc_base::{Items, Name, Names, NoMemory, Pair, PairList, Place, copy_names};
-use msc_tree::RawChart;
+use msc_tree::{RawChart, copy_event};
 use std::alloc::Global;
 
 /// Why a chart can't be woven.

@@ -1,5 +1,9 @@
 -- Which way messages go.
-use Rattle.std.specs.Prelude.{Bool, true, false}
+use Rattle.std.specs.Prelude.{ℕ, List, [], Bool, true, false, Option, Some, None}
+use Rattle.msc_base.specs.declared.label.Kind.{Kind}
+use Rattle.msc_base.specs.declared.label.Kind.TheVariants.{Output, Input}
+use Rattle.msc_tree.specs.declared.event.Target.{Target}
+use Rattle.msc_tree.specs.declared.event.Target.TheVariants.{Nobody, Env, Instance, Gate}
 use Rattle.msc_tree.specs.declared.event.Direction.{Direction}
 use Rattle.msc_tree.specs.declared.event.Direction.TheVariants.{Out, In}
 
@@ -9,3 +13,16 @@ is_direction Out Out = true
 is_direction In In = true
 is_direction Out In = false
 is_direction In Out = false
+
+-- the instance at the far end
+abbrev pub far_name : Target → List ℕ
+far_name (Instance name) = name
+far_name Nobody = []
+far_name (Env gate) = []
+far_name (Gate reference gate) = []
+
+-- the direction of an output to an instance and of an input from one, and none for other events
+abbrev pub way_by : Kind → Target → Option Direction
+way_by Output (Instance name) = Some Out
+way_by Input (Instance name) = Some In
+way_by _ _ = None

@@ -1,7 +1,7 @@
 //! Single events as they are written in a chart, with gates and orders, and which way a message goes.
 
 ghost use Rattle.std.specs.Prelude.{◌≡◌};
-ghost use Rattle.msc_tree.specs.Directions.{is_direction};
+ghost use Rattle.msc_tree.specs.Directions.{far_name, is_direction, way_by};
 
 use msc_base::{Items, Kind, Name, Names, Place, Text, Words};
 
@@ -62,5 +62,28 @@ impl Direction {
             (self, other),
             (Direction::Out, Direction::Out) | (Direction::In, Direction::In)
         )
+    }
+}
+
+/// The direction of an output to an instance and of an input from one, and none for other events.
+pub fn way_of(event: &RawEvent) -> Option<Direction>
+    ensures { result ≡ way_by event.now.kind event.now.target }
+{
+    match (event.kind, &event.target) {
+        (Kind::Output, Target::Instance(_)) => Some(Direction::Out),
+        (Kind::Input, Target::Instance(_)) => Some(Direction::In),
+        _ => None,
+    }
+}
+
+/// The name of the far end, and no bytes where that is no instance.
+pub fn far_bytes(target: &Target) -> &[u8]
+    ensures { result.now ≡ far_name target.now }
+{
+    match target {
+        Target::Instance(name) => name.bytes(),
+        Target::Nobody => &[],
+        Target::Env(_) => &[],
+        Target::Gate(_, _) => &[],
     }
 }

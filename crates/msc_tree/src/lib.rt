@@ -4,6 +4,7 @@
 #![tactic(auto)]
 
 mod chart;
+mod copying;
 mod event;
 mod expression;
 mod graph;
@@ -12,7 +13,8 @@ mod reference;
 mod statement;
 
 pub use chart::{Content, Cover, Decl, DeclList, Heading, RawChart, RawDocument};
-pub use event::{Direction, RawEvent, RawEventList, Target};
+pub use copying::copy_event;
+pub use event::{Direction, RawEvent, RawEventList, Target, far_bytes, way_of};
 pub use expression::RefExpr;
 pub use graph::{NodeKind, RawGraph, RawLine};
 pub use labelling::{label_of, label_text};

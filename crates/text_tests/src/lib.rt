@@ -1,9 +1,11 @@
 //! What no clause says of the readers of documents and logs, and no row of a table shows: tokens with their places, places of
-//! labels and gates, the weaving of charts, and logs in pieces.
+//! labels and gates, orders of items, the weaving of charts, and logs in pieces.
 #![tactic(auto)]
 
 #[cfg(test)]
 mod events;
+#[cfg(test)]
+mod ordering;
 #[cfg(test)]
 mod places;
 #[cfg(test)]

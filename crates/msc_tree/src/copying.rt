@@ -1,9 +1,9 @@
-//! Copies of written names and events, which a body owns: for `weaving` alone.
+//! Copies of events: for the bodies that are woven of them.
 
 ghost use Rattle.std.specs.Prelude.{◌≡◌, IfOk};
 
+use crate::{RawEvent, Target};
 use msc_base::{Items, NoMemory, Text, Words, copy_name, copy_names};
-use msc_tree::{RawEvent, Target};
 use std::alloc::Global;
 
 /// A copy of the texts.

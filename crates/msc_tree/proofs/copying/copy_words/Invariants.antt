@@ -1,5 +1,5 @@
 use Rattle.std.proofs.Common.{◌≡◌, take}
-use Rattle.msc_instances.proofs.copying.copy_words.Given as goal
+use Rattle.msc_tree.proofs.copying.copy_words.Given as goal
 
 abbrev pub invariant-loop-word : goal.invariant-loop-word
 invariant-loop-word l = l.copied ≡ take l.word-index l.words
