@@ -1,0 +1,79 @@
+#!/usr/bin/env python3
+"""budgets.py: whether the repository keeps the budgets of CONTRIBUTING.md, and whether the links of its pages lead somewhere.
+
+Run it at the top. It prints what is out of bounds, and ends with status 1 where something is. It takes a second and proves nothing.
+"""
+import glob
+import os
+import re
+import sys
+
+FUNCTIONS, LINES, CHAIN, EDITS, ALL_EDITS, TESTS = 100, 800, 8, 8, 80, 40
+TEST_CRATES = ("text_tests", "calculus_tests", "command_tests")
+
+
+def needs():
+    """The crates of this repository that each crate names."""
+    named = {}
+    for line in open("crates.txt"):
+        line = line.split("#")[0].strip()
+        if ":" in line:
+            crate, libraries = line.split(":", 1)
+            named[crate.split()[0]] = libraries.split()
+    return named
+
+
+def files(crate, endings):
+    """The crate's files with one of these endings, without what is made."""
+    for folder in ("src", "specs", "proofs"):
+        for ending in endings:
+            yield from glob.glob(f"crates/{crate}/{folder}/**/*{ending}", recursive=True)
+
+
+def depth(crate, named, known):
+    if crate not in known:
+        known[crate] = 1 + max([depth(d, named, known) for d in named[crate] if d in named], default=0)
+    return known[crate]
+
+
+def of_crate(crate, libraries):
+    """What of a crate is out of bounds."""
+    texts = {path: open(path).read() for path in files(crate, (".rt", ".antt"))}
+    code = [text for path, text in texts.items() if path.endswith(".rt")]
+    functions = sum(len(re.findall(r"^\s*(?:pub(?:\([a-z]+\))? )?fn ", text, re.M)) for text in code)
+    tests = sum(text.count("#[test]") for text in code)
+    edits = len(glob.glob(f"crates/{crate}/must-fail/*.edit"))
+    if functions > FUNCTIONS:
+        yield f"{crate}: {functions} functions"
+    if tests > (TESTS if crate in TEST_CRATES else 0):
+        yield f"{crate}: {tests} tests"
+    if edits > EDITS:
+        yield f"{crate}: {edits} must-fail edits"
+    for path, text in texts.items():
+        if text.count("\n") > LINES:
+            yield f"{path}: {text.count(chr(10))} lines"
+    for library in libraries:
+        if not any(re.search(rf"\b{library}(::|;)|Rattle\.{library}\b", text) for text in texts.values()):
+            yield f"crates.txt: {crate} doesn't name {library}"
+
+
+def of_pages():
+    """Links that lead nowhere."""
+    for page in glob.glob("*.md") + glob.glob("docs/*.md") + glob.glob("*/README.md") + glob.glob("crates/*/README.md"):
+        for link in re.findall(r"\]\(([^)#:]+)(?:#[^)]*)?\)", open(page).read()):
+            if not os.path.exists(os.path.join(os.path.dirname(page), link)):
+                yield f"{page}: no {link}"
+
+
+def main():
+    named, known = needs(), {}
+    found = [line for crate in named for line in of_crate(crate, named[crate])]
+    found += [f"{crate}: a chain of {depth(crate, named, known)} crates" for crate in named if depth(crate, named, known) > CHAIN]
+    edits = len(glob.glob("crates/*/must-fail/*.edit"))
+    found += [f"{edits} must-fail edits in all"] if edits > ALL_EDITS else []
+    found += list(of_pages())
+    print("\n".join(found) or "the budgets are kept")
+    return 1 if found else 0
+
+
+sys.exit(main())
