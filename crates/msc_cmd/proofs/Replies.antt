@@ -20,6 +20,8 @@ use Rattle.msc_cmd.specs.declared.log_intake.Log.{Log as TheLog}
 use Rattle.msc_cmd.specs.declared.log_intake.Log.TheVariants.{Events, Refused}
 use Rattle.msc_cmd.specs.Outcomes.{LogOutcome, EntryOutcome, DocumentOutcome, refused, of_charts, ChartOutcome, no_chart, of_chart, Says, CheckAnswer, JudgeAnswer, FilesOutcome, IfTold, IsTheOne, RequestOutcome, IsOutcome, no_request, of_request}
 use Rattle.msc_cmd.specs.Failures.{FailedAt, HasChart, CannotRead, CannotJudge}
+use Rattle.msc_cmd.specs.Openings.{IsOpened}
+use Rattle.msc_cmd.specs.declared.opening.Opened.TheVariants.{Told}
 use Rattle.msc_cmd.proofs.LogOutcomes.{one_entry, entry_one, faulty_one}
 
 -- the one outcome where the document is refused, whatever is answered of its charts
@@ -224,3 +226,12 @@ fault_told form json chart bytes fault (Err e) s t is = tt
 pub told_log : (form : LogForm) (bytes : List ℕ) (log : TheLog) → IsTheLog form bytes log → IsToldLog log
 told_log form bytes (Events events) h = tt
 told_log form bytes (Refused fault) h = h.0
+
+-- ---- a document that was opened
+
+pub told_outcome : (json : Bool) (files : Option Files) (before now : ℕ) (broken : Bool) (last : Option (List ℕ)) (d : List ℕ) (x : Reply) (Answer : Files → List PlainChart → ℕ → List ℕ → Type 0) → IsOpened json files before now broken last d (Told x)
+    → x.status < 7 → IfTold files (λ f. IsTheOne (DocumentOutcome json f d (Answer f)) x.status x.text)
+told_outcome json files before now broken last d x Answer opened lt = elim opened [
+    | inl t ↦ refused_told {E = ℕ} json files d t.document.bytes Answer t.rule t.place (Ok x) t.document.held t.document.is t.status t.text lt
+    | inr t ↦ absurd (omega (arith, lt, t.status))
+  ]

@@ -8,3 +8,4 @@ pub mod Outcomes
 pub mod Reading
 pub mod Requests
 pub mod Verdicts
+pub mod Openings

@@ -9,12 +9,12 @@ ghost use Rattle.msc_cmd.specs.Failures.{FailedAt, CannotRead};
 ghost use Rattle.msc_cmd.specs.LogIntakes.{IsTheLog, IsToldLog};
 ghost use Rattle.msc_cmd.specs.Outcomes.{EntryOutcome, FilesOutcome, IfTold, IsTheOne, LogOutcome, status_of};
 
-use crate::document::{Document, chart_of};
+use crate::document::chart_of;
 use crate::entry::ReadFault;
 use crate::judge::judge;
 use crate::log_intake::Log;
 use crate::log_reading::take_log;
-use crate::reading::take_document;
+use crate::opening::{Opened, open_document};
 use event_log::LogForm;
 use judge_report::{Fault, fault_text, verdict_text};
 use msc_base::{NoMemory, Text, Verdict};
@@ -122,16 +122,9 @@ pub fn judge_files<S: Shelf>(
     ensures outcome { IfOk result (λ r. r.status < 7 → IfTold (S.files shelf.old) (λ f. IsTheOne (FilesOutcome style.form style.json f document.now name.now log.now) r.status r.text)) }
     ensures failed { IfOk result (λ r. r.status ≡ 7 → CannotRead style.json (S.files shelf.old) (S.faults shelf.old) (S.faults shelf.new) (S.broken shelf.new) (S.last shelf.new) document.now name.now log.now r.text) }
 {
-    let read = match take_document(alloc, shelf, document) {
-        Ok(read) => read,
-        Err(ReadFault::Failed) => return make_reply(alloc, 7, &Fault::DocumentRead, style.json),
-        Err(ReadFault::NoMemory) => return Err(NoMemory),
-    };
-    let accepted = match read {
-        Document::Charts(accepted) => accepted,
-        Document::Refused(rule, place) => {
-            return make_reply(alloc, 4, &Fault::Document { rule, place }, style.json);
-        }
+    let accepted = match open_document(alloc, document, style.json, shelf)? {
+        Opened::Accepted(accepted) => accepted,
+        Opened::Told(reply) => return Ok(reply),
     };
     let Some(chart) = chart_of(&accepted, name.bytes()) else {
         return make_reply(alloc, 4, &Fault::NoChart, style.json);

@@ -15,6 +15,7 @@ mod judge;
 mod listing;
 mod log_intake;
 mod log_reading;
+mod opening;
 mod printing;
 mod reading;
 mod requests;

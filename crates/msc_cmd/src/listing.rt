@@ -7,9 +7,7 @@ ghost use Rattle.msc_cmd.specs.Failures.{CannotOpen};
 ghost use Rattle.msc_cmd.specs.Outcomes.{ChartOutcome, DocumentOutcome, IfTold, IsTheOne, ListAnswer, Says};
 
 use crate::answer::{Reply, make_reply};
-use crate::document::Document;
-use crate::entry::ReadFault;
-use crate::reading::take_document;
+use crate::opening::{Opened, open_document};
 use judge_report::{Fault, chart_list_text, instance_list_text};
 use msc_base::{NoMemory, Text};
 use msc_expand::Accepted;
@@ -68,15 +66,8 @@ pub fn list_file<S: Shelf>(
     ensures outcome { IfOk result (λ r. r.status < 7 → IfTold (S.files shelf.old) (λ f. IsTheOne (DocumentOutcome json f document.now (ListAnswer json chart.now)) r.status r.text)) }
     ensures failed { IfOk result (λ r. r.status ≡ 7 → CannotOpen json (S.faults shelf.old) (S.faults shelf.new) (S.broken shelf.new) (S.last shelf.new) document.now r.text) }
 {
-    let read = match take_document(alloc, shelf, document) {
-        Ok(read) => read,
-        Err(ReadFault::Failed) => return make_reply(alloc, 7, &Fault::DocumentRead, json),
-        Err(ReadFault::NoMemory) => return Err(NoMemory),
-    };
-    match read {
-        Document::Charts(accepted) => list_accepted(alloc, &accepted, chart, json),
-        Document::Refused(rule, place) => {
-            make_reply(alloc, 4, &Fault::Document { rule, place }, json)
-        }
+    match open_document(alloc, document, json, shelf)? {
+        Opened::Accepted(accepted) => list_accepted(alloc, &accepted, chart, json),
+        Opened::Told(reply) => Ok(reply),
     }
 }
