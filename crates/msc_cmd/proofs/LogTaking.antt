@@ -1,21 +1,19 @@
 -- Taking a log piece by piece.
-use Rattle.std.proofs.Common.{◌≡◌, ◌≢◌, ◌<◌, ◌≤◌, ◌+◌, ◌⊎◌, inl, inr, ℕ, zero, suc, Bool, true, false, List, [], ◌∷◌, ◌++◌, length, take, arith, sym, refl, ap, ◌∙◌, subst, Option, Some, None, append-nil, append_assoc, length-append, slice_get}
-use Rattle.outside.specs.Shelves.{Files, MovesKnown, Opens}
-use Rattle.msc_base.specs.declared.limits.TheConstants.Limits.{LOG_BYTES}
+use Rattle.std.proofs.Common.{◌≡◌, ◌≢◌, ◌<◌, ◌≤◌, ◌+◌, ◌⊎◌, inl, inr, ℕ, zero, suc, Bool, true, false, List, [], ◌∷◌, ◌++◌, length, sym, refl, ap, ◌∙◌, subst, Option, Some, None, append-nil, length-append, slice_get}
+use Rattle.outside.specs.Shelves.{Files, Opens}
 use Rattle.event_log.specs.Logs.{LogOf, HoldsEvent}
 use Rattle.msc_base.specs.Only.{Never, Only}
-use Rattle.event_log.specs.States.{LogState, Fed, HoldsAt, IsGoing, IsAnswer, IsFaultOf}
+use Rattle.event_log.specs.States.{LogState, Fed, IsAnswer, IsFaultOf}
 use Rattle.event_log.specs.declared.event.LineEvent.{LineEvent}
 use Rattle.event_log.specs.declared.event.LogFault.{LogFault}
 use Rattle.event_log.specs.declared.event.LogFault.TheVariants as fault
 use Rattle.event_log.specs.declared.event.LogForm.{LogForm}
-use Rattle.msc_cmd.specs.LogIntakes.{HoldsFirst, HasFed, HasTakenLog, IsReadingLog, IsOnlyLog, IsTheLog, IsLogOf, IsStep}
+use Rattle.msc_cmd.specs.LogIntakes.{HoldsFirst, HasFed, HasTakenLog, IsReadingLog, IsOnlyLog, IsTheLog, IsLogOf}
 use Rattle.msc_cmd.specs.Reading.{HasRead}
 use Rattle.msc_cmd.specs.Intakes.{IsHeld}
 use Rattle.msc_cmd.specs.declared.log_intake.Log.{Log}
 use Rattle.msc_cmd.specs.declared.log_intake.Log.TheVariants.{Refused}
 use Rattle.msc_cmd.specs.declared.log_intake.LogIntake.{LogIntake}
-use Rattle.msc_cmd.specs.declared.log_reading.Step.TheVariants.{More}
 
 -- nothing has been taken
 pub nothing_taken : (form : LogForm) (intake : LogIntake) → intake.events.items ≡ [] → Fed form [] 0 intake.reader → intake.reader.fault ≡ None → intake.reader.finished ≡ false → HasTakenLog form [] intake
@@ -93,53 +91,12 @@ refused_log form b (fault.LongLine line) other h = (tt, (h.events, record { is =
 refused_log form b (fault.LogLimit line) other h = (tt, (h.events, record { is = h.log; alone = h.alone }))
 refused_log form b (fault.Version line) other h = (tt, (h.events, record { is = h.log; alone = h.alone }))
 
--- a reader that goes on without a fault has counted the bytes
-pub counted : (form : LogForm) (b : List ℕ) (n : ℕ) (s : LogState) → s.fault ≡ None → s.finished ≡ false → Fed form b n s → IsGoing form b n s
-counted form b n s faultless goes_on h = subst (λ y. HoldsAt y false form b n s) faultless (subst (λ y. HoldsAt s.fault y form b n s) goes_on h)
-
-taken_count : (form : LogForm) (b : List ℕ) (intake : LogIntake) → HasTakenLog form b intake → (intake.reader.count ≡ length b) × (intake.reader.count ≤ LOG_BYTES)
-taken_count form b intake h = let going = counted form b (length intake.events.items) intake.reader h.has.faultless h.goes_on h.has.fed in (going.count_is, going.within)
-
--- the end of the entry
-pub read_end : (form : LogForm) (files : Option Files) (name : List ℕ) (rest left : Option (List ℕ)) (old new : List ℕ) (intake : LogIntake) → MovesKnown 0 rest left old new → 0 < length new
-    → IsReadingLog form files name rest intake → IsReadingLog form files name (Some []) intake
-read_end form files name rest left old new intake moves some h = record { bytes = h.bytes; taken = h.taken; held = held files rest left moves h.held }
-  where
-    held : (f : Option Files) (r l : Option (List ℕ)) → MovesKnown 0 r l old new → HasRead f name r h.bytes → HasRead f name (Some []) h.bytes
-    held None r l m k = tt
-    held (Some f) None l m k = absurd k
-    held (Some f) (Some r) None m k = absurd m
-    held (Some f) (Some r) (Some l) m k = k ∙ ap (λ (bs : List ℕ). Some (h.bytes ++ bs)) (m.moved ∙ m.end refl some)
-
--- a piece of the entry
-pub read_piece : (form : LogForm) (files : Option Files) (name : List ℕ) (rest left : Option (List ℕ)) (n : ℕ) (old new prefix : List ℕ) (before after : LogIntake) → MovesKnown n rest left old new → prefix ≡ take n new → 0 < length prefix
-    → ((bytes : List ℕ) → HasTakenLog form bytes before → HasTakenLog form (bytes ++ prefix) after) → IsReadingLog form files name rest before → IsStep form files name left before.reader.count after More
-read_piece form files name rest left n old new prefix before after moves cut some takes h =
-    let taken = takes h.bytes h.taken in
-    let was = taken_count form h.bytes before h.taken in
-    let now = taken_count form (h.bytes ++ prefix) after taken in
-    (omega (arith, was.0, now.0, length-append h.bytes prefix, some), now.1, record { bytes = h.bytes ++ prefix; taken = taken; held = held files rest left moves h.held })
-  where
-    held : (f : Option Files) (r l : Option (List ℕ)) → MovesKnown n r l old new → HasRead f name r h.bytes → HasRead f name l (h.bytes ++ prefix)
-    held None r l m k = tt
-    held (Some f) None l m k = absurd k
-    held (Some f) (Some r) None m k = absurd m
-    held (Some f) (Some r) (Some l) m k =
-        k ∙ ap (λ (bs : List ℕ). Some (h.bytes ++ bs)) (m.moved ∙ ap (λ (bs : List ℕ). bs ++ l) (sym cut)) ∙ ap (λ (bs : List ℕ). Some bs) (sym (append_assoc h.bytes prefix l))
-
 -- a piece in which a fault is decided
-pub read_fault : (form : LogForm) (files : Option Files) (name : List ℕ) (rest left : Option (List ℕ)) (n : ℕ) (old new prefix : List ℕ) (before : LogIntake) (x : LogFault) → MovesKnown n rest left old new → prefix ≡ take n new
-    → (x ≡ fault.NoMemory → ⊥) → ((bytes : List ℕ) → HasTakenLog form bytes before → (more : List ℕ) → IsAnswer form false ((bytes ++ prefix) ++ more) (Some x))
-    → IsReadingLog form files name rest before → IsLogOf form files name (Refused x)
-read_fault form None name rest left n old new prefix before x moves cut other answers h =
-    record { bytes = (h.bytes ++ prefix) ++ []; held = tt; is = refused_log form ((h.bytes ++ prefix) ++ []) x other (answers h.bytes h.taken []) }
-read_fault form (Some f) name None left n old new prefix before x moves cut other answers h = absurd h.held
-read_fault form (Some f) name (Some r) None n old new prefix before x moves cut other answers h = absurd moves
-read_fault form (Some f) name (Some r) (Some l) n old new prefix before x moves cut other answers h = record {
-  bytes = (h.bytes ++ prefix) ++ l;
-  held = h.held ∙ ap (λ (bs : List ℕ). Some (h.bytes ++ bs)) (moves.moved ∙ ap (λ (bs : List ℕ). bs ++ l) (sym cut)) ∙ ap (λ (bs : List ℕ). Some bs) (sym (append_assoc h.bytes prefix l));
-  is = refused_log form ((h.bytes ++ prefix) ++ l) x other (answers h.bytes h.taken l);
-}
+pub read_fault : (form : LogForm) (files : Option Files) (name : List ℕ) (left : Option (List ℕ)) (got : List ℕ) (x : LogFault) → (x ≡ fault.NoMemory → ⊥) → ((more : List ℕ) → IsAnswer form false (got ++ more) (Some x)) → HasRead files name left got
+    → IsLogOf form files name (Refused x)
+read_fault form None name left got x other answers h = record { bytes = got ++ []; held = tt; is = refused_log form (got ++ []) x other (answers []) }
+read_fault form (Some f) name None got x other answers h = absurd h
+read_fault form (Some f) name (Some l) got x other answers h = record { bytes = got ++ l; held = h; is = refused_log form (got ++ l) x other (answers l) }
 
 -- the log of an entry that has been read to its end
 pub log_end : (form : LogForm) (files : Option Files) (name : List ℕ) (intake : LogIntake) (log : Log) → ((bytes : List ℕ) → HasTakenLog form bytes intake → IsTheLog form bytes log)

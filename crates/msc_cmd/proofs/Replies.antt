@@ -232,6 +232,6 @@ told_log form bytes (Refused fault) h = h.0
 pub told_outcome : (json : Bool) (files : Option Files) (before now : ℕ) (broken : Bool) (last : Option (List ℕ)) (d : List ℕ) (x : Reply) (Answer : Files → List PlainChart → ℕ → List ℕ → Type 0) → IsOpened json files before now broken last d (Told x)
     → x.status < 7 → IfTold files (λ f. IsTheOne (DocumentOutcome json f d (Answer f)) x.status x.text)
 told_outcome json files before now broken last d x Answer opened lt = elim opened [
-    | inl t ↦ refused_told {E = ℕ} json files d t.document.bytes Answer t.rule t.place (Ok x) t.document.held t.document.is t.status t.text lt
-    | inr t ↦ absurd (omega (arith, lt, t.status))
-  ]
+  | inl t ↦ refused_told {E = ℕ} json files d t.document.bytes Answer t.rule t.place (Ok x) t.document.held t.document.is t.status t.text lt
+  | inr t ↦ absurd (omega (arith, lt, t.status))
+]

@@ -6,9 +6,6 @@ use msc_base::{Limits, NoMemory, Place};
 use msc_tokens::{LexFault, Lexer, place_behind};
 use std::alloc::Global;
 
-/// How many bytes a read asks for at most.
-pub const PIECE_BYTES: usize = 4_096;
-
 /// A document as far as it has been read.
 #[derive(Drop)]
 pub struct Intake {
@@ -27,7 +24,7 @@ pub struct Intake {
 impl Intake {
     ghost use Rattle.std.specs.Prelude.{◌≡◌, ◌≤◌, ◌+◌, ◌++◌, [], ℕ, List, length, IfOk, OnOk};
     ghost use Rattle.msc_base.specs.declared.limits.TheConstants.Limits.{DOCUMENT_BYTES};
-    ghost use Rattle.msc_cmd.specs.declared.intake.TheConstants.{PIECE_BYTES};
+    ghost use Rattle.msc_cmd.specs.declared.entry.TheConstants.{PIECE_BYTES};
     ghost use Rattle.msc_cmd.specs.Intakes.{HasTaken};
 
     /// A document of which nothing has been read.

@@ -6,12 +6,11 @@ ghost use Rattle.outside.specs.Shelves.{Files};
 ghost use Rattle.event_log.specs.declared.event.LogForm.{LogForm};
 ghost use Rattle.msc_cmd.specs.LogIntakes.{IsLogOf, IsReadingLog, IsStep};
 
-use crate::entry::{ReadFault, start_entry};
-use crate::intake::PIECE_BYTES;
+use crate::entry::{PIECE_BYTES, ReadFault, read_piece, start_entry};
 use crate::log_intake::{Log, LogIntake};
 use event_log::{LogFault, LogForm};
 use msc_base::{NoMemory, Text};
-use outside::{Failed, Shelf};
+use outside::Shelf;
 use std::alloc::Global;
 
 /// What came of one read.
@@ -45,15 +44,11 @@ fn take_more<S: Shelf>(
     ensures broken { IsErrOf result ReadFault.Failed → S.broken shelf.new ≡ true }
 {
     let mut buf = [0u8; PIECE_BYTES];
-    let count = match shelf.read(&mut buf) {
-        Ok(count) => count,
-        Err(Failed) => return Err(ReadFault::Failed),
-    };
-    if count == 0 {
+    let piece = read_piece(shelf, &mut buf)?;
+    if piece.is_empty() {
         return Ok(Step::End);
     }
-    let (prefix, _) = buf.split_at(count);
-    match intake.take(prefix) {
+    match intake.take(piece) {
         Ok(()) => Ok(Step::More),
         Err(LogFault::NoMemory) => Err(ReadFault::NoMemory),
         Err(fault) => Ok(Step::Fault(fault)),

@@ -7,10 +7,10 @@ ghost use Rattle.msc_cmd.specs.Intakes.{IsReading, HoldsDocument, IsDocumentOf, 
 
 use crate::document::{Document, settle};
 use crate::document_text::{DocumentText, text_of};
-use crate::entry::{ReadFault, start_entry};
-use crate::intake::{Intake, PIECE_BYTES};
+use crate::entry::{PIECE_BYTES, ReadFault, read_piece, start_entry};
+use crate::intake::Intake;
 use msc_base::{Limits, NoMemory, Text};
-use outside::{Failed, Shelf};
+use outside::Shelf;
 use std::alloc::Global;
 
 /// Reads once, and takes what came. 0 is the end of the entry.
@@ -31,13 +31,9 @@ fn take_more<S: Shelf>(shelf: &mut S, name: &Text, intake: &mut Intake) -> Resul
     ensures broken { IsErrOf result ReadFault.Failed → S.broken shelf.new ≡ true }
 {
     let mut buf = [0u8; PIECE_BYTES];
-    let count = match shelf.read(&mut buf) {
-        Ok(count) => count,
-        Err(Failed) => return Err(ReadFault::Failed),
-    };
-    let (prefix, _) = buf.split_at(count);
-    intake.take(prefix)?;
-    Ok(count)
+    let piece = read_piece(shelf, &mut buf)?;
+    intake.take(piece)?;
+    Ok(piece.len())
 }
 
 #[tactic(auto, using(crate::proofs::Taking::holds_end, crate::proofs::Taking::holds_over))]
