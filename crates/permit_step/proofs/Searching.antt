@@ -6,7 +6,8 @@ use Rattle.chart_term.specs.Tables.{Tables}
 use Rattle.chart_term.specs.Terms.{TermEvent, Tree, Nil, Event, has, ◌∪◌}
 use Rattle.chart_term.proofs.Instances.{has_union}
 use Rattle.permit_step.specs.Children.{child}
-use Rattle.term_laws.specs.Listing.{IsAmong, set_weight}
+use Rattle.term_laws.specs.Listing.{set_weight}
+use Rattle.msc_base.specs.Lists.{IsAmong}
 use Rattle.term_laws.specs.Permission.{permits_of}
 use Rattle.permit_step.specs.Ready.{IsReady, AreReadyTables}
 use Rattle.permit_step.specs.Searches.{child_count, put_all, IsResult, IsFinding, IsTally, IsBounded, Gains, Gathers, GathersBelow, AddsOne, IsNoEvent, IsTaken}
@@ -30,13 +31,13 @@ each_map : (P Q : Tree → Type 0) → ((x : Tree) → P x → Q x) → (xs : Li
 each_map P Q f [] h = tt
 each_map P Q f (x ∷ xs) h = (f x h.0, each_map P Q f xs h.1)
 
-among_left : (z : Tree) (xs ys : List Tree) → IsAmong z xs → IsAmong z (xs ++ ys)
+among_left : (z : Tree) (xs ys : List Tree) → IsAmong xs z → IsAmong (xs ++ ys) z
 among_left z [] ys h = absurd h
 among_left z (x ∷ xs) ys (inl e) = inl e
 among_left z (x ∷ xs) ys (inr h) = inr (among_left z xs ys h)
 
-gains_stay : (P : Tree → Type 0) (old new : Found) → Gains P old new → (z : Tree) → IsAmong z old.terms → IsAmong z new.terms
-gains_stay P old new g z h = subst (λ (l : List Tree). IsAmong z l) (sym g.are) (among_left z old.terms g.rest h)
+gains_stay : (P : Tree → Type 0) (old new : Found) → Gains P old new → (z : Tree) → IsAmong old.terms z → IsAmong new.terms z
+gains_stay P old new g z h = subst (λ (l : List Tree). IsAmong l z) (sym g.are) (among_left z old.terms g.rest h)
 
 gains_both : (P Q : Tree → Type 0) → ((x : Tree) → Q x → P x) → (old mid new : Found) → Gains P old mid → Gains Q mid new → Gains P old new
 gains_both P Q f old mid new g h = record {
@@ -76,14 +77,14 @@ module _ (w : Tables) (a : ℕ) (fs : List Frame) (e : TermEvent) (old : Found) 
     whole = λ b z r. no z (sym n ∙ (h ∙ (only_this z r).1));
   }
     where
-      no : (z : Tree) → None ≡ Some z → IsAmong z old.terms
+      no : (z : Tree) → None ≡ Some z → IsAmong old.terms z
       no z q = cc
 
   pub one-rebuilt : (o : Option Tree) (t : Tree) (new : Found) (all : Bool) → o ≡ put_all (permits_of w) e fs Nil → o ≡ Some t → MayHave (IsReady w) o → e.label ≡ a → AddsOne t old new all → Gathers w a fs (Event e) old new all
   one-rebuilt o t new all h s r l g = record {
     gains = gains_both (IsFinding w a fs (Event e)) (λ x. x ≡ t) one old old new (gains_none (IsFinding w a fs (Event e)) old tally) g.gains;
     bounded = g.bounded;
-    whole = λ b z q. subst (λ (y : Tree). IsAmong y new.terms) (same z (only_this z q).1) g.among;
+    whole = λ b z q. subst (λ (y : Tree). IsAmong new.terms y) (same z (only_this z q).1) g.among;
   }
     where
       ready : IsReady w t
@@ -141,7 +142,7 @@ module _ (w : Tables) (tables : AreReadyTables w) (a : ℕ) (fs : List Frame) (x
     ];
   }
     where
-      no : (u z : Tree) → None ≡ Some u → IsAmong z mid.terms
+      no : (u z : Tree) → None ≡ Some u → IsAmong mid.terms z
       no u z q = cc
 
   pub below-cut : (index : ℕ) (y : Tree) (old mid new : Found) (all : Bool) → child (permits_of w) x index ≡ Some y → GathersBelow w a fs x index old mid → Gathers w a (here index) y mid new all → all ≡ false → Gathers w a fs x old new false
@@ -158,7 +159,7 @@ module _ (w : Tables) (tables : AreReadyTables w) (a : ℕ) (fs : List Frame) (x
     whole = λ b z s. last z (result-child w a fs x z n s);
   }
     where
-      last : (z : Tree) → (p : ℕ) × (y : Tree) × (child (permits_of w) x p ≡ Some y) × IsResult w a (here p) y z → IsAmong z new.terms
+      last : (z : Tree) → (p : ℕ) × (y : Tree) × (child (permits_of w) x p ≡ Some y) × IsResult w a (here p) y z → IsAmong new.terms z
       last z (p, y, c, s) = let i = child-good w tables x p y r c in g.whole p (omega (arith, i.within)) y c z s
 
 -- an event that a look shows

@@ -10,7 +10,8 @@ use Rattle.chart_term.specs.Order.{tree_cmp}
 use Rattle.chart_term.specs.Terms.{Tree, weight}
 use Rattle.chart_term.proofs.Equal.{same_tree_is_exact}
 use Rattle.chart_term.proofs.Distinct.{same_by_order}
-use Rattle.term_laws.specs.Listing.{IsAmong, set_weight}
+use Rattle.term_laws.specs.Listing.{set_weight}
+use Rattle.msc_base.specs.Lists.{IsAmong}
 use Rattle.term_laws.specs.Normality.{AreDifferent}
 use Rattle.term_laws.proofs.Opening.{each_app}
 use Rattle.permit_step.specs.Searches.{IsTally, AddsOne, is_listed}
@@ -32,15 +33,15 @@ different_snoc (x ∷ xs) t h l = (each_app (λ y. same_tree x y ≡ false) xs (
     right true b h = cc
     right false b h = h
 
-among_snoc : (xs : List Tree) (t : Tree) → IsAmong t (xs ++ t ∷ [])
+among_snoc : (xs : List Tree) (t : Tree) → IsAmong (xs ++ t ∷ []) t
 among_snoc [] t = inl refl
 among_snoc (x ∷ xs) t = inr (among_snoc xs t)
 
-among_listed : (xs : List Tree) (t : Tree) → is_listed t xs ≡ true → IsAmong t xs
+among_listed : (xs : List Tree) (t : Tree) → is_listed t xs ≡ true → IsAmong xs t
 among_listed [] t h = cc
 among_listed (x ∷ xs) t h = go (same_tree x t) refl h (among_listed xs t)
   where
-    go : (a : Bool) → same_tree x t ≡ a → (a || is_listed t xs) ≡ true → (is_listed t xs ≡ true → IsAmong t xs) → (x ≡ t) ⊎ IsAmong t xs
+    go : (a : Bool) → same_tree x t ≡ a → (a || is_listed t xs) ≡ true → (is_listed t xs ≡ true → IsAmong xs t) → (x ≡ t) ⊎ IsAmong xs t
     go true e l f = inl (same_tree_is_exact.sound x t e)
     go false e l f = inr (f l)
 
@@ -102,7 +103,7 @@ added-new old new t key all h within e free seen terms heavy most test = record 
     are = terms;
     each = (refl, tt);
   };
-  among = subst (λ (xs : List Tree). IsAmong t xs) (sym terms) (among_snoc old.terms t);
+  among = subst (λ (xs : List Tree). IsAmong xs t) (sym terms) (among_snoc old.terms t);
   bounded = record {
     within = λ a. low a;
     beyond = λ a. record { prefix = old.terms; last = t; are = terms; below = omega arith; above = high a };
@@ -140,7 +141,7 @@ added-met old new t key h within e met seen terms heavy most = record {
     are = terms ∙ sym (append-nil old.terms);
     each = tt;
   };
-  among = subst (λ (xs : List Tree). IsAmong t xs) (sym terms) (among_listed old.terms t there);
+  among = subst (λ (xs : List Tree). IsAmong xs t) (sym terms) (among_listed old.terms t there);
   bounded = record { within = λ a. let f = ap set_weight terms in omega arith; beyond = λ a. cc };
 }
   where

@@ -14,7 +14,8 @@ use Rattle.chart_term.specs.TermPatterns.{instances_of}
 use Rattle.chart_term.specs.Terms.{TermEvent, has, Tree, Nil, Event, Join, Choice, Tied, Loop, Walk, items, Part, Gap, Turn, parts}
 use Rattle.chart_term.specs.Views.{event_of}
 use Rattle.permit_step.specs.Children.{child, put}
-use Rattle.term_laws.specs.Listing.{IsAmong, set_weight}
+use Rattle.term_laws.specs.Listing.{set_weight}
+use Rattle.msc_base.specs.Lists.{IsAmong}
 use Rattle.term_laws.specs.Normality.{AreDifferent}
 use Rattle.term_laws.specs.Permission.{permits_of}
 use Rattle.permit_step.specs.Ready.{IsReady}
@@ -113,18 +114,18 @@ pub record IsFinding (w : Tables) (a : ℕ) (fs : List Frame) (x z : Tree) : Typ
 pub record Gathers (w : Tables) (a : ℕ) (fs : List Frame) (x : Tree) (old new : Found) (all : Bool) : Type 0 where
   pub gains : Gains (IsFinding w a fs x) old new
   pub bounded : IsBounded new.most new.terms all
-  pub whole : all ≡ true → (z : Tree) → IsResult w a fs x z → IsAmong z new.terms
+  pub whole : all ≡ true → (z : Tree) → IsResult w a fs x z → IsAmong new.terms z
 
 -- the same of the children before an index alone
 pub record GathersBelow (w : Tables) (a : ℕ) (fs : List Frame) (x : Tree) (index : ℕ) (old new : Found) : Type 0 where
   pub gains : Gains (IsFinding w a fs x) old new
   pub within : set_weight new.terms ≤ new.most
-  pub whole : (p : ℕ) → p < index → (y : Tree) → child (permits_of w) x p ≡ Some y → (z : Tree) → IsResult w a (fs ++ record { parent = x; index = p } ∷ []) y z → IsAmong z new.terms
+  pub whole : (p : ℕ) → p < index → (y : Tree) → child (permits_of w) x p ≡ Some y → (z : Tree) → IsResult w a (fs ++ record { parent = x; index = p } ∷ []) y z → IsAmong new.terms z
 
 -- the term is there once, and the others are as they were
 pub record AddsOne (t : Tree) (old new : Found) (all : Bool) : Type 0 where
   pub gains : Gains (λ x. x ≡ t) old new
-  pub among : IsAmong t new.terms
+  pub among : IsAmong new.terms t
   pub bounded : IsBounded new.most new.terms all
 
 -- the term isn't an event

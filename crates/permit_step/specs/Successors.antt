@@ -4,7 +4,8 @@ use Rattle.msc_base.specs.declared.label.Label.{Label}
 use Rattle.term_tables.specs.NetValues.{label_number, NetsValue}
 use Rattle.chart_term.specs.Properties.{Each}
 use Rattle.chart_term.specs.Terms.{TermEvent, Tree}
-use Rattle.term_laws.specs.Listing.{IsAmong, set_weight}
+use Rattle.term_laws.specs.Listing.{set_weight}
+use Rattle.msc_base.specs.Lists.{IsAmong}
 use Rattle.term_laws.specs.Normality.{AreDifferent}
 use Rattle.term_laws.specs.Permission.{permits_of}
 use Rattle.permit_step.specs.Ready.{IsReady}
@@ -30,7 +31,7 @@ pub record AreFound (v : NetsValue) (label : Label) (x : Tree) (most : ℕ) (fou
   pub different : AreDifferent found
   pub each : Each (IsSuccessor v label x) found
   pub ready : Each (IsReady v.tables) found
-  pub whole : all ≡ true → (y : Tree) → IsSuccessor v label x y → IsAmong y found
+  pub whole : all ≡ true → (y : Tree) → IsSuccessor v label x y → IsAmong found y
   pub within : all ≡ true → set_weight found ≤ most
   pub beyond : all ≡ false → IsJustAbove most found
 

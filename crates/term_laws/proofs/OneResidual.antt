@@ -10,7 +10,8 @@ use Rattle.chart_term.specs.Properties.{Each, Every, EveryOf, EveryRow}
 use Rattle.chart_term.specs.Tables.{Tables}
 use Rattle.chart_term.specs.Terms.{TermEvent, has, Tree, Nil, Event, Join, Choice, Tied, Loop, Walk, Trees, none, more, Row, ends, gap, turn, items, weight, weights}
 use Rattle.chart_term.proofs.Equal.{same_tree_is_exact, number_is}
-use Rattle.term_laws.specs.Listing.{IsAmong, residual_set, set_weight}
+use Rattle.term_laws.specs.Listing.{residual_set, set_weight}
+use Rattle.msc_base.specs.Lists.{IsAmong}
 use Rattle.term_laws.specs.Normality.{AreDifferent}
 use Rattle.term_laws.specs.OneResidual.{labels_of, labels_of_all, labels_of_row, AreOnce, HasNoGraph, IsStraight, AreStraight, IsUnbegun, HasStraightLoops, HaveStraightLoops, IsUnambiguous, OneResidual}
 use Rattle.term_laws.specs.Permission.{permits_of}
@@ -190,7 +191,7 @@ labels_once : (x : Tree) → AreOnce (labels_of x) → AreOnce (labels (events_o
 labels_once x h = rw (same_labels x) h
 
 mutual
-  each_known : (es : List TermEvent) (x : Tree) → HasNoGraph x → ((e : TermEvent) → IsAmong e (events_of x) → IsAmong e es) → Every (λ e. IsAmong e es) (λ n. ⊥) x
+  each_known : (es : List TermEvent) (x : Tree) → HasNoGraph x → ((e : TermEvent) → IsAmong (events_of x) e → IsAmong es e) → Every (λ e. IsAmong es e) (λ n. ⊥) x
   each_known es Nil g f = tt
   each_known es (Event e) g f = f e (inl refl)
   each_known es (Join m xs) g f = all_known es xs g f
@@ -199,18 +200,18 @@ mutual
   each_known es (Loop x lo hi r) g f = (each_known es x g.0 (λ e i. f e (among_left e (events_of x) (events_row r) i)), row_known es r g.1 (λ e i. f e (among_right e (events_of x) (events_row r) i)))
   each_known es (Walk n f t c) g h = absurd g
 
-  all_known : (es : List TermEvent) (xs : Trees) → EveryOf (λ e. Unit {0}) (λ n. ⊥) xs → ((e : TermEvent) → IsAmong e (events_all xs) → IsAmong e es) → EveryOf (λ e. IsAmong e es) (λ n. ⊥) xs
+  all_known : (es : List TermEvent) (xs : Trees) → EveryOf (λ e. Unit {0}) (λ n. ⊥) xs → ((e : TermEvent) → IsAmong (events_all xs) e → IsAmong es e) → EveryOf (λ e. IsAmong es e) (λ n. ⊥) xs
   all_known es none g f = tt
   all_known es (more x xs) g f = (each_known es x g.0 (λ e i. f e (among_left e (events_of x) (events_all xs) i)), all_known es xs g.1 (λ e i. f e (among_right e (events_of x) (events_all xs) i)))
 
-  row_known : (es : List TermEvent) (r : Row) → EveryRow (λ e. Unit {0}) (λ n. ⊥) r → ((e : TermEvent) → IsAmong e (events_row r) → IsAmong e es) → EveryRow (λ e. IsAmong e es) (λ n. ⊥) r
+  row_known : (es : List TermEvent) (r : Row) → EveryRow (λ e. Unit {0}) (λ n. ⊥) r → ((e : TermEvent) → IsAmong (events_row r) e → IsAmong es e) → EveryRow (λ e. IsAmong es e) (λ n. ⊥) r
   row_known es ends g f = tt
   row_known es (gap c r) g f = row_known es r g f
   row_known es (turn x r) g f = (each_known es x g.0 (λ e i. f e (among_left e (events_of x) (events_row r) i)), row_known es r g.1 (λ e i. f e (among_right e (events_of x) (events_row r) i)))
 
-has_label : (es : List TermEvent) (e : TermEvent) → IsAmong e es → has (labels es) e.label ≡ true
+has_label : (es : List TermEvent) (e : TermEvent) → IsAmong es e → has (labels es) e.label ≡ true
 has_label [] e h = absurd h
-has_label (f ∷ es) e (inl p) = go (ap (λ g. g.label) p)
+has_label (f ∷ es) e (inl p) = go (ap (λ g. g.label) (sym p))
   where
     go : f.label ≡ e.label → ((f.label == e.label) || has (labels es) e.label) ≡ true
     go q = rw q (rw (number_self e.label e.label refl) refl)
@@ -221,14 +222,14 @@ has_label (f ∷ es) e (inr i) = go (f.label == e.label) (has_label es e i)
     go false h = h
 
 -- events with one label are one
-one_event : (es : List TermEvent) → AreOnce (labels es) → (e f : TermEvent) → IsAmong e es → IsAmong f es → e.label ≡ f.label → e ≡ f
+one_event : (es : List TermEvent) → AreOnce (labels es) → (e f : TermEvent) → IsAmong es e → IsAmong es f → e.label ≡ f.label → e ≡ f
 one_event [] o e f i j q = absurd i
-one_event (g ∷ es) o e f (inl p) (inl r) q = sym p ∙ r
-one_event (g ∷ es) o e f (inl p) (inr j) q = absurd (differs g.label f.label (ap (λ h. h.label) p ∙ q) o.0 (has_label es f j))
+one_event (g ∷ es) o e f (inl p) (inl r) q = p ∙ sym r
+one_event (g ∷ es) o e f (inl p) (inr j) q = absurd (differs g.label f.label (ap (λ h. h.label) (sym p) ∙ q) o.0 (has_label es f j))
   where
     differs : (a b : ℕ) → a ≡ b → has (labels es) a ≡ false → has (labels es) b ≡ true → ⊥
     differs a b p h i = cc
-one_event (g ∷ es) o e f (inr i) (inl r) q = absurd (differs g.label e.label (ap (λ h. h.label) r ∙ sym q) o.0 (has_label es e i))
+one_event (g ∷ es) o e f (inr i) (inl r) q = absurd (differs g.label e.label (ap (λ h. h.label) (sym r) ∙ sym q) o.0 (has_label es e i))
   where
     differs : (a b : ℕ) → a ≡ b → has (labels es) a ≡ false → has (labels es) b ≡ true → ⊥
     differs a b p h i = cc
@@ -246,7 +247,7 @@ later (a ∷ l) = l
 
 module _ (m : ℕ) (k : NetPermits) (es : List TermEvent) (once : AreOnce (labels es)) where
   abbrev Known : Tree → Type 0
-  Known x = Every (λ e. IsAmong e es) (λ n. ⊥) x
+  Known x = Every (λ e. IsAmong es e) (λ n. ⊥) x
 
   moved : (x y z : Tree) (l : List ℕ) → x ≡ y → IsResidual k y l z → IsResidual k x l z
   moved x y z l p r = rw p r
@@ -256,9 +257,9 @@ module _ (m : ℕ) (k : NetPermits) (es : List TermEvent) (once : AreOnce (label
   same_residual res_none (res_more a r) q h g = cc
   same_residual (res_more a r) res_none q h g = cc
   same_residual (res_more {y = u} {e = e} a r) (res_more {y = v} {z = z} {e = f} {l = n} b s) q h g =
-      let i : e ≡ f = one_event es once e f (taken_every k (λ e. IsAmong e es) a g) (taken_every k (λ e. IsAmong e es) b g) (ap first q) in
+      let i : e ≡ f = one_event es once e f (taken_every k (λ e. IsAmong es e) a g) (taken_every k (λ e. IsAmong es e) b g) (ap first q) in
       let j : u ≡ v = same_after m k a b i h in
-      same_residual r (moved u v z n j s) (ap later q) (after_single m k a h) (after_every (λ e. IsAmong e es) (λ n. ⊥) k (λ n m d x h q. absurd h) a g)
+      same_residual r (moved u v z n j s) (ap later q) (after_single m k a h) (after_every (λ e. IsAmong es e) (λ n. ⊥) k (λ n m d x h q. absurd h) a g)
 
   residual_weight : {x y : Tree} {l : List ℕ} → IsResidual k x l y → Single m x → weight y ≤ weight x + length l * m
   residual_weight res_none h = omega arith
@@ -275,7 +276,7 @@ enough k w v h =
     omega arith
 
 -- a set of no two members
-none_two : (s : List Tree) → AreDifferent s → ((y z : Tree) → IsAmong y s → IsAmong z s → y ≡ z) → length s ≤ 1
+none_two : (s : List Tree) → AreDifferent s → ((y z : Tree) → IsAmong s y → IsAmong s z → y ≡ z) → length s ≤ 1
 none_two [] h f = omega arith
 none_two (x ∷ []) h f = omega arith
 none_two (x ∷ y ∷ s) h f = absurd (clash (same_tree x y) (same_tree_is_exact.whole x y (f x y (inl refl) (inr (inl refl)))) h.0.0)
@@ -283,7 +284,7 @@ none_two (x ∷ y ∷ s) h f = absurd (clash (same_tree x y) (same_tree_is_exact
     clash : (t : Bool) → t ≡ true → t ≡ false → ⊥
     clash t p q = cc
 
-light : (s : List Tree) (n : ℕ) → length s ≤ 1 → ((y : Tree) → IsAmong y s → weight y ≤ n) → set_weight s ≤ n
+light : (s : List Tree) (n : ℕ) → length s ≤ 1 → ((y : Tree) → IsAmong s y → weight y ≤ n) → set_weight s ≤ n
 light [] n l f = omega arith
 light (x ∷ []) n l f = let i = f x (inl refl) in omega arith
 light (x ∷ y ∷ s) n l f = absurd (omega arith)
@@ -297,7 +298,7 @@ weight_of w x y l h r =
     enough (length l) (weight x) (weight y) (residual_weight (weight x) (permits_of w) (events_of x) (labels_once x h.labels) r (single_of (weight x) x (omega arith) h.labels h.no_graph h.loops))
 
 -- a member of the computed set is a residual term
-member_of : (w : Tables) (n : ℕ) (x y : Tree) (l : List ℕ) → IsAmong y (residual_set n (permits_of w) (x ∷ []) l) → IsResidual (permits_of w) x l y
+member_of : (w : Tables) (n : ℕ) (x y : Tree) (l : List ℕ) → IsAmong (residual_set n (permits_of w) (x ∷ []) l) y → IsResidual (permits_of w) x l y
 member_of w n x y l i = let j = set_sound w n l (x ∷ []) y i in alone w n x j.0 l y j.1 j.2
 
 one_of : (w : Tables) (n : ℕ) (x : Tree) (l : List ℕ) → IsUnambiguous x → length (residual_set n (permits_of w) (x ∷ []) l) ≤ 1

@@ -1,5 +1,6 @@
 -- The residual terms as lists: the functions of which the relations speak, and the weight of a set of residual terms.
 use Rattle.std.specs.Prelude.{ℕ, zero, suc, ◌+◌, Bool, true, false, List, [], ◌∷◌, ◌++◌, ◌≡◌, ◌==◌, Option, Some, None, ◌⊎◌, ◌≤◌}
+use Rattle.msc_base.specs.Lists.{IsAmong}
 use Rattle.msc_base.specs.Patterns.{Mode, seq, par}
 use Rattle.hmsc_graph.specs.Graphs.{Spot, At, Goal, To, End, Any, reach}
 use Rattle.chart_term.specs.NormalForms.{NetPermits, only, join_all, tie_of, loop_of, walk_of, allowed, distinct}
@@ -202,14 +203,9 @@ abbrev pub set_weight : List Tree → ℕ
 set_weight [] = 0
 set_weight (x ∷ xs) = weight x + set_weight xs
 
--- it is in the list
-abbrev pub IsAmong : {A : Type 0} → A → List A → Type 0
-IsAmong t [] = ⊥
-IsAmong t (p ∷ ps) = (p ≡ t) ⊎ IsAmong t ps
-
 -- to this depth and any greater one the list has all that is left after an event
 pub record IsDeepEnough (w : Tables) (x : Tree) (depth : ℕ) : Type 0 where
-  pub whole : (m : ℕ) → depth ≤ m → (e : TermEvent) (y : Tree) → IsAfter (permits_of w) x e y → IsAmong (record { event = e; term = y }) (after_list m (permits_of w) x)
+  pub whole : (m : ℕ) → depth ≤ m → (e : TermEvent) (y : Tree) → IsAfter (permits_of w) x e y → IsAmong (after_list m (permits_of w) x) (record { event = e; term = y })
 
 -- there is such a depth
 pub record HasDepth (w : Tables) (x : Tree) : Type 0 where
@@ -218,7 +214,7 @@ pub record HasDepth (w : Tables) (x : Tree) : Type 0 where
 
 -- the list has only what is left after an event, and to some depth all of it
 pub record ListIsExact : Type 0 where
-  pub sound : (w : Tables) (n : ℕ) (x : Tree) (t : Taken) → IsAmong t (after_list n (permits_of w) x) → IsAfter (permits_of w) x t.event t.term
+  pub sound : (w : Tables) (n : ℕ) (x : Tree) (t : Taken) → IsAmong (after_list n (permits_of w) x) t → IsAfter (permits_of w) x t.event t.term
   pub deep : (w : Tables) (x : Tree) → AreTidyTables w → HasDepth w x
 
 -- the depth is enough for all terms of the sets on the way
@@ -229,7 +225,7 @@ AreDeepAlong w n xs (a ∷ l) = Each (λ x. IsDeepEnough w x n) xs × AreDeepAlo
 -- the set of residual terms after the labels: without repeats, its members are exactly the terms that are left
 pub record IsResidualSet (w : Tables) (x : Tree) (labels : List ℕ) (set : List Tree) : Type 0 where
   pub different : AreDifferent set
-  pub exact : (y : Tree) → Both (IsAmong y set) (IsResidual (permits_of w) x labels y)
+  pub exact : (y : Tree) → Both (IsAmong set y) (IsResidual (permits_of w) x labels y)
 
 -- at such a depth the computed set is the set of residual terms
 pub record ResidualSetIsExact : Type 0 where

@@ -17,7 +17,8 @@ use Rattle.chart_term.specs.OrderLaws.{tree_equal}
 use Rattle.chart_term.specs.Properties.{Each}
 use Rattle.chart_term.specs.TermPatterns.{Both}
 use Rattle.chart_term.specs.Terms.{Tree, weight}
-use Rattle.term_laws.specs.Listing.{IsAmong, set_weight}
+use Rattle.term_laws.specs.Listing.{set_weight}
+use Rattle.msc_base.specs.Lists.{IsAmong}
 use Rattle.chart_term.specs.Tables.{terms_over}
 use Rattle.permit_step.specs.Ready.{IsReady, AreReadyTables}
 use Rattle.permit_step.specs.Successors.{IsSuccessor, AreFound, AppendsFound}
@@ -31,32 +32,32 @@ use Rattle.trace_judge.proofs.Lists.{each_at, each_from, rising_different, membe
 
 -- a term put at its place
 
-pub insert_among : (y x : Tree) (xs : List Tree) → Both (IsAmong y (insert_key tree_cmp xs x)) ((y ≡ x) ⊎ IsAmong y xs)
+pub insert_among : (y x : Tree) (xs : List Tree) → Both (IsAmong (insert_key tree_cmp xs x) y) ((y ≡ x) ⊎ IsAmong xs y)
 insert_among y x [] = record { to = λ h. elim h [ inl e ↦ inl (sym e) | inr b ↦ absurd b ]; from = λ h. elim h [ inl e ↦ inl (sym e) | inr b ↦ absurd b ] }
 insert_among y x (z ∷ zs) = go (tree_cmp x z) refl (insert_among y x zs)
   where
-    to_front : IsAmong y (x ∷ z ∷ zs) → (y ≡ x) ⊎ IsAmong y (z ∷ zs)
+    to_front : IsAmong (x ∷ z ∷ zs) y → (y ≡ x) ⊎ IsAmong (z ∷ zs) y
     to_front (inl e) = inl (sym e)
     to_front (inr h) = inr h
 
-    from_front : (y ≡ x) ⊎ IsAmong y (z ∷ zs) → IsAmong y (x ∷ z ∷ zs)
+    from_front : (y ≡ x) ⊎ IsAmong (z ∷ zs) y → IsAmong (x ∷ z ∷ zs) y
     from_front (inl e) = inl (sym e)
     from_front (inr h) = inr h
 
-    from_same : x ≡ z → (y ≡ x) ⊎ IsAmong y (z ∷ zs) → IsAmong y (z ∷ zs)
+    from_same : x ≡ z → (y ≡ x) ⊎ IsAmong (z ∷ zs) y → IsAmong (z ∷ zs) y
     from_same e (inl q) = inl (sym (q ∙ e))
     from_same e (inr h) = h
 
-    to_later : (r : List Tree) → (IsAmong y r → (y ≡ x) ⊎ IsAmong y zs) → IsAmong y (z ∷ r) → (y ≡ x) ⊎ IsAmong y (z ∷ zs)
+    to_later : (r : List Tree) → (IsAmong r y → (y ≡ x) ⊎ IsAmong zs y) → IsAmong (z ∷ r) y → (y ≡ x) ⊎ IsAmong (z ∷ zs) y
     to_later r f (inl e) = inr (inl e)
     to_later r f (inr h) = elim (f h) [ inl e ↦ inl e | inr i ↦ inr (inr i) ]
 
-    from_later : (r : List Tree) → ((y ≡ x) ⊎ IsAmong y zs → IsAmong y r) → (y ≡ x) ⊎ IsAmong y (z ∷ zs) → IsAmong y (z ∷ r)
+    from_later : (r : List Tree) → ((y ≡ x) ⊎ IsAmong zs y → IsAmong r y) → (y ≡ x) ⊎ IsAmong (z ∷ zs) y → IsAmong (z ∷ r) y
     from_later r f (inl e) = inr (f (inl e))
     from_later r f (inr (inl e)) = inl e
     from_later r f (inr (inr h)) = inr (f (inr h))
 
-    go : (o : Ordering) → tree_cmp x z ≡ o → Both (IsAmong y (insert_key tree_cmp zs x)) ((y ≡ x) ⊎ IsAmong y zs) → Both (IsAmong y (match_ordering o (x ∷ z ∷ zs) (z ∷ zs) (z ∷ insert_key tree_cmp zs x))) ((y ≡ x) ⊎ IsAmong y (z ∷ zs))
+    go : (o : Ordering) → tree_cmp x z ≡ o → Both (IsAmong (insert_key tree_cmp zs x) y) ((y ≡ x) ⊎ IsAmong zs y) → Both (IsAmong (match_ordering o (x ∷ z ∷ zs) (z ∷ zs) (z ∷ insert_key tree_cmp zs x)) y) ((y ≡ x) ⊎ IsAmong (z ∷ zs) y)
     go Less e r = record { to = to_front; from = from_front }
     go Equal e r = record { to = inr; from = from_same (tree_equal x z e) }
     go Greater e r = record { to = to_later (insert_key tree_cmp zs x) r.to; from = from_later (insert_key tree_cmp zs x) r.from }
@@ -84,8 +85,8 @@ insert_new x (z ∷ zs) h = go (tree_cmp x z) refl (insert_new x zs)
     go Equal e f = let t : is_at (tree_cmp x) z ≡ true = rw e in let bad : true ≡ false = sym t ∙ (rest (is_at (tree_cmp x) z) (list_any (is_at (tree_cmp x)) zs) h).0 in cc
     go Greater e f = omega (arith, f (rest (is_at (tree_cmp x) z) (list_any (is_at (tree_cmp x)) zs) h).1)
 
-pub put_adds : (old new : List Tree) (x : Tree) → new ≡ insert_key tree_cmp old x → (y : Tree) → Both (IsAmong y new) ((y ≡ x) ⊎ IsAmong y old)
-put_adds old new x e y = subst (λ (l : List Tree). Both (IsAmong y l) ((y ≡ x) ⊎ IsAmong y old)) (sym e) (insert_among y x old)
+pub put_adds : (old new : List Tree) (x : Tree) → new ≡ insert_key tree_cmp old x → (y : Tree) → Both (IsAmong new y) ((y ≡ x) ⊎ IsAmong old y)
+put_adds old new x e y = subst (λ (l : List Tree). Both (IsAmong l y) ((y ≡ x) ⊎ IsAmong old y)) (sym e) (insert_among y x old)
 
 pub put_weighs : (old new : List Tree) (x : Tree) (added : Bool) → new ≡ insert_key tree_cmp old x → added ≡ not (list_any (is_at (tree_cmp x)) old) → added ≡ true → set_weight new ≡ set_weight old + weight x
 put_weighs old new x added e q t = ap set_weight e ∙ insert_new x old (none (list_any (is_at (tree_cmp x)) old) (sym q ∙ t))
@@ -111,21 +112,21 @@ term_sound v (y ∷ ys) (suc i) x e h = term_sound v ys i x e h.1
 pub term_ready : (v : NetsValue) (xs : List Tree) (i : ℕ) (x : Tree) → slice_get xs i ≡ Some x → Each (IsSoundFor v) xs → IsReady v.tables x
 term_ready v xs i x e h = ready_by_soundness.term _ v.tables x (term_sound v xs i x e h)
 
-pub at_among : (xs : List Tree) (i : ℕ) (x : Tree) → slice_get xs i ≡ Some x → IsAmong x xs
+pub at_among : (xs : List Tree) (i : ℕ) (x : Tree) → slice_get xs i ≡ Some x → IsAmong xs x
 at_among [] i x e = cc
 at_among (y ∷ ys) zero x e = inl cc
 at_among (y ∷ ys) (suc i) x e = inr (at_among ys i x e)
 
 -- one more of the prefix of a list
 
-suc_among : (xs : List Tree) (i : ℕ) (x y : Tree) → slice_get xs i ≡ Some x → IsAmong y (take (suc i) xs) → (x ≡ y) ⊎ IsAmong y (take i xs)
+suc_among : (xs : List Tree) (i : ℕ) (x y : Tree) → slice_get xs i ≡ Some x → IsAmong (take (suc i) xs) y → (x ≡ y) ⊎ IsAmong (take i xs) y
 suc_among [] i x y e h = cc
 suc_among (z ∷ zs) zero x y e (inl q) = let p : z ≡ x = cc in inl (sym p ∙ q)
 suc_among (z ∷ zs) zero x y e (inr h) = absurd h
 suc_among (z ∷ zs) (suc i) x y e (inl q) = inr (inl q)
 suc_among (z ∷ zs) (suc i) x y e (inr h) = elim (suc_among zs i x y e h) [ inl q ↦ inl q | inr j ↦ inr (inr j) ]
 
-among_suc : (xs : List Tree) (i : ℕ) (x y : Tree) → slice_get xs i ≡ Some x → (x ≡ y) ⊎ IsAmong y (take i xs) → IsAmong y (take (suc i) xs)
+among_suc : (xs : List Tree) (i : ℕ) (x y : Tree) → slice_get xs i ≡ Some x → (x ≡ y) ⊎ IsAmong (take i xs) y → IsAmong (take (suc i) xs) y
 among_suc [] i x y e h = cc
 among_suc (z ∷ zs) zero x y e (inl q) = let p : z ≡ x = cc in inl (p ∙ q)
 among_suc (z ∷ zs) zero x y e (inr h) = absurd h
@@ -133,16 +134,16 @@ among_suc (z ∷ zs) (suc i) x y e (inl q) = inr (among_suc zs i x y e (inl q))
 among_suc (z ∷ zs) (suc i) x y e (inr (inl q)) = inl q
 among_suc (z ∷ zs) (suc i) x y e (inr (inr h)) = inr (among_suc zs i x y e (inr h))
 
-pub take_among : (xs : List Tree) (i : ℕ) (x y : Tree) → slice_get xs i ≡ Some x → IsAmong y (take (i + 1) xs) → (x ≡ y) ⊎ IsAmong y (take i xs)
-take_among xs i x y e h = suc_among xs i x y e (subst (λ (n : ℕ). IsAmong y (take n xs)) (add-one i) h)
+pub take_among : (xs : List Tree) (i : ℕ) (x y : Tree) → slice_get xs i ≡ Some x → IsAmong (take (i + 1) xs) y → (x ≡ y) ⊎ IsAmong (take i xs) y
+take_among xs i x y e h = suc_among xs i x y e (subst (λ (n : ℕ). IsAmong (take n xs) y) (add-one i) h)
 
-pub among_take : (xs : List Tree) (i : ℕ) (x y : Tree) → slice_get xs i ≡ Some x → (x ≡ y) ⊎ IsAmong y (take i xs) → IsAmong y (take (i + 1) xs)
-among_take xs i x y e h = subst (λ (n : ℕ). IsAmong y (take n xs)) (sym (add-one i)) (among_suc xs i x y e h)
+pub among_take : (xs : List Tree) (i : ℕ) (x y : Tree) → slice_get xs i ≡ Some x → (x ≡ y) ⊎ IsAmong (take i xs) y → IsAmong (take (i + 1) xs) y
+among_take xs i x y e h = subst (λ (n : ℕ). IsAmong (take n xs) y) (sym (add-one i)) (among_suc xs i x y e h)
 
-pub among_some : (xs : List Tree) (i : ℕ) (y : Tree) → IsAmong y (take i xs) → IsAmong y xs
+pub among_some : (xs : List Tree) (i : ℕ) (y : Tree) → IsAmong (take i xs) y → IsAmong xs y
 among_some [] i y h = none i h
   where
-    none : (i : ℕ) → IsAmong y (take i []) → ⊥
+    none : (i : ℕ) → IsAmong (take i []) y → ⊥
     none zero h = h
     none (suc i) h = h
 among_some (z ∷ zs) zero y h = absurd h
@@ -171,27 +172,27 @@ pub ruleset ending = (tables_ready, term_ready, start_ends, this_ends, more_ends
 
 -- what is gathered
 
-pub joins_none : (xs old : List Tree) (budget : ℕ) → set_weight old ≤ budget → JoinsAll (λ y. IsAmong y (take 0 xs)) budget old old
+pub joins_none : (xs old : List Tree) (budget : ℕ) → set_weight old ≤ budget → JoinsAll (λ y. IsAmong (take 0 xs) y) budget old old
 joins_none xs old budget l = record { exact = λ y. record { to = inl; from = λ h. elim h [ inl i ↦ i | inr b ↦ absurd b ] }; within = l }
 
-joins_up : (xs : List Tree) (i : ℕ) (x : Tree) (old mid new : List Tree) (budget : ℕ) → slice_get xs i ≡ Some x → JoinsAll (λ y. IsAmong y (take i xs)) budget old mid → ((y : Tree) → Both (IsAmong y new) ((y ≡ x) ⊎ IsAmong y mid))
-    → (y : Tree) → Both (IsAmong y new) (IsAmong y old ⊎ IsAmong y (take (i + 1) xs))
+joins_up : (xs : List Tree) (i : ℕ) (x : Tree) (old mid new : List Tree) (budget : ℕ) → slice_get xs i ≡ Some x → JoinsAll (λ y. IsAmong (take i xs) y) budget old mid → ((y : Tree) → Both (IsAmong new y) ((y ≡ x) ⊎ IsAmong mid y))
+    → (y : Tree) → Both (IsAmong new y) (IsAmong old y ⊎ IsAmong (take (i + 1) xs) y)
 joins_up xs i x old mid new budget e j a y = record { to = λ h. forth ((a y).to h); from = λ h. back h }
   where
-    forth : (y ≡ x) ⊎ IsAmong y mid → IsAmong y old ⊎ IsAmong y (take (i + 1) xs)
+    forth : (y ≡ x) ⊎ IsAmong mid y → IsAmong old y ⊎ IsAmong (take (i + 1) xs) y
     forth (inl q) = inr (among_take xs i x y e (inl (sym q)))
     forth (inr h) = elim ((j.exact y).to h) [ inl k ↦ inl k | inr k ↦ inr (among_take xs i x y e (inr k)) ]
 
-    back : IsAmong y old ⊎ IsAmong y (take (i + 1) xs) → IsAmong y new
+    back : IsAmong old y ⊎ IsAmong (take (i + 1) xs) y → IsAmong new y
     back (inl k) = (a y).from (inr ((j.exact y).from (inl k)))
     back (inr k) = elim (take_among xs i x y e k) [ inl q ↦ (a y).from (inl (sym q)) | inr m ↦ (a y).from (inr ((j.exact y).from (inr m))) ]
 
-pub joins_more : (xs : List Tree) (i : ℕ) (x : Tree) (old mid new : List Tree) (budget : ℕ) → slice_get xs i ≡ Some x → JoinsAll (λ y. IsAmong y (take i xs)) budget old mid → ((y : Tree) → Both (IsAmong y new) ((y ≡ x) ⊎ IsAmong y mid)) → set_weight new ≤ budget
-    → JoinsAll (λ y. IsAmong y (take (i + 1) xs)) budget old new
+pub joins_more : (xs : List Tree) (i : ℕ) (x : Tree) (old mid new : List Tree) (budget : ℕ) → slice_get xs i ≡ Some x → JoinsAll (λ y. IsAmong (take i xs) y) budget old mid → ((y : Tree) → Both (IsAmong new y) ((y ≡ x) ⊎ IsAmong mid y)) → set_weight new ≤ budget
+    → JoinsAll (λ y. IsAmong (take (i + 1) xs) y) budget old new
 joins_more xs i x old mid new budget e j a l = record { exact = joins_up xs i x old mid new budget e j a; within = l }
 
-pub joins_over : (xs : List Tree) (i : ℕ) (x : Tree) (old mid new : List Tree) (budget : ℕ) → slice_get xs i ≡ Some x → JoinsAll (λ y. IsAmong y (take i xs)) budget old mid → ((y : Tree) → Both (IsAmong y new) ((y ≡ x) ⊎ IsAmong y mid)) → AreRising new → budget < set_weight new
-    → IsOver (λ y. IsAmong y old ⊎ IsAmong y xs) budget
+pub joins_over : (xs : List Tree) (i : ℕ) (x : Tree) (old mid new : List Tree) (budget : ℕ) → slice_get xs i ≡ Some x → JoinsAll (λ y. IsAmong (take i xs) y) budget old mid → ((y : Tree) → Both (IsAmong new y) ((y ≡ x) ⊎ IsAmong mid y)) → AreRising new → budget < set_weight new
+    → IsOver (λ y. IsAmong old y ⊎ IsAmong xs y) budget
 joins_over xs i x old mid new budget e j a r l = record {
   some = new;
   different = rising_different new r;
@@ -199,8 +200,8 @@ joins_over xs i x old mid new budget e j a r l = record {
   above = l;
 }
 
-pub joins_end : (xs : List Tree) (i : ℕ) (old new : List Tree) (budget : ℕ) → length xs ≤ i → JoinsAll (λ y. IsAmong y (take i xs)) budget old new → JoinsAll (λ y. IsAmong y xs) budget old new
-joins_end xs i old new budget l j = subst (λ (ys : List Tree). JoinsAll (λ y. IsAmong y ys) budget old new) (take_all i xs l) j
+pub joins_end : (xs : List Tree) (i : ℕ) (old new : List Tree) (budget : ℕ) → length xs ≤ i → JoinsAll (λ y. IsAmong (take i xs) y) budget old new → JoinsAll (λ y. IsAmong xs y) budget old new
+joins_end xs i old new budget l j = subst (λ (ys : List Tree). JoinsAll (λ y. IsAmong ys y) budget old new) (take_all i xs l) j
 
 pub light_at : (xs : List Tree) (i : ℕ) (x : Tree) (budget : ℕ) → slice_get xs i ≡ Some x → Each (λ y. weight y ≤ budget) xs → weight x ≤ budget
 light_at xs i x budget e h = each_at (λ y. weight y ≤ budget) xs x h (at_among xs i x e)
@@ -211,10 +212,10 @@ module _ (v : NetsValue) (a : Label) (x : Tree) (budget : ℕ) (found : List Tre
   pub found_light : all ≡ true → Each (λ y. weight y ≤ budget) found
   found_light t = let l = h.within t in each_from (λ y. weight y ≤ budget) found (λ y i. let m = member_weight y found i in omega arith)
 
-  pub found_over : (old : List Tree) → all ≡ false → IsOver (λ y. IsAmong y old ⊎ IsSuccessor v a x y) budget
+  pub found_over : (old : List Tree) → all ≡ false → IsOver (λ y. IsAmong old y ⊎ IsSuccessor v a x y) budget
   found_over old t = record { some = found; different = h.different; each = λ y i. inr (each_at (IsSuccessor v a x) found y h.each i); above = (h.beyond t).above }
 
-  pub found_joins : (old new : List Tree) → all ≡ true → JoinsAll (λ y. IsAmong y found) budget old new → JoinsAll (IsSuccessor v a x) budget old new
+  pub found_joins : (old new : List Tree) → all ≡ true → JoinsAll (λ y. IsAmong found y) budget old new → JoinsAll (IsSuccessor v a x) budget old new
   found_joins old new t j = record {
     exact = λ y. record {
       to = λ i. elim ((j.exact y).to i) [ inl k ↦ inl k | inr k ↦ inr (each_at (IsSuccessor v a x) found y h.each k) ];
@@ -223,7 +224,7 @@ module _ (v : NetsValue) (a : Label) (x : Tree) (budget : ℕ) (found : List Tre
     within = j.within;
   }
 
-  pub found_passes : (old : List Tree) → IsOver (λ y. IsAmong y old ⊎ IsAmong y found) budget → IsOver (λ y. IsAmong y old ⊎ IsSuccessor v a x y) budget
+  pub found_passes : (old : List Tree) → IsOver (λ y. IsAmong old y ⊎ IsAmong found y) budget → IsOver (λ y. IsAmong old y ⊎ IsSuccessor v a x y) budget
   found_passes old o = record { some = o.some; different = o.different; each = λ y i. elim (o.each y i) [ inl k ↦ inl k | inr k ↦ inr (each_at (IsSuccessor v a x) found y h.each k) ]; above = o.above }
 
 -- what is left of more and more terms
@@ -233,26 +234,26 @@ module _ (v : NetsValue) (a : Label) (terms : List Tree) (budget : ℕ) where
   left_none new e = subst (JoinsAll (IsLeftOf v a (take 0 terms)) budget []) (sym e) (record { exact = λ y. record { to = λ h. absurd h; from = λ h. elim h [ inl b ↦ b | inr l ↦ l.held ] }; within = omega arith })
 
   module _ (i : ℕ) (x : Tree) (e : slice_get terms i ≡ Some x) (mid : List Tree) (j : JoinsAll (IsLeftOf v a (take i terms)) budget [] mid) where
-    old_left : (y : Tree) → IsAmong y mid → IsLeftOf v a (take i terms) y
+    old_left : (y : Tree) → IsAmong mid y → IsLeftOf v a (take i terms) y
     old_left y h = elim ((j.exact y).to h) [ inl b ↦ absurd b | inr l ↦ l ]
 
     pub left_more : (new : List Tree) → JoinsAll (IsSuccessor v a x) budget mid new → JoinsAll (IsLeftOf v a (take (i + 1) terms)) budget [] new
     left_more new k = record { exact = λ y. record { to = λ h. inr (forth y ((k.exact y).to h)); from = λ h. elim h [ inl b ↦ absurd b | inr l ↦ back y l ] }; within = k.within }
       where
-        forth : (y : Tree) → IsAmong y mid ⊎ IsSuccessor v a x y → IsLeftOf v a (take (i + 1) terms) y
+        forth : (y : Tree) → IsAmong mid y ⊎ IsSuccessor v a x y → IsLeftOf v a (take (i + 1) terms) y
         forth y (inl h) = let l = old_left y h in record { term = l.term; held = among_take terms i x l.term e (inr l.held); left = l.left }
         forth y (inr s) = record { term = x; held = among_take terms i x x e (inl refl); left = s }
 
-        back : (y : Tree) → IsLeftOf v a (take (i + 1) terms) y → IsAmong y new
+        back : (y : Tree) → IsLeftOf v a (take (i + 1) terms) y → IsAmong new y
         back y l = elim (take_among terms i x l.term e l.held) [
           | inl q ↦ (k.exact y).from (inr (subst (λ (t : Tree). IsSuccessor v a t y) (sym q) l.left))
           | inr h ↦ (k.exact y).from (inl ((j.exact y).from (inr (record { term = l.term; held = h; left = l.left }))))
         ]
 
-    pub left_over : IsOver (λ y. IsAmong y mid ⊎ IsSuccessor v a x y) budget → IsOver (IsLeftOf v a terms) budget
+    pub left_over : IsOver (λ y. IsAmong mid y ⊎ IsSuccessor v a x y) budget → IsOver (IsLeftOf v a terms) budget
     left_over o = record { some = o.some; different = o.different; each = λ y h. from y (o.each y h); above = o.above }
       where
-        from : (y : Tree) → IsAmong y mid ⊎ IsSuccessor v a x y → IsLeftOf v a terms y
+        from : (y : Tree) → IsAmong mid y ⊎ IsSuccessor v a x y → IsLeftOf v a terms y
         from y (inl h) = let l = old_left y h in record { term = l.term; held = among_some terms i l.term l.held; left = l.left }
         from y (inr s) = record { term = x; held = at_among terms i x e; left = s }
 
@@ -268,18 +269,18 @@ module _ (v : NetsValue) (a : Label) (x : Tree) (budget : ℕ) (old out : List T
   pub appended_light : all ≡ true → Each (λ y. weight y ≤ budget) out
   appended_light t = subst (Each (λ y. weight y ≤ budget)) (sym out_is) (found_light v a x budget h.found all h.they_are t)
 
-  pub appended_over : (held : List Tree) → all ≡ false → IsOver (λ y. IsAmong y held ⊎ IsSuccessor v a x y) budget
+  pub appended_over : (held : List Tree) → all ≡ false → IsOver (λ y. IsAmong held y ⊎ IsSuccessor v a x y) budget
   appended_over held t = found_over v a x budget h.found all h.they_are held t
 
-  pub appended_all : {E : Type 0} (held new : List Tree) (r : Result Bool E) → all ≡ true → IfOk r (λ fits. fits ≡ true → JoinsAll (λ y. IsAmong y out) budget held new) → IfOk r (λ fits. fits ≡ true → JoinsAll (IsSuccessor v a x) budget held new)
-  appended_all held new r t f = IfOk-weaker r _ _ (λ b g u. found_joins v a x budget h.found all h.they_are held new t (subst (λ (l : List Tree). JoinsAll (λ y. IsAmong y l) budget held new) out_is (g u))) f
+  pub appended_all : {E : Type 0} (held new : List Tree) (r : Result Bool E) → all ≡ true → IfOk r (λ fits. fits ≡ true → JoinsAll (λ y. IsAmong out y) budget held new) → IfOk r (λ fits. fits ≡ true → JoinsAll (IsSuccessor v a x) budget held new)
+  appended_all held new r t f = IfOk-weaker r _ _ (λ b g u. found_joins v a x budget h.found all h.they_are held new t (subst (λ (l : List Tree). JoinsAll (λ y. IsAmong l y) budget held new) out_is (g u))) f
 
-  pub appended_passes : {E : Type 0} (held : List Tree) (r : Result Bool E) → IfOk r (λ fits. fits ≡ false → IsOver (λ y. IsAmong y held ⊎ IsAmong y out) budget) → IfOk r (λ fits. fits ≡ false → IsOver (λ y. IsAmong y held ⊎ IsSuccessor v a x y) budget)
-  appended_passes held r f = IfOk-weaker r _ _ (λ b g u. found_passes v a x budget h.found all h.they_are held (subst (λ (l : List Tree). IsOver (λ y. IsAmong y held ⊎ IsAmong y l) budget) out_is (g u))) f
+  pub appended_passes : {E : Type 0} (held : List Tree) (r : Result Bool E) → IfOk r (λ fits. fits ≡ false → IsOver (λ y. IsAmong held y ⊎ IsAmong out y) budget) → IfOk r (λ fits. fits ≡ false → IsOver (λ y. IsAmong held y ⊎ IsSuccessor v a x y) budget)
+  appended_passes held r f = IfOk-weaker r _ _ (λ b g u. found_passes v a x budget h.found all h.they_are held (subst (λ (l : List Tree). IsOver (λ y. IsAmong held y ⊎ IsAmong l y) budget) out_is (g u))) f
 
 -- a step
 
-some_sound : (v : NetsValue) (a : Label) (terms : List Tree) (budget : ℕ) (some : List Tree) → Each (IsSoundFor v) terms → ((y : Tree) → IsAmong y some → IsLeftOf v a terms y) → budget < set_weight some → (x : Tree) × IsSoundFor v x
+some_sound : (v : NetsValue) (a : Label) (terms : List Tree) (budget : ℕ) (some : List Tree) → Each (IsSoundFor v) terms → ((y : Tree) → IsAmong some y → IsLeftOf v a terms y) → budget < set_weight some → (x : Tree) × IsSoundFor v x
 some_sound v a terms budget [] h f l = absurd (omega arith)
 some_sound v a terms budget (y ∷ ys) h f l = let i = f y (inl refl) in (i.term, each_at (IsSoundFor v) terms i.term h i.held)
 
@@ -292,8 +293,8 @@ module _ (v : NetsValue) (a : Label) (old new : SetValue) (found : List Tree) (s
   new_terms : new.terms ≡ found
   new_terms = ap (λ (s : SetValue). s.terms) is
 
-  left_of : (y : Tree) → IsAmong y new.terms → IsLeftOf v a old.terms y
-  left_of y i = elim ((j.exact y).to (subst (λ (l : List Tree). IsAmong y l) new_terms i)) [ inl b ↦ absurd b | inr l ↦ l ]
+  left_of : (y : Tree) → IsAmong new.terms y → IsLeftOf v a old.terms y
+  left_of y i = elim ((j.exact y).to (subst (λ (l : List Tree). IsAmong l y) new_terms i)) [ inl b ↦ absurd b | inr l ↦ l ]
 
   new_weight : set_weight new.terms ≤ old.budget
   new_weight = let q : set_weight new.terms ≡ set_weight found = ap set_weight new_terms in omega (arith, j.within)
@@ -306,7 +307,7 @@ module _ (v : NetsValue) (a : Label) (old new : SetValue) (found : List Tree) (s
     small = small;
     terms = record {
       different = rising_different new.terms rising;
-      exact = λ y. record { to = left_of y; from = λ l. subst (λ (ts : List Tree). IsAmong y ts) (sym new_terms) ((j.exact y).from (inr l)) };
+      exact = λ y. record { to = left_of y; from = λ l. subst (λ (ts : List Tree). IsAmong ts y) (sym new_terms) ((j.exact y).from (inr l)) };
     };
     within = new_weight;
     same_budget = same_budget;

@@ -8,18 +8,19 @@ use Rattle.chart_term.specs.OrderLaws.{tree_itself}
 use Rattle.chart_term.specs.Properties.{Each}
 use Rattle.chart_term.specs.Terms.{Tree, weight}
 use Rattle.chart_term.proofs.Equal.{same_tree_is_exact}
-use Rattle.term_laws.specs.Listing.{IsAmong, set_weight}
+use Rattle.term_laws.specs.Listing.{set_weight}
+use Rattle.msc_base.specs.Lists.{IsAmong}
 use Rattle.term_laws.specs.Normality.{AreDifferent}
 use Rattle.trace_judge.specs.Sets.{AreRising}
 
 -- a property of each member
 
-pub each_at : (P : Tree → Type 0) (xs : List Tree) (x : Tree) → Each P xs → IsAmong x xs → P x
+pub each_at : (P : Tree → Type 0) (xs : List Tree) (x : Tree) → Each P xs → IsAmong xs x → P x
 each_at P [] x h i = absurd i
 each_at P (y ∷ xs) x h (inl e) = subst P e h.0
 each_at P (y ∷ xs) x h (inr i) = each_at P xs x h.1 i
 
-pub each_from : (P : Tree → Type 0) (xs : List Tree) → ((x : Tree) → IsAmong x xs → P x) → Each P xs
+pub each_from : (P : Tree → Type 0) (xs : List Tree) → ((x : Tree) → IsAmong xs x → P x) → Each P xs
 each_from P [] f = tt
 each_from P (x ∷ xs) f = (f x (inl refl), each_from P xs (λ y i. f y (inr i)))
 
@@ -32,9 +33,9 @@ apart x y h e = let t : same_tree x y ≡ true = same_tree_is_exact.whole x y e 
 record Removed (x : Tree) (ys : List Tree) : Type 0 where
   pub rest : List Tree
   pub weighs : set_weight ys ≡ weight x + set_weight rest
-  pub others : (z : Tree) → IsAmong z ys → (x ≡ z) ⊎ IsAmong z rest
+  pub others : (z : Tree) → IsAmong ys z → (x ≡ z) ⊎ IsAmong rest z
 
-remove : (x : Tree) (ys : List Tree) → IsAmong x ys → Removed x ys
+remove : (x : Tree) (ys : List Tree) → IsAmong ys x → Removed x ys
 remove x [] h = absurd h
 remove x (y ∷ ys) (inl e) = record {
   rest = ys;
@@ -47,28 +48,28 @@ remove x (y ∷ ys) (inr h) = let r = remove x ys h in record {
   others = λ z i. elim i [ inl q ↦ inr (inl q) | inr j ↦ later r.rest z (r.others z j) ];
 }
   where
-    later : (r : List Tree) (z : Tree) → (x ≡ z) ⊎ IsAmong z r → (x ≡ z) ⊎ IsAmong z (y ∷ r)
+    later : (r : List Tree) (z : Tree) → (x ≡ z) ⊎ IsAmong r z → (x ≡ z) ⊎ IsAmong (y ∷ r) z
     later r z (inl q) = inl q
     later r z (inr j) = inr (inr j)
 
 -- different members of a list weigh no more than it
-pub lighter : (xs ys : List Tree) → AreDifferent xs → ((x : Tree) → IsAmong x xs → IsAmong x ys) → set_weight xs ≤ set_weight ys
+pub lighter : (xs ys : List Tree) → AreDifferent xs → ((x : Tree) → IsAmong xs x → IsAmong ys x) → set_weight xs ≤ set_weight ys
 lighter [] ys d f = omega arith
 lighter (x ∷ xs) ys d f =
     let r = remove x ys (f x (inl refl)) in
     let l = lighter xs r.rest d.1 (λ z i. other r.rest z i (r.others z (f z (inr i)))) in
     omega (arith, r.weighs, l)
   where
-    other : (r : List Tree) (z : Tree) → IsAmong z xs → (x ≡ z) ⊎ IsAmong z r → IsAmong z r
+    other : (r : List Tree) (z : Tree) → IsAmong xs z → (x ≡ z) ⊎ IsAmong r z → IsAmong r z
     other r z i (inl q) = absurd (apart x z (each_at (λ y. same_tree x y ≡ false) xs z d.0 i) q)
     other r z i (inr j) = j
 
 -- lists of different terms with the same members have the same weight
-pub same_weight : (xs ys : List Tree) → AreDifferent xs → AreDifferent ys → ((x : Tree) → IsAmong x xs → IsAmong x ys) → ((x : Tree) → IsAmong x ys → IsAmong x xs) → set_weight xs ≡ set_weight ys
+pub same_weight : (xs ys : List Tree) → AreDifferent xs → AreDifferent ys → ((x : Tree) → IsAmong xs x → IsAmong ys x) → ((x : Tree) → IsAmong ys x → IsAmong xs x) → set_weight xs ≡ set_weight ys
 same_weight xs ys d e f g = omega (arith, lighter xs ys d f, lighter ys xs e g)
 
 -- a member weighs no more than the list
-pub member_weight : (x : Tree) (xs : List Tree) → IsAmong x xs → weight x ≤ set_weight xs
+pub member_weight : (x : Tree) (xs : List Tree) → IsAmong xs x → weight x ≤ set_weight xs
 member_weight x [] h = absurd h
 member_weight x (y ∷ xs) (inl e) = let q : weight y ≡ weight x = ap weight e in omega arith
 member_weight x (y ∷ xs) (inr h) = let l = member_weight x xs h in omega arith

@@ -4,7 +4,7 @@ use Rattle.std.proofs.Common.{subst, inl}
 use Rattle.msc_base.specs.declared.label.Label.{Label}
 use Rattle.term_tables.specs.NetValues.{NetsValue}
 use Rattle.chart_term.specs.Terms.{Tree}
-use Rattle.term_laws.specs.Listing.{IsAmong}
+use Rattle.msc_base.specs.Lists.{IsAmong}
 use Rattle.term_laws.specs.Sound.{IsSound}
 use Rattle.term_laws.proofs.FullSound.{full_soundness_is_kept}
 use Rattle.term_laws.proofs.SoundLaws.{residuals_are_exact}
@@ -34,8 +34,8 @@ none_empty : (v : NetsValue) (x : Tree) (l : List Label) (set : List Tree) → A
 none_empty v x l [] r f = refl
 none_empty v x l (y ∷ ys) r f = absurd (f y ((r.exact y).to (inl refl)))
 
-empty_none : (set : List Tree) (y : Tree) → set ≡ [] → IsAmong y set → ⊥
-empty_none set y e i = subst (λ (s : List Tree). IsAmong y s) e i
+empty_none : (set : List Tree) (y : Tree) → set ≡ [] → IsAmong set y → ⊥
+empty_none set y e i = subst (λ (s : List Tree). IsAmong s y) e i
 
 pub sets_tell_runs : SetsTellRuns
 sets_tell_runs = record {

@@ -7,7 +7,8 @@ use Rattle.msc_base.specs.declared.verdict.Verdict.{Verdict}
 use Rattle.msc_base.specs.declared.verdict.Verdict.TheVariants.{Conforms, Fails, Early, TooLarge}
 use Rattle.term_tables.specs.NetValues.{NetsValue}
 use Rattle.chart_term.specs.Terms.{Tree, weight}
-use Rattle.term_laws.specs.Listing.{IsAmong, set_weight}
+use Rattle.term_laws.specs.Listing.{set_weight}
+use Rattle.msc_base.specs.Lists.{IsAmong}
 use Rattle.trace_judge.specs.Logs.{LoggedEvent, labels_of, AreResiduals, IsWithin, IsAbove}
 use Rattle.trace_judge.specs.Sets.{SetValue, IsSoundFor, IsNextSet, PassBudget, HasEnding}
 use Rattle.trace_judge.specs.Verdicts.{AreWithin, HasLeft, IsVerdict, Weighs, IsReached, by_front, by_none, IsLargest}
@@ -136,7 +137,7 @@ module _ (v : NetsValue) (x : Tree) (budget : ℕ) where
   set_left events (y ∷ ys) r f = record { term = y; left = (r.exact y).to (inl refl) }
 
   set_gone : (events : List LoggedEvent) (set : List Tree) → AreResiduals v x (labels_of events) set → set ≡ [] → HasLeft v x events → ⊥
-  set_gone events set r e h = subst (λ (s : List Tree). IsAmong h.term s) e ((r.exact h.term).from h.left)
+  set_gone events set r e h = subst (λ (s : List Tree). IsAmong s h.term) e ((r.exact h.term).from h.left)
 
 module _ {S : Type 0} (holds : S → SetValue) (v : NetsValue) (x : Tree) (budget : ℕ) where
   some_none : (s : S) → Some s ≡ None → ⊥

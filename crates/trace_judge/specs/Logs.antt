@@ -4,7 +4,8 @@ use Rattle.msc_base.specs.declared.label.Label.{Label}
 use Rattle.term_tables.specs.NetValues.{NetsValue, label_number}
 use Rattle.chart_term.specs.TermPatterns.{Both}
 use Rattle.chart_term.specs.Terms.{Tree}
-use Rattle.term_laws.specs.Listing.{IsAmong, set_weight}
+use Rattle.term_laws.specs.Listing.{set_weight}
+use Rattle.msc_base.specs.Lists.{IsAmong}
 use Rattle.term_laws.specs.Normality.{AreDifferent}
 use Rattle.term_laws.specs.Permission.{permits_of}
 use Rattle.term_laws.specs.Residuals.{IsResidual, BeginsRun, IsFinishedRun}
@@ -34,7 +35,7 @@ pub record IsLeft (v : NetsValue) (x : Tree) (labels : List Label) (y : Tree) : 
 -- the list has exactly the terms that are left of x after events with these labels, each once
 pub record AreResiduals (v : NetsValue) (x : Tree) (labels : List Label) (set : List Tree) : Type 0 where
   pub different : AreDifferent set
-  pub exact : (y : Tree) → Both (IsAmong y set) (IsLeft v x labels y)
+  pub exact : (y : Tree) → Both (IsAmong set y) (IsLeft v x labels y)
 
 -- a run of the term begins with these labels; runs of walks under way count
 pub record Begins (v : NetsValue) (x : Tree) (labels : List Label) : Type 0 where

@@ -9,7 +9,8 @@ use Rattle.chart_term.specs.Tables.{terms_over}
 use Rattle.chart_term.specs.TermPatterns.{Both}
 use Rattle.chart_term.specs.Terms.{Tree}
 use Rattle.term_laws.specs.FullSoundness.{IsFullySound}
-use Rattle.term_laws.specs.Listing.{IsAmong, set_weight}
+use Rattle.term_laws.specs.Listing.{set_weight}
+use Rattle.msc_base.specs.Lists.{IsAmong}
 use Rattle.term_laws.specs.Normality.{AreDifferent}
 use Rattle.permit_step.specs.Successors.{IsSuccessor}
 use Rattle.term_laws.specs.Taking.{MayEnd}
@@ -39,13 +40,13 @@ pub record IsServing (v : NetsValue) (s : SetValue) : Type 0 where
 -- y is left of one of the terms after an event with the label
 pub record IsLeftOf (v : NetsValue) (label : Label) (terms : List Tree) (y : Tree) : Type 0 where
   pub term : Tree
-  pub held : IsAmong term terms
+  pub held : IsAmong terms term
   pub left : IsSuccessor v label term y
 
 -- the list has exactly what is left of the terms after an event with the label, each once
 pub record AreSuccessors (v : NetsValue) (label : Label) (terms next : List Tree) : Type 0 where
   pub different : AreDifferent next
-  pub exact : (y : Tree) → Both (IsAmong y next) (IsLeftOf v label terms y)
+  pub exact : (y : Tree) → Both (IsAmong next y) (IsLeftOf v label terms y)
 
 -- all that is left of the terms weighs more than the budget
 pub record PassBudget (v : NetsValue) (label : Label) (terms : List Tree) (budget : ℕ) : Type 0 where
@@ -69,5 +70,5 @@ pub record IsTooLarge (v : NetsValue) (label : Label) (old new : SetValue) : Typ
 -- one of the terms may end
 pub record HasEnding (v : NetsValue) (terms : List Tree) : Type 0 where
   pub term : Tree
-  pub held : IsAmong term terms
+  pub held : IsAmong terms term
   pub ends : MayEnd (terms_over v.tables) term

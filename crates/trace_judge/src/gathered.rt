@@ -3,7 +3,8 @@
 ghost use Rattle.std.specs.Prelude.{◌≡◌, ◌≤◌, ◌+◌, ◌⊎◌, [], ℕ, IfOk, OnOk, OnErr, true, false};
 ghost use Rattle.chart_term.specs.Terms.{Tree, weight};
 ghost use Rattle.chart_term.specs.TermPatterns.{Both};
-ghost use Rattle.term_laws.specs.Listing.{IsAmong, set_weight};
+ghost use Rattle.term_laws.specs.Listing.{set_weight};
+ghost use Rattle.msc_base.specs.Lists.{IsAmong};
 ghost use Rattle.trace_judge.specs.Sets.{AreRising};
 
 use chart_term::{Term, TermList};
@@ -43,7 +44,7 @@ impl Model for Gathered {
 fn put(terms: &mut BTreeSet<Term>, term: Term) -> Result<bool, NoMemory>
     ensures added { IfOk result (λ added. added ≡ true → set_weight terms.new.keys ≡ set_weight terms.old.keys + weight term) }
     ensures kept { IfOk result (λ added. added ≡ false → terms.new.keys ≡ terms.old.keys) }
-    ensures adds { OnOk result ((y : Tree) → Both (IsAmong y terms.new.keys) ((y ≡ term) ⊎ IsAmong y terms.old.keys)) }
+    ensures adds { OnOk result ((y : Tree) → Both (IsAmong terms.new.keys y) ((y ≡ term) ⊎ IsAmong terms.old.keys y)) }
     ensures rising { AreRising terms.new.keys }
     ensures err { OnErr result (terms.new.keys ≡ terms.old.keys) }
 {
@@ -74,7 +75,7 @@ impl Gathered {
     pub(crate) fn add(&mut self, term: Term) -> Result<(), NoMemory>
         requires light { weight term ≤ 4000000 }
         requires room { set_weight self.old ≤ 4000000 }
-        ensures adds { OnOk result ((y : Tree) → Both (IsAmong y self.new) ((y ≡ term) ⊎ IsAmong y self.old)) }
+        ensures adds { OnOk result ((y : Tree) → Both (IsAmong self.new y) ((y ≡ term) ⊎ IsAmong self.old y)) }
         ensures weight { OnOk result (set_weight self.new ≤ set_weight self.old + weight term) }
         ensures err { OnErr result (self.new ≡ self.old) }
     {

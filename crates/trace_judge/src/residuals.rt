@@ -3,7 +3,8 @@
 ghost use Rattle.std.specs.Prelude.{◌≡◌, ◌≤◌, ◌<◌, ◌⊎◌, ◌↔◌, [], ◌∷◌, ◌++◌, ℕ, IfOk, OnOk, OnErr, IsTrue, true, false, MatchOption};
 ghost use Rattle.chart_term.specs.Properties.{Each};
 ghost use Rattle.chart_term.specs.Terms.{weight};
-ghost use Rattle.term_laws.specs.Listing.{IsAmong, set_weight};
+ghost use Rattle.term_laws.specs.Listing.{set_weight};
+ghost use Rattle.msc_base.specs.Lists.{IsAmong};
 ghost use Rattle.permit_step.specs.Successors.{IsSuccessor};
 ghost use Rattle.trace_judge.specs.Sets.{SetValue, IsSoundFor, IsServing, IsLeftOf, PassBudget, HasEnding, AreRising};
 ghost use Rattle.trace_judge.specs.Gathers.{IsOver, JoinsAll};
@@ -56,8 +57,8 @@ fn add_found(
     requires most { budget ≤ 4000000 }
     requires room { set_weight gathered.old ≤ budget }
     requires light { Each (λ x. weight x ≤ budget) found.now }
-    ensures all { IfOk result (λ fits. fits ≡ true → JoinsAll (λ y. IsAmong y found.now) budget gathered.old gathered.new) }
-    ensures over { IfOk result (λ fits. fits ≡ false → IsOver (λ y. IsAmong y gathered.old ⊎ IsAmong y found.now) budget) }
+    ensures all { IfOk result (λ fits. fits ≡ true → JoinsAll (λ y. IsAmong found.now y) budget gathered.old gathered.new) }
+    ensures over { IfOk result (λ fits. fits ≡ false → IsOver (λ y. IsAmong gathered.old y ⊎ IsAmong found.now y) budget) }
 {
     for index in 0..found.len() {
         gathered.add(found.at(index).copy(alloc)?)?;
@@ -81,7 +82,7 @@ fn add_successors(
     requires most { budget ≤ 4000000 }
     requires room { set_weight gathered.old ≤ budget }
     ensures all { IfOk result (λ fits. fits ≡ true → JoinsAll (IsSuccessor nets.now label.now term.now) budget gathered.old gathered.new) }
-    ensures over { IfOk result (λ fits. fits ≡ false → IsOver (λ y. IsAmong y gathered.old ⊎ IsSuccessor nets.now label.now term.now y) budget) }
+    ensures over { IfOk result (λ fits. fits ≡ false → IsOver (λ y. IsAmong gathered.old y ⊎ IsSuccessor nets.now label.now term.now y) budget) }
 {
     let mut found = TermList::new(alloc);
     if !after(alloc, nets, term, label, budget, &mut found)? {
