@@ -41,8 +41,8 @@ among_listed : (xs : List Tree) (t : Tree) → is_listed t xs ≡ true → IsAmo
 among_listed [] t h = cc
 among_listed (x ∷ xs) t h = go (same_tree x t) refl h (among_listed xs t)
   where
-    go : (a : Bool) → same_tree x t ≡ a → (a || is_listed t xs) ≡ true → (is_listed t xs ≡ true → IsAmong xs t) → (x ≡ t) ⊎ IsAmong xs t
-    go true e l f = inl (same_tree_is_exact.sound x t e)
+    go : (a : Bool) → same_tree x t ≡ a → (a || is_listed t xs) ≡ true → (is_listed t xs ≡ true → IsAmong xs t) → (t ≡ x) ⊎ IsAmong xs t
+    go true e l f = inl (sym (same_tree_is_exact.sound x t e))
     go false e l f = inr (f l)
 
 -- the order and the test of equality agree

@@ -33,19 +33,11 @@ use Rattle.trace_judge.proofs.Lists.{each_at, each_from, rising_different, membe
 -- a term put at its place
 
 pub insert_among : (y x : Tree) (xs : List Tree) → Both (IsAmong (insert_key tree_cmp xs x) y) ((y ≡ x) ⊎ IsAmong xs y)
-insert_among y x [] = record { to = λ h. elim h [ inl e ↦ inl (sym e) | inr b ↦ absurd b ]; from = λ h. elim h [ inl e ↦ inl (sym e) | inr b ↦ absurd b ] }
+insert_among y x [] = record { to = λ h. h; from = λ h. h }
 insert_among y x (z ∷ zs) = go (tree_cmp x z) refl (insert_among y x zs)
   where
-    to_front : IsAmong (x ∷ z ∷ zs) y → (y ≡ x) ⊎ IsAmong (z ∷ zs) y
-    to_front (inl e) = inl (sym e)
-    to_front (inr h) = inr h
-
-    from_front : (y ≡ x) ⊎ IsAmong (z ∷ zs) y → IsAmong (x ∷ z ∷ zs) y
-    from_front (inl e) = inl (sym e)
-    from_front (inr h) = inr h
-
     from_same : x ≡ z → (y ≡ x) ⊎ IsAmong (z ∷ zs) y → IsAmong (z ∷ zs) y
-    from_same e (inl q) = inl (sym (q ∙ e))
+    from_same e (inl q) = inl (q ∙ e)
     from_same e (inr h) = h
 
     to_later : (r : List Tree) → (IsAmong r y → (y ≡ x) ⊎ IsAmong zs y) → IsAmong (z ∷ r) y → (y ≡ x) ⊎ IsAmong (z ∷ zs) y
@@ -58,7 +50,7 @@ insert_among y x (z ∷ zs) = go (tree_cmp x z) refl (insert_among y x zs)
     from_later r f (inr (inr h)) = inr (f (inr h))
 
     go : (o : Ordering) → tree_cmp x z ≡ o → Both (IsAmong (insert_key tree_cmp zs x) y) ((y ≡ x) ⊎ IsAmong zs y) → Both (IsAmong (match_ordering o (x ∷ z ∷ zs) (z ∷ zs) (z ∷ insert_key tree_cmp zs x)) y) ((y ≡ x) ⊎ IsAmong (z ∷ zs) y)
-    go Less e r = record { to = to_front; from = from_front }
+    go Less e r = record { to = λ h. h; from = λ h. h }
     go Equal e r = record { to = inr; from = from_same (tree_equal x z e) }
     go Greater e r = record { to = to_later (insert_key tree_cmp zs x) r.to; from = from_later (insert_key tree_cmp zs x) r.from }
 
@@ -119,25 +111,25 @@ at_among (y ∷ ys) (suc i) x e = inr (at_among ys i x e)
 
 -- one more of the prefix of a list
 
-suc_among : (xs : List Tree) (i : ℕ) (x y : Tree) → slice_get xs i ≡ Some x → IsAmong (take (suc i) xs) y → (x ≡ y) ⊎ IsAmong (take i xs) y
+suc_among : (xs : List Tree) (i : ℕ) (x y : Tree) → slice_get xs i ≡ Some x → IsAmong (take (suc i) xs) y → (y ≡ x) ⊎ IsAmong (take i xs) y
 suc_among [] i x y e h = cc
-suc_among (z ∷ zs) zero x y e (inl q) = let p : z ≡ x = cc in inl (sym p ∙ q)
+suc_among (z ∷ zs) zero x y e (inl q) = let p : z ≡ x = cc in inl (q ∙ p)
 suc_among (z ∷ zs) zero x y e (inr h) = absurd h
 suc_among (z ∷ zs) (suc i) x y e (inl q) = inr (inl q)
 suc_among (z ∷ zs) (suc i) x y e (inr h) = elim (suc_among zs i x y e h) [ inl q ↦ inl q | inr j ↦ inr (inr j) ]
 
-among_suc : (xs : List Tree) (i : ℕ) (x y : Tree) → slice_get xs i ≡ Some x → (x ≡ y) ⊎ IsAmong (take i xs) y → IsAmong (take (suc i) xs) y
+among_suc : (xs : List Tree) (i : ℕ) (x y : Tree) → slice_get xs i ≡ Some x → (y ≡ x) ⊎ IsAmong (take i xs) y → IsAmong (take (suc i) xs) y
 among_suc [] i x y e h = cc
-among_suc (z ∷ zs) zero x y e (inl q) = let p : z ≡ x = cc in inl (p ∙ q)
+among_suc (z ∷ zs) zero x y e (inl q) = let p : z ≡ x = cc in inl (q ∙ sym p)
 among_suc (z ∷ zs) zero x y e (inr h) = absurd h
 among_suc (z ∷ zs) (suc i) x y e (inl q) = inr (among_suc zs i x y e (inl q))
 among_suc (z ∷ zs) (suc i) x y e (inr (inl q)) = inl q
 among_suc (z ∷ zs) (suc i) x y e (inr (inr h)) = inr (among_suc zs i x y e (inr h))
 
-pub take_among : (xs : List Tree) (i : ℕ) (x y : Tree) → slice_get xs i ≡ Some x → IsAmong (take (i + 1) xs) y → (x ≡ y) ⊎ IsAmong (take i xs) y
+pub take_among : (xs : List Tree) (i : ℕ) (x y : Tree) → slice_get xs i ≡ Some x → IsAmong (take (i + 1) xs) y → (y ≡ x) ⊎ IsAmong (take i xs) y
 take_among xs i x y e h = suc_among xs i x y e (subst (λ (n : ℕ). IsAmong (take n xs) y) (add-one i) h)
 
-pub among_take : (xs : List Tree) (i : ℕ) (x y : Tree) → slice_get xs i ≡ Some x → (x ≡ y) ⊎ IsAmong (take i xs) y → IsAmong (take (i + 1) xs) y
+pub among_take : (xs : List Tree) (i : ℕ) (x y : Tree) → slice_get xs i ≡ Some x → (y ≡ x) ⊎ IsAmong (take i xs) y → IsAmong (take (i + 1) xs) y
 among_take xs i x y e h = subst (λ (n : ℕ). IsAmong (take n xs) y) (sym (add-one i)) (among_suc xs i x y e h)
 
 pub among_some : (xs : List Tree) (i : ℕ) (y : Tree) → IsAmong (take i xs) y → IsAmong xs y
@@ -180,12 +172,12 @@ joins_up : (xs : List Tree) (i : ℕ) (x : Tree) (old mid new : List Tree) (budg
 joins_up xs i x old mid new budget e j a y = record { to = λ h. forth ((a y).to h); from = λ h. back h }
   where
     forth : (y ≡ x) ⊎ IsAmong mid y → IsAmong old y ⊎ IsAmong (take (i + 1) xs) y
-    forth (inl q) = inr (among_take xs i x y e (inl (sym q)))
+    forth (inl q) = inr (among_take xs i x y e (inl q))
     forth (inr h) = elim ((j.exact y).to h) [ inl k ↦ inl k | inr k ↦ inr (among_take xs i x y e (inr k)) ]
 
     back : IsAmong old y ⊎ IsAmong (take (i + 1) xs) y → IsAmong new y
     back (inl k) = (a y).from (inr ((j.exact y).from (inl k)))
-    back (inr k) = elim (take_among xs i x y e k) [ inl q ↦ (a y).from (inl (sym q)) | inr m ↦ (a y).from (inr ((j.exact y).from (inr m))) ]
+    back (inr k) = elim (take_among xs i x y e k) [ inl q ↦ (a y).from (inl q) | inr m ↦ (a y).from (inr ((j.exact y).from (inr m))) ]
 
 pub joins_more : (xs : List Tree) (i : ℕ) (x : Tree) (old mid new : List Tree) (budget : ℕ) → slice_get xs i ≡ Some x → JoinsAll (λ y. IsAmong (take i xs) y) budget old mid → ((y : Tree) → Both (IsAmong new y) ((y ≡ x) ⊎ IsAmong mid y)) → set_weight new ≤ budget
     → JoinsAll (λ y. IsAmong (take (i + 1) xs) y) budget old new
@@ -246,7 +238,7 @@ module _ (v : NetsValue) (a : Label) (terms : List Tree) (budget : ℕ) where
 
         back : (y : Tree) → IsLeftOf v a (take (i + 1) terms) y → IsAmong new y
         back y l = elim (take_among terms i x l.term e l.held) [
-          | inl q ↦ (k.exact y).from (inr (subst (λ (t : Tree). IsSuccessor v a t y) (sym q) l.left))
+          | inl q ↦ (k.exact y).from (inr (subst (λ (t : Tree). IsSuccessor v a t y) q l.left))
           | inr h ↦ (k.exact y).from (inl ((j.exact y).from (inr (record { term = l.term; held = h; left = l.left }))))
         ]
 

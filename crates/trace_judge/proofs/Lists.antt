@@ -17,7 +17,7 @@ use Rattle.trace_judge.specs.Sets.{AreRising}
 
 pub each_at : (P : Tree → Type 0) (xs : List Tree) (x : Tree) → Each P xs → IsAmong xs x → P x
 each_at P [] x h i = absurd i
-each_at P (y ∷ xs) x h (inl e) = subst P e h.0
+each_at P (y ∷ xs) x h (inl e) = subst P (sym e) h.0
 each_at P (y ∷ xs) x h (inr i) = each_at P xs x h.1 i
 
 pub each_from : (P : Tree → Type 0) (xs : List Tree) → ((x : Tree) → IsAmong xs x → P x) → Each P xs
@@ -33,14 +33,14 @@ apart x y h e = let t : same_tree x y ≡ true = same_tree_is_exact.whole x y e 
 record Removed (x : Tree) (ys : List Tree) : Type 0 where
   pub rest : List Tree
   pub weighs : set_weight ys ≡ weight x + set_weight rest
-  pub others : (z : Tree) → IsAmong ys z → (x ≡ z) ⊎ IsAmong rest z
+  pub others : (z : Tree) → IsAmong ys z → (z ≡ x) ⊎ IsAmong rest z
 
 remove : (x : Tree) (ys : List Tree) → IsAmong ys x → Removed x ys
 remove x [] h = absurd h
 remove x (y ∷ ys) (inl e) = record {
   rest = ys;
-  weighs = ap (λ (z : Tree). weight z + set_weight ys) e;
-  others = λ z i. elim i [ inl q ↦ inl (sym e ∙ q) | inr j ↦ inr j ];
+  weighs = ap (λ (z : Tree). weight z + set_weight ys) (sym e);
+  others = λ z i. elim i [ inl q ↦ inl (q ∙ sym e) | inr j ↦ inr j ];
 }
 remove x (y ∷ ys) (inr h) = let r = remove x ys h in record {
   rest = y ∷ r.rest;
@@ -48,7 +48,7 @@ remove x (y ∷ ys) (inr h) = let r = remove x ys h in record {
   others = λ z i. elim i [ inl q ↦ inr (inl q) | inr j ↦ later r.rest z (r.others z j) ];
 }
   where
-    later : (r : List Tree) (z : Tree) → (x ≡ z) ⊎ IsAmong r z → (x ≡ z) ⊎ IsAmong (y ∷ r) z
+    later : (r : List Tree) (z : Tree) → (z ≡ x) ⊎ IsAmong r z → (z ≡ x) ⊎ IsAmong (y ∷ r) z
     later r z (inl q) = inl q
     later r z (inr j) = inr (inr j)
 
@@ -60,8 +60,8 @@ lighter (x ∷ xs) ys d f =
     let l = lighter xs r.rest d.1 (λ z i. other r.rest z i (r.others z (f z (inr i)))) in
     omega (arith, r.weighs, l)
   where
-    other : (r : List Tree) (z : Tree) → IsAmong xs z → (x ≡ z) ⊎ IsAmong r z → IsAmong r z
-    other r z i (inl q) = absurd (apart x z (each_at (λ y. same_tree x y ≡ false) xs z d.0 i) q)
+    other : (r : List Tree) (z : Tree) → IsAmong xs z → (z ≡ x) ⊎ IsAmong r z → IsAmong r z
+    other r z i (inl q) = absurd (apart x z (each_at (λ y. same_tree x y ≡ false) xs z d.0 i) (sym q))
     other r z i (inr j) = j
 
 -- lists of different terms with the same members have the same weight
@@ -71,7 +71,7 @@ same_weight xs ys d e f g = omega (arith, lighter xs ys d f, lighter ys xs e g)
 -- a member weighs no more than the list
 pub member_weight : (x : Tree) (xs : List Tree) → IsAmong xs x → weight x ≤ set_weight xs
 member_weight x [] h = absurd h
-member_weight x (y ∷ xs) (inl e) = let q : weight y ≡ weight x = ap weight e in omega arith
+member_weight x (y ∷ xs) (inl e) = let q : weight y ≡ weight x = ap weight (sym e) in omega arith
 member_weight x (y ∷ xs) (inr h) = let l = member_weight x xs h in omega arith
 
 -- terms that rise are different
