@@ -153,7 +153,7 @@ true_false e = cc
 
 pub more_ends : (v : NetsValue) (xs : List Tree) (i : ℕ) (x : Tree) (b : Bool) → slice_get xs i ≡ Some x → (IsTrue b ↔ MayEnd (terms_over v.tables) x) → b ≡ false → (HasEnding v (take i xs) → ⊥) → HasEnding v (take (i + 1) xs) → ⊥
 more_ends v xs i x b e h f g k = elim (take_among xs i x k.term e k.held) [
-  | inl q ↦ true_false (sym (h.1 (subst (MayEnd (terms_over v.tables)) (sym q) k.ends)) ∙ f)
+  | inl q ↦ true_false (sym (h.1 (subst (MayEnd (terms_over v.tables)) q k.ends)) ∙ f)
   | inr j ↦ g (record { term = k.term; held = j; ends = k.ends })
 ]
 

@@ -30,8 +30,8 @@ pub set_start : (v : NetsValue) (x : Tree) → AreResiduals v x [] (x ∷ [])
 set_start v x = record {
   different = (tt, tt);
   exact = λ y. record {
-    to = λ h. elim h [ inl e ↦ left_itself v x y e | inr b ↦ absurd b ];
-    from = λ h. inl (left_start v x y h);
+    to = λ h. elim h [ inl e ↦ left_itself v x y (sym e) | inr b ↦ absurd b ];
+    from = λ h. inl (sym (left_start v x y h));
   };
 }
 
