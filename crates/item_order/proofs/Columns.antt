@@ -1,8 +1,8 @@
 -- Neighbours make up a column, and a whole order has each column as its restriction.
 use Rattle.std.proofs.Common.{◌≡◌, ℕ, ◌<◌, Bool, true, false, List, [], ◌∷◌, ◌++◌, ◌⊎◌, inl, inr, if◌then◌else◌, All, refl, sym, ap, ◌∙◌, subst, arith, append-nil, append_assoc}
-use Rattle.msc_base.specs.Lists.{IsAmong}
+use Rattle.msc_base.specs.Lists.{IsAmong, AreDifferent}
 use Rattle.item_order.specs.Orders.{IsNext, IsWhole}
-use Rattle.item_order.specs.Weaving.{Before, Precedes, restricted, HasColumn, AreDifferent, IsWoven}
+use Rattle.item_order.specs.Weaving.{Before, Precedes, restricted, IsWoven}
 use Rattle.item_order.specs.Counts.{Leads, Inside, has}
 use Rattle.std.proofs.lemmas.List.Elements.{All-cons}
 use Rattle.item_order.specs.Columns.{from_to, neighbours, all_neighbours}
@@ -93,12 +93,12 @@ before_right : (past rest : List ℕ) (y x : ℕ) → Before rest y x → Before
 before_right [] rest y x b = b
 before_right (p ∷ past) rest y x b = inr (before_right past rest y x b)
 
-column_precedes : (columns : List (List ℕ)) (column : List ℕ) (y x : ℕ) → HasColumn columns column → Before column y x → Precedes columns y x
+column_precedes : (columns : List (List ℕ)) (column : List ℕ) (y x : ℕ) → IsAmong columns column → Before column y x → Precedes columns y x
 column_precedes [] column y x h b = absurd h
-column_precedes (c ∷ cs) column y x (inl e) b = inl (subst (λ (k : List ℕ). Before k y x) (sym e) b)
+column_precedes (c ∷ cs) column y x (inl e) b = inl (subst (λ (k : List ℕ). Before k y x) e b)
 column_precedes (c ∷ cs) column y x (inr h) b = inr (column_precedes cs column y x h b)
 
-module _ (n : ℕ) (columns : List (List ℕ)) (column : List ℕ) (mine : HasColumn columns column) where
+module _ (n : ℕ) (columns : List (List ℕ)) (column : List ℕ) (mine : IsAmong columns column) where
   head_is : (prefix xs past rest : List ℕ) (x : ℕ) → IsNext n (Precedes columns) prefix x → column ≡ past ++ rest → ((x : ℕ) → IsAmong past x → IsAmong prefix x) → ((x : ℕ) → IsAmong rest x → IsAmong prefix x → ⊥) → IsAmong column x → (rs : List ℕ) × (rest ≡ x ∷ rs)
   head_is prefix xs past [] x next is in_front later h =
       absurd (next.due.remains (in_front x (subst (λ (k : List ℕ). IsAmong k x) (is ∙ append-nil past) h)))
@@ -153,7 +153,7 @@ follows_different n precedes prefix (y ∷ ys) f =
       ],
     )
 
-pub woven : (n : ℕ) (columns : List (List ℕ)) (order : List ℕ) → ((column : List ℕ) → HasColumn columns column → (x : ℕ) → IsAmong column x → x < n) → IsWhole n (Precedes columns) order → IsWoven n columns order
+pub woven : (n : ℕ) (columns : List (List ℕ)) (order : List ℕ) → ((column : List ℕ) → IsAmong columns column → (x : ℕ) → IsAmong column x → x < n) → IsWhole n (Precedes columns) order → IsWoven n columns order
 woven n columns order inside w =
     let f : Follows n (Precedes columns) [] order = to_follows n (Precedes columns) [] order w.earliest in
     let d = follows_different n (Precedes columns) [] order f in
@@ -177,10 +177,10 @@ before_both [] y x b = absurd b
 before_both (c ∷ cs) y x (inl p) = (inl (sym p.0), inr p.1)
 before_both (c ∷ cs) y x (inr b) = let r = before_both cs y x b in (inr r.0, inr r.1)
 
-precedes_inside : (n : ℕ) (columns : List (List ℕ)) → ((column : List ℕ) → HasColumn columns column → (x : ℕ) → IsAmong column x → x < n) → (y x : ℕ) → Precedes columns y x → (y < n) × (x < n)
+precedes_inside : (n : ℕ) (columns : List (List ℕ)) → ((column : List ℕ) → IsAmong columns column → (x : ℕ) → IsAmong column x → x < n) → (y x : ℕ) → Precedes columns y x → (y < n) × (x < n)
 precedes_inside n [] h y x p = absurd p
 precedes_inside n (c ∷ cs) h y x (inl b) = let r = before_both c y x b in (h c (inl refl) y r.0, h c (inl refl) x r.1)
 precedes_inside n (c ∷ cs) h y x (inr p) = precedes_inside n cs (λ column m. h column (inr m)) y x p
 
-pub neighbours_inside : (n : ℕ) (columns : List (List ℕ)) → ((column : List ℕ) → HasColumn columns column → (x : ℕ) → IsAmong column x → x < n) → All (Inside n) (all_neighbours columns)
+pub neighbours_inside : (n : ℕ) (columns : List (List ℕ)) → ((column : List ℕ) → IsAmong columns column → (x : ℕ) → IsAmong column x → x < n) → All (Inside n) (all_neighbours columns)
 neighbours_inside n columns h = all_leads_inside n (all_neighbours columns) (λ y x l. precedes_inside n columns h y x (all_within columns y x l))

@@ -5,7 +5,6 @@ use Rattle.msc_base.specs.Lists.{IsAmong}
 use Rattle.item_order.specs.declared.edge.Edge.{Edge}
 use Rattle.item_order.specs.Columns.{columns_from, items_of}
 use Rattle.item_order.specs.Counts.{targets}
-use Rattle.item_order.specs.Weaving.{HasColumn}
 
 pub lists_are : (k : ℕ) (vs : List (Vec ℕ Global)) (entries : List Edge) → ((x : ℕ) (v : Vec ℕ Global) → slice_get vs x ≡ Some v → v.items ≡ targets entries (k + x))
     → items_of vs ≡ columns_from k (length vs) entries
@@ -29,9 +28,9 @@ target_low columns count (e ∷ es) k x low h = by (nat_eq e.from k) h (target_l
     by false g rest = rest g
 
 pub columns_low : (columns count k n : ℕ) (entries : List Edge) → All (λ (e : Edge). (e.from < columns) × (e.to < count)) entries
-    → (column : List ℕ) → HasColumn (columns_from k n entries) column → (x : ℕ) → IsAmong column x → x < count
+    → (column : List ℕ) → IsAmong (columns_from k n entries) column → (x : ℕ) → IsAmong column x → x < count
 columns_low columns count k zero entries low column mine x h = absurd mine
-columns_low columns count k (suc n) entries low column (inl is) x h = target_low columns count entries k x low (subst (λ (c : List ℕ). IsAmong c x) (sym is) h)
+columns_low columns count k (suc n) entries low column (inl is) x h = target_low columns count entries k x low (subst (λ (c : List ℕ). IsAmong c x) is h)
 columns_low columns count k (suc n) entries low column (inr mine) x h = columns_low columns count (suc k) n entries low column mine x h
 
 -- the lists of the targets are the columns

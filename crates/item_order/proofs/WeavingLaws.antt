@@ -3,7 +3,7 @@ use Rattle.std.proofs.Common.{◌≡◌, ℕ, ◌<◌, ◌≤◌, ◌+◌, ◌�
 use Rattle.std.proofs.lemmas.Bool.{cases_lt, cases_eq}
 use Rattle.msc_base.specs.Lists.{IsAmong}
 use Rattle.item_order.specs.Orders.{IsNext}
-use Rattle.item_order.specs.Weaving.{Before, Precedes, HasColumn}
+use Rattle.item_order.specs.Weaving.{Before, Precedes}
 use Rattle.item_order.specs.Laws.{WovenIsOne, NeverWovenAndCrossed, CrossedIsOne, TextIsWoven, numbers_from}
 use Rattle.item_order.proofs.Agree.{Follows, from_follows, whole_same, whole_or_stuck, stuck_same}
 use Rattle.item_order.proofs.Columns.{woven, whole_of}
@@ -51,7 +51,7 @@ has_number : (k m x : ℕ) → k ≤ x → x < k + m → IsAmong (numbers_from k
 has_number k zero x low high = absurd (omega arith)
 has_number k (suc m) x low high = elim (cases_eq k x) [ inl e ↦ inl (sym e) | inr ne ↦ inr (has_number (suc k) m x (omega arith) (omega arith)) ]
 
-precedes_rises : (columns : List (List ℕ)) → ((column : List ℕ) → HasColumn columns column → (y x : ℕ) → Before column y x → y < x) → (y x : ℕ) → Precedes columns y x → y < x
+precedes_rises : (columns : List (List ℕ)) → ((column : List ℕ) → IsAmong columns column → (y x : ℕ) → Before column y x → y < x) → (y x : ℕ) → Precedes columns y x → y < x
 precedes_rises [] each y x p = absurd p
 precedes_rises (c ∷ cs) each y x (inl b) = each c (inl refl) y x b
 precedes_rises (c ∷ cs) each y x (inr p) = precedes_rises cs (λ column h. each column (inr h)) y x p

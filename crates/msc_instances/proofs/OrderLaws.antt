@@ -1,5 +1,5 @@
 -- The columns of events are in the order of the text.
-use Rattle.std.proofs.Common.{◌≡◌, ℕ, ◌<◌, ◌≤◌, ◌+◌, suc, Bool, true, false, cond, List, [], ◌∷◌, inl, inr, length, subst, sym, arith}
+use Rattle.std.proofs.Common.{◌≡◌, ℕ, ◌<◌, ◌≤◌, ◌+◌, suc, Bool, true, false, cond, List, [], ◌∷◌, inl, inr, length, subst, arith}
 use Rattle.std.specs.Str.{bytes_eq}
 use Rattle.msc_base.specs.Lists.{IsAmong}
 use Rattle.item_order.specs.Laws.{AreInOrder, NeverWovenAndCrossed, TextIsWoven, WovenIsOne, numbers_from}
@@ -36,8 +36,8 @@ in_order : (events : List PlacedEvent) (names : List (List ℕ)) → AreInOrder 
 in_order events [] = λ column mine. absurd mine
 in_order events (name ∷ names) = λ column mine. elim mine [
   | inl is ↦ (
-    λ x h. let w = column_within 0 events name x (subst (λ (c : List ℕ). IsAmong c x) (sym is) h) in omega (arith, w.1),
-    λ y x h. column_rises 0 events name y x (subst (λ (c : List ℕ). Before c y x) (sym is) h),
+    λ x h. let w = column_within 0 events name x (subst (λ (c : List ℕ). IsAmong c x) is h) in omega (arith, w.1),
+    λ y x h. column_rises 0 events name y x (subst (λ (c : List ℕ). Before c y x) is h),
   )
   | inr more ↦ in_order events names column more
 ]
