@@ -1,6 +1,7 @@
 -- At most one list is woven: two lists, each earliest at each position, that can't go on, are the same.
 use Rattle.std.proofs.Common.{◌≡◌, ℕ, ◌≤◌, List, [], ◌∷◌, ◌++◌, take, zero, suc, refl, sym, ap, ◌∙◌, subst, append-nil, append_assoc, arith}
-use Rattle.item_order.specs.Orders.{Has, IsAt, IsDue, IsNext, IsWhole, IsStuckAt}
+use Rattle.msc_base.specs.Lists.{IsAmong}
+use Rattle.item_order.specs.Orders.{IsAt, IsDue, IsNext, IsWhole, IsStuckAt}
 
 module _ (n : ℕ) (precedes : ℕ → ℕ → Type 0) where
   -- behind prefix, each item of the list is the next
@@ -49,11 +50,11 @@ module _ (n : ℕ) (precedes : ℕ → ℕ → Type 0) where
   pub whole_or_stuck : (a : List ℕ) (x : ℕ) → IsWhole n precedes a → IsStuckAt n precedes x → ⊥
   whole_or_stuck a x w s =
       let is : a ≡ s.prefix = agree [] a s.prefix (to_follows [] a w.earliest) (to_follows [] s.prefix s.earliest) (whole_ended a w) s.stuck in
-      s.remains (subst (λ (l : List ℕ). Has l x) is (w.every x s.inside))
+      s.remains (subst (λ (l : List ℕ). IsAmong l x) is (w.every x s.inside))
 
   pub stuck_same : (x y : ℕ) → IsStuckAt n precedes x → IsStuckAt n precedes y → x ≡ y
   stuck_same x y s t =
       let is : s.prefix ≡ t.prefix = agree [] s.prefix t.prefix (to_follows [] s.prefix s.earliest) (to_follows [] t.prefix t.earliest) s.stuck t.stuck in
-      let le : x ≤ y = s.first y t.inside (λ h. t.remains (subst (λ (l : List ℕ). Has l y) is h)) in
-      let ge : y ≤ x = t.first x s.inside (λ h. s.remains (subst (λ (l : List ℕ). Has l x) (sym is) h)) in
+      let le : x ≤ y = s.first y t.inside (λ h. t.remains (subst (λ (l : List ℕ). IsAmong l y) is h)) in
+      let ge : y ≤ x = t.first x s.inside (λ h. s.remains (subst (λ (l : List ℕ). IsAmong l x) (sym is) h)) in
       omega arith

@@ -1,7 +1,8 @@
 -- Stuck exactly where there is no order at all.
-use Rattle.std.proofs.Common.{◌≡◌, ℕ, ◌<◌, ◌≤◌, ◌⊎◌, inl, inr, List, [], ◌∷◌, Some, take, zero, suc, arith, ap}
+use Rattle.std.proofs.Common.{◌≡◌, ℕ, ◌<◌, ◌≤◌, ◌⊎◌, inl, inr, List, [], ◌∷◌, Some, take, zero, suc, arith, ap, sym}
 use Rattle.std.proofs.lemmas.Bool.{cases_eq, cases_lt}
-use Rattle.item_order.specs.Orders.{Has, IsAt, IsWhole, IsStuckAt}
+use Rattle.msc_base.specs.Lists.{IsAmong}
+use Rattle.item_order.specs.Orders.{IsAt, IsWhole, IsStuckAt}
 use Rattle.item_order.proofs.Ranks.{all_in}
 
 -- an arrangement of the first n items, each once, that keeps the relation
@@ -11,21 +12,21 @@ pub record IsOrder (n : ℕ) (precedes : ℕ → ℕ → Type 0) (order : List �
   pub once : (i j x : ℕ) → IsAt order i x → IsAt order j x → i ≡ j
   pub kept : (i j y x : ℕ) → IsAt order i y → IsAt order j x → precedes y x → i < j
 
-has_at : (xs : List ℕ) (x : ℕ) → Has xs x → (i : ℕ) × IsAt xs i x
+has_at : (xs : List ℕ) (x : ℕ) → IsAmong xs x → (i : ℕ) × IsAt xs i x
 has_at [] x h = absurd h
-has_at (y ∷ ys) x (inl e) = (0, ap (λ (z : ℕ). Some z) e)
+has_at (y ∷ ys) x (inl e) = (0, ap (λ (z : ℕ). Some z) (sym e))
 has_at (y ∷ ys) x (inr h) = let t = has_at ys x h in (suc t.0, t.1)
 
-taken_at : (k : ℕ) (xs : List ℕ) (x : ℕ) → Has (take k xs) x → (i : ℕ) × (i < k) × IsAt xs i x
+taken_at : (k : ℕ) (xs : List ℕ) (x : ℕ) → IsAmong (take k xs) x → (i : ℕ) × (i < k) × IsAt xs i x
 taken_at zero xs x h = absurd h
 taken_at (suc k) [] x h = absurd h
-taken_at (suc k) (y ∷ ys) x (inl e) = (0, omega arith, ap (λ (z : ℕ). Some z) e)
+taken_at (suc k) (y ∷ ys) x (inl e) = (0, omega arith, ap (λ (z : ℕ). Some z) (sym e))
 taken_at (suc k) (y ∷ ys) x (inr h) = let t = taken_at k ys x h in (suc t.0, omega (arith, t.1), t.2)
 
-at_taken : (k : ℕ) (xs : List ℕ) (i x : ℕ) → IsAt xs i x → i < k → Has (take k xs) x
+at_taken : (k : ℕ) (xs : List ℕ) (i x : ℕ) → IsAt xs i x → i < k → IsAmong (take k xs) x
 at_taken zero xs i x at lt = absurd (omega arith)
 at_taken (suc k) [] i x at lt = cc
-at_taken (suc k) (y ∷ ys) zero x at lt = let e : y ≡ x = cc in inl e
+at_taken (suc k) (y ∷ ys) zero x at lt = let e : x ≡ y = cc in inl e
 at_taken (suc k) (y ∷ ys) (suc i) x at lt = inr (at_taken k ys i x at (omega arith))
 
 module _ (n : ℕ) (precedes : ℕ → ℕ → Type 0) (within : (y x : ℕ) → precedes y x → (y < n) × (x < n)) where

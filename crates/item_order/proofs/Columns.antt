@@ -1,7 +1,8 @@
 -- Neighbours make up a column, and a whole order has each column as its restriction.
 use Rattle.std.proofs.Common.{◌≡◌, ℕ, ◌<◌, Bool, true, false, List, [], ◌∷◌, ◌++◌, ◌⊎◌, inl, inr, if◌then◌else◌, All, refl, sym, ap, ◌∙◌, subst, arith, append-nil, append_assoc}
-use Rattle.item_order.specs.Orders.{Has, IsNext, IsWhole}
-use Rattle.item_order.specs.Weaving.{Before, Precedes, restricted, HasColumn, AreDifferent, IsWoven}
+use Rattle.msc_base.specs.Lists.{IsAmong, AreDifferent}
+use Rattle.item_order.specs.Orders.{IsNext, IsWhole}
+use Rattle.item_order.specs.Weaving.{Before, Precedes, restricted, IsWoven}
 use Rattle.item_order.specs.Counts.{Leads, Inside, has}
 use Rattle.std.proofs.lemmas.List.Elements.{All-cons}
 use Rattle.item_order.specs.Columns.{from_to, neighbours, all_neighbours}
@@ -24,23 +25,23 @@ leads_either [] fs y x l = inr l
 leads_either (e ∷ es) fs y x (inl p) = inl (inl p)
 leads_either (e ∷ es) fs y x (inr l) = elim (leads_either es fs y x l) [ inl a ↦ inl (inr a) | inr b ↦ inr b ]
 
-before_has : (cs : List ℕ) (y x : ℕ) → Before cs y x → Has cs x
+before_has : (cs : List ℕ) (y x : ℕ) → Before cs y x → IsAmong cs x
 before_has [] y x b = absurd b
 before_has (c ∷ cs) y x (inl p) = inr p.1
 before_has (c ∷ cs) y x (inr b) = inr (before_has cs y x b)
 
 from_within : (c : ℕ) (cs : List ℕ) (y x : ℕ) → Leads (from_to c cs) y x → Before (c ∷ cs) y x
 from_within c [] y x l = absurd l
-from_within c (d ∷ ds) y x (inl p) = inl (p.0, inl p.1)
+from_within c (d ∷ ds) y x (inl p) = inl (p.0, inl (sym p.1))
 from_within c (d ∷ ds) y x (inr l) = inr (from_within d ds y x l)
 
 abbrev Steps : (ℕ → ℕ → Type 0) → (ℕ → ℕ → Type 0) → ℕ → ℕ → Type 0
 Steps near far y x = near y x ⊎ ((z : ℕ) × far y z × near z x)
 
 -- what follows the first item
-from_first : (c : ℕ) (cs : List ℕ) (x : ℕ) → Has cs x → Leads (from_to c cs) c x ⊎ ((z : ℕ) × Has cs z × Leads (from_to c cs) z x)
+from_first : (c : ℕ) (cs : List ℕ) (x : ℕ) → IsAmong cs x → Leads (from_to c cs) c x ⊎ ((z : ℕ) × IsAmong cs z × Leads (from_to c cs) z x)
 from_first c [] x h = absurd h
-from_first c (d ∷ ds) x (inl e) = inl (inl (refl, e))
+from_first c (d ∷ ds) x (inl e) = inl (inl (refl, sym e))
 from_first c (d ∷ ds) x (inr h) = elim (from_first d ds x h) [
   | inl l ↦ inr (d, inl refl, inr l)
   | inr t ↦ inr (t.0, inr t.1, inr t.2)
@@ -92,67 +93,67 @@ before_right : (past rest : List ℕ) (y x : ℕ) → Before rest y x → Before
 before_right [] rest y x b = b
 before_right (p ∷ past) rest y x b = inr (before_right past rest y x b)
 
-column_precedes : (columns : List (List ℕ)) (column : List ℕ) (y x : ℕ) → HasColumn columns column → Before column y x → Precedes columns y x
+column_precedes : (columns : List (List ℕ)) (column : List ℕ) (y x : ℕ) → IsAmong columns column → Before column y x → Precedes columns y x
 column_precedes [] column y x h b = absurd h
-column_precedes (c ∷ cs) column y x (inl e) b = inl (subst (λ (k : List ℕ). Before k y x) (sym e) b)
+column_precedes (c ∷ cs) column y x (inl e) b = inl (subst (λ (k : List ℕ). Before k y x) e b)
 column_precedes (c ∷ cs) column y x (inr h) b = inr (column_precedes cs column y x h b)
 
-module _ (n : ℕ) (columns : List (List ℕ)) (column : List ℕ) (mine : HasColumn columns column) where
-  head_is : (prefix xs past rest : List ℕ) (x : ℕ) → IsNext n (Precedes columns) prefix x → column ≡ past ++ rest → ((x : ℕ) → Has past x → Has prefix x) → ((x : ℕ) → Has rest x → Has prefix x → ⊥) → Has column x → (rs : List ℕ) × (rest ≡ x ∷ rs)
+module _ (n : ℕ) (columns : List (List ℕ)) (column : List ℕ) (mine : IsAmong columns column) where
+  head_is : (prefix xs past rest : List ℕ) (x : ℕ) → IsNext n (Precedes columns) prefix x → column ≡ past ++ rest → ((x : ℕ) → IsAmong past x → IsAmong prefix x) → ((x : ℕ) → IsAmong rest x → IsAmong prefix x → ⊥) → IsAmong column x → (rs : List ℕ) × (rest ≡ x ∷ rs)
   head_is prefix xs past [] x next is in_front later h =
-      absurd (next.due.remains (in_front x (subst (λ (k : List ℕ). Has k x) (is ∙ append-nil past) h)))
-  head_is prefix xs past (r ∷ rs) x next is in_front later h = elim (has_either past (r ∷ rs) x (subst (λ (k : List ℕ). Has k x) is h)) [
+      absurd (next.due.remains (in_front x (subst (λ (k : List ℕ). IsAmong k x) (is ∙ append-nil past) h)))
+  head_is prefix xs past (r ∷ rs) x next is in_front later h = elim (has_either past (r ∷ rs) x (subst (λ (k : List ℕ). IsAmong k x) is h)) [
     | inl l ↦ absurd (next.due.remains (in_front x l))
     | inr g ↦ elim g [
-      | inl e ↦ (rs, ap (λ (z : ℕ). z ∷ rs) e)
+      | inl e ↦ (rs, ap (λ (z : ℕ). z ∷ rs) (sym e))
       | inr t ↦ absurd (later r (inl refl) (next.due.ready r (column_precedes columns column r x mine (subst (λ (k : List ℕ). Before k r x) (sym is) (before_right past (r ∷ rs) r x (inl (refl, t)))))))
     ]
   ]
 
-  snoc_has : (xs : List ℕ) (u x : ℕ) → Has (xs ++ u ∷ []) x → Has xs x ⊎ (u ≡ x)
-  snoc_has xs u x h = elim (has_either xs (u ∷ []) x h) [ inl l ↦ inl l | inr r ↦ elim r [ inl e ↦ inr e | inr b ↦ absurd b ] ]
+  snoc_has : (xs : List ℕ) (u x : ℕ) → IsAmong (xs ++ u ∷ []) x → IsAmong xs x ⊎ (u ≡ x)
+  snoc_has xs u x h = elim (has_either xs (u ∷ []) x h) [ inl l ↦ inl l | inr r ↦ elim r [ inl e ↦ inr (sym e) | inr b ↦ absurd b ] ]
 
-  rest_after : (prefix past rs : List ℕ) (x : ℕ) → IsNext n (Precedes columns) prefix x → column ≡ past ++ (x ∷ rs) → ((y : ℕ) → Has (x ∷ rs) y → Has prefix y → ⊥) → (y : ℕ) → Has rs y → Has (prefix ++ x ∷ []) y → ⊥
+  rest_after : (prefix past rs : List ℕ) (x : ℕ) → IsNext n (Precedes columns) prefix x → column ≡ past ++ (x ∷ rs) → ((y : ℕ) → IsAmong (x ∷ rs) y → IsAmong prefix y → ⊥) → (y : ℕ) → IsAmong rs y → IsAmong (prefix ++ x ∷ []) y → ⊥
   rest_after prefix past rs x next is later y h g = elim (snoc_has prefix x y g) [
     | inl l ↦ later y (inr h) l
-    | inr e ↦ next.due.remains (next.due.ready x (column_precedes columns column x x mine (subst (λ (k : List ℕ). Before k x x) (sym is) (before_right past (x ∷ rs) x x (inl (refl, subst (λ (z : ℕ). Has rs z) (sym e) h))))))
+    | inr e ↦ next.due.remains (next.due.ready x (column_precedes columns column x x mine (subst (λ (k : List ℕ). Before k x x) (sym is) (before_right past (x ∷ rs) x x (inl (refl, subst (λ (z : ℕ). IsAmong rs z) (sym e) h))))))
   ]
 
-  pub restrict : (prefix xs past rest : List ℕ) → Follows n (Precedes columns) prefix xs → column ≡ past ++ rest → ((x : ℕ) → Has past x → Has prefix x) → ((x : ℕ) → Has rest x → Has prefix x → ⊥) → ((x : ℕ) → Has rest x → Has xs x) → restricted column xs ≡ rest
+  pub restrict : (prefix xs past rest : List ℕ) → Follows n (Precedes columns) prefix xs → column ≡ past ++ rest → ((x : ℕ) → IsAmong past x → IsAmong prefix x) → ((x : ℕ) → IsAmong rest x → IsAmong prefix x → ⊥) → ((x : ℕ) → IsAmong rest x → IsAmong xs x) → restricted column xs ≡ rest
   restrict prefix [] past [] f is in_front later every = refl
   restrict prefix [] past (r ∷ rs) f is in_front later every = absurd (every r (inl refl))
   restrict prefix (x ∷ xs) past rest f is in_front later every = choose (has column x) refl
       (λ rs e. restrict (prefix ++ x ∷ []) xs (past ++ x ∷ []) rs f.1
       (is ∙ ap (λ (k : List ℕ). past ++ k) e ∙ sym (append_assoc past (x ∷ []) rs))
-      (λ y h. elim (snoc_has past x y h) [ inl l ↦ has_left prefix (x ∷ []) y (in_front y l) | inr q ↦ has_right prefix (x ∷ []) y (inl q) ])
-      (rest_after prefix past rs x f.0 (is ∙ ap (λ (k : List ℕ). past ++ k) e) (λ y h. later y (subst (λ (k : List ℕ). Has k y) (sym e) h)))
-      (λ y h. elim (every y (subst (λ (k : List ℕ). Has k y) (sym e) (inr h))) [
-        | inl q ↦ absurd (rest_after prefix past rs x f.0 (is ∙ ap (λ (k : List ℕ). past ++ k) e) (λ z g. later z (subst (λ (k : List ℕ). Has k z) (sym e) g)) y h (has_right prefix (x ∷ []) y (inl q)))
+      (λ y h. elim (snoc_has past x y h) [ inl l ↦ has_left prefix (x ∷ []) y (in_front y l) | inr q ↦ has_right prefix (x ∷ []) y (inl (sym q)) ])
+      (rest_after prefix past rs x f.0 (is ∙ ap (λ (k : List ℕ). past ++ k) e) (λ y h. later y (subst (λ (k : List ℕ). IsAmong k y) (sym e) h)))
+      (λ y h. elim (every y (subst (λ (k : List ℕ). IsAmong k y) (sym e) (inr h))) [
+        | inl q ↦ absurd (rest_after prefix past rs x f.0 (is ∙ ap (λ (k : List ℕ). past ++ k) e) (λ z g. later z (subst (λ (k : List ℕ). IsAmong k z) (sym e) g)) y h (has_right prefix (x ∷ []) y (inl q)))
         | inr t ↦ t
       ]))
       (λ lacks. restrict (prefix ++ x ∷ []) xs past rest f.1 is
       (λ y h. has_left prefix (x ∷ []) y (in_front y h))
-      (λ y h g. elim (snoc_has prefix x y g) [ inl l ↦ later y h l | inr q ↦ lacks (subst (λ (k : List ℕ). Has k x) (sym is) (has_right past rest x (subst (λ (z : ℕ). Has rest z) (sym q) h))) ])
-      (λ y h. elim (every y h) [ inl q ↦ absurd (lacks (subst (λ (k : List ℕ). Has k x) (sym is) (has_right past rest x (subst (λ (z : ℕ). Has rest z) (sym q) h)))) | inr t ↦ t ]))
+      (λ y h g. elim (snoc_has prefix x y g) [ inl l ↦ later y h l | inr q ↦ lacks (subst (λ (k : List ℕ). IsAmong k x) (sym is) (has_right past rest x (subst (λ (z : ℕ). IsAmong rest z) (sym q) h))) ])
+      (λ y h. elim (every y h) [ inl q ↦ absurd (lacks (subst (λ (k : List ℕ). IsAmong k x) (sym is) (has_right past rest x (subst (λ (z : ℕ). IsAmong rest z) q h)))) | inr t ↦ t ]))
     where
-      choose : (b : Bool) → has column x ≡ b → ((rs : List ℕ) → rest ≡ x ∷ rs → restricted column xs ≡ rs) → ((Has column x → ⊥) → restricted column xs ≡ rest) → (if b then x ∷ restricted column xs else restricted column xs) ≡ rest
+      choose : (b : Bool) → has column x ≡ b → ((rs : List ℕ) → rest ≡ x ∷ rs → restricted column xs ≡ rs) → ((IsAmong column x → ⊥) → restricted column xs ≡ rest) → (if b then x ∷ restricted column xs else restricted column xs) ≡ rest
       choose true e held lacking =
           let t = head_is prefix xs past rest x f.0 is in_front later (true_has column x e) in
           ap (λ (k : List ℕ). x ∷ k) (held t.0 t.1) ∙ sym t.1
       choose false e held lacking = lacking (false_has column x e)
 
-follows_different : (n : ℕ) (precedes : ℕ → ℕ → Type 0) (prefix xs : List ℕ) → Follows n precedes prefix xs → AreDifferent xs × ((x : ℕ) → Has xs x → (x < n) × (Has prefix x → ⊥))
+follows_different : (n : ℕ) (precedes : ℕ → ℕ → Type 0) (prefix xs : List ℕ) → Follows n precedes prefix xs → AreDifferent xs × ((x : ℕ) → IsAmong xs x → (x < n) × (IsAmong prefix x → ⊥))
 follows_different n precedes prefix [] f = (tt, λ x h. absurd h)
 follows_different n precedes prefix (y ∷ ys) f =
     let r = follows_different n precedes (prefix ++ y ∷ []) ys f.1 in (
       (λ h. (r.1 y h).1 (has_right prefix (y ∷ []) y (inl refl)), r.0),
       λ x h. elim h [
-        | inl e ↦ (subst (λ (z : ℕ). z < n) e f.0.due.inside, λ g. f.0.due.remains (subst (λ (z : ℕ). Has prefix z) (sym e) g))
+        | inl e ↦ (subst (λ (z : ℕ). z < n) (sym e) f.0.due.inside, λ g. f.0.due.remains (subst (λ (z : ℕ). IsAmong prefix z) e g))
         | inr t ↦ ((r.1 x t).0, λ g. (r.1 x t).1 (has_left prefix (y ∷ []) x g))
       ],
     )
 
-pub woven : (n : ℕ) (columns : List (List ℕ)) (order : List ℕ) → ((column : List ℕ) → HasColumn columns column → (x : ℕ) → Has column x → x < n) → IsWhole n (Precedes columns) order → IsWoven n columns order
+pub woven : (n : ℕ) (columns : List (List ℕ)) (order : List ℕ) → ((column : List ℕ) → IsAmong columns column → (x : ℕ) → IsAmong column x → x < n) → IsWhole n (Precedes columns) order → IsWoven n columns order
 woven n columns order inside w =
     let f : Follows n (Precedes columns) [] order = to_follows n (Precedes columns) [] order w.earliest in
     let d = follows_different n (Precedes columns) [] order f in
@@ -171,15 +172,15 @@ pub all_leads_inside : (n : ℕ) (es : List Edge) → ((y x : ℕ) → Leads es 
 all_leads_inside n [] h = λ k d lt. absurd (omega arith)
 all_leads_inside n (e ∷ es) h = All-cons (Inside n) e es (h e.from e.to (inl (refl, refl))) (all_leads_inside n es (λ y x l. h y x (inr l)))
 
-before_both : (cs : List ℕ) (y x : ℕ) → Before cs y x → Has cs y × Has cs x
+before_both : (cs : List ℕ) (y x : ℕ) → Before cs y x → IsAmong cs y × IsAmong cs x
 before_both [] y x b = absurd b
-before_both (c ∷ cs) y x (inl p) = (inl p.0, inr p.1)
+before_both (c ∷ cs) y x (inl p) = (inl (sym p.0), inr p.1)
 before_both (c ∷ cs) y x (inr b) = let r = before_both cs y x b in (inr r.0, inr r.1)
 
-precedes_inside : (n : ℕ) (columns : List (List ℕ)) → ((column : List ℕ) → HasColumn columns column → (x : ℕ) → Has column x → x < n) → (y x : ℕ) → Precedes columns y x → (y < n) × (x < n)
+precedes_inside : (n : ℕ) (columns : List (List ℕ)) → ((column : List ℕ) → IsAmong columns column → (x : ℕ) → IsAmong column x → x < n) → (y x : ℕ) → Precedes columns y x → (y < n) × (x < n)
 precedes_inside n [] h y x p = absurd p
 precedes_inside n (c ∷ cs) h y x (inl b) = let r = before_both c y x b in (h c (inl refl) y r.0, h c (inl refl) x r.1)
 precedes_inside n (c ∷ cs) h y x (inr p) = precedes_inside n cs (λ column m. h column (inr m)) y x p
 
-pub neighbours_inside : (n : ℕ) (columns : List (List ℕ)) → ((column : List ℕ) → HasColumn columns column → (x : ℕ) → Has column x → x < n) → All (Inside n) (all_neighbours columns)
+pub neighbours_inside : (n : ℕ) (columns : List (List ℕ)) → ((column : List ℕ) → IsAmong columns column → (x : ℕ) → IsAmong column x → x < n) → All (Inside n) (all_neighbours columns)
 neighbours_inside n columns h = all_leads_inside n (all_neighbours columns) (λ y x l. precedes_inside n columns h y x (all_within columns y x l))

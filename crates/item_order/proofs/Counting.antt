@@ -3,7 +3,7 @@ use Rattle.std.proofs.Common.{◌≡◌, ℕ, ◌<◌, ◌≤◌, ◌+◌, Bool,
 use Rattle.std.proofs.lemmas.Bool.Decides.{nat_tests}
 use Rattle.std.proofs.lemmas.Bool.{cases_eq}
 use Rattle.std.proofs.lemmas.List.Elements.{All-tail, All-head, All-cons}
-use Rattle.item_order.specs.Orders.{Has}
+use Rattle.msc_base.specs.Lists.{IsAmong}
 use Rattle.item_order.specs.Counts.{Leads, Inside, has, times, waiting, targets}
 use Rattle.item_order.specs.declared.edge.Edge.{Edge}
 
@@ -13,23 +13,23 @@ eq_true x y e = grind (arith, nat_tests)
 pub eq_false : (x y : ℕ) → (x ≡ y → ⊥) → nat_eq x y ≡ false
 eq_false x y e = grind (arith, nat_tests)
 
-pub has_true : (xs : List ℕ) (x : ℕ) → Has xs x → has xs x ≡ true
+pub has_true : (xs : List ℕ) (x : ℕ) → IsAmong xs x → has xs x ≡ true
 has_true [] x h = absurd h
-has_true (y ∷ ys) x (inl e) = rw (eq_true y x e) refl
+has_true (y ∷ ys) x (inl e) = rw (eq_true y x (sym e)) refl
 has_true (y ∷ ys) x (inr h) = choose (nat_eq y x) (has_true ys x h)
   where
     choose : (b : Bool) → has ys x ≡ true → (if b then true else has ys x) ≡ true
     choose true e = refl
     choose false e = e
 
-pub true_has : (xs : List ℕ) (x : ℕ) → has xs x ≡ true → Has xs x
+pub true_has : (xs : List ℕ) (x : ℕ) → has xs x ≡ true → IsAmong xs x
 true_has [] x h = cc
-true_has (y ∷ ys) x h = elim (cases_eq y x) [ inl e ↦ inl e | inr ne ↦ let b : nat_eq y x ≡ false = eq_false y x ne in inr (true_has ys x (rw b at h)) ]
+true_has (y ∷ ys) x h = elim (cases_eq y x) [ inl e ↦ inl (sym e) | inr ne ↦ let b : nat_eq y x ≡ false = eq_false y x ne in inr (true_has ys x (rw b at h)) ]
 
-pub false_has : (xs : List ℕ) (x : ℕ) → has xs x ≡ false → Has xs x → ⊥
+pub false_has : (xs : List ℕ) (x : ℕ) → has xs x ≡ false → IsAmong xs x → ⊥
 false_has xs x f h = let t : has xs x ≡ true = has_true xs x h in let bad : true ≡ false = sym t ∙ f in cc
 
-pub has_false : (xs : List ℕ) (x : ℕ) → (Has xs x → ⊥) → has xs x ≡ false
+pub has_false : (xs : List ℕ) (x : ℕ) → (IsAmong xs x → ⊥) → has xs x ≡ false
 has_false xs x lacks = go (has xs x) refl
   where
     go : (b : Bool) → has xs x ≡ b → b ≡ false
@@ -81,13 +81,13 @@ waiting_le (e ∷ es) prefix x = let ih : waiting es prefix x ≤ length es = wa
     go false f h = omega arith
 
 -- an item has no waiting edge exactly where all that lead to it are in front
-pub no_waiting : (es : List Edge) (prefix : List ℕ) (x : ℕ) → waiting es prefix x ≡ 0 → (y : ℕ) → Leads es y x → Has prefix y
+pub no_waiting : (es : List Edge) (prefix : List ℕ) (x : ℕ) → waiting es prefix x ≡ 0 → (y : ℕ) → Leads es y x → IsAmong prefix y
 no_waiting [] prefix x h y l = absurd l
 no_waiting (e ∷ es) prefix x h y (inl p) =
     let t : nat_eq e.to x ≡ true = eq_true e.to x p.1 in
-    subst (λ (z : ℕ). Has prefix z) p.0 (go (has prefix e.from) refl (rw t at h))
+    subst (λ (z : ℕ). IsAmong prefix z) p.0 (go (has prefix e.from) refl (rw t at h))
   where
-    go : (b : Bool) → has prefix e.from ≡ b → (if b then 0 else 1) + waiting es prefix x ≡ 0 → Has prefix e.from
+    go : (b : Bool) → has prefix e.from ≡ b → (if b then 0 else 1) + waiting es prefix x ≡ 0 → IsAmong prefix e.from
     go true is h = true_has prefix e.from is
     go false is h = absurd (omega arith)
 no_waiting (e ∷ es) prefix x h y (inr l) = no_waiting es prefix x (go (if nat_eq e.to x then (if has prefix e.from then 0 else 1) else 0) h) y l
@@ -95,7 +95,7 @@ no_waiting (e ∷ es) prefix x h y (inr l) = no_waiting es prefix x (go (if nat_
     go : (k : ℕ) → k + waiting es prefix x ≡ 0 → waiting es prefix x ≡ 0
     go k h = omega arith
 
-pub all_waiting : (es : List Edge) (prefix : List ℕ) (x : ℕ) → ((y : ℕ) → Leads es y x → Has prefix y) → waiting es prefix x ≡ 0
+pub all_waiting : (es : List Edge) (prefix : List ℕ) (x : ℕ) → ((y : ℕ) → Leads es y x → IsAmong prefix y) → waiting es prefix x ≡ 0
 all_waiting [] prefix x h = refl
 all_waiting (e ∷ es) prefix x h =
     let ih : waiting es prefix x ≡ 0 = all_waiting es prefix x (λ y l. h y (inr l)) in

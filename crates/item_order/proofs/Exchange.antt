@@ -1,18 +1,19 @@
 -- Edges between neighbours ask for as much as the relation that they make up.
 use Rattle.std.proofs.Common.{ℕ, List, [], ◌∷◌, ◌++◌, ◌⊎◌, inl, inr, sym, subst, append-nil, append_assoc}
-use Rattle.item_order.specs.Orders.{Has, IsDue, IsNext, IsWhole, IsStuckAt}
+use Rattle.msc_base.specs.Lists.{IsAmong}
+use Rattle.item_order.specs.Orders.{IsDue, IsNext, IsWhole, IsStuckAt}
 use Rattle.item_order.proofs.Agree.{Follows, to_follows, from_follows}
 
-pub has_left : (xs ys : List ℕ) (x : ℕ) → Has xs x → Has (xs ++ ys) x
+pub has_left : (xs ys : List ℕ) (x : ℕ) → IsAmong xs x → IsAmong (xs ++ ys) x
 has_left [] ys x h = absurd h
 has_left (y ∷ xs) ys x (inl e) = inl e
 has_left (y ∷ xs) ys x (inr h) = inr (has_left xs ys x h)
 
-pub has_right : (xs ys : List ℕ) (x : ℕ) → Has ys x → Has (xs ++ ys) x
+pub has_right : (xs ys : List ℕ) (x : ℕ) → IsAmong ys x → IsAmong (xs ++ ys) x
 has_right [] ys x h = h
 has_right (y ∷ xs) ys x h = inr (has_right xs ys x h)
 
-pub has_either : (xs ys : List ℕ) (x : ℕ) → Has (xs ++ ys) x → Has xs x ⊎ Has ys x
+pub has_either : (xs ys : List ℕ) (x : ℕ) → IsAmong (xs ++ ys) x → IsAmong xs x ⊎ IsAmong ys x
 has_either [] ys x h = inr h
 has_either (y ∷ xs) ys x (inl e) = inl (inl e)
 has_either (y ∷ xs) ys x (inr h) = elim (has_either xs ys x h) [ inl l ↦ inl (inr l) | inr r ↦ inr r ]
@@ -24,7 +25,7 @@ pub record MakesUp (near far : ℕ → ℕ → Type 0) : Type 0 where
 
 module _ (n : ℕ) (near far : ℕ → ℕ → Type 0) (made : MakesUp near far) where
   abbrev Closed : List ℕ → Type 0
-  Closed prefix = (y z : ℕ) → Has prefix z → far y z → Has prefix y
+  Closed prefix = (y z : ℕ) → IsAmong prefix z → far y z → IsAmong prefix y
 
   due_far : (prefix : List ℕ) (x : ℕ) → Closed prefix → IsDue n near prefix x → IsDue n far prefix x
   due_far prefix x closed d = record {
@@ -45,7 +46,7 @@ module _ (n : ℕ) (near far : ℕ → ℕ → Type 0) (made : MakesUp near far)
   closed_snoc : (prefix : List ℕ) (x : ℕ) → Closed prefix → IsDue n far prefix x → Closed (prefix ++ x ∷ [])
   closed_snoc prefix x closed d y z h p = elim (has_either prefix (x ∷ []) z h) [
     | inl l ↦ has_left prefix (x ∷ []) y (closed y z l p)
-    | inr r ↦ elim r [ inl e ↦ has_left prefix (x ∷ []) y (d.ready y (subst (λ (w : ℕ). far y w) (sym e) p)) | inr b ↦ absurd b ]
+    | inr r ↦ elim r [ inl e ↦ has_left prefix (x ∷ []) y (d.ready y (subst (λ (w : ℕ). far y w) e p)) | inr b ↦ absurd b ]
   ]
 
   pub follows_far : (prefix xs : List ℕ) → Closed prefix → Follows n near prefix xs → Follows n far prefix xs

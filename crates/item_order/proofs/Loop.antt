@@ -3,7 +3,8 @@ use Rattle.std.proofs.Common.{◌≡◌, ℕ, ◌<◌, ◌≤◌, ◌+◌, Bool,
 use Rattle.std.proofs.lemmas.Bool.{cases_lt, cases_eq}
 use Rattle.std.proofs.lemmas.Bool.Decides.{nat_tests}
 use Rattle.std.proofs.lemmas.List.{get_or_past}
-use Rattle.item_order.specs.Orders.{Has, IsDue, IsNext, IsWhole, IsStuckAt}
+use Rattle.msc_base.specs.Lists.{IsAmong}
+use Rattle.item_order.specs.Orders.{IsDue, IsNext, IsWhole, IsStuckAt}
 use Rattle.item_order.specs.Counts.{Leads, Inside, has, times, waiting, targets}
 use Rattle.item_order.specs.declared.edge.Edge.{Edge}
 use Rattle.item_order.proofs.Agree.{Follows, follows_snoc, from_follows}
@@ -96,6 +97,6 @@ module _ (n : ℕ) (es : List Edge) (counts : List ℕ) (Ready : ℕ → Type 0)
     earliest = from_follows n (Leads es) [] order k.follows;
   }
     where
-      go : (y : ℕ) → y < n → (b : Bool) → has order y ≡ b → Has order y
+      go : (y : ℕ) → y < n → (b : Bool) → has order y ≡ b → IsAmong order y
       go y l true e = true_has order y e
       go y l false e = absurd (none y ((k.ready y).1 (l, e, zeros y)))

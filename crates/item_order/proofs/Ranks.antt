@@ -1,18 +1,19 @@
 -- Where the sorting is stuck there is no order at all, also where helping items stand between.
-use Rattle.std.proofs.Common.{ℕ, ◌<◌, ◌≤◌, List, [], ◌∷◌, ◌⊎◌, inl, inr, zero, suc, arith}
+use Rattle.std.proofs.Common.{ℕ, ◌<◌, ◌≤◌, List, [], ◌∷◌, ◌⊎◌, inl, inr, zero, suc, arith, sym}
 use Rattle.std.proofs.lemmas.Bool.{cases_lt, cases_eq}
-use Rattle.item_order.specs.Orders.{Has, IsDue}
+use Rattle.msc_base.specs.Lists.{IsAmong}
+use Rattle.item_order.specs.Orders.{IsDue}
 
-pub has_or_not : (xs : List ℕ) (x : ℕ) → Has xs x ⊎ (Has xs x → ⊥)
+pub has_or_not : (xs : List ℕ) (x : ℕ) → IsAmong xs x ⊎ (IsAmong xs x → ⊥)
 has_or_not [] x = inr (λ h. h)
 has_or_not (y ∷ ys) x = elim (cases_eq y x) [
-  | inl e ↦ inl (inl e)
-  | inr ne ↦ elim (has_or_not ys x) [ inl h ↦ inl (inr h) | inr lacks ↦ inr (λ h. elim h [ inl e ↦ ne e | inr t ↦ lacks t ]) ]
+  | inl e ↦ inl (inl (sym e))
+  | inr ne ↦ elim (has_or_not ys x) [ inl h ↦ inl (inr h) | inr lacks ↦ inr (λ h. elim h [ inl e ↦ ne (sym e) | inr t ↦ lacks t ]) ]
 ]
 
 -- every item below n is in a prefix that can't go on, where the items have ranks along the relation
 pub all_in : (n : ℕ) (precedes : ℕ → ℕ → Type 0) (prefix : List ℕ) (rank : ℕ → ℕ) → ((y x : ℕ) → precedes y x → y < n) → ((y x : ℕ) → precedes y x → rank y < rank x) → ((y : ℕ) → IsDue n precedes prefix y → ⊥)
-    → (m x : ℕ) → rank x < m → x < n → Has prefix x
+    → (m x : ℕ) → rank x < m → x < n → IsAmong prefix x
 all_in n precedes prefix rank within rises stuck zero x lt inside = absurd (omega arith)
 all_in n precedes prefix rank within rises stuck (suc m) x lt inside = elim (has_or_not prefix x) [
   | inl h ↦ h
@@ -31,7 +32,7 @@ pub record Helps (real n : ℕ) (near far : ℕ → ℕ → Type 0) (stands : �
 
 module _ (real n : ℕ) (near far stands : ℕ → ℕ → Type 0) (helps : Helps real n near far stands) (fits : real ≤ n) (prefix : List ℕ) (stuck : (y : ℕ) → IsDue n near prefix y → ⊥) where
   -- a helper is in front where all are for which it stands
-  helper_in : (m x : ℕ) → x < m → real ≤ x → x < n → ((u : ℕ) → stands x u → Has prefix u) → Has prefix x
+  helper_in : (m x : ℕ) → x < m → real ≤ x → x < n → ((u : ℕ) → stands x u → IsAmong prefix u) → IsAmong prefix x
   helper_in zero x lt low inside all = absurd (omega arith)
   helper_in (suc m) x lt low inside all = elim (has_or_not prefix x) [
     | inl h ↦ h
@@ -46,7 +47,7 @@ module _ (real n : ℕ) (near far stands : ℕ → ℕ → Type 0) (helps : Help
     }))
   ]
 
-  pub real_in : (rank : ℕ → ℕ) → ((u v : ℕ) → far u v → rank u < rank v) → (m x : ℕ) → rank x < m → x < real → Has prefix x
+  pub real_in : (rank : ℕ → ℕ) → ((u v : ℕ) → far u v → rank u < rank v) → (m x : ℕ) → rank x < m → x < real → IsAmong prefix x
   real_in rank rises zero x lt inside = absurd (omega arith)
   real_in rank rises (suc m) x lt inside = elim (has_or_not prefix x) [
     | inl h ↦ h

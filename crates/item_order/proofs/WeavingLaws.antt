@@ -1,8 +1,9 @@
 -- The laws of woven lists.
-use Rattle.std.proofs.Common.{◌≡◌, ℕ, ◌<◌, ◌≤◌, ◌+◌, ◌↔◌, inl, inr, zero, suc, List, [], ◌∷◌, ◌++◌, arith, refl}
+use Rattle.std.proofs.Common.{◌≡◌, ℕ, ◌<◌, ◌≤◌, ◌+◌, ◌↔◌, inl, inr, zero, suc, List, [], ◌∷◌, ◌++◌, arith, refl, sym}
 use Rattle.std.proofs.lemmas.Bool.{cases_lt, cases_eq}
-use Rattle.item_order.specs.Orders.{Has, IsNext}
-use Rattle.item_order.specs.Weaving.{Before, Precedes, HasColumn}
+use Rattle.msc_base.specs.Lists.{IsAmong}
+use Rattle.item_order.specs.Orders.{IsNext}
+use Rattle.item_order.specs.Weaving.{Before, Precedes}
 use Rattle.item_order.specs.Laws.{WovenIsOne, NeverWovenAndCrossed, CrossedIsOne, TextIsWoven, numbers_from}
 use Rattle.item_order.proofs.Agree.{Follows, from_follows, whole_same, whole_or_stuck, stuck_same}
 use Rattle.item_order.proofs.Columns.{woven, whole_of}
@@ -19,7 +20,7 @@ crossed_is_one n columns x y c d = stuck_same n (Precedes columns) x y c d
 
 -- ---- the order of the text
 
-front_more : (prefix : List ℕ) (k : ℕ) → ((y : ℕ) → Has prefix y ↔ (y < k)) → (y : ℕ) → Has (prefix ++ k ∷ []) y ↔ (y < suc k)
+front_more : (prefix : List ℕ) (k : ℕ) → ((y : ℕ) → IsAmong prefix y ↔ (y < k)) → (y : ℕ) → IsAmong (prefix ++ k ∷ []) y ↔ (y < suc k)
 front_more prefix k is y = (
   (λ h. elim (has_either prefix (k ∷ []) y h) [
     | inl l ↦ let low : y < k = (is y).0 l in omega arith
@@ -27,12 +28,12 @@ front_more prefix k is y = (
   ]),
   λ low. elim (cases_lt y k) [
     | inl lt ↦ has_left prefix (k ∷ []) y ((is y).1 lt)
-    | inr ge ↦ let e : k ≡ y = omega arith in has_right prefix (k ∷ []) y (inl e)
+    | inr ge ↦ let e : y ≡ k = omega arith in has_right prefix (k ∷ []) y (inl e)
   ],
 )
 
 module _ (n : ℕ) (precedes : ℕ → ℕ → Type 0) (rises : (y x : ℕ) → precedes y x → y < x) where
-  next_is : (prefix : List ℕ) (k : ℕ) → k < n → ((y : ℕ) → Has prefix y ↔ (y < k)) → IsNext n precedes prefix k
+  next_is : (prefix : List ℕ) (k : ℕ) → k < n → ((y : ℕ) → IsAmong prefix y ↔ (y < k)) → IsNext n precedes prefix k
   next_is prefix k low is = record {
     due = record {
       inside = low;
@@ -42,15 +43,15 @@ module _ (n : ℕ) (precedes : ℕ → ℕ → Type 0) (rises : (y x : ℕ) → 
     earliest = λ y d. elim (cases_lt y k) [ inl lt ↦ absurd (d.remains ((is y).1 lt)) | inr ge ↦ ge ];
   }
 
-  text_follows : (prefix : List ℕ) (k m : ℕ) → k + m ≡ n → ((y : ℕ) → Has prefix y ↔ (y < k)) → Follows n precedes prefix (numbers_from k m)
+  text_follows : (prefix : List ℕ) (k m : ℕ) → k + m ≡ n → ((y : ℕ) → IsAmong prefix y ↔ (y < k)) → Follows n precedes prefix (numbers_from k m)
   text_follows prefix k zero e is = tt
   text_follows prefix k (suc m) e is = (next_is prefix k (omega arith) is, text_follows (prefix ++ k ∷ []) (suc k) m (omega arith) (front_more prefix k is))
 
-has_number : (k m x : ℕ) → k ≤ x → x < k + m → Has (numbers_from k m) x
+has_number : (k m x : ℕ) → k ≤ x → x < k + m → IsAmong (numbers_from k m) x
 has_number k zero x low high = absurd (omega arith)
-has_number k (suc m) x low high = elim (cases_eq k x) [ inl e ↦ inl e | inr ne ↦ inr (has_number (suc k) m x (omega arith) (omega arith)) ]
+has_number k (suc m) x low high = elim (cases_eq k x) [ inl e ↦ inl (sym e) | inr ne ↦ inr (has_number (suc k) m x (omega arith) (omega arith)) ]
 
-precedes_rises : (columns : List (List ℕ)) → ((column : List ℕ) → HasColumn columns column → (y x : ℕ) → Before column y x → y < x) → (y x : ℕ) → Precedes columns y x → y < x
+precedes_rises : (columns : List (List ℕ)) → ((column : List ℕ) → IsAmong columns column → (y x : ℕ) → Before column y x → y < x) → (y x : ℕ) → Precedes columns y x → y < x
 precedes_rises [] each y x p = absurd p
 precedes_rises (c ∷ cs) each y x (inl b) = each c (inl refl) y x b
 precedes_rises (c ∷ cs) each y x (inr p) = precedes_rises cs (λ column h. each column (inr h)) y x p
@@ -58,7 +59,7 @@ precedes_rises (c ∷ cs) each y x (inr p) = precedes_rises cs (λ column h. eac
 pub text_is_woven : TextIsWoven
 text_is_woven n columns order =
     let rises : (y x : ℕ) → Precedes columns y x → y < x = precedes_rises columns (λ column h. (order column h).1) in
-    let none : (y : ℕ) → Has [] y ↔ (y < 0) = λ y. ((λ h. absurd h), λ low. absurd (omega arith)) in
+    let none : (y : ℕ) → IsAmong [] y ↔ (y < 0) = λ y. ((λ h. absurd h), λ low. absurd (omega arith)) in
     let follows : Follows n (Precedes columns) [] (numbers_from 0 n) = text_follows n (Precedes columns) rises [] 0 n (omega arith) none in
     woven n columns (numbers_from 0 n) (λ column h. (order column h).0) (record {
       every = λ x low. has_number 0 n x (omega arith) (omega (arith, low));

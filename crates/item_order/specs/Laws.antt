@@ -1,7 +1,7 @@
 -- The laws of woven lists.
 use Rattle.std.specs.Prelude.{◌≡◌, ℕ, ◌<◌, zero, suc, List, [], ◌∷◌}
-use Rattle.item_order.specs.Orders.{Has}
-use Rattle.item_order.specs.Weaving.{Before, HasColumn, IsWoven, IsCrossedAt}
+use Rattle.msc_base.specs.Lists.{IsAmong}
+use Rattle.item_order.specs.Weaving.{Before, IsWoven, IsCrossedAt}
 
 -- at most one list is woven
 abbrev pub WovenIsOne : Type 0
@@ -22,7 +22,7 @@ numbers_from k (suc m) = k ∷ numbers_from (suc k) m
 
 -- each column has items of the text, in its order
 abbrev pub AreInOrder : ℕ → List (List ℕ) → Type 0
-AreInOrder n columns = (column : List ℕ) → HasColumn columns column → ((x : ℕ) → Has column x → x < n) × ((y x : ℕ) → Before column y x → y < x)
+AreInOrder n columns = (column : List ℕ) → IsAmong columns column → ((x : ℕ) → IsAmong column x → x < n) × ((y x : ℕ) → Before column y x → y < x)
 
 -- where each column is in the order of the text, that order is the woven list
 abbrev pub TextIsWoven : Type 0

@@ -1,10 +1,6 @@
 -- The earliest order of items under a relation: which item may stand next, and which list is woven.
-use Rattle.std.specs.Prelude.{◌≡◌, ℕ, ◌<◌, ◌≤◌, List, [], ◌∷◌, Some, ◌⊎◌, slice_get, take}
-
--- x is one of the list
-abbrev pub Has : List ℕ → ℕ → Type 0
-Has [] x = ⊥
-Has (y ∷ ys) x = (y ≡ x) ⊎ Has ys x
+use Rattle.std.specs.Prelude.{◌≡◌, ℕ, ◌<◌, ◌≤◌, List, Some, slice_get, take}
+use Rattle.msc_base.specs.Lists.{IsAmong}
 
 -- at position i of the list stands x
 abbrev pub IsAt : List ℕ → ℕ → ℕ → Type 0
@@ -13,8 +9,8 @@ IsAt xs i x = slice_get xs i ≡ Some x
 -- x is one of the first n items, isn't among those in front, and all that must stand before it are
 pub record IsDue (n : ℕ) (precedes : ℕ → ℕ → Type 0) (prefix : List ℕ) (x : ℕ) : Type 0 where
   pub inside : x < n
-  pub remains : Has prefix x → ⊥
-  pub ready : (y : ℕ) → precedes y x → Has prefix y
+  pub remains : IsAmong prefix x → ⊥
+  pub ready : (y : ℕ) → precedes y x → IsAmong prefix y
 
 -- and it is the earliest such item
 pub record IsNext (n : ℕ) (precedes : ℕ → ℕ → Type 0) (prefix : List ℕ) (x : ℕ) : Type 0 where
@@ -27,7 +23,7 @@ IsEarliestFirst n precedes xs = (i x : ℕ) → IsAt xs i x → IsNext n precede
 
 -- an order of all items
 pub record IsWhole (n : ℕ) (precedes : ℕ → ℕ → Type 0) (order : List ℕ) : Type 0 where
-  pub every : (x : ℕ) → x < n → Has order x
+  pub every : (x : ℕ) → x < n → IsAmong order x
   pub earliest : IsEarliestFirst n precedes order
 
 -- behind a list that can't go on, x is the earliest item that remains
@@ -36,5 +32,5 @@ pub record IsStuckAt (n : ℕ) (precedes : ℕ → ℕ → Type 0) (x : ℕ) : T
   pub earliest : IsEarliestFirst n precedes prefix
   pub stuck : (y : ℕ) → IsDue n precedes prefix y → ⊥
   pub inside : x < n
-  pub remains : Has prefix x → ⊥
-  pub first : (y : ℕ) → y < n → (Has prefix y → ⊥) → x ≤ y
+  pub remains : IsAmong prefix x → ⊥
+  pub first : (y : ℕ) → y < n → (IsAmong prefix y → ⊥) → x ≤ y

@@ -1,10 +1,10 @@
 //! Weaves columns to one list, by sorting the edges between neighbours. msc_instances weaves levels of a chart by it.
 
 ghost use Rattle.std.specs.Prelude.{◌≡◌, ◌^◌, Vec, ℕ, ◌<◌, ◌++◌, List, All, length, IfOk, OnOk};
+ghost use Rattle.msc_base.specs.Lists.{IsAmong};
 ghost use Rattle.item_order.specs.Answers.{IfWhole, IfStuck};
 ghost use Rattle.item_order.specs.Columns.{columns_from, items_of, neighbours};
-ghost use Rattle.item_order.specs.Orders.{Has};
-ghost use Rattle.item_order.specs.Weaving.{IsWoven, IsCrossedAt, HasColumn};
+ghost use Rattle.item_order.specs.Weaving.{IsWoven, IsCrossedAt};
 
 use crate::Edge;
 use crate::sorting::{Sorted, sort_edges, targets_of};
@@ -36,7 +36,7 @@ fn are_few(edges: &[Edge]) -> Result<(), NoMemory>
 
 /// The woven list of a level whose items are numbered by place, or the earliest item that remains.
 pub fn weave(alloc: Global, count: u32, columns: &[Vec<u32>]) -> Result<Sorted, NoMemory>
-    requires inside { (column : List ℕ) → HasColumn (items_of columns.now) column → (x : ℕ) → Has column x → x < count }
+    requires inside { (column : List ℕ) → IsAmong (items_of columns.now) column → (x : ℕ) → IsAmong column x → x < count }
     ensures woven { IfOk result (λ sorted. IfWhole sorted (λ order. IsWoven count (items_of columns.now) order.items)) }
     ensures crossed { IfOk result (λ sorted. IfStuck sorted (IsCrossedAt count (items_of columns.now))) }
 {

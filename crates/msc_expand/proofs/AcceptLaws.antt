@@ -1,5 +1,6 @@
 -- From groups of rules to the first fault of a document, and to its charts.
 use Rattle.std.proofs.Common.{◌≡◌, ℕ, ◌≤◌, inl, inr, List, [], ◌∷◌, map, flat_map, arith, refl, sym, ap, ◌∙◌, subst, nat_eq, if◌then◌else◌, All, length}
+use Rattle.msc_base.specs.Lists.{IsAmong}
 use Rattle.msc_base.specs.declared.limits.TheConstants.Limits.{CHARTS}
 use Rattle.msc_base.specs.declared.place.Place.{Place}
 use Rattle.msc_tree.specs.Charts.{Document}
@@ -7,7 +8,7 @@ use Rattle.msc_rules.specs.declared.rule.Rule.{Rule}
 use Rattle.msc_rules.specs.declared.rule.Rule.TheVariants.{Bytes, BadByte, OpenString, OpenNote, LongName, Syntax, Unsupported, TooDeep, Charts, Instances, Nodes, LoopBound, NamedTwice, Undeclared, MissingChart, Recursive, Uncovered, ExpandedNesting, Size, Total, NotShared, OperandsDiffer, ExcPlace, Crossed, Unmatched, NoGate, GateTwice, GateWays, GateSplit, GateOnLoop, DecompositionMismatch, SharedPart, Inside, LocalEvent, UnknownEvent, EventNamedTwice, Cyclic, UnknownLabel, LabelNamedTwice, Endless, NotBuilt, CreatePlace, CreateTwice, AfterStop}
 use Rattle.msc_rules.specs.Rules.{group_of, number_of}
 use Rattle.msc_rules.specs.declared.first_fault.Broken.{Broken}
-use Rattle.msc_rules.specs.FirstFaults.{IsOf, IsInSome, AreGroups, IsFirst, IsFaultless, Keeps}
+use Rattle.msc_rules.specs.FirstFaults.{IsInSome, AreGroups, IsFirst, IsFaultless, Keeps}
 use Rattle.msc_base.specs.Places.{IsNoLater}
 use Rattle.msc_rules.proofs.FirstOnes.{first_fault, faultless, one_first_fault}
 use Rattle.msc_expand.specs.declared.plain_chart.PlainChart.{PlainChart}
@@ -24,20 +25,20 @@ use Rattle.msc_expand.proofs.SoundLaws.{charts_sound}
 
 -- what holds of the nine rules holds of each that is in a group
 each_rule : (P : Rule → Type 0) → P NotBuilt → P Charts → P Instances → P NamedTwice → P Undeclared → P Size → P Total → P Unmatched → P Cyclic → (r : Rule) → IsInSome all_groups r → P r
-each_rule P a b c d e f g h i r (inl (inl is)) = subst P is a
+each_rule P a b c d e f g h i r (inl (inl is)) = subst P (sym is) a
 each_rule P a b c d e f g h i r (inl (inr n)) = absurd n
-each_rule P a b c d e f g h i r (inr (inl (inl is))) = subst P is b
-each_rule P a b c d e f g h i r (inr (inl (inr (inl is)))) = subst P is c
+each_rule P a b c d e f g h i r (inr (inl (inl is))) = subst P (sym is) b
+each_rule P a b c d e f g h i r (inr (inl (inr (inl is)))) = subst P (sym is) c
 each_rule P a b c d e f g h i r (inr (inl (inr (inr n)))) = absurd n
-each_rule P a b c d e f g h i r (inr (inr (inl (inl is)))) = subst P is d
-each_rule P a b c d e f g h i r (inr (inr (inl (inr (inl is))))) = subst P is e
+each_rule P a b c d e f g h i r (inr (inr (inl (inl is)))) = subst P (sym is) d
+each_rule P a b c d e f g h i r (inr (inr (inl (inr (inl is))))) = subst P (sym is) e
 each_rule P a b c d e f g h i r (inr (inr (inl (inr (inr n))))) = absurd n
-each_rule P a b c d e f g h i r (inr (inr (inr (inl (inl is))))) = subst P is f
-each_rule P a b c d e f g h i r (inr (inr (inr (inl (inr (inl is)))))) = subst P is g
+each_rule P a b c d e f g h i r (inr (inr (inr (inl (inl is))))) = subst P (sym is) f
+each_rule P a b c d e f g h i r (inr (inr (inr (inl (inr (inl is)))))) = subst P (sym is) g
 each_rule P a b c d e f g h i r (inr (inr (inr (inl (inr (inr n)))))) = absurd n
-each_rule P a b c d e f g h i r (inr (inr (inr (inr (inl (inl is)))))) = subst P is h
+each_rule P a b c d e f g h i r (inr (inr (inr (inr (inl (inl is)))))) = subst P (sym is) h
 each_rule P a b c d e f g h i r (inr (inr (inr (inr (inl (inr n)))))) = absurd n
-each_rule P a b c d e f g h i r (inr (inr (inr (inr (inr (inl (inl is))))))) = subst P is i
+each_rule P a b c d e f g h i r (inr (inr (inr (inr (inr (inl (inl is))))))) = subst P (sym is) i
 each_rule P a b c d e f g h i r (inr (inr (inr (inr (inr (inl (inr n))))))) = absurd n
 each_rule P a b c d e f g h i r (inr (inr (inr (inr (inr (inr n)))))) = absurd n
 
@@ -99,11 +100,11 @@ in_some d AfterStop p b = absurd b
 one_number : (d : Document) (r s : Rule) (p q : Place) → Breaks d r p → Breaks d s q → number_of r ≡ number_of s → r ≡ s
 one_number d r s p q a b e = sym (decodes r (in_some d r p a)) ∙ ap decoded e ∙ decodes s (in_some d s q b)
 
-in_one : (a r : Rule) → IsOf (a ∷ []) r → group_of r ≡ group_of a
-in_one a r h = elim h [ inl e ↦ ap group_of (sym e) | inr n ↦ absurd n ]
+in_one : (a r : Rule) → IsAmong (a ∷ []) r → group_of r ≡ group_of a
+in_one a r h = elim h [ inl e ↦ ap group_of e | inr n ↦ absurd n ]
 
-in_two : (a b r : Rule) → group_of b ≡ group_of a → IsOf (a ∷ b ∷ []) r → group_of r ≡ group_of a
-in_two a b r same h = elim h [ inl e ↦ ap group_of (sym e) | inr m ↦ in_one b r m ∙ same ]
+in_two : (a b r : Rule) → group_of b ≡ group_of a → IsAmong (a ∷ b ∷ []) r → group_of r ≡ group_of a
+in_two a b r same h = elim h [ inl e ↦ ap group_of e | inr m ↦ in_one b r m ∙ same ]
 
 low_inputs : (s : Rule) → IsInSome (inputs ∷ []) s → 14 ≤ group_of s
 low_inputs s h = elim h [ inl m ↦ omega (arith, in_one Cyclic s m) | inr n ↦ absurd n ]
@@ -156,7 +157,7 @@ of_outlines : (d : Document) (s : Rule) (p : Place) → IsInSome all_groups s �
 of_outlines d s p = each_rule (λ r. (r ≡ NotBuilt → ⊥) → Breaks d r p → BreaksOf (map outline_of d.charts) r p)
     (λ ne b. absurd (ne refl)) (λ ne b. b) (λ ne b. b) (λ ne b. b) (λ ne b. b) (λ ne b. b) (λ ne b. b) (λ ne b. b) (λ ne b. b) s
 
-keeps_same : (A B : Rule → Place → Type 0) (rules : List Rule) → ((s : Rule) (p : Place) → IsOf rules s → B s p → A s p) → Keeps A rules → Keeps B rules
+keeps_same : (A B : Rule → Place → Type 0) (rules : List Rule) → ((s : Rule) (p : Place) → IsAmong rules s → B s p → A s p) → Keeps A rules → Keeps B rules
 keeps_same A B rules from k = λ s p m b. k s p m (from s p m b)
 
 pub kept_same : (A B : Rule → Place → Type 0) (groups : List (List Rule)) → ((s : Rule) (p : Place) → IsInSome groups s → B s p → A s p) → AllKept A groups → AllKept B groups
@@ -181,12 +182,12 @@ pub not_built_first : (d : Document) (p : Place) → Breaks d NotBuilt p → ((q
 not_built_first d p broken least = inl (record {
   mine = inl refl;
   broken = broken;
-  earliest = λ s q m b. elim m [ inl e ↦ least q (subst (λ (x : Rule). Breaks d x q) (sym e) b) | inr n ↦ absurd n ];
-  lowest = λ s m b. elim m [ inl e ↦ subst (λ (x : Rule). number_of NotBuilt ≤ number_of x) e (omega arith) | inr n ↦ absurd n ];
+  earliest = λ s q m b. elim m [ inl e ↦ least q (subst (λ (x : Rule). Breaks d x q) e b) | inr n ↦ absurd n ];
+  lowest = λ s m b. elim m [ inl e ↦ subst (λ (x : Rule). number_of NotBuilt ≤ number_of x) (sym e) (omega arith) | inr n ↦ absurd n ];
 })
 
 not_built_kept : (d : Document) → ((q : Place) → Breaks d NotBuilt q → ⊥) → Keeps (Breaks d) (NotBuilt ∷ [])
-not_built_kept d none = λ s q m b. elim m [ inl e ↦ none q (subst (λ (x : Rule). Breaks d x q) (sym e) b) | inr n ↦ n ]
+not_built_kept d none = λ s q m b. elim m [ inl e ↦ none q (subst (λ (x : Rule). Breaks d x q) e b) | inr n ↦ n ]
 
 pub settled_first : (d : Document) (f : Broken Rule) → ((q : Place) → Breaks d NotBuilt q → ⊥) → IsFirst number_of (BreaksOf (map outline_of d.charts)) later_groups f → IsFirst number_of (Breaks d) all_groups f
 settled_first d f none h =

@@ -1,9 +1,10 @@
 -- Places among others, and the earliest of them.
-use Rattle.std.proofs.Common.{◌≡◌, ◌⊎◌, inl, inr, List, [], ◌∷◌, ◌++◌, Option, Some, None, Bool, true, false, refl, ◌∙◌}
+use Rattle.std.proofs.Common.{◌≡◌, ◌⊎◌, inl, inr, List, [], ◌∷◌, ◌++◌, Option, Some, None, Bool, true, false, refl, sym, ◌∙◌}
+use Rattle.msc_base.specs.Lists.{IsAmong}
 use Rattle.msc_base.specs.declared.place.Place.{Place}
 use Rattle.msc_base.specs.Places.{earliest, IsLeast}
 use Rattle.msc_base.proofs.Narrowing.{Narrows, narrows_start, narrows_bad, narrows_end, narrows_rest}
-use Rattle.msc_expand.specs.Rules.{IsAmong, where_so, earliest_of}
+use Rattle.msc_expand.specs.Rules.{where_so, earliest_of}
 
 pub among_left : (ps qs : List Place) (q : Place) → IsAmong ps q → IsAmong (ps ++ qs) q
 among_left [] qs q h = absurd h
@@ -24,7 +25,7 @@ among_so true p e = inl refl
 among_so false p e = cc
 
 pub so_among : (b : Bool) (p q : Place) → IsAmong (where_so b p) q → (b ≡ true) × (p ≡ q)
-so_among true p q (inl e) = (refl, e)
+so_among true p q (inl e) = (refl, sym e)
 so_among true p q (inr h) = absurd h
 so_among false p q h = absurd h
 
@@ -33,7 +34,7 @@ narrows_all all [] so_far n = narrows_end (IsAmong all) (IsAmong []) so_far n (�
 narrows_all all (p ∷ rest) so_far n =
     let bad : Narrows (IsAmong all) (IsAmong rest) (earliest so_far p) =
     narrows_bad (IsAmong all) (IsAmong rest) so_far p (Unit {0})
-    (narrows_rest (IsAmong all) (IsAmong (p ∷ rest)) (λ q. ((p ≡ q) × Unit {0}) ⊎ IsAmong rest q) so_far n (λ q h. elim h [ inl e ↦ inl (e, tt) | inr r ↦ inr r ]) (λ q h. elim h [ inl e ↦ inl e.0 | inr r ↦ inr r ])) tt in
+    (narrows_rest (IsAmong all) (IsAmong (p ∷ rest)) (λ q. ((p ≡ q) × Unit {0}) ⊎ IsAmong rest q) so_far n (λ q h. elim h [ inl e ↦ inl (sym e, tt) | inr r ↦ inr r ]) (λ q h. elim h [ inl e ↦ inl (sym e.0) | inr r ↦ inr r ])) tt in
     narrows_all all rest (earliest so_far p) bad
 
 -- the earliest of the places is the least

@@ -1,5 +1,6 @@
 -- The first fault of each group of rules.
 use Rattle.std.proofs.Common.{◌≡◌, ℕ, List, [], ◌∷◌, ◌++◌, flat_map, Option, None, sym, subst}
+use Rattle.msc_base.specs.Lists.{IsAmong}
 use Rattle.msc_base.specs.declared.place.Place.{Place}
 use Rattle.msc_rules.specs.FirstFaults.{IsBest, fault_of, earlier_of}
 use Rattle.msc_base.specs.Places.{IsLeast}
@@ -10,7 +11,7 @@ use Rattle.msc_rules.specs.Rules.{number_of}
 use Rattle.msc_expand.specs.Acceptance.{BreaksOf}
 use Rattle.msc_expand.specs.Deciding.{limits, names, sizes, messages, inputs}
 use Rattle.msc_expand.specs.Lonely.{AllPartners, all_lonely, all_early}
-use Rattle.msc_expand.specs.Rules.{IsAmong, earliest_of, chart_places, instance_places, twice_places, undeclared_places, size_places, total_places, HasUnmatched, HasEarly}
+use Rattle.msc_expand.specs.Rules.{earliest_of, chart_places, instance_places, twice_places, undeclared_places, size_places, total_places, HasUnmatched, HasEarly}
 use Rattle.msc_expand.proofs.Among.{least_among, least_same}
 use Rattle.msc_expand.proofs.LonelyLaws.{has_unmatched, unmatched_has, has_early, early_has}
 

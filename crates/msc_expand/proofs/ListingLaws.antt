@@ -4,6 +4,7 @@ use Rattle.std.proofs.Common.{◌≡◌, ◌≤◌, ◌&&◌, ℕ, Bool, true, f
 use Rattle.std.proofs.lemmas.Option.{slice_get_cases}
 use Rattle.std.specs.Str.{bytes_eq}
 use Rattle.msc_base.specs.declared.limits.TheConstants.Limits.{CHARTS}
+use Rattle.msc_base.specs.Lists.{IsAmong}
 use Rattle.msc_base.specs.declared.place.Place.{Place}
 use Rattle.msc_tree.specs.declared.chart.Decl.{Decl}
 use Rattle.msc_tree.specs.Charts.{Chart, Content, Basic, HighLevel}
@@ -14,7 +15,7 @@ use Rattle.msc_expand.specs.Acceptance.{ArePlainOf, IsPlainOf}
 use Rattle.msc_expand.specs.Forms.{is_some, not_built_by, not_built_chart, not_built_content, not_built_decl, not_built_items, not_built_statement}
 use Rattle.msc_expand.specs.Listing.{as_listed, chart_decls, content_decls, is_graph_content, is_graph_in, is_graph_of, listed_in, listed_of, refined_in, statement_decls}
 use Rattle.msc_expand.specs.Outlines.{outline_of}
-use Rattle.msc_expand.specs.Rules.{IsAmong, chart_places, place_at}
+use Rattle.msc_expand.specs.Rules.{chart_places, place_at}
 
 -- ---- lists of which nothing is there
 

@@ -2,13 +2,14 @@
 use Rattle.std.proofs.Common.{◌≡◌, ℕ, ◌<◌, ◌≤◌, ◌+◌, ◌⊎◌, inl, inr, List, [], ◌∷◌, ◌++◌, Option, Some, None, slice_get, Bool, true, zero, suc, arith, refl, sym, ap, ap₂, ◌∙◌, subst, nat_eq, nat_lt, ◌&&◌}
 use Rattle.std.proofs.lemmas.Bool.Decides.{nat_tests}
 use Rattle.std.proofs.lemmas.Option.{slice_get_within}
+use Rattle.msc_base.specs.Lists.{IsAmong}
 use Rattle.msc_base.specs.declared.place.Place.{Place}
 use Rattle.msc_tree.specs.declared.event.Direction.{Direction}
 use Rattle.msc_tree.specs.declared.event.Direction.TheVariants.{Out, In}
 use Rattle.msc_expand.specs.declared.outline.Outline.{Outline}
 use Rattle.msc_expand.specs.declared.outline.WovenEvent.{WovenEvent}
 use Rattle.msc_expand.specs.Pairings.{way, IsMate, IsUnmatched, IsEarly, IsPartner, ArePartnersOf}
-use Rattle.msc_expand.specs.Rules.{IsAmong, where_so, HasUnmatched, HasEarly}
+use Rattle.msc_expand.specs.Rules.{where_so, HasUnmatched, HasEarly}
 use Rattle.msc_expand.specs.Lonely.{is_message, is_taken, lonely_places, early_places, all_lonely, all_early, AllPartners}
 use Rattle.msc_expand.proofs.Among.{among_left, among_right, among_either, among_so, so_among}
 use Rattle.msc_expand.proofs.Counts.{some_at}

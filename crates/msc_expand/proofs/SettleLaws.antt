@@ -1,6 +1,7 @@
 -- What is settled of a document.
 use Rattle.std.proofs.Common.{◌≡◌, List, [], ◌∷◌, map, flat_map, Option, Some, None, All, Result, Ok, Err, IfOk, Vec, Global, sym, ap, refl, subst, ◌≤◌, length}
 use Rattle.msc_base.specs.declared.limits.TheConstants.Limits.{CHARTS}
+use Rattle.msc_base.specs.Lists.{IsAmong}
 use Rattle.msc_base.specs.declared.place.Place.{Place}
 use Rattle.msc_tree.specs.declared.chart.RawChart.{RawChart}
 use Rattle.msc_tree.specs.Charts.{Document}
@@ -20,7 +21,7 @@ use Rattle.msc_expand.specs.Deciding.{IsDecided, IsSettled, all_groups}
 use Rattle.msc_expand.specs.Forms.{not_built_chart}
 use Rattle.msc_expand.specs.Outlines.{outline_of}
 use Rattle.msc_expand.specs.Plain.{IsPlain}
-use Rattle.msc_expand.specs.Rules.{IsAmong, earliest_of}
+use Rattle.msc_expand.specs.Rules.{earliest_of}
 use Rattle.msc_expand.proofs.AcceptLaws.{not_built_first, settled_first, settled_kept, accepted, accepted_only, accepted_plain, accepted_few, accepted_faultless, has_fault, only_fault, none_accepted}
 use Rattle.msc_expand.proofs.Among.{least_among}
 

@@ -1,5 +1,6 @@
 -- Which documents are accepted, as which charts, and the first rule that another document breaks.
 use Rattle.std.specs.Prelude.{◌≡◌, ⊤, ℕ, List, [], ◌∷◌, map, flat_map}
+use Rattle.msc_base.specs.Lists.{IsAmong}
 use Rattle.msc_base.specs.declared.place.Place.{Place}
 use Rattle.msc_tree.specs.Charts.{Document}
 use Rattle.msc_expand.specs.declared.plain_chart.PlainChart.{PlainChart}
@@ -13,7 +14,7 @@ use Rattle.msc_expand.specs.Forms.{not_built_chart}
 use Rattle.msc_expand.specs.Listing.{is_graph_in, is_graph_of, listed_in, listed_of}
 use Rattle.msc_expand.specs.Outlines.{outline_of}
 use Rattle.msc_expand.specs.Pairings.{ArePartnersOf}
-use Rattle.msc_expand.specs.Rules.{IsAmong, chart_places, instance_places, twice_places, undeclared_places, size_places, total_places, HasUnmatched, HasEarly}
+use Rattle.msc_expand.specs.Rules.{chart_places, instance_places, twice_places, undeclared_places, size_places, total_places, HasUnmatched, HasEarly}
 
 -- as what a broken rule is told: an input before its output stands in for a cycle, with its number and group, and is told as not built yet
 abbrev pub told_as : Rule → Rule

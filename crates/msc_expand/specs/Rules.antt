@@ -1,5 +1,5 @@
 -- What the rules on plain charts say: the places at which the charts of a document break each.
-use Rattle.std.specs.Prelude.{◌≡◌, ◌+◌, ◌*◌, ℕ, Bool, true, false, not, ◌&&◌, ◌||◌, ◌⊎◌, nat_lt, if◌then◌else◌, List, [], ◌∷◌, ◌++◌, length, flat_map, Option, Some, None, slice_get}
+use Rattle.std.specs.Prelude.{◌+◌, ◌*◌, ℕ, Bool, true, false, not, ◌&&◌, ◌||◌, ◌⊎◌, nat_lt, if◌then◌else◌, List, [], ◌∷◌, ◌++◌, length, flat_map, Option, Some, None, slice_get}
 use Rattle.std.specs.List.{list_any}
 use Rattle.std.specs.Str.{bytes_eq}
 use Rattle.msc_base.specs.declared.label.Far.{Far}
@@ -20,11 +20,6 @@ use Rattle.msc_expand.specs.Pairings.{IsUnmatched, IsEarly}
 abbrev pub where_so : Bool → Place → List Place
 where_so true p = p ∷ []
 where_so false p = []
-
--- the place is one of the list
-abbrev pub IsAmong : List Place → Place → Type 0
-IsAmong [] p = ⊥
-IsAmong (q ∷ qs) p = (q ≡ p) ⊎ IsAmong qs p
 
 -- the earliest of the places, and of the earliest place so far
 abbrev pub earliest_of : Option Place → List Place → Option Place

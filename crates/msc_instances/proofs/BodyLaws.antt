@@ -1,9 +1,9 @@
 -- The items and pairs of a body are those of its events.
 use Rattle.std.proofs.Common.{◌≡◌, inl, inr, ℕ, ◌<◌, ◌+◌, zero, suc, List, [], ◌∷◌, ◌++◌, Some, All, slice_get, get_or, take, map, length, refl, sym, subst, ap, ap₂, ◌∙◌, arith}
 use Rattle.std.proofs.lemmas.List.{take_more}
+use Rattle.msc_base.specs.Lists.{IsAmong}
 use Rattle.item_order.specs.declared.edge.Edge.{Edge}
 use Rattle.item_order.specs.Counts.{Leads}
-use Rattle.item_order.specs.Orders.{Has}
 use Rattle.msc_instances.specs.declared.body.Item.{Item}
 use Rattle.msc_instances.specs.declared.body.Item.TheVariants.{Single}
 use Rattle.msc_instances.specs.declared.events.PlacedEvent as code
@@ -38,10 +38,10 @@ items_more list order k x e i items after low is at copy h made =
     (items_snoc (map event_view list) (take k order) items x i h (copied (map event_view list) x (event_view e) i (view_at list x e at) copy)))
 
 -- all numbers of a list are low where each that it has is
-pub all_low : (order : List ℕ) (n : ℕ) → ((x : ℕ) → Has order x → x < n) → All (λ x. x < n) order
+pub all_low : (order : List ℕ) (n : ℕ) → ((x : ℕ) → IsAmong order x → x < n) → All (λ x. x < n) order
 all_low order n low = λ k d lt. low (get_or order k d) (has_at order k d lt)
   where
-    has_at : (xs : List ℕ) (k d : ℕ) → k < length xs → Has xs (get_or xs k d)
+    has_at : (xs : List ℕ) (k d : ℕ) → k < length xs → IsAmong xs (get_or xs k d)
     has_at [] k d lt = absurd (omega arith)
     has_at (x ∷ xs) zero d lt = inl refl
     has_at (x ∷ xs) (suc k) d lt = inr (has_at xs k d (omega arith))

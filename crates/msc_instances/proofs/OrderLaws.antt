@@ -1,19 +1,19 @@
 -- The columns of events are in the order of the text.
-use Rattle.std.proofs.Common.{◌≡◌, ℕ, ◌<◌, ◌≤◌, ◌+◌, suc, Bool, true, false, cond, List, [], ◌∷◌, inl, inr, length, subst, sym, arith}
+use Rattle.std.proofs.Common.{◌≡◌, ℕ, ◌<◌, ◌≤◌, ◌+◌, suc, Bool, true, false, cond, List, [], ◌∷◌, inl, inr, length, subst, arith}
 use Rattle.std.specs.Str.{bytes_eq}
+use Rattle.msc_base.specs.Lists.{IsAmong}
 use Rattle.item_order.specs.Laws.{AreInOrder, NeverWovenAndCrossed, TextIsWoven, WovenIsOne, numbers_from}
-use Rattle.item_order.specs.Orders.{Has}
 use Rattle.item_order.specs.Weaving.{Before, IsWoven}
 use Rattle.msc_instances.specs.Bodies.{AreItems, level_columns}
 use Rattle.msc_instances.specs.Entries.{PlacedEvent, column_of, entries_from}
 use Rattle.msc_instances.specs.Laws.{ItemsAreInOrder, NoColumnsCross}
 
-column_within : (k : ℕ) (events : List PlacedEvent) (name : List ℕ) (x : ℕ) → Has (column_of (entries_from k events) name) x → (k ≤ x) × (x < k + length events)
+column_within : (k : ℕ) (events : List PlacedEvent) (name : List ℕ) (x : ℕ) → IsAmong (column_of (entries_from k events) name) x → (k ≤ x) × (x < k + length events)
 column_within k [] name x h = absurd h
 column_within k (e ∷ events) name x h = by (bytes_eq e.at name) h (column_within (suc k) events name x)
   where
-    by : (b : Bool) → Has (cond b (k ∷ column_of (entries_from (suc k) events) name) (column_of (entries_from (suc k) events) name)) x
-        → (Has (column_of (entries_from (suc k) events) name) x → (suc k ≤ x) × (x < suc k + length events)) → (k ≤ x) × (x < k + length (e ∷ events))
+    by : (b : Bool) → IsAmong (cond b (k ∷ column_of (entries_from (suc k) events) name) (column_of (entries_from (suc k) events) name)) x
+        → (IsAmong (column_of (entries_from (suc k) events) name) x → (suc k ≤ x) × (x < suc k + length events)) → (k ≤ x) × (x < k + length (e ∷ events))
     by true g rest = elim g [
       | inl is ↦ (omega (arith, is), omega (arith, is))
       | inr r ↦ let t = rest r in (omega (arith, t.0), omega (arith, t.1))
@@ -36,8 +36,8 @@ in_order : (events : List PlacedEvent) (names : List (List ℕ)) → AreInOrder 
 in_order events [] = λ column mine. absurd mine
 in_order events (name ∷ names) = λ column mine. elim mine [
   | inl is ↦ (
-    λ x h. let w = column_within 0 events name x (subst (λ (c : List ℕ). Has c x) (sym is) h) in omega (arith, w.1),
-    λ y x h. column_rises 0 events name y x (subst (λ (c : List ℕ). Before c y x) (sym is) h),
+    λ x h. let w = column_within 0 events name x (subst (λ (c : List ℕ). IsAmong c x) is h) in omega (arith, w.1),
+    λ y x h. column_rises 0 events name y x (subst (λ (c : List ℕ). Before c y x) is h),
   )
   | inr more ↦ in_order events names column more
 ]

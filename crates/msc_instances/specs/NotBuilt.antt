@@ -1,6 +1,7 @@
 -- The forms that aren't woven yet, and where a chart has them at its outermost level: coregions, inline expressions, references,
 -- stops and creations. What stands inside an inline expression stands behind it.
-use Rattle.std.specs.Prelude.{◌≡◌, ◌⊎◌, Bool, true, false, if◌then◌else◌, List, [], ◌∷◌, ◌++◌}
+use Rattle.std.specs.Prelude.{Bool, true, false, if◌then◌else◌, List, [], ◌∷◌, ◌++◌}
+use Rattle.msc_base.specs.Lists.{IsAmong}
 use Rattle.msc_base.specs.declared.label.Kind.{Kind}
 use Rattle.msc_base.specs.declared.label.Kind.TheVariants.{Create}
 use Rattle.msc_base.specs.declared.place.Place.{Place}
@@ -42,11 +43,6 @@ not_built_content (HighLevel held) = []
 
 abbrev pub not_built_chart : Chart → List Place
 not_built_chart chart = not_built_content chart.content
-
--- the place is one of the list
-abbrev pub IsAmong : List Place → Place → Type 0
-IsAmong [] p = ⊥
-IsAmong (q ∷ places) p = (q ≡ p) ⊎ IsAmong places p
 
 -- such a form stands there
 abbrev pub IsNotBuilt : Chart → Place → Type 0

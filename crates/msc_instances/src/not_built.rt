@@ -1,8 +1,9 @@
 //! The earliest form that isn't woven: for `weaving`, which refuses it.
 
 ghost use Rattle.std.specs.Prelude.{◌≡◌, ◌++◌, IfOk, OnOk, map};
+ghost use Rattle.msc_base.specs.Lists.{IsAmong};
 ghost use Rattle.msc_base.specs.Places.{IsLeast};
-ghost use Rattle.msc_instances.specs.NotBuilt.{IsAmong, IsNotBuilt, is_creation, not_built_content, not_built_form, not_built_items, not_built_statement, not_built_statements};
+ghost use Rattle.msc_instances.specs.NotBuilt.{IsNotBuilt, is_creation, not_built_content, not_built_form, not_built_items, not_built_statement, not_built_statements};
 ghost use Rattle.msc_tree.specs.Statements.{items as item_tree, statements as statement_tree};
 ghost use Rattle.msc_tree.specs.Views.{chart_view, content_view, form_view, item_view, statement_view};
 

@@ -2,10 +2,11 @@
 use Rattle.std.proofs.Common.{◌≡◌, ℕ, ◌<◌, ◌≤◌, ◌++◌, List, [], ◌∷◌, Option, None, Some, ◌⊎◌, inl, inr, nat_lt, true, false, arith, refl, subst, sym}
 use Rattle.std.proofs.lemmas.Bool.{cases_lt}
 use Rattle.std.proofs.lemmas.Bool.Decides.{nat_tests}
+use Rattle.msc_base.specs.Lists.{IsAmong}
 use Rattle.msc_base.specs.declared.place.Place.{Place}
 use Rattle.msc_rules.specs.declared.first_fault.Broken.{Broken}
 use Rattle.msc_base.specs.Places.{IsBefore, IsNoLater, IsLeast}
-use Rattle.msc_rules.specs.FirstFaults.{IsOf, IsBest, fault_of, is_ahead, earlier_of}
+use Rattle.msc_rules.specs.FirstFaults.{IsBest, fault_of, is_ahead, earlier_of}
 use Rattle.msc_base.proofs.PlaceFacts.{before_cases, no_later_through, never_both, one_place}
 
 abbrev IsAhead : {R : Type 0} → (R → ℕ) → Broken R → Broken R → Type 0
@@ -87,11 +88,11 @@ least_same number A B (Some f) to from a = record {
   lowest = λ r h. a.lowest r (from r f.place h);
 }
 
-to_least : {R : Type 0} (number : R → ℕ) (Breaks : R → Place → Type 0) (rules : List R) (x : Option (Broken R)) → IsBest number Breaks rules x → IsLeastOption number (λ r p. IsOf rules r × Breaks r p) x
+to_least : {R : Type 0} (number : R → ℕ) (Breaks : R → Place → Type 0) (rules : List R) (x : Option (Broken R)) → IsBest number Breaks rules x → IsLeastOption number (λ r p. IsAmong rules r × Breaks r p) x
 to_least number Breaks rules None best = λ r p h. best r p h.0 h.1
 to_least number Breaks rules (Some f) best = record { here = (best.mine, best.broken); earliest = λ r p h. best.earliest r p h.0 h.1; lowest = λ r h. best.lowest r h.0 h.1 }
 
-from_least : {R : Type 0} (number : R → ℕ) (Breaks : R → Place → Type 0) (rules : List R) (x : Option (Broken R)) → IsLeastOption number (λ r p. IsOf rules r × Breaks r p) x → IsBest number Breaks rules x
+from_least : {R : Type 0} (number : R → ℕ) (Breaks : R → Place → Type 0) (rules : List R) (x : Option (Broken R)) → IsLeastOption number (λ r p. IsAmong rules r × Breaks r p) x → IsBest number Breaks rules x
 from_least number Breaks rules None a = λ r p m b. a r p (m, b)
 from_least number Breaks rules (Some f) a = record { mine = a.here.0; broken = a.here.1; earliest = λ r p m b. a.earliest r p (m, b); lowest = λ r m b. a.lowest r (m, b) }
 
@@ -103,25 +104,25 @@ best_of_none number Breaks = λ r p m b. m
 
 -- one rule, at its earliest place
 pub best_of_one : {R : Type 0} (number : R → ℕ) (Breaks : R → Place → Type 0) (r : R) (x : Option Place) → IsLeast (Breaks r) x → IsBest number Breaks (r ∷ []) (fault_of r x)
-best_of_one number Breaks r None h = λ q p m b. elim m [ inl e ↦ h p (subst (λ z. Breaks z p) (sym e) b) | inr n ↦ n ]
+best_of_one number Breaks r None h = λ q p m b. elim m [ inl e ↦ h p (subst (λ z. Breaks z p) e b) | inr n ↦ n ]
 best_of_one number Breaks r (Some p) h = record {
   mine = inl refl;
   broken = h.0;
-  earliest = λ q k m b. elim m [ inl e ↦ h.1 k (subst (λ z. Breaks z k) (sym e) b) | inr n ↦ absurd n ];
-  lowest = λ q m b. elim m [ inl e ↦ subst (λ z. number r ≤ number z) e (omega arith) | inr n ↦ absurd n ];
+  earliest = λ q k m b. elim m [ inl e ↦ h.1 k (subst (λ z. Breaks z k) e b) | inr n ↦ absurd n ];
+  lowest = λ q m b. elim m [ inl e ↦ subst (λ z. number r ≤ number z) (sym e) (omega arith) | inr n ↦ absurd n ];
 }
 
-of_either : {R : Type 0} (rs ss : List R) (r : R) → IsOf (rs ++ ss) r → IsOf rs r ⊎ IsOf ss r
+of_either : {R : Type 0} (rs ss : List R) (r : R) → IsAmong (rs ++ ss) r → IsAmong rs r ⊎ IsAmong ss r
 of_either [] ss r m = inr m
 of_either (q ∷ rs) ss r (inl e) = inl (inl e)
 of_either (q ∷ rs) ss r (inr m) = elim (of_either rs ss r m) [ inl a ↦ inl (inr a) | inr b ↦ inr b ]
 
-of_left : {R : Type 0} (rs ss : List R) (r : R) → IsOf rs r → IsOf (rs ++ ss) r
+of_left : {R : Type 0} (rs ss : List R) (r : R) → IsAmong rs r → IsAmong (rs ++ ss) r
 of_left [] ss r m = absurd m
 of_left (q ∷ rs) ss r (inl e) = inl e
 of_left (q ∷ rs) ss r (inr m) = inr (of_left rs ss r m)
 
-of_right : {R : Type 0} (rs ss : List R) (r : R) → IsOf ss r → IsOf (rs ++ ss) r
+of_right : {R : Type 0} (rs ss : List R) (r : R) → IsAmong ss r → IsAmong (rs ++ ss) r
 of_right [] ss r m = m
 of_right (q ∷ rs) ss r m = inr (of_right rs ss r m)
 
@@ -129,10 +130,10 @@ of_right (q ∷ rs) ss r m = inr (of_right rs ss r m)
 pub best_of_both : {R : Type 0} (number : R → ℕ) (Breaks : R → Place → Type 0) (rs ss : List R) (x y : Option (Broken R)) → IsBest number Breaks rs x → IsBest number Breaks ss y → IsBest number Breaks (rs ++ ss) (earlier_of number x y)
 best_of_both number Breaks rs ss x y a b =
     from_least number Breaks (rs ++ ss) (earlier_of number x y) (least_same number
-    (λ r p. (IsOf rs r × Breaks r p) ⊎ (IsOf ss r × Breaks r p)) (λ r p. IsOf (rs ++ ss) r × Breaks r p) (earlier_of number x y)
+    (λ r p. (IsAmong rs r × Breaks r p) ⊎ (IsAmong ss r × Breaks r p)) (λ r p. IsAmong (rs ++ ss) r × Breaks r p) (earlier_of number x y)
     (λ r p h. elim h [ inl k ↦ (of_left rs ss r k.0, k.1) | inr k ↦ (of_right rs ss r k.0, k.1) ])
     (λ r p h. elim (of_either rs ss r h.0) [ inl k ↦ inl (k, h.1) | inr k ↦ inr (k, h.1) ])
-    (least_either number (λ r p. IsOf rs r × Breaks r p) (λ r p. IsOf ss r × Breaks r p) x y (to_least number Breaks rs x a) (to_least number Breaks ss y b)))
+    (least_either number (λ r p. IsAmong rs r × Breaks r p) (λ r p. IsAmong ss r × Breaks r p) x y (to_least number Breaks rs x a) (to_least number Breaks ss y b)))
 
 -- one rule more, at its earliest place
 pub best_with : {R : Type 0} (number : R → ℕ) (Breaks : R → Place → Type 0) (rs : List R) (r : R) (x : Option (Broken R)) (p : Option Place) → IsBest number Breaks rs x → IsLeast (Breaks r) p → IsBest number Breaks (rs ++ r ∷ []) (earlier_of number x (fault_of r p))
@@ -144,13 +145,13 @@ best_with number Breaks rs r x p a h = best_of_both number Breaks rs (r ∷ []) 
 pub best_of_parts : {R : Type 0} (number : R → ℕ) (A B : R → Place → Type 0) (rules : List R) (x y : Option (Broken R)) → IsBest number A rules x → IsBest number B rules y → IsBest number (λ r p. A r p ⊎ B r p) rules (earlier_of number x y)
 best_of_parts number A B rules x y a b =
     from_least number (λ r p. A r p ⊎ B r p) rules (earlier_of number x y) (least_same number
-    (λ r p. (IsOf rules r × A r p) ⊎ (IsOf rules r × B r p)) (λ r p. IsOf rules r × (A r p ⊎ B r p)) (earlier_of number x y)
+    (λ r p. (IsAmong rules r × A r p) ⊎ (IsAmong rules r × B r p)) (λ r p. IsAmong rules r × (A r p ⊎ B r p)) (earlier_of number x y)
     (λ r p h. elim h [ inl k ↦ (k.0, inl k.1) | inr k ↦ (k.0, inr k.1) ])
     (λ r p h. elim h.1 [ inl k ↦ inl (h.0, k) | inr k ↦ inr (h.0, k) ])
-    (least_either number (λ r p. IsOf rules r × A r p) (λ r p. IsOf rules r × B r p) x y (to_least number A rules x a) (to_least number B rules y b)))
+    (least_either number (λ r p. IsAmong rules r × A r p) (λ r p. IsAmong rules r × B r p) x y (to_least number A rules x a) (to_least number B rules y b)))
 
 -- the same in other words
-pub best_same : {R : Type 0} (number : R → ℕ) (A B : R → Place → Type 0) (rules : List R) (x : Option (Broken R)) → ((r : R) (p : Place) → IsOf rules r → A r p → B r p) → ((r : R) (p : Place) → IsOf rules r → B r p → A r p) → IsBest number A rules x → IsBest number B rules x
+pub best_same : {R : Type 0} (number : R → ℕ) (A B : R → Place → Type 0) (rules : List R) (x : Option (Broken R)) → ((r : R) (p : Place) → IsAmong rules r → A r p → B r p) → ((r : R) (p : Place) → IsAmong rules r → B r p → A r p) → IsBest number A rules x → IsBest number B rules x
 best_same number A B rules None to from a = λ r p m b. a r p m (from r p m b)
 best_same number A B rules (Some f) to from a = record {
   mine = a.mine;

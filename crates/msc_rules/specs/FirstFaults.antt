@@ -1,25 +1,21 @@
 -- The first of several faults. A fault is a rule and a place. Rules have numbers and stand in groups: the first group that has
 -- a fault decides, in it the earliest place, and at one place the lowest number. What the rules say is a relation `Breaks`.
 use Rattle.std.specs.Prelude.{◌≡◌, ◌<◌, ◌≤◌, ℕ, Bool, not, ◌||◌, ◌&&◌, ◌⊎◌, ⊤, nat_lt, if◌then◌else◌, List, [], ◌∷◌, Option, None, Some}
+use Rattle.msc_base.specs.Lists.{IsAmong}
 use Rattle.msc_base.specs.declared.place.Place.{Place}
 use Rattle.msc_rules.specs.declared.first_fault.Broken.{Broken}
 use Rattle.msc_base.specs.Places.{IsBefore, IsNoLater, is_before}
 
--- the rule is one of the list
-abbrev pub IsOf : {R : Type 0} → List R → R → Type 0
-IsOf [] r = ⊥
-IsOf (q ∷ qs) r = (q ≡ r) ⊎ IsOf qs r
-
 -- of the faults of these rules it is the earliest, and at its place the one of the lowest number
 pub record IsEarliest {R : Type 0} (number : R → ℕ) (Breaks : R → Place → Type 0) (rules : List R) (fault : Broken R) : Type 0 where
-  pub mine : IsOf rules fault.rule
+  pub mine : IsAmong rules fault.rule
   pub broken : Breaks fault.rule fault.place
-  pub earliest : (r : R) (p : Place) → IsOf rules r → Breaks r p → IsNoLater fault.place p
-  pub lowest : (r : R) → IsOf rules r → Breaks r fault.place → number fault.rule ≤ number r
+  pub earliest : (r : R) (p : Place) → IsAmong rules r → Breaks r p → IsNoLater fault.place p
+  pub lowest : (r : R) → IsAmong rules r → Breaks r fault.place → number fault.rule ≤ number r
 
 -- none of these rules is broken
 abbrev pub Keeps : {R : Type 0} → (R → Place → Type 0) → List R → Type 0
-Keeps {R} Breaks rules = (r : R) (p : Place) → IsOf rules r → Breaks r p → ⊥
+Keeps {R} Breaks rules = (r : R) (p : Place) → IsAmong rules r → Breaks r p → ⊥
 
 -- no fault of these rules, or the earliest
 abbrev pub IsBest : {R : Type 0} → (R → ℕ) → (R → Place → Type 0) → List R → Option (Broken R) → Type 0
@@ -53,13 +49,13 @@ IsFaultless {R} Breaks = (r : R) (p : Place) → Breaks r p → ⊥
 -- the rule is in one of the groups
 abbrev pub IsInSome : {R : Type 0} → List (List R) → R → Type 0
 IsInSome [] r = ⊥
-IsInSome (rules ∷ more) r = IsOf rules r ⊎ IsInSome more r
+IsInSome (rules ∷ more) r = IsAmong rules r ⊎ IsInSome more r
 
 -- the rules of one list are of one group, and those of the later lists are of later groups
 abbrev pub AreGroups : {R : Type 0} → (R → ℕ) → List (List R) → Type 0
 AreGroups group [] = ⊤
-AreGroups {R} group (rules ∷ more) = ((r s : R) → IsOf rules r → IsOf rules s → group r ≡ group s)
-    × ((r s : R) → IsOf rules r → IsInSome more s → group r < group s) × AreGroups group more
+AreGroups {R} group (rules ∷ more) = ((r s : R) → IsAmong rules r → IsAmong rules s → group r ≡ group s)
+    × ((r s : R) → IsAmong rules r → IsInSome more s → group r < group s) × AreGroups group more
 
 -- the fault of a rule at its earliest place
 abbrev pub fault_of : {R : Type 0} → R → Option Place → Option (Broken R)

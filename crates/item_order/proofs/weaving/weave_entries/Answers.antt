@@ -1,6 +1,7 @@
 use Rattle.std.proofs.Common.{rules, ◌≡◌, ℕ, List, length, IfOk, subst}
 use Rattle.item_order.specs.Answers.{IfWhole, IfStuck}
-use Rattle.item_order.specs.Weaving.{HasColumn, IsCrossedAt, IsWoven}
+use Rattle.item_order.specs.Weaving.{IsCrossedAt, IsWoven}
+use Rattle.msc_base.specs.Lists.{IsAmong}
 use Rattle.item_order.proofs.EntryColumns.{lists_of, columns_low}
 use Rattle.item_order.proofs.weaving.weave_entries.Goals as goal
 
@@ -9,7 +10,7 @@ weave-requires c =
     let long : length c.as_slice.result.now ≡ c.args.columns = search rules in
     let same = lists_of c.args.columns c.args.entries.now c.as_slice.result.now c.in_ok-lists.lists.items c.as_slice.ensures.value long c.in_ok-lists.ensures.targets in
     record {
-      inside = λ column mine. columns_low c.args.columns c.args.count 0 c.args.columns c.args.entries.now c.requires.inside column (subst (λ (cs : List (List ℕ)). HasColumn cs column) same mine);
+      inside = λ column mine. columns_low c.args.columns c.args.count 0 c.args.columns c.args.entries.now c.requires.inside column (subst (λ (cs : List (List ℕ)). IsAmong cs column) same mine);
     }
 
 pub returns-clause-woven : goal.returns-clause-woven

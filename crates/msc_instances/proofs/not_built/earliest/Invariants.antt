@@ -1,6 +1,6 @@
 use Rattle.std.proofs.Common.{drop}
+use Rattle.msc_base.specs.Lists.{IsAmong}
 use Rattle.msc_base.proofs.Narrowing.{Narrows}
-use Rattle.msc_instances.specs.NotBuilt.{IsAmong}
 use Rattle.msc_instances.proofs.not_built.earliest.Given as goal
 
 abbrev pub invariant-loop-place : goal.invariant-loop-place
