@@ -1,5 +1,6 @@
 //! Verdicts of a track over sets of residual terms.
 ghost use Rattle.std.specs.Prelude.{◌≡◌, ◌≤◌, ◌<◌, [], length, IfOk};
+ghost use Rattle.msc_base.specs.declared.limits.TheConstants.Limits.{BUDGET_MOST};
 ghost use Rattle.term_laws.specs.FullSoundness.{IsSoundNode};
 ghost use Rattle.trace_judge.specs.Tracks.{IfHeld};
 
@@ -87,7 +88,7 @@ fn judged<S: Store + Drop>(
 ) -> Result<(Verdict, u64), Fail>
     requires sound { IsSoundNode 2 [] term }
     requires least { 1 ≤ budget }
-    requires most { budget ≤ 4000000 }
+    requires most { budget ≤ BUDGET_MOST }
     requires few { count ≤ 1000 }
 {
     let nets = tables(alloc)?;

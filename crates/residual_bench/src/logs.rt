@@ -6,13 +6,13 @@ ghost use Rattle.trace_judge.specs.Sets.{IsServing};
 ghost use Rattle.trace_judge.specs.Tracks.{IfHeld};
 
 use chart_term::Term;
-use msc_base::{LabelList, NoMemory, Verdict};
+use msc_base::{LabelList, Limits, NoMemory, Verdict};
 use std::alloc::Global;
 use term_tables::Nets;
 use trace_judge::{Residuals, Track};
 
 /// The budget of a set.
-const BUDGET: u64 = 4_000_000;
+const BUDGET: u64 = Limits::BUDGET_MOST;
 
 /// The most turns of a log, or of each half of it.
 const MOST_TURNS: u64 = 1_000_000_000;

@@ -1,5 +1,6 @@
 -- Sets of residual terms, and how one event changes them.
 use Rattle.std.specs.Prelude.{ℕ, ◌≡◌, ◌≤◌, ◌<◌, ◌⊎◌, Bool, true, false, List, [], ◌∷◌, length}
+use Rattle.msc_base.specs.declared.limits.TheConstants.Limits.{BUDGET_MOST}
 use Rattle.std.specs.declared.cmp.Ordering.TheVariants.{Less}
 use Rattle.msc_base.specs.declared.label.Label.{Label}
 use Rattle.term_tables.specs.NetValues.{NetsValue}
@@ -35,7 +36,7 @@ pub record IsServing (v : NetsValue) (s : SetValue) : Type 0 where
   pub sound : Each (IsSoundFor v) s.terms
   pub rising : AreRising s.terms
   pub within : set_weight s.terms ≤ s.budget
-  pub most : s.budget ≤ 4000000
+  pub most : s.budget ≤ BUDGET_MOST
 
 -- y is left of one of the terms after an event with the label
 pub record IsLeftOf (v : NetsValue) (label : Label) (terms : List Tree) (y : Tree) : Type 0 where

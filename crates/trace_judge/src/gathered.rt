@@ -1,6 +1,7 @@
 //! Terms each once with their weight, as a set that is under way: for `residuals` alone.
 
 ghost use Rattle.std.specs.Prelude.{◌≡◌, ◌≤◌, ◌+◌, ◌⊎◌, [], ℕ, IfOk, OnOk, OnErr, true, false};
+ghost use Rattle.msc_base.specs.declared.limits.TheConstants.Limits.{BUDGET_MOST};
 ghost use Rattle.chart_term.specs.Terms.{Tree, weight};
 ghost use Rattle.chart_term.specs.TermPatterns.{Both};
 ghost use Rattle.term_laws.specs.Listing.{set_weight};
@@ -73,8 +74,8 @@ impl Gathered {
 
     /// Adds a term, unless it is there. After want of memory all is as it was.
     pub(crate) fn add(&mut self, term: Term) -> Result<(), NoMemory>
-        requires light { weight term ≤ 4000000 }
-        requires room { set_weight self.old ≤ 4000000 }
+        requires light { weight term ≤ BUDGET_MOST }
+        requires room { set_weight self.old ≤ BUDGET_MOST }
         ensures adds { OnOk result ((y : Tree) → Both (IsAmong self.new y) ((y ≡ term) ⊎ IsAmong self.old y)) }
         ensures weight { OnOk result (set_weight self.new ≤ set_weight self.old + weight term) }
         ensures err { OnErr result (self.new ≡ self.old) }

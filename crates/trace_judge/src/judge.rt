@@ -1,6 +1,7 @@
 //! The judge of a log in pieces, over any store: it ties the reader of logs to a track. It knows no text of a verdict.
 
 ghost use Rattle.std.specs.Prelude.{◌≡◌, ◌≤◌, ◌++◌, [], ℕ, List, true, false, None, Some, Err, IfOk, IfErr, IfSome};
+ghost use Rattle.msc_base.specs.declared.limits.TheConstants.Limits.{BUDGET_MOST};
 ghost use Rattle.term_tables.specs.NetValues.{NetsValue};
 ghost use Rattle.chart_term.specs.Terms.{Tree};
 ghost use Rattle.event_log.specs.declared.event.LogForm.{LogForm};
@@ -52,7 +53,7 @@ impl<S: Store + Drop> Judge<S> {
     ) -> Result<Judge<S>, NoMemory>
         requires sound { IsSoundFor nets term }
         requires least { 1 ≤ budget }
-        requires most { budget ≤ 4000000 }
+        requires most { budget ≤ BUDGET_MOST }
         ensures fed { IfOk result (λ judge. Fed S.holds nets term form budget [] judge) }
         ensures fault { IfOk result (λ judge. judge.fault ≡ None) }
     {

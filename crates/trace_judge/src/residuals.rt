@@ -1,6 +1,7 @@
 //! The set of residual terms as a sorted list, within a budget: the one store that there is.
 
 ghost use Rattle.std.specs.Prelude.{◌≡◌, ◌≤◌, ◌<◌, ◌⊎◌, ◌↔◌, [], ◌∷◌, ◌++◌, ℕ, IfOk, OnOk, OnErr, IsTrue, true, false, MatchOption};
+ghost use Rattle.msc_base.specs.declared.limits.TheConstants.Limits.{BUDGET_MOST};
 ghost use Rattle.chart_term.specs.Properties.{Each};
 ghost use Rattle.chart_term.specs.Terms.{weight};
 ghost use Rattle.term_laws.specs.Listing.{set_weight};
@@ -54,7 +55,7 @@ fn add_found(
     found: &TermList,
     budget: u64,
 ) -> Result<bool, NoMemory>
-    requires most { budget ≤ 4000000 }
+    requires most { budget ≤ BUDGET_MOST }
     requires room { set_weight gathered.old ≤ budget }
     requires light { Each (λ x. weight x ≤ budget) found.now }
     ensures all { IfOk result (λ fits. fits ≡ true → JoinsAll (λ y. IsAmong found.now y) budget gathered.old gathered.new) }
@@ -79,7 +80,7 @@ fn add_successors(
     budget: u64,
 ) -> Result<bool, NoMemory>
     requires sound { IsSoundFor nets.now term.now }
-    requires most { budget ≤ 4000000 }
+    requires most { budget ≤ BUDGET_MOST }
     requires room { set_weight gathered.old ≤ budget }
     ensures all { IfOk result (λ fits. fits ≡ true → JoinsAll (IsSuccessor nets.now label.now term.now) budget gathered.old gathered.new) }
     ensures over { IfOk result (λ fits. fits ≡ false → IsOver (λ y. IsAmong gathered.old y ⊎ IsSuccessor nets.now label.now term.now y) budget) }
@@ -100,7 +101,7 @@ fn gather(
     budget: u64,
 ) -> Result<Option<Gathered>, NoMemory>
     requires sound { Each (IsSoundFor nets.now) terms.now }
-    requires most { budget ≤ 4000000 }
+    requires most { budget ≤ BUDGET_MOST }
     ensures { IfOk result (λ found. MatchOption found (IsOver (IsLeftOf nets.now label.now terms.now) budget)
         (λ all. JoinsAll (IsLeftOf nets.now label.now terms.now) budget [] all)) }
 {

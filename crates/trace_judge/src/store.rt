@@ -1,6 +1,7 @@
 //! What a judge asks of a set of residual terms; `Track` and `Judge` know no more of it than this.
 
 ghost use Rattle.std.specs.Prelude.{◌≡◌, ◌≤◌, ◌<◌, ◌↔◌, ◌++◌, ◌∷◌, [], List, true, false, IfOk, IfErr, OnOk, IsTrue, Err};
+ghost use Rattle.msc_base.specs.declared.limits.TheConstants.Limits.{BUDGET_MOST};
 ghost use Rattle.msc_base.specs.declared.label.Label.{Label};
 ghost use Rattle.term_tables.specs.NetValues.{NetsValue};
 ghost use Rattle.chart_term.specs.Terms.{Tree, weight};
@@ -44,7 +45,7 @@ pub trait Store: Sized {
     fn start(alloc: Global, nets: &Nets, term: Term, budget: u64) -> Result<Self, StepFault>
         requires sound { IsSoundFor nets.now term }
         requires least { 1 ≤ budget }
-        requires most { budget ≤ 4000000 }
+        requires most { budget ≤ BUDGET_MOST }
         ensures set { IfOk result (λ set. holds set ≡ record { terms = term ∷ []; budget = budget; too_large = false }) }
         ensures serves { IfOk result (λ set. serves set nets.now) }
         ensures within { OnOk result (weight term ≤ budget) }

@@ -1,6 +1,7 @@
 //! Follows the events of one log to a verdict, whatever the store. It knows labels and lines, and no bytes.
 
 ghost use Rattle.std.specs.Prelude.{◌≡◌, ◌≤◌, ◌<◌, ◌+◌, ◌++◌, ◌∷◌, [], ℕ, List, IfOk, OnOk, OnErr};
+ghost use Rattle.msc_base.specs.declared.limits.TheConstants.Limits.{BUDGET_MOST};
 ghost use Rattle.term_tables.specs.NetValues.{NetsValue};
 ghost use Rattle.chart_term.specs.Terms.{Tree};
 ghost use Rattle.trace_judge.specs.Advances.{Follows, FollowsOpen, settled, risen, IsOpenVerdict};
@@ -43,7 +44,7 @@ impl<S: Store + Drop> Track<S> {
     pub fn new(alloc: Global, nets: &Nets, term: Term, budget: u64) -> Result<Track<S>, NoMemory>
         requires sound { IsSoundFor nets.now term }
         requires least { 1 ≤ budget }
-        requires most { budget ≤ 4000000 }
+        requires most { budget ≤ BUDGET_MOST }
         ensures fed { IfOk result (λ track. Fed S.holds nets.now term budget [] track) }
         ensures serves { IfOk result (λ track. IfHeld (λ set. S.serves set nets.now) track) }
     {

@@ -1,4 +1,5 @@
 use Rattle.std.proofs.Common.{◌≡◌, ◌≤◌, ◌+◌, ◌-◌, Some, true}
+use Rattle.msc_base.specs.declared.limits.TheConstants.Limits.{DOCUMENT_BYTES}
 use Rattle.msc_cmd.specs.Intakes.{IsReading}
 use Rattle.msc_cmd.proofs.reading.read_document.Given as goal
 
@@ -12,4 +13,4 @@ invariant-loop-intake g l = record {
 }
 
 abbrev pub decreases-loop-intake : goal.decreases-loop-intake
-decreases-loop-intake g l = 4194304 + 1 - l.intake.count
+decreases-loop-intake g l = DOCUMENT_BYTES + 1 - l.intake.count
