@@ -1,7 +1,7 @@
 use Rattle.std.proofs.Common.{vec_len, sym, ap, ◌∙◌, ◌≤◌, ◌≡◌, ◌++◌, ◌+◌, ◌-◌, ◌/◌, ◌<◌, replicate, length, rules, arith}
 use Rattle.bit_sets.proofs.BitFacts.{widened, wide_enough, widened_enough, with_bit_widened}
-use Rattle.bit_sets.proofs.block.set_number.Goals as goal
-use Rattle.bit_sets.proofs.block.set_number.Goals.{then-index-len+in_ok-resize, else-index-len}
+use Rattle.bit_sets.proofs.words.set_number.Goals as goal
+use Rattle.bit_sets.proofs.words.set_number.Goals.{then-index-len+in_ok-resize, else-index-len}
 
 pub set_bit-requires : goal.set_bit-requires
 set_bit-requires c =
