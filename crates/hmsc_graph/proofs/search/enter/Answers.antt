@@ -4,8 +4,8 @@ use Rattle.std.proofs.lemmas.List.{take_more, take_all}
 use Rattle.hmsc_graph.specs.Searches.{HasEntered}
 use Rattle.hmsc_graph.proofs.MemberFacts.{in_at}
 use Rattle.hmsc_graph.proofs.SearchFacts.{entered_none, entered_known, entered_waiting, entered_shut}
-use Rattle.hmsc_graph.proofs.walks.enter.Goals as goal
-use Rattle.hmsc_graph.proofs.walks.enter.Goals.{then-not-has+then-has+in_ok-push, then-not-has+else-has, else-not-has}
+use Rattle.hmsc_graph.proofs.search.enter.Goals as goal
+use Rattle.hmsc_graph.proofs.search.enter.Goals.{then-not-has+then-has+in_ok-push, then-not-has+else-has, else-not-has}
 
 pub loop-node-init : goal.loop-node-init
 loop-node-init c = entered_none c.args.allowed.now.nodes c.args.reached.now c.args.waiting.now.items
