@@ -25,6 +25,8 @@ TOOLS = {"jq": "jq", "mlr": "miller", "tshark": "tshark", "parallel": "parallel"
 # what programs say beside their output where they are run as root
 NOISE = re.compile(r"^Running as user \"root\".*\n", re.M)
 MARK = "-- end of command --"
+# the seconds that a block may take
+LIMIT = 1800
 # Such lines stand for any number of lines.
 ANY = "..."
 
@@ -50,11 +52,8 @@ def commands(block, first):
 
 def is_matched(wanted, had):
     """Whether the lines are those that are wanted, in which ANY stands for any lines."""
-    if not wanted or not had:
-        return all(line == ANY for line in wanted) and (not had or bool(wanted))
-    if wanted[0] == ANY:
-        return is_matched(wanted[1:], had) or is_matched(wanted, had[1:])
-    return wanted[0] == had[0] and is_matched(wanted[1:], had[1:])
+    shape = "".join("(?:.*\n)*" if line == ANY else re.escape(line) + "\n" for line in wanted)
+    return bool(re.fullmatch(shape, "".join(line + "\n" for line in had)))
 
 
 def lacking(texts):
@@ -73,7 +72,7 @@ def run(found, folder, room):
     """What each of the commands printed. They run in one shell, so that `$?` is the status of the command before."""
     script = "".join(f"{text}\n__=$?; printf '\\n{MARK}\\n'; (exit $__)\n" for _, text, _ in found)
     ran = subprocess.run(["bash", "-c", script], cwd=folder, env=environment(room), stdin=subprocess.DEVNULL,
-                         stdout=subprocess.PIPE, stderr=subprocess.STDOUT, errors="replace", timeout=3600)
+                         stdout=subprocess.PIPE, stderr=subprocess.STDOUT, errors="replace", timeout=LIMIT)
     parts = NOISE.sub("", ran.stdout).split(f"\n{MARK}\n")
     return [part.splitlines() for part in parts[:-1]] + [["(the shell ended)"]] * (len(found) - len(parts) + 1)
 

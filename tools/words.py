@@ -191,6 +191,35 @@ def of_program(words, program):
                 yield f"{given} is a request"
 
 
+def of_readme(words):
+    """What the README's tables lack."""
+    page = open("README.md").read()
+    for command in words["commands"]:
+        shown = " ".join([command["name"], *command["takes"], *(f"[{option}]" for option in command["options"])])
+        if f"| `{shown}` |" not in page:
+            yield f"README.md: no `{shown}`"
+    for row in words["statuses"]:
+        rows = re.findall(rf"^\| {row['status']} \|(.*)", page, re.M)
+        for text in row["prints"]:
+            if not any(text in line for line in rows):
+                yield f"README.md: status {row['status']} has no `{text}`"
+
+
+def of_shells(words):
+    """What the completions offer behind the program's name and behind `judge -`, where their shells are installed."""
+    wanted = {"mscjudge ": {command["name"] for command in words["commands"]}, "mscjudge judge -": set(words["options"])}
+    for line, offers in wanted.items():
+        parts = " ".join(f"'{part}'" for part in line.split(" "))
+        by_bash = f"source share/mscjudge.bash; COMP_WORDS=({parts}); COMP_CWORD=$((${{#COMP_WORDS[@]}} - 1)); _mscjudge; printf '%s\\n' \"${{COMPREPLY[@]}}\""
+        by_fish = f"source share/mscjudge.fish; complete -C '{line}'"
+        for shell, text in (("bash", by_bash), ("fish", by_fish)):
+            if shutil.which(shell):
+                ran = subprocess.run([shell, "-c", text], stdout=subprocess.PIPE, stderr=subprocess.STDOUT, errors="replace")
+                had = {row.split("\t")[0] for row in ran.stdout.splitlines()}
+                if had != offers:
+                    yield f"{shell} offers {sorted(had)} behind `{line}`, and not {sorted(offers)}"
+
+
 def of_tools():
     """What mandoc or man, and the shells, say of the files."""
     checks = [("mandoc", ["mandoc", "-T", "lint", "-W", "warning", "share/mscjudge.1"]),
@@ -216,7 +245,7 @@ def main(given):
         return 0
     program = given[given.index("--program") + 1] if "--program" in given else PROGRAM
     found = [f"{path} isn't what {WORDS} gives: run tools/words.py" for path, make in FILES.items() if open(path).read() != make(words)]
-    found += [*of_code(words), *of_rows(words), *of_tools()]
+    found += [*of_code(words), *of_rows(words), *of_readme(words), *of_tools(), *of_shells(words)]
     if os.path.isfile(program):
         found += list(of_program(words, os.path.abspath(program)))
     else:
