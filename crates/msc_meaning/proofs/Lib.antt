@@ -1,0 +1,16 @@
+pub mod Deciding
+pub mod Beginnings
+pub mod Showing
+pub mod KnownEnds
+pub mod PlainCharts
+pub mod MeaningLaws
+pub mod WeavingTest
+pub mod PairingTest
+pub mod WorkedChoices
+pub mod WorkedTurns
+pub mod WorkedGates
+pub mod WorkedJoins
+pub mod WorkedRefinements
+pub mod WorkedWalks
+pub mod WorkedColumns
+pub mod WorkedCall

@@ -1,0 +1,147 @@
+-- Decomposed instances: which event of a refining chart stands for which event of the instance, and what far ends change by it.
+use Rattle.std.specs.Prelude.{ℕ, zero, suc, Bool, true, false, List, [], ◌∷◌, ◌++◌, Option, Some, None, ◌&&◌, ◌==◌, if◌then◌else◌, slice_get}
+use Rattle.std.specs.List.{list_any}
+use Rattle.std.specs.Str.{bytes_eq}
+use Rattle.msc_base.specs.declared.label.Far.{Far}
+use Rattle.msc_base.specs.declared.label.Far.TheVariants as far
+use Rattle.msc_base.specs.declared.label.Kind.{Kind}
+use Rattle.msc_base.specs.declared.label.Kind.TheVariants.{Output, Input}
+use Rattle.msc_base.specs.declared.label.Pair.{Pair}
+use Rattle.msc_unfolding.specs.Unfoldings.{Tag, Own, Via, On, Tie}
+use Rattle.msc_tree.specs.declared.event.Target.{Target}
+use Rattle.msc_tree.specs.declared.event.Target.TheVariants.{Env}
+use Rattle.msc_meaning.specs.Bodies.{EventNode, Body, level, Items, no_items, item_and, Single, Coregion, Inline, Refer, events}
+use Rattle.msc_meaning.specs.EventLabels.{text_of}
+use Rattle.msc_meaning.specs.Tables.{Table, body_at, Refinement}
+
+-- an event of a decomposed instance, and the event that stands for it
+pub record Match : Type 0 where
+  pub event : EventNode
+  pub inner : EventNode
+
+-- ---- the k-th event with the k-th
+
+abbrev pub same_way : Kind → Kind → Bool
+same_way Output Output = true
+same_way Input Input = true
+same_way _ _ = false
+
+-- they have the same direction and text
+abbrev pub is_like : EventNode → EventNode → Bool
+is_like e d = same_way e.event.kind d.event.kind && bytes_eq (text_of e) (text_of d)
+
+-- how many are like it
+abbrev pub count_like : EventNode → List EventNode → ℕ
+count_like e [] = zero
+count_like e (d ∷ ds) = if is_like e d then suc (count_like e ds) else count_like e ds
+
+-- those like it
+abbrev pub all_like : EventNode → List EventNode → List EventNode
+all_like e [] = []
+all_like e (d ∷ ds) = if is_like e d then d ∷ all_like e ds else all_like e ds
+
+abbrev pub is_env : Target → Bool
+is_env (Env gate) = true
+is_env _ = false
+
+-- the events of a refining chart that are written with the environment as their other end
+abbrev pub env_events : List EventNode → List EventNode
+env_events [] = []
+env_events (d ∷ ds) = if is_env d.event.target then d ∷ env_events ds else env_events ds
+
+-- the events of an instance
+abbrev pub events_at : List ℕ → List EventNode → List EventNode
+events_at i [] = []
+events_at i (e ∷ es) = if bytes_eq e.at i then e ∷ events_at i es else events_at i es
+
+abbrev pub match_list : EventNode → Option EventNode → List Match
+match_list e None = []
+match_list e (Some d) = record { event = e; inner = d } ∷ []
+
+-- of the events behind those that were before, each with the one that has as many like it before it
+abbrev pub matches_behind : List EventNode → List EventNode → List EventNode → List Match
+matches_behind inner before [] = []
+matches_behind inner before (e ∷ es) = match_list e (slice_get (all_like e inner) (count_like e before)) ++ matches_behind inner (before ++ e ∷ []) es
+
+-- of a direction and text the k-th event of the instance is matched with the k-th of the refining chart
+abbrev pub matches : List ℕ → Items → Items → List Match
+matches i held inner = matches_behind (env_events (events inner)) [] (events_at i (events held))
+
+-- ---- refining charts
+
+-- the body of a refining chart, and its matched events
+pub data Refining : Type 0 where
+  refining : Body → List Match → Refining
+
+abbrev pub refining_by : List ℕ → Items → Option Body → List Refining
+refining_by i held None = []
+refining_by i held (Some (level cover inner pairs)) = refining (level cover inner pairs) (matches i held inner) ∷ []
+
+-- of each decomposed instance of a level
+abbrev pub refinings : Table → Items → List Refinement → List Refining
+refinings table held [] = []
+refinings table held (r ∷ rs) = refining_by r.instance held (body_at table r.chart) ++ refinings table held rs
+
+abbrev pub all_matches : List Refining → List Match
+all_matches [] = []
+all_matches (refining body ms ∷ rs) = ms ++ all_matches rs
+
+-- ---- far ends
+
+-- the event that a message pairs with that one
+abbrev pub partner : List Pair → ℕ → Option ℕ
+partner [] n = None
+partner (p ∷ ps) n = if p.first == n then Some p.second else (if p.second == n then Some p.first else partner ps n)
+
+-- the event that stands for the one of that number
+abbrev pub standing_for : List Match → ℕ → Option EventNode
+standing_for [] n = None
+standing_for (m ∷ ms) n = if m.event.number == n then Some m.inner else standing_for ms n
+
+abbrev pub far_by : List Match → Option ℕ → Option Far
+far_by ms None = None
+far_by ms (Some n) = instance_of (standing_for ms n)
+  where
+    instance_of : Option EventNode → Option Far
+    instance_of None = None
+    instance_of (Some d) = Some (far.Instance d.at)
+
+-- where the partner of an event is matched, the far end is the instance of the event that stands for the partner
+abbrev pub refined_far : List Pair → List Match → ℕ → Option Far
+refined_far pairs ms n = far_by ms (partner pairs n)
+
+-- an event that stands for another has that one's far end
+abbrev pub inner_far : (EventNode → Far) → List Match → ℕ → Option Far
+inner_far far_of [] d = None
+inner_far far_of (m ∷ ms) d = if m.inner.number == d then Some (far_of m.event) else inner_far far_of ms d
+
+-- ---- what is left, and tags
+
+abbrev pub is_decomposed : List Refinement → EventNode → Bool
+is_decomposed rs n = list_any (λ r. bytes_eq r.instance n.at) rs
+
+abbrev pub left_of : List Refinement → List EventNode → List EventNode
+left_of rs [] = []
+left_of rs (n ∷ ns) = if is_decomposed rs n then left_of rs ns else n ∷ left_of rs ns
+
+-- the items without the events of decomposed instances
+abbrev pub without : List Refinement → Items → Items
+without rs no_items = no_items
+without rs (item_and (Single n) xs) = if is_decomposed rs n then without rs xs else item_and (Single n) (without rs xs)
+without rs (item_and (Coregion ns) xs) = item_and (Coregion (left_of rs ns)) (without rs xs)
+without rs (item_and (Inline form part operands) xs) = item_and (Inline form part operands) (without rs xs)
+without rs (item_and (Refer part) xs) = item_and (Refer part) (without rs xs)
+
+-- the number of the event that one stands for
+abbrev pub stands_for : List Match → ℕ → List Tag
+stands_for [] d = []
+stands_for (m ∷ ms) d = if m.inner.number == d then Own m.event.number ∷ [] else stands_for ms d
+
+-- above a refining chart an event that stands for another has that one's number; no other event_name is left
+abbrev pub past_refining : List Match → Tag → List Tag
+past_refining ms (Own d) = stands_for ms d
+past_refining ms (Via g) = []
+past_refining ms (On name g) = []
+
+abbrev pub refining_tie : List Match → List (Tag × Tag) → Tie
+refining_tie ms pairs = record { pairs = pairs; past = past_refining ms }

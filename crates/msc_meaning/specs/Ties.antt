@@ -1,0 +1,125 @@
+-- What ties the events of a level, and what becomes of their tags above it.
+use Rattle.std.specs.Prelude.{ℕ, Bool, true, false, List, [], ◌∷◌, ◌++◌, Option, Some, None, if◌then◌else◌}
+use Rattle.std.specs.Str.{bytes_eq}
+use Rattle.msc_base.specs.declared.label.Kind.{Kind}
+use Rattle.msc_base.specs.declared.label.Kind.TheVariants.{Input}
+use Rattle.msc_base.specs.declared.label.Pair.{Pair}
+use Rattle.msc_unfolding.specs.Unfoldings.{Tag, Own, Via, On, Tie}
+use Rattle.msc_tree.specs.declared.reference.Join.{Join}
+use Rattle.msc_tree.specs.declared.reference.JoinEnd.{JoinEnd}
+use Rattle.msc_tree.specs.declared.reference.JoinEnd.TheVariants as join_end
+use Rattle.msc_meaning.specs.Bodies.{EventNode, Items, no_items, item_and, Item, Single, Coregion, Inline, Refer, events}
+use Rattle.msc_meaning.specs.Calls.{Caller, an_event, a_gate, Call, is_called, passed_to}
+use Rattle.msc_meaning.specs.InnerEvents.{GateEnd}
+use Rattle.msc_meaning.specs.FarEnds.{end_at}
+
+-- ---- pairs of a level
+
+-- an output before its input
+abbrev pub message_ties : List Pair → List (Tag × Tag)
+message_ties [] = []
+message_ties (p ∷ ps) = (Own p.first, Own p.second) ∷ message_ties ps
+
+abbrev pub is_labelled : Option (List ℕ) → List ℕ → Bool
+is_labelled None name = false
+is_labelled (Some label) name = bytes_eq label name
+
+-- the numbers of the events with that label
+abbrev pub labelled : List EventNode → List ℕ → List ℕ
+labelled [] name = []
+labelled (n ∷ ns) name = if is_labelled n.event.event_name name then n.number ∷ labelled ns name else labelled ns name
+
+abbrev pub each_after : ℕ → List ℕ → List (Tag × Tag)
+each_after x [] = []
+each_after x (e ∷ es) = (Own x, Own e) ∷ each_after x es
+
+abbrev pub each_before : ℕ → List ℕ → List (Tag × Tag)
+each_before x [] = []
+each_before x (e ∷ es) = (Own e, Own x) ∷ each_before x es
+
+-- the event x comes before the labelled events of these names
+abbrev pub before_ties : List EventNode → ℕ → List (List ℕ) → List (Tag × Tag)
+before_ties held x [] = []
+before_ties held x (name ∷ names) = each_after x (labelled held name) ++ before_ties held x names
+
+-- the event x comes after them
+abbrev pub after_ties : List EventNode → ℕ → List (List ℕ) → List (Tag × Tag)
+after_ties held x [] = []
+after_ties held x (name ∷ names) = each_before x (labelled held name) ++ after_ties held x names
+
+-- the general ordering of these events, among those of the level
+abbrev pub order_ties : List EventNode → List EventNode → List (Tag × Tag)
+order_ties held [] = []
+order_ties held (n ∷ ns) = before_ties held n.number n.event.earlier_than ++ (after_ties held n.number n.event.later_than ++ order_ties held ns)
+
+-- events of that kind before those of the other end, or behind them where they are inputs
+abbrev pub in_order : Kind → Tag → Tag → Tag × Tag
+in_order Input a b = (b, a)
+in_order _ a b = (a, b)
+
+-- an event that calls a gate, and the inner events of the gate
+abbrev pub event_ties : List Call → List (Tag × Tag)
+event_ties [] = []
+event_ties (c ∷ cs) = tie_of c c.by ++ event_ties cs
+  where
+    tie_of : Call → Caller → List (Tag × Tag)
+    tie_of c (an_event n) = in_order n.event.kind (Own n.number) (On c.name c.gate) ∷ []
+    tie_of c (a_gate name gate) = []
+
+abbrev pub tie_by : Option GateEnd → List ℕ → List ℕ → List ℕ → List ℕ → List (Tag × Tag)
+tie_by None own g name h = []
+tie_by (Some e) own g name h = in_order e.kind (On own g) (On name h) ∷ []
+
+abbrev pub join_tie : List GateEnd → List ℕ → List ℕ → JoinEnd → List (Tag × Tag)
+join_tie ends own g (join_end.Env h) = []
+join_tie ends own g (join_end.Reference name h) = tie_by (end_at ends own g) own g name h
+
+-- the inner events of two gates that a join of the reference ties
+abbrev pub joins_ties : List GateEnd → Option (List ℕ) → List Join → List (Tag × Tag)
+joins_ties ends None js = []
+joins_ties ends (Some own) [] = []
+joins_ties ends (Some own) (j ∷ js) = join_tie ends own j.gate j.to ++ joins_ties ends (Some own) js
+
+abbrev pub items_joins_ties : List GateEnd → Items → List (Tag × Tag)
+items_joins_ties ends no_items = []
+items_joins_ties ends (item_and x xs) = item_joins_ties x ++ items_joins_ties ends xs
+  where
+    item_joins_ties : Item → List (Tag × Tag)
+    item_joins_ties (Single n) = []
+    item_joins_ties (Coregion ns) = []
+    item_joins_ties (Inline form part operands) = []
+    item_joins_ties (Refer part) = joins_ties ends part.name part.joins
+
+-- what ties the events of a level: its messages, its general ordering, its callers, and its joins
+abbrev pub ties : Items → List Pair → List Call → List GateEnd → List (Tag × Tag)
+ties held pairs cs ends = message_ties pairs ++ (order_ties (events held) (events held) ++ (event_ties cs ++ items_joins_ties ends held))
+
+-- ---- tags, on their way up
+
+abbrev pub called_tag : Bool → Option (List ℕ) → List ℕ → List Tag → List Tag
+called_tag true (Some name) g others = On name g ∷ []
+called_tag true None g others = others
+called_tag false name g others = others
+
+-- above an inline expression a gate event_name becomes one of its own where that gate has a caller, and else stays
+abbrev pub past_inline : List Call → Option (List ℕ) → Tag → List Tag
+past_inline cs name (Own n) = []
+past_inline cs name (On y g) = []
+past_inline cs name (Via g) = called_tag (is_called cs name g) name g (Via g ∷ [])
+
+abbrev pub via_list : Option (List ℕ) → List Tag
+via_list None = []
+via_list (Some h) = Via h ∷ []
+
+-- above a reference it becomes one of its own where that gate has a caller, the level's where a join says so, and else goes
+abbrev pub past_reference : List Call → Option (List ℕ) → List Join → Tag → List Tag
+past_reference cs name joins (Own n) = []
+past_reference cs name joins (On y g) = []
+past_reference cs name joins (Via g) = called_tag (is_called cs name g) name g (via_list (passed_to joins g))
+
+abbrev pub past_node : Tag → List Tag
+past_node a = []
+
+-- a tie that only changes tags
+abbrev pub passing : (Tag → List Tag) → Tie
+passing past = record { pairs = []; past = past }

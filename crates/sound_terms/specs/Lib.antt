@@ -1,0 +1,11 @@
+pub mod SameRuns
+pub mod OrderLaws
+pub mod RisingRows
+pub mod TermRanks
+pub mod Regions
+pub mod DrawnOrders
+pub mod TableLaws
+pub mod FormLaws
+pub mod NumberLaws
+pub mod Intervals
+pub mod NetRanges
