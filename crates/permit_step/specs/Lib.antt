@@ -9,4 +9,5 @@ pub mod Children
 pub mod Successors
 pub mod Searches
 pub mod ReadyBySoundness
-pub mod Held
+pub mod Lefts
+pub mod Skips
