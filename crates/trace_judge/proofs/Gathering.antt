@@ -11,7 +11,7 @@ use Rattle.std.specs.declared.cmp.Ordering.TheVariants.{Less, Equal, Greater}
 use Rattle.std.proofs.lemmas.List.{take_all}
 use Rattle.std.proofs.lemmas.Result.{IfOk-weaker}
 use Rattle.msc_base.specs.declared.label.Label.{Label}
-use Rattle.term_tables.specs.NetValues.{NetsValue}
+use Rattle.term_tables.specs.NetValues.{NetsValue, label_number}
 use Rattle.chart_term.specs.Order.{tree_cmp}
 use Rattle.chart_term.specs.OrderLaws.{tree_equal}
 use Rattle.chart_term.specs.Properties.{Each}
@@ -252,23 +252,32 @@ module _ (v : NetsValue) (a : Label) (terms : List Tree) (budget : ℕ) where
   pub left_end : (i : ℕ) (new : List Tree) → length terms ≤ i → JoinsAll (IsLeftOf v a (take i terms)) budget [] new → JoinsAll (IsLeftOf v a terms) budget [] new
   left_end i new l j = subst (λ (ys : List Tree). JoinsAll (IsLeftOf v a ys) budget [] new) (take_all i terms l) j
 
--- a call that appends what it found to no terms
+-- a call that appends what it found to no terms, for each label of a number
 
-module _ (v : NetsValue) (a : Label) (x : Tree) (budget : ℕ) (old out : List Tree) (all : Bool) (p : old ≡ []) (h : AppendsFound v a x budget old out all) where
-  out_is : out ≡ h.found
-  out_is = h.are ∙ ap (λ (l : List Tree). l ++ h.found) p
+module _ (v : NetsValue) (n : ℕ) (x : Tree) (budget : ℕ) (old out : List Tree) (all : Bool) (p : old ≡ []) (h : (a : Label) → label_number v.labels a ≡ Some n → AppendsFound v a x budget old out all) where
+  out_is : (a : Label) (q : label_number v.labels a ≡ Some n) → out ≡ (h a q).found
+  out_is a q = (h a q).are ∙ ap (λ (l : List Tree). l ++ (h a q).found) p
 
-  pub appended_light : all ≡ true → Each (λ y. weight y ≤ budget) out
-  appended_light t = subst (Each (λ y. weight y ≤ budget)) (sym out_is) (found_light v a x budget h.found all h.they_are t)
+  pub appended_light : (a : Label) → label_number v.labels a ≡ Some n → all ≡ true → Each (λ y. weight y ≤ budget) out
+  appended_light a q t = subst (Each (λ y. weight y ≤ budget)) (sym (out_is a q)) (found_light v a x budget (h a q).found all (h a q).they_are t)
 
-  pub appended_over : (held : List Tree) → all ≡ false → IsOver (λ y. IsAmong held y ⊎ IsSuccessor v a x y) budget
-  appended_over held t = found_over v a x budget h.found all h.they_are held t
+  pub appended_over : (held : List Tree) → all ≡ false → (a : Label) → label_number v.labels a ≡ Some n → IsOver (λ y. IsAmong held y ⊎ IsSuccessor v a x y) budget
+  appended_over held t a q = found_over v a x budget (h a q).found all (h a q).they_are held t
 
-  pub appended_all : {E : Type 0} (held new : List Tree) (r : Result Bool E) → all ≡ true → IfOk r (λ fits. fits ≡ true → JoinsAll (λ y. IsAmong out y) budget held new) → IfOk r (λ fits. fits ≡ true → JoinsAll (IsSuccessor v a x) budget held new)
-  appended_all held new r t f = IfOk-weaker r _ _ (λ b g u. found_joins v a x budget h.found all h.they_are held new t (subst (λ (l : List Tree). JoinsAll (λ y. IsAmong l y) budget held new) out_is (g u))) f
+  pub appended_all : {E : Type 0} (held new : List Tree) (r : Result Bool E) → all ≡ true → IfOk r (λ fits. fits ≡ true → JoinsAll (λ y. IsAmong out y) budget held new)
+      → IfOk r (λ fits. (a : Label) → label_number v.labels a ≡ Some n → fits ≡ true → JoinsAll (IsSuccessor v a x) budget held new)
+  appended_all held new r t f = IfOk-weaker r _ _ (λ b g a q u. found_joins v a x budget (h a q).found all (h a q).they_are held new t (subst (λ (l : List Tree). JoinsAll (λ y. IsAmong l y) budget held new) (out_is a q) (g u))) f
 
-  pub appended_passes : {E : Type 0} (held : List Tree) (r : Result Bool E) → IfOk r (λ fits. fits ≡ false → IsOver (λ y. IsAmong held y ⊎ IsAmong out y) budget) → IfOk r (λ fits. fits ≡ false → IsOver (λ y. IsAmong held y ⊎ IsSuccessor v a x y) budget)
-  appended_passes held r f = IfOk-weaker r _ _ (λ b g u. found_passes v a x budget h.found all h.they_are held (subst (λ (l : List Tree). IsOver (λ y. IsAmong held y ⊎ IsAmong l y) budget) out_is (g u))) f
+  pub appended_passes : {E : Type 0} (held : List Tree) (r : Result Bool E) → IfOk r (λ fits. fits ≡ false → IsOver (λ y. IsAmong held y ⊎ IsAmong out y) budget)
+      → IfOk r (λ fits. (a : Label) → label_number v.labels a ≡ Some n → fits ≡ false → IsOver (λ y. IsAmong held y ⊎ IsSuccessor v a x y) budget)
+  appended_passes held r f = IfOk-weaker r _ _ (λ b g a q u. found_passes v a x budget (h a q).found all (h a q).they_are held (subst (λ (l : List Tree). IsOver (λ y. IsAmong held y ⊎ IsAmong l y) budget) (out_is a q) (g u))) f
+
+-- nothing is left after an event with a label that the tables lack
+pub none_left : (v : NetsValue) (a : Label) (terms : List Tree) (budget : ℕ) (new : List Tree) → new ≡ [] → label_number v.labels a ≡ None → JoinsAll (IsLeftOf v a terms) budget [] new
+none_left v a terms budget new e q = subst (JoinsAll (IsLeftOf v a terms) budget []) (sym e) (record { exact = λ y. record { to = λ h. absurd h; from = λ h. elim h [ inl b ↦ b | inr l ↦ absurd (some_none l.left.event.label (sym l.left.labelled ∙ q)) ] }; within = omega arith })
+  where
+    some_none : (n : ℕ) → Some n ≡ None → ⊥
+    some_none n e = cc
 
 -- a step
 
