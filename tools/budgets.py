@@ -1,5 +1,5 @@
 #!/usr/bin/env python3
-"""budgets.py: whether the repository keeps the budgets of CONTRIBUTING.md, and whether the links of its pages lead somewhere.
+"""budgets.py: whether the repository keeps the budgets of CONTRIBUTING.md.
 
 Run it at the top. It prints what is out of bounds, and ends with status 1 where something is. It takes a second and proves nothing.
 """
@@ -57,21 +57,12 @@ def of_crate(crate, libraries):
             yield f"crates.txt: {crate} doesn't name {library}"
 
 
-def of_pages():
-    """Links that lead nowhere."""
-    for page in glob.glob("*.md") + glob.glob("docs/*.md") + glob.glob("*/README.md") + glob.glob("crates/*/README.md"):
-        for link in re.findall(r"\]\(([^)#:]+)(?:#[^)]*)?\)", open(page).read()):
-            if not os.path.exists(os.path.join(os.path.dirname(page), link)):
-                yield f"{page}: no {link}"
-
-
 def main():
     named, known = needs(), {}
     found = [line for crate in named for line in of_crate(crate, named[crate])]
     found += [f"{crate}: a chain of {depth(crate, named, known)} crates" for crate in named if depth(crate, named, known) > CHAIN]
     edits = len(glob.glob("crates/*/must-fail/*.edit"))
     found += [f"{edits} must-fail edits in all"] if edits > ALL_EDITS else []
-    found += list(of_pages())
     print("\n".join(found) or "the budgets are kept")
     return 1 if found else 0
 

@@ -157,9 +157,17 @@ numbers_more t u x (suc count) from e f le lt =
           (λ no_. numbers_cases u count from false (same ∙ no_) ∙ rest)
     ]
 
--- no words have no numbers
-pub bits_of-none : bits_of [] ≡ []
-bits_of-none = numbers_none (has_bit []) INSTANCES 0 (λ n. has_bit-past [] n (omega arith))
+-- a word of 0 has no numbers
+pub bits_of-zero : bits_of (0 ∷ []) ≡ []
+unfolding has_bit
+bits_of-zero = numbers_none (has_bit (0 ∷ [])) INSTANCES 0 none
+  where
+    read : (j : ℕ) → ◌≡◌ {A = ℕ} (get_or (0 ∷ []) j 0) 0
+    read zero = refl
+    read (suc j) = refl
+
+    none : (n : ℕ) → has_bit (0 ∷ []) n ≡ false
+    none n = ap (λ w. nat_eq (bit_at w (n % 64)) 1) (read (n / 64)) ∙ ap (λ b. nat_eq b 1) (bit_at-zero (n % 64))
 
 -- the words with a number's bit have that number besides
 pub bits_of-with : (words : List ℕ) (n : ℕ) → n < INSTANCES → bits_of (with_bit words n) ≡ insert_rising (bits_of words) n
@@ -229,19 +237,18 @@ with_bit_widened old words n e =
     let is : w ≡ get_or words (n / 64) w = sym (get_or_default_zero words (n / 64) w h) in
     sym (with_bit_is words words n w (wide_enough words words n h refl) h is) ∙ with_bit_is old words n w e h is
 
-pub stored_after : {T E : Type 0} (words new events : List ℕ) (n : ℕ) (r : Result T E) → n < INSTANCES → OnOk r (new ≡ with_bit words n) → OnErr r (new ≡ words) → IsStored words events → IsStored new events
-stored_after words new events n (Ok t) h e k s = subst (λ (l : List ℕ). IsStored l events) (sym e) (stored_with words events n h s)
-stored_after words new events n (Err t) h e k s = subst (λ (l : List ℕ). IsStored l events) (sym k) s
+pub stored_after : {T E : Type 0} (words new events kept : List ℕ) (n : ℕ) (r : Result T E) → n < INSTANCES → OnOk r (new ≡ with_bit words n) → OnErr r (new ≡ words) → kept ≡ events → IsStored words events → IsStored new kept
+stored_after words new events kept n (Ok t) h e k same s = subst (IsStored new) (sym same) (subst (λ (l : List ℕ). IsStored l events) (sym e) (stored_with words events n h s))
+stored_after words new events kept n (Err t) h e k same s = subst (IsStored new) (sym same) (subst (λ (l : List ℕ). IsStored l events) (sym k) s)
 
-pub instance_added : {T E : Type 0} (words new events : List ℕ) (n : ℕ) (old : BlockValue) (r : Result T E) → n < INSTANCES → block_of (bits_of words) events ≡ old → OnOk r (new ≡ with_bit words n)
-    → OnOk r (block_of (bits_of new) events ≡ block_of (insert_rising old.instances n) old.events)
-instance_added words new events n old (Ok t) h view_is e =
-    ap (λ l. block_of l events) (ap bits_of e ∙ bits_of-with words n h) ∙ ap (λ (b : BlockValue). block_of (insert_rising b.instances n) b.events) view_is
-instance_added words new events n old (Err t) h view_is e = tt
+pub instance_added : {T E : Type 0} (words new events kept : List ℕ) (n : ℕ) (old : BlockValue) (r : Result T E) → n < INSTANCES → block_of (bits_of words) events ≡ old → OnOk r (new ≡ with_bit words n) → kept ≡ events
+    → OnOk r (block_of (bits_of new) kept ≡ block_of (insert_rising old.instances n) old.events)
+instance_added words new events kept n old (Ok t) h view_is e same =
+    ap₂ block_of (ap bits_of e ∙ bits_of-with words n h) same ∙ ap (λ (b : BlockValue). block_of (insert_rising b.instances n) b.events) view_is
+instance_added words new events kept n old (Err t) h view_is e same = tt
 
-pub stored_inserted : (words old new : List ℕ) (x i : ℕ) (b : Bool) → new ≡ cond b (insert old i x) old → insert_rising old x ≡ insert old i x → IsStored words old → IsStored words new
-stored_inserted words old new x i true e is s = record { few = s.few; last = s.last; rising = subst IsRising (is ∙ sym e) (IsRising-insert x old s.rising) }
-stored_inserted words old new x i false e is s = subst (λ (l : List ℕ). IsStored words l) (sym e) s
+pub stored_more : (words old kept new : List ℕ) (x i : ℕ) → kept ≡ words → new ≡ insert old i x → insert_rising old x ≡ insert old i x → IsStored words old → IsStored kept new
+stored_more words old kept new x i same e is s = subst (λ (l : List ℕ). IsStored l new) (sym same) (record { few = s.few; last = s.last; rising = subst IsRising (is ∙ sym e) (IsRising-insert x old s.rising) })
 
 pub event_added : (instances events new : List ℕ) (x : ℕ) (old : BlockValue) → block_of instances events ≡ old → new ≡ insert_rising events x → block_of instances new ≡ block_of old.instances (insert_rising old.events x)
 event_added instances events new x old view_is e = ap (λ l. block_of instances l) e ∙ ap (λ (b : BlockValue). block_of b.instances (insert_rising b.events x)) view_is

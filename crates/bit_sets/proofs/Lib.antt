@@ -3,3 +3,4 @@ pub mod RisingFacts
 pub mod WordFacts
 pub mod SetFacts
 pub mod NodeSetFacts
+pub mod FirstWords

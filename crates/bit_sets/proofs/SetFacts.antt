@@ -1,13 +1,13 @@
 -- Facts on sets as lists that rise: the numbers whose bits words have.
-use Rattle.std.proofs.Common.{◌≡◌, ℕ, suc, zero, ◌+◌, ◌-◌, ◌*◌, ◌/◌, ◌%◌, ◌<◌, ◌≤◌, inl, inr, Bool, true, false, ◌||◌, nat_eq, List, [], ◌∷◌, length, get_or, refl, ap, ap₂, subst, sym, ◌∙◌, arith, max, Some, None, Contains, OnOk, OnErr, Result, Ok, Err}
+use Rattle.std.proofs.Common.{◌≡◌, ℕ, suc, zero, ◌+◌, ◌-◌, ◌*◌, ◌/◌, ◌%◌, ◌<◌, ◌≤◌, inl, inr, Bool, true, false, ◌||◌, ◌&&◌, cond, filter, min, nat_eq, List, [], ◌∷◌, length, get_or, refl, ap, ap₂, subst, sym, ◌∙◌, arith, max, Some, None, Contains, OnOk, OnErr, Result, Ok, Err}
 use Rattle.std.specs.Int.{bit_at}
 use Rattle.std.specs.Ordering.{nat_cmp, ordering_then}
 use Rattle.std.specs.declared.cmp.Ordering.TheVariants.{Less, Equal, Greater}
 use Rattle.std.proofs.lemmas.Bool.{eq-eqb, eqb-true, ne_eqb, lt-ltb, le-ltb, cases_eq, cases_lt}
 use Rattle.std.proofs.lemmas.Nat.{le_or_l, le_or_r}
-use Rattle.std.proofs.lemmas.Nat.Bits.{bit_at_or, bit_at-lt}
+use Rattle.std.proofs.lemmas.Nat.Bits.{bit_at_or, bit_at_and, bit_at-lt}
 use Rattle.msc_base.specs.declared.limits.TheConstants.Limits.{INSTANCES}
-use Rattle.bit_sets.specs.Blocks.{BlockValue, AreAbove, IsStored, insert_rising, insert_each, is_among, share, set_cmp, has_bit, numbers_that, bits_of, HasBitsOfBoth, IsFirstDifference, ShareBit}
+use Rattle.bit_sets.specs.Blocks.{BlockValue, AreAbove, IsStored, insert_rising, insert_each, is_among, share, shared, set_cmp, has_bit, numbers_that, bits_of, HasBitsOfBoth, HasCommonBits, IsTrimmed, IsRising, IsFirstDifference, ShareBit}
 use Rattle.bit_sets.proofs.BitFacts.{has_bit-past, has_bit-contains, numbers_cases, numbers_above, numbers_same, numbers_zero, block_of}
 use Rattle.bit_sets.proofs.RisingFacts.{insert_same, insert_later, insert_front, AreAbove-insert, contains_first, contains_later, contains_cases, contains_none}
 use Rattle.bit_sets.proofs.WordFacts.{has_bit_is}
@@ -79,18 +79,18 @@ stored_united words others both events theirs h s t = record {
   rising = s.rising;
 }
 
-pub stored_then : {T E : Type 0} (words others new events theirs : List ℕ) (r : Result T E) → OnOk r (HasBitsOfBoth words others new) → OnErr r (new ≡ words) → IsStored words events → IsStored others theirs → IsStored new events
-stored_then words others new events theirs (Ok x) h k s t = stored_united words others new events theirs h s t
-stored_then words others new events theirs (Err x) h k s t = subst (λ (l : List ℕ). IsStored l events) (sym k) s
+pub stored_then : {T E : Type 0} (words others new events theirs kept : List ℕ) (r : Result T E) → OnOk r (HasBitsOfBoth words others new) → OnErr r (new ≡ words) → kept ≡ events → IsStored words events → IsStored others theirs → IsStored new kept
+stored_then words others new events theirs kept (Ok x) h k same s t = subst (IsStored new) (sym same) (stored_united words others new events theirs h s t)
+stored_then words others new events theirs kept (Err x) h k same s t = subst (IsStored new) (sym same) (subst (λ (l : List ℕ). IsStored l events) (sym k) s)
 
-pub instances_added : {T E : Type 0} (words others new events theirs : List ℕ) (old other : BlockValue) (r : Result T E) → block_of (bits_of words) events ≡ old → block_of (bits_of others) theirs ≡ other → OnOk r (HasBitsOfBoth words others new)
-    → OnOk r (block_of (bits_of new) events ≡ block_of (insert_each old.instances other.instances) old.events)
-instances_added words others new events theirs old other (Ok x) p q h =
-    ap (λ l. block_of l events) (bits_of-united words others new h) ∙ ap₂ (λ (b c : BlockValue). block_of (insert_each b.instances c.instances) b.events) p q
-instances_added words others new events theirs old other (Err x) p q h = tt
+pub instances_added : {T E : Type 0} (words others new events theirs kept : List ℕ) (old other : BlockValue) (r : Result T E) → block_of (bits_of words) events ≡ old → block_of (bits_of others) theirs ≡ other → OnOk r (HasBitsOfBoth words others new) → kept ≡ events
+    → OnOk r (block_of (bits_of new) kept ≡ block_of (insert_each old.instances other.instances) old.events)
+instances_added words others new events theirs kept old other (Ok x) p q h same =
+    ap₂ block_of (bits_of-united words others new h) same ∙ ap₂ (λ (b c : BlockValue). block_of (insert_each b.instances c.instances) b.events) p q
+instances_added words others new events theirs kept old other (Err x) p q h same = tt
 
 -- whether a list has a number
-among_contains : (xs : List ℕ) (n : ℕ) → is_among xs n ≡ true → Contains xs n
+pub among_contains : (xs : List ℕ) (n : ℕ) → is_among xs n ≡ true → Contains xs n
 among_contains [] n h = cc
 among_contains (x ∷ xs) n h = by_case (λ there. among_contains xs n there) (nat_eq x n) refl
   where
@@ -223,3 +223,66 @@ ordered_greater words others n few h d =
 
 pub ordered_same : (words others : List ℕ) → IsFirstDifference words others None → Equal ≡ set_cmp (bits_of words) (bits_of others)
 ordered_same words others same = sym (ap (λ l. set_cmp (bits_of words) l) (sym (numbers_same (has_bit words) (has_bit others) INSTANCES 0 (λ n le. same n))) ∙ set_cmp_same (bits_of words))
+
+-- the numbers of a list that pass a test besides
+numbers_both : (t u v : ℕ → Bool) (count from : ℕ) → ((n : ℕ) → v n ≡ (t n && u n)) → numbers_that v count from ≡ filter u (numbers_that t count from)
+numbers_both t u v zero from f = numbers_zero v from ∙ sym (ap (filter u) (numbers_zero t from))
+numbers_both t u v (suc count) from f = by_cases (numbers_both t u v count (suc from) f) (t from) (u from) refl refl
+  where
+    by_cases : numbers_that v count (suc from) ≡ filter u (numbers_that t count (suc from)) → (a b : Bool) → t from ≡ a → u from ≡ b → numbers_that v (suc count) from ≡ filter u (numbers_that t (suc count) from)
+    by_cases rest true true p q =
+        numbers_cases v count from true (f from ∙ ap₂ (λ a b. a && b) p q) ∙ ap (λ l. from ∷ l) rest
+        ∙ sym (ap (filter u) (numbers_cases t count from true p) ∙ ap (λ c. cond c (from ∷ filter u (numbers_that t count (suc from))) (filter u (numbers_that t count (suc from)))) q)
+    by_cases rest true false p q =
+        numbers_cases v count from false (f from ∙ ap₂ (λ a b. a && b) p q) ∙ rest
+        ∙ sym (ap (filter u) (numbers_cases t count from true p) ∙ ap (λ c. cond c (from ∷ filter u (numbers_that t count (suc from))) (filter u (numbers_that t count (suc from)))) q)
+    by_cases rest false b p q = numbers_cases v count from false (f from ∙ ap (λ a. a && u from) p) ∙ rest ∙ sym (ap (filter u) (numbers_cases t count from false p))
+
+both_one : (x y : ℕ) → x < 2 → y < 2 → nat_eq (min x y) 1 ≡ (nat_eq x 1 && nat_eq y 1)
+both_one zero zero a b = refl
+both_one zero (suc zero) a b = refl
+both_one (suc zero) zero a b = refl
+both_one (suc zero) (suc zero) a b = refl
+both_one (suc (suc x)) y a b = absurd (omega arith)
+both_one zero (suc (suc y)) a b = absurd (omega arith)
+both_one (suc zero) (suc (suc y)) a b = absurd (omega arith)
+
+-- the common words have the bits that are in both
+has_bit_both : (words others both : List ℕ) → HasCommonBits words others both → (n : ℕ) → has_bit both n ≡ (has_bit words n && has_bit others n)
+has_bit_both words others both h n =
+    has_bit_is both n ∙ ap (λ w. nat_eq (bit_at w (n % 64)) 1) (h.common (n / 64)) ∙ ap (λ b. nat_eq b 1) (bit_at_and (get_or words (n / 64) 0) (get_or others (n / 64) 0) (n % 64))
+    ∙ both_one (bit_at (get_or words (n / 64) 0) (n % 64)) (bit_at (get_or others (n / 64) 0) (n % 64)) (bit_at-lt (get_or words (n / 64) 0) (n % 64)) (bit_at-lt (get_or others (n / 64) 0) (n % 64))
+    ∙ sym (ap₂ (λ a b. a && b) (has_bit_is words n) (has_bit_is others n))
+
+-- the test of a number is that of its bit
+among_bits : (words : List ℕ) (n : ℕ) → 64 * length words ≤ INSTANCES → is_among (bits_of words) n ≡ has_bit words n
+among_bits words n few = by_case (is_among (bits_of words) n) refl
+  where
+    other_false : (b : Bool) → (b ≡ true → ⊥) → b ≡ false
+    other_false true differs = absurd (differs refl)
+    other_false false differs = refl
+
+    by_case : (b : Bool) → is_among (bits_of words) n ≡ b → is_among (bits_of words) n ≡ has_bit words n
+    by_case true e = e ∙ sym ((has_bit-contains words n (has_bit words n) few refl).1 (among_contains (bits_of words) n e))
+    by_case false e = e ∙ sym (other_false (has_bit words n) (λ set_. let bad : false ≡ true = sym e ∙ contains_among (bits_of words) n ((has_bit-contains words n true few (sym set_)).0 refl) in cc))
+
+bits_of-common : (words others both : List ℕ) → 64 * length others ≤ INSTANCES → HasCommonBits words others both → bits_of both ≡ shared (bits_of words) (bits_of others)
+bits_of-common words others both few h =
+    numbers_both (has_bit words) (is_among (bits_of others)) (has_bit both) INSTANCES 0 (λ n. has_bit_both words others both h n ∙ ap (λ b. has_bit words n && b) (sym (among_bits others n few)))
+
+pub common_block : (words others both events theirs none : List ℕ) (old other : BlockValue) → block_of (bits_of words) events ≡ old → block_of (bits_of others) theirs ≡ other → IsStored others theirs → HasCommonBits words others both → none ≡ [] → block_of (bits_of both) none ≡ block_of (shared old.instances other.instances) []
+common_block words others both events theirs none old other p q s h e =
+    ap₂ block_of (bits_of-common words others both s.few h) e ∙ ap₂ (λ (b c : BlockValue). block_of (shared b.instances c.instances) []) p q
+
+pub stored_common : (words others events none : List ℕ) (v : ℕ) (vs : List ℕ) → IsStored words events → HasCommonBits words others (v ∷ vs) → IsTrimmed vs → none ≡ [] → IsStored (v ∷ vs) none
+stored_common words others events none v vs s h last e = record {
+  few = omega (arith, s.few, h.long);
+  last = λ some. ends vs last some;
+  rising = subst IsRising (sym e) tt;
+}
+  where
+    ends : (vs : List ℕ) → IsTrimmed vs → 1 < length (v ∷ vs) → 0 < get_or (v ∷ vs) (length (v ∷ vs) - 1) 0
+    ends [] t some = absurd (omega arith)
+    ends (x ∷ xs) t some =
+        let place : length (v ∷ x ∷ xs) - 1 ≡ suc (length (x ∷ xs) - 1) = omega arith in
+        subst (λ (k : ℕ). 0 < get_or (v ∷ x ∷ xs) k 0) (sym place) (t (omega arith))

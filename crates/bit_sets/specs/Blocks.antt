@@ -1,11 +1,11 @@
 -- A set of instances and a set of events, each as the list of its numbers, which rises. So equal sets are equal values.
 use Rattle.std.specs.List.{list_any}
 use Rattle.std.specs.Ordering.{nat_cmp, ordering_then}
-use Rattle.std.specs.Prelude.{ℕ, suc, zero, ◌+◌, ◌-◌, ◌*◌, ◌^◌, ◌/◌, ◌%◌, ◌<◌, ◌≤◌, ◌==◌, ◌≡◌, ◌≢◌, max, nat_lt, Bool, true, false, List, [], ◌∷◌, ◌++◌, length, slice_index, slice_set, replicate, if◌then◌else◌, Option, Some, None}
+use Rattle.std.specs.Prelude.{ℕ, suc, zero, filter, ◌+◌, ◌-◌, ◌*◌, ◌^◌, ◌/◌, ◌%◌, ◌<◌, ◌≤◌, ◌==◌, ◌≡◌, ◌≢◌, max, nat_lt, Bool, true, false, List, [], ◌∷◌, ◌++◌, length, slice_index, slice_set, replicate, if◌then◌else◌, Option, Some, None}
 use Rattle.std.specs.declared.cmp.Ordering.{Ordering}
 use Rattle.std.specs.declared.cmp.Ordering.TheVariants.{Less, Equal, Greater}
 use Rattle.std.specs.Int.{bit_at}
-use Rattle.std.specs.Int.Bits.{bit_or}
+use Rattle.std.specs.Int.Bits.{bit_and, bit_or}
 use Rattle.msc_base.specs.declared.limits.TheConstants.Limits.{INSTANCES}
 
 pub record BlockValue : Type 0 where
@@ -55,10 +55,14 @@ bits_of words = numbers_that (has_bit words) INSTANCES 0
 abbrev pub with_bit : List ℕ → ℕ → List ℕ
 with_bit words n = slice_set (words ++ replicate (n / 64 + 1 - length words) 0) (n / 64) (bit_or (slice_index words (n / 64)) (2 ^ (n % 64)))
 
--- what is stored: no more words than there may be instances, the last of them not 0, and events that rise
+-- the last of the words isn't 0
+abbrev pub IsTrimmed : List ℕ → Type 0
+IsTrimmed words = 0 < length words → 0 < slice_index words (length words - 1)
+
+-- what is stored: no more words than there may be instances, the last not 0 where it isn't the first, and events that rise
 pub record IsStored (words events : List ℕ) : Type 0 where
   pub few : 64 * length words ≤ INSTANCES
-  pub last : 0 < length words → 0 < slice_index words (length words - 1)
+  pub last : 1 < length words → 0 < slice_index words (length words - 1)
   pub rising : IsRising events
 
 -- a list that rises, with the numbers of another besides
@@ -74,6 +78,10 @@ is_among xs n = list_any (λ m. m == n) xs
 abbrev pub share : List ℕ → List ℕ → Bool
 share xs ys = list_any (is_among ys) xs
 
+-- the numbers of the first list that the second has too
+abbrev pub shared : List ℕ → List ℕ → List ℕ
+shared xs ys = filter (is_among ys) xs
+
 -- the order of sets: of the least number that only one has, the one that has it comes first
 abbrev pub set_cmp : List ℕ → List ℕ → Ordering
 set_cmp [] [] = Equal
@@ -85,6 +93,18 @@ set_cmp (x ∷ xs) (y ∷ ys) = ordering_then (nat_cmp x y) (set_cmp xs ys)
 pub record HasBitsOfBoth (words others both : List ℕ) : Type 0 where
   pub long : length both ≡ max (length words) (length others)
   pub united : (k : ℕ) → slice_index both k ≡ bit_or (slice_index words k) (slice_index others k)
+
+-- each word has the bits that are in both
+pub record HasCommonBits (words others both : List ℕ) : Type 0 where
+  pub long : length both ≤ length words
+  pub common : (k : ℕ) → slice_index both k ≡ bit_and (slice_index words k) (slice_index others k)
+
+-- from that length on no bit is in both, and the word before it has one
+pub record IsCommonLength (words others : List ℕ) (count : ℕ) : Type 0 where
+  pub long : count ≤ length words
+  pub others_long : count ≤ length others
+  pub past : (k : ℕ) → count ≤ k → bit_and (slice_index words k) (slice_index others k) ≡ 0
+  pub last : 0 < count → bit_and (slice_index words (count - 1)) (slice_index others (count - 1)) ≢ 0
 
 -- the least number whose bit only one of the two has
 abbrev pub IsFirstDifference : List ℕ → List ℕ → Option ℕ → Type 0

@@ -1,2 +1,3 @@
 pub mod Blocks
 pub mod NodeSets
+pub mod Stores

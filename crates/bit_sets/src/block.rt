@@ -1,9 +1,9 @@
 //! Sets of instances and of events, by number. chart_term, term_tables and permit_step say by them what a term touches.
 
 ghost use Rattle.std.specs.Prelude.{◌≡◌, ◌<◌, ◌↔◌, [], Contains, OnOk, OnErr, IfOk, IsTrue};
-ghost use Rattle.bit_sets.specs.Blocks.{IsBlock, insert_rising, insert_each, share, set_cmp, with_bit};
+ghost use Rattle.bit_sets.specs.Blocks.{IsBlock, insert_rising, insert_each, share, shared, set_cmp};
 
-use crate::words::{first_difference, has_number, set_bit, share_bit, unite};
+use crate::sets::Sets;
 use msc_base::{Limits, NoMemory};
 use std::alloc::Global;
 use std::cmp::Ordering;
@@ -15,33 +15,20 @@ use std::marker::Model;
 /// values.
 #[derive(Drop)]
 pub struct Block {
-    /// The instances: 64 to a word, from its lowest bit on. The last word isn't 0.
-    words: Vec<u64>,
-    /// The events, each above the one before it.
-    events: Vec<u32>,
+    /// The instances, 64 to a word from its lowest bit on, without words of 0 at the end; and the
+    /// events, each above the one before it.
+    sets: Sets,
 }
 
 impl Model for Block {
     ghost use Rattle.bit_sets.specs.Blocks.{BlockValue, bits_of, IsStored};
+    ghost use Rattle.bit_sets.specs.Stores.{words_of, events_of};
 
     ghost Value = { BlockValue };
 
-    ghost view = { λ b. record { instances = bits_of b.words.items; events = b.events.items } };
+    ghost view = { λ b. record { instances = bits_of (words_of b.sets); events = events_of b.sets } };
 
-    ghost invariant = { λ b. IsStored b.words.items b.events.items };
-}
-
-/// Sets the bit of that number, in new words where there are too few.
-fn set_number(words: &mut Vec<u64>, at: u32) -> Result<(), NoMemory>
-    ensures ok { OnOk result (words.new.items ≡ with_bit words.old.items at) }
-    ensures err { OnErr result (words.new.items ≡ words.old.items) }
-{
-    let index = (at / 64) as usize;
-    if index >= words.len() {
-        words.resize(index + 1, 0)?;
-    }
-    set_bit(words, at);
-    Ok(())
+    ghost invariant = { λ b. IsStored (words_of b.sets) (events_of b.sets) };
 }
 
 impl Block {
@@ -50,8 +37,7 @@ impl Block {
         ensures { result ≡ record { instances = []; events = [] } }
     {
         Block {
-            words: Vec::new(alloc),
-            events: Vec::new(alloc),
+            sets: Sets::empty(alloc),
         }
     }
 
@@ -63,7 +49,7 @@ impl Block {
         ensures err { OnErr result (self.new ≡ self.old) }
         ensures block { IsBlock self.new }
     {
-        set_number(&mut self.words, at)
+        self.sets.set(at)
     }
 
     /// Adds an event where it is new. After want of memory the block is as it was.
@@ -73,8 +59,9 @@ impl Block {
         ensures err { OnErr result (self.new ≡ self.old) }
         ensures block { IsBlock self.new }
     {
-        if let Err(place) = self.events.binary_search(&number) {
-            self.events.insert(place, number)?;
+        let found = self.sets.events().binary_search(&number);
+        if let Err(place) = found {
+            self.sets.insert_event(place, number)?;
         }
         Ok(())
     }
@@ -84,7 +71,7 @@ impl Block {
         ensures has { IsTrue result ↔ Contains self.now.instances at }
         ensures block { IsBlock self.now }
     {
-        has_number(&self.words, at)
+        self.sets.has(at)
     }
 
     /// Whether the event is in the block. It takes no memory.
@@ -92,7 +79,7 @@ impl Block {
         ensures has { IsTrue result ↔ Contains self.now.events number }
         ensures block { IsBlock self.now }
     {
-        self.events.binary_search(&number).is_ok()
+        self.sets.events().binary_search(&number).is_ok()
     }
 
     /// The same sets once more. It fails only for want of memory.
@@ -100,16 +87,15 @@ impl Block {
         ensures copy { IfOk result (λ block. block ≡ self.now) }
         ensures block { IsBlock self.now }
     {
-        let words = Vec::from_slice(alloc, &self.words)?;
-        let events = Vec::from_slice(alloc, &self.events)?;
-        Ok(Block { words, events })
+        let sets = self.sets.copy(alloc)?;
+        Ok(Block { sets })
     }
 
     /// The events, which rise. It takes no memory.
     pub fn events(&self) -> &[u32]
         ensures { result.now ≡ self.now.events }
     {
-        self.events.as_slice()
+        self.sets.events()
     }
 
     /// Adds the instances of the other block. After want of memory the block is as it was.
@@ -121,14 +107,23 @@ impl Block {
         ensures err { OnErr result (self.new ≡ self.old) }
         ensures block { IsBlock self.new }
     {
-        unite(&mut self.words, &other.words)
+        self.sets.unite(&other.sets)
+    }
+
+    /// The instances of both blocks, without events. It fails only for want of memory.
+    pub fn common(&self, alloc: Global, other: &Block) -> Result<Block, NoMemory>
+        ensures { IfOk result (λ both.
+            both ≡ record { instances = shared self.now.instances other.now.instances; events = [] }) }
+    {
+        let sets = self.sets.common(alloc, &other.sets)?;
+        Ok(Block { sets })
     }
 
     /// Whether an instance is in both blocks. It takes no memory.
     pub fn shares_instance(&self, other: &Block) -> bool
         ensures { result ≡ share self.now.instances other.now.instances }
     {
-        share_bit(&self.words, &other.words)
+        self.sets.shares(&other.sets)
     }
 
     /// The order of the sets of instances: of the least instance that only one block has, the
@@ -136,9 +131,9 @@ impl Block {
     pub fn compare_instances(&self, other: &Block) -> Ordering
         ensures { result ≡ set_cmp self.now.instances other.now.instances }
     {
-        match first_difference(&self.words, &other.words) {
+        match self.sets.difference(&other.sets) {
             Some(at) => {
-                if has_number(&self.words, at) {
+                if self.sets.has(at) {
                     Ordering::Less
                 } else {
                     Ordering::Greater

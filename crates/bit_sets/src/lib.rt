@@ -3,6 +3,7 @@
 
 mod block;
 mod node_set;
+mod sets;
 mod words;
 
 pub use block::Block;

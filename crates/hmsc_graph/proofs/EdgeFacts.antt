@@ -2,11 +2,11 @@
 use Rattle.std.proofs.Common.{ℕ, zero, suc, ◌+◌, ◌<◌, ◌≡◌, ◌↔◌, ◌⊎◌, inl, inr, List, [], ◌∷◌, ◌++◌, length, get_or, set, take, replicate, Bool, true, false, refl, sym, subst, arith, ap, ◌∙◌}
 use Rattle.std.proofs.Math.Seq.{take-append_seam}
 use Rattle.std.proofs.lemmas.Bool.{cases_eq, cases_lt, true≢false}
-use Rattle.std.proofs.lemmas.List.{get_or-set_same, get_or-set_other, length-set, get_or_past}
-use Rattle.hmsc_graph.specs.Graphs.{Net, At, behind, End, arrives}
+use Rattle.std.proofs.lemmas.List.{get_or-set_same, get_or-set_other, length-set, length-replicate, get_or_past}
+use Rattle.hmsc_graph.specs.Graphs.{Net, Spot, Start, At, To, behind, End, arrives, WalkThrough, last, step}
 use Rattle.msc_base.specs.Lists.{IsIn}
-use Rattle.hmsc_graph.specs.Reversals.{HasEdges, AreEdgesBack, IsReversed}
-use Rattle.hmsc_graph.specs.Nets.{IsNet, size_of, graph_of}
+use Rattle.hmsc_graph.specs.Reversals.{HasEdges, HasEnd, AreEdgesBack, IsStored, way_of}
+use Rattle.hmsc_graph.specs.Nets.{IsNet, size_of}
 use Rattle.hmsc_graph.proofs.MemberFacts.{in_left, in_pushed, pushed_in}
 
 pub edges_none : (back : List (List ℕ)) (node : ℕ) → HasEdges back node [] back
@@ -19,7 +19,7 @@ edges_none back node = record {
     only m n (inl h) = h
     only m n (inr h) = absurd h.1
 
-get_default : (xs : List (List ℕ)) (i : ℕ) (d : List ℕ) → i < length xs → get_or xs i d ≡ get_or xs i []
+pub get_default : (xs : List (List ℕ)) (i : ℕ) (d : List ℕ) → i < length xs → get_or xs i d ≡ get_or xs i []
 get_default [] i d h = absurd (omega arith)
 get_default (x ∷ xs) zero d h = refl
 get_default (x ∷ xs) (suc i) d h = get_default xs i d (omega (arith, h))
@@ -90,47 +90,119 @@ none_there zero m n h = h
 none_there (suc count) m zero h = h
 none_there (suc count) m (suc n) h = none_there count m n h
 
-pub no_edges_back : (g : Net) (count : ℕ) → AreEdgesBack g 0 (replicate {A = List ℕ} count [])
-no_edges_back g count = λ m n. ((λ h. absurd (none_there count m n h)), λ p. absurd (omega (arith, p.0)))
+pub no_edges_back : (next : List (List ℕ)) (count : ℕ) → AreEdgesBack next 0 (replicate {A = List ℕ} count [])
+no_edges_back next count = λ m n. ((λ h. absurd (none_there count m n h)), λ p. absurd (omega (arith, p.0)))
 
-pub edges_back_more : (g : Net) (k : ℕ) (back new : List (List ℕ)) → AreEdgesBack g k back → HasEdges back k (behind g (At k)) new → AreEdgesBack g (k + 1) new
-edges_back_more g k back new was h = λ m n. ((λ i. there m n ((h.edges m n).0 i)), λ p. (h.edges m n).1 (from m n p))
+pub edges_back_more : (next : List (List ℕ)) (k : ℕ) (back new : List (List ℕ)) → AreEdgesBack next k back → HasEdges back k (get_or next k []) new → AreEdgesBack next (k + 1) new
+edges_back_more next k back new was h = λ m n. ((λ i. there m n ((h.edges m n).0 i)), λ p. (h.edges m n).1 (from m n p))
   where
-    there : (m n : ℕ) → IsIn m (get_or back n []) ⊎ ((m ≡ k) × IsIn n (behind g (At k))) → (m < k + 1) × IsIn n (behind g (At m))
+    there : (m n : ℕ) → IsIn m (get_or back n []) ⊎ ((m ≡ k) × IsIn n (get_or next k [])) → (m < k + 1) × IsIn n (get_or next m [])
     there m n (inl i) = let p = (was m n).0 i in (omega (arith, p.0), p.1)
-    there m n (inr p) = (omega (arith, p.0), subst (λ (x : ℕ). IsIn n (behind g (At x))) (sym p.0) p.1)
+    there m n (inr p) = (omega (arith, p.0), subst (λ (x : ℕ). IsIn n (get_or next x [])) (sym p.0) p.1)
 
-    from : (m n : ℕ) → (m < k + 1) × IsIn n (behind g (At m)) → IsIn m (get_or back n []) ⊎ ((m ≡ k) × IsIn n (behind g (At k)))
+    from : (m n : ℕ) → (m < k + 1) × IsIn n (get_or next m []) → IsIn m (get_or back n []) ⊎ ((m ≡ k) × IsIn n (get_or next k []))
     from m n p = elim (cases_eq m k) [
-      | inl e ↦ inr (e, subst (λ (x : ℕ). IsIn n (behind g (At x))) e p.1)
+      | inl e ↦ inr (e, subst (λ (x : ℕ). IsIn n (get_or next x [])) e p.1)
       | inr ne ↦ inl ((was m n).1 (omega (arith, p.0), p.1))
     ]
 
 -- something comes next only behind a node
-behind_node : (g : Net) (m n : ℕ) → IsNet g → IsIn n (behind g (At m)) → m < size_of g
+pub behind_node : (g : Net) (m n : ℕ) → IsNet g → IsIn n (behind g (At m)) → m < size_of g
 behind_node g m n net i = elim (cases_lt m (size_of g)) [
   | inl lt ↦ lt
   | inr le ↦ absurd (subst (λ (l : List ℕ). IsIn n l) (get_or_past g.next m [] (omega (arith, le, net.each))) i)
 ]
 
--- the graph the other way
-module _ (g : Net) (starts : List ℕ) (back : List (List ℕ)) (ends : List Bool) (net : IsNet g)
-    (starts_are : (m : ℕ) → IsIn m starts ↔ (arrives g End m ≡ true)) (starts_below : (m : ℕ) → IsIn m starts → m < size_of g)
-    (each : length back ≡ size_of g) (edges : AreEdgesBack g (size_of g) back) (size : length ends ≡ size_of g) where
-  pub reversed_net : IsNet (graph_of starts back ends)
-  reversed_net = record {
-    few = omega (arith, net.few, size);
-    each = each ∙ sym size;
-    starts_below = λ m i. omega (arith, starts_below m i, size);
-    next_below = λ k m i. omega (arith, ((edges m k).0 i).0, size);
-  }
+-- the edges the other way, from some nodes on
+pub way_back : (g : Net) (starts : List ℕ) (back : List (List ℕ)) → IsNet g → ((m : ℕ) → IsIn m starts → m < size_of g) → length back ≡ size_of g → AreEdgesBack g.next (size_of g) back → IsNet (way_of starts back)
+way_back g starts back net starts_below each edges = record {
+  few = omega (arith, net.few, size);
+  each = sym (length-replicate {A = Bool} (length back) false);
+  starts_below = λ m i. omega (arith, starts_below m i, size);
+  next_below = λ k m i. omega (arith, ((edges m k).0 i).0, size);
+}
+  where
+    size : size_of (way_of starts back) ≡ size_of g
+    size = length-replicate {A = Bool} (length back) false ∙ each
 
-  pub reversed_is : IsReversed g (graph_of starts back ends)
-  reversed_is = record {
-    size = size;
-    starts = starts_are;
-    edges = λ m n. ((λ i. ((edges m n).0 i).1), λ i. (edges m n).1 (behind_node g m n net i, i));
-  }
+-- the edges of a graph, from a spot on
+pub way_on : (g : Net) (s : Spot) → IsNet g → IsNet (way_of (behind g s) g.next)
+way_on g s net = record {
+  few = omega (arith, net.few, size);
+  each = sym (length-replicate {A = Bool} (length g.next) false);
+  starts_below = λ m i. omega (arith, below s m i, size);
+  next_below = λ k m i. omega (arith, net.next_below k m i, size);
+}
+  where
+    size : size_of (way_of (behind g s) g.next) ≡ size_of g
+    size = length-replicate {A = Bool} (length g.next) false ∙ net.each
+
+    below : (s : Spot) (m : ℕ) → IsIn m (behind g s) → m < size_of g
+    below Start m i = net.starts_below m i
+    below (At k) m i = net.next_below k m i
+
+-- walks over the edges of a graph, from a spot on, are those of the graph
+walk_at : (g : Net) (starts ks : List ℕ) (k m : ℕ) → WalkThrough (way_of starts g.next) ks (At k) (To m) → WalkThrough g ks (At k) (To m)
+walk_at g starts ks k m (last n i a) = last n i a
+walk_at g starts ks k m (step n i j w) = step n i j (walk_at g starts ks n m w)
+
+at_walk : (g : Net) (starts ks : List ℕ) (k m : ℕ) → WalkThrough g ks (At k) (To m) → WalkThrough (way_of starts g.next) ks (At k) (To m)
+at_walk g starts ks k m (last n i a) = last n i a
+at_walk g starts ks k m (step n i j w) = step n i j (at_walk g starts ks n m w)
+
+pub walks_on : (g : Net) (s : Spot) (ks : List ℕ) (m : ℕ) → WalkThrough (way_of (behind g s) g.next) ks Start (To m) ↔ WalkThrough g ks s (To m)
+walks_on g s ks m = (there, back)
+  where
+    there : WalkThrough (way_of (behind g s) g.next) ks Start (To m) → WalkThrough g ks s (To m)
+    there (last n i a) = last n i a
+    there (step n i j w) = step n i j (walk_at g (behind g s) ks n m w)
+
+    back : WalkThrough g ks s (To m) → WalkThrough (way_of (behind g s) g.next) ks Start (To m)
+    back (last n i a) = last n i a
+    back (step n i j w) = step n i j (at_walk g (behind g s) ks n m w)
+
+-- the nodes with a next node that is an `end` line, so far
+module _ (next : List (List ℕ)) (ends : List Bool) (k : ℕ) (nodes : List ℕ) (are : (m : ℕ) → IsIn m nodes ↔ ((m < k) × HasEnd ends (get_or next m []))) where
+  pub before_with : (more : List ℕ) → more ≡ nodes ++ k ∷ [] → HasEnd ends (get_or next k []) → (m : ℕ) → IsIn m more ↔ ((m < k + 1) × HasEnd ends (get_or next m []))
+  before_with more is end m = (there, back)
+    where
+      there : IsIn m more → (m < k + 1) × HasEnd ends (get_or next m [])
+      there i = elim (in_pushed m k nodes (subst (λ l. IsIn m l) is i)) [
+        | inl l ↦ let p = (are m).0 l in (omega (arith, p.0), p.1)
+        | inr e ↦ (omega arith, subst (λ (x : ℕ). HasEnd ends (get_or next x [])) (sym e) end)
+      ]
+
+      back : (m < k + 1) × HasEnd ends (get_or next m []) → IsIn m more
+      back p = subst (λ l. IsIn m l) (sym is) (elim (cases_eq m k) [ inl e ↦ pushed_in m k nodes e | inr ne ↦ in_left m nodes (k ∷ []) ((are m).1 (omega (arith, p.0), p.1)) ])
+
+  pub before_without : (HasEnd ends (get_or next k []) → ⊥) → (m : ℕ) → IsIn m nodes ↔ ((m < k + 1) × HasEnd ends (get_or next m []))
+  before_without none m = (
+    (λ i. let p = (are m).0 i in (omega (arith, p.0), p.1)),
+    λ p. elim (cases_eq m k) [
+      | inl e ↦ absurd (none (subst (λ (x : ℕ). HasEnd ends (get_or next x [])) e p.1))
+      | inr ne ↦ (are m).1 (omega (arith, p.0), p.1)
+    ],
+  )
+
+-- no `end` line is among no nodes
+pub no_end : (ends : List Bool) → HasEnd ends [] → ⊥
+no_end ends h = h.1
+
+-- none is among one node more
+pub no_end_more : (ends : List Bool) (ns more : List ℕ) (x : ℕ) → more ≡ ns ++ x ∷ [] → (HasEnd ends ns → ⊥) → get_or ends x false ≡ false → HasEnd ends more → ⊥
+no_end_more ends ns more x is none shut h = elim (in_pushed h.0 x ns (subst (λ l. IsIn h.0 l) is h.1)) [
+  | inl i ↦ none (h.0, i, h.2)
+  | inr e ↦ absurd (true≢false (sym h.2 ∙ ap (λ (k : ℕ). get_or ends k false) e ∙ shut))
+]
+
+-- what is stored of a graph
+pub stored : (g : Net) (back : List (List ℕ)) (before : List ℕ) → IsNet g → length back ≡ length g.next → AreEdgesBack g.next (length g.next) back → ((m : ℕ) → IsIn m before ↔ ((m < length g.next) × HasEnd g.ends (get_or g.next m []))) → IsStored g back before
+stored g back before net each edges ends = record {
+  net = net;
+  each = each ∙ net.each;
+  edges = subst (λ (k : ℕ). AreEdgesBack g.next k back) net.each edges;
+  ends = λ m. ((λ i. ((ends m).0 i).1), λ p. (ends m).1 (omega (arith, behind_node g m p.0 net p.1, net.each), p));
+}
 
 -- the `end` lines so far, with one more node
 module _ (g : Net) (k : ℕ) (nodes : List ℕ) (are : (m : ℕ) → IsIn m nodes ↔ ((m < k) × (arrives g End m ≡ true))) where

@@ -1,13 +1,15 @@
 -- Walks to `end` lines, forwards and backwards.
-use Rattle.std.proofs.Common.{ℕ, ◌<◌, ◌≡◌, ◌↔◌, ◌⊎◌, inl, inr, List, Bool, true, false, IsTrue, refl, sym, subst, ◌∙◌, Option, Some, None}
+use Rattle.std.proofs.Common.{ℕ, [], get_or, ◌<◌, ◌≡◌, ◌↔◌, ◌⊎◌, inl, inr, List, Bool, true, false, IsTrue, refl, sym, subst, ◌∙◌, Option, Some, None, Result, Ok, Err, IfOk}
 use Rattle.std.proofs.lemmas.Bool.{true≢false, cases_lt}
 use Rattle.std.proofs.lemmas.List.{get_or_past}
-use Rattle.hmsc_graph.specs.Graphs.{Net, Spot, Start, At, Goal, To, End, WalkThrough, last, step, arrives}
+use Rattle.bit_sets.specs.NodeSets.{NodeSetValue}
+use Rattle.hmsc_graph.specs.Graphs.{Net, Spot, Start, At, Goal, To, End, WalkThrough, last, step, arrives, behind}
 use Rattle.msc_base.specs.Lists.{IsIn}
 use Rattle.hmsc_graph.specs.Nets.{IsNet, size_of}
-use Rattle.hmsc_graph.specs.Reversals.{IsReversed}
+use Rattle.hmsc_graph.specs.Reversals.{AreBefore, AreEdgesBack, way_of}
 use Rattle.hmsc_graph.specs.Searches.{IsFirstLost}
 use Rattle.hmsc_graph.specs.Walks.{MayReach, IsFirstEndless}
+use Rattle.hmsc_graph.proofs.EdgeFacts.{behind_node}
 use Rattle.hmsc_graph.proofs.Reaching.{glue}
 use Rattle.hmsc_graph.proofs.SearchFacts.{behind_below, walk_below, number_same, same_number}
 
@@ -44,33 +46,72 @@ pub pass_all : (g : Net) (passed all : List ℕ) (s : Spot) (t : Goal) → IsNet
 pass_all g passed all s t net each (last m i a) = last m i a
 pass_all g passed all s t net each (step m i j w) = step m i (each m (behind_below g s m net i)) (pass_all g passed all (At m) t net each w)
 
-module _ (g h : Net) (rev : IsReversed g h) (all : List ℕ) where
+module _ (g : Net) (starts : List ℕ) (back : List (List ℕ)) (net : IsNet g) (edges : AreEdgesBack g.next (size_of g) back) (all : List ℕ) where
+  there_next : (a b : ℕ) → IsIn a (get_or back b []) → IsIn b (behind g (At a))
+  there_next a b i = ((edges a b).0 i).1
+
+  back_next : (a b : ℕ) → IsIn b (behind g (At a)) → IsIn a (get_or back b [])
+  back_next a b i = (edges a b).1 (behind_node g a b net i, i)
+
   -- a walk the other way, from a node
-  turned : (b m : ℕ) → WalkThrough h all (At b) (To m) → WalkThrough g all (At m) (To b)
-  turned b m (last a i e) = subst (λ (x : ℕ). WalkThrough g all (At x) (To b)) (same_number a m e) (last b ((rev.edges a b).0 i) (number_same b b refl))
-  turned b m (step a i j w) = glue j (turned a m w) (last b ((rev.edges a b).0 i) (number_same b b refl))
+  turned : (b m : ℕ) → WalkThrough (way_of starts back) all (At b) (To m) → WalkThrough g all (At m) (To b)
+  turned b m (last a i e) = subst (λ (x : ℕ). WalkThrough g all (At x) (To b)) (same_number a m e) (last b (there_next a b i) (number_same b b refl))
+  turned b m (step a i j w) = glue j (turned a m w) (last b (there_next a b i) (number_same b b refl))
+
+  -- a walk the other way, from the nodes before a goal
+  pub turned_before : (t : Goal) → AreBefore g t starts → (m : ℕ) → WalkThrough (way_of starts back) all Start (To m) → WalkThrough g all (At m) t
+  turned_before t are m (last a i e) = let (n, j, there) = (are a).0 i in subst (λ (x : ℕ). WalkThrough g all (At x) t) (same_number a m e) (last n j there)
+  turned_before t are m (step a i j w) = let (n, k, there) = (are a).0 i in glue j (turned a m w) (last n k there)
+
+  pub before_turned : (t : Goal) → AreBefore g t starts → (m : ℕ) → WalkThrough g all (At m) t → WalkThrough (way_of starts back) all Start (To m)
+  before_turned t are m (last n i a) = last m ((are m).1 (n, i, a)) (number_same m m refl)
+  before_turned t are m (step n i j w) = glue j (before_turned t are n w) (last m (back_next m n i) (number_same m m refl))
 
   -- what is reached the other way is an `end` line, or can reach one
-  pub turned_end : (m : ℕ) → WalkThrough h all Start (To m) → (arrives g End m ≡ true) ⊎ WalkThrough g all (At m) End
-  turned_end m (last a i e) = inl (subst (λ (x : ℕ). arrives g End x ≡ true) (same_number a m e) ((rev.starts a).0 i))
-  turned_end m (step a i j w) = inr (to_end g all (At m) a ((rev.starts a).0 i) (turned a m w))
+  pub turned_end : ((m : ℕ) → IsIn m starts ↔ (arrives g End m ≡ true)) → (m : ℕ) → WalkThrough (way_of starts back) all Start (To m) → (arrives g End m ≡ true) ⊎ WalkThrough g all (At m) End
+  turned_end are m (last a i e) = inl (subst (λ (x : ℕ). arrives g End x ≡ true) (same_number a m e) ((are a).0 i))
+  turned_end are m (step a i j w) = inr (to_end g all (At m) a ((are a).0 i) (turned a m w))
 
   -- an `end` line is reached the other way, and what can reach one
-  pub end_turned : (m : ℕ) → arrives g End m ≡ true → WalkThrough h all Start (To m)
-  end_turned m is = last m ((rev.starts m).1 is) (number_same m m refl)
+  pub end_turned : ((m : ℕ) → IsIn m starts ↔ (arrives g End m ≡ true)) → (m : ℕ) → arrives g End m ≡ true → WalkThrough (way_of starts back) all Start (To m)
+  end_turned are m is = last m ((are m).1 is) (number_same m m refl)
 
-  pub way_turned : ((n : ℕ) → n < size_of g → IsIn n all) → (m : ℕ) → WalkThrough g all (At m) End → WalkThrough h all Start (To m)
-  way_turned each m (last b i is) = step b ((rev.starts b).1 is) (each b (end_below g b is)) (last m ((rev.edges m b).1 i) (number_same m m refl))
-  way_turned each m (step b i j w) = glue j (way_turned each b w) (last m ((rev.edges m b).1 i) (number_same m m refl))
+  pub way_turned : ((m : ℕ) → IsIn m starts ↔ (arrives g End m ≡ true)) → ((n : ℕ) → n < size_of g → IsIn n all) → (m : ℕ) → WalkThrough g all (At m) End → WalkThrough (way_of starts back) all Start (To m)
+  way_turned are each m (last b i is) = step b ((are b).1 is) (each b (end_below g b is)) (last m (back_next m b i) (number_same m m refl))
+  way_turned are each m (step b i j w) = glue j (way_turned are each b w) (last m (back_next m b i) (number_same m m refl))
+
+-- the nodes behind which a node comes next
+pub before_node : (g : Net) (back : List (List ℕ)) (node : ℕ) → IsNet g → AreEdgesBack g.next (size_of g) back → AreBefore g (To node) (get_or back node [])
+before_node g back node net edges m = (
+  (λ i. (node, ((edges m node).0 i).1, number_same node node refl)),
+  λ p. let here : IsIn node (behind g (At m)) = subst (λ (x : ℕ). IsIn x (behind g (At m))) (same_number p.0 node p.2) p.1 in (edges m node).1 (behind_node g m node net here, here),
+)
+
+pub before_below : (g : Net) (t : Goal) (nodes : List ℕ) → IsNet g → AreBefore g t nodes → (m : ℕ) → IsIn m nodes → m < size_of g
+before_below g t nodes net are m i = let (n, j, there) = (are m).0 i in behind_node g m n net j
+
+-- a search the other way finds the nodes from which walks lead to the goal
+pub leads_back : (g : Net) (starts : List ℕ) (back : List (List ℕ)) (allowed found : List ℕ) (t : Goal) → IsNet g → AreEdgesBack g.next (size_of g) back → AreBefore g t starts
+    → ((m : ℕ) → IsIn m found ↔ WalkThrough (way_of starts back) allowed Start (To m)) → (m : ℕ) → IsIn m found ↔ WalkThrough g allowed (At m) t
+leads_back g starts back allowed found t net edges are exact m = (
+  (λ i. turned_before g starts back net edges allowed t are m ((exact m).0 i)),
+  λ w. (exact m).1 (before_turned g starts back net edges allowed t are m w),
+)
+
+-- what a search the other way finds, where there is memory
+pub found_back : {E : Type 0} (g : Net) (starts : List ℕ) (back : List (List ℕ)) (allowed : List ℕ) (t : Goal) (r : Result NodeSetValue E) → IsNet g → AreEdgesBack g.next (size_of g) back → AreBefore g t starts
+    → IfOk r (λ found. (m : ℕ) → IsIn m found.nodes ↔ WalkThrough (way_of starts back) allowed Start (To m)) → IfOk r (λ found. (m : ℕ) → m < size_of g → IsIn m found.nodes ↔ WalkThrough g allowed (At m) t)
+found_back g starts back allowed t (Ok found) net edges are exact = λ m lt. leads_back g starts back allowed found.nodes t net edges are exact m
+found_back g starts back allowed t (Err e) net edges are exact = tt
 
 way : (g : Net) (all : List ℕ) (s : Spot) (t : Goal) → WalkThrough g all s t → MayReach g s t
 way g all s t w = (all, w)
 
 -- the first node that is reached and isn't met the other way is the first endless one
-pub first_endless : (g h : Net) (all reached ending : List ℕ) (found : Option ℕ) → IsNet g → IsReversed g h → ((n : ℕ) → n < size_of g → IsIn n all)
-    → ((m : ℕ) → IsIn m reached ↔ WalkThrough g all Start (To m)) → ((m : ℕ) → IsIn m ending ↔ WalkThrough h all Start (To m))
+pub first_endless : (g : Net) (starts : List ℕ) (back : List (List ℕ)) (all reached ending : List ℕ) (found : Option ℕ) → IsNet g → AreEdgesBack g.next (size_of g) back → ((m : ℕ) → IsIn m starts ↔ (arrives g End m ≡ true)) → ((n : ℕ) → n < size_of g → IsIn n all)
+    → ((m : ℕ) → IsIn m reached ↔ WalkThrough g all Start (To m)) → ((m : ℕ) → IsIn m ending ↔ WalkThrough (way_of starts back) all Start (To m))
     → IsFirstLost (size_of g) reached ending found → IsFirstEndless g found
-first_endless g h all reached ending found net rev each forth back lost = choose found lost
+first_endless g starts back all reached ending found net edges are each forth behind_ lost = choose found lost
   where
     meets : (m : ℕ) → MayReach g Start (To m) → IsIn m reached
     meets m w = (forth m).1 (pass_all g w.0 all Start (To m) net each w.1)
@@ -80,10 +121,10 @@ first_endless g h all reached ending found net rev each forth back lost = choose
     inner_end m inner (inr w) = way g all (At m) End w
 
     ends : (m : ℕ) → IsIn m ending → arrives g End m ≡ false → MayReach g (At m) End
-    ends m i inner = inner_end m inner (turned_end g h rev all m ((back m).0 i))
+    ends m i inner = inner_end m inner (turned_end g starts back net edges all are m ((behind_ m).0 i))
 
     open_node : (m : ℕ) → (IsIn m ending → ⊥) → (b : Bool) → arrives g End m ≡ b → arrives g End m ≡ false
-    open_node m none true e = absurd (none ((back m).1 (end_turned g h rev all m e)))
+    open_node m none true e = absurd (none ((behind_ m).1 (end_turned g starts back net edges all are m e)))
     open_node m none false e = e
 
     choose : (o : Option ℕ) → IsFirstLost (size_of g) reached ending o → IsFirstEndless g o
@@ -91,7 +132,7 @@ first_endless g h all reached ending found net rev each forth back lost = choose
       record {
         reached = way g all Start (To n) ((forth n).0 there);
         inner = open_node n none (arrives g End n) refl;
-        stuck = λ w. none ((back n).1 (way_turned g h rev all each n (pass_all g w.0 all (At n) End net each w.1)));
+        stuck = λ w. none ((behind_ n).1 (way_turned g starts back net edges all are each n (pass_all g w.0 all (At n) End net each w.1)));
       },
       λ m lt w inner. ends m (before m lt (meets m w)) inner,
     )

@@ -4,6 +4,7 @@ ghost use Rattle.std.specs.Prelude.{◌≡◌, IfOk};
 ghost use Rattle.hmsc_graph.specs.Searches.{IsFirstLost};
 ghost use Rattle.hmsc_graph.specs.Walks.{IsFirstEndless};
 
+use crate::search::search;
 use crate::{Net, Spot, reach};
 use bit_sets::NodeSet;
 use msc_base::NoMemory;
@@ -29,7 +30,7 @@ pub fn endless(alloc: Global, net: &Net) -> Result<Option<u32>, NoMemory>
 {
     let all = NodeSet::full(alloc, net.size())?;
     let reached = reach(alloc, net, Spot::Start, &all)?;
-    let reversed = net.reversed(alloc)?;
-    let ending = reach(alloc, &reversed, Spot::Start, &all)?;
+    let ends = net.end_nodes(alloc)?;
+    let ending = search(alloc, ends.as_slice(), net.back(), &all)?;
     Ok(first_lost(net.size(), &reached, &ending))
 }

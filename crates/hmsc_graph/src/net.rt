@@ -1,13 +1,13 @@
 //! Graphs, made from labelled lines and asked for nodes and edges. term_tables keeps them. Nodes have no content here.
 
-ghost use Rattle.std.specs.Prelude.{◌≡◌, ◌≤◌, ◌<◌, ◌↔◌, ℕ, None, [], fold, length, replicate, true, IfOk, IfErr, OnOk};
+ghost use Rattle.std.specs.Prelude.{◌≡◌, ◌≤◌, ◌<◌, ◌↔◌, ℕ, None, [], fold, get_or, length, replicate, true, IfOk, IfErr, OnOk, IsTrue};
 ghost use Rattle.hmsc_graph.specs.Graphs.{Net as GraphValue, End, arrives, behind};
 ghost use Rattle.msc_base.specs.Lists.{IsIn};
 ghost use Rattle.hmsc_graph.specs.Labels.{fault_of, graph_in, with_label};
 ghost use Rattle.hmsc_graph.specs.declared.net.NetFault.TheVariants.{NoMemory};
-ghost use Rattle.hmsc_graph.specs.Nets.{IsNet, size_of};
+ghost use Rattle.hmsc_graph.specs.Nets.{IsNet, graph_of, size_of};
 ghost use Rattle.hmsc_graph.specs.Spots.{spot_of, IsSpotBelow};
-ghost use Rattle.hmsc_graph.specs.Reversals.{IsReversed, AreEdgesBack, HasEdges};
+ghost use Rattle.hmsc_graph.specs.Reversals.{AreBefore, AreEdgesBack, HasEdges, HasEnd};
 ghost use Rattle.hmsc_graph.specs.Shapes.{IsGraphOf, IsFaulty, IsFaultOf, named_by};
 ghost use Rattle.msc_base.specs.declared.limits.TheConstants.Limits.{NODE_LINES};
 ghost use Rattle.msc_base.specs.declared.place.Place.{Place as PlaceValue};
@@ -45,17 +45,22 @@ pub struct Net {
     next: Vec<NumberList>,
     /// For each node whether it is an `end` line.
     ends: Vec<bool>,
+    /// For each node the nodes behind which it comes next.
+    back: Vec<NumberList>,
+    /// The nodes behind which an `end` line comes next.
+    before_ends: NumberList,
 }
 
 impl Model for Net {
     ghost use Rattle.hmsc_graph.specs.Graphs.{Net as Graph};
-    ghost use Rattle.hmsc_graph.specs.Nets.{IsNet, graph_of};
+    ghost use Rattle.hmsc_graph.specs.Nets.{graph_of};
+    ghost use Rattle.hmsc_graph.specs.Reversals.{IsStored};
 
     ghost Value = { Graph };
 
     ghost view = { λ n. graph_of n.starts n.next.items n.ends.items };
 
-    ghost invariant = { λ n. IsNet (graph_of n.starts n.next.items n.ends.items) };
+    ghost invariant = { λ n. IsStored (graph_of n.starts n.next.items n.ends.items) n.back.items n.before_ends };
 }
 
 /// The fault of the earlier place, and at one place that of an unknown label.
@@ -94,10 +99,31 @@ fn graph(
         next.push(numbers)?;
         ends.push(line.ends)?;
     }
-    Ok(Net { starts, next, ends })
+    Net::of(alloc, starts, next, ends)
 }
 
 impl Net {
+    /// The graph of these parts.
+    fn of(
+        alloc: Global,
+        starts: NumberList,
+        next: Vec<NumberList>,
+        ends: Vec<bool>,
+    ) -> Result<Net, NoMemory>
+        requires { IsNet (graph_of starts next.items ends.items) }
+        ensures { IfOk result (λ net. net ≡ graph_of starts next.items ends.items) }
+    {
+        let back = edges_back(alloc, &next)?;
+        let before_ends = before_ends(alloc, &next, &ends)?;
+        Ok(Net {
+            starts,
+            next,
+            ends,
+            back,
+            before_ends,
+        })
+    }
+
     /// The graph of the shape. It is refused at the first label that no line has, or that a line before its own has.
     pub fn build(alloc: Global, shape: &Shape) -> Result<Net, NetFault>
         requires { length shape.now.lines ≤ NODE_LINES }
@@ -144,20 +170,32 @@ impl Net {
         }
     }
 
-    /// The graph whose edges lead the other way, and which starts at the `end` lines. None of its nodes is an `end` line.
-    pub(crate) fn reversed(&self, alloc: Global) -> Result<Net, NoMemory>
-        ensures reversed { IfOk result (λ net. IsReversed self.now net) }
-        ensures net { IfOk result (λ net. IsNet net) }
+    /// For each node the nodes that come next.
+    pub(crate) fn next(&self) -> &[NumberList]
+        ensures next { result.now ≡ self.now.next }
+        ensures net { IsNet self.now }
     {
-        let starts = self.end_nodes(alloc)?;
-        let next = self.edges_back(alloc)?;
-        let mut ends = Vec::new(alloc);
-        ends.resize(self.ends.len(), false)?;
-        Ok(Net { starts, next, ends })
+        self.next.as_slice()
+    }
+
+    /// For each node the nodes behind which it comes next.
+    pub(crate) fn back(&self) -> &[NumberList]
+        ensures each { length result.now ≡ size_of self.now }
+        ensures edges { AreEdgesBack self.now.next (size_of self.now) result.now }
+        ensures net { IsNet self.now }
+    {
+        self.back.as_slice()
+    }
+
+    /// The nodes behind which an `end` line comes next.
+    pub(crate) fn before_ends(&self) -> &[u32]
+        ensures { AreBefore self.now End result.now }
+    {
+        self.before_ends.as_slice()
     }
 
     /// The numbers of the `end` lines.
-    fn end_nodes(&self, alloc: Global) -> Result<NumberList, NoMemory>
+    pub(crate) fn end_nodes(&self, alloc: Global) -> Result<NumberList, NoMemory>
         ensures nodes { IfOk result (λ nodes. (m : ℕ) → IsIn m nodes ↔ (arrives self.now End m ≡ true)) }
         ensures below { IfOk result (λ nodes. (m : ℕ) → IsIn m nodes → m < size_of self.now) }
     {
@@ -169,18 +207,48 @@ impl Net {
         }
         Ok(nodes)
     }
+}
 
-    /// For each node the nodes behind which it comes next.
-    fn edges_back(&self, alloc: Global) -> Result<Vec<NumberList>, NoMemory>
-        ensures each { IfOk result (λ back. length back.items ≡ size_of self.now) }
-        ensures edges { IfOk result (λ back. AreEdgesBack self.now (size_of self.now) back.items) }
-    {
-        let mut back = empty_lists(alloc, self.size())?;
-        for node in 0..self.size() {
-            add_edges(&mut back, node, self.behind(Spot::Node(node)))?;
-        }
-        Ok(back)
+/// For each node the nodes behind which it comes next.
+fn edges_back(alloc: Global, next: &[NumberList]) -> Result<Vec<NumberList>, NoMemory>
+    requires few { length next.now ≤ NODE_LINES }
+    requires below { (k m : ℕ) → IsIn m (get_or next.now k []) → m < length next.now }
+    ensures each { IfOk result (λ back. length back.items ≡ length next.now) }
+    ensures edges { IfOk result (λ back. AreEdgesBack next.now (length next.now) back.items) }
+{
+    let mut back = empty_lists(alloc, next.len() as u32)?;
+    for node in 0..next.len() as u32 {
+        add_edges(&mut back, node, next[node as usize].as_slice())?;
     }
+    Ok(back)
+}
+
+/// The nodes behind which an `end` line comes next.
+fn before_ends(alloc: Global, next: &[NumberList], ends: &[bool]) -> Result<NumberList, NoMemory>
+    requires few { length next.now ≤ NODE_LINES }
+    requires below { (k m : ℕ) → IsIn m (get_or next.now k []) → m < length ends.now }
+    ensures { IfOk result (λ nodes. (m : ℕ) → IsIn m nodes ↔ ((m < length next.now) × HasEnd ends.now (get_or next.now m []))) }
+{
+    let mut nodes = NumberList::new(alloc);
+    for node in 0..next.len() as u32 {
+        if has_end(next[node as usize].as_slice(), ends) {
+            nodes.push(node)?;
+        }
+    }
+    Ok(nodes)
+}
+
+/// Whether one of the nodes is an `end` line.
+fn has_end(nodes: &[u32], ends: &[bool]) -> bool
+    requires { (m : ℕ) → IsIn m nodes.now → m < length ends.now }
+    ensures { IsTrue result ↔ HasEnd ends.now nodes.now }
+{
+    for node in nodes {
+        if ends[*node as usize] {
+            return true;
+        }
+    }
+    false
 }
 
 /// So many empty lists.

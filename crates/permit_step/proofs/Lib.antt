@@ -22,3 +22,4 @@ pub mod Tallying
 pub mod Searching
 pub mod SoundReady
 pub mod Nearest
+pub mod Visits

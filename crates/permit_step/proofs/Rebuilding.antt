@@ -1,5 +1,5 @@
 -- What is left of a whole term, from the frame at the path's end to its first.
-use Rattle.std.specs.Prelude.{ℕ, zero, suc, ◌+◌, ◌-◌, ◌<◌, List, [], ◌∷◌, ◌++◌, ◌≡◌, Option, Some, None, refl, length, take, slice_get}
+use Rattle.std.specs.Prelude.{ℕ, zero, suc, ◌+◌, ◌<◌, List, [], ◌∷◌, ◌++◌, ◌≡◌, Option, Some, None, refl, length, take, slice_get}
 use Rattle.std.proofs.Common.{ap, sym, ◌∙◌, subst, arith, get_or, inl, inr}
 use Rattle.chart_term.specs.NormalForms.{NetPermits}
 use Rattle.chart_term.specs.Properties.{MayHave}
@@ -8,7 +8,7 @@ use Rattle.chart_term.specs.Terms.{TermEvent, Tree, Event}
 use Rattle.permit_step.specs.Children.{child, put}
 use Rattle.term_laws.specs.Permission.{permits_of}
 use Rattle.permit_step.specs.Ready.{IsReady, AreReadyTables}
-use Rattle.permit_step.specs.Searches.{AreReadyFrames, child_count, put_some, put_all, IsResult, IsNoEvent}
+use Rattle.permit_step.specs.Searches.{AreReadyFrames, child_count, put_some, put_all, IsPassed, IsResult}
 use Rattle.permit_step.specs.declared.ascent.Frame.{Frame}
 use Rattle.permit_step.proofs.Children.{in-child, from-child}
 use Rattle.chart_term.proofs.Lists.{take_step}
@@ -60,13 +60,10 @@ pub put-is-ready : (w : Tables) → AreReadyTables w → (e : TermEvent) (x : Tr
 put-is-ready w t e x i y z h l r p = subst (λ (o : Option Tree). MayHave (IsReady w) o) (sym p) (put-ready w t e x i y h l r)
 
 -- results of a term and of its children
-no_event : (x : Tree) (e : TermEvent) → IsNoEvent x → x ≡ Event e → ⊥
-no_event x e h p = subst (λ (y : Tree). IsNoEvent y) p h
-
-pub result-child : (w : Tables) (a : ℕ) (fs : List Frame) (x z : Tree) → IsNoEvent x → IsResult w a fs x z
+pub result-child : (w : Tables) (a : ℕ) (fs : List Frame) (x z : Tree) → ((e : TermEvent) → x ≡ Event e → ⊥) → IsResult w a fs x z
     → (p : ℕ) × (y : Tree) × (child (permits_of w) x p ≡ Some y) × IsResult w a (fs ++ record { parent = x; index = p } ∷ []) y z
 result-child w a fs x z n r = elim (in-child (permits_of w) r.taken) [
-  | inl h ↦ absurd (no_event x r.event n h.0)
+  | inl h ↦ absurd (n r.event h.0)
   | inr h ↦ (
     h.index,
     h.inner,
@@ -96,20 +93,29 @@ result-up w a fs x p y z c r =
       whole = g;
     }
 
--- the path without its last frame
-front_length : (fs : List Frame) (f : Frame) → length (fs ++ f ∷ []) - 1 ≡ length fs
-front_length [] f = omega arith
-front_length (g ∷ fs) f = omega (arith, front_length fs f, longer fs)
-  where
-    longer : (fs : List Frame) → 0 < length (fs ++ f ∷ [])
-    longer [] = omega arith
-    longer (h ∷ hs) = omega (arith, longer hs)
+-- nothing is left of the whole where nothing is left of the term
+pub passed-none : (w : Tables) (a : ℕ) (fs : List Frame) (x : Tree) (p : ℕ) (y z : Tree) → child (permits_of w) x p ≡ Some y → IsPassed w a x p → IsResult w a (fs ++ record { parent = x; index = p } ∷ []) y z → ⊥
+passed-none w a fs x p y z c h r =
+    let e : None ≡ Some z = ap (put_on (permits_of w) r.event fs) (sym (h y c r.event r.labelled r.left r.taken)) ∙ (sym (put-snoc (permits_of w) r.event fs (record { parent = x; index = p }) r.left) ∙ r.whole) in
+    cc
 
-take_front : (fs gs : List Frame) → take (length fs) (fs ++ gs) ≡ fs
-take_front [] gs = refl
-take_front (g ∷ fs) gs = ap (λ l. g ∷ l) (take_front fs gs)
+-- the path and its last frame
+pub snoc-parts : (fs gs : List Frame) (f g : Frame) → fs ++ f ∷ [] ≡ gs ++ g ∷ [] → (fs ≡ gs) × (f ≡ g)
+snoc-parts [] [] f g e = (refl, cc)
+snoc-parts [] (h ∷ []) f g e = cc
+snoc-parts [] (h ∷ i ∷ gs) f g e = cc
+snoc-parts (h ∷ []) [] f g e = cc
+snoc-parts (h ∷ i ∷ fs) [] f g e = cc
+snoc-parts (h ∷ fs) (i ∷ gs) f g e =
+    let p : h ≡ i = cc in
+    let q : fs ++ f ∷ [] ≡ gs ++ g ∷ [] = cc in
+    let r = snoc-parts fs gs f g q in
+    ((λ j. p j ∷ r.0 j), r.1)
 
-pub popped : (fs old rest : List Frame) (f : Frame) (n : ℕ) → n ≡ length old → rest ≡ take (n - 1) old → old ≡ fs ++ f ∷ [] → rest ≡ fs
-popped fs old rest f n e h g =
-    let size : n - 1 ≡ length fs = ap (λ m. m - 1) (e ∙ ap (λ (l : List Frame). length l) g) ∙ front_length fs f in
-    h ∙ ((λ i. take (size i) (g i)) ∙ take_front fs (f ∷ []))
+pub no_snoc : (fs : List Frame) (f : Frame) → fs ++ f ∷ [] ≡ [] → ⊥
+no_snoc [] f e = cc
+no_snoc (g ∷ fs) f e = cc
+
+pub front-ready : (w : Tables) (fs : List Frame) (f : Frame) → AreReadyFrames w (fs ++ f ∷ []) → AreReadyFrames w fs × IsReady w f.parent × (f.index < child_count w f.parent)
+front-ready w [] f h = (tt, h.0, h.1)
+front-ready w (g ∷ fs) f h = let r = front-ready w fs f h.2 in ((h.0, h.1, r.0), r.1, r.2)

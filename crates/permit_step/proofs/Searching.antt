@@ -3,14 +3,14 @@ use Rattle.std.specs.Prelude.{ℕ, ◌+◌, ◌<◌, ◌≤◌, ◌⊎◌, ◌||
 use Rattle.std.proofs.Common.{ap, sym, ◌∙◌, subst, arith, append_assoc, append-nil, inl, inr}
 use Rattle.chart_term.specs.Properties.{Each, MayHave}
 use Rattle.chart_term.specs.Tables.{Tables}
-use Rattle.chart_term.specs.Terms.{TermEvent, Tree, Nil, Event, has, ◌∪◌}
+use Rattle.chart_term.specs.Terms.{TermEvent, Tree, Nil, Event, Join, Choice, Tied, Loop, Walk, has, ◌∪◌}
 use Rattle.chart_term.proofs.Instances.{has_union}
 use Rattle.permit_step.specs.Children.{child}
 use Rattle.term_laws.specs.Listing.{set_weight}
 use Rattle.msc_base.specs.Lists.{IsAmong}
 use Rattle.term_laws.specs.Permission.{permits_of}
 use Rattle.permit_step.specs.Ready.{IsReady, AreReadyTables}
-use Rattle.permit_step.specs.Searches.{child_count, put_all, IsResult, IsFinding, IsTally, IsBounded, Gains, Gathers, GathersBelow, AddsOne, IsNoEvent, IsTaken}
+use Rattle.permit_step.specs.Searches.{AreReadyFrames, child_count, put_all, IsResult, IsFinding, IsTally, IsBounded, Gains, Gathers, GathersOwn, AddsOne, IsTaken, IsPassed, IsStep, AreSearched, IsSearched, at_root, below, IsOther}
 use Rattle.msc_base.specs.declared.label.Label.{Label}
 use Rattle.term_tables.specs.NetValues.{NetsValue, label_number}
 use Rattle.permit_step.specs.Successors.{IsJustAbove, IsSuccessor, AppendsFound}
@@ -24,7 +24,8 @@ use Rattle.permit_step.specs.declared.ascent.Frame.{Frame}
 use Rattle.permit_step.specs.declared.found.Found.{Found}
 use Rattle.permit_step.proofs.Children.{in-child}
 use Rattle.permit_step.proofs.ChildReady.{child-good}
-use Rattle.permit_step.proofs.Rebuilding.{result-child, result-up}
+use Rattle.permit_step.proofs.Rebuilding.{result-child, result-up, passed-none, snoc-parts, no_snoc, front-ready, frames-more}
+use Rattle.permit_step.specs.declared.descent.Step.{Step}
 
 -- lists that grow
 each_map : (P Q : Tree → Type 0) → ((x : Tree) → P x → Q x) → (xs : List Tree) → Each P xs → Each Q xs
@@ -102,65 +103,181 @@ module _ (w : Tables) (a : ℕ) (fs : List Frame) (e : TermEvent) (old : Found) 
       one : (x : Tree) → x ≡ t → IsFinding w a fs (Event e) x
       one x p = subst (λ (y : Tree). IsFinding w a fs (Event e) y) (sym p) this
 
--- the children, one after another
-module _ (w : Tables) (tables : AreReadyTables w) (a : ℕ) (fs : List Frame) (x : Tree) where
-  abbrev here : ℕ → List Frame
-  here p = fs ++ record { parent = x; index = p } ∷ []
+-- a term that isn't an event with the label
+pub own-other : (w : Tables) (a : ℕ) (fs : List Frame) (x : Tree) (old : Found) → IsTally old → set_weight old.terms ≤ old.most → IsOther a x → GathersOwn w a fs x old old true
+own-other w a fs x old h l n = record {
+  gains = gains_none (IsFinding w a fs x) old h;
+  bounded = record { within = λ b. l; beyond = λ b. cc };
+  whole = λ b e q z r. absurd (other e q z (subst (λ (y : Tree). IsResult w a fs y z) q r));
+}
+  where
+    other : (e : TermEvent) → x ≡ Event e → (z : Tree) → IsResult w a fs (Event e) z → ⊥
+    other e q z r = n e q ((ap (λ (f : TermEvent). f.label) (own_event w e r.event r.left r.taken).0) ∙ r.labelled)
 
-  from_child : (p : ℕ) (y : Tree) → child (permits_of w) x p ≡ Some y → (z : Tree) → IsFinding w a (here p) y z → IsFinding w a fs x z
-  from_child p y c z f = record { result = result-up w a fs x p y z c f.result; ready = f.ready }
+pub own-gathered : (w : Tables) (a : ℕ) (fs : List Frame) (x : Tree) (e : TermEvent) (old new : Found) (all : Bool) → x ≡ Event e → Gathers w a fs (Event e) old new all → GathersOwn w a fs x old new all
+own-gathered w a fs x e old new all q g = record {
+  gains = subst (λ (y : Tree). Gains (IsFinding w a fs y) old new) (sym q) g.gains;
+  bounded = g.bounded;
+  whole = λ b f r z h. g.whole b z (subst (λ (y : Tree). IsResult w a fs y z) q h);
+}
 
-  pub below-start : (old : Found) → IsTally old → set_weight old.terms ≤ old.most → GathersBelow w a fs x 0 old old
-  below-start old h l = record { gains = gains_none (IsFinding w a fs x) old h; within = l; whole = λ p q. absurd (omega arith) }
+-- the search: to which place it has come, what was found, and how deep it is
+pub record IsState (w : Tables) (a : ℕ) (root : Tree) (old new : Found) (fs : List Frame) (x : Tree) (i : ℕ) : Type 0 where
+  pub frames : AreReadyFrames w fs
+  pub ready : IsReady w x
+  pub searched : IsSearched w a root new.terms fs x i
+  pub gains : Gains (IsFinding w a [] root) old new
+  pub within : set_weight new.terms ≤ new.most
 
-  cut_place : (p index : ℕ) → p < index + 1 → (p < index) ⊎ (p ≡ index)
-  cut_place p index l = grind arith
+module _ (w : Tables) (tables : AreReadyTables w) (a : ℕ) (root : Tree) where
+  none_before : (fs : List Frame) (x : Tree) (zs : List Tree) → AreSearched w a fs x 0 zs
+  none_before fs x zs p l = absurd (omega arith)
 
-  pub below-more : (index next : ℕ) (y : Tree) (old mid new : Found) (all : Bool) → child (permits_of w) x index ≡ Some y → next ≡ index + 1 → GathersBelow w a fs x index old mid → Gathers w a (here index) y mid new all → all ≡ true → GathersBelow w a fs x next old new
-  below-more index next y old mid new all c n g h t = record {
-    gains = gains_both (IsFinding w a fs x) (IsFinding w a (here index) y) (from_child index y c) old mid new g.gains h.gains;
-    within = h.bounded.within t;
-    whole = λ p l u e z r. elim (cut_place p index (omega arith)) [
-      | inl b ↦ gains_stay (IsFinding w a (here index) y) mid new h.gains z (g.whole p b u e z r)
-      | inr q ↦ h.whole t z (moved p q u e z r)
-    ];
+  pub state-start : (old : Found) → IsReady w root → IsTally old → set_weight old.terms ≤ old.most → IsState w a root old old [] root 0
+  state-start old r h l = record {
+    frames = tt;
+    ready = r;
+    searched = at_root refl refl (none_before [] root old.terms);
+    gains = gains_none (IsFinding w a [] root) old h;
+    within = l;
   }
+
+  -- more terms are found
+  before_more : (zs ys : List Tree) → ((z : Tree) → IsAmong zs z → IsAmong ys z) → (fs : List Frame) (x : Tree) (i : ℕ) → AreSearched w a fs x i zs → AreSearched w a fs x i ys
+  before_more zs ys f fs x i h p l y c z r = f z (h p l y c z r)
+
+  more_found : (zs ys : List Tree) → ((z : Tree) → IsAmong zs z → IsAmong ys z) → {fs : List Frame} {x : Tree} {i : ℕ} → IsSearched w a root zs fs x i → IsSearched w a root ys fs x i
+  more_found zs ys f (at_root {fs = fs} {x = x} {i = i} e q h) = at_root e q (before_more zs ys f fs x i h)
+  more_found zs ys f (below {fs = fs} {x = x} {i = i} gs g e c s h) = below gs g e c (more_found zs ys f s) (before_more zs ys f fs x i h)
+
+  -- a result of the place is one of the root
+  to_root : (zs : List Tree) {fs : List Frame} {x : Tree} {i : ℕ} → IsSearched w a root zs fs x i → (z : Tree) → IsResult w a fs x z → IsResult w a [] root z
+  to_root zs (at_root {x = x} e q h) z r = subst (λ (y : Tree). IsResult w a [] y z) q (subst (λ (gs : List Frame). IsResult w a gs x z) e r)
+  to_root zs (below {x = x} gs g e c s h) z r = to_root zs s z (result-up w a gs g.parent g.index x z c (subst (λ (hs : List Frame). IsResult w a hs x z) e r))
+
+  finding_root : (zs : List Tree) {fs : List Frame} {x : Tree} {i : ℕ} → IsSearched w a root zs fs x i → (z : Tree) → IsFinding w a fs x z → IsFinding w a [] root z
+  finding_root zs s z f = record { result = to_root zs s z f.result; ready = f.ready }
+
+  -- down to a child
+  pub state-down : (old new : Found) (fs gs : List Frame) (x y : Tree) (i p : ℕ) → IsState w a root old new fs x i → (s : Step) → IsStep w a x i s → gs ≡ fs ++ record { parent = x; index = s.index } ∷ [] → y ≡ s.inner → IsState w a root old new gs y 0
+  state-down old new fs gs x y i p h s t e q =
+      let good = child-good w tables x s.index s.inner h.ready t.there in
+      record {
+        frames = subst (λ (hs : List Frame). AreReadyFrames w hs) (sym e) (frames-more w fs x s.index h.frames h.ready good.within);
+        ready = subst (λ (u : Tree). IsReady w u) (sym q) good.ready;
+        searched = below fs (record { parent = x; index = s.index }) e (t.there ∙ ap Some (sym q)) (further h.searched (here (place_of h.searched))) (none_before gs y new.terms);
+        gains = h.gains;
+        within = h.within;
+      }
     where
-      moved : (p : ℕ) → p ≡ index → (u : Tree) → child (permits_of w) x p ≡ Some u → (z : Tree) → IsResult w a (here p) u z → IsResult w a (here index) y z
-      moved p q u e z r =
-          let s : Some u ≡ Some y = sym e ∙ (ap (child (permits_of w) x) q ∙ c) in
-          let v : u ≡ y = cc in
-          subst (λ (t : Tree). IsResult w a (here index) t z) v (subst (λ (j : ℕ). IsResult w a (here j) u z) q r)
+      place_of : {i : ℕ} → IsSearched w a root new.terms fs x i → AreSearched w a fs x i new.terms
+      place_of (at_root e q k) = k
+      place_of (below hs g e c u k) = k
 
-  pub below-skip : (index next : ℕ) (o : Option Tree) (old mid : Found) → o ≡ child (permits_of w) x index → o ≡ None → next ≡ index + 1 → GathersBelow w a fs x index old mid → GathersBelow w a fs x next old mid
-  below-skip index next o old mid c n t g = record {
-    gains = g.gains;
-    within = g.within;
-    whole = λ p l u e z r. elim (cut_place p index (omega arith)) [
-      | inl b ↦ g.whole p b u e z r
-      | inr q ↦ no u z (sym n ∙ (c ∙ (ap (child (permits_of w) x) (sym q) ∙ e)))
-    ];
-  }
-    where
-      no : (u z : Tree) → None ≡ Some u → IsAmong mid.terms z
-      no u z q = cc
+      cut_place : (j : ℕ) → (j < i) ⊎ (i ≤ j)
+      cut_place j = grind arith
 
-  pub below-cut : (index : ℕ) (y : Tree) (old mid new : Found) (all : Bool) → child (permits_of w) x index ≡ Some y → GathersBelow w a fs x index old mid → Gathers w a (here index) y mid new all → all ≡ false → Gathers w a fs x old new false
-  below-cut index y old mid new all c g h t = record {
-    gains = gains_both (IsFinding w a fs x) (IsFinding w a (here index) y) (from_child index y c) old mid new g.gains h.gains;
-    bounded = record { within = λ b. cc; beyond = λ b. h.bounded.beyond t };
-    whole = λ b. cc;
-  }
+      here : AreSearched w a fs x i new.terms → AreSearched w a fs x s.index new.terms
+      here k j l u c z r = elim (cut_place j) [
+        | inl b ↦ k j b u c z r
+        | inr b ↦ absurd (passed-none w a fs x j u z c (t.passed j b l) r)
+      ]
 
-  pub below-all : (index : ℕ) (old new : Found) → IsReady w x → IsNoEvent x → child_count w x ≤ index → GathersBelow w a fs x index old new → Gathers w a fs x old new true
-  below-all index old new r n l g = record {
-    gains = g.gains;
-    bounded = record { within = λ b. g.within; beyond = λ b. cc };
-    whole = λ b z s. last z (result-child w a fs x z n s);
-  }
-    where
-      last : (z : Tree) → (p : ℕ) × (y : Tree) × (child (permits_of w) x p ≡ Some y) × IsResult w a (here p) y z → IsAmong new.terms z
-      last z (p, y, c, s) = let i = child-good w tables x p y r c in g.whole p (omega (arith, i.within)) y c z s
+      further : {i j : ℕ} → IsSearched w a root new.terms fs x i → AreSearched w a fs x j new.terms → IsSearched w a root new.terms fs x j
+      further (at_root e q k) m = at_root e q m
+      further (below hs g e c u k) m = below hs g e c u m
+
+  -- one step up, or the end: all children are searched, and so is the term itself where it is an event
+  event_or : (x : Tree) → ((e : TermEvent) × (x ≡ Event e)) ⊎ ((e : TermEvent) → x ≡ Event e → ⊥)
+  event_or Nil = inr (λ e q. cc)
+  event_or (Event f) = inl (f, refl)
+  event_or (Join m xs) = inr (λ e q. cc)
+  event_or (Choice xs) = inr (λ e q. cc)
+  event_or (Tied y q) = inr (λ e q. cc)
+  event_or (Loop y lo hi r) = inr (λ e q. cc)
+  event_or (Walk n f t c) = inr (λ e q. cc)
+
+  module _ (old mid new : Found) (fs : List Frame) (x : Tree) (i : ℕ) (all : Bool) (state : IsState w a root old mid fs x i) (own : GathersOwn w a fs x mid new all) where
+    both : Gains (IsFinding w a [] root) old new
+    both = gains_both (IsFinding w a [] root) (IsFinding w a fs x) (λ z f. finding_root mid.terms state.searched z f) old mid new state.gains own.gains
+
+    pub state-cut : all ≡ false → Gathers w a [] root old new all
+    state-cut e = record { gains = both; bounded = own.bounded; whole = λ b. absurd (clash (sym e ∙ b)) }
+      where
+        clash : false ≡ true → ⊥
+        clash q = cc
+
+    module _ (passed : (p : ℕ) → i ≤ p → IsPassed w a x p) (yes : all ≡ true) where
+      kept : IsSearched w a root new.terms fs x i
+      kept = more_found mid.terms new.terms (gains_stay (IsFinding w a fs x) mid new own.gains) state.searched
+
+      place_at : {hs : List Frame} {y : Tree} {j : ℕ} → IsSearched w a root new.terms hs y j → AreSearched w a hs y j new.terms
+      place_at (at_root e q k) = k
+      place_at (below hs g e c u k) = k
+
+      cut_at : (p j : ℕ) → (p < j) ⊎ (j ≤ p)
+      cut_at p j = grind arith
+
+      all_here : (z : Tree) → IsResult w a fs x z → IsAmong new.terms z
+      all_here z r = elim (event_or x) [
+        | inl q ↦ own.whole yes q.0 q.1 z r
+        | inr n ↦ child_here z (result-child w a fs x z n r)
+      ]
+        where
+          child_here : (z : Tree) → (p : ℕ) × (y : Tree) × (child (permits_of w) x p ≡ Some y) × IsResult w a (fs ++ record { parent = x; index = p } ∷ []) y z → IsAmong new.terms z
+          child_here z (p, y, c, s) = elim (cut_at p i) [
+            | inl b ↦ place_at kept p b y c z s
+            | inr b ↦ absurd (passed-none w a fs x p y z c (passed p b) s)
+          ]
+
+      pub state-end : fs ≡ [] → Gathers w a [] root old new true
+      state-end e = record { gains = both; bounded = subst (λ (b : Bool). IsBounded new.most new.terms b) yes own.bounded; whole = λ b z r. root_all e kept z r }
+        where
+          root_all : fs ≡ [] → IsSearched w a root new.terms fs x i → (z : Tree) → IsResult w a [] root z → IsAmong new.terms z
+          root_all e (at_root f q k) z r = all_here z (subst (λ (hs : List Frame). IsResult w a hs x z) (sym e) (subst (λ (y : Tree). IsResult w a [] y z) (sym q) r))
+          root_all e (below hs g f c u k) z r = absurd (no_snoc hs g (sym f ∙ e))
+
+      pub state-up : (gs : List Frame) (f : Frame) (y : Tree) (j : ℕ) → fs ≡ gs ++ f ∷ [] → y ≡ f.parent → j ≡ f.index + 1 → IsState w a root old new gs y j
+      state-up gs f y j e q n = subst (λ (u : Tree). IsState w a root old new gs u j) (sym q) (subst (λ (m : ℕ). IsState w a root old new gs f.parent m) (sym n) above)
+        where
+          ready : AreReadyFrames w gs × IsReady w f.parent × (f.index < child_count w f.parent)
+          ready = front-ready w gs f (subst (λ (hs : List Frame). AreReadyFrames w hs) e state.frames)
+
+          there : child (permits_of w) f.parent f.index ≡ Some x → AreSearched w a gs f.parent f.index new.terms → AreSearched w a gs f.parent (f.index + 1) new.terms
+          there c k p l u d z r = elim (cut_at p f.index) [
+            | inl b ↦ k p b u d z r
+            | inr b ↦ all_here z (moved (omega arith) r)
+          ]
+            where
+              moved : p ≡ f.index → IsResult w a (gs ++ record { parent = f.parent; index = p } ∷ []) u z → IsResult w a fs x z
+              moved m s =
+                  let o : Some u ≡ Some x = sym d ∙ (ap (child (permits_of w) f.parent) m ∙ c) in
+                  let v : u ≡ x = cc in
+                  subst (λ (hs : List Frame). IsResult w a hs x z) (sym e) (subst (λ (t : Tree). IsResult w a (gs ++ f ∷ []) t z) v (subst (λ (l : ℕ). IsResult w a (gs ++ record { parent = f.parent; index = l } ∷ []) u z) m s))
+
+          further : {hs : List Frame} {t : Tree} {l m : ℕ} → IsSearched w a root new.terms hs t l → AreSearched w a hs t m new.terms → IsSearched w a root new.terms hs t m
+          further (at_root e q k) n = at_root e q n
+          further (below hs g e c u k) n = below hs g e c u n
+
+          one_more : IsSearched w a root new.terms fs x i → IsSearched w a root new.terms gs f.parent (f.index + 1)
+          one_more (at_root r q k) = absurd (no_snoc gs f (sym e ∙ r))
+          one_more (below hs g r c u k) = turned (snoc-parts hs gs g f (sym r ∙ e)) c u
+            where
+              turned : (hs ≡ gs) × (g ≡ f) → child (permits_of w) g.parent g.index ≡ Some x → IsSearched w a root new.terms hs g.parent g.index → IsSearched w a root new.terms gs f.parent (f.index + 1)
+              turned (m, n) d v =
+                  let v1 : IsSearched w a root new.terms hs f.parent f.index = subst (λ (h : Frame). IsSearched w a root new.terms hs h.parent h.index) n v in
+                  let v2 : IsSearched w a root new.terms gs f.parent f.index = subst (λ (ks : List Frame). IsSearched w a root new.terms ks f.parent f.index) m v1 in
+                  let d1 : child (permits_of w) f.parent f.index ≡ Some x = subst (λ (h : Frame). child (permits_of w) h.parent h.index ≡ Some x) n d in
+                  further v2 (there d1 (place_at v2))
+
+          above : IsState w a root old new gs f.parent (f.index + 1)
+          above = record {
+            frames = ready.0;
+            ready = ready.1;
+            searched = one_more kept;
+            gains = both;
+            within = own.bounded.within yes;
+          }
 
 -- an event that a look shows
 pub taken-is : (x : Tree) (v : EventShown) (empty stored own : BlockValue) → x ≡ Event (event_of v) → ((n : ℕ) → has stored.instances n ≡ has (instances x) n) → empty ≡ record { instances = []; events = [] } → own ≡ record { instances = empty.instances ∪ stored.instances; events = [] }
@@ -203,4 +320,4 @@ module _ (v : NetsValue) (label : Label) (x : Tree) (a : ℕ) (labelled : label_
     };
   }
 
-pub ruleset searching = (below-start)
+pub ruleset searching = (own-other)

@@ -24,6 +24,7 @@ use Rattle.permit_step.specs.Successors.{IsJustAbove}
 use Rattle.term_laws.specs.Taking.{IsAfter}
 use Rattle.permit_step.specs.declared.ascent.Frame.{Frame}
 use Rattle.permit_step.specs.declared.ascent.Taken.{Taken}
+use Rattle.permit_step.specs.declared.descent.Step.{Step}
 use Rattle.permit_step.specs.declared.found.Found.{Found}
 
 -- at how many places a term may have a child
@@ -116,24 +117,42 @@ pub record Gathers (w : Tables) (a : ℕ) (fs : List Frame) (x : Tree) (old new 
   pub bounded : IsBounded new.most new.terms all
   pub whole : all ≡ true → (z : Tree) → IsResult w a fs x z → IsAmong new.terms z
 
--- the same of the children before an index alone
-pub record GathersBelow (w : Tables) (a : ℕ) (fs : List Frame) (x : Tree) (index : ℕ) (old new : Found) : Type 0 where
+-- the same of the term itself alone, where it is an event
+pub record GathersOwn (w : Tables) (a : ℕ) (fs : List Frame) (x : Tree) (old new : Found) (all : Bool) : Type 0 where
   pub gains : Gains (IsFinding w a fs x) old new
-  pub within : set_weight new.terms ≤ new.most
-  pub whole : (p : ℕ) → p < index → (y : Tree) → child (permits_of w) x p ≡ Some y → (z : Tree) → IsResult w a (fs ++ record { parent = x; index = p } ∷ []) y z → IsAmong new.terms z
+  pub bounded : IsBounded new.most new.terms all
+  pub whole : all ≡ true → (e : TermEvent) → x ≡ Event e → (z : Tree) → IsResult w a fs x z → IsAmong new.terms z
+
+-- nothing is left of the term after an event with the label that is taken from the child of this index
+abbrev pub IsPassed : Tables → ℕ → Tree → ℕ → Type 0
+IsPassed w a x p = (y : Tree) → child (permits_of w) x p ≡ Some y → (e : TermEvent) → e.label ≡ a → (u : Tree) → IsAfter (permits_of w) y e u → put (permits_of w) e x p u ≡ None
+
+-- a child from an index on; nothing is left after an event of those in between
+pub record IsStep (w : Tables) (a : ℕ) (x : Tree) (from : ℕ) (s : Step) : Type 0 where
+  pub behind : from ≤ s.index
+  pub there : child (permits_of w) x s.index ≡ Some s.inner
+  pub passed : (p : ℕ) → from ≤ p → p < s.index → IsPassed w a x p
+
+-- the next child to be searched; without one nothing is left after an event of those from the index on
+abbrev pub IsNext : Tables → ℕ → Tree → ℕ → Option Step → Type 0
+IsNext w a x from None = (p : ℕ) → from ≤ p → IsPassed w a x p
+IsNext w a x from (Some s) = IsStep w a x from s
+
+-- what is left after events of the children before an index is among the terms
+abbrev pub AreSearched : Tables → ℕ → List Frame → Tree → ℕ → List Tree → Type 0
+AreSearched w a fs x i zs = (p : ℕ) → p < i → (y : Tree) → child (permits_of w) x p ≡ Some y → (z : Tree) → IsResult w a (fs ++ record { parent = x; index = p } ∷ []) y z → IsAmong zs z
+
+-- a search has come to this index of the term to which the path leads from the root
+pub data IsSearched (w : Tables) (a : ℕ) (root : Tree) (zs : List Tree) : List Frame → Tree → ℕ → Type 0 where
+  at_root : {fs : List Frame} {x : Tree} {i : ℕ} → fs ≡ [] → x ≡ root → AreSearched w a fs x i zs → IsSearched w a root zs fs x i
+  below : {fs : List Frame} {x : Tree} {i : ℕ} (gs : List Frame) (g : Frame) → fs ≡ gs ++ g ∷ [] → child (permits_of w) g.parent g.index ≡ Some x → IsSearched w a root zs gs g.parent g.index → AreSearched w a fs x i zs → IsSearched w a root zs fs x i
+
+-- the term isn't an event with the label
+abbrev pub IsOther : ℕ → Tree → Type 0
+IsOther a x = (e : TermEvent) → x ≡ Event e → e.label ≡ a → ⊥
 
 -- the term is there once, and the others are as they were
 pub record AddsOne (t : Tree) (old new : Found) (all : Bool) : Type 0 where
   pub gains : Gains (λ x. x ≡ t) old new
   pub among : IsAmong new.terms t
   pub bounded : IsBounded new.most new.terms all
-
--- the term isn't an event
-abbrev pub IsNoEvent : Tree → Type 0
-IsNoEvent Nil = Unit {0}
-IsNoEvent (Event e) = ⊥
-IsNoEvent (Join m xs) = Unit {0}
-IsNoEvent (Choice xs) = Unit {0}
-IsNoEvent (Tied x q) = Unit {0}
-IsNoEvent (Loop x lo hi r) = Unit {0}
-IsNoEvent (Walk n f t c) = Unit {0}

@@ -1,13 +1,13 @@
 //! The children of a term from which an event may be taken, one by one: the way down of `successors`.
 
-ghost use Rattle.std.specs.Prelude.{◌≡◌, ◌<◌, IfOk, Some};
+ghost use Rattle.std.specs.Prelude.{◌≡◌, ◌<◌, ◌+◌, IfOk, Some};
 ghost use Rattle.chart_term.specs.Rows.{part_of};
 ghost use Rattle.chart_term.specs.Tables.{net_count, net_of};
 ghost use Rattle.hmsc_graph.specs.Nets.{size_of};
 ghost use Rattle.permit_step.specs.Children.{child, row_child};
 ghost use Rattle.term_laws.specs.Permission.{permits_of};
 ghost use Rattle.permit_step.specs.Ready.{IsReady, AreReadyTables, IsReadyPart};
-ghost use Rattle.permit_step.specs.Searches.{child_count};
+ghost use Rattle.permit_step.specs.Searches.{IsNext, child_count};
 
 use crate::blocks::widened;
 use crate::permission::permit;
@@ -17,9 +17,49 @@ use msc_base::NoMemory;
 use std::alloc::Global;
 use term_tables::Nets;
 
+/// A child of a term, and its index.
+#[derive(Drop)]
+pub(crate) struct Step {
+    pub(crate) index: usize,
+    pub(crate) inner: Term,
+}
+
+/// The next child from the index on from which an event with the label may be taken, if there is one.
+#[tactic(auto, using(crate::proofs::Descending::descending))]
+pub(crate) fn next_child(
+    alloc: Global,
+    nets: &Nets,
+    label: u32,
+    term: &Term,
+    from: usize,
+) -> Result<Option<Step>, NoMemory>
+    requires tables { AreReadyTables nets.now.tables }
+    requires term { IsReady nets.now.tables term.now }
+    ensures { IfOk result (λ next. IsNext nets.now.tables label term.now from next) }
+{
+    let _ = label;
+    for index in from..child_count(nets, term) {
+        if let Some(inner) = child(alloc, nets, term, index)? {
+            return Ok(Some(Step { index, inner }));
+        }
+    }
+    Ok(None)
+}
+
+/// The index behind that of a child.
+pub(crate) fn behind(nets: &Nets, term: &Term, index: usize) -> usize
+    requires tables { AreReadyTables nets.now.tables }
+    requires term { IsReady nets.now.tables term.now }
+    requires index { index < child_count nets.now.tables term.now }
+    ensures { result ≡ index + 1 }
+{
+    let _count = child_count(nets, term);
+    index + 1
+}
+
 /// From how many places of the term an event may be taken.
 #[tactic(auto, using(crate::proofs::Descending::descending))]
-pub(crate) fn child_count(nets: &Nets, term: &Term) -> usize
+fn child_count(nets: &Nets, term: &Term) -> usize
     requires tables { AreReadyTables nets.now.tables }
     requires term { IsReady nets.now.tables term.now }
     ensures { result ≡ child_count nets.now.tables term.now }
@@ -39,12 +79,7 @@ pub(crate) fn child_count(nets: &Nets, term: &Term) -> usize
 /// What an event of that index is taken from: a part, a begun turn, a turn that may begin in a gap, or a node's term where the
 /// walk may pass it. None where there is nothing.
 #[tactic(auto, using(crate::proofs::Descending::descending))]
-pub(crate) fn child(
-    alloc: Global,
-    nets: &Nets,
-    term: &Term,
-    index: usize,
-) -> Result<Option<Term>, NoMemory>
+fn child(alloc: Global, nets: &Nets, term: &Term, index: usize) -> Result<Option<Term>, NoMemory>
     requires tables { AreReadyTables nets.now.tables }
     requires term { IsReady nets.now.tables term.now }
     requires index { index < child_count nets.now.tables term.now }

@@ -16,9 +16,10 @@ mod parts;
 mod passing;
 mod permission;
 mod row_end;
+mod search;
 mod successors;
 
 pub use finishes::may_end;
 pub use fresh::{fresh_loop, fresh_walk};
 pub use permission::permit;
-pub use successors::after;
+pub use successors::{after, after_number};

@@ -1,13 +1,13 @@
-use Rattle.std.proofs.Common.{◌≡◌, subst, IsTrue, Contains, ◌↔◌, rules}
-use Rattle.bit_sets.specs.Blocks.{BlockValue, IsBlock, has_bit}
+use Rattle.std.proofs.Common.{subst, IsTrue, Contains, ◌↔◌}
+use Rattle.bit_sets.specs.Blocks.{BlockValue, IsBlock}
+use Rattle.bit_sets.specs.Stores.{words_of, events_of}
 use Rattle.bit_sets.proofs.BitFacts.{has_bit-contains, block_of_stored}
 use Rattle.bit_sets.proofs.block.Block.has_instance.Goals as goal
 
 pub returns-clause-has : goal.returns-clause-has
 returns-clause-has c =
-    let is : c.has_number.result ≡ has_bit c.self.inside.words.items c.args.at = search rules in
-    subst (λ (b : BlockValue). IsTrue c.has_number.result ↔ Contains b.instances c.args.at) c.self.view_is
-    (has_bit-contains c.self.inside.words.items c.args.at c.has_number.result c.self.invariant.few is)
+    subst (λ (b : BlockValue). IsTrue c.has.result ↔ Contains b.instances c.args.at) c.self.view_is
+    (has_bit-contains (words_of c.self.inside.sets) c.args.at c.has.result c.self.invariant.few c.has.ensures)
 
 pub returns-clause-block : goal.returns-clause-block
-returns-clause-block c = subst IsBlock c.self.view_is (block_of_stored c.self.inside.words.items c.self.inside.events.items c.self.invariant)
+returns-clause-block c = subst IsBlock c.self.view_is (block_of_stored (words_of c.self.inside.sets) (events_of c.self.inside.sets) c.self.invariant)

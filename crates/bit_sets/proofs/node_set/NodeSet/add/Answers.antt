@@ -1,4 +1,4 @@
-use Rattle.std.proofs.Common.{◌<◌, ◌/◌, ap, arith}
+use Rattle.std.proofs.Common.{ap, arith}
 use Rattle.bit_sets.specs.NodeSets.{NodeSetValue}
 use Rattle.bit_sets.proofs.NodeSetFacts.{added_set}
 use Rattle.bit_sets.proofs.node_set.NodeSet.add.Goals as goal

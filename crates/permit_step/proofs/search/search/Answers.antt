@@ -1,0 +1,71 @@
+use Rattle.std.proofs.Common.{◌≡◌, [], List, refl, sym, ◌∙◌, subst, arith}
+use Rattle.permit_step.specs.Searches.{AreReadyFrames}
+use Rattle.permit_step.specs.declared.ascent.Frame.{Frame}
+use Rattle.permit_step.proofs.ChildReady.{child-good}
+use Rattle.permit_step.proofs.Rebuilding.{front-ready}
+use Rattle.permit_step.proofs.Searching.{state-start, state-down, state-cut, state-end, state-up}
+use Rattle.permit_step.proofs.Visits.{visits-down, visits-up, ranked-down, ranked-up, ranked-length, no-frames}
+use Rattle.term_laws.proofs.Measures.{rank_in}
+use Rattle.permit_step.proofs.search.search.Goals as goal
+
+pub search-init : goal.search-init
+search-init c =
+    let w = c.args.nets.now.tables in
+    let path : c.new-path.result.items ≡ [] = c.new-path.ensures.items in
+    record {
+      state = rw (path, c.in_ok-here.ensures) (state-start w c.requires.tables c.args.label c.args.term.now c.args.found.now c.requires.term c.requires.tally c.requires.within);
+      ranked = rw (path, c.in_ok-here.ensures) (omega arith);
+    }
+
+pub search-smaller-in-Some : goal.search-smaller-in-Some
+search-smaller-in-Some c =
+    let w = c.args.nets.now.tables in
+    let step = rw c.in-Some.is at c.in_ok-step.ensures in
+    let good = child-good w c.requires.tables c.search.here c.in-Some.step.index c.in-Some.step.inner c.search.invariant.state.ready step.there in
+    visits-down w (rank_in w c.args.term.now) c.search.path.items c.push.new.self.items c.search.here c.in-Some.step.inner c.in-Some.step.inner c.search.next c.in-Some.step.index
+    (ranked-length w (rank_in w c.args.term.now) c.search.path.items c.search.here c.search.invariant.ranked (omega (arith, good.rank))) step.behind good.within step.there c.in_ok-push-in-Some.ensures.items refl
+
+pub search-preserved-in-Some : goal.search-preserved-in-Some
+search-preserved-in-Some c =
+    let w = c.args.nets.now.tables in
+    let step = rw c.in-Some.is at c.in_ok-step.ensures in
+    let good = child-good w c.requires.tables c.search.here c.in-Some.step.index c.in-Some.step.inner c.search.invariant.state.ready step.there in
+    record {
+      state = state-down w c.requires.tables c.args.label c.args.term.now c.args.found.now c.search.found c.search.path.items c.push.new.self.items c.search.here c.in-Some.step.inner c.search.next c.in-Some.step.index c.search.invariant.state c.in-Some.step step c.in_ok-push-in-Some.ensures.items refl;
+      ranked = ranked-down w (rank_in w c.args.term.now) c.search.path.items c.push.new.self.items c.search.here c.in-Some.step.inner c.in-Some.step.inner c.in-Some.step.index c.search.invariant.ranked good.rank c.in_ok-push-in-Some.ensures.items refl;
+    }
+
+pub returns-then-not-all : goal.returns-then-not-all
+returns-then-not-all c =
+    let w = c.args.nets.now.tables in
+    let no = c.if-not-all.true in
+    let cut = state-cut w c.requires.tables c.args.label c.args.term.now c.args.found.now c.search.found c.add_event.new.found c.search.path.items c.search.here c.search.next c.in_ok-all-in-None.all c.search.invariant.state c.in_ok-all-in-None.ensures no in
+    rw no at cut
+
+pub returns-in-None-pop : goal.returns-in-None-pop
+returns-in-None-pop c =
+    let w = c.args.nets.now.tables in
+    let passed = rw c.in-None.is at c.in_ok-step.ensures in
+    state-end w c.requires.tables c.args.label c.args.term.now c.args.found.now c.search.found c.add_event.new.found c.search.path.items c.search.here c.search.next c.in_ok-all-in-None.all c.search.invariant.state c.in_ok-all-in-None.ensures passed c.if-not-all.false (no-frames c.search.path.items (sym c.search.path.ok.0 ∙ c.in-None-pop.ensures.cases.0))
+
+pub behind-next-requires-clause-term : goal.behind-next-requires-clause-term
+behind-next-requires-clause-term c =
+    (front-ready c.args.nets.now.tables c.pop.new.self.items c.in-Some-pop.frame (subst (λ (fs : List Frame). AreReadyFrames c.args.nets.now.tables fs) c.in-Some-pop.ensures.items c.search.invariant.state.frames)).1
+
+pub behind-next-requires-clause-index : goal.behind-next-requires-clause-index
+behind-next-requires-clause-index c =
+    (front-ready c.args.nets.now.tables c.pop.new.self.items c.in-Some-pop.frame (subst (λ (fs : List Frame). AreReadyFrames c.args.nets.now.tables fs) c.in-Some-pop.ensures.items c.search.invariant.state.frames)).2
+
+pub search-smaller : goal.search-smaller
+search-smaller c =
+    let w = c.args.nets.now.tables in
+    visits-up w (rank_in w c.args.term.now) c.search.path.items c.pop.new.self.items c.in-Some-pop.frame c.search.here c.in-Some-pop.frame.parent c.search.next c.behind-next.result c.in-Some-pop.ensures.items refl c.behind-next.ensures
+
+pub search-preserved : goal.search-preserved
+search-preserved c =
+    let w = c.args.nets.now.tables in
+    let passed = rw c.in-None.is at c.in_ok-step.ensures in
+    record {
+      state = state-up w c.requires.tables c.args.label c.args.term.now c.args.found.now c.search.found c.add_event.new.found c.search.path.items c.search.here c.search.next c.in_ok-all-in-None.all c.search.invariant.state c.in_ok-all-in-None.ensures passed c.if-not-all.false c.pop.new.self.items c.in-Some-pop.frame c.in-Some-pop.frame.parent c.behind-next.result c.in-Some-pop.ensures.items refl c.behind-next.ensures;
+      ranked = ranked-up w (rank_in w c.args.term.now) c.search.path.items c.pop.new.self.items c.in-Some-pop.frame c.search.here c.in-Some-pop.frame.parent c.search.invariant.ranked c.in-Some-pop.ensures.items refl;
+    }

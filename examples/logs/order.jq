@@ -1,0 +1,3 @@
+# A line of the trace as an event of a log. A name has letters, digits, `_` and `.` alone.
+def name: gsub("[^A-Za-z0-9_.]"; "_");
+{at: .service | name, kind: {send: "out", receive: "in"}[.event], text: .message, far: .peer | name}

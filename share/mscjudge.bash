@@ -1,0 +1,20 @@
+# made by tools/words.py from share/words.json
+_mscjudge() {
+    local word=${COMP_WORDS[COMP_CWORD]} words=""
+    if [ "$COMP_CWORD" -eq 1 ]; then
+        COMPREPLY=($(compgen -W "judge check list print" -- "$word"))
+        return
+    fi
+    case ${COMP_WORDS[1]} in
+        judge) [[ $word == -* ]] && words="--json --log-json" ;;
+        check) [[ $word == -* ]] && words="--json" ;;
+        list) [[ $word == -* ]] && words="--json" ;;
+        print) [[ $word == -* ]] && words="" ;;
+    esac
+    if [ -n "$words" ]; then
+        COMPREPLY=($(compgen -W "$words" -- "$word"))
+    else
+        COMPREPLY=($(compgen -f -- "$word"))
+    fi
+}
+complete -o filenames -F _mscjudge mscjudge
