@@ -1,5 +1,6 @@
 -- When patterns, and a term, mean a set of unfoldings.
-use Rattle.std.specs.Prelude.{ℕ, Bool, List}
+use Rattle.std.specs.Prelude.{ℕ, Bool, true, false, List}
+use Rattle.msc_base.specs.Orders.{Once}
 use Rattle.msc_unfolding.specs.Unfoldings.{Happening, Unfolding, plain}
 use Rattle.term_tables.specs.NetValues.{NetsValue}
 use Rattle.chart_term.specs.Tables.{terms_over}
@@ -29,3 +30,9 @@ pub record Mean (Same : TermEvent → Happening → Type 0) (patterns : Shape �
 -- the patterns of the term mean these unfoldings, with these names of the instances; finished ones, or also those of walks under way
 abbrev pub MeansUnfoldings : NetsValue → List (List ℕ) → Bool → Tree → (Unfolding → Type 0) → Type 0
 MeansUnfoldings v names o x unfolds = Mean (IsNamed v.labels names) (HasPattern (terms_over v.tables) o x) unfolds
+
+-- the term, over a table in which no label stands twice, means these finished unfoldings, and these where walks under way count
+pub record Means (v : NetsValue) (names : List (List ℕ)) (x : Tree) (finished unfolds : Unfolding → Type 0) : Type 0 where
+  pub once : Once v.labels
+  pub finished_ones : MeansUnfoldings v names false x finished
+  pub all_ones : MeansUnfoldings v names true x unfolds

@@ -6,7 +6,7 @@ use Rattle.std.proofs.lemmas.Bool.Decides.{nat_tests}
 use Rattle.label_table.specs.Labels.{same_label}
 use Rattle.label_table.proofs.Equality.{label_self, bytes_self}
 use Rattle.msc_unfolding.specs.Unfoldings.{Unfolding}
-use Rattle.msc_meaning.specs.Meanings.{Finished, Open}
+use Rattle.msc_meaning.specs.Meanings.{Finished, Open, Begun}
 use Rattle.msc_meaning.specs.WorkedCharts.{message, message_body}
 use Rattle.msc_meaning.specs.WorkedLaws.{a_sent, a_received}
 use Rattle.msc_meaning.proofs.Showing.{not_open}
@@ -20,7 +20,7 @@ use Rattle.term_meaning.specs.TiedRows.{TiedRow, AreRowOf, tied_row, TiedRowsMea
 use Rattle.term_meaning.proofs.MeaningRules.{mean_sets}
 use Rattle.term_meaning.proofs.TwoMessages.{found_once}
 use Rattle.trace_judge.specs.Laws.{SetsTellRuns, VerdictsTellRuns}
-use Rattle.verdict_meaning.specs.ChartsTold.{Begun, ChartsAreTold}
+use Rattle.verdict_meaning.specs.ChartsTold.{ChartsAreTold}
 use Rattle.verdict_meaning.specs.MessageTold.{message_tables, message_names, message_events, MessageIsTold}
 use Rattle.verdict_meaning.proofs.Meaning.{empty_set, ending_set, verdict_tells}
 

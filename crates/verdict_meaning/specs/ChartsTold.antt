@@ -1,9 +1,8 @@
 -- What the residual terms of a chart's term tell of the chart.
-use Rattle.std.specs.Prelude.{◌⊎◌, ◌≡◌, ℕ, List, []}
+use Rattle.std.specs.Prelude.{◌≡◌, ℕ, List, []}
 use Rattle.msc_base.specs.declared.label.Label.{Label}
 use Rattle.msc_base.specs.declared.verdict.Verdict.{Verdict}
-use Rattle.msc_unfolding.specs.Unfoldings.{Unfolding}
-use Rattle.msc_meaning.specs.Meanings.{Finished, Open, Conforms, Begins}
+use Rattle.msc_meaning.specs.Meanings.{Finished, Begun, Conforms, Begins}
 use Rattle.msc_meaning.specs.Tables.{Table}
 use Rattle.chart_term.specs.TermPatterns.{Both}
 use Rattle.chart_term.specs.Terms.{Tree}
@@ -11,12 +10,8 @@ use Rattle.term_tables.specs.NetValues.{NetsValue}
 use Rattle.trace_judge.specs.Logs.{LoggedEvent, AreResiduals}
 use Rattle.trace_judge.specs.Sets.{IsSoundFor, HasEnding}
 use Rattle.trace_judge.specs.Verdicts.{IsVerdict}
-use Rattle.verdict_meaning.specs.MeaningTells.{Means}
+use Rattle.term_meaning.specs.Meanings.{Means}
 use Rattle.verdict_meaning.specs.RunVerdicts.{Tells}
-
--- the unfoldings of a chart, finished or under way
-abbrev pub Begun : Table → List ℕ → Unfolding → Type 0
-Begun table name u = Finished table name u ⊎ Open table name u
 
 -- the term means the unfoldings of the chart of that name, and is sound in full for the tables
 pub record IsTermOf (table : Table) (name : List ℕ) (v : NetsValue) (names : List (List ℕ)) (x : Tree) : Type 0 where

@@ -2,7 +2,6 @@
 use Rattle.std.specs.Prelude.{ℕ, true, false, List, [], ◌≡◌}
 use Rattle.msc_base.specs.declared.label.Label.{Label}
 use Rattle.msc_base.specs.declared.verdict.Verdict.{Verdict}
-use Rattle.msc_base.specs.Orders.{Once}
 use Rattle.msc_unfolding.specs.Runs.{IsRunOf, BeginsRunOf}
 use Rattle.msc_unfolding.specs.Unfoldings.{Unfolding}
 use Rattle.term_tables.specs.NetValues.{NetsValue}
@@ -11,16 +10,10 @@ use Rattle.chart_term.specs.Terms.{Tree}
 use Rattle.trace_judge.specs.Logs.{LoggedEvent, AreResiduals, Begins, IsRun}
 use Rattle.trace_judge.specs.Sets.{IsSoundFor, HasEnding}
 use Rattle.trace_judge.specs.Verdicts.{IsVerdict}
-use Rattle.term_meaning.specs.Meanings.{MeansUnfoldings}
+use Rattle.term_meaning.specs.Meanings.{Means}
 use Rattle.verdict_meaning.specs.RunVerdicts.{Tells}
 
--- the term, over a table in which no label stands twice, means these finished unfoldings, and these where walks under way count
-pub record Means (v : NetsValue) (names : List (List ℕ)) (x : Tree) (finished unfolds : Unfolding → Type 0) : Type 0 where
-  pub once : Once v.labels
-  pub finished_ones : MeansUnfoldings v names false x finished
-  pub all_ones : MeansUnfoldings v names true x unfolds
-
--- then its runs are theirs; after the labels of a log the set of residual terms is empty exactly where no run of the unfoldings begins
+-- where a term means a set of unfoldings its runs are theirs; after the labels of a log the set of residual terms is empty exactly where no run of the unfoldings begins
 -- so, and a term of it may end exactly where the log is a run of a finished one; and the verdict tells their runs
 pub record MeaningTells (finished unfolds : Unfolding → Type 0) : Type 0 where
   pub runs : (v : NetsValue) (names : List (List ℕ)) (x : Tree) → Means v names x finished unfolds → (labels : List Label) → Both (IsRun v x labels) (IsRunOf finished labels)
