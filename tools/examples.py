@@ -81,11 +81,13 @@ def furnish(room, program):
     """Copies what the commands of a page may name, and puts the program where a shell finds it."""
     for folder in ("bin", "home", "top"):
         os.mkdir(f"{room}/{folder}")
-    listed = subprocess.run(["git", "ls-files", "-z", "--cached", "--others", "--exclude-standard"], stdout=subprocess.PIPE, check=True)
-    for name in listed.stdout.decode().split("\0"):
-        if name and not re.match(r"crates/(?!mscjudge/)|\.ci/", name) and os.path.isfile(name):
-            os.makedirs(os.path.dirname(f"{room}/top/{name}"), exist_ok=True)
+    shown = shutil.ignore_patterns("out", "__pycache__")
+    for name in os.listdir("."):
+        if os.path.isfile(name):
             shutil.copy(name, f"{room}/top/{name}")
+        elif name not in (".git", ".ci", "crates"):
+            shutil.copytree(name, f"{room}/top/{name}", ignore=shown)
+    shutil.copytree("crates/mscjudge", f"{room}/top/crates/mscjudge", ignore=shown)
     os.makedirs(f"{room}/top/{os.path.dirname(PROGRAM)}", exist_ok=True)
     shutil.copy(program, f"{room}/top/{PROGRAM}")
     shutil.copy(program, f"{room}/bin/mscjudge")
@@ -100,7 +102,7 @@ def of_console(page, text, room, with_rt):
         missing = lacking(texts)
         if missing or (asks_rt and not with_rt):
             why = f"no {', '.join(f'{tool} (package {TOOLS[tool]})' for tool in missing)} here" if missing else "rt is run with --rt alone"
-            print(f"{page}:{first}: NOT RUN, {why}: {len(found)} commands from `{texts[0]}` on")
+            print(f"{page}:{first}: NOT RUN, {why}: {len(found)} commands from `{texts[0].splitlines()[0]}` on")
             yield 0, len(found)
             continue
         for (line, command, wanted), had in zip(found, run(found, "." if asks_rt else f"{room}/top", room)):

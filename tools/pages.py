@@ -1,13 +1,12 @@
 #!/usr/bin/env python3
 """pages.py: whether the links of the pages lead somewhere, and whether docs/RULES.md is what msc_rules has.
 
-Looked at are all pages that git knows. A link to a file or a heading has to be there, and a link whose text is one name in backquotes
+Looked at are all pages. A link to a file or a heading has to be there, and a link whose text is one name in backquotes
 to a file of code or specs/ asks that the file has the name. A page of the repository that is named in running text is to be
 a link. Run it at the top; it prints what is wrong, and ends with status 1 where something is. It takes a second.
 """
 import os
 import re
-import subprocess
 import sys
 
 LINK = re.compile(r"\[((?:[^\[\]`]|`[^`]*`)*)\]\(([^)\s]+)\)")
@@ -16,8 +15,9 @@ COMMON = ("README.md",)
 
 
 def pages():
-    listed = subprocess.run(["git", "ls-files", "-z", "--cached", "--others", "--exclude-standard", "*.md"], stdout=subprocess.PIPE, check=True)
-    return sorted(name for name in listed.stdout.decode().split("\0") if name and os.path.isfile(name))
+    for folder, folders, files in os.walk("."):
+        folders[:] = sorted(name for name in folders if name not in (".git", "out"))
+        yield from (os.path.normpath(os.path.join(folder, name)) for name in sorted(files) if name.endswith(".md"))
 
 
 def plain(text):
