@@ -1,10 +1,11 @@
 #!/usr/bin/env python3
-"""pages.py: whether the links of the pages lead somewhere, and whether docs/RULES.md is what msc_rules has.
+"""pages.py: whether the links of the pages lead somewhere, docs/RULES.md is what msc_rules has, and the contracts of docs/PROVED.md are there.
 
 Looked at are all pages. A link to a file or a heading has to be there, and a link whose text is one name in backquotes
 to a file of code or specs/ asks that the file has the name. A page of the repository that is named in running text is to be
 a link. Run it at the top; it prints what is wrong, and ends with status 1 where something is. It takes a second.
 """
+import glob
 import os
 import re
 import sys
@@ -86,8 +87,20 @@ def of_rules():
             yield f"docs/RULES.md: {text} has no document that breaks it"
 
 
+def of_proved():
+    """Contracts that docs/PROVED.md names and no crate has."""
+    words = set()
+    for crate in glob.glob("crates/*"):
+        for path in glob.glob(f"{crate}/src/**/*.rt", recursive=True) + glob.glob(f"{crate}/specs/**/*.antt", recursive=True):
+            words.update(re.findall(r"\w+", open(path).read()))
+    for crates, contracts in re.findall(r"^\| (\[\w+\]\([^)]*\))? ?\|.*\| ([^|]*)\|$", open("docs/PROVED.md").read(), re.M):
+        for name in re.findall(r"`([^`]+)`", contracts):
+            if not words.issuperset(re.findall(r"\w+", name)):
+                yield f"docs/PROVED.md: no contract {name}"
+
+
 def main():
-    found = [line for page in pages() for line in of_page(page)] + list(of_rules())
+    found = [line for page in pages() for line in of_page(page)] + [*of_rules(), *of_proved()]
     print("\n".join(found) or "the pages' links lead somewhere")
     return 1 if found else 0
 
