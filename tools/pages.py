@@ -50,7 +50,8 @@ def of_link(page, text, target):
     if anchor and path.endswith(".md") and anchor not in anchors(path):
         return f"{path} has no heading #{anchor}"
     name = re.fullmatch(r"`(\w+)`", text)
-    if name and path.endswith((".rt", ".antt")) and not re.search(rf"\b{name[1]}\b", open(path).read()):
+    stem = os.path.splitext(os.path.basename(path))[0]
+    if name and name[1] != stem and path.endswith((".rt", ".antt")) and not re.search(rf"\b{name[1]}\b", open(path).read()):
         return f"{path} doesn't name `{name[1]}`"
     return None
 
