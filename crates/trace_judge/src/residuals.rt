@@ -7,7 +7,6 @@ ghost use Rattle.chart_term.specs.Terms.{weight};
 ghost use Rattle.term_laws.specs.Listing.{set_weight};
 ghost use Rattle.msc_base.specs.Lists.{IsAmong};
 ghost use Rattle.msc_base.specs.declared.label.Label.{Label as LabelValue};
-ghost use Rattle.permit_step.specs.Successors.{IsSuccessor};
 ghost use Rattle.term_tables.specs.NetValues.{label_number};
 ghost use Rattle.trace_judge.specs.Sets.{SetValue, IsSoundFor, IsServing, IsLeftOf, PassBudget, HasEnding, AreRising};
 ghost use Rattle.trace_judge.specs.Gathers.{IsOver, JoinsAll};
@@ -16,7 +15,7 @@ use crate::gathered::Gathered;
 use crate::{StepFault, Store};
 use chart_term::{Term, TermList};
 use msc_base::{Label, NoMemory};
-use permit_step::{after_number, may_end};
+use permit_step::{after_each, may_end};
 use std::alloc::Global;
 use std::marker::Model;
 use term_tables::Nets;
@@ -72,30 +71,11 @@ fn add_found(
     Ok(true)
 }
 
-/// Adds what is left of the term after an event with the label of this number, as long as all together is within the budget. It
-/// says whether it is.
-fn add_successors(
-    gathered: &mut Gathered,
-    alloc: Global,
-    nets: &Nets,
-    term: &Term,
-    number: u32,
-    budget: u64,
-) -> Result<bool, NoMemory>
-    requires known { (label : LabelValue) × (label_number nets.now.labels label ≡ Some number) }
-    requires sound { IsSoundFor nets.now term.now }
-    requires most { budget ≤ BUDGET_MOST }
-    requires room { set_weight gathered.old ≤ budget }
-    ensures all { IfOk result (λ fits. (label : LabelValue) → label_number nets.now.labels label ≡ Some number → fits ≡ true
-        → JoinsAll (IsSuccessor nets.now label term.now) budget gathered.old gathered.new) }
-    ensures over { IfOk result (λ fits. (label : LabelValue) → label_number nets.now.labels label ≡ Some number → fits ≡ false
-        → IsOver (λ y. IsAmong gathered.old y ⊎ IsSuccessor nets.now label term.now y) budget) }
+/// Whether there is no term.
+fn is_none(terms: &TermList) -> bool
+    ensures { IsTrue result ↔ (terms.now ≡ []) }
 {
-    let mut found = TermList::new(alloc);
-    if !after_number(alloc, nets, term, number, budget, &mut found)? {
-        return Ok(false);
-    }
-    add_found(gathered, alloc, &found, budget)
+    terms.len() == 0
 }
 
 /// All that is left of the terms after an event with the label of this number, unless it is above the budget.
@@ -114,19 +94,16 @@ fn gather(
         (λ all. JoinsAll (IsLeftOf nets.now label terms.now) budget [] all)) }
 {
     let mut gathered = Gathered::new(alloc);
-    for index in 0..terms.len() {
-        if !add_successors(&mut gathered, alloc, nets, terms.at(index), number, budget)? {
-            return Ok(None);
-        }
+    if is_none(terms) {
+        return Ok(Some(gathered));
+    }
+    let Some(found) = after_each(alloc, nets, terms, number, budget)? else {
+        return Ok(None);
+    };
+    if !add_found(&mut gathered, alloc, &found, budget)? {
+        return Ok(None);
     }
     Ok(Some(gathered))
-}
-
-/// Whether there is no term.
-fn is_none(terms: &TermList) -> bool
-    ensures { IsTrue result ↔ (terms.now ≡ []) }
-{
-    terms.len() == 0
 }
 
 /// Whether one of the terms may end.
