@@ -18,7 +18,7 @@ use Rattle.msc_meaning.proofs.Showing.{Derived, drawn, only_one, only_two, run, 
 abbrev pub message : Derived (Finished worked.message (codes "A"))
 message = record { of = _; is = record { chart = _; is = refl; unfolds = of_body (of_level no_ends (item_then single (item_then single no_item))) } }
 
-message_only : (u : Unfolding) → Finished worked.message (codes "A") u → u ≡ message.of
+pub message_only : (u : Unfolding) → Finished worked.message (codes "A") u → u ≡ message.of
 message_only u f = only (in_finished worked.message (codes "A") _ refl u f)
   where
     only : {u : Unfolding} → OfWoven worked.message no_gates [] (Basic worked.message_body) u → u ≡ message.of

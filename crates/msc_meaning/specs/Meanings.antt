@@ -24,10 +24,14 @@ pub record Open (table : Table) (name : List ℕ) (u : Unfolding) : Type 0 where
   pub drawn : chart.content ≡ HighLevel (graph starts lines)
   pub walks : OfWalk table true lines starts u
 
+-- an unfolding of the chart, finished or under way
+abbrev pub Begun : Table → List ℕ → Unfolding → Type 0
+Begun table name u = Finished table name u ⊎ Open table name u
+
 -- the labels are a run of a finished unfolding
 abbrev pub Conforms : Table → List ℕ → List Label → Type 0
 Conforms table name labels = IsRunOf (Finished table name) labels
 
 -- a run of an unfolding, finished or under way, begins with the labels
 abbrev pub Begins : Table → List ℕ → List Label → Type 0
-Begins table name labels = BeginsRunOf (λ u. Finished table name u ⊎ Open table name u) labels
+Begins table name labels = BeginsRunOf (Begun table name) labels

@@ -27,3 +27,5 @@ pub mod Passes
 pub mod MissedParts
 pub mod ItemsLeft
 pub mod Copies
+pub mod TermMembers
+pub mod AllAfter

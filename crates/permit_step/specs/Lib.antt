@@ -11,3 +11,5 @@ pub mod Searches
 pub mod ReadyBySoundness
 pub mod Lefts
 pub mod Skips
+pub mod AllAfter
+pub mod Gatherings

@@ -1,0 +1,17 @@
+pub mod Extended
+pub mod ItemRules
+pub mod LineMeaning
+pub mod LoopedMessage
+pub mod MeaningRules
+pub mod Named
+pub mod Ordered
+pub mod PortionRules
+pub mod SameShapes
+pub mod SeenRules
+pub mod ShownTags
+pub mod StandRules
+pub mod Standing
+pub mod TextPaths
+pub mod TiedRows
+pub mod TwoMessages
+pub mod RuleLaws

@@ -1,0 +1,15 @@
+pub mod Standings
+pub mod Naming
+pub mod Meanings
+pub mod UnfoldingSets
+pub mod LineWalks
+pub mod ShapePaths
+pub mod Portions
+pub mod Growing
+pub mod Extending
+pub mod ItemPortions
+pub mod StandingRules
+pub mod MeaningRules
+pub mod TiedRows
+pub mod TwoMessages
+pub mod LoopedMessage
