@@ -17,7 +17,7 @@ ghost use Rattle.permit_step.specs.Ready.{IsReady, AreReadyTables, IsReadyPart, 
 ghost use Rattle.permit_step.specs.RowRests.{open_before, keep_part, keep_parts};
 ghost use Rattle.term_laws.specs.Values.{block_of};
 
-use crate::blocks::{common, widened};
+use crate::blocks::widened;
 use crate::left::{Joint, Left, PartsLeft, both, opened_after, whole};
 use crate::loops::loop_end;
 use crate::parts::{LoopBlock, LoopParts, WalkParts};
@@ -256,7 +256,7 @@ fn permit_loop(
     ensures { IfOk result (λ left. left ≡ permitted (permits_of nets.now.tables) (block_of block.now) (Loop turns.entry.body.now turns.entry.lower turns.entry.upper (row_of turns.entry.row.now))) }
 {
     let all = nets.touched(alloc, turns.body)?;
-    let narrow = common(alloc, block, &all)?;
+    let narrow = block.common(alloc, &all)?;
     let by = LoopBlock {
         whole: block,
         narrow: &narrow,
@@ -417,7 +417,7 @@ pub(crate) fn widened_walk(
     ensures { IfOk result (λ left. left ≡ walk_of (permits_of nets.now.tables) way.entry.net (spot_of way.entry.from) (goal_of way.entry.to) (way.entry.own.now.instances ∪ block.now.instances)) }
 {
     let wide = widened(alloc, way.own, block)?;
-    let narrow = common(alloc, &wide, nets.spread(way.net))?;
+    let narrow = wide.common(alloc, nets.spread(way.net))?;
     walk(alloc, nets, way.net, way.from, way.to, narrow)
 }
 

@@ -15,7 +15,6 @@ ghost use Rattle.permit_step.specs.RowRests.{no_rest};
 ghost use Rattle.term_laws.specs.Normality.{AreApart, IsNotNil};
 
 use super::Taken;
-use crate::blocks::common;
 use crate::descent::is_gap;
 use crate::loops::loop_end;
 use crate::parts::{LoopBlock, LoopParts};
@@ -59,7 +58,7 @@ pub(super) fn put_in_loop(
     let behind = first_behind(begins, index, count);
     let before = last_before(begins, index, count);
     let all = nets.touched(alloc, onward.body)?;
-    let narrow = common(alloc, &taken.at, &all)?;
+    let narrow = taken.at.common(alloc, &all)?;
     let mut end = RowEnd::new(alloc)?;
     let tail = onward.row.behind(alloc, behind)?;
     put_tail(alloc, onward.upper, &tail, &mut end)?;
