@@ -1,0 +1,3 @@
+pub mod MadeParts
+pub mod ItemViews
+pub mod MadeCharts
