@@ -18,7 +18,7 @@ use Rattle.msc_meaning.specs.ChartUnfoldings.{gates_of, OfEvents, no_event, even
 use Rattle.term_meaning.specs.UnfoldingSets.{OnlyEmpty, OnlyEvent, AreJoined, joined, AreTied, tied, Either}
 use Rattle.level_terms.specs.MadeParts.{ArePlainItems, ArePlainNodes}
 
-along : (A : Unfolding → Type 0) (u v : Unfolding) → v ≡ u → A u → A v
+pub along : (A : Unfolding → Type 0) (u v : Unfolding) → v ≡ u → A u → A v
 along A u v e a = subst A (sym e) a
 
 -- a level of plain items: nothing is called
@@ -126,6 +126,17 @@ module _ (table : Table) (gates : Gates) (around : Around) where
       from x n _ (item_then a b) = joined a b
       from _ n _ (exception h) = absurd (n refl)
       from _ n _ (no_exception h) = absurd (n refl)
+
+  -- the same, said without looking into the item
+  pub items_unless : (x : Item) (xs : Items) → ((part : InlinePart) (operands : Bodies) → x ≡ Inline inline.Exc part operands → ⊥)
+      → (u : Unfolding) → Both (AreJoined seq (OfItem table gates around x) (OfItems table gates around xs) u) (OfItems table gates around (item_and x xs) u)
+  items_unless x xs f u = items_more x xs (none_of x f) u
+    where
+      none_of : (x : Item) → ((part : InlinePart) (operands : Bodies) → x ≡ Inline inline.Exc part operands → ⊥) → IsNoException x
+      none_of (Inline form part operands) f = λ e. f part operands (ap (λ (k : InlineForm). Inline k part operands) e)
+      none_of (Single n) f = tt
+      none_of (Coregion ns) f = tt
+      none_of (Refer part) f = tt
 
   pub items_exception : (part : InlinePart) (operand : Body) (xs : Items) (u : Unfolding)
       → Both (Either (AreTied (OfLevel table (inside gates part.name around) operand) (passing (past_inline gates.calls part.name))) (OfItems table gates around xs) u)

@@ -4,6 +4,7 @@
 mod chart;
 mod events;
 mod fault;
+pub mod laws;
 mod levels;
 mod made;
 mod numbers;
