@@ -10,6 +10,9 @@ import sys
 
 FUNCTIONS, LINES, CHAIN, EDITS, ALL_EDITS, TESTS = 100, 800, 8, 8, 80, 40
 TEST_CRATES = ("text_tests", "calculus_tests", "command_tests")
+# Neither of these two knows of the other (docs/ARCHITECTURE.md, what holds everywhere).
+CALCULUS = ("hmsc_graph", "chart_term", "term_tables", "term_laws", "permit_step")
+TEXT = ("msc_tokens", "token_grammar", "msc_events", "msc_expression", "msc_document", "msc_print")
 
 
 def needs():
@@ -34,6 +37,19 @@ def depth(crate, named, known):
     if crate not in known:
         known[crate] = 1 + max([depth(d, named, known) for d in named[crate] if d in named], default=0)
     return known[crate]
+
+
+def below(crate, named):
+    """The crate and all crates that it stands on."""
+    return {crate}.union(*(below(library, named) for library in named.get(crate, []) if library in named))
+
+
+def of_rooms(named):
+    """Crates of the calculus that know text, and the other way round."""
+    for crates, others in ((CALCULUS, TEXT), (TEXT, CALCULUS)):
+        for crate in crates:
+            for other in sorted(below(crate, named) & {*others}):
+                yield f"crates.txt: {crate} stands on {other}"
 
 
 def of_crate(crate, libraries):
@@ -61,6 +77,7 @@ def main():
     named, known = needs(), {}
     found = [line for crate in named for line in of_crate(crate, named[crate])]
     found += [f"{crate}: a chain of {depth(crate, named, known)} crates" for crate in named if depth(crate, named, known) > CHAIN]
+    found += of_rooms(named)
     edits = len(glob.glob("crates/*/must-fail/*.edit"))
     found += [f"{edits} must-fail edits in all"] if edits > ALL_EDITS else []
     print("\n".join(found) or "the budgets are kept")

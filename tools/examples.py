@@ -22,6 +22,8 @@ PROGRAM = "crates/mscjudge/out/mscjudge"
 # what a command may ask for, and the package of Debian that has it
 TOOLS = {"jq": "jq", "mlr": "miller", "tshark": "tshark", "parallel": "parallel", "man": "man-db", "mandoc": "mandoc",
          "zsh": "zsh", "fish": "fish"}
+# A tool counts as installed only where this call of it succeeds: other versions, or other tools, have these names too.
+PROBES = {"mlr": ["mlr", "-n", "--ojsonl", "put", ""], "parallel": ["parallel", "--version"]}
 # what programs say beside their output where they are run as root
 NOISE = re.compile(r"^Running as user \"root\".*\n", re.M)
 MARK = "-- end of command --"
@@ -56,16 +58,22 @@ def is_matched(wanted, had):
     return bool(re.fullmatch(shape, "".join(line + "\n" for line in had)))
 
 
+def is_there(tool):
+    if not shutil.which(tool):
+        return False
+    quiet = {"stdin": subprocess.DEVNULL, "stdout": subprocess.DEVNULL, "stderr": subprocess.DEVNULL}
+    return tool not in PROBES or subprocess.run(PROBES[tool], **quiet).returncode == 0
+
+
 def lacking(texts):
     """The tools that the commands ask for and that aren't installed."""
     words = {word for text in texts for word in re.findall(r"(?:^|[|;&(]|\$\()\s*(?:time )?(\w+)", text, re.M)}
-    return sorted(tool for tool in TOOLS if tool in words and not shutil.which(tool))
+    return sorted(tool for tool in TOOLS if tool in words and not is_there(tool))
 
 
 def environment(room):
-    kept = {name: os.environ[name] for name in ("LANG", "LC_ALL") if name in os.environ}
     path = f"{room}/bin:{room}/home/.local/bin:{os.environ.get('PATH', '/usr/bin:/bin')}"
-    return {"LC_ALL": "C.UTF-8", **kept, "PATH": path, "HOME": f"{room}/home", "MANPAGER": "cat", "MANWIDTH": "80"}
+    return {"LC_ALL": "C.UTF-8", "PATH": path, "HOME": f"{room}/home", "MANPAGER": "cat", "MANWIDTH": "80"}
 
 
 def run(found, folder, room):
@@ -81,11 +89,13 @@ def furnish(room, program):
     """Copies what the commands of a page may name, and puts the program where a shell finds it."""
     for folder in ("bin", "home", "top"):
         os.mkdir(f"{room}/{folder}")
-    listed = subprocess.run(["git", "ls-files", "-z", "--cached", "--others", "--exclude-standard"], stdout=subprocess.PIPE, check=True)
-    for name in listed.stdout.decode().split("\0"):
-        if name and not re.match(r"crates/(?!mscjudge/)|\.ci/", name) and os.path.isfile(name):
-            os.makedirs(os.path.dirname(f"{room}/top/{name}"), exist_ok=True)
+    shown = shutil.ignore_patterns("out", "__pycache__")
+    for name in os.listdir("."):
+        if os.path.isfile(name):
             shutil.copy(name, f"{room}/top/{name}")
+        elif name not in (".git", ".ci", "crates"):
+            shutil.copytree(name, f"{room}/top/{name}", ignore=shown)
+    shutil.copytree("crates/mscjudge", f"{room}/top/crates/mscjudge", ignore=shown)
     os.makedirs(f"{room}/top/{os.path.dirname(PROGRAM)}", exist_ok=True)
     shutil.copy(program, f"{room}/top/{PROGRAM}")
     shutil.copy(program, f"{room}/bin/mscjudge")
@@ -100,7 +110,7 @@ def of_console(page, text, room, with_rt):
         missing = lacking(texts)
         if missing or (asks_rt and not with_rt):
             why = f"no {', '.join(f'{tool} (package {TOOLS[tool]})' for tool in missing)} here" if missing else "rt is run with --rt alone"
-            print(f"{page}:{first}: NOT RUN, {why}: {len(found)} commands from `{texts[0]}` on")
+            print(f"{page}:{first}: NOT RUN, {why}: {len(found)} commands from `{texts[0].splitlines()[0]}` on")
             yield 0, len(found)
             continue
         for (line, command, wanted), had in zip(found, run(found, "." if asks_rt else f"{room}/top", room)):

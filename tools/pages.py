@@ -1,13 +1,13 @@
 #!/usr/bin/env python3
-"""pages.py: whether the links of the pages lead somewhere, and whether docs/RULES.md is what msc_rules has.
+"""pages.py: whether the links of the pages lead somewhere, docs/RULES.md is what msc_rules has, and the contracts of docs/PROVED.md are there.
 
-Looked at are all pages that git knows. A link to a file or a heading has to be there, and a link whose text is one name in backquotes
+Looked at are all pages. A link to a file or a heading has to be there, and a link whose text is one name in backquotes
 to a file of code or specs/ asks that the file has the name. A page of the repository that is named in running text is to be
 a link. Run it at the top; it prints what is wrong, and ends with status 1 where something is. It takes a second.
 """
+import glob
 import os
 import re
-import subprocess
 import sys
 
 LINK = re.compile(r"\[((?:[^\[\]`]|`[^`]*`)*)\]\(([^)\s]+)\)")
@@ -16,8 +16,9 @@ COMMON = ("README.md",)
 
 
 def pages():
-    listed = subprocess.run(["git", "ls-files", "-z", "--cached", "--others", "--exclude-standard", "*.md"], stdout=subprocess.PIPE, check=True)
-    return sorted(name for name in listed.stdout.decode().split("\0") if name and os.path.isfile(name))
+    for folder, folders, files in os.walk("."):
+        folders[:] = sorted(name for name in folders if name not in (".git", "out"))
+        yield from (os.path.normpath(os.path.join(folder, name)) for name in sorted(files) if name.endswith(".md"))
 
 
 def plain(text):
@@ -49,7 +50,8 @@ def of_link(page, text, target):
     if anchor and path.endswith(".md") and anchor not in anchors(path):
         return f"{path} has no heading #{anchor}"
     name = re.fullmatch(r"`(\w+)`", text)
-    if name and path.endswith((".rt", ".antt")) and not re.search(rf"\b{name[1]}\b", open(path).read()):
+    stem = os.path.splitext(os.path.basename(path))[0]
+    if name and name[1] != stem and path.endswith((".rt", ".antt")) and not re.search(rf"\b{name[1]}\b", open(path).read()):
         return f"{path} doesn't name `{name[1]}`"
     return None
 
@@ -86,8 +88,20 @@ def of_rules():
             yield f"docs/RULES.md: {text} has no document that breaks it"
 
 
+def of_proved():
+    """Contracts that docs/PROVED.md names and no crate has."""
+    words = set()
+    for crate in glob.glob("crates/*"):
+        for path in glob.glob(f"{crate}/src/**/*.rt", recursive=True) + glob.glob(f"{crate}/specs/**/*.antt", recursive=True):
+            words.update(re.findall(r"\w+", open(path).read()))
+    for crates, contracts in re.findall(r"^\| (\[\w+\]\([^)]*\))? ?\|.*\| ([^|]*)\|$", open("docs/PROVED.md").read(), re.M):
+        for name in re.findall(r"`([^`]+)`", contracts):
+            if not words.issuperset(re.findall(r"\w+", name)):
+                yield f"docs/PROVED.md: no contract {name}"
+
+
 def main():
-    found = [line for page in pages() for line in of_page(page)] + list(of_rules())
+    found = [line for page in pages() for line in of_page(page)] + [*of_rules(), *of_proved()]
     print("\n".join(found) or "the pages' links lead somewhere")
     return 1 if found else 0
 

@@ -205,7 +205,7 @@ def of_readme(words):
                 yield f"README.md: status {row['status']} has no `{text}`"
 
 
-def of_shells(words):
+def of_shells(words, room):
     """What the completions offer behind the program's name and behind `judge -`, where their shells are installed."""
     wanted = {"mscjudge ": {command["name"] for command in words["commands"]}, "mscjudge judge -": set(words["options"])}
     for line, offers in wanted.items():
@@ -214,13 +214,18 @@ def of_shells(words):
         by_fish = f"source share/mscjudge.fish; complete -C '{line}'"
         for shell, text in (("bash", by_bash), ("fish", by_fish)):
             if shutil.which(shell):
-                ran = subprocess.run([shell, "-c", text], stdout=subprocess.PIPE, stderr=subprocess.STDOUT, errors="replace")
+                ran = subprocess.run([shell, "-c", text], stdout=subprocess.PIPE, stderr=subprocess.DEVNULL, errors="replace", env=environment(room))
                 had = {row.split("\t")[0] for row in ran.stdout.splitlines()}
                 if had != offers:
                     yield f"{shell} offers {sorted(had)} behind `{line}`, and not {sorted(offers)}"
 
 
-def of_tools():
+def environment(room):
+    """What the tools see: nothing of the user's own settings."""
+    return {"PATH": os.environ.get("PATH", "/usr/bin:/bin"), "HOME": room, "MANWIDTH": "100", "LC_ALL": "C.UTF-8"}
+
+
+def of_tools(room):
     """What mandoc or man, and the shells, say of the files."""
     checks = [("mandoc", ["mandoc", "-T", "lint", "-W", "warning", "share/mscjudge.1"]),
               ("man", ["man", "--warnings=w", "-E", "UTF-8", "-l", "-Tutf8", "share/mscjudge.1"]),
@@ -230,7 +235,7 @@ def of_tools():
         if not shutil.which(tool):
             print(f"share/: NOT CHECKED by {tool}, which isn't installed here")
             continue
-        ran = subprocess.run(words, stdout=subprocess.PIPE, stderr=subprocess.PIPE, errors="replace", env={**os.environ, "MANWIDTH": "100", "LC_ALL": "C.UTF-8"})
+        ran = subprocess.run(words, stdout=subprocess.PIPE, stderr=subprocess.PIPE, errors="replace", env=environment(room))
         said = ran.stderr + (ran.stdout if tool == "mandoc" else "")
         if ran.returncode or said.strip():
             yield f"{' '.join(words)}: {said.strip() or ran.returncode}"
@@ -245,7 +250,9 @@ def main(given):
         return 0
     program = given[given.index("--program") + 1] if "--program" in given else PROGRAM
     found = [f"{path} isn't what {WORDS} gives: run tools/words.py" for path, make in FILES.items() if open(path).read() != make(words)]
-    found += [*of_code(words), *of_rows(words), *of_readme(words), *of_tools(), *of_shells(words)]
+    found += [*of_code(words), *of_rows(words), *of_readme(words)]
+    with tempfile.TemporaryDirectory(prefix="words-") as room:
+        found += [*of_tools(room), *of_shells(words, room)]
     if os.path.isfile(program):
         found += list(of_program(words, os.path.abspath(program)))
     else:

@@ -78,8 +78,8 @@ pub(crate) fn label(alloc: Global, number: u32) -> Result<Label, Fault> {
 }
 
 /// Adds a label that the tables lack.
-fn add(nets: &mut Nets, label: Label) -> Result<(), Fault>
-    requires { length nets.old.labels < labels }
+pub(crate) fn add(nets: &mut Nets, label: Label) -> Result<(), Fault>
+    requires { length nets.old.labels < 4294967295 }
     ensures tables { OnOk result (nets.new.tables ≡ nets.old.tables) }
     ensures labels { OnOk result (length nets.new.labels ≡ length nets.old.labels + 1) }
 {
@@ -105,7 +105,7 @@ pub(crate) fn tables(alloc: Global) -> Result<Nets, Fault>
 }
 
 /// An event at an instance.
-fn event(alloc: Global, number: u32, at: u32, label: u32) -> Result<Term, NoMemory>
+pub(crate) fn event(alloc: Global, number: u32, at: u32, label: u32) -> Result<Term, NoMemory>
     requires { at < 1024 }
     ensures { IfOk result (λ term. term ≡ EventTree (event number at label)) }
 {

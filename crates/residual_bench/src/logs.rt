@@ -2,7 +2,7 @@
 ghost use Rattle.std.specs.Prelude.{◌≡◌, ◌≤◌, ◌+◌, [], length, OnOk};
 ghost use Rattle.term_laws.specs.FullSoundness.{IsSoundNode};
 ghost use Rattle.residual_bench.specs.Charts.{labels};
-ghost use Rattle.trace_judge.specs.Sets.{IsServing};
+ghost use Rattle.trace_judge.specs.Sets.{IsServing, IsSoundFor};
 ghost use Rattle.trace_judge.specs.Tracks.{IfHeld};
 
 use chart_term::Term;
@@ -131,6 +131,22 @@ pub(crate) fn follow(alloc: Global, nets: &Nets, term: Term, log: &Log) -> Resul
     let mut draw = Draw { state: 7 };
     for index in 0..log.turn_count() {
         take_turn(&mut track, nets, log.turn(index, draw.is_first()))?;
+    }
+    come_to(alloc, nets, &track)
+}
+
+/// Lets a track of the term take events of all these labels.
+pub(crate) fn follow_all(
+    alloc: Global,
+    nets: &Nets,
+    term: Term,
+    labels: &LabelList,
+) -> Result<Judged, NoMemory>
+    requires { IsSoundFor nets.now term }
+{
+    let mut track = Track::<Residuals>::new(alloc, nets, term, BUDGET)?;
+    for index in 0..labels.len() {
+        track.take(nets, labels.at(index), 1)?;
     }
     come_to(alloc, nets, &track)
 }

@@ -5,28 +5,29 @@
 mod charts;
 mod fault;
 mod logs;
+mod statements;
 mod work;
 
 use crate::fault::Fault;
 use crate::logs::Judged;
-use crate::work::{Work, judge, work_of};
+use crate::work::{Asked, asked_of, judge};
 use std::env;
 use std::process::ExitCode;
 use std::rt::Env;
 
-/// The work that the program's words name.
-fn asked<R: Env + AllocGlobal>(rt: &R) -> Option<Work> {
+/// What the program's words ask for.
+fn asked<R: Env + AllocGlobal>(rt: &R) -> Option<Asked> {
     let mut words = env::args(rt).ok()?.skip(1);
     let kind = words.next()?;
     let count = words.next()?;
-    work_of(kind.as_str(), count.as_str())
+    asked_of(kind.as_str(), count.as_str())
 }
 
 fn main(rt: HostRuntime) -> ExitCode {
-    let Some(work) = asked(&rt) else {
+    let Some(asked) = asked(&rt) else {
         return ExitCode::from(2);
     };
-    let judged = match judge(rt.alloc(), work) {
+    let judged = match judge(rt.alloc(), asked) {
         Ok(judged) => judged,
         Err(Fault::NoMemory) => return ExitCode::from(9),
         Err(Fault::Chart) => return ExitCode::from(1),

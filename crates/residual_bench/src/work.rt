@@ -8,7 +8,8 @@ use crate::charts::{
     label, nested, requests, tables,
 };
 use crate::fault::Fault;
-use crate::logs::{Judged, Log, Order, follow};
+use crate::logs::{Judged, Log, Order, follow, follow_all};
+use crate::statements::{self, GROUP, MOST_STATEMENTS};
 use chart_term::Term;
 use msc_base::{LabelList, NoMemory};
 use std::alloc::Global;
@@ -42,6 +43,15 @@ pub(crate) enum Work {
     Entered(u32),
     /// The same, with an event beside the choices that leaves two terms, which differ behind them.
     Compared(u32),
+}
+
+/// What is asked for.
+#[derive(Clone, Copy, Debug, PartialEq, Eq)]
+pub(crate) enum Asked {
+    /// A work whose log is made of turns.
+    Turns(Work),
+    /// A plain chart of so many statements over sixty instances under one tie, in whole groups of sixty, and a log of it.
+    Statements(u32),
 }
 
 /// The labels of these numbers, four at most.
@@ -135,8 +145,20 @@ fn judge_log(alloc: Global, nets: &Nets, work: Work) -> Result<Judged, Fault>
     Ok(judged)
 }
 
-/// Does the work.
-pub(crate) fn judge(alloc: Global, work: Work) -> Result<Judged, Fault> {
+/// Judges the log of a chart of so many statements.
+#[tactic(auto, using(crate::proofs::Sound::table_rules))]
+fn judge_statements(alloc: Global, count: u32) -> Result<Judged, Fault>
+    requires { count ≤ 600000 }
+{
+    let nets = statements::tables(alloc, count)?;
+    let log = statements::log(alloc, count)?;
+    let term = statements::statements(alloc, count)?;
+    let judged = follow_all(alloc, &nets, term, &log)?;
+    Ok(judged)
+}
+
+/// Judges the logs of the work.
+fn judge_turns(alloc: Global, work: Work) -> Result<Judged, Fault> {
     let nets = tables(alloc)?;
     if let Work::Coregions(count) = work {
         for _ in 1..count {
@@ -146,9 +168,19 @@ pub(crate) fn judge(alloc: Global, work: Work) -> Result<Judged, Fault> {
     judge_log(alloc, &nets, work)
 }
 
+/// Does what is asked for.
+pub(crate) fn judge(alloc: Global, asked: Asked) -> Result<Judged, Fault> {
+    match asked {
+        Asked::Turns(work) => judge_turns(alloc, work),
+        Asked::Statements(count) => {
+            let count = count.min(MOST_STATEMENTS);
+            judge_statements(alloc, count - count % GROUP)
+        }
+    }
+}
+
 /// The work that two words name, as `requests 1000`.
-pub(crate) fn work_of(kind: &str, count: &str) -> Option<Work> {
-    let count = count.parse().ok()?;
+fn turns_of(kind: &str, count: u32) -> Option<Work> {
     match kind {
         "requests" => Some(Work::Requests(count)),
         "exchanges" => Some(Work::Exchanges(count)),
@@ -164,4 +196,14 @@ pub(crate) fn work_of(kind: &str, count: &str) -> Option<Work> {
         "compared" => Some(Work::Compared(count)),
         _ => None,
     }
+}
+
+/// What two words ask for, as `requests 1000` or `statements 66000`.
+pub(crate) fn asked_of(kind: &str, count: &str) -> Option<Asked> {
+    let count = count.parse().ok()?;
+    if kind == "statements" {
+        return Some(Asked::Statements(count));
+    }
+    let work = turns_of(kind, count)?;
+    Some(Asked::Turns(work))
 }

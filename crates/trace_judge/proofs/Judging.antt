@@ -17,8 +17,8 @@ use Rattle.trace_judge.specs.Tracks.{TrackValue}
 use Rattle.trace_judge.specs.Tracks as track
 use Rattle.trace_judge.specs.Verdicts.{IsVerdict, TellsRuns, IsLargest}
 use Rattle.trace_judge.specs.Judged.{logged, IsJudged, IsJudgeFault, IsLargestOf}
-use Rattle.trace_judge.specs.States.{JudgeValue, IsFaulty, IsBehind, IsGoing, Stands, Fed, TakesLog}
-use Rattle.trace_judge.specs.Taking.{TakesAll}
+use Rattle.trace_judge.specs.States.{JudgeValue, HasStopped, IsFaulty, IsBehind, IsGoing, Stands, Fed, TakesLog}
+use Rattle.trace_judge.specs.Taking.{IsFollowing, TakesAll}
 use Rattle.trace_judge.proofs.Takings.{log_is}
 use Rattle.trace_judge.specs.declared.fault.JudgeFault.{JudgeFault}
 use Rattle.trace_judge.specs.declared.fault.JudgeFault.TheVariants.{Log, NoMemory}
@@ -57,17 +57,23 @@ behind_lasts NoMemory form b more s h = tt
 -- the parts of a judge
 
 module _ {S : Type 0} (holds : S → SetValue) (v : NetsValue) (x : Tree) (form : LogForm) (budget : ℕ) where
-  pub fault_at : (b : List ℕ) (j : JudgeValue S) (f : JudgeFault) → j.fault ≡ Some f → Fed holds v x form budget b j → IsBehind f form b j.reader
+  pub fault_at : (b : List ℕ) (j : JudgeValue S) (f : JudgeFault) → j.fault ≡ Some f → Fed holds v x form budget b j → HasStopped holds f v x form budget b j
   fault_at b j f e h = subst (λ (o : Option JudgeFault). Stands holds o v x form budget b j) e h
 
   pub going_at : (b : List ℕ) (j : JudgeValue S) → j.fault ≡ None → Fed holds v x form budget b j → IsGoing holds v x form budget b j
   going_at b j e h = subst (λ (o : Option JudgeFault). Stands holds o v x form budget b j) e h
 
   pub fed_on : (b p : List ℕ) (j : JudgeValue S) (f : JudgeFault) → j.fault ≡ Some f → Fed holds v x form budget b j → Fed holds v x form budget (b ++ p) j
-  fed_on b p j f e h = subst (λ (o : Option JudgeFault). Stands holds o v x form budget (b ++ p) j) (sym e) (behind_on f form b p j.reader (fault_at b j f e h))
+  fed_on b p j f e h =
+      let s = fault_at b j f e h in
+      subst (λ (o : Option JudgeFault). Stands holds o v x form budget (b ++ p) j) (sym e) (record { nets_are = s.nets_are; follows = s.follows; behind = behind_on f form b p j.reader s.behind })
 
   pub takes_at : (b : List ℕ) (j : JudgeValue S) → j.fault ≡ None → Fed holds v x form budget b j → TakesAll holds j.nets x form budget true b j.reader j.track
   takes_at b j e h = let g = going_at b j e h in subst (λ (w : NetsValue). TakesAll holds w x form budget true b j.reader j.track) (sym g.nets_are) g.takes
+
+  -- a judge without a fault has followed its track
+  pub follows_at : (b : List ℕ) (j : JudgeValue S) → j.fault ≡ None → Fed holds v x form budget b j → IsFollowing holds j.nets x budget j.track
+  follows_at b j e h = let t = takes_at b j e h in record { events = logged t.events; taken = t.has.taken }
 
   pub takes_decided : (b : List ℕ) (s : LogState) (t : TrackValue S) → s.finished ≡ false → TakesAll holds v x form budget true b s t → IsFaultOf form true b None
   takes_decided b s t e h = fed_answer None false form b (length h.events) s h.has.faultless e h.has.fed
@@ -86,4 +92,4 @@ module _ {S : Type 0} (holds : S → SetValue) (v : NetsValue) (x : Tree) (form 
   judged_is b w t verdict f g h e = subst (λ (u : NetsValue). IsJudged u x form budget b verdict) e (record { log = h.log; verdict_is = f x budget (logged h.log.events) h.taken; runs = g x budget (logged h.log.events) h.taken })
 
   pub whole_fault : (b : List ℕ) (j : JudgeValue S) (f : JudgeFault) → j.fault ≡ Some f → Fed holds v x form budget b j → IsJudgeFault form false b f
-  whole_fault b j f e h = subst (λ (c : List ℕ). IsJudgeFault form false c f) (append-nil b) (behind_lasts f form b [] j.reader (fault_at b j f e h))
+  whole_fault b j f e h = subst (λ (c : List ℕ). IsJudgeFault form false c f) (append-nil b) (behind_lasts f form b [] j.reader (fault_at b j f e h).behind)

@@ -1,6 +1,6 @@
 -- Taking the events of a log from its reader.
 use Rattle.std.specs.Prelude.{ℕ, zero, suc, ◌+◌, ◌≡◌, ◌⊎◌, Bool, true, false, List, [], ◌∷◌, ◌++◌, length, Option, Some, None, slice_get, refl}
-use Rattle.std.proofs.Common.{ap, sym, ◌∙◌, subst, inl, inr, length-append}
+use Rattle.std.proofs.Common.{ap, sym, ◌∙◌, subst, inl, inr, length-append, Result, Ok, Err, OnOk, OnErr}
 use Rattle.term_tables.specs.NetValues.{NetsValue}
 use Rattle.chart_term.specs.Terms.{Tree}
 use Rattle.event_log.specs.Logs.{HoldsEvent}
@@ -18,7 +18,7 @@ use Rattle.trace_judge.specs.Tracks as track
 use Rattle.trace_judge.specs.Faults.{judge_fault}
 use Rattle.trace_judge.specs.Judged.{logged, IsJudgeFault}
 use Rattle.trace_judge.specs.States.{IsBehind, TakesLog}
-use Rattle.trace_judge.specs.Taking.{HoldsFirst, TakesSome, TakesAll}
+use Rattle.trace_judge.specs.Taking.{HoldsFirst, IsFollowing, TakesSome, TakesAll}
 
 -- the events of a log with one more at its end
 logged_more : (es : List LineEvent) (e : LineEvent) → logged (es ++ e ∷ []) ≡ logged es ++ record { label = e.label; line = e.line } ∷ []
@@ -99,6 +99,12 @@ module _ {S : Type 0} (holds : S → SetValue) (v : NetsValue) (x : Tree) (form 
   log_taken b s u t w decided h k =
       let log = decided (length h.events) h.has.fed in
       record { log = log; taken = subst (λ (es : List LineEvent). track.Fed holds v x budget (logged es) w) (sym (log_is form false b k.events log k.has.first k.all)) k.has.taken }
+
+-- a track goes on following, whether it took an event or not
+pub follows_on : {S T E : Type 0} (holds : S → SetValue) (v : NetsValue) (x : Tree) (budget : ℕ) (old new : TrackValue S) (at : LoggedEvent) (r : Result T E) → ((events : List LoggedEvent) → track.Fed holds v x budget events old → OnOk r (track.Fed holds v x budget (events ++ at ∷ []) new))
+    → ((events : List LoggedEvent) → track.Fed holds v x budget events old → OnErr r (track.Fed holds v x budget events new)) → IsFollowing holds v x budget old → IsFollowing holds v x budget new
+follows_on holds v x budget old new at (Ok t) takes stays h = record { events = h.events ++ at ∷ []; taken = takes h.events h.taken }
+follows_on holds v x budget old new at (Err e) takes stays h = record { events = h.events; taken = stays h.events h.taken }
 
 -- a fault of the reader
 

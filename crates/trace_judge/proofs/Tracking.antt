@@ -1,5 +1,5 @@
 -- The steps of a track.
-use Rattle.std.specs.Prelude.{ℕ, ◌+◌, ◌≡◌, List, [], ◌∷◌, ◌++◌, Option, Some, None, Result, IfOk, refl}
+use Rattle.std.specs.Prelude.{ℕ, ◌+◌, ◌≡◌, List, [], ◌∷◌, ◌++◌, Option, Some, None, Result, Ok, Err, OnErr, IfOk, refl}
 use Rattle.std.proofs.Common.{ap, sym, ◌∙◌, subst}
 use Rattle.std.proofs.lemmas.Result.{IfOk-weaker}
 use Rattle.msc_base.specs.declared.label.Label.{Label}
@@ -10,8 +10,8 @@ use Rattle.chart_term.specs.Terms.{Tree}
 use Rattle.trace_judge.specs.Advances.{FollowsOpen, IsOpenVerdict}
 use Rattle.trace_judge.specs.Logs.{LoggedEvent}
 use Rattle.trace_judge.specs.Sets.{SetValue}
-use Rattle.trace_judge.specs.Tracks.{TrackValue, Fed}
-use Rattle.trace_judge.specs.Verdicts.{IsVerdict, TellsRuns}
+use Rattle.trace_judge.specs.Tracks.{TrackValue, AreSame, Fed, IsGoing, IsSame, Stands}
+use Rattle.trace_judge.specs.Verdicts.{IsLargest, IsVerdict, TellsRuns}
 use Rattle.trace_judge.proofs.TrackFacts.{take_settled, take_going, verdict_settled, verdict_conforms, verdict_early, none_settled}
 use Rattle.trace_judge.proofs.VerdictLaws.{tells_runs}
 
@@ -46,3 +46,37 @@ module _ {S : Type 0} (holds : S → SetValue) (v : NetsValue) (x : Tree) (budge
 
   pub settled_tells : (t : TrackValue S) (verdict : Verdict) → t.ended ≡ Some verdict → Fed holds v x budget events t → TellsRuns v x events verdict
   settled_tells t verdict p f = tells_runs v x budget events verdict f.sound (settled_is t verdict p f)
+
+-- after want of memory a track stays as it was
+module _ {S : Type 0} (holds : S → SetValue) (v : NetsValue) (x : Tree) (budget : ℕ) (events : List LoggedEvent) where
+  stands_same : (a b : Option S) (p : Option Verdict) → AreSame holds a b → Stands holds v x budget events a p → Stands holds v x budget events b p
+  stands_same None None None s h = absurd h
+  stands_same None None (Some w) s h = h
+  stands_same None (Some t) p s h = absurd s
+  stands_same (Some u) None p s h = absurd s
+  stands_same (Some u) (Some t) None s h = subst (IsGoing v x budget events) (sym s) h
+  stands_same (Some u) (Some t) (Some w) s h = h
+
+  none_kept : (a b : Option S) → AreSame holds a b → a ≡ None → b ≡ None
+  none_kept None None s e = refl
+  none_kept None (Some t) s e = absurd s
+  none_kept (Some u) None s e = refl
+  none_kept (Some u) (Some t) s e = cc
+
+  none_was : (a b : Option S) → AreSame holds a b → b ≡ None → a ≡ None
+  none_was None b s e = refl
+  none_was (Some u) None s e = absurd s
+  none_was (Some u) (Some t) s e = cc
+
+  pub same_fed : (old new : TrackValue S) → IsSame holds old new → Fed holds v x budget events old → Fed holds v x budget events new
+  same_fed old new h f = record {
+    sound = f.sound;
+    count = h.events ∙ f.count;
+    stands = subst (Stands holds v x budget events new.set) (sym h.ended) (stands_same old.set new.set old.ended h.set f.stands);
+    without = record { to = λ e. f.without.to (none_was old.set new.set h.set e); from = λ l. none_kept old.set new.set h.set (f.without.from l) };
+    largest = subst (IsLargest v x budget events) (sym h.largest) f.largest;
+  }
+
+pub on_err : {T E P : Type 0} (r : Result T E) → P → OnErr r P
+on_err (Ok t) p = tt
+on_err (Err e) p = p

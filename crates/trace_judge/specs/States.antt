@@ -11,7 +11,7 @@ use Rattle.trace_judge.specs.Sets.{SetValue}
 use Rattle.trace_judge.specs.Tracks.{TrackValue, IfHeld}
 use Rattle.trace_judge.specs.Tracks as track
 use Rattle.trace_judge.specs.Judged.{logged}
-use Rattle.trace_judge.specs.Taking.{IsCounted, TakesAll}
+use Rattle.trace_judge.specs.Taking.{IsCounted, IsFollowing, TakesAll}
 use Rattle.trace_judge.specs.declared.fault.JudgeFault.{JudgeFault}
 use Rattle.trace_judge.specs.declared.fault.JudgeFault.TheVariants.{Log, NoMemory}
 
@@ -53,10 +53,16 @@ module _ {S : Type 0} (holds : S → SetValue) where
     pub goes_on : j.reader.finished ≡ false
     pub takes : TakesAll holds v x form budget true bytes j.reader j.track
 
-  -- a judge with this fault
+  -- a judge that met this fault: what it was made for stays
+  pub record HasStopped (fault : JudgeFault) (v : NetsValue) (x : Tree) (form : LogForm) (budget : ℕ) (bytes : List ℕ) (j : JudgeValue S) : Type 0 where
+    pub nets_are : j.nets ≡ v
+    pub follows : IsFollowing holds v x budget j.track
+    pub behind : IsBehind fault form bytes j.reader
+
+  -- a judge with this fault, or without one
   abbrev pub Stands : Option JudgeFault → NetsValue → Tree → LogForm → ℕ → List ℕ → JudgeValue S → Type 0
   Stands None v x form budget bytes j = IsGoing v x form budget bytes j
-  Stands (Some fault) v x form budget bytes j = IsBehind fault form bytes j.reader
+  Stands (Some fault) v x form budget bytes j = HasStopped fault v x form budget bytes j
 
   -- the judge was made for these tables, this term, this form of log and this budget, and has been fed these bytes
   abbrev pub Fed : NetsValue → Tree → LogForm → ℕ → List ℕ → JudgeValue S → Type 0

@@ -8,6 +8,7 @@ use Rattle.event_log.specs.States.{LogState}
 use Rattle.event_log.specs.States as reader
 use Rattle.event_log.specs.declared.event.LineEvent.{LineEvent}
 use Rattle.event_log.specs.declared.event.LogForm.{LogForm}
+use Rattle.trace_judge.specs.Logs.{LoggedEvent}
 use Rattle.trace_judge.specs.Sets.{SetValue}
 use Rattle.trace_judge.specs.Tracks.{TrackValue}
 use Rattle.trace_judge.specs.Tracks as track
@@ -24,6 +25,11 @@ pub record IsCounted (s : LogState) (n : ℕ) : Type 0 where
   pub fed : reader.Fed form bytes n s
 
 module _ {S : Type 0} (holds : S → SetValue) where
+  -- the track was made for these tables, this term and this budget, and has taken some events
+  pub record IsFollowing (v : NetsValue) (x : Tree) (budget : ℕ) (t : TrackValue S) : Type 0 where
+    pub events : List LoggedEvent
+    pub taken : track.Fed holds v x budget events t
+
   -- the reader, which has no fault, has been fed the bytes, and the track has taken the events that it handed out
   pub record HasTaken (v : NetsValue) (x : Tree) (form : LogForm) (budget : ℕ) (goes_on : Bool) (bytes : List ℕ) (events : List LineEvent) (s : LogState) (t : TrackValue S) : Type 0 where
     pub fed : reader.Fed form bytes (length events) s

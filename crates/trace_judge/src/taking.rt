@@ -7,7 +7,7 @@ ghost use Rattle.trace_judge.specs.Logs.{LoggedEvent};
 ghost use Rattle.trace_judge.specs.Tracks.{Fed, IfHeld};
 ghost use Rattle.trace_judge.specs.Judged.{IsJudgeFault};
 ghost use Rattle.trace_judge.specs.States.{IsBehind, TakesLog};
-ghost use Rattle.trace_judge.specs.Taking.{IsCounted, TakesSome, TakesAll};
+ghost use Rattle.trace_judge.specs.Taking.{IsCounted, IsFollowing, TakesSome, TakesAll};
 
 use crate::fault::fault_of;
 use crate::{JudgeFault, Store, Track};
@@ -27,6 +27,7 @@ fn take_event<S: Store + Drop>(
     ensures count { OnOk result (track.new.events ≡ track.old.events + 1) }
     ensures fed { (x : Tree) (budget : ℕ) (events : List LoggedEvent) → Fed S.holds nets.now x budget events track.old
         → OnOk result (Fed S.holds nets.now x budget (events ++ record { label = event.label; line = event.line } ∷ []) track.new) }
+    ensures follows { (x : Tree) (budget : ℕ) → IsFollowing S.holds nets.now x budget track.old → IsFollowing S.holds nets.now x budget track.new }
 {
     track.take(nets, &event.label, event.line)
 }
@@ -44,6 +45,7 @@ pub(crate) fn take_waiting<S: Store + Drop>(
     ensures counted { OnOk result (IsCounted reader.new track.new.events) }
     ensures all { (x : Tree) (form : LogForm) (budget : ℕ) (bytes : List ℕ) → TakesSome S.holds nets.now x form budget (not reader.old.finished) bytes reader.old track.old
         → OnOk result (TakesAll S.holds nets.now x form budget (not reader.old.finished) bytes reader.new track.new) }
+    ensures follows { (x : Tree) (budget : ℕ) → IsFollowing S.holds nets.now x budget track.old → IsFollowing S.holds nets.now x budget track.new }
 {
     while let Some(event) = reader.next_event() {
         take_event(nets, track, event)?;
@@ -68,6 +70,7 @@ pub(crate) fn feed_parts<S: Store + Drop>(
         → OnOk result (TakesAll S.holds nets.now x form budget true (bytes ++ piece.now) reader.new track.new) }
     ensures err { (x : Tree) (form : LogForm) (budget : ℕ) (bytes : List ℕ) → TakesAll S.holds nets.now x form budget true bytes reader.old track.old
         → IfErr result (λ fault. IsBehind fault form (bytes ++ piece.now) reader.new) }
+    ensures follows { (x : Tree) (budget : ℕ) → IsFollowing S.holds nets.now x budget track.old → IsFollowing S.holds nets.now x budget track.new }
 {
     match reader.feed(piece) {
         Ok(()) => {

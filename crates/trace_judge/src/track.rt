@@ -139,6 +139,8 @@ impl<S: Store + Drop> Track<S> {
         ensures count { OnOk result (self.new.events ≡ self.old.events + 1) }
         ensures fed { (x : Tree) (budget : ℕ) (events : List LoggedEvent) → Fed S.holds nets.now x budget events self.old
             → OnOk result (Fed S.holds nets.now x budget (events ++ record { label = label.now; line = line } ∷ []) self.new) }
+        ensures stays { (x : Tree) (budget : ℕ) (events : List LoggedEvent) → Fed S.holds nets.now x budget events self.old
+            → OnErr result (Fed S.holds nets.now x budget events self.new) }
         ensures err { OnErr result (IsSame S.holds self.old self.new) }
     {
         self.follow_open(nets, label, line)?;

@@ -25,7 +25,14 @@ loop-event-preserved g c =
           event_taken g.S.Store.holds c.args.nets.now x form budget (not c.args.reader.now.finished) b s u c.loop-event.track c.take_event.new.track c.in-Some.event (λ n f. c.in-Some.ensures.fed form b n f)
           (λ n f. subst (λ (t : Bool). Only (HoldsEvent form (not t) b n) c.in-Some.event) same (c.in-Some.ensures.event form b n f)) c.next_event.ensures.fault (λ events f. c.in_ok-take_event.ensures.fed x budget events f)
           (c.loop-event.invariant.has x form budget b h);
+      follows = λ x budget h. c.take_event.ensures.follows x budget (c.loop-event.invariant.follows x budget h);
     }
+
+pub returns-in_err-take_event-clause-follows : goal.returns-in_err-take_event-clause-follows
+returns-in_err-take_event-clause-follows g c = λ x budget h. c.take_event.ensures.follows x budget (c.loop-event.invariant.follows x budget h)
+
+pub returns-clause-follows : goal.returns-clause-follows
+returns-clause-follows g c = λ x budget h. c.loop-event.invariant.follows x budget h
 
 pub returns-clause-all : goal.returns-clause-all
 returns-clause-all g c =
