@@ -23,3 +23,5 @@ pub mod Searching
 pub mod SoundReady
 pub mod Nearest
 pub mod Visits
+pub mod TermMembers
+pub mod AllAfter

@@ -10,3 +10,5 @@ pub mod Successors
 pub mod Searches
 pub mod ReadyBySoundness
 pub mod Held
+pub mod AllAfter
+pub mod Gatherings

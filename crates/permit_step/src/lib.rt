@@ -4,6 +4,7 @@
 //! term may end where it has the empty pattern. The module `laws` says that this is exactly so.
 #![tactic(auto)]
 
+mod all_after;
 mod ascent;
 mod blocks;
 mod descent;
@@ -19,6 +20,7 @@ mod row_end;
 mod search;
 mod successors;
 
+pub use all_after::after_each;
 pub use finishes::may_end;
 pub use fresh::{fresh_loop, fresh_walk};
 pub use permission::permit;

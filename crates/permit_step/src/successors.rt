@@ -1,4 +1,4 @@
-//! What is left of a term after an event with a label. trace_judge steps sets by it.
+//! What is left of a term after an event with a label.
 
 ghost use Rattle.std.specs.Prelude.{◌≡◌, ◌<◌, ◌++◌, List, Some, IfOk, OnErr};
 ghost use Rattle.chart_term.specs.Terms.{Tree};

@@ -1,6 +1,6 @@
 -- Gathering what is left of terms.
-use Rattle.std.specs.Prelude.{ℕ, zero, suc, ◌+◌, ◌≡◌, ◌≤◌, ◌<◌, ◌⊎◌, ◌↔◌, ◌||◌, Bool, true, false, IsTrue, List, [], ◌∷◌, ◌++◌, Option, Some, None, slice_get, take, length, not, Result, IfOk, MatchOption, refl}
-use Rattle.std.proofs.Common.{add-one, ap, sym, ◌∙◌, subst, arith, inl, inr}
+use Rattle.std.specs.Prelude.{ℕ, zero, suc, ◌+◌, ◌≡◌, ◌≤◌, ◌<◌, ◌⊎◌, ◌↔◌, ◌||◌, Bool, true, false, IsTrue, List, [], ◌∷◌, ◌++◌, Option, Some, None, slice_get, take, length, not, MatchOption, refl}
+use Rattle.std.proofs.Common.{ap, sym, ◌∙◌, subst, arith, inl, inr}
 use Rattle.std.specs.BTreeMap.{is_at}
 use Rattle.std.specs.BTreeSet.{insert_key}
 use Rattle.std.specs.List.{AllByRecursion, list_any}
@@ -9,9 +9,8 @@ use Rattle.std.specs.Ordering.{match_ordering}
 use Rattle.std.specs.declared.cmp.Ordering.{Ordering}
 use Rattle.std.specs.declared.cmp.Ordering.TheVariants.{Less, Equal, Greater}
 use Rattle.std.proofs.lemmas.List.{take_all}
-use Rattle.std.proofs.lemmas.Result.{IfOk-weaker}
 use Rattle.msc_base.specs.declared.label.Label.{Label}
-use Rattle.term_tables.specs.NetValues.{NetsValue}
+use Rattle.term_tables.specs.NetValues.{NetsValue, label_number}
 use Rattle.chart_term.specs.Order.{tree_cmp}
 use Rattle.chart_term.specs.OrderLaws.{tree_equal}
 use Rattle.chart_term.specs.Properties.{Each}
@@ -21,9 +20,10 @@ use Rattle.term_laws.specs.Listing.{set_weight}
 use Rattle.msc_base.specs.Lists.{IsAmong}
 use Rattle.chart_term.specs.Tables.{terms_over}
 use Rattle.permit_step.specs.Ready.{IsReady, AreReadyTables}
-use Rattle.permit_step.specs.Successors.{IsSuccessor, AreFound, AppendsFound}
+use Rattle.permit_step.specs.AllAfter.{AreAllLeft}
 use Rattle.term_laws.specs.Taking.{MayEnd}
 use Rattle.permit_step.proofs.SoundReady.{ready_by_soundness}
+use Rattle.permit_step.proofs.TermMembers.{among_some, among_take, at_among, take_among}
 use Rattle.trace_judge.specs.Gathers.{IsOver, JoinsAll}
 use Rattle.trace_judge.specs.Logs.{AreResiduals}
 use Rattle.trace_judge.specs.Sets.{SetValue, IsSoundFor, IsServing, IsLeftOf, IsNextSet, PassBudget, AreRising, HasEnding}
@@ -96,6 +96,14 @@ tables_ready v [] i x e h = cc
 tables_ready v (y ∷ ys) zero x e h = ready_by_soundness.tables _ v.tables y h.0
 tables_ready v (y ∷ ys) (suc i) x e h = tables_ready v ys i x e h.1
 
+pub some_ready : (v : NetsValue) (xs : List Tree) → (xs ≡ [] → ⊥) → Each (IsSoundFor v) xs → AreReadyTables v.tables
+some_ready v [] none h = absurd (none refl)
+some_ready v (y ∷ ys) none h = ready_by_soundness.tables _ v.tables y h.0
+
+pub all_ready : (v : NetsValue) (xs : List Tree) → Each (IsSoundFor v) xs → Each (IsReady v.tables) xs
+all_ready v [] h = tt
+all_ready v (y ∷ ys) h = (ready_by_soundness.term _ v.tables y h.0, all_ready v ys h.1)
+
 pub term_sound : (v : NetsValue) (xs : List Tree) (i : ℕ) (x : Tree) → slice_get xs i ≡ Some x → Each (IsSoundFor v) xs → IsSoundFor v x
 term_sound v [] i x e h = cc
 term_sound v (y ∷ ys) zero x e h = let q : y ≡ x = cc in subst (IsSoundFor v) q h.0
@@ -103,44 +111,6 @@ term_sound v (y ∷ ys) (suc i) x e h = term_sound v ys i x e h.1
 
 pub term_ready : (v : NetsValue) (xs : List Tree) (i : ℕ) (x : Tree) → slice_get xs i ≡ Some x → Each (IsSoundFor v) xs → IsReady v.tables x
 term_ready v xs i x e h = ready_by_soundness.term _ v.tables x (term_sound v xs i x e h)
-
-pub at_among : (xs : List Tree) (i : ℕ) (x : Tree) → slice_get xs i ≡ Some x → IsAmong xs x
-at_among [] i x e = cc
-at_among (y ∷ ys) zero x e = inl cc
-at_among (y ∷ ys) (suc i) x e = inr (at_among ys i x e)
-
--- one more of the prefix of a list
-
-suc_among : (xs : List Tree) (i : ℕ) (x y : Tree) → slice_get xs i ≡ Some x → IsAmong (take (suc i) xs) y → (y ≡ x) ⊎ IsAmong (take i xs) y
-suc_among [] i x y e h = cc
-suc_among (z ∷ zs) zero x y e (inl q) = let p : z ≡ x = cc in inl (q ∙ p)
-suc_among (z ∷ zs) zero x y e (inr h) = absurd h
-suc_among (z ∷ zs) (suc i) x y e (inl q) = inr (inl q)
-suc_among (z ∷ zs) (suc i) x y e (inr h) = elim (suc_among zs i x y e h) [ inl q ↦ inl q | inr j ↦ inr (inr j) ]
-
-among_suc : (xs : List Tree) (i : ℕ) (x y : Tree) → slice_get xs i ≡ Some x → (y ≡ x) ⊎ IsAmong (take i xs) y → IsAmong (take (suc i) xs) y
-among_suc [] i x y e h = cc
-among_suc (z ∷ zs) zero x y e (inl q) = let p : z ≡ x = cc in inl (q ∙ sym p)
-among_suc (z ∷ zs) zero x y e (inr h) = absurd h
-among_suc (z ∷ zs) (suc i) x y e (inl q) = inr (among_suc zs i x y e (inl q))
-among_suc (z ∷ zs) (suc i) x y e (inr (inl q)) = inl q
-among_suc (z ∷ zs) (suc i) x y e (inr (inr h)) = inr (among_suc zs i x y e (inr h))
-
-pub take_among : (xs : List Tree) (i : ℕ) (x y : Tree) → slice_get xs i ≡ Some x → IsAmong (take (i + 1) xs) y → (y ≡ x) ⊎ IsAmong (take i xs) y
-take_among xs i x y e h = suc_among xs i x y e (subst (λ (n : ℕ). IsAmong (take n xs) y) (add-one i) h)
-
-pub among_take : (xs : List Tree) (i : ℕ) (x y : Tree) → slice_get xs i ≡ Some x → (y ≡ x) ⊎ IsAmong (take i xs) y → IsAmong (take (i + 1) xs) y
-among_take xs i x y e h = subst (λ (n : ℕ). IsAmong (take n xs) y) (sym (add-one i)) (among_suc xs i x y e h)
-
-pub among_some : (xs : List Tree) (i : ℕ) (y : Tree) → IsAmong (take i xs) y → IsAmong xs y
-among_some [] i y h = none i h
-  where
-    none : (i : ℕ) → IsAmong (take i []) y → ⊥
-    none zero h = h
-    none (suc i) h = h
-among_some (z ∷ zs) zero y h = absurd h
-among_some (z ∷ zs) (suc i) y (inl q) = inl q
-among_some (z ∷ zs) (suc i) y (inr h) = inr (among_some zs i y h)
 
 pub start_ends : (v : NetsValue) (xs : List Tree) → HasEnding v (take 0 xs) → ⊥
 start_ends v xs h = h.held
@@ -198,77 +168,16 @@ joins_end xs i old new budget l j = subst (λ (ys : List Tree). JoinsAll (λ y. 
 pub light_at : (xs : List Tree) (i : ℕ) (x : Tree) (budget : ℕ) → slice_get xs i ≡ Some x → Each (λ y. weight y ≤ budget) xs → weight x ≤ budget
 light_at xs i x budget e h = each_at (λ y. weight y ≤ budget) xs x h (at_among xs i x e)
 
--- what was found after an event
+-- what is left of the terms weighs no more than the budget, and so does each of it
+pub left_light : (v : NetsValue) (a : Label) (terms : List Tree) (budget : ℕ) (found : List Tree) → AreAllLeft v a terms budget found → Each (λ y. weight y ≤ budget) found
+left_light v a terms budget found h = each_from (λ y. weight y ≤ budget) found (λ y i. let m = member_weight y found i in omega (arith, m, h.within))
 
-module _ (v : NetsValue) (a : Label) (x : Tree) (budget : ℕ) (found : List Tree) (all : Bool) (h : AreFound v a x budget found all) where
-  pub found_light : all ≡ true → Each (λ y. weight y ≤ budget) found
-  found_light t = let l = h.within t in each_from (λ y. weight y ≤ budget) found (λ y i. let m = member_weight y found i in omega arith)
-
-  pub found_over : (old : List Tree) → all ≡ false → IsOver (λ y. IsAmong old y ⊎ IsSuccessor v a x y) budget
-  found_over old t = record { some = found; different = h.different; each = λ y i. inr (each_at (IsSuccessor v a x) found y h.each i); above = (h.beyond t).above }
-
-  pub found_joins : (old new : List Tree) → all ≡ true → JoinsAll (λ y. IsAmong found y) budget old new → JoinsAll (IsSuccessor v a x) budget old new
-  found_joins old new t j = record {
-    exact = λ y. record {
-      to = λ i. elim ((j.exact y).to i) [ inl k ↦ inl k | inr k ↦ inr (each_at (IsSuccessor v a x) found y h.each k) ];
-      from = λ i. elim i [ inl k ↦ (j.exact y).from (inl k) | inr s ↦ (j.exact y).from (inr (h.whole t y s)) ];
-    };
-    within = j.within;
-  }
-
-  pub found_passes : (old : List Tree) → IsOver (λ y. IsAmong old y ⊎ IsAmong found y) budget → IsOver (λ y. IsAmong old y ⊎ IsSuccessor v a x y) budget
-  found_passes old o = record { some = o.some; different = o.different; each = λ y i. elim (o.each y i) [ inl k ↦ inl k | inr k ↦ inr (each_at (IsSuccessor v a x) found y h.each k) ]; above = o.above }
-
--- what is left of more and more terms
-
-module _ (v : NetsValue) (a : Label) (terms : List Tree) (budget : ℕ) where
-  pub left_none : (new : List Tree) → new ≡ [] → JoinsAll (IsLeftOf v a (take 0 terms)) budget [] new
-  left_none new e = subst (JoinsAll (IsLeftOf v a (take 0 terms)) budget []) (sym e) (record { exact = λ y. record { to = λ h. absurd h; from = λ h. elim h [ inl b ↦ b | inr l ↦ l.held ] }; within = omega arith })
-
-  module _ (i : ℕ) (x : Tree) (e : slice_get terms i ≡ Some x) (mid : List Tree) (j : JoinsAll (IsLeftOf v a (take i terms)) budget [] mid) where
-    old_left : (y : Tree) → IsAmong mid y → IsLeftOf v a (take i terms) y
-    old_left y h = elim ((j.exact y).to h) [ inl b ↦ absurd b | inr l ↦ l ]
-
-    pub left_more : (new : List Tree) → JoinsAll (IsSuccessor v a x) budget mid new → JoinsAll (IsLeftOf v a (take (i + 1) terms)) budget [] new
-    left_more new k = record { exact = λ y. record { to = λ h. inr (forth y ((k.exact y).to h)); from = λ h. elim h [ inl b ↦ absurd b | inr l ↦ back y l ] }; within = k.within }
-      where
-        forth : (y : Tree) → IsAmong mid y ⊎ IsSuccessor v a x y → IsLeftOf v a (take (i + 1) terms) y
-        forth y (inl h) = let l = old_left y h in record { term = l.term; held = among_take terms i x l.term e (inr l.held); left = l.left }
-        forth y (inr s) = record { term = x; held = among_take terms i x x e (inl refl); left = s }
-
-        back : (y : Tree) → IsLeftOf v a (take (i + 1) terms) y → IsAmong new y
-        back y l = elim (take_among terms i x l.term e l.held) [
-          | inl q ↦ (k.exact y).from (inr (subst (λ (t : Tree). IsSuccessor v a t y) q l.left))
-          | inr h ↦ (k.exact y).from (inl ((j.exact y).from (inr (record { term = l.term; held = h; left = l.left }))))
-        ]
-
-    pub left_over : IsOver (λ y. IsAmong mid y ⊎ IsSuccessor v a x y) budget → IsOver (IsLeftOf v a terms) budget
-    left_over o = record { some = o.some; different = o.different; each = λ y h. from y (o.each y h); above = o.above }
-      where
-        from : (y : Tree) → IsAmong mid y ⊎ IsSuccessor v a x y → IsLeftOf v a terms y
-        from y (inl h) = let l = old_left y h in record { term = l.term; held = among_some terms i l.term l.held; left = l.left }
-        from y (inr s) = record { term = x; held = at_among terms i x e; left = s }
-
-  pub left_end : (i : ℕ) (new : List Tree) → length terms ≤ i → JoinsAll (IsLeftOf v a (take i terms)) budget [] new → JoinsAll (IsLeftOf v a terms) budget [] new
-  left_end i new l j = subst (λ (ys : List Tree). JoinsAll (IsLeftOf v a ys) budget [] new) (take_all i terms l) j
-
--- a call that appends what it found to no terms
-
-module _ (v : NetsValue) (a : Label) (x : Tree) (budget : ℕ) (old out : List Tree) (all : Bool) (p : old ≡ []) (h : AppendsFound v a x budget old out all) where
-  out_is : out ≡ h.found
-  out_is = h.are ∙ ap (λ (l : List Tree). l ++ h.found) p
-
-  pub appended_light : all ≡ true → Each (λ y. weight y ≤ budget) out
-  appended_light t = subst (Each (λ y. weight y ≤ budget)) (sym out_is) (found_light v a x budget h.found all h.they_are t)
-
-  pub appended_over : (held : List Tree) → all ≡ false → IsOver (λ y. IsAmong held y ⊎ IsSuccessor v a x y) budget
-  appended_over held t = found_over v a x budget h.found all h.they_are held t
-
-  pub appended_all : {E : Type 0} (held new : List Tree) (r : Result Bool E) → all ≡ true → IfOk r (λ fits. fits ≡ true → JoinsAll (λ y. IsAmong out y) budget held new) → IfOk r (λ fits. fits ≡ true → JoinsAll (IsSuccessor v a x) budget held new)
-  appended_all held new r t f = IfOk-weaker r _ _ (λ b g u. found_joins v a x budget h.found all h.they_are held new t (subst (λ (l : List Tree). JoinsAll (λ y. IsAmong l y) budget held new) out_is (g u))) f
-
-  pub appended_passes : {E : Type 0} (held : List Tree) (r : Result Bool E) → IfOk r (λ fits. fits ≡ false → IsOver (λ y. IsAmong held y ⊎ IsAmong out y) budget) → IfOk r (λ fits. fits ≡ false → IsOver (λ y. IsAmong held y ⊎ IsSuccessor v a x y) budget)
-  appended_passes held r f = IfOk-weaker r _ _ (λ b g u. found_passes v a x budget h.found all h.they_are held (subst (λ (l : List Tree). IsOver (λ y. IsAmong held y ⊎ IsAmong l y) budget) out_is (g u))) f
+-- nothing is left after an event with a label that the tables lack
+pub none_left : (v : NetsValue) (a : Label) (terms : List Tree) (budget : ℕ) (new : List Tree) → new ≡ [] → label_number v.labels a ≡ None → JoinsAll (IsLeftOf v a terms) budget [] new
+none_left v a terms budget new e q = subst (JoinsAll (IsLeftOf v a terms) budget []) (sym e) (record { exact = λ y. record { to = λ h. absurd h; from = λ h. elim h [ inl b ↦ b | inr l ↦ absurd (some_none l.left.event.label (sym l.left.labelled ∙ q)) ] }; within = omega arith })
+  where
+    some_none : (n : ℕ) → Some n ≡ None → ⊥
+    some_none n e = cc
 
 -- a step
 

@@ -13,7 +13,7 @@ use Rattle.term_laws.specs.FullSoundness.{IsFullySound}
 use Rattle.term_laws.specs.Listing.{set_weight}
 use Rattle.msc_base.specs.Lists.{IsAmong}
 use Rattle.term_laws.specs.Normality.{AreDifferent}
-use Rattle.permit_step.specs.Successors.{IsSuccessor}
+pub use Rattle.permit_step.specs.AllAfter.{IsLeftOf}
 use Rattle.term_laws.specs.Taking.{MayEnd}
 
 -- a set: the terms held, their budget, and whether the budget was passed
@@ -37,12 +37,6 @@ pub record IsServing (v : NetsValue) (s : SetValue) : Type 0 where
   pub rising : AreRising s.terms
   pub within : set_weight s.terms ≤ s.budget
   pub most : s.budget ≤ BUDGET_MOST
-
--- y is left of one of the terms after an event with the label
-pub record IsLeftOf (v : NetsValue) (label : Label) (terms : List Tree) (y : Tree) : Type 0 where
-  pub term : Tree
-  pub held : IsAmong terms term
-  pub left : IsSuccessor v label term y
 
 -- the list has exactly what is left of the terms after an event with the label, each once
 pub record AreSuccessors (v : NetsValue) (label : Label) (terms next : List Tree) : Type 0 where

@@ -1,12 +1,13 @@
 //! The set of residual terms as a sorted list, within a budget: the one store that there is.
 
-ghost use Rattle.std.specs.Prelude.{◌≡◌, ◌≤◌, ◌<◌, ◌⊎◌, ◌↔◌, [], ◌∷◌, ◌++◌, ℕ, IfOk, OnOk, OnErr, IsTrue, true, false, MatchOption};
+ghost use Rattle.std.specs.Prelude.{◌≡◌, ◌≤◌, ◌<◌, ◌⊎◌, ◌↔◌, [], ◌∷◌, ◌++◌, ℕ, IfOk, OnOk, OnErr, IsTrue, true, false, MatchOption, Some};
 ghost use Rattle.msc_base.specs.declared.limits.TheConstants.Limits.{BUDGET_MOST};
 ghost use Rattle.chart_term.specs.Properties.{Each};
 ghost use Rattle.chart_term.specs.Terms.{weight};
 ghost use Rattle.term_laws.specs.Listing.{set_weight};
 ghost use Rattle.msc_base.specs.Lists.{IsAmong};
-ghost use Rattle.permit_step.specs.Successors.{IsSuccessor};
+ghost use Rattle.msc_base.specs.declared.label.Label.{Label as LabelValue};
+ghost use Rattle.term_tables.specs.NetValues.{label_number};
 ghost use Rattle.trace_judge.specs.Sets.{SetValue, IsSoundFor, IsServing, IsLeftOf, PassBudget, HasEnding, AreRising};
 ghost use Rattle.trace_judge.specs.Gathers.{IsOver, JoinsAll};
 
@@ -14,7 +15,7 @@ use crate::gathered::Gathered;
 use crate::{StepFault, Store};
 use chart_term::{Term, TermList};
 use msc_base::{Label, NoMemory};
-use permit_step::{after, may_end};
+use permit_step::{after_each, may_end};
 use std::alloc::Global;
 use std::marker::Model;
 use term_tables::Nets;
@@ -70,55 +71,39 @@ fn add_found(
     Ok(true)
 }
 
-/// Adds what is left of the term after an event with the label, as long as all together is within the budget. It says whether it is.
-fn add_successors(
-    gathered: &mut Gathered,
-    alloc: Global,
-    nets: &Nets,
-    term: &Term,
-    label: &Label,
-    budget: u64,
-) -> Result<bool, NoMemory>
-    requires sound { IsSoundFor nets.now term.now }
-    requires most { budget ≤ BUDGET_MOST }
-    requires room { set_weight gathered.old ≤ budget }
-    ensures all { IfOk result (λ fits. fits ≡ true → JoinsAll (IsSuccessor nets.now label.now term.now) budget gathered.old gathered.new) }
-    ensures over { IfOk result (λ fits. fits ≡ false → IsOver (λ y. IsAmong gathered.old y ⊎ IsSuccessor nets.now label.now term.now y) budget) }
-{
-    let mut found = TermList::new(alloc);
-    if !after(alloc, nets, term, label, budget, &mut found)? {
-        return Ok(false);
-    }
-    add_found(gathered, alloc, &found, budget)
-}
-
-/// All that is left of the terms after an event with the label, unless it is above the budget.
-fn gather(
-    alloc: Global,
-    nets: &Nets,
-    terms: &TermList,
-    label: &Label,
-    budget: u64,
-) -> Result<Option<Gathered>, NoMemory>
-    requires sound { Each (IsSoundFor nets.now) terms.now }
-    requires most { budget ≤ BUDGET_MOST }
-    ensures { IfOk result (λ found. MatchOption found (IsOver (IsLeftOf nets.now label.now terms.now) budget)
-        (λ all. JoinsAll (IsLeftOf nets.now label.now terms.now) budget [] all)) }
-{
-    let mut gathered = Gathered::new(alloc);
-    for index in 0..terms.len() {
-        if !add_successors(&mut gathered, alloc, nets, terms.at(index), label, budget)? {
-            return Ok(None);
-        }
-    }
-    Ok(Some(gathered))
-}
-
 /// Whether there is no term.
 fn is_none(terms: &TermList) -> bool
     ensures { IsTrue result ↔ (terms.now ≡ []) }
 {
     terms.len() == 0
+}
+
+/// All that is left of the terms after an event with the label of this number, unless it is above the budget.
+fn gather(
+    alloc: Global,
+    nets: &Nets,
+    terms: &TermList,
+    number: u32,
+    budget: u64,
+) -> Result<Option<Gathered>, NoMemory>
+    requires known { (label : LabelValue) × (label_number nets.now.labels label ≡ Some number) }
+    requires sound { Each (IsSoundFor nets.now) terms.now }
+    requires most { budget ≤ BUDGET_MOST }
+    ensures { IfOk result (λ found. (label : LabelValue) → label_number nets.now.labels label ≡ Some number
+        → MatchOption found (IsOver (IsLeftOf nets.now label terms.now) budget)
+        (λ all. JoinsAll (IsLeftOf nets.now label terms.now) budget [] all)) }
+{
+    let mut gathered = Gathered::new(alloc);
+    if is_none(terms) {
+        return Ok(Some(gathered));
+    }
+    let Some(found) = after_each(alloc, nets, terms, number, budget)? else {
+        return Ok(None);
+    };
+    if !add_found(&mut gathered, alloc, &found, budget)? {
+        return Ok(None);
+    }
+    Ok(Some(gathered))
 }
 
 /// Whether one of the terms may end.
@@ -162,7 +147,10 @@ impl Residuals {
         ensures { IfOk result (λ found. MatchOption found (PassBudget nets.now label.now self.now.terms self.now.budget)
             (λ all. JoinsAll (IsLeftOf nets.now label.now self.now.terms) self.now.budget [] all)) }
     {
-        gather(self.alloc, nets, &self.terms, label, self.budget)
+        match nets.label(label) {
+            Some(number) => gather(self.alloc, nets, &self.terms, number, self.budget),
+            None => Ok(Some(Gathered::new(self.alloc))),
+        }
     }
 }
 

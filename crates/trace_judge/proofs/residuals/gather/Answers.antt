@@ -1,13 +1,16 @@
-use Rattle.std.proofs.Common.{◌≡◌, true, false, rules}
-use Rattle.trace_judge.proofs.Gathering.{left_more, left_over}
+use Rattle.std.proofs.Common.{◌∙◌, subst, sym, MatchOption}
+use Rattle.std.proofs.lemmas.Bool.{true≢false}
+use Rattle.permit_step.specs.AllAfter.{AreAllLeft, AreTooMany}
+use Rattle.trace_judge.proofs.Gathering.{all_ready, left_light, some_ready}
 use Rattle.trace_judge.proofs.residuals.gather.Goals as goal
 
-pub returns-then-not-branch : goal.returns-then-not-branch
-returns-then-not-branch c =
-    let t : c.in_ok-add_successors.field-0 ≡ false = search rules in
-    left_over c.args.nets.now c.args.label.now c.args.terms.now c.args.budget c.loop-index.index c.at.result.now c.at.ensures c.loop-index.gathered c.loop-index.invariant (c.in_ok-add_successors.ensures.over t)
+pub after_each-requires-clause-tables : goal.after_each-requires-clause-tables
+after_each-requires-clause-tables c = some_ready c.args.nets.now c.args.terms.now (λ e. true≢false (sym (c.is_none.ensures.1 e) ∙ c.if-is_none.false)) c.requires.sound
 
-pub loop-index-preserved : goal.loop-index-preserved
-loop-index-preserved c =
-    let t : c.in_ok-add_successors.field-0 ≡ true = search rules in
-    left_more c.args.nets.now c.args.label.now c.args.terms.now c.args.budget c.loop-index.index c.at.result.now c.at.ensures c.loop-index.gathered c.loop-index.invariant c.add_successors.new.gathered (c.in_ok-add_successors.ensures.all t)
+pub after_each-requires-clause-terms : goal.after_each-requires-clause-terms
+after_each-requires-clause-terms c = all_ready c.args.nets.now c.args.terms.now c.requires.sound
+
+pub add_found-requires-clause-light : goal.add_found-requires-clause-light
+add_found-requires-clause-light c =
+    let (a, q) = c.requires.known in
+    left_light c.args.nets.now a c.args.terms.now c.args.budget c.in-Some.found (subst (λ o. MatchOption o (AreTooMany c.args.nets.now a c.args.terms.now c.args.budget) (AreAllLeft c.args.nets.now a c.args.terms.now c.args.budget)) c.in-Some.is (c.in_ok-found.ensures a q))
