@@ -1,7 +1,6 @@
 -- Lists compared item by item.
-use Rattle.std.proofs.Common.{◌≡◌, ℕ, ◌+◌, ◌<◌, ◌≤◌, ◌⊎◌, inl, inr, suc, zero, List, [], ◌∷◌, refl, ap, ap₂, sym, ◌∙◌, arith, length, get_or, drop, add-one, Bool, true, false, not, nat_eq, IsTrue, ◌↔◌}
+use Rattle.std.proofs.Common.{◌≡◌, ℕ, ◌+◌, ◌*◌, ◌<◌, ◌≤◌, ◌⊎◌, inl, inr, suc, zero, List, [], ◌∷◌, refl, ap, ap₂, sym, ◌∙◌, arith, length, get_or, slice_get, Some, drop, add-one, Bool, true, false, not, nat_eq, IsTrue, ◌↔◌}
 use Rattle.std.proofs.lemmas.Bool.{lt-ltb, le-ltb, eq-eqb, ne_eqb, cases_order}
-use Rattle.std.proofs.lemmas.List.{get_or-map}
 use Rattle.std.specs.Ordering.{nat_cmp, ordering_then, ordering_index}
 use Rattle.std.specs.declared.cmp.Ordering.{Ordering}
 use Rattle.std.specs.declared.cmp.Ordering.TheVariants.{Less, Equal, Greater}
@@ -9,8 +8,13 @@ use Rattle.bit_sets.specs.Blocks.{set_cmp}
 use Rattle.msc_base.specs.declared.label.Pair.{Pair}
 use Rattle.chart_term.specs.Order.{pair_cmp, pairs_cmp, part_cmp, tree_cmp, trees_cmp, row_cmp}
 use Rattle.chart_term.specs.OrderLaws.{tree_equal, tree_itself}
-use Rattle.chart_term.specs.Rows.{part_of, parts_of}
+use Rattle.chart_term.specs.NormalForms.{begun}
+use Rattle.chart_term.specs.PartLists.{AreTurns}
+use Rattle.chart_term.specs.Rows.{part_of}
+use Rattle.chart_term.specs.Sizes.{part_nodes, parts_nodes}
+use Rattle.chart_term.specs.declared.term.Node.TheDeep.{deep-RowPart}
 use Rattle.chart_term.specs.declared.term.RowPart.{RowPart}
+use Rattle.chart_term.specs.declared.term.RowPart.TheVariants as part
 use Rattle.chart_term.specs.Terms.{Tree, trees, Part, Gap, Turn, row_of}
 use Rattle.chart_term.specs.Views.{pair_of, pairs_of}
 
@@ -23,12 +27,6 @@ list_cmp c (x ∷ xs) (y ∷ ys) = ordering_then (c x y) (list_cmp c xs ys)
 
 abbrev pub held_cmp : Pair → Pair → Ordering
 held_cmp p r = pair_cmp (pair_of p) (pair_of r)
-
-pub trees_by_list : (xs ys : List Tree) → list_cmp tree_cmp xs ys ≡ trees_cmp (trees xs) (trees ys)
-trees_by_list [] [] = refl
-trees_by_list [] (y ∷ ys) = refl
-trees_by_list (x ∷ xs) [] = refl
-trees_by_list (x ∷ xs) (y ∷ ys) = ap (ordering_then (tree_cmp x y)) (trees_by_list xs ys)
 
 pub row_by_list : (ps qs : List Part) → list_cmp part_cmp ps qs ≡ row_cmp (row_of ps) (row_of qs)
 row_by_list [] [] = refl
@@ -109,31 +107,44 @@ list_cmp-goes_on c xs ys i x y o lt less e f is so h =
     so ∙ list_cmp-next c xs ys i x y lt less e f ∙ ap (λ p. ordering_then p (list_cmp c (drop (i + 1) xs) (drop (i + 1) ys))) (sym is) ∙ goes_on o (list_cmp c (drop (i + 1) xs) (drop (i + 1) ys)) h
 
 -- the part at a place of a row
-pub part_at : (xs : List RowPart) (i : ℕ) (x : RowPart) → i < length xs → x ≡ get_or xs i x → part_of x ≡ get_or (parts_of xs) i (part_of x)
-part_at xs i x lt e = ap part_of e ∙ sym (get_or-map part_of xs i x (part_of x) lt)
+got_is : (ps : List Part) (i : ℕ) (p : Part) → slice_get ps i ≡ Some p → p ≡ get_or ps i p
+got_is [] i p e = cc
+got_is (q ∷ ps) zero p e = let same : q ≡ p = cc in sym same
+got_is (q ∷ ps) (suc i) p e = got_is ps i p e
 
-parts_long : (xs : List RowPart) → length (parts_of xs) ≡ length xs
-parts_long [] = refl
-parts_long (x ∷ xs) = ap suc (parts_long xs)
+pub row_cmp-decided : (ps qs : List Part) (i : ℕ) (x y : Part) (o : Ordering) → i < length ps → i < length qs → slice_get ps i ≡ Some x → slice_get qs i ≡ Some y → o ≡ part_cmp x y → list_cmp part_cmp ps qs ≡ list_cmp part_cmp (drop i ps) (drop i qs) → not (nat_eq (ordering_index o) 1) ≡ true → o ≡ row_cmp (row_of ps) (row_of qs)
+row_cmp-decided ps qs i x y o lt less e f is so h = list_cmp-decided part_cmp ps qs i x y o lt less (got_is ps i x e) (got_is qs i y f) is so h ∙ row_by_list ps qs
 
-pub row_cmp-decided : (xs ys : List RowPart) (i : ℕ) (x y : RowPart) (o : Ordering) → i < length xs → i < length ys → x ≡ get_or xs i x → y ≡ get_or ys i y → o ≡ part_cmp (part_of x) (part_of y) → list_cmp part_cmp (parts_of xs) (parts_of ys) ≡ list_cmp part_cmp (drop i (parts_of xs)) (drop i (parts_of ys)) → not (nat_eq (ordering_index o) 1) ≡ true → o ≡ list_cmp part_cmp (parts_of xs) (parts_of ys)
-row_cmp-decided xs ys i x y o lt less e f is so h = list_cmp-decided part_cmp (parts_of xs) (parts_of ys) i (part_of x) (part_of y) o (omega (arith, parts_long xs)) (omega (arith, parts_long ys)) (part_at xs i x lt e) (part_at ys i y less f) is so h
+pub row_cmp-goes_on : (ps qs : List Part) (i : ℕ) (x y : Part) (o : Ordering) → i < length ps → i < length qs → slice_get ps i ≡ Some x → slice_get qs i ≡ Some y → o ≡ part_cmp x y → list_cmp part_cmp ps qs ≡ list_cmp part_cmp (drop i ps) (drop i qs) → not (nat_eq (ordering_index o) 1) ≡ false → list_cmp part_cmp ps qs ≡ list_cmp part_cmp (drop (i + 1) ps) (drop (i + 1) qs)
+row_cmp-goes_on ps qs i x y o lt less e f is so h = list_cmp-goes_on part_cmp ps qs i x y o lt less (got_is ps i x e) (got_is qs i y f) is so h
 
-pub row_cmp-goes_on : (xs ys : List RowPart) (i : ℕ) (x y : RowPart) (o : Ordering) → i < length xs → i < length ys → x ≡ get_or xs i x → y ≡ get_or ys i y → o ≡ part_cmp (part_of x) (part_of y) → list_cmp part_cmp (parts_of xs) (parts_of ys) ≡ list_cmp part_cmp (drop i (parts_of xs)) (drop i (parts_of ys)) → not (nat_eq (ordering_index o) 1) ≡ false → list_cmp part_cmp (parts_of xs) (parts_of ys) ≡ list_cmp part_cmp (drop (i + 1) (parts_of xs)) (drop (i + 1) (parts_of ys))
-row_cmp-goes_on xs ys i x y o lt less e f is so h = list_cmp-goes_on part_cmp (parts_of xs) (parts_of ys) i (part_of x) (part_of y) o (omega (arith, parts_long xs)) (omega (arith, parts_long ys)) (part_at xs i x lt e) (part_at ys i y less f) is so h
+pub row_cmp-end : (ps qs : List Part) (i : ℕ) → i ≤ length ps → i ≤ length qs → (length ps ≤ i) ⊎ (length qs ≤ i) → list_cmp part_cmp ps qs ≡ list_cmp part_cmp (drop i ps) (drop i qs) → nat_cmp (length ps) (length qs) ≡ row_cmp (row_of ps) (row_of qs)
+row_cmp-end ps qs i a b h so = sym (so ∙ list_cmp-end part_cmp ps qs i a b h) ∙ row_by_list ps qs
 
-pub row_cmp-end : (xs ys : List RowPart) (i : ℕ) → i ≤ length xs → i ≤ length ys → (length xs ≤ i) ⊎ (length ys ≤ i) → list_cmp part_cmp (drop i (parts_of xs)) (drop i (parts_of ys)) ≡ nat_cmp (length xs) (length ys)
-row_cmp-end xs ys i a b h =
-    list_cmp-end part_cmp (parts_of xs) (parts_of ys) i (omega (arith, parts_long xs)) (omega (arith, parts_long ys)) (elim h [ inl p ↦ inl (omega (arith, parts_long xs)) | inr p ↦ inr (omega (arith, parts_long ys)) ])
-    ∙ ap₂ nat_cmp (parts_long xs) (parts_long ys)
+pub is_equal : (o : Ordering) → nat_eq (ordering_index o) 1 ≡ true → o ≡ Equal
+is_equal Less h = cc
+is_equal Equal h = refl
+is_equal Greater h = cc
 
 -- by weights that differ or by the order
 pub equal_by_order : (x y : Tree) (b : Bool) → b ≡ nat_eq (ordering_index (tree_cmp x y)) 1 → IsTrue b ↔ (x ≡ y)
 equal_by_order x y b e = (λ h. tree_equal x y (is_equal (tree_cmp x y) (sym e ∙ h)), λ h. e ∙ ap (λ o. nat_eq (ordering_index o) 1) (ap (λ z. tree_cmp x z) (sym h) ∙ tree_itself x))
-  where
-    is_equal : (o : Ordering) → nat_eq (ordering_index o) 1 ≡ true → o ≡ Equal
-    is_equal Less h = cc
-    is_equal Equal h = refl
-    is_equal Greater h = cc
 
-pub ruleset comparing = (trees_by_list, row_by_list, pairs_by_list)
+-- turns compare as their terms
+pub turns_cmp : (ps qs : List Part) → AreTurns ps → AreTurns qs → row_cmp (row_of ps) (row_of qs) ≡ trees_cmp (trees (begun ps)) (trees (begun qs))
+turns_cmp [] [] g h = refl
+turns_cmp [] (Gap d ∷ qs) g h = cc
+turns_cmp [] (Turn y ∷ qs) g h = refl
+turns_cmp (Gap c ∷ ps) qs g h = cc
+turns_cmp (Turn x ∷ ps) [] g h = refl
+turns_cmp (Turn x ∷ ps) (Gap d ∷ qs) g h = cc
+turns_cmp (Turn x ∷ ps) (Turn y ∷ qs) g h = ap (ordering_then (tree_cmp x y)) (turns_cmp ps qs g h)
+
+-- no part of a row is as deep as the row
+pub part_falls : (ps : List Part) (i : ℕ) (x : RowPart) → slice_get ps i ≡ Some (part_of x) → deep-RowPart x ≤ parts_nodes ps * 2
+part_falls [] i x e = cc
+part_falls (p ∷ ps) zero (part.Gap b) e = omega arith
+part_falls (p ∷ ps) zero (part.Turn y) e = let same : p ≡ Turn y = cc in let n = ap part_nodes same in omega arith
+part_falls (p ∷ ps) (suc i) x e = omega (arith, part_falls ps i x e)
+
+pub ruleset comparing = (pairs_by_list, turns_cmp, part_falls)

@@ -8,13 +8,14 @@ use Rattle.std.specs.declared.cmp.Ordering.{Ordering}
 use Rattle.std.specs.declared.cmp.Ordering.TheVariants.{Less, Equal, Greater}
 use Rattle.chart_term.specs.declared.term.Form.{Form}
 use Rattle.chart_term.specs.declared.term.Form.TheVariants as form
-use Rattle.chart_term.specs.NormalForms.{open_choice, without, distinct, unless_same}
+use Rattle.chart_term.specs.NormalForms.{begun, open_choice, without, distinct, unless_same}
 use Rattle.chart_term.specs.OrderLaws.{tree_equal, tree_itself}
 use Rattle.chart_term.specs.TermViews.{IsFull, tree_of}
 use Rattle.chart_term.proofs.Equal.{same_tree_is_exact}
 use Rattle.chart_term.proofs.Lists.{items-trees}
 use Rattle.chart_term.specs.Order.{tree_cmp}
-use Rattle.chart_term.specs.Terms.{Tree}
+use Rattle.chart_term.specs.PartLists.{AreTurns}
+use Rattle.chart_term.specs.Terms.{Tree, Part}
 use Rattle.chart_term.proofs.Flattening.{taken_next}
 
 -- whether an item of the list is equal to the term
@@ -112,7 +113,7 @@ kept_met xs i x key kept added old lt e is so a no_ seen =
     some false h = cc
 
 -- the parts of a choice that has one
-pub full_choice : (f : Form) (xs : List Tree) (x : Tree) → f ≡ form.Choice xs → tree_of f ≡ x → IsFull f → (open_choice x ≡ xs) × (0 < length xs)
-full_choice f xs x e is full =
-    let full_is : IsFull (form.Choice xs) = subst IsFull e full in
-    (ap open_choice (sym (ap tree_of (sym e) ∙ is)) ∙ items-trees xs, full_is)
+pub full_choice : (f : Form) (ps : List Part) (x : Tree) → f ≡ form.Choice ps → tree_of f ≡ x → IsFull f → (open_choice x ≡ begun ps) × AreTurns ps × (0 < length ps)
+full_choice f ps x e is full =
+    let full_is : IsFull (form.Choice ps) = subst IsFull e full in
+    (ap open_choice (sym (ap tree_of (sym e) ∙ is)) ∙ items-trees (begun ps), full_is.0, full_is.1)

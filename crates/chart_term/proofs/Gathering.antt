@@ -1,19 +1,24 @@
--- The facts of a list of terms or of a row, one part after another.
-use Rattle.std.proofs.Common.{◌≡◌, ℕ, ◌+◌, ◌<◌, Bool, true, false, ◌||◌, ◌&&◌, not, List, [], ◌∷◌, ◌++◌, refl, ap, ap₂, subst, sym, ◌∙◌, arith, length, take, get_or, append_assoc, append-nil, min, max, nat_eq, Option, Some, None}
+-- The facts of lists of parts, and of terms made of them.
+use Rattle.std.proofs.Common.{◌≡◌, ℕ, ◌+◌, ◌<◌, ◌⊎◌, inl, inr, Bool, true, false, ◌||◌, ◌&&◌, not, List, [], ◌∷◌, ◌++◌, refl, ap, ap₂, subst, sym, ◌∙◌, arith, length, take, get_or, append_assoc, append-nil, min, max, nat_eq, Option, Some, None}
 use Rattle.std.specs.List.{list_any}
-use Rattle.std.proofs.lemmas.List.{map-append}
 use Rattle.chart_term.specs.declared.term.RowPart.{RowPart}
 use Rattle.chart_term.specs.declared.term.RowPart.TheVariants as part
 use Rattle.chart_term.specs.Rows.{part_of, parts_of}
 use Rattle.std.proofs.lemmas.List.Folds.{list_any-append}
 use Rattle.bit_sets.specs.Blocks.{BlockValue, share}
 use Rattle.chart_term.specs.declared.facts.Facts.{Facts}
+use Rattle.chart_term.specs.declared.term.Form.{Form}
+use Rattle.chart_term.specs.declared.term.Form.TheVariants as form
+use Rattle.chart_term.specs.TermViews.{tree_of}
+use Rattle.chart_term.specs.declared.facts.Ranges.{Ranges}
 use Rattle.chart_term.specs.declared.facts.Span.{Span}
-use Rattle.chart_term.specs.NormalForms.{numbers, numbers_all, numbers_row}
-use Rattle.chart_term.specs.Facts.{AreFacts, Adds, HasFacts, HaveFacts, RowHasFacts, holds_walk, any_walk, row_walk, instances, instances_all, instances_row, misses, facts_miss, span_of, lies_in, most_stored, wider}
+use Rattle.chart_term.specs.Labels.{labels, labels_all, labels_row}
+use Rattle.chart_term.specs.NormalForms.{begun, numbers, numbers_all, numbers_row}
+use Rattle.chart_term.specs.PartLists.{AreTurns}
+use Rattle.chart_term.specs.Facts.{AreFacts, Adds, HasFacts, RowHasFacts, holds_walk, any_walk, row_walk, instances, instances_all, instances_row, misses, row_misses, facts_miss, span_of, lies_in, most_stored, numbers_in, wider}
 use Rattle.chart_term.specs.Terms.{Tree, Loop, Row, trees, weight, weights, row_weight, Part, Gap, Turn, row_of, has}
-use Rattle.chart_term.proofs.Flattening.{taken_next}
 use Rattle.chart_term.proofs.Members.{facts_added, span_of-append}
+use Rattle.chart_term.proofs.Turns.{parts_next}
 
 or_last : (a b c : Bool) → (a || (b || c)) ≡ ((a || b) || c)
 or_last true b c = refl
@@ -23,92 +28,70 @@ or_none : (b : Bool) → (b || false) ≡ b
 or_none true = refl
 or_none false = refl
 
-weights-snoc : (xs : List Tree) (x : Tree) → weights (trees xs) + weight x ≡ weights (trees (xs ++ x ∷ []))
-weights-snoc [] x = omega arith
-weights-snoc (y ∷ ys) x = omega (arith, weights-snoc ys x)
+row_weight-append : (ps qs : List Part) → row_weight (row_of (ps ++ qs)) ≡ row_weight (row_of ps) + row_weight (row_of qs)
+row_weight-append [] qs = omega arith
+row_weight-append (Gap c ∷ ps) qs = omega (arith, row_weight-append ps qs)
+row_weight-append (Turn x ∷ ps) qs = omega (arith, row_weight-append ps qs)
 
-trail-snoc : (xs : List Tree) (x : Tree) → (any_walk (trees xs) || holds_walk x) ≡ any_walk (trees (xs ++ x ∷ []))
-trail-snoc [] x = sym (or_none (holds_walk x))
-trail-snoc (y ∷ ys) x = sym (or_last (holds_walk y) (any_walk (trees ys)) (holds_walk x)) ∙ ap (λ b. holds_walk y || b) (trail-snoc ys x)
+row_walk-append : (ps qs : List Part) → row_walk (row_of (ps ++ qs)) ≡ (row_walk (row_of ps) || row_walk (row_of qs))
+row_walk-append [] qs = refl
+row_walk-append (Gap c ∷ ps) qs = row_walk-append ps qs
+row_walk-append (Turn x ∷ ps) qs = ap (λ b. holds_walk x || b) (row_walk-append ps qs) ∙ or_last (holds_walk x) (row_walk (row_of ps)) (row_walk (row_of qs))
 
-instances-snoc : (xs : List Tree) (x : Tree) → instances_all (trees xs) ++ instances x ≡ instances_all (trees (xs ++ x ∷ []))
-instances-snoc [] x = sym (append-nil (instances x))
-instances-snoc (y ∷ ys) x = append_assoc (instances y) (instances_all (trees ys)) (instances x) ∙ ap (λ l. instances y ++ l) (instances-snoc ys x)
+row_instances-append : (ps qs : List Part) → instances_row (row_of (ps ++ qs)) ≡ instances_row (row_of ps) ++ instances_row (row_of qs)
+row_instances-append [] qs = refl
+row_instances-append (Gap c ∷ ps) qs = row_instances-append ps qs
+row_instances-append (Turn x ∷ ps) qs = ap (λ l. instances x ++ l) (row_instances-append ps qs) ∙ sym (append_assoc (instances x) (instances_row (row_of ps)) (instances_row (row_of qs)))
 
-pub numbers-snoc : (xs : List Tree) (x : Tree) → numbers_all (trees xs) ++ numbers x ≡ numbers_all (trees (xs ++ x ∷ []))
-numbers-snoc [] x = sym (append-nil (numbers x))
-numbers-snoc (y ∷ ys) x = append_assoc (numbers y) (numbers_all (trees ys)) (numbers x) ∙ ap (λ l. numbers y ++ l) (numbers-snoc ys x)
+pub row_numbers-append : (ps qs : List Part) → numbers_row (row_of (ps ++ qs)) ≡ numbers_row (row_of ps) ++ numbers_row (row_of qs)
+row_numbers-append [] qs = refl
+row_numbers-append (Gap c ∷ ps) qs = row_numbers-append ps qs
+row_numbers-append (Turn x ∷ ps) qs = ap (λ l. numbers x ++ l) (row_numbers-append ps qs) ∙ sym (append_assoc (numbers x) (numbers_row (row_of ps)) (numbers_row (row_of qs)))
+
+row_labels-append : (ps qs : List Part) → labels_row (row_of (ps ++ qs)) ≡ labels_row (row_of ps) ++ labels_row (row_of qs)
+row_labels-append [] qs = refl
+row_labels-append (Gap c ∷ ps) qs = row_labels-append ps qs
+row_labels-append (Turn x ∷ ps) qs = ap (λ l. labels x ++ l) (row_labels-append ps qs) ∙ sym (append_assoc (labels x) (labels_row (row_of ps)) (labels_row (row_of qs)))
 
 -- facts stay where what they are of is the same
-pub moved : (v w : ℕ) (a b : Bool) (ps qs ms ns : List ℕ) (f : Facts) → v ≡ w → a ≡ b → ps ≡ qs → ms ≡ ns → AreFacts v a ps ms f → AreFacts w b qs ns f
-moved v w a b ps qs ms ns f p q r s facts = record {
+pub moved : (v w : ℕ) (a b : Bool) (ps qs ms ns ks ls : List ℕ) (f : Facts) → v ≡ w → a ≡ b → ps ≡ qs → ms ≡ ns → ks ≡ ls → AreFacts v a ps ms ks f → AreFacts w b qs ns ls f
+moved v w a b ps qs ms ns ks ls f p q r s t facts = record {
   weight = rw (← p) facts.weight;
   trail = facts.trail ∙ q;
   instances = λ n. facts.instances n ∙ ap (λ l. has l n) r;
   span = facts.span ∙ ap span_of s;
+  labels = facts.labels ∙ ap span_of t;
 }
 
--- one more term
-pub have_facts-snoc : (xs : List Tree) (x : Tree) (f g h : Facts) → HaveFacts (trees xs) f → HasFacts x g → Adds f g h → HaveFacts (trees (xs ++ x ∷ [])) h
-have_facts-snoc xs x f g h p q s =
-    moved (weights (trees xs) + weight x) (weights (trees (xs ++ x ∷ []))) (any_walk (trees xs) || holds_walk x) (any_walk (trees (xs ++ x ∷ []))) (instances_all (trees xs) ++ instances x) (instances_all (trees (xs ++ x ∷ []))) (numbers_all (trees xs) ++ numbers x) (numbers_all (trees (xs ++ x ∷ []))) h
-    (weights-snoc xs x) (trail-snoc xs x) (instances-snoc xs x) (numbers-snoc xs x)
-    (facts_added (weights (trees xs)) (weight x) (any_walk (trees xs)) (holds_walk x) (instances_all (trees xs)) (instances x) (numbers_all (trees xs)) (numbers x) f g h p q s)
+-- the parts of two lists
+pub have_both : (ps qs : List Part) (f g h : Facts) → RowHasFacts (row_of ps) f → RowHasFacts (row_of qs) g → Adds f g h → RowHasFacts (row_of (ps ++ qs)) h
+have_both ps qs f g h p q s =
+    let v = row_weight (row_of ps) in
+    let w = row_weight (row_of qs) in
+    let a = row_walk (row_of ps) in
+    let b = row_walk (row_of qs) in
+    moved (v + w) (row_weight (row_of (ps ++ qs))) (a || b) (row_walk (row_of (ps ++ qs))) (instances_row (row_of ps) ++ instances_row (row_of qs)) (instances_row (row_of (ps ++ qs))) (numbers_row (row_of ps) ++ numbers_row (row_of qs)) (numbers_row (row_of (ps ++ qs))) (labels_row (row_of ps) ++ labels_row (row_of qs)) (labels_row (row_of (ps ++ qs))) h
+    (sym (row_weight-append ps qs)) (sym (row_walk-append ps qs)) (sym (row_instances-append ps qs)) (sym (row_numbers-append ps qs)) (sym (row_labels-append ps qs))
+    (facts_added v w a b (instances_row (row_of ps)) (instances_row (row_of qs)) (numbers_row (row_of ps)) (numbers_row (row_of qs)) (labels_row (row_of ps)) (labels_row (row_of qs)) f g h p q s)
+
+-- a turn has the facts of its term
+turn_facts : (x : Tree) (f : Facts) → HasFacts x f → RowHasFacts (row_of (Turn x ∷ [])) f
+turn_facts x f =
+    moved (weight x) (row_weight (row_of (Turn x ∷ []))) (holds_walk x) (holds_walk x || false) (instances x) (instances x ++ []) (numbers x) (numbers x ++ []) (labels x) (labels x ++ []) f
+    (omega arith) (sym (or_none (holds_walk x))) (sym (append-nil (instances x))) (sym (append-nil (numbers x))) (sym (append-nil (labels x)))
 
 -- one more begun turn
-row_weight-turn : (ps : List Part) (x : Tree) → row_weight (row_of ps) + weight x ≡ row_weight (row_of (ps ++ Turn x ∷ []))
-row_weight-turn [] x = omega arith
-row_weight-turn (Gap c ∷ ps) x = omega (arith, row_weight-turn ps x)
-row_weight-turn (Turn y ∷ ps) x = omega (arith, row_weight-turn ps x)
-
-row_walk-turn : (ps : List Part) (x : Tree) → (row_walk (row_of ps) || holds_walk x) ≡ row_walk (row_of (ps ++ Turn x ∷ []))
-row_walk-turn [] x = sym (or_none (holds_walk x))
-row_walk-turn (Gap c ∷ ps) x = row_walk-turn ps x
-row_walk-turn (Turn y ∷ ps) x = sym (or_last (holds_walk y) (row_walk (row_of ps)) (holds_walk x)) ∙ ap (λ b. holds_walk y || b) (row_walk-turn ps x)
-
-row_instances-turn : (ps : List Part) (x : Tree) → instances_row (row_of ps) ++ instances x ≡ instances_row (row_of (ps ++ Turn x ∷ []))
-row_instances-turn [] x = sym (append-nil (instances x))
-row_instances-turn (Gap c ∷ ps) x = row_instances-turn ps x
-row_instances-turn (Turn y ∷ ps) x = append_assoc (instances y) (instances_row (row_of ps)) (instances x) ∙ ap (λ l. instances y ++ l) (row_instances-turn ps x)
-
-pub row_numbers-turn : (ps : List Part) (x : Tree) → numbers_row (row_of ps) ++ numbers x ≡ numbers_row (row_of (ps ++ Turn x ∷ []))
-row_numbers-turn [] x = sym (append-nil (numbers x))
-row_numbers-turn (Gap c ∷ ps) x = row_numbers-turn ps x
-row_numbers-turn (Turn y ∷ ps) x = append_assoc (numbers y) (numbers_row (row_of ps)) (numbers x) ∙ ap (λ l. numbers y ++ l) (row_numbers-turn ps x)
-
-pub row_facts-turn : (ps : List Part) (x : Tree) (f g h : Facts) → RowHasFacts (row_of ps) f → HasFacts x g → Adds f g h → RowHasFacts (row_of (ps ++ Turn x ∷ [])) h
-row_facts-turn ps x f g h p q s =
-    moved (row_weight (row_of ps) + weight x) (row_weight (row_of (ps ++ Turn x ∷ []))) (row_walk (row_of ps) || holds_walk x) (row_walk (row_of (ps ++ Turn x ∷ []))) (instances_row (row_of ps) ++ instances x) (instances_row (row_of (ps ++ Turn x ∷ []))) (numbers_row (row_of ps) ++ numbers x) (numbers_row (row_of (ps ++ Turn x ∷ []))) h
-    (row_weight-turn ps x) (row_walk-turn ps x) (row_instances-turn ps x) (row_numbers-turn ps x)
-    (facts_added (row_weight (row_of ps)) (weight x) (row_walk (row_of ps)) (holds_walk x) (instances_row (row_of ps)) (instances x) (numbers_row (row_of ps)) (numbers x) f g h p q s)
+row_facts-turn : (ps : List Part) (x : Tree) (f g h : Facts) → RowHasFacts (row_of ps) f → HasFacts x g → Adds f g h → RowHasFacts (row_of (ps ++ Turn x ∷ [])) h
+row_facts-turn ps x f g h p q s = have_both ps (Turn x ∷ []) f g h p (turn_facts x g q) s
 
 -- one more gap
-row_weight-gap : (ps : List Part) (c : List ℕ) → row_weight (row_of ps) + 1 ≡ row_weight (row_of (ps ++ Gap c ∷ []))
-row_weight-gap [] c = omega arith
-row_weight-gap (Gap d ∷ ps) c = omega (arith, row_weight-gap ps c)
-row_weight-gap (Turn y ∷ ps) c = omega (arith, row_weight-gap ps c)
-
-row_walk-gap : (ps : List Part) (c : List ℕ) → row_walk (row_of ps) ≡ row_walk (row_of (ps ++ Gap c ∷ []))
-row_walk-gap [] c = refl
-row_walk-gap (Gap d ∷ ps) c = row_walk-gap ps c
-row_walk-gap (Turn y ∷ ps) c = ap (λ b. holds_walk y || b) (row_walk-gap ps c)
-
-row_instances-gap : (ps : List Part) (c : List ℕ) → instances_row (row_of ps) ≡ instances_row (row_of (ps ++ Gap c ∷ []))
-row_instances-gap [] c = refl
-row_instances-gap (Gap d ∷ ps) c = row_instances-gap ps c
-row_instances-gap (Turn y ∷ ps) c = ap (λ l. instances y ++ l) (row_instances-gap ps c)
-
-pub row_numbers-gap : (ps : List Part) (c : List ℕ) → numbers_row (row_of ps) ≡ numbers_row (row_of (ps ++ Gap c ∷ []))
-row_numbers-gap [] c = refl
-row_numbers-gap (Gap d ∷ ps) c = row_numbers-gap ps c
-row_numbers-gap (Turn y ∷ ps) c = ap (λ l. numbers y ++ l) (row_numbers-gap ps c)
-
-pub row_facts-gap : (ps : List Part) (c : List ℕ) (f h : Facts) → RowHasFacts (row_of ps) f → h ≡ record f { weight = min (f.weight + 1) most_stored } → RowHasFacts (row_of (ps ++ Gap c ∷ [])) h
+row_facts-gap : (ps : List Part) (c : List ℕ) (f h : Facts) → RowHasFacts (row_of ps) f → h ≡ record f { weight = min (f.weight + 1) most_stored } → RowHasFacts (row_of (ps ++ Gap c ∷ [])) h
 row_facts-gap ps c f h p e = subst (RowHasFacts (row_of (ps ++ Gap c ∷ []))) (sym e) (record {
-  weight = omega (arith, p.weight, row_weight-gap ps c);
-  trail = p.trail ∙ row_walk-gap ps c;
-  instances = λ n. p.instances n ∙ ap (λ l. has l n) (row_instances-gap ps c);
-  span = p.span ∙ ap span_of (row_numbers-gap ps c);
+  weight = omega (arith, p.weight, row_weight-append ps (Gap c ∷ []));
+  trail = p.trail ∙ sym (row_walk-append ps (Gap c ∷ []) ∙ or_none (row_walk (row_of ps)));
+  instances = λ n. p.instances n ∙ ap (λ l. has l n) (sym (row_instances-append ps (Gap c ∷ []) ∙ append-nil (instances_row (row_of ps))));
+  span = p.span ∙ ap span_of (sym (row_numbers-append ps (Gap c ∷ []) ∙ append-nil (numbers_row (row_of ps))));
+  labels = p.labels ∙ ap span_of (sym (row_labels-append ps (Gap c ∷ []) ∙ append-nil (labels_row (row_of ps))));
 })
 
 -- tests that agree
@@ -123,15 +106,22 @@ facts_miss_is b x f h =
     (ap₂ (λ m n. not m && not n) h.trail (any_same (has f.instances.instances) (has (instances x)) b.instances h.instances))
     (ap (λ s. not (list_any (lies_in s) b.events)) h.span)
 
+-- those of a list tell it of the list
+pub row_miss_is : (b : BlockValue) (ps : List Part) (f : Facts) → RowHasFacts (row_of ps) f → facts_miss b f ≡ row_misses b (row_of ps)
+row_miss_is b ps f h =
+    ap₂ (λ m n. m && n)
+    (ap₂ (λ m n. not m && not n) h.trail (any_same (has f.instances.instances) (has (instances_row (row_of ps))) b.instances h.instances))
+    (ap (λ s. not (list_any (lies_in s) b.events)) h.span)
+
 lies_in_none : (ns : List ℕ) → list_any (lies_in None) ns ≡ false
 lies_in_none [] = refl
 lies_in_none (n ∷ ns) = lies_in_none ns
 
-pub miss_none : (b : BlockValue) (f : Facts) → f.holds_walk ≡ false → share b.instances f.instances.instances ≡ false → f.span ≡ None → true ≡ facts_miss b f
-miss_none b f p q r = sym (ap₂ (λ m n. m && n) (ap₂ (λ m n. not m && not n) p q) (ap (λ s. not (list_any (lies_in s) b.events)) r ∙ ap not (lies_in_none b.events)))
+pub miss_none : (b : BlockValue) (f : Facts) → f.holds_walk ≡ false → share b.instances f.instances.instances ≡ false → f.ranges ≡ None → true ≡ facts_miss b f
+miss_none b f p q r = sym (ap₂ (λ m n. m && n) (ap₂ (λ m n. not m && not n) p q) (ap (λ s. not (list_any (lies_in (numbers_in s)) b.events)) r ∙ ap not (lies_in_none b.events)))
 
-pub miss_some : (b : BlockValue) (f : Facts) (s : Span) (any : Bool) → f.holds_walk ≡ false → share b.instances f.instances.instances ≡ false → f.span ≡ Some s → any ≡ list_any (lies_in (Some s)) b.events → not any ≡ facts_miss b f
-miss_some b f s any p q r e = sym (ap₂ (λ m n. m && n) (ap₂ (λ m n. not m && not n) p q) (ap (λ s. not (list_any (lies_in s) b.events)) r ∙ ap not (sym e)))
+pub miss_some : (b : BlockValue) (f : Facts) (r : Ranges) (any : Bool) → f.holds_walk ≡ false → share b.instances f.instances.instances ≡ false → f.ranges ≡ Some r → any ≡ list_any (lies_in (Some r.numbers)) b.events → not any ≡ facts_miss b f
+miss_some b f r any p q is e = sym (ap₂ (λ m n. m && n) (ap₂ (λ m n. not m && not n) p q) (ap (λ s. not (list_any (lies_in (numbers_in s)) b.events)) is ∙ ap not (sym e)))
 
 or_turned : (a b : Bool) → (a || b) ≡ (b || a)
 or_turned true true = refl
@@ -154,19 +144,60 @@ wider_turned (Some r) (Some s) = λ i. Some (record { least = least_turned i; gr
 -- the facts of a loop, from those of its row and its operand
 pub loop_facts : (x : Tree) (lo : ℕ) (hi : Option ℕ) (r : Row) (f g h k : Facts) → RowHasFacts r f → HasFacts x g → Adds f g h → k ≡ record h { weight = min (h.weight + 1) most_stored } → HasFacts (Loop x lo hi r) k
 loop_facts x lo hi r f g h k p q s e =
-    let both : AreFacts (row_weight r + weight x) (row_walk r || holds_walk x) (instances_row r ++ instances x) (numbers_row r ++ numbers x) h = facts_added (row_weight r) (weight x) (row_walk r) (holds_walk x) (instances_row r) (instances x) (numbers_row r) (numbers x) f g h p q s in
+    let both : AreFacts (row_weight r + weight x) (row_walk r || holds_walk x) (instances_row r ++ instances x) (numbers_row r ++ numbers x) (labels_row r ++ labels x) h = facts_added (row_weight r) (weight x) (row_walk r) (holds_walk x) (instances_row r) (instances x) (numbers_row r) (numbers x) (labels_row r) (labels x) f g h p q s in
     subst (HasFacts (Loop x lo hi r)) (sym e) (record {
       weight = omega (arith, both.weight);
       trail = both.trail ∙ or_turned (row_walk r) (holds_walk x);
       instances = λ n. both.instances n ∙ list_any-append (λ m. nat_eq m n) (instances_row r) (instances x) ∙ or_turned (has (instances_row r) n) (has (instances x) n) ∙ sym (list_any-append (λ m. nat_eq m n) (instances x) (instances_row r));
-      span = both.span ∙ span_of-append (numbers_row r) (numbers x) ∙ wider_turned (span_of (numbers_row r)) (span_of (numbers x)) ∙ sym (span_of-append (numbers x) (numbers_row r));
+      span = both.span ∙ span_turned (numbers_row r) (numbers x);
+      labels = both.labels ∙ span_turned (labels_row r) (labels x);
     })
+  where
+    span_turned : (ms ns : List ℕ) → span_of (ms ++ ns) ≡ span_of (ns ++ ms)
+    span_turned ms ns = span_of-append ms ns ∙ wider_turned (span_of ms) (span_of ns) ∙ sym (span_of-append ns ms)
 
-pub have_facts-next : (xs : List Tree) (i : ℕ) (x : Tree) (f g h : Facts) → i < length xs → x ≡ get_or xs i x → HaveFacts (trees (take i xs)) f → HasFacts x g → Adds f g h → HaveFacts (trees (take (i + 1) xs)) h
-have_facts-next xs i x f g h lt e p q s = subst (λ (l : List Tree). HaveFacts (trees l) h) (sym (taken_next xs i x lt e)) (have_facts-snoc (take i xs) x f g h p q s)
+-- the facts of turns are those of their terms, but for one more of weight
+turns-weight : (ps : List Part) → AreTurns ps → row_weight (row_of ps) ≡ weights (trees (begun ps))
+turns-weight [] h = refl
+turns-weight (Gap c ∷ ps) h = cc
+turns-weight (Turn x ∷ ps) h = ap (λ n. weight x + n) (turns-weight ps h)
 
-pub parts_next : (xs : List RowPart) (i : ℕ) (x : RowPart) → i < length xs → x ≡ get_or xs i x → parts_of (take (i + 1) xs) ≡ parts_of (take i xs) ++ part_of x ∷ []
-parts_next xs i x lt e = ap parts_of (taken_next xs i x lt e) ∙ map-append part_of (take i xs) (x ∷ [])
+turns-walk : (ps : List Part) → row_walk (row_of ps) ≡ any_walk (trees (begun ps))
+turns-walk [] = refl
+turns-walk (Gap c ∷ ps) = turns-walk ps
+turns-walk (Turn x ∷ ps) = ap (λ b. holds_walk x || b) (turns-walk ps)
+
+turns-instances : (ps : List Part) → instances_row (row_of ps) ≡ instances_all (trees (begun ps))
+turns-instances [] = refl
+turns-instances (Gap c ∷ ps) = turns-instances ps
+turns-instances (Turn x ∷ ps) = ap (λ l. instances x ++ l) (turns-instances ps)
+
+pub turns-numbers : (ps : List Part) → numbers_row (row_of ps) ≡ numbers_all (trees (begun ps))
+turns-numbers [] = refl
+turns-numbers (Gap c ∷ ps) = turns-numbers ps
+turns-numbers (Turn x ∷ ps) = ap (λ l. numbers x ++ l) (turns-numbers ps)
+
+turns-labels : (ps : List Part) → labels_row (row_of ps) ≡ labels_all (trees (begun ps))
+turns-labels [] = refl
+turns-labels (Gap c ∷ ps) = turns-labels ps
+turns-labels (Turn x ∷ ps) = ap (λ l. labels x ++ l) (turns-labels ps)
+
+-- the numbers of a node of turns
+pub numbers_joined : (f : Form) (ps : List Part) (x : Tree) → (f ≡ form.Seq ps) ⊎ ((f ≡ form.Par ps) ⊎ (f ≡ form.Choice ps)) → tree_of f ≡ x → numbers_row (row_of ps) ≡ numbers x
+numbers_joined f ps x (inl e) is = turns-numbers ps ∙ ap numbers (ap tree_of (sym e) ∙ is)
+numbers_joined f ps x (inr (inl e)) is = turns-numbers ps ∙ ap numbers (ap tree_of (sym e) ∙ is)
+numbers_joined f ps x (inr (inr e)) is = turns-numbers ps ∙ ap numbers (ap tree_of (sym e) ∙ is)
+
+-- the facts of a join or a choice of turns
+pub turns_facts : (ps : List Part) (f h : Facts) → AreTurns ps → RowHasFacts (row_of ps) f → h ≡ record f { weight = min (f.weight + 1) most_stored }
+    → AreFacts (1 + weights (trees (begun ps))) (any_walk (trees (begun ps))) (instances_all (trees (begun ps))) (numbers_all (trees (begun ps))) (labels_all (trees (begun ps))) h
+turns_facts ps f h turns p e = subst (λ (g : Facts). AreFacts (1 + weights (trees (begun ps))) (any_walk (trees (begun ps))) (instances_all (trees (begun ps))) (numbers_all (trees (begun ps))) (labels_all (trees (begun ps))) g) (sym e) (record {
+  weight = omega (arith, p.weight, turns-weight ps turns);
+  trail = p.trail ∙ turns-walk ps;
+  instances = λ n. p.instances n ∙ ap (λ l. has l n) (turns-instances ps);
+  span = p.span ∙ ap span_of (turns-numbers ps);
+  labels = p.labels ∙ ap span_of (turns-labels ps);
+})
 
 pub row_facts-next_gap : (xs : List RowPart) (i : ℕ) (x : RowPart) (b : BlockValue) (f h : Facts) → i < length xs → x ≡ get_or xs i x → x ≡ part.Gap b → RowHasFacts (row_of (parts_of (take i xs))) f → h ≡ record f { weight = min (f.weight + 1) most_stored } → RowHasFacts (row_of (parts_of (take (i + 1) xs))) h
 row_facts-next_gap xs i x b f h lt e is p s =
@@ -176,4 +207,4 @@ pub row_facts-next_turn : (xs : List RowPart) (i : ℕ) (x : RowPart) (y : Tree)
 row_facts-next_turn xs i x y f g h lt e is p q s =
     subst (λ (l : List Part). RowHasFacts (row_of l) h) (sym (parts_next xs i x lt e ∙ ap (λ z. parts_of (take i xs) ++ part_of z ∷ []) is)) (row_facts-turn (parts_of (take i xs)) y f g h p q s)
 
-pub ruleset gathering = (have_facts-snoc, row_facts-turn, row_facts-gap, facts_miss_is, miss_none, miss_some, loop_facts)
+pub ruleset gathering = (facts_miss_is, row_miss_is, miss_none, miss_some, loop_facts)

@@ -12,7 +12,10 @@ pub mod Equal
 pub mod Binding
 mod Binds
 mod Comparing
+pub mod Cuts
 pub mod Distinct
 mod Flattening
 mod Gathering
+mod Passing
+pub mod Turns
 pub mod Members

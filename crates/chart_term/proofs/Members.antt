@@ -1,5 +1,6 @@
 -- Members of sets, and facts of several terms together.
 use Rattle.std.proofs.Common.{◌≡◌, ℕ, ◌+◌, inl, inr, Bool, true, false, ◌||◌, nat_eq, List, [], ◌∷◌, ◌++◌, refl, ap, ap₂, sym, ◌∙◌, arith, min, max, Option, Some, None}
+use Rattle.std.specs.Prelude.{Result, Ok, Err, OnOk}
 use Rattle.std.proofs.lemmas.Bool.{eq-eqb, lt-ltb, le-ltb, ne_eqb, cases_order}
 use Rattle.std.proofs.lemmas.List.Folds.{list_any-append}
 use Rattle.bit_sets.specs.Blocks.{insert_rising, insert_each}
@@ -71,11 +72,17 @@ pub span_of-append : (ms ns : List ℕ) → span_of (ms ++ ns) ≡ wider (span_o
 span_of-append [] ns = refl
 span_of-append (m ∷ ms) ns = ap (λ s. wider (Some (record { least = m; greatest = m })) s) (span_of-append ms ns) ∙ span_apart (Some (record { least = m; greatest = m })) (span_of ms) (span_of ns)
 
+-- what follows where the call was well
+pub on_ok : {A E P Q : Type 0} (r : Result A E) → (P → Q) → OnOk r P → OnOk r Q
+on_ok (Ok a) f h = f h
+on_ok (Err e) f h = h
+
 -- facts added are the facts of both
-pub facts_added : (v w : ℕ) (a b : Bool) (ps qs ms ns : List ℕ) (f g h : Facts) → AreFacts v a ps ms f → AreFacts w b qs ns g → Adds f g h → AreFacts (v + w) (a || b) (ps ++ qs) (ms ++ ns) h
-facts_added v w a b ps qs ms ns f g h p q s = record {
+pub facts_added : (v w : ℕ) (a b : Bool) (ps qs ms ns ks ls : List ℕ) (f g h : Facts) → AreFacts v a ps ms ks f → AreFacts w b qs ns ls g → Adds f g h → AreFacts (v + w) (a || b) (ps ++ qs) (ms ++ ns) (ks ++ ls) h
+facts_added v w a b ps qs ms ns ks ls f g h p q s = record {
   weight = omega (arith, s.weight, p.weight, q.weight);
   trail = s.trail ∙ ap₂ (λ a b. a || b) p.trail q.trail;
   instances = λ n. s.instances n ∙ ap₂ (λ a b. a || b) (p.instances n) (q.instances n) ∙ sym (list_any-append (λ m. nat_eq m n) ps qs);
   span = s.span ∙ ap₂ wider p.span q.span ∙ sym (span_of-append ms ns);
+  labels = s.labels ∙ ap₂ wider p.labels q.labels ∙ sym (span_of-append ks ls);
 }

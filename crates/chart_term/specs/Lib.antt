@@ -2,12 +2,14 @@ pub mod Codes
 pub mod Equality
 pub mod Facts
 pub mod Falls
+pub mod Labels
 pub mod Looks
 pub mod Modes
 pub mod NormalForms
 pub mod Numbers
 pub mod Order
 pub mod OrderLaws
+pub mod PartLists
 pub mod Properties
 pub mod Rows
 pub mod Sizes

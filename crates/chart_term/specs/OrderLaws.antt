@@ -174,7 +174,7 @@ set_by_key [] (y ∷ ys) = refl
 set_by_key (x ∷ xs) [] = refl
 set_by_key (x ∷ xs) (y ∷ ys) = ap (ordering_then (nat_cmp x y)) (set_by_key xs ys)
 
-set_equal : (c d : List ℕ) → set_cmp c d ≡ Equal → c ≡ d
+pub set_equal : (c d : List ℕ) → set_cmp c d ≡ Equal → c ≡ d
 set_equal [] [] h = refl
 set_equal [] (y ∷ ys) h = cc
 set_equal (x ∷ xs) [] h = cc

@@ -1,7 +1,7 @@
 -- How many nodes a term has: what a recursion over terms is measured by.
-use Rattle.std.specs.Prelude.{ℕ, ◌+◌, ◌*◌, ◌≤◌, ◌≡◌, List, [], ◌∷◌, refl}
+use Rattle.std.specs.Prelude.{ℕ, ◌+◌, ◌<◌, ◌≤◌, ◌≡◌, false, List, [], ◌∷◌, ◌++◌, length, refl}
 use Rattle.std.proofs.Common.{ap, arith}
-use denote.Param.Weighed.{most}
+use Rattle.chart_term.specs.NormalForms.{begun, has_gap}
 use Rattle.chart_term.specs.Terms.{Tree, Nil, Event, Join, Choice, Tied, Loop, Walk, Trees, none, more, Row, ends, gap, turn, trees, Part, Gap, Turn, row_of}
 
 abbrev mutual
@@ -47,7 +47,22 @@ nodes_row-row_of [] = refl
 nodes_row-row_of (Gap c ∷ ps) = omega (arith, nodes_row-row_of ps)
 nodes_row-row_of (Turn x ∷ ps) = omega (arith, nodes_row-row_of ps)
 
--- no term of a list is as deep as the list
-pub most-list_nodes : (xs : List Tree) → most (λ x. (nodes x * 2 + 1) + 1) xs ≤ list_nodes xs * 2
-most-list_nodes [] = omega arith
-most-list_nodes (x ∷ xs) = omega (arith, most-list_nodes xs)
+-- a list of parts in two
+pub parts_nodes-append : (ps qs : List Part) → parts_nodes (ps ++ qs) + 1 ≡ parts_nodes ps + parts_nodes qs
+parts_nodes-append [] qs = omega arith
+parts_nodes-append (p ∷ ps) qs = omega (arith, parts_nodes-append ps qs)
+
+-- a list that has a part has two nodes at least
+pub parts_nodes-full : (ps : List Part) → 0 < length ps → 2 ≤ parts_nodes ps
+parts_nodes-full [] h = absurd (omega arith)
+parts_nodes-full (p ∷ ps) h = omega (arith, at_least ps)
+  where
+    at_least : (qs : List Part) → 1 ≤ parts_nodes qs
+    at_least [] = omega arith
+    at_least (q ∷ qs) = omega arith
+
+-- turns have the nodes of their terms
+pub begun-nodes : (ps : List Part) → has_gap ps ≡ false → nodes_all (trees (begun ps)) ≡ parts_nodes ps
+begun-nodes [] h = refl
+begun-nodes (Gap c ∷ ps) h = cc
+begun-nodes (Turn x ∷ ps) h = ap (λ n. nodes x + n + 1) (begun-nodes ps h)

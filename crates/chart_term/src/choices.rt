@@ -1,20 +1,34 @@
 //! The choice of parts in normal form, opened and without repeats. permit_step calls it for what is left of choices.
 
 ghost use Rattle.std.specs.Prelude.{◌≡◌, ◌<◌, ◌++◌, length, IfOk, OnOk, Some};
-ghost use Rattle.chart_term.specs.NormalForms.{open_choice, distinct, choice_form, choice_of};
+ghost use Rattle.chart_term.specs.NormalForms.{begun, open_choice, distinct, choice_form, choice_of};
+ghost use Rattle.chart_term.specs.PartLists.{AreTurns};
 
-use crate::{Term, TermList};
+use crate::{PartList, Term, TermList};
 use msc_base::NoMemory;
 use std::alloc::Global;
 use std::collections::BTreeSet;
 
+/// Appends the terms of the turns.
+#[tactic(auto, using(crate::proofs::Turns::turns))]
+fn push_turns(list: &mut TermList, alloc: Global, turns: &PartList) -> Result<(), NoMemory>
+    requires { AreTurns turns.now }
+    ensures { OnOk result (list.new ≡ list.old ++ begun turns.now) }
+{
+    for index in 0..turns.len() {
+        list.push(turns.term_at(index).copy(alloc)?)?;
+    }
+    Ok(())
+}
+
 /// Appends the part, opened where it is a choice.
+#[tactic(auto, using(crate::proofs::Turns::turns))]
 fn push_opened(list: &mut TermList, alloc: Global, part: &Term) -> Result<(), NoMemory>
     ensures ok { OnOk result (list.new ≡ list.old ++ open_choice part.now) }
     ensures longer { OnOk result (length list.old < length list.new) }
 {
     match part.choice_parts() {
-        Some(parts) => list.append_copies(alloc, parts),
+        Some(turns) => push_turns(list, alloc, turns),
         None => list.push(part.copy(alloc)?),
     }
 }
@@ -34,13 +48,14 @@ fn distinct(alloc: Global, parts: &TermList) -> Result<TermList, NoMemory>
 }
 
 /// The choice of parts that are open and differ.
+#[tactic(auto, using(crate::proofs::Turns::turns))]
 fn form_of(alloc: Global, parts: TermList) -> Result<Term, NoMemory>
     requires { 0 < length parts }
     ensures { IfOk result (λ term. choice_form parts ≡ Some term) }
 {
     let mut parts = parts;
     if parts.len() > 1 {
-        return Term::choice_of(alloc, parts);
+        return Term::choice_of(alloc, PartList::from_terms(alloc, parts)?);
     }
     match parts.pop() {
         Some(only) => Ok(only),

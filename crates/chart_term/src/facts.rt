@@ -1,9 +1,9 @@
-//! What a node stores of its term: weight, instances, span of numbers. `term` keeps it; it looks at no table.
+//! What a node stores of its term: weight, instances, ranges of numbers and labels. `term` keeps it; it looks at no table.
 
 ghost use Rattle.std.specs.Prelude.{◌≡◌, ◌+◌, ◌<◌, [], true, false, min, max, OnOk, IfOk, Some};
 ghost use Rattle.std.specs.List.{list_any};
 ghost use Rattle.std.specs.Option.{ForSome};
-ghost use Rattle.chart_term.specs.Facts.{Adds, AreFacts, HasFacts, facts_miss, lies_in, most_stored, wider};
+ghost use Rattle.chart_term.specs.Facts.{Adds, AreFacts, HasFacts, FactsPassed, FactsWithin, facts_may, facts_miss, labels_in, lies_in, most_stored, numbers_in, wider};
 ghost use Rattle.chart_term.specs.Views.{event_of};
 ghost use Rattle.chart_term.specs.Terms.{Event as EventTree};
 
@@ -11,12 +11,22 @@ use crate::Event;
 use bit_sets::Block;
 use msc_base::{Limits, NoMemory};
 use std::alloc::Global;
+use std::cmp::Ordering;
 
-/// The least and the greatest of some event numbers.
+/// The least and the greatest of some numbers.
 #[derive(Clone, Copy, Debug, PartialEq, Eq)]
 pub(crate) struct Span {
     pub(crate) least: u32,
     pub(crate) greatest: u32,
+}
+
+/// The ranges of some events, of which there is one at least.
+#[derive(Clone, Copy, Debug, PartialEq, Eq)]
+pub(crate) struct Ranges {
+    /// The least and the greatest of their numbers.
+    pub(crate) numbers: Span,
+    /// The least and the greatest of the numbers of their labels.
+    pub(crate) labels: Span,
 }
 
 /// What a node stores of its term. No fact depends on the tables.
@@ -28,11 +38,28 @@ pub(crate) struct Facts {
     pub(crate) holds_walk: bool,
     /// The instances of the events of the term, of its loop operands and of its begun turns.
     pub(crate) instances: Block,
-    /// The least and the greatest number of these events.
-    pub(crate) span: Option<Span>,
+    /// The ranges of these events.
+    pub(crate) ranges: Option<Ranges>,
 }
 
 impl Span {
+    /// From the number to itself.
+    fn of(number: u32) -> Span
+        ensures { result ≡ record { least = number; greatest = number } }
+    {
+        Span {
+            least: number,
+            greatest: number,
+        }
+    }
+
+    /// Whether the number lies from the least to the greatest.
+    fn has(&self, number: u32) -> bool
+        ensures { result ≡ lies_in (Some self.now) number }
+    {
+        self.least <= number && number <= self.greatest
+    }
+
     /// Whether one of the numbers lies from the least to the greatest.
     fn has_any(&self, numbers: &[u32]) -> bool
         ensures { result ≡ list_any (lies_in (Some self.now)) numbers.now }
@@ -53,27 +80,31 @@ impl Span {
     }
 }
 
-/// From the least to the greatest number of both.
-fn widened(span: Option<Span>, other: Option<Span>) -> Option<Span>
-    ensures { result ≡ wider span other }
+/// The ranges of both.
+fn widened(ranges: Option<Ranges>, other: Option<Ranges>) -> Option<Ranges>
+    ensures numbers { numbers_in result ≡ wider (numbers_in ranges) (numbers_in other) }
+    ensures labels { labels_in result ≡ wider (labels_in ranges) (labels_in other) }
 {
-    match (span, other) {
+    match (ranges, other) {
         (None, _) => other,
-        (_, None) => span,
-        (Some(first), Some(second)) => Some(first.wider(second)),
+        (_, None) => ranges,
+        (Some(first), Some(second)) => Some(Ranges {
+            numbers: first.numbers.wider(second.numbers),
+            labels: first.labels.wider(second.labels),
+        }),
     }
 }
 
 impl Facts {
     /// The facts of no term. It takes no memory.
     pub(crate) fn none(alloc: Global) -> Facts
-        ensures { AreFacts 0 false [] [] result }
+        ensures { AreFacts 0 false [] [] [] result }
     {
         Facts {
             weight: 0,
             holds_walk: false,
             instances: Block::empty(alloc),
-            span: None,
+            ranges: None,
         }
     }
 
@@ -88,27 +119,27 @@ impl Facts {
         if let Some(also) = event.also {
             instances.add_instance(also)?;
         }
-        let span = Span {
-            least: event.number,
-            greatest: event.number,
+        let ranges = Ranges {
+            numbers: Span::of(event.number),
+            labels: Span::of(event.label),
         };
         Ok(Facts {
             weight: 1,
             holds_walk: false,
             instances,
-            span: Some(span),
+            ranges: Some(ranges),
         })
     }
 
     /// The facts of a walk. It takes no memory.
-    pub(crate) fn of_trail(alloc: Global) -> Facts
-        ensures { AreFacts 1 true [] [] result }
+    pub(crate) fn of_walk(alloc: Global) -> Facts
+        ensures { AreFacts 1 true [] [] [] result }
     {
         Facts {
             weight: 1,
             holds_walk: true,
             instances: Block::empty(alloc),
-            span: None,
+            ranges: None,
         }
     }
 
@@ -119,7 +150,7 @@ impl Facts {
         self.instances.add_instances(&other.instances)?;
         self.weight = self.weight.saturating_add(other.weight);
         self.holds_walk |= other.holds_walk;
-        self.span = widened(self.span, other.span);
+        self.ranges = widened(self.ranges, other.ranges);
         Ok(())
     }
 
@@ -139,7 +170,7 @@ impl Facts {
             weight: self.weight,
             holds_walk: self.holds_walk,
             instances,
-            span: self.span,
+            ranges: self.ranges,
         })
     }
 
@@ -151,9 +182,36 @@ impl Facts {
         if self.holds_walk || block.shares_instance(&self.instances) {
             return false;
         }
-        match self.span {
+        match self.ranges {
             None => true,
-            Some(span) => !span.has_any(block.events()),
+            Some(ranges) => !ranges.numbers.has_any(block.events()),
         }
+    }
+
+    /// Whether a term with these facts may have an event with the label, as far as they tell.
+    pub(crate) fn may_have(&self, label: u32) -> bool
+        ensures { result ≡ facts_may label self.now }
+    {
+        if self.holds_walk {
+            return true;
+        }
+        match self.ranges {
+            None => false,
+            Some(ranges) => ranges.labels.has(label),
+        }
+    }
+
+    /// Whether a search for the label passes over the terms with these facts, as far as they tell.
+    pub(crate) fn are_passed(&self, label: u32, skip: &Block) -> bool
+        ensures { result ≡ true → FactsPassed label skip.now.instances self.now }
+    {
+        !self.may_have(label) || self.are_within(skip)
+    }
+
+    /// Whether no walk is in the terms, and their events are at the instances of the block.
+    fn are_within(&self, block: &Block) -> bool
+        ensures { result ≡ true → FactsWithin block.now.instances self.now }
+    {
+        !self.holds_walk && self.instances.compare_instances(block) == Ordering::Equal
     }
 }

@@ -9,13 +9,15 @@ mod event;
 mod facts;
 mod joins;
 pub mod laws;
+mod list;
 mod look;
 mod term;
 mod ties;
 
 pub use choices::choice;
 pub use event::Event;
-pub use joins::{par, seq};
-pub use look::Look;
-pub use term::{RowList, RowPart, Term, TermList};
+pub use joins::{par, par_of, seq, seq_of};
+pub use list::TermList;
+pub use look::{Look, PartLook};
+pub use term::{PartList, RowPart, Term};
 pub use ties::tied;

@@ -1,6 +1,6 @@
-//! The parts of a term, for those who walk down it: term_tables, permit_step, and the constructors here.
+//! The parts of a term, and of a list of parts, for those who walk down it: term_tables, permit_step, and the constructors here.
 
-use crate::{RowList, Term, TermList};
+use crate::{PartList, RowPart, Term};
 use bit_sets::Block;
 use hmsc_graph::{Goal, Spot};
 use msc_base::PairList;
@@ -21,12 +21,12 @@ pub enum Look<'a> {
         /// The number of its label.
         label: u32,
     },
-    /// Parts in weak sequence.
-    Seq(&'a TermList),
-    /// Parts side by side.
-    Par(&'a TermList),
-    /// One of these parts (delayed choice).
-    Choice(&'a TermList),
+    /// Turns in weak sequence.
+    Seq(&'a PartList),
+    /// Turns side by side.
+    Par(&'a PartList),
+    /// One of these turns (delayed choice).
+    Choice(&'a PartList),
     /// A term below a tie of these pairs: the first of a pair comes before the second.
     Tied(&'a Term, &'a PairList),
     /// A loop.
@@ -38,7 +38,7 @@ pub enum Look<'a> {
         /// How many turns may come yet, if there is an end to them.
         upper: Option<u64>,
         /// The gaps where turns may begin, and the turns that have begun.
-        row: &'a RowList,
+        row: &'a PartList,
     },
     /// A walk through a net.
     Walk {
@@ -51,4 +51,13 @@ pub enum Look<'a> {
         /// The instances at which nothing may happen on the way.
         block: &'a Block,
     },
+}
+
+/// What a look at a list of parts shows.
+#[derive(Drop)]
+pub enum PartLook<'a> {
+    /// Parts that lie side by side in memory.
+    Leaf(&'a [RowPart]),
+    /// Both halves, neither of which is empty.
+    Fork(&'a PartList, &'a PartList),
 }

@@ -1,16 +1,21 @@
 //! Terms as shared nodes, and the constructors that make each node as it is; contracts see `Term` as a plain tree.
 
-ghost use Rattle.std.specs.Prelude.{◌≡◌, ◌+◌, ◌++◌, ◌∷◌, ◌<◌, ℕ, [], length, slice_get, min, IfOk, OnOk, OnErr, Some, MatchOption};
+ghost use Rattle.std.specs.Prelude.{◌≡◌, ◌<◌, ◌∷◌, ℕ, [], false, length, min, IfOk, Some, MatchOption};
 ghost use Rattle.std.specs.Option.{ForSome};
-ghost use Rattle.chart_term.specs.Facts.{HasFacts, HaveFacts, RowHasFacts, holds_walk, instances, misses, most_stored};
+ghost use Rattle.chart_term.specs.Facts.{HasFacts, holds_walk, instances, misses, most_stored};
+ghost use Rattle.chart_term.specs.PartLists.{AreTurns, Lacks};
 ghost use Rattle.chart_term.specs.Terms.{Nil, Event as EventTree, Join, Choice, Loop, Walk, Tied, has, trees, row_of, weight};
 ghost use Rattle.msc_base.specs.Patterns.{seq, par};
 ghost use Rattle.hmsc_graph.specs.Spots.{spot_of, goal_of};
-ghost use Rattle.chart_term.specs.NormalForms.{open_choice};
+ghost use Rattle.chart_term.specs.NormalForms.{begun, open_choice};
 ghost use Rattle.chart_term.specs.Views.{pairs_of};
 
+mod changes;
+mod joining;
 mod numbers;
 mod order;
+mod parts;
+mod search;
 
 use crate::facts::Facts;
 use crate::{Event, Look};
@@ -44,22 +49,34 @@ pub(crate) struct Node {
 pub(crate) enum Form {
     Nil,
     Event(Event),
-    Seq(TermList),
-    Par(TermList),
-    Choice(TermList),
+    Seq(PartList),
+    Par(PartList),
+    Choice(PartList),
     Tied(Term, PairList),
-    Loop(Term, u64, Option<u64>, RowList),
-    Walk(u32, Spot, Goal, Block),
+    Loop(Box<LoopForm>),
+    Walk(Box<WalkForm>),
 }
 
-/// A list of terms.
+/// What a loop is made of.
 #[cycle(term)]
 #[derive(Drop)]
-pub struct TermList {
-    items: Vec<Term>,
+pub(crate) struct LoopForm {
+    body: Term,
+    lower: u64,
+    upper: Option<u64>,
+    row: PartList,
 }
 
-/// A part of a loop's row.
+/// What a walk is made of.
+#[derive(Drop)]
+pub(crate) struct WalkForm {
+    net: u32,
+    from: Spot,
+    to: Goal,
+    block: Block,
+}
+
+/// A part of a loop's row, of a sequence or of a choice: the latter two have turns alone.
 #[cycle(term)]
 #[derive(Drop)]
 pub enum RowPart {
@@ -69,11 +86,32 @@ pub enum RowPart {
     Turn(Term),
 }
 
-/// A list of parts of a loop's row.
+/// A list of parts, as a balanced tree of shared nodes.
+///
+/// A contract sees the plain list. Each node stores facts of the parts below it.
 #[cycle(term)]
 #[derive(Drop)]
-pub struct RowList {
-    items: Vec<RowPart>,
+pub struct PartList {
+    root: Rc<Stretch>,
+}
+
+/// A node of a list: a stretch of its parts.
+#[cycle(term)]
+#[derive(Drop)]
+pub(crate) struct Stretch {
+    form: StretchForm,
+    count: usize,
+    height: u8,
+    has_gap: bool,
+    facts: Facts,
+}
+
+/// What a stretch is made of.
+#[cycle(term)]
+#[derive(Drop)]
+pub(crate) enum StretchForm {
+    Leaf(Vec<RowPart>),
+    Fork(PartList, PartList),
 }
 
 impl Model for Node {
@@ -85,9 +123,9 @@ impl Model for Node {
 
     ghost coded = { coded_tree };
 
-    ghost use Rattle.std.proofs.Common.{arith};
     ghost use Rattle.chart_term.specs.Facts.{HasFacts};
-    ghost use Rattle.chart_term.specs.Sizes.{nodes, nodes_all-trees, nodes_row-row_of};
+    ghost use Rattle.chart_term.specs.Sizes.{nodes, begun-nodes, nodes_row-row_of};
+    ghost use Rattle.std.proofs.Common.{arith};
     ghost use Rattle.chart_term.specs.TermViews.{IsFull, tree_of};
 
     ghost view = { λ t. tree_of t.form };
@@ -96,7 +134,7 @@ impl Model for Node {
 
     ghost size = { λ t. nodes t * 2 };
 
-    ghost size_decreases = { λ a h. Prim.grind (arith, nodes_all-trees, nodes_row-row_of) };
+    ghost size_decreases = { λ a h. Prim.grind (arith, begun-nodes, nodes_row-row_of) };
 }
 
 impl Model for Term {
@@ -118,28 +156,34 @@ impl Model for Term {
     ghost size_decreases = { λ a h. Prim.grind arith };
 }
 
-impl Model for TermList {
-    ghost use Rattle.std.specs.Prelude.{List, ◌*◌};
+impl Model for Stretch {
+    ghost use Rattle.std.specs.Prelude.{List, ◌≡◌, ◌*◌, length};
     ghost use Rattle.std.specs.Coded.{coded_list};
-    ghost use Rattle.chart_term.specs.Terms.{Tree};
-    ghost use Rattle.chart_term.specs.Codes.{coded_tree};
+    ghost use Rattle.chart_term.specs.Terms.{Part, row_of};
+    ghost use Rattle.chart_term.specs.Codes.{coded_part};
 
-    ghost Value = { List Tree };
+    ghost Value = { List Part };
 
-    ghost coded = { coded_list coded_tree };
+    ghost coded = { coded_list coded_part };
 
-    ghost use Rattle.std.proofs.Common.{arith};
-    ghost use Rattle.chart_term.specs.Sizes.{list_nodes, most-list_nodes};
+    ghost use Rattle.chart_term.specs.Facts.{RowHasFacts};
+    ghost use Rattle.chart_term.specs.NormalForms.{has_gap as gap_in};
+    ghost use Rattle.chart_term.specs.Sizes.{parts_nodes};
+    ghost use Rattle.chart_term.specs.TermViews.{AreFilled, held_parts};
 
-    ghost view = { λ a. a.items.items };
+    ghost view = { λ a. held_parts a.form };
 
-    ghost size = { λ xs. list_nodes xs * 2 };
+    ghost invariant = { λ a. AreFilled a.form × (a.count ≡ length (held_parts a.form)) × (a.has_gap ≡ gap_in (held_parts a.form)) × RowHasFacts (row_of (held_parts a.form)) a.facts };
 
-    ghost size_decreases = { λ a h. Prim.grind (arith, most-list_nodes a.items.items) };
+    ghost size = { λ ps. parts_nodes ps * 2 };
+
+    ghost use Rattle.chart_term.specs.Falls.{stretch_falls};
+
+    ghost size_decreases = { λ a h. stretch_falls a.form h.0 };
 }
 
-impl Model for RowList {
-    ghost use Rattle.std.specs.Prelude.{List, ◌*◌};
+impl Model for PartList {
+    ghost use Rattle.std.specs.Prelude.{List, ◌+◌, ◌*◌};
     ghost use Rattle.std.specs.Coded.{coded_list};
     ghost use Rattle.chart_term.specs.Terms.{Part};
     ghost use Rattle.chart_term.specs.Codes.{coded_part};
@@ -149,139 +193,13 @@ impl Model for RowList {
     ghost coded = { coded_list coded_part };
 
     ghost use Rattle.std.proofs.Common.{arith};
-    ghost use Rattle.chart_term.specs.Rows.{parts_of};
     ghost use Rattle.chart_term.specs.Sizes.{parts_nodes};
 
-    ghost view = { λ a. parts_of a.items.items };
+    ghost view = { λ a. a.root.value };
 
-    ghost size = { λ ps. parts_nodes ps * 2 };
+    ghost size = { λ ps. parts_nodes ps * 2 + 1 };
 
-    ghost use Rattle.chart_term.specs.Falls.{most-parts_nodes};
-
-    ghost size_decreases = { λ a h. Prim.grind (arith, most-parts_nodes a.items.items) };
-}
-
-impl TermList {
-    /// The empty list. It takes no memory.
-    pub fn new(alloc: Global) -> TermList
-        ensures { result ≡ [] }
-    {
-        TermList {
-            items: Vec::new(alloc),
-        }
-    }
-
-    /// Appends the item. After want of memory the list is as it was, and the item is dropped.
-    pub fn push(&mut self, item: Term) -> Result<(), NoMemory>
-        ensures ok { OnOk result (self.new ≡ self.old ++ item ∷ []) }
-        ensures err { OnErr result (self.new ≡ self.old) }
-    {
-        self.items.push(item)?;
-        Ok(())
-    }
-
-    /// How many items the list has.
-    pub fn len(&self) -> usize
-        ensures { result ≡ length self.now }
-    {
-        self.items.len()
-    }
-
-    /// The item at that index, from 0.
-    pub fn at(&self, index: usize) -> &Term
-        requires { index < length self.now }
-        ensures { slice_get self.now index ≡ Some result.now }
-    {
-        &self.items[index]
-    }
-
-    /// The items as a slice.
-    pub fn as_slice(&self) -> &[Term]
-        ensures { result.now ≡ self.now }
-    {
-        self.items.as_slice()
-    }
-
-    /// Takes the last item off, if there is one.
-    pub(crate) fn pop(&mut self) -> Option<Term>
-        ensures { MatchOption result (self.old ≡ []) (λ last. self.old ≡ self.new ++ last ∷ []) }
-    {
-        self.items.pop()
-    }
-
-    /// The facts of all items together.
-    #[tactic(auto, using(crate::proofs::Gathering::gathering))]
-    fn facts(&self, alloc: Global) -> Result<Facts, NoMemory>
-        ensures { IfOk result (λ facts. HaveFacts (trees self.now) facts) }
-    {
-        let mut facts = Facts::none(alloc);
-        for item in &self.items {
-            facts.add(item.facts())?;
-        }
-        Ok(facts)
-    }
-
-    /// Appends copies of the items of another list.
-    pub(crate) fn append_copies(&mut self, alloc: Global, others: &TermList) -> Result<(), NoMemory>
-        ensures { OnOk result (self.new ≡ self.old ++ others.now) }
-    {
-        for other in &others.items {
-            self.push(other.copy(alloc)?)?;
-        }
-        Ok(())
-    }
-}
-
-impl RowList {
-    ghost use Rattle.chart_term.specs.Rows.{part_of};
-
-    /// The empty list. It takes no memory.
-    pub fn new(alloc: Global) -> RowList
-        ensures { result ≡ [] }
-    {
-        RowList {
-            items: Vec::new(alloc),
-        }
-    }
-
-    /// Appends the item. After want of memory the list is as it was, and the item is dropped.
-    pub fn push(&mut self, item: RowPart) -> Result<(), NoMemory>
-        ensures ok { OnOk result (self.new ≡ self.old ++ part_of item ∷ []) }
-        ensures err { OnErr result (self.new ≡ self.old) }
-    {
-        self.items.push(item)?;
-        Ok(())
-    }
-
-    /// How many items the list has.
-    pub fn len(&self) -> usize
-        ensures { result ≡ length self.now }
-    {
-        self.items.len()
-    }
-
-    /// The item at that index, from 0.
-    pub fn at(&self, index: usize) -> &RowPart
-        requires { index < length self.now }
-        ensures { slice_get self.now index ≡ Some (part_of result.now) }
-    {
-        &self.items[index]
-    }
-
-    /// The facts of all items together.
-    #[tactic(auto, using(crate::proofs::Gathering::gathering))]
-    fn facts(&self, alloc: Global) -> Result<Facts, NoMemory>
-        ensures { IfOk result (λ facts. RowHasFacts (row_of self.now) facts) }
-    {
-        let mut facts = Facts::none(alloc);
-        for item in &self.items {
-            match item {
-                RowPart::Gap(_) => facts.add_weight(1),
-                RowPart::Turn(turn) => facts.add(turn.facts())?,
-            }
-        }
-        Ok(facts)
-    }
+    ghost size_decreases = { λ a h. Prim.grind arith };
 }
 
 impl Term {
@@ -337,43 +255,55 @@ impl Term {
         body: Term,
         lower: u64,
         upper: Option<u64>,
-        row: RowList,
+        row: PartList,
     ) -> Result<Term, NoMemory>
         ensures { IfOk result (λ term. term ≡ Loop body lower upper (row_of row)) }
     {
-        let mut facts = row.facts(alloc)?;
+        let mut facts = row.facts().copy(alloc)?;
         facts.add(body.facts())?;
         facts.add_weight(1);
-        let form = Form::Loop(body, lower, upper, row);
+        let parts = LoopForm {
+            body,
+            lower,
+            upper,
+            row,
+        };
+        let form = Form::Loop(Box::new(alloc, parts)?);
         Term::share(alloc, Node { form, facts })
     }
 
-    /// The parts one after another, as they are.
-    pub(crate) fn seq_of(alloc: Global, parts: TermList) -> Result<Term, NoMemory>
-        ensures { IfOk result (λ term. term ≡ Join seq (trees parts)) }
+    /// The turns one after another, as they are.
+    #[tactic(auto, using(crate::proofs::Gathering::gathering))]
+    pub(crate) fn seq_of(alloc: Global, parts: PartList) -> Result<Term, NoMemory>
+        requires { AreTurns parts }
+        ensures { IfOk result (λ term. term ≡ Join seq (trees (begun parts))) }
     {
-        let mut facts = parts.facts(alloc)?;
+        let mut facts = parts.facts().copy(alloc)?;
         facts.add_weight(1);
         let form = Form::Seq(parts);
         Term::share(alloc, Node { form, facts })
     }
 
-    /// The parts side by side, as they are.
-    pub(crate) fn par_of(alloc: Global, parts: TermList) -> Result<Term, NoMemory>
-        ensures { IfOk result (λ term. term ≡ Join par (trees parts)) }
+    /// The turns side by side, as they are.
+    #[tactic(auto, using(crate::proofs::Gathering::gathering))]
+    pub(crate) fn par_of(alloc: Global, parts: PartList) -> Result<Term, NoMemory>
+        requires { AreTurns parts }
+        ensures { IfOk result (λ term. term ≡ Join par (trees (begun parts))) }
     {
-        let mut facts = parts.facts(alloc)?;
+        let mut facts = parts.facts().copy(alloc)?;
         facts.add_weight(1);
         let form = Form::Par(parts);
         Term::share(alloc, Node { form, facts })
     }
 
-    /// The choice of the parts, as they are.
-    pub(crate) fn choice_of(alloc: Global, parts: TermList) -> Result<Term, NoMemory>
-        requires { 0 < length parts }
-        ensures { IfOk result (λ term. term ≡ Choice (trees parts)) }
+    /// The choice of the turns, as they are.
+    #[tactic(auto, using(crate::proofs::Gathering::gathering))]
+    pub(crate) fn choice_of(alloc: Global, parts: PartList) -> Result<Term, NoMemory>
+        requires turns { AreTurns parts }
+        requires some { 0 < length parts }
+        ensures { IfOk result (λ term. term ≡ Choice (trees (begun parts))) }
     {
-        let mut facts = parts.facts(alloc)?;
+        let mut facts = parts.facts().copy(alloc)?;
         facts.add_weight(1);
         let form = Form::Choice(parts);
         Term::share(alloc, Node { form, facts })
@@ -401,8 +331,14 @@ impl Term {
         ensures { IfOk result (λ term.
             term ≡ Walk net (spot_of from) (goal_of to) block.instances) }
     {
-        let facts = Facts::of_trail(alloc);
-        let form = Form::Walk(net, from, to, block);
+        let facts = Facts::of_walk(alloc);
+        let parts = WalkForm {
+            net,
+            from,
+            to,
+            block,
+        };
+        let form = Form::Walk(Box::new(alloc, parts)?);
         Term::share(alloc, Node { form, facts })
     }
 
@@ -423,25 +359,25 @@ impl Term {
             Form::Par(parts) => Look::Par(parts),
             Form::Choice(parts) => Look::Choice(parts),
             Form::Tied(inner, pairs) => Look::Tied(inner, pairs),
-            Form::Loop(body, lower, upper, row) => Look::Loop {
-                body,
-                lower: *lower,
-                upper: *upper,
-                row,
+            Form::Loop(parts) => Look::Loop {
+                body: &parts.body,
+                lower: parts.lower,
+                upper: parts.upper,
+                row: &parts.row,
             },
-            Form::Walk(net, from, to, block) => Look::Walk {
-                net: *net,
-                from: *from,
-                to: *to,
-                block,
+            Form::Walk(parts) => Look::Walk {
+                net: parts.net,
+                from: parts.from,
+                to: parts.to,
+                block: &parts.block,
             },
         }
     }
 
-    /// The parts of a choice, of which there is one at least.
-    pub(crate) fn choice_parts(&self) -> Option<&TermList>
+    /// The parts of a choice, of which there is one at least, and all are turns.
+    pub(crate) fn choice_parts(&self) -> Option<&PartList>
         ensures { MatchOption result (open_choice self.now ≡ self.now ∷ [])
-            (λ parts. (open_choice self.now ≡ parts.now) × (0 < length parts.now)) }
+            (λ parts. (open_choice self.now ≡ begun parts.now) × AreTurns parts.now × (0 < length parts.now)) }
     {
         let node: &Node = &self.node;
         match &node.form {
@@ -476,6 +412,15 @@ impl Term {
         ensures { result ≡ misses block.now self.now }
     {
         self.facts().misses(block)
+    }
+
+    /// Whether an event with the label may stand in the term: false only where no walk is in it, and
+    /// no event of it, of its loop operands or begun turns has the label. It takes no memory.
+    #[tactic(auto, using(crate::proofs::Passing::passing))]
+    pub fn may_have(&self, label: u32) -> bool
+        ensures { result ≡ false → Lacks label self.now }
+    {
+        self.facts().may_have(label)
     }
 
     /// The instances of the events of the term, of its loop operands and begun turns; nets aren't

@@ -5,7 +5,9 @@ use Rattle.msc_base.specs.Patterns.{seq, par}
 use Rattle.hmsc_graph.specs.Graphs.{Spot, Goal}
 use Rattle.hmsc_graph.specs.Nets.{size_of}
 use Rattle.hmsc_graph.specs.Spots.{spot_of, goal_of}
-use Rattle.chart_term.specs.NormalForms.{NetPermits, only}
+use Rattle.chart_term.specs.NormalForms.{NetPermits, begun, only}
+use Rattle.chart_term.specs.PartLists.{AreTurns}
+use Rattle.chart_term.proofs.Turns.{begun-length}
 use Rattle.chart_term.specs.Tables.{Tables, net_of, nodes_of, node_of, net_count}
 use Rattle.chart_term.specs.Terms.{Tree, Nil, Join, Choice, Tied, Loop, Walk, trees, Part, Gap, row_of, ◌∪◌}
 use Rattle.chart_term.proofs.Lists.{items-trees, parts-row_of}
@@ -24,14 +26,14 @@ use Rattle.hmsc_graph.specs.declared.spot.Spot.{Spot as SpotShown}
 use Rattle.hmsc_graph.specs.declared.spot.Goal.{Goal as GoalShown}
 
 module _ (w : Tables) where
-  pub count-seq : (x : Tree) (xs : List Tree) → x ≡ Join seq (trees xs) → child_count w x ≡ length xs
-  count-seq x xs e = ap (child_count w) e ∙ ap length (items-trees xs)
+  pub count-seq : (x : Tree) (ps : List Part) → x ≡ Join seq (trees (begun ps)) → AreTurns ps → child_count w x ≡ length ps
+  count-seq x ps e h = ap (child_count w) e ∙ (ap length (items-trees (begun ps)) ∙ begun-length ps h)
 
-  pub count-par : (x : Tree) (xs : List Tree) → x ≡ Join par (trees xs) → child_count w x ≡ length xs
-  count-par x xs e = ap (child_count w) e ∙ ap length (items-trees xs)
+  pub count-par : (x : Tree) (ps : List Part) → x ≡ Join par (trees (begun ps)) → AreTurns ps → child_count w x ≡ length ps
+  count-par x ps e h = ap (child_count w) e ∙ (ap length (items-trees (begun ps)) ∙ begun-length ps h)
 
-  pub count-choice : (x : Tree) (xs : List Tree) → x ≡ Choice (trees xs) → child_count w x ≡ length xs
-  count-choice x xs e = ap (child_count w) e ∙ ap length (items-trees xs)
+  pub count-choice : (x : Tree) (ps : List Part) → x ≡ Choice (trees (begun ps)) → AreTurns ps → child_count w x ≡ length ps
+  count-choice x ps e h = ap (child_count w) e ∙ (ap length (items-trees (begun ps)) ∙ begun-length ps h)
 
   pub count-tied : (x y : Tree) (q : List (ℕ × ℕ)) → x ≡ Tied y q → child_count w x ≡ 1
   count-tied x y q e = ap (child_count w) e
@@ -46,15 +48,6 @@ module _ (w : Tables) where
   count-nil x e = ap (child_count w) e
 
 module _ (k : NetPermits) where
-  pub child-seq : (x y : Tree) (xs : List Tree) (i : ℕ) → x ≡ Join seq (trees xs) → slice_get xs i ≡ Some y → child k x i ≡ Some y
-  child-seq x y xs i e h = ap (λ u. child k u i) e ∙ (ap (λ l. slice_get l i) (items-trees xs) ∙ h)
-
-  pub child-par : (x y : Tree) (xs : List Tree) (i : ℕ) → x ≡ Join par (trees xs) → slice_get xs i ≡ Some y → child k x i ≡ Some y
-  child-par x y xs i e h = ap (λ u. child k u i) e ∙ (ap (λ l. slice_get l i) (items-trees xs) ∙ h)
-
-  pub child-choice : (x y : Tree) (xs : List Tree) (i : ℕ) → x ≡ Choice (trees xs) → slice_get xs i ≡ Some y → child k x i ≡ Some y
-  child-choice x y xs i e h = ap (λ u. child k u i) e ∙ (ap (λ l. slice_get l i) (items-trees xs) ∙ h)
-
   pub child-tied : (x y : Tree) (q : List (ℕ × ℕ)) (i : ℕ) → x ≡ Tied y q → i < 1 → child k x i ≡ Some y
   child-tied x y q zero e l = ap (λ u. child k u 0) e
   child-tied x y q (suc i) e l = absurd (omega arith)
@@ -102,4 +95,4 @@ module _ (w : Tables) (tables : AreReadyTables w) where
 pub alone-block : (c : List ℕ) (own d : BlockValue) → own ≡ record { instances = c ∪ d.instances; events = [] } → d ≡ record { instances = []; events = [] } → block_of own ≡ only c
 alone-block c own d e h = ap block_of e ∙ ap (λ (b : BlockValue). only (c ∪ b.instances)) h
 
-pub ruleset descending = (ready-body, count-seq, count-par, count-choice, count-tied, count-loop, count-walk, count-nil, child-seq, child-par, child-choice, child-tied, child-loop, child-none, gap-child, gap-shut)
+pub ruleset descending = (ready-body, count-seq, count-par, count-choice, count-tied, count-loop, count-walk, count-nil, child-tied, child-loop, child-none, gap-child, gap-shut)

@@ -1,6 +1,6 @@
 -- Whether a term may end, part by part.
-use Rattle.std.specs.Prelude.{ℕ, zero, suc, ◌+◌, ◌<◌, Bool, true, false, List, [], ◌∷◌, ◌++◌, ◌≡◌, ◌↔◌, ◌⊎◌, Option, Some, refl, take, slice_get, IsTrue, Result, Ok, Err, IfOk}
-use Rattle.std.proofs.Common.{sym, subst, arith, inl, inr}
+use Rattle.std.specs.Prelude.{ℕ, zero, suc, ◌+◌, ◌<◌, ◌≤◌, Bool, true, false, List, [], ◌∷◌, ◌++◌, ◌≡◌, ◌↔◌, ◌⊎◌, Option, Some, refl, length, take, slice_get, IsTrue, Result, Ok, Err, IfOk}
+use Rattle.std.proofs.Common.{ap, sym, subst, arith, inl, inr}
 use Rattle.msc_base.specs.Patterns.{Mode, seq, par}
 use Rattle.hmsc_graph.specs.Graphs.{Net, Spot, Start, At, Goal, To, End, Any, WalkThrough, last, step, behind}
 use Rattle.msc_base.specs.Lists.{IsIn}
@@ -16,6 +16,12 @@ use Rattle.term_laws.proofs.Measures.{rank-seq, rank-par, rank-some, rank-tied, 
 use Rattle.permit_step.proofs.Permits.{ready-seq, ready-par, ready-choice, ready-tied}
 use Rattle.permit_step.specs.Endings.{AreEnding, MayPartEnd}
 use Rattle.term_laws.specs.Taking.{HasGap, MayEnd, end_nil, end_join, end_choice, end_bound, end_zero, end_turns, end_trail, EndAll, end_none, end_more, EndOne, end_this, end_that, EndLoop, no_turns, past_gap, one_turn, EndWalk, last_edge, inner_edge}
+
+pub take_all : (xs : List Tree) (n : ℕ) → length xs ≤ n → take n xs ≡ xs
+take_all [] zero h = refl
+take_all [] (suc n) h = refl
+take_all (x ∷ xs) zero h = absurd (omega arith)
+take_all (x ∷ xs) (suc n) h = ap (λ l. x ∷ l) (take_all xs n (omega arith))
 
 module _ (w : NetTerms) where
   -- several parts

@@ -21,7 +21,11 @@ pub mod ChildReady
 pub mod Tallying
 pub mod Searching
 pub mod SoundReady
-pub mod Nearest
 pub mod Visits
+pub mod Joins
+pub mod Passes
+pub mod MissedParts
+pub mod ItemsLeft
+pub mod Copies
 pub mod TermMembers
 pub mod AllAfter

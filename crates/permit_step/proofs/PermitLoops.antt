@@ -1,9 +1,8 @@
 -- What permission leaves of a loop, by its row's parts.
-use Rattle.std.specs.Prelude.{ℕ, ◌<◌, Bool, true, false, ltb, List, [], ◌∷◌, ◌≡◌, ◌==◌, Option, Some, None, refl, length, take}
+use Rattle.std.specs.Prelude.{ℕ, ◌<◌, Bool, true, false, ltb, List, [], ◌∷◌, ◌≡◌, ◌==◌, Option, Some, None, refl}
 use Rattle.std.specs.Option.{option_map}
 use Rattle.std.proofs.Common.{ap, sym, ◌∙◌, arith, cond}
 use Rattle.std.proofs.lemmas.Bool.Decides.{nat_tests}
-use Rattle.std.proofs.Math.Seq.{take-length}
 use Rattle.chart_term.specs.NormalForms.{NetPermits, only, cut, turns_in}
 use Rattle.chart_term.specs.Properties.{EachGap}
 use Rattle.chart_term.specs.Tables.{Tables}
@@ -118,16 +117,13 @@ module _ (k : NetPermits) (x : Tree) (hi : Option ℕ) (b : Block) (all d : List
 
 module _ (w : Tables) (x : Tree) (lo : ℕ) (hi : Option ℕ) (ps : List Part) (b : Block) (all d : List ℕ) (h : IsReadyLoop w x hi ps) (alike : (n : ℕ) → has all n ≡ has (touch (spread_of w) x) n) (narrow : d ≡ cut all b.instances) where
   abbrev kept : Option RowRest
-  kept = keep_parts (λ c. permit (permits_of w) (only c) x) (λ y. permit (permits_of w) b y) hi d (take (length ps) ps) no_rest
-
-  whole : kept ≡ keep_parts (λ c. permit (permits_of w) (only c) x) (λ y. permit (permits_of w) b y) hi d ps no_rest
-  whole = ap (λ l. keep_parts (λ c. permit (permits_of w) (only c) x) (λ y. permit (permits_of w) b y) hi d l no_rest) (take-length ps)
+  kept = keep_parts (λ c. permit (permits_of w) (only c) x) (λ y. permit (permits_of w) b y) hi d ps no_rest
 
   pub loop-left : (r : RowRest) → kept ≡ Some r → permit (permits_of w) b (Loop x lo hi (row_of ps)) ≡ rest_end x lo hi r
-  loop-left r e = kept_end (permits_of w) x hi b all d narrow alike lo ps r h.normal (sym whole ∙ e)
+  loop-left r e = kept_end (permits_of w) x hi b all d narrow alike lo ps r h.normal e
 
   pub loop-none : kept ≡ None → permit (permits_of w) b (Loop x lo hi (row_of ps)) ≡ None
-  loop-none e = kept_none (permits_of w) x hi b all d narrow alike lo ps h.normal (sym whole ∙ e)
+  loop-none e = kept_none (permits_of w) x hi b all d narrow alike lo ps h.normal e
 
 -- the parts of a loop that is ready
 row_ready : (w : Tables) (ps : List Part) → IsRowWithin w (row_of ps) → IsNormalRow (permits_of w) (row_of ps) → EachGap IsSet ps → AreReadyParts w ps

@@ -1,29 +1,24 @@
 -- Permission, one part after another, and that parts are ready.
 use Rattle.std.specs.Prelude.{ℕ, zero, suc, ◌+◌, true, false, List, [], ◌∷◌, ◌++◌, ◌≡◌, ◌&&◌, Option, Some, None, refl, take, slice_get, not}
 use Rattle.std.specs.List.{list_any}
-use Rattle.std.specs.Option.{option_map}
-use Rattle.std.proofs.Common.{ap, ◌∙◌, append-nil}
+use Rattle.std.proofs.Common.{ap, ◌∙◌, append-nil, subst}
 use Rattle.bit_sets.specs.Blocks.{BlockValue}
 use Rattle.msc_base.specs.Patterns.{Mode, seq, par}
 use Rattle.chart_term.specs.Facts.{misses}
-use Rattle.chart_term.specs.NormalForms.{NetPermits, and_then, or_skip}
-use Rattle.chart_term.specs.Properties.{Each}
+use Rattle.chart_term.specs.NormalForms.{NetPermits, and_then, begun, or_skip}
+use Rattle.chart_term.specs.Properties.{Each, EachTurn}
 use Rattle.chart_term.specs.Tables.{Tables}
-use Rattle.chart_term.specs.Terms.{Block, TermEvent, Tree, Nil, Event, Join, Choice, Tied, trees}
-use Rattle.chart_term.proofs.Lists.{take_step}
-use Rattle.term_laws.specs.Normality.{AreNormal}
+use Rattle.chart_term.specs.Terms.{Block, TermEvent, Tree, Nil, Event, Join, Choice, Tied, trees, Part}
+use Rattle.chart_term.proofs.Lists.{items-trees, take_step}
+use Rattle.term_laws.specs.Normality.{AreNormal, IsPartOf}
 use Rattle.term_laws.specs.Permission.{permit, permit_all, permit_some, permits_of}
 use Rattle.permit_step.specs.Ready.{IsReady, AreWithin}
 use Rattle.term_laws.specs.Values.{block_of}
 use Rattle.term_laws.proofs.Missed.{permit-misses, hits-unless}
-use Rattle.term_laws.proofs.Measures.{rank-seq, rank-par, rank-some, rank-tied, rank-loop, rank-at}
+use Rattle.term_laws.proofs.Measures.{rank-tied, rank-loop}
+use Rattle.permit_step.proofs.Joins.{each-begun}
 
 module _ (k : NetPermits) (b : Block) where
-  move : (o : Option Tree) (p : Option (List Tree)) (y : Tree) → and_then o (option_map (λ ks. ks ++ y ∷ []) p) ≡ option_map (λ ks. ks ++ y ∷ []) (and_then o p)
-  move None p y = refl
-  move (Some x) None y = refl
-  move (Some x) (Some ks) y = refl
-
   and_none : (o : Option Tree) → and_then o None ≡ None
   and_none None = refl
   and_none (Some x) = refl
@@ -32,16 +27,9 @@ module _ (k : NetPermits) (b : Block) where
   skip_app None xs ys = refl
   skip_app (Some x) xs ys = refl
 
-  push_all : (xs : List Tree) (x y : Tree) → permit k b x ≡ Some y → permit_all k b (trees (xs ++ x ∷ [])) ≡ option_map (λ ks. ks ++ y ∷ []) (permit_all k b (trees xs))
-  push_all [] x y q = ap (λ o. and_then o (Some [])) q
-  push_all (z ∷ xs) x y q = ap (λ o. and_then (permit k b z) o) (push_all xs x y q) ∙ move (permit k b z) (permit_all k b (trees xs)) y
-
   push_some : (xs : List Tree) (x : Tree) → permit_some k b (trees (xs ++ x ∷ [])) ≡ permit_some k b (trees xs) ++ or_skip (permit k b x) []
   push_some [] x = refl
   push_some (z ∷ xs) x = ap (λ o. or_skip (permit k b z) o) (push_some xs x) ∙ skip_app (permit k b z) (permit_some k b (trees xs)) (or_skip (permit k b x) [])
-
-  pub all-more : (xs : List Tree) (i : ℕ) (x y : Tree) (ks : List Tree) → permit_all k b (trees (take i xs)) ≡ Some ks → slice_get xs i ≡ Some x → permit k b x ≡ Some y → permit_all k b (trees (take (i + 1) xs)) ≡ Some (ks ++ y ∷ [])
-  all-more xs i x y ks p h q = ap (λ l. permit_all k b (trees l)) (take_step xs i x h) ∙ (push_all (take i xs) x y q ∙ ap (option_map (λ ks. ks ++ y ∷ [])) p)
 
   pub all-none : (xs : List Tree) (i : ℕ) (x : Tree) → slice_get xs i ≡ Some x → permit k b x ≡ None → permit_all k b (trees xs) ≡ None
   all-none [] i x h q = cc
@@ -77,6 +65,15 @@ module _ (w : Tables) where
   pub ready-choice : (x : Tree) (xs : List Tree) → x ≡ Choice (trees xs) → IsReady w x → Each (IsReady w) xs
   ready-choice x xs e h = choice_ready xs (rw e at h)
 
+  -- for the lists of turns that a look shows
+  pub turns-are-ready : (m : Mode) (x : Tree) (ps : List Part) → x ≡ Join m (trees (begun ps)) → IsReady w x → EachTurn (IsReady w) ps
+  turns-are-ready m x ps e h = each-begun (IsReady w) ps (join_ready m (begun ps) (subst (IsReady w) e h))
+
+  pub turns-are-open : (m : Mode) (x : Tree) (ps : List Part) → x ≡ Join m (trees (begun ps)) → IsReady w x → EachTurn (IsPartOf m) ps
+  turns-are-open m x ps e h =
+      let r : IsReady w (Join m (trees (begun ps))) = subst (IsReady w) e h in
+      each-begun (IsPartOf m) ps (subst (Each (IsPartOf m)) (items-trees (begun ps)) r.normal.1)
+
   pub ready-tied : (x y : Tree) (q : List (ℕ × ℕ)) → x ≡ Tied y q → IsReady w x → IsReady w y
   ready-tied x y q e h = bound_ready y q (rw e at h)
 
@@ -99,4 +96,4 @@ hit-nil b = none_hit b.instances b.events
     none_hit : (c d : List ℕ) → ((not false && not (list_any (λ n. false) c)) && not (list_any (λ n. false) d)) ≡ true
     none_hit c d = λ i. (not false && not (never c i)) && not (never d i)
 
-pub ruleset permits = (permit-misses, all-more, all-none, some-more, some-skip, ready-seq, ready-par, ready-choice, ready-tied, ready-at, hit-event, hit-nil, rank-seq, rank-par, rank-some, rank-tied, rank-loop, rank-at)
+pub ruleset permits = (permit-misses, some-more, some-skip, ready-seq, ready-par, ready-choice, ready-tied, ready-at, hit-event, hit-nil, rank-tied, rank-loop)

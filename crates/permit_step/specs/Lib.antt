@@ -9,6 +9,7 @@ pub mod Children
 pub mod Successors
 pub mod Searches
 pub mod ReadyBySoundness
-pub mod Held
+pub mod Lefts
+pub mod Skips
 pub mod AllAfter
 pub mod Gatherings

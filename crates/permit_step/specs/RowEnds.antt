@@ -1,10 +1,10 @@
 -- Serves private contracts alone.
--- The parts of a row that are held the last first.
-use Rattle.std.specs.Prelude.{List, map, reverse}
-use Rattle.chart_term.specs.declared.term.RowPart.{RowPart}
-use Rattle.chart_term.specs.Rows.{part_of}
-use Rattle.chart_term.specs.Terms.{Part}
+-- Whether a row begins with a gap.
+use Rattle.std.specs.Prelude.{Bool, true, false, List, [], ◌∷◌}
+use Rattle.chart_term.specs.Terms.{Part, Gap, Turn}
 
--- the parts in the order of the row
-abbrev pub backward : List RowPart → List Part
-backward ps = reverse (map part_of ps)
+-- the first part is a gap
+abbrev pub gap_first : List Part → Bool
+gap_first [] = false
+gap_first (Gap c ∷ ps) = true
+gap_first (Turn x ∷ ps) = false

@@ -87,8 +87,8 @@ fn put(
 {
     match parent.look() {
         Look::Nil | Look::Event { .. } => Ok(None),
-        Look::Seq(parts) => put_in_row(alloc, nets, taken, parts, index, left),
-        Look::Par(parts) => Ok(Some(put_in_par(alloc, parts, index, left)?)),
+        Look::Seq(parts) => put_in_row(alloc, nets, taken, parts, index, &left),
+        Look::Par(parts) => Ok(Some(put_in_par(alloc, nets, taken, parts, index, &left)?)),
         Look::Choice(_) => Ok(Some(left)),
         Look::Tied(_, pairs) => put_below_tie(alloc, nets, taken, pairs, left),
         Look::Loop {

@@ -1,18 +1,25 @@
-//! The children of a term from which an event may be taken, one by one: the way down of `successors`.
+//! The children of a term from which an event with a label may be taken, one by one: the way down of `search`.
 
-ghost use Rattle.std.specs.Prelude.{◌≡◌, ◌<◌, ◌+◌, IfOk, Some};
+ghost use Rattle.std.specs.Prelude.{◌≡◌, ◌<◌, ◌+◌, IfOk, IfSome, Some, None, true};
+ghost use Rattle.chart_term.specs.PartLists.{AreTurns};
 ghost use Rattle.chart_term.specs.Rows.{part_of};
 ghost use Rattle.chart_term.specs.Tables.{net_count, net_of};
+ghost use Rattle.chart_term.specs.Terms.{Loop as LoopTree, Walk as WalkTree, row_of};
 ghost use Rattle.hmsc_graph.specs.Nets.{size_of};
-ghost use Rattle.permit_step.specs.Children.{child, row_child};
-ghost use Rattle.term_laws.specs.Permission.{permits_of};
-ghost use Rattle.permit_step.specs.Ready.{IsReady, AreReadyTables, IsReadyPart};
-ghost use Rattle.permit_step.specs.Searches.{IsNext, child_count};
+ghost use Rattle.hmsc_graph.specs.Spots.{spot_of, goal_of};
+ghost use Rattle.permit_step.specs.Children.{row_child};
+ghost use Rattle.term_laws.specs.Normality.{IsSet};
+ghost use Rattle.term_laws.specs.Permission.{kept_of, permits_of};
+ghost use Rattle.permit_step.specs.Ready.{IsReady, AreReadyTables, IsReadyPart, AreReadyParts, IsReadyLoop};
+ghost use Rattle.permit_step.specs.Searches.{IsNext, IsTaken, child_count, is_gap};
+ghost use Rattle.permit_step.specs.Skips.{IsBelowTie, IsChildOr, IsNextPart, IsSkip};
 
+use crate::ascent::Taken;
 use crate::blocks::widened;
+use crate::parts::{LoopParts, WalkParts};
 use crate::permission::permit;
 use bit_sets::Block;
-use chart_term::{Look, RowPart, Term};
+use chart_term::{Event, Look, PartList, RowPart, Term};
 use msc_base::NoMemory;
 use std::alloc::Global;
 use term_tables::Nets;
@@ -25,100 +32,230 @@ pub(crate) struct Step {
 }
 
 /// The next child from the index on from which an event with the label may be taken, if there is one.
-#[tactic(auto, using(crate::proofs::Descending::descending))]
+///
+/// `met` is the last event with the label that was found, if there is one. Where a part before the index lets no event happen at its
+/// instances, parts behind that have no other instance are passed over.
+#[tactic(auto, using(crate::proofs::Passes::passes, crate::proofs::Descending::descending))]
 pub(crate) fn next_child(
     alloc: Global,
     nets: &Nets,
     label: u32,
     term: &Term,
     from: usize,
+    met: &Option<Taken>,
 ) -> Result<Option<Step>, NoMemory>
     requires tables { AreReadyTables nets.now.tables }
     requires term { IsReady nets.now.tables term.now }
+    requires met { IfSome met.now IsTaken }
     ensures { IfOk result (λ next. IsNext nets.now.tables label term.now from next) }
 {
-    let _ = label;
-    for index in from..child_count(nets, term) {
-        if let Some(inner) = child(alloc, nets, term, index)? {
-            return Ok(Some(Step { index, inner }));
+    match term.look() {
+        Look::Nil => Ok(None),
+        Look::Event { .. } => Ok(None),
+        Look::Seq(parts) => {
+            let skip = blocked(alloc, nets, parts, from, met)?;
+            let next = next_part(alloc, parts, from, label, &skip)?;
+            Ok(next)
         }
-    }
-    Ok(None)
-}
-
-/// The index behind that of a child.
-pub(crate) fn behind(nets: &Nets, term: &Term, index: usize) -> usize
-    requires tables { AreReadyTables nets.now.tables }
-    requires term { IsReady nets.now.tables term.now }
-    requires index { index < child_count nets.now.tables term.now }
-    ensures { result ≡ index + 1 }
-{
-    let _count = child_count(nets, term);
-    index + 1
-}
-
-/// From how many places of the term an event may be taken.
-#[tactic(auto, using(crate::proofs::Descending::descending))]
-fn child_count(nets: &Nets, term: &Term) -> usize
-    requires tables { AreReadyTables nets.now.tables }
-    requires term { IsReady nets.now.tables term.now }
-    ensures { result ≡ child_count nets.now.tables term.now }
-{
-    match term.look() {
-        Look::Nil => 0,
-        Look::Event { .. } => 0,
-        Look::Seq(parts) => parts.len(),
-        Look::Par(parts) => parts.len(),
-        Look::Choice(parts) => parts.len(),
-        Look::Tied(_, _) => 1,
-        Look::Loop { row, .. } => row.len(),
-        Look::Walk { net, .. } => nets.net(net).size() as usize,
-    }
-}
-
-/// What an event of that index is taken from: a part, a begun turn, a turn that may begin in a gap, or a node's term where the
-/// walk may pass it. None where there is nothing.
-#[tactic(auto, using(crate::proofs::Descending::descending))]
-fn child(alloc: Global, nets: &Nets, term: &Term, index: usize) -> Result<Option<Term>, NoMemory>
-    requires tables { AreReadyTables nets.now.tables }
-    requires term { IsReady nets.now.tables term.now }
-    requires index { index < child_count nets.now.tables term.now }
-    ensures { IfOk result (λ inner. inner ≡ child (permits_of nets.now.tables) term.now index) }
-{
-    match term.look() {
-        Look::Nil | Look::Event { .. } => Ok(None),
-        Look::Seq(parts) => Ok(Some(parts.at(index).copy(alloc)?)),
-        Look::Par(parts) => Ok(Some(parts.at(index).copy(alloc)?)),
-        Look::Choice(parts) => Ok(Some(parts.at(index).copy(alloc)?)),
-        Look::Tied(inner, _) => Ok(Some(inner.copy(alloc)?)),
+        Look::Par(parts) => {
+            let next = next_part(alloc, parts, from, label, &Block::empty(alloc))?;
+            Ok(next)
+        }
+        Look::Choice(parts) => {
+            let next = next_part(alloc, parts, from, label, &Block::empty(alloc))?;
+            Ok(next)
+        }
+        Look::Tied(inner, _) => {
+            let next = below_tie(alloc, inner, label, from)?;
+            Ok(next)
+        }
         Look::Loop {
             body,
+            lower,
             upper,
             row,
-            ..
-        } => turn_of(alloc, nets, body, upper, row.at(index)),
-        Look::Walk { net, block, .. } => {
-            let own = widened(alloc, block, &Block::empty(alloc))?;
-            let node = node_at(nets, net, index);
-            let left = permit(alloc, nets, nets.node(net, node), &own)?;
-            Ok(left)
+        } => {
+            let turns = LoopParts {
+                body,
+                lower,
+                upper,
+                row,
+            };
+            next_turn(alloc, nets, label, turns, from, met)
+        }
+        Look::Walk {
+            net,
+            from: begin,
+            to,
+            block: own,
+        } => {
+            let way = WalkParts {
+                net,
+                from: begin,
+                to,
+                own,
+            };
+            next_node(alloc, nets, label, way, from)
         }
     }
 }
 
-/// The number of the net's node of that index.
-pub(crate) fn node_at(nets: &Nets, net: u32, index: usize) -> u32
-    requires net { net < net_count nets.now.tables }
-    requires index { index < size_of (net_of nets.now.tables net) }
-    ensures { result ≡ index }
+/// The term below a tie, where it may have the label and the index is its.
+fn below_tie(alloc: Global, inner: &Term, label: u32, from: usize) -> Result<Option<Step>, NoMemory>
+    ensures { IfOk result (λ next. IsBelowTie label inner.now from next) }
 {
-    let size = nets.net(net).size() as usize;
-    index.min(size) as u32
+    if from > 0 {
+        return Ok(None);
+    }
+    if !inner.may_have(label) {
+        return Ok(None);
+    }
+    let inner = inner.copy(alloc)?;
+    Ok(Some(Step { index: 0, inner }))
+}
+
+/// The next of the turns from the index on that a search for the label doesn't pass over.
+#[tactic(auto, using(crate::proofs::Passes::passes, crate::proofs::Descending::descending))]
+fn next_part(
+    alloc: Global,
+    parts: &PartList,
+    from: usize,
+    label: u32,
+    skip: &Block,
+) -> Result<Option<Step>, NoMemory>
+    requires { AreTurns parts.now }
+    ensures { IfOk result (λ next. IsNextPart parts.now from label skip.now.instances next) }
+{
+    let Some(index) = parts.next_with(from, label, skip) else {
+        return Ok(None);
+    };
+    let inner = parts.term_at(index).copy(alloc)?;
+    Ok(Some(Step { index, inner }))
+}
+
+/// The instances of the event, where the part before the index lets nothing happen at them, and no instances otherwise.
+#[tactic(auto, using(crate::proofs::Passes::passes))]
+fn blocked(
+    alloc: Global,
+    nets: &Nets,
+    parts: &PartList,
+    from: usize,
+    met: &Option<Taken>,
+) -> Result<Block, NoMemory>
+    requires tables { AreReadyTables nets.now.tables }
+    requires parts { AreReadyParts nets.now.tables parts.now }
+    requires met { IfSome met.now IsTaken }
+    ensures { IfOk result (λ skip. IsSkip (permits_of nets.now.tables) parts.now from skip.instances) }
+{
+    let Some(met) = met else {
+        return Ok(Block::empty(alloc));
+    };
+    if from == 0 {
+        return Ok(Block::empty(alloc));
+    }
+    if from >= parts.len() {
+        return Ok(Block::empty(alloc));
+    }
+    if !is_alone(&met.event) {
+        return Ok(Block::empty(alloc));
+    }
+    match parts.at(from - 1) {
+        RowPart::Gap(_) => Ok(Block::empty(alloc)),
+        RowPart::Turn(turn) => {
+            let left = permit(alloc, nets, turn, &met.at)?;
+            if !is_none(&left) {
+                return Ok(Block::empty(alloc));
+            }
+            let skip = met.at.copy(alloc)?;
+            Ok(skip)
+        }
+    }
+}
+
+/// Whether the event has one instance alone.
+fn is_alone(event: &Event) -> bool
+    ensures { result ≡ true → event.now.also ≡ None }
+{
+    match event.also {
+        None => true,
+        Some(_) => false,
+    }
+}
+
+/// Whether nothing is left.
+fn is_none(left: &Option<Term>) -> bool
+    ensures { result ≡ true → left.now ≡ None }
+{
+    match left {
+        None => true,
+        Some(_) => false,
+    }
+}
+
+/// The next turn of a loop from the index on: one that has begun, or one that may begin in a gap.
+#[tactic(auto, using(crate::proofs::Passes::passes, crate::proofs::Descending::descending))]
+fn next_turn(
+    alloc: Global,
+    nets: &Nets,
+    label: u32,
+    turns: LoopParts<'_>,
+    from: usize,
+    met: &Option<Taken>,
+) -> Result<Option<Step>, NoMemory>
+    requires tables { AreReadyTables nets.now.tables }
+    requires row { IsReadyLoop nets.now.tables turns.body.now turns.upper turns.row.now }
+    requires met { IfSome met.now IsTaken }
+    ensures { IfOk result (λ next. IsNext nets.now.tables label (LoopTree turns.entry.body.now turns.entry.lower turns.entry.upper (row_of turns.entry.row.now)) from next) }
+{
+    let skip = blocked(alloc, nets, turns.row, from, met)?;
+    let _count = turns.row.len();
+    let mut at = from;
+    'rows: loop {
+        let Some(index) = turns.row.next_with(at, label, &skip) else {
+            return Ok(None);
+        };
+        let part = turns.row.at(index);
+        if let Some(inner) = turn_of(alloc, nets, label, turns.body, turns.upper, part)? {
+            return Ok(Some(Step { index, inner }));
+        }
+        at = index + 1;
+    }
+}
+
+/// The begun turn, or the turn that may begin in a gap, if there is one that may have the label.
+#[tactic(auto, using(crate::proofs::Passes::passes))]
+fn turn_of(
+    alloc: Global,
+    nets: &Nets,
+    label: u32,
+    body: &Term,
+    upper: Option<u64>,
+    part: &RowPart,
+) -> Result<Option<Term>, NoMemory>
+    requires tables { AreReadyTables nets.now.tables }
+    requires body { IsReady nets.now.tables body.now }
+    requires part { IsReadyPart nets.now.tables (part_of part.now) }
+    ensures { IfOk result (λ turn. IsChildOr label (row_child (permits_of nets.now.tables) body.now upper (Some (part_of part.now))) turn) }
+{
+    if is_gap(part) {
+        if !body.may_have(label) {
+            return Ok(None);
+        }
+    }
+    let left = turn_in(alloc, nets, body, upper, part)?;
+    Ok(left)
+}
+
+/// Whether the part is a gap.
+pub(crate) fn is_gap(part: &RowPart) -> bool
+    ensures { result ≡ is_gap (part_of part.now) }
+{
+    matches!(part, RowPart::Gap(_))
 }
 
 /// The begun turn, or the turn that may begin in a gap, if there is one.
 #[tactic(auto, using(crate::proofs::Descending::descending))]
-fn turn_of(
+fn turn_in(
     alloc: Global,
     nets: &Nets,
     body: &Term,
@@ -141,4 +278,91 @@ fn turn_of(
             Ok(left)
         }
     }
+}
+
+/// The term of the next node of a net from the index on, where the walk may pass it.
+#[tactic(auto, using(crate::proofs::Passes::passes, crate::proofs::Descending::descending))]
+fn next_node(
+    alloc: Global,
+    nets: &Nets,
+    label: u32,
+    way: WalkParts<'_>,
+    from: usize,
+) -> Result<Option<Step>, NoMemory>
+    requires tables { AreReadyTables nets.now.tables }
+    requires net { way.net < net_count nets.now.tables }
+    requires own { IsSet way.own.now.instances }
+    ensures { IfOk result (λ next. IsNext nets.now.tables label (WalkTree way.entry.net (spot_of way.entry.from) (goal_of way.entry.to) way.entry.own.now.instances) from next) }
+{
+    let size = nets.net(way.net).size() as usize;
+    for index in from..size {
+        if let Some(inner) = node_of(alloc, nets, label, way, index)? {
+            return Ok(Some(Step { index, inner }));
+        }
+    }
+    Ok(None)
+}
+
+/// What the walk's block leaves of a node's term, where this may have the label.
+#[tactic(auto, using(crate::proofs::Passes::passes, crate::proofs::Descending::descending))]
+fn node_of(
+    alloc: Global,
+    nets: &Nets,
+    label: u32,
+    way: WalkParts<'_>,
+    index: usize,
+) -> Result<Option<Term>, NoMemory>
+    requires tables { AreReadyTables nets.now.tables }
+    requires net { way.net < net_count nets.now.tables }
+    requires own { IsSet way.own.now.instances }
+    requires index { index < size_of (net_of nets.now.tables way.net) }
+    ensures { IfOk result (λ node. IsChildOr label (kept_of nets.now.tables way.entry.net index way.entry.own.now.instances) node) }
+{
+    let term = nets.node(way.net, node_at(nets, way.net, index));
+    if !term.may_have(label) {
+        return Ok(None);
+    }
+    let own = widened(alloc, way.own, &Block::empty(alloc))?;
+    let left = permit(alloc, nets, term, &own)?;
+    Ok(left)
+}
+
+/// The number of the net's node of that index.
+pub(crate) fn node_at(nets: &Nets, net: u32, index: usize) -> u32
+    requires net { net < net_count nets.now.tables }
+    requires index { index < size_of (net_of nets.now.tables net) }
+    ensures { result ≡ index }
+{
+    let size = nets.net(net).size() as usize;
+    index.min(size) as u32
+}
+
+/// From how many places of the term an event may be taken.
+#[tactic(auto, using(crate::proofs::Passes::passes, crate::proofs::Descending::descending))]
+fn child_count(nets: &Nets, term: &Term) -> usize
+    requires tables { AreReadyTables nets.now.tables }
+    requires term { IsReady nets.now.tables term.now }
+    ensures { result ≡ child_count nets.now.tables term.now }
+{
+    match term.look() {
+        Look::Nil => 0,
+        Look::Event { .. } => 0,
+        Look::Seq(parts) => parts.len(),
+        Look::Par(parts) => parts.len(),
+        Look::Choice(parts) => parts.len(),
+        Look::Tied(_, _) => 1,
+        Look::Loop { row, .. } => row.len(),
+        Look::Walk { net, .. } => nets.net(net).size() as usize,
+    }
+}
+
+/// The index behind that of a child.
+pub(crate) fn behind(nets: &Nets, term: &Term, index: usize) -> usize
+    requires tables { AreReadyTables nets.now.tables }
+    requires term { IsReady nets.now.tables term.now }
+    requires index { index < child_count nets.now.tables term.now }
+    ensures { result ≡ index + 1 }
+{
+    let _count = child_count(nets, term);
+    index + 1
 }

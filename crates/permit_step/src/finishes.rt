@@ -1,6 +1,8 @@
 //! Whether a term may end: trace_judge asks it at a log's end. It takes no event and looks at no block.
 
 ghost use Rattle.std.specs.Prelude.{◌≡◌, ◌<◌, ◌↔◌, ◌⊎◌, ℕ, IfOk, IsTrue, true};
+ghost use Rattle.chart_term.specs.NormalForms.{begun};
+ghost use Rattle.chart_term.specs.PartLists.{AreTurns};
 ghost use Rattle.chart_term.specs.Properties.{Each};
 ghost use Rattle.chart_term.specs.Rows.{part_of};
 ghost use Rattle.chart_term.specs.Tables.{net_count, net_of, terms_over};
@@ -14,7 +16,7 @@ ghost use Rattle.permit_step.specs.Ready.{IsReady, AreReadyTables, IsReadyPart, 
 ghost use Rattle.term_laws.specs.Taking.{MayEnd, EndAll, EndOne, EndLoop, EndWalk};
 
 use bit_sets::NodeSet;
-use chart_term::{Look, RowList, RowPart, Term, TermList};
+use chart_term::{Look, PartList, RowPart, Term};
 use hmsc_graph::{Goal, Spot, has_walk};
 use msc_base::NoMemory;
 use std::alloc::Global;
@@ -48,13 +50,14 @@ pub fn may_end(alloc: Global, nets: &Nets, term: &Term) -> Result<bool, NoMemory
 /// Whether all parts may end.
 #[cycle(may_end)]
 #[tactic(auto, using(crate::proofs::EndingFacts::endings))]
-fn all_may_end(alloc: Global, nets: &Nets, parts: &TermList) -> Result<bool, NoMemory>
+fn all_may_end(alloc: Global, nets: &Nets, parts: &PartList) -> Result<bool, NoMemory>
     requires tables { AreReadyTables nets.now.tables }
-    requires parts { Each (IsReady nets.now.tables) parts.now }
-    ensures { IfOk result (λ ends. IsTrue ends ↔ EndAll (terms_over nets.now.tables) parts.now) }
+    requires turns { AreTurns parts.now }
+    requires parts { Each (IsReady nets.now.tables) (begun parts.now) }
+    ensures { IfOk result (λ ends. IsTrue ends ↔ EndAll (terms_over nets.now.tables) (begun parts.now)) }
 {
     for index in 0..parts.len() {
-        if !may_end(alloc, nets, parts.at(index))? {
+        if !may_end(alloc, nets, parts.term_at(index))? {
             return Ok(false);
         }
     }
@@ -64,13 +67,14 @@ fn all_may_end(alloc: Global, nets: &Nets, parts: &TermList) -> Result<bool, NoM
 /// Whether one of the parts may end.
 #[cycle(may_end)]
 #[tactic(auto, using(crate::proofs::EndingFacts::endings))]
-fn one_may_end(alloc: Global, nets: &Nets, parts: &TermList) -> Result<bool, NoMemory>
+fn one_may_end(alloc: Global, nets: &Nets, parts: &PartList) -> Result<bool, NoMemory>
     requires tables { AreReadyTables nets.now.tables }
-    requires parts { Each (IsReady nets.now.tables) parts.now }
-    ensures { IfOk result (λ ends. IsTrue ends ↔ EndOne (terms_over nets.now.tables) parts.now) }
+    requires turns { AreTurns parts.now }
+    requires parts { Each (IsReady nets.now.tables) (begun parts.now) }
+    ensures { IfOk result (λ ends. IsTrue ends ↔ EndOne (terms_over nets.now.tables) (begun parts.now)) }
 {
     for index in 0..parts.len() {
-        if may_end(alloc, nets, parts.at(index))? {
+        if may_end(alloc, nets, parts.term_at(index))? {
             return Ok(true);
         }
     }
@@ -86,7 +90,7 @@ fn loop_may_end(
     body: &Term,
     lower: u64,
     upper: Option<u64>,
-    row: &RowList,
+    row: &PartList,
 ) -> Result<bool, NoMemory>
     requires tables { AreReadyTables nets.now.tables }
     requires row { IsReadyLoop nets.now.tables body.now upper row.now }
@@ -104,7 +108,7 @@ fn loop_may_end(
 /// Whether all begun turns of the row may end.
 #[cycle(may_end)]
 #[tactic(auto, using(crate::proofs::EndingFacts::endings))]
-fn turns_may_end(alloc: Global, nets: &Nets, row: &RowList) -> Result<bool, NoMemory>
+fn turns_may_end(alloc: Global, nets: &Nets, row: &PartList) -> Result<bool, NoMemory>
     requires tables { AreReadyTables nets.now.tables }
     requires row { AreReadyParts nets.now.tables row.now }
     ensures { IfOk result (λ ends. IsTrue ends ↔ EndLoop (terms_over nets.now.tables) row.now) }

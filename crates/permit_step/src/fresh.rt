@@ -14,7 +14,7 @@ ghost use Rattle.permit_step.specs.Ready.{IsReady, AreReadyTables};
 use crate::permission::walk;
 use crate::row_end::is_empty;
 use bit_sets::Block;
-use chart_term::{RowList, RowPart, Term};
+use chart_term::{PartList, RowPart, Term};
 use hmsc_graph::{Goal, Spot};
 use msc_base::NoMemory;
 use std::alloc::Global;
@@ -47,8 +47,7 @@ fn unbegun_loop(
     if !may_turn(lower, upper) || is_empty(&body) {
         return Term::nil(alloc);
     }
-    let mut row = RowList::new(alloc);
-    row.push(RowPart::Gap(Block::empty(alloc)))?;
+    let row = PartList::one(alloc, RowPart::Gap(Block::empty(alloc)))?;
     Term::loop_of(alloc, body, lower, upper, row)
 }
 

@@ -12,6 +12,7 @@ mod finishes;
 mod found;
 mod fresh;
 pub mod laws;
+mod left;
 mod loops;
 mod parts;
 mod passing;

@@ -21,7 +21,7 @@ pub(crate) fn loop_end(
     let lower = if end.is_free() { 0 } else { lower };
     if end.has_gap() {
         let body = body.copy(alloc)?;
-        let row = end.into_row(alloc)?;
+        let row = end.into_row();
         return Ok(Some(Term::loop_of(alloc, body, lower, upper, row)?));
     }
     if lower > 0 {

@@ -1,7 +1,7 @@
 //! The parts of loops and walks as structs, which permission, ascent and descent hand on.
 
 use bit_sets::Block;
-use chart_term::{RowList, Term};
+use chart_term::{PartList, Term};
 use hmsc_graph::{Goal, Spot};
 
 /// The parts of a loop.
@@ -14,7 +14,7 @@ pub(crate) struct LoopParts<'a> {
     /// How many turns may come yet, if there is an end to them.
     pub(crate) upper: Option<u64>,
     /// The gaps where turns may begin, and the turns that have begun.
-    pub(crate) row: &'a RowList,
+    pub(crate) row: &'a PartList,
 }
 
 /// What a loop's parts are permitted by.

@@ -1,27 +1,30 @@
 //! What permission by a block leaves of a term, part by part. Descent and ascent ask it for what is before an event.
 
-ghost use Rattle.std.specs.Prelude.{◌≡◌, ◌∷◌, ◌<◌, ◌≤◌, IfOk, OnOk, Some, None, if◌then◌else◌, length, take};
-ghost use Rattle.chart_term.specs.NormalForms.{choice_of, only, walk_of, walk_cut};
-ghost use Rattle.chart_term.specs.Properties.{Each, MayHave};
-ghost use Rattle.chart_term.specs.Rows.{part_of};
+ghost use Rattle.std.specs.Prelude.{◌≡◌, ◌<◌, IfOk, OnOk, Some, None, if◌then◌else◌};
+ghost use Rattle.chart_term.specs.NormalForms.{begun, choice_of, only, walk_of, walk_cut};
+ghost use Rattle.chart_term.specs.PartLists.{AreTurns};
+ghost use Rattle.chart_term.specs.Properties.{EachTurn, MayHave};
+ghost use Rattle.chart_term.specs.Rows.{part_of, parts_of};
 ghost use Rattle.chart_term.specs.Tables.{net_count, net_of};
-ghost use Rattle.chart_term.specs.Terms.{Loop, trees, row_of, ◌∪◌};
+ghost use Rattle.chart_term.specs.Terms.{Choice, Loop, trees, row_of, ◌∪◌};
 ghost use Rattle.hmsc_graph.specs.Nets.{size_of};
 ghost use Rattle.hmsc_graph.specs.Spots.{spot_of, goal_of, IsSpotBelow, IsGoalBelow};
-ghost use Rattle.term_laws.specs.Normality.{IsSet};
+ghost use Rattle.term_laws.specs.Normality.{IsNotNil, IsPartOf, IsSet};
+ghost use Rattle.permit_step.specs.Lefts.{left_of, mode_of, opened_left, ArePartsLeft};
 ghost use Rattle.permit_step.specs.Passing.{ArePassable};
-ghost use Rattle.term_laws.specs.Permission.{permits_of, permit_all, permit_some, permit as permitted};
+ghost use Rattle.term_laws.specs.Permission.{permits_of, permit as permitted};
 ghost use Rattle.permit_step.specs.Ready.{IsReady, AreReadyTables, IsReadyPart, AreReadyParts, IsReadyLoop};
 ghost use Rattle.permit_step.specs.RowRests.{open_before, keep_part, keep_parts};
 ghost use Rattle.term_laws.specs.Values.{block_of};
 
 use crate::blocks::{common, widened};
+use crate::left::{Joint, Left, PartsLeft, both, opened_after, whole};
 use crate::loops::loop_end;
 use crate::parts::{LoopBlock, LoopParts, WalkParts};
 use crate::passing::{Passable, is_aimed, passes_full};
 use crate::row_end::{RowEnd, is_empty};
 use bit_sets::Block;
-use chart_term::{Look, RowPart, Term, TermList, choice, par, seq, tied};
+use chart_term::{Look, PartList, PartLook, RowPart, Term, TermList, choice, par_of, seq_of, tied};
 use hmsc_graph::{Goal, Spot, has_walk};
 use msc_base::{NoMemory, PairList};
 use std::alloc::Global;
@@ -42,42 +45,46 @@ pub fn permit(
     ensures ready { IfOk result (λ left. MayHave (IsReady nets.now.tables) left) }
 {
     let left = permit_term(alloc, nets, term, block)?;
+    let left = whole(alloc, term, left)?;
     Ok(left)
 }
 
-/// The same, as the parts of terms are permitted.
+/// The same, where a term that stays as it is isn't made anew.
 #[cycle(permit)]
 #[tactic(auto, using(crate::proofs::Permits::permits))]
-fn permit_term(
+pub(crate) fn permit_term(
     alloc: Global,
     nets: &Nets,
     term: &Term,
     block: &Block,
-) -> Result<Option<Term>, NoMemory>
+) -> Result<Left, NoMemory>
     requires tables { AreReadyTables nets.now.tables }
     requires term { IsReady nets.now.tables term.now }
-    ensures { IfOk result (λ left. left ≡ permitted (permits_of nets.now.tables) (block_of block.now) term.now) }
+    ensures { IfOk result (λ left. left_of left term.now ≡ permitted (permits_of nets.now.tables) (block_of block.now) term.now) }
 {
     if term.misses(block) {
-        return Ok(Some(term.copy(alloc)?));
+        return Ok(Left::Unchanged);
     }
     match term.look() {
-        Look::Nil | Look::Event { .. } => Ok(None),
-        Look::Seq(parts) => match permit_all(alloc, nets, parts, block)? {
-            Some(kept) => Ok(Some(seq(alloc, kept)?)),
-            None => Ok(None),
+        Look::Nil | Look::Event { .. } => Ok(Left::Fails),
+        Look::Seq(parts) => match permit_parts(alloc, nets, Joint::Row, parts, block)? {
+            PartsLeft::Fails => Ok(Left::Fails),
+            PartsLeft::Unchanged => Ok(Left::Unchanged),
+            PartsLeft::Changed(left) => Ok(Left::Changed(seq_of(alloc, left)?)),
         },
-        Look::Par(parts) => match permit_all(alloc, nets, parts, block)? {
-            Some(kept) => Ok(Some(par(alloc, kept)?)),
-            None => Ok(None),
+        Look::Par(parts) => match permit_parts(alloc, nets, Joint::Aside, parts, block)? {
+            PartsLeft::Fails => Ok(Left::Fails),
+            PartsLeft::Unchanged => Ok(Left::Unchanged),
+            PartsLeft::Changed(left) => Ok(Left::Changed(par_of(alloc, left)?)),
         },
-        Look::Choice(parts) => {
-            let kept = permit_some(alloc, nets, parts, block)?;
-            chosen(alloc, kept)
-        }
+        Look::Choice(parts) => permit_choice(alloc, nets, parts, block),
         Look::Tied(inner, pairs) => match permit_term(alloc, nets, inner, block)? {
-            Some(kept) => Ok(Some(tied(alloc, kept, copy_pairs(alloc, pairs)?)?)),
-            None => Ok(None),
+            Left::Fails => Ok(Left::Fails),
+            Left::Unchanged => Ok(Left::Unchanged),
+            Left::Changed(left) => {
+                let pairs = copy_pairs(alloc, pairs)?;
+                Ok(Left::Changed(tied(alloc, left, pairs)?))
+            }
         },
         Look::Loop {
             body,
@@ -91,7 +98,8 @@ fn permit_term(
                 upper,
                 row,
             };
-            permit_loop(alloc, nets, turns, block)
+            let left = permit_loop(alloc, nets, turns, block)?;
+            Ok(Left::of(left))
         }
         Look::Walk {
             net,
@@ -100,7 +108,8 @@ fn permit_term(
             block: own,
         } => {
             let way = WalkParts { net, from, to, own };
-            widened_walk(alloc, nets, way, block)
+            let left = widened_walk(alloc, nets, way, block)?;
+            Ok(Left::of(left))
         }
     }
 }
@@ -126,49 +135,111 @@ fn chosen(alloc: Global, parts: TermList) -> Result<Option<Term>, NoMemory>
     Ok(Some(choice(alloc, parts)?))
 }
 
-/// What is left of each part, or None where permission fails for one.
+/// What is left of the parts of a join, opened. The last of them is tried first, since events of one label are mostly held by the
+/// nearest part that has it too.
 #[cycle(permit)]
 #[tactic(auto, using(crate::proofs::Permits::permits))]
-fn permit_all(
+pub(crate) fn permit_parts(
     alloc: Global,
     nets: &Nets,
-    parts: &TermList,
+    joint: Joint,
+    parts: &PartList,
     block: &Block,
-) -> Result<Option<TermList>, NoMemory>
+) -> Result<PartsLeft, NoMemory>
     requires tables { AreReadyTables nets.now.tables }
-    requires parts { Each (IsReady nets.now.tables) parts.now }
-    ensures { IfOk result (λ left. left ≡ permit_all (permits_of nets.now.tables) (block_of block.now) (trees parts.now)) }
+    requires turns { AreTurns parts.now }
+    requires ready { EachTurn (IsReady nets.now.tables) parts.now }
+    requires open { EachTurn (IsPartOf (mode_of joint)) parts.now }
+    ensures { IfOk result (λ left. ArePartsLeft (opened_left (permits_of nets.now.tables) (block_of block.now) (mode_of joint) (begun parts.now)) parts.now left) }
 {
-    let mut kept = TermList::new(alloc);
-    for index in 0..parts.len() {
-        match permit_term(alloc, nets, parts.at(index), block)? {
-            Some(part) => kept.push(part)?,
-            None => return Ok(None),
+    if parts.misses(block) {
+        return Ok(PartsLeft::Unchanged);
+    }
+    match parts.look() {
+        PartLook::Leaf(items) => permit_items(alloc, nets, joint, items, block),
+        PartLook::Fork(first, second) => {
+            let behind = permit_parts(alloc, nets, joint, second, block)?;
+            if behind.fails() {
+                return Ok(PartsLeft::Fails);
+            }
+            let before = permit_parts(alloc, nets, joint, first, block)?;
+            let left = both(alloc, first, before, second, behind)?;
+            Ok(left)
         }
     }
-    Ok(Some(kept))
 }
 
-/// What is left of the parts for which permission doesn't fail.
+/// The same of parts that lie side by side in memory.
 #[cycle(permit)]
 #[tactic(auto, using(crate::proofs::Permits::permits))]
-fn permit_some(
+fn permit_items(
     alloc: Global,
     nets: &Nets,
-    parts: &TermList,
+    joint: Joint,
+    items: &[RowPart],
     block: &Block,
-) -> Result<TermList, NoMemory>
+) -> Result<PartsLeft, NoMemory>
     requires tables { AreReadyTables nets.now.tables }
-    requires parts { Each (IsReady nets.now.tables) parts.now }
-    ensures { IfOk result (λ left. left ≡ permit_some (permits_of nets.now.tables) (block_of block.now) (trees parts.now)) }
+    requires turns { AreTurns (parts_of items.now) }
+    requires ready { EachTurn (IsReady nets.now.tables) (parts_of items.now) }
+    requires open { EachTurn (IsPartOf (mode_of joint)) (parts_of items.now) }
+    ensures { IfOk result (λ left. ArePartsLeft (opened_left (permits_of nets.now.tables) (block_of block.now) (mode_of joint) (begun (parts_of items.now))) (parts_of items.now) left) }
+{
+    let mut kept = PartList::empty(alloc)?;
+    let mut changed = false;
+    let mut index = items.len();
+    while index > 0 {
+        index -= 1;
+        let term = match &items[index] {
+            RowPart::Turn(term) => term,
+            RowPart::Gap(_) => continue,
+        };
+        let left = permit_term(alloc, nets, term, block)?;
+        changed |= left.is_changed();
+        let Some(front) = opened_after(alloc, joint, term, left)? else {
+            return Ok(PartsLeft::Fails);
+        };
+        kept = PartList::concat(alloc, &front, &kept)?;
+    }
+    if changed {
+        Ok(PartsLeft::Changed(kept))
+    } else {
+        Ok(PartsLeft::Unchanged)
+    }
+}
+
+/// What is left of a choice.
+#[cycle(permit)]
+#[tactic(auto, using(crate::proofs::Permits::permits))]
+fn permit_choice(
+    alloc: Global,
+    nets: &Nets,
+    parts: &PartList,
+    block: &Block,
+) -> Result<Left, NoMemory>
+    requires tables { AreReadyTables nets.now.tables }
+    requires turns { AreTurns parts.now }
+    requires choice { IsReady nets.now.tables (Choice (trees (begun parts.now))) }
+    ensures { IfOk result (λ left. left_of left (Choice (trees (begun parts.now))) ≡ permitted (permits_of nets.now.tables) (block_of block.now) (Choice (trees (begun parts.now)))) }
 {
     let mut kept = TermList::new(alloc);
+    let mut changed = false;
     for index in 0..parts.len() {
-        if let Some(part) = permit_term(alloc, nets, parts.at(index), block)? {
-            kept.push(part)?;
+        let part = parts.term_at(index);
+        match permit_term(alloc, nets, part, block)? {
+            Left::Fails => changed = true,
+            Left::Unchanged => kept.push(part.copy(alloc)?)?,
+            Left::Changed(left) => {
+                changed = true;
+                kept.push(left)?;
+            }
         }
     }
-    Ok(kept)
+    if !changed {
+        return Ok(Left::Unchanged);
+    }
+    let left = chosen(alloc, kept)?;
+    Ok(Left::of(left))
 }
 
 /// What is left of a loop.
@@ -190,36 +261,69 @@ fn permit_loop(
         whole: block,
         narrow: &narrow,
     };
-    let mut end = RowEnd::new(alloc);
-    if keep_parts(alloc, nets, turns, turns.row.len(), by, &mut end)? {
+    let mut end = RowEnd::new(alloc)?;
+    if keep_parts(alloc, nets, turns, turns.row, by, &mut end)? {
         loop_end(alloc, turns.body, turns.lower, turns.upper, end)
     } else {
         Ok(None)
     }
 }
 
-/// Puts what is left of the row's first parts in front of its end, and says whether permission failed for none.
+/// Puts what is left of these parts of a row in front of its end, and says whether permission failed for none. Turns that the block
+/// misses are handed on as they are.
 #[cycle(permit)]
 #[tactic(auto, using(crate::proofs::PermitRows::rows))]
 pub(crate) fn keep_parts(
     alloc: Global,
     nets: &Nets,
     turns: LoopParts<'_>,
-    count: usize,
+    parts: &PartList,
     by: LoopBlock<'_>,
     end: &mut RowEnd,
 ) -> Result<bool, NoMemory>
     requires tables { AreReadyTables nets.now.tables }
     requires body { IsReady nets.now.tables turns.body.now }
-    requires row { AreReadyParts nets.now.tables turns.row.now }
-    requires count { count ≤ length turns.row.now }
+    requires row { AreReadyParts nets.now.tables parts.now }
+    requires over { EachTurn IsNotNil parts.now }
     ensures { IfOk result (λ kept. (if kept then Some end.new else None)
-        ≡ keep_parts (λ c. permitted (permits_of nets.now.tables) (only c) turns.entry.body.now) (λ y. permitted (permits_of nets.now.tables) (block_of by.entry.whole.now) y) turns.entry.upper by.entry.narrow.now.instances (take count turns.entry.row.now) end.old) }
+        ≡ keep_parts (λ c. permitted (permits_of nets.now.tables) (only c) turns.entry.body.now) (λ y. permitted (permits_of nets.now.tables) (block_of by.entry.whole.now) y) turns.entry.upper by.entry.narrow.now.instances parts.now end.old) }
 {
-    let mut index = count;
+    if !parts.has_gap() && parts.misses(by.whole) {
+        end.put_all(alloc, parts)?;
+        return Ok(true);
+    }
+    match parts.look() {
+        PartLook::Leaf(items) => keep_items(alloc, nets, turns, items, by, end),
+        PartLook::Fork(first, second) => {
+            if !keep_parts(alloc, nets, turns, second, by, end)? {
+                return Ok(false);
+            }
+            keep_parts(alloc, nets, turns, first, by, end)
+        }
+    }
+}
+
+/// The same of parts that lie side by side in memory.
+#[cycle(permit)]
+#[tactic(auto, using(crate::proofs::PermitRows::rows))]
+fn keep_items(
+    alloc: Global,
+    nets: &Nets,
+    turns: LoopParts<'_>,
+    items: &[RowPart],
+    by: LoopBlock<'_>,
+    end: &mut RowEnd,
+) -> Result<bool, NoMemory>
+    requires tables { AreReadyTables nets.now.tables }
+    requires body { IsReady nets.now.tables turns.body.now }
+    requires row { AreReadyParts nets.now.tables (parts_of items.now) }
+    ensures { IfOk result (λ kept. (if kept then Some end.new else None)
+        ≡ keep_parts (λ c. permitted (permits_of nets.now.tables) (only c) turns.entry.body.now) (λ y. permitted (permits_of nets.now.tables) (block_of by.entry.whole.now) y) turns.entry.upper by.entry.narrow.now.instances (parts_of items.now) end.old) }
+{
+    let mut index = items.len();
     while index > 0 {
         index -= 1;
-        if !keep_part(alloc, nets, turns, turns.row.at(index), by, end)? {
+        if !keep_part(alloc, nets, turns, &items[index], by, end)? {
             return Ok(false);
         }
     }
@@ -250,11 +354,15 @@ fn keep_part(
             Ok(true)
         }
         RowPart::Turn(turn) => match permit_term(alloc, nets, turn, by.whole)? {
-            Some(left) => {
-                end.put_turn(left)?;
+            Left::Fails => Ok(false),
+            Left::Unchanged => {
+                end.put_turn(alloc, turn.copy(alloc)?)?;
                 Ok(true)
             }
-            None => Ok(false),
+            Left::Changed(left) => {
+                end.put_turn(alloc, left)?;
+                Ok(true)
+            }
         },
     }
 }
@@ -279,16 +387,16 @@ fn put_gap(
     if upper == Some(0) {
         return Ok(());
     }
-    match permit_term(alloc, nets, body, &block)? {
-        None => Ok(()),
-        Some(left) => {
-            if is_empty(&left) {
-                end.drop_free_gap();
-                Ok(())
-            } else {
-                end.put_gap(block)
-            }
-        }
+    let free = match permit_term(alloc, nets, body, &block)? {
+        Left::Fails => return Ok(()),
+        Left::Unchanged => is_empty(body),
+        Left::Changed(left) => is_empty(&left),
+    };
+    if free {
+        end.drop_free_gap();
+        Ok(())
+    } else {
+        end.put_gap(alloc, block)
     }
 }
 
@@ -359,7 +467,9 @@ fn passable(alloc: Global, nets: &Nets, net: u32, block: &Block) -> Result<Passa
     let size = nets.net(net).size();
     let mut nodes = Passable::none(alloc, size)?;
     for node in 0..size {
-        let left = permit_term(alloc, nets, nets.node(net, node), block)?;
+        let term = nets.node(net, node);
+        let left = permit_term(alloc, nets, term, block)?;
+        let left = whole(alloc, term, left)?;
         nodes.add(node, &left);
     }
     Ok(nodes)

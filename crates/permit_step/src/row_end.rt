@@ -1,11 +1,12 @@
 //! The end of a loop's row in normal form, to which parts are put in front: for permission and ascent.
 
-ghost use Rattle.std.specs.Prelude.{◌≡◌, [], true, false, IfOk, OnOk, Some};
+ghost use Rattle.std.specs.Prelude.{◌≡◌, ◌++◌, [], true, false, IfOk, OnOk, Some};
 ghost use Rattle.chart_term.specs.NormalForms.{begun, has_gap, is_nil};
+ghost use Rattle.permit_step.specs.RowEnds.{gap_first};
 ghost use Rattle.permit_step.specs.RowRests.{no_rest, turn_before, gap_before};
 
 use bit_sets::Block;
-use chart_term::{Look, RowList, RowPart, Term, TermList};
+use chart_term::{Look, PartList, RowPart, Term, TermList};
 use msc_base::NoMemory;
 use std::alloc::Global;
 use std::marker::Model;
@@ -15,28 +16,20 @@ use std::marker::Model;
 /// A contract sees its parts in the order of the row, and whether a gap was dropped that leaves only the empty pattern.
 #[derive(Drop)]
 pub(crate) struct RowEnd {
-    /// The parts, the last of the row first.
-    parts: Vec<RowPart>,
-    /// Whether one of them is a gap.
-    gapped: bool,
+    parts: PartList,
     free: bool,
 }
 
 impl Model for RowEnd {
     ghost use Rattle.permit_step.specs.RowRests.{RowRest};
-    ghost use Rattle.permit_step.specs.RowEnds.{backward};
-    ghost use Rattle.std.specs.Prelude.{◌≡◌};
     ghost use Rattle.std.specs.Coded.{codes};
     ghost use Rattle.chart_term.specs.Codes.{coded_part};
-    ghost use Rattle.chart_term.specs.NormalForms.{has_gap};
 
     ghost Value = { RowRest };
 
     ghost coded = { Prim.hlevel (codes, coded_part) };
 
-    ghost view = { λ e. record { parts = backward e.parts.items; free = e.free } };
-
-    ghost invariant = { λ e. e.gapped ≡ has_gap (backward e.parts.items) };
+    ghost view = { λ e. record { parts = e.parts; free = e.free } };
 }
 
 /// Whether the term is the empty process.
@@ -46,35 +39,56 @@ pub(crate) fn is_empty(term: &Term) -> bool
     matches!(term.look(), Look::Nil)
 }
 
+/// Whether the first part is a gap.
+fn begins_with_gap(parts: &PartList) -> bool
+    ensures { result ≡ gap_first parts.now }
+{
+    if parts.is_empty() {
+        return false;
+    }
+    match parts.at(0) {
+        RowPart::Gap(_) => true,
+        RowPart::Turn(_) => false,
+    }
+}
+
 impl RowEnd {
-    /// The end without parts. It takes no memory.
-    pub(crate) fn new(alloc: Global) -> RowEnd
-        ensures { result ≡ no_rest }
+    /// The end without parts.
+    pub(crate) fn new(alloc: Global) -> Result<RowEnd, NoMemory>
+        ensures { IfOk result (λ end. end ≡ no_rest) }
     {
-        RowEnd {
-            parts: Vec::new(alloc),
-            gapped: false,
+        Ok(RowEnd {
+            parts: PartList::empty(alloc)?,
             free: false,
-        }
+        })
+    }
+
+    /// Puts the parts in front, as they are.
+    pub(crate) fn put_all(&mut self, alloc: Global, parts: &PartList) -> Result<(), NoMemory>
+        ensures { OnOk result (self.new ≡ record { parts = parts.now ++ self.old.parts; free = self.old.free }) }
+    {
+        self.parts = PartList::concat(alloc, parts, &self.parts)?;
+        Ok(())
     }
 
     /// Puts a begun turn in front, unless it is over.
-    pub(crate) fn put_turn(&mut self, turn: Term) -> Result<(), NoMemory>
+    pub(crate) fn put_turn(&mut self, alloc: Global, turn: Term) -> Result<(), NoMemory>
         ensures { OnOk result (self.new ≡ turn_before turn self.old) }
     {
         if !is_empty(&turn) {
-            self.parts.push(RowPart::Turn(turn))?;
+            let part = PartList::one(alloc, RowPart::Turn(turn))?;
+            self.parts = PartList::concat(alloc, &part, &self.parts)?;
         }
         Ok(())
     }
 
     /// Puts a gap in front, unless a gap comes behind it.
-    pub(crate) fn put_gap(&mut self, block: Block) -> Result<(), NoMemory>
+    pub(crate) fn put_gap(&mut self, alloc: Global, block: Block) -> Result<(), NoMemory>
         ensures { OnOk result (self.new ≡ gap_before false block.instances self.old) }
     {
-        if !matches!(self.parts.last(), Some(RowPart::Gap(_))) {
-            self.parts.push(RowPart::Gap(block))?;
-            self.gapped = true;
+        if !begins_with_gap(&self.parts) {
+            let part = PartList::one(alloc, RowPart::Gap(block))?;
+            self.parts = PartList::concat(alloc, &part, &self.parts)?;
         }
         Ok(())
     }
@@ -97,31 +111,28 @@ impl RowEnd {
     pub(crate) fn has_gap(&self) -> bool
         ensures { result ≡ has_gap self.now.parts }
     {
-        self.gapped
+        self.parts.has_gap()
     }
 
     /// The row.
-    pub(crate) fn into_row(self, alloc: Global) -> Result<RowList, NoMemory>
-        ensures { IfOk result (λ row. row ≡ self.parts) }
+    pub(crate) fn into_row(self) -> PartList
+        ensures { result ≡ self.parts }
     {
-        let mut row = RowList::new(alloc);
-        let RowEnd { mut parts, .. } = self;
-        while let Some(part) = parts.pop() {
-            row.push(part)?;
-        }
-        Ok(row)
+        let RowEnd { parts, .. } = self;
+        parts
     }
 
     /// The begun turns, in the order of the row.
+    #[tactic(auto, using(crate::proofs::Joins::joins))]
     pub(crate) fn into_turns(self, alloc: Global) -> Result<TermList, NoMemory>
         ensures { IfOk result (λ turns. turns ≡ begun self.parts) }
     {
         let mut turns = TermList::new(alloc);
-        let RowEnd { mut parts, .. } = self;
-        while let Some(part) = parts.pop() {
-            match part {
+        let RowEnd { parts, .. } = self;
+        for index in 0..parts.len() {
+            match parts.at(index) {
                 RowPart::Gap(_) => {}
-                RowPart::Turn(turn) => turns.push(turn)?,
+                RowPart::Turn(turn) => turns.push(turn.copy(alloc)?)?,
             }
         }
         Ok(turns)

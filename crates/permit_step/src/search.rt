@@ -1,6 +1,6 @@
 //! The search down to each event with a label, as a loop over its path: for `successors`.
 
-ghost use Rattle.std.specs.Prelude.{◌≡◌, ◌≤◌, ◌<◌, ◌+◌, [], IfOk, IfSome, IfNone};
+ghost use Rattle.std.specs.Prelude.{◌≡◌, ◌≤◌, ◌<◌, ◌+◌, [], IfOk, OnOk, IfSome, IfNone};
 ghost use Rattle.chart_term.specs.Terms.{Event as EventTree};
 ghost use Rattle.chart_term.specs.Views.{event_of};
 ghost use Rattle.term_laws.specs.Listing.{set_weight};
@@ -36,8 +36,9 @@ pub(crate) fn search(
     let mut path = Vec::new(alloc);
     let mut here = term.copy(alloc)?;
     let mut next = 0;
+    let mut met = None;
     'search: loop {
-        match next_child(alloc, nets, label, &here, next)? {
+        match next_child(alloc, nets, label, &here, next, &met)? {
             Some(step) => {
                 path.push(Frame {
                     parent: here,
@@ -47,7 +48,7 @@ pub(crate) fn search(
                 next = 0;
             }
             None => {
-                let all = add_event(alloc, nets, label, &here, &path, found)?;
+                let all = add_event(alloc, nets, label, &here, &path, &mut met, found)?;
                 if !all {
                     return Ok(false);
                 }
@@ -63,7 +64,8 @@ pub(crate) fn search(
     }
 }
 
-/// Adds what is left of the whole term after the event that this part of it is, to which the path leads, where it has the label.
+/// Adds what is left of the whole term after the event that this part of it is, to which the path leads, where it has the label;
+/// then it is the last event that was met.
 #[tactic(auto, using(crate::proofs::Searching::searching))]
 fn add_event(
     alloc: Global,
@@ -71,18 +73,23 @@ fn add_event(
     label: u32,
     term: &Term,
     path: &Vec<Frame>,
+    met: &mut Option<Taken>,
     found: &mut Found,
 ) -> Result<bool, NoMemory>
     requires tables { AreReadyTables nets.now.tables }
     requires path { AreReadyFrames nets.now.tables path.now.items }
+    requires met { IfSome met.old IsTaken }
     requires tally { IsTally found.old }
     requires within { set_weight found.old.terms ≤ found.old.most }
-    ensures { IfOk result (λ all. GathersOwn nets.now.tables label path.now.items term.now found.old found.new all) }
+    ensures met { OnOk result (IfSome met.new IsTaken) }
+    ensures found { IfOk result (λ all. GathersOwn nets.now.tables label path.now.items term.now found.old found.new all) }
 {
     let Some(taken) = taken_of(alloc, term, label)? else {
         return Ok(true);
     };
-    match rebuilt(alloc, nets, &taken, path)? {
+    let left = rebuilt(alloc, nets, &taken, path)?;
+    *met = Some(taken);
+    match left {
         Some(left) => {
             let all = found.add(alloc, left)?;
             Ok(all)

@@ -36,7 +36,7 @@ open_same m (Tied x q) h = refl
 open_same m (Loop x lo hi r) h = refl
 open_same m (Walk n f t c) h = refl
 
-flat_same : (m : Mode) (xs : List Tree) → Each (IsPartOf m) xs → flat m xs ≡ xs
+pub flat_same : (m : Mode) (xs : List Tree) → Each (IsPartOf m) xs → flat m xs ≡ xs
 flat_same m [] h = refl
 flat_same m (x ∷ xs) h = λ i. open_same m x h.0 i ++ flat_same m xs h.1 i
 
@@ -101,7 +101,7 @@ cuts_same all [] h = refl
 cuts_same all (Gap c ∷ ps) h = λ i. Gap (h.0 i) ∷ cuts_same all ps h.1 i
 cuts_same all (Turn x ∷ ps) h = ap (λ l. Turn x ∷ l) (cuts_same all ps h)
 
-put_same : (x : Tree) (ps : List Part) → IsNotNil x → put_turn x ps ≡ Turn x ∷ ps
+pub put_same : (x : Tree) (ps : List Part) → IsNotNil x → put_turn x ps ≡ Turn x ∷ ps
 put_same Nil ps h = cc
 put_same (Event e) ps h = refl
 put_same (Join m xs) ps h = refl

@@ -8,10 +8,11 @@ use Rattle.std.proofs.lemmas.Bool.Decides.{nat_tests}
 use Rattle.std.proofs.lemmas.List.Folds.{list_any-append}
 use Rattle.bit_sets.specs.Blocks.{BlockValue}
 use Rattle.chart_term.specs.declared.facts.Span.{Span}
-use Rattle.chart_term.specs.Facts.{holds_walk, any_walk, row_walk, instances, instances_all, instances_row, misses, span_of, lies_in, wider as wider_span}
+use Rattle.chart_term.specs.Facts.{holds_walk, any_walk, row_walk, instances, instances_all, instances_row, misses, row_misses, span_of, lies_in, wider as wider_span}
 use Rattle.chart_term.specs.NormalForms.{NetPermits, only, cut, join_all, and_then, or_skip, unless, choice_of, tie_of, cut_gaps, drop_nil, at_zero, live, has_free, drop_free, lower_of, thin, turns_end, turns_in, numbers, numbers_all, numbers_row}
+use Rattle.chart_term.specs.Properties.{EachTurn}
 use Rattle.chart_term.specs.TermPatterns.{instances_of, some_list}
-use Rattle.chart_term.specs.Terms.{Block, TermEvent, has, has_some, hits, add_at, add_member, ◌∪◌, Tree, Nil, Event, Join, Choice, Tied, Loop, Walk, Trees, none, more, Row, ends, gap, turn, items, Part, Gap, Turn, parts}
+use Rattle.chart_term.specs.Terms.{Block, TermEvent, has, has_some, hits, add_at, add_member, ◌∪◌, Tree, Nil, Event, Join, Choice, Tied, Loop, Walk, Trees, none, more, Row, ends, gap, turn, items, Part, Gap, Turn, parts, row_of}
 use Rattle.term_laws.specs.Missed.{PermitOfMissed}
 use Rattle.term_laws.specs.Normality.{IsNormal, AreNormal, IsNormalRow}
 use Rattle.chart_term.specs.Spreads.{touch, touch_all, touch_row}
@@ -192,6 +193,24 @@ permit-misses k b x h m =
     let (prefix, last) = and_parts (not (holds_walk x) && not (list_any (has (instances x)) b.instances)) (not (list_any (lies_in (span_of (numbers x))) b.events)) m in
     let (walk, places) = and_parts (not (holds_walk x)) (not (list_any (has (instances x)) b.instances)) prefix in
     missed_same k (block_of b) x h (not_true (holds_walk x) walk) (apart_any b.instances (instances x) (not_true (list_any (has (instances x)) b.instances) places)) (apart_lies b.events (numbers x) (not_true (list_any (lies_in (span_of (numbers x))) b.events) last))
+
+-- and gives each turn of a row that it misses back
+module _ (k : NetPermits) (b : Block) where
+  turns_missed : (ps : List Part) → EachTurn (IsNormal k) ps → row_walk (row_of ps) ≡ false → IsApart b.instances (instances_row (row_of ps)) → IsApart b.numbers (numbers_row (row_of ps)) → EachTurn (λ x. permit k b x ≡ Some x) ps
+  turns_missed [] h w p q = tt
+  turns_missed (Gap c ∷ ps) h w p q = turns_missed ps h w p q
+  turns_missed (Turn x ∷ ps) h w p q =
+      let (u, v) = or_parts (holds_walk x) (row_walk (row_of ps)) w in
+      let (c, d) = apart_parts b.instances (instances x) (instances_row (row_of ps)) p in
+      let (e, f) = apart_parts b.numbers (numbers x) (numbers_row (row_of ps)) q in
+      (missed_same k b x h.0 u c e, turns_missed ps h.1 v d f)
+
+pub row-misses : (k : NetPermits) (b : BlockValue) (ps : List Part) → EachTurn (IsNormal k) ps → row_misses b (row_of ps) ≡ true → EachTurn (λ x. permit k (block_of b) x ≡ Some x) ps
+row-misses k b ps h m =
+    let r : Row = row_of ps in
+    let (prefix, last) = and_parts (not (row_walk r) && not (list_any (has (instances_row r)) b.instances)) (not (list_any (lies_in (span_of (numbers_row r))) b.events)) m in
+    let (walk, places) = and_parts (not (row_walk r)) (not (list_any (has (instances_row r)) b.instances)) prefix in
+    turns_missed k (block_of b) ps h (not_true (row_walk r) walk) (apart_any b.instances (instances_row r) (not_true (list_any (has (instances_row r)) b.instances) places)) (apart_lies b.events (numbers_row r) (not_true (list_any (lies_in (span_of (numbers_row r))) b.events) last))
 
 pub permit_of_missed : PermitOfMissed
 permit_of_missed = record { same = λ w b x h m. permit-misses (permits_of w) b x h m }

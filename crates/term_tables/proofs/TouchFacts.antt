@@ -1,9 +1,15 @@
 -- The instances that terms touch, gathered one term after another.
 use Rattle.std.specs.Prelude.{slice_get, Some, ◌==◌, Result, Ok, Err, OnOk}
-use Rattle.std.proofs.Common.{◌≡◌, ℕ, zero, suc, ◌+◌, ◌≤◌, Bool, true, false, ◌||◌, List, [], ◌∷◌, ◌++◌, refl, ap, ap₂, subst, sym, ◌∙◌, arith, length, take, append_assoc, append-nil, inl, inr}
+use Rattle.std.proofs.Common.{◌≡◌, ℕ, zero, suc, ◌+◌, ◌<◌, ◌≤◌, Bool, true, false, ◌||◌, List, [], ◌∷◌, ◌++◌, refl, ap, ap₂, subst, sym, ◌∙◌, arith, length, take, get_or, append_assoc, append-nil, inl, inr}
 use Rattle.std.proofs.lemmas.Bool.{eq-eqb, ne_eqb, cases_order}
 use Rattle.bit_sets.specs.Blocks.{insert_each}
 use Rattle.chart_term.specs.Facts.{holds_walk, any_walk, row_walk, instances, instances_all, instances_row}
+use Rattle.msc_base.specs.Patterns.{seq, par}
+use Rattle.chart_term.proofs.Turns.{parts_next}
+use Rattle.chart_term.specs.NormalForms.{begun}
+use Rattle.chart_term.specs.PartLists.{AreTurns}
+use Rattle.chart_term.specs.Rows.{part_of, parts_of}
+use Rattle.chart_term.specs.declared.term.RowPart.{RowPart}
 use Rattle.chart_term.specs.Spreads.{touch, touch_all, touch_row, touch_part, touch_list, spread_of}
 use Rattle.chart_term.specs.Tables.{choose}
 use Rattle.chart_term.specs.Terms.{has, Tree, Nil, Event, Join, Choice, Tied, Loop, Walk, Trees, none, more, Row, ends, gap, turn, trees, Part, Gap, Turn, row_of}
@@ -13,7 +19,7 @@ use Rattle.chart_term.proofs.Members.{has-insert_each}
 use Rattle.term_tables.specs.declared.nets.StoredNet.{StoredNet}
 use Rattle.term_tables.specs.NetTables.{spread_at, tables_of}
 use Rattle.term_tables.specs.Unions.{IsUnion}
-use Rattle.term_tables.proofs.Nodes.{nodes-then, nodes-par, nodes-choice, nodes-tied, nodes-loop, nodes-at, nodes-part}
+use Rattle.term_tables.proofs.Nodes.{nodes-then, nodes-par, nodes-choice, nodes-tied, nodes-loop, nodes-first, nodes-second, nodes-held}
 use Rattle.term_tables.proofs.Tabling.{tables_of-snoc, count_of}
 
 or_none : (b : Bool) → b ≡ (b || false)
@@ -84,17 +90,41 @@ module _ (k : ℕ → List ℕ) where
   pub union-all : (xs : List Tree) (i : ℕ) (x : Tree) (old mid new : List ℕ) → slice_get xs i ≡ Some x → IsUnion old (touch_all k (trees (take i xs))) mid → IsUnion mid (touch k x) new → IsUnion old (touch_all k (trees (take (i + 1) xs))) new
   union-all xs i x old mid new p f g = subst (λ (d : List ℕ). IsUnion old d new) (sym (ap (λ l. touch_all k (trees l)) (take_step xs i x p) ∙ all-snoc (take i xs) x)) (union-more old (touch_all k (trees (take i xs))) (touch k x) mid new f g)
 
-  -- one more part of a row
-  pub union-row : (ps : List Part) (i : ℕ) (t : Part) (old mid new : List ℕ) → slice_get ps i ≡ Some t → IsUnion old (touch_row k (row_of (take i ps))) mid → IsUnion mid (touch_part k t) new → IsUnion old (touch_row k (row_of (take (i + 1) ps))) new
-  union-row ps i t old mid new p f g = subst (λ (d : List ℕ). IsUnion old d new) (sym (ap (λ l. touch_row k (row_of l)) (take_step ps i t p) ∙ row-snoc (take i ps) t)) (union-more old (touch_row k (row_of (take i ps))) (touch_part k t) mid new f g)
+  -- turns touch what their terms do
+  turns-touch : (ps : List Part) → touch_row k (row_of ps) ≡ touch_all k (trees (begun ps))
+  turns-touch [] = refl
+  turns-touch (Gap c ∷ ps) = turns-touch ps
+  turns-touch (Turn x ∷ ps) = ap (λ l. touch k x ++ l) (turns-touch ps)
+
+  pub seq-touches : (x : Tree) (ps : List Part) → (x ≡ Join seq (trees (begun ps))) × AreTurns ps → touch_row k (row_of ps) ≡ touch k x
+  seq-touches x ps h = turns-touch ps ∙ ap (touch k) (sym h.0)
+
+  pub par-touches : (x : Tree) (ps : List Part) → (x ≡ Join par (trees (begun ps))) × AreTurns ps → touch_row k (row_of ps) ≡ touch k x
+  par-touches x ps h = turns-touch ps ∙ ap (touch k) (sym h.0)
+
+  pub choice-touches : (x : Tree) (ps : List Part) → (x ≡ Choice (trees (begun ps))) × AreTurns ps × (0 < length ps) → touch_row k (row_of ps) ≡ touch k x
+  choice-touches x ps h = turns-touch ps ∙ ap (touch k) (sym h.0)
+
+  -- a list of parts without walks
+  pub union-plain : (c a d : List ℕ) (ps : List Part) → row_walk (row_of ps) ≡ false → ((n : ℕ) → has a n ≡ has (instances_row (row_of ps)) n) → d ≡ insert_each c a → IsUnion c (touch_row k (row_of ps)) d
+  union-plain c a d ps h f e = union-insert c a (touch_row k (row_of ps)) d (λ n. f n ∙ ap (λ l. has l n) (touch-own_row (row_of ps) h)) e
+
+  row-append : (ps qs : List Part) → touch_row k (row_of (ps ++ qs)) ≡ touch_row k (row_of ps) ++ touch_row k (row_of qs)
+  row-append [] qs = refl
+  row-append (Gap c ∷ ps) qs = row-append ps qs
+  row-append (Turn x ∷ ps) qs = ap (λ l. touch k x ++ l) (row-append ps qs) ∙ sym (append_assoc (touch k x) (touch_row k (row_of ps)) (touch_row k (row_of qs)))
+
+  -- the two halves of a list
+  pub union-fork : (ps qs rs : List Part) (old mid new : List ℕ) → ps ≡ qs ++ rs → IsUnion old (touch_row k (row_of qs)) mid → IsUnion mid (touch_row k (row_of rs)) new → IsUnion old (touch_row k (row_of ps)) new
+  union-fork ps qs rs old mid new e f g = subst (λ (d : List ℕ). IsUnion old d new) (sym (ap (λ l. touch_row k (row_of l)) e ∙ row-append qs rs)) (union-more old (touch_row k (row_of qs)) (touch_row k (row_of rs)) mid new f g)
+
+  -- the parts of a leaf
+  pub union-held : (held : List RowPart) (i : ℕ) (x : RowPart) (old mid new : List ℕ) → i < length held → x ≡ get_or held i x → IsUnion old (touch_row k (row_of (parts_of (take i held)))) mid → IsUnion mid (touch_part k (part_of x)) new → IsUnion old (touch_row k (row_of (parts_of (take (i + 1) held)))) new
+  union-held held i x old mid new lt e f g = subst (λ (d : List ℕ). IsUnion old d new) (sym (ap (λ l. touch_row k (row_of l)) (parts_next held i x lt e) ∙ row-snoc (parts_of (take i held)) (part_of x))) (union-more old (touch_row k (row_of (parts_of (take i held)))) (touch_part k (part_of x)) mid new f g)
 
   pub first-all : (xs : List Tree) (c : List ℕ) → IsUnion c (touch_all k (trees (take 0 xs))) c
   first-all [] c = union-none c
   first-all (x ∷ xs) c = union-none c
-
-  pub first-row : (ps : List Part) (c : List ℕ) → IsUnion c (touch_row k (row_of (take 0 ps))) c
-  first-row [] c = union-none c
-  first-row (t ∷ ps) c = union-none c
 
 -- what is stored at a number
 pub spread-read : (es : List StoredNet) (i : ℕ) (e : StoredNet) → slice_get es i ≡ Some e → e.spread.instances ≡ spread_at es i
@@ -166,4 +196,4 @@ pub on-map : {A E : Type 0} (P Q : Type 0) (r : Result A E) → (P → Q) → On
 on-map P Q (Ok a) f h = f h
 on-map P Q (Err e) f h = h
 
-pub ruleset touching = (union-none, union-nil, nodes-then, nodes-par, nodes-choice, nodes-tied, nodes-loop, nodes-at, nodes-part)
+pub ruleset touching = (union-none, union-nil, seq-touches, par-touches, choice-touches, nodes-then, nodes-par, nodes-choice, nodes-tied, nodes-loop, nodes-first, nodes-second, nodes-held)

@@ -2,11 +2,11 @@
 
 ghost use Rattle.std.specs.Prelude.{◌≡◌};
 ghost use Rattle.chart_term.specs.Rows.{part_of};
-ghost use Rattle.chart_term.specs.Terms.{row_of, trees};
-ghost use Rattle.term_tables.specs.Fitting.{fits, fits_all, fits_part, fits_row};
+ghost use Rattle.chart_term.specs.Terms.{row_of};
+ghost use Rattle.term_tables.specs.Fitting.{fits, fits_part, fits_row};
 
 use crate::Nets;
-use chart_term::{Look, RowList, RowPart, Term, TermList};
+use chart_term::{Look, PartList, RowPart, Term};
 
 /// Whether each number in the term, in its loop operands and begun turns is in the tables.
 #[cycle(fits)]
@@ -17,33 +17,19 @@ pub(crate) fn term_fits(nets: &Nets, term: &Term) -> bool
     match term.look() {
         Look::Nil => true,
         Look::Event { label, .. } => nets.has_label(label),
-        Look::Seq(parts) => all_fit(nets, parts),
-        Look::Par(parts) => all_fit(nets, parts),
-        Look::Choice(parts) => all_fit(nets, parts),
+        Look::Seq(parts) => row_fits(nets, parts),
+        Look::Par(parts) => row_fits(nets, parts),
+        Look::Choice(parts) => row_fits(nets, parts),
         Look::Tied(inner, _) => term_fits(nets, inner),
         Look::Loop { body, row, .. } => term_fits(nets, body) && row_fits(nets, row),
         Look::Walk { net, from, to, .. } => nets.has_ends(net, from, to),
     }
 }
 
-/// Whether each number in the terms is in the tables.
+/// Whether each number in the turns of the list is in the tables.
 #[cycle(fits)]
 #[tactic(auto, using(crate::proofs::FitFacts::fitting))]
-fn all_fit(nets: &Nets, parts: &TermList) -> bool
-    ensures { result ≡ fits_all nets.now (trees parts.now) }
-{
-    for index in 0..parts.len() {
-        if !term_fits(nets, parts.at(index)) {
-            return false;
-        }
-    }
-    true
-}
-
-/// Whether each number in the row's begun turns is in the tables.
-#[cycle(fits)]
-#[tactic(auto, using(crate::proofs::FitFacts::fitting))]
-fn row_fits(nets: &Nets, row: &RowList) -> bool
+fn row_fits(nets: &Nets, row: &PartList) -> bool
     ensures { result ≡ fits_row nets.now (row_of row.now) }
 {
     for index in 0..row.len() {

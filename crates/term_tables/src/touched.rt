@@ -9,7 +9,7 @@ ghost use Rattle.term_tables.specs.Unions.{IsUnion};
 
 use crate::nets::StoredNet;
 use bit_sets::Block;
-use chart_term::{Look, RowList, RowPart, Term, TermList};
+use chart_term::{Look, PartList, PartLook, RowPart, Term, TermList};
 use msc_base::NoMemory;
 
 /// Adds the instances of the events of the term, of its loop operands, begun turns and nets.
@@ -24,9 +24,9 @@ pub(crate) fn add_term(stored: &[StoredNet], term: &Term, block: &mut Block) -> 
     match term.look() {
         Look::Nil => Ok(()),
         Look::Event { .. } => block.add_instances(term.instances()),
-        Look::Seq(parts) => add_all(stored, parts, block),
-        Look::Par(parts) => add_all(stored, parts, block),
-        Look::Choice(parts) => add_all(stored, parts, block),
+        Look::Seq(parts) => add_row(stored, parts, block),
+        Look::Par(parts) => add_row(stored, parts, block),
+        Look::Choice(parts) => add_row(stored, parts, block),
         Look::Tied(inner, _) => add_term(stored, inner, block),
         Look::Loop { body, row, .. } => {
             add_term(stored, body, block)?;
@@ -36,32 +36,27 @@ pub(crate) fn add_term(stored: &[StoredNet], term: &Term, block: &mut Block) -> 
     }
 }
 
-/// Adds the instances of the terms.
+/// Adds the instances of the turns of the list.
 #[cycle(touched)]
 #[tactic(auto, using(crate::proofs::TouchFacts::touching))]
-pub(crate) fn add_all(
-    stored: &[StoredNet],
-    parts: &TermList,
-    block: &mut Block,
-) -> Result<(), NoMemory>
-    ensures { OnOk result (IsUnion block.old.instances (touch_all (spread_at stored.now) (trees parts.now)) block.new.instances) }
-{
-    for index in 0..parts.len() {
-        add_term(stored, parts.at(index), block)?;
-    }
-    Ok(())
-}
-
-/// Adds the instances of the row's begun turns.
-#[cycle(touched)]
-#[tactic(auto, using(crate::proofs::TouchFacts::touching))]
-fn add_row(stored: &[StoredNet], row: &RowList, block: &mut Block) -> Result<(), NoMemory>
+fn add_row(stored: &[StoredNet], row: &PartList, block: &mut Block) -> Result<(), NoMemory>
     ensures { OnOk result (IsUnion block.old.instances (touch_row (spread_at stored.now) (row_of row.now)) block.new.instances) }
 {
-    for index in 0..row.len() {
-        add_part(stored, row.at(index), block)?;
+    if !row.holds_walk() {
+        return block.add_instances(row.instances());
     }
-    Ok(())
+    match row.look() {
+        PartLook::Leaf(parts) => {
+            for part in parts {
+                add_part(stored, part, block)?;
+            }
+            Ok(())
+        }
+        PartLook::Fork(first, second) => {
+            add_row(stored, first, block)?;
+            add_row(stored, second, block)
+        }
+    }
 }
 
 /// Adds the instances of a begun turn.
@@ -85,4 +80,19 @@ fn add_net(stored: &[StoredNet], net: u32, block: &mut Block) -> Result<(), NoMe
         Some(older) => block.add_instances(&older.spread),
         None => Ok(()),
     }
+}
+
+/// Adds the instances of the terms.
+#[tactic(auto, using(crate::proofs::TouchFacts::touching))]
+pub(crate) fn add_all(
+    stored: &[StoredNet],
+    terms: &TermList,
+    block: &mut Block,
+) -> Result<(), NoMemory>
+    ensures { OnOk result (IsUnion block.old.instances (touch_all (spread_at stored.now) (trees terms.now)) block.new.instances) }
+{
+    for index in 0..terms.len() {
+        add_term(stored, terms.at(index), block)?;
+    }
+    Ok(())
 }

@@ -1,11 +1,11 @@
 //! The numbers of the events of a term, for `ties`, which drops pairs that name no event below them.
 
-ghost use Rattle.std.specs.Prelude.{◌≡◌, ℕ, ◌||◌, OnOk};
-ghost use Rattle.chart_term.specs.NormalForms.{numbers, numbers_all, numbers_row};
+ghost use Rattle.std.specs.Prelude.{OnOk};
+ghost use Rattle.chart_term.specs.NormalForms.{numbers, numbers_row};
 ghost use Rattle.chart_term.specs.Numbers.{Gains};
-ghost use Rattle.chart_term.specs.Terms.{row_of, trees};
+ghost use Rattle.chart_term.specs.Terms.{row_of};
 
-use super::{Form, Node, RowList, RowPart, Term, TermList};
+use super::{Form, Node, PartList, RowPart, Stretch, StretchForm, Term};
 use msc_base::NoMemory;
 use std::collections::BTreeSet;
 
@@ -17,7 +17,7 @@ impl Term {
     {
         let node: &Node = &self.node;
         match &node.form {
-            Form::Nil | Form::Walk(_, _, _, _) => Ok(()),
+            Form::Nil | Form::Walk(_) => Ok(()),
             Form::Event(event) => {
                 found.insert(event.number)?;
                 Ok(())
@@ -26,25 +26,11 @@ impl Term {
             Form::Par(parts) => parts.add_numbers(found),
             Form::Choice(parts) => parts.add_numbers(found),
             Form::Tied(inner, _) => inner.add_numbers(found),
-            Form::Loop(body, _, _, row) => {
-                body.add_numbers(found)?;
-                row.add_numbers(found)
+            Form::Loop(parts) => {
+                parts.body.add_numbers(found)?;
+                parts.row.add_numbers(found)
             }
         }
-    }
-}
-
-impl TermList {
-    #[cycle(numbers)]
-    fn add_numbers(&self, found: &mut BTreeSet<u32>) -> Result<(), NoMemory>
-        ensures { OnOk result (Gains found.old (numbers_all (trees self.now)) found.new) }
-    {
-        let mut at = 0;
-        while at < self.items.len() {
-            self.items[at].add_numbers(found)?;
-            at += 1;
-        }
-        Ok(())
     }
 }
 
@@ -63,16 +49,26 @@ impl RowPart {
     }
 }
 
-impl RowList {
+impl PartList {
     #[cycle(numbers)]
+    #[tactic(auto, using(crate::proofs::Turns::turns))]
     fn add_numbers(&self, found: &mut BTreeSet<u32>) -> Result<(), NoMemory>
         ensures { OnOk result (Gains found.old (numbers_row (row_of self.now)) found.new) }
     {
-        let mut at = 0;
-        while at < self.items.len() {
-            self.items[at].add_numbers(found)?;
-            at += 1;
+        let node: &Stretch = &self.root;
+        match &node.form {
+            StretchForm::Leaf(parts) => {
+                let mut at = 0;
+                while at < parts.len() {
+                    parts[at].add_numbers(found)?;
+                    at += 1;
+                }
+                Ok(())
+            }
+            StretchForm::Fork(first, second) => {
+                first.add_numbers(found)?;
+                second.add_numbers(found)
+            }
         }
-        Ok(())
     }
 }

@@ -3,11 +3,11 @@
 ghost use Rattle.std.specs.Prelude.{◌≡◌, ◌↔◌, IsTrue};
 ghost use Rattle.std.specs.declared.cmp.Ordering.TheVariants.{Less};
 ghost use Rattle.hmsc_graph.specs.Spots.{spot_of, goal_of};
-ghost use Rattle.chart_term.specs.Order.{event_cmp, goal_cmp, maybe_cmp, pairs_cmp, rank, row_cmp, spot_cmp, tree_cmp, trees_cmp};
-ghost use Rattle.chart_term.specs.Terms.{row_of, trees};
+ghost use Rattle.chart_term.specs.Order.{event_cmp, goal_cmp, maybe_cmp, pairs_cmp, rank, row_cmp, spot_cmp, tree_cmp};
+ghost use Rattle.chart_term.specs.Terms.{row_of};
 ghost use Rattle.chart_term.specs.Views.{event_of, pairs_of};
 
-use super::{Form, Node, RowList, RowPart, Term, TermList};
+use super::{Form, Node, PartList, RowPart, Term};
 use crate::Event;
 use hmsc_graph::{Goal, Spot};
 use msc_base::Pair;
@@ -106,8 +106,8 @@ impl Form {
             Form::Par(_) => 3,
             Form::Choice(_) => 4,
             Form::Tied(_, _) => 5,
-            Form::Loop(_, _, _, _) => 6,
-            Form::Walk(_, _, _, _) => 7,
+            Form::Loop(_) => 6,
+            Form::Walk(_) => 7,
         }
     }
 }
@@ -133,40 +133,25 @@ impl Term {
                     order => order,
                 }
             }
-            (Form::Loop(body, low, high, row), Form::Loop(second, lower, upper, others)) => {
-                let counts = low.cmp(lower).then(compare_counts(*high, *upper));
-                match body.compare(second).then(counts) {
-                    Ordering::Equal => row.compare(others),
+            (Form::Loop(parts), Form::Loop(others)) => {
+                let counts = parts
+                    .lower
+                    .cmp(&others.lower)
+                    .then(compare_counts(parts.upper, others.upper));
+                match parts.body.compare(&others.body).then(counts) {
+                    Ordering::Equal => parts.row.compare(&others.row),
                     order => order,
                 }
             }
-            (Form::Walk(net, from, to, block), Form::Walk(second, spot, goal, others)) => {
-                let spots = compare_spots(*from, *spot);
-                let goals = compare_goals(*to, *goal);
-                let blocks = block.compare_instances(others);
-                net.cmp(second).then(spots.then(goals.then(blocks)))
+            (Form::Walk(parts), Form::Walk(others)) => {
+                let nets = parts.net.cmp(&others.net);
+                let spots = compare_spots(parts.from, others.from);
+                let goals = compare_goals(parts.to, others.to);
+                let blocks = parts.block.compare_instances(&others.block);
+                nets.then(spots.then(goals.then(blocks)))
             }
             (first, second) => first.rank().cmp(&second.rank()),
         }
-    }
-}
-
-impl TermList {
-    /// Item by item.
-    #[cycle(compare)]
-    #[tactic(auto, using(crate::proofs::Comparing::comparing))]
-    fn compare(&self, other: &TermList) -> Ordering
-        ensures { result ≡ trees_cmp (trees self.now) (trees other.now) }
-    {
-        let mut at = 0;
-        while at < self.items.len() && at < other.items.len() {
-            let order = self.items[at].compare(&other.items[at]);
-            if order != Ordering::Equal {
-                return order;
-            }
-            at += 1;
-        }
-        self.items.len().cmp(&other.items.len())
     }
 }
 
@@ -188,22 +173,22 @@ impl RowPart {
     }
 }
 
-impl RowList {
+impl PartList {
     /// Part by part, gaps before begun turns.
     #[cycle(compare)]
     #[tactic(auto, using(crate::proofs::Comparing::comparing))]
-    fn compare(&self, other: &RowList) -> Ordering
+    fn compare(&self, other: &PartList) -> Ordering
         ensures { result ≡ row_cmp (row_of self.now) (row_of other.now) }
     {
         let mut at = 0;
-        while at < self.items.len() && at < other.items.len() {
-            let order = self.items[at].compare(&other.items[at]);
+        while at < self.len() && at < other.len() {
+            let order = self.at(at).compare(other.at(at));
             if order != Ordering::Equal {
                 return order;
             }
             at += 1;
         }
-        self.items.len().cmp(&other.items.len())
+        self.len().cmp(&other.len())
     }
 }
 

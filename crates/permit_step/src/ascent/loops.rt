@@ -1,26 +1,27 @@
 //! What is left of a loop after an event in a begun turn, or in one that begins in a gap: for `ascent`.
 
-ghost use Rattle.std.specs.Prelude.{◌≡◌, ◌≤◌, ◌<◌, ◌+◌, IfOk, OnOk, length, take, drop, true, if◌then◌else◌};
+ghost use Rattle.std.specs.Prelude.{◌≡◌, ◌<◌, ◌+◌, IfOk, OnOk, Some, length, if◌then◌else◌};
 ghost use Rattle.chart_term.specs.Rows.{part_of};
 ghost use Rattle.chart_term.specs.Terms.{Loop, row_of};
 ghost use Rattle.chart_term.specs.Views.{event_of};
 ghost use Rattle.permit_step.specs.Children.{put};
-ghost use Rattle.permit_step.specs.Held.{HasHeld, IsHeld};
 ghost use Rattle.term_laws.specs.Permission.{permits_of};
-ghost use Rattle.permit_step.specs.Ready.{IsReady, AreReadyTables, IsReadyPart, AreReadyParts, IsReadyLoop};
-ghost use Rattle.permit_step.specs.Searches.{IsTaken, is_gap, part_before, tail_of};
+ghost use Rattle.permit_step.specs.Ready.{IsReady, AreReadyTables, IsReadyLoop};
+ghost use Rattle.permit_step.specs.Searches.{IsTaken, part_before, tail_of};
 ghost use Rattle.term_laws.specs.Listing.{may_begin};
 ghost use Rattle.term_laws.specs.Taking.{down, fewer};
-ghost use Rattle.term_laws.specs.Values.{block_of};
+ghost use Rattle.chart_term.specs.Properties.{EachTurn};
+ghost use Rattle.permit_step.specs.RowRests.{no_rest};
+ghost use Rattle.term_laws.specs.Normality.{AreApart, IsNotNil};
 
 use super::Taken;
 use crate::blocks::common;
+use crate::descent::is_gap;
 use crate::loops::loop_end;
 use crate::parts::{LoopBlock, LoopParts};
-use crate::permission::{keep_parts, permit};
+use crate::permission::keep_parts;
 use crate::row_end::RowEnd;
-use bit_sets::Block;
-use chart_term::{RowList, RowPart, Term};
+use chart_term::{PartList, RowPart, Term};
 use msc_base::NoMemory;
 use std::alloc::Global;
 use term_tables::Nets;
@@ -59,62 +60,62 @@ pub(super) fn put_in_loop(
     let before = last_before(begins, index, count);
     let all = nets.touched(alloc, onward.body)?;
     let narrow = common(alloc, &taken.at, &all)?;
-    if has_held(alloc, nets, onward.row, before, &taken.at)? {
-        return Ok(None);
-    }
-    let mut end = RowEnd::new(alloc);
-    put_tail(alloc, onward.upper, onward.row, behind, count, &mut end)?;
-    end.put_turn(left)?;
+    let mut end = RowEnd::new(alloc)?;
+    let tail = onward.row.behind(alloc, behind)?;
+    put_tail(alloc, onward.upper, &tail, &mut end)?;
+    end.put_turn(alloc, left)?;
+    let front = onward.row.front(alloc, before)?;
     let by = LoopBlock {
         whole: &taken.at,
         narrow: &narrow,
     };
-    if keep_parts(alloc, nets, onward, before, by, &mut end)? {
+    if keep_parts(alloc, nets, onward, &front, by, &mut end)? {
         loop_end(alloc, onward.body, onward.lower, onward.upper, end)
     } else {
         Ok(None)
     }
 }
 
-/// Puts the row's parts from one index to its end in front of this end, as they are; gaps only where further turns may begin.
+/// Puts the parts into the empty end of a row, as they are; gaps only where further turns may begin.
 #[tactic(auto, using(crate::proofs::Ascending::ascending))]
 fn put_tail(
     alloc: Global,
     upper: Option<u64>,
-    row: &RowList,
-    from: usize,
-    to: usize,
+    tail: &PartList,
     end: &mut RowEnd,
 ) -> Result<(), NoMemory>
-    requires from { from ≤ to }
-    requires to { to ≡ length row.now }
-    ensures { OnOk result (end.new ≡ tail_of upper (drop from row.now) end.old) }
+    requires none { end.old ≡ no_rest }
+    requires apart { AreApart tail.now }
+    requires over { EachTurn IsNotNil tail.now }
+    ensures { OnOk result (end.new ≡ tail_of upper tail.now no_rest) }
 {
-    let mut index = to;
-    while index > from {
+    if upper == Some(0) {
+        put_turns(alloc, tail, end)
+    } else {
+        end.put_all(alloc, tail)
+    }
+}
+
+/// Puts the turns in front of the row's end, as they are.
+#[tactic(auto, using(crate::proofs::Ascending::ascending))]
+fn put_turns(alloc: Global, parts: &PartList, end: &mut RowEnd) -> Result<(), NoMemory>
+    ensures { OnOk result (end.new ≡ tail_of (Some 0) parts.now end.old) }
+{
+    let mut index = parts.len();
+    while index > 0 {
         index -= 1;
-        put_part(alloc, upper, row.at(index), end)?;
+        put_turn(alloc, parts.at(index), end)?;
     }
     Ok(())
 }
 
-/// Puts a part in front of the row's end as it is; a gap only where further turns may begin.
-fn put_part(
-    alloc: Global,
-    upper: Option<u64>,
-    part: &RowPart,
-    end: &mut RowEnd,
-) -> Result<(), NoMemory>
-    ensures { OnOk result (end.new ≡ part_before upper (part_of part.now) end.old) }
+/// Puts the part in front of the row's end as it is, where it is a turn.
+fn put_turn(alloc: Global, part: &RowPart, end: &mut RowEnd) -> Result<(), NoMemory>
+    ensures { OnOk result (end.new ≡ part_before (Some 0) (part_of part.now) end.old) }
 {
     match part {
-        RowPart::Turn(turn) => end.put_turn(turn.copy(alloc)?),
-        RowPart::Gap(gap) => {
-            if upper == Some(0) {
-                return Ok(());
-            }
-            end.put_gap(gap.copy(alloc)?)
-        }
+        RowPart::Turn(turn) => end.put_turn(alloc, turn.copy(alloc)?),
+        RowPart::Gap(_) => Ok(()),
     }
 }
 
@@ -169,50 +170,4 @@ fn last_before(begins: bool, index: usize, count: usize) -> usize
 {
     let _ = count;
     if begins { index + 1 } else { index }
-}
-
-/// Whether the part is a gap.
-fn is_gap(part: &RowPart) -> bool
-    ensures { result ≡ is_gap (part_of part.now) }
-{
-    matches!(part, RowPart::Gap(_))
-}
-
-/// Whether the part is a begun turn of which permission leaves nothing.
-fn is_held(alloc: Global, nets: &Nets, part: &RowPart, block: &Block) -> Result<bool, NoMemory>
-    requires tables { AreReadyTables nets.now.tables }
-    requires part { IsReadyPart nets.now.tables (part_of part.now) }
-    ensures { IfOk result (λ held. held ≡ true → IsHeld (permits_of nets.now.tables) (block_of block.now) (part_of part.now)) }
-{
-    match part {
-        RowPart::Gap(_) => Ok(false),
-        RowPart::Turn(turn) => match permit(alloc, nets, turn, block)? {
-            Some(_) => Ok(false),
-            None => Ok(true),
-        },
-    }
-}
-
-/// Whether permission leaves nothing of one of the begun turns among the first parts. The last of them is tried first.
-#[tactic(auto, using(crate::proofs::Nearest::nearest))]
-fn has_held(
-    alloc: Global,
-    nets: &Nets,
-    row: &RowList,
-    count: usize,
-    block: &Block,
-) -> Result<bool, NoMemory>
-    requires tables { AreReadyTables nets.now.tables }
-    requires row { AreReadyParts nets.now.tables row.now }
-    requires count { count ≤ length row.now }
-    ensures { IfOk result (λ held. held ≡ true → HasHeld (permits_of nets.now.tables) (block_of block.now) (take count row.now)) }
-{
-    let mut index = count;
-    while index > 0 {
-        index -= 1;
-        if is_held(alloc, nets, row.at(index), block)? {
-            return Ok(true);
-        }
-    }
-    Ok(false)
 }

@@ -1,60 +1,47 @@
 //! What is left of rows and of parts side by side, where one of them has had an event: for `ascent`.
 
-ghost use Rattle.std.specs.Prelude.{◌≡◌, ◌≤◌, ◌<◌, ◌+◌, ◌++◌, ◌∷◌, IfOk, OnOk, length, take, drop, reverse};
-ghost use Rattle.chart_term.specs.NormalForms.{join_all};
-ghost use Rattle.chart_term.specs.Properties.{Each};
+ghost use Rattle.std.specs.Prelude.{◌≡◌, ◌<◌, IfOk, Some, length};
+ghost use Rattle.chart_term.specs.NormalForms.{begun};
+ghost use Rattle.chart_term.specs.PartLists.{AreTurns};
+ghost use Rattle.chart_term.specs.Properties.{EachTurn};
 ghost use Rattle.chart_term.specs.Terms.{Join, trees};
 ghost use Rattle.chart_term.specs.Views.{event_of};
 ghost use Rattle.msc_base.specs.Patterns.{seq, par};
 ghost use Rattle.permit_step.specs.Children.{put};
-ghost use Rattle.term_laws.specs.Permission.{permits_of, permit_all};
+ghost use Rattle.term_laws.specs.Normality.{IsPartOf};
+ghost use Rattle.term_laws.specs.Permission.{permits_of};
 ghost use Rattle.permit_step.specs.Ready.{IsReady, AreReadyTables};
 ghost use Rattle.permit_step.specs.Searches.{IsTaken};
-ghost use Rattle.term_laws.specs.Values.{block_of};
 
 use super::Taken;
-use crate::permission::permit;
-use bit_sets::Block;
-use chart_term::{Term, TermList, par, seq};
+use crate::left::{Joint, kept, replaced};
+use crate::permission::permit_parts;
+use chart_term::{PartList, Term, par_of, seq_of};
 use msc_base::NoMemory;
 use std::alloc::Global;
 use term_tables::Nets;
-
-/// Appends copies of the parts from one index up to another.
-fn push_copies(
-    alloc: Global,
-    parts: &TermList,
-    from: usize,
-    to: usize,
-    out: &mut TermList,
-) -> Result<(), NoMemory>
-    requires from { from ≤ to }
-    requires to { to ≤ length parts.now }
-    ensures { OnOk result (out.new ≡ out.old ++ drop from (take to parts.now)) }
-{
-    for index in from..to {
-        out.push(parts.at(index).copy(alloc)?)?;
-    }
-    Ok(())
-}
 
 /// The parts side by side, where that of the index is replaced.
 #[tactic(auto, using(crate::proofs::Ascending::ascending))]
 pub(super) fn put_in_par(
     alloc: Global,
-    parts: &TermList,
+    nets: &Nets,
+    taken: &Taken,
+    parts: &PartList,
     index: usize,
-    left: Term,
+    left: &Term,
 ) -> Result<Term, NoMemory>
-    requires { index < length parts.now }
-    ensures { IfOk result (λ whole. whole ≡ join_all par (take index parts.now ++ left ∷ drop (index + 1) parts.now)) }
+    requires turns { AreTurns parts.now }
+    requires open { EachTurn (IsPartOf par) parts.now }
+    requires index { index < length parts.now }
+    ensures { IfOk result (λ whole. Some whole ≡ put (permits_of nets.now.tables) (event_of taken.now.event) (Join par (trees (begun parts.now))) index left.now) }
 {
-    let count = parts.len();
-    let mut kept = TermList::new(alloc);
-    push_copies(alloc, parts, 0, index, &mut kept)?;
-    kept.push(left)?;
-    push_copies(alloc, parts, index + 1, count, &mut kept)?;
-    par(alloc, kept)
+    let _ = nets;
+    let _ = taken;
+    let before = parts.front(alloc, index)?;
+    let whole = replaced(alloc, Joint::Aside, &before, left, parts, index)?;
+    let whole = par_of(alloc, whole)?;
+    Ok(whole)
 }
 
 /// What is left of parts in weak sequence: those before the index let the event pass.
@@ -63,63 +50,24 @@ pub(super) fn put_in_row(
     alloc: Global,
     nets: &Nets,
     taken: &Taken,
-    parts: &TermList,
+    parts: &PartList,
     index: usize,
-    left: Term,
+    left: &Term,
 ) -> Result<Option<Term>, NoMemory>
     requires tables { AreReadyTables nets.now.tables }
     requires taken { IsTaken taken.now }
-    requires parts { Each (IsReady nets.now.tables) parts.now }
+    requires turns { AreTurns parts.now }
+    requires ready { EachTurn (IsReady nets.now.tables) parts.now }
+    requires open { EachTurn (IsPartOf seq) parts.now }
     requires index { index < length parts.now }
-    ensures { IfOk result (λ whole. whole ≡ put (permits_of nets.now.tables) (event_of taken.now.event) (Join seq (trees parts.now)) index left) }
+    ensures { IfOk result (λ whole. whole ≡ put (permits_of nets.now.tables) (event_of taken.now.event) (Join seq (trees (begun parts.now))) index left.now) }
 {
-    let count = parts.len();
-    match permit_first(alloc, nets, parts, index, &taken.at)? {
-        None => Ok(None),
-        Some(kept) => {
-            let mut kept = kept;
-            kept.push(left)?;
-            push_copies(alloc, parts, index + 1, count, &mut kept)?;
-            Ok(Some(seq(alloc, kept)?))
-        }
-    }
-}
-
-/// What permission leaves of each of the first parts, or None where it fails for one. The last of them is tried first, since events of
-/// one label are mostly held by the nearest part that has it too.
-#[tactic(auto, using(crate::proofs::Permits::permits))]
-fn permit_first(
-    alloc: Global,
-    nets: &Nets,
-    parts: &TermList,
-    count: usize,
-    block: &Block,
-) -> Result<Option<TermList>, NoMemory>
-    requires tables { AreReadyTables nets.now.tables }
-    requires parts { Each (IsReady nets.now.tables) parts.now }
-    requires count { count ≤ length parts.now }
-    ensures { IfOk result (λ left. left ≡ permit_all (permits_of nets.now.tables) (block_of block.now) (trees (take count parts.now))) }
-{
-    let mut kept = Vec::new(alloc);
-    let mut index = count;
-    while index > 0 {
-        index -= 1;
-        match permit(alloc, nets, parts.at(index), block)? {
-            Some(part) => kept.push(part)?,
-            None => return Ok(None),
-        }
-    }
-    Ok(Some(reversed(alloc, kept)?))
-}
-
-/// The terms, the last of them first.
-fn reversed(alloc: Global, terms: Vec<Term>) -> Result<TermList, NoMemory>
-    ensures { IfOk result (λ list. list ≡ reverse terms.items) }
-{
-    let mut list = TermList::new(alloc);
-    let mut rest = terms;
-    while let Some(term) = rest.pop() {
-        list.push(term)?;
-    }
-    Ok(list)
+    let before = parts.front(alloc, index)?;
+    let permitted = permit_parts(alloc, nets, Joint::Row, &before, &taken.at)?;
+    let Some(before) = kept(alloc, &before, permitted)? else {
+        return Ok(None);
+    };
+    let whole = replaced(alloc, Joint::Row, &before, left, parts, index)?;
+    let whole = seq_of(alloc, whole)?;
+    Ok(Some(whole))
 }

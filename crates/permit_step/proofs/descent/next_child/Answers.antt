@@ -1,6 +1,45 @@
-use Rattle.std.proofs.Common.{arith}
-use Rattle.permit_step.proofs.ChildReady.{no-child-behind}
+use Rattle.std.proofs.Common.{ap, Option}
+use Rattle.bit_sets.specs.Blocks.{BlockValue}
+use Rattle.chart_term.specs.Terms.{Loop, Walk, row_of}
+use Rattle.hmsc_graph.specs.Spots.{spot_of, goal_of}
+use Rattle.permit_step.specs.Searches.{IsNext}
+use Rattle.permit_step.specs.declared.descent.Step.{Step}
+use Rattle.permit_step.proofs.Joins.{ok-as}
+use Rattle.permit_step.proofs.Passes.{next-row, next-par, next-choice, next-tied, next-as}
+use Rattle.permit_step.proofs.PermitLoops.{ready-loop}
+use Rattle.permit_step.proofs.PermitRows.{turns-ready}
+use Rattle.permit_step.proofs.Permits.{turns-are-ready}
+use Rattle.msc_base.specs.Patterns.{seq}
 use Rattle.permit_step.proofs.descent.next_child.Goals as goal
 
-pub returns : goal.returns
-returns c = no-child-behind c.args.nets.now.tables c.requires.tables c.args.label c.args.term.now c.args.from c.loop-index.index c.requires.term (omega (arith, c.child_count-index-end.ensures, c.loop-index-test.false)) c.loop-index.invariant
+pub blocked-requires-clause-parts : goal.blocked-requires-clause-parts
+blocked-requires-clause-parts c = turns-ready c.args.nets.now.tables c.in-Seq.parts.now c.in-Seq.ensures.1 (turns-are-ready c.args.nets.now.tables seq c.args.term.now c.in-Seq.parts.now c.in-Seq.ensures.0 c.requires.term)
+
+pub returns-in_ok-next-in-Seq : goal.returns-in_ok-next-in-Seq
+returns-in_ok-next-in-Seq c =
+    next-row c.args.nets.now.tables c.args.label c.args.term.now c.in-Seq.parts.now c.args.from c.in-Seq.ensures.1 c.in_ok-next-in-Seq.next c.in_ok-skip-in-Seq.skip.instances c.in-Seq.ensures.0 c.in_ok-skip-in-Seq.ensures c.in_ok-next-in-Seq.ensures
+
+pub returns-in_ok-next-in-Par : goal.returns-in_ok-next-in-Par
+returns-in_ok-next-in-Par c =
+    next-par c.args.nets.now.tables c.args.label c.args.term.now c.in-Par.parts.now c.args.from c.in-Par.ensures.1 c.in_ok-next-in-Par.next c.empty.result.instances c.in-Par.ensures.0 (ap (λ (b : BlockValue). b.instances) c.empty.ensures) c.in_ok-next-in-Par.ensures
+
+pub returns-in_ok-next-in-Choice : goal.returns-in_ok-next-in-Choice
+returns-in_ok-next-in-Choice c =
+    next-choice c.args.nets.now.tables c.args.label c.args.term.now c.in-Choice.parts.now c.args.from c.in-Choice.ensures.1 c.in_ok-next-in-Choice.next c.empty-in-Choice.result.instances c.in-Choice.ensures.0 (ap (λ (b : BlockValue). b.instances) c.empty-in-Choice.ensures) c.in_ok-next-in-Choice.ensures
+
+pub returns-in_ok-next-in-Tied : goal.returns-in_ok-next-in-Tied
+returns-in_ok-next-in-Tied c =
+    next-tied c.args.nets.now.tables c.args.label c.args.term.now c.args.from c.in-Tied.inner.now _ c.in_ok-next-in-Tied.next c.in-Tied.ensures c.in_ok-next-in-Tied.ensures
+
+pub next_turn-requires-clause-row : goal.next_turn-requires-clause-row
+next_turn-requires-clause-row c = ready-loop c.args.nets.now.tables c.args.term.now c.in-Loop.body.now c.in-Loop.lower c.in-Loop.upper c.in-Loop.row.now c.in-Loop.ensures c.requires.term
+
+pub returns-in-Loop : goal.returns-in-Loop
+returns-in-Loop c =
+    ok-as (λ (s : Option Step). IsNext c.args.nets.now.tables c.args.label (Loop c.in-Loop.body.now c.in-Loop.lower c.in-Loop.upper (row_of c.in-Loop.row.now)) c.args.from s) (λ (s : Option Step). IsNext c.args.nets.now.tables c.args.label c.args.term.now c.args.from s) c.next_turn.result
+    (λ s h. next-as c.args.nets.now.tables c.args.label c.args.term.now (Loop c.in-Loop.body.now c.in-Loop.lower c.in-Loop.upper (row_of c.in-Loop.row.now)) c.args.from s c.in-Loop.ensures h) c.next_turn.ensures
+
+pub returns-in-Walk : goal.returns-in-Walk
+returns-in-Walk c =
+    ok-as (λ (s : Option Step). IsNext c.args.nets.now.tables c.args.label (Walk c.in-Walk.net (spot_of c.in-Walk.begin) (goal_of c.in-Walk.to) c.in-Walk.own.now.instances) c.args.from s) (λ (s : Option Step). IsNext c.args.nets.now.tables c.args.label c.args.term.now c.args.from s) c.next_node.result
+    (λ s h. next-as c.args.nets.now.tables c.args.label c.args.term.now (Walk c.in-Walk.net (spot_of c.in-Walk.begin) (goal_of c.in-Walk.to) c.in-Walk.own.now.instances) c.args.from s c.in-Walk.ensures h) c.next_node.ensures

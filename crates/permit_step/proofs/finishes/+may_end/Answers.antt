@@ -1,54 +1,68 @@
-use Rattle.std.proofs.Common.{◌≡◌, ◌<◌, ◌≤◌, ◌↔◌, ◌∙◌, ℕ, ap, sym, subst, arith, true, false, Bool, IsTrue, refl, length}
+use Rattle.std.proofs.Common.{◌≡◌, ◌<◌, ◌≤◌, ◌↔◌, ◌∙◌, ℕ, ap, sym, subst, arith, true, false, Bool, List, IsTrue, refl, length, ◌+◌}
 use Rattle.hmsc_graph.specs.Graphs.{Net}
 use Rattle.hmsc_graph.specs.Nets.{IsNet, size_of}
 use Rattle.hmsc_graph.specs.Spots.{spot_of, goal_of}
+use Rattle.chart_term.specs.NormalForms.{begun}
 use Rattle.chart_term.specs.Rows.{part_of}
+use Rattle.chart_term.proofs.Turns.{begun-length}
+use Rattle.msc_base.specs.Patterns.{seq, par}
 use Rattle.chart_term.specs.Tables.{net_of, nodes_of, terms_over}
 use Rattle.chart_term.specs.Terms.{Tree, Loop, row_of}
 use Rattle.hmsc_graph.specs.Walks.{Leads}
 use Rattle.permit_step.specs.Endings.{AreEnding}
 use Rattle.permit_step.specs.Ready.{IsReady}
 use Rattle.term_laws.specs.Taking.{MayEnd, EndAll, EndOne, EndWalk}
-use Rattle.permit_step.proofs.EndingFacts.{all-first, all-at, all-ending, one-at, none-ending, turns-first, turns-at, turns-part, seq-ends, par-ends, choice-ends, tied-ends, trail-ends, loop-not, loop-zero, loop-owed, walk-ends, ending-more, ok-map}
-use Rattle.term_laws.proofs.Measures.{rank_in, rank-loop, rank-at, rank-part}
+use Rattle.permit_step.proofs.EndingFacts.{all-first, all-at, all-ending, one-at, none-ending, none-first, take_all, turns-first, turns-at, turns-part, seq-ends, par-ends, choice-ends, tied-ends, trail-ends, loop-not, loop-zero, loop-owed, walk-ends, ending-more, ok-map}
+use Rattle.term_laws.proofs.Measures.{rank_in, rank_all, rank-choice, rank-join, rank-loop, rank-at, rank-part}
 use Rattle.permit_step.proofs.NodeTerms.{node-is, sizes-are}
 use Rattle.permit_step.proofs.PermitLoops.{ready-loop}
 use Rattle.permit_step.proofs.PermitRows.{ready-part}
 use Rattle.permit_step.proofs.PermitWalks.{ready-walk}
-use Rattle.permit_step.proofs.Permits.{ready-at}
+use Rattle.permit_step.proofs.Permits.{ready-at, ready-choice, ready-par, ready-seq}
 use Rattle.term_laws.proofs.TermSentences.{net_rank}
 use Rattle.permit_step.proofs.finishes.+may_end.Goals as goal
 
 pub all_may_end-loop-index-init : goal.all_may_end-loop-index-init
-all_may_end-loop-index-init t c = all-first (terms_over c.args.nets.now.tables) c.args.parts.now
+all_may_end-loop-index-init t c = all-first (terms_over c.args.nets.now.tables) (begun c.args.parts.now)
 
 pub all_may_end-may_end-requires : goal.all_may_end-may_end-requires
 all_may_end-may_end-requires t c =
-    let r = rank-at c.args.nets.now.tables c.args.parts.now c.loop-index.index c.at.result.now c.at.ensures in
-    (omega (arith, c.decreases), (c.requires.tables, ready-at c.args.nets.now.tables c.args.parts.now c.loop-index.index c.at.result.now c.at.ensures c.requires.parts))
+    let r = rank-at c.args.nets.now.tables (begun c.args.parts.now) c.loop-index.index c.term_at.result.now c.term_at.ensures in
+    (omega (arith, c.decreases, r), (c.requires.tables, ready-at c.args.nets.now.tables (begun c.args.parts.now) c.loop-index.index c.term_at.result.now c.term_at.ensures c.requires.parts))
 
 pub all_may_end-returns-then-not-branch : goal.all_may_end-returns-then-not-branch
 all_may_end-returns-then-not-branch t c =
-    (λ e. cc, λ h. let q : c.in_ok-may_end.field-0 ≡ true = c.in_ok-may_end.ensures.1 (all-at (terms_over c.args.nets.now.tables) c.args.parts.now c.loop-index.index c.at.result.now c.at.ensures h) in cc)
+    (λ e. cc, λ h. let q : c.in_ok-may_end.field-0 ≡ true = c.in_ok-may_end.ensures.1 (all-at (terms_over c.args.nets.now.tables) (begun c.args.parts.now) c.loop-index.index c.term_at.result.now c.term_at.ensures h) in cc)
 
 pub all_may_end-loop-index-preserved : goal.all_may_end-loop-index-preserved
 all_may_end-loop-index-preserved t c =
     let e : c.in_ok-may_end.field-0 ≡ true = cc in
-    all-ending (terms_over c.args.nets.now.tables) c.args.parts.now c.loop-index.index c.at.result.now c.at.ensures c.loop-index.invariant (c.in_ok-may_end.ensures.0 e)
+    all-ending (terms_over c.args.nets.now.tables) (begun c.args.parts.now) c.loop-index.index c.term_at.result.now c.term_at.ensures c.loop-index.invariant (c.in_ok-may_end.ensures.0 e)
+
+pub all_may_end-returns : goal.all_may_end-returns
+all_may_end-returns t c =
+    (λ e. subst (λ (l : List Tree). EndAll (terms_over c.args.nets.now.tables) l) (take_all (begun c.args.parts.now) c.loop-index.index (omega (arith, c.len-index-end.ensures, begun-length c.args.parts.now c.requires.turns, c.loop-index-test.false))) c.loop-index.invariant, λ h. refl)
 
 pub one_may_end-may_end-requires : goal.one_may_end-may_end-requires
 one_may_end-may_end-requires t c =
-    let r = rank-at c.args.nets.now.tables c.args.parts.now c.loop-index.index c.at.result.now c.at.ensures in
-    (omega (arith, c.decreases), (c.requires.tables, ready-at c.args.nets.now.tables c.args.parts.now c.loop-index.index c.at.result.now c.at.ensures c.requires.parts))
+    let r = rank-at c.args.nets.now.tables (begun c.args.parts.now) c.loop-index.index c.term_at.result.now c.term_at.ensures in
+    (omega (arith, c.decreases, r), (c.requires.tables, ready-at c.args.nets.now.tables (begun c.args.parts.now) c.loop-index.index c.term_at.result.now c.term_at.ensures c.requires.parts))
 
 pub one_may_end-returns-then-branch : goal.one_may_end-returns-then-branch
 one_may_end-returns-then-branch t c =
     let e : c.in_ok-may_end.field-0 ≡ true = cc in
-    (λ i. one-at (terms_over c.args.nets.now.tables) c.args.parts.now c.loop-index.index c.at.result.now c.at.ensures (c.in_ok-may_end.ensures.0 e), λ h. refl)
+    (λ i. one-at (terms_over c.args.nets.now.tables) (begun c.args.parts.now) c.loop-index.index c.term_at.result.now c.term_at.ensures (c.in_ok-may_end.ensures.0 e), λ h. refl)
 
 pub one_may_end-loop-index-preserved : goal.one_may_end-loop-index-preserved
 one_may_end-loop-index-preserved t c =
-    none-ending (terms_over c.args.nets.now.tables) c.args.parts.now c.loop-index.index c.at.result.now c.at.ensures c.loop-index.invariant (λ h. let q : c.in_ok-may_end.field-0 ≡ true = c.in_ok-may_end.ensures.1 h in cc)
+    none-ending (terms_over c.args.nets.now.tables) (begun c.args.parts.now) c.loop-index.index c.term_at.result.now c.term_at.ensures c.loop-index.invariant (λ h. let q : c.in_ok-may_end.field-0 ≡ true = c.in_ok-may_end.ensures.1 h in cc)
+
+pub one_may_end-loop-index-init : goal.one_may_end-loop-index-init
+one_may_end-loop-index-init t c = none-first (terms_over c.args.nets.now.tables) (begun c.args.parts.now)
+
+pub one_may_end-returns : goal.one_may_end-returns
+one_may_end-returns t c =
+    (λ e. cc, λ h. absurd (c.loop-index.invariant (subst (λ (l : List Tree). EndOne (terms_over c.args.nets.now.tables) l) (sym (take_all (begun c.args.parts.now) c.loop-index.index (omega (arith, c.len-index-end.ensures, begun-length c.args.parts.now c.requires.turns, c.loop-index-test.false)))) h)))
 
 pub turns_may_end-loop-index-init : goal.turns_may_end-loop-index-init
 turns_may_end-loop-index-init t c = turns-first (terms_over c.args.nets.now.tables) c.args.row.now
@@ -132,18 +146,36 @@ may_end-walk_may_end-requires t c =
 
 pub may_end-returns-in-Seq : goal.may_end-returns-in-Seq
 may_end-returns-in-Seq t c =
-    ok-map (λ (b : Bool). IsTrue b ↔ EndAll (terms_over c.args.nets.now.tables) c.in-Seq.parts.now) (λ (b : Bool). IsTrue b ↔ MayEnd (terms_over c.args.nets.now.tables) c.args.term.now) c.all_may_end.result
-    (λ b h. seq-ends (terms_over c.args.nets.now.tables) b c.args.term.now c.in-Seq.parts.now c.in-Seq.ensures h) c.all_may_end.ensures
+    ok-map (λ (b : Bool). IsTrue b ↔ EndAll (terms_over c.args.nets.now.tables) (begun c.in-Seq.parts.now)) (λ (b : Bool). IsTrue b ↔ MayEnd (terms_over c.args.nets.now.tables) c.args.term.now) c.all_may_end.result
+    (λ b h. seq-ends (terms_over c.args.nets.now.tables) b c.args.term.now (begun c.in-Seq.parts.now) c.in-Seq.ensures.0 h) c.all_may_end.ensures
 
 pub may_end-returns-in-Par : goal.may_end-returns-in-Par
 may_end-returns-in-Par t c =
-    ok-map (λ (b : Bool). IsTrue b ↔ EndAll (terms_over c.args.nets.now.tables) c.in-Par.parts.now) (λ (b : Bool). IsTrue b ↔ MayEnd (terms_over c.args.nets.now.tables) c.args.term.now) c.all_may_end-in-Par.result
-    (λ b h. par-ends (terms_over c.args.nets.now.tables) b c.args.term.now c.in-Par.parts.now c.in-Par.ensures h) c.all_may_end-in-Par.ensures
+    ok-map (λ (b : Bool). IsTrue b ↔ EndAll (terms_over c.args.nets.now.tables) (begun c.in-Par.parts.now)) (λ (b : Bool). IsTrue b ↔ MayEnd (terms_over c.args.nets.now.tables) c.args.term.now) c.all_may_end-in-Par.result
+    (λ b h. par-ends (terms_over c.args.nets.now.tables) b c.args.term.now (begun c.in-Par.parts.now) c.in-Par.ensures.0 h) c.all_may_end-in-Par.ensures
 
 pub may_end-returns-in-Choice : goal.may_end-returns-in-Choice
 may_end-returns-in-Choice t c =
-    ok-map (λ (b : Bool). IsTrue b ↔ EndOne (terms_over c.args.nets.now.tables) c.in-Choice.parts.now) (λ (b : Bool). IsTrue b ↔ MayEnd (terms_over c.args.nets.now.tables) c.args.term.now) c.one_may_end.result
-    (λ b h. choice-ends (terms_over c.args.nets.now.tables) b c.args.term.now c.in-Choice.parts.now c.in-Choice.ensures h) c.one_may_end.ensures
+    ok-map (λ (b : Bool). IsTrue b ↔ EndOne (terms_over c.args.nets.now.tables) (begun c.in-Choice.parts.now)) (λ (b : Bool). IsTrue b ↔ MayEnd (terms_over c.args.nets.now.tables) c.args.term.now) c.one_may_end.result
+    (λ b h. choice-ends (terms_over c.args.nets.now.tables) b c.args.term.now (begun c.in-Choice.parts.now) c.in-Choice.ensures.0 h) c.one_may_end.ensures
+
+pub may_end-all_may_end-requires : goal.may_end-all_may_end-requires
+may_end-all_may_end-requires t c =
+    let w = c.args.nets.now.tables in
+    let r : rank_in w c.args.term.now ≡ 1 + rank_all w (begun c.in-Seq.parts.now) = ap (rank_in w) c.in-Seq.ensures.0 ∙ rank-join w seq (begun c.in-Seq.parts.now) in
+    (omega (arith, c.decreases, r), (c.requires.tables, (c.in-Seq.ensures.1, ready-seq w c.args.term.now (begun c.in-Seq.parts.now) c.in-Seq.ensures.0 c.requires.term)))
+
+pub may_end-all_may_end-requires-in-Par : goal.may_end-all_may_end-requires-in-Par
+may_end-all_may_end-requires-in-Par t c =
+    let w = c.args.nets.now.tables in
+    let r : rank_in w c.args.term.now ≡ 1 + rank_all w (begun c.in-Par.parts.now) = ap (rank_in w) c.in-Par.ensures.0 ∙ rank-join w par (begun c.in-Par.parts.now) in
+    (omega (arith, c.decreases, r), (c.requires.tables, (c.in-Par.ensures.1, ready-par w c.args.term.now (begun c.in-Par.parts.now) c.in-Par.ensures.0 c.requires.term)))
+
+pub may_end-one_may_end-requires : goal.may_end-one_may_end-requires
+may_end-one_may_end-requires t c =
+    let w = c.args.nets.now.tables in
+    let r : rank_in w c.args.term.now ≡ 1 + rank_all w (begun c.in-Choice.parts.now) = ap (rank_in w) c.in-Choice.ensures.0 ∙ rank-choice w (begun c.in-Choice.parts.now) in
+    (omega (arith, c.decreases, r), (c.requires.tables, (c.in-Choice.ensures.1, ready-choice w c.args.term.now (begun c.in-Choice.parts.now) c.in-Choice.ensures.0 c.requires.term)))
 
 pub may_end-returns-in-Tied : goal.may_end-returns-in-Tied
 may_end-returns-in-Tied t c =

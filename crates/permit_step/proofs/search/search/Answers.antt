@@ -14,6 +14,7 @@ search-init c =
     let path : c.new-path.result.items ≡ [] = c.new-path.ensures.items in
     record {
       state = rw (path, c.in_ok-here.ensures) (state-start w c.requires.tables c.args.label c.args.term.now c.args.found.now c.requires.term c.requires.tally c.requires.within);
+      met = tt;
       ranked = rw (path, c.in_ok-here.ensures) (omega arith);
     }
 
@@ -32,6 +33,7 @@ search-preserved-in-Some c =
     let good = child-good w c.requires.tables c.search.here c.in-Some.step.index c.in-Some.step.inner c.search.invariant.state.ready step.there in
     record {
       state = state-down w c.requires.tables c.args.label c.args.term.now c.args.found.now c.search.found c.search.path.items c.push.new.self.items c.search.here c.in-Some.step.inner c.search.next c.in-Some.step.index c.search.invariant.state c.in-Some.step step c.in_ok-push-in-Some.ensures.items refl;
+      met = c.search.invariant.met;
       ranked = ranked-down w (rank_in w c.args.term.now) c.search.path.items c.push.new.self.items c.search.here c.in-Some.step.inner c.in-Some.step.inner c.in-Some.step.index c.search.invariant.ranked good.rank c.in_ok-push-in-Some.ensures.items refl;
     }
 
@@ -39,14 +41,14 @@ pub returns-then-not-all : goal.returns-then-not-all
 returns-then-not-all c =
     let w = c.args.nets.now.tables in
     let no = c.if-not-all.true in
-    let cut = state-cut w c.requires.tables c.args.label c.args.term.now c.args.found.now c.search.found c.add_event.new.found c.search.path.items c.search.here c.search.next c.in_ok-all-in-None.all c.search.invariant.state c.in_ok-all-in-None.ensures no in
+    let cut = state-cut w c.requires.tables c.args.label c.args.term.now c.args.found.now c.search.found c.add_event.new.found c.search.path.items c.search.here c.search.next c.in_ok-all-in-None.all c.search.invariant.state c.in_ok-all-in-None.ensures.found no in
     rw no at cut
 
 pub returns-in-None-pop : goal.returns-in-None-pop
 returns-in-None-pop c =
     let w = c.args.nets.now.tables in
     let passed = rw c.in-None.is at c.in_ok-step.ensures in
-    state-end w c.requires.tables c.args.label c.args.term.now c.args.found.now c.search.found c.add_event.new.found c.search.path.items c.search.here c.search.next c.in_ok-all-in-None.all c.search.invariant.state c.in_ok-all-in-None.ensures passed c.if-not-all.false (no-frames c.search.path.items (sym c.search.path.ok.0 ∙ c.in-None-pop.ensures.cases.0))
+    state-end w c.requires.tables c.args.label c.args.term.now c.args.found.now c.search.found c.add_event.new.found c.search.path.items c.search.here c.search.next c.in_ok-all-in-None.all c.search.invariant.state c.in_ok-all-in-None.ensures.found passed c.if-not-all.false (no-frames c.search.path.items (sym c.search.path.ok.0 ∙ c.in-None-pop.ensures.cases.0))
 
 pub behind-next-requires-clause-term : goal.behind-next-requires-clause-term
 behind-next-requires-clause-term c =
@@ -66,6 +68,7 @@ search-preserved c =
     let w = c.args.nets.now.tables in
     let passed = rw c.in-None.is at c.in_ok-step.ensures in
     record {
-      state = state-up w c.requires.tables c.args.label c.args.term.now c.args.found.now c.search.found c.add_event.new.found c.search.path.items c.search.here c.search.next c.in_ok-all-in-None.all c.search.invariant.state c.in_ok-all-in-None.ensures passed c.if-not-all.false c.pop.new.self.items c.in-Some-pop.frame c.in-Some-pop.frame.parent c.behind-next.result c.in-Some-pop.ensures.items refl c.behind-next.ensures;
+      state = state-up w c.requires.tables c.args.label c.args.term.now c.args.found.now c.search.found c.add_event.new.found c.search.path.items c.search.here c.search.next c.in_ok-all-in-None.all c.search.invariant.state c.in_ok-all-in-None.ensures.found passed c.if-not-all.false c.pop.new.self.items c.in-Some-pop.frame c.in-Some-pop.frame.parent c.behind-next.result c.in-Some-pop.ensures.items refl c.behind-next.ensures;
+      met = c.in_ok-all-in-None.ensures.met;
       ranked = ranked-up w (rank_in w c.args.term.now) c.search.path.items c.pop.new.self.items c.in-Some-pop.frame c.search.here c.in-Some-pop.frame.parent c.search.invariant.ranked c.in-Some-pop.ensures.items refl;
     }

@@ -1,3 +1,5 @@
+use Rattle.std.specs.Prelude.{IfSome}
+use Rattle.permit_step.specs.Searches.{IsTaken}
 use Rattle.permit_step.proofs.Searching.{IsState}
 use Rattle.permit_step.proofs.Visits.{AreRanked, all_visits}
 use Rattle.term_laws.proofs.Measures.{rank_in}
@@ -6,6 +8,7 @@ use Rattle.permit_step.proofs.search.search.Given as goal
 abbrev pub invariant-search : goal.invariant-search
 invariant-search l = record {
   state : IsState l.nets.tables l.label l.term l.fn.found l.found l.path.items l.here l.next;
+  met : IfSome l.met IsTaken;
   ranked : AreRanked l.nets.tables (rank_in l.nets.tables l.term) l.path.items l.here;
 }
 

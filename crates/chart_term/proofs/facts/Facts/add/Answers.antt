@@ -9,5 +9,6 @@ returns c = record {
   weight = c.saturating_add-self.ensures;
   trail = refl;
   instances = λ n. ap (λ (b : BlockValue). has b.instances n) c.in_ok-add_instances.ensures.ok ∙ has-insert_each c.args.self.now.instances.instances c.args.other.now.instances.instances n;
-  span = c.widened-self.ensures;
+  span = c.widened-self.ensures.numbers;
+  labels = c.widened-self.ensures.labels;
 }

@@ -1,4 +1,4 @@
-use Rattle.permit_step.proofs.Ascending.{copies-more}
+use Rattle.permit_step.proofs.Copies.{copies-more}
 use Rattle.permit_step.proofs.found.Found.append_to.Goals as goal
 use Rattle.std.proofs.Common.{arith}
 
