@@ -1,7 +1,6 @@
 use Rattle.std.proofs.Common.{rules, sym, ◌∙◌}
-use Rattle.chart_term.proofs.Comparing.{is_equal}
-use Rattle.chart_term.specs.OrderLaws.{set_equal}
-use Rattle.chart_term.proofs.facts.Facts.are_within.Goals as goal
+use Rattle.node_facts.proofs.Listing.{is_equal, set_equal}
+use Rattle.node_facts.proofs.facts.Facts.are_within.Goals as goal
 
 pub returns-then-not-self : goal.returns-then-not-self
 returns-then-not-self c e = record {

@@ -1,8 +1,7 @@
 use Rattle.std.proofs.Common.{ap, ◌∙◌, refl}
-use Rattle.bit_sets.specs.Blocks.{BlockValue}
-use Rattle.chart_term.specs.Terms.{has}
-use Rattle.chart_term.proofs.Members.{has-insert_each}
-use Rattle.chart_term.proofs.facts.Facts.add.Goals as goal
+use Rattle.bit_sets.specs.Blocks.{BlockValue, is_among as has}
+use Rattle.node_facts.proofs.Members.{has-insert_each}
+use Rattle.node_facts.proofs.facts.Facts.add.Goals as goal
 
 pub returns : goal.returns
 returns c = record {

@@ -1,13 +1,10 @@
-//! What a node stores of its term: weight, instances, ranges of numbers and labels. `term` keeps it; it looks at no table.
+//! What a node of a term stores of it: weight, instances, ranges of numbers and labels; it looks at no table.
 
-ghost use Rattle.std.specs.Prelude.{◌≡◌, ◌+◌, ◌<◌, [], true, false, min, max, OnOk, IfOk, Some};
+ghost use Rattle.std.specs.Prelude.{◌≡◌, ◌+◌, ◌<◌, ◌∷◌, [], true, false, min, max, OnOk, IfOk, Some, option_to_list};
 ghost use Rattle.std.specs.List.{list_any};
 ghost use Rattle.std.specs.Option.{ForSome};
-ghost use Rattle.chart_term.specs.Facts.{Adds, AreFacts, HasFacts, FactsPassed, FactsWithin, facts_may, facts_miss, labels_in, lies_in, most_stored, numbers_in, wider};
-ghost use Rattle.chart_term.specs.Views.{event_of};
-ghost use Rattle.chart_term.specs.Terms.{Event as EventTree};
+ghost use Rattle.node_facts.specs.NodeFacts.{Adds, AreFacts, FactsPassed, FactsWithin, facts_may, facts_miss, labels_in, lies_in, most_stored, numbers_in, wider};
 
-use crate::Event;
 use bit_sets::Block;
 use msc_base::{Limits, NoMemory};
 use std::alloc::Global;
@@ -15,31 +12,33 @@ use std::cmp::Ordering;
 
 /// The least and the greatest of some numbers.
 #[derive(Clone, Copy, Debug, PartialEq, Eq)]
-pub(crate) struct Span {
-    pub(crate) least: u32,
-    pub(crate) greatest: u32,
+pub struct Span {
+    /// The least.
+    pub least: u32,
+    /// The greatest.
+    pub greatest: u32,
 }
 
 /// The ranges of some events, of which there is one at least.
 #[derive(Clone, Copy, Debug, PartialEq, Eq)]
-pub(crate) struct Ranges {
+pub struct Ranges {
     /// The least and the greatest of their numbers.
-    pub(crate) numbers: Span,
+    pub numbers: Span,
     /// The least and the greatest of the numbers of their labels.
-    pub(crate) labels: Span,
+    pub labels: Span,
 }
 
 /// What a node stores of its term. No fact depends on the tables.
 #[derive(Drop)]
-pub(crate) struct Facts {
+pub struct Facts {
     /// The weight, or the largest `u64` where it is larger.
-    pub(crate) weight: u64,
+    pub weight: u64,
     /// Whether a walk stands in the term, in a loop operand of it or in a begun turn.
-    pub(crate) holds_walk: bool,
+    pub holds_walk: bool,
     /// The instances of the events of the term, of its loop operands and of its begun turns.
-    pub(crate) instances: Block,
+    pub instances: Block,
     /// The ranges of these events.
-    pub(crate) ranges: Option<Ranges>,
+    pub ranges: Option<Ranges>,
 }
 
 impl Span {
@@ -97,7 +96,7 @@ fn widened(ranges: Option<Ranges>, other: Option<Ranges>) -> Option<Ranges>
 
 impl Facts {
     /// The facts of no term. It takes no memory.
-    pub(crate) fn none(alloc: Global) -> Facts
+    pub fn none(alloc: Global) -> Facts
         ensures { AreFacts 0 false [] [] [] result }
     {
         Facts {
@@ -108,20 +107,26 @@ impl Facts {
         }
     }
 
-    /// The facts of an event.
-    pub(crate) fn of_event(alloc: Global, event: Event) -> Result<Facts, NoMemory>
-        requires at { event.at < Limits.INSTANCES }
-        requires also { ForSome event.also (λ also. also < Limits.INSTANCES) }
-        ensures { IfOk result (λ facts. HasFacts (EventTree (event_of event)) facts) }
+    /// The facts of an event of that number, at one instance or two, with that label.
+    pub fn of_event(
+        alloc: Global,
+        number: u32,
+        at: u32,
+        also: Option<u32>,
+        label: u32,
+    ) -> Result<Facts, NoMemory>
+        requires at { at < Limits.INSTANCES }
+        requires also { ForSome also (λ second. second < Limits.INSTANCES) }
+        ensures { IfOk result (λ facts. AreFacts 1 false (at ∷ option_to_list also) (number ∷ []) (label ∷ []) facts) }
     {
         let mut instances = Block::empty(alloc);
-        instances.add_instance(event.at)?;
-        if let Some(also) = event.also {
+        instances.add_instance(at)?;
+        if let Some(also) = also {
             instances.add_instance(also)?;
         }
         let ranges = Ranges {
-            numbers: Span::of(event.number),
-            labels: Span::of(event.label),
+            numbers: Span::of(number),
+            labels: Span::of(label),
         };
         Ok(Facts {
             weight: 1,
@@ -132,7 +137,7 @@ impl Facts {
     }
 
     /// The facts of a walk. It takes no memory.
-    pub(crate) fn of_walk(alloc: Global) -> Facts
+    pub fn of_walk(alloc: Global) -> Facts
         ensures { AreFacts 1 true [] [] [] result }
     {
         Facts {
@@ -144,7 +149,7 @@ impl Facts {
     }
 
     /// Adds the facts of another term.
-    pub(crate) fn add(&mut self, other: &Facts) -> Result<(), NoMemory>
+    pub fn add(&mut self, other: &Facts) -> Result<(), NoMemory>
         ensures { OnOk result (Adds self.old other.now self.new) }
     {
         self.instances.add_instances(&other.instances)?;
@@ -155,14 +160,14 @@ impl Facts {
     }
 
     /// Adds to the weight alone.
-    pub(crate) fn add_weight(&mut self, weight: u64)
+    pub fn add_weight(&mut self, weight: u64)
         ensures { self.new ≡ record self.old { weight = min (self.old.weight + weight) most_stored } }
     {
         self.weight = self.weight.saturating_add(weight);
     }
 
     /// The same facts once more.
-    pub(crate) fn copy(&self, alloc: Global) -> Result<Facts, NoMemory>
+    pub fn copy(&self, alloc: Global) -> Result<Facts, NoMemory>
         ensures { IfOk result (λ facts. facts ≡ self.now) }
     {
         let instances = self.instances.copy(alloc)?;
@@ -175,8 +180,8 @@ impl Facts {
     }
 
     /// Whether no event of the block can hit a term with these facts.
-    #[tactic(auto, using(crate::proofs::Gathering::gathering))]
-    pub(crate) fn misses(&self, block: &Block) -> bool
+    #[tactic(auto, using(crate::proofs::Missing::missing))]
+    pub fn misses(&self, block: &Block) -> bool
         ensures { result ≡ facts_miss block.now self.now }
     {
         if self.holds_walk || block.shares_instance(&self.instances) {
@@ -189,7 +194,7 @@ impl Facts {
     }
 
     /// Whether a term with these facts may have an event with the label, as far as they tell.
-    pub(crate) fn may_have(&self, label: u32) -> bool
+    pub fn may_have(&self, label: u32) -> bool
         ensures { result ≡ facts_may label self.now }
     {
         if self.holds_walk {
@@ -201,8 +206,18 @@ impl Facts {
         }
     }
 
+    /// Whether the number lies from the least to the greatest of the event numbers.
+    pub fn spans(&self, number: u32) -> bool
+        ensures { result ≡ lies_in (numbers_in self.now.ranges) number }
+    {
+        match self.ranges {
+            None => false,
+            Some(ranges) => ranges.numbers.has(number),
+        }
+    }
+
     /// Whether a search for the label passes over the terms with these facts, as far as they tell.
-    pub(crate) fn are_passed(&self, label: u32, skip: &Block) -> bool
+    pub fn are_passed(&self, label: u32, skip: &Block) -> bool
         ensures { result ≡ true → FactsPassed label skip.now.instances self.now }
     {
         !self.may_have(label) || self.are_within(skip)

@@ -1,9 +1,9 @@
 use Rattle.std.proofs.Common.{sym, ◌∙◌, inl, inr, get_or, ap₂}
 use Rattle.std.specs.Ordering.{ordering_then}
 use Rattle.msc_base.specs.declared.label.Pair.{Pair}
-use Rattle.chart_term.proofs.Comparing.{list_cmp-decided, list_cmp-end, held_cmp, pairs_by_list, get_or_any}
-use Rattle.chart_term.proofs.term.order.compare_pairs.Goals as goal
-use Rattle.chart_term.proofs.term.order.compare_pairs.Goals.{then-loop-at-test+else-at-others, else-loop-at-test}
+use Rattle.node_facts.proofs.Listing.{list_cmp-decided, list_cmp-end, held_cmp, pairs_by_list, get_or_any}
+use Rattle.node_facts.proofs.order.compare_pairs.Goals as goal
+use Rattle.node_facts.proofs.order.compare_pairs.Goals.{then-loop-at-test+else-at-others, else-loop-at-test}
 
 pub returns-then-ne : goal.returns-then-ne
 returns-then-ne c =
