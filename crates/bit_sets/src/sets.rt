@@ -1,9 +1,9 @@
-//! What a block stores: the first word beside a pointer to what few blocks have. For `block` alone.
+//! What a block stores: one word, or a pointer to all words and events. For `block` alone.
 
-ghost use Rattle.std.specs.Prelude.{◌≡◌, ◌∷◌, ◌+◌, ◌*◌, ◌≤◌, ◌<◌, [], length, OnOk, OnErr, IfOk};
+ghost use Rattle.std.specs.Prelude.{◌≡◌, ◌∷◌, ◌+◌, ◌*◌, ◌≤◌, ◌<◌, [], length, OnOk, OnErr, IfOk, IfSome};
 ghost use Rattle.bit_sets.specs.Blocks.{HasBitsOfBoth, HasCommonBits, IsFirstDifference, IsTrimmed, ShareBit, has_bit, with_bit};
 ghost use Rattle.std.specs.List.{insert};
-ghost use Rattle.bit_sets.specs.Stores.{words_of, rest_of, events_of};
+ghost use Rattle.bit_sets.specs.Stores.{words_of, first_of, rest_of, events_of};
 
 use crate::words::{common_bits, first_difference, has_number, set_number, share_bit, unite};
 use msc_base::{Limits, NoMemory};
@@ -14,15 +14,21 @@ use std::rc::Rc;
 #[derive(Drop)]
 pub(crate) struct Sets {
     alloc: Global,
-    /// The first word.
-    first: u64,
-    /// The words behind the first and the events, where there are any.
-    more: Option<Rc<More>>,
+    form: Form,
 }
 
-/// What few blocks have. It is never changed.
+/// One word without events, or all that there is. An `Option` of a pointer beside the word would take 8 bytes more.
+#[derive(Drop)]
+pub(crate) enum Form {
+    Few(u64),
+    Many(Rc<More>),
+}
+
+/// Words and events, where there are more words than one, or events. It is never changed.
 #[derive(Drop)]
 pub(crate) struct More {
+    first: u64,
+    /// The words behind the first.
     words: Vec<u64>,
     events: Vec<u32>,
 }
@@ -35,8 +41,7 @@ impl Sets {
     {
         Sets {
             alloc,
-            first: 0,
-            more: None,
+            form: Form::Few(0),
         }
     }
 
@@ -45,28 +50,47 @@ impl Sets {
         ensures words { IfOk result (λ sets. words_of sets ≡ first ∷ words.items) }
         ensures events { IfOk result (λ sets. events_of sets ≡ events.items) }
     {
-        let more = if words.is_empty() && events.is_empty() {
-            None
+        let form = if words.is_empty() && events.is_empty() {
+            Form::Few(first)
         } else {
-            Some(Rc::new(alloc, More { words, events })?)
+            let more = More {
+                first,
+                words,
+                events,
+            };
+            Form::Many(Rc::new(alloc, more)?)
         };
-        Ok(Sets { alloc, first, more })
+        Ok(Sets { alloc, form })
+    }
+
+    /// The word, where there is but one, and no event.
+    fn few(&self) -> Option<u64>
+        ensures words { IfSome result (λ word. words_of self.now ≡ word ∷ []) }
+        ensures events { IfSome result (λ word. events_of self.now ≡ []) }
+    {
+        match &self.form {
+            Form::Few(word) => Some(*word),
+            Form::Many(_) => None,
+        }
     }
 
     /// The first word.
     fn first(&self) -> u64
-        ensures { result ≡ self.now.first }
+        ensures { result ≡ first_of self.now }
     {
-        self.first
+        match &self.form {
+            Form::Few(word) => *word,
+            Form::Many(more) => more.first,
+        }
     }
 
     /// The words behind the first.
     fn rest(&self) -> &[u64]
         ensures { result.now ≡ rest_of self.now }
     {
-        match &self.more {
-            Some(more) => more.words.as_slice(),
-            None => &[],
+        match &self.form {
+            Form::Few(_) => &[],
+            Form::Many(more) => more.words.as_slice(),
         }
     }
 
@@ -74,9 +98,9 @@ impl Sets {
     pub(crate) fn events(&self) -> &[u32]
         ensures { result.now ≡ events_of self.now }
     {
-        match &self.more {
-            Some(more) => more.events.as_slice(),
-            None => &[],
+        match &self.form {
+            Form::Few(_) => &[],
+            Form::Many(more) => more.events.as_slice(),
         }
     }
 
@@ -85,15 +109,11 @@ impl Sets {
         ensures words { IfOk result (λ sets. words_of sets ≡ words_of self.now) }
         ensures events { IfOk result (λ sets. events_of sets ≡ events_of self.now) }
     {
-        let more = match &self.more {
-            Some(more) => Some(more.clone()?),
-            None => None,
+        let form = match &self.form {
+            Form::Few(word) => Form::Few(*word),
+            Form::Many(more) => Form::Many(more.clone()?),
         };
-        Ok(Sets {
-            alloc,
-            first: self.first,
-            more,
-        })
+        Ok(Sets { alloc, form })
     }
 
     /// Whether the bit of that number is set.
@@ -101,9 +121,35 @@ impl Sets {
         ensures { result ≡ has_bit (words_of self.now) at }
     {
         if at < 64 {
-            (self.first >> at) & 1 == 1
+            (self.first() >> at) & 1 == 1
         } else {
             has_number(self.rest(), at - 64)
+        }
+    }
+
+    /// Puts these words in place of those that are there.
+    fn put_words(&mut self, first: u64, words: Vec<u64>) -> Result<(), NoMemory>
+        ensures ok { OnOk result (words_of self.new ≡ first ∷ words.items) }
+        ensures events { events_of self.new ≡ events_of self.old }
+        ensures err { OnErr result (words_of self.new ≡ words_of self.old) }
+    {
+        let events = Vec::from_slice(self.alloc, self.events())?;
+        *self = Sets::of(self.alloc, first, words, events)?;
+        Ok(())
+    }
+
+    /// Puts this in place of the first word.
+    fn put_first(&mut self, first: u64) -> Result<(), NoMemory>
+        ensures ok { OnOk result (words_of self.new ≡ first ∷ rest_of self.old) }
+        ensures events { events_of self.new ≡ events_of self.old }
+        ensures err { OnErr result (words_of self.new ≡ words_of self.old) }
+    {
+        if self.few().is_some() {
+            self.form = Form::Few(first);
+            Ok(())
+        } else {
+            let words = Vec::from_slice(self.alloc, self.rest())?;
+            self.put_words(first, words)
         }
     }
 
@@ -113,15 +159,14 @@ impl Sets {
         ensures events { events_of self.new ≡ events_of self.old }
         ensures err { OnErr result (words_of self.new ≡ words_of self.old) }
     {
+        let first = self.first();
         if at < 64 {
-            self.first |= 1 << at;
+            self.put_first(first | 1 << at)
         } else {
             let mut words = Vec::from_slice(self.alloc, self.rest())?;
             set_number(&mut words, at - 64)?;
-            let events = Vec::from_slice(self.alloc, self.events())?;
-            *self = Sets::of(self.alloc, self.first, words, events)?;
+            self.put_words(first, words)
         }
-        Ok(())
     }
 
     /// Puts an event in at that index.
@@ -134,7 +179,7 @@ impl Sets {
         let words = Vec::from_slice(self.alloc, self.rest())?;
         let mut events = Vec::from_slice(self.alloc, self.events())?;
         events.insert(index, number)?;
-        *self = Sets::of(self.alloc, self.first, words, events)?;
+        *self = Sets::of(self.alloc, self.first(), words, events)?;
         Ok(())
     }
 
@@ -144,17 +189,15 @@ impl Sets {
         ensures events { events_of self.new ≡ events_of self.old }
         ensures err { OnErr result (words_of self.new ≡ words_of self.old) }
     {
-        let first = self.first | other.first;
+        let first = self.first() | other.first();
         let others = other.rest();
         if others.is_empty() {
-            self.first = first;
+            self.put_first(first)
         } else {
             let mut words = Vec::from_slice(self.alloc, self.rest())?;
             unite(&mut words, others)?;
-            let events = Vec::from_slice(self.alloc, self.events())?;
-            *self = Sets::of(self.alloc, first, words, events)?;
+            self.put_words(first, words)
         }
-        Ok(())
     }
 
     /// The bits that both have, without events.
@@ -164,7 +207,7 @@ impl Sets {
         ensures events { IfOk result (λ sets. events_of sets ≡ []) }
     {
         let words = common_bits(alloc, self.rest(), other.rest())?;
-        Sets::of(alloc, self.first & other.first, words, Vec::new(alloc))
+        Sets::of(alloc, self.first() & other.first(), words, Vec::new(alloc))
     }
 
     /// Whether both have the bit of one number.

@@ -3,7 +3,7 @@ ghost use Rattle.std.specs.Prelude.{◌<◌, ◌≡◌, ◌+◌, [], IfOk, lengt
 ghost use Rattle.chart_term.specs.Tables.{net_count};
 
 use bit_sets::Block;
-use chart_term::{RowList, RowPart, Term, TermList, seq};
+use chart_term::{PartList, RowPart, Term, TermList, seq};
 use hmsc_graph::{Goal, Net, Shape, ShapeLine, ShapeLines, Spot};
 use msc_base::{Far, Kind, Label, LabelRef, LabelRefs, Name, NoMemory, Place, Text};
 use std::alloc::Global;
@@ -41,8 +41,7 @@ fn block(alloc: Global, at: u32, number: u32) -> Result<Block, NoMemory>
 fn loop_shut(alloc: Global, body: Term, at: u32) -> Result<Term, NoMemory>
     requires { at < 1024 }
 {
-    let mut row = RowList::new(alloc);
-    row.push(RowPart::Gap(block(alloc, at, 0)?))?;
+    let row = PartList::one(alloc, RowPart::Gap(block(alloc, at, 0)?))?;
     Term::loop_of(alloc, body, 1, None, row)
 }
 
@@ -194,8 +193,7 @@ fn numbers_beyond_the_tables_do_not_fit(rt: HostRuntime) -> Result<(), Fail> {
     let later = both(alloc, event(alloc, 1, 0)?, event(alloc, 2, 0)?)?;
     assert!(rt; !fits(alloc, seq(alloc, later)?)?);
     assert!(rt; !fits(alloc, loop_shut(alloc, event(alloc, 2, 0)?, 0)?)?);
-    let mut row = RowList::new(alloc);
-    row.push(RowPart::Turn(event(alloc, 2, 0)?))?;
+    let row = PartList::one(alloc, RowPart::Turn(event(alloc, 2, 0)?))?;
     assert!(rt;
         !fits(
             alloc,

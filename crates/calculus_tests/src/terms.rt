@@ -2,7 +2,7 @@
 ghost use Rattle.std.specs.Prelude.{◌<◌, ◌≡◌, ◌++◌, ◌∷◌, IfOk, length};
 
 use bit_sets::Block;
-use chart_term::{Look, RowList, RowPart, Term, TermList, choice, par, seq, tied};
+use chart_term::{Look, PartList, RowPart, Term, TermList, choice, par, seq, tied};
 use hmsc_graph::{Goal, Spot};
 use msc_base::{NoMemory, Pair, PairList};
 use std::alloc::Global;
@@ -55,8 +55,7 @@ fn block(alloc: Global, at: u32, number: u32) -> Result<Block, NoMemory>
 fn loop_shut(alloc: Global, body: Term, at: u32) -> Result<Term, NoMemory>
     requires { at < 1024 }
 {
-    let mut row = RowList::new(alloc);
-    row.push(RowPart::Gap(block(alloc, at, 0)?))?;
+    let row = PartList::one(alloc, RowPart::Gap(block(alloc, at, 0)?))?;
     Term::loop_of(alloc, body, 1, None, row)
 }
 
@@ -105,16 +104,14 @@ fn loop_of_a_request_and_its_answer_weighs_eighteen(rt: HostRuntime) -> Result<(
     turn.push(answer)?;
     let body = tied(alloc, seq(alloc, turn)?, pair(alloc, 1, 2)?)?;
     assert_eq!(rt; body.weight(), 16);
-    let mut row = RowList::new(alloc);
-    row.push(RowPart::Gap(Block::empty(alloc)))?;
+    let row = PartList::one(alloc, RowPart::Gap(Block::empty(alloc)))?;
     assert_eq!(rt; Term::loop_of(alloc, body, 1, None, row)?.weight(), 18);
     Ok(())
 }
 
 /// A loop of the term with a begun turn of it: one more than twice its weight.
 fn doubled(alloc: Global, term: Term) -> Result<Term, NoMemory> {
-    let mut row = RowList::new(alloc);
-    row.push(RowPart::Turn(term.copy(alloc)?))?;
+    let row = PartList::one(alloc, RowPart::Turn(term.copy(alloc)?))?;
     Term::loop_of(alloc, term, 0, None, row)
 }
 

@@ -1,7 +1,5 @@
 -- Pairs that a tie keeps, and numbers that are gathered, one after another.
-use Rattle.std.proofs.Common.{◌≡◌, ℕ, ◌+◌, ◌<◌, inl, inr, Bool, true, false, ◌||◌, ◌&&◌, not, cond, nat_eq, ◌==◌, List, [], ◌∷◌, ◌++◌, refl, ap, ap₂, subst, sym, ◌∙◌, arith, length, take, get_or, append-nil}
-use Rattle.std.specs.Prelude.{Result, Ok, Err, OnOk}
-use Rattle.std.specs.BTreeSet.{BTreeSet, contains}
+use Rattle.std.proofs.Common.{◌≡◌, ℕ, ◌+◌, ◌<◌, inl, inr, Bool, true, false, ◌||◌, ◌&&◌, not, cond, ◌==◌, List, [], ◌∷◌, ◌++◌, refl, ap, ap₂, sym, ◌∙◌, arith, length, take, get_or, append-nil}
 use Rattle.std.specs.List.{list_any}
 use Rattle.std.specs.Ordering.{is_eq, nat_cmp, ordering_then}
 use Rattle.std.specs.declared.cmp.Ordering.{Ordering}
@@ -10,46 +8,11 @@ use Rattle.std.proofs.lemmas.Bool.{cases_order, lt-ltb, le-ltb, eq-eqb, ne_eqb, 
 use Rattle.std.proofs.lemmas.List.{map-append}
 use Rattle.std.proofs.lemmas.List.Folds.{list_any-append}
 use Rattle.msc_base.specs.declared.label.Pair.{Pair}
-use Rattle.chart_term.specs.NormalForms.{numbers, numbers_row, without_pair, with_pair, unless_pair, kept_pairs}
-use Rattle.chart_term.specs.Numbers.{Gains, part_numbers}
+use Rattle.chart_term.specs.NormalForms.{without_pair, with_pair, unless_pair, kept_pairs}
 use Rattle.chart_term.specs.Order.{pair_cmp}
-use Rattle.chart_term.specs.Rows.{part_of, parts_of}
-use Rattle.chart_term.specs.Terms.{Part, Gap, Turn, row_of, has}
+use Rattle.chart_term.specs.Terms.{has}
 use Rattle.chart_term.specs.Views.{pair_of, pairs_of}
-use Rattle.chart_term.specs.TermViews.{held_parts}
-use Rattle.chart_term.specs.declared.term.RowPart.{RowPart}
-use Rattle.chart_term.specs.declared.term.StretchForm.{StretchForm}
-use Rattle.chart_term.specs.declared.term.StretchForm.TheVariants as stretch
 use Rattle.chart_term.proofs.Flattening.{taken_next}
-use Rattle.chart_term.proofs.Gathering.{row_numbers-append}
-use Rattle.chart_term.proofs.Turns.{parts_next}
-
--- numbers gathered in two steps
-gained : (old mid new a b c : Bool) → new ≡ (mid || b) → mid ≡ (old || a) → c ≡ (a || b) → new ≡ (old || c)
-gained true mid new a b c p q r = p ∙ ap (λ m. m || b) q
-gained false mid new a b c p q r = p ∙ ap (λ m. m || b) q ∙ sym r
-
-row_numbers-snoc : (ps : List Part) (p : Part) → numbers_row (row_of (ps ++ p ∷ [])) ≡ numbers_row (row_of ps) ++ part_numbers p
-row_numbers-snoc ps (Gap c) = row_numbers-append ps (Gap c ∷ [])
-row_numbers-snoc ps (Turn x) = row_numbers-append ps (Turn x ∷ []) ∙ ap (λ l. numbers_row (row_of ps) ++ l) (append-nil (numbers x))
-
--- those of two lists of parts
-pub gains_both : (old mid new : BTreeSet ℕ) (ps qs : List Part) → Gains old (numbers_row (row_of ps)) mid → Gains mid (numbers_row (row_of qs)) new → Gains old (numbers_row (row_of (ps ++ qs))) new
-gains_both old mid new ps qs p q n =
-    gained (contains nat_cmp old n) (contains nat_cmp mid n) (contains nat_cmp new n) (has (numbers_row (row_of ps)) n) (has (numbers_row (row_of qs)) n) (has (numbers_row (row_of (ps ++ qs))) n) (q n) (p n)
-    (ap (λ l. has l n) (row_numbers-append ps qs) ∙ list_any-append (λ m. nat_eq m n) (numbers_row (row_of ps)) (numbers_row (row_of qs)))
-
--- what the second list adds, where the call for it was well
-pub gains_fork : {A E : Type 0} (old mid new : BTreeSet ℕ) (f : StretchForm) (ps qs rs : List Part) (r : Result A E) → f ≡ stretch.Fork ps qs → held_parts f ≡ rs → Gains old (numbers_row (row_of ps)) mid → OnOk r (Gains mid (numbers_row (row_of qs)) new) → OnOk r (Gains old (numbers_row (row_of rs)) new)
-gains_fork old mid new f ps qs rs (Ok a) e is p q =
-    let whole : rs ≡ ps ++ qs = sym is ∙ ap held_parts e in
-    subst (λ (l : List Part). Gains old (numbers_row (row_of l)) new) (sym whole) (gains_both old mid new ps qs p q)
-gains_fork old mid new f ps qs rs (Err x) e is p q = q
-
-pub row_gains_next : (old mid new : BTreeSet ℕ) (xs : List RowPart) (i : ℕ) (x : RowPart) → i < length xs → x ≡ get_or xs i x → Gains old (numbers_row (row_of (parts_of (take i xs)))) mid → Gains mid (part_numbers (part_of x)) new → Gains old (numbers_row (row_of (parts_of (take (i + 1) xs)))) new
-row_gains_next old mid new xs i x lt e p q n =
-    gained (contains nat_cmp old n) (contains nat_cmp mid n) (contains nat_cmp new n) (has (numbers_row (row_of (parts_of (take i xs)))) n) (has (part_numbers (part_of x)) n) (has (numbers_row (row_of (parts_of (take (i + 1) xs)))) n) (q n) (p n)
-    (ap (λ l. has l n) (ap (λ l. numbers_row (row_of l)) (parts_next xs i x lt e) ∙ row_numbers-snoc (parts_of (take i xs)) (part_of x)) ∙ list_any-append (λ m. nat_eq m n) (numbers_row (row_of (parts_of (take i xs)))) (part_numbers (part_of x)))
 
 -- whether two pairs are equal
 abbrev pub same_pair : ℕ × ℕ → ℕ × ℕ → Bool

@@ -1,23 +1,20 @@
 -- The facts of lists of parts, and of terms made of them.
-use Rattle.std.proofs.Common.{◌≡◌, ℕ, ◌+◌, ◌<◌, ◌⊎◌, inl, inr, Bool, true, false, ◌||◌, ◌&&◌, not, List, [], ◌∷◌, ◌++◌, refl, ap, ap₂, subst, sym, ◌∙◌, arith, length, take, get_or, append_assoc, append-nil, min, max, nat_eq, Option, Some, None}
+use Rattle.std.proofs.Common.{◌≡◌, ℕ, ◌+◌, ◌<◌, Bool, true, false, ◌||◌, ◌&&◌, not, List, [], ◌∷◌, ◌++◌, refl, ap, ap₂, subst, sym, ◌∙◌, arith, length, take, get_or, append_assoc, append-nil, min, max, nat_eq, Option, Some, None}
 use Rattle.std.specs.List.{list_any}
 use Rattle.chart_term.specs.declared.term.RowPart.{RowPart}
 use Rattle.chart_term.specs.declared.term.RowPart.TheVariants as part
 use Rattle.chart_term.specs.Rows.{part_of, parts_of}
 use Rattle.std.proofs.lemmas.List.Folds.{list_any-append}
-use Rattle.bit_sets.specs.Blocks.{BlockValue, share}
-use Rattle.chart_term.specs.declared.facts.Facts.{Facts}
-use Rattle.chart_term.specs.declared.term.Form.{Form}
-use Rattle.chart_term.specs.declared.term.Form.TheVariants as form
-use Rattle.chart_term.specs.TermViews.{tree_of}
-use Rattle.chart_term.specs.declared.facts.Ranges.{Ranges}
-use Rattle.chart_term.specs.declared.facts.Span.{Span}
+use Rattle.bit_sets.specs.Blocks.{BlockValue}
+use Rattle.node_facts.specs.declared.facts.Facts.{Facts}
+use Rattle.node_facts.specs.declared.facts.Span.{Span}
 use Rattle.chart_term.specs.Labels.{labels, labels_all, labels_row}
 use Rattle.chart_term.specs.NormalForms.{begun, numbers, numbers_all, numbers_row}
 use Rattle.chart_term.specs.PartLists.{AreTurns}
-use Rattle.chart_term.specs.Facts.{AreFacts, Adds, HasFacts, RowHasFacts, holds_walk, any_walk, row_walk, instances, instances_all, instances_row, misses, row_misses, facts_miss, span_of, lies_in, most_stored, numbers_in, wider}
+use Rattle.node_facts.specs.NodeFacts.{AreFacts, Adds, facts_miss, span_of, lies_in, most_stored, wider}
+use Rattle.chart_term.specs.Facts.{HasFacts, RowHasFacts, holds_walk, any_walk, row_walk, instances, instances_all, instances_row, misses, row_misses}
 use Rattle.chart_term.specs.Terms.{Tree, Loop, Row, trees, weight, weights, row_weight, Part, Gap, Turn, row_of, has}
-use Rattle.chart_term.proofs.Members.{facts_added, span_of-append}
+use Rattle.node_facts.proofs.Members.{facts_added, span_of-append}
 use Rattle.chart_term.proofs.Turns.{parts_next}
 
 or_last : (a b c : Bool) → (a || (b || c)) ≡ ((a || b) || c)
@@ -113,16 +110,6 @@ row_miss_is b ps f h =
     (ap₂ (λ m n. not m && not n) h.trail (any_same (has f.instances.instances) (has (instances_row (row_of ps))) b.instances h.instances))
     (ap (λ s. not (list_any (lies_in s) b.events)) h.span)
 
-lies_in_none : (ns : List ℕ) → list_any (lies_in None) ns ≡ false
-lies_in_none [] = refl
-lies_in_none (n ∷ ns) = lies_in_none ns
-
-pub miss_none : (b : BlockValue) (f : Facts) → f.holds_walk ≡ false → share b.instances f.instances.instances ≡ false → f.ranges ≡ None → true ≡ facts_miss b f
-miss_none b f p q r = sym (ap₂ (λ m n. m && n) (ap₂ (λ m n. not m && not n) p q) (ap (λ s. not (list_any (lies_in (numbers_in s)) b.events)) r ∙ ap not (lies_in_none b.events)))
-
-pub miss_some : (b : BlockValue) (f : Facts) (r : Ranges) (any : Bool) → f.holds_walk ≡ false → share b.instances f.instances.instances ≡ false → f.ranges ≡ Some r → any ≡ list_any (lies_in (Some r.numbers)) b.events → not any ≡ facts_miss b f
-miss_some b f r any p q is e = sym (ap₂ (λ m n. m && n) (ap₂ (λ m n. not m && not n) p q) (ap (λ s. not (list_any (lies_in (numbers_in s)) b.events)) is ∙ ap not (sym e)))
-
 or_turned : (a b : Bool) → (a || b) ≡ (b || a)
 or_turned true true = refl
 or_turned true false = refl
@@ -182,12 +169,6 @@ turns-labels [] = refl
 turns-labels (Gap c ∷ ps) = turns-labels ps
 turns-labels (Turn x ∷ ps) = ap (λ l. labels x ++ l) (turns-labels ps)
 
--- the numbers of a node of turns
-pub numbers_joined : (f : Form) (ps : List Part) (x : Tree) → (f ≡ form.Seq ps) ⊎ ((f ≡ form.Par ps) ⊎ (f ≡ form.Choice ps)) → tree_of f ≡ x → numbers_row (row_of ps) ≡ numbers x
-numbers_joined f ps x (inl e) is = turns-numbers ps ∙ ap numbers (ap tree_of (sym e) ∙ is)
-numbers_joined f ps x (inr (inl e)) is = turns-numbers ps ∙ ap numbers (ap tree_of (sym e) ∙ is)
-numbers_joined f ps x (inr (inr e)) is = turns-numbers ps ∙ ap numbers (ap tree_of (sym e) ∙ is)
-
 -- the facts of a join or a choice of turns
 pub turns_facts : (ps : List Part) (f h : Facts) → AreTurns ps → RowHasFacts (row_of ps) f → h ≡ record f { weight = min (f.weight + 1) most_stored }
     → AreFacts (1 + weights (trees (begun ps))) (any_walk (trees (begun ps))) (instances_all (trees (begun ps))) (numbers_all (trees (begun ps))) (labels_all (trees (begun ps))) h
@@ -207,4 +188,4 @@ pub row_facts-next_turn : (xs : List RowPart) (i : ℕ) (x : RowPart) (y : Tree)
 row_facts-next_turn xs i x y f g h lt e is p q s =
     subst (λ (l : List Part). RowHasFacts (row_of l) h) (sym (parts_next xs i x lt e ∙ ap (λ z. parts_of (take i xs) ++ part_of z ∷ []) is)) (row_facts-turn (parts_of (take i xs)) y f g h p q s)
 
-pub ruleset gathering = (facts_miss_is, row_miss_is, miss_none, miss_some, loop_facts)
+pub ruleset gathering = (facts_miss_is, row_miss_is, loop_facts)

@@ -16,6 +16,7 @@ pub mod Cuts
 pub mod Distinct
 mod Flattening
 mod Gathering
+mod Numbering
 mod Passing
 pub mod Turns
 pub mod Members

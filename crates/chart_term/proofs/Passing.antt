@@ -3,9 +3,10 @@ use Rattle.std.proofs.Common.{◌≡◌, ℕ, zero, suc, ◌+◌, ◌-◌, ◌<�
 use Rattle.std.proofs.lemmas.Bool.{cases_order, eqb-true, leb-true, le-leb}
 use Rattle.std.proofs.lemmas.List.Folds.{list_any-append}
 use Rattle.shared_sequence.proofs.Parts.{length_parts}
-use Rattle.chart_term.specs.declared.facts.Facts.{Facts}
-use Rattle.chart_term.specs.declared.facts.Span.{Span}
-use Rattle.chart_term.specs.Facts.{FactsPassed, FactsWithin, HasFacts, RowHasFacts, facts_may, holds_walk, instances, instances_row, labels_in, lies_in, row_walk, span_of, wider}
+use Rattle.node_facts.specs.declared.facts.Facts.{Facts}
+use Rattle.node_facts.specs.declared.facts.Span.{Span}
+use Rattle.node_facts.specs.NodeFacts.{FactsPassed, FactsWithin, facts_may, labels_in, lies_in, span_of, wider}
+use Rattle.chart_term.specs.Facts.{HasFacts, RowHasFacts, holds_walk, instances, instances_row, row_walk}
 use Rattle.chart_term.specs.Labels.{labels, labels_row}
 use Rattle.chart_term.specs.NormalForms.{has_gap}
 use Rattle.chart_term.specs.PartLists.{AllPassed, ArePassed, IsNext, IsPassed, IsWithin, Lacks}
@@ -58,7 +59,7 @@ lies_there (m ∷ ms) n h = by_case (m == n) refl h (lies_there ms n)
     by_case false e k f = lies_second (Some (record { least = m; greatest = m })) (span_of ms) n (f k)
 
 -- so one beside the range isn't there
-lacks_there : (ns : List ℕ) (n : ℕ) → lies_in (span_of ns) n ≡ false → has ns n ≡ false
+pub lacks_there : (ns : List ℕ) (n : ℕ) → lies_in (span_of ns) n ≡ false → has ns n ≡ false
 lacks_there ns n h = by_case (has ns n) refl
   where
     by_case : (b : Bool) → has ns n ≡ b → has ns n ≡ false

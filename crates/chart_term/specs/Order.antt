@@ -1,12 +1,13 @@
 -- The order of terms: by constructor, as the table of weights has them, then by their parts.
 use Rattle.std.specs.Cmp.{IsTotalOrder}
 use Rattle.std.specs.Ordering.{nat_cmp, ordering_then}
-use Rattle.std.specs.Prelude.{ℕ, List, [], ◌∷◌, Option, Some, None, ◌≡◌}
+use Rattle.std.specs.Prelude.{ℕ, ◌≡◌}
 use Rattle.std.specs.declared.cmp.Ordering.{Ordering}
 use Rattle.std.specs.declared.cmp.Ordering.TheVariants.{Less, Equal, Greater}
 use Rattle.bit_sets.specs.Blocks.{set_cmp}
 use Rattle.msc_base.specs.Patterns.{seq, par}
 use Rattle.hmsc_graph.specs.Graphs.{Spot, Start, At, Goal, To, End, Any}
+pub use Rattle.node_facts.specs.PlainOrder.{maybe_cmp, pair_cmp, pairs_cmp}
 use Rattle.chart_term.specs.Terms.{TermEvent, Tree, Nil, Event, Join, Choice, Tied, Loop, Walk, Trees, none, more, Row, ends, gap, turn, Part, Gap, Turn}
 
 -- the constructor's place in the table of weights
@@ -20,27 +21,9 @@ rank (Tied x q) = 5
 rank (Loop x lo hi r) = 6
 rank (Walk n s t c) = 7
 
--- none first
-abbrev pub maybe_cmp : Option ℕ → Option ℕ → Ordering
-maybe_cmp None None = Equal
-maybe_cmp None (Some n) = Less
-maybe_cmp (Some m) None = Greater
-maybe_cmp (Some m) (Some n) = nat_cmp m n
-
 -- by number, instances and label
 abbrev pub event_cmp : TermEvent → TermEvent → Ordering
 event_cmp e f = ordering_then (nat_cmp e.number f.number) (ordering_then (nat_cmp e.at f.at) (ordering_then (maybe_cmp e.also f.also) (nat_cmp e.label f.label)))
-
--- by the first number, then by the second
-abbrev pub pair_cmp : ℕ × ℕ → ℕ × ℕ → Ordering
-pair_cmp p r = ordering_then (nat_cmp p.0 r.0) (nat_cmp p.1 r.1)
-
--- pair by pair
-abbrev pub pairs_cmp : List (ℕ × ℕ) → List (ℕ × ℕ) → Ordering
-pairs_cmp [] [] = Equal
-pairs_cmp [] (r ∷ s) = Less
-pairs_cmp (p ∷ q) [] = Greater
-pairs_cmp (p ∷ q) (r ∷ s) = ordering_then (pair_cmp p r) (pairs_cmp q s)
 
 -- the start first
 abbrev pub spot_cmp : Spot → Spot → Ordering

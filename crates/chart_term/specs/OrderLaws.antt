@@ -1,6 +1,6 @@
 -- The order of terms is total: it is that of their keys, trees of numbers that are compared from the left.
 use Rattle.std.proofs.Common.{ap, ap₂, arith, sym, ◌∙◌, inl, inr}
-use Rattle.std.proofs.lemmas.Bool.{cases_order, lt-ltb, le-ltb, eq-eqb, ne_eqb}
+use Rattle.std.proofs.lemmas.Bool.{le-ltb, eq-eqb}
 use Rattle.std.proofs.lemmas.Cmp.{nat_cmp_total}
 use Rattle.std.specs.Cmp.{IsTotalOrder}
 use Rattle.std.specs.Ordering.{nat_cmp, ordering_then, ordering_reverse}
@@ -10,6 +10,7 @@ use Rattle.std.specs.declared.cmp.Ordering.TheVariants.{Less, Equal, Greater}
 use Rattle.bit_sets.specs.Blocks.{set_cmp}
 use Rattle.msc_base.specs.Patterns.{seq, par}
 use Rattle.hmsc_graph.specs.Graphs.{Spot, Start, At, Goal, To, End, Any}
+use Rattle.node_facts.proofs.Listing.{both_equal, number_equal, set_equal}
 use Rattle.chart_term.specs.Order.{maybe_cmp, event_cmp, pair_cmp, pairs_cmp, spot_cmp, goal_cmp, tree_cmp, trees_cmp, row_cmp, TermsAreOrdered}
 use Rattle.chart_term.specs.Terms.{TermEvent, Tree, Nil, Event, Join, Choice, Tied, Loop, Walk, Trees, none, more, Row, ends, gap, turn}
 
@@ -29,18 +30,6 @@ key_cmp (Num m) (Both c d) = Less
 key_cmp (Both a b) Empty = Greater
 key_cmp (Both a b) (Num n) = Greater
 key_cmp (Both a b) (Both c d) = ordering_then (key_cmp a c) (key_cmp b d)
-
-both_equal : (p q : Ordering) → ordering_then p q ≡ Equal → (p ≡ Equal) × (q ≡ Equal)
-both_equal Equal q h = (refl, h)
-both_equal Less q h = cc
-both_equal Greater q h = cc
-
-number_equal : (m n : ℕ) → nat_cmp m n ≡ Equal → m ≡ n
-number_equal m n h = elim (cases_order m n) [
-  | inl e ↦ e
-  | inr (inl less) ↦ let is : nat_cmp m n ≡ Less = rw (lt-ltb m n less) in cc
-  | inr (inr later) ↦ let is : nat_cmp m n ≡ Greater = rw (le-ltb m n (omega arith), ne_eqb m n (omega arith)) in cc
-]
 
 number_itself : (n : ℕ) → nat_cmp n n ≡ Equal
 number_itself n = rw (le-ltb n n (omega arith), eq-eqb n n refl)
@@ -173,12 +162,6 @@ set_by_key [] [] = refl
 set_by_key [] (y ∷ ys) = refl
 set_by_key (x ∷ xs) [] = refl
 set_by_key (x ∷ xs) (y ∷ ys) = ap (ordering_then (nat_cmp x y)) (set_by_key xs ys)
-
-pub set_equal : (c d : List ℕ) → set_cmp c d ≡ Equal → c ≡ d
-set_equal [] [] h = refl
-set_equal [] (y ∷ ys) h = cc
-set_equal (x ∷ xs) [] h = cc
-set_equal (x ∷ xs) (y ∷ ys) h = let (p, q) = both_equal (nat_cmp x y) (set_cmp xs ys) h in λ k. number_equal x y p k ∷ set_equal xs ys q k
 
 abbrev spot_key : Spot → Key
 spot_key Start = Empty

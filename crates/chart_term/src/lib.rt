@@ -6,7 +6,6 @@
 
 mod choices;
 mod event;
-mod facts;
 mod joins;
 pub mod laws;
 mod list;

@@ -17,11 +17,11 @@ mod order;
 mod parts;
 mod search;
 
-use crate::facts::Facts;
 use crate::{Event, Look};
 use bit_sets::Block;
 use hmsc_graph::{Goal, Spot};
 use msc_base::{Limits, NoMemory, PairList};
+use node_facts::Facts;
 use std::alloc::Global;
 use std::marker::Model;
 use std::rc::Rc;
@@ -243,7 +243,7 @@ impl Term {
             also,
             label,
         };
-        let facts = Facts::of_event(alloc, event)?;
+        let facts = Facts::of_event(alloc, number, at, also, label)?;
         let form = Form::Event(event);
         Term::share(alloc, Node { form, facts })
     }

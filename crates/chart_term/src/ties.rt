@@ -2,7 +2,6 @@
 
 ghost use Rattle.std.specs.Prelude.{◌≡◌, IfOk};
 ghost use Rattle.chart_term.specs.NormalForms.{tie_of, kept_pairs, numbers};
-ghost use Rattle.chart_term.specs.Numbers.{HasExactly};
 ghost use Rattle.chart_term.specs.Views.{pairs_of};
 
 use crate::Term;
@@ -10,25 +9,15 @@ use msc_base::{NoMemory, PairList};
 use std::alloc::Global;
 use std::collections::BTreeSet;
 
-/// The numbers of the events of the term, of its loop operands and begun turns.
-fn numbers_of(alloc: Global, term: &Term) -> Result<BTreeSet<u32>, NoMemory>
-    ensures { IfOk result (λ found. HasExactly found (numbers term.now)) }
-{
-    let mut found = BTreeSet::new(alloc);
-    term.add_numbers(&mut found)?;
-    Ok(found)
-}
-
 /// The pairs whose ends both occur in the term, each once.
 fn kept_pairs(alloc: Global, term: &Term, pairs: &PairList) -> Result<PairList, NoMemory>
     ensures { IfOk result (λ kept.
         pairs_of kept ≡ kept_pairs (numbers term.now) (pairs_of pairs.now)) }
 {
-    let found = numbers_of(alloc, term)?;
     let mut seen = BTreeSet::new(alloc);
     let mut kept = PairList::new(alloc);
     for pair in pairs.as_slice() {
-        let occurs = found.contains(&pair.first) & found.contains(&pair.second);
+        let occurs = term.has_number(pair.first) & term.has_number(pair.second);
         let new = seen.insert((pair.first, pair.second))?;
         if occurs & new {
             kept.push(*pair)?;

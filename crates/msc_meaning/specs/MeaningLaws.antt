@@ -1,4 +1,4 @@
--- Laws of meanings.
+-- Laws of meanings: what conforms begins, and the ends of called gates are one list where their inner events agree.
 use Rattle.std.specs.Prelude.{◌≡◌, ℕ, true, false, List, [], Some}
 use Rattle.msc_base.specs.declared.label.Label.{Label}
 use Rattle.msc_base.specs.declared.label.LabelRef.{LabelRef}

@@ -1,4 +1,4 @@
--- What a function of the expansion says of the term that it makes: its patterns mean these unfoldings; its events have the numbers of an
+-- What a function that makes terms says of a term: its patterns mean these unfoldings; its events have the numbers of an
 -- interval; these are the tags that are still to be seen of them.
 use Rattle.std.specs.Prelude.{ℕ, ◌≤◌, ◌==◌, ◌≡◌, ◌++◌, Bool, true, false, List, [], ◌∷◌}
 use Rattle.msc_base.specs.declared.label.Label.{Label}

@@ -1,35 +1,31 @@
-//! The numbers of the events of a term, for `ties`, which drops pairs that name no event below them.
+//! Whether an event number stands in a term, for `ties`, which drops pairs that name no event below them.
 
-ghost use Rattle.std.specs.Prelude.{OnOk};
+ghost use Rattle.std.specs.Prelude.{◌≡◌};
 ghost use Rattle.chart_term.specs.NormalForms.{numbers, numbers_row};
-ghost use Rattle.chart_term.specs.Numbers.{Gains};
-ghost use Rattle.chart_term.specs.Terms.{row_of};
+ghost use Rattle.chart_term.specs.Terms.{has, row_of};
 
 use super::{Form, Node, PartList, RowPart, Stretch, StretchForm, Term};
-use msc_base::NoMemory;
-use std::collections::BTreeSet;
 
 impl Term {
-    /// Adds the numbers of the events of the term, of its loop operands and begun turns.
+    /// Whether an event of the term, of its loop operands or begun turns has the number. It takes
+    /// no memory, and looks only at parts whose range of numbers has it.
     #[cycle(numbers)]
-    pub(crate) fn add_numbers(&self, found: &mut BTreeSet<u32>) -> Result<(), NoMemory>
-        ensures { OnOk result (Gains found.old (numbers self.now) found.new) }
+    #[tactic(auto, using(crate::proofs::Numbering::numbering))]
+    pub fn has_number(&self, number: u32) -> bool
+        ensures { result ≡ has (numbers self.now) number }
     {
+        if !self.facts().spans(number) {
+            return false;
+        }
         let node: &Node = &self.node;
         match &node.form {
-            Form::Nil | Form::Walk(_) => Ok(()),
-            Form::Event(event) => {
-                found.insert(event.number)?;
-                Ok(())
-            }
-            Form::Seq(parts) => parts.add_numbers(found),
-            Form::Par(parts) => parts.add_numbers(found),
-            Form::Choice(parts) => parts.add_numbers(found),
-            Form::Tied(inner, _) => inner.add_numbers(found),
-            Form::Loop(parts) => {
-                parts.body.add_numbers(found)?;
-                parts.row.add_numbers(found)
-            }
+            Form::Nil | Form::Walk(_) => false,
+            Form::Event(event) => event.number == number,
+            Form::Seq(parts) => parts.has_number(number),
+            Form::Par(parts) => parts.has_number(number),
+            Form::Choice(parts) => parts.has_number(number),
+            Form::Tied(inner, _) => inner.has_number(number),
+            Form::Loop(parts) => parts.body.has_number(number) || parts.row.has_number(number),
         }
     }
 }
@@ -39,35 +35,37 @@ impl RowPart {
     ghost use Rattle.chart_term.specs.Rows.{part_of};
 
     #[cycle(numbers)]
-    fn add_numbers(&self, found: &mut BTreeSet<u32>) -> Result<(), NoMemory>
-        ensures { OnOk result (Gains found.old (part_numbers (part_of self.now)) found.new) }
+    fn has_number(&self, number: u32) -> bool
+        ensures { result ≡ has (part_numbers (part_of self.now)) number }
     {
         match self {
-            RowPart::Gap(_) => Ok(()),
-            RowPart::Turn(turn) => turn.add_numbers(found),
+            RowPart::Gap(_) => false,
+            RowPart::Turn(turn) => turn.has_number(number),
         }
     }
 }
 
 impl PartList {
     #[cycle(numbers)]
-    #[tactic(auto, using(crate::proofs::Turns::turns))]
-    fn add_numbers(&self, found: &mut BTreeSet<u32>) -> Result<(), NoMemory>
-        ensures { OnOk result (Gains found.old (numbers_row (row_of self.now)) found.new) }
+    #[tactic(auto, using(crate::proofs::Numbering::numbering))]
+    fn has_number(&self, number: u32) -> bool
+        ensures { result ≡ has (numbers_row (row_of self.now)) number }
     {
+        if !self.facts().spans(number) {
+            return false;
+        }
         let node: &Stretch = &self.root;
         match &node.form {
             StretchForm::Leaf(parts) => {
-                let mut at = 0;
-                while at < parts.len() {
-                    parts[at].add_numbers(found)?;
-                    at += 1;
+                for part in parts {
+                    if part.has_number(number) {
+                        return true;
+                    }
                 }
-                Ok(())
+                false
             }
             StretchForm::Fork(first, second) => {
-                first.add_numbers(found)?;
-                second.add_numbers(found)
+                first.has_number(number) || second.has_number(number)
             }
         }
     }

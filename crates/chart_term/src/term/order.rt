@@ -3,39 +3,15 @@
 ghost use Rattle.std.specs.Prelude.{◌≡◌, ◌↔◌, IsTrue};
 ghost use Rattle.std.specs.declared.cmp.Ordering.TheVariants.{Less};
 ghost use Rattle.hmsc_graph.specs.Spots.{spot_of, goal_of};
-ghost use Rattle.chart_term.specs.Order.{event_cmp, goal_cmp, maybe_cmp, pairs_cmp, rank, row_cmp, spot_cmp, tree_cmp};
+ghost use Rattle.chart_term.specs.Order.{event_cmp, goal_cmp, rank, row_cmp, spot_cmp, tree_cmp};
 ghost use Rattle.chart_term.specs.Terms.{row_of};
-ghost use Rattle.chart_term.specs.Views.{event_of, pairs_of};
+ghost use Rattle.chart_term.specs.Views.{event_of};
 
 use super::{Form, Node, PartList, RowPart, Term};
 use crate::Event;
 use hmsc_graph::{Goal, Spot};
-use msc_base::Pair;
+use node_facts::{compare_counts, compare_maybe, compare_pairs};
 use std::cmp::Ordering;
-
-/// None first.
-fn compare_maybe(number: Option<u32>, other: Option<u32>) -> Ordering
-    ensures { result ≡ maybe_cmp number other }
-{
-    match (number, other) {
-        (None, None) => Ordering::Equal,
-        (None, Some(_)) => Ordering::Less,
-        (Some(_), None) => Ordering::Greater,
-        (Some(first), Some(second)) => first.cmp(&second),
-    }
-}
-
-/// None first.
-fn compare_counts(count: Option<u64>, other: Option<u64>) -> Ordering
-    ensures { result ≡ maybe_cmp count other }
-{
-    match (count, other) {
-        (None, None) => Ordering::Equal,
-        (None, Some(_)) => Ordering::Less,
-        (Some(_), None) => Ordering::Greater,
-        (Some(first), Some(second)) => first.cmp(&second),
-    }
-}
 
 /// By number, instances and label.
 fn compare_events(event: &Event, other: &Event) -> Ordering
@@ -73,23 +49,6 @@ fn compare_goals(goal: Goal, other: Goal) -> Ordering
         (Goal::End, Goal::Any) => Ordering::Less,
         (Goal::Any, Goal::End) => Ordering::Greater,
     }
-}
-
-/// Pair by pair.
-#[tactic(auto, using(crate::proofs::Comparing::comparing))]
-fn compare_pairs(pairs: &[Pair], others: &[Pair]) -> Ordering
-    ensures { result ≡ pairs_cmp (pairs_of pairs.now) (pairs_of others.now) }
-{
-    let mut at = 0;
-    while at < pairs.len() && at < others.len() {
-        let firsts = pairs[at].first.cmp(&others[at].first);
-        let order = firsts.then(pairs[at].second.cmp(&others[at].second));
-        if order != Ordering::Equal {
-            return order;
-        }
-        at += 1;
-    }
-    pairs.len().cmp(&others.len())
 }
 
 impl Form {

@@ -8,9 +8,9 @@ ghost use Rattle.chart_term.specs.Terms.{has, row_of, row_weight};
 
 use super::{PartList, RowPart, Stretch, StretchForm};
 use crate::PartLook;
-use crate::facts::Facts;
 use bit_sets::Block;
 use msc_base::NoMemory;
+use node_facts::Facts;
 use std::alloc::Global;
 use std::rc::Rc;
 

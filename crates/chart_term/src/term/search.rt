@@ -18,18 +18,8 @@ impl RowPart {
     {
         match self {
             RowPart::Gap(_) => false,
-            RowPart::Turn(turn) => turn.is_passed(label, skip),
+            RowPart::Turn(turn) => turn.facts().are_passed(label, skip),
         }
-    }
-}
-
-impl Term {
-    /// Whether a search for the label passes over a turn of the term, as far as the stored facts tell.
-    #[tactic(auto, using(crate::proofs::Passing::passing))]
-    fn is_passed(&self, label: u32, skip: &Block) -> bool
-        ensures { result ≡ true → IsPassed label skip.now.instances (Turn self.now) }
-    {
-        self.facts().are_passed(label, skip)
     }
 }
 

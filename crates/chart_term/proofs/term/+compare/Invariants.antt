@@ -1,5 +1,5 @@
 use Rattle.std.proofs.Common.{length, drop, ◌-◌, ◌≡◌, ◌≤◌}
-use Rattle.chart_term.proofs.Comparing.{list_cmp}
+use Rattle.node_facts.proofs.Listing.{list_cmp}
 use Rattle.chart_term.specs.Order.{part_cmp}
 use Rattle.chart_term.proofs.term.+compare.Given as goal
 

@@ -1,33 +1,29 @@
-use Rattle.std.specs.Prelude.{OnOk}
-use Rattle.std.proofs.Common.{◌≡◌, ℕ, List, arith, subst, ◌∙◌, inl, inr, length, rules}
-use Rattle.chart_term.specs.Numbers.{Gains}
-use Rattle.chart_term.proofs.Binds.{gains_fork, row_gains_next}
-use Rattle.chart_term.proofs.Gathering.{numbers_joined}
+use Rattle.std.proofs.Common.{◌∙◌, ◌||◌, ap, ap₂, inl, inr, sym}
+use Rattle.chart_term.specs.NormalForms.{numbers_row}
+use Rattle.chart_term.specs.Rows.{parts_of}
+use Rattle.chart_term.specs.TermViews.{held_parts}
+use Rattle.chart_term.specs.Terms.{has, row_of}
+use Rattle.chart_term.proofs.Numbering.{number_next, number_there, numbers_joined}
 use Rattle.chart_term.proofs.term.+numbers.Goals as goal
 
-pub PartList::add_numbers-loop-at-preserved : goal.PartList::add_numbers-loop-at-preserved
-PartList::add_numbers-loop-at-preserved t c =
-    let len : c.len.result ≡ length c.in-Leaf.parts.items = search rules in
-    record {
-      within = omega (arith, c.loop-at-test.true);
-      gains = row_gains_next c.args.found.now c.loop-at.found c.add_numbers.new.found c.in-Leaf.parts.items c.loop-at.at c.index.result.now (omega (arith, c.loop-at-test.true)) c.index.ensures c.loop-at.invariant.gains c.in_ok-add_numbers-in-Leaf.ensures;
-    }
+pub PartList::has_number-returns-then-has_number : goal.PartList::has_number-returns-then-has_number
+PartList::has_number-returns-then-has_number t c =
+    number_there c.deref-part-items.result.now c.loop-part.part-index c.part-item.result c.args.number c.loop-part-test.true c.part-item.is (sym c.has_number.ensures ∙ c.if-has_number.true)
+    ∙ ap (λ ps. has (numbers_row (row_of ps)) c.args.number) (ap parts_of c.deref-part-items.ensures.value ∙ ap held_parts (sym c.in-Leaf.is) ∙ c.node.view_is ∙ c.deref-node.ensures ∙ c.self.view_is)
 
-pub PartList::add_numbers-returns-in_ok-add_numbers-in-Fork : goal.PartList::add_numbers-returns-in_ok-add_numbers-in-Fork
-PartList::add_numbers-returns-in_ok-add_numbers-in-Fork t c =
-    gains_fork c.args.found.now c.add_numbers-in-Fork.new.found c.add_numbers-in-Fork-2.new.found c.node.inside.form c.in-Fork.first c.in-Fork.second c.args.self.now c.add_numbers-in-Fork-2.result c.in-Fork.is (c.node.view_is ∙ c.deref-node.ensures ∙ c.self.view_is) c.in_ok-add_numbers-in-Fork.ensures c.add_numbers-in-Fork-2.ensures
+pub PartList::has_number-loop-part-preserved : goal.PartList::has_number-loop-part-preserved
+PartList::has_number-loop-part-preserved t c =
+    number_next c.deref-part-items.result.now c.loop-part.part-index c.part-item.result c.args.number c.loop-part-test.true c.part-item.is
+    ∙ ap₂ (λ a b. a || b) c.loop-part.invariant (sym c.has_number.ensures ∙ c.if-has_number.false)
 
-pub Term::add_numbers-returns-in-Seq : goal.Term::add_numbers-returns-in-Seq
-Term::add_numbers-returns-in-Seq t c =
-    subst (λ (ns : List ℕ). OnOk c.add_numbers.result (Gains c.args.found.now ns c.add_numbers.new.found))
-    (numbers_joined c.node.inside.form c.in-Seq.parts c.args.self.now (inl c.in-Seq.is) (c.node.view_is ∙ c.deref-node.ensures ∙ c.self.view_is)) c.add_numbers.ensures
+pub Term::has_number-returns-in-Seq : goal.Term::has_number-returns-in-Seq
+Term::has_number-returns-in-Seq t c =
+    c.has_number.ensures ∙ ap (λ ns. has ns c.args.number) (numbers_joined c.node.inside.form c.in-Seq.parts c.args.self.now (inl c.in-Seq.is) (c.node.view_is ∙ c.deref-node.ensures ∙ c.self.view_is))
 
-pub Term::add_numbers-returns-in-Par : goal.Term::add_numbers-returns-in-Par
-Term::add_numbers-returns-in-Par t c =
-    subst (λ (ns : List ℕ). OnOk c.add_numbers-in-Par.result (Gains c.args.found.now ns c.add_numbers-in-Par.new.found))
-    (numbers_joined c.node.inside.form c.in-Par.parts c.args.self.now (inr (inl c.in-Par.is)) (c.node.view_is ∙ c.deref-node.ensures ∙ c.self.view_is)) c.add_numbers-in-Par.ensures
+pub Term::has_number-returns-in-Par : goal.Term::has_number-returns-in-Par
+Term::has_number-returns-in-Par t c =
+    c.has_number-in-Par.ensures ∙ ap (λ ns. has ns c.args.number) (numbers_joined c.node.inside.form c.in-Par.parts c.args.self.now (inr (inl c.in-Par.is)) (c.node.view_is ∙ c.deref-node.ensures ∙ c.self.view_is))
 
-pub Term::add_numbers-returns-in-Choice : goal.Term::add_numbers-returns-in-Choice
-Term::add_numbers-returns-in-Choice t c =
-    subst (λ (ns : List ℕ). OnOk c.add_numbers-in-Choice.result (Gains c.args.found.now ns c.add_numbers-in-Choice.new.found))
-    (numbers_joined c.node.inside.form c.in-Choice.parts c.args.self.now (inr (inr c.in-Choice.is)) (c.node.view_is ∙ c.deref-node.ensures ∙ c.self.view_is)) c.add_numbers-in-Choice.ensures
+pub Term::has_number-returns-in-Choice : goal.Term::has_number-returns-in-Choice
+Term::has_number-returns-in-Choice t c =
+    c.has_number-in-Choice.ensures ∙ ap (λ ns. has ns c.args.number) (numbers_joined c.node.inside.form c.in-Choice.parts c.args.self.now (inr (inr c.in-Choice.is)) (c.node.view_is ∙ c.deref-node.ensures ∙ c.self.view_is))

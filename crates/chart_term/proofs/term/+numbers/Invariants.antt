@@ -1,24 +1,17 @@
-use Rattle.std.proofs.Common.{◌≤◌, ◌-◌, length, take}
+use Rattle.std.proofs.Common.{◌≡◌, false, take}
 use Rattle.chart_term.specs.NormalForms.{numbers_row}
-use Rattle.chart_term.specs.Numbers.{Gains}
 use Rattle.chart_term.specs.Rows.{parts_of}
-use Rattle.chart_term.specs.Terms.{row_of}
+use Rattle.chart_term.specs.Terms.{has, row_of}
 use Rattle.chart_term.proofs.term.+numbers.Given as goal
 
-abbrev pub decreases-Term::add_numbers : goal.decreases-Term::add_numbers
-decreases-Term::add_numbers l = goal.size-Term::add_numbers l
+abbrev pub decreases-Term::has_number : goal.decreases-Term::has_number
+decreases-Term::has_number l = goal.size-Term::has_number l
 
-abbrev pub decreases-RowPart::add_numbers : goal.decreases-RowPart::add_numbers
-decreases-RowPart::add_numbers l = goal.size-RowPart::add_numbers l
+abbrev pub decreases-RowPart::has_number : goal.decreases-RowPart::has_number
+decreases-RowPart::has_number l = goal.size-RowPart::has_number l
 
-abbrev pub decreases-PartList::add_numbers : goal.decreases-PartList::add_numbers
-decreases-PartList::add_numbers l = goal.size-PartList::add_numbers l
+abbrev pub decreases-PartList::has_number : goal.decreases-PartList::has_number
+decreases-PartList::has_number l = goal.size-PartList::has_number l
 
-abbrev pub invariant-PartList::add_numbers-loop-at : goal.invariant-PartList::add_numbers-loop-at
-invariant-PartList::add_numbers-loop-at l = record {
-  within : l.at ≤ length l.parts.items;
-  gains : Gains l.fn.found (numbers_row (row_of (parts_of (take l.at l.parts.items)))) l.found;
-}
-
-abbrev pub decreases-PartList::add_numbers-loop-at : goal.decreases-PartList::add_numbers-loop-at
-decreases-PartList::add_numbers-loop-at l = length l.parts.items - l.at
+abbrev pub invariant-PartList::has_number-loop-part : goal.invariant-PartList::has_number-loop-part
+invariant-PartList::has_number-loop-part l = has (numbers_row (row_of (parts_of (take l.part-index l.part-items)))) l.number ≡ false

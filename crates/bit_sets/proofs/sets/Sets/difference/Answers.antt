@@ -4,7 +4,7 @@ use Rattle.std.specs.Int.{trailing_zeros, w64}
 use Rattle.std.proofs.lemmas.Nat.{xor_lt}
 use Rattle.msc_base.specs.declared.limits.TheConstants.Limits.{INSTANCES}
 use Rattle.bit_sets.specs.Blocks.{IsFirstDifference}
-use Rattle.bit_sets.specs.Stores.{rest_of}
+use Rattle.bit_sets.specs.Stores.{first_of, rest_of}
 use Rattle.bit_sets.proofs.FirstWords.{differ_here, differ_behind, differ_nowhere, differ_below}
 use Rattle.bit_sets.proofs.sets.Sets.difference.Goals as goal
 
@@ -13,7 +13,7 @@ moved u v w x a b p q r d = subst (λ l. IsFirstDifference l x b) p (subst (λ l
 
 pub returns-then-different-ne0 : goal.returns-then-different-ne0
 returns-then-different-ne0 c =
-    moved (c.first.result ∷ rest_of c.args.self.now) (c.first-2.result ∷ rest_of c.args.other.now) (c.args.self.now.first ∷ rest_of c.args.self.now) (c.args.other.now.first ∷ rest_of c.args.other.now)
+    moved (c.first.result ∷ rest_of c.args.self.now) (c.first-2.result ∷ rest_of c.args.other.now) ((first_of c.args.self.now) ∷ rest_of c.args.self.now) ((first_of c.args.other.now) ∷ rest_of c.args.other.now)
     (Some (trailing_zeros w64 (bit_xor c.first.result c.first-2.result))) (Some (trailing_zeros w64 (bit_xor c.first.result c.first-2.result)))
     (ap (λ w. w ∷ rest_of c.args.self.now) c.first.ensures) (ap (λ w. w ∷ rest_of c.args.other.now) c.first-2.ensures) (λ i. Some (trailing_zeros w64 (bit_xor c.first.result c.first-2.result)))
     (differ_here c.first.result c.first-2.result (rest_of c.args.self.now) (rest_of c.args.other.now) (xor_lt 64 c.first.result c.first-2.result c.first.type_inv c.first-2.type_inv) c.if-different-ne0.true)
@@ -27,12 +27,12 @@ overflow_add-result c =
 
 pub returns-in-Some : goal.returns-in-Some
 returns-in-Some c =
-    differ_behind c.args.self.now.first c.args.other.now.first (rest_of c.args.self.now) (rest_of c.args.other.now) c.in-Some.at
+    differ_behind (first_of c.args.self.now) (first_of c.args.other.now) (rest_of c.args.self.now) (rest_of c.args.other.now) c.in-Some.at
     (sym (ap₂ bit_xor c.first.ensures c.first-2.ensures) ∙ c.if-different-ne0.false)
     (moved c.rest.result.now c.rest-2.result.now (rest_of c.args.self.now) (rest_of c.args.other.now) c.first_difference.result (Some c.in-Some.at) c.rest.ensures c.rest-2.ensures c.in-Some.is c.first_difference.ensures)
 
 pub returns-in-None : goal.returns-in-None
 returns-in-None c =
-    differ_nowhere c.args.self.now.first c.args.other.now.first (rest_of c.args.self.now) (rest_of c.args.other.now)
+    differ_nowhere (first_of c.args.self.now) (first_of c.args.other.now) (rest_of c.args.self.now) (rest_of c.args.other.now)
     (sym (ap₂ bit_xor c.first.ensures c.first-2.ensures) ∙ c.if-different-ne0.false)
     (moved c.rest.result.now c.rest-2.result.now (rest_of c.args.self.now) (rest_of c.args.other.now) c.first_difference.result None c.rest.ensures c.rest-2.ensures c.in-None.is c.first_difference.ensures)

@@ -2,7 +2,7 @@ use Rattle.std.proofs.Common.{subst, sym, ◌∙◌, ap₂, not, true, ap, ◌�
 use Rattle.std.specs.Int.Bits.{and_lt, bit_and}
 use Rattle.std.proofs.lemmas.Bool.{ne_eqb}
 use Rattle.bit_sets.specs.Blocks.{ShareBit}
-use Rattle.bit_sets.specs.Stores.{rest_of}
+use Rattle.bit_sets.specs.Stores.{first_of, rest_of}
 use Rattle.bit_sets.proofs.FirstWords.{share_here, share_behind}
 use Rattle.bit_sets.proofs.sets.Sets.shares.Goals as goal
 
@@ -12,12 +12,12 @@ moved a b v w vs ws s t p q r h = subst (λ (x : ℕ). ShareBit (x ∷ vs) (w �
 
 pub returns-then-first-ne0 : goal.returns-then-first-ne0
 returns-then-first-ne0 c =
-    moved c.first.result c.first-2.result c.args.self.now.first c.args.other.now.first (rest_of c.args.self.now) (rest_of c.args.other.now) _ true c.first.ensures c.first-2.ensures
+    moved c.first.result c.first-2.result (first_of c.args.self.now) (first_of c.args.other.now) (rest_of c.args.self.now) (rest_of c.args.other.now) _ true c.first.ensures c.first-2.ensures
     (sym (ap not (ne_eqb (bit_and c.first.result c.first-2.result) 0 c.if-first-ne0.true)))
     (share_here c.first.result c.first-2.result (rest_of c.args.self.now) (rest_of c.args.other.now) (and_lt 64 c.first.result c.first-2.result c.first.type_inv c.first-2.type_inv) c.if-first-ne0.true)
 
 pub returns-else-first-ne0 : goal.returns-else-first-ne0
 returns-else-first-ne0 c =
-    share_behind c.args.self.now.first c.args.other.now.first (rest_of c.args.self.now) (rest_of c.args.other.now) c.share_bit.result
+    share_behind (first_of c.args.self.now) (first_of c.args.other.now) (rest_of c.args.self.now) (rest_of c.args.other.now) c.share_bit.result
     (sym (ap₂ bit_and c.first.ensures c.first-2.ensures) ∙ c.if-first-ne0.false)
     (subst (λ l. ShareBit l (rest_of c.args.other.now) c.share_bit.result) c.rest.ensures (subst (λ l. ShareBit c.rest.result.now l c.share_bit.result) c.rest-else-first-ne0.ensures c.share_bit.ensures))

@@ -1,0 +1,4 @@
+pub mod MadeParts
+pub mod ItemViews
+pub mod MadeCharts
+pub mod ChartSets

@@ -1,0 +1,2 @@
+pub mod NodeFacts
+pub mod PlainOrder
