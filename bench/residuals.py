@@ -13,21 +13,23 @@ works, with COUNT:
     coregion   so many equal actions in a coregion
     choices    so many choices of one of two actions, in a row
     ahead      the loop of requests: so many are sent, and then received
+    statements a plain chart of so many statements over sixty instances under one tie, in whole groups of sixty
     behind     so many equal actions of one instance, and behind them as many of another, which happen first
 """
 import os
 import subprocess
 import sys
 
-EVENTS = {"requests": 2, "exchanges": 4, "coregions": 10, "coregion": 1, "choices": 1, "ahead": 2, "behind": 2}
+EVENTS = {"requests": 2, "exchanges": 4, "coregions": 10, "coregion": 1, "choices": 1, "ahead": 2, "behind": 2, "statements": 1}
 WORKS = [
     ("requests", 50_000), ("requests", 500_000),
     ("exchanges", 10_000), ("exchanges", 100_000),
     ("coregions", 100), ("coregions", 1_000),
     ("coregion", 10), ("coregion", 14), ("coregion", 18),
-    ("choices", 1_000), ("choices", 2_000),
-    ("ahead", 500), ("ahead", 1_000),
-    ("behind", 500), ("behind", 1_000),
+    ("choices", 2_000), ("choices", 30_000),
+    ("ahead", 2_000), ("ahead", 30_000), ("ahead", 500_000),
+    ("behind", 2_000), ("behind", 30_000),
+    ("statements", 3_000), ("statements", 6_000),
 ]
 
 

@@ -10,7 +10,9 @@ import re
 import subprocess
 import sys
 
-ROOT = sys.argv[1] if len(sys.argv) > 1 else "."
+if len(sys.argv) != 2:
+    sys.exit("usage: renames.py ROOT; it rewrites the files below ROOT")
+ROOT = sys.argv[1]
 
 # Crates with another name, all else the same.
 CRATES = {"msc_reading": "token_grammar", "msc_items": "msc_events"}
