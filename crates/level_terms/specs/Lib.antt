@@ -1,4 +1,0 @@
-pub mod MadeParts
-pub mod ItemViews
-pub mod MadeCharts
-pub mod ChartSets
