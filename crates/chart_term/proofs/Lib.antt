@@ -14,9 +14,10 @@ mod Binds
 mod Comparing
 pub mod Cuts
 pub mod Distinct
+mod Dropping
 mod Flattening
-mod Gathering
+pub mod Gathering
 mod Numbering
-mod Passing
+pub mod Passing
 pub mod Turns
 pub mod Members

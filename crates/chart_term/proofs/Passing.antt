@@ -28,7 +28,7 @@ both_and : (a b : Bool) → a ≡ true → b ≡ true → (a && b) ≡ true
 both_and a b p q = ap₂ (λ x y. x && y) p q
 
 -- a number within one of two ranges lies in the wider one
-lies_first : (r s : Option Span) (n : ℕ) → lies_in r n ≡ true → lies_in (wider r s) n ≡ true
+pub lies_first : (r s : Option Span) (n : ℕ) → lies_in r n ≡ true → lies_in (wider r s) n ≡ true
 lies_first None s n h = cc
 lies_first (Some r) None n h = h
 lies_first (Some r) (Some s) n h =
@@ -37,7 +37,7 @@ lies_first (Some r) (Some s) n h =
     let q = leb-true n r.greatest b in
     both_and (nat_le (min r.least s.least) n) (nat_le n (max r.greatest s.greatest)) (le-leb (min r.least s.least) n (omega arith)) (le-leb n (max r.greatest s.greatest) (omega arith))
 
-lies_second : (r s : Option Span) (n : ℕ) → lies_in s n ≡ true → lies_in (wider r s) n ≡ true
+pub lies_second : (r s : Option Span) (n : ℕ) → lies_in s n ≡ true → lies_in (wider r s) n ≡ true
 lies_second None s n h = h
 lies_second (Some r) None n h = cc
 lies_second (Some r) (Some s) n h =
@@ -47,7 +47,7 @@ lies_second (Some r) (Some s) n h =
     both_and (nat_le (min r.least s.least) n) (nat_le n (max r.greatest s.greatest)) (le-leb (min r.least s.least) n (omega arith)) (le-leb n (max r.greatest s.greatest) (omega arith))
 
 -- a number of the list lies in its range
-lies_there : (ns : List ℕ) (n : ℕ) → has ns n ≡ true → lies_in (span_of ns) n ≡ true
+pub lies_there : (ns : List ℕ) (n : ℕ) → has ns n ≡ true → lies_in (span_of ns) n ≡ true
 lies_there [] n h = cc
 lies_there (m ∷ ms) n h = by_case (m == n) refl h (lies_there ms n)
   where

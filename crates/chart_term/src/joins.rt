@@ -48,18 +48,6 @@ impl Opened {
         })
     }
 
-    /// With a turn behind the others.
-    fn with_turn(self, alloc: Global, turn: &Term) -> Result<Opened, NoMemory>
-        ensures { IfOk result (λ opened. opened.list ++ parts_of opened.run.items ≡ (self.list ++ parts_of self.run.items) ++ Turn turn.now ∷ []) }
-    {
-        let mut run = self.run;
-        run.push(RowPart::Turn(turn.copy(alloc)?))?;
-        Ok(Opened {
-            list: self.list,
-            run,
-        })
-    }
-
     /// With the part behind the others, opened where it is a join of this kind.
     #[tactic(auto, using(crate::proofs::Turns::turns))]
     fn with_part(self, alloc: Global, mode: Mode, part: &Term) -> Result<Opened, NoMemory>
@@ -69,7 +57,14 @@ impl Opened {
             (_, Look::Nil) => Ok(self),
             (Mode::Seq, Look::Seq(parts)) => self.with_list(alloc, parts),
             (Mode::Par, Look::Par(parts)) => self.with_list(alloc, parts),
-            _ => self.with_turn(alloc, part),
+            _ => {
+                let mut run = self.run;
+                run.push(RowPart::Turn(part.copy(alloc)?))?;
+                Ok(Opened {
+                    list: self.list,
+                    run,
+                })
+            }
         }
     }
 }

@@ -3,7 +3,7 @@
 use crate::{PartList, RowPart, Term};
 use bit_sets::Block;
 use hmsc_graph::{Goal, Spot};
-use msc_base::PairList;
+use tie_list::TieList;
 
 /// The parts of a term.
 #[derive(Drop)]
@@ -28,7 +28,7 @@ pub enum Look<'a> {
     /// One of these turns (delayed choice).
     Choice(&'a PartList),
     /// A term below a tie of these pairs: the first of a pair comes before the second.
-    Tied(&'a Term, &'a PairList),
+    Tied(&'a Term, &'a TieList),
     /// A loop.
     Loop {
         /// The loop's operand.

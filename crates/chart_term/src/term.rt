@@ -20,17 +20,17 @@ mod search;
 use crate::{Event, Look};
 use bit_sets::Block;
 use hmsc_graph::{Goal, Spot};
-use msc_base::{Limits, NoMemory, PairList};
+use msc_base::{Limits, NoMemory};
 use node_facts::Facts;
 use std::alloc::Global;
 use std::marker::Model;
 use std::rc::Rc;
+use tie_list::TieList;
 
 /// A term of a chart: a process that stands for a set of patterns.
 ///
 /// A contract sees the plain tree. The nodes are shared, and each stores facts of its contents.
 #[cycle(term)]
-#[derive(Drop)]
 pub struct Term {
     node: Rc<Node>,
 }
@@ -52,7 +52,7 @@ pub(crate) enum Form {
     Seq(PartList),
     Par(PartList),
     Choice(PartList),
-    Tied(Term, PairList),
+    Tied(Term, TieList),
     Loop(Box<LoopForm>),
     Walk(Box<WalkForm>),
 }
@@ -112,6 +112,53 @@ pub(crate) struct Stretch {
 pub(crate) enum StretchForm {
     Leaf(Vec<RowPart>),
     Fork(PartList, PartList),
+}
+
+/// A loop down the last parts and below the ties, so that a term that is deep there takes no stack for its depth.
+impl Drop for Term {
+    #[cycle(drop)]
+    fn drop(mut self) {
+        loop {
+            let Term { node } = self;
+            let Some(inside) = Rc::into_inner(node) else {
+                return;
+            };
+            let Node { form, facts: _ } = inside;
+            let mut parts = match form {
+                Form::Seq(parts) => parts,
+                Form::Par(parts) => parts,
+                Form::Choice(parts) => parts,
+                Form::Tied(inner, _) => {
+                    self = inner;
+                    continue;
+                }
+                _ => return,
+            };
+            loop {
+                let PartList { root } = parts;
+                let Some(stretch) = Rc::into_inner(root) else {
+                    return;
+                };
+                let Stretch {
+                    form,
+                    count: _,
+                    height: _,
+                    has_gap: _,
+                    facts: _,
+                } = stretch;
+                match form {
+                    StretchForm::Leaf(mut items) => match items.pop() {
+                        Some(RowPart::Turn(last)) => {
+                            self = last;
+                            break;
+                        }
+                        _ => return,
+                    },
+                    StretchForm::Fork(_, second) => parts = second,
+                }
+            }
+        }
+    }
 }
 
 impl Model for Node {
@@ -310,7 +357,7 @@ impl Term {
     }
 
     /// The term below a tie of these pairs, as they are.
-    pub(crate) fn tie_of(alloc: Global, inner: Term, pairs: PairList) -> Result<Term, NoMemory>
+    pub fn tie_of(alloc: Global, inner: Term, pairs: TieList) -> Result<Term, NoMemory>
         ensures { IfOk result (λ term. term ≡ Tied inner (pairs_of pairs)) }
     {
         let mut facts = inner.facts().copy(alloc)?;
@@ -396,8 +443,8 @@ impl Term {
         })
     }
 
-    /// The facts that the node stores.
-    pub(crate) fn facts(&self) -> &Facts
+    /// The facts that the node stores. It takes no memory.
+    pub fn facts(&self) -> &Facts
         ensures { HasFacts self.now result.now }
     {
         let node: &Node = &self.node;

@@ -1,4 +1,4 @@
-//! A term below a tie in normal form, without dead or repeated pairs. permit_step puts ties back by it.
+//! A term below a tie in normal form, without dead or repeated pairs: as charts are built.
 
 ghost use Rattle.std.specs.Prelude.{◌≡◌, IfOk};
 ghost use Rattle.chart_term.specs.NormalForms.{tie_of, kept_pairs, numbers};
@@ -8,6 +8,7 @@ use crate::Term;
 use msc_base::{NoMemory, PairList};
 use std::alloc::Global;
 use std::collections::BTreeSet;
+use tie_list::TieList;
 
 /// The pairs whose ends both occur in the term, each once.
 fn kept_pairs(alloc: Global, term: &Term, pairs: &PairList) -> Result<PairList, NoMemory>
@@ -36,5 +37,6 @@ pub fn tied(alloc: Global, inner: Term, pairs: PairList) -> Result<Term, NoMemor
     if kept.len() == 0 {
         return Ok(inner);
     }
-    Term::tie_of(alloc, inner, kept)
+    let ties = TieList::from_pairs(alloc, &kept)?;
+    Term::tie_of(alloc, inner, ties)
 }

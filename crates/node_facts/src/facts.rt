@@ -1,6 +1,6 @@
 //! What a node of a term stores of it: weight, instances, ranges of numbers and labels; it looks at no table.
 
-ghost use Rattle.std.specs.Prelude.{◌≡◌, ◌+◌, ◌<◌, ◌∷◌, [], true, false, min, max, OnOk, IfOk, Some, option_to_list};
+ghost use Rattle.std.specs.Prelude.{◌≡◌, ◌+◌, ◌<◌, ◌∷◌, ℕ, [], true, false, min, max, OnOk, IfOk, Some, option_to_list};
 ghost use Rattle.std.specs.List.{list_any};
 ghost use Rattle.std.specs.Option.{ForSome};
 ghost use Rattle.node_facts.specs.NodeFacts.{Adds, AreFacts, FactsPassed, FactsWithin, facts_may, facts_miss, labels_in, lies_in, most_stored, numbers_in, wider};
@@ -43,7 +43,7 @@ pub struct Facts {
 
 impl Span {
     /// From the number to itself.
-    fn of(number: u32) -> Span
+    pub fn of(number: u32) -> Span
         ensures { result ≡ record { least = number; greatest = number } }
     {
         Span {
@@ -69,7 +69,7 @@ impl Span {
     }
 
     /// From the least to the greatest number of both.
-    fn wider(self, other: Span) -> Span
+    pub fn wider(self, other: Span) -> Span
         ensures { result ≡ record { least = min self.least other.least; greatest = max self.greatest other.greatest } }
     {
         Span {
@@ -213,6 +213,16 @@ impl Facts {
         match self.ranges {
             None => false,
             Some(ranges) => ranges.numbers.has(number),
+        }
+    }
+
+    /// Where all event numbers lie, from the least to the greatest; without any it is of no meaning.
+    pub fn range(&self) -> Span
+        ensures { (n : ℕ) → lies_in (numbers_in self.now.ranges) n ≡ true → lies_in (Some result) n ≡ true }
+    {
+        match self.ranges {
+            None => Span::of(0),
+            Some(ranges) => ranges.numbers,
         }
     }
 

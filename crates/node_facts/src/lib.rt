@@ -5,4 +5,4 @@ mod facts;
 mod order;
 
 pub use facts::{Facts, Ranges, Span};
-pub use order::{compare_counts, compare_maybe, compare_pairs};
+pub use order::{compare_counts, compare_maybe};

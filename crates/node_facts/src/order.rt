@@ -1,9 +1,8 @@
-//! The order of what terms are made of: counts and pairs of numbers.
+//! The order of what terms are made of: counts.
 
 ghost use Rattle.std.specs.Prelude.{◌≡◌};
-ghost use Rattle.node_facts.specs.PlainOrder.{maybe_cmp, pairs_cmp, pairs_of};
+ghost use Rattle.node_facts.specs.PlainOrder.{maybe_cmp};
 
-use msc_base::Pair;
 use std::cmp::Ordering;
 
 /// None first.
@@ -28,21 +27,4 @@ pub fn compare_counts(count: Option<u64>, other: Option<u64>) -> Ordering
         (Some(_), None) => Ordering::Greater,
         (Some(first), Some(second)) => first.cmp(&second),
     }
-}
-
-/// Pair by pair.
-#[tactic(auto, using(crate::proofs::Listing::listing))]
-pub fn compare_pairs(pairs: &[Pair], others: &[Pair]) -> Ordering
-    ensures { result ≡ pairs_cmp (pairs_of pairs.now) (pairs_of others.now) }
-{
-    let mut at = 0;
-    while at < pairs.len() && at < others.len() {
-        let firsts = pairs[at].first.cmp(&others[at].first);
-        let order = firsts.then(pairs[at].second.cmp(&others[at].second));
-        if order != Ordering::Equal {
-            return order;
-        }
-        at += 1;
-    }
-    pairs.len().cmp(&others.len())
 }

@@ -1,16 +1,16 @@
 -- What is left of a term where a child of it leaves something.
 use Rattle.std.specs.Option.{option_map}
-use Rattle.std.specs.Prelude.{ℕ, zero, suc, ◌+◌, ◌<◌, ◌==◌, Bool, true, false, List, [], ◌∷◌, ◌++◌, ◌≡◌, ◌||◌, Option, Some, None, refl, length, take, drop, slice_get}
+use Rattle.std.specs.Prelude.{ℕ, zero, suc, ◌+◌, ◌<◌, false, List, [], ◌∷◌, ◌++◌, ◌≡◌, Option, Some, None, refl, length, take, drop, slice_get}
 use Rattle.std.proofs.Common.{ap, sym, ◌∙◌, add-one, append-nil, arith}
-use Rattle.bit_sets.specs.Blocks.{BlockValue, insert_rising}
+use Rattle.bit_sets.specs.Blocks.{BlockValue}
 use Rattle.msc_base.specs.Patterns.{Mode, seq, par}
 use Rattle.chart_term.specs.NormalForms.{NetPermits, only, begun, flat, join_all, join_of, open_part, and_then, thin_gap}
 use Rattle.chart_term.specs.PartLists.{AreTurns}
 use Rattle.chart_term.specs.Properties.{Each, EachTurn}
 use Rattle.chart_term.specs.Tables.{Tables}
-use Rattle.chart_term.specs.TermPatterns.{instances_of, earlier, before_in, put_if}
+use Rattle.chart_term.specs.TermPatterns.{instances_of, earlier, before_in}
 use Rattle.chart_term.specs.Terms.{TermEvent, has, Tree, Join, trees, Part, Gap, Turn}
-use Rattle.chart_term.specs.Views.{event_of, pairs_of}
+use Rattle.chart_term.specs.Views.{event_of}
 use Rattle.chart_term.proofs.Lists.{items-trees}
 use Rattle.chart_term.proofs.Turns.{begun-length}
 use Rattle.permit_step.specs.Children.{parts_left, put}
@@ -26,15 +26,7 @@ use Rattle.term_laws.proofs.Alike.{AgreeOn, permit-alike}
 use Rattle.term_laws.proofs.Identity.{put_same}
 use Rattle.permit_step.proofs.Joins.{begun-drop, begun-take, each-drop, each-listed, each-take, flat-append, flat-stays}
 use Rattle.permit_step.proofs.PermitRows.{drop_next}
-use Rattle.chart_term.proofs.Instances.{has_added}
-use Rattle.term_laws.proofs.Unions.{insert-add}
-use Rattle.std.proofs.lemmas.Bool.Decides.{nat_tests}
-use Rattle.msc_base.specs.declared.label.Pair.{Pair}
 use Rattle.chart_term.specs.Spreads.{touch}
-
--- the numbers before one
-pub earlier-none : (q : List (ℕ × ℕ)) (m : ℕ) → q ≡ [] → (n : ℕ) → has [] n ≡ has (before_in q m) n
-earlier-none q m e n = rw e refl
 
 -- parts side by side
 aside_left : (k : NetPermits) (e : TermEvent) (xs : List Tree) (i : ℕ) (y : Tree) → i < length xs → parts_left k par e xs i y ≡ Some (take i xs ++ y ∷ drop (suc i) xs)
@@ -113,27 +105,6 @@ module _ (w : Tables) (t : Taken) (taken : IsTaken t) where
   -- below a tie
   pub tie-permits : (q : List (ℕ × ℕ)) (b : BlockValue) (y : Tree) → b.instances ≡ [] → ((n : ℕ) → has b.events n ≡ has (before_in q t.event.number) n) → IsReady w y → permit (permits_of w) (block_of b) y ≡ permit (permits_of w) (earlier q e) y
   tie-permits q b y h f r = permit-alike (permits_of w) (touch (permits_of w).spread y) (block_of b) (earlier q e) (record { instances = λ n i. ap (λ l. has l n) h; numbers = f }) y (λ n i. i) r.normal
-
--- one more pair in front
-put_has : (t : Bool) (m : ℕ) (c d : List ℕ) → ((n : ℕ) → has c n ≡ has d n) → (n : ℕ) → has (put_if t m c) n ≡ has (put_if t m d) n
-put_has true m c d h n = ap (λ b. (m == n) || b) (h n)
-put_has false m c d h n = h n
-
-pub added-has : (n m k : ℕ) (c new : List ℕ) → n ≡ m → new ≡ insert_rising c k → (i : ℕ) → has new i ≡ has (put_if (n == m) k c) i
-added-has n m k c new h e i =
-    let q : (n == m) ≡ true = grind (arith, nat_tests) in
-    ap (λ l. has l i) (e ∙ insert-add k c) ∙ (has_added k c i ∙ sym (ap (λ t. has (put_if t k c) i) q))
-
-pub kept-has : (n m k : ℕ) (c : List ℕ) → (n ≡ m → ⊥) → (i : ℕ) → has c i ≡ has (put_if (n == m) k c) i
-kept-has n m k c h i =
-    let q : (n == m) ≡ false = grind (arith, nat_tests) in
-    sym (ap (λ t. has (put_if t k c) i) q)
-
-pub earlier-more : (q : List Pair) (i j m : ℕ) (p : Pair) (c new : List ℕ) → slice_get q i ≡ Some p → i + 1 ≡ j → ((n : ℕ) → has c n ≡ has (before_in (pairs_of (drop j q)) m) n)
-    → ((n : ℕ) → has new n ≡ has (put_if (m == p.second) p.first c) n) → (n : ℕ) → has new n ≡ has (before_in (pairs_of (drop i q)) m) n
-earlier-more q i j m p c new g e h f n =
-    let next : drop i q ≡ p ∷ drop j q = drop_next q i p g ∙ ap (λ l. p ∷ l) (ap (λ k. drop k q) (sym (add-one i) ∙ e)) in
-    f n ∙ (put_has (m == p.second) p.first c (before_in (pairs_of (drop j q)) m) h n ∙ ap (λ l. has (before_in (pairs_of l) m) n) (sym next))
 
 pub tail-more : (hi : Option ℕ) (ps : List Part) (i j : ℕ) (t : Part) (r s n : RowRest) → slice_get ps i ≡ Some t → i + 1 ≡ j → r ≡ tail_of hi (drop j ps) s → n ≡ part_before hi t r → n ≡ tail_of hi (drop i ps) s
 tail-more hi ps i j t r s n g e h f =

@@ -29,3 +29,5 @@ pub mod ItemsLeft
 pub mod Copies
 pub mod TermMembers
 pub mod AllAfter
+pub mod Retying
+pub mod KeptNumbers

@@ -13,3 +13,4 @@ pub mod Lefts
 pub mod Skips
 pub mod AllAfter
 pub mod Gatherings
+pub mod Gone

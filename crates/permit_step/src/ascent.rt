@@ -1,10 +1,11 @@
 //! Rebuilds a term around what an event left of one child, from the event upwards: for `successors`.
 
-ghost use Rattle.std.specs.Prelude.{◌≡◌, ◌<◌, IfOk};
+ghost use Rattle.std.specs.Prelude.{◌≡◌, ◌<◌, IfOk, IfSome, Some};
 ghost use Rattle.chart_term.specs.Properties.{MayHave};
-ghost use Rattle.chart_term.specs.Terms.{Nil};
+ghost use Rattle.chart_term.specs.Terms.{Event as EventTree, Nil, Tree};
 ghost use Rattle.chart_term.specs.Views.{event_of};
-ghost use Rattle.permit_step.specs.Children.{put};
+ghost use Rattle.permit_step.specs.Children.{child, put};
+ghost use Rattle.permit_step.specs.Gone.{AreKept, AreLinked};
 ghost use Rattle.term_laws.specs.Permission.{permits_of};
 ghost use Rattle.permit_step.specs.Ready.{IsReady, AreReadyTables};
 ghost use Rattle.permit_step.specs.Searches.{IsTaken, AreReadyFrames, child_count, put_all};
@@ -23,6 +24,7 @@ use crate::parts::{LoopParts, WalkParts};
 use bit_sets::Block;
 use chart_term::{Event, Look, Term};
 use msc_base::NoMemory;
+use node_facts::Span;
 use std::alloc::Global;
 use term_tables::Nets;
 
@@ -52,15 +54,25 @@ pub(crate) fn rebuilt(
     requires tables { AreReadyTables nets.now.tables }
     requires taken { IsTaken taken.now }
     requires path { AreReadyFrames nets.now.tables path.now.items }
+    requires linked { AreLinked (permits_of nets.now.tables) path.now.items (EventTree (event_of taken.now.event)) }
     ensures left { IfOk result (λ left. left ≡ put_all (permits_of nets.now.tables) (event_of taken.now.event) path.now.items Nil) }
     ensures ready { IfOk result (λ left. MayHave (IsReady nets.now.tables) left) }
 {
     let mut left = Term::nil(alloc)?;
+    let mut gone = Span::of(taken.event.number);
     let mut index = path.len();
     while index > 0 {
         index -= 1;
         let frame = &path[index];
-        match put(alloc, nets, taken, &frame.parent, frame.index, left)? {
+        match put(
+            alloc,
+            nets,
+            taken,
+            &frame.parent,
+            frame.index,
+            left,
+            &mut gone,
+        )? {
             Some(term) => left = term,
             None => return Ok(None),
         }
@@ -69,6 +81,8 @@ pub(crate) fn rebuilt(
 }
 
 /// What is left of the term whose child at the index leaves this, or None where another part doesn't let the event pass.
+///
+/// Numbers of the child that `gone` hasn't are numbers of what it leaves; so it is with the whole then.
 #[tactic(auto, using(crate::proofs::Ascending::ascending))]
 fn put(
     alloc: Global,
@@ -77,20 +91,26 @@ fn put(
     parent: &Term,
     index: usize,
     left: Term,
+    gone: &mut Span,
 ) -> Result<Option<Term>, NoMemory>
     requires tables { AreReadyTables nets.now.tables }
     requires taken { IsTaken taken.now }
     requires parent { IsReady nets.now.tables parent.now }
     requires index { index < child_count nets.now.tables parent.now }
     requires left { IsReady nets.now.tables left }
-    ensures { IfOk result (λ whole. whole ≡ put (permits_of nets.now.tables) (event_of taken.now.event) parent.now index left) }
+    requires kept { (y : Tree) → child (permits_of nets.now.tables) parent.now index ≡ Some y → AreKept gone.old y left }
+    ensures whole { IfOk result (λ whole. whole ≡ put (permits_of nets.now.tables) (event_of taken.now.event) parent.now index left) }
+    ensures kept { IfOk result (λ whole. IfSome whole (AreKept gone.new parent.now)) }
 {
     match parent.look() {
         Look::Nil | Look::Event { .. } => Ok(None),
-        Look::Seq(parts) => put_in_row(alloc, nets, taken, parts, index, &left),
+        Look::Seq(parts) => put_in_row(alloc, nets, taken, parts, index, &left, gone),
         Look::Par(parts) => Ok(Some(put_in_par(alloc, nets, taken, parts, index, &left)?)),
-        Look::Choice(_) => Ok(Some(left)),
-        Look::Tied(_, pairs) => put_below_tie(alloc, nets, taken, pairs, left),
+        Look::Choice(_) => {
+            *gone = gone.wider(parent.facts().range());
+            Ok(Some(left))
+        }
+        Look::Tied(inner, pairs) => put_below_tie(alloc, nets, taken, inner, pairs, left, gone),
         Look::Loop {
             body,
             lower,
@@ -103,7 +123,9 @@ fn put(
                 upper,
                 row,
             };
-            put_in_loop(alloc, nets, taken, turns, index, left)
+            *gone = gone.wider(parent.facts().range());
+            let whole = put_in_loop(alloc, nets, taken, turns, index, left)?;
+            Ok(whole)
         }
         Look::Walk {
             net,

@@ -1,13 +1,16 @@
 //! What permission leaves of a term, and of the parts of a join: what stays as it is isn't made anew. For `permission` and ascent.
 
-ghost use Rattle.std.specs.Prelude.{◌≡◌, ◌++◌, ◌+◌, ◌<◌, ◌∷◌, List, Option, None, [], IfOk, drop, length, true, false};
+ghost use Rattle.std.specs.Prelude.{◌≡◌, ◌++◌, ◌+◌, ◌<◌, ◌∷◌, ℕ, List, Option, None, Some, [], IfOk, drop, length, true, false};
 ghost use Rattle.chart_term.specs.NormalForms.{begun, open_part};
 ghost use Rattle.chart_term.specs.PartLists.{AreTurns};
 ghost use Rattle.chart_term.specs.Terms.{Tree, Part};
+ghost use Rattle.node_facts.specs.NodeFacts.{lies_in};
+ghost use Rattle.permit_step.specs.Gone.{AreKeptOf};
 ghost use Rattle.permit_step.specs.Lefts.{left_of, mode_of, and_app, ArePartsLeft, IsKept, IsOpened, IsSame};
 
 use chart_term::{Look, PartList, RowPart, Term};
 use msc_base::NoMemory;
+use node_facts::Span;
 use std::alloc::Global;
 
 /// What permission leaves of a term.
@@ -99,6 +102,21 @@ impl PartsLeft {
             PartsLeft::Fails => true,
             PartsLeft::Unchanged => false,
             PartsLeft::Changed(_) => false,
+        }
+    }
+}
+
+impl PartsLeft {
+    /// The span, wider by the numbers of the parts where other parts may be left.
+    #[tactic(auto, using(crate::proofs::KeptNumbers::kept_numbers))]
+    pub(crate) fn widened(&self, gone: Span, parts: &PartList) -> Span
+        ensures wider { (n : ℕ) → lies_in (Some result) n ≡ false → lies_in (Some gone) n ≡ false }
+        ensures kept { (o : Option (List Tree)) → ArePartsLeft o parts.now self.now → AreKeptOf result (begun parts.now) o }
+    {
+        match self {
+            PartsLeft::Fails => gone,
+            PartsLeft::Unchanged => gone,
+            PartsLeft::Changed(_) => gone.wider(parts.facts().range()),
         }
     }
 }

@@ -20,6 +20,7 @@ mod permission;
 mod row_end;
 mod search;
 mod successors;
+mod ties;
 
 pub use all_after::after_each;
 pub use finishes::may_end;

@@ -23,10 +23,11 @@ use crate::loops::loop_end;
 use crate::parts::{LoopBlock, LoopParts, WalkParts};
 use crate::passing::{Passable, is_aimed, passes_full};
 use crate::row_end::{RowEnd, is_empty};
+use crate::ties::retied;
 use bit_sets::Block;
-use chart_term::{Look, PartList, PartLook, RowPart, Term, TermList, choice, par_of, seq_of, tied};
+use chart_term::{Look, PartList, PartLook, RowPart, Term, TermList, choice, par_of, seq_of};
 use hmsc_graph::{Goal, Spot, has_walk};
-use msc_base::{NoMemory, PairList};
+use msc_base::NoMemory;
 use std::alloc::Global;
 use term_tables::Nets;
 
@@ -82,8 +83,8 @@ pub(crate) fn permit_term(
             Left::Fails => Ok(Left::Fails),
             Left::Unchanged => Ok(Left::Unchanged),
             Left::Changed(left) => {
-                let pairs = copy_pairs(alloc, pairs)?;
-                Ok(Left::Changed(tied(alloc, left, pairs)?))
+                let gone = inner.facts().range();
+                Ok(Left::Changed(retied(alloc, left, pairs, gone)?))
             }
         },
         Look::Loop {
@@ -112,17 +113,6 @@ pub(crate) fn permit_term(
             Ok(Left::of(left))
         }
     }
-}
-
-/// The pairs once more.
-pub(crate) fn copy_pairs(alloc: Global, pairs: &PairList) -> Result<PairList, NoMemory>
-    ensures { IfOk result (λ copy. copy ≡ pairs.now) }
-{
-    let mut copy = PairList::new(alloc);
-    for pair in pairs.as_slice() {
-        copy.push(*pair)?;
-    }
-    Ok(copy)
 }
 
 /// One of the parts, or None where there is none.

@@ -4,6 +4,8 @@ ghost use Rattle.std.specs.Prelude.{◌≡◌, ◌≤◌, ◌<◌, ◌+◌, [], 
 ghost use Rattle.chart_term.specs.Terms.{Event as EventTree};
 ghost use Rattle.chart_term.specs.Views.{event_of};
 ghost use Rattle.term_laws.specs.Listing.{set_weight};
+ghost use Rattle.term_laws.specs.Permission.{permits_of};
+ghost use Rattle.permit_step.specs.Gone.{AreLinked};
 ghost use Rattle.permit_step.specs.Ready.{IsReady, AreReadyTables};
 ghost use Rattle.permit_step.specs.Searches.{AreReadyFrames, Gathers, GathersOwn, IsOther, IsTaken, IsTally};
 
@@ -78,6 +80,7 @@ fn add_event(
 ) -> Result<bool, NoMemory>
     requires tables { AreReadyTables nets.now.tables }
     requires path { AreReadyFrames nets.now.tables path.now.items }
+    requires linked { AreLinked (permits_of nets.now.tables) path.now.items term.now }
     requires met { IfSome met.old IsTaken }
     requires tally { IsTally found.old }
     requires within { set_weight found.old.terms ≤ found.old.most }

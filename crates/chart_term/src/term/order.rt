@@ -3,15 +3,16 @@
 ghost use Rattle.std.specs.Prelude.{◌≡◌, ◌↔◌, IsTrue};
 ghost use Rattle.std.specs.declared.cmp.Ordering.TheVariants.{Less};
 ghost use Rattle.hmsc_graph.specs.Spots.{spot_of, goal_of};
-ghost use Rattle.chart_term.specs.Order.{event_cmp, goal_cmp, rank, row_cmp, spot_cmp, tree_cmp};
+ghost use Rattle.chart_term.specs.Order.{event_cmp, goal_cmp, pairs_cmp, rank, row_cmp, spot_cmp, tree_cmp};
 ghost use Rattle.chart_term.specs.Terms.{row_of};
-ghost use Rattle.chart_term.specs.Views.{event_of};
+ghost use Rattle.chart_term.specs.Views.{event_of, pairs_of};
 
 use super::{Form, Node, PartList, RowPart, Term};
 use crate::Event;
 use hmsc_graph::{Goal, Spot};
-use node_facts::{compare_counts, compare_maybe, compare_pairs};
+use node_facts::{compare_counts, compare_maybe};
 use std::cmp::Ordering;
+use tie_list::TieList;
 
 /// By number, instances and label.
 fn compare_events(event: &Event, other: &Event) -> Ordering
@@ -51,6 +52,25 @@ fn compare_goals(goal: Goal, other: Goal) -> Ordering
     }
 }
 
+/// Pair by pair.
+#[tactic(auto, using(node_facts::proofs::Listing::listing))]
+fn compare_ties(pairs: &TieList, others: &TieList) -> Ordering
+    ensures { result ≡ pairs_cmp (pairs_of pairs.now) (pairs_of others.now) }
+{
+    let mut at = 0;
+    while at < pairs.len() && at < others.len() {
+        let pair = pairs.at(at);
+        let other = others.at(at);
+        let firsts = pair.first.cmp(&other.first);
+        let order = firsts.then(pair.second.cmp(&other.second));
+        if order != Ordering::Equal {
+            return order;
+        }
+        at += 1;
+    }
+    pairs.len().cmp(&others.len())
+}
+
 impl Form {
     ghost use Rattle.chart_term.specs.TermViews.{tree_of};
 
@@ -88,7 +108,7 @@ impl Term {
             (Form::Choice(parts), Form::Choice(others)) => parts.compare(others),
             (Form::Tied(inner, pairs), Form::Tied(second, others)) => {
                 match inner.compare(second) {
-                    Ordering::Equal => compare_pairs(pairs.as_slice(), others.as_slice()),
+                    Ordering::Equal => compare_ties(pairs, others),
                     order => order,
                 }
             }

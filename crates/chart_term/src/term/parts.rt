@@ -191,7 +191,7 @@ impl PartList {
     }
 
     /// The facts that the node stores.
-    pub(crate) fn facts(&self) -> &Facts
+    pub fn facts(&self) -> &Facts
         ensures { RowHasFacts (row_of self.now) result.now }
     {
         let node: &Stretch = &self.root;

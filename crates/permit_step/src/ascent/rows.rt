@@ -1,13 +1,15 @@
 //! What is left of rows and of parts side by side, where one of them has had an event: for `ascent`.
 
-ghost use Rattle.std.specs.Prelude.{◌≡◌, ◌<◌, IfOk, Some, length};
+ghost use Rattle.std.specs.Prelude.{◌≡◌, ◌<◌, IfOk, IfSome, Some, length, slice_get};
 ghost use Rattle.chart_term.specs.NormalForms.{begun};
 ghost use Rattle.chart_term.specs.PartLists.{AreTurns};
 ghost use Rattle.chart_term.specs.Properties.{EachTurn};
-ghost use Rattle.chart_term.specs.Terms.{Join, trees};
+ghost use Rattle.chart_term.specs.Terms.{Join, Tree, trees};
 ghost use Rattle.chart_term.specs.Views.{event_of};
 ghost use Rattle.msc_base.specs.Patterns.{seq, par};
+ghost use Rattle.node_facts.specs.declared.facts.Span.{Span};
 ghost use Rattle.permit_step.specs.Children.{put};
+ghost use Rattle.permit_step.specs.Gone.{AreKept};
 ghost use Rattle.term_laws.specs.Normality.{IsPartOf};
 ghost use Rattle.term_laws.specs.Permission.{permits_of};
 ghost use Rattle.permit_step.specs.Ready.{IsReady, AreReadyTables};
@@ -18,6 +20,7 @@ use crate::left::{Joint, kept, replaced};
 use crate::permission::permit_parts;
 use chart_term::{PartList, Term, par_of, seq_of};
 use msc_base::NoMemory;
+use node_facts::Span;
 use std::alloc::Global;
 use term_tables::Nets;
 
@@ -34,7 +37,8 @@ pub(super) fn put_in_par(
     requires turns { AreTurns parts.now }
     requires open { EachTurn (IsPartOf par) parts.now }
     requires index { index < length parts.now }
-    ensures { IfOk result (λ whole. Some whole ≡ put (permits_of nets.now.tables) (event_of taken.now.event) (Join par (trees (begun parts.now))) index left.now) }
+    ensures whole { IfOk result (λ whole. Some whole ≡ put (permits_of nets.now.tables) (event_of taken.now.event) (Join par (trees (begun parts.now))) index left.now) }
+    ensures kept { IfOk result (λ whole. (s : Span) → ((y : Tree) → slice_get (begun parts.now) index ≡ Some y → AreKept s y left.now) → AreKept s (Join par (trees (begun parts.now))) whole) }
 {
     let _ = nets;
     let _ = taken;
@@ -53,6 +57,7 @@ pub(super) fn put_in_row(
     parts: &PartList,
     index: usize,
     left: &Term,
+    gone: &mut Span,
 ) -> Result<Option<Term>, NoMemory>
     requires tables { AreReadyTables nets.now.tables }
     requires taken { IsTaken taken.now }
@@ -60,10 +65,13 @@ pub(super) fn put_in_row(
     requires ready { EachTurn (IsReady nets.now.tables) parts.now }
     requires open { EachTurn (IsPartOf seq) parts.now }
     requires index { index < length parts.now }
-    ensures { IfOk result (λ whole. whole ≡ put (permits_of nets.now.tables) (event_of taken.now.event) (Join seq (trees (begun parts.now))) index left.now) }
+    requires kept { (y : Tree) → slice_get (begun parts.now) index ≡ Some y → AreKept gone.old y left.now }
+    ensures whole { IfOk result (λ whole. whole ≡ put (permits_of nets.now.tables) (event_of taken.now.event) (Join seq (trees (begun parts.now))) index left.now) }
+    ensures kept { IfOk result (λ whole. IfSome whole (AreKept gone.new (Join seq (trees (begun parts.now))))) }
 {
     let before = parts.front(alloc, index)?;
     let permitted = permit_parts(alloc, nets, Joint::Row, &before, &taken.at)?;
+    *gone = permitted.widened(*gone, &before);
     let Some(before) = kept(alloc, &before, permitted)? else {
         return Ok(None);
     };

@@ -1,7 +1,8 @@
-use Rattle.std.proofs.Common.{◌≡◌, ◌≤◌, take, length}
-use Rattle.chart_term.specs.Terms.{Nil}
+use Rattle.std.proofs.Common.{◌≡◌, ◌≤◌, take, drop, length}
+use Rattle.chart_term.specs.Terms.{Event, Nil}
 use Rattle.chart_term.specs.Views.{event_of}
 use Rattle.term_laws.specs.Permission.{permits_of}
+use Rattle.permit_step.specs.Gone.{AreKept, top}
 use Rattle.permit_step.specs.Ready.{IsReady}
 use Rattle.permit_step.specs.Searches.{put_all}
 use Rattle.permit_step.proofs.ascent.rebuilt.Given as goal
@@ -11,6 +12,7 @@ invariant-loop-index l = record {
   within : l.index ≤ length l.path.items;
   ready : IsReady l.nets.tables l.left;
   whole : put_all (permits_of l.nets.tables) (event_of l.taken.event) l.path.items Nil ≡ put_all (permits_of l.nets.tables) (event_of l.taken.event) (take l.index l.path.items) l.left;
+  kept : AreKept l.gone (top (drop l.index l.path.items) (Event (event_of l.taken.event))) l.left;
 }
 
 abbrev pub decreases-loop-index : goal.decreases-loop-index

@@ -33,6 +33,9 @@ use Rattle.std.proofs.lemmas.Bool.{or_parts}
 use Rattle.chart_term.proofs.Lists.{take_step}
 use Rattle.chart_term.proofs.Turns.{begun-length}
 use Rattle.term_laws.proofs.Missed.{row-misses}
+use Rattle.permit_step.proofs.KeptNumbers.{range_there, tied_pairs}
+use Rattle.permit_step.proofs.Retying.{shown_by_span}
+use Rattle.chart_term.specs.NormalForms.{numbers}
 use Rattle.permit_step.proofs.permission.+permit.Goals as goal
 
 -- joins
@@ -300,6 +303,14 @@ permit_choice-returns t c =
 pub permit_term-returns-in-Unchanged-3 : goal.permit_term-returns-in-Unchanged-3
 permit_term-returns-in-Unchanged-3 t c =
     tied-stays c.args.nets.now.tables (block_of c.args.block.now) c.args.term.now c.in-Tied.inner.now (pairs_of c.in-Tied.pairs.now) c.in-Tied.ensures c.requires.term (sym c.in_ok-permit_term-in-Tied.ensures ∙ ap (λ (l : Left). left_of l c.in-Tied.inner.now) c.in-Unchanged-3.is)
+
+pub permit_term-retied-requires-clause-once : goal.permit_term-retied-requires-clause-once
+permit_term-retied-requires-clause-once t c = (tied_pairs c.args.nets.now.tables c.args.term.now c.in-Tied.inner.now (pairs_of c.in-Tied.pairs.now) c.in-Tied.ensures c.requires.term).1
+
+pub permit_term-retied-requires-clause-shown : goal.permit_term-retied-requires-clause-shown
+permit_term-retied-requires-clause-shown t c =
+    shown_by_span c.range-gone.result (numbers c.in-Tied.inner.now) (numbers c.in-Changed-3.left) c.in-Tied.pairs.now (tied_pairs c.args.nets.now.tables c.args.term.now c.in-Tied.inner.now (pairs_of c.in-Tied.pairs.now) c.in-Tied.ensures c.requires.term).0
+    (range_there c.in-Tied.inner.now c.facts.result.now c.range-gone.result c.facts.ensures c.range-gone.ensures)
 
 -- rows
 pub keep_items-keep_part-requires : goal.keep_items-keep_part-requires

@@ -2,6 +2,7 @@ use Rattle.std.proofs.Common.{◌≡◌, [], List, refl, sym, ◌∙◌, subst, 
 use Rattle.permit_step.specs.Searches.{AreReadyFrames}
 use Rattle.permit_step.specs.declared.ascent.Frame.{Frame}
 use Rattle.permit_step.proofs.ChildReady.{child-good}
+use Rattle.permit_step.proofs.KeptNumbers.{linked_searched}
 use Rattle.permit_step.proofs.Rebuilding.{front-ready}
 use Rattle.permit_step.proofs.Searching.{state-start, state-down, state-cut, state-end, state-up}
 use Rattle.permit_step.proofs.Visits.{visits-down, visits-up, ranked-down, ranked-up, ranked-length, no-frames}
@@ -72,3 +73,6 @@ search-preserved c =
       met = c.in_ok-all-in-None.ensures.met;
       ranked = ranked-up w (rank_in w c.args.term.now) c.search.path.items c.pop.new.self.items c.in-Some-pop.frame c.search.here c.in-Some-pop.frame.parent c.search.invariant.ranked c.in-Some-pop.ensures.items refl;
     }
+
+pub add_event-requires-clause-linked : goal.add_event-requires-clause-linked
+add_event-requires-clause-linked c = linked_searched c.args.nets.now.tables c.args.label c.args.term.now c.search.found.terms c.search.path.items c.search.here c.search.next c.search.invariant.state.searched

@@ -1,15 +1,12 @@
-use Rattle.std.proofs.Common.{◌≡◌, ◌≤◌, ℕ, [], drop, length}
-use Rattle.chart_term.specs.TermPatterns.{before_in}
-use Rattle.chart_term.specs.Terms.{has}
-use Rattle.chart_term.specs.Views.{pairs_of}
+use Rattle.std.proofs.Common.{◌≡◌, [], ◌-◌, length}
+use Rattle.permit_step.proofs.Retying.{IsAdded}
 use Rattle.permit_step.proofs.ascent.ties.earlier.Given as goal
 
-abbrev pub invariant-loop-index : goal.invariant-loop-index
-invariant-loop-index l = record {
-  within : l.index ≤ length l.pairs;
+abbrev pub invariant-loop-at : goal.invariant-loop-at
+invariant-loop-at l = record {
   instances : l.block.instances ≡ [];
-  events : (n : ℕ) → has l.block.events n ≡ has (before_in (pairs_of (drop l.index l.pairs)) l.number) n;
+  added : IsAdded l.number l.pairs l.from l.block.events;
 }
 
-abbrev pub decreases-loop-index : goal.decreases-loop-index
-decreases-loop-index l = l.index
+abbrev pub decreases-loop-at : goal.decreases-loop-at
+decreases-loop-at l = length l.pairs - l.from

@@ -1,6 +1,6 @@
 use Rattle.std.proofs.Common.{length, drop, ◌-◌, ◌≡◌, ◌≤◌}
 use Rattle.node_facts.proofs.Listing.{list_cmp, held_cmp}
-use Rattle.node_facts.proofs.order.compare_pairs.Given as goal
+use Rattle.chart_term.proofs.term.order.compare_ties.Given as goal
 
 abbrev pub invariant-loop-at : goal.invariant-loop-at
 invariant-loop-at l = record {
