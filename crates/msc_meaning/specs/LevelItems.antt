@@ -1,10 +1,9 @@
 -- The items of a level, the columns that they stand in, and the instances that they cover.
-use Rattle.std.specs.Prelude.{ℕ, zero, suc, Bool, true, false, ◌&&◌, ◌==◌, List, [], ◌∷◌, ◌++◌, Option, Some, None, if◌then◌else◌}
+use Rattle.std.specs.Prelude.{ℕ, zero, suc, Bool, true, false, ◌&&◌, List, [], ◌∷◌, ◌++◌, Option, Some, None, if◌then◌else◌}
 use Rattle.std.specs.List.{list_any}
 use Rattle.std.specs.Str.{bytes_eq}
 use Rattle.msc_base.specs.declared.label.Kind.{Kind}
 use Rattle.msc_base.specs.declared.label.Kind.TheVariants.{Create}
-use Rattle.msc_base.specs.declared.place.Place.{Place}
 use Rattle.msc_tree.specs.declared.chart.Cover.{Cover}
 use Rattle.msc_tree.specs.declared.chart.Cover.TheVariants.{All, Listed}
 use Rattle.msc_tree.specs.declared.event.Target.{Target}
@@ -51,21 +50,31 @@ level_items ps = with_pieces [] ps
 
 -- ---- columns
 
-abbrev pub is_there : Place → List Piece → Bool
-is_there place ps = list_any (λ p. p.place.byte == place.byte) ps
-
--- the number of the item that the piece is of
-abbrev pub item_of : List (List Piece) → Piece → ℕ
-item_of [] p = zero
-item_of (x ∷ xs) p = if is_there p.place x then zero else suc (item_of xs p)
-
 abbrev pub is_in : List (List ℕ) → List ℕ → Bool
 is_in names i = list_any (λ j. bytes_eq i j) names
 
+-- a part of an item: its piece, and the number of the item
+pub record Entry : Type 0 where
+  pub item : ℕ
+  pub piece : Piece
+
+-- the number of the item that the piece is a part of, and where there is none so far, that of a new one
+abbrev pub number_in : List (List Piece) → Piece → ℕ
+number_in [] p = zero
+number_in (x ∷ xs) p = if is_part_of p x then zero else suc (number_in xs p)
+
+-- the parts of the items, in the order of the text, behind these items
+abbrev pub entries_behind : List (List Piece) → List Piece → List Entry
+entries_behind xs [] = []
+entries_behind xs (p ∷ ps) = if is_item p.form then record { item = number_in xs p; piece = p } ∷ entries_behind (with_piece xs p) ps else entries_behind xs ps
+
+abbrev pub entries : List Piece → List Entry
+entries ps = entries_behind [] ps
+
 -- the items in the column of an instance, in the order of the text
-abbrev pub entries_at : List (List Piece) → List Piece → List ℕ → List ℕ
-entries_at xs [] i = []
-entries_at xs (p ∷ ps) i = if is_item p.form && is_in p.leads i then item_of xs p ∷ entries_at xs ps i else entries_at xs ps i
+abbrev pub entries_at : List Entry → List ℕ → List ℕ
+entries_at [] i = []
+entries_at (e ∷ es) i = if is_in e.piece.leads i then e.item ∷ entries_at es i else entries_at es i
 
 abbrev pub creates_by : Kind → Target → List ℕ → Bool
 creates_by Create (Instance k) i = bytes_eq k i
@@ -76,17 +85,17 @@ is_creation (tree.Single e) i = creates_by e.kind e.target i
 is_creation _ i = false
 
 -- the creation of the instance
-abbrev pub creations_of : List (List Piece) → List Piece → List ℕ → List ℕ
-creations_of xs [] i = []
-creations_of xs (p ∷ ps) i = if is_creation p.form i then item_of xs p ∷ creations_of xs ps i else creations_of xs ps i
+abbrev pub creations_of : List Entry → List ℕ → List ℕ
+creations_of [] i = []
+creations_of (e ∷ es) i = if is_creation e.piece.form i then e.item ∷ creations_of es i else creations_of es i
 
 -- a creation stands first in the column of the child
-abbrev pub column_of : List (List Piece) → List Piece → List ℕ → List ℕ
-column_of xs ps i = creations_of xs ps i ++ entries_at xs ps i
+abbrev pub column_of : List Entry → List ℕ → List ℕ
+column_of es i = creations_of es i ++ entries_at es i
 
-abbrev pub columns_of : List (List Piece) → List Piece → List (List ℕ) → List (List ℕ)
-columns_of xs ps [] = []
-columns_of xs ps (i ∷ is) = column_of xs ps i ∷ columns_of xs ps is
+abbrev pub columns_of : List Entry → List (List ℕ) → List (List ℕ)
+columns_of es [] = []
+columns_of es (i ∷ is) = column_of es i ∷ columns_of es is
 
 -- ---- covers
 

@@ -7,7 +7,7 @@ use Rattle.msc_tree.specs.Statements.{InlineHead, Reference, Operands, no_operan
 use Rattle.msc_tree.specs.Statements as tree
 use Rattle.msc_meaning.specs.Bodies.{EventNode, Body, level, Item, Single, Coregion, Inline, Refer, Bodies, no_bodies, body_and, events}
 use Rattle.msc_meaning.specs.Bodies as body
-use Rattle.msc_meaning.specs.LevelItems.{level_items, columns_of, cover_of}
+use Rattle.msc_meaning.specs.LevelItems.{level_items, entries, columns_of, cover_of}
 use Rattle.msc_meaning.specs.Pairing.{ArePairs}
 use Rattle.msc_meaning.specs.Pieces.{Piece, operands_of}
 
@@ -23,7 +23,7 @@ mutual
   -- the pieces of a level that covers these instances are woven to the body
   pub data IsWovenLevel : List (List ℕ) → List Piece → Body → Type 0 where
     woven : {cover : List (List ℕ)} {ps : List Piece} {order : List ℕ} {held : body.Items} {pairs : List Pair}
-        → IsWoven (length (level_items ps)) (columns_of (level_items ps) ps cover) order → AreWovenItems cover (level_items ps) order held → ArePairs (events held) pairs
+        → IsWoven (length (level_items ps)) (columns_of (entries ps) cover) order → AreWovenItems cover (level_items ps) order held → ArePairs (events held) pairs
         → IsWovenLevel cover ps (level cover held pairs)
 
   -- the items of these numbers

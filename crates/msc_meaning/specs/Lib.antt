@@ -9,9 +9,11 @@ pub mod Refinements
 pub mod ChartUnfoldings
 pub mod Meanings
 pub mod Pairing
+pub mod Partners
 pub mod Pieces
 pub mod LevelItems
 pub mod Levels
+pub mod Crossings
 pub mod WovenTables
 pub mod Views
 pub mod PlainCharts
