@@ -3,14 +3,3 @@ pub mod FirstOf
 pub mod NoteSteps
 pub mod Meeting
 pub mod PartSteps
-pub mod Walks
-pub mod Counts
-pub mod Keys
-pub mod Positions
-pub mod MarkLaws
-pub mod EdgeLaws
-pub mod PairLaws
-pub mod ColumnLaws
-pub mod AloneLaws
-pub mod BodyLaws
-pub mod OrderLaws

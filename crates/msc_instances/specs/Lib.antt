@@ -5,13 +5,3 @@ pub mod Parts
 pub mod PartViews
 pub mod Meetings
 pub mod NameFaults
-pub mod Entries
-pub mod EventViews
-pub mod EntryEdges
-pub mod Messages
-pub mod Marks
-pub mod Alone
-pub mod NotBuilt
-pub mod Bodies
-pub mod BodyEdges
-pub mod Laws

@@ -128,10 +128,11 @@ abbrev pub decls_notes : List Decl → List Note
 decls_notes [] = []
 decls_notes (d ∷ ds) = decl_notes d ++ decls_notes ds
 
-abbrev pub content_notes : Content → List Note
-content_notes (Basic held) = statements_notes true Whole (statements held)
-content_notes (HighLevel held) = []
+-- by the declarations of the heads, and what the chart holds; the heads of a high-level chart have no use
+abbrev pub content_notes : List Decl → Content → List Note
+content_notes decls (Basic held) = decls_notes decls ++ statements_notes true Whole (statements held)
+content_notes decls (HighLevel held) = []
 
--- of a whole chart: its heads, and what it holds
+-- of a whole chart
 abbrev pub chart_notes : Chart → List Note
-chart_notes chart = decls_notes chart.decls ++ content_notes chart.content
+chart_notes chart = content_notes chart.decls chart.content

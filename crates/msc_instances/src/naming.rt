@@ -5,7 +5,7 @@ ghost use Rattle.msc_base.specs.Places.{IsLeast};
 ghost use Rattle.msc_base.specs.Lists.{IsAmong};
 ghost use Rattle.msc_base.specs.NameTables.{with_name};
 ghost use Rattle.msc_instances.specs.Instances.{DecomposesAgain, MayName, NamesOther, instances, with_declared};
-ghost use Rattle.msc_instances.specs.NameFaults.{IsFaultOf, IsNameFault, KeepNames, KeepsNames, NamesTwice, first_of};
+ghost use Rattle.msc_instances.specs.NameFaults.{ChartNamesOther, ChartNamesTwice, IsFaultOf, IsNameFault, KeepNames, KeepsNames, NamesTwice, first_of};
 ghost use Rattle.msc_instances.specs.NoteViews.{note_view, scope_view};
 ghost use Rattle.msc_instances.specs.declared.naming.NameFault.TheVariants.{NoMemory as WantOfMemory};
 ghost use Rattle.msc_tree.specs.Views.{chart_view};
@@ -194,4 +194,31 @@ pub fn names(alloc: Global, chart: &RawChart) -> Result<Names, NameFault>
     let notes = chart_notes(alloc, chart)?;
     let levels = chart_levels(alloc, chart)?;
     settled(alloc, notes.as_slice(), levels.as_slice())
+}
+
+/// The instances of a chart in the order in which they are first declared, whether its names keep their rules or not.
+pub fn instances_of(alloc: Global, chart: &RawChart) -> Result<Names, NoMemory>
+    ensures { IfOk result (λ names. names ≡ instances (chart_view chart.now)) }
+{
+    let notes = chart_notes(alloc, chart)?;
+    let made = declared_in(alloc, notes.as_slice())?;
+    Ok(made.names)
+}
+
+/// The earliest place at which an instance of a chart is decomposed a second time, or a part has the name of another.
+pub fn first_named_twice(alloc: Global, chart: &RawChart) -> Result<Option<Place>, NoMemory>
+    ensures { IfOk result (IsLeast (ChartNamesTwice (chart_view chart.now))) }
+{
+    let notes = chart_notes(alloc, chart)?;
+    let levels = chart_levels(alloc, chart)?;
+    named_twice(alloc, notes.as_slice(), levels.as_slice())
+}
+
+/// The earliest place at which a name stands that may not stand there.
+pub fn first_undeclared(alloc: Global, chart: &RawChart) -> Result<Option<Place>, NoMemory>
+    ensures { IfOk result (IsLeast (ChartNamesOther (chart_view chart.now))) }
+{
+    let notes = chart_notes(alloc, chart)?;
+    let made = declared_in(alloc, notes.as_slice())?;
+    Ok(named_other(&made.table, notes.as_slice()))
 }

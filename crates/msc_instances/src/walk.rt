@@ -289,22 +289,28 @@ fn statements<'a>(
     Ok(())
 }
 
-/// Notes what a chart holds.
-fn content<'a>(notes: &mut NoteList<'a>, content: &'a Content) -> Result<(), NoMemory>
-    ensures { OnOk result (notes.new ≡ notes.old ++ content_notes (content_view content.now)) }
+/// Notes what a chart writes, by the declarations of its heads and what it holds.
+fn content<'a>(
+    notes: &mut NoteList<'a>,
+    heads: &'a [Decl],
+    content: &'a Content,
+) -> Result<(), NoMemory>
+    ensures { OnOk result (notes.new ≡ notes.old ++ content_notes heads.now (content_view content.now)) }
 {
     match content {
-        Content::Events(list) => statements(notes, true, Scope::Whole, list.as_slice()),
+        Content::Events(list) => {
+            decls(notes, heads)?;
+            statements(notes, true, Scope::Whole, list.as_slice())
+        }
         Content::Graph(_) => Ok(()),
     }
 }
 
-/// What a chart writes of its instances, in the order of the text.
+/// What a chart writes of its instances, in the order of the text. The heads of a high-level chart write nothing.
 pub fn chart_notes<'a>(alloc: Global, chart: &'a RawChart) -> Result<NoteList<'a>, NoMemory>
     ensures { IfOk result (λ notes. notes ≡ chart_notes (chart_view chart.now)) }
 {
     let mut notes = NoteList::new(alloc);
-    decls(&mut notes, chart.decls.as_slice())?;
-    content(&mut notes, &chart.content)?;
+    content(&mut notes, chart.decls.as_slice(), &chart.content)?;
     Ok(notes)
 }

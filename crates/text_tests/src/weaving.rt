@@ -1,9 +1,11 @@
 //! The instances and the woven list of a chart, and what is refused.
 use msc_base::Place;
 use msc_document::parse;
-use msc_instances::{Body, Item, NameFault, WeaveFault, names, weave};
+use msc_instances::{NameFault, names};
+use msc_meaning::{Body, Item};
 use msc_tokens::lex_all;
 use msc_tree::RawChart;
+use msc_weaving::{WeaveFault, weave};
 use std::alloc::{AllocError, Global};
 use std::test::Fail;
 
@@ -25,7 +27,9 @@ fn at(alloc: Global, word: &str, place: Place) -> Result<String, AllocError> {
 fn told(alloc: Global, body: &Body) -> Result<String, AllocError> {
     let mut text = String::new(alloc);
     for item in body.items.as_slice() {
-        let Item::Single(node) = item;
+        let Item::Single(node) = item else {
+            continue;
+        };
         let number = node.number;
         let name = String::from_utf8_lossy(alloc, node.at.bytes())?;
         text.push_str(format!(in alloc; "{name}{number} ")?.as_str())?;

@@ -1,0 +1,16 @@
+pub mod Walks
+pub mod Counts
+pub mod Keys
+pub mod Positions
+pub mod MarkLaws
+pub mod EdgeLaws
+pub mod PairLaws
+pub mod ColumnLaws
+pub mod AloneLaws
+pub mod BodyLaws
+pub mod PieceLaws
+pub mod ItemLaws
+pub mod PartnerLaws
+pub mod WovenLaws
+pub mod OrderLaws
+pub mod EarlyLaws
