@@ -1,0 +1,226 @@
+-- From groups of rules to the first fault of a document, and to its table.
+use Rattle.std.proofs.Common.{◌≡◌, ℕ, ◌≤◌, inl, inr, List, [], ◌∷◌, arith, refl, sym, ap, ◌∙◌, subst, nat_eq, if◌then◌else◌, length, option_map, None, Some, Option}
+use Rattle.msc_base.specs.Lists.{IsAmong}
+use Rattle.msc_base.specs.Places.{IsLeast}
+use Rattle.msc_base.specs.declared.place.Place.{Place}
+use Rattle.msc_tree.specs.Charts.{Chart, Document}
+use Rattle.msc_rules.specs.declared.rule.Rule.{Rule}
+use Rattle.msc_rules.specs.declared.rule.Rule.TheVariants.{Bytes, BadByte, OpenString, OpenNote, LongName, Syntax, Unsupported, TooDeep, Charts, Instances, Nodes, LoopBound, NamedTwice, Undeclared, MissingChart, Recursive, Uncovered, ExpandedNesting, Size, Total, NotShared, OperandsDiffer, ExcPlace, Crossed, Unmatched, NoGate, GateTwice, GateWays, GateSplit, GateOnLoop, DecompositionMismatch, SharedPart, Inside, LocalEvent, UnknownEvent, EventNamedTwice, Cyclic, UnknownLabel, LabelNamedTwice, Endless, NotBuilt, CreatePlace, CreateTwice, AfterStop}
+use Rattle.msc_rules.specs.Rules.{group_of, number_of}
+use Rattle.msc_rules.specs.declared.first_fault.Broken.{Broken}
+use Rattle.msc_rules.specs.FirstFaults.{IsBest, IsInSome, AreGroups, IsFirst, IsFaultless, Keeps}
+use Rattle.msc_rules.proofs.FirstOnes.{first_fault, faultless, one_first_fault}
+use Rattle.std.proofs.lemmas.Bool.{cases_lt}
+use Rattle.std.proofs.lemmas.List.{length-map}
+use Rattle.msc_base.specs.declared.limits.TheConstants.Limits.{CHARTS}
+use Rattle.msc_meaning.specs.Tables.{Table}
+use Rattle.msc_meaning.specs.Views.{entry_view, table_view}
+use Rattle.msc_meaning.specs.declared.body.ChartEntry as code
+use Rattle.msc_meaning.specs.WovenTables.{AreEntriesOf, entry_and}
+use Rattle.msc_weaving.specs.Bodies.{CrossesAt, IsAloneAt}
+use Rattle.msc_instances.specs.Instances.{instances}
+use Rattle.msc_weaving.proofs.Counts.{some_at}
+use Rattle.msc_weaving.proofs.WovenLaws.{chart_is}
+use Rattle.msc_acceptance.specs.Acceptance.{told_as, Breaks, BreaksOf, HasFault, IsAccepted}
+use Rattle.msc_acceptance.specs.Deciding.{AllKept, AreBuilt, all_groups, forms, limits, names, sizes, columns, messages, inputs}
+use Rattle.msc_acceptance.specs.Rules.{InOne}
+use Rattle.msc_acceptance.proofs.GroupLaws.{one_best}
+use Rattle.msc_acceptance.proofs.WalkLaws.{one_built}
+
+-- ---- numbers and groups
+
+-- what holds of the ten rules holds of each that is in a group
+each_rule : (P : Rule → Type 0) → P NotBuilt → P Charts → P Instances → P NamedTwice → P Undeclared → P Size → P Total → P Crossed → P Unmatched → P Cyclic → (r : Rule) → IsInSome all_groups r → P r
+each_rule P a b c d e f g h i j r (inl (inl is)) = subst P (sym is) a
+each_rule P a b c d e f g h i j r (inl (inr n)) = absurd n
+each_rule P a b c d e f g h i j r (inr (inl (inl is))) = subst P (sym is) b
+each_rule P a b c d e f g h i j r (inr (inl (inr (inl is)))) = subst P (sym is) c
+each_rule P a b c d e f g h i j r (inr (inl (inr (inr n)))) = absurd n
+each_rule P a b c d e f g h i j r (inr (inr (inl (inl is)))) = subst P (sym is) d
+each_rule P a b c d e f g h i j r (inr (inr (inl (inr (inl is))))) = subst P (sym is) e
+each_rule P a b c d e f g h i j r (inr (inr (inl (inr (inr n))))) = absurd n
+each_rule P a b c d e f g h i j r (inr (inr (inr (inl (inl is))))) = subst P (sym is) f
+each_rule P a b c d e f g h i j r (inr (inr (inr (inl (inr (inl is)))))) = subst P (sym is) g
+each_rule P a b c d e f g h i j r (inr (inr (inr (inl (inr (inr n)))))) = absurd n
+each_rule P a b c d e f g h i j r (inr (inr (inr (inr (inl (inl is)))))) = subst P (sym is) h
+each_rule P a b c d e f g h i j r (inr (inr (inr (inr (inl (inr n)))))) = absurd n
+each_rule P a b c d e f g h i j r (inr (inr (inr (inr (inr (inl (inl is))))))) = subst P (sym is) i
+each_rule P a b c d e f g h i j r (inr (inr (inr (inr (inr (inl (inr n))))))) = absurd n
+each_rule P a b c d e f g h i j r (inr (inr (inr (inr (inr (inr (inl (inl is)))))))) = subst P (sym is) j
+each_rule P a b c d e f g h i j r (inr (inr (inr (inr (inr (inr (inl (inr n)))))))) = absurd n
+each_rule P a b c d e f g h i j r (inr (inr (inr (inr (inr (inr (inr n))))))) = absurd n
+
+decoded : ℕ → Rule
+decoded n = if nat_eq n 41 then NotBuilt else (if nat_eq n 9 then Charts else (if nat_eq n 10 then Instances else (if nat_eq n 13 then NamedTwice else (if nat_eq n 14 then Undeclared else (if nat_eq n 19 then Size else (if nat_eq n 20 then Total else (if nat_eq n 24 then Crossed else (if nat_eq n 25 then Unmatched else (Cyclic)))))))))
+
+decodes : (r : Rule) → IsInSome all_groups r → decoded (number_of r) ≡ r
+unfolding decoded
+decodes = each_rule (λ r. decoded (number_of r) ≡ r) refl refl refl refl refl refl refl refl refl refl
+
+-- a rule that charts break is in one of the groups
+in_some : (charts : List Chart) (r : Rule) (p : Place) → BreaksOf charts r p → IsInSome all_groups r
+in_some charts Bytes p b = absurd b
+in_some charts BadByte p b = absurd b
+in_some charts OpenString p b = absurd b
+in_some charts OpenNote p b = absurd b
+in_some charts LongName p b = absurd b
+in_some charts Syntax p b = absurd b
+in_some charts (Unsupported form) p b = absurd b
+in_some charts TooDeep p b = absurd b
+in_some charts Charts p b = inr (inl (inl refl))
+in_some charts Instances p b = inr (inl (inr (inl refl)))
+in_some charts Nodes p b = absurd b
+in_some charts LoopBound p b = absurd b
+in_some charts NamedTwice p b = inr (inr (inl (inl refl)))
+in_some charts Undeclared p b = inr (inr (inl (inr (inl refl))))
+in_some charts MissingChart p b = absurd b
+in_some charts Recursive p b = absurd b
+in_some charts Uncovered p b = absurd b
+in_some charts ExpandedNesting p b = absurd b
+in_some charts Size p b = inr (inr (inr (inl (inl refl))))
+in_some charts Total p b = inr (inr (inr (inl (inr (inl refl)))))
+in_some charts NotShared p b = absurd b
+in_some charts OperandsDiffer p b = absurd b
+in_some charts ExcPlace p b = absurd b
+in_some charts Crossed p b = inr (inr (inr (inr (inl (inl refl)))))
+in_some charts Unmatched p b = inr (inr (inr (inr (inr (inl (inl refl))))))
+in_some charts NoGate p b = absurd b
+in_some charts GateTwice p b = absurd b
+in_some charts GateWays p b = absurd b
+in_some charts GateSplit p b = absurd b
+in_some charts GateOnLoop p b = absurd b
+in_some charts DecompositionMismatch p b = absurd b
+in_some charts SharedPart p b = absurd b
+in_some charts Inside p b = absurd b
+in_some charts LocalEvent p b = absurd b
+in_some charts UnknownEvent p b = absurd b
+in_some charts EventNamedTwice p b = absurd b
+in_some charts Cyclic p b = inr (inr (inr (inr (inr (inr (inl (inl refl)))))))
+in_some charts UnknownLabel p b = absurd b
+in_some charts LabelNamedTwice p b = absurd b
+in_some charts Endless p b = absurd b
+in_some charts NotBuilt p b = inl (inl refl)
+in_some charts CreatePlace p b = absurd b
+in_some charts CreateTwice p b = absurd b
+in_some charts AfterStop p b = absurd b
+
+one_number : (charts : List Chart) (r s : Rule) (p q : Place) → BreaksOf charts r p → BreaksOf charts s q → number_of r ≡ number_of s → r ≡ s
+one_number charts r s p q a b e = sym (decodes r (in_some charts r p a)) ∙ ap decoded e ∙ decodes s (in_some charts s q b)
+
+in_one : (a r : Rule) → IsAmong (a ∷ []) r → group_of r ≡ group_of a
+in_one a r h = elim h [ inl e ↦ ap group_of e | inr n ↦ absurd n ]
+
+in_two : (a b r : Rule) → group_of b ≡ group_of a → IsAmong (a ∷ b ∷ []) r → group_of r ≡ group_of a
+in_two a b r same h = elim h [ inl e ↦ ap group_of e | inr m ↦ in_one b r m ∙ same ]
+
+low_inputs : (s : Rule) → IsInSome (inputs ∷ []) s → 14 ≤ group_of s
+low_inputs s h = elim h [ inl m ↦ omega (arith, in_one Cyclic s m) | inr n ↦ absurd n ]
+
+low_messages : (s : Rule) → IsInSome (messages ∷ inputs ∷ []) s → 10 ≤ group_of s
+low_messages s h = elim h [ inl m ↦ omega (arith, in_one Unmatched s m) | inr r ↦ omega (arith, low_inputs s r) ]
+
+low_columns : (s : Rule) → IsInSome (columns ∷ messages ∷ inputs ∷ []) s → 9 ≤ group_of s
+low_columns s h = elim h [ inl m ↦ omega (arith, in_one Crossed s m) | inr r ↦ omega (arith, low_messages s r) ]
+
+low_sizes : (s : Rule) → IsInSome (sizes ∷ columns ∷ messages ∷ inputs ∷ []) s → 7 ≤ group_of s
+low_sizes s h = elim h [ inl m ↦ omega (arith, in_two Size Total s refl m) | inr r ↦ omega (arith, low_columns s r) ]
+
+low_names : (s : Rule) → IsInSome (names ∷ sizes ∷ columns ∷ messages ∷ inputs ∷ []) s → 5 ≤ group_of s
+low_names s h = elim h [ inl m ↦ omega (arith, in_two NamedTwice Undeclared s refl m) | inr r ↦ omega (arith, low_sizes s r) ]
+
+low_limits : (s : Rule) → IsInSome (limits ∷ names ∷ sizes ∷ columns ∷ messages ∷ inputs ∷ []) s → 4 ≤ group_of s
+low_limits s h = elim h [ inl m ↦ omega (arith, in_two Charts Instances s refl m) | inr r ↦ omega (arith, low_names s r) ]
+
+are_groups : AreGroups group_of all_groups
+are_groups = (
+  λ r s m n. in_one NotBuilt r m ∙ sym (in_one NotBuilt s n),
+  λ r s m n. omega (arith, in_one NotBuilt r m, low_limits s n),
+  (
+    λ r s m n. in_two Charts Instances r refl m ∙ sym (in_two Charts Instances s refl n),
+    λ r s m n. omega (arith, in_two Charts Instances r refl m, low_names s n),
+    (
+      λ r s m n. in_two NamedTwice Undeclared r refl m ∙ sym (in_two NamedTwice Undeclared s refl n),
+      λ r s m n. omega (arith, in_two NamedTwice Undeclared r refl m, low_sizes s n),
+      (
+        λ r s m n. in_two Size Total r refl m ∙ sym (in_two Size Total s refl n),
+        λ r s m n. omega (arith, in_two Size Total r refl m, low_columns s n),
+        (
+          λ r s m n. in_one Crossed r m ∙ sym (in_one Crossed s n),
+          λ r s m n. omega (arith, in_one Crossed r m, low_messages s n),
+          (
+            λ r s m n. in_one Unmatched r m ∙ sym (in_one Unmatched s n),
+            λ r s m n. omega (arith, in_one Unmatched r m, low_inputs s n),
+            (λ r s m n. in_one Cyclic r m ∙ sym (in_one Cyclic s n), λ r s m n. absurd n, tt),
+          ),
+        ),
+      ),
+    ),
+  ),
+)
+
+-- ---- what charts come to
+
+pub none_of : (charts : List Chart) (rules : List Rule) (x : Option (Broken Rule)) → x ≡ None → IsBest number_of (BreaksOf charts) rules x → IsBest number_of (BreaksOf charts) rules None
+none_of charts rules x e h = subst (λ (o : Option (Broken Rule)). IsBest number_of (BreaksOf charts) rules o) e h
+
+pub built_of : (charts : List Chart) → IsBest number_of (BreaksOf charts) forms None → AreBuilt charts
+built_of charts none = λ p h. none NotBuilt p (inl refl) h
+
+one_among : (Holds : Chart → Place → Type 0) (charts : List Chart) (p : Place) → ((c : Chart) (q : Place) → IsAmong charts c → Holds c q → ⊥) → InOne Holds charts p → ⊥
+one_among Holds [] p none h = h
+one_among Holds (c ∷ charts) p none (inl h) = none c p (inl refl) h
+one_among Holds (c ∷ charts) p none (inr h) = one_among Holds charts p (λ d q m g. none d q (inr m) g) h
+
+none_cross : (charts : List Chart) → AreBuilt charts → (p : Place) → InOne CrossesAt charts p → ⊥
+none_cross charts built p h = one_among CrossesAt charts p (λ c q m g. (chart_is c (one_built charts c built m)).uncrossed q g) h
+
+columns_kept : (charts : List Chart) → AreBuilt charts → Keeps (BreaksOf charts) columns
+columns_kept charts built = λ r p m b. elim m [ inl e ↦ none_cross charts built p (subst (λ (x : Rule). BreaksOf charts x p) e b) | inr n ↦ n ]
+
+messages_kept : (charts : List Chart) → IsLeast (InOne IsAloneAt charts) None → Keeps (BreaksOf charts) messages
+messages_kept charts none = λ r p m b. elim m [ inl e ↦ none p (subst (λ (x : Rule). BreaksOf charts x p) e b) | inr n ↦ n ]
+
+pub alone_first : (charts : List Chart) (p : Place) → IsBest number_of (BreaksOf charts) forms None → IsBest number_of (BreaksOf charts) limits None → IsBest number_of (BreaksOf charts) names None
+    → IsBest number_of (BreaksOf charts) sizes None → IsLeast (InOne IsAloneAt charts) (Some p) → IsFirst number_of (BreaksOf charts) all_groups (record { rule = Unmatched; place = p })
+alone_first charts p a b c d h = inr (a, inr (b, inr (c, inr (d, inr (columns_kept charts (built_of charts a), inl (one_best charts Unmatched (Some p) h))))))
+
+pub early_first : (charts : List Chart) (f : Broken Rule) → IsBest number_of (BreaksOf charts) forms None → IsBest number_of (BreaksOf charts) limits None → IsBest number_of (BreaksOf charts) names None
+    → IsBest number_of (BreaksOf charts) sizes None → IsLeast (InOne IsAloneAt charts) None → IsBest number_of (BreaksOf charts) inputs (Some f) → IsFirst number_of (BreaksOf charts) all_groups f
+early_first charts f a b c d h e = inr (a, inr (b, inr (c, inr (d, inr (columns_kept charts (built_of charts a), inr (messages_kept charts h, inl e))))))
+
+pub all_kept : (charts : List Chart) → IsBest number_of (BreaksOf charts) forms None → IsBest number_of (BreaksOf charts) limits None → IsBest number_of (BreaksOf charts) names None
+    → IsBest number_of (BreaksOf charts) sizes None → IsLeast (InOne IsAloneAt charts) None → IsBest number_of (BreaksOf charts) inputs None → AllKept (BreaksOf charts) all_groups
+all_kept charts a b c d h e = (a, (b, (c, (d, (columns_kept charts (built_of charts a), (messages_kept charts h, (e, tt)))))))
+
+-- ---- documents
+
+pub free : (charts : List Chart) → AllKept (BreaksOf charts) all_groups → IsFaultless (BreaksOf charts)
+free charts kept = faultless (BreaksOf charts) all_groups (in_some charts) kept
+
+pub accepted : (d : Document) (table : Table) → AllKept (BreaksOf d.charts) all_groups → AreEntriesOf instances d.charts table → IsAccepted d table
+accepted d table kept are = record { faultless = free d.charts kept; woven = are }
+
+pub has_fault : (d : Document) (f : Broken Rule) → IsFirst number_of (BreaksOf d.charts) all_groups f → HasFault d (told_as f.rule) f.place
+has_fault d f h = record { rule = f.rule; told = refl; first = first_fault number_of group_of (BreaksOf d.charts) all_groups f are_groups (in_some d.charts) h }
+
+pub only_fault : (d : Document) (rule other : Rule) (place there : Place) → HasFault d rule place → HasFault d other there → (other ≡ rule) × (there ≡ place)
+only_fault d rule other place there a b =
+    let f : Broken Rule = record { rule = a.rule; place = place } in
+    let g : Broken Rule = record { rule = b.rule; place = there } in
+    let same : f ≡ g = one_first_fault number_of group_of (Breaks d) f g (one_number d.charts) a.first b.first in
+    (b.told ∙ ap (λ (x : Broken Rule). told_as x.rule) (sym same) ∙ sym a.told, ap (λ (x : Broken Rule). x.place) (sym same))
+
+pub accepted_faultless : (d : Document) (table : Table) → IsAccepted d table → (rule : Rule) (place : Place) → HasFault d rule place → ⊥
+accepted_faultless d table a rule place f = a.faultless f.rule place f.first.broken
+
+entries_long : (charts : List Chart) (table : Table) → AreEntriesOf instances charts table → length charts ≡ length table
+entries_long [] [] h = refl
+entries_long [] (e ∷ table) h = elim h [ ]
+entries_long (c ∷ charts) [] h = elim h [ ]
+entries_long (c ∷ charts) (e ∷ table) (entry_and is others) = omega (arith, entries_long charts table others)
+
+pub few : (charts : List Chart) (entries : List code.ChartEntry) → AllKept (BreaksOf charts) all_groups → AreEntriesOf instances charts (table_view entries) → length entries ≤ CHARTS
+few charts entries kept are = elim (cases_lt CHARTS (length charts)) [
+  | inl lt ↦ let s = some_at charts CHARTS lt in absurd (free charts kept Charts s.0.place (ap (option_map (λ (c : Chart). c.place)) s.1))
+  | inr ge ↦ omega (arith, entries_long charts (table_view entries) are, length-map entries entry_view, ge)
+]

@@ -1,0 +1,17 @@
+-- The first fault of each group of rules.
+use Rattle.std.proofs.Common.{List, [], ◌∷◌, Option}
+use Rattle.msc_base.specs.Places.{IsLeast}
+use Rattle.msc_base.specs.declared.place.Place.{Place}
+use Rattle.msc_tree.specs.Charts.{Chart}
+use Rattle.msc_rules.specs.FirstFaults.{IsBest, fault_of, earlier_of}
+use Rattle.msc_rules.specs.Rules.{number_of}
+use Rattle.msc_rules.specs.declared.rule.Rule.{Rule}
+use Rattle.msc_rules.proofs.Joining.{best_of_one, best_with}
+use Rattle.msc_acceptance.specs.Acceptance.{BreaksOf}
+
+pub one_best : (charts : List Chart) (r : Rule) (a : Option Place) → IsLeast (BreaksOf charts r) a → IsBest number_of (BreaksOf charts) (r ∷ []) (fault_of r a)
+one_best charts r a h = best_of_one number_of (BreaksOf charts) r a h
+
+pub two_best : (charts : List Chart) (r s : Rule) (a b : Option Place) → IsLeast (BreaksOf charts r) a → IsLeast (BreaksOf charts s) b
+    → IsBest number_of (BreaksOf charts) (r ∷ s ∷ []) (earlier_of number_of (fault_of r a) (fault_of s b))
+two_best charts r s a b h k = best_with number_of (BreaksOf charts) (r ∷ []) s (fault_of r a) b (one_best charts r a h) k

@@ -1,0 +1,7 @@
+pub mod WalkLaws
+pub mod CountLaws
+pub mod TableLaws
+pub mod GroupLaws
+pub mod AcceptLaws
+pub mod EventLaws
+pub mod ListLaws

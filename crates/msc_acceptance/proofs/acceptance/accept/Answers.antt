@@ -1,0 +1,43 @@
+use Rattle.std.proofs.Common.{rules, ◌≡◌, List, map, ap, sym, subst, ◌∙◌}
+use Rattle.msc_tree.specs.Charts.{Chart}
+use Rattle.msc_tree.specs.Views.{chart_view, document_view}
+use Rattle.msc_acceptance.specs.Deciding.{IsDecided}
+use Rattle.msc_acceptance.specs.declared.deciding.Decision.TheVariants as decision
+use Rattle.msc_meaning.specs.Views.{table_view}
+use Rattle.msc_meaning.specs.declared.body.ChartEntry as code
+use Rattle.msc_acceptance.specs.EventCharts.{AreAlike, HaveEventsAlone}
+use Rattle.msc_acceptance.proofs.EventLaws.{kept_alike, kept_have}
+use Rattle.msc_acceptance.proofs.AcceptLaws.{few, has_fault, only_fault}
+use Rattle.msc_acceptance.proofs.acceptance.accept.Goals as goal
+
+pub of_entries-requires : goal.of_entries-requires
+of_entries-requires c =
+    let decided : IsDecided (map chart_view c.as_slice.result.now) (decision.Woven c.in-Ok-Woven.entries) = search rules in
+    few (map chart_view c.as_slice.result.now) c.in-Ok-Woven.entries.items decided.0 decided.1
+
+pub returns-in-Ok-Faulty-clause-only_fault : goal.returns-in-Ok-Faulty-clause-only_fault
+returns-in-Ok-Faulty-clause-only_fault c =
+    let d = document_view c.args.raw.now in
+    let charts : map chart_view c.as_slice.result.now ≡ d.charts = ap (map chart_view) c.as_slice.ensures.value in
+    let decided : IsDecided (map chart_view c.as_slice.result.now) (decision.Faulty c.in-Ok-Faulty.fault) = search rules in
+    let own = has_fault d c.in-Ok-Faulty.fault (subst (λ (cs : List Chart). IsDecided cs (decision.Faulty c.in-Ok-Faulty.fault)) charts decided) in
+    λ rule place e other there f.
+    let r : c.told_as.result ≡ rule = cc in
+    let p : c.in-Ok-Faulty.fault.place ≡ place = cc in
+    let o = only_fault d _ other c.in-Ok-Faulty.fault.place there own f in
+    (o.0 ∙ sym c.told_as.ensures ∙ r, o.1 ∙ p)
+
+pub returns-in-Ok-Woven-clause-only : goal.returns-in-Ok-Woven-clause-only
+returns-in-Ok-Woven-clause-only c =
+    let d = document_view c.args.raw.now in
+    let charts : map chart_view c.as_slice.result.now ≡ d.charts = ap (map chart_view) c.as_slice.ensures.value in
+    let decided : IsDecided (map chart_view c.as_slice.result.now) (decision.Woven c.in-Ok-Woven.entries) = search rules in
+    let own : IsDecided d.charts (decision.Woven c.in-Ok-Woven.entries) = subst (λ (cs : List Chart). IsDecided cs (decision.Woven c.in-Ok-Woven.entries)) charts decided in
+    let made : c.of_entries.result ≡ c.in-Ok-Woven.entries.items = search rules in
+    λ other k. subst (λ (es : List code.ChartEntry). AreAlike (table_view es) other) (sym made) (kept_alike d.charts (table_view c.in-Ok-Woven.entries.items) other own.0 own.1 k)
+
+pub returns-in-Ok-Woven-clause-events : goal.returns-in-Ok-Woven-clause-events
+returns-in-Ok-Woven-clause-events c =
+    let decided : IsDecided (map chart_view c.as_slice.result.now) (decision.Woven c.in-Ok-Woven.entries) = search rules in
+    let made : c.of_entries.result ≡ c.in-Ok-Woven.entries.items = search rules in
+    subst (λ (es : List code.ChartEntry). HaveEventsAlone (table_view es)) (sym made) (kept_have (map chart_view c.as_slice.result.now) (table_view c.in-Ok-Woven.entries.items) decided.0 decided.1)

@@ -1,0 +1,18 @@
+use Rattle.std.proofs.Common.{◌≡◌, Option, map, subst, sym, ap₂, ◌∙◌}
+use Rattle.msc_rules.specs.declared.first_fault.Broken.{Broken}
+use Rattle.msc_rules.specs.FirstFaults.{IsBest, earlier_of, fault_of}
+use Rattle.msc_rules.specs.declared.rule.Rule.{Rule}
+use Rattle.msc_rules.specs.declared.rule.Rule.TheVariants.{Charts, Instances}
+use Rattle.msc_rules.specs.Rules.{number_of}
+use Rattle.msc_acceptance.specs.Acceptance.{BreaksOf}
+use Rattle.msc_acceptance.specs.Deciding.{limits}
+use Rattle.msc_tree.specs.Views.{chart_view}
+use Rattle.msc_acceptance.proofs.GroupLaws.{two_best}
+use Rattle.msc_acceptance.proofs.deciding.limit_fault.Goals as goal
+
+pub returns : goal.returns
+returns c =
+    let charts = map chart_view c.args.charts.now in
+    let both : c.earlier_fault.result ≡ earlier_of number_of (fault_of Charts c.further_chart.result) (fault_of Instances c.in_ok-place.place) =
+    c.earlier_fault.ensures ∙ ap₂ (λ (x y : Option (Broken Rule)). earlier_of number_of x y) c.broken_at-further.ensures c.broken_at-instances.ensures in
+    subst (λ (x : Option (Broken Rule)). IsBest number_of (BreaksOf charts) limits x) (sym both) (two_best charts Charts Instances c.further_chart.result c.in_ok-place.place c.further_chart.ensures c.in_ok-place.ensures)

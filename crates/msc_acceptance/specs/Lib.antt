@@ -1,0 +1,5 @@
+pub mod Rules
+pub mod Acceptance
+pub mod Listing
+pub mod EventCharts
+pub mod Deciding

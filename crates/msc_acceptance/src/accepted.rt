@@ -1,0 +1,114 @@
+//! The charts of an accepted document, asked by name and number.
+
+ghost use Rattle.std.specs.Prelude.{◌≡◌, ◌<◌, ◌≤◌, IfOk, Some, length, map, position, slice_get};
+ghost use Rattle.msc_base.specs.declared.limits.TheConstants.Limits.{CHARTS};
+ghost use Rattle.msc_meaning.specs.Views.{entry_view};
+ghost use Rattle.msc_acceptance.specs.Listing.{is_graph_of, is_named, listed_of};
+
+use crate::listing::listed_of;
+use msc_base::{Name, NoMemory, Place};
+use msc_meaning::{ChartEntry, EntryContent};
+use msc_rules::Rule;
+use msc_tree::DeclList;
+use std::alloc::Global;
+use std::marker::Model;
+
+/// Why a document isn't accepted.
+#[derive(Clone, Copy, Debug, PartialEq, Eq)]
+pub enum DocFault {
+    /// The first rule that it breaks, and where.
+    Refused { rule: Rule, place: Place },
+    /// Memory was wanting.
+    NoMemory,
+}
+
+/// The table of an accepted document, its charts in the order of the text, numbered from 0.
+#[derive(Drop)]
+pub struct Accepted {
+    held: Vec<ChartEntry>,
+}
+
+impl Model for Accepted {
+    ghost use Rattle.std.specs.Prelude.{◌≤◌, List, length};
+    ghost use Rattle.msc_base.specs.declared.limits.TheConstants.Limits.{CHARTS};
+    ghost use Rattle.std.specs.Coded.{codes};
+    ghost use Rattle.msc_meaning.specs.contracts.body.Item as item;
+    ghost use Rattle.msc_tree.specs.contracts.expression.RefExpr as expression;
+    ghost use Rattle.msc_tree.specs.contracts.graph.RawGraph as graph;
+    ghost use Rattle.msc_meaning.specs.declared.body.ChartEntry.{ChartEntry};
+
+    ghost Value = { List ChartEntry };
+
+    ghost coded = { Prim.hlevel (codes, item.the_row.coded, graph.the_row.coded, expression.the_row.coded) };
+
+    ghost view = { λ a. a.held.items };
+
+    ghost invariant = { λ a. length a.held.items ≤ CHARTS };
+}
+
+impl Accepted {
+    /// An accepted document of these charts.
+    pub(crate) fn of_entries(held: Vec<ChartEntry>) -> Accepted
+        requires { length held.items ≤ CHARTS }
+        ensures { result ≡ held.items }
+    {
+        Accepted { held }
+    }
+
+    /// The charts, in the order of the text.
+    pub fn as_slice(&self) -> &[ChartEntry]
+        ensures { result.now ≡ self.now }
+    {
+        self.held.as_slice()
+    }
+
+    /// How many charts there are. It takes no memory.
+    pub fn charts(&self) -> u32
+        ensures count { result ≡ length self.now }
+        ensures few { length self.now ≤ CHARTS }
+    {
+        self.held.len() as u32
+    }
+
+    /// The number of the chart of that name, which no two charts have; none where no chart has it. It takes no memory.
+    pub fn chart(&self, name: &[u8]) -> Option<u32>
+        ensures { result ≡ position (λ c. is_named name.now (entry_view c)) self.now }
+    {
+        let mut number = 0;
+        for chart in self.held.as_slice() {
+            if chart.name.bytes() == name {
+                return Some(number);
+            }
+            number += 1;
+        }
+        None
+    }
+
+    /// The name of a chart. It takes no memory.
+    pub fn chart_name(&self, chart: u32) -> &Name
+        requires { chart < length self.now }
+        ensures { slice_get (map (λ c. c.name) self.now) chart ≡ Some result.now }
+    {
+        &self.held[chart as usize].name
+    }
+
+    /// Whether a chart is a high-level chart. It takes no memory.
+    pub fn is_graph(&self, chart: u32) -> bool
+        requires { chart < length self.now }
+        ensures { slice_get (map (λ c. is_graph_of (entry_view c)) self.now) chart ≡ Some result }
+    {
+        match self.held[chart as usize].content {
+            EntryContent::Basic(_) => false,
+            EntryContent::Graph(_) => true,
+        }
+    }
+
+    /// The listed instances of a chart, in the order of their first declaration; of each the chart that refines it, and neither
+    /// its kind nor its place.
+    pub fn listed(&self, alloc: Global, chart: u32) -> Result<DeclList, NoMemory>
+        requires { chart < length self.now }
+        ensures { IfOk result (λ listed. slice_get (map (λ c. listed_of (entry_view c)) self.now) chart ≡ Some listed) }
+    {
+        listed_of(alloc, &self.held[chart as usize])
+    }
+}

@@ -1,0 +1,17 @@
+//! From a document's tree to the table of its woven charts, or to the first rule on charts that it breaks.
+#![tactic(auto)]
+
+mod acceptance;
+mod accepted;
+mod counting;
+mod deciding;
+mod declaring;
+mod limits;
+mod listing;
+mod names;
+mod sizes;
+mod tables;
+mod walks;
+
+pub use acceptance::accept;
+pub use accepted::{Accepted, DocFault};
