@@ -18,6 +18,7 @@ use Rattle.msc_expand.specs.Forms.{not_built_chart}
 use Rattle.msc_expand.specs.Outlines.{outline_of}
 use Rattle.msc_expand.specs.Plain.{IsPlain}
 use Rattle.msc_expand.proofs.ChartLaws.{all_plain, same_charts}
+use Rattle.msc_expand.proofs.FewLaws.{charts_few}
 use Rattle.msc_expand.proofs.ListingLaws.{all_graphs, all_listed, few_charts, nothing_among}
 use Rattle.msc_expand.proofs.SoundLaws.{charts_sound}
 
@@ -211,7 +212,10 @@ pub accepted_only : (d : Document) (charts others : List PlainChart) → IsAccep
 accepted_only d charts others a b = same_charts (map outline_of d.charts) others charts b.charts_are a.charts_are
 
 pub accepted_plain : (d : Document) (charts : List PlainChart) → IsAccepted d charts → All IsPlain charts
-accepted_plain d charts a = all_plain (map outline_of d.charts) charts (charts_sound d.charts) a.charts_are (λ place h. a.faultless Cyclic place h)
+accepted_plain d charts a =
+    let sound = charts_sound d.charts in
+    let few = charts_few [] (map outline_of d.charts) (omega arith) sound (λ place h. a.faultless Instances place h) (λ place h. a.faultless Size place h) in
+    all_plain (map outline_of d.charts) charts sound few a.charts_are (λ place h. a.faultless Cyclic place h)
 
 pub accepted_faultless : (d : Document) (charts : List PlainChart) → IsAccepted d charts → (rule : Rule) (place : Place) → HasFault d rule place → ⊥
 accepted_faultless d charts a rule place f = a.faultless f.rule place f.first.broken

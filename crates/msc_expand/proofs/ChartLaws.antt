@@ -1,5 +1,5 @@
 -- The charts of outlines that break no rule are plain, and there is one list of them.
-use Rattle.std.proofs.Common.{◌≡◌, ℕ, ◌<◌, ◌+◌, ◌⊎◌, inl, inr, List, [], ◌∷◌, ◌++◌, map, Some, slice_get, length, zero, suc, arith, refl, sym, ap, ap₂, ◌∙◌, subst, ◌||◌, All, get_or}
+use Rattle.std.proofs.Common.{◌≡◌, ℕ, ◌<◌, ◌≤◌, ◌+◌, ◌⊎◌, inl, inr, List, [], ◌∷◌, ◌++◌, map, Some, slice_get, length, zero, suc, arith, refl, sym, ap, ap₂, ◌∙◌, subst, ◌||◌, All, get_or}
 use Rattle.std.proofs.lemmas.List.{length-map}
 use Rattle.std.proofs.lemmas.Bool.{cases_lt, cases_eq}
 use Rattle.std.proofs.lemmas.Option.{slice_get_within}
@@ -10,6 +10,7 @@ use Rattle.msc_base.specs.declared.label.Kind.TheVariants.{Output, Input}
 use Rattle.msc_base.specs.declared.label.Kind.TheVariants as kind
 use Rattle.msc_base.specs.declared.label.Far.{Far}
 use Rattle.msc_base.specs.declared.label.Far.TheVariants.{Nobody, Env, Instance}
+use Rattle.msc_base.specs.declared.limits.TheConstants.Limits.{EXPANDED_SIZE, INSTANCES}
 use Rattle.msc_base.specs.declared.place.Place.{Place}
 use Rattle.msc_tree.specs.declared.event.Direction.TheVariants.{Out, In}
 use Rattle.msc_expand.specs.declared.outline.Outline.{Outline}
@@ -140,23 +141,34 @@ all_labels names (e ∷ events) h = λ k d lt. by (h zero e (omega arith)) (all_
     by here rest zero d lt = here
     by here rest (suc k) d lt = rest k d (omega arith)
 
-plain_of : (o : Outline) (c : PlainChart) → IsSound o → IsPlainOf o c → ((place : Place) → IsEarly o.events place → ⊥) → IsPlain c
-plain_of o c sound is late = record {
+-- an outline of no more instances and events than the limits allow
+pub record IsFew (o : Outline) : Type 0 where
+  pub instances : length o.instances ≤ INSTANCES
+  pub events : length o.events ≤ EXPANDED_SIZE
+
+plain_of : (o : Outline) (c : PlainChart) → IsSound o → IsFew o → IsPlainOf o c → ((place : Place) → IsEarly o.events place → ⊥) → IsPlain c
+plain_of o c sound few is late = record {
   different = subst AreDifferent (sym is.instances_are) sound.different;
   listed = subst (λ (ls : List Label). All (λ (l : Label). IsAmong c.instances l.at) ls) (sym is.events_are)
       (subst (λ (ns : List (List ℕ)). All (λ (l : Label). IsAmong ns l.at) (labels_of o.events)) (sym is.instances_are) (all_labels o.instances o.events sound.listed));
   partners = subst (λ (ls : List Label). HavePartners ls c.partners) (sym is.events_are) (have_partners o.events c.partners is.partners_are late);
+  few_instances = subst (λ (ns : List (List ℕ)). length ns ≤ INSTANCES) (sym is.instances_are) few.instances;
+  few_events = subst (λ (ls : List Label). length ls ≤ EXPANDED_SIZE) (sym is.events_are) (omega (arith, few.events, length-map o.events (λ (e : WovenEvent). e.label)));
 }
 
 abbrev pub AreSound : List Outline → Type 0
 AreSound [] = Unit {0}
 AreSound (o ∷ os) = IsSound o × AreSound os
 
-pub all_plain : (outlines : List Outline) (charts : List PlainChart) → AreSound outlines → ArePlainOf outlines charts → ((place : Place) → HasEarly outlines place → ⊥) → All IsPlain charts
-all_plain [] [] sound are late = λ k d lt. absurd (omega arith)
-all_plain [] (c ∷ charts) sound are late = absurd are
-all_plain (o ∷ os) [] sound are late = absurd are
-all_plain (o ∷ os) (c ∷ charts) sound are late = λ k d lt. by (plain_of o c sound.0 are.0 (λ place h. late place (inl h))) (all_plain os charts sound.1 are.1 (λ place h. late place (inr h))) k d lt
+abbrev pub AreFew : List Outline → Type 0
+AreFew [] = Unit {0}
+AreFew (o ∷ os) = IsFew o × AreFew os
+
+pub all_plain : (outlines : List Outline) (charts : List PlainChart) → AreSound outlines → AreFew outlines → ArePlainOf outlines charts → ((place : Place) → HasEarly outlines place → ⊥) → All IsPlain charts
+all_plain [] [] sound few are late = λ k d lt. absurd (omega arith)
+all_plain [] (c ∷ charts) sound few are late = absurd are
+all_plain (o ∷ os) [] sound few are late = absurd are
+all_plain (o ∷ os) (c ∷ charts) sound few are late = λ k d lt. by (plain_of o c sound.0 few.0 are.0 (λ place h. late place (inl h))) (all_plain os charts sound.1 few.1 are.1 (λ place h. late place (inr h))) k d lt
   where
     by : IsPlain c → All IsPlain charts → (k : ℕ) (d : PlainChart) → k < length (c ∷ charts) → IsPlain (get_or (c ∷ charts) k d)
     by here rest zero d lt = here

@@ -4,6 +4,7 @@ pub mod ChartLaws
 pub mod Counts
 pub mod Earliest
 pub mod EdgeLaws
+pub mod FewLaws
 pub mod GroupLaws
 pub mod JoinLaws
 pub mod Keys

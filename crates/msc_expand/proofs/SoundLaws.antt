@@ -75,7 +75,7 @@ all_kept : (seen names : List (List ℕ)) (m : List ℕ) → IsAmong seen m → 
 all_kept seen [] m h = h
 all_kept seen (n ∷ names) m h = all_kept (with_name seen n) names m (one_kept seen n m h)
 
-all_added : (seen names : List (List ℕ)) (m : List ℕ) → IsAmong names m → IsAmong (with_names seen names) m
+pub all_added : (seen names : List (List ℕ)) (m : List ℕ) → IsAmong names m → IsAmong (with_names seen names) m
 all_added seen [] m h = absurd h
 all_added seen (n ∷ names) m (inl e) = all_kept (with_name seen n) names m (subst (λ (x : List ℕ). IsAmong (with_name seen n) x) (sym e) (one_added seen n))
 all_added seen (n ∷ names) m (inr h) = all_added (with_name seen n) names m h
