@@ -1,0 +1,3 @@
+pub mod RowTerms
+pub mod EventTerms
+pub mod RowLaws
