@@ -1,0 +1,234 @@
+-- What each construct of a level makes of the unfoldings of its parts, as the sets of term_meaning.
+use Rattle.std.specs.Prelude.{ℕ, List, [], ◌∷◌, ◌++◌}
+use Rattle.std.proofs.Common.{◌≡◌, ◌⊎◌, refl, sym, ◌∙◌, subst, ap, inl, inr}
+use Rattle.msc_base.specs.declared.label.Pair.{Pair}
+use Rattle.msc_base.specs.Patterns.{seq, par, empty, one, join, bind}
+use Rattle.msc_unfolding.specs.Unfoldings.{Unfolding, level_tie}
+use Rattle.chart_term.specs.TermPatterns.{Both}
+use Rattle.msc_tree.specs.declared.reference.InlineForm.{InlineForm}
+use Rattle.msc_tree.specs.declared.reference.InlineForm.TheVariants as inline
+use Rattle.msc_meaning.specs.Bodies.{EventNode, InlinePart, Body, level, Items, no_items, item_and, Item, Single, Coregion, Inline, Refer, Bodies, no_bodies, body_and}
+use Rattle.msc_meaning.specs.Tables.{Table}
+use Rattle.msc_meaning.specs.Calls.{calls, event_calls, events_calls}
+use Rattle.msc_meaning.specs.InnerEvents.{GateEnd, AreEnds, no_ends}
+use Rattle.msc_meaning.specs.FarEnds.{Around, Gates, inside, happening}
+use Rattle.msc_meaning.specs.Ties.{ties, past_inline, passing, items_joins_ties, message_ties, order_ties, before_ties, after_ties, event_ties}
+use Rattle.msc_meaning.specs.Bodies.{events}
+use Rattle.msc_meaning.specs.ChartUnfoldings.{gates_of, OfEvents, no_event, event_and, OfLevel, of_level, OfItems, no_item, item_then, exception, no_exception, OfItem, single, coregion, inline_part, OfForm, alternative, taken, left_out, parallel, OfSome, this, that, OfAll, no_operand, operand_and}
+use Rattle.term_meaning.specs.UnfoldingSets.{OnlyEmpty, OnlyEvent, AreJoined, joined, AreTied, tied, Either}
+use Rattle.level_terms.specs.MadeParts.{ArePlainItems, ArePlainNodes}
+
+pub along : (A : Unfolding → Type 0) (u v : Unfolding) → v ≡ u → A u → A v
+along A u v e a = subst A (sym e) a
+
+-- a level of plain items: nothing is called
+
+app_none : {X : Type 0} (xs ys : List X) → xs ≡ [] → ys ≡ [] → xs ++ ys ≡ []
+app_none xs ys e f = ap (λ z. z ++ ys) e ∙ f
+
+plain_events_calls : (ns : List EventNode) → ArePlainNodes ns → events_calls ns ≡ []
+plain_events_calls [] h = refl
+plain_events_calls (n ∷ ns) (h, k) = app_none (event_calls n n.event.target) (events_calls ns) h.no_calls (plain_events_calls ns k)
+
+pub plain_calls : (xs : Items) → ArePlainItems xs → calls xs ≡ []
+plain_calls no_items h = refl
+plain_calls (item_and (Single n) xs) (h, k) = app_none (event_calls n n.event.target) (calls xs) h.no_calls (plain_calls xs k)
+plain_calls (item_and (Coregion ns) xs) (h, k) = app_none (events_calls ns) (calls xs) (plain_events_calls ns h) (plain_calls xs k)
+plain_calls (item_and (Inline form part operands) xs) (h, k) = plain_calls xs k
+plain_calls (item_and (Refer part) xs) (h, k) = absurd h
+
+plain_both : (ns ms : List EventNode) → ArePlainNodes ns → ArePlainNodes ms → ArePlainNodes (ns ++ ms)
+plain_both [] ms h k = k
+plain_both (n ∷ ns) ms (h, i) k = (h, plain_both ns ms i k)
+
+plain_events : (xs : Items) → ArePlainItems xs → ArePlainNodes (events xs)
+plain_events no_items h = tt
+plain_events (item_and (Single n) xs) (h, k) = (h, plain_events xs k)
+plain_events (item_and (Coregion ns) xs) (h, k) = plain_both ns (events xs) h (plain_events xs k)
+plain_events (item_and (Inline form part operands) xs) (h, k) = plain_events xs k
+plain_events (item_and (Refer part) xs) (h, k) = absurd h
+
+plain_order : (held ns : List EventNode) → ArePlainNodes ns → order_ties held ns ≡ []
+plain_order held [] h = refl
+plain_order held (n ∷ ns) (h, k) =
+    app_none (before_ties held n.number n.event.earlier_than) (after_ties held n.number n.event.later_than ++ order_ties held ns) (ap (before_ties held n.number) h.none_earlier)
+    (app_none (after_ties held n.number n.event.later_than) (order_ties held ns) (ap (after_ties held n.number) h.none_later) (plain_order held ns k))
+
+app_nil : {X : Type 0} (xs : List X) → xs ++ [] ≡ xs
+app_nil [] = refl
+app_nil (x ∷ xs) = ap (λ l. x ∷ l) (app_nil xs)
+
+pub plain_joins : (es : List GateEnd) (xs : Items) → ArePlainItems xs → items_joins_ties es xs ≡ []
+plain_joins es no_items h = refl
+plain_joins es (item_and (Single n) xs) (h, k) = plain_joins es xs k
+plain_joins es (item_and (Coregion ns) xs) (h, k) = plain_joins es xs k
+plain_joins es (item_and (Inline form part operands) xs) (h, k) = plain_joins es xs k
+plain_joins es (item_and (Refer part) xs) (h, k) = absurd h
+
+-- its ties are those of its messages
+pub plain_ties : (xs : Items) (pairs : List Pair) → ArePlainItems xs → ties xs pairs (calls xs) [] ≡ message_ties pairs
+plain_ties xs pairs h =
+    ap (λ l. message_ties pairs ++ l) (app_none (order_ties (events xs) (events xs)) (event_ties (calls xs) ++ items_joins_ties [] xs) (plain_order (events xs) (events xs) (plain_events xs h))
+    (app_none (event_ties (calls xs)) (items_joins_ties [] xs) (ap event_ties (plain_calls xs h)) (plain_joins [] xs h)))
+    ∙ app_nil (message_ties pairs)
+
+module _ (table : Table) where
+  no_calls_ends : (held : Items) (es : List GateEnd) → AreEnds table held [] es → es ≡ []
+  no_calls_ends held _ no_ends = refl
+
+  pub plain_level : (around : Around) (cover : List (List ℕ)) (held : Items) (pairs : List Pair) → ArePlainItems held → (u : Unfolding)
+      → Both (AreTied (OfItems table (gates_of held []) around held) (level_tie (ties held pairs (calls held) [])) u) (OfLevel table around (level cover held pairs) u)
+  plain_level around cover held pairs plain u = record { to = λ h. to u h; from = λ h. from u h }
+    where
+      to : (u : Unfolding) → AreTied (OfItems table (gates_of held []) around held) (level_tie (ties held pairs (calls held) [])) u → OfLevel table around (level cover held pairs) u
+      to _ (tied w) = of_level (subst (λ cs. AreEnds table held cs []) (sym (plain_calls held plain)) no_ends) w
+
+      from : (u : Unfolding) → OfLevel table around (level cover held pairs) u → AreTied (OfItems table (gates_of held []) around held) (level_tie (ties held pairs (calls held) [])) u
+      from _ (of_level {ends = es} {u = v} k w) =
+          let P : List GateEnd → Type 0 = λ x. AreTied (OfItems table (gates_of held x) around held) (level_tie (ties held pairs (calls held) x)) (bind v (level_tie (ties held pairs (calls held) es))) in
+          subst P (no_calls_ends held es (subst (λ cs. AreEnds table held cs es) (plain_calls held plain) k)) (tied w)
+
+module _ (ends : List GateEnd) (around : Around) where
+  pub events_none : (u : Unfolding) → Both (OnlyEmpty u) (OfEvents ends around [] u)
+  events_none u = record { to = λ e. along (OfEvents ends around []) empty u e no_event; from = λ h. from u h }
+    where
+      from : (u : Unfolding) → OfEvents ends around [] u → u ≡ empty
+      from _ no_event = refl
+
+  pub events_more : (n : EventNode) (ns : List EventNode) (u : Unfolding) → Both (AreJoined par (OnlyEvent (happening ends around n)) (OfEvents ends around ns) u) (OfEvents ends around (n ∷ ns) u)
+  events_more n ns u = record { to = λ h. to u h; from = λ h. from u h }
+    where
+      to : (u : Unfolding) → AreJoined par (OnlyEvent (happening ends around n)) (OfEvents ends around ns) u → OfEvents ends around (n ∷ ns) u
+      to _ (joined {a = a} {b = b} e h) = along (λ x. OfEvents ends around (n ∷ ns) (join par x b)) (one (happening ends around n)) a e (event_and h)
+
+      from : (u : Unfolding) → OfEvents ends around (n ∷ ns) u → AreJoined par (OnlyEvent (happening ends around n)) (OfEvents ends around ns) u
+      from _ (event_and h) = joined refl h
+
+module _ (table : Table) (gates : Gates) (around : Around) where
+  pub items_none : (u : Unfolding) → Both (OnlyEmpty u) (OfItems table gates around no_items u)
+  items_none u = record { to = λ e. along (OfItems table gates around no_items) empty u e no_item; from = λ h. from u h }
+    where
+      from : (u : Unfolding) → OfItems table gates around no_items u → u ≡ empty
+      from _ no_item = refl
+
+  -- an item that is no exception
+  abbrev IsNoException : Item → Type 0
+  IsNoException (Inline form part operands) = form ≡ inline.Exc → ⊥
+  IsNoException x = Unit {0}
+
+  pub items_more : (x : Item) (xs : Items) → IsNoException x → (u : Unfolding) → Both (AreJoined seq (OfItem table gates around x) (OfItems table gates around xs) u) (OfItems table gates around (item_and x xs) u)
+  items_more x xs n u = record { to = λ h. to u h; from = λ h. from x n u h }
+    where
+      to : (u : Unfolding) → AreJoined seq (OfItem table gates around x) (OfItems table gates around xs) u → OfItems table gates around (item_and x xs) u
+      to _ (joined a b) = item_then a b
+
+      from : (x : Item) → IsNoException x → (u : Unfolding) → OfItems table gates around (item_and x xs) u → AreJoined seq (OfItem table gates around x) (OfItems table gates around xs) u
+      from x n _ (item_then a b) = joined a b
+      from _ n _ (exception h) = absurd (n refl)
+      from _ n _ (no_exception h) = absurd (n refl)
+
+  -- the same, said without looking into the item
+  pub items_unless : (x : Item) (xs : Items) → ((part : InlinePart) (operands : Bodies) → x ≡ Inline inline.Exc part operands → ⊥)
+      → (u : Unfolding) → Both (AreJoined seq (OfItem table gates around x) (OfItems table gates around xs) u) (OfItems table gates around (item_and x xs) u)
+  items_unless x xs f u = items_more x xs (none_of x f) u
+    where
+      none_of : (x : Item) → ((part : InlinePart) (operands : Bodies) → x ≡ Inline inline.Exc part operands → ⊥) → IsNoException x
+      none_of (Inline form part operands) f = λ e. f part operands (ap (λ (k : InlineForm). Inline k part operands) e)
+      none_of (Single n) f = tt
+      none_of (Coregion ns) f = tt
+      none_of (Refer part) f = tt
+
+  pub items_exception : (part : InlinePart) (operand : Body) (xs : Items) (u : Unfolding)
+      → Both (Either (AreTied (OfLevel table (inside gates part.name around) operand) (passing (past_inline gates.calls part.name))) (OfItems table gates around xs) u)
+      (OfItems table gates around (item_and (Inline inline.Exc part (body_and operand no_bodies)) xs) u)
+  items_exception part operand xs u = record { to = λ h. to u h; from = λ h. from u h }
+    where
+      from : (u : Unfolding) → OfItems table gates around (item_and (Inline inline.Exc part (body_and operand no_bodies)) xs) u
+          → AreTied (OfLevel table (inside gates part.name around) operand) (passing (past_inline gates.calls part.name)) u ⊎ OfItems table gates around xs u
+      from _ (item_then (inline_part f) b) = elim f [ ]
+      from _ (exception h) = inl (tied h)
+      from u (no_exception h) = inr h
+
+      to : (u : Unfolding) → AreTied (OfLevel table (inside gates part.name around) operand) (passing (past_inline gates.calls part.name)) u ⊎ OfItems table gates around xs u
+          → OfItems table gates around (item_and (Inline inline.Exc part (body_and operand no_bodies)) xs) u
+      to _ (inl (tied h)) = exception h
+      to u (inr h) = no_exception h
+
+  pub item_single : (n : EventNode) (u : Unfolding) → Both (OnlyEvent (happening gates.ends around n) u) (OfItem table gates around (Single n) u)
+  item_single n u = record { to = λ e. along (OfItem table gates around (Single n)) (one (happening gates.ends around n)) u e single; from = λ h. from u h }
+    where
+      from : (u : Unfolding) → OfItem table gates around (Single n) u → u ≡ one (happening gates.ends around n)
+      from _ single = refl
+
+  pub item_coregion : (ns : List EventNode) (u : Unfolding) → Both (OfEvents gates.ends around ns u) (OfItem table gates around (Coregion ns) u)
+  item_coregion ns u = record { to = λ h. coregion h; from = λ h. from u h }
+    where
+      from : (u : Unfolding) → OfItem table gates around (Coregion ns) u → OfEvents gates.ends around ns u
+      from u (coregion h) = h
+
+  pub item_inline : (form : InlineForm) (part : InlinePart) (operands : Bodies) (u : Unfolding)
+      → Both (AreTied (OfForm table (inside gates part.name around) form part operands) (passing (past_inline gates.calls part.name)) u) (OfItem table gates around (Inline form part operands) u)
+  item_inline form part operands u = record { to = λ h. to u h; from = λ h. from u h }
+    where
+      from : (u : Unfolding) → OfItem table gates around (Inline form part operands) u → AreTied (OfForm table (inside gates part.name around) form part operands) (passing (past_inline gates.calls part.name)) u
+      from _ (inline_part h) = tied h
+
+      to : (u : Unfolding) → AreTied (OfForm table (inside gates part.name around) form part operands) (passing (past_inline gates.calls part.name)) u → OfItem table gates around (Inline form part operands) u
+      to _ (tied h) = inline_part h
+
+module _ (table : Table) (around : Around) where
+  pub form_alt : (part : InlinePart) (operands : Bodies) (u : Unfolding) → Both (OfSome table around operands u) (OfForm table around inline.Alt part operands u)
+  form_alt part operands u = record { to = λ h. alternative h; from = λ h. from u h }
+    where
+      from : (u : Unfolding) → OfForm table around inline.Alt part operands u → OfSome table around operands u
+      from u (alternative h) = h
+
+  pub some_last : (operand : Body) (u : Unfolding) → Both (OfLevel table around operand u) (OfSome table around (body_and operand no_bodies) u)
+  some_last operand u = record { to = λ h. this h; from = λ h. from u h }
+    where
+      from : (u : Unfolding) → OfSome table around (body_and operand no_bodies) u → OfLevel table around operand u
+      from u (this h) = h
+      from u (that h) = elim h [ ]
+
+  pub some_more : (operand : Body) (others : Bodies) (u : Unfolding) → Both (Either (OfLevel table around operand) (OfSome table around others) u) (OfSome table around (body_and operand others) u)
+  some_more operand others u = record { to = λ h. to u h; from = λ h. from u h }
+    where
+      from : (u : Unfolding) → OfSome table around (body_and operand others) u → OfLevel table around operand u ⊎ OfSome table around others u
+      from u (this h) = inl h
+      from u (that h) = inr h
+
+      to : (u : Unfolding) → OfLevel table around operand u ⊎ OfSome table around others u → OfSome table around (body_and operand others) u
+      to u (inl h) = this h
+      to u (inr h) = that h
+
+  pub form_opt : (part : InlinePart) (operand : Body) (u : Unfolding) → Both (Either (OfLevel table around operand) OnlyEmpty u) (OfForm table around inline.Opt part (body_and operand no_bodies) u)
+  form_opt part operand u = record { to = λ h. to u h; from = λ h. from u h }
+    where
+      from : (u : Unfolding) → OfForm table around inline.Opt part (body_and operand no_bodies) u → OfLevel table around operand u ⊎ (u ≡ empty)
+      from u (taken h) = inl h
+      from _ left_out = inr refl
+
+      to : (u : Unfolding) → OfLevel table around operand u ⊎ (u ≡ empty) → OfForm table around inline.Opt part (body_and operand no_bodies) u
+      to u (inl h) = taken h
+      to u (inr e) = along (OfForm table around inline.Opt part (body_and operand no_bodies)) empty u e left_out
+
+  pub form_par : (part : InlinePart) (operands : Bodies) (u : Unfolding) → Both (OfAll table around operands u) (OfForm table around inline.Par part operands u)
+  form_par part operands u = record { to = λ h. parallel h; from = λ h. from u h }
+    where
+      from : (u : Unfolding) → OfForm table around inline.Par part operands u → OfAll table around operands u
+      from u (parallel h) = h
+
+  pub all_none : (u : Unfolding) → Both (OnlyEmpty u) (OfAll table around no_bodies u)
+  all_none u = record { to = λ e. along (OfAll table around no_bodies) empty u e no_operand; from = λ h. from u h }
+    where
+      from : (u : Unfolding) → OfAll table around no_bodies u → u ≡ empty
+      from _ no_operand = refl
+
+  pub all_more : (operand : Body) (others : Bodies) (u : Unfolding) → Both (AreJoined par (OfLevel table around operand) (OfAll table around others) u) (OfAll table around (body_and operand others) u)
+  all_more operand others u = record { to = λ h. to u h; from = λ h. from u h }
+    where
+      from : (u : Unfolding) → OfAll table around (body_and operand others) u → AreJoined par (OfLevel table around operand) (OfAll table around others) u
+      from _ (operand_and a b) = joined a b
+
+      to : (u : Unfolding) → AreJoined par (OfLevel table around operand) (OfAll table around others) u → OfAll table around (body_and operand others) u
+      to _ (joined a b) = operand_and a b

@@ -1,0 +1,110 @@
+-- Of which bodies terms are made, and how many events a body has.
+use Rattle.std.specs.List.{list_any}
+use Rattle.std.specs.Prelude.{ℕ, ◌+◌, ◌<◌, ◌≤◌, ◌≡◌, Bool, true, false, List, [], ◌∷◌, Some, None, ◌&&◌, length}
+use Rattle.std.specs.Str.{bytes_eq}
+use Rattle.msc_base.specs.declared.label.Kind.{Kind}
+use Rattle.msc_base.specs.declared.label.Kind.TheVariants.{Output, Input, OutputLost, InputFound, Action, TimerStart, TimerStop, Timeout, Create}
+use Rattle.msc_tree.specs.declared.event.RawEvent.{RawEvent}
+use Rattle.msc_tree.specs.declared.event.Target.{Target}
+use Rattle.msc_tree.specs.declared.event.Target.TheVariants.{Nobody, Env, Instance, Gate}
+use Rattle.msc_tree.specs.declared.reference.InlineForm.{InlineForm}
+use Rattle.msc_tree.specs.declared.reference.InlineForm.TheVariants as inline
+use Rattle.msc_meaning.specs.Bodies.{EventNode, Body, level, Items, no_items, item_and, Item, Single, Coregion, Inline, Refer, Bodies, no_bodies, body_and}
+
+-- no creation
+abbrev pub creates_nobody : Kind → Bool
+creates_nobody Output = true
+creates_nobody Input = true
+creates_nobody OutputLost = true
+creates_nobody InputFound = true
+creates_nobody Action = true
+creates_nobody TimerStart = true
+creates_nobody TimerStop = true
+creates_nobody Timeout = true
+creates_nobody Create = false
+
+-- no end at a gate
+abbrev pub names_no_gate : Target → Bool
+names_no_gate Nobody = true
+names_no_gate (Env None) = true
+names_no_gate (Env (Some gate)) = false
+names_no_gate (Instance name) = true
+names_no_gate (Gate name gate) = false
+
+abbrev pub is_empty : List (List ℕ) → Bool
+is_empty [] = true
+is_empty (name ∷ names) = false
+
+-- no creation, no end at a gate, no general ordering
+abbrev pub is_plain : RawEvent → Bool
+is_plain e = (creates_nobody e.kind && names_no_gate e.target) && (is_empty e.earlier_than && is_empty e.later_than)
+
+-- as many operands as the form has; loops aren't made
+abbrev pub has_operands : InlineForm → Bodies → Bool
+has_operands inline.Alt no_bodies = false
+has_operands inline.Alt (body_and operand others) = true
+has_operands inline.Opt no_bodies = false
+has_operands inline.Opt (body_and operand no_bodies) = true
+has_operands inline.Opt (body_and operand (body_and other others)) = false
+has_operands inline.Exc no_bodies = false
+has_operands inline.Exc (body_and operand no_bodies) = true
+has_operands inline.Exc (body_and operand (body_and other others)) = false
+has_operands inline.Par operands = true
+has_operands inline.Loop operands = false
+
+module _ (names : List (List ℕ)) where
+  -- a plain event at one of these instances
+  abbrev pub is_built_node : EventNode → Bool
+  is_built_node n = list_any (bytes_eq n.at) names && is_plain n.event
+
+  abbrev pub are_built_nodes : List EventNode → Bool
+  are_built_nodes [] = true
+  are_built_nodes (n ∷ ns) = is_built_node n && are_built_nodes ns
+
+  -- the body has events of that kind, coregions of them, and inline expressions but loops
+  abbrev mutual
+    pub is_built : Body → Bool
+    is_built (level cover held pairs) = are_built held
+
+    pub are_built : Items → Bool
+    are_built no_items = true
+    are_built (item_and x xs) = is_built_item x && are_built xs
+
+    pub is_built_item : Item → Bool
+    is_built_item (Single n) = is_built_node n
+    is_built_item (Coregion ns) = are_built_nodes ns
+    is_built_item (Inline form part operands) = has_operands form operands && have_built operands
+    is_built_item (Refer part) = false
+
+    pub have_built : Bodies → Bool
+    have_built no_bodies = true
+    have_built (body_and b bs) = is_built b && have_built bs
+
+-- the events of a body, of its coregions and of its inline expressions
+abbrev mutual
+  pub event_count : Body → ℕ
+  event_count (level cover held pairs) = events_count held
+
+  pub events_count : Items → ℕ
+  events_count no_items = 0
+  events_count (item_and x xs) = item_count x + events_count xs
+
+  pub item_count : Item → ℕ
+  item_count (Single n) = 1
+  item_count (Coregion ns) = length ns
+  item_count (Inline form part operands) = operands_count operands
+  item_count (Refer part) = 0
+
+  pub operands_count : Bodies → ℕ
+  operands_count no_bodies = 0
+  operands_count (body_and b bs) = event_count b + operands_count bs
+
+-- a term is made of the body: it is built, and there are numbers for its events
+pub record HasTerm (names : List (List ℕ)) (b : Body) : Type 0 where
+  pub built : is_built names b ≡ true
+  pub room : event_count b ≤ 4294967295
+
+-- it is built, and there are no numbers for so many events
+pub record IsTooLong (names : List (List ℕ)) (b : Body) : Type 0 where
+  pub built : is_built names b ≡ true
+  pub full : 4294967295 < event_count b

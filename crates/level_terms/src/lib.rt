@@ -1,0 +1,21 @@
+//! The terms of woven levels: their contracts say which unfoldings they mean.
+#![tactic(auto)]
+
+mod built;
+mod chart;
+mod events;
+mod fault;
+pub mod laws;
+mod levels;
+mod made;
+mod numbers;
+mod parts;
+mod room;
+mod ties;
+
+pub use built::is_built;
+pub use chart::{chart_of, empty_tables_are_fit};
+pub use fault::LevelFault;
+pub use levels::level_of;
+pub use made::Made;
+pub use room::room_behind;
