@@ -11,12 +11,11 @@ use Rattle.event_log.specs.declared.event.LogFault.TheVariants as fault
 use Rattle.event_log.specs.declared.event.LogForm.{LogForm}
 use Rattle.event_log.proofs.Answers.{fed_answer, fed_again, fed_is, is_fed, holds_lasting}
 use Rattle.event_log.specs.declared.event.LineEvent.{LineEvent}
-use Rattle.trace_judge.specs.Logs.{LoggedEvent}
 use Rattle.trace_judge.specs.Sets.{SetValue}
 use Rattle.trace_judge.specs.Tracks.{TrackValue}
 use Rattle.trace_judge.specs.Tracks as track
 use Rattle.trace_judge.specs.Verdicts.{IsVerdict, TellsRuns, IsLargest}
-use Rattle.trace_judge.specs.Judged.{logged, IsJudged, IsJudgeFault, IsLargestOf}
+use Rattle.trace_judge.specs.Judged.{IsJudged, IsJudgeFault, IsLargestOf}
 use Rattle.trace_judge.specs.States.{JudgeValue, HasStopped, IsFaulty, IsBehind, IsGoing, Stands, Fed, TakesLog}
 use Rattle.trace_judge.specs.Taking.{IsFollowing, TakesAll}
 use Rattle.trace_judge.proofs.Takings.{log_is}
@@ -73,23 +72,23 @@ module _ {S : Type 0} (holds : S → SetValue) (v : NetsValue) (x : Tree) (form 
 
   -- a judge without a fault has followed its track
   pub follows_at : (b : List ℕ) (j : JudgeValue S) → j.fault ≡ None → Fed holds v x form budget b j → IsFollowing holds j.nets x budget j.track
-  follows_at b j e h = let t = takes_at b j e h in record { events = logged t.events; taken = t.has.taken }
+  follows_at b j e h = let t = takes_at b j e h in record { events = t.events; taken = t.has.taken }
 
   pub takes_decided : (b : List ℕ) (s : LogState) (t : TrackValue S) → s.finished ≡ false → TakesAll holds v x form budget true b s t → IsFaultOf form true b None
   takes_decided b s t e h = fed_answer None false form b (length h.events) s h.has.faultless e h.has.fed
 
-  pub largest_is : (b : List ℕ) (j : JudgeValue S) (n : ℕ) → ((w : NetsValue) (y : Tree) (m : ℕ) (events : List LoggedEvent) → track.Fed holds w y m events j.track → IsLargest w y m events n) → j.fault ≡ None → Fed holds v x form budget b j → IsLargestOf v x form budget b n
+  pub largest_is : (b : List ℕ) (j : JudgeValue S) (n : ℕ) → ((w : NetsValue) (y : Tree) (m : ℕ) (events : List LineEvent) → track.Fed holds w y m events j.track → IsLargest w y m events n) → j.fault ≡ None → Fed holds v x form budget b j → IsLargestOf v x form budget b n
   largest_is b j n f e h =
       let g = going_at b j e h in
       let log = takes_decided b j.reader j.track g.goes_on g.takes in
       record {
         log = log;
-        largest = subst (λ (es : List LineEvent). IsLargest v x budget (logged es) n) (sym (log_is form true b g.takes.events log g.takes.has.first g.takes.all)) (f v x budget (logged g.takes.events) g.takes.has.taken);
+        largest = subst (λ (es : List LineEvent). IsLargest v x budget es n) (sym (log_is form true b g.takes.events log g.takes.has.first g.takes.all)) (f v x budget g.takes.events g.takes.has.taken);
       }
 
-  pub judged_is : (b : List ℕ) (w : NetsValue) (t : TrackValue S) (verdict : Verdict) → ((y : Tree) (m : ℕ) (events : List LoggedEvent) → track.Fed holds w y m events t → IsVerdict w y m events verdict)
-      → ((y : Tree) (m : ℕ) (events : List LoggedEvent) → track.Fed holds w y m events t → TellsRuns w y events verdict) → TakesLog holds w x form budget b t → w ≡ v → IsJudged v x form budget b verdict
-  judged_is b w t verdict f g h e = subst (λ (u : NetsValue). IsJudged u x form budget b verdict) e (record { log = h.log; verdict_is = f x budget (logged h.log.events) h.taken; runs = g x budget (logged h.log.events) h.taken })
+  pub judged_is : (b : List ℕ) (w : NetsValue) (t : TrackValue S) (verdict : Verdict) → ((y : Tree) (m : ℕ) (events : List LineEvent) → track.Fed holds w y m events t → IsVerdict w y m events verdict)
+      → ((y : Tree) (m : ℕ) (events : List LineEvent) → track.Fed holds w y m events t → TellsRuns w y events verdict) → TakesLog holds w x form budget b t → w ≡ v → IsJudged v x form budget b verdict
+  judged_is b w t verdict f g h e = subst (λ (u : NetsValue). IsJudged u x form budget b verdict) e (record { log = h.log; verdict_is = f x budget h.log.events h.taken; runs = g x budget h.log.events h.taken })
 
   pub whole_fault : (b : List ℕ) (j : JudgeValue S) (f : JudgeFault) → j.fault ≡ Some f → Fed holds v x form budget b j → IsJudgeFault form false b f
   whole_fault b j f e h = subst (λ (c : List ℕ). IsJudgeFault form false c f) (append-nil b) (behind_lasts f form b [] j.reader (fault_at b j f e h).behind)

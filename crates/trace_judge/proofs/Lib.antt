@@ -2,7 +2,8 @@ mod Prefixes
 mod Lists
 mod Lefts
 mod SetLaws
-mod RunLaws
+pub mod RunLaws
+pub mod VerdictMoves
 mod VerdictLaws
 mod TrackFacts
 mod Tracking

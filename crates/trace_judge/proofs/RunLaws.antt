@@ -3,15 +3,16 @@ use Rattle.std.specs.Prelude.{◌≡◌, ◌↔◌, Bool, IsTrue, List, [], ◌�
 use Rattle.std.proofs.Common.{subst, inl}
 use Rattle.msc_base.specs.declared.label.Label.{Label}
 use Rattle.term_tables.specs.NetValues.{NetsValue}
+use Rattle.chart_term.specs.TermPatterns.{Both}
 use Rattle.chart_term.specs.Terms.{Tree}
 use Rattle.msc_base.specs.Lists.{IsAmong}
 use Rattle.term_laws.specs.Sound.{IsSound}
 use Rattle.term_laws.proofs.FullSound.{full_soundness_is_kept}
 use Rattle.term_laws.proofs.SoundLaws.{residuals_are_exact}
 use Rattle.trace_judge.specs.Laws.{SetsTellRuns}
-use Rattle.trace_judge.specs.Logs.{LoggedEvent, labels_of, IsLeft, AreResiduals, Begins, IsRun}
+use Rattle.trace_judge.specs.Logs.{IsLeft, AreResiduals, Begins, IsRun}
 use Rattle.trace_judge.specs.Sets.{IsSoundFor, HasEnding}
-use Rattle.trace_judge.specs.Verdicts.{MayEndSo}
+use Rattle.trace_judge.specs.Verdicts.{LeavesSome, LeavesEnding}
 
 sound_of : (v : NetsValue) (x : Tree) → IsSoundFor v x → IsSound v.tables x
 sound_of v x h = full_soundness_is_kept.suffices (length v.labels) v.tables x h
@@ -22,10 +23,6 @@ left_begins v x y l h i = record {
   are = i.are;
   begins = (residuals_are_exact.begins v.tables x i.numbers (sound_of v x h)).to (record { term = y; left = i.left });
 }
-
-pub record LeavesSome (v : NetsValue) (x : Tree) (l : List Label) : Type 0 where
-  pub term : Tree
-  pub left : IsLeft v x l term
 
 pub begins_left : (v : NetsValue) (x : Tree) (l : List Label) → IsSoundFor v x → Begins v x l → LeavesSome v x l
 begins_left v x l h b = let r = (residuals_are_exact.begins v.tables x b.numbers (sound_of v x h)).from b.begins in record { term = r.term; left = record { numbers = b.numbers; are = b.are; left = r.left } }
@@ -57,19 +54,26 @@ sets_tell_runs = record {
   };
 }
 
-pub ending_run : (v : NetsValue) (x : Tree) (events : List LoggedEvent) → IsSoundFor v x → MayEndSo v x events → IsRun v x (labels_of events)
-ending_run v x events h e = record {
+pub ending_run : (v : NetsValue) (x : Tree) (l : List Label) → IsSoundFor v x → LeavesEnding v x l → IsRun v x l
+ending_run v x l h e = record {
   numbers = e.left.numbers;
   are = e.left.are;
   run = (residuals_are_exact.ends v.tables x e.left.numbers (sound_of v x h)).to (record { term = e.term; left = e.left.left; ends = e.ends });
 }
 
-pub run_ending : (v : NetsValue) (x : Tree) (events : List LoggedEvent) → IsSoundFor v x → IsRun v x (labels_of events) → MayEndSo v x events
-run_ending v x events h f = let e = (residuals_are_exact.ends v.tables x f.numbers (sound_of v x h)).from f.run in record {
+pub run_ending : (v : NetsValue) (x : Tree) (l : List Label) → IsSoundFor v x → IsRun v x l → LeavesEnding v x l
+run_ending v x l h f = let e = (residuals_are_exact.ends v.tables x f.numbers (sound_of v x h)).from f.run in record {
   term = e.term;
   left = record { numbers = f.numbers; are = f.are; left = e.left };
   ends = e.ends;
 }
+
+-- something is left exactly where a run of the term begins so, and something that may end exactly where the labels are a run
+pub left_exact : (v : NetsValue) (x : Tree) → IsSoundFor v x → (l : List Label) → Both (LeavesSome v x l) (Begins v x l)
+left_exact v x h l = record { to = λ i. left_begins v x i.term l h i.left; from = begins_left v x l h }
+
+pub ending_exact : (v : NetsValue) (x : Tree) → IsSoundFor v x → (l : List Label) → Both (LeavesEnding v x l) (IsRun v x l)
+ending_exact v x h l = record { to = ending_run v x l h; from = run_ending v x l h }
 
 -- what tests of a set tell
 pub tells_empty : (v : NetsValue) (x : Tree) (l : List Label) (set : List Tree) (b : Bool) → (IsTrue b ↔ (set ≡ [])) → IsSoundFor v x → AreResiduals v x l set → IsTrue b ↔ (Begins v x l → ⊥)

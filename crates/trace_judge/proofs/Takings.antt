@@ -11,19 +11,13 @@ use Rattle.event_log.specs.declared.event.LineEvent.{LineEvent}
 use Rattle.event_log.specs.declared.event.LogFault.{LogFault}
 use Rattle.event_log.specs.declared.event.LogFault.TheVariants as fault
 use Rattle.event_log.specs.declared.event.LogForm.{LogForm}
-use Rattle.trace_judge.specs.Logs.{LoggedEvent}
 use Rattle.trace_judge.specs.Sets.{SetValue}
 use Rattle.trace_judge.specs.Tracks.{TrackValue}
 use Rattle.trace_judge.specs.Tracks as track
 use Rattle.trace_judge.specs.Faults.{judge_fault}
-use Rattle.trace_judge.specs.Judged.{logged, IsJudgeFault}
+use Rattle.trace_judge.specs.Judged.{IsJudgeFault}
 use Rattle.trace_judge.specs.States.{IsBehind, TakesLog}
 use Rattle.trace_judge.specs.Taking.{HoldsFirst, IsFollowing, TakesSome, TakesAll}
-
--- the events of a log with one more at its end
-logged_more : (es : List LineEvent) (e : LineEvent) → logged (es ++ e ∷ []) ≡ logged es ++ record { label = e.label; line = e.line } ∷ []
-logged_more [] e = refl
-logged_more (d ∷ es) e = ap (λ (l : List LoggedEvent). record { label = d.label; line = d.line } ∷ l) (logged_more es e)
 
 -- an element of a list with one more at its end
 at_end : (es : List LineEvent) (x : LineEvent) (n : ℕ) (e : LineEvent) → slice_get (es ++ x ∷ []) n ≡ Some e → (slice_get es n ≡ Some e) ⊎ ((n ≡ length es) × (e ≡ x))
@@ -63,14 +57,14 @@ no_want x is want = no (sym is ∙ want)
 module _ {S : Type 0} (holds : S → SetValue) (v : NetsValue) (x : Tree) (form : LogForm) (budget : ℕ) where
   -- one more event has been taken
   pub event_taken : (g : Bool) (b : List ℕ) (s u : LogState) (t w : TrackValue S) (e : LineEvent) → ((n : ℕ) → reader.Fed form b n s → reader.Fed form b (n + 1) u) → ((n : ℕ) → reader.Fed form b n s → Only (HoldsEvent form g b n) e) → u.fault ≡ s.fault
-      → ((events : List LoggedEvent) → track.Fed holds v x budget events t → track.Fed holds v x budget (events ++ record { label = e.label; line = e.line } ∷ []) w) → TakesSome holds v x form budget g b s t → TakesSome holds v x form budget g b u w
+      → ((events : List LineEvent) → track.Fed holds v x budget events t → track.Fed holds v x budget (events ++ e ∷ []) w) → TakesSome holds v x form budget g b s t → TakesSome holds v x form budget g b u w
   event_taken g b s u t w e feeds holds_it same takes h = record {
     events = h.events ++ e ∷ [];
     has = record {
       fed = subst (λ (n : ℕ). reader.Fed form b n u) (sym (length-append h.events (e ∷ []))) (feeds (length h.events) h.has.fed);
       first = λ n d at. first_of n d (at_end h.events e n d at);
       faultless = same ∙ h.has.faultless;
-      taken = subst (λ (es : List LoggedEvent). track.Fed holds v x budget es w) (sym (logged_more h.events e)) (takes (logged h.events) h.has.taken);
+      taken = takes h.events h.has.taken;
     };
   }
     where
@@ -98,11 +92,11 @@ module _ {S : Type 0} (holds : S → SetValue) (v : NetsValue) (x : Tree) (form 
   pub log_taken : (b : List ℕ) (s u : LogState) (t w : TrackValue S) → ((n : ℕ) → reader.Fed form b n s → IsFaultOf form false b None) → TakesAll holds v x form budget true b s t → TakesAll holds v x form budget false b u w → TakesLog holds v x form budget b w
   log_taken b s u t w decided h k =
       let log = decided (length h.events) h.has.fed in
-      record { log = log; taken = subst (λ (es : List LineEvent). track.Fed holds v x budget (logged es) w) (sym (log_is form false b k.events log k.has.first k.all)) k.has.taken }
+      record { log = log; taken = subst (λ (es : List LineEvent). track.Fed holds v x budget es w) (sym (log_is form false b k.events log k.has.first k.all)) k.has.taken }
 
 -- a track goes on following, whether it took an event or not
-pub follows_on : {S T E : Type 0} (holds : S → SetValue) (v : NetsValue) (x : Tree) (budget : ℕ) (old new : TrackValue S) (at : LoggedEvent) (r : Result T E) → ((events : List LoggedEvent) → track.Fed holds v x budget events old → OnOk r (track.Fed holds v x budget (events ++ at ∷ []) new))
-    → ((events : List LoggedEvent) → track.Fed holds v x budget events old → OnErr r (track.Fed holds v x budget events new)) → IsFollowing holds v x budget old → IsFollowing holds v x budget new
+pub follows_on : {S T E : Type 0} (holds : S → SetValue) (v : NetsValue) (x : Tree) (budget : ℕ) (old new : TrackValue S) (at : LineEvent) (r : Result T E) → ((events : List LineEvent) → track.Fed holds v x budget events old → OnOk r (track.Fed holds v x budget (events ++ at ∷ []) new))
+    → ((events : List LineEvent) → track.Fed holds v x budget events old → OnErr r (track.Fed holds v x budget events new)) → IsFollowing holds v x budget old → IsFollowing holds v x budget new
 follows_on holds v x budget old new at (Ok t) takes stays h = record { events = h.events ++ at ∷ []; taken = takes h.events h.taken }
 follows_on holds v x budget old new at (Err e) takes stays h = record { events = h.events; taken = stays h.events h.taken }
 

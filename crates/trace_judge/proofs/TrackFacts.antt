@@ -9,7 +9,8 @@ use Rattle.term_tables.specs.NetValues.{NetsValue}
 use Rattle.chart_term.specs.Terms.{Tree, weight}
 use Rattle.term_laws.specs.Listing.{set_weight}
 use Rattle.msc_base.specs.Lists.{IsAmong}
-use Rattle.trace_judge.specs.Logs.{LoggedEvent, labels_of, AreResiduals, IsWithin, IsAbove}
+use Rattle.event_log.specs.declared.event.LineEvent.{LineEvent}
+use Rattle.trace_judge.specs.Logs.{labels_of, AreResiduals, IsWithin, IsAbove}
 use Rattle.trace_judge.specs.Sets.{SetValue, IsSoundFor, IsNextSet, PassBudget, HasEnding}
 use Rattle.trace_judge.specs.Verdicts.{AreWithin, HasLeft, IsVerdict, Weighs, IsReached, by_front, by_none, IsLargest}
 use Rattle.trace_judge.specs.Tracks.{TrackValue, IsGoing, IsSettled, Stands, Fed}
@@ -20,23 +21,23 @@ use Rattle.trace_judge.proofs.Prefixes.{IsCutAt, whole, within, cut_at, ends_emp
 use Rattle.trace_judge.proofs.SetLaws.{set_start, set_step, set_weighs}
 use Rattle.trace_judge.proofs.VerdictLaws.{front_left, not_both}
 
-nothing_in_front : (f : List LoggedEvent) (b : List LoggedEvent) → [] ≡ f ++ b → f ≡ []
+nothing_in_front : (f : List LineEvent) (b : List LineEvent) → [] ≡ f ++ b → f ≡ []
 nothing_in_front [] b e = refl
 nothing_in_front (x ∷ f) b e = cc
 
-no_event : (f : List LoggedEvent) (e : LoggedEvent) (b : List LoggedEvent) → [] ≡ f ++ e ∷ b → ⊥
+no_event : (f : List LineEvent) (e : LineEvent) (b : List LineEvent) → [] ≡ f ++ e ∷ b → ⊥
 no_event [] e b q = cc
 no_event (x ∷ f) e b q = cc
 
 module _ (v : NetsValue) (x : Tree) (budget : ℕ) where
   -- before the first event
   start_within : weight x ≤ budget → AreWithin v x budget []
-  start_within l f b e = subst (λ (g : List LoggedEvent). IsWithin v x budget (labels_of g)) (sym (nothing_in_front f b e)) (record { set = x ∷ []; are = set_start v x; within = omega arith })
+  start_within l f b e = subst (λ (g : List LineEvent). IsWithin v x budget (labels_of g)) (sym (nothing_in_front f b e)) (record { set = x ∷ []; are = set_start v x; within = omega arith })
 
   start_largest : (n : ℕ) → weight x ≤ budget → n ≡ weight x → IsLargest v x budget [] n
   start_largest n l e = record {
     reached = by_front [] [] refl (record { within = start_within l; set = x ∷ []; are = set_start v x; is = omega arith });
-    bound = λ f b m q w. let d : f ≡ [] = nothing_in_front f b q in let s = set_weighs v x [] w.set (x ∷ []) (subst (λ (g : List LoggedEvent). AreResiduals v x (labels_of g) w.set) d w.are) (set_start v x) in omega (arith, w.is, s);
+    bound = λ f b m q w. let d : f ≡ [] = nothing_in_front f b q in let s = set_weighs v x [] w.set (x ∷ []) (subst (λ (g : List LineEvent). AreResiduals v x (labels_of g) w.set) d w.are) (set_start v x) in omega (arith, w.is, s);
   }
 
   start_above : budget < weight x → IsAbove v x budget []
@@ -48,29 +49,31 @@ module _ (v : NetsValue) (x : Tree) (budget : ℕ) where
     bound = λ f b m q w. absurd (not_both v x budget [] (w.within [] f refl) (start_above l));
   }
 
-  module _ (events : List LoggedEvent) (e : LoggedEvent) where
+  module _ (events : List LineEvent) (e : LineEvent) where
     labels_more : labels_of (events ++ e ∷ []) ≡ labels_of events ++ e.label ∷ []
-    labels_more = map_more (λ (d : LoggedEvent). d.label) events (e ∷ [])
+    labels_more = map_more (λ (d : LineEvent). d.label) events (e ∷ [])
 
     -- a settled verdict lasts
     lasts : (verdict : Verdict) → IsSettled v x budget events verdict → IsSettled v x budget (events ++ e ∷ []) verdict
     lasts (Conforms n) h = h
     lasts (Fails n k) h = record {
-      prefix = h.prefix;
-      at = h.at;
-      back = h.back ++ e ∷ [];
-      are = ap (λ (l : List LoggedEvent). l ++ e ∷ []) h.are ∙ append_assoc h.prefix (h.at ∷ h.back) (e ∷ []);
-      number_is = h.number_is;
-      line_is = h.line_is;
+      ends = record {
+        prefix = h.ends.prefix;
+        at = h.ends.at;
+        back = h.ends.back ++ e ∷ [];
+        are = ap (λ (l : List LineEvent). l ++ e ∷ []) h.ends.are ∙ append_assoc h.ends.prefix (h.ends.at ∷ h.ends.back) (e ∷ []);
+        number_is = h.ends.number_is;
+        line_is = h.ends.line_is;
+        begins = h.ends.begins;
+        hopeless = h.ends.hopeless;
+      };
       within = h.within;
-      left = h.left;
-      nothing = h.nothing;
     }
     lasts (Early n) h = h
     lasts (TooLarge n) h = record {
       prefix = h.prefix;
       back = h.back ++ e ∷ [];
-      are = ap (λ (l : List LoggedEvent). l ++ e ∷ []) h.are ∙ append_assoc h.prefix h.back (e ∷ []);
+      are = ap (λ (l : List LineEvent). l ++ e ∷ []) h.are ∙ append_assoc h.prefix h.back (e ∷ []);
       number_is = h.number_is;
       within = h.within;
       above = h.above;
@@ -81,11 +84,11 @@ module _ (v : NetsValue) (x : Tree) (budget : ℕ) where
     largest_lasts n h f = record { reached = reach h.reached; bound = λ prefix back m q w. bound prefix back m w (cut_at events e prefix back q) }
       where
         reach : IsReached v x budget events n → IsReached v x budget (events ++ e ∷ []) n
-        reach (by_front prefix back q w) = by_front prefix (back ++ e ∷ []) (ap (λ (l : List LoggedEvent). l ++ e ∷ []) q ∙ append_assoc prefix back (e ∷ [])) w
+        reach (by_front prefix back q w) = by_front prefix (back ++ e ∷ []) (ap (λ (l : List LineEvent). l ++ e ∷ []) q ∙ append_assoc prefix back (e ∷ [])) w
         reach (by_none a z) = by_none a z
 
-        bound : (prefix back : List LoggedEvent) (m : ℕ) → Weighs v x budget prefix m → IsCutAt events e prefix back → m ≤ n
-        bound prefix back m w (whole q r) = f m (subst (λ (g : List LoggedEvent). Weighs v x budget g m) q w)
+        bound : (prefix back : List LineEvent) (m : ℕ) → Weighs v x budget prefix m → IsCutAt events e prefix back → m ≤ n
+        bound prefix back m w (whole q r) = f m (subst (λ (g : List LineEvent). Weighs v x budget g m) q w)
         bound prefix back m w (within rest q r) = h.bound prefix rest m q w
 
     -- one event more
@@ -93,7 +96,7 @@ module _ (v : NetsValue) (x : Tree) (budget : ℕ) where
     within_more h i prefix back q = go (cut_at events e prefix back q)
       where
         go : IsCutAt events e prefix back → IsWithin v x budget (labels_of prefix)
-        go (whole p r) = subst (λ (g : List LoggedEvent). IsWithin v x budget (labels_of g)) (sym p) i
+        go (whole p r) = subst (λ (g : List LineEvent). IsWithin v x budget (labels_of g)) (sym p) i
         go (within rest p r) = h prefix rest p
 
     largest_rises : (n m : ℕ) → IsLargest v x budget events n → Weighs v x budget (events ++ e ∷ []) m → IsLargest v x budget (events ++ e ∷ []) (max n m)
@@ -106,12 +109,12 @@ module _ (v : NetsValue) (x : Tree) (budget : ℕ) where
         reach r = elim which [ inl p ↦ old p r | inr p ↦ by_front (events ++ e ∷ []) [] (sym (ends_empty (events ++ e ∷ []))) (record { within = w.within; set = w.set; are = w.are; is = p ∙ w.is }) ]
           where
             old : max n m ≡ n → IsReached v x budget events n → IsReached v x budget (events ++ e ∷ []) (max n m)
-            old p (by_front prefix back q u) = by_front prefix (back ++ e ∷ []) (ap (λ (l : List LoggedEvent). l ++ e ∷ []) q ∙ append_assoc prefix back (e ∷ [])) (record { within = u.within; set = u.set; are = u.are; is = p ∙ u.is })
+            old p (by_front prefix back q u) = by_front prefix (back ++ e ∷ []) (ap (λ (l : List LineEvent). l ++ e ∷ []) q ∙ append_assoc prefix back (e ∷ [])) (record { within = u.within; set = u.set; are = u.are; is = p ∙ u.is })
             old p (by_none a z) = by_none a (p ∙ z)
 
-        bound : (prefix back : List LoggedEvent) (k : ℕ) → Weighs v x budget prefix k → IsCutAt events e prefix back → k ≤ max n m
+        bound : (prefix back : List LineEvent) (k : ℕ) → Weighs v x budget prefix k → IsCutAt events e prefix back → k ≤ max n m
         bound prefix back k u (whole q r) =
-            let s = set_weighs v x (labels_of (events ++ e ∷ [])) u.set w.set (subst (λ (g : List LoggedEvent). AreResiduals v x (labels_of g) u.set) q u.are) w.are in
+            let s = set_weighs v x (labels_of (events ++ e ∷ [])) u.set w.set (subst (λ (g : List LineEvent). AreResiduals v x (labels_of g) u.set) q u.are) w.are in
             omega (arith, u.is, w.is, s)
         bound prefix back k u (within rest q r) = omega (arith, h.bound prefix rest k q u)
 
@@ -122,21 +125,21 @@ module _ (v : NetsValue) (x : Tree) (budget : ℕ) where
       where
         gone : HasLeft v x (events ++ e ∷ []) → ⊥
         gone i =
-            let q : events ++ e ∷ [] ≡ (s.prefix ++ s.at ∷ []) ++ (s.back ++ e ∷ []) = ap (λ (l : List LoggedEvent). l ++ e ∷ []) (s.are ∙ sym (append_assoc s.prefix (s.at ∷ []) s.back)) ∙ append_assoc (s.prefix ++ s.at ∷ []) s.back (e ∷ []) in
-            s.nothing (front_left v x (s.prefix ++ s.at ∷ []) (s.back ++ e ∷ []) (subst (HasLeft v x) q i))
+            let q : events ++ e ∷ [] ≡ (s.ends.prefix ++ s.ends.at ∷ []) ++ (s.ends.back ++ e ∷ []) = ap (λ (l : List LineEvent). l ++ e ∷ []) (s.ends.are ∙ sym (append_assoc s.ends.prefix (s.ends.at ∷ []) s.ends.back)) ∙ append_assoc (s.ends.prefix ++ s.ends.at ∷ []) s.ends.back (e ∷ []) in
+            s.ends.hopeless (front_left v x (s.ends.prefix ++ s.ends.at ∷ []) (s.ends.back ++ e ∷ []) (subst (HasLeft v x) q i))
 
         nothing : (m : ℕ) (w : Weighs v x budget (events ++ e ∷ []) m) (set : List Tree) → AreResiduals v x (labels_of (events ++ e ∷ [])) set → w.set ≡ set → m ≤ n
         nothing m w [] r q = let z : set_weight w.set ≡ 0 = ap set_weight q in omega (arith, w.is)
         nothing m w (y ∷ ys) r q = absurd (gone (record { term = y; left = (r.exact y).to (inl refl) }))
     settled_largest n (Early k) s h = absurd s
-    settled_largest n (TooLarge k) s h = largest_lasts n h (λ m w. absurd (not_both v x budget (labels_of s.prefix) (w.within s.prefix (s.back ++ e ∷ []) (ap (λ (l : List LoggedEvent). l ++ e ∷ []) s.are ∙ append_assoc s.prefix s.back (e ∷ []))) s.above))
+    settled_largest n (TooLarge k) s h = largest_lasts n h (λ m w. absurd (not_both v x budget (labels_of s.prefix) (w.within s.prefix (s.back ++ e ∷ []) (ap (λ (l : List LineEvent). l ++ e ∷ []) s.are ∙ append_assoc s.prefix s.back (e ∷ []))) s.above))
 
   -- what the events leave
-  set_left : (events : List LoggedEvent) (set : List Tree) → AreResiduals v x (labels_of events) set → (set ≡ [] → ⊥) → HasLeft v x events
+  set_left : (events : List LineEvent) (set : List Tree) → AreResiduals v x (labels_of events) set → (set ≡ [] → ⊥) → HasLeft v x events
   set_left events [] r f = absurd (f refl)
   set_left events (y ∷ ys) r f = record { term = y; left = (r.exact y).to (inl refl) }
 
-  set_gone : (events : List LoggedEvent) (set : List Tree) → AreResiduals v x (labels_of events) set → set ≡ [] → HasLeft v x events → ⊥
+  set_gone : (events : List LineEvent) (set : List Tree) → AreResiduals v x (labels_of events) set → set ≡ [] → HasLeft v x events → ⊥
   set_gone events set r e h = subst (λ (s : List Tree). IsAmong s h.term) e ((r.exact h.term).from h.left)
 
 module _ {S : Type 0} (holds : S → SetValue) (v : NetsValue) (x : Tree) (budget : ℕ) where
@@ -162,12 +165,12 @@ module _ {S : Type 0} (holds : S → SetValue) (v : NetsValue) (x : Tree) (budge
     largest = above_largest v x budget l;
   })
 
-  going_of : (events : List LoggedEvent) (set : Option S) (ended : Option Verdict) (s : S) → set ≡ Some s → ended ≡ None → Stands holds v x budget events set ended → IsGoing v x budget events (holds s)
+  going_of : (events : List LineEvent) (set : Option S) (ended : Option Verdict) (s : S) → set ≡ Some s → ended ≡ None → Stands holds v x budget events set ended → IsGoing v x budget events (holds s)
   going_of events None ended s p q h = cc
   going_of events (Some t) None s p q h = let r : t ≡ s = cc in subst (λ (u : S). IsGoing v x budget events (holds u)) r h
   going_of events (Some t) (Some w) s p q h = cc
 
-  module _ (events : List LoggedEvent) (e : LoggedEvent) where
+  module _ (events : List LineEvent) (e : LineEvent) where
     counted : (t : TrackValue S) (n : ℕ) → Fed holds v x budget events t → n ≡ t.events + 1 → n ≡ length (events ++ e ∷ [])
     counted t n f q = omega (arith, q, f.count, length-append events (e ∷ []))
 
@@ -214,15 +217,17 @@ module _ {S : Type 0} (holds : S → SetValue) (v : NetsValue) (x : Tree) (budge
         stand : (o : Outcome) → Advances v e.label (holds s) (holds t) o → Stands holds v x budget (events ++ e ∷ []) (Some t) (settled o (old.events + 1) e.line)
         stand (Goes n) h = record { small = h.0.stays_small; budget_is = h.0.same_budget ∙ g.budget_is; are = next_are (holds s) (holds t) g h.0; some = h.1.0; within = next_within (holds s) (holds t) g h.0 }
         stand Empties h = record {
-          prefix = events;
-          at = e;
-          back = [];
-          are = refl;
-          number_is = ap (λ (n : ℕ). n + 1) f.count;
-          line_is = refl;
+          ends = record {
+            prefix = events;
+            at = e;
+            back = [];
+            are = refl;
+            number_is = ap (λ (n : ℕ). n + 1) f.count;
+            line_is = refl;
+            begins = set_left v x budget events (holds s).terms g.are g.some;
+            hopeless = set_gone v x budget (events ++ e ∷ []) (holds t).terms (next_are (holds s) (holds t) g h.0) h.1;
+          };
           within = g.within;
-          left = set_left v x budget events (holds s).terms g.are g.some;
-          nothing = set_gone v x budget (events ++ e ∷ []) (holds t).terms (next_are (holds s) (holds t) g h.0) h.1;
         }
         stand Passes h = record {
           prefix = events ++ e ∷ [];
@@ -233,7 +238,7 @@ module _ {S : Type 0} (holds : S → SetValue) (v : NetsValue) (x : Tree) (budge
           above = passed h.why;
         }
           where
-            before : (prefix : List LoggedEvent) (at : LoggedEvent) (back : List LoggedEvent) → IsCutAt events e prefix (at ∷ back) → IsWithin v x budget (labels_of prefix)
+            before : (prefix : List LineEvent) (at : LineEvent) (back : List LineEvent) → IsCutAt events e prefix (at ∷ back) → IsWithin v x budget (labels_of prefix)
             before prefix at back (whole z y) = cc
             before prefix at back (within rest z y) = g.within prefix rest z
 
@@ -254,7 +259,7 @@ module _ {S : Type 0} (holds : S → SetValue) (v : NetsValue) (x : Tree) (budge
         large Passes h = largest_lasts v x budget events e old.largest f.largest (λ m w. absurd (not_both v x budget (labels_of (events ++ e ∷ [])) (w.within (events ++ e ∷ []) [] (sym (ends_empty (events ++ e ∷ [])))) (stand Passes h).above))
 
   -- the verdict
-  pub verdict_settled : (events : List LoggedEvent) (t : TrackValue S) (verdict : Verdict) → Fed holds v x budget events t → t.ended ≡ Some verdict → IsVerdict v x budget events verdict
+  pub verdict_settled : (events : List LineEvent) (t : TrackValue S) (verdict : Verdict) → Fed holds v x budget events t → t.ended ≡ Some verdict → IsVerdict v x budget events verdict
   verdict_settled events t verdict f q = go t.set t.ended q f.stands
     where
       as_verdict : (w : Verdict) → IsSettled v x budget events w → IsVerdict v x budget events w
@@ -268,24 +273,24 @@ module _ {S : Type 0} (holds : S → SetValue) (v : NetsValue) (x : Tree) (budge
       go None (Some w) q h = let p : w ≡ verdict = cc in subst (IsVerdict v x budget events) p (as_verdict w h)
       go (Some s) (Some w) q h = let p : w ≡ verdict = cc in subst (IsVerdict v x budget events) p (as_verdict w h)
 
-  pub verdict_conforms : (events : List LoggedEvent) (t : TrackValue S) (s : S) → Fed holds v x budget events t → t.ended ≡ None → t.set ≡ Some s → HasEnding v (holds s).terms → IsVerdict v x budget events (Conforms t.events)
+  pub verdict_conforms : (events : List LineEvent) (t : TrackValue S) (s : S) → Fed holds v x budget events t → t.ended ≡ None → t.set ≡ Some s → HasEnding v (holds s).terms → IsVerdict v x budget events (Conforms t.events)
   verdict_conforms events t s f q p h =
       let g = going_of events t.set t.ended s p q f.stands in
       (f.count, g.within, record { term = h.term; left = (g.are.exact h.term).to h.held; ends = h.ends })
 
-  pub verdict_early : (events : List LoggedEvent) (t : TrackValue S) (s : S) → Fed holds v x budget events t → t.ended ≡ None → t.set ≡ Some s → (HasEnding v (holds s).terms → ⊥) → IsVerdict v x budget events (Early t.events)
+  pub verdict_early : (events : List LineEvent) (t : TrackValue S) (s : S) → Fed holds v x budget events t → t.ended ≡ None → t.set ≡ Some s → (HasEnding v (holds s).terms → ⊥) → IsVerdict v x budget events (Early t.events)
   verdict_early events t s f q p h =
       let g = going_of events t.set t.ended s p q f.stands in (
         f.count,
         g.within,
         record {
-          left = set_left v x budget events (holds s).terms g.are g.some;
+          begins = set_left v x budget events (holds s).terms g.are g.some;
           unfinished = λ e. h (record { term = e.term; held = (g.are.exact e.term).from e.left; ends = e.ends });
         },
       )
 
   -- without a set a verdict is settled
-  pub none_settled : (events : List LoggedEvent) (t : TrackValue S) → Fed holds v x budget events t → t.ended ≡ None → t.set ≡ None → ⊥
+  pub none_settled : (events : List LineEvent) (t : TrackValue S) → Fed holds v x budget events t → t.ended ≡ None → t.set ≡ None → ⊥
   none_settled events t f q p = go t.set t.ended p q f.stands
     where
       go : (set : Option S) (ended : Option Verdict) → set ≡ None → ended ≡ None → Stands holds v x budget events set ended → ⊥

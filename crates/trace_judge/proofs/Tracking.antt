@@ -5,17 +5,17 @@ use Rattle.std.proofs.lemmas.Result.{IfOk-weaker}
 use Rattle.msc_base.specs.declared.label.Label.{Label}
 use Rattle.msc_base.specs.declared.verdict.Verdict.{Verdict}
 use Rattle.msc_base.specs.declared.verdict.Verdict.TheVariants.{Conforms, Fails, Early, TooLarge}
+use Rattle.event_log.specs.declared.event.LineEvent.{LineEvent}
 use Rattle.term_tables.specs.NetValues.{NetsValue}
 use Rattle.chart_term.specs.Terms.{Tree}
 use Rattle.trace_judge.specs.Advances.{FollowsOpen, IsOpenVerdict}
-use Rattle.trace_judge.specs.Logs.{LoggedEvent}
 use Rattle.trace_judge.specs.Sets.{SetValue}
 use Rattle.trace_judge.specs.Tracks.{TrackValue, AreSame, Fed, IsGoing, IsSame, Stands}
 use Rattle.trace_judge.specs.Verdicts.{IsLargest, IsVerdict, TellsRuns}
 use Rattle.trace_judge.proofs.TrackFacts.{take_settled, take_going, verdict_settled, verdict_conforms, verdict_early, none_settled}
 use Rattle.trace_judge.proofs.VerdictLaws.{tells_runs}
 
-module _ {S : Type 0} (holds : S → SetValue) (v : NetsValue) (x : Tree) (budget : ℕ) (events : List LoggedEvent) where
+module _ {S : Type 0} (holds : S → SetValue) (v : NetsValue) (x : Tree) (budget : ℕ) (events : List LineEvent) where
   pub take_fed : (a : Label) (line : ℕ) (old mid new : TrackValue S) → FollowsOpen holds v a line old.ended old mid → new ≡ record mid { events = mid.events + 1 }
       → Fed holds v x budget events old → Fed holds v x budget (events ++ record { label = a; line = line } ∷ []) new
   take_fed a line old mid new h q f = go old.ended old.set refl refl h
@@ -48,7 +48,7 @@ module _ {S : Type 0} (holds : S → SetValue) (v : NetsValue) (x : Tree) (budge
   settled_tells t verdict p f = tells_runs v x budget events verdict f.sound (settled_is t verdict p f)
 
 -- after want of memory a track stays as it was
-module _ {S : Type 0} (holds : S → SetValue) (v : NetsValue) (x : Tree) (budget : ℕ) (events : List LoggedEvent) where
+module _ {S : Type 0} (holds : S → SetValue) (v : NetsValue) (x : Tree) (budget : ℕ) (events : List LineEvent) where
   stands_same : (a b : Option S) (p : Option Verdict) → AreSame holds a b → Stands holds v x budget events a p → Stands holds v x budget events b p
   stands_same None None None s h = absurd h
   stands_same None None (Some w) s h = h

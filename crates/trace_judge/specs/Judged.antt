@@ -1,26 +1,20 @@
 -- What a log's bytes are for a term: a verdict on the log's events, or the log's first fault.
-use Rattle.std.specs.Prelude.{ℕ, Bool, true, false, List, Option, Some, None, Result, Ok, Err, map}
+use Rattle.std.specs.Prelude.{ℕ, Bool, true, false, List, Option, Some, None, Result, Ok, Err}
 use Rattle.msc_base.specs.declared.verdict.Verdict.{Verdict}
 use Rattle.term_tables.specs.NetValues.{NetsValue}
 use Rattle.chart_term.specs.Terms.{Tree}
 use Rattle.event_log.specs.Faults.{IsFault}
 use Rattle.event_log.specs.States.{IsFaultOf}
-use Rattle.event_log.specs.declared.event.LineEvent.{LineEvent}
 use Rattle.event_log.specs.declared.event.LogForm.{LogForm}
-use Rattle.trace_judge.specs.Logs.{LoggedEvent}
 use Rattle.trace_judge.specs.Verdicts.{IsVerdict, TellsRuns, IsLargest}
 use Rattle.trace_judge.specs.declared.fault.JudgeFault.{JudgeFault}
 use Rattle.trace_judge.specs.declared.fault.JudgeFault.TheVariants.{Log, NoMemory}
 
--- the events of a log as a track takes them
-abbrev pub logged : List LineEvent → List LoggedEvent
-logged events = map (λ (e : LineEvent). record { label = e.label; line = e.line }) events
-
 -- the bytes are a log, and this is the verdict on its events
 pub record IsJudged (v : NetsValue) (x : Tree) (form : LogForm) (budget : ℕ) (bytes : List ℕ) (verdict : Verdict) : Type 0 where
   pub log : IsFaultOf form false bytes None
-  pub verdict_is : IsVerdict v x budget (logged log.events) verdict
-  pub runs : TellsRuns v x (logged log.events) verdict
+  pub verdict_is : IsVerdict v x budget log.events verdict
+  pub runs : TellsRuns v x log.events verdict
 
 -- the first fault of the bytes, whole or as a text that may go on; want of memory says nothing
 abbrev pub IsJudgeFault : LogForm → Bool → List ℕ → JudgeFault → Type 0
@@ -40,4 +34,4 @@ fault_in (Err fault) = Some fault
 -- the largest weight over the events of all lines that have ended within the bytes
 pub record IsLargestOf (v : NetsValue) (x : Tree) (form : LogForm) (budget : ℕ) (bytes : List ℕ) (n : ℕ) : Type 0 where
   pub log : IsFaultOf form true bytes None
-  pub largest : IsLargest v x budget (logged log.events) n
+  pub largest : IsLargest v x budget log.events n

@@ -2,11 +2,12 @@
 use Rattle.std.specs.Prelude.{ℕ, ◌≡◌, List, [], ◌∷◌, ◌++◌}
 use Rattle.msc_base.specs.declared.label.Label.{Label}
 use Rattle.msc_base.specs.declared.verdict.Verdict.{Verdict}
+use Rattle.event_log.specs.declared.event.LineEvent.{LineEvent}
 use Rattle.term_tables.specs.NetValues.{NetsValue}
 use Rattle.chart_term.specs.TermPatterns.{Both}
 use Rattle.chart_term.specs.Terms.{Tree}
 use Rattle.term_laws.specs.Listing.{set_weight}
-use Rattle.trace_judge.specs.Logs.{LoggedEvent, AreResiduals, Begins, IsRun}
+use Rattle.trace_judge.specs.Logs.{AreResiduals, Begins, IsRun}
 use Rattle.trace_judge.specs.Sets.{IsSoundFor, AreSuccessors, HasEnding}
 use Rattle.trace_judge.specs.Verdicts.{IsVerdict, TellsRuns}
 
@@ -24,5 +25,5 @@ pub record SetsTellRuns : Type 0 where
 
 -- there is one verdict at most, and it tells the runs of the term
 pub record VerdictsTellRuns : Type 0 where
-  pub one : (v : NetsValue) (x : Tree) (budget : ℕ) (events : List LoggedEvent) (verdict other : Verdict) → IsVerdict v x budget events verdict → IsVerdict v x budget events other → verdict ≡ other
-  pub runs : (v : NetsValue) (x : Tree) (budget : ℕ) (events : List LoggedEvent) (verdict : Verdict) → IsSoundFor v x → IsVerdict v x budget events verdict → TellsRuns v x events verdict
+  pub one : (v : NetsValue) (x : Tree) (budget : ℕ) (events : List LineEvent) (verdict other : Verdict) → IsVerdict v x budget events verdict → IsVerdict v x budget events other → verdict ≡ other
+  pub runs : (v : NetsValue) (x : Tree) (budget : ℕ) (events : List LineEvent) (verdict : Verdict) → IsSoundFor v x → IsVerdict v x budget events verdict → TellsRuns v x events verdict

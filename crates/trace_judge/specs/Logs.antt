@@ -6,18 +6,14 @@ use Rattle.chart_term.specs.TermPatterns.{Both}
 use Rattle.chart_term.specs.Terms.{Tree}
 use Rattle.term_laws.specs.Listing.{set_weight}
 use Rattle.msc_base.specs.Lists.{IsAmong}
+use Rattle.event_log.specs.declared.event.LineEvent.{LineEvent}
 use Rattle.term_laws.specs.Normality.{AreDifferent}
 use Rattle.term_laws.specs.Permission.{permits_of}
 use Rattle.term_laws.specs.Residuals.{IsResidual, BeginsRun, IsFinishedRun}
 
--- an event that was taken, with its line
-pub record LoggedEvent : Type 0 where
-  pub label : Label
-  pub line : ℕ
-
 -- the labels of events
-abbrev pub labels_of : List LoggedEvent → List Label
-labels_of events = map (λ (e : LoggedEvent). e.label) events
+abbrev pub labels_of : List LineEvent → List Label
+labels_of events = map (λ (e : LineEvent). e.label) events
 
 -- the labels have these numbers in the table
 abbrev pub AreNumbers : List Label → List Label → List ℕ → Type 0

@@ -10,7 +10,6 @@ use Rattle.event_log.specs.declared.event.LogForm.{LogForm}
 use Rattle.trace_judge.specs.Sets.{SetValue}
 use Rattle.trace_judge.specs.Tracks.{TrackValue, IfHeld}
 use Rattle.trace_judge.specs.Tracks as track
-use Rattle.trace_judge.specs.Judged.{logged}
 use Rattle.trace_judge.specs.Taking.{IsCounted, IsFollowing, TakesAll}
 use Rattle.trace_judge.specs.declared.fault.JudgeFault.{JudgeFault}
 use Rattle.trace_judge.specs.declared.fault.JudgeFault.TheVariants.{Log, NoMemory}
@@ -71,4 +70,4 @@ module _ {S : Type 0} (holds : S → SetValue) where
   -- the bytes are a log, and the track has taken its events
   pub record TakesLog (v : NetsValue) (x : Tree) (form : LogForm) (budget : ℕ) (bytes : List ℕ) (t : TrackValue S) : Type 0 where
     pub log : reader.IsFaultOf form false bytes None
-    pub taken : track.Fed holds v x budget (logged log.events) t
+    pub taken : track.Fed holds v x budget log.events t

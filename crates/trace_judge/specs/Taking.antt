@@ -8,11 +8,9 @@ use Rattle.event_log.specs.States.{LogState}
 use Rattle.event_log.specs.States as reader
 use Rattle.event_log.specs.declared.event.LineEvent.{LineEvent}
 use Rattle.event_log.specs.declared.event.LogForm.{LogForm}
-use Rattle.trace_judge.specs.Logs.{LoggedEvent}
 use Rattle.trace_judge.specs.Sets.{SetValue}
 use Rattle.trace_judge.specs.Tracks.{TrackValue}
 use Rattle.trace_judge.specs.Tracks as track
-use Rattle.trace_judge.specs.Judged.{logged}
 
 -- these are the first events that the bytes hold
 abbrev pub HoldsFirst : LogForm → Bool → List ℕ → List LineEvent → Type 0
@@ -27,7 +25,7 @@ pub record IsCounted (s : LogState) (n : ℕ) : Type 0 where
 module _ {S : Type 0} (holds : S → SetValue) where
   -- the track was made for these tables, this term and this budget, and has taken some events
   pub record IsFollowing (v : NetsValue) (x : Tree) (budget : ℕ) (t : TrackValue S) : Type 0 where
-    pub events : List LoggedEvent
+    pub events : List LineEvent
     pub taken : track.Fed holds v x budget events t
 
   -- the reader, which has no fault, has been fed the bytes, and the track has taken the events that it handed out
@@ -35,7 +33,7 @@ module _ {S : Type 0} (holds : S → SetValue) where
     pub fed : reader.Fed form bytes (length events) s
     pub first : HoldsFirst form goes_on bytes events
     pub faultless : s.fault ≡ None
-    pub taken : track.Fed holds v x budget (logged events) t
+    pub taken : track.Fed holds v x budget events t
 
   -- it has taken some events
   pub record TakesSome (v : NetsValue) (x : Tree) (form : LogForm) (budget : ℕ) (goes_on : Bool) (bytes : List ℕ) (s : LogState) (t : TrackValue S) : Type 0 where

@@ -2,10 +2,11 @@
 use Rattle.std.specs.Prelude.{ℕ, ◌≡◌, ◌<◌, false, List, [], length, Option, Some, None}
 use Rattle.msc_base.specs.declared.verdict.Verdict.{Verdict}
 use Rattle.msc_base.specs.declared.verdict.Verdict.TheVariants.{Conforms, Fails, Early, TooLarge}
+use Rattle.event_log.specs.declared.event.LineEvent.{LineEvent}
 use Rattle.term_tables.specs.NetValues.{NetsValue}
 use Rattle.chart_term.specs.TermPatterns.{Both}
 use Rattle.chart_term.specs.Terms.{Tree, weight}
-use Rattle.trace_judge.specs.Logs.{LoggedEvent, labels_of, AreResiduals}
+use Rattle.trace_judge.specs.Logs.{labels_of, AreResiduals}
 use Rattle.trace_judge.specs.Sets.{SetValue, IsSoundFor}
 use Rattle.trace_judge.specs.Verdicts.{AreWithin, FailsAt, PassesAt, IsLargest}
 
@@ -18,7 +19,7 @@ pub record TrackValue (S : Type 0) : Type 0 where
   pub largest : ℕ
 
 -- nothing is settled: the set has what is left after the events, and that is something
-pub record IsGoing (v : NetsValue) (x : Tree) (budget : ℕ) (events : List LoggedEvent) (s : SetValue) : Type 0 where
+pub record IsGoing (v : NetsValue) (x : Tree) (budget : ℕ) (events : List LineEvent) (s : SetValue) : Type 0 where
   pub small : s.too_large ≡ false
   pub budget_is : s.budget ≡ budget
   pub are : AreResiduals v x (labels_of events) s.terms
@@ -26,7 +27,7 @@ pub record IsGoing (v : NetsValue) (x : Tree) (budget : ℕ) (events : List Logg
   pub within : AreWithin v x budget events
 
 -- the verdict is settled within the events, whatever follows
-abbrev pub IsSettled : NetsValue → Tree → ℕ → List LoggedEvent → Verdict → Type 0
+abbrev pub IsSettled : NetsValue → Tree → ℕ → List LineEvent → Verdict → Type 0
 IsSettled v x budget events (Conforms count) = ⊥
 IsSettled v x budget events (Fails number line) = FailsAt v x budget events number line
 IsSettled v x budget events (Early count) = ⊥
@@ -44,13 +45,13 @@ module _ {S : Type 0} where
 
   module _ (holds : S → SetValue) where
     -- as it stands before and after a verdict is settled
-    abbrev pub Stands : NetsValue → Tree → ℕ → List LoggedEvent → Option S → Option Verdict → Type 0
+    abbrev pub Stands : NetsValue → Tree → ℕ → List LineEvent → Option S → Option Verdict → Type 0
     Stands v x budget events None None = ⊥
     Stands v x budget events (Some s) None = IsGoing v x budget events (holds s)
     Stands v x budget events set (Some verdict) = IsSettled v x budget events verdict
 
     -- the track was made for these tables, this term and this budget, and has taken these events
-    pub record Fed (v : NetsValue) (x : Tree) (budget : ℕ) (events : List LoggedEvent) (t : TrackValue S) : Type 0 where
+    pub record Fed (v : NetsValue) (x : Tree) (budget : ℕ) (events : List LineEvent) (t : TrackValue S) : Type 0 where
       pub sound : IsSoundFor v x
       pub count : t.events ≡ length events
       pub stands : Stands v x budget events t.set t.ended

@@ -3,11 +3,11 @@
 ghost use Rattle.std.specs.Prelude.{◌≡◌, ◌<◌, ◌+◌, ◌++◌, ◌∷◌, [], ℕ, List, true, false, not, OnOk, IfErr};
 ghost use Rattle.chart_term.specs.Terms.{Tree};
 ghost use Rattle.event_log.specs.declared.event.LogForm.{LogForm};
-ghost use Rattle.trace_judge.specs.Logs.{LoggedEvent};
 ghost use Rattle.trace_judge.specs.Tracks.{Fed, IfHeld};
 ghost use Rattle.trace_judge.specs.Judged.{IsJudgeFault};
 ghost use Rattle.trace_judge.specs.States.{IsBehind, TakesLog};
 ghost use Rattle.trace_judge.specs.Taking.{IsCounted, IsFollowing, TakesSome, TakesAll};
+ghost use Rattle.event_log.specs.declared.event.LineEvent.{LineEvent};
 
 use crate::fault::fault_of;
 use crate::{JudgeFault, Store, Track};
@@ -25,8 +25,8 @@ fn take_event<S: Store + Drop>(
     requires room { track.old.events < 18446744073709551615 }
     ensures serves { IfHeld (λ set. S.serves set nets.now) track.new }
     ensures count { OnOk result (track.new.events ≡ track.old.events + 1) }
-    ensures fed { (x : Tree) (budget : ℕ) (events : List LoggedEvent) → Fed S.holds nets.now x budget events track.old
-        → OnOk result (Fed S.holds nets.now x budget (events ++ record { label = event.label; line = event.line } ∷ []) track.new) }
+    ensures fed { (x : Tree) (budget : ℕ) (events : List LineEvent) → Fed S.holds nets.now x budget events track.old
+        → OnOk result (Fed S.holds nets.now x budget (events ++ event ∷ []) track.new) }
     ensures follows { (x : Tree) (budget : ℕ) → IsFollowing S.holds nets.now x budget track.old → IsFollowing S.holds nets.now x budget track.new }
 {
     track.take(nets, &event.label, event.line)

@@ -5,10 +5,10 @@ ghost use Rattle.msc_base.specs.declared.limits.TheConstants.Limits.{BUDGET_MOST
 ghost use Rattle.term_tables.specs.NetValues.{NetsValue};
 ghost use Rattle.chart_term.specs.Terms.{Tree};
 ghost use Rattle.trace_judge.specs.Advances.{Follows, FollowsOpen, settled, risen, IsOpenVerdict};
-ghost use Rattle.trace_judge.specs.Logs.{LoggedEvent};
 ghost use Rattle.trace_judge.specs.Sets.{IsSoundFor};
 ghost use Rattle.trace_judge.specs.Tracks.{Fed, IfHeld, IsSame};
 ghost use Rattle.trace_judge.specs.Verdicts.{IsVerdict, TellsRuns, IsLargest};
+ghost use Rattle.event_log.specs.declared.event.LineEvent.{LineEvent};
 
 use crate::advance::{Outcome, advance};
 use crate::{StepFault, Store};
@@ -137,9 +137,9 @@ impl<S: Store + Drop> Track<S> {
         requires room { self.old.events < 18446744073709551615 }
         ensures serves { IfHeld (λ set. S.serves set nets.now) self.new }
         ensures count { OnOk result (self.new.events ≡ self.old.events + 1) }
-        ensures fed { (x : Tree) (budget : ℕ) (events : List LoggedEvent) → Fed S.holds nets.now x budget events self.old
+        ensures fed { (x : Tree) (budget : ℕ) (events : List LineEvent) → Fed S.holds nets.now x budget events self.old
             → OnOk result (Fed S.holds nets.now x budget (events ++ record { label = label.now; line = line } ∷ []) self.new) }
-        ensures stays { (x : Tree) (budget : ℕ) (events : List LoggedEvent) → Fed S.holds nets.now x budget events self.old
+        ensures stays { (x : Tree) (budget : ℕ) (events : List LineEvent) → Fed S.holds nets.now x budget events self.old
             → OnErr result (Fed S.holds nets.now x budget events self.new) }
         ensures err { OnErr result (IsSame S.holds self.old self.new) }
     {
@@ -164,9 +164,9 @@ impl<S: Store + Drop> Track<S> {
     /// The verdict on the events that were taken.
     pub fn verdict(&self, alloc: Global, nets: &Nets) -> Result<Verdict, NoMemory>
         requires { IfHeld (λ set. S.serves set nets.now) self.now }
-        ensures verdict { (x : Tree) (budget : ℕ) (events : List LoggedEvent) → Fed S.holds nets.now x budget events self.now
+        ensures verdict { (x : Tree) (budget : ℕ) (events : List LineEvent) → Fed S.holds nets.now x budget events self.now
             → IfOk result (IsVerdict nets.now x budget events) }
-        ensures runs { (x : Tree) (budget : ℕ) (events : List LoggedEvent) → Fed S.holds nets.now x budget events self.now
+        ensures runs { (x : Tree) (budget : ℕ) (events : List LineEvent) → Fed S.holds nets.now x budget events self.now
             → IfOk result (TellsRuns nets.now x events) }
     {
         match (self.ended, &self.set) {
@@ -181,7 +181,7 @@ impl<S: Store + Drop> Track<S> {
     /// The largest weight of the set after the events that were taken, from the moment before the first, as far as the budget isn't
     /// passed; 0 where the term alone is above it. It takes no memory.
     pub fn largest(&self) -> u64
-        ensures { (v : NetsValue) (x : Tree) (budget : ℕ) (events : List LoggedEvent) → Fed S.holds v x budget events self.now
+        ensures { (v : NetsValue) (x : Tree) (budget : ℕ) (events : List LineEvent) → Fed S.holds v x budget events self.now
             → IsLargest v x budget events result }
     {
         // Each field is named: what a verdict rests on is these four, and a further one doesn't compile here.

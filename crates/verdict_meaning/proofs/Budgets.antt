@@ -3,6 +3,7 @@ use Rattle.std.specs.Prelude.{ℕ, suc, ◌+◌, ◌*◌, ◌≤◌, ◌<◌, Bo
 use Rattle.std.proofs.Common.{ap, sym, ◌∙◌, refl, subst, arith, inl, inr}
 use Rattle.std.proofs.Math.Nat.{mul-le-mul_right}
 use Rattle.msc_base.specs.declared.label.Label.{Label}
+use Rattle.event_log.specs.declared.event.LineEvent.{LineEvent}
 use Rattle.chart_term.specs.Equality.{same_tree, SameTreeIsExact}
 use Rattle.term_tables.specs.NetValues.{NetsValue}
 use Rattle.chart_term.specs.Terms.{Tree, weight}
@@ -10,7 +11,7 @@ use Rattle.term_laws.specs.Listing.{set_weight}
 use Rattle.term_laws.specs.OneResidual.{IsUnambiguous, OneResidual}
 use Rattle.term_laws.specs.Permission.{permits_of}
 use Rattle.term_laws.specs.Residuals.{IsResidual}
-use Rattle.trace_judge.specs.Logs.{LoggedEvent, labels_of, AreNumbers, IsLeft, AreResiduals}
+use Rattle.trace_judge.specs.Logs.{labels_of, AreNumbers, IsLeft, AreResiduals}
 use Rattle.trace_judge.specs.Verdicts.{PassesAt}
 use Rattle.verdict_meaning.specs.Budgets.{BudgetSuffices}
 use Rattle.sound_terms.proofs.Places.{some_is}
@@ -30,11 +31,11 @@ numbers_length table [] (m ∷ ms) h = absurd h
 numbers_length table (a ∷ l) [] h = absurd h
 numbers_length table (a ∷ l) (m ∷ ms) (h, k) = ap suc (numbers_length table l ms k)
 
-labels_length : (events : List LoggedEvent) → length (labels_of events) ≡ length events
+labels_length : (events : List LineEvent) → length (labels_of events) ≡ length events
 labels_length [] = refl
 labels_length (e ∷ events) = ap suc (labels_length events)
 
-app_length : (a b : List LoggedEvent) → length (a ++ b) ≡ length a + length b
+app_length : (a b : List LineEvent) → length (a ++ b) ≡ length a + length b
 app_length [] b = omega arith
 app_length (x ∷ a) b = omega (arith, app_length a b)
 
@@ -65,7 +66,7 @@ module _ (law : OneResidual) (equal : SameTreeIsExact) (v : NetsValue) (x : Tree
 pub budget_suffices : OneResidual → SameTreeIsExact → BudgetSuffices
 budget_suffices law equal = record { never = never }
   where
-    never : (v : NetsValue) (x : Tree) (budget : ℕ) (events : List LoggedEvent) (number : ℕ) → IsUnambiguous x → 2 * (length events + 1) * weight x ≤ budget → PassesAt v x budget events number → ⊥
+    never : (v : NetsValue) (x : Tree) (budget : ℕ) (events : List LineEvent) (number : ℕ) → IsUnambiguous x → 2 * (length events + 1) * weight x ≤ budget → PassesAt v x budget events number → ⊥
     never v x budget events number h b p =
         let a = set_weighs law equal v x h (labels_of p.prefix) p.above.set p.above.are in
         let k = app_length p.prefix p.back in

@@ -1,22 +1,23 @@
 -- From a term that means a set of unfoldings to their runs, to sets of residual terms, and to verdicts.
-use Rattle.std.specs.Prelude.{ℕ, true, false, List, [], ◌∷◌, ◌++◌, ◌≡◌}
+use Rattle.std.specs.Prelude.{ℕ, true, false, List, [], ◌++◌, ◌≡◌}
 use Rattle.std.proofs.Common.{subst}
 use Rattle.msc_base.specs.declared.label.Label.{Label}
 use Rattle.msc_base.specs.declared.verdict.Verdict.{Verdict}
-use Rattle.msc_base.specs.declared.verdict.Verdict.TheVariants.{Conforms, Fails, Early, TooLarge}
 use Rattle.msc_base.specs.Orders.{Once}
 use Rattle.msc_unfolding.specs.Runs.{IsRunOf, BeginsRunOf}
 use Rattle.msc_unfolding.specs.Unfoldings.{Unfolding}
+use Rattle.event_log.specs.declared.event.LineEvent.{LineEvent}
 use Rattle.term_tables.specs.NetValues.{NetsValue}
 use Rattle.chart_term.specs.TermPatterns.{Both}
 use Rattle.chart_term.specs.TermRuns.{IsLinearRun}
 use Rattle.chart_term.specs.Terms.{Tree}
-use Rattle.trace_judge.specs.Logs.{LoggedEvent, labels_of, AreResiduals, Begins, IsRun}
+use Rattle.trace_judge.specs.Logs.{AreResiduals, Begins, IsRun}
 use Rattle.trace_judge.specs.Sets.{IsSoundFor, HasEnding}
-use Rattle.trace_judge.specs.Verdicts.{IsVerdict, TellsRuns}
+use Rattle.trace_judge.specs.Verdicts.{IsVerdict}
+use Rattle.trace_judge.specs.VerdictsBy.{Tells}
+use Rattle.trace_judge.proofs.VerdictMoves.{tells_move}
 use Rattle.trace_judge.specs.Laws.{SetsTellRuns, VerdictsTellRuns}
 use Rattle.term_meaning.specs.Meanings.{MeansUnfoldings}
-use Rattle.verdict_meaning.specs.RunVerdicts.{Tells}
 use Rattle.verdict_meaning.proofs.Labelled.{run_there, run_here, begun_there, numbers_split}
 
 module _ (v : NetsValue) (names : List (List ℕ)) (x : Tree) (once : Once v.labels) where
@@ -60,23 +61,6 @@ module _ (v : NetsValue) (names : List (List ℕ)) (x : Tree) (once : Once v.lab
 
   -- the verdict by residual terms tells the runs of the unfoldings
   pub verdict_tells : VerdictsTellRuns → (finished unfolds : Unfolding → Type 0) → MeansUnfoldings v names false x finished → MeansUnfoldings v names true x unfolds → IsSoundFor v x
-      → (budget : ℕ) (events : List LoggedEvent) (verdict : Verdict) → IsVerdict v x budget events verdict → Tells (IsRunOf finished) (BeginsRunOf unfolds) events verdict
-  verdict_tells law finished unfolds m n sound budget events verdict h = over verdict (law.runs v x budget events verdict sound h)
-    where
-      over : (verdict : Verdict) → TellsRuns v x events verdict → Tells (IsRunOf finished) (BeginsRunOf unfolds) events verdict
-      over (Conforms count) t = (runs finished m (labels_of events)).to t
-      over (Fails number line) t = record {
-        prefix = t.prefix;
-        at = t.at;
-        back = t.back;
-        are = t.are;
-        number_is = t.number_is;
-        line_is = t.line_is;
-        begins = (begins unfolds n (labels_of t.prefix)).to t.begins;
-        hopeless = λ b. t.hopeless ((begins unfolds n (labels_of (t.prefix ++ t.at ∷ []))).from b);
-      }
-      over (Early count) t = record {
-        begins = (begins unfolds n (labels_of events)).to t.begins;
-        unfinished = λ c. t.unfinished ((runs finished m (labels_of events)).from c);
-      }
-      over (TooLarge number) t = tt
+      → (budget : ℕ) (events : List LineEvent) (verdict : Verdict) → IsVerdict v x budget events verdict → Tells (IsRunOf finished) (BeginsRunOf unfolds) events verdict
+  verdict_tells law finished unfolds m n sound budget events verdict h =
+      tells_move (IsRun v x) (Begins v x) (IsRunOf finished) (BeginsRunOf unfolds) (runs finished m) (begins unfolds n) events verdict (law.runs v x budget events verdict sound h)

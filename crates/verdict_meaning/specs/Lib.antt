@@ -1,5 +1,4 @@
 pub mod NumberedRuns
-pub mod RunVerdicts
 pub mod MeaningTells
 pub mod ChartsTold
 pub mod MessageTold

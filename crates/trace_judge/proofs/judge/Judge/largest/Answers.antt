@@ -1,7 +1,7 @@
 use Rattle.std.proofs.Common.{ℕ, List, subst}
+use Rattle.event_log.specs.declared.event.LineEvent.{LineEvent}
 use Rattle.term_tables.specs.NetValues.{NetsValue}
 use Rattle.chart_term.specs.Terms.{Tree}
-use Rattle.trace_judge.specs.Logs.{LoggedEvent}
 use Rattle.trace_judge.specs.Tracks.{Fed}
 use Rattle.trace_judge.specs.Verdicts.{IsLargest}
 use Rattle.trace_judge.specs.States.{JudgeValue}
@@ -11,4 +11,4 @@ use Rattle.trace_judge.proofs.judge.Judge.largest.Goals as goal
 pub returns : goal.returns
 returns g c = λ v x form budget bytes h e.
     largest_is g.S.Store.holds v x form budget bytes c.args.self.now c.largest.result
-    (subst (λ (j : JudgeValue _). (w : NetsValue) (y : Tree) (m : ℕ) (events : List LoggedEvent) → Fed g.S.Store.holds w y m events j.track → IsLargest w y m events c.largest.result) c.self.view_is c.largest.ensures) e h
+    (subst (λ (j : JudgeValue _). (w : NetsValue) (y : Tree) (m : ℕ) (events : List LineEvent) → Fed g.S.Store.holds w y m events j.track → IsLargest w y m events c.largest.result) c.self.view_is c.largest.ensures) e h
