@@ -79,10 +79,51 @@ value : request_of (codes "judge" ∷ codes "d" ∷ codes "A" ∷ codes "l" ∷ 
 unfolding clap_on_literals is_utf8
 value = refl
 
--- there are no others yet
-unknown : request_of (codes "judge" ∷ codes "d" ∷ codes "A" ∷ codes "l" ∷ codes "--budget" ∷ codes "5" ∷ []) ≡ None
+-- there are no others
+unknown : request_of (codes "judge" ∷ codes "d" ∷ codes "A" ∷ codes "l" ∷ codes "--weight" ∷ codes "5" ∷ []) ≡ None
 unfolding clap_on_literals is_utf8
 unknown = refl
+
+-- a budget is a number of one to seven digits, from 1 to 4,000,000
+budget : request_of (codes "judge" ∷ codes "d" ∷ codes "A" ∷ codes "l" ∷ codes "--budget" ∷ codes "5" ∷ []) ≡ Some (Judge (codes "d") (codes "A") (codes "l") 5 false Lines)
+unfolding clap_on_literals is_utf8
+budget = refl
+
+budget_joined : request_of (codes "judge" ∷ codes "--budget=0000007" ∷ codes "d" ∷ codes "A" ∷ codes "l" ∷ []) ≡ Some (Judge (codes "d") (codes "A") (codes "l") 7 false Lines)
+unfolding clap_on_literals is_utf8
+budget_joined = refl
+
+greatest_budget : request_of (codes "judge" ∷ codes "d" ∷ codes "--budget" ∷ codes "4000000" ∷ codes "A" ∷ codes "l" ∷ []) ≡ Some (Judge (codes "d") (codes "A") (codes "l") 4000000 false Lines)
+unfolding clap_on_literals is_utf8
+greatest_budget = refl
+
+no_budget : request_of (codes "judge" ∷ codes "d" ∷ codes "A" ∷ codes "l" ∷ codes "--budget" ∷ codes "0" ∷ []) ≡ None
+unfolding clap_on_literals is_utf8
+no_budget = refl
+
+large_budget : request_of (codes "judge" ∷ codes "d" ∷ codes "A" ∷ codes "l" ∷ codes "--budget" ∷ codes "4000001" ∷ []) ≡ None
+unfolding clap_on_literals is_utf8
+large_budget = refl
+
+long_budget : request_of (codes "judge" ∷ codes "d" ∷ codes "A" ∷ codes "l" ∷ codes "--budget" ∷ codes "00000005" ∷ []) ≡ None
+unfolding clap_on_literals is_utf8
+long_budget = refl
+
+signed_budget : request_of (codes "judge" ∷ codes "d" ∷ codes "A" ∷ codes "l" ∷ codes "--budget" ∷ codes "+5" ∷ []) ≡ None
+unfolding clap_on_literals is_utf8
+signed_budget = refl
+
+valueless_budget : request_of (codes "judge" ∷ codes "d" ∷ codes "A" ∷ codes "l" ∷ codes "--budget" ∷ []) ≡ None
+unfolding clap_on_literals is_utf8
+valueless_budget = refl
+
+repeated_budget : request_of (codes "judge" ∷ codes "d" ∷ codes "A" ∷ codes "l" ∷ codes "--budget" ∷ codes "5" ∷ codes "--budget" ∷ codes "5" ∷ []) ≡ None
+unfolding clap_on_literals is_utf8
+repeated_budget = refl
+
+check_budget : request_of (codes "check" ∷ codes "d" ∷ codes "--budget" ∷ codes "5" ∷ []) ≡ None
+unfolding clap_on_literals is_utf8
+check_budget = refl
 
 number : request_of (codes "judge" ∷ codes "d" ∷ codes "A" ∷ codes "-5" ∷ []) ≡ None
 unfolding clap_on_literals is_utf8

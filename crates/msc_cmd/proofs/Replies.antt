@@ -15,9 +15,10 @@ use Rattle.judge_report.specs.Texts.{accepted_line, fault_line}
 use Rattle.judge_report.specs.Writing.{AppendsPart}
 use Rattle.msc_cmd.specs.Documents.{IsDocument, HasDocumentFault, IsOnlyDocument, IsOnlyFault, chart_named}
 use Rattle.msc_cmd.specs.Intakes.{IsHeld}
-use Rattle.msc_cmd.specs.LogIntakes.{IsTheLog, IsToldLog}
-use Rattle.msc_cmd.specs.declared.log_intake.Log.{Log as TheLog}
-use Rattle.msc_cmd.specs.declared.log_intake.Log.TheVariants.{Events, Refused}
+use Rattle.msc_cmd.specs.LogJudging.{IsJudged, IsToldLog}
+use Rattle.msc_cmd.specs.declared.log_reading.Judged.{Judged}
+use Rattle.msc_cmd.specs.declared.log_reading.Judged.TheVariants.{Refused}
+use Rattle.msc_cmd.specs.declared.log_reading.Judged.TheVariants as log
 use Rattle.msc_cmd.specs.Outcomes.{LogOutcome, EntryOutcome, DocumentOutcome, refused, of_charts, ChartOutcome, no_chart, of_chart, Says, CheckAnswer, JudgeAnswer, FilesOutcome, IfTold, IsTheOne, RequestOutcome, IsOutcome, no_request, of_request}
 use Rattle.msc_cmd.specs.Failures.{FailedAt, HasChart, CannotRead, CannotJudge}
 use Rattle.msc_cmd.specs.Openings.{IsOpened}
@@ -92,12 +93,12 @@ no_request_one words files status text none s t = record { is = no_request none 
 
 -- The same for replies, where the entries are told
 
-pub log_told : {E : Type 0} (form : LogForm) (json : Bool) (files : Option Files) (chart : PlainChart) (name bytes : List ℕ) (r : Result Reply E) → IsHeld files name bytes
-    → IfOk r (λ x. IsTheOne (LogOutcome form json chart bytes) x.status x.text) → IfOk r (λ x. x.status < 7 → IfTold files (λ f. IsTheOne (EntryOutcome form json f chart name) x.status x.text))
-log_told form json None chart name bytes (Ok x) h k = λ _. tt
-log_told form json None chart name bytes (Err e) h k = tt
-log_told form json (Some f) chart name bytes (Ok x) h k = λ _. entry_one form json f chart name bytes x.status x.text h k
-log_told form json (Some f) chart name bytes (Err e) h k = tt
+pub log_told : {E : Type 0} (form : LogForm) (budget : ℕ) (json : Bool) (files : Option Files) (chart : PlainChart) (name bytes : List ℕ) (r : Result Reply E) → IsHeld files name bytes
+    → IfOk r (λ x. IsTheOne (LogOutcome form budget json chart bytes) x.status x.text) → IfOk r (λ x. x.status < 7 → IfTold files (λ f. IsTheOne (EntryOutcome form budget json f chart name) x.status x.text))
+log_told form budget json None chart name bytes (Ok x) h k = λ _. tt
+log_told form budget json None chart name bytes (Err e) h k = tt
+log_told form budget json (Some f) chart name bytes (Ok x) h k = λ _. entry_one form budget json f chart name bytes x.status x.text h k
+log_told form budget json (Some f) chart name bytes (Err e) h k = tt
 
 pub refused_told : {E : Type 0} (json : Bool) (files : Option Files) (d bytes : List ℕ) (Answer : Files → List PlainChart → ℕ → List ℕ → Type 0) (broken : Rule) (place : Place) (r : Result Reply E) → IsHeld files d bytes → IsOnlyFault bytes broken place
     → IfOk r (λ x. x.status ≡ 4) → IfOk r (λ x. x.text ≡ fault_line json (Document broken place)) → IfOk r (λ x. x.status < 7 → IfTold files (λ f. IsTheOne (DocumentOutcome json f d (Answer f)) x.status x.text))
@@ -119,21 +120,21 @@ checked_told json None d bytes charts count x h doc s n t = λ _. tt
 checked_told json (Some f) d bytes charts count x h doc s n t =
     λ _. charts_one json f d bytes (CheckAnswer json) charts x.status x.text h doc (said_one (accepted_line json (length charts)) x.status x.text s (t ∙ ap (accepted_line json) n))
 
-pub no_chart_told : {E : Type 0} (form : LogForm) (json : Bool) (files : Option Files) (d n l bytes : List ℕ) (charts : List PlainChart) (r : Result Reply E) → IsHeld files d bytes → IsOnlyDocument bytes charts → chart_named n charts ≡ None → IfOk r (λ x. x.status ≡ 4)
-    → IfOk r (λ x. x.text ≡ fault_line json NoChart) → IfOk r (λ x. x.status < 7 → IfTold files (λ f. IsTheOne (FilesOutcome form json f d n l) x.status x.text))
-no_chart_told form json None d n l bytes charts (Ok x) h doc lacks s t = λ _. tt
-no_chart_told form json None d n l bytes charts (Err e) h doc lacks s t = tt
-no_chart_told form json (Some f) d n l bytes charts (Ok x) h doc lacks s t =
-    λ _. charts_one json f d bytes (JudgeAnswer form json f n l) charts x.status x.text h doc (no_chart_one json n charts (λ chart. EntryOutcome form json f chart l) x.status x.text lacks s t)
-no_chart_told form json (Some f) d n l bytes charts (Err e) h doc lacks s t = tt
+pub no_chart_told : {E : Type 0} (form : LogForm) (budget : ℕ) (json : Bool) (files : Option Files) (d n l bytes : List ℕ) (charts : List PlainChart) (r : Result Reply E) → IsHeld files d bytes → IsOnlyDocument bytes charts → chart_named n charts ≡ None → IfOk r (λ x. x.status ≡ 4)
+    → IfOk r (λ x. x.text ≡ fault_line json NoChart) → IfOk r (λ x. x.status < 7 → IfTold files (λ f. IsTheOne (FilesOutcome form budget json f d n l) x.status x.text))
+no_chart_told form budget json None d n l bytes charts (Ok x) h doc lacks s t = λ _. tt
+no_chart_told form budget json None d n l bytes charts (Err e) h doc lacks s t = tt
+no_chart_told form budget json (Some f) d n l bytes charts (Ok x) h doc lacks s t =
+    λ _. charts_one json f d bytes (JudgeAnswer form budget json f n l) charts x.status x.text h doc (no_chart_one json n charts (λ chart. EntryOutcome form budget json f chart l) x.status x.text lacks s t)
+no_chart_told form budget json (Some f) d n l bytes charts (Err e) h doc lacks s t = tt
 
-pub judged_told : {E : Type 0} (form : LogForm) (json : Bool) (files : Option Files) (d n l bytes : List ℕ) (charts : List PlainChart) (chart : PlainChart) (r : Result Reply E) → IsHeld files d bytes → IsOnlyDocument bytes charts → chart_named n charts ≡ Some chart
-    → IfOk r (λ x. x.status < 7 → IfTold files (λ f. IsTheOne (EntryOutcome form json f chart l) x.status x.text)) → IfOk r (λ x. x.status < 7 → IfTold files (λ f. IsTheOne (FilesOutcome form json f d n l) x.status x.text))
-judged_told form json None d n l bytes charts chart (Ok x) h doc same k = λ _. tt
-judged_told form json None d n l bytes charts chart (Err e) h doc same k = tt
-judged_told form json (Some f) d n l bytes charts chart (Ok x) h doc same k =
-    λ lt. charts_one json f d bytes (JudgeAnswer form json f n l) charts x.status x.text h doc (chart_one json n charts (λ c. EntryOutcome form json f c l) chart x.status x.text same (k lt))
-judged_told form json (Some f) d n l bytes charts chart (Err e) h doc same k = tt
+pub judged_told : {E : Type 0} (form : LogForm) (budget : ℕ) (json : Bool) (files : Option Files) (d n l bytes : List ℕ) (charts : List PlainChart) (chart : PlainChart) (r : Result Reply E) → IsHeld files d bytes → IsOnlyDocument bytes charts → chart_named n charts ≡ Some chart
+    → IfOk r (λ x. x.status < 7 → IfTold files (λ f. IsTheOne (EntryOutcome form budget json f chart l) x.status x.text)) → IfOk r (λ x. x.status < 7 → IfTold files (λ f. IsTheOne (FilesOutcome form budget json f d n l) x.status x.text))
+judged_told form budget json None d n l bytes charts chart (Ok x) h doc same k = λ _. tt
+judged_told form budget json None d n l bytes charts chart (Err e) h doc same k = tt
+judged_told form budget json (Some f) d n l bytes charts chart (Ok x) h doc same k =
+    λ lt. charts_one json f d bytes (JudgeAnswer form budget json f n l) charts x.status x.text h doc (chart_one json n charts (λ c. EntryOutcome form budget json f c l) chart x.status x.text same (k lt))
+judged_told form budget json (Some f) d n l bytes charts chart (Err e) h doc same k = tt
 
 has_chart : (files : Option Files) (d n bytes : List ℕ) (charts : List PlainChart) (chart : PlainChart) → IsHeld files d bytes → IsDocument bytes charts → chart_named n charts ≡ Some chart → IfTold files (HasChart d n)
 has_chart None d n bytes charts chart h doc same = tt
@@ -217,15 +218,15 @@ pub five_not_two : {E : Type 0} (r : Result Reply E) → IfOk r (λ x. x.status 
 five_not_two (Ok x) s = λ two. omega (arith, s, two)
 five_not_two (Err e) s = tt
 
-pub fault_told : {E : Type 0} (form : LogForm) (json : Bool) (chart : PlainChart) (bytes : List ℕ) (fault : LogFault) (r : Result Reply E) → IfOk r (λ x. x.status ≡ 5) → IfOk r (λ x. x.text ≡ fault_line json (Log fault))
-    → IsTheLog form bytes (Refused fault) → IfOk r (λ x. IsTheOne (LogOutcome form json chart bytes) x.status x.text)
-fault_told form json chart bytes fault (Ok x) s t is = faulty_one form json chart bytes is.1.0 fault x.status x.text is.1.1 s t
-fault_told form json chart bytes fault (Err e) s t is = tt
+pub fault_told : {E : Type 0} (form : LogForm) (budget : ℕ) (json : Bool) (chart : PlainChart) (bytes : List ℕ) (fault : LogFault) (r : Result Reply E) → IfOk r (λ x. x.status ≡ 5) → IfOk r (λ x. x.text ≡ fault_line json (Log fault))
+    → IsJudged chart form budget bytes (Refused fault) → IfOk r (λ x. IsTheOne (LogOutcome form budget json chart bytes) x.status x.text)
+fault_told form budget json chart bytes fault (Ok x) s t is = faulty_one form budget json chart bytes fault x.status x.text is.1 s t
+fault_told form budget json chart bytes fault (Err e) s t is = tt
 
--- a log that was read has no want of memory for a fault
-pub told_log : (form : LogForm) (bytes : List ℕ) (log : TheLog) → IsTheLog form bytes log → IsToldLog log
-told_log form bytes (Events events) h = tt
-told_log form bytes (Refused fault) h = h.0
+-- a log that was judged has no want of memory for a fault
+pub told_log : (chart : PlainChart) (form : LogForm) (budget : ℕ) (bytes : List ℕ) (judged : Judged) → IsJudged chart form budget bytes judged → IsToldLog judged
+told_log chart form budget bytes (log.Told verdict) h = tt
+told_log chart form budget bytes (Refused fault) h = h.0
 
 -- ---- a document that was opened
 

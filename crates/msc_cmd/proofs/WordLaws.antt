@@ -83,10 +83,10 @@ none_answered meant asked app words NoRequest is none = ap (λ (a : App). reques
 none_answered meant asked app words NoMemory is none = tt
 
 -- the first values of the arguments are those of the rows
-pub firsts : (f : Found) (d c l j k : Option (List ℕ)) → d ≡ first_value f (codes "document") → c ≡ first_value f (codes "chart") → l ≡ first_value f (codes "log")
-    → j ≡ first_value f (codes "json") → k ≡ first_value f (codes "log-json") → request_from d c l j k ≡ request_in (rows_of f)
-firsts f d c l j k hd hc hl hj hk =
-    rw (hd, hc, hl, hj, hk, first_value-rows f (codes "document"), first_value-rows f (codes "chart"), first_value-rows f (codes "log"), first_value-rows f (codes "json"), first_value-rows f (codes "log-json")) refl
+pub firsts : (f : Found) (d c l b j k : Option (List ℕ)) → d ≡ first_value f (codes "document") → c ≡ first_value f (codes "chart") → l ≡ first_value f (codes "log") → b ≡ first_value f (codes "budget")
+    → j ≡ first_value f (codes "json") → k ≡ first_value f (codes "log-json") → request_from d c l b j k ≡ request_in (rows_of f)
+firsts f d c l b j k hd hc hl hb hj hk =
+    rw (hd, hc, hl, hb, hj, hk, first_value-rows f (codes "document"), first_value-rows f (codes "chart"), first_value-rows f (codes "log"), first_value-rows f (codes "budget"), first_value-rows f (codes "json"), first_value-rows f (codes "log-json")) refl
 
 pub checked_firsts : (f : Found) (d j : Option (List ℕ)) → d ≡ first_value f (codes "document") → j ≡ first_value f (codes "json") → check_from d j ≡ check_in (rows_of f)
 checked_firsts f d j hd hj = rw (hd, hj, first_value-rows f (codes "document"), first_value-rows f (codes "json")) refl

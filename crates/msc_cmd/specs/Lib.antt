@@ -2,10 +2,8 @@ pub mod DocumentTexts
 pub mod Documents
 pub mod Failures
 pub mod Intakes
-pub mod Judging
-pub mod LogIntakes
+pub mod LogJudging
 pub mod Outcomes
 pub mod Reading
 pub mod Requests
-pub mod Verdicts
 pub mod Openings

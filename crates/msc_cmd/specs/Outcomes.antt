@@ -13,6 +13,7 @@ use Rattle.event_log.specs.declared.event.LineEvent.{LineEvent}
 use Rattle.event_log.specs.declared.event.LogFault.{LogFault}
 use Rattle.event_log.specs.declared.event.LogForm.{LogForm}
 use Rattle.event_log.specs.Logs.{LogOf}
+use Rattle.chart_judge.specs.ChartVerdicts.{IsVerdict}
 use Rattle.judge_report.specs.declared.fault.Fault.TheVariants.{Document, NoChart, Log, Usage}
 use Rattle.judge_report.specs.Lists.{chart_list, instance_list}
 use Rattle.judge_report.specs.Texts.{accepted_line, fault_line, verdict_line}
@@ -22,7 +23,6 @@ use Rattle.msc_cmd.specs.declared.requests.Request.TheVariants as requests
 use Rattle.msc_cmd.specs.DocumentTexts.{ReadsDocument, HasTextFault}
 use Rattle.msc_cmd.specs.Documents.{IsDocument, HasDocumentFault, chart_named}
 use Rattle.msc_cmd.specs.Requests.{request_of, IsNoRequest}
-use Rattle.msc_cmd.specs.Verdicts.{IsVerdict}
 
 abbrev pub status_of : Verdict → ℕ
 status_of (Conforms events) = 0
@@ -30,15 +30,15 @@ status_of (Fails event line) = 1
 status_of (Early events) = 3
 status_of (TooLarge event) = 6
 
--- what the bytes of a log in this form give for a chart, told as JSON or plain
-pub data LogOutcome (form : LogForm) (json : Bool) (chart : PlainChart) (bytes : List ℕ) (status : ℕ) (text : List ℕ) : Type 0 where
-  bad_log : (events : List LineEvent) (fault : LogFault) → LogOf form false bytes events (Some fault) → status ≡ 5 → text ≡ fault_line json (Log fault) → LogOutcome form json chart bytes status text
-  judged : (events : List LineEvent) (verdict : Verdict) → LogOf form false bytes events None → IsVerdict chart events verdict → status ≡ status_of verdict → text ≡ verdict_line json verdict
-      → LogOutcome form json chart bytes status text
+-- what the bytes of a log in this form give for a chart within the budget, told as JSON or plain
+pub data LogOutcome (form : LogForm) (budget : ℕ) (json : Bool) (chart : PlainChart) (bytes : List ℕ) (status : ℕ) (text : List ℕ) : Type 0 where
+  bad_log : (events : List LineEvent) (fault : LogFault) → LogOf form false bytes events (Some fault) → status ≡ 5 → text ≡ fault_line json (Log fault) → LogOutcome form budget json chart bytes status text
+  judged : (events : List LineEvent) (verdict : Verdict) → LogOf form false bytes events None → IsVerdict chart budget events verdict → status ≡ status_of verdict → text ≡ verdict_line json verdict
+      → LogOutcome form budget json chart bytes status text
 
 -- what the log of this name gives for the chart
-pub data EntryOutcome (form : LogForm) (json : Bool) (files : Files) (chart : PlainChart) (name : List ℕ) (status : ℕ) (text : List ℕ) : Type 0 where
-  of_bytes : (bytes : List ℕ) → files name ≡ Some bytes → LogOutcome form json chart bytes status text → EntryOutcome form json files chart name status text
+pub data EntryOutcome (form : LogForm) (budget : ℕ) (json : Bool) (files : Files) (chart : PlainChart) (name : List ℕ) (status : ℕ) (text : List ℕ) : Type 0 where
+  of_bytes : (bytes : List ℕ) → files name ≡ Some bytes → LogOutcome form budget json chart bytes status text → EntryOutcome form budget json files chart name status text
 
 -- what the entry of a document gives: its first fault, or what is answered of its charts
 pub data DocumentOutcome (json : Bool) (files : Files) (document : List ℕ) (Answer : List PlainChart → ℕ → List ℕ → Type 0) (status : ℕ) (text : List ℕ) : Type 0 where
@@ -56,8 +56,8 @@ abbrev pub Says : List ℕ → ℕ → List ℕ → Type 0
 Says words status text = (status ≡ 0) × (text ≡ words)
 
 -- where a log is judged: what it gives for the chart
-abbrev pub JudgeAnswer : LogForm → Bool → Files → List ℕ → List ℕ → List PlainChart → ℕ → List ℕ → Type 0
-JudgeAnswer form json files name log charts = ChartOutcome json name charts (λ chart. EntryOutcome form json files chart log)
+abbrev pub JudgeAnswer : LogForm → ℕ → Bool → Files → List ℕ → List ℕ → List PlainChart → ℕ → List ℕ → Type 0
+JudgeAnswer form budget json files name log charts = ChartOutcome json name charts (λ chart. EntryOutcome form budget json files chart log)
 
 -- where a document is checked: how many charts it has
 abbrev pub CheckAnswer : Bool → List PlainChart → ℕ → List ℕ → Type 0
@@ -69,8 +69,8 @@ ListAnswer json None charts = Says (chart_list json charts)
 ListAnswer json (Some name) charts = ChartOutcome json name charts (λ chart. Says (instance_list json (listed_of chart)))
 
 -- what the entries of these names give
-abbrev pub FilesOutcome : LogForm → Bool → Files → List ℕ → List ℕ → List ℕ → ℕ → List ℕ → Type 0
-FilesOutcome form json files document name log = DocumentOutcome json files document (JudgeAnswer form json files name log)
+abbrev pub FilesOutcome : LogForm → ℕ → Bool → Files → List ℕ → List ℕ → List ℕ → ℕ → List ℕ → Type 0
+FilesOutcome form budget json files document name log = DocumentOutcome json files document (JudgeAnswer form budget json files name log)
 
 -- what the entry of this name gives where it is to be printed: later rules than those of the text aren't looked at
 pub data PrintOutcome (files : Files) (document : List ℕ) (status : ℕ) (text : List ℕ) : Type 0 where
@@ -80,7 +80,7 @@ pub data PrintOutcome (files : Files) (document : List ℕ) (status : ℕ) (text
 
 -- what a request gives for the entries
 abbrev pub RequestOutcome : Request → Files → ℕ → List ℕ → Type 0
-RequestOutcome (Judge document chart log budget json form) files = FilesOutcome form json files document chart log
+RequestOutcome (Judge document chart log budget json form) files = FilesOutcome form budget json files document chart log
 RequestOutcome (Check document json) files = DocumentOutcome json files document (CheckAnswer json)
 RequestOutcome (requests.List document chart json) files = DocumentOutcome json files document (ListAnswer json chart)
 RequestOutcome (Print document) files = PrintOutcome files document

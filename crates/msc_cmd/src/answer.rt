@@ -1,19 +1,19 @@
 //! Replies, and the command `judge`: document, chart and log, one after another. `command` calls it.
 
 ghost use Rattle.std.specs.Prelude.{◌≡◌, ◌<◌, ◌≤◌, ℕ, List, IfOk};
-ghost use Rattle.event_log.specs.declared.event.LogForm.{LogForm};
+ghost use Rattle.event_log.specs.declared.event.LogForm.{LogForm as Form};
 ghost use Rattle.judge_report.specs.declared.fault.Fault.TheVariants.{LogRead};
 ghost use Rattle.judge_report.specs.Texts.{IsTold, fault_line};
+ghost use Rattle.msc_base.specs.declared.limits.TheConstants.Limits.{BUDGET_MOST};
 ghost use Rattle.msc_expand.specs.Plain.{IsPlain};
+ghost use Rattle.msc_expand.specs.declared.plain_chart.PlainChart.{PlainChart as Chart};
 ghost use Rattle.msc_cmd.specs.Failures.{FailedAt, CannotRead};
-ghost use Rattle.msc_cmd.specs.LogIntakes.{IsTheLog, IsToldLog};
+ghost use Rattle.msc_cmd.specs.LogJudging.{IsJudged, IsToldLog};
 ghost use Rattle.msc_cmd.specs.Outcomes.{EntryOutcome, FilesOutcome, IfTold, IsTheOne, LogOutcome, status_of};
 
 use crate::document::chart_of;
 use crate::entry::ReadFault;
-use crate::judge::judge;
-use crate::log_intake::Log;
-use crate::log_reading::take_log;
+use crate::log_reading::{Judged, judge_entry};
 use crate::opening::{Opened, open_document};
 use event_log::LogForm;
 use judge_report::{Fault, fault_text, verdict_text};
@@ -29,11 +29,13 @@ pub struct Reply {
     pub text: Text,
 }
 
-/// How a log is written, and how the answer is told.
+/// How a log is written and judged, and how the answer is told.
 #[derive(Clone, Copy, Debug, PartialEq, Eq)]
 pub struct Style {
     /// The form of the log.
     pub form: LogForm,
+    /// The greatest weight of what may be left of the chart's term.
+    pub budget: u64,
     /// Whether the answer is told in JSON.
     pub json: bool,
 }
@@ -61,25 +63,23 @@ fn status_for(verdict: &Verdict) -> u8
     }
 }
 
-/// The reply for a log that has been read.
-fn answer_log(alloc: Global, chart: &PlainChart, log: &Log, json: bool) -> Result<Reply, NoMemory>
-    requires plain { IsPlain chart.now }
-    requires told { IsToldLog log.now }
+/// The reply for a log that has been judged.
+fn answer_log(alloc: Global, judged: &Judged, json: bool) -> Result<Reply, NoMemory>
+    requires { IsToldLog judged.now }
     ensures small { IfOk result (λ r. r.status < 7) }
     ensures not_two { IfOk result (λ r. r.status ≡ 2 → ⊥) }
-    ensures outcome { (form : LogForm) (bytes : List ℕ) → IsTheLog form bytes log.now
-        → IfOk result (λ r. IsTheOne (LogOutcome form json chart.now bytes) r.status r.text) }
+    ensures outcome { (chart : Chart) (form : Form) (budget : ℕ) (bytes : List ℕ) → IsJudged chart form budget bytes judged.now
+        → IfOk result (λ r. IsTheOne (LogOutcome form budget json chart bytes) r.status r.text) }
 {
-    match log {
-        Log::Events(events) => {
-            let verdict = judge(alloc, chart, events.as_slice())?;
-            let text = verdict_text(alloc, &verdict, json)?;
+    match judged {
+        Judged::Told(verdict) => {
+            let text = verdict_text(alloc, verdict, json)?;
             Ok(Reply {
-                status: status_for(&verdict),
+                status: status_for(verdict),
                 text,
             })
         }
-        Log::Refused(fault) => make_reply(alloc, 5, &Fault::Log { fault: *fault }, json),
+        Judged::Refused(fault) => make_reply(alloc, 5, &Fault::Log { fault: *fault }, json),
     }
 }
 
@@ -88,24 +88,25 @@ fn judge_log<S: Shelf>(
     alloc: Global,
     chart: &PlainChart,
     log: &Text,
-    form: LogForm,
-    json: bool,
+    style: Style,
     shelf: &mut S,
 ) -> Result<Reply, NoMemory>
-    requires { IsPlain chart.now }
+    requires plain { IsPlain chart.now }
+    requires least { 1 ≤ style.budget }
+    requires most { style.budget ≤ BUDGET_MOST }
     ensures later { S.faults shelf.old ≤ S.faults shelf.new }
     ensures small { IfOk result (λ r. r.status ≤ 7) }
     ensures not_two { IfOk result (λ r. r.status ≡ 2 → ⊥) }
-    ensures outcome { IfOk result (λ r. r.status < 7 → IfTold (S.files shelf.old) (λ f. IsTheOne (EntryOutcome form json f chart.now log.now) r.status r.text)) }
+    ensures outcome { IfOk result (λ r. r.status < 7 → IfTold (S.files shelf.old) (λ f. IsTheOne (EntryOutcome style.form style.budget style.json f chart.now log.now) r.status r.text)) }
     ensures failed { IfOk result (λ r. r.status ≡ 7 → FailedAt (S.faults shelf.old) (S.faults shelf.new) (S.broken shelf.new) (S.last shelf.new) log.now) }
-    ensures text { IfOk result (λ r. r.status ≡ 7 → r.text ≡ fault_line json LogRead) }
+    ensures text { IfOk result (λ r. r.status ≡ 7 → r.text ≡ fault_line style.json LogRead) }
 {
-    let read = match take_log(alloc, shelf, log, form) {
-        Ok(read) => read,
-        Err(ReadFault::Failed) => return make_reply(alloc, 7, &Fault::LogRead, json),
+    let judged = match judge_entry(alloc, shelf, chart, log, style.form, style.budget) {
+        Ok(judged) => judged,
+        Err(ReadFault::Failed) => return make_reply(alloc, 7, &Fault::LogRead, style.json),
         Err(ReadFault::NoMemory) => return Err(NoMemory),
     };
-    answer_log(alloc, chart, &read, json)
+    answer_log(alloc, &judged, style.json)
 }
 
 /// The reply for the document, the chart and the log of these names.
@@ -117,9 +118,11 @@ pub fn judge_files<S: Shelf>(
     style: Style,
     shelf: &mut S,
 ) -> Result<Reply, NoMemory>
+    requires least { 1 ≤ style.budget }
+    requires most { style.budget ≤ BUDGET_MOST }
     ensures small { IfOk result (λ r. r.status ≤ 7) }
     ensures not_two { IfOk result (λ r. r.status ≡ 2 → ⊥) }
-    ensures outcome { IfOk result (λ r. r.status < 7 → IfTold (S.files shelf.old) (λ f. IsTheOne (FilesOutcome style.form style.json f document.now name.now log.now) r.status r.text)) }
+    ensures outcome { IfOk result (λ r. r.status < 7 → IfTold (S.files shelf.old) (λ f. IsTheOne (FilesOutcome style.form style.budget style.json f document.now name.now log.now) r.status r.text)) }
     ensures failed { IfOk result (λ r. r.status ≡ 7 → CannotRead style.json (S.files shelf.old) (S.faults shelf.old) (S.faults shelf.new) (S.broken shelf.new) (S.last shelf.new) document.now name.now log.now r.text) }
 {
     let accepted = match open_document(alloc, document, style.json, shelf)? {
@@ -129,5 +132,5 @@ pub fn judge_files<S: Shelf>(
     let Some(chart) = chart_of(&accepted, name.bytes()) else {
         return make_reply(alloc, 4, &Fault::NoChart, style.json);
     };
-    judge_log(alloc, chart, log, style.form, style.json, shelf)
+    judge_log(alloc, chart, log, style, shelf)
 }

@@ -3,7 +3,7 @@
 ghost use Rattle.std.specs.Prelude.{◌≡◌, ◌<◌, ◌≤◌, ◌⊎◌, ◌++◌, ◌∷◌, [], List, ℕ, IfOk};
 ghost use Rattle.std.specs.Io.KnownBytes.{Appends, Keeps};
 ghost use Rattle.outside.specs.Causes.{Rose};
-ghost use Rattle.msc_cmd.specs.Requests.{IsNoRequest};
+ghost use Rattle.msc_cmd.specs.Requests.{HasBudget, IsNoRequest};
 ghost use Rattle.judge_report.specs.Writing.{AppendsPart};
 ghost use Rattle.msc_cmd.specs.Outcomes.{IsOutcome, IfTold, IsTheOne, RequestOutcome};
 ghost use Rattle.msc_cmd.specs.Failures.{CannotJudge, CannotServe};
@@ -20,6 +20,7 @@ use std::alloc::Global;
 
 /// The reply to a request.
 fn serve<S: Shelf>(alloc: Global, request: &Request, shelf: &mut S) -> Result<Reply, NoMemory>
+    requires { HasBudget request.now }
     ensures small { IfOk result (λ r. r.status ≤ 7) }
     ensures not_two { IfOk result (λ r. r.status ≡ 2 → ⊥) }
     ensures outcome { IfOk result (λ r. r.status < 7 → IfTold (S.files shelf.old) (λ f. IsTheOne (RequestOutcome request.now f) r.status r.text)) }
@@ -30,12 +31,13 @@ fn serve<S: Shelf>(alloc: Global, request: &Request, shelf: &mut S) -> Result<Re
             document,
             chart,
             log,
+            budget,
             json,
             form,
-            ..
         } => {
             let style = Style {
                 form: *form,
+                budget: *budget,
                 json: *json,
             };
             judge_files(alloc, document, chart, log, style, shelf)
@@ -76,6 +78,7 @@ fn answer<S: Shelf>(alloc: Global, words: &Words, shelf: &mut S) -> Result<Reply
 /// | 3 | the log stops early |
 /// | 4 | the document is refused, or it has no chart of that name |
 /// | 5 | the log is refused |
+/// | 6 | what is left of the chart's term after an event passes the budget |
 /// | 7 | the shelf failed |
 /// | 8 | the sink failed |
 /// | 9 | want of memory |

@@ -5,15 +5,12 @@
 
 mod answer;
 mod checking;
-mod columns;
 mod command;
 mod document;
 mod document_text;
 mod entry;
 mod intake;
-mod judge;
 mod listing;
-mod log_intake;
 mod log_reading;
 mod opening;
 mod printing;

@@ -1,17 +1,31 @@
-//! Reads a log from the shelf, piece by piece, up to its end or a fault: for `answer`.
+//! Reads a log from the shelf, piece by piece, and judges it as it comes, up to its end or a fault: for `answer`.
 
-ghost use Rattle.std.specs.Prelude.{◌≡◌, ◌<◌, ◌≤◌, ℕ, List, [], Option, Some, IfOk, IsErrOf, IsTrue, true, false};
+ghost use Rattle.std.specs.Prelude.{◌≡◌, ◌<◌, ◌≤◌, ℕ, List, [], Option, Some, IfOk, IsErrOf, IsTrue, true};
 ghost use Rattle.outside.specs.Causes.{Rose};
 ghost use Rattle.outside.specs.Shelves.{Files};
-ghost use Rattle.event_log.specs.declared.event.LogForm.{LogForm};
-ghost use Rattle.msc_cmd.specs.LogIntakes.{IsLogOf, IsReadingLog, IsStep};
+ghost use Rattle.event_log.specs.declared.event.LogForm.{LogForm as Form};
+ghost use Rattle.msc_base.specs.declared.limits.TheConstants.Limits.{BUDGET_MOST};
+ghost use Rattle.msc_expand.specs.Plain.{IsPlain};
+ghost use Rattle.msc_expand.specs.declared.plain_chart.PlainChart.{PlainChart as Chart};
+ghost use Rattle.msc_cmd.specs.LogJudging.{IsJudgedLog, IsReadingLog, IsStep};
 
 use crate::entry::{PIECE_BYTES, ReadFault, read_piece, start_entry};
-use crate::log_intake::{Log, LogIntake};
+use chart_judge::ChartJudge;
 use event_log::{LogFault, LogForm};
-use msc_base::{NoMemory, Text};
+use msc_base::{Text, Verdict};
+use msc_expand::PlainChart;
 use outside::Shelf;
 use std::alloc::Global;
+use trace_judge::JudgeFault;
+
+/// What the bytes of a log come to for a chart.
+#[derive(Clone, Copy, Debug, PartialEq, Eq)]
+pub enum Judged {
+    /// A log, on whose events this is the verdict.
+    Told(Verdict),
+    /// No log: this is their first fault.
+    Refused(LogFault),
+}
 
 /// What came of one read.
 #[derive(Clone, Copy, Debug, PartialEq, Eq)]
@@ -24,22 +38,21 @@ pub enum Step {
     Fault(LogFault),
 }
 
-/// Reads once, and takes what came.
+/// Reads once, and judges what came.
 fn take_more<S: Shelf>(
     shelf: &mut S,
     name: &Text,
-    intake: &mut LogIntake,
+    judge: &mut ChartJudge,
 ) -> Result<Step, ReadFault>
     requires begun { IsTrue (S.begun shelf.old) }
     requires last { S.last shelf.old ≡ Some name.now }
-    requires open { intake.old.reader.finished ≡ false }
 
     ensures files { S.files shelf.new ≡ S.files shelf.old }
     ensures begun { S.begun shelf.new ≡ S.begun shelf.old }
     ensures last { S.last shelf.new ≡ S.last shelf.old }
     ensures later { S.faults shelf.old ≤ S.faults shelf.new }
-    ensures step { (form : LogForm) → IsReadingLog form (S.files shelf.old) name.now (S.rest shelf.old) intake.old
-        → IfOk result (IsStep form (S.files shelf.new) name.now (S.rest shelf.new) intake.old.reader.count intake.new) }
+    ensures step { (chart : Chart) (form : Form) (budget : ℕ) → IsReadingLog chart form budget (S.files shelf.old) name.now (S.rest shelf.old) judge.old
+        → IfOk result (IsStep chart form budget (S.files shelf.new) name.now (S.rest shelf.new) judge.old.reader.count judge.new) }
     ensures failed { IsErrOf result ReadFault.Failed → Rose (S.faults shelf.old) (S.faults shelf.new) }
     ensures broken { IsErrOf result ReadFault.Failed → S.broken shelf.new ≡ true }
 {
@@ -48,45 +61,52 @@ fn take_more<S: Shelf>(
     if piece.is_empty() {
         return Ok(Step::End);
     }
-    match intake.take(piece) {
+    match judge.feed(piece) {
         Ok(()) => Ok(Step::More),
-        Err(LogFault::NoMemory) => Err(ReadFault::NoMemory),
-        Err(fault) => Ok(Step::Fault(fault)),
+        Err(JudgeFault::NoMemory) => Err(ReadFault::NoMemory),
+        Err(JudgeFault::Log(fault)) => Ok(Step::Fault(fault)),
     }
 }
 
-/// What the log that has been read is.
-fn ended(intake: LogIntake) -> Result<Log, ReadFault>
-    ensures log { (form : LogForm) (files : Option Files) (name : List ℕ) → IsReadingLog form files name (Some []) intake → IfOk result (IsLogOf form files name) }
+/// What the log that has been read comes to.
+fn ended(judge: ChartJudge) -> Result<Judged, ReadFault>
+    ensures log { (chart : Chart) (form : Form) (budget : ℕ) (files : Option Files) (name : List ℕ) → IsReadingLog chart form budget files name (Some []) judge
+        → IfOk result (IsJudgedLog chart form budget files name) }
     ensures failed { IsErrOf result ReadFault.Failed → ⊥ }
 {
-    match intake.end() {
-        Ok(log) => Ok(log),
-        Err(NoMemory) => Err(ReadFault::NoMemory),
+    match judge.finish() {
+        Ok(verdict) => Ok(Judged::Told(verdict)),
+        Err(JudgeFault::NoMemory) => Err(ReadFault::NoMemory),
+        Err(JudgeFault::Log(fault)) => Ok(Judged::Refused(fault)),
     }
 }
 
-/// Reads the log of this name to its end, or to the piece in which a fault is decided.
-pub fn take_log<S: Shelf>(
+/// Reads the log of this name to its end, or to the piece in which a fault is decided, and judges it by the chart.
+pub fn judge_entry<S: Shelf>(
     alloc: Global,
     shelf: &mut S,
+    chart: &PlainChart,
     name: &Text,
     form: LogForm,
-) -> Result<Log, ReadFault>
+    budget: u64,
+) -> Result<Judged, ReadFault>
+    requires plain { IsPlain chart.now }
+    requires least { 1 ≤ budget }
+    requires most { budget ≤ BUDGET_MOST }
     ensures files { S.files shelf.new ≡ S.files shelf.old }
     ensures later { S.faults shelf.old ≤ S.faults shelf.new }
-    ensures log { IfOk result (IsLogOf form (S.files shelf.old) name.now) }
+    ensures log { IfOk result (IsJudgedLog chart.now form budget (S.files shelf.old) name.now) }
     ensures failed { IsErrOf result ReadFault.Failed → Rose (S.faults shelf.old) (S.faults shelf.new) }
     ensures broken { IsErrOf result ReadFault.Failed → S.broken shelf.new ≡ true }
     ensures last { IsErrOf result ReadFault.Failed → S.last shelf.new ≡ Some name.now }
 {
     start_entry(alloc, shelf, name)?;
-    let mut intake = LogIntake::new(alloc, form)?;
+    let mut judge = ChartJudge::new(alloc, chart, form, budget)?;
     loop {
-        match take_more(shelf, name, &mut intake)? {
+        match take_more(shelf, name, &mut judge)? {
             Step::More => {}
-            Step::End => return ended(intake),
-            Step::Fault(fault) => return Ok(Log::Refused(fault)),
+            Step::End => return ended(judge),
+            Step::Fault(fault) => return Ok(Judged::Refused(fault)),
         }
     }
 }

@@ -2,10 +2,9 @@
 
 ghost use Rattle.std.specs.Prelude.{◌≡◌, IfOk, IfNone, IfSome, IsErrOf, map, option_map, true, false};
 ghost use Rattle.std.specs.List.{list_all};
-ghost use Rattle.std.specs.Str.{is_utf8};
+ghost use Rattle.std.specs.Str.{all_ascii_digits, is_utf8};
 ghost use Rattle.clap.specs.Words.{app_of, found_of, is_simple, is_simple_and_free, rows_of, with_rule};
-ghost use Rattle.msc_base.specs.declared.limits.TheConstants.Limits.{BUDGET_DEFAULT};
-ghost use Rattle.msc_cmd.specs.Requests.{Answers, HasNoRequest, IsFound, bare, check_app, check_from, check_in, check_request, command_request, flag, form_of, is_true, judge_app, judge_request, list_app, list_from, list_in, list_request, optional, print_app, print_from, print_in, print_request, request_from, request_in, request_of as request_in_words, wanted};
+ghost use Rattle.msc_cmd.specs.Requests.{Answers, HasNoRequest, IsFound, bare, budget_from, budget_in, check_app, check_from, check_in, check_request, command_request, flag, form_of, is_budget, is_short_number, is_true, judge_app, judge_request, list_app, list_from, list_in, list_request, optional, print_app, print_from, print_in, print_request, request_from, request_in, request_of as request_in_words, valued, wanted};
 ghost use Rattle.msc_cmd.specs.declared.requests.Request.TheVariants.{Judge, List};
 ghost use Rattle.msc_cmd.specs.declared.requests.WordFault.TheVariants.{NoRequest};
 
@@ -89,6 +88,18 @@ fn with_flag<'a>(
     command.arg(argument)
 }
 
+/// Adds an option with a value.
+fn with_valued<'a>(
+    alloc: Global,
+    command: Command<'a>,
+    name: &'a str,
+) -> Result<Command<'a>, AllocError>
+    ensures { IfOk result (λ c. app_of c ≡ with_rule (app_of command.entry) (valued name.entry.now)) }
+{
+    let argument = Arg::new(alloc, name).long(name).action(ArgAction::Set);
+    command.arg(argument)
+}
+
 /// A command without arguments yet, to which each word is one, `--help` too.
 fn bare_command<'a>(alloc: Global, name: &'a str) -> Command<'a>
     ensures { app_of result ≡ bare name.entry.now }
@@ -106,6 +117,7 @@ fn judge_command<'a>(alloc: Global) -> Result<Command<'a>, AllocError>
     let command = with_wanted(alloc, command, "document")?;
     let command = with_wanted(alloc, command, "chart")?;
     let command = with_wanted(alloc, command, "log")?;
+    let command = with_valued(alloc, command, "budget")?;
     let command = with_flag(alloc, command, "json")?;
     with_flag(alloc, command, "log-json")
 }
@@ -158,16 +170,82 @@ fn form_given(text: Option<&str>) -> LogForm
     }
 }
 
+/// How many digits a budget may have.
+const BUDGET_DIGITS: usize = 7;
+
+/// Whether each byte is a decimal digit.
+#[tactic(auto, using(crate::proofs::Numbers::more_digits, crate::proofs::Numbers::first_mark, crate::proofs::Numbers::all_digits))]
+fn are_digits(bytes: &[u8]) -> bool
+    ensures { result ≡ all_ascii_digits bytes.now }
+{
+    let mut rest = bytes;
+    while let Some((byte, others)) = rest.split_first() {
+        if !byte.is_ascii_digit() {
+            return false;
+        }
+        rest = others;
+    }
+    true
+}
+
+/// Whether the text is one to seven decimal digits.
+fn is_short_number(text: &str) -> bool
+    ensures { result ≡ is_short_number text.now }
+{
+    let digits = are_digits(text.as_bytes());
+    let length = text.len();
+    let some = 0 < length;
+    let short = length <= BUDGET_DIGITS;
+    digits & some & short
+}
+
+/// Whether it is a number from 1 to the greatest budget.
+fn is_budget(number: u64) -> bool
+    ensures { result ≡ is_budget number }
+{
+    number > 0 && number <= Limits::BUDGET_MOST
+}
+
+/// The budget in a text.
+fn budget_in(text: &str) -> Option<u64>
+    ensures { result ≡ budget_in text.now }
+{
+    if !is_short_number(text) {
+        return None;
+    }
+    match text.parse::<u64>() {
+        Ok(number) => {
+            if is_budget(number) {
+                Some(number)
+            } else {
+                None
+            }
+        }
+        Err(_) => None,
+    }
+}
+
+/// The budget that is asked for, or the one that stands where none is.
+fn budget_given(text: Option<&str>) -> Option<u64>
+    ensures { result ≡ budget_from (option_map (λ s. s.now) text.entry) }
+{
+    match text {
+        None => Some(Limits::BUDGET_DEFAULT),
+        Some(text) => budget_in(text),
+    }
+}
+
 /// The request to judge, with texts of its own.
 fn judge_of(
     alloc: Global,
     document: &str,
     chart: &str,
     log: &str,
+    budget: u64,
     json: bool,
     form: LogForm,
 ) -> Result<Request, NoMemory>
-    ensures { IfOk result (λ r. r ≡ Judge document.now chart.now log.now BUDGET_DEFAULT json form) }
+    ensures { IfOk result (λ r. r ≡ Judge document.now chart.now log.now budget json form) }
 {
     let document = Text::from_bytes(alloc, document.as_bytes())?;
     let chart = Text::from_bytes(alloc, chart.as_bytes())?;
@@ -176,7 +254,7 @@ fn judge_of(
         document,
         chart,
         log,
-        budget: Limits::BUDGET_DEFAULT,
+        budget,
         json,
         form,
     })
@@ -188,11 +266,12 @@ fn request_of_texts(
     document: Option<&str>,
     chart: Option<&str>,
     log: Option<&str>,
+    budget: Option<&str>,
     json: Option<&str>,
     log_json: Option<&str>,
 ) -> Result<Request, WordFault>
-    ensures { Answers (request_from (option_map (λ s. s.now) document.entry) (option_map (λ s. s.now) chart.entry)
-        (option_map (λ s. s.now) log.entry) (option_map (λ s. s.now) json.entry) (option_map (λ s. s.now) log_json.entry)) result }
+    ensures { Answers (request_from (option_map (λ s. s.now) document.entry) (option_map (λ s. s.now) chart.entry) (option_map (λ s. s.now) log.entry)
+        (option_map (λ s. s.now) budget.entry) (option_map (λ s. s.now) json.entry) (option_map (λ s. s.now) log_json.entry)) result }
 {
     let Some(document) = document else {
         return Err(WordFault::NoRequest);
@@ -203,9 +282,12 @@ fn request_of_texts(
     let Some(log) = log else {
         return Err(WordFault::NoRequest);
     };
+    let Some(budget) = budget_given(budget) else {
+        return Err(WordFault::NoRequest);
+    };
     let json = is_given(json);
     let form = form_given(log_json);
-    match judge_of(alloc, document, chart, log, json, form) {
+    match judge_of(alloc, document, chart, log, budget, json, form) {
         Ok(request) => Ok(request),
         Err(_) => Err(WordFault::NoMemory),
     }
@@ -299,6 +381,7 @@ fn request_of_matches(alloc: Global, matches: &ArgMatches) -> Result<Request, Wo
         matches.get_str("document"),
         matches.get_str("chart"),
         matches.get_str("log"),
+        matches.get_str("budget"),
         matches.get_str("json"),
         matches.get_str("log-json"),
     )

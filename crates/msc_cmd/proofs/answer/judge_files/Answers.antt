@@ -11,7 +11,7 @@ use Rattle.msc_cmd.proofs.answer.judge_files.Goals as goal
 pub returns-in-Told-clause-outcome : goal.returns-in-Told-clause-outcome
 returns-in-Told-clause-outcome g c =
     let h : IsOpened c.args.style.json (g.S.Shelf.files c.args.shelf.now) (g.S.Shelf.faults c.args.shelf.now) (g.S.Shelf.faults c.open_document.new.shelf) (g.S.Shelf.broken c.open_document.new.shelf) (g.S.Shelf.last c.open_document.new.shelf) c.args.document.now (Told c.in-Told.reply) = search rules in
-    told_outcome c.args.style.json _ _ _ _ _ c.args.document.now c.in-Told.reply (λ f. JudgeAnswer c.args.style.form c.args.style.json f c.args.name.now c.args.log.now) h
+    told_outcome c.args.style.json _ _ _ _ _ c.args.document.now c.in-Told.reply (λ f. JudgeAnswer c.args.style.form c.args.style.budget c.args.style.json f c.args.name.now c.args.log.now) h
 
 pub returns-clause-outcome : goal.returns-clause-outcome
 returns-clause-outcome g c =
@@ -19,9 +19,9 @@ returns-clause-outcome g c =
     let found : option_copied c.chart_of.result ≡ chart_named c.bytes.result.now c.in-Accepted.accepted = c.chart_of.ensures.named in
     let some : Some c.in-Some.chart.now ≡ option_copied c.chart_of.result = search rules in
     let named : chart_named c.args.name.now c.in-Accepted.accepted ≡ Some c.in-Some.chart.now = sym (some ∙ found ∙ ap (λ (n : List ℕ). chart_named n c.in-Accepted.accepted) c.bytes.ensures) in
-    let judged : IfOk c.judge_log.result (λ x. x.status < 7 → IfTold (g.S.Shelf.files c.args.shelf.now) (λ f. IsTheOne (EntryOutcome c.args.style.form c.args.style.json f c.in-Some.chart.now c.args.log.now) x.status x.text)) =
-    subst (λ files. IfOk c.judge_log.result (λ x. x.status < 7 → IfTold files (λ f. IsTheOne (EntryOutcome c.args.style.form c.args.style.json f c.in-Some.chart.now c.args.log.now) x.status x.text))) c.open_document.ensures.files c.judge_log.ensures.outcome in
-    judged_told c.args.style.form c.args.style.json _ _ _ _ h.bytes c.in-Accepted.accepted c.in-Some.chart.now _ h.held h.is named judged
+    let judged : IfOk c.judge_log.result (λ x. x.status < 7 → IfTold (g.S.Shelf.files c.args.shelf.now) (λ f. IsTheOne (EntryOutcome c.args.style.form c.args.style.budget c.args.style.json f c.in-Some.chart.now c.args.log.now) x.status x.text)) =
+    subst (λ files. IfOk c.judge_log.result (λ x. x.status < 7 → IfTold files (λ f. IsTheOne (EntryOutcome c.args.style.form c.args.style.budget c.args.style.json f c.in-Some.chart.now c.args.log.now) x.status x.text))) c.open_document.ensures.files c.judge_log.ensures.outcome in
+    judged_told c.args.style.form c.args.style.budget c.args.style.json _ _ _ _ h.bytes c.in-Accepted.accepted c.in-Some.chart.now _ h.held h.is named judged
 
 pub returns-clause-failed : goal.returns-clause-failed
 returns-clause-failed g c =
@@ -37,4 +37,4 @@ returns-in_default-clause-outcome g c =
     let none : None ≡ option_copied c.chart_of.result = search rules in
     let lacks : chart_named c.args.name.now c.in-Accepted.accepted ≡ None =
     sym (none ∙ c.chart_of.ensures.named ∙ ap (λ (n : List ℕ). chart_named n c.in-Accepted.accepted) c.bytes.ensures) in
-    no_chart_told c.args.style.form c.args.style.json _ _ _ _ h.bytes c.in-Accepted.accepted _ h.held h.is lacks c.make_reply.ensures.status c.make_reply.ensures.text
+    no_chart_told c.args.style.form c.args.style.budget c.args.style.json _ _ _ _ h.bytes c.in-Accepted.accepted _ h.held h.is lacks c.make_reply.ensures.status c.make_reply.ensures.text

@@ -1,4 +1,4 @@
-use Rattle.std.proofs.Common.{rules, ◌≡◌, IsErrOf}
+use Rattle.std.proofs.Common.{rules, IsErrOf}
 use Rattle.msc_expand.specs.declared.accepted.DocFault.TheVariants.{Refused}
 use Rattle.msc_cmd.proofs.document.come_to.Goals as goal
 

@@ -7,5 +7,5 @@ use Rattle.msc_cmd.proofs.requests.request_of_matches.Goals as goal
 
 pub returns : goal.returns
 returns c = subst (λ (o : Option Request). Answers o c.request_of_texts.result)
-    (firsts (found_of c.args.matches.now) _ _ _ _ _ c.get_str.ensures c.get_str-2.ensures c.get_str-3.ensures c.get_str-4.ensures c.get_str-5.ensures)
+    (firsts (found_of c.args.matches.now) _ _ _ _ _ _ c.get_str.ensures c.get_str-2.ensures c.get_str-3.ensures c.get_str-4.ensures c.get_str-5.ensures c.get_str-6.ensures)
     c.request_of_texts.ensures

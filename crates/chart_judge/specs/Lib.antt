@@ -1,0 +1,4 @@
+pub mod ChartTerms
+pub mod ChartVerdicts
+pub mod ChartsTold
+pub mod Judging

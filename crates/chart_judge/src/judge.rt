@@ -1,0 +1,114 @@
+//! The judge of a log by a chart, which is fed the log in pieces: what the command judges by.
+
+ghost use Rattle.std.specs.Prelude.{◌≡◌, ◌≤◌, ◌++◌, [], ℕ, List, false, IfOk, IfErr, IfSome, OnOk};
+ghost use Rattle.chart_judge.specs.Judging.{IsJudging, IsVerdictOn};
+ghost use Rattle.event_log.specs.declared.event.LogForm.{LogForm as Form};
+ghost use Rattle.msc_base.specs.declared.limits.TheConstants.Limits.{BUDGET_MOST};
+ghost use Rattle.msc_expand.specs.Plain.{IsPlain};
+ghost use Rattle.msc_expand.specs.declared.plain_chart.PlainChart.{PlainChart as Chart};
+ghost use Rattle.trace_judge.specs.Judged.{IsJudgeFault, fault_in};
+
+use crate::laws::verdicts_are_told;
+use crate::messages::message_pairs;
+use event_log::LogForm;
+use msc_base::{NoMemory, Verdict};
+use msc_expand::PlainChart;
+use row_terms::laws::row_terms_mean;
+use row_terms::row_term;
+use std::alloc::Global;
+use std::marker::Model;
+use trace_judge::{Judge, JudgeFault, Residuals};
+use verdict_meaning::laws::HasUnfoldings;
+
+/// A chart, for the laws of what has unfoldings.
+pub(crate) struct Charted {
+    chart: PlainChart,
+}
+
+impl Model for Charted {
+    ghost use Rattle.msc_expand.specs.declared.plain_chart.PlainChart.{PlainChart};
+
+    ghost Value = { PlainChart };
+
+    ghost view = { λ c. c.chart };
+}
+
+impl HasUnfoldings for Charted {
+    ghost use Rattle.msc_expand.specs.Meanings.{Unfolds};
+
+    ghost finished = { Unfolds };
+
+    ghost begun = { Unfolds };
+}
+
+/// Judges a log, which it is fed in pieces, by a chart.
+#[derive(Drop)]
+pub struct ChartJudge {
+    judge: Judge<Residuals>,
+}
+
+impl Model for ChartJudge {
+    ghost use Rattle.std.specs.Coded.{codes};
+    ghost use Rattle.chart_term.specs.Codes.{coded_tree};
+    ghost use Rattle.trace_judge.specs.Sets.{SetValue};
+    ghost use Rattle.trace_judge.specs.States.{JudgeValue};
+
+    ghost Value = { JudgeValue SetValue };
+
+    ghost coded = { Prim.hlevel (codes, coded_tree) };
+
+    ghost view = { λ j. j.judge };
+}
+
+impl ChartJudge {
+    /// A judge of a log of this form by the chart, to which nothing has been fed. The weight of what may be left of the chart's
+    /// term after an event is the budget at most.
+    pub fn new(
+        alloc: Global,
+        chart: &PlainChart,
+        form: LogForm,
+        budget: u64,
+    ) -> Result<ChartJudge, NoMemory>
+        requires plain { IsPlain chart.now }
+        requires least { 1 ≤ budget }
+        requires most { budget ≤ BUDGET_MOST }
+        ensures { IfOk result (λ judge. IsJudging chart.now form budget [] judge) }
+    {
+        row_terms_mean();
+        let pairs = message_pairs(alloc, chart)?;
+        let made = row_term(
+            alloc,
+            chart.instances.as_slice(),
+            chart.events.as_slice(),
+            pairs,
+        )?;
+        let judge = Judge::new(alloc, made.nets, made.term, form, budget)?;
+        Ok(ChartJudge { judge })
+    }
+
+    /// Takes the next bytes of the log. It fails exactly where a fault of the log is decided within the bytes fed so far, or for
+    /// want of memory, and from then on always with the same fault.
+    pub fn feed(&mut self, piece: &[u8]) -> Result<(), JudgeFault>
+        ensures fed { (chart : Chart) (form : Form) (budget : ℕ) (bytes : List ℕ) → IsJudging chart form budget bytes self.old
+            → OnOk result (IsJudging chart form budget (bytes ++ piece.now) self.new) }
+        ensures refused { (chart : Chart) (form : Form) (budget : ℕ) (bytes : List ℕ) → IsJudging chart form budget bytes self.old
+            → (more : List ℕ) → IfErr result (IsJudgeFault form false ((bytes ++ piece.now) ++ more)) }
+        ensures fault { fault_in result ≡ self.new.fault }
+        ensures again { IfSome self.old.fault (λ fault. (result ≡ Err fault) × (self.new ≡ self.old)) }
+    {
+        self.judge.feed(piece)
+    }
+
+    /// Ends the log, and gives the verdict on its events. It fails exactly where the whole log has a fault, or for want of memory;
+    /// after a fault of `feed` with that.
+    pub fn finish(self) -> Result<Verdict, JudgeFault>
+        ensures verdict { (chart : Chart) (form : Form) (budget : ℕ) (bytes : List ℕ) → IsJudging chart form budget bytes self
+            → IfOk result (IsVerdictOn chart form budget bytes) }
+        ensures fault { (chart : Chart) (form : Form) (budget : ℕ) (bytes : List ℕ) → IsJudging chart form budget bytes self
+            → IfErr result (IsJudgeFault form false bytes) }
+        ensures again { IfSome self.fault (λ fault. result ≡ Err fault) }
+    {
+        verdicts_are_told();
+        self.judge.finish()
+    }
+}
