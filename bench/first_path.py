@@ -8,11 +8,10 @@ PROGRAM is the built program (crates/mscjudge/out/mscjudge after `rt run mscjudg
 """
 import os
 import random
-import resource
-import subprocess
 import sys
 import tempfile
-import time
+
+import measured
 
 
 def chart_of(statements, instances, seed):
@@ -69,16 +68,11 @@ def main():
             file.write(text)
         with open(os.path.join(folder, "large.log"), "w") as file:
             file.write(log)
-        start = time.monotonic()
-        done = subprocess.run([program, "judge", "large.msc", "Large", "large.log"], cwd=folder, capture_output=True, check=False)
-        seconds = time.monotonic() - start
-    usage = resource.getrusage(resource.RUSAGE_CHILDREN)
-    peak = usage.ru_maxrss / 1024
-    processor = usage.ru_utime + usage.ru_stime
+        done = measured.run([program, "judge", "large.msc", "Large", "large.log"], folder)
     print("statements %d, instances %d, document %d bytes, log %d bytes" % (statements, instances, len(text), len(log)))
-    print("status %d, %s" % (done.returncode, done.stdout.decode().strip()))
-    print("%.2f seconds, %.2f of a processor, peak memory %.0f MiB" % (seconds, processor, peak))
-    return 0 if done.returncode == 0 else 1
+    print("status %d, %s" % (done.status, done.printed.decode().strip()))
+    print("%.2f seconds, %.2f of a processor, peak memory %.0f MiB" % (done.passed, done.processor, done.peak))
+    return 0 if done.status == 0 else 1
 
 
 if __name__ == "__main__":

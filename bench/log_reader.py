@@ -5,16 +5,15 @@ usage: log_reader.py PROGRAM [EVENTS]
 
 PROGRAM is the built program (crates/mscjudge/out/mscjudge after `rt run mscjudge`). The log has so many events (1,000,000)
 of all kinds. The chart of the document has no event, so the first one fails: what is measured is the reading, which goes to the
-log's end before anything is judged. Each run is taken three times, and the least time counts; the time of an empty log is taken off.
+log's end whatever the verdict is. Each run is taken three times, and the least time counts; the time of an empty log is taken off.
 Processor time is given beside the time that passed, since it depends less on what else the machine does.
 """
 import json
 import os
-import resource
-import subprocess
 import sys
 import tempfile
-import time
+
+import measured
 
 # an event in the text form, and its kind, text and far end in JSON
 EVENTS = [
@@ -45,21 +44,11 @@ def log_of(form, events):
     return "".join(lines) * rounds + "".join(lines[:left])
 
 
-def used():
-    """The processor time of the programs that were run, and their peak memory in MiB."""
-    usage = resource.getrusage(resource.RUSAGE_CHILDREN)
-    return usage.ru_utime + usage.ru_stime, usage.ru_maxrss / 1024
-
-
 def timed(program, folder, options):
-    """The least passed time and processor time of three runs, and what was printed."""
-    passed, processor = [], []
-    for _ in range(3):
-        start, before = time.monotonic(), used()[0]
-        done = subprocess.run([program, "judge", "none.msc", "None", "log"] + options, cwd=folder, capture_output=True, check=False)
-        passed.append(time.monotonic() - start)
-        processor.append(used()[0] - before)
-    return min(passed), min(processor), done.stdout.decode().strip()
+    """Three runs: the least passed time and processor time, the largest peak memory, and what was printed."""
+    runs = [measured.run([program, "judge", "none.msc", "None", "log"] + options, folder) for _ in range(3)]
+    printed = runs[0].printed.decode().strip()
+    return min(run.passed for run in runs), min(run.processor for run in runs), max(run.peak for run in runs), printed
 
 
 def write(folder, name, text):
@@ -75,16 +64,16 @@ def main():
         write(folder, "none.msc", "msc None; inst n1,n2; endmsc;\n")
         for form, options in (("lines", []), ("json", ["--log-json"])):
             write(folder, "log", "")
-            empty, empty_processor, _ = timed(program, folder, options)
+            empty, empty_processor, _, _ = timed(program, folder, options)
             log = log_of(form, events)
             write(folder, "log", log)
-            passed, processor, printed = timed(program, folder, options)
+            passed, processor, peak, printed = timed(program, folder, options)
             good = good and printed == "fails at event 1, line 1"
             net = max(processor - empty_processor, 1e-9)
             print("%s: %d events, %d bytes, %s" % (form, events, len(log), printed))
             print("%s: %.2f seconds passed, %.2f seconds of a processor" % (form, passed - empty, net))
-            print("%s: %.1f million bytes and %.2f million events in a second of a processor; peak memory so far %.0f MiB"
-                  % (form, len(log) / net / 1e6, events / net / 1e6, used()[1]))
+            print("%s: %.1f million bytes and %.2f million events in a second of a processor; peak memory %.0f MiB"
+                  % (form, len(log) / net / 1e6, events / net / 1e6, peak))
     print("load of the machine in the last minute: %.1f, processors: %d" % (os.getloadavg()[0], os.cpu_count()))
     return 0 if good else 1
 

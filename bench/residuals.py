@@ -29,7 +29,7 @@ WORKS = [
     ("choices", 2_000), ("choices", 30_000),
     ("ahead", 2_000), ("ahead", 30_000), ("ahead", 500_000),
     ("behind", 2_000), ("behind", 30_000),
-    ("statements", 3_000), ("statements", 6_000),
+    ("statements", 3_000), ("statements", 6_000), ("statements", 66_000),
 ]
 
 

@@ -6,7 +6,7 @@ _mscjudge() {
         return
     fi
     case ${COMP_WORDS[1]} in
-        judge) [[ $word == -* ]] && words="--json --log-json" ;;
+        judge) [[ $word == -* ]] && words="--budget --json --log-json" ;;
         check) [[ $word == -* ]] && words="--json" ;;
         list) [[ $word == -* ]] && words="--json" ;;
         print) [[ $word == -* ]] && words="" ;;

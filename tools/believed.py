@@ -78,7 +78,10 @@ def imported(text):
             name, _, other = part.strip().partition(" as ")
             found.setdefault(other or name, []).extend(targets(dotted, [name]))
         if not names:
-            found.setdefault(alias or dotted.split(".")[-1], []).extend(targets(dotted, [dotted.split(".")[-1]]))
+            crate, _, file = dotted.partition(".specs.")
+            module = f"crates/{crate}/specs/{file.replace('.', '/')}.antt"
+            nodes = targets(dotted, [dotted.split(".")[-1]]) or [(module, "") for _ in [0] if module in ITEMS]
+            found.setdefault(alias or dotted.split(".")[-1], []).extend(nodes)
     return found
 
 
@@ -135,7 +138,8 @@ def names_in(text, *tables):
     for word, inner in WORD.findall(text):
         for table in tables:
             for path, name in table.get(word, []):
-                found.append((path, inner if inner and path in ITEMS and inner in ITEMS[path] else name))
+                name = inner if inner and path in ITEMS and inner in ITEMS[path] else name
+                found += [(path, name)] if name else []
     for dotted in re.findall(r"Rattle\.([\w.]+)", re.sub(USE, "", text)):
         found += targets(dotted.rpartition(".")[0], [dotted.rpartition(".")[2]])
     return found

@@ -25,11 +25,22 @@ def roff(text):
     return re.sub(r"^([.'])", r"\\&\1", text, flags=re.M)
 
 
+def bare(option):
+    """An option without its value."""
+    return option.split()[0]
+
+
+def marked(option):
+    """An option as roff has it, with its value as a name."""
+    name, *value = option.split()
+    return "\\fB" + roff(name) + "\\fR" + "".join(f" \\fI{one}\\fR" for one in value)
+
+
 def manual(words):
     """The manual page."""
     lines = [f'.\\" {MADE}', f".TH MSCJUDGE 1 {words['date']} mscjudge", ".SH NAME", f"mscjudge \\- {roff(words['summary'])}", ".SH SYNOPSIS"]
     for command in words["commands"]:
-        options = "".join(f" [\\fB{roff(option)}\\fR]" for option in command["options"])
+        options = "".join(f" [{marked(option)}]" for option in command["options"])
         names = " ".join(re.sub(r"(\w+)", r"\\fI\1\\fR", name) for name in command["takes"])
         lines += [f".B mscjudge {command['name']}", names + options, ".br"]
     lines[-1:] = [".SH DESCRIPTION"]
@@ -57,7 +68,7 @@ def manual(words):
 
 
 def options_of(words):
-    return {command["name"]: " ".join(command["options"]) for command in words["commands"]}
+    return {command["name"]: " ".join(map(bare, command["options"])) for command in words["commands"]}
 
 
 def bash(words):
@@ -84,12 +95,22 @@ complete -o filenames -F _mscjudge mscjudge
 """
 
 
+def zsh_option(option):
+    """An option as zsh's _arguments has it, up to what it does."""
+    return bare(option) + ("=" if bare(option) != option else "")
+
+
+def zsh_value(option):
+    """And its value."""
+    return "".join(f":{value}:" for value in option.split()[1:])
+
+
 def zsh(words):
     """The completion for zsh."""
     names = "\n".join(f"        '{command['name']}:{command['does']}'" for command in words["commands"])
     cases = []
     for command in words["commands"]:
-        given = " ".join(f"'{option}[{words['options'][option]}]'" for option in command["options"])
+        given = " ".join(f"'{zsh_option(option)}[{words['options'][option]}]{zsh_value(option)}'" for option in command["options"])
         takes = " ".join(f"':{name.strip('[]')}:{'_files' if name in ('DOC', 'LOG') else ''}'".replace(":'", ": '") for name in command["takes"])
         takes = takes.replace("':CHART", "'::CHART") if "[CHART]" in command["takes"] else takes
         cases.append(f"        {command['name']}) _arguments {' '.join(part for part in (given, takes) if part)} ;;")
@@ -120,7 +141,7 @@ def fish(words):
         lines.append(f"complete -c mscjudge -f -n __fish_use_subcommand -a {command['name']} -d '{command['does']}'")
     for command in words["commands"]:
         for option in command["options"]:
-            lines.append(f"complete -c mscjudge -n '__fish_seen_subcommand_from {command['name']}' -l {option[2:]} -d '{words['options'][option]}'")
+            lines.append(f"complete -c mscjudge -n '__fish_seen_subcommand_from {command['name']}' -l {bare(option)[2:]}{' -x' if bare(option) != option else ''} -d '{words['options'][option]}'")
     return "\n".join(lines) + "\n"
 
 
@@ -133,7 +154,7 @@ def of_code(words):
     had = {}
     for name, body in re.findall(r'bare_command\(alloc, "(\w+)"\);(.*?)\n\}', code, re.S):
         takes = [(f"[{word}]" if kind == "optional" else word) for kind, word in re.findall(r'with_(wanted|optional)\(alloc, command, "(\w+)"', body)]
-        had[name] = (takes, ["--" + word for word in re.findall(r'with_flag\(alloc, command, "([\w-]+)"', body)])
+        had[name] = (takes, ["--" + word + (" N" if kind == "valued" else "") for kind, word in re.findall(r'with_(flag|valued)\(alloc, command, "([\w-]+)"', body)])
     short = {"DOC": "document", "CHART": "chart", "LOG": "log", "[CHART]": "[chart]"}
     told = {command["name"]: ([short[name] for name in command["takes"]], command["options"]) for command in words["commands"]}
     if had != told:
@@ -181,10 +202,10 @@ def of_program(words, program):
             values = {"DOC": "a.msc", "CHART": "A", "LOG": "a.log"}
             given = [command["name"], *(values[name.strip("[]")] for name in command["takes"])]
             for option in command["options"]:
-                if ran([*given, option])[0] == 2:
+                if ran([*given, *option.replace(" N", " 5").split()])[0] == 2:
                     yield f"{' '.join(given)} {option} is no request"
             for option in ("--help", "--version", *(option for option in words["options"] if option not in command["options"])):
-                if ran([*given, option]) != (2, words["usage"] + "\n"):
+                if ran([*given, *option.replace(" N", " 5").split()]) != (2, words["usage"] + "\n"):
                     yield f"{' '.join(given)} {option} is a request"
         for given in ([], ["help"], ["--help"]):
             if ran(given) != (2, words["usage"] + "\n"):
@@ -207,7 +228,7 @@ def of_readme(words):
 
 def of_shells(words, room):
     """What the completions offer behind the program's name and behind `judge -`, where their shells are installed."""
-    wanted = {"mscjudge ": {command["name"] for command in words["commands"]}, "mscjudge judge -": set(words["options"])}
+    wanted = {"mscjudge ": {command["name"] for command in words["commands"]}, "mscjudge judge -": set(map(bare, words["options"]))}
     for line, offers in wanted.items():
         parts = " ".join(f"'{part}'" for part in line.split(" "))
         by_bash = f"source share/mscjudge.bash; COMP_WORDS=({parts}); COMP_CWORD=$((${{#COMP_WORDS[@]}} - 1)); _mscjudge; printf '%s\\n' \"${{COMPREPLY[@]}}\""

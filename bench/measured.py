@@ -1,0 +1,49 @@
+#!/usr/bin/env python3
+"""Runs a program, for the other scripts, and tells its time and its peak memory.
+
+A child of a process counts that process's memory as its own until it is the program, so a script that holds a large text can't
+measure a program that it starts. `run` starts this file, which is small, and this file starts the program; below its own size
+of about 10 MiB nothing can be told apart.
+"""
+import base64
+import json
+import os
+import resource
+import subprocess
+import sys
+import time
+
+
+class Run:
+    """How a program ended: its status, what it printed, the seconds that passed, the seconds of a processor, the peak memory in MiB."""
+
+    def __init__(self, told):
+        self.status = told["status"]
+        self.printed = base64.b64decode(told["printed"])
+        self.passed = told["passed"]
+        self.processor = told["processor"]
+        self.peak = told["peak"]
+
+
+def run(words, folder):
+    """Runs the program of these words in the folder."""
+    told = subprocess.run([sys.executable, "-S", "-E", os.path.abspath(__file__)] + words, cwd=folder, capture_output=True, check=True)
+    return Run(json.loads(told.stdout))
+
+
+def main():
+    start = time.monotonic()
+    done = subprocess.run(sys.argv[1:], stdout=subprocess.PIPE, stderr=subprocess.STDOUT, check=False)
+    passed = time.monotonic() - start
+    usage = resource.getrusage(resource.RUSAGE_CHILDREN)
+    json.dump({
+        "status": done.returncode,
+        "printed": base64.b64encode(done.stdout).decode(),
+        "passed": passed,
+        "processor": usage.ru_utime + usage.ru_stime,
+        "peak": usage.ru_maxrss / 1024,
+    }, sys.stdout)
+
+
+if __name__ == "__main__":
+    main()
