@@ -1,5 +1,5 @@
 -- The k-th output of a class is paired with its k-th input. An end is an edge from its class to its event.
-use Rattle.std.specs.Prelude.{◌≡◌, ℕ, ◌+◌, List, [], ◌∷◌, ◌++◌, Some, slice_get, take, nat_eq, if◌then◌else◌, zero, suc}
+use Rattle.std.specs.Prelude.{◌≡◌, ◌≤◌, ⊤, ℕ, ◌+◌, List, [], ◌∷◌, ◌++◌, Option, Some, None, slice_get, take, nat_eq, if◌then◌else◌, suc}
 use Rattle.item_order.specs.declared.edge.Edge.{Edge}
 use Rattle.item_order.specs.Counts.{targets}
 
@@ -21,11 +21,22 @@ pub record IsPair (outs ins : List Edge) (p q : ℕ) : Type 0 where
   pub output : IsKth outs class k p
   pub input : IsKth ins class k q
 
-abbrev pub zipped : List ℕ → List ℕ → List Edge
-zipped [] ys = []
-zipped (x ∷ xs) [] = []
-zipped (x ∷ xs) (y ∷ ys) = record { from = x; to = y } ∷ zipped xs ys
+-- the pair of an output, where it has an input
+abbrev pub pair_with : ℕ → Option ℕ → List Edge
+pair_with p None = []
+pair_with p (Some q) = record { from = p; to = q } ∷ []
 
-abbrev pub pairs_of : ℕ → List Edge → List Edge → List Edge
-pairs_of zero outs ins = []
-pairs_of (suc c) outs ins = pairs_of c outs ins ++ zipped (targets outs c) (targets ins c)
+-- the pairs of these outputs, before which others stand in front; they stand in the order of their outputs
+abbrev pub pairs_behind : List Edge → List Edge → List Edge → List Edge
+pairs_behind prefix [] ins = []
+pairs_behind prefix (e ∷ es) ins = pair_with e.to (slice_get (targets ins e.from) (count e.from prefix)) ++ pairs_behind (prefix ++ e ∷ []) es ins
+
+-- the numbers of the events rise along the ends, from n on
+abbrev pub RiseTo : ℕ → List Edge → Type 0
+RiseTo n [] = ⊤
+RiseTo n (e ∷ es) = (n ≤ e.to) × RiseTo (suc e.to) es
+
+-- the numbers of the outputs rise along the pairs, from n on
+abbrev pub RiseFrom : ℕ → List Edge → Type 0
+RiseFrom n [] = ⊤
+RiseFrom n (e ∷ es) = (n ≤ e.from) × RiseFrom (suc e.from) es

@@ -1,6 +1,6 @@
 -- The woven list of a level. Its items are numbered in the order of their places; a column is the list of
 -- the items of one instance.
-use Rattle.std.specs.Prelude.{◌≡◌, ℕ, ◌<◌, List, [], ◌∷◌, ◌⊎◌, ⊤, if◌then◌else◌}
+use Rattle.std.specs.Prelude.{◌≡◌, ℕ, ◌<◌, List, [], ◌∷◌, ◌⊎◌, if◌then◌else◌}
 use Rattle.msc_base.specs.Lists.{AreDifferent, IsAmong}
 use Rattle.item_order.specs.Orders.{IsEarliestFirst, IsStuckAt}
 use Rattle.item_order.specs.Counts.{has}

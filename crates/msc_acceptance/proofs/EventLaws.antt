@@ -16,6 +16,7 @@ use Rattle.msc_tree.specs.Statements.{placed, Single, Coregion, Condition, Inlin
 use Rattle.msc_meaning.specs.Bodies.{EventNode, Body, level}
 use Rattle.msc_meaning.specs.Calls.{calls, event_calls}
 use Rattle.msc_meaning.specs.Pairing.{HasPair, ArePairs}
+use Rattle.msc_meaning.proofs.PairingLaws.{one_list}
 use Rattle.msc_meaning.specs.Pairing as pairing
 use Rattle.msc_meaning.specs.Partners.{IsEarly}
 use Rattle.msc_meaning.specs.PlainCharts.{singles}
@@ -36,7 +37,7 @@ use Rattle.msc_acceptance.specs.Acceptance.{BreaksOf}
 use Rattle.msc_acceptance.specs.Deciding.{AllKept, all_groups}
 use Rattle.msc_acceptance.proofs.AcceptLaws.{free}
 use Rattle.msc_acceptance.proofs.WalkLaws.{in_one, one_built}
-use Rattle.msc_acceptance.specs.EventCharts.{AreAlike, HasEventsAlone, HaveEventsAlone, IsAlike}
+use Rattle.msc_acceptance.specs.EventCharts.{HasEventsAlone, HaveEventsAlone}
 
 -- ---- events that call no gate
 
@@ -193,20 +194,28 @@ entries_have (c ∷ charts) [] h built late = elim h [ ]
 entries_have (c ∷ charts) (e ∷ table) (entry_and is others) built late =
     (entry_has c e (built c (inl refl)) (λ p g. late c p (inl refl) g) is, entries_have charts table others (λ d m. built d (inr m)) (λ d p m g. late d p (inr m) g))
 
-alike : (c : Chart) (v w : Woven) → EntryIs c v → EntryIs c w → IsAlike v w
-alike c v w a b =
-    subst (λ (x : Woven). IsAlike x w) (sym a.is) (subst (λ (y : Woven). IsAlike (Basic (level (instances c) (singles (numbered 0 (chart_events c))) a.pairs)) y) (sym b.is)
-    (refl, refl, λ p q h. b.paired.every p q (a.paired.paired p q h), λ p q h. a.paired.every p q (b.paired.paired p q h)))
+-- a chart has one content, and one entry
+one_content : (c : Chart) (v w : Woven) → EntryIs c v → EntryIs c w → v ≡ w
+one_content c v w a b =
+    a.is
+    ∙ ap (λ (pairs : List Pair). Basic (level (instances c) (singles (numbered 0 (chart_events c))) pairs)) (one_list (numbered 0 (chart_events c)) a.pairs b.pairs a.paired b.paired)
+    ∙ sym b.is
 
-pub entries_alike : (charts : List Chart) (table others : Table) → ((c : Chart) → IsAmong charts c → IsBuilt c) → AreEntriesOf instances charts table → AreEntriesOf instances charts others → AreAlike table others
-entries_alike [] [] [] built h k = tt
-entries_alike [] [] (d ∷ others) built h k = elim k [ ]
-entries_alike [] (e ∷ table) others built h k = elim h [ ]
-entries_alike (c ∷ charts) [] others built h k = elim h [ ]
-entries_alike (c ∷ charts) (e ∷ table) [] built h k = elim k [ ]
-entries_alike (c ∷ charts) (e ∷ table) (d ∷ others) built (entry_and is more) (entry_and at rest) =
-    let own : IsBuilt c = built c (inl refl) in
-    ((is.name ∙ sym at.name, is.decls ∙ sym at.decls, alike c e.content d.content (entry_is c e.content own is.content) (entry_is c d.content own at.content)), entries_alike charts table others (λ x m. built x (inr m)) more rest)
+one_entry : (c : Chart) (e d : ChartEntry) → IsBuilt c → IsEntryOf (instances c) c e → IsEntryOf (instances c) c d → e ≡ d
+one_entry c e d built is at =
+    let name : e.name ≡ d.name = is.name ∙ sym at.name in
+    let decls : e.decls ≡ d.decls = is.decls ∙ sym at.decls in
+    let content : e.content ≡ d.content = one_content c e.content d.content (entry_is c e.content built is.content) (entry_is c d.content built at.content) in
+    λ i. record { name = name i; decls = decls i; content = content i }
+
+pub one_table : (charts : List Chart) (table others : Table) → ((c : Chart) → IsAmong charts c → IsBuilt c) → AreEntriesOf instances charts table → AreEntriesOf instances charts others → table ≡ others
+one_table [] [] [] built h k = refl
+one_table [] [] (d ∷ others) built h k = elim k [ ]
+one_table [] (e ∷ table) others built h k = elim h [ ]
+one_table (c ∷ charts) [] others built h k = elim h [ ]
+one_table (c ∷ charts) (e ∷ table) [] built h k = elim k [ ]
+one_table (c ∷ charts) (e ∷ table) (d ∷ others) built (entry_and is more) (entry_and at rest) =
+    ap₂ (λ (x : ChartEntry) (xs : Table). x ∷ xs) (one_entry c e d (built c (inl refl)) is at) (one_table charts table others (λ x m. built x (inr m)) more rest)
 
 all_built : (charts : List Chart) → AllKept (BreaksOf charts) all_groups → (c : Chart) → IsAmong charts c → IsBuilt c
 all_built charts kept c m = one_built charts c (λ p h. free charts kept NotBuilt p h) m
@@ -215,5 +224,5 @@ all_built charts kept c m = one_built charts c (λ p h. free charts kept NotBuil
 pub kept_have : (charts : List Chart) (table : Table) → AllKept (BreaksOf charts) all_groups → AreEntriesOf instances charts table → HaveEventsAlone table
 kept_have charts table kept are = entries_have charts table are (all_built charts kept) (λ c p m h. free charts kept Cyclic p (in_one IsEarlyAt charts c p m h))
 
-pub kept_alike : (charts : List Chart) (table other : Table) → AllKept (BreaksOf charts) all_groups → AreEntriesOf instances charts table → AreEntriesOf instances charts other → AreAlike table other
-kept_alike charts table other kept are more = entries_alike charts table other (all_built charts kept) are more
+pub kept_one : (charts : List Chart) (table other : Table) → AllKept (BreaksOf charts) all_groups → AreEntriesOf instances charts table → AreEntriesOf instances charts other → table ≡ other
+kept_one charts table other kept are more = one_table charts table other (all_built charts kept) are more

@@ -7,7 +7,7 @@ ghost use Rattle.msc_meaning.specs.WovenTables.{IsTableOf};
 ghost use Rattle.msc_instances.specs.Instances.{instances};
 ghost use Rattle.msc_tree.specs.Views.{document_view};
 ghost use Rattle.msc_acceptance.specs.Acceptance.{HasFault, IsAccepted, told_as};
-ghost use Rattle.msc_acceptance.specs.EventCharts.{AreAlike, HaveEventsAlone};
+ghost use Rattle.msc_acceptance.specs.EventCharts.{HaveEventsAlone};
 
 use crate::deciding::{Decision, decide};
 use crate::{Accepted, DocFault};
@@ -29,7 +29,7 @@ fn told_as(rule: Rule) -> Rule
 /// The table of the document's charts, or the first rule that it breaks, and where.
 pub fn accept(alloc: Global, raw: &RawDocument) -> Result<Accepted, DocFault>
     ensures ok { IfOk result (λ accepted. IsAccepted (document_view raw.now) (table_view accepted)) }
-    ensures only { IfOk result (λ accepted. (other : Table) → IsTableOf instances (document_view raw.now) other → AreAlike (table_view accepted) other) }
+    ensures only { IfOk result (λ accepted. (other : Table) → IsTableOf instances (document_view raw.now) other → table_view accepted ≡ other) }
     ensures events { IfOk result (λ accepted. HaveEventsAlone (table_view accepted)) }
     ensures faultless { IfOk result (λ accepted. (rule : Rule) (place : Place) → HasFault (document_view raw.now) rule place → ⊥) }
     ensures fault { (rule : Rule) (place : Place) → IsErrOf result (DocFault.Refused rule place) → HasFault (document_view raw.now) rule place }

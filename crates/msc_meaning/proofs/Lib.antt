@@ -14,3 +14,4 @@ pub mod WorkedRefinements
 pub mod WorkedWalks
 pub mod WorkedColumns
 pub mod WorkedCall
+pub mod PairingLaws

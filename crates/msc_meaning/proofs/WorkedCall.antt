@@ -21,8 +21,8 @@ use Rattle.msc_meaning.proofs.WeavingTest.{woven_so}
 call_woven : IsWovenLevel all (statements_pieces all 0 (tree.statements text)) call
 call_woven = woven {order = 0 ∷ 1 ∷ 3 ∷ 4 ∷ 5 ∷ 6 ∷ 7 ∷ 8 ∷ 9 ∷ 10 ∷ 2 ∷ []}
     (woven_so 11 ((0 ∷ 1 ∷ 2 ∷ []) ∷ (3 ∷ 4 ∷ 5 ∷ 6 ∷ 7 ∷ 2 ∷ []) ∷ (8 ∷ 9 ∷ 10 ∷ 2 ∷ []) ∷ []) (0 ∷ 1 ∷ 3 ∷ 4 ∷ 5 ∷ 6 ∷ 7 ∷ 8 ∷ 9 ∷ 10 ∷ 2 ∷ []) refl)
-    (woven_and refl (an_event refl refl) (woven_and refl (an_event refl refl) (woven_and refl (an_event refl refl) (woven_and refl (an_event refl refl) (woven_and refl (an_event refl refl) (woven_and refl (an_event refl refl) (woven_and refl (an_event refl refl) (woven_and refl (an_event refl refl) (woven_and refl (an_event refl refl) (woven_and refl (an_event refl refl) (woven_and refl (an_inline refl (woven_operand_and (woven {order = 0 ∷ 1 ∷ 2 ∷ 3 ∷ 4 ∷ []} (woven_so 5 ((0 ∷ []) ∷ (1 ∷ 2 ∷ 3 ∷ []) ∷ (4 ∷ []) ∷ []) (0 ∷ 1 ∷ 2 ∷ 3 ∷ 4 ∷ []) refl) (woven_and refl (an_event refl refl) (woven_and refl (an_event refl refl) (woven_and refl (an_event refl refl) (woven_and refl (an_event refl refl) (woven_and refl (an_event refl refl) no_woven))))) (pairs_so _ _ ((0, 1) ∷ (3, 4) ∷ []) refl refl)) (woven_operand_and (woven {order = 0 ∷ 1 ∷ 2 ∷ 3 ∷ 4 ∷ []} (woven_so 5 ((0 ∷ []) ∷ (1 ∷ 2 ∷ 3 ∷ []) ∷ (4 ∷ []) ∷ []) (0 ∷ 1 ∷ 2 ∷ 3 ∷ 4 ∷ []) refl) (woven_and refl (an_event refl refl) (woven_and refl (an_event refl refl) (woven_and refl (an_event refl refl) (woven_and refl (an_event refl refl) (woven_and refl (an_event refl refl) no_woven))))) (pairs_so _ _ ((0, 1) ∷ (3, 4) ∷ []) refl refl)) no_woven_operand))) no_woven)))))))))))
-    (pairs_so _ _ ((0, 2) ∷ (4, 7) ∷ (9, 5) ∷ (6, 1) ∷ []) refl refl)
+    (woven_and refl (an_event refl refl) (woven_and refl (an_event refl refl) (woven_and refl (an_event refl refl) (woven_and refl (an_event refl refl) (woven_and refl (an_event refl refl) (woven_and refl (an_event refl refl) (woven_and refl (an_event refl refl) (woven_and refl (an_event refl refl) (woven_and refl (an_event refl refl) (woven_and refl (an_event refl refl) (woven_and refl (an_inline refl (woven_operand_and (woven {order = 0 ∷ 1 ∷ 2 ∷ 3 ∷ 4 ∷ []} (woven_so 5 ((0 ∷ []) ∷ (1 ∷ 2 ∷ 3 ∷ []) ∷ (4 ∷ []) ∷ []) (0 ∷ 1 ∷ 2 ∷ 3 ∷ 4 ∷ []) refl) (woven_and refl (an_event refl refl) (woven_and refl (an_event refl refl) (woven_and refl (an_event refl refl) (woven_and refl (an_event refl refl) (woven_and refl (an_event refl refl) no_woven))))) (pairs_so _ _ ((0, 1) ∷ (3, 4) ∷ []) refl refl refl)) (woven_operand_and (woven {order = 0 ∷ 1 ∷ 2 ∷ 3 ∷ 4 ∷ []} (woven_so 5 ((0 ∷ []) ∷ (1 ∷ 2 ∷ 3 ∷ []) ∷ (4 ∷ []) ∷ []) (0 ∷ 1 ∷ 2 ∷ 3 ∷ 4 ∷ []) refl) (woven_and refl (an_event refl refl) (woven_and refl (an_event refl refl) (woven_and refl (an_event refl refl) (woven_and refl (an_event refl refl) (woven_and refl (an_event refl refl) no_woven))))) (pairs_so _ _ ((0, 1) ∷ (3, 4) ∷ []) refl refl refl)) no_woven_operand))) no_woven)))))))))))
+    (pairs_so _ _ ((0, 2) ∷ (4, 7) ∷ (6, 1) ∷ (9, 5) ∷ []) refl refl refl)
 
 pub call_is_woven : CallIsWoven
 call_is_woven = record { name = refl; decls = refl; content = call_woven }

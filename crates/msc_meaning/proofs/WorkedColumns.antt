@@ -19,10 +19,10 @@ use Rattle.msc_meaning.proofs.WeavingTest.{woven_so}
 shared_woven : IsWovenLevel (i ∷ j ∷ []) (statements_pieces (i ∷ j ∷ []) 0 (tree.statements text)) shared_body
 shared_woven = woven {order = 1 ∷ 0 ∷ []} (woven_so 2 ((0 ∷ []) ∷ (1 ∷ 0 ∷ []) ∷ []) (1 ∷ 0 ∷ []) refl)
     (woven_and refl (an_event refl refl) (woven_and refl (an_inline refl
-    (woven_operand_and (woven {order = 0 ∷ 1 ∷ []} (woven_so 2 ((0 ∷ []) ∷ (1 ∷ []) ∷ []) (0 ∷ 1 ∷ []) refl) (woven_and refl (an_event refl refl) (woven_and refl (an_event refl refl) no_woven)) (pairs_so _ _ ((0, 1) ∷ []) refl refl))
-    (woven_operand_and (woven {order = 0 ∷ []} (woven_so 1 ((0 ∷ []) ∷ [] ∷ []) (0 ∷ []) refl) (woven_and refl (an_event refl refl) no_woven) (pairs_so _ _ [] refl refl))
+    (woven_operand_and (woven {order = 0 ∷ 1 ∷ []} (woven_so 2 ((0 ∷ []) ∷ (1 ∷ []) ∷ []) (0 ∷ 1 ∷ []) refl) (woven_and refl (an_event refl refl) (woven_and refl (an_event refl refl) no_woven)) (pairs_so _ _ ((0, 1) ∷ []) refl refl refl))
+    (woven_operand_and (woven {order = 0 ∷ []} (woven_so 1 ((0 ∷ []) ∷ [] ∷ []) (0 ∷ []) refl) (woven_and refl (an_event refl refl) no_woven) (pairs_so _ _ [] refl refl refl))
     no_woven_operand))) no_woven))
-    (pairs_so _ _ [] refl refl)
+    (pairs_so _ _ [] refl refl refl)
 
 pub columns_are_woven : ColumnsAreWoven
 columns_are_woven = record { name = refl; decls = refl; content = shared_woven }

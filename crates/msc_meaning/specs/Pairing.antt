@@ -1,5 +1,5 @@
 -- Which input takes in what an output puts out: of each message with its pairing name, the k-th input takes the k-th output.
-use Rattle.std.specs.Prelude.{◌≡◌, ◌⊎◌, ℕ, zero, suc, Bool, true, false, ◌&&◌, List, [], ◌∷◌, take, Option, Some, None, slice_get, if◌then◌else◌}
+use Rattle.std.specs.Prelude.{◌≡◌, ◌≤◌, ◌⊎◌, ⊤, ℕ, zero, suc, Bool, true, false, ◌&&◌, List, [], ◌∷◌, take, Option, Some, None, slice_get, if◌then◌else◌}
 use Rattle.std.specs.Str.{bytes_eq}
 use Rattle.msc_base.specs.declared.label.Kind.{Kind}
 use Rattle.msc_base.specs.declared.label.Kind.TheVariants.{Output, Input}
@@ -62,7 +62,13 @@ abbrev pub HasPair : List Pair → ℕ → ℕ → Type 0
 HasPair [] p q = ⊥
 HasPair (pair ∷ pairs) p q = ((pair.first ≡ p) × (pair.second ≡ q)) ⊎ HasPair pairs p q
 
--- the pairs are those of the level's messages
+-- the numbers of the outputs rise along the pairs, from n on
+abbrev pub DoRise : ℕ → List Pair → Type 0
+DoRise n [] = ⊤
+DoRise n (x ∷ xs) = (n ≤ x.first) × DoRise (suc x.first) xs
+
+-- the pairs are those of the level's messages, in the order of their outputs
 pub record ArePairs (held : List EventNode) (pairs : List Pair) : Type 0 where
+  pub rising : DoRise 0 pairs
   pub paired : (p q : ℕ) → HasPair pairs p q → IsPaired held p q
   pub every : (p q : ℕ) → IsPaired held p q → HasPair pairs p q

@@ -119,7 +119,7 @@ call_items = items (
     ∷ item_list choice_items)
 
 abbrev pub call_pairs : List Pair
-call_pairs = pair 0 4 ∷ pair 6 15 ∷ pair 17 7 ∷ pair 8 1 ∷ []
+call_pairs = pair 0 4 ∷ pair 6 15 ∷ pair 8 1 ∷ pair 17 7 ∷ []
 
 -- the whole call
 abbrev pub call : Body

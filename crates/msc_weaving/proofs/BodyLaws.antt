@@ -4,10 +4,11 @@ use Rattle.std.proofs.lemmas.List.{map-append, take_more}
 use Rattle.msc_base.specs.Lists.{IsAmong}
 use Rattle.item_order.specs.declared.edge.Edge.{Edge}
 use Rattle.item_order.specs.Counts.{Leads}
+use Rattle.item_order.specs.Pairing.{RiseFrom}
 use Rattle.msc_meaning.specs.declared.body.Item as code_item
 use Rattle.msc_meaning.specs.Bodies.{Item}
 use Rattle.msc_meaning.specs.Views.{item_view}
-use Rattle.msc_meaning.specs.Pairing.{HasPair}
+use Rattle.msc_meaning.specs.Pairing.{HasPair, DoRise}
 use Rattle.msc_weaving.specs.declared.events.PlacedEvent as code
 use Rattle.msc_weaving.specs.LevelBodies.{AreItems, IsItem, item_of, pair_of}
 use Rattle.msc_weaving.specs.Entries.{PlacedEvent}
@@ -53,3 +54,7 @@ pub leads_pair : (pairs : List Edge) (p q : ℕ) → Leads pairs p q → HasPair
 leads_pair [] p q h = h
 leads_pair (e ∷ pairs) p q (inl h) = inl h
 leads_pair (e ∷ pairs) p q (inr h) = inr (leads_pair pairs p q h)
+
+pub edges_rise : (n : ℕ) (pairs : List Edge) → RiseFrom n pairs → DoRise n (map pair_of pairs)
+edges_rise n [] h = tt
+edges_rise n (e ∷ pairs) h = (h.0, edges_rise (suc e.from) pairs h.1)

@@ -12,9 +12,10 @@ use Rattle.msc_meaning.specs.Partners as partners
 use Rattle.msc_weaving.specs.Bodies.{IsBuilt, IsEarlyAt}
 use Rattle.msc_weaving.specs.Entries.{PlacedEvent, chart_events}
 use Rattle.msc_weaving.specs.LevelBodies.{IsEarlyIn, pair_of}
+use Rattle.item_order.specs.Pairing.{RiseFrom}
 use Rattle.msc_weaving.specs.Marks.{LeadsPairs}
 use Rattle.msc_weaving.specs.Messages.{IsPaired}
-use Rattle.msc_weaving.proofs.BodyLaws.{leads_pair, pair_leads}
+use Rattle.msc_weaving.proofs.BodyLaws.{edges_rise, leads_pair, pair_leads}
 use Rattle.msc_weaving.proofs.PartnerLaws.{numbered, paired_nodes, paired_events, event_of_input, node_place}
 use Rattle.msc_weaving.proofs.Walks.{drop_read}
 use Rattle.msc_weaving.proofs.WovenLaws.{are_pairs, chart_is, events_singles, level_of}
@@ -67,14 +68,14 @@ least_same : (P Q : Place → Type 0) (b : Option Place) → ((p : Place) → P 
 least_same P Q None f g k = λ q h. k q (g q h)
 least_same P Q (Some p) f g k = (f p k.0, λ q h. k.1 q (g q h))
 
-pub chart_early : (drawn : Chart) (pairs : List Edge) (best : Option Place) → IsBuilt drawn → LeadsPairs (chart_events drawn) pairs → IsLeast (IsEarlyIn (chart_events drawn) pairs) best → IsLeast (IsEarlyAt drawn) best
-chart_early drawn pairs best built leads least =
+pub chart_early : (drawn : Chart) (pairs : List Edge) (best : Option Place) → IsBuilt drawn → LeadsPairs (chart_events drawn) pairs → RiseFrom 0 pairs → IsLeast (IsEarlyIn (chart_events drawn) pairs) best → IsLeast (IsEarlyAt drawn) best
+chart_early drawn pairs best built leads rises least =
     let es : List PlacedEvent = chart_events drawn in
     let c = chart_is drawn built in
     least_same (IsEarlyIn es pairs) (IsEarlyAt drawn) best
     (λ p h. record {
       body = level_of drawn (map pair_of pairs);
-      woven = c.body (map pair_of pairs) (are_pairs es (map pair_of pairs) (λ p q g. (leads p q).0 (pair_leads pairs p q g)) (λ p q g. leads_pair pairs p q ((leads p q).1 g)));
+      woven = c.body (map pair_of pairs) (are_pairs es (map pair_of pairs) (λ p q g. (leads p q).0 (pair_leads pairs p q g)) (λ p q g. leads_pair pairs p q ((leads p q).1 g)) (edges_rise 0 pairs rises));
       early = subst (λ (l : List EventNode). partners.IsEarly l p) (sym (events_singles (numbered 0 es))) (early_nodes es pairs p leads h);
     })
     (λ p a. let l = c.only a.body a.woven in

@@ -1,9 +1,9 @@
 -- The edges of one direction are the marks of that direction, with their ranks.
-use Rattle.std.proofs.Common.{◌≡◌, ℕ, ◌<◌, ◌+◌, List, [], ◌∷◌, ◌++◌, Option, Some, None, slice_get, take, drop, Bool, true, false, zero, suc, arith, refl, sym, ap, ◌∙◌, subst, nat_eq, if◌then◌else◌, ◌&&◌, All, get_or}
+use Rattle.std.proofs.Common.{◌≡◌, ℕ, ◌<◌, ◌≤◌, ◌+◌, List, [], ◌∷◌, ◌++◌, Option, Some, None, slice_get, take, drop, Bool, true, false, zero, suc, arith, refl, sym, ap, ◌∙◌, subst, nat_eq, if◌then◌else◌, ◌&&◌, All, get_or}
 use Rattle.std.specs.List.{count_by}
 use Rattle.std.proofs.lemmas.Option.{slice_get-get_or}
 use Rattle.item_order.specs.declared.edge.Edge.{Edge}
-use Rattle.item_order.specs.Pairing.{count}
+use Rattle.item_order.specs.Pairing.{count, RiseTo}
 use Rattle.msc_weaving.specs.declared.matching.Mark.{Mark}
 use Rattle.msc_tree.specs.declared.event.Direction.{Direction}
 use Rattle.msc_tree.specs.declared.event.Direction.TheVariants.{Out, In}
@@ -150,3 +150,20 @@ edges_step direction marks k m held longer is e =
     ap (λ l. l ++ edges_from direction (k + 1) (drop (k + 1) marks)) e ∙ sym (assoc held (end_edges direction k m) (edges_from direction (k + 1) (drop (k + 1) marks)))
     ∙ ap (λ (j : ℕ). held ++ (end_edges direction k m ++ edges_from direction j (drop (k + 1) marks))) n
     ∙ ap (λ ms. held ++ edges_from direction k ms) (sym (drop_get k marks m is))
+
+rises_later : (n m : ℕ) (edges : List Edge) → n ≤ m → RiseTo m edges → RiseTo n edges
+rises_later n m [] le h = tt
+rises_later n m (e ∷ edges) le h = (omega (arith, le, h.0), h.1)
+
+edge_rises : (direction : Direction) (n : ℕ) (mark : Option Mark) (edges : List Edge) → RiseTo (suc n) edges → RiseTo n (end_edges direction n mark ++ edges)
+edge_rises direction n None edges h = rises_later n (suc n) edges (omega arith) h
+edge_rises direction n (Some m) edges h = go (is_direction direction m.direction)
+  where
+    go : (b : Bool) → RiseTo n ((if b then (record { from = m.class; to = n }) ∷ [] else []) ++ edges)
+    go true = (omega arith, h)
+    go false = rises_later n (suc n) edges (omega arith) h
+
+-- the ends of one direction rise
+pub ends_rise : (direction : Direction) (n : ℕ) (marks : List (Option Mark)) → RiseTo n (edges_from direction n marks)
+ends_rise direction n [] = tt
+ends_rise direction n (m ∷ ms) = edge_rises direction n m (edges_from direction (suc n) ms) (ends_rise direction (suc n) ms)

@@ -19,7 +19,7 @@ use Rattle.msc_meaning.specs.Crossings.{Crosses, crossed, inside}
 use Rattle.msc_meaning.specs.LevelItems.{level_items, entries}
 use Rattle.msc_meaning.specs.LevelItems as level_item
 use Rattle.msc_meaning.specs.Levels.{IsWovenLevel, woven, AreWovenItems, no_woven, woven_and, IsWovenItem, an_event, a_coregion, an_inline, a_reference}
-use Rattle.msc_meaning.specs.Pairing.{HasPair, ArePairs}
+use Rattle.msc_meaning.specs.Pairing.{HasPair, DoRise, ArePairs}
 use Rattle.msc_meaning.specs.Partners.{ItemsLackPartner, LacksPartner}
 use Rattle.msc_meaning.specs.Partners as partners
 use Rattle.msc_meaning.specs.Pieces.{Piece, operand_of, operands_of, statements_pieces}
@@ -195,8 +195,8 @@ views front (e ∷ es) (i ∷ list) h =
     let rest : body.items list ≡ singles (numbered (suc (length front)) es) = views (front ++ e ∷ []) es list moved ∙ ap (λ (k : ℕ). singles (numbered k es)) (length_snoc front e) in
     ap₂ (λ (x : Item) (y : Items). item_and x y) one rest
 
-pub are_pairs : (es : List PlacedEvent) (pairs : List Pair) → ((p q : ℕ) → HasPair pairs p q → IsPaired es p q) → ((p q : ℕ) → IsPaired es p q → HasPair pairs p q) → ArePairs (numbered 0 es) pairs
-are_pairs es pairs f g = record { paired = λ p q h. paired_nodes es p q (f p q h); every = λ p q h. g p q (paired_events es p q h) }
+pub are_pairs : (es : List PlacedEvent) (pairs : List Pair) → ((p q : ℕ) → HasPair pairs p q → IsPaired es p q) → ((p q : ℕ) → IsPaired es p q → HasPair pairs p q) → DoRise 0 pairs → ArePairs (numbered 0 es) pairs
+are_pairs es pairs f g r = record { rising = r; paired = λ p q h. paired_nodes es p q (f p q h); every = λ p q h. g p q (paired_events es p q h) }
 
 body_is : (names : List (List ℕ)) (es : List PlacedEvent) (held : Body) (is : IsWovenBody names es held) → held ≡ level names (singles (numbered 0 es)) is.messages
 body_is names es held is =
@@ -256,7 +256,7 @@ chart_woven drawn held built is =
       uncrossed = c.uncrossed;
       matched = λ p a. is.matched p (c.alone a.body a.woven p a.alone);
       woven = subst (λ (b : Body). IsWovenContent (instances drawn) drawn.content (table.Basic b)) (sym (body_is (instances drawn) (chart_events drawn) held is))
-          (c.body is.messages (are_pairs (chart_events drawn) is.messages is.paired is.every));
+          (c.body is.messages (are_pairs (chart_events drawn) is.messages is.paired is.every is.rising));
     }
 
 -- the earliest event without partner
@@ -266,7 +266,7 @@ chart_alone drawn place built lonely =
     let ns : List EventNode = numbered 0 (chart_events drawn) in
     let own : (q : Place) → IsUnmatched (chart_events drawn) q → IsAloneAt drawn q = λ q u. record {
       body = level (instances drawn) (singles ns) lonely.pairs;
-      woven = c.body lonely.pairs (are_pairs (chart_events drawn) lonely.pairs lonely.paired lonely.every);
+      woven = c.body lonely.pairs (are_pairs (chart_events drawn) lonely.pairs lonely.paired lonely.every lonely.rising);
       alone = inl (subst (λ (l : List EventNode). partners.IsUnmatched l q) (sym (events_singles ns)) (unmatched_nodes (chart_events drawn) q u));
     } in
     (c.uncrossed, least_same (IsUnmatched (chart_events drawn)) (IsAloneAt drawn) place own (λ q a. c.alone a.body a.woven q a.alone) lonely.least)

@@ -7,7 +7,7 @@ use Rattle.msc_base.specs.Places.{IsLeast}
 use Rattle.item_order.specs.Weaving.{IsWoven, IsCrossedAt}
 use Rattle.item_order.specs.declared.edge.Edge.{Edge}
 use Rattle.msc_meaning.specs.Bodies.{Body, level, Item, Single, items}
-use Rattle.msc_meaning.specs.Pairing.{HasPair}
+use Rattle.msc_meaning.specs.Pairing.{HasPair, DoRise}
 use Rattle.msc_weaving.specs.declared.weaving.WeaveFault.{WeaveFault}
 use Rattle.msc_weaving.specs.declared.weaving.WeaveFault.TheVariants.{NotBuilt, Crossed, Unmatched, NoMemory}
 use Rattle.msc_weaving.specs.Entries.{PlacedEvent, columns_of, entries_from}
@@ -45,6 +45,7 @@ pub record IsWovenBody (names : List (List ℕ)) (events : List PlacedEvent) (bo
   pub is : body ≡ level names (items held) messages
   pub woven : IsWoven (length events) (level_columns names events) order
   pub items_are : AreItems events order held
+  pub rising : DoRise 0 messages
   pub paired : (p q : ℕ) → HasPair messages p q → IsPaired events p q
   pub every : (p q : ℕ) → IsPaired events p q → HasPair messages p q
   pub matched : (place : Place) → IsUnmatched events place → ⊥
@@ -60,6 +61,7 @@ pub record IsCrossing (names : List (List ℕ)) (events : List PlacedEvent) (pla
 -- that is the earliest place of an event without partner; the level has these pairs
 pub record IsLonely (events : List PlacedEvent) (place : Place) : Type 0 where
   pub pairs : List Pair
+  pub rising : DoRise 0 pairs
   pub paired : (p q : ℕ) → HasPair pairs p q → IsPaired events p q
   pub every : (p q : ℕ) → IsPaired events p q → HasPair pairs p q
   pub least : IsLeast (IsUnmatched events) (Some place)

@@ -1,6 +1,7 @@
 //! Pairs outputs with inputs by message, pairing name and both instances: for `weaving`.
 
 ghost use Rattle.std.specs.Prelude.{◌≡◌, ◌++◌, IfOk, OnOk, Some, map, option_map, vec_items};
+ghost use Rattle.item_order.specs.Pairing.{RiseFrom};
 ghost use Rattle.msc_weaving.specs.EventViews.{event_view};
 ghost use Rattle.msc_weaving.specs.Marks.{AreMarked, IsMark, KeepsNumbers, LeadsPairs, edges_from, end_edges, key_view};
 ghost use Rattle.msc_weaving.specs.Messages.{key_of, way};
@@ -147,9 +148,10 @@ fn edges_of(
     Ok(edges)
 }
 
-/// The pairs of outputs and inputs, by the numbers of the events.
+/// The pairs of outputs and inputs, by the numbers of the events, in the order of the outputs.
 pub fn pairs_of(alloc: Global, events: &[PlacedEvent<'_>]) -> Result<Vec<Edge>, NoMemory>
-    ensures { IfOk result (λ pairs. LeadsPairs (map event_view events.now) pairs.items) }
+    ensures pairs { IfOk result (λ pairs. LeadsPairs (map event_view events.now) pairs.items) }
+    ensures rising { IfOk result (λ pairs. RiseFrom 0 pairs.items) }
 {
     let marks = marks_of(alloc, events)?;
     let outputs = edges_of(alloc, marks.held.as_slice(), Direction::Out)?;

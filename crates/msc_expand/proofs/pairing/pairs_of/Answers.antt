@@ -26,4 +26,4 @@ returns c =
     pairs_found c.args.events.now c.in_ok-marks.marks.held.items c.in_ok-marks.marks.classes c.as_slice-3.result.now c.as_slice-4.result.now c.pair_up.result marked
     (c.as_slice-3.ensures.value ∙ outs ∙ ap (λ (ms : List (Option Mark)). edges_from Out 0 ms) c.as_slice.ensures.value)
     (c.as_slice-4.ensures.value ∙ ins ∙ ap (λ (ms : List (Option Mark)). edges_from In 0 ms) c.as_slice-2.ensures.value)
-    c.pair_up.ensures
+    c.pair_up.ensures.pairs

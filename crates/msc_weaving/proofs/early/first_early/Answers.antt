@@ -20,6 +20,6 @@ returns c =
     let first : map event_view c.as_slice.result.now ≡ chart_events drawn = search rules in
     let second : map event_view c.as_slice-2.result.now ≡ chart_events drawn = search rules in
     let pairs : c.as_slice-3.result.now ≡ c.in_ok-pairs.pairs.items = c.as_slice-3.ensures.value in
-    chart_early drawn c.in_ok-pairs.pairs.items c.first_before.result c.requires (subst (λ (es : List PlacedEvent). LeadsPairs es c.in_ok-pairs.pairs.items) first leads)
+    chart_early drawn c.in_ok-pairs.pairs.items c.first_before.result c.requires (subst (λ (es : List PlacedEvent). LeadsPairs es c.in_ok-pairs.pairs.items) first leads) c.in_ok-pairs.ensures.rising
     (subst (λ (es : List PlacedEvent). IsLeast (IsEarlyIn es c.in_ok-pairs.pairs.items) c.first_before.result) second
     (subst (λ (ps : List Edge). IsLeast (IsEarlyIn (map event_view c.as_slice-2.result.now) ps) c.first_before.result) pairs c.first_before.ensures))

@@ -4,13 +4,13 @@ use Rattle.msc_base.specs.Places.{IsLeast}
 use Rattle.item_order.specs.Weaving.{IsWoven}
 use Rattle.msc_base.specs.declared.label.Pair.{Pair}
 use Rattle.msc_base.specs.declared.place.Place.{Place}
-use Rattle.msc_meaning.specs.Pairing.{HasPair}
+use Rattle.msc_meaning.specs.Pairing.{HasPair, DoRise}
 use Rattle.msc_weaving.specs.LevelBodies.{level_columns, pair_of}
 use Rattle.msc_weaving.specs.EventViews.{event_view}
 use Rattle.msc_weaving.specs.Messages.{IsUnmatched}
 use Rattle.msc_meaning.specs.Bodies.{level, items}
 use Rattle.msc_meaning.specs.Views.{body_view, item_view}
-use Rattle.msc_weaving.proofs.BodyLaws.{all_low, leads_pair, pair_leads}
+use Rattle.msc_weaving.proofs.BodyLaws.{all_low, edges_rise, leads_pair, pair_leads}
 use Rattle.msc_weaving.proofs.weaving.ordered_body.Goals as goal
 
 pub items_of-requires : goal.items_of-requires
@@ -32,8 +32,9 @@ returns-clause-ok c =
       is = shape;
       woven = subst (λ (n : ℕ). IsWoven n (level_columns c.args.names.now events) c.args.order.now) (sym (length-map c.args.events.now event_view)) c.requires;
       items_are = search rules;
-      paired = λ p q h. (c.in_ok-pairs.ensures p q).0 (pair_leads c.in_ok-pairs.pairs.items p q (subst (λ (ps : List Pair). HasPair ps p q) pairs h));
-      every = λ p q h. subst (λ (ps : List Pair). HasPair ps p q) (sym pairs) (leads_pair c.in_ok-pairs.pairs.items p q ((c.in_ok-pairs.ensures p q).1 h));
+      rising = subst (λ (ps : List Pair). DoRise 0 ps) (sym pairs) (edges_rise 0 c.in_ok-pairs.pairs.items c.in_ok-pairs.ensures.rising);
+      paired = λ p q h. (c.in_ok-pairs.ensures.pairs p q).0 (pair_leads c.in_ok-pairs.pairs.items p q (subst (λ (ps : List Pair). HasPair ps p q) pairs h));
+      every = λ p q h. subst (λ (ps : List Pair). HasPair ps p q) (sym pairs) (leads_pair c.in_ok-pairs.pairs.items p q ((c.in_ok-pairs.ensures.pairs p q).1 h));
       matched = least;
     }
 
@@ -43,7 +44,8 @@ returns-in-Some-clause-fault c =
     let some : c.in_ok-place.field-0 ≡ Some c.in-Some.place = search rules in
     record {
       pairs = map pair_of c.in_ok-pairs.pairs.items;
-      paired = λ p q h. (c.in_ok-pairs.ensures p q).0 (pair_leads c.in_ok-pairs.pairs.items p q h);
-      every = λ p q h. leads_pair c.in_ok-pairs.pairs.items p q ((c.in_ok-pairs.ensures p q).1 h);
+      rising = edges_rise 0 c.in_ok-pairs.pairs.items c.in_ok-pairs.ensures.rising;
+      paired = λ p q h. (c.in_ok-pairs.ensures.pairs p q).0 (pair_leads c.in_ok-pairs.pairs.items p q h);
+      every = λ p q h. leads_pair c.in_ok-pairs.pairs.items p q ((c.in_ok-pairs.ensures.pairs p q).1 h);
       least = subst (λ (o : Option Place). IsLeast (IsUnmatched events) o) some c.in_ok-place.ensures;
     }
