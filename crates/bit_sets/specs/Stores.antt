@@ -1,4 +1,3 @@
--- Serves private contracts alone.
 -- What a block stores: words, of which the first stands apart, and events.
 use Rattle.std.specs.Prelude.{ℕ, List, [], ◌∷◌}
 use Rattle.bit_sets.specs.declared.sets.Sets.{Sets}

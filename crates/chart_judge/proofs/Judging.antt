@@ -1,23 +1,21 @@
 -- What a judge of a chart was fed.
-use Rattle.std.proofs.Common.{◌≡◌, ◌++◌, ℕ, Bool, true, false, List, [], Option, Some, None, Result, Ok, Err, IfOk, OnOk, sym, subst}
+use Rattle.std.proofs.Common.{◌≡◌, ◌++◌, ℕ, Bool, true, false, List, [], Option, Some, None, Result, Ok, Err, IfOk, OnOk, sym}
 use Rattle.msc_base.specs.declared.verdict.Verdict.{Verdict}
 use Rattle.event_log.specs.States.{LogState, HoldsAt, IsGoing as IsReading}
 use Rattle.event_log.specs.declared.event.LogFault.{LogFault}
 use Rattle.event_log.specs.declared.event.LogForm.{LogForm}
-use Rattle.msc_expand.specs.declared.plain_chart.PlainChart.{PlainChart}
-use Rattle.msc_expand.specs.Plain.{IsPlain}
 use Rattle.chart_term.specs.Terms.{Tree}
-use Rattle.row_terms.specs.RowLaws.{RowTermsMean}
 use Rattle.term_tables.specs.NetValues.{NetsValue}
 use Rattle.trace_judge.specs.Judged.{fault_in, IsJudged}
-use Rattle.trace_judge.specs.Sets.{IsSoundFor, SetValue}
+use Rattle.trace_judge.specs.Sets.{SetValue}
 use Rattle.trace_judge.specs.contracts.residuals.ResidualsStore.TheImpl.{holds-value}
 use Rattle.trace_judge.specs.States.{JudgeValue, Fed, IsGoing, Stands}
 use Rattle.trace_judge.specs.declared.fault.JudgeFault.{JudgeFault}
+use Rattle.msc_acceptance.specs.EventCharts.{HasEventsAlone}
+use Rattle.msc_meaning.specs.Tables.{ChartEntry}
 use Rattle.chart_judge.specs.ChartsTold.{VerdictsAreTold}
-use Rattle.chart_judge.specs.ChartTerms.{tables_of, IsTermOf}
+use Rattle.chart_judge.specs.ChartTerms.{IsTermOf}
 use Rattle.chart_judge.specs.Judging.{HasCounted, IsJudging, IsVerdictOn}
-use Rattle.chart_judge.proofs.Known.{chart_sound}
 
 -- ---- how many bytes were fed
 
@@ -39,35 +37,33 @@ counted v x form budget bytes judge fed faultless =
 
 -- ---- a judge of a chart
 
-pub made_sound : RowTermsMean → (chart : PlainChart) (v : NetsValue) (x : Tree) → IsPlain chart → v ≡ tables_of chart → IsTermOf chart x → IsSoundFor v x
-made_sound rows chart v x plain tables is = subst (λ (w : NetsValue). IsSoundFor w x) (sym tables) (chart_sound rows chart x plain is)
-
-pub judging : (chart : PlainChart) (form : LogForm) (budget : ℕ) (v : NetsValue) (x : Tree) (judge : JudgeValue SetValue) → IsPlain chart → v ≡ tables_of chart → IsTermOf chart x → Fed holds-value.it v x form budget [] judge → judge.fault ≡ None
+pub judging : (chart : ChartEntry) (form : LogForm) (budget : ℕ) (v : NetsValue) (x : Tree) (judge : JudgeValue SetValue) → HasEventsAlone chart → IsTermOf chart v x → Fed holds-value.it v x form budget [] judge → judge.fault ≡ None
     → IsJudging chart form budget [] judge
-judging chart form budget v x judge plain tables is fed faultless = record {
-  plain = plain;
+judging chart form budget v x judge alone made fed faultless = record {
+  alone = alone;
+  tables = v;
   term = x;
-  is = is;
-  fed = subst (λ (w : NetsValue). Fed holds-value.it w x form budget [] judge) tables fed;
+  made = made;
+  fed = fed;
   faultless = faultless;
   counted = counted v x form budget [] judge fed faultless;
 }
 
 -- it takes a piece
-pub fed_more : {T : Type 0} (chart : PlainChart) (form : LogForm) (budget : ℕ) (bytes piece : List ℕ) (old new : JudgeValue SetValue) (result : Result T JudgeFault) → fault_in result ≡ new.fault
+pub fed_more : {T : Type 0} (chart : ChartEntry) (form : LogForm) (budget : ℕ) (bytes piece : List ℕ) (old new : JudgeValue SetValue) (result : Result T JudgeFault) → fault_in result ≡ new.fault
     → ((v : NetsValue) (x : Tree) (form : LogForm) (budget : ℕ) (bytes : List ℕ) → Fed holds-value.it v x form budget bytes old → Fed holds-value.it v x form budget (bytes ++ piece) new) → IsJudging chart form budget bytes old
     → OnOk result (IsJudging chart form budget (bytes ++ piece) new)
 fed_more chart form budget bytes piece old new (Ok t) fault goes j =
-    let fed = goes (tables_of chart) j.term form budget bytes j.fed in
+    let fed = goes j.tables j.term form budget bytes j.fed in
     let faultless : new.fault ≡ None = sym fault in
-    record { plain = j.plain; term = j.term; is = j.is; fed = fed; faultless = faultless; counted = counted (tables_of chart) j.term form budget (bytes ++ piece) new fed faultless }
+    record { alone = j.alone; tables = j.tables; term = j.term; made = j.made; fed = fed; faultless = faultless; counted = counted j.tables j.term form budget (bytes ++ piece) new fed faultless }
 fed_more chart form budget bytes piece old new (Err e) fault goes j = tt
 
 -- it ends
-pub told_verdict : VerdictsAreTold → {E : Type 0} (chart : PlainChart) (form : LogForm) (budget : ℕ) (bytes : List ℕ) (judge : JudgeValue SetValue) (result : Result Verdict E)
+pub told_verdict : VerdictsAreTold → {E : Type 0} (chart : ChartEntry) (form : LogForm) (budget : ℕ) (bytes : List ℕ) (judge : JudgeValue SetValue) (result : Result Verdict E)
     → ((v : NetsValue) (x : Tree) (form : LogForm) (budget : ℕ) (bytes : List ℕ) → Fed holds-value.it v x form budget bytes judge → IfOk result (IsJudged v x form budget bytes)) → IsJudging chart form budget bytes judge
     → IfOk result (IsVerdictOn chart form budget bytes)
 told_verdict told chart form budget bytes judge (Ok verdict) ends j =
-    let judged = ends (tables_of chart) j.term form budget bytes j.fed in
-    record { log = judged.log; is = told chart j.term budget judged.log.events verdict j.plain j.is judged.verdict_is }
+    let judged = ends j.tables j.term form budget bytes j.fed in
+    record { log = judged.log; is = λ table name is. told table name chart j.tables j.term budget judged.log.events verdict is j.alone j.made judged.verdict_is }
 told_verdict told chart form budget bytes judge (Err e) ends j = tt

@@ -1,5 +1,5 @@
+pub mod Bodies
 pub mod Judging
 pub mod Known
-pub mod MessagePairs
-pub mod Rows
+pub mod Made
 pub mod Verdicts

@@ -1,13 +1,15 @@
 -- The verdict by what is left of a chart's term, and the verdict by the chart.
-use Rattle.std.proofs.Common.{◌≡◌, ℕ, List, subst}
+use Rattle.std.proofs.Common.{◌≡◌, ℕ, List, [], subst}
 use Rattle.msc_base.specs.Only.{Only}
 use Rattle.msc_base.specs.declared.label.Label.{Label}
 use Rattle.msc_base.specs.declared.verdict.Verdict.{Verdict}
 use Rattle.event_log.specs.declared.event.LineEvent.{LineEvent}
-use Rattle.msc_expand.specs.declared.plain_chart.PlainChart.{PlainChart}
-use Rattle.msc_expand.specs.Meanings.{Unfolds, Conforms, Begins}
+use Rattle.msc_meaning.specs.Meanings.{Finished, Begun, Conforms, Begins}
+use Rattle.msc_meaning.specs.Tables.{Table}
 use Rattle.chart_term.specs.TermPatterns.{Both}
 use Rattle.chart_term.specs.Terms.{Tree}
+use Rattle.term_tables.specs.NetValues.{NetsValue}
+use Rattle.term_laws.specs.Residuals.{res_none}
 use Rattle.trace_judge.specs.Laws.{VerdictsTellRuns}
 use Rattle.trace_judge.specs.Logs.{IsWithin, IsAbove}
 use Rattle.trace_judge.specs.Sets.{IsSoundFor}
@@ -16,17 +18,16 @@ use Rattle.trace_judge.specs.Verdicts.{LeavesSome, LeavesEnding}
 use Rattle.trace_judge.proofs.RunLaws.{left_exact, ending_exact}
 use Rattle.trace_judge.proofs.VerdictMoves.{verdict_moves}
 use Rattle.term_meaning.specs.Meanings.{Means}
-use Rattle.verdict_meaning.specs.MeaningTells.{MeaningTells}
-use Rattle.chart_judge.specs.ChartTerms.{tables_of, IsTermOf}
-use Rattle.chart_judge.specs.ChartVerdicts.{IsWithinBudget, IsAboveBudget, IsVerdict}
+use Rattle.verdict_meaning.proofs.Meaning.{runs, begins}
+use Rattle.chart_judge.specs.ChartVerdicts.{HasTerm, IsWithinBudget, IsAboveBudget, IsVerdict}
 
--- all that is known of the term of a chart
-pub record IsKnown (chart : PlainChart) (x : Tree) : Type 0 where
-  pub is : IsTermOf chart x
-  pub one : (y : Tree) → IsTermOf chart y → y ≡ x
-  pub means : Means (tables_of chart) chart.instances x (Unfolds chart) (Unfolds chart)
-  pub sound : IsSoundFor (tables_of chart) x
-  pub tells : MeaningTells (Unfolds chart) (Unfolds chart)
+-- all that is known of the term of the chart of a name
+pub record IsKnown (table : Table) (name : List ℕ) (v : NetsValue) (x : Tree) : Type 0 where
+  pub has : HasTerm table name v x
+  pub one : (w : NetsValue) (y : Tree) → HasTerm table name w y → (w ≡ v) × (y ≡ x)
+  pub names : List (List ℕ)
+  pub means : Means v names x (Finished table name) (Begun table name)
+  pub sound : IsSoundFor v x
 
 -- one account after the other
 through : {A B C : Type 0} → Both A B → Both B C → Both A C
@@ -35,45 +36,52 @@ through f g = record { to = λ a. g.to (f.to a); from = λ c. f.from (g.from c) 
 back : {A B : Type 0} → Both A B → Both B A
 back f = record { to = f.from; from = f.to }
 
-module _ (chart : PlainChart) (x : Tree) (known : IsKnown chart x) where
+module _ (table : Table) (name : List ℕ) (v : NetsValue) (x : Tree) (known : IsKnown table name v x) where
   -- ---- what is left, by the chart
 
-  run : (labels : List Label) → Both (LeavesEnding (tables_of chart) x labels) (Conforms chart labels)
-  run labels = through (ending_exact (tables_of chart) x known.sound labels) (known.tells.runs (tables_of chart) chart.instances x known.means labels)
+  run : (labels : List Label) → Both (LeavesEnding v x labels) (Conforms table name labels)
+  run labels = through (ending_exact v x known.sound labels) (runs v known.names x known.means.once (Finished table name) known.means.finished_ones labels)
 
-  begin : (labels : List Label) → Both (LeavesSome (tables_of chart) x labels) (Begins chart labels)
-  begin labels = through (left_exact (tables_of chart) x known.sound labels) (known.tells.begins (tables_of chart) chart.instances x known.means labels)
+  begin : (labels : List Label) → Both (LeavesSome v x labels) (Begins table name labels)
+  begin labels = through (left_exact v x known.sound labels) (begins v known.names x known.means.once (Begun table name) known.means.all_ones labels)
+
+  -- no label begins a run
+  pub begins_empty : Begins table name []
+  begins_empty = (begin []).to (record { term = x; left = record { numbers = []; are = tt; left = res_none } })
 
   -- ---- the budget
 
-  within_there : (budget : ℕ) (labels : List Label) → IsWithinBudget chart budget labels → IsWithin (tables_of chart) x budget labels
-  within_there budget labels w = subst (λ (y : Tree). IsWithin (tables_of chart) y budget labels) (known.one w.term w.is) w.within
+  there : (P : NetsValue → Tree → Type 0) (w : NetsValue) (y : Tree) → HasTerm table name w y → P w y → P v x
+  there P w y has p = let one = known.one w y has in subst (λ (z : Tree). P v z) one.1 (subst (λ (u : NetsValue). P u y) one.0 p)
 
-  within_back : (budget : ℕ) (labels : List Label) → IsWithin (tables_of chart) x budget labels → IsWithinBudget chart budget labels
-  within_back budget labels w = record { term = x; is = known.is; within = w }
+  within_there : (budget : ℕ) (labels : List Label) → IsWithinBudget table name budget labels → IsWithin v x budget labels
+  within_there budget labels w = there (λ u y. IsWithin u y budget labels) w.tables w.term w.has w.within
 
-  above_there : (budget : ℕ) (labels : List Label) → IsAboveBudget chart budget labels → IsAbove (tables_of chart) x budget labels
-  above_there budget labels a = subst (λ (y : Tree). IsAbove (tables_of chart) y budget labels) (known.one a.term a.is) a.above
+  within_back : (budget : ℕ) (labels : List Label) → IsWithin v x budget labels → IsWithinBudget table name budget labels
+  within_back budget labels w = record { tables = v; term = x; has = known.has; within = w }
 
-  above_back : (budget : ℕ) (labels : List Label) → IsAbove (tables_of chart) x budget labels → IsAboveBudget chart budget labels
-  above_back budget labels a = record { term = x; is = known.is; above = a }
+  above_there : (budget : ℕ) (labels : List Label) → IsAboveBudget table name budget labels → IsAbove v x budget labels
+  above_there budget labels a = there (λ u y. IsAbove u y budget labels) a.tables a.term a.has a.above
+
+  above_back : (budget : ℕ) (labels : List Label) → IsAbove v x budget labels → IsAboveBudget table name budget labels
+  above_back budget labels a = record { tables = v; term = x; has = known.has; above = a }
 
   -- ---- verdicts
 
-  to_residual : (budget : ℕ) (events : List LineEvent) (verdict : Verdict) → IsVerdict chart budget events verdict → residual.IsVerdict (tables_of chart) x budget events verdict
-  to_residual budget events verdict v =
-      verdict_moves (Conforms chart) (Begins chart) (LeavesEnding (tables_of chart) x) (LeavesSome (tables_of chart) x) (λ labels. back (run labels)) (λ labels. back (begin labels)) events
-      (IsWithinBudget chart budget) (IsAboveBudget chart budget) (IsWithin (tables_of chart) x budget) (IsAbove (tables_of chart) x budget)
-      (within_there budget) (above_there budget) verdict v
+  to_residual : (budget : ℕ) (events : List LineEvent) (verdict : Verdict) → IsVerdict table name budget events verdict → residual.IsVerdict v x budget events verdict
+  to_residual budget events verdict w =
+      verdict_moves (Conforms table name) (Begins table name) (LeavesEnding v x) (LeavesSome v x) (λ labels. back (run labels)) (λ labels. back (begin labels)) events
+      (IsWithinBudget table name budget) (IsAboveBudget table name budget) (IsWithin v x budget) (IsAbove v x budget)
+      (within_there budget) (above_there budget) verdict w
 
-  from_residual : (budget : ℕ) (events : List LineEvent) (verdict : Verdict) → residual.IsVerdict (tables_of chart) x budget events verdict → IsVerdict chart budget events verdict
-  from_residual budget events verdict v =
-      verdict_moves (LeavesEnding (tables_of chart) x) (LeavesSome (tables_of chart) x) (Conforms chart) (Begins chart) run begin events
-      (IsWithin (tables_of chart) x budget) (IsAbove (tables_of chart) x budget) (IsWithinBudget chart budget) (IsAboveBudget chart budget)
-      (within_back budget) (above_back budget) verdict v
+  from_residual : (budget : ℕ) (events : List LineEvent) (verdict : Verdict) → residual.IsVerdict v x budget events verdict → IsVerdict table name budget events verdict
+  from_residual budget events verdict w =
+      verdict_moves (LeavesEnding v x) (LeavesSome v x) (Conforms table name) (Begins table name) run begin events
+      (IsWithin v x budget) (IsAbove v x budget) (IsWithinBudget table name budget) (IsAboveBudget table name budget)
+      (within_back budget) (above_back budget) verdict w
 
-  pub told : VerdictsTellRuns → (budget : ℕ) (events : List LineEvent) (verdict : Verdict) → residual.IsVerdict (tables_of chart) x budget events verdict → Only (IsVerdict chart budget events) verdict
-  told laws budget events verdict v = record {
-    holds = from_residual budget events verdict v;
-    alone = λ other o. laws.one (tables_of chart) x budget events other verdict (to_residual budget events other o) v;
+  pub told : VerdictsTellRuns → (budget : ℕ) (events : List LineEvent) (verdict : Verdict) → residual.IsVerdict v x budget events verdict → Only (IsVerdict table name budget events) verdict
+  told laws budget events verdict w = record {
+    holds = from_residual budget events verdict w;
+    alone = λ other o. laws.one v x budget events other verdict (to_residual budget events other o) w;
   }

@@ -1,15 +1,36 @@
--- The verdict by the residual terms of a chart's term is the verdict by the chart, and there is no other.
-use Rattle.std.specs.Prelude.{ℕ, List}
+-- The verdict by the residual terms of a chart's term is the verdict by the chart, and there is no other; and a chart has one term.
+use Rattle.std.specs.Prelude.{◌≡◌, ◌≤◌, ◌+◌, ◌*◌, ℕ, List, [], Some, length}
 use Rattle.msc_base.specs.Only.{Only}
+use Rattle.msc_base.specs.declared.label.Label.{Label}
 use Rattle.msc_base.specs.declared.verdict.Verdict.{Verdict}
 use Rattle.event_log.specs.declared.event.LineEvent.{LineEvent}
-use Rattle.msc_expand.specs.declared.plain_chart.PlainChart.{PlainChart}
-use Rattle.msc_expand.specs.Plain.{IsPlain}
-use Rattle.chart_term.specs.Terms.{Tree}
+use Rattle.msc_acceptance.specs.EventCharts.{HasEventsAlone}
+use Rattle.msc_unfolding.specs.Runs.{IsRun}
+use Rattle.msc_unfolding.specs.Unfoldings.{Unfolding}
+use Rattle.msc_meaning.specs.Meanings.{Begins, Begun, Finished}
+use Rattle.msc_meaning.specs.Tables.{ChartEntry, Table, chart_at}
+use Rattle.chart_term.specs.Terms.{Tree, weight}
+use Rattle.term_meaning.specs.Meanings.{Means}
+use Rattle.term_tables.specs.NetValues.{NetsValue}
+use Rattle.trace_judge.specs.Sets.{IsSoundFor}
 use Rattle.trace_judge.specs.Verdicts as residual
-use Rattle.chart_judge.specs.ChartTerms.{tables_of, IsTermOf}
+use Rattle.chart_judge.specs.ChartTerms.{IsTermOf}
 use Rattle.chart_judge.specs.ChartVerdicts.{IsVerdict}
 
 abbrev pub VerdictsAreTold : Type 0
-VerdictsAreTold = (chart : PlainChart) (x : Tree) (budget : ℕ) (events : List LineEvent) (verdict : Verdict) → IsPlain chart → IsTermOf chart x → residual.IsVerdict (tables_of chart) x budget events verdict
-    → Only (IsVerdict chart budget events) verdict
+VerdictsAreTold = (table : Table) (name : List ℕ) (chart : ChartEntry) (v : NetsValue) (x : Tree) (budget : ℕ) (events : List LineEvent) (verdict : Verdict)
+    → chart_at table name ≡ Some chart → HasEventsAlone chart → IsTermOf chart v x → residual.IsVerdict v x budget events verdict → Only (IsVerdict table name budget events) verdict
+
+-- a chart has one term; that of a chart of events alone means the chart's unfoldings, finished and under way, over the names of its
+-- instances, is sound, and weighs no more than the chart's size
+pub record ChartsHaveTerms : Type 0 where
+  pub one : (chart : ChartEntry) (v w : NetsValue) (x y : Tree) → IsTermOf chart v x → IsTermOf chart w y → (v ≡ w) × (x ≡ y)
+  pub means : (table : Table) (name : List ℕ) (chart : ChartEntry) (v : NetsValue) (x : Tree) → chart_at table name ≡ Some chart → (alone : HasEventsAlone chart) → IsTermOf chart v x
+      → Means v alone.cover x (Finished table name) (Begun table name)
+  pub sound : (chart : ChartEntry) (v : NetsValue) (x : Tree) → HasEventsAlone chart → IsTermOf chart v x → IsSoundFor v x
+  pub weighs : (chart : ChartEntry) (v : NetsValue) (x : Tree) → (alone : HasEventsAlone chart) → IsTermOf chart v x → weight x ≤ 2 + 3 * length alone.nodes
+
+-- each unfolding of such a chart has a linear order, and a run of the chart begins with no label
+pub record ChartsHaveRuns : Type 0 where
+  pub each : (table : Table) (name : List ℕ) (chart : ChartEntry) → chart_at table name ≡ Some chart → HasEventsAlone chart → (u : Unfolding) → Begun table name u → (labels : List Label) × IsRun u labels
+  pub empty : (table : Table) (name : List ℕ) (chart : ChartEntry) → chart_at table name ≡ Some chart → HasEventsAlone chart → Begins table name []

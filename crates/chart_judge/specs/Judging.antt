@@ -1,17 +1,18 @@
 -- What a judge of a chart was fed, and what it says of a log's bytes.
-use Rattle.std.specs.Prelude.{ℕ, ◌≡◌, ◌≤◌, false, List, length, None}
+use Rattle.std.specs.Prelude.{ℕ, ◌≡◌, ◌≤◌, false, List, length, None, Some}
 use Rattle.msc_base.specs.Only.{Only}
 use Rattle.msc_base.specs.declared.limits.TheConstants.Limits.{LOG_BYTES}
 use Rattle.msc_base.specs.declared.verdict.Verdict.{Verdict}
-use Rattle.msc_expand.specs.declared.plain_chart.PlainChart.{PlainChart}
-use Rattle.msc_expand.specs.Plain.{IsPlain}
+use Rattle.msc_acceptance.specs.EventCharts.{HasEventsAlone}
+use Rattle.msc_meaning.specs.Tables.{ChartEntry, Table, chart_at}
 use Rattle.event_log.specs.States.{IsFaultOf}
 use Rattle.event_log.specs.declared.event.LogForm.{LogForm}
 use Rattle.chart_term.specs.Terms.{Tree}
+use Rattle.term_tables.specs.NetValues.{NetsValue}
 use Rattle.trace_judge.specs.contracts.residuals.ResidualsStore.TheImpl.{holds-value}
 use Rattle.trace_judge.specs.Sets.{SetValue}
 use Rattle.trace_judge.specs.States.{JudgeValue, Fed}
-use Rattle.chart_judge.specs.ChartTerms.{tables_of, IsTermOf}
+use Rattle.chart_judge.specs.ChartTerms.{IsTermOf}
 use Rattle.chart_judge.specs.ChartVerdicts.{IsVerdict}
 
 -- so many bytes were fed, and no more than a log may have
@@ -20,15 +21,16 @@ pub record HasCounted (bytes : List ℕ) (judge : JudgeValue SetValue) : Type 0 
   pub within : judge.reader.count ≤ LOG_BYTES
 
 -- the judge was made for the chart, this form of log and this budget, has been fed these bytes, and met no fault
-pub record IsJudging (chart : PlainChart) (form : LogForm) (budget : ℕ) (bytes : List ℕ) (judge : JudgeValue SetValue) : Type 0 where
-  pub plain : IsPlain chart
+pub record IsJudging (chart : ChartEntry) (form : LogForm) (budget : ℕ) (bytes : List ℕ) (judge : JudgeValue SetValue) : Type 0 where
+  pub alone : HasEventsAlone chart
+  pub tables : NetsValue
   pub term : Tree
-  pub is : IsTermOf chart term
-  pub fed : Fed holds-value.it (tables_of chart) term form budget bytes judge
+  pub made : IsTermOf chart tables term
+  pub fed : Fed holds-value.it tables term form budget bytes judge
   pub faultless : judge.fault ≡ None
   pub counted : HasCounted bytes judge
 
--- the bytes are a log, and this is the one verdict on its events
-pub record IsVerdictOn (chart : PlainChart) (form : LogForm) (budget : ℕ) (bytes : List ℕ) (verdict : Verdict) : Type 0 where
+-- the bytes are a log, and this is the one verdict on its events by the chart, in each table that has it, by the name that it has there
+pub record IsVerdictOn (chart : ChartEntry) (form : LogForm) (budget : ℕ) (bytes : List ℕ) (verdict : Verdict) : Type 0 where
   pub log : IsFaultOf form false bytes None
-  pub is : Only (IsVerdict chart budget log.events) verdict
+  pub is : (table : Table) (name : List ℕ) → chart_at table name ≡ Some chart → Only (IsVerdict table name budget log.events) verdict

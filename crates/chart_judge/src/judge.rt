@@ -3,43 +3,20 @@
 ghost use Rattle.std.specs.Prelude.{◌≡◌, ◌≤◌, ◌++◌, [], ℕ, List, false, IfOk, IfErr, IfSome, OnOk};
 ghost use Rattle.chart_judge.specs.Judging.{IsJudging, IsVerdictOn};
 ghost use Rattle.event_log.specs.declared.event.LogForm.{LogForm as Form};
+ghost use Rattle.msc_acceptance.specs.EventCharts.{HasEventsAlone};
 ghost use Rattle.msc_base.specs.declared.limits.TheConstants.Limits.{BUDGET_MOST};
-ghost use Rattle.msc_expand.specs.Plain.{IsPlain};
-ghost use Rattle.msc_expand.specs.declared.plain_chart.PlainChart.{PlainChart as Chart};
+ghost use Rattle.msc_meaning.specs.Tables.{ChartEntry as Chart};
+ghost use Rattle.msc_meaning.specs.Views.{entry_view};
 ghost use Rattle.trace_judge.specs.Judged.{IsJudgeFault, fault_in};
 
-use crate::laws::verdicts_are_told;
-use crate::messages::message_pairs;
+use crate::laws::{charts_have_terms, verdicts_are_told};
+use crate::term::term_of;
 use event_log::LogForm;
 use msc_base::{NoMemory, Verdict};
-use msc_expand::PlainChart;
-use row_terms::laws::row_terms_mean;
-use row_terms::row_term;
+use msc_meaning::ChartEntry;
 use std::alloc::Global;
 use std::marker::Model;
 use trace_judge::{Judge, JudgeFault, Residuals};
-use verdict_meaning::laws::HasUnfoldings;
-
-/// A chart, for the laws of what has unfoldings.
-pub(crate) struct Charted {
-    chart: PlainChart,
-}
-
-impl Model for Charted {
-    ghost use Rattle.msc_expand.specs.declared.plain_chart.PlainChart.{PlainChart};
-
-    ghost Value = { PlainChart };
-
-    ghost view = { λ c. c.chart };
-}
-
-impl HasUnfoldings for Charted {
-    ghost use Rattle.msc_expand.specs.Meanings.{Unfolds};
-
-    ghost finished = { Unfolds };
-
-    ghost begun = { Unfolds };
-}
 
 /// Judges a log, which it is fed in pieces, by a chart.
 #[derive(Drop)]
@@ -65,23 +42,17 @@ impl ChartJudge {
     /// term after an event is the budget at most.
     pub fn new(
         alloc: Global,
-        chart: &PlainChart,
+        chart: &ChartEntry,
         form: LogForm,
         budget: u64,
     ) -> Result<ChartJudge, NoMemory>
-        requires plain { IsPlain chart.now }
+        requires alone { HasEventsAlone (entry_view chart.now) }
         requires least { 1 ≤ budget }
         requires most { budget ≤ BUDGET_MOST }
-        ensures { IfOk result (λ judge. IsJudging chart.now form budget [] judge) }
+        ensures { IfOk result (λ judge. IsJudging (entry_view chart.now) form budget [] judge) }
     {
-        row_terms_mean();
-        let pairs = message_pairs(alloc, chart)?;
-        let made = row_term(
-            alloc,
-            chart.instances.as_slice(),
-            chart.events.as_slice(),
-            pairs,
-        )?;
+        charts_have_terms();
+        let made = term_of(alloc, chart)?;
         let judge = Judge::new(alloc, made.nets, made.term, form, budget)?;
         Ok(ChartJudge { judge })
     }

@@ -1,18 +1,28 @@
-//! The law of the verdict by a chart's term. It is the contract of a function that does nothing.
+//! The laws of a chart's term and of the verdict by it. Each is the contract of a function that does nothing.
 
-ghost use Rattle.chart_judge.specs.ChartsTold.{VerdictsAreTold};
+ghost use Rattle.chart_judge.specs.ChartsTold.{ChartsHaveRuns, ChartsHaveTerms, VerdictsAreTold};
 
-use crate::judge::Charted;
-use row_terms::laws::row_terms_mean;
+use level_terms::laws::chart_terms_mean;
 use trace_judge::laws::verdicts_tell_runs;
-use verdict_meaning::laws::meanings_tell_runs;
+
+/// A chart has one term, which means the chart's unfoldings, is sound, and weighs no more than the chart's size.
+pub fn charts_have_terms()
+    ensures { ChartsHaveTerms }
+{
+    chart_terms_mean();
+}
 
 /// The verdict by what is left of a chart's term is the verdict by the chart, and there is no other.
-#[tactic(auto, using(crate::proofs::Known::verdicts_told))]
 pub fn verdicts_are_told()
     ensures { VerdictsAreTold }
 {
-    row_terms_mean();
-    meanings_tell_runs::<Charted>();
+    charts_have_terms();
     verdicts_tell_runs();
+}
+
+/// Each unfolding of a chart of events alone has a linear order, and a run of the chart begins with no label.
+pub fn charts_have_runs()
+    ensures { ChartsHaveRuns }
+{
+    charts_have_terms();
 }

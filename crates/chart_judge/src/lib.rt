@@ -1,10 +1,10 @@
-//! The judge of a log by a chart: the chart's term, made of its events and messages, and a judge of a log by what is left of it.
+//! The judge of a log by a chart: the chart's term, made of its woven body, and a judge of a log by what is left of it.
 //!
 //! `specs/` says which term a chart has, what verdict a log has by a chart, and what a judge says of the bytes that it was fed.
 #![tactic(auto)]
 
 mod judge;
 pub mod laws;
-mod messages;
+mod term;
 
 pub use judge::ChartJudge;

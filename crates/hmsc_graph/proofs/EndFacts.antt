@@ -1,38 +1,22 @@
 -- Walks to `end` lines, forwards and backwards.
-use Rattle.std.proofs.Common.{ℕ, [], get_or, ◌<◌, ◌≡◌, ◌↔◌, ◌⊎◌, inl, inr, List, Bool, true, false, IsTrue, refl, sym, subst, ◌∙◌, Option, Some, None, Result, Ok, Err, IfOk}
+use Rattle.std.proofs.Common.{ℕ, [], ◌∷◌, ◌++◌, get_or, ◌<◌, ◌≡◌, ◌↔◌, ◌⊎◌, inl, inr, List, Bool, true, false, IsTrue, refl, sym, subst, ◌∙◌, Option, Some, None, Result, Ok, Err, IfOk}
 use Rattle.std.proofs.lemmas.Bool.{true≢false, cases_lt}
 use Rattle.std.proofs.lemmas.List.{get_or_past}
 use Rattle.bit_sets.specs.NodeSets.{NodeSetValue}
-use Rattle.hmsc_graph.specs.Graphs.{Net, Spot, Start, At, Goal, To, End, WalkThrough, last, step, arrives, behind}
+use Rattle.hmsc_graph.specs.Graphs.{Net, Spot, Start, At, Goal, To, End, Any, WalkThrough, last, step, arrives, behind}
 use Rattle.msc_base.specs.Lists.{IsIn}
 use Rattle.hmsc_graph.specs.Nets.{IsNet, size_of}
 use Rattle.hmsc_graph.specs.Reversals.{AreBefore, AreEdgesBack, way_of}
-use Rattle.hmsc_graph.specs.Searches.{IsFirstLost}
-use Rattle.hmsc_graph.specs.Walks.{MayReach, IsFirstEndless}
+use Rattle.hmsc_graph.specs.Searches.{IsFirstLost, LeadsOn, OneLeads}
+use Rattle.hmsc_graph.specs.Walks.{Leads, MayReach, IsFirstEndless}
 use Rattle.hmsc_graph.proofs.EdgeFacts.{behind_node}
+use Rattle.hmsc_graph.proofs.MemberFacts.{in_pushed}
 use Rattle.hmsc_graph.proofs.Reaching.{glue}
 use Rattle.hmsc_graph.proofs.SearchFacts.{behind_below, walk_below, number_same, same_number}
-
--- a walk to an `end` line is a walk to that line
-pub record EndsAt (g : Net) (allowed : List ℕ) (s : Spot) : Type 0 where
-  pub node : ℕ
-  pub walk : WalkThrough g allowed s (To node)
-  pub is : arrives g End node ≡ true
-
-pub ends_at : (g : Net) (allowed : List ℕ) (s : Spot) → WalkThrough g allowed s End → EndsAt g allowed s
-ends_at g allowed s (last m i a) = record { node = m; walk = last m i (number_same m m refl); is = a }
-ends_at g allowed s (step m i j w) = let e = ends_at g allowed (At m) w in record { node = e.node; walk = step m i j e.walk; is = e.is }
 
 pub to_end : (g : Net) (allowed : List ℕ) (s : Spot) (node : ℕ) → arrives g End node ≡ true → WalkThrough g allowed s (To node) → WalkThrough g allowed s End
 to_end g allowed s node is (last m i a) = last m i (subst (λ (n : ℕ). arrives g End n ≡ true) (sym (same_number m node a)) is)
 to_end g allowed s node is (step m i j w) = step m i j (to_end g allowed (At m) node is w)
-
-pub leads_to_end : (g : Net) (allowed : List ℕ) (s : Spot) (reached : List ℕ) (b : Bool) → ((m : ℕ) → IsIn m reached ↔ WalkThrough g allowed s (To m)) → (IsTrue b ↔ ((m : ℕ) × IsIn m reached × (arrives g End m ≡ true)))
-    → IsTrue b ↔ WalkThrough g allowed s End
-leads_to_end g allowed s reached b exact has = (
-  (λ h. let e = has.0 h in to_end g allowed s e.0 e.2 ((exact e.0).0 e.1)),
-  (λ w. let e = ends_at g allowed s w in has.1 (e.node, (exact e.node).1 e.walk, e.is)),
-)
 
 -- an `end` line is a node
 end_below : (g : Net) (m : ℕ) → arrives g End m ≡ true → m < size_of g
@@ -137,3 +121,32 @@ first_endless g starts back all reached ending found net edges are each forth be
       λ m lt w inner. ends m (before m lt (meets m w)) inner,
     )
     choose None f = λ m w inner. ends m (f m (walk_below g w.0 Start m net w.1) (meets m w)) inner
+
+-- a walk leads there where one of the nodes behind its start is the goal, or leads on
+pub walk_by_one : (g : Net) (s : Spot) (t : Goal) (allowed leading : List ℕ) → IsNet g → ((m : ℕ) → m < size_of g → IsIn m leading ↔ WalkThrough g allowed (At m) t) → OneLeads g (behind g s) allowed leading t ↔ WalkThrough g allowed s t
+walk_by_one g s t allowed leading net exact = (to, from)
+  where
+    to : OneLeads g (behind g s) allowed leading t → WalkThrough g allowed s t
+    to (m, i, inl a) = last m i a
+    to (m, i, inr p) = step m i p.0 ((exact m (behind_below g s m net i)).0 p.1)
+
+    from : WalkThrough g allowed s t → OneLeads g (behind g s) allowed leading t
+    from (last m i a) = (m, i, inl a)
+    from (step m i j w) = (m, i, inr (j, (exact m (behind_below g s m net i)).1 w))
+
+-- none leads among one node more
+pub no_lead_more : (g : Net) (ns more : List ℕ) (x : ℕ) (allowed leading : List ℕ) (t : Goal) → more ≡ ns ++ x ∷ [] → (OneLeads g ns allowed leading t → ⊥) → (LeadsOn g x allowed leading t → ⊥) → OneLeads g more allowed leading t → ⊥
+no_lead_more g ns more x allowed leading t is none shut h = elim (in_pushed h.0 x ns (subst (λ l. IsIn h.0 l) is h.1)) [
+  | inl i ↦ none (h.0, i, h.2)
+  | inr e ↦ shut (subst (λ (m : ℕ). LeadsOn g m allowed leading t) e h.2)
+]
+
+-- what a test of the nodes behind the start says
+pub leads_by_one : (g : Net) (s : Spot) (t : Goal) (nodes allowed leading : List ℕ) (b : Bool) → (t ≡ Any → ⊥) → IsNet g → nodes ≡ behind g s → ((m : ℕ) → m < size_of g → IsIn m leading ↔ Leads g allowed (At m) t) → (IsTrue b ↔ OneLeads g nodes allowed leading t)
+    → IsTrue b ↔ Leads g allowed s t
+leads_by_one g s t nodes allowed leading b aimed net is exact said = at t aimed exact said
+  where
+    at : (u : Goal) → (u ≡ Any → ⊥) → ((m : ℕ) → m < size_of g → IsIn m leading ↔ Leads g allowed (At m) u) → (IsTrue b ↔ OneLeads g nodes allowed leading u) → IsTrue b ↔ Leads g allowed s u
+    at (To k) f e h = let q = walk_by_one g s (To k) allowed leading net e in (λ i. q.0 (subst (λ (l : List ℕ). OneLeads g l allowed leading (To k)) is (h.0 i)), λ w. h.1 (subst (λ (l : List ℕ). OneLeads g l allowed leading (To k)) (sym is) (q.1 w)))
+    at End f e h = let q = walk_by_one g s End allowed leading net e in (λ i. q.0 (subst (λ (l : List ℕ). OneLeads g l allowed leading End) is (h.0 i)), λ w. h.1 (subst (λ (l : List ℕ). OneLeads g l allowed leading End) (sym is) (q.1 w)))
+    at Any f e h = absurd (f refl)

@@ -75,19 +75,19 @@ missing_added old new x (suc s) f none below = elim (cases_eq s x) [
     same n ne = there_same old new n (λ h. (f n).1 (inl h)) (λ h. back n ne ((f n).0 h))
 
 -- no node has been entered
-pub entered_none : (allowed : List ℕ) (r : NodeSetValue) (w : List ℕ) → HasEntered allowed [] r w r w
-entered_none allowed r w = record {
+pub entered_none : (r : NodeSetValue) (w : List ℕ) → HasEntered [] r w r w
+entered_none r w = record {
   size = refl;
   kept = λ m h. h;
   entered = λ m h. absurd h;
   only = λ m h. inl h;
   waiting = λ m h. h;
-  fresh = λ m h a. inl h;
+  fresh = λ m h. inl h;
   due = λ m h. inl h;
   work = omega arith;
 }
 
-module _ (allowed ns more : List ℕ) (x : ℕ) (was : NodeSetValue) (waited : List ℕ) (r : NodeSetValue) (w : List ℕ) (is : more ≡ ns ++ x ∷ []) (h : HasEntered allowed ns was waited r w) where
+module _ (ns more : List ℕ) (x : ℕ) (was : NodeSetValue) (waited : List ℕ) (r : NodeSetValue) (w : List ℕ) (is : more ≡ ns ++ x ∷ []) (h : HasEntered ns was waited r w) where
   first : (m : ℕ) → IsIn m more → IsIn m ns ⊎ (m ≡ x)
   first m i = in_pushed m x ns (subst (λ l. IsIn m l) is i)
 
@@ -98,7 +98,7 @@ module _ (allowed ns more : List ℕ) (x : ℕ) (was : NodeSetValue) (waited : L
   here m e = subst (λ l. IsIn m l) (sym is) (pushed_in m x ns e)
 
   -- one more node that was reached before
-  pub entered_known : IsIn x r.nodes → HasEntered allowed more was waited r w
+  pub entered_known : IsIn x r.nodes → HasEntered more was waited r w
   entered_known known = record {
     size = h.size;
     kept = h.kept;
@@ -124,36 +124,23 @@ module _ (allowed ns more : List ℕ) (x : ℕ) (was : NodeSetValue) (waited : L
     only_on m i = elim ((nodes m).0 i) [ inl l ↦ elim (h.only m l) [ inl o ↦ inl o | inr n ↦ inr (earlier m n) ] | inr e ↦ inr (here m e) ]
 
     -- one more node that waits
-    pub entered_waiting : (w' : List ℕ) → w' ≡ w ++ x ∷ [] → IsIn x allowed → HasEntered allowed more was waited s w'
-    entered_waiting w' e a = record {
+    pub entered_waiting : (w' : List ℕ) → w' ≡ w ++ x ∷ [] → HasEntered more was waited s w'
+    entered_waiting w' e = record {
       size = size ∙ h.size;
       kept = kept_on;
       entered = entered_on;
       only = only_on;
       waiting = λ m i. kept_wait m (h.waiting m i);
-      fresh = λ m i al. elim ((nodes m).0 i) [ inl l ↦ elim (h.fresh m l al) [ inl o ↦ inl o | inr n ↦ inr (kept_wait m n) ] | inr is_x ↦ inr (subst (λ l. IsIn m l) (sym e) (pushed_in m x w is_x)) ];
+      fresh = λ m i. elim ((nodes m).0 i) [ inl l ↦ elim (h.fresh m l) [ inl o ↦ inl o | inr n ↦ inr (kept_wait m n) ] | inr is_x ↦ inr (subst (λ l. IsIn m l) (sym e) (pushed_in m x w is_x)) ];
       due = λ m i. elim (in_pushed m x w (subst (λ l. IsIn m l) e i)) [
-        | inl l ↦ elim (h.due m l) [ inl o ↦ inl o | inr p ↦ inr ((nodes m).1 (inl p.0), p.1) ]
-        | inr is_x ↦ inr ((nodes m).1 (inr is_x), subst (λ (n : ℕ). IsIn n allowed) (sym is_x) a)
+        | inl l ↦ elim (h.due m l) [ inl o ↦ inl o | inr p ↦ inr ((nodes m).1 (inl p)) ]
+        | inr is_x ↦ inr ((nodes m).1 (inr is_x))
       ];
       work = omega (arith, grown, h.work, ap length e, length-append w (x ∷ []));
     }
       where
         kept_wait : (m : ℕ) → IsIn m w → IsIn m w'
         kept_wait m i = subst (λ l. IsIn m l) (sym e) (in_left m w (x ∷ []) i)
-
-    -- one more node that isn't allowed
-    pub entered_shut : (IsIn x allowed → ⊥) → HasEntered allowed more was waited s w
-    entered_shut shut = record {
-      size = size ∙ h.size;
-      kept = kept_on;
-      entered = entered_on;
-      only = only_on;
-      waiting = h.waiting;
-      fresh = λ m i al. elim ((nodes m).0 i) [ inl l ↦ h.fresh m l al | inr is_x ↦ absurd (shut (subst (λ (n : ℕ). IsIn n allowed) is_x al)) ];
-      due = λ m i. elim (h.due m i) [ inl o ↦ inl o | inr p ↦ inr ((nodes m).1 (inl p.0), p.1) ];
-      work = omega (arith, grown, h.work);
-    }
 
 -- what comes next is a node
 pub behind_below : (g : Net) (s : Spot) (m : ℕ) → IsNet g → IsIn m (behind g s) → m < size_of g
@@ -172,34 +159,58 @@ walk_below g allowed s m net (last n i a) = omega (arith, behind_below g s n net
 walk_below g allowed s m net (step n i j w) = walk_below g allowed (At n) m net w
 
 -- a search begins
-pub search_begun : (g : Net) (allowed : List ℕ) (from : Spot) (r s : NodeSetValue) (w : List ℕ) → ((n : ℕ) → IsIn n r.nodes → ⊥) → HasEntered allowed (behind g from) r [] s w → IsSearch g allowed from s.nodes w
-search_begun g allowed from r s w none h = record {
-  sound = λ m i. elim (h.only m i) [ inl o ↦ absurd (none m o) | inr n ↦ last m n (number_same m m refl) ];
-  begun = h.entered;
-  due = λ m i. elim (h.due m i) [ inl o ↦ absurd o | inr p ↦ p ];
-  done = λ k i a. elim (h.fresh k i a) [ inl o ↦ absurd (none k o) | inr n ↦ inl n ];
+pub search_begun : (r s : NodeSetValue) (firsts waited w : List ℕ) → ((n : ℕ) → IsIn n r.nodes → ⊥) → waited ≡ [] → HasEntered firsts r waited s w
+    → (g : Net) (allowed : List ℕ) (from : Spot) → behind g from ≡ firsts → IsSearch g allowed from s.nodes w
+search_begun r s firsts waited w none empty h g allowed from is = record {
+  sound = λ m i. elim (h.only m i) [ inl o ↦ absurd (none m o) | inr n ↦ last m (subst (λ l. IsIn m l) (sym is) n) (number_same m m refl) ];
+  begun = λ m i. h.entered m (subst (λ l. IsIn m l) is i);
+  due = λ m i. elim (h.due m i) [ inl o ↦ absurd (subst (λ l. IsIn m l) empty o) | inr p ↦ p ];
+  done = λ k i a. elim (h.fresh k i) [ inl o ↦ absurd (none k o) | inr n ↦ inl n ];
 }
 
--- a search goes on at a node that waits
-pub search_on : (g : Net) (allowed : List ℕ) (from : Spot) (r s : NodeSetValue) (w rest waits : List ℕ) (k : ℕ) → w ≡ rest ++ k ∷ [] → IsSearch g allowed from r.nodes w → HasEntered allowed (behind g (At k)) r rest s waits → IsSearch g allowed from s.nodes waits
-search_on g allowed from r s w rest waits k is b h = record {
-  sound = λ m i. elim (h.only m i) [ inl o ↦ b.sound m o | inr n ↦ glue at_k.1 (b.sound k at_k.0) (last m n (number_same m m refl)) ];
-  begun = λ m i. h.kept m (b.begun m i);
-  due = λ m i. elim (h.due m i) [ inl o ↦ let p = b.due m (subst (λ l. IsIn m l) (sym is) (in_left m rest (k ∷ []) o)) in (h.kept m p.0, p.1) | inr p ↦ p ];
-  done = λ j i a. elim (h.fresh j i a) [ inl o ↦ still j o a | inr n ↦ inl n ];
-}
-  where
-    at_k : IsIn k r.nodes × IsIn k allowed
-    at_k = b.due k (subst (λ l. IsIn k l) (sym is) (pushed_in k k rest refl))
+module _ (g : Net) (allowed : List ℕ) (from : Spot) (r : NodeSetValue) (w rest : List ℕ) (k : ℕ) (is : w ≡ rest ++ k ∷ []) (b : IsSearch g allowed from r.nodes w) where
+  at_k : IsIn k r.nodes
+  at_k = b.due k (subst (λ l. IsIn k l) (sym is) (pushed_in k k rest refl))
 
-    still : (j : ℕ) → IsIn j r.nodes → IsIn j allowed → IsIn j waits ⊎ ((m : ℕ) → IsIn m (behind g (At j)) → IsIn m s.nodes)
-    still j o a = elim (b.done j o a) [
-      | inl i ↦ elim (in_pushed j k rest (subst (λ l. IsIn j l) is i)) [
-        | inl n ↦ inl (h.waiting j n)
-        | inr e ↦ inr (λ m n. h.entered m (subst (λ (x : ℕ). IsIn m (behind g (At x))) e n))
+  still_due : (m : ℕ) → IsIn m rest → IsIn m r.nodes
+  still_due m o = b.due m (subst (λ l. IsIn m l) (sym is) (in_left m rest (k ∷ []) o))
+
+  -- a search goes on at a node that waits and is allowed
+  pub search_on : (s : NodeSetValue) (waits : List ℕ) → IsIn k allowed → HasEntered (behind g (At k)) r rest s waits → IsSearch g allowed from s.nodes waits
+  search_on s waits al h = record {
+    sound = λ m i. elim (h.only m i) [ inl o ↦ b.sound m o | inr n ↦ glue al (b.sound k at_k) (last m n (number_same m m refl)) ];
+    begun = λ m i. h.kept m (b.begun m i);
+    due = λ m i. elim (h.due m i) [ inl o ↦ h.kept m (still_due m o) | inr p ↦ p ];
+    done = λ j i a. elim (h.fresh j i) [ inl o ↦ still j o a | inr n ↦ inl n ];
+  }
+    where
+      still : (j : ℕ) → IsIn j r.nodes → IsIn j allowed → IsIn j waits ⊎ ((m : ℕ) → IsIn m (behind g (At j)) → IsIn m s.nodes)
+      still j o a = elim (b.done j o a) [
+        | inl i ↦ elim (in_pushed j k rest (subst (λ l. IsIn j l) is i)) [
+          | inl n ↦ inl (h.waiting j n)
+          | inr e ↦ inr (λ m n. h.entered m (subst (λ (x : ℕ). IsIn m (behind g (At x))) e n))
+        ]
+        | inr d ↦ inr (λ m n. h.kept m (d m n))
       ]
-      | inr d ↦ inr (λ m n. h.kept m (d m n))
-    ]
+
+  -- a search doesn't go on at a node that isn't allowed
+  pub search_past : (IsIn k allowed → ⊥) → IsSearch g allowed from r.nodes rest
+  search_past shut = record {
+    sound = b.sound;
+    begun = b.begun;
+    due = still_due;
+    done = λ j i a. elim (b.done j i a) [
+      | inl n ↦ elim (in_pushed j k rest (subst (λ l. IsIn j l) is n)) [
+        | inl o ↦ inl o
+        | inr e ↦ absurd (shut (subst (λ (x : ℕ). IsIn x allowed) e a))
+      ]
+      | inr d ↦ inr d
+    ];
+  }
+
+  -- what waits is a node
+  pub due_below : IsNet g → k < size_of g
+  due_below net = walk_below g allowed from k net (b.sound k at_k)
 
 -- where nothing waits each walk has been followed
 followed : (g : Net) (allowed : List ℕ) (from s : Spot) (reached : List ℕ) (m : ℕ) → IsSearch g allowed from reached [] → ((n : ℕ) → IsIn n (behind g s) → IsIn n reached) → WalkThrough g allowed s (To m) → IsIn m reached
@@ -211,16 +222,8 @@ followed g allowed from s reached m b here (step n i j w) = followed g allowed f
     next (inr d) = d
 
 -- where nothing waits the search has reached what walks lead to
-search_done : (g : Net) (allowed : List ℕ) (from : Spot) (reached : List ℕ) → IsSearch g allowed from reached [] → (m : ℕ) → IsIn m reached ↔ WalkThrough g allowed from (To m)
+pub search_done : (g : Net) (allowed : List ℕ) (from : Spot) (reached : List ℕ) → IsSearch g allowed from reached [] → (m : ℕ) → IsIn m reached ↔ WalkThrough g allowed from (To m)
 search_done g allowed from reached b m = (b.sound m, λ w. followed g allowed from from reached m b b.begun w)
 
-none_left : (w : List ℕ) → length w ≡ 0 → w ≡ []
-none_left [] e = refl
-none_left (x ∷ w) e = absurd (omega arith)
-
-pub search_ended : (g : Net) (allowed : List ℕ) (from : Spot) (reached w : List ℕ) → length w ≡ 0 → IsSearch g allowed from reached w → (m : ℕ) → IsIn m reached ↔ WalkThrough g allowed from (To m)
-search_ended g allowed from reached w e b = search_done g allowed from reached (subst (λ l. IsSearch g allowed from reached l) (none_left w e) b)
-
--- what waits is a node
-pub due_below : (g : Net) (allowed : List ℕ) (from : Spot) (reached w rest : List ℕ) (k : ℕ) → IsNet g → w ≡ rest ++ k ∷ [] → IsSearch g allowed from reached w → k < size_of g
-due_below g allowed from reached w rest k net is b = walk_below g allowed from k net (b.sound k (b.due k (subst (λ l. IsIn k l) (sym is) (pushed_in k k rest refl))).0)
+pub search_ended : (g : Net) (allowed : List ℕ) (from : Spot) (reached w : List ℕ) → w ≡ [] → IsSearch g allowed from reached w → (m : ℕ) → IsIn m reached ↔ WalkThrough g allowed from (To m)
+search_ended g allowed from reached w e b = search_done g allowed from reached (subst (λ l. IsSearch g allowed from reached l) e b)

@@ -1,6 +1,6 @@
 -- Graphs of high-level charts, and the walks through them (Annex B of Z.120 in outline).
 use Rattle.std.specs.List.{list_any}
-use Rattle.std.specs.Prelude.{ℕ, Bool, true, false, List, [], ◌∷◌, ◌≡◌, ◌||◌, ◌==◌, ◌&&◌, ◌⊎◌}
+use Rattle.std.specs.Prelude.{ℕ, Bool, true, false, List, [], ◌∷◌, ◌≡◌, ◌||◌, ◌==◌, ◌&&◌}
 use Rattle.std.proofs.Common.{get_or}
 use Rattle.msc_base.specs.Lists.{IsIn}
 

@@ -1,4 +1,3 @@
--- Serves private contracts alone.
 -- Graphs whose edges lead the other way.
 use Rattle.std.specs.Prelude.{ℕ, ◌≡◌, ◌<◌, ◌↔◌, ◌⊎◌, true, false, Bool, List, [], get_or, length, replicate}
 use Rattle.hmsc_graph.specs.Graphs.{Net, At, Goal, End, behind, arrives}

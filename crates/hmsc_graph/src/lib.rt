@@ -14,6 +14,7 @@ mod walks;
 
 pub use ending::endless;
 pub use net::{Net, NetFault};
+pub use search::Traversal;
 pub use shape::{Shape, ShapeLine, ShapeLines};
 pub use spot::{Goal, Spot};
-pub use walks::{has_walk, reach, reach_back};
+pub use walks::{has_walk, leads, reach, reach_back};

@@ -1,11 +1,12 @@
 //! The nodes that walks through allowed nodes reach, and those from which they lead to a goal. permit_step asks by them
 //! whether a walk can go on.
 
-ghost use Rattle.std.specs.Prelude.{◌≡◌, ◌<◌, ◌↔◌, ℕ, IfOk, IsTrue, true};
-ghost use Rattle.hmsc_graph.specs.Graphs.{At, To, End, WalkThrough, arrives};
+ghost use Rattle.std.specs.Prelude.{◌≡◌, ◌<◌, ◌↔◌, ℕ, IfOk, IsTrue};
+ghost use Rattle.hmsc_graph.specs.Graphs.{At, To, WalkThrough, arrives};
 ghost use Rattle.msc_base.specs.Lists.{IsIn};
 ghost use Rattle.hmsc_graph.specs.Nets.{size_of};
 ghost use Rattle.hmsc_graph.specs.Spots.{spot_of, goal_of, IsSpotBelow, IsGoalBelow};
+ghost use Rattle.hmsc_graph.specs.Searches.{LeadsOn, OneLeads};
 ghost use Rattle.hmsc_graph.specs.Walks.{Leads};
 
 use crate::search::search;
@@ -53,22 +54,62 @@ pub fn reach_back(
     }
 }
 
-/// Whether an `end` line is in the set.
-fn has_end(net: &Net, nodes: &NodeSet) -> bool
-    requires { nodes.now.size ≡ size_of net.now }
-    ensures { IsTrue result ↔ ((m : ℕ) × IsIn m nodes.now.nodes × (arrives net.now End m ≡ true)) }
+/// Whether the goal is the node.
+fn arrives(net: &Net, to: Goal, node: u32) -> bool
+    requires { node < size_of net.now }
+    ensures { result ≡ arrives net.now (goal_of to) node }
 {
-    for node in 0..net.size() {
-        if net.is_end(node) && nodes.has(node) {
+    match to {
+        Goal::Node(goal) => node == goal,
+        Goal::End => net.is_end(node),
+        Goal::Any => true,
+    }
+}
+
+/// Whether a walk that comes to the node is at the goal, or may go on to it.
+fn leads_on(net: &Net, node: u32, to: Goal, allowed: &NodeSet, leading: &NodeSet) -> bool
+    requires { node < size_of net.now }
+    ensures { IsTrue result ↔ LeadsOn net.now node allowed.now.nodes leading.now.nodes (goal_of to) }
+{
+    if arrives(net, to, node) {
+        return true;
+    }
+    allowed.has(node) && leading.has(node)
+}
+
+/// Whether a walk that comes to one of the nodes is at the goal, or may go on to it.
+fn one_leads(net: &Net, nodes: &[u32], to: Goal, allowed: &NodeSet, leading: &NodeSet) -> bool
+    requires { (m : ℕ) → IsIn m nodes.now → m < size_of net.now }
+    ensures { IsTrue result ↔ OneLeads net.now nodes.now allowed.now.nodes leading.now.nodes (goal_of to) }
+{
+    for node in nodes {
+        if leads_on(net, *node, to, allowed, leading) {
             return true;
         }
     }
     false
 }
 
+/// Whether a walk of at least one edge leads there, all inner nodes of which are allowed, where walks lead there from these
+/// nodes. Anywhere is always reached.
+///
+/// It takes no memory, and the time of the edges from the spot.
+pub fn leads(net: &Net, from: Spot, to: Goal, allowed: &NodeSet, leading: &NodeSet) -> bool
+    requires from { IsSpotBelow (size_of net.now) from }
+    requires leading { (m : ℕ) → m < size_of net.now →
+        IsIn m leading.now.nodes ↔ Leads net.now allowed.now.nodes (At m) (goal_of to) }
+    ensures { IsTrue result ↔ Leads net.now allowed.now.nodes (spot_of from) (goal_of to) }
+{
+    match to {
+        Goal::Any => true,
+        Goal::Node(_) => one_leads(net, net.behind(from), to, allowed, leading),
+        Goal::End => one_leads(net, net.behind(from), to, allowed, leading),
+    }
+}
+
 /// Whether a walk of at least one edge leads there, all inner nodes of which are allowed. Anywhere is always reached.
 ///
-/// It fails only for want of memory.
+/// It fails only for want of memory. It takes the time of one search back from the goal.
 pub fn has_walk(
     alloc: Global,
     net: &Net,
@@ -81,15 +122,7 @@ pub fn has_walk(
     requires to { IsGoalBelow (size_of net.now) to }
     ensures { IfOk result (λ leads. IsTrue leads ↔ Leads net.now allowed.now.nodes (spot_of from) (goal_of to)) }
 {
-    match to {
-        Goal::Any => Ok(true),
-        Goal::Node(node) => {
-            let reached = reach(alloc, net, from, allowed)?;
-            Ok(reached.has(node))
-        }
-        Goal::End => {
-            let reached = reach(alloc, net, from, allowed)?;
-            Ok(has_end(net, &reached))
-        }
-    }
+    let leading = reach_back(alloc, net, to, allowed)?;
+    let is_led = leads(net, from, to, allowed, &leading);
+    Ok(is_led)
 }

@@ -4,8 +4,8 @@ use Rattle.std.specs.Fmt.{decimal}
 use Rattle.serde_json.specs.Data.{Data, number, unsigned, string, array, object, member, no_members}
 use Rattle.serde_json.specs.View.{items_of}
 use Rattle.msc_tree.specs.declared.chart.Decl.{Decl}
-use Rattle.msc_expand.specs.declared.plain_chart.PlainChart.{PlainChart}
-use Rattle.msc_expand.specs.Listing.{is_graph_of, listed_of}
+use Rattle.msc_acceptance.specs.Listing.{is_graph_of, listed_of}
+use Rattle.msc_meaning.specs.Tables.{ChartEntry, Table}
 
 abbrev pub kind_word : Bool → List ℕ
 kind_word false = codes "basic"
@@ -14,7 +14,7 @@ kind_word true = codes "graph"
 -- ---- in words: a line for each
 
 -- the name, the kind, and how many instances are listed
-abbrev pub chart_line : PlainChart → List ℕ
+abbrev pub chart_line : ChartEntry → List ℕ
 chart_line c = c.name ++ (codes " " ++ (kind_word (is_graph_of c) ++ (codes " " ++ (decimal (length (listed_of c)) ++ 10 ∷ []))))
 
 abbrev pub refined_words : Option (List ℕ) → List ℕ
@@ -33,7 +33,7 @@ separated [] = []
 separated (text ∷ []) = text
 separated (text ∷ next ∷ more) = text ++ 44 ∷ separated (next ∷ more)
 
-abbrev pub chart_json : PlainChart → List ℕ
+abbrev pub chart_json : ChartEntry → List ℕ
 chart_json c = codes "{\"instances\":" ++ (decimal (length (listed_of c)) ++ (codes ",\"kind\":\"" ++ (kind_word (is_graph_of c) ++ (codes "\",\"name\":\"" ++ (c.name ++ codes "\"}")))))
 
 abbrev pub instance_json : Decl → List ℕ
@@ -42,7 +42,7 @@ instance_json d = 34 ∷ (d.name ++ 34 ∷ [])
 -- ---- the texts
 
 -- the charts of an accepted document, in the order of the text
-abbrev pub chart_list : Bool → List PlainChart → List ℕ
+abbrev pub chart_list : Bool → Table → List ℕ
 chart_list false charts = flat_map chart_line charts
 chart_list true charts = codes "{\"charts\":[" ++ (separated (map chart_json charts) ++ codes "]}\n")
 
@@ -53,7 +53,7 @@ instance_list true listed = codes "{\"instances\":[" ++ (separated (map instance
 
 -- ---- the objects, as data
 
-abbrev pub chart_data : PlainChart → Data
+abbrev pub chart_data : ChartEntry → Data
 chart_data c =
     object (member (codes "instances") (number (unsigned (length (listed_of c)))) (member (codes "kind") (string (kind_word (is_graph_of c))) (member (codes "name") (string c.name) no_members)))
 

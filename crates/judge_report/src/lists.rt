@@ -3,22 +3,24 @@
 ghost use Rattle.std.specs.Prelude.{◌≡◌, ◌++◌, IfOk, OnOk, IsOk, codes, flat_map, map, true};
 ghost use Rattle.std.specs.List.{list_all};
 ghost use Rattle.serde_json.specs.View.{view};
-ghost use Rattle.msc_expand.specs.Listing.{is_graph_of};
+ghost use Rattle.msc_acceptance.specs.Listing.{is_graph_of};
+ghost use Rattle.msc_meaning.specs.Views.{entry_view, table_view};
 ghost use Rattle.judge_report.specs.Lists.{array_data, chart_data, chart_line, chart_list, instance_data, instance_line, instance_list, kind_word, refined_words};
 ghost use Rattle.judge_report.specs.Texts.{is_plain};
 
 use crate::lines::line_of_value;
+use msc_acceptance::{Accepted, is_graph, listed_count};
 use msc_base::{Name, NoMemory, Text};
-use msc_expand::{Accepted, PlainChart};
+use msc_meaning::ChartEntry;
 use msc_tree::{Decl, DeclList};
 use serde_json::{Value, json};
 use std::alloc::{AllocError, Global};
 
 /// The word for a chart's kind.
-fn kind_of(chart: &PlainChart) -> &'static str
-    ensures { result.now ≡ kind_word (is_graph_of chart.now) }
+fn kind_of(chart: &ChartEntry) -> &'static str
+    ensures { result.now ≡ kind_word (is_graph_of (entry_view chart.now)) }
 {
-    if chart.is_graph() { "graph" } else { "basic" }
+    if is_graph(chart) { "graph" } else { "basic" }
 }
 
 /// The name as a text: its bytes are ASCII.
@@ -34,11 +36,11 @@ fn text_of(name: &Name) -> &str
 }
 
 /// Appends the line of a chart.
-fn push_chart(alloc: Global, chart: &PlainChart, bytes: &mut Vec<u8>) -> Result<(), AllocError>
-    ensures { OnOk result (bytes.new.items ≡ bytes.old.items ++ chart_line chart.now) }
+fn push_chart(alloc: Global, chart: &ChartEntry, bytes: &mut Vec<u8>) -> Result<(), AllocError>
+    ensures { OnOk result (bytes.new.items ≡ bytes.old.items ++ chart_line (entry_view chart.now)) }
 {
     let kind = kind_of(chart);
-    let count = chart.listed_count();
+    let count = listed_count(chart);
     let rest = format!(in alloc; " {kind} {count}\n")?;
     bytes.extend_from_slice(chart.name.bytes())?;
     bytes.extend_from_slice(rest.as_bytes())
@@ -46,8 +48,8 @@ fn push_chart(alloc: Global, chart: &PlainChart, bytes: &mut Vec<u8>) -> Result<
 
 #[tactic(auto, using(crate::proofs::ListTexts::more_items))]
 /// The lines of the charts.
-fn chart_lines(alloc: Global, charts: &[PlainChart]) -> Result<Vec<u8>, AllocError>
-    ensures { IfOk result (λ bytes. bytes.items ≡ flat_map chart_line charts.now) }
+fn chart_lines(alloc: Global, charts: &[ChartEntry]) -> Result<Vec<u8>, AllocError>
+    ensures { IfOk result (λ bytes. bytes.items ≡ flat_map (λ c. chart_line (entry_view c)) charts.now) }
 {
     let mut bytes = Vec::new(alloc);
     for chart in charts {
@@ -92,19 +94,19 @@ fn instance_lines(alloc: Global, listed: &[Decl]) -> Result<Vec<u8>, AllocError>
 }
 
 /// The object that tells a chart.
-fn chart_value(alloc: Global, chart: &PlainChart) -> Result<Value, AllocError>
-    ensures value { IfOk result (λ v. view v ≡ chart_data chart.now) }
+fn chart_value(alloc: Global, chart: &ChartEntry) -> Result<Value, AllocError>
+    ensures value { IfOk result (λ v. view v ≡ chart_data (entry_view chart.now)) }
     ensures plain { is_plain chart.now.name ≡ true }
 {
     let name = text_of(&chart.name);
     let kind = kind_of(chart);
-    let count = chart.listed_count();
+    let count = listed_count(chart);
     json!(in alloc; {"instances": count, "kind": kind, "name": name})
 }
 
 /// The objects that tell the charts.
-fn chart_values(alloc: Global, charts: &[PlainChart]) -> Result<Vec<Value>, AllocError>
-    ensures values { IfOk result (λ values. map view values.items ≡ map chart_data charts.now) }
+fn chart_values(alloc: Global, charts: &[ChartEntry]) -> Result<Vec<Value>, AllocError>
+    ensures values { IfOk result (λ values. map view values.items ≡ map (λ c. chart_data (entry_view c)) charts.now) }
     ensures plain { IsOk result → list_all (λ c. is_plain c.name) charts.now ≡ true }
 {
     let mut values = Vec::new(alloc);
@@ -148,10 +150,10 @@ fn instances_value(alloc: Global, values: Vec<Value>) -> Result<Value, AllocErro
     json!(in alloc; {"instances": values})
 }
 
-#[tactic(auto, using(crate::proofs::ListTexts::charts_no_float, crate::proofs::ListTexts::charts_shown))]
+#[tactic(auto, using(crate::proofs::ListTexts::charts_no_float, crate::proofs::ListTexts::charts_shown, crate::proofs::ListTexts::lines_shown))]
 /// The list of a document's charts: a line for each, or as JSON if that is asked.
 pub fn chart_list_text(alloc: Global, doc: &Accepted, json: bool) -> Result<Text, NoMemory>
-    ensures { IfOk result (λ text. text ≡ chart_list json doc.now) }
+    ensures { IfOk result (λ text. text ≡ chart_list json (table_view doc.now)) }
 {
     if json {
         let values = chart_values(alloc, doc.as_slice())?;

@@ -19,16 +19,17 @@ use Rattle.msc_meaning.specs.Bodies.{EventNode, Body, Item, Bodies}
 use Rattle.msc_meaning.specs.Views.{node_view, body_view}
 use Rattle.level_terms.specs.BuiltBodies.{creates_nobody, names_no_gate, is_empty, is_plain, has_operands, is_built_node, are_built_nodes, is_built, are_built, is_built_item, have_built, event_count, events_count, item_count, operands_count}
 use Rattle.level_terms.specs.ItemViews.{item_view, inline_view, items_view, bodies_view}
-use Rattle.level_terms.specs.MadeParts.{IsPlainFar, IsSimple, IsPlaced}
+use Rattle.level_terms.specs.MadeParts.{IsPlaced}
+use Rattle.level_terms.proofs.PlainItems.{IsPlainFar, IsSimple}
 use Rattle.msc_meaning.specs.declared.body.Body.{out-Body}
 use Rattle.msc_meaning.specs.declared.body.InlineItem.{InlineItem, out-InlineItem}
 use Rattle.msc_meaning.specs.declared.body.Item.TheVariants as item
 use Rattle.msc_meaning.specs.declared.body.ReferenceItem.{ReferenceItem}
 use Rattle.level_terms.specs.declared.made.Made.{Made}
-use Rattle.level_terms.proofs.CoregionMade.{drop_all, drop_less}
+use Rattle.level_terms.proofs.Dropped.{drop_all, drop_less}
 use Rattle.level_terms.proofs.ViewFacts.{body_is, inline_is, single_is, coregion_is, inline_item_is, reference_is}
 
-and_both : (a b : Bool) → (a && b) ≡ true → (a ≡ true) × (b ≡ true)
+pub and_both : (a b : Bool) → (a && b) ≡ true → (a ≡ true) × (b ≡ true)
 and_both true b h = (refl, h)
 and_both false b h = absurd cc
 

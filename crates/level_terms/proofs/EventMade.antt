@@ -1,59 +1,37 @@
--- The term of an event, and what was made where the tables grow.
-use Rattle.std.specs.List.{slice_get}
-use Rattle.std.specs.Prelude.{ℕ, suc, ◌+◌, ◌≤◌, Bool, List, [], ◌∷◌, Some, None, length, Option}
-use Rattle.std.proofs.Common.{◌≡◌, ◌∙◌, ap, refl, sym, subst, arith}
+-- The term of an event.
+use Rattle.std.specs.List.{position}
 use Rattle.std.specs.Option.{unwrap_or}
+use Rattle.std.specs.Prelude.{ℕ, suc, ◌+◌, true, List, [], ◌∷◌, None, Option}
+use Rattle.std.specs.Str.{bytes_eq}
+use Rattle.std.proofs.Common.{◌≡◌, ◌∙◌, ap, refl, sym, subst, arith}
+use Rattle.label_table.specs.Labels.{label_number}
 use Rattle.msc_base.specs.declared.label.Far.{Far}
 use Rattle.msc_base.specs.declared.label.Kind.{Kind}
 use Rattle.msc_base.specs.declared.label.Kind.TheVariants.{Output, Input, OutputLost, InputFound, Action, TimerStart, TimerStop, Timeout, Create}
 use Rattle.msc_base.specs.declared.label.Label.{Label}
+use Rattle.msc_base.specs.Orders.{Among}
 use Rattle.msc_tree.specs.declared.event.Target.{Target}
 use Rattle.msc_tree.specs.Labels.{far_of, label_of}
-use Rattle.msc_base.specs.declared.label.Pair.{Pair}
-use Rattle.msc_unfolding.specs.Unfoldings.{Tag, Own, Happening, Unfolding}
+use Rattle.msc_unfolding.specs.Unfoldings.{Tag, Own, Happening}
 use Rattle.term_tables.specs.NetValues.{NetsValue}
-use Rattle.chart_term.specs.Tables.{Tables, terms_over}
+use Rattle.chart_term.specs.Tables.{terms_over}
 use Rattle.chart_term.specs.TermMeanings.{HasPattern}
-use Rattle.chart_term.specs.Terms.{TermEvent, Tree, Event}
+use Rattle.chart_term.specs.Terms.{TermEvent}
 use Rattle.term_meaning.specs.Portions.{IsPortion}
 use Rattle.term_meaning.specs.UnfoldingSets.{OnlyEvent}
-use Rattle.term_meaning.proofs.PortionRules.{portion_event, portion_named_later}
-use Rattle.term_meaning.proofs.Extended.{keeps_same}
+use Rattle.term_meaning.proofs.PortionRules.{portion_event}
 use Rattle.term_meaning.proofs.SeenRules.{named_alone}
 use Rattle.msc_meaning.specs.Bodies.{EventNode}
+use Rattle.msc_meaning.specs.EventLabels.{written_label}
 use Rattle.msc_meaning.specs.FarEnds.{Around, child_by, far_end, gate_tags, happening, no_far, written_far}
 use Rattle.msc_meaning.specs.InnerEvents.{GateEnd}
-use Rattle.level_terms.specs.MadeParts.{AreFit, IsGrown, IsMade, IsPlainEvent, IsPlainFar, IsSimple, own_shown}
-use Rattle.level_terms.proofs.Growing.{fit_grown}
-
-pub event_made : (v w : NetsValue) (m : List (List ℕ)) (next behind : ℕ) (node : EventNode) (l : Label) (at place : ℕ) (ps : List Pair) (x : Tree)
-    → AreFit v m next → behind ≡ next + 1 → IsPlainEvent node l → slice_get m at ≡ Some l.at → slice_get w.labels place ≡ Some l → length w.labels ≤ length v.labels + 1 → IsGrown v w
-    → x ≡ Event (record { number = next; at = at; also = None; label = place }) → ps ≡ record { first = next; second = node.number } ∷ []
-    → IsMade w m next behind ps x (λ t g a. OnlyEvent (happening g.ends a node))
-event_made v w m next behind node l at place ps x fit b plain named labelled few grown is shows =
-    subst (λ (k : ℕ). IsMade w m next k ps x (λ t g a. OnlyEvent (happening g.ends a node))) (omega (arith, b))
-    (subst (λ (y : Tree). IsMade w m next (suc next) ps y (λ t g a. OnlyEvent (happening g.ends a node))) (sym is)
-    (subst (λ (qs : List Pair). IsMade w m next (suc next) qs (Event event) (λ t g a. OnlyEvent (happening g.ends a node))) (sym shows)
-    (record {
-      still = refl;
-      fit = fit_grown v w m next (suc next) grown (omega (arith, few, fit.few)) fit;
-      portion = λ table gates around none o.
-          subst (λ (h : Happening). IsPortion w.labels m next (suc next) ((next, Own node.number) ∷ []) (HasPattern (terms_over w.tables) o (Event event)) (OnlyEvent h)) (sym (plain.happens gates.ends around none))
-          (portion_event w.labels m (terms_over w.tables) o event happened (named_alone w.labels m event happened labelled named refl refl));
-    })))
-  where
-    event : TermEvent
-    event = record { number = next; at = at; also = None; label = place }
-
-    happened : Happening
-    happened = record { label = l; also = None; tags = Own node.number ∷ [] }
-
--- over tables that have grown
-pub portion_grown : (v w : NetsValue) (m : List (List ℕ)) (lo hi : ℕ) (ps : List Pair) (x : Tree) (U : Unfolding → Type 0) (o : Bool) → IsGrown v w
-    → IsPortion v.labels m lo hi (own_shown ps) (HasPattern (terms_over v.tables) o x) U → IsPortion w.labels m lo hi (own_shown ps) (HasPattern (terms_over w.tables) o x) U
-portion_grown v w m lo hi ps x U o g p =
-    subst (λ (t : Tables). IsPortion w.labels m lo hi (own_shown ps) (HasPattern (terms_over t) o x) U) (sym g.tables)
-    (portion_named_later v.labels w.labels m m g.labels (keeps_same m) lo hi (own_shown ps) (HasPattern (terms_over v.tables) o x) U p)
+use Rattle.level_terms.specs.BuiltBodies.{is_built_node}
+use Rattle.level_terms.specs.LevelTerms.{event_term}
+use Rattle.level_terms.specs.MadeParts.{IsMade}
+use Rattle.level_terms.proofs.PlainItems.{IsPlainEvent, IsPlainFar, IsPlainNode, IsSimple}
+use Rattle.level_terms.specs.ShownNumbers.{shows}
+use Rattle.level_terms.proofs.BuiltFacts.{is_far, is_simple, node_named, node_plain}
+use Rattle.level_terms.proofs.Growing.{label_there, name_there}
 
 -- an event without gate and creation says what is written, wherever it stands
 pub plain_event : (n : EventNode) (l : Label) → IsSimple n.event → IsPlainFar n.event.target (far_of n.event.target) → l ≡ label_of n.at n.event → IsPlainEvent n l
@@ -82,3 +60,26 @@ plain_event n l s f e = record {
         ap (λ (x : Far). let r : Happening = record { label = record (label_of n.at n.event) { far = x }; also = child_by n.event.kind n.event.target; tags = Own n.number ∷ gate_tags n.event.target } in r) (far_is ends around none)
         ∙ (ap (λ (c : Option (List ℕ)). let r : Happening = record { label = label_of n.at n.event; also = c; tags = Own n.number ∷ gate_tags n.event.target } in r) (no_child n.event.kind n.event.target s.one)
         ∙ ap (λ (g : List Tag). let r : Happening = record { label = label_of n.at n.event; also = None; tags = Own n.number ∷ g } in r) f.no_tags)
+
+-- the term of an event
+module _ (v : NetsValue) (m : List (List ℕ)) where
+  pub event_made : (k : ℕ) (n : EventNode) → is_built_node m n ≡ true → Among (written_label n) v.labels → IsMade v m k (k + 1) (shows k n.number ∷ []) (event_term m v.labels k n) (λ t g a. OnlyEvent (happening g.ends a n))
+  event_made k n built there = record {
+    bare = tt;
+    portion = λ table gates around none o.
+        subst (λ j. IsPortion v.labels m k j ((k, Own n.number) ∷ []) (HasPattern (terms_over v.tables) o (event_term m v.labels k n)) (OnlyEvent (happening gates.ends around n))) (omega arith)
+        (subst (λ (h : Happening). IsPortion v.labels m k (suc k) ((k, Own n.number) ∷ []) (HasPattern (terms_over v.tables) o (event_term m v.labels k n)) (OnlyEvent h)) (sym (plain.happens gates.ends around none))
+        (portion_event v.labels m (terms_over v.tables) o event happened (named_alone v.labels m event happened (label_there (written_label n) v.labels there) (name_there n.at m (node_named m n n.at refl built)) refl refl)));
+  }
+    where
+      plain : IsPlainEvent n (written_label n)
+      plain = plain_event n (written_label n) (is_simple n.event (node_plain m n built)) (is_far n.event (node_plain m n built)) refl
+
+      event : TermEvent
+      event = record { number = k; at = unwrap_or (position (bytes_eq n.at) m) 0; also = None; label = unwrap_or (label_number v.labels (written_label n)) 0 }
+
+      happened : Happening
+      happened = record { label = written_label n; also = None; tags = Own n.number ∷ [] }
+
+  pub node_is_plain : (n : EventNode) → is_built_node m n ≡ true → IsPlainNode n
+  node_is_plain n built = (plain_event n (written_label n) (is_simple n.event (node_plain m n built)) (is_far n.event (node_plain m n built)) refl).plain

@@ -16,7 +16,7 @@ use Rattle.msc_meaning.specs.Ties.{ties, past_inline, passing, items_joins_ties,
 use Rattle.msc_meaning.specs.Bodies.{events}
 use Rattle.msc_meaning.specs.ChartUnfoldings.{gates_of, OfEvents, no_event, event_and, OfLevel, of_level, OfItems, no_item, item_then, exception, no_exception, OfItem, single, coregion, inline_part, OfForm, alternative, taken, left_out, parallel, OfSome, this, that, OfAll, no_operand, operand_and}
 use Rattle.term_meaning.specs.UnfoldingSets.{OnlyEmpty, OnlyEvent, AreJoined, joined, AreTied, tied, Either}
-use Rattle.level_terms.specs.MadeParts.{ArePlainItems, ArePlainNodes}
+use Rattle.level_terms.proofs.PlainItems.{ArePlainItems, ArePlainNodes}
 
 pub along : (A : Unfolding → Type 0) (u v : Unfolding) → v ≡ u → A u → A v
 along A u v e a = subst A (sym e) a

@@ -1,17 +1,16 @@
 -- Serves private contracts alone.
--- The numbers of the events of a level in its term, by the numbers that they have in their chart.
+-- The numbers of the events of a level in its term, found by the numbers that they have in their chart.
 use Rattle.std.specs.Prelude.{ℕ, ◌≡◌, ◌++◌, List, [], ◌∷◌, Option, Some, None}
 use Rattle.msc_base.specs.declared.label.Pair.{Pair}
-use Rattle.msc_base.specs.Orders.{Among}
+use Rattle.level_terms.specs.ShownNumbers.{numbers_of}
 
--- the number m in the term, of the event k of its chart
-abbrev pub shows : ℕ → ℕ → Pair
-shows m k = record { first = m; second = k }
+abbrev pub listed : Option ℕ → List ℕ
+listed None = []
+listed (Some m) = m ∷ []
 
--- by the number of an event in its chart the one that is shown of it is found
+-- by the number of an event in its chart those that are shown of it are found: one at most
 pub record AreNumbers (number : ℕ → Option ℕ) (shown : List Pair) : Type 0 where
-  pub found : (m k : ℕ) → number k ≡ Some m → Among (shows m k) shown
-  pub whole : (m k : ℕ) → Among (shows m k) shown → number k ≡ Some m
+  pub found : (k : ℕ) → listed (number k) ≡ numbers_of k shown
 
 -- both numbers, where both are found
 abbrev pub found_pair : Option ℕ → Option ℕ → List (ℕ × ℕ)

@@ -1,52 +1,63 @@
-//! The term of a basic chart.
+//! The term of a basic chart, with its tables.
 
-ghost use Rattle.std.specs.Prelude.{◌≡◌, ◌≤◌, false, length, IfOk, IsErrOf, []};
+ghost use Rattle.std.specs.Prelude.{◌≡◌, ◌≤◌, false, length, IfOk, IsErrOf};
 ghost use Rattle.msc_base.specs.declared.limits.TheConstants.Limits.{INSTANCES};
+ghost use Rattle.msc_base.specs.Lists.{AreDifferent};
 ghost use Rattle.msc_meaning.specs.Views.{body_view};
-ghost use Rattle.term_laws.specs.FullSoundness.{AreSoundNets, IsFullySound};
-ghost use Rattle.level_terms.specs.SoundParts.{IsForward};
+ghost use Rattle.term_laws.specs.FullSoundness.{IsFullySound};
 ghost use Rattle.level_terms.specs.BuiltBodies.{HasTerm, IsTooLong, is_built};
+ghost use Rattle.level_terms.specs.LevelTerms.{chart_tables, chart_term};
 ghost use Rattle.level_terms.specs.MadeCharts.{IsChartMade};
-ghost use Rattle.level_terms.specs.MadeParts.{AreFit, IsGrown};
+ghost use Rattle.level_terms.specs.SoundParts.{IsForward};
 
 use crate::built::is_built;
 use crate::fault::LevelFault;
+use crate::labels::add_labels;
+use crate::laws::chart_terms_mean;
 use crate::levels::level_of;
-use crate::made::Made;
 use crate::room::room_behind;
-use msc_base::NameTable;
+use chart_term::Term;
+use msc_base::{Name, NameTable};
 use msc_meaning::Body;
 use std::alloc::Global;
 use term_tables::Nets;
 
-/// The term of a basic chart that has no decomposed instances: it means the chart, in each table that has it. `NotBuilt` comes where
-/// no term is made of the body, and `Full` where a term would be made of it but its events are more than there are numbers.
-pub fn chart_of(
-    alloc: Global,
-    nets: &mut Nets,
-    names: &NameTable,
-    body: &Body,
-) -> Result<Made, LevelFault>
-    requires fit { AreFit nets.old names.now 0 }
+/// The term of a basic chart, and the tables that it names.
+#[derive(Drop)]
+pub struct ChartTerm {
+    /// The term.
+    pub term: Term,
+    /// Its labels by their numbers, and no net.
+    pub nets: Nets,
+}
+
+/// The term of a basic chart that has no decomposed instances, over the names of its instances: it means the chart, in each table that
+/// has it. `NotBuilt` comes where no term is made of the body, and `Full` where a term would be made of it but its events are more than
+/// there are numbers.
+pub fn chart_of(alloc: Global, names: &[Name], body: &Body) -> Result<ChartTerm, LevelFault>
+    requires different { AreDifferent names.now }
     requires few { length names.now ≤ INSTANCES }
-    ensures means { IfOk result (λ made. IsChartMade nets.new names.now made.term (body_view body.now)) }
-    ensures grown { IsGrown nets.old nets.new }
-    ensures sound { IfOk result (λ made. AreSoundNets (length nets.old.labels) nets.old.tables → IsForward (body_view body.now) → IsFullySound (length nets.new.labels) nets.new.tables made.term) }
+    ensures term { IfOk result (λ made. made.term ≡ chart_term names.now (body_view body.now)) }
+    ensures nets { IfOk result (λ made. made.nets ≡ chart_tables (body_view body.now)) }
+    ensures means { IfOk result (λ made. IsChartMade made.nets names.now made.term (body_view body.now)) }
+    ensures sound { IfOk result (λ made. IsForward (body_view body.now) → IsFullySound (length made.nets.labels) made.nets.tables made.term) }
     ensures made { IfOk result (λ made. HasTerm names.now (body_view body.now)) }
     ensures not_built { IsErrOf result LevelFault.NotBuilt → is_built names.now (body_view body.now) ≡ false }
     ensures full { IsErrOf result LevelFault.Full → IsTooLong names.now (body_view body.now) }
 {
-    if !is_built(names, body) {
+    chart_terms_mean();
+    let table = NameTable::of(alloc, names)?;
+    if !is_built(&table, body) {
         return Err(LevelFault::NotBuilt);
     }
     if room_behind(u32::MAX, body).is_none() {
         return Err(LevelFault::Full);
     }
-    let made = level_of(alloc, nets, names, 0, body)?;
-    Ok(made)
+    let mut nets = Nets::new(alloc);
+    add_labels(alloc, &mut nets, body)?;
+    let made = level_of(alloc, &nets, &table, 0, body)?;
+    Ok(ChartTerm {
+        term: made.term,
+        nets,
+    })
 }
-
-/// Tables that hold nothing are fit, so the condition can be met for a first chart.
-pub fn empty_tables_are_fit()
-    ensures { AreFit (record { labels = []; tables = [] }) [] 0 }
-{}

@@ -1,63 +1,43 @@
-//! The terms of events and coregions.
+//! The terms of events and coregions: for `levels`.
 
 ghost use Rattle.std.specs.Prelude.{◌≡◌, ◌<◌, ◌≤◌, ◌+◌, ◌∷◌, [], true, length, IfOk, map};
 ghost use Rattle.msc_base.specs.declared.limits.TheConstants.Limits.{INSTANCES};
-ghost use Rattle.msc_meaning.specs.ChartUnfoldings.{OfEvents};
-ghost use Rattle.msc_meaning.specs.FarEnds.{happening};
+ghost use Rattle.msc_meaning.specs.EventLabels.{written_label};
 ghost use Rattle.msc_meaning.specs.Views.{node_view};
-ghost use Rattle.term_meaning.specs.UnfoldingSets.{OnlyEvent};
-ghost use Rattle.term_laws.specs.FullSoundness.{AreSoundNets};
-ghost use Rattle.level_terms.specs.SoundParts.{IsSoundPart, numbers};
-ghost use Rattle.level_terms.specs.BuiltBodies.{is_plain, is_built_node, are_built_nodes};
-ghost use Rattle.level_terms.specs.MadeParts.{AreFit, IsGrown, IsMade, IsPlainEvent, IsPlainNode, ArePlainNodes};
+ghost use Rattle.level_terms.specs.BodyLabels.{HasLabels};
+ghost use Rattle.level_terms.specs.BuiltBodies.{is_built_node, are_built_nodes};
+ghost use Rattle.level_terms.specs.LevelTerms.{coregion_term, event_term};
+ghost use Rattle.level_terms.specs.MadeParts.{IsPart};
+ghost use Rattle.level_terms.specs.ShownNumbers.{shown_events, shows};
 
+use crate::labels::written_label;
 use crate::made::Made;
 use crate::numbers::{label_number, name_number};
 use crate::parts::{nothing, side_by_side};
 use chart_term::Term;
-use msc_base::{Label, NameTable, NoMemory, Pair, PairList};
+use msc_base::{NameTable, NoMemory, Pair, PairList};
 use msc_meaning::{EventNode, EventNodeList};
-use msc_tree::label_of;
-use sound_terms::laws::tables_stay_sound;
 use std::alloc::Global;
-use term_laws::laws::{constructors_keep_soundness, normal_forms_keep_patterns};
 use term_tables::Nets;
-
-/// The label of a plain event.
-fn plain_label(alloc: Global, node: &EventNode) -> Result<Label, NoMemory>
-    requires { is_plain node.now.event ≡ true }
-    ensures event { IfOk result (λ label. IsPlainEvent (node_view node.now) label) }
-    ensures at { IfOk result (λ label. label.at ≡ node.now.at) }
-{
-    let at = node.at.copy(alloc)?;
-    let label = label_of(alloc, at, &node.event)?;
-    Ok(label)
-}
 
 /// The term of an event.
 pub(crate) fn event_of(
     alloc: Global,
-    nets: &mut Nets,
+    nets: &Nets,
     names: &NameTable,
     next: u32,
     node: &EventNode,
 ) -> Result<Made, NoMemory>
-    requires fit { AreFit nets.old names.now next }
     requires few { length names.now ≤ INSTANCES }
     requires built { is_built_node names.now (node_view node.now) ≡ true }
+    requires labelled { HasLabels nets.now.labels (written_label (node_view node.now) ∷ []) }
     requires room { next < 4294967295 }
     ensures next { IfOk result (λ made. made.next ≡ next + 1) }
-    ensures made { IfOk result (λ made. IsMade nets.new names.now next made.next made.shown made.term (λ t g a. OnlyEvent (happening g.ends a (node_view node.now)))) }
-    ensures plain { IfOk result (λ made. IsPlainNode (node_view node.now)) }
-    ensures grown { IsGrown nets.old nets.new }
-    ensures sound { IfOk result (λ made. AreSoundNets (length nets.old.labels) nets.old.tables → IsSoundPart nets.new (node.now.number ∷ []) next made.next made.shown made.term) }
+    ensures part { IfOk result (λ made. IsPart (event_term names.now nets.now.labels next (node_view node.now)) (shows next node.now.number ∷ []) made) }
 {
-    normal_forms_keep_patterns();
-    constructors_keep_soundness();
-    tables_stay_sound();
-    let label = plain_label(alloc, node)?;
+    let label = written_label(alloc, node)?;
     let at = name_number(names, &label.at);
-    let place = label_number(alloc, nets, &label)?;
+    let place = label_number(nets, &label);
     let term = Term::event(alloc, next, at, None, place)?;
     let mut shown = PairList::new(alloc);
     shown.push(Pair {
@@ -74,24 +54,18 @@ pub(crate) fn event_of(
 /// The term of a coregion.
 pub(crate) fn coregion_of(
     alloc: Global,
-    nets: &mut Nets,
+    nets: &Nets,
     names: &NameTable,
     next: u32,
     nodes: &EventNodeList,
 ) -> Result<Made, NoMemory>
-    requires fit { AreFit nets.old names.now next }
     requires few { length names.now ≤ INSTANCES }
     requires built { are_built_nodes names.now (map node_view nodes.now) ≡ true }
+    requires labelled { HasLabels nets.now.labels (map written_label (map node_view nodes.now)) }
     requires room { next + length nodes.now ≤ 4294967295 }
     ensures next { IfOk result (λ made. made.next ≡ next + length nodes.now) }
-    ensures made { IfOk result (λ made. IsMade nets.new names.now next made.next made.shown made.term (λ t g a. OfEvents g.ends a (map node_view nodes.now))) }
-    ensures plain { IfOk result (λ made. ArePlainNodes (map node_view nodes.now)) }
-    ensures grown { IsGrown nets.old nets.new }
-    ensures sound { IfOk result (λ made. AreSoundNets (length nets.old.labels) nets.old.tables → IsSoundPart nets.new (numbers (map node_view nodes.now)) next made.next made.shown made.term) }
+    ensures part { IfOk result (λ made. IsPart (coregion_term names.now nets.now.labels next (map node_view nodes.now)) (shown_events next (map node_view nodes.now)) made) }
 {
-    normal_forms_keep_patterns();
-    constructors_keep_soundness();
-    tables_stay_sound();
     let mut rest = nothing(alloc, next)?;
     let mut index = nodes.len();
     while index > 0 {

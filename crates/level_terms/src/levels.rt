@@ -1,15 +1,18 @@
 //! The terms of levels, with their items and inline expressions.
 
-ghost use Rattle.std.specs.Prelude.{◌≡◌, ◌<◌, ◌≤◌, ◌+◌, true, length, IfOk, []};
+ghost use Rattle.std.specs.Prelude.{ℕ, ◌≡◌, ◌<◌, ◌≤◌, ◌+◌, true, length, IfOk, []};
 ghost use Rattle.msc_base.specs.declared.limits.TheConstants.Limits.{INSTANCES};
-ghost use Rattle.msc_meaning.specs.ChartUnfoldings.{OfItems, OfLevel, OfSome, OfAll};
+ghost use Rattle.msc_meaning.specs.ChartUnfoldings.{OfLevel};
 ghost use Rattle.msc_meaning.specs.Views.{body_view};
-ghost use Rattle.term_laws.specs.FullSoundness.{AreSoundNets};
-ghost use Rattle.msc_meaning.specs.Bodies.{events, item_events};
-ghost use Rattle.level_terms.specs.SoundParts.{AreForward, HaveForward, IsForward, IsForwardItem, IsSoundPart, numbers};
+ghost use Rattle.term_laws.specs.FullSoundness.{AreSoundNets, IsSoundNode};
+ghost use Rattle.level_terms.specs.BodyLabels.{HasLabels, body_labels, item_labels, items_labels, operands_labels};
 ghost use Rattle.level_terms.specs.BuiltBodies.{are_built, event_count, events_count, have_built, is_built, is_built_item, item_count, operands_count};
-ghost use Rattle.level_terms.specs.MadeParts.{AreFit, IsGrown, IsMade, FrontOf, IsFrontItem, ArePlainItems, is_exception};
 ghost use Rattle.level_terms.specs.ItemViews.{item_view, inline_view, items_view, bodies_view};
+ghost use Rattle.level_terms.specs.LevelTerms.{is_exception, item_term, items_term, level_term, one_of, operand_terms, parallel_term};
+ghost use Rattle.level_terms.specs.MadeParts.{AreFit, IsMade, IsPart};
+ghost use Rattle.level_terms.specs.ShownNumbers.{shown_item, shown_items};
+ghost use Rattle.level_terms.specs.RankedBodies.{IsRanked};
+ghost use Rattle.level_terms.specs.SoundParts.{IsForward};
 
 use crate::events::{coregion_of, event_of};
 use crate::made::Made;
@@ -19,7 +22,6 @@ use chart_term::{TermList, choice};
 use msc_base::{NameTable, NoMemory, PairList};
 use msc_meaning::{Body, InlineItem, Item};
 use msc_tree::InlineForm;
-use sound_terms::laws::tables_stay_sound;
 use std::alloc::Global;
 use term_laws::laws::{constructors_keep_soundness, normal_forms_keep_patterns};
 use term_tables::Nets;
@@ -37,28 +39,48 @@ fn is_exception(item: &Item) -> bool
     }
 }
 
-/// The term of a level with events and inline expressions of the forms that terms are made of. It fails only for want of memory.
-#[cycle(levels)]
+/// The term of a level with events and inline expressions of the forms that terms are made of, over tables that have its labels. It
+/// fails only for want of memory.
 pub fn level_of(
     alloc: Global,
-    nets: &mut Nets,
+    nets: &Nets,
     names: &NameTable,
     next: u32,
     body: &Body,
 ) -> Result<Made, NoMemory>
-    requires fit { AreFit nets.old names.now next }
+    requires fit { AreFit nets.now names.now }
     requires few { length names.now ≤ INSTANCES }
     requires built { is_built names.now (body_view body.now) ≡ true }
+    requires labelled { HasLabels nets.now.labels (body_labels (body_view body.now)) }
     requires room { next + event_count (body_view body.now) ≤ 4294967295 }
     ensures next { IfOk result (λ made. made.next ≡ next + event_count (body_view body.now)) }
-    ensures made { IfOk result (λ made. IsMade nets.new names.now next made.next made.shown made.term (λ t g a. OfLevel t a (body_view body.now))) }
-    ensures bare { IfOk result (λ made. made.shown ≡ []) }
-    ensures grown { IsGrown nets.old nets.new }
-    ensures sound { IfOk result (λ made. AreSoundNets (length nets.old.labels) nets.old.tables → IsForward (body_view body.now) → IsSoundPart nets.new [] next made.next made.shown made.term) }
+    ensures part { IfOk result (λ made. IsPart (level_term names.now nets.now.labels next (body_view body.now)) [] made) }
+    ensures made { IfOk result (λ made. IsMade nets.now names.now next made.next made.shown made.term (λ t g a. OfLevel t a (body_view body.now))) }
+    ensures sound { IfOk result (λ made. AreSoundNets (length nets.now.labels) nets.now.tables → IsForward (body_view body.now) → IsSoundNode (length nets.now.labels) nets.now.tables made.term) }
+    ensures ranked { IfOk result (λ made. AreSoundNets (length nets.now.labels) nets.now.tables → (rank : ℕ → ℕ) → IsRanked rank (body_view body.now) → IsSoundNode (length nets.now.labels) nets.now.tables made.term) }
 {
     normal_forms_keep_patterns();
     constructors_keep_soundness();
-    tables_stay_sound();
+    let made = tied_level(alloc, nets, names, next, body)?;
+    Ok(made)
+}
+
+/// The term of a level: its items, tied.
+#[cycle(levels)]
+fn tied_level(
+    alloc: Global,
+    nets: &Nets,
+    names: &NameTable,
+    next: u32,
+    body: &Body,
+) -> Result<Made, NoMemory>
+    requires few { length names.now ≤ INSTANCES }
+    requires built { is_built names.now (body_view body.now) ≡ true }
+    requires labelled { HasLabels nets.now.labels (body_labels (body_view body.now)) }
+    requires room { next + event_count (body_view body.now) ≤ 4294967295 }
+    ensures next { IfOk result (λ made. made.next ≡ next + event_count (body_view body.now)) }
+    ensures part { IfOk result (λ made. IsPart (level_term names.now nets.now.labels next (body_view body.now)) [] made) }
+{
     let inner = items_of(alloc, nets, names, next, &body.items)?;
     let made = level_tied(alloc, &body.pairs, &inner)?;
     Ok(made)
@@ -68,24 +90,18 @@ pub fn level_of(
 #[cycle(levels)]
 fn items_of(
     alloc: Global,
-    nets: &mut Nets,
+    nets: &Nets,
     names: &NameTable,
     next: u32,
     items: &Vec<Item>,
 ) -> Result<Made, NoMemory>
-    requires fit { AreFit nets.old names.now next }
     requires few { length names.now ≤ INSTANCES }
     requires built { are_built names.now (items_view items.now.items) ≡ true }
+    requires labelled { HasLabels nets.now.labels (items_labels (items_view items.now.items)) }
     requires room { next + events_count (items_view items.now.items) ≤ 4294967295 }
     ensures next { IfOk result (λ made. made.next ≡ next + events_count (items_view items.now.items)) }
-    ensures made { IfOk result (λ made. IsMade nets.new names.now next made.next made.shown made.term (λ t g a. OfItems t g a (items_view items.now.items))) }
-    ensures plain { IfOk result (λ made. ArePlainItems (items_view items.now.items)) }
-    ensures grown { IsGrown nets.old nets.new }
-    ensures sound { IfOk result (λ made. AreSoundNets (length nets.old.labels) nets.old.tables → AreForward (items_view items.now.items) → IsSoundPart nets.new (numbers (events (items_view items.now.items))) next made.next made.shown made.term) }
+    ensures part { IfOk result (λ made. IsPart (items_term names.now nets.now.labels next (items_view items.now.items)) (shown_items next (items_view items.now.items)) made) }
 {
-    normal_forms_keep_patterns();
-    constructors_keep_soundness();
-    tables_stay_sound();
     let mut rest = nothing(alloc, next)?;
     let mut index = items.len();
     while index > 0 {
@@ -100,20 +116,17 @@ fn items_of(
 #[cycle(levels)]
 fn item_of(
     alloc: Global,
-    nets: &mut Nets,
+    nets: &Nets,
     names: &NameTable,
     next: u32,
     item: &Item,
 ) -> Result<Made, NoMemory>
-    requires fit { AreFit nets.old names.now next }
     requires few { length names.now ≤ INSTANCES }
     requires built { is_built_item names.now (item_view item.now) ≡ true }
+    requires labelled { HasLabels nets.now.labels (item_labels (item_view item.now)) }
     requires room { next + item_count (item_view item.now) ≤ 4294967295 }
     ensures next { IfOk result (λ made. made.next ≡ next + item_count (item_view item.now)) }
-    ensures made { IfOk result (λ made. IsMade nets.new names.now next made.next made.shown made.term (λ t g a. FrontOf t g a (item_view item.now))) }
-    ensures front { IfOk result (λ made. IsFrontItem (item_view item.now)) }
-    ensures grown { IsGrown nets.old nets.new }
-    ensures sound { IfOk result (λ made. AreSoundNets (length nets.old.labels) nets.old.tables → IsForwardItem (item_view item.now) → IsSoundPart nets.new (numbers (item_events (item_view item.now))) next made.next made.shown made.term) }
+    ensures part { IfOk result (λ made. IsPart (item_term names.now nets.now.labels next (item_view item.now)) (shown_item next (item_view item.now)) made) }
 {
     match item {
         Item::Single(node) => {
@@ -136,24 +149,18 @@ fn item_of(
 #[cycle(levels)]
 fn inline_of(
     alloc: Global,
-    nets: &mut Nets,
+    nets: &Nets,
     names: &NameTable,
     next: u32,
     inline: &InlineItem,
 ) -> Result<Made, NoMemory>
-    requires fit { AreFit nets.old names.now next }
     requires few { length names.now ≤ INSTANCES }
     requires built { is_built_item names.now (inline_view inline.now) ≡ true }
+    requires labelled { HasLabels nets.now.labels (item_labels (inline_view inline.now)) }
     requires room { next + item_count (inline_view inline.now) ≤ 4294967295 }
     ensures next { IfOk result (λ made. made.next ≡ next + item_count (inline_view inline.now)) }
-    ensures made { IfOk result (λ made. IsMade nets.new names.now next made.next made.shown made.term (λ t g a. FrontOf t g a (inline_view inline.now))) }
-    ensures front { IfOk result (λ made. IsFrontItem (inline_view inline.now)) }
-    ensures grown { IsGrown nets.old nets.new }
-    ensures sound { IfOk result (λ made. AreSoundNets (length nets.old.labels) nets.old.tables → IsForwardItem (inline_view inline.now) → IsSoundPart nets.new [] next made.next made.shown made.term) }
+    ensures part { IfOk result (λ made. IsPart (item_term names.now nets.now.labels next (inline_view inline.now)) [] made) }
 {
-    normal_forms_keep_patterns();
-    constructors_keep_soundness();
-    tables_stay_sound();
     match inline.form {
         InlineForm::Alt => {
             let made = some_of(alloc, nets, names, next, &inline.operands)?;
@@ -181,31 +188,25 @@ fn inline_of(
 #[cycle(levels)]
 fn some_of(
     alloc: Global,
-    nets: &mut Nets,
+    nets: &Nets,
     names: &NameTable,
     next: u32,
     operands: &Vec<Body>,
 ) -> Result<Made, NoMemory>
-    requires fit { AreFit nets.old names.now next }
     requires some { 0 < length operands.now.items }
     requires few { length names.now ≤ INSTANCES }
     requires built { have_built names.now (bodies_view operands.now.items) ≡ true }
+    requires labelled { HasLabels nets.now.labels (operands_labels (bodies_view operands.now.items)) }
     requires room { next + operands_count (bodies_view operands.now.items) ≤ 4294967295 }
     ensures next { IfOk result (λ made. made.next ≡ next + operands_count (bodies_view operands.now.items)) }
-    ensures made { IfOk result (λ made. IsMade nets.new names.now next made.next made.shown made.term (λ t g a. OfSome t a (bodies_view operands.now.items))) }
-    ensures bare { IfOk result (λ made. made.shown ≡ []) }
-    ensures grown { IsGrown nets.old nets.new }
-    ensures sound { IfOk result (λ made. AreSoundNets (length nets.old.labels) nets.old.tables → HaveForward (bodies_view operands.now.items) → IsSoundPart nets.new [] next made.next made.shown made.term) }
+    ensures part { IfOk result (λ made. IsPart (one_of (operand_terms names.now nets.now.labels next (bodies_view operands.now.items))) [] made) }
 {
-    normal_forms_keep_patterns();
-    constructors_keep_soundness();
-    tables_stay_sound();
     let mut terms = TermList::new(alloc);
     let mut behind = next;
     let mut index = operands.len();
     while index > 0 {
         index -= 1;
-        let front = level_of(alloc, nets, names, behind, &operands[index])?;
+        let front = tied_level(alloc, nets, names, behind, &operands[index])?;
         behind = front.next;
         let term = front.term.copy(alloc)?;
         terms.push(term)?;
@@ -223,29 +224,23 @@ fn some_of(
 #[cycle(levels)]
 fn all_of(
     alloc: Global,
-    nets: &mut Nets,
+    nets: &Nets,
     names: &NameTable,
     next: u32,
     operands: &Vec<Body>,
 ) -> Result<Made, NoMemory>
-    requires fit { AreFit nets.old names.now next }
     requires few { length names.now ≤ INSTANCES }
     requires built { have_built names.now (bodies_view operands.now.items) ≡ true }
+    requires labelled { HasLabels nets.now.labels (operands_labels (bodies_view operands.now.items)) }
     requires room { next + operands_count (bodies_view operands.now.items) ≤ 4294967295 }
     ensures next { IfOk result (λ made. made.next ≡ next + operands_count (bodies_view operands.now.items)) }
-    ensures made { IfOk result (λ made. IsMade nets.new names.now next made.next made.shown made.term (λ t g a. OfAll t a (bodies_view operands.now.items))) }
-    ensures bare { IfOk result (λ made. made.shown ≡ []) }
-    ensures grown { IsGrown nets.old nets.new }
-    ensures sound { IfOk result (λ made. AreSoundNets (length nets.old.labels) nets.old.tables → HaveForward (bodies_view operands.now.items) → IsSoundPart nets.new [] next made.next made.shown made.term) }
+    ensures part { IfOk result (λ made. IsPart (parallel_term names.now nets.now.labels next (bodies_view operands.now.items)) [] made) }
 {
-    normal_forms_keep_patterns();
-    constructors_keep_soundness();
-    tables_stay_sound();
     let mut rest = nothing(alloc, next)?;
     let mut index = operands.len();
     while index > 0 {
         index -= 1;
-        let front = level_of(alloc, nets, names, rest.next, &operands[index])?;
+        let front = tied_level(alloc, nets, names, rest.next, &operands[index])?;
         rest = side_by_side(alloc, &front, rest)?;
     }
     Ok(rest)

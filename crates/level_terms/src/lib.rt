@@ -5,6 +5,7 @@ mod built;
 mod chart;
 mod events;
 mod fault;
+mod labels;
 pub mod laws;
 mod levels;
 mod made;
@@ -14,8 +15,9 @@ mod room;
 mod ties;
 
 pub use built::is_built;
-pub use chart::{chart_of, empty_tables_are_fit};
+pub use chart::{ChartTerm, chart_of};
 pub use fault::LevelFault;
+pub use labels::add_labels;
 pub use levels::level_of;
 pub use made::Made;
 pub use room::room_behind;

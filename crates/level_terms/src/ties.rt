@@ -2,12 +2,10 @@
 
 ghost use Rattle.std.specs.BTreeMap.{get};
 ghost use Rattle.std.specs.Ordering.{nat_cmp};
-ghost use Rattle.std.specs.Prelude.{◌≡◌, ◌++◌, ◌==◌, ◌&&◌, ◌||◌, true, IfOk, OnOk};
-ghost use Rattle.msc_unfolding.specs.Unfoldings.{Own, is_pair};
+ghost use Rattle.std.specs.Prelude.{◌≡◌, ◌++◌, ◌==◌, true, IfOk, OnOk};
 ghost use Rattle.chart_term.specs.Views.{pairs_of};
-ghost use Rattle.msc_meaning.specs.Ties.{message_ties};
-ghost use Rattle.term_meaning.specs.Portions.{pairs_at, shown_pairs};
-ghost use Rattle.level_terms.specs.MadeParts.{IsTied, SaysTies, own_shown};
+ghost use Rattle.level_terms.specs.MadeParts.{IsTied};
+ghost use Rattle.level_terms.specs.ShownNumbers.{numbers_of, pairs_between, pairs_with, tie_pairs};
 ghost use Rattle.level_terms.specs.TieNumbers.{AreNumbers, found_pair, found_pairs};
 
 use crate::made::Made;
@@ -16,45 +14,22 @@ use msc_base::{NoMemory, Pair, PairList};
 use std::alloc::Global;
 use std::collections::BTreeMap;
 
-/// Whether the pair is these two.
-fn is_this(pair: &Pair, first: u32, second: u32) -> bool
-    ensures { result ≡ ((first == pair.now.first) && (second == pair.now.second)) }
+/// Whether the number is shown of that event.
+fn is_of(pair: &Pair, event: u32) -> bool
+    ensures { result ≡ (pair.now.second == event) }
 {
-    first == pair.first && second == pair.second
+    pair.second == event
 }
 
-/// Whether one of both holds.
-fn either(one: bool, other: bool) -> bool
-    ensures { result ≡ (one || other) }
-{
-    one || other
-}
-
-/// Whether the pairs tie these two.
-fn is_tied(ties: &PairList, first: u32, second: u32) -> bool
-    ensures { result ≡ is_pair (message_ties ties.now) (Own first) (Own second) }
-{
-    let mut found = false;
-    for index in 0..ties.len() {
-        found = either(found, is_this(ties.at(index), first, second));
-    }
-    found
-}
-
-/// Appends the pairs of this number with those that it is tied to.
-fn add_tied(
-    list: &mut PairList,
-    ties: &PairList,
-    at: Pair,
-    shown: &PairList,
-) -> Result<(), NoMemory>
-    ensures { OnOk result (pairs_of list.new ≡ pairs_of list.old ++ pairs_at (message_ties ties.now) at.first (Own at.second) (own_shown shown.now)) }
+/// Appends the number with each that is shown of the event.
+fn add_with(list: &mut PairList, first: u32, event: u32, shown: &PairList) -> Result<(), NoMemory>
+    ensures { OnOk result (pairs_of list.new ≡ pairs_of list.old ++ pairs_with first (numbers_of event shown.now)) }
 {
     for index in 0..shown.len() {
         let pair = *shown.at(index);
-        if is_tied(ties, at.second, pair.second) {
+        if is_of(&pair, event) {
             list.push(Pair {
-                first: at.first,
+                first,
                 second: pair.first,
             })?;
         }
@@ -62,13 +37,26 @@ fn add_tied(
     Ok(())
 }
 
-/// All pairs of shown numbers that these pairs of events come to, tried one by one.
-fn tried_pairs(alloc: Global, ties: &PairList, shown: &PairList) -> Result<PairList, NoMemory>
-    ensures { IfOk result (λ list. pairs_of list ≡ shown_pairs (message_ties ties.now) (own_shown shown.now) (own_shown shown.now)) }
+/// Appends each number that is shown of the pair's first event with each of its second.
+fn add_between(list: &mut PairList, tie: Pair, shown: &PairList) -> Result<(), NoMemory>
+    ensures { OnOk result (pairs_of list.new ≡ pairs_of list.old ++ pairs_between (numbers_of tie.first shown.now) (numbers_of tie.second shown.now)) }
+{
+    for index in 0..shown.len() {
+        let pair = *shown.at(index);
+        if is_of(&pair, tie.first) {
+            add_with(list, pair.first, tie.second, shown)?;
+        }
+    }
+    Ok(())
+}
+
+/// The pairs of numbers that these pairs of events come to, each sought among all numbers that are shown.
+fn sought_pairs(alloc: Global, ties: &PairList, shown: &PairList) -> Result<PairList, NoMemory>
+    ensures { IfOk result (λ list. pairs_of list ≡ tie_pairs shown.now ties.now) }
 {
     let mut list = PairList::new(alloc);
-    for index in 0..shown.len() {
-        add_tied(&mut list, ties, *shown.at(index), shown)?;
+    for index in 0..ties.len() {
+        add_between(&mut list, *ties.at(index), shown)?;
     }
     Ok(list)
 }
@@ -135,14 +123,14 @@ fn found_pairs_of(
 
 /// The pairs of numbers that these pairs of events come to: where no event is shown twice, each is found by its number in the chart.
 fn tied_numbers(alloc: Global, ties: &PairList, shown: &PairList) -> Result<PairList, NoMemory>
-    ensures { IfOk result (λ list. SaysTies ties.now shown.now (pairs_of list)) }
+    ensures { IfOk result (λ list. pairs_of list ≡ tie_pairs shown.now ties.now) }
 {
     let numbers = numbers_of(alloc, shown)?;
     if numbers.apart {
         let list = found_pairs_of(alloc, ties, &numbers.by_event)?;
         return Ok(list);
     }
-    let list = tried_pairs(alloc, ties, shown)?;
+    let list = sought_pairs(alloc, ties, shown)?;
     Ok(list)
 }
 

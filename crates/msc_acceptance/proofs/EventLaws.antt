@@ -1,5 +1,5 @@
 -- What the charts of an accepted document have.
-use Rattle.std.proofs.Common.{◌≡◌, ◌||◌, inl, inr, ℕ, suc, Bool, true, false, cond, is_some, List, [], ◌∷◌, ◌++◌, Option, Some, None, slice_get, refl, sym, subst, ap, ap₂, ◌∙◌}
+use Rattle.std.proofs.Common.{◌≡◌, ◌≤◌, ◌||◌, length, arith, inl, inr, ℕ, suc, Bool, true, false, cond, is_some, List, [], ◌∷◌, ◌++◌, Option, Some, None, slice_get, refl, sym, subst, ap, ap₂, ◌∙◌}
 use Rattle.std.specs.Option.{option_or}
 use Rattle.std.specs.Str.{bytes_eq}
 use Rattle.std.proofs.lemmas.Bool.{cases_order}
@@ -32,12 +32,16 @@ use Rattle.msc_weaving.proofs.PartnerLaws.{node, numbered, paired_events}
 use Rattle.msc_weaving.proofs.PieceLaws.{chart_shown, left_none, none_among, right_none}
 use Rattle.msc_weaving.proofs.WovenLaws.{among_right, chart_is, events_singles}
 use Rattle.msc_tree.specs.declared.event.Direction.TheVariants.{Out, In}
-use Rattle.msc_rules.specs.declared.rule.Rule.TheVariants.{Cyclic, NotBuilt}
+use Rattle.msc_rules.specs.declared.rule.Rule.TheVariants.{Cyclic, Instances, NotBuilt, Size}
 use Rattle.msc_acceptance.specs.Acceptance.{BreaksOf}
 use Rattle.msc_acceptance.specs.Deciding.{AllKept, all_groups}
 use Rattle.msc_acceptance.proofs.AcceptLaws.{free}
 use Rattle.msc_acceptance.proofs.WalkLaws.{in_one, one_built}
-use Rattle.msc_acceptance.specs.EventCharts.{HasEventsAlone, HaveEventsAlone}
+use Rattle.msc_acceptance.specs.EventCharts.{AreBare, HasEventsAlone, HaveEventsAlone}
+use Rattle.msc_acceptance.specs.Rules.{IsLarge}
+use Rattle.msc_acceptance.proofs.LimitLaws.{AreAt, events_at, events_few, instances_few}
+use Rattle.msc_weaving.proofs.ColumnLaws.{instances_differ}
+use Rattle.msc_base.specs.declared.limits.TheConstants.Limits.{INSTANCES}
 
 -- ---- events that call no gate
 
@@ -156,18 +160,37 @@ chart_unrefined c built =
     unrefined_append c.decls (content_decls c.content) (decls_unrefined c.decls (left_none (not_built_decls c.decls) (not_built_content c.place c.content) none))
     (content_unrefined c.place c.content (right_none (not_built_decls c.decls) (not_built_content c.place c.content) none))
 
-entry_has : (c : Chart) (e : ChartEntry) → IsBuilt c → ((p : Place) → IsEarlyAt c p → ⊥) → IsEntryOf (instances c) c e → HasEventsAlone e
-entry_has c e built late is =
+bare_from : (cover : List (List ℕ)) (n : ℕ) (es : List PlacedEvent) → AreAt cover es → ((k : ℕ) (e : PlacedEvent) → slice_get es k ≡ Some e → is_not_built e.event ≡ false) → AreBare cover n (numbered n es)
+bare_from cover n [] at built = tt
+bare_from cover n (e ∷ es) at built = (record { number = refl; at = at.0; built = built 0 e refl }, bare_from cover (suc n) es at.1 (λ k d is. built (suc k) d is))
+
+long_numbered : (n : ℕ) (es : List PlacedEvent) → length (numbered n es) ≡ length es
+long_numbered n [] = refl
+long_numbered n (e ∷ es) = ap suc (long_numbered (suc n) es)
+
+-- what is known of a chart that keeps all rules
+record KeepsAll (c : Chart) : Type 0 where
+  built : IsBuilt c
+  late : (p : Place) → IsEarlyAt c p → ⊥
+  few_instances : length (instances c) ≤ INSTANCES
+  small : (p : Place) → IsLarge c p → ⊥
+
+entry_has : (c : Chart) (e : ChartEntry) → KeepsAll c → IsEntryOf (instances c) c e → HasEventsAlone e
+entry_has c e keeps is =
+    let built = keeps.built in
     let w = entry_is c e.content built is.content in
     let es : List PlacedEvent = chart_events c in
     let ns : List EventNode = numbered 0 es in
+    let each = events_built c.place c.content (content_built c built) in
     record {
       cover = instances c;
       nodes = ns;
       pairs = w.pairs;
       is = w.is;
-      silent = silent_from 0 es (events_built c.place c.content (content_built c built));
+      bare = bare_from (instances c) 0 es (events_at c) each;
+      silent = silent_from 0 es each;
       whole = subst (λ (ds : List Decl). refinements ds ≡ []) (sym is.decls) (refinements_none (c.decls ++ content_decls c.content) (declared [] (c.decls ++ content_decls c.content)) (chart_unrefined c built));
+      paired = w.paired;
       ordered = λ p q h.
           let pair : pairing.IsPaired ns p q = w.paired.paired p q h in
           elim (cases_order p q) [
@@ -176,23 +199,25 @@ entry_has c e built late is =
               | inl below ↦ below
               | inr above ↦
                   let early : IsEarly ns pair.input.event.place = record { output = p; input = q; paired = pair; before = above; there = refl } in
-                  absurd (late pair.input.event.place (record {
+                  absurd (keeps.late pair.input.event.place (record {
                     body = level (instances c) (singles ns) w.pairs;
                     woven = subst (λ (x : Woven). IsWovenContent (instances c) c.content x) w.is is.content;
                     early = subst (λ (xs : List EventNode). IsEarly xs pair.input.event.place) (sym (events_singles ns)) early;
                   }))
             ]
           ];
+      different = instances_differ c (instances c) refl;
+      few_instances = keeps.few_instances;
+      few = omega (arith, long_numbered 0 es, events_few c built keeps.small);
     }
 
 -- ---- tables
 
-pub entries_have : (charts : List Chart) (table : Table) → AreEntriesOf instances charts table → ((c : Chart) → IsAmong charts c → IsBuilt c) → ((c : Chart) (p : Place) → IsAmong charts c → IsEarlyAt c p → ⊥) → HaveEventsAlone table
-entries_have [] [] h built late = tt
-entries_have [] (e ∷ table) h built late = elim h [ ]
-entries_have (c ∷ charts) [] h built late = elim h [ ]
-entries_have (c ∷ charts) (e ∷ table) (entry_and is others) built late =
-    (entry_has c e (built c (inl refl)) (λ p g. late c p (inl refl) g) is, entries_have charts table others (λ d m. built d (inr m)) (λ d p m g. late d p (inr m) g))
+entries_have : (charts : List Chart) (table : Table) → AreEntriesOf instances charts table → ((c : Chart) → IsAmong charts c → KeepsAll c) → HaveEventsAlone table
+entries_have [] [] h keep = tt
+entries_have [] (e ∷ table) h keep = elim h [ ]
+entries_have (c ∷ charts) [] h keep = elim h [ ]
+entries_have (c ∷ charts) (e ∷ table) (entry_and is others) keep = (entry_has c e (keep c (inl refl)) is, entries_have charts table others (λ d m. keep d (inr m)))
 
 -- a chart has one content, and one entry
 one_content : (c : Chart) (v w : Woven) → EntryIs c v → EntryIs c w → v ≡ w
@@ -220,9 +245,17 @@ one_table (c ∷ charts) (e ∷ table) (d ∷ others) built (entry_and is more) 
 all_built : (charts : List Chart) → AllKept (BreaksOf charts) all_groups → (c : Chart) → IsAmong charts c → IsBuilt c
 all_built charts kept c m = one_built charts c (λ p h. free charts kept NotBuilt p h) m
 
+all_keep : (charts : List Chart) → AllKept (BreaksOf charts) all_groups → (c : Chart) → IsAmong charts c → KeepsAll c
+all_keep charts kept c m = record {
+  built = all_built charts kept c m;
+  late = λ p h. free charts kept Cyclic p (in_one IsEarlyAt charts c p m h);
+  few_instances = instances_few [] charts (omega arith) (λ p h. free charts kept Instances p h) c m;
+  small = λ p h. free charts kept Size p (in_one IsLarge charts c p m h);
+}
+
 -- of entries of charts that keep all rules
 pub kept_have : (charts : List Chart) (table : Table) → AllKept (BreaksOf charts) all_groups → AreEntriesOf instances charts table → HaveEventsAlone table
-kept_have charts table kept are = entries_have charts table are (all_built charts kept) (λ c p m h. free charts kept Cyclic p (in_one IsEarlyAt charts c p m h))
+kept_have charts table kept are = entries_have charts table are (all_keep charts kept)
 
 pub kept_one : (charts : List Chart) (table other : Table) → AllKept (BreaksOf charts) all_groups → AreEntriesOf instances charts table → AreEntriesOf instances charts other → table ≡ other
 kept_one charts table other kept are more = one_table charts table other (all_built charts kept) are more

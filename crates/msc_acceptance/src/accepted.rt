@@ -1,13 +1,14 @@
 //! The charts of an accepted document, asked by name and number.
 
-ghost use Rattle.std.specs.Prelude.{◌≡◌, ◌<◌, ◌≤◌, IfOk, Some, length, map, position, slice_get};
+ghost use Rattle.std.specs.Prelude.{◌≡◌, ◌<◌, ◌≤◌, IfOk, Some, length, map, option_copied, option_map, position, slice_get};
 ghost use Rattle.msc_base.specs.declared.limits.TheConstants.Limits.{CHARTS};
-ghost use Rattle.msc_meaning.specs.Views.{entry_view};
+ghost use Rattle.msc_meaning.specs.Tables.{chart_at};
+ghost use Rattle.msc_meaning.specs.Views.{entry_view, table_view};
 ghost use Rattle.msc_acceptance.specs.Listing.{is_graph_of, is_named, listed_of};
 
-use crate::listing::listed_of;
+use crate::listing::{is_graph, listed_of};
 use msc_base::{Name, NoMemory, Place};
-use msc_meaning::{ChartEntry, EntryContent};
+use msc_meaning::ChartEntry;
 use msc_rules::Rule;
 use msc_tree::DeclList;
 use std::alloc::Global;
@@ -84,6 +85,18 @@ impl Accepted {
         None
     }
 
+    /// The chart of that name; none where no chart has it. It takes no memory.
+    pub fn chart_named(&self, name: &[u8]) -> Option<&ChartEntry>
+        ensures { option_map entry_view (option_copied result) ≡ chart_at (table_view self.now) name.now }
+    {
+        for chart in self.held.as_slice() {
+            if chart.name.bytes() == name {
+                return Some(chart);
+            }
+        }
+        None
+    }
+
     /// The name of a chart. It takes no memory.
     pub fn chart_name(&self, chart: u32) -> &Name
         requires { chart < length self.now }
@@ -97,10 +110,7 @@ impl Accepted {
         requires { chart < length self.now }
         ensures { slice_get (map (λ c. is_graph_of (entry_view c)) self.now) chart ≡ Some result }
     {
-        match self.held[chart as usize].content {
-            EntryContent::Basic(_) => false,
-            EntryContent::Graph(_) => true,
-        }
+        is_graph(&self.held[chart as usize])
     }
 
     /// The listed instances of a chart, in the order of their first declaration; of each the chart that refines it, and neither

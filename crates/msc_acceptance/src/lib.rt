@@ -15,3 +15,4 @@ mod walks;
 
 pub use acceptance::accept;
 pub use accepted::{Accepted, DocFault};
+pub use listing::{is_graph, listed_count, listed_of};

@@ -1,16 +1,26 @@
-//! The listed instances of a chart: for `accepted`.
+//! How a chart is listed: whether it is a high-level chart, and its instances.
 
-ghost use Rattle.std.specs.Prelude.{◌≡◌, ◌&&◌, IfOk, map};
+ghost use Rattle.std.specs.Prelude.{◌≡◌, ◌&&◌, IfOk, length, map};
 ghost use Rattle.std.specs.Option.{is_some};
 ghost use Rattle.std.specs.Str.{bytes_eq};
 ghost use Rattle.msc_meaning.specs.Tables.{refined_as};
 ghost use Rattle.msc_meaning.specs.Views.{body_view, entry_view};
-ghost use Rattle.msc_acceptance.specs.Listing.{as_listed, cover_of, listed_of};
+ghost use Rattle.msc_acceptance.specs.Listing.{as_listed, cover_of, is_graph_of, listed_of};
 
 use msc_base::{Items, Name, NoMemory, Place, copy_name};
 use msc_meaning::{Body, ChartEntry, EntryContent};
 use msc_tree::{Decl, DeclList};
 use std::alloc::Global;
+
+/// Whether a chart is a high-level chart.
+pub fn is_graph(chart: &ChartEntry) -> bool
+    ensures { result ≡ is_graph_of (entry_view chart.now) }
+{
+    match chart.content {
+        EntryContent::Basic(_) => false,
+        EntryContent::Graph(_) => true,
+    }
+}
 
 /// Whether the declaration is one of the instance, and names a chart that refines it.
 fn is_refined(decl: &Decl, instance: &Name) -> bool
@@ -64,6 +74,16 @@ fn listed_names(alloc: Global, decls: &[Decl], names: &[Name]) -> Result<DeclLis
         listed.push(listed_decl(alloc, decls, instance)?)?;
     }
     Ok(listed)
+}
+
+/// How many instances of a chart are listed.
+pub fn listed_count(chart: &ChartEntry) -> usize
+    ensures { result ≡ length (listed_of (entry_view chart.now)) }
+{
+    match &chart.content {
+        EntryContent::Basic(body) => covered(body).len(),
+        EntryContent::Graph(_) => 0,
+    }
 }
 
 /// The listed instances of a chart. A high-level chart has none of its own.

@@ -1,6 +1,7 @@
 pub mod Budgets
 pub mod Examples
 pub mod Listings
+pub mod Named
 pub mod LogOutcomes
 pub mod LogTaking
 pub mod Numbers

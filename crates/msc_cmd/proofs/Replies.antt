@@ -4,7 +4,7 @@ use Rattle.std.specs.Io.KnownBytes.{Appends}
 use Rattle.outside.specs.Shelves.{Files}
 use Rattle.msc_base.specs.declared.place.Place.{Place}
 use Rattle.msc_rules.specs.declared.rule.Rule.{Rule}
-use Rattle.msc_expand.specs.declared.plain_chart.PlainChart.{PlainChart}
+use Rattle.msc_meaning.specs.Tables.{ChartEntry, Table, chart_at}
 use Rattle.msc_cmd.specs.declared.answer.Reply.{Reply}
 use Rattle.event_log.specs.declared.event.LogFault.{LogFault}
 use Rattle.event_log.specs.declared.event.LogForm.{LogForm}
@@ -13,20 +13,20 @@ use Rattle.msc_cmd.specs.Requests.{request_of, IsNoRequest}
 use Rattle.judge_report.specs.declared.fault.Fault.TheVariants.{Document, Log, LogRead, NoChart, Usage}
 use Rattle.judge_report.specs.Texts.{accepted_line, fault_line}
 use Rattle.judge_report.specs.Writing.{AppendsPart}
-use Rattle.msc_cmd.specs.Documents.{IsDocument, HasDocumentFault, IsOnlyDocument, IsOnlyFault, chart_named}
+use Rattle.msc_cmd.specs.Documents.{IsDocument, HasDocumentFault, IsOnlyDocument, IsOnlyFault}
 use Rattle.msc_cmd.specs.Intakes.{IsHeld}
 use Rattle.msc_cmd.specs.LogJudging.{IsJudged, IsToldLog}
 use Rattle.msc_cmd.specs.declared.log_reading.Judged.{Judged}
 use Rattle.msc_cmd.specs.declared.log_reading.Judged.TheVariants.{Refused}
 use Rattle.msc_cmd.specs.declared.log_reading.Judged.TheVariants as log
-use Rattle.msc_cmd.specs.Outcomes.{LogOutcome, EntryOutcome, DocumentOutcome, refused, of_charts, ChartOutcome, no_chart, of_chart, Says, CheckAnswer, JudgeAnswer, FilesOutcome, IfTold, IsTheOne, RequestOutcome, IsOutcome, no_request, of_request}
+use Rattle.msc_cmd.specs.Outcomes.{LogOutcome, EntryOutcome, DocumentOutcome, refused, of_charts, ChartOutcome, no_chart, of_chart, Says, CheckAnswer, JudgeAnswer, FilesOutcome, IfTold, IsTheOne, IsOfOutcome, RequestOutcome, IsOutcome, no_request, of_request}
 use Rattle.msc_cmd.specs.Failures.{FailedAt, HasChart, CannotRead, CannotJudge}
 use Rattle.msc_cmd.specs.Openings.{IsOpened}
 use Rattle.msc_cmd.specs.declared.opening.Opened.TheVariants.{Told}
 use Rattle.msc_cmd.proofs.LogOutcomes.{one_entry, entry_one, faulty_one}
 
 -- the one outcome where the document is refused, whatever is answered of its charts
-refused_one : (json : Bool) (files : Files) (document bytes : List ℕ) (Answer : List PlainChart → ℕ → List ℕ → Type 0) (broken : Rule) (place : Place) (status : ℕ) (text : List ℕ) → files document ≡ Some bytes → IsOnlyFault bytes broken place → status ≡ 4
+refused_one : (json : Bool) (files : Files) (document bytes : List ℕ) (Answer : Table → ℕ → List ℕ → Type 0) (broken : Rule) (place : Place) (status : ℕ) (text : List ℕ) → files document ≡ Some bytes → IsOnlyFault bytes broken place → status ≡ 4
     → text ≡ fault_line json (Document broken place) → IsTheOne (DocumentOutcome json files document Answer) status text
 refused_one json files document bytes Answer broken place status text held f s t = record { is = refused bytes broken place held f.is s t; only = λ other others o. by other others o }
   where
@@ -37,20 +37,20 @@ refused_one json files document bytes Answer broken place status text held f s t
     by other others (of_charts bs charts h d o) = absurd (f.none charts (subst (λ us. IsDocument us charts) (one_entry files document bytes bs held h) d))
 
 -- the charts of a document that is held
-held_charts : (files : Files) (document bytes bs : List ℕ) (charts others : List PlainChart) → files document ≡ Some bytes → IsOnlyDocument bytes charts → files document ≡ Some bs → IsDocument bs others → others ≡ charts
+held_charts : (files : Files) (document bytes bs : List ℕ) (charts others : Table) → files document ≡ Some bytes → IsOnlyDocument bytes charts → files document ≡ Some bs → IsDocument bs others → others ≡ charts
 held_charts files document bytes bs charts others held d h o = d.only others (subst (λ us. IsDocument us others) (one_entry files document bytes bs held h) o)
 
 -- the one outcome where it is accepted is the one answer for its charts
-charts_one : (json : Bool) (files : Files) (document bytes : List ℕ) (Answer : List PlainChart → ℕ → List ℕ → Type 0) (charts : List PlainChart) (status : ℕ) (text : List ℕ) → files document ≡ Some bytes → IsOnlyDocument bytes charts
+charts_one : (json : Bool) (files : Files) (document bytes : List ℕ) (Answer : Table → ℕ → List ℕ → Type 0) (charts : Table) (status : ℕ) (text : List ℕ) → files document ≡ Some bytes → IsOnlyDocument bytes charts
     → IsTheOne (Answer charts) status text → IsTheOne (DocumentOutcome json files document Answer) status text
 charts_one json files document bytes Answer charts status text held d one = record { is = of_charts bytes charts held d.is one.is; only = λ other others o. by other others o }
   where
     by : (other : ℕ) (others : List ℕ) → DocumentOutcome json files document Answer other others → (other ≡ status) × (others ≡ text)
     by other others (refused bs b p h n os ot) = absurd (d.faultless b p (subst (λ us. HasDocumentFault us b p) (one_entry files document bytes bs held h) n))
-    by other others (of_charts bs cs h e o) = one.only other others (subst (λ (us : List PlainChart). Answer us other others) (held_charts files document bytes bs charts cs held d h e) o)
+    by other others (of_charts bs cs h e o) = one.only other others (subst (λ (us : Table). Answer us other others) (held_charts files document bytes bs charts cs held d h e) o)
 
 -- the one outcome where the document lacks the chart
-pub no_chart_one : (json : Bool) (name : List ℕ) (charts : List PlainChart) (Answer : PlainChart → ℕ → List ℕ → Type 0) (status : ℕ) (text : List ℕ) → chart_named name charts ≡ None → status ≡ 4 → text ≡ fault_line json NoChart
+pub no_chart_one : (json : Bool) (name : List ℕ) (charts : Table) (Answer : ChartEntry → ℕ → List ℕ → Type 0) (status : ℕ) (text : List ℕ) → chart_at charts name ≡ None → status ≡ 4 → text ≡ fault_line json NoChart
     → IsTheOne (ChartOutcome json name charts Answer) status text
 no_chart_one json name charts Answer status text lacks s t = record { is = no_chart lacks s t; only = λ other others o. by other others o }
   where
@@ -59,7 +59,7 @@ no_chart_one json name charts Answer status text lacks s t = record { is = no_ch
     by other others (of_chart c n o) = let bad : None ≡ Some c = sym lacks ∙ n in cc
 
 -- and where it has it, the one answer for the chart
-pub chart_one : (json : Bool) (name : List ℕ) (charts : List PlainChart) (Answer : PlainChart → ℕ → List ℕ → Type 0) (chart : PlainChart) (status : ℕ) (text : List ℕ) → chart_named name charts ≡ Some chart
+pub chart_one : (json : Bool) (name : List ℕ) (charts : Table) (Answer : ChartEntry → ℕ → List ℕ → Type 0) (chart : ChartEntry) (status : ℕ) (text : List ℕ) → chart_at charts name ≡ Some chart
     → IsTheOne (Answer chart) status text → IsTheOne (ChartOutcome json name charts Answer) status text
 chart_one json name charts Answer chart status text named one = record { is = of_chart chart named one.is; only = λ other others o. by other others o }
   where
@@ -68,7 +68,7 @@ chart_one json name charts Answer chart status text named one = record { is = of
     by other others (of_chart c n o) =
         let both : Some c ≡ Some chart = sym n ∙ named in
         let same : c ≡ chart = cc in
-        one.only other others (subst (λ (u : PlainChart). Answer u other others) same o)
+        one.only other others (subst (λ (u : ChartEntry). Answer u other others) same o)
 
 -- one text is said with status 0
 pub said_one : (words : List ℕ) (status : ℕ) (text : List ℕ) → status ≡ 0 → text ≡ words → IsTheOne (Says words) status text
@@ -93,58 +93,58 @@ no_request_one words files status text none s t = record { is = no_request none 
 
 -- The same for replies, where the entries are told
 
-pub log_told : {E : Type 0} (form : LogForm) (budget : ℕ) (json : Bool) (files : Option Files) (chart : PlainChart) (name bytes : List ℕ) (r : Result Reply E) → IsHeld files name bytes
-    → IfOk r (λ x. IsTheOne (LogOutcome form budget json chart bytes) x.status x.text) → IfOk r (λ x. x.status < 7 → IfTold files (λ f. IsTheOne (EntryOutcome form budget json f chart name) x.status x.text))
-log_told form budget json None chart name bytes (Ok x) h k = λ _. tt
-log_told form budget json None chart name bytes (Err e) h k = tt
-log_told form budget json (Some f) chart name bytes (Ok x) h k = λ _. entry_one form budget json f chart name bytes x.status x.text h k
-log_told form budget json (Some f) chart name bytes (Err e) h k = tt
+pub log_told : {E : Type 0} (form : LogForm) (budget : ℕ) (json : Bool) (files : Option Files) (table : Table) (name log bytes : List ℕ) (r : Result Reply E) → IsHeld files log bytes
+    → IfOk r (λ x. IsTheOne (LogOutcome form budget json table name bytes) x.status x.text) → IfOk r (λ x. x.status < 7 → IfTold files (λ f. IsTheOne (EntryOutcome form budget json f table name log) x.status x.text))
+log_told form budget json None table name log bytes (Ok x) h k = λ _. tt
+log_told form budget json None table name log bytes (Err e) h k = tt
+log_told form budget json (Some f) table name log bytes (Ok x) h k = λ _. entry_one form budget json f table name log bytes x.status x.text h k
+log_told form budget json (Some f) table name log bytes (Err e) h k = tt
 
-pub refused_told : {E : Type 0} (json : Bool) (files : Option Files) (d bytes : List ℕ) (Answer : Files → List PlainChart → ℕ → List ℕ → Type 0) (broken : Rule) (place : Place) (r : Result Reply E) → IsHeld files d bytes → IsOnlyFault bytes broken place
+pub refused_told : {E : Type 0} (json : Bool) (files : Option Files) (d bytes : List ℕ) (Answer : Files → Table → ℕ → List ℕ → Type 0) (broken : Rule) (place : Place) (r : Result Reply E) → IsHeld files d bytes → IsOnlyFault bytes broken place
     → IfOk r (λ x. x.status ≡ 4) → IfOk r (λ x. x.text ≡ fault_line json (Document broken place)) → IfOk r (λ x. x.status < 7 → IfTold files (λ f. IsTheOne (DocumentOutcome json f d (Answer f)) x.status x.text))
 refused_told json None d bytes Answer broken place (Ok x) h o s t = λ _. tt
 refused_told json None d bytes Answer broken place (Err e) h o s t = tt
 refused_told json (Some f) d bytes Answer broken place (Ok x) h o s t = λ _. refused_one json f d bytes (Answer f) broken place x.status x.text h o s t
 refused_told json (Some f) d bytes Answer broken place (Err e) h o s t = tt
 
-pub charts_told : {E : Type 0} (json : Bool) (files : Option Files) (d bytes : List ℕ) (Answer : List PlainChart → ℕ → List ℕ → Type 0) (charts : List PlainChart) (r : Result Reply E) → IsHeld files d bytes → IsOnlyDocument bytes charts
+pub charts_told : {E : Type 0} (json : Bool) (files : Option Files) (d bytes : List ℕ) (Answer : Table → ℕ → List ℕ → Type 0) (charts : Table) (r : Result Reply E) → IsHeld files d bytes → IsOnlyDocument bytes charts
     → IfOk r (λ x. IsTheOne (Answer charts) x.status x.text) → IfOk r (λ x. x.status < 7 → IfTold files (λ f. IsTheOne (DocumentOutcome json f d Answer) x.status x.text))
 charts_told json None d bytes Answer charts (Ok x) h doc one = λ _. tt
 charts_told json None d bytes Answer charts (Err e) h doc one = tt
 charts_told json (Some f) d bytes Answer charts (Ok x) h doc one = λ _. charts_one json f d bytes Answer charts x.status x.text h doc one
 charts_told json (Some f) d bytes Answer charts (Err e) h doc one = tt
 
-pub checked_told : (json : Bool) (files : Option Files) (d bytes : List ℕ) (charts : List PlainChart) (count : ℕ) (x : Reply) → IsHeld files d bytes → IsOnlyDocument bytes charts → x.status ≡ 0 → count ≡ length charts → x.text ≡ accepted_line json count
+pub checked_told : (json : Bool) (files : Option Files) (d bytes : List ℕ) (charts : Table) (count : ℕ) (x : Reply) → IsHeld files d bytes → IsOnlyDocument bytes charts → x.status ≡ 0 → count ≡ length charts → x.text ≡ accepted_line json count
     → x.status < 7 → IfTold files (λ f. IsTheOne (DocumentOutcome json f d (CheckAnswer json)) x.status x.text)
 checked_told json None d bytes charts count x h doc s n t = λ _. tt
 checked_told json (Some f) d bytes charts count x h doc s n t =
     λ _. charts_one json f d bytes (CheckAnswer json) charts x.status x.text h doc (said_one (accepted_line json (length charts)) x.status x.text s (t ∙ ap (accepted_line json) n))
 
-pub no_chart_told : {E : Type 0} (form : LogForm) (budget : ℕ) (json : Bool) (files : Option Files) (d n l bytes : List ℕ) (charts : List PlainChart) (r : Result Reply E) → IsHeld files d bytes → IsOnlyDocument bytes charts → chart_named n charts ≡ None → IfOk r (λ x. x.status ≡ 4)
+pub no_chart_told : {E : Type 0} (form : LogForm) (budget : ℕ) (json : Bool) (files : Option Files) (d n l bytes : List ℕ) (charts : Table) (r : Result Reply E) → IsHeld files d bytes → IsOnlyDocument bytes charts → chart_at charts n ≡ None → IfOk r (λ x. x.status ≡ 4)
     → IfOk r (λ x. x.text ≡ fault_line json NoChart) → IfOk r (λ x. x.status < 7 → IfTold files (λ f. IsTheOne (FilesOutcome form budget json f d n l) x.status x.text))
 no_chart_told form budget json None d n l bytes charts (Ok x) h doc lacks s t = λ _. tt
 no_chart_told form budget json None d n l bytes charts (Err e) h doc lacks s t = tt
 no_chart_told form budget json (Some f) d n l bytes charts (Ok x) h doc lacks s t =
-    λ _. charts_one json f d bytes (JudgeAnswer form budget json f n l) charts x.status x.text h doc (no_chart_one json n charts (λ chart. EntryOutcome form budget json f chart l) x.status x.text lacks s t)
+    λ _. charts_one json f d bytes (JudgeAnswer form budget json f n l) charts x.status x.text h doc (no_chart_one json n charts (λ chart. EntryOutcome form budget json f charts n l) x.status x.text lacks s t)
 no_chart_told form budget json (Some f) d n l bytes charts (Err e) h doc lacks s t = tt
 
-pub judged_told : {E : Type 0} (form : LogForm) (budget : ℕ) (json : Bool) (files : Option Files) (d n l bytes : List ℕ) (charts : List PlainChart) (chart : PlainChart) (r : Result Reply E) → IsHeld files d bytes → IsOnlyDocument bytes charts → chart_named n charts ≡ Some chart
-    → IfOk r (λ x. x.status < 7 → IfTold files (λ f. IsTheOne (EntryOutcome form budget json f chart l) x.status x.text)) → IfOk r (λ x. x.status < 7 → IfTold files (λ f. IsTheOne (FilesOutcome form budget json f d n l) x.status x.text))
+pub judged_told : {E : Type 0} (form : LogForm) (budget : ℕ) (json : Bool) (files : Option Files) (d n l bytes : List ℕ) (charts : Table) (chart : ChartEntry) (r : Result Reply E) → IsHeld files d bytes → IsOnlyDocument bytes charts → chart_at charts n ≡ Some chart
+    → IfOk r (λ x. x.status < 7 → IfTold files (λ f. IsTheOne (EntryOutcome form budget json f charts n l) x.status x.text)) → IfOk r (λ x. x.status < 7 → IfTold files (λ f. IsTheOne (FilesOutcome form budget json f d n l) x.status x.text))
 judged_told form budget json None d n l bytes charts chart (Ok x) h doc same k = λ _. tt
 judged_told form budget json None d n l bytes charts chart (Err e) h doc same k = tt
 judged_told form budget json (Some f) d n l bytes charts chart (Ok x) h doc same k =
-    λ lt. charts_one json f d bytes (JudgeAnswer form budget json f n l) charts x.status x.text h doc (chart_one json n charts (λ c. EntryOutcome form budget json f c l) chart x.status x.text same (k lt))
+    λ lt. charts_one json f d bytes (JudgeAnswer form budget json f n l) charts x.status x.text h doc (chart_one json n charts (λ c. EntryOutcome form budget json f charts n l) chart x.status x.text same (k lt))
 judged_told form budget json (Some f) d n l bytes charts chart (Err e) h doc same k = tt
 
-has_chart : (files : Option Files) (d n bytes : List ℕ) (charts : List PlainChart) (chart : PlainChart) → IsHeld files d bytes → IsDocument bytes charts → chart_named n charts ≡ Some chart → IfTold files (HasChart d n)
+has_chart : (files : Option Files) (d n bytes : List ℕ) (charts : Table) (chart : ChartEntry) → IsHeld files d bytes → IsDocument bytes charts → chart_at charts n ≡ Some chart → IfTold files (HasChart d n)
 has_chart None d n bytes charts chart h doc same = tt
 has_chart (Some f) d n bytes charts chart h doc same = (bytes, charts, chart, h, doc, same)
 
 later_failed : (before mid now : ℕ) (broken : Bool) (last : Option (List ℕ)) (name : List ℕ) → before ≤ mid → FailedAt mid now broken last name → FailedAt before now broken last name
 later_failed before mid now broken last name le f = record { rose = omega (arith, f.rose); is_broken = f.is_broken; is_last = f.is_last }
 
-pub log_failed : {E : Type 0} (json : Bool) (files : Option Files) (d n l bytes : List ℕ) (charts : List PlainChart) (chart : PlainChart) (before mid now : ℕ) (broken : Bool) (last : Option (List ℕ)) (r : Result Reply E)
-    → IsHeld files d bytes → IsDocument bytes charts → chart_named n charts ≡ Some chart → before ≤ mid → IfOk r (λ x. x.status ≡ 7 → FailedAt mid now broken last l) → IfOk r (λ x. x.status ≡ 7 → x.text ≡ fault_line json LogRead)
+pub log_failed : {E : Type 0} (json : Bool) (files : Option Files) (d n l bytes : List ℕ) (charts : Table) (chart : ChartEntry) (before mid now : ℕ) (broken : Bool) (last : Option (List ℕ)) (r : Result Reply E)
+    → IsHeld files d bytes → IsDocument bytes charts → chart_at charts n ≡ Some chart → before ≤ mid → IfOk r (λ x. x.status ≡ 7 → FailedAt mid now broken last l) → IfOk r (λ x. x.status ≡ 7 → x.text ≡ fault_line json LogRead)
     → IfOk r (λ x. x.status ≡ 7 → CannotRead json files before now broken last d n l x.text)
 log_failed json files d n l bytes charts chart before mid now broken last (Ok x) h doc same le f t = λ e. inr (later_failed before mid now broken last l le (f e), t e, has_chart files d n bytes charts chart h doc same)
 log_failed json files d n l bytes charts chart before mid now broken last (Err e) h doc same le f t = tt
@@ -180,9 +180,17 @@ small_or_not (suc (suc (suc (suc (suc zero))))) = inl (omega arith)
 small_or_not (suc (suc (suc (suc (suc (suc zero)))))) = inl (omega arith)
 small_or_not (suc (suc (suc (suc (suc (suc (suc n))))))) = inr (omega arith)
 
-pub without_told : (files : Option Files) (words : List (List ℕ)) (status : ℕ) (text : List ℕ) → (status < 7 → IfTold files (λ f. IsTheOne (IsOutcome words f) status text)) → IfTold files (λ f. ((s : ℕ) (t : List ℕ) → IsOutcome words f s t → ⊥) → 7 ≤ status)
-without_told None words status text k = tt
-without_told (Some f) words status text k = λ none. elim (small_or_not status) [ inl lt ↦ absurd (none status text (k lt).is) | inr le ↦ le ]
+-- a reply's status that is of an outcome is below those of failures
+below : (status : ℕ) → status ≤ 7 → IsOfOutcome status → status < 7
+below status le o = elim (small_or_not status) [ inl lt ↦ lt | inr more ↦ absurd (o.0 (omega (arith, le, more))) ]
+
+pub of_outcome : (status : ℕ) → status < 7 → IsOfOutcome status
+of_outcome status lt = (λ e. omega (arith, lt, e), λ e. omega (arith, lt, e), λ e. omega (arith, lt, e))
+
+pub without_told : (files : Option Files) (words : List (List ℕ)) (status : ℕ) (text : List ℕ) → status ≤ 7 → (status < 7 → IfTold files (λ f. IsTheOne (IsOutcome words f) status text))
+    → IfTold files (λ f. ((s : ℕ) (t : List ℕ) → IsOutcome words f s t → ⊥) → IsOfOutcome status → ⊥)
+without_told None words status text le k = tt
+without_told (Some f) words status text le k = λ none o. none status text (k (below status le o)).is
 
 pub part_told : (files : Option Files) (words : List (List ℕ)) (before now : ℕ) (broken : Bool) (last : Option (List ℕ)) (old new : Option (List ℕ)) (status : ℕ) (text : List ℕ) → status ≤ 7 → (status < 7 → IfTold files (λ f. IsTheOne (IsOutcome words f) status text))
     → (status ≡ 7 → CannotJudge words files before now broken last text) → AppendsPart old new text
@@ -191,10 +199,10 @@ part_told None words before now broken last old new status text le k m p = tt
 part_told (Some f) words before now broken last old new status text le k m p =
     (text, p, elim (small_or_not status) [ inl lt ↦ inl (status, k lt) | inr more ↦ inr (m (omega arith)) ])
 
-pub outcome_told : (files : Option Files) (words : List (List ℕ)) (old new : Option (List ℕ)) (status : ℕ) (text : List ℕ) → (status < 7 → IfTold files (λ f. IsTheOne (IsOutcome words f) status text)) → Appends old new text → status < 7
+pub outcome_told : (files : Option Files) (words : List (List ℕ)) (old new : Option (List ℕ)) (status : ℕ) (text : List ℕ) → (status < 7 → IfTold files (λ f. IsTheOne (IsOutcome words f) status text)) → Appends old new text → status ≤ 7 → IsOfOutcome status
     → IfTold files (λ f. (t : List ℕ) × IsTheOne (IsOutcome words f) status t × Appends old new t)
-outcome_told None words old new status text k a lt = tt
-outcome_told (Some f) words old new status text k a lt = (text, k lt, a)
+outcome_told None words old new status text k a le o = tt
+outcome_told (Some f) words old new status text k a le o = (text, k (below status le o), a)
 
 -- a reply of status 4 is no reply of another status
 pub four_small : {E : Type 0} (r : Result Reply E) → IfOk r (λ x. x.status ≡ 4) → IfOk r (λ x. x.status ≤ 7)
@@ -218,19 +226,19 @@ pub five_not_two : {E : Type 0} (r : Result Reply E) → IfOk r (λ x. x.status 
 five_not_two (Ok x) s = λ two. omega (arith, s, two)
 five_not_two (Err e) s = tt
 
-pub fault_told : {E : Type 0} (form : LogForm) (budget : ℕ) (json : Bool) (chart : PlainChart) (bytes : List ℕ) (fault : LogFault) (r : Result Reply E) → IfOk r (λ x. x.status ≡ 5) → IfOk r (λ x. x.text ≡ fault_line json (Log fault))
-    → IsJudged chart form budget bytes (Refused fault) → IfOk r (λ x. IsTheOne (LogOutcome form budget json chart bytes) x.status x.text)
-fault_told form budget json chart bytes fault (Ok x) s t is = faulty_one form budget json chart bytes fault x.status x.text is.1 s t
-fault_told form budget json chart bytes fault (Err e) s t is = tt
+pub fault_told : {E : Type 0} (form : LogForm) (budget : ℕ) (json : Bool) (table : Table) (name : List ℕ) (chart : ChartEntry) (bytes : List ℕ) (fault : LogFault) (r : Result Reply E) → IfOk r (λ x. x.status ≡ 5) → IfOk r (λ x. x.text ≡ fault_line json (Log fault))
+    → IsJudged chart form budget bytes (Refused fault) → IfOk r (λ x. IsTheOne (LogOutcome form budget json table name bytes) x.status x.text)
+fault_told form budget json table name chart bytes fault (Ok x) s t is = faulty_one form budget json table name bytes fault x.status x.text is.1 s t
+fault_told form budget json table name chart bytes fault (Err e) s t is = tt
 
 -- a log that was judged has no want of memory for a fault
-pub told_log : (chart : PlainChart) (form : LogForm) (budget : ℕ) (bytes : List ℕ) (judged : Judged) → IsJudged chart form budget bytes judged → IsToldLog judged
+pub told_log : (chart : ChartEntry) (form : LogForm) (budget : ℕ) (bytes : List ℕ) (judged : Judged) → IsJudged chart form budget bytes judged → IsToldLog judged
 told_log chart form budget bytes (log.Told verdict) h = tt
 told_log chart form budget bytes (Refused fault) h = h.0
 
 -- ---- a document that was opened
 
-pub told_outcome : (json : Bool) (files : Option Files) (before now : ℕ) (broken : Bool) (last : Option (List ℕ)) (d : List ℕ) (x : Reply) (Answer : Files → List PlainChart → ℕ → List ℕ → Type 0) → IsOpened json files before now broken last d (Told x)
+pub told_outcome : (json : Bool) (files : Option Files) (before now : ℕ) (broken : Bool) (last : Option (List ℕ)) (d : List ℕ) (x : Reply) (Answer : Files → Table → ℕ → List ℕ → Type 0) → IsOpened json files before now broken last d (Told x)
     → x.status < 7 → IfTold files (λ f. IsTheOne (DocumentOutcome json f d (Answer f)) x.status x.text)
 told_outcome json files before now broken last d x Answer opened lt = elim opened [
   | inl t ↦ refused_told {E = ℕ} json files d t.document.bytes Answer t.rule t.place (Ok x) t.document.held t.document.is t.status t.text lt

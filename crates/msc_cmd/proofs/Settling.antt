@@ -6,8 +6,9 @@ use Rattle.outside.specs.Shelves.{Files}
 use Rattle.msc_tokens.specs.declared.token.Token.{Token}
 use Rattle.msc_tree.specs.Charts.{Document as Tree}
 use Rattle.msc_rules.specs.declared.rule.Rule.{Rule}
-use Rattle.msc_expand.specs.declared.plain_chart.PlainChart.{PlainChart}
-use Rattle.msc_expand.specs.Acceptance.{HasFault, IsAccepted}
+use Rattle.msc_acceptance.specs.Acceptance.{HasFault, IsAccepted}
+use Rattle.msc_meaning.specs.Tables.{Table}
+use Rattle.msc_meaning.specs.Views.{table_view}
 use Rattle.msc_cmd.specs.declared.document.Document.{Document}
 use Rattle.msc_cmd.specs.declared.document.Document.TheVariants.{Charts, Refused}
 use Rattle.msc_cmd.specs.declared.document_text.DocumentText.{DocumentText}
@@ -28,12 +29,12 @@ only_refused bytes tree tokens broken place t r = record {
     by other there (of_charts u read h) = r.only other there (subst (λ (v : Tree). HasFault v other there) (t.only u read) h)
 
 -- a text whose document is accepted
-only_accepted : (bytes : List ℕ) (tree : Tree) (tokens : List Token) (charts : List PlainChart) → IsOnlyText bytes tree tokens → AcceptsAlone tree charts → IsOnlyDocument bytes charts
-only_accepted bytes tree tokens charts t a = record {
+only_accepted : (bytes : List ℕ) (tree : Tree) (tokens : List Token) (table : Table) → IsOnlyText bytes tree tokens → AcceptsAlone tree table → IsOnlyDocument bytes table
+only_accepted bytes tree tokens table t a = record {
   is = record { tree = tree; read = t.is; accepted = a.is };
   only = λ others d. a.only others (subst (λ (u : Tree). IsAccepted u others) (t.only d.tree d.read) d.accepted);
   faultless = λ broken place h. by broken place h;
-  plain = a.plain;
+  alone = a.alone;
 }
   where
     by : (broken : Rule) (place : Place) → HasDocumentFault bytes broken place → ⊥
@@ -53,7 +54,7 @@ only_faulty bytes broken place f = record {
     by other there (of_charts u read h) = absurd (f.none u read)
 
 pub settled_read : (bytes : List ℕ) (tree : Tree) (tokens : List Token) (r : Result Document NoMemory) → IfOk r (ComesTo tree) → IsOnlyText bytes tree tokens → IfOk r (IsTheDocument bytes)
-settled_read bytes tree tokens (Ok (Charts charts)) h t = only_accepted bytes tree tokens charts t h
+settled_read bytes tree tokens (Ok (Charts charts)) h t = only_accepted bytes tree tokens (table_view charts) t h
 settled_read bytes tree tokens (Ok (Refused broken place)) h t = only_refused bytes tree tokens broken place t h
 settled_read bytes tree tokens (Err e) h t = tt
 

@@ -2,13 +2,13 @@
 use Rattle.std.specs.Prelude.{◌≡◌, ◌⊎◌, ℕ, List, Option, Some, Bool, true, false}
 use Rattle.outside.specs.Causes.{Rose}
 use Rattle.outside.specs.Shelves.{Files}
-use Rattle.msc_expand.specs.declared.plain_chart.PlainChart.{PlainChart}
+use Rattle.msc_meaning.specs.Tables.{ChartEntry, Table, chart_at}
 use Rattle.judge_report.specs.declared.fault.Fault.TheVariants.{DocumentRead, LogRead}
 use Rattle.judge_report.specs.Texts.{fault_line}
 use Rattle.msc_cmd.specs.declared.requests.Request.{Request}
 use Rattle.msc_cmd.specs.declared.requests.Request.TheVariants.{Judge, Check, Print}
 use Rattle.msc_cmd.specs.declared.requests.Request.TheVariants as requests
-use Rattle.msc_cmd.specs.Documents.{IsDocument, chart_named}
+use Rattle.msc_cmd.specs.Documents.{IsDocument}
 use Rattle.msc_cmd.specs.Requests.{request_of}
 use Rattle.msc_cmd.specs.Outcomes.{IfTold}
 
@@ -20,7 +20,7 @@ pub record FailedAt (before now : ℕ) (broken : Bool) (last : Option (List ℕ)
 
 -- the document is accepted and has the chart
 abbrev pub HasChart : List ℕ → List ℕ → Files → Type 0
-HasChart document name files = (bytes : List ℕ) × (charts : List PlainChart) × (chart : PlainChart) × (files document ≡ Some bytes) × IsDocument bytes charts × (chart_named name charts ≡ Some chart)
+HasChart document name files = (bytes : List ℕ) × (table : Table) × (chart : ChartEntry) × (files document ≡ Some bytes) × IsDocument bytes table × (chart_at table name ≡ Some chart)
 
 -- the shelf failed at the document, and the line says so
 abbrev pub CannotOpen : Bool → ℕ → ℕ → Bool → Option (List ℕ) → List ℕ → List ℕ → Type 0

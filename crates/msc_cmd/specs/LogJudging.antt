@@ -8,7 +8,7 @@ use Rattle.event_log.specs.States.{IsFaultOf}
 use Rattle.event_log.specs.declared.event.LogForm.{LogForm}
 use Rattle.trace_judge.specs.Sets.{SetValue}
 use Rattle.trace_judge.specs.States.{JudgeValue}
-use Rattle.msc_expand.specs.declared.plain_chart.PlainChart.{PlainChart}
+use Rattle.msc_meaning.specs.Tables.{ChartEntry}
 use Rattle.chart_judge.specs.Judging.{IsJudging, IsVerdictOn}
 use Rattle.msc_cmd.specs.Intakes.{IsHeld}
 use Rattle.msc_cmd.specs.Reading.{HasRead}
@@ -18,13 +18,13 @@ use Rattle.msc_cmd.specs.declared.log_reading.Step.{Step}
 use Rattle.msc_cmd.specs.declared.log_reading.Step.TheVariants.{More, End, Fault}
 
 -- what has been judged and what is left are the entry of this name, where it is told
-pub record IsReadingLog (chart : PlainChart) (form : LogForm) (budget : ℕ) (files : Option Files) (name : List ℕ) (rest : Option (List ℕ)) (judge : JudgeValue SetValue) : Type 0 where
+pub record IsReadingLog (chart : ChartEntry) (form : LogForm) (budget : ℕ) (files : Option Files) (name : List ℕ) (rest : Option (List ℕ)) (judge : JudgeValue SetValue) : Type 0 where
   pub bytes : List ℕ
   pub judging : IsJudging chart form budget bytes judge
   pub held : HasRead files name rest bytes
 
 -- the bytes are a log, and this is the one verdict on its events; or this is their first fault
-abbrev pub IsJudged : PlainChart → LogForm → ℕ → List ℕ → Judged → Type 0
+abbrev pub IsJudged : ChartEntry → LogForm → ℕ → List ℕ → Judged → Type 0
 IsJudged chart form budget bytes (Told verdict) = IsVerdictOn chart form budget bytes verdict
 IsJudged chart form budget bytes (Refused fault) = IsFault fault × IsFaultOf form false bytes (Some fault)
 
@@ -34,13 +34,13 @@ IsToldLog (Told verdict) = Unit {0}
 IsToldLog (Refused fault) = IsFault fault
 
 -- the entry of this name comes to this; its bytes are told where the entries are
-pub record IsJudgedLog (chart : PlainChart) (form : LogForm) (budget : ℕ) (files : Option Files) (name : List ℕ) (judged : Judged) : Type 0 where
+pub record IsJudgedLog (chart : ChartEntry) (form : LogForm) (budget : ℕ) (files : Option Files) (name : List ℕ) (judged : Judged) : Type 0 where
   pub bytes : List ℕ
   pub held : IsHeld files name bytes
   pub is : IsJudged chart form budget bytes judged
 
 -- what comes of one read, before which so many bytes had been taken
-abbrev pub IsStep : PlainChart → LogForm → ℕ → Option Files → List ℕ → Option (List ℕ) → ℕ → JudgeValue SetValue → Step → Type 0
+abbrev pub IsStep : ChartEntry → LogForm → ℕ → Option Files → List ℕ → Option (List ℕ) → ℕ → JudgeValue SetValue → Step → Type 0
 IsStep chart form budget files name rest before judge More = (before < judge.reader.count) × (judge.reader.count ≤ LOG_BYTES) × IsReadingLog chart form budget files name rest judge
 IsStep chart form budget files name rest before judge End = IsReadingLog chart form budget files name (Some []) judge
 IsStep chart form budget files name rest before judge (Fault fault) = IsJudgedLog chart form budget files name (Refused fault)

@@ -1,13 +1,13 @@
 -- What the command answers to its words and the entries of the shelf.
-use Rattle.std.specs.Prelude.{◌≡◌, ℕ, Bool, false, List, length, Option, Some, None}
+use Rattle.std.specs.Prelude.{◌≡◌, ◌≤◌, ℕ, Bool, false, List, length, Option, Some, None}
 use Rattle.outside.specs.Shelves.{Files}
 use Rattle.msc_base.specs.declared.place.Place.{Place}
 use Rattle.msc_base.specs.declared.verdict.Verdict.{Verdict}
 use Rattle.msc_base.specs.declared.verdict.Verdict.TheVariants.{Conforms, Fails, Early, TooLarge}
 use Rattle.msc_tree.specs.Charts.{Document as Tree}
 use Rattle.msc_print.specs.ChartWords.{canonical_text}
-use Rattle.msc_expand.specs.declared.plain_chart.PlainChart.{PlainChart}
-use Rattle.msc_expand.specs.Listing.{listed_of}
+use Rattle.msc_acceptance.specs.Listing.{listed_of}
+use Rattle.msc_meaning.specs.Tables.{ChartEntry, Table, chart_at}
 use Rattle.msc_rules.specs.declared.rule.Rule.{Rule}
 use Rattle.event_log.specs.declared.event.LineEvent.{LineEvent}
 use Rattle.event_log.specs.declared.event.LogFault.{LogFault}
@@ -21,7 +21,7 @@ use Rattle.msc_cmd.specs.declared.requests.Request.{Request}
 use Rattle.msc_cmd.specs.declared.requests.Request.TheVariants.{Judge, Check, Print}
 use Rattle.msc_cmd.specs.declared.requests.Request.TheVariants as requests
 use Rattle.msc_cmd.specs.DocumentTexts.{ReadsDocument, HasTextFault}
-use Rattle.msc_cmd.specs.Documents.{IsDocument, HasDocumentFault, chart_named}
+use Rattle.msc_cmd.specs.Documents.{IsDocument, HasDocumentFault}
 use Rattle.msc_cmd.specs.Requests.{request_of, IsNoRequest}
 
 abbrev pub status_of : Verdict → ℕ
@@ -30,43 +30,43 @@ status_of (Fails event line) = 1
 status_of (Early events) = 3
 status_of (TooLarge event) = 6
 
--- what the bytes of a log in this form give for a chart within the budget, told as JSON or plain
-pub data LogOutcome (form : LogForm) (budget : ℕ) (json : Bool) (chart : PlainChart) (bytes : List ℕ) (status : ℕ) (text : List ℕ) : Type 0 where
-  bad_log : (events : List LineEvent) (fault : LogFault) → LogOf form false bytes events (Some fault) → status ≡ 5 → text ≡ fault_line json (Log fault) → LogOutcome form budget json chart bytes status text
-  judged : (events : List LineEvent) (verdict : Verdict) → LogOf form false bytes events None → IsVerdict chart budget events verdict → status ≡ status_of verdict → text ≡ verdict_line json verdict
-      → LogOutcome form budget json chart bytes status text
+-- what the bytes of a log in this form give for the chart of a name within the budget, told as JSON or plain
+pub data LogOutcome (form : LogForm) (budget : ℕ) (json : Bool) (table : Table) (name bytes : List ℕ) (status : ℕ) (text : List ℕ) : Type 0 where
+  bad_log : (events : List LineEvent) (fault : LogFault) → LogOf form false bytes events (Some fault) → status ≡ 5 → text ≡ fault_line json (Log fault) → LogOutcome form budget json table name bytes status text
+  judged : (events : List LineEvent) (verdict : Verdict) → LogOf form false bytes events None → IsVerdict table name budget events verdict → status ≡ status_of verdict → text ≡ verdict_line json verdict
+      → LogOutcome form budget json table name bytes status text
 
--- what the log of this name gives for the chart
-pub data EntryOutcome (form : LogForm) (budget : ℕ) (json : Bool) (files : Files) (chart : PlainChart) (name : List ℕ) (status : ℕ) (text : List ℕ) : Type 0 where
-  of_bytes : (bytes : List ℕ) → files name ≡ Some bytes → LogOutcome form budget json chart bytes status text → EntryOutcome form budget json files chart name status text
+-- what the log of this entry gives for the chart of that name
+pub data EntryOutcome (form : LogForm) (budget : ℕ) (json : Bool) (files : Files) (table : Table) (name log : List ℕ) (status : ℕ) (text : List ℕ) : Type 0 where
+  of_bytes : (bytes : List ℕ) → files log ≡ Some bytes → LogOutcome form budget json table name bytes status text → EntryOutcome form budget json files table name log status text
 
 -- what the entry of a document gives: its first fault, or what is answered of its charts
-pub data DocumentOutcome (json : Bool) (files : Files) (document : List ℕ) (Answer : List PlainChart → ℕ → List ℕ → Type 0) (status : ℕ) (text : List ℕ) : Type 0 where
+pub data DocumentOutcome (json : Bool) (files : Files) (document : List ℕ) (Answer : Table → ℕ → List ℕ → Type 0) (status : ℕ) (text : List ℕ) : Type 0 where
   refused : (bytes : List ℕ) (broken : Rule) (place : Place) → files document ≡ Some bytes → HasDocumentFault bytes broken place → status ≡ 4 → text ≡ fault_line json (Document broken place)
       → DocumentOutcome json files document Answer status text
-  of_charts : (bytes : List ℕ) (charts : List PlainChart) → files document ≡ Some bytes → IsDocument bytes charts → Answer charts status text → DocumentOutcome json files document Answer status text
+  of_charts : (bytes : List ℕ) (table : Table) → files document ≡ Some bytes → IsDocument bytes table → Answer table status text → DocumentOutcome json files document Answer status text
 
 -- what the chart of a name gives: that there is none, or what is answered of it
-pub data ChartOutcome (json : Bool) (name : List ℕ) (charts : List PlainChart) (Answer : PlainChart → ℕ → List ℕ → Type 0) (status : ℕ) (text : List ℕ) : Type 0 where
-  no_chart : chart_named name charts ≡ None → status ≡ 4 → text ≡ fault_line json NoChart → ChartOutcome json name charts Answer status text
-  of_chart : (chart : PlainChart) → chart_named name charts ≡ Some chart → Answer chart status text → ChartOutcome json name charts Answer status text
+pub data ChartOutcome (json : Bool) (name : List ℕ) (table : Table) (Answer : ChartEntry → ℕ → List ℕ → Type 0) (status : ℕ) (text : List ℕ) : Type 0 where
+  no_chart : chart_at table name ≡ None → status ≡ 4 → text ≡ fault_line json NoChart → ChartOutcome json name table Answer status text
+  of_chart : (chart : ChartEntry) → chart_at table name ≡ Some chart → Answer chart status text → ChartOutcome json name table Answer status text
 
 -- the status is 0, and the text this one
 abbrev pub Says : List ℕ → ℕ → List ℕ → Type 0
 Says words status text = (status ≡ 0) × (text ≡ words)
 
 -- where a log is judged: what it gives for the chart
-abbrev pub JudgeAnswer : LogForm → ℕ → Bool → Files → List ℕ → List ℕ → List PlainChart → ℕ → List ℕ → Type 0
-JudgeAnswer form budget json files name log charts = ChartOutcome json name charts (λ chart. EntryOutcome form budget json files chart log)
+abbrev pub JudgeAnswer : LogForm → ℕ → Bool → Files → List ℕ → List ℕ → Table → ℕ → List ℕ → Type 0
+JudgeAnswer form budget json files name log table = ChartOutcome json name table (λ chart. EntryOutcome form budget json files table name log)
 
 -- where a document is checked: how many charts it has
-abbrev pub CheckAnswer : Bool → List PlainChart → ℕ → List ℕ → Type 0
-CheckAnswer json charts = Says (accepted_line json (length charts))
+abbrev pub CheckAnswer : Bool → Table → ℕ → List ℕ → Type 0
+CheckAnswer json table = Says (accepted_line json (length table))
 
 -- where it is listed: its charts, or the instances of one
-abbrev pub ListAnswer : Bool → Option (List ℕ) → List PlainChart → ℕ → List ℕ → Type 0
-ListAnswer json None charts = Says (chart_list json charts)
-ListAnswer json (Some name) charts = ChartOutcome json name charts (λ chart. Says (instance_list json (listed_of chart)))
+abbrev pub ListAnswer : Bool → Option (List ℕ) → Table → ℕ → List ℕ → Type 0
+ListAnswer json None table = Says (chart_list json table)
+ListAnswer json (Some name) table = ChartOutcome json name table (λ chart. Says (instance_list json (listed_of chart)))
 
 -- what the entries of these names give
 abbrev pub FilesOutcome : LogForm → ℕ → Bool → Files → List ℕ → List ℕ → List ℕ → ℕ → List ℕ → Type 0
@@ -94,6 +94,20 @@ pub data IsOutcome (words : List (List ℕ)) (files : Files) (status : ℕ) (tex
 pub record IsTheOne (P : ℕ → List ℕ → Type 0) (status : ℕ) (text : List ℕ) : Type 0 where
   pub is : P status text
   pub only : (other : ℕ) (others : List ℕ) → P other others → (other ≡ status) × (others ≡ text)
+
+-- what is answered to the words: their one outcome
+abbrev pub IsAnswer : List (List ℕ) → Files → ℕ → List ℕ → Type 0
+IsAnswer words files = IsTheOne (IsOutcome words files)
+
+-- ---- statuses
+
+-- a status of an outcome: 7, 8 and 9 are those of a shelf that failed, a sink that failed, and want of memory
+abbrev pub IsOfOutcome : ℕ → Type 0
+IsOfOutcome status = (status ≡ 7 → ⊥) × (status ≡ 8 → ⊥) × (status ≡ 9 → ⊥)
+
+-- the statuses that there are
+abbrev pub IsStatus : ℕ → Type 0
+IsStatus status = status ≤ 9
 
 -- a fact of the entries, where they are told
 abbrev pub IfTold : Option Files → (Files → Type 0) → Type 0

@@ -1,12 +1,13 @@
 //! Replies, and the command `judge`: document, chart and log, one after another. `command` calls it.
 
-ghost use Rattle.std.specs.Prelude.{◌≡◌, ◌<◌, ◌≤◌, ℕ, List, IfOk};
+ghost use Rattle.std.specs.Prelude.{◌≡◌, ◌<◌, ◌≤◌, ℕ, List, IfOk, Some};
 ghost use Rattle.event_log.specs.declared.event.LogForm.{LogForm as Form};
 ghost use Rattle.judge_report.specs.declared.fault.Fault.TheVariants.{LogRead};
 ghost use Rattle.judge_report.specs.Texts.{IsTold, fault_line};
 ghost use Rattle.msc_base.specs.declared.limits.TheConstants.Limits.{BUDGET_MOST};
-ghost use Rattle.msc_expand.specs.Plain.{IsPlain};
-ghost use Rattle.msc_expand.specs.declared.plain_chart.PlainChart.{PlainChart as Chart};
+ghost use Rattle.msc_acceptance.specs.EventCharts.{HasEventsAlone};
+ghost use Rattle.msc_meaning.specs.Tables.{ChartEntry as Chart, Table, chart_at};
+ghost use Rattle.msc_meaning.specs.Views.{entry_view};
 ghost use Rattle.msc_cmd.specs.Failures.{FailedAt, CannotRead};
 ghost use Rattle.msc_cmd.specs.LogJudging.{IsJudged, IsToldLog};
 ghost use Rattle.msc_cmd.specs.Outcomes.{EntryOutcome, FilesOutcome, IfTold, IsTheOne, LogOutcome, status_of};
@@ -18,7 +19,7 @@ use crate::opening::{Opened, open_document};
 use event_log::LogForm;
 use judge_report::{Fault, fault_text, verdict_text};
 use msc_base::{NoMemory, Text, Verdict};
-use msc_expand::PlainChart;
+use msc_meaning::ChartEntry;
 use outside::Shelf;
 use std::alloc::Global;
 
@@ -68,8 +69,8 @@ fn answer_log(alloc: Global, judged: &Judged, json: bool) -> Result<Reply, NoMem
     requires { IsToldLog judged.now }
     ensures small { IfOk result (λ r. r.status < 7) }
     ensures not_two { IfOk result (λ r. r.status ≡ 2 → ⊥) }
-    ensures outcome { (chart : Chart) (form : Form) (budget : ℕ) (bytes : List ℕ) → IsJudged chart form budget bytes judged.now
-        → IfOk result (λ r. IsTheOne (LogOutcome form budget json chart bytes) r.status r.text) }
+    ensures outcome { (table : Table) (name : List ℕ) (chart : Chart) (form : Form) (budget : ℕ) (bytes : List ℕ) → chart_at table name ≡ Some chart → IsJudged chart form budget bytes judged.now
+        → IfOk result (λ r. IsTheOne (LogOutcome form budget json table name bytes) r.status r.text) }
 {
     match judged {
         Judged::Told(verdict) => {
@@ -86,18 +87,19 @@ fn answer_log(alloc: Global, judged: &Judged, json: bool) -> Result<Reply, NoMem
 /// The reply for the log of this name.
 fn judge_log<S: Shelf>(
     alloc: Global,
-    chart: &PlainChart,
+    chart: &ChartEntry,
     log: &Text,
     style: Style,
     shelf: &mut S,
 ) -> Result<Reply, NoMemory>
-    requires plain { IsPlain chart.now }
+    requires alone { HasEventsAlone (entry_view chart.now) }
     requires least { 1 ≤ style.budget }
     requires most { style.budget ≤ BUDGET_MOST }
     ensures later { S.faults shelf.old ≤ S.faults shelf.new }
     ensures small { IfOk result (λ r. r.status ≤ 7) }
     ensures not_two { IfOk result (λ r. r.status ≡ 2 → ⊥) }
-    ensures outcome { IfOk result (λ r. r.status < 7 → IfTold (S.files shelf.old) (λ f. IsTheOne (EntryOutcome style.form style.budget style.json f chart.now log.now) r.status r.text)) }
+    ensures outcome { (table : Table) (name : List ℕ) → chart_at table name ≡ Some (entry_view chart.now)
+        → IfOk result (λ r. r.status < 7 → IfTold (S.files shelf.old) (λ f. IsTheOne (EntryOutcome style.form style.budget style.json f table name log.now) r.status r.text)) }
     ensures failed { IfOk result (λ r. r.status ≡ 7 → FailedAt (S.faults shelf.old) (S.faults shelf.new) (S.broken shelf.new) (S.last shelf.new) log.now) }
     ensures text { IfOk result (λ r. r.status ≡ 7 → r.text ≡ fault_line style.json LogRead) }
 {

@@ -5,7 +5,7 @@ ghost use Rattle.std.specs.Io.KnownBytes.{Appends, Keeps};
 ghost use Rattle.outside.specs.Causes.{Rose};
 ghost use Rattle.msc_cmd.specs.Requests.{HasBudget, IsNoRequest};
 ghost use Rattle.judge_report.specs.Writing.{AppendsPart};
-ghost use Rattle.msc_cmd.specs.Outcomes.{IsOutcome, IfTold, IsTheOne, RequestOutcome};
+ghost use Rattle.msc_cmd.specs.Outcomes.{IfTold, IsAnswer, IsOfOutcome, IsOutcome, IsStatus, IsTheOne, RequestOutcome};
 ghost use Rattle.msc_cmd.specs.Failures.{CannotJudge, CannotServe};
 
 use crate::answer::{Reply, Style, judge_files, make_reply};
@@ -83,9 +83,9 @@ fn answer<S: Shelf>(alloc: Global, words: &Words, shelf: &mut S) -> Result<Reply
 /// | 8 | the sink failed |
 /// | 9 | want of memory |
 pub fn run<S: Shelf, O: Sink>(alloc: Global, words: &Words, shelf: &mut S, out: &mut O) -> u8
-    // A status below 7 is that of the one outcome, and its text is written whole.
-    ensures outcome { result < 7 → IfTold (S.files shelf.old)
-        (λ f. (text : List ℕ) × IsTheOne (IsOutcome words.now f) result text × Appends (O.written out.old) (O.written out.new) text) }
+    // A status other than 7, 8 and 9 is that of the answer, and the answer's text is written whole.
+    ensures outcome { IsOfOutcome result → IfTold (S.files shelf.old)
+        (λ f. (text : List ℕ) × IsAnswer words.now f result text × Appends (O.written out.old) (O.written out.new) text) }
 
     // The shelf failed in this call, at the document or the log, and the line that says so is written whole.
     ensures shelf_failed { result ≡ 7 → (text : List ℕ)
@@ -95,18 +95,18 @@ pub fn run<S: Shelf, O: Sink>(alloc: Global, words: &Words, shelf: &mut S, out: 
     // The sink failed in this call, and a proper prefix of what was to be written stands there.
     ensures sink_failed { result ≡ 8 → Rose (O.faults out.old) (O.faults out.new) }
     ensures part { result ≡ 8 → IfTold (S.files shelf.old) (λ f. (text : List ℕ) × AppendsPart (O.written out.old) (O.written out.new) text
-        × (((status : ℕ) × IsTheOne (IsOutcome words.now f) status text)
+        × (((status : ℕ) × IsAnswer words.now f status text)
         ⊎ CannotJudge words.now (S.files shelf.old) (S.faults shelf.old) (S.faults shelf.new) (S.broken shelf.new) (S.last shelf.new) text)) }
 
     // Want of memory comes before anything is written.
     ensures memory { result ≡ 9 → Keeps (O.written out.old) (O.written out.new) }
 
-    // Where no fault rose there is an outcome, or want of memory.
-    ensures complete { (Rose (S.faults shelf.old) (S.faults shelf.new) → ⊥) → (Rose (O.faults out.old) (O.faults out.new) → ⊥) → (result < 7) ⊎ (result ≡ 9) }
+    // Where no fault rose there is an answer, or want of memory.
+    ensures complete { (Rose (S.faults shelf.old) (S.faults shelf.new) → ⊥) → (Rose (O.faults out.old) (O.faults out.new) → ⊥) → IsOfOutcome result ⊎ (result ≡ 9) }
 
     // Without an outcome there is no status of one.
-    ensures without { IfTold (S.files shelf.old) (λ f. ((status : ℕ) (text : List ℕ) → IsOutcome words.now f status text → ⊥) → 7 ≤ result) }
-    ensures known { result ≤ 9 }
+    ensures without { IfTold (S.files shelf.old) (λ f. ((status : ℕ) (text : List ℕ) → IsOutcome words.now f status text → ⊥) → IsOfOutcome result → ⊥) }
+    ensures known { IsStatus result }
 
     // No request is told only where there is none, whatever the shelf tells, and then the shelf is left alone.
     ensures request { result ≡ 2 → IsNoRequest words.now }

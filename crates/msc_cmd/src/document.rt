@@ -1,14 +1,17 @@
 //! What a document comes to, and the chart of a name: for the commands, behind `document_text`.
 
-ghost use Rattle.std.specs.Prelude.{◌≡◌, All, IfOk, IfSome, List, option_copied, ℕ};
-ghost use Rattle.msc_expand.specs.Plain.{IsPlain};
+ghost use Rattle.std.specs.Prelude.{◌≡◌, IfOk, IfSome, List, option_copied, option_map, ℕ};
+ghost use Rattle.msc_acceptance.specs.EventCharts.{HasEventsAlone, HaveEventsAlone};
+ghost use Rattle.msc_meaning.specs.Tables.{chart_at};
+ghost use Rattle.msc_meaning.specs.Views.{entry_view, table_view};
 ghost use Rattle.msc_tree.specs.Views.{document_view};
 ghost use Rattle.msc_cmd.specs.DocumentTexts.{IsTheText};
-ghost use Rattle.msc_cmd.specs.Documents.{ComesTo, IsTheDocument, chart_named};
+ghost use Rattle.msc_cmd.specs.Documents.{ComesTo, IsTheDocument};
 
 use crate::document_text::DocumentText;
+use msc_acceptance::{Accepted, DocFault, accept};
 use msc_base::{NoMemory, Place};
-use msc_expand::{Accepted, DocFault, PlainChart, accept};
+use msc_meaning::ChartEntry;
 use msc_rules::Rule;
 use msc_tree::RawDocument;
 use std::alloc::Global;
@@ -44,11 +47,10 @@ pub fn settle(alloc: Global, text: DocumentText) -> Result<Document, NoMemory>
 }
 
 /// The chart of the name, if there is one.
-pub fn chart_of<'a>(accepted: &'a Accepted, name: &[u8]) -> Option<&'a PlainChart>
-    requires { All IsPlain accepted.now }
-    ensures named { option_copied result ≡ chart_named name.now accepted.now }
-    ensures plain { IfSome result (λ chart. IsPlain chart.now) }
+pub fn chart_of<'a>(accepted: &'a Accepted, name: &[u8]) -> Option<&'a ChartEntry>
+    requires { HaveEventsAlone (table_view accepted.now) }
+    ensures named { option_map entry_view (option_copied result) ≡ chart_at (table_view accepted.now) name.now }
+    ensures alone { IfSome result (λ chart. HasEventsAlone (entry_view chart.now)) }
 {
-    let number = accepted.chart(name)?;
-    accepted.as_slice().get(number as usize)
+    accepted.chart_named(name)
 }

@@ -1,7 +1,8 @@
 //! The command `list`: for `command` alone.
 
 ghost use Rattle.std.specs.Prelude.{◌≡◌, ◌<◌, ◌≤◌, IfOk};
-ghost use Rattle.msc_expand.specs.Listing.{listed_of};
+ghost use Rattle.msc_acceptance.specs.Listing.{listed_of};
+ghost use Rattle.msc_meaning.specs.Views.{table_view};
 ghost use Rattle.judge_report.specs.Lists.{instance_list};
 ghost use Rattle.msc_cmd.specs.Failures.{CannotOpen};
 ghost use Rattle.msc_cmd.specs.Outcomes.{ChartOutcome, DocumentOutcome, IfTold, IsTheOne, ListAnswer, Says};
@@ -9,8 +10,8 @@ ghost use Rattle.msc_cmd.specs.Outcomes.{ChartOutcome, DocumentOutcome, IfTold, 
 use crate::answer::{Reply, make_reply};
 use crate::opening::{Opened, open_document};
 use judge_report::{Fault, chart_list_text, instance_list_text};
+use msc_acceptance::{Accepted, listed_of};
 use msc_base::{NoMemory, Text};
-use msc_expand::Accepted;
 use outside::Shelf;
 use std::alloc::Global;
 
@@ -23,12 +24,12 @@ fn list_instances(
 ) -> Result<Reply, NoMemory>
     ensures small { IfOk result (λ r. r.status < 7) }
     ensures not_two { IfOk result (λ r. r.status ≡ 2 → ⊥) }
-    ensures outcome { IfOk result (λ r. IsTheOne (ChartOutcome json name.now accepted.now (λ chart. Says (instance_list json (listed_of chart)))) r.status r.text) }
+    ensures outcome { IfOk result (λ r. IsTheOne (ChartOutcome json name.now (table_view accepted.now) (λ chart. Says (instance_list json (listed_of chart)))) r.status r.text) }
 {
-    let Some(chart) = accepted.chart(name.bytes()) else {
+    let Some(chart) = accepted.chart_named(name.bytes()) else {
         return make_reply(alloc, 4, &Fault::NoChart, json);
     };
-    let listed = accepted.listed(alloc, chart)?;
+    let listed = listed_of(alloc, chart)?;
     let text = instance_list_text(alloc, &listed, json)?;
     Ok(Reply { status: 0, text })
 }
@@ -42,7 +43,7 @@ fn list_accepted(
 ) -> Result<Reply, NoMemory>
     ensures small { IfOk result (λ r. r.status < 7) }
     ensures not_two { IfOk result (λ r. r.status ≡ 2 → ⊥) }
-    ensures outcome { IfOk result (λ r. IsTheOne (ListAnswer json chart.now accepted.now) r.status r.text) }
+    ensures outcome { IfOk result (λ r. IsTheOne (ListAnswer json chart.now (table_view accepted.now)) r.status r.text) }
 {
     match chart {
         None => {

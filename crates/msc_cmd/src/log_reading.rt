@@ -5,15 +5,16 @@ ghost use Rattle.outside.specs.Causes.{Rose};
 ghost use Rattle.outside.specs.Shelves.{Files};
 ghost use Rattle.event_log.specs.declared.event.LogForm.{LogForm as Form};
 ghost use Rattle.msc_base.specs.declared.limits.TheConstants.Limits.{BUDGET_MOST};
-ghost use Rattle.msc_expand.specs.Plain.{IsPlain};
-ghost use Rattle.msc_expand.specs.declared.plain_chart.PlainChart.{PlainChart as Chart};
+ghost use Rattle.msc_acceptance.specs.EventCharts.{HasEventsAlone};
+ghost use Rattle.msc_meaning.specs.Tables.{ChartEntry as Chart};
+ghost use Rattle.msc_meaning.specs.Views.{entry_view};
 ghost use Rattle.msc_cmd.specs.LogJudging.{IsJudgedLog, IsReadingLog, IsStep};
 
 use crate::entry::{PIECE_BYTES, ReadFault, read_piece, start_entry};
 use chart_judge::ChartJudge;
 use event_log::{LogFault, LogForm};
 use msc_base::{Text, Verdict};
-use msc_expand::PlainChart;
+use msc_meaning::ChartEntry;
 use outside::Shelf;
 use std::alloc::Global;
 use trace_judge::JudgeFault;
@@ -85,17 +86,17 @@ fn ended(judge: ChartJudge) -> Result<Judged, ReadFault>
 pub fn judge_entry<S: Shelf>(
     alloc: Global,
     shelf: &mut S,
-    chart: &PlainChart,
+    chart: &ChartEntry,
     name: &Text,
     form: LogForm,
     budget: u64,
 ) -> Result<Judged, ReadFault>
-    requires plain { IsPlain chart.now }
+    requires alone { HasEventsAlone (entry_view chart.now) }
     requires least { 1 ≤ budget }
     requires most { budget ≤ BUDGET_MOST }
     ensures files { S.files shelf.new ≡ S.files shelf.old }
     ensures later { S.faults shelf.old ≤ S.faults shelf.new }
-    ensures log { IfOk result (IsJudgedLog chart.now form budget (S.files shelf.old) name.now) }
+    ensures log { IfOk result (IsJudgedLog (entry_view chart.now) form budget (S.files shelf.old) name.now) }
     ensures failed { IsErrOf result ReadFault.Failed → Rose (S.faults shelf.old) (S.faults shelf.new) }
     ensures broken { IsErrOf result ReadFault.Failed → S.broken shelf.new ≡ true }
     ensures last { IsErrOf result ReadFault.Failed → S.last shelf.new ≡ Some name.now }

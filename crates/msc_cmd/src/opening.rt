@@ -8,8 +8,8 @@ use crate::document::Document;
 use crate::entry::ReadFault;
 use crate::reading::take_document;
 use judge_report::Fault;
+use msc_acceptance::Accepted;
 use msc_base::{NoMemory, Text};
-use msc_expand::Accepted;
 use outside::Shelf;
 use std::alloc::Global;
 

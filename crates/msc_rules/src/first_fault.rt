@@ -1,4 +1,4 @@
-//! The earlier of two faults, for any rules with numbers: msc_expand decides by it which rule a document breaks first.
+//! The earlier of two faults, for any rules with numbers: msc_acceptance decides by it which rule a document breaks first.
 
 ghost use Rattle.std.specs.Prelude.{◌≡◌, ℕ};
 ghost use Rattle.msc_rules.specs.FirstFaults.{earlier_of, fault_of, is_ahead};

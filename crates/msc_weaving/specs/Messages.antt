@@ -1,3 +1,4 @@
+-- Serves private contracts alone.
 -- Which input takes in what an output puts out: of each message with its pairing name, the k-th input takes the k-th output. An
 -- output of a message to j stands in the column of its sender, and the input in that of j, so each is counted in its column.
 use Rattle.std.specs.Prelude.{◌≡◌, ◌⊎◌, ℕ, Bool, false, ◌&&◌, List, [], ◌∷◌, ◌++◌, take, count_by, Option, Some, None, slice_get}

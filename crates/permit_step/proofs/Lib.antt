@@ -4,6 +4,7 @@ pub mod PermitRows
 pub mod PermitLoops
 pub mod NodeTerms
 pub mod PassingFacts
+pub mod RemnantFacts
 pub mod PermitWalks
 pub mod EndingFacts
 pub mod FreshFacts

@@ -1,26 +1,32 @@
 -- What permission leaves of a walk, by the nodes that can be passed.
-use Rattle.std.specs.Prelude.{ℕ, ◌+◌, ◌<◌, ◌≤◌, ◌==◌, Bool, true, false, List, [], ◌∷◌, ◌≡◌, ◌↔◌, ◌⊎◌, ◌&&◌, Option, Some, None, refl, length, IsTrue, not}
+use Rattle.std.specs.Prelude.{ℕ, ◌+◌, ◌<◌, ◌≤◌, ◌==◌, Bool, true, false, List, [], ◌∷◌, ◌++◌, ◌≡◌, ◌↔◌, ◌⊎◌, ◌&&◌, Option, Some, None, refl, length, IsTrue, not}
 use Rattle.std.specs.List.{list_all}
 use Rattle.std.proofs.Common.{ap, sym, ◌∙◌, subst, arith, filter, inl, inr}
 use Rattle.std.proofs.lemmas.Bool.{and_from}
-use Rattle.hmsc_graph.specs.Graphs.{Net, Spot, At, Goal, To, End, Any, WalkThrough, reach}
+use Rattle.hmsc_graph.specs.Graphs.{Net, Spot, At, Goal, To, End, Any, WalkThrough, last, step, reach}
 use Rattle.msc_base.specs.Lists.{IsIn}
-use Rattle.hmsc_graph.specs.Nets.{size_of}
+use Rattle.hmsc_graph.specs.Nets.{IsNet, size_of}
 use Rattle.hmsc_graph.specs.Spots.{spot_of, goal_of, IsSpotBelow, IsGoalBelow}
 use Rattle.hmsc_graph.specs.declared.spot.Spot.{Spot as SpotShown}
 use Rattle.hmsc_graph.specs.declared.spot.Goal.{Goal as GoalShown}
 use Rattle.hmsc_graph.specs.declared.spot.Spot.TheVariants.{Start as StartSpot, Node as NodeSpot}
 use Rattle.hmsc_graph.specs.declared.spot.Goal.TheVariants.{Node as NodeGoal, End as EndGoal, Any as AnyGoal}
-use Rattle.bit_sets.specs.NodeSets.{NodeSetValue, HasNoNodes}
 use Rattle.hmsc_graph.specs.Walks.{Leads}
-use Rattle.hmsc_graph.proofs.Reaching.{more_allowed, reach_sound, reach_whole}
+use Rattle.hmsc_graph.proofs.Reaching.{more_allowed, glue, reach_sound, reach_whole}
+use Rattle.hmsc_graph.proofs.SearchFacts.{due_below, walk_below, number_same}
 use Rattle.chart_term.specs.NormalForms.{NetPermits, only, is_nil, some_kept, allowed, are_nil, walk_form, walk_cut}
 use Rattle.chart_term.specs.Tables.{Tables, net_count, net_of, nodes_of, node_of, count_from, choose}
 use Rattle.chart_term.specs.Terms.{Tree, Nil, Walk}
 use Rattle.chart_term.proofs.Walking.{out_filter, in_filter}
 use Rattle.chart_term.proofs.Lists.{count_length}
 use Rattle.term_laws.specs.Normality.{IsSet}
-use Rattle.permit_step.specs.Passing.{is_full, ArePassable, PassesFull, IsAimed}
+use Rattle.permit_step.specs.Fresh.{IsAimed}
+use Rattle.bit_sets.specs.NodeSets.{NodeSetValue}
+use Rattle.hmsc_graph.specs.declared.search.Traversal.{Traversal}
+use Rattle.permit_step.specs.Passing.{ArePassable, IsPassing, HasVisited, HaveCommon}
+use Rattle.permit_step.specs.declared.passing.Passable.{Passable}
+use Rattle.permit_step.specs.declared.remnant.Remnant.{Remnant}
+use Rattle.permit_step.specs.Remnants.{is_full, Says}
 use Rattle.term_laws.specs.Permission.{permit, permits_of}
 use Rattle.permit_step.specs.Ready.{IsReady, AreReadyTables, IsSpotWithin, IsGoalWithin}
 use Rattle.term_laws.proofs.Measures.{rank_in}
@@ -96,7 +102,7 @@ nil_or_full (Some x) h f = go (is_nil (Some x)) f
     go true f = refl
     go false f = absurd (f refl)
 
-module _ (w : Tables) (n : ℕ) (c : List ℕ) (size : ℕ) (ms ns : List ℕ) (sized : size ≡ length (nodes_of w n)) (h : ArePassable w n c size ms ns) where
+module _ (w : Tables) (n : ℕ) (c : List ℕ) (s : Spot) (ms ns : List ℕ) (net : IsNet (net_of w n)) (h : ArePassable (net_of w n) (allowed (permits_of w) n c) (λ m. (permits_of w).kept n m c) s ms ns) where
   abbrev g : Net
   g = net_of w n
 
@@ -107,85 +113,90 @@ module _ (w : Tables) (n : ℕ) (c : List ℕ) (size : ℕ) (ms ns : List ℕ) (
   kept_at m = (permits_of w).kept n m c
 
   to_allowed : (m : ℕ) → IsIn m ms → IsIn m ks
-  to_allowed m i =
-      let r = (h.passed m).0 i in
-      let l : m < length (nodes_of w n) = omega (arith, r.0) in
-      in_filter (λ j. some_kept ((permits_of w).kept n j c)) (nodes_of w n) m ((nodes_in w n m).1 l) r.1
+  to_allowed m i = ((h.passes m).0 i).1
 
-  from_allowed : (m : ℕ) → IsIn m ks → IsIn m ms
-  from_allowed m i =
-      let r = out_filter (λ j. some_kept ((permits_of w).kept n j c)) (nodes_of w n) m i in
-      let l : m < length (nodes_of w n) = (nodes_in w n m).0 r.0 in
-      (h.passed m).1 (omega arith, r.1)
+  -- a walk on from a node that can be passed passes nodes that are reached
+  walk_on : (m : ℕ) (t : Goal) → IsIn m ms → WalkThrough g ks (At m) t → WalkThrough g ms (At m) t
+  walk_on m t i (last j k a) = last j k a
+  walk_on m t i (step j k l u) =
+      let p = (h.passes m).0 i in
+      let here : IsIn j ms = (h.passes j).1 (glue p.1 p.0 (last j k (number_same j j refl)), l) in
+      step j k here (walk_on j t here u)
 
-  module _ (s : Spot) (t : Goal) (a : IsAimed t) where
-    leads_reach : (f : Spot) (u : Goal) → IsAimed u → Leads g ms f u → reach g ks f u ≡ true
-    leads_reach f u b i = reach_whole g ks f u (more_allowed to_allowed (lead_walk g ms f u b i))
+  walk_begun : (t : Goal) → WalkThrough g ks s t → WalkThrough g ms s t
+  walk_begun t (last j k a) = last j k a
+  walk_begun t (step j k l u) =
+      let here : IsIn j ms = (h.passes j).1 (last j k (number_same j j refl), l) in
+      step j k here (walk_on j t here u)
 
-    reach_leads : (f : Spot) (u : Goal) → reach g ks f u ≡ true → Leads g ms f u
-    reach_leads f u e = walk_lead g ms f u (more_allowed from_allowed (reach_sound g ks f u e))
+  module _ (t : Goal) (a : IsAimed t) where
+    leads_reach : (f : Spot) → Leads g ms f t → reach g ks f t ≡ true
+    leads_reach f i = reach_whole g ks f t (more_allowed to_allowed (lead_walk g ms f t a i))
 
-    is_way : ℕ → Bool
-    is_way m = reach g ks s (To m) && reach g ks (At m) t
+    reach_leads : reach g ks s t ≡ true → Leads g ms s t
+    reach_leads e = walk_lead g ms s t (walk_begun t (reach_sound g ks s t e))
 
-    full_false : PassesFull g ms ns s t → are_nil (permits_of w) n s t c ks ≡ false
-    full_false (m, i, u, v) =
-        let r = (h.full m).0 i in
-        let f = full_is (kept_at m) r.1 in
-        let inside : IsIn m ks = to_allowed m ((h.passed m).1 (r.0, f.0)) in
-        let way : (reach g ks s (To m) && reach g ks (At m) t) ≡ true = and_from (reach g ks s (To m)) (reach g ks (At m) t) (leads_reach s (To m) tt u) (leads_reach (At m) t a v) in
-        all_false (λ j. is_nil ((permits_of w).kept n j c)) (filter (λ j. reach g ks s (To j) && reach g ks (At j) t) ks) m (in_filter (λ j. reach g ks s (To j) && reach g ks (At j) t) ks m inside way) f.1
+    module _ (leading : List ℕ) (exact : (m : ℕ) → m < size_of g → IsIn m leading ↔ Leads g ms (At m) t) where
+      full_false : HaveCommon ns leading → are_nil (permits_of w) n s t c ks ≡ false
+      full_false (m, i, v) =
+          let r = (h.fills m).0 i in
+          let p = (h.passes m).0 r.0 in
+          let below : m < size_of g = walk_below g ks s m net p.0 in
+          let way : (reach g ks s (To m) && reach g ks (At m) t) ≡ true = and_from (reach g ks s (To m)) (reach g ks (At m) t) (reach_whole g ks s (To m) p.0) (leads_reach (At m) ((exact m below).0 v)) in
+          all_false (λ j. is_nil ((permits_of w).kept n j c)) (filter (λ j. reach g ks s (To j) && reach g ks (At j) t) ks) m (in_filter (λ j. reach g ks s (To j) && reach g ks (At j) t) ks m p.1 way) (full_is (kept_at m) r.1).1
 
-    no_full_true : (PassesFull g ms ns s t → ⊥) → are_nil (permits_of w) n s t c ks ≡ true
-    no_full_true f =
-        all_true (λ j. is_nil ((permits_of w).kept n j c)) (filter (λ j. reach g ks s (To j) && reach g ks (At j) t) ks)
-        (λ m i.
-        let r = out_filter (λ j. reach g ks s (To j) && reach g ks (At j) t) ks m i in
-        let p = (h.passed m).0 (from_allowed m r.0) in
-        nil_or_full (kept_at m) p.1
-        (λ q. f
-        (m, (h.full m).1 (p.0, q), reach_leads s (To m) (and_first (reach g ks s (To m)) (reach g ks (At m) t) r.1), reach_leads (At m) t (and_second (reach g ks s (To m)) (reach g ks (At m) t) r.1))))
+      no_full_true : (HaveCommon ns leading → ⊥) → are_nil (permits_of w) n s t c ks ≡ true
+      no_full_true f =
+          all_true (λ j. is_nil ((permits_of w).kept n j c)) (filter (λ j. reach g ks s (To j) && reach g ks (At j) t) ks)
+          (λ m i.
+          let r = out_filter (λ j. reach g ks s (To j) && reach g ks (At j) t) ks m i in
+          let u : WalkThrough g ks s (To m) = reach_sound g ks s (To m) (and_first (reach g ks s (To m)) (reach g ks (At m) t) r.1) in
+          let v : WalkThrough g ks (At m) t = reach_sound g ks (At m) t (and_second (reach g ks s (To m)) (reach g ks (At m) t) r.1) in
+          let here : IsIn m ms = (h.passes m).1 (u, r.0) in
+          let below : m < size_of g = walk_below g ks s m net u in
+          nil_or_full (kept_at m) (out_filter (λ j. some_kept ((permits_of w).kept n j c)) (nodes_of w n) m r.0).1
+          (λ q. f (m, (h.fills m).1 (here, q), (exact m below).1 (walk_lead g ms (At m) t (walk_on m t here v)))))
 
-    cut_is : walk_cut (permits_of w) n s t c ≡ walk_form (reach g ks s t) (are_nil (permits_of w) n s t c ks) (Walk n s t c)
-    cut_is = at t a
-      where
-        at : (u : Goal) → IsAimed u → walk_cut (permits_of w) n s u c ≡ walk_form (reach g ks s u) (are_nil (permits_of w) n s u c ks) (Walk n s u c)
-        at (To m) b = refl
-        at End b = refl
-        at Any b = absurd b
+      cut_is : walk_cut (permits_of w) n s t c ≡ walk_form (reach g ks s t) (are_nil (permits_of w) n s t c ks) (Walk n s t c)
+      cut_is = at t a
+        where
+          at : (u : Goal) → IsAimed u → walk_cut (permits_of w) n s u c ≡ walk_form (reach g ks s u) (are_nil (permits_of w) n s u c ks) (Walk n s u c)
+          at (To m) b = refl
+          at End b = refl
+          at Any b = absurd b
 
-    pub walk-none : (Leads g ms s t → ⊥) → walk_cut (permits_of w) n s t c ≡ None
-    walk-none f = cut_is ∙ go (reach g ks s t) refl
-      where
-        go : (b : Bool) → reach g ks s t ≡ b → walk_form b (are_nil (permits_of w) n s t c ks) (Walk n s t c) ≡ None
-        go true e = absurd (f (reach_leads s t e))
-        go false e = refl
+      pub walk-none : (Leads g ms s t → ⊥) → walk_cut (permits_of w) n s t c ≡ None
+      walk-none f = cut_is ∙ go (reach g ks s t) refl
+        where
+          go : (b : Bool) → reach g ks s t ≡ b → walk_form b (are_nil (permits_of w) n s t c ks) (Walk n s t c) ≡ None
+          go true e = absurd (f (reach_leads e))
+          go false e = refl
 
-    pub walk-full : Leads g ms s t → PassesFull g ms ns s t → walk_cut (permits_of w) n s t c ≡ Some (Walk n s t c)
-    walk-full l p = cut_is ∙ (λ i. walk_form (leads_reach s t a l i) (full_false p i) (Walk n s t c))
+      pub walk-full : Leads g ms s t → HaveCommon ns leading → walk_cut (permits_of w) n s t c ≡ Some (Walk n s t c)
+      walk-full l p = cut_is ∙ (λ i. walk_form (leads_reach s l i) (full_false p i) (Walk n s t c))
 
-    pub walk-nil : Leads g ms s t → (PassesFull g ms ns s t → ⊥) → walk_cut (permits_of w) n s t c ≡ Some Nil
-    walk-nil l f = cut_is ∙ (λ i. walk_form (leads_reach s t a l i) (no_full_true f i) (Walk n s t c))
+      pub walk-nil : Leads g ms s t → (HaveCommon ns leading → ⊥) → walk_cut (permits_of w) n s t c ≡ Some Nil
+      walk-nil l f = cut_is ∙ (λ i. walk_form (leads_reach s l i) (no_full_true f i) (Walk n s t c))
 
 -- what the searches said
-module _ (w : Tables) (n : ℕ) (c ms ns : List ℕ) (s : Spot) (t : Goal) (g : Net) (same : g ≡ net_of w n) (ready : AreReadyTables w) (known : n < net_count w) (aim : IsAimed t)
-    (h : ArePassable w n c (size_of (net_of w n)) ms ns) where
-  abbrev size : ℕ
-  size = size_of (net_of w n)
+module _ (w : Tables) (n : ℕ) (c ms ns leading : List ℕ) (s : Spot) (t : Goal) (g : Net) (same : g ≡ net_of w n) (net : IsNet (net_of w n)) (aim : IsAimed t)
+    (h : ArePassable (net_of w n) (allowed (permits_of w) n c) (λ m. (permits_of w).kept n m c) s ms ns) (led : (m : ℕ) → m < size_of g → IsIn m leading ↔ Leads g ms (At m) t) where
+  exact : (m : ℕ) → m < size_of (net_of w n) → IsIn m leading ↔ Leads (net_of w n) ms (At m) t
+  exact = subst (λ (f : Net). (m : ℕ) → m < size_of f → IsIn m leading ↔ Leads f ms (At m) t) same led
 
   module _ (b : Bool) (leads : IsTrue b ↔ Leads g ms s t) where
     to_lead : b ≡ true → Leads (net_of w n) ms s t
     to_lead e = subst (λ (f : Net). Leads f ms s t) same (leads.0 e)
 
     pub walk-lost : b ≡ false → None ≡ walk_cut (permits_of w) n s t c
-    walk-lost e = sym (walk-none w n c size ms ns (sizes-are w ready n known) h s t aim (λ l. let q : b ≡ true = leads.1 (subst (λ (f : Net). Leads f ms s t) (sym same) l) in cc))
+    walk-lost e = sym (walk-none w n c s ms ns net h t aim leading exact (λ l. let q : b ≡ true = leads.1 (subst (λ (f : Net). Leads f ms s t) (sym same) l) in cc))
 
-    module _ (d : Bool) (passes : IsTrue d ↔ PassesFull g ms ns s t) (there : b ≡ true) where
+    module _ (d : Bool) (common : IsTrue d ↔ HaveCommon ns leading) (there : b ≡ true) where
       pub walk-passes : d ≡ true → Some (Walk n s t c) ≡ walk_cut (permits_of w) n s t c
-      walk-passes e = sym (walk-full w n c size ms ns (sizes-are w ready n known) h s t aim (to_lead there) (subst (λ (f : Net). PassesFull f ms ns s t) same (passes.0 e)))
+      walk-passes e = sym (walk-full w n c s ms ns net h t aim leading exact (to_lead there) (common.0 e))
 
       pub walk-empty : d ≡ false → Some Nil ≡ walk_cut (permits_of w) n s t c
-      walk-empty e = sym (walk-nil w n c size ms ns (sizes-are w ready n known) h s t aim (to_lead there) (λ p. let q : d ≡ true = passes.1 (subst (λ (f : Net). PassesFull f ms ns s t) (sym same) p) in cc))
+      walk-empty e = sym (walk-nil w n c s ms ns net h t aim leading exact (to_lead there) (λ p. let q : d ≡ true = common.1 p in cc))
 
 pub walk-any : (k : NetPermits) (n : ℕ) (s : Spot) (t : Goal) (c : List ℕ) → t ≡ Any → Some (Walk n s t c) ≡ walk_cut k n s t c
 walk-any k n s t c e = rw e refl
@@ -221,38 +232,34 @@ walk_ready w n f t c r h =
 pub ready-walk : (w : Tables) (x : Tree) (n : ℕ) (f : SpotShown) (t : GoalShown) (c : List ℕ) → AreReadyTables w → x ≡ Walk n (spot_of f) (goal_of t) c → IsReady w x → IsReadyWalk w x n f t c
 ready-walk w x n f t c r e h = rw e (walk_ready w n f t c r (rw e at h))
 
--- which nodes can be passed, one more at a time
-pub passable-none : (w : Tables) (n : ℕ) (c : List ℕ) (a b : NodeSetValue) → HasNoNodes a → HasNoNodes b → ArePassable w n c 0 a.nodes b.nodes
-passable-none w n c a b f g = record { passed = λ m. (λ i. absurd (f m i), λ r. absurd (omega (arith, r.0))); full = λ m. (λ i. absurd (g m i), λ r. absurd (omega (arith, r.0))) }
+-- a node is allowed where permission leaves something of it
+pub node-allowed : (w : Tables) → AreReadyTables w → (n : ℕ) → n < net_count w → (c : List ℕ) (m : ℕ) → m < size_of (net_of w n) → IsIn m (allowed (permits_of w) n c) ↔ (some_kept ((permits_of w).kept n m c) ≡ true)
+node-allowed w ready n known c m l = (
+  λ i. (out_filter (λ j. some_kept ((permits_of w).kept n j c)) (nodes_of w n) m i).1,
+  λ e. in_filter (λ j. some_kept ((permits_of w).kept n j c)) (nodes_of w n) m ((nodes_in w n m).1 (omega (arith, sizes-are w ready n known))) e,
+)
 
-module _ (w : Tables) (ready : AreReadyTables w) (n : ℕ) (c : List ℕ) (known : n < net_count w) (m : ℕ) where
-  one_more : (test : ℕ → Bool) (ns new : List ℕ) (t : Bool) → test m ≡ t → ((j : ℕ) → IsIn j ns ↔ ((j < m) × (test j ≡ true))) → ((j : ℕ) → IsIn j new ↔ (IsIn j ns ⊎ ((j ≡ m) × (t ≡ true))))
-      → (j : ℕ) → IsIn j new ↔ ((j < m + 1) × (test j ≡ true))
-  one_more test ns new t e f g j = (to, from)
-    where
-      to : IsIn j new → (j < m + 1) × (test j ≡ true)
-      to i = elim ((g j).0 i) [
-        | inl l ↦ let r = (f j).0 l in (omega (arith, r.0), r.1)
-        | inr r ↦ (omega (arith, r.0), ap test r.0 ∙ (e ∙ r.1))
-      ]
+-- one node more is looked at
+module _ (w : Tables) (ready : AreReadyTables w) (n : ℕ) (known : n < net_count w) (c : List ℕ) (s : Spot) (g : Net) (same : g ≡ net_of w n) where
+  abbrev Passes : List ℕ → List ℕ → List ℕ → List ℕ → Type 0
+  Passes reached waits passed full = IsPassing (net_of w n) (allowed (permits_of w) n c) (λ m. (permits_of w).kept n m c) s reached waits passed full
 
-      from : (j < m + 1) × (test j ≡ true) → IsIn j new
-      from r = elim (split j r.0) [
-        | inl l ↦ (g j).1 (inl ((f j).1 (l, r.1)))
-        | inr q ↦ (g j).1 (inr (q, sym e ∙ (ap test (sym q) ∙ r.1)))
-      ]
-        where
-          split : (j : ℕ) → j < m + 1 → (j < m) ⊎ (j ≡ m)
-          split j l = grind arith
+  pub node-below : (reached : NodeSetValue) (waits rest passed full : List ℕ) (node : ℕ) → IsNet g → waits ≡ rest ++ node ∷ [] → Passes reached.nodes waits passed full → node < size_of (net_of w n)
+  node-below reached waits rest passed full node net is h = due_below (net_of w n) (allowed (permits_of w) n c) s reached waits rest node is h.search (subst IsNet same net)
 
-  pub passable-more : (ms ns new fresh : List ℕ) (o : Option Tree) → m < size_of (net_of w n) → permit (permits_of w) (only c) (node_of w n m) ≡ o → ArePassable w n c m ms ns
-      → ((j : ℕ) → IsIn j new ↔ (IsIn j ms ⊎ ((j ≡ m) × (some_kept o ≡ true)))) → ((j : ℕ) → IsIn j fresh ↔ (IsIn j ns ⊎ ((j ≡ m) × (is_full o ≡ true)))) → ArePassable w n c (m + 1) new fresh
-  passable-more ms ns new fresh o l e h f g =
-      let size : size_of (net_of w n) ≡ length (nodes_of w n) = sizes-are w ready n known in
-      let q : (permits_of w).kept n m c ≡ o = (node-is w ready n m known (omega arith)).kept c ∙ e in
-      record {
-        passed = one_more (λ j. some_kept ((permits_of w).kept n j c)) ms new (some_kept o) (ap some_kept q) h.passed f;
-        full = one_more (λ j. is_full ((permits_of w).kept n j c)) ns fresh (is_full o) (ap is_full q) h.full g;
-      }
+  pub passing-next : (node : ℕ) (left : Remnant) (was popped is : Traversal) (had has : Passable) → IsNet g → popped.reached ≡ was.reached → was.waiting.items ≡ popped.waiting.items ++ node ∷ [] → Says left (permit (permits_of w) (only c) (node_of w n node))
+      → HasVisited g node left popped had is has → had.passed.size ≡ size_of (net_of w n) → was.reached.size ≡ size_of (net_of w n) → Passes was.reached.nodes was.waiting.items had.passed.nodes had.full
+      → (has.passed.size ≡ size_of (net_of w n)) × (is.reached.size ≡ size_of (net_of w n)) × Passes is.reached.nodes is.waiting.items has.passed.nodes has.full
+  passing-next node left was popped is had has net reached waits says h size sized b =
+      let below : node < size_of (net_of w n) = node-below was.reached was.waiting.items popped.waiting.items had.passed.nodes had.full node net waits b in
+      let term = node-is w ready n node known (omega (arith, sizes-are w ready n known)) in
+      let told : Says left ((permits_of w).kept n node c) = subst (Says left) (sym (term.kept c)) says in
+      let before : Passes popped.reached.nodes (popped.waiting.items ++ node ∷ []) had.passed.nodes had.full =
+      subst (λ l. Passes popped.reached.nodes l had.passed.nodes had.full) waits (subst (λ (r : NodeSetValue). Passes r.nodes was.waiting.items had.passed.nodes had.full) (sym reached) b) in
+      let visited : HasVisited (net_of w n) node left popped had is has = subst (λ (f : Net). HasVisited f node left popped had is has) same h in (
+        h.size ∙ size,
+        h.reached ∙ (ap (λ (r : NodeSetValue). r.size) reached ∙ sized),
+        visited.passing (allowed (permits_of w) n c) (λ m. (permits_of w).kept n m c) s (node-allowed w ready n known c node below) told before,
+      )
 
-pub ruleset walks = (passable-none, node-is, sizes-are, walk-any)
+pub ruleset walks = (node-is, sizes-are, walk-any)

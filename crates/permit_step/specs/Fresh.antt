@@ -1,11 +1,10 @@
 -- Loops and walks as they begin.
 use Rattle.std.specs.Prelude.{ℕ, [], ◌∷◌, ◌≡◌, ◌<◌, ◌≤◌, ◌⊎◌, Option, Some, None}
-use Rattle.hmsc_graph.specs.Graphs.{Start, Goal, WalkThrough}
+use Rattle.hmsc_graph.specs.Graphs.{Start, Goal, To, End, Any, WalkThrough}
 use Rattle.chart_term.specs.NormalForms.{only, loop_of}
 use Rattle.chart_term.specs.Tables.{Tables, net_of, nodes_of}
 use Rattle.chart_term.specs.Terms.{Tree, Nil, Gap}
 use Rattle.chart_term.specs.TermMeanings.{UpTo}
-use Rattle.permit_step.specs.Passing.{IsAimed}
 use Rattle.chart_term.specs.Spreads.{touch}
 use Rattle.term_laws.specs.Permission.{permit, permits_of}
 
@@ -23,6 +22,12 @@ MayTurn lo (Some n) = (0 < n) × (lo ≤ n)
 abbrev pub MayNotTurn : ℕ → Option ℕ → Type 0
 MayNotTurn lo None = ⊥
 MayNotTurn lo (Some n) = (n ≡ 0) ⊎ (n < lo)
+
+-- a walk that isn't under way
+abbrev pub IsAimed : Goal → Type 0
+IsAimed (To m) = Unit {0}
+IsAimed End = Unit {0}
+IsAimed Any = ⊥
 
 -- no walk leads there from the start
 pub record IsUnreached (w : Tables) (n : ℕ) (t : Goal) : Type 0 where

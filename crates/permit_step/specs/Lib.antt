@@ -3,6 +3,7 @@ pub mod RowEnds
 pub mod Ready
 pub mod ReadyLaws
 pub mod Passing
+pub mod Remnants
 pub mod Endings
 pub mod Fresh
 pub mod Children

@@ -1,30 +1,36 @@
--- Which nodes of a net a walk can pass, and whether one of them leaves more than the empty pattern.
-use Rattle.std.specs.Prelude.{ℕ, Bool, true, false, List, ◌≡◌, ◌<◌, ◌↔◌, not, Option, Some, None}
-use Rattle.hmsc_graph.specs.Graphs.{Net, Spot, At, Goal, To, End, Any, WalkThrough}
+-- Serves private contracts alone.
+-- Which nodes of a net a walk reaches and can pass, and whether one of them leaves more than the empty pattern.
+use Rattle.std.specs.Prelude.{ℕ, true, List, [], ◌∷◌, ◌++◌, ◌≡◌, ◌≤◌, ◌+◌, ◌↔◌, ◌⊎◌, Option, length}
+use Rattle.hmsc_graph.specs.Graphs.{Net, Spot, To, WalkThrough}
+use Rattle.hmsc_graph.specs.Searches.{IsSearch, missing}
+use Rattle.hmsc_graph.specs.declared.search.Traversal.{Traversal}
 use Rattle.msc_base.specs.Lists.{IsIn}
-use Rattle.hmsc_graph.specs.Walks.{Leads}
-use Rattle.chart_term.specs.NormalForms.{is_nil, some_kept}
-use Rattle.chart_term.specs.Tables.{Tables}
+use Rattle.chart_term.specs.NormalForms.{some_kept}
 use Rattle.chart_term.specs.Terms.{Tree}
-use Rattle.term_laws.specs.Permission.{permits_of}
+use Rattle.permit_step.specs.Remnants.{is_full, Says}
+use Rattle.permit_step.specs.declared.passing.Passable.{Passable}
+use Rattle.permit_step.specs.declared.remnant.Remnant.{Remnant}
 
--- permission leaves more than the empty pattern
-abbrev pub is_full : Option Tree → Bool
-is_full None = false
-is_full (Some x) = not (is_nil (Some x))
+-- the allowed nodes that a walk through allowed nodes reaches, and those of them that leave more than the empty pattern
+pub record ArePassable (g : Net) (allowed : List ℕ) (kept : ℕ → Option Tree) (from : Spot) (passed full : List ℕ) : Type 0 where
+  pub passes : (m : ℕ) → IsIn m passed ↔ (WalkThrough g allowed from (To m) × IsIn m allowed)
+  pub fills : (m : ℕ) → IsIn m full ↔ (IsIn m passed × (is_full (kept m) ≡ true))
 
--- of the nodes below this one, those that can be passed where nothing may happen at these instances, and those that leave more
--- than the empty pattern then
-pub record ArePassable (w : Tables) (n : ℕ) (c : List ℕ) (top : ℕ) (ms ns : List ℕ) : Type 0 where
-  pub passed : (m : ℕ) → IsIn m ms ↔ ((m < top) × (some_kept ((permits_of w).kept n m c) ≡ true))
-  pub full : (m : ℕ) → IsIn m ns ↔ ((m < top) × (is_full ((permits_of w).kept n m c) ≡ true))
+-- a search for them has come so far: of the nodes that are reached and don't wait it has all
+pub record IsPassing (g : Net) (allowed : List ℕ) (kept : ℕ → Option Tree) (from : Spot) (reached waits passed full : List ℕ) : Type 0 where
+  pub search : IsSearch g allowed from reached waits
+  pub passes : (m : ℕ) → IsIn m passed → IsIn m reached × IsIn m allowed
+  pub fills : (m : ℕ) → IsIn m full → IsIn m passed × (is_full (kept m) ≡ true)
+  pub asked : (m : ℕ) → IsIn m reached → IsIn m waits ⊎ (IsIn m allowed → IsIn m passed × (is_full (kept m) ≡ true → IsIn m full))
 
--- a walk that leads there, all of whose inner nodes can be passed, passes a full one
-abbrev pub PassesFull : Net → List ℕ → List ℕ → Spot → Goal → Type 0
-PassesFull g passed full s t = (m : ℕ) × IsIn m full × WalkThrough g passed s (To m) × Leads g passed (At m) t
+-- the search has looked at one node more, where permission leaves this of its term
+pub record HasVisited (g : Net) (node : ℕ) (left : Remnant) (was : Traversal) (had : Passable) (is : Traversal) (has : Passable) : Type 0 where
+  pub size : has.passed.size ≡ had.passed.size
+  pub reached : is.reached.size ≡ was.reached.size
+  pub work : missing is.reached.nodes is.reached.size + length is.waiting.items ≤ missing was.reached.nodes was.reached.size + length was.waiting.items
+  pub passing : (allowed : List ℕ) (kept : ℕ → Option Tree) (from : Spot) → (IsIn node allowed ↔ (some_kept (kept node) ≡ true)) → Says left (kept node)
+      → IsPassing g allowed kept from was.reached.nodes (was.waiting.items ++ node ∷ []) had.passed.nodes had.full → IsPassing g allowed kept from is.reached.nodes is.waiting.items has.passed.nodes has.full
 
--- a walk that isn't under way
-abbrev pub IsAimed : Goal → Type 0
-IsAimed (To m) = Unit {0}
-IsAimed End = Unit {0}
-IsAimed Any = ⊥
+-- a number stands in both lists
+abbrev pub HaveCommon : List ℕ → List ℕ → Type 0
+HaveCommon ms ns = (m : ℕ) × IsIn m ms × IsIn m ns

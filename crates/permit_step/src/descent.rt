@@ -15,6 +15,7 @@ ghost use Rattle.permit_step.specs.Searches.{IsNext, IsTaken, child_count, is_ga
 ghost use Rattle.permit_step.specs.Skips.{IsBelowTie, IsChildOr, IsNextPart, IsSkip};
 
 use crate::ascent::Taken;
+use crate::asking::ask_term;
 use crate::blocks::widened;
 use crate::parts::{LoopParts, WalkParts};
 use crate::permission::permit;
@@ -162,8 +163,8 @@ fn blocked(
     match parts.at(from - 1) {
         RowPart::Gap(_) => Ok(Block::empty(alloc)),
         RowPart::Turn(turn) => {
-            let left = permit(alloc, nets, turn, &met.at)?;
-            if !is_none(&left) {
+            let left = ask_term(alloc, nets, turn, &met.at)?;
+            if !left.fails() {
                 return Ok(Block::empty(alloc));
             }
             let skip = met.at.copy(alloc)?;
@@ -177,16 +178,6 @@ fn is_alone(event: &Event) -> bool
     ensures { result ≡ true → event.now.also ≡ None }
 {
     match event.also {
-        None => true,
-        Some(_) => false,
-    }
-}
-
-/// Whether nothing is left.
-fn is_none(left: &Option<Term>) -> bool
-    ensures { result ≡ true → left.now ≡ None }
-{
-    match left {
         None => true,
         Some(_) => false,
     }

@@ -6,6 +6,7 @@
 
 mod all_after;
 mod ascent;
+mod asking;
 mod blocks;
 mod descent;
 mod finishes;
@@ -17,6 +18,7 @@ mod loops;
 mod parts;
 mod passing;
 mod permission;
+mod remnant;
 mod row_end;
 mod search;
 mod successors;

@@ -1,19 +1,19 @@
-//! Which nodes of a net permission lets a walk pass, and whether such a walk leaves something: for `permission`.
+//! Which nodes of a net a walk reaches and can pass, and whether one of them leaves something: for `permission`.
 
-ghost use Rattle.std.specs.Prelude.{◌≡◌, ◌<◌, ◌⊎◌, ◌↔◌, ℕ, IfOk, IsTrue, true, false};
-ghost use Rattle.chart_term.specs.NormalForms.{some_kept};
-ghost use Rattle.hmsc_graph.specs.Graphs.{Any};
+ghost use Rattle.std.specs.Prelude.{◌≡◌, ◌<◌, ◌⊎◌, ◌↔◌, [], ℕ, IfOk, OnOk, IsTrue, true, false};
+ghost use Rattle.hmsc_graph.specs.Graphs.{Any, At, behind};
 ghost use Rattle.msc_base.specs.Lists.{IsIn};
 ghost use Rattle.hmsc_graph.specs.Nets.{size_of};
-ghost use Rattle.hmsc_graph.specs.Spots.{spot_of, goal_of, IsSpotBelow, IsGoalBelow};
+ghost use Rattle.hmsc_graph.specs.Searches.{HasEntered};
+ghost use Rattle.hmsc_graph.specs.Spots.{goal_of};
 ghost use Rattle.bit_sets.specs.NodeSets.{HasNoNodes};
-ghost use Rattle.permit_step.specs.Passing.{is_full, IsAimed, PassesFull};
+ghost use Rattle.permit_step.specs.Fresh.{IsAimed};
+ghost use Rattle.permit_step.specs.Passing.{HasVisited, HaveCommon};
 
-use crate::row_end::is_empty;
+use crate::remnant::Remnant;
 use bit_sets::NodeSet;
-use chart_term::Term;
-use hmsc_graph::{Goal, Net, Spot, has_walk, reach};
-use msc_base::NoMemory;
+use hmsc_graph::{Goal, Net, Traversal};
+use msc_base::{NoMemory, NumberList};
 use std::alloc::Global;
 
 /// Whether the walk is to lead to a node or to an end.
@@ -28,69 +28,78 @@ pub(crate) fn is_aimed(to: Goal) -> bool
     }
 }
 
-/// Which nodes of a net can be passed.
+/// Which of the nodes that a walk reaches it can pass.
 #[derive(Drop)]
 pub(crate) struct Passable {
     /// The nodes whose terms permission doesn't fail for.
     pub(crate) passed: NodeSet,
     /// Those of them that leave more than the empty pattern.
-    pub(crate) full: NodeSet,
+    pub(crate) full: NumberList,
 }
 
 impl Passable {
-    /// No node. It fails only for want of memory.
+    /// No node, of so many. It fails only for want of memory.
     pub(crate) fn none(alloc: Global, size: u32) -> Result<Passable, NoMemory>
         ensures size { IfOk result (λ nodes. nodes.passed.size ≡ size) }
-        ensures full_size { IfOk result (λ nodes. nodes.full.size ≡ size) }
         ensures passed { IfOk result (λ nodes. HasNoNodes nodes.passed) }
-        ensures full { IfOk result (λ nodes. HasNoNodes nodes.full) }
+        ensures full { IfOk result (λ nodes. nodes.full ≡ []) }
     {
         let passed = NodeSet::empty(alloc, size)?;
-        let full = NodeSet::empty(alloc, size)?;
+        let full = NumberList::new(alloc);
         Ok(Passable { passed, full })
     }
+}
 
-    /// Adds the node of which permission leaves this.
-    pub(crate) fn add(&mut self, node: u32, left: &Option<Term>)
-        requires passed_size { node < self.old.passed.size }
-        requires full_size { node < self.old.full.size }
-        ensures size { self.new.passed.size ≡ self.old.passed.size }
-        ensures size_full { self.new.full.size ≡ self.old.full.size }
-        ensures passed { (n : ℕ) → IsIn n self.new.passed.nodes ↔ (IsIn n self.old.passed.nodes ⊎ ((n ≡ node) × (some_kept left.now ≡ true))) }
-        ensures full { (n : ℕ) → IsIn n self.new.full.nodes ↔ (IsIn n self.old.full.nodes ⊎ ((n ≡ node) × (is_full left.now ≡ true))) }
-    {
-        if let Some(left) = left {
-            self.passed.add(node);
-            if !is_empty(left) {
-                self.full.add(node);
-            }
+/// Passes the node: it can be passed, and the search goes on behind it.
+fn pass(
+    search: &mut Traversal,
+    nodes: &mut Passable,
+    graph: &Net,
+    node: u32,
+) -> Result<(), NoMemory>
+    requires search { search.old.reached.size ≡ size_of graph.now }
+    requires nodes { nodes.old.passed.size ≡ size_of graph.now }
+    requires node { node < size_of graph.now }
+    ensures size { nodes.new.passed.size ≡ nodes.old.passed.size }
+    ensures passed { (n : ℕ) → IsIn n nodes.new.passed.nodes ↔ (IsIn n nodes.old.passed.nodes ⊎ (n ≡ node)) }
+    ensures full { nodes.new.full ≡ nodes.old.full }
+    ensures entered { OnOk result (HasEntered (behind graph.now (At node)) search.old.reached search.old.waiting.items search.new.reached search.new.waiting.items) }
+{
+    nodes.passed.add(node);
+    search.pass(graph, node)
+}
+
+/// Looks at a node that is reached, where permission leaves this of its term.
+pub(crate) fn visit(
+    search: &mut Traversal,
+    nodes: &mut Passable,
+    graph: &Net,
+    node: u32,
+    left: Remnant,
+) -> Result<(), NoMemory>
+    requires search { search.old.reached.size ≡ size_of graph.now }
+    requires nodes { nodes.old.passed.size ≡ size_of graph.now }
+    requires node { node < size_of graph.now }
+    ensures { OnOk result (HasVisited graph.now node left search.old nodes.old search.new nodes.new) }
+{
+    match left {
+        Remnant::Fails => Ok(()),
+        Remnant::Empty => pass(search, nodes, graph, node),
+        Remnant::More => {
+            nodes.full.push(node)?;
+            pass(search, nodes, graph, node)
         }
     }
 }
 
-/// Whether a walk that leads there passes a node that leaves more than the empty pattern.
-///
-/// It fails only for want of memory.
-pub(crate) fn passes_full(
-    alloc: Global,
-    net: &Net,
-    from: Spot,
-    to: Goal,
-    nodes: &Passable,
-) -> Result<bool, NoMemory>
-    requires passed { nodes.now.passed.size ≡ size_of net.now }
-    requires from { IsSpotBelow (size_of net.now) from }
-    requires to { IsGoalBelow (size_of net.now) to }
-    ensures { IfOk result (λ passes. IsTrue passes ↔ PassesFull net.now nodes.now.passed.nodes nodes.now.full.nodes (spot_of from) (goal_of to)) }
+/// Whether the set has one of the nodes. It takes no memory.
+pub(crate) fn has_one_of(set: &NodeSet, nodes: &[u32]) -> bool
+    ensures { IsTrue result ↔ HaveCommon nodes.now set.now.nodes }
 {
-    let reached = reach(alloc, net, from, &nodes.passed)?;
-    for node in 0..net.size() {
-        if nodes.full.has(node)
-            && reached.has(node)
-            && has_walk(alloc, net, Spot::Node(node), to, &nodes.passed)?
-        {
-            return Ok(true);
+    for node in nodes {
+        if set.has(*node) {
+            return true;
         }
     }
-    Ok(false)
+    false
 }

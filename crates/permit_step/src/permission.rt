@@ -11,22 +11,22 @@ ghost use Rattle.hmsc_graph.specs.Nets.{size_of};
 ghost use Rattle.hmsc_graph.specs.Spots.{spot_of, goal_of, IsSpotBelow, IsGoalBelow};
 ghost use Rattle.term_laws.specs.Normality.{IsNotNil, IsPartOf, IsSet};
 ghost use Rattle.permit_step.specs.Lefts.{left_of, mode_of, opened_left, ArePartsLeft};
-ghost use Rattle.permit_step.specs.Passing.{ArePassable};
 ghost use Rattle.term_laws.specs.Permission.{permits_of, permit as permitted};
 ghost use Rattle.permit_step.specs.Ready.{IsReady, AreReadyTables, IsReadyPart, AreReadyParts, IsReadyLoop};
 ghost use Rattle.permit_step.specs.RowRests.{open_before, keep_part, keep_parts};
 ghost use Rattle.term_laws.specs.Values.{block_of};
 
+use crate::asking::{ask_term, ask_walk};
 use crate::blocks::widened;
 use crate::left::{Joint, Left, PartsLeft, both, opened_after, whole};
 use crate::loops::loop_end;
 use crate::parts::{LoopBlock, LoopParts, WalkParts};
-use crate::passing::{Passable, is_aimed, passes_full};
-use crate::row_end::{RowEnd, is_empty};
+use crate::remnant::Remnant;
+use crate::row_end::RowEnd;
 use crate::ties::retied;
 use bit_sets::Block;
 use chart_term::{Look, PartList, PartLook, RowPart, Term, TermList, choice, par_of, seq_of};
-use hmsc_graph::{Goal, Spot, has_walk};
+use hmsc_graph::{Goal, Spot};
 use msc_base::NoMemory;
 use std::alloc::Global;
 use term_tables::Nets;
@@ -358,8 +358,7 @@ fn keep_part(
 }
 
 /// Puts a gap in front of the row's end, where further turns may begin and the gap leaves something of the operand.
-#[cycle(permit)]
-#[tactic(auto, using(crate::proofs::PermitRows::rows))]
+
 fn put_gap(
     alloc: Global,
     nets: &Nets,
@@ -377,22 +376,17 @@ fn put_gap(
     if upper == Some(0) {
         return Ok(());
     }
-    let free = match permit_term(alloc, nets, body, &block)? {
-        Left::Fails => return Ok(()),
-        Left::Unchanged => is_empty(body),
-        Left::Changed(left) => is_empty(&left),
-    };
-    if free {
-        end.drop_free_gap();
-        Ok(())
-    } else {
-        end.put_gap(alloc, block)
+    match ask_term(alloc, nets, body, &block)? {
+        Remnant::Fails => Ok(()),
+        Remnant::Empty => {
+            end.drop_free_gap();
+            Ok(())
+        }
+        Remnant::More => end.put_gap(alloc, block),
     }
 }
 
 /// The walk in normal form, with the instances of another block besides its own.
-#[cycle(permit)]
-#[tactic(auto, using(crate::proofs::PermitWalks::walks))]
 pub(crate) fn widened_walk(
     alloc: Global,
     nets: &Nets,
@@ -412,8 +406,6 @@ pub(crate) fn widened_walk(
 }
 
 /// The walk in normal form, whose block is one of the net's instances.
-#[cycle(permit)]
-#[tactic(auto, using(crate::proofs::PermitWalks::walks))]
 pub(crate) fn walk(
     alloc: Global,
     nets: &Nets,
@@ -429,38 +421,9 @@ pub(crate) fn walk(
     requires block { block_of block ≡ only block.instances }
     ensures { IfOk result (λ left. left ≡ walk_cut (permits_of nets.now.tables) net (spot_of from) (goal_of to) block.instances) }
 {
-    if !is_aimed(to) {
-        return Ok(Some(Term::walk_of(alloc, net, from, to, block)?));
+    match ask_walk(alloc, nets, net, from, to, &block)? {
+        Remnant::Fails => Ok(None),
+        Remnant::Empty => Ok(Some(Term::nil(alloc)?)),
+        Remnant::More => Ok(Some(Term::walk_of(alloc, net, from, to, block)?)),
     }
-    let graph = nets.net(net);
-    let nodes = passable(alloc, nets, net, &block)?;
-    if !has_walk(alloc, graph, from, to, &nodes.passed)? {
-        return Ok(None);
-    }
-    if passes_full(alloc, graph, from, to, &nodes)? {
-        Ok(Some(Term::walk_of(alloc, net, from, to, block)?))
-    } else {
-        Ok(Some(Term::nil(alloc)?))
-    }
-}
-
-/// The nodes of the net that can be passed where nothing may happen at the instances of the block.
-#[cycle(permit)]
-#[tactic(auto, using(crate::proofs::PermitWalks::walks))]
-fn passable(alloc: Global, nets: &Nets, net: u32, block: &Block) -> Result<Passable, NoMemory>
-    requires tables { AreReadyTables nets.now.tables }
-    requires net { net < net_count nets.now.tables }
-    requires block { block_of block.now ≡ only block.now.instances }
-    ensures size { IfOk result (λ nodes. nodes.passed.size ≡ size_of (net_of nets.now.tables net)) }
-    ensures nodes { IfOk result (λ nodes. ArePassable nets.now.tables net block.now.instances (size_of (net_of nets.now.tables net)) nodes.passed.nodes nodes.full.nodes) }
-{
-    let size = nets.net(net).size();
-    let mut nodes = Passable::none(alloc, size)?;
-    for node in 0..size {
-        let term = nets.node(net, node);
-        let left = permit_term(alloc, nets, term, block)?;
-        let left = whole(alloc, term, left)?;
-        nodes.add(node, &left);
-    }
-    Ok(nodes)
 }

@@ -1,3 +1,4 @@
+-- Serves private contracts alone.
 -- The events of a plain chart of many statements. It serves the contracts here alone.
 use Rattle.std.specs.Prelude.{ℕ, List, ◌≡◌, length, map}
 use Rattle.chart_term.specs.Terms.{TermEvent, Tree, Event}

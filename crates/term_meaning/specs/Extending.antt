@@ -1,3 +1,4 @@
+-- Serves private contracts alone.
 -- Terms mean their unfoldings over the tables of now and over all later ones.
 use Rattle.std.specs.Prelude.{ℕ, Bool, List, ◌∷◌}
 use Rattle.msc_unfolding.specs.Unfoldings.{Unfolding}

@@ -1,3 +1,4 @@
+-- Serves private contracts alone.
 -- The terms of a list of items, and the unfoldings of the items one after another or side by side.
 use Rattle.std.specs.Prelude.{ℕ, Bool, List, [], ◌∷◌, ◌++◌}
 use Rattle.msc_base.specs.Patterns.{Mode}

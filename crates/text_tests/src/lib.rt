@@ -5,6 +5,8 @@
 #[cfg(test)]
 mod events;
 #[cfg(test)]
+mod levels;
+#[cfg(test)]
 mod ordering;
 #[cfg(test)]
 mod places;

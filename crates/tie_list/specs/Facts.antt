@@ -1,4 +1,3 @@
--- Serves private contracts alone.
 -- Bounds of the ends of pairs.
 use Rattle.std.specs.Prelude.{◌≤◌, List, [], ◌∷◌}
 use Rattle.msc_base.specs.declared.label.Pair.{Pair}

@@ -1,13 +1,14 @@
 use Rattle.std.proofs.Common.{◌≡◌, take, map, true}
 use Rattle.std.specs.List.{list_all}
 use Rattle.serde_json.specs.View.{view}
-use Rattle.msc_expand.specs.declared.plain_chart.PlainChart.{PlainChart}
+use Rattle.msc_meaning.specs.Views.{entry_view}
+use Rattle.msc_meaning.specs.declared.body.ChartEntry.{ChartEntry}
 use Rattle.judge_report.specs.Lists.{chart_data}
 use Rattle.judge_report.specs.Texts.{is_plain}
 use Rattle.judge_report.proofs.lists.chart_values.Given as goal
 
 abbrev pub invariant-loop-chart : goal.invariant-loop-chart
 invariant-loop-chart l = record {
-  values : map view l.values.items ≡ map chart_data (take l.chart-index l.charts);
-  plain : list_all (λ (x : PlainChart). is_plain x.name) (take l.chart-index l.charts) ≡ true;
+  values : map view l.values.items ≡ map (λ x. chart_data (entry_view x)) (take l.chart-index l.charts);
+  plain : list_all (λ (x : ChartEntry). is_plain x.name) (take l.chart-index l.charts) ≡ true;
 }

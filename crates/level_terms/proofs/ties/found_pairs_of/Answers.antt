@@ -1,6 +1,6 @@
 use Rattle.std.specs.BTreeMap.{get}
 use Rattle.std.specs.Ordering.{nat_cmp}
-use Rattle.level_terms.proofs.FoundNumbers.{found_more}
+use Rattle.level_terms.proofs.TieFacts.{found_more}
 use Rattle.level_terms.proofs.ties.found_pairs_of.Goals as goal
 
 pub loop-index-preserved : goal.loop-index-preserved

@@ -1,7 +1,8 @@
-use Rattle.std.proofs.Common.{◌≡◌, ◌<◌, rules, subst, sym, ap, ◌∙◌, IfOk, Some, None, List, ℕ, option_copied}
+use Rattle.std.proofs.Common.{◌≡◌, ◌<◌, rules, subst, sym, ap, ◌∙◌, IfOk, Some, None, option_copied, option_map}
 use Rattle.msc_cmd.specs.declared.document.Document.TheVariants.{Charts}
 use Rattle.msc_cmd.specs.declared.opening.Opened.TheVariants.{Told}
-use Rattle.msc_cmd.specs.Documents.{chart_named}
+use Rattle.msc_meaning.specs.Tables.{chart_at}
+use Rattle.msc_meaning.specs.Views.{entry_view, table_view}
 use Rattle.msc_cmd.specs.Intakes.{IsDocumentOf}
 use Rattle.msc_cmd.specs.Openings.{IsOpened}
 use Rattle.msc_cmd.specs.Outcomes.{IfTold, IsTheOne, EntryOutcome, JudgeAnswer}
@@ -16,25 +17,24 @@ returns-in-Told-clause-outcome g c =
 pub returns-clause-outcome : goal.returns-clause-outcome
 returns-clause-outcome g c =
     let h : IsDocumentOf (g.S.Shelf.files c.args.shelf.now) c.args.document.now (Charts c.in-Accepted.accepted) = search rules in
-    let found : option_copied c.chart_of.result ≡ chart_named c.bytes.result.now c.in-Accepted.accepted = c.chart_of.ensures.named in
-    let some : Some c.in-Some.chart.now ≡ option_copied c.chart_of.result = search rules in
-    let named : chart_named c.args.name.now c.in-Accepted.accepted ≡ Some c.in-Some.chart.now = sym (some ∙ found ∙ ap (λ (n : List ℕ). chart_named n c.in-Accepted.accepted) c.bytes.ensures) in
-    let judged : IfOk c.judge_log.result (λ x. x.status < 7 → IfTold (g.S.Shelf.files c.args.shelf.now) (λ f. IsTheOne (EntryOutcome c.args.style.form c.args.style.budget c.args.style.json f c.in-Some.chart.now c.args.log.now) x.status x.text)) =
-    subst (λ files. IfOk c.judge_log.result (λ x. x.status < 7 → IfTold files (λ f. IsTheOne (EntryOutcome c.args.style.form c.args.style.budget c.args.style.json f c.in-Some.chart.now c.args.log.now) x.status x.text))) c.open_document.ensures.files c.judge_log.ensures.outcome in
-    judged_told c.args.style.form c.args.style.budget c.args.style.json _ _ _ _ h.bytes c.in-Accepted.accepted c.in-Some.chart.now _ h.held h.is named judged
+    let found : option_map entry_view (option_copied c.chart_of.result) ≡ chart_at (table_view c.in-Accepted.accepted) c.bytes.result.now = c.chart_of.ensures.named in
+    let some : Some (entry_view c.in-Some.chart.now) ≡ option_map entry_view (option_copied c.chart_of.result) = search rules in
+    let named : chart_at (table_view c.in-Accepted.accepted) c.args.name.now ≡ Some (entry_view c.in-Some.chart.now) = sym (some ∙ found ∙ ap (chart_at (table_view c.in-Accepted.accepted)) c.bytes.ensures) in
+    let judged : IfOk c.judge_log.result (λ x. x.status < 7 → IfTold (g.S.Shelf.files c.args.shelf.now) (λ f. IsTheOne (EntryOutcome c.args.style.form c.args.style.budget c.args.style.json f (table_view c.in-Accepted.accepted) c.args.name.now c.args.log.now) x.status x.text)) =
+    subst (λ files. IfOk c.judge_log.result (λ x. x.status < 7 → IfTold files (λ f. IsTheOne (EntryOutcome c.args.style.form c.args.style.budget c.args.style.json f (table_view c.in-Accepted.accepted) c.args.name.now c.args.log.now) x.status x.text))) c.open_document.ensures.files (c.judge_log.ensures.outcome (table_view c.in-Accepted.accepted) c.args.name.now named) in
+    judged_told c.args.style.form c.args.style.budget c.args.style.json _ _ _ _ h.bytes (table_view c.in-Accepted.accepted) (entry_view c.in-Some.chart.now) _ h.held h.is named judged
 
 pub returns-clause-failed : goal.returns-clause-failed
 returns-clause-failed g c =
     let h : IsDocumentOf (g.S.Shelf.files c.args.shelf.now) c.args.document.now (Charts c.in-Accepted.accepted) = search rules in
-    let found : option_copied c.chart_of.result ≡ chart_named c.bytes.result.now c.in-Accepted.accepted = c.chart_of.ensures.named in
-    let some : Some c.in-Some.chart.now ≡ option_copied c.chart_of.result = search rules in
-    let named : chart_named c.args.name.now c.in-Accepted.accepted ≡ Some c.in-Some.chart.now = sym (some ∙ found ∙ ap (λ (n : List ℕ). chart_named n c.in-Accepted.accepted) c.bytes.ensures) in
-    log_failed c.args.style.json _ _ _ _ h.bytes c.in-Accepted.accepted c.in-Some.chart.now _ _ _ _ _ _ h.held h.is.is named c.open_document.ensures.later c.judge_log.ensures.failed c.judge_log.ensures.text
+    let found : option_map entry_view (option_copied c.chart_of.result) ≡ chart_at (table_view c.in-Accepted.accepted) c.bytes.result.now = c.chart_of.ensures.named in
+    let some : Some (entry_view c.in-Some.chart.now) ≡ option_map entry_view (option_copied c.chart_of.result) = search rules in
+    let named : chart_at (table_view c.in-Accepted.accepted) c.args.name.now ≡ Some (entry_view c.in-Some.chart.now) = sym (some ∙ found ∙ ap (chart_at (table_view c.in-Accepted.accepted)) c.bytes.ensures) in
+    log_failed c.args.style.json _ _ _ _ h.bytes (table_view c.in-Accepted.accepted) (entry_view c.in-Some.chart.now) _ _ _ _ _ _ h.held h.is.is named c.open_document.ensures.later c.judge_log.ensures.failed c.judge_log.ensures.text
 
 pub returns-in_default-clause-outcome : goal.returns-in_default-clause-outcome
 returns-in_default-clause-outcome g c =
     let h : IsDocumentOf (g.S.Shelf.files c.args.shelf.now) c.args.document.now (Charts c.in-Accepted.accepted) = search rules in
-    let none : None ≡ option_copied c.chart_of.result = search rules in
-    let lacks : chart_named c.args.name.now c.in-Accepted.accepted ≡ None =
-    sym (none ∙ c.chart_of.ensures.named ∙ ap (λ (n : List ℕ). chart_named n c.in-Accepted.accepted) c.bytes.ensures) in
-    no_chart_told c.args.style.form c.args.style.budget c.args.style.json _ _ _ _ h.bytes c.in-Accepted.accepted _ h.held h.is lacks c.make_reply.ensures.status c.make_reply.ensures.text
+    let none : None ≡ option_map entry_view (option_copied c.chart_of.result) = search rules in
+    let lacks : chart_at (table_view c.in-Accepted.accepted) c.args.name.now ≡ None = sym (none ∙ c.chart_of.ensures.named ∙ ap (chart_at (table_view c.in-Accepted.accepted)) c.bytes.ensures) in
+    no_chart_told c.args.style.form c.args.style.budget c.args.style.json _ _ _ _ h.bytes (table_view c.in-Accepted.accepted) _ h.held h.is lacks c.make_reply.ensures.status c.make_reply.ensures.text

@@ -9,7 +9,8 @@ use Rattle.msc_cmd.proofs.command.run.Goals as goal
 pub returns-in-Ok-emit-clause-without : goal.returns-in-Ok-emit-clause-without
 returns-in-Ok-emit-clause-without g c =
     let told : c.in-Ok.reply.status < 7 → IfTold (g.S.Shelf.files c.args.shelf.now) (λ f. IsTheOne (IsOutcome c.args.words.now f) c.in-Ok.reply.status c.in-Ok.reply.text) = search rules in
-    without_told (g.S.Shelf.files c.args.shelf.now) c.args.words.now c.in-Ok.reply.status c.in-Ok.reply.text told
+    let small : c.in-Ok.reply.status ≤ 7 = search rules in
+    without_told (g.S.Shelf.files c.args.shelf.now) c.args.words.now c.in-Ok.reply.status c.in-Ok.reply.text small told
 
 pub returns-in-Ok-clause-part : goal.returns-in-Ok-clause-part
 returns-in-Ok-clause-part g c =
@@ -23,4 +24,5 @@ pub returns-in-Ok-emit-clause-outcome : goal.returns-in-Ok-emit-clause-outcome
 returns-in-Ok-emit-clause-outcome g c =
     let told : c.in-Ok.reply.status < 7 → IfTold (g.S.Shelf.files c.args.shelf.now) (λ f. IsTheOne (IsOutcome c.args.words.now f) c.in-Ok.reply.status c.in-Ok.reply.text) = search rules in
     let wrote : Appends (g.O.Sink.written c.args.out.now) (g.O.Sink.written c.emit.new.out) c.in-Ok.reply.text = search rules in
-    outcome_told _ _ _ _ _ _ told wrote
+    let small : c.in-Ok.reply.status ≤ 7 = search rules in
+    outcome_told _ _ _ _ _ _ told wrote small

@@ -1,5 +1,5 @@
 use Rattle.std.proofs.Common.{rules, IsErrOf}
-use Rattle.msc_expand.specs.declared.accepted.DocFault.TheVariants.{Refused}
+use Rattle.msc_acceptance.specs.declared.accepted.DocFault.TheVariants.{Refused}
 use Rattle.msc_cmd.proofs.document.come_to.Goals as goal
 
 pub returns-in-Err-Refused : goal.returns-in-Err-Refused

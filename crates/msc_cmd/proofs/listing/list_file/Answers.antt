@@ -1,6 +1,7 @@
 use Rattle.std.proofs.Common.{rules}
 use Rattle.msc_cmd.specs.declared.document.Document.TheVariants.{Charts}
 use Rattle.msc_cmd.specs.declared.opening.Opened.TheVariants.{Told}
+use Rattle.msc_meaning.specs.Views.{table_view}
 use Rattle.msc_cmd.specs.Intakes.{IsDocumentOf}
 use Rattle.msc_cmd.specs.Openings.{IsOpened}
 use Rattle.msc_cmd.specs.Outcomes.{ListAnswer}
@@ -10,7 +11,7 @@ use Rattle.msc_cmd.proofs.listing.list_file.Goals as goal
 pub returns-in-Accepted-clause-outcome : goal.returns-in-Accepted-clause-outcome
 returns-in-Accepted-clause-outcome g c =
     let h : IsDocumentOf (g.S.Shelf.files c.args.shelf.now) c.args.document.now (Charts c.in-Accepted.accepted) = search rules in
-    charts_told c.args.json _ _ h.bytes (ListAnswer c.args.json c.args.chart.now) c.in-Accepted.accepted _ h.held h.is c.list_accepted.ensures.outcome
+    charts_told c.args.json _ _ h.bytes (ListAnswer c.args.json c.args.chart.now) (table_view c.in-Accepted.accepted) _ h.held h.is c.list_accepted.ensures.outcome
 
 pub returns-in-Told-clause-outcome : goal.returns-in-Told-clause-outcome
 returns-in-Told-clause-outcome g c =

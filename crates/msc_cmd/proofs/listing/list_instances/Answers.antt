@@ -1,25 +1,22 @@
-use Rattle.std.proofs.Common.{◌≡◌, ◌∙◌, ap, refl, rules, sym, position, Some, None, List, ℕ, slice_get, map}
-use Rattle.msc_expand.specs.Listing.{is_named, listed_of}
+use Rattle.std.proofs.Common.{◌≡◌, ◌∙◌, ap, refl, rules, sym, Some, None, option_copied, option_map}
+use Rattle.msc_acceptance.specs.Listing.{listed_of}
+use Rattle.msc_meaning.specs.Tables.{chart_at}
+use Rattle.msc_meaning.specs.Views.{entry_view, table_view}
 use Rattle.judge_report.specs.Lists.{instance_list}
 use Rattle.msc_cmd.specs.Outcomes.{Says}
-use Rattle.msc_cmd.proofs.Listings.{instances_told, lacking_told, place_within}
+use Rattle.msc_cmd.proofs.Listings.{instances_told, lacking_told}
 use Rattle.msc_cmd.proofs.listing.list_instances.Goals as goal
-
-pub listed-requires : goal.listed-requires
-listed-requires c =
-    let there : position (is_named c.bytes.result.now) c.args.accepted.now ≡ Some c.in-Some.chart = search rules in
-    place_within (is_named c.bytes.result.now) c.args.accepted.now c.in-Some.chart there
 
 pub returns-clause-outcome : goal.returns-clause-outcome
 returns-clause-outcome c =
-    let there : position (is_named c.bytes.result.now) c.args.accepted.now ≡ Some c.in-Some.chart = search rules in
-    let named : position (is_named c.args.name.now) c.args.accepted.now ≡ Some c.in-Some.chart = ap (λ (n : List ℕ). position (is_named n) c.args.accepted.now) (sym c.bytes.ensures) ∙ there in
-    let listed : slice_get (map listed_of c.args.accepted.now) c.in-Some.chart ≡ Some c.in_ok-listed.listed = search rules in
+    let some : Some (entry_view c.in-Some.chart.now) ≡ option_map entry_view (option_copied c.chart_named.result) = search rules in
+    let named : chart_at (table_view c.args.accepted.now) c.args.name.now ≡ Some (entry_view c.in-Some.chart.now) =
+    sym (some ∙ c.chart_named.ensures ∙ ap (chart_at (table_view c.args.accepted.now)) c.bytes.ensures) in
     let text : c.in_ok-text.text ≡ instance_list c.args.json c.in_ok-listed.listed = search rules in
-    instances_told c.args.json c.args.name.now c.args.accepted.now c.in-Some.chart c.in_ok-listed.listed _ named listed refl text
+    instances_told c.args.json c.args.name.now (table_view c.args.accepted.now) (entry_view c.in-Some.chart.now) c.in_ok-listed.listed _ named c.in_ok-listed.ensures refl text
 
 pub returns-in_default-clause-outcome : goal.returns-in_default-clause-outcome
 returns-in_default-clause-outcome c =
-    let there : position (is_named c.bytes.result.now) c.args.accepted.now ≡ None = search rules in
-    let named : position (is_named c.args.name.now) c.args.accepted.now ≡ None = ap (λ (n : List ℕ). position (is_named n) c.args.accepted.now) (sym c.bytes.ensures) ∙ there in
-    lacking_told c.args.json c.args.name.now c.args.accepted.now (λ chart. Says (instance_list c.args.json (listed_of chart))) _ named c.make_reply.ensures.status c.make_reply.ensures.text
+    let none : None ≡ option_map entry_view (option_copied c.chart_named.result) = search rules in
+    let lacks : chart_at (table_view c.args.accepted.now) c.args.name.now ≡ None = sym (none ∙ c.chart_named.ensures ∙ ap (chart_at (table_view c.args.accepted.now)) c.bytes.ensures) in
+    lacking_told c.args.json c.args.name.now (table_view c.args.accepted.now) (λ chart. Says (instance_list c.args.json (listed_of chart))) _ lacks c.make_reply.ensures.status c.make_reply.ensures.text

@@ -1,5 +1,6 @@
 use Rattle.std.proofs.Common.{◌≡◌, ◌≤◌, ◌∙◌, Option, Some, true, IfOk, arith, rules, sym, subst}
 use Rattle.outside.specs.Shelves.{Files, Opens}
+use Rattle.msc_meaning.specs.Views.{entry_view}
 use Rattle.msc_cmd.specs.LogJudging.{IsJudgedLog, IsStep}
 use Rattle.msc_cmd.specs.declared.log_reading.Judged.TheVariants.{Refused}
 use Rattle.msc_cmd.specs.declared.log_reading.Step.{Step}
@@ -19,30 +20,30 @@ loop-judge-init g c =
       begun = begun;
       last = last;
       later = later;
-      reading = opened c.args.chart.now c.args.form c.args.budget (g.S.Shelf.files c.start_entry.new.shelf) c.args.name.now (g.S.Shelf.rest c.start_entry.new.shelf) c.in_ok-judge.judge
+      reading = opened (entry_view c.args.chart.now) c.args.form c.args.budget (g.S.Shelf.files c.start_entry.new.shelf) c.args.name.now (g.S.Shelf.rest c.start_entry.new.shelf) c.in_ok-judge.judge
           (subst (λ (f : Option Files). Opens f c.args.name.now (g.S.Shelf.rest c.start_entry.new.shelf)) (sym files) opens) c.in_ok-judge.ensures;
     }
 
 pub loop-judge-smaller : goal.loop-judge-smaller
 loop-judge-smaller g c =
     let is : c.in_ok-take_more.field-0 ≡ More = search rules in
-    let step = subst (λ (s : Step). IsStep c.args.chart.now c.args.form c.args.budget (g.S.Shelf.files c.take_more.new.shelf) c.args.name.now (g.S.Shelf.rest c.take_more.new.shelf) c.loop-judge.judge.reader.count c.take_more.new.judge s) is
-    (c.in_ok-take_more.ensures.step c.args.chart.now c.args.form c.args.budget c.loop-judge.invariant.reading) in
+    let step = subst (λ (s : Step). IsStep (entry_view c.args.chart.now) c.args.form c.args.budget (g.S.Shelf.files c.take_more.new.shelf) c.args.name.now (g.S.Shelf.rest c.take_more.new.shelf) c.loop-judge.judge.reader.count c.take_more.new.judge s) is
+    (c.in_ok-take_more.ensures.step (entry_view c.args.chart.now) c.args.form c.args.budget c.loop-judge.invariant.reading) in
     omega (arith, step.0, step.1)
 
 pub returns-in-End-clause-log : goal.returns-in-End-clause-log
 returns-in-End-clause-log g c =
     let is : c.in_ok-take_more.field-0 ≡ End = search rules in
-    let step = subst (λ (s : Step). IsStep c.args.chart.now c.args.form c.args.budget (g.S.Shelf.files c.take_more.new.shelf) c.args.name.now (g.S.Shelf.rest c.take_more.new.shelf) c.loop-judge.judge.reader.count c.take_more.new.judge s) is
-    (c.in_ok-take_more.ensures.step c.args.chart.now c.args.form c.args.budget c.loop-judge.invariant.reading) in
+    let step = subst (λ (s : Step). IsStep (entry_view c.args.chart.now) c.args.form c.args.budget (g.S.Shelf.files c.take_more.new.shelf) c.args.name.now (g.S.Shelf.rest c.take_more.new.shelf) c.loop-judge.judge.reader.count c.take_more.new.judge s) is
+    (c.in_ok-take_more.ensures.step (entry_view c.args.chart.now) c.args.form c.args.budget c.loop-judge.invariant.reading) in
     let same = c.take_more.ensures.files ∙ c.loop-judge.invariant.files in
-    subst (λ (f : Option Files). IfOk c.ended.result (IsJudgedLog c.args.chart.now c.args.form c.args.budget f c.args.name.now)) same
-    (c.ended.ensures.log c.args.chart.now c.args.form c.args.budget (g.S.Shelf.files c.take_more.new.shelf) c.args.name.now step)
+    subst (λ (f : Option Files). IfOk c.ended.result (IsJudgedLog (entry_view c.args.chart.now) c.args.form c.args.budget f c.args.name.now)) same
+    (c.ended.ensures.log (entry_view c.args.chart.now) c.args.form c.args.budget (g.S.Shelf.files c.take_more.new.shelf) c.args.name.now step)
 
 pub returns-in-Fault-clause-log : goal.returns-in-Fault-clause-log
 returns-in-Fault-clause-log g c =
     let is : c.in_ok-take_more.field-0 ≡ Fault c.in-Fault.fault = search rules in
-    let step = subst (λ (s : Step). IsStep c.args.chart.now c.args.form c.args.budget (g.S.Shelf.files c.take_more.new.shelf) c.args.name.now (g.S.Shelf.rest c.take_more.new.shelf) c.loop-judge.judge.reader.count c.take_more.new.judge s) is
-    (c.in_ok-take_more.ensures.step c.args.chart.now c.args.form c.args.budget c.loop-judge.invariant.reading) in
+    let step = subst (λ (s : Step). IsStep (entry_view c.args.chart.now) c.args.form c.args.budget (g.S.Shelf.files c.take_more.new.shelf) c.args.name.now (g.S.Shelf.rest c.take_more.new.shelf) c.loop-judge.judge.reader.count c.take_more.new.judge s) is
+    (c.in_ok-take_more.ensures.step (entry_view c.args.chart.now) c.args.form c.args.budget c.loop-judge.invariant.reading) in
     let same = c.take_more.ensures.files ∙ c.loop-judge.invariant.files in
-    subst (λ (f : Option Files). IsJudgedLog c.args.chart.now c.args.form c.args.budget f c.args.name.now (Refused c.in-Fault.fault)) same step
+    subst (λ (f : Option Files). IsJudgedLog (entry_view c.args.chart.now) c.args.form c.args.budget f c.args.name.now (Refused c.in-Fault.fault)) same step

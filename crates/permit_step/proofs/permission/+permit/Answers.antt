@@ -1,24 +1,17 @@
-use Rattle.std.proofs.Common.{◌≡◌, ◌-◌, ◌∙◌, ◌+◌, ◌∷◌, ◌++◌, sym, ap, subst, arith, true, false, Option, Some, None, IfOk, length, ℕ, List, [], ◌≤◌, refl, slice_get, cond}
-use Rattle.chart_term.specs.NormalForms.{begun, only, cut, has_gap, walk_cut}
+use Rattle.std.proofs.Common.{◌≡◌, ◌-◌, ◌∙◌, ◌+◌, ◌∷◌, ◌++◌, sym, ap, subst, arith, true, false, Option, Some, None, IfOk, List, [], refl, slice_get, cond}
+use Rattle.chart_term.specs.NormalForms.{begun, only, has_gap}
 use Rattle.chart_term.specs.Rows.{part_of, parts_of}
-use Rattle.chart_term.specs.Terms.{Tree, Choice, trees, Part, Turn, ◌∪◌}
-use Rattle.chart_term.specs.Tables.{net_of, nodes_of, node_of}
-use Rattle.hmsc_graph.specs.Nets.{size_of}
-use Rattle.hmsc_graph.specs.Spots.{spot_of, goal_of}
+use Rattle.chart_term.specs.Terms.{Tree, Choice, trees, Part, Turn}
 use Rattle.msc_base.specs.Patterns.{seq, par}
 use Rattle.permit_step.specs.Lefts.{left_of, mode_of, opened_left, ArePartsLeft}
-use Rattle.permit_step.specs.Passing.{ArePassable, IsAimed}
-use Rattle.chart_term.specs.Spreads.{spread_of}
 use Rattle.term_laws.specs.Permission.{permit, permits_of}
 use Rattle.permit_step.specs.Ready.{IsReady, AreReadyParts}
 use Rattle.permit_step.specs.RowRests.{RowRest, keep_parts, no_rest}
 use Rattle.bit_sets.specs.Blocks.{BlockValue}
 use Rattle.term_laws.specs.Values.{block_of}
 use Rattle.permit_step.proofs.Joins.{second-fails, each-first, each-second, left-parts, turns-both, turns-first, turns-second}
-use Rattle.permit_step.proofs.PermitLoops.{loop-left, loop-none, ready-loop, if-kept, if-lost, cut_alike}
-use Rattle.permit_step.proofs.PermitWalks.{passable-more, walk-lost, walk-passes, walk-empty, ready-walk}
-use Rattle.permit_step.proofs.NodeTerms.{node-is, sizes-are}
-use Rattle.term_laws.proofs.TermSentences.{net_rank}
+use Rattle.permit_step.proofs.PermitLoops.{loop-left, loop-none, ready-loop, if-kept, if-lost}
+use Rattle.permit_step.proofs.PermitWalks.{ready-walk}
 use Rattle.permit_step.proofs.PermitRows.{ready-part, ready-first, ready-second, item-at, keep-more, keep-none, keep-kept, keep-lost, keep-whole, normal-turns, ready-turns, rank-both, rank-filled, rank-turns-only}
 use Rattle.permit_step.proofs.Permits.{ready-at, ready-choice, some-more, some-skip, turns-are-ready, turns-are-open}
 use Rattle.term_laws.proofs.Measures.{rank_in, rank_row, rank-choice, rank-join, rank-loop, rank-at, rank-part}
@@ -84,68 +77,6 @@ permit_loop-returns t c =
     let lost = if-lost _ _ _ c.in_ok-keep_parts.ensures cc in
     let start : keep_parts (λ d. permit (permits_of w) (only d) c.args.turns.body.now) (λ y. permit (permits_of w) (block_of c.args.block.now) y) c.args.turns.upper c.in_ok-narrow.narrow.instances c.args.turns.row.now no_rest ≡ None = (λ i. keep_parts (λ d. permit (permits_of w) (only d) c.args.turns.body.now) (λ y. permit (permits_of w) (block_of c.args.block.now) y) c.args.turns.upper c.in_ok-narrow.narrow.instances c.args.turns.row.now (sym c.in_ok-end.ensures i)) ∙ lost in
     sym (loop-none w c.args.turns.body.now c.args.turns.lower c.args.turns.upper c.args.turns.row.now (block_of c.args.block.now) c.in_ok-all.all.instances c.in_ok-narrow.narrow.instances c.requires.row c.in_ok-all.ensures (ap (λ (b : BlockValue). b.instances) c.in_ok-narrow.ensures) start)
-
-pub passable-permit_term-requires : goal.passable-permit_term-requires
-passable-permit_term-requires t c =
-    let w = c.args.nets.now.tables in
-    let size : size_of c.net.result.now ≡ size_of (net_of w c.args.net) = ap size_of c.net.ensures.net in
-    let sized : size_of (net_of w c.args.net) ≡ length (nodes_of w c.args.net) = sizes-are w c.requires.tables c.args.net c.requires.net in
-    let i = node-is w c.requires.tables c.args.net c.loop-node.node c.requires.net (omega (arith, c.size-size.ensures.size, c.loop-node-test.true)) in
-    let r : rank_in w c.node-term.result.now ≤ net_rank w c.args.net = subst (λ (y : Tree). rank_in w y ≤ net_rank w c.args.net) (sym c.node-term.ensures) i.rank in
-    (omega (arith, c.decreases), (c.requires.tables, subst (λ (y : Tree). IsReady w y) (sym c.node-term.ensures) i.ready))
-
-pub passable-loop-node-preserved : goal.passable-loop-node-preserved
-passable-loop-node-preserved t c =
-    let w = c.args.nets.now.tables in
-    let size : size_of c.net.result.now ≡ size_of (net_of w c.args.net) = ap size_of c.net.ensures.net in
-    let left : permit (permits_of w) (only c.args.block.now.instances) (node_of w c.args.net c.loop-node.node) ≡ c.in_ok-left-2.left = sym (c.in_ok-left-2.ensures ∙ (c.in_ok-left.ensures ∙ (λ i. permit (permits_of w) (c.requires.block i) (c.node-term.ensures i)))) in
-    record {
-      passed_size = c.add.ensures.size ∙ c.loop-node.invariant.passed_size;
-      full_size = c.add.ensures.size_full ∙ c.loop-node.invariant.full_size;
-      nodes = passable-more w c.requires.tables c.args.net c.args.block.now.instances c.requires.net c.loop-node.node _ _ _ _ c.in_ok-left-2.left (omega (arith, c.size-size.ensures.size, c.loop-node-test.true)) left c.loop-node.invariant.nodes c.add.ensures.passed c.add.ensures.full;
-    }
-
-pub passable-returns-clause-nodes : goal.passable-returns-clause-nodes
-passable-returns-clause-nodes t c =
-    let w = c.args.nets.now.tables in
-    let size : size_of c.net.result.now ≡ size_of (net_of w c.args.net) = ap size_of c.net.ensures.net in
-    let last : c.loop-node.node ≡ size_of (net_of w c.args.net) = omega (arith, c.size-size.ensures.size, c.loop-node-test.false) in
-    subst (λ (m : ℕ). ArePassable w c.args.net c.args.block.now.instances m c.loop-node.nodes.passed.nodes c.loop-node.nodes.full.nodes) last c.loop-node.invariant.nodes
-
-pub permit_term-widened_walk-requires : goal.permit_term-widened_walk-requires
-permit_term-widened_walk-requires t c =
-    let r = ready-walk c.args.nets.now.tables c.args.term.now c.in-Walk.net c.in-Walk.from c.in-Walk.to c.in-Walk.own.now.instances c.requires.tables c.in-Walk.ensures c.requires.term in
-    (omega (arith, c.decreases, r.rank), (c.requires.tables, (r.net, (r.from, (r.to, r.set)))))
-
-pub walk-returns-then-not-branch : goal.walk-returns-then-not-branch
-walk-returns-then-not-branch t c =
-    walk-lost c.args.nets.now.tables c.args.net c.args.block.instances c.in_ok-nodes.nodes.passed.nodes c.in_ok-nodes.nodes.full.nodes (spot_of c.args.from) (goal_of c.args.to) c.net-graph.result.now c.net-graph.ensures.net c.requires.tables c.requires.net (c.is_aimed.ensures.aimed cc)
-    c.in_ok-nodes.ensures.nodes c.in_ok-has_walk.field-0 c.in_ok-has_walk.ensures cc
-
-pub walk-returns-in_ok-walk_of-2 : goal.walk-returns-in_ok-walk_of-2
-walk-returns-in_ok-walk_of-2 t c =
-    let aim : IsAimed (goal_of c.args.to) = c.is_aimed.ensures.aimed cc in
-    let there : c.in_ok-has_walk.field-0 ≡ true = cc in
-    let said : c.in_ok-passes_full.field-0 ≡ true = cc in
-    ap Some c.in_ok-walk_of-2.ensures
-    ∙ walk-passes c.args.nets.now.tables c.args.net c.args.block.instances c.in_ok-nodes.nodes.passed.nodes c.in_ok-nodes.nodes.full.nodes (spot_of c.args.from) (goal_of c.args.to) c.net-graph.result.now c.net-graph.ensures.net c.requires.tables c.requires.net aim
-    c.in_ok-nodes.ensures.nodes c.in_ok-has_walk.field-0 c.in_ok-has_walk.ensures c.in_ok-passes_full.field-0 c.in_ok-passes_full.ensures there said
-
-pub walk-returns-in_ok-nil : goal.walk-returns-in_ok-nil
-walk-returns-in_ok-nil t c =
-    let aim : IsAimed (goal_of c.args.to) = c.is_aimed.ensures.aimed cc in
-    let there : c.in_ok-has_walk.field-0 ≡ true = cc in
-    let said : c.in_ok-passes_full.field-0 ≡ false = cc in
-    ap Some c.in_ok-nil.ensures
-    ∙ walk-empty c.args.nets.now.tables c.args.net c.args.block.instances c.in_ok-nodes.nodes.passed.nodes c.in_ok-nodes.nodes.full.nodes (spot_of c.args.from) (goal_of c.args.to) c.net-graph.result.now c.net-graph.ensures.net c.requires.tables c.requires.net aim
-    c.in_ok-nodes.ensures.nodes c.in_ok-has_walk.field-0 c.in_ok-has_walk.ensures c.in_ok-passes_full.field-0 c.in_ok-passes_full.ensures there said
-
-pub widened_walk-returns : goal.widened_walk-returns
-widened_walk-returns t c =
-    let w = c.args.nets.now.tables in
-    let narrow : c.in_ok-narrow.narrow.instances ≡ cut (spread_of w c.args.way.net) (c.args.way.own.now.instances ∪ c.args.block.now.instances) =
-    ap (λ (b : BlockValue). b.instances) c.in_ok-narrow.ensures ∙ ((λ i. cut c.spread.result.now.instances (ap (λ (b : BlockValue). b.instances) c.in_ok-wide.ensures i)) ∙ cut_alike c.spread.result.now.instances (spread_of w c.args.way.net) (c.args.way.own.now.instances ∪ c.args.block.now.instances) c.spread.ensures) in
-    subst (λ (d : List ℕ). IfOk c.walk.result (λ x. x ≡ walk_cut (permits_of w) c.args.way.net (spot_of c.args.way.from) (goal_of c.args.way.to) d)) narrow c.walk.ensures
 
 pub permit_term-permit_choice-requires : goal.permit_term-permit_choice-requires
 permit_term-permit_choice-requires t c =
@@ -380,3 +311,9 @@ keep_parts-returns-else-not-branch t c =
     (ap (λ l. keep_parts (λ d. permit (permits_of w) (only d) c.args.turns.body.now) (λ y. permit (permits_of w) (block_of c.args.by.whole.now) y) c.args.turns.upper c.args.by.narrow.now.instances l c.args.end.now) c.in-Fork.ensures.0
     ∙ keep-kept (λ d. permit (permits_of w) (only d) c.args.turns.body.now) (λ y. permit (permits_of w) (block_of c.args.by.whole.now) y) c.args.turns.upper c.args.by.narrow.now.instances c.in-Fork.first.now c.in-Fork.second.now c.args.end.now c.keep_parts.new.end kept))
     c.keep_parts-in-Fork.ensures
+
+pub permit_term-widened_walk-requires-clause-from : goal.permit_term-widened_walk-requires-clause-from
+permit_term-widened_walk-requires-clause-from t c = (ready-walk c.args.nets.now.tables c.args.term.now c.in-Walk.net c.in-Walk.from c.in-Walk.to c.in-Walk.own.now.instances c.requires.tables c.in-Walk.ensures c.requires.term).from
+
+pub permit_term-widened_walk-requires-clause-to : goal.permit_term-widened_walk-requires-clause-to
+permit_term-widened_walk-requires-clause-to t c = (ready-walk c.args.nets.now.tables c.args.term.now c.in-Walk.net c.in-Walk.from c.in-Walk.to c.in-Walk.own.now.instances c.requires.tables c.in-Walk.ensures c.requires.term).to

@@ -8,10 +8,6 @@ use Rattle.permit_step.specs.Lefts.{mode_of, opened_left}
 use Rattle.permit_step.specs.RowRests.{keep_parts}
 use Rattle.term_laws.specs.Values.{block_of}
 use Rattle.term_laws.proofs.Measures.{rank_in, rank_part, rank_row}
-use Rattle.chart_term.specs.Tables.{net_of}
-use Rattle.hmsc_graph.specs.Nets.{size_of}
-use Rattle.permit_step.specs.Passing.{ArePassable}
-use Rattle.term_laws.proofs.TermSentences.{net_rank}
 use Rattle.permit_step.proofs.permission.+permit.Given as goal
 
 abbrev pub decreases-permit_term : goal.decreases-permit_term
@@ -38,9 +34,6 @@ decreases-keep_items l = 8 * (rank_in l.nets.now.tables l.turns.body.now + rank_
 abbrev pub decreases-keep_part : goal.decreases-keep_part
 decreases-keep_part l = 8 * (rank_in l.nets.now.tables l.turns.body.now + rank_part l.nets.now.tables (part_of l.part.now)) + 4
 
-abbrev pub decreases-put_gap : goal.decreases-put_gap
-decreases-put_gap l = 8 * rank_in l.nets.now.tables l.body.now + 3
-
 abbrev pub invariant-permit_items-loop-index : goal.invariant-permit_items-loop-index
 invariant-permit_items-loop-index l = record {
   within : l.index ≤ length l.items;
@@ -66,19 +59,3 @@ invariant-keep_items-loop-index l = record {
 
 abbrev pub decreases-keep_items-loop-index : goal.decreases-keep_items-loop-index
 decreases-keep_items-loop-index l = l.index
-
-abbrev pub decreases-widened_walk : goal.decreases-widened_walk
-decreases-widened_walk l = 8 * net_rank l.nets.now.tables l.way.net + 3
-
-abbrev pub decreases-walk : goal.decreases-walk
-decreases-walk l = 8 * net_rank l.nets.now.tables l.net + 2
-
-abbrev pub decreases-passable : goal.decreases-passable
-decreases-passable l = 8 * net_rank l.nets.now.tables l.net + 1
-
-abbrev pub invariant-passable-loop-node : goal.invariant-passable-loop-node
-invariant-passable-loop-node l = record {
-  passed_size : l.nodes.passed.size ≡ size_of (net_of l.nets.tables l.net);
-  full_size : l.nodes.full.size ≡ size_of (net_of l.nets.tables l.net);
-  nodes : ArePassable l.nets.tables l.net l.block.instances l.node l.nodes.passed.nodes l.nodes.full.nodes;
-}

@@ -1,5 +1,4 @@
 use Rattle.std.proofs.Common.{subst, sym}
-use Rattle.chart_judge.specs.ChartTerms.{tables_of}
 use Rattle.chart_judge.specs.Judging.{IsJudging}
 use Rattle.chart_judge.proofs.Judging.{fed_more}
 use Rattle.chart_judge.proofs.judge.ChartJudge.feed.Goals as goal
@@ -11,4 +10,4 @@ returns-clause-fed c = λ chart form budget bytes j.
 pub returns-clause-refused : goal.returns-clause-refused
 returns-clause-refused c = λ chart form budget bytes j.
     let held = subst (IsJudging chart form budget bytes) (sym c.self.view_is) j in
-    c.feed.ensures.lasts (tables_of chart) held.term form budget bytes held.fed
+    c.feed.ensures.lasts held.tables held.term form budget bytes held.fed

@@ -1,5 +1,4 @@
 use Rattle.std.proofs.Common.{subst, sym}
-use Rattle.chart_judge.specs.ChartTerms.{tables_of}
 use Rattle.chart_judge.specs.Judging.{IsJudging}
 use Rattle.chart_judge.proofs.Judging.{told_verdict}
 use Rattle.chart_judge.proofs.judge.ChartJudge.finish.Goals as goal
@@ -11,4 +10,4 @@ returns-clause-verdict c = λ chart form budget bytes j.
 pub returns-clause-fault : goal.returns-clause-fault
 returns-clause-fault c = λ chart form budget bytes j.
     let held = subst (IsJudging chart form budget bytes) (sym c.self.view_is) j in
-    c.finish.ensures.fault (tables_of chart) held.term form budget bytes held.fed
+    c.finish.ensures.fault held.tables held.term form budget bytes held.fed

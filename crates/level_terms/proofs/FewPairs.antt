@@ -1,0 +1,62 @@
+-- A level has no more pairs than events.
+use Rattle.std.specs.Prelude.{ℕ, suc, ◌≤◌, List, [], ◌∷◌, length}
+use Rattle.std.proofs.Common.{◌≡◌, refl, subst, ap, inl, inr, arith}
+use Rattle.msc_base.specs.declared.label.Pair.{Pair}
+use Rattle.msc_base.specs.Orders.{Among, first, later}
+use Rattle.msc_meaning.specs.Bodies.{EventNode}
+use Rattle.msc_meaning.specs.Pairing.{ArePairs, DoRise, HasPair}
+use Rattle.sound_terms.proofs.Places.{place_among}
+use Rattle.level_terms.specs.SoundParts.{numbers}
+
+-- the numbers without one
+record IsWithout (k : ℕ) (ys : List ℕ) : Type 0 where
+  rest : List ℕ
+  less : length ys ≡ suc (length rest)
+  keeps : (j : ℕ) → Among j ys → (j ≡ k → ⊥) → Among j rest
+
+without_one : (k : ℕ) (ys : List ℕ) → Among k ys → IsWithout k ys
+without_one k (y ∷ ys) first = record { rest = ys; less = refl; keeps = λ j i n. behind j y ys i n }
+  where
+    behind : (j y : ℕ) (ys : List ℕ) → Among j (y ∷ ys) → (j ≡ y → ⊥) → Among j ys
+    behind j _ ys first n = absurd (n refl)
+    behind j y ys (later i) n = i
+without_one k (y ∷ ys) (later h) = let w = without_one k ys h in record { rest = y ∷ w.rest; less = ap suc w.less; keeps = λ j i n. kept j y ys w.rest i (λ g. w.keeps j g n) }
+  where
+    kept : (j y : ℕ) (ys rest : List ℕ) → Among j (y ∷ ys) → (Among j ys → Among j rest) → Among j (y ∷ rest)
+    kept j _ ys rest first f = first
+    kept j y ys rest (later i) f = later (f i)
+without_one k [] h = elim h [ ]
+
+rises_above : (n : ℕ) (ps : List Pair) (q : Pair) → DoRise n ps → Among q ps → n ≤ q.first
+rises_above n (p ∷ ps) _ (l, h) first = l
+rises_above n (p ∷ ps) q (l, h) (later i) = let above = rises_above (suc p.first) ps q h i in omega (arith, above, l)
+rises_above n [] q h i = elim i [ ]
+
+few_rising : (ps : List Pair) (n : ℕ) (ys : List ℕ) → DoRise n ps → ((p : Pair) → Among p ps → Among p.first ys) → length ps ≤ length ys
+few_rising [] n ys h f = omega arith
+few_rising (p ∷ ps) n ys (l, h) f =
+    let w = without_one p.first ys (f p first) in
+    let few = few_rising ps (suc p.first) w.rest h (λ q i. w.keeps q.first (f q (later i)) (λ e. let above = rises_above (suc p.first) ps q h i in let clash : ⊥ = omega (arith, above, e) in clash)) in
+    omega (arith, few, w.less)
+
+has_pair : (ps : List Pair) (p : Pair) → Among p ps → HasPair ps p.first p.second
+has_pair (p ∷ ps) _ first = inl (refl, refl)
+has_pair (q ∷ ps) p (later h) = inr (has_pair ps p h)
+has_pair [] p h = elim h [ ]
+
+among_numbers : (ns : List EventNode) (n : EventNode) → Among n ns → Among n.number (numbers ns)
+among_numbers (n ∷ ns) _ first = first
+among_numbers (m ∷ ns) n (later h) = later (among_numbers ns n h)
+among_numbers [] n h = elim h [ ]
+
+length_numbers : (ns : List EventNode) → length (numbers ns) ≡ length ns
+length_numbers [] = refl
+length_numbers (n ∷ ns) = ap suc (length_numbers ns)
+
+pub pairs_are_few : (held : List EventNode) (pairs : List Pair) → ArePairs held pairs → length pairs ≤ length held
+pairs_are_few held ps h = let few = few_rising ps 0 (numbers held) h.rising (λ p i. output p i) in omega (arith, few, length_numbers held)
+  where
+    output : (p : Pair) → Among p ps → Among p.first (numbers held)
+    output p i =
+        let paired = h.paired p.first p.second (has_pair ps p i) in
+        subst (λ k. Among k (numbers held)) paired.output_number (among_numbers held paired.output (place_among held paired.output_position paired.output paired.output_at))

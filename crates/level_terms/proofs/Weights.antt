@@ -1,0 +1,301 @@
+-- The weight of the term of a body.
+use Rattle.std.specs.Prelude.{ℕ, suc, ◌+◌, ◌≤◌, ◌==◌, Bool, true, false, List, [], ◌∷◌, ◌++◌, length}
+use Rattle.std.specs.Option.{unwrap_or}
+use Rattle.std.proofs.Common.{◌≡◌, refl, sym, ◌∙◌, subst, ap, arith}
+use Rattle.std.proofs.lemmas.Bool.Decides.{Decides-eqb}
+use Rattle.msc_base.specs.declared.label.Pair.{Pair}
+use Rattle.msc_base.specs.Orders.{Among, first, later, Once}
+use Rattle.msc_base.specs.Patterns.{Mode, seq, par}
+use Rattle.chart_term.specs.Equality.{same_tree}
+use Rattle.chart_term.specs.NormalForms.{open_part, flat, join_of, join_all, open_choice, open_choices, unless_same, without, distinct, choice_form, tie_of}
+use Rattle.chart_term.specs.Terms.{Tree, Nil, Event, Join, Choice, Tied, Loop, Walk, Trees, none, more, items, trees, weight, weights}
+use Rattle.sound_terms.specs.TableLaws.{ConstructorsWeigh, weight_all}
+use Rattle.msc_tree.specs.declared.reference.InlineForm.TheVariants as inline
+use Rattle.msc_meaning.specs.Bodies.{EventNode, Body, level, Items, no_items, item_and, Item, Single, Coregion, Inline, Refer, Bodies, no_bodies, body_and, events, item_events}
+use Rattle.msc_base.specs.declared.label.Label.{Label}
+use Rattle.level_terms.specs.BuiltBodies.{has_operands, is_built, are_built, is_built_item, have_built, events_count, operands_count}
+use Rattle.level_terms.specs.LevelLaws.{body_size, items_size, item_size, operands_size, HasFewPairs, HaveFewPairs, HasFewWithin, EachHasFew}
+use Rattle.level_terms.specs.LevelTerms.{is_exception, one_of, placed, event_term, coregion_term, level_term, items_term, item_term, operand_terms, parallel_term}
+use Rattle.level_terms.specs.ShownNumbers.{shows, shown_events, shown_item, shown_items, number_if, numbers_of, pairs_with, pairs_between, tie_pairs}
+use Rattle.level_terms.specs.SoundParts.{numbers}
+use Rattle.level_terms.proofs.BodyMade.{not_empty}
+use Rattle.level_terms.proofs.BuiltFacts.{and_both}
+
+-- ---- lists of terms
+
+weight_both : (xs ys : List Tree) → weight_all (xs ++ ys) ≡ weight_all xs + weight_all ys
+weight_both [] ys = omega arith
+weight_both (x ∷ xs) ys = omega (arith, weight_both xs ys)
+
+weights_items : (xs : Trees) → weight_all (items xs) ≡ weights xs
+weights_items none = refl
+weights_items (more x xs) = ap (λ n. weight x + n) (weights_items xs)
+
+weights_trees : (xs : List Tree) → weights (trees xs) ≡ weight_all xs
+weights_trees [] = refl
+weights_trees (x ∷ xs) = ap (λ n. weight x + n) (weights_trees xs)
+
+items_trees : (xs : List Tree) → weight_all (items (trees xs)) ≡ weight_all xs
+items_trees xs = weights_items (trees xs) ∙ weights_trees xs
+
+some_weight : (x : Tree) → 1 ≤ weight x
+some_weight Nil = omega arith
+some_weight (Event e) = omega arith
+some_weight (Join m xs) = omega arith
+some_weight (Choice xs) = omega arith
+some_weight (Tied x q) = omega (arith, some_weight x)
+some_weight (Loop x lo hi r) = omega (arith, some_weight x)
+some_weight (Walk n s t c) = omega arith
+
+-- ---- joins of two terms: what is in the second is counted without its own join
+
+open_weight : (m : Mode) (x : Tree) → weight_all (open_part m x) ≤ weight x
+open_weight m Nil = omega arith
+open_weight m (Event e) = omega arith
+open_weight seq (Join seq xs) = omega (arith, weights_items xs)
+open_weight seq (Join par xs) = omega arith
+open_weight par (Join seq xs) = omega arith
+open_weight par (Join par xs) = omega (arith, weights_items xs)
+open_weight m (Choice xs) = omega arith
+open_weight m (Tied x q) = omega arith
+open_weight m (Loop x lo hi r) = omega arith
+open_weight m (Walk n s t c) = omega arith
+
+form_weight : (m : Mode) (xs : List Tree) → weight (join_of m xs) ≤ 1 + weight_all xs
+form_weight m [] = omega arith
+form_weight m (x ∷ []) = omega arith
+form_weight m (x ∷ y ∷ xs) = omega (arith, weights_trees xs)
+
+form_open : (m : Mode) (xs : List Tree) → weight_all (open_part m (join_of m xs)) ≤ weight_all xs
+form_open m [] = omega arith
+form_open m (x ∷ []) = omega (arith, open_weight m x)
+form_open seq (x ∷ y ∷ xs) = omega (arith, items_trees xs)
+form_open par (x ∷ y ∷ xs) = omega (arith, items_trees xs)
+
+flat_weight : (m : Mode) (x y : Tree) → weight_all (flat m (x ∷ y ∷ [])) ≤ weight x + weight_all (open_part m y)
+flat_weight m x y = omega (arith, weight_both (open_part m x) (open_part m y ++ []), weight_both (open_part m y) [], open_weight m x)
+
+both_weight : (m : Mode) (x y : Tree) → weight (join_all m (x ∷ y ∷ [])) ≤ 1 + (weight x + weight_all (open_part m y))
+both_weight m x y = omega (arith, form_weight m (flat m (x ∷ y ∷ [])), flat_weight m x y)
+
+both_open : (m : Mode) (x y : Tree) → weight_all (open_part m (join_all m (x ∷ y ∷ []))) ≤ weight x + weight_all (open_part m y)
+both_open m x y = omega (arith, form_open m (flat m (x ∷ y ∷ [])), flat_weight m x y)
+
+-- ---- choices
+
+choice_opened : (x : Tree) → weight_all (open_choice x) ≤ weight x
+choice_opened Nil = omega arith
+choice_opened (Event e) = omega arith
+choice_opened (Join m xs) = omega arith
+choice_opened (Choice xs) = omega (arith, weights_items xs)
+choice_opened (Tied x q) = omega arith
+choice_opened (Loop x lo hi r) = omega arith
+choice_opened (Walk n s t c) = omega arith
+
+choices_opened : (xs : List Tree) → weight_all (open_choices xs) ≤ weight_all xs
+choices_opened [] = omega arith
+choices_opened (x ∷ xs) = omega (arith, weight_both (open_choice x) (open_choices xs), choice_opened x, choices_opened xs)
+
+unless_weight : (b : Bool) (y : Tree) (ys : List Tree) → weight_all (unless_same b y ys) ≤ weight y + weight_all ys
+unless_weight true y ys = omega arith
+unless_weight false y ys = omega arith
+
+without_weight : (x : Tree) (ys : List Tree) → weight_all (without x ys) ≤ weight_all ys
+without_weight x [] = omega arith
+without_weight x (y ∷ ys) = omega (arith, unless_weight (same_tree x y) y (without x ys), without_weight x ys)
+
+distinct_weight : (xs : List Tree) → weight_all (distinct xs) ≤ weight_all xs
+distinct_weight [] = omega arith
+distinct_weight (x ∷ xs) = omega (arith, without_weight x (distinct xs), distinct_weight xs)
+
+chosen_weight : (zs : List Tree) → weight (unwrap_or (choice_form zs) Nil) ≤ 1 + weight_all zs
+chosen_weight [] = omega arith
+chosen_weight (x ∷ []) = omega arith
+chosen_weight (x ∷ y ∷ xs) = omega (arith, weights_trees xs)
+
+one_weight : (xs : List Tree) → weight (one_of xs) ≤ 1 + weight_all (open_choices xs)
+one_weight xs = omega (arith, chosen_weight (distinct (open_choices xs)), distinct_weight (open_choices xs))
+
+chosen_opened : (zs : List Tree) (k : ℕ) → 1 ≤ k → weight_all zs ≤ k → weight_all (open_choice (unwrap_or (choice_form zs) Nil)) ≤ k
+chosen_opened [] k l h = omega arith
+chosen_opened (x ∷ []) k l h = omega (arith, choice_opened x)
+chosen_opened (x ∷ y ∷ xs) k l h = omega (arith, items_trees xs)
+
+one_opened : (xs : List Tree) → (xs ≡ [] → ⊥) → weight_all (open_choice (one_of xs)) ≤ weight_all xs
+one_opened [] n = absurd (n refl)
+one_opened (x ∷ xs) n = chosen_opened (distinct (open_choices (x ∷ xs))) (weight_all (x ∷ xs)) (omega (arith, some_weight x)) (omega (arith, distinct_weight (open_choices (x ∷ xs)), choices_opened (x ∷ xs)))
+
+two_weight : (x y : Tree) → weight (one_of (x ∷ y ∷ [])) ≤ 1 + (weight_all (open_choice x) + weight y)
+two_weight x y = omega (arith, one_weight (x ∷ y ∷ []), weight_both (open_choice x) (open_choice y ++ []), weight_both (open_choice y) [], choice_opened y)
+
+-- ---- pairs
+
+tally : ℕ → List ℕ → ℕ
+tally k [] = 0
+tally k (l ∷ ls) = length (number_if (l == k) 0 []) + tally k ls
+
+tally_cons : (k l : ℕ) (ls : List ℕ) → tally k (l ∷ ls) ≡ length (number_if (l == k) 0 []) + tally k ls
+unfolding tally
+tally_cons k l ls = refl
+
+tally_none : (k : ℕ) → tally k [] ≡ 0
+unfolding tally
+tally_none k = refl
+
+tally_both : (k : ℕ) (ks ls : List ℕ) → tally k (ks ++ ls) ≡ tally k ks + tally k ls
+tally_both k [] ls = omega (arith, tally_none k)
+tally_both k (j ∷ ks) ls = omega (arith, tally_cons k j (ks ++ ls), tally_cons k j ks, tally_both k ks ls)
+
+tally_absent : (k : ℕ) (ks : List ℕ) → (Among k ks → ⊥) → tally k ks ≡ 0
+tally_absent k [] n = tally_none k
+tally_absent k (l ∷ ks) n = by (l == k) refl (tally_absent k ks (λ i. n (later i)))
+  where
+    by : (b : Bool) → (l == k) ≡ b → tally k ks ≡ 0 → tally k (l ∷ ks) ≡ 0
+    by true e rest = absurd (n (subst (λ j. Among k (j ∷ ks)) (sym ((Decides-eqb l k).0 e)) first))
+    by false e rest = omega (arith, tally_cons k l ks, ap (λ b. length (number_if b 0 [])) e, rest)
+
+tally_once : (k : ℕ) (ks : List ℕ) → Once ks → tally k ks ≤ 1
+tally_once k [] o = omega (arith, tally_none k)
+tally_once k (l ∷ ks) (n, o) = by (l == k) refl (tally_once k ks o)
+  where
+    by : (b : Bool) → (l == k) ≡ b → tally k ks ≤ 1 → tally k (l ∷ ks) ≤ 1
+    by true e rest = omega (arith, tally_cons k l ks, ap (λ b. length (number_if b 0 [])) e, tally_absent k ks (λ i. n (subst (λ j. Among j ks) (sym ((Decides-eqb l k).0 e)) i)))
+    by false e rest = omega (arith, tally_cons k l ks, ap (λ b. length (number_if b 0 [])) e, rest)
+
+if_length : (b : Bool) (m : ℕ) (ms : List ℕ) → length (number_if b m ms) ≡ length (number_if b 0 []) + length ms
+if_length true m ms = omega arith
+if_length false m ms = omega arith
+
+numbers_both : (k : ℕ) (ps qs : List Pair) → length (numbers_of k (ps ++ qs)) ≡ length (numbers_of k ps) + length (numbers_of k qs)
+numbers_both k [] qs = omega arith
+numbers_both k (p ∷ ps) qs = omega (arith, if_length (p.second == k) p.first (numbers_of k (ps ++ qs)), if_length (p.second == k) p.first (numbers_of k ps), numbers_both k ps qs)
+
+one_number : (k m l : ℕ) → length (numbers_of k (shows m l ∷ [])) ≡ tally k (l ∷ [])
+one_number k m l = omega (arith, if_length (l == k) m [], tally_cons k l [], tally_none k)
+
+numbers_app : (ns ms : List EventNode) → numbers (ns ++ ms) ≡ numbers ns ++ numbers ms
+numbers_app [] ms = refl
+numbers_app (n ∷ ns) ms = ap (λ l. n.number ∷ l) (numbers_app ns ms)
+
+events_tally : (k n : ℕ) (es : List EventNode) → length (numbers_of k (shown_events n es)) ≡ tally k (numbers es)
+events_tally k n [] = omega (arith, tally_none k)
+events_tally k n (e ∷ es) =
+    omega (arith, numbers_both k (shown_events n es) (shows (n + length es) e.number ∷ []), one_number k (n + length es) e.number, tally_cons k e.number [], tally_none k, tally_cons k e.number (numbers es), events_tally k n es)
+
+item_tally : (k n : ℕ) (x : Item) → length (numbers_of k (shown_item n x)) ≡ tally k (numbers (item_events x))
+item_tally k n (Single e) = one_number k n e.number
+item_tally k n (Coregion es) = events_tally k n es
+item_tally k n (Inline form part operands) = omega (arith, tally_none k)
+item_tally k n (Refer part) = omega (arith, tally_none k)
+
+items_tally : (k n : ℕ) (xs : Items) → length (numbers_of k (shown_items n xs)) ≡ tally k (numbers (events xs))
+items_tally k n no_items = omega (arith, tally_none k)
+items_tally k n (item_and x xs) =
+    let split = ap (tally k) (numbers_app (item_events x) (events xs)) in
+    omega (arith, numbers_both k (shown_items n xs) (shown_item (n + events_count xs) x), item_tally k (n + events_count xs) x, items_tally k n xs, tally_both k (numbers (item_events x)) (numbers (events xs)), split)
+
+length_app : (q r : List (ℕ × ℕ)) → length (q ++ r) ≡ length q + length r
+length_app [] r = omega arith
+length_app (p ∷ q) r = omega (arith, length_app q r)
+
+with_length : (m : ℕ) (ns : List ℕ) → length (pairs_with m ns) ≡ length ns
+with_length m [] = refl
+with_length m (n ∷ ns) = ap suc (with_length m ns)
+
+between_length : (ms ns : List ℕ) → length ms ≤ 1 → length ns ≤ 1 → length (pairs_between ms ns) ≤ 1
+between_length [] ns l h = omega arith
+between_length (m ∷ []) ns l h = omega (arith, length_app (pairs_with m ns) [], with_length m ns)
+between_length (m ∷ k ∷ ms) ns l h = absurd (omega arith)
+
+ties_length : (shown ts : List Pair) → ((k : ℕ) → length (numbers_of k shown) ≤ 1) → length (tie_pairs shown ts) ≤ length ts
+ties_length shown [] f = omega arith
+ties_length shown (t ∷ ts) f =
+    omega (arith, length_app (pairs_between (numbers_of t.first shown) (numbers_of t.second shown)) (tie_pairs shown ts), between_length (numbers_of t.first shown) (numbers_of t.second shown) (f t.first) (f t.second), ties_length shown ts f)
+
+few_ties : (n : ℕ) (held : Items) (pairs : List Pair) → Once (numbers (events held)) → length pairs ≤ length (events held) → length (tie_pairs (shown_items n held) pairs) ≤ length (events held)
+few_ties n held pairs o l = omega (arith, ties_length (shown_items n held) pairs one, l)
+  where
+    one : (k : ℕ) → length (numbers_of k (shown_items n held)) ≤ 1
+    one k = omega (arith, items_tally k n held, tally_once k (numbers (events held)) o)
+
+-- ---- the parts of a body
+
+length_events : (ns ms : List EventNode) → length (ns ++ ms) ≡ length ns + length ms
+length_events [] ms = omega arith
+length_events (n ∷ ns) ms = omega (arith, length_events ns ms)
+
+module _ (weigh : ConstructorsWeigh) (names : List (List ℕ)) (labels : List Label) where
+  coregion_weighs : (n : ℕ) (es : List EventNode) → (weight (coregion_term names labels n es) ≤ 1 + length es) × (weight_all (open_part par (coregion_term names labels n es)) ≤ length es)
+  coregion_weighs n [] = (omega arith, omega arith)
+  coregion_weighs n (e ∷ es) =
+      let (a, b) = coregion_weighs n es in
+      (omega (arith, b, both_weight par (event_term names labels (n + length es) e) (coregion_term names labels n es)), omega (arith, b, both_open par (event_term names labels (n + length es) e) (coregion_term names labels n es)))
+
+  tied_weighs : (x : Tree) (q : List (ℕ × ℕ)) (e s : ℕ) → weight x + (e + e) ≤ 1 + s → length q ≤ e → weight (tie_of x q) ≤ 1 + s
+  tied_weighs x [] e s h l = omega arith
+  tied_weighs x (p ∷ q) e s h l = omega (arith, weigh.tied x (p ∷ q))
+
+  -- what an item weighs with what stands behind it: alone, and opened
+  abbrev IsWithin : Tree → ℕ → ℕ → Type 0
+  IsWithin x e s = (weight x + (e + e) ≤ 1 + s) × (weight_all (open_part seq x) + (e + e) ≤ s)
+
+  placed_weighs : (b : Bool) (x y : Tree) (d e s t : ℕ) → weight x + (d + d) ≤ s → (b ≡ true → (weight_all (open_choice x) + 2 ≤ s) × (d ≡ 0)) → IsWithin y e t → IsWithin (placed b x y) (d + e) (s + t)
+  placed_weighs false x y d e s t h f (a, b) = (omega (arith, h, b, both_weight seq x y), omega (arith, h, b, both_open seq x y))
+  placed_weighs true x y d e s t h f (a, b) =
+      let (g, z) = f refl in
+      (omega (arith, g, z, a, two_weight x y), omega (arith, g, z, a, two_weight x y, open_weight seq (one_of (x ∷ y ∷ []))))
+
+  some_operand : (n : ℕ) (x : Body) (bs : Bodies) → operand_terms names labels n (body_and x bs) ≡ [] → ⊥
+  some_operand n x bs = not_empty (operand_terms names labels n bs) (level_term names labels (n + operands_count bs) x)
+
+  mutual
+    pub level_weighs : (n : ℕ) (b : Body) → is_built names b ≡ true → HasFewPairs b → weight (level_term names labels n b) ≤ 1 + body_size b
+    level_weighs n (level cover held pairs) b f =
+        tied_weighs (items_term names labels n held) (tie_pairs (shown_items n held) pairs) (length (events held)) (items_size held) (items_weigh n held b f.2).0 (few_ties n held pairs f.0 f.1)
+
+    items_weigh : (n : ℕ) (xs : Items) → are_built names xs ≡ true → HaveFewPairs xs → IsWithin (items_term names labels n xs) (length (events xs)) (items_size xs)
+    items_weigh n no_items b f = (omega arith, omega arith)
+    items_weigh n (item_and x xs) b f =
+        let (i, j) = and_both (is_built_item names x) (are_built names xs) b in
+        subst (λ k. IsWithin (items_term names labels n (item_and x xs)) k (item_size x + items_size xs)) (sym (length_events (item_events x) (events xs)))
+        (placed_weighs (is_exception x) (item_term names labels (n + events_count xs) x) (items_term names labels n xs) (length (item_events x)) (length (events xs)) (item_size x) (items_size xs)
+        (item_weighs (n + events_count xs) x i f.0) (exception_weighs (n + events_count xs) x i f.0) (items_weigh n xs j f.1))
+
+    item_weighs : (n : ℕ) (x : Item) → is_built_item names x ≡ true → HasFewWithin x → weight (item_term names labels n x) + (length (item_events x) + length (item_events x)) ≤ item_size x
+    item_weighs n (Single e) b f = omega arith
+    item_weighs n (Coregion es) b f = let (a, c) = coregion_weighs n es in omega (arith, a)
+    item_weighs n (Inline inline.Alt part bs) b f = omega (arith, one_weight (operand_terms names labels n bs), choices_opened (operand_terms names labels n bs), operands_weigh n bs (and_both (has_operands inline.Alt bs) (have_built names bs) b).1 f)
+    item_weighs n (Inline inline.Opt part no_bodies) b f = absurd cc
+    item_weighs n (Inline inline.Opt part (body_and x bs)) b f =
+        omega (arith, two_weight (one_of (operand_terms names labels n (body_and x bs))) Nil, one_opened (operand_terms names labels n (body_and x bs)) (some_operand n x bs), operands_weigh n (body_and x bs) (and_both (has_operands inline.Opt (body_and x bs)) (have_built names (body_and x bs)) b).1 f)
+    item_weighs n (Inline inline.Exc part bs) b f = omega (arith, one_weight (operand_terms names labels n bs), choices_opened (operand_terms names labels n bs), operands_weigh n bs (and_both (has_operands inline.Exc bs) (have_built names bs) b).1 f)
+    item_weighs n (Inline inline.Par part bs) b f = let (a, c) = parallel_weighs n bs b f in omega (arith, a)
+    item_weighs n (Inline inline.Loop part bs) b f = absurd cc
+    item_weighs n (Refer part) b f = absurd cc
+
+    -- an exception has no events of its own, and is opened
+    exception_weighs : (n : ℕ) (x : Item) → is_built_item names x ≡ true → HasFewWithin x → is_exception x ≡ true → (weight_all (open_choice (item_term names labels n x)) + 2 ≤ item_size x) × (length (item_events x) ≡ 0)
+    exception_weighs n (Single e) b f is = absurd cc
+    exception_weighs n (Coregion es) b f is = absurd cc
+    exception_weighs n (Inline inline.Alt part bs) b f is = absurd cc
+    exception_weighs n (Inline inline.Opt part bs) b f is = absurd cc
+    exception_weighs n (Inline inline.Exc part no_bodies) b f is = absurd cc
+    exception_weighs n (Inline inline.Exc part (body_and x bs)) b f is =
+        (omega (arith, one_opened (operand_terms names labels n (body_and x bs)) (some_operand n x bs), operands_weigh n (body_and x bs) (and_both (has_operands inline.Exc (body_and x bs)) (have_built names (body_and x bs)) b).1 f), refl)
+    exception_weighs n (Inline inline.Par part bs) b f is = absurd cc
+    exception_weighs n (Inline inline.Loop part bs) b f is = absurd cc
+    exception_weighs n (Refer part) b f is = absurd cc
+
+    operands_weigh : (n : ℕ) (bs : Bodies) → have_built names bs ≡ true → EachHasFew bs → weight_all (operand_terms names labels n bs) ≤ operands_size bs
+    operands_weigh n no_bodies b f = omega arith
+    operands_weigh n (body_and x bs) b f =
+        let (i, j) = and_both (is_built names x) (have_built names bs) b in
+        omega (arith, weight_both (operand_terms names labels n bs) (level_term names labels (n + operands_count bs) x ∷ []), level_weighs (n + operands_count bs) x i f.0, operands_weigh n bs j f.1)
+
+    parallel_weighs : (n : ℕ) (bs : Bodies) → have_built names bs ≡ true → EachHasFew bs → (weight (parallel_term names labels n bs) ≤ 1 + operands_size bs) × (weight_all (open_part par (parallel_term names labels n bs)) ≤ operands_size bs)
+    parallel_weighs n no_bodies b f = (omega arith, omega arith)
+    parallel_weighs n (body_and x bs) b f =
+        let (i, j) = and_both (is_built names x) (have_built names bs) b in
+        let (a, c) = parallel_weighs n bs j f.1 in
+        let h = level_weighs (n + operands_count bs) x i f.0 in
+        (omega (arith, c, h, both_weight par (level_term names labels (n + operands_count bs) x) (parallel_term names labels n bs)), omega (arith, c, h, both_open par (level_term names labels (n + operands_count bs) x) (parallel_term names labels n bs)))

@@ -1,0 +1,84 @@
+-- The laws of the terms of charts.
+use Rattle.std.specs.Prelude.{ℕ, ◌≡◌, ◌≤◌, ◌+◌, true, List, length}
+use Rattle.msc_base.specs.Lists.{AreDifferent}
+use Rattle.msc_base.specs.Orders.{Once}
+use Rattle.chart_term.specs.Terms.{weight}
+use Rattle.term_laws.specs.FullSoundness.{IsFullySound}
+use Rattle.msc_meaning.specs.Bodies.{Body, level, Items, no_items, item_and, Item, Single, Coregion, Inline, Refer, Bodies, no_bodies, body_and, events}
+use Rattle.msc_meaning.specs.Levels.{IsWovenLevel}
+use Rattle.msc_meaning.specs.Pairing.{ArePairs}
+use Rattle.msc_meaning.specs.Pieces.{Piece}
+use Rattle.level_terms.specs.BuiltBodies.{is_built}
+use Rattle.level_terms.specs.LevelTerms.{chart_tables, chart_term}
+use Rattle.level_terms.specs.MadeCharts.{IsChartMade}
+use Rattle.level_terms.specs.RankedBodies.{IsRanked, events_within}
+use Rattle.level_terms.specs.SoundParts.{IsForward, numbers}
+
+-- the size of a body: 3 for an event, 1 and its events for a coregion, 2 and for each operand 1 and its items for an inline expression
+abbrev mutual
+  pub body_size : Body → ℕ
+  body_size (level cover held pairs) = items_size held
+
+  pub items_size : Items → ℕ
+  items_size no_items = 0
+  items_size (item_and x xs) = item_size x + items_size xs
+
+  pub item_size : Item → ℕ
+  item_size (Single n) = 3
+  item_size (Coregion ns) = 1 + (length ns + length ns + length ns)
+  item_size (Inline form part operands) = 2 + operands_size operands
+  item_size (Refer part) = 0
+
+  pub operands_size : Bodies → ℕ
+  operands_size no_bodies = 0
+  operands_size (body_and b bs) = 1 + body_size b + operands_size bs
+
+-- on each level the numbers of the events differ, and there are no more pairs than events
+abbrev mutual
+  pub HasFewPairs : Body → Type 0
+  HasFewPairs (level cover held pairs) = Once (numbers (events held)) × (length pairs ≤ length (events held)) × HaveFewPairs held
+
+  pub HaveFewPairs : Items → Type 0
+  HaveFewPairs no_items = Unit {0}
+  HaveFewPairs (item_and x xs) = HasFewWithin x × HaveFewPairs xs
+
+  pub HasFewWithin : Item → Type 0
+  HasFewWithin (Single n) = Unit {0}
+  HasFewWithin (Coregion ns) = Unit {0}
+  HasFewWithin (Inline form part operands) = EachHasFew operands
+  HasFewWithin (Refer part) = Unit {0}
+
+  pub EachHasFew : Bodies → Type 0
+  EachHasFew no_bodies = Unit {0}
+  EachHasFew (body_and b bs) = HasFewPairs b × EachHasFew bs
+
+-- on each level the pairs are those of its messages
+abbrev mutual
+  pub HasOwnPairs : Body → Type 0
+  HasOwnPairs (level cover held pairs) = ArePairs (events held) pairs × HaveOwnPairs held
+
+  pub HaveOwnPairs : Items → Type 0
+  HaveOwnPairs no_items = Unit {0}
+  HaveOwnPairs (item_and x xs) = HasOwnWithin x × HaveOwnPairs xs
+
+  pub HasOwnWithin : Item → Type 0
+  HasOwnWithin (Single n) = Unit {0}
+  HasOwnWithin (Coregion ns) = Unit {0}
+  HasOwnWithin (Inline form part operands) = EachHasOwn operands
+  HasOwnWithin (Refer part) = Unit {0}
+
+  pub EachHasOwn : Bodies → Type 0
+  EachHasOwn no_bodies = Unit {0}
+  EachHasOwn (body_and b bs) = HasOwnPairs b × EachHasOwn bs
+
+-- a body that a level is woven to has no more pairs than events on any level, where the numbers of its events differ
+abbrev pub WovenHaveFew : Type 0
+WovenHaveFew = (cover : List (List ℕ)) (ps : List Piece) (b : Body) → IsWovenLevel cover ps b → Once (numbers (events_within b)) → HasFewPairs b
+
+-- where the names of the instances differ and a term is made of the body, the chart's term means the chart; it is sound in full where its
+-- events can be ranked, and where each output stands before its input; and it weighs no more than the body's size and 2
+pub record ChartTermsMean : Type 0 where
+  pub means : (names : List (List ℕ)) (b : Body) → AreDifferent names → is_built names b ≡ true → IsChartMade (chart_tables b) names (chart_term names b) b
+  pub ranked : (names : List (List ℕ)) (b : Body) (rank : ℕ → ℕ) → is_built names b ≡ true → IsRanked rank b → IsFullySound (length (chart_tables b).labels) (chart_tables b).tables (chart_term names b)
+  pub sound : (names : List (List ℕ)) (b : Body) → is_built names b ≡ true → IsForward b → IsFullySound (length (chart_tables b).labels) (chart_tables b).tables (chart_term names b)
+  pub weighs : (names : List (List ℕ)) (b : Body) → is_built names b ≡ true → HasFewPairs b → weight (chart_term names b) ≤ 2 + body_size b

@@ -1,0 +1,84 @@
+-- The term of a body, over the names of the instances and a table of labels. The events are numbered from the last to the first, here
+-- from n on.
+use Rattle.std.specs.List.{position}
+use Rattle.std.specs.Option.{unwrap_or}
+use Rattle.std.specs.Prelude.{ℕ, ◌+◌, Bool, true, false, List, [], ◌∷◌, ◌++◌, None, length}
+use Rattle.std.specs.Str.{bytes_eq}
+use Rattle.msc_base.specs.declared.label.Label.{Label}
+use Rattle.msc_base.specs.Patterns.{seq, par}
+use Rattle.chart_term.specs.NormalForms.{join_all, choice_of, tie_of}
+use Rattle.chart_term.specs.Terms.{Tree, Nil, Event}
+use Rattle.label_table.specs.Labels.{label_number}
+use Rattle.level_terms.specs.LabelTables.{labels_once, tables_of_labels, with_labels}
+use Rattle.term_tables.specs.NetValues.{NetsValue}
+use Rattle.msc_tree.specs.declared.reference.InlineForm.TheVariants as inline
+use Rattle.msc_meaning.specs.Bodies.{EventNode, Body, level, Items, no_items, item_and, Item, Single, Coregion, Inline, Refer, Bodies, no_bodies, body_and}
+use Rattle.msc_meaning.specs.EventLabels.{written_label}
+use Rattle.level_terms.specs.BodyLabels.{body_labels}
+use Rattle.level_terms.specs.BuiltBodies.{events_count, operands_count}
+use Rattle.level_terms.specs.ShownNumbers.{shown_items, tie_pairs}
+
+abbrev pub is_exception : Item → Bool
+is_exception (Inline inline.Exc part operands) = true
+is_exception x = false
+
+-- one of these terms; there is one at least
+abbrev pub one_of : List Tree → Tree
+one_of xs = unwrap_or (choice_of xs) Nil
+
+-- one after another; an exception instead of what stands behind it
+abbrev pub placed : Bool → Tree → Tree → Tree
+placed true x y = one_of (x ∷ y ∷ [])
+placed false x y = join_all seq (x ∷ y ∷ [])
+
+module _ (names : List (List ℕ)) (labels : List Label) where
+  -- an event at one of the instances, with one of the labels
+  abbrev pub event_term : ℕ → EventNode → Tree
+  event_term n e = Event (record { number = n; at = unwrap_or (position (bytes_eq e.at) names) 0; also = None; label = unwrap_or (label_number labels (written_label e)) 0 })
+
+  -- the events of a coregion, side by side
+  abbrev pub coregion_term : ℕ → List EventNode → Tree
+  coregion_term n [] = Nil
+  coregion_term n (e ∷ es) = join_all par (event_term (n + length es) e ∷ coregion_term n es ∷ [])
+
+  abbrev mutual
+    -- the items of a level, tied by its pairs
+    pub level_term : ℕ → Body → Tree
+    level_term n (level cover held pairs) = tie_of (items_term n held) (tie_pairs (shown_items n held) pairs)
+
+    pub items_term : ℕ → Items → Tree
+    items_term n no_items = Nil
+    items_term n (item_and x xs) = placed (is_exception x) (item_term (n + events_count xs) x) (items_term n xs)
+
+    -- an item; of an exception its operand
+    pub item_term : ℕ → Item → Tree
+    item_term n (Single e) = event_term n e
+    item_term n (Coregion es) = coregion_term n es
+    item_term n (Inline inline.Alt part operands) = one_of (operand_terms n operands)
+    item_term n (Inline inline.Opt part operands) = one_of (one_of (operand_terms n operands) ∷ Nil ∷ [])
+    item_term n (Inline inline.Exc part operands) = one_of (operand_terms n operands)
+    item_term n (Inline inline.Par part operands) = parallel_term n operands
+    item_term n (Inline inline.Loop part operands) = Nil
+    item_term n (Refer part) = Nil
+
+    -- the operands, from the last to the first
+    pub operand_terms : ℕ → Bodies → List Tree
+    operand_terms n no_bodies = []
+    operand_terms n (body_and b bs) = operand_terms n bs ++ level_term (n + operands_count bs) b ∷ []
+
+    -- the operands, side by side
+    pub parallel_term : ℕ → Bodies → Tree
+    parallel_term n no_bodies = Nil
+    parallel_term n (body_and b bs) = join_all par (level_term (n + operands_count bs) b ∷ parallel_term n bs ∷ [])
+
+-- the tables with the labels of a body, each where it is new, behind those that were there
+abbrev pub body_tables : NetsValue → Body → NetsValue
+body_tables nets b = record nets { labels = with_labels nets.labels (body_labels b) }
+
+-- the tables of a chart: the labels of its body, each once, and no net
+abbrev pub chart_tables : Body → NetsValue
+chart_tables b = tables_of_labels (body_labels b)
+
+-- its term
+abbrev pub chart_term : List (List ℕ) → Body → Tree
+chart_term names b = level_term names (labels_once (body_labels b)) 0 b

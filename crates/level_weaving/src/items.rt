@@ -1,0 +1,199 @@
+//! The items of a level, and their copies in the order of the woven list: for `weaving`.
+
+ghost use Rattle.std.specs.Prelude.{◌≡◌, ◌<◌, ◌++◌, ◌∷◌, [], All, IfOk, List, OnOk, Some, length, map, slice_get, true};
+ghost use Rattle.level_weaving.specs.ItemNumbers.{HasNumbering, IsNumbering, first_parts, next_entries, with_next};
+ghost use Rattle.level_weaving.specs.PieceViews.{part_view, piece_view, setting_leads};
+ghost use Rattle.level_weaving.specs.PlainItems.{AreAllPlain, IsPlainForm, lone, refer_item};
+ghost use Rattle.level_weaving.specs.Unwoven.{is_at_one};
+ghost use Rattle.msc_meaning.specs.Bodies.{items as item_list};
+ghost use Rattle.msc_meaning.specs.LevelItems.{entries, is_item, level_items as items_of_level, number_in, with_piece};
+ghost use Rattle.msc_meaning.specs.Pieces as plain;
+ghost use Rattle.msc_meaning.specs.Levels.{AreWovenItems, IsWovenItem, nodes_from};
+ghost use Rattle.msc_meaning.specs.Views.{item_view, node_view, reference_view as reference_item};
+ghost use Rattle.msc_tree.specs.Views.{form_view, reference_view};
+
+use crate::counting::sum_of;
+use crate::covers::covered;
+use crate::numbering::{Numbering, item_number, no_items};
+use crate::pieces::{Part, Piece, lead_of};
+use crate::references::{copied_expression, copied_joins};
+use msc_base::{Items, Name, Names, NoMemory, Place, copy_name};
+use msc_meaning::{EventNode, EventNodeList, Item, ReferenceItem};
+use msc_tree::{RawEvent, RawForm, RawReference, copy_event};
+use std::alloc::Global;
+
+/// Whether a form is an item: conditions and stops are none.
+fn counts(form: &RawForm) -> bool
+    ensures { result ≡ is_item (form_view form.now) }
+{
+    match form {
+        RawForm::Condition(_, _) => false,
+        RawForm::Stop => false,
+        _ => true,
+    }
+}
+
+/// The items of a level: their first parts in the order of their places, and all their parts in the order of the text.
+#[derive(Drop)]
+pub struct LevelItems<'a> {
+    /// The first part of each item.
+    pub firsts: Vec<Piece<'a>>,
+    /// The parts of all items.
+    pub parts: Vec<Part<'a>>,
+}
+
+/// Appends the part of an item.
+fn push_part<'a>(
+    alloc: Global,
+    numbering: &mut Numbering<'a>,
+    parts: &mut Vec<Part<'a>>,
+    piece: Piece<'a>,
+) -> Result<(), NoMemory>
+    requires { HasNumbering numbering.old }
+    ensures parts { (xs : List (List plain.Piece)) → IsNumbering xs numbering.old → OnOk result (map part_view parts.new.items ≡ map part_view parts.old.items ++ (record { item = number_in xs (piece_view piece.entry); piece = piece_view piece.entry }) ∷ []) }
+    ensures numbering { (xs : List (List plain.Piece)) → IsNumbering xs numbering.old → OnOk result (IsNumbering (with_piece xs (piece_view piece.entry)) numbering.new) }
+{
+    let item = item_number(alloc, numbering, piece)?;
+    parts.push(Part { item, piece })?;
+    Ok(())
+}
+
+/// Appends the piece, where it is a part of an item.
+fn add_piece<'a>(
+    alloc: Global,
+    numbering: &mut Numbering<'a>,
+    parts: &mut Vec<Part<'a>>,
+    piece: Piece<'a>,
+) -> Result<(), NoMemory>
+    requires { HasNumbering numbering.old }
+    ensures parts { (xs : List (List plain.Piece)) → IsNumbering xs numbering.old → OnOk result (map part_view parts.new.items ≡ map part_view parts.old.items ++ next_entries xs (piece_view piece.entry)) }
+    ensures numbering { (xs : List (List plain.Piece)) → IsNumbering xs numbering.old → OnOk result (IsNumbering (with_next xs (piece_view piece.entry)) numbering.new) }
+{
+    if counts(piece.form) {
+        push_part(alloc, numbering, parts, piece)
+    } else {
+        Ok(())
+    }
+}
+
+/// The items of a level.
+pub fn level_items<'a>(alloc: Global, pieces: &[Piece<'a>]) -> Result<LevelItems<'a>, NoMemory>
+    ensures parts { IfOk result (λ items. map part_view items.parts.items ≡ entries (map piece_view pieces.now)) }
+    ensures firsts { IfOk result (λ items. map piece_view items.firsts.items ≡ first_parts (items_of_level (map piece_view pieces.now))) }
+    ensures count { IfOk result (λ items. length items.firsts.items ≡ length (items_of_level (map piece_view pieces.now))) }
+{
+    let mut numbering = no_items(alloc);
+    let mut parts = Vec::new(alloc);
+    for piece in pieces {
+        add_piece(alloc, &mut numbering, &mut parts, *piece)?;
+    }
+    Ok(LevelItems {
+        firsts: numbering.firsts,
+        parts,
+    })
+}
+
+/// A copy of an event, with its number and its instance.
+fn copied_event(
+    alloc: Global,
+    number: u32,
+    at: &Name,
+    event: &RawEvent,
+) -> Result<EventNode, NoMemory>
+    ensures { IfOk result (λ node. node_view node ≡ record { number = number; at = at.now; event = event.now }) }
+{
+    let at = at.copy(alloc)?;
+    let event = copy_event(alloc, event)?;
+    Ok(EventNode { number, at, event })
+}
+
+/// Copies of the events of a coregion, numbered from `first` on.
+fn copied_events(
+    alloc: Global,
+    first: u32,
+    at: &Name,
+    list: &[RawEvent],
+) -> Result<EventNodeList, NoMemory>
+    ensures { IfOk result (λ nodes. map node_view nodes ≡ nodes_from first at.now list.now) }
+{
+    let mut nodes = Items::new(alloc);
+    let mut number = first;
+    for event in list {
+        nodes.push(copied_event(alloc, number, at, event)?)?;
+        number = sum_of(number, 1)?;
+    }
+    Ok(nodes)
+}
+
+/// The instance of an event or a coregion.
+fn at_of<'a>(piece: Piece<'a>) -> &'a Name
+    requires { is_at_one (setting_leads piece.setting) ≡ true }
+    ensures { slice_get (piece_view piece.entry).leads 0 ≡ Some result.now }
+{
+    match lead_of(piece) {
+        Some(at) => at,
+        None => unreachable!(),
+    }
+}
+
+/// A copy of a reference.
+fn copied_reference(
+    alloc: Global,
+    cover: Names,
+    place: Place,
+    reference: &RawReference,
+) -> Result<ReferenceItem, NoMemory>
+    ensures { IfOk result (λ item. reference_item item ≡ refer_item cover place (reference_view reference.now)) }
+{
+    let name = copy_name(alloc, &reference.name)?;
+    let expr = copied_expression(alloc, &reference.expr)?;
+    let joins = copied_joins(alloc, reference.joins.as_slice())?;
+    Ok(ReferenceItem {
+        name,
+        expr,
+        joins,
+        cover,
+        place,
+    })
+}
+
+/// A copy of an item of a level that covers these instances.
+fn copied_item(alloc: Global, level: &Names, piece: Piece<'_>) -> Result<Item, NoMemory>
+    requires { IsPlainForm (is_at_one (setting_leads piece.setting)) (form_view piece.form.now) }
+    ensures { IfOk result (λ item. IsWovenItem level.now (lone (piece_view piece.entry)) (item_view item)) }
+{
+    match piece.form {
+        RawForm::Single(event) => {
+            let node = copied_event(alloc, piece.first, at_of(piece), event)?;
+            Ok(Item::Single(node))
+        }
+        RawForm::Coregion(list) => {
+            let nodes = copied_events(alloc, piece.first, at_of(piece), list.as_slice())?;
+            Ok(Item::Coregion(nodes))
+        }
+        RawForm::Reference(held) => {
+            let cover = covered(alloc, level, piece.setting, &held.shared)?;
+            let reference = copied_reference(alloc, cover, piece.place, held)?;
+            Ok(Item::Reference(reference))
+        }
+        _ => unreachable!(),
+    }
+}
+
+/// Copies of the items of these numbers.
+pub fn copied_items(
+    alloc: Global,
+    level: &Names,
+    items: &[Piece<'_>],
+    order: &[u32],
+) -> Result<Vec<Item>, NoMemory>
+    requires low { All (λ x. x < length items.now) order.now }
+    requires plain { AreAllPlain (map piece_view items.now) }
+    ensures { IfOk result (λ list. AreWovenItems level.now (map lone (map piece_view items.now)) order.now (item_list (map item_view list.items))) }
+{
+    let mut list = Vec::new(alloc);
+    for number in order {
+        list.push(copied_item(alloc, level, items[*number as usize])?)?;
+    }
+    Ok(list)
+}

@@ -1,3 +1,0 @@
-pub mod LabelFacts
-pub mod EventFacts
-pub mod RowFacts

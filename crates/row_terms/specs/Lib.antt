@@ -1,3 +1,0 @@
-pub mod RowTerms
-pub mod EventTerms
-pub mod RowLaws

@@ -1,0 +1,217 @@
+//! The levels of charts as they are woven, and what is refused.
+use level_weaving::{WeaveFault, first_misplaced, weave};
+use msc_base::{Name, Place};
+use msc_document::parse;
+use msc_instances::{NameFault, names};
+use msc_meaning::{Body, EventNode, Item};
+use msc_tokens::lex_all;
+use msc_tree::RawChart;
+use std::alloc::{AllocError, Global};
+use std::test::Fail;
+
+/// The last chart of a document.
+fn chart_of(alloc: Global, text: &str) -> Option<RawChart> {
+    let list = lex_all(alloc, text.as_bytes()).ok()?;
+    let mut document = parse(alloc, &list).ok()?;
+    document.charts.pop()
+}
+
+/// The word and the place.
+fn at(alloc: Global, word: &str, place: Place) -> Result<String, AllocError> {
+    let line = place.line;
+    let column = place.column;
+    format!(in alloc; "{word} {line}:{column}")
+}
+
+/// The instance and the number of an event.
+fn node_text(alloc: Global, node: &EventNode) -> Result<String, AllocError> {
+    let number = node.number;
+    let name = String::from_utf8_lossy(alloc, node.at.bytes())?;
+    format!(in alloc; "{name}{number} ")
+}
+
+/// The events of a coregion, in parentheses.
+fn coregion_text(alloc: Global, nodes: &[EventNode]) -> Result<String, AllocError> {
+    let mut text = String::new(alloc);
+    text.push_str("( ")?;
+    for node in nodes {
+        text.push_str(node_text(alloc, node)?.as_str())?;
+    }
+    text.push_str(") ")?;
+    Ok(text)
+}
+
+/// The instances that a reference covers, in brackets.
+fn cover_text(alloc: Global, names: &[Name]) -> Result<String, AllocError> {
+    let mut text = String::new(alloc);
+    text.push_str("[ ")?;
+    for name in names {
+        let name = String::from_utf8_lossy(alloc, name.bytes())?;
+        text.push_str(format!(in alloc; "{name} ")?.as_str())?;
+    }
+    text.push_str("] ")?;
+    Ok(text)
+}
+
+/// An item: an event, a coregion, or a reference by its cover.
+fn item_text(alloc: Global, item: &Item) -> Result<String, AllocError> {
+    match item {
+        Item::Single(node) => node_text(alloc, node),
+        Item::Coregion(nodes) => coregion_text(alloc, nodes.as_slice()),
+        Item::Reference(held) => cover_text(alloc, held.cover.as_slice()),
+        Item::Inline(_) => Ok(String::new(alloc)),
+    }
+}
+
+/// The items, and then the pairs of an output and the input that takes it in.
+fn told(alloc: Global, body: &Body) -> Result<String, AllocError> {
+    let mut text = String::new(alloc);
+    for item in body.items.as_slice() {
+        text.push_str(item_text(alloc, item)?.as_str())?;
+    }
+    for pair in body.pairs.as_slice() {
+        let first = pair.first;
+        let second = pair.second;
+        text.push_str(format!(in alloc; "{first}>{second} ")?.as_str())?;
+    }
+    Ok(text)
+}
+
+/// What the chart is woven to, or why it isn't.
+fn woven(alloc: Global, chart: &RawChart) -> Result<String, AllocError> {
+    let listed = match names(alloc, chart) {
+        Ok(listed) => listed,
+        Err(NameFault::NamedTwice(place)) => return at(alloc, "twice", place),
+        Err(NameFault::Undeclared(place)) => return at(alloc, "undeclared", place),
+        Err(NameFault::NoMemory) => return Err(AllocError),
+    };
+    match weave(alloc, chart, &listed) {
+        Ok(body) => told(alloc, &body),
+        Err(WeaveFault::NotWoven(place)) => at(alloc, "not woven", place),
+        Err(WeaveFault::Crossed(place)) => at(alloc, "crossed", place),
+        Err(WeaveFault::Unmatched(place)) => at(alloc, "unmatched", place),
+        Err(WeaveFault::NoMemory) => Err(AllocError),
+    }
+}
+
+/// The earliest exception that stands where it may not.
+fn misplaced(alloc: Global, chart: &RawChart) -> Result<String, AllocError> {
+    let listed = match names(alloc, chart) {
+        Ok(listed) => listed,
+        Err(_) => return Err(AllocError),
+    };
+    match first_misplaced(alloc, chart, &listed) {
+        Ok(Some(place)) => at(alloc, "exc placed", place),
+        Ok(None) => Ok(String::new(alloc)),
+        Err(_) => Err(AllocError),
+    }
+}
+
+/// Whether each text has its exceptions where stands beside it.
+fn all_misplace(
+    alloc: Global,
+    rows: &[(&'static str, &'static str)],
+) -> Result<&'static str, Fail> {
+    for (text, want) in rows {
+        let Some(chart) = chart_of(alloc, text) else {
+            return Ok(text);
+        };
+        if misplaced(alloc, &chart)?.as_str() != *want {
+            return Ok(text);
+        }
+    }
+    Ok("")
+}
+
+/// Whether each text gives what stands beside it.
+fn all_give(alloc: Global, rows: &[(&'static str, &'static str)]) -> Result<&'static str, Fail> {
+    for (text, want) in rows {
+        let Some(chart) = chart_of(alloc, text) else {
+            return Ok(text);
+        };
+        if woven(alloc, &chart)?.as_str() != *want {
+            return Ok(text);
+        }
+    }
+    Ok("")
+}
+
+/// The events of a coregion are paired in the order of the text. Names and orders of events are kept, and conditions are no items.
+#[test]
+fn events_and_coregions(rt: HostRuntime) -> Result<(), Fail> {
+    let rows = [
+        (
+            "msc A; instance i; concurrent; out a to j; out b to j; endconcurrent; endinstance; instance j; in b from i; in a from i; endinstance; endmsc;",
+            "( i0 i1 ) j2 j3 0>3 1>2 ",
+        ),
+        (
+            "msc A; instance i; concurrent; out a to j; out a to j; endconcurrent; out a to j; endinstance; instance j; in a from i; concurrent; in a from i; in a from i; endconcurrent; endinstance; endmsc;",
+            "( i0 i1 ) i2 j3 ( j4 j5 ) 0>3 1>4 2>5 ",
+        ),
+        (
+            "msc A; instance i; condition c; action x; endinstance; instance j; action y; endinstance; endmsc;",
+            "i0 j1 ",
+        ),
+        (
+            "msc A; instance i; concurrent; action x; out a to j; endconcurrent; endinstance; instance j; endinstance; endmsc;",
+            "unmatched 1:42",
+        ),
+        (
+            "msc A; instance i; concurrent; action x; endconcurrent; opt begin X; opt end; endinstance; endmsc;",
+            "not woven 1:57",
+        ),
+    ];
+    assert_eq!(rt; all_give(rt.alloc(), &rows)?, "");
+    Ok(())
+}
+
+/// A creation stands first in the column of the child. Parts of one name in several columns are one item, behind what stands before it in
+/// each; the pairs stand in the order of their outputs in the text, whatever the order of the items.
+#[test]
+fn items_of_several_columns(rt: HostRuntime) -> Result<(), Fail> {
+    let rows = [
+        (
+            "msc A; instance j; action x; endinstance; instance i; create j; endinstance; endmsc;",
+            "i1 j0 ",
+        ),
+        (
+            "msc A; instance i; action x; reference R: B shared all; endinstance; instance j; action y; reference R: B shared all; endinstance; endmsc;",
+            "i0 j1 [ i j ] ",
+        ),
+        (
+            "msc A; instance i; reference R: B shared i, j; out a to k; endinstance; instance j; out b to k; reference R: B shared i, j; endinstance; instance k; in a from i; in b from j; endinstance; endmsc;",
+            "j1 [ i j ] i0 k2 k3 0>2 1>3 ",
+        ),
+        (
+            "msc A; instance i; reference R: B shared all; reference S: C shared all; endinstance; instance j; reference S: C shared all; reference R: B shared all; endinstance; endmsc;",
+            "crossed 1:20",
+        ),
+        (
+            "msc A; instance i; endinstance; instance j; endinstance; i, j: reference B; j: action x; i: action y; i: reference B; endmsc;",
+            "[ i j ] j0 i1 [ i ] ",
+        ),
+    ];
+    assert_eq!(rt; all_give(rt.alloc(), &rows)?, "");
+    Ok(())
+}
+
+/// An exception covers all instances, and stands in no operand.
+#[test]
+fn places_of_exceptions(rt: HostRuntime) -> Result<(), Fail> {
+    let rows = [
+        (
+            "msc A; instance i; alt begin; exc begin; action x; exc end; alt; action y; alt end; endinstance; endmsc;",
+            "exc placed 1:31",
+        ),
+        (
+            "msc A; instance i; exc begin; action x; exc end; endinstance; instance j; endinstance; endmsc;",
+            "exc placed 1:20",
+        ),
+        (
+            "msc A; instance i; exc begin X shared all; action x; exc end; endinstance; instance j; exc begin X shared all; exc end; endinstance; endmsc;",
+            "",
+        ),
+    ];
+    assert_eq!(rt; all_misplace(rt.alloc(), &rows)?, "");
+    Ok(())
+}

@@ -1,0 +1,10 @@
+use Rattle.std.proofs.Common.{◌≡◌, [], length}
+use Rattle.chart_term.specs.Properties.{Each}
+use Rattle.permit_step.specs.Ready.{IsReady}
+use Rattle.walk_bench.proofs.ring.nodes.Given as goal
+
+abbrev pub invariant-loop-number : goal.invariant-loop-number
+invariant-loop-number l = record {
+  size : length l.nodes ≡ l.number;
+  ready : Each (IsReady []) l.nodes;
+}

@@ -1,0 +1,5 @@
+use Rattle.permit_step.specs.Ready.{IsReady}
+use Rattle.walk_bench.proofs.steps.steps.Given as goal
+
+abbrev pub invariant-loop-taken : goal.invariant-loop-taken
+invariant-loop-taken l = IsReady l.nets.tables l.here
