@@ -2,7 +2,7 @@
 """compare.py PROGRAM MODEL [--documents N] [--seed S]: whether the program answers as a model of it does, on random documents and logs.
 
 PROGRAM and MODEL are programs that take the words of mscjudge. Documents have charts of events of all kinds, in statements and in
-columns, some of them faulty; logs are runs of their charts, beginnings of runs, and runs with an event changed, in text or JSON, and
+columns, and coregions, some of them faulty; logs are runs of their charts, beginnings of runs, and runs with an event changed, in text or JSON, and
 some are judged within a budget. A document that the program refuses as not built yet is counted, and no more is asked of it. Each
 difference is printed with what it takes to see it again. It ends with status 1 where there is one.
 """
@@ -22,6 +22,7 @@ class Event:
 
     def __init__(self, at, kind, text, far=None, pairing="", message=None):
         self.at, self.kind, self.text, self.far, self.pairing, self.message = at, kind, text, far, pairing, message
+        self.coregion = None
 
     def words(self, in_chart):
         pairing = f",{self.pairing}" if in_chart and self.pairing else ""
@@ -65,6 +66,17 @@ def events_of(rng, instances):
     return events
 
 
+def stretches_of(rng, events):
+    """The events one by one, and now and then several of one instance together, as a coregion."""
+    stretches = []
+    for event in events:
+        if stretches and stretches[-1][0].at == event.at and rng.random() < 0.4:
+            stretches[-1].append(event)
+        else:
+            stretches.append([event])
+    return stretches
+
+
 def chart_of(rng, name):
     """A chart as text, with its events in their order."""
     instances = rng.sample(["i", "j", "k", "l"], rng.randint(1, 4))
@@ -77,27 +89,30 @@ def chart_of(rng, name):
     if faulty < 0.08 and kept:
         del kept[rng.randrange(len(kept))]
     held = None
-    for event in kept:
+    for number, stretch in enumerate(stretches_of(rng, kept)):
+        at = stretch[0].at
         if rng.random() < 0.3:
             if held:
                 lines.append("endinstance;")
-            held = event.at
+            held = at
             lines.append(f"instance {held};")
-        if held == event.at:
-            lines.append(event.words(True) + ";")
-        else:
-            if held:
-                lines.append("endinstance;")
-                held = None
-            lines.append(f"{event.at}: {event.words(True)};")
+        if held and held != at:
+            lines.append("endinstance;")
+            held = None
+        words = "; ".join(event.words(True) for event in stretch) + ";"
+        if len(stretch) > 1 or rng.random() < 0.05:
+            for event in stretch:
+                event.coregion = number
+            words = f"concurrent; {words} endconcurrent;"
+        lines.append(words if held else f"{at}: {words}")
         if rng.random() < 0.05:
-            lines.append("condition c;" if held else f"{event.at}: condition c;")
+            lines.append("condition c;" if held else f"{at}: condition c;")
     if held:
         lines.append("endinstance;")
     if 0.08 <= faulty < 0.11:
         lines.append(f"{rng.choice(instances)}: out u to nobody;")
     if 0.11 <= faulty < 0.14:
-        lines.append(f"{rng.choice(instances)}: concurrent; action a; endconcurrent;")
+        lines.append(f"{rng.choice(instances)}: " + rng.choice(["stop;", "concurrent; action a before p; endconcurrent;", "concurrent; create k; endconcurrent;"]))
     if 0.14 <= faulty < 0.16:
         lines.append("bad")
     return f"msc {name};\n" + rng.choice([" ", "\n"]).join(lines) + "\nendmsc;", events
@@ -109,7 +124,7 @@ def run_of(rng, events):
     while waiting:
         due = []
         for index, event in enumerate(waiting):
-            first = all(other.at != event.at for other in waiting[:index])
+            first = all(other.at != event.at or other.coregion == event.coregion is not None for other in waiting[:index])
             if first and (not event.message or event.message > 0 or -event.message in sent):
                 due.append(event)
         event = rng.choice(due)

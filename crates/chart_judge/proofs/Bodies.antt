@@ -1,22 +1,23 @@
--- Terms are made of the bodies of charts of events alone, and each output stands before its input.
+-- Terms are made of the bodies of charts of events and coregions alone, and each output stands before its input.
 use Rattle.std.proofs.Common.{◌*◌, ◌≡◌, ◌≤◌, ◌+◌, ◌||◌, ◌&&◌, inl, inr, ℕ, zero, suc, Bool, true, false, is_some, List, [], ◌∷◌, None, Some, slice_get, length, arith, refl, sym, ap, ap₂, ◌∙◌, subst}
 use Rattle.msc_base.specs.Orders.{Among, first, later, Once}
 use Rattle.msc_base.specs.declared.label.Kind.{Kind}
 use Rattle.msc_base.specs.declared.label.Kind.TheVariants.{Output, Input, OutputLost, InputFound, Action, TimerStart, TimerStop, Timeout, Create}
 use Rattle.msc_base.specs.declared.label.Pair.{Pair}
+use Rattle.std.proofs.lemmas.List.{length-append}
 use Rattle.msc_base.proofs.NameFacts.{any_from_one}
 use Rattle.msc_tree.specs.declared.event.RawEvent.{RawEvent}
 use Rattle.msc_tree.specs.declared.event.Target.{Target}
 use Rattle.msc_tree.specs.declared.event.Target.TheVariants as target
-use Rattle.msc_meaning.specs.Bodies.{Body, EventNode, level, events}
+use Rattle.msc_meaning.specs.Bodies.{Body, EventNode, Items, no_items, item_and, Single, Coregion, Inline, Refer, item_events, level, events}
 use Rattle.msc_meaning.specs.Pairing.{HasPair}
-use Rattle.msc_meaning.specs.PlainCharts.{singles}
-use Rattle.msc_weaving.specs.NotBuilt.{has_gate, has_some, is_creation, is_not_built}
-use Rattle.msc_acceptance.specs.EventCharts.{AreBare, HasEventsAlone}
+use Rattle.msc_acceptance.specs.NotBuilt.{has_gate, has_some, is_creation, is_not_built}
+use Rattle.msc_acceptance.specs.EventCharts.{AreBare, AreBareItems, HasEventsAlone, IsBare}
+use Rattle.msc_acceptance.proofs.BareLaws.{bare_events}
 use Rattle.msc_meaning.specs.Tables.{ChartEntry}
-use Rattle.level_terms.specs.BuiltBodies.{are_built, creates_nobody, event_count, events_count, is_built, is_empty, is_plain, names_no_gate}
+use Rattle.level_terms.specs.BuiltBodies.{are_built, are_built_nodes, creates_nobody, event_count, events_count, is_built, is_built_node, is_empty, is_plain, names_no_gate}
 use Rattle.level_terms.proofs.FewPairs.{pairs_are_few}
-use Rattle.level_terms.specs.LevelLaws.{HasFewPairs, HaveFewPairs, body_size, items_size}
+use Rattle.level_terms.specs.LevelLaws.{HasFewPairs, HaveFewPairs}
 use Rattle.level_terms.specs.SoundParts.{AreForward, IsBefore, IsForward, numbers}
 
 -- ---- events
@@ -62,20 +63,32 @@ plain e h =
     ap₂ (λ (a b : Bool). (a && names_no_gate e.target) && (b && is_empty e.later_than)) (nobody e.kind (none_back (has_gate e.target) (is_creation e.kind) three)) (empty e.earlier_than (none_front (has_some e.earlier_than) later_ones one))
     ∙ ap₂ (λ (a b : Bool). a && b) (no_gate e.target (none_front (has_gate e.target) (is_creation e.kind) three)) (empty e.later_than (none_front (has_some e.later_than) last two))
 
-nodes_built : (cover : List (List ℕ)) (n : ℕ) (ns : List EventNode) → AreBare cover n ns → are_built cover (singles ns) ≡ true
+nodes_built : (cover : List (List ℕ)) (n : ℕ) (ns : List EventNode) → AreBare cover n ns → are_built_nodes cover ns ≡ true
 nodes_built cover n [] bare = refl
 nodes_built cover n (e ∷ ns) bare =
     ap₂ (λ (a b : Bool). (a && is_plain e.event) && b) (any_from_one cover e.at bare.0.at) (nodes_built cover (suc n) ns bare.1) ∙ ap (λ (a : Bool). a && true) (plain e.event bare.0.built)
 
-counted : (ns : List EventNode) → events_count (singles ns) ≡ length ns
-counted [] = refl
-counted (n ∷ ns) = let rest = counted ns in omega (arith, rest)
+node_built : (cover : List (List ℕ)) (n : ℕ) (e : EventNode) → IsBare cover n e → is_built_node cover e ≡ true
+node_built cover n e bare = ap₂ (λ (a b : Bool). a && b) (any_from_one cover e.at bare.at) (plain e.event bare.built)
+
+items_built : (cover : List (List ℕ)) (n : ℕ) (held : Items) → AreBareItems cover n held → are_built cover held ≡ true
+items_built cover n no_items bare = refl
+items_built cover n (item_and (Single e) xs) bare = ap₂ (λ (a b : Bool). a && b) (node_built cover n e bare.0) (items_built cover (n + 1) xs bare.1)
+items_built cover n (item_and (Coregion es) xs) bare = ap₂ (λ (a b : Bool). a && b) (nodes_built cover n es bare.0) (items_built cover (n + length es) xs bare.1)
+items_built cover n (item_and (Inline form part operands) xs) bare = absurd bare.0
+items_built cover n (item_and (Refer part) xs) bare = absurd bare.0
+
+counted : (cover : List (List ℕ)) (n : ℕ) (held : Items) → AreBareItems cover n held → events_count held ≡ length (events held)
+counted cover n no_items bare = refl
+counted cover n (item_and (Single e) xs) bare = let rest = counted cover (n + 1) xs bare.1 in omega (arith, rest)
+counted cover n (item_and (Coregion es) xs) bare =
+    let rest = counted cover (n + length es) xs bare.1 in
+    let both = length-append es (events xs) in
+    omega (arith, rest, both)
+counted cover n (item_and (Inline form part operands) xs) bare = absurd bare.0
+counted cover n (item_and (Refer part) xs) bare = absurd bare.0
 
 -- ---- messages
-
-same_events : (ns : List EventNode) → events (singles ns) ≡ ns
-same_events [] = refl
-same_events (n ∷ ns) = ap (λ (l : List EventNode). n ∷ l) (same_events ns)
 
 numbered : (cover : List (List ℕ)) (n : ℕ) (ns : List EventNode) (a k : ℕ) → AreBare cover n ns → slice_get (numbers ns) a ≡ Some k → k ≡ n + a
 numbered cover n [] a k bare at = cc
@@ -86,9 +99,12 @@ has_pair : (p : Pair) (pairs : List Pair) → Among p pairs → HasPair pairs p.
 has_pair p _ first = inl (refl, refl)
 has_pair p (q ∷ pairs) (later h) = inr (has_pair p pairs h)
 
-inner_forward : (ns : List EventNode) → AreForward (singles ns)
-inner_forward [] = tt
-inner_forward (n ∷ ns) = (tt, inner_forward ns)
+inner_forward : (cover : List (List ℕ)) (n : ℕ) (held : Items) → AreBareItems cover n held → AreForward held
+inner_forward cover n no_items bare = tt
+inner_forward cover n (item_and (Single e) xs) bare = (tt, inner_forward cover (n + 1) xs bare.1)
+inner_forward cover n (item_and (Coregion es) xs) bare = (tt, inner_forward cover (n + length es) xs bare.1)
+inner_forward cover n (item_and (Inline form part operands) xs) bare = absurd bare.0
+inner_forward cover n (item_and (Refer part) xs) bare = absurd bare.0
 
 -- ---- numbers that differ
 
@@ -102,43 +118,40 @@ once_each cover n [] bare = tt
 once_each cover n (e ∷ ns) bare =
     (λ h. let above = at_least cover (suc n) ns e.number bare.1 h in let same = bare.0.number in let clash : ⊥ = omega (arith, above, same) in clash, once_each cover (suc n) ns bare.1)
 
-inner_few : (ns : List EventNode) → HaveFewPairs (singles ns)
-inner_few [] = tt
-inner_few (n ∷ ns) = (tt, inner_few ns)
+inner_few : (cover : List (List ℕ)) (n : ℕ) (held : Items) → AreBareItems cover n held → HaveFewPairs held
+inner_few cover n no_items bare = tt
+inner_few cover n (item_and (Single e) xs) bare = (tt, inner_few cover (n + 1) xs bare.1)
+inner_few cover n (item_and (Coregion es) xs) bare = (tt, inner_few cover (n + length es) xs bare.1)
+inner_few cover n (item_and (Inline form part operands) xs) bare = absurd bare.0
+inner_few cover n (item_and (Refer part) xs) bare = absurd bare.0
 
-sized : (ns : List EventNode) → items_size (singles ns) ≡ 3 * length ns
-sized [] = refl
-sized (n ∷ ns) = let rest = sized ns in omega (arith, rest)
-
--- ---- the body of a chart of events alone
+-- ---- the body of a chart of events and coregions alone
 
 module _ (chart : ChartEntry) (alone : HasEventsAlone chart) where
   abbrev pub held : Body
-  held = level alone.cover (singles alone.nodes) alone.pairs
+  held = level alone.cover alone.held alone.pairs
+
+  abbrev nodes : List EventNode
+  nodes = events alone.held
+
+  bare : AreBare alone.cover 0 nodes
+  bare = bare_events alone.cover 0 alone.held alone.bare
 
   pub built : is_built alone.cover held ≡ true
-  built = nodes_built alone.cover 0 alone.nodes alone.bare
+  built = items_built alone.cover 0 alone.held alone.bare
 
   pub few : event_count held ≤ 4294967295
-  few = let within = alone.few in let count = counted alone.nodes in omega (arith, within, count)
+  few = let within = alone.few in let count = counted alone.cover 0 alone.held alone.bare in omega (arith, within, count)
 
-  before : (p : Pair) → Among p alone.pairs → IsBefore (numbers alone.nodes) p.first p.second
+  before : (p : Pair) → Among p alone.pairs → IsBefore (numbers nodes) p.first p.second
   before p h a b at there =
       let order = alone.ordered p.first p.second (has_pair p alone.pairs h) in
-      let one = numbered alone.cover 0 alone.nodes a p.first alone.bare at in
-      let two = numbered alone.cover 0 alone.nodes b p.second alone.bare there in
+      let one = numbered alone.cover 0 nodes a p.first bare at in
+      let two = numbered alone.cover 0 nodes b p.second bare there in
       omega (arith, order, one, two)
 
   pub few_pairs : HasFewPairs held
-  few_pairs =
-      let same = same_events alone.nodes in (
-        subst (λ (ns : List EventNode). Once (numbers ns)) (sym same) (once_each alone.cover 0 alone.nodes alone.bare),
-        subst (λ (ns : List EventNode). length alone.pairs ≤ length ns) (sym same) (pairs_are_few alone.nodes alone.pairs alone.paired),
-        inner_few alone.nodes,
-      )
-
-  pub size : body_size held ≡ 3 * length alone.nodes
-  size = sized alone.nodes
+  few_pairs = (once_each alone.cover 0 nodes bare, pairs_are_few nodes alone.pairs alone.paired, inner_few alone.cover 0 alone.held alone.bare)
 
   pub forward : IsForward held
-  forward = (λ p h. subst (λ (ns : List EventNode). IsBefore (numbers ns) p.first p.second) (sym (same_events alone.nodes)) (before p h), inner_forward alone.nodes)
+  forward = (λ p h. before p h, inner_forward alone.cover 0 alone.held alone.bare)

@@ -7,7 +7,7 @@ use Rattle.msc_meaning.specs.Bodies.{Body}
 use Rattle.msc_meaning.specs.Meanings.{Finished, Begun}
 use Rattle.msc_meaning.specs.Tables.{ChartEntry, Table, chart_at, Woven, Basic, HighLevel}
 use Rattle.chart_term.specs.Terms.{Tree, weight}
-use Rattle.level_terms.specs.LevelLaws.{ChartTermsMean}
+use Rattle.level_terms.specs.LevelLaws.{ChartTermsMean, items_size}
 use Rattle.level_terms.specs.LevelTerms.{chart_tables, chart_term}
 use Rattle.term_meaning.specs.Meanings.{Means}
 use Rattle.term_tables.specs.NetValues.{NetsValue}
@@ -15,7 +15,7 @@ use Rattle.trace_judge.specs.Laws.{VerdictsTellRuns}
 use Rattle.trace_judge.specs.Sets.{IsSoundFor}
 use Rattle.chart_judge.specs.ChartTerms.{IsTermOf}
 use Rattle.chart_judge.specs.ChartsTold.{ChartsHaveRuns, ChartsHaveTerms, VerdictsAreTold}
-use Rattle.chart_judge.proofs.Bodies.{built, few_pairs, forward, held, size}
+use Rattle.chart_judge.proofs.Bodies.{built, few_pairs, forward, held}
 use Rattle.chart_judge.proofs.Verdicts.{IsKnown, begins_empty, told}
 use Rattle.verdict_meaning.proofs.Labelled.{begun_there}
 
@@ -53,12 +53,11 @@ module _ (level_terms : ChartTermsMean) (chart : ChartEntry) (v : NetsValue) (x 
       subst (λ (u : NetsValue). IsSoundFor u x) (sym tables)
       (subst (λ (y : Tree). IsSoundFor (chart_tables (held chart alone)) y) (sym term) (level_terms.sound alone.cover (held chart alone) (built chart alone) (forward chart alone)))
 
-  chart_weighs : weight x ≤ 2 + 3 * length alone.nodes
+  chart_weighs : weight x ≤ 2 + items_size alone.held
   chart_weighs =
       let light = level_terms.weighs alone.cover (held chart alone) (built chart alone) (few_pairs chart alone) in
       let whole : weight x ≡ weight (chart_term alone.cover (held chart alone)) = ap weight term in
-      let counts = size chart alone in
-      omega (arith, light, whole, counts)
+      omega (arith, light, whole)
 
 pub have_terms : ChartTermsMean → ChartsHaveTerms
 have_terms level_terms = record {

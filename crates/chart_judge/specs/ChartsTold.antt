@@ -10,6 +10,7 @@ use Rattle.msc_unfolding.specs.Unfoldings.{Unfolding}
 use Rattle.msc_meaning.specs.Meanings.{Begins, Begun, Finished}
 use Rattle.msc_meaning.specs.Tables.{ChartEntry, Table, chart_at}
 use Rattle.chart_term.specs.Terms.{Tree, weight}
+use Rattle.level_terms.specs.LevelLaws.{items_size}
 use Rattle.term_meaning.specs.Meanings.{Means}
 use Rattle.term_tables.specs.NetValues.{NetsValue}
 use Rattle.trace_judge.specs.Sets.{IsSoundFor}
@@ -28,7 +29,7 @@ pub record ChartsHaveTerms : Type 0 where
   pub means : (table : Table) (name : List ℕ) (chart : ChartEntry) (v : NetsValue) (x : Tree) → chart_at table name ≡ Some chart → (alone : HasEventsAlone chart) → IsTermOf chart v x
       → Means v alone.cover x (Finished table name) (Begun table name)
   pub sound : (chart : ChartEntry) (v : NetsValue) (x : Tree) → HasEventsAlone chart → IsTermOf chart v x → IsSoundFor v x
-  pub weighs : (chart : ChartEntry) (v : NetsValue) (x : Tree) → (alone : HasEventsAlone chart) → IsTermOf chart v x → weight x ≤ 2 + 3 * length alone.nodes
+  pub weighs : (chart : ChartEntry) (v : NetsValue) (x : Tree) → (alone : HasEventsAlone chart) → IsTermOf chart v x → weight x ≤ 2 + items_size alone.held
 
 -- each unfolding of such a chart has a linear order, and a run of the chart begins with no label
 pub record ChartsHaveRuns : Type 0 where

@@ -18,3 +18,4 @@ pub mod AnswerLaws
 pub mod StepLaws
 pub mod OneBody
 pub mod NumberLaws
+pub mod TextOrderLaws

@@ -92,7 +92,7 @@ pub number_none : (xs : List (List Piece)) (p : Piece) → joint_name p ≡ None
 number_none [] p h = refl
 number_none (x ∷ xs) p h = ap (λ (b : Bool). cond b zero (suc (number_in xs p))) (part_none p x h) ∙ ap suc (number_none xs p h)
 
-with_none : (xs : List (List Piece)) (p : Piece) → joint_name p ≡ None → with_piece xs p ≡ xs ++ (p ∷ []) ∷ []
+pub with_none : (xs : List (List Piece)) (p : Piece) → joint_name p ≡ None → with_piece xs p ≡ xs ++ (p ∷ []) ∷ []
 with_none [] p h = refl
 with_none (x ∷ xs) p h = ap (λ (b : Bool). cond b ((x ++ p ∷ []) ∷ xs) (x ∷ with_piece xs p)) (part_none p x h) ∙ ap (λ (l : List (List Piece)). x ∷ l) (with_none xs p h)
 

@@ -30,7 +30,7 @@ mutual
       let lists : pairs ≡ others = one_list (events held) pairs others p (subst (λ (h : Items). ArePairs (events h) others) (sym items) q) in
       λ i. level (ec i) (items i) (lists i)
 
-  one_items : {c d : List (List ℕ)} {all every : List (List Piece)} {order other : List ℕ} {a b : Items} → AreWovenItems c all order a → AreWovenItems d every other b → c ≡ d → all ≡ every → order ≡ other → a ≡ b
+  pub one_items : {c d : List (List ℕ)} {all every : List (List Piece)} {order other : List ℕ} {a b : Items} → AreWovenItems c all order a → AreWovenItems d every other b → c ≡ d → all ≡ every → order ≡ other → a ≡ b
   one_items no_woven no_woven ec ea eo = refl
   one_items no_woven (woven_and at is rest) ec ea eo = cc
   one_items (woven_and at is rest) no_woven ec ea eo = cc

@@ -11,3 +11,4 @@ pub mod Alone
 pub mod LevelPairs
 pub mod ItemNumbers
 pub mod Laws
+pub mod TextOrder

@@ -17,10 +17,10 @@ use Rattle.msc_meaning.specs.Tables.{Table}
 use Rattle.msc_meaning.specs.Views.{entry_view, table_view}
 use Rattle.msc_meaning.specs.declared.body.ChartEntry as code
 use Rattle.msc_meaning.specs.WovenTables.{AreEntriesOf, entry_and}
-use Rattle.msc_weaving.specs.Bodies.{CrossesAt, IsAloneAt}
+use Rattle.msc_acceptance.specs.ChartFaults.{CrossesAt, IsAloneAt, IsEarlyAt}
 use Rattle.msc_instances.specs.Instances.{instances}
-use Rattle.msc_weaving.proofs.Counts.{some_at}
-use Rattle.msc_weaving.proofs.WovenLaws.{chart_is}
+use Rattle.level_weaving.proofs.Counts.{some_at}
+use Rattle.msc_acceptance.proofs.ChartLaws.{never_crosses}
 use Rattle.msc_acceptance.specs.Acceptance.{told_as, Breaks, BreaksOf, HasFault, IsAccepted}
 use Rattle.msc_acceptance.specs.Deciding.{AllKept, AreBuilt, all_groups, forms, limits, names, sizes, columns, messages, inputs}
 use Rattle.msc_acceptance.specs.Rules.{InOne}
@@ -172,7 +172,7 @@ one_among Holds (c ∷ charts) p none (inl h) = none c p (inl refl) h
 one_among Holds (c ∷ charts) p none (inr h) = one_among Holds charts p (λ d q m g. none d q (inr m) g) h
 
 none_cross : (charts : List Chart) → AreBuilt charts → (p : Place) → InOne CrossesAt charts p → ⊥
-none_cross charts built p h = one_among CrossesAt charts p (λ c q m g. (chart_is c (one_built charts c built m)).uncrossed q g) h
+none_cross charts built p h = one_among CrossesAt charts p (λ c q m g. never_crosses c (one_built charts c built m) q g) h
 
 columns_kept : (charts : List Chart) → AreBuilt charts → Keeps (BreaksOf charts) columns
 columns_kept charts built = λ r p m b. elim m [ inl e ↦ none_cross charts built p (subst (λ (x : Rule). BreaksOf charts x p) e b) | inr n ↦ n ]
@@ -184,13 +184,13 @@ pub alone_first : (charts : List Chart) (p : Place) → IsBest number_of (Breaks
     → IsBest number_of (BreaksOf charts) sizes None → IsLeast (InOne IsAloneAt charts) (Some p) → IsFirst number_of (BreaksOf charts) all_groups (record { rule = Unmatched; place = p })
 alone_first charts p a b c d h = inr (a, inr (b, inr (c, inr (d, inr (columns_kept charts (built_of charts a), inl (one_best charts Unmatched (Some p) h))))))
 
-pub early_first : (charts : List Chart) (f : Broken Rule) → IsBest number_of (BreaksOf charts) forms None → IsBest number_of (BreaksOf charts) limits None → IsBest number_of (BreaksOf charts) names None
-    → IsBest number_of (BreaksOf charts) sizes None → IsLeast (InOne IsAloneAt charts) None → IsBest number_of (BreaksOf charts) inputs (Some f) → IsFirst number_of (BreaksOf charts) all_groups f
-early_first charts f a b c d h e = inr (a, inr (b, inr (c, inr (d, inr (columns_kept charts (built_of charts a), inr (messages_kept charts h, inl e))))))
+pub early_first : (charts : List Chart) (p : Place) → IsBest number_of (BreaksOf charts) forms None → IsBest number_of (BreaksOf charts) limits None → IsBest number_of (BreaksOf charts) names None
+    → IsBest number_of (BreaksOf charts) sizes None → IsLeast (InOne IsAloneAt charts) None → IsLeast (InOne IsEarlyAt charts) (Some p) → IsFirst number_of (BreaksOf charts) all_groups (record { rule = Cyclic; place = p })
+early_first charts p a b c d h e = inr (a, inr (b, inr (c, inr (d, inr (columns_kept charts (built_of charts a), inr (messages_kept charts h, inl (one_best charts Cyclic (Some p) e)))))))
 
 pub all_kept : (charts : List Chart) → IsBest number_of (BreaksOf charts) forms None → IsBest number_of (BreaksOf charts) limits None → IsBest number_of (BreaksOf charts) names None
-    → IsBest number_of (BreaksOf charts) sizes None → IsLeast (InOne IsAloneAt charts) None → IsBest number_of (BreaksOf charts) inputs None → AllKept (BreaksOf charts) all_groups
-all_kept charts a b c d h e = (a, (b, (c, (d, (columns_kept charts (built_of charts a), (messages_kept charts h, (e, tt)))))))
+    → IsBest number_of (BreaksOf charts) sizes None → IsLeast (InOne IsAloneAt charts) None → IsLeast (InOne IsEarlyAt charts) None → AllKept (BreaksOf charts) all_groups
+all_kept charts a b c d h e = (a, (b, (c, (d, (columns_kept charts (built_of charts a), (messages_kept charts h, (one_best charts Cyclic None e, tt)))))))
 
 -- ---- documents
 

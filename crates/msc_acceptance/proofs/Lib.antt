@@ -1,5 +1,9 @@
 pub mod WalkLaws
-pub mod CountLaws
+pub mod DeclaredLaws
+pub mod BuiltLaws
+pub mod BareLaws
+pub mod ChartLaws
+pub mod EarlyLaws
 pub mod TableLaws
 pub mod GroupLaws
 pub mod AcceptLaws

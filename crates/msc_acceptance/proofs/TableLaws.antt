@@ -12,13 +12,11 @@ use Rattle.msc_meaning.specs.Tables.{ChartEntry, Table}
 use Rattle.msc_meaning.specs.Views.{entry_view, table_view}
 use Rattle.msc_meaning.specs.WovenTables.{AreEntriesOf, no_entries, entry_and, IsEntryOf}
 use Rattle.msc_meaning.specs.declared.body.ChartEntry as code
-use Rattle.msc_weaving.specs.Bodies.{IsAloneAt, IsBuilt, IsWeaveFault}
 use Rattle.msc_instances.specs.Instances.{instances}
-use Rattle.msc_weaving.specs.declared.weaving.WeaveFault.TheVariants as fault
-use Rattle.msc_weaving.proofs.WovenLaws.{chart_is}
+use Rattle.msc_acceptance.specs.ChartFaults.{IsEarlyAt}
 use Rattle.msc_acceptance.specs.Deciding.{earlier_of}
 use Rattle.msc_acceptance.specs.Rules.{InOne}
-use Rattle.msc_acceptance.proofs.WalkLaws.{part_step}
+use Rattle.msc_acceptance.proofs.WalkLaws.{part_step, walk_end}
 
 -- where no event lacks its partner, the entries so far are those of the charts so far
 abbrev pub MadeSoFar : List RawChart → Option Place → List code.ChartEntry → Type 0
@@ -44,25 +42,22 @@ made_more list k c alone entries after e low is h entry made none =
 pub made_none : (charts : List RawChart) (best next : Option Place) (p : Place) (entries : List code.ChartEntry) → next ≡ earliest best p → MadeSoFar charts next entries
 made_none charts best next p entries made none = let it = earliest_is best p in let some : next ≡ Some it.0 = made ∙ it.1 in cc
 
--- ---- what one chart is woven to
-
-pub alone_of : (c : Chart) (p : Place) → IsBuilt c → IsWeaveFault c (fault.Unmatched p) → IsLeast (IsAloneAt c) (Some p)
-alone_of c p built h = h.2
-
-pub never_crossed : (c : Chart) (p : Place) → IsBuilt c → IsWeaveFault c (fault.Crossed p) → ⊥
-never_crossed c p built h = (chart_is c built).uncrossed p h.1.0
-
-pub never_unbuilt : (c : Chart) (p : Place) → IsBuilt c → IsWeaveFault c (fault.NotBuilt p) → ⊥
-never_unbuilt c p built h = built p h.0
-
--- one chart further
-pub next_narrows : (all : Place → Type 0) (list : List RawChart) (k : ℕ) (c : RawChart) (best next : Option Place) → k < length list → c ≡ get_or list k c
-    → IsLeast (IsAloneAt (chart_view c)) next → (after : Option Place) → after ≡ earlier_of best next
-    → Narrows all (InOne IsAloneAt (map chart_view (drop k list))) best → Narrows all (InOne IsAloneAt (map chart_view (drop (k + 1) list))) after
-next_narrows all list k c best next low is least after made h = part_step all IsAloneAt list k c best next after low is least made h
-
 pub made_all : (list : List RawChart) (alone : Option Place) (entries : List code.ChartEntry) (k : ℕ) → (k < length list → ⊥) → MadeSoFar (take k list) alone entries → MadeSoFar list alone entries
 made_all list alone entries k n h = subst (λ (l : List RawChart). MadeSoFar l alone entries) (take_all k list (omega (arith, le))) h
   where
     le : length list ≤ k
     le = elim (cases_lt k (length list)) [ inl lt ↦ absurd (n lt) | inr ge ↦ ge ]
+
+-- where no event lacks its partner, the earliest input before its output of the charts so far
+abbrev pub EarlySoFar : List RawChart → ℕ → Option Place → Option Place → Type 0
+EarlySoFar list k alone early = alone ≡ None → Narrows (InOne IsEarlyAt (map chart_view list)) (InOne IsEarlyAt (map chart_view (drop k list))) early
+
+pub early_more : (list : List RawChart) (k : ℕ) (c : RawChart) (alone best found next : Option Place) → k < length list → c ≡ get_or list k c → IsLeast (IsEarlyAt (chart_view c)) found → next ≡ earlier_of best found
+    → EarlySoFar list k alone best → EarlySoFar list (k + 1) alone next
+early_more list k c alone best found next low is least made h none = part_step (InOne IsEarlyAt (map chart_view list)) IsEarlyAt list k c best found next low is least made (h none)
+
+pub early_none : (list : List RawChart) (k : ℕ) (best next early : Option Place) (p : Place) → next ≡ earliest best p → EarlySoFar list k next early
+early_none list k best next early p made none = let it = earliest_is best p in let some : next ≡ Some it.0 = made ∙ it.1 in cc
+
+pub early_all : (list : List RawChart) (k : ℕ) (alone early : Option Place) → (k < length list → ⊥) → EarlySoFar list k alone early → alone ≡ None → IsLeast (InOne IsEarlyAt (map chart_view list)) early
+early_all list k alone early n h none = walk_end (InOne IsEarlyAt (map chart_view list)) (InOne IsEarlyAt) list k early n (λ q g. g) (h none)

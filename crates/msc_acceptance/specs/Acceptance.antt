@@ -8,10 +8,10 @@ use Rattle.msc_rules.specs.FirstFaults.{IsFirstFault, IsFaultless}
 use Rattle.msc_rules.specs.Rules.{group_of, number_of}
 use Rattle.msc_meaning.specs.Tables.{Table}
 use Rattle.msc_meaning.specs.WovenTables.{IsTableOf}
-use Rattle.msc_weaving.specs.Bodies.{CrossesAt, IsAloneAt, IsEarlyAt}
+use Rattle.msc_acceptance.specs.ChartFaults.{CrossesAt, IsAloneAt, IsEarlyAt}
 use Rattle.msc_instances.specs.Instances.{instances}
 use Rattle.msc_instances.specs.NameFaults.{ChartNamesOther, ChartNamesTwice}
-use Rattle.msc_weaving.specs.NotBuilt.{IsNotBuilt}
+use Rattle.msc_acceptance.specs.NotBuilt.{IsNotBuilt}
 use Rattle.msc_acceptance.specs.Rules.{InOne, IsFurther, HasFurther, IsNamedAgain, IsLarge, PassesTotal}
 
 -- as what a broken rule is told: an input before its output stands in for a cycle, with its number and group, and is told as not built yet

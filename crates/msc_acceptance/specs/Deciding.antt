@@ -11,10 +11,10 @@ use Rattle.msc_rules.specs.declared.rule.Rule.TheVariants.{NotBuilt, Charts, Ins
 use Rattle.msc_meaning.specs.Views.{entry_view, table_view}
 use Rattle.msc_meaning.specs.WovenTables.{AreEntriesOf, IsEntryOf}
 use Rattle.msc_base.specs.Lists.{IsAmong}
-use Rattle.msc_weaving.specs.Bodies.{IsAloneAt, IsBuilt, IsEarlyAt}
+use Rattle.msc_acceptance.specs.ChartFaults.{IsAloneAt, IsBuilt, IsEarlyAt}
 use Rattle.msc_instances.specs.NameFaults.{ChartNamesOther, ChartNamesTwice}
 use Rattle.msc_instances.specs.Instances.{instances}
-use Rattle.msc_weaving.specs.NotBuilt.{IsNotBuilt}
+use Rattle.msc_acceptance.specs.NotBuilt.{IsNotBuilt}
 use Rattle.msc_acceptance.specs.declared.deciding.Decision.{Decision}
 use Rattle.msc_acceptance.specs.declared.deciding.Decision.TheVariants as decision
 use Rattle.msc_acceptance.specs.declared.tables.Weaving.{Weaving}
@@ -63,23 +63,13 @@ abbrev pub ChartBreaks : ChartRule → Chart → Place → Type 0
 ChartBreaks rule.NotBuilt = IsNotBuilt
 ChartBreaks rule.NamedTwice = ChartNamesTwice
 ChartBreaks rule.Undeclared = ChartNamesOther
-ChartBreaks rule.Early = IsEarlyAt
-
--- what the rule asks of a chart: where inputs are looked for, that its forms are woven
-abbrev pub IsReady : ChartRule → Chart → Type 0
-IsReady rule.NotBuilt chart = ⊤
-IsReady rule.NamedTwice chart = ⊤
-IsReady rule.Undeclared chart = ⊤
-IsReady rule.Early chart = IsBuilt chart
-
-abbrev pub AreReady : ChartRule → List Chart → Type 0
-AreReady rule charts = (c : Chart) → IsAmong charts c → IsReady rule c
 
 -- ---- the table
 
--- what one chart, whose forms are woven, is woven to: its entry, or its earliest event without partner
+-- what one chart, whose forms are built, is woven to: its entry, with its earliest input before its output; or its earliest event
+-- without partner
 abbrev pub IsNextWoven : Chart → ChartResult → Type 0
-IsNextWoven chart (one.Entry entry) = IsEntryOf (instances chart) chart (entry_view entry) × ((p : Place) → IsAloneAt chart p → ⊥)
+IsNextWoven chart (one.Entry entry early) = IsEntryOf (instances chart) chart (entry_view entry) × ((p : Place) → IsAloneAt chart p → ⊥) × IsLeast (IsEarlyAt chart) early
 IsNextWoven chart (one.Alone place) = IsLeast (IsAloneAt chart) (Some place)
 
 -- the earlier of two places
@@ -87,10 +77,12 @@ abbrev pub earlier_of : Option Place → Option Place → Option Place
 earlier_of a None = a
 earlier_of a (Some p) = earliest a p
 
--- what the charts are woven to: the earliest event without partner, or where there is none their entries
+-- what the charts are woven to: the earliest event without partner, or where there is none their entries, and the earliest input before
+-- its output
 pub record AreWoven (charts : List Chart) (made : Weaving) : Type 0 where
   pub least : IsLeast (InOne IsAloneAt charts) made.alone
   pub entries : made.alone ≡ None → AreEntriesOf instances charts (table_view made.entries.items)
+  pub early : made.alone ≡ None → IsLeast (InOne IsEarlyAt charts) made.early
 
 -- these charts keep all rules and are these entries, or they have this first fault
 abbrev pub IsDecided : List Chart → Decision → Type 0

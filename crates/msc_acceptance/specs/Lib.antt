@@ -1,5 +1,8 @@
+pub mod NotBuilt
+pub mod ChartFaults
 pub mod Rules
 pub mod Acceptance
 pub mod Listing
 pub mod EventCharts
+pub mod EarlyInputs
 pub mod Deciding

@@ -6,8 +6,7 @@ use Rattle.msc_base.specs.NameTables.{with_name}
 use Rattle.msc_base.specs.declared.limits.TheConstants.Limits.{CHARTS, INSTANCES, EXPANDED_SIZE, TOTAL_SIZE}
 use Rattle.msc_base.specs.declared.place.Place.{Place}
 use Rattle.msc_tree.specs.Charts.{Chart, Content, Basic, HighLevel}
-use Rattle.msc_tree.specs.Statements.{statements}
-use Rattle.msc_meaning.specs.Pieces.{statements_count}
+use Rattle.msc_tree.specs.Statements.{Form, Single, Coregion, Condition, Inline, Refer, Stop, Items, no_items, item_and, placed, Statement, Column, Covered, Heading, Ended, Statements, no_statements, statement_and, statements}
 use Rattle.msc_instances.specs.Instances.{instances}
 
 -- at that place it holds of one of the charts
@@ -40,13 +39,36 @@ IsNamedAgain seen (c ∷ charts) place = ((c.place ≡ place) × (list_any (byte
 
 -- ---- sizes
 
-abbrev pub content_count : Content → ℕ
-content_count (Basic held) = statements_count (statements held)
-content_count (HighLevel drawn) = 0
+-- an event counts 3, a coregion 1 and its events; conditions count nothing, and forms that aren't built aren't counted yet
+abbrev pub form_size : Form → ℕ
+form_size (Single e) = 3
+form_size (Coregion es) = 1 + 3 * length es
+form_size (Condition names shared) = 0
+form_size (Inline head held) = 0
+form_size (Refer reference) = 0
+form_size Stop = 0
 
--- the size of a chart: 2, and 3 for each event; conditions count nothing
+abbrev pub items_size : Items → ℕ
+items_size no_items = 0
+items_size (item_and (placed place form) xs) = form_size form + items_size xs
+
+abbrev pub statement_size : Statement → ℕ
+statement_size (Column decl held) = items_size held
+statement_size (Covered cover held) = items_size held
+statement_size (Heading decl) = 0
+statement_size (Ended name) = 0
+
+abbrev pub statements_size : Statements → ℕ
+statements_size no_statements = 0
+statements_size (statement_and x xs) = statement_size x + statements_size xs
+
+abbrev pub content_size : Content → ℕ
+content_size (Basic held) = statements_size (statements held)
+content_size (HighLevel drawn) = 0
+
+-- the size of a chart: 2, and what it holds
 abbrev pub size_of : Chart → ℕ
-size_of c = 2 + 3 * content_count c.content
+size_of c = 2 + content_size c.content
 
 -- the chart stands there, and is above the limit
 abbrev pub IsLarge : Chart → Place → Type 0

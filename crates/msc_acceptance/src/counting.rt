@@ -1,22 +1,97 @@
 //! The size of a chart: for `sizes`.
 
-ghost use Rattle.std.specs.Prelude.{◌≡◌, ◌<◌, ◌^◌, IfOk};
-ghost use Rattle.msc_weaving.specs.Bodies.{IsBuilt};
-ghost use Rattle.msc_acceptance.specs.Rules.{size_of};
-ghost use Rattle.msc_tree.specs.Views.{chart_view};
+ghost use Rattle.std.specs.Prelude.{◌≡◌, ◌+◌, ◌*◌, IfOk, map};
+ghost use Rattle.msc_acceptance.specs.Rules.{content_size, form_size, items_size, size_of, statement_size, statements_size};
+ghost use Rattle.msc_tree.specs.Statements.{items as item_tree, statements as statement_tree};
+ghost use Rattle.msc_tree.specs.Views.{chart_view, content_view, form_view, item_view, statement_view};
 
 use msc_base::NoMemory;
-use msc_tree::RawChart;
-use msc_weaving::chart_events;
-use std::alloc::Global;
+use msc_tree::{Content, RawChart, RawForm, RawItem, Statement};
 
-/// The size of a chart, all of whose forms are woven.
-pub fn size(alloc: Global, chart: &RawChart) -> Result<u128, NoMemory>
-    requires { IsBuilt (chart_view chart.now) }
-    ensures value { IfOk result (λ size. size ≡ size_of (chart_view chart.now)) }
-    ensures small { IfOk result (λ size. size < 2 ^ 80) }
+/// The sum; a larger one than 64 bits hold would want more memory than there is.
+fn sum_of(a: u64, b: u64) -> Result<u64, NoMemory>
+    ensures { IfOk result (λ sum. sum ≡ a + b) }
 {
-    let events = chart_events(alloc, chart)?;
-    let count = events.as_slice().len();
-    Ok(2 + 3 * count as u128)
+    match a.checked_add(b) {
+        Some(sum) => Ok(sum),
+        None => Err(NoMemory),
+    }
+}
+
+/// The size of a coregion of so many events.
+fn coregion_size(events: usize) -> Result<u64, NoMemory>
+    ensures { IfOk result (λ size. size ≡ 1 + 3 * events) }
+{
+    match (events as u64).checked_mul(3) {
+        Some(size) => sum_of(1, size),
+        None => Err(NoMemory),
+    }
+}
+
+/// The size of an item.
+fn form_size(form: &RawForm) -> Result<u64, NoMemory>
+    ensures { IfOk result (λ size. size ≡ form_size (form_view form.now)) }
+{
+    match form {
+        RawForm::Single(_) => Ok(3),
+        RawForm::Coregion(list) => coregion_size(list.len()),
+        RawForm::Condition(_, _) => Ok(0),
+        RawForm::Inline(_) => Ok(0),
+        RawForm::Reference(_) => Ok(0),
+        RawForm::Stop => Ok(0),
+    }
+}
+
+/// The size of items.
+fn items_size(list: &[RawItem]) -> Result<u64, NoMemory>
+    ensures { IfOk result (λ size. size ≡ items_size (item_tree (map item_view list.now))) }
+{
+    let mut total = 0u64;
+    for held in list {
+        let more = form_size(&held.form)?;
+        total = sum_of(total, more)?;
+    }
+    Ok(total)
+}
+
+/// The size of a statement.
+fn statement_size(statement: &Statement) -> Result<u64, NoMemory>
+    ensures { IfOk result (λ size. size ≡ statement_size (statement_view statement.now)) }
+{
+    match statement {
+        Statement::Column(_, list) => items_size(list.as_slice()),
+        Statement::Covered(_, list) => items_size(list.as_slice()),
+        Statement::Heading(_) => Ok(0),
+        Statement::Ended(_) => Ok(0),
+    }
+}
+
+/// The size of statements.
+fn statements_size(list: &[Statement]) -> Result<u64, NoMemory>
+    ensures { IfOk result (λ size. size ≡ statements_size (statement_tree (map statement_view list.now))) }
+{
+    let mut total = 0u64;
+    for held in list {
+        let more = statement_size(held)?;
+        total = sum_of(total, more)?;
+    }
+    Ok(total)
+}
+
+/// The size of what a chart holds.
+fn content_size(content: &Content) -> Result<u64, NoMemory>
+    ensures { IfOk result (λ size. size ≡ content_size (content_view content.now)) }
+{
+    match content {
+        Content::Events(list) => statements_size(list.as_slice()),
+        Content::Graph(_) => Ok(0),
+    }
+}
+
+/// The size of a chart.
+pub fn size(chart: &RawChart) -> Result<u64, NoMemory>
+    ensures { IfOk result (λ size. size ≡ size_of (chart_view chart.now)) }
+{
+    let held = content_size(&chart.content)?;
+    sum_of(2, held)
 }

@@ -4,7 +4,7 @@ ghost use Rattle.std.specs.Prelude.{◌≡◌, IfOk, map};
 ghost use Rattle.msc_rules.specs.FirstFaults.{IsBest};
 ghost use Rattle.msc_rules.specs.Rules.{number_of};
 ghost use Rattle.msc_acceptance.specs.Acceptance.{BreaksOf};
-ghost use Rattle.msc_acceptance.specs.Deciding.{AreBuilt, IsDecided, forms, inputs, limits, names, sizes};
+ghost use Rattle.msc_acceptance.specs.Deciding.{IsDecided, forms, limits, names, sizes};
 ghost use Rattle.msc_tree.specs.Views.{chart_view};
 
 use crate::limits::{further_chart, further_instance};
@@ -27,7 +27,7 @@ pub enum Decision {
     Faulty(Broken<Rule>),
 }
 
-/// The first form that isn't woven.
+/// The first form that isn't built.
 fn form_fault(alloc: Global, charts: &[RawChart]) -> Result<Option<Broken<Rule>>, NoMemory>
     ensures { IfOk result (IsBest number_of (BreaksOf (map chart_view charts.now)) forms) }
 {
@@ -58,24 +58,14 @@ fn name_fault(alloc: Global, charts: &[RawChart]) -> Result<Option<Broken<Rule>>
 }
 
 /// The first fault by sizes.
-fn size_fault(alloc: Global, charts: &[RawChart]) -> Result<Option<Broken<Rule>>, NoMemory>
-    requires { AreBuilt (map chart_view charts.now) }
+fn size_fault(charts: &[RawChart]) -> Result<Option<Broken<Rule>>, NoMemory>
     ensures { IfOk result (IsBest number_of (BreaksOf (map chart_view charts.now)) sizes) }
 {
-    let largest = large_chart(alloc, charts)?;
+    let largest = large_chart(charts)?;
     let one = broken_at(Rule::Size, largest);
-    let total = large_total(alloc, charts)?;
+    let total = large_total(charts)?;
     let all = broken_at(Rule::Total, total);
     Ok(earlier_fault(one, all))
-}
-
-/// The first input that stands before its output.
-fn input_fault(alloc: Global, charts: &[RawChart]) -> Result<Option<Broken<Rule>>, NoMemory>
-    requires { AreBuilt (map chart_view charts.now) }
-    ensures { IfOk result (IsBest number_of (BreaksOf (map chart_view charts.now)) inputs) }
-{
-    let place = first_place(alloc, charts, ChartRule::Early)?;
-    Ok(broken_at(Rule::Cyclic, place))
 }
 
 /// The table of these charts, or their first fault.
@@ -91,7 +81,7 @@ pub fn decide(alloc: Global, charts: &[RawChart]) -> Result<Decision, NoMemory>
     if let Some(fault) = name_fault(alloc, charts)? {
         return Ok(Decision::Faulty(fault));
     }
-    if let Some(fault) = size_fault(alloc, charts)? {
+    if let Some(fault) = size_fault(charts)? {
         return Ok(Decision::Faulty(fault));
     }
     let made = woven_charts(alloc, charts)?;
@@ -101,8 +91,11 @@ pub fn decide(alloc: Global, charts: &[RawChart]) -> Result<Decision, NoMemory>
             place,
         }));
     }
-    if let Some(fault) = input_fault(alloc, charts)? {
-        return Ok(Decision::Faulty(fault));
+    if let Some(place) = made.early {
+        return Ok(Decision::Faulty(Broken {
+            rule: Rule::Cyclic,
+            place,
+        }));
     }
     Ok(Decision::Woven(made.entries))
 }

@@ -3,31 +3,27 @@
 ghost use Rattle.std.specs.Prelude.{◌≡◌, IfOk, map, nat_lt};
 ghost use Rattle.msc_base.specs.Places.{IsLeast};
 ghost use Rattle.msc_base.specs.declared.limits.TheConstants.Limits.{EXPANDED_SIZE, TOTAL_SIZE};
-ghost use Rattle.msc_weaving.specs.Bodies.{IsBuilt};
-ghost use Rattle.msc_acceptance.specs.Deciding.{AreBuilt};
 ghost use Rattle.msc_acceptance.specs.Rules.{InOne, IsLarge, PassesTotal, size_of};
 ghost use Rattle.msc_tree.specs.Views.{chart_view};
 
 use crate::counting::size;
 use msc_base::{Limits, NoMemory, Place, earlier_if};
 use msc_tree::RawChart;
-use std::alloc::Global;
 
 /// Whether a size is above the limit of charts.
-fn is_large(size: u128) -> bool
+fn is_large(size: u64) -> bool
     ensures { result ≡ nat_lt EXPANDED_SIZE size }
 {
-    size > Limits::EXPANDED_SIZE as u128
+    size > Limits::EXPANDED_SIZE
 }
 
 /// The earliest place of a chart above the limit.
-pub fn large_chart(alloc: Global, charts: &[RawChart]) -> Result<Option<Place>, NoMemory>
-    requires { AreBuilt (map chart_view charts.now) }
+pub fn large_chart(charts: &[RawChart]) -> Result<Option<Place>, NoMemory>
     ensures { IfOk result (IsLeast (InOne IsLarge (map chart_view charts.now))) }
 {
     let mut best = None;
     for chart in charts {
-        let large = is_large(size(alloc, chart)?);
+        let large = is_large(size(chart)?);
         best = earlier_if(best, chart.place, large);
     }
     Ok(best)
@@ -41,13 +37,12 @@ fn is_above(sum: u128) -> bool
 }
 
 /// The place of the chart at which the sum of the sizes passes the limit.
-pub fn large_total(alloc: Global, charts: &[RawChart]) -> Result<Option<Place>, NoMemory>
-    requires { AreBuilt (map chart_view charts.now) }
+pub fn large_total(charts: &[RawChart]) -> Result<Option<Place>, NoMemory>
     ensures { IfOk result (IsLeast (PassesTotal 0 (map chart_view charts.now))) }
 {
     let mut sum: u128 = 0;
     for chart in charts {
-        let total = sum + size(alloc, chart)?;
+        let total = sum + size(chart)? as u128;
         if is_above(total) {
             return Ok(Some(chart.place));
         }

@@ -2,7 +2,8 @@
 
 ghost use Rattle.std.specs.Prelude.{◌≡◌, IfOk, Some, map};
 ghost use Rattle.msc_base.specs.Places.{IsLeast};
-ghost use Rattle.msc_weaving.specs.Bodies.{IsAloneAt, IsBodyOf, IsBuilt, IsWeaveFault};
+ghost use Rattle.level_weaving.specs.WeaveFaults.{IsWeaveFault};
+ghost use Rattle.msc_acceptance.specs.ChartFaults.{IsAloneAt, IsBodyOf, IsBuilt};
 ghost use Rattle.msc_instances.specs.Instances.{instances};
 ghost use Rattle.msc_meaning.specs.Views.{body_view, entry_view};
 ghost use Rattle.msc_meaning.specs.WovenTables.{IsEntryOf};
@@ -10,11 +11,13 @@ ghost use Rattle.msc_acceptance.specs.Deciding.{AreBuilt, AreWoven, IsNextWoven}
 ghost use Rattle.msc_tree.specs.Views.{chart_view};
 
 use crate::declaring::chart_decls;
+use crate::early::first_early;
+use crate::walks::earlier;
+use level_weaving::{WeaveFault, weave};
 use msc_base::{NoMemory, Place, earlier_place};
 use msc_instances::instances_of;
 use msc_meaning::{Body, ChartEntry, EntryContent};
 use msc_tree::RawChart;
-use msc_weaving::{WeaveFault, weave};
 use std::alloc::Global;
 
 /// What charts are woven to.
@@ -24,6 +27,8 @@ pub struct Weaving {
     pub entries: Vec<ChartEntry>,
     /// The earliest event without partner.
     pub alone: Option<Place>,
+    /// The earliest input before its output, of the charts that can be woven.
+    pub early: Option<Place>,
 }
 
 /// The entry of a chart, which is woven to that body.
@@ -43,20 +48,20 @@ fn entry_of(alloc: Global, chart: &RawChart, body: Body) -> Result<ChartEntry, N
 /// What one chart is woven to: its entry, or the place of its earliest event without partner.
 #[derive(Drop)]
 enum ChartResult {
-    /// Its entry.
-    Entry(ChartEntry),
+    /// Its entry, and its earliest input before its output.
+    Entry(ChartEntry, Option<Place>),
     /// The place.
     Alone(Place),
 }
 
-/// The place of an event without partner: a chart whose forms are woven has no other fault.
+/// The place of an event without partner: a chart whose forms are built has no other fault.
 fn alone_place(chart: &RawChart, fault: WeaveFault) -> Result<Place, NoMemory>
     requires built { IsBuilt (chart_view chart.now) }
     requires fault { IsWeaveFault (chart_view chart.now) fault }
     ensures { IfOk result (λ place. IsLeast (IsAloneAt (chart_view chart.now)) (Some place)) }
 {
     match fault {
-        WeaveFault::NotBuilt(place) => Ok(place),
+        WeaveFault::NotWoven(place) => Ok(place),
         WeaveFault::Crossed(place) => Ok(place),
         WeaveFault::Unmatched(place) => Ok(place),
         WeaveFault::NoMemory => Err(NoMemory),
@@ -70,7 +75,11 @@ fn woven(alloc: Global, chart: &RawChart) -> Result<ChartResult, NoMemory>
 {
     let names = instances_of(alloc, chart)?;
     match weave(alloc, chart, &names) {
-        Ok(body) => Ok(ChartResult::Entry(entry_of(alloc, chart, body)?)),
+        Ok(body) => {
+            let early = first_early(alloc, &body)?;
+            let entry = entry_of(alloc, chart, body)?;
+            Ok(ChartResult::Entry(entry, early))
+        }
         Err(fault) => Ok(ChartResult::Alone(alone_place(chart, fault)?)),
     }
 }
@@ -82,11 +91,19 @@ pub fn woven_charts(alloc: Global, charts: &[RawChart]) -> Result<Weaving, NoMem
 {
     let mut entries = Vec::new(alloc);
     let mut alone = None;
+    let mut early = None;
     for chart in charts {
         match woven(alloc, chart)? {
-            ChartResult::Entry(entry) => entries.push(entry)?,
+            ChartResult::Entry(entry, found) => {
+                entries.push(entry)?;
+                early = earlier(early, found);
+            }
             ChartResult::Alone(place) => alone = earlier_place(alone, place),
         }
     }
-    Ok(Weaving { entries, alone })
+    Ok(Weaving {
+        entries,
+        alone,
+        early,
+    })
 }

@@ -2,27 +2,25 @@
 
 ghost use Rattle.std.specs.Prelude.{◌≡◌, IfOk, map};
 ghost use Rattle.msc_base.specs.Places.{IsLeast};
-ghost use Rattle.msc_acceptance.specs.Deciding.{AreBuilt, AreReady, ChartBreaks, IsReady, earlier_of};
+ghost use Rattle.msc_acceptance.specs.Deciding.{ChartBreaks, earlier_of};
 ghost use Rattle.msc_acceptance.specs.Rules.{InOne};
 ghost use Rattle.msc_tree.specs.Views.{chart_view};
 
+use crate::not_built::first_not_built;
 use msc_base::{NoMemory, Place, earlier_place};
 use msc_instances::{first_named_twice, first_undeclared};
 use msc_tree::RawChart;
-use msc_weaving::{first_early, first_not_built};
 use std::alloc::Global;
 
 /// A rule that a chart breaks by itself.
 #[derive(Clone, Copy, Debug, PartialEq, Eq)]
 pub enum ChartRule {
-    /// A form isn't woven yet.
+    /// A form isn't built yet.
     NotBuilt,
     /// A decomposed instance or a part is named a second time.
     NamedTwice,
     /// A name stands that may not.
     Undeclared,
-    /// An input stands before its output.
-    Early,
 }
 
 /// The earlier of two places.
@@ -37,14 +35,12 @@ pub fn earlier(a: Option<Place>, b: Option<Place>) -> Option<Place>
 
 /// The earliest place at which a chart breaks the rule.
 fn place_in(alloc: Global, chart: &RawChart, rule: ChartRule) -> Result<Option<Place>, NoMemory>
-    requires { IsReady rule (chart_view chart.now) }
     ensures { IfOk result (IsLeast (ChartBreaks rule (chart_view chart.now))) }
 {
     match rule {
         ChartRule::NotBuilt => first_not_built(alloc, chart),
         ChartRule::NamedTwice => first_named_twice(alloc, chart),
         ChartRule::Undeclared => first_undeclared(alloc, chart),
-        ChartRule::Early => first_early(alloc, chart),
     }
 }
 
@@ -54,7 +50,6 @@ pub fn first_place(
     charts: &[RawChart],
     rule: ChartRule,
 ) -> Result<Option<Place>, NoMemory>
-    requires { AreReady rule (map chart_view charts.now) }
     ensures { IfOk result (IsLeast (InOne (ChartBreaks rule) (map chart_view charts.now))) }
 {
     let mut best = None;

@@ -1,11 +1,11 @@
 //! The instances and the woven list of a chart, and what is refused.
+use level_weaving::{WeaveFault, weave};
 use msc_base::Place;
 use msc_document::parse;
 use msc_instances::{NameFault, names};
 use msc_meaning::{Body, Item};
 use msc_tokens::lex_all;
 use msc_tree::RawChart;
-use msc_weaving::{WeaveFault, weave};
 use std::alloc::{AllocError, Global};
 use std::test::Fail;
 
@@ -52,7 +52,7 @@ fn woven(alloc: Global, chart: &RawChart) -> Result<String, AllocError> {
     };
     match weave(alloc, chart, &listed) {
         Ok(body) => told(alloc, &body),
-        Err(WeaveFault::NotBuilt(place)) => at(alloc, "not built", place),
+        Err(WeaveFault::NotWoven(place)) => at(alloc, "not built", place),
         Err(WeaveFault::Crossed(place)) => at(alloc, "crossed", place),
         Err(WeaveFault::Unmatched(place)) => at(alloc, "unmatched", place),
         Err(WeaveFault::NoMemory) => Err(AllocError),

@@ -6,7 +6,7 @@ use Rattle.msc_acceptance.specs.declared.deciding.Decision.TheVariants as decisi
 use Rattle.msc_meaning.specs.Views.{table_view}
 use Rattle.msc_meaning.specs.declared.body.ChartEntry as code
 use Rattle.msc_acceptance.specs.EventCharts.{HaveEventsAlone}
-use Rattle.msc_acceptance.proofs.EventLaws.{kept_one, kept_have}
+use Rattle.msc_acceptance.proofs.EventLaws.{one_table, kept_have}
 use Rattle.msc_acceptance.proofs.AcceptLaws.{few, has_fault, only_fault}
 use Rattle.msc_acceptance.proofs.acceptance.accept.Goals as goal
 
@@ -34,7 +34,7 @@ returns-in-Ok-Woven-clause-only c =
     let decided : IsDecided (map chart_view c.as_slice.result.now) (decision.Woven c.in-Ok-Woven.entries) = search rules in
     let own : IsDecided d.charts (decision.Woven c.in-Ok-Woven.entries) = subst (λ (cs : List Chart). IsDecided cs (decision.Woven c.in-Ok-Woven.entries)) charts decided in
     let made : c.of_entries.result ≡ c.in-Ok-Woven.entries.items = search rules in
-    λ other k. subst (λ (es : List code.ChartEntry). table_view es ≡ other) (sym made) (kept_one d.charts (table_view c.in-Ok-Woven.entries.items) other own.0 own.1 k)
+    λ other k. subst (λ (es : List code.ChartEntry). table_view es ≡ other) (sym made) (one_table d.charts (table_view c.in-Ok-Woven.entries.items) other own.1 k)
 
 pub returns-in-Ok-Woven-clause-events : goal.returns-in-Ok-Woven-clause-events
 returns-in-Ok-Woven-clause-events c =

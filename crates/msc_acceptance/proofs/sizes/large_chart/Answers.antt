@@ -3,16 +3,13 @@ use Rattle.msc_base.specs.Places.{earliest_if}
 use Rattle.msc_base.specs.declared.limits.TheConstants.Limits.{EXPANDED_SIZE}
 use Rattle.msc_acceptance.specs.Rules.{InOne, IsLarge, size_of}
 use Rattle.msc_tree.specs.Views.{chart_view}
-use Rattle.msc_acceptance.proofs.WalkLaws.{chart_built, walk_step}
+use Rattle.msc_acceptance.proofs.WalkLaws.{walk_step}
 use Rattle.msc_acceptance.proofs.sizes.large_chart.Goals as goal
-
-pub size-requires : goal.size-requires
-size-requires c = chart_built c.args.charts.now c.loop-chart.chart-index c.chart-item.result c.requires c.loop-chart-test.true c.chart-item.is
 
 pub loop-chart-preserved : goal.loop-chart-preserved
 loop-chart-preserved c =
     let list = c.args.charts.now in
-    let size : c.in_ok-size.field-0 ≡ size_of (chart_view c.chart-item.result) = c.in_ok-size.ensures.value in
+    let size : c.in_ok-size.field-0 ≡ size_of (chart_view c.chart-item.result) = c.in_ok-size.ensures in
     let next : c.earlier_if-best.result ≡ earliest_if (nat_lt EXPANDED_SIZE (size_of (chart_view c.chart-item.result))) c.loop-chart.best c.chart-item.result.place =
     c.earlier_if-best.ensures ∙ ap (λ (b : Bool). earliest_if b c.loop-chart.best c.chart-item.result.place) (c.is_large-large.ensures ∙ ap (λ (n : ℕ). nat_lt EXPANDED_SIZE n) size) in
     walk_step (InOne IsLarge (map chart_view list)) (InOne IsLarge) (InOne IsLarge (map chart_view (drop (c.loop-chart.chart-index + 1) list))) list c.loop-chart.chart-index c.chart-item.result

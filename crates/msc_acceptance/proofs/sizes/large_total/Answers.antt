@@ -4,16 +4,13 @@ use Rattle.msc_base.specs.declared.limits.TheConstants.Limits.{TOTAL_SIZE}
 use Rattle.msc_base.proofs.Narrowing.{Narrows}
 use Rattle.msc_acceptance.specs.Rules.{PassesTotal, size_of}
 use Rattle.msc_tree.specs.Views.{chart_view}
-use Rattle.msc_acceptance.proofs.WalkLaws.{chart_built, total_passed, total_step}
+use Rattle.msc_acceptance.proofs.WalkLaws.{total_passed, total_step}
 use Rattle.msc_acceptance.proofs.sizes.large_total.Goals as goal
-
-pub size-requires : goal.size-requires
-size-requires c = chart_built c.args.charts.now c.loop-chart.chart-index c.chart-item.result c.requires c.loop-chart-test.true c.chart-item.is
 
 pub returns-then-is_above : goal.returns-then-is_above
 returns-then-is_above c =
     let list = c.args.charts.now in
-    let size : c.in_ok-total.field-0 ≡ size_of (chart_view c.chart-item.result) = c.in_ok-total.ensures.value in
+    let size : c.in_ok-total.field-0 ≡ size_of (chart_view c.chart-item.result) = c.in_ok-total.ensures in
     let test : nat_lt TOTAL_SIZE (c.loop-chart.sum + c.in_ok-total.field-0) ≡ true = sym c.is_above.ensures ∙ c.if-is_above.true in
     let above : TOTAL_SIZE < c.loop-chart.sum + c.in_ok-total.field-0 = grind (arith, nat_tests) in
     total_passed (PassesTotal 0 (map chart_view list)) list c.loop-chart.chart-index c.chart-item.result c.loop-chart.sum c.loop-chart-test.true c.chart-item.is c.loop-chart.invariant.small (omega (arith, above, size)) c.loop-chart.invariant.rest
@@ -21,7 +18,7 @@ returns-then-is_above c =
 pub loop-chart-preserved : goal.loop-chart-preserved
 loop-chart-preserved c =
     let list = c.args.charts.now in
-    let size : c.in_ok-total.field-0 ≡ size_of (chart_view c.chart-item.result) = c.in_ok-total.ensures.value in
+    let size : c.in_ok-total.field-0 ≡ size_of (chart_view c.chart-item.result) = c.in_ok-total.ensures in
     let test : nat_lt TOTAL_SIZE (c.loop-chart.sum + c.in_ok-total.field-0) ≡ false = sym c.is_above.ensures ∙ c.if-is_above.false in
     let below : c.loop-chart.sum + c.in_ok-total.field-0 ≤ TOTAL_SIZE = grind (arith, nat_tests) in
     record {

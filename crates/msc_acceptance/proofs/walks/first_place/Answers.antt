@@ -2,11 +2,8 @@ use Rattle.std.proofs.Common.{map}
 use Rattle.msc_acceptance.specs.Deciding.{ChartBreaks}
 use Rattle.msc_acceptance.specs.Rules.{InOne}
 use Rattle.msc_tree.specs.Views.{chart_view}
-use Rattle.msc_acceptance.proofs.WalkLaws.{among_charts, part_step}
+use Rattle.msc_acceptance.proofs.WalkLaws.{part_step}
 use Rattle.msc_acceptance.proofs.walks.first_place.Goals as goal
-
-pub place_in-requires : goal.place_in-requires
-place_in-requires c = c.requires (chart_view c.chart-item.result) (among_charts c.args.charts.now c.loop-chart.chart-index c.chart-item.result c.loop-chart-test.true c.chart-item.is)
 
 pub loop-chart-preserved : goal.loop-chart-preserved
 loop-chart-preserved c =

@@ -1,0 +1,41 @@
+-- Where the body of a chart breaks a rule: columns that cross, messages without partner, inputs before their outputs.
+use Rattle.std.specs.Prelude.{ℕ, List}
+use Rattle.msc_base.specs.declared.place.Place.{Place}
+use Rattle.msc_tree.specs.Charts.{Chart, Content, Basic, HighLevel}
+use Rattle.msc_tree.specs.Statements.{statements}
+use Rattle.msc_meaning.specs.Bodies.{Body}
+use Rattle.msc_meaning.specs.Crossings.{Crosses}
+use Rattle.msc_meaning.specs.Partners.{HasEarly, LacksPartner}
+use Rattle.msc_meaning.specs.Pieces.{statements_pieces}
+use Rattle.msc_meaning.specs.Tables as table
+use Rattle.msc_meaning.specs.WovenTables.{IsWovenContent}
+use Rattle.msc_instances.specs.Instances.{instances}
+use Rattle.msc_acceptance.specs.NotBuilt.{IsNotBuilt}
+
+-- the chart is a basic one, and its text is woven to that body
+abbrev pub IsBodyOf : Chart → Body → Type 0
+IsBodyOf chart body = IsWovenContent (instances chart) chart.content (table.Basic body)
+
+abbrev pub ContentCrosses : List (List ℕ) → Content → Place → Type 0
+ContentCrosses names (Basic held) place = Crosses names (statements_pieces names 0 (statements held)) place
+ContentCrosses names (HighLevel drawn) place = ⊥
+
+-- at that place columns of the chart cross
+abbrev pub CrossesAt : Chart → Place → Type 0
+CrossesAt chart place = ContentCrosses (instances chart) chart.content place
+
+-- at that place an output or an input stands that has no partner in what the chart is woven to
+pub record IsAloneAt (chart : Chart) (place : Place) : Type 0 where
+  pub body : Body
+  pub woven : IsBodyOf chart body
+  pub alone : LacksPartner body place
+
+-- at that place an input stands that what the chart is woven to has before its output
+pub record IsEarlyAt (chart : Chart) (place : Place) : Type 0 where
+  pub body : Body
+  pub woven : IsBodyOf chart body
+  pub early : HasEarly body place
+
+-- every form of the chart is built
+abbrev pub IsBuilt : Chart → Type 0
+IsBuilt chart = (p : Place) → IsNotBuilt chart p → ⊥

@@ -1,9 +1,0 @@
-pub mod Entries
-pub mod EventViews
-pub mod EntryEdges
-pub mod Messages
-pub mod Marks
-pub mod Alone
-pub mod NotBuilt
-pub mod Bodies
-pub mod LevelBodies
