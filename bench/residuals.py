@@ -16,9 +16,9 @@ works, with COUNT:
     statements a plain chart of so many statements over sixty instances under one tie, in whole groups of sixty
     behind     so many equal actions of one instance, and behind them as many of another, which happen first
 """
-import os
-import subprocess
 import sys
+
+import measured
 
 EVENTS = {"requests": 2, "exchanges": 4, "coregions": 10, "coregion": 1, "choices": 1, "ahead": 2, "behind": 2, "statements": 1}
 WORKS = [
@@ -33,23 +33,13 @@ WORKS = [
 ]
 
 
-def run(program, work, count):
-    """What was printed, the time of a processor, and the peak memory in MiB."""
-    started = subprocess.Popen([program, work, str(count)], stdout=subprocess.PIPE, text=True)
-    printed = started.stdout.read().strip()
-    _, status, usage = os.wait4(started.pid, 0)
-    if status != 0:
-        sys.exit(f"{work} {count}: status {status}")
-    return printed, usage.ru_utime + usage.ru_stime, usage.ru_maxrss / 1024
-
-
 def main():
     program = sys.argv[1]
     given = sys.argv[2:]
     works = list(zip(given[::2], map(int, given[1::2]))) or WORKS
     before = ("", 0, 0.0)
     for work, count in works:
-        runs = [run(program, work, count) for _ in range(3)]
+        runs = [measured.child([program, work, str(count)]) for _ in range(3)]
         processor = min(r[1] for r in runs)
         events = EVENTS[work] * count
         rate = events / processor if processor else float("inf")

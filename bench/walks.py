@@ -8,21 +8,11 @@ which is the `end` line; each other node is an action of one instance with one o
 nodes, one after another. Each size is run three times without events and with them, and the least times of a processor count: their
 difference is that of the events.
 """
-import os
-import subprocess
 import sys
 
+import measured
+
 SIZES = [(1_000, 500), (2_000, 500), (4_000, 500)]
-
-
-def run(program, lines, events):
-    """What was printed, the time of a processor, and the peak memory in MiB."""
-    started = subprocess.Popen([program, str(lines), str(events)], stdout=subprocess.PIPE, text=True)
-    printed = started.stdout.read().strip()
-    _, status, usage = os.wait4(started.pid, 0)
-    if status != 0:
-        sys.exit(f"{lines} {events}: status {status}")
-    return printed, usage.ru_utime + usage.ru_stime, usage.ru_maxrss / 1024
 
 
 def main():
@@ -30,8 +20,8 @@ def main():
     given = sys.argv[2:]
     sizes = list(zip(map(int, given[::2]), map(int, given[1::2]))) or SIZES
     for lines, events in sizes:
-        made = min(run(program, lines, 0)[1] for _ in range(3))
-        runs = [run(program, lines, events) for _ in range(3)]
+        made = min(measured.child([program, str(lines), "0"])[1] for _ in range(3))
+        runs = [measured.child([program, str(lines), str(events)]) for _ in range(3)]
         each = (min(r[1] for r in runs) - made) / events
         print(f"{lines} lines: {runs[0][0]}; {made:.3f} s of a processor before the first event, {each * 1e6:,.0f} µs an event, "
               f"peak {max(r[2] for r in runs):.0f} MiB", flush=True)
