@@ -8,12 +8,10 @@ import os
 import re
 import sys
 
-FUNCTIONS, LINES, CHAIN, EDITS, ALL_EDITS, TESTS = 100, 800, 11, 8, 90, 40
-# permit_step is to be split: what asks and gives permission, and what takes an event.
-MORE_FUNCTIONS = {"permit_step": 120}
+FUNCTIONS, LINES, CHAIN, EDITS, ALL_EDITS, TESTS = 100, 800, 12, 8, 90, 40
 TEST_CRATES = ("text_tests", "calculus_tests", "command_tests")
 # Neither of these two knows of the other (docs/ARCHITECTURE.md, what holds everywhere).
-CALCULUS = ("hmsc_graph", "chart_term", "term_tables", "term_laws", "permit_step")
+CALCULUS = ("hmsc_graph", "chart_term", "term_tables", "term_laws", "term_permission", "permit_step")
 TEXT = ("msc_tokens", "token_grammar", "msc_events", "msc_expression", "msc_document", "msc_print")
 
 
@@ -61,7 +59,7 @@ def of_crate(crate, libraries):
     functions = sum(len(re.findall(r"^\s*(?:pub(?:\([a-z]+\))? )?fn ", text, re.M)) for text in code)
     tests = sum(text.count("#[test]") for text in code)
     edits = len(glob.glob(f"crates/{crate}/must-fail/*.edit"))
-    if functions > MORE_FUNCTIONS.get(crate, FUNCTIONS):
+    if functions > FUNCTIONS:
         yield f"{crate}: {functions} functions"
     if tests > (TESTS if crate in TEST_CRATES else 0):
         yield f"{crate}: {tests} tests"

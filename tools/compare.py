@@ -2,8 +2,8 @@
 """compare.py PROGRAM MODEL [--documents N] [--seed S]: whether the program answers as a model of it does, on random documents and logs.
 
 PROGRAM and MODEL are programs that take the words of mscjudge. Documents have charts of events of all kinds, in statements and in
-columns, and coregions, some of them faulty; logs are runs of their charts, beginnings of runs, and runs with an event changed, in text or JSON, and
-some are judged within a budget. A document that the program refuses as not built yet is counted, and no more is asked of it. Each
+columns, and coregions, with labels and general ordering, and with inputs before their outputs, some of them faulty; logs are runs of
+their charts, beginnings of runs, and runs with an event changed, in text or JSON, and some are judged within a budget. A document that the program refuses as not built yet is counted, and no more is asked of it. Each
 difference is printed with what it takes to see it again. It ends with status 1 where there is one.
 """
 import argparse
@@ -22,7 +22,7 @@ class Event:
 
     def __init__(self, at, kind, text, far=None, pairing="", message=None):
         self.at, self.kind, self.text, self.far, self.pairing, self.message = at, kind, text, far, pairing, message
-        self.coregion = None
+        self.coregion, self.label, self.before, self.after, self.waits = None, None, [], [], []
 
     def words(self, in_chart):
         pairing = f",{self.pairing}" if in_chart and self.pairing else ""
@@ -33,6 +33,13 @@ class Event:
         if self.kind == "found":
             return f"in {self.text} from found"
         return f"{self.kind} {self.text}"
+
+    def statement(self):
+        """What a chart has of it, with its label and its order."""
+        label = f"label {self.label}; " if self.label else ""
+        before = f" before {','.join(self.before)}" if self.before else ""
+        after = f" after {','.join(self.after)}" if self.after else ""
+        return label + self.words(True) + before + after
 
     def line(self, form, rng):
         if form == "text":
@@ -66,6 +73,34 @@ def events_of(rng, instances):
     return events
 
 
+def order(rng, events):
+    """Gives events labels, and orders them, mostly as they stand, and now and then wrongly."""
+    for number, event in enumerate(events):
+        if rng.random() < 0.5:
+            event.label = f"e{number}" if rng.random() < 0.97 else "e0"
+    for number, event in enumerate(events):
+        for other, behind in ((events[k], k > number) for k in rng.sample(range(len(events)), min(2, len(events)))):
+            if not other.label or other is event or rng.random() < 0.5:
+                continue
+            first = behind if rng.random() < 0.95 else not behind
+            (event.before if first else event.after).append(other.label if rng.random() < 0.98 else "none")
+            (other if first else event).waits.append(event if first else other)
+
+
+def interleaved(rng, stretches):
+    """The stretches with those of each instance in their order: so that an input may stand before its output."""
+    queues = {}
+    for stretch in stretches:
+        queues.setdefault(stretch[0].at, []).append(stretch)
+    mixed = []
+    while queues:
+        at = rng.choice(sorted(queues))
+        mixed.append(queues[at].pop(0))
+        if not queues[at]:
+            del queues[at]
+    return mixed
+
+
 def stretches_of(rng, events):
     """The events one by one, and now and then several of one instance together, as a coregion."""
     stretches = []
@@ -88,8 +123,13 @@ def chart_of(rng, name):
     kept = list(events)
     if faulty < 0.08 and kept:
         del kept[rng.randrange(len(kept))]
+    if rng.random() < 0.3:
+        order(rng, kept)
+    stretches = stretches_of(rng, kept)
+    if rng.random() < 0.3:
+        stretches = interleaved(rng, stretches)
     held = None
-    for number, stretch in enumerate(stretches_of(rng, kept)):
+    for number, stretch in enumerate(stretches):
         at = stretch[0].at
         if rng.random() < 0.3:
             if held:
@@ -99,7 +139,7 @@ def chart_of(rng, name):
         if held and held != at:
             lines.append("endinstance;")
             held = None
-        words = "; ".join(event.words(True) for event in stretch) + ";"
+        words = "; ".join(event.statement() for event in stretch) + ";"
         if len(stretch) > 1 or rng.random() < 0.05:
             for event in stretch:
                 event.coregion = number
@@ -112,22 +152,22 @@ def chart_of(rng, name):
     if 0.08 <= faulty < 0.11:
         lines.append(f"{rng.choice(instances)}: out u to nobody;")
     if 0.11 <= faulty < 0.14:
-        lines.append(f"{rng.choice(instances)}: " + rng.choice(["stop;", "concurrent; action a before p; endconcurrent;", "concurrent; create k; endconcurrent;"]))
+        lines.append(f"{rng.choice(instances)}: " + rng.choice(["stop;", "concurrent; out a to env via g; endconcurrent;", "concurrent; create k; endconcurrent;"]))
     if 0.14 <= faulty < 0.16:
         lines.append("bad")
     return f"msc {name};\n" + rng.choice([" ", "\n"]).join(lines) + "\nendmsc;", events
 
 
 def run_of(rng, events):
-    """The events in another order that the chart allows, where pairing names don't cross."""
+    """The events in another order that the chart allows, where pairing names don't cross and the order has no cycle."""
     waiting, sent, run = list(events), set(), []
     while waiting:
         due = []
         for index, event in enumerate(waiting):
             first = all(other.at != event.at or other.coregion == event.coregion is not None for other in waiting[:index])
-            if first and (not event.message or event.message > 0 or -event.message in sent):
+            if first and not any(other in waiting for other in event.waits) and (not event.message or event.message > 0 or -event.message in sent):
                 due.append(event)
-        event = rng.choice(due)
+        event = rng.choice(due or waiting)
         waiting.remove(event)
         run.append(event)
         if event.message and event.message > 0:
@@ -205,7 +245,7 @@ def compare_document(rng, both):
         for _ in range(2):
             log, is_json = log_of(rng, events)
             both.write("l", log)
-            weight = len(events) + 2 + sum(1 for event in events if event.message and event.message > 0)
+            weight = len(events) + 2 + sum(1 for event in events if event.message and event.message > 0) + sum(len(event.waits) for event in events)
             budget = rng.choice([[], [], ["--budget", str(max(1, weight + rng.randint(-3, 1)))]])
             both.compare(["judge", "d", name, "l", *budget, *(["--log-json"] if is_json else []), *rng.choice([[], ["--json"]])], document, log)
     return "accepted"

@@ -9,9 +9,9 @@ use Rattle.chart_term.specs.NormalForms.{join_all, choice_of, tie_of}
 use Rattle.chart_term.specs.Properties.{Each}
 use Rattle.chart_term.specs.Tables.{Tables, NetEntry, net_count}
 use Rattle.chart_term.specs.Terms.{TermEvent, Tree, Event}
-use Rattle.permit_step.specs.Ready.{AreReadyTables, IsReady}
+use Rattle.term_permission.specs.Ready.{AreReadyTables, IsReady}
 use Rattle.permit_step.specs.Successors.{AppendsFound}
-use Rattle.permit_step.proofs.ReadyTerms.{ready_is_kept}
+use Rattle.term_permission.proofs.ReadyTerms.{ready_is_kept}
 use Rattle.term_laws.proofs.Keeping.{at_some}
 
 pub ready-event : (w : Tables) (x : Tree) (e : TermEvent) → x ≡ Event e → IsReady w x

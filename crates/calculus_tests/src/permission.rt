@@ -6,9 +6,9 @@ use bit_sets::Block;
 use chart_term::Term;
 use hmsc_graph::Goal;
 use msc_base::NoMemory;
-use permit_step::{fresh_loop, fresh_walk, may_end, permit};
 use std::alloc::Global;
 use std::test::Fail;
+use term_permission::{fresh_loop, fresh_walk, may_end, permit};
 use term_tables::Nets;
 
 /// What permission by a block of that instance leaves of the message: whether it is the message itself.

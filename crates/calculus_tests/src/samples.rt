@@ -2,7 +2,7 @@
 ghost use Rattle.std.specs.Prelude.{◌<◌, ◌≡◌, [], IfOk};
 ghost use Rattle.chart_term.specs.Properties.{Each};
 ghost use Rattle.chart_term.specs.Tables.{net_count};
-ghost use Rattle.permit_step.specs.Ready.{IsReady, AreReadyTables};
+ghost use Rattle.term_permission.specs.Ready.{IsReady, AreReadyTables};
 
 use chart_term::{Term, TermList, seq, tied};
 use hmsc_graph::{Net, Shape, ShapeLine, ShapeLines};

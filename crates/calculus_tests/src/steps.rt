@@ -1,15 +1,16 @@
 //! What is left of a term after one event and another.
 ghost use Rattle.std.specs.Prelude.{◌<◌, ◌≤◌, ◌+◌, ◌≡◌, [], length, IfOk, OnOk};
 ghost use Rattle.chart_term.specs.Properties.{Each};
-ghost use Rattle.permit_step.specs.Ready.{IsReady, AreReadyTables};
+ghost use Rattle.term_permission.specs.Ready.{IsReady, AreReadyTables};
 
 use crate::samples::{both, event, in_sequence, message, ordered, ring_tables};
 use chart_term::{Term, TermList, choice, par};
 use hmsc_graph::Goal;
 use msc_base::{Far, Kind, Label, Name, NoMemory, Text};
-use permit_step::{after, fresh_loop, fresh_walk};
+use permit_step::after;
 use std::alloc::Global;
 use std::test::Fail;
+use term_permission::{fresh_loop, fresh_walk};
 use term_tables::Nets;
 
 /// An action's label.

@@ -1,24 +1,27 @@
--- Terms are made of the bodies of charts of events and coregions alone, and each output stands before its input.
-use Rattle.std.proofs.Common.{◌*◌, ◌≡◌, ◌≤◌, ◌+◌, ◌||◌, ◌&&◌, inl, inr, ℕ, zero, suc, Bool, true, false, is_some, List, [], ◌∷◌, None, Some, slice_get, length, arith, refl, sym, ap, ap₂, ◌∙◌, subst}
+-- Terms are made of the bodies of charts of events and coregions alone.
+use Rattle.std.proofs.Common.{◌≡◌, ◌≤◌, ◌+◌, ◌||◌, ◌&&◌, ℕ, suc, Bool, true, false, is_some, List, [], ◌∷◌, None, Some, length, arith, refl, ap, ap₂, ◌∙◌}
 use Rattle.msc_base.specs.Orders.{Among, first, later, Once}
 use Rattle.msc_base.specs.declared.label.Kind.{Kind}
 use Rattle.msc_base.specs.declared.label.Kind.TheVariants.{Output, Input, OutputLost, InputFound, Action, TimerStart, TimerStop, Timeout, Create}
-use Rattle.msc_base.specs.declared.label.Pair.{Pair}
 use Rattle.std.proofs.lemmas.List.{length-append}
 use Rattle.msc_base.proofs.NameFacts.{any_from_one}
 use Rattle.msc_tree.specs.declared.event.RawEvent.{RawEvent}
 use Rattle.msc_tree.specs.declared.event.Target.{Target}
 use Rattle.msc_tree.specs.declared.event.Target.TheVariants as target
-use Rattle.msc_meaning.specs.Bodies.{Body, EventNode, Items, no_items, item_and, Single, Coregion, Inline, Refer, item_events, level, events}
-use Rattle.msc_meaning.specs.Pairing.{HasPair}
-use Rattle.msc_acceptance.specs.NotBuilt.{has_gate, has_some, is_creation, is_not_built}
+use Rattle.msc_meaning.specs.Bodies.{Body, EventNode, Items, no_items, item_and, Single, Coregion, Inline, Refer, level, events}
+use Rattle.msc_acceptance.specs.NotBuilt.{has_gate, is_creation, is_not_built}
 use Rattle.msc_acceptance.specs.EventCharts.{AreBare, AreBareItems, HasEventsAlone, IsBare}
 use Rattle.msc_acceptance.proofs.BareLaws.{bare_events}
 use Rattle.msc_meaning.specs.Tables.{ChartEntry}
-use Rattle.level_terms.specs.BuiltBodies.{are_built, are_built_nodes, creates_nobody, event_count, events_count, is_built, is_built_node, is_empty, is_plain, names_no_gate}
-use Rattle.level_terms.proofs.FewPairs.{pairs_are_few}
+use Rattle.level_terms.specs.BuiltBodies.{are_built, are_built_nodes, creates_nobody, event_count, events_count, is_built, is_built_node, is_plain, names_no_gate}
+use Rattle.level_terms.proofs.FewPairs.{level_is_few}
 use Rattle.level_terms.specs.LevelLaws.{HasFewPairs, HaveFewPairs}
-use Rattle.level_terms.specs.SoundParts.{AreForward, IsBefore, IsForward, numbers}
+use Rattle.level_terms.specs.SoundParts.{numbers}
+use Rattle.msc_base.specs.Lists.{IsAmong}
+use Rattle.msc_base.specs.declared.place.Place.{Place}
+use Rattle.general_ordering.specs.EventNames.{breaks, items_faults, places_where}
+use Rattle.general_ordering.specs.declared.faults.EventNameRule.TheVariants.{Twice}
+use Rattle.general_ordering.proofs.NamesOnce.{is_one, names_once}
 
 -- ---- events
 
@@ -29,10 +32,6 @@ none_front false b h = refl
 none_back : (a b : Bool) → (a || b) ≡ false → b ≡ false
 none_back true b h = cc
 none_back false b h = h
-
-empty : (xs : List (List ℕ)) → has_some xs ≡ false → is_empty xs ≡ true
-empty [] h = refl
-empty (x ∷ xs) h = cc
 
 no_gate : (t : Target) → has_gate t ≡ false → names_no_gate t ≡ true
 no_gate target.Nobody h = refl
@@ -53,15 +52,7 @@ nobody TimerStop h = refl
 nobody Timeout h = refl
 
 plain : (e : RawEvent) → is_not_built e ≡ false → is_plain e ≡ true
-plain e h =
-    let last : Bool = has_gate e.target || is_creation e.kind in
-    let later_ones : Bool = has_some e.later_than || last in
-    let earlier_ones : Bool = has_some e.earlier_than || later_ones in
-    let one = none_back (is_some e.event_name) earlier_ones h in
-    let two = none_back (has_some e.earlier_than) later_ones one in
-    let three = none_back (has_some e.later_than) last two in
-    ap₂ (λ (a b : Bool). (a && names_no_gate e.target) && (b && is_empty e.later_than)) (nobody e.kind (none_back (has_gate e.target) (is_creation e.kind) three)) (empty e.earlier_than (none_front (has_some e.earlier_than) later_ones one))
-    ∙ ap₂ (λ (a b : Bool). a && b) (no_gate e.target (none_front (has_gate e.target) (is_creation e.kind) three)) (empty e.later_than (none_front (has_some e.later_than) last two))
+plain e h = ap₂ (λ (a b : Bool). a && b) (nobody e.kind (none_back (has_gate e.target) (is_creation e.kind) h)) (no_gate e.target (none_front (has_gate e.target) (is_creation e.kind) h))
 
 nodes_built : (cover : List (List ℕ)) (n : ℕ) (ns : List EventNode) → AreBare cover n ns → are_built_nodes cover ns ≡ true
 nodes_built cover n [] bare = refl
@@ -87,24 +78,6 @@ counted cover n (item_and (Coregion es) xs) bare =
     omega (arith, rest, both)
 counted cover n (item_and (Inline form part operands) xs) bare = absurd bare.0
 counted cover n (item_and (Refer part) xs) bare = absurd bare.0
-
--- ---- messages
-
-numbered : (cover : List (List ℕ)) (n : ℕ) (ns : List EventNode) (a k : ℕ) → AreBare cover n ns → slice_get (numbers ns) a ≡ Some k → k ≡ n + a
-numbered cover n [] a k bare at = cc
-numbered cover n (e ∷ ns) zero k bare at = let same : e.number ≡ k = cc in let is = bare.0.number in omega (arith, same, is)
-numbered cover n (e ∷ ns) (suc a) k bare at = let rest = numbered cover (suc n) ns a k bare.1 at in omega (arith, rest)
-
-has_pair : (p : Pair) (pairs : List Pair) → Among p pairs → HasPair pairs p.first p.second
-has_pair p _ first = inl (refl, refl)
-has_pair p (q ∷ pairs) (later h) = inr (has_pair p pairs h)
-
-inner_forward : (cover : List (List ℕ)) (n : ℕ) (held : Items) → AreBareItems cover n held → AreForward held
-inner_forward cover n no_items bare = tt
-inner_forward cover n (item_and (Single e) xs) bare = (tt, inner_forward cover (n + 1) xs bare.1)
-inner_forward cover n (item_and (Coregion es) xs) bare = (tt, inner_forward cover (n + length es) xs bare.1)
-inner_forward cover n (item_and (Inline form part operands) xs) bare = absurd bare.0
-inner_forward cover n (item_and (Refer part) xs) bare = absurd bare.0
 
 -- ---- numbers that differ
 
@@ -143,15 +116,11 @@ module _ (chart : ChartEntry) (alone : HasEventsAlone chart) where
   pub few : event_count held ≤ 4294967295
   few = let within = alone.few in let count = counted alone.cover 0 alone.held alone.bare in omega (arith, within, count)
 
-  before : (p : Pair) → Among p alone.pairs → IsBefore (numbers nodes) p.first p.second
-  before p h a b at there =
-      let order = alone.ordered p.first p.second (has_pair p alone.pairs h) in
-      let one = numbered alone.cover 0 nodes a p.first bare at in
-      let two = numbered alone.cover 0 nodes b p.second bare there in
-      omega (arith, order, one, two)
-
   pub few_pairs : HasFewPairs held
-  few_pairs = (once_each alone.cover 0 nodes bare, pairs_are_few nodes alone.pairs alone.paired, inner_few alone.cover 0 alone.held alone.bare)
+  few_pairs = (once, level_is_few alone.held alone.pairs alone.paired (names_once nodes once named), inner_few alone.cover 0 alone.held alone.bare)
+    where
+      once : Once (numbers nodes)
+      once = once_each alone.cover 0 nodes bare
 
-  pub forward : IsForward held
-  forward = (λ p h. before p h, inner_forward alone.cover 0 alone.held alone.bare)
+      named : (p : Place) → IsAmong (places_where (breaks Twice nodes) nodes) p → ⊥
+      named p h = alone.named_once p (is_one p (places_where (breaks Twice nodes) nodes) (items_faults Twice alone.held) h)

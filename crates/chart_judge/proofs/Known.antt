@@ -1,5 +1,5 @@
 -- What is known of the term of a chart, by the laws of such terms.
-use Rattle.std.proofs.Common.{◌≡◌, ◌≤◌, ◌+◌, ◌*◌, ℕ, List, [], Some, length, arith, refl, sym, ap, ◌∙◌, subst}
+use Rattle.std.proofs.Common.{◌≡◌, ◌≤◌, ◌+◌, ℕ, List, [], Some, arith, refl, sym, ap, ◌∙◌, subst}
 use Rattle.std.proofs.lemmas.Option.{same_Some}
 use Rattle.msc_acceptance.specs.EventCharts.{HasEventsAlone}
 use Rattle.msc_acceptance.specs.Listing.{cover_of}
@@ -15,7 +15,7 @@ use Rattle.trace_judge.specs.Laws.{VerdictsTellRuns}
 use Rattle.trace_judge.specs.Sets.{IsSoundFor}
 use Rattle.chart_judge.specs.ChartTerms.{IsTermOf}
 use Rattle.chart_judge.specs.ChartsTold.{ChartsHaveRuns, ChartsHaveTerms, VerdictsAreTold}
-use Rattle.chart_judge.proofs.Bodies.{built, few_pairs, forward, held}
+use Rattle.chart_judge.proofs.Bodies.{built, few_pairs, held}
 use Rattle.chart_judge.proofs.Verdicts.{IsKnown, begins_empty, told}
 use Rattle.verdict_meaning.proofs.Labelled.{begun_there}
 
@@ -51,7 +51,7 @@ module _ (level_terms : ChartTermsMean) (chart : ChartEntry) (v : NetsValue) (x 
   chart_sound : IsSoundFor v x
   chart_sound =
       subst (λ (u : NetsValue). IsSoundFor u x) (sym tables)
-      (subst (λ (y : Tree). IsSoundFor (chart_tables (held chart alone)) y) (sym term) (level_terms.sound alone.cover (held chart alone) (built chart alone) (forward chart alone)))
+      (subst (λ (y : Tree). IsSoundFor (chart_tables (held chart alone)) y) (sym term) (level_terms.ranked alone.cover (held chart alone) alone.ranked.rank (built chart alone) alone.ranked.ranked))
 
   chart_weighs : weight x ≤ 2 + items_size alone.held
   chart_weighs =

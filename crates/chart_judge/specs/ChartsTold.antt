@@ -1,5 +1,5 @@
 -- The verdict by the residual terms of a chart's term is the verdict by the chart, and there is no other; and a chart has one term.
-use Rattle.std.specs.Prelude.{◌≡◌, ◌≤◌, ◌+◌, ◌*◌, ℕ, List, [], Some, length}
+use Rattle.std.specs.Prelude.{◌≡◌, ◌≤◌, ◌+◌, ℕ, List, [], Some}
 use Rattle.msc_base.specs.Only.{Only}
 use Rattle.msc_base.specs.declared.label.Label.{Label}
 use Rattle.msc_base.specs.declared.verdict.Verdict.{Verdict}

@@ -1,4 +1,4 @@
-//! Pairs the k-th end with the k-th, class by class: msc_weaving pairs outputs with inputs by it.
+//! Pairs the k-th end with the k-th, class by class: level_weaving pairs outputs with inputs by it.
 
 ghost use Rattle.std.specs.Prelude.{◌≡◌, ◌<◌, ◌++◌, ◌↔◌, All, IfOk, OnOk, ℕ, slice_get};
 ghost use Rattle.item_order.specs.Counts.{Leads};

@@ -9,12 +9,12 @@ use Rattle.msc_meaning.specs.declared.body.EventNode as rust_event
 use Rattle.msc_meaning.specs.declared.body.Item as rust_item
 use Rattle.msc_meaning.specs.Bodies.{Body, level, Items, no_items, item_and, Item, Single, Coregion, Inline, Refer, Bodies, no_bodies, body_and}
 use Rattle.msc_meaning.specs.EventLabels.{written_label}
-use Rattle.msc_meaning.specs.Views.{node_view, body_view}
+use Rattle.msc_meaning.specs.Views.{body_view, item_view, node_view}
 use Rattle.level_terms.proofs.LabelFacts.{length_folded}
 use Rattle.level_terms.specs.LabelTables.{with_label, with_labels}
 use Rattle.level_terms.specs.BodyLabels.{body_labels, item_labels, items_labels, operands_labels}
 use Rattle.level_terms.specs.BuiltBodies.{event_count, events_count, item_count, operands_count}
-use Rattle.level_terms.specs.ItemViews.{item_view, items_view, bodies_view}
+use Rattle.general_ordering.specs.ItemViews.{items_view, bodies_view}
 use Rattle.level_terms.specs.MadeParts.{IsGrown}
 use Rattle.level_terms.proofs.Dropped.{drop_all, drop_less}
 use Rattle.level_terms.proofs.Growing.{nets_on, nets_same}

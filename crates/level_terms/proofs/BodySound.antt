@@ -27,9 +27,10 @@ use Rattle.msc_meaning.specs.EventLabels.{written_label}
 use Rattle.level_terms.specs.BareTerms.{IsBare}
 use Rattle.level_terms.specs.BodyLabels.{HasLabels, body_labels, items_labels, item_labels, operands_labels}
 use Rattle.level_terms.specs.BuiltBodies.{is_built_node, are_built_nodes, is_built, are_built, is_built_item, have_built, event_count, events_count, item_count, operands_count}
-use Rattle.level_terms.specs.LevelTerms.{is_exception, one_of, placed, event_term, coregion_term, level_term, items_term, item_term, operand_terms, parallel_term}
-use Rattle.level_terms.specs.RankedBodies.{DoPrecede, IsRanked, AreRanked, IsRankedItem, HaveRanked, events_within, items_within, item_within, operands_within}
+use Rattle.level_terms.specs.LevelTerms.{one_of, placed, event_term, coregion_term, level_term, items_term, item_term, operand_terms, parallel_term}
+use Rattle.event_order.specs.RankedBodies.{is_exception, DoPrecede, IsRanked, AreRanked, IsRankedItem, HaveRanked, events_within, items_within, item_within, operands_within}
 use Rattle.level_terms.specs.SoundParts.{numbers, IsForward, AreForward, IsForwardItem, HaveForward}
+use Rattle.msc_meaning.specs.Ties.{level_pairs}
 use Rattle.level_terms.specs.ShownNumbers.{shows, shown_events, shown_item, shown_items, tie_pairs}
 use Rattle.level_terms.proofs.BodyMade.{has_left, has_right, has_first, has_others, not_empty}
 use Rattle.level_terms.proofs.BuiltFacts.{and_both, node_named}
@@ -147,7 +148,7 @@ module _ (r : ℕ → ℕ) (names : List (List ℕ)) where
 
   abbrev mutual
     IsOrdered : ℕ → Body → Type 0
-    IsOrdered n (level cover held pairs) = DoTiesRise n held pairs × AreOrdered n held
+    IsOrdered n (level cover held pairs) = DoTiesRise n held (level_pairs held pairs) × AreOrdered n held
 
     AreOrdered : ℕ → Items → Type 0
     AreOrdered n no_items = Unit {0}
@@ -307,7 +308,7 @@ module _ (same_as : NormalFormsKeepPatterns) (keep : ConstructorsKeepSoundness) 
   mutual
     level_rises : (n : ℕ) (b : Body) → is_built m b ≡ true → HasLabels v.labels (body_labels b) → IsOrdered r m n b → IsRising (body_numbered n b) n (n + event_count b) (level_term m v.labels n b)
     level_rises n (level cover held pairs) b h (forward, f) =
-        tied_rises (items_numbered n held) n (n + events_count held) pairs (shown_items n held) (items_term m v.labels n held) forward (items_rise n held b h f)
+        tied_rises (items_numbered n held) n (n + events_count held) (level_pairs held pairs) (shown_items n held) (items_term m v.labels n held) forward (items_rise n held b h f)
 
     items_rise : (n : ℕ) (xs : Items) → are_built m xs ≡ true → HasLabels v.labels (items_labels xs) → AreOrdered r m n xs → IsRising (items_numbered n xs) n (n + events_count xs) (items_term m v.labels n xs)
     items_rise n no_items b h f = until [] n n (n + 0) Nil (omega arith) (nothing_rises n)
@@ -460,7 +461,7 @@ module _ (names : List (List ℕ)) (rank r : ℕ → ℕ) where
     body_ordered : (n : ℕ) (b : Body) → DoAgree rank r (body_numbered n b) → IsRanked rank b → IsOrdered r names n b
     body_ordered n (level cover held pairs) g (f, k) = (ties, items_ordered n held g k)
       where
-        ties : (a b : ℕ) (p : Pair) → Among p pairs → Among (shows a p.first) (shown_items n held) → Among (shows b p.second) (shown_items n held) → r a < r b
+        ties : (a b : ℕ) (p : Pair) → Among p (level_pairs held pairs) → Among (shows a p.first) (shown_items n held) → Among (shows b p.second) (shown_items n held) → r a < r b
         ties a b p i here there =
             let x = items_shown a p.first n held here in
             let y = items_shown b p.second n held there in
@@ -527,7 +528,7 @@ module _ (names : List (List ℕ)) (top : ℕ) where
     body_forward : (n : ℕ) (b : Body) → n + event_count b ≤ top → IsForward b → IsOrdered below names n b
     body_forward n (level cover held pairs) l (f, k) = (ties, items_forward n held l k)
       where
-        ties : (a b : ℕ) (p : Pair) → Among p pairs → Among (shows a p.first) (shown_items n held) → Among (shows b p.second) (shown_items n held) → below a < below b
+        ties : (a b : ℕ) (p : Pair) → Among p (level_pairs held pairs) → Among (shows a p.first) (shown_items n held) → Among (shows b p.second) (shown_items n held) → below a < below b
         ties a b p i here there =
             let p0 = items_falling n held in
             let fall = p0.falls a p.first b p.second here there (f p i) in

@@ -16,18 +16,18 @@ use Rattle.msc_meaning.specs.declared.body.Body as rust_body
 use Rattle.msc_meaning.specs.declared.body.EventNode as rust_event
 use Rattle.msc_meaning.specs.declared.body.Item as rust_item
 use Rattle.msc_meaning.specs.Bodies.{EventNode, Body, Item, Bodies}
-use Rattle.msc_meaning.specs.Views.{node_view, body_view}
-use Rattle.level_terms.specs.BuiltBodies.{creates_nobody, names_no_gate, is_empty, is_plain, has_operands, is_built_node, are_built_nodes, is_built, are_built, is_built_item, have_built, event_count, events_count, item_count, operands_count}
-use Rattle.level_terms.specs.ItemViews.{item_view, inline_view, items_view, bodies_view}
+use Rattle.msc_meaning.specs.Views.{body_view, item_view, node_view}
+use Rattle.level_terms.specs.BuiltBodies.{creates_nobody, names_no_gate, is_plain, has_operands, is_built_node, are_built_nodes, is_built, are_built, is_built_item, have_built, event_count, events_count, item_count, operands_count}
+use Rattle.general_ordering.specs.ItemViews.{inline_view, items_view, bodies_view}
 use Rattle.level_terms.specs.MadeParts.{IsPlaced}
-use Rattle.level_terms.proofs.PlainItems.{IsPlainFar, IsSimple}
+use Rattle.level_terms.proofs.PlainItems.{IsPlainFar}
 use Rattle.msc_meaning.specs.declared.body.Body.{out-Body}
 use Rattle.msc_meaning.specs.declared.body.InlineItem.{InlineItem, out-InlineItem}
 use Rattle.msc_meaning.specs.declared.body.Item.TheVariants as item
 use Rattle.msc_meaning.specs.declared.body.ReferenceItem.{ReferenceItem}
 use Rattle.level_terms.specs.declared.made.Made.{Made}
 use Rattle.level_terms.proofs.Dropped.{drop_all, drop_less}
-use Rattle.level_terms.proofs.ViewFacts.{body_is, inline_is, single_is, coregion_is, inline_item_is, reference_is}
+use Rattle.general_ordering.proofs.ViewFacts.{body_is, inline_is, single_is, coregion_is, inline_item_is, reference_is}
 
 pub and_both : (a b : Bool) → (a && b) ≡ true → (a ≡ true) × (b ≡ true)
 and_both true b h = (refl, h)
@@ -41,10 +41,6 @@ no_creation k h e = clash (subst (λ (x : Kind). creates_nobody x ≡ true) e h)
     clash : false ≡ true → ⊥
     clash c = absurd cc
 
-empty_is : (xs : List (List ℕ)) → is_empty xs ≡ true → xs ≡ []
-empty_is [] h = refl
-empty_is (x ∷ xs) h = absurd cc
-
 plain_far : (t : Target) → names_no_gate t ≡ true → IsPlainFar t (far_of t)
 plain_far Nobody h = record { far = λ ends gates. refl; no_tags = refl; no_calls = λ n. refl }
 plain_far (Env None) h = record { far = λ ends gates. refl; no_tags = refl; no_calls = λ n. refl }
@@ -52,18 +48,11 @@ plain_far (Env (Some gate)) h = absurd cc
 plain_far (Instance name) h = record { far = λ ends gates. refl; no_tags = refl; no_calls = λ n. refl }
 plain_far (Gate name gate) h = absurd cc
 
-pub is_simple : (e : RawEvent) → is_plain e ≡ true → IsSimple e
-is_simple e h =
-    let (a, b) = and_both (creates_nobody e.kind && names_no_gate e.target) (is_empty e.earlier_than && is_empty e.later_than) h in
-    let (c, d) = and_both (creates_nobody e.kind) (names_no_gate e.target) a in
-    let (f, g) = and_both (is_empty e.earlier_than) (is_empty e.later_than) b in
-    record { one = no_creation e.kind c; none_earlier = empty_is e.earlier_than f; none_later = empty_is e.later_than g }
+pub is_simple : (e : RawEvent) → is_plain e ≡ true → e.kind ≡ Create → ⊥
+is_simple e h = no_creation e.kind (and_both (creates_nobody e.kind) (names_no_gate e.target) h).0
 
 pub is_far : (e : RawEvent) → is_plain e ≡ true → IsPlainFar e.target (far_of e.target)
-is_far e h =
-    let (a, b) = and_both (creates_nobody e.kind && names_no_gate e.target) (is_empty e.earlier_than && is_empty e.later_than) h in
-    let (c, d) = and_both (creates_nobody e.kind) (names_no_gate e.target) a in
-    plain_far e.target d
+is_far e h = plain_far e.target (and_both (creates_nobody e.kind) (names_no_gate e.target) h).1
 
 pub node_plain : (names : List (List ℕ)) (n : EventNode) → is_built_node names n ≡ true → is_plain n.event ≡ true
 node_plain names n h = (and_both (list_any (bytes_eq n.at) names) (is_plain n.event) h).1

@@ -28,17 +28,17 @@ use Rattle.msc_meaning.specs.InnerEvents.{GateEnd}
 use Rattle.level_terms.specs.BuiltBodies.{is_built_node}
 use Rattle.level_terms.specs.LevelTerms.{event_term}
 use Rattle.level_terms.specs.MadeParts.{IsMade}
-use Rattle.level_terms.proofs.PlainItems.{IsPlainEvent, IsPlainFar, IsPlainNode, IsSimple}
+use Rattle.level_terms.proofs.PlainItems.{IsPlainEvent, IsPlainFar, IsPlainNode}
 use Rattle.level_terms.specs.ShownNumbers.{shows}
 use Rattle.level_terms.proofs.BuiltFacts.{is_far, is_simple, node_named, node_plain}
 use Rattle.level_terms.proofs.Growing.{label_there, name_there}
 
 -- an event without gate and creation says what is written, wherever it stands
-pub plain_event : (n : EventNode) (l : Label) → IsSimple n.event → IsPlainFar n.event.target (far_of n.event.target) → l ≡ label_of n.at n.event → IsPlainEvent n l
+pub plain_event : (n : EventNode) (l : Label) → (n.event.kind ≡ Create → ⊥) → IsPlainFar n.event.target (far_of n.event.target) → l ≡ label_of n.at n.event → IsPlainEvent n l
 plain_event n l s f e = record {
   happens = λ ends around none.
       subst (λ (k : Label). happening ends around n ≡ record { label = k; also = None; tags = Own n.number ∷ [] }) (sym e) (happens ends around none);
-  plain = record { no_calls = f.no_calls n; none_earlier = s.none_earlier; none_later = s.none_later };
+  plain = record { no_calls = f.no_calls n };
 }
   where
     no_child : (k : Kind) (t : Target) → (k ≡ Create → ⊥) → child_by k t ≡ None
@@ -58,7 +58,7 @@ plain_event n l s f e = record {
     happens : (ends : List GateEnd) (around : Around) → around.far ≡ no_far → happening ends around n ≡ record { label = label_of n.at n.event; also = None; tags = Own n.number ∷ [] }
     happens ends around none =
         ap (λ (x : Far). let r : Happening = record { label = record (label_of n.at n.event) { far = x }; also = child_by n.event.kind n.event.target; tags = Own n.number ∷ gate_tags n.event.target } in r) (far_is ends around none)
-        ∙ (ap (λ (c : Option (List ℕ)). let r : Happening = record { label = label_of n.at n.event; also = c; tags = Own n.number ∷ gate_tags n.event.target } in r) (no_child n.event.kind n.event.target s.one)
+        ∙ (ap (λ (c : Option (List ℕ)). let r : Happening = record { label = label_of n.at n.event; also = c; tags = Own n.number ∷ gate_tags n.event.target } in r) (no_child n.event.kind n.event.target s)
         ∙ ap (λ (g : List Tag). let r : Happening = record { label = label_of n.at n.event; also = None; tags = Own n.number ∷ g } in r) f.no_tags)
 
 -- the term of an event

@@ -1,10 +1,12 @@
--- A level has no more pairs than events.
-use Rattle.std.specs.Prelude.{ℕ, suc, ◌≤◌, List, [], ◌∷◌, length}
+-- A level has no more message pairs than events, and is ordered by no more pairs than its events name.
+use Rattle.std.specs.Prelude.{ℕ, suc, ◌≤◌, List, [], ◌∷◌, ◌++◌, ◌+◌, length}
 use Rattle.std.proofs.Common.{◌≡◌, refl, subst, ap, inl, inr, arith}
 use Rattle.msc_base.specs.declared.label.Pair.{Pair}
 use Rattle.msc_base.specs.Orders.{Among, first, later}
-use Rattle.msc_meaning.specs.Bodies.{EventNode}
+use Rattle.msc_meaning.specs.Bodies.{EventNode, Items, events}
 use Rattle.msc_meaning.specs.Pairing.{ArePairs, DoRise, HasPair}
+use Rattle.msc_meaning.specs.Ties.{after_pairs, before_pairs, each_after, each_before, labelled, level_pairs, order_pairs}
+use Rattle.general_ordering.specs.OrderCounts.{orders_count}
 use Rattle.sound_terms.proofs.Places.{place_among}
 use Rattle.level_terms.specs.SoundParts.{numbers}
 
@@ -53,10 +55,49 @@ length_numbers : (ns : List EventNode) → length (numbers ns) ≡ length ns
 length_numbers [] = refl
 length_numbers (n ∷ ns) = ap suc (length_numbers ns)
 
-pub pairs_are_few : (held : List EventNode) (pairs : List Pair) → ArePairs held pairs → length pairs ≤ length held
+pairs_are_few : (held : List EventNode) (pairs : List Pair) → ArePairs held pairs → length pairs ≤ length held
 pairs_are_few held ps h = let few = few_rising ps 0 (numbers held) h.rising (λ p i. output p i) in omega (arith, few, length_numbers held)
   where
     output : (p : Pair) → Among p ps → Among p.first (numbers held)
     output p i =
         let paired = h.paired p.first p.second (has_pair ps p i) in
         subst (λ k. Among k (numbers held)) paired.output_number (among_numbers held paired.output (place_among held paired.output_position paired.output paired.output_at))
+
+-- ---- the general ordering
+
+length_pairs : (ps qs : List Pair) → length (ps ++ qs) ≡ length ps + length qs
+length_pairs [] qs = omega arith
+length_pairs (p ∷ ps) qs = omega (arith, length_pairs ps qs)
+
+after_length : (x : ℕ) (es : List ℕ) → length (each_after x es) ≡ length es
+after_length x [] = refl
+after_length x (e ∷ es) = ap suc (after_length x es)
+
+before_length : (x : ℕ) (es : List ℕ) → length (each_before x es) ≡ length es
+before_length x [] = refl
+before_length x (e ∷ es) = ap suc (before_length x es)
+
+module _ (named : List ℕ → List ℕ) (few : (name : List ℕ) → length (named name) ≤ 1) where
+  before_few : (x : ℕ) (names : List (List ℕ)) → length (before_pairs named x names) ≤ length names
+  before_few x [] = omega arith
+  before_few x (name ∷ names) = omega (arith, length_pairs (each_after x (named name)) (before_pairs named x names), after_length x (named name), few name, before_few x names)
+
+  after_few : (x : ℕ) (names : List (List ℕ)) → length (after_pairs named x names) ≤ length names
+  after_few x [] = omega arith
+  after_few x (name ∷ names) = omega (arith, length_pairs (each_before x (named name)) (after_pairs named x names), before_length x (named name), few name, after_few x names)
+
+  orders_few : (ns : List EventNode) → length (order_pairs named ns) ≤ orders_count ns
+  orders_few [] = omega arith
+  orders_few (n ∷ ns) =
+      omega (
+        arith,
+        length_pairs (before_pairs named n.number n.event.earlier_than) (after_pairs named n.number n.event.later_than ++ order_pairs named ns),
+        length_pairs (after_pairs named n.number n.event.later_than) (order_pairs named ns),
+        before_few n.number n.event.earlier_than,
+        after_few n.number n.event.later_than,
+        orders_few ns,
+      )
+
+pub level_is_few : (held : Items) (pairs : List Pair) → ArePairs (events held) pairs → ((name : List ℕ) → length (labelled (events held) name) ≤ 1) → length (level_pairs held pairs) ≤ length (events held) + orders_count (events held)
+level_is_few held pairs h few =
+    omega (arith, length_pairs pairs (order_pairs (labelled (events held)) (events held)), pairs_are_few (events held) pairs h, orders_few (labelled (events held)) few (events held))

@@ -12,8 +12,7 @@ use Rattle.msc_meaning.specs.Tables.{Table}
 use Rattle.msc_meaning.specs.Calls.{calls, event_calls, events_calls}
 use Rattle.msc_meaning.specs.InnerEvents.{GateEnd, AreEnds, no_ends}
 use Rattle.msc_meaning.specs.FarEnds.{Around, Gates, inside, happening}
-use Rattle.msc_meaning.specs.Ties.{ties, past_inline, passing, items_joins_ties, message_ties, order_ties, before_ties, after_ties, event_ties}
-use Rattle.msc_meaning.specs.Bodies.{events}
+use Rattle.msc_meaning.specs.Ties.{ties, past_inline, passing, items_joins_ties, own_ties, level_pairs, event_ties}
 use Rattle.msc_meaning.specs.ChartUnfoldings.{gates_of, OfEvents, no_event, event_and, OfLevel, of_level, OfItems, no_item, item_then, exception, no_exception, OfItem, single, coregion, inline_part, OfForm, alternative, taken, left_out, parallel, OfSome, this, that, OfAll, no_operand, operand_and}
 use Rattle.term_meaning.specs.UnfoldingSets.{OnlyEmpty, OnlyEvent, AreJoined, joined, AreTied, tied, Either}
 use Rattle.level_terms.proofs.PlainItems.{ArePlainItems, ArePlainNodes}
@@ -37,23 +36,6 @@ plain_calls (item_and (Coregion ns) xs) (h, k) = app_none (events_calls ns) (cal
 plain_calls (item_and (Inline form part operands) xs) (h, k) = plain_calls xs k
 plain_calls (item_and (Refer part) xs) (h, k) = absurd h
 
-plain_both : (ns ms : List EventNode) → ArePlainNodes ns → ArePlainNodes ms → ArePlainNodes (ns ++ ms)
-plain_both [] ms h k = k
-plain_both (n ∷ ns) ms (h, i) k = (h, plain_both ns ms i k)
-
-plain_events : (xs : Items) → ArePlainItems xs → ArePlainNodes (events xs)
-plain_events no_items h = tt
-plain_events (item_and (Single n) xs) (h, k) = (h, plain_events xs k)
-plain_events (item_and (Coregion ns) xs) (h, k) = plain_both ns (events xs) h (plain_events xs k)
-plain_events (item_and (Inline form part operands) xs) (h, k) = plain_events xs k
-plain_events (item_and (Refer part) xs) (h, k) = absurd h
-
-plain_order : (held ns : List EventNode) → ArePlainNodes ns → order_ties held ns ≡ []
-plain_order held [] h = refl
-plain_order held (n ∷ ns) (h, k) =
-    app_none (before_ties held n.number n.event.earlier_than) (after_ties held n.number n.event.later_than ++ order_ties held ns) (ap (before_ties held n.number) h.none_earlier)
-    (app_none (after_ties held n.number n.event.later_than) (order_ties held ns) (ap (after_ties held n.number) h.none_later) (plain_order held ns k))
-
 app_nil : {X : Type 0} (xs : List X) → xs ++ [] ≡ xs
 app_nil [] = refl
 app_nil (x ∷ xs) = ap (λ l. x ∷ l) (app_nil xs)
@@ -65,12 +47,11 @@ plain_joins es (item_and (Coregion ns) xs) (h, k) = plain_joins es xs k
 plain_joins es (item_and (Inline form part operands) xs) (h, k) = plain_joins es xs k
 plain_joins es (item_and (Refer part) xs) (h, k) = absurd h
 
--- its ties are those of its messages
-pub plain_ties : (xs : Items) (pairs : List Pair) → ArePlainItems xs → ties xs pairs (calls xs) [] ≡ message_ties pairs
+-- its ties are those of its messages and of its general ordering
+pub plain_ties : (xs : Items) (pairs : List Pair) → ArePlainItems xs → ties xs pairs (calls xs) [] ≡ own_ties (level_pairs xs pairs)
 plain_ties xs pairs h =
-    ap (λ l. message_ties pairs ++ l) (app_none (order_ties (events xs) (events xs)) (event_ties (calls xs) ++ items_joins_ties [] xs) (plain_order (events xs) (events xs) (plain_events xs h))
-    (app_none (event_ties (calls xs)) (items_joins_ties [] xs) (ap event_ties (plain_calls xs h)) (plain_joins [] xs h)))
-    ∙ app_nil (message_ties pairs)
+    ap (λ l. own_ties (level_pairs xs pairs) ++ l) (app_none (event_ties (calls xs)) (items_joins_ties [] xs) (ap event_ties (plain_calls xs h)) (plain_joins [] xs h))
+    ∙ app_nil (own_ties (level_pairs xs pairs))
 
 module _ (table : Table) where
   no_calls_ends : (held : Items) (es : List GateEnd) → AreEnds table held [] es → es ≡ []

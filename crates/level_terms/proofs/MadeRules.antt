@@ -18,7 +18,7 @@ use Rattle.msc_meaning.specs.Bodies.{Items, level, no_bodies}
 use Rattle.msc_meaning.specs.Calls.{calls}
 use Rattle.msc_meaning.specs.FarEnds.{Around, Gates, inside, no_far}
 use Rattle.msc_meaning.specs.Tables.{Table}
-use Rattle.msc_meaning.specs.Ties.{passing, past_inline, ties}
+use Rattle.msc_meaning.specs.Ties.{level_pairs, passing, past_inline, ties}
 use Rattle.msc_meaning.specs.ChartUnfoldings.{OfItems, OfLevel, OfSome, gates_of}
 use Rattle.level_terms.specs.LevelTerms.{one_of}
 use Rattle.level_terms.specs.MadeParts.{AreFit, IsMade, own_shown}
@@ -103,14 +103,14 @@ module _ (keep : NormalFormsKeepPatterns) (v : NetsValue) (m : List (List ℕ)) 
 
   -- a level: its items, tied
   pub level_made : (lo hi : ℕ) (ps : List Pair) (x : Tree) (cover : List (List ℕ)) (held : Items) (pairs : List Pair) → ArePlainItems held → IsMade v m lo hi ps x (λ t g a. OfItems t g a held)
-      → IsMade v m lo hi [] (tie_of x (tie_pairs ps pairs)) (λ t g a. OfLevel t a (level cover held pairs))
+      → IsMade v m lo hi [] (tie_of x (tie_pairs ps (level_pairs held pairs))) (λ t g a. OfLevel t a (level cover held pairs))
   level_made lo hi ps x cover held pairs plain p = record {
-    bare = bare_tie x (tie_pairs ps pairs) p.bare;
+    bare = bare_tie x (tie_pairs ps (level_pairs held pairs)) p.bare;
     portion = λ table gates around none o.
-        portion_sets v.labels m lo hi [] (HasPattern (terms_over v.tables) o (tie_of x (tie_pairs ps pairs))) (AreTied (OfItems table (gates_of held []) around held) (level_tie (ties held pairs (calls held) []))) (OfLevel table around (level cover held pairs))
+        portion_sets v.labels m lo hi [] (HasPattern (terms_over v.tables) o (tie_of x (tie_pairs ps (level_pairs held pairs)))) (AreTied (OfItems table (gates_of held []) around held) (level_tie (ties held pairs (calls held) []))) (OfLevel table around (level cover held pairs))
         (plain_level table around cover held pairs plain)
-        (portion_level v.labels m keep o v.tables fit.tidy lo hi ps x (ties held pairs (calls held) []) (tie_pairs ps pairs) (OfItems table (gates_of held []) around held) (bare_still x p.bare)
-        (λ i j. ties_say pairs ps i j ∙ ap (λ q. term_pairs (shown_pairs q (own_shown ps) (own_shown ps)) i j) (sym (plain_ties held pairs plain))) (p.portion table (gates_of held []) around none o));
+        (portion_level v.labels m keep o v.tables fit.tidy lo hi ps x (ties held pairs (calls held) []) (tie_pairs ps (level_pairs held pairs)) (OfItems table (gates_of held []) around held) (bare_still x p.bare)
+        (λ i j. ties_say (level_pairs held pairs) ps i j ∙ ap (λ q. term_pairs (shown_pairs q (own_shown ps) (own_shown ps)) i j) (sym (plain_ties held pairs plain))) (p.portion table (gates_of held []) around none o));
   }
 
   -- an inline expression, of which nothing is shown

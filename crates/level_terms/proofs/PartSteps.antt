@@ -18,13 +18,15 @@ use Rattle.msc_meaning.specs.declared.body.EventNode as rust_event
 use Rattle.msc_meaning.specs.declared.body.Item as rust_item
 use Rattle.msc_meaning.specs.Bodies.{EventNode, InlinePart, Items, Inline, Bodies, level}
 use Rattle.msc_meaning.specs.EventLabels.{written_label}
-use Rattle.msc_meaning.specs.Views.{node_view, body_view}
+use Rattle.msc_meaning.specs.Views.{body_view, item_view, node_view}
 use Rattle.level_terms.specs.BodyLabels.{HasLabels, body_labels, item_labels, items_labels, operands_labels}
 use Rattle.level_terms.specs.BuiltBodies.{events_count, operands_count}
 use Rattle.level_terms.specs.declared.made.Made.{Made}
-use Rattle.level_terms.specs.ItemViews.{item_view, items_view, bodies_view}
-use Rattle.level_terms.specs.LevelTerms.{is_exception, one_of, placed, event_term, coregion_term, level_term, items_term, item_term, operand_terms, parallel_term}
+use Rattle.general_ordering.specs.ItemViews.{items_view, bodies_view}
+use Rattle.level_terms.specs.LevelTerms.{one_of, placed, event_term, coregion_term, level_term, items_term, item_term, operand_terms, parallel_term}
+use Rattle.event_order.specs.RankedBodies.{is_exception}
 use Rattle.level_terms.specs.MadeParts.{IsNothing, IsFront, IsInstead, IsPlaced, IsPart, IsTied}
+use Rattle.msc_meaning.specs.Ties.{level_pairs}
 use Rattle.level_terms.specs.ShownNumbers.{shows, shown_events, shown_item, shown_items, tie_pairs}
 use Rattle.level_terms.proofs.BodyMade.{has_left, has_right}
 use Rattle.level_terms.proofs.Dropped.{drop_all, drop_less}
@@ -107,9 +109,9 @@ module _ (names : List (List ℕ)) (labels : List Label) (n : ℕ) where
   pub items_end : (made : Made) (xs : List rust_item.Item) (i : ℕ) → i ≤ 0 → AreItems (drop i xs) made → AreItems xs made
   items_end made xs i l h = subst (λ k. AreItems (drop k xs) made) (none_left i l) h
 
-  pub level_part : (inner made : Made) (cover : List (List ℕ)) (held : Items) (pairs : List Pair) → IsPart (items_term names labels n held) (shown_items n held) inner → IsTied pairs inner made → IsPart (level_term names labels n (level cover held pairs)) [] made
+  pub level_part : (inner made : Made) (cover : List (List ℕ)) (held : Items) (pairs : List Pair) → IsPart (items_term names labels n held) (shown_items n held) inner → IsTied (level_pairs held pairs) inner made → IsPart (level_term names labels n (level cover held pairs)) [] made
   level_part inner made cover held pairs h e = record {
-    term = e.term ∙ (ap (λ x. tie_of x (tie_pairs inner.shown pairs)) h.term ∙ ap (λ ps. tie_of (items_term names labels n held) (tie_pairs ps pairs)) h.shown_are);
+    term = e.term ∙ (ap (λ x. tie_of x (tie_pairs inner.shown (level_pairs held pairs))) h.term ∙ ap (λ ps. tie_of (items_term names labels n held) (tie_pairs ps (level_pairs held pairs))) h.shown_are);
     shown_are = e.shown;
   }
 

@@ -1,11 +1,9 @@
--- Plain events and items: they call no gate and have no general ordering; and what an item is in front of those behind it.
+-- Plain events and items: they call no gate; and what an item is in front of those behind it.
 use Rattle.std.specs.Prelude.{◌≡◌, List, [], ◌∷◌, None}
 use Rattle.msc_base.specs.declared.label.Far.{Far}
 use Rattle.msc_base.specs.declared.label.Label.{Label}
 use Rattle.msc_unfolding.specs.Unfoldings.{Own, Unfolding}
 use Rattle.term_meaning.specs.UnfoldingSets.{AreTied, Nothing}
-use Rattle.msc_base.specs.declared.label.Kind.TheVariants.{Create}
-use Rattle.msc_tree.specs.declared.event.RawEvent.{RawEvent}
 use Rattle.msc_tree.specs.declared.event.Target.{Target}
 use Rattle.msc_meaning.specs.Bodies.{EventNode, Items, no_items, item_and, Item, Single, Coregion, Inline, Refer, no_bodies, body_and}
 use Rattle.msc_meaning.specs.Ties.{passing, past_inline}
@@ -22,17 +20,9 @@ pub record IsPlainFar (t : Target) (f : Far) : Type 0 where
   pub no_tags : gate_tags t ≡ []
   pub no_calls : (n : EventNode) → event_calls n t ≡ []
 
--- one instance, no general ordering
-pub record IsSimple (e : RawEvent) : Type 0 where
-  pub one : e.kind ≡ Create → ⊥
-  pub none_earlier : e.earlier_than ≡ []
-  pub none_later : e.later_than ≡ []
-
--- the event calls no gate, and has no general ordering
+-- the event calls no gate
 pub record IsPlainNode (n : EventNode) : Type 0 where
   pub no_calls : event_calls n n.event.target ≡ []
-  pub none_earlier : n.event.earlier_than ≡ []
-  pub none_later : n.event.later_than ≡ []
 
 abbrev pub ArePlainNodes : List EventNode → Type 0
 ArePlainNodes [] = Unit {0}
@@ -43,7 +33,7 @@ pub record IsPlainEvent (n : EventNode) (l : Label) : Type 0 where
   pub happens : (ends : List GateEnd) (around : Around) → around.far ≡ no_far → happening ends around n ≡ record { label = l; also = None; tags = Own n.number ∷ [] }
   pub plain : IsPlainNode n
 
--- the item isn't a reference, calls no gate, and has no general ordering
+-- the item isn't a reference, and calls no gate
 abbrev pub IsPlainItem : Item → Type 0
 IsPlainItem (Single n) = IsPlainNode n
 IsPlainItem (Coregion ns) = ArePlainNodes ns

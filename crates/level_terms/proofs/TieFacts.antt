@@ -10,7 +10,7 @@ use Rattle.msc_base.specs.Orders.{Among, first, later}
 use Rattle.msc_unfolding.specs.Unfoldings.{Tag, Own, is_pair}
 use Rattle.chart_term.specs.TermPatterns.{pairs}
 use Rattle.chart_term.specs.Views.{pairs_of}
-use Rattle.msc_meaning.specs.Ties.{message_ties}
+use Rattle.msc_meaning.specs.Ties.{own_ties}
 use Rattle.sound_terms.proofs.Places.{tests_agree, or_case, or_this, or_that}
 use Rattle.term_meaning.specs.Portions.{add_pair, pairs_at, shown_pairs}
 use Rattle.level_terms.specs.MadeParts.{own_shown}
@@ -43,16 +43,16 @@ pairs_app (p ∷ q) r m n = ap (λ b. ((m == p.0) && (n == p.1)) || b) (pairs_ap
 
 -- ---- the pairs of a level
 
-pub tie_to : (ts : List Pair) (k l : ℕ) → is_pair (message_ties ts) (Own k) (Own l) ≡ true → Among (shows k l) ts
+pub tie_to : (ts : List Pair) (k l : ℕ) → is_pair (own_ties ts) (Own k) (Own l) ≡ true → Among (shows k l) ts
 tie_to [] k l h = absurd cc
-tie_to (t ∷ ts) k l h = elim (or_case ((k == t.first) && (l == t.second)) (is_pair (message_ties ts) (Own k) (Own l)) h) [
+tie_to (t ∷ ts) k l h = elim (or_case ((k == t.first) && (l == t.second)) (is_pair (own_ties ts) (Own k) (Own l)) h) [
   | inl i ↦ let (a, b) = these k l t.first t.second i in subst (λ (s : Pair). Among s (t ∷ ts)) (λ j. record { first = sym a j; second = sym b j }) first
   | inr i ↦ later (tie_to ts k l i)
 ]
 
-tie_from : (ts : List Pair) (t : Pair) → Among t ts → is_pair (message_ties ts) (Own t.first) (Own t.second) ≡ true
-tie_from (s ∷ ts) _ first = or_this ((s.first == s.first) && (s.second == s.second)) (is_pair (message_ties ts) (Own s.first) (Own s.second)) (these_so s.first s.second)
-tie_from (s ∷ ts) t (later h) = or_that ((t.first == s.first) && (t.second == s.second)) (is_pair (message_ties ts) (Own t.first) (Own t.second)) (tie_from ts t h)
+tie_from : (ts : List Pair) (t : Pair) → Among t ts → is_pair (own_ties ts) (Own t.first) (Own t.second) ≡ true
+tie_from (s ∷ ts) _ first = or_this ((s.first == s.first) && (s.second == s.second)) (is_pair (own_ties ts) (Own s.first) (Own s.second)) (these_so s.first s.second)
+tie_from (s ∷ ts) t (later h) = or_that ((t.first == s.first) && (t.second == s.second)) (is_pair (own_ties ts) (Own t.first) (Own t.second)) (tie_from ts t h)
 tie_from [] t h = elim h [ ]
 
 -- ---- all pairs of shown numbers
@@ -183,14 +183,14 @@ is_tie shown (s ∷ ts) t m n (later i) e f =
     ∙ or_that (pairs (pairs_between (numbers_of s.first shown) (numbers_of s.second shown)) m n) (pairs (tie_pairs shown ts) m n) (is_tie shown ts t m n i e f)
 is_tie shown [] t m n i e f = elim i [ ]
 
-pub ties_say : (ts shown : List Pair) (m n : ℕ) → pairs (tie_pairs shown ts) m n ≡ pairs (shown_pairs (message_ties ts) (own_shown shown) (own_shown shown)) m n
-ties_say ts shown m n = tests_agree (pairs (tie_pairs shown ts) m n) (pairs (shown_pairs (message_ties ts) (own_shown shown) (own_shown shown)) m n) to from
+pub ties_say : (ts shown : List Pair) (m n : ℕ) → pairs (tie_pairs shown ts) m n ≡ pairs (shown_pairs (own_ties ts) (own_shown shown) (own_shown shown)) m n
+ties_say ts shown m n = tests_agree (pairs (tie_pairs shown ts) m n) (pairs (shown_pairs (own_ties ts) (own_shown shown) (own_shown shown)) m n) to from
   where
-    to : pairs (tie_pairs shown ts) m n ≡ true → pairs (shown_pairs (message_ties ts) (own_shown shown) (own_shown shown)) m n ≡ true
-    to p = let f = tie_is shown ts m n p in shown_from (message_ties ts) shown shown (shows m f.tie.first) (shows n f.tie.second) f.here f.there (tie_from ts f.tie f.among)
+    to : pairs (tie_pairs shown ts) m n ≡ true → pairs (shown_pairs (own_ties ts) (own_shown shown) (own_shown shown)) m n ≡ true
+    to p = let f = tie_is shown ts m n p in shown_from (own_ties ts) shown shown (shows m f.tie.first) (shows n f.tie.second) f.here f.there (tie_from ts f.tie f.among)
 
-    from : pairs (shown_pairs (message_ties ts) (own_shown shown) (own_shown shown)) m n ≡ true → pairs (tie_pairs shown ts) m n ≡ true
-    from p = let s = shown_to (message_ties ts) shown shown m n p in is_tie shown ts (shows s.one s.other) m n (tie_to ts s.one s.other s.tied) s.here s.there
+    from : pairs (shown_pairs (own_ties ts) (own_shown shown) (own_shown shown)) m n ≡ true → pairs (tie_pairs shown ts) m n ≡ true
+    from p = let s = shown_to (own_ties ts) shown shown m n p in is_tie shown ts (shows s.one s.other) m n (tie_to ts s.one s.other s.tied) s.here s.there
 
 -- ---- found by numbers
 

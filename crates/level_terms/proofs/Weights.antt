@@ -14,8 +14,11 @@ use Rattle.msc_tree.specs.declared.reference.InlineForm.TheVariants as inline
 use Rattle.msc_meaning.specs.Bodies.{EventNode, Body, level, Items, no_items, item_and, Item, Single, Coregion, Inline, Refer, Bodies, no_bodies, body_and, events, item_events}
 use Rattle.msc_base.specs.declared.label.Label.{Label}
 use Rattle.level_terms.specs.BuiltBodies.{has_operands, is_built, are_built, is_built_item, have_built, events_count, operands_count}
+use Rattle.msc_meaning.specs.Ties.{level_pairs}
+use Rattle.general_ordering.specs.OrderCounts.{order_count, orders_count}
 use Rattle.level_terms.specs.LevelLaws.{body_size, items_size, item_size, operands_size, HasFewPairs, HaveFewPairs, HasFewWithin, EachHasFew}
-use Rattle.level_terms.specs.LevelTerms.{is_exception, one_of, placed, event_term, coregion_term, level_term, items_term, item_term, operand_terms, parallel_term}
+use Rattle.level_terms.specs.LevelTerms.{one_of, placed, event_term, coregion_term, level_term, items_term, item_term, operand_terms, parallel_term}
+use Rattle.event_order.specs.RankedBodies.{is_exception}
 use Rattle.level_terms.specs.ShownNumbers.{shows, shown_events, shown_item, shown_items, number_if, numbers_of, pairs_with, pairs_between, tie_pairs}
 use Rattle.level_terms.specs.SoundParts.{numbers}
 use Rattle.level_terms.proofs.BodyMade.{not_empty}
@@ -212,17 +215,41 @@ ties_length shown [] f = omega arith
 ties_length shown (t ∷ ts) f =
     omega (arith, length_app (pairs_between (numbers_of t.first shown) (numbers_of t.second shown)) (tie_pairs shown ts), between_length (numbers_of t.first shown) (numbers_of t.second shown) (f t.first) (f t.second), ties_length shown ts f)
 
-few_ties : (n : ℕ) (held : Items) (pairs : List Pair) → Once (numbers (events held)) → length pairs ≤ length (events held) → length (tie_pairs (shown_items n held) pairs) ≤ length (events held)
-few_ties n held pairs o l = omega (arith, ties_length (shown_items n held) pairs one, l)
+few_ties : (n most : ℕ) (held : Items) (pairs : List Pair) → Once (numbers (events held)) → length pairs ≤ most → length (tie_pairs (shown_items n held) pairs) ≤ most
+few_ties n most held pairs o l = omega (arith, ties_length (shown_items n held) pairs one, l)
   where
     one : (k : ℕ) → length (numbers_of k (shown_items n held)) ≤ 1
     one k = omega (arith, items_tally k n held, tally_once k (numbers (events held)) o)
 
 -- ---- the parts of a body
 
-length_events : (ns ms : List EventNode) → length (ns ++ ms) ≡ length ns + length ms
-length_events [] ms = omega arith
-length_events (n ∷ ns) ms = omega (arith, length_events ns ms)
+-- room for the pairs of events, their tie, and what is in front of them
+room : List EventNode → ℕ
+room [] = 0
+room (n ∷ ns) = 2 + order_count n.event + room ns
+
+room_both : (ns ms : List EventNode) → room (ns ++ ms) ≡ room ns + room ms
+unfolding room
+room_both [] ms = omega arith
+room_both (n ∷ ns) ms = omega (arith, room_both ns ms)
+
+room_one : (n : EventNode) → room (n ∷ []) ≡ 2 + order_count n.event
+unfolding room
+room_one n = omega arith
+
+room_none : room [] ≡ 0
+unfolding room
+room_none = refl
+
+room_is : (ns : List EventNode) → room ns ≡ length ns + length ns + orders_count ns
+unfolding room
+room_is [] = omega arith
+room_is (n ∷ ns) = omega (arith, room_is ns)
+
+-- where there are pairs, there is an event
+some_room : (ns : List EventNode) (k : ℕ) → k ≤ length ns + orders_count ns → 1 ≤ k → 1 + k ≤ room ns
+some_room [] k l h = absurd (omega (arith, l, h))
+some_room (n ∷ ns) k l h = omega (arith, room_is (n ∷ ns), l)
 
 module _ (weigh : ConstructorsWeigh) (names : List (List ℕ)) (labels : List Label) where
   coregion_weighs : (n : ℕ) (es : List EventNode) → (weight (coregion_term names labels n es) ≤ 1 + length es) × (weight_all (open_part par (coregion_term names labels n es)) ≤ length es)
@@ -231,15 +258,15 @@ module _ (weigh : ConstructorsWeigh) (names : List (List ℕ)) (labels : List La
       let (a, b) = coregion_weighs n es in
       (omega (arith, b, both_weight par (event_term names labels (n + length es) e) (coregion_term names labels n es)), omega (arith, b, both_open par (event_term names labels (n + length es) e) (coregion_term names labels n es)))
 
-  tied_weighs : (x : Tree) (q : List (ℕ × ℕ)) (e s : ℕ) → weight x + (e + e) ≤ 1 + s → length q ≤ e → weight (tie_of x q) ≤ 1 + s
-  tied_weighs x [] e s h l = omega arith
-  tied_weighs x (p ∷ q) e s h l = omega (arith, weigh.tied x (p ∷ q))
+  tied_weighs : (x : Tree) (q : List (ℕ × ℕ)) (d s : ℕ) → weight x + d ≤ 1 + s → (1 ≤ length q → 1 + length q ≤ d) → weight (tie_of x q) ≤ 1 + s
+  tied_weighs x [] d s h l = omega arith
+  tied_weighs x (p ∷ q) d s h l = let more = l (omega arith) in omega (arith, h, more, weigh.tied x (p ∷ q))
 
   -- what an item weighs with what stands behind it: alone, and opened
   abbrev IsWithin : Tree → ℕ → ℕ → Type 0
-  IsWithin x e s = (weight x + (e + e) ≤ 1 + s) × (weight_all (open_part seq x) + (e + e) ≤ s)
+  IsWithin x e s = (weight x + e ≤ 1 + s) × (weight_all (open_part seq x) + e ≤ s)
 
-  placed_weighs : (b : Bool) (x y : Tree) (d e s t : ℕ) → weight x + (d + d) ≤ s → (b ≡ true → (weight_all (open_choice x) + 2 ≤ s) × (d ≡ 0)) → IsWithin y e t → IsWithin (placed b x y) (d + e) (s + t)
+  placed_weighs : (b : Bool) (x y : Tree) (d e s t : ℕ) → weight x + d ≤ s → (b ≡ true → (weight_all (open_choice x) + 2 ≤ s) × (d ≡ 0)) → IsWithin y e t → IsWithin (placed b x y) (d + e) (s + t)
   placed_weighs false x y d e s t h f (a, b) = (omega (arith, h, b, both_weight seq x y), omega (arith, h, b, both_open seq x y))
   placed_weighs true x y d e s t h f (a, b) =
       let (g, z) = f refl in
@@ -251,37 +278,39 @@ module _ (weigh : ConstructorsWeigh) (names : List (List ℕ)) (labels : List La
   mutual
     pub level_weighs : (n : ℕ) (b : Body) → is_built names b ≡ true → HasFewPairs b → weight (level_term names labels n b) ≤ 1 + body_size b
     level_weighs n (level cover held pairs) b f =
-        tied_weighs (items_term names labels n held) (tie_pairs (shown_items n held) pairs) (length (events held)) (items_size held) (items_weigh n held b f.2).0 (few_ties n held pairs f.0 f.1)
+        let few = few_ties n (length (events held) + orders_count (events held)) held (level_pairs held pairs) f.0 f.1 in
+        tied_weighs (items_term names labels n held) (tie_pairs (shown_items n held) (level_pairs held pairs)) (room (events held)) (items_size held) (items_weigh n held b f.2).0
+        (some_room (events held) (length (tie_pairs (shown_items n held) (level_pairs held pairs))) few)
 
-    items_weigh : (n : ℕ) (xs : Items) → are_built names xs ≡ true → HaveFewPairs xs → IsWithin (items_term names labels n xs) (length (events xs)) (items_size xs)
-    items_weigh n no_items b f = (omega arith, omega arith)
+    items_weigh : (n : ℕ) (xs : Items) → are_built names xs ≡ true → HaveFewPairs xs → IsWithin (items_term names labels n xs) (room (events xs)) (items_size xs)
+    items_weigh n no_items b f = (omega (arith, room_none), omega (arith, room_none))
     items_weigh n (item_and x xs) b f =
         let (i, j) = and_both (is_built_item names x) (are_built names xs) b in
-        subst (λ k. IsWithin (items_term names labels n (item_and x xs)) k (item_size x + items_size xs)) (sym (length_events (item_events x) (events xs)))
-        (placed_weighs (is_exception x) (item_term names labels (n + events_count xs) x) (items_term names labels n xs) (length (item_events x)) (length (events xs)) (item_size x) (items_size xs)
+        subst (λ k. IsWithin (items_term names labels n (item_and x xs)) k (item_size x + items_size xs)) (sym (room_both (item_events x) (events xs)))
+        (placed_weighs (is_exception x) (item_term names labels (n + events_count xs) x) (items_term names labels n xs) (room (item_events x)) (room (events xs)) (item_size x) (items_size xs)
         (item_weighs (n + events_count xs) x i f.0) (exception_weighs (n + events_count xs) x i f.0) (items_weigh n xs j f.1))
 
-    item_weighs : (n : ℕ) (x : Item) → is_built_item names x ≡ true → HasFewWithin x → weight (item_term names labels n x) + (length (item_events x) + length (item_events x)) ≤ item_size x
-    item_weighs n (Single e) b f = omega arith
-    item_weighs n (Coregion es) b f = let (a, c) = coregion_weighs n es in omega (arith, a)
-    item_weighs n (Inline inline.Alt part bs) b f = omega (arith, one_weight (operand_terms names labels n bs), choices_opened (operand_terms names labels n bs), operands_weigh n bs (and_both (has_operands inline.Alt bs) (have_built names bs) b).1 f)
+    item_weighs : (n : ℕ) (x : Item) → is_built_item names x ≡ true → HasFewWithin x → weight (item_term names labels n x) + room (item_events x) ≤ item_size x
+    item_weighs n (Single e) b f = omega (arith, room_one e)
+    item_weighs n (Coregion es) b f = let (a, c) = coregion_weighs n es in omega (arith, a, room_is es)
+    item_weighs n (Inline inline.Alt part bs) b f = omega (arith, room_none, one_weight (operand_terms names labels n bs), choices_opened (operand_terms names labels n bs), operands_weigh n bs (and_both (has_operands inline.Alt bs) (have_built names bs) b).1 f)
     item_weighs n (Inline inline.Opt part no_bodies) b f = absurd cc
     item_weighs n (Inline inline.Opt part (body_and x bs)) b f =
-        omega (arith, two_weight (one_of (operand_terms names labels n (body_and x bs))) Nil, one_opened (operand_terms names labels n (body_and x bs)) (some_operand n x bs), operands_weigh n (body_and x bs) (and_both (has_operands inline.Opt (body_and x bs)) (have_built names (body_and x bs)) b).1 f)
-    item_weighs n (Inline inline.Exc part bs) b f = omega (arith, one_weight (operand_terms names labels n bs), choices_opened (operand_terms names labels n bs), operands_weigh n bs (and_both (has_operands inline.Exc bs) (have_built names bs) b).1 f)
-    item_weighs n (Inline inline.Par part bs) b f = let (a, c) = parallel_weighs n bs b f in omega (arith, a)
+        omega (arith, room_none, two_weight (one_of (operand_terms names labels n (body_and x bs))) Nil, one_opened (operand_terms names labels n (body_and x bs)) (some_operand n x bs), operands_weigh n (body_and x bs) (and_both (has_operands inline.Opt (body_and x bs)) (have_built names (body_and x bs)) b).1 f)
+    item_weighs n (Inline inline.Exc part bs) b f = omega (arith, room_none, one_weight (operand_terms names labels n bs), choices_opened (operand_terms names labels n bs), operands_weigh n bs (and_both (has_operands inline.Exc bs) (have_built names bs) b).1 f)
+    item_weighs n (Inline inline.Par part bs) b f = let (a, c) = parallel_weighs n bs b f in omega (arith, a, room_none)
     item_weighs n (Inline inline.Loop part bs) b f = absurd cc
     item_weighs n (Refer part) b f = absurd cc
 
     -- an exception has no events of its own, and is opened
-    exception_weighs : (n : ℕ) (x : Item) → is_built_item names x ≡ true → HasFewWithin x → is_exception x ≡ true → (weight_all (open_choice (item_term names labels n x)) + 2 ≤ item_size x) × (length (item_events x) ≡ 0)
+    exception_weighs : (n : ℕ) (x : Item) → is_built_item names x ≡ true → HasFewWithin x → is_exception x ≡ true → (weight_all (open_choice (item_term names labels n x)) + 2 ≤ item_size x) × (room (item_events x) ≡ 0)
     exception_weighs n (Single e) b f is = absurd cc
     exception_weighs n (Coregion es) b f is = absurd cc
     exception_weighs n (Inline inline.Alt part bs) b f is = absurd cc
     exception_weighs n (Inline inline.Opt part bs) b f is = absurd cc
     exception_weighs n (Inline inline.Exc part no_bodies) b f is = absurd cc
     exception_weighs n (Inline inline.Exc part (body_and x bs)) b f is =
-        (omega (arith, one_opened (operand_terms names labels n (body_and x bs)) (some_operand n x bs), operands_weigh n (body_and x bs) (and_both (has_operands inline.Exc (body_and x bs)) (have_built names (body_and x bs)) b).1 f), refl)
+        (omega (arith, one_opened (operand_terms names labels n (body_and x bs)) (some_operand n x bs), operands_weigh n (body_and x bs) (and_both (has_operands inline.Exc (body_and x bs)) (have_built names (body_and x bs)) b).1 f), room_none)
     exception_weighs n (Inline inline.Par part bs) b f is = absurd cc
     exception_weighs n (Inline inline.Loop part bs) b f is = absurd cc
     exception_weighs n (Refer part) b f is = absurd cc

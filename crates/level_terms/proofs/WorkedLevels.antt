@@ -5,7 +5,7 @@ use Rattle.msc_base.specs.declared.label.Pair.{Pair}
 use Rattle.msc_base.specs.Orders.{Among, first, later}
 use Rattle.msc_meaning.specs.Bodies.{EventNode}
 use Rattle.msc_meaning.specs.WorkedParts.{node, out, taken_in, pair}
-use Rattle.level_terms.specs.RankedBodies.{DoPrecede}
+use Rattle.event_order.specs.RankedBodies.{DoPrecede}
 use Rattle.level_terms.specs.SoundParts.{IsForward}
 use Rattle.level_terms.specs.WorkedLevels.{InputFirst, input_first, output_lower}
 

@@ -1,13 +1,19 @@
--- Woven bodies have no more pairs than events on any level, where the numbers of their events differ.
+-- Woven bodies have no more pairs than events and what these are ordered with on any level, where the numbers of their events differ, and
+-- no event has the name of an earlier one.
 use Rattle.std.specs.Prelude.{ℕ, List, [], ◌∷◌, ◌++◌}
 use Rattle.msc_base.specs.Orders.{Among, first, later, Once}
 use Rattle.msc_meaning.specs.Bodies.{EventNode, Body, level, Items, no_items, item_and, Item, Single, Coregion, Inline, Refer, Bodies, no_bodies, body_and, events}
 use Rattle.msc_meaning.specs.Levels.{IsWovenLevel, woven, AreWovenItems, no_woven, woven_and, IsWovenItem, an_event, a_coregion, an_inline, a_reference, AreWovenOperands, no_woven_operand, woven_operand_and}
 use Rattle.msc_meaning.specs.Pieces.{Piece}
+use Rattle.msc_base.specs.Lists.{IsAmong}
+use Rattle.msc_base.specs.declared.place.Place.{Place}
+use Rattle.general_ordering.specs.EventNames.{body_faults, breaks, item_faults, items_faults, operands_faults, places_where}
+use Rattle.general_ordering.specs.declared.faults.EventNameRule.TheVariants.{Twice}
+use Rattle.general_ordering.proofs.NamesOnce.{is_one, is_other, names_once}
 use Rattle.level_terms.specs.LevelLaws.{HasFewPairs, HaveFewPairs, HasFewWithin, EachHasFew, HasOwnPairs, HaveOwnPairs, HasOwnWithin, EachHasOwn, WovenHaveFew}
-use Rattle.level_terms.specs.RankedBodies.{events_within, items_within, item_within, operands_within}
+use Rattle.event_order.specs.RankedBodies.{events_within, items_within, item_within, operands_within}
 use Rattle.level_terms.specs.SoundParts.{numbers}
-use Rattle.level_terms.proofs.FewPairs.{pairs_are_few}
+use Rattle.level_terms.proofs.FewPairs.{level_is_few}
 
 -- ---- numbers that differ
 
@@ -53,23 +59,41 @@ own_once (item_and (Refer part) xs) o = own_once xs o
 
 -- ---- by the levels
 
+abbrev NoneOf : List Place → Type 0
+NoneOf ps = (p : Place) → IsAmong ps p → ⊥
+
+none_left : (ps qs : List Place) → NoneOf (ps ++ qs) → NoneOf ps
+none_left ps qs f = λ p h. f p (is_one p ps qs h)
+
+none_right : (ps qs : List Place) → NoneOf (ps ++ qs) → NoneOf qs
+none_right ps qs f = λ p h. f p (is_other p ps qs h)
+
 mutual
-  few_body : (b : Body) → HasOwnPairs b → Once (numbers (events_within b)) → HasFewPairs b
-  few_body (level cover held pairs) (h, k) o = (own_once held o, pairs_are_few (events held) pairs h, few_items held k o)
+  few_body : (b : Body) → HasOwnPairs b → Once (numbers (events_within b)) → NoneOf (body_faults Twice b) → HasFewPairs b
+  few_body (level cover held pairs) (h, k) o f =
+      let level = places_where (breaks Twice (events held)) (events held) in
+      let once = own_once held o in
+      (once, level_is_few held pairs h (names_once (events held) once (none_left level (items_faults Twice held) f)), few_items held k o (none_right level (items_faults Twice held) f))
 
-  few_items : (xs : Items) → HaveOwnPairs xs → Once (numbers (items_within xs)) → HaveFewPairs xs
-  few_items no_items h o = tt
-  few_items (item_and x xs) (h, k) o = (few_item x h (once_left (item_within x) (items_within xs) o), few_items xs k (once_right (item_within x) (items_within xs) o))
+  few_items : (xs : Items) → HaveOwnPairs xs → Once (numbers (items_within xs)) → NoneOf (items_faults Twice xs) → HaveFewPairs xs
+  few_items no_items h o f = tt
+  few_items (item_and x xs) (h, k) o f = (
+    few_item x h (once_left (item_within x) (items_within xs) o) (none_left (item_faults Twice x) (items_faults Twice xs) f),
+    few_items xs k (once_right (item_within x) (items_within xs) o) (none_right (item_faults Twice x) (items_faults Twice xs) f),
+  )
 
-  few_item : (x : Item) → HasOwnWithin x → Once (numbers (item_within x)) → HasFewWithin x
-  few_item (Single n) h o = tt
-  few_item (Coregion ns) h o = tt
-  few_item (Inline form part operands) h o = few_operands operands h o
-  few_item (Refer part) h o = tt
+  few_item : (x : Item) → HasOwnWithin x → Once (numbers (item_within x)) → NoneOf (item_faults Twice x) → HasFewWithin x
+  few_item (Single n) h o f = tt
+  few_item (Coregion ns) h o f = tt
+  few_item (Inline form part operands) h o f = few_operands operands h o f
+  few_item (Refer part) h o f = tt
 
-  few_operands : (bs : Bodies) → EachHasOwn bs → Once (numbers (operands_within bs)) → EachHasFew bs
-  few_operands no_bodies h o = tt
-  few_operands (body_and b bs) (h, k) o = (few_body b h (once_left (events_within b) (operands_within bs) o), few_operands bs k (once_right (events_within b) (operands_within bs) o))
+  few_operands : (bs : Bodies) → EachHasOwn bs → Once (numbers (operands_within bs)) → NoneOf (operands_faults Twice bs) → EachHasFew bs
+  few_operands no_bodies h o f = tt
+  few_operands (body_and b bs) (h, k) o f = (
+    few_body b h (once_left (events_within b) (operands_within bs) o) (none_left (body_faults Twice b) (operands_faults Twice bs) f),
+    few_operands bs k (once_right (events_within b) (operands_within bs) o) (none_right (body_faults Twice b) (operands_faults Twice bs) f),
+  )
 
 mutual
   own_body : {cover : List (List ℕ)} {ps : List Piece} (b : Body) → IsWovenLevel cover ps b → HasOwnPairs b
@@ -90,4 +114,4 @@ mutual
   own_operands _ (woven_operand_and {body = b} {others = bs} h k) = (own_body b h, own_operands bs k)
 
 pub woven_have_few : WovenHaveFew
-woven_have_few cover ps b h o = few_body b (own_body b h) o
+woven_have_few cover ps b h o m = few_body b (own_body b h) o m

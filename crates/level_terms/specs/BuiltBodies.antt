@@ -31,13 +31,9 @@ names_no_gate (Env (Some gate)) = false
 names_no_gate (Instance name) = true
 names_no_gate (Gate name gate) = false
 
-abbrev pub is_empty : List (List ℕ) → Bool
-is_empty [] = true
-is_empty (name ∷ names) = false
-
--- no creation, no end at a gate, no general ordering
+-- no creation, no end at a gate
 abbrev pub is_plain : RawEvent → Bool
-is_plain e = (creates_nobody e.kind && names_no_gate e.target) && (is_empty e.earlier_than && is_empty e.later_than)
+is_plain e = creates_nobody e.kind && names_no_gate e.target
 
 -- as many operands as the form has; loops aren't made
 abbrev pub has_operands : InlineForm → Bodies → Bool

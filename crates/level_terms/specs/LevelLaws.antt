@@ -1,20 +1,26 @@
 -- The laws of the terms of charts.
-use Rattle.std.specs.Prelude.{ℕ, ◌≡◌, ◌≤◌, ◌+◌, true, List, length}
+use Rattle.std.specs.Prelude.{ℕ, ◌≡◌, ◌≤◌, ◌+◌, true, List, [], ◌∷◌, length}
 use Rattle.msc_base.specs.Lists.{AreDifferent}
 use Rattle.msc_base.specs.Orders.{Once}
 use Rattle.chart_term.specs.Terms.{weight}
 use Rattle.term_laws.specs.FullSoundness.{IsFullySound}
-use Rattle.msc_meaning.specs.Bodies.{Body, level, Items, no_items, item_and, Item, Single, Coregion, Inline, Refer, Bodies, no_bodies, body_and, events}
+use Rattle.msc_meaning.specs.Bodies.{EventNode, Body, level, Items, no_items, item_and, Item, Single, Coregion, Inline, Refer, Bodies, no_bodies, body_and, events}
 use Rattle.msc_meaning.specs.Levels.{IsWovenLevel}
 use Rattle.msc_meaning.specs.Pairing.{ArePairs}
 use Rattle.msc_meaning.specs.Pieces.{Piece}
+use Rattle.msc_meaning.specs.Ties.{level_pairs}
+use Rattle.general_ordering.specs.EventNames.{BreaksNameRule}
+use Rattle.general_ordering.specs.declared.faults.EventNameRule.TheVariants.{Twice}
+use Rattle.msc_base.specs.declared.place.Place.{Place}
+use Rattle.general_ordering.specs.OrderCounts.{order_count, orders_count}
 use Rattle.level_terms.specs.BuiltBodies.{is_built}
 use Rattle.level_terms.specs.LevelTerms.{chart_tables, chart_term}
 use Rattle.level_terms.specs.MadeCharts.{IsChartMade}
-use Rattle.level_terms.specs.RankedBodies.{IsRanked, events_within}
+use Rattle.event_order.specs.RankedBodies.{IsRanked, events_within}
 use Rattle.level_terms.specs.SoundParts.{IsForward, numbers}
 
--- the size of a body: 3 for an event, 1 and its events for a coregion, 2 and for each operand 1 and its items for an inline expression
+-- the size of a body: 3 for an event and 1 for each that it is ordered with, 1 and its events for a coregion, 2 and for each operand 1
+-- and its items for an inline expression
 abbrev mutual
   pub body_size : Body → ℕ
   body_size (level cover held pairs) = items_size held
@@ -24,8 +30,8 @@ abbrev mutual
   items_size (item_and x xs) = item_size x + items_size xs
 
   pub item_size : Item → ℕ
-  item_size (Single n) = 3
-  item_size (Coregion ns) = 1 + (length ns + length ns + length ns)
+  item_size (Single n) = 3 + order_count n.event
+  item_size (Coregion ns) = 1 + (length ns + length ns + length ns) + orders_count ns
   item_size (Inline form part operands) = 2 + operands_size operands
   item_size (Refer part) = 0
 
@@ -33,10 +39,10 @@ abbrev mutual
   operands_size no_bodies = 0
   operands_size (body_and b bs) = 1 + body_size b + operands_size bs
 
--- on each level the numbers of the events differ, and there are no more pairs than events
+-- on each level the numbers of the events differ, and there are no more pairs than events and what these are ordered with
 abbrev mutual
   pub HasFewPairs : Body → Type 0
-  HasFewPairs (level cover held pairs) = Once (numbers (events held)) × (length pairs ≤ length (events held)) × HaveFewPairs held
+  HasFewPairs (level cover held pairs) = Once (numbers (events held)) × (length (level_pairs held pairs) ≤ length (events held) + orders_count (events held)) × HaveFewPairs held
 
   pub HaveFewPairs : Items → Type 0
   HaveFewPairs no_items = Unit {0}
@@ -71,9 +77,10 @@ abbrev mutual
   EachHasOwn no_bodies = Unit {0}
   EachHasOwn (body_and b bs) = HasOwnPairs b × EachHasOwn bs
 
--- a body that a level is woven to has no more pairs than events on any level, where the numbers of its events differ
+-- a body that a level is woven to has no more pairs than events and what these are ordered with on any level, where the numbers of its
+-- events differ, and no event has the name of an earlier one of its level
 abbrev pub WovenHaveFew : Type 0
-WovenHaveFew = (cover : List (List ℕ)) (ps : List Piece) (b : Body) → IsWovenLevel cover ps b → Once (numbers (events_within b)) → HasFewPairs b
+WovenHaveFew = (cover : List (List ℕ)) (ps : List Piece) (b : Body) → IsWovenLevel cover ps b → Once (numbers (events_within b)) → ((p : Place) → BreaksNameRule Twice b p → ⊥) → HasFewPairs b
 
 -- where the names of the instances differ and a term is made of the body, the chart's term means the chart; it is sound in full where its
 -- events can be ranked, and where each output stands before its input; and it weighs no more than the body's size and 2

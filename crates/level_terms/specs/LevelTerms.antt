@@ -14,13 +14,11 @@ use Rattle.term_tables.specs.NetValues.{NetsValue}
 use Rattle.msc_tree.specs.declared.reference.InlineForm.TheVariants as inline
 use Rattle.msc_meaning.specs.Bodies.{EventNode, Body, level, Items, no_items, item_and, Item, Single, Coregion, Inline, Refer, Bodies, no_bodies, body_and}
 use Rattle.msc_meaning.specs.EventLabels.{written_label}
+use Rattle.msc_meaning.specs.Ties.{level_pairs}
+use Rattle.event_order.specs.RankedBodies.{is_exception}
 use Rattle.level_terms.specs.BodyLabels.{body_labels}
 use Rattle.level_terms.specs.BuiltBodies.{events_count, operands_count}
 use Rattle.level_terms.specs.ShownNumbers.{shown_items, tie_pairs}
-
-abbrev pub is_exception : Item → Bool
-is_exception (Inline inline.Exc part operands) = true
-is_exception x = false
 
 -- one of these terms; there is one at least
 abbrev pub one_of : List Tree → Tree
@@ -42,9 +40,9 @@ module _ (names : List (List ℕ)) (labels : List Label) where
   coregion_term n (e ∷ es) = join_all par (event_term (n + length es) e ∷ coregion_term n es ∷ [])
 
   abbrev mutual
-    -- the items of a level, tied by its pairs
+    -- the items of a level, tied by what comes before what
     pub level_term : ℕ → Body → Tree
-    level_term n (level cover held pairs) = tie_of (items_term n held) (tie_pairs (shown_items n held) pairs)
+    level_term n (level cover held pairs) = tie_of (items_term n held) (tie_pairs (shown_items n held) (level_pairs held pairs))
 
     pub items_term : ℕ → Items → Tree
     items_term n no_items = Nil

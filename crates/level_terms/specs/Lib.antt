@@ -5,11 +5,9 @@ pub mod ShownNumbers
 pub mod LevelTerms
 pub mod BareTerms
 pub mod MadeParts
-pub mod ItemViews
 pub mod TieNumbers
 pub mod SoundParts
 pub mod MadeCharts
-pub mod RankedBodies
 pub mod ChartSets
 pub mod LevelLaws
 pub mod WorkedLevels

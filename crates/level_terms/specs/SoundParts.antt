@@ -1,9 +1,10 @@
--- Bodies in which each output of a level stands before its input.
+-- Bodies in which each output of a level stands before its input, and what is to come before an event stands before it.
 use Rattle.std.specs.List.{slice_get}
 use Rattle.std.specs.Prelude.{ℕ, ◌<◌, ◌≡◌, List, Some, map}
 use Rattle.msc_base.specs.declared.label.Pair.{Pair}
 use Rattle.msc_base.specs.Orders.{Among}
 use Rattle.msc_meaning.specs.Bodies.{EventNode, Body, level, Items, no_items, item_and, Item, Single, Coregion, Inline, Refer, Bodies, no_bodies, body_and, events}
+use Rattle.msc_meaning.specs.Ties.{level_pairs}
 
 abbrev pub numbers : List EventNode → List ℕ
 numbers ns = map (λ (n : EventNode). n.number) ns
@@ -12,10 +13,10 @@ numbers ns = map (λ (n : EventNode). n.number) ns
 abbrev pub IsBefore : List ℕ → ℕ → ℕ → Type 0
 IsBefore ks k l = (a b : ℕ) → slice_get ks a ≡ Some k → slice_get ks b ≡ Some l → a < b
 
--- each output stands before its input, on this level and within its inline expressions
+-- what comes before what by messages and general ordering stands so, on this level and within its inline expressions
 abbrev mutual
   pub IsForward : Body → Type 0
-  IsForward (level cover held pairs) = ((p : Pair) → Among p pairs → IsBefore (numbers (events held)) p.first p.second) × AreForward held
+  IsForward (level cover held pairs) = ((p : Pair) → Among p (level_pairs held pairs) → IsBefore (numbers (events held)) p.first p.second) × AreForward held
 
   pub AreForward : Items → Type 0
   AreForward no_items = Unit {0}

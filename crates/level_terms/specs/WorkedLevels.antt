@@ -5,7 +5,7 @@ use Rattle.msc_meaning.specs.Bodies.{Body, level, no_items, item_and, Single}
 use Rattle.msc_meaning.specs.WorkedParts.{node, out, taken_in, pair}
 use Rattle.level_terms.specs.BuiltBodies.{is_built}
 use Rattle.level_terms.specs.LevelLaws.{HasFewPairs}
-use Rattle.level_terms.specs.RankedBodies.{IsRanked}
+use Rattle.event_order.specs.RankedBodies.{IsRanked}
 use Rattle.level_terms.specs.SoundParts.{IsForward}
 
 abbrev pub both_names : List (List ℕ)

@@ -1,11 +1,11 @@
 //! Whether terms are made of a body: for `chart`.
 
 ghost use Rattle.std.specs.Prelude.{◌≡◌, ◌&&◌, map};
-ghost use Rattle.msc_meaning.specs.Views.{body_view, node_view};
-ghost use Rattle.level_terms.specs.BuiltBodies.{are_built as built_items, are_built_nodes as built_nodes, creates_nobody as makes_none, has_operands as enough_operands, have_built as built_bodies, is_built as built_body, is_built_item as built_item, is_built_node as built_node, is_empty as empty_list, is_plain as plain_event, names_no_gate as no_gate};
-ghost use Rattle.level_terms.specs.ItemViews.{bodies_view, inline_view, item_view, items_view};
+ghost use Rattle.msc_meaning.specs.Views.{body_view, item_view, node_view};
+ghost use Rattle.level_terms.specs.BuiltBodies.{are_built as built_items, are_built_nodes as built_nodes, creates_nobody as makes_none, has_operands as enough_operands, have_built as built_bodies, is_built as built_body, is_built_item as built_item, is_built_node as built_node, is_plain as plain_event, names_no_gate as no_gate};
+ghost use Rattle.general_ordering.specs.ItemViews.{bodies_view, inline_view, items_view};
 
-use msc_base::{Kind, NameTable, Names};
+use msc_base::{Kind, NameTable};
 use msc_meaning::{Body, EventNode, EventNodeList, InlineItem, Item};
 use msc_tree::{InlineForm, RawEvent, Target};
 
@@ -36,20 +36,11 @@ fn names_no_gate(target: &Target) -> bool
     }
 }
 
-/// Whether there is no name.
-fn is_empty(names: &Names) -> bool
-    ensures { result ≡ empty_list names.now }
-{
-    names.len() == 0
-}
-
-/// Whether the event creates no instance, is at no gate, and has no general ordering.
+/// Whether the event creates no instance and is at no gate.
 fn is_plain(event: &RawEvent) -> bool
     ensures { result ≡ plain_event event.now }
 {
-    let one = both(creates_nobody(event.kind), names_no_gate(&event.target));
-    let other = both(is_empty(&event.earlier_than), is_empty(&event.later_than));
-    both(one, other)
+    both(creates_nobody(event.kind), names_no_gate(&event.target))
 }
 
 /// Whether a term is made of the event.
@@ -85,8 +76,8 @@ fn has_operands(form: InlineForm, operands: &Vec<Body>) -> bool
     }
 }
 
-/// Whether a term is made of the body: each event is at one of the instances, creates none, is at no gate and has no general
-/// ordering; no item is a reference or a loop; and each inline expression has as many operands as its form. It takes no memory.
+/// Whether a term is made of the body: each event is at one of the instances, creates none and is at no gate; no item is a reference
+/// or a loop; and each inline expression has as many operands as its form. It takes no memory.
 #[cycle(built)]
 pub fn is_built(names: &NameTable, body: &Body) -> bool
     ensures { result ≡ built_body names.now (body_view body.now) }

@@ -23,7 +23,8 @@ pub fn chart_terms_mean()
     constructors_weigh();
 }
 
-/// A woven body whose events have numbers that differ has no more pairs than events on any level.
+/// A woven body whose events have numbers that differ, and none of which has the name of an earlier one of its level, has no more
+/// pairs than events and what these are ordered with on any level.
 #[tactic(auto, using(crate::proofs::WovenPairs::woven_have_few))]
 pub fn woven_bodies_have_few_pairs()
     ensures { WovenHaveFew }

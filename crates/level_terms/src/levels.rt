@@ -3,15 +3,15 @@
 ghost use Rattle.std.specs.Prelude.{ℕ, ◌≡◌, ◌<◌, ◌≤◌, ◌+◌, true, length, IfOk, []};
 ghost use Rattle.msc_base.specs.declared.limits.TheConstants.Limits.{INSTANCES};
 ghost use Rattle.msc_meaning.specs.ChartUnfoldings.{OfLevel};
-ghost use Rattle.msc_meaning.specs.Views.{body_view};
+ghost use Rattle.msc_meaning.specs.Views.{body_view, item_view};
 ghost use Rattle.term_laws.specs.FullSoundness.{AreSoundNets, IsSoundNode};
 ghost use Rattle.level_terms.specs.BodyLabels.{HasLabels, body_labels, item_labels, items_labels, operands_labels};
 ghost use Rattle.level_terms.specs.BuiltBodies.{are_built, event_count, events_count, have_built, is_built, is_built_item, item_count, operands_count};
-ghost use Rattle.level_terms.specs.ItemViews.{item_view, inline_view, items_view, bodies_view};
-ghost use Rattle.level_terms.specs.LevelTerms.{is_exception, item_term, items_term, level_term, one_of, operand_terms, parallel_term};
+ghost use Rattle.general_ordering.specs.ItemViews.{inline_view, items_view, bodies_view};
+ghost use Rattle.level_terms.specs.LevelTerms.{item_term, items_term, level_term, one_of, operand_terms, parallel_term};
 ghost use Rattle.level_terms.specs.MadeParts.{AreFit, IsMade, IsPart};
 ghost use Rattle.level_terms.specs.ShownNumbers.{shown_item, shown_items};
-ghost use Rattle.level_terms.specs.RankedBodies.{IsRanked};
+ghost use Rattle.event_order.specs.RankedBodies.{IsRanked};
 ghost use Rattle.level_terms.specs.SoundParts.{IsForward};
 
 use crate::events::{coregion_of, event_of};
@@ -19,25 +19,14 @@ use crate::made::Made;
 use crate::parts::{instead, nothing, placed, side_by_side};
 use crate::ties::level_tied;
 use chart_term::{TermList, choice};
+use event_order::is_exception;
+use general_ordering::level_pairs_of;
 use msc_base::{NameTable, NoMemory, PairList};
 use msc_meaning::{Body, InlineItem, Item};
 use msc_tree::InlineForm;
 use std::alloc::Global;
 use term_laws::laws::{constructors_keep_soundness, normal_forms_keep_patterns};
 use term_tables::Nets;
-
-/// Whether the item is an exception.
-fn is_exception(item: &Item) -> bool
-    ensures { result ≡ is_exception (item_view item.now) }
-{
-    match item {
-        Item::Inline(inline) => match inline.form {
-            InlineForm::Exc => true,
-            _ => false,
-        },
-        _ => false,
-    }
-}
 
 /// The term of a level with events and inline expressions of the forms that terms are made of, over tables that have its labels. It
 /// fails only for want of memory.
@@ -65,7 +54,7 @@ pub fn level_of(
     Ok(made)
 }
 
-/// The term of a level: its items, tied.
+/// The term of a level: its items, tied by its messages and its general ordering.
 #[cycle(levels)]
 fn tied_level(
     alloc: Global,
@@ -82,7 +71,8 @@ fn tied_level(
     ensures part { IfOk result (λ made. IsPart (level_term names.now nets.now.labels next (body_view body.now)) [] made) }
 {
     let inner = items_of(alloc, nets, names, next, &body.items)?;
-    let made = level_tied(alloc, &body.pairs, &inner)?;
+    let pairs = level_pairs_of(alloc, body.items.as_slice(), body.pairs.as_slice())?;
+    let made = level_tied(alloc, &pairs, &inner)?;
     Ok(made)
 }
 

@@ -11,11 +11,12 @@ use Rattle.msc_base.proofs.Narrowing.{Narrows, narrows_end, narrows_step}
 use Rattle.msc_tree.specs.declared.event.Direction.{Direction}
 use Rattle.level_weaving.specs.Alone.{AreTold, HasEnd, IsAlone, is_message}
 use Rattle.msc_meaning.specs.Bodies.{EventNode}
-use Rattle.level_weaving.specs.PieceViews.{event_view}
+use Rattle.level_weaving.specs.EventViews.{event_view}
 use Rattle.level_weaving.specs.Marks.{LeadsPairs}
 use Rattle.level_weaving.specs.Messages.{IsUnmatched, way}
 use Rattle.level_weaving.specs.declared.events.PlacedEvent as code
-use Rattle.level_weaving.proofs.Walks.{drop_read}
+use Rattle.level_pieces.proofs.LeastLaws.{least_same}
+use Rattle.level_pieces.proofs.Walks.{drop_end, drop_read}
 
 -- ---- telling which numbers pairs have
 
@@ -64,12 +65,6 @@ told_step told pairs k e all low is from to inv p =
         ]
       ],
     )
-
-pub drop_end : {A : Type 0} (list : List A) (i : ℕ) → (i < length list → ⊥) → drop i list ≡ []
-drop_end [] zero n = refl
-drop_end [] (suc i) n = refl
-drop_end (x ∷ list) zero n = absurd (n (omega arith))
-drop_end (x ∷ list) (suc i) n = drop_end list i (λ l. n (omega arith))
 
 pub told_end : (told : List Bool) (pairs : List Edge) (k count : ℕ) → (k < length pairs → ⊥) → length told ≡ count
     → ((p : ℕ) → ((get_or told p false ≡ true) ⊎ HasEnd (drop k pairs) p) ↔ HasEnd pairs p) → AreTold pairs count told
@@ -181,10 +176,6 @@ unmatched_alone events pairs told leads are q u =
     let e = end_of pairs u.number ((are.are u.number).0 t) in
     u.alone e.0 (elim e.1 [ inl l ↦ inl ((leads u.number e.0).0 l) | inr l ↦ inr ((leads e.0 u.number).0 l) ])) in
     subst (IsAlone events told) u.there (alone_at events told u.number u.event are.each u.event_at (is_message_so (way u.event) u.direction u.message) untold)
-
-least_same : (P Q : Place → Type 0) (b : Option Place) → ((p : Place) → P p → Q p) → ((p : Place) → Q p → P p) → IsLeast P b → IsLeast Q b
-least_same P Q None f g k = λ q h. k q (g q h)
-least_same P Q (Some p) f g k = (f p k.0, λ q h. k.1 q (g q h))
 
 pub least_unmatched : (events : List EventNode) (pairs : List Edge) (told : List Bool) (best : Option Place) → LeadsPairs events pairs → AreTold pairs (length events) told → IsLeast (IsAlone events told) best → IsLeast (IsUnmatched events) best
 least_unmatched events pairs told best leads are k =

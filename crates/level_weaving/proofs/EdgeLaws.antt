@@ -10,7 +10,7 @@ use Rattle.msc_tree.specs.declared.event.Direction.TheVariants.{Out, In}
 use Rattle.msc_tree.specs.Directions.{is_direction}
 use Rattle.level_weaving.specs.Marks.{is_end, end_edges, edges_from}
 use Rattle.level_weaving.proofs.Counts.{count_cons}
-use Rattle.level_weaving.proofs.Walks.{assoc, drop_get}
+use Rattle.level_pieces.proofs.Walks.{assoc, drop_get}
 
 -- two directions are one where the test says so
 same_way : (a b : Direction) → is_direction a b ≡ true → b ≡ a

@@ -6,7 +6,7 @@ use Rattle.std.proofs.lemmas.Bool.{cases_eq, eq-eqb, ne_eqb, false_from_ne_true}
 use Rattle.msc_meaning.specs.Pairing.{Key}
 use Rattle.level_weaving.specs.Messages.{is_key}
 use Rattle.msc_meaning.proofs.PairingTest.{key_itself, key_so}
-use Rattle.level_weaving.proofs.Positions.{position_passes}
+use Rattle.level_pieces.proofs.Positions.{position_passes}
 
 -- the test of two keys finds out whether they are the same
 pub key_decides : (k l : Key) → Decides (is_key k l) (k ≡ l)

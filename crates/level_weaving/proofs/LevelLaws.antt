@@ -1,30 +1,40 @@
--- What a level is woven to, all of whose forms are woven.
-use Rattle.std.proofs.Common.{◌≡◌, inl, inr, ℕ, zero, suc, Bool, false, List, [], ◌∷◌, ◌++◌, Option, Some, None, slice_get, length, map, refl, sym, subst, ap, ap₂, ◌∙◌}
+-- What a level is woven to, whose messages lack a partner, and where its columns cross.
+use Rattle.std.proofs.Common.{◌≡◌, ◌⊎◌, inl, inr, ℕ, ◌<◌, zero, suc, List, [], ◌∷◌, ◌++◌, Option, Some, None, All, slice_get, length, map, refl, sym, subst, ap, ap₂, ◌∙◌, arith}
+use Rattle.std.proofs.lemmas.Bool.{cases_order}
 use Rattle.item_order.specs.Weaving.{IsWoven, IsCrossedAt}
-use Rattle.item_order.proofs.WeavingLaws.{crossed_is_one, woven_is_one, never_woven_and_crossed}
-use Rattle.msc_base.specs.Lists.{AreDifferent}
-use Rattle.msc_base.specs.Places.{IsLeast}
+use Rattle.item_order.proofs.WeavingLaws.{crossed_is_one, never_woven_and_crossed}
+use Rattle.msc_base.specs.Lists.{AreDifferent, IsAmong}
+use Rattle.msc_base.specs.Places.{IsLeast, earliest}
 use Rattle.msc_base.specs.declared.label.Pair.{Pair}
 use Rattle.msc_base.specs.declared.place.Place.{Place}
 use Rattle.msc_tree.specs.Statements as tree
-use Rattle.msc_meaning.specs.Bodies.{Body, EventNode, Item, Items, Refer, events, item_events, level}
+use Rattle.msc_meaning.specs.Bodies.{Body, EventNode, Item, Items, events, item_events, level}
 use Rattle.msc_meaning.specs.Crossings.{Crosses, crossed, inside}
-use Rattle.msc_meaning.specs.LevelItems.{cover_of, entries, level_items, name_of}
+use Rattle.msc_meaning.specs.LevelItems.{cover_of, entries, level_items}
 use Rattle.msc_meaning.specs.LevelItems as level_item
 use Rattle.msc_meaning.specs.Levels.{AreWovenItems, IsWovenItem, IsWovenLevel, an_event, a_coregion, an_inline, a_reference, no_woven, woven, woven_and}
 use Rattle.msc_meaning.specs.Pairing.{ArePairs}
-use Rattle.msc_meaning.specs.Partners.{ItemLacksPartner, ItemsLackPartner, LacksPartner}
+use Rattle.msc_meaning.specs.Partners.{ItemsLackPartner, LacksPartner}
 use Rattle.msc_meaning.specs.Partners as partners
-use Rattle.msc_meaning.specs.Pieces.{Piece, operand_of, operands_of}
-use Rattle.level_weaving.specs.ItemNumbers.{first_parts}
-use Rattle.level_weaving.specs.LevelNodes.{AreNumbered, nodes_at, option_nodes, ordered_nodes, piece_nodes}
+use Rattle.msc_meaning.specs.Pieces.{Piece, operands_of}
+use Rattle.level_pieces.specs.Earliest.{earliest_of}
+use Rattle.level_pieces.specs.ItemNumbers.{first_parts}
+use Rattle.level_pieces.specs.ItemParts.{AreItems}
+use Rattle.level_pieces.specs.PieceNumbers.{AreNumbered}
+use Rattle.level_pieces.specs.Unwoven.{AreAllWoven}
+use Rattle.level_pieces.proofs.ItemLaws.{firsts_numbered, item_at}
+use Rattle.level_pieces.proofs.LeastLaws.{least_of, least_same}
+use Rattle.level_pieces.proofs.Walks.{all_low}
+use Rattle.level_weaving.specs.Answers.{IsAnswer, ItemCrosses, ItemsCross, OptionCrosses, crossed_at}
+use Rattle.level_weaving.specs.LevelNodes.{nodes_at, option_nodes, ordered_nodes, piece_nodes}
+use Rattle.level_weaving.specs.LevelNumbers.{numbers_to}
 use Rattle.level_weaving.specs.LevelPairs.{number_of}
 use Rattle.level_weaving.specs.Messages.{IsUnmatched}
-use Rattle.level_weaving.specs.PlainItems.{lone}
-use Rattle.level_weaving.specs.Unwoven.{AreAllWoven, is_at_one, unwoven_form}
 use Rattle.level_weaving.specs.WeaveFaults.{IsAloneIn, IsLevelWoven}
-use Rattle.level_weaving.proofs.ItemLaws.{AllGood, Each, IsGood, all_good, each_woven, first_at, firsts_numbered, item_at}
+use Rattle.level_weaving.specs.declared.answers.Answer.{Answer}
+use Rattle.level_weaving.specs.declared.answers.Answer.TheVariants as answer
 use Rattle.level_weaving.proofs.NodeLaws.{ordered_different}
+use Rattle.level_weaving.proofs.OneBody.{one_body}
 use Rattle.level_weaving.proofs.PartnerLaws.{unmatched_numbers, unmatched_positions}
 
 -- ---- the events of a woven list
@@ -47,95 +57,64 @@ item_nodes (a_coregion {p = p} f l) = sym (ap₂ (λ (o : Option (List ℕ)) (g 
 item_nodes (an_inline {p = p} {head = head} {operands = inner} f h) = sym (ap (λ (g : tree.Form). nodes_at (slice_get p.leads 0) p.first g) f ∙ none_inline (slice_get p.leads 0) p.first head inner)
 item_nodes (a_reference {p = p} {r = r} f) = sym (ap (λ (g : tree.Form). nodes_at (slice_get p.leads 0) p.first g) f ∙ none_reference (slice_get p.leads 0) p.first r)
 
-first_nodes : (all : List (List Piece)) (x : ℕ) (parts : List Piece) → AllGood all → slice_get all x ≡ Some parts → option_nodes (slice_get (first_parts all) x) ≡ parts_nodes parts
+first_nodes : (all : List (List Piece)) (x : ℕ) (parts : List Piece) → AreItems all → slice_get all x ≡ Some parts → option_nodes (slice_get (first_parts all) x) ≡ parts_nodes parts
 first_nodes all x parts g at = let r = item_at all x parts g at in ap option_nodes r.at ∙ sym (ap parts_nodes r.is)
 
-woven_nodes : {cover : List (List ℕ)} {all : List (List Piece)} {order : List ℕ} {held : Items} → AllGood all → AreWovenItems cover all order held → events held ≡ ordered_nodes (first_parts all) order
+woven_nodes : {cover : List (List ℕ)} {all : List (List Piece)} {order : List ℕ} {held : Items} → AreItems all → AreWovenItems cover all order held → events held ≡ ordered_nodes (first_parts all) order
 woven_nodes g no_woven = refl
 woven_nodes {all = all} g (woven_and {x = x} {parts = parts} at is others) =
     ap₂ (λ (a b : List EventNode). a ++ b) (item_nodes is ∙ sym (first_nodes all x parts g at)) (woven_nodes g others)
-
--- ---- nothing stands inside
-
-no_inline : (b : Bool) (f : tree.Form) (head : tree.InlineHead) (inner : tree.Operands) → unwoven_form b f ≡ false → f ≡ tree.Inline head inner → ⊥
-no_inline b f head inner h is = let bad : unwoven_form b (tree.Inline head inner) ≡ false = subst (λ (g : tree.Form). unwoven_form b g ≡ false) is h in cc
-
-none_in_item : {cover : List (List ℕ)} {parts : List Piece} {item : Item} (place : Place) → IsGood parts → IsWovenItem cover parts item → ItemLacksPartner item place → ⊥
-none_in_item place g (an_event f l) h = h
-none_in_item place g (a_coregion f l) h = h
-none_in_item place g (an_inline {p = p} {head = head} {operands = inner} f l) h = no_inline (is_at_one p.leads) p.form head inner g.1.0.0 f
-none_in_item place g (a_reference f) h = h
-
-good_at : (all : List (List Piece)) (x : ℕ) (parts : List Piece) → AllGood all → slice_get all x ≡ Some parts → IsGood parts
-good_at all x parts g at = let r = item_at all x parts g at in subst (λ (l : List Piece). IsGood l) (sym r.is) r.good
-
-none_inside : {cover : List (List ℕ)} {all : List (List Piece)} {order : List ℕ} {held : Items} (place : Place) → AllGood all → AreWovenItems cover all order held → ItemsLackPartner held place → ⊥
-none_inside place g no_woven h = h
-none_inside {all = all} place g (woven_and {x = x} {parts = parts} at is others) (inl h) = none_in_item place (good_at all x parts g at) is h
-none_inside place g (woven_and at is others) (inr h) = none_inside place g others h
-
-no_operand : (c : List (List ℕ)) (k : ℕ) (p : Piece) (b : Bool) (f : tree.Form) → unwoven_form b f ≡ false → operand_of c k p f ≡ []
-no_operand c k p b (tree.Single e) h = refl
-no_operand c k p b (tree.Coregion es) h = refl
-no_operand c k p b (tree.Condition names shared) h = refl
-no_operand c k p b (tree.Inline head inner) h = cc
-no_operand c k p b (tree.Refer r) h = refl
-no_operand c k p b tree.Stop h = refl
-
-no_operands : (c : List (List ℕ)) (k : ℕ) (parts : List Piece) → Each parts → operands_of c k parts ≡ []
-no_operands c k [] h = refl
-no_operands c k (p ∷ parts) h = ap₂ (λ (a b : List Piece). a ++ b) (no_operand c k p (is_at_one p.leads) p.form h.0) (no_operands c k parts h.1)
-
-each_part : (parts : List Piece) → IsGood parts → Each parts
-each_part [] g = absurd g
-each_part (p ∷ parts) g = g.1.0
-
--- ---- copies of the first parts are copies of the items
-
-widened : {cover : List (List ℕ)} {parts : List Piece} {item : Item} (q : Piece) (others : List Piece) → parts ≡ lone q → IsGood (q ∷ others) → IsWovenItem cover parts item → IsWovenItem cover (q ∷ others) item
-widened {cover} {item = item} q [] e g w = subst (λ (l : List Piece). IsWovenItem cover l item) e w
-widened q (r ∷ rs) e g (an_event {p = p} f l) =
-    let one : p ≡ q = cc in
-    absurd (g.1.1 (ap (λ (z : Piece). name_of z.form) (sym one) ∙ ap name_of f))
-widened q (r ∷ rs) e g (a_coregion {p = p} f l) =
-    let one : p ≡ q = cc in
-    absurd (g.1.1 (ap (λ (z : Piece). name_of z.form) (sym one) ∙ ap name_of f))
-widened q (r ∷ rs) e g (an_inline {p = p} {head = head} {operands = inner} f l) =
-    let one : p ≡ q = cc in
-    absurd (no_inline (is_at_one q.leads) q.form head inner g.1.0.0 (ap (λ (z : Piece). z.form) (sym one) ∙ f))
-widened {cover} q (r ∷ rs) e g (a_reference {p = p} {r = held} f) =
-    let one : p ≡ q = cc in
-    subst (λ (z : Piece). IsWovenItem cover (z ∷ r ∷ rs) (Refer (record { name = held.name; expression = held.expression; joins = held.joins; cover = cover_of cover p; place = p.place }))) one (a_reference f)
-
-record IsLone (qs : List Piece) (x : ℕ) (parts : List Piece) : Type 0 where
-  pub piece : Piece
-  pub at : slice_get qs x ≡ Some piece
-  pub is : parts ≡ lone piece
-
-lone_at : (qs : List Piece) (x : ℕ) (parts : List Piece) → slice_get (map lone qs) x ≡ Some parts → IsLone qs x parts
-lone_at [] x parts at = cc
-lone_at (q ∷ qs) zero parts at = let same : lone q ≡ parts = cc in record { piece = q; at = refl; is = sym same }
-lone_at (q ∷ qs) (suc x) parts at = let r = lone_at qs x parts at in record { piece = r.piece; at = r.at; is = r.is }
-
-all_widened : {cover : List (List ℕ)} {copies : List (List Piece)} {order : List ℕ} {held : Items} (all : List (List Piece)) → AllGood all → copies ≡ map lone (first_parts all) → AreWovenItems cover copies order held → AreWovenItems cover all order held
-all_widened all g e no_woven = no_woven
-all_widened all g e (woven_and {x = x} {parts = parts} at is others) =
-    let l = lone_at (first_parts all) x parts (subst (λ (c : List (List Piece)). slice_get c x ≡ Some parts) e at) in
-    let r = first_at all x l.piece g l.at in
-    woven_and r.at (widened l.piece r.others l.is r.good is) (all_widened all g e others)
-
-empty_uncrossed : {c : List (List ℕ)} {ps : List Piece} {place : Place} → ps ≡ [] → Crosses c ps place → ⊥
-empty_uncrossed {c} e (crossed x p parts k at there) =
-    let at_none : slice_get (level_items []) x ≡ Some (p ∷ parts) = subst (λ (l : List Piece). slice_get (level_items l) x ≡ Some (p ∷ parts)) e at in cc
-empty_uncrossed {c} e (inside x k p parts at rest) =
-    let at_none : slice_get (level_items []) x ≡ Some (p ∷ parts) = subst (λ (l : List Piece). slice_get (level_items l) x ≡ Some (p ∷ parts)) e at in cc
-
--- ---- the level
 
 -- the numbers of the events of a woven list differ
 pub numbers_differ : (ps : List Piece) (order : List ℕ) → AreNumbered 0 ps → AreDifferent order → AreDifferent (map number_of (ordered_nodes (first_parts (level_items ps)) order))
 numbers_differ ps order numbered d = ordered_different (first_parts (level_items ps)) order (firsts_numbered ps numbered) d
 
+-- ---- where columns cross
+
+pub empty_uncrossed : {c : List (List ℕ)} {ps : List Piece} {place : Place} → ps ≡ [] → Crosses c ps place → ⊥
+empty_uncrossed {c} e (crossed x p parts k at there) =
+    let at_none : slice_get (level_items []) x ≡ Some (p ∷ parts) = subst (λ (l : List Piece). slice_get (level_items l) x ≡ Some (p ∷ parts)) e at in cc
+empty_uncrossed {c} e (inside x k p parts at rest) =
+    let at_none : slice_get (level_items []) x ≡ Some (p ∷ parts) = subst (λ (l : List Piece). slice_get (level_items l) x ≡ Some (p ∷ parts)) e at in cc
+
+low_at : {A : Type 0} (xs : List A) (i : ℕ) (x : A) → slice_get xs i ≡ Some x → i < length xs
+low_at [] i x at = cc
+low_at (y ∷ xs) zero x at = omega arith
+low_at (y ∷ xs) (suc i) x at = let low : i < length xs = low_at xs i x at in omega (arith, low)
+
+-- an item in which columns cross
+pub record HasCrossing (cover : List (List ℕ)) (all : List (List Piece)) (q : Place) : Type 0 where
+  pub number : ℕ
+  pub parts : List Piece
+  pub at : slice_get all number ≡ Some parts
+  pub crosses : ItemCrosses cover parts q
+
+option_crossing : (cover : List (List ℕ)) (all : List (List Piece)) (x : ℕ) (q : Place) → OptionCrosses cover (slice_get all x) q → HasCrossing cover all q
+option_crossing cover all x q h = by (slice_get all x) refl h
+  where
+    by : (o : Option (List Piece)) → slice_get all x ≡ o → OptionCrosses cover o q → HasCrossing cover all q
+    by None is g = absurd g
+    by (Some parts) is g = record { number = x; parts = parts; at = is; crosses = g }
+
+has_crossing : (cover : List (List ℕ)) (all : List (List Piece)) (order : List ℕ) (q : Place) → ItemsCross cover all order q → HasCrossing cover all q
+has_crossing cover all [] q h = absurd h
+has_crossing cover all (x ∷ order) q (inl h) = option_crossing cover all x q h
+has_crossing cover all (x ∷ order) q (inr h) = has_crossing cover all order q h
+
+crossing_among : (cover : List (List ℕ)) (all : List (List Piece)) (order : List ℕ) (q : Place) (h : HasCrossing cover all q) → IsAmong order h.number → ItemsCross cover all order q
+crossing_among cover all [] q h m = absurd m
+crossing_among cover all (x ∷ order) q h (inl e) =
+    inl (subst (λ (o : Option (List Piece)). OptionCrosses cover o q) (sym (subst (λ (n : ℕ). slice_get all n ≡ Some h.parts) e h.at)) h.crosses)
+crossing_among cover all (x ∷ order) q h (inr m) = inr (crossing_among cover all order q h m)
+
+crossing_inside : (cover : List (List ℕ)) (ps : List Piece) (q : Place) → HasCrossing cover (level_items ps) q → Crosses cover ps q
+crossing_inside cover ps q h = by h.parts h.at h.crosses
+  where
+    by : (parts : List Piece) → slice_get (level_items ps) h.number ≡ Some parts → ItemCrosses cover parts q → Crosses cover ps q
+    by [] at c = absurd c
+    by (p ∷ parts) at c = inside h.number c.0 p parts at c.1
+
+-- the level itself crosses, or an item of it does
 pub record CrossesHere (cover : List (List ℕ)) (ps : List Piece) (place : Place) : Type 0 where
   pub item : ℕ
   pub piece : Piece
@@ -144,97 +123,133 @@ pub record CrossesHere (cover : List (List ℕ)) (ps : List Piece) (place : Plac
   pub at : slice_get (level_items ps) item ≡ Some (piece ∷ parts)
   pub there : piece.place ≡ place
 
-module _ (cover : List (List ℕ)) (ps : List Piece) (all_woven : AreAllWoven ps) where
-  good : AllGood (level_items ps)
-  good = all_good ps (each_woven ps all_woven)
+crossing_of : (cover : List (List ℕ)) (ps : List Piece) (place : Place) → Crosses cover ps place → CrossesHere cover ps place ⊎ HasCrossing cover (level_items ps) place
+crossing_of cover ps place h = by h refl refl
+  where
+    by : {c : List (List ℕ)} {qs : List Piece} {q : Place} → Crosses c qs q → cover ≡ c → ps ≡ qs → CrossesHere cover ps q ⊎ HasCrossing cover (level_items ps) q
+    by {c} {qs} {q} (crossed x p parts k at there) n e = inl (record {
+      item = x;
+      piece = p;
+      parts = parts;
+      crossing = subst (λ (w : List (List ℕ)). IsCrossedAt (length (level_items ps)) (level_item.columns_of (entries ps) w) x) (sym n)
+          (subst (λ (l : List Piece). IsCrossedAt (length (level_items l)) (level_item.columns_of (entries l) c) x) (sym e) k);
+      at = subst (λ (l : List Piece). slice_get (level_items l) x ≡ Some (p ∷ parts)) (sym e) at;
+      there = there;
+    })
+    by {c} {qs} {q} (inside x k p parts at rest) n e = inr (record {
+      number = x;
+      parts = p ∷ parts;
+      at = subst (λ (l : List Piece). slice_get (level_items l) x ≡ Some (p ∷ parts)) (sym e) at;
+      crosses = (k, subst (λ (w : List (List ℕ)). Crosses (cover_of w p) (operands_of (cover_of w p) k (p ∷ parts)) q) (sym n) rest);
+    })
 
-  order_is : (order other : List ℕ) → IsWoven (length (level_items ps)) (level_item.columns_of (entries ps) cover) order → IsWoven (length (level_items ps)) (level_item.columns_of (entries ps) cover) other → other ≡ order
-  order_is order other a b = woven_is_one (length (level_items ps)) (level_item.columns_of (entries ps) cover) other order b a
+-- ---- a level that is woven
 
-  pub events_are : (order : List ℕ) (held : Items) → AreWovenItems cover (level_items ps) order held → events held ≡ ordered_nodes (first_parts (level_items ps)) order
-  events_are order held are = woven_nodes good are
+module _ (cover : List (List ℕ)) (ps : List Piece) (order : List ℕ) (own_woven : IsWoven (length (level_items ps)) (level_item.columns_of (entries ps) cover) order) where
+  whole_on : (q : Place) → Crosses cover ps q → ItemsCross cover (level_items ps) order q
+  whole_on q h = elim (crossing_of cover ps q h) [
+    | inl here ↦ absurd (never_woven_and_crossed (length (level_items ps)) (level_item.columns_of (entries ps) cover) order here.item own_woven here.crossing)
+    | inr in_item ↦ crossing_among cover (level_items ps) order q in_item (own_woven.every in_item.number (low_at (level_items ps) in_item.number in_item.parts in_item.at))
+  ]
 
-  pub alone_unmatched : (order : List ℕ) → IsWoven (length (level_items ps)) (level_item.columns_of (entries ps) cover) order → (place : Place) → IsAloneIn cover ps place → IsUnmatched (ordered_nodes (first_parts (level_items ps)) order) place
-  alone_unmatched order own place a = by a.woven a.alone
-    where
-      by : {held : Body} → IsWovenLevel cover ps held → LacksPartner held place → IsUnmatched (ordered_nodes (first_parts (level_items ps)) order) place
-      by (woven {order = other} {held = held} w are paired) (inl u) =
-          let same : events held ≡ ordered_nodes (first_parts (level_items ps)) order = events_are other held are ∙ ap (ordered_nodes (first_parts (level_items ps))) (order_is order other own w) in
-          unmatched_positions (ordered_nodes (first_parts (level_items ps)) order) place (subst (λ (ns : List EventNode). partners.IsUnmatched ns place) same u)
-      by (woven {order = other} {held = held} w are paired) (inr u) = absurd (none_inside place good are u)
+  whole_of : (q : Place) → ItemsCross cover (level_items ps) order q → Crosses cover ps q
+  whole_of q h = crossing_inside cover ps q (has_crossing cover (level_items ps) order q h)
 
-  pub only_here : (place : Place) → Crosses cover ps place → CrossesHere cover ps place
-  only_here place h = by h refl refl
-    where
-      by : {c : List (List ℕ)} {qs : List Piece} {q : Place} → Crosses c qs q → cover ≡ c → ps ≡ qs → CrossesHere cover ps q
-      by {c} {qs} {q} (crossed x p parts k at there) n e = record {
-        item = x;
-        piece = p;
-        parts = parts;
-        crossing = subst (λ (w : List (List ℕ)). IsCrossedAt (length (level_items ps)) (level_item.columns_of (entries ps) w) x) (sym n)
-            (subst (λ (l : List Piece). IsCrossedAt (length (level_items l)) (level_item.columns_of (entries l) c) x) (sym e) k);
-        at = subst (λ (l : List Piece). slice_get (level_items l) x ≡ Some (p ∷ parts)) (sym e) at;
-        there = there;
-      }
-      by {c} {qs} {q} (inside x k p parts at rest) n e =
-          let own : slice_get (level_items ps) x ≡ Some (p ∷ parts) = subst (λ (l : List Piece). slice_get (level_items l) x ≡ Some (p ∷ parts)) (sym e) at in
-          absurd (empty_uncrossed (no_operands (cover_of c p) k (p ∷ parts) (each_part (p ∷ parts) (good_at (level_items ps) x (p ∷ parts) good own))) rest)
+  pub whole_least : (b : Option Place) → IsLeast (ItemsCross cover (level_items ps) order) b → IsLeast (Crosses cover ps) b
+  whole_least b least = least_same (ItemsCross cover (level_items ps) order) (Crosses cover ps) b whole_of whole_on least
 
-  -- columns that are woven don't cross
-  pub uncrossed : (order : List ℕ) → IsWoven (length (level_items ps)) (level_item.columns_of (entries ps) cover) order → (place : Place) → Crosses cover ps place → ⊥
-  uncrossed order w place h =
-      let here = only_here place h in
-      never_woven_and_crossed (length (level_items ps)) (level_item.columns_of (entries ps) cover) order here.item w here.crossing
+  module _ (held : Items) (pairs : List Pair) (all : AreItems (level_items ps)) (numbered : AreNumbered 0 ps) (are : AreWovenItems cover (level_items ps) order held)
+      (paired : ArePairs (ordered_nodes (first_parts (level_items ps)) order) pairs) where
+    own_events : events held ≡ ordered_nodes (first_parts (level_items ps)) order
+    own_events = woven_nodes all are
 
-  -- they cross at one place
-  pub crossed_least : (place : Place) → CrossesHere cover ps place → IsLeast (Crosses cover ps) (Some place)
-  crossed_least place own = (
-    crossed own.item own.piece own.parts own.crossing own.at own.there,
-    λ q h.
-        let here = only_here q h in
-        let one : here.item ≡ own.item = crossed_is_one (length (level_items ps)) (level_item.columns_of (entries ps) cover) here.item own.item here.crossing own.crossing in
-        let at : slice_get (level_items ps) own.item ≡ Some (here.piece ∷ here.parts) = subst (λ (x : ℕ). slice_get (level_items ps) x ≡ Some (here.piece ∷ here.parts)) one here.at in
-        let both : Some (own.piece ∷ own.parts) ≡ Some (here.piece ∷ here.parts) = sym own.at ∙ at in
-        let same : own.piece ≡ here.piece = cc in
-        inr (sym own.there ∙ ap (λ (p : Piece). p.place) same ∙ here.there),
-  )
+    pub whole_woven : IsWovenLevel cover ps (level cover held pairs)
+    whole_woven = woven own_woven are (subst (λ (ns : List EventNode). ArePairs ns pairs) (sym own_events) paired)
 
--- ---- what the code answers of a level
+    own_on : (q : Place) → IsUnmatched (ordered_nodes (first_parts (level_items ps)) order) q ⊎ ItemsLackPartner held q → LacksPartner (level cover held pairs) q
+    own_on q (inl u) = inl (subst (λ (ns : List EventNode). partners.IsUnmatched ns q) (sym own_events) (unmatched_numbers (ordered_nodes (first_parts (level_items ps)) order) q (numbers_differ ps order numbered own_woven.once) u))
+    own_on q (inr h) = inr h
 
-module _ (cover : List (List ℕ)) (ps : List Piece) (order : List ℕ) (held : Items) (pairs : List Pair) (all_woven : AreAllWoven ps) (numbered : AreNumbered 0 ps)
-    (own_woven : IsWoven (length (level_items ps)) (level_item.columns_of (entries ps) cover) order) (are : AreWovenItems cover (map lone (first_parts (level_items ps))) order held)
-    (paired : ArePairs (ordered_nodes (first_parts (level_items ps)) order) pairs) where
-  own_items : AreWovenItems cover (level_items ps) order held
-  own_items = all_widened (level_items ps) (all_good ps (each_woven ps all_woven)) refl are
+    own_of : (q : Place) → LacksPartner (level cover held pairs) q → IsUnmatched (ordered_nodes (first_parts (level_items ps)) order) q ⊎ ItemsLackPartner held q
+    own_of q (inl u) = inl (unmatched_positions (ordered_nodes (first_parts (level_items ps)) order) q (subst (λ (ns : List EventNode). partners.IsUnmatched ns q) own_events u))
+    own_of q (inr h) = inr h
 
-  own_events : events held ≡ ordered_nodes (first_parts (level_items ps)) order
-  own_events = events_are cover ps all_woven order held own_items
+    pub whole_lacks : (own inner : Option Place) → IsLeast (IsUnmatched (ordered_nodes (first_parts (level_items ps)) order)) own → IsLeast (ItemsLackPartner held) inner → IsLeast (LacksPartner (level cover held pairs)) (earliest_of own inner)
+    whole_lacks own inner f g =
+        least_same (λ q. IsUnmatched (ordered_nodes (first_parts (level_items ps)) order) q ⊎ ItemsLackPartner held q) (LacksPartner (level cover held pairs)) (earliest_of own inner) own_on own_of
+        (least_of (IsUnmatched (ordered_nodes (first_parts (level_items ps)) order)) (ItemsLackPartner held) own inner f g)
 
-  own_level : IsWovenLevel cover ps (level cover held pairs)
-  own_level = woven own_woven own_items (subst (λ (ns : List EventNode). ArePairs ns pairs) (sym own_events) paired)
+-- ---- a level that is stuck
 
-  pub level_is_woven : IsLeast (IsUnmatched (ordered_nodes (first_parts (level_items ps)) order)) None → IsLevelWoven cover ps (level cover held pairs)
-  level_is_woven least = record {
-    all_woven = all_woven;
-    uncrossed = uncrossed cover ps all_woven order own_woven;
-    matched = λ p a. least p (alone_unmatched cover ps all_woven order own_woven p a);
-    woven = own_level;
-  }
+among_front : (xs : List ℕ) (n x : ℕ) → IsAmong xs x → IsAmong (xs ++ n ∷ []) x
+among_front [] n x h = absurd h
+among_front (y ∷ xs) n x (inl e) = inl e
+among_front (y ∷ xs) n x (inr h) = inr (among_front xs n x h)
 
-  own_alone : (q : Place) → IsUnmatched (ordered_nodes (first_parts (level_items ps)) order) q → IsAloneIn cover ps q
-  own_alone q u = record {
-    body = level cover held pairs;
-    woven = own_level;
-    alone = inl (subst (λ (ns : List EventNode). partners.IsUnmatched ns q) (sym own_events) (unmatched_numbers (ordered_nodes (first_parts (level_items ps)) order) q (numbers_differ ps order numbered own_woven.once) u));
-  }
+among_last : (xs : List ℕ) (n x : ℕ) → x ≡ n → IsAmong (xs ++ n ∷ []) x
+among_last [] n x e = inl e
+among_last (y ∷ xs) n x e = inr (among_last xs n x e)
 
-  pub level_is_unmatched : (place : Place) → IsLeast (IsUnmatched (ordered_nodes (first_parts (level_items ps)) order)) (Some place) → AreAllWoven ps × ((q : Place) → Crosses cover ps q → ⊥) × IsLeast (IsAloneIn cover ps) (Some place)
-  level_is_unmatched place least =
-      (all_woven, uncrossed cover ps all_woven order own_woven, (own_alone place least.0, λ q a. least.1 q (alone_unmatched cover ps all_woven order own_woven q a)))
+numbers_have : (n x : ℕ) → x < n → IsAmong (numbers_to n) x
+numbers_have zero x lt = absurd (omega arith)
+numbers_have (suc n) x lt = elim (cases_order x n) [
+  | inl e ↦ among_last (numbers_to n) n x e
+  | inr order ↦ elim order [ inl below ↦ among_front (numbers_to n) n x (numbers_have n x below) | inr above ↦ absurd (omega (arith, lt, above)) ]
+]
 
-pub level_is_crossed : (cover : List (List ℕ)) (ps : List Piece) (x : ℕ) (p : Piece) → AreAllWoven ps → IsCrossedAt (length (level_items ps)) (level_item.columns_of (entries ps) cover) x
-    → slice_get (first_parts (level_items ps)) x ≡ Some p → AreAllWoven ps × IsLeast (Crosses cover ps) (Some p.place)
-level_is_crossed cover ps x p all_woven crossing at =
-    let r = first_at (level_items ps) x p (all_good ps (each_woven ps all_woven)) at in
-    let here : CrossesHere cover ps p.place = record { item = x; piece = p; parts = r.others; crossing = crossing; at = r.at; there = refl } in
-    (all_woven, crossed_least cover ps all_woven p.place here)
+numbers_below : (n x : ℕ) → IsAmong (numbers_to n) x → x < n
+numbers_below zero x h = absurd h
+numbers_below (suc n) x h = by (numbers_to n) (λ m. numbers_below n x m) h
+  where
+    by : (xs : List ℕ) → (IsAmong xs x → x < n) → IsAmong (xs ++ n ∷ []) x → x < suc n
+    by [] low (inl e) = omega (arith, e)
+    by [] low (inr m) = absurd m
+    by (y ∷ xs) low (inl e) = let l : x < n = low (inl e) in omega (arith, l)
+    by (y ∷ xs) low (inr m) = by xs (λ k. low (inr k)) m
+
+-- all of them are below n
+pub numbers_low : (n : ℕ) → All (λ x. x < n) (numbers_to n)
+numbers_low n = all_low (numbers_to n) n (λ x h. numbers_below n x h)
+
+module _ (cover : List (List ℕ)) (ps : List Piece) (x : ℕ) (p : Piece) (others : List Piece) (stuck : IsCrossedAt (length (level_items ps)) (level_item.columns_of (entries ps) cover) x)
+    (at : slice_get (level_items ps) x ≡ Some (p ∷ others)) (n : ℕ) (count : length (level_items ps) ≡ n) where
+  stuck_on : (q : Place) → ItemsCross cover (level_items ps) (numbers_to n) q ⊎ (p.place ≡ q) → Crosses cover ps q
+  stuck_on q (inl h) = crossing_inside cover ps q (has_crossing cover (level_items ps) (numbers_to n) q h)
+  stuck_on q (inr e) = crossed x p others stuck at e
+
+  stuck_of : (q : Place) → Crosses cover ps q → ItemsCross cover (level_items ps) (numbers_to n) q ⊎ (p.place ≡ q)
+  stuck_of q h = elim (crossing_of cover ps q h) [
+    | inl here ↦
+        let one : here.item ≡ x = crossed_is_one (length (level_items ps)) (level_item.columns_of (entries ps) cover) here.item x here.crossing stuck in
+        let there : slice_get (level_items ps) x ≡ Some (here.piece ∷ here.parts) = subst (λ (y : ℕ). slice_get (level_items ps) y ≡ Some (here.piece ∷ here.parts)) one here.at in
+        let both : Some (p ∷ others) ≡ Some (here.piece ∷ here.parts) = sym at ∙ there in
+        let same : p ≡ here.piece = cc in
+        inr (ap (λ (z : Piece). z.place) same ∙ here.there)
+    | inr in_item ↦
+        let low : in_item.number < length (level_items ps) = low_at (level_items ps) in_item.number in_item.parts in_item.at in
+        inl (crossing_among cover (level_items ps) (numbers_to n) q in_item (numbers_have n in_item.number (omega (arith, low, count))))
+  ]
+
+  pub stuck_least : (b : Option Place) → IsLeast (ItemsCross cover (level_items ps) (numbers_to n)) b → IsLeast (Crosses cover ps) (earliest b p.place)
+  stuck_least b least =
+      least_same (λ q. ItemsCross cover (level_items ps) (numbers_to n) q ⊎ (p.place ≡ q)) (Crosses cover ps) (earliest b p.place) stuck_on stuck_of
+      (least_of (ItemsCross cover (level_items ps) (numbers_to n)) (λ q. p.place ≡ q) b (Some p.place) least (refl, λ q e. inr e))
+
+-- ---- answers
+
+pub answer_least : {A : Type 0} (Is : A → Type 0) (Lacks : A → Place → Type 0) (CrossesAt : Place → Type 0) (a : Answer A) → IsAnswer Is Lacks CrossesAt a → IsLeast CrossesAt (crossed_at a)
+answer_least Is Lacks CrossesAt (answer.Woven held alone) h = h.1
+answer_least Is Lacks CrossesAt (answer.Crossed p) h = h
+
+module _ (cover : List (List ℕ)) (ps : List Piece) (body : Body) (all_woven : AreAllWoven ps) (own : IsWovenLevel cover ps body) (uncrossed : (q : Place) → Crosses cover ps q → ⊥) where
+  alone_of : (q : Place) → IsAloneIn cover ps q → LacksPartner body q
+  alone_of q a = subst (λ (b : Body). LacksPartner b q) (one_body cover ps a.body body a.woven own) a.alone
+
+  alone_on : (q : Place) → LacksPartner body q → IsAloneIn cover ps q
+  alone_on q h = record { body = body; woven = own; alone = h }
+
+  pub level_is_woven : IsLeast (LacksPartner body) None → IsLevelWoven cover ps body
+  level_is_woven least = record { all_woven = all_woven; uncrossed = uncrossed; matched = λ q a. least q (alone_of q a); woven = own }
+
+  pub level_is_unmatched : (place : Place) → IsLeast (LacksPartner body) (Some place) → AreAllWoven ps × ((q : Place) → Crosses cover ps q → ⊥) × IsLeast (IsAloneIn cover ps) (Some place)
+  level_is_unmatched place least = (all_woven, uncrossed, least_same (LacksPartner body) (IsAloneIn cover ps) (Some place) alone_on alone_of least)

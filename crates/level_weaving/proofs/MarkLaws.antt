@@ -5,7 +5,7 @@ use Rattle.std.proofs.lemmas.List.{take_more}
 use Rattle.std.proofs.lemmas.Option.{slice_get_within}
 use Rattle.level_weaving.specs.declared.events.PlacedEvent as code
 use Rattle.msc_meaning.specs.Bodies.{EventNode}
-use Rattle.level_weaving.specs.PieceViews.{event_view}
+use Rattle.level_weaving.specs.EventViews.{event_view}
 use Rattle.level_weaving.specs.declared.matching.Mark.{Mark}
 use Rattle.level_weaving.specs.declared.matching.MessageKey.{MessageKey}
 use Rattle.level_weaving.specs.contracts.matching.MessageKeyPartialEq.TheImpl.{eq-value}
@@ -15,7 +15,7 @@ use Rattle.level_weaving.specs.Messages.{way, key_of, is_key, goes, ends_of}
 use Rattle.level_weaving.specs.Marks.{IsMark, AreMarks, KeepsNumbers, key_view, is_end}
 use Rattle.level_weaving.proofs.Counts.{count_cons}
 use Rattle.level_weaving.proofs.Keys.{same_test, key_same}
-use Rattle.level_weaving.proofs.Positions.{position_map, position_passes}
+use Rattle.level_pieces.proofs.Positions.{position_map, position_passes}
 
 -- two keys are the same where their plain keys are
 pub same_key : (a b : MessageKey) → is_key (key_view a) (key_view b) ≡ eq-value.it a b

@@ -1,11 +1,10 @@
 -- A level whose items stand in one column each is woven in the order of its text.
 use Rattle.std.proofs.Common.{◌≡◌, inl, inr, ℕ, ◌<◌, ◌≤◌, ◌+◌, zero, suc, Bool, true, false, not, cond, List, [], ◌∷◌, ◌++◌, Option, Some, None, slice_get, length, map, refl, sym, subst, ap, ap₂, ◌∙◌, arith}
 use Rattle.std.specs.Bool.{⊤}
-use Rattle.std.proofs.lemmas.Bool.{true≢false}
 use Rattle.std.proofs.lemmas.List.{append-nil, length-map, map-append}
 use Rattle.item_order.specs.Laws.{AreInOrder, numbers_from}
-use Rattle.item_order.specs.Weaving.{Before, IsWoven}
-use Rattle.item_order.proofs.WeavingLaws.{text_is_woven, woven_is_one}
+use Rattle.item_order.specs.Weaving.{Before, IsCrossedAt, IsWoven}
+use Rattle.item_order.proofs.WeavingLaws.{never_woven_and_crossed, text_is_woven, woven_is_one}
 use Rattle.msc_base.specs.Lists.{IsAmong}
 use Rattle.msc_base.specs.declared.label.Pair.{Pair}
 use Rattle.msc_base.specs.declared.place.Place.{Place}
@@ -14,23 +13,26 @@ use Rattle.msc_tree.specs.Statements.{Form, Single, Coregion, Condition, Inline,
 use Rattle.msc_tree.specs.Statements as tree
 use Rattle.msc_meaning.specs.Bodies.{Body, EventNode, Item, Items, events, item_and, item_events, items, level}
 use Rattle.msc_meaning.specs.Bodies as body
-use Rattle.msc_meaning.specs.Crossings.{Crosses}
-use Rattle.msc_meaning.specs.LevelItems.{Entry, columns_of, creations_of, entries, entries_at, entries_behind, is_creation, is_in, is_item, level_items, name_of, number_in, with_piece, with_pieces}
+use Rattle.msc_meaning.specs.Crossings.{Crosses, crossed, inside}
+use Rattle.msc_meaning.specs.LevelItems.{Entry, columns_of, cover_of, creations_of, entries, entries_at, entries_behind, is_creation, is_in, is_item, level_items, name_of, number_in, with_piece, with_pieces}
 use Rattle.msc_meaning.specs.Levels.{AreWovenItems, IsWovenItem, IsWovenLevel, a_coregion, an_event, no_woven, nodes_from, woven, woven_and}
 use Rattle.msc_meaning.specs.Pairing.{ArePairs}
-use Rattle.msc_meaning.specs.Pieces.{Piece, covered, form_count, items_count, items_pieces, statement_count, statement_pieces, statements_pieces}
-use Rattle.level_weaving.specs.ItemNumbers.{AreInside, joint_name, joint_of}
+use Rattle.msc_meaning.specs.Pieces.{Piece, covered, form_count, items_count, items_pieces, operand_of, operands_of, statement_count, statement_pieces, statements_pieces}
+use Rattle.level_pieces.specs.ItemNumbers.{AreInside, joint_name, joint_of}
 use Rattle.level_weaving.specs.LevelPairs.{number_of}
-use Rattle.level_weaving.specs.PlainItems.{lone}
 use Rattle.level_weaving.specs.TextOrder.{AreInOneColumn, IsFormInOneColumn, IsInOneColumn, IsOneCovered, TextIsOrder, form_items, piece_items, pieces_items}
-use Rattle.level_weaving.specs.Unwoven.{AreAllWoven, is_at_one, unwoven_form}
-use Rattle.level_weaving.proofs.ItemLaws.{entries_inside, length_snoc}
-use Rattle.level_weaving.proofs.LevelLaws.{uncrossed}
+use Rattle.level_pieces.specs.Unwoven.{AreAllWoven, is_at_one, place_if, unwoven_form}
+use Rattle.level_pieces.proofs.ItemLaws.{Each, entries_inside, length_snoc}
+use Rattle.level_pieces.proofs.ItemLaws.{all_woven as none_unwoven}
+use Rattle.level_weaving.proofs.LevelLaws.{empty_uncrossed}
 use Rattle.level_weaving.proofs.OneBody.{one_items}
-use Rattle.level_weaving.proofs.NumberLaws.{number_none, with_none}
-use Rattle.level_weaving.proofs.Walks.{assoc}
+use Rattle.level_pieces.proofs.NumberLaws.{number_none, with_none}
+use Rattle.level_pieces.proofs.Walks.{assoc}
 
 -- ---- each item has one part
+
+abbrev pub lone : Piece → List Piece
+lone p = p ∷ []
 
 no_name : (cover leads : List (List ℕ)) (f : Form) → IsFormInOneColumn cover leads f → name_of f ≡ None
 no_name cover leads (Single e) h = refl
@@ -152,23 +154,56 @@ at_one cover [] h = absurd h
 at_one cover (at ∷ []) h = refl
 at_one cover (at ∷ other ∷ leads) h = absurd h
 
-form_woven : (cover leads : List (List ℕ)) (f : Form) → IsFormInOneColumn cover leads f → unwoven_form (is_at_one leads) f ≡ false
-form_woven cover leads (Single e) h = ap not (at_one cover leads h.0)
-form_woven cover leads (Coregion es) h = ap not (at_one cover leads h)
-form_woven cover leads (Condition names shared) h = refl
-form_woven cover leads (Inline head held) h = absurd h
-form_woven cover leads (Refer r) h = refl
-form_woven cover leads Stop h = refl
+form_woven : (cover leads : List (List ℕ)) (place : Place) (f : Form) → IsFormInOneColumn cover leads f → unwoven_form (is_at_one leads) place f ≡ []
+form_woven cover leads place (Single e) h = ap (λ (b : Bool). place_if (not b) place) (at_one cover leads h.0)
+form_woven cover leads place (Coregion es) h = ap (λ (b : Bool). place_if (not b) place) (at_one cover leads h)
+form_woven cover leads place (Condition names shared) h = refl
+form_woven cover leads place (Inline head held) h = absurd h
+form_woven cover leads place (Refer r) h = refl
+form_woven cover leads place Stop h = refl
+
+each_woven : (cover : List (List ℕ)) (ps : List Piece) → AreInOneColumn cover ps → Each ps
+each_woven cover [] h = tt
+each_woven cover (p ∷ ps) h = (form_woven cover p.leads p.place p.form h.0, each_woven cover ps h.1)
 
 pub all_woven : (cover : List (List ℕ)) (ps : List Piece) → AreInOneColumn cover ps → AreAllWoven ps
-all_woven cover [] h = λ q u. absurd u
-all_woven cover (p ∷ ps) h = λ q u. elim u [
-  | inl own ↦ absurd (true≢false (sym own.1 ∙ form_woven cover p.leads p.form h.0))
-  | inr more ↦ all_woven cover ps h.1 q more
-]
+all_woven cover ps h = none_unwoven ps (each_woven cover ps h)
+
+no_operand : (cover c : List (List ℕ)) (k : ℕ) (p : Piece) (f : Form) → IsFormInOneColumn cover p.leads f → operand_of c k p f ≡ []
+no_operand cover c k p (Single e) h = refl
+no_operand cover c k p (Coregion es) h = refl
+no_operand cover c k p (Condition names shared) h = refl
+no_operand cover c k p (Inline head held) h = absurd h
+no_operand cover c k p (Refer r) h = absurd h
+no_operand cover c k p Stop h = refl
+
+lone_operands : (cover c : List (List ℕ)) (k : ℕ) (qs : List Piece) (x : ℕ) (parts : List Piece) → AreInOneColumn cover qs → slice_get (map lone qs) x ≡ Some parts → operands_of c k parts ≡ []
+lone_operands cover c k [] x parts h at = cc
+lone_operands cover c k (q ∷ qs) zero parts h at =
+    let same : lone q ≡ parts = cc in
+    ap (operands_of c k) (sym same) ∙ ap (λ (l : List Piece). l ++ []) (no_operand cover c k q q.form h.0)
+lone_operands cover c k (q ∷ qs) (suc x) parts h at = lone_operands cover c k qs x parts h.1 at
+
+kept_columns : (cover : List (List ℕ)) (ps : List Piece) → AreInOneColumn cover ps → AreInOneColumn cover (kept ps)
+kept_columns cover [] h = tt
+kept_columns cover (p ∷ ps) h = by (is_item p.form) (kept_columns cover ps h.1)
+  where
+    by : (b : Bool) → AreInOneColumn cover (kept ps) → AreInOneColumn cover (cond b (p ∷ kept ps) (kept ps))
+    by true rest = (h.0, rest)
+    by false rest = rest
 
 pub text_uncrossed : (cover : List (List ℕ)) (ps : List Piece) (place : Place) → AreInOneColumn cover ps → Crosses cover ps place → ⊥
-text_uncrossed cover ps place h c = uncrossed cover ps (all_woven cover ps h) (numbers_from 0 (length (level_items ps))) (text_woven cover ps h) place c
+text_uncrossed cover ps place h c = by c refl refl
+  where
+    by : {d : List (List ℕ)} {qs : List Piece} {q : Place} → Crosses d qs q → cover ≡ d → ps ≡ qs → ⊥
+    by {d} {qs} (crossed x p parts k at there) n e =
+        never_woven_and_crossed (length (level_items ps)) (columns_of (entries ps) cover) (numbers_from 0 (length (level_items ps))) x (text_woven cover ps h)
+        (subst (λ (w : List (List ℕ)). IsCrossedAt (length (level_items ps)) (columns_of (entries ps) w) x) (sym n)
+        (subst (λ (l : List Piece). IsCrossedAt (length (level_items l)) (columns_of (entries l) d) x) (sym e) k))
+    by {d} {qs} (inside x k p parts at rest) n e =
+        let own : slice_get (map lone (kept ps)) x ≡ Some (p ∷ parts) =
+        subst (λ (l : List (List Piece)). slice_get l x ≡ Some (p ∷ parts)) (level_items_are cover ps h) (subst (λ (l : List Piece). slice_get (level_items l) x ≡ Some (p ∷ parts)) (sym e) at) in
+        empty_uncrossed (lone_operands cover (cover_of d p) k (kept ps) x (p ∷ parts) (kept_columns cover ps h) own) rest
 
 -- ---- the items of the body
 

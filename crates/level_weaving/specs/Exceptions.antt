@@ -1,7 +1,8 @@
 -- Where exceptions may not stand: inside an operand, and at the outermost level where they don't cover all instances.
-use Rattle.std.specs.Prelude.{◌&&◌, ℕ, Bool, true, false, not, List, [], ◌∷◌, ◌++◌, if◌then◌else◌}
+use Rattle.std.specs.Prelude.{◌&&◌, ℕ, Bool, true, false, not, List, [], ◌∷◌, ◌++◌}
 use Rattle.msc_base.specs.Lists.{IsAmong}
 use Rattle.msc_base.specs.declared.place.Place.{Place}
+use Rattle.level_pieces.specs.Unwoven.{place_if}
 use Rattle.msc_instances.specs.Instances.{instances}
 use Rattle.msc_meaning.specs.LevelItems.{cover_by, is_in, shared_of}
 use Rattle.msc_meaning.specs.Pieces.{Piece, statements_pieces}
@@ -13,9 +14,6 @@ use Rattle.msc_tree.specs.declared.reference.InlineForm.TheVariants.{Exc}
 abbrev pub is_exception : InlineForm → Bool
 is_exception Exc = true
 is_exception _ = false
-
-abbrev pub place_if : Bool → Place → List Place
-place_if holds place = if holds then place ∷ [] else []
 
 -- ---- inside operands: those at any depth
 

@@ -1,9 +1,9 @@
 -- Serves private contracts alone.
 -- The events of a level in the order of a woven list.
-use Rattle.std.specs.Prelude.{◌≤◌, ⊤, ℕ, ◌+◌, List, [], ◌∷◌, ◌++◌, Option, Some, None, slice_get}
+use Rattle.std.specs.Prelude.{ℕ, List, [], ◌∷◌, ◌++◌, Option, Some, None, slice_get}
 use Rattle.msc_meaning.specs.Bodies.{EventNode}
 use Rattle.msc_meaning.specs.Levels.{nodes_from}
-use Rattle.msc_meaning.specs.Pieces.{Piece, form_count}
+use Rattle.msc_meaning.specs.Pieces.{Piece}
 use Rattle.msc_tree.specs.Statements.{Form, Single, Coregion}
 
 -- those that an item at this instance has itself
@@ -24,8 +24,3 @@ option_nodes (Some p) = piece_nodes p
 abbrev pub ordered_nodes : List Piece → List ℕ → List EventNode
 ordered_nodes ps [] = []
 ordered_nodes ps (x ∷ order) = option_nodes (slice_get ps x) ++ ordered_nodes ps order
-
--- the numbers of the events rise along the pieces, from n on
-abbrev pub AreNumbered : ℕ → List Piece → Type 0
-AreNumbered n [] = ⊤
-AreNumbered n (p ∷ ps) = (n ≤ p.first) × AreNumbered (p.first + form_count p.form) ps

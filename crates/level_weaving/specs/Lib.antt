@@ -1,14 +1,12 @@
-pub mod Unwoven
 pub mod WeaveFaults
 pub mod Exceptions
-pub mod PieceViews
 pub mod LevelNodes
-pub mod PlainItems
-pub mod ItemEdges
 pub mod Messages
 pub mod Marks
 pub mod Alone
 pub mod LevelPairs
-pub mod ItemNumbers
 pub mod Laws
 pub mod TextOrder
+pub mod EventViews
+pub mod Answers
+pub mod LevelNumbers

@@ -1,6 +1,6 @@
 -- The body that a basic chart is woven to, and why it can't be woven.
 use Rattle.std.specs.Prelude.{◌≡◌, ⊤, ℕ, List, Some}
-use Rattle.level_weaving.specs.Unwoven.{AreAllWoven, IsUnwoven}
+use Rattle.level_pieces.specs.Unwoven.{AreAllWoven, IsUnwoven}
 use Rattle.level_weaving.specs.declared.weaving.WeaveFault.{WeaveFault}
 use Rattle.level_weaving.specs.declared.weaving.WeaveFault.TheVariants.{NotWoven, Crossed, Unmatched, NoMemory}
 use Rattle.msc_base.specs.Places.{IsLeast}
@@ -29,7 +29,7 @@ pub record IsLevelWoven (cover : List (List ℕ)) (ps : List Piece) (body : Body
   pub matched : (p : Place) → IsAloneIn cover ps p → ⊥
   pub woven : IsWovenLevel cover ps body
 
--- the first fault of a level: a form that isn't woven yet; else columns that cross; else a message without partner
+-- the first fault of a level: a form that isn't woven; else columns that cross; else a message without partner
 abbrev pub IsLevelFault : List (List ℕ) → List Piece → WeaveFault → Type 0
 IsLevelFault cover ps (NotWoven p) = IsLeast (IsUnwoven ps) (Some p)
 IsLevelFault cover ps (Crossed p) = AreAllWoven ps × IsLeast (Crosses cover ps) (Some p)

@@ -1,9 +1,9 @@
-//! The earliest output or input without partner: for `weaving` alone.
+//! The earliest output or input of a level without partner: for `levels` alone.
 
 ghost use Rattle.std.specs.Prelude.{◌≡◌, ◌<◌, All, IfOk, false, length, map, not, ◌&&◌, true, ◌↔◌, ℕ};
 ghost use Rattle.msc_base.specs.Places.{IsLeast};
 ghost use Rattle.level_weaving.specs.Alone.{AreTold, IsAlone, is_message};
-ghost use Rattle.level_weaving.specs.PieceViews.{event_view};
+ghost use Rattle.level_weaving.specs.EventViews.{event_view};
 ghost use Rattle.level_weaving.specs.Marks.{LeadsPairs};
 ghost use Rattle.level_weaving.specs.Messages.{IsUnmatched, way};
 

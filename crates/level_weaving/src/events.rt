@@ -2,14 +2,15 @@
 
 ghost use Rattle.std.specs.Prelude.{◌≡◌, ◌<◌, ◌++◌, ◌∷◌, [], All, List, IfOk, OnOk, OnErr, length, map};
 ghost use Rattle.level_weaving.specs.LevelNodes.{nodes_at, ordered_nodes, piece_nodes};
-ghost use Rattle.level_weaving.specs.PieceViews.{event_view, piece_view};
+ghost use Rattle.level_weaving.specs.EventViews.{event_view};
+ghost use Rattle.level_pieces.specs.ItemNumbers.{first_parts};
+ghost use Rattle.level_pieces.specs.PieceViews.{parts_view, piece_view};
 ghost use Rattle.msc_meaning.specs.Bodies.{EventNode};
 ghost use Rattle.msc_meaning.specs.Levels.{nodes_from};
 ghost use Rattle.msc_tree.specs.Views.{form_view};
 ghost use Rattle.std.specs.Prelude.{Some};
 
-use crate::counting::sum_of;
-use crate::pieces::{Piece, lead_of};
+use level_pieces::{LevelItem, Piece, lead_of, sum_of};
 use msc_base::{Name, NoMemory};
 use msc_tree::{RawEvent, RawForm};
 use std::alloc::Global;
@@ -103,7 +104,7 @@ fn form<'a>(
 }
 
 /// Adds the events of a piece.
-fn piece<'a>(events: &mut EventList<'a>, piece: Piece<'a>) -> Result<(), NoMemory>
+fn piece<'a>(events: &mut EventList<'a>, piece: Piece<'a, 'a>) -> Result<(), NoMemory>
     ensures { OnOk result (events.new ≡ events.old ++ piece_nodes (piece_view piece.entry)) }
 {
     match lead_of(piece) {
@@ -115,15 +116,15 @@ fn piece<'a>(events: &mut EventList<'a>, piece: Piece<'a>) -> Result<(), NoMemor
 /// The events of the items of these numbers, one after another.
 pub fn ordered_events<'a>(
     alloc: Global,
-    items: &[Piece<'a>],
+    items: &[LevelItem<'a, 'a>],
     order: &[u32],
 ) -> Result<EventList<'a>, NoMemory>
     requires { All (λ x. x < length items.now) order.now }
-    ensures { IfOk result (λ events. events ≡ ordered_nodes (map piece_view items.now) order.now) }
+    ensures { IfOk result (λ events. events ≡ ordered_nodes (first_parts (map parts_view items.now)) order.now) }
 {
     let mut events = EventList::new(alloc);
     for number in order {
-        piece(&mut events, items[*number as usize])?;
+        piece(&mut events, items[*number as usize].first)?;
     }
     Ok(events)
 }

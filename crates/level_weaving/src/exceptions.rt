@@ -1,18 +1,16 @@
 //! The earliest exception that stands where it may not: inside an operand, or not covering all instances.
 
 ghost use Rattle.std.specs.Prelude.{◌≡◌, ◌++◌, ◌&&◌, IfOk, OnOk, map};
-ghost use Rattle.level_weaving.specs.Exceptions.{IsMisplaced, content_misplaced, covers_all as all_covered, form_exceptions, is_exception, items_exceptions, operand_exceptions, operands_exceptions, outer_form, outer_piece, outer_pieces, place_if, statement_exceptions, statements_exceptions};
-ghost use Rattle.level_weaving.specs.PieceViews.{piece_view, setting_column, setting_leads};
-ghost use Rattle.msc_base.specs.Lists.{IsAmong};
+ghost use Rattle.level_weaving.specs.Exceptions.{IsMisplaced, content_misplaced, covers_all as all_covered, form_exceptions, is_exception, items_exceptions, operand_exceptions, operands_exceptions, outer_form, outer_piece, outer_pieces, statement_exceptions, statements_exceptions};
+ghost use Rattle.level_pieces.specs.PieceViews.{piece_view, setting_column, setting_leads};
 ghost use Rattle.msc_base.specs.Places.{IsLeast};
 ghost use Rattle.msc_instances.specs.Instances.{instances};
 ghost use Rattle.msc_meaning.specs.LevelItems.{cover_by, shared_of};
 ghost use Rattle.msc_tree.specs.Statements.{items as item_tree, operands as operand_tree, statements as statement_tree};
 ghost use Rattle.msc_tree.specs.Views.{chart_view, content_view, form_view, inline_view, item_view, operand_view, statement_view};
 
-use crate::covers::covered;
-use crate::pieces::{Piece, Setting, chart_pieces};
-use msc_base::{Items, Name, NameTable, Names, NoMemory, Place, earlier_place};
+use level_pieces::{Piece, Setting, chart_pieces, covered, earliest_place, note_if};
+use msc_base::{Items, Name, NameTable, Names, NoMemory, Place};
 use msc_tree::{Content, InlineForm, RawChart, RawForm, RawInline, RawItem, RawOperand, Statement};
 use std::alloc::Global;
 
@@ -21,16 +19,6 @@ fn is_exc(form: InlineForm) -> bool
     ensures { result ≡ is_exception form }
 {
     matches!(form, InlineForm::Exc)
-}
-
-/// Notes the place, where something holds there.
-fn note_if(places: &mut Items<Place>, place: Place, holds: bool) -> Result<(), NoMemory>
-    ensures { OnOk result (places.new ≡ places.old ++ place_if holds place) }
-{
-    if holds {
-        places.push(place)?;
-    }
-    Ok(())
 }
 
 /// Notes the exceptions among items.
@@ -135,7 +123,7 @@ fn outer_inline(
     alloc: Global,
     places: &mut Items<Place>,
     names: &Names,
-    setting: Setting<'_>,
+    setting: Setting<'_, '_>,
     place: Place,
     inline: &RawInline,
 ) -> Result<(), NoMemory>
@@ -152,7 +140,7 @@ fn outer(
     alloc: Global,
     places: &mut Items<Place>,
     names: &Names,
-    piece: Piece<'_>,
+    piece: Piece<'_, '_>,
 ) -> Result<(), NoMemory>
     ensures { OnOk result (places.new ≡ places.old ++ outer_piece names.now (piece_view piece.entry)) }
 {
@@ -174,7 +162,7 @@ fn outer_all(
     alloc: Global,
     places: &mut Items<Place>,
     names: &Names,
-    pieces: &[Piece<'_>],
+    pieces: &[Piece<'_, '_>],
 ) -> Result<(), NoMemory>
     ensures { OnOk result (places.new ≡ places.old ++ outer_pieces names.now (map piece_view pieces.now)) }
 {
@@ -202,17 +190,6 @@ fn content(
     }
 }
 
-/// The earliest of the places.
-fn earliest(places: &[Place]) -> Option<Place>
-    ensures { IsLeast (IsAmong places.now) result }
-{
-    let mut best = None;
-    for place in places {
-        best = earlier_place(best, *place);
-    }
-    best
-}
-
 /// The earliest place of a chart, whose instances `names` are, at which an exception stands that may not.
 pub fn first_misplaced(
     alloc: Global,
@@ -224,5 +201,5 @@ pub fn first_misplaced(
 {
     let mut places = Items::new(alloc);
     content(alloc, &mut places, names, &chart.content)?;
-    Ok(earliest(places.as_slice()))
+    Ok(earliest_place(places.as_slice()))
 }

@@ -1,21 +1,15 @@
-//! The woven body of a basic chart, level by level, or why it isn't woven: forms that aren't yet, columns that cross, messages
-//! without partner.
+//! The woven body of a basic chart, level by level, or why it isn't woven: columns that cross, messages without partner,
+//! events that don't stand at one instance, and graphs.
 #![tactic(auto)]
 
 mod alone;
-mod columns;
-mod counting;
-mod covers;
+mod answers;
 mod events;
 mod exceptions;
-mod items;
 pub mod laws;
+mod levels;
 mod matching;
-mod numbering;
 mod pairing;
-mod pieces;
-mod references;
-mod unwoven;
 mod weaving;
 
 pub use events::PlacedEvent;

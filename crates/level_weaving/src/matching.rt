@@ -1,8 +1,8 @@
-//! Pairs outputs with inputs by message, pairing name and both instances: for `weaving`.
+//! Pairs outputs with inputs by message, pairing name and both instances: for `levels`.
 
 ghost use Rattle.std.specs.Prelude.{◌≡◌, ◌++◌, IfOk, OnOk, Some, map, option_map, vec_items};
 ghost use Rattle.item_order.specs.Pairing.{RiseFrom};
-ghost use Rattle.level_weaving.specs.PieceViews.{event_view};
+ghost use Rattle.level_weaving.specs.EventViews.{event_view};
 ghost use Rattle.level_weaving.specs.Marks.{AreMarked, IsMark, KeepsNumbers, LeadsPairs, edges_from, end_edges, key_view};
 ghost use Rattle.level_weaving.specs.Messages.{key_of, way};
 

@@ -1,4 +1,4 @@
-//! The pairs of a level by the numbers of its events, in the order of the outputs: for `weaving`.
+//! The pairs of a level by the numbers of its events, in the order of the outputs: for `levels`.
 
 ghost use Rattle.std.specs.Prelude.{◌≡◌, ◌<◌, All, IfOk, OnOk, length, map};
 ghost use Rattle.std.specs.List.Sorted.{IsNonDecreasingBy, IsPermutation};
@@ -6,7 +6,7 @@ ghost use Rattle.item_order.specs.Pairing.{RiseFrom};
 ghost use Rattle.item_order.specs.declared.edge.Edge.{Edge as PlainEdge};
 ghost use Rattle.level_weaving.specs.LevelPairs.{edges_at, number_of, pair_of};
 ghost use Rattle.level_weaving.specs.Marks.{LeadsPairs};
-ghost use Rattle.level_weaving.specs.PieceViews.{event_view};
+ghost use Rattle.level_weaving.specs.EventViews.{event_view};
 ghost use Rattle.msc_base.specs.Lists.{AreDifferent};
 ghost use Rattle.msc_meaning.specs.Pairing.{ArePairs};
 

@@ -17,45 +17,48 @@ use Rattle.msc_meaning.specs.Tables.{Table}
 use Rattle.msc_meaning.specs.Views.{entry_view, table_view}
 use Rattle.msc_meaning.specs.declared.body.ChartEntry as code
 use Rattle.msc_meaning.specs.WovenTables.{AreEntriesOf, entry_and}
-use Rattle.msc_acceptance.specs.ChartFaults.{CrossesAt, IsAloneAt, IsEarlyAt}
+use Rattle.msc_acceptance.specs.ChartFaults.{CrossesAt, IsAloneAt, IsCyclicAt}
 use Rattle.msc_instances.specs.Instances.{instances}
 use Rattle.level_weaving.proofs.Counts.{some_at}
 use Rattle.msc_acceptance.proofs.ChartLaws.{never_crosses}
-use Rattle.msc_acceptance.specs.Acceptance.{told_as, Breaks, BreaksOf, HasFault, IsAccepted}
-use Rattle.msc_acceptance.specs.Deciding.{AllKept, AreBuilt, all_groups, forms, limits, names, sizes, columns, messages, inputs}
+use Rattle.msc_acceptance.specs.Acceptance.{Breaks, BreaksOf, HasFault, IsAccepted}
+use Rattle.msc_acceptance.specs.Deciding.{AllKept, AreBuilt, all_groups, forms, limits, names, sizes, columns, messages, event_names, cycles}
 use Rattle.msc_acceptance.specs.Rules.{InOne}
 use Rattle.msc_acceptance.proofs.GroupLaws.{one_best}
 use Rattle.msc_acceptance.proofs.WalkLaws.{one_built}
 
 -- ---- numbers and groups
 
--- what holds of the ten rules holds of each that is in a group
-each_rule : (P : Rule → Type 0) → P NotBuilt → P Charts → P Instances → P NamedTwice → P Undeclared → P Size → P Total → P Crossed → P Unmatched → P Cyclic → (r : Rule) → IsInSome all_groups r → P r
-each_rule P a b c d e f g h i j r (inl (inl is)) = subst P (sym is) a
-each_rule P a b c d e f g h i j r (inl (inr n)) = absurd n
-each_rule P a b c d e f g h i j r (inr (inl (inl is))) = subst P (sym is) b
-each_rule P a b c d e f g h i j r (inr (inl (inr (inl is)))) = subst P (sym is) c
-each_rule P a b c d e f g h i j r (inr (inl (inr (inr n)))) = absurd n
-each_rule P a b c d e f g h i j r (inr (inr (inl (inl is)))) = subst P (sym is) d
-each_rule P a b c d e f g h i j r (inr (inr (inl (inr (inl is))))) = subst P (sym is) e
-each_rule P a b c d e f g h i j r (inr (inr (inl (inr (inr n))))) = absurd n
-each_rule P a b c d e f g h i j r (inr (inr (inr (inl (inl is))))) = subst P (sym is) f
-each_rule P a b c d e f g h i j r (inr (inr (inr (inl (inr (inl is)))))) = subst P (sym is) g
-each_rule P a b c d e f g h i j r (inr (inr (inr (inl (inr (inr n)))))) = absurd n
-each_rule P a b c d e f g h i j r (inr (inr (inr (inr (inl (inl is)))))) = subst P (sym is) h
-each_rule P a b c d e f g h i j r (inr (inr (inr (inr (inl (inr n)))))) = absurd n
-each_rule P a b c d e f g h i j r (inr (inr (inr (inr (inr (inl (inl is))))))) = subst P (sym is) i
-each_rule P a b c d e f g h i j r (inr (inr (inr (inr (inr (inl (inr n))))))) = absurd n
-each_rule P a b c d e f g h i j r (inr (inr (inr (inr (inr (inr (inl (inl is)))))))) = subst P (sym is) j
-each_rule P a b c d e f g h i j r (inr (inr (inr (inr (inr (inr (inl (inr n)))))))) = absurd n
-each_rule P a b c d e f g h i j r (inr (inr (inr (inr (inr (inr (inr n))))))) = absurd n
+-- what holds of the twelve rules holds of each that is in a group
+each_rule : (P : Rule → Type 0) → P NotBuilt → P Charts → P Instances → P NamedTwice → P Undeclared → P Size → P Total → P Crossed → P Unmatched → P UnknownEvent → P EventNamedTwice → P Cyclic → (r : Rule) → IsInSome all_groups r → P r
+each_rule P a b c d e f g h i k l j r (inl (inl is)) = subst P (sym is) a
+each_rule P a b c d e f g h i k l j r (inl (inr n)) = absurd n
+each_rule P a b c d e f g h i k l j r (inr (inl (inl is))) = subst P (sym is) b
+each_rule P a b c d e f g h i k l j r (inr (inl (inr (inl is)))) = subst P (sym is) c
+each_rule P a b c d e f g h i k l j r (inr (inl (inr (inr n)))) = absurd n
+each_rule P a b c d e f g h i k l j r (inr (inr (inl (inl is)))) = subst P (sym is) d
+each_rule P a b c d e f g h i k l j r (inr (inr (inl (inr (inl is))))) = subst P (sym is) e
+each_rule P a b c d e f g h i k l j r (inr (inr (inl (inr (inr n))))) = absurd n
+each_rule P a b c d e f g h i k l j r (inr (inr (inr (inl (inl is))))) = subst P (sym is) f
+each_rule P a b c d e f g h i k l j r (inr (inr (inr (inl (inr (inl is)))))) = subst P (sym is) g
+each_rule P a b c d e f g h i k l j r (inr (inr (inr (inl (inr (inr n)))))) = absurd n
+each_rule P a b c d e f g h i k l j r (inr (inr (inr (inr (inl (inl is)))))) = subst P (sym is) h
+each_rule P a b c d e f g h i k l j r (inr (inr (inr (inr (inl (inr n)))))) = absurd n
+each_rule P a b c d e f g h i k l j r (inr (inr (inr (inr (inr (inl (inl is))))))) = subst P (sym is) i
+each_rule P a b c d e f g h i k l j r (inr (inr (inr (inr (inr (inl (inr n))))))) = absurd n
+each_rule P a b c d e f g h i k l j r (inr (inr (inr (inr (inr (inr (inl (inl is)))))))) = subst P (sym is) k
+each_rule P a b c d e f g h i k l j r (inr (inr (inr (inr (inr (inr (inl (inr (inl is))))))))) = subst P (sym is) l
+each_rule P a b c d e f g h i k l j r (inr (inr (inr (inr (inr (inr (inl (inr (inr n))))))))) = absurd n
+each_rule P a b c d e f g h i k l j r (inr (inr (inr (inr (inr (inr (inr (inl (inl is))))))))) = subst P (sym is) j
+each_rule P a b c d e f g h i k l j r (inr (inr (inr (inr (inr (inr (inr (inl (inr n))))))))) = absurd n
+each_rule P a b c d e f g h i k l j r (inr (inr (inr (inr (inr (inr (inr (inr n)))))))) = absurd n
 
 decoded : ℕ → Rule
-decoded n = if nat_eq n 41 then NotBuilt else (if nat_eq n 9 then Charts else (if nat_eq n 10 then Instances else (if nat_eq n 13 then NamedTwice else (if nat_eq n 14 then Undeclared else (if nat_eq n 19 then Size else (if nat_eq n 20 then Total else (if nat_eq n 24 then Crossed else (if nat_eq n 25 then Unmatched else (Cyclic)))))))))
+decoded n = if nat_eq n 41 then NotBuilt else (if nat_eq n 9 then Charts else (if nat_eq n 10 then Instances else (if nat_eq n 13 then NamedTwice else (if nat_eq n 14 then Undeclared else (if nat_eq n 19 then Size else (if nat_eq n 20 then Total else (if nat_eq n 24 then Crossed else (if nat_eq n 25 then Unmatched else (if nat_eq n 35 then UnknownEvent else (if nat_eq n 36 then EventNamedTwice else (Cyclic)))))))))))
 
 decodes : (r : Rule) → IsInSome all_groups r → decoded (number_of r) ≡ r
 unfolding decoded
-decodes = each_rule (λ r. decoded (number_of r) ≡ r) refl refl refl refl refl refl refl refl refl refl
+decodes = each_rule (λ r. decoded (number_of r) ≡ r) refl refl refl refl refl refl refl refl refl refl refl refl
 
 -- a rule that charts break is in one of the groups
 in_some : (charts : List Chart) (r : Rule) (p : Place) → BreaksOf charts r p → IsInSome all_groups r
@@ -93,9 +96,9 @@ in_some charts DecompositionMismatch p b = absurd b
 in_some charts SharedPart p b = absurd b
 in_some charts Inside p b = absurd b
 in_some charts LocalEvent p b = absurd b
-in_some charts UnknownEvent p b = absurd b
-in_some charts EventNamedTwice p b = absurd b
-in_some charts Cyclic p b = inr (inr (inr (inr (inr (inr (inl (inl refl)))))))
+in_some charts UnknownEvent p b = inr (inr (inr (inr (inr (inr (inl (inl refl)))))))
+in_some charts EventNamedTwice p b = inr (inr (inr (inr (inr (inr (inl (inr (inl refl))))))))
+in_some charts Cyclic p b = inr (inr (inr (inr (inr (inr (inr (inl (inl refl))))))))
 in_some charts UnknownLabel p b = absurd b
 in_some charts LabelNamedTwice p b = absurd b
 in_some charts Endless p b = absurd b
@@ -113,22 +116,25 @@ in_one a r h = elim h [ inl e ↦ ap group_of e | inr n ↦ absurd n ]
 in_two : (a b r : Rule) → group_of b ≡ group_of a → IsAmong (a ∷ b ∷ []) r → group_of r ≡ group_of a
 in_two a b r same h = elim h [ inl e ↦ ap group_of e | inr m ↦ in_one b r m ∙ same ]
 
-low_inputs : (s : Rule) → IsInSome (inputs ∷ []) s → 14 ≤ group_of s
-low_inputs s h = elim h [ inl m ↦ omega (arith, in_one Cyclic s m) | inr n ↦ absurd n ]
+low_cycles : (s : Rule) → IsInSome (cycles ∷ []) s → 14 ≤ group_of s
+low_cycles s h = elim h [ inl m ↦ omega (arith, in_one Cyclic s m) | inr n ↦ absurd n ]
 
-low_messages : (s : Rule) → IsInSome (messages ∷ inputs ∷ []) s → 10 ≤ group_of s
-low_messages s h = elim h [ inl m ↦ omega (arith, in_one Unmatched s m) | inr r ↦ omega (arith, low_inputs s r) ]
+low_event_names : (s : Rule) → IsInSome (event_names ∷ cycles ∷ []) s → 13 ≤ group_of s
+low_event_names s h = elim h [ inl m ↦ omega (arith, in_two UnknownEvent EventNamedTwice s refl m) | inr r ↦ omega (arith, low_cycles s r) ]
 
-low_columns : (s : Rule) → IsInSome (columns ∷ messages ∷ inputs ∷ []) s → 9 ≤ group_of s
+low_messages : (s : Rule) → IsInSome (messages ∷ event_names ∷ cycles ∷ []) s → 10 ≤ group_of s
+low_messages s h = elim h [ inl m ↦ omega (arith, in_one Unmatched s m) | inr r ↦ omega (arith, low_event_names s r) ]
+
+low_columns : (s : Rule) → IsInSome (columns ∷ messages ∷ event_names ∷ cycles ∷ []) s → 9 ≤ group_of s
 low_columns s h = elim h [ inl m ↦ omega (arith, in_one Crossed s m) | inr r ↦ omega (arith, low_messages s r) ]
 
-low_sizes : (s : Rule) → IsInSome (sizes ∷ columns ∷ messages ∷ inputs ∷ []) s → 7 ≤ group_of s
+low_sizes : (s : Rule) → IsInSome (sizes ∷ columns ∷ messages ∷ event_names ∷ cycles ∷ []) s → 7 ≤ group_of s
 low_sizes s h = elim h [ inl m ↦ omega (arith, in_two Size Total s refl m) | inr r ↦ omega (arith, low_columns s r) ]
 
-low_names : (s : Rule) → IsInSome (names ∷ sizes ∷ columns ∷ messages ∷ inputs ∷ []) s → 5 ≤ group_of s
+low_names : (s : Rule) → IsInSome (names ∷ sizes ∷ columns ∷ messages ∷ event_names ∷ cycles ∷ []) s → 5 ≤ group_of s
 low_names s h = elim h [ inl m ↦ omega (arith, in_two NamedTwice Undeclared s refl m) | inr r ↦ omega (arith, low_sizes s r) ]
 
-low_limits : (s : Rule) → IsInSome (limits ∷ names ∷ sizes ∷ columns ∷ messages ∷ inputs ∷ []) s → 4 ≤ group_of s
+low_limits : (s : Rule) → IsInSome (limits ∷ names ∷ sizes ∷ columns ∷ messages ∷ event_names ∷ cycles ∷ []) s → 4 ≤ group_of s
 low_limits s h = elim h [ inl m ↦ omega (arith, in_two Charts Instances s refl m) | inr r ↦ omega (arith, low_names s r) ]
 
 are_groups : AreGroups group_of all_groups
@@ -149,8 +155,12 @@ are_groups = (
           λ r s m n. omega (arith, in_one Crossed r m, low_messages s n),
           (
             λ r s m n. in_one Unmatched r m ∙ sym (in_one Unmatched s n),
-            λ r s m n. omega (arith, in_one Unmatched r m, low_inputs s n),
-            (λ r s m n. in_one Cyclic r m ∙ sym (in_one Cyclic s n), λ r s m n. absurd n, tt),
+            λ r s m n. omega (arith, in_one Unmatched r m, low_event_names s n),
+            (
+              λ r s m n. in_two UnknownEvent EventNamedTwice r refl m ∙ sym (in_two UnknownEvent EventNamedTwice s refl n),
+              λ r s m n. omega (arith, in_two UnknownEvent EventNamedTwice r refl m, low_cycles s n),
+              (λ r s m n. in_one Cyclic r m ∙ sym (in_one Cyclic s n), λ r s m n. absurd n, tt),
+            ),
           ),
         ),
       ),
@@ -184,13 +194,22 @@ pub alone_first : (charts : List Chart) (p : Place) → IsBest number_of (Breaks
     → IsBest number_of (BreaksOf charts) sizes None → IsLeast (InOne IsAloneAt charts) (Some p) → IsFirst number_of (BreaksOf charts) all_groups (record { rule = Unmatched; place = p })
 alone_first charts p a b c d h = inr (a, inr (b, inr (c, inr (d, inr (columns_kept charts (built_of charts a), inl (one_best charts Unmatched (Some p) h))))))
 
-pub early_first : (charts : List Chart) (p : Place) → IsBest number_of (BreaksOf charts) forms None → IsBest number_of (BreaksOf charts) limits None → IsBest number_of (BreaksOf charts) names None
-    → IsBest number_of (BreaksOf charts) sizes None → IsLeast (InOne IsAloneAt charts) None → IsLeast (InOne IsEarlyAt charts) (Some p) → IsFirst number_of (BreaksOf charts) all_groups (record { rule = Cyclic; place = p })
-early_first charts p a b c d h e = inr (a, inr (b, inr (c, inr (d, inr (columns_kept charts (built_of charts a), inr (messages_kept charts h, inl (one_best charts Cyclic (Some p) e)))))))
+-- the groups up to the messages are kept
+pub record KeepsMessages (charts : List Chart) : Type 0 where
+  pub forms : IsBest number_of (BreaksOf charts) forms None
+  pub limits : IsBest number_of (BreaksOf charts) limits None
+  pub names : IsBest number_of (BreaksOf charts) names None
+  pub sizes : IsBest number_of (BreaksOf charts) sizes None
+  pub matched : IsLeast (InOne IsAloneAt charts) None
 
-pub all_kept : (charts : List Chart) → IsBest number_of (BreaksOf charts) forms None → IsBest number_of (BreaksOf charts) limits None → IsBest number_of (BreaksOf charts) names None
-    → IsBest number_of (BreaksOf charts) sizes None → IsLeast (InOne IsAloneAt charts) None → IsLeast (InOne IsEarlyAt charts) None → AllKept (BreaksOf charts) all_groups
-all_kept charts a b c d h e = (a, (b, (c, (d, (columns_kept charts (built_of charts a), (messages_kept charts h, (one_best charts Cyclic None e, tt)))))))
+pub event_name_first : (charts : List Chart) (fault : Broken Rule) → KeepsMessages charts → IsBest number_of (BreaksOf charts) event_names (Some fault) → IsFirst number_of (BreaksOf charts) all_groups fault
+event_name_first charts fault k h = inr (k.forms, inr (k.limits, inr (k.names, inr (k.sizes, inr (columns_kept charts (built_of charts k.forms), inr (messages_kept charts k.matched, inl h))))))
+
+pub cyclic_first : (charts : List Chart) (p : Place) → KeepsMessages charts → IsBest number_of (BreaksOf charts) event_names None → IsLeast (InOne IsCyclicAt charts) (Some p) → IsFirst number_of (BreaksOf charts) all_groups (record { rule = Cyclic; place = p })
+cyclic_first charts p k n e = inr (k.forms, inr (k.limits, inr (k.names, inr (k.sizes, inr (columns_kept charts (built_of charts k.forms), inr (messages_kept charts k.matched, inr (n, inl (one_best charts Cyclic (Some p) e))))))))
+
+pub all_kept : (charts : List Chart) → KeepsMessages charts → IsBest number_of (BreaksOf charts) event_names None → IsLeast (InOne IsCyclicAt charts) None → AllKept (BreaksOf charts) all_groups
+all_kept charts k n e = (k.forms, (k.limits, (k.names, (k.sizes, (columns_kept charts (built_of charts k.forms), (messages_kept charts k.matched, (n, (one_best charts Cyclic None e, tt))))))))
 
 -- ---- documents
 
@@ -200,18 +219,18 @@ free charts kept = faultless (BreaksOf charts) all_groups (in_some charts) kept
 pub accepted : (d : Document) (table : Table) → AllKept (BreaksOf d.charts) all_groups → AreEntriesOf instances d.charts table → IsAccepted d table
 accepted d table kept are = record { faultless = free d.charts kept; woven = are }
 
-pub has_fault : (d : Document) (f : Broken Rule) → IsFirst number_of (BreaksOf d.charts) all_groups f → HasFault d (told_as f.rule) f.place
-has_fault d f h = record { rule = f.rule; told = refl; first = first_fault number_of group_of (BreaksOf d.charts) all_groups f are_groups (in_some d.charts) h }
+pub has_fault : (d : Document) (f : Broken Rule) → IsFirst number_of (BreaksOf d.charts) all_groups f → HasFault d f.rule f.place
+has_fault d f h = record { first = first_fault number_of group_of (BreaksOf d.charts) all_groups f are_groups (in_some d.charts) h }
 
 pub only_fault : (d : Document) (rule other : Rule) (place there : Place) → HasFault d rule place → HasFault d other there → (other ≡ rule) × (there ≡ place)
 only_fault d rule other place there a b =
-    let f : Broken Rule = record { rule = a.rule; place = place } in
-    let g : Broken Rule = record { rule = b.rule; place = there } in
+    let f : Broken Rule = record { rule = rule; place = place } in
+    let g : Broken Rule = record { rule = other; place = there } in
     let same : f ≡ g = one_first_fault number_of group_of (Breaks d) f g (one_number d.charts) a.first b.first in
-    (b.told ∙ ap (λ (x : Broken Rule). told_as x.rule) (sym same) ∙ sym a.told, ap (λ (x : Broken Rule). x.place) (sym same))
+    (ap (λ (x : Broken Rule). x.rule) (sym same), ap (λ (x : Broken Rule). x.place) (sym same))
 
 pub accepted_faultless : (d : Document) (table : Table) → IsAccepted d table → (rule : Rule) (place : Place) → HasFault d rule place → ⊥
-accepted_faultless d table a rule place f = a.faultless f.rule place f.first.broken
+accepted_faultless d table a rule place f = a.faultless rule place f.first.broken
 
 entries_long : (charts : List Chart) (table : Table) → AreEntriesOf instances charts table → length charts ≡ length table
 entries_long [] [] h = refl

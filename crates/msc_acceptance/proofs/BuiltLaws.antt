@@ -1,5 +1,5 @@
 -- Charts whose forms are built: their pieces are events and coregions at one instance each, numbered one after another, or conditions.
-use Rattle.std.proofs.Common.{◌≡◌, ◌≤◌, ◌+◌, ◌*◌, ◌||◌, inl, inr, ℕ, zero, suc, Bool, true, false, is_some, nat_eq, nat_lt, Option, List, [], ◌∷◌, ◌++◌, length, map, Some, None, slice_get, refl, sym, subst, ap, ap₂, ◌∙◌, arith}
+use Rattle.std.proofs.Common.{◌≡◌, ◌≤◌, ◌+◌, ◌||◌, inl, ℕ, suc, Bool, true, false, is_some, nat_eq, nat_lt, Option, List, [], ◌∷◌, ◌++◌, length, Some, None, refl, sym, subst, ap, arith}
 use Rattle.std.proofs.lemmas.List.{length-append}
 use Rattle.std.proofs.lemmas.Bool.Decides.{Decides-eqb, nat_tests}
 use Rattle.msc_base.specs.Lists.{IsAmong}
@@ -16,29 +16,17 @@ use Rattle.msc_meaning.specs.Bodies as body
 use Rattle.msc_meaning.specs.Bodies.{EventNode, events, items}
 use Rattle.msc_meaning.specs.LevelItems.{creates_by}
 use Rattle.msc_meaning.specs.Levels.{nodes_from}
-use Rattle.msc_meaning.specs.Pieces.{Piece, covered, form_count, items_count, items_pieces, statement_count, statement_pieces, statements_count, statements_pieces}
+use Rattle.msc_meaning.specs.Pieces.{Piece, form_count, items_count, items_pieces, statement_count, statement_pieces, statements_count, statements_pieces}
 use Rattle.msc_instances.specs.Instances.{instances}
 use Rattle.level_weaving.specs.TextOrder.{AreInOneColumn, IsInOneColumn, pieces_items}
-use Rattle.level_weaving.specs.Unwoven.{IsUnwoven}
+use Rattle.level_pieces.proofs.ItemLaws.{left_none, none_among, right_none}
 use Rattle.msc_acceptance.specs.ChartFaults.{IsBuilt}
 use Rattle.msc_acceptance.specs.EventCharts.{AreBare, AreBareItems}
-use Rattle.msc_acceptance.specs.NotBuilt.{has_gate, has_some, is_creation, is_not_built, is_one, not_built_chart, not_built_content, not_built_coregion, not_built_decls, not_built_event, not_built_events, not_built_form, not_built_item, not_built_items, not_built_statement, not_built_statements}
-use Rattle.msc_acceptance.specs.Rules.{IsLarge, content_size, items_size, size_of, statements_size, statement_size}
+use Rattle.msc_acceptance.specs.NotBuilt.{has_gate, is_creation, is_not_built, is_one, not_built_chart, not_built_content, not_built_coregion, not_built_decls, not_built_event, not_built_events, not_built_form, not_built_items, not_built_statement, not_built_statements}
+use Rattle.msc_acceptance.specs.Rules.{IsLarge, content_size, events_size, items_size, size_of, statements_size, statement_size}
 use Rattle.msc_acceptance.proofs.DeclaredLaws.{AreAtOne, IsAtOne, IsContentAt, chart_at_instances}
 
--- ---- lists without elements
-
-pub left_none : {A : Type 0} (xs ys : List A) → xs ++ ys ≡ [] → xs ≡ []
-left_none [] ys h = refl
-left_none (x ∷ xs) ys h = cc
-
-pub right_none : {A : Type 0} (xs ys : List A) → xs ++ ys ≡ [] → ys ≡ []
-right_none [] ys h = h
-right_none (x ∷ xs) ys h = cc
-
-pub none_among : {A : Type 0} (xs : List A) → ((x : A) → IsAmong xs x → ⊥) → xs ≡ []
-none_among [] none = refl
-none_among (x ∷ xs) none = absurd (none x (inl refl))
+-- ---- what a built chart lacks
 
 pub none_left : (chart : Chart) → IsBuilt chart → not_built_decls chart.decls ≡ []
 none_left chart built = left_none (not_built_decls chart.decls) (not_built_content chart.place chart.content) (none_among (not_built_chart chart) built)
@@ -71,11 +59,7 @@ creates_none TimerStop t child h = refl
 creates_none Timeout t child h = refl
 
 no_creation : (e : RawEvent) → is_not_built e ≡ false → is_creation e.kind ≡ false
-no_creation e h =
-    let third : Bool = has_gate e.target || is_creation e.kind in
-    let second : Bool = has_some e.later_than || third in
-    let first : Bool = has_some e.earlier_than || second in
-    either_false (has_gate e.target) (is_creation e.kind) (either_false (has_some e.later_than) third (either_false (has_some e.earlier_than) second (either_false (is_some e.event_name) first h)))
+no_creation e h = either_false (has_gate e.target) (is_creation e.kind) h
 
 abbrev pub AreEventsBuilt : List RawEvent → Type 0
 AreEventsBuilt [] = Unit {0}
@@ -245,10 +229,14 @@ pieces_bare cover n m (p ∷ ps) h = piece_bare cover n m p.column p.leads p.pla
 
 -- ---- how many there are
 
+events_fit : (es : List RawEvent) → length es ≤ events_size es
+events_fit [] = omega arith
+events_fit (e ∷ es) = omega (arith, events_fit es)
+
 items_fit : (one : Bool) (xs : Items) → not_built_items one xs ≡ [] → items_count xs ≤ items_size xs
 items_fit one no_items h = omega arith
 items_fit one (item_and (placed place (Single e)) xs) h = let r = items_fit one xs (right_none (not_built_event one e) (not_built_items one xs) h) in omega (arith, r)
-items_fit one (item_and (placed place (Coregion es)) xs) h = let r = items_fit one xs (right_none (not_built_coregion one place es) (not_built_items one xs) h) in omega (arith, r)
+items_fit one (item_and (placed place (Coregion es)) xs) h = let r = items_fit one xs (right_none (not_built_coregion one place es) (not_built_items one xs) h) in omega (arith, r, events_fit es)
 items_fit one (item_and (placed place (Condition names shared)) xs) h = let r = items_fit one xs h in omega (arith, r)
 items_fit one (item_and (placed place (Inline head held)) xs) h = cc
 items_fit one (item_and (placed place (Refer reference)) xs) h = cc

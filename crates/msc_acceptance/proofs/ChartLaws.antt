@@ -1,29 +1,31 @@
 -- What charts whose forms are built are woven to.
-use Rattle.std.proofs.Common.{◌≡◌, ◌≤◌, ◌+◌, ℕ, List, Option, Some, None, length, refl, sym, subst, ap, ◌∙◌}
+use Rattle.std.proofs.Common.{◌≡◌, ◌≤◌, ℕ, List, Option, Some, None, sym, subst, ap, ◌∙◌}
 use Rattle.msc_base.specs.Places.{IsLeast}
 use Rattle.msc_base.specs.declared.label.Pair.{Pair}
-use Rattle.msc_base.specs.declared.limits.TheConstants.Limits.{EXPANDED_SIZE}
 use Rattle.msc_base.specs.declared.place.Place.{Place}
 use Rattle.msc_tree.specs.Charts.{Chart, Content}
 use Rattle.msc_tree.specs.Charts as chart
-use Rattle.msc_tree.specs.Statements.{Statement, statements}
+use Rattle.msc_tree.specs.Statements.{statements}
 use Rattle.msc_meaning.specs.Bodies.{Body, Items, events, items, level}
-use Rattle.msc_meaning.specs.Crossings.{Crosses}
 use Rattle.msc_meaning.specs.Pairing.{ArePairs}
 use Rattle.msc_meaning.specs.Pieces.{Piece, statements_count, statements_pieces}
-use Rattle.msc_meaning.specs.Partners.{HasEarly}
 use Rattle.msc_meaning.specs.Levels.{IsWovenLevel}
-use Rattle.msc_meaning.specs.Tables.{Woven, Basic, HighLevel}
-use Rattle.msc_meaning.specs.WovenTables.{IsWovenContent}
+use Rattle.msc_meaning.specs.Tables.{ChartEntry, Woven, Basic, HighLevel}
+use Rattle.msc_meaning.specs.WovenTables.{IsEntryOf, IsWovenContent}
+use Rattle.event_order.specs.OrderLaws.{RanksRise}
+use Rattle.event_order.specs.Precedence.{CanBeRanked, IsCyclic}
 use Rattle.msc_instances.specs.Instances.{instances}
+use Rattle.level_pieces.proofs.LeastLaws.{least_same}
 use Rattle.level_weaving.specs.TextOrder.{AreInOneColumn, pieces_items}
 use Rattle.level_weaving.specs.WeaveFaults.{IsAloneIn, IsContentFault, IsContentWoven, IsLevelFault, IsLevelWoven, IsWeaveFault, IsWovenTo}
 use Rattle.level_weaving.specs.declared.weaving.WeaveFault.{WeaveFault}
 use Rattle.level_weaving.specs.declared.weaving.WeaveFault.TheVariants as fault
 use Rattle.level_weaving.proofs.OneBody.{one_body}
 use Rattle.level_weaving.proofs.TextOrderLaws.{all_woven, only_text, text_uncrossed}
-use Rattle.msc_acceptance.specs.ChartFaults.{ContentCrosses, CrossesAt, IsAloneAt, IsBodyOf, IsBuilt, IsEarlyAt}
-use Rattle.msc_acceptance.specs.EarlyInputs.{IsNumbered}
+use Rattle.msc_acceptance.specs.ChartFaults.{ContentCrosses, CrossesAt, IsAloneAt, IsBodyOf, IsBuilt, IsCyclicAt, IsMisnamedAt}
+use Rattle.general_ordering.specs.EventNames.{BreaksNameRule}
+use Rattle.general_ordering.specs.declared.faults.EventNameRule.{EventNameRule}
+use Rattle.msc_acceptance.specs.Deciding.{ContentRanked}
 use Rattle.msc_acceptance.specs.Rules.{content_size}
 use Rattle.msc_acceptance.proofs.BuiltLaws.{AreItemsBare, HasPieces, has_pieces, in_one_column, pieces_bare}
 
@@ -74,11 +76,6 @@ body_is c b built h =
       fit = p.fit;
     }
 
-pub body_numbered : (c : Chart) (b : Body) → IsBuilt c → IsBodyOf c b → IsNumbered b
-body_numbered c b built h =
-    let l = body_is c b built h in
-    record { cover = instances c; held = l.held; pairs = l.pairs; is = l.is; bare = l.bare.bare; paired = l.paired }
-
 -- ---- its faults
 
 pub never_crosses : (c : Chart) → IsBuilt c → (place : Place) → CrossesAt c place → ⊥
@@ -107,10 +104,6 @@ alone_at c p q a = record { body = a.body; woven = subst (λ (x : Content). IsWo
 alone_in : (c : Chart) (p : HasPieces c) (q : Place) → IsAloneAt c q → IsAloneIn (instances c) (pieces_of c p) q
 alone_in c p q a = record { body = a.body; woven = level_of c p a.body a.woven; alone = a.alone }
 
-pub least_same : (P Q : Place → Type 0) (b : Option Place) → ((p : Place) → P p → Q p) → ((p : Place) → Q p → P p) → IsLeast P b → IsLeast Q b
-least_same P Q None f g k = λ q h. k q (g q h)
-least_same P Q (Some p) f g k = (f p k.0, λ q h. k.1 q (g q h))
-
 pub alone_of : (c : Chart) (place : Place) → IsBuilt c → IsWeaveFault c (fault.Unmatched place) → IsLeast (IsAloneAt c) (Some place)
 alone_of c place built h =
     let p = has_pieces c built in
@@ -132,9 +125,18 @@ none_alone c b built h q a =
     let l : IsLevelWoven (instances c) (pieces_of c p) b = subst (λ (x : Content). IsContentWoven (instances c) x b) p.is h in
     l.matched q (alone_in c p q a)
 
-pub early_of : (c : Chart) (b : Body) (best : Option Place) → IsBodyOf c b → IsLeast (HasEarly b) best → IsLeast (IsEarlyAt c) best
-early_of c b best h least =
-    least_same (HasEarly b) (IsEarlyAt c) best
-    (λ q g. record { body = b; woven = h; early = g })
-    (λ q g. subst (λ (x : Body). HasEarly x q) (same_body c g.body b g.woven h) g.early)
-    least
+-- where the events of a chart can be ranked its order isn't cyclic
+pub never_cyclic : RanksRise → (c : Chart) (b : Body) → IsBodyOf c b → CanBeRanked b → IsLeast (IsCyclicAt c) None
+never_cyclic law c b h r = λ q g. law.apart b r.rank r.ranked (subst IsCyclic (same_body c g.body b g.woven h) g.cyclic)
+
+-- the events of a chart that break a rule on names are those of its body
+pub misnamed_least : (rule : EventNameRule) (c : Chart) (b : Body) (o : Option Place) → IsBodyOf c b → IsLeast (BreaksNameRule rule b) o → IsLeast (IsMisnamedAt rule c) o
+misnamed_least rule c b o h least =
+    least_same (BreaksNameRule rule b) (IsMisnamedAt rule c) o (λ p m. record { body = b; woven = h; misnamed = m })
+    (λ p g. subst (λ (x : Body). BreaksNameRule rule x p) (same_body c g.body b g.woven h) g.misnamed) least
+
+content_ranked : (names : List (List ℕ)) (x : Content) (b : Body) (w : Woven) → IsWovenContent names x (Basic b) → IsWovenContent names x w → CanBeRanked b → ContentRanked w
+content_ranked names x b w h g r = subst ContentRanked (one_content names x (Basic b) w h g) r
+
+pub ranked_content : (c : Chart) (b : Body) (e : ChartEntry) → IsBodyOf c b → IsEntryOf (instances c) c e → CanBeRanked b → ContentRanked e.content
+ranked_content c b e h is r = content_ranked (instances c) c.content b e.content h is.content r

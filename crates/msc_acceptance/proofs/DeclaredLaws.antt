@@ -11,7 +11,7 @@ use Rattle.msc_tree.specs.declared.chart.Cover.TheVariants.{All, Listed}
 use Rattle.msc_tree.specs.Charts.{Chart, Content, Basic, HighLevel}
 use Rattle.msc_tree.specs.Statements.{Statement, Column, Covered, Heading, Ended, Statements, no_statements, statement_and, statements}
 use Rattle.msc_instances.specs.Instances.{instances, with_declared}
-use Rattle.msc_instances.specs.Notes.{Note, Declared, Decomposed, Named, Whole, Within, decl_notes, decls_notes, items_notes, statement_notes, statements_notes, content_notes, chart_notes}
+use Rattle.msc_instances.specs.Notes.{Note, Declared, Decomposed, Named, Whole, Within, decl_notes, decls_notes, items_notes, statement_notes, statements_notes, content_notes}
 
 -- one of the notes declares the name
 abbrev Declares : List Note → List ℕ → Type 0

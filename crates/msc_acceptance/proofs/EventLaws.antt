@@ -1,39 +1,32 @@
 -- What the charts of an accepted document have.
-use Rattle.std.proofs.Common.{◌≡◌, ◌≤◌, ◌<◌, ◌+◌, length, arith, inl, inr, ℕ, zero, suc, Bool, true, false, cond, List, [], ◌∷◌, ◌++◌, Option, Some, None, slice_get, refl, sym, subst, ap, ap₂, ◌∙◌}
+use Rattle.std.proofs.Common.{◌≡◌, ◌≤◌, length, arith, inl, inr, ℕ, Bool, true, false, cond, List, [], ◌∷◌, ◌++◌, Option, Some, None, refl, sym, subst, ap, ap₂, ◌∙◌}
 use Rattle.std.specs.Option.{option_or}
 use Rattle.std.specs.Str.{bytes_eq}
-use Rattle.std.proofs.lemmas.Bool.{cases_order}
 use Rattle.msc_base.specs.Lists.{IsAmong}
-use Rattle.msc_base.specs.declared.label.Kind.{Kind}
-use Rattle.msc_base.specs.declared.label.Kind.TheVariants.{Output, Input, OutputLost, InputFound, Action, TimerStart, TimerStop, Timeout, Create}
-use Rattle.msc_base.specs.declared.label.Pair.{Pair}
 use Rattle.msc_base.specs.declared.limits.TheConstants.Limits.{INSTANCES}
 use Rattle.msc_base.specs.declared.place.Place.{Place}
 use Rattle.msc_tree.specs.declared.chart.Decl.{Decl}
-use Rattle.msc_tree.specs.declared.event.Target.{Target}
-use Rattle.msc_tree.specs.declared.event.Target.TheVariants as target
 use Rattle.msc_tree.specs.Charts.{Chart}
 use Rattle.msc_tree.specs.Charts as chart
 use Rattle.msc_tree.specs.Statements.{placed, Single, Coregion, Condition, Inline, Refer, Stop, Items, no_items, item_and, Statement, Column, Covered, Heading, Ended, Statements, no_statements, statement_and, statements}
-use Rattle.msc_meaning.specs.Bodies.{Body, EventNode, events, item_events, level}
-use Rattle.msc_meaning.specs.Bodies as body
-use Rattle.msc_meaning.specs.Pairing.{ArePairs, HasPair, IsPaired, Key, input_key, key_list, output_key}
-use Rattle.msc_meaning.specs.Partners.{IsEarly}
+use Rattle.msc_meaning.specs.Bodies.{Body}
 use Rattle.msc_meaning.specs.Tables.{ChartEntry, Table, Woven, Basic, HighLevel, refined_as, refinement, refinements, refinements_of, declared}
 use Rattle.msc_meaning.specs.WovenTables.{AreEntriesOf, entry_and, IsEntryOf, IsWovenContent, items_decls, statement_decls, statements_decls, content_decls}
 use Rattle.msc_instances.specs.Instances.{instances}
-use Rattle.level_weaving.proofs.ColumnLaws.{instances_differ}
-use Rattle.msc_rules.specs.declared.rule.Rule.TheVariants.{Cyclic, Instances, NotBuilt, Size}
+use Rattle.level_pieces.proofs.ColumnLaws.{instances_differ}
+use Rattle.level_pieces.proofs.ItemLaws.{left_none, right_none}
+use Rattle.msc_rules.specs.declared.rule.Rule.TheVariants.{Instances, NotBuilt, Size, EventNamedTwice}
 use Rattle.msc_acceptance.specs.Acceptance.{BreaksOf}
-use Rattle.msc_acceptance.specs.ChartFaults.{IsBodyOf, IsBuilt, IsEarlyAt}
-use Rattle.msc_acceptance.specs.Deciding.{AllKept, all_groups}
-use Rattle.msc_acceptance.specs.EventCharts.{AreBare, AreBareItems, HasEventsAlone, HaveEventsAlone, IsBareItem, own_count}
-use Rattle.msc_acceptance.specs.NotBuilt.{is_one, not_built_by, not_built_content, not_built_coregion, not_built_decl, not_built_decls, not_built_events, not_built_event, not_built_items, not_built_statement, not_built_statements}
+use Rattle.msc_acceptance.specs.ChartFaults.{IsBodyOf, IsBuilt, IsMisnamedAt}
+use Rattle.general_ordering.specs.EventNames.{BreaksNameRule}
+use Rattle.general_ordering.specs.declared.faults.EventNameRule.TheVariants.{Twice}
+use Rattle.msc_acceptance.specs.Deciding.{AllKept, AreAllRanked, ContentRanked, all_groups}
+use Rattle.msc_acceptance.specs.EventCharts.{HasEventsAlone, HaveEventsAlone}
+use Rattle.msc_acceptance.specs.NotBuilt.{is_one, not_built_by, not_built_content, not_built_coregion, not_built_decl, not_built_decls, not_built_items, not_built_statement, not_built_statements}
 use Rattle.msc_acceptance.specs.Rules.{IsLarge}
 use Rattle.msc_acceptance.proofs.AcceptLaws.{free}
-use Rattle.msc_acceptance.proofs.BareLaws.{bare_events, not_itself}
-use Rattle.msc_acceptance.proofs.BuiltLaws.{HasPieces, events_few, has_pieces, left_none, none_left, none_right, right_none}
-use Rattle.msc_acceptance.proofs.ChartLaws.{BodyIs, body_is, one_content}
+use Rattle.msc_acceptance.proofs.BuiltLaws.{HasPieces, events_few, has_pieces, none_left, none_right}
+use Rattle.msc_acceptance.proofs.ChartLaws.{body_is, one_content}
 use Rattle.msc_acceptance.proofs.LimitLaws.{instances_few}
 use Rattle.msc_acceptance.proofs.WalkLaws.{in_one, one_built}
 
@@ -108,27 +101,12 @@ chart_unrefined c built = unrefined_append c.decls (content_decls c.content) (de
 -- what is known of a chart that keeps all rules
 record KeepsAll (c : Chart) : Type 0 where
   built : IsBuilt c
-  late : (p : Place) → IsEarlyAt c p → ⊥
   few_instances : length (instances c) ≤ INSTANCES
   small : (p : Place) → IsLarge c p → ⊥
+  named_once : (p : Place) → IsMisnamedAt Twice c p → ⊥
 
-ordered : (c : Chart) (b : Body) (l : BodyIs c b) → IsBodyOf c b → ((p : Place) → IsEarlyAt c p → ⊥) → (p q : ℕ) → HasPair l.pairs p q → p < q
-ordered c b l woven late p q h =
-    let ns : List EventNode = events l.held in
-    let pair : IsPaired ns p q = l.paired.paired p q h in
-    elim (cases_order p q) [
-      | inl same ↦ absurd (not_itself (instances c) ns p (bare_events (instances c) 0 l.held l.bare.bare) (subst (λ (k : ℕ). IsPaired ns p k) (sym same) pair))
-      | inr order ↦ elim order [
-        | inl below ↦ below
-        | inr above ↦
-            let early : IsEarly ns pair.input.event.place = record { output = p; input = q; paired = pair; before = above; there = refl } in
-            let place = pair.input.event.place in
-            absurd (late place (record { body = level (instances c) l.held l.pairs; woven = subst (λ (x : Body). IsBodyOf c x) l.is woven; early = early }))
-      ]
-    ]
-
-entry_has : (c : Chart) (e : ChartEntry) → KeepsAll c → IsEntryOf (instances c) c e → HasEventsAlone e
-entry_has c e keeps is =
+entry_has : (c : Chart) (e : ChartEntry) → KeepsAll c → IsEntryOf (instances c) c e → ContentRanked e.content → HasEventsAlone e
+entry_has c e keeps is ranked =
     let built = keeps.built in
     let b = content_body c (has_pieces c built) e.content is.content in
     let woven : IsBodyOf c b.0 = subst (λ (x : Woven). IsWovenContent (instances c) c.content x) b.1 is.content in
@@ -143,7 +121,8 @@ entry_has c e keeps is =
       bare = l.bare.bare;
       whole = subst (λ (ds : List Decl). refinements ds ≡ []) (sym is.decls) (refinements_none (c.decls ++ content_decls c.content) (declared [] (c.decls ++ content_decls c.content)) (chart_unrefined c built));
       paired = l.paired;
-      ordered = ordered c b.0 l woven keeps.late;
+      named_once = λ p m. keeps.named_once p (record { body = b.0; woven = woven; misnamed = subst (λ (x : Body). BreaksNameRule Twice x p) (sym l.is) m });
+      ranked = subst ContentRanked (b.1 ∙ ap (λ (x : Body). Basic x) l.is) ranked;
       different = instances_differ c (instances c) refl;
       few_instances = keeps.few_instances;
       few = omega (arith, within, many);
@@ -151,11 +130,11 @@ entry_has c e keeps is =
 
 -- ---- tables
 
-entries_have : (charts : List Chart) (table : Table) → AreEntriesOf instances charts table → ((c : Chart) → IsAmong charts c → KeepsAll c) → HaveEventsAlone table
-entries_have [] [] h keep = tt
-entries_have [] (e ∷ table) h keep = elim h [ ]
-entries_have (c ∷ charts) [] h keep = elim h [ ]
-entries_have (c ∷ charts) (e ∷ table) (entry_and is others) keep = (entry_has c e (keep c (inl refl)) is, entries_have charts table others (λ d m. keep d (inr m)))
+entries_have : (charts : List Chart) (table : Table) → AreEntriesOf instances charts table → AreAllRanked table → ((c : Chart) → IsAmong charts c → KeepsAll c) → HaveEventsAlone table
+entries_have [] [] h ranked keep = tt
+entries_have [] (e ∷ table) h ranked keep = elim h [ ]
+entries_have (c ∷ charts) [] h ranked keep = elim h [ ]
+entries_have (c ∷ charts) (e ∷ table) (entry_and is others) ranked keep = (entry_has c e (keep c (inl refl)) is ranked.0, entries_have charts table others ranked.1 (λ d m. keep d (inr m)))
 
 -- a chart has one entry
 one_entry : (c : Chart) (e d : ChartEntry) → IsEntryOf (instances c) c e → IsEntryOf (instances c) c d → e ≡ d
@@ -176,11 +155,11 @@ one_table (c ∷ charts) (e ∷ table) (d ∷ others) (entry_and is more) (entry
 all_keep : (charts : List Chart) → AllKept (BreaksOf charts) all_groups → (c : Chart) → IsAmong charts c → KeepsAll c
 all_keep charts kept c m = record {
   built = one_built charts c (λ p h. free charts kept NotBuilt p h) m;
-  late = λ p h. free charts kept Cyclic p (in_one IsEarlyAt charts c p m h);
   few_instances = instances_few [] charts (omega arith) (λ p h. free charts kept Instances p h) c m;
   small = λ p h. free charts kept Size p (in_one IsLarge charts c p m h);
+  named_once = λ p h. free charts kept EventNamedTwice p (in_one (IsMisnamedAt Twice) charts c p m h);
 }
 
 -- of entries of charts that keep all rules
-pub kept_have : (charts : List Chart) (table : Table) → AllKept (BreaksOf charts) all_groups → AreEntriesOf instances charts table → HaveEventsAlone table
-kept_have charts table kept are = entries_have charts table are (all_keep charts kept)
+pub kept_have : (charts : List Chart) (table : Table) → AllKept (BreaksOf charts) all_groups → AreEntriesOf instances charts table → AreAllRanked table → HaveEventsAlone table
+kept_have charts table kept are ranked = entries_have charts table are ranked (all_keep charts kept)

@@ -3,7 +3,6 @@ pub mod DeclaredLaws
 pub mod BuiltLaws
 pub mod BareLaws
 pub mod ChartLaws
-pub mod EarlyLaws
 pub mod TableLaws
 pub mod GroupLaws
 pub mod AcceptLaws

@@ -11,7 +11,7 @@ use Rattle.msc_base.specs.declared.place.Place.{Place}
 use Rattle.msc_base.proofs.NameFacts.{any_folded, any_from_one, one_from_any}
 use Rattle.msc_tree.specs.Charts.{Chart}
 use Rattle.msc_instances.specs.Instances.{instances}
-use Rattle.level_weaving.proofs.ColumnLaws.{instances_differ}
+use Rattle.level_pieces.proofs.ColumnLaws.{instances_differ}
 use Rattle.msc_acceptance.specs.Rules.{HasFurther, passes}
 
 -- ---- different names among others are no more than these

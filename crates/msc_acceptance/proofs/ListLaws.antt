@@ -4,7 +4,7 @@ use Rattle.std.specs.Option.{option_or}
 use Rattle.std.specs.Str.{bytes_eq}
 use Rattle.msc_tree.specs.declared.chart.Decl.{Decl}
 use Rattle.msc_meaning.specs.Tables.{refined_as}
-use Rattle.level_weaving.proofs.Walks.{drop_read}
+use Rattle.level_pieces.proofs.Walks.{drop_read}
 
 here_by : (b : Bool) (r later : Option (List ℕ)) → (b && is_some r) ≡ true → r ≡ option_or (cond b r None) later
 here_by true (Some x) later h = refl

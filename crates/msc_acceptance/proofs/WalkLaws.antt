@@ -11,7 +11,7 @@ use Rattle.msc_base.proofs.Narrowing.{IsReached, Narrows, earliest_is, narrows_e
 use Rattle.msc_tree.specs.Charts.{Chart}
 use Rattle.msc_tree.specs.Views.{chart_view}
 use Rattle.msc_tree.specs.declared.chart.RawChart.{RawChart}
-use Rattle.level_weaving.proofs.Walks.{drop_read}
+use Rattle.level_pieces.proofs.Walks.{drop_read}
 use Rattle.msc_acceptance.specs.ChartFaults.{IsBuilt}
 use Rattle.msc_acceptance.specs.NotBuilt.{IsNotBuilt}
 use Rattle.msc_acceptance.specs.Deciding.{AreBuilt, earlier_of}

@@ -1,23 +1,19 @@
 -- Which documents are accepted, as which table of charts, and the first rule that another document breaks.
-use Rattle.std.specs.Prelude.{◌≡◌, ◌⊎◌, [], List}
+use Rattle.std.specs.Prelude.{◌⊎◌, [], List}
 use Rattle.msc_base.specs.declared.place.Place.{Place}
 use Rattle.msc_tree.specs.Charts.{Chart, Document}
 use Rattle.msc_rules.specs.declared.rule.Rule.{Rule}
-use Rattle.msc_rules.specs.declared.rule.Rule.TheVariants.{NotBuilt, Charts, Instances, NamedTwice, Undeclared, Size, Total, Crossed, Unmatched, Cyclic}
+use Rattle.msc_rules.specs.declared.rule.Rule.TheVariants.{NotBuilt, Charts, Instances, NamedTwice, Undeclared, Size, Total, Crossed, Unmatched, UnknownEvent, EventNamedTwice, Cyclic}
 use Rattle.msc_rules.specs.FirstFaults.{IsFirstFault, IsFaultless}
 use Rattle.msc_rules.specs.Rules.{group_of, number_of}
 use Rattle.msc_meaning.specs.Tables.{Table}
 use Rattle.msc_meaning.specs.WovenTables.{IsTableOf}
-use Rattle.msc_acceptance.specs.ChartFaults.{CrossesAt, IsAloneAt, IsEarlyAt}
+use Rattle.msc_acceptance.specs.ChartFaults.{CrossesAt, IsAloneAt, IsCyclicAt, IsMisnamedAt}
+use Rattle.general_ordering.specs.declared.faults.EventNameRule.TheVariants.{Unknown, Twice}
 use Rattle.msc_instances.specs.Instances.{instances}
 use Rattle.msc_instances.specs.NameFaults.{ChartNamesOther, ChartNamesTwice}
 use Rattle.msc_acceptance.specs.NotBuilt.{IsNotBuilt}
 use Rattle.msc_acceptance.specs.Rules.{InOne, IsFurther, HasFurther, IsNamedAgain, IsLarge, PassesTotal}
-
--- as what a broken rule is told: an input before its output stands in for a cycle, with its number and group, and is told as not built yet
-abbrev pub told_as : Rule → Rule
-told_as Cyclic = NotBuilt
-told_as rule = rule
 
 -- the charts break the rule at that place
 abbrev pub BreaksOf : List Chart → Rule → Place → Type 0
@@ -30,18 +26,18 @@ BreaksOf charts Size place = InOne IsLarge charts place
 BreaksOf charts Total place = PassesTotal 0 charts place
 BreaksOf charts Crossed place = InOne CrossesAt charts place
 BreaksOf charts Unmatched place = InOne IsAloneAt charts place
-BreaksOf charts Cyclic place = InOne IsEarlyAt charts place
+BreaksOf charts UnknownEvent place = InOne (IsMisnamedAt Unknown) charts place
+BreaksOf charts EventNamedTwice place = InOne (IsMisnamedAt Twice) charts place
+BreaksOf charts Cyclic place = InOne IsCyclicAt charts place
 BreaksOf charts _ place = ⊥
 
 -- the document breaks the rule at that place
 abbrev pub Breaks : Document → Rule → Place → Type 0
 Breaks document = BreaksOf document.charts
 
--- the first rule that the document breaks, by group, then by place, then by number, as it is told
+-- the first rule that the document breaks, by group, then by place, then by number
 pub record HasFault (document : Document) (broken : Rule) (place : Place) : Type 0 where
-  pub rule : Rule
-  pub told : broken ≡ told_as rule
-  pub first : IsFirstFault number_of group_of (Breaks document) (record { rule = rule; place = place })
+  pub first : IsFirstFault number_of group_of (Breaks document) (record { rule = broken; place = place })
 
 -- the document breaks no rule, and its text is woven to this table
 pub record IsAccepted (document : Document) (table : Table) : Type 0 where

@@ -1,14 +1,17 @@
--- Where the body of a chart breaks a rule: columns that cross, messages without partner, inputs before their outputs.
-use Rattle.std.specs.Prelude.{ℕ, List}
+-- Where the body of a chart breaks a rule: columns that cross, messages without partner, names of events, a cyclic order.
+use Rattle.std.specs.Prelude.{◌≡◌, ℕ, List}
 use Rattle.msc_base.specs.declared.place.Place.{Place}
 use Rattle.msc_tree.specs.Charts.{Chart, Content, Basic, HighLevel}
 use Rattle.msc_tree.specs.Statements.{statements}
 use Rattle.msc_meaning.specs.Bodies.{Body}
 use Rattle.msc_meaning.specs.Crossings.{Crosses}
-use Rattle.msc_meaning.specs.Partners.{HasEarly, LacksPartner}
+use Rattle.msc_meaning.specs.Partners.{LacksPartner}
 use Rattle.msc_meaning.specs.Pieces.{statements_pieces}
 use Rattle.msc_meaning.specs.Tables as table
 use Rattle.msc_meaning.specs.WovenTables.{IsWovenContent}
+use Rattle.general_ordering.specs.EventNames.{BreaksNameRule}
+use Rattle.general_ordering.specs.declared.faults.EventNameRule.{EventNameRule}
+use Rattle.event_order.specs.Precedence.{IsCyclic}
 use Rattle.msc_instances.specs.Instances.{instances}
 use Rattle.msc_acceptance.specs.NotBuilt.{IsNotBuilt}
 
@@ -30,11 +33,18 @@ pub record IsAloneAt (chart : Chart) (place : Place) : Type 0 where
   pub woven : IsBodyOf chart body
   pub alone : LacksPartner body place
 
--- at that place an input stands that what the chart is woven to has before its output
-pub record IsEarlyAt (chart : Chart) (place : Place) : Type 0 where
+-- at that place an event of what the chart is woven to breaks a rule on the names of events
+pub record IsMisnamedAt (rule : EventNameRule) (chart : Chart) (place : Place) : Type 0 where
   pub body : Body
   pub woven : IsBodyOf chart body
-  pub early : HasEarly body place
+  pub misnamed : BreaksNameRule rule body place
+
+-- the chart stands there, and the order of the events of what it is woven to is cyclic
+pub record IsCyclicAt (chart : Chart) (place : Place) : Type 0 where
+  pub body : Body
+  pub woven : IsBodyOf chart body
+  pub cyclic : IsCyclic body
+  pub there : chart.place ≡ place
 
 -- every form of the chart is built
 abbrev pub IsBuilt : Chart → Type 0

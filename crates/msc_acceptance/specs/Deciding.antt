@@ -7,11 +7,14 @@ use Rattle.msc_tree.specs.Charts.{Chart}
 use Rattle.msc_rules.specs.FirstFaults.{Keeps, IsFirst}
 use Rattle.msc_rules.specs.Rules.{number_of}
 use Rattle.msc_rules.specs.declared.rule.Rule.{Rule}
-use Rattle.msc_rules.specs.declared.rule.Rule.TheVariants.{NotBuilt, Charts, Instances, NamedTwice, Undeclared, Size, Total, Crossed, Unmatched, Cyclic}
+use Rattle.msc_rules.specs.declared.rule.Rule.TheVariants.{NotBuilt, Charts, Instances, NamedTwice, Undeclared, Size, Total, Crossed, Unmatched, UnknownEvent, EventNamedTwice, Cyclic}
+use Rattle.event_order.specs.Precedence.{CanBeRanked}
+use Rattle.msc_meaning.specs.Tables.{Basic, HighLevel, Table, Woven}
 use Rattle.msc_meaning.specs.Views.{entry_view, table_view}
 use Rattle.msc_meaning.specs.WovenTables.{AreEntriesOf, IsEntryOf}
-use Rattle.msc_base.specs.Lists.{IsAmong}
-use Rattle.msc_acceptance.specs.ChartFaults.{IsAloneAt, IsBuilt, IsEarlyAt}
+use Rattle.msc_acceptance.specs.ChartFaults.{IsAloneAt, IsCyclicAt, IsMisnamedAt}
+use Rattle.general_ordering.specs.declared.faults.EventNameRule.TheVariants.{Unknown, Twice}
+use Rattle.msc_acceptance.specs.declared.tables.BodyFaults.{BodyFaults}
 use Rattle.msc_instances.specs.NameFaults.{ChartNamesOther, ChartNamesTwice}
 use Rattle.msc_instances.specs.Instances.{instances}
 use Rattle.msc_acceptance.specs.NotBuilt.{IsNotBuilt}
@@ -43,11 +46,14 @@ columns = Crossed ∷ []
 abbrev pub messages : List Rule
 messages = Unmatched ∷ []
 
-abbrev pub inputs : List Rule
-inputs = Cyclic ∷ []
+abbrev pub event_names : List Rule
+event_names = UnknownEvent ∷ EventNamedTwice ∷ []
+
+abbrev pub cycles : List Rule
+cycles = Cyclic ∷ []
 
 abbrev pub all_groups : List (List Rule)
-all_groups = forms ∷ limits ∷ names ∷ sizes ∷ columns ∷ messages ∷ inputs ∷ []
+all_groups = forms ∷ limits ∷ names ∷ sizes ∷ columns ∷ messages ∷ event_names ∷ cycles ∷ []
 
 abbrev pub AllKept : (Rule → Place → Type 0) → List (List Rule) → Type 0
 AllKept Breaks [] = ⊤
@@ -66,10 +72,25 @@ ChartBreaks rule.Undeclared = ChartNamesOther
 
 -- ---- the table
 
--- what one chart, whose forms are built, is woven to: its entry, with its earliest input before its output; or its earliest event
--- without partner
+-- the events of each basic chart can happen in an order
+abbrev pub ContentRanked : Woven → Type 0
+ContentRanked (Basic body) = CanBeRanked body
+ContentRanked (HighLevel drawn) = ⊤
+
+abbrev pub AreAllRanked : Table → Type 0
+AreAllRanked [] = ⊤
+AreAllRanked (c ∷ table) = ContentRanked c.content × AreAllRanked table
+
+-- the earliest places at which the body of a chart breaks the rules on the names of events and on the order
+pub record AreFaultsOf (chart : Chart) (faults : BodyFaults) : Type 0 where
+  pub unknown : IsLeast (IsMisnamedAt Unknown chart) faults.unknown
+  pub twice : IsLeast (IsMisnamedAt Twice chart) faults.twice
+  pub cyclic : IsLeast (IsCyclicAt chart) faults.cyclic
+
+-- what one chart, whose forms are built, is woven to: its entry, with the places where this breaks a rule; or its earliest event without
+-- partner
 abbrev pub IsNextWoven : Chart → ChartResult → Type 0
-IsNextWoven chart (one.Entry entry early) = IsEntryOf (instances chart) chart (entry_view entry) × ((p : Place) → IsAloneAt chart p → ⊥) × IsLeast (IsEarlyAt chart) early
+IsNextWoven chart (one.Entry entry faults) = IsEntryOf (instances chart) chart (entry_view entry) × ((p : Place) → IsAloneAt chart p → ⊥) × AreFaultsOf chart faults × (faults.cyclic ≡ None → ContentRanked (entry_view entry).content)
 IsNextWoven chart (one.Alone place) = IsLeast (IsAloneAt chart) (Some place)
 
 -- the earlier of two places
@@ -77,14 +98,21 @@ abbrev pub earlier_of : Option Place → Option Place → Option Place
 earlier_of a None = a
 earlier_of a (Some p) = earliest a p
 
--- what the charts are woven to: the earliest event without partner, or where there is none their entries, and the earliest input before
--- its output
+-- the earliest places at which one of the charts breaks these rules
+pub record AreFaultsIn (charts : List Chart) (faults : BodyFaults) : Type 0 where
+  pub unknown : IsLeast (InOne (IsMisnamedAt Unknown) charts) faults.unknown
+  pub twice : IsLeast (InOne (IsMisnamedAt Twice) charts) faults.twice
+  pub cyclic : IsLeast (InOne IsCyclicAt charts) faults.cyclic
+
+-- what the charts are woven to: the earliest event without partner, or where there is none their entries, and the earliest places at which
+-- these break a rule; where no order is cyclic, the events of each can be ranked
 pub record AreWoven (charts : List Chart) (made : Weaving) : Type 0 where
   pub least : IsLeast (InOne IsAloneAt charts) made.alone
   pub entries : made.alone ≡ None → AreEntriesOf instances charts (table_view made.entries.items)
-  pub early : made.alone ≡ None → IsLeast (InOne IsEarlyAt charts) made.early
+  pub faults : made.alone ≡ None → AreFaultsIn charts made.faults
+  pub ranked : made.alone ≡ None → made.faults.cyclic ≡ None → AreAllRanked (table_view made.entries.items)
 
--- these charts keep all rules and are these entries, or they have this first fault
+-- these charts keep all rules, are these entries, and their events can be ranked; or they have this first fault
 abbrev pub IsDecided : List Chart → Decision → Type 0
-IsDecided charts (decision.Woven entries) = AllKept (BreaksOf charts) all_groups × AreEntriesOf instances charts (table_view entries.items)
+IsDecided charts (decision.Woven entries) = AllKept (BreaksOf charts) all_groups × AreEntriesOf instances charts (table_view entries.items) × AreAllRanked (table_view entries.items)
 IsDecided charts (decision.Faulty fault) = IsFirst number_of (BreaksOf charts) all_groups fault

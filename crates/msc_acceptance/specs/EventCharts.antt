@@ -1,12 +1,16 @@
--- What the charts of an accepted document have as long as the other forms aren't built: events and coregions that call no gate, inputs
--- behind their outputs, and no decomposed instance.
-use Rattle.std.specs.Prelude.{◌≡◌, ◌<◌, ◌≤◌, ◌+◌, ⊤, ℕ, suc, false, List, [], ◌∷◌, length}
+-- What the charts of an accepted document have as long as the other forms aren't built: events and coregions that call no gate, an order
+-- in which the events can happen, and no decomposed instance.
+use Rattle.std.specs.Prelude.{◌≡◌, ◌≤◌, ◌+◌, ⊤, ℕ, suc, false, List, [], ◌∷◌, length}
 use Rattle.msc_base.specs.Lists.{AreDifferent, IsAmong}
 use Rattle.msc_base.specs.declared.label.Pair.{Pair}
 use Rattle.msc_base.specs.declared.limits.TheConstants.Limits.{EXPANDED_SIZE, INSTANCES}
 use Rattle.msc_meaning.specs.Bodies.{EventNode, Items, no_items, item_and, Item, Single, Coregion, Inline, Refer, events, level}
-use Rattle.msc_meaning.specs.Pairing.{ArePairs, HasPair}
+use Rattle.msc_meaning.specs.Pairing.{ArePairs}
 use Rattle.msc_meaning.specs.Tables.{ChartEntry, Table, Basic, refinements}
+use Rattle.general_ordering.specs.EventNames.{BreaksNameRule}
+use Rattle.general_ordering.specs.declared.faults.EventNameRule.TheVariants.{Twice}
+use Rattle.event_order.specs.Precedence.{CanBeRanked}
+use Rattle.msc_base.specs.declared.place.Place.{Place}
 use Rattle.msc_acceptance.specs.NotBuilt.{is_not_built}
 
 -- the event has this number, is at one of the instances, and its form is built
@@ -46,8 +50,9 @@ pub record HasEventsAlone (c : ChartEntry) : Type 0 where
   pub bare : AreBareItems cover 0 held
   pub whole : refinements c.decls ≡ []
   pub paired : ArePairs (events held) pairs
-  -- each output has a lower number than its input
-  pub ordered : (p q : ℕ) → HasPair pairs p q → p < q
+  pub ranked : CanBeRanked (level cover held pairs)
+  -- no event has the name of an earlier one
+  pub named_once : (place : Place) → BreaksNameRule Twice (level cover held pairs) place → ⊥
   pub different : AreDifferent cover
   -- within the limits
   pub few_instances : length cover ≤ INSTANCES

@@ -4,5 +4,4 @@ pub mod Rules
 pub mod Acceptance
 pub mod Listing
 pub mod EventCharts
-pub mod EarlyInputs
 pub mod Deciding

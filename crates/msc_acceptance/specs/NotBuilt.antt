@@ -15,10 +15,6 @@ use Rattle.msc_tree.specs.declared.event.Target.TheVariants as target
 use Rattle.msc_tree.specs.Charts.{Chart, Content, Basic, HighLevel}
 use Rattle.msc_tree.specs.Statements.{Item, placed, Form, Single, Coregion, Condition, Inline, Refer, Stop, Items, no_items, item_and, Statement, Column, Covered, Heading, Ended, Statements, no_statements, statement_and, statements}
 
-abbrev pub has_some : {A : Type 0} → List A → Bool
-has_some [] = false
-has_some (x ∷ xs) = true
-
 abbrev pub has_gate : Target → Bool
 has_gate (target.Env gate) = is_some gate
 has_gate (target.Gate reference gate) = true
@@ -28,9 +24,9 @@ abbrev pub is_creation : Kind → Bool
 is_creation Create = true
 is_creation _ = false
 
--- an event with a name, before or after, with a gate, or a creation
+-- an event with a gate, or a creation
 abbrev pub is_not_built : RawEvent → Bool
-is_not_built e = is_some e.event_name || (has_some e.earlier_than || (has_some e.later_than || (has_gate e.target || is_creation e.kind)))
+is_not_built e = has_gate e.target || is_creation e.kind
 
 -- an event or a coregion that doesn't stand at one instance, which no text has, isn't built either
 abbrev pub not_built_event : Bool → RawEvent → List Place

@@ -1,5 +1,5 @@
 -- The places at which the charts of a document break each rule.
-use Rattle.std.specs.Prelude.{◌≡◌, ◌+◌, ◌*◌, ℕ, Bool, true, not, ◌&&◌, ◌⊎◌, nat_lt, List, [], ◌∷◌, fold, length, option_map, Some, slice_get}
+use Rattle.std.specs.Prelude.{◌≡◌, ◌+◌, ℕ, Bool, true, not, ◌&&◌, ◌⊎◌, nat_lt, List, [], ◌∷◌, fold, length, option_map, Some, slice_get}
 use Rattle.std.specs.List.{list_any}
 use Rattle.std.specs.Str.{bytes_eq}
 use Rattle.msc_base.specs.NameTables.{with_name}
@@ -7,6 +7,8 @@ use Rattle.msc_base.specs.declared.limits.TheConstants.Limits.{CHARTS, INSTANCES
 use Rattle.msc_base.specs.declared.place.Place.{Place}
 use Rattle.msc_tree.specs.Charts.{Chart, Content, Basic, HighLevel}
 use Rattle.msc_tree.specs.Statements.{Form, Single, Coregion, Condition, Inline, Refer, Stop, Items, no_items, item_and, placed, Statement, Column, Covered, Heading, Ended, Statements, no_statements, statement_and, statements}
+use Rattle.msc_tree.specs.declared.event.RawEvent.{RawEvent}
+use Rattle.general_ordering.specs.OrderCounts.{order_count}
 use Rattle.msc_instances.specs.Instances.{instances}
 
 -- at that place it holds of one of the charts
@@ -39,10 +41,17 @@ IsNamedAgain seen (c ∷ charts) place = ((c.place ≡ place) × (list_any (byte
 
 -- ---- sizes
 
--- an event counts 3, a coregion 1 and its events; conditions count nothing, and forms that aren't built aren't counted yet
+-- an event counts 3 and 1 for each name of the events that it is to come before or after, a coregion 1 and its events; conditions count nothing, and forms that aren't built aren't counted yet
+abbrev pub event_size : RawEvent → ℕ
+event_size e = 3 + order_count e
+
+abbrev pub events_size : List RawEvent → ℕ
+events_size [] = 0
+events_size (e ∷ es) = event_size e + events_size es
+
 abbrev pub form_size : Form → ℕ
-form_size (Single e) = 3
-form_size (Coregion es) = 1 + 3 * length es
+form_size (Single e) = event_size e
+form_size (Coregion es) = 1 + events_size es
 form_size (Condition names shared) = 0
 form_size (Inline head held) = 0
 form_size (Refer reference) = 0

@@ -1,30 +1,20 @@
 //! Which documents are accepted: `accept`. It puts together the rules and the table.
 
 ghost use Rattle.std.specs.Prelude.{◌≡◌, IfOk, IsErrOf};
+ghost use Rattle.msc_rules.specs.declared.rule.Rule.{Rule};
 ghost use Rattle.msc_meaning.specs.Tables.{Table};
 ghost use Rattle.msc_meaning.specs.Views.{table_view};
 ghost use Rattle.msc_meaning.specs.WovenTables.{IsTableOf};
 ghost use Rattle.msc_instances.specs.Instances.{instances};
 ghost use Rattle.msc_tree.specs.Views.{document_view};
-ghost use Rattle.msc_acceptance.specs.Acceptance.{HasFault, IsAccepted, told_as};
+ghost use Rattle.msc_acceptance.specs.Acceptance.{HasFault, IsAccepted};
 ghost use Rattle.msc_acceptance.specs.EventCharts.{HaveEventsAlone};
 
 use crate::deciding::{Decision, decide};
 use crate::{Accepted, DocFault};
 use msc_base::{NoMemory, Place};
-use msc_rules::Rule;
 use msc_tree::RawDocument;
 use std::alloc::Global;
-
-/// As what a broken rule is told: an input before its output isn't built yet.
-fn told_as(rule: Rule) -> Rule
-    ensures { result ≡ told_as rule }
-{
-    match rule {
-        Rule::Cyclic => Rule::NotBuilt,
-        other => other,
-    }
-}
 
 /// The table of the document's charts, or the first rule that it breaks, and where.
 pub fn accept(alloc: Global, raw: &RawDocument) -> Result<Accepted, DocFault>
@@ -39,7 +29,7 @@ pub fn accept(alloc: Global, raw: &RawDocument) -> Result<Accepted, DocFault>
     match decide(alloc, raw.charts.as_slice()) {
         Ok(Decision::Woven(entries)) => Ok(Accepted::of_entries(entries)),
         Ok(Decision::Faulty(fault)) => Err(DocFault::Refused {
-            rule: told_as(fault.rule),
+            rule: fault.rule,
             place: fault.place,
         }),
         Err(NoMemory) => Err(DocFault::NoMemory),

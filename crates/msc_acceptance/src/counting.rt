@@ -1,12 +1,12 @@
 //! The size of a chart: for `sizes`.
 
-ghost use Rattle.std.specs.Prelude.{◌≡◌, ◌+◌, ◌*◌, IfOk, map};
-ghost use Rattle.msc_acceptance.specs.Rules.{content_size, form_size, items_size, size_of, statement_size, statements_size};
+ghost use Rattle.std.specs.Prelude.{◌≡◌, ◌+◌, IfOk, map};
+ghost use Rattle.msc_acceptance.specs.Rules.{content_size, event_size, events_size, form_size, items_size, size_of, statement_size, statements_size};
 ghost use Rattle.msc_tree.specs.Statements.{items as item_tree, statements as statement_tree};
 ghost use Rattle.msc_tree.specs.Views.{chart_view, content_view, form_view, item_view, statement_view};
 
 use msc_base::NoMemory;
-use msc_tree::{Content, RawChart, RawForm, RawItem, Statement};
+use msc_tree::{Content, RawChart, RawEvent, RawForm, RawItem, Statement};
 
 /// The sum; a larger one than 64 bits hold would want more memory than there is.
 fn sum_of(a: u64, b: u64) -> Result<u64, NoMemory>
@@ -18,14 +18,35 @@ fn sum_of(a: u64, b: u64) -> Result<u64, NoMemory>
     }
 }
 
-/// The size of a coregion of so many events.
-fn coregion_size(events: usize) -> Result<u64, NoMemory>
-    ensures { IfOk result (λ size. size ≡ 1 + 3 * events) }
+/// The size of an event.
+fn event_size(event: &RawEvent) -> Result<u64, NoMemory>
+    ensures { IfOk result (λ size. size ≡ event_size event.now) }
 {
-    match (events as u64).checked_mul(3) {
-        Some(size) => sum_of(1, size),
-        None => Err(NoMemory),
+    let named = sum_of(
+        event.earlier_than.len() as u64,
+        event.later_than.len() as u64,
+    )?;
+    sum_of(3, named)
+}
+
+/// The size of the events of a coregion.
+fn events_size(list: &[RawEvent]) -> Result<u64, NoMemory>
+    ensures { IfOk result (λ size. size ≡ events_size list.now) }
+{
+    let mut total = 0u64;
+    for event in list {
+        let more = event_size(event)?;
+        total = sum_of(total, more)?;
     }
+    Ok(total)
+}
+
+/// The size of a coregion of these events.
+fn coregion_size(list: &[RawEvent]) -> Result<u64, NoMemory>
+    ensures { IfOk result (λ size. size ≡ 1 + events_size list.now) }
+{
+    let size = events_size(list)?;
+    sum_of(1, size)
 }
 
 /// The size of an item.
@@ -33,8 +54,8 @@ fn form_size(form: &RawForm) -> Result<u64, NoMemory>
     ensures { IfOk result (λ size. size ≡ form_size (form_view form.now)) }
 {
     match form {
-        RawForm::Single(_) => Ok(3),
-        RawForm::Coregion(list) => coregion_size(list.len()),
+        RawForm::Single(event) => event_size(event),
+        RawForm::Coregion(list) => coregion_size(list.as_slice()),
         RawForm::Condition(_, _) => Ok(0),
         RawForm::Inline(_) => Ok(0),
         RawForm::Reference(_) => Ok(0),

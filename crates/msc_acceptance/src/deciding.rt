@@ -1,16 +1,17 @@
 //! The rules group by group, up to the first that is broken; else the table. For `acceptance` alone.
 
-ghost use Rattle.std.specs.Prelude.{◌≡◌, IfOk, map};
+ghost use Rattle.std.specs.Prelude.{◌≡◌, IfOk, List, map};
 ghost use Rattle.msc_rules.specs.FirstFaults.{IsBest};
 ghost use Rattle.msc_rules.specs.Rules.{number_of};
 ghost use Rattle.msc_acceptance.specs.Acceptance.{BreaksOf};
-ghost use Rattle.msc_acceptance.specs.Deciding.{IsDecided, forms, limits, names, sizes};
+ghost use Rattle.msc_acceptance.specs.Deciding.{AreFaultsIn, IsDecided, event_names, forms, limits, names, sizes};
+ghost use Rattle.msc_tree.specs.Charts.{Chart};
 ghost use Rattle.msc_tree.specs.Views.{chart_view};
 
 use crate::limits::{further_chart, further_instance};
 use crate::names::second_chart;
 use crate::sizes::{large_chart, large_total};
-use crate::tables::woven_charts;
+use crate::tables::{BodyFaults, woven_charts};
 use crate::walks::{ChartRule, earlier, first_place};
 use msc_base::NoMemory;
 use msc_meaning::ChartEntry;
@@ -68,6 +69,15 @@ fn size_fault(charts: &[RawChart]) -> Result<Option<Broken<Rule>>, NoMemory>
     Ok(earlier_fault(one, all))
 }
 
+/// The first fault of the names of events.
+fn event_name_fault(faults: BodyFaults) -> Option<Broken<Rule>>
+    ensures { (charts : List Chart) → AreFaultsIn charts faults → IsBest number_of (BreaksOf charts) event_names result }
+{
+    let unknown = broken_at(Rule::UnknownEvent, faults.unknown);
+    let twice = broken_at(Rule::EventNamedTwice, faults.twice);
+    earlier_fault(unknown, twice)
+}
+
 /// The table of these charts, or their first fault.
 pub fn decide(alloc: Global, charts: &[RawChart]) -> Result<Decision, NoMemory>
     ensures { IfOk result (IsDecided (map chart_view charts.now)) }
@@ -91,7 +101,10 @@ pub fn decide(alloc: Global, charts: &[RawChart]) -> Result<Decision, NoMemory>
             place,
         }));
     }
-    if let Some(place) = made.early {
+    if let Some(fault) = event_name_fault(made.faults) {
+        return Ok(Decision::Faulty(fault));
+    }
+    if let Some(place) = made.faults.cyclic {
         return Ok(Decision::Faulty(Broken {
             rule: Rule::Cyclic,
             place,

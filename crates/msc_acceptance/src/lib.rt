@@ -6,7 +6,6 @@ mod accepted;
 mod counting;
 mod deciding;
 mod declaring;
-mod early;
 mod limits;
 mod listing;
 mod names;

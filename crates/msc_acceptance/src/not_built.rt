@@ -4,11 +4,11 @@ ghost use Rattle.std.specs.Prelude.{◌≡◌, ◌++◌, IfOk, OnOk, map};
 ghost use Rattle.std.specs.Option.{is_some};
 ghost use Rattle.msc_base.specs.Lists.{IsAmong};
 ghost use Rattle.msc_base.specs.Places.{IsLeast};
-ghost use Rattle.msc_acceptance.specs.NotBuilt.{IsNotBuilt, has_gate, has_some, is_creation, is_not_built, is_one, not_built_chart, not_built_content, not_built_coregion, not_built_decl, not_built_decls, not_built_event, not_built_events, not_built_form, not_built_items, not_built_statement, not_built_statements};
+ghost use Rattle.msc_acceptance.specs.NotBuilt.{IsNotBuilt, has_gate, is_creation, is_not_built, is_one, not_built_chart, not_built_content, not_built_coregion, not_built_decl, not_built_decls, not_built_event, not_built_events, not_built_form, not_built_items, not_built_statement, not_built_statements};
 ghost use Rattle.msc_tree.specs.Statements.{items as item_tree, statements as statement_tree};
 ghost use Rattle.msc_tree.specs.Views.{chart_view, content_view, form_view, item_view, statement_view};
 
-use msc_base::{Items, Kind, Name, Names, NoMemory, Place, earlier_place};
+use msc_base::{Items, Kind, Name, NoMemory, Place, earlier_place};
 use msc_tree::{Content, Cover, Decl, RawChart, RawEvent, RawForm, RawItem, Statement, Target};
 use std::alloc::Global;
 
@@ -20,13 +20,6 @@ fn is_named(name: &Option<Name>) -> bool
         Some(_) => true,
         None => false,
     }
-}
-
-/// Whether there are names.
-fn has_names(names: &Names) -> bool
-    ensures { result ≡ has_some names.now }
-{
-    names.len() > 0
 }
 
 /// Whether the other end is reached through a gate.
@@ -54,11 +47,7 @@ fn creates(kind: Kind) -> bool
 fn is_not_built_event(event: &RawEvent) -> bool
     ensures { result ≡ is_not_built event.now }
 {
-    is_named(&event.event_name)
-        || has_names(&event.earlier_than)
-        || has_names(&event.later_than)
-        || goes_through_gate(&event.target)
-        || creates(event.kind)
+    goes_through_gate(&event.target) || creates(event.kind)
 }
 
 /// Notes an event, where it isn't built.

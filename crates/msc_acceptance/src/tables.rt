@@ -1,18 +1,22 @@
-//! The table of charts, each woven: for `deciding`.
+//! The table of charts, each woven, with the earliest event whose name breaks a rule and the earliest chart whose order is cyclic; or
+//! the earliest event without partner: for `deciding`.
 
-ghost use Rattle.std.specs.Prelude.{◌≡◌, IfOk, Some, map};
+ghost use Rattle.std.specs.Prelude.{◌≡◌, IfOk, None, Some, map};
+ghost use Rattle.event_order.specs.Precedence.{CanBeRanked};
 ghost use Rattle.msc_base.specs.Places.{IsLeast};
 ghost use Rattle.level_weaving.specs.WeaveFaults.{IsWeaveFault};
-ghost use Rattle.msc_acceptance.specs.ChartFaults.{IsAloneAt, IsBodyOf, IsBuilt};
+ghost use Rattle.msc_acceptance.specs.ChartFaults.{IsAloneAt, IsBodyOf, IsBuilt, IsCyclicAt};
 ghost use Rattle.msc_instances.specs.Instances.{instances};
 ghost use Rattle.msc_meaning.specs.Views.{body_view, entry_view};
 ghost use Rattle.msc_meaning.specs.WovenTables.{IsEntryOf};
-ghost use Rattle.msc_acceptance.specs.Deciding.{AreBuilt, AreWoven, IsNextWoven};
+ghost use Rattle.msc_acceptance.specs.Deciding.{AreBuilt, AreFaultsOf, AreWoven, IsNextWoven, earlier_of};
 ghost use Rattle.msc_tree.specs.Views.{chart_view};
 
 use crate::declaring::chart_decls;
-use crate::early::first_early;
 use crate::walks::earlier;
+use event_order::is_cyclic;
+use event_order::laws::ranks_rise;
+use general_ordering::{EventNameRule, first_name_fault};
 use level_weaving::{WeaveFault, weave};
 use msc_base::{NoMemory, Place, earlier_place};
 use msc_instances::instances_of;
@@ -27,8 +31,32 @@ pub struct Weaving {
     pub entries: Vec<ChartEntry>,
     /// The earliest event without partner.
     pub alone: Option<Place>,
-    /// The earliest input before its output, of the charts that can be woven.
-    pub early: Option<Place>,
+    /// Where those that can be woven break a rule.
+    pub faults: BodyFaults,
+}
+
+/// The earliest places at which bodies of charts break the rules on the names of events and on the order.
+#[derive(Clone, Copy, Debug, PartialEq, Eq)]
+pub struct BodyFaults {
+    /// Of an event that is ordered with a name that no event of its level has.
+    pub unknown: Option<Place>,
+    /// Of an event that has the name of an earlier one of its level.
+    pub twice: Option<Place>,
+    /// Of a chart whose order is cyclic.
+    pub cyclic: Option<Place>,
+}
+
+/// The earlier places of both.
+fn earlier_faults(faults: BodyFaults, others: BodyFaults) -> BodyFaults
+    ensures unknown { result.unknown ≡ earlier_of faults.unknown others.unknown }
+    ensures twice { result.twice ≡ earlier_of faults.twice others.twice }
+    ensures cyclic { result.cyclic ≡ earlier_of faults.cyclic others.cyclic }
+{
+    BodyFaults {
+        unknown: earlier(faults.unknown, others.unknown),
+        twice: earlier(faults.twice, others.twice),
+        cyclic: earlier(faults.cyclic, others.cyclic),
+    }
 }
 
 /// The entry of a chart, which is woven to that body.
@@ -48,8 +76,8 @@ fn entry_of(alloc: Global, chart: &RawChart, body: Body) -> Result<ChartEntry, N
 /// What one chart is woven to: its entry, or the place of its earliest event without partner.
 #[derive(Drop)]
 enum ChartResult {
-    /// Its entry, and its earliest input before its output.
-    Entry(ChartEntry, Option<Place>),
+    /// Its entry, and where it breaks a rule.
+    Entry(ChartEntry, BodyFaults),
     /// The place.
     Alone(Place),
 }
@@ -68,6 +96,36 @@ fn alone_place(chart: &RawChart, fault: WeaveFault) -> Result<Place, NoMemory>
     }
 }
 
+/// The place of a chart, which is woven to that body, where its order is cyclic.
+fn cycle_place(alloc: Global, chart: &RawChart, body: &Body) -> Result<Option<Place>, NoMemory>
+    requires { IsBodyOf (chart_view chart.now) (body_view body.now) }
+    ensures least { IfOk result (IsLeast (IsCyclicAt (chart_view chart.now))) }
+    ensures ranked { IfOk result (λ cyclic. cyclic ≡ None → CanBeRanked (body_view body.now)) }
+{
+    ranks_rise();
+    if is_cyclic(alloc, body)? {
+        Ok(Some(chart.place))
+    } else {
+        Ok(None)
+    }
+}
+
+/// Where a chart, which is woven to that body, breaks a rule.
+fn faults_of(alloc: Global, chart: &RawChart, body: &Body) -> Result<BodyFaults, NoMemory>
+    requires { IsBodyOf (chart_view chart.now) (body_view body.now) }
+    ensures least { IfOk result (AreFaultsOf (chart_view chart.now)) }
+    ensures ranked { IfOk result (λ faults. faults.cyclic ≡ None → CanBeRanked (body_view body.now)) }
+{
+    let unknown = first_name_fault(alloc, EventNameRule::Unknown, body)?;
+    let twice = first_name_fault(alloc, EventNameRule::Twice, body)?;
+    let cyclic = cycle_place(alloc, chart, body)?;
+    Ok(BodyFaults {
+        unknown,
+        twice,
+        cyclic,
+    })
+}
+
 /// What a chart is woven to.
 fn woven(alloc: Global, chart: &RawChart) -> Result<ChartResult, NoMemory>
     requires { IsBuilt (chart_view chart.now) }
@@ -76,9 +134,9 @@ fn woven(alloc: Global, chart: &RawChart) -> Result<ChartResult, NoMemory>
     let names = instances_of(alloc, chart)?;
     match weave(alloc, chart, &names) {
         Ok(body) => {
-            let early = first_early(alloc, &body)?;
+            let faults = faults_of(alloc, chart, &body)?;
             let entry = entry_of(alloc, chart, body)?;
-            Ok(ChartResult::Entry(entry, early))
+            Ok(ChartResult::Entry(entry, faults))
         }
         Err(fault) => Ok(ChartResult::Alone(alone_place(chart, fault)?)),
     }
@@ -91,12 +149,16 @@ pub fn woven_charts(alloc: Global, charts: &[RawChart]) -> Result<Weaving, NoMem
 {
     let mut entries = Vec::new(alloc);
     let mut alone = None;
-    let mut early = None;
+    let mut faults = BodyFaults {
+        unknown: None,
+        twice: None,
+        cyclic: None,
+    };
     for chart in charts {
         match woven(alloc, chart)? {
             ChartResult::Entry(entry, found) => {
                 entries.push(entry)?;
-                early = earlier(early, found);
+                faults = earlier_faults(faults, found);
             }
             ChartResult::Alone(place) => alone = earlier_place(alone, place),
         }
@@ -104,6 +166,6 @@ pub fn woven_charts(alloc: Global, charts: &[RawChart]) -> Result<Weaving, NoMem
     Ok(Weaving {
         entries,
         alone,
-        early,
+        faults,
     })
 }

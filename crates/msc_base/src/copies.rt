@@ -1,4 +1,4 @@
-//! Copies of names and of lists of them, and an index in 32 bits: for who reads charts (msc_instances, msc_weaving).
+//! Copies of names and of lists of them, and an index in 32 bits: for who reads charts (msc_instances, level_weaving).
 
 ghost use Rattle.std.specs.Prelude.{◌≡◌, IfOk};
 

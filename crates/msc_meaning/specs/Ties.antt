@@ -15,10 +15,10 @@ use Rattle.msc_meaning.specs.FarEnds.{end_at}
 
 -- ---- pairs of a level
 
--- an output before its input
-abbrev pub message_ties : List Pair → List (Tag × Tag)
-message_ties [] = []
-message_ties (p ∷ ps) = (Own p.first, Own p.second) ∷ message_ties ps
+-- events of the level, the first of each pair before the second
+abbrev pub own_ties : List Pair → List (Tag × Tag)
+own_ties [] = []
+own_ties (p ∷ ps) = (Own p.first, Own p.second) ∷ own_ties ps
 
 abbrev pub is_labelled : Option (List ℕ) → List ℕ → Bool
 is_labelled None name = false
@@ -29,28 +29,32 @@ abbrev pub labelled : List EventNode → List ℕ → List ℕ
 labelled [] name = []
 labelled (n ∷ ns) name = if is_labelled n.event.event_name name then n.number ∷ labelled ns name else labelled ns name
 
-abbrev pub each_after : ℕ → List ℕ → List (Tag × Tag)
+abbrev pub each_after : ℕ → List ℕ → List Pair
 each_after x [] = []
-each_after x (e ∷ es) = (Own x, Own e) ∷ each_after x es
+each_after x (e ∷ es) = record { first = x; second = e } ∷ each_after x es
 
-abbrev pub each_before : ℕ → List ℕ → List (Tag × Tag)
+abbrev pub each_before : ℕ → List ℕ → List Pair
 each_before x [] = []
-each_before x (e ∷ es) = (Own e, Own x) ∷ each_before x es
+each_before x (e ∷ es) = record { first = e; second = x } ∷ each_before x es
 
--- the event x comes before the labelled events of these names
-abbrev pub before_ties : List EventNode → ℕ → List (List ℕ) → List (Tag × Tag)
-before_ties held x [] = []
-before_ties held x (name ∷ names) = each_after x (labelled held name) ++ before_ties held x names
+-- the event x comes before the events of these names; named: the numbers of the events of a name
+abbrev pub before_pairs : (List ℕ → List ℕ) → ℕ → List (List ℕ) → List Pair
+before_pairs named x [] = []
+before_pairs named x (name ∷ names) = each_after x (named name) ++ before_pairs named x names
 
 -- the event x comes after them
-abbrev pub after_ties : List EventNode → ℕ → List (List ℕ) → List (Tag × Tag)
-after_ties held x [] = []
-after_ties held x (name ∷ names) = each_before x (labelled held name) ++ after_ties held x names
+abbrev pub after_pairs : (List ℕ → List ℕ) → ℕ → List (List ℕ) → List Pair
+after_pairs named x [] = []
+after_pairs named x (name ∷ names) = each_before x (named name) ++ after_pairs named x names
 
--- the general ordering of these events, among those of the level
-abbrev pub order_ties : List EventNode → List EventNode → List (Tag × Tag)
-order_ties held [] = []
-order_ties held (n ∷ ns) = before_ties held n.number n.event.earlier_than ++ (after_ties held n.number n.event.later_than ++ order_ties held ns)
+-- the general ordering of these events
+abbrev pub order_pairs : (List ℕ → List ℕ) → List EventNode → List Pair
+order_pairs named [] = []
+order_pairs named (n ∷ ns) = before_pairs named n.number n.event.earlier_than ++ (after_pairs named n.number n.event.later_than ++ order_pairs named ns)
+
+-- what comes before what on a level: an output before its input, and the general ordering
+abbrev pub level_pairs : Items → List Pair → List Pair
+level_pairs held pairs = pairs ++ order_pairs (labelled (events held)) (events held)
 
 -- events of that kind before those of the other end, or behind them where they are inputs
 abbrev pub in_order : Kind → Tag → Tag → Tag × Tag
@@ -92,7 +96,7 @@ items_joins_ties ends (item_and x xs) = item_joins_ties x ++ items_joins_ties en
 
 -- what ties the events of a level: its messages, its general ordering, its callers, and its joins
 abbrev pub ties : Items → List Pair → List Call → List GateEnd → List (Tag × Tag)
-ties held pairs cs ends = message_ties pairs ++ (order_ties (events held) (events held) ++ (event_ties cs ++ items_joins_ties ends held))
+ties held pairs cs ends = own_ties (level_pairs held pairs) ++ (event_ties cs ++ items_joins_ties ends held)
 
 -- ---- tags, on their way up
 

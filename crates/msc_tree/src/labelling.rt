@@ -1,4 +1,4 @@
-//! The label of a written event at an instance: for the events of logs (msc_events) and of charts (msc_weaving, level_terms).
+//! The label of a written event at an instance: for the events of logs (msc_events) and of charts (level_weaving, level_terms).
 
 ghost use Rattle.std.specs.Prelude.{◌≡◌, ◌++◌, IfOk, OnOk, Some, codes};
 ghost use Rattle.msc_tree.specs.Labels.{far_of, inside_text, label_of, list_text, with_commas};

@@ -14,18 +14,18 @@ use Rattle.chart_term.specs.Views.{event_of}
 use Rattle.chart_term.proofs.Lists.{items-trees}
 use Rattle.chart_term.proofs.Turns.{begun-length}
 use Rattle.permit_step.specs.Children.{parts_left, put}
-use Rattle.permit_step.specs.Lefts.{opened_left}
+use Rattle.term_permission.specs.Lefts.{opened_left}
 use Rattle.term_laws.specs.Normality.{AreApart, IsNotNil, IsPartOf, IsTurnFirst}
 use Rattle.term_laws.specs.Permission.{permit, permit_all, permits_of}
-use Rattle.permit_step.specs.Ready.{IsReady}
+use Rattle.term_permission.specs.Ready.{IsReady}
 use Rattle.permit_step.specs.Searches.{IsTaken, part_before, tail_of}
-use Rattle.permit_step.specs.RowRests.{RowRest, no_rest, turn_before, gap_before}
+use Rattle.term_permission.specs.RowRests.{RowRest, no_rest, turn_before, gap_before}
 use Rattle.term_laws.specs.Values.{block_of}
 use Rattle.permit_step.specs.declared.ascent.Taken.{Taken}
 use Rattle.term_laws.proofs.Alike.{AgreeOn, permit-alike}
 use Rattle.term_laws.proofs.Identity.{put_same}
-use Rattle.permit_step.proofs.Joins.{begun-drop, begun-take, each-drop, each-listed, each-take, flat-append, flat-stays}
-use Rattle.permit_step.proofs.PermitRows.{drop_next}
+use Rattle.term_permission.proofs.Joins.{begun-drop, begun-take, each-drop, each-listed, each-take, flat-append, flat-stays}
+use Rattle.term_permission.proofs.PermitRows.{drop_next}
 use Rattle.chart_term.specs.Spreads.{touch}
 
 -- parts side by side

@@ -1,22 +1,22 @@
 -- Children of a ready term are ready, and of a lower rank.
-use Rattle.std.specs.Prelude.{ℕ, zero, suc, ◌+◌, ◌<◌, ◌≤◌, ◌⊎◌, List, [], ◌∷◌, ◌≡◌, Option, Some, None, refl, length, slice_get}
-use Rattle.std.proofs.Common.{ap, sym, ◌∙◌, subst, arith, inl, inr}
+use Rattle.std.specs.Prelude.{ℕ, zero, suc, ◌+◌, ◌<◌, ◌≤◌, List, [], ◌∷◌, ◌≡◌, Option, Some, None, refl, length, slice_get}
+use Rattle.std.proofs.Common.{ap, sym, ◌∙◌, subst, arith}
 use Rattle.chart_term.specs.NormalForms.{only}
 use Rattle.chart_term.specs.Properties.{MayHave}
 use Rattle.chart_term.specs.Tables.{Tables, nodes_of, node_of}
 use Rattle.chart_term.specs.Terms.{Tree, Nil, Event, Join, Choice, Tied, Loop, Walk, Trees, none, more, Row, ends, gap, turn, items, parts}
 use Rattle.permit_step.specs.Children.{child, row_child, new_turn}
 use Rattle.term_laws.specs.Permission.{permit, permits_of}
-use Rattle.permit_step.specs.Ready.{IsReady, AreReadyTables, IsRowWithin}
+use Rattle.term_permission.specs.Ready.{IsReady, AreReadyTables, IsRowWithin}
 use Rattle.term_laws.specs.Normality.{IsNormalRow}
-use Rattle.permit_step.specs.Searches.{child_count, IsPassed}
+use Rattle.permit_step.specs.Searches.{child_count}
 use Rattle.term_laws.proofs.Measures.{rank_in, rank_all, rank-at}
-use Rattle.permit_step.proofs.NodeTerms.{node-is, sizes-are}
-use Rattle.permit_step.proofs.Permits.{ready-at}
+use Rattle.term_permission.proofs.NodeTerms.{node-is, sizes-are}
+use Rattle.term_permission.proofs.Permits.{ready-at}
 use Rattle.permit_step.proofs.PutReady.{each_out}
 use Rattle.term_laws.proofs.Ranking.{ranks, row_rank, permit_rank}
 use Rattle.term_laws.proofs.TermSentences.{net_rank}
-use Rattle.permit_step.proofs.Within.{kept_within, permit-ready}
+use Rattle.term_permission.proofs.Within.{kept_within, permit-ready}
 
 -- a child that is ready, of a lower rank, at an index that the term has
 pub record IsGoodChild (w : Tables) (x : Tree) (i : ℕ) (y : Tree) : Type 0 where
@@ -86,16 +86,3 @@ module _ (w : Tables) (tables : AreReadyTables w) where
       let size = sizes-are w tables n h.within.0 in
       let p : permit (permits_of w) (only c) (node_of w n i) ≡ Some y = sym (node.kept c) ∙ e in
       record { within = omega arith; ready = permitted w c (node_of w n i) y node.ready p; rank = omega (arith, permit_rank (permits_of w) (net_rank w) (only c) (node_of w n i) y p, node.rank) }
-
-  -- children that there aren't
-  pub no-child-behind : (a : ℕ) (x : Tree) (from last : ℕ) → IsReady w x → child_count w x ≤ last → ((p : ℕ) → from ≤ p → p < last → child (permits_of w) x p ≡ None) → (p : ℕ) → from ≤ p → IsPassed w a x p
-  no-child-behind a x from last r l h p m y c e q u t = elim (cut p) [
-    | inl b ↦ absurd (clash (sym (h p m b) ∙ c))
-    | inr b ↦ (let g = child-good x p y r c in let k : p < child_count w x = g.within in absurd (omega arith))
-  ]
-    where
-      cut : (p : ℕ) → (p < last) ⊎ (last ≤ p)
-      cut p = grind arith
-
-      clash : None ≡ Some y → ⊥
-      clash e = cc

@@ -4,7 +4,6 @@ use Rattle.std.proofs.Common.{ap, ◌∙◌, arith}
 use Rattle.msc_base.specs.Patterns.{seq, par}
 use Rattle.hmsc_graph.specs.Graphs.{Spot, Goal}
 use Rattle.hmsc_graph.specs.Nets.{size_of}
-use Rattle.hmsc_graph.specs.Spots.{spot_of, goal_of}
 use Rattle.chart_term.specs.NormalForms.{NetPermits, begun, only}
 use Rattle.chart_term.specs.PartLists.{AreTurns}
 use Rattle.chart_term.proofs.Turns.{begun-length}
@@ -13,17 +12,12 @@ use Rattle.chart_term.specs.Terms.{Tree, Nil, Join, Choice, Tied, Loop, Walk, tr
 use Rattle.chart_term.proofs.Lists.{items-trees, parts-row_of}
 use Rattle.permit_step.specs.Children.{child, row_child}
 use Rattle.term_laws.specs.Permission.{permit, permits_of}
-use Rattle.permit_step.specs.Ready.{IsReady, IsReadyPart, AreReadyTables}
+use Rattle.term_permission.specs.Ready.{IsReady, AreReadyTables}
 use Rattle.permit_step.specs.Searches.{child_count}
-use Rattle.permit_step.proofs.NodeTerms.{node-is, sizes-are}
-use Rattle.permit_step.proofs.PermitLoops.{ready-loop}
-use Rattle.permit_step.proofs.PermitRows.{ready-part}
-use Rattle.permit_step.proofs.PermitWalks.{ready-walk}
+use Rattle.term_permission.proofs.PermitLoops.{ready-loop}
 use Rattle.term_laws.specs.Normality.{IsSet}
 use Rattle.term_laws.specs.Values.{block_of}
 use Rattle.bit_sets.specs.Blocks.{BlockValue}
-use Rattle.hmsc_graph.specs.declared.spot.Spot.{Spot as SpotShown}
-use Rattle.hmsc_graph.specs.declared.spot.Goal.{Goal as GoalShown}
 
 module _ (w : Tables) where
   pub count-seq : (x : Tree) (ps : List Part) → x ≡ Join seq (trees (begun ps)) → AreTurns ps → child_count w x ≡ length ps
@@ -75,18 +69,6 @@ module _ (w : Tables) (tables : AreReadyTables w) where
     pub ready : IsReady w (node_of w n index)
     pub set : IsSet c
     pub child : child (permits_of w) x index ≡ permit (permits_of w) (only c) (node_of w n index)
-
-  pub child-node : (x : Tree) (n : ℕ) (f : SpotShown) (t : GoalShown) (c : List ℕ) (index : ℕ) → x ≡ Walk n (spot_of f) (goal_of t) c → IsReady w x → index < child_count w x → IsChildNode x n index c
-  child-node x n f t c index e h l =
-      let r = ready-walk w x n f t c tables e h in
-      let size = sizes-are w tables n r.net in
-      let within : index < size_of (net_of w n) = omega (arith, count-walk w x n (spot_of f) (goal_of t) c e) in
-      let node : index < length (nodes_of w n) = omega arith in
-      let i = node-is w tables n index r.net node in
-      record { net = r.net; within = within; node = node; ready = i.ready; set = r.set; child = ap (λ u. child (permits_of w) u index) e ∙ i.kept c }
-
-  pub ready-turn : (x y : Tree) (lo : ℕ) (hi : Option ℕ) (ps : List Part) (i : ℕ) (t : Part) → x ≡ Loop y lo hi (row_of ps) → IsReady w x → slice_get ps i ≡ Some t → IsReadyPart w t
-  ready-turn x y lo hi ps i t e h s = ready-part w ps i t s (ready-loop w x y lo hi ps e h).parts
 
   pub ready-body : (x y : Tree) (lo : ℕ) (hi : Option ℕ) (ps : List Part) → x ≡ Loop y lo hi (row_of ps) → IsReady w x → IsReady w y
   ready-body x y lo hi ps e h = (ready-loop w x y lo hi ps e h).body

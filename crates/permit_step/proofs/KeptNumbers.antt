@@ -16,14 +16,13 @@ use Rattle.chart_term.proofs.Lists.{items-trees}
 use Rattle.chart_term.proofs.Turns.{begun-length}
 use Rattle.chart_term.proofs.Gathering.{turns-numbers}
 use Rattle.chart_term.proofs.Passing.{lies_first, lies_second, lies_there}
-use Rattle.term_laws.specs.Normality.{ArePairsOnce, AreShown}
 use Rattle.term_laws.specs.Permission.{permits_of}
 use Rattle.permit_step.specs.Children.{child}
-use Rattle.permit_step.specs.Gone.{AreKept, AreKeptOf, AreLinked, top}
-use Rattle.permit_step.specs.Ready.{IsReady}
+use Rattle.permit_step.specs.Kept.{AreKept, AreKeptOf, AreLinked, top}
 use Rattle.permit_step.specs.Searches.{IsSearched, at_root, below, child_count}
 use Rattle.permit_step.specs.declared.ascent.Frame.{Frame}
-use Rattle.permit_step.proofs.Joins.{begun-drop, begun-take}
+use Rattle.term_permission.proofs.Joins.{begun-drop, begun-take}
+use Rattle.term_permission.proofs.Retying.{range_there}
 
 apart : (b : Bool) → b ≡ true → b ≡ false → ⊥
 apart b u v = cc
@@ -41,10 +40,6 @@ first_beside s r t e n h = by_case (lies_in (Some s) n) refl
 
 pub second_there : (s r t : Span) → t ≡ wide s r → (n : ℕ) → lies_in (Some r) n ≡ true → lies_in (Some t) n ≡ true
 second_there s r t e n h = ap (λ u. lies_in (Some u) n) e ∙ lies_second (Some s) (Some r) n h
-
--- the range of a term has its numbers
-pub range_there : (x : Tree) (f : Facts) (r : Span) → HasFacts x f → ((n : ℕ) → lies_in (numbers_in f.ranges) n ≡ true → lies_in (Some r) n ≡ true) → (n : ℕ) → has (numbers x) n ≡ true → lies_in (Some r) n ≡ true
-range_there x f r h c n i = c n (ap (λ u. lies_in u n) h.span ∙ lies_there (numbers x) n i)
 
 -- all numbers of the term lie in the span
 pub none_beside : (x z : Tree) (f : Facts) (s r t : Span) → HasFacts x f → ((n : ℕ) → lies_in (numbers_in f.ranges) n ≡ true → lies_in (Some r) n ≡ true) → t ≡ wide s r → AreKept t x z
@@ -176,10 +171,6 @@ tie_child w k x y q i e l = ap (λ u. child k u i) e ∙ first i (subst (λ (u :
     first : (j : ℕ) → j < 1 → child k (Tied y q) j ≡ Some y
     first zero h = refl
     first (suc j) h = absurd (omega arith)
-
--- the pairs of a tie in normal form
-pub tied_pairs : (w : Tables) (x y : Tree) (q : List (ℕ × ℕ)) → x ≡ Tied y q → IsReady w x → AreShown (numbers y) q × ArePairsOnce q
-tied_pairs w x y q e h = let n = subst (λ (u : Tree). IsReady w u) e h in (n.normal.2, n.normal.3)
 
 -- frames that are linked
 pub linked_at : (k : NetPermits) (fs : List Frame) (x : Tree) (i j : ℕ) (f : Frame) → AreLinked k fs x → slice_get fs i ≡ Some f → i + 1 ≡ j → child k f.parent f.index ≡ Some (top (drop j fs) x)

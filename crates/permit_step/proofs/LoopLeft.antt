@@ -15,17 +15,17 @@ use Rattle.permit_step.specs.Children.{RowLeft, turn_first, gap_first, row_left,
 use Rattle.term_laws.specs.Listing.{may_begin}
 use Rattle.term_laws.specs.Normality.{IsSet}
 use Rattle.term_laws.specs.Permission.{permit, permits_of}
-use Rattle.permit_step.specs.Ready.{AreReadyParts, IsReadyLoop}
-use Rattle.permit_step.specs.RowRests.{RowRest, no_rest, turn_before, gap_before, tried_before, open_before, rest_of, rest_end, kept_before, keep_first, keep_parts}
+use Rattle.term_permission.specs.Ready.{AreReadyParts, IsReadyLoop}
+use Rattle.term_permission.specs.RowRests.{RowRest, no_rest, turn_before, gap_before, tried_before, open_before, rest_of, rest_end, kept_before, keep_first, keep_parts}
 use Rattle.permit_step.specs.Searches.{IsTaken, is_gap, part_before, tail_of}
 use Rattle.term_laws.specs.Taking.{fewer, down}
 use Rattle.term_laws.specs.Values.{block_of}
 use Rattle.permit_step.specs.declared.ascent.Taken.{Taken}
 use Rattle.permit_step.proofs.Ascending.{taken-permits}
-use Rattle.permit_step.proofs.PermitLoops.{cut_alike}
+use Rattle.term_permission.proofs.PermitLoops.{cut_alike}
 use Rattle.term_laws.proofs.Normalising.{union_set, cut_set}
 use Rattle.term_laws.proofs.SetFacts.{set_ext, has_cut}
-use Rattle.permit_step.proofs.RowRests.{turns-rest}
+use Rattle.term_permission.proofs.RowRests.{turns-rest}
 
 -- a set with more members of the instances that count
 wide-alike : (all c d a b : List ℕ) → IsSet c → cut all c ≡ c → d ≡ cut all a → ((n : ℕ) → has a n ≡ has b n) → c ∪ d ≡ cut all (c ∪ b)

@@ -14,13 +14,13 @@ use Rattle.chart_term.specs.PartLists.{AreTurns, ArePassed, IsPassed as IsPartPa
 use Rattle.chart_term.specs.Properties.{Every, EveryOf, EveryRow, MayHave}
 use Rattle.chart_term.specs.Spreads.{touch}
 use Rattle.chart_term.specs.Tables.{Tables, nodes_of}
-use Rattle.permit_step.proofs.Within.{kept_within}
+use Rattle.term_permission.proofs.Within.{kept_within}
 use Rattle.chart_term.specs.TermPatterns.{instances_of, some_list}
 use Rattle.chart_term.specs.Terms.{TermEvent, has, Tree, Nil, Event, Join, Choice, Tied, Loop, Walk, Trees, none, more, Row, ends, gap, turn, trees, Part, Gap, Turn, row_of}
 use Rattle.chart_term.proofs.Lists.{items-trees, parts-row_of}
 use Rattle.chart_term.proofs.Turns.{begun-length, turn_at}
 use Rattle.permit_step.specs.Children.{parts_left, put, RowLeft, turn_first, gap_first, row_left, loop_left, row_child, child}
-use Rattle.permit_step.specs.Ready.{IsReady}
+use Rattle.term_permission.specs.Ready.{IsReady}
 use Rattle.permit_step.specs.Searches.{IsPassed, IsNext, IsTaken, is_gap}
 use Rattle.permit_step.specs.Skips.{IsAt, IsBelowTie, IsHeldBefore, IsSkip, IsNextPart, HasNone, IsChildOr}
 use Rattle.permit_step.specs.declared.ascent.Taken.{Taken}
@@ -132,9 +132,6 @@ module _ (w : Tables) (a : ℕ) where
 
 -- an event that is held
 module _ (k : NetPermits) (e : TermEvent) where
-  none_first : (o : Option (List Tree)) → and_then None o ≡ None
-  none_first o = refl
-
   none_later : (o : Option Tree) (p : Option (List Tree)) → p ≡ None → and_then o p ≡ None
   none_later None p h = refl
   none_later (Some x) p h = ap (and_then (Some x)) h
@@ -372,9 +369,6 @@ module _ (w : Tables) (a : ℕ) (x : Tree) (lo : ℕ) (hi : Option ℕ) (ps : Li
 module _ (w : Tables) (a : ℕ) (n : ℕ) (f : Spot) (t : Goal) (c : List ℕ) (from : ℕ) where
   pub node-over : (p : ℕ) → IsChildOr a (kept_of w n p c) None → IsPassed w a (Walk n f t c) p
   node-over p h = passed-lacking w a (Walk n f t c) p h
-
-  pub node-step : (p : ℕ) (y : Tree) → from ≤ p → ((q : ℕ) → from ≤ q → q < p → IsPassed w a (Walk n f t c) q) → kept_of w n p c ≡ Some y → IsNext w a (Walk n f t c) from (Some (record { index = p; inner = y }))
-  node-step p y l h e = record { behind = l; there = e; passed = h }
 
   pub node-more : (p : ℕ) → ((q : ℕ) → from ≤ q → q < p → IsPassed w a (Walk n f t c) q) → IsChildOr a (kept_of w n p c) None → (q : ℕ) → from ≤ q → q < p + 1 → IsPassed w a (Walk n f t c) q
   node-more p h e q l m = elim (cut q p) [

@@ -14,13 +14,13 @@ use Rattle.permit_step.specs.Children.{parts_left, RowLeft, turn_first, gap_firs
 use Rattle.term_laws.specs.Listing.{stay, may_begin, may_lead}
 use Rattle.term_laws.specs.Normality.{IsSet, IsNormal, AreNormal, IsNormalRow}
 use Rattle.term_laws.specs.Permission.{permit, permits_of}
-use Rattle.permit_step.specs.Ready.{IsReady, IsWithin, AreWithin, IsRowWithin, AreReadyTables}
+use Rattle.term_permission.specs.Ready.{IsReady, IsWithin, AreWithin, IsRowWithin, AreReadyTables}
 use Rattle.permit_step.specs.Searches.{child_count}
 use Rattle.term_laws.specs.Taking.{fewer, down}
 use Rattle.term_laws.proofs.Normalising.{union_set, turns_normal, trail_normal}
-use Rattle.permit_step.proofs.NodeTerms.{sizes-are}
-use Rattle.permit_step.proofs.ReadyTerms.{ready_is_kept}
-use Rattle.permit_step.proofs.Within.{may_both, permit-ready, turns_within, walk_in}
+use Rattle.term_permission.proofs.NodeTerms.{sizes-are}
+use Rattle.term_permission.proofs.ReadyTerms.{ready_is_kept}
+use Rattle.term_permission.proofs.Within.{may_both, permit-ready, turns_within, walk_in}
 
 pub each_out : (w : Tables) (xs : Trees) → AreWithin w xs → AreNormal (permits_of w) xs → Each (IsReady w) (items xs)
 each_out w none h n = tt

@@ -7,7 +7,7 @@ use Rattle.chart_term.specs.Tables.{Tables}
 use Rattle.chart_term.specs.Terms.{TermEvent, Tree, Event}
 use Rattle.permit_step.specs.Children.{child, put}
 use Rattle.term_laws.specs.Permission.{permits_of}
-use Rattle.permit_step.specs.Ready.{IsReady, AreReadyTables}
+use Rattle.term_permission.specs.Ready.{IsReady, AreReadyTables}
 use Rattle.permit_step.specs.Searches.{AreReadyFrames, child_count, put_some, put_all, IsPassed, IsResult}
 use Rattle.permit_step.specs.declared.ascent.Frame.{Frame}
 use Rattle.permit_step.proofs.Children.{in-child, from-child}

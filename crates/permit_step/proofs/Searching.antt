@@ -1,5 +1,5 @@
 -- The search: what it finds is what is left, and all of it.
-use Rattle.std.specs.Prelude.{ℕ, ◌+◌, ◌<◌, ◌≤◌, ◌⊎◌, ◌||◌, Bool, true, false, List, [], ◌∷◌, ◌++◌, ◌≡◌, Option, Some, None, refl}
+use Rattle.std.specs.Prelude.{ℕ, ◌+◌, ◌<◌, ◌≤◌, ◌⊎◌, ◌||◌, Bool, true, false, List, [], ◌∷◌, ◌++◌, ◌≡◌, Option, Some, refl}
 use Rattle.std.proofs.Common.{ap, sym, ◌∙◌, subst, arith, append_assoc, append-nil, inl, inr}
 use Rattle.chart_term.specs.Properties.{Each, MayHave}
 use Rattle.chart_term.specs.Tables.{Tables}
@@ -9,7 +9,7 @@ use Rattle.permit_step.specs.Children.{child}
 use Rattle.term_laws.specs.Listing.{set_weight}
 use Rattle.msc_base.specs.Lists.{IsAmong}
 use Rattle.term_laws.specs.Permission.{permits_of}
-use Rattle.permit_step.specs.Ready.{IsReady, AreReadyTables}
+use Rattle.term_permission.specs.Ready.{IsReady, AreReadyTables}
 use Rattle.permit_step.specs.Searches.{AreReadyFrames, child_count, put_all, IsResult, IsFinding, IsTally, IsBounded, Gains, Gathers, GathersOwn, AddsOne, IsTaken, IsPassed, IsStep, AreSearched, IsSearched, at_root, below, IsOther}
 use Rattle.msc_base.specs.declared.label.Label.{Label}
 use Rattle.term_tables.specs.NetValues.{NetsValue, label_number}
@@ -64,22 +64,6 @@ module _ (w : Tables) (a : ℕ) (fs : List Frame) (e : TermEvent) (old : Found) 
   only_this z r =
       let p = own_event w e r.event r.left r.taken in
       (ap (λ (f : TermEvent). f.label) p.0 ∙ r.labelled, (λ i. put_all (permits_of w) (p.0 i) fs (sym p.1 i)) ∙ r.whole)
-
-  bounded_still : IsBounded old.most old.terms true
-  bounded_still = record { within = λ b. within; beyond = λ b. cc }
-
-  pub other-label : (e.label ≡ a → ⊥) → Gathers w a fs (Event e) old old true
-  other-label n = record { gains = gains_none (IsFinding w a fs (Event e)) old tally; bounded = bounded_still; whole = λ b z r. absurd (n (only_this z r).0) }
-
-  pub none-rebuilt : (o : Option Tree) → o ≡ put_all (permits_of w) e fs Nil → o ≡ None → Gathers w a fs (Event e) old old true
-  none-rebuilt o h n = record {
-    gains = gains_none (IsFinding w a fs (Event e)) old tally;
-    bounded = bounded_still;
-    whole = λ b z r. no z (sym n ∙ (h ∙ (only_this z r).1));
-  }
-    where
-      no : (z : Tree) → None ≡ Some z → IsAmong old.terms z
-      no z q = cc
 
   pub one-rebuilt : (o : Option Tree) (t : Tree) (new : Found) (all : Bool) → o ≡ put_all (permits_of w) e fs Nil → o ≡ Some t → MayHave (IsReady w) o → e.label ≡ a → AddsOne t old new all → Gathers w a fs (Event e) old new all
   one-rebuilt o t new all h s r l g = record {

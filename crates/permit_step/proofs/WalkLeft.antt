@@ -18,13 +18,13 @@ use Rattle.permit_step.specs.Children.{where_so, three, put}
 use Rattle.term_laws.specs.Listing.{may_lead}
 use Rattle.term_laws.specs.Normality.{IsSet}
 use Rattle.term_laws.specs.Permission.{permits_of}
-use Rattle.permit_step.specs.Ready.{IsReady, AreReadyTables}
+use Rattle.term_permission.specs.Ready.{IsReady, AreReadyTables}
 use Rattle.permit_step.specs.Searches.{IsTaken}
 use Rattle.permit_step.specs.declared.ascent.Taken.{Taken}
 use Rattle.term_laws.proofs.Agreeing.{same_touch}
 use Rattle.term_laws.proofs.Alike.{AreIn, AgreeOn, permit-alike, union-alike}
-use Rattle.permit_step.proofs.NodeTerms.{node-is, below}
-use Rattle.permit_step.proofs.PermitWalks.{nodes_in}
+use Rattle.term_permission.proofs.NodeTerms.{node-is, below}
+use Rattle.term_permission.proofs.PermitWalks.{nodes_in}
 use Rattle.term_laws.proofs.SetFacts.{has_cut}
 use Rattle.term_laws.proofs.TidyTables.{not_same, less_or_same}
 

@@ -18,8 +18,8 @@ use Rattle.term_laws.specs.Listing.{set_weight}
 use Rattle.msc_base.specs.Lists.{IsAmong}
 use Rattle.term_laws.specs.Normality.{AreDifferent}
 use Rattle.term_laws.specs.Permission.{permits_of}
-use Rattle.permit_step.specs.Ready.{IsReady}
-use Rattle.permit_step.specs.RowRests.{RowRest, turn_before, gap_before}
+use Rattle.term_permission.specs.Ready.{IsReady}
+use Rattle.term_permission.specs.RowRests.{RowRest, turn_before, gap_before}
 use Rattle.permit_step.specs.Successors.{IsJustAbove}
 use Rattle.term_laws.specs.Taking.{IsAfter}
 use Rattle.permit_step.specs.declared.ascent.Frame.{Frame}

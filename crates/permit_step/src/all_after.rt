@@ -5,7 +5,7 @@ ghost use Rattle.chart_term.specs.Properties.{Each};
 ghost use Rattle.msc_base.specs.declared.label.Label.{Label as LabelValue};
 ghost use Rattle.permit_step.specs.AllAfter.{AreAllLeft, AreTooMany};
 ghost use Rattle.permit_step.specs.Gatherings.{IsGathered, IsTooMuch};
-ghost use Rattle.permit_step.specs.Ready.{IsReady, AreReadyTables};
+ghost use Rattle.term_permission.specs.Ready.{IsReady, AreReadyTables};
 ghost use Rattle.permit_step.specs.Searches.{IsTally};
 ghost use Rattle.term_tables.specs.NetValues.{label_number};
 

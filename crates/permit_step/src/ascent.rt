@@ -1,13 +1,13 @@
-//! Rebuilds a term around what an event left of one child, from the event upwards: for `successors`.
+//! Rebuilds a term around what an event left of one child, from the event upwards: for `search`.
 
 ghost use Rattle.std.specs.Prelude.{◌≡◌, ◌<◌, IfOk, IfSome, Some};
 ghost use Rattle.chart_term.specs.Properties.{MayHave};
 ghost use Rattle.chart_term.specs.Terms.{Event as EventTree, Nil, Tree};
 ghost use Rattle.chart_term.specs.Views.{event_of};
 ghost use Rattle.permit_step.specs.Children.{child, put};
-ghost use Rattle.permit_step.specs.Gone.{AreKept, AreLinked};
+ghost use Rattle.permit_step.specs.Kept.{AreKept, AreLinked};
 ghost use Rattle.term_laws.specs.Permission.{permits_of};
-ghost use Rattle.permit_step.specs.Ready.{IsReady, AreReadyTables};
+ghost use Rattle.term_permission.specs.Ready.{IsReady, AreReadyTables};
 ghost use Rattle.permit_step.specs.Searches.{IsTaken, AreReadyFrames, child_count, put_all};
 
 mod loops;
@@ -20,12 +20,12 @@ use self::rows::{put_in_par, put_in_row};
 use self::ties::put_below_tie;
 use self::walks::put_on_walk;
 use crate::descent::node_at;
-use crate::parts::{LoopParts, WalkParts};
 use bit_sets::Block;
 use chart_term::{Event, Look, Term};
 use msc_base::NoMemory;
 use node_facts::Span;
 use std::alloc::Global;
+use term_permission::{LoopParts, WalkParts};
 use term_tables::Nets;
 
 /// A term, and the index in it from which an event is taken.

@@ -10,19 +10,16 @@ ghost use Rattle.hmsc_graph.specs.Spots.{spot_of, goal_of};
 ghost use Rattle.permit_step.specs.Children.{row_child};
 ghost use Rattle.term_laws.specs.Normality.{IsSet};
 ghost use Rattle.term_laws.specs.Permission.{kept_of, permits_of};
-ghost use Rattle.permit_step.specs.Ready.{IsReady, AreReadyTables, IsReadyPart, AreReadyParts, IsReadyLoop};
+ghost use Rattle.term_permission.specs.Ready.{IsReady, AreReadyTables, IsReadyPart, AreReadyParts, IsReadyLoop};
 ghost use Rattle.permit_step.specs.Searches.{IsNext, IsTaken, child_count, is_gap};
 ghost use Rattle.permit_step.specs.Skips.{IsBelowTie, IsChildOr, IsNextPart, IsSkip};
 
 use crate::ascent::Taken;
-use crate::asking::ask_term;
-use crate::blocks::widened;
-use crate::parts::{LoopParts, WalkParts};
-use crate::permission::permit;
 use bit_sets::Block;
 use chart_term::{Event, Look, PartList, RowPart, Term};
 use msc_base::NoMemory;
 use std::alloc::Global;
+use term_permission::{LoopParts, WalkParts, ask_term, permit, widened};
 use term_tables::Nets;
 
 /// A child of a term, and its index.

@@ -1,4 +1,4 @@
-//! The terms that a search found, each once, and their weight, above which the search ends: for `successors`.
+//! The terms that a search found, each once, and their weight, above which the search ends: for `search`.
 
 ghost use Rattle.std.specs.Prelude.{◌≡◌, ◌<◌, ◌≤◌, ◌++◌, List, [], IfOk, OnOk, OnErr};
 ghost use Rattle.chart_term.specs.Facts.{most_stored};

@@ -1,22 +1,22 @@
-//! The search down to each event with a label, as a loop over its path: for `successors`.
+//! The search down to each event with a label, as a loop over its path: for `successors` and `all_after`.
 
 ghost use Rattle.std.specs.Prelude.{◌≡◌, ◌≤◌, ◌<◌, ◌+◌, [], IfOk, OnOk, IfSome, IfNone};
 ghost use Rattle.chart_term.specs.Terms.{Event as EventTree};
 ghost use Rattle.chart_term.specs.Views.{event_of};
 ghost use Rattle.term_laws.specs.Listing.{set_weight};
 ghost use Rattle.term_laws.specs.Permission.{permits_of};
-ghost use Rattle.permit_step.specs.Gone.{AreLinked};
-ghost use Rattle.permit_step.specs.Ready.{IsReady, AreReadyTables};
+ghost use Rattle.permit_step.specs.Kept.{AreLinked};
+ghost use Rattle.term_permission.specs.Ready.{IsReady, AreReadyTables};
 ghost use Rattle.permit_step.specs.Searches.{AreReadyFrames, Gathers, GathersOwn, IsOther, IsTaken, IsTally};
 
 use crate::ascent::{Frame, Taken, rebuilt};
-use crate::blocks::widened;
 use crate::descent::{behind, next_child};
 use crate::found::Found;
 use bit_sets::Block;
 use chart_term::{Event, Look, Term};
 use msc_base::NoMemory;
 use std::alloc::Global;
+use term_permission::widened;
 use term_tables::Nets;
 
 /// Adds what is left of the term after each event with the label. It says whether all were found: it ends once they weigh more

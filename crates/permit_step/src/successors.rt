@@ -3,7 +3,7 @@
 ghost use Rattle.std.specs.Prelude.{◌≡◌, ◌<◌, ◌++◌, List, Some, IfOk, OnErr};
 ghost use Rattle.chart_term.specs.Terms.{Tree};
 ghost use Rattle.msc_base.specs.declared.label.Label.{Label as LabelValue};
-ghost use Rattle.permit_step.specs.Ready.{IsReady, AreReadyTables};
+ghost use Rattle.term_permission.specs.Ready.{IsReady, AreReadyTables};
 ghost use Rattle.permit_step.specs.Successors.{AppendsFound};
 ghost use Rattle.term_tables.specs.NetValues.{label_number};
 

@@ -10,12 +10,12 @@ use Rattle.chart_term.specs.Properties.{Each}
 use Rattle.chart_term.specs.Tables.{Tables}
 use Rattle.chart_term.specs.Terms.{TermEvent, Tree, Nil, Event}
 use Rattle.chart_term.specs.Views.{pairs_of}
-use Rattle.permit_step.specs.Fresh.{IsFreshLoop}
+use Rattle.term_permission.specs.Fresh.{IsFreshLoop}
 use Rattle.term_laws.specs.FullSoundness.{IsSoundNode, IsFullySound, fresh_loop, MustHave}
-use Rattle.permit_step.specs.Ready.{IsReady, AreReadyTables}
+use Rattle.term_permission.specs.Ready.{IsReady, AreReadyTables}
 use Rattle.term_laws.proofs.SoundForms.{constructors_keep_soundness}
 use Rattle.term_laws.proofs.Keeping.{at_some}
-use Rattle.permit_step.proofs.SoundReady.{ready_by_soundness}
+use Rattle.term_permission.proofs.SoundReady.{ready_by_soundness}
 use Rattle.trace_judge.specs.Sets.{IsSoundFor}
 use Rattle.residual_bench.specs.Charts.{labels, event, message, answer, exchange}
 use Rattle.residual_bench.proofs.Orders.{message_once, first_orders, second_orders, third_orders, exchange_once, exchange_orders}

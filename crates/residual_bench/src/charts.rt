@@ -9,8 +9,8 @@ ghost use Rattle.residual_bench.specs.Charts.{labels, event, message, answer, ex
 use crate::fault::Fault;
 use chart_term::{Term, TermList, choice, par, seq, tied};
 use msc_base::{Far, Kind, Label, Name, NoMemory, Pair, PairList, Text};
-use permit_step::fresh_loop;
 use std::alloc::Global;
+use term_permission::fresh_loop;
 use term_tables::Nets;
 
 /// How many labels the charts have.

@@ -53,17 +53,32 @@ fn cover_text(alloc: Global, names: &[Name]) -> Result<String, AllocError> {
     Ok(text)
 }
 
-/// An item: an event, a coregion, or a reference by its cover.
+/// The operands of an inline expression, in braces.
+#[cycle(texts)]
+fn operands_text(alloc: Global, operands: &[Body]) -> Result<String, AllocError> {
+    let mut text = String::new(alloc);
+    text.push_str("{ ")?;
+    for operand in operands {
+        text.push_str(told(alloc, operand)?.as_str())?;
+        text.push_str("| ")?;
+    }
+    text.push_str("} ")?;
+    Ok(text)
+}
+
+/// An item: an event, a coregion, an inline expression by its operands, or a reference by its cover.
+#[cycle(texts)]
 fn item_text(alloc: Global, item: &Item) -> Result<String, AllocError> {
     match item {
         Item::Single(node) => node_text(alloc, node),
         Item::Coregion(nodes) => coregion_text(alloc, nodes.as_slice()),
         Item::Reference(held) => cover_text(alloc, held.cover.as_slice()),
-        Item::Inline(_) => Ok(String::new(alloc)),
+        Item::Inline(held) => operands_text(alloc, held.operands.as_slice()),
     }
 }
 
 /// The items, and then the pairs of an output and the input that takes it in.
+#[cycle(texts)]
 fn told(alloc: Global, body: &Body) -> Result<String, AllocError> {
     let mut text = String::new(alloc);
     for item in body.items.as_slice() {
@@ -158,7 +173,7 @@ fn events_and_coregions(rt: HostRuntime) -> Result<(), Fail> {
         ),
         (
             "msc A; instance i; concurrent; action x; endconcurrent; opt begin X; opt end; endinstance; endmsc;",
-            "not woven 1:57",
+            "( i0 ) { | } ",
         ),
     ];
     assert_eq!(rt; all_give(rt.alloc(), &rows)?, "");
@@ -189,6 +204,32 @@ fn items_of_several_columns(rt: HostRuntime) -> Result<(), Fail> {
         (
             "msc A; instance i; endinstance; instance j; endinstance; i, j: reference B; j: action x; i: action y; i: reference B; endmsc;",
             "[ i j ] j0 i1 [ i ] ",
+        ),
+    ];
+    assert_eq!(rt; all_give(rt.alloc(), &rows)?, "");
+    Ok(())
+}
+
+/// Each operand of an inline expression is woven by itself, of those of all its parts, with its own messages; events are numbered in the
+/// order of the text.
+#[test]
+fn inline_expressions(rt: HostRuntime) -> Result<(), Fail> {
+    let rows = [
+        (
+            "msc A; instance i; alt begin X shared all; out a to j; alt; action x; alt end; endinstance; instance j; alt begin X shared all; in a from i; alt; action y; alt end; endinstance; endmsc;",
+            "{ i0 j2 0>2 | i1 j3 | } ",
+        ),
+        (
+            "msc A; instance i; opt begin X shared all; reference R: B shared all; reference S: C shared all; opt end; endinstance; instance j; opt begin X shared all; reference S: C shared all; reference R: B shared all; opt end; endinstance; endmsc;",
+            "crossed 1:44",
+        ),
+        (
+            "msc A; instance i; opt begin X shared all; out a to j; opt end; endinstance; instance j; in a from i; opt begin X shared all; opt end; endinstance; endmsc;",
+            "unmatched 1:44",
+        ),
+        (
+            "msc A; instance i; endinstance; instance j; endinstance; i, j: par begin; i: out a to j; j: in a from i; par; all: opt begin; j: action y; opt end; par end; endmsc;",
+            "{ i0 j1 0>1 | { j2 | } | } ",
         ),
     ];
     assert_eq!(rt; all_give(rt.alloc(), &rows)?, "");

@@ -52,7 +52,7 @@ fn woven(alloc: Global, chart: &RawChart) -> Result<String, AllocError> {
     };
     match weave(alloc, chart, &listed) {
         Ok(body) => told(alloc, &body),
-        Err(WeaveFault::NotWoven(place)) => at(alloc, "not built", place),
+        Err(WeaveFault::NotWoven(place)) => at(alloc, "not woven", place),
         Err(WeaveFault::Crossed(place)) => at(alloc, "crossed", place),
         Err(WeaveFault::Unmatched(place)) => at(alloc, "unmatched", place),
         Err(WeaveFault::NoMemory) => Err(AllocError),
@@ -87,7 +87,7 @@ fn names_of_a_chart(rt: HostRuntime) -> Result<(), Fail> {
         ),
         (
             "msc A; instance i; opt begin X; opt end; endinstance; instance j; opt begin X; opt end; endinstance; endmsc;",
-            "not built 1:20",
+            "",
         ),
         (
             "msc A; instance i; opt begin X; opt end; endinstance; instance i; opt begin X; opt end; endinstance; endmsc;",
@@ -99,7 +99,7 @@ fn names_of_a_chart(rt: HostRuntime) -> Result<(), Fail> {
         ),
         (
             "msc A; instance i; opt begin X; opt begin X; opt end; opt end; endinstance; instance j; endinstance; endmsc;",
-            "not built 1:20",
+            "",
         ),
     ];
     assert_eq!(rt; all_give(rt.alloc(), &rows)?, "");
@@ -107,7 +107,7 @@ fn names_of_a_chart(rt: HostRuntime) -> Result<(), Fail> {
 }
 
 /// The items stand in the order of the text; messages of one text are paired in order, and told apart by pairing names. A lost
-/// message is not received, and an inline expression isn't woven yet.
+/// message is not received, nor one that an inline expression stands in place of.
 #[test]
 fn items_and_pairs(rt: HostRuntime) -> Result<(), Fail> {
     let rows = [
@@ -133,7 +133,7 @@ fn items_and_pairs(rt: HostRuntime) -> Result<(), Fail> {
         ),
         (
             "msc A; instance j; out a to i; endinstance; i: opt begin X; opt end; endmsc;",
-            "not built 1:48",
+            "unmatched 1:20",
         ),
     ];
     assert_eq!(rt; all_give(rt.alloc(), &rows)?, "");

@@ -1,3 +1,4 @@
+-- Serves private contracts alone.
 -- Items with a word that begins one of them and the end as well: the values of both ways to read them, and the reader.
 use Rattle.std.specs.Prelude.{ℕ, zero, suc, ◌++◌, ◌⊎◌, List, [], ◌∷◌, map, length, Ok, Err, if◌then◌else◌}
 use Rattle.std.proofs.Common.{inl, inr}

@@ -19,10 +19,10 @@ use Rattle.chart_term.specs.Terms.{Tree, weight}
 use Rattle.term_laws.specs.Listing.{set_weight}
 use Rattle.msc_base.specs.Lists.{IsAmong}
 use Rattle.chart_term.specs.Tables.{terms_over}
-use Rattle.permit_step.specs.Ready.{IsReady, AreReadyTables}
+use Rattle.term_permission.specs.Ready.{IsReady, AreReadyTables}
 use Rattle.permit_step.specs.AllAfter.{AreAllLeft}
 use Rattle.term_laws.specs.Taking.{MayEnd}
-use Rattle.permit_step.proofs.SoundReady.{ready_by_soundness}
+use Rattle.term_permission.proofs.SoundReady.{ready_by_soundness}
 use Rattle.permit_step.proofs.TermMembers.{among_some, among_take, at_among, take_among}
 use Rattle.trace_judge.specs.Gathers.{IsOver, JoinsAll}
 use Rattle.trace_judge.specs.Logs.{AreResiduals}

@@ -15,9 +15,10 @@ use crate::gathered::Gathered;
 use crate::{StepFault, Store};
 use chart_term::{Term, TermList};
 use msc_base::{Label, NoMemory};
-use permit_step::{after_each, may_end};
+use permit_step::after_each;
 use std::alloc::Global;
 use std::marker::Model;
+use term_permission::may_end;
 use term_tables::Nets;
 
 /// A set of residual terms as a sorted list.

@@ -7,10 +7,10 @@ use Rattle.term_tables.specs.NetValues.{NetsValue}
 use Rattle.chart_term.specs.Properties.{Each}
 use Rattle.chart_term.specs.Tables.{Tables, NetEntry, net_count}
 use Rattle.chart_term.specs.Terms.{TermEvent, Tree, Nil, Event}
-use Rattle.permit_step.specs.Ready.{AreReadyTables, IsReady}
+use Rattle.term_permission.specs.Ready.{AreReadyTables, IsReady}
 use Rattle.permit_step.specs.Successors.{AppendsFound}
-use Rattle.permit_step.proofs.Permits.{ready-at}
-use Rattle.permit_step.proofs.ReadyTerms.{ready_is_kept}
+use Rattle.term_permission.proofs.Permits.{ready-at}
+use Rattle.term_permission.proofs.ReadyTerms.{ready_is_kept}
 
 pub ready-nil : (w : Tables) (x : Tree) → x ≡ Nil → IsReady w x
 ready-nil w x q = subst (IsReady w) (sym q) (record { within = tt; normal = tt })

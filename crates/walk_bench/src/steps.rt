@@ -2,15 +2,16 @@
 ghost use Rattle.std.specs.Prelude.{◌≡◌, IfOk};
 ghost use Rattle.chart_term.specs.Properties.{Each, MayHave};
 ghost use Rattle.chart_term.specs.Tables.{net_count};
-ghost use Rattle.permit_step.specs.Ready.{IsReady, AreReadyTables};
+ghost use Rattle.term_permission.specs.Ready.{IsReady, AreReadyTables};
 
 use crate::fault::Fault;
 use crate::ring::{LABELS, labels};
 use chart_term::{Term, TermList};
 use hmsc_graph::Goal;
 use msc_base::{Label, NoMemory};
-use permit_step::{after, fresh_walk};
+use permit_step::after;
 use std::alloc::Global;
+use term_permission::fresh_walk;
 use term_tables::Nets;
 
 /// The most that what is left of the walk may weigh.

@@ -6,23 +6,20 @@ ghost use Rattle.chart_term.specs.Terms.{Loop, row_of};
 ghost use Rattle.chart_term.specs.Views.{event_of};
 ghost use Rattle.permit_step.specs.Children.{put};
 ghost use Rattle.term_laws.specs.Permission.{permits_of};
-ghost use Rattle.permit_step.specs.Ready.{IsReady, AreReadyTables, IsReadyLoop};
+ghost use Rattle.term_permission.specs.Ready.{IsReady, AreReadyTables, IsReadyLoop};
 ghost use Rattle.permit_step.specs.Searches.{IsTaken, part_before, tail_of};
 ghost use Rattle.term_laws.specs.Listing.{may_begin};
 ghost use Rattle.term_laws.specs.Taking.{down, fewer};
 ghost use Rattle.chart_term.specs.Properties.{EachTurn};
-ghost use Rattle.permit_step.specs.RowRests.{no_rest};
+ghost use Rattle.term_permission.specs.RowRests.{no_rest};
 ghost use Rattle.term_laws.specs.Normality.{AreApart, IsNotNil};
 
 use super::Taken;
 use crate::descent::is_gap;
-use crate::loops::loop_end;
-use crate::parts::{LoopBlock, LoopParts};
-use crate::permission::keep_parts;
-use crate::row_end::RowEnd;
 use chart_term::{PartList, RowPart, Term};
 use msc_base::NoMemory;
 use std::alloc::Global;
+use term_permission::{LoopBlock, LoopParts, RowEnd, keep_parts, loop_end};
 use term_tables::Nets;
 
 /// What is left of a loop, where a begun turn leaves this or a turn begins in a gap.

@@ -1,27 +1,28 @@
 //! What is left of rows and of parts side by side, where one of them has had an event: for `ascent`.
 
-ghost use Rattle.std.specs.Prelude.{◌≡◌, ◌<◌, IfOk, IfSome, Some, length, slice_get};
+ghost use Rattle.std.specs.Prelude.{◌≡◌, ◌<◌, ℕ, List, Option, IfOk, IfSome, Some, false, length, slice_get};
 ghost use Rattle.chart_term.specs.NormalForms.{begun};
 ghost use Rattle.chart_term.specs.PartLists.{AreTurns};
 ghost use Rattle.chart_term.specs.Properties.{EachTurn};
 ghost use Rattle.chart_term.specs.Terms.{Join, Tree, trees};
 ghost use Rattle.chart_term.specs.Views.{event_of};
 ghost use Rattle.msc_base.specs.Patterns.{seq, par};
+ghost use Rattle.node_facts.specs.NodeFacts.{lies_in};
 ghost use Rattle.node_facts.specs.declared.facts.Span.{Span};
 ghost use Rattle.permit_step.specs.Children.{put};
-ghost use Rattle.permit_step.specs.Gone.{AreKept};
+ghost use Rattle.permit_step.specs.Kept.{AreKept, AreKeptOf};
+ghost use Rattle.term_permission.specs.Lefts.{ArePartsLeft};
 ghost use Rattle.term_laws.specs.Normality.{IsPartOf};
 ghost use Rattle.term_laws.specs.Permission.{permits_of};
-ghost use Rattle.permit_step.specs.Ready.{IsReady, AreReadyTables};
+ghost use Rattle.term_permission.specs.Ready.{IsReady, AreReadyTables};
 ghost use Rattle.permit_step.specs.Searches.{IsTaken};
 
 use super::Taken;
-use crate::left::{Joint, kept, replaced};
-use crate::permission::permit_parts;
 use chart_term::{PartList, Term, par_of, seq_of};
 use msc_base::NoMemory;
 use node_facts::Span;
 use std::alloc::Global;
+use term_permission::{Joint, PartsLeft, kept, permit_parts, replaced};
 use term_tables::Nets;
 
 /// The parts side by side, where that of the index is replaced.
@@ -71,11 +72,24 @@ pub(super) fn put_in_row(
 {
     let before = parts.front(alloc, index)?;
     let permitted = permit_parts(alloc, nets, Joint::Row, &before, &taken.at)?;
-    *gone = permitted.widened(*gone, &before);
+    *gone = widened(*gone, &before, &permitted);
     let Some(before) = kept(alloc, &before, permitted)? else {
         return Ok(None);
     };
     let whole = replaced(alloc, Joint::Row, &before, left, parts, index)?;
     let whole = seq_of(alloc, whole)?;
     Ok(Some(whole))
+}
+
+/// The span, wider by the numbers of the parts where other parts may be left.
+#[tactic(auto, using(crate::proofs::KeptNumbers::kept_numbers))]
+fn widened(gone: Span, parts: &PartList, left: &PartsLeft) -> Span
+    ensures wider { (n : ℕ) → lies_in (Some result) n ≡ false → lies_in (Some gone) n ≡ false }
+    ensures kept { (o : Option (List Tree)) → ArePartsLeft o parts.now left.now → AreKeptOf result (begun parts.now) o }
+{
+    match left {
+        PartsLeft::Fails => gone,
+        PartsLeft::Unchanged => gone,
+        PartsLeft::Changed(_) => gone.wider(parts.facts().range()),
+    }
 }

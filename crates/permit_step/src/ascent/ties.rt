@@ -6,21 +6,19 @@ ghost use Rattle.chart_term.specs.TermPatterns.{before_in};
 ghost use Rattle.chart_term.specs.Terms.{Nil, Tied, has};
 ghost use Rattle.chart_term.specs.Views.{event_of, pairs_of};
 ghost use Rattle.permit_step.specs.Children.{put};
-ghost use Rattle.permit_step.specs.Gone.{AreKept};
+ghost use Rattle.permit_step.specs.Kept.{AreKept};
 ghost use Rattle.term_laws.specs.Normality.{ArePairsOnce, AreShown};
 ghost use Rattle.term_laws.specs.Permission.{permits_of};
-ghost use Rattle.permit_step.specs.Ready.{IsReady, AreReadyTables};
+ghost use Rattle.term_permission.specs.Ready.{IsReady, AreReadyTables};
 ghost use Rattle.permit_step.specs.Searches.{IsTaken};
 
 use super::Taken;
-use crate::left::Left;
-use crate::permission::permit_term;
-use crate::ties::retied;
 use bit_sets::Block;
 use chart_term::Term;
 use msc_base::NoMemory;
 use node_facts::Span;
 use std::alloc::Global;
+use term_permission::{Left, permit_term, retied};
 use term_tables::Nets;
 use tie_list::TieList;
 

@@ -9,17 +9,16 @@ ghost use Rattle.chart_term.specs.Tables.{net_count, net_of};
 ghost use Rattle.permit_step.specs.Children.{put};
 ghost use Rattle.term_laws.specs.Normality.{IsSet};
 ghost use Rattle.term_laws.specs.Permission.{permits_of};
-ghost use Rattle.permit_step.specs.Ready.{AreReadyTables};
+ghost use Rattle.term_permission.specs.Ready.{AreReadyTables};
 ghost use Rattle.permit_step.specs.Searches.{IsTaken};
 
 use super::Taken;
-use crate::parts::WalkParts;
-use crate::permission::widened_walk;
 use bit_sets::Block;
 use chart_term::{Term, TermList, seq};
 use hmsc_graph::{Goal, Spot};
 use msc_base::NoMemory;
 use std::alloc::Global;
+use term_permission::{WalkParts, widened_walk};
 use term_tables::Nets;
 
 /// What is left of a walk, where the term of a node leaves this: the walk to the node, and the walk on from it.

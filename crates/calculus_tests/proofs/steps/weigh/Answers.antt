@@ -1,6 +1,6 @@
 use Rattle.std.proofs.Common.{ap, sym, subst, ◌∙◌, ◌++◌, ◌∷◌, []}
 use Rattle.chart_term.specs.Properties.{Each}
-use Rattle.permit_step.specs.Ready.{IsReady}
+use Rattle.term_permission.specs.Ready.{IsReady}
 use Rattle.calculus_tests.proofs.steps.weigh.Goals as goal
 
 pub loop-text-init : goal.loop-text-init

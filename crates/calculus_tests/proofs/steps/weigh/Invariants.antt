@@ -1,5 +1,5 @@
 use Rattle.chart_term.specs.Properties.{Each}
-use Rattle.permit_step.specs.Ready.{IsReady}
+use Rattle.term_permission.specs.Ready.{IsReady}
 use Rattle.calculus_tests.proofs.steps.weigh.Given as goal
 
 abbrev pub invariant-loop-text : goal.invariant-loop-text

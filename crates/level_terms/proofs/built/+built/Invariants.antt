@@ -1,6 +1,6 @@
 use Rattle.std.proofs.Common.{◌≡◌, ◌≤◌, drop, length}
 use Rattle.level_terms.specs.BuiltBodies.{are_built, have_built}
-use Rattle.level_terms.specs.ItemViews.{items_view, bodies_view}
+use Rattle.general_ordering.specs.ItemViews.{items_view, bodies_view}
 use Rattle.level_terms.proofs.built.+built.Given as goal
 
 abbrev pub invariant-are_built-loop-index : goal.invariant-are_built-loop-index

@@ -1,6 +1,6 @@
 use Rattle.chart_term.specs.Terms.{Tree}
 use Rattle.std.proofs.lemmas.List.{length_push}
-use Rattle.std.proofs.Common.{[], ◌∷◌, ◌++◌, rules, ◌≡◌, ◌-◌, Some, sym, ◌∙◌, subst, arith, ap, length, refl}
+use Rattle.std.proofs.Common.{List, [], ◌∷◌, ◌++◌, rules, ◌≡◌, ◌-◌, Some, sym, ◌∙◌, subst, arith, ap, length, refl}
 use Rattle.std.specs.List.{slice_get}
 use Rattle.std.proofs.lemmas.Option.{same_Some}
 use Rattle.msc_meaning.specs.Bodies as body
@@ -8,15 +8,19 @@ use Rattle.msc_meaning.specs.Bodies.{Body}
 use Rattle.msc_meaning.specs.declared.body.InlineItem.{out-InlineItem}
 use Rattle.msc_meaning.specs.declared.body.Body.{out-Body}
 use Rattle.msc_meaning.specs.declared.body.Item.TheViews.{the_lemmas}
-use Rattle.level_terms.specs.ItemViews.{item_view, items_view, bodies_view}
-use Rattle.level_terms.specs.LevelTerms.{is_exception, item_term, level_term}
-use Rattle.level_terms.specs.MadeParts.{IsPart}
+use Rattle.msc_meaning.specs.Views.{item_view}
+use Rattle.general_ordering.specs.ItemViews.{items_view, bodies_view}
+use Rattle.level_terms.specs.LevelTerms.{item_term, level_term}
+use Rattle.event_order.specs.RankedBodies.{is_exception}
+use Rattle.level_terms.specs.MadeParts.{IsPart, IsTied}
+use Rattle.msc_base.specs.declared.label.Pair.{Pair}
+use Rattle.msc_meaning.specs.Ties.{level_pairs}
 use Rattle.level_terms.specs.ShownNumbers.{shown_item}
 use Rattle.level_terms.proofs.BuiltFacts.{item_built, body_built, items_left, bodies_left, items_end, bodies_end, placed_next}
 use Rattle.level_terms.proofs.Dropped.{item_at}
 use Rattle.level_terms.proofs.PartSteps.{items_start, items_step, level_part, operands_start, operands_step, one_part, parallel_start, parallel_step, parallel_end, alt_part, exc_part, par_part, opt_part, item_labelled, body_labelled}
 use Rattle.level_terms.proofs.PartSteps as steps
-use Rattle.level_terms.proofs.ViewFacts.{body_is, inline_is, single_is, coregion_is, inline_item_is, part_of}
+use Rattle.general_ordering.proofs.ViewFacts.{body_is, inline_is, single_is, coregion_is, inline_item_is, part_of}
 use Rattle.level_terms.proofs.levels.+levels.Goals as goal
 
 pub all_of-loop-index-init : goal.all_of-loop-index-init
@@ -119,7 +123,11 @@ some_of-returns-clause-part t c =
 pub tied_level-returns-clause-part : goal.tied_level-returns-clause-part
 tied_level-returns-clause-part t c =
     subst (λ (b : Body). IsPart (level_term c.args.names.now c.args.nets.now.labels c.args.next b) [] c.in_ok-made.made) (sym (body_is c.args.body.now))
-    (level_part c.args.names.now c.args.nets.now.labels c.args.next c.in_ok-inner.inner c.in_ok-made.made (out-Body c.args.body.now).cover (items_view (out-Body c.args.body.now).items.items) (out-Body c.args.body.now).pairs c.in_ok-inner.ensures.part c.in_ok-made.ensures)
+    (level_part c.args.names.now c.args.nets.now.labels c.args.next c.in_ok-inner.inner c.in_ok-made.made (out-Body c.args.body.now).cover (items_view (out-Body c.args.body.now).items.items) (out-Body c.args.body.now).pairs c.in_ok-inner.ensures.part
+    (subst (λ (ps : List Pair). IsTied ps c.in_ok-inner.inner c.in_ok-made.made) pairs c.in_ok-made.ensures))
+  where
+    pairs : c.in_ok-pairs.pairs ≡ level_pairs (items_view (out-Body c.args.body.now).items.items) (out-Body c.args.body.now).pairs
+    pairs = search rules
 
 pub inline_of-returns-in_ok-made-in-Alt-clause-part : goal.inline_of-returns-in_ok-made-in-Alt-clause-part
 inline_of-returns-in_ok-made-in-Alt-clause-part t c =

@@ -1,6 +1,6 @@
 use Rattle.std.proofs.Common.{◌≡◌, ◌+◌, ◌≤◌, drop, length, []}
 use Rattle.level_terms.specs.BuiltBodies.{events_count, operands_count}
-use Rattle.level_terms.specs.ItemViews.{items_view, bodies_view}
+use Rattle.general_ordering.specs.ItemViews.{items_view, bodies_view}
 use Rattle.level_terms.specs.LevelTerms.{items_term, operand_terms, parallel_term}
 use Rattle.level_terms.specs.MadeParts.{IsPart}
 use Rattle.level_terms.specs.ShownNumbers.{shown_items}

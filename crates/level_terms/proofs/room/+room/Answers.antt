@@ -1,7 +1,7 @@
 use Rattle.std.proofs.Common.{◌≡◌, ◌<◌, ◌-◌, Some, arith}
 use Rattle.std.specs.List.{slice_get}
 use Rattle.level_terms.specs.BuiltBodies.{events_count, operands_count}
-use Rattle.level_terms.specs.ItemViews.{items_view, bodies_view}
+use Rattle.general_ordering.specs.ItemViews.{items_view, bodies_view}
 use Rattle.level_terms.proofs.BuiltFacts.{bodies_left, if_none, items_left}
 use Rattle.level_terms.proofs.Dropped.{item_at}
 use Rattle.level_terms.proofs.room.+room.Goals as goal

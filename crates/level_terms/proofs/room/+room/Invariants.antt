@@ -1,6 +1,6 @@
 use Rattle.std.proofs.Common.{◌≡◌, ◌+◌, ◌≤◌, drop, length}
 use Rattle.level_terms.specs.BuiltBodies.{events_count, operands_count}
-use Rattle.level_terms.specs.ItemViews.{items_view, bodies_view}
+use Rattle.general_ordering.specs.ItemViews.{items_view, bodies_view}
 use Rattle.level_terms.proofs.room.+room.Given as goal
 
 abbrev pub invariant-room_behind_items-loop-index : goal.invariant-room_behind_items-loop-index

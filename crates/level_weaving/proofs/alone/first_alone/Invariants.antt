@@ -1,7 +1,7 @@
 use Rattle.std.proofs.Common.{◌≡◌, drop, map}
 use Rattle.msc_base.proofs.Narrowing.{Narrows}
 use Rattle.level_weaving.specs.Alone.{IsAlone}
-use Rattle.level_weaving.specs.PieceViews.{event_view}
+use Rattle.level_weaving.specs.EventViews.{event_view}
 use Rattle.level_weaving.proofs.alone.first_alone.Given as goal
 
 abbrev pub invariant-loop-placed : goal.invariant-loop-placed

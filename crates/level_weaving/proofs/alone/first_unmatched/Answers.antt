@@ -2,7 +2,7 @@ use Rattle.std.proofs.Common.{List, Bool, ℕ, length, map, sym, subst}
 use Rattle.std.proofs.lemmas.List.{length-map}
 use Rattle.msc_base.specs.Places.{IsLeast}
 use Rattle.level_weaving.specs.Alone.{AreTold, IsAlone}
-use Rattle.level_weaving.specs.PieceViews.{event_view}
+use Rattle.level_weaving.specs.EventViews.{event_view}
 use Rattle.level_weaving.proofs.AloneLaws.{least_unmatched, pairs_within}
 use Rattle.level_weaving.proofs.alone.first_unmatched.Goals as goal
 

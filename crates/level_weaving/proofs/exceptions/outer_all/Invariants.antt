@@ -1,6 +1,6 @@
 use Rattle.std.proofs.Common.{◌≡◌, ◌++◌, drop, map}
 use Rattle.level_weaving.specs.Exceptions.{outer_pieces}
-use Rattle.level_weaving.specs.PieceViews.{piece_view}
+use Rattle.level_pieces.specs.PieceViews.{piece_view}
 use Rattle.level_weaving.proofs.exceptions.outer_all.Given as goal
 
 abbrev pub invariant-loop-piece : goal.invariant-loop-piece

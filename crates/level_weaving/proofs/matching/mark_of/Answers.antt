@@ -1,12 +1,12 @@
 use Rattle.std.proofs.Common.{rules, ◌≡◌, ◌++◌, ◌∷◌, [], Some, Bool, if◌then◌else◌, ◌∙◌}
 use Rattle.std.specs.List.{position_or_len, list_any}
 use Rattle.level_weaving.specs.Messages.{way, key_of}
-use Rattle.level_weaving.specs.PieceViews.{event_view}
+use Rattle.level_weaving.specs.EventViews.{event_view}
 use Rattle.level_weaving.specs.Marks.{key_view}
 use Rattle.level_weaving.specs.declared.matching.MessageKey.{MessageKey}
 use Rattle.level_weaving.specs.contracts.matching.MessageKeyPartialEq.TheImpl.{eq-value}
 use Rattle.level_weaving.proofs.MarkLaws.{inserted_number, passes_itself}
-use Rattle.level_weaving.proofs.Positions.{position_inserted}
+use Rattle.level_pieces.proofs.Positions.{position_inserted}
 use Rattle.level_weaving.proofs.matching.mark_of.Goals as goal
 
 pub returns-clause-mark : goal.returns-clause-mark

@@ -1,7 +1,7 @@
 use Rattle.std.proofs.Common.{rules, arith, ◌≡◌, ◌++◌, ◌∷◌, [], List, length, map, subst, ◌∙◌}
 use Rattle.std.proofs.lemmas.List.{length-map, take_all}
 use Rattle.level_weaving.specs.declared.events.PlacedEvent.{PlacedEvent}
-use Rattle.level_weaving.specs.PieceViews.{event_view}
+use Rattle.level_weaving.specs.EventViews.{event_view}
 use Rattle.level_weaving.specs.Marks.{IsMark, AreMarks, key_view}
 use Rattle.level_weaving.proofs.MarkLaws.{marks_more}
 use Rattle.level_weaving.proofs.matching.marks_of.Goals as goal

@@ -1,5 +1,5 @@
 use Rattle.std.proofs.Common.{map, take}
-use Rattle.level_weaving.specs.PieceViews.{event_view}
+use Rattle.level_weaving.specs.EventViews.{event_view}
 use Rattle.level_weaving.specs.Marks.{AreMarks, key_view}
 use Rattle.level_weaving.proofs.matching.marks_of.Given as goal
 

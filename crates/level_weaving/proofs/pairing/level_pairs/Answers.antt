@@ -4,7 +4,7 @@ use Rattle.std.proofs.lemmas.List.{length-map}
 use Rattle.item_order.specs.declared.edge.Edge.{Edge}
 use Rattle.msc_meaning.specs.Bodies.{EventNode}
 use Rattle.level_weaving.specs.LevelPairs.{edges_at, pair_of}
-use Rattle.level_weaving.specs.PieceViews.{event_view}
+use Rattle.level_weaving.specs.EventViews.{event_view}
 use Rattle.level_weaving.proofs.AloneLaws.{pairs_within}
 use Rattle.level_weaving.proofs.PartnerLaws.{are_pairs}
 use Rattle.level_weaving.proofs.StepLaws.{pairs_answer}

@@ -4,8 +4,8 @@ use Rattle.std.proofs.lemmas.Option.{slice_get_read}
 use Rattle.item_order.specs.declared.edge.Edge.{Edge}
 use Rattle.msc_meaning.specs.Bodies.{EventNode}
 use Rattle.level_weaving.specs.LevelPairs.{edge_at, number_or_zero}
-use Rattle.level_weaving.specs.PieceViews.{event_view}
-use Rattle.level_weaving.proofs.Walks.{map_at, map_step}
+use Rattle.level_weaving.specs.EventViews.{event_view}
+use Rattle.level_pieces.proofs.Walks.{map_at, map_step}
 use Rattle.level_weaving.proofs.pairing.numbered.Goals as goal
 
 pub loop-pair-preserved : goal.loop-pair-preserved

@@ -1,6 +1,6 @@
 use Rattle.std.proofs.Common.{◌≡◌, ◌++◌, drop, map}
 use Rattle.level_weaving.specs.LevelPairs.{edges_at}
-use Rattle.level_weaving.specs.PieceViews.{event_view}
+use Rattle.level_weaving.specs.EventViews.{event_view}
 use Rattle.level_weaving.proofs.pairing.numbered.Given as goal
 
 abbrev pub invariant-loop-pair : goal.invariant-loop-pair

@@ -3,11 +3,11 @@ use Rattle.msc_meaning.specs.Pieces.{Piece, statements_pieces}
 use Rattle.msc_tree.specs.Charts.{Basic}
 use Rattle.msc_tree.specs.Statements.{statements}
 use Rattle.msc_tree.specs.Views.{chart_view, content_view, statement_view}
-use Rattle.level_weaving.specs.LevelNodes.{AreNumbered}
-use Rattle.level_weaving.specs.PieceViews.{piece_view}
+use Rattle.level_pieces.specs.PieceNumbers.{AreNumbered}
+use Rattle.level_pieces.specs.PieceViews.{piece_view}
 use Rattle.level_weaving.proofs.AnswerLaws.{fault_answer, woven_answer}
-use Rattle.level_weaving.proofs.ColumnLaws.{instances_differ}
-use Rattle.level_weaving.proofs.NodeLaws.{statements_numbered}
+use Rattle.level_pieces.proofs.ColumnLaws.{instances_differ}
+use Rattle.level_pieces.proofs.NumberedPieces.{statements_numbered}
 use Rattle.level_weaving.proofs.weaving.weave.Goals as goal
 
 pub weave_level-requires-clause-different : goal.weave_level-requires-clause-different

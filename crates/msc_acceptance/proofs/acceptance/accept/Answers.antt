@@ -22,10 +22,10 @@ returns-in-Ok-Faulty-clause-only_fault c =
     let decided : IsDecided (map chart_view c.as_slice.result.now) (decision.Faulty c.in-Ok-Faulty.fault) = search rules in
     let own = has_fault d c.in-Ok-Faulty.fault (subst (λ (cs : List Chart). IsDecided cs (decision.Faulty c.in-Ok-Faulty.fault)) charts decided) in
     λ rule place e other there f.
-    let r : c.told_as.result ≡ rule = cc in
+    let r : c.in-Ok-Faulty.fault.rule ≡ rule = cc in
     let p : c.in-Ok-Faulty.fault.place ≡ place = cc in
     let o = only_fault d _ other c.in-Ok-Faulty.fault.place there own f in
-    (o.0 ∙ sym c.told_as.ensures ∙ r, o.1 ∙ p)
+    (o.0 ∙ r, o.1 ∙ p)
 
 pub returns-in-Ok-Woven-clause-only : goal.returns-in-Ok-Woven-clause-only
 returns-in-Ok-Woven-clause-only c =
@@ -40,4 +40,4 @@ pub returns-in-Ok-Woven-clause-events : goal.returns-in-Ok-Woven-clause-events
 returns-in-Ok-Woven-clause-events c =
     let decided : IsDecided (map chart_view c.as_slice.result.now) (decision.Woven c.in-Ok-Woven.entries) = search rules in
     let made : c.of_entries.result ≡ c.in-Ok-Woven.entries.items = search rules in
-    subst (λ (es : List code.ChartEntry). HaveEventsAlone (table_view es)) (sym made) (kept_have (map chart_view c.as_slice.result.now) (table_view c.in-Ok-Woven.entries.items) decided.0 decided.1)
+    subst (λ (es : List code.ChartEntry). HaveEventsAlone (table_view es)) (sym made) (kept_have (map chart_view c.as_slice.result.now) (table_view c.in-Ok-Woven.entries.items) decided.0 decided.1 decided.2)

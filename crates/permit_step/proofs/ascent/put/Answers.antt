@@ -5,13 +5,14 @@ use Rattle.chart_term.specs.Terms.{Tree}
 use Rattle.msc_base.specs.Patterns.{seq, par}
 use Rattle.permit_step.specs.Children.{put}
 use Rattle.permit_step.proofs.Descending.{count-seq, count-par, count-loop}
-use Rattle.permit_step.proofs.Permits.{turns-are-open, turns-are-ready}
-use Rattle.permit_step.proofs.PermitLoops.{ready-loop}
-use Rattle.permit_step.proofs.PermitWalks.{ready-walk}
+use Rattle.term_permission.proofs.Permits.{turns-are-open, turns-are-ready}
+use Rattle.term_permission.proofs.PermitLoops.{ready-loop}
+use Rattle.term_permission.proofs.PermitWalks.{ready-walk}
 use Rattle.chart_term.specs.NormalForms.{begun}
 use Rattle.chart_term.specs.Views.{pairs_of}
-use Rattle.permit_step.specs.Gone.{AreKept}
-use Rattle.permit_step.proofs.KeptNumbers.{each_kept, join_child, none_beside, tie_child, tied_pairs}
+use Rattle.permit_step.specs.Kept.{AreKept}
+use Rattle.permit_step.proofs.KeptNumbers.{each_kept, join_child, none_beside, tie_child}
+use Rattle.term_permission.proofs.Retying.{tied_pairs}
 use Rattle.permit_step.proofs.ascent.put.Goals as goal
 
 pub put_in_row-requires-clause-turns : goal.put_in_row-requires-clause-turns

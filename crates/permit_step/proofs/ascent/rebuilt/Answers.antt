@@ -4,7 +4,7 @@ use Rattle.permit_step.specs.declared.ascent.Frame.{Frame}
 use Rattle.chart_term.specs.Terms.{Tree, Event, Nil}
 use Rattle.chart_term.specs.Views.{event_of}
 use Rattle.term_laws.specs.Permission.{permits_of}
-use Rattle.permit_step.specs.Gone.{AreKept, top}
+use Rattle.permit_step.specs.Kept.{AreKept, top}
 use Rattle.permit_step.specs.Searches.{put_all}
 use Rattle.permit_step.proofs.KeptNumbers.{event_kept, kept_child, linked_at, top_at, top_none}
 use Rattle.permit_step.proofs.Rebuilding.{frame-at, frame-ready, put-is-ready, rebuilt-more, rebuilt-none}

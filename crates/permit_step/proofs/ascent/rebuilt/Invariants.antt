@@ -2,8 +2,8 @@ use Rattle.std.proofs.Common.{◌≡◌, ◌≤◌, take, drop, length}
 use Rattle.chart_term.specs.Terms.{Event, Nil}
 use Rattle.chart_term.specs.Views.{event_of}
 use Rattle.term_laws.specs.Permission.{permits_of}
-use Rattle.permit_step.specs.Gone.{AreKept, top}
-use Rattle.permit_step.specs.Ready.{IsReady}
+use Rattle.permit_step.specs.Kept.{AreKept, top}
+use Rattle.term_permission.specs.Ready.{IsReady}
 use Rattle.permit_step.specs.Searches.{put_all}
 use Rattle.permit_step.proofs.ascent.rebuilt.Given as goal
 

@@ -3,12 +3,12 @@ use Rattle.bit_sets.specs.Blocks.{BlockValue}
 use Rattle.chart_term.specs.Rows.{part_of}
 use Rattle.chart_term.specs.Terms.{Turn, has}
 use Rattle.chart_term.specs.declared.term.RowPart.{RowPart}
-use Rattle.permit_step.specs.Ready.{IsReadyPart}
-use Rattle.permit_step.proofs.PassingFacts.{says_none}
+use Rattle.term_permission.specs.Ready.{IsReadyPart}
+use Rattle.term_permission.proofs.PassingFacts.{says_none}
 use Rattle.permit_step.proofs.Passes.{skip-behind}
 use Rattle.term_laws.specs.Permission.{permit, permits_of}
 use Rattle.term_laws.specs.Values.{block_of}
-use Rattle.permit_step.proofs.PermitRows.{ready-part}
+use Rattle.term_permission.proofs.PermitRows.{ready-part}
 use Rattle.permit_step.proofs.descent.blocked.Goals as goal
 
 pub ask_term-requires-clause-term : goal.ask_term-requires-clause-term

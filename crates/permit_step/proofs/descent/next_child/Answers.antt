@@ -4,11 +4,11 @@ use Rattle.chart_term.specs.Terms.{Loop, Walk, row_of}
 use Rattle.hmsc_graph.specs.Spots.{spot_of, goal_of}
 use Rattle.permit_step.specs.Searches.{IsNext}
 use Rattle.permit_step.specs.declared.descent.Step.{Step}
-use Rattle.permit_step.proofs.Joins.{ok-as}
+use Rattle.term_permission.proofs.Joins.{ok-as}
 use Rattle.permit_step.proofs.Passes.{next-row, next-par, next-choice, next-tied, next-as}
-use Rattle.permit_step.proofs.PermitLoops.{ready-loop}
-use Rattle.permit_step.proofs.PermitRows.{turns-ready}
-use Rattle.permit_step.proofs.Permits.{turns-are-ready}
+use Rattle.term_permission.proofs.PermitLoops.{ready-loop}
+use Rattle.term_permission.proofs.PermitRows.{turns-ready}
+use Rattle.term_permission.proofs.Permits.{turns-are-ready}
 use Rattle.msc_base.specs.Patterns.{seq}
 use Rattle.permit_step.proofs.descent.next_child.Goals as goal
 

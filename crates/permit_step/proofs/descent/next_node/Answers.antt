@@ -2,7 +2,7 @@ use Rattle.std.proofs.Common.{◌≡◌, ap, arith, length}
 use Rattle.chart_term.specs.Tables.{net_of, nodes_of}
 use Rattle.hmsc_graph.specs.Nets.{size_of}
 use Rattle.hmsc_graph.specs.Spots.{spot_of, goal_of}
-use Rattle.permit_step.proofs.NodeTerms.{sizes-are}
+use Rattle.term_permission.proofs.NodeTerms.{sizes-are}
 use Rattle.permit_step.proofs.Passes.{node-more, node-done}
 use Rattle.permit_step.proofs.descent.next_node.Goals as goal
 

@@ -1,7 +1,7 @@
 use Rattle.std.proofs.Common.{arith}
 use Rattle.chart_term.specs.Rows.{part_of}
 use Rattle.permit_step.proofs.Passes.{over-more, over-next, loop-step, loop-end}
-use Rattle.permit_step.proofs.PermitRows.{ready-part}
+use Rattle.term_permission.proofs.PermitRows.{ready-part}
 use Rattle.permit_step.proofs.descent.next_turn.Goals as goal
 
 pub turn_of-requires-clause-part : goal.turn_of-requires-clause-part

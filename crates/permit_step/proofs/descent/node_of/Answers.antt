@@ -3,9 +3,9 @@ use Rattle.chart_term.specs.NormalForms.{only}
 use Rattle.chart_term.specs.Tables.{net_of, node_of, nodes_of}
 use Rattle.chart_term.specs.Terms.{Tree}
 use Rattle.hmsc_graph.specs.Nets.{size_of}
-use Rattle.permit_step.specs.Ready.{IsReady}
+use Rattle.term_permission.specs.Ready.{IsReady}
 use Rattle.permit_step.proofs.Descending.{alone-block}
-use Rattle.permit_step.proofs.NodeTerms.{node-is, sizes-are}
+use Rattle.term_permission.proofs.NodeTerms.{node-is, sizes-are}
 use Rattle.permit_step.proofs.Passes.{child-or, node-lacks}
 use Rattle.term_laws.specs.Permission.{kept_of, permit, permits_of}
 use Rattle.permit_step.proofs.descent.node_of.Goals as goal

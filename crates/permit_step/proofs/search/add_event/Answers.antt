@@ -1,6 +1,6 @@
 use Rattle.std.proofs.Common.{subst}
 use Rattle.chart_term.specs.Terms.{Tree}
-use Rattle.permit_step.specs.Gone.{AreLinked}
+use Rattle.permit_step.specs.Kept.{AreLinked}
 use Rattle.term_laws.specs.Permission.{permits_of}
 use Rattle.chart_term.specs.Views.{event_of}
 use Rattle.permit_step.proofs.Searching.{one-rebuilt, own-gathered}

@@ -1,6 +1,6 @@
 use Rattle.std.proofs.Common.{◌≡◌, [], length}
 use Rattle.chart_term.specs.Properties.{Each}
-use Rattle.permit_step.specs.Ready.{IsReady}
+use Rattle.term_permission.specs.Ready.{IsReady}
 use Rattle.walk_bench.proofs.ring.nodes.Given as goal
 
 abbrev pub invariant-loop-number : goal.invariant-loop-number

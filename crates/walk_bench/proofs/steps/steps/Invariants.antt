@@ -1,4 +1,4 @@
-use Rattle.permit_step.specs.Ready.{IsReady}
+use Rattle.term_permission.specs.Ready.{IsReady}
 use Rattle.walk_bench.proofs.steps.steps.Given as goal
 
 abbrev pub invariant-loop-taken : goal.invariant-loop-taken

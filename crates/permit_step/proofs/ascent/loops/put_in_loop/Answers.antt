@@ -4,19 +4,19 @@ use Rattle.chart_term.specs.NormalForms.{only}
 use Rattle.chart_term.specs.Rows.{part_of}
 use Rattle.chart_term.specs.Properties.{EachTurn}
 use Rattle.chart_term.specs.Terms.{Tree, Part}
-use Rattle.permit_step.specs.Ready.{AreReadyParts}
+use Rattle.term_permission.specs.Ready.{AreReadyParts}
 use Rattle.term_laws.specs.Normality.{AreApart, IsNotNil}
 use Rattle.term_laws.specs.Listing.{may_begin}
 use Rattle.term_laws.specs.Permission.{permit, permits_of}
-use Rattle.permit_step.specs.RowRests.{keep_parts, no_rest, rest_end, turn_before}
+use Rattle.term_permission.specs.RowRests.{keep_parts, no_rest, rest_end, turn_before}
 use Rattle.permit_step.specs.Searches.{is_gap, tail_of}
 use Rattle.term_laws.specs.Taking.{fewer, down}
 use Rattle.term_laws.specs.Values.{block_of}
 use Rattle.permit_step.proofs.LoopLeft.{loop-shut, loop-none, loop-some, counts-are}
 use Rattle.permit_step.proofs.Ascending.{apart-drop}
-use Rattle.permit_step.proofs.Joins.{each-drop, each-take}
-use Rattle.permit_step.proofs.PermitRows.{ready-take}
-use Rattle.permit_step.proofs.PermitLoops.{if-kept, if-lost}
+use Rattle.term_permission.proofs.Joins.{each-drop, each-take}
+use Rattle.term_permission.proofs.PermitRows.{ready-take}
+use Rattle.term_permission.proofs.PermitLoops.{if-kept, if-lost}
 use Rattle.permit_step.proofs.ascent.loops.put_in_loop.Goals as goal
 
 pub returns-then-branch : goal.returns-then-branch

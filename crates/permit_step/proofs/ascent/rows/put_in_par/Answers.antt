@@ -4,7 +4,7 @@ use Rattle.chart_term.specs.Views.{event_of}
 use Rattle.term_laws.specs.Permission.{permits_of}
 use Rattle.permit_step.proofs.Ascending.{par-whole}
 use Rattle.msc_base.specs.Patterns.{par}
-use Rattle.permit_step.proofs.Joins.{turns-take}
+use Rattle.term_permission.proofs.Joins.{turns-take}
 use Rattle.permit_step.proofs.KeptNumbers.{join_keeps}
 use Rattle.permit_step.proofs.ascent.rows.put_in_par.Goals as goal
 

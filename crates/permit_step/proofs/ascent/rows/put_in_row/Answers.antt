@@ -3,13 +3,13 @@ use Rattle.chart_term.specs.NormalForms.{begun, has_gap}
 use Rattle.chart_term.specs.Properties.{EachTurn}
 use Rattle.chart_term.specs.Terms.{Part}
 use Rattle.msc_base.specs.Patterns.{seq}
-use Rattle.permit_step.specs.Lefts.{opened_left}
-use Rattle.permit_step.specs.Ready.{IsReady}
+use Rattle.term_permission.specs.Lefts.{opened_left}
+use Rattle.term_permission.specs.Ready.{IsReady}
 use Rattle.term_laws.specs.Normality.{IsPartOf}
 use Rattle.term_laws.specs.Permission.{permits_of}
 use Rattle.term_laws.specs.Values.{block_of}
 use Rattle.permit_step.proofs.Ascending.{row-none, row-whole}
-use Rattle.permit_step.proofs.Joins.{each-take, turns-take}
+use Rattle.term_permission.proofs.Joins.{each-take, turns-take}
 use Rattle.permit_step.proofs.KeptNumbers.{join_keeps}
 use Rattle.permit_step.proofs.ascent.rows.put_in_row.Goals as goal
 

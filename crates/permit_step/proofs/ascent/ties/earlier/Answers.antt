@@ -1,6 +1,6 @@
 use Rattle.std.proofs.Common.{◌+◌, ◌∙◌, sym, ap, arith}
 use Rattle.bit_sets.specs.Blocks.{BlockValue}
-use Rattle.permit_step.proofs.Retying.{added_all, added_more, added_none, added_on, added_within}
+use Rattle.permit_step.proofs.EarlierPairs.{added_all, added_more, added_none, added_on, added_within}
 use Rattle.permit_step.proofs.ascent.ties.earlier.Goals as goal
 
 pub loop-at-init : goal.loop-at-init

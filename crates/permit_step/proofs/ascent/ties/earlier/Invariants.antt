@@ -1,5 +1,5 @@
 use Rattle.std.proofs.Common.{◌≡◌, [], ◌-◌, length}
-use Rattle.permit_step.proofs.Retying.{IsAdded}
+use Rattle.permit_step.proofs.EarlierPairs.{IsAdded}
 use Rattle.permit_step.proofs.ascent.ties.earlier.Given as goal
 
 abbrev pub invariant-loop-at : goal.invariant-loop-at

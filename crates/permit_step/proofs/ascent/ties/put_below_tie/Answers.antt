@@ -3,11 +3,11 @@ use Rattle.std.proofs.Common.{◌∙◌, ap, sym, Some}
 use Rattle.chart_term.specs.NormalForms.{numbers, tie_of}
 use Rattle.chart_term.specs.Terms.{Tree}
 use Rattle.chart_term.specs.Views.{pairs_of}
-use Rattle.permit_step.specs.Lefts.{left_of}
-use Rattle.permit_step.specs.declared.left.Left.{Left}
+use Rattle.term_permission.specs.Lefts.{left_of}
+use Rattle.term_permission.specs.declared.left.Left.{Left}
 use Rattle.permit_step.proofs.Ascending.{tie-permits}
 use Rattle.permit_step.proofs.KeptNumbers.{none_beside}
-use Rattle.permit_step.proofs.Retying.{shown_by_kept}
+use Rattle.term_permission.proofs.Retying.{shown_by_kept}
 use Rattle.permit_step.proofs.ascent.ties.put_below_tie.Goals as goal
 
 pub retied-requires-clause-shown : goal.retied-requires-clause-shown

@@ -1,0 +1,9 @@
+pub mod Drawing
+pub mod Numbering
+pub mod Bars
+pub mod LastBars
+pub mod Fronts
+pub mod Items
+pub mod LevelSteps
+pub mod Ranking
+pub mod Sorting

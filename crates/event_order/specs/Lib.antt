@@ -1,0 +1,4 @@
+pub mod RankedBodies
+pub mod Precedence
+pub mod OrderLaws
+pub mod Webs

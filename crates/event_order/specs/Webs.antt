@@ -1,0 +1,167 @@
+-- Serves private contracts alone.
+-- What is drawn of a body: which events are to come before which, and at an instance before and behind bars.
+use Rattle.std.specs.Prelude.{ℕ, ◌≡◌, ◌<◌, ◌≤◌, ◌+◌, ◌⊎◌, Bool, true, false, List, [], ◌∷◌, ◌++◌, Option, Some, slice_get}
+use Rattle.item_order.specs.Counts.{Leads}
+use Rattle.item_order.specs.declared.edge.Edge.{Edge}
+use Rattle.msc_base.specs.Lists.{AreDifferent}
+use Rattle.msc_base.specs.Orders.{Among}
+use Rattle.msc_meaning.specs.Bodies.{EventNode, Items, no_items, item_and}
+use Rattle.event_order.specs.Precedence.{ComesFirst}
+use Rattle.event_order.specs.RankedBodies.{is_exception, item_within}
+use Rattle.event_order.specs.declared.web.Stop.{Stop}
+use Rattle.event_order.specs.declared.web.Web.{Web}
+
+-- u is drawn before v: as a pair, or before a bar behind which v is
+pub record PassesBar (w : Web) (u v : ℕ) : Type 0 where
+  pub bar : ℕ
+  pub before : Leads w.before u bar
+  pub behind : Leads w.behind bar v
+
+abbrev pub IsDrawn : Web → ℕ → ℕ → Type 0
+IsDrawn w u v = Leads w.pairs u v ⊎ PassesBar w u v
+
+-- the names differ, and there are as many bars
+pub record IsTidy (w : Web) : Type 0 where
+  pub different : AreDifferent w.names
+  pub before : (u b : ℕ) → Leads w.before u b → b < w.bars
+  pub behind : (b v : ℕ) → Leads w.behind b v → b < w.bars
+
+-- ranks of events and of bars that rise along what is drawn
+pub record Rises (rank bar : ℕ → ℕ) (w : Web) : Type 0 where
+  pub pairs : (u v : ℕ) → Leads w.pairs u v → rank u < rank v
+  pub before : (u b : ℕ) → Leads w.before u b → rank u < bar b
+  pub behind : (b v : ℕ) → Leads w.behind b v → bar b < rank v
+
+-- more is drawn, and nothing more before the bars that were there
+pub record Grows (old new : Web) : Type 0 where
+  pub names : (k : ℕ) (at : List ℕ) → slice_get old.names k ≡ Some at → slice_get new.names k ≡ Some at
+  pub bars : old.bars ≤ new.bars
+  pub pairs : (u v : ℕ) → Leads old.pairs u v → Leads new.pairs u v
+  pub before : (u b : ℕ) → Leads old.before u b → Leads new.before u b
+  pub behind : (b v : ℕ) → Leads old.behind b v → Leads new.behind b v
+  pub same : (u b : ℕ) → Leads new.before u b → b < old.bars → Leads old.before u b
+
+-- the stop has the event's number, and that of its instance
+pub record IsStop (names : List (List ℕ)) (s : Stop) (e : EventNode) : Type 0 where
+  pub column : slice_get names s.column ≡ Some e.at
+  pub number : s.number ≡ e.number
+
+abbrev pub AreStops : List (List ℕ) → List Stop → List EventNode → Type 0
+AreStops names [] [] = Unit {0}
+AreStops names [] (e ∷ es) = ⊥
+AreStops names (s ∷ stops) [] = ⊥
+AreStops names (s ∷ stops) (e ∷ es) = IsStop names s e × AreStops names stops es
+
+-- between the two webs these events were drawn, which were handed out as stops: of them u before v where Asks says so, and no others
+pub record AreDrawn (Asks : ℕ → ℕ → Type 0) (es : List EventNode) (old new : Web) (stops : List Stop) : Type 0 where
+  pub tidy : IsTidy new
+  pub grown : Grows old new
+  pub handed : AreStops new.names stops es
+  pub rises : (rank bar : ℕ → ℕ) → Rises rank bar new → (u v : ℕ) → Asks u v → rank u < rank v
+  pub asked : (u v : ℕ) → IsDrawn new u v → IsDrawn old u v ⊎ Asks u v
+
+-- nothing is asked
+abbrev pub Nothing : ℕ → ℕ → Type 0
+Nothing u v = ⊥
+
+-- some of the pairs is u before v
+abbrev pub OneOf : (ℕ → ℕ → Type 0) → (ℕ → ℕ → Type 0) → ℕ → ℕ → Type 0
+OneOf Asks Others u v = Asks u v ⊎ Others u v
+
+-- ---- stops, and the last bar of each instance
+
+-- one of the stops is at that instance and has that number
+abbrev pub HasStop : List Stop → ℕ → ℕ → Type 0
+HasStop [] k n = ⊥
+HasStop (s ∷ stops) k n = ((s.column ≡ k) × (s.number ≡ n)) ⊎ HasStop stops k n
+
+-- of the instance that bar is the last: it was and isn't below the first, or it is new
+pub record IsBarAt (old new : Web) (was last : ℕ → Option ℕ) (first column bar : ℕ) : Type 0 where
+  pub names : new.names ≡ old.names
+  pub pairs : new.pairs ≡ old.pairs
+  pub before : new.before ≡ old.before
+  pub behind : new.behind ≡ old.behind
+  pub here : last column ≡ Some bar
+  pub others : (k : ℕ) → (k ≡ column → ⊥) → last k ≡ was k
+  pub which : ((was column ≡ Some bar) × (first ≤ bar) × (new.bars ≡ old.bars)) ⊎ ((bar ≡ old.bars) × (new.bars ≡ old.bars + 1) × ((b : ℕ) → was column ≡ Some b → b < first))
+
+-- of an instance that has a last bar, that is drawn before each of the stops there
+pub record AreEntered (old new : Web) (last : ℕ → Option ℕ) (stops : List Stop) : Type 0 where
+  pub names : new.names ≡ old.names
+  pub bars : new.bars ≡ old.bars
+  pub pairs : new.pairs ≡ old.pairs
+  pub before : new.before ≡ old.before
+  pub kept : (b v : ℕ) → Leads old.behind b v → Leads new.behind b v
+  pub drawn : (k b v : ℕ) → HasStop stops k v → last k ≡ Some b → Leads new.behind b v
+  pub only : (b v : ℕ) → Leads new.behind b v → Leads old.behind b v ⊎ ((k : ℕ) × HasStop stops k v × (last k ≡ Some b))
+
+-- the stops are drawn before a new bar at their instance, which is its last then
+pub record AreLeft (old new : Web) (was last : ℕ → Option ℕ) (stops : List Stop) : Type 0 where
+  pub names : new.names ≡ old.names
+  pub pairs : new.pairs ≡ old.pairs
+  pub behind : new.behind ≡ old.behind
+  pub bars : old.bars ≤ new.bars
+  pub kept : (u b : ℕ) → Leads old.before u b → Leads new.before u b
+  -- of each stop
+  pub drawn : (k u : ℕ) → HasStop stops k u → (b : ℕ) × (last k ≡ Some b) × (old.bars ≤ b) × Leads new.before u b
+  -- nothing else is drawn
+  pub only : (u b : ℕ) → Leads new.before u b → Leads old.before u b ⊎ ((k : ℕ) × HasStop stops k u × (last k ≡ Some b) × (old.bars ≤ b))
+  -- a last bar is that of before, or new, and then no other instance's, and some stop is there
+  pub come : (k b : ℕ) → last k ≡ Some b → (was k ≡ Some b) ⊎ ((old.bars ≤ b) × (b < new.bars) × (n : ℕ) × HasStop stops k n)
+  pub apart : (k l b : ℕ) → last k ≡ Some b → last l ≡ Some b → old.bars ≤ b → k ≡ l
+  pub stayed : (k b : ℕ) → was k ≡ Some b → (last k ≡ Some b) ⊎ ((n : ℕ) × HasStop stops k n)
+
+-- the last bars stand behind these events at their instances, and behind no others
+pub record IsFront (w : Web) (last : ℕ → Option ℕ) (es : List EventNode) : Type 0 where
+  pub low : (k b : ℕ) → last k ≡ Some b → b < w.bars
+  pub rises : (rank bar : ℕ → ℕ) → Rises rank bar w → (e : EventNode) → Among e es → (k : ℕ) × (b : ℕ) × (slice_get w.names k ≡ Some e.at) × (last k ≡ Some b) × (rank e.number < bar b)
+  pub only : (k b u : ℕ) → last k ≡ Some b → Leads w.before u b → (e : EventNode) × Among e es × (slice_get w.names k ≡ Some e.at) × (e.number ≡ u)
+
+-- the events that come before a later item
+abbrev pub with_item : Bool → List EventNode → List EventNode → List EventNode
+with_item true front es = front
+with_item false front es = front ++ es
+
+-- the item of these events, which is an exception or isn't, stands behind the front, and belongs to it then
+pub record IsPut (old new : Web) (was last : ℕ → Option ℕ) (stays : Bool) (stops : List Stop) : Type 0 where
+  pub low : (k b : ℕ) → last k ≡ Some b → b < new.bars
+  pub drawn : (front es : List EventNode) → IsFront old was front → AreStops old.names stops es → AreDrawn (ComesFirst front es) [] old new []
+  pub front : (front es : List EventNode) → IsFront old was front → AreStops old.names stops es → IsFront new last (with_item stays front es)
+
+abbrev pub line_item : Bool → List EventNode → List EventNode
+line_item true es = []
+line_item false es = es
+
+-- the events of the items that aren't exceptions
+abbrev pub line : Items → List EventNode
+line no_items = []
+line (item_and x xs) = line_item (is_exception x) (item_within x) ++ line xs
+
+-- ---- edges between the numbers of events and those of bars, which stand behind them
+
+-- the events that are drawn have lower numbers
+pub record AreBelow (m : ℕ) (w : Web) : Type 0 where
+  pub first : (u v : ℕ) → Leads w.pairs u v → u < m
+  pub second : (u v : ℕ) → Leads w.pairs u v → v < m
+  pub before : (u b : ℕ) → Leads w.before u b → u < m
+  pub behind : (b v : ℕ) → Leads w.behind b v → v < m
+
+-- of one of the edges the ends are so much lower
+pub record IsMoved (edges : List Edge) (from_by to_by y x : ℕ) : Type 0 where
+  pub first : ℕ
+  pub second : ℕ
+  pub leads : Leads edges first second
+  pub from_is : first + from_by ≡ y
+  pub to_is : second + to_by ≡ x
+
+pub record AreAdded (edges : List Edge) (from_by to_by : ℕ) (old new : List Edge) : Type 0 where
+  pub kept : (y x : ℕ) → Leads old y x → Leads new y x
+  pub moved : (u v : ℕ) → Leads edges u v → Leads new (u + from_by) (v + to_by)
+  pub only : (y x : ℕ) → Leads new y x → Leads old y x ⊎ IsMoved edges from_by to_by y x
+
+-- what is drawn as edges
+pub record AreEdges (w : Web) (m : ℕ) (edges : List Edge) : Type 0 where
+  pub pairs : (u v : ℕ) → Leads w.pairs u v → Leads edges u v
+  pub before : (u b : ℕ) → Leads w.before u b → Leads edges u (b + m)
+  pub behind : (b v : ℕ) → Leads w.behind b v → Leads edges (b + m) v
+  pub only : (y x : ℕ) → Leads edges y x → Leads w.pairs y x ⊎ (IsMoved w.before 0 m y x ⊎ IsMoved w.behind m 0 y x)

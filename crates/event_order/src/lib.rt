@@ -1,0 +1,10 @@
+//! The order of the events of a body: whether they can be ranked, or their order is cyclic.
+#![tactic(auto)]
+
+pub mod laws;
+mod levels;
+mod ordering;
+mod web;
+
+pub use levels::is_exception;
+pub use ordering::is_cyclic;

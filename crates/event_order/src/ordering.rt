@@ -1,0 +1,123 @@
+//! Whether the order of a body's events is cyclic: what is drawn of it is sorted.
+
+ghost use Rattle.std.specs.Prelude.{◌≡◌, ◌<◌, ◌≤◌, ◌+◌, ◌^◌, [], ℕ, true, false, IfOk, OnOk};
+ghost use Rattle.item_order.specs.Counts.{Leads};
+ghost use Rattle.msc_meaning.specs.Views.{body_view};
+ghost use Rattle.event_order.specs.Precedence.{CanBeRanked, IsCyclic};
+ghost use Rattle.event_order.specs.Webs.{AreAdded, AreBelow, AreEdges, IsTidy};
+
+use crate::levels::draw_body;
+use crate::web::{Web, nothing};
+use item_order::{Edge, Sorted, sort_edges};
+use msc_base::{Items, NoMemory};
+use msc_meaning::Body;
+use std::alloc::Global;
+
+/// The least number that is no lower than this and above the other.
+fn above(least: u64, number: u32) -> u64
+    requires { least ≤ 2 ^ 32 }
+    ensures least { least ≤ result }
+    ensures above { number < result }
+    ensures most { result ≤ 2 ^ 32 }
+{
+    if least <= number as u64 {
+        number as u64 + 1
+    } else {
+        least
+    }
+}
+
+/// A number above those from which edges lead, and no lower than this.
+fn above_from(least: u64, edges: &[Edge]) -> u64
+    requires { least ≤ 2 ^ 32 }
+    ensures least { least ≤ result }
+    ensures above { (y x : ℕ) → Leads edges.now y x → y < result }
+    ensures most { result ≤ 2 ^ 32 }
+{
+    let mut number = least;
+    for edge in edges {
+        number = above(number, edge.from);
+    }
+    number
+}
+
+/// A number above those to which edges lead, and no lower than this.
+fn above_to(least: u64, edges: &[Edge]) -> u64
+    requires { least ≤ 2 ^ 32 }
+    ensures least { least ≤ result }
+    ensures above { (y x : ℕ) → Leads edges.now y x → x < result }
+    ensures most { result ≤ 2 ^ 32 }
+{
+    let mut number = least;
+    for edge in edges {
+        number = above(number, edge.to);
+    }
+    number
+}
+
+/// A number above those of the events that are drawn.
+fn above_events(web: &Web) -> u64
+    ensures below { AreBelow result web.now }
+    ensures most { result ≤ 2 ^ 32 }
+{
+    let first = above_from(0, web.pairs.as_slice());
+    let second = above_to(first, web.pairs.as_slice());
+    let before = above_from(second, web.before.as_slice());
+    above_to(before, web.behind.as_slice())
+}
+
+/// Appends the edges, with numbers that are so much higher.
+fn add_edges(
+    list: &mut Items<Edge>,
+    edges: &[Edge],
+    from_by: u32,
+    to_by: u32,
+) -> Result<(), NoMemory>
+    requires { (y x : ℕ) → Leads edges.now y x → (y + from_by < 2 ^ 32) × (x + to_by < 2 ^ 32) }
+    ensures { OnOk result (AreAdded edges.now from_by to_by list.old list.new) }
+{
+    for edge in edges {
+        list.push(Edge {
+            from: edge.from + from_by,
+            to: edge.to + to_by,
+        })?;
+    }
+    Ok(())
+}
+
+/// What is drawn as edges between numbers: those of the bars stand behind those of the events.
+fn edges_of(alloc: Global, web: &Web, events: u32) -> Result<Items<Edge>, NoMemory>
+    requires tidy { IsTidy web.now }
+    requires below { AreBelow events web.now }
+    requires room { events + web.now.bars < 2 ^ 32 }
+    ensures { IfOk result (AreEdges web.now events) }
+{
+    let mut list = Items::new(alloc);
+    add_edges(&mut list, web.pairs.as_slice(), 0, 0)?;
+    add_edges(&mut list, web.before.as_slice(), 0, events)?;
+    add_edges(&mut list, web.behind.as_slice(), events, 0)?;
+    Ok(list)
+}
+
+/// Whether the order of the body's events is cyclic; if not, they can be ranked. It fails only for want of memory, for which it
+/// takes 2^32 edges too. It takes n log n time, n being the events, each as often as levels hold it.
+pub fn is_cyclic(alloc: Global, body: &Body) -> Result<bool, NoMemory>
+    ensures cyclic { IfOk result (λ cyclic. cyclic ≡ true → IsCyclic (body_view body.now)) }
+    ensures ranked { IfOk result (λ cyclic. cyclic ≡ false → CanBeRanked (body_view body.now)) }
+{
+    let mut web = nothing(alloc);
+    draw_body(alloc, &mut web, body)?;
+    let events = above_events(&web);
+    let all = events + web.bars as u64;
+    if all > u32::MAX as u64 {
+        return Err(NoMemory);
+    }
+    let edges = edges_of(alloc, &web, events as u32)?;
+    if edges.len() > u32::MAX as usize {
+        return Err(NoMemory);
+    }
+    match sort_edges(alloc, all as u32, edges.as_slice())? {
+        Sorted::Whole(_) => Ok(false),
+        Sorted::Stuck(_) => Ok(true),
+    }
+}

@@ -1,0 +1,5 @@
+mod Groups
+mod FirstSteps
+mod Tests
+pub mod ViewFacts
+pub mod NamesOnce

@@ -1,0 +1,12 @@
+pub mod Walks
+pub mod Positions
+pub mod NumberedPieces
+pub mod ItemLaws
+pub mod NumberLaws
+pub mod ColumnLaws
+pub mod ViewFacts
+pub mod StepLaws
+pub mod ReadLaws
+pub mod OperandLaws
+pub mod Sizes
+pub mod LeastLaws

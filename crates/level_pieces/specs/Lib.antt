@@ -1,0 +1,8 @@
+pub mod PieceViews
+pub mod PieceNumbers
+pub mod Earliest
+pub mod Unwoven
+pub mod ItemNumbers
+pub mod ItemEdges
+pub mod ItemParts
+pub mod ItemOperands

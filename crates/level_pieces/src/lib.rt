@@ -1,0 +1,23 @@
+//! What stands on a level of a basic chart as it is written: its pieces with their events numbered, its items with their parts and
+//! operands, and the columns that these stand in.
+#![tactic(auto)]
+
+mod columns;
+mod counting;
+mod covers;
+mod items;
+mod noting;
+mod numbering;
+mod operands;
+mod pieces;
+mod references;
+mod unwoven;
+
+pub use columns::woven_order;
+pub use counting::sum_of;
+pub use covers::covered;
+pub use items::{LevelItems, copied_events_of, copied_reference, level_items};
+pub use noting::{earlier_of, earliest_place, note_if};
+pub use operands::{LevelNames, item_operands, operands_of_form};
+pub use pieces::{LevelItem, Part, Piece, Setting, chart_pieces, lead_of};
+pub use unwoven::first_unwoven;

@@ -1,0 +1,64 @@
+-- Items that are an event or a coregion.
+use Rattle.std.proofs.Common.{◌≡◌, ℕ, Bool, true, false, List, [], ◌∷◌, ◌++◌, None, refl, sym, ap, ◌∙◌}
+use Rattle.msc_base.specs.declared.place.Place.{Place}
+use Rattle.msc_tree.specs.Statements.{Form, Single, Coregion, Condition, Inline, Refer, Stop}
+use Rattle.msc_meaning.specs.Bodies.{Item}
+use Rattle.msc_meaning.specs.LevelItems.{cover_of, name_of}
+use Rattle.msc_meaning.specs.Levels.{IsWovenItem, an_event, a_coregion, an_inline, a_reference}
+use Rattle.msc_meaning.specs.Partners.{ItemLacksPartner}
+use Rattle.msc_meaning.specs.Pieces.{Piece, operand_of}
+use Rattle.level_pieces.specs.ItemParts.{AreParts, has_events}
+use Rattle.level_pieces.specs.Unwoven.{is_at_one, unwoven_form}
+use Rattle.level_pieces.proofs.ItemLaws.{each_woven}
+use Rattle.level_weaving.specs.Answers.{ItemCrosses}
+use Rattle.level_weaving.proofs.LevelLaws.{empty_uncrossed}
+
+at_one_form : (b : Bool) (place : Place) (f : Form) → unwoven_form b place f ≡ [] → has_events f ≡ true → b ≡ true
+at_one_form true place f h is = refl
+at_one_form false place (Single e) h is = cc
+at_one_form false place (Coregion es) h is = cc
+at_one_form false place (Condition names shared) h is = cc
+at_one_form false place (Inline head held) h is = cc
+at_one_form false place (Refer r) h is = cc
+at_one_form false place Stop h is = cc
+
+-- it stands at one instance
+pub event_at_one : (p : Piece) (others : List Piece) → AreParts (p ∷ others) → has_events p.form ≡ true → is_at_one p.leads ≡ true
+event_at_one p others are is = at_one_form (is_at_one p.leads) p.place p.form (each_woven (p ∷ others) are.2).0 is
+
+unnamed : (f : Form) → has_events f ≡ true → name_of f ≡ None
+unnamed (Single e) is = refl
+unnamed (Coregion es) is = refl
+unnamed (Condition names shared) is = cc
+unnamed (Inline head held) is = cc
+unnamed (Refer r) is = cc
+unnamed Stop is = cc
+
+no_operand : (c : List (List ℕ)) (k : ℕ) (p : Piece) (f : Form) → has_events f ≡ true → operand_of c k p f ≡ []
+no_operand c k p (Single e) is = refl
+no_operand c k p (Coregion es) is = refl
+no_operand c k p (Condition names shared) is = cc
+no_operand c k p (Inline head held) is = cc
+no_operand c k p (Refer r) is = cc
+no_operand c k p Stop is = cc
+
+event_uncrossed : (level : List (List ℕ)) (p : Piece) (q : Place) → has_events p.form ≡ true → ItemCrosses level (p ∷ []) q → ⊥
+event_uncrossed level p q is h = empty_uncrossed (ap (λ (l : List Piece). l ++ []) (no_operand (cover_of level p) h.0 p p.form is)) h.1
+
+event_matched : {level : List (List ℕ)} {parts : List Piece} {item : Item} (p : Piece) (q : Place) → parts ≡ p ∷ [] → has_events p.form ≡ true → IsWovenItem level parts item → ItemLacksPartner item q → ⊥
+event_matched p q e is (an_event f l) h = h
+event_matched p q e is (a_coregion f l) h = h
+event_matched p q e is (an_inline {p = r} {head = head} {operands = held} f l) h =
+    let same : r ≡ p = cc in
+    let bad : has_events (Inline head held) ≡ true = sym (ap has_events (sym (ap (λ (z : Piece). z.form) same) ∙ f)) ∙ is in cc
+event_matched p q e is (a_reference f) h = h
+
+-- it has one part, and nothing stands inside it
+pub record IsEventItem (level : List (List ℕ)) (parts : List Piece) (item : Item) : Type 0 where
+  pub woven : IsWovenItem level parts item
+  pub uncrossed : (q : Place) → ItemCrosses level parts q → ⊥
+  pub matched : (q : Place) → ItemLacksPartner item q → ⊥
+
+pub event_is : (level : List (List ℕ)) (p : Piece) (others : List Piece) (item : Item) → AreParts (p ∷ others) → has_events p.form ≡ true → IsWovenItem level (p ∷ []) item → IsEventItem level (p ∷ others) item
+event_is level p [] item are is w = record { woven = w; uncrossed = λ q h. event_uncrossed level p q is h; matched = λ q h. event_matched p q refl is w h }
+event_is level p (r ∷ others) item are is w = absurd (are.1 (unnamed p.form is))

@@ -1,6 +1,0 @@
-use Rattle.std.proofs.Common.{take}
-use Rattle.permit_step.specs.Passing.{HaveCommon}
-use Rattle.permit_step.proofs.passing.has_one_of.Given as goal
-
-abbrev pub invariant-loop-node : goal.invariant-loop-node
-invariant-loop-node l = HaveCommon (take l.node-index l.nodes) l.set.nodes → ⊥

@@ -1,0 +1,11 @@
+pub mod RowRests
+pub mod RowEnds
+pub mod Ready
+pub mod ReadyLaws
+pub mod Passing
+pub mod Remnants
+pub mod Endings
+pub mod Fresh
+pub mod ReadyBySoundness
+pub mod Lefts
+pub mod Gone

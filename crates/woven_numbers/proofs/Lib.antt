@@ -1,0 +1,4 @@
+mod Regions
+mod ItemRegions
+mod OperandRegions
+pub mod Differing
