@@ -11,7 +11,7 @@ use Rattle.trace_judge.specs.Sets.{SetValue}
 use Rattle.trace_judge.specs.contracts.residuals.ResidualsStore.TheImpl.{holds-value}
 use Rattle.trace_judge.specs.States.{JudgeValue, Fed, IsGoing, Stands}
 use Rattle.trace_judge.specs.declared.fault.JudgeFault.{JudgeFault}
-use Rattle.msc_acceptance.specs.EventCharts.{HasEventsAlone}
+use Rattle.msc_acceptance.specs.AcceptedCharts.{IsAcceptedChart}
 use Rattle.msc_meaning.specs.Tables.{ChartEntry}
 use Rattle.chart_judge.specs.ChartsTold.{VerdictsAreTold}
 use Rattle.chart_judge.specs.ChartTerms.{IsTermOf}
@@ -37,10 +37,10 @@ counted v x form budget bytes judge fed faultless =
 
 -- ---- a judge of a chart
 
-pub judging : (chart : ChartEntry) (form : LogForm) (budget : ℕ) (v : NetsValue) (x : Tree) (judge : JudgeValue SetValue) → HasEventsAlone chart → IsTermOf chart v x → Fed holds-value.it v x form budget [] judge → judge.fault ≡ None
+pub judging : (chart : ChartEntry) (form : LogForm) (budget : ℕ) (v : NetsValue) (x : Tree) (judge : JudgeValue SetValue) → IsAcceptedChart chart → IsTermOf chart v x → Fed holds-value.it v x form budget [] judge → judge.fault ≡ None
     → IsJudging chart form budget [] judge
-judging chart form budget v x judge alone made fed faultless = record {
-  alone = alone;
+judging chart form budget v x judge accepted made fed faultless = record {
+  accepted = accepted;
   tables = v;
   term = x;
   made = made;
@@ -56,7 +56,7 @@ pub fed_more : {T : Type 0} (chart : ChartEntry) (form : LogForm) (budget : ℕ)
 fed_more chart form budget bytes piece old new (Ok t) fault goes j =
     let fed = goes j.tables j.term form budget bytes j.fed in
     let faultless : new.fault ≡ None = sym fault in
-    record { alone = j.alone; tables = j.tables; term = j.term; made = j.made; fed = fed; faultless = faultless; counted = counted j.tables j.term form budget (bytes ++ piece) new fed faultless }
+    record { accepted = j.accepted; tables = j.tables; term = j.term; made = j.made; fed = fed; faultless = faultless; counted = counted j.tables j.term form budget (bytes ++ piece) new fed faultless }
 fed_more chart form budget bytes piece old new (Err e) fault goes j = tt
 
 -- it ends
@@ -65,5 +65,5 @@ pub told_verdict : VerdictsAreTold → {E : Type 0} (chart : ChartEntry) (form :
     → IfOk result (IsVerdictOn chart form budget bytes)
 told_verdict told chart form budget bytes judge (Ok verdict) ends j =
     let judged = ends j.tables j.term form budget bytes j.fed in
-    record { log = judged.log; is = λ table name is. told table name chart j.tables j.term budget judged.log.events verdict is j.alone j.made judged.verdict_is }
+    record { log = judged.log; is = λ table name is. told table name chart j.tables j.term budget judged.log.events verdict is j.accepted j.made judged.verdict_is }
 told_verdict told chart form budget bytes judge (Err e) ends j = tt

@@ -8,13 +8,13 @@ use Rattle.msc_meaning.specs.Bodies as body
 use Rattle.msc_meaning.specs.Tables as table
 use Rattle.msc_meaning.specs.Views.{body_step, body_view, content_view, entry_view, inline_step, item_step}
 use Rattle.chart_term.specs.Terms.{Tree}
-use Rattle.level_terms.specs.BuiltBodies.{IsTooLong, event_count, is_built}
+use Rattle.chart_forms.specs.BuiltBodies.{IsTooLong, event_count, is_built}
 use Rattle.level_terms.specs.LevelTerms.{chart_tables, chart_term}
 use Rattle.term_tables.specs.NetValues.{NetsValue}
-use Rattle.msc_acceptance.specs.EventCharts.{HasEventsAlone}
+use Rattle.msc_acceptance.specs.AcceptedCharts.{IsAcceptedChart}
 use Rattle.msc_acceptance.specs.Listing.{cover_of}
 use Rattle.chart_judge.specs.ChartTerms.{IsTermOf}
-use Rattle.chart_judge.proofs.Bodies.{built, few, held}
+use Rattle.chart_judge.proofs.Bodies.{few}
 use Rattle.chart_judge.proofs.Known.{same_body}
 
 cover_is : (b : Body) → cover_of (body_view b) ≡ (out-Body b).cover
@@ -32,22 +32,22 @@ module _ (chart : ChartEntry) (b : Body) (names : List (List ℕ)) (is : chart.c
     term = term ∙ ap (λ (ns : List (List ℕ)). chart_term ns (body_view b)) (are ∙ sym (cover_is b));
   }
 
-  module _ (alone : HasEventsAlone (entry_view chart)) where
-    same : body_view b ≡ held (entry_view chart) alone
-    same = same_body (body_view b) (held (entry_view chart) alone) (sym content ∙ alone.is)
+  module _ (accepted : IsAcceptedChart (entry_view chart)) where
+    same : body_view b ≡ accepted.body
+    same = same_body (body_view b) accepted.body (sym content ∙ accepted.is)
 
-    cover : names ≡ alone.cover
+    cover : names ≡ cover_of accepted.body
     cover = are ∙ sym (cover_is b) ∙ ap cover_of same
 
     pub is_made : is_built names (body_view b) ≡ false → ⊥
     is_made h =
-        let whole : is_built names (body_view b) ≡ is_built alone.cover (held (entry_view chart) alone) =
-        ap (λ (ns : List (List ℕ)). is_built ns (body_view b)) cover ∙ ap (λ (d : body.Body). is_built alone.cover d) same in
-        true≢false (sym (built (entry_view chart) alone) ∙ (sym whole ∙ h))
+        let whole : is_built names (body_view b) ≡ is_built (cover_of accepted.body) accepted.body =
+        ap (λ (ns : List (List ℕ)). is_built ns (body_view b)) cover ∙ ap (λ (d : body.Body). is_built (cover_of accepted.body) d) same in
+        true≢false (sym accepted.built ∙ (sym whole ∙ h))
 
     pub has_room : IsTooLong names (body_view b) → ⊥
     has_room long =
-        let within = few (entry_view chart) alone in
-        let count : event_count (body_view b) ≡ event_count (held (entry_view chart) alone) = ap event_count same in
+        let within = few (entry_view chart) accepted in
+        let count : event_count (body_view b) ≡ event_count accepted.body = ap event_count same in
         let over = long.full in
         omega (arith, within, count, over)

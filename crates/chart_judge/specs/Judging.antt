@@ -3,7 +3,7 @@ use Rattle.std.specs.Prelude.{ℕ, ◌≡◌, ◌≤◌, false, List, length, No
 use Rattle.msc_base.specs.Only.{Only}
 use Rattle.msc_base.specs.declared.limits.TheConstants.Limits.{LOG_BYTES}
 use Rattle.msc_base.specs.declared.verdict.Verdict.{Verdict}
-use Rattle.msc_acceptance.specs.EventCharts.{HasEventsAlone}
+use Rattle.msc_acceptance.specs.AcceptedCharts.{IsAcceptedChart}
 use Rattle.msc_meaning.specs.Tables.{ChartEntry, Table, chart_at}
 use Rattle.event_log.specs.States.{IsFaultOf}
 use Rattle.event_log.specs.declared.event.LogForm.{LogForm}
@@ -22,7 +22,7 @@ pub record HasCounted (bytes : List ℕ) (judge : JudgeValue SetValue) : Type 0 
 
 -- the judge was made for the chart, this form of log and this budget, has been fed these bytes, and met no fault
 pub record IsJudging (chart : ChartEntry) (form : LogForm) (budget : ℕ) (bytes : List ℕ) (judge : JudgeValue SetValue) : Type 0 where
-  pub alone : HasEventsAlone chart
+  pub accepted : IsAcceptedChart chart
   pub tables : NetsValue
   pub term : Tree
   pub made : IsTermOf chart tables term

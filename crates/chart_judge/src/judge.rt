@@ -3,7 +3,7 @@
 ghost use Rattle.std.specs.Prelude.{◌≡◌, ◌≤◌, ◌++◌, [], ℕ, List, false, IfOk, IfErr, IfSome, OnOk};
 ghost use Rattle.chart_judge.specs.Judging.{IsJudging, IsVerdictOn};
 ghost use Rattle.event_log.specs.declared.event.LogForm.{LogForm as Form};
-ghost use Rattle.msc_acceptance.specs.EventCharts.{HasEventsAlone};
+ghost use Rattle.msc_acceptance.specs.AcceptedCharts.{IsAcceptedChart};
 ghost use Rattle.msc_base.specs.declared.limits.TheConstants.Limits.{BUDGET_MOST};
 ghost use Rattle.msc_meaning.specs.Tables.{ChartEntry as Chart};
 ghost use Rattle.msc_meaning.specs.Views.{entry_view};
@@ -46,7 +46,7 @@ impl ChartJudge {
         form: LogForm,
         budget: u64,
     ) -> Result<ChartJudge, NoMemory>
-        requires alone { HasEventsAlone (entry_view chart.now) }
+        requires accepted { IsAcceptedChart (entry_view chart.now) }
         requires least { 1 ≤ budget }
         requires most { budget ≤ BUDGET_MOST }
         ensures { IfOk result (λ judge. IsJudging (entry_view chart.now) form budget [] judge) }

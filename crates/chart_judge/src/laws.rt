@@ -2,14 +2,15 @@
 
 ghost use Rattle.chart_judge.specs.ChartsTold.{ChartsHaveRuns, ChartsHaveTerms, VerdictsAreTold};
 
-use level_terms::laws::chart_terms_mean;
+use level_terms::laws::{chart_terms_mean, woven_bodies_have_few_pairs};
 use trace_judge::laws::verdicts_tell_runs;
 
-/// A chart has one term, which means the chart's unfoldings, is sound, and weighs no more than the chart's size.
+/// A chart has one term, which means the chart's unfoldings, is sound, and weighs no more than the chart's size and the limit of sizes.
 pub fn charts_have_terms()
     ensures { ChartsHaveTerms }
 {
     chart_terms_mean();
+    woven_bodies_have_few_pairs();
 }
 
 /// The verdict by what is left of a chart's term is the verdict by the chart, and there is no other.
@@ -20,7 +21,7 @@ pub fn verdicts_are_told()
     verdicts_tell_runs();
 }
 
-/// Each unfolding of a chart of events alone has a linear order, and a run of the chart begins with no label.
+/// Each unfolding of an accepted chart has a linear order, and a run of the chart begins with no label.
 pub fn charts_have_runs()
     ensures { ChartsHaveRuns }
 {

@@ -2,7 +2,7 @@
 
 ghost use Rattle.std.specs.Prelude.{◌≡◌, IfOk};
 ghost use Rattle.chart_judge.specs.ChartTerms.{IsTermOf};
-ghost use Rattle.msc_acceptance.specs.EventCharts.{HasEventsAlone};
+ghost use Rattle.msc_acceptance.specs.AcceptedCharts.{IsAcceptedChart};
 ghost use Rattle.msc_meaning.specs.Views.{entry_view};
 
 use level_terms::{ChartTerm, LevelFault, chart_of};
@@ -12,7 +12,7 @@ use std::alloc::Global;
 
 /// The term of the chart, and its tables. It fails only for want of memory.
 pub(crate) fn term_of(alloc: Global, chart: &ChartEntry) -> Result<ChartTerm, NoMemory>
-    requires { HasEventsAlone (entry_view chart.now) }
+    requires { IsAcceptedChart (entry_view chart.now) }
     ensures { IfOk result (λ made. IsTermOf (entry_view chart.now) made.nets made.term) }
 {
     match &chart.content {

@@ -21,7 +21,7 @@ use Rattle.msc_meaning.specs.Ties.{passing, past_inline}
 use Rattle.msc_meaning.specs.ChartUnfoldings.{OfEvents, OfItem, OfItems, OfLevel, OfSome, OfAll, OfForm}
 use Rattle.level_terms.proofs.LabelFacts.{among_left}
 use Rattle.level_terms.specs.BodyLabels.{HasLabels, body_labels, items_labels, item_labels, operands_labels}
-use Rattle.level_terms.specs.BuiltBodies.{is_built_node, are_built_nodes, is_built, are_built, is_built_item, have_built, event_count, events_count, item_count, operands_count}
+use Rattle.chart_forms.specs.BuiltBodies.{is_built_node, are_built_nodes, is_built, are_built, is_built_item, have_built, event_count, events_count, item_count, operands_count}
 use Rattle.level_terms.specs.LevelTerms.{one_of, placed, event_term, coregion_term, level_term, items_term, item_term, operand_terms, parallel_term}
 use Rattle.event_order.specs.RankedBodies.{is_exception}
 use Rattle.level_terms.specs.MadeParts.{AreFit, IsMade}

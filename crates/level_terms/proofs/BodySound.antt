@@ -26,7 +26,7 @@ use Rattle.msc_meaning.specs.Bodies.{EventNode, Body, level, Items, no_items, it
 use Rattle.msc_meaning.specs.EventLabels.{written_label}
 use Rattle.level_terms.specs.BareTerms.{IsBare}
 use Rattle.level_terms.specs.BodyLabels.{HasLabels, body_labels, items_labels, item_labels, operands_labels}
-use Rattle.level_terms.specs.BuiltBodies.{is_built_node, are_built_nodes, is_built, are_built, is_built_item, have_built, event_count, events_count, item_count, operands_count}
+use Rattle.chart_forms.specs.BuiltBodies.{is_built_node, are_built_nodes, is_built, are_built, is_built_item, have_built, event_count, events_count, item_count, operands_count}
 use Rattle.level_terms.specs.LevelTerms.{one_of, placed, event_term, coregion_term, level_term, items_term, item_term, operand_terms, parallel_term}
 use Rattle.event_order.specs.RankedBodies.{is_exception, DoPrecede, IsRanked, AreRanked, IsRankedItem, HaveRanked, events_within, items_within, item_within, operands_within}
 use Rattle.level_terms.specs.SoundParts.{numbers, IsForward, AreForward, IsForwardItem, HaveForward}

@@ -17,16 +17,14 @@ use Rattle.msc_meaning.specs.declared.body.EventNode as rust_event
 use Rattle.msc_meaning.specs.declared.body.Item as rust_item
 use Rattle.msc_meaning.specs.Bodies.{EventNode, Body, Item, Bodies}
 use Rattle.msc_meaning.specs.Views.{body_view, item_view, node_view}
-use Rattle.level_terms.specs.BuiltBodies.{creates_nobody, names_no_gate, is_plain, has_operands, is_built_node, are_built_nodes, is_built, are_built, is_built_item, have_built, event_count, events_count, item_count, operands_count}
+use Rattle.chart_forms.specs.BuiltBodies.{creates_nobody, names_no_gate, is_plain, has_operands, is_built_node, are_built_nodes, is_built, are_built, is_built_item, have_built, event_count, events_count, item_count, operands_count}
 use Rattle.general_ordering.specs.ItemViews.{inline_view, items_view, bodies_view}
-use Rattle.level_terms.specs.MadeParts.{IsPlaced}
 use Rattle.level_terms.proofs.PlainItems.{IsPlainFar}
 use Rattle.msc_meaning.specs.declared.body.Body.{out-Body}
 use Rattle.msc_meaning.specs.declared.body.InlineItem.{InlineItem, out-InlineItem}
 use Rattle.msc_meaning.specs.declared.body.Item.TheVariants as item
 use Rattle.msc_meaning.specs.declared.body.ReferenceItem.{ReferenceItem}
-use Rattle.level_terms.specs.declared.made.Made.{Made}
-use Rattle.level_terms.proofs.Dropped.{drop_all, drop_less}
+use Rattle.level_terms.proofs.Dropped.{drop_all, drop_less, none_left}
 use Rattle.general_ordering.proofs.ViewFacts.{body_is, inline_is, single_is, coregion_is, inline_item_is, reference_is}
 
 pub and_both : (a b : Bool) → (a && b) ≡ true → (a ≡ true) × (b ≡ true)
@@ -190,18 +188,11 @@ items_end xs i e = ap (λ (ys : List rust_item.Item). events_count (items_view y
 pub bodies_end : (bs : List rust_body.Body) (i : ℕ) → i ≡ length bs → operands_count (bodies_view (drop i bs)) ≡ 0
 bodies_end bs i e = ap (λ (cs : List rust_body.Body). operands_count (bodies_view cs)) (ap (λ k. drop k bs) e ∙ drop_all bs)
 
-none_left : (i : ℕ) → i ≤ 0 → i ≡ 0
-none_left i l = omega arith
-
 pub items_whole : (xs : List rust_item.Item) (i : ℕ) → i ≤ 0 → events_count (items_view (drop i xs)) ≡ events_count (items_view xs)
 items_whole xs i l = ap (λ k. events_count (items_view (drop k xs))) (none_left i l)
 
 pub bodies_whole : (bs : List rust_body.Body) (i : ℕ) → i ≤ 0 → operands_count (bodies_view (drop i bs)) ≡ operands_count (bodies_view bs)
 bodies_whole bs i l = ap (λ k. operands_count (bodies_view (drop k bs))) (none_left i l)
-
-pub placed_next : (b : Bool) (front rest made : Made) → IsPlaced b front rest made → made.next ≡ front.next
-placed_next true front rest made e = e.next
-placed_next false front rest made e = e.next
 
 -- ---- the tests
 

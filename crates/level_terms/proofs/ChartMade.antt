@@ -24,7 +24,7 @@ use Rattle.msc_meaning.specs.Tables.{Table, ChartEntry, chart_at, Woven, Basic, 
 use Rattle.msc_meaning.specs.ChartUnfoldings.{OfLevel, OfWoven, of_body, under}
 use Rattle.level_terms.specs.MadeParts.{AreFit, IsMade, IsPart, own_shown}
 use Rattle.level_terms.specs.BodyLabels.{HasLabels, body_labels}
-use Rattle.level_terms.specs.BuiltBodies.{event_count}
+use Rattle.chart_forms.specs.BuiltBodies.{event_count}
 use Rattle.level_terms.specs.declared.made.Made.{Made}
 use Rattle.level_terms.specs.LevelLaws.{ChartTermsMean}
 use Rattle.level_terms.specs.LevelTerms.{chart_tables, chart_term}

@@ -25,7 +25,7 @@ use Rattle.msc_meaning.specs.Bodies.{EventNode}
 use Rattle.msc_meaning.specs.EventLabels.{written_label}
 use Rattle.msc_meaning.specs.FarEnds.{Around, child_by, far_end, gate_tags, happening, no_far, written_far}
 use Rattle.msc_meaning.specs.InnerEvents.{GateEnd}
-use Rattle.level_terms.specs.BuiltBodies.{is_built_node}
+use Rattle.chart_forms.specs.BuiltBodies.{is_built_node}
 use Rattle.level_terms.specs.LevelTerms.{event_term}
 use Rattle.level_terms.specs.MadeParts.{IsMade}
 use Rattle.level_terms.proofs.PlainItems.{IsPlainEvent, IsPlainFar, IsPlainNode}

@@ -2,7 +2,7 @@
 -- expressions.
 use Rattle.std.specs.List.{position, slice_get}
 use Rattle.std.specs.Option.{unwrap_or}
-use Rattle.std.specs.Prelude.{ℕ, zero, suc, ◌+◌, ◌≤◌, Bool, true, false, List, [], ◌∷◌, ◌++◌, Option, Some, None, drop, length, map}
+use Rattle.std.specs.Prelude.{ℕ, zero, suc, ◌+◌, ◌≤◌, List, [], ◌∷◌, ◌++◌, Option, Some, None, drop, length, map}
 use Rattle.std.specs.Str.{bytes_eq}
 use Rattle.std.proofs.Common.{◌≡◌, sym, ◌∙◌, subst, ap, arith}
 use Rattle.msc_base.specs.declared.label.Label.{Label}
@@ -20,23 +20,18 @@ use Rattle.msc_meaning.specs.Bodies.{EventNode, InlinePart, Items, Inline, Bodie
 use Rattle.msc_meaning.specs.EventLabels.{written_label}
 use Rattle.msc_meaning.specs.Views.{body_view, item_view, node_view}
 use Rattle.level_terms.specs.BodyLabels.{HasLabels, body_labels, item_labels, items_labels, operands_labels}
-use Rattle.level_terms.specs.BuiltBodies.{events_count, operands_count}
+use Rattle.chart_forms.specs.BuiltBodies.{operands_count}
 use Rattle.level_terms.specs.declared.made.Made.{Made}
 use Rattle.general_ordering.specs.ItemViews.{items_view, bodies_view}
-use Rattle.level_terms.specs.LevelTerms.{one_of, placed, event_term, coregion_term, level_term, items_term, item_term, operand_terms, parallel_term}
-use Rattle.event_order.specs.RankedBodies.{is_exception}
-use Rattle.level_terms.specs.MadeParts.{IsNothing, IsFront, IsInstead, IsPlaced, IsPart, IsTied}
+use Rattle.level_terms.specs.LevelTerms.{one_of, event_term, coregion_term, level_term, items_term, item_term, operand_terms, parallel_term}
+use Rattle.level_terms.specs.MadeParts.{IsNothing, IsFront, IsInstead, IsPart, IsTied}
 use Rattle.msc_meaning.specs.Ties.{level_pairs}
-use Rattle.level_terms.specs.ShownNumbers.{shows, shown_events, shown_item, shown_items, tie_pairs}
+use Rattle.level_terms.specs.ShownNumbers.{shows, shown_events, shown_items, tie_pairs}
 use Rattle.level_terms.proofs.BodyMade.{has_left, has_right}
-use Rattle.level_terms.proofs.Dropped.{drop_all, drop_less}
+use Rattle.level_terms.proofs.Dropped.{drop_all, drop_less, none_left}
 
 one_is : (xs : List Tree) (x : Tree) → choice_of xs ≡ Some x → x ≡ one_of xs
 one_is xs x e = sym (ap (λ (o : Option Tree). unwrap_or o Nil) e)
-
-placed_is : (b : Bool) (front rest made : Made) → IsPlaced b front rest made → IsPart (placed b front.term rest.term) (rest.shown ++ front.shown) made
-placed_is true front rest made e = record { term = one_is (front.term ∷ rest.term ∷ []) made.term e.term; shown_are = e.shown }
-placed_is false front rest made e = record { term = e.term; shown_are = e.shown }
 
 pub part_as : (x y : Tree) (ps qs : List Pair) (made : Made) → x ≡ y → ps ≡ qs → IsPart x ps made → IsPart y qs made
 part_as x y ps qs made e f h = record { term = h.term ∙ e; shown_are = h.shown_are ∙ f }
@@ -49,9 +44,6 @@ event_is names labels n e l at place x ps is named labelled t shown = record {
       ∙ ap (λ (k : ℕ). Event (record { number = n; at = unwrap_or (position (bytes_eq e.at) names) 0; also = None; label = k })) (sym (ap (λ (o : Option ℕ). unwrap_or o 0) (ap (label_number labels) (sym is) ∙ labelled))));
   shown_are = shown;
 }
-
-none_left : (i : ℕ) → i ≤ 0 → i ≡ 0
-none_left i l = omega arith
 
 length_drop : {X Y : Type 0} (f : X → Y) (xs : List X) (j : ℕ) → j ≤ length xs → length (map f (drop j xs)) + j ≡ length xs
 length_drop f [] zero l = omega arith
@@ -84,30 +76,7 @@ module _ (names : List (List ℕ)) (labels : List Label) (n : ℕ) where
   pub events_end : (made : Made) (ns : List rust_event.EventNode) (i : ℕ) → i ≤ 0 → IsEvents (drop i ns) made → IsEvents ns made
   events_end made ns i l h = subst (λ k. IsEvents (drop k ns) made) (none_left i l) h
 
-  -- ---- the items of a level
-
-  abbrev AreItems : List rust_item.Item → Made → Type 0
-  AreItems xs made = IsPart (items_term names labels n (items_view xs)) (shown_items n (items_view xs)) made
-
-  pub items_start : (rest : Made) (xs : List rust_item.Item) (i : ℕ) → IsNothing n rest → i ≡ length xs → AreItems (drop i xs) rest
-  items_start rest xs i h e = subst (λ (ys : List rust_item.Item). AreItems ys rest) (sym (ap (λ k. drop k xs) e ∙ drop_all xs)) (record { term = h.term; shown_are = h.shown })
-
-  pub items_step : (rest front made : Made) (xs : List rust_item.Item) (i j : ℕ) (x : rust_item.Item) (b : Bool) → slice_get xs i ≡ Some x → j ≡ i + 1 → rest.next ≡ n + events_count (items_view (drop j xs)) → b ≡ is_exception (item_view x) → AreItems (drop j xs) rest
-      → IsPart (item_term names labels rest.next (item_view x)) (shown_item rest.next (item_view x)) front → IsPlaced b front rest made → AreItems (drop i xs) made
-  items_step rest front made xs i j x b at next counted is h p e =
-      subst (λ (ys : List rust_item.Item). AreItems ys made) (sym (drop_less xs i j x at next)) (record {
-        term = f.term
-            ∙ (ap (λ c. placed c front.term rest.term) is
-            ∙ (ap (λ y. placed (is_exception (item_view x)) y rest.term) (p.term ∙ ap (λ k. item_term names labels k (item_view x)) counted)
-            ∙ ap (λ y. placed (is_exception (item_view x)) (item_term names labels (n + events_count (items_view (drop j xs))) (item_view x)) y) h.term));
-        shown_are = f.shown_are ∙ (ap (λ ps. ps ++ front.shown) h.shown_are ∙ ap (λ ps. shown_items n (items_view (drop j xs)) ++ ps) (p.shown_are ∙ ap (λ k. shown_item k (item_view x)) counted));
-      })
-    where
-      f : IsPart (placed b front.term rest.term) (rest.shown ++ front.shown) made
-      f = placed_is b front rest made e
-
-  pub items_end : (made : Made) (xs : List rust_item.Item) (i : ℕ) → i ≤ 0 → AreItems (drop i xs) made → AreItems xs made
-  items_end made xs i l h = subst (λ k. AreItems (drop k xs) made) (none_left i l) h
+  -- ---- levels
 
   pub level_part : (inner made : Made) (cover : List (List ℕ)) (held : Items) (pairs : List Pair) → IsPart (items_term names labels n held) (shown_items n held) inner → IsTied (level_pairs held pairs) inner made → IsPart (level_term names labels n (level cover held pairs)) [] made
   level_part inner made cover held pairs h e = record {

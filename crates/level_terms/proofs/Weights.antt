@@ -13,10 +13,11 @@ use Rattle.sound_terms.specs.TableLaws.{ConstructorsWeigh, weight_all}
 use Rattle.msc_tree.specs.declared.reference.InlineForm.TheVariants as inline
 use Rattle.msc_meaning.specs.Bodies.{EventNode, Body, level, Items, no_items, item_and, Item, Single, Coregion, Inline, Refer, Bodies, no_bodies, body_and, events, item_events}
 use Rattle.msc_base.specs.declared.label.Label.{Label}
-use Rattle.level_terms.specs.BuiltBodies.{has_operands, is_built, are_built, is_built_item, have_built, events_count, operands_count}
+use Rattle.chart_forms.specs.BuiltBodies.{has_operands, is_built, are_built, is_built_item, have_built, events_count, operands_count}
 use Rattle.msc_meaning.specs.Ties.{level_pairs}
 use Rattle.general_ordering.specs.OrderCounts.{order_count, orders_count}
-use Rattle.level_terms.specs.LevelLaws.{body_size, items_size, item_size, operands_size, HasFewPairs, HaveFewPairs, HasFewWithin, EachHasFew}
+use Rattle.chart_forms.specs.BodySizes.{body_size, items_size, item_size, operands_size}
+use Rattle.level_terms.specs.LevelLaws.{HasFewPairs, HaveFewPairs, HasFewWithin, EachHasFew}
 use Rattle.level_terms.specs.LevelTerms.{one_of, placed, event_term, coregion_term, level_term, items_term, item_term, operand_terms, parallel_term}
 use Rattle.event_order.specs.RankedBodies.{is_exception}
 use Rattle.level_terms.specs.ShownNumbers.{shows, shown_events, shown_item, shown_items, number_if, numbers_of, pairs_with, pairs_between, tie_pairs}

@@ -1,10 +1,10 @@
 -- The laws of the terms of charts.
-use Rattle.std.specs.Prelude.{ℕ, ◌≡◌, ◌≤◌, ◌+◌, true, List, [], ◌∷◌, length}
+use Rattle.std.specs.Prelude.{ℕ, ◌≡◌, ◌≤◌, ◌+◌, true, List, length}
 use Rattle.msc_base.specs.Lists.{AreDifferent}
 use Rattle.msc_base.specs.Orders.{Once}
 use Rattle.chart_term.specs.Terms.{weight}
 use Rattle.term_laws.specs.FullSoundness.{IsFullySound}
-use Rattle.msc_meaning.specs.Bodies.{EventNode, Body, level, Items, no_items, item_and, Item, Single, Coregion, Inline, Refer, Bodies, no_bodies, body_and, events}
+use Rattle.msc_meaning.specs.Bodies.{Body, level, Items, no_items, item_and, Item, Single, Coregion, Inline, Refer, Bodies, no_bodies, body_and, events}
 use Rattle.msc_meaning.specs.Levels.{IsWovenLevel}
 use Rattle.msc_meaning.specs.Pairing.{ArePairs}
 use Rattle.msc_meaning.specs.Pieces.{Piece}
@@ -12,32 +12,13 @@ use Rattle.msc_meaning.specs.Ties.{level_pairs}
 use Rattle.general_ordering.specs.EventNames.{BreaksNameRule}
 use Rattle.general_ordering.specs.declared.faults.EventNameRule.TheVariants.{Twice}
 use Rattle.msc_base.specs.declared.place.Place.{Place}
-use Rattle.general_ordering.specs.OrderCounts.{order_count, orders_count}
-use Rattle.level_terms.specs.BuiltBodies.{is_built}
+use Rattle.general_ordering.specs.OrderCounts.{orders_count}
+use Rattle.chart_forms.specs.BodySizes.{body_size}
+use Rattle.chart_forms.specs.BuiltBodies.{is_built}
 use Rattle.level_terms.specs.LevelTerms.{chart_tables, chart_term}
 use Rattle.level_terms.specs.MadeCharts.{IsChartMade}
 use Rattle.event_order.specs.RankedBodies.{IsRanked, events_within}
 use Rattle.level_terms.specs.SoundParts.{IsForward, numbers}
-
--- the size of a body: 3 for an event and 1 for each that it is ordered with, 1 and its events for a coregion, 2 and for each operand 1
--- and its items for an inline expression
-abbrev mutual
-  pub body_size : Body → ℕ
-  body_size (level cover held pairs) = items_size held
-
-  pub items_size : Items → ℕ
-  items_size no_items = 0
-  items_size (item_and x xs) = item_size x + items_size xs
-
-  pub item_size : Item → ℕ
-  item_size (Single n) = 3 + order_count n.event
-  item_size (Coregion ns) = 1 + (length ns + length ns + length ns) + orders_count ns
-  item_size (Inline form part operands) = 2 + operands_size operands
-  item_size (Refer part) = 0
-
-  pub operands_size : Bodies → ℕ
-  operands_size no_bodies = 0
-  operands_size (body_and b bs) = 1 + body_size b + operands_size bs
 
 -- on each level the numbers of the events differ, and there are no more pairs than events and what these are ordered with
 abbrev mutual

@@ -17,7 +17,7 @@ use Rattle.msc_meaning.specs.EventLabels.{written_label}
 use Rattle.msc_meaning.specs.Ties.{level_pairs}
 use Rattle.event_order.specs.RankedBodies.{is_exception}
 use Rattle.level_terms.specs.BodyLabels.{body_labels}
-use Rattle.level_terms.specs.BuiltBodies.{events_count, operands_count}
+use Rattle.chart_forms.specs.BuiltBodies.{events_count, operands_count}
 use Rattle.level_terms.specs.ShownNumbers.{shown_items, tie_pairs}
 
 -- one of these terms; there is one at least

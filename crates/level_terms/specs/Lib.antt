@@ -1,10 +1,10 @@
 pub mod LabelTables
-pub mod BuiltBodies
 pub mod BodyLabels
 pub mod ShownNumbers
 pub mod LevelTerms
 pub mod BareTerms
 pub mod MadeParts
+pub mod ExceptionRuns
 pub mod TieNumbers
 pub mod SoundParts
 pub mod MadeCharts

@@ -1,9 +1,9 @@
 -- What the functions that make the terms of levels say of what they make.
-use Rattle.std.specs.Prelude.{ℕ, Bool, ◌≡◌, List, [], ◌∷◌, Some, true, false, ◌++◌}
+use Rattle.std.specs.Prelude.{ℕ, Bool, ◌≡◌, List, [], ◌∷◌, Some, ◌++◌}
 use Rattle.msc_base.specs.declared.label.Pair.{Pair}
 use Rattle.msc_base.specs.Orders.{Once}
 use Rattle.msc_unfolding.specs.Unfoldings.{Own, Unfolding}
-use Rattle.msc_base.specs.Patterns.{Mode, seq}
+use Rattle.msc_base.specs.Patterns.{Mode}
 use Rattle.term_tables.specs.NetValues.{NetsValue}
 use Rattle.chart_term.specs.NormalForms.{join_all, choice_of, tie_of}
 use Rattle.chart_term.specs.Tables.{terms_over}
@@ -58,11 +58,6 @@ pub record IsInstead (front rest made : Made) : Type 0 where
   pub term : choice_of (front.term ∷ rest.term ∷ []) ≡ Some made.term
   pub shown : made.shown ≡ rest.shown ++ front.shown
   pub next : made.next ≡ front.next
-
--- in place of the rest where it is an exception, else in front of it
-abbrev pub IsPlaced : Bool → Made → Made → Made → Type 0
-IsPlaced true front rest made = IsInstead front rest made
-IsPlaced false front rest made = IsFront seq front rest made
 
 -- the part has this term, and these numbers are shown
 pub record IsPart (x : Tree) (shown : List Pair) (made : Made) : Type 0 where

@@ -3,7 +3,7 @@
 use Rattle.std.specs.Prelude.{ℕ, ◌+◌, ◌==◌, Bool, true, false, List, [], ◌∷◌, ◌++◌, length}
 use Rattle.msc_base.specs.declared.label.Pair.{Pair}
 use Rattle.msc_meaning.specs.Bodies.{EventNode, Items, no_items, item_and, Item, Single, Coregion, Inline, Refer}
-use Rattle.level_terms.specs.BuiltBodies.{events_count}
+use Rattle.chart_forms.specs.BuiltBodies.{events_count}
 
 -- the number m in the term, of the event k of its chart
 abbrev pub shows : ℕ → ℕ → Pair

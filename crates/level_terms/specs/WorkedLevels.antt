@@ -3,7 +3,7 @@ use Rattle.std.specs.Prelude.{ℕ, ◌≡◌, ◌-◌, true, List, [], ◌∷◌
 use Rattle.msc_base.specs.Lists.{AreDifferent}
 use Rattle.msc_meaning.specs.Bodies.{Body, level, no_items, item_and, Single}
 use Rattle.msc_meaning.specs.WorkedParts.{node, out, taken_in, pair}
-use Rattle.level_terms.specs.BuiltBodies.{is_built}
+use Rattle.chart_forms.specs.BuiltBodies.{is_built}
 use Rattle.level_terms.specs.LevelLaws.{HasFewPairs}
 use Rattle.event_order.specs.RankedBodies.{IsRanked}
 use Rattle.level_terms.specs.SoundParts.{IsForward}

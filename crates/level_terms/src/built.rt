@@ -2,45 +2,19 @@
 
 ghost use Rattle.std.specs.Prelude.{◌≡◌, ◌&&◌, map};
 ghost use Rattle.msc_meaning.specs.Views.{body_view, item_view, node_view};
-ghost use Rattle.level_terms.specs.BuiltBodies.{are_built as built_items, are_built_nodes as built_nodes, creates_nobody as makes_none, has_operands as enough_operands, have_built as built_bodies, is_built as built_body, is_built_item as built_item, is_built_node as built_node, is_plain as plain_event, names_no_gate as no_gate};
+ghost use Rattle.chart_forms.specs.BuiltBodies.{are_built as built_items, are_built_nodes as built_nodes, has_operands as enough_operands, have_built as built_bodies, is_built as built_body, is_built_item as built_item, is_built_node as built_node};
 ghost use Rattle.general_ordering.specs.ItemViews.{bodies_view, inline_view, items_view};
 
-use msc_base::{Kind, NameTable};
+use chart_forms::is_plain;
+use msc_base::NameTable;
 use msc_meaning::{Body, EventNode, EventNodeList, InlineItem, Item};
-use msc_tree::{InlineForm, RawEvent, Target};
+use msc_tree::InlineForm;
 
 /// Whether both hold.
 fn both(one: bool, other: bool) -> bool
     ensures { result ≡ (one && other) }
 {
     one && other
-}
-
-/// Whether an event of that kind creates no instance.
-fn creates_nobody(kind: Kind) -> bool
-    ensures { result ≡ makes_none kind }
-{
-    match kind {
-        Kind::Create => false,
-        _ => true,
-    }
-}
-
-/// Whether the other end is at no gate.
-fn names_no_gate(target: &Target) -> bool
-    ensures { result ≡ no_gate target.now }
-{
-    match target {
-        Target::Env(Some(_)) | Target::Gate(_, _) => false,
-        _ => true,
-    }
-}
-
-/// Whether the event creates no instance and is at no gate.
-fn is_plain(event: &RawEvent) -> bool
-    ensures { result ≡ plain_event event.now }
-{
-    both(creates_nobody(event.kind), names_no_gate(&event.target))
 }
 
 /// Whether a term is made of the event.

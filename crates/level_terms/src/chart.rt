@@ -5,7 +5,7 @@ ghost use Rattle.msc_base.specs.declared.limits.TheConstants.Limits.{INSTANCES};
 ghost use Rattle.msc_base.specs.Lists.{AreDifferent};
 ghost use Rattle.msc_meaning.specs.Views.{body_view};
 ghost use Rattle.term_laws.specs.FullSoundness.{IsFullySound};
-ghost use Rattle.level_terms.specs.BuiltBodies.{HasTerm, IsTooLong, is_built};
+ghost use Rattle.chart_forms.specs.BuiltBodies.{HasTerm, IsTooLong, is_built};
 ghost use Rattle.level_terms.specs.LevelTerms.{chart_tables, chart_term};
 ghost use Rattle.level_terms.specs.MadeCharts.{IsChartMade};
 ghost use Rattle.level_terms.specs.SoundParts.{IsForward};

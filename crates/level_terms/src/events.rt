@@ -5,7 +5,7 @@ ghost use Rattle.msc_base.specs.declared.limits.TheConstants.Limits.{INSTANCES};
 ghost use Rattle.msc_meaning.specs.EventLabels.{written_label};
 ghost use Rattle.msc_meaning.specs.Views.{node_view};
 ghost use Rattle.level_terms.specs.BodyLabels.{HasLabels};
-ghost use Rattle.level_terms.specs.BuiltBodies.{is_built_node, are_built_nodes};
+ghost use Rattle.chart_forms.specs.BuiltBodies.{is_built_node, are_built_nodes};
 ghost use Rattle.level_terms.specs.LevelTerms.{coregion_term, event_term};
 ghost use Rattle.level_terms.specs.MadeParts.{IsPart};
 ghost use Rattle.level_terms.specs.ShownNumbers.{shown_events, shows};

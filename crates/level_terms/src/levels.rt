@@ -6,7 +6,7 @@ ghost use Rattle.msc_meaning.specs.ChartUnfoldings.{OfLevel};
 ghost use Rattle.msc_meaning.specs.Views.{body_view, item_view};
 ghost use Rattle.term_laws.specs.FullSoundness.{AreSoundNets, IsSoundNode};
 ghost use Rattle.level_terms.specs.BodyLabels.{HasLabels, body_labels, item_labels, items_labels, operands_labels};
-ghost use Rattle.level_terms.specs.BuiltBodies.{are_built, event_count, events_count, have_built, is_built, is_built_item, item_count, operands_count};
+ghost use Rattle.chart_forms.specs.BuiltBodies.{are_built, event_count, events_count, have_built, is_built, is_built_item, item_count, operands_count};
 ghost use Rattle.general_ordering.specs.ItemViews.{inline_view, items_view, bodies_view};
 ghost use Rattle.level_terms.specs.LevelTerms.{item_term, items_term, level_term, one_of, operand_terms, parallel_term};
 ghost use Rattle.level_terms.specs.MadeParts.{AreFit, IsMade, IsPart};
@@ -16,7 +16,8 @@ ghost use Rattle.level_terms.specs.SoundParts.{IsForward};
 
 use crate::events::{coregion_of, event_of};
 use crate::made::Made;
-use crate::parts::{instead, nothing, placed, side_by_side};
+use crate::parts::{instead, nothing, side_by_side};
+use crate::runs::{closed, no_run, placed};
 use crate::ties::level_tied;
 use chart_term::{TermList, choice};
 use event_order::is_exception;
@@ -92,14 +93,15 @@ fn items_of(
     ensures next { IfOk result (λ made. made.next ≡ next + events_count (items_view items.now.items)) }
     ensures part { IfOk result (λ made. IsPart (items_term names.now nets.now.labels next (items_view items.now.items)) (shown_items next (items_view items.now.items)) made) }
 {
-    let mut rest = nothing(alloc, next)?;
+    let mut run = no_run(alloc, next)?;
     let mut index = items.len();
     while index > 0 {
         index -= 1;
-        let front = item_of(alloc, nets, names, rest.next, &items[index])?;
-        rest = placed(alloc, is_exception(&items[index]), &front, rest)?;
+        let front = item_of(alloc, nets, names, run.rest.next, &items[index])?;
+        run = placed(alloc, is_exception(&items[index]), &front, run)?;
     }
-    Ok(rest)
+    let made = closed(alloc, run)?;
+    Ok(made)
 }
 
 /// The term of an item, of an exception that of its operand.

@@ -12,6 +12,7 @@ mod made;
 mod numbers;
 mod parts;
 mod room;
+mod runs;
 mod ties;
 
 pub use built::is_built;

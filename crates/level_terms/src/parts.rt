@@ -2,7 +2,7 @@
 
 ghost use Rattle.std.specs.Prelude.{◌≡◌, ◌++◌, ◌∷◌, [], IfOk, OnOk};
 ghost use Rattle.msc_base.specs.Patterns.{seq, par};
-ghost use Rattle.level_terms.specs.MadeParts.{IsNothing, IsFront, IsInstead, IsPlaced};
+ghost use Rattle.level_terms.specs.MadeParts.{IsNothing, IsFront, IsInstead};
 
 use crate::made::Made;
 use chart_term::{Term, TermList, choice, par, seq};
@@ -22,7 +22,7 @@ pub(crate) fn nothing(alloc: Global, next: u32) -> Result<Made, NoMemory>
 }
 
 /// Appends the pairs.
-fn append(list: &mut PairList, others: &PairList) -> Result<(), NoMemory>
+pub(crate) fn append(list: &mut PairList, others: &PairList) -> Result<(), NoMemory>
     ensures { OnOk result (list.new ≡ list.old ++ others.now) }
 {
     for pair in others.as_slice() {
@@ -96,20 +96,4 @@ pub(crate) fn instead(alloc: Global, front: &Made, rest: Made) -> Result<Made, N
         shown: all,
         next: front.next,
     })
-}
-
-/// The front in place of the rest where it is an exception, else before it.
-pub(crate) fn placed(
-    alloc: Global,
-    is_exception: bool,
-    front: &Made,
-    rest: Made,
-) -> Result<Made, NoMemory>
-    ensures { IfOk result (λ made. IsPlaced is_exception front.now rest made) }
-{
-    if is_exception {
-        instead(alloc, front, rest)
-    } else {
-        in_row(alloc, front, rest)
-    }
 }

@@ -2,7 +2,7 @@
 
 ghost use Rattle.std.specs.Prelude.{◌≡◌, ◌<◌, ◌+◌, IfSome, IfNone};
 ghost use Rattle.msc_meaning.specs.Views.{body_view, item_view};
-ghost use Rattle.level_terms.specs.BuiltBodies.{event_count, events_count, item_count, operands_count};
+ghost use Rattle.chart_forms.specs.BuiltBodies.{event_count, events_count, item_count, operands_count};
 ghost use Rattle.general_ordering.specs.ItemViews.{bodies_view, items_view};
 
 use msc_meaning::{Body, Item};

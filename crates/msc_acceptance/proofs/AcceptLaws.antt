@@ -1,5 +1,5 @@
 -- From groups of rules to the first fault of a document, and to its table.
-use Rattle.std.proofs.Common.{◌≡◌, ℕ, ◌≤◌, inl, inr, List, [], ◌∷◌, arith, refl, sym, ap, ◌∙◌, subst, nat_eq, if◌then◌else◌, length, option_map, None, Some, Option}
+use Rattle.std.proofs.Common.{◌≡◌, ℕ, ◌≤◌, inl, inr, List, [], ◌∷◌, ◌++◌, arith, refl, sym, ap, ◌∙◌, subst, nat_eq, if◌then◌else◌, length, option_map, None, Some, Option}
 use Rattle.msc_base.specs.Lists.{IsAmong}
 use Rattle.msc_base.specs.Places.{IsLeast}
 use Rattle.msc_base.specs.declared.place.Place.{Place}
@@ -8,7 +8,7 @@ use Rattle.msc_rules.specs.declared.rule.Rule.{Rule}
 use Rattle.msc_rules.specs.declared.rule.Rule.TheVariants.{Bytes, BadByte, OpenString, OpenNote, LongName, Syntax, Unsupported, TooDeep, Charts, Instances, Nodes, LoopBound, NamedTwice, Undeclared, MissingChart, Recursive, Uncovered, ExpandedNesting, Size, Total, NotShared, OperandsDiffer, ExcPlace, Crossed, Unmatched, NoGate, GateTwice, GateWays, GateSplit, GateOnLoop, DecompositionMismatch, SharedPart, Inside, LocalEvent, UnknownEvent, EventNamedTwice, Cyclic, UnknownLabel, LabelNamedTwice, Endless, NotBuilt, CreatePlace, CreateTwice, AfterStop}
 use Rattle.msc_rules.specs.Rules.{group_of, number_of}
 use Rattle.msc_rules.specs.declared.first_fault.Broken.{Broken}
-use Rattle.msc_rules.specs.FirstFaults.{IsBest, IsInSome, AreGroups, IsFirst, IsFaultless, Keeps}
+use Rattle.msc_rules.specs.FirstFaults.{IsBest, fault_of, IsInSome, AreGroups, IsFirst, IsFaultless, Keeps}
 use Rattle.msc_rules.proofs.FirstOnes.{first_fault, faultless, one_first_fault}
 use Rattle.std.proofs.lemmas.Bool.{cases_lt}
 use Rattle.std.proofs.lemmas.List.{length-map}
@@ -17,48 +17,50 @@ use Rattle.msc_meaning.specs.Tables.{Table}
 use Rattle.msc_meaning.specs.Views.{entry_view, table_view}
 use Rattle.msc_meaning.specs.declared.body.ChartEntry as code
 use Rattle.msc_meaning.specs.WovenTables.{AreEntriesOf, entry_and}
-use Rattle.msc_acceptance.specs.ChartFaults.{CrossesAt, IsAloneAt, IsCyclicAt}
 use Rattle.msc_instances.specs.Instances.{instances}
 use Rattle.level_weaving.proofs.Counts.{some_at}
-use Rattle.msc_acceptance.proofs.ChartLaws.{never_crosses}
 use Rattle.msc_acceptance.specs.Acceptance.{Breaks, BreaksOf, HasFault, IsAccepted}
-use Rattle.msc_acceptance.specs.Deciding.{AllKept, AreBuilt, all_groups, forms, limits, names, sizes, columns, messages, event_names, cycles}
-use Rattle.msc_acceptance.specs.Rules.{InOne}
+use Rattle.msc_acceptance.specs.ChartFaults.{CrossesAt, IsAloneAt, IsCyclicAt}
 use Rattle.msc_acceptance.proofs.GroupLaws.{one_best}
-use Rattle.msc_acceptance.proofs.WalkLaws.{one_built}
+use Rattle.msc_acceptance.specs.Deciding.{AllKept, AreBuilt, IsFirstOf, body_groups, all_groups, text_groups, forms, limits, names, sizes, parts, columns, messages, event_names, cycles}
+use Rattle.msc_acceptance.specs.Rules.{InOne}
 
 -- ---- numbers and groups
 
--- what holds of the twelve rules holds of each that is in a group
-each_rule : (P : Rule → Type 0) → P NotBuilt → P Charts → P Instances → P NamedTwice → P Undeclared → P Size → P Total → P Crossed → P Unmatched → P UnknownEvent → P EventNamedTwice → P Cyclic → (r : Rule) → IsInSome all_groups r → P r
-each_rule P a b c d e f g h i k l j r (inl (inl is)) = subst P (sym is) a
-each_rule P a b c d e f g h i k l j r (inl (inr n)) = absurd n
-each_rule P a b c d e f g h i k l j r (inr (inl (inl is))) = subst P (sym is) b
-each_rule P a b c d e f g h i k l j r (inr (inl (inr (inl is)))) = subst P (sym is) c
-each_rule P a b c d e f g h i k l j r (inr (inl (inr (inr n)))) = absurd n
-each_rule P a b c d e f g h i k l j r (inr (inr (inl (inl is)))) = subst P (sym is) d
-each_rule P a b c d e f g h i k l j r (inr (inr (inl (inr (inl is))))) = subst P (sym is) e
-each_rule P a b c d e f g h i k l j r (inr (inr (inl (inr (inr n))))) = absurd n
-each_rule P a b c d e f g h i k l j r (inr (inr (inr (inl (inl is))))) = subst P (sym is) f
-each_rule P a b c d e f g h i k l j r (inr (inr (inr (inl (inr (inl is)))))) = subst P (sym is) g
-each_rule P a b c d e f g h i k l j r (inr (inr (inr (inl (inr (inr n)))))) = absurd n
-each_rule P a b c d e f g h i k l j r (inr (inr (inr (inr (inl (inl is)))))) = subst P (sym is) h
-each_rule P a b c d e f g h i k l j r (inr (inr (inr (inr (inl (inr n)))))) = absurd n
-each_rule P a b c d e f g h i k l j r (inr (inr (inr (inr (inr (inl (inl is))))))) = subst P (sym is) i
-each_rule P a b c d e f g h i k l j r (inr (inr (inr (inr (inr (inl (inr n))))))) = absurd n
-each_rule P a b c d e f g h i k l j r (inr (inr (inr (inr (inr (inr (inl (inl is)))))))) = subst P (sym is) k
-each_rule P a b c d e f g h i k l j r (inr (inr (inr (inr (inr (inr (inl (inr (inl is))))))))) = subst P (sym is) l
-each_rule P a b c d e f g h i k l j r (inr (inr (inr (inr (inr (inr (inl (inr (inr n))))))))) = absurd n
-each_rule P a b c d e f g h i k l j r (inr (inr (inr (inr (inr (inr (inr (inl (inl is))))))))) = subst P (sym is) j
-each_rule P a b c d e f g h i k l j r (inr (inr (inr (inr (inr (inr (inr (inl (inr n))))))))) = absurd n
-each_rule P a b c d e f g h i k l j r (inr (inr (inr (inr (inr (inr (inr (inr n)))))))) = absurd n
+-- what holds of the rules that are looked at holds of each that is in a group
+each_rule : (P : Rule → Type 0) → P NotBuilt → P Charts → P Instances → P NamedTwice → P Undeclared → P Size → P Total → P NotShared → P OperandsDiffer → P ExcPlace → P Crossed → P Unmatched → P UnknownEvent → P EventNamedTwice → P Cyclic → (r : Rule) → IsInSome all_groups r → P r
+each_rule P p0 p1 p2 p3 p4 p5 p6 p7 p8 p9 p10 p11 p12 p13 p14 r (inl (inl is)) = subst P (sym is) p0
+each_rule P p0 p1 p2 p3 p4 p5 p6 p7 p8 p9 p10 p11 p12 p13 p14 r (inl (inr (n))) = absurd n
+each_rule P p0 p1 p2 p3 p4 p5 p6 p7 p8 p9 p10 p11 p12 p13 p14 r (inr (inl (inl is))) = subst P (sym is) p1
+each_rule P p0 p1 p2 p3 p4 p5 p6 p7 p8 p9 p10 p11 p12 p13 p14 r (inr (inl (inr (inl is)))) = subst P (sym is) p2
+each_rule P p0 p1 p2 p3 p4 p5 p6 p7 p8 p9 p10 p11 p12 p13 p14 r (inr (inl (inr (inr (n))))) = absurd n
+each_rule P p0 p1 p2 p3 p4 p5 p6 p7 p8 p9 p10 p11 p12 p13 p14 r (inr (inr (inl (inl is)))) = subst P (sym is) p3
+each_rule P p0 p1 p2 p3 p4 p5 p6 p7 p8 p9 p10 p11 p12 p13 p14 r (inr (inr (inl (inr (inl is))))) = subst P (sym is) p4
+each_rule P p0 p1 p2 p3 p4 p5 p6 p7 p8 p9 p10 p11 p12 p13 p14 r (inr (inr (inl (inr (inr (n)))))) = absurd n
+each_rule P p0 p1 p2 p3 p4 p5 p6 p7 p8 p9 p10 p11 p12 p13 p14 r (inr (inr (inr (inl (inl is))))) = subst P (sym is) p5
+each_rule P p0 p1 p2 p3 p4 p5 p6 p7 p8 p9 p10 p11 p12 p13 p14 r (inr (inr (inr (inl (inr (inl is)))))) = subst P (sym is) p6
+each_rule P p0 p1 p2 p3 p4 p5 p6 p7 p8 p9 p10 p11 p12 p13 p14 r (inr (inr (inr (inl (inr (inr (n))))))) = absurd n
+each_rule P p0 p1 p2 p3 p4 p5 p6 p7 p8 p9 p10 p11 p12 p13 p14 r (inr (inr (inr (inr (inl (inl is)))))) = subst P (sym is) p7
+each_rule P p0 p1 p2 p3 p4 p5 p6 p7 p8 p9 p10 p11 p12 p13 p14 r (inr (inr (inr (inr (inl (inr (inl is))))))) = subst P (sym is) p8
+each_rule P p0 p1 p2 p3 p4 p5 p6 p7 p8 p9 p10 p11 p12 p13 p14 r (inr (inr (inr (inr (inl (inr (inr (inl is)))))))) = subst P (sym is) p9
+each_rule P p0 p1 p2 p3 p4 p5 p6 p7 p8 p9 p10 p11 p12 p13 p14 r (inr (inr (inr (inr (inl (inr (inr (inr (n))))))))) = absurd n
+each_rule P p0 p1 p2 p3 p4 p5 p6 p7 p8 p9 p10 p11 p12 p13 p14 r (inr (inr (inr (inr (inr (inl (inl is))))))) = subst P (sym is) p10
+each_rule P p0 p1 p2 p3 p4 p5 p6 p7 p8 p9 p10 p11 p12 p13 p14 r (inr (inr (inr (inr (inr (inl (inr (n)))))))) = absurd n
+each_rule P p0 p1 p2 p3 p4 p5 p6 p7 p8 p9 p10 p11 p12 p13 p14 r (inr (inr (inr (inr (inr (inr (inl (inl is)))))))) = subst P (sym is) p11
+each_rule P p0 p1 p2 p3 p4 p5 p6 p7 p8 p9 p10 p11 p12 p13 p14 r (inr (inr (inr (inr (inr (inr (inl (inr (n))))))))) = absurd n
+each_rule P p0 p1 p2 p3 p4 p5 p6 p7 p8 p9 p10 p11 p12 p13 p14 r (inr (inr (inr (inr (inr (inr (inr (inl (inl is))))))))) = subst P (sym is) p12
+each_rule P p0 p1 p2 p3 p4 p5 p6 p7 p8 p9 p10 p11 p12 p13 p14 r (inr (inr (inr (inr (inr (inr (inr (inl (inr (inl is)))))))))) = subst P (sym is) p13
+each_rule P p0 p1 p2 p3 p4 p5 p6 p7 p8 p9 p10 p11 p12 p13 p14 r (inr (inr (inr (inr (inr (inr (inr (inl (inr (inr (n))))))))))) = absurd n
+each_rule P p0 p1 p2 p3 p4 p5 p6 p7 p8 p9 p10 p11 p12 p13 p14 r (inr (inr (inr (inr (inr (inr (inr (inr (inl (inl is)))))))))) = subst P (sym is) p14
+each_rule P p0 p1 p2 p3 p4 p5 p6 p7 p8 p9 p10 p11 p12 p13 p14 r (inr (inr (inr (inr (inr (inr (inr (inr (inl (inr (n))))))))))) = absurd n
+each_rule P p0 p1 p2 p3 p4 p5 p6 p7 p8 p9 p10 p11 p12 p13 p14 r (inr (inr (inr (inr (inr (inr (inr (inr (inr (n)))))))))) = absurd n
 
 decoded : ℕ → Rule
-decoded n = if nat_eq n 41 then NotBuilt else (if nat_eq n 9 then Charts else (if nat_eq n 10 then Instances else (if nat_eq n 13 then NamedTwice else (if nat_eq n 14 then Undeclared else (if nat_eq n 19 then Size else (if nat_eq n 20 then Total else (if nat_eq n 24 then Crossed else (if nat_eq n 25 then Unmatched else (if nat_eq n 35 then UnknownEvent else (if nat_eq n 36 then EventNamedTwice else (Cyclic)))))))))))
+decoded n = if nat_eq n 41 then NotBuilt else (if nat_eq n 9 then Charts else (if nat_eq n 10 then Instances else (if nat_eq n 13 then NamedTwice else (if nat_eq n 14 then Undeclared else (if nat_eq n 19 then Size else (if nat_eq n 20 then Total else (if nat_eq n 21 then NotShared else (if nat_eq n 22 then OperandsDiffer else (if nat_eq n 23 then ExcPlace else (if nat_eq n 24 then Crossed else (if nat_eq n 25 then Unmatched else (if nat_eq n 35 then UnknownEvent else (if nat_eq n 36 then EventNamedTwice else (Cyclic))))))))))))))
 
 decodes : (r : Rule) → IsInSome all_groups r → decoded (number_of r) ≡ r
 unfolding decoded
-decodes = each_rule (λ r. decoded (number_of r) ≡ r) refl refl refl refl refl refl refl refl refl refl refl refl
+decodes = each_rule (λ r. decoded (number_of r) ≡ r) refl refl refl refl refl refl refl refl refl refl refl refl refl refl refl
 
 -- a rule that charts break is in one of the groups
 in_some : (charts : List Chart) (r : Rule) (p : Place) → BreaksOf charts r p → IsInSome all_groups r
@@ -82,11 +84,11 @@ in_some charts Uncovered p b = absurd b
 in_some charts ExpandedNesting p b = absurd b
 in_some charts Size p b = inr (inr (inr (inl (inl refl))))
 in_some charts Total p b = inr (inr (inr (inl (inr (inl refl)))))
-in_some charts NotShared p b = absurd b
-in_some charts OperandsDiffer p b = absurd b
-in_some charts ExcPlace p b = absurd b
-in_some charts Crossed p b = inr (inr (inr (inr (inl (inl refl)))))
-in_some charts Unmatched p b = inr (inr (inr (inr (inr (inl (inl refl))))))
+in_some charts NotShared p b = inr (inr (inr (inr (inl (inl refl)))))
+in_some charts OperandsDiffer p b = inr (inr (inr (inr (inl (inr (inl refl))))))
+in_some charts ExcPlace p b = inr (inr (inr (inr (inl (inr (inr (inl refl)))))))
+in_some charts Crossed p b = inr (inr (inr (inr (inr (inl (inl refl))))))
+in_some charts Unmatched p b = inr (inr (inr (inr (inr (inr (inl (inl refl)))))))
 in_some charts NoGate p b = absurd b
 in_some charts GateTwice p b = absurd b
 in_some charts GateWays p b = absurd b
@@ -96,9 +98,9 @@ in_some charts DecompositionMismatch p b = absurd b
 in_some charts SharedPart p b = absurd b
 in_some charts Inside p b = absurd b
 in_some charts LocalEvent p b = absurd b
-in_some charts UnknownEvent p b = inr (inr (inr (inr (inr (inr (inl (inl refl)))))))
-in_some charts EventNamedTwice p b = inr (inr (inr (inr (inr (inr (inl (inr (inl refl))))))))
-in_some charts Cyclic p b = inr (inr (inr (inr (inr (inr (inr (inl (inl refl))))))))
+in_some charts UnknownEvent p b = inr (inr (inr (inr (inr (inr (inr (inl (inl refl))))))))
+in_some charts EventNamedTwice p b = inr (inr (inr (inr (inr (inr (inr (inl (inr (inl refl)))))))))
+in_some charts Cyclic p b = inr (inr (inr (inr (inr (inr (inr (inr (inl (inl refl)))))))))
 in_some charts UnknownLabel p b = absurd b
 in_some charts LabelNamedTwice p b = absurd b
 in_some charts Endless p b = absurd b
@@ -116,100 +118,85 @@ in_one a r h = elim h [ inl e ↦ ap group_of e | inr n ↦ absurd n ]
 in_two : (a b r : Rule) → group_of b ≡ group_of a → IsAmong (a ∷ b ∷ []) r → group_of r ≡ group_of a
 in_two a b r same h = elim h [ inl e ↦ ap group_of e | inr m ↦ in_one b r m ∙ same ]
 
+in_three : (a b c r : Rule) → group_of b ≡ group_of a → group_of c ≡ group_of b → IsAmong (a ∷ b ∷ c ∷ []) r → group_of r ≡ group_of a
+in_three a b c r same alike h = elim h [ inl e ↦ ap group_of e | inr m ↦ in_two b c r alike m ∙ same ]
+
 low_cycles : (s : Rule) → IsInSome (cycles ∷ []) s → 14 ≤ group_of s
 low_cycles s h = elim h [ inl m ↦ omega (arith, in_one Cyclic s m) | inr n ↦ absurd n ]
 
 low_event_names : (s : Rule) → IsInSome (event_names ∷ cycles ∷ []) s → 13 ≤ group_of s
-low_event_names s h = elim h [ inl m ↦ omega (arith, in_two UnknownEvent EventNamedTwice s refl m) | inr r ↦ omega (arith, low_cycles s r) ]
+low_event_names s h = elim h [ inl m ↦ omega (arith, in_two UnknownEvent EventNamedTwice s refl m) | inr n ↦ omega (arith, low_cycles s n) ]
 
 low_messages : (s : Rule) → IsInSome (messages ∷ event_names ∷ cycles ∷ []) s → 10 ≤ group_of s
-low_messages s h = elim h [ inl m ↦ omega (arith, in_one Unmatched s m) | inr r ↦ omega (arith, low_event_names s r) ]
+low_messages s h = elim h [ inl m ↦ omega (arith, in_one Unmatched s m) | inr n ↦ omega (arith, low_event_names s n) ]
 
 low_columns : (s : Rule) → IsInSome (columns ∷ messages ∷ event_names ∷ cycles ∷ []) s → 9 ≤ group_of s
-low_columns s h = elim h [ inl m ↦ omega (arith, in_one Crossed s m) | inr r ↦ omega (arith, low_messages s r) ]
+low_columns s h = elim h [ inl m ↦ omega (arith, in_one Crossed s m) | inr n ↦ omega (arith, low_messages s n) ]
 
-low_sizes : (s : Rule) → IsInSome (sizes ∷ columns ∷ messages ∷ event_names ∷ cycles ∷ []) s → 7 ≤ group_of s
-low_sizes s h = elim h [ inl m ↦ omega (arith, in_two Size Total s refl m) | inr r ↦ omega (arith, low_columns s r) ]
+low_parts : (s : Rule) → IsInSome (parts ∷ columns ∷ messages ∷ event_names ∷ cycles ∷ []) s → 8 ≤ group_of s
+low_parts s h = elim h [ inl m ↦ omega (arith, in_three NotShared OperandsDiffer ExcPlace s refl refl m) | inr n ↦ omega (arith, low_columns s n) ]
 
-low_names : (s : Rule) → IsInSome (names ∷ sizes ∷ columns ∷ messages ∷ event_names ∷ cycles ∷ []) s → 5 ≤ group_of s
-low_names s h = elim h [ inl m ↦ omega (arith, in_two NamedTwice Undeclared s refl m) | inr r ↦ omega (arith, low_sizes s r) ]
+low_sizes : (s : Rule) → IsInSome (sizes ∷ parts ∷ columns ∷ messages ∷ event_names ∷ cycles ∷ []) s → 7 ≤ group_of s
+low_sizes s h = elim h [ inl m ↦ omega (arith, in_two Size Total s refl m) | inr n ↦ omega (arith, low_parts s n) ]
 
-low_limits : (s : Rule) → IsInSome (limits ∷ names ∷ sizes ∷ columns ∷ messages ∷ event_names ∷ cycles ∷ []) s → 4 ≤ group_of s
-low_limits s h = elim h [ inl m ↦ omega (arith, in_two Charts Instances s refl m) | inr r ↦ omega (arith, low_names s r) ]
+low_names : (s : Rule) → IsInSome (names ∷ sizes ∷ parts ∷ columns ∷ messages ∷ event_names ∷ cycles ∷ []) s → 5 ≤ group_of s
+low_names s h = elim h [ inl m ↦ omega (arith, in_two NamedTwice Undeclared s refl m) | inr n ↦ omega (arith, low_sizes s n) ]
+
+low_limits : (s : Rule) → IsInSome (limits ∷ names ∷ sizes ∷ parts ∷ columns ∷ messages ∷ event_names ∷ cycles ∷ []) s → 4 ≤ group_of s
+low_limits s h = elim h [ inl m ↦ omega (arith, in_two Charts Instances s refl m) | inr n ↦ omega (arith, low_names s n) ]
 
 are_groups : AreGroups group_of all_groups
-are_groups = (
-  λ r s m n. in_one NotBuilt r m ∙ sym (in_one NotBuilt s n),
-  λ r s m n. omega (arith, in_one NotBuilt r m, low_limits s n),
-  (
-    λ r s m n. in_two Charts Instances r refl m ∙ sym (in_two Charts Instances s refl n),
-    λ r s m n. omega (arith, in_two Charts Instances r refl m, low_names s n),
-    (
-      λ r s m n. in_two NamedTwice Undeclared r refl m ∙ sym (in_two NamedTwice Undeclared s refl n),
-      λ r s m n. omega (arith, in_two NamedTwice Undeclared r refl m, low_sizes s n),
-      (
-        λ r s m n. in_two Size Total r refl m ∙ sym (in_two Size Total s refl n),
-        λ r s m n. omega (arith, in_two Size Total r refl m, low_columns s n),
-        (
-          λ r s m n. in_one Crossed r m ∙ sym (in_one Crossed s n),
-          λ r s m n. omega (arith, in_one Crossed r m, low_messages s n),
-          (
-            λ r s m n. in_one Unmatched r m ∙ sym (in_one Unmatched s n),
-            λ r s m n. omega (arith, in_one Unmatched r m, low_event_names s n),
-            (
-              λ r s m n. in_two UnknownEvent EventNamedTwice r refl m ∙ sym (in_two UnknownEvent EventNamedTwice s refl n),
-              λ r s m n. omega (arith, in_two UnknownEvent EventNamedTwice r refl m, low_cycles s n),
-              (λ r s m n. in_one Cyclic r m ∙ sym (in_one Cyclic s n), λ r s m n. absurd n, tt),
-            ),
-          ),
-        ),
-      ),
-    ),
-  ),
-)
+are_groups = (λ r s m n. in_one NotBuilt r m ∙ sym (in_one NotBuilt s n), λ r s m n. omega (arith, in_one NotBuilt r m, low_limits s n), (λ r s m n. in_two Charts Instances r refl m ∙ sym (in_two Charts Instances s refl n), λ r s m n. omega (arith, in_two Charts Instances r refl m, low_names s n), (λ r s m n. in_two NamedTwice Undeclared r refl m ∙ sym (in_two NamedTwice Undeclared s refl n), λ r s m n. omega (arith, in_two NamedTwice Undeclared r refl m, low_sizes s n), (λ r s m n. in_two Size Total r refl m ∙ sym (in_two Size Total s refl n), λ r s m n. omega (arith, in_two Size Total r refl m, low_parts s n), (λ r s m n. in_three NotShared OperandsDiffer ExcPlace r refl refl m ∙ sym (in_three NotShared OperandsDiffer ExcPlace s refl refl n), λ r s m n. omega (arith, in_three NotShared OperandsDiffer ExcPlace r refl refl m, low_columns s n), (λ r s m n. in_one Crossed r m ∙ sym (in_one Crossed s n), λ r s m n. omega (arith, in_one Crossed r m, low_messages s n), (λ r s m n. in_one Unmatched r m ∙ sym (in_one Unmatched s n), λ r s m n. omega (arith, in_one Unmatched r m, low_event_names s n), (λ r s m n. in_two UnknownEvent EventNamedTwice r refl m ∙ sym (in_two UnknownEvent EventNamedTwice s refl n), λ r s m n. omega (arith, in_two UnknownEvent EventNamedTwice r refl m, low_cycles s n), (λ r s m n. in_one Cyclic r m ∙ sym (in_one Cyclic s n), λ r s m n. absurd n, tt)))))))))
 
 -- ---- what charts come to
 
 pub none_of : (charts : List Chart) (rules : List Rule) (x : Option (Broken Rule)) → x ≡ None → IsBest number_of (BreaksOf charts) rules x → IsBest number_of (BreaksOf charts) rules None
 none_of charts rules x e h = subst (λ (o : Option (Broken Rule)). IsBest number_of (BreaksOf charts) rules o) e h
 
-pub built_of : (charts : List Chart) → IsBest number_of (BreaksOf charts) forms None → AreBuilt charts
-built_of charts none = λ p h. none NotBuilt p (inl refl) h
+pub built_of : (charts : List Chart) → AllKept (BreaksOf charts) text_groups → AreBuilt charts
+built_of charts kept = λ p h. kept.0 NotBuilt p (inl refl) h
 
-one_among : (Holds : Chart → Place → Type 0) (charts : List Chart) (p : Place) → ((c : Chart) (q : Place) → IsAmong charts c → Holds c q → ⊥) → InOne Holds charts p → ⊥
-one_among Holds [] p none h = h
-one_among Holds (c ∷ charts) p none (inl h) = none c p (inl refl) h
-one_among Holds (c ∷ charts) p none (inr h) = one_among Holds charts p (λ d q m g. none d q (inr m) g) h
+-- the first fault of these groups is that of these and more
+pub first_left : (charts : List Chart) (groups others : List (List Rule)) (fault : Broken Rule) → IsFirst number_of (BreaksOf charts) groups fault → IsFirst number_of (BreaksOf charts) (groups ++ others) fault
+first_left charts [] others fault h = absurd h
+first_left charts (rules ∷ groups) others fault (inl h) = inl h
+first_left charts (rules ∷ groups) others fault (inr h) = inr (h.0, first_left charts groups others fault h.1)
 
-none_cross : (charts : List Chart) → AreBuilt charts → (p : Place) → InOne CrossesAt charts p → ⊥
-none_cross charts built p h = one_among CrossesAt charts p (λ c q m g. never_crosses c (one_built charts c built m) q g) h
+-- where these are kept, the first fault of others is that of both
+pub first_right : (charts : List Chart) (groups others : List (List Rule)) (fault : Broken Rule) → AllKept (BreaksOf charts) groups → IsFirst number_of (BreaksOf charts) others fault → IsFirst number_of (BreaksOf charts) (groups ++ others) fault
+first_right charts [] others fault kept h = h
+first_right charts (rules ∷ groups) others fault kept h = inr (kept.0, first_right charts groups others fault kept.1 h)
 
-columns_kept : (charts : List Chart) → AreBuilt charts → Keeps (BreaksOf charts) columns
-columns_kept charts built = λ r p m b. elim m [ inl e ↦ none_cross charts built p (subst (λ (x : Rule). BreaksOf charts x p) e b) | inr n ↦ n ]
+pub kept_both : (charts : List Chart) (groups others : List (List Rule)) → AllKept (BreaksOf charts) groups → AllKept (BreaksOf charts) others → AllKept (BreaksOf charts) (groups ++ others)
+kept_both charts [] others kept h = h
+kept_both charts (rules ∷ groups) others kept h = (kept.0, kept_both charts groups others kept.1 h)
 
-messages_kept : (charts : List Chart) → IsLeast (InOne IsAloneAt charts) None → Keeps (BreaksOf charts) messages
-messages_kept charts none = λ r p m b. elim m [ inl e ↦ none p (subst (λ (x : Rule). BreaksOf charts x p) e b) | inr n ↦ n ]
+-- where the first four groups are kept, the first fault of the text is that of its last group
+pub first_of_text : (charts : List Chart) (o : Option (Broken Rule)) → IsBest number_of (BreaksOf charts) forms None → IsBest number_of (BreaksOf charts) limits None → IsBest number_of (BreaksOf charts) names None
+    → IsBest number_of (BreaksOf charts) sizes None → IsBest number_of (BreaksOf charts) parts o → IsFirstOf charts text_groups o
+first_of_text charts None a b c d h = (a, (b, (c, (d, (h, tt)))))
+first_of_text charts (Some fault) a b c d h = inr (a, inr (b, inr (c, inr (d, inl h))))
 
-pub alone_first : (charts : List Chart) (p : Place) → IsBest number_of (BreaksOf charts) forms None → IsBest number_of (BreaksOf charts) limits None → IsBest number_of (BreaksOf charts) names None
-    → IsBest number_of (BreaksOf charts) sizes None → IsLeast (InOne IsAloneAt charts) (Some p) → IsFirst number_of (BreaksOf charts) all_groups (record { rule = Unmatched; place = p })
-alone_first charts p a b c d h = inr (a, inr (b, inr (c, inr (d, inr (columns_kept charts (built_of charts a), inl (one_best charts Unmatched (Some p) h))))))
+-- where columns don't cross and each message has its partner, the first fault of the bodies is one of names or a cycle
+pub columns_kept : (charts : List Chart) → IsLeast (InOne CrossesAt charts) None → Keeps (BreaksOf charts) columns
+columns_kept charts none = one_best charts Crossed None none
 
--- the groups up to the messages are kept
-pub record KeepsMessages (charts : List Chart) : Type 0 where
-  pub forms : IsBest number_of (BreaksOf charts) forms None
-  pub limits : IsBest number_of (BreaksOf charts) limits None
-  pub names : IsBest number_of (BreaksOf charts) names None
-  pub sizes : IsBest number_of (BreaksOf charts) sizes None
-  pub matched : IsLeast (InOne IsAloneAt charts) None
+pub messages_kept : (charts : List Chart) → IsLeast (InOne IsAloneAt charts) None → Keeps (BreaksOf charts) messages
+messages_kept charts none = one_best charts Unmatched None none
 
-pub event_name_first : (charts : List Chart) (fault : Broken Rule) → KeepsMessages charts → IsBest number_of (BreaksOf charts) event_names (Some fault) → IsFirst number_of (BreaksOf charts) all_groups fault
-event_name_first charts fault k h = inr (k.forms, inr (k.limits, inr (k.names, inr (k.sizes, inr (columns_kept charts (built_of charts k.forms), inr (messages_kept charts k.matched, inl h))))))
+pub crossed_first : (charts : List Chart) (p : Place) → IsLeast (InOne CrossesAt charts) (Some p) → IsFirstOf charts body_groups (Some (record { rule = Crossed; place = p }))
+crossed_first charts p h = inl (one_best charts Crossed (Some p) h)
 
-pub cyclic_first : (charts : List Chart) (p : Place) → KeepsMessages charts → IsBest number_of (BreaksOf charts) event_names None → IsLeast (InOne IsCyclicAt charts) (Some p) → IsFirst number_of (BreaksOf charts) all_groups (record { rule = Cyclic; place = p })
-cyclic_first charts p k n e = inr (k.forms, inr (k.limits, inr (k.names, inr (k.sizes, inr (columns_kept charts (built_of charts k.forms), inr (messages_kept charts k.matched, inr (n, inl (one_best charts Cyclic (Some p) e))))))))
+pub alone_first : (charts : List Chart) (p : Place) → IsLeast (InOne CrossesAt charts) None → IsLeast (InOne IsAloneAt charts) (Some p) → IsFirstOf charts body_groups (Some (record { rule = Unmatched; place = p }))
+alone_first charts p none h = inr (columns_kept charts none, inl (one_best charts Unmatched (Some p) h))
 
-pub all_kept : (charts : List Chart) → KeepsMessages charts → IsBest number_of (BreaksOf charts) event_names None → IsLeast (InOne IsCyclicAt charts) None → AllKept (BreaksOf charts) all_groups
-all_kept charts k n e = (k.forms, (k.limits, (k.names, (k.sizes, (columns_kept charts (built_of charts k.forms), (messages_kept charts k.matched, (n, (one_best charts Cyclic None e, tt))))))))
+pub event_name_first : (charts : List Chart) (fault : Broken Rule) → IsLeast (InOne CrossesAt charts) None → IsLeast (InOne IsAloneAt charts) None → IsBest number_of (BreaksOf charts) event_names (Some fault) → IsFirstOf charts body_groups (Some fault)
+event_name_first charts fault none matched h = inr (columns_kept charts none, inr (messages_kept charts matched, inl h))
+
+pub cycle_first : (charts : List Chart) (o : Option Place) → IsLeast (InOne CrossesAt charts) None → IsLeast (InOne IsAloneAt charts) None → IsBest number_of (BreaksOf charts) event_names None → IsLeast (InOne IsCyclicAt charts) o
+    → IsFirstOf charts body_groups (fault_of Cyclic o)
+cycle_first charts None none matched names h = (columns_kept charts none, (messages_kept charts matched, (names, (one_best charts Cyclic None h, tt))))
+cycle_first charts (Some p) none matched names h = inr (columns_kept charts none, inr (messages_kept charts matched, inr (names, inl (one_best charts Cyclic (Some p) h))))
 
 -- ---- documents
 

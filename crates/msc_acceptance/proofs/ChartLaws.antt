@@ -1,33 +1,31 @@
 -- What charts whose forms are built are woven to.
-use Rattle.std.proofs.Common.{◌≡◌, ◌≤◌, ℕ, List, Option, Some, None, sym, subst, ap, ◌∙◌}
-use Rattle.msc_base.specs.Places.{IsLeast}
-use Rattle.msc_base.specs.declared.label.Pair.{Pair}
-use Rattle.msc_base.specs.declared.place.Place.{Place}
-use Rattle.msc_tree.specs.Charts.{Chart, Content}
-use Rattle.msc_tree.specs.Charts as chart
-use Rattle.msc_tree.specs.Statements.{statements}
-use Rattle.msc_meaning.specs.Bodies.{Body, Items, events, items, level}
-use Rattle.msc_meaning.specs.Pairing.{ArePairs}
-use Rattle.msc_meaning.specs.Pieces.{Piece, statements_count, statements_pieces}
-use Rattle.msc_meaning.specs.Levels.{IsWovenLevel}
-use Rattle.msc_meaning.specs.Tables.{ChartEntry, Woven, Basic, HighLevel}
-use Rattle.msc_meaning.specs.WovenTables.{IsEntryOf, IsWovenContent}
+use Rattle.std.proofs.Common.{◌≡◌, ℕ, List, Option, Some, None, refl, sym, subst, ap, ◌∙◌}
+use Rattle.built_charts.specs.BuiltCharts.{BuiltChartsAreKnown}
+use Rattle.chart_forms.specs.NotBuilt.{IsBuilt}
 use Rattle.event_order.specs.OrderLaws.{RanksRise}
 use Rattle.event_order.specs.Precedence.{CanBeRanked, IsCyclic}
-use Rattle.msc_instances.specs.Instances.{instances}
-use Rattle.level_pieces.proofs.LeastLaws.{least_same}
-use Rattle.level_weaving.specs.TextOrder.{AreInOneColumn, pieces_items}
-use Rattle.level_weaving.specs.WeaveFaults.{IsAloneIn, IsContentFault, IsContentWoven, IsLevelFault, IsLevelWoven, IsWeaveFault, IsWovenTo}
-use Rattle.level_weaving.specs.declared.weaving.WeaveFault.{WeaveFault}
-use Rattle.level_weaving.specs.declared.weaving.WeaveFault.TheVariants as fault
-use Rattle.level_weaving.proofs.OneBody.{one_body}
-use Rattle.level_weaving.proofs.TextOrderLaws.{all_woven, only_text, text_uncrossed}
-use Rattle.msc_acceptance.specs.ChartFaults.{ContentCrosses, CrossesAt, IsAloneAt, IsBodyOf, IsBuilt, IsCyclicAt, IsMisnamedAt}
 use Rattle.general_ordering.specs.EventNames.{BreaksNameRule}
 use Rattle.general_ordering.specs.declared.faults.EventNameRule.{EventNameRule}
+use Rattle.level_pieces.proofs.LeastLaws.{least_same}
+use Rattle.level_weaving.proofs.OneBody.{one_body}
+use Rattle.level_weaving.specs.WeaveFaults.{IsAloneIn, IsContentFault, IsContentWoven, IsLevelFault, IsWeaveFault, IsWovenTo}
+use Rattle.level_weaving.specs.declared.weaving.WeaveFault.{WeaveFault}
+use Rattle.level_weaving.specs.declared.weaving.WeaveFault.TheVariants as fault
+use Rattle.msc_acceptance.specs.ChartFaults.{ContentCrosses, CrossesAt, IsAloneAt, IsBodyOf, IsCyclicAt, IsMisnamedAt}
 use Rattle.msc_acceptance.specs.Deciding.{ContentRanked}
-use Rattle.msc_acceptance.specs.Rules.{content_size}
-use Rattle.msc_acceptance.proofs.BuiltLaws.{AreItemsBare, HasPieces, has_pieces, in_one_column, pieces_bare}
+use Rattle.msc_base.specs.Places.{IsLeast}
+use Rattle.msc_base.specs.declared.place.Place.{Place}
+use Rattle.msc_instances.specs.Instances.{instances}
+use Rattle.msc_meaning.specs.Bodies.{Body}
+use Rattle.msc_meaning.specs.Crossings.{Crosses}
+use Rattle.msc_meaning.specs.Levels.{IsWovenLevel}
+use Rattle.msc_meaning.specs.Partners.{LacksPartner}
+use Rattle.msc_meaning.specs.Pieces.{Piece, statements_pieces}
+use Rattle.msc_meaning.specs.Tables.{ChartEntry, Woven, Basic, HighLevel}
+use Rattle.msc_meaning.specs.WovenTables.{IsEntryOf, IsWovenContent}
+use Rattle.msc_tree.specs.Charts.{Chart, Content}
+use Rattle.msc_tree.specs.Charts as chart
+use Rattle.msc_tree.specs.Statements.{Statement, statements}
 
 -- ---- a chart is woven to one body
 
@@ -42,71 +40,63 @@ one_content names (chart.HighLevel drawn) (Basic a) w h g = absurd h
 pub same_body : (c : Chart) (a b : Body) → IsBodyOf c a → IsBodyOf c b → a ≡ b
 same_body c a b h g = let same = one_content (instances c) c.content (Basic a) (Basic b) h g in cc
 
--- ---- its pieces
+-- ---- a chart whose forms are built is a basic one
 
-abbrev pieces_of : (c : Chart) → HasPieces c → List Piece
+pub record IsBasic (c : Chart) : Type 0 where
+  pub held : List Statement
+  pub is : c.content ≡ chart.Basic held
+
+pub is_basic : BuiltChartsAreKnown → (c : Chart) → IsBuilt c → IsBasic c
+is_basic known c built = by c.content refl
+  where
+    by : (x : Content) → c.content ≡ x → IsBasic c
+    by (chart.Basic held) e = record { held = held; is = e }
+    by (chart.HighLevel drawn) e = absurd (known.basic c drawn e built)
+
+abbrev pub pieces_of : (c : Chart) → IsBasic c → List Piece
 pieces_of c p = statements_pieces (instances c) 0 (statements p.held)
 
-in_columns : (c : Chart) (p : HasPieces c) → AreInOneColumn (instances c) (pieces_of c p)
-in_columns c p = in_one_column (instances c) 0 (statements_count (statements p.held)) (pieces_of c p) p.pieces
-
-level_of : (c : Chart) (p : HasPieces c) (b : Body) → IsBodyOf c b → IsWovenLevel (instances c) (pieces_of c p) b
+pub level_of : (c : Chart) (p : IsBasic c) (b : Body) → IsBodyOf c b → IsWovenLevel (instances c) (pieces_of c p) b
 level_of c p b h = subst (λ (x : Content). IsWovenContent (instances c) x (Basic b)) p.is h
-
--- what the body of a chart is
-pub record BodyIs (c : Chart) (b : Body) : Type 0 where
-  pub held : Items
-  pub pairs : List Pair
-  pub is : b ≡ level (instances c) held pairs
-  pub paired : ArePairs (events held) pairs
-  pub count : ℕ
-  pub bare : AreItemsBare (instances c) 0 count held
-  pub fit : count ≤ content_size c.content
-
-pub body_is : (c : Chart) (b : Body) → IsBuilt c → IsBodyOf c b → BodyIs c b
-body_is c b built h =
-    let p = has_pieces c built in
-    let l = only_text (instances c) (pieces_of c p) (in_columns c p) (level_of c p b h) in record {
-      held = items (pieces_items (pieces_of c p));
-      pairs = l.0;
-      is = l.1;
-      paired = l.2;
-      count = statements_count (statements p.held);
-      bare = pieces_bare (instances c) 0 (statements_count (statements p.held)) (pieces_of c p) p.pieces;
-      fit = p.fit;
-    }
 
 -- ---- its faults
 
-pub never_crosses : (c : Chart) → IsBuilt c → (place : Place) → CrossesAt c place → ⊥
-never_crosses c built place h =
-    let p = has_pieces c built in
-    text_uncrossed (instances c) (pieces_of c p) place (in_columns c p) (subst (λ (x : Content). ContentCrosses (instances c) x place) p.is h)
-
-level_fault : (c : Chart) (p : HasPieces c) (f : WeaveFault) → IsWeaveFault c f → IsLevelFault (instances c) (pieces_of c p) f
+level_fault : (c : Chart) (p : IsBasic c) (f : WeaveFault) → IsWeaveFault c f → IsLevelFault (instances c) (pieces_of c p) f
 level_fault c p f h = subst (λ (x : Content). IsContentFault (instances c) c.place x f) p.is h
 
-pub never_unwoven : (c : Chart) (place : Place) → IsBuilt c → IsWeaveFault c (fault.NotWoven place) → ⊥
-never_unwoven c place built h =
-    let p = has_pieces c built in
+pub never_unwoven : BuiltChartsAreKnown → (c : Chart) (place : Place) → IsBuilt c → IsWeaveFault c (fault.NotWoven place) → ⊥
+never_unwoven known c place built h =
+    let p = is_basic known c built in
     let g = level_fault c p (fault.NotWoven place) h in
-    all_woven (instances c) (pieces_of c p) (in_columns c p) place g.0
+    known.all_woven c p.held p.is built place g.0
 
-pub never_crossed : (c : Chart) (place : Place) → IsBuilt c → IsWeaveFault c (fault.Crossed place) → ⊥
-never_crossed c place built h =
-    let p = has_pieces c built in
+crosses_at : (c : Chart) (p : IsBasic c) (q : Place) → Crosses (instances c) (pieces_of c p) q → CrossesAt c q
+crosses_at c p q h = subst (λ (x : Content). ContentCrosses (instances c) x q) (sym p.is) h
+
+crosses_in : (c : Chart) (p : IsBasic c) (q : Place) → CrossesAt c q → Crosses (instances c) (pieces_of c p) q
+crosses_in c p q h = subst (λ (x : Content). ContentCrosses (instances c) x q) p.is h
+
+pub crossed_of : BuiltChartsAreKnown → (c : Chart) (place : Place) → IsBuilt c → IsWeaveFault c (fault.Crossed place) → IsLeast (CrossesAt c) (Some place)
+crossed_of known c place built h =
+    let p = is_basic known c built in
     let g = level_fault c p (fault.Crossed place) h in
-    text_uncrossed (instances c) (pieces_of c p) place (in_columns c p) g.1.0
+    least_same (Crosses (instances c) (pieces_of c p)) (CrossesAt c) (Some place) (crosses_at c p) (crosses_in c p) g.1
 
-alone_at : (c : Chart) (p : HasPieces c) (q : Place) → IsAloneIn (instances c) (pieces_of c p) q → IsAloneAt c q
+alone_at : (c : Chart) (p : IsBasic c) (q : Place) → IsAloneIn (instances c) (pieces_of c p) q → IsAloneAt c q
 alone_at c p q a = record { body = a.body; woven = subst (λ (x : Content). IsWovenContent (instances c) x (Basic a.body)) (sym p.is) a.woven; alone = a.alone }
 
-alone_in : (c : Chart) (p : HasPieces c) (q : Place) → IsAloneAt c q → IsAloneIn (instances c) (pieces_of c p) q
+alone_in : (c : Chart) (p : IsBasic c) (q : Place) → IsAloneAt c q → IsAloneIn (instances c) (pieces_of c p) q
 alone_in c p q a = record { body = a.body; woven = level_of c p a.body a.woven; alone = a.alone }
 
-pub alone_of : (c : Chart) (place : Place) → IsBuilt c → IsWeaveFault c (fault.Unmatched place) → IsLeast (IsAloneAt c) (Some place)
-alone_of c place built h =
-    let p = has_pieces c built in
+pub uncrossed_of : BuiltChartsAreKnown → (c : Chart) (place : Place) → IsBuilt c → IsWeaveFault c (fault.Unmatched place) → IsLeast (CrossesAt c) None
+uncrossed_of known c place built h =
+    let p = is_basic known c built in
+    let g = level_fault c p (fault.Unmatched place) h in
+    λ q x. g.1 q (crosses_in c p q x)
+
+pub alone_of : BuiltChartsAreKnown → (c : Chart) (place : Place) → IsBuilt c → IsWeaveFault c (fault.Unmatched place) → IsLeast (IsAloneAt c) (Some place)
+alone_of known c place built h =
+    let p = is_basic known c built in
     let g = level_fault c p (fault.Unmatched place) h in
     least_same (IsAloneIn (instances c) (pieces_of c p)) (IsAloneAt c) (Some place) (alone_at c p) (alone_in c p) g.2
 
@@ -119,11 +109,19 @@ content_woven names (chart.HighLevel drawn) b h = absurd h
 pub woven_body : (c : Chart) (b : Body) → IsWovenTo c b → IsBodyOf c b
 woven_body c b h = content_woven (instances c) c.content b h
 
-pub none_alone : (c : Chart) (b : Body) → IsBuilt c → IsWovenTo c b → (q : Place) → IsAloneAt c q → ⊥
-none_alone c b built h q a =
-    let p = has_pieces c built in
-    let l : IsLevelWoven (instances c) (pieces_of c p) b = subst (λ (x : Content). IsContentWoven (instances c) x b) p.is h in
-    l.matched q (alone_in c p q a)
+content_uncrossed : (names : List (List ℕ)) (x : Content) (b : Body) → IsContentWoven names x b → (q : Place) → ContentCrosses names x q → ⊥
+content_uncrossed names (chart.Basic held) b h q g = h.uncrossed q g
+content_uncrossed names (chart.HighLevel drawn) b h q g = g
+
+pub none_cross : (c : Chart) (b : Body) → IsWovenTo c b → IsLeast (CrossesAt c) None
+none_cross c b h = content_uncrossed (instances c) c.content b h
+
+content_matched : (names : List (List ℕ)) (x : Content) (b other : Body) → IsContentWoven names x b → IsWovenContent names x (Basic other) → (q : Place) → LacksPartner other q → ⊥
+content_matched names (chart.Basic held) b other h g q a = h.matched q (record { body = other; woven = g; alone = a })
+content_matched names (chart.HighLevel drawn) b other h g q a = absurd h
+
+pub none_alone : (c : Chart) (b : Body) → IsWovenTo c b → IsLeast (IsAloneAt c) None
+none_alone c b h q a = content_matched (instances c) c.content b a.body h a.woven q a.alone
 
 -- where the events of a chart can be ranked its order isn't cyclic
 pub never_cyclic : RanksRise → (c : Chart) (b : Body) → IsBodyOf c b → CanBeRanked b → IsLeast (IsCyclicAt c) None

@@ -15,3 +15,7 @@ one_best charts r a h = best_of_one number_of (BreaksOf charts) r a h
 pub two_best : (charts : List Chart) (r s : Rule) (a b : Option Place) → IsLeast (BreaksOf charts r) a → IsLeast (BreaksOf charts s) b
     → IsBest number_of (BreaksOf charts) (r ∷ s ∷ []) (earlier_of number_of (fault_of r a) (fault_of s b))
 two_best charts r s a b h k = best_with number_of (BreaksOf charts) (r ∷ []) s (fault_of r a) b (one_best charts r a h) k
+
+pub three_best : (charts : List Chart) (r s t : Rule) (a b c : Option Place) → IsLeast (BreaksOf charts r) a → IsLeast (BreaksOf charts s) b → IsLeast (BreaksOf charts t) c
+    → IsBest number_of (BreaksOf charts) (r ∷ s ∷ t ∷ []) (earlier_of number_of (earlier_of number_of (fault_of r a) (fault_of s b)) (fault_of t c))
+three_best charts r s t a b c h k l = best_with number_of (BreaksOf charts) (r ∷ s ∷ []) t (earlier_of number_of (fault_of r a) (fault_of s b)) c (two_best charts r s a b h k) l

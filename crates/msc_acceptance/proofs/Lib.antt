@@ -1,11 +1,8 @@
 pub mod WalkLaws
-pub mod DeclaredLaws
-pub mod BuiltLaws
-pub mod BareLaws
 pub mod ChartLaws
 pub mod TableLaws
 pub mod GroupLaws
 pub mod AcceptLaws
 pub mod LimitLaws
-pub mod EventLaws
+pub mod AcceptedLaws
 pub mod ListLaws

@@ -12,10 +12,10 @@ use Rattle.msc_tree.specs.Charts.{Chart}
 use Rattle.msc_tree.specs.Views.{chart_view}
 use Rattle.msc_tree.specs.declared.chart.RawChart.{RawChart}
 use Rattle.level_pieces.proofs.Walks.{drop_read}
-use Rattle.msc_acceptance.specs.ChartFaults.{IsBuilt}
-use Rattle.msc_acceptance.specs.NotBuilt.{IsNotBuilt}
+use Rattle.chart_forms.specs.ChartSizes.{size_of}
+use Rattle.chart_forms.specs.NotBuilt.{IsBuilt, IsNotBuilt}
 use Rattle.msc_acceptance.specs.Deciding.{AreBuilt, earlier_of}
-use Rattle.msc_acceptance.specs.Rules.{InOne, IsFurther, PassesTotal, passes, size_of}
+use Rattle.msc_acceptance.specs.Rules.{InOne, IsFurther, PassesTotal, passes}
 
 pub split : (list : List RawChart) (k : ℕ) (c : RawChart) → k < length list → c ≡ get_or list k c → map chart_view (drop k list) ≡ chart_view c ∷ map chart_view (drop (k + 1) list)
 split list k c low is = ap (map chart_view) (drop_read list k c low is)

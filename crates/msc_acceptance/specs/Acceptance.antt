@@ -3,16 +3,19 @@ use Rattle.std.specs.Prelude.{◌⊎◌, [], List}
 use Rattle.msc_base.specs.declared.place.Place.{Place}
 use Rattle.msc_tree.specs.Charts.{Chart, Document}
 use Rattle.msc_rules.specs.declared.rule.Rule.{Rule}
-use Rattle.msc_rules.specs.declared.rule.Rule.TheVariants.{NotBuilt, Charts, Instances, NamedTwice, Undeclared, Size, Total, Crossed, Unmatched, UnknownEvent, EventNamedTwice, Cyclic}
+use Rattle.msc_rules.specs.declared.rule.Rule.TheVariants.{NotBuilt, Charts, Instances, NamedTwice, Undeclared, Size, Total, NotShared, OperandsDiffer, ExcPlace, Crossed, Unmatched, UnknownEvent, EventNamedTwice, Cyclic}
 use Rattle.msc_rules.specs.FirstFaults.{IsFirstFault, IsFaultless}
 use Rattle.msc_rules.specs.Rules.{group_of, number_of}
+use Rattle.chart_forms.specs.NotBuilt.{IsNotBuilt}
+use Rattle.level_weaving.specs.Exceptions.{IsMisplaced}
+use Rattle.shared_parts.specs.PartRules.{ChartBreaksPartRule}
+use Rattle.shared_parts.specs.declared.faults.PartRule.TheVariants as part
 use Rattle.msc_meaning.specs.Tables.{Table}
 use Rattle.msc_meaning.specs.WovenTables.{IsTableOf}
 use Rattle.msc_acceptance.specs.ChartFaults.{CrossesAt, IsAloneAt, IsCyclicAt, IsMisnamedAt}
 use Rattle.general_ordering.specs.declared.faults.EventNameRule.TheVariants.{Unknown, Twice}
 use Rattle.msc_instances.specs.Instances.{instances}
 use Rattle.msc_instances.specs.NameFaults.{ChartNamesOther, ChartNamesTwice}
-use Rattle.msc_acceptance.specs.NotBuilt.{IsNotBuilt}
 use Rattle.msc_acceptance.specs.Rules.{InOne, IsFurther, HasFurther, IsNamedAgain, IsLarge, PassesTotal}
 
 -- the charts break the rule at that place
@@ -24,6 +27,9 @@ BreaksOf charts NamedTwice place = IsNamedAgain [] charts place ⊎ InOne ChartN
 BreaksOf charts Undeclared place = InOne ChartNamesOther charts place
 BreaksOf charts Size place = InOne IsLarge charts place
 BreaksOf charts Total place = PassesTotal 0 charts place
+BreaksOf charts NotShared place = InOne (ChartBreaksPartRule part.NotShared) charts place
+BreaksOf charts OperandsDiffer place = InOne (ChartBreaksPartRule part.OperandsDiffer) charts place
+BreaksOf charts ExcPlace place = InOne IsMisplaced charts place
 BreaksOf charts Crossed place = InOne CrossesAt charts place
 BreaksOf charts Unmatched place = InOne IsAloneAt charts place
 BreaksOf charts UnknownEvent place = InOne (IsMisnamedAt Unknown) charts place

@@ -13,7 +13,6 @@ use Rattle.general_ordering.specs.EventNames.{BreaksNameRule}
 use Rattle.general_ordering.specs.declared.faults.EventNameRule.{EventNameRule}
 use Rattle.event_order.specs.Precedence.{IsCyclic}
 use Rattle.msc_instances.specs.Instances.{instances}
-use Rattle.msc_acceptance.specs.NotBuilt.{IsNotBuilt}
 
 -- the chart is a basic one, and its text is woven to that body
 abbrev pub IsBodyOf : Chart → Body → Type 0
@@ -45,7 +44,3 @@ pub record IsCyclicAt (chart : Chart) (place : Place) : Type 0 where
   pub woven : IsBodyOf chart body
   pub cyclic : IsCyclic body
   pub there : chart.place ≡ place
-
--- every form of the chart is built
-abbrev pub IsBuilt : Chart → Type 0
-IsBuilt chart = (p : Place) → IsNotBuilt chart p → ⊥

@@ -1,23 +1,28 @@
 -- Serves private contracts alone.
 -- What a document comes to: its table, or its first fault.
-use Rattle.std.specs.Prelude.{◌≡◌, ⊤, List, [], ◌∷◌, Option, None, Some}
+use Rattle.std.specs.Prelude.{◌≡◌, ⊤, List, [], ◌∷◌, ◌++◌, Option, None, Some}
 use Rattle.msc_base.specs.Places.{IsLeast, earliest}
 use Rattle.msc_base.specs.declared.place.Place.{Place}
 use Rattle.msc_tree.specs.Charts.{Chart}
 use Rattle.msc_rules.specs.FirstFaults.{Keeps, IsFirst}
 use Rattle.msc_rules.specs.Rules.{number_of}
 use Rattle.msc_rules.specs.declared.rule.Rule.{Rule}
-use Rattle.msc_rules.specs.declared.rule.Rule.TheVariants.{NotBuilt, Charts, Instances, NamedTwice, Undeclared, Size, Total, Crossed, Unmatched, UnknownEvent, EventNamedTwice, Cyclic}
+use Rattle.msc_rules.specs.declared.rule.Rule.TheVariants.{NotBuilt, Charts, Instances, NamedTwice, Undeclared, Size, Total, NotShared, OperandsDiffer, ExcPlace, Crossed, Unmatched, UnknownEvent, EventNamedTwice, Cyclic}
 use Rattle.event_order.specs.Precedence.{CanBeRanked}
 use Rattle.msc_meaning.specs.Tables.{Basic, HighLevel, Table, Woven}
 use Rattle.msc_meaning.specs.Views.{entry_view, table_view}
 use Rattle.msc_meaning.specs.WovenTables.{AreEntriesOf, IsEntryOf}
-use Rattle.msc_acceptance.specs.ChartFaults.{IsAloneAt, IsCyclicAt, IsMisnamedAt}
+use Rattle.msc_acceptance.specs.ChartFaults.{CrossesAt, IsAloneAt, IsCyclicAt, IsMisnamedAt}
 use Rattle.general_ordering.specs.declared.faults.EventNameRule.TheVariants.{Unknown, Twice}
 use Rattle.msc_acceptance.specs.declared.tables.BodyFaults.{BodyFaults}
 use Rattle.msc_instances.specs.NameFaults.{ChartNamesOther, ChartNamesTwice}
 use Rattle.msc_instances.specs.Instances.{instances}
-use Rattle.msc_acceptance.specs.NotBuilt.{IsNotBuilt}
+use Rattle.chart_forms.specs.NotBuilt.{IsNotBuilt}
+use Rattle.level_weaving.specs.Exceptions.{IsMisplaced}
+use Rattle.shared_parts.specs.PartRules.{ChartBreaksPartRule}
+use Rattle.shared_parts.specs.declared.faults.PartRule.TheVariants as part
+use Rattle.msc_rules.specs.declared.first_fault.Broken.{Broken}
+use Rattle.msc_acceptance.specs.declared.parts.PartPlaces.{PartPlaces}
 use Rattle.msc_acceptance.specs.declared.deciding.Decision.{Decision}
 use Rattle.msc_acceptance.specs.declared.deciding.Decision.TheVariants as decision
 use Rattle.msc_acceptance.specs.declared.tables.Weaving.{Weaving}
@@ -27,6 +32,8 @@ use Rattle.msc_acceptance.specs.declared.walks.ChartRule.{ChartRule}
 use Rattle.msc_acceptance.specs.declared.walks.ChartRule.TheVariants as rule
 use Rattle.msc_acceptance.specs.Acceptance.{BreaksOf}
 use Rattle.msc_acceptance.specs.Rules.{InOne}
+
+-- ---- groups of rules
 
 abbrev pub forms : List Rule
 forms = NotBuilt ∷ []
@@ -40,6 +47,9 @@ names = NamedTwice ∷ Undeclared ∷ []
 abbrev pub sizes : List Rule
 sizes = Size ∷ Total ∷ []
 
+abbrev pub parts : List Rule
+parts = NotShared ∷ OperandsDiffer ∷ ExcPlace ∷ []
+
 abbrev pub columns : List Rule
 columns = Crossed ∷ []
 
@@ -52,14 +62,27 @@ event_names = UnknownEvent ∷ EventNamedTwice ∷ []
 abbrev pub cycles : List Rule
 cycles = Cyclic ∷ []
 
+-- the rules on the text
+abbrev pub text_groups : List (List Rule)
+text_groups = forms ∷ limits ∷ names ∷ sizes ∷ parts ∷ []
+
+-- the rules on what charts are woven to
+abbrev pub body_groups : List (List Rule)
+body_groups = columns ∷ messages ∷ event_names ∷ cycles ∷ []
+
 abbrev pub all_groups : List (List Rule)
-all_groups = forms ∷ limits ∷ names ∷ sizes ∷ columns ∷ messages ∷ event_names ∷ cycles ∷ []
+all_groups = text_groups ++ body_groups
 
 abbrev pub AllKept : (Rule → Place → Type 0) → List (List Rule) → Type 0
 AllKept Breaks [] = ⊤
 AllKept Breaks (rules ∷ others) = Keeps Breaks rules × AllKept Breaks others
 
--- every form of the charts is woven
+-- the first fault by these groups, or none
+abbrev pub IsFirstOf : List Chart → List (List Rule) → Option (Broken Rule) → Type 0
+IsFirstOf charts groups None = AllKept (BreaksOf charts) groups
+IsFirstOf charts groups (Some fault) = IsFirst number_of (BreaksOf charts) groups fault
+
+-- every form of the charts is built
 abbrev pub AreBuilt : List Chart → Type 0
 AreBuilt charts = (p : Place) → InOne IsNotBuilt charts p → ⊥
 
@@ -69,6 +92,23 @@ abbrev pub ChartBreaks : ChartRule → Chart → Place → Type 0
 ChartBreaks rule.NotBuilt = IsNotBuilt
 ChartBreaks rule.NamedTwice = ChartNamesTwice
 ChartBreaks rule.Undeclared = ChartNamesOther
+
+-- the earlier of two places
+abbrev pub earlier_of : Option Place → Option Place → Option Place
+earlier_of a None = a
+earlier_of a (Some p) = earliest a p
+
+-- the earliest places at which a chart breaks the rules on parts
+pub record AreOwnPlaces (chart : Chart) (places : PartPlaces) : Type 0 where
+  pub unshared : IsLeast (ChartBreaksPartRule part.NotShared chart) places.unshared
+  pub differing : IsLeast (ChartBreaksPartRule part.OperandsDiffer chart) places.differing
+  pub misplaced : IsLeast (IsMisplaced chart) places.misplaced
+
+-- the earliest places at which one of the charts breaks them
+pub record ArePartPlaces (charts : List Chart) (places : PartPlaces) : Type 0 where
+  pub unshared : IsLeast (InOne (ChartBreaksPartRule part.NotShared) charts) places.unshared
+  pub differing : IsLeast (InOne (ChartBreaksPartRule part.OperandsDiffer) charts) places.differing
+  pub misplaced : IsLeast (InOne IsMisplaced charts) places.misplaced
 
 -- ---- the table
 
@@ -81,36 +121,43 @@ abbrev pub AreAllRanked : Table → Type 0
 AreAllRanked [] = ⊤
 AreAllRanked (c ∷ table) = ContentRanked c.content × AreAllRanked table
 
--- the earliest places at which the body of a chart breaks the rules on the names of events and on the order
+-- no columns cross, and no message lacks a partner
+abbrev pub IsWhole : BodyFaults → Type 0
+IsWhole faults = (faults.crossed ≡ None) × (faults.alone ≡ None)
+
+-- the earliest places at which a chart breaks the rules on what it is woven to: where columns cross it has no body, and where a message
+-- lacks its partner its other rules aren't looked at
 pub record AreFaultsOf (chart : Chart) (faults : BodyFaults) : Type 0 where
-  pub unknown : IsLeast (IsMisnamedAt Unknown chart) faults.unknown
-  pub twice : IsLeast (IsMisnamedAt Twice chart) faults.twice
-  pub cyclic : IsLeast (IsCyclicAt chart) faults.cyclic
+  pub crossed : IsLeast (CrossesAt chart) faults.crossed
+  pub alone : faults.crossed ≡ None → IsLeast (IsAloneAt chart) faults.alone
+  pub unknown : IsWhole faults → IsLeast (IsMisnamedAt Unknown chart) faults.unknown
+  pub twice : IsWhole faults → IsLeast (IsMisnamedAt Twice chart) faults.twice
+  pub cyclic : IsWhole faults → IsLeast (IsCyclicAt chart) faults.cyclic
 
--- what one chart, whose forms are built, is woven to: its entry, with the places where this breaks a rule; or its earliest event without
--- partner
+-- it has no entry, and that is why
+abbrev pub IsBarred : Chart → BodyFaults → Type 0
+IsBarred chart faults = (IsWhole faults → ⊥) × AreFaultsOf chart faults
+
+-- what one chart, whose forms are built, is woven to: its entry, with the places where this breaks a rule; or where it breaks a rule so that
+-- it has none
 abbrev pub IsNextWoven : Chart → ChartResult → Type 0
-IsNextWoven chart (one.Entry entry faults) = IsEntryOf (instances chart) chart (entry_view entry) × ((p : Place) → IsAloneAt chart p → ⊥) × AreFaultsOf chart faults × (faults.cyclic ≡ None → ContentRanked (entry_view entry).content)
-IsNextWoven chart (one.Alone place) = IsLeast (IsAloneAt chart) (Some place)
-
--- the earlier of two places
-abbrev pub earlier_of : Option Place → Option Place → Option Place
-earlier_of a None = a
-earlier_of a (Some p) = earliest a p
+IsNextWoven chart (one.Entry entry faults) = IsEntryOf (instances chart) chart (entry_view entry) × AreFaultsOf chart faults × (faults.cyclic ≡ None → ContentRanked (entry_view entry).content)
+IsNextWoven chart (one.Barred faults) = IsBarred chart faults
 
 -- the earliest places at which one of the charts breaks these rules
 pub record AreFaultsIn (charts : List Chart) (faults : BodyFaults) : Type 0 where
-  pub unknown : IsLeast (InOne (IsMisnamedAt Unknown) charts) faults.unknown
-  pub twice : IsLeast (InOne (IsMisnamedAt Twice) charts) faults.twice
-  pub cyclic : IsLeast (InOne IsCyclicAt charts) faults.cyclic
+  pub crossed : IsLeast (InOne CrossesAt charts) faults.crossed
+  pub alone : faults.crossed ≡ None → IsLeast (InOne IsAloneAt charts) faults.alone
+  pub unknown : IsWhole faults → IsLeast (InOne (IsMisnamedAt Unknown) charts) faults.unknown
+  pub twice : IsWhole faults → IsLeast (InOne (IsMisnamedAt Twice) charts) faults.twice
+  pub cyclic : IsWhole faults → IsLeast (InOne IsCyclicAt charts) faults.cyclic
 
--- what the charts are woven to: the earliest event without partner, or where there is none their entries, and the earliest places at which
--- these break a rule; where no order is cyclic, the events of each can be ranked
+-- what the charts are woven to: the earliest places at which they break a rule, and where each has a body their entries; where no order is
+-- cyclic, the events of each can be ranked
 pub record AreWoven (charts : List Chart) (made : Weaving) : Type 0 where
-  pub least : IsLeast (InOne IsAloneAt charts) made.alone
-  pub entries : made.alone ≡ None → AreEntriesOf instances charts (table_view made.entries.items)
-  pub faults : made.alone ≡ None → AreFaultsIn charts made.faults
-  pub ranked : made.alone ≡ None → made.faults.cyclic ≡ None → AreAllRanked (table_view made.entries.items)
+  pub faults : AreFaultsIn charts made.faults
+  pub entries : IsWhole made.faults → AreEntriesOf instances charts (table_view made.entries.items)
+  pub ranked : IsWhole made.faults → made.faults.cyclic ≡ None → AreAllRanked (table_view made.entries.items)
 
 -- these charts keep all rules, are these entries, and their events can be ranked; or they have this first fault
 abbrev pub IsDecided : List Chart → Decision → Type 0

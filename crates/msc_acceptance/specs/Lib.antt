@@ -1,7 +1,6 @@
-pub mod NotBuilt
 pub mod ChartFaults
 pub mod Rules
 pub mod Acceptance
 pub mod Listing
-pub mod EventCharts
+pub mod AcceptedCharts
 pub mod Deciding

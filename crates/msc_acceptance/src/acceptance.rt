@@ -8,10 +8,11 @@ ghost use Rattle.msc_meaning.specs.WovenTables.{IsTableOf};
 ghost use Rattle.msc_instances.specs.Instances.{instances};
 ghost use Rattle.msc_tree.specs.Views.{document_view};
 ghost use Rattle.msc_acceptance.specs.Acceptance.{HasFault, IsAccepted};
-ghost use Rattle.msc_acceptance.specs.EventCharts.{HaveEventsAlone};
+ghost use Rattle.msc_acceptance.specs.AcceptedCharts.{AreAcceptedCharts};
 
 use crate::deciding::{Decision, decide};
 use crate::{Accepted, DocFault};
+use built_charts::laws::{built_charts_are_known, woven_charts_are_known};
 use msc_base::{NoMemory, Place};
 use msc_tree::RawDocument;
 use std::alloc::Global;
@@ -20,12 +21,14 @@ use std::alloc::Global;
 pub fn accept(alloc: Global, raw: &RawDocument) -> Result<Accepted, DocFault>
     ensures ok { IfOk result (λ accepted. IsAccepted (document_view raw.now) (table_view accepted)) }
     ensures only { IfOk result (λ accepted. (other : Table) → IsTableOf instances (document_view raw.now) other → table_view accepted ≡ other) }
-    ensures events { IfOk result (λ accepted. HaveEventsAlone (table_view accepted)) }
+    ensures charts { IfOk result (λ accepted. AreAcceptedCharts (table_view accepted)) }
     ensures faultless { IfOk result (λ accepted. (rule : Rule) (place : Place) → HasFault (document_view raw.now) rule place → ⊥) }
     ensures fault { (rule : Rule) (place : Place) → IsErrOf result (DocFault.Refused rule place) → HasFault (document_view raw.now) rule place }
     ensures only_fault { (rule : Rule) (place : Place) → IsErrOf result (DocFault.Refused rule place) → (other : Rule) (there : Place) → HasFault (document_view raw.now) other there → (other ≡ rule) × (there ≡ place) }
     ensures none { (rule : Rule) (place : Place) → IsErrOf result (DocFault.Refused rule place) → (table : Table) → IsAccepted (document_view raw.now) table → ⊥ }
 {
+    built_charts_are_known();
+    woven_charts_are_known();
     match decide(alloc, raw.charts.as_slice()) {
         Ok(Decision::Woven(entries)) => Ok(Accepted::of_entries(entries)),
         Ok(Decision::Faulty(fault)) => Err(DocFault::Refused {

@@ -1,15 +1,16 @@
 //! The rules group by group, up to the first that is broken; else the table. For `acceptance` alone.
 
-ghost use Rattle.std.specs.Prelude.{◌≡◌, IfOk, List, map};
+ghost use Rattle.std.specs.Prelude.{◌≡◌, IfOk, List, None, map};
 ghost use Rattle.msc_rules.specs.FirstFaults.{IsBest};
 ghost use Rattle.msc_rules.specs.Rules.{number_of};
 ghost use Rattle.msc_acceptance.specs.Acceptance.{BreaksOf};
-ghost use Rattle.msc_acceptance.specs.Deciding.{AreFaultsIn, IsDecided, event_names, forms, limits, names, sizes};
+ghost use Rattle.msc_acceptance.specs.Deciding.{AreFaultsIn, IsDecided, IsFirstOf, IsWhole, body_groups, event_names, forms, limits, names, parts, sizes, text_groups};
 ghost use Rattle.msc_tree.specs.Charts.{Chart};
 ghost use Rattle.msc_tree.specs.Views.{chart_view};
 
 use crate::limits::{further_chart, further_instance};
 use crate::names::second_chart;
+use crate::parts::part_places;
 use crate::sizes::{large_chart, large_total};
 use crate::tables::{BodyFaults, woven_charts};
 use crate::walks::{ChartRule, earlier, first_place};
@@ -69,8 +70,39 @@ fn size_fault(charts: &[RawChart]) -> Result<Option<Broken<Rule>>, NoMemory>
     Ok(earlier_fault(one, all))
 }
 
+/// The first fault of parts.
+fn part_fault(alloc: Global, charts: &[RawChart]) -> Result<Option<Broken<Rule>>, NoMemory>
+    ensures { IfOk result (IsBest number_of (BreaksOf (map chart_view charts.now)) parts) }
+{
+    let places = part_places(alloc, charts)?;
+    let unshared = broken_at(Rule::NotShared, places.unshared);
+    let differing = broken_at(Rule::OperandsDiffer, places.differing);
+    let misplaced = broken_at(Rule::ExcPlace, places.misplaced);
+    Ok(earlier_fault(earlier_fault(unshared, differing), misplaced))
+}
+
+/// The first fault of the rules on the text.
+fn text_fault(alloc: Global, charts: &[RawChart]) -> Result<Option<Broken<Rule>>, NoMemory>
+    ensures { IfOk result (IsFirstOf (map chart_view charts.now) text_groups) }
+{
+    if let Some(fault) = form_fault(alloc, charts)? {
+        return Ok(Some(fault));
+    }
+    if let Some(fault) = limit_fault(alloc, charts)? {
+        return Ok(Some(fault));
+    }
+    if let Some(fault) = name_fault(alloc, charts)? {
+        return Ok(Some(fault));
+    }
+    if let Some(fault) = size_fault(charts)? {
+        return Ok(Some(fault));
+    }
+    part_fault(alloc, charts)
+}
+
 /// The first fault of the names of events.
 fn event_name_fault(faults: BodyFaults) -> Option<Broken<Rule>>
+    requires whole { IsWhole faults }
     ensures { (charts : List Chart) → AreFaultsIn charts faults → IsBest number_of (BreaksOf charts) event_names result }
 {
     let unknown = broken_at(Rule::UnknownEvent, faults.unknown);
@@ -78,37 +110,39 @@ fn event_name_fault(faults: BodyFaults) -> Option<Broken<Rule>>
     earlier_fault(unknown, twice)
 }
 
+/// The first fault of the rules on what the charts are woven to.
+fn body_fault(faults: BodyFaults) -> Option<Broken<Rule>>
+    ensures first { (charts : List Chart) → AreFaultsIn charts faults → IsFirstOf charts body_groups result }
+    ensures whole { result ≡ None → IsWhole faults × (faults.cyclic ≡ None) }
+{
+    if let Some(place) = faults.crossed {
+        return Some(Broken {
+            rule: Rule::Crossed,
+            place,
+        });
+    }
+    if let Some(place) = faults.alone {
+        return Some(Broken {
+            rule: Rule::Unmatched,
+            place,
+        });
+    }
+    if let Some(fault) = event_name_fault(faults) {
+        return Some(fault);
+    }
+    broken_at(Rule::Cyclic, faults.cyclic)
+}
+
 /// The table of these charts, or their first fault.
 pub fn decide(alloc: Global, charts: &[RawChart]) -> Result<Decision, NoMemory>
     ensures { IfOk result (IsDecided (map chart_view charts.now)) }
 {
-    if let Some(fault) = form_fault(alloc, charts)? {
-        return Ok(Decision::Faulty(fault));
-    }
-    if let Some(fault) = limit_fault(alloc, charts)? {
-        return Ok(Decision::Faulty(fault));
-    }
-    if let Some(fault) = name_fault(alloc, charts)? {
-        return Ok(Decision::Faulty(fault));
-    }
-    if let Some(fault) = size_fault(charts)? {
+    if let Some(fault) = text_fault(alloc, charts)? {
         return Ok(Decision::Faulty(fault));
     }
     let made = woven_charts(alloc, charts)?;
-    if let Some(place) = made.alone {
-        return Ok(Decision::Faulty(Broken {
-            rule: Rule::Unmatched,
-            place,
-        }));
+    match body_fault(made.faults) {
+        Some(fault) => Ok(Decision::Faulty(fault)),
+        None => Ok(Decision::Woven(made.entries)),
     }
-    if let Some(fault) = event_name_fault(made.faults) {
-        return Ok(Decision::Faulty(fault));
-    }
-    if let Some(place) = made.faults.cyclic {
-        return Ok(Decision::Faulty(Broken {
-            rule: Rule::Cyclic,
-            place,
-        }));
-    }
-    Ok(Decision::Woven(made.entries))
 }

@@ -3,13 +3,12 @@
 
 mod acceptance;
 mod accepted;
-mod counting;
 mod deciding;
 mod declaring;
 mod limits;
 mod listing;
 mod names;
-mod not_built;
+mod parts;
 mod sizes;
 mod tables;
 mod walks;

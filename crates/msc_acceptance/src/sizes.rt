@@ -3,10 +3,11 @@
 ghost use Rattle.std.specs.Prelude.{◌≡◌, IfOk, map, nat_lt};
 ghost use Rattle.msc_base.specs.Places.{IsLeast};
 ghost use Rattle.msc_base.specs.declared.limits.TheConstants.Limits.{EXPANDED_SIZE, TOTAL_SIZE};
-ghost use Rattle.msc_acceptance.specs.Rules.{InOne, IsLarge, PassesTotal, size_of};
+ghost use Rattle.chart_forms.specs.ChartSizes.{size_of};
+ghost use Rattle.msc_acceptance.specs.Rules.{InOne, IsLarge, PassesTotal};
 ghost use Rattle.msc_tree.specs.Views.{chart_view};
 
-use crate::counting::size;
+use chart_forms::size;
 use msc_base::{Limits, NoMemory, Place, earlier_if};
 use msc_tree::RawChart;
 

@@ -1,24 +1,25 @@
-//! The table of charts, each woven, with the earliest event whose name breaks a rule and the earliest chart whose order is cyclic; or
-//! the earliest event without partner: for `deciding`.
+//! The table of charts, each woven, with the earliest places at which what they are woven to breaks a rule: for `deciding`.
 
 ghost use Rattle.std.specs.Prelude.{◌≡◌, IfOk, None, Some, map};
+ghost use Rattle.chart_forms.specs.NotBuilt.{IsBuilt};
 ghost use Rattle.event_order.specs.Precedence.{CanBeRanked};
+ghost use Rattle.level_weaving.specs.WeaveFaults.{IsWeaveFault, IsWovenTo};
+ghost use Rattle.msc_acceptance.specs.ChartFaults.{IsBodyOf, IsCyclicAt};
+ghost use Rattle.msc_acceptance.specs.Deciding.{AreBuilt, AreFaultsOf, AreWoven, IsBarred, IsNextWoven, earlier_of};
 ghost use Rattle.msc_base.specs.Places.{IsLeast};
-ghost use Rattle.level_weaving.specs.WeaveFaults.{IsWeaveFault};
-ghost use Rattle.msc_acceptance.specs.ChartFaults.{IsAloneAt, IsBodyOf, IsBuilt, IsCyclicAt};
 ghost use Rattle.msc_instances.specs.Instances.{instances};
 ghost use Rattle.msc_meaning.specs.Views.{body_view, entry_view};
 ghost use Rattle.msc_meaning.specs.WovenTables.{IsEntryOf};
-ghost use Rattle.msc_acceptance.specs.Deciding.{AreBuilt, AreFaultsOf, AreWoven, IsNextWoven, earlier_of};
 ghost use Rattle.msc_tree.specs.Views.{chart_view};
 
 use crate::declaring::chart_decls;
 use crate::walks::earlier;
+use built_charts::laws::built_charts_are_known;
 use event_order::is_cyclic;
 use event_order::laws::ranks_rise;
 use general_ordering::{EventNameRule, first_name_fault};
 use level_weaving::{WeaveFault, weave};
-use msc_base::{NoMemory, Place, earlier_place};
+use msc_base::{NoMemory, Place};
 use msc_instances::instances_of;
 use msc_meaning::{Body, ChartEntry, EntryContent};
 use msc_tree::RawChart;
@@ -29,15 +30,17 @@ use std::alloc::Global;
 pub struct Weaving {
     /// The entries of the charts that can be woven.
     pub entries: Vec<ChartEntry>,
-    /// The earliest event without partner.
-    pub alone: Option<Place>,
-    /// Where those that can be woven break a rule.
+    /// Where what the charts are woven to breaks a rule.
     pub faults: BodyFaults,
 }
 
-/// The earliest places at which bodies of charts break the rules on the names of events and on the order.
+/// The earliest places at which charts break the rules on what they are woven to.
 #[derive(Clone, Copy, Debug, PartialEq, Eq)]
 pub struct BodyFaults {
+    /// Of the earliest item that remains where columns cross.
+    pub crossed: Option<Place>,
+    /// Of an event without partner.
+    pub alone: Option<Place>,
     /// Of an event that is ordered with a name that no event of its level has.
     pub unknown: Option<Place>,
     /// Of an event that has the name of an earlier one of its level.
@@ -46,13 +49,34 @@ pub struct BodyFaults {
     pub cyclic: Option<Place>,
 }
 
+/// No faults, or crossed columns or an event without partner alone.
+fn barring(crossed: Option<Place>, alone: Option<Place>) -> BodyFaults
+    ensures crossed { result.crossed ≡ crossed }
+    ensures alone { result.alone ≡ alone }
+    ensures unknown { result.unknown ≡ None }
+    ensures twice { result.twice ≡ None }
+    ensures cyclic { result.cyclic ≡ None }
+{
+    BodyFaults {
+        crossed,
+        alone,
+        unknown: None,
+        twice: None,
+        cyclic: None,
+    }
+}
+
 /// The earlier places of both.
 fn earlier_faults(faults: BodyFaults, others: BodyFaults) -> BodyFaults
+    ensures crossed { result.crossed ≡ earlier_of faults.crossed others.crossed }
+    ensures alone { result.alone ≡ earlier_of faults.alone others.alone }
     ensures unknown { result.unknown ≡ earlier_of faults.unknown others.unknown }
     ensures twice { result.twice ≡ earlier_of faults.twice others.twice }
     ensures cyclic { result.cyclic ≡ earlier_of faults.cyclic others.cyclic }
 {
     BodyFaults {
+        crossed: earlier(faults.crossed, others.crossed),
+        alone: earlier(faults.alone, others.alone),
         unknown: earlier(faults.unknown, others.unknown),
         twice: earlier(faults.twice, others.twice),
         cyclic: earlier(faults.cyclic, others.cyclic),
@@ -73,25 +97,26 @@ fn entry_of(alloc: Global, chart: &RawChart, body: Body) -> Result<ChartEntry, N
     })
 }
 
-/// What one chart is woven to: its entry, or the place of its earliest event without partner.
+/// What one chart is woven to.
 #[derive(Drop)]
 enum ChartResult {
     /// Its entry, and where it breaks a rule.
     Entry(ChartEntry, BodyFaults),
-    /// The place.
-    Alone(Place),
+    /// Where it breaks a rule so that it has none.
+    Barred(BodyFaults),
 }
 
-/// The place of an event without partner: a chart whose forms are built has no other fault.
-fn alone_place(chart: &RawChart, fault: WeaveFault) -> Result<Place, NoMemory>
+/// Where a chart, whose forms are built, can't be woven.
+fn barred_by(chart: &RawChart, fault: WeaveFault) -> Result<BodyFaults, NoMemory>
     requires built { IsBuilt (chart_view chart.now) }
     requires fault { IsWeaveFault (chart_view chart.now) fault }
-    ensures { IfOk result (λ place. IsLeast (IsAloneAt (chart_view chart.now)) (Some place)) }
+    ensures { IfOk result (IsBarred (chart_view chart.now)) }
 {
+    built_charts_are_known();
     match fault {
-        WeaveFault::NotWoven(place) => Ok(place),
-        WeaveFault::Crossed(place) => Ok(place),
-        WeaveFault::Unmatched(place) => Ok(place),
+        WeaveFault::NotWoven(place) => Ok(barring(Some(place), None)),
+        WeaveFault::Crossed(place) => Ok(barring(Some(place), None)),
+        WeaveFault::Unmatched(place) => Ok(barring(None, Some(place))),
         WeaveFault::NoMemory => Err(NoMemory),
     }
 }
@@ -112,7 +137,7 @@ fn cycle_place(alloc: Global, chart: &RawChart, body: &Body) -> Result<Option<Pl
 
 /// Where a chart, which is woven to that body, breaks a rule.
 fn faults_of(alloc: Global, chart: &RawChart, body: &Body) -> Result<BodyFaults, NoMemory>
-    requires { IsBodyOf (chart_view chart.now) (body_view body.now) }
+    requires { IsWovenTo (chart_view chart.now) (body_view body.now) }
     ensures least { IfOk result (AreFaultsOf (chart_view chart.now)) }
     ensures ranked { IfOk result (λ faults. faults.cyclic ≡ None → CanBeRanked (body_view body.now)) }
 {
@@ -120,6 +145,8 @@ fn faults_of(alloc: Global, chart: &RawChart, body: &Body) -> Result<BodyFaults,
     let twice = first_name_fault(alloc, EventNameRule::Twice, body)?;
     let cyclic = cycle_place(alloc, chart, body)?;
     Ok(BodyFaults {
+        crossed: None,
+        alone: None,
         unknown,
         twice,
         cyclic,
@@ -138,7 +165,7 @@ fn woven(alloc: Global, chart: &RawChart) -> Result<ChartResult, NoMemory>
             let entry = entry_of(alloc, chart, body)?;
             Ok(ChartResult::Entry(entry, faults))
         }
-        Err(fault) => Ok(ChartResult::Alone(alone_place(chart, fault)?)),
+        Err(fault) => Ok(ChartResult::Barred(barred_by(chart, fault)?)),
     }
 }
 
@@ -148,24 +175,15 @@ pub fn woven_charts(alloc: Global, charts: &[RawChart]) -> Result<Weaving, NoMem
     ensures { IfOk result (AreWoven (map chart_view charts.now)) }
 {
     let mut entries = Vec::new(alloc);
-    let mut alone = None;
-    let mut faults = BodyFaults {
-        unknown: None,
-        twice: None,
-        cyclic: None,
-    };
+    let mut faults = barring(None, None);
     for chart in charts {
         match woven(alloc, chart)? {
             ChartResult::Entry(entry, found) => {
                 entries.push(entry)?;
                 faults = earlier_faults(faults, found);
             }
-            ChartResult::Alone(place) => alone = earlier_place(alone, place),
+            ChartResult::Barred(found) => faults = earlier_faults(faults, found),
         }
     }
-    Ok(Weaving {
-        entries,
-        alone,
-        faults,
-    })
+    Ok(Weaving { entries, faults })
 }

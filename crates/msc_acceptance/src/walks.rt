@@ -6,7 +6,7 @@ ghost use Rattle.msc_acceptance.specs.Deciding.{ChartBreaks, earlier_of};
 ghost use Rattle.msc_acceptance.specs.Rules.{InOne};
 ghost use Rattle.msc_tree.specs.Views.{chart_view};
 
-use crate::not_built::first_not_built;
+use chart_forms::first_not_built;
 use msc_base::{NoMemory, Place, earlier_place};
 use msc_instances::{first_named_twice, first_undeclared};
 use msc_tree::RawChart;

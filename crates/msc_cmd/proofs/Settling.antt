@@ -34,7 +34,7 @@ only_accepted bytes tree tokens table t a = record {
   is = record { tree = tree; read = t.is; accepted = a.is };
   only = λ others d. a.only others (subst (λ (u : Tree). IsAccepted u others) (t.only d.tree d.read) d.accepted);
   faultless = λ broken place h. by broken place h;
-  alone = a.alone;
+  charts = a.charts;
 }
   where
     by : (broken : Rule) (place : Place) → HasDocumentFault bytes broken place → ⊥

@@ -4,7 +4,7 @@ use Rattle.msc_base.specs.declared.place.Place.{Place}
 use Rattle.msc_tree.specs.Charts.{Document as Tree}
 use Rattle.msc_rules.specs.declared.rule.Rule.{Rule}
 use Rattle.msc_acceptance.specs.Acceptance.{HasFault, IsAccepted}
-use Rattle.msc_acceptance.specs.EventCharts.{HaveEventsAlone}
+use Rattle.msc_acceptance.specs.AcceptedCharts.{AreAcceptedCharts}
 use Rattle.msc_meaning.specs.Tables.{Table}
 use Rattle.msc_meaning.specs.Views.{table_view}
 use Rattle.msc_cmd.specs.DocumentTexts.{ReadsDocument, HasTextFault}
@@ -27,7 +27,7 @@ pub record IsOnlyDocument (bytes : List ℕ) (table : Table) : Type 0 where
   pub is : IsDocument bytes table
   pub only : (other : Table) → IsDocument bytes other → other ≡ table
   pub faultless : (broken : Rule) (place : Place) → HasDocumentFault bytes broken place → ⊥
-  pub alone : HaveEventsAlone table
+  pub charts : AreAcceptedCharts table
 
 -- they break this rule first, at this place, and are no document
 pub record IsOnlyFault (bytes : List ℕ) (broken : Rule) (place : Place) : Type 0 where
@@ -46,7 +46,7 @@ pub record AcceptsAlone (tree : Tree) (table : Table) : Type 0 where
   pub is : IsAccepted tree table
   pub only : (other : Table) → IsAccepted tree other → other ≡ table
   pub faultless : (broken : Rule) (place : Place) → HasFault tree broken place → ⊥
-  pub alone : HaveEventsAlone table
+  pub charts : AreAcceptedCharts table
 
 -- it has this fault, no other, and is of no table
 pub record RefusesAlone (tree : Tree) (broken : Rule) (place : Place) : Type 0 where

@@ -5,7 +5,7 @@ ghost use Rattle.event_log.specs.declared.event.LogForm.{LogForm as Form};
 ghost use Rattle.judge_report.specs.declared.fault.Fault.TheVariants.{LogRead};
 ghost use Rattle.judge_report.specs.Texts.{IsTold, fault_line};
 ghost use Rattle.msc_base.specs.declared.limits.TheConstants.Limits.{BUDGET_MOST};
-ghost use Rattle.msc_acceptance.specs.EventCharts.{HasEventsAlone};
+ghost use Rattle.msc_acceptance.specs.AcceptedCharts.{IsAcceptedChart};
 ghost use Rattle.msc_meaning.specs.Tables.{ChartEntry as Chart, Table, chart_at};
 ghost use Rattle.msc_meaning.specs.Views.{entry_view};
 ghost use Rattle.msc_cmd.specs.Failures.{FailedAt, CannotRead};
@@ -92,7 +92,7 @@ fn judge_log<S: Shelf>(
     style: Style,
     shelf: &mut S,
 ) -> Result<Reply, NoMemory>
-    requires alone { HasEventsAlone (entry_view chart.now) }
+    requires accepted { IsAcceptedChart (entry_view chart.now) }
     requires least { 1 ≤ style.budget }
     requires most { style.budget ≤ BUDGET_MOST }
     ensures later { S.faults shelf.old ≤ S.faults shelf.new }

@@ -1,7 +1,7 @@
 //! What a document comes to, and the chart of a name: for the commands, behind `document_text`.
 
 ghost use Rattle.std.specs.Prelude.{◌≡◌, IfOk, IfSome, List, option_copied, option_map, ℕ};
-ghost use Rattle.msc_acceptance.specs.EventCharts.{HasEventsAlone, HaveEventsAlone};
+ghost use Rattle.msc_acceptance.specs.AcceptedCharts.{IsAcceptedChart, AreAcceptedCharts};
 ghost use Rattle.msc_meaning.specs.Tables.{chart_at};
 ghost use Rattle.msc_meaning.specs.Views.{entry_view, table_view};
 ghost use Rattle.msc_tree.specs.Views.{document_view};
@@ -48,9 +48,9 @@ pub fn settle(alloc: Global, text: DocumentText) -> Result<Document, NoMemory>
 
 /// The chart of the name, if there is one.
 pub fn chart_of<'a>(accepted: &'a Accepted, name: &[u8]) -> Option<&'a ChartEntry>
-    requires { HaveEventsAlone (table_view accepted.now) }
+    requires { AreAcceptedCharts (table_view accepted.now) }
     ensures named { option_map entry_view (option_copied result) ≡ chart_at (table_view accepted.now) name.now }
-    ensures alone { IfSome result (λ chart. HasEventsAlone (entry_view chart.now)) }
+    ensures accepted { IfSome result (λ chart. IsAcceptedChart (entry_view chart.now)) }
 {
     accepted.chart_named(name)
 }

@@ -5,7 +5,7 @@ ghost use Rattle.outside.specs.Causes.{Rose};
 ghost use Rattle.outside.specs.Shelves.{Files};
 ghost use Rattle.event_log.specs.declared.event.LogForm.{LogForm as Form};
 ghost use Rattle.msc_base.specs.declared.limits.TheConstants.Limits.{BUDGET_MOST};
-ghost use Rattle.msc_acceptance.specs.EventCharts.{HasEventsAlone};
+ghost use Rattle.msc_acceptance.specs.AcceptedCharts.{IsAcceptedChart};
 ghost use Rattle.msc_meaning.specs.Tables.{ChartEntry as Chart};
 ghost use Rattle.msc_meaning.specs.Views.{entry_view};
 ghost use Rattle.msc_cmd.specs.LogJudging.{IsJudgedLog, IsReadingLog, IsStep};
@@ -91,7 +91,7 @@ pub fn judge_entry<S: Shelf>(
     form: LogForm,
     budget: u64,
 ) -> Result<Judged, ReadFault>
-    requires alone { HasEventsAlone (entry_view chart.now) }
+    requires accepted { IsAcceptedChart (entry_view chart.now) }
     requires least { 1 ≤ budget }
     requires most { budget ≤ BUDGET_MOST }
     ensures files { S.files shelf.new ≡ S.files shelf.old }

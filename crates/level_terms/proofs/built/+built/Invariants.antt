@@ -1,5 +1,5 @@
 use Rattle.std.proofs.Common.{◌≡◌, ◌≤◌, drop, length}
-use Rattle.level_terms.specs.BuiltBodies.{are_built, have_built}
+use Rattle.chart_forms.specs.BuiltBodies.{are_built, have_built}
 use Rattle.general_ordering.specs.ItemViews.{items_view, bodies_view}
 use Rattle.level_terms.proofs.built.+built.Given as goal
 

@@ -1,6 +1,6 @@
 use Rattle.std.proofs.Common.{◌≡◌, ◌≤◌, map, drop, length}
 use Rattle.msc_meaning.specs.Views.{node_view}
-use Rattle.level_terms.specs.BuiltBodies.{are_built_nodes}
+use Rattle.chart_forms.specs.BuiltBodies.{are_built_nodes}
 use Rattle.level_terms.proofs.built.are_built_nodes.Given as goal
 
 abbrev pub invariant-loop-index : goal.invariant-loop-index

@@ -16,10 +16,11 @@ use Rattle.level_terms.specs.MadeParts.{IsPart, IsTied}
 use Rattle.msc_base.specs.declared.label.Pair.{Pair}
 use Rattle.msc_meaning.specs.Ties.{level_pairs}
 use Rattle.level_terms.specs.ShownNumbers.{shown_item}
-use Rattle.level_terms.proofs.BuiltFacts.{item_built, body_built, items_left, bodies_left, items_end, bodies_end, placed_next}
+use Rattle.level_terms.proofs.BuiltFacts.{item_built, body_built, items_left, bodies_left, items_end, bodies_end}
 use Rattle.level_terms.proofs.Dropped.{item_at}
-use Rattle.level_terms.proofs.PartSteps.{items_start, items_step, level_part, operands_start, operands_step, one_part, parallel_start, parallel_step, parallel_end, alt_part, exc_part, par_part, opt_part, item_labelled, body_labelled}
-use Rattle.level_terms.proofs.PartSteps as steps
+use Rattle.level_terms.proofs.PartSteps.{level_part, operands_start, operands_step, one_part, parallel_start, parallel_step, parallel_end, alt_part, exc_part, par_part, opt_part, item_labelled, body_labelled}
+use Rattle.level_terms.proofs.RunSteps.{items_start, items_step, placed_next}
+use Rattle.level_terms.proofs.RunSteps as steps
 use Rattle.general_ordering.proofs.ViewFacts.{body_is, inline_is, single_is, coregion_is, inline_item_is, part_of}
 use Rattle.level_terms.proofs.levels.+levels.Goals as goal
 
@@ -57,8 +58,8 @@ items_of-loop-index-init t c =
     let many : c.len-index.result ≡ length c.args.items.now.items = search rules in
     record {
       within = omega (arith, many);
-      counted = omega (arith, c.in_ok-rest.ensures.next_is, items_end c.args.items.now.items c.len-index.result many);
-      part = items_start c.args.names.now c.args.nets.now.labels c.args.next c.in_ok-rest.rest c.args.items.now.items c.len-index.result c.in_ok-rest.ensures many;
+      counted = omega (arith, c.in_ok-run.ensures.rest.next_is, items_end c.args.items.now.items c.len-index.result many);
+      part = items_start c.args.names.now c.args.nets.now.labels c.args.next c.in_ok-run.run' c.args.items.now.items c.len-index.result c.in_ok-run.ensures.fronts c.in_ok-run.ensures.rest many;
     }
 
 pub items_of-loop-index-preserved : goal.items_of-loop-index-preserved
@@ -69,13 +70,13 @@ items_of-loop-index-preserved t c =
     let left = items_left c.args.items.now.items (c.loop-index.index - 1) c.loop-index.index c.index.result.now at (omega arith) in
     record {
       within = omega (arith, c.loop-index.invariant.within);
-      counted = omega (arith, c.loop-index.invariant.counted, c.in_ok-front.ensures.next, placed_next c.is_exception.result c.in_ok-front.front c.loop-index.rest c.in_ok-rest-2.rest c.in_ok-rest-2.ensures, left.0);
-      part = items_step c.args.names.now c.args.nets.now.labels c.args.next c.loop-index.rest c.in_ok-front.front c.in_ok-rest-2.rest c.args.items.now.items (c.loop-index.index - 1) c.loop-index.index c.index.result.now c.is_exception.result
-          at (omega arith) c.loop-index.invariant.counted (c.is_exception.ensures ∙ ap (λ x. is_exception (item_view x)) same) c.loop-index.invariant.part c.in_ok-front.ensures.part c.in_ok-rest-2.ensures;
+      counted = omega (arith, c.loop-index.invariant.counted, c.in_ok-front.ensures.next, placed_next c.is_exception.result c.in_ok-front.front c.loop-index.run c.in_ok-run-2.run' c.in_ok-run-2.ensures, left.0);
+      part = items_step c.args.names.now c.args.nets.now.labels c.args.next c.loop-index.run c.in_ok-run-2.run' c.in_ok-front.front c.args.items.now.items (c.loop-index.index - 1) c.loop-index.index c.index.result.now c.is_exception.result
+          at (omega arith) c.loop-index.invariant.counted (c.is_exception.ensures ∙ ap (λ x. is_exception (item_view x)) same) c.loop-index.invariant.part c.in_ok-front.ensures.part c.in_ok-run-2.ensures;
     }
 
 pub items_of-returns-clause-part : goal.items_of-returns-clause-part
-items_of-returns-clause-part t c = steps.items_end c.args.names.now c.args.nets.now.labels c.args.next c.loop-index.rest c.args.items.now.items c.loop-index.index c.loop-index-test.false c.loop-index.invariant.part
+items_of-returns-clause-part t c = steps.items_end c.args.names.now c.args.nets.now.labels c.args.next c.loop-index.run c.in_ok-made.made c.args.items.now.items c.loop-index.index c.loop-index-test.false c.loop-index.invariant.part c.in_ok-made.ensures
 
 pub items_of-item_of-requires : goal.items_of-item_of-requires
 items_of-item_of-requires t c =

@@ -1,13 +1,13 @@
 use Rattle.std.proofs.Common.{◌≡◌, ◌+◌, ◌≤◌, drop, length, []}
-use Rattle.level_terms.specs.BuiltBodies.{events_count, operands_count}
+use Rattle.chart_forms.specs.BuiltBodies.{events_count, operands_count}
 use Rattle.general_ordering.specs.ItemViews.{items_view, bodies_view}
-use Rattle.level_terms.specs.LevelTerms.{items_term, operand_terms, parallel_term}
+use Rattle.level_terms.specs.LevelTerms.{operand_terms, parallel_term}
 use Rattle.level_terms.specs.MadeParts.{IsPart}
-use Rattle.level_terms.specs.ShownNumbers.{shown_items}
+use Rattle.level_terms.proofs.RunSteps.{IsRunOf}
 use Rattle.level_terms.proofs.levels.+levels.Given as goal
 
 abbrev pub invariant-items_of-loop-index : goal.invariant-items_of-loop-index
-invariant-items_of-loop-index l = record { within : l.index ≤ length l.items.items; counted : l.rest.next ≡ l.next + events_count (items_view (drop l.index l.items.items)); part : IsPart (items_term l.names l.nets.labels l.next (items_view (drop l.index l.items.items))) (shown_items l.next (items_view (drop l.index l.items.items))) l.rest }
+invariant-items_of-loop-index l = record { within : l.index ≤ length l.items.items; counted : l.run.rest.next ≡ l.next + events_count (items_view (drop l.index l.items.items)); part : IsRunOf l.names l.nets.labels l.next (drop l.index l.items.items) l.run }
 
 abbrev pub decreases-items_of-loop-index : goal.decreases-items_of-loop-index
 decreases-items_of-loop-index l = l.index

@@ -3,7 +3,7 @@ use Rattle.chart_term.specs.Terms.{Tree}
 use Rattle.msc_meaning.specs.ChartUnfoldings.{OfLevel}
 use Rattle.msc_meaning.specs.Views.{body_view}
 use Rattle.term_laws.specs.FullSoundness.{IsSoundNode}
-use Rattle.level_terms.specs.BuiltBodies.{event_count}
+use Rattle.chart_forms.specs.BuiltBodies.{event_count}
 use Rattle.level_terms.specs.LevelTerms.{level_term}
 use Rattle.level_terms.proofs.BodyMade.{level_is}
 use Rattle.level_terms.proofs.BodySound.{forward_is_sound, ranked_is_sound}

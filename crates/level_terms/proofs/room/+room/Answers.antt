@@ -1,6 +1,6 @@
 use Rattle.std.proofs.Common.{◌≡◌, ◌<◌, ◌-◌, Some, arith}
 use Rattle.std.specs.List.{slice_get}
-use Rattle.level_terms.specs.BuiltBodies.{events_count, operands_count}
+use Rattle.chart_forms.specs.BuiltBodies.{events_count, operands_count}
 use Rattle.general_ordering.specs.ItemViews.{items_view, bodies_view}
 use Rattle.level_terms.proofs.BuiltFacts.{bodies_left, if_none, items_left}
 use Rattle.level_terms.proofs.Dropped.{item_at}

@@ -1,5 +1,5 @@
 use Rattle.std.proofs.Common.{◌≡◌, ◌+◌, ◌≤◌, drop, length}
-use Rattle.level_terms.specs.BuiltBodies.{events_count, operands_count}
+use Rattle.chart_forms.specs.BuiltBodies.{events_count, operands_count}
 use Rattle.general_ordering.specs.ItemViews.{items_view, bodies_view}
 use Rattle.level_terms.proofs.room.+room.Given as goal
 

@@ -5,8 +5,11 @@ use Rattle.msc_acceptance.specs.Deciding.{IsDecided}
 use Rattle.msc_acceptance.specs.declared.deciding.Decision.TheVariants as decision
 use Rattle.msc_meaning.specs.Views.{table_view}
 use Rattle.msc_meaning.specs.declared.body.ChartEntry as code
-use Rattle.msc_acceptance.specs.EventCharts.{HaveEventsAlone}
-use Rattle.msc_acceptance.proofs.EventLaws.{one_table, kept_have}
+use Rattle.msc_acceptance.specs.Acceptance.{HasFault}
+use Rattle.msc_base.specs.declared.place.Place.{Place}
+use Rattle.msc_rules.specs.declared.rule.Rule.{Rule}
+use Rattle.msc_acceptance.specs.AcceptedCharts.{AreAcceptedCharts}
+use Rattle.msc_acceptance.proofs.AcceptedLaws.{one_table, kept_have}
 use Rattle.msc_acceptance.proofs.AcceptLaws.{few, has_fault, only_fault}
 use Rattle.msc_acceptance.proofs.acceptance.accept.Goals as goal
 
@@ -14,6 +17,17 @@ pub of_entries-requires : goal.of_entries-requires
 of_entries-requires c =
     let decided : IsDecided (map chart_view c.as_slice.result.now) (decision.Woven c.in-Ok-Woven.entries) = search rules in
     few (map chart_view c.as_slice.result.now) c.in-Ok-Woven.entries.items decided.0 decided.1
+
+pub returns-in-Ok-Faulty-clause-fault : goal.returns-in-Ok-Faulty-clause-fault
+returns-in-Ok-Faulty-clause-fault c =
+    let d = document_view c.args.raw.now in
+    let charts : map chart_view c.as_slice.result.now ≡ d.charts = ap (map chart_view) c.as_slice.ensures.value in
+    let decided : IsDecided (map chart_view c.as_slice.result.now) (decision.Faulty c.in-Ok-Faulty.fault) = search rules in
+    let own = has_fault d c.in-Ok-Faulty.fault (subst (λ (cs : List Chart). IsDecided cs (decision.Faulty c.in-Ok-Faulty.fault)) charts decided) in
+    λ rule place e.
+    let r : c.in-Ok-Faulty.fault.rule ≡ rule = cc in
+    let p : c.in-Ok-Faulty.fault.place ≡ place = cc in
+    subst (λ (q : Place). HasFault d rule q) p (subst (λ (x : Rule). HasFault d x c.in-Ok-Faulty.fault.place) r own)
 
 pub returns-in-Ok-Faulty-clause-only_fault : goal.returns-in-Ok-Faulty-clause-only_fault
 returns-in-Ok-Faulty-clause-only_fault c =
@@ -36,8 +50,8 @@ returns-in-Ok-Woven-clause-only c =
     let made : c.of_entries.result ≡ c.in-Ok-Woven.entries.items = search rules in
     λ other k. subst (λ (es : List code.ChartEntry). table_view es ≡ other) (sym made) (one_table d.charts (table_view c.in-Ok-Woven.entries.items) other own.1 k)
 
-pub returns-in-Ok-Woven-clause-events : goal.returns-in-Ok-Woven-clause-events
-returns-in-Ok-Woven-clause-events c =
+pub returns-in-Ok-Woven-clause-charts : goal.returns-in-Ok-Woven-clause-charts
+returns-in-Ok-Woven-clause-charts c =
     let decided : IsDecided (map chart_view c.as_slice.result.now) (decision.Woven c.in-Ok-Woven.entries) = search rules in
     let made : c.of_entries.result ≡ c.in-Ok-Woven.entries.items = search rules in
-    subst (λ (es : List code.ChartEntry). HaveEventsAlone (table_view es)) (sym made) (kept_have (map chart_view c.as_slice.result.now) (table_view c.in-Ok-Woven.entries.items) decided.0 decided.1 decided.2)
+    subst (λ (es : List code.ChartEntry). AreAcceptedCharts (table_view es)) (sym made) (kept_have c.built_charts_are_known.ensures c.woven_charts_are_known.ensures (map chart_view c.as_slice.result.now) (table_view c.in-Ok-Woven.entries.items) decided.0 decided.1 decided.2)

@@ -13,4 +13,5 @@ pub returns : goal.returns
 returns c = λ charts h.
     let both : c.earlier_fault.result ≡ earlier_of number_of (fault_of UnknownEvent c.args.faults.unknown) (fault_of EventNamedTwice c.args.faults.twice) =
     c.earlier_fault.ensures ∙ ap₂ (λ (x y : Option (Broken Rule)). earlier_of number_of x y) c.broken_at-unknown.ensures c.broken_at-twice.ensures in
-    subst (λ (x : Option (Broken Rule)). IsBest number_of (BreaksOf charts) event_names x) (sym both) (two_best charts UnknownEvent EventNamedTwice c.args.faults.unknown c.args.faults.twice h.unknown h.twice)
+    subst (λ (x : Option (Broken Rule)). IsBest number_of (BreaksOf charts) event_names x) (sym both)
+    (two_best charts UnknownEvent EventNamedTwice c.args.faults.unknown c.args.faults.twice (h.unknown c.requires.whole) (h.twice c.requires.whole))

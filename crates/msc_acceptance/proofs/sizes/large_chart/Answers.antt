@@ -1,7 +1,8 @@
 use Rattle.std.proofs.Common.{◌≡◌, ◌+◌, ℕ, Bool, drop, map, nat_lt, ap, ◌∙◌}
 use Rattle.msc_base.specs.Places.{earliest_if}
 use Rattle.msc_base.specs.declared.limits.TheConstants.Limits.{EXPANDED_SIZE}
-use Rattle.msc_acceptance.specs.Rules.{InOne, IsLarge, size_of}
+use Rattle.chart_forms.specs.ChartSizes.{size_of}
+use Rattle.msc_acceptance.specs.Rules.{InOne, IsLarge}
 use Rattle.msc_tree.specs.Views.{chart_view}
 use Rattle.msc_acceptance.proofs.WalkLaws.{walk_step}
 use Rattle.msc_acceptance.proofs.sizes.large_chart.Goals as goal

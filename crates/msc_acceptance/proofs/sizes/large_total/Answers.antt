@@ -2,7 +2,8 @@ use Rattle.std.proofs.Common.{◌≡◌, ◌<◌, ◌≤◌, ◌+◌, ℕ, None,
 use Rattle.std.proofs.lemmas.Bool.Decides.{nat_tests}
 use Rattle.msc_base.specs.declared.limits.TheConstants.Limits.{TOTAL_SIZE}
 use Rattle.msc_base.proofs.Narrowing.{Narrows}
-use Rattle.msc_acceptance.specs.Rules.{PassesTotal, size_of}
+use Rattle.chart_forms.specs.ChartSizes.{size_of}
+use Rattle.msc_acceptance.specs.Rules.{PassesTotal}
 use Rattle.msc_tree.specs.Views.{chart_view}
 use Rattle.msc_acceptance.proofs.WalkLaws.{total_passed, total_step}
 use Rattle.msc_acceptance.proofs.sizes.large_total.Goals as goal

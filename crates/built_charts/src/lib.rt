@@ -1,0 +1,4 @@
+//! Laws of the charts whose forms are built.
+#![tactic(auto)]
+
+pub mod laws;

@@ -1,0 +1,4 @@
+pub mod BuiltBodies
+pub mod NotBuilt
+pub mod ChartSizes
+pub mod BodySizes

@@ -1,0 +1,44 @@
+-- Serves private contracts alone.
+-- Exceptions one behind another, and what stands behind them, kept apart until one choice is made of them all.
+use Rattle.std.specs.Prelude.{◌≡◌, Bool, true, false, List, [], ◌∷◌, ◌++◌}
+use Rattle.msc_base.specs.Patterns.{seq}
+use Rattle.chart_term.specs.NormalForms.{join_all}
+use Rattle.chart_term.specs.Terms.{Tree}
+use Rattle.level_terms.specs.declared.made.Made.{Made}
+use Rattle.level_terms.specs.declared.runs.Run.{Run}
+use Rattle.level_terms.specs.LevelTerms.{one_of}
+
+-- from the last to the first
+abbrev pub turned : List Tree → List Tree
+turned [] = []
+turned (x ∷ xs) = turned xs ++ x ∷ []
+
+-- one of the exceptions, which are given from the last to the first, or what stands behind them
+abbrev pub run_term : List Tree → Tree → Tree
+run_term [] rest = rest
+run_term (x ∷ xs) rest = one_of (turned (x ∷ xs) ++ rest ∷ [])
+
+-- the run as one part
+pub record IsClosed (run : Run) (made : Made) : Type 0 where
+  pub term : made.term ≡ run_term run.fronts run.rest.term
+  pub shown : made.shown ≡ run.rest.shown
+  pub next : made.next ≡ run.rest.next
+
+-- one exception more in front of the run
+pub record IsLonger (front : Made) (run made : Run) : Type 0 where
+  pub fronts : made.fronts ≡ run.fronts ++ front.term ∷ []
+  pub term : made.rest.term ≡ run.rest.term
+  pub shown : made.rest.shown ≡ run.rest.shown ++ front.shown
+  pub next : made.rest.next ≡ front.next
+
+-- this before the run, in weak sequence, and no exception before it yet
+pub record IsAhead (front : Made) (run made : Run) : Type 0 where
+  pub fronts : made.fronts ≡ []
+  pub term : made.rest.term ≡ join_all seq (front.term ∷ run_term run.fronts run.rest.term ∷ [])
+  pub shown : made.rest.shown ≡ run.rest.shown ++ front.shown
+  pub next : made.rest.next ≡ front.next
+
+-- in place of the run where it is an exception, else before it
+abbrev pub IsPlaced : Bool → Made → Run → Run → Type 0
+IsPlaced true front run made = IsLonger front run made
+IsPlaced false front run made = IsAhead front run made

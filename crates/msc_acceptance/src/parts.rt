@@ -1,0 +1,67 @@
+//! The earliest places, over all charts, at which parts of items and exceptions break a rule: for `deciding`.
+
+ghost use Rattle.std.specs.Prelude.{◌≡◌, IfOk, map};
+ghost use Rattle.msc_acceptance.specs.Deciding.{ArePartPlaces, AreOwnPlaces, earlier_of};
+ghost use Rattle.msc_tree.specs.Views.{chart_view};
+
+use crate::walks::earlier;
+use level_weaving::first_misplaced;
+use msc_base::{NoMemory, Place};
+use msc_instances::instances_of;
+use msc_tree::RawChart;
+use shared_parts::part_faults;
+use std::alloc::Global;
+
+/// The earliest places at which parts and exceptions break a rule.
+#[derive(Clone, Copy, Debug, PartialEq, Eq)]
+pub struct PartPlaces {
+    /// Of a part that its columns don't share.
+    pub unshared: Option<Place>,
+    /// Of a part that differs from the first of its name.
+    pub differing: Option<Place>,
+    /// Of an exception that stands where it may not.
+    pub misplaced: Option<Place>,
+}
+
+/// The places of one chart.
+fn own_places(alloc: Global, chart: &RawChart) -> Result<PartPlaces, NoMemory>
+    ensures { IfOk result (AreOwnPlaces (chart_view chart.now)) }
+{
+    let names = instances_of(alloc, chart)?;
+    let faults = part_faults(alloc, chart, &names)?;
+    let misplaced = first_misplaced(alloc, chart, &names)?;
+    Ok(PartPlaces {
+        unshared: faults.not_shared,
+        differing: faults.differing,
+        misplaced,
+    })
+}
+
+/// The earlier places of both.
+fn earlier_places(places: PartPlaces, others: PartPlaces) -> PartPlaces
+    ensures unshared { result.unshared ≡ earlier_of places.unshared others.unshared }
+    ensures differing { result.differing ≡ earlier_of places.differing others.differing }
+    ensures misplaced { result.misplaced ≡ earlier_of places.misplaced others.misplaced }
+{
+    PartPlaces {
+        unshared: earlier(places.unshared, others.unshared),
+        differing: earlier(places.differing, others.differing),
+        misplaced: earlier(places.misplaced, others.misplaced),
+    }
+}
+
+/// The places of all charts.
+pub fn part_places(alloc: Global, charts: &[RawChart]) -> Result<PartPlaces, NoMemory>
+    ensures { IfOk result (ArePartPlaces (map chart_view charts.now)) }
+{
+    let mut places = PartPlaces {
+        unshared: None,
+        differing: None,
+        misplaced: None,
+    };
+    for chart in charts {
+        let own = own_places(alloc, chart)?;
+        places = earlier_places(places, own);
+    }
+    Ok(places)
+}

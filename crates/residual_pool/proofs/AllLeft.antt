@@ -1,0 +1,99 @@
+-- There is a list of all that an event leaves of some terms, and it is sound where they are.
+use Rattle.std.specs.Prelude.{ℕ, ◌+◌, ◌≡◌, ◌≤◌, List, [], ◌∷◌, Option, Some, None, refl}
+use Rattle.std.proofs.Common.{ap, sym, ◌∙◌, subst, arith}
+use Rattle.msc_base.specs.declared.label.Label.{Label}
+use Rattle.term_tables.specs.NetValues.{NetsValue, label_number}
+use Rattle.chart_term.specs.NormalForms.{NetPermits}
+use Rattle.chart_term.specs.Properties.{Each}
+use Rattle.chart_term.specs.Tables.{Tables}
+use Rattle.chart_term.specs.Terms.{TermEvent, Tree}
+use Rattle.term_laws.specs.Listing.{IsDeepEnough, next_set}
+use Rattle.term_laws.specs.Permission.{permits_of}
+use Rattle.term_laws.specs.Residuals.{IsResidual, res_none, res_more}
+use Rattle.term_laws.specs.Soundness.{AreTidyTables}
+use Rattle.permit_step.specs.Successors.{IsSuccessor}
+use Rattle.term_laws.specs.Taking.{IsAfter}
+use Rattle.term_laws.proofs.FullSound.{full_soundness_is_kept, tidy_tables}
+use Rattle.term_laws.proofs.Normalising.{are_different}
+use Rattle.term_laws.proofs.Ranking.{rank}
+use Rattle.term_laws.proofs.SetExact.{set_sound, set_whole, deep_at}
+use Rattle.term_laws.proofs.TermSentences.{net_rank}
+use Rattle.trace_judge.specs.Sets.{IsSoundFor, IsLeftOf, AreSuccessors, PassBudget}
+use Rattle.trace_judge.specs.Gathers.{IsOver}
+use Rattle.residual_pool.proofs.Lists.{lighter}
+
+-- What is left after one event, by numbers
+
+stopped : (k : NetPermits) (x z : Tree) → IsResidual k x [] z → x ≡ z
+stopped k x z res_none = refl
+
+record First (k : NetPermits) (x z : Tree) (a : ℕ) : Type 0 where
+  pub event : TermEvent
+  pub is : event.label ≡ a
+  pub after : IsAfter k x event z
+
+first_event : (k : NetPermits) (x z : Tree) (a : ℕ) → IsResidual k x (a ∷ []) z → First k x z a
+first_event k x z a (res_more {y = y} {e = e} h r) = record { event = e; is = refl; after = subst (IsAfter k x e) (stopped k y z r) h }
+
+after_first : (k : NetPermits) (x z : Tree) (a : ℕ) → First k x z a → IsResidual k x (a ∷ []) z
+after_first k x z a f = subst (λ (b : ℕ). IsResidual k x (b ∷ []) z) f.is (res_more f.after res_none)
+
+-- There is a list of all that an event leaves of some terms
+
+-- the ranks of the terms together
+abbrev all_ranks : Tables → List Tree → ℕ
+all_ranks w [] = 0
+all_ranks w (x ∷ xs) = rank (net_rank w) x + all_ranks w xs
+
+all_deep : (w : Tables) → AreTidyTables w → (n : ℕ) (xs : List Tree) → all_ranks w xs ≤ n → Each (λ x. IsDeepEnough w x n) xs
+all_deep w t n [] l = tt
+all_deep w t n (x ∷ xs) l = (deep_at w t n x (omega arith), all_deep w t n xs (omega arith))
+
+-- what is left after the one label
+one_after : (v : NetsValue) (a : Label) (n : ℕ) → label_number v.labels a ≡ Some n → (x y : Tree) → IsResidual (permits_of v.tables) x (n ∷ []) y → IsSuccessor v a x y
+one_after v a n q x y r =
+    let i = first_event (permits_of v.tables) x y n r in
+    record { event = i.event; labelled = q ∙ ap Some (sym i.is); after = i.after }
+
+after_one : (v : NetsValue) (a : Label) (n : ℕ) → label_number v.labels a ≡ Some n → (x y : Tree) → IsSuccessor v a x y → IsResidual (permits_of v.tables) x (n ∷ []) y
+after_one v a n q x y s = after_first (permits_of v.tables) x y n (record { event = s.event; is = some_is s.event.label n (sym s.labelled ∙ q); after = s.after })
+  where
+    some_is : (m n : ℕ) → Some m ≡ Some n → m ≡ n
+    some_is m n e = cc
+
+record HasSuccessors (v : NetsValue) (a : Label) (terms : List Tree) : Type 0 where
+  pub next : List Tree
+  pub are : AreSuccessors v a terms next
+
+successors_exist : (v : NetsValue) (a : Label) (x : Tree) (terms : List Tree) → IsSoundFor v x → HasSuccessors v a terms
+successors_exist v a x terms h = go (label_number v.labels a) refl
+  where
+    go : (o : Option ℕ) → label_number v.labels a ≡ o → HasSuccessors v a terms
+    go None q = record { next = []; are = record { different = tt; exact = λ y. record { to = λ i. absurd i; from = λ i. nothing y i } } }
+      where
+        nothing : (y : Tree) → IsLeftOf v a terms y → ⊥
+        nothing y i = let bad : None ≡ Some i.left.event.label = sym q ∙ i.left.labelled in cc
+    go (Some n) q =
+        let w = v.tables in
+        let d = all_ranks w terms in
+        record {
+          next = next_set d (permits_of w) n terms;
+          are = record {
+            different = are_different _;
+            exact = λ y. record {
+              to = λ i. let r = set_sound w d (n ∷ []) terms y i in record { term = r.0; held = r.1; left = one_after v a n q r.0 y r.2 };
+              from = λ i. set_whole w d (n ∷ []) terms (all_deep w (tidy_tables _ w h.nets) d terms (omega arith), tt) i.term y i.held (after_one v a n q i.term y i.left);
+            };
+          };
+        }
+
+-- where some of it weighs more than the budget, all of it does
+pub over_passes : (v : NetsValue) (a : Label) (x : Tree) (terms : List Tree) (budget : ℕ) → IsSoundFor v x → IsOver (IsLeftOf v a terms) budget → PassBudget v a terms budget
+over_passes v a x terms budget h o =
+    let s = successors_exist v a x terms h in
+    let l = lighter o.some s.next o.different (λ y i. (s.are.exact y).from (o.each y i)) in
+    record { next = s.next; are = s.are; above = omega (arith, o.above, l) }
+
+-- what an event leaves of a sound term is sound
+pub stays_sound : (v : NetsValue) (a : Label) (x y : Tree) → IsSoundFor v x → IsSuccessor v a x y → IsSoundFor v y
+stays_sound v a x y h s = full_soundness_is_kept.after_keeps _ v.tables x y s.event h s.after

@@ -1,0 +1,7 @@
+mod Pairs
+mod Walked
+mod SameFacts
+mod ColumnLaws
+mod CoverLaws
+mod SharingLaws
+mod LevelLaws

@@ -1,0 +1,3 @@
+pub mod PartRules
+pub mod Noting
+pub mod Sharing
