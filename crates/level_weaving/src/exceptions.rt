@@ -1,8 +1,9 @@
 //! The earliest exception that stands where it may not: inside an operand, or not covering all instances.
 
-ghost use Rattle.std.specs.Prelude.{◌≡◌, ◌++◌, ◌&&◌, IfOk, OnOk, map};
+ghost use Rattle.std.specs.Prelude.{◌≡◌, ◌++◌, ◌&&◌, IfOk, OnOk, map, not};
 ghost use Rattle.level_weaving.specs.Exceptions.{IsMisplaced, content_misplaced, covers_all as all_covered, form_exceptions, is_exception, items_exceptions, operand_exceptions, operands_exceptions, outer_form, outer_piece, outer_pieces, statement_exceptions, statements_exceptions};
 ghost use Rattle.level_pieces.specs.PieceViews.{piece_view, setting_column, setting_leads};
+ghost use Rattle.level_pieces.specs.Unwoven.{place_if};
 ghost use Rattle.msc_base.specs.Places.{IsLeast};
 ghost use Rattle.msc_instances.specs.Instances.{instances};
 ghost use Rattle.msc_meaning.specs.LevelItems.{cover_by, shared_of};
@@ -117,8 +118,26 @@ fn covers_all(alloc: Global, names: &[Name], cover: &[Name]) -> Result<bool, NoM
     Ok(all)
 }
 
-/// Notes an inline expression of the outermost level, where it is an exception that doesn't cover all instances, and the exceptions
-/// inside it.
+/// Notes an inline expression of the outermost level, where it is an exception that doesn't cover all instances.
+fn uncovering(
+    alloc: Global,
+    places: &mut Items<Place>,
+    names: &Names,
+    setting: Setting<'_, '_>,
+    place: Place,
+    inline: &RawInline,
+) -> Result<(), NoMemory>
+    ensures { OnOk result (places.new ≡ places.old ++ place_if (is_exception inline.now.form && not (all_covered names.now (cover_by names.now (setting_leads setting.entry) (setting_column setting.entry) inline.now.shared))) place) }
+{
+    if !is_exc(inline.form) {
+        return Ok(());
+    }
+    let cover = covered(alloc, names, setting, &inline.shared)?;
+    let all = covers_all(alloc, names.as_slice(), cover.as_slice())?;
+    note_if(places, place, !all)
+}
+
+/// The same, and the exceptions inside it.
 fn outer_inline(
     alloc: Global,
     places: &mut Items<Place>,
@@ -129,9 +148,7 @@ fn outer_inline(
 ) -> Result<(), NoMemory>
     ensures { OnOk result (places.new ≡ places.old ++ outer_form (all_covered names.now (cover_by names.now (setting_leads setting.entry) (setting_column setting.entry) (shared_of (inline_view inline.now)))) place (inline_view inline.now)) }
 {
-    let cover = covered(alloc, names, setting, &inline.shared)?;
-    let all = covers_all(alloc, names.as_slice(), cover.as_slice())?;
-    note_if(places, place, is_exc(inline.form) && !all)?;
+    uncovering(alloc, places, names, setting, place, inline)?;
     operands(places, inline.operands.as_slice())
 }
 
