@@ -4,8 +4,9 @@
 usage: depth.py PROGRAM
 
 PROGRAM is the built program of crates/residual_bench. Its charts have so many choices, each within the one before it; a choice adds
-two to a term's depth. The stack is what the shell's `ulimit -s` gives. For each work the most choices are found, to one in a hundred,
-with which the program doesn't crash, and what of the stack one of them takes. The works:
+two to a term's depth, and has a tied message beside the choices within it. For the works with -tied the message stands behind those
+choices and the tie above both, so a choice adds three. The stack is what the shell's `ulimit -s` gives. For each work the most
+choices are found, to one in a hundred, with which the program doesn't crash, and what of the stack one of them takes. The works:
 
     held      the term is made and dropped
     nested    may it end?
@@ -18,6 +19,7 @@ import subprocess
 import sys
 
 WORKS = ["held", "nested", "passed", "entered", "compared"]
+DEPTHS = {"": 2, "-tied": 3}
 MOST = 1_000_000
 
 
@@ -47,9 +49,10 @@ def main():
     program = sys.argv[1]
     stack = resource.getrlimit(resource.RLIMIT_STACK)[0]
     print(f"stack {stack // 1024} KiB")
-    for work in WORKS:
-        levels = most_levels(program, work)
-        print(f"{work}: {levels} choices, a depth of {2 * levels}; {stack / levels:.0f} bytes of stack for each choice", flush=True)
+    for tied, depth in DEPTHS.items():
+        for work in WORKS:
+            levels = most_levels(program, work + tied)
+            print(f"{work + tied}: {levels} choices, a depth of {depth * levels}; {stack / levels:.0f} bytes of stack for each choice", flush=True)
 
 
 main()

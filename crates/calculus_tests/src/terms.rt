@@ -175,8 +175,8 @@ fn blocks_count_in_equality_and_order(rt: HostRuntime) -> Result<(), Fail> {
     let second = loop_shut(alloc, event(alloc, 1, 0)?, 64)?;
     assert!(rt; first.same(&first.copy(alloc)?));
     assert!(rt; !first.same(&second));
-    assert!(rt; first.before(&second) != second.before(&first));
-    assert!(rt; !first.before(&first.copy(alloc)?));
+    assert!(rt; (first < second) != (second < first));
+    assert!(rt; !(first < first.copy(alloc)?));
     Ok(())
 }
 
@@ -203,7 +203,7 @@ fn constructors_are_ordered_as_the_table_of_weights(rt: HostRuntime) -> Result<(
     terms.push(Term::walk_of(alloc, 0, Spot::Start, Goal::Any, Block::empty(alloc))?)?;
     for (i, term) in terms.as_slice().iter().enumerate() {
         for (j, other) in terms.as_slice().iter().enumerate() {
-            assert_eq!(rt; term.before(other), i < j, "{i} and {j}");
+            assert_eq!(rt; term < other, i < j, "{i} and {j}");
             assert_eq!(rt; term.same(other), i == j, "{i} and {j}");
         }
     }

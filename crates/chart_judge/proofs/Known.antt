@@ -57,7 +57,7 @@ module _ (level_terms : ChartTermsMean) (chart : ChartEntry) (v : NetsValue) (x 
   chart_sound : IsSoundFor v x
   chart_sound =
       subst (λ (u : NetsValue). IsSoundFor u x) (sym tables)
-      (subst (λ (y : Tree). IsSoundFor (chart_tables body) y) (sym term) (level_terms.ranked names body accepted.ranked.rank accepted.built accepted.ranked.ranked))
+      (subst (λ (y : Tree). IsSoundFor (chart_tables body) y) (sym term) (record { full = level_terms.ranked names body accepted.ranked.rank accepted.built accepted.ranked.ranked; placed = level_terms.placed names body }))
 
   chart_weighs : WovenHaveFew → weight x ≤ 2 + body_size body
   chart_weighs pairs =
@@ -102,7 +102,7 @@ have_runs terms = record {
   each = λ table name chart is accepted u b.
       let k = known_of terms table name chart is accepted in
       let s = k.means.all_ones.all u b in
-      let order = k.sound.term.ordered s.pattern s.is in
+      let order = k.sound.full.term.ordered s.pattern s.is in
       begun_there (chart_tables accepted.body).labels k.names s.pattern u s.stands [] [] order.run tt order.is;
   empty = λ table name chart is accepted. begins_empty table name (chart_tables accepted.body) (chart_term (cover_of accepted.body) accepted.body) (known_of terms table name chart is accepted);
 }

@@ -10,11 +10,11 @@ use Rattle.chart_term.specs.NormalForms.{begun}
 use Rattle.chart_term.specs.PartLists.{AreTurns}
 use Rattle.chart_term.specs.Rows.{parts_of}
 use Rattle.chart_term.specs.Terms.{Tree, Nil, Event, Join, Choice, Tied, Loop, Walk, trees, row_of, Part}
-use Rattle.chart_term.specs.Views.{event_of, pairs_of}
+use Rattle.chart_term.specs.Views.{stored_event, pairs_of}
 
 abbrev pub tree_of : Form → Tree
 tree_of form.Nil = Nil
-tree_of (form.Event e) = Event (event_of e)
+tree_of (form.Event e) = Event (stored_event e)
 tree_of (form.Seq ps) = Join seq (trees (begun ps))
 tree_of (form.Par ps) = Join par (trees (begun ps))
 tree_of (form.Choice ps) = Choice (trees (begun ps))

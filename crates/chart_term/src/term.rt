@@ -17,7 +17,8 @@ mod order;
 mod parts;
 mod search;
 
-use crate::{Event, Look};
+use crate::Look;
+use crate::event::StoredEvent;
 use bit_sets::Block;
 use hmsc_graph::{Goal, Spot};
 use msc_base::{Limits, NoMemory};
@@ -43,12 +44,15 @@ pub(crate) struct Node {
     facts: Facts,
 }
 
+/// A chart has a node for each event, and a set of terms many of them.
+const _: () = prove!(size_of::<Node>() == 72);
+
 /// What a node is made of.
 #[cycle(term)]
 #[derive(Drop)]
 pub(crate) enum Form {
     Nil,
-    Event(Event),
+    Event(StoredEvent),
     Seq(PartList),
     Par(PartList),
     Choice(PartList),
@@ -284,14 +288,17 @@ impl Term {
         ensures { IfOk result (λ term.
             term ≡ EventTree (record { number = number; at = at; also = also; label = label })) }
     {
-        let event = Event {
-            number,
-            at,
-            also,
-            label,
-        };
         let facts = Facts::of_event(alloc, number, at, also, label)?;
-        let form = Form::Event(event);
+        let second = match also {
+            Some(second) => Some(second as u16),
+            None => None,
+        };
+        let form = Form::Event(StoredEvent {
+            number,
+            label,
+            at: at as u16,
+            also: second,
+        });
         Term::share(alloc, Node { form, facts })
     }
 
@@ -396,12 +403,15 @@ impl Term {
         let node: &Node = &self.node;
         match &node.form {
             Form::Nil => Look::Nil,
-            Form::Event(event) => Look::Event {
-                number: event.number,
-                at: event.at,
-                also: event.also,
-                label: event.label,
-            },
+            Form::Event(event) => {
+                let shown = event.shown();
+                Look::Event {
+                    number: shown.number,
+                    at: shown.at,
+                    also: shown.also,
+                    label: shown.label,
+                }
+            }
             Form::Seq(parts) => Look::Seq(parts),
             Form::Par(parts) => Look::Par(parts),
             Form::Choice(parts) => Look::Choice(parts),

@@ -1,8 +1,8 @@
 //! Verdicts of a track over sets of residual terms.
 ghost use Rattle.std.specs.Prelude.{◌≡◌, ◌≤◌, ◌<◌, [], length, IfOk};
 ghost use Rattle.msc_base.specs.declared.limits.TheConstants.Limits.{BUDGET_MOST};
-ghost use Rattle.term_laws.specs.FullSoundness.{IsSoundNode};
 ghost use Rattle.trace_judge.specs.Tracks.{IfHeld};
+ghost use Rattle.command_tests.specs.Samples.{IsSample};
 
 use chart_term::{Term, TermList, par};
 use msc_base::{Far, Kind, Label, Name, NoMemory, Text, Verdict};
@@ -41,7 +41,7 @@ fn tables(alloc: Global) -> Result<Nets, Fail>
 
 /// An event of that number, with the action x.
 fn event(alloc: Global, number: u32) -> Result<Term, NoMemory>
-    ensures { IfOk result (λ term. IsSoundNode 2 [] term) }
+    ensures { IfOk result (λ term. IsSample term) }
 {
     let term = Term::event(alloc, number, 0, None, 0)?;
     Ok(term)
@@ -50,7 +50,7 @@ fn event(alloc: Global, number: u32) -> Result<Term, NoMemory>
 /// So many actions x side by side, as in a coregion.
 #[tactic(auto, using(crate::proofs::SoundTerms::samples))]
 fn coregion(alloc: Global, count: u32) -> Result<Term, NoMemory>
-    ensures { IfOk result (λ term. IsSoundNode 2 [] term) }
+    ensures { IfOk result (λ term. IsSample term) }
 {
     let mut parts = TermList::new(alloc);
     for number in 0..count {
@@ -86,7 +86,7 @@ fn judged<S: Store + Drop>(
     text: &str,
     count: u64,
 ) -> Result<(Verdict, u64), Fail>
-    requires sound { IsSoundNode 2 [] term }
+    requires sample { IsSample term }
     requires least { 1 ≤ budget }
     requires most { budget ≤ BUDGET_MOST }
     requires few { count ≤ 1000 }

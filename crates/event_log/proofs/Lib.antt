@@ -3,4 +3,6 @@ pub mod Cuts
 pub mod Feeding
 pub mod Objects
 pub mod Readings
+pub mod Remembering
 pub mod Spelling
+pub mod WholeLines

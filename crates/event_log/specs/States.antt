@@ -97,6 +97,10 @@ pub record IsTooLong (s : LogState) (prefix : List ℕ) (x : LogFault) : Type 0 
 abbrev pub counted : LogState → LogState
 counted s = record s { count = s.count + 1 }
 
+-- the state with this line and its end taken at once
+abbrev pub whole : LogState → List ℕ → LogState
+whole s line = record s { line = line; count = s.count + length line + 1 }
+
 -- no fault so far: the bytes have been read to the end of their last whole line
 pub record IsGoing (form : LogForm) (bytes : List ℕ) (n : ℕ) (s : LogState) : Type 0 where
   pub form_is : s.form ≡ form

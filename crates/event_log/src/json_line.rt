@@ -11,9 +11,9 @@ ghost use Rattle.msc_base.specs.Only.{Never, Only};
 ghost use Rattle.event_log.specs.Objects.{IsVersionObject, IsEventObject, HasMembers, is_version_member, is_event_member, text_at, text_or_none, version_of_number};
 ghost use Rattle.event_log.specs.declared.event.LogForm.TheVariants.{Json};
 
-use crate::Version;
 use crate::line::Line;
 use crate::object::said_event;
+use crate::{SharedLabel, Version};
 use msc_base::{Label, NoMemory};
 use serde_json::{Category, Map, Value};
 use std::alloc::Global;
@@ -166,7 +166,7 @@ fn read_value(alloc: Global, version: Version, number: u64, value: &Value) -> Re
         return Ok(Line::VersionLine(stated));
     }
     match object_event(alloc, version, value)? {
-        Some(label) => Ok(Line::Event(label)),
+        Some(label) => Ok(Line::Event(SharedLabel::new(alloc, label)?)),
         None => Ok(Line::NoEvent),
     }
 }

@@ -6,9 +6,10 @@
 mod event;
 mod json_line;
 mod line;
+mod line_memory;
 mod object;
 mod reader;
 mod text_line;
 
-pub use event::{LineEvent, LogFault, LogForm, Version};
+pub use event::{LineEvent, LogFault, LogForm, SharedLabel, Version};
 pub use reader::LogReader;

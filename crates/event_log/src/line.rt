@@ -5,8 +5,8 @@ ghost use Rattle.event_log.specs.Meanings.{Says};
 
 use crate::json_line::read_json_line;
 use crate::text_line::read_text_line;
-use crate::{LogForm, Version};
-use msc_base::{Label, NoMemory};
+use crate::{LogForm, SharedLabel, Version};
+use msc_base::NoMemory;
 use std::alloc::Global;
 
 /// What a line of a log says.
@@ -17,9 +17,23 @@ pub enum Line {
     /// It is the first, and states a version: one of the two, or another.
     VersionLine(Option<Version>),
     /// It is one event.
-    Event(Label),
+    Event(SharedLabel),
     /// It is none of these.
     NoEvent,
+}
+
+impl Line {
+    /// The same once more.
+    pub fn copy(&self) -> Result<Line, NoMemory>
+        ensures { IfOk result (λ line. line ≡ self.now) }
+    {
+        match self {
+            Line::Blank => Ok(Line::Blank),
+            Line::VersionLine(stated) => Ok(Line::VersionLine(*stated)),
+            Line::Event(label) => Ok(Line::Event(label.copy()?)),
+            Line::NoEvent => Ok(Line::NoEvent),
+        }
+    }
 }
 
 /// What the line of this number says, in a log of this version.

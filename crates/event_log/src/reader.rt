@@ -4,16 +4,18 @@ ghost use Rattle.std.specs.Prelude.{◌≡◌, ◌<◌, ◌≤◌, ◌+◌, ◌+
 ghost use Rattle.event_log.specs.Faults.{IsFault};
 ghost use Rattle.event_log.specs.Logs.{HoldsEvent};
 ghost use Rattle.msc_base.specs.Only.{Never, Only};
-ghost use Rattle.event_log.specs.States.{LogState, IsGoing, HoldsAt, Fed, IsAnswer, fault_in, Takes, Refuses, TakesLine, RefusesLine, Grows, IsTooLong, counted, next_line};
+ghost use Rattle.event_log.specs.States.{LogState, IsGoing, HoldsAt, Fed, IsAnswer, fault_in, Takes, Refuses, TakesLine, RefusesLine, Grows, IsTooLong, counted, whole, next_line};
 ghost use Rattle.event_log.specs.declared.event.LineEvent.{LineEvent};
 ghost use Rattle.event_log.specs.declared.event.LogFault.{LogFault};
 ghost use Rattle.event_log.specs.declared.event.LogForm.{LogForm};
 ghost use Rattle.event_log.specs.declared.line.Line.{Line};
 ghost use Rattle.msc_base.specs.declared.limits.TheConstants.Limits.{LINE_BYTES, LOG_BYTES, LOG_EVENTS};
 
-use crate::line::{Line, read_line};
-use crate::{LineEvent, LogFault, LogForm, Version};
-use msc_base::{Label, Limits, NoMemory};
+use crate::line::Line;
+use crate::line_memory::LineMemory;
+use crate::{LineEvent, LogFault, LogForm, SharedLabel, Version};
+use memchr::memchr;
+use msc_base::{Limits, NoMemory};
 use std::alloc::Global;
 use std::collections::VecDeque;
 use std::marker::Model;
@@ -22,8 +24,8 @@ use std::marker::Model;
 #[derive(Drop)]
 pub struct LogReader {
     alloc: Global,
-    form: LogForm,
-    version: Version,
+    /// What lines say, in a log of this form and version.
+    memory: LineMemory,
     /// The number of the line that is being read.
     number: u64,
     /// How many bytes have been taken.
@@ -46,8 +48,8 @@ impl Model for LogReader {
     ghost Value = { LogState };
 
     ghost view = { λ r. record {
-      form = r.form;
-      version = r.version;
+      form = r.memory.form;
+      version = r.memory.version;
       number = r.number;
       count = r.count;
       read = r.read;
@@ -74,12 +76,7 @@ fn line_feed(bytes: &[u8]) -> Option<usize>
     ensures { MatchOption result (All (λ b. b ≢ 10) bytes.now) (λ end. (end < length bytes.now)
         × All (λ b. b ≢ 10) (take end bytes.now) × (slice_index bytes.now end ≡ 10)) }
 {
-    for (i, byte) in bytes.iter().enumerate() {
-        if *byte == b'\n' {
-            return Some(i);
-        }
-    }
-    None
+    memchr(b'\n', bytes)
 }
 
 /// Appends the bytes. After want of memory the bytes are as they were.
@@ -101,8 +98,7 @@ impl LogReader {
         let line = Vec::with_capacity(alloc, Limits::LINE_BYTES as usize)?;
         Ok(LogReader {
             alloc,
-            form,
-            version: Version::First,
+            memory: LineMemory::new(alloc, form),
             number: 1,
             count: 0,
             read: 0,
@@ -114,17 +110,16 @@ impl LogReader {
     }
 
     /// Goes on to the next line.
-    fn pass_line(&mut self, version: Version)
+    fn pass_line(&mut self)
         requires { self.old.number ≤ self.old.count }
-        ensures { self.new ≡ next_line self.old version self.old.read self.old.waiting }
+        ensures { self.new ≡ next_line self.old self.old.version self.old.read self.old.waiting }
     {
-        self.version = version;
         self.line.clear();
         self.number += 1;
     }
 
     /// Keeps the event and goes on to the next line. After a fault all is as it was.
-    fn keep(&mut self, label: Label) -> Result<(), LogFault>
+    fn keep(&mut self, label: SharedLabel) -> Result<(), LogFault>
         requires { self.old.number ≤ self.old.count }
         ensures ok { OnOk result (Takes self.old (Line.Event label) self.new) }
         ensures err { OnErr result (self.new ≡ self.old) }
@@ -153,12 +148,12 @@ impl LogReader {
     {
         match line {
             Line::Blank => {
-                let version = self.version;
-                self.pass_line(version);
+                self.pass_line();
                 Ok(())
             }
             Line::VersionLine(Some(version)) => {
-                self.pass_line(version);
+                self.memory.set_version(version);
+                self.pass_line();
                 Ok(())
             }
             Line::VersionLine(None) => Err(LogFault::Version(self.number)),
@@ -174,13 +169,8 @@ impl LogReader {
         ensures err { OnErr result (self.new ≡ self.old) }
         ensures fault { IfErr result (λ fault. IsFault fault → RefusesLine self.old fault) }
     {
-        let line = read_line(
-            self.alloc,
-            self.form,
-            self.version,
-            self.number,
-            self.line.as_slice(),
-        )?;
+        let bytes = self.line.as_slice();
+        let line = self.memory.read(self.alloc, self.number, bytes)?;
         self.take_line(line)
     }
 
@@ -211,6 +201,40 @@ impl LogReader {
         self.read_pending()
     }
 
+    /// Takes and reads a line with its end, of which nothing has been taken before. After a fault no more than the count of bytes has
+    /// changed.
+    fn read_whole(&mut self, line: &[u8]) -> Result<(), LogFault>
+        requires none { self.old.line ≡ [] }
+        requires room { self.old.count + length line.now < LOG_BYTES }
+        requires short { length line.now ≤ LINE_BYTES }
+        ensures ok { OnOk result (TakesLine (whole self.old line.now) self.new) }
+        ensures err { OnErr result (self.new ≡ record self.old { count = self.old.count + length line.now + 1 }) }
+        ensures fault { IfErr result (λ fault. IsFault fault → RefusesLine (whole self.old line.now) fault) }
+    {
+        self.count += line.len() as u64 + 1;
+        let line = self.memory.read(self.alloc, self.number, line)?;
+        self.take_line(line)
+    }
+
+    /// Takes a line with its end, of which nothing has been taken before: it isn't copied.
+    fn take_whole(&mut self, line: &[u8]) -> Result<(), LogFault>
+        requires none { self.old.line ≡ [] }
+        requires free { All (λ b. b ≢ 10) line.now }
+        requires room { self.old.count + length line.now < LOG_BYTES }
+        ensures ok { (form : LogForm) (b : List ℕ) (n : ℕ) → IsGoing form b n self.old
+            → OnOk result (IsGoing form (b ++ (line.now ++ 10 ∷ [])) n self.new) }
+        ensures err { (form : LogForm) (b : List ℕ) (n : ℕ) (more : List ℕ) → IsGoing form b n self.old
+            → IfErr result (λ fault. HoldsAt (Some fault) false form (b ++ (line.now ++ 10 ∷ more)) n self.new) }
+        ensures count { OnOk result (self.new.count ≡ self.old.count + length line.now + 1) }
+        ensures fault { self.new.fault ≡ self.old.fault }
+        ensures finished { self.new.finished ≡ self.old.finished }
+    {
+        if line.len() > Limits::LINE_BYTES as usize {
+            return Err(LogFault::LongLine(self.number));
+        }
+        self.read_whole(line)
+    }
+
     /// Takes a line with its end.
     fn take_ended(&mut self, prefix: &[u8]) -> Result<(), LogFault>
         requires free { All (λ b. b ≢ 10) prefix.now }
@@ -223,6 +247,9 @@ impl LogReader {
         ensures fault { self.new.fault ≡ self.old.fault }
         ensures finished { self.new.finished ≡ self.old.finished }
     {
+        if self.line.is_empty() {
+            return self.take_whole(prefix);
+        }
         self.append(prefix)?;
         self.end_line()
     }

@@ -8,8 +8,8 @@ ghost use Rattle.msc_base.specs.Only.{Never, Only};
 ghost use Rattle.event_log.specs.Objects.{IsAllowed};
 ghost use Rattle.event_log.specs.declared.event.LogForm.TheVariants.{Lines};
 
-use crate::Version;
 use crate::line::Line;
+use crate::{SharedLabel, Version};
 use msc_base::{Kind, Label, NoMemory, is_text};
 use msc_events::parse_event;
 use msc_tokens::{LexFault, Token, TokenList, lex_all};
@@ -120,7 +120,7 @@ fn read_tokens(
         return Ok(Line::VersionLine(stated));
     }
     match event_of(alloc, version, tokens)? {
-        Some(label) => Ok(Line::Event(label)),
+        Some(label) => Ok(Line::Event(SharedLabel::new(alloc, label)?)),
         None => Ok(Line::NoEvent),
     }
 }

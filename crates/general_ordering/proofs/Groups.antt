@@ -7,7 +7,7 @@ use Rattle.std.proofs.lemmas.List.{append-nil}
 use Rattle.std.proofs.lemmas.List.Quantifiers.{position-Some}
 use Rattle.std.proofs.lemmas.Option.{slice_get-get_or}
 use Rattle.std.proofs.lemmas.Slice.Eq.{bytes_eq-Decides}
-use Rattle.label_table.proofs.Numbering.{numbered_new, keeps_with}
+use Rattle.general_ordering.proofs.NameNumbers.{numbered_new, keeps_with}
 use Rattle.msc_base.proofs.NameFacts.{any_with_name, number_of_one, numbered, with_new}
 use Rattle.msc_base.specs.Lists.{IsAmong}
 use Rattle.msc_base.specs.NameTables.{with_name}

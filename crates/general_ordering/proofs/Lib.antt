@@ -1,4 +1,5 @@
 mod Groups
+mod NameNumbers
 mod FirstSteps
 mod Tests
 pub mod ViewFacts

@@ -54,7 +54,7 @@ far_self Nobody = refl
 far_self Env = refl
 far_self (Instance a) = bytes_self a
 
-parts_are : {a b : Label} → a.at ≡ b.at → a.kind ≡ b.kind → a.text ≡ b.text → a.far ≡ b.far → a ≡ b
+pub parts_are : {a b : Label} → a.at ≡ b.at → a.kind ≡ b.kind → a.text ≡ b.text → a.far ≡ b.far → a ≡ b
 parts_are at kind text far = λ i. record { at = at i; kind = kind i; text = text i; far = far i }
 
 label_is : (a b : Label) → same_label a b ≡ true → a ≡ b

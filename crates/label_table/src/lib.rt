@@ -2,7 +2,10 @@
 #![tactic(auto)]
 
 mod key;
+mod kind;
 pub mod laws;
+mod shortcut;
 mod table;
+mod texts;
 
 pub use table::LabelTable;

@@ -1,33 +1,39 @@
 //! The table of labels by number. term_tables holds one, and terms name labels by its numbers.
 
-ghost use Rattle.std.specs.Prelude.{◌≡◌, ◌<◌, ◌++◌, ◌∷◌, [], Contains, length, slice_get, Some, IfSome, IfNone, IfOk, OnOk, OnErr};
+ghost use Rattle.std.specs.Prelude.{◌≡◌, ◌<◌, ◌↔◌, ◌++◌, ◌∷◌, [], Contains, length, slice_get, Some, IfSome, IfNone, IfOk, OnOk, OnErr, IsTrue};
 ghost use Rattle.label_table.specs.Labels.{label_number};
 
 use crate::key::{LabelKey, key_of, number_label};
-use indexmap::IndexMap;
-use msc_base::{Label, NameTable, NoMemory};
+use crate::shortcut::{Shortcut, code_of};
+use crate::texts::TextNumbers;
+use msc_base::{Label, NoMemory};
 use std::alloc::Global;
+use std::collections::BTreeMap;
 use std::marker::Model;
 
 /// Labels, each once, numbered from 0 in the order in which they were added.
 #[derive(Drop)]
 pub struct LabelTable {
     alloc: Global,
+    labels: Vec<Label>,
+    /// Numbers of labels by their codes: right for most labels, but not for all.
+    shortcut: Shortcut,
     /// The names and texts of the labels.
-    texts: NameTable,
-    labels: IndexMap<LabelKey, Label>,
+    texts: TextNumbers,
+    /// The labels' numbers by their keys. After want of memory a key may have the number of another label.
+    keys: BTreeMap<LabelKey, u32>,
 }
 
 impl Model for LabelTable {
-    ghost use Rattle.std.specs.Prelude.{List, ◌≤◌, length};
+    ghost use Rattle.std.specs.Prelude.{List};
     ghost use Rattle.msc_base.specs.declared.label.Label.{Label};
-    ghost use Rattle.label_table.specs.Keys.{AreStored, labels_of};
+    ghost use Rattle.label_table.specs.Stores.{AreStored};
 
     ghost Value = { List Label };
 
-    ghost view = { λ t. labels_of t.labels.entries };
+    ghost view = { λ t. t.labels.items };
 
-    ghost invariant = { λ t. AreStored t.texts t.labels.entries };
+    ghost invariant = { λ t. AreStored t.texts t.keys t.labels.items };
 }
 
 impl LabelTable {
@@ -37,8 +43,10 @@ impl LabelTable {
     {
         LabelTable {
             alloc,
-            texts: NameTable::new(alloc),
-            labels: IndexMap::new(alloc),
+            labels: Vec::new(alloc),
+            shortcut: Shortcut::new(alloc),
+            texts: BTreeMap::new(alloc),
+            keys: BTreeMap::new(alloc),
         }
     }
 
@@ -59,13 +67,37 @@ impl LabelTable {
         self.find(label)
     }
 
-    /// The place of the label's key.
+    /// The number of a label: the one guessed, if that is right.
     fn find(&self, label: &Label) -> Option<u32>
         ensures { result ≡ label_number self.now label.now }
     {
+        match self.shortcut.guess(code_of(label)) {
+            Some(number) if self.has_at(number, label) => Some(number),
+            _ => self.find_by_key(label),
+        }
+    }
+
+    /// The number of a label, which is looked up by its key.
+    fn find_by_key(&self, label: &Label) -> Option<u32>
+        ensures { result ≡ label_number self.now label.now }
+    {
         let key = key_of(&self.texts, label)?;
-        let number = self.labels.get_index_of(&key)?;
-        Some(number as u32)
+        let number = *self.keys.get(&key)?;
+        if self.has_at(number, label) {
+            Some(number)
+        } else {
+            None
+        }
+    }
+
+    /// Whether the label has this number.
+    fn has_at(&self, number: u32, label: &Label) -> bool
+        ensures { IsTrue result ↔ (slice_get self.now number ≡ Some label.now) }
+    {
+        match self.labels.get(number as usize) {
+            Some(stored) => stored.same(label),
+            None => false,
+        }
     }
 
     /// Appends a label, and gives its number. After want of memory the table is as it was, and the
@@ -78,8 +110,12 @@ impl LabelTable {
         ensures err { OnErr result (self.new ≡ self.old) }
     {
         let number = self.len();
+        self.shortcut.make_room(self.alloc, number)?;
         let key = number_label(self.alloc, &mut self.texts, &label)?;
-        self.labels.insert(key, label)?;
+        self.keys.insert(key, number)?;
+        let code = code_of(&label);
+        self.labels.push(label)?;
+        self.shortcut.put(code, number);
         Ok(number)
     }
 }

@@ -4,6 +4,7 @@ use Rattle.msc_base.specs.Lists.{AreDifferent}
 use Rattle.msc_base.specs.Orders.{Once}
 use Rattle.chart_term.specs.Terms.{weight}
 use Rattle.term_laws.specs.FullSoundness.{IsFullySound}
+use Rattle.term_laws.specs.Placing.{HaveOnePlace}
 use Rattle.msc_meaning.specs.Bodies.{Body, level, Items, no_items, item_and, Item, Single, Coregion, Inline, Refer, Bodies, no_bodies, body_and, events}
 use Rattle.msc_meaning.specs.Levels.{IsWovenLevel}
 use Rattle.msc_meaning.specs.Pairing.{ArePairs}
@@ -64,9 +65,11 @@ abbrev pub WovenHaveFew : Type 0
 WovenHaveFew = (cover : List (List ℕ)) (ps : List Piece) (b : Body) → IsWovenLevel cover ps b → Once (numbers (events_within b)) → ((p : Place) → BreaksNameRule Twice b p → ⊥) → HasFewPairs b
 
 -- where the names of the instances differ and a term is made of the body, the chart's term means the chart; it is sound in full where its
--- events can be ranked, and where each output stands before its input; and it weighs no more than the body's size and 2
+-- events can be ranked, and where each output stands before its input; its events of one label have the same instances; and it weighs
+-- no more than the body's size and 2
 pub record ChartTermsMean : Type 0 where
   pub means : (names : List (List ℕ)) (b : Body) → AreDifferent names → is_built names b ≡ true → IsChartMade (chart_tables b) names (chart_term names b) b
   pub ranked : (names : List (List ℕ)) (b : Body) (rank : ℕ → ℕ) → is_built names b ≡ true → IsRanked rank b → IsFullySound (length (chart_tables b).labels) (chart_tables b).tables (chart_term names b)
   pub sound : (names : List (List ℕ)) (b : Body) → is_built names b ≡ true → IsForward b → IsFullySound (length (chart_tables b).labels) (chart_tables b).tables (chart_term names b)
+  pub placed : (names : List (List ℕ)) (b : Body) → HaveOnePlace (chart_tables b).tables (chart_term names b)
   pub weighs : (names : List (List ℕ)) (b : Body) → is_built names b ≡ true → HasFewPairs b → weight (chart_term names b) ≤ 2 + body_size b

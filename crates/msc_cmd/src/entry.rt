@@ -11,7 +11,7 @@ use outside::{Failed, Shelf};
 use std::alloc::{AllocError, Global};
 
 /// How many bytes a read asks for at most.
-pub const PIECE_BYTES: usize = 4_096;
+pub const PIECE_BYTES: usize = 65_536;
 
 /// Why an entry wasn't read.
 #[derive(Clone, Copy, Debug, PartialEq, Eq)]

@@ -33,12 +33,12 @@ pub struct Ranges {
 pub struct Facts {
     /// The weight, or the largest `u64` where it is larger.
     pub weight: u64,
-    /// Whether a walk stands in the term, in a loop operand of it or in a begun turn.
-    pub holds_walk: bool,
     /// The instances of the events of the term, of its loop operands and of its begun turns.
     pub instances: Block,
     /// The ranges of these events.
     pub ranges: Option<Ranges>,
+    /// Whether a walk stands in the term, in a loop operand of it or in a begun turn.
+    pub holds_walk: bool,
 }
 
 impl Span {

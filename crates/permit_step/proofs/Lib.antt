@@ -10,6 +10,7 @@ pub mod Tallying
 pub mod Searching
 pub mod Visits
 pub mod Passes
+pub mod Placed
 pub mod Copies
 pub mod TermMembers
 pub mod AllAfter

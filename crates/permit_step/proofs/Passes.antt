@@ -154,12 +154,12 @@ module _ (k : NetPermits) (e : TermEvent) where
   row_held (Turn x ∷ ps) (suc j) (suc i) z u l g h = turn_none (permit k (only (instances_of e).instances) x) (row_left k e ps i u) (row_held ps j i z u (omega arith) g h)
   row_held (Gap c ∷ ps) (suc j) (suc i) z u l g h = ap (gap_first _) (row_held ps j i z u (omega arith) g h)
 
-  row_put_held : (ps : List Part) (p from : ℕ) (u : Tree) → AreTurns ps → from ≤ p → IsHeldBefore k ps from e → put k e (Join seq (trees (begun ps))) p u ≡ None
+  pub row_put_held : (ps : List Part) (p from : ℕ) (u : Tree) → AreTurns ps → from ≤ p → IsHeldBefore k ps from e → put k e (Join seq (trees (begun ps))) p u ≡ None
   row_put_held ps p from u turns l h =
       ap (λ l. option_map (join_all seq) (parts_left k seq e l p u)) (items-trees (begun ps))
       ∙ ap (option_map (join_all seq)) (parts_held (begun ps) h.index p h.turn u (omega (arith, h.before)) (turn_at ps h.index h.turn turns h.there) h.held)
 
-  loop_put_held : (x : Tree) (lo : ℕ) (hi : Option ℕ) (ps : List Part) (p from : ℕ) (u : Tree) → from ≤ p → IsHeldBefore k ps from e → put k e (Loop x lo hi (row_of ps)) p u ≡ None
+  pub loop_put_held : (x : Tree) (lo : ℕ) (hi : Option ℕ) (ps : List Part) (p from : ℕ) (u : Tree) → from ≤ p → IsHeldBefore k ps from e → put k e (Loop x lo hi (row_of ps)) p u ≡ None
   loop_put_held x lo hi ps p from u l h =
       ap (λ l. loop_left k x lo hi (row_left k e l p u)) (parts-row_of ps) ∙ ap (loop_left k x lo hi) (row_held ps h.index p h.turn u (omega (arith, h.before)) h.there h.held)
 
@@ -174,7 +174,7 @@ pub skip-none : (k : NetPermits) (ps : List Part) (from : ℕ) (c : List ℕ) �
 skip-none k ps from c q = record { all = λ e h. absurd (never_at e (subst (λ (d : List ℕ). IsAt d e) q h)) }
 
 -- the event's instances, behind a turn of which nothing is left at them
-pub skip-behind : (w : Tables) (t : Taken) (ps : List Part) (from place : ℕ) (z : Tree) (c : List ℕ) → IsTaken t → t.event.also ≡ None → place + 1 ≡ from → slice_get ps place ≡ Some (Turn z) → IsReady w z → permit (permits_of w) (block_of t.at) z ≡ None → ((n : ℕ) → has c n ≡ has t.at.instances n) → IsSkip (permits_of w) ps from c
+pub skip-behind : (w : Tables) (t : Taken) (ps : List Part) (from place : ℕ) (z : Tree) (c : List ℕ) → IsTaken t → t.event.also ≡ None → place < from → slice_get ps place ≡ Some (Turn z) → IsReady w z → permit (permits_of w) (block_of t.at) z ≡ None → ((n : ℕ) → has c n ≡ has t.at.instances n) → IsSkip (permits_of w) ps from c
 skip-behind w t ps from place z c taken alone n there ready fails same = record {
   all = λ e h. record {
     index = place;

@@ -7,6 +7,7 @@ ghost use Rattle.permit_step.specs.AllAfter.{AreAllLeft, AreTooMany};
 ghost use Rattle.permit_step.specs.Gatherings.{IsGathered, IsTooMuch};
 ghost use Rattle.term_permission.specs.Ready.{IsReady, AreReadyTables};
 ghost use Rattle.permit_step.specs.Searches.{IsTally};
+ghost use Rattle.term_laws.specs.Placing.{HaveOnePlace};
 ghost use Rattle.term_tables.specs.NetValues.{label_number};
 
 use crate::found::Found;
@@ -27,13 +28,14 @@ fn search_each(
 ) -> Result<bool, NoMemory>
     requires tables { AreReadyTables nets.now.tables }
     requires terms { Each (IsReady nets.now.tables) terms.now }
+    requires placed { Each (HaveOnePlace nets.now.tables) terms.now }
     requires tally { IsTally found.old }
     requires none { found.old.terms ≡ [] }
     ensures all { IfOk result (λ all. all ≡ true → IsGathered nets.now.tables label found.old.most terms.now found.new) }
     ensures more { IfOk result (λ all. all ≡ false → IsTooMuch nets.now.tables label found.old.most terms.now found.new) }
 {
     for index in 0..terms.len() {
-        if !search(alloc, nets, label, terms.at(index), found)? {
+        if !search(alloc, nets, label, terms.at(index), true, found)? {
             return Ok(false);
         }
     }
@@ -41,7 +43,8 @@ fn search_each(
 }
 
 /// What is left of any of the terms after an event with the label that has this number in the tables: each such term once. There
-/// is none where together they weigh more than `most`.
+/// is none where together they weigh more than `most`. Of each term events of one label have the same instances, which lets a search end
+/// where a part that comes first holds back what it looks for.
 pub fn after_each(
     alloc: Global,
     nets: &Nets,
@@ -51,6 +54,7 @@ pub fn after_each(
 ) -> Result<Option<TermList>, NoMemory>
     requires tables { AreReadyTables nets.now.tables }
     requires terms { Each (IsReady nets.now.tables) terms.now }
+    requires placed { Each (HaveOnePlace nets.now.tables) terms.now }
     requires most { most < 18446744073709551615 }
     ensures { IfOk result (λ found. (label : LabelValue) → label_number nets.now.labels label ≡ Some number
         → MatchOption found (AreTooMany nets.now label terms.now most) (AreAllLeft nets.now label terms.now most)) }

@@ -1,25 +1,28 @@
 //! The children of a term from which an event with a label may be taken, one by one: the way down of `search`.
 
-ghost use Rattle.std.specs.Prelude.{◌≡◌, ◌<◌, ◌+◌, IfOk, IfSome, Some, None, true};
+ghost use Rattle.std.specs.Prelude.{◌≡◌, ◌<◌, ◌+◌, [], IfOk, IfSome, IfNone, Some, None, true};
+ghost use Rattle.bit_sets.specs.Blocks.{BlockValue};
+ghost use Rattle.chart_term.specs.NormalForms.{begun};
 ghost use Rattle.chart_term.specs.PartLists.{AreTurns};
 ghost use Rattle.chart_term.specs.Rows.{part_of};
 ghost use Rattle.chart_term.specs.Tables.{net_count, net_of};
-ghost use Rattle.chart_term.specs.Terms.{Loop as LoopTree, Walk as WalkTree, row_of};
+ghost use Rattle.chart_term.specs.Terms.{Join, Loop as LoopTree, Walk as WalkTree, row_of, trees};
 ghost use Rattle.hmsc_graph.specs.Nets.{size_of};
+ghost use Rattle.msc_base.specs.Patterns.{seq};
 ghost use Rattle.hmsc_graph.specs.Spots.{spot_of, goal_of};
 ghost use Rattle.permit_step.specs.Children.{row_child};
 ghost use Rattle.term_laws.specs.Normality.{IsSet};
 ghost use Rattle.term_laws.specs.Permission.{kept_of, permits_of};
 ghost use Rattle.term_permission.specs.Ready.{IsReady, AreReadyTables, IsReadyPart, AreReadyParts, IsReadyLoop};
 ghost use Rattle.permit_step.specs.Searches.{IsNext, IsTaken, child_count, is_gap};
-ghost use Rattle.permit_step.specs.Skips.{IsBelowTie, IsChildOr, IsNextPart, IsSkip};
+ghost use Rattle.permit_step.specs.Skips.{ArePlaced, IsBelowTie, IsChildOr, HoldsOne, IsHolding, IsNextPart};
 
 use crate::ascent::Taken;
 use bit_sets::Block;
 use chart_term::{Event, Look, PartList, RowPart, Term};
 use msc_base::NoMemory;
 use std::alloc::Global;
-use term_permission::{LoopParts, WalkParts, ask_term, permit, widened};
+use term_permission::{Joint, LoopParts, WalkParts, ask_parts, ask_term, permit, widened};
 use term_tables::Nets;
 
 /// A child of a term, and its index.
@@ -32,7 +35,8 @@ pub(crate) struct Step {
 /// The next child from the index on from which an event with the label may be taken, if there is one.
 ///
 /// `met` is the last event with the label that was found, if there is one. Where a part before the index lets no event happen at its
-/// instances, parts behind that have no other instance are passed over.
+/// instances, parts behind that have no other instance are passed over; and all parts behind, where `one_place` says that events of
+/// one label have the same instances.
 #[tactic(auto, using(crate::proofs::Passes::passes, crate::proofs::Descending::descending))]
 pub(crate) fn next_child(
     alloc: Global,
@@ -41,18 +45,19 @@ pub(crate) fn next_child(
     term: &Term,
     from: usize,
     met: &Option<Taken>,
+    one_place: bool,
 ) -> Result<Option<Step>, NoMemory>
     requires tables { AreReadyTables nets.now.tables }
     requires term { IsReady nets.now.tables term.now }
     requires met { IfSome met.now IsTaken }
+    requires placed { one_place ≡ true → ArePlaced nets.now.tables label term.now met.now }
     ensures { IfOk result (λ next. IsNext nets.now.tables label term.now from next) }
 {
     match term.look() {
         Look::Nil => Ok(None),
         Look::Event { .. } => Ok(None),
         Look::Seq(parts) => {
-            let skip = blocked(alloc, nets, parts, from, met)?;
-            let next = next_part(alloc, parts, from, label, &skip)?;
+            let next = next_in_row(alloc, nets, label, parts, from, met, one_place)?;
             Ok(next)
         }
         Look::Par(parts) => {
@@ -79,7 +84,7 @@ pub(crate) fn next_child(
                 upper,
                 row,
             };
-            next_turn(alloc, nets, label, turns, from, met)
+            next_turn(alloc, nets, label, turns, from, met, one_place)
         }
         Look::Walk {
             net,
@@ -112,6 +117,71 @@ fn below_tie(alloc: Global, inner: &Term, label: u32, from: usize) -> Result<Opt
     Ok(Some(Step { index: 0, inner }))
 }
 
+/// The next part of a row from the index on from which an event with the label may be taken.
+#[tactic(auto, using(crate::proofs::Passes::passes, crate::proofs::Descending::descending))]
+fn next_in_row(
+    alloc: Global,
+    nets: &Nets,
+    label: u32,
+    parts: &PartList,
+    from: usize,
+    met: &Option<Taken>,
+    one_place: bool,
+) -> Result<Option<Step>, NoMemory>
+    requires tables { AreReadyTables nets.now.tables }
+    requires turns { AreTurns parts.now }
+    requires row { IsReady nets.now.tables (Join seq (trees (begun parts.now))) }
+    requires met { IfSome met.now IsTaken }
+    requires placed { one_place ≡ true → ArePlaced nets.now.tables label (Join seq (trees (begun parts.now))) met.now }
+    ensures { IfOk result (λ next. IsNext nets.now.tables label (Join seq (trees (begun parts.now))) from next) }
+{
+    let held = blocked(alloc, nets, parts, from, met)?;
+    let Some(skip) = skip_of(alloc, held, one_place) else {
+        return Ok(None);
+    };
+    let next = next_part(alloc, parts, from, label, &skip)?;
+    let Some(step) = next else {
+        return Ok(None);
+    };
+    if is_held(alloc, nets, parts, from, met, one_place)? {
+        return Ok(None);
+    }
+    Ok(Some(step))
+}
+
+/// Whether the parts before the index let nothing happen at the instances of the event, where that serves.
+#[tactic(auto, using(crate::proofs::Passes::passes))]
+fn is_held(
+    alloc: Global,
+    nets: &Nets,
+    parts: &PartList,
+    from: usize,
+    met: &Option<Taken>,
+    one_place: bool,
+) -> Result<bool, NoMemory>
+    requires tables { AreReadyTables nets.now.tables }
+    requires turns { AreTurns parts.now }
+    requires row { IsReady nets.now.tables (Join seq (trees (begun parts.now))) }
+    requires met { IfSome met.now IsTaken }
+    ensures { IfOk result (λ held. held ≡ true → (one_place ≡ true) × HoldsOne (permits_of nets.now.tables) parts.now from met.now) }
+{
+    let Some(met) = met else {
+        return Ok(false);
+    };
+    if !one_place {
+        return Ok(false);
+    }
+    if from > parts.len() {
+        return Ok(false);
+    }
+    if !is_alone(&met.event) {
+        return Ok(false);
+    }
+    let before = parts.front(alloc, from)?;
+    let left = ask_parts(alloc, nets, Joint::Row, &before, &met.at)?;
+    Ok(left.fails())
+}
+
 /// The next of the turns from the index on that a search for the label doesn't pass over.
 #[tactic(auto, using(crate::proofs::Passes::passes, crate::proofs::Descending::descending))]
 fn next_part(
@@ -131,7 +201,7 @@ fn next_part(
     Ok(Some(Step { index, inner }))
 }
 
-/// The instances of the event, where the part before the index lets nothing happen at them, and no instances otherwise.
+/// The instances of the event, where the part before the index lets nothing happen at them.
 #[tactic(auto, using(crate::proofs::Passes::passes))]
 fn blocked(
     alloc: Global,
@@ -139,33 +209,51 @@ fn blocked(
     parts: &PartList,
     from: usize,
     met: &Option<Taken>,
-) -> Result<Block, NoMemory>
+) -> Result<Option<Block>, NoMemory>
     requires tables { AreReadyTables nets.now.tables }
     requires parts { AreReadyParts nets.now.tables parts.now }
     requires met { IfSome met.now IsTaken }
-    ensures { IfOk result (λ skip. IsSkip (permits_of nets.now.tables) parts.now from skip.instances) }
+    ensures { IfOk result (λ held. IfSome held (λ skip. IsHolding (permits_of nets.now.tables) parts.now from met.now skip.instances)) }
 {
     let Some(met) = met else {
-        return Ok(Block::empty(alloc));
+        return Ok(None);
     };
     if from == 0 {
-        return Ok(Block::empty(alloc));
+        return Ok(None);
     }
     if from >= parts.len() {
-        return Ok(Block::empty(alloc));
+        return Ok(None);
     }
     if !is_alone(&met.event) {
-        return Ok(Block::empty(alloc));
+        return Ok(None);
     }
     match parts.at(from - 1) {
-        RowPart::Gap(_) => Ok(Block::empty(alloc)),
+        RowPart::Gap(_) => Ok(None),
         RowPart::Turn(turn) => {
             let left = ask_term(alloc, nets, turn, &met.at)?;
             if !left.fails() {
-                return Ok(Block::empty(alloc));
+                return Ok(None);
             }
             let skip = met.at.copy(alloc)?;
-            Ok(skip)
+            Ok(Some(skip))
+        }
+    }
+}
+
+/// The instances at which parts behind the index are passed over; none, where all of them are: where one is held at its instances,
+/// and events of one label have the same.
+fn skip_of(alloc: Global, held: Option<Block>, one_place: bool) -> Option<Block>
+    ensures all { IfNone result ((one_place ≡ true) × (c : BlockValue) × (held ≡ Some c)) }
+    ensures some { IfSome result (λ skip. IfSome held (λ c. skip ≡ c)) }
+    ensures none { IfSome result (λ skip. IfNone held (skip.instances ≡ [])) }
+{
+    match held {
+        None => Some(Block::empty(alloc)),
+        Some(skip) => {
+            if one_place {
+                return None;
+            }
+            Some(skip)
         }
     }
 }
@@ -189,13 +277,19 @@ fn next_turn(
     turns: LoopParts<'_>,
     from: usize,
     met: &Option<Taken>,
+    one_place: bool,
 ) -> Result<Option<Step>, NoMemory>
     requires tables { AreReadyTables nets.now.tables }
     requires row { IsReadyLoop nets.now.tables turns.body.now turns.upper turns.row.now }
     requires met { IfSome met.now IsTaken }
+    requires placed { one_place ≡ true
+        → ArePlaced nets.now.tables label (LoopTree turns.body.now turns.lower turns.upper (row_of turns.row.now)) met.now }
     ensures { IfOk result (λ next. IsNext nets.now.tables label (LoopTree turns.entry.body.now turns.entry.lower turns.entry.upper (row_of turns.entry.row.now)) from next) }
 {
-    let skip = blocked(alloc, nets, turns.row, from, met)?;
+    let held = blocked(alloc, nets, turns.row, from, met)?;
+    let Some(skip) = skip_of(alloc, held, one_place) else {
+        return Ok(None);
+    };
     let _count = turns.row.len();
     let mut at = from;
     'rows: loop {

@@ -1,13 +1,15 @@
 //! The search down to each event with a label, as a loop over its path: for `successors` and `all_after`.
 
-ghost use Rattle.std.specs.Prelude.{◌≡◌, ◌≤◌, ◌<◌, ◌+◌, [], IfOk, OnOk, IfSome, IfNone};
+ghost use Rattle.std.specs.Prelude.{◌≡◌, ◌≤◌, ◌<◌, ◌+◌, [], ℕ, List, true, IfOk, OnOk, IfSome, IfNone};
 ghost use Rattle.chart_term.specs.Terms.{Event as EventTree};
 ghost use Rattle.chart_term.specs.Views.{event_of};
 ghost use Rattle.term_laws.specs.Listing.{set_weight};
 ghost use Rattle.term_laws.specs.Permission.{permits_of};
+ghost use Rattle.term_laws.specs.Placing.{AreEventsPlaced, HaveOnePlace};
 ghost use Rattle.permit_step.specs.Kept.{AreLinked};
 ghost use Rattle.term_permission.specs.Ready.{IsReady, AreReadyTables};
 ghost use Rattle.permit_step.specs.Searches.{AreReadyFrames, Gathers, GathersOwn, IsOther, IsTaken, IsTally};
+ghost use Rattle.permit_step.specs.Skips.{IsMetAt};
 
 use crate::ascent::{Frame, Taken, rebuilt};
 use crate::descent::{behind, next_child};
@@ -20,17 +22,19 @@ use term_permission::widened;
 use term_tables::Nets;
 
 /// Adds what is left of the term after each event with the label. It says whether all were found: it ends once they weigh more
-/// than is wanted.
+/// than is wanted. `one_place` says that events of one label have the same instances, so that less is looked at.
 #[tactic(auto, using(crate::proofs::Searching::searching))]
 pub(crate) fn search(
     alloc: Global,
     nets: &Nets,
     label: u32,
     term: &Term,
+    one_place: bool,
     found: &mut Found,
 ) -> Result<bool, NoMemory>
     requires tables { AreReadyTables nets.now.tables }
     requires term { IsReady nets.now.tables term.now }
+    requires placed { one_place ≡ true → HaveOnePlace nets.now.tables term.now }
     requires tally { IsTally found.old }
     requires within { set_weight found.old.terms ≤ found.old.most }
     ensures { IfOk result (λ all. Gathers nets.now.tables label [] term.now found.old found.new all) }
@@ -40,7 +44,7 @@ pub(crate) fn search(
     let mut next = 0;
     let mut met = None;
     'search: loop {
-        match next_child(alloc, nets, label, &here, next, &met)? {
+        match next_child(alloc, nets, label, &here, next, &met, one_place)? {
             Some(step) => {
                 path.push(Frame {
                     parent: here,
@@ -85,6 +89,7 @@ fn add_event(
     requires tally { IsTally found.old }
     requires within { set_weight found.old.terms ≤ found.old.most }
     ensures met { OnOk result (IfSome met.new IsTaken) }
+    ensures placed { OnOk result ((places : ℕ → List ℕ) → AreEventsPlaced places term.now → IfSome met.old (IsMetAt places label) → IfSome met.new (IsMetAt places label)) }
     ensures found { IfOk result (λ all. GathersOwn nets.now.tables label path.now.items term.now found.old found.new all) }
 {
     let Some(taken) = taken_of(alloc, term, label)? else {

@@ -55,7 +55,7 @@ pub fn after_number(
     ensures prefix { OnErr result ((found : List Tree) × (out.new ≡ out.old ++ found)) }
 {
     let mut found = Found::new(alloc, most);
-    let all = search(alloc, nets, number, term, &mut found)?;
+    let all = search(alloc, nets, number, term, false, &mut found)?;
     found.append_to(alloc, out)?;
     Ok(all)
 }

@@ -1,10 +1,9 @@
-//! The charts that are measured, as terms over one table of labels.
+//! The charts that are measured, but for those of `towers`, as terms over one table of labels.
 ghost use Rattle.std.specs.Prelude.{◌≡◌, ◌<◌, ◌+◌, [], ◌∷◌, length, IfOk, OnOk};
 ghost use Rattle.chart_term.specs.NormalForms.{tie_of};
 ghost use Rattle.chart_term.specs.Properties.{Each};
 ghost use Rattle.chart_term.specs.Terms.{Event as EventTree};
-ghost use Rattle.term_laws.specs.FullSoundness.{IsSoundNode};
-ghost use Rattle.residual_bench.specs.Charts.{labels, event, message, answer, exchange};
+ghost use Rattle.residual_bench.specs.Charts.{labels, place, IsChart, event, message, answer, exchange};
 
 use crate::fault::Fault;
 use chart_term::{Term, TermList, choice, par, seq, tied};
@@ -15,12 +14,6 @@ use term_tables::Nets;
 
 /// How many labels the charts have.
 const LABELS: u32 = 9;
-
-/// The label of the event that stands within all choices of nested ones: an input of instance c.
-pub(crate) const INNERMOST: u32 = 3;
-
-/// The label of an input of instance c in each of them.
-const ALTERNATIVE: u32 = 5;
 
 /// The label of an action of instance c.
 pub(crate) const ACTION: u32 = 6;
@@ -114,7 +107,7 @@ pub(crate) fn event(alloc: Global, number: u32, at: u32, label: u32) -> Result<T
 }
 
 /// A list of two terms.
-fn two(alloc: Global, first: Term, second: Term) -> Result<TermList, NoMemory>
+pub(crate) fn two(alloc: Global, first: Term, second: Term) -> Result<TermList, NoMemory>
     ensures { IfOk result (λ list. list ≡ first ∷ second ∷ []) }
 {
     let mut parts = TermList::new(alloc);
@@ -124,7 +117,12 @@ fn two(alloc: Global, first: Term, second: Term) -> Result<TermList, NoMemory>
 }
 
 /// A list of three terms.
-fn three(alloc: Global, first: Term, second: Term, third: Term) -> Result<TermList, NoMemory>
+pub(crate) fn three(
+    alloc: Global,
+    first: Term,
+    second: Term,
+    third: Term,
+) -> Result<TermList, NoMemory>
     ensures { IfOk result (λ list. list ≡ first ∷ second ∷ third ∷ []) }
 {
     let mut parts = two(alloc, first, second)?;
@@ -133,8 +131,13 @@ fn three(alloc: Global, first: Term, second: Term, third: Term) -> Result<TermLi
 }
 
 /// The term, in which the event of the first number comes before that of the second.
-#[tactic(auto, using(crate::proofs::Sound::tie_rules))]
-fn tied_pair(alloc: Global, inner: Term, first: u32, second: u32) -> Result<Term, NoMemory>
+#[tactic(auto, using(crate::proofs::Made::tie_rules))]
+pub(crate) fn tied_pair(
+    alloc: Global,
+    inner: Term,
+    first: u32,
+    second: u32,
+) -> Result<Term, NoMemory>
     ensures { IfOk result (λ term. term ≡ tie_of inner ((first, second) ∷ [])) }
 {
     let mut pairs = PairList::new(alloc);
@@ -144,7 +147,7 @@ fn tied_pair(alloc: Global, inner: Term, first: u32, second: u32) -> Result<Term
 }
 
 /// A message from one instance to another: its output has this number and label, its input the next ones.
-fn message(alloc: Global, number: u32, from: u32, to: u32) -> Result<Term, NoMemory>
+pub(crate) fn message(alloc: Global, number: u32, from: u32, to: u32) -> Result<Term, NoMemory>
     requires number { number < 1000 }
     requires from { from < 1024 }
     requires to { to < 1024 }
@@ -157,7 +160,7 @@ fn message(alloc: Global, number: u32, from: u32, to: u32) -> Result<Term, NoMem
 }
 
 /// One of two answers.
-#[tactic(auto, using(crate::proofs::Sound::answer_rules))]
+#[tactic(auto, using(crate::proofs::Made::answer_rules))]
 fn answer(alloc: Global) -> Result<Term, NoMemory>
     ensures { IfOk result (λ term. term ≡ answer) }
 {
@@ -169,7 +172,7 @@ fn answer(alloc: Global) -> Result<Term, NoMemory>
 
 /// A request and an answer.
 fn exchange(alloc: Global) -> Result<Term, NoMemory>
-    ensures { IfOk result (λ term. IsSoundNode labels [] term) }
+    ensures { IfOk result (λ term. IsChart term) }
 {
     let output = event(alloc, 0, 0, 0)?;
     let input = event(alloc, 1, 1, 1)?;
@@ -181,10 +184,10 @@ fn exchange(alloc: Global) -> Result<Term, NoMemory>
 }
 
 /// A loop without end, of at least one turn.
-#[tactic(auto, using(crate::proofs::Sound::loop_rules))]
+#[tactic(auto, using(crate::proofs::Made::loop_rules))]
 fn endless(alloc: Global, body: Term) -> Result<Term, NoMemory>
-    requires { IsSoundNode labels [] body }
-    ensures { IfOk result (λ term. IsSoundNode labels [] term) }
+    requires { IsChart body }
+    ensures { IfOk result (λ term. IsChart term) }
 {
     let nets = Nets::new(alloc);
     let term = fresh_loop(alloc, &nets, body, 1, None)?;
@@ -193,7 +196,7 @@ fn endless(alloc: Global, body: Term) -> Result<Term, NoMemory>
 
 /// Requests without end, and no answers.
 pub(crate) fn requests(alloc: Global) -> Result<Term, NoMemory>
-    ensures { IfOk result (λ term. IsSoundNode labels [] term) }
+    ensures { IfOk result (λ term. IsChart term) }
 {
     let body = message(alloc, 0, 0, 1)?;
     endless(alloc, body)
@@ -201,27 +204,28 @@ pub(crate) fn requests(alloc: Global) -> Result<Term, NoMemory>
 
 /// Requests without end, each with an answer.
 pub(crate) fn exchanges(alloc: Global) -> Result<Term, NoMemory>
-    ensures { IfOk result (λ term. IsSoundNode labels [] term) }
+    ensures { IfOk result (λ term. IsChart term) }
 {
     let body = exchange(alloc)?;
     endless(alloc, body)
 }
 
 /// An event of an instance, as a whole chart.
-fn single(alloc: Global, number: u32, at: u32, label: u32) -> Result<Term, NoMemory>
+pub(crate) fn single(alloc: Global, number: u32, at: u32, label: u32) -> Result<Term, NoMemory>
     requires at { at < 1024 }
     requires label { label < labels }
-    ensures { IfOk result (λ term. IsSoundNode labels [] term) }
+    requires place { place label ≡ at }
+    ensures { IfOk result (λ term. IsChart term) }
 {
     let term = event(alloc, number, at, label)?;
     Ok(term)
 }
 
 /// A chart and another behind it.
-fn in_row(alloc: Global, first: Term, second: Term) -> Result<Term, NoMemory>
-    requires first { IsSoundNode labels [] first }
-    requires second { IsSoundNode labels [] second }
-    ensures { IfOk result (λ term. IsSoundNode labels [] term) }
+pub(crate) fn in_row(alloc: Global, first: Term, second: Term) -> Result<Term, NoMemory>
+    requires first { IsChart first }
+    requires second { IsChart second }
+    ensures { IfOk result (λ term. IsChart term) }
 {
     let parts = two(alloc, first, second)?;
     let term = seq(alloc, parts)?;
@@ -229,10 +233,10 @@ fn in_row(alloc: Global, first: Term, second: Term) -> Result<Term, NoMemory>
 }
 
 /// One of two charts.
-fn either(alloc: Global, first: Term, second: Term) -> Result<Term, NoMemory>
-    requires first { IsSoundNode labels [] first }
-    requires second { IsSoundNode labels [] second }
-    ensures { IfOk result (λ term. IsSoundNode labels [] term) }
+pub(crate) fn either(alloc: Global, first: Term, second: Term) -> Result<Term, NoMemory>
+    requires first { IsChart first }
+    requires second { IsChart second }
+    ensures { IfOk result (λ term. IsChart term) }
 {
     let parts = two(alloc, first, second)?;
     let term = choice(alloc, parts)?;
@@ -240,11 +244,12 @@ fn either(alloc: Global, first: Term, second: Term) -> Result<Term, NoMemory>
 }
 
 /// So many events of an instance with that label.
-#[tactic(auto, using(crate::proofs::Sound::list_rules))]
+#[tactic(auto, using(crate::proofs::Made::list_rules))]
 fn singles(alloc: Global, count: u32, at: u32, label: u32) -> Result<TermList, NoMemory>
     requires at { at < 1024 }
     requires label { label < labels }
-    ensures { IfOk result (λ parts. Each (IsSoundNode labels []) parts) }
+    requires place { place label ≡ at }
+    ensures { IfOk result (λ parts. Each IsChart parts) }
 {
     let mut parts = TermList::new(alloc);
     for number in 0..count {
@@ -255,7 +260,7 @@ fn singles(alloc: Global, count: u32, at: u32, label: u32) -> Result<TermList, N
 
 /// So many equal actions in a coregion.
 pub(crate) fn coregion(alloc: Global, count: u32) -> Result<Term, NoMemory>
-    ensures { IfOk result (λ term. IsSoundNode labels [] term) }
+    ensures { IfOk result (λ term. IsChart term) }
 {
     let parts = singles(alloc, count, 0, ACTION)?;
     let term = par(alloc, parts)?;
@@ -266,7 +271,8 @@ pub(crate) fn coregion(alloc: Global, count: u32) -> Result<Term, NoMemory>
 fn repeated(alloc: Global, count: u32, at: u32, label: u32) -> Result<Term, NoMemory>
     requires at { at < 1024 }
     requires label { label < labels }
-    ensures { IfOk result (λ term. IsSoundNode labels [] term) }
+    requires place { place label ≡ at }
+    ensures { IfOk result (λ term. IsChart term) }
 {
     let parts = singles(alloc, count, at, label)?;
     let term = seq(alloc, parts)?;
@@ -275,7 +281,7 @@ fn repeated(alloc: Global, count: u32, at: u32, label: u32) -> Result<Term, NoMe
 
 /// So many equal actions of c in a row, and behind them as many of s.
 pub(crate) fn behind(alloc: Global, count: u32) -> Result<Term, NoMemory>
-    ensures { IfOk result (λ term. IsSoundNode labels [] term) }
+    ensures { IfOk result (λ term. IsChart term) }
 {
     let near = repeated(alloc, count, 0, ACTION)?;
     let distant = repeated(alloc, count, 1, DISTANT_ACTION)?;
@@ -283,9 +289,9 @@ pub(crate) fn behind(alloc: Global, count: u32) -> Result<Term, NoMemory>
 }
 
 /// So many terms, each the choice of one of both actions.
-#[tactic(auto, using(crate::proofs::Sound::list_rules))]
+#[tactic(auto, using(crate::proofs::Made::list_rules))]
 fn choice_list(alloc: Global, count: u32) -> Result<TermList, NoMemory>
-    ensures { IfOk result (λ parts. Each (IsSoundNode labels []) parts) }
+    ensures { IfOk result (λ parts. Each IsChart parts) }
 {
     let mut parts = TermList::new(alloc);
     for number in 0..count {
@@ -298,7 +304,7 @@ fn choice_list(alloc: Global, count: u32) -> Result<TermList, NoMemory>
 
 /// One of both actions, so many times in a row.
 pub(crate) fn choices(alloc: Global, count: u32) -> Result<Term, NoMemory>
-    ensures { IfOk result (λ term. IsSoundNode labels [] term) }
+    ensures { IfOk result (λ term. IsChart term) }
 {
     let parts = choice_list(alloc, count)?;
     let term = seq(alloc, parts)?;
@@ -306,60 +312,9 @@ pub(crate) fn choices(alloc: Global, count: u32) -> Result<Term, NoMemory>
 }
 
 /// Nothing.
-fn nothing(alloc: Global) -> Result<Term, NoMemory>
-    ensures { IfOk result (λ term. IsSoundNode labels [] term) }
+pub(crate) fn nothing(alloc: Global) -> Result<Term, NoMemory>
+    ensures { IfOk result (λ term. IsChart term) }
 {
     let term = Term::nil(alloc)?;
     Ok(term)
-}
-
-/// An input of c, or an optional action of s and behind it the term.
-fn around(alloc: Global, inner: Term) -> Result<Term, NoMemory>
-    requires { IsSoundNode labels [] inner }
-    ensures { IfOk result (λ term. IsSoundNode labels [] term) }
-{
-    let optional = either(alloc, nothing(alloc)?, single(alloc, 0, 1, DISTANT_ACTION)?)?;
-    let row = in_row(alloc, optional, inner)?;
-    let input = single(alloc, 0, 0, ALTERNATIVE)?;
-    either(alloc, row, input)
-}
-
-/// So many choices, each within the one before it.
-fn tower(alloc: Global, levels: u32) -> Result<Term, NoMemory>
-    ensures { IfOk result (λ term. IsSoundNode labels [] term) }
-{
-    let mut inner = single(alloc, 0, 0, INNERMOST)?;
-    for _ in 0..levels {
-        inner = around(alloc, inner)?;
-    }
-    Ok(inner)
-}
-
-/// The term beside two equal actions of c.
-fn beside_actions(alloc: Global, inner: Term) -> Result<Term, NoMemory>
-    requires { IsSoundNode labels [] inner }
-    ensures { IfOk result (λ term. IsSoundNode labels [] term) }
-{
-    let first = single(alloc, 1, 0, ACTION)?;
-    let second = single(alloc, 2, 0, ACTION)?;
-    let parts = three(alloc, inner, first, second)?;
-    let term = par(alloc, parts)?;
-    Ok(term)
-}
-
-/// So many choices, each within the one before it, beside two equal actions; behind all of them another action of the same instance.
-pub(crate) fn nested(alloc: Global, levels: u32) -> Result<Term, NoMemory>
-    ensures { IfOk result (λ term. IsSoundNode labels [] term) }
-{
-    let all = beside_actions(alloc, tower(alloc, levels)?)?;
-    let last = single(alloc, 3, 0, OTHER_ACTION)?;
-    in_row(alloc, all, last)
-}
-
-/// An action, and behind it so many choices, each within the one before it.
-pub(crate) fn held(alloc: Global, levels: u32) -> Result<Term, NoMemory>
-    ensures { IfOk result (λ term. IsSoundNode labels [] term) }
-{
-    let first = single(alloc, 1, 0, ACTION)?;
-    in_row(alloc, first, tower(alloc, levels)?)
 }

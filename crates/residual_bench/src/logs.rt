@@ -1,15 +1,14 @@
 //! Logs that are made of turns, and what a term's residuals come to on one.
 ghost use Rattle.std.specs.Prelude.{◌≡◌, ◌≤◌, ◌+◌, [], length, OnOk};
-ghost use Rattle.term_laws.specs.FullSoundness.{IsSoundNode};
-ghost use Rattle.residual_bench.specs.Charts.{labels};
-ghost use Rattle.trace_judge.specs.Sets.{IsServing, IsSoundFor};
+ghost use Rattle.residual_bench.specs.Charts.{labels, IsChart};
+ghost use Rattle.trace_judge.specs.Sets.{IsSoundFor};
 ghost use Rattle.trace_judge.specs.Tracks.{IfHeld};
 
 use chart_term::Term;
 use msc_base::{LabelList, Limits, NoMemory, Verdict};
 use std::alloc::Global;
 use term_tables::Nets;
-use trace_judge::{Residuals, Track};
+use trace_judge::{Store, Track};
 
 /// The budget of a set.
 const BUDGET: u64 = Limits::BUDGET_MOST;
@@ -96,11 +95,15 @@ impl Draw {
 }
 
 /// Lets the track take an event of each label.
-fn take_turn(track: &mut Track<Residuals>, nets: &Nets, turn: &LabelList) -> Result<(), NoMemory>
-    requires serves { IfHeld (λ set. IsServing nets.now set) track.old }
+fn take_turn<S: Store + Drop>(
+    track: &mut Track<S>,
+    nets: &Nets,
+    turn: &LabelList,
+) -> Result<(), NoMemory>
+    requires serves { IfHeld (λ set. S.serves set nets.now) track.old }
     requires few { length turn.now ≤ 4 }
     requires room { track.old.events ≤ 10000000000 }
-    ensures serves { IfHeld (λ set. IsServing nets.now set) track.new }
+    ensures serves { IfHeld (λ set. S.serves set nets.now) track.new }
     ensures count { OnOk result (track.new.events ≤ track.old.events + 4) }
 {
     for index in 0..turn.len() {
@@ -110,8 +113,12 @@ fn take_turn(track: &mut Track<Residuals>, nets: &Nets, turn: &LabelList) -> Res
 }
 
 /// What a track has come to.
-fn come_to(alloc: Global, nets: &Nets, track: &Track<Residuals>) -> Result<Judged, NoMemory>
-    requires { IfHeld (λ set. IsServing nets.now set) track.now }
+fn come_to<S: Store + Drop>(
+    alloc: Global,
+    nets: &Nets,
+    track: &Track<S>,
+) -> Result<Judged, NoMemory>
+    requires { IfHeld (λ set. S.serves set nets.now) track.now }
 {
     let verdict = track.verdict(alloc, nets)?;
     let largest = track.largest();
@@ -119,15 +126,20 @@ fn come_to(alloc: Global, nets: &Nets, track: &Track<Residuals>) -> Result<Judge
 }
 
 /// Lets a track of the term take the log.
-#[tactic(auto, using(crate::proofs::Sound::table_rules))]
-pub(crate) fn follow(alloc: Global, nets: &Nets, term: Term, log: &Log) -> Result<Judged, NoMemory>
+#[tactic(auto, using(crate::proofs::Made::table_rules))]
+pub(crate) fn follow<S: Store + Drop>(
+    alloc: Global,
+    nets: &Nets,
+    term: Term,
+    log: &Log,
+) -> Result<Judged, NoMemory>
     requires tables { nets.now.tables ≡ [] }
     requires labels { length nets.now.labels ≡ labels }
-    requires term { IsSoundNode labels [] term }
+    requires chart { IsChart term }
     requires first { length log.now.first ≤ 4 }
     requires second { length log.now.second ≤ 4 }
 {
-    let mut track = Track::<Residuals>::new(alloc, nets, term, BUDGET)?;
+    let mut track = Track::<S>::new(alloc, nets, term, BUDGET)?;
     let mut draw = Draw { state: 7 };
     for index in 0..log.turn_count() {
         take_turn(&mut track, nets, log.turn(index, draw.is_first()))?;
@@ -136,7 +148,7 @@ pub(crate) fn follow(alloc: Global, nets: &Nets, term: Term, log: &Log) -> Resul
 }
 
 /// Lets a track of the term take events of all these labels.
-pub(crate) fn follow_all(
+pub(crate) fn follow_all<S: Store + Drop>(
     alloc: Global,
     nets: &Nets,
     term: Term,
@@ -144,7 +156,7 @@ pub(crate) fn follow_all(
 ) -> Result<Judged, NoMemory>
     requires { IsSoundFor nets.now term }
 {
-    let mut track = Track::<Residuals>::new(alloc, nets, term, BUDGET)?;
+    let mut track = Track::<S>::new(alloc, nets, term, BUDGET)?;
     for index in 0..labels.len() {
         track.take(nets, labels.at(index), 1)?;
     }

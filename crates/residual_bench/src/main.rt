@@ -2,32 +2,59 @@
 //! that `bench/residuals.py` measures.
 #![tactic(auto)]
 
+#[cfg(test)]
+mod alike;
 mod charts;
 mod fault;
 mod logs;
 mod statements;
+mod towers;
 mod work;
 
 use crate::fault::Fault;
 use crate::logs::Judged;
 use crate::work::{Asked, asked_of, judge};
+use residual_pool::Pool;
+use std::alloc::Global;
 use std::env;
 use std::process::ExitCode;
 use std::rt::Env;
+use trace_judge::Residuals;
 
-/// What the program's words ask for.
-fn asked<R: Env + AllocGlobal>(rt: &R) -> Option<Asked> {
+/// What the program's words ask for, and whether by the plain store.
+#[derive(Clone, Copy)]
+struct Words {
+    asked: Asked,
+    is_plain: bool,
+}
+
+/// What the program's words ask for: a work, its count, and `residuals` for the plain store.
+fn words_of<R: Env + AllocGlobal>(rt: &R) -> Option<Words> {
     let mut words = env::args(rt).ok()?.skip(1);
     let kind = words.next()?;
     let count = words.next()?;
-    asked_of(kind.as_str(), count.as_str())
+    let asked = asked_of(kind.as_str(), count.as_str())?;
+    let is_plain = match words.next() {
+        Some(store) => store.as_str() == "residuals",
+        None => false,
+    };
+    Some(Words { asked, is_plain })
+}
+
+/// Does what is asked for.
+fn judged(alloc: Global, words: Words) -> Result<Judged, Fault> {
+    if words.is_plain {
+        judge::<Residuals>(alloc, words.asked)
+    } else {
+        judge::<Pool>(alloc, words.asked)
+    }
 }
 
 fn main(rt: HostRuntime) -> ExitCode {
-    let Some(asked) = asked(&rt) else {
+    let Some(words) = words_of(&rt) else {
         return ExitCode::from(2);
     };
-    let judged = match judge(rt.alloc(), asked) {
+    let judged = match judged(rt.alloc(), words) {
         Ok(judged) => judged,
         Err(Fault::NoMemory) => return ExitCode::from(9),
         Err(Fault::Chart) => return ExitCode::from(1),

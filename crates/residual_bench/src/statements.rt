@@ -5,6 +5,7 @@ ghost use Rattle.std.specs.Prelude.{◌≡◌, ◌<◌, ◌≤◌, ◌*◌, [], 
 ghost use Rattle.chart_term.specs.Views.{pairs_of};
 ghost use Rattle.sound_terms.specs.RisingRows.{DoRise};
 ghost use Rattle.term_laws.specs.FullSoundness.{IsSoundNode};
+ghost use Rattle.term_laws.specs.Placing.{HaveOnePlace};
 ghost use Rattle.residual_bench.specs.Statements.{AreStatements};
 
 use crate::charts::{add, event};
@@ -157,7 +158,8 @@ fn pairs(alloc: Global, count: u32) -> Result<PairList, NoMemory>
 /// The chart of so many statements.
 pub(crate) fn statements(alloc: Global, count: u32) -> Result<Term, NoMemory>
     requires { count ≤ 600000 }
-    ensures { IfOk result (λ term. IsSoundNode count [] term) }
+    ensures sound { IfOk result (λ term. IsSoundNode count [] term) }
+    ensures placed { IfOk result (λ term. HaveOnePlace [] term) }
 {
     rising_rows_are_sound();
     let events = events(alloc, count)?;

@@ -1,19 +1,20 @@
 //! What is measured: a chart, and a log of it.
 ghost use Rattle.std.specs.Prelude.{◌≡◌, ◌≤◌, [], length, IfOk};
-ghost use Rattle.term_laws.specs.FullSoundness.{IsSoundNode};
-ghost use Rattle.residual_bench.specs.Charts.{labels};
+ghost use Rattle.residual_bench.specs.Charts.{labels, IsChart};
 
 use crate::charts::{
-    ACTION, DISTANT_ACTION, INNERMOST, OTHER_ACTION, behind, choices, coregion, exchanges, held,
-    label, nested, requests, tables,
+    ACTION, DISTANT_ACTION, OTHER_ACTION, behind, choices, coregion, exchanges, label, requests,
+    tables,
 };
 use crate::fault::Fault;
 use crate::logs::{Judged, Log, Order, follow, follow_all};
 use crate::statements::{self, GROUP, MOST_STATEMENTS};
+use crate::towers::{INNERMOST, Tower, held, nested};
 use chart_term::Term;
 use msc_base::{LabelList, NoMemory};
 use std::alloc::Global;
 use term_tables::Nets;
+use trace_judge::Store;
 
 /// A chart, and how long a log of it is, or how large it is itself.
 #[derive(Clone, Copy, Debug, PartialEq, Eq)]
@@ -32,17 +33,16 @@ pub(crate) enum Work {
     Choices(u32),
     /// So many equal actions of one instance, and behind them as many of another, which happen first.
     Behind(u32),
-    /// An action, and behind it so many choices, each within the one before it; nothing happens, and the choices are only made and
-    /// dropped.
-    Held(u32),
-    /// So many choices, each within the one before it; nothing happens, and they are asked whether they may end.
-    Nested(u32),
-    /// The same, with an event behind the choices, which would have to pass them.
-    Passed(u32),
-    /// The same, with the event that is within all choices.
-    Entered(u32),
-    /// The same, with an event beside the choices that leaves two terms, which differ behind them.
-    Compared(u32),
+    /// An action, and behind it a tower; nothing happens, and it is only made and dropped.
+    Held(Tower),
+    /// A tower beside two equal actions, and behind them another; nothing happens, and it is asked whether it may end.
+    Nested(Tower),
+    /// The same, with the event behind the tower, which would have to pass it.
+    Passed(Tower),
+    /// The same, with the event that is within all choices of the tower.
+    Entered(Tower),
+    /// The same, with an event beside the tower that leaves two terms, which differ behind it.
+    Compared(Tower),
 }
 
 /// What is asked for.
@@ -118,7 +118,7 @@ fn log_of(alloc: Global, work: Work) -> Result<Log, Fault>
 
 /// The term of the work.
 fn term_of(alloc: Global, work: Work) -> Result<Term, NoMemory>
-    ensures { IfOk result (λ term. IsSoundNode labels [] term) }
+    ensures { IfOk result (λ term. IsChart term) }
 {
     match work {
         Work::Requests(_) | Work::Ahead(_) => requests(alloc),
@@ -127,55 +127,78 @@ fn term_of(alloc: Global, work: Work) -> Result<Term, NoMemory>
         Work::Coregions(_) => coregion(alloc, 10),
         Work::Choices(count) => choices(alloc, count),
         Work::Behind(count) => behind(alloc, count),
-        Work::Held(levels) => held(alloc, levels),
-        Work::Nested(levels)
-        | Work::Passed(levels)
-        | Work::Entered(levels)
-        | Work::Compared(levels) => nested(alloc, levels),
+        Work::Held(tower) => held(alloc, tower),
+        Work::Nested(tower) | Work::Passed(tower) | Work::Entered(tower) | Work::Compared(tower) =>
+            nested(alloc, tower),
     }
 }
 
 /// Judges one log of the work.
-fn judge_log(alloc: Global, nets: &Nets, work: Work) -> Result<Judged, Fault>
+fn judge_log<S: Store + Drop>(alloc: Global, nets: &Nets, work: Work) -> Result<Judged, Fault>
     requires tables { nets.now.tables ≡ [] }
     requires labels { length nets.now.labels ≡ labels }
 {
     let log = log_of(alloc, work)?;
-    let judged = follow(alloc, nets, term_of(alloc, work)?, &log)?;
+    let judged = follow::<S>(alloc, nets, term_of(alloc, work)?, &log)?;
     Ok(judged)
 }
 
 /// Judges the log of a chart of so many statements.
-#[tactic(auto, using(crate::proofs::Sound::table_rules))]
-fn judge_statements(alloc: Global, count: u32) -> Result<Judged, Fault>
+#[tactic(auto, using(crate::proofs::Made::statement_table_rules))]
+fn judge_statements<S: Store + Drop>(alloc: Global, count: u32) -> Result<Judged, Fault>
     requires { count ≤ 600000 }
 {
     let nets = statements::tables(alloc, count)?;
     let log = statements::log(alloc, count)?;
     let term = statements::statements(alloc, count)?;
-    let judged = follow_all(alloc, &nets, term, &log)?;
+    let judged = follow_all::<S>(alloc, &nets, term, &log)?;
     Ok(judged)
 }
 
 /// Judges the logs of the work.
-fn judge_turns(alloc: Global, work: Work) -> Result<Judged, Fault> {
+fn judge_turns<S: Store + Drop>(alloc: Global, work: Work) -> Result<Judged, Fault> {
     let nets = tables(alloc)?;
     if let Work::Coregions(count) = work {
         for _ in 1..count {
-            judge_log(alloc, &nets, work)?;
+            judge_log::<S>(alloc, &nets, work)?;
         }
     }
-    judge_log(alloc, &nets, work)
+    judge_log::<S>(alloc, &nets, work)
 }
 
-/// Does what is asked for.
-pub(crate) fn judge(alloc: Global, asked: Asked) -> Result<Judged, Fault> {
+/// Does what is asked for, by sets that are held so.
+pub(crate) fn judge<S: Store + Drop>(alloc: Global, asked: Asked) -> Result<Judged, Fault> {
     match asked {
-        Asked::Turns(work) => judge_turns(alloc, work),
+        Asked::Turns(work) => judge_turns::<S>(alloc, work),
         Asked::Statements(count) => {
             let count = count.min(MOST_STATEMENTS);
-            judge_statements(alloc, count - count % GROUP)
+            judge_statements::<S>(alloc, count - count % GROUP)
         }
+    }
+}
+
+/// The work on a tower that two words name, as `held 1000`, or `held-tied 1000` where it is tied.
+fn tower_work_of(kind: &str, levels: u32) -> Option<Work> {
+    let plain = Tower {
+        levels,
+        is_tied: false,
+    };
+    let tied = Tower {
+        levels,
+        is_tied: true,
+    };
+    match kind {
+        "held" => Some(Work::Held(plain)),
+        "nested" => Some(Work::Nested(plain)),
+        "passed" => Some(Work::Passed(plain)),
+        "entered" => Some(Work::Entered(plain)),
+        "compared" => Some(Work::Compared(plain)),
+        "held-tied" => Some(Work::Held(tied)),
+        "nested-tied" => Some(Work::Nested(tied)),
+        "passed-tied" => Some(Work::Passed(tied)),
+        "entered-tied" => Some(Work::Entered(tied)),
+        "compared-tied" => Some(Work::Compared(tied)),
+        _ => None,
     }
 }
 
@@ -189,12 +212,7 @@ fn turns_of(kind: &str, count: u32) -> Option<Work> {
         "coregions" => Some(Work::Coregions(count)),
         "choices" => Some(Work::Choices(count)),
         "behind" => Some(Work::Behind(count)),
-        "held" => Some(Work::Held(count)),
-        "nested" => Some(Work::Nested(count)),
-        "passed" => Some(Work::Passed(count)),
-        "entered" => Some(Work::Entered(count)),
-        "compared" => Some(Work::Compared(count)),
-        _ => None,
+        _ => tower_work_of(kind, count),
     }
 }
 

@@ -1,8 +1,5 @@
-mod Lists
-mod AllLeft
-mod Gathering
-mod Rows
 mod Terms
 mod Remembering
 mod Pooling
+mod Going
 mod Stepping

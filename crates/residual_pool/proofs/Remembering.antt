@@ -1,86 +1,80 @@
--- Sets by their numbers, and moves.
-use Rattle.std.specs.Prelude.{ℕ, zero, suc, ◌+◌, ◌≡◌, ◌≤◌, ◌<◌, ◌⊎◌, List, [], ◌∷◌, ◌++◌, length, slice_set, Option, Some, None, slice_index_or, refl}
+-- Sets by their numbers, and moves by their places.
+use Rattle.std.specs.Prelude.{ℕ, zero, suc, ◌+◌, ◌≡◌, ◌≤◌, ◌<◌, List, [], ◌∷◌, ◌++◌, length, slice_index_or, refl}
 use Rattle.std.proofs.Common.{ap, sym, ◌∙◌, subst, arith, inl, inr}
+use Rattle.msc_base.specs.Lists.{IsAmong}
+use Rattle.chart_term.specs.Terms.{Tree}
 use Rattle.term_laws.specs.Listing.{set_weight}
-use Rattle.residual_pool.specs.Memories.{KnownValue, set_at, steps_in, all_steps, move_in, move_at, held_weight, all_cells, RowGains, Gains, KeepsMoves}
+use Rattle.residual_pool.specs.Memories.{MemoryValue, set_at, held_weight, Gains, IsBounded}
+use Rattle.residual_pool.specs.declared.bounds.TheConstants.Bounds.{LIGHT, HELD_MOST, ROWS_MOST}
+use Rattle.residual_pool.specs.declared.memory.Move.{Move}
 
 -- reading
 
-pub set_read : (ks : List KnownValue) (i : ℕ) (k : KnownValue) → i < length ks → k ≡ slice_index_or ks i k → k ≡ set_at ks i
+pub set_read : (ks : List (List Tree)) (i : ℕ) (k : List Tree) → i < length ks → k ≡ slice_index_or ks i k → k ≡ set_at ks i
 set_read [] i k l e = absurd (omega arith)
 set_read (j ∷ ks) zero k l e = e
 set_read (j ∷ ks) (suc i) k l e = set_read ks i k (omega arith) e
 
-pub row_none : (rs : List (List (Option ℕ))) (s n : ℕ) → length rs ≤ s → move_at rs s n ≡ None
-row_none [] s n l = refl
-row_none (r ∷ rs) zero n l = absurd (omega arith)
-row_none (r ∷ rs) (suc s) n l = row_none rs s n (omega arith)
+pub move_read : (ms : List Move) (i : ℕ) (m : Move) → i < length ms → m ≡ slice_index_or ms i m → IsAmong ms m
+move_read [] i m l e = absurd (omega arith)
+move_read (n ∷ ms) zero m l e = inl e
+move_read (n ∷ ms) (suc i) m l e = inr (move_read ms i m (omega arith) e)
 
-pub row_some : (rs : List (List (Option ℕ))) (s n : ℕ) (d : List (Option ℕ)) → s < length rs → move_in (slice_index_or rs s d) n ≡ move_at rs s n
-row_some [] s n d l = absurd (omega arith)
-row_some (r ∷ rs) zero n d l = refl
-row_some (r ∷ rs) (suc s) n d l = row_some rs s n d (omega arith)
+pub ruleset reading = (set_read, move_read)
 
-pub ruleset reading = (set_read, row_none, row_some)
+-- one more set
 
--- adding
+pub set_before : (ks : List (List Tree)) (k : List Tree) (s : ℕ) → s < length ks → set_at (ks ++ k ∷ []) s ≡ set_at ks s
+set_before [] k s l = absurd (omega arith)
+set_before (j ∷ ks) k zero l = refl
+set_before (j ∷ ks) k (suc s) l = set_before ks k s (omega arith)
 
-pub held_more : (ks : List KnownValue) (k : KnownValue) → held_weight (ks ++ k ∷ []) ≡ held_weight ks + set_weight k.terms
+pub set_last : (ks : List (List Tree)) (k : List Tree) → set_at (ks ++ k ∷ []) (length ks) ≡ k
+set_last [] k = refl
+set_last (j ∷ ks) k = set_last ks k
+
+pub more_long : {A : Type 0} (ks : List A) (k : A) → length (ks ++ k ∷ []) ≡ suc (length ks)
+more_long [] k = refl
+more_long (j ∷ ks) k = ap suc (more_long ks k)
+
+pub held_more : (ks : List (List Tree)) (k : List Tree) → held_weight (ks ++ k ∷ []) ≡ held_weight ks + set_weight k
 held_more [] k = omega arith
 held_more (j ∷ ks) k = let h = held_more ks k in omega arith
 
-pub cells_more : (rs : List (List (Option ℕ))) → all_cells (rs ++ [] ∷ []) ≡ all_cells rs
-cells_more [] = refl
-cells_more (r ∷ rs) = ap (λ (n : ℕ). length r + n) (cells_more rs)
+-- what holds of the empty set, of each set and of one more
+pub all_sets : (P : List Tree → Type 0) (ks : List (List Tree)) (k : List Tree) → P [] → ((s : ℕ) → P (set_at ks s)) → P k → (s : ℕ) → P (set_at (ks ++ k ∷ []) s)
+all_sets P [] k n h p zero = p
+all_sets P [] k n h p (suc s) = n
+all_sets P (j ∷ ks) k n h p zero = h zero
+all_sets P (j ∷ ks) k n h p (suc s) = all_sets P ks k n (λ t. h (suc t)) p s
 
-pub moves_more : (rs : List (List (Option ℕ))) (s n : ℕ) → move_at (rs ++ [] ∷ []) s n ≡ move_at rs s n
-moves_more [] zero n = refl
-moves_more [] (suc s) n = refl
-moves_more (r ∷ rs) zero n = refl
-moves_more (r ∷ rs) (suc s) n = moves_more rs s n
+pub light_more : (most : ℕ) (ks new : List (List Tree)) (k : List Tree) → ((s : ℕ) → set_weight (set_at ks s) ≤ most) → set_weight k ≤ most → new ≡ ks ++ k ∷ [] → (s : ℕ) → set_weight (set_at new s) ≤ most
+light_more most ks new k h l e s = subst (λ (x : List (List Tree)). set_weight (set_at x s) ≤ most) (sym e) (all_sets (λ x. set_weight x ≤ most) ks k (omega arith) h l s)
 
-pub keeps_more : (old new : List (List (Option ℕ))) → new ≡ old ++ [] ∷ [] → KeepsMoves old new
-keeps_more old new e = λ r m t h. sym (moves_more old r m) ∙ ap (λ (rs : List (List (Option ℕ))). move_at rs r m) (sym e) ∙ h
+-- one more light set keeps the bounds
+pub bounded_more : (held w : ℕ) (m : MemoryValue) (ks new : List (List Tree)) (k : List Tree) (ms : List Move) → ks ≡ m.sets → IsBounded held ks ms
+    → set_weight k ≤ LIGHT → held_weight m.sets + set_weight k ≤ HELD_MOST → length m.sets < ROWS_MOST → w ≡ set_weight k → new ≡ ks ++ k ∷ [] → IsBounded (held + w) new ms
+bounded_more held w m ks new k ms same b l h f e n =
+    let is : held_weight ks ≡ held_weight m.sets = ap held_weight same in
+    let long : length ks ≡ length m.sets = ap length same in
+    let weighs : held_weight new ≡ held_weight ks + set_weight k = ap held_weight n ∙ held_more ks k in
+    let longer : length new ≡ suc (length ks) = ap length n ∙ more_long ks k in
+    let was = b.held_is in
+    record {
+      light = light_more LIGHT ks new k b.light l n;
+      held_is = omega arith;
+      most_held = omega arith;
+      few_sets = omega arith;
+      few_moves = b.few_moves;
+    }
 
-pub keeps_same : (old new : List (List (Option ℕ))) → new ≡ old → KeepsMoves old new
-keeps_same old new e = λ r m t h. ap (λ (rs : List (List (Option ℕ))). move_at rs r m) (sym e) ∙ h
+pub placed_last : (ks new : List (List Tree)) (k : List Tree) (n : ℕ) → new ≡ ks ++ k ∷ [] → n ≡ length ks → (n < length new) × (set_at new n ≡ k)
+placed_last ks new k n e q = (let l = more_long ks k in let m : length new ≡ length (ks ++ k ∷ []) = ap length e in omega arith, ap (set_at new) q ∙ ap (λ (x : List (List Tree)). set_at x (length ks)) e ∙ set_last ks k)
 
-pub ruleset beginning = (held_more, cells_more)
+pub gains_none : {A : Type 0} (old new : List A) (k : A) → new ≡ old → Gains old k new
+gains_none old new k e = inl e
 
-pub ruleset adding = (held_more, cells_more, keeps_more, keeps_same)
+pub gains_one : {A : Type 0} (old new : List A) (k : A) → new ≡ old ++ k ∷ [] → Gains old k new
+gains_one old new k e = inr e
 
--- noting
-
-row_moves : (rs : List (List (Option ℕ))) (s n u : ℕ) (r new : List (Option ℕ)) → s < length rs → r ≡ slice_index_or rs s r → RowGains r n u new
-    → (q m t : ℕ) → move_at (slice_set rs s new) q m ≡ Some t → (move_at rs q m ≡ Some t) ⊎ ((q ≡ s) × (m ≡ n) × (t ≡ u))
-row_moves [] s n u r new l e g q m t h = absurd (omega arith)
-row_moves (p ∷ rs) zero n u r new l e g zero m t h = elim (g m t h) [ inl i ↦ inl (ap (λ (c : List (Option ℕ)). move_in c m) (sym e) ∙ i) | inr i ↦ inr (refl, i.0, i.1) ]
-row_moves (p ∷ rs) zero n u r new l e g (suc q) m t h = inl h
-row_moves (p ∷ rs) (suc s) n u r new l e g zero m t h = inl h
-row_moves (p ∷ rs) (suc s) n u r new l e g (suc q) m t h = elim (row_moves rs s n u r new (omega arith) e g q m t h) [ inl i ↦ inl i | inr i ↦ inr (ap suc i.0, i.1, i.2) ]
-
-pub notes : (old rs : List (List (Option ℕ))) (s n u : ℕ) (r new : List (Option ℕ)) → rs ≡ old → s < length rs → r ≡ slice_index_or rs s r → RowGains r n u new → Gains old s n u (slice_set rs s new)
-notes old rs s n u r new p l e g = subst (λ (o : List (List (Option ℕ))). Gains o s n u (slice_set rs s new)) p (row_moves rs s n u r new l e g)
-
-pub notes_none : (old new : List (List (Option ℕ))) (s n u : ℕ) → new ≡ old → Gains old s n u new
-notes_none old new s n u e = λ q m t h. inl (ap (λ (rs : List (List (Option ℕ))). move_at rs q m) (sym e) ∙ h)
-
-pub set_cells : (rs : List (List (Option ℕ))) (s : ℕ) (r new : List (Option ℕ)) → s < length rs → r ≡ slice_index_or rs s r → all_cells (slice_set rs s new) + length r ≡ all_cells rs + length new
-set_cells [] s r new l e = absurd (omega arith)
-set_cells (p ∷ rs) zero r new l e = let q : length p ≡ length r = ap length (sym e) in omega arith
-set_cells (p ∷ rs) (suc s) r new l e = let h = set_cells rs s r new (omega arith) e in omega arith
-
-pub ruleset noting = (notes, notes_none, set_cells)
-
--- counting
-
-steps_fit : (cs : List (Option ℕ)) → steps_in cs ≤ length cs
-steps_fit [] = omega arith
-steps_fit (None ∷ cs) = let h = steps_fit cs in omega arith
-steps_fit (Some t ∷ cs) = let h = steps_fit cs in omega arith
-
-pub all_steps_fit : (rs : List (List (Option ℕ))) → all_steps rs ≤ all_cells rs
-all_steps_fit [] = omega arith
-all_steps_fit (r ∷ rs) = let p = steps_fit r in let q = all_steps_fit rs in omega arith
-
-pub ruleset counting = all_steps_fit
+pub ruleset adding = (held_more, light_more, placed_last, gains_none, gains_one)

@@ -1,123 +1,131 @@
 -- Sets of terms under numbers, and the moves between them that are remembered.
-use Rattle.std.specs.Prelude.{ℕ, zero, suc, ◌+◌, ◌≡◌, ◌≤◌, ◌<◌, ◌⊎◌, ◌↔◌, Bool, false, IsTrue, List, [], ◌∷◌, length, Option, Some, None}
+use Rattle.std.specs.Prelude.{ℕ, zero, suc, ◌+◌, ◌≡◌, ◌≤◌, ◌<◌, ◌⊎◌, Bool, List, [], ◌∷◌, ◌++◌, length, Option, Some, None}
 use Rattle.msc_base.specs.declared.label.Label.{Label}
+use Rattle.msc_base.specs.Lists.{IsAmong}
 use Rattle.term_tables.specs.NetValues.{NetsValue, label_number}
 use Rattle.msc_base.specs.declared.limits.TheConstants.Limits.{BUDGET_MOST}
-use Rattle.residual_pool.specs.declared.bounds.TheConstants.Bounds.{HELD_MOST, ROWS_MOST}
+use Rattle.residual_pool.specs.declared.bounds.TheConstants.Bounds.{LIGHT, HELD_MOST, ROWS_MOST}
+use Rattle.residual_pool.specs.declared.memory.Move.{Move}
+use Rattle.residual_pool.specs.declared.pool.Held.{Held}
+use Rattle.residual_pool.specs.declared.pool.Held.TheVariants.{Remembered, Loose}
 use Rattle.chart_term.specs.Properties.{Each}
 use Rattle.chart_term.specs.Terms.{Tree}
 use Rattle.term_laws.specs.Listing.{set_weight}
-use Rattle.trace_judge.specs.Sets.{SetValue, IsSoundFor, AreRising, AreSuccessors, HasEnding}
+use Rattle.trace_judge.specs.Sets.{SetValue, IsSoundFor, AreRising, AreSuccessors}
 
--- a set of terms, and whether one of them may end
-pub record KnownValue : Type 0 where
-  pub terms : List Tree
-  pub ends : Bool
-
--- sets by their numbers, and for a set and a label number the number of the set that such an event leaves, where it is remembered
+-- sets of terms by their numbers, and the moves between them that are remembered
 pub record MemoryValue : Type 0 where
-  pub sets : List KnownValue
-  pub moves : List (List (Option ℕ))
+  pub sets : List (List Tree)
+  pub moves : List Move
 
 -- the set of that number; beyond the list the empty set
-abbrev pub set_at : List KnownValue → ℕ → KnownValue
-set_at [] s = record { terms = []; ends = false }
+abbrev pub set_at : List (List Tree) → ℕ → List Tree
+set_at [] s = []
 set_at (k ∷ ks) zero = k
 set_at (k ∷ ks) (suc s) = set_at ks s
 
--- what a row of moves has for that label number
-abbrev pub move_in : List (Option ℕ) → ℕ → Option ℕ
-move_in [] n = None
-move_in (c ∷ cs) zero = c
-move_in (c ∷ cs) (suc n) = move_in cs n
-
--- what is remembered for the set and the label number
-abbrev pub move_at : List (List (Option ℕ)) → ℕ → ℕ → Option ℕ
-move_at [] s n = None
-move_at (r ∷ rs) zero n = move_in r n
-move_at (r ∷ rs) (suc s) n = move_at rs s n
-
 -- the weights of all sets together
-abbrev pub held_weight : List KnownValue → ℕ
+abbrev pub held_weight : List (List Tree) → ℕ
 held_weight [] = 0
-held_weight (k ∷ ks) = set_weight k.terms + held_weight ks
+held_weight (k ∷ ks) = set_weight k + held_weight ks
 
--- the lengths of all rows together, which are no fewer than the moves
-abbrev pub all_cells : List (List (Option ℕ)) → ℕ
-all_cells [] = 0
-all_cells (r ∷ rs) = length r + all_cells rs
+-- the list is the same, or has the item more
+abbrev pub Gains : {A : Type 0} → List A → A → List A → Type 0
+Gains old item new = (new ≡ old) ⊎ (new ≡ old ++ item ∷ [])
 
--- how many moves a row remembers
-abbrev pub steps_in : List (Option ℕ) → ℕ
-steps_in [] = 0
-steps_in (None ∷ cs) = steps_in cs
-steps_in (Some t ∷ cs) = suc (steps_in cs)
+-- the bounds of a memory: the weight of each set and of all, and how many sets and moves there are
+pub record IsBounded (held : ℕ) (sets : List (List Tree)) (moves : List Move) : Type 0 where
+  pub light : (s : ℕ) → set_weight (set_at sets s) ≤ LIGHT
+  pub held_is : held ≡ held_weight sets
+  pub most_held : held ≤ HELD_MOST
+  pub few_sets : length sets ≤ ROWS_MOST
+  pub few_moves : length moves ≤ ROWS_MOST
 
--- how many moves are remembered
-abbrev pub all_steps : List (List (Option ℕ)) → ℕ
-all_steps [] = 0
-all_steps (r ∷ rs) = steps_in r + all_steps rs
+-- a move from the set at the label number to the other set is remembered
+pub record HasMove (moves : List Move) (from label to : ℕ) : Type 0 where
+  pub move : Move
+  pub among : IsAmong moves move
+  pub from_is : move.from ≡ from
+  pub label_is : move.label ≡ label
+  pub to_is : move.to ≡ to
 
--- each move of the new row is one of the old, or the one that was noted
-abbrev pub RowGains : List (Option ℕ) → ℕ → ℕ → List (Option ℕ) → Type 0
-RowGains old n to new = (m t : ℕ) → move_in new m ≡ Some t → (move_in old m ≡ Some t) ⊎ ((m ≡ n) × (t ≡ to))
+-- the terms are sound for the tables and rise, and they are within the budget
+pub record IsSetFor (v : NetsValue) (budget : ℕ) (terms : List Tree) : Type 0 where
+  pub sound : Each (IsSoundFor v) terms
+  pub rising : AreRising terms
+  pub within : set_weight terms ≤ budget
 
--- the same of the rows of all sets
-abbrev pub Gains : List (List (Option ℕ)) → ℕ → ℕ → ℕ → List (List (Option ℕ)) → Type 0
-Gains old s n to new = (r m t : ℕ) → move_at new r m ≡ Some t → (move_at old r m ≡ Some t) ⊎ ((r ≡ s) × (m ≡ n) × (t ≡ to))
-
--- each move was there before
-abbrev pub KeepsMoves : List (List (Option ℕ)) → List (List (Option ℕ)) → Type 0
-KeepsMoves old new = (r m t : ℕ) → move_at new r m ≡ Some t → move_at old r m ≡ Some t
-
--- the set serves the tables: its terms are sound and rise, they are within the budget, and the mark says whether one may end
-pub record IsKnownFor (v : NetsValue) (budget : ℕ) (k : KnownValue) : Type 0 where
-  pub sound : Each (IsSoundFor v) k.terms
-  pub rising : AreRising k.terms
-  pub within : set_weight k.terms ≤ budget
-  pub ends : IsTrue k.ends ↔ HasEnding v k.terms
-
--- what an event with a label of that number leaves of the terms of the one set are exactly the terms of the other
-pub record IsMove (v : NetsValue) (sets : List KnownValue) (s n t : ℕ) : Type 0 where
-  pub from : s < length sets
-  pub to : t < length sets
-  pub next : (a : Label) → label_number v.labels a ≡ Some n → AreSuccessors v a (set_at sets s).terms (set_at sets t).terms
+-- what an event with a label of the move's number leaves of the terms of the one set are exactly the terms of the other
+pub record IsMove (v : NetsValue) (sets : List (List Tree)) (m : Move) : Type 0 where
+  pub from : m.from < length sets
+  pub to : m.to < length sets
+  pub next : (a : Label) → label_number v.labels a ≡ Some m.label → AreSuccessors v a (set_at sets m.from) (set_at sets m.to)
 
 -- the memory serves the tables: each set does, and each move is a step of the definition
 pub record IsMemoryFor (v : NetsValue) (budget : ℕ) (m : MemoryValue) : Type 0 where
-  pub sets : (s : ℕ) → IsKnownFor v budget (set_at m.sets s)
-  pub moves : (s n t : ℕ) → move_at m.moves s n ≡ Some t → IsMove v m.sets s n t
+  pub sets : (s : ℕ) → IsSetFor v budget (set_at m.sets s)
+  pub moves : (p : Move) → IsAmong m.moves p → IsMove v m.sets p
 
--- a pool: what is remembered, the number of the set that is held, the budget, and whether it was passed
+-- the terms of what is held
+abbrev pub held_terms : MemoryValue → Held → List Tree
+held_terms m (Remembered s) = set_at m.sets s
+held_terms m (Loose terms) = terms
+
+-- what is held by its number is remembered
+abbrev pub IsThere : MemoryValue → Held → Type 0
+IsThere m (Remembered s) = s < length m.sets
+IsThere m (Loose terms) = Unit {0}
+
+-- a pool: what is remembered, what is held, the budget, and whether it was passed
 pub record PoolValue : Type 0 where
   pub memory : MemoryValue
-  pub current : ℕ
+  pub held : Held
   pub budget : ℕ
   pub too_large : Bool
 
 -- the set that is held
 abbrev pub held_set : PoolValue → SetValue
-held_set p = record { terms = (set_at p.memory.sets p.current).terms; budget = p.budget; too_large = p.too_large }
+held_set p = record { terms = held_terms p.memory p.held; budget = p.budget; too_large = p.too_large }
 
 -- the pool serves the tables
 pub record IsPoolFor (v : NetsValue) (p : PoolValue) : Type 0 where
   pub memory : IsMemoryFor v p.budget p.memory
+  pub held : IsSetFor v p.budget (held_terms p.memory p.held)
   pub most : p.budget ≤ BUDGET_MOST
 
--- the bounds of a memory: the weight of its sets, and no fewer cells than its rows have
-pub record IsBounded (held cells : ℕ) (sets : List KnownValue) (moves : List (List (Option ℕ))) : Type 0 where
-  pub held_is : held ≡ held_weight sets
-  pub most_held : held ≤ HELD_MOST
-  pub cells_are : all_cells moves ≤ cells
-  pub most_cells : cells ≤ ROWS_MOST
-  pub few : length sets ≤ ROWS_MOST
-
 -- a move from the set that is held is remembered for the label number, if there is one
-pub record Remembers (p : PoolValue) (label : Option ℕ) (t : ℕ) : Type 0 where
+pub record Remembers (p : PoolValue) (label : Option ℕ) (to : ℕ) : Type 0 where
+  pub from : ℕ
+  pub held : p.held ≡ Remembered from
   pub number : ℕ
   pub is : label ≡ Some number
-  pub move : move_at p.memory.moves p.current number ≡ Some t
+  pub move : HasMove p.memory.moves from number to
 
 -- the terms are what an event with the label of that number, if there is one, leaves of the others
 abbrev pub AreNext : NetsValue → Option ℕ → List Tree → List Tree → Type 0
 AreNext v label terms next = (n : ℕ) → label ≡ Some n → (a : Label) → label_number v.labels a ≡ Some n → AreSuccessors v a terms next
+
+-- the set is added, or it was there
+pub record Places (old : PoolValue) (set : List Tree) (new : PoolValue) : Type 0 where
+  pub there : IsThere old.memory old.held
+  pub sets : Gains old.memory.sets set new.memory.sets
+  pub moves : new.memory.moves ≡ old.memory.moves
+  pub held : new.held ≡ old.held
+  pub budget : new.budget ≡ old.budget
+  pub too_large : new.too_large ≡ old.too_large
+
+-- the moves gain at most the one from what is held, at the label number, to the set of that number; from a loose set, and without a
+-- label number, none
+abbrev pub GainsFrom : Held → Option ℕ → ℕ → List Move → List Move → Type 0
+GainsFrom (Loose terms) label to old new = new ≡ old
+GainsFrom (Remembered from) None to old new = new ≡ old
+GainsFrom (Remembered from) (Some label) to old new = Gains old (record { from = from; label = label; to = to }) new
+
+-- such a move is remembered, and all else is the same
+pub record Notes (old : PoolValue) (label : Option ℕ) (to : ℕ) (new : PoolValue) : Type 0 where
+  pub there : IsThere old.memory old.held
+  pub sets : new.memory.sets ≡ old.memory.sets
+  pub moves : GainsFrom old.held label to old.memory.moves new.memory.moves
+  pub held : new.held ≡ old.held
+  pub budget : new.budget ≡ old.budget
+  pub too_large : new.too_large ≡ old.too_large

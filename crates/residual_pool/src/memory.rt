@@ -1,35 +1,54 @@
 //! Sets that were met, each by its number, and the moves between them: for `pool` alone.
 
-ghost use Rattle.std.specs.Prelude.{◌≡◌, ◌≤◌, ◌<◌, ◌+◌, ◌++◌, ◌∷◌, [], length, max, IfOk, IfSome, OnOk, OnErr, IsTrue};
-ghost use Rattle.msc_base.specs.declared.limits.TheConstants.Limits.{BUDGET_MOST};
+ghost use Rattle.std.specs.Prelude.{◌≡◌, ◌≤◌, ◌<◌, ◌+◌, [], length, IfOk, IfSome, IsTrue};
+ghost use Rattle.msc_base.specs.Lists.{IsAmong};
 ghost use Rattle.term_laws.specs.Listing.{set_weight};
-ghost use Rattle.residual_pool.specs.Memories.{set_at, move_at, held_weight, all_cells, KeepsMoves, Gains};
-ghost use Rattle.residual_pool.specs.declared.bounds.TheConstants.Bounds.{HELD_MOST, ROWS_MOST};
+ghost use Rattle.residual_pool.specs.Memories.{set_at, held_weight, Gains, HasMove};
+ghost use Rattle.residual_pool.specs.declared.bounds.TheConstants.Bounds.{LIGHT, HELD_MOST, ROWS_MOST};
 
 use crate::Bounds;
-use crate::known::{Known, key_of};
-use crate::row::Row;
-use chart_term::{Term, TermList};
+use crate::term_set::{SetKey, TermSet};
 use msc_base::NoMemory;
 use std::alloc::Global;
-use std::collections::BTreeMap;
+use std::collections::{BTreeMap, HashMap};
 use std::marker::Model;
 
-/// Sets that were met, each by its number, and the moves between them.
-///
-/// The sets are within the bounds, and so are the cells of their moves.
+/// A set by its number, and the number of the label that an event has there.
+#[derive(Clone, Copy, PartialEq, Eq, Hash)]
+struct Step {
+    from: u32,
+    label: u32,
+}
+
+/// What is remembered of an event: from the set of one number an event whose label has that number leads to the set of another.
+#[derive(Clone, Copy)]
+pub(crate) struct Move {
+    from: u32,
+    label: u32,
+    to: u32,
+}
+
+impl Move {
+    /// Whether it is the move of this step.
+    fn is_at(&self, from: u32, label: u32) -> bool
+        ensures { IsTrue result → (self.now.from ≡ from) × (self.now.label ≡ label) }
+    {
+        self.from == from && self.label == label
+    }
+}
+
+/// Sets that were met, each by its number, and the moves between them, within the bounds.
 #[derive(Drop)]
 pub(crate) struct Memory {
     alloc: Global,
-    sets: Vec<Known>,
-    /// For each set its moves.
-    moves: Vec<Row>,
-    /// By the weight and the terms of a set its number. What is read here is looked up in the sets.
-    numbers: BTreeMap<(u64, Vec<Term>), u32>,
+    sets: Vec<TermSet>,
+    moves: Vec<Move>,
+    /// The numbers of the sets. What is read here is looked up in the sets.
+    numbers: BTreeMap<SetKey, u32>,
+    /// The places of the moves. What is read here is looked up in the moves.
+    places: HashMap<Step, u32>,
     /// The weight of all sets.
     held: u64,
-    /// The cells of all rows, or more.
-    cells: u64,
 }
 
 impl Model for Memory {
@@ -43,83 +62,64 @@ impl Model for Memory {
 
     ghost view = { λ m. record { sets = m.sets.items; moves = m.moves.items } };
 
-    ghost invariant = { λ m. IsBounded m.held m.cells m.sets.items m.moves.items };
+    ghost invariant = { λ m. IsBounded m.held m.sets.items m.moves.items };
 }
 
-/// By how many cells a row of this length grows where it gets one for the label number.
-fn growth(length: usize, label: usize) -> u64
-    requires { label < ROWS_MOST }
-    ensures most { result ≤ ROWS_MOST }
-    ensures enough { max length (label + 1) ≤ length + result }
-{
-    (label + 1).saturating_sub(length) as u64
+/// The number that is noted for the key; where there is none, the given one is noted.
+fn noted_number(
+    numbers: &mut BTreeMap<SetKey, u32>,
+    key: SetKey,
+    next: u32,
+) -> Result<u32, NoMemory> {
+    let number = *numbers.entry(key)?.or_insert(next);
+    Ok(number)
 }
 
 impl Memory {
-    /// One set, and no moves.
-    #[tactic(auto, using(crate::proofs::Remembering::beginning))]
-    pub(crate) fn new(alloc: Global, known: Known) -> Result<Memory, NoMemory>
-        requires { set_weight known.terms ≤ BUDGET_MOST }
-        ensures { IfOk result (λ memory. memory ≡ record { sets = known ∷ []; moves = [] ∷ [] }) }
+    /// No sets. It takes no memory.
+    pub(crate) fn new(alloc: Global) -> Memory
+        ensures { result ≡ record { sets = []; moves = [] } }
     {
-        let held = known.weight();
-        let key = key_of(alloc, known.terms(), held)?;
-        let mut numbers = BTreeMap::new(alloc);
-        numbers.insert(key, 0)?;
-        let mut moves = Vec::new(alloc);
-        moves.push(Row::new(alloc))?;
-        let mut sets = Vec::new(alloc);
-        sets.push(known)?;
-        Ok(Memory {
+        Memory {
             alloc,
-            sets,
-            moves,
-            numbers,
-            held,
-            cells: 0,
-        })
+            sets: Vec::new(alloc),
+            moves: Vec::new(alloc),
+            numbers: BTreeMap::new(alloc),
+            places: HashMap::new(alloc),
+            held: 0,
+        }
     }
 
     /// The set of that number.
     #[tactic(auto, using(crate::proofs::Remembering::reading))]
-    pub(crate) fn set(&self, number: usize) -> &Known
+    pub(crate) fn set(&self, number: u32) -> &TermSet
         requires { number < length self.now.sets }
         ensures { result.now ≡ set_at self.now.sets number }
     {
-        &self.sets[number]
+        &self.sets[number as usize]
     }
 
-    /// The number of the set that an event with that label number leaves of the set, where it is remembered.
+    /// The move at that place.
     #[tactic(auto, using(crate::proofs::Remembering::reading))]
-    pub(crate) fn next(&self, number: usize, label: usize) -> Option<u32>
-        ensures { result ≡ move_at self.now.moves number label }
+    fn move_at(&self, place: u32) -> Option<Move>
+        ensures { IfSome result (λ move. IsAmong self.now.moves move) }
     {
-        match self.moves.get(number) {
-            Some(row) => row.get(label),
+        match self.moves.get(place as usize) {
+            Some(found) => Some(*found),
             None => None,
         }
     }
 
-    /// The number, if the set of that number has these terms.
-    #[tactic(auto, using(crate::proofs::Remembering::reading))]
-    fn checked(&self, number: usize, terms: &TermList) -> Option<usize>
-        ensures { IfSome result (λ n. (n < length self.now.sets) × ((set_at self.now.sets n).terms ≡ terms.now)) }
+    /// The number of the set that an event with that label number leaves of the set, where it is remembered.
+    pub(crate) fn next(&self, from: u32, label: u32) -> Option<u32>
+        ensures { IfSome result (λ to. HasMove self.now.moves from label to) }
     {
-        if number < self.sets.len() && self.set(number).is_set_of(terms) {
-            Some(number)
+        let place = *self.places.get(&Step { from, label })?;
+        let found = self.move_at(place)?;
+        if found.is_at(from, label) {
+            Some(found.to)
         } else {
             None
-        }
-    }
-
-    /// The number of the set of these terms, which have this weight, if it was met.
-    pub(crate) fn find(&self, terms: &TermList, weight: u64) -> Result<Option<usize>, NoMemory>
-        ensures { IfOk result (λ found. IfSome found (λ n. (n < length self.now.sets) × ((set_at self.now.sets n).terms ≡ terms.now))) }
-    {
-        let key = key_of(self.alloc, terms, weight)?;
-        match self.numbers.get(&key) {
-            Some(number) => Ok(self.checked(*number as usize, terms)),
-            None => Ok(None),
         }
     }
 
@@ -131,65 +131,79 @@ impl Memory {
         self.held
     }
 
-    /// How many cells the moves have, or more.
-    pub(crate) fn cells(&self) -> u64
-        ensures enough { all_cells self.now.moves ≤ result }
+    /// How many moves are remembered.
+    pub(crate) fn count(&self) -> u64
+        ensures count { result ≡ length self.now.moves }
         ensures most { result ≤ ROWS_MOST }
     {
-        self.cells
+        self.moves.len() as u64
     }
 
-    /// Whether there is room for one more set of this weight.
+    /// Whether there is room for one more set of this weight, and for one more move.
     pub(crate) fn has_room(&self, weight: u64) -> bool
-        requires { weight ≤ BUDGET_MOST }
+        requires { weight ≤ LIGHT }
         ensures held { IsTrue result → held_weight self.now.sets + weight ≤ HELD_MOST }
-        ensures few { IsTrue result → length self.now.sets < ROWS_MOST }
+        ensures sets { IsTrue result → length self.now.sets < ROWS_MOST }
+        ensures moves { IsTrue result → length self.now.moves < ROWS_MOST }
     {
-        self.held + weight <= Bounds::HELD_MOST && (self.sets.len() as u64) < Bounds::ROWS_MOST
+        self.held + weight <= Bounds::HELD_MOST
+            && (self.sets.len() as u64) < Bounds::ROWS_MOST
+            && self.count() < Bounds::ROWS_MOST
     }
 
-    /// Adds a set, and gives its number. After want of memory the sets and their moves are as they were.
-    #[tactic(auto, using(crate::proofs::Remembering::adding))]
-    pub(crate) fn add(&mut self, known: Known) -> Result<usize, NoMemory>
-        requires held { held_weight self.old.sets + set_weight known.terms ≤ HELD_MOST }
-        requires few { length self.old.sets < ROWS_MOST }
-        ensures number { IfOk result (λ number. number ≡ length self.old.sets) }
-        ensures sets { OnOk result (self.new.sets ≡ self.old.sets ++ known ∷ []) }
-        ensures moves { KeepsMoves self.old.moves self.new.moves }
-        ensures err { OnErr result (self.new.sets ≡ self.old.sets) }
+    /// Whether that is the number of the set.
+    fn is_number(&self, number: u32, set: &TermSet) -> bool
+        ensures { IsTrue result → (number < length self.now.sets) × (set_at self.now.sets number ≡ set.now) }
     {
-        let number = self.sets.len();
-        let weight = known.weight();
-        let key = key_of(self.alloc, known.terms(), weight)?;
-        self.moves.push(Row::new(self.alloc))?;
-        self.numbers.insert(key, number as u32)?;
-        self.sets.push(known)?;
+        (number as usize) < self.sets.len() && self.set(number).is_same(set)
+    }
+
+    /// Adds the set, and gives its number. After want of memory the sets are as they were.
+    #[tactic(auto, using(crate::proofs::Remembering::adding))]
+    fn add(&mut self, set: TermSet) -> Result<u32, NoMemory>
+        requires light { set_weight set ≤ LIGHT }
+        requires held { held_weight self.old.sets + set_weight set ≤ HELD_MOST }
+        requires few { length self.old.sets < ROWS_MOST }
+        ensures sets { Gains self.old.sets set self.new.sets }
+        ensures moves { self.new.moves ≡ self.old.moves }
+        ensures there { IfOk result (λ number. (number < length self.new.sets) × (set_at self.new.sets number ≡ set)) }
+    {
+        let number = self.sets.len() as u32;
+        let weight = set.weight();
+        self.sets.push(set)?;
         self.held += weight;
         Ok(number)
     }
 
-    /// Remembers a move, and says whether there was room for it.
-    #[tactic(auto, using(crate::proofs::Remembering::noting))]
-    pub(crate) fn note(
-        &mut self,
-        number: usize,
-        label: usize,
-        next: usize,
-    ) -> Result<bool, NoMemory>
-        requires small { label < ROWS_MOST }
-        requires there { next < length self.old.sets }
-        ensures sets { self.new.sets ≡ self.old.sets }
-        ensures moves { Gains self.old.moves number label next self.new.moves }
+    /// The number of the set, which is added where it wasn't met. After want of memory the sets are as they were.
+    #[tactic(auto, using(crate::proofs::Remembering::adding))]
+    pub(crate) fn place(&mut self, set: TermSet) -> Result<u32, NoMemory>
+        requires light { set_weight set ≤ LIGHT }
+        requires held { held_weight self.old.sets + set_weight set ≤ HELD_MOST }
+        requires few { length self.old.sets < ROWS_MOST }
+        ensures sets { Gains self.old.sets set self.new.sets }
+        ensures moves { self.new.moves ≡ self.old.moves }
+        ensures there { IfOk result (λ number. (number < length self.new.sets) × (set_at self.new.sets number ≡ set)) }
     {
-        if number >= self.moves.len() {
-            return Ok(false);
+        let key = set.key(self.alloc)?;
+        let next = self.sets.len() as u32;
+        let number = noted_number(&mut self.numbers, key, next)?;
+        if self.is_number(number, &set) {
+            return Ok(number);
         }
-        let cells = self.cells + growth(self.moves[number].len(), label);
-        if cells > Bounds::ROWS_MOST {
-            return Ok(false);
-        }
-        self.cells = cells;
-        self.moves[number].set(label, next as u32)?;
-        Ok(true)
+        self.add(set)
+    }
+
+    /// Remembers a move. After want of memory the moves are as they were.
+    #[tactic(auto, using(crate::proofs::Remembering::adding))]
+    pub(crate) fn note(&mut self, from: u32, label: u32, to: u32) -> Result<(), NoMemory>
+        requires { length self.old.moves < ROWS_MOST }
+        ensures sets { self.new.sets ≡ self.old.sets }
+        ensures moves { Gains self.old.moves (record { from = from; label = label; to = to }) self.new.moves }
+    {
+        let place = self.moves.len() as u32;
+        self.places.insert(Step { from, label }, place)?;
+        self.moves.push(Move { from, label, to })?;
+        Ok(())
     }
 }

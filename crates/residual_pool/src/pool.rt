@@ -1,53 +1,55 @@
-//! The store that remembers sets of terms, and the moves between them.
+//! The store that remembers light sets of terms, and the moves between them.
 
-ghost use Rattle.std.specs.Prelude.{◌≡◌, ◌≤◌, ◌<◌, ◌∷◌, [], length, true, IfOk, IfSome, OnOk, OnErr, MatchOption};
+ghost use Rattle.std.specs.Prelude.{◌≡◌, ◌≤◌, ◌<◌, ◌+◌, [], length, true, IfOk, IfSome, OnOk, OnErr, MatchOption};
 ghost use Rattle.term_tables.specs.NetValues.{NetsValue, label_number};
-ghost use Rattle.chart_term.specs.Properties.{Each};
-ghost use Rattle.msc_base.specs.declared.limits.TheConstants.Limits.{BUDGET_MOST};
 ghost use Rattle.term_laws.specs.Listing.{set_weight};
 ghost use Rattle.trace_judge.specs.Gathers.{JoinsAll};
-ghost use Rattle.trace_judge.specs.Sets.{IsSoundFor, IsLeftOf, PassBudget, AreRising};
-ghost use Rattle.residual_pool.specs.Memories.{set_at, held_set, held_weight, all_steps, IsPoolFor, Remembers, AreNext};
-ghost use Rattle.residual_pool.specs.declared.bounds.TheConstants.Bounds.{HELD_MOST, ROWS_MOST};
+ghost use Rattle.trace_judge.specs.Sets.{IsLeftOf, PassBudget, AreRising};
+ghost use Rattle.residual_pool.specs.Memories.{set_at, held_set, held_weight, IsSetFor, IsPoolFor, Remembers, AreNext, Places, Notes};
+ghost use Rattle.residual_pool.specs.declared.bounds.TheConstants.Bounds.{LIGHT, HELD_MOST, ROWS_MOST};
+ghost use Rattle.residual_pool.specs.declared.pool.Held.TheVariants.{Remembered, Loose};
 
-use crate::Bounds;
-use crate::gathered::Gathered;
-use crate::known::Known;
 use crate::memory::Memory;
-use crate::successors::{gather, is_none};
+use crate::term_set::TermSet;
 use chart_term::{Term, TermList};
 use msc_base::{Label, NoMemory};
 use std::alloc::Global;
 use std::marker::Model;
 use term_tables::Nets;
-use trace_judge::laws::sets_go_on;
-use trace_judge::{StepFault, Store};
+use trace_judge::{Gathered, StepFault, Store, gather, is_none, one_may_end};
 
-/// A set of residual terms that remembers the sets that it met, and the moves between them.
+/// What is held.
+#[derive(Drop)]
+pub(crate) enum Held {
+    /// The remembered set of that number.
+    Remembered(u32),
+    /// A set beside the memory.
+    Loose(TermSet),
+}
+
+/// A set of residual terms that remembers the light sets that it met, and the moves between them.
 #[derive(Drop)]
 pub struct Pool {
     alloc: Global,
     memory: Memory,
-    /// The number of the set that is held.
-    current: usize,
+    held: Held,
     budget: u64,
     /// Whether the budget was passed.
     too_large: bool,
 }
 
 impl Model for Pool {
-    ghost use Rattle.std.specs.Prelude.{◌<◌, length};
     ghost use Rattle.std.specs.Coded.{codes};
     ghost use Rattle.chart_term.specs.Codes.{coded_tree};
-    ghost use Rattle.residual_pool.specs.Memories.{PoolValue};
+    ghost use Rattle.residual_pool.specs.Memories.{PoolValue, IsThere};
 
     ghost Value = { PoolValue };
 
     ghost coded = { Prim.hlevel (codes, coded_tree) };
 
-    ghost view = { λ p. record { memory = p.memory; current = p.current; budget = p.budget; too_large = p.too_large } };
+    ghost view = { λ p. record { memory = p.memory; held = p.held; budget = p.budget; too_large = p.too_large } };
 
-    ghost invariant = { λ p. p.current < length p.memory.sets };
+    ghost invariant = { λ p. IsThere p.memory p.held };
 }
 
 impl Pool {
@@ -59,36 +61,62 @@ impl Pool {
         self.memory.held()
     }
 
-    /// How many cells there are for steps, or more: no fewer than steps are remembered. It takes no memory.
-    #[tactic(auto, using(crate::proofs::Remembering::counting))]
+    /// How many moves are remembered. It takes no memory.
     pub fn rows(&self) -> u64
-        ensures steps { all_steps self.now.memory.moves ≤ result }
+        ensures moves { result ≡ length self.now.memory.moves }
         ensures most { result ≤ ROWS_MOST }
     {
-        self.memory.cells()
+        self.memory.count()
+    }
+
+    /// The set that is held.
+    fn set(&self) -> &TermSet
+        ensures { result.now ≡ (held_set self.now).terms }
+    {
+        match &self.held {
+            Held::Remembered(number) => self.memory.set(*number),
+            Held::Loose(set) => set,
+        }
     }
 
     /// The terms that are held.
     fn terms(&self) -> &TermList
         ensures { result.now ≡ (held_set self.now).terms }
     {
-        self.memory.set(self.current).terms()
+        self.set().terms()
     }
 
     /// The number of the set that an event leaves whose label has this number, where it is remembered.
-    fn remembered(&self, label: Option<u32>) -> Option<usize>
+    fn remembered(&self, label: Option<u32>) -> Option<u32>
         ensures { IfSome result (λ next. Remembers self.now label next) }
     {
-        let number = self.memory.next(self.current, label? as usize)?;
-        Some(number as usize)
+        match &self.held {
+            Held::Remembered(number) => self.memory.next(*number, label?),
+            Held::Loose(_) => None,
+        }
     }
 
     /// From now on the set of that number is held.
-    fn enter(&mut self, next: usize)
+    fn enter(&mut self, next: u32)
         requires { next < length self.old.memory.sets }
-        ensures { self.new ≡ record self.old { current = next } }
+        ensures { self.new ≡ record self.old { held = Remembered next } }
     {
-        self.current = next;
+        self.held = Held::Remembered(next);
+    }
+
+    /// From now on this set is held, beside the memory.
+    fn hold(&mut self, set: TermSet)
+        ensures { self.new ≡ record self.old { held = Loose set } }
+    {
+        self.held = Held::Loose(set);
+    }
+
+    /// Forgets all, and holds this set.
+    fn begin_anew(&mut self, set: TermSet)
+        ensures { self.new ≡ record self.old { memory = record { sets = []; moves = [] }; held = Loose set } }
+    {
+        self.held = Held::Loose(set);
+        self.memory = Memory::new(self.alloc);
     }
 
     /// From now on the set is too large.
@@ -98,110 +126,63 @@ impl Pool {
         self.too_large = true;
     }
 
-    /// Forgets all, and holds this set.
-    fn restart(&mut self, known: Known) -> Result<(), NoMemory>
-        requires { set_weight known.terms ≤ BUDGET_MOST }
-        ensures ok { OnOk result (self.new ≡ record self.old { memory = record { sets = known ∷ []; moves = [] ∷ [] }; current = 0 }) }
-        ensures err { OnErr result (self.new ≡ self.old) }
+    /// The number of the set, which is added where it wasn't met.
+    fn place(&mut self, set: TermSet) -> Result<u32, NoMemory>
+        requires light { set_weight set ≤ LIGHT }
+        requires held { held_weight self.old.memory.sets + set_weight set ≤ HELD_MOST }
+        requires few { length self.old.memory.sets < ROWS_MOST }
+        ensures places { Places self.old set self.new }
+        ensures there { IfOk result (λ number. (number < length self.new.memory.sets) × (set_at self.new.memory.sets number ≡ set)) }
     {
-        self.memory = Memory::new(self.alloc, known)?;
-        self.current = 0;
+        self.memory.place(set)
+    }
+
+    /// Remembers that an event whose label has this number leads from the set that is held to that one, where the former is remembered.
+    fn note(&mut self, label: Option<u32>, next: u32) -> Result<(), NoMemory>
+        requires { length self.old.memory.moves < ROWS_MOST }
+        ensures { Notes self.old label next self.new }
+    {
+        match (&self.held, label) {
+            (Held::Remembered(number), Some(label)) => self.memory.note(*number, label, next),
+            _ => Ok(()),
+        }
+    }
+
+    /// Remembers the set and the move to it, and holds it.
+    fn go(&mut self, label: Option<u32>, set: TermSet) -> Result<(), NoMemory>
+        requires light { set_weight set ≤ LIGHT }
+        requires held { held_weight self.old.memory.sets + set_weight set ≤ HELD_MOST }
+        requires few_sets { length self.old.memory.sets < ROWS_MOST }
+        requires few_moves { length self.old.memory.moves < ROWS_MOST }
+        ensures serves { (v : NetsValue) → IsPoolFor v self.old → IsSetFor v self.old.budget set
+            → AreNext v label (held_set self.old).terms set → IsPoolFor v self.new }
+        ensures ok { OnOk result (held_set self.new ≡ record (held_set self.old) { terms = set }) }
+        ensures err { OnErr result (held_set self.new ≡ held_set self.old) }
+    {
+        let next = self.place(set)?;
+        self.note(label, next)?;
+        self.enter(next);
         Ok(())
     }
 
-    /// Remembers the move to the set of that number, and holds it; where there is no room for the move, all but that set is forgotten.
-    fn follow(&mut self, label: u32, next: usize) -> Result<(), NoMemory>
-        requires small { label < ROWS_MOST }
-        requires there { next < length self.old.memory.sets }
-        requires light { set_weight (set_at self.old.memory.sets next).terms ≤ BUDGET_MOST }
-        ensures serves { (v : NetsValue) → IsPoolFor v self.old
-            → AreNext v (Some label) (held_set self.old).terms (set_at self.old.memory.sets next).terms → IsPoolFor v self.new }
-        ensures ok { OnOk result (held_set self.new ≡ record (held_set self.old) { terms = (set_at self.old.memory.sets next).terms }) }
+    /// Holds this set, to which an event led whose label has this number. A light one is remembered; where there is no room for it, all
+    /// else is forgotten.
+    #[tactic(auto, using(crate::proofs::Going::turning))]
+    fn turn_to(&mut self, label: Option<u32>, set: TermSet) -> Result<(), NoMemory>
+        ensures serves { (v : NetsValue) → IsPoolFor v self.old → IsSetFor v self.old.budget set
+            → AreNext v label (held_set self.old).terms set → IsPoolFor v self.new }
+        ensures ok { OnOk result (held_set self.new ≡ record (held_set self.old) { terms = set }) }
         ensures err { OnErr result (held_set self.new ≡ held_set self.old) }
     {
-        if self.memory.note(self.current, label as usize, next)? {
-            self.enter(next);
-            Ok(())
-        } else {
-            let known = self.memory.set(next).copy(self.alloc)?;
-            self.restart(known)?;
-            Ok(())
+        if !set.is_light() {
+            self.hold(set);
+            return Ok(());
         }
-    }
-
-    /// Holds the set of that number, to which an event led whose label has this number.
-    fn go(&mut self, label: Option<u32>, next: usize) -> Result<(), NoMemory>
-        requires there { next < length self.old.memory.sets }
-        requires light { set_weight (set_at self.old.memory.sets next).terms ≤ BUDGET_MOST }
-        ensures serves { (v : NetsValue) → IsPoolFor v self.old
-            → AreNext v label (held_set self.old).terms (set_at self.old.memory.sets next).terms → IsPoolFor v self.new }
-        ensures ok { OnOk result (held_set self.new ≡ record (held_set self.old) { terms = (set_at self.old.memory.sets next).terms }) }
-        ensures err { OnErr result (held_set self.new ≡ held_set self.old) }
-    {
-        match label {
-            Some(label) if (label as u64) < Bounds::ROWS_MOST => {
-                self.follow(label, next)?;
-                Ok(())
-            }
-            _ => {
-                self.enter(next);
-                Ok(())
-            }
+        if !self.memory.has_room(set.weight()) {
+            self.begin_anew(set);
+            return Ok(());
         }
-    }
-
-    /// Holds a set that wasn't met; where there is no room for it, all others are forgotten.
-    fn go_new(
-        &mut self,
-        nets: &Nets,
-        label: Option<u32>,
-        terms: TermList,
-        weight: u64,
-    ) -> Result<(), NoMemory>
-        requires serves { IsPoolFor nets.now self.old }
-        requires sound { Each (IsSoundFor nets.now) terms }
-        requires rising { AreRising terms }
-        requires within { set_weight terms ≤ self.old.budget }
-        requires weight { weight ≡ set_weight terms }
-        requires next { AreNext nets.now label (held_set self.old).terms terms }
-        ensures serves { IsPoolFor nets.now self.new }
-        ensures ok { OnOk result (held_set self.new ≡ record (held_set self.old) { terms = terms }) }
-        ensures err { OnErr result (held_set self.new ≡ held_set self.old) }
-    {
-        let known = Known::new(self.alloc, nets, terms, weight)?;
-        if self.memory.has_room(weight) {
-            let next = self.memory.add(known)?;
-            self.go(label, next)?;
-            Ok(())
-        } else {
-            self.restart(known)?;
-            Ok(())
-        }
-    }
-
-    /// Holds these terms, which are what an event left whose label has this number.
-    fn turn_to(
-        &mut self,
-        nets: &Nets,
-        label: Option<u32>,
-        terms: TermList,
-        weight: u64,
-    ) -> Result<(), NoMemory>
-        requires serves { IsPoolFor nets.now self.old }
-        requires sound { Each (IsSoundFor nets.now) terms }
-        requires rising { AreRising terms }
-        requires within { set_weight terms ≤ self.old.budget }
-        requires weight { weight ≡ set_weight terms }
-        requires next { AreNext nets.now label (held_set self.old).terms terms }
-        ensures serves { IsPoolFor nets.now self.new }
-        ensures ok { OnOk result (held_set self.new ≡ record (held_set self.old) { terms = terms }) }
-        ensures err { OnErr result (held_set self.new ≡ held_set self.old) }
-    {
-        let found = self.memory.find(&terms, weight)?;
-        match found {
-            Some(next) => self.go(label, next),
-            None => self.go_new(nets, label, terms, weight),
-        }
+        self.go(label, set)
     }
 
     /// All that is left of the terms after an event with the label, which has this number, unless it is above the budget.
@@ -236,13 +217,14 @@ impl Pool {
         requires found { JoinsAll (IsLeftOf nets.now label.now (held_set self.old).terms) self.old.budget [] found }
         ensures serves { IsPoolFor nets.now self.new }
         ensures ok { OnOk result (held_set self.new ≡ record (held_set self.old) { terms = found }) }
-        ensures rising { AreRising (held_set self.new).terms }
+        ensures rising { OnOk result (AreRising (held_set self.new).terms) }
         ensures err { OnErr result (held_set self.new ≡ held_set self.old) }
     {
+        let _ = nets;
         let _ = label;
-        let weight = found.weight();
-        let terms = found.into_list(self.alloc)?;
-        self.turn_to(nets, number, terms, weight)
+        let set = TermSet::gathered(self.alloc, found)?;
+        self.turn_to(number, set)?;
+        Ok(())
     }
 }
 
@@ -255,18 +237,15 @@ impl Store for Pool {
     ghost serves = { λ p v. IsPoolFor v p };
 
     fn start(alloc: Global, nets: &Nets, term: Term, budget: u64) -> Result<Self, StepFault> {
-        let weight = term.weight();
-        if weight > budget {
+        let _ = nets;
+        if term.weight() > budget {
             return Err(StepFault::TooLarge);
         }
-        let mut terms = TermList::new(alloc);
-        terms.push(term)?;
-        let known = Known::new(alloc, nets, terms, weight)?;
-        let memory = Memory::new(alloc, known)?;
+        let set = TermSet::single(alloc, term)?;
         Ok(Pool {
             alloc,
-            memory,
-            current: 0,
+            memory: Memory::new(alloc),
+            held: Held::Loose(set),
             budget,
             too_large: false,
         })
@@ -276,8 +255,6 @@ impl Store for Pool {
         if self.too_large {
             return Err(StepFault::TooLarge);
         }
-        // The law that `residuals` stands on. It does nothing.
-        sets_go_on();
         let number = nets.label(label);
         if let Some(next) = self.remembered(number) {
             self.enter(next);
@@ -300,13 +277,11 @@ impl Store for Pool {
     }
 
     fn weight(&self) -> u64 {
-        self.memory.set(self.current).weight()
+        self.set().weight()
     }
 
     fn may_end(&self, alloc: Global, nets: &Nets) -> Result<bool, NoMemory> {
-        let _ = alloc;
-        let _ = nets;
-        Ok(self.memory.set(self.current).ends())
+        one_may_end(alloc, nets, self.terms())
     }
 
     ghost serving = { pool_serving };

@@ -52,3 +52,4 @@ pub mod Unions
 pub mod Measures
 pub mod SetFacts
 pub mod Alike
+pub mod Placed

@@ -12,3 +12,4 @@ pub mod OneResidual
 pub mod FullSoundness
 pub mod Missed
 pub mod Values
+pub mod Placing

@@ -91,7 +91,7 @@ pub fn ask_term(alloc: Global, nets: &Nets, term: &Term, block: &Block) -> Resul
 /// What is left of the parts of a join.
 #[cycle(ask)]
 #[tactic(auto, using(crate::proofs::Permits::permits))]
-fn ask_parts(
+pub fn ask_parts(
     alloc: Global,
     nets: &Nets,
     joint: Joint,

@@ -20,7 +20,7 @@ mod remnant;
 mod row_end;
 mod ties;
 
-pub use asking::ask_term;
+pub use asking::{ask_parts, ask_term};
 pub use blocks::widened;
 pub use finishes::may_end;
 pub use fresh::{fresh_loop, fresh_walk};

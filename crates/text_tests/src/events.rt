@@ -86,15 +86,16 @@ fn line_of(fault: LogFault) -> u64 {
 /// Adds the event as `LINE AT KIND TEXT FAR / `.
 fn add_event(alloc: Global, event: &LineEvent, said: &mut Vec<u8>) -> Result<(), Fail> {
     let line = event.line;
+    let label = event.label.label();
     let head = format!(in alloc; "{line} ")?;
     said.extend_from_slice(head.as_bytes())?;
-    said.extend_from_slice(event.label.at.bytes())?;
+    said.extend_from_slice(label.at.bytes())?;
     said.extend_from_slice(b" ")?;
-    said.extend_from_slice(kind_word(event.label.kind).as_bytes())?;
+    said.extend_from_slice(kind_word(label.kind).as_bytes())?;
     said.extend_from_slice(b" ")?;
-    said.extend_from_slice(event.label.text.bytes())?;
+    said.extend_from_slice(label.text.bytes())?;
     said.extend_from_slice(b" ")?;
-    match &event.label.far {
+    match &label.far {
         Far::Nobody => said.extend_from_slice(b"-")?,
         Far::Env => said.extend_from_slice(b"env")?,
         Far::Instance(name) => said.extend_from_slice(name.bytes())?,

@@ -16,6 +16,7 @@ use Rattle.chart_term.specs.OrderLaws.{tree_equal}
 use Rattle.chart_term.specs.Properties.{Each}
 use Rattle.chart_term.specs.TermPatterns.{Both}
 use Rattle.chart_term.specs.Terms.{Tree, weight}
+use Rattle.term_laws.specs.Placing.{HaveOnePlace}
 use Rattle.term_laws.specs.Listing.{set_weight}
 use Rattle.msc_base.specs.Lists.{IsAmong}
 use Rattle.chart_term.specs.Tables.{terms_over}
@@ -93,16 +94,20 @@ pub ruleset placing = (put_adds, put_weighs, rising_from)
 
 pub tables_ready : (v : NetsValue) (xs : List Tree) (i : ℕ) (x : Tree) → slice_get xs i ≡ Some x → Each (IsSoundFor v) xs → AreReadyTables v.tables
 tables_ready v [] i x e h = cc
-tables_ready v (y ∷ ys) zero x e h = ready_by_soundness.tables _ v.tables y h.0
+tables_ready v (y ∷ ys) zero x e h = ready_by_soundness.tables _ v.tables y h.0.full
 tables_ready v (y ∷ ys) (suc i) x e h = tables_ready v ys i x e h.1
 
 pub some_ready : (v : NetsValue) (xs : List Tree) → (xs ≡ [] → ⊥) → Each (IsSoundFor v) xs → AreReadyTables v.tables
 some_ready v [] none h = absurd (none refl)
-some_ready v (y ∷ ys) none h = ready_by_soundness.tables _ v.tables y h.0
+some_ready v (y ∷ ys) none h = ready_by_soundness.tables _ v.tables y h.0.full
 
 pub all_ready : (v : NetsValue) (xs : List Tree) → Each (IsSoundFor v) xs → Each (IsReady v.tables) xs
 all_ready v [] h = tt
-all_ready v (y ∷ ys) h = (ready_by_soundness.term _ v.tables y h.0, all_ready v ys h.1)
+all_ready v (y ∷ ys) h = (ready_by_soundness.term _ v.tables y h.0.full, all_ready v ys h.1)
+
+pub all_placed : (v : NetsValue) (xs : List Tree) → Each (IsSoundFor v) xs → Each (HaveOnePlace v.tables) xs
+all_placed v [] h = tt
+all_placed v (y ∷ ys) h = (h.0.placed, all_placed v ys h.1)
 
 pub term_sound : (v : NetsValue) (xs : List Tree) (i : ℕ) (x : Tree) → slice_get xs i ≡ Some x → Each (IsSoundFor v) xs → IsSoundFor v x
 term_sound v [] i x e h = cc
@@ -110,7 +115,7 @@ term_sound v (y ∷ ys) zero x e h = let q : y ≡ x = cc in subst (IsSoundFor v
 term_sound v (y ∷ ys) (suc i) x e h = term_sound v ys i x e h.1
 
 pub term_ready : (v : NetsValue) (xs : List Tree) (i : ℕ) (x : Tree) → slice_get xs i ≡ Some x → Each (IsSoundFor v) xs → IsReady v.tables x
-term_ready v xs i x e h = ready_by_soundness.term _ v.tables x (term_sound v xs i x e h)
+term_ready v xs i x e h = ready_by_soundness.term _ v.tables x (term_sound v xs i x e h).full
 
 pub start_ends : (v : NetsValue) (xs : List Tree) → HasEnding v (take 0 xs) → ⊥
 start_ends v xs h = h.held

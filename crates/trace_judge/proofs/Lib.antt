@@ -1,13 +1,13 @@
 mod Prefixes
-mod Lists
+pub mod Lists
 mod Lefts
-mod SetLaws
+pub mod SetLaws
 pub mod RunLaws
 pub mod VerdictMoves
 mod VerdictLaws
 mod TrackFacts
 mod Tracking
-mod Gathering
+pub mod Gathering
 mod Few
 mod Takings
 mod Judging

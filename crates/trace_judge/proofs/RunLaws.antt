@@ -15,7 +15,7 @@ use Rattle.trace_judge.specs.Sets.{IsSoundFor, HasEnding}
 use Rattle.trace_judge.specs.Verdicts.{LeavesSome, LeavesEnding}
 
 sound_of : (v : NetsValue) (x : Tree) → IsSoundFor v x → IsSound v.tables x
-sound_of v x h = full_soundness_is_kept.suffices (length v.labels) v.tables x h
+sound_of v x h = full_soundness_is_kept.suffices (length v.labels) v.tables x h.full
 
 pub left_begins : (v : NetsValue) (x y : Tree) (l : List Label) → IsSoundFor v x → IsLeft v x l y → Begins v x l
 left_begins v x y l h i = record {

@@ -12,6 +12,7 @@ use Rattle.term_laws.specs.Residuals.{IsResidual, res_none}
 use Rattle.term_laws.specs.Soundness.{AreTidyTables}
 use Rattle.permit_step.specs.Successors.{IsSuccessor}
 use Rattle.term_laws.specs.Taking.{IsAfter}
+use Rattle.term_laws.proofs.Placed.{one_place_is_kept}
 use Rattle.term_laws.proofs.FullSound.{full_soundness_is_kept, tidy_tables}
 use Rattle.term_laws.proofs.Normalising.{are_different}
 use Rattle.term_laws.proofs.Ranking.{rank}
@@ -95,7 +96,7 @@ successors_exist v a x terms h = go (label_number v.labels a) refl
             different = are_different _;
             exact = λ y. record {
               to = λ i. let r = set_sound w d (n ∷ []) terms y i in record { term = r.0; held = r.1; left = one_after v a n q r.0 y r.2 };
-              from = λ i. set_whole w d (n ∷ []) terms (all_deep w (tidy_tables _ w h.nets) d terms (omega arith), tt) i.term y i.held (after_one v a n q i.term y i.left);
+              from = λ i. set_whole w d (n ∷ []) terms (all_deep w (tidy_tables _ w h.full.nets) d terms (omega arith), tt) i.term y i.held (after_one v a n q i.term y i.left);
             };
           };
         }
@@ -109,4 +110,4 @@ over_passes v a x terms budget h o =
 
 -- what an event leaves of a sound term is sound
 pub stays_sound : (v : NetsValue) (a : Label) (x y : Tree) → IsSoundFor v x → IsSuccessor v a x y → IsSoundFor v y
-stays_sound v a x y h s = full_soundness_is_kept.after_keeps _ v.tables x y s.event h s.after
+stays_sound v a x y h s = record { full = full_soundness_is_kept.after_keeps _ v.tables x y s.event h.full s.after; placed = one_place_is_kept.after_keeps v.tables x y s.event h.placed s.after }

@@ -1,4 +1,3 @@
--- Serves private contracts alone.
 -- Terms that are gathered up to a budget.
 use Rattle.std.specs.Prelude.{ℕ, ◌<◌, ◌≤◌, ◌⊎◌, List}
 use Rattle.chart_term.specs.TermPatterns.{Both}

@@ -11,6 +11,7 @@ use Rattle.chart_term.specs.TermPatterns.{Both}
 use Rattle.chart_term.specs.Terms.{Tree}
 use Rattle.term_laws.specs.FullSoundness.{IsFullySound}
 use Rattle.term_laws.specs.Listing.{set_weight}
+use Rattle.term_laws.specs.Placing.{HaveOnePlace}
 use Rattle.msc_base.specs.Lists.{IsAmong}
 use Rattle.term_laws.specs.Normality.{AreDifferent}
 pub use Rattle.permit_step.specs.AllAfter.{IsLeftOf}
@@ -22,9 +23,10 @@ pub record SetValue : Type 0 where
   pub budget : ℕ
   pub too_large : Bool
 
--- the term fits the tables, and is sound in full for them
-abbrev pub IsSoundFor : NetsValue → Tree → Type 0
-IsSoundFor v x = IsFullySound (length v.labels) v.tables x
+-- the term fits the tables, and is sound in full for them; its events of one label have the same instances
+pub record IsSoundFor (v : NetsValue) (x : Tree) : Type 0 where
+  pub full : IsFullySound (length v.labels) v.tables x
+  pub placed : HaveOnePlace v.tables x
 
 -- the terms rise in the order of terms
 abbrev pub AreRising : List Tree → Type 0

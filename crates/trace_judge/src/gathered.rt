@@ -1,4 +1,4 @@
-//! Terms each once with their weight, as a set that is under way: for `residuals` alone.
+//! Terms each once with their weight, as a set that is under way: for the stores.
 
 ghost use Rattle.std.specs.Prelude.{◌≡◌, ◌≤◌, ◌+◌, ◌⊎◌, [], ℕ, IfOk, OnOk, OnErr, true, false};
 ghost use Rattle.msc_base.specs.declared.limits.TheConstants.Limits.{BUDGET_MOST};
@@ -18,7 +18,7 @@ use std::marker::Model;
 ///
 /// A contract sees them as a list that rises.
 #[derive(Drop)]
-pub(crate) struct Gathered {
+pub struct Gathered {
     terms: BTreeSet<Term>,
     weight: u64,
 }
@@ -55,7 +55,7 @@ fn put(terms: &mut BTreeSet<Term>, term: Term) -> Result<bool, NoMemory>
 
 impl Gathered {
     /// No terms. It takes no memory.
-    pub(crate) fn new(alloc: Global) -> Gathered
+    pub fn new(alloc: Global) -> Gathered
         ensures { result ≡ [] }
     {
         Gathered {
@@ -65,7 +65,7 @@ impl Gathered {
     }
 
     /// The weight of all of them.
-    pub(crate) fn weight(&self) -> u64
+    pub fn weight(&self) -> u64
         ensures weight { result ≡ set_weight self.now }
         ensures rising { AreRising self.now }
     {
@@ -73,7 +73,7 @@ impl Gathered {
     }
 
     /// Adds a term, unless it is there. After want of memory all is as it was.
-    pub(crate) fn add(&mut self, term: Term) -> Result<(), NoMemory>
+    pub fn add(&mut self, term: Term) -> Result<(), NoMemory>
         requires light { weight term ≤ BUDGET_MOST }
         requires room { set_weight self.old ≤ BUDGET_MOST }
         ensures adds { OnOk result ((y : Tree) → Both (IsAmong self.new y) ((y ≡ term) ⊎ IsAmong self.old y)) }
@@ -88,7 +88,7 @@ impl Gathered {
     }
 
     /// The terms as a list, in their order.
-    pub(crate) fn into_list(self, alloc: Global) -> Result<TermList, NoMemory>
+    pub fn into_list(self, alloc: Global) -> Result<TermList, NoMemory>
         ensures list { IfOk result (λ list. list ≡ self) }
         ensures rising { IfOk result (λ list. AreRising list) }
     {

@@ -12,11 +12,14 @@ mod judge;
 pub mod laws;
 mod residuals;
 mod store;
+mod successors;
 mod taking;
 mod track;
 
 pub use fault::JudgeFault;
+pub use gathered::Gathered;
 pub use judge::Judge;
 pub use residuals::Residuals;
 pub use store::{StepFault, Store};
+pub use successors::{gather, is_none, one_may_end};
 pub use track::Track;

@@ -29,7 +29,7 @@ fn take_event<S: Store + Drop>(
         → OnOk result (Fed S.holds nets.now x budget (events ++ event ∷ []) track.new) }
     ensures follows { (x : Tree) (budget : ℕ) → IsFollowing S.holds nets.now x budget track.old → IsFollowing S.holds nets.now x budget track.new }
 {
-    track.take(nets, &event.label, event.line)
+    track.take(nets, event.label.label(), event.line)
 }
 
 /// Takes all events that the reader can hand out.

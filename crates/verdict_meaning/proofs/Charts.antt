@@ -1,5 +1,5 @@
 -- The residual terms of a chart's term tell of the chart; and a chart of one message, whose term means it.
-use Rattle.std.specs.Prelude.{◌⊎◌, ℕ, List, [], ◌∷◌, false, true, codes}
+use Rattle.std.specs.Prelude.{◌⊎◌, ℕ, List, [], ◌∷◌, false, true, codes, map}
 use Rattle.std.specs.Str.{bytes_eq}
 use Rattle.std.proofs.Common.{refl, sym, subst, inl, inr, arith}
 use Rattle.std.proofs.lemmas.Bool.Decides.{nat_tests}
@@ -11,10 +11,15 @@ use Rattle.msc_meaning.specs.WorkedCharts.{message, message_body}
 use Rattle.msc_meaning.specs.WorkedLaws.{a_sent, a_received}
 use Rattle.msc_meaning.proofs.Showing.{not_open}
 use Rattle.msc_meaning.proofs.WorkedChoices as worked
+use Rattle.msc_base.specs.Patterns.{seq}
+use Rattle.chart_term.specs.NormalForms.{join_all}
 use Rattle.chart_term.specs.Tables.{terms_over}
 use Rattle.chart_term.specs.TermMeanings.{HasPattern}
 use Rattle.chart_term.specs.TermPatterns.{Both}
+use Rattle.chart_term.specs.Terms.{Event}
 use Rattle.sound_terms.specs.RisingRows.{DoRise}
+use Rattle.term_laws.specs.Permission.{permits_of}
+use Rattle.term_laws.proofs.Placed.{join-placed, tie-placed}
 use Rattle.term_meaning.specs.Naming.{IsNamed}
 use Rattle.term_meaning.specs.TiedRows.{TiedRow, AreRowOf, tied_row, TiedRowsMean}
 use Rattle.term_meaning.proofs.MeaningRules.{mean_sets}
@@ -58,6 +63,10 @@ one_begun u = record { to = λ e. inl ((one_finished u).to e); from = λ f. from
     from (inl f) = (one_finished u).from f
     from (inr o) = absurd (not_open message (codes "A") _ message_body refl refl u o)
 
+-- each label is at the instance of its number
+abbrev own_instance : ℕ → List ℕ
+own_instance n = n ∷ []
+
 pub message_is_told : TiedRowsMean → MessageIsTold
 message_is_told rows = record {
   means = record {
@@ -67,5 +76,8 @@ message_is_told rows = record {
     all_ones = mean_sets (IsNamed message_tables.labels message_names) (HasPattern (terms_over []) true (tied_row message_events pair)) (TiedRow (a_sent ∷ a_received ∷ []) pair) (Begun message (codes "A")) one_begun
         (rows.means message_tables message_names (a_sent ∷ a_received ∷ []) message_events pair true row);
   };
-  sound = rows.sound message_tables message_names (a_sent ∷ a_received ∷ []) message_events pair row rises;
+  sound = record {
+    full = rows.sound message_tables message_names (a_sent ∷ a_received ∷ []) message_events pair row rises;
+    placed = record { places = own_instance; nets = tt; term = tie-placed own_instance (permits_of []) (join_all seq (map Event message_events)) pair (join-placed own_instance (permits_of []) seq (map Event message_events) (refl, (refl, tt))) };
+  };
 }

@@ -1,7 +1,6 @@
 //! The order and the equality of terms, part by part: by them sets of terms (trace_judge) and choices keep each once.
 
 ghost use Rattle.std.specs.Prelude.{◌≡◌, ◌↔◌, IsTrue};
-ghost use Rattle.std.specs.declared.cmp.Ordering.TheVariants.{Less};
 ghost use Rattle.hmsc_graph.specs.Spots.{spot_of, goal_of};
 ghost use Rattle.chart_term.specs.Order.{event_cmp, goal_cmp, pairs_cmp, rank, row_cmp, spot_cmp, tree_cmp};
 ghost use Rattle.chart_term.specs.Terms.{row_of};
@@ -102,7 +101,9 @@ impl Term {
         let other_node: &Node = &other.node;
         match (&node.form, &other_node.form) {
             (Form::Nil, Form::Nil) => Ordering::Equal,
-            (Form::Event(event), Form::Event(second)) => compare_events(event, second),
+            (Form::Event(event), Form::Event(second)) => {
+                compare_events(&event.shown(), &second.shown())
+            }
             (Form::Seq(parts), Form::Seq(others)) => parts.compare(others),
             (Form::Par(parts), Form::Par(others)) => parts.compare(others),
             (Form::Choice(parts), Form::Choice(others)) => parts.compare(others),
@@ -177,14 +178,6 @@ impl Term {
         ensures { IsTrue result ↔ (self.now ≡ other.now) }
     {
         self.weight() == other.weight() && self.compare(other) == Ordering::Equal
-    }
-
-    /// Whether this term comes before the other: by constructor, in the order of `Look`, then by
-    /// the parts. It is a total order (`laws::terms_are_ordered`). It takes no memory.
-    pub fn before(&self, other: &Term) -> bool
-        ensures { IsTrue result ↔ (tree_cmp self.now other.now ≡ Less) }
-    {
-        self.compare(other) == Ordering::Less
     }
 }
 

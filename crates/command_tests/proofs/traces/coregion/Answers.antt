@@ -1,5 +1,5 @@
-use Rattle.command_tests.proofs.SoundTerms.{sound_aside}
+use Rattle.command_tests.proofs.SoundTerms.{sample_aside}
 use Rattle.command_tests.proofs.traces.coregion.Goals as goal
 
 pub returns : goal.returns
-returns c = sound_aside c.in_ok-term.term c.loop-number.parts c.in_ok-term.ensures c.loop-number.invariant
+returns c = sample_aside c.in_ok-term.term c.loop-number.parts c.in_ok-term.ensures c.loop-number.invariant

@@ -1,7 +1,7 @@
 use Rattle.std.proofs.Common.{[]}
 use Rattle.chart_term.specs.Properties.{Each}
-use Rattle.term_laws.specs.FullSoundness.{IsSoundNode}
+use Rattle.command_tests.specs.Samples.{IsSample}
 use Rattle.command_tests.proofs.traces.coregion.Given as goal
 
 abbrev pub invariant-loop-number : goal.invariant-loop-number
-invariant-loop-number l = Each (IsSoundNode 2 []) l.parts
+invariant-loop-number l = Each IsSample l.parts

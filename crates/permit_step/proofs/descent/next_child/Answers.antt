@@ -1,23 +1,26 @@
-use Rattle.std.proofs.Common.{ap, Option}
+use Rattle.std.proofs.Common.{ap, subst, Option}
 use Rattle.bit_sets.specs.Blocks.{BlockValue}
-use Rattle.chart_term.specs.Terms.{Loop, Walk, row_of}
+use Rattle.chart_term.specs.Terms.{Tree, Join, Loop, Walk, row_of, trees}
 use Rattle.hmsc_graph.specs.Spots.{spot_of, goal_of}
 use Rattle.permit_step.specs.Searches.{IsNext}
 use Rattle.permit_step.specs.declared.descent.Step.{Step}
 use Rattle.term_permission.proofs.Joins.{ok-as}
-use Rattle.permit_step.proofs.Passes.{next-row, next-par, next-choice, next-tied, next-as}
+use Rattle.permit_step.proofs.Passes.{next-par, next-choice, next-tied, next-as}
+use Rattle.permit_step.specs.Skips.{ArePlaced}
+use Rattle.chart_term.specs.NormalForms.{begun}
+use Rattle.term_permission.specs.Ready.{IsReady}
 use Rattle.term_permission.proofs.PermitLoops.{ready-loop}
-use Rattle.term_permission.proofs.PermitRows.{turns-ready}
-use Rattle.term_permission.proofs.Permits.{turns-are-ready}
 use Rattle.msc_base.specs.Patterns.{seq}
 use Rattle.permit_step.proofs.descent.next_child.Goals as goal
 
-pub blocked-requires-clause-parts : goal.blocked-requires-clause-parts
-blocked-requires-clause-parts c = turns-ready c.args.nets.now.tables c.in-Seq.parts.now c.in-Seq.ensures.1 (turns-are-ready c.args.nets.now.tables seq c.args.term.now c.in-Seq.parts.now c.in-Seq.ensures.0 c.requires.term)
+pub next_in_row-requires-clause-row : goal.next_in_row-requires-clause-row
+next_in_row-requires-clause-row c = subst (λ (x : Tree). IsReady c.args.nets.now.tables x) c.in-Seq.ensures.0 c.requires.term
+
+pub next_in_row-requires-clause-placed : goal.next_in_row-requires-clause-placed
+next_in_row-requires-clause-placed c = λ one. subst (λ (x : Tree). ArePlaced c.args.nets.now.tables c.args.label x c.args.met.now) c.in-Seq.ensures.0 (c.requires.placed one)
 
 pub returns-in_ok-next-in-Seq : goal.returns-in_ok-next-in-Seq
-returns-in_ok-next-in-Seq c =
-    next-row c.args.nets.now.tables c.args.label c.args.term.now c.in-Seq.parts.now c.args.from c.in-Seq.ensures.1 c.in_ok-next-in-Seq.next c.in_ok-skip-in-Seq.skip.instances c.in-Seq.ensures.0 c.in_ok-skip-in-Seq.ensures c.in_ok-next-in-Seq.ensures
+returns-in_ok-next-in-Seq c = next-as c.args.nets.now.tables c.args.label c.args.term.now (Join seq (trees (begun c.in-Seq.parts.now))) c.args.from c.in_ok-next-in-Seq.next c.in-Seq.ensures.0 c.in_ok-next-in-Seq.ensures
 
 pub returns-in_ok-next-in-Par : goal.returns-in_ok-next-in-Par
 returns-in_ok-next-in-Par c =
@@ -33,6 +36,9 @@ returns-in_ok-next-in-Tied c =
 
 pub next_turn-requires-clause-row : goal.next_turn-requires-clause-row
 next_turn-requires-clause-row c = ready-loop c.args.nets.now.tables c.args.term.now c.in-Loop.body.now c.in-Loop.lower c.in-Loop.upper c.in-Loop.row.now c.in-Loop.ensures c.requires.term
+
+pub next_turn-requires-clause-placed : goal.next_turn-requires-clause-placed
+next_turn-requires-clause-placed c = λ one. subst (λ (x : Tree). ArePlaced c.args.nets.now.tables c.args.label x c.args.met.now) c.in-Loop.ensures (c.requires.placed one)
 
 pub returns-in-Loop : goal.returns-in-Loop
 returns-in-Loop c =

@@ -3,6 +3,7 @@ use Rattle.permit_step.specs.Searches.{AreReadyFrames}
 use Rattle.permit_step.specs.declared.ascent.Frame.{Frame}
 use Rattle.permit_step.proofs.ChildReady.{child-good}
 use Rattle.permit_step.proofs.KeptNumbers.{linked_searched}
+use Rattle.permit_step.proofs.Placed.{placed-down, placed-start, placed-up}
 use Rattle.permit_step.proofs.Rebuilding.{front-ready}
 use Rattle.permit_step.proofs.Searching.{state-start, state-down, state-cut, state-end, state-up}
 use Rattle.permit_step.proofs.Visits.{visits-down, visits-up, ranked-down, ranked-up, ranked-length, no-frames}
@@ -16,6 +17,7 @@ search-init c =
     record {
       state = rw (path, c.in_ok-here.ensures) (state-start w c.requires.tables c.args.label c.args.term.now c.args.found.now c.requires.term c.requires.tally c.requires.within);
       met = tt;
+      placed = rw (path, c.in_ok-here.ensures) (λ one. placed-start w c.args.label c.args.term.now (c.requires.placed one));
       ranked = rw (path, c.in_ok-here.ensures) (omega arith);
     }
 
@@ -35,6 +37,7 @@ search-preserved-in-Some c =
     record {
       state = state-down w c.requires.tables c.args.label c.args.term.now c.args.found.now c.search.found c.search.path.items c.push.new.self.items c.search.here c.in-Some.step.inner c.search.next c.in-Some.step.index c.search.invariant.state c.in-Some.step step c.in_ok-push-in-Some.ensures.items refl;
       met = c.search.invariant.met;
+      placed = λ one. placed-down w c.args.label c.search.path.items c.push.new.self.items c.search.here c.in-Some.step.inner c.in-Some.step.index c.search.met (c.search.invariant.placed one) step.there c.in_ok-push-in-Some.ensures.items;
       ranked = ranked-down w (rank_in w c.args.term.now) c.search.path.items c.push.new.self.items c.search.here c.in-Some.step.inner c.in-Some.step.inner c.in-Some.step.index c.search.invariant.ranked good.rank c.in_ok-push-in-Some.ensures.items refl;
     }
 
@@ -71,8 +74,12 @@ search-preserved c =
     record {
       state = state-up w c.requires.tables c.args.label c.args.term.now c.args.found.now c.search.found c.add_event.new.found c.search.path.items c.search.here c.search.next c.in_ok-all-in-None.all c.search.invariant.state c.in_ok-all-in-None.ensures.found passed c.if-not-all.false c.pop.new.self.items c.in-Some-pop.frame c.in-Some-pop.frame.parent c.behind-next.result c.in-Some-pop.ensures.items refl c.behind-next.ensures;
       met = c.in_ok-all-in-None.ensures.met;
+      placed = λ one. placed-up w c.args.label c.search.path.items c.pop.new.self.items c.in-Some-pop.frame c.search.here c.search.met c.add_event.new.met (c.search.invariant.placed one) c.in-Some-pop.ensures.items c.in_ok-all-in-None.ensures.placed;
       ranked = ranked-up w (rank_in w c.args.term.now) c.search.path.items c.pop.new.self.items c.in-Some-pop.frame c.search.here c.in-Some-pop.frame.parent c.search.invariant.ranked c.in-Some-pop.ensures.items refl;
     }
 
 pub add_event-requires-clause-linked : goal.add_event-requires-clause-linked
 add_event-requires-clause-linked c = linked_searched c.args.nets.now.tables c.args.label c.args.term.now c.search.found.terms c.search.path.items c.search.here c.search.next c.search.invariant.state.searched
+
+pub next_child-requires-clause-placed : goal.next_child-requires-clause-placed
+next_child-requires-clause-placed c = λ one. (c.search.invariant.placed one).here

@@ -1,5 +1,0 @@
-use Rattle.std.proofs.Common.{All, take, ◌≢◌}
-use Rattle.event_log.proofs.reader.line_feed.Given as goal
-
-abbrev pub invariant-loop-i : goal.invariant-loop-i
-invariant-loop-i l = All (λ b. b ≢ 10) (take l.i l.bytes)
