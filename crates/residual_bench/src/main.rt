@@ -2,8 +2,6 @@
 //! that `bench/residuals.py` measures.
 #![tactic(auto)]
 
-#[cfg(test)]
-mod alike;
 mod charts;
 mod fault;
 mod logs;
