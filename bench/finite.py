@@ -14,7 +14,6 @@ counts; what is printed has to be what is wanted. The works, all of them where n
     documents   documents of 1, 2 and 4 MiB with inline expressions within each other, in statements and in columns: check; behind
                 the time stands how much longer it took than for the document before, which has half the bytes
 """
-import argparse
 import os
 import sys
 import tempfile
@@ -135,14 +134,9 @@ WORKS = {work.__name__: work for work in (choices, coregion, large, exceptions, 
 
 
 def main():
-    words = argparse.ArgumentParser(description=__doc__.splitlines()[0])
-    words.add_argument("--program", required=True)
-    words.add_argument("works", nargs="*", metavar="WORK")
-    given = words.parse_args()
-    if not set(given.works) <= set(WORKS):
-        words.error("the works are " + " ".join(WORKS))
-    times = {"program": os.path.abspath(given.program), "good": True}
-    for name in given.works or WORKS:
+    program, asked = measured.asked(__doc__.splitlines()[0], WORKS)
+    times = {"program": program, "good": True}
+    for name in asked:
         WORKS[name](times)
     print("load of the machine in the last minute: %.1f, processors: %d" % (os.getloadavg()[0], os.cpu_count()))
     return 0 if times["good"] else 1

@@ -41,6 +41,19 @@ def run(words, folder):
     return Run(json.loads(told.stdout))
 
 
+def asked(description, known):
+    """The program and the works that the words ask for: all that are known, where none is named."""
+    # here alone, so that the process that measures stays small
+    import argparse
+    words = argparse.ArgumentParser(description=description)
+    words.add_argument("--program", required=True)
+    words.add_argument("works", nargs="*", metavar="WORK")
+    given = words.parse_args()
+    if not set(given.works) <= set(known):
+        words.error("the works are " + " ".join(known))
+    return os.path.abspath(given.program), given.works or list(known)
+
+
 def main():
     start = time.monotonic()
     done = subprocess.run(sys.argv[1:], stdout=subprocess.PIPE, stderr=subprocess.STDOUT, check=False)

@@ -18,7 +18,6 @@ them where none is named:
     coregion      ten equal actions in a coregion: 1,000 logs, each by a run of its own
     document      4,000 charts of about 1,000 bytes, 4 MB together: check
 """
-import argparse
 import os
 import sys
 import tempfile
@@ -99,27 +98,22 @@ WORKS = {work.__name__: work for work in (same, few, different, statements, alte
 
 
 def main():
-    words = argparse.ArgumentParser(description=__doc__.splitlines()[0])
-    words.add_argument("--program", required=True)
-    words.add_argument("works", nargs="*", metavar="WORK")
-    given = words.parse_args()
-    if not set(given.works) <= set(WORKS):
-        words.error("the works are " + " ".join(WORKS))
-    program, wrong = os.path.abspath(given.program), []
+    program, asked = measured.asked(__doc__.splitlines()[0], WORKS)
+    wrong = []
 
-    def measure(name, chart, log, asked, wanted, started=list):
+    def measure(name, chart, log, words, wanted, started=list):
         with tempfile.TemporaryDirectory() as folder:
             for file, text in (("d", chart), ("l", log)):
                 with open(os.path.join(folder, file), "w", encoding="ascii") as out:
                     out.write(text)
-            runs = [measured.run(started([program, *asked.split()]), folder) for _ in range(3)]
+            runs = [measured.run(started([program, *words.split()]), folder) for _ in range(3)]
         printed = runs[0].printed.decode().strip()
         if printed != wanted:
             wrong.append(name)
-        print(f"{name}: {asked}, document {len(chart):,} bytes, log {len(log):,} bytes, {min(run.processor for run in runs):.3f} s of a processor, "
+        print(f"{name}: {words}, document {len(chart):,} bytes, log {len(log):,} bytes, {min(run.processor for run in runs):.3f} s of a processor, "
               f"peak {max(run.peak for run in runs):.0f} MiB; {printed}{'' if printed == wanted else '; WANTED ' + wanted}", flush=True)
 
-    for name in given.works or WORKS:
+    for name in asked:
         WORKS[name](measure)
     print("load of the machine in the last minute: %.1f, processors: %d" % (os.getloadavg()[0], os.cpu_count()))
     return 1 if wrong else 0
