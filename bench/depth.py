@@ -4,8 +4,9 @@
 usage: depth.py PROGRAM
 
 PROGRAM is the built program of crates/residual_bench. Its charts have so many choices, each within the one before it; a choice adds
-two to a term's depth, and has a tied message beside the choices within it. For the works with -tied the message stands behind those
-choices and the tie above both, so a choice adds three. The stack is what the shell's `ulimit -s` gives. For each work the most
+two to a term's depth, and has a tied message beside the choices within it: behind them, or for the works with -last in front of them,
+as exceptions stand. For the works with -tied the message stands behind those choices and the tie above both, so a choice adds three.
+The stack is what the shell's `ulimit -s` gives. For each work the most
 choices are found, to one in a hundred, with which the program doesn't crash, and what of the stack one of them takes. The works:
 
     held      the term is made and dropped
@@ -19,7 +20,7 @@ import subprocess
 import sys
 
 WORKS = ["held", "nested", "passed", "entered", "compared"]
-DEPTHS = {"": 2, "-tied": 3}
+DEPTHS = {"": 2, "-last": 2, "-tied": 3}
 MOST = 1_000_000
 
 

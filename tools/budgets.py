@@ -9,7 +9,7 @@ import re
 import sys
 
 FUNCTIONS, LINES, CHAIN, EDITS, ALL_EDITS, TESTS = 100, 800, 12, 8, 90, 40
-TEST_CRATES = ("text_tests", "calculus_tests", "command_tests")
+TEST_CRATES = ("text_tests", "calculus_tests", "command_tests", "residual_bench")
 # Neither of these two knows of the other (docs/ARCHITECTURE.md, what holds everywhere).
 CALCULUS = ("hmsc_graph", "chart_term", "term_tables", "term_laws", "term_permission", "permit_step")
 TEXT = ("msc_tokens", "token_grammar", "msc_events", "msc_expression", "msc_document", "msc_print")

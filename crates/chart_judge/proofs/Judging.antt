@@ -7,8 +7,8 @@ use Rattle.event_log.specs.declared.event.LogForm.{LogForm}
 use Rattle.chart_term.specs.Terms.{Tree}
 use Rattle.term_tables.specs.NetValues.{NetsValue}
 use Rattle.trace_judge.specs.Judged.{fault_in, IsJudged}
-use Rattle.trace_judge.specs.Sets.{SetValue}
-use Rattle.trace_judge.specs.contracts.residuals.ResidualsStore.TheImpl.{holds-value}
+use Rattle.residual_pool.specs.Memories.{PoolValue}
+use Rattle.residual_pool.specs.contracts.pool.PoolStore.TheImpl.{holds-value}
 use Rattle.trace_judge.specs.States.{JudgeValue, Fed, IsGoing, Stands}
 use Rattle.trace_judge.specs.declared.fault.JudgeFault.{JudgeFault}
 use Rattle.msc_acceptance.specs.AcceptedCharts.{IsAcceptedChart}
@@ -24,11 +24,11 @@ reading form bytes n s None false e f h = h
 reading form bytes n s None true e f h = cc
 reading form bytes n s (Some x) finished e f h = cc
 
-going : (v : NetsValue) (x : Tree) (form : LogForm) (budget : ℕ) (bytes : List ℕ) (judge : JudgeValue SetValue) (fault : Option JudgeFault) → fault ≡ None → Stands holds-value.it fault v x form budget bytes judge → IsGoing holds-value.it v x form budget bytes judge
+going : (v : NetsValue) (x : Tree) (form : LogForm) (budget : ℕ) (bytes : List ℕ) (judge : JudgeValue PoolValue) (fault : Option JudgeFault) → fault ≡ None → Stands holds-value.it fault v x form budget bytes judge → IsGoing holds-value.it v x form budget bytes judge
 going v x form budget bytes judge None e h = h
 going v x form budget bytes judge (Some fault) e h = cc
 
-counted : (v : NetsValue) (x : Tree) (form : LogForm) (budget : ℕ) (bytes : List ℕ) (judge : JudgeValue SetValue) → Fed holds-value.it v x form budget bytes judge → judge.fault ≡ None → HasCounted bytes judge
+counted : (v : NetsValue) (x : Tree) (form : LogForm) (budget : ℕ) (bytes : List ℕ) (judge : JudgeValue PoolValue) → Fed holds-value.it v x form budget bytes judge → judge.fault ≡ None → HasCounted bytes judge
 counted v x form budget bytes judge fed faultless =
     let g = going v x form budget bytes judge judge.fault faultless fed in
     let has = g.takes.has in
@@ -37,7 +37,7 @@ counted v x form budget bytes judge fed faultless =
 
 -- ---- a judge of a chart
 
-pub judging : (chart : ChartEntry) (form : LogForm) (budget : ℕ) (v : NetsValue) (x : Tree) (judge : JudgeValue SetValue) → IsAcceptedChart chart → IsTermOf chart v x → Fed holds-value.it v x form budget [] judge → judge.fault ≡ None
+pub judging : (chart : ChartEntry) (form : LogForm) (budget : ℕ) (v : NetsValue) (x : Tree) (judge : JudgeValue PoolValue) → IsAcceptedChart chart → IsTermOf chart v x → Fed holds-value.it v x form budget [] judge → judge.fault ≡ None
     → IsJudging chart form budget [] judge
 judging chart form budget v x judge accepted made fed faultless = record {
   accepted = accepted;
@@ -50,7 +50,7 @@ judging chart form budget v x judge accepted made fed faultless = record {
 }
 
 -- it takes a piece
-pub fed_more : {T : Type 0} (chart : ChartEntry) (form : LogForm) (budget : ℕ) (bytes piece : List ℕ) (old new : JudgeValue SetValue) (result : Result T JudgeFault) → fault_in result ≡ new.fault
+pub fed_more : {T : Type 0} (chart : ChartEntry) (form : LogForm) (budget : ℕ) (bytes piece : List ℕ) (old new : JudgeValue PoolValue) (result : Result T JudgeFault) → fault_in result ≡ new.fault
     → ((v : NetsValue) (x : Tree) (form : LogForm) (budget : ℕ) (bytes : List ℕ) → Fed holds-value.it v x form budget bytes old → Fed holds-value.it v x form budget (bytes ++ piece) new) → IsJudging chart form budget bytes old
     → OnOk result (IsJudging chart form budget (bytes ++ piece) new)
 fed_more chart form budget bytes piece old new (Ok t) fault goes j =
@@ -60,7 +60,7 @@ fed_more chart form budget bytes piece old new (Ok t) fault goes j =
 fed_more chart form budget bytes piece old new (Err e) fault goes j = tt
 
 -- it ends
-pub told_verdict : VerdictsAreTold → {E : Type 0} (chart : ChartEntry) (form : LogForm) (budget : ℕ) (bytes : List ℕ) (judge : JudgeValue SetValue) (result : Result Verdict E)
+pub told_verdict : VerdictsAreTold → {E : Type 0} (chart : ChartEntry) (form : LogForm) (budget : ℕ) (bytes : List ℕ) (judge : JudgeValue PoolValue) (result : Result Verdict E)
     → ((v : NetsValue) (x : Tree) (form : LogForm) (budget : ℕ) (bytes : List ℕ) → Fed holds-value.it v x form budget bytes judge → IfOk result (IsJudged v x form budget bytes)) → IsJudging chart form budget bytes judge
     → IfOk result (IsVerdictOn chart form budget bytes)
 told_verdict told chart form budget bytes judge (Ok verdict) ends j =

@@ -9,19 +9,19 @@ use Rattle.event_log.specs.States.{IsFaultOf}
 use Rattle.event_log.specs.declared.event.LogForm.{LogForm}
 use Rattle.chart_term.specs.Terms.{Tree}
 use Rattle.term_tables.specs.NetValues.{NetsValue}
-use Rattle.trace_judge.specs.contracts.residuals.ResidualsStore.TheImpl.{holds-value}
-use Rattle.trace_judge.specs.Sets.{SetValue}
+use Rattle.residual_pool.specs.contracts.pool.PoolStore.TheImpl.{holds-value}
+use Rattle.residual_pool.specs.Memories.{PoolValue}
 use Rattle.trace_judge.specs.States.{JudgeValue, Fed}
 use Rattle.chart_judge.specs.ChartTerms.{IsTermOf}
 use Rattle.chart_judge.specs.ChartVerdicts.{IsVerdict}
 
 -- so many bytes were fed, and no more than a log may have
-pub record HasCounted (bytes : List ℕ) (judge : JudgeValue SetValue) : Type 0 where
+pub record HasCounted (bytes : List ℕ) (judge : JudgeValue PoolValue) : Type 0 where
   pub count : judge.reader.count ≡ length bytes
   pub within : judge.reader.count ≤ LOG_BYTES
 
 -- the judge was made for the chart, this form of log and this budget, has been fed these bytes, and met no fault
-pub record IsJudging (chart : ChartEntry) (form : LogForm) (budget : ℕ) (bytes : List ℕ) (judge : JudgeValue SetValue) : Type 0 where
+pub record IsJudging (chart : ChartEntry) (form : LogForm) (budget : ℕ) (bytes : List ℕ) (judge : JudgeValue PoolValue) : Type 0 where
   pub accepted : IsAcceptedChart chart
   pub tables : NetsValue
   pub term : Tree

@@ -14,23 +14,24 @@ use crate::term::term_of;
 use event_log::LogForm;
 use msc_base::{NoMemory, Verdict};
 use msc_meaning::ChartEntry;
+use residual_pool::Pool;
 use std::alloc::Global;
 use std::marker::Model;
-use trace_judge::{Judge, JudgeFault, Residuals};
+use trace_judge::{Judge, JudgeFault};
 
 /// Judges a log, which it is fed in pieces, by a chart.
 #[derive(Drop)]
 pub struct ChartJudge {
-    judge: Judge<Residuals>,
+    judge: Judge<Pool>,
 }
 
 impl Model for ChartJudge {
     ghost use Rattle.std.specs.Coded.{codes};
     ghost use Rattle.chart_term.specs.Codes.{coded_tree};
-    ghost use Rattle.trace_judge.specs.Sets.{SetValue};
+    ghost use Rattle.residual_pool.specs.Memories.{PoolValue};
     ghost use Rattle.trace_judge.specs.States.{JudgeValue};
 
-    ghost Value = { JudgeValue SetValue };
+    ghost Value = { JudgeValue PoolValue };
 
     ghost coded = { Prim.hlevel (codes, coded_tree) };
 

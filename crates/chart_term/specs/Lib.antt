@@ -1,4 +1,5 @@
 pub mod Codes
+pub mod Comparisons
 pub mod Equality
 pub mod Facts
 pub mod Falls
@@ -13,6 +14,7 @@ pub mod PartLists
 pub mod Properties
 pub mod Rows
 pub mod Sizes
+pub mod Soughts
 pub mod Spreads
 pub mod Tables
 pub mod TermMeanings

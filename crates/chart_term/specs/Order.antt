@@ -6,7 +6,7 @@ use Rattle.std.specs.declared.cmp.Ordering.{Ordering}
 use Rattle.std.specs.declared.cmp.Ordering.TheVariants.{Less, Equal, Greater}
 use Rattle.bit_sets.specs.Blocks.{set_cmp}
 use Rattle.msc_base.specs.Patterns.{seq, par}
-use Rattle.hmsc_graph.specs.Graphs.{Spot, Start, At, Goal, To, End, Any}
+pub use Rattle.hmsc_graph.specs.Spots.{spot_cmp, goal_cmp}
 pub use Rattle.node_facts.specs.PlainOrder.{maybe_cmp, pair_cmp, pairs_cmp}
 use Rattle.chart_term.specs.Terms.{TermEvent, Tree, Nil, Event, Join, Choice, Tied, Loop, Walk, Trees, none, more, Row, ends, gap, turn, Part, Gap, Turn}
 
@@ -25,26 +25,7 @@ rank (Walk n s t c) = 7
 abbrev pub event_cmp : TermEvent → TermEvent → Ordering
 event_cmp e f = ordering_then (nat_cmp e.number f.number) (ordering_then (nat_cmp e.at f.at) (ordering_then (maybe_cmp e.also f.also) (nat_cmp e.label f.label)))
 
--- the start first
-abbrev pub spot_cmp : Spot → Spot → Ordering
-spot_cmp Start Start = Equal
-spot_cmp Start (At n) = Less
-spot_cmp (At m) Start = Greater
-spot_cmp (At m) (At n) = nat_cmp m n
-
--- nodes first, then an end, then anywhere
-abbrev pub goal_cmp : Goal → Goal → Ordering
-goal_cmp (To m) (To n) = nat_cmp m n
-goal_cmp (To m) End = Less
-goal_cmp (To m) Any = Less
-goal_cmp End (To n) = Greater
-goal_cmp End End = Equal
-goal_cmp End Any = Less
-goal_cmp Any (To n) = Greater
-goal_cmp Any End = Greater
-goal_cmp Any Any = Equal
-
--- by constructor, then by the parts in their order
+-- by constructor, then by the parts in their order; the pairs of a tie come before the term below it
 abbrev mutual
   pub tree_cmp : Tree → Tree → Ordering
   tree_cmp Nil Nil = Equal
@@ -52,7 +33,7 @@ abbrev mutual
   tree_cmp (Join seq xs) (Join seq ys) = trees_cmp xs ys
   tree_cmp (Join par xs) (Join par ys) = trees_cmp xs ys
   tree_cmp (Choice xs) (Choice ys) = trees_cmp xs ys
-  tree_cmp (Tied x q) (Tied y r) = ordering_then (tree_cmp x y) (pairs_cmp q r)
+  tree_cmp (Tied x q) (Tied y r) = ordering_then (pairs_cmp q r) (tree_cmp x y)
   tree_cmp (Loop x lo hi r) (Loop y low high s) = ordering_then (tree_cmp x y) (ordering_then (nat_cmp lo low) (ordering_then (maybe_cmp hi high) (row_cmp r s)))
   tree_cmp (Walk n s t c) (Walk m u v d) = ordering_then (nat_cmp n m) (ordering_then (spot_cmp s u) (ordering_then (goal_cmp t v) (set_cmp c d)))
   tree_cmp x y = nat_cmp (rank x) (rank y)

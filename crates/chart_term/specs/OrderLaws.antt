@@ -213,7 +213,7 @@ abbrev mutual
   tree_key (Join seq a0) = Both (Num 2) (trees_key a0)
   tree_key (Join par a0) = Both (Num 3) (trees_key a0)
   tree_key (Choice a0) = Both (Num 4) (trees_key a0)
-  tree_key (Tied a0 a1) = Both (Num 5) (Both (tree_key a0) (pairs_key a1))
+  tree_key (Tied a0 a1) = Both (Num 5) (Both (pairs_key a1) (tree_key a0))
   tree_key (Loop a0 a1 a2 a3) = Both (Num 6) (Both (tree_key a0) (Both (Num a1) (Both (maybe_key a2) (row_key a3))))
   tree_key (Walk a0 a1 a2 a3) = Both (Num 7) (Both (Num a0) (Both (spot_key a1) (Both (goal_key a2) (set_key a3))))
 
@@ -273,7 +273,7 @@ mutual
   tree_by_key (Tied a0 a1) (Join seq b0) = refl
   tree_by_key (Tied a0 a1) (Join par b0) = refl
   tree_by_key (Tied a0 a1) (Choice b0) = refl
-  tree_by_key (Tied a0 a1) (Tied b0 b1) = ap₂ ordering_then (tree_by_key a0 b0) (pairs_by_key a1 b1)
+  tree_by_key (Tied a0 a1) (Tied b0 b1) = ap₂ ordering_then (pairs_by_key a1 b1) (tree_by_key a0 b0)
   tree_by_key (Tied a0 a1) (Loop b0 b1 b2 b3) = refl
   tree_by_key (Tied a0 a1) (Walk b0 b1 b2 b3) = refl
   tree_by_key (Loop a0 a1 a2 a3) Nil = refl
@@ -357,7 +357,7 @@ mutual
   tree_equal (Tied a0 a1) (Join seq b0) h = cc
   tree_equal (Tied a0 a1) (Join par b0) h = cc
   tree_equal (Tied a0 a1) (Choice b0) h = cc
-  tree_equal (Tied a0 a1) (Tied b0 b1) h = let (p0, q0) = both_equal (tree_cmp a0 b0) (pairs_cmp a1 b1) h in λ k. Tied (tree_equal a0 b0 p0 k) (pairs_equal a1 b1 q0 k)
+  tree_equal (Tied a0 a1) (Tied b0 b1) h = let (p0, q0) = both_equal (pairs_cmp a1 b1) (tree_cmp a0 b0) h in λ k. Tied (tree_equal a0 b0 q0 k) (pairs_equal a1 b1 p0 k)
   tree_equal (Tied a0 a1) (Loop b0 b1 b2 b3) h = cc
   tree_equal (Tied a0 a1) (Walk b0 b1 b2 b3) h = cc
   tree_equal (Loop a0 a1 a2 a3) Nil h = cc

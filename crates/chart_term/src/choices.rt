@@ -53,14 +53,10 @@ fn form_of(alloc: Global, parts: TermList) -> Result<Term, NoMemory>
     requires { 0 < length parts }
     ensures { IfOk result (λ term. choice_form parts ≡ Some term) }
 {
-    let mut parts = parts;
     if parts.len() > 1 {
-        return Term::choice_of(alloc, PartList::from_terms(alloc, parts)?);
+        return Term::choice_of(alloc, PartList::from_terms(alloc, &parts)?);
     }
-    match parts.pop() {
-        Some(only) => Ok(only),
-        None => Term::nil(alloc),
-    }
+    parts.at(0).copy(alloc)
 }
 
 /// The choice of the parts in normal form: parts that are choices are opened, and a part equal to

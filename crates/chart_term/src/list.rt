@@ -1,6 +1,6 @@
 //! Lists of terms, as charts are built from them and sets of terms kept in them.
 
-ghost use Rattle.std.specs.Prelude.{◌≡◌, ◌++◌, ◌∷◌, ◌<◌, [], length, slice_get, OnOk, OnErr, Some, MatchOption};
+ghost use Rattle.std.specs.Prelude.{◌≡◌, ◌++◌, ◌∷◌, ◌<◌, [], length, slice_get, OnOk, OnErr, Some};
 
 use crate::Term;
 use msc_base::NoMemory;
@@ -65,12 +65,5 @@ impl TermList {
         ensures { result.now ≡ self.now }
     {
         self.items.as_slice()
-    }
-
-    /// Takes the last item off, if there is one.
-    pub(crate) fn pop(&mut self) -> Option<Term>
-        ensures { MatchOption result (self.old ≡ []) (λ last. self.old ≡ self.new ++ last ∷ []) }
-    {
-        self.items.pop()
     }
 }

@@ -7,6 +7,7 @@ mod event;
 mod json_line;
 mod line;
 mod line_memory;
+mod line_slots;
 mod object;
 mod reader;
 mod text_line;

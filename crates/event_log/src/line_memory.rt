@@ -1,16 +1,14 @@
 //! Reads lines, and remembers what they say: for `reader`. A line that is known costs one look-up.
 
-ghost use Rattle.std.specs.Prelude.{◌≡◌, ◌<◌, ◌≤◌, ◌+◌, ◌^◌, IfOk, IfSome, OnOk, OnErr, IsTrue, length};
+ghost use Rattle.std.specs.Prelude.{◌≡◌, ◌<◌, ◌≤◌, ◌+◌, ◌^◌, IfOk, IfSome, IsTrue, length};
 ghost use Rattle.event_log.specs.Meanings.{Says};
 ghost use Rattle.event_log.specs.Memories.{SaysBehind, AreKnown, line_bytes};
-ghost use Rattle.event_log.specs.declared.event.LogForm.{LogForm};
-ghost use Rattle.event_log.specs.declared.event.Version.{Version};
 ghost use Rattle.event_log.specs.declared.event.Version.TheVariants.{First};
 ghost use Rattle.event_log.specs.declared.line_memory.TheConstants.LineMemory.{LINES, BYTES};
 
 use crate::line::{Line, read_line};
+use crate::line_slots::{LineSlots, code_of};
 use crate::{LogForm, Version};
-use indexmap::IndexMap;
 use msc_base::NoMemory;
 use std::alloc::Global;
 use std::marker::Model;
@@ -21,6 +19,25 @@ pub struct LineSort {
     pub version: Version,
 }
 
+/// A line that is remembered, with what it says.
+#[derive(Drop)]
+pub struct KnownLine {
+    bytes: Vec<u8>,
+    says: Line,
+}
+
+impl KnownLine {
+    /// The line with what it says.
+    fn new(alloc: Global, bytes: &[u8], says: &Line) -> Result<KnownLine, NoMemory>
+        ensures bytes { IfOk result (λ line. line.bytes.items ≡ bytes.now) }
+        ensures says { IfOk result (λ line. line.says ≡ says.now) }
+    {
+        let bytes = Vec::from_slice(alloc, bytes)?;
+        let says = says.copy()?;
+        Ok(KnownLine { bytes, says })
+    }
+}
+
 /// Lines of a log of one form and version, with what each says wherever it stands behind the first.
 ///
 /// A contract sees the form and the version alone, since a line says the same whether it is known or not.
@@ -28,10 +45,13 @@ pub struct LineSort {
 pub struct LineMemory {
     form: LogForm,
     version: Version,
-    known: IndexMap<Vec<u8>, Line>,
+    /// In the order in which they came.
+    known: Vec<KnownLine>,
+    /// Where a line stands, if it is known. A look-up follows it to one line at most, so that no log makes look-ups slow.
+    slots: LineSlots,
     /// The known lines have no more bytes than this.
     bytes: usize,
-    /// How many lines in a row weren't known since the table was full.
+    /// How many lines weren't remembered since a line was known.
     unknown: usize,
 }
 
@@ -45,7 +65,7 @@ impl Model for LineMemory {
 
     ghost view = { λ m. record { form = m.form; version = m.version } };
 
-    ghost invariant = { λ m. AreKnown m.form m.version m.known.entries × (length m.known.entries ≤ LINES) × (line_bytes m.known.entries ≤ m.bytes) × (m.bytes ≤ BYTES) };
+    ghost invariant = { λ m. AreKnown m.form m.version m.known.items × (length m.known.items ≤ LINES) × (line_bytes m.known.items ≤ m.bytes) × (m.bytes ≤ BYTES) };
 }
 
 /// Whether there is room for one line more, of this length.
@@ -54,25 +74,6 @@ fn has_room(lines: usize, bytes: usize, length: usize) -> bool
     ensures { IsTrue result → (lines < LINES) × (bytes + length ≤ BYTES) }
 {
     lines < LineMemory::LINES && length <= LineMemory::BYTES - bytes
-}
-
-/// Adds the line. For want of memory the lines are as they were.
-fn add(
-    alloc: Global,
-    known: &mut IndexMap<Vec<u8>, Line>,
-    bytes: &[u8],
-    line: &Line,
-) -> Result<(), NoMemory>
-    ensures known { (form : LogForm) (version : Version) → SaysBehind form version bytes.now line.now → AreKnown form version known.old.entries
-        → OnOk result (AreKnown form version known.new.entries) }
-    ensures lines { OnOk result (length known.new.entries ≤ length known.old.entries + 1) }
-    ensures bytes { OnOk result (line_bytes known.new.entries ≤ line_bytes known.old.entries + length bytes.now) }
-    ensures err { OnErr result (known.new.entries ≡ known.old.entries) }
-{
-    let bytes = Vec::from_slice(alloc, bytes)?;
-    let line = line.copy()?;
-    known.insert(bytes, line)?;
-    Ok(())
 }
 
 impl LineMemory {
@@ -88,7 +89,8 @@ impl LineMemory {
         LineMemory {
             form,
             version: Version::First,
-            known: IndexMap::new(alloc),
+            known: Vec::new(alloc),
+            slots: LineSlots::new(alloc),
             bytes: 0,
             unknown: 0,
         }
@@ -99,46 +101,48 @@ impl LineMemory {
         ensures { self.new ≡ record self.old { version = version } }
     {
         self.known.clear();
+        self.slots.clear();
         self.bytes = 0;
         self.unknown = 0;
         self.version = version;
     }
 
-    /// What the line says behind the first, if it is known.
-    fn find(&self, bytes: &[u8]) -> Option<&Line>
+    /// Whether the line of this number is looked up, and remembered where it isn't known. The first isn't, as it may state a version;
+    /// and none is behind as many that weren't remembered, with no known one among them, as the full table has.
+    fn looks_up(&self, number: u64) -> bool
+        ensures { IsTrue result → 1 < number }
+    {
+        number > 1 && self.unknown < LineMemory::LINES
+    }
+
+    /// What the line with this code says behind the first, if it is known.
+    fn find(&self, code: u32, bytes: &[u8]) -> Option<&Line>
         ensures { IfSome result (λ line. SaysBehind self.now.form self.now.version bytes.now line.now) }
     {
-        self.known.get(bytes)
+        let place = self.slots.guess(code)?;
+        let line = self.known.get(place)?;
+        if line.bytes.as_slice() == bytes {
+            Some(&line.says)
+        } else {
+            None
+        }
     }
 
-    /// Remembers what the line of this number says, where there is room and memory. The first line may state a version, so that it isn't
-    /// remembered.
-    fn remember(&mut self, alloc: Global, number: u64, bytes: &[u8], line: &Line)
-        requires { Says self.old.form self.old.version number bytes.now line.now }
+    /// Remembers what the line with this code says, if there is room, a slot and memory.
+    fn remember(&mut self, alloc: Global, code: u32, bytes: &[u8], line: &Line) -> Option<()>
+        requires { SaysBehind self.old.form self.old.version bytes.now line.now }
         ensures { self.new ≡ self.old }
     {
-        if number < 2 {
-            return;
-        }
         if !has_room(self.known.len(), self.bytes, bytes.len()) {
-            self.unknown = self.unknown.saturating_add(1);
-            return;
-        }
-        if let Ok(()) = add(alloc, &mut self.known, bytes, line) {
-            self.bytes += bytes.len();
-        }
-    }
-
-    /// What the line of this number says, if it is known. The first isn't looked up, and none is after as many unknown ones in a row as
-    /// the full table has.
-    #[tactic(auto, using(crate::proofs::Remembering::known_there))]
-    fn look_up(&self, number: u64, bytes: &[u8]) -> Option<&Line>
-        ensures { IfSome result (λ line. Says self.now.form self.now.version number bytes.now line.now) }
-    {
-        if number <= 1 || self.unknown >= LineMemory::LINES {
             return None;
         }
-        self.find(bytes)
+        let place = self.known.len();
+        let slot = self.slots.free_slot(alloc, code, place)?;
+        let line = KnownLine::new(alloc, bytes, line).ok()?;
+        self.known.push(line).ok()?;
+        self.slots.fill(slot, code, place as u32);
+        self.bytes += bytes.len();
+        Some(())
     }
 
     /// What the line of this number says.
@@ -147,13 +151,19 @@ impl LineMemory {
         ensures says { IfOk result (λ line. Says self.old.form self.old.version number bytes.now line) }
         ensures same { self.new ≡ self.old }
     {
-        if let Some(line) = self.look_up(number, bytes) {
+        if !self.looks_up(number) {
+            return read_line(alloc, self.form, self.version, number, bytes);
+        }
+        let code = code_of(bytes);
+        if let Some(line) = self.find(code, bytes) {
             let known = line.copy()?;
             self.unknown = 0;
             return Ok(known);
         }
         let line = read_line(alloc, self.form, self.version, number, bytes)?;
-        self.remember(alloc, number, bytes, &line);
+        if self.remember(alloc, code, bytes, &line).is_none() {
+            self.unknown = self.unknown.saturating_add(1);
+        }
         Ok(line)
     }
 }

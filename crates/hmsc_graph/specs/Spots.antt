@@ -1,5 +1,8 @@
--- Where walks begin and lead, as walks are defined.
+-- Where walks begin and lead, as walks are defined, and their order.
+use Rattle.std.specs.Ordering.{nat_cmp}
 use Rattle.std.specs.Prelude.{ℕ, ◌<◌}
+use Rattle.std.specs.declared.cmp.Ordering.{Ordering}
+use Rattle.std.specs.declared.cmp.Ordering.TheVariants.{Less, Equal, Greater}
 use Rattle.hmsc_graph.specs.Graphs.{Spot as SpotOf, Start, At, Goal as GoalOf, To, End as ToEnd, Any as ToAny}
 use Rattle.hmsc_graph.specs.declared.spot.Spot.{Spot}
 use Rattle.hmsc_graph.specs.declared.spot.Spot.TheVariants.{Start as StartSpot, Node as NodeSpot}
@@ -26,3 +29,22 @@ abbrev pub IsGoalBelow : ℕ → Goal → Type 0
 IsGoalBelow size (NodeGoal node) = node < size
 IsGoalBelow size EndGoal = Unit {0}
 IsGoalBelow size AnyGoal = Unit {0}
+
+-- the start first
+abbrev pub spot_cmp : SpotOf → SpotOf → Ordering
+spot_cmp Start Start = Equal
+spot_cmp Start (At n) = Less
+spot_cmp (At m) Start = Greater
+spot_cmp (At m) (At n) = nat_cmp m n
+
+-- nodes first, then an end, then anywhere
+abbrev pub goal_cmp : GoalOf → GoalOf → Ordering
+goal_cmp (To m) (To n) = nat_cmp m n
+goal_cmp (To m) ToEnd = Less
+goal_cmp (To m) ToAny = Less
+goal_cmp ToEnd (To n) = Greater
+goal_cmp ToEnd ToEnd = Equal
+goal_cmp ToEnd ToAny = Less
+goal_cmp ToAny (To n) = Greater
+goal_cmp ToAny ToEnd = Greater
+goal_cmp ToAny ToAny = Equal

@@ -4,14 +4,21 @@ ghost use Rattle.std.specs.Prelude.{◌≡◌, IfOk, IsTrue, ◌↔◌, List, �
 ghost use Rattle.std.specs.Str.{bytes_eq};
 
 use crate::NoMemory;
+use smallvec::SmallVec;
 use std::alloc::Global;
 use std::marker::Model;
+
+/// How many bytes a text holds in itself. Names, marks and reserved words are seldom longer, and so take no block of memory.
+const INLINE: usize = 16;
 
 /// A list of bytes.
 #[derive(Drop)]
 pub struct Text {
-    held: Vec<u8>,
+    held: SmallVec<u8, INLINE>,
 }
+
+/// A document has a text for each of its tokens.
+const _: () = prove!(size_of::<Text>() == 32);
 
 impl Model for Text {
     ghost Value = { List ℕ };
@@ -24,15 +31,17 @@ impl Text {
     pub fn from_bytes(alloc: Global, bytes: &[u8]) -> Result<Text, NoMemory>
         ensures { IfOk result (λ t. t ≡ bytes.now) }
     {
-        let held = Vec::from_slice(alloc, bytes)?;
+        let held = SmallVec::from_slice(alloc, bytes)?;
         Ok(Text { held })
     }
 
-    /// The text that holds these bytes. It takes no memory.
+    /// The text of these bytes. It takes no memory.
     pub fn from_vec(held: Vec<u8>) -> Text
         ensures { result ≡ held.items }
     {
-        Text { held }
+        Text {
+            held: SmallVec::from(held),
+        }
     }
 
     /// The bytes of the text.

@@ -5,7 +5,7 @@ use Rattle.event_log.specs.declared.event.LogFault.{LogFault}
 use Rattle.event_log.specs.declared.event.LogForm.{LogForm}
 use Rattle.msc_meaning.specs.Tables.{ChartEntry}
 use Rattle.trace_judge.specs.Judged.{IsJudgeFault}
-use Rattle.trace_judge.specs.Sets.{SetValue}
+use Rattle.residual_pool.specs.Memories.{PoolValue}
 use Rattle.trace_judge.specs.States.{JudgeValue}
 use Rattle.trace_judge.specs.declared.fault.JudgeFault.TheVariants.{Log}
 use Rattle.chart_judge.specs.Judging.{IsJudging}
@@ -24,7 +24,7 @@ read_fault chart form budget (Some f) name None got x answers h = absurd h
 read_fault chart form budget (Some f) name (Some l) got x answers h = record { bytes = got ++ l; held = h; is = answers l }
 
 -- the log of an entry that has been read to its end
-pub log_end : (chart : ChartEntry) (form : LogForm) (budget : ℕ) (files : Option Files) (name : List ℕ) (judge : JudgeValue SetValue) (judged : Judged) → ((bytes : List ℕ) → IsJudging chart form budget bytes judge → IsJudged chart form budget bytes judged)
+pub log_end : (chart : ChartEntry) (form : LogForm) (budget : ℕ) (files : Option Files) (name : List ℕ) (judge : JudgeValue PoolValue) (judged : Judged) → ((bytes : List ℕ) → IsJudging chart form budget bytes judge → IsJudged chart form budget bytes judged)
     → IsReadingLog chart form budget files name (Some []) judge → IsJudgedLog chart form budget files name judged
 log_end chart form budget files name judge judged ends h = record { bytes = h.bytes; held = held files h.held; is = ends h.bytes h.judging }
   where
@@ -33,7 +33,7 @@ log_end chart form budget files name judge judged ends h = record { bytes = h.by
     held (Some f) k = k ∙ ap (λ (bs : List ℕ). Some bs) (append-nil h.bytes)
 
 -- an entry that has just been started
-pub opened : (chart : ChartEntry) (form : LogForm) (budget : ℕ) (files : Option Files) (name : List ℕ) (rest : Option (List ℕ)) (judge : JudgeValue SetValue) → Opens files name rest → IsJudging chart form budget [] judge
+pub opened : (chart : ChartEntry) (form : LogForm) (budget : ℕ) (files : Option Files) (name : List ℕ) (rest : Option (List ℕ)) (judge : JudgeValue PoolValue) → Opens files name rest → IsJudging chart form budget [] judge
     → IsReadingLog chart form budget files name rest judge
 opened chart form budget files name rest judge opens judging = record { bytes = []; judging = judging; held = held files rest opens }
   where
@@ -43,7 +43,7 @@ opened chart form budget files name rest judge opens judging = record { bytes = 
     held (Some f) (Some r) o = o
 
 -- a piece more has been judged
-pub read_more : (chart : ChartEntry) (form : LogForm) (budget : ℕ) (files : Option Files) (name : List ℕ) (left : Option (List ℕ)) (bytes piece : List ℕ) (before judge : JudgeValue SetValue) → 0 < length piece → IsJudging chart form budget bytes before
+pub read_more : (chart : ChartEntry) (form : LogForm) (budget : ℕ) (files : Option Files) (name : List ℕ) (left : Option (List ℕ)) (bytes piece : List ℕ) (before judge : JudgeValue PoolValue) → 0 < length piece → IsJudging chart form budget bytes before
     → IsJudging chart form budget (bytes ++ piece) judge → HasRead files name left (bytes ++ piece) → IsStep chart form budget files name left before.reader.count judge More
 read_more chart form budget files name left bytes piece before judge some was judging held =
     (omega (arith, was.counted.count, some, judging.counted.count, length-append bytes piece), judging.counted.within, record { bytes = bytes ++ piece; judging = judging; held = held })

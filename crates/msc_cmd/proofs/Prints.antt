@@ -2,7 +2,6 @@
 use Rattle.std.proofs.Common.{◌≡◌, ◌<◌, false, ℕ, List, sym, ap, ◌∙◌, subst, Option, Some, None, Result, Ok, Err, IfOk}
 use Rattle.outside.specs.Shelves.{Files}
 use Rattle.msc_base.specs.declared.place.Place.{Place}
-use Rattle.msc_tokens.specs.declared.token.Token.{Token}
 use Rattle.msc_tree.specs.Charts.{Document as Tree}
 use Rattle.msc_rules.specs.declared.rule.Rule.{Rule}
 use Rattle.msc_print.specs.ChartWords.{canonical_text}
@@ -26,9 +25,9 @@ unread_one files document bytes broken place status text held f s t = record { i
     by other others (printed bs tree h r os ot) = absurd (f.none tree (subst (λ us. ReadsDocument us tree) (one_entry files document bytes bs held h) r))
 
 -- the one outcome where it is a document
-printed_one : (files : Files) (document bytes : List ℕ) (tree : Tree) (tokens : List Token) (status : ℕ) (text : List ℕ) → files document ≡ Some bytes → IsOnlyText bytes tree tokens → status ≡ 0
+printed_one : (files : Files) (document bytes : List ℕ) (tree : Tree) (status : ℕ) (text : List ℕ) → files document ≡ Some bytes → IsOnlyText bytes tree → status ≡ 0
     → text ≡ canonical_text tree → IsTheOne (PrintOutcome files document) status text
-printed_one files document bytes tree tokens status text held d s t = record { is = printed bytes tree held d.is s t; only = λ other others o. by other others o }
+printed_one files document bytes tree status text held d s t = record { is = printed bytes tree held d.is s t; only = λ other others o. by other others o }
   where
     by : (other : ℕ) (others : List ℕ) → PrintOutcome files document other others → (other ≡ status) × (others ≡ text)
     by other others (unread bs b p h n os ot) = absurd (d.faultless b p (subst (λ us. HasTextFault us b p) (one_entry files document bytes bs held h) n))
@@ -45,7 +44,7 @@ unread_told None d bytes broken place (Err e) h o s t = tt
 unread_told (Some f) d bytes broken place (Ok x) h o s t = λ _. unread_one f d bytes broken place x.status x.text h o s t
 unread_told (Some f) d bytes broken place (Err e) h o s t = tt
 
-pub printed_told : (files : Option Files) (d bytes : List ℕ) (tree : Tree) (tokens : List Token) (x : Reply) → IsHeld files d bytes → IsOnlyText bytes tree tokens → x.status ≡ 0 → x.text ≡ canonical_text tree
+pub printed_told : (files : Option Files) (d bytes : List ℕ) (tree : Tree) (x : Reply) → IsHeld files d bytes → IsOnlyText bytes tree → x.status ≡ 0 → x.text ≡ canonical_text tree
     → x.status < 7 → IfTold files (λ f. IsTheOne (PrintOutcome f d) x.status x.text)
-printed_told None d bytes tree tokens x h o s t = λ _. tt
-printed_told (Some f) d bytes tree tokens x h o s t = λ _. printed_one f d bytes tree tokens x.status x.text h o s t
+printed_told None d bytes tree x h o s t = λ _. tt
+printed_told (Some f) d bytes tree x h o s t = λ _. printed_one f d bytes tree x.status x.text h o s t

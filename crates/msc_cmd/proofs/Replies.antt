@@ -20,7 +20,7 @@ use Rattle.msc_cmd.specs.declared.log_reading.Judged.{Judged}
 use Rattle.msc_cmd.specs.declared.log_reading.Judged.TheVariants.{Refused}
 use Rattle.msc_cmd.specs.declared.log_reading.Judged.TheVariants as log
 use Rattle.msc_cmd.specs.Outcomes.{LogOutcome, EntryOutcome, DocumentOutcome, refused, of_charts, ChartOutcome, no_chart, of_chart, Says, CheckAnswer, JudgeAnswer, FilesOutcome, IfTold, IsTheOne, IsOfOutcome, RequestOutcome, IsOutcome, no_request, of_request}
-use Rattle.msc_cmd.specs.Failures.{FailedAt, HasChart, CannotRead, CannotJudge}
+use Rattle.msc_cmd.specs.Failures.{FailedAt, HasChart, CannotRead, CannotJudge, CannotServe}
 use Rattle.msc_cmd.specs.Openings.{IsOpened}
 use Rattle.msc_cmd.specs.declared.opening.Opened.TheVariants.{Told}
 use Rattle.msc_cmd.proofs.LogOutcomes.{one_entry, entry_one, faulty_one}
@@ -162,6 +162,12 @@ unasked_told None words (Ok x) none s t = λ _. tt
 unasked_told None words (Err e) none s t = tt
 unasked_told (Some f) words (Ok x) none s t = λ _. no_request_one words f x.status x.text none s t
 unasked_told (Some f) words (Err e) none s t = tt
+
+-- where the shelf fails at a request that the words are, it fails at the words
+pub asked_failed : {E : Type 0} (files : Option Files) (words : List (List ℕ)) (request : Request) (before now : ℕ) (broken : Bool) (last : Option (List ℕ)) (r : Result Reply E) → request_of words ≡ Some request
+    → IfOk r (λ x. x.status ≡ 7 → CannotServe request files before now broken last x.text) → IfOk r (λ x. x.status ≡ 7 → CannotJudge words files before now broken last x.text)
+asked_failed files words request before now broken last (Ok x) a k = λ e. record { request = request; asked = a; failed = k e }
+asked_failed files words request before now broken last (Err e) a k = tt
 
 -- what is answered to a request is answered to what it is
 pub served : {E : Type 0} (files : Option Files) (asked request : Request) (r : Result Reply E) → asked ≡ request → IfOk r (λ x. x.status < 7 → IfTold files (λ f. IsTheOne (RequestOutcome request f) x.status x.text))

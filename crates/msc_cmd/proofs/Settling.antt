@@ -3,7 +3,6 @@ use Rattle.std.proofs.Common.{◌≡◌, ℕ, List, subst, Result, Ok, Err, IfOk
 use Rattle.msc_base.specs.declared.memory.NoMemory.{NoMemory}
 use Rattle.msc_base.specs.declared.place.Place.{Place}
 use Rattle.outside.specs.Shelves.{Files}
-use Rattle.msc_tokens.specs.declared.token.Token.{Token}
 use Rattle.msc_tree.specs.Charts.{Document as Tree}
 use Rattle.msc_rules.specs.declared.rule.Rule.{Rule}
 use Rattle.msc_acceptance.specs.Acceptance.{HasFault, IsAccepted}
@@ -17,8 +16,8 @@ use Rattle.msc_cmd.specs.Documents.{HasDocumentFault, of_text, of_charts, IsOnly
 use Rattle.msc_cmd.specs.Intakes.{IsTextOf, IsDocumentOf}
 
 -- a text whose document is refused
-only_refused : (bytes : List ℕ) (tree : Tree) (tokens : List Token) (broken : Rule) (place : Place) → IsOnlyText bytes tree tokens → RefusesAlone tree broken place → IsOnlyFault bytes broken place
-only_refused bytes tree tokens broken place t r = record {
+only_refused : (bytes : List ℕ) (tree : Tree) (broken : Rule) (place : Place) → IsOnlyText bytes tree → RefusesAlone tree broken place → IsOnlyFault bytes broken place
+only_refused bytes tree broken place t r = record {
   is = of_charts tree t.is r.is;
   only = λ other there h. by other there h;
   none = λ charts d. r.none charts (subst (λ (u : Tree). IsAccepted u charts) (t.only d.tree d.read) d.accepted);
@@ -29,8 +28,8 @@ only_refused bytes tree tokens broken place t r = record {
     by other there (of_charts u read h) = r.only other there (subst (λ (v : Tree). HasFault v other there) (t.only u read) h)
 
 -- a text whose document is accepted
-only_accepted : (bytes : List ℕ) (tree : Tree) (tokens : List Token) (table : Table) → IsOnlyText bytes tree tokens → AcceptsAlone tree table → IsOnlyDocument bytes table
-only_accepted bytes tree tokens table t a = record {
+only_accepted : (bytes : List ℕ) (tree : Tree) (table : Table) → IsOnlyText bytes tree → AcceptsAlone tree table → IsOnlyDocument bytes table
+only_accepted bytes tree table t a = record {
   is = record { tree = tree; read = t.is; accepted = a.is };
   only = λ others d. a.only others (subst (λ (u : Tree). IsAccepted u others) (t.only d.tree d.read) d.accepted);
   faultless = λ broken place h. by broken place h;
@@ -53,10 +52,10 @@ only_faulty bytes broken place f = record {
     by other there (of_text h) = f.only other there h
     by other there (of_charts u read h) = absurd (f.none u read)
 
-pub settled_read : (bytes : List ℕ) (tree : Tree) (tokens : List Token) (r : Result Document NoMemory) → IfOk r (ComesTo tree) → IsOnlyText bytes tree tokens → IfOk r (IsTheDocument bytes)
-settled_read bytes tree tokens (Ok (Charts charts)) h t = only_accepted bytes tree tokens (table_view charts) t h
-settled_read bytes tree tokens (Ok (Refused broken place)) h t = only_refused bytes tree tokens broken place t h
-settled_read bytes tree tokens (Err e) h t = tt
+pub settled_read : (bytes : List ℕ) (tree : Tree) (r : Result Document NoMemory) → IfOk r (ComesTo tree) → IsOnlyText bytes tree → IfOk r (IsTheDocument bytes)
+settled_read bytes tree (Ok (Charts charts)) h t = only_accepted bytes tree (table_view charts) t h
+settled_read bytes tree (Ok (Refused broken place)) h t = only_refused bytes tree broken place t h
+settled_read bytes tree (Err e) h t = tt
 
 -- what a document that was taken is
 pub document_of : (files : Option Files) (name : List ℕ) (text : DocumentText) (r : Result Document NoMemory) → IsTextOf files name text → ((bytes : List ℕ) → IsTheText bytes text → IfOk r (IsTheDocument bytes)) → IfOk r (IsDocumentOf files name)

@@ -99,13 +99,11 @@ only_misread bytes tokens broken place short spells alone faultless m = record {
 
 -- a text whose tokens are a document
 only_read : (bytes : List ℕ) (tokens : List Token) (document : Document) → length bytes ≤ DOCUMENT_BYTES → Spells bytes tokens → ((others : List Token) → Spells bytes others → others ≡ tokens)
-    → ((fault : LexFault) → HasLexFault bytes fault → ⊥) → ReadsAlone tokens (past first_place bytes) document → IsOnlyText bytes document tokens
+    → ((fault : LexFault) → HasLexFault bytes fault → ⊥) → ReadsAlone tokens (past first_place bytes) document → IsOnlyText bytes document
 only_read bytes tokens document short spells alone faultless r = record {
   is = record { short = short; tokens = tokens; spells = spells; reads = r.reads };
   only = λ other d. r.only other (subst (λ (ts : List Token). (documents NESTING).reads ts other) (alone d.tokens d.spells) d.reads);
   faultless = λ broken place h. by broken place h;
-  spells = spells;
-  alone = alone;
 }
   where
     by : (broken : Rule) (place : Place) → HasTextFault bytes broken place → ⊥
@@ -158,8 +156,7 @@ settled_fault prefix bytes intake fault broken place small has only none b h f =
 
 as_text : (bytes : List ℕ) (tokens : List Token) (text : DocumentText) → length bytes ≤ DOCUMENT_BYTES → Spells bytes tokens → ((others : List Token) → Spells bytes others → others ≡ tokens) → ((fault : LexFault) → HasLexFault bytes fault → ⊥)
     → ParsesAs tokens (past first_place bytes) text → IsTheText bytes text
-as_text bytes tokens (Read document list) short spells alone faultless r =
-    subst (λ (ts : List Token). IsOnlyText bytes (document_view document) ts) (sym r.1) (only_read bytes tokens (document_view document) short spells alone faultless r.0)
+as_text bytes tokens (Read document) short spells alone faultless r = only_read bytes tokens (document_view document) short spells alone faultless r
 as_text bytes tokens (Refused broken place) short spells alone faultless r = only_misread bytes tokens broken place short spells alone faultless r
 
 pub settled_tokens : (prefix bytes : List ℕ) (intake : Intake) (tokens : List Token) (end : Place) (r : Result DocumentText NoMemory) → intake.count ≤ DOCUMENT_BYTES → ((bs : List ℕ) → Fed bs intake.lexer → Spells bs tokens)

@@ -48,13 +48,11 @@ pub data HasTextFault (bytes : List ℕ) (broken : Rule) (place : Place) : Type 
   grammar_fault : length bytes ≤ DOCUMENT_BYTES → (tokens : List Token) → Spells bytes tokens → (fault : ParseFault) → IsFault documents NESTING tokens (past first_place bytes) fault → BreaksGrammar fault broken place
       → HasTextFault bytes broken place
 
--- the bytes are a text of this document and of no other, have these tokens and no others, and no fault
-pub record IsOnlyText (bytes : List ℕ) (document : Document) (tokens : List Token) : Type 0 where
+-- the bytes are a text of this document and of no other, and have no fault
+pub record IsOnlyText (bytes : List ℕ) (document : Document) : Type 0 where
   pub is : ReadsDocument bytes document
   pub only : (other : Document) → ReadsDocument bytes other → other ≡ document
   pub faultless : (broken : Rule) (place : Place) → HasTextFault bytes broken place → ⊥
-  pub spells : Spells bytes tokens
-  pub alone : (others : List Token) → Spells bytes others → others ≡ tokens
 
 -- they break this rule first, at this place, and are no text of a document
 pub record IsOnlyTextFault (bytes : List ℕ) (broken : Rule) (place : Place) : Type 0 where
@@ -63,7 +61,7 @@ pub record IsOnlyTextFault (bytes : List ℕ) (broken : Rule) (place : Place) : 
   pub none : (document : Document) → ReadsDocument bytes document → ⊥
 
 abbrev pub IsTheText : List ℕ → DocumentText → Type 0
-IsTheText bytes (Read document tokens) = IsOnlyText bytes (document_view document) tokens.tokens
+IsTheText bytes (Read document) = IsOnlyText bytes (document_view document)
 IsTheText bytes (Refused broken place) = IsOnlyTextFault bytes broken place
 
 -- ---- tokens
@@ -83,5 +81,5 @@ pub record MisreadsAlone (tokens : List Token) (end : Place) (broken : Rule) (pl
   pub none : (document : Document) → (documents NESTING).reads tokens document → ⊥
 
 abbrev pub ParsesAs : List Token → Place → DocumentText → Type 0
-ParsesAs tokens end (Read document list) = ReadsAlone tokens end (document_view document) × (list.tokens ≡ tokens)
+ParsesAs tokens end (Read document) = ReadsAlone tokens end (document_view document)
 ParsesAs tokens end (Refused broken place) = MisreadsAlone tokens end broken place

@@ -6,7 +6,7 @@ use Rattle.msc_base.specs.declared.limits.TheConstants.Limits.{LOG_BYTES}
 use Rattle.event_log.specs.Faults.{IsFault}
 use Rattle.event_log.specs.States.{IsFaultOf}
 use Rattle.event_log.specs.declared.event.LogForm.{LogForm}
-use Rattle.trace_judge.specs.Sets.{SetValue}
+use Rattle.residual_pool.specs.Memories.{PoolValue}
 use Rattle.trace_judge.specs.States.{JudgeValue}
 use Rattle.msc_meaning.specs.Tables.{ChartEntry}
 use Rattle.chart_judge.specs.Judging.{IsJudging, IsVerdictOn}
@@ -18,7 +18,7 @@ use Rattle.msc_cmd.specs.declared.log_reading.Step.{Step}
 use Rattle.msc_cmd.specs.declared.log_reading.Step.TheVariants.{More, End, Fault}
 
 -- what has been judged and what is left are the entry of this name, where it is told
-pub record IsReadingLog (chart : ChartEntry) (form : LogForm) (budget : ℕ) (files : Option Files) (name : List ℕ) (rest : Option (List ℕ)) (judge : JudgeValue SetValue) : Type 0 where
+pub record IsReadingLog (chart : ChartEntry) (form : LogForm) (budget : ℕ) (files : Option Files) (name : List ℕ) (rest : Option (List ℕ)) (judge : JudgeValue PoolValue) : Type 0 where
   pub bytes : List ℕ
   pub judging : IsJudging chart form budget bytes judge
   pub held : HasRead files name rest bytes
@@ -40,7 +40,7 @@ pub record IsJudgedLog (chart : ChartEntry) (form : LogForm) (budget : ℕ) (fil
   pub is : IsJudged chart form budget bytes judged
 
 -- what comes of one read, before which so many bytes had been taken
-abbrev pub IsStep : ChartEntry → LogForm → ℕ → Option Files → List ℕ → Option (List ℕ) → ℕ → JudgeValue SetValue → Step → Type 0
+abbrev pub IsStep : ChartEntry → LogForm → ℕ → Option Files → List ℕ → Option (List ℕ) → ℕ → JudgeValue PoolValue → Step → Type 0
 IsStep chart form budget files name rest before judge More = (before < judge.reader.count) × (judge.reader.count ≤ LOG_BYTES) × IsReadingLog chart form budget files name rest judge
 IsStep chart form budget files name rest before judge End = IsReadingLog chart form budget files name (Some []) judge
 IsStep chart form budget files name rest before judge (Fault fault) = IsJudgedLog chart form budget files name (Refused fault)

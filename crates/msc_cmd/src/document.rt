@@ -41,7 +41,7 @@ pub fn settle(alloc: Global, text: DocumentText) -> Result<Document, NoMemory>
     ensures { (bytes : List ℕ) → IsTheText bytes text → IfOk result (IsTheDocument bytes) }
 {
     match text {
-        DocumentText::Read(document, _) => come_to(alloc, &document),
+        DocumentText::Read(document) => come_to(alloc, &document),
         DocumentText::Refused(broken, place) => Ok(Document::Refused(broken, place)),
     }
 }

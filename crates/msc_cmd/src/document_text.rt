@@ -16,8 +16,8 @@ use token_grammar::ParseFault;
 /// What the bytes of a document are as a text.
 #[derive(Drop)]
 pub enum DocumentText {
-    /// A text of this document, with these tokens.
-    Read(RawDocument, TokenList),
+    /// A text of this document.
+    Read(RawDocument),
     /// The first rule that the text breaks, and where.
     Refused(Rule, Place),
 }
@@ -47,12 +47,12 @@ fn misread_by(fault: &ParseFault) -> Option<(Rule, Place)>
     }
 }
 
-/// What tokens are by the grammar.
+/// What tokens are by the grammar. The tokens are dropped: they take more memory than the document.
 fn parsed(alloc: Global, tokens: TokenList) -> Result<DocumentText, NoMemory>
     ensures { IfOk result (ParsesAs tokens.tokens tokens.end_place) }
 {
     match parse(alloc, &tokens) {
-        Ok(document) => Ok(DocumentText::Read(document, tokens)),
+        Ok(document) => Ok(DocumentText::Read(document)),
         Err(fault) => match misread_by(&fault) {
             Some((rule, there)) => Ok(DocumentText::Refused(rule, there)),
             None => Err(NoMemory),

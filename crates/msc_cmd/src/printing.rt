@@ -31,7 +31,7 @@ pub fn print_file<S: Shelf>(
         Err(ReadFault::NoMemory) => return Err(NoMemory),
     };
     match read {
-        DocumentText::Read(document, _) => {
+        DocumentText::Read(document) => {
             let text = print_document(alloc, &document)?;
             Ok(Reply { status: 0, text })
         }

@@ -8,7 +8,6 @@ use crate::place::after;
 use crate::{LexFault, Token, TokenKind, TokenList};
 use msc_base::{Items, Limits, NoMemory, Place, Text, is_word_byte};
 use std::alloc::Global;
-use std::mem;
 
 /// Where a text stands between two bytes.
 #[derive(Drop)]
@@ -16,6 +15,7 @@ pub struct Machine {
     alloc: Global,
     mode: Mode,
     start: Place,
+    /// What is open so far. Its memory serves one token after another.
     text: Vec<u8>,
     place: Place,
     tokens: Items<Token>,
@@ -90,7 +90,8 @@ impl Machine {
         ensures ok { OnOk result (view self.new ≡ closed kind (view self.old)) }
         ensures place { self.new.place ≡ self.old.place }
     {
-        let bytes = Text::from_vec(mem::replace(&mut self.text, Vec::new(self.alloc)));
+        let bytes = Text::from_bytes(self.alloc, self.text.as_slice())?;
+        self.text.clear();
         self.tokens.push(Token {
             kind,
             bytes,

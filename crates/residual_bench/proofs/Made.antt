@@ -1,11 +1,12 @@
 -- What the code makes: sound terms whose events stand where their labels do.
 use Rattle.std.specs.Prelude.{ℕ, ◌+◌, ◌≡◌, ◌<◌, List, [], ◌∷◌, ◌++◌, Option, Some, None, length, refl}
 use Rattle.std.proofs.Common.{ap, sym, ◌∙◌, subst}
-use Rattle.msc_base.specs.Patterns.{Mode, seq}
+use Rattle.msc_base.specs.Patterns.{Mode, par, seq}
 use Rattle.msc_base.specs.declared.label.Pair.{Pair}
 use Rattle.term_tables.specs.NetValues.{NetsValue}
 use Rattle.chart_term.specs.NormalForms.{join_all, choice_of, tie_of}
 use Rattle.chart_term.specs.Properties.{Each}
+use Rattle.chart_term.specs.TermMeanings.{UpTo}
 use Rattle.chart_term.specs.Tables.{Tables}
 use Rattle.chart_term.specs.Terms.{Tree, Nil, Event}
 use Rattle.chart_term.specs.Views.{pairs_of}
@@ -19,8 +20,8 @@ use Rattle.term_laws.proofs.SoundForms.{constructors_keep_soundness}
 use Rattle.term_laws.proofs.TidyTables.{each_map}
 use Rattle.trace_judge.specs.Sets.{IsSoundFor}
 use Rattle.residual_bench.specs.Charts.{labels, place, places, IsChart, event, message, answer, with_answer}
-use Rattle.residual_bench.proofs.Placed.{Placed, join_placed, choice_placed, loop_placed, message_placed, exchange_placed}
-use Rattle.residual_bench.proofs.Sound.{Sound, event_sound, first_sound, third_sound, exchange_sound}
+use Rattle.residual_bench.proofs.Placed.{Placed, join_placed, choice_placed, loop_placed, message_placed, exchange_placed, ordered_placed}
+use Rattle.residual_bench.proofs.Sound.{Sound, event_sound, first_sound, third_sound, exchange_sound, ordered_sound}
 
 pub one_pair : (none some : List Pair) (a b : ℕ) (p : Pair) → none ≡ [] → some ≡ none ++ p ∷ [] → p.first ≡ a → p.second ≡ b → pairs_of some ≡ (a, b) ∷ []
 one_pair none some a b p q r s t = ap pairs_of (r ∙ ap (λ l. l ++ p ∷ []) q) ∙ (λ i. (s i, t i) ∷ [])
@@ -44,6 +45,10 @@ tied_three m x y a b c k l n xs p q r s t u v = v ∙ ap (λ z. tie_of z p) (u �
 pub chart_exchange : (x y a b c : Tree) (xs : List Tree) → xs ≡ a ∷ b ∷ c ∷ [] → a ≡ Event (event 0 0 0) → b ≡ Event (event 1 1 1) → c ≡ answer
     → y ≡ join_all seq xs → x ≡ tie_of y ((0, 1) ∷ []) → IsChart x
 chart_exchange x y a b c xs q r s t u v = subst IsChart (sym (tied_three seq x y a b c _ _ _ xs ((0, 1) ∷ []) q r s t u v)) (record { sound = exchange_sound; placed = exchange_placed })
+
+pub chart_ordered : (x y a b c : Tree) (xs : List Tree) → xs ≡ a ∷ b ∷ c ∷ [] → a ≡ Event (event 0 0 6) → b ≡ Event (event 1 0 6) → c ≡ Event (event 2 0 7)
+    → y ≡ join_all par xs → x ≡ tie_of y ((1, 2) ∷ []) → IsChart x
+chart_ordered x y a b c xs q r s t u v = subst IsChart (sym (tied_three par x y a b c _ _ _ xs ((1, 2) ∷ []) q r s t u v)) (record { sound = ordered_sound; placed = ordered_placed })
 
 pub tied_answer : (n : ℕ) (x y z a b : Tree) (xs : List Tree) → xs ≡ z ∷ a ∷ b ∷ [] → a ≡ Event (event n 1 4) → b ≡ Event (event (n + 1) 0 5) → y ≡ join_all seq xs → x ≡ tie_of y ((n, n + 1) ∷ []) → x ≡ with_answer n z
 tied_answer n x y z a b xs q s t u v = tied_three seq x y z a b z _ _ xs ((n, n + 1) ∷ []) q refl s t u v
@@ -94,14 +99,14 @@ ready_tables w q = subst AreReadyTables (sym q) tt
 pub ready_body : (w : Tables) (x : Tree) → w ≡ [] → IsChart x → IsReady w x
 ready_body w x q h = subst (λ (v : Tables). IsReady v x) (sym q) (ready_by_soundness.term labels [] x (record { nets = tt; term = h.sound.sound }))
 
-pub chart_loop : (w : Tables) (x y : Tree) → w ≡ [] → IsChart x → IsFreshLoop w x 1 None y → IsChart y
-chart_loop w x y q h f = record {
-  sound = subst (MustHave Sound) (g.loop tt) (constructors_keep_soundness.loop labels [] x 1 None tt h.sound tt);
-  placed = loop_placed x y (g.loop tt) h.placed;
+pub chart_loop : (w : Tables) (x y : Tree) (hi : Option ℕ) → w ≡ [] → IsChart x → UpTo hi 1 → IsFreshLoop w x 1 hi y → IsChart y
+chart_loop w x y hi q h u f = record {
+  sound = subst (MustHave Sound) (g.loop u) (constructors_keep_soundness.loop labels [] x 1 hi tt h.sound u);
+  placed = loop_placed x y hi (g.loop u) h.placed;
 }
   where
-    g : IsFreshLoop [] x 1 None y
-    g = subst (λ (v : Tables). IsFreshLoop v x 1 None y) q f
+    g : IsFreshLoop [] x 1 hi y
+    g = subst (λ (v : Tables). IsFreshLoop v x 1 hi y) q f
 
 -- over tables of so many labels and no net
 pub sound_here : (v : NetsValue) (x : Tree) (n : ℕ) → v.tables ≡ [] → length v.labels ≡ n → IsSoundNode n [] x → HaveOnePlace [] x → IsSoundFor v x

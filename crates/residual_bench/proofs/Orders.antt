@@ -2,7 +2,7 @@
 use Rattle.std.specs.Prelude.{ℕ, ◌+◌, ◌≤◌, ◌==◌, ◌≡◌, ◌⊎◌, Bool, true, false, cond, [], ◌∷◌, refl}
 use Rattle.std.proofs.Common.{sym, subst, arith, inl, inr}
 use Rattle.std.proofs.lemmas.Bool.Decides.{nat_tests}
-use Rattle.msc_base.specs.Patterns.{seq, empty, one, join, bind}
+use Rattle.msc_base.specs.Patterns.{par, seq, empty, one, join, bind}
 use Rattle.chart_term.specs.Tables.{terms_over}
 use Rattle.chart_term.specs.TermMeanings.{HasPattern, has_event, has_join, has_choice, holds_tie, no_part, one_part, this_one, that_one}
 use Rattle.chart_term.specs.TermPatterns.{Shape, InPairs, take_one, take_first, take_later, take_bind}
@@ -91,3 +91,24 @@ exchange_orders s (holds_tie {s = t} a) =
       | inl q ↦ order_of (bind t ((0, 1) ∷ [])) (0 ∷ 1 ∷ 2 ∷ 3 ∷ []) (subst (λ (u : Shape). Runs (bind u ((0, 1) ∷ [])) (0 ∷ 1 ∷ 2 ∷ 3 ∷ [])) (sym q) yes_run)
       | inr q ↦ order_of (bind t ((0, 1) ∷ [])) (0 ∷ 1 ∷ 4 ∷ 5 ∷ []) (subst (λ (u : Shape). Runs (bind u ((0, 1) ∷ [])) (0 ∷ 1 ∷ 4 ∷ 5 ∷ [])) (sym q) no_run)
     ]
+
+-- Two equal actions and another one side by side
+
+abbrev three_aside : Tree
+three_aside = Join par (more (Event (event 0 0 6)) (more (Event (event 1 0 6)) (more (Event (event 2 0 7)) none)))
+
+abbrev aside : Shape
+aside = join par (one (event 0 0 6)) (join par (one (event 1 0 6)) (join par (one (event 2 0 7)) empty))
+
+pub ordered_once : (j : ℕ) → InPairs j ((1, 2) ∷ []) → (s : Shape) → HasPattern (terms_over []) true three_aside s → times j s ≤ 1
+ordered_once j (inl (inl p)) s (has_join (one_part has_event (one_part has_event (one_part has_event no_part)))) = subst (λ (k : ℕ). times k aside ≤ 1) (sym p) (omega arith)
+ordered_once j (inl (inr p)) s (has_join (one_part has_event (one_part has_event (one_part has_event no_part)))) = subst (λ (k : ℕ). times k aside ≤ 1) (sym p) (omega arith)
+ordered_once j (inr p) s a = elim p [ ]
+
+pub ordered_orders : HasOrders [] (Tied three_aside ((1, 2) ∷ []))
+ordered_orders s (holds_tie (has_join (one_part has_event (one_part has_event (one_part has_event no_part))))) =
+    order_of s (6 ∷ 6 ∷ 7 ∷ [])
+    (run_take (take_bind (take_first take_one) (refl, (refl, (refl, tt))))
+    (run_take (take_bind (take_later tt (take_first take_one)) (tt, (refl, (refl, tt))))
+    (run_take (take_bind (take_later tt (take_later tt (take_first take_one))) (tt, (tt, (refl, tt))))
+    (run_end (tt, (tt, (tt, tt)))))))

@@ -2,13 +2,13 @@
 use Rattle.std.specs.Prelude.{ℕ, ◌≡◌, ◌<◌, ◌==◌, ◌||◌, ◌&&◌, false, [], ◌∷◌}
 use Rattle.std.proofs.Common.{arith}
 use Rattle.std.proofs.lemmas.Bool.Decides.{nat_tests}
-use Rattle.msc_base.specs.Patterns.{seq}
+use Rattle.msc_base.specs.Patterns.{par, seq}
 use Rattle.chart_term.specs.NormalForms.{join_all}
 use Rattle.chart_term.specs.Terms.{TermEvent, Tree, Event}
 use Rattle.term_laws.specs.FullSoundness.{IsSoundNode}
 use Rattle.term_laws.proofs.SoundForms.{constructors_keep_soundness}
-use Rattle.residual_bench.specs.Charts.{labels, event, message, answer, exchange}
-use Rattle.residual_bench.proofs.Orders.{message_once, first_orders, second_orders, third_orders, exchange_once, exchange_orders}
+use Rattle.residual_bench.specs.Charts.{labels, event, message, answer, exchange, ordered}
+use Rattle.residual_bench.proofs.Orders.{message_once, first_orders, second_orders, third_orders, exchange_once, exchange_orders, ordered_once, ordered_orders}
 
 abbrev pub Sound : Tree → Type 0
 Sound x = IsSoundNode labels [] x
@@ -53,4 +53,13 @@ exchange_sound =
     ((tt, (tt, (answer_sound.sound.outside, tt))), λ j p. (tt, (tt, (((tt, (tt, tt)), ((tt, (tt, tt)), tt)), tt)))) ((tt, (tt, (answer_sound.sound.once, tt))), λ j p s a. exchange_once j p s a) (λ j. not_self j) exchange_orders
   where
     not_self : (j : ℕ) → (((j == 0) && (j == 1)) || false) ≡ false
+    not_self j = grind (arith, nat_tests)
+
+pub ordered_sound : Sound ordered
+ordered_sound =
+    constructors_keep_soundness.tied labels [] (join_all par (Event (event 0 0 6) ∷ Event (event 1 0 6) ∷ Event (event 2 0 7) ∷ [])) ((1, 2) ∷ []) tt
+    (constructors_keep_soundness.join labels [] par (Event (event 0 0 6) ∷ Event (event 1 0 6) ∷ Event (event 2 0 7) ∷ []) tt (event_sound (event 0 0 6) (omega arith), (event_sound (event 1 0 6) (omega arith), (event_sound (event 2 0 7) (omega arith), tt))))
+    ((tt, (tt, (tt, tt))), λ j p. (tt, (tt, (tt, tt)))) ((tt, (tt, (tt, tt))), λ j p s a. ordered_once j p s a) (λ j. not_self j) ordered_orders
+  where
+    not_self : (j : ℕ) → (((j == 1) && (j == 2)) || false) ≡ false
     not_self j = grind (arith, nat_tests)

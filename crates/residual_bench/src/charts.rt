@@ -2,6 +2,7 @@
 ghost use Rattle.std.specs.Prelude.{◌≡◌, ◌<◌, ◌+◌, [], ◌∷◌, length, IfOk, OnOk};
 ghost use Rattle.chart_term.specs.NormalForms.{tie_of};
 ghost use Rattle.chart_term.specs.Properties.{Each};
+ghost use Rattle.chart_term.specs.TermMeanings.{UpTo};
 ghost use Rattle.chart_term.specs.Terms.{Event as EventTree};
 ghost use Rattle.residual_bench.specs.Charts.{labels, place, IsChart, event, message, answer, exchange};
 
@@ -183,14 +184,41 @@ fn exchange(alloc: Global) -> Result<Term, NoMemory>
     Ok(term)
 }
 
-/// A loop without end, of at least one turn.
+/// A loop of at least one turn, and where there is a bound of so many at most.
 #[tactic(auto, using(crate::proofs::Made::loop_rules))]
-fn endless(alloc: Global, body: Term) -> Result<Term, NoMemory>
-    requires { IsChart body }
+fn looped(alloc: Global, body: Term, most: Option<u64>) -> Result<Term, NoMemory>
+    requires body { IsChart body }
+    requires most { UpTo most 1 }
     ensures { IfOk result (λ term. IsChart term) }
 {
     let nets = Nets::new(alloc);
-    let term = fresh_loop(alloc, &nets, body, 1, None)?;
+    let term = fresh_loop(alloc, &nets, body, 1, most)?;
+    Ok(term)
+}
+
+/// A loop without end of an action of instance c, and behind it a loop of one or two actions of instance s.
+#[cfg(test)]
+pub(crate) fn nested_loops(alloc: Global) -> Result<Term, NoMemory>
+    ensures { IfOk result (λ term. IsChart term) }
+{
+    let first = single(alloc, 0, 0, ACTION)?;
+    let second = single(alloc, 1, 1, DISTANT_ACTION)?;
+    let inner = looped(alloc, second, Some(2))?;
+    let body = in_row(alloc, first, inner)?;
+    looped(alloc, body, None)
+}
+
+/// Two equal actions and another one in a coregion: the second of the equal ones comes before the other.
+#[cfg(test)]
+pub(crate) fn ordered(alloc: Global) -> Result<Term, NoMemory>
+    ensures { IfOk result (λ term. IsChart term) }
+{
+    let first = event(alloc, 0, 0, ACTION)?;
+    let second = event(alloc, 1, 0, ACTION)?;
+    let other = event(alloc, 2, 0, OTHER_ACTION)?;
+    let parts = three(alloc, first, second, other)?;
+    let aside = par(alloc, parts)?;
+    let term = tied_pair(alloc, aside, 1, 2)?;
     Ok(term)
 }
 
@@ -199,7 +227,7 @@ pub(crate) fn requests(alloc: Global) -> Result<Term, NoMemory>
     ensures { IfOk result (λ term. IsChart term) }
 {
     let body = message(alloc, 0, 0, 1)?;
-    endless(alloc, body)
+    looped(alloc, body, None)
 }
 
 /// Requests without end, each with an answer.
@@ -207,7 +235,7 @@ pub(crate) fn exchanges(alloc: Global) -> Result<Term, NoMemory>
     ensures { IfOk result (λ term. IsChart term) }
 {
     let body = exchange(alloc)?;
-    endless(alloc, body)
+    looped(alloc, body, None)
 }
 
 /// An event of an instance, as a whole chart.

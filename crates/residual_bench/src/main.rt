@@ -2,6 +2,8 @@
 //! that `bench/residuals.py` measures.
 #![tactic(auto)]
 
+#[cfg(test)]
+mod alike;
 mod charts;
 mod fault;
 mod logs;

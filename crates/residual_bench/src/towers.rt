@@ -22,12 +22,22 @@ const ANSWERED: u32 = 5;
 /// The most choices with a tie around what is within them.
 const MOST_TIED: u32 = 1_000_000;
 
+/// How each choice of a tower stands within the one before it.
+#[derive(Clone, Copy, Debug, PartialEq, Eq)]
+pub(crate) enum Form {
+    /// In its first part, last in a row.
+    First,
+    /// In its last part, last in a row, as exceptions stand.
+    Last,
+    /// In its first part, first in a row below a tie.
+    Tied,
+}
+
 /// So many choices, each within the one before it.
 #[derive(Clone, Copy, Debug, PartialEq, Eq)]
 pub(crate) struct Tower {
     pub(crate) levels: u32,
-    /// Whether each choice within another stands below a tie, else beside one.
-    pub(crate) is_tied: bool,
+    pub(crate) form: Form,
 }
 
 /// The answer `no`, as a whole chart: a message from s to c.
@@ -38,23 +48,35 @@ fn refusal(alloc: Global) -> Result<Term, NoMemory>
     Ok(term)
 }
 
-/// An optional action of s and behind it the term, or the answer `no`.
-fn around(alloc: Global, inner: Term) -> Result<Term, NoMemory>
+/// An optional action of s and behind it the term.
+fn behind_option(alloc: Global, inner: Term) -> Result<Term, NoMemory>
     requires { IsChart inner }
     ensures { IfOk result (λ term. IsChart term) }
 {
     let optional = either(alloc, nothing(alloc)?, single(alloc, 0, 1, DISTANT_ACTION)?)?;
-    let row = in_row(alloc, optional, inner)?;
-    either(alloc, row, refusal(alloc)?)
+    in_row(alloc, optional, inner)
 }
 
-/// So many choices, each within the one before it, and each with a tie beside that.
-fn plain_tower(alloc: Global, levels: u32) -> Result<Term, NoMemory>
+/// So many choices of the answer `no` and of the next choice, which stands first in each, each with a tie beside that.
+fn first_tower(alloc: Global, levels: u32) -> Result<Term, NoMemory>
     ensures { IfOk result (λ term. IsChart term) }
 {
     let mut inner = single(alloc, 0, 0, INNERMOST)?;
     for _ in 0..levels {
-        inner = around(alloc, inner)?;
+        let row = behind_option(alloc, inner)?;
+        inner = either(alloc, row, refusal(alloc)?)?;
+    }
+    Ok(inner)
+}
+
+/// The same, but that the next choice stands last in each.
+fn last_tower(alloc: Global, levels: u32) -> Result<Term, NoMemory>
+    ensures { IfOk result (λ term. IsChart term) }
+{
+    let mut inner = single(alloc, 0, 0, INNERMOST)?;
+    for _ in 0..levels {
+        let row = behind_option(alloc, inner)?;
+        inner = either(alloc, refusal(alloc)?, row)?;
     }
     Ok(inner)
 }
@@ -100,10 +122,10 @@ fn tied_tower(alloc: Global, levels: u32) -> Result<Term, NoMemory>
 fn tower_of(alloc: Global, tower: Tower) -> Result<Term, NoMemory>
     ensures { IfOk result (λ term. IsChart term) }
 {
-    if tower.is_tied {
-        tied_tower(alloc, tower.levels)
-    } else {
-        plain_tower(alloc, tower.levels)
+    match tower.form {
+        Form::First => first_tower(alloc, tower.levels),
+        Form::Last => last_tower(alloc, tower.levels),
+        Form::Tied => tied_tower(alloc, tower.levels),
     }
 }
 

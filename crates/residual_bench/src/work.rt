@@ -9,7 +9,7 @@ use crate::charts::{
 use crate::fault::Fault;
 use crate::logs::{Judged, Log, Order, follow, follow_all};
 use crate::statements::{self, GROUP, MOST_STATEMENTS};
-use crate::towers::{INNERMOST, Tower, held, nested};
+use crate::towers::{Form, INNERMOST, Tower, held, nested};
 use chart_term::Term;
 use msc_base::{LabelList, NoMemory};
 use std::alloc::Global;
@@ -179,20 +179,29 @@ pub(crate) fn judge<S: Store + Drop>(alloc: Global, asked: Asked) -> Result<Judg
 
 /// The work on a tower that two words name, as `held 1000`, or `held-tied 1000` where it is tied.
 fn tower_work_of(kind: &str, levels: u32) -> Option<Work> {
-    let plain = Tower {
+    let first = Tower {
         levels,
-        is_tied: false,
+        form: Form::First,
+    };
+    let last = Tower {
+        levels,
+        form: Form::Last,
     };
     let tied = Tower {
         levels,
-        is_tied: true,
+        form: Form::Tied,
     };
     match kind {
-        "held" => Some(Work::Held(plain)),
-        "nested" => Some(Work::Nested(plain)),
-        "passed" => Some(Work::Passed(plain)),
-        "entered" => Some(Work::Entered(plain)),
-        "compared" => Some(Work::Compared(plain)),
+        "held" => Some(Work::Held(first)),
+        "nested" => Some(Work::Nested(first)),
+        "passed" => Some(Work::Passed(first)),
+        "entered" => Some(Work::Entered(first)),
+        "compared" => Some(Work::Compared(first)),
+        "held-last" => Some(Work::Held(last)),
+        "nested-last" => Some(Work::Nested(last)),
+        "passed-last" => Some(Work::Passed(last)),
+        "entered-last" => Some(Work::Entered(last)),
+        "compared-last" => Some(Work::Compared(last)),
         "held-tied" => Some(Work::Held(tied)),
         "nested-tied" => Some(Work::Nested(tied)),
         "passed-tied" => Some(Work::Passed(tied)),

@@ -1,6 +1,6 @@
 -- Whether a term may end, part by part.
 use Rattle.std.specs.Prelude.{ℕ, zero, suc, ◌+◌, ◌<◌, ◌≤◌, Bool, true, false, List, [], ◌∷◌, ◌++◌, ◌≡◌, ◌↔◌, ◌⊎◌, Option, Some, refl, length, take, slice_get, IsTrue, Result, Ok, Err, IfOk}
-use Rattle.std.proofs.Common.{ap, sym, subst, arith, inl, inr}
+use Rattle.std.proofs.Common.{◌∙◌, ap, sym, subst, arith, inl, inr}
 use Rattle.msc_base.specs.Patterns.{Mode, seq, par}
 use Rattle.hmsc_graph.specs.Graphs.{Net, Spot, Start, At, Goal, To, End, Any, WalkThrough, last, step, behind}
 use Rattle.msc_base.specs.Lists.{IsIn}
@@ -14,7 +14,9 @@ use Rattle.chart_term.specs.Terms.{TermEvent, Tree, Nil, Event, Join, Choice, Ti
 use Rattle.chart_term.proofs.Lists.{items-trees, parts-row_of, take_step}
 use Rattle.term_laws.proofs.Measures.{rank-seq, rank-par, rank-some, rank-tied, rank-loop}
 use Rattle.term_permission.proofs.Permits.{ready-seq, ready-par, ready-choice, ready-tied}
-use Rattle.term_permission.specs.Endings.{AreEnding, MayPartEnd}
+use Rattle.term_permission.specs.Endings.{AreEnding, EndsAs, MayPartEnd}
+use Rattle.term_permission.specs.declared.finishes.Ending.{Ending}
+use Rattle.term_permission.specs.declared.finishes.Ending.TheVariants as ending
 use Rattle.term_laws.specs.Taking.{HasGap, MayEnd, end_nil, end_join, end_choice, end_bound, end_zero, end_turns, end_trail, EndAll, end_none, end_more, EndOne, end_this, end_that, EndLoop, no_turns, past_gap, one_turn, EndWalk, last_edge, inner_edge}
 
 pub take_all : (xs : List Tree) (n : ℕ) → length xs ≤ n → take n xs ≡ xs
@@ -62,6 +64,21 @@ module _ (w : NetTerms) where
   none-first [] h = elim h [ ]
   none-first (x ∷ xs) h = elim h [ ]
 
+  -- the last of several
+  pub all-last : (xs : List Tree) (i : ℕ) (x : Tree) → i + 1 ≡ length xs → slice_get xs i ≡ Some x → EndAll w (take i xs) → MayEnd w x ↔ EndAll w xs
+  all-last xs i x l e h = (λ m. subst (λ (k : List Tree). EndAll w k) (take_all xs (i + 1) (omega (arith, l))) (all-ending xs i x e h m), λ a. all-at xs i x e a)
+
+  pub one-last : (xs : List Tree) (i : ℕ) (x : Tree) → i + 1 ≡ length xs → slice_get xs i ≡ Some x → (EndOne w (take i xs) → ⊥) → MayEnd w x ↔ EndOne w xs
+  one-last xs i x l e h = (λ m. one-at xs i x e m, λ o. elim (one_pushed (take i xs) x (subst (λ (k : List Tree). EndOne w k) (sym (take_all xs (i + 1) (omega (arith, l))) ∙ take_step xs i x e) o)) [ inl a ↦ absurd (h a) | inr m ↦ m ])
+
+  pub all-empty : (xs : List Tree) → length xs ≡ 0 → EndAll w xs
+  all-empty [] l = end_none
+  all-empty (x ∷ xs) l = absurd (omega arith)
+
+  pub one-empty : (xs : List Tree) → length xs ≡ 0 → EndOne w xs → ⊥
+  one-empty [] l h = elim h [ ]
+  one-empty (x ∷ xs) l h = absurd (omega arith)
+
   -- a row
   turns_push : (ps : List Part) (t : Part) → EndLoop w ps → MayPartEnd w t → EndLoop w (ps ++ t ∷ [])
   turns_push [] (Gap c) h e = past_gap no_turns
@@ -99,23 +116,24 @@ module _ (w : NetTerms) where
   abbrev Ends : Bool → Type 0 → Type 0
   Ends b P = IsTrue b ↔ P
 
-  join_ends : (m : Mode) (b : Bool) (xs : List Tree) → Ends b (EndAll w xs) → Ends b (MayEnd w (Join m (trees xs)))
-  join_ends m b xs h =
-      (λ e. end_join (subst (λ (l : List Tree). EndAll w l) (sym (items-trees xs)) (h.0 e)), λ e. h.1 (subst (λ (l : List Tree). EndAll w l) (items-trees xs) (join_out m (trees xs) e)))
+  join_ends : (m : Mode) (x : Tree) (xs : List Tree) → x ≡ Join m (trees xs) → EndAll w xs ↔ MayEnd w x
+  join_ends m x xs p =
+      subst (λ (z : Tree). EndAll w xs ↔ MayEnd w z) (sym p)
+      (λ e. end_join (subst (λ (l : List Tree). EndAll w l) (sym (items-trees xs)) e), λ e. subst (λ (l : List Tree). EndAll w l) (items-trees xs) (join_out m (trees xs) e))
 
-  pub seq-ends : (b : Bool) (x : Tree) (xs : List Tree) → x ≡ Join seq (trees xs) → Ends b (EndAll w xs) → Ends b (MayEnd w x)
-  seq-ends b x xs p h = subst (λ (z : Tree). Ends b (MayEnd w z)) (sym p) (join_ends seq b xs h)
+  pub seq-ends : (x : Tree) (xs : List Tree) → x ≡ Join seq (trees xs) → EndAll w xs ↔ MayEnd w x
+  seq-ends = join_ends seq
 
-  pub par-ends : (b : Bool) (x : Tree) (xs : List Tree) → x ≡ Join par (trees xs) → Ends b (EndAll w xs) → Ends b (MayEnd w x)
-  par-ends b x xs p h = subst (λ (z : Tree). Ends b (MayEnd w z)) (sym p) (join_ends par b xs h)
+  pub par-ends : (x : Tree) (xs : List Tree) → x ≡ Join par (trees xs) → EndAll w xs ↔ MayEnd w x
+  par-ends = join_ends par
 
-  pub choice-ends : (b : Bool) (x : Tree) (xs : List Tree) → x ≡ Choice (trees xs) → Ends b (EndOne w xs) → Ends b (MayEnd w x)
-  choice-ends b x xs p h =
-      subst (λ (z : Tree). Ends b (MayEnd w z)) (sym p)
-      (λ e. end_choice (subst (λ (l : List Tree). EndOne w l) (sym (items-trees xs)) (h.0 e)), λ e. h.1 (subst (λ (l : List Tree). EndOne w l) (items-trees xs) (choice_out (trees xs) e)))
+  pub choice-ends : (x : Tree) (xs : List Tree) → x ≡ Choice (trees xs) → EndOne w xs ↔ MayEnd w x
+  choice-ends x xs p =
+      subst (λ (z : Tree). EndOne w xs ↔ MayEnd w z) (sym p)
+      (λ e. end_choice (subst (λ (l : List Tree). EndOne w l) (sym (items-trees xs)) e), λ e. subst (λ (l : List Tree). EndOne w l) (items-trees xs) (choice_out (trees xs) e))
 
-  pub tied-ends : (b : Bool) (x y : Tree) (q : List (ℕ × ℕ)) → x ≡ Tied y q → Ends b (MayEnd w y) → Ends b (MayEnd w x)
-  tied-ends b x y q p h = subst (λ (z : Tree). Ends b (MayEnd w z)) (sym p) (λ e. end_bound (h.0 e), λ e. h.1 (bound_out y q e))
+  pub tied-ends : (x y : Tree) (q : List (ℕ × ℕ)) → x ≡ Tied y q → MayEnd w y ↔ MayEnd w x
+  tied-ends x y q p = subst (λ (z : Tree). MayEnd w y ↔ MayEnd w z) (sym p) (λ e. end_bound e, λ e. bound_out y q e)
 
   pub trail-ends : (b : Bool) (x : Tree) (n : ℕ) (f : Spot) (t : Goal) (c : List ℕ) → x ≡ Walk n f t c → Ends b (EndWalk w n f t) → Ends b (MayEnd w x)
   trail-ends b x n f t c p h = subst (λ (z : Tree). Ends b (MayEnd w z)) (sym p) (λ e. end_trail (h.0 e), λ e. h.1 (trail_out n f t c e))
@@ -207,6 +225,11 @@ ending-more w n m ms new b e h g = record { exact = λ j. (to j, from j) }
       | inl l ↦ (g j).1 (inl ((h.exact j).1 (l, r.1)))
       | inr q ↦ (g j).1 (inr (q, e.1 (subst (λ (k : ℕ). MayEnd (terms_over w) (node_of w n k)) q r.1)))
     ]
+
+-- what is told holds of what holds alike
+pub ends_as : (w : Tables) (P Q : Type 0) (k l : ℕ) (r : Ending) → (P ↔ Q) → k ≤ l → EndsAs w P k r → EndsAs w Q l r
+ends_as w P Q k l (ending.Told b) e m h = (λ i. e.0 (h.0 i), λ q. h.1 (e.1 q))
+ends_as w P Q k l (ending.As x) e m h = record { ends = (λ i. e.0 (h.ends.0 i), λ q. h.ends.1 (e.1 q)); ready = h.ready; below = omega (arith, m, h.below) }
 
 -- what holds of every result holds of this one
 pub ok-map : {A E : Type 0} (P Q : A → Type 0) (r : Result A E) → ((a : A) → P a → Q a) → IfOk r P → IfOk r Q

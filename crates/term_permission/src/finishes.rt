@@ -1,6 +1,6 @@
 //! Whether a term may end: trace_judge asks it at a log's end. It takes no event and looks at no block.
 
-ghost use Rattle.std.specs.Prelude.{◌≡◌, ◌<◌, ◌↔◌, ◌⊎◌, ℕ, IfOk, IsTrue, true};
+ghost use Rattle.std.specs.Prelude.{◌≡◌, ◌+◌, ◌<◌, ◌↔◌, ◌⊎◌, ℕ, IfOk, IsTrue, true};
 ghost use Rattle.chart_term.specs.NormalForms.{begun};
 ghost use Rattle.chart_term.specs.PartLists.{AreTurns};
 ghost use Rattle.chart_term.specs.Properties.{Each};
@@ -11,8 +11,9 @@ ghost use Rattle.chart_term.specs.Terms.{Loop, row_of};
 ghost use Rattle.msc_base.specs.Lists.{IsIn};
 ghost use Rattle.hmsc_graph.specs.Nets.{IsNet, size_of};
 ghost use Rattle.hmsc_graph.specs.Spots.{spot_of, goal_of, IsSpotBelow, IsGoalBelow};
-ghost use Rattle.term_permission.specs.Endings.{AreEnding, MayPartEnd};
+ghost use Rattle.term_permission.specs.Endings.{AreEnding, EndsAs, MayPartEnd};
 ghost use Rattle.term_permission.specs.Ready.{IsReady, AreReadyTables, IsReadyPart, AreReadyParts, IsReadyLoop};
+ghost use Rattle.term_laws.proofs.Measures.{rank_all, rank_in};
 ghost use Rattle.term_laws.specs.Taking.{MayEnd, EndAll, EndOne, EndLoop, EndWalk};
 
 use bit_sets::NodeSet;
@@ -22,63 +23,102 @@ use msc_base::NoMemory;
 use std::alloc::Global;
 use term_tables::Nets;
 
-/// Whether the term may end: whether the empty pattern is one of its finished patterns.
+/// Whether a term may end, as far as it is told without a look into its last part.
+#[derive(Drop)]
+pub(crate) enum Ending<'a> {
+    /// Whether it may.
+    Told(bool),
+    /// It may exactly if this last part may.
+    As(&'a Term),
+}
+
+/// Whether the term may end: whether the empty pattern is one of its finished patterns. It goes down the last parts of lists, and
+/// below ties, in a loop.
 #[cycle(may_end)]
-#[tactic(auto, using(crate::proofs::EndingFacts::endings))]
 pub fn may_end(alloc: Global, nets: &Nets, term: &Term) -> Result<bool, NoMemory>
     requires tables { AreReadyTables nets.now.tables }
     requires term { IsReady nets.now.tables term.now }
     ensures { IfOk result (λ ends. IsTrue ends ↔ MayEnd (terms_over nets.now.tables) term.now) }
 {
+    let mut part = term;
+    loop {
+        match ending_of(alloc, nets, part) {
+            Ok(Ending::Told(ends)) => return Ok(ends),
+            Ok(Ending::As(last)) => part = last,
+            Err(NoMemory) => return Err(NoMemory),
+        }
+    }
+}
+
+/// The same, but that a last part is left to whom it is told.
+#[cycle(may_end)]
+#[tactic(auto, using(crate::proofs::EndingFacts::endings))]
+fn ending_of<'a>(alloc: Global, nets: &Nets, term: &'a Term) -> Result<Ending<'a>, NoMemory>
+    requires tables { AreReadyTables nets.now.tables }
+    requires term { IsReady nets.now.tables term.now }
+    ensures { IfOk result (EndsAs nets.now.tables (MayEnd (terms_over nets.now.tables) term.now) (rank_in nets.now.tables term.now)) }
+{
     match term.look() {
-        Look::Nil => Ok(true),
-        Look::Event { .. } => Ok(false),
+        Look::Nil => Ok(Ending::Told(true)),
+        Look::Event { .. } => Ok(Ending::Told(false)),
         Look::Seq(parts) => all_may_end(alloc, nets, parts),
         Look::Par(parts) => all_may_end(alloc, nets, parts),
         Look::Choice(parts) => one_may_end(alloc, nets, parts),
-        Look::Tied(inner, _) => may_end(alloc, nets, inner),
+        Look::Tied(inner, _) => Ok(Ending::As(inner)),
         Look::Loop {
             body,
             lower,
             upper,
             row,
-        } => loop_may_end(alloc, nets, body, lower, upper, row),
-        Look::Walk { net, from, to, .. } => walk_may_end(alloc, nets, net, from, to),
+        } => Ok(Ending::Told(loop_may_end(alloc, nets, body, lower, upper, row)?)),
+        Look::Walk { net, from, to, .. } => {
+            Ok(Ending::Told(walk_may_end(alloc, nets, net, from, to)?))
+        }
     }
 }
 
-/// Whether all parts may end.
+/// Whether all parts may end; the last is left to whom it is told.
 #[cycle(may_end)]
 #[tactic(auto, using(crate::proofs::EndingFacts::endings))]
-fn all_may_end(alloc: Global, nets: &Nets, parts: &PartList) -> Result<bool, NoMemory>
+fn all_may_end<'a>(alloc: Global, nets: &Nets, parts: &'a PartList) -> Result<Ending<'a>, NoMemory>
     requires tables { AreReadyTables nets.now.tables }
     requires turns { AreTurns parts.now }
     requires parts { Each (IsReady nets.now.tables) (begun parts.now) }
-    ensures { IfOk result (λ ends. IsTrue ends ↔ EndAll (terms_over nets.now.tables) (begun parts.now)) }
+    ensures { IfOk result (EndsAs nets.now.tables (EndAll (terms_over nets.now.tables) (begun parts.now)) (rank_all nets.now.tables (begun parts.now) + 1)) }
 {
-    for index in 0..parts.len() {
+    let count = parts.len();
+    if count == 0 {
+        return Ok(Ending::Told(true));
+    }
+    let last = count - 1;
+    for index in 0..last {
         if !may_end(alloc, nets, parts.term_at(index))? {
-            return Ok(false);
+            return Ok(Ending::Told(false));
         }
     }
-    Ok(true)
+    Ok(Ending::As(parts.term_at(last)))
 }
 
-/// Whether one of the parts may end.
+/// Whether one of the parts may end; the last is left to whom it is told.
 #[cycle(may_end)]
 #[tactic(auto, using(crate::proofs::EndingFacts::endings))]
-fn one_may_end(alloc: Global, nets: &Nets, parts: &PartList) -> Result<bool, NoMemory>
+fn one_may_end<'a>(alloc: Global, nets: &Nets, parts: &'a PartList) -> Result<Ending<'a>, NoMemory>
     requires tables { AreReadyTables nets.now.tables }
     requires turns { AreTurns parts.now }
     requires parts { Each (IsReady nets.now.tables) (begun parts.now) }
-    ensures { IfOk result (λ ends. IsTrue ends ↔ EndOne (terms_over nets.now.tables) (begun parts.now)) }
+    ensures { IfOk result (EndsAs nets.now.tables (EndOne (terms_over nets.now.tables) (begun parts.now)) (rank_all nets.now.tables (begun parts.now) + 1)) }
 {
-    for index in 0..parts.len() {
+    let count = parts.len();
+    if count == 0 {
+        return Ok(Ending::Told(false));
+    }
+    let last = count - 1;
+    for index in 0..last {
         if may_end(alloc, nets, parts.term_at(index))? {
-            return Ok(true);
+            return Ok(Ending::Told(true));
         }
     }
-    Ok(false)
+    Ok(Ending::As(parts.term_at(last)))
 }
 
 /// Whether all begun turns of a loop may end, and the operand besides where a turn is owed.

@@ -10,18 +10,6 @@ use crate::{PartLook, TermList};
 use msc_base::NoMemory;
 use std::alloc::Global;
 
-/// The terms as turns.
-#[tactic(auto, using(crate::proofs::Turns::turns))]
-fn turns_of(alloc: Global, terms: &TermList) -> Result<Vec<RowPart>, NoMemory>
-    ensures { IfOk result (λ parts. parts_of parts.items ≡ map Turn terms.now) }
-{
-    let mut parts = Vec::with_capacity(alloc, terms.len())?;
-    for term in terms.as_slice() {
-        parts.push(RowPart::Turn(term.copy(alloc)?))?;
-    }
-    Ok(parts)
-}
-
 impl PartList {
     /// The parts as a balanced tree.
     #[tactic(auto, using(crate::proofs::Cuts::cuts))]
@@ -41,10 +29,15 @@ impl PartList {
     }
 
     /// The terms as turns, as a balanced tree.
-    pub fn from_terms(alloc: Global, terms: TermList) -> Result<PartList, NoMemory>
-        ensures { IfOk result (λ list. list ≡ map Turn terms) }
+    #[tactic(auto, using(crate::proofs::Turns::turns))]
+    pub fn from_terms(alloc: Global, terms: &TermList) -> Result<PartList, NoMemory>
+        ensures { IfOk result (λ list. list ≡ map Turn terms.now) }
     {
-        PartList::from_vec(alloc, turns_of(alloc, &terms)?)
+        let mut parts = Vec::with_capacity(alloc, terms.len())?;
+        for term in terms.as_slice() {
+            parts.push(RowPart::Turn(term.copy(alloc)?))?;
+        }
+        PartList::from_vec(alloc, parts)
     }
 
     /// The parts before the index.

@@ -1,17 +1,26 @@
 //! The order and the equality of terms, part by part: by them sets of terms (trace_judge) and choices keep each once.
 
-ghost use Rattle.std.specs.Prelude.{◌≡◌, ◌↔◌, IsTrue};
-ghost use Rattle.hmsc_graph.specs.Spots.{spot_of, goal_of};
-ghost use Rattle.chart_term.specs.Order.{event_cmp, goal_cmp, pairs_cmp, rank, row_cmp, spot_cmp, tree_cmp};
+ghost use Rattle.std.specs.Prelude.{◌≡◌, ◌+◌, ◌↔◌, IsTrue};
+ghost use Rattle.chart_term.specs.Comparisons.{ComparesAs};
+ghost use Rattle.chart_term.specs.Order.{event_cmp, pairs_cmp, rank, row_cmp, tree_cmp};
+ghost use Rattle.chart_term.specs.Sizes.{nodes, parts_nodes};
 ghost use Rattle.chart_term.specs.Terms.{row_of};
 ghost use Rattle.chart_term.specs.Views.{event_of, pairs_of};
 
 use super::{Form, Node, PartList, RowPart, Term};
 use crate::Event;
-use hmsc_graph::{Goal, Spot};
 use node_facts::{compare_counts, compare_maybe};
 use std::cmp::Ordering;
 use tie_list::TieList;
+
+/// How two terms, or two lists, compare by all but their last parts.
+#[derive(Drop)]
+pub(crate) enum Compared<'a> {
+    /// They differ there, or no part stands last in both: their order.
+    Told(Ordering),
+    /// As these two do, which stand last in them.
+    As(&'a Term, &'a Term),
+}
 
 /// By number, instances and label.
 fn compare_events(event: &Event, other: &Event) -> Ordering
@@ -22,33 +31,6 @@ fn compare_events(event: &Event, other: &Event) -> Ordering
     let seconds = compare_maybe(event.also, other.also);
     let labels = event.label.cmp(&other.label);
     numbers.then(places.then(seconds.then(labels)))
-}
-
-/// The start first.
-fn compare_spots(spot: Spot, other: Spot) -> Ordering
-    ensures { result ≡ spot_cmp (spot_of spot) (spot_of other) }
-{
-    match (spot, other) {
-        (Spot::Start, Spot::Start) => Ordering::Equal,
-        (Spot::Start, Spot::Node(_)) => Ordering::Less,
-        (Spot::Node(_), Spot::Start) => Ordering::Greater,
-        (Spot::Node(first), Spot::Node(second)) => first.cmp(&second),
-    }
-}
-
-/// Nodes first, then an end, then anywhere.
-fn compare_goals(goal: Goal, other: Goal) -> Ordering
-    ensures { result ≡ goal_cmp (goal_of goal) (goal_of other) }
-{
-    match (goal, other) {
-        (Goal::Node(first), Goal::Node(second)) => first.cmp(&second),
-        (Goal::End, Goal::End) => Ordering::Equal,
-        (Goal::Any, Goal::Any) => Ordering::Equal,
-        (Goal::Node(_), _) => Ordering::Less,
-        (_, Goal::Node(_)) => Ordering::Greater,
-        (Goal::End, Goal::Any) => Ordering::Less,
-        (Goal::Any, Goal::End) => Ordering::Greater,
-    }
 }
 
 /// Pair by pair.
@@ -91,26 +73,44 @@ impl Form {
 }
 
 impl Term {
-    /// By constructor, then by the parts in their order.
+    /// By constructor, then by the parts in their order. It goes down the last parts of lists, and below ties, in a loop.
     #[cycle(compare)]
-    #[tactic(auto, using(crate::proofs::Comparing::comparing))]
     pub(crate) fn compare(&self, other: &Term) -> Ordering
         ensures { result ≡ tree_cmp self.now other.now }
     {
-        let node: &Node = &self.node;
-        let other_node: &Node = &other.node;
-        match (&node.form, &other_node.form) {
-            (Form::Nil, Form::Nil) => Ordering::Equal,
-            (Form::Event(event), Form::Event(second)) => {
-                compare_events(&event.shown(), &second.shown())
+        let mut first = self;
+        let mut second = other;
+        loop {
+            match first.compare_fronts(second) {
+                Compared::Told(order) => return order,
+                Compared::As(inner, other_inner) => {
+                    first = inner;
+                    second = other_inner;
+                }
             }
-            (Form::Seq(parts), Form::Seq(others)) => parts.compare(others),
-            (Form::Par(parts), Form::Par(others)) => parts.compare(others),
-            (Form::Choice(parts), Form::Choice(others)) => parts.compare(others),
+        }
+    }
+
+    /// By constructor, then by the parts but the last.
+    #[cycle(compare)]
+    #[tactic(auto, using(crate::proofs::Comparing::comparing))]
+    fn compare_fronts<'a>(&'a self, other: &'a Term) -> Compared<'a>
+        ensures { ComparesAs (tree_cmp self.now other.now) (nodes self.now) result }
+    {
+        let node: &'a Node = &self.node;
+        let other_node: &'a Node = &other.node;
+        match (&node.form, &other_node.form) {
+            (Form::Nil, Form::Nil) => Compared::Told(Ordering::Equal),
+            (Form::Event(event), Form::Event(second)) => {
+                Compared::Told(compare_events(&event.shown(), &second.shown()))
+            }
+            (Form::Seq(parts), Form::Seq(others)) => parts.compare_fronts(others),
+            (Form::Par(parts), Form::Par(others)) => parts.compare_fronts(others),
+            (Form::Choice(parts), Form::Choice(others)) => parts.compare_fronts(others),
             (Form::Tied(inner, pairs), Form::Tied(second, others)) => {
-                match inner.compare(second) {
-                    Ordering::Equal => compare_ties(pairs, others),
-                    order => order,
+                match compare_ties(pairs, others) {
+                    Ordering::Equal => Compared::As(inner, second),
+                    order => Compared::Told(order),
                 }
             }
             (Form::Loop(parts), Form::Loop(others)) => {
@@ -119,18 +119,18 @@ impl Term {
                     .cmp(&others.lower)
                     .then(compare_counts(parts.upper, others.upper));
                 match parts.body.compare(&others.body).then(counts) {
-                    Ordering::Equal => parts.row.compare(&others.row),
-                    order => order,
+                    Ordering::Equal => parts.row.compare_fronts(&others.row),
+                    order => Compared::Told(order),
                 }
             }
             (Form::Walk(parts), Form::Walk(others)) => {
                 let nets = parts.net.cmp(&others.net);
-                let spots = compare_spots(parts.from, others.from);
-                let goals = compare_goals(parts.to, others.to);
+                let spots = parts.from.compare(others.from);
+                let goals = parts.to.compare(others.to);
                 let blocks = parts.block.compare_instances(&others.block);
-                nets.then(spots.then(goals.then(blocks)))
+                Compared::Told(nets.then(spots.then(goals.then(blocks))))
             }
-            (first, second) => first.rank().cmp(&second.rank()),
+            (first, second) => Compared::Told(first.rank().cmp(&second.rank())),
         }
     }
 }
@@ -138,6 +138,7 @@ impl Term {
 impl RowPart {
     ghost use Rattle.chart_term.specs.Order.{part_cmp};
     ghost use Rattle.chart_term.specs.Rows.{part_of};
+    ghost use Rattle.chart_term.specs.Sizes.{part_nodes};
 
     /// Gaps first, by their blocks; then begun turns.
     #[cycle(compare)]
@@ -151,24 +152,43 @@ impl RowPart {
             (RowPart::Turn(turn), RowPart::Turn(second)) => turn.compare(second),
         }
     }
+
+    /// The same, but that two turns are left to whom it is told.
+    fn compare_last<'a>(&'a self, other: &'a RowPart) -> Compared<'a>
+        ensures { ComparesAs (part_cmp (part_of self.now) (part_of other.now)) (part_nodes (part_of self.now) + 1) result }
+    {
+        match (self, other) {
+            (RowPart::Gap(block), RowPart::Gap(second)) => {
+                Compared::Told(block.compare_instances(second))
+            }
+            (RowPart::Gap(_), RowPart::Turn(_)) => Compared::Told(Ordering::Less),
+            (RowPart::Turn(_), RowPart::Gap(_)) => Compared::Told(Ordering::Greater),
+            (RowPart::Turn(turn), RowPart::Turn(second)) => Compared::As(turn, second),
+        }
+    }
 }
 
 impl PartList {
-    /// Part by part, gaps before begun turns.
+    /// Part by part, gaps before begun turns, but for a part that stands last in both.
     #[cycle(compare)]
     #[tactic(auto, using(crate::proofs::Comparing::comparing))]
-    fn compare(&self, other: &PartList) -> Ordering
-        ensures { result ≡ row_cmp (row_of self.now) (row_of other.now) }
+    fn compare_fronts<'a>(&'a self, other: &'a PartList) -> Compared<'a>
+        ensures { ComparesAs (row_cmp (row_of self.now) (row_of other.now)) (parts_nodes self.now) result }
     {
+        let count = self.len();
+        let other_count = other.len();
         let mut at = 0;
-        while at < self.len() && at < other.len() {
+        while at < count && at < other_count {
+            if at + 1 == count && at + 1 == other_count {
+                return self.at(at).compare_last(other.at(at));
+            }
             let order = self.at(at).compare(other.at(at));
             if order != Ordering::Equal {
-                return order;
+                return Compared::Told(order);
             }
             at += 1;
         }
-        self.len().cmp(&other.len())
+        Compared::Told(count.cmp(&other_count))
     }
 }
 

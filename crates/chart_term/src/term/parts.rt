@@ -1,10 +1,10 @@
 //! The nodes of a list of parts: leaves and forks, and the facts that each stores.
 
-ghost use Rattle.std.specs.Prelude.{◌≡◌, ℕ, ◌++◌, ◌∷◌, ◌<◌, ◌==◌, [], length, min, IfOk, IfSome, OnOk};
-ghost use Rattle.chart_term.specs.Facts.{RowHasFacts, instances_row, most_stored, row_misses, row_walk};
+ghost use Rattle.std.specs.Prelude.{◌≡◌, ℕ, ◌++◌, ◌∷◌, ◌<◌, ◌==◌, [], length, IfOk, IfSome, OnOk};
+ghost use Rattle.chart_term.specs.Facts.{RowHasFacts, instances_row, row_misses, row_walk};
 ghost use Rattle.chart_term.specs.NormalForms.{has_gap as gap_in};
 ghost use Rattle.chart_term.specs.Rows.{part_of, parts_of};
-ghost use Rattle.chart_term.specs.Terms.{has, row_of, row_weight};
+ghost use Rattle.chart_term.specs.Terms.{has, row_of};
 
 use super::{PartList, RowPart, Stretch, StretchForm};
 use crate::PartLook;
@@ -196,14 +196,6 @@ impl PartList {
     {
         let node: &Stretch = &self.root;
         &node.facts
-    }
-
-    /// The weight of the parts, a gap's being 1, or the largest `u64` where it is larger. It takes
-    /// no memory.
-    pub fn weight(&self) -> u64
-        ensures { result ≡ min (row_weight (row_of self.now)) most_stored }
-    {
-        self.facts().weight
     }
 
     /// Whether no event of the block can hit a turn, as `Term::misses` says of each; gaps are not

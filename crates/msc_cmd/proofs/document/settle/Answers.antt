@@ -8,10 +8,10 @@ use Rattle.msc_cmd.proofs.document.settle.Goals as goal
 
 pub returns-in-Read : goal.returns-in-Read
 returns-in-Read c =
-    let is : c.args.text ≡ Read c.in-Read.document c.in-Read.field-1 = search rules in
-    λ bytes h. settled_read bytes (document_view c.in-Read.document) c.in-Read.field-1.tokens c.come_to.result c.come_to.ensures (subst (λ (t : DocumentText). IsTheText bytes t) is h)
+    let is : c.args.text ≡ Read c.in-Read.document = search rules in
+    λ bytes h. settled_read bytes (document_view c.in-Read.document) c.come_to.result c.come_to.ensures (subst (λ (t : DocumentText). IsTheText bytes t) is h)
 
-pub returns : goal.returns
-returns c =
+pub returns-in-Refused : goal.returns-in-Refused
+returns-in-Refused c =
     let is : c.args.text ≡ Refused c.in-Refused.broken c.in-Refused.place = search rules in
     λ bytes h. only_faulty bytes c.in-Refused.broken c.in-Refused.place (subst (λ (t : DocumentText). IsTheText bytes t) is h)

@@ -1,11 +1,11 @@
 use Rattle.msc_base.specs.declared.limits.TheConstants.Limits.{NESTING}
-use Rattle.std.proofs.Common.{refl, rules}
+use Rattle.std.proofs.Common.{rules}
 use Rattle.msc_cmd.specs.DocumentTexts.{BreaksGrammar}
 use Rattle.msc_cmd.proofs.TextFaults.{misread}
 use Rattle.msc_cmd.proofs.document_text.parsed.Goals as goal
 
 pub returns-in-Ok : goal.returns-in-Ok
-returns-in-Ok c = (record { reads = c.in-Ok.ensures.ok; only = λ other h. c.in-Ok.ensures.only NESTING other h; faultless = c.in-Ok.ensures.faultless }, refl)
+returns-in-Ok c = record { reads = c.in-Ok.ensures.ok; only = λ other h. c.in-Ok.ensures.only NESTING other h; faultless = c.in-Ok.ensures.faultless }
 
 pub returns-in-Some : goal.returns-in-Some
 returns-in-Some c =

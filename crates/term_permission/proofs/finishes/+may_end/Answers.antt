@@ -1,4 +1,4 @@
-use Rattle.std.proofs.Common.{◌≡◌, ◌<◌, ◌≤◌, ◌↔◌, ◌∙◌, ℕ, ap, sym, subst, arith, true, false, Bool, List, IsTrue, refl, length, ◌+◌}
+use Rattle.std.proofs.Common.{◌≡◌, ◌<◌, ◌≤◌, ◌↔◌, ◌∙◌, ◌-◌, ℕ, take, ap, sym, subst, arith, true, false, Bool, List, IsTrue, refl, length, ◌+◌}
 use Rattle.hmsc_graph.specs.Graphs.{Net}
 use Rattle.hmsc_graph.specs.Nets.{IsNet, size_of}
 use Rattle.hmsc_graph.specs.Spots.{spot_of, goal_of}
@@ -9,16 +9,16 @@ use Rattle.msc_base.specs.Patterns.{seq, par}
 use Rattle.chart_term.specs.Tables.{net_of, nodes_of, terms_over}
 use Rattle.chart_term.specs.Terms.{Tree, Loop, row_of}
 use Rattle.hmsc_graph.specs.Walks.{Leads}
-use Rattle.term_permission.specs.Endings.{AreEnding}
+use Rattle.term_permission.specs.Endings.{AreEnding, EndsAs}
 use Rattle.term_permission.specs.Ready.{IsReady}
 use Rattle.term_laws.specs.Taking.{MayEnd, EndAll, EndOne, EndWalk}
-use Rattle.term_permission.proofs.EndingFacts.{all-first, all-at, all-ending, one-at, none-ending, none-first, take_all, turns-first, turns-at, turns-part, seq-ends, par-ends, choice-ends, tied-ends, trail-ends, loop-not, loop-zero, loop-owed, walk-ends, ending-more, ok-map}
-use Rattle.term_laws.proofs.Measures.{rank_in, rank_all, rank-choice, rank-join, rank-loop, rank-at, rank-part}
+use Rattle.term_permission.proofs.EndingFacts.{all-empty, all-first, all-last, all-at, all-ending, ends_as, one-at, one-empty, one-last, none-ending, none-first, turns-first, turns-at, turns-part, seq-ends, par-ends, choice-ends, tied-ends, trail-ends, loop-not, loop-zero, loop-owed, walk-ends, ending-more, ok-map}
+use Rattle.term_laws.proofs.Measures.{rank_in, rank_all, rank-choice, rank-join, rank-loop, rank-at, rank-par, rank-part, rank-seq, rank-some, rank-tied}
 use Rattle.term_permission.proofs.NodeTerms.{node-is, sizes-are}
 use Rattle.term_permission.proofs.PermitLoops.{ready-loop}
 use Rattle.term_permission.proofs.PermitRows.{ready-part}
 use Rattle.term_permission.proofs.PermitWalks.{ready-walk}
-use Rattle.term_permission.proofs.Permits.{ready-at, ready-choice, ready-par, ready-seq}
+use Rattle.term_permission.proofs.Permits.{ready-at, ready-choice, ready-par, ready-seq, ready-tied}
 use Rattle.term_laws.proofs.TermSentences.{net_rank}
 use Rattle.term_permission.proofs.finishes.+may_end.Goals as goal
 
@@ -41,7 +41,15 @@ all_may_end-loop-index-preserved t c =
 
 pub all_may_end-returns : goal.all_may_end-returns
 all_may_end-returns t c =
-    (λ e. subst (λ (l : List Tree). EndAll (terms_over c.args.nets.now.tables) l) (take_all (begun c.args.parts.now) c.loop-index.index (omega (arith, c.len-index-end.ensures, begun-length c.args.parts.now c.requires.turns, c.loop-index-test.false))) c.loop-index.invariant, λ h. refl)
+    let w = c.args.nets.now.tables in
+    let xs = begun c.args.parts.now in
+    let last : c.loop-index.index ≡ c.len-count.result - 1 = omega (arith, c.loop-index.auto.index-end, c.loop-index-test.false) in
+    let long : c.len-count.result - 1 + 1 ≡ length xs = omega (arith, c.if-count-eq0.false, c.len-count.ensures, begun-length c.args.parts.now c.requires.turns) in
+    record {
+      ends = all-last (terms_over w) xs (c.len-count.result - 1) c.term_at-2.result.now long c.term_at-2.ensures (subst (λ (n : ℕ). EndAll (terms_over w) (take n xs)) last c.loop-index.invariant);
+      ready = ready-at w xs (c.len-count.result - 1) c.term_at-2.result.now c.term_at-2.ensures c.requires.parts;
+      below = omega (arith, rank-at w xs (c.len-count.result - 1) c.term_at-2.result.now c.term_at-2.ensures);
+    }
 
 pub one_may_end-may_end-requires : goal.one_may_end-may_end-requires
 one_may_end-may_end-requires t c =
@@ -62,7 +70,15 @@ one_may_end-loop-index-init t c = none-first (terms_over c.args.nets.now.tables)
 
 pub one_may_end-returns : goal.one_may_end-returns
 one_may_end-returns t c =
-    (λ e. cc, λ h. absurd (c.loop-index.invariant (subst (λ (l : List Tree). EndOne (terms_over c.args.nets.now.tables) l) (sym (take_all (begun c.args.parts.now) c.loop-index.index (omega (arith, c.len-index-end.ensures, begun-length c.args.parts.now c.requires.turns, c.loop-index-test.false)))) h)))
+    let w = c.args.nets.now.tables in
+    let xs = begun c.args.parts.now in
+    let last : c.loop-index.index ≡ c.len-count.result - 1 = omega (arith, c.loop-index.auto.index-end, c.loop-index-test.false) in
+    let long : c.len-count.result - 1 + 1 ≡ length xs = omega (arith, c.if-count-eq0.false, c.len-count.ensures, begun-length c.args.parts.now c.requires.turns) in
+    record {
+      ends = one-last (terms_over w) xs (c.len-count.result - 1) c.term_at-2.result.now long c.term_at-2.ensures (subst (λ (n : ℕ). EndOne (terms_over w) (take n xs) → ⊥) last c.loop-index.invariant);
+      ready = ready-at w xs (c.len-count.result - 1) c.term_at-2.result.now c.term_at-2.ensures c.requires.parts;
+      below = omega (arith, rank-at w xs (c.len-count.result - 1) c.term_at-2.result.now c.term_at-2.ensures);
+    }
 
 pub turns_may_end-loop-index-init : goal.turns_may_end-loop-index-init
 turns_may_end-loop-index-init t c = turns-first (terms_over c.args.nets.now.tables) c.args.row.now
@@ -134,58 +150,66 @@ loop_may_end-returns t c =
     ok-map (λ (b : Bool). IsTrue b ↔ MayEnd (terms_over c.args.nets.now.tables) c.args.body.now) (λ (b : Bool). IsTrue b ↔ MayEnd (terms_over c.args.nets.now.tables) (Loop c.args.body.now c.args.lower c.args.upper (row_of c.args.row.now))) c.may_end.result
     (λ b h. loop-owed (terms_over c.args.nets.now.tables) c.args.body.now c.args.lower c.args.upper c.args.row.now c.in_ok-turns_may_end.field-0 b c.requires.row.normal.some c.in_ok-turns_may_end.ensures e z h) c.may_end.ensures
 
-pub may_end-loop_may_end-requires : goal.may_end-loop_may_end-requires
-may_end-loop_may_end-requires t c =
+pub ending_of-loop_may_end-requires : goal.ending_of-loop_may_end-requires
+ending_of-loop_may_end-requires t c =
     let r = rank-loop c.args.nets.now.tables c.args.term.now c.in-Loop.body.now c.in-Loop.lower c.in-Loop.upper c.in-Loop.row.now c.in-Loop.ensures in
     (omega (arith, c.decreases), (c.requires.tables, ready-loop c.args.nets.now.tables c.args.term.now c.in-Loop.body.now c.in-Loop.lower c.in-Loop.upper c.in-Loop.row.now c.in-Loop.ensures c.requires.term))
 
-pub may_end-walk_may_end-requires : goal.may_end-walk_may_end-requires
-may_end-walk_may_end-requires t c =
+pub ending_of-walk_may_end-requires : goal.ending_of-walk_may_end-requires
+ending_of-walk_may_end-requires t c =
     let r = ready-walk c.args.nets.now.tables c.args.term.now c.in-Walk.net c.in-Walk.from c.in-Walk.to _ c.requires.tables c.in-Walk.ensures c.requires.term in
     (omega (arith, c.decreases, r.rank), (c.requires.tables, (r.net, (r.from, r.to))))
 
-pub may_end-returns-in-Seq : goal.may_end-returns-in-Seq
-may_end-returns-in-Seq t c =
-    ok-map (λ (b : Bool). IsTrue b ↔ EndAll (terms_over c.args.nets.now.tables) (begun c.in-Seq.parts.now)) (λ (b : Bool). IsTrue b ↔ MayEnd (terms_over c.args.nets.now.tables) c.args.term.now) c.all_may_end.result
-    (λ b h. seq-ends (terms_over c.args.nets.now.tables) b c.args.term.now (begun c.in-Seq.parts.now) c.in-Seq.ensures.0 h) c.all_may_end.ensures
+pub ending_of-returns-in-Seq : goal.ending_of-returns-in-Seq
+ending_of-returns-in-Seq t c =
+    let w = c.args.nets.now.tables in
+    ok-map (EndsAs w (EndAll (terms_over w) (begun c.in-Seq.parts.now)) (rank_all w (begun c.in-Seq.parts.now) + 1)) (EndsAs w (MayEnd (terms_over w) c.args.term.now) (rank_in w c.args.term.now)) c.all_may_end.result
+    (λ r h. ends_as w (EndAll (terms_over w) (begun c.in-Seq.parts.now)) (MayEnd (terms_over w) c.args.term.now) (rank_all w (begun c.in-Seq.parts.now) + 1) (rank_in w c.args.term.now) r (seq-ends (terms_over w) c.args.term.now (begun c.in-Seq.parts.now) c.in-Seq.ensures.0) (omega (arith, rank-seq w c.args.term.now (begun c.in-Seq.parts.now) c.in-Seq.ensures.0)) h) c.all_may_end.ensures
 
-pub may_end-returns-in-Par : goal.may_end-returns-in-Par
-may_end-returns-in-Par t c =
-    ok-map (λ (b : Bool). IsTrue b ↔ EndAll (terms_over c.args.nets.now.tables) (begun c.in-Par.parts.now)) (λ (b : Bool). IsTrue b ↔ MayEnd (terms_over c.args.nets.now.tables) c.args.term.now) c.all_may_end-in-Par.result
-    (λ b h. par-ends (terms_over c.args.nets.now.tables) b c.args.term.now (begun c.in-Par.parts.now) c.in-Par.ensures.0 h) c.all_may_end-in-Par.ensures
+pub ending_of-returns-in-Par : goal.ending_of-returns-in-Par
+ending_of-returns-in-Par t c =
+    let w = c.args.nets.now.tables in
+    ok-map (EndsAs w (EndAll (terms_over w) (begun c.in-Par.parts.now)) (rank_all w (begun c.in-Par.parts.now) + 1)) (EndsAs w (MayEnd (terms_over w) c.args.term.now) (rank_in w c.args.term.now)) c.all_may_end-in-Par.result
+    (λ r h. ends_as w (EndAll (terms_over w) (begun c.in-Par.parts.now)) (MayEnd (terms_over w) c.args.term.now) (rank_all w (begun c.in-Par.parts.now) + 1) (rank_in w c.args.term.now) r (par-ends (terms_over w) c.args.term.now (begun c.in-Par.parts.now) c.in-Par.ensures.0) (omega (arith, rank-par w c.args.term.now (begun c.in-Par.parts.now) c.in-Par.ensures.0)) h) c.all_may_end-in-Par.ensures
 
-pub may_end-returns-in-Choice : goal.may_end-returns-in-Choice
-may_end-returns-in-Choice t c =
-    ok-map (λ (b : Bool). IsTrue b ↔ EndOne (terms_over c.args.nets.now.tables) (begun c.in-Choice.parts.now)) (λ (b : Bool). IsTrue b ↔ MayEnd (terms_over c.args.nets.now.tables) c.args.term.now) c.one_may_end.result
-    (λ b h. choice-ends (terms_over c.args.nets.now.tables) b c.args.term.now (begun c.in-Choice.parts.now) c.in-Choice.ensures.0 h) c.one_may_end.ensures
+pub ending_of-returns-in-Choice : goal.ending_of-returns-in-Choice
+ending_of-returns-in-Choice t c =
+    let w = c.args.nets.now.tables in
+    ok-map (EndsAs w (EndOne (terms_over w) (begun c.in-Choice.parts.now)) (rank_all w (begun c.in-Choice.parts.now) + 1)) (EndsAs w (MayEnd (terms_over w) c.args.term.now) (rank_in w c.args.term.now)) c.one_may_end.result
+    (λ r h. ends_as w (EndOne (terms_over w) (begun c.in-Choice.parts.now)) (MayEnd (terms_over w) c.args.term.now) (rank_all w (begun c.in-Choice.parts.now) + 1) (rank_in w c.args.term.now) r (choice-ends (terms_over w) c.args.term.now (begun c.in-Choice.parts.now) c.in-Choice.ensures.0) (omega (arith, rank-some w c.args.term.now (begun c.in-Choice.parts.now) c.in-Choice.ensures.0)) h) c.one_may_end.ensures
 
-pub may_end-all_may_end-requires : goal.may_end-all_may_end-requires
-may_end-all_may_end-requires t c =
+pub ending_of-all_may_end-requires : goal.ending_of-all_may_end-requires
+ending_of-all_may_end-requires t c =
     let w = c.args.nets.now.tables in
     let r : rank_in w c.args.term.now ≡ 1 + rank_all w (begun c.in-Seq.parts.now) = ap (rank_in w) c.in-Seq.ensures.0 ∙ rank-join w seq (begun c.in-Seq.parts.now) in
     (omega (arith, c.decreases, r), (c.requires.tables, (c.in-Seq.ensures.1, ready-seq w c.args.term.now (begun c.in-Seq.parts.now) c.in-Seq.ensures.0 c.requires.term)))
 
-pub may_end-all_may_end-requires-in-Par : goal.may_end-all_may_end-requires-in-Par
-may_end-all_may_end-requires-in-Par t c =
+pub ending_of-all_may_end-requires-in-Par : goal.ending_of-all_may_end-requires-in-Par
+ending_of-all_may_end-requires-in-Par t c =
     let w = c.args.nets.now.tables in
     let r : rank_in w c.args.term.now ≡ 1 + rank_all w (begun c.in-Par.parts.now) = ap (rank_in w) c.in-Par.ensures.0 ∙ rank-join w par (begun c.in-Par.parts.now) in
     (omega (arith, c.decreases, r), (c.requires.tables, (c.in-Par.ensures.1, ready-par w c.args.term.now (begun c.in-Par.parts.now) c.in-Par.ensures.0 c.requires.term)))
 
-pub may_end-one_may_end-requires : goal.may_end-one_may_end-requires
-may_end-one_may_end-requires t c =
+pub ending_of-one_may_end-requires : goal.ending_of-one_may_end-requires
+ending_of-one_may_end-requires t c =
     let w = c.args.nets.now.tables in
     let r : rank_in w c.args.term.now ≡ 1 + rank_all w (begun c.in-Choice.parts.now) = ap (rank_in w) c.in-Choice.ensures.0 ∙ rank-choice w (begun c.in-Choice.parts.now) in
     (omega (arith, c.decreases, r), (c.requires.tables, (c.in-Choice.ensures.1, ready-choice w c.args.term.now (begun c.in-Choice.parts.now) c.in-Choice.ensures.0 c.requires.term)))
 
-pub may_end-returns-in-Tied : goal.may_end-returns-in-Tied
-may_end-returns-in-Tied t c =
-    ok-map (λ (b : Bool). IsTrue b ↔ MayEnd (terms_over c.args.nets.now.tables) c.in-Tied.inner.now) (λ (b : Bool). IsTrue b ↔ MayEnd (terms_over c.args.nets.now.tables) c.args.term.now) c.may_end.result
-    (λ b h. tied-ends (terms_over c.args.nets.now.tables) b c.args.term.now c.in-Tied.inner.now _ c.in-Tied.ensures h) c.may_end.ensures
+pub ending_of-returns-in-Tied : goal.ending_of-returns-in-Tied
+ending_of-returns-in-Tied t c =
+    let w = c.args.nets.now.tables in
+    record {
+      ends = tied-ends (terms_over w) c.args.term.now c.in-Tied.inner.now _ c.in-Tied.ensures;
+      ready = ready-tied w c.args.term.now c.in-Tied.inner.now _ c.in-Tied.ensures c.requires.term;
+      below = rank-tied w c.args.term.now c.in-Tied.inner.now _ c.in-Tied.ensures;
+    }
 
-pub may_end-returns-in-Walk : goal.may_end-returns-in-Walk
-may_end-returns-in-Walk t c =
-    ok-map (λ (b : Bool). IsTrue b ↔ EndWalk (terms_over c.args.nets.now.tables) c.in-Walk.net (spot_of c.in-Walk.from) (goal_of c.in-Walk.to)) (λ (b : Bool). IsTrue b ↔ MayEnd (terms_over c.args.nets.now.tables) c.args.term.now) c.walk_may_end.result
-    (λ b h. trail-ends (terms_over c.args.nets.now.tables) b c.args.term.now c.in-Walk.net (spot_of c.in-Walk.from) (goal_of c.in-Walk.to) _ c.in-Walk.ensures h) c.walk_may_end.ensures
+pub ending_of-returns-in_ok-walk_may_end-in-Walk : goal.ending_of-returns-in_ok-walk_may_end-in-Walk
+ending_of-returns-in_ok-walk_may_end-in-Walk t c = trail-ends (terms_over c.args.nets.now.tables) c.in_ok-walk_may_end-in-Walk.field-0 c.args.term.now c.in-Walk.net (spot_of c.in-Walk.from) (goal_of c.in-Walk.to) _ c.in-Walk.ensures c.in_ok-walk_may_end-in-Walk.ensures
+
+pub all_may_end-returns-then-count-eq0 : goal.all_may_end-returns-then-count-eq0
+all_may_end-returns-then-count-eq0 t c = (λ e. all-empty (terms_over c.args.nets.now.tables) (begun c.args.parts.now) (omega (arith, begun-length c.args.parts.now c.requires.turns, c.len-count.ensures, c.if-count-eq0.true)), λ h. refl)
 
 pub walk_may_end-returns : goal.walk_may_end-returns
 walk_may_end-returns t c =
