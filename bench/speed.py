@@ -8,6 +8,9 @@ PROGRAM is the built program (crates/mscjudge/out/mscjudge after `rt run mscjudg
 counts; what is printed has to be what is wanted. The peak memory includes the 11 MiB that measured.py itself takes. The works, all of
 them where none is named:
 
+    loop          a loop of one message, each received before the next is sent: 1,000,000 events, as text and as JSON
+    ahead         the same loop, all messages sent before the first is received: 60,000 and 1,000,000 events
+    answers       a loop of a request and one of two answers, these in turn at random: 1,000,000 events
     same          1,000,000 events of one line, as text and as JSON: the first fails, and the log is read to its end
     few           1,000,000 events of ten lines, as text and as JSON, likewise
     different     1,000,000 events of as many lines, as text and as JSON, likewise
@@ -19,6 +22,7 @@ them where none is named:
     document      4,000 charts of about 1,000 bytes, 4 MB together: check
 """
 import os
+import random
 import sys
 import tempfile
 
@@ -41,6 +45,29 @@ def lines_of(events, form):
 def reading(measure, name, events):
     for form, option in (("lines", ""), ("json", " --log-json")):
         measure(name, EMPTY, lines_of(events, form), "judge d None l" + option, "fails at event 1, line 1")
+
+
+LOOP = "i,j: loop <1,inf> begin; i: out a to j; j: in a from i; loop end;"
+
+
+def loop(measure):
+    turn = [("i: out a to j;", ("i", "out", "a", "j")), ("j: in a from i;", ("j", "in", "a", "i"))]
+    for form, option in (("lines", ""), ("json", " --log-json")):
+        measure("loop", finite.chart("A", "ij", [LOOP]), lines_of(turn * (EVENTS // 2), form), "judge d A l" + option, f"conforms, events {EVENTS}")
+
+
+def ahead(measure):
+    for count in (30_000, EVENTS // 2):
+        log = "i: out a to j;\n" * count + "j: in a from i;\n" * count
+        measure(f"ahead {count:,}", finite.chart("A", "ij", [LOOP]), log, "judge d A l", f"conforms, events {2 * count}")
+
+
+def answers(measure):
+    answer = "c,s: alt begin; s: out yes to c; c: in yes from s; alt; s: out no to c; c: in no from s; alt end;"
+    chart = finite.chart("S", "cs", ["c,s: loop <1,inf> begin; c: out req to s; s: in req from c; " + answer + " loop end;"])
+    drawn = random.Random(7)
+    turns = ("c: out req to s;\ns: in req from c;\ns: out {0} to c;\nc: in {0} from s;\n".format(drawn.choice(["yes", "no"])) for _ in range(EVENTS // 4))
+    measure("answers", chart, "".join(turns), "judge d S l", f"conforms, events {EVENTS}")
 
 
 def same(measure):
@@ -94,7 +121,7 @@ def document(measure):
     measure("document", check.document(4_000), "", "check d", "accepted, charts 4000")
 
 
-WORKS = {work.__name__: work for work in (same, few, different, statements, alternatives, blocked, choices, coregion, document)}
+WORKS = {work.__name__: work for work in (loop, ahead, answers, same, few, different, statements, alternatives, blocked, choices, coregion, document)}
 
 
 def main():

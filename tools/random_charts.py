@@ -4,11 +4,13 @@ A chart is made as a tree of levels first: a level is a body or an operand, and 
 expressions over some of its instances. From the tree come a run, by the meaning of the forms alone, and the text, in stretches of
 statements and of columns. So what a run is doesn't stand on how the text is read.
 """
+import copy
 import json
 import random
 
 KINDS = {"out": "out", "in": "in", "action": "action", "set": "start", "reset": "stop", "timeout": "timeout", "lost": "lost", "found": "found"}
 DEPTH = 3
+BOUNDS = [(1, None), (1, None), (0, None), (0, 1), (1, 2), (2, 2), (2, None), (0, 0), (3, 1), (1, 1)]
 EVENTS = 14
 
 
@@ -51,8 +53,8 @@ class Condition:
 
 
 class Inline:
-    def __init__(self, form, cover, name, operands):
-        self.form, self.cover, self.name, self.operands = form, cover, name, operands
+    def __init__(self, form, cover, name, operands, bounds=None):
+        self.form, self.cover, self.name, self.operands, self.bounds = form, cover, name, operands, bounds
 
 
 class Level:
@@ -116,14 +118,14 @@ class Maker:
     def inline(self, cover, depth):
         rng = self.rng
         inner = rng.sample(cover, rng.randint(1, len(cover)))
-        form = rng.choice(["alt", "alt", "opt", "par"])
+        form = rng.choice(["alt", "alt", "opt", "par", "loop", "loop"])
         if depth == 0 and rng.random() < 0.25:
             form, inner = "exc", rng.sample(cover, len(cover))
         if self.structural == "exc placed" and rng.random() < 0.3:
             form = "exc"
         self.count += 1
         operands = [self.level(inner, depth + 1) for _ in range(rng.randint(1, 3) if form in ("alt", "par") else 1)]
-        return Inline(form, inner, f"X{self.count}", operands)
+        return Inline(form, inner, f"X{self.count}", operands, rng.choice(BOUNDS))
 
     def coregions(self, level):
         """Puts events of one instance that stand together into coregions, now and then."""
@@ -199,6 +201,8 @@ def unfolded_item(rng, item):
     if isinstance(item, Coregion):
         return list(item.events), []
     operands = item.operands
+    if item.form == "loop":
+        return turns_of(rng, item)
     if item.form == "alt":
         operands = [rng.choice(operands)]
     elif item.form == "opt" and rng.random() < 0.3:
@@ -207,6 +211,21 @@ def unfolded_item(rng, item):
     for operand in operands:
         inner, more = unfolded(rng, operand)
         events, pairs = events + inner, pairs + more
+    return events, pairs
+
+
+def turns_of(rng, item):
+    """The events of some turns of a loop, each turn with events of its own, and their pairs."""
+    lower, upper = item.bounds
+    most = lower + 2 if upper is None else min(upper, lower + 2)
+    events, pairs = [], []
+    for _ in range(rng.randint(lower, most) if lower <= most else 0):
+        inner, more = unfolded(rng, item.operands[0])
+        own = {id(event): copy.copy(event) for event in inner}
+        turn = [own[id(event)] for event in inner]
+        pairs += [(own[id(first)], own[id(second)]) for first, second in more]
+        pairs += [(first, second) for first in events for second in turn if first.at == second.at]
+        events += turn
     return events, pairs
 
 
@@ -227,10 +246,10 @@ def run_of(rng, level):
 # --- texts --------------------------------------------------------------------------------------
 
 # what can be wrong in a text; for each a place of its own is drawn
-OF_PARTS = ["a part lacks", "another list", "no name", "not its own column", "another form", "other operands", "parts exchanged"]
-FAULTS = ["unmatched message", "undeclared instance", "uncovered instance", "undeclared in a list", "named twice", "items exchanged", "unbuilt"]
+OF_PARTS = ["a part lacks", "another list", "no name", "not its own column", "another form", "other operands", "another bound", "parts exchanged"]
+FAULTS = ["unmatched message", "undeclared instance", "uncovered instance", "undeclared in a list", "named twice", "items exchanged", "loop bound", "unbuilt"]
 STRUCTURAL = ["exc placed", "event named twice", "unknown event", "cyclic order"]
-UNBUILT = ["loop begin; loop end", "loop <2,1> begin unbuilt; loop end", "out u to env via g", "in u from reference X1 via g", "reference unbuilt",
+UNBUILT = ["out u to env via g", "in u from reference X1 via g", "reference unbuilt",
            "create unbuilt", "stop", "concurrent; action x; \vout u to env via g; endconcurrent"]
 MARK = "\v"
 
@@ -337,10 +356,23 @@ class Writer:
             name = " " + names[0]
         names.append(item.name)
         operands = [" ".join(self.statements(operand)) for operand in item.operands]
-        return self.inline(item.form, name, operands)
+        return self.inline(item.form, self.bounds(item), name, operands)
 
-    def inline(self, form, head, operands):
-        return f"{form} begin{head}; " + f"{form}; ".join(operand + " " for operand in operands) + f"{form} end;"
+    def bounds(self, item):
+        """The bounds of a loop as they are written, with a blank behind them."""
+        if item.form != "loop":
+            return ""
+        if self.here("loop bound"):
+            return self.rng.choice(["<1,1000001> ", "<2000000> ", "<1000001,inf> "])
+        lower, upper = item.bounds
+        if (lower, upper) == (1, None) and self.rng.random() < 0.5:
+            return ""
+        if lower == upper and self.rng.random() < 0.5:
+            return f"<{lower}> "
+        return f"<{lower},{'inf' if upper is None else upper}> "
+
+    def inline(self, form, bounds, head, operands):
+        return f"{form} {bounds}begin{head}; " + f"{form}; ".join(operand + " " for operand in operands) + f"{form} end;"
 
     # columns
     def columns(self, level):
@@ -388,10 +420,11 @@ class Writer:
             name = " " + last
         form, operands = item.form, [" ".join(self.column(operand, i)) for operand in item.operands]
         if several and self.here("another form"):
-            form = {"alt": "par", "par": "alt", "opt": "exc", "exc": "opt"}[form]
+            form = {"alt": "par", "par": "alt", "opt": "exc", "exc": "opt", "loop": "opt"}[form]
         if several and form in ("alt", "par") and self.here("other operands"):
             operands.append("")
-        return self.inline(form, name + shared, operands)
+        bounds = "<7,9> " if several and form == "loop" and self.here("another bound") else self.bounds(item) if form == "loop" else ""
+        return self.inline(form, bounds, name + shared, operands)
 
     def shared(self, item, level, i):
         rng, names = self.rng, self.rng.sample(item.cover, len(item.cover))

@@ -65,7 +65,11 @@ same_operands inline.Exc (operand_and x no_operands) (body_and b no_bodies) n h 
 same_operands inline.Exc (operand_and x no_operands) (body_and b (body_and c bs)) n h = absurd (omega (arith, n))
 same_operands inline.Exc (operand_and x (operand_and y xs)) bs n h = cc
 same_operands inline.Par xs bs n h = refl
-same_operands inline.Loop xs bs n h = cc
+same_operands inline.Loop no_operands bs n h = cc
+same_operands inline.Loop (operand_and x no_operands) no_bodies n h = absurd (omega (arith, n))
+same_operands inline.Loop (operand_and x no_operands) (body_and b no_bodies) n h = refl
+same_operands inline.Loop (operand_and x no_operands) (body_and b (body_and c bs)) n h = absurd (omega (arith, n))
+same_operands inline.Loop (operand_and x (operand_and y xs)) bs n h = cc
 
 -- ---- one piece
 

@@ -42,3 +42,11 @@ exc_test form xs n e l = ap (λ k. nat_eq k 1) l ∙ one xs ∙ ap (λ (f : Inli
     one [] = refl
     one (x ∷ []) = refl
     one (x ∷ y ∷ xs) = not_one (length xs)
+
+pub loop_test : (form : InlineForm) (xs : List RawOperand) (n : ℕ) → form ≡ inline.Loop → n ≡ length xs → nat_eq n 1 ≡ of form xs
+loop_test form xs n e l = ap (λ k. nat_eq k 1) l ∙ one xs ∙ ap (λ (f : InlineForm). of f xs) (sym e)
+  where
+    one : (xs : List RawOperand) → nat_eq (length xs) 1 ≡ of inline.Loop xs
+    one [] = refl
+    one (x ∷ []) = refl
+    one (x ∷ y ∷ xs) = not_one (length xs)

@@ -35,7 +35,7 @@ names_no_gate (Gate name gate) = false
 abbrev pub is_plain : RawEvent → Bool
 is_plain e = creates_nobody e.kind && names_no_gate e.target
 
--- as many operands as the form has; loops aren't made
+-- as many operands as the form has
 abbrev pub has_operands : InlineForm → Bodies → Bool
 has_operands inline.Alt no_bodies = false
 has_operands inline.Alt (body_and operand others) = true
@@ -46,7 +46,9 @@ has_operands inline.Exc no_bodies = false
 has_operands inline.Exc (body_and operand no_bodies) = true
 has_operands inline.Exc (body_and operand (body_and other others)) = false
 has_operands inline.Par operands = true
-has_operands inline.Loop operands = false
+has_operands inline.Loop no_bodies = false
+has_operands inline.Loop (body_and operand no_bodies) = true
+has_operands inline.Loop (body_and operand (body_and other others)) = false
 
 module _ (names : List (List ℕ)) where
   -- a plain event at one of these instances
@@ -57,7 +59,7 @@ module _ (names : List (List ℕ)) where
   are_built_nodes [] = true
   are_built_nodes (n ∷ ns) = is_built_node n && are_built_nodes ns
 
-  -- the body has events of that kind, coregions of them, and inline expressions but loops
+  -- the body has events of that kind, coregions of them, and inline expressions
   abbrev mutual
     pub is_built : Body → Bool
     is_built (level cover held pairs) = are_built held

@@ -1,4 +1,5 @@
 pub mod BuiltBodies
 pub mod NotBuilt
+pub mod LoopBounds
 pub mod ChartSizes
 pub mod BodySizes

@@ -22,7 +22,7 @@ not_built_events (e ∷ es) = not_built_event true e ++ not_built_events es
 abbrev pub not_built_coregion : Bool → Place → List RawEvent → List Place
 not_built_coregion at_one place es = place_if (not at_one) place ++ not_built_events es
 
--- the form takes so many operands, and is built: loops aren't, and no text gives the others another number
+-- the form takes so many operands; no text gives it another number
 abbrev pub takes : InlineForm → Operands → Bool
 takes inline.Alt no_operands = false
 takes inline.Alt (operand_and operand others) = true
@@ -33,7 +33,9 @@ takes inline.Exc no_operands = false
 takes inline.Exc (operand_and operand no_operands) = true
 takes inline.Exc (operand_and operand (operand_and other others)) = false
 takes inline.Par others = true
-takes inline.Loop others = false
+takes inline.Loop no_operands = false
+takes inline.Loop (operand_and operand no_operands) = true
+takes inline.Loop (operand_and operand (operand_and other others)) = false
 
 -- a decomposition isn't built
 abbrev pub not_built_by : Option (List ℕ) → Place → List Place

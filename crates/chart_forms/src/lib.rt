@@ -1,10 +1,12 @@
 //! Which forms are built, and how large charts are: by their text, and by what they are woven to.
 #![tactic(auto)]
 
+mod bounds;
 mod not_built;
 mod plain;
 mod sizes;
 
+pub use bounds::first_high_bound;
 pub use not_built::first_not_built;
 pub use plain::is_plain;
 pub use sizes::size;

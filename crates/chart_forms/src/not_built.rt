@@ -46,7 +46,7 @@ fn coregion(
     events(places, list)
 }
 
-/// Whether the form is built, and takes so many operands.
+/// Whether the form takes so many operands.
 fn takes(form: InlineForm, list: &[RawOperand]) -> bool
     ensures { result ≡ takes_operands form (operand_tree (map operand_view list.now)) }
 {
@@ -54,8 +54,8 @@ fn takes(form: InlineForm, list: &[RawOperand]) -> bool
         InlineForm::Alt => list.len() > 0,
         InlineForm::Opt => list.len() == 1,
         InlineForm::Exc => list.len() == 1,
+        InlineForm::Loop => list.len() == 1,
         InlineForm::Par => true,
-        InlineForm::Loop => false,
     }
 }
 
@@ -120,7 +120,7 @@ fn form(
     }
 }
 
-/// Notes an inline expression, where it isn't built, and what of its operands isn't.
+/// Notes an inline expression, where its form doesn't take so many operands, and what of these isn't built.
 #[cycle(forms)]
 fn inline(
     places: &mut Items<Place>,

@@ -57,7 +57,7 @@ module _ (level_terms : ChartTermsMean) (chart : ChartEntry) (v : NetsValue) (x 
   chart_sound : IsSoundFor v x
   chart_sound =
       subst (λ (u : NetsValue). IsSoundFor u x) (sym tables)
-      (subst (λ (y : Tree). IsSoundFor (chart_tables body) y) (sym term) (record { full = level_terms.ranked names body accepted.ranked.rank accepted.built accepted.ranked.ranked; placed = level_terms.placed names body }))
+      (subst (λ (y : Tree). IsSoundFor (chart_tables body) y) (sym term) (record { full = level_terms.ranked names body accepted.built accepted.ranked; placed = level_terms.placed names body }))
 
   chart_weighs : WovenHaveFew → weight x ≤ 2 + body_size body
   chart_weighs pairs =

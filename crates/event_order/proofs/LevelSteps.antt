@@ -12,13 +12,13 @@ use Rattle.msc_meaning.specs.declared.body.Body as rust_body
 use Rattle.msc_meaning.specs.declared.body.Item as rust_item
 use Rattle.general_ordering.specs.ItemViews.{bodies_view, items_view}
 use Rattle.event_order.specs.Precedence.{ComesFirst, Precedes, PrecedesIn, PrecedesInOne, PrecedesWithin}
-use Rattle.event_order.specs.RankedBodies.{events_within, is_exception, item_within, items_within, operands_within}
+use Rattle.event_order.specs.RankedBodies.{counted_within, is_exception, item_counted, items_counted, operands_counted}
 use Rattle.event_order.specs.Webs.{AreDrawn, AreEntered, AreLeft, Grows, IsFront, IsPut, IsTidy, Nothing, OneOf, line, with_item}
 use Rattle.event_order.specs.declared.web.Stop.{Stop}
 use Rattle.event_order.specs.declared.web.Web.{Web}
 use Rattle.event_order.proofs.Drawing.{drawn_as, drawn_then, events_as, grows_self, rises_before, stops_later}
 use Rattle.event_order.proofs.Fronts.{entered_drawn, entered_front, left_drawn, left_front}
-use Rattle.event_order.proofs.Items.{AsksMore, asks_snoc, line_snoc, one_snoc, operands_snoc, snoc_asks, snoc_one, within_snoc}
+use Rattle.event_order.proofs.Items.{AsksMore, asks_snoc, line_snoc, one_snoc, operands_counted_snoc, snoc_asks, snoc_one, counted_snoc}
 
 -- ---- an item put behind the front
 
@@ -53,25 +53,25 @@ front_later now mid last es g h = record {
 }
 
 pub record AreItemsDrawn (held : body.Items) (old new : Web) (all : List Stop) (last : ℕ → Option ℕ) : Type 0 where
-  pub drawn : AreDrawn (PrecedesIn held) (items_within held) old new all
+  pub drawn : AreDrawn (PrecedesIn held) (items_counted held) old new all
   pub front : IsFront new last (line held)
 
-more_drawn : (old now mid new : Web) (was last : ℕ → Option ℕ) (xs : List Item) (x : Item) (all stops : List Stop) → AreItemsDrawn (items xs) old now all was → AreDrawn (PrecedesWithin x) (item_within x) now mid stops
+more_drawn : (old now mid new : Web) (was last : ℕ → Option ℕ) (xs : List Item) (x : Item) (all stops : List Stop) → AreItemsDrawn (items xs) old now all was → AreDrawn (PrecedesWithin x) (item_counted x) now mid stops
     → IsPut mid new was last (is_exception x) stops → AreItemsDrawn (items (xs ++ x ∷ [])) old new (all ++ stops) last
 more_drawn old now mid new was last xs x all stops h inside p =
     let front : IsFront mid was (line (items xs)) = front_later now mid was (line (items xs)) inside.grown h.front in
-    let both = drawn_then (PrecedesIn (items xs)) (PrecedesWithin x) (items_within (items xs)) (item_within x) old now mid all stops h.drawn inside in
-    let three = drawn_then (OneOf (PrecedesIn (items xs)) (PrecedesWithin x)) (ComesFirst (line (items xs)) (item_within x)) (items_within (items xs) ++ item_within x) [] old mid new (all ++ stops) [] both (p.drawn (line (items xs)) (item_within x) front inside.handed) in
+    let both = drawn_then (PrecedesIn (items xs)) (PrecedesWithin x) (items_counted (items xs)) (item_counted x) old now mid all stops h.drawn inside in
+    let three = drawn_then (OneOf (PrecedesIn (items xs)) (PrecedesWithin x)) (ComesFirst (line (items xs)) (item_counted x)) (items_counted (items xs) ++ item_counted x) [] old mid new (all ++ stops) [] both (p.drawn (line (items xs)) (item_counted x) front inside.handed) in
     record {
       drawn =
-          drawn_as (AsksMore xs x) (PrecedesIn (items (xs ++ x ∷ []))) (items_within (items (xs ++ x ∷ []))) old new (all ++ stops) (asks_snoc xs x) (snoc_asks xs x)
-          (events_as (AsksMore xs x) ((items_within (items xs) ++ item_within x) ++ []) (items_within (items (xs ++ x ∷ []))) old new ((all ++ stops) ++ []) (all ++ stops)
-          (append-nil (items_within (items xs) ++ item_within x) ∙ sym (within_snoc xs x)) (append-nil (all ++ stops)) three);
-      front = subst (IsFront new last) (sym (line_snoc xs x)) (p.front (line (items xs)) (item_within x) front inside.handed);
+          drawn_as (AsksMore xs x) (PrecedesIn (items (xs ++ x ∷ []))) (items_counted (items (xs ++ x ∷ []))) old new (all ++ stops) (asks_snoc xs x) (snoc_asks xs x)
+          (events_as (AsksMore xs x) ((items_counted (items xs) ++ item_counted x) ++ []) (items_counted (items (xs ++ x ∷ []))) old new ((all ++ stops) ++ []) (all ++ stops)
+          (append-nil (items_counted (items xs) ++ item_counted x) ∙ sym (counted_snoc xs x)) (append-nil (all ++ stops)) three);
+      front = subst (IsFront new last) (sym (line_snoc xs x)) (p.front (line (items xs)) (item_counted x) front inside.handed);
     }
 
 pub items_step : (old now mid new : Web) (was last : ℕ → Option ℕ) (xs : List rust_item.Item) (i : ℕ) (x : rust_item.Item) (stays : Bool) (all stops pushed : List Stop) → i < length xs → x ≡ get_or xs i x → AreItemsDrawn (items_view (take i xs)) old now all was
-    → AreDrawn (PrecedesWithin (item_view x)) (item_within (item_view x)) now mid stops → IsPut mid new was last stays stops → stays ≡ is_exception (item_view x) → pushed ≡ all ++ stops → AreItemsDrawn (items_view (take (i + 1) xs)) old new pushed last
+    → AreDrawn (PrecedesWithin (item_view x)) (item_counted (item_view x)) now mid stops → IsPut mid new was last stays stops → stays ≡ is_exception (item_view x) → pushed ≡ all ++ stops → AreItemsDrawn (items_view (take (i + 1) xs)) old new pushed last
 items_step old now mid new was last xs i x stays all stops pushed low is h inside p exc push =
     let more : map item_view (take (i + 1) xs) ≡ map item_view (take i xs) ++ item_view x ∷ [] =
     ap (map item_view) (take_more xs i x low ∙ ap (λ (y : rust_item.Item). take i xs ++ y ∷ []) (sym is)) ∙ map-append item_view (take i xs) (x ∷ []) in
@@ -98,21 +98,21 @@ same_item xs i x y low a b = same_Some x y (sym (slice_get_read xs (length xs) i
 
 -- ---- a level
 
-pub level_drawn : (old mid new : Web) (cover : List (List ℕ)) (held : body.Items) (pairs : List Pair) (stops : List Stop) → AreDrawn (HasPair (level_pairs held pairs)) [] old mid [] → AreDrawn (PrecedesIn held) (items_within held) mid new stops
-    → AreDrawn (Precedes (body.level cover held pairs)) (items_within held) old new stops
-level_drawn old mid new cover held pairs stops a b = drawn_then (HasPair (level_pairs held pairs)) (PrecedesIn held) [] (items_within held) old mid new [] stops a b
+pub level_drawn : (old mid new : Web) (cover : List (List ℕ)) (held : body.Items) (pairs : List Pair) (stops : List Stop) → AreDrawn (HasPair (level_pairs held pairs)) [] old mid [] → AreDrawn (PrecedesIn held) (items_counted held) mid new stops
+    → AreDrawn (Precedes (body.level cover held pairs)) (items_counted held) old new stops
+level_drawn old mid new cover held pairs stops a b = drawn_then (HasPair (level_pairs held pairs)) (PrecedesIn held) [] (items_counted held) old mid new [] stops a b
 
 -- ---- operands
 
 pub operands_step : (old now new : Web) (bs : List rust_body.Body) (i : ℕ) (b : rust_body.Body) (all stops pushed : List Stop) → i < length bs → b ≡ get_or bs i b
-    → AreDrawn (PrecedesInOne (bodies_view (take i bs))) (operands_within (bodies_view (take i bs))) old now all → AreDrawn (Precedes (body_view b)) (events_within (body_view b)) now new stops → pushed ≡ all ++ stops
-    → AreDrawn (PrecedesInOne (bodies_view (take (i + 1) bs))) (operands_within (bodies_view (take (i + 1) bs))) old new pushed
+    → AreDrawn (PrecedesInOne (bodies_view (take i bs))) (operands_counted (bodies_view (take i bs))) old now all → AreDrawn (Precedes (body_view b)) (counted_within (body_view b)) now new stops → pushed ≡ all ++ stops
+    → AreDrawn (PrecedesInOne (bodies_view (take (i + 1) bs))) (operands_counted (bodies_view (take (i + 1) bs))) old new pushed
 operands_step old now new bs i b all stops pushed low is h one push =
     let more : map body_view (take (i + 1) bs) ≡ map body_view (take i bs) ++ body_view b ∷ [] =
     ap (map body_view) (take_more bs i b low ∙ ap (λ (y : rust_body.Body). take i bs ++ y ∷ []) (sym is)) ∙ map-append body_view (take i bs) (b ∷ []) in
     let before : List Body = map body_view (take i bs) in
-    subst (λ (l : List Stop). AreDrawn (PrecedesInOne (bodies_view (take (i + 1) bs))) (operands_within (bodies_view (take (i + 1) bs))) old new l) (sym push)
-    (subst (λ (l : List Body). AreDrawn (PrecedesInOne (bodies l)) (operands_within (bodies l)) old new (all ++ stops)) (sym more)
-    (drawn_as (OneOf (PrecedesInOne (bodies before)) (Precedes (body_view b))) (PrecedesInOne (bodies (before ++ body_view b ∷ []))) (operands_within (bodies (before ++ body_view b ∷ []))) old new (all ++ stops) (one_snoc before (body_view b)) (snoc_one before (body_view b))
-    (events_as (OneOf (PrecedesInOne (bodies before)) (Precedes (body_view b))) (operands_within (bodies before) ++ events_within (body_view b)) (operands_within (bodies (before ++ body_view b ∷ []))) old new (all ++ stops) (all ++ stops)
-    (sym (operands_snoc before (body_view b))) refl (drawn_then (PrecedesInOne (bodies before)) (Precedes (body_view b)) (operands_within (bodies before)) (events_within (body_view b)) old now new all stops h one))))
+    subst (λ (l : List Stop). AreDrawn (PrecedesInOne (bodies_view (take (i + 1) bs))) (operands_counted (bodies_view (take (i + 1) bs))) old new l) (sym push)
+    (subst (λ (l : List Body). AreDrawn (PrecedesInOne (bodies l)) (operands_counted (bodies l)) old new (all ++ stops)) (sym more)
+    (drawn_as (OneOf (PrecedesInOne (bodies before)) (Precedes (body_view b))) (PrecedesInOne (bodies (before ++ body_view b ∷ []))) (operands_counted (bodies (before ++ body_view b ∷ []))) old new (all ++ stops) (one_snoc before (body_view b)) (snoc_one before (body_view b))
+    (events_as (OneOf (PrecedesInOne (bodies before)) (Precedes (body_view b))) (operands_counted (bodies before) ++ counted_within (body_view b)) (operands_counted (bodies (before ++ body_view b ∷ []))) old new (all ++ stops) (all ++ stops)
+    (sym (operands_counted_snoc before (body_view b))) refl (drawn_then (PrecedesInOne (bodies before)) (Precedes (body_view b)) (operands_counted (bodies before)) (counted_within (body_view b)) old now new all stops h one))))

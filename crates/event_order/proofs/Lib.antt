@@ -5,5 +5,8 @@ pub mod LastBars
 pub mod Fronts
 pub mod Items
 pub mod LevelSteps
+pub mod OneEvent
+pub mod AskedLoops
 pub mod Ranking
+pub mod LoopLaws
 pub mod Sorting

@@ -5,9 +5,10 @@ use Rattle.msc_base.specs.declared.label.Pair.{Pair}
 use Rattle.msc_meaning.specs.Bodies.{Body, level, Items, no_items, item_and, Item, Single, Coregion, Inline, Refer, Bodies, no_bodies, body_and}
 use Rattle.msc_meaning.specs.Pairing.{HasPair}
 use Rattle.msc_meaning.specs.Ties.{level_pairs}
+use Rattle.msc_tree.specs.declared.reference.InlineForm.TheVariants as inline
 use Rattle.event_order.specs.OrderLaws.{RanksRise}
-use Rattle.event_order.specs.Precedence.{ComesBefore, IsCyclic, Precedes, PrecedesIn, PrecedesInOne, PrecedesWithin, next, further}
-use Rattle.event_order.specs.RankedBodies.{AreRanked, HaveRanked, IsRanked, IsRankedItem}
+use Rattle.event_order.specs.Precedence.{BodyHasCyclicLoop, ComesBefore, HasCyclicLoop, HasOneCyclicLoop, HasRound, HaveCyclicLoop, IsCyclic, IsOneCyclic, Precedes, PrecedesIn, PrecedesInOne, PrecedesWithin, next, further}
+use Rattle.event_order.specs.RankedBodies.{AreRanked, BodyHasRankedLoops, CanBeRanked, CanEachBeRanked, EachHasRankedLoops, HasRankedLoops, HaveRanked, HaveRankedLoops, IsRanked, IsRankedItem}
 
 pair_among : (ps : List Pair) (u v : ℕ) → HasPair ps u v → (p : Pair) × Among p ps × (p.first ≡ u) × (p.second ≡ v)
 pair_among [] u v h = absurd h
@@ -37,7 +38,11 @@ module _ (rank : ℕ → ℕ) where
     item_rises : (x : Item) → IsRankedItem rank x → (u v : ℕ) → PrecedesWithin x u v → rank u < rank v
     item_rises (Single n) r u v h = absurd h
     item_rises (Coregion ns) r u v h = absurd h
-    item_rises (Inline form part operands) r u v h = operands_rise operands r u v h
+    item_rises (Inline inline.Loop part operands) r u v h = absurd h
+    item_rises (Inline inline.Alt part operands) r u v h = operands_rise operands r u v h
+    item_rises (Inline inline.Opt part operands) r u v h = operands_rise operands r u v h
+    item_rises (Inline inline.Par part operands) r u v h = operands_rise operands r u v h
+    item_rises (Inline inline.Exc part operands) r u v h = operands_rise operands r u v h
     item_rises (Refer part) r u v h = absurd h
 
     operands_rise : (bs : Bodies) → HaveRanked rank bs → (u v : ℕ) → PrecedesInOne bs u v → rank u < rank v
@@ -60,7 +65,11 @@ module _ (rank : ℕ → ℕ) where
     item_ranked : (x : Item) → ((u v : ℕ) → PrecedesWithin x u v → rank u < rank v) → IsRankedItem rank x
     item_ranked (Single n) h = tt
     item_ranked (Coregion ns) h = tt
-    item_ranked (Inline form part operands) h = operands_ranked operands h
+    item_ranked (Inline inline.Loop part operands) h = tt
+    item_ranked (Inline inline.Alt part operands) h = operands_ranked operands h
+    item_ranked (Inline inline.Opt part operands) h = operands_ranked operands h
+    item_ranked (Inline inline.Par part operands) h = operands_ranked operands h
+    item_ranked (Inline inline.Exc part operands) h = operands_ranked operands h
     item_ranked (Refer part) h = tt
 
     operands_ranked : (bs : Bodies) → ((u v : ℕ) → PrecedesInOne bs u v → rank u < rank v) → HaveRanked rank bs
@@ -71,11 +80,44 @@ steps_rise : (b : Body) (rank : ℕ → ℕ) → IsRanked rank b → (u v : ℕ)
 steps_rise b rank r _ _ (next u v p) = body_rises rank b r u v p
 steps_rise b rank r _ _ (further u v w p h) = let one = body_rises rank b r u v p in let more = steps_rise b rank r v w h in omega (arith, one, more)
 
-no_rank : (b : Body) (rank : ℕ → ℕ) → IsRanked rank b → IsCyclic b → ⊥
+no_rank : (b : Body) (rank : ℕ → ℕ) → IsRanked rank b → HasRound b → ⊥
 no_rank b rank r c = let up = steps_rise b rank r c.number c.number c.round in omega (arith, up)
+
+mutual
+  body_apart : (b : Body) → CanBeRanked b → IsCyclic b → ⊥
+  body_apart (level cover held pairs) r (inl round) = no_rank (level cover held pairs) r.0.rank r.0.ranked round
+  body_apart (level cover held pairs) r (inr c) = items_apart held r.1 c
+
+  items_apart : (xs : Items) → HaveRankedLoops xs → HaveCyclicLoop xs → ⊥
+  items_apart no_items r c = absurd c
+  items_apart (item_and x xs) r (inl c) = item_apart x r.0 c
+  items_apart (item_and x xs) r (inr c) = items_apart xs r.1 c
+
+  item_apart : (x : Item) → HasRankedLoops x → HasCyclicLoop x → ⊥
+  item_apart (Single n) r c = absurd c
+  item_apart (Coregion ns) r c = absurd c
+  item_apart (Inline inline.Loop part operands) r c = operands_apart operands r c
+  item_apart (Inline inline.Alt part operands) r c = loops_apart operands r c
+  item_apart (Inline inline.Opt part operands) r c = loops_apart operands r c
+  item_apart (Inline inline.Par part operands) r c = loops_apart operands r c
+  item_apart (Inline inline.Exc part operands) r c = loops_apart operands r c
+  item_apart (Refer part) r c = absurd c
+
+  operands_apart : (bs : Bodies) → CanEachBeRanked bs → IsOneCyclic bs → ⊥
+  operands_apart no_bodies r c = absurd c
+  operands_apart (body_and b bs) r (inl c) = body_apart b r.0 c
+  operands_apart (body_and b bs) r (inr c) = operands_apart bs r.1 c
+
+  loops_apart : (bs : Bodies) → EachHasRankedLoops bs → HasOneCyclicLoop bs → ⊥
+  loops_apart no_bodies r c = absurd c
+  loops_apart (body_and b bs) r (inl c) = within_apart b r.0 c
+  loops_apart (body_and b bs) r (inr c) = loops_apart bs r.1 c
+
+  within_apart : (b : Body) → BodyHasRankedLoops b → BodyHasCyclicLoop b → ⊥
+  within_apart (level cover held pairs) r c = items_apart held r c
 
 pub can_rank : (b : Body) (rank : ℕ → ℕ) → ((u v : ℕ) → Precedes b u v → rank u < rank v) → IsRanked rank b
 can_rank b rank h = body_ranked rank b h
 
 pub ranks_rise : RanksRise
-ranks_rise = record { apart = no_rank; rise = λ b rank r u v p. body_rises rank b r u v p; ranked = λ b rank h. body_ranked rank b h }
+ranks_rise = record { apart = body_apart; rise = λ b rank r u v p. body_rises rank b r u v p; ranked = λ b rank h. body_ranked rank b h }

@@ -12,7 +12,8 @@ use Rattle.item_order.proofs.Exchange.{has_either}
 use Rattle.item_order.proofs.Ranks.{has_or_not}
 use Rattle.msc_base.specs.Lists.{IsAmong}
 use Rattle.msc_meaning.specs.Bodies.{Body, EventNode}
-use Rattle.event_order.specs.Precedence.{CanBeRanked, ComesBefore, IsCyclic, Precedes, next, further}
+use Rattle.event_order.specs.Precedence.{ComesBefore, HasRound, Precedes, next, further}
+use Rattle.event_order.specs.RankedBodies.{HasRank}
 use Rattle.event_order.specs.Webs.{AreAdded, AreBelow, AreDrawn, AreEdges, IsDrawn, IsTidy, Rises}
 use Rattle.event_order.specs.declared.web.Stop.{Stop}
 use Rattle.event_order.specs.declared.web.Web.{Web}
@@ -182,7 +183,7 @@ module _ (b : Body) (m : ℕ) (Left : ℕ → Type 0) (back : (v : ℕ) → v < 
   ahead : (passed : List ℕ) (u v : ℕ) → Precedes b u v → ((w : ℕ) → IsAmong passed w → (v ≡ w) ⊎ ComesBefore b v w) → (w : ℕ) → IsAmong passed w → ComesBefore b u w
   ahead passed u v p h w a = elim (h w a) [ inl e ↦ subst (ComesBefore b u) e (next u v p) | inr c ↦ further u v w p c ]
 
-  round_from : (k : ℕ) (passed : List ℕ) (v : ℕ) → free m passed < k → v < m → Left v → ((w : ℕ) → IsAmong passed w → (v ≡ w) ⊎ ComesBefore b v w) → IsCyclic b
+  round_from : (k : ℕ) (passed : List ℕ) (v : ℕ) → free m passed < k → v < m → Left v → ((w : ℕ) → IsAmong passed w → (v ≡ w) ⊎ ComesBefore b v w) → HasRound b
   round_from zero passed v few low left h = absurd (omega arith)
   round_from (suc k) passed v few low left h =
       let u = back v low left in
@@ -194,15 +195,15 @@ module _ (b : Body) (m : ℕ) (Left : ℕ → Type 0) (back : (v : ℕ) → v < 
             (λ w a. elim (has_either passed (u.0 ∷ []) w a) [ inl i ↦ inr (ahead passed u.0 v u.3 h w i) | inr last ↦ elim last [ inl e ↦ inl (sym e) | inr n ↦ absurd n ] ])
       ]
 
-  comes_round : (v : ℕ) → v < m → Left v → IsCyclic b
+  comes_round : (v : ℕ) → v < m → Left v → HasRound b
   comes_round v low left = round_from (suc (free m [])) [] v (omega arith) low left (λ w a. absurd a)
 
 module _ (b : Body) (es : List EventNode) (old w : Web) (stops : List Stop) (drawn : AreDrawn (Precedes b) es old w stops) where
-  pub ranked_body : HasRanks w → CanBeRanked b
+  pub ranked_body : HasRanks w → HasRank b
   ranked_body r = record { rank = r.rank; ranked = can_rank b r.rank (drawn.rises r.rank r.bar r.rises) }
 
   module _ (none : (u v : ℕ) → IsDrawn old u v → ⊥) (m n : ℕ) (edges : List Edge) (below : AreBelow m w) (are : AreEdges w m edges) (all : n ≡ m + w.bars) where
-    pub cyclic_body : (x : ℕ) → IsStuckAt n (Leads edges) x → IsCyclic b
+    pub cyclic_body : (x : ℕ) → IsStuckAt n (Leads edges) x → HasRound b
     cyclic_body x stuck =
         let some = some_waits w m n edges drawn.tidy below are all x stuck in
         comes_round b m (λ v. IsAmong stuck.prefix v → ⊥)

@@ -1,10 +1,12 @@
--- Which event of a body comes before which, and when the order of its events is cyclic.
+-- Which event of a body comes before which, and when the order of its events is cyclic. All events of a loop count as one, and the
+-- operand of each loop is looked at by itself.
 use Rattle.std.specs.Prelude.{ℕ, ◌≡◌, ◌⊎◌, false, List}
 use Rattle.msc_base.specs.Orders.{Among}
 use Rattle.msc_meaning.specs.Bodies.{EventNode, Body, level, Items, no_items, item_and, Item, Single, Coregion, Inline, Refer, Bodies, no_bodies, body_and}
 use Rattle.msc_meaning.specs.Pairing.{HasPair}
 use Rattle.msc_meaning.specs.Ties.{level_pairs}
-use Rattle.event_order.specs.RankedBodies.{IsRanked, is_exception, item_within, items_within}
+use Rattle.msc_tree.specs.declared.reference.InlineForm.TheVariants as inline
+use Rattle.event_order.specs.RankedBodies.{is_exception, item_counted, items_counted}
 
 -- u is the number of an event of the first list, and v that of an event of the second at the same instance
 pub record ComesFirst (es fs : List EventNode) (u v : ℕ) : Type 0 where
@@ -17,19 +19,23 @@ pub record ComesFirst (es fs : List EventNode) (u v : ℕ) : Type 0 where
   pub second : later.number ≡ v
 
 -- the events of these numbers are a pair of a level, by its messages or its general ordering, or they are at one instance and in the innermost level that holds both u's item comes first;
--- not so where that item is an exception, nor between operands or events of a coregion
+-- not so where that item is an exception, nor between operands or events of a coregion, nor within a loop
 abbrev mutual
   pub Precedes : Body → ℕ → ℕ → Type 0
   Precedes (level cover held pairs) u v = HasPair (level_pairs held pairs) u v ⊎ PrecedesIn held u v
 
   pub PrecedesIn : Items → ℕ → ℕ → Type 0
   PrecedesIn no_items u v = ⊥
-  PrecedesIn (item_and x xs) u v = ((is_exception x ≡ false) × ComesFirst (item_within x) (items_within xs) u v) ⊎ (PrecedesWithin x u v ⊎ PrecedesIn xs u v)
+  PrecedesIn (item_and x xs) u v = ((is_exception x ≡ false) × ComesFirst (item_counted x) (items_counted xs) u v) ⊎ (PrecedesWithin x u v ⊎ PrecedesIn xs u v)
 
   pub PrecedesWithin : Item → ℕ → ℕ → Type 0
   PrecedesWithin (Single n) u v = ⊥
   PrecedesWithin (Coregion ns) u v = ⊥
-  PrecedesWithin (Inline form part operands) u v = PrecedesInOne operands u v
+  PrecedesWithin (Inline inline.Loop part operands) u v = ⊥
+  PrecedesWithin (Inline inline.Alt part operands) u v = PrecedesInOne operands u v
+  PrecedesWithin (Inline inline.Opt part operands) u v = PrecedesInOne operands u v
+  PrecedesWithin (Inline inline.Par part operands) u v = PrecedesInOne operands u v
+  PrecedesWithin (Inline inline.Exc part operands) u v = PrecedesInOne operands u v
   PrecedesWithin (Refer part) u v = ⊥
 
   pub PrecedesInOne : Bodies → ℕ → ℕ → Type 0
@@ -42,11 +48,38 @@ pub data ComesBefore (b : Body) : ℕ → ℕ → Type 0 where
   further : (u v w : ℕ) → Precedes b u v → ComesBefore b v w → ComesBefore b u w
 
 -- from an event one comes back to itself
-pub record IsCyclic (b : Body) : Type 0 where
+pub record HasRound (b : Body) : Type 0 where
   pub number : ℕ
   pub round : ComesBefore b number number
 
--- the events can happen in an order
-pub record CanBeRanked (b : Body) : Type 0 where
-  pub rank : ℕ → ℕ
-  pub ranked : IsRanked rank b
+-- one comes back so in the body, or in the operand of a loop by itself
+abbrev mutual
+  pub IsCyclic : Body → Type 0
+  IsCyclic (level cover held pairs) = HasRound (level cover held pairs) ⊎ HaveCyclicLoop held
+
+  pub HaveCyclicLoop : Items → Type 0
+  HaveCyclicLoop no_items = ⊥
+  HaveCyclicLoop (item_and x xs) = HasCyclicLoop x ⊎ HaveCyclicLoop xs
+
+  pub HasCyclicLoop : Item → Type 0
+  HasCyclicLoop (Single n) = ⊥
+  HasCyclicLoop (Coregion ns) = ⊥
+  HasCyclicLoop (Inline inline.Loop part operands) = IsOneCyclic operands
+  HasCyclicLoop (Inline inline.Alt part operands) = HasOneCyclicLoop operands
+  HasCyclicLoop (Inline inline.Opt part operands) = HasOneCyclicLoop operands
+  HasCyclicLoop (Inline inline.Par part operands) = HasOneCyclicLoop operands
+  HasCyclicLoop (Inline inline.Exc part operands) = HasOneCyclicLoop operands
+  HasCyclicLoop (Refer part) = ⊥
+
+  -- of the operands of a loop
+  pub IsOneCyclic : Bodies → Type 0
+  IsOneCyclic no_bodies = ⊥
+  IsOneCyclic (body_and b bs) = IsCyclic b ⊎ IsOneCyclic bs
+
+  -- of the loops in operands
+  pub HasOneCyclicLoop : Bodies → Type 0
+  HasOneCyclicLoop no_bodies = ⊥
+  HasOneCyclicLoop (body_and b bs) = BodyHasCyclicLoop b ⊎ HasOneCyclicLoop bs
+
+  pub BodyHasCyclicLoop : Body → Type 0
+  BodyHasCyclicLoop (level cover held pairs) = HaveCyclicLoop held

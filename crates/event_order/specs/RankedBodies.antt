@@ -1,5 +1,6 @@
 -- Bodies whose events can be ranked: on each level, of two events at one instance that stand in different items the earlier has the lower
--- rank, and so has the first event of each pair and of each ordered pair. Then the events can happen in that order.
+-- rank, and so has the first event of each pair and of each ordered pair. Then the events can happen in that order. All events of a loop
+-- count as one there, since one turn of it may follow another; the operand of each loop has ranks of its own.
 use Rattle.std.specs.Prelude.{ℕ, ◌<◌, ◌≡◌, Bool, true, false, List, [], ◌∷◌, ◌++◌}
 use Rattle.msc_base.specs.declared.label.Pair.{Pair}
 use Rattle.msc_base.specs.Orders.{Among}
@@ -31,27 +32,102 @@ abbrev mutual
   operands_within no_bodies = []
   operands_within (body_and b bs) = events_within b ++ operands_within bs
 
+-- the events with that number in place of their own
+abbrev pub with_number : ℕ → List EventNode → List EventNode
+with_number k [] = []
+with_number k (e ∷ es) = record e { number = k } ∷ with_number k es
+
+-- the events with the number of the first of them, so that they count as one
+abbrev pub as_one : List EventNode → List EventNode
+as_one [] = []
+as_one (e ∷ es) = with_number e.number (e ∷ es)
+
+-- the events of items, with those of their inline expressions; those of an outermost loop count as one
+abbrev mutual
+  pub counted_within : Body → List EventNode
+  counted_within (level cover held pairs) = items_counted held
+
+  pub items_counted : Items → List EventNode
+  items_counted no_items = []
+  items_counted (item_and x xs) = item_counted x ++ items_counted xs
+
+  pub item_counted : Item → List EventNode
+  item_counted (Single n) = n ∷ []
+  item_counted (Coregion ns) = ns
+  item_counted (Inline inline.Loop part operands) = as_one (operands_within operands)
+  item_counted (Inline inline.Alt part operands) = operands_counted operands
+  item_counted (Inline inline.Opt part operands) = operands_counted operands
+  item_counted (Inline inline.Par part operands) = operands_counted operands
+  item_counted (Inline inline.Exc part operands) = operands_counted operands
+  item_counted (Refer part) = []
+
+  pub operands_counted : Bodies → List EventNode
+  operands_counted no_bodies = []
+  operands_counted (body_and b bs) = counted_within b ++ operands_counted bs
+
 -- the rank of an event by its number in the chart
 module _ (rank : ℕ → ℕ) where
   -- of two events at one instance, one of each list, the first has the lower rank
   abbrev pub DoPrecede : List EventNode → List EventNode → Type 0
   DoPrecede es fs = (e f : EventNode) → Among e es → Among f fs → e.at ≡ f.at → rank e.number < rank f.number
 
-  -- between the operand of an exception and what stands behind it nothing is asked, nor between operands or events of a coregion
+  -- between the operand of an exception and what stands behind it nothing is asked, nor between operands or events of a coregion, nor
+  -- within a loop
   abbrev mutual
     pub IsRanked : Body → Type 0
     IsRanked (level cover held pairs) = ((p : Pair) → Among p (level_pairs held pairs) → rank p.first < rank p.second) × AreRanked held
 
     pub AreRanked : Items → Type 0
     AreRanked no_items = Unit {0}
-    AreRanked (item_and x xs) = IsRankedItem x × (is_exception x ≡ false → DoPrecede (item_within x) (items_within xs)) × AreRanked xs
+    AreRanked (item_and x xs) = IsRankedItem x × (is_exception x ≡ false → DoPrecede (item_counted x) (items_counted xs)) × AreRanked xs
 
     pub IsRankedItem : Item → Type 0
     IsRankedItem (Single n) = Unit {0}
     IsRankedItem (Coregion ns) = Unit {0}
-    IsRankedItem (Inline form part operands) = HaveRanked operands
+    IsRankedItem (Inline inline.Loop part operands) = Unit {0}
+    IsRankedItem (Inline inline.Alt part operands) = HaveRanked operands
+    IsRankedItem (Inline inline.Opt part operands) = HaveRanked operands
+    IsRankedItem (Inline inline.Par part operands) = HaveRanked operands
+    IsRankedItem (Inline inline.Exc part operands) = HaveRanked operands
     IsRankedItem (Refer part) = Unit {0}
 
     pub HaveRanked : Bodies → Type 0
     HaveRanked no_bodies = Unit {0}
     HaveRanked (body_and b bs) = IsRanked b × HaveRanked bs
+
+-- the events of a body, those of an outermost loop as one
+pub record HasRank (b : Body) : Type 0 where
+  pub rank : ℕ → ℕ
+  pub ranked : IsRanked rank b
+
+-- the events can happen in an order: those of the body have ranks, and so have those of the operand of each loop by itself
+abbrev mutual
+  pub CanBeRanked : Body → Type 0
+  CanBeRanked (level cover held pairs) = HasRank (level cover held pairs) × HaveRankedLoops held
+
+  pub HaveRankedLoops : Items → Type 0
+  HaveRankedLoops no_items = Unit {0}
+  HaveRankedLoops (item_and x xs) = HasRankedLoops x × HaveRankedLoops xs
+
+  pub HasRankedLoops : Item → Type 0
+  HasRankedLoops (Single n) = Unit {0}
+  HasRankedLoops (Coregion ns) = Unit {0}
+  HasRankedLoops (Inline inline.Loop part operands) = CanEachBeRanked operands
+  HasRankedLoops (Inline inline.Alt part operands) = EachHasRankedLoops operands
+  HasRankedLoops (Inline inline.Opt part operands) = EachHasRankedLoops operands
+  HasRankedLoops (Inline inline.Par part operands) = EachHasRankedLoops operands
+  HasRankedLoops (Inline inline.Exc part operands) = EachHasRankedLoops operands
+  HasRankedLoops (Refer part) = Unit {0}
+
+  -- of the operands of a loop
+  pub CanEachBeRanked : Bodies → Type 0
+  CanEachBeRanked no_bodies = Unit {0}
+  CanEachBeRanked (body_and b bs) = CanBeRanked b × CanEachBeRanked bs
+
+  -- of the loops in operands
+  pub EachHasRankedLoops : Bodies → Type 0
+  EachHasRankedLoops no_bodies = Unit {0}
+  EachHasRankedLoops (body_and b bs) = BodyHasRankedLoops b × EachHasRankedLoops bs
+
+  pub BodyHasRankedLoops : Body → Type 0
+  BodyHasRankedLoops (level cover held pairs) = HaveRankedLoops held

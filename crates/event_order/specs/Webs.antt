@@ -5,9 +5,10 @@ use Rattle.item_order.specs.Counts.{Leads}
 use Rattle.item_order.specs.declared.edge.Edge.{Edge}
 use Rattle.msc_base.specs.Lists.{AreDifferent}
 use Rattle.msc_base.specs.Orders.{Among}
-use Rattle.msc_meaning.specs.Bodies.{EventNode, Items, no_items, item_and}
+use Rattle.msc_meaning.specs.Bodies.{EventNode, Item, Inline, Items, no_items, item_and}
+use Rattle.msc_tree.specs.declared.reference.InlineForm.TheVariants as inline
 use Rattle.event_order.specs.Precedence.{ComesFirst}
-use Rattle.event_order.specs.RankedBodies.{is_exception, item_within}
+use Rattle.event_order.specs.RankedBodies.{is_exception, item_counted}
 use Rattle.event_order.specs.declared.web.Stop.{Stop}
 use Rattle.event_order.specs.declared.web.Web.{Web}
 
@@ -59,6 +60,16 @@ pub record AreDrawn (Asks : ℕ → ℕ → Type 0) (es : List EventNode) (old n
   pub handed : AreStops new.names stops es
   pub rises : (rank bar : ℕ → ℕ) → Rises rank bar new → (u v : ℕ) → Asks u v → rank u < rank v
   pub asked : (u v : ℕ) → IsDrawn new u v → IsDrawn old u v ⊎ Asks u v
+
+-- the stops with that number in place of their own
+abbrev pub numbered : ℕ → List Stop → List Stop
+numbered k [] = []
+numbered k (s ∷ stops) = record s { number = k } ∷ numbered k stops
+
+-- the item is a loop
+abbrev pub is_loop : Item → Bool
+is_loop (Inline inline.Loop part operands) = true
+is_loop x = false
 
 -- nothing is asked
 abbrev pub Nothing : ℕ → ℕ → Type 0
@@ -132,10 +143,10 @@ abbrev pub line_item : Bool → List EventNode → List EventNode
 line_item true es = []
 line_item false es = es
 
--- the events of the items that aren't exceptions
+-- the events of the items that aren't exceptions, those of a loop as one
 abbrev pub line : Items → List EventNode
 line no_items = []
-line (item_and x xs) = line_item (is_exception x) (item_within x) ++ line xs
+line (item_and x xs) = line_item (is_exception x) (item_counted x) ++ line xs
 
 -- ---- edges between the numbers of events and those of bars, which stand behind them
 

@@ -1,15 +1,16 @@
-//! Draws a body, level by level: behind each item the later ones at its instances.
+//! Draws a body, level by level: behind each item the later ones at its instances. A loop is drawn as one event.
 
 ghost use Rattle.std.specs.BTreeMap.{get};
 ghost use Rattle.std.specs.Ordering.{nat_cmp};
-ghost use Rattle.std.specs.Prelude.{◌≡◌, ◌<◌, ◌++◌, ◌∷◌, [], ℕ, IfOk, OnOk, Some};
-ghost use Rattle.msc_meaning.specs.Views.{body_view, item_view, node_view};
+ghost use Rattle.std.specs.Prelude.{◌≡◌, ◌<◌, ℕ, IfOk, OnOk, Some};
+ghost use Rattle.msc_meaning.specs.Views.{body_view, item_view};
 ghost use Rattle.general_ordering.specs.ItemViews.{bodies_view, inline_view, items_view};
 ghost use Rattle.event_order.specs.Precedence.{Precedes, PrecedesIn, PrecedesInOne, PrecedesWithin};
-ghost use Rattle.event_order.specs.RankedBodies.{events_within, is_exception as exception, item_within, items_within, operands_within};
-ghost use Rattle.event_order.specs.Webs.{AreDrawn, IsPut, IsTidy, Nothing};
+ghost use Rattle.event_order.specs.RankedBodies.{counted_within, is_exception as exception, item_counted, items_counted, operands_counted};
+ghost use Rattle.event_order.specs.Webs.{AreDrawn, IsPut, IsTidy, is_loop as loops};
 
-use crate::web::{Stop, Web, draw_pairs, enter, leave, stop_of, stops_of};
+use crate::turns::loop_stops;
+use crate::web::{Stop, Web, append, draw_pairs, enter, leave, single_stops, stops_of};
 use general_ordering::level_pairs_of;
 use msc_base::{Items, NoMemory};
 use msc_meaning::{Body, EventNode, InlineItem, Item};
@@ -26,6 +27,16 @@ pub fn is_exception(item: &Item) -> bool
             InlineForm::Exc => true,
             _ => false,
         },
+        _ => false,
+    }
+}
+
+/// Whether the inline expression is a loop.
+pub(crate) fn is_loop(inline: &InlineItem) -> bool
+    ensures { result ≡ loops (inline_view inline.now) }
+{
+    match inline.form {
+        InlineForm::Loop => true,
         _ => false,
     }
 }
@@ -48,32 +59,11 @@ fn put(
     Ok(())
 }
 
-/// Appends the stops.
-fn append(list: &mut Items<Stop>, others: &[Stop]) -> Result<(), NoMemory>
-    ensures { OnOk result (list.new ≡ list.old ++ others.now) }
-{
-    for stop in others {
-        list.push(*stop)?;
-    }
-    Ok(())
-}
-
-/// The stop of an event by itself.
-fn single_stops(alloc: Global, web: &mut Web, node: &EventNode) -> Result<Items<Stop>, NoMemory>
-    requires { IsTidy web.old }
-    ensures { IfOk result (AreDrawn Nothing (node_view node.now ∷ []) web.old web.new) }
-{
-    let stop = stop_of(alloc, web, node)?;
-    let mut stops = Items::new(alloc);
-    stops.push(stop)?;
-    Ok(stops)
-}
-
 /// Draws a body.
 #[cycle(levels)]
 pub(crate) fn draw_body(alloc: Global, web: &mut Web, body: &Body) -> Result<Items<Stop>, NoMemory>
     requires { IsTidy web.old }
-    ensures { IfOk result (AreDrawn (Precedes (body_view body.now)) (events_within (body_view body.now)) web.old web.new) }
+    ensures { IfOk result (AreDrawn (Precedes (body_view body.now)) (counted_within (body_view body.now)) web.old web.new) }
 {
     let pairs = level_pairs_of(alloc, body.items.as_slice(), body.pairs.as_slice())?;
     draw_pairs(web, pairs.as_slice())?;
@@ -85,7 +75,7 @@ pub(crate) fn draw_body(alloc: Global, web: &mut Web, body: &Body) -> Result<Ite
 #[cycle(levels)]
 fn draw_items(alloc: Global, web: &mut Web, items: &Vec<Item>) -> Result<Items<Stop>, NoMemory>
     requires { IsTidy web.old }
-    ensures { IfOk result (AreDrawn (PrecedesIn (items_view items.now.items)) (items_within (items_view items.now.items)) web.old web.new) }
+    ensures { IfOk result (AreDrawn (PrecedesIn (items_view items.now.items)) (items_counted (items_view items.now.items)) web.old web.new) }
 {
     let mut all = Items::new(alloc);
     let mut last = BTreeMap::new(alloc);
@@ -106,7 +96,7 @@ fn draw_items(alloc: Global, web: &mut Web, items: &Vec<Item>) -> Result<Items<S
 #[cycle(levels)]
 fn draw_item(alloc: Global, web: &mut Web, item: &Item) -> Result<Items<Stop>, NoMemory>
     requires { IsTidy web.old }
-    ensures { IfOk result (AreDrawn (PrecedesWithin (item_view item.now)) (item_within (item_view item.now)) web.old web.new) }
+    ensures { IfOk result (AreDrawn (PrecedesWithin (item_view item.now)) (item_counted (item_view item.now)) web.old web.new) }
 {
     match item {
         Item::Single(node) => {
@@ -125,12 +115,16 @@ fn draw_item(alloc: Global, web: &mut Web, item: &Item) -> Result<Items<Stop>, N
     }
 }
 
-/// Draws what is inside an inline expression.
+/// Draws what is inside an inline expression: nothing where it is a loop.
 #[cycle(levels)]
 fn draw_inline(alloc: Global, web: &mut Web, inline: &InlineItem) -> Result<Items<Stop>, NoMemory>
     requires { IsTidy web.old }
-    ensures { IfOk result (AreDrawn (PrecedesWithin (inline_view inline.now)) (item_within (inline_view inline.now)) web.old web.new) }
+    ensures { IfOk result (AreDrawn (PrecedesWithin (inline_view inline.now)) (item_counted (inline_view inline.now)) web.old web.new) }
 {
+    if is_loop(inline) {
+        let stops = loop_stops(alloc, web, &inline.operands)?;
+        return Ok(stops);
+    }
     let stops = draw_operands(alloc, web, &inline.operands)?;
     Ok(stops)
 }
@@ -143,7 +137,7 @@ fn draw_operands(
     operands: &Vec<Body>,
 ) -> Result<Items<Stop>, NoMemory>
     requires { IsTidy web.old }
-    ensures { IfOk result (AreDrawn (PrecedesInOne (bodies_view operands.now.items)) (operands_within (bodies_view operands.now.items)) web.old web.new) }
+    ensures { IfOk result (AreDrawn (PrecedesInOne (bodies_view operands.now.items)) (operands_counted (bodies_view operands.now.items)) web.old web.new) }
 {
     let mut all = Items::new(alloc);
     for index in 0..operands.len() {

@@ -4,6 +4,7 @@
 pub mod laws;
 mod levels;
 mod ordering;
+mod turns;
 mod web;
 
 pub use levels::is_exception;

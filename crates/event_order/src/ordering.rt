@@ -1,16 +1,18 @@
-//! Whether the order of a body's events is cyclic: what is drawn of it is sorted.
+//! Whether the order of a body's events is cyclic: what is drawn of it is sorted, and so is each loop's operand by itself.
 
 ghost use Rattle.std.specs.Prelude.{◌≡◌, ◌<◌, ◌≤◌, ◌+◌, ◌^◌, [], ℕ, true, false, IfOk, OnOk};
 ghost use Rattle.item_order.specs.Counts.{Leads};
-ghost use Rattle.msc_meaning.specs.Views.{body_view};
-ghost use Rattle.event_order.specs.Precedence.{CanBeRanked, IsCyclic};
+ghost use Rattle.msc_meaning.specs.Views.{body_view, item_view};
+ghost use Rattle.general_ordering.specs.ItemViews.{bodies_view, inline_view, items_view};
+ghost use Rattle.event_order.specs.Precedence.{BodyHasCyclicLoop, HasCyclicLoop, HasOneCyclicLoop, HasRound, HaveCyclicLoop, IsCyclic, IsOneCyclic};
+ghost use Rattle.event_order.specs.RankedBodies.{BodyHasRankedLoops, CanBeRanked, CanEachBeRanked, EachHasRankedLoops, HasRank, HasRankedLoops, HaveRankedLoops};
 ghost use Rattle.event_order.specs.Webs.{AreAdded, AreBelow, AreEdges, IsTidy};
 
-use crate::levels::draw_body;
+use crate::levels::{draw_body, is_loop};
 use crate::web::{Web, nothing};
 use item_order::{Edge, Sorted, sort_edges};
 use msc_base::{Items, NoMemory};
-use msc_meaning::Body;
+use msc_meaning::{Body, InlineItem, Item};
 use std::alloc::Global;
 
 /// The least number that is no lower than this and above the other.
@@ -99,11 +101,10 @@ fn edges_of(alloc: Global, web: &Web, events: u32) -> Result<Items<Edge>, NoMemo
     Ok(list)
 }
 
-/// Whether the order of the body's events is cyclic; if not, they can be ranked. It fails only for want of memory, for which it
-/// takes 2^32 edges too. It takes n log n time, n being the events, each as often as levels hold it.
-pub fn is_cyclic(alloc: Global, body: &Body) -> Result<bool, NoMemory>
-    ensures cyclic { IfOk result (λ cyclic. cyclic ≡ true → IsCyclic (body_view body.now)) }
-    ensures ranked { IfOk result (λ cyclic. cyclic ≡ false → CanBeRanked (body_view body.now)) }
+/// Whether one comes from an event of the body back to itself, where each loop counts as one event; if not, they have ranks.
+fn has_round(alloc: Global, body: &Body) -> Result<bool, NoMemory>
+    ensures cyclic { IfOk result (λ cyclic. cyclic ≡ true → HasRound (body_view body.now)) }
+    ensures ranked { IfOk result (λ cyclic. cyclic ≡ false → HasRank (body_view body.now)) }
 {
     let mut web = nothing(alloc);
     draw_body(alloc, &mut web, body)?;
@@ -120,4 +121,100 @@ pub fn is_cyclic(alloc: Global, body: &Body) -> Result<bool, NoMemory>
         Sorted::Whole(_) => Ok(false),
         Sorted::Stuck(_) => Ok(true),
     }
+}
+
+/// Whether the order of the body's events is cyclic, or that of a loop's operand by itself; if not, they can be ranked. It fails only
+/// for want of memory, for which it takes 2^32 edges of a body too. It takes n log n time, n being the events, each as often as
+/// levels hold it, and that again for each loop that it stands in.
+#[cycle(loops)]
+pub fn is_cyclic(alloc: Global, body: &Body) -> Result<bool, NoMemory>
+    ensures cyclic { IfOk result (λ cyclic. cyclic ≡ true → IsCyclic (body_view body.now)) }
+    ensures ranked { IfOk result (λ cyclic. cyclic ≡ false → CanBeRanked (body_view body.now)) }
+{
+    if has_round(alloc, body)? {
+        return Ok(true);
+    }
+    let within = have_cyclic_loop(alloc, &body.items)?;
+    Ok(within)
+}
+
+/// Whether a loop among the items, at any depth outside loops, is cyclic.
+#[cycle(loops)]
+fn have_cyclic_loop(alloc: Global, items: &Vec<Item>) -> Result<bool, NoMemory>
+    ensures cyclic { IfOk result (λ cyclic. cyclic ≡ true → HaveCyclicLoop (items_view items.now.items)) }
+    ensures ranked { IfOk result (λ cyclic. cyclic ≡ false → HaveRankedLoops (items_view items.now.items)) }
+{
+    for index in 0..items.len() {
+        if has_cyclic_loop(alloc, &items[index])? {
+            return Ok(true);
+        }
+    }
+    Ok(false)
+}
+
+/// Whether the item is a cyclic loop, or holds one.
+#[cycle(loops)]
+fn has_cyclic_loop(alloc: Global, item: &Item) -> Result<bool, NoMemory>
+    ensures cyclic { IfOk result (λ cyclic. cyclic ≡ true → HasCyclicLoop (item_view item.now)) }
+    ensures ranked { IfOk result (λ cyclic. cyclic ≡ false → HasRankedLoops (item_view item.now)) }
+{
+    match item {
+        Item::Inline(inline) => {
+            let cyclic = is_cyclic_inline(alloc, inline)?;
+            Ok(cyclic)
+        }
+        _ => Ok(false),
+    }
+}
+
+/// Whether the inline expression is a cyclic loop, or holds one.
+#[cycle(loops)]
+fn is_cyclic_inline(alloc: Global, inline: &InlineItem) -> Result<bool, NoMemory>
+    ensures cyclic { IfOk result (λ cyclic. cyclic ≡ true → HasCyclicLoop (inline_view inline.now)) }
+    ensures ranked { IfOk result (λ cyclic. cyclic ≡ false → HasRankedLoops (inline_view inline.now)) }
+{
+    if is_loop(inline) {
+        let cyclic = is_one_cyclic(alloc, &inline.operands)?;
+        return Ok(cyclic);
+    }
+    let within = has_one_cyclic_loop(alloc, &inline.operands)?;
+    Ok(within)
+}
+
+/// Whether the order of one of the operands is cyclic.
+#[cycle(loops)]
+fn is_one_cyclic(alloc: Global, operands: &Vec<Body>) -> Result<bool, NoMemory>
+    ensures cyclic { IfOk result (λ cyclic. cyclic ≡ true → IsOneCyclic (bodies_view operands.now.items)) }
+    ensures ranked { IfOk result (λ cyclic. cyclic ≡ false → CanEachBeRanked (bodies_view operands.now.items)) }
+{
+    for index in 0..operands.len() {
+        if is_cyclic(alloc, &operands[index])? {
+            return Ok(true);
+        }
+    }
+    Ok(false)
+}
+
+/// Whether one of the operands holds a cyclic loop.
+#[cycle(loops)]
+fn has_one_cyclic_loop(alloc: Global, operands: &Vec<Body>) -> Result<bool, NoMemory>
+    ensures cyclic { IfOk result (λ cyclic. cyclic ≡ true → HasOneCyclicLoop (bodies_view operands.now.items)) }
+    ensures ranked { IfOk result (λ cyclic. cyclic ≡ false → EachHasRankedLoops (bodies_view operands.now.items)) }
+{
+    for index in 0..operands.len() {
+        if body_has_cyclic_loop(alloc, &operands[index])? {
+            return Ok(true);
+        }
+    }
+    Ok(false)
+}
+
+/// Whether the body holds a cyclic loop.
+#[cycle(loops)]
+fn body_has_cyclic_loop(alloc: Global, body: &Body) -> Result<bool, NoMemory>
+    ensures cyclic { IfOk result (λ cyclic. cyclic ≡ true → BodyHasCyclicLoop (body_view body.now)) }
+    ensures ranked { IfOk result (λ cyclic. cyclic ≡ false → BodyHasRankedLoops (body_view body.now)) }
+{
+    let within = have_cyclic_loop(alloc, &body.items)?;
+    Ok(within)
 }

@@ -72,6 +72,21 @@ pub(crate) fn stop_of(alloc: Global, web: &mut Web, node: &EventNode) -> Result<
     }
 }
 
+/// The stop of an event by itself.
+pub(crate) fn single_stops(
+    alloc: Global,
+    web: &mut Web,
+    node: &EventNode,
+) -> Result<Items<Stop>, NoMemory>
+    requires { IsTidy web.old }
+    ensures { IfOk result (AreDrawn Nothing (node_view node.now ∷ []) web.old web.new) }
+{
+    let stop = stop_of(alloc, web, node)?;
+    let mut stops = Items::new(alloc);
+    stops.push(stop)?;
+    Ok(stops)
+}
+
 /// The stops of events.
 pub(crate) fn stops_of(
     alloc: Global,
@@ -87,6 +102,16 @@ pub(crate) fn stops_of(
         stops.push(stop)?;
     }
     Ok(stops)
+}
+
+/// Appends the stops.
+pub(crate) fn append(list: &mut Items<Stop>, others: &[Stop]) -> Result<(), NoMemory>
+    ensures { OnOk result (list.new ≡ list.old ++ others.now) }
+{
+    for stop in others {
+        list.push(*stop)?;
+    }
+    Ok(())
 }
 
 /// Draws the pairs.

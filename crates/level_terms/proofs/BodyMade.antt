@@ -10,7 +10,7 @@ use Rattle.term_tables.specs.NetValues.{NetsValue}
 use Rattle.chart_term.specs.TermPatterns.{Both}
 use Rattle.chart_term.specs.Terms.{Tree, Nil}
 use Rattle.term_laws.specs.ConstructorLaws.{NormalFormsKeepPatterns}
-use Rattle.term_meaning.specs.UnfoldingSets.{OnlyEmpty, OnlyEvent, AreJoined, AreTied, Either}
+use Rattle.term_meaning.specs.UnfoldingSets.{OnlyEmpty, OnlyEvent, AreJoined, AreTied, Either, AreSomeOften}
 use Rattle.msc_tree.specs.declared.reference.InlineForm.{InlineForm}
 use Rattle.msc_tree.specs.declared.reference.InlineForm.TheVariants as inline
 use Rattle.msc_meaning.specs.Bodies.{EventNode, InlinePart, Body, level, Items, no_items, item_and, Item, Single, Coregion, Inline, Refer, Bodies, no_bodies, body_and}
@@ -22,15 +22,16 @@ use Rattle.msc_meaning.specs.ChartUnfoldings.{OfEvents, OfItem, OfItems, OfLevel
 use Rattle.level_terms.proofs.LabelFacts.{among_left}
 use Rattle.level_terms.specs.BodyLabels.{HasLabels, body_labels, items_labels, item_labels, operands_labels}
 use Rattle.chart_forms.specs.BuiltBodies.{is_built_node, are_built_nodes, is_built, are_built, is_built_item, have_built, event_count, events_count, item_count, operands_count}
-use Rattle.level_terms.specs.LevelTerms.{one_of, placed, event_term, coregion_term, level_term, items_term, item_term, operand_terms, parallel_term}
+use Rattle.level_terms.specs.LevelTerms.{one_of, placed, event_term, coregion_term, level_term, items_term, item_term, operand_terms, parallel_term, turns_of}
 use Rattle.event_order.specs.RankedBodies.{is_exception}
 use Rattle.level_terms.specs.MadeParts.{AreFit, IsMade}
 use Rattle.level_terms.proofs.PlainItems.{IsPlainItem, ArePlainItems, ArePlainNodes, FrontOf, IsFrontItem}
 use Rattle.level_terms.specs.ShownNumbers.{shows, shown_events, shown_item, shown_items}
 use Rattle.level_terms.proofs.BuiltFacts.{and_both}
 use Rattle.level_terms.proofs.EventMade.{event_made, node_is_plain}
-use Rattle.level_terms.proofs.LevelSets.{events_none, events_more, items_none, items_more, items_exception, item_single, item_coregion, item_inline, form_alt, some_last, some_more, form_opt, form_par, all_none, all_more}
+use Rattle.level_terms.proofs.LevelSets.{events_none, events_more, items_none, items_more, items_exception, item_single, item_coregion, item_inline, form_alt, some_last, some_more, form_opt, form_par, form_loop, form_crossed, all_none, all_more}
 use Rattle.level_terms.proofs.MadeRules.{AreAlternatives, nothing_made, sets_made, until_made, front_made, instead_made, level_made, inline_made, none_made, some_made, until_some, chosen_made}
+use Rattle.level_terms.proofs.LoopTurns.{bounds, turns_made, crossed_made}
 
 both_on : {A B C : Type 0} → Both A B → Both B C → Both A C
 both_on f g = record { to = λ h. g.to (f.to h); from = λ h. f.from (g.from h) }
@@ -152,6 +153,25 @@ module _ (keep : NormalFormsKeepPatterns) (v : NetsValue) (m : List (List ℕ)) 
     exc_front b p = inline_made keep v m fit lo hi x part.name (λ t a. OfLevel t a b)
         (sets_made keep v m fit lo hi [] x (λ t g a. OfSome t a (body_and b no_bodies)) (λ t g a. OfLevel t a b) (λ t g a u. record { to = (some_last t a b u).from; from = (some_last t a b u).to }) p)
 
+  -- so many turns of the operand
+  module _ (lo hi : ℕ) (x : Tree) (part : InlinePart) (b : Body) (p : IsMade v m lo hi [] x (λ t g a. OfSome t a (body_and b no_bodies))) where
+    one_turn : IsMade v m lo hi [] x (λ t g a. OfLevel t a b)
+    one_turn = sets_made keep v m fit lo hi [] x (λ t g a. OfSome t a (body_and b no_bodies)) (λ t g a. OfLevel t a b) (λ t g a u. record { to = (some_last t a b u).from; from = (some_last t a b u).to }) p
+
+    turns_form : IsMade v m lo hi [] (turns_of part.lower part.upper x) (λ t g a. OfForm t a inline.Loop part (body_and b no_bodies))
+    turns_form = elim (bounds part.lower part.upper) [
+      | inl l ↦ sets_made keep v m fit lo hi [] (turns_of part.lower part.upper x) (λ t g a. AreSomeOften (OfLevel t a b) part.lower part.upper) (λ t g a. OfForm t a inline.Loop part (body_and b no_bodies)) (λ t g a u. form_loop t a part b l u)
+          (turns_made v m fit lo hi part.lower part.upper x (λ t g a. OfLevel t a b) one_turn l)
+      | inr (most, e, l) ↦ sets_made keep v m fit lo hi [] (turns_of part.lower part.upper x) (λ t g a. OnlyEmpty) (λ t g a. OfForm t a inline.Loop part (body_and b no_bodies)) (λ t g a u. form_crossed t a part (body_and b no_bodies) most e l u)
+          (crossed_made v m fit lo hi part.lower part.upper x (λ t g a. OfLevel t a b) one_turn most e l)
+    ]
+
+    loop_front : IsMade v m lo hi [] (turns_of part.lower part.upper x) (λ t g a. FrontOf t g a (Inline inline.Loop part (body_and b no_bodies)))
+    loop_front = form_front lo hi (turns_of part.lower part.upper x) part inline.Loop (body_and b no_bodies) (λ i. differ i) turns_form
+      where
+        differ : inline.Loop ≡ inline.Exc → ⊥
+        differ i = absurd cc
+
   -- ---- by the parts
 
   coregion_is : (n : ℕ) (es : List EventNode) → are_built_nodes m es ≡ true → HasLabels v.labels (map written_label es) → IsMade v m n (n + length es) (shown_events n es) (coregion_term m v.labels n es) (λ t g a. OfEvents g.ends a es)
@@ -202,7 +222,9 @@ module _ (keep : NormalFormsKeepPatterns) (v : NetsValue) (m : List (List ℕ)) 
     item_is n (Inline inline.Exc part (body_and x no_bodies)) b h = exc_front n (n + operands_count (body_and x no_bodies)) (one_of (operand_terms m v.labels n (body_and x no_bodies))) part x (one_is n x no_bodies (some_are n (body_and x no_bodies) b h))
     item_is n (Inline inline.Exc part (body_and x (body_and y bs))) b h = absurd cc
     item_is n (Inline inline.Par part bs) b h = par_front n (n + operands_count bs) (parallel_term m v.labels n bs) part bs (all_are n bs b h)
-    item_is n (Inline inline.Loop part bs) b h = absurd cc
+    item_is n (Inline inline.Loop part no_bodies) b h = absurd cc
+    item_is n (Inline inline.Loop part (body_and x no_bodies)) b h = loop_front n (n + operands_count (body_and x no_bodies)) (one_of (operand_terms m v.labels n (body_and x no_bodies))) part x (one_is n x no_bodies (some_are n (body_and x no_bodies) b h))
+    item_is n (Inline inline.Loop part (body_and x (body_and y bs))) b h = absurd cc
     item_is n (Refer part) b h = absurd cc
 
     some_are : (n : ℕ) (bs : Bodies) → have_built m bs ≡ true → HasLabels v.labels (operands_labels bs) → AreAlternatives v m n (n + operands_count bs) (operand_terms m v.labels n bs) (λ t a. OfSome t a bs)

@@ -106,19 +106,26 @@ bodies_left bs i j b e f = (ap (λ (cs : List rust_body.Body). operands_count (b
 -- ---- operands
 
 -- one operand, where the form has one
-pub one_operand : (form : InlineForm) (bs : List rust_body.Body) → has_operands form (bodies_view bs) ≡ true → (form ≡ inline.Opt) ⊎ (form ≡ inline.Exc) → length bs ≡ 1
-one_operand form bs h (inl e) = one bs (subst (λ (f : InlineForm). has_operands f (bodies_view bs) ≡ true) e h)
-  where
-    one : (bs : List rust_body.Body) → has_operands inline.Opt (bodies_view bs) ≡ true → length bs ≡ 1
-    one [] h = absurd cc
-    one (b ∷ []) h = refl
-    one (b ∷ c ∷ bs) h = absurd cc
-one_operand form bs h (inr e) = one bs (subst (λ (f : InlineForm). has_operands f (bodies_view bs) ≡ true) e h)
-  where
-    one : (bs : List rust_body.Body) → has_operands inline.Exc (bodies_view bs) ≡ true → length bs ≡ 1
-    one [] h = absurd cc
-    one (b ∷ []) h = refl
-    one (b ∷ c ∷ bs) h = absurd cc
+module _ (form : InlineForm) (bs : List rust_body.Body) (h : has_operands form (bodies_view bs) ≡ true) where
+  pub one_operand : (form ≡ inline.Opt) ⊎ ((form ≡ inline.Exc) ⊎ (form ≡ inline.Loop)) → length bs ≡ 1
+  one_operand (inl e) = one bs (subst (λ (f : InlineForm). has_operands f (bodies_view bs) ≡ true) e h)
+    where
+      one : (bs : List rust_body.Body) → has_operands inline.Opt (bodies_view bs) ≡ true → length bs ≡ 1
+      one [] h = absurd cc
+      one (b ∷ []) h = refl
+      one (b ∷ c ∷ bs) h = absurd cc
+  one_operand (inr (inl e)) = one bs (subst (λ (f : InlineForm). has_operands f (bodies_view bs) ≡ true) e h)
+    where
+      one : (bs : List rust_body.Body) → has_operands inline.Exc (bodies_view bs) ≡ true → length bs ≡ 1
+      one [] h = absurd cc
+      one (b ∷ []) h = refl
+      one (b ∷ c ∷ bs) h = absurd cc
+  one_operand (inr (inr e)) = one bs (subst (λ (f : InlineForm). has_operands f (bodies_view bs) ≡ true) e h)
+    where
+      one : (bs : List rust_body.Body) → has_operands inline.Loop (bodies_view bs) ≡ true → length bs ≡ 1
+      one [] h = absurd cc
+      one (b ∷ []) h = refl
+      one (b ∷ c ∷ bs) h = absurd cc
 
 pub some_operand : (form : InlineForm) (bs : List rust_body.Body) → form ≡ inline.Alt → has_operands form (bodies_view bs) ≡ true → 1 ≤ length bs
 some_operand form bs e h = some bs (subst (λ (f : InlineForm). has_operands f (bodies_view bs) ≡ true) e h)
@@ -126,12 +133,6 @@ some_operand form bs e h = some bs (subst (λ (f : InlineForm). has_operands f (
     some : (bs : List rust_body.Body) → has_operands inline.Alt (bodies_view bs) ≡ true → 1 ≤ length bs
     some [] h = absurd cc
     some (b ∷ bs) h = omega arith
-
-pub no_loop : (form : InlineForm) (bs : Bodies) → form ≡ inline.Loop → has_operands form bs ≡ true → ⊥
-no_loop form bs e h = clash (subst (λ (f : InlineForm). has_operands f bs ≡ true) e h)
-  where
-    clash : false ≡ true → ⊥
-    clash c = absurd cc
 
 pub inline_parts : (names : List (List ℕ)) (form : InlineForm) (bs : Bodies) → (has_operands form bs && have_built names bs) ≡ true → (has_operands form bs ≡ true) × (have_built names bs ≡ true)
 inline_parts names form bs h = and_both (has_operands form bs) (have_built names bs) h
@@ -222,6 +223,14 @@ pub exc_test : (form : InlineForm) (bs : List rust_body.Body) (n : ℕ) → form
 exc_test form bs n e l = ap (λ k. nat_eq k 1) l ∙ one bs ∙ ap (λ (f : InlineForm). has_operands f (bodies_view bs)) (sym e)
   where
     one : (bs : List rust_body.Body) → nat_eq (length bs) 1 ≡ has_operands inline.Exc (bodies_view bs)
+    one [] = refl
+    one (b ∷ []) = refl
+    one (b ∷ c ∷ bs) = not_one (length bs)
+
+pub loop_test : (form : InlineForm) (bs : List rust_body.Body) (n : ℕ) → form ≡ inline.Loop → n ≡ length bs → nat_eq n 1 ≡ has_operands form (bodies_view bs)
+loop_test form bs n e l = ap (λ k. nat_eq k 1) l ∙ one bs ∙ ap (λ (f : InlineForm). has_operands f (bodies_view bs)) (sym e)
+  where
+    one : (bs : List rust_body.Body) → nat_eq (length bs) 1 ≡ has_operands inline.Loop (bodies_view bs)
     one [] = refl
     one (b ∷ []) = refl
     one (b ∷ c ∷ bs) = not_one (length bs)

@@ -29,7 +29,7 @@ use Rattle.level_terms.specs.declared.made.Made.{Made}
 use Rattle.level_terms.specs.LevelLaws.{ChartTermsMean}
 use Rattle.level_terms.specs.LevelTerms.{chart_tables, chart_term}
 use Rattle.level_terms.proofs.BodyMade.{level_is}
-use Rattle.level_terms.proofs.BodySound.{forward_is_sound, ranked_is_sound}
+use Rattle.level_terms.proofs.BodySound.{ranked_is_sound}
 use Rattle.level_terms.proofs.Placed.{level_placed, places}
 use Rattle.level_terms.proofs.Weights.{level_weighs}
 use Rattle.level_terms.proofs.LabelFacts.{among_once, labels_once_once, once_names}
@@ -95,8 +95,7 @@ tables_fit names b d = record { names_once = once_names names d; labels_once = l
 pub chart_terms_mean : NormalFormsKeepPatterns → ConstructorsKeepSoundness → ConstructorsWeigh → ChartTermsMean
 chart_terms_mean keep sound weigh = record {
   means = λ names b d built. chart_made (chart_tables b) names 0 (0 + event_count b) [] (chart_term names b) b (labels_once_once (body_labels b)) (level_is keep (chart_tables b) names (tables_fit names b d) 0 b built (has_all (body_labels b)));
-  ranked = λ names b rank built f. record { nets = tt; term = (ranked_is_sound keep sound (chart_tables b) tt tt names 0 b built (has_all (body_labels b)) rank f).sound };
-  sound = λ names b built f. record { nets = tt; term = (forward_is_sound keep sound (chart_tables b) tt tt names 0 b built (has_all (body_labels b)) f).sound };
+  ranked = λ names b built f. record { nets = tt; term = (ranked_is_sound keep sound (chart_tables b) tt tt names 0 b built (has_all (body_labels b)) f).sound };
   placed = λ names b. record { places = places names (labels_once (body_labels b)); nets = tt; term = level_placed names (labels_once (body_labels b)) 0 b (has_all (body_labels b)) };
   weighs = λ names b built few. omega (arith, level_weighs weigh names (labels_once (body_labels b)) 0 b built few);
 }

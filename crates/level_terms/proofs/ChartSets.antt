@@ -6,23 +6,22 @@ use Rattle.msc_base.specs.declared.label.Pair.{Pair}
 use Rattle.msc_base.specs.declared.label.LabelRef.{LabelRef}
 use Rattle.msc_base.specs.Patterns.{Mode, seq, par, empty, join, bind}
 use Rattle.msc_unfolding.specs.Unfoldings.{Unfolding, level_tie}
-use Rattle.msc_tree.specs.declared.reference.InlineForm.TheVariants as inline
 use Rattle.msc_tree.specs.Expressions.{Expression, Empty, Chart, Alt, Par, Seq, Opt, Loop, Expressions, more}
 use Rattle.msc_tree.specs.Graphs.{graph, Lines, Refer, Graphs, graph_and}
-use Rattle.msc_meaning.specs.Bodies.{EventNode, InlinePart, ReferencePart, Body, level, Items, no_items, item_and, Item, Single, Coregion, Inline, Bodies, no_bodies, body_and}
+use Rattle.msc_meaning.specs.Bodies.{EventNode, ReferencePart, Body, level, Items}
 use Rattle.msc_meaning.specs.Bodies as body
 use Rattle.msc_meaning.specs.Tables.{Table, ChartEntry, chart_at, Basic, HighLevel, Refinement, refinements}
 use Rattle.msc_meaning.specs.Calls.{calls}
 use Rattle.msc_meaning.specs.InnerEvents.{GateEnd, AreEnds}
 use Rattle.msc_meaning.specs.FarEnds.{GateMap, no_gates, Around, Gates, gates_referred, far_end}
 use Rattle.msc_meaning.specs.Ties.{ties, past_reference, past_node, passing}
-use Rattle.msc_meaning.specs.ChartUnfoldings.{UpTo, gates_of, under, refined_under, refining_under, OfRefinings, of_refined, refining_and, OfLevel, of_level, OfItems, OfItem, reference, OfForm, turns, no_turns, OfTurns, no_turn, turn_and, OfExpression, nothing, chart, one_of, beside, in_turn, done, not_done, rounds, no_rounds, OfOne, this_part, that_part, OfEach, part_and, OfRounds, no_round, round_and, OfWoven, of_body, of_graph, OfWalk, OfNode, refer, OfFrames, frame_and}
+use Rattle.msc_meaning.specs.ChartUnfoldings.{UpTo, gates_of, under, refined_under, refining_under, OfRefinings, of_refined, refining_and, OfLevel, of_level, OfItems, OfItem, reference, OfExpression, nothing, chart, one_of, beside, in_turn, done, not_done, rounds, no_rounds, OfOne, this_part, that_part, OfEach, part_and, OfRounds, no_round, round_and, OfWoven, of_body, of_graph, OfWalk, OfNode, refer, OfFrames, frame_and}
 use Rattle.msc_meaning.specs.Refinements.{Match, Refining, refining, refinings, without, refining_tie}
 use Rattle.msc_meaning.specs.MeaningLaws.{HaveOneEnd}
 use Rattle.term_meaning.specs.UnfoldingSets.{OnlyEmpty, AreJoined, joined, AreTied, tied, Either, AreRepeated, no_more, once_more, AreSomeOften}
 use Rattle.chart_term.specs.TermPatterns.{Both}
 use Rattle.level_terms.specs.ChartSets.{AreSame, ConstructsAreSets}
-use Rattle.level_terms.proofs.LevelSets.{along, items_none, items_unless, items_exception, item_single, item_coregion, item_inline, form_alt, some_more, form_opt, form_par, all_more}
+use Rattle.level_terms.proofs.LevelSets.{along, items_none, items_unless, items_exception, item_single, item_coregion, item_inline, form_alt, some_more, form_opt, form_par, all_more, form_loop}
 use Rattle.msc_meaning.proofs.MeaningLaws.{ends_are_one}
 
 -- ---- levels and items
@@ -51,32 +50,6 @@ module _ (table : Table) (gates : Gates) (around : Around) where
 
       from : (u : Unfolding) → AreTied (OfExpression table (gates_referred gates part.name part.joins around.gates) part.expression) (passing (past_reference gates.calls part.name part.joins)) u → OfItem table gates around (body.Refer part) u
       from _ (tied h) = reference h
-
--- ---- inline expressions
-
-module _ (table : Table) (around : Around) where
-  turns_to : (operand : Body) {n : ℕ} {u : Unfolding} → OfTurns table around operand n u → AreRepeated (OfLevel table around operand) n u
-  turns_to operand no_turn = no_more
-  turns_to operand (turn_and a b) = once_more a (turns_to operand b)
-
-  to_turns : (operand : Body) {n : ℕ} {u : Unfolding} → AreRepeated (OfLevel table around operand) n u → OfTurns table around operand n u
-  to_turns operand no_more = no_turn
-  to_turns operand (once_more a b) = turn_and a (to_turns operand b)
-
-  -- a loop whose bounds leave a number of turns
-  pub loop_set : (part : InlinePart) (operand : Body) → UpTo part.upper part.lower
-      → AreSame (OfForm table around inline.Loop part (body_and operand no_bodies)) (AreSomeOften (OfLevel table around operand) part.lower part.upper)
-  loop_set part operand b u = record { to = λ h. to u h; from = λ h. turns h.times h.least h.most (to_turns operand h.are) }
-    where
-      clash : (most : ℕ) → part.upper ≡ Some most → most < part.lower → ⊥
-      clash most e l = less (subst (λ x. UpTo x part.lower) e b) l
-        where
-          less : part.lower ≤ most → most < part.lower → ⊥
-          less a l = omega arith
-
-      to : (u : Unfolding) → OfForm table around inline.Loop part (body_and operand no_bodies) u → AreSomeOften (OfLevel table around operand) part.lower part.upper u
-      to u (turns n a c h) = record { times = n; least = a; most = c; are = turns_to operand h }
-      to _ (no_turns {most = most} e l) = absurd (clash most e l)
 
 -- ---- expressions
 
@@ -253,7 +226,7 @@ constructs_are_sets = record {
   option_set = λ table around part operand. turned (λ u. form_opt table around part operand u);
   parallel_set = λ table around part operands. turned (λ u. form_par table around part operands u);
   all_set = λ table around operand others. turned (λ u. all_more table around operand others u);
-  loop_set = loop_set;
+  loop_set = λ table around part operand b. turned (λ u. form_loop table around part operand b u);
   nothing_set = nothing_set;
   chart_set = chart_set;
   one_set = one_set;

@@ -8,7 +8,7 @@ use Rattle.msc_meaning.specs.Pairing.{ArePairs, DoRise, HasPair}
 use Rattle.msc_meaning.specs.Ties.{after_pairs, before_pairs, each_after, each_before, labelled, level_pairs, order_pairs}
 use Rattle.general_ordering.specs.OrderCounts.{orders_count}
 use Rattle.sound_terms.proofs.Places.{place_among}
-use Rattle.level_terms.specs.SoundParts.{numbers}
+use Rattle.level_terms.specs.EventNumbers.{numbers}
 
 -- the numbers without one
 record IsWithout (k : ℕ) (ys : List ℕ) : Type 0 where

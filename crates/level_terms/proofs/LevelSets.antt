@@ -1,6 +1,6 @@
 -- What each construct of a level makes of the unfoldings of its parts, as the sets of term_meaning.
-use Rattle.std.specs.Prelude.{ℕ, List, [], ◌∷◌, ◌++◌}
-use Rattle.std.proofs.Common.{◌≡◌, ◌⊎◌, refl, sym, ◌∙◌, subst, ap, inl, inr}
+use Rattle.std.specs.Prelude.{ℕ, ◌≤◌, ◌<◌, List, [], ◌∷◌, ◌++◌, Some}
+use Rattle.std.proofs.Common.{◌≡◌, ◌⊎◌, refl, sym, ◌∙◌, subst, ap, inl, inr, arith}
 use Rattle.msc_base.specs.declared.label.Pair.{Pair}
 use Rattle.msc_base.specs.Patterns.{seq, par, empty, one, join, bind}
 use Rattle.msc_unfolding.specs.Unfoldings.{Unfolding, level_tie}
@@ -13,8 +13,8 @@ use Rattle.msc_meaning.specs.Calls.{calls, event_calls, events_calls}
 use Rattle.msc_meaning.specs.InnerEvents.{GateEnd, AreEnds, no_ends}
 use Rattle.msc_meaning.specs.FarEnds.{Around, Gates, inside, happening}
 use Rattle.msc_meaning.specs.Ties.{ties, past_inline, passing, items_joins_ties, own_ties, level_pairs, event_ties}
-use Rattle.msc_meaning.specs.ChartUnfoldings.{gates_of, OfEvents, no_event, event_and, OfLevel, of_level, OfItems, no_item, item_then, exception, no_exception, OfItem, single, coregion, inline_part, OfForm, alternative, taken, left_out, parallel, OfSome, this, that, OfAll, no_operand, operand_and}
-use Rattle.term_meaning.specs.UnfoldingSets.{OnlyEmpty, OnlyEvent, AreJoined, joined, AreTied, tied, Either}
+use Rattle.msc_meaning.specs.ChartUnfoldings.{UpTo, gates_of, OfEvents, no_event, event_and, OfLevel, of_level, OfItems, no_item, item_then, exception, no_exception, OfItem, single, coregion, inline_part, OfForm, alternative, taken, left_out, parallel, turns, no_turns, OfTurns, no_turn, turn_and, OfSome, this, that, OfAll, no_operand, operand_and}
+use Rattle.term_meaning.specs.UnfoldingSets.{OnlyEmpty, OnlyEvent, AreJoined, joined, AreTied, tied, Either, AreRepeated, no_more, once_more, AreSomeOften}
 use Rattle.level_terms.proofs.PlainItems.{ArePlainItems, ArePlainNodes}
 
 pub along : (A : Unfolding → Type 0) (u v : Unfolding) → v ≡ u → A u → A v
@@ -213,3 +213,34 @@ module _ (table : Table) (around : Around) where
 
       to : (u : Unfolding) → AreJoined par (OfLevel table around operand) (OfAll table around others) u → OfAll table around (body_and operand others) u
       to _ (joined a b) = operand_and a b
+
+  turns_to : (operand : Body) {n : ℕ} {u : Unfolding} → OfTurns table around operand n u → AreRepeated (OfLevel table around operand) n u
+  turns_to operand no_turn = no_more
+  turns_to operand (turn_and a b) = once_more a (turns_to operand b)
+
+  to_turns : (operand : Body) {n : ℕ} {u : Unfolding} → AreRepeated (OfLevel table around operand) n u → OfTurns table around operand n u
+  to_turns operand no_more = no_turn
+  to_turns operand (once_more a b) = turn_and a (to_turns operand b)
+
+  -- a bound below the lower one
+  clash : (part : InlinePart) (most n : ℕ) → part.upper ≡ Some most → most < part.lower → part.lower ≤ n → UpTo part.upper n → ⊥
+  clash part most n e l a c = less (subst (λ o. UpTo o n) e c)
+    where
+      less : n ≤ most → ⊥
+      less i = omega (arith, i, l, a)
+
+  -- a loop whose bounds leave a number of turns
+  pub form_loop : (part : InlinePart) (operand : Body) → UpTo part.upper part.lower → (u : Unfolding) → Both (AreSomeOften (OfLevel table around operand) part.lower part.upper u) (OfForm table around inline.Loop part (body_and operand no_bodies) u)
+  form_loop part operand b u = record { to = λ h. turns h.times h.least h.most (to_turns operand h.are); from = λ h. from u h }
+    where
+      from : (u : Unfolding) → OfForm table around inline.Loop part (body_and operand no_bodies) u → AreSomeOften (OfLevel table around operand) part.lower part.upper u
+      from u (turns n a c h) = record { times = n; least = a; most = c; are = turns_to operand h }
+      from _ (no_turns {most = most} e l) = absurd (clash part most part.lower e l (omega arith) b)
+
+  -- one whose bounds leave none
+  pub form_crossed : (part : InlinePart) (operands : Bodies) (most : ℕ) → part.upper ≡ Some most → most < part.lower → (u : Unfolding) → Both (OnlyEmpty u) (OfForm table around inline.Loop part operands u)
+  form_crossed part operands most e l u = record { to = λ h. along (OfForm table around inline.Loop part operands) empty u h (no_turns e l); from = λ h. from operands u h }
+    where
+      from : (operands : Bodies) (u : Unfolding) → OfForm table around inline.Loop part operands u → u ≡ empty
+      from _ u (turns n a c h) = absurd (clash part most n e l a c)
+      from operands _ (no_turns f k) = refl

@@ -23,8 +23,8 @@ use Rattle.level_terms.specs.BodyLabels.{HasLabels, body_labels, item_labels, it
 use Rattle.chart_forms.specs.BuiltBodies.{operands_count}
 use Rattle.level_terms.specs.declared.made.Made.{Made}
 use Rattle.general_ordering.specs.ItemViews.{items_view, bodies_view}
-use Rattle.level_terms.specs.LevelTerms.{one_of, event_term, coregion_term, level_term, items_term, item_term, operand_terms, parallel_term}
-use Rattle.level_terms.specs.MadeParts.{IsNothing, IsFront, IsInstead, IsPart, IsTied}
+use Rattle.level_terms.specs.LevelTerms.{one_of, event_term, coregion_term, level_term, items_term, item_term, operand_terms, parallel_term, turns_of}
+use Rattle.level_terms.specs.MadeParts.{IsNothing, IsFront, IsInstead, IsPart, IsRepeated, IsTied}
 use Rattle.msc_meaning.specs.Ties.{level_pairs}
 use Rattle.level_terms.specs.ShownNumbers.{shows, shown_events, shown_items, tie_pairs}
 use Rattle.level_terms.proofs.BodyMade.{has_left, has_right}
@@ -133,6 +133,13 @@ module _ (names : List (List ℕ)) (labels : List Label) (n : ℕ) where
 
     pub par_part : (form : InlineForm) → form ≡ inline.Par → IsPart (parallel_term names labels n bs) [] made → IsPart (item_term names labels n (Inline form part bs)) [] made
     par_part form e h = subst (λ (f : InlineForm). IsPart (item_term names labels n (Inline f part bs)) [] made) (sym e) h
+
+    pub loop_part : (form : InlineForm) (operand : Made) → form ≡ inline.Loop → IsPart (one_of (operand_terms names labels n bs)) [] operand → IsRepeated part.lower part.upper operand made
+        → IsPart (item_term names labels n (Inline form part bs)) [] made
+    loop_part form operand e h r = subst (λ (f : InlineForm). IsPart (item_term names labels n (Inline f part bs)) [] made) (sym e) (record {
+      term = r.term ∙ ap (turns_of part.lower part.upper) h.term;
+      shown_are = r.shown ∙ h.shown_are;
+    })
 
     pub opt_part : (form : InlineForm) (front rest : Made) → form ≡ inline.Opt → IsNothing n rest → IsPart (one_of (operand_terms names labels rest.next bs)) [] front → IsInstead front rest made
         → IsPart (item_term names labels n (Inline form part bs)) [] made

@@ -1,12 +1,12 @@
 -- The events of a body's term stand where their labels say.
 use Rattle.std.specs.List.{position}
 use Rattle.std.specs.Option.{unwrap_or}
-use Rattle.std.specs.Prelude.{ℕ, ◌+◌, Bool, true, false, List, [], ◌∷◌, ◌++◌, Option, Some, None, slice_get, length, map}
+use Rattle.std.specs.Prelude.{ℕ, ◌+◌, Bool, true, false, not, ◌&&◌, List, [], ◌∷◌, ◌++◌, Option, Some, None, slice_get, length, map}
 use Rattle.std.specs.Str.{bytes_eq}
 use Rattle.std.proofs.Common.{ap}
 use Rattle.msc_base.specs.declared.label.Label.{Label}
 use Rattle.msc_base.specs.Patterns.{Mode, seq, par}
-use Rattle.chart_term.specs.NormalForms.{choice_of, join_all}
+use Rattle.chart_term.specs.NormalForms.{choice_of, join_all, is_nil}
 use Rattle.chart_term.specs.Properties.{Each, MayHave}
 use Rattle.chart_term.specs.Terms.{Tree, Nil}
 use Rattle.term_laws.specs.Permission.{permits_of}
@@ -19,7 +19,7 @@ use Rattle.msc_meaning.specs.Ties.{level_pairs}
 use Rattle.event_order.specs.RankedBodies.{is_exception}
 use Rattle.chart_forms.specs.BuiltBodies.{events_count, operands_count}
 use Rattle.level_terms.specs.BodyLabels.{HasLabels, body_labels, items_labels, item_labels, operands_labels}
-use Rattle.level_terms.specs.LevelTerms.{one_of, placed, event_term, coregion_term, level_term, items_term, item_term, operand_terms, parallel_term}
+use Rattle.level_terms.specs.LevelTerms.{one_of, placed, leave_turn, turns_if, turns_of, event_term, coregion_term, level_term, items_term, item_term, operand_terms, parallel_term}
 use Rattle.level_terms.specs.ShownNumbers.{shown_items, tie_pairs}
 use Rattle.level_terms.proofs.BodyMade.{has_left, has_right, has_first, has_others}
 use Rattle.level_terms.proofs.Growing.{label_there}
@@ -50,6 +50,13 @@ module _ (names : List (List ℕ)) (labels : List Label) where
   last_placed [] x h i = (i, tt)
   last_placed (y ∷ xs) x h i = (h.0, last_placed xs x h.1 i)
 
+  turns_placed : (lower : ℕ) (upper : Option ℕ) (x : Tree) → P x → P (turns_of lower upper x)
+  turns_placed lower upper x h = by (leave_turn lower upper && not (is_nil (Some x)))
+    where
+      by : (b : Bool) → P (turns_if b lower upper x)
+      by true = (h, tt, tt)
+      by false = tt
+
   front_placed : (e : Bool) (x y : Tree) → P x → P y → P (placed e x y)
   front_placed true x y h i = one_placed (x ∷ y ∷ []) (h, (i, tt))
   front_placed false x y h i = join_both seq x y h i
@@ -78,7 +85,7 @@ module _ (names : List (List ℕ)) (labels : List Label) where
     item_placed n (Inline inline.Opt part operands) h = one_placed (one_of (operand_terms names labels n operands) ∷ Nil ∷ []) (one_placed (operand_terms names labels n operands) (some_placed n operands h), (tt, tt))
     item_placed n (Inline inline.Exc part operands) h = one_placed (operand_terms names labels n operands) (some_placed n operands h)
     item_placed n (Inline inline.Par part operands) h = all_placed n operands h
-    item_placed n (Inline inline.Loop part operands) h = tt
+    item_placed n (Inline inline.Loop part operands) h = turns_placed part.lower part.upper (one_of (operand_terms names labels n operands)) (one_placed (operand_terms names labels n operands) (some_placed n operands h))
     item_placed n (Refer part) h = tt
 
     some_placed : (n : ℕ) (bs : Bodies) → HasLabels labels (operands_labels bs) → Each P (operand_terms names labels n bs)

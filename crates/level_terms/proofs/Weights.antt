@@ -1,5 +1,5 @@
 -- The weight of the term of a body.
-use Rattle.std.specs.Prelude.{ℕ, suc, ◌+◌, ◌≤◌, ◌==◌, Bool, true, false, List, [], ◌∷◌, ◌++◌, length}
+use Rattle.std.specs.Prelude.{ℕ, suc, ◌+◌, ◌≤◌, ◌==◌, Bool, true, false, not, ◌&&◌, List, [], ◌∷◌, ◌++◌, Option, Some, length}
 use Rattle.std.specs.Option.{unwrap_or}
 use Rattle.std.proofs.Common.{◌≡◌, refl, sym, ◌∙◌, subst, ap, arith}
 use Rattle.std.proofs.lemmas.Bool.Decides.{Decides-eqb}
@@ -7,7 +7,7 @@ use Rattle.msc_base.specs.declared.label.Pair.{Pair}
 use Rattle.msc_base.specs.Orders.{Among, first, later, Once}
 use Rattle.msc_base.specs.Patterns.{Mode, seq, par}
 use Rattle.chart_term.specs.Equality.{same_tree}
-use Rattle.chart_term.specs.NormalForms.{open_part, flat, join_of, join_all, open_choice, open_choices, unless_same, without, distinct, choice_form, tie_of}
+use Rattle.chart_term.specs.NormalForms.{open_part, flat, join_of, join_all, open_choice, open_choices, unless_same, without, distinct, choice_form, tie_of, is_nil}
 use Rattle.chart_term.specs.Terms.{Tree, Nil, Event, Join, Choice, Tied, Loop, Walk, Trees, none, more, items, trees, weight, weights}
 use Rattle.sound_terms.specs.TableLaws.{ConstructorsWeigh, weight_all}
 use Rattle.msc_tree.specs.declared.reference.InlineForm.TheVariants as inline
@@ -18,10 +18,10 @@ use Rattle.msc_meaning.specs.Ties.{level_pairs}
 use Rattle.general_ordering.specs.OrderCounts.{order_count, orders_count}
 use Rattle.chart_forms.specs.BodySizes.{body_size, items_size, item_size, operands_size}
 use Rattle.level_terms.specs.LevelLaws.{HasFewPairs, HaveFewPairs, HasFewWithin, EachHasFew}
-use Rattle.level_terms.specs.LevelTerms.{one_of, placed, event_term, coregion_term, level_term, items_term, item_term, operand_terms, parallel_term}
+use Rattle.level_terms.specs.LevelTerms.{one_of, placed, leave_turn, turns_if, turns_of, event_term, coregion_term, level_term, items_term, item_term, operand_terms, parallel_term}
 use Rattle.event_order.specs.RankedBodies.{is_exception}
 use Rattle.level_terms.specs.ShownNumbers.{shows, shown_events, shown_item, shown_items, number_if, numbers_of, pairs_with, pairs_between, tie_pairs}
-use Rattle.level_terms.specs.SoundParts.{numbers}
+use Rattle.level_terms.specs.EventNumbers.{numbers}
 use Rattle.level_terms.proofs.BodyMade.{not_empty}
 use Rattle.level_terms.proofs.BuiltFacts.{and_both}
 
@@ -128,6 +128,23 @@ chosen_opened (x ∷ y ∷ xs) k l h = omega (arith, items_trees xs)
 one_opened : (xs : List Tree) → (xs ≡ [] → ⊥) → weight_all (open_choice (one_of xs)) ≤ weight_all xs
 one_opened [] n = absurd (n refl)
 one_opened (x ∷ xs) n = chosen_opened (distinct (open_choices (x ∷ xs))) (weight_all (x ∷ xs)) (omega (arith, some_weight x)) (omega (arith, distinct_weight (open_choices (x ∷ xs)), choices_opened (x ∷ xs)))
+
+-- one term alone is itself
+alone_weight : (x : Tree) → weight (one_of (x ∷ [])) ≤ weight x
+alone_weight Nil = omega arith
+alone_weight (Event e) = omega arith
+alone_weight (Join m xs) = omega arith
+alone_weight (Choice xs) = omega (arith, one_weight (Choice xs ∷ []), weight_both (items xs) [], weights_items xs)
+alone_weight (Tied x q) = omega arith
+alone_weight (Loop x lo hi r) = omega arith
+alone_weight (Walk n s t c) = omega arith
+
+turns_weight : (lower : ℕ) (upper : Option ℕ) (x : Tree) → weight (turns_of lower upper x) ≤ 2 + weight x
+turns_weight lower upper x = by (leave_turn lower upper && not (is_nil (Some x)))
+  where
+    by : (b : Bool) → weight (turns_if b lower upper x) ≤ 2 + weight x
+    by true = omega arith
+    by false = omega arith
 
 two_weight : (x y : Tree) → weight (one_of (x ∷ y ∷ [])) ≤ 1 + (weight_all (open_choice x) + weight y)
 two_weight x y = omega (arith, one_weight (x ∷ y ∷ []), weight_both (open_choice x) (open_choice y ++ []), weight_both (open_choice y) [], choice_opened y)
@@ -300,7 +317,11 @@ module _ (weigh : ConstructorsWeigh) (names : List (List ℕ)) (labels : List La
         omega (arith, room_none, two_weight (one_of (operand_terms names labels n (body_and x bs))) Nil, one_opened (operand_terms names labels n (body_and x bs)) (some_operand n x bs), operands_weigh n (body_and x bs) (and_both (has_operands inline.Opt (body_and x bs)) (have_built names (body_and x bs)) b).1 f)
     item_weighs n (Inline inline.Exc part bs) b f = omega (arith, room_none, one_weight (operand_terms names labels n bs), choices_opened (operand_terms names labels n bs), operands_weigh n bs (and_both (has_operands inline.Exc bs) (have_built names bs) b).1 f)
     item_weighs n (Inline inline.Par part bs) b f = let (a, c) = parallel_weighs n bs b f in omega (arith, a, room_none)
-    item_weighs n (Inline inline.Loop part bs) b f = absurd cc
+    item_weighs n (Inline inline.Loop part no_bodies) b f = absurd cc
+    item_weighs n (Inline inline.Loop part (body_and x no_bodies)) b f =
+        let (i, j) = and_both (is_built names x) true b in
+        omega (arith, room_none, turns_weight part.lower part.upper (one_of (operand_terms names labels n (body_and x no_bodies))), alone_weight (level_term names labels (n + operands_count no_bodies) x), level_weighs (n + operands_count no_bodies) x i f.0)
+    item_weighs n (Inline inline.Loop part (body_and x (body_and y bs))) b f = absurd cc
     item_weighs n (Refer part) b f = absurd cc
 
     -- an exception has no events of its own, and is opened

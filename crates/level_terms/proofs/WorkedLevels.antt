@@ -6,8 +6,7 @@ use Rattle.msc_base.specs.Orders.{Among, first, later}
 use Rattle.msc_meaning.specs.Bodies.{EventNode}
 use Rattle.msc_meaning.specs.WorkedParts.{node, out, taken_in, pair}
 use Rattle.event_order.specs.RankedBodies.{DoPrecede}
-use Rattle.level_terms.specs.SoundParts.{IsForward}
-use Rattle.level_terms.specs.WorkedLevels.{InputFirst, input_first, output_lower}
+use Rattle.level_terms.specs.WorkedLevels.{InputFirst, output_lower}
 
 not_same : codes "i" ≡ codes "j" → ⊥
 not_same e = let byte : 105 ≡ 106 = ap (λ (l : List ℕ). get_or l 0 0) e in absurd (omega (arith, byte))
@@ -29,16 +28,12 @@ apart d c i j at = absurd (same_back (ap (λ (n : EventNode). n.at) (back d i) �
     back : (d : EventNode) → Among d (node 0 (codes "j") (taken_in (codes "a") (codes "i")) ∷ []) → node 0 (codes "j") (taken_in (codes "a") (codes "i")) ≡ d
     back d i = sym (only d (node 0 (codes "j") (taken_in (codes "a") (codes "i"))) i)
 
-backward : IsForward input_first → ⊥
-backward (f, g) = let down = f (pair 1 0) first 1 0 refl refl in absurd (omega (arith, down))
-
 pub input_is_first : InputFirst
 input_is_first = record {
   different = ((λ h. elim h [ inl e ↦ not_same e | inr i ↦ absurd i ]), ((λ h. absurd h), tt));
   built = refl;
   ranked = (rising, (tt, (λ no. apart), (tt, (λ no d c i j at. elim j [ ]), tt)));
   few = (((λ h. differ h), ((λ h. elim h [ ]), tt)), lit≤ tt, (tt, (tt, tt)));
-  not_forward = backward;
 }
   where
     differ : Among {P = ℕ} 0 (1 ∷ []) → ⊥

@@ -12,7 +12,7 @@ use Rattle.general_ordering.specs.declared.faults.EventNameRule.TheVariants.{Twi
 use Rattle.general_ordering.proofs.NamesOnce.{is_one, is_other, names_once}
 use Rattle.level_terms.specs.LevelLaws.{HasFewPairs, HaveFewPairs, HasFewWithin, EachHasFew, HasOwnPairs, HaveOwnPairs, HasOwnWithin, EachHasOwn, WovenHaveFew}
 use Rattle.event_order.specs.RankedBodies.{events_within, items_within, item_within, operands_within}
-use Rattle.level_terms.specs.SoundParts.{numbers}
+use Rattle.level_terms.specs.EventNumbers.{numbers}
 use Rattle.level_terms.proofs.FewPairs.{level_is_few}
 
 -- ---- numbers that differ

@@ -18,8 +18,8 @@ use Rattle.chart_forms.specs.BodySizes.{body_size}
 use Rattle.chart_forms.specs.BuiltBodies.{is_built}
 use Rattle.level_terms.specs.LevelTerms.{chart_tables, chart_term}
 use Rattle.level_terms.specs.MadeCharts.{IsChartMade}
-use Rattle.event_order.specs.RankedBodies.{IsRanked, events_within}
-use Rattle.level_terms.specs.SoundParts.{IsForward, numbers}
+use Rattle.event_order.specs.RankedBodies.{CanBeRanked, events_within}
+use Rattle.level_terms.specs.EventNumbers.{numbers}
 
 -- on each level the numbers of the events differ, and there are no more pairs than events and what these are ordered with
 abbrev mutual
@@ -65,11 +65,9 @@ abbrev pub WovenHaveFew : Type 0
 WovenHaveFew = (cover : List (List ℕ)) (ps : List Piece) (b : Body) → IsWovenLevel cover ps b → Once (numbers (events_within b)) → ((p : Place) → BreaksNameRule Twice b p → ⊥) → HasFewPairs b
 
 -- where the names of the instances differ and a term is made of the body, the chart's term means the chart; it is sound in full where its
--- events can be ranked, and where each output stands before its input; its events of one label have the same instances; and it weighs
--- no more than the body's size and 2
+-- events can be ranked; its events of one label have the same instances; and it weighs no more than the body's size and 2
 pub record ChartTermsMean : Type 0 where
   pub means : (names : List (List ℕ)) (b : Body) → AreDifferent names → is_built names b ≡ true → IsChartMade (chart_tables b) names (chart_term names b) b
-  pub ranked : (names : List (List ℕ)) (b : Body) (rank : ℕ → ℕ) → is_built names b ≡ true → IsRanked rank b → IsFullySound (length (chart_tables b).labels) (chart_tables b).tables (chart_term names b)
-  pub sound : (names : List (List ℕ)) (b : Body) → is_built names b ≡ true → IsForward b → IsFullySound (length (chart_tables b).labels) (chart_tables b).tables (chart_term names b)
+  pub ranked : (names : List (List ℕ)) (b : Body) → is_built names b ≡ true → CanBeRanked b → IsFullySound (length (chart_tables b).labels) (chart_tables b).tables (chart_term names b)
   pub placed : (names : List (List ℕ)) (b : Body) → HaveOnePlace (chart_tables b).tables (chart_term names b)
   pub weighs : (names : List (List ℕ)) (b : Body) → is_built names b ≡ true → HasFewPairs b → weight (chart_term names b) ≤ 2 + body_size b

@@ -2,12 +2,12 @@
 -- from n on.
 use Rattle.std.specs.List.{position}
 use Rattle.std.specs.Option.{unwrap_or}
-use Rattle.std.specs.Prelude.{ℕ, ◌+◌, Bool, true, false, List, [], ◌∷◌, ◌++◌, None, length}
+use Rattle.std.specs.Prelude.{ℕ, ◌+◌, Bool, true, false, not, ◌&&◌, List, [], ◌∷◌, ◌++◌, Option, None, Some, length, nat_le, nat_lt}
 use Rattle.std.specs.Str.{bytes_eq}
 use Rattle.msc_base.specs.declared.label.Label.{Label}
 use Rattle.msc_base.specs.Patterns.{seq, par}
-use Rattle.chart_term.specs.NormalForms.{join_all, choice_of, tie_of}
-use Rattle.chart_term.specs.Terms.{Tree, Nil, Event}
+use Rattle.chart_term.specs.NormalForms.{join_all, choice_of, tie_of, is_nil}
+use Rattle.chart_term.specs.Terms.{Tree, Nil, Event, Loop, ends, gap}
 use Rattle.label_table.specs.Labels.{label_number}
 use Rattle.level_terms.specs.LabelTables.{labels_once, tables_of_labels, with_labels}
 use Rattle.term_tables.specs.NetValues.{NetsValue}
@@ -28,6 +28,19 @@ one_of xs = unwrap_or (choice_of xs) Nil
 abbrev pub placed : Bool → Tree → Tree → Tree
 placed true x y = one_of (x ∷ y ∷ [])
 placed false x y = join_all seq (x ∷ y ∷ [])
+
+-- the bounds of a loop leave a turn
+abbrev pub leave_turn : ℕ → Option ℕ → Bool
+leave_turn lower None = true
+leave_turn lower (Some upper) = nat_lt 0 upper && nat_le lower upper
+
+abbrev pub turns_if : Bool → ℕ → Option ℕ → Tree → Tree
+turns_if true lower upper x = Loop x lower upper (gap [] ends)
+turns_if false lower upper x = Nil
+
+-- so many turns of a term, none of which has begun; nothing where the bounds leave no turn, or a turn would be nothing
+abbrev pub turns_of : ℕ → Option ℕ → Tree → Tree
+turns_of lower upper x = turns_if (leave_turn lower upper && not (is_nil (Some x))) lower upper x
 
 module _ (names : List (List ℕ)) (labels : List Label) where
   -- an event at one of the instances, with one of the labels
@@ -56,7 +69,7 @@ module _ (names : List (List ℕ)) (labels : List Label) where
     item_term n (Inline inline.Opt part operands) = one_of (one_of (operand_terms n operands) ∷ Nil ∷ [])
     item_term n (Inline inline.Exc part operands) = one_of (operand_terms n operands)
     item_term n (Inline inline.Par part operands) = parallel_term n operands
-    item_term n (Inline inline.Loop part operands) = Nil
+    item_term n (Inline inline.Loop part operands) = turns_of part.lower part.upper (one_of (operand_terms n operands))
     item_term n (Refer part) = Nil
 
     -- the operands, from the last to the first

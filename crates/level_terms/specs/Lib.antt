@@ -6,7 +6,7 @@ pub mod BareTerms
 pub mod MadeParts
 pub mod ExceptionRuns
 pub mod TieNumbers
-pub mod SoundParts
+pub mod EventNumbers
 pub mod MadeCharts
 pub mod ChartSets
 pub mod LevelLaws

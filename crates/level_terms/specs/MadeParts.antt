@@ -1,5 +1,5 @@
 -- What the functions that make the terms of levels say of what they make.
-use Rattle.std.specs.Prelude.{ℕ, Bool, ◌≡◌, List, [], ◌∷◌, Some, ◌++◌}
+use Rattle.std.specs.Prelude.{ℕ, Bool, ◌≡◌, List, [], ◌∷◌, Option, Some, ◌++◌}
 use Rattle.msc_base.specs.declared.label.Pair.{Pair}
 use Rattle.msc_base.specs.Orders.{Once}
 use Rattle.msc_unfolding.specs.Unfoldings.{Own, Unfolding}
@@ -16,6 +16,7 @@ use Rattle.msc_meaning.specs.FarEnds.{Around, Gates, no_far}
 use Rattle.msc_meaning.specs.Tables.{Table}
 use Rattle.level_terms.specs.declared.made.Made.{Made}
 use Rattle.level_terms.specs.BareTerms.{IsBare}
+use Rattle.level_terms.specs.LevelTerms.{turns_of}
 use Rattle.level_terms.specs.ShownNumbers.{tie_pairs}
 
 -- names and labels stand once, and the nets are tidy
@@ -58,6 +59,12 @@ pub record IsInstead (front rest made : Made) : Type 0 where
   pub term : choice_of (front.term ∷ rest.term ∷ []) ≡ Some made.term
   pub shown : made.shown ≡ rest.shown ++ front.shown
   pub next : made.next ≡ front.next
+
+-- so many turns of the part
+pub record IsRepeated (lower : ℕ) (upper : Option ℕ) (part made : Made) : Type 0 where
+  pub term : made.term ≡ turns_of lower upper part.term
+  pub shown : made.shown ≡ part.shown
+  pub next : made.next ≡ part.next
 
 -- the part has this term, and these numbers are shown
 pub record IsPart (x : Tree) (shown : List Pair) (made : Made) : Type 0 where

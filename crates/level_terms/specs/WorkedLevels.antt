@@ -6,7 +6,6 @@ use Rattle.msc_meaning.specs.WorkedParts.{node, out, taken_in, pair}
 use Rattle.chart_forms.specs.BuiltBodies.{is_built}
 use Rattle.level_terms.specs.LevelLaws.{HasFewPairs}
 use Rattle.event_order.specs.RankedBodies.{IsRanked}
-use Rattle.level_terms.specs.SoundParts.{IsForward}
 
 abbrev pub both_names : List (List ℕ)
 both_names = codes "i" ∷ codes "j" ∷ []
@@ -24,4 +23,3 @@ pub record InputFirst : Type 0 where
   pub built : is_built both_names input_first ≡ true
   pub ranked : IsRanked output_lower input_first
   pub few : HasFewPairs input_first
-  pub not_forward : IsForward input_first → ⊥

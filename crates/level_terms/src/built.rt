@@ -45,13 +45,13 @@ fn has_operands(form: InlineForm, operands: &Vec<Body>) -> bool
         InlineForm::Alt => operands.len() > 0,
         InlineForm::Opt => operands.len() == 1,
         InlineForm::Exc => operands.len() == 1,
+        InlineForm::Loop => operands.len() == 1,
         InlineForm::Par => true,
-        InlineForm::Loop => false,
     }
 }
 
-/// Whether a term is made of the body: each event is at one of the instances, creates none and is at no gate; no item is a reference
-/// or a loop; and each inline expression has as many operands as its form. It takes no memory.
+/// Whether a term is made of the body: each event is at one of the instances, creates none and is at no gate; no item is a reference;
+/// and each inline expression has as many operands as its form. It takes no memory.
 #[cycle(built)]
 pub fn is_built(names: &NameTable, body: &Body) -> bool
     ensures { result ≡ built_body names.now (body_view body.now) }

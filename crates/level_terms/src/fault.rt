@@ -8,7 +8,7 @@ use msc_base::NoMemory;
 /// Why no term is made of a chart.
 #[derive(Clone, Copy, Debug, PartialEq, Eq)]
 pub enum LevelFault {
-    /// A form stands in it that no term is made of: a creation, a gate, a loop, a reference; or an inline expression hasn't the
+    /// A form stands in it that no term is made of: a creation, a gate, a reference; or an inline expression hasn't the
     /// number of operands that its form has, or an event is at none of the instances.
     NotBuilt,
     /// There are more events than numbers for them.

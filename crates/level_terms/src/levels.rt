@@ -11,14 +11,14 @@ ghost use Rattle.general_ordering.specs.ItemViews.{inline_view, items_view, bodi
 ghost use Rattle.level_terms.specs.LevelTerms.{item_term, items_term, level_term, one_of, operand_terms, parallel_term};
 ghost use Rattle.level_terms.specs.MadeParts.{AreFit, IsMade, IsPart};
 ghost use Rattle.level_terms.specs.ShownNumbers.{shown_item, shown_items};
-ghost use Rattle.event_order.specs.RankedBodies.{IsRanked};
-ghost use Rattle.level_terms.specs.SoundParts.{IsForward};
+ghost use Rattle.event_order.specs.RankedBodies.{CanBeRanked};
 
 use crate::events::{coregion_of, event_of};
 use crate::made::Made;
 use crate::parts::{instead, nothing, side_by_side};
 use crate::runs::{closed, no_run, placed};
 use crate::ties::level_tied;
+use crate::turns::repeated;
 use chart_term::{TermList, choice};
 use event_order::is_exception;
 use general_ordering::level_pairs_of;
@@ -46,8 +46,7 @@ pub fn level_of(
     ensures next { IfOk result (λ made. made.next ≡ next + event_count (body_view body.now)) }
     ensures part { IfOk result (λ made. IsPart (level_term names.now nets.now.labels next (body_view body.now)) [] made) }
     ensures made { IfOk result (λ made. IsMade nets.now names.now next made.next made.shown made.term (λ t g a. OfLevel t a (body_view body.now))) }
-    ensures sound { IfOk result (λ made. AreSoundNets (length nets.now.labels) nets.now.tables → IsForward (body_view body.now) → IsSoundNode (length nets.now.labels) nets.now.tables made.term) }
-    ensures ranked { IfOk result (λ made. AreSoundNets (length nets.now.labels) nets.now.tables → (rank : ℕ → ℕ) → IsRanked rank (body_view body.now) → IsSoundNode (length nets.now.labels) nets.now.tables made.term) }
+    ensures ranked { IfOk result (λ made. AreSoundNets (length nets.now.labels) nets.now.tables → CanBeRanked (body_view body.now) → IsSoundNode (length nets.now.labels) nets.now.tables made.term) }
 {
     normal_forms_keep_patterns();
     constructors_keep_soundness();
@@ -172,7 +171,11 @@ fn inline_of(
             let made = some_of(alloc, nets, names, next, &inline.operands)?;
             Ok(made)
         }
-        InlineForm::Loop => unreachable!(),
+        InlineForm::Loop => {
+            let operand = some_of(alloc, nets, names, next, &inline.operands)?;
+            let made = repeated(alloc, operand, inline.lower, inline.upper)?;
+            Ok(made)
+        }
     }
 }
 

@@ -14,6 +14,7 @@ mod parts;
 mod room;
 mod runs;
 mod ties;
+mod turns;
 
 pub use built::is_built;
 pub use chart::{ChartTerm, chart_of};

@@ -28,39 +28,40 @@ use Rattle.msc_acceptance.specs.Rules.{InOne}
 -- ---- numbers and groups
 
 -- what holds of the rules that are looked at holds of each that is in a group
-each_rule : (P : Rule → Type 0) → P NotBuilt → P Charts → P Instances → P NamedTwice → P Undeclared → P Size → P Total → P NotShared → P OperandsDiffer → P ExcPlace → P Crossed → P Unmatched → P UnknownEvent → P EventNamedTwice → P Cyclic → (r : Rule) → IsInSome all_groups r → P r
-each_rule P p0 p1 p2 p3 p4 p5 p6 p7 p8 p9 p10 p11 p12 p13 p14 r (inl (inl is)) = subst P (sym is) p0
-each_rule P p0 p1 p2 p3 p4 p5 p6 p7 p8 p9 p10 p11 p12 p13 p14 r (inl (inr (n))) = absurd n
-each_rule P p0 p1 p2 p3 p4 p5 p6 p7 p8 p9 p10 p11 p12 p13 p14 r (inr (inl (inl is))) = subst P (sym is) p1
-each_rule P p0 p1 p2 p3 p4 p5 p6 p7 p8 p9 p10 p11 p12 p13 p14 r (inr (inl (inr (inl is)))) = subst P (sym is) p2
-each_rule P p0 p1 p2 p3 p4 p5 p6 p7 p8 p9 p10 p11 p12 p13 p14 r (inr (inl (inr (inr (n))))) = absurd n
-each_rule P p0 p1 p2 p3 p4 p5 p6 p7 p8 p9 p10 p11 p12 p13 p14 r (inr (inr (inl (inl is)))) = subst P (sym is) p3
-each_rule P p0 p1 p2 p3 p4 p5 p6 p7 p8 p9 p10 p11 p12 p13 p14 r (inr (inr (inl (inr (inl is))))) = subst P (sym is) p4
-each_rule P p0 p1 p2 p3 p4 p5 p6 p7 p8 p9 p10 p11 p12 p13 p14 r (inr (inr (inl (inr (inr (n)))))) = absurd n
-each_rule P p0 p1 p2 p3 p4 p5 p6 p7 p8 p9 p10 p11 p12 p13 p14 r (inr (inr (inr (inl (inl is))))) = subst P (sym is) p5
-each_rule P p0 p1 p2 p3 p4 p5 p6 p7 p8 p9 p10 p11 p12 p13 p14 r (inr (inr (inr (inl (inr (inl is)))))) = subst P (sym is) p6
-each_rule P p0 p1 p2 p3 p4 p5 p6 p7 p8 p9 p10 p11 p12 p13 p14 r (inr (inr (inr (inl (inr (inr (n))))))) = absurd n
-each_rule P p0 p1 p2 p3 p4 p5 p6 p7 p8 p9 p10 p11 p12 p13 p14 r (inr (inr (inr (inr (inl (inl is)))))) = subst P (sym is) p7
-each_rule P p0 p1 p2 p3 p4 p5 p6 p7 p8 p9 p10 p11 p12 p13 p14 r (inr (inr (inr (inr (inl (inr (inl is))))))) = subst P (sym is) p8
-each_rule P p0 p1 p2 p3 p4 p5 p6 p7 p8 p9 p10 p11 p12 p13 p14 r (inr (inr (inr (inr (inl (inr (inr (inl is)))))))) = subst P (sym is) p9
-each_rule P p0 p1 p2 p3 p4 p5 p6 p7 p8 p9 p10 p11 p12 p13 p14 r (inr (inr (inr (inr (inl (inr (inr (inr (n))))))))) = absurd n
-each_rule P p0 p1 p2 p3 p4 p5 p6 p7 p8 p9 p10 p11 p12 p13 p14 r (inr (inr (inr (inr (inr (inl (inl is))))))) = subst P (sym is) p10
-each_rule P p0 p1 p2 p3 p4 p5 p6 p7 p8 p9 p10 p11 p12 p13 p14 r (inr (inr (inr (inr (inr (inl (inr (n)))))))) = absurd n
-each_rule P p0 p1 p2 p3 p4 p5 p6 p7 p8 p9 p10 p11 p12 p13 p14 r (inr (inr (inr (inr (inr (inr (inl (inl is)))))))) = subst P (sym is) p11
-each_rule P p0 p1 p2 p3 p4 p5 p6 p7 p8 p9 p10 p11 p12 p13 p14 r (inr (inr (inr (inr (inr (inr (inl (inr (n))))))))) = absurd n
-each_rule P p0 p1 p2 p3 p4 p5 p6 p7 p8 p9 p10 p11 p12 p13 p14 r (inr (inr (inr (inr (inr (inr (inr (inl (inl is))))))))) = subst P (sym is) p12
-each_rule P p0 p1 p2 p3 p4 p5 p6 p7 p8 p9 p10 p11 p12 p13 p14 r (inr (inr (inr (inr (inr (inr (inr (inl (inr (inl is)))))))))) = subst P (sym is) p13
-each_rule P p0 p1 p2 p3 p4 p5 p6 p7 p8 p9 p10 p11 p12 p13 p14 r (inr (inr (inr (inr (inr (inr (inr (inl (inr (inr (n))))))))))) = absurd n
-each_rule P p0 p1 p2 p3 p4 p5 p6 p7 p8 p9 p10 p11 p12 p13 p14 r (inr (inr (inr (inr (inr (inr (inr (inr (inl (inl is)))))))))) = subst P (sym is) p14
-each_rule P p0 p1 p2 p3 p4 p5 p6 p7 p8 p9 p10 p11 p12 p13 p14 r (inr (inr (inr (inr (inr (inr (inr (inr (inl (inr (n))))))))))) = absurd n
-each_rule P p0 p1 p2 p3 p4 p5 p6 p7 p8 p9 p10 p11 p12 p13 p14 r (inr (inr (inr (inr (inr (inr (inr (inr (inr (n)))))))))) = absurd n
+each_rule : (P : Rule → Type 0) → P NotBuilt → P Charts → P Instances → P LoopBound → P NamedTwice → P Undeclared → P Size → P Total → P NotShared → P OperandsDiffer → P ExcPlace → P Crossed → P Unmatched → P UnknownEvent → P EventNamedTwice → P Cyclic → (r : Rule) → IsInSome all_groups r → P r
+each_rule P p0 p1 p2 p3 p4 p5 p6 p7 p8 p9 p10 p11 p12 p13 p14 p15 r (inl (inl is)) = subst P (sym is) p0
+each_rule P p0 p1 p2 p3 p4 p5 p6 p7 p8 p9 p10 p11 p12 p13 p14 p15 r (inl (inr (n))) = absurd n
+each_rule P p0 p1 p2 p3 p4 p5 p6 p7 p8 p9 p10 p11 p12 p13 p14 p15 r (inr (inl (inl is))) = subst P (sym is) p1
+each_rule P p0 p1 p2 p3 p4 p5 p6 p7 p8 p9 p10 p11 p12 p13 p14 p15 r (inr (inl (inr (inl is)))) = subst P (sym is) p2
+each_rule P p0 p1 p2 p3 p4 p5 p6 p7 p8 p9 p10 p11 p12 p13 p14 p15 r (inr (inl (inr (inr (inl is))))) = subst P (sym is) p3
+each_rule P p0 p1 p2 p3 p4 p5 p6 p7 p8 p9 p10 p11 p12 p13 p14 p15 r (inr (inl (inr (inr (inr (n)))))) = absurd n
+each_rule P p0 p1 p2 p3 p4 p5 p6 p7 p8 p9 p10 p11 p12 p13 p14 p15 r (inr (inr (inl (inl is)))) = subst P (sym is) p4
+each_rule P p0 p1 p2 p3 p4 p5 p6 p7 p8 p9 p10 p11 p12 p13 p14 p15 r (inr (inr (inl (inr (inl is))))) = subst P (sym is) p5
+each_rule P p0 p1 p2 p3 p4 p5 p6 p7 p8 p9 p10 p11 p12 p13 p14 p15 r (inr (inr (inl (inr (inr (n)))))) = absurd n
+each_rule P p0 p1 p2 p3 p4 p5 p6 p7 p8 p9 p10 p11 p12 p13 p14 p15 r (inr (inr (inr (inl (inl is))))) = subst P (sym is) p6
+each_rule P p0 p1 p2 p3 p4 p5 p6 p7 p8 p9 p10 p11 p12 p13 p14 p15 r (inr (inr (inr (inl (inr (inl is)))))) = subst P (sym is) p7
+each_rule P p0 p1 p2 p3 p4 p5 p6 p7 p8 p9 p10 p11 p12 p13 p14 p15 r (inr (inr (inr (inl (inr (inr (n))))))) = absurd n
+each_rule P p0 p1 p2 p3 p4 p5 p6 p7 p8 p9 p10 p11 p12 p13 p14 p15 r (inr (inr (inr (inr (inl (inl is)))))) = subst P (sym is) p8
+each_rule P p0 p1 p2 p3 p4 p5 p6 p7 p8 p9 p10 p11 p12 p13 p14 p15 r (inr (inr (inr (inr (inl (inr (inl is))))))) = subst P (sym is) p9
+each_rule P p0 p1 p2 p3 p4 p5 p6 p7 p8 p9 p10 p11 p12 p13 p14 p15 r (inr (inr (inr (inr (inl (inr (inr (inl is)))))))) = subst P (sym is) p10
+each_rule P p0 p1 p2 p3 p4 p5 p6 p7 p8 p9 p10 p11 p12 p13 p14 p15 r (inr (inr (inr (inr (inl (inr (inr (inr (n))))))))) = absurd n
+each_rule P p0 p1 p2 p3 p4 p5 p6 p7 p8 p9 p10 p11 p12 p13 p14 p15 r (inr (inr (inr (inr (inr (inl (inl is))))))) = subst P (sym is) p11
+each_rule P p0 p1 p2 p3 p4 p5 p6 p7 p8 p9 p10 p11 p12 p13 p14 p15 r (inr (inr (inr (inr (inr (inl (inr (n)))))))) = absurd n
+each_rule P p0 p1 p2 p3 p4 p5 p6 p7 p8 p9 p10 p11 p12 p13 p14 p15 r (inr (inr (inr (inr (inr (inr (inl (inl is)))))))) = subst P (sym is) p12
+each_rule P p0 p1 p2 p3 p4 p5 p6 p7 p8 p9 p10 p11 p12 p13 p14 p15 r (inr (inr (inr (inr (inr (inr (inl (inr (n))))))))) = absurd n
+each_rule P p0 p1 p2 p3 p4 p5 p6 p7 p8 p9 p10 p11 p12 p13 p14 p15 r (inr (inr (inr (inr (inr (inr (inr (inl (inl is))))))))) = subst P (sym is) p13
+each_rule P p0 p1 p2 p3 p4 p5 p6 p7 p8 p9 p10 p11 p12 p13 p14 p15 r (inr (inr (inr (inr (inr (inr (inr (inl (inr (inl is)))))))))) = subst P (sym is) p14
+each_rule P p0 p1 p2 p3 p4 p5 p6 p7 p8 p9 p10 p11 p12 p13 p14 p15 r (inr (inr (inr (inr (inr (inr (inr (inl (inr (inr (n))))))))))) = absurd n
+each_rule P p0 p1 p2 p3 p4 p5 p6 p7 p8 p9 p10 p11 p12 p13 p14 p15 r (inr (inr (inr (inr (inr (inr (inr (inr (inl (inl is)))))))))) = subst P (sym is) p15
+each_rule P p0 p1 p2 p3 p4 p5 p6 p7 p8 p9 p10 p11 p12 p13 p14 p15 r (inr (inr (inr (inr (inr (inr (inr (inr (inl (inr (n))))))))))) = absurd n
+each_rule P p0 p1 p2 p3 p4 p5 p6 p7 p8 p9 p10 p11 p12 p13 p14 p15 r (inr (inr (inr (inr (inr (inr (inr (inr (inr (n)))))))))) = absurd n
 
 decoded : ℕ → Rule
-decoded n = if nat_eq n 41 then NotBuilt else (if nat_eq n 9 then Charts else (if nat_eq n 10 then Instances else (if nat_eq n 13 then NamedTwice else (if nat_eq n 14 then Undeclared else (if nat_eq n 19 then Size else (if nat_eq n 20 then Total else (if nat_eq n 21 then NotShared else (if nat_eq n 22 then OperandsDiffer else (if nat_eq n 23 then ExcPlace else (if nat_eq n 24 then Crossed else (if nat_eq n 25 then Unmatched else (if nat_eq n 35 then UnknownEvent else (if nat_eq n 36 then EventNamedTwice else (Cyclic))))))))))))))
+decoded n = if nat_eq n 41 then NotBuilt else (if nat_eq n 9 then Charts else (if nat_eq n 10 then Instances else (if nat_eq n 12 then LoopBound else (if nat_eq n 13 then NamedTwice else (if nat_eq n 14 then Undeclared else (if nat_eq n 19 then Size else (if nat_eq n 20 then Total else (if nat_eq n 21 then NotShared else (if nat_eq n 22 then OperandsDiffer else (if nat_eq n 23 then ExcPlace else (if nat_eq n 24 then Crossed else (if nat_eq n 25 then Unmatched else (if nat_eq n 35 then UnknownEvent else (if nat_eq n 36 then EventNamedTwice else (Cyclic)))))))))))))))
 
 decodes : (r : Rule) → IsInSome all_groups r → decoded (number_of r) ≡ r
 unfolding decoded
-decodes = each_rule (λ r. decoded (number_of r) ≡ r) refl refl refl refl refl refl refl refl refl refl refl refl refl refl refl
+decodes = each_rule (λ r. decoded (number_of r) ≡ r) refl refl refl refl refl refl refl refl refl refl refl refl refl refl refl refl
 
 -- a rule that charts break is in one of the groups
 in_some : (charts : List Chart) (r : Rule) (p : Place) → BreaksOf charts r p → IsInSome all_groups r
@@ -75,7 +76,7 @@ in_some charts TooDeep p b = absurd b
 in_some charts Charts p b = inr (inl (inl refl))
 in_some charts Instances p b = inr (inl (inr (inl refl)))
 in_some charts Nodes p b = absurd b
-in_some charts LoopBound p b = absurd b
+in_some charts LoopBound p b = inr (inl (inr (inr (inl refl))))
 in_some charts NamedTwice p b = inr (inr (inl (inl refl)))
 in_some charts Undeclared p b = inr (inr (inl (inr (inl refl))))
 in_some charts MissingChart p b = absurd b
@@ -143,10 +144,10 @@ low_names : (s : Rule) → IsInSome (names ∷ sizes ∷ parts ∷ columns ∷ m
 low_names s h = elim h [ inl m ↦ omega (arith, in_two NamedTwice Undeclared s refl m) | inr n ↦ omega (arith, low_sizes s n) ]
 
 low_limits : (s : Rule) → IsInSome (limits ∷ names ∷ sizes ∷ parts ∷ columns ∷ messages ∷ event_names ∷ cycles ∷ []) s → 4 ≤ group_of s
-low_limits s h = elim h [ inl m ↦ omega (arith, in_two Charts Instances s refl m) | inr n ↦ omega (arith, low_names s n) ]
+low_limits s h = elim h [ inl m ↦ omega (arith, in_three Charts Instances LoopBound s refl refl m) | inr n ↦ omega (arith, low_names s n) ]
 
 are_groups : AreGroups group_of all_groups
-are_groups = (λ r s m n. in_one NotBuilt r m ∙ sym (in_one NotBuilt s n), λ r s m n. omega (arith, in_one NotBuilt r m, low_limits s n), (λ r s m n. in_two Charts Instances r refl m ∙ sym (in_two Charts Instances s refl n), λ r s m n. omega (arith, in_two Charts Instances r refl m, low_names s n), (λ r s m n. in_two NamedTwice Undeclared r refl m ∙ sym (in_two NamedTwice Undeclared s refl n), λ r s m n. omega (arith, in_two NamedTwice Undeclared r refl m, low_sizes s n), (λ r s m n. in_two Size Total r refl m ∙ sym (in_two Size Total s refl n), λ r s m n. omega (arith, in_two Size Total r refl m, low_parts s n), (λ r s m n. in_three NotShared OperandsDiffer ExcPlace r refl refl m ∙ sym (in_three NotShared OperandsDiffer ExcPlace s refl refl n), λ r s m n. omega (arith, in_three NotShared OperandsDiffer ExcPlace r refl refl m, low_columns s n), (λ r s m n. in_one Crossed r m ∙ sym (in_one Crossed s n), λ r s m n. omega (arith, in_one Crossed r m, low_messages s n), (λ r s m n. in_one Unmatched r m ∙ sym (in_one Unmatched s n), λ r s m n. omega (arith, in_one Unmatched r m, low_event_names s n), (λ r s m n. in_two UnknownEvent EventNamedTwice r refl m ∙ sym (in_two UnknownEvent EventNamedTwice s refl n), λ r s m n. omega (arith, in_two UnknownEvent EventNamedTwice r refl m, low_cycles s n), (λ r s m n. in_one Cyclic r m ∙ sym (in_one Cyclic s n), λ r s m n. absurd n, tt)))))))))
+are_groups = (λ r s m n. in_one NotBuilt r m ∙ sym (in_one NotBuilt s n), λ r s m n. omega (arith, in_one NotBuilt r m, low_limits s n), (λ r s m n. in_three Charts Instances LoopBound r refl refl m ∙ sym (in_three Charts Instances LoopBound s refl refl n), λ r s m n. omega (arith, in_three Charts Instances LoopBound r refl refl m, low_names s n), (λ r s m n. in_two NamedTwice Undeclared r refl m ∙ sym (in_two NamedTwice Undeclared s refl n), λ r s m n. omega (arith, in_two NamedTwice Undeclared r refl m, low_sizes s n), (λ r s m n. in_two Size Total r refl m ∙ sym (in_two Size Total s refl n), λ r s m n. omega (arith, in_two Size Total r refl m, low_parts s n), (λ r s m n. in_three NotShared OperandsDiffer ExcPlace r refl refl m ∙ sym (in_three NotShared OperandsDiffer ExcPlace s refl refl n), λ r s m n. omega (arith, in_three NotShared OperandsDiffer ExcPlace r refl refl m, low_columns s n), (λ r s m n. in_one Crossed r m ∙ sym (in_one Crossed s n), λ r s m n. omega (arith, in_one Crossed r m, low_messages s n), (λ r s m n. in_one Unmatched r m ∙ sym (in_one Unmatched s n), λ r s m n. omega (arith, in_one Unmatched r m, low_event_names s n), (λ r s m n. in_two UnknownEvent EventNamedTwice r refl m ∙ sym (in_two UnknownEvent EventNamedTwice s refl n), λ r s m n. omega (arith, in_two UnknownEvent EventNamedTwice r refl m, low_cycles s n), (λ r s m n. in_one Cyclic r m ∙ sym (in_one Cyclic s n), λ r s m n. absurd n, tt)))))))))
 
 -- ---- what charts come to
 

@@ -3,7 +3,8 @@ use Rattle.std.proofs.Common.{◌≡◌, ℕ, List, Option, Some, None, refl, sy
 use Rattle.built_charts.specs.BuiltCharts.{BuiltChartsAreKnown}
 use Rattle.chart_forms.specs.NotBuilt.{IsBuilt}
 use Rattle.event_order.specs.OrderLaws.{RanksRise}
-use Rattle.event_order.specs.Precedence.{CanBeRanked, IsCyclic}
+use Rattle.event_order.specs.Precedence.{IsCyclic}
+use Rattle.event_order.specs.RankedBodies.{CanBeRanked}
 use Rattle.general_ordering.specs.EventNames.{BreaksNameRule}
 use Rattle.general_ordering.specs.declared.faults.EventNameRule.{EventNameRule}
 use Rattle.level_pieces.proofs.LeastLaws.{least_same}
@@ -125,7 +126,7 @@ none_alone c b h q a = content_matched (instances c) c.content b a.body h a.wove
 
 -- where the events of a chart can be ranked its order isn't cyclic
 pub never_cyclic : RanksRise → (c : Chart) (b : Body) → IsBodyOf c b → CanBeRanked b → IsLeast (IsCyclicAt c) None
-never_cyclic law c b h r = λ q g. law.apart b r.rank r.ranked (subst IsCyclic (same_body c g.body b g.woven h) g.cyclic)
+never_cyclic law c b h r = λ q g. law.apart b r (subst IsCyclic (same_body c g.body b g.woven h) g.cyclic)
 
 -- the events of a chart that break a rule on names are those of its body
 pub misnamed_least : (rule : EventNameRule) (c : Chart) (b : Body) (o : Option Place) → IsBodyOf c b → IsLeast (BreaksNameRule rule b) o → IsLeast (IsMisnamedAt rule c) o

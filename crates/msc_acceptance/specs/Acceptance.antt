@@ -3,9 +3,10 @@ use Rattle.std.specs.Prelude.{◌⊎◌, [], List}
 use Rattle.msc_base.specs.declared.place.Place.{Place}
 use Rattle.msc_tree.specs.Charts.{Chart, Document}
 use Rattle.msc_rules.specs.declared.rule.Rule.{Rule}
-use Rattle.msc_rules.specs.declared.rule.Rule.TheVariants.{NotBuilt, Charts, Instances, NamedTwice, Undeclared, Size, Total, NotShared, OperandsDiffer, ExcPlace, Crossed, Unmatched, UnknownEvent, EventNamedTwice, Cyclic}
+use Rattle.msc_rules.specs.declared.rule.Rule.TheVariants.{NotBuilt, Charts, Instances, LoopBound, NamedTwice, Undeclared, Size, Total, NotShared, OperandsDiffer, ExcPlace, Crossed, Unmatched, UnknownEvent, EventNamedTwice, Cyclic}
 use Rattle.msc_rules.specs.FirstFaults.{IsFirstFault, IsFaultless}
 use Rattle.msc_rules.specs.Rules.{group_of, number_of}
+use Rattle.chart_forms.specs.LoopBounds.{HasHighBound}
 use Rattle.chart_forms.specs.NotBuilt.{IsNotBuilt}
 use Rattle.level_weaving.specs.Exceptions.{IsMisplaced}
 use Rattle.shared_parts.specs.PartRules.{ChartBreaksPartRule}
@@ -23,6 +24,7 @@ abbrev pub BreaksOf : List Chart → Rule → Place → Type 0
 BreaksOf charts NotBuilt place = InOne IsNotBuilt charts place
 BreaksOf charts Charts place = IsFurther charts place
 BreaksOf charts Instances place = HasFurther [] charts place
+BreaksOf charts LoopBound place = InOne HasHighBound charts place
 BreaksOf charts NamedTwice place = IsNamedAgain [] charts place ⊎ InOne ChartNamesTwice charts place
 BreaksOf charts Undeclared place = InOne ChartNamesOther charts place
 BreaksOf charts Size place = InOne IsLarge charts place

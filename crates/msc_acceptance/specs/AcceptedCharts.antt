@@ -2,8 +2,7 @@
 use Rattle.std.specs.Prelude.{◌≡◌, ◌≤◌, ◌+◌, ⊤, true, List, [], ◌∷◌, length, map}
 use Rattle.chart_forms.specs.BodySizes.{body_size}
 use Rattle.chart_forms.specs.BuiltBodies.{is_built}
-use Rattle.event_order.specs.Precedence.{CanBeRanked}
-use Rattle.event_order.specs.RankedBodies.{events_within}
+use Rattle.event_order.specs.RankedBodies.{CanBeRanked, events_within}
 use Rattle.general_ordering.specs.EventNames.{BreaksNameRule}
 use Rattle.general_ordering.specs.declared.faults.EventNameRule.TheVariants.{Twice}
 use Rattle.msc_base.specs.Lists.{AreDifferent}

@@ -7,8 +7,8 @@ use Rattle.msc_tree.specs.Charts.{Chart}
 use Rattle.msc_rules.specs.FirstFaults.{Keeps, IsFirst}
 use Rattle.msc_rules.specs.Rules.{number_of}
 use Rattle.msc_rules.specs.declared.rule.Rule.{Rule}
-use Rattle.msc_rules.specs.declared.rule.Rule.TheVariants.{NotBuilt, Charts, Instances, NamedTwice, Undeclared, Size, Total, NotShared, OperandsDiffer, ExcPlace, Crossed, Unmatched, UnknownEvent, EventNamedTwice, Cyclic}
-use Rattle.event_order.specs.Precedence.{CanBeRanked}
+use Rattle.msc_rules.specs.declared.rule.Rule.TheVariants.{NotBuilt, Charts, Instances, LoopBound, NamedTwice, Undeclared, Size, Total, NotShared, OperandsDiffer, ExcPlace, Crossed, Unmatched, UnknownEvent, EventNamedTwice, Cyclic}
+use Rattle.event_order.specs.RankedBodies.{CanBeRanked}
 use Rattle.msc_meaning.specs.Tables.{Basic, HighLevel, Table, Woven}
 use Rattle.msc_meaning.specs.Views.{entry_view, table_view}
 use Rattle.msc_meaning.specs.WovenTables.{AreEntriesOf, IsEntryOf}
@@ -17,6 +17,7 @@ use Rattle.general_ordering.specs.declared.faults.EventNameRule.TheVariants.{Unk
 use Rattle.msc_acceptance.specs.declared.tables.BodyFaults.{BodyFaults}
 use Rattle.msc_instances.specs.NameFaults.{ChartNamesOther, ChartNamesTwice}
 use Rattle.msc_instances.specs.Instances.{instances}
+use Rattle.chart_forms.specs.LoopBounds.{HasHighBound}
 use Rattle.chart_forms.specs.NotBuilt.{IsNotBuilt}
 use Rattle.level_weaving.specs.Exceptions.{IsMisplaced}
 use Rattle.shared_parts.specs.PartRules.{ChartBreaksPartRule}
@@ -39,7 +40,7 @@ abbrev pub forms : List Rule
 forms = NotBuilt ∷ []
 
 abbrev pub limits : List Rule
-limits = Charts ∷ Instances ∷ []
+limits = Charts ∷ Instances ∷ LoopBound ∷ []
 
 abbrev pub names : List Rule
 names = NamedTwice ∷ Undeclared ∷ []
@@ -90,6 +91,7 @@ AreBuilt charts = (p : Place) → InOne IsNotBuilt charts p → ⊥
 
 abbrev pub ChartBreaks : ChartRule → Chart → Place → Type 0
 ChartBreaks rule.NotBuilt = IsNotBuilt
+ChartBreaks rule.LoopBound = HasHighBound
 ChartBreaks rule.NamedTwice = ChartNamesTwice
 ChartBreaks rule.Undeclared = ChartNamesOther
 

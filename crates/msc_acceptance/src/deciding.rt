@@ -44,7 +44,9 @@ fn limit_fault(alloc: Global, charts: &[RawChart]) -> Result<Option<Broken<Rule>
     let further = broken_at(Rule::Charts, further_chart(charts));
     let place = further_instance(alloc, charts)?;
     let instances = broken_at(Rule::Instances, place);
-    Ok(earlier_fault(further, instances))
+    let bound = first_place(alloc, charts, ChartRule::LoopBound)?;
+    let high = broken_at(Rule::LoopBound, bound);
+    Ok(earlier_fault(earlier_fault(further, instances), high))
 }
 
 /// The first fault of names.

@@ -2,7 +2,7 @@
 
 ghost use Rattle.std.specs.Prelude.{◌≡◌, IfOk, None, Some, map};
 ghost use Rattle.chart_forms.specs.NotBuilt.{IsBuilt};
-ghost use Rattle.event_order.specs.Precedence.{CanBeRanked};
+ghost use Rattle.event_order.specs.RankedBodies.{CanBeRanked};
 ghost use Rattle.level_weaving.specs.WeaveFaults.{IsWeaveFault, IsWovenTo};
 ghost use Rattle.msc_acceptance.specs.ChartFaults.{IsBodyOf, IsCyclicAt};
 ghost use Rattle.msc_acceptance.specs.Deciding.{AreBuilt, AreFaultsOf, AreWoven, IsBarred, IsNextWoven, earlier_of};

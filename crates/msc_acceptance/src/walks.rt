@@ -6,7 +6,7 @@ ghost use Rattle.msc_acceptance.specs.Deciding.{ChartBreaks, earlier_of};
 ghost use Rattle.msc_acceptance.specs.Rules.{InOne};
 ghost use Rattle.msc_tree.specs.Views.{chart_view};
 
-use chart_forms::first_not_built;
+use chart_forms::{first_high_bound, first_not_built};
 use msc_base::{NoMemory, Place, earlier_place};
 use msc_instances::{first_named_twice, first_undeclared};
 use msc_tree::RawChart;
@@ -17,6 +17,8 @@ use std::alloc::Global;
 pub enum ChartRule {
     /// A form isn't built yet.
     NotBuilt,
+    /// A loop has a bound above the limit.
+    LoopBound,
     /// A decomposed instance or a part is named a second time.
     NamedTwice,
     /// A name stands that may not.
@@ -39,6 +41,7 @@ fn place_in(alloc: Global, chart: &RawChart, rule: ChartRule) -> Result<Option<P
 {
     match rule {
         ChartRule::NotBuilt => first_not_built(alloc, chart),
+        ChartRule::LoopBound => first_high_bound(alloc, chart),
         ChartRule::NamedTwice => first_named_twice(alloc, chart),
         ChartRule::Undeclared => first_undeclared(alloc, chart),
     }

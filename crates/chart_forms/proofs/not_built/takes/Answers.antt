@@ -1,5 +1,5 @@
 use Rattle.std.proofs.Common.{refl, length}
-use Rattle.chart_forms.proofs.OperandCounts.{alt_test, exc_test, opt_test}
+use Rattle.chart_forms.proofs.OperandCounts.{alt_test, exc_test, loop_test, opt_test}
 use Rattle.chart_forms.proofs.not_built.takes.Goals as goal
 
 pub returns-in-Alt : goal.returns-in-Alt
@@ -10,3 +10,6 @@ returns-in-Opt c = opt_test c.args.form c.args.list.now (length c.args.list.now)
 
 pub returns-in-Exc : goal.returns-in-Exc
 returns-in-Exc c = exc_test c.args.form c.args.list.now (length c.args.list.now) c.in-Exc.is refl
+
+pub returns-in-Loop : goal.returns-in-Loop
+returns-in-Loop c = loop_test c.args.form c.args.list.now (length c.args.list.now) c.in-Loop.is refl

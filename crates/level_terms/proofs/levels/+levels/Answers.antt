@@ -18,7 +18,7 @@ use Rattle.msc_meaning.specs.Ties.{level_pairs}
 use Rattle.level_terms.specs.ShownNumbers.{shown_item}
 use Rattle.level_terms.proofs.BuiltFacts.{item_built, body_built, items_left, bodies_left, items_end, bodies_end}
 use Rattle.level_terms.proofs.Dropped.{item_at}
-use Rattle.level_terms.proofs.PartSteps.{level_part, operands_start, operands_step, one_part, parallel_start, parallel_step, parallel_end, alt_part, exc_part, par_part, opt_part, item_labelled, body_labelled}
+use Rattle.level_terms.proofs.PartSteps.{level_part, operands_start, operands_step, one_part, parallel_start, parallel_step, parallel_end, alt_part, exc_part, par_part, loop_part, opt_part, item_labelled, body_labelled}
 use Rattle.level_terms.proofs.RunSteps.{items_start, items_step, placed_next}
 use Rattle.level_terms.proofs.RunSteps as steps
 use Rattle.general_ordering.proofs.ViewFacts.{body_is, inline_is, single_is, coregion_is, inline_item_is, part_of}
@@ -144,6 +144,12 @@ pub inline_of-returns-in_ok-made-in-Exc-clause-part : goal.inline_of-returns-in_
 inline_of-returns-in_ok-made-in-Exc-clause-part t c =
     subst (λ (x : body.Item). IsPart (item_term c.args.names.now c.args.nets.now.labels c.args.next x) [] c.in_ok-made-in-Exc.made) (sym (inline_is c.args.inline.now))
     (exc_part c.args.names.now c.args.nets.now.labels c.args.next c.in_ok-made-in-Exc.made (part_of c.args.inline.now) (bodies_view (out-InlineItem c.args.inline.now).operands.items) (out-InlineItem c.args.inline.now).form c.in-Exc.is c.in_ok-made-in-Exc.ensures.part)
+
+pub inline_of-returns-in_ok-made-in-Loop-clause-part : goal.inline_of-returns-in_ok-made-in-Loop-clause-part
+inline_of-returns-in_ok-made-in-Loop-clause-part t c =
+    subst (λ (x : body.Item). IsPart (item_term c.args.names.now c.args.nets.now.labels c.args.next x) [] c.in_ok-made-in-Loop.made) (sym (inline_is c.args.inline.now))
+    (loop_part c.args.names.now c.args.nets.now.labels c.args.next c.in_ok-made-in-Loop.made (part_of c.args.inline.now) (bodies_view (out-InlineItem c.args.inline.now).operands.items) (out-InlineItem c.args.inline.now).form c.in_ok-operand-in-Loop.operand
+    c.in-Loop.is c.in_ok-operand-in-Loop.ensures.part c.in_ok-made-in-Loop.ensures)
 
 pub inline_of-returns-in_ok-made-in-Opt-clause-part : goal.inline_of-returns-in_ok-made-in-Opt-clause-part
 inline_of-returns-in_ok-made-in-Opt-clause-part t c =

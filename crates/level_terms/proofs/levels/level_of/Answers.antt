@@ -6,7 +6,7 @@ use Rattle.term_laws.specs.FullSoundness.{IsSoundNode}
 use Rattle.chart_forms.specs.BuiltBodies.{event_count}
 use Rattle.level_terms.specs.LevelTerms.{level_term}
 use Rattle.level_terms.proofs.BodyMade.{level_is}
-use Rattle.level_terms.proofs.BodySound.{forward_is_sound, ranked_is_sound}
+use Rattle.level_terms.proofs.BodySound.{ranked_is_sound}
 use Rattle.level_terms.proofs.ChartMade.{part_made}
 use Rattle.level_terms.proofs.levels.level_of.Goals as goal
 
@@ -15,12 +15,7 @@ returns-clause-made c =
     part_made c.args.nets.now c.args.names.now c.args.next (c.args.next + event_count (body_view c.args.body.now)) [] (level_term c.args.names.now c.args.nets.now.labels c.args.next (body_view c.args.body.now)) c.in_ok-made.made (λ t g a. OfLevel t a (body_view c.args.body.now))
     c.in_ok-made.ensures.part c.in_ok-made.ensures.next (level_is c.normal_forms_keep_patterns.ensures c.args.nets.now c.args.names.now c.requires.fit c.args.next (body_view c.args.body.now) c.requires.built c.requires.labelled)
 
-pub returns-clause-sound : goal.returns-clause-sound
-returns-clause-sound c = λ nets forward.
-    subst (λ (x : Tree). IsSoundNode (length c.args.nets.now.labels) c.args.nets.now.tables x) (sym c.in_ok-made.ensures.part.term)
-    (forward_is_sound c.normal_forms_keep_patterns.ensures c.constructors_keep_soundness.ensures c.args.nets.now nets c.requires.fit.tidy c.args.names.now c.args.next (body_view c.args.body.now) c.requires.built c.requires.labelled forward)
-
 pub returns-clause-ranked : goal.returns-clause-ranked
-returns-clause-ranked c = λ nets rank f.
+returns-clause-ranked c = λ nets f.
     subst (λ (x : Tree). IsSoundNode (length c.args.nets.now.labels) c.args.nets.now.tables x) (sym c.in_ok-made.ensures.part.term)
-    (ranked_is_sound c.normal_forms_keep_patterns.ensures c.constructors_keep_soundness.ensures c.args.nets.now nets c.requires.fit.tidy c.args.names.now c.args.next (body_view c.args.body.now) c.requires.built c.requires.labelled rank f)
+    (ranked_is_sound c.normal_forms_keep_patterns.ensures c.constructors_keep_soundness.ensures c.args.nets.now nets c.requires.fit.tidy c.args.names.now c.args.next (body_view c.args.body.now) c.requires.built c.requires.labelled f)

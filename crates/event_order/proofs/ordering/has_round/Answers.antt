@@ -5,9 +5,9 @@ use Rattle.item_order.specs.Orders.{IsStuckAt, IsWhole}
 use Rattle.item_order.specs.declared.edge.Edge.{Edge}
 use Rattle.item_order.specs.declared.sorting.Sorted.{Sorted}
 use Rattle.msc_meaning.specs.Views.{body_view}
-use Rattle.event_order.specs.RankedBodies.{events_within}
+use Rattle.event_order.specs.RankedBodies.{counted_within}
 use Rattle.event_order.proofs.Sorting.{cyclic_body, edges_inside, none_drawn, order_ranks, ranked_body}
-use Rattle.event_order.proofs.ordering.is_cyclic.Goals as goal
+use Rattle.event_order.proofs.ordering.has_round.Goals as goal
 
 pub sort_edges-requires-clause-inside : goal.sort_edges-requires-clause-inside
 sort_edges-requires-clause-inside c =
@@ -22,7 +22,7 @@ returns-in-Whole-clause-ranked c = λ e.
     let w = c.draw_body.new.web in
     let b = body_view c.args.body.now in
     let whole : IsWhole n (Leads c.as_slice.result.now) c.in-Whole.field-0.items = subst (λ (s : Sorted). IfWhole s (λ order. IsWhole n (Leads c.as_slice.result.now) order.items)) c.in-Whole.is c.in_ok-sort_edges.ensures.whole in
-    ranked_body b (events_within b) c.nothing-web.result w c.in_ok-draw_body.field-0 c.in_ok-draw_body.ensures
+    ranked_body b (counted_within b) c.nothing-web.result w c.in_ok-draw_body.field-0 c.in_ok-draw_body.ensures
     (order_ranks w m n c.in_ok-edges.edges c.in_ok-draw_body.ensures.tidy c.above_events-events.ensures.below c.in_ok-edges.ensures refl c.in-Whole.field-0.items (subst (λ (l : List Edge). IsWhole n (Leads l) c.in-Whole.field-0.items) c.as_slice.ensures whole))
 
 pub returns-clause-cyclic : goal.returns-clause-cyclic
@@ -32,5 +32,5 @@ returns-clause-cyclic c = λ e.
     let w = c.draw_body.new.web in
     let b = body_view c.args.body.now in
     let stuck : IsStuckAt n (Leads c.as_slice.result.now) c.in-Stuck.field-0 = subst (λ (s : Sorted). IfStuck s (IsStuckAt n (Leads c.as_slice.result.now))) c.in-Stuck.is c.in_ok-sort_edges.ensures.stuck in
-    cyclic_body b (events_within b) c.nothing-web.result w c.in_ok-draw_body.field-0 c.in_ok-draw_body.ensures (none_drawn c.nothing-web.result c.nothing-web.ensures.pairs c.nothing-web.ensures.before) m n c.in_ok-edges.edges
+    cyclic_body b (counted_within b) c.nothing-web.result w c.in_ok-draw_body.field-0 c.in_ok-draw_body.ensures (none_drawn c.nothing-web.result c.nothing-web.ensures.pairs c.nothing-web.ensures.before) m n c.in_ok-edges.edges
     c.above_events-events.ensures.below c.in_ok-edges.ensures refl c.in-Stuck.field-0 (subst (λ (l : List Edge). IsStuckAt n (Leads l) c.in-Stuck.field-0) c.as_slice.ensures stuck)
