@@ -13,7 +13,7 @@ choices are found, to one in a hundred, with which the program doesn't crash, an
     nested    may it end?
     passed    permission, for an event behind all choices
     entered   what is left after the innermost event
-    compared  two terms that differ behind the choices
+    compared  two equal terms, of which neither is known to be the other
 """
 import resource
 import subprocess

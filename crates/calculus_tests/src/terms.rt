@@ -180,12 +180,34 @@ fn blocks_count_in_equality_and_order(rt: HostRuntime) -> Result<(), Fail> {
     Ok(())
 }
 
+// By the definition event 1 adds 16676797110076395386 to a code, and event 2 adds 7966790517022862048.
 #[test]
-fn constructors_are_ordered_as_the_table_of_weights(rt: HostRuntime) -> Result<(), Fail> {
+fn code_is_a_sum_over_the_events(rt: HostRuntime) -> Result<(), Fail> {
+    let alloc = rt.alloc();
+    assert_eq!(rt; Term::nil(alloc)?.facts().code, 0);
+    assert_eq!(rt; event(alloc, 1, 0)?.facts().code, 16676797110076395386);
+    let sum = 6196843553389705818;
+    let row = seq(
+        alloc,
+        both(alloc, event(alloc, 1, 0)?, event(alloc, 2, 0)?)?,
+    )?;
+    assert_eq!(rt; row.facts().code, sum);
+    let turned = seq(
+        alloc,
+        both(alloc, event(alloc, 2, 0)?, event(alloc, 1, 0)?)?,
+    )?;
+    assert_eq!(rt; turned.facts().code, sum);
+    assert!(rt; !row.same(&turned));
+    Ok(())
+}
+
+// Terms without events have the code 0; then come those of events 1 and 2, then those of event 1 alone.
+#[test]
+fn terms_are_ordered_by_codes_then_as_the_table_of_weights(rt: HostRuntime) -> Result<(), Fail> {
     let alloc = rt.alloc();
     let mut terms = TermList::new(alloc);
     terms.push(Term::nil(alloc)?)?;
-    terms.push(event(alloc, 1, 0)?)?;
+    terms.push(Term::walk_of(alloc, 0, Spot::Start, Goal::Any, Block::empty(alloc))?)?;
     terms.push(seq(
         alloc,
         both(alloc, event(alloc, 1, 0)?, event(alloc, 2, 0)?)?,
@@ -199,8 +221,8 @@ fn constructors_are_ordered_as_the_table_of_weights(rt: HostRuntime) -> Result<(
         both(alloc, event(alloc, 1, 0)?, event(alloc, 2, 0)?)?,
     )?)?;
     terms.push(message(alloc, 1)?)?;
+    terms.push(event(alloc, 1, 0)?)?;
     terms.push(loop_shut(alloc, event(alloc, 1, 0)?, 0)?)?;
-    terms.push(Term::walk_of(alloc, 0, Spot::Start, Goal::Any, Block::empty(alloc))?)?;
     for (i, term) in terms.as_slice().iter().enumerate() {
         for (j, other) in terms.as_slice().iter().enumerate() {
             assert_eq!(rt; term < other, i < j, "{i} and {j}");

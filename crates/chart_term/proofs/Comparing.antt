@@ -6,7 +6,7 @@ use Rattle.std.specs.declared.cmp.Ordering.TheVariants.{Less, Equal, Greater}
 use Rattle.bit_sets.specs.Blocks.{set_cmp}
 use Rattle.node_facts.proofs.Listing.{got_is, is_equal, list_cmp, list_cmp-decided, list_cmp-end, list_cmp-goes_on, list_cmp-next}
 use Rattle.chart_term.specs.Comparisons.{ComparesAs}
-use Rattle.chart_term.specs.Order.{maybe_cmp, part_cmp, tree_cmp, trees_cmp, row_cmp}
+use Rattle.chart_term.specs.Order.{maybe_cmp, part_cmp, tree_cmp, shape_cmp, trees_cmp, row_cmp}
 use Rattle.chart_term.specs.OrderLaws.{tree_equal, tree_itself}
 use Rattle.chart_term.specs.NormalForms.{begun}
 use Rattle.chart_term.specs.PartLists.{AreTurns}
@@ -60,14 +60,14 @@ compared_as o p m n (compared.Told q) e l h = h ∙ e
 compared_as o p m n (compared.As x y) e l h = (h.0 ∙ e, omega (arith, l, h.1))
 
 -- joins and choices of turns compare as their lists
-pub compared_joined : (k : Trees → Tree) → ((us vs : Trees) → tree_cmp (k us) (k vs) ≡ trees_cmp us vs) → ((us : Trees) → nodes (k us) ≡ nodes_all us + 1) → (ps qs : List Part) (x y : Tree) (r : Compared) → AreTurns ps → AreTurns qs → k (trees (begun ps)) ≡ x → k (trees (begun qs)) ≡ y → ComparesAs (row_cmp (row_of ps) (row_of qs)) (parts_nodes ps) r → ComparesAs (tree_cmp x y) (nodes x) r
+pub compared_joined : (k : Trees → Tree) → ((us vs : Trees) → shape_cmp (k us) (k vs) ≡ trees_cmp us vs) → ((us : Trees) → nodes (k us) ≡ nodes_all us + 1) → (ps qs : List Part) (x y : Tree) (r : Compared) → AreTurns ps → AreTurns qs → k (trees (begun ps)) ≡ x → k (trees (begun qs)) ≡ y → ComparesAs (row_cmp (row_of ps) (row_of qs)) (parts_nodes ps) r → ComparesAs (shape_cmp x y) (nodes x) r
 compared_joined k same size ps qs x y r g h e f a =
-    compared_as (row_cmp (row_of ps) (row_of qs)) (tree_cmp x y) (parts_nodes ps) (nodes x) r (turns_cmp ps qs g h ∙ sym (same (trees (begun ps)) (trees (begun qs))) ∙ ap₂ tree_cmp e f) (omega (arith, begun-nodes ps g, size (trees (begun ps)), ap nodes e)) a
+    compared_as (row_cmp (row_of ps) (row_of qs)) (shape_cmp x y) (parts_nodes ps) (nodes x) r (turns_cmp ps qs g h ∙ sym (same (trees (begun ps)) (trees (begun qs))) ∙ ap₂ shape_cmp e f) (omega (arith, begun-nodes ps g, size (trees (begun ps)), ap nodes e)) a
 
 -- loops whose operands and bounds are equal compare as their rows
-pub compared_loops : (x y : Tree) (lo low : ℕ) (hi high : Option ℕ) (ps qs : List Part) (a b : Tree) (r : Compared) → ordering_then (tree_cmp x y) (ordering_then (nat_cmp lo low) (maybe_cmp hi high)) ≡ Equal → Loop x lo hi (row_of ps) ≡ a → Loop y low high (row_of qs) ≡ b → ComparesAs (row_cmp (row_of ps) (row_of qs)) (parts_nodes ps) r → ComparesAs (tree_cmp a b) (nodes a) r
+pub compared_loops : (x y : Tree) (lo low : ℕ) (hi high : Option ℕ) (ps qs : List Part) (a b : Tree) (r : Compared) → ordering_then (tree_cmp x y) (ordering_then (nat_cmp lo low) (maybe_cmp hi high)) ≡ Equal → Loop x lo hi (row_of ps) ≡ a → Loop y low high (row_of qs) ≡ b → ComparesAs (row_cmp (row_of ps) (row_of qs)) (parts_nodes ps) r → ComparesAs (shape_cmp a b) (nodes a) r
 compared_loops x y lo low hi high ps qs a b r h e f s =
-    compared_as (row_cmp (row_of ps) (row_of qs)) (tree_cmp a b) (parts_nodes ps) (nodes a) r (goes (tree_cmp x y) (nat_cmp lo low) (maybe_cmp hi high) (row_cmp (row_of ps) (row_of qs)) h ∙ ap₂ tree_cmp e f) (omega (arith, nodes_row-row_of ps, ap nodes e)) s
+    compared_as (row_cmp (row_of ps) (row_of qs)) (shape_cmp a b) (parts_nodes ps) (nodes a) r (goes (tree_cmp x y) (nat_cmp lo low) (maybe_cmp hi high) (row_cmp (row_of ps) (row_of qs)) h ∙ ap₂ shape_cmp e f) (omega (arith, nodes_row-row_of ps, ap nodes e)) s
   where
     goes : (o p q d : Ordering) → ordering_then o (ordering_then p q) ≡ Equal → d ≡ ordering_then o (ordering_then p (ordering_then q d))
     goes Less p q d k = cc

@@ -11,9 +11,10 @@ use Rattle.node_facts.specs.declared.facts.Span.{Span}
 use Rattle.chart_term.specs.Labels.{labels, labels_all, labels_row}
 use Rattle.chart_term.specs.NormalForms.{begun, numbers, numbers_all, numbers_row}
 use Rattle.chart_term.specs.PartLists.{AreTurns}
-use Rattle.node_facts.specs.NodeFacts.{AreFacts, Adds, facts_miss, span_of, lies_in, most_stored, wider}
+use Rattle.node_facts.specs.NodeFacts.{AreFacts, Adds, facts_miss, span_of, lies_in, most_stored, numbers_code, wider}
 use Rattle.chart_term.specs.Facts.{HasFacts, RowHasFacts, holds_walk, any_walk, row_walk, instances, instances_all, instances_row, misses, row_misses}
 use Rattle.chart_term.specs.Terms.{Tree, Loop, Row, trees, weight, weights, row_weight, Part, Gap, Turn, row_of, has}
+use Rattle.node_facts.proofs.Coding.{numbers_code-turned}
 use Rattle.node_facts.proofs.Members.{facts_added, span_of-append}
 use Rattle.chart_term.proofs.Turns.{parts_next}
 
@@ -58,6 +59,7 @@ moved v w a b ps qs ms ns ks ls f p q r s t facts = record {
   instances = λ n. facts.instances n ∙ ap (λ l. has l n) r;
   span = facts.span ∙ ap span_of s;
   labels = facts.labels ∙ ap span_of t;
+  code = facts.code ∙ ap numbers_code s;
 }
 
 -- the parts of two lists
@@ -89,6 +91,7 @@ row_facts-gap ps c f h p e = subst (RowHasFacts (row_of (ps ++ Gap c ∷ []))) (
   instances = λ n. p.instances n ∙ ap (λ l. has l n) (sym (row_instances-append ps (Gap c ∷ []) ∙ append-nil (instances_row (row_of ps))));
   span = p.span ∙ ap span_of (sym (row_numbers-append ps (Gap c ∷ []) ∙ append-nil (numbers_row (row_of ps))));
   labels = p.labels ∙ ap span_of (sym (row_labels-append ps (Gap c ∷ []) ∙ append-nil (labels_row (row_of ps))));
+  code = p.code ∙ ap numbers_code (sym (row_numbers-append ps (Gap c ∷ []) ∙ append-nil (numbers_row (row_of ps))));
 })
 
 -- tests that agree
@@ -138,6 +141,7 @@ loop_facts x lo hi r f g h k p q s e =
       instances = λ n. both.instances n ∙ list_any-append (λ m. nat_eq m n) (instances_row r) (instances x) ∙ or_turned (has (instances_row r) n) (has (instances x) n) ∙ sym (list_any-append (λ m. nat_eq m n) (instances x) (instances_row r));
       span = both.span ∙ span_turned (numbers_row r) (numbers x);
       labels = both.labels ∙ span_turned (labels_row r) (labels x);
+      code = both.code ∙ numbers_code-turned (numbers_row r) (numbers x);
     })
   where
     span_turned : (ms ns : List ℕ) → span_of (ms ++ ns) ≡ span_of (ns ++ ms)
@@ -178,6 +182,7 @@ turns_facts ps f h turns p e = subst (λ (g : Facts). AreFacts (1 + weights (tre
   instances = λ n. p.instances n ∙ ap (λ l. has l n) (turns-instances ps);
   span = p.span ∙ ap span_of (turns-numbers ps);
   labels = p.labels ∙ ap span_of (turns-labels ps);
+  code = p.code ∙ ap numbers_code (turns-numbers ps);
 })
 
 pub row_facts-next_gap : (xs : List RowPart) (i : ℕ) (x : RowPart) (b : BlockValue) (f h : Facts) → i < length xs → x ≡ get_or xs i x → x ≡ part.Gap b → RowHasFacts (row_of (parts_of (take i xs))) f → h ≡ record f { weight = min (f.weight + 1) most_stored } → RowHasFacts (row_of (parts_of (take (i + 1) xs))) h

@@ -11,7 +11,8 @@ use Rattle.bit_sets.specs.Blocks.{set_cmp}
 use Rattle.msc_base.specs.Patterns.{seq, par}
 use Rattle.hmsc_graph.specs.Graphs.{Spot, Start, At, Goal, To, End, Any}
 use Rattle.node_facts.proofs.Listing.{both_equal, number_equal, set_equal}
-use Rattle.chart_term.specs.Order.{maybe_cmp, event_cmp, pair_cmp, pairs_cmp, spot_cmp, goal_cmp, tree_cmp, trees_cmp, row_cmp, TermsAreOrdered}
+use Rattle.chart_term.specs.Order.{maybe_cmp, event_cmp, pair_cmp, pairs_cmp, spot_cmp, goal_cmp, numbers_code, code_cmp, tree_cmp, shape_cmp, trees_cmp, row_cmp, TermsAreOrdered}
+use Rattle.chart_term.specs.NormalForms.{numbers}
 use Rattle.chart_term.specs.Terms.{TermEvent, Tree, Nil, Event, Join, Choice, Tied, Loop, Walk, Trees, none, more, Row, ends, gap, turn}
 
 -- a key: a tree of numbers
@@ -207,97 +208,106 @@ goal_equal Any End h = cc
 goal_equal Any Any h = refl
 
 abbrev mutual
-  pub tree_key : Tree → Key
-  tree_key Nil = Both (Num 0) (Empty)
-  tree_key (Event a0) = Both (Num 1) (event_key a0)
-  tree_key (Join seq a0) = Both (Num 2) (trees_key a0)
-  tree_key (Join par a0) = Both (Num 3) (trees_key a0)
-  tree_key (Choice a0) = Both (Num 4) (trees_key a0)
-  tree_key (Tied a0 a1) = Both (Num 5) (Both (pairs_key a1) (tree_key a0))
-  tree_key (Loop a0 a1 a2 a3) = Both (Num 6) (Both (tree_key a0) (Both (Num a1) (Both (maybe_key a2) (row_key a3))))
-  tree_key (Walk a0 a1 a2 a3) = Both (Num 7) (Both (Num a0) (Both (spot_key a1) (Both (goal_key a2) (set_key a3))))
+  pub shape_key : Tree → Key
+  shape_key Nil = Both (Num 0) (Empty)
+  shape_key (Event a0) = Both (Num 1) (event_key a0)
+  shape_key (Join seq a0) = Both (Num 2) (trees_key a0)
+  shape_key (Join par a0) = Both (Num 3) (trees_key a0)
+  shape_key (Choice a0) = Both (Num 4) (trees_key a0)
+  shape_key (Tied a0 a1) = Both (Num 5) (Both (pairs_key a1) (Both (Num (numbers_code (numbers a0))) (shape_key a0)))
+  shape_key (Loop a0 a1 a2 a3) = Both (Num 6) (Both (Both (Num (numbers_code (numbers a0))) (shape_key a0)) (Both (Num a1) (Both (maybe_key a2) (row_key a3))))
+  shape_key (Walk a0 a1 a2 a3) = Both (Num 7) (Both (Num a0) (Both (spot_key a1) (Both (goal_key a2) (set_key a3))))
 
   pub trees_key : Trees → Key
   trees_key none = Empty
-  trees_key (more x xs) = Both (tree_key x) (trees_key xs)
+  trees_key (more x xs) = Both (Both (Num (numbers_code (numbers x))) (shape_key x)) (trees_key xs)
 
   pub row_key : Row → Key
   row_key ends = Empty
   row_key (gap c r) = Both (Num 0) (Both (set_key c) (row_key r))
-  row_key (turn x r) = Both (Num 1) (Both (tree_key x) (row_key r))
+  row_key (turn x r) = Both (Num 1) (Both (Both (Num (numbers_code (numbers x))) (shape_key x)) (row_key r))
+
+abbrev pub tree_key : Tree → Key
+tree_key x = Both (Num (numbers_code (numbers x))) (shape_key x)
+
+by_code : (x y : Tree) → shape_cmp x y ≡ key_cmp (shape_key x) (shape_key y) → tree_cmp x y ≡ key_cmp (tree_key x) (tree_key y)
+by_code x y e = ap (ordering_then (code_cmp x y)) e
+
+shapes_equal : (x y : Tree) → tree_cmp x y ≡ Equal → shape_cmp x y ≡ Equal
+shapes_equal x y h = (both_equal (code_cmp x y) (shape_cmp x y) h).1
 
 mutual
-  tree_by_key : (x y : Tree) → tree_cmp x y ≡ key_cmp (tree_key x) (tree_key y)
-  tree_by_key Nil Nil = refl
-  tree_by_key Nil (Event b0) = refl
-  tree_by_key Nil (Join seq b0) = refl
-  tree_by_key Nil (Join par b0) = refl
-  tree_by_key Nil (Choice b0) = refl
-  tree_by_key Nil (Tied b0 b1) = refl
-  tree_by_key Nil (Loop b0 b1 b2 b3) = refl
-  tree_by_key Nil (Walk b0 b1 b2 b3) = refl
-  tree_by_key (Event a0) Nil = refl
-  tree_by_key (Event a0) (Event b0) = event_by_key a0 b0
-  tree_by_key (Event a0) (Join seq b0) = refl
-  tree_by_key (Event a0) (Join par b0) = refl
-  tree_by_key (Event a0) (Choice b0) = refl
-  tree_by_key (Event a0) (Tied b0 b1) = refl
-  tree_by_key (Event a0) (Loop b0 b1 b2 b3) = refl
-  tree_by_key (Event a0) (Walk b0 b1 b2 b3) = refl
-  tree_by_key (Join seq a0) Nil = refl
-  tree_by_key (Join seq a0) (Event b0) = refl
-  tree_by_key (Join seq a0) (Join seq b0) = trees_by_key a0 b0
-  tree_by_key (Join seq a0) (Join par b0) = refl
-  tree_by_key (Join seq a0) (Choice b0) = refl
-  tree_by_key (Join seq a0) (Tied b0 b1) = refl
-  tree_by_key (Join seq a0) (Loop b0 b1 b2 b3) = refl
-  tree_by_key (Join seq a0) (Walk b0 b1 b2 b3) = refl
-  tree_by_key (Join par a0) Nil = refl
-  tree_by_key (Join par a0) (Event b0) = refl
-  tree_by_key (Join par a0) (Join seq b0) = refl
-  tree_by_key (Join par a0) (Join par b0) = trees_by_key a0 b0
-  tree_by_key (Join par a0) (Choice b0) = refl
-  tree_by_key (Join par a0) (Tied b0 b1) = refl
-  tree_by_key (Join par a0) (Loop b0 b1 b2 b3) = refl
-  tree_by_key (Join par a0) (Walk b0 b1 b2 b3) = refl
-  tree_by_key (Choice a0) Nil = refl
-  tree_by_key (Choice a0) (Event b0) = refl
-  tree_by_key (Choice a0) (Join seq b0) = refl
-  tree_by_key (Choice a0) (Join par b0) = refl
-  tree_by_key (Choice a0) (Choice b0) = trees_by_key a0 b0
-  tree_by_key (Choice a0) (Tied b0 b1) = refl
-  tree_by_key (Choice a0) (Loop b0 b1 b2 b3) = refl
-  tree_by_key (Choice a0) (Walk b0 b1 b2 b3) = refl
-  tree_by_key (Tied a0 a1) Nil = refl
-  tree_by_key (Tied a0 a1) (Event b0) = refl
-  tree_by_key (Tied a0 a1) (Join seq b0) = refl
-  tree_by_key (Tied a0 a1) (Join par b0) = refl
-  tree_by_key (Tied a0 a1) (Choice b0) = refl
-  tree_by_key (Tied a0 a1) (Tied b0 b1) = ap₂ ordering_then (pairs_by_key a1 b1) (tree_by_key a0 b0)
-  tree_by_key (Tied a0 a1) (Loop b0 b1 b2 b3) = refl
-  tree_by_key (Tied a0 a1) (Walk b0 b1 b2 b3) = refl
-  tree_by_key (Loop a0 a1 a2 a3) Nil = refl
-  tree_by_key (Loop a0 a1 a2 a3) (Event b0) = refl
-  tree_by_key (Loop a0 a1 a2 a3) (Join seq b0) = refl
-  tree_by_key (Loop a0 a1 a2 a3) (Join par b0) = refl
-  tree_by_key (Loop a0 a1 a2 a3) (Choice b0) = refl
-  tree_by_key (Loop a0 a1 a2 a3) (Tied b0 b1) = refl
-  tree_by_key (Loop a0 a1 a2 a3) (Loop b0 b1 b2 b3) = ap₂ ordering_then (tree_by_key a0 b0) (ap₂ ordering_then refl (ap₂ ordering_then (maybe_by_key a2 b2) (row_by_key a3 b3)))
-  tree_by_key (Loop a0 a1 a2 a3) (Walk b0 b1 b2 b3) = refl
-  tree_by_key (Walk a0 a1 a2 a3) Nil = refl
-  tree_by_key (Walk a0 a1 a2 a3) (Event b0) = refl
-  tree_by_key (Walk a0 a1 a2 a3) (Join seq b0) = refl
-  tree_by_key (Walk a0 a1 a2 a3) (Join par b0) = refl
-  tree_by_key (Walk a0 a1 a2 a3) (Choice b0) = refl
-  tree_by_key (Walk a0 a1 a2 a3) (Tied b0 b1) = refl
-  tree_by_key (Walk a0 a1 a2 a3) (Loop b0 b1 b2 b3) = refl
-  tree_by_key (Walk a0 a1 a2 a3) (Walk b0 b1 b2 b3) = ap₂ ordering_then refl (ap₂ ordering_then (spot_by_key a1 b1) (ap₂ ordering_then (goal_by_key a2 b2) (set_by_key a3 b3)))
+  shape_by_key : (x y : Tree) → shape_cmp x y ≡ key_cmp (shape_key x) (shape_key y)
+  shape_by_key Nil Nil = refl
+  shape_by_key Nil (Event b0) = refl
+  shape_by_key Nil (Join seq b0) = refl
+  shape_by_key Nil (Join par b0) = refl
+  shape_by_key Nil (Choice b0) = refl
+  shape_by_key Nil (Tied b0 b1) = refl
+  shape_by_key Nil (Loop b0 b1 b2 b3) = refl
+  shape_by_key Nil (Walk b0 b1 b2 b3) = refl
+  shape_by_key (Event a0) Nil = refl
+  shape_by_key (Event a0) (Event b0) = event_by_key a0 b0
+  shape_by_key (Event a0) (Join seq b0) = refl
+  shape_by_key (Event a0) (Join par b0) = refl
+  shape_by_key (Event a0) (Choice b0) = refl
+  shape_by_key (Event a0) (Tied b0 b1) = refl
+  shape_by_key (Event a0) (Loop b0 b1 b2 b3) = refl
+  shape_by_key (Event a0) (Walk b0 b1 b2 b3) = refl
+  shape_by_key (Join seq a0) Nil = refl
+  shape_by_key (Join seq a0) (Event b0) = refl
+  shape_by_key (Join seq a0) (Join seq b0) = trees_by_key a0 b0
+  shape_by_key (Join seq a0) (Join par b0) = refl
+  shape_by_key (Join seq a0) (Choice b0) = refl
+  shape_by_key (Join seq a0) (Tied b0 b1) = refl
+  shape_by_key (Join seq a0) (Loop b0 b1 b2 b3) = refl
+  shape_by_key (Join seq a0) (Walk b0 b1 b2 b3) = refl
+  shape_by_key (Join par a0) Nil = refl
+  shape_by_key (Join par a0) (Event b0) = refl
+  shape_by_key (Join par a0) (Join seq b0) = refl
+  shape_by_key (Join par a0) (Join par b0) = trees_by_key a0 b0
+  shape_by_key (Join par a0) (Choice b0) = refl
+  shape_by_key (Join par a0) (Tied b0 b1) = refl
+  shape_by_key (Join par a0) (Loop b0 b1 b2 b3) = refl
+  shape_by_key (Join par a0) (Walk b0 b1 b2 b3) = refl
+  shape_by_key (Choice a0) Nil = refl
+  shape_by_key (Choice a0) (Event b0) = refl
+  shape_by_key (Choice a0) (Join seq b0) = refl
+  shape_by_key (Choice a0) (Join par b0) = refl
+  shape_by_key (Choice a0) (Choice b0) = trees_by_key a0 b0
+  shape_by_key (Choice a0) (Tied b0 b1) = refl
+  shape_by_key (Choice a0) (Loop b0 b1 b2 b3) = refl
+  shape_by_key (Choice a0) (Walk b0 b1 b2 b3) = refl
+  shape_by_key (Tied a0 a1) Nil = refl
+  shape_by_key (Tied a0 a1) (Event b0) = refl
+  shape_by_key (Tied a0 a1) (Join seq b0) = refl
+  shape_by_key (Tied a0 a1) (Join par b0) = refl
+  shape_by_key (Tied a0 a1) (Choice b0) = refl
+  shape_by_key (Tied a0 a1) (Tied b0 b1) = ap₂ ordering_then (pairs_by_key a1 b1) (by_code a0 b0 (shape_by_key a0 b0))
+  shape_by_key (Tied a0 a1) (Loop b0 b1 b2 b3) = refl
+  shape_by_key (Tied a0 a1) (Walk b0 b1 b2 b3) = refl
+  shape_by_key (Loop a0 a1 a2 a3) Nil = refl
+  shape_by_key (Loop a0 a1 a2 a3) (Event b0) = refl
+  shape_by_key (Loop a0 a1 a2 a3) (Join seq b0) = refl
+  shape_by_key (Loop a0 a1 a2 a3) (Join par b0) = refl
+  shape_by_key (Loop a0 a1 a2 a3) (Choice b0) = refl
+  shape_by_key (Loop a0 a1 a2 a3) (Tied b0 b1) = refl
+  shape_by_key (Loop a0 a1 a2 a3) (Loop b0 b1 b2 b3) = ap₂ ordering_then (by_code a0 b0 (shape_by_key a0 b0)) (ap₂ ordering_then refl (ap₂ ordering_then (maybe_by_key a2 b2) (row_by_key a3 b3)))
+  shape_by_key (Loop a0 a1 a2 a3) (Walk b0 b1 b2 b3) = refl
+  shape_by_key (Walk a0 a1 a2 a3) Nil = refl
+  shape_by_key (Walk a0 a1 a2 a3) (Event b0) = refl
+  shape_by_key (Walk a0 a1 a2 a3) (Join seq b0) = refl
+  shape_by_key (Walk a0 a1 a2 a3) (Join par b0) = refl
+  shape_by_key (Walk a0 a1 a2 a3) (Choice b0) = refl
+  shape_by_key (Walk a0 a1 a2 a3) (Tied b0 b1) = refl
+  shape_by_key (Walk a0 a1 a2 a3) (Loop b0 b1 b2 b3) = refl
+  shape_by_key (Walk a0 a1 a2 a3) (Walk b0 b1 b2 b3) = ap₂ ordering_then refl (ap₂ ordering_then (spot_by_key a1 b1) (ap₂ ordering_then (goal_by_key a2 b2) (set_by_key a3 b3)))
 
   trees_by_key : (xs ys : Trees) → trees_cmp xs ys ≡ key_cmp (trees_key xs) (trees_key ys)
   trees_by_key none none = refl
   trees_by_key none (more y ys) = refl
   trees_by_key (more x xs) none = refl
-  trees_by_key (more x xs) (more y ys) = ap₂ ordering_then (tree_by_key x y) (trees_by_key xs ys)
+  trees_by_key (more x xs) (more y ys) = ap₂ ordering_then (by_code x y (shape_by_key x y)) (trees_by_key xs ys)
 
   row_by_key : (r s : Row) → row_cmp r s ≡ key_cmp (row_key r) (row_key s)
   row_by_key ends ends = refl
@@ -308,80 +318,80 @@ mutual
   row_by_key (gap c r) (turn y s) = refl
   row_by_key (turn x r) ends = refl
   row_by_key (turn x r) (gap d s) = refl
-  row_by_key (turn x r) (turn y s) = ap₂ ordering_then (tree_by_key x y) (row_by_key r s)
+  row_by_key (turn x r) (turn y s) = ap₂ ordering_then (by_code x y (shape_by_key x y)) (row_by_key r s)
 
 mutual
-  pub tree_equal : (x y : Tree) → tree_cmp x y ≡ Equal → x ≡ y
-  tree_equal Nil Nil h = refl
-  tree_equal Nil (Event b0) h = cc
-  tree_equal Nil (Join seq b0) h = cc
-  tree_equal Nil (Join par b0) h = cc
-  tree_equal Nil (Choice b0) h = cc
-  tree_equal Nil (Tied b0 b1) h = cc
-  tree_equal Nil (Loop b0 b1 b2 b3) h = cc
-  tree_equal Nil (Walk b0 b1 b2 b3) h = cc
-  tree_equal (Event a0) Nil h = cc
-  tree_equal (Event a0) (Event b0) h = λ k. Event (event_equal a0 b0 h k)
-  tree_equal (Event a0) (Join seq b0) h = cc
-  tree_equal (Event a0) (Join par b0) h = cc
-  tree_equal (Event a0) (Choice b0) h = cc
-  tree_equal (Event a0) (Tied b0 b1) h = cc
-  tree_equal (Event a0) (Loop b0 b1 b2 b3) h = cc
-  tree_equal (Event a0) (Walk b0 b1 b2 b3) h = cc
-  tree_equal (Join seq a0) Nil h = cc
-  tree_equal (Join seq a0) (Event b0) h = cc
-  tree_equal (Join seq a0) (Join seq b0) h = λ k. Join seq (trees_equal a0 b0 h k)
-  tree_equal (Join seq a0) (Join par b0) h = cc
-  tree_equal (Join seq a0) (Choice b0) h = cc
-  tree_equal (Join seq a0) (Tied b0 b1) h = cc
-  tree_equal (Join seq a0) (Loop b0 b1 b2 b3) h = cc
-  tree_equal (Join seq a0) (Walk b0 b1 b2 b3) h = cc
-  tree_equal (Join par a0) Nil h = cc
-  tree_equal (Join par a0) (Event b0) h = cc
-  tree_equal (Join par a0) (Join seq b0) h = cc
-  tree_equal (Join par a0) (Join par b0) h = λ k. Join par (trees_equal a0 b0 h k)
-  tree_equal (Join par a0) (Choice b0) h = cc
-  tree_equal (Join par a0) (Tied b0 b1) h = cc
-  tree_equal (Join par a0) (Loop b0 b1 b2 b3) h = cc
-  tree_equal (Join par a0) (Walk b0 b1 b2 b3) h = cc
-  tree_equal (Choice a0) Nil h = cc
-  tree_equal (Choice a0) (Event b0) h = cc
-  tree_equal (Choice a0) (Join seq b0) h = cc
-  tree_equal (Choice a0) (Join par b0) h = cc
-  tree_equal (Choice a0) (Choice b0) h = λ k. Choice (trees_equal a0 b0 h k)
-  tree_equal (Choice a0) (Tied b0 b1) h = cc
-  tree_equal (Choice a0) (Loop b0 b1 b2 b3) h = cc
-  tree_equal (Choice a0) (Walk b0 b1 b2 b3) h = cc
-  tree_equal (Tied a0 a1) Nil h = cc
-  tree_equal (Tied a0 a1) (Event b0) h = cc
-  tree_equal (Tied a0 a1) (Join seq b0) h = cc
-  tree_equal (Tied a0 a1) (Join par b0) h = cc
-  tree_equal (Tied a0 a1) (Choice b0) h = cc
-  tree_equal (Tied a0 a1) (Tied b0 b1) h = let (p0, q0) = both_equal (pairs_cmp a1 b1) (tree_cmp a0 b0) h in λ k. Tied (tree_equal a0 b0 q0 k) (pairs_equal a1 b1 p0 k)
-  tree_equal (Tied a0 a1) (Loop b0 b1 b2 b3) h = cc
-  tree_equal (Tied a0 a1) (Walk b0 b1 b2 b3) h = cc
-  tree_equal (Loop a0 a1 a2 a3) Nil h = cc
-  tree_equal (Loop a0 a1 a2 a3) (Event b0) h = cc
-  tree_equal (Loop a0 a1 a2 a3) (Join seq b0) h = cc
-  tree_equal (Loop a0 a1 a2 a3) (Join par b0) h = cc
-  tree_equal (Loop a0 a1 a2 a3) (Choice b0) h = cc
-  tree_equal (Loop a0 a1 a2 a3) (Tied b0 b1) h = cc
-  tree_equal (Loop a0 a1 a2 a3) (Loop b0 b1 b2 b3) h = let (p0, q0) = both_equal (tree_cmp a0 b0) (ordering_then (nat_cmp a1 b1) (ordering_then (maybe_cmp a2 b2) (row_cmp a3 b3))) h in let (p1, q1) = both_equal (nat_cmp a1 b1) (ordering_then (maybe_cmp a2 b2) (row_cmp a3 b3)) q0 in let (p2, q2) = both_equal (maybe_cmp a2 b2) (row_cmp a3 b3) q1 in λ k. Loop (tree_equal a0 b0 p0 k) (number_equal a1 b1 p1 k) (maybe_equal a2 b2 p2 k) (row_equal a3 b3 q2 k)
-  tree_equal (Loop a0 a1 a2 a3) (Walk b0 b1 b2 b3) h = cc
-  tree_equal (Walk a0 a1 a2 a3) Nil h = cc
-  tree_equal (Walk a0 a1 a2 a3) (Event b0) h = cc
-  tree_equal (Walk a0 a1 a2 a3) (Join seq b0) h = cc
-  tree_equal (Walk a0 a1 a2 a3) (Join par b0) h = cc
-  tree_equal (Walk a0 a1 a2 a3) (Choice b0) h = cc
-  tree_equal (Walk a0 a1 a2 a3) (Tied b0 b1) h = cc
-  tree_equal (Walk a0 a1 a2 a3) (Loop b0 b1 b2 b3) h = cc
-  tree_equal (Walk a0 a1 a2 a3) (Walk b0 b1 b2 b3) h = let (p0, q0) = both_equal (nat_cmp a0 b0) (ordering_then (spot_cmp a1 b1) (ordering_then (goal_cmp a2 b2) (set_cmp a3 b3))) h in let (p1, q1) = both_equal (spot_cmp a1 b1) (ordering_then (goal_cmp a2 b2) (set_cmp a3 b3)) q0 in let (p2, q2) = both_equal (goal_cmp a2 b2) (set_cmp a3 b3) q1 in λ k. Walk (number_equal a0 b0 p0 k) (spot_equal a1 b1 p1 k) (goal_equal a2 b2 p2 k) (set_equal a3 b3 q2 k)
+  shape_equal : (x y : Tree) → shape_cmp x y ≡ Equal → x ≡ y
+  shape_equal Nil Nil h = refl
+  shape_equal Nil (Event b0) h = cc
+  shape_equal Nil (Join seq b0) h = cc
+  shape_equal Nil (Join par b0) h = cc
+  shape_equal Nil (Choice b0) h = cc
+  shape_equal Nil (Tied b0 b1) h = cc
+  shape_equal Nil (Loop b0 b1 b2 b3) h = cc
+  shape_equal Nil (Walk b0 b1 b2 b3) h = cc
+  shape_equal (Event a0) Nil h = cc
+  shape_equal (Event a0) (Event b0) h = λ k. Event (event_equal a0 b0 h k)
+  shape_equal (Event a0) (Join seq b0) h = cc
+  shape_equal (Event a0) (Join par b0) h = cc
+  shape_equal (Event a0) (Choice b0) h = cc
+  shape_equal (Event a0) (Tied b0 b1) h = cc
+  shape_equal (Event a0) (Loop b0 b1 b2 b3) h = cc
+  shape_equal (Event a0) (Walk b0 b1 b2 b3) h = cc
+  shape_equal (Join seq a0) Nil h = cc
+  shape_equal (Join seq a0) (Event b0) h = cc
+  shape_equal (Join seq a0) (Join seq b0) h = λ k. Join seq (trees_equal a0 b0 h k)
+  shape_equal (Join seq a0) (Join par b0) h = cc
+  shape_equal (Join seq a0) (Choice b0) h = cc
+  shape_equal (Join seq a0) (Tied b0 b1) h = cc
+  shape_equal (Join seq a0) (Loop b0 b1 b2 b3) h = cc
+  shape_equal (Join seq a0) (Walk b0 b1 b2 b3) h = cc
+  shape_equal (Join par a0) Nil h = cc
+  shape_equal (Join par a0) (Event b0) h = cc
+  shape_equal (Join par a0) (Join seq b0) h = cc
+  shape_equal (Join par a0) (Join par b0) h = λ k. Join par (trees_equal a0 b0 h k)
+  shape_equal (Join par a0) (Choice b0) h = cc
+  shape_equal (Join par a0) (Tied b0 b1) h = cc
+  shape_equal (Join par a0) (Loop b0 b1 b2 b3) h = cc
+  shape_equal (Join par a0) (Walk b0 b1 b2 b3) h = cc
+  shape_equal (Choice a0) Nil h = cc
+  shape_equal (Choice a0) (Event b0) h = cc
+  shape_equal (Choice a0) (Join seq b0) h = cc
+  shape_equal (Choice a0) (Join par b0) h = cc
+  shape_equal (Choice a0) (Choice b0) h = λ k. Choice (trees_equal a0 b0 h k)
+  shape_equal (Choice a0) (Tied b0 b1) h = cc
+  shape_equal (Choice a0) (Loop b0 b1 b2 b3) h = cc
+  shape_equal (Choice a0) (Walk b0 b1 b2 b3) h = cc
+  shape_equal (Tied a0 a1) Nil h = cc
+  shape_equal (Tied a0 a1) (Event b0) h = cc
+  shape_equal (Tied a0 a1) (Join seq b0) h = cc
+  shape_equal (Tied a0 a1) (Join par b0) h = cc
+  shape_equal (Tied a0 a1) (Choice b0) h = cc
+  shape_equal (Tied a0 a1) (Tied b0 b1) h = let (p0, q0) = both_equal (pairs_cmp a1 b1) (tree_cmp a0 b0) h in λ k. Tied (shape_equal a0 b0 (shapes_equal a0 b0 q0) k) (pairs_equal a1 b1 p0 k)
+  shape_equal (Tied a0 a1) (Loop b0 b1 b2 b3) h = cc
+  shape_equal (Tied a0 a1) (Walk b0 b1 b2 b3) h = cc
+  shape_equal (Loop a0 a1 a2 a3) Nil h = cc
+  shape_equal (Loop a0 a1 a2 a3) (Event b0) h = cc
+  shape_equal (Loop a0 a1 a2 a3) (Join seq b0) h = cc
+  shape_equal (Loop a0 a1 a2 a3) (Join par b0) h = cc
+  shape_equal (Loop a0 a1 a2 a3) (Choice b0) h = cc
+  shape_equal (Loop a0 a1 a2 a3) (Tied b0 b1) h = cc
+  shape_equal (Loop a0 a1 a2 a3) (Loop b0 b1 b2 b3) h = let (p0, q0) = both_equal (tree_cmp a0 b0) (ordering_then (nat_cmp a1 b1) (ordering_then (maybe_cmp a2 b2) (row_cmp a3 b3))) h in let (p1, q1) = both_equal (nat_cmp a1 b1) (ordering_then (maybe_cmp a2 b2) (row_cmp a3 b3)) q0 in let (p2, q2) = both_equal (maybe_cmp a2 b2) (row_cmp a3 b3) q1 in λ k. Loop (shape_equal a0 b0 (shapes_equal a0 b0 p0) k) (number_equal a1 b1 p1 k) (maybe_equal a2 b2 p2 k) (row_equal a3 b3 q2 k)
+  shape_equal (Loop a0 a1 a2 a3) (Walk b0 b1 b2 b3) h = cc
+  shape_equal (Walk a0 a1 a2 a3) Nil h = cc
+  shape_equal (Walk a0 a1 a2 a3) (Event b0) h = cc
+  shape_equal (Walk a0 a1 a2 a3) (Join seq b0) h = cc
+  shape_equal (Walk a0 a1 a2 a3) (Join par b0) h = cc
+  shape_equal (Walk a0 a1 a2 a3) (Choice b0) h = cc
+  shape_equal (Walk a0 a1 a2 a3) (Tied b0 b1) h = cc
+  shape_equal (Walk a0 a1 a2 a3) (Loop b0 b1 b2 b3) h = cc
+  shape_equal (Walk a0 a1 a2 a3) (Walk b0 b1 b2 b3) h = let (p0, q0) = both_equal (nat_cmp a0 b0) (ordering_then (spot_cmp a1 b1) (ordering_then (goal_cmp a2 b2) (set_cmp a3 b3))) h in let (p1, q1) = both_equal (spot_cmp a1 b1) (ordering_then (goal_cmp a2 b2) (set_cmp a3 b3)) q0 in let (p2, q2) = both_equal (goal_cmp a2 b2) (set_cmp a3 b3) q1 in λ k. Walk (number_equal a0 b0 p0 k) (spot_equal a1 b1 p1 k) (goal_equal a2 b2 p2 k) (set_equal a3 b3 q2 k)
 
   trees_equal : (xs ys : Trees) → trees_cmp xs ys ≡ Equal → xs ≡ ys
   trees_equal none none h = refl
   trees_equal none (more y ys) h = cc
   trees_equal (more x xs) none h = cc
-  trees_equal (more x xs) (more y ys) h = let (p, q) = both_equal (tree_cmp x y) (trees_cmp xs ys) h in λ k. more (tree_equal x y p k) (trees_equal xs ys q k)
+  trees_equal (more x xs) (more y ys) h = let (p, q) = both_equal (tree_cmp x y) (trees_cmp xs ys) h in λ k. more (shape_equal x y (shapes_equal x y p) k) (trees_equal xs ys q k)
 
   row_equal : (r s : Row) → row_cmp r s ≡ Equal → r ≡ s
   row_equal ends ends h = refl
@@ -392,7 +402,13 @@ mutual
   row_equal (gap c r) (turn y s) h = cc
   row_equal (turn x r) ends h = cc
   row_equal (turn x r) (gap d s) h = cc
-  row_equal (turn x r) (turn y s) h = let (p, q) = both_equal (tree_cmp x y) (row_cmp r s) h in λ k. turn (tree_equal x y p k) (row_equal r s q k)
+  row_equal (turn x r) (turn y s) h = let (p, q) = both_equal (tree_cmp x y) (row_cmp r s) h in λ k. turn (shape_equal x y (shapes_equal x y p) k) (row_equal r s q k)
+
+tree_by_key : (x y : Tree) → tree_cmp x y ≡ key_cmp (tree_key x) (tree_key y)
+tree_by_key x y = by_code x y (shape_by_key x y)
+
+pub tree_equal : (x y : Tree) → tree_cmp x y ≡ Equal → x ≡ y
+tree_equal x y h = shape_equal x y (shapes_equal x y h)
 
 pub tree_itself : (x : Tree) → tree_cmp x x ≡ Equal
 tree_itself x = tree_by_key x x ∙ key_itself (tree_key x)

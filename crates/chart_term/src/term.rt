@@ -45,7 +45,7 @@ pub(crate) struct Node {
 }
 
 /// A chart has a node for each event, and a set of terms many of them.
-const _: () = prove!(size_of::<Node>() == 72);
+const _: () = prove!(size_of::<Node>() == 80);
 
 /// What a node is made of.
 #[cycle(term)]

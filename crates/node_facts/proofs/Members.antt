@@ -1,5 +1,5 @@
 -- Members of sets, and facts of several terms together.
-use Rattle.std.proofs.Common.{◌≡◌, ℕ, ◌+◌, inl, inr, Bool, true, false, ◌||◌, nat_eq, List, [], ◌∷◌, ◌++◌, refl, ap, ap₂, sym, ◌∙◌, arith, min, max, Option, Some, None}
+use Rattle.std.proofs.Common.{◌≡◌, ℕ, ◌+◌, ◌%◌, ◌^◌, inl, inr, Bool, true, false, ◌||◌, nat_eq, List, [], ◌∷◌, ◌++◌, refl, ap, ap₂, sym, ◌∙◌, arith, min, max, Option, Some, None}
 use Rattle.std.specs.Prelude.{Result, Ok, Err, OnOk}
 use Rattle.std.proofs.lemmas.Bool.{eq-eqb, lt-ltb, le-ltb, ne_eqb, cases_order}
 use Rattle.std.proofs.lemmas.List.Folds.{list_any-append}
@@ -7,6 +7,7 @@ use Rattle.bit_sets.specs.Blocks.{insert_rising, insert_each, is_among as has}
 use Rattle.node_facts.specs.declared.facts.Facts.{Facts}
 use Rattle.node_facts.specs.declared.facts.Span.{Span}
 use Rattle.node_facts.specs.NodeFacts.{AreFacts, Adds, wider, span_of}
+use Rattle.node_facts.proofs.Coding.{numbers_code-append}
 
 or_twice : (a b : Bool) → (a || b) ≡ ((a || b) || a)
 or_twice true b = refl
@@ -84,4 +85,5 @@ facts_added v w a b ps qs ms ns ks ls f g h p q s = record {
   instances = λ n. s.instances n ∙ ap₂ (λ a b. a || b) (p.instances n) (q.instances n) ∙ sym (list_any-append (λ m. nat_eq m n) ps qs);
   span = s.span ∙ ap₂ wider p.span q.span ∙ sym (span_of-append ms ns);
   labels = s.labels ∙ ap₂ wider p.labels q.labels ∙ sym (span_of-append ks ls);
+  code = s.code ∙ ap₂ (λ c d. (c + d) % 2 ^ 64) p.code q.code ∙ sym (numbers_code-append ms ns);
 }

@@ -1,6 +1,6 @@
 -- The facts that a node of a term stores beside its parts.
 use Rattle.std.specs.List.{list_any}
-use Rattle.std.specs.Prelude.{ℕ, ◌+◌, ◌≡◌, Bool, false, List, [], ◌∷◌, Option, Some, None, ◌||◌, ◌&&◌, ◌⊎◌, not, min, max, nat_le}
+use Rattle.std.specs.Prelude.{ℕ, ◌+◌, ◌*◌, ◌/◌, ◌%◌, ◌^◌, ◌≡◌, Bool, false, List, [], ◌∷◌, Option, Some, None, ◌||◌, ◌&&◌, ◌⊎◌, not, min, max, nat_le}
 use Rattle.bit_sets.specs.Blocks.{BlockValue, is_among, share}
 use Rattle.node_facts.specs.declared.facts.Facts.{Facts}
 use Rattle.node_facts.specs.declared.facts.Ranges.{Ranges}
@@ -36,6 +36,15 @@ abbrev pub labels_in : Option Ranges → Option Span
 labels_in None = None
 labels_in (Some r) = Some r.labels
 
+-- what an event number adds to a code: spread over 64 bits, then multiplied twice, since for sets of numbers in a row sums of squares often agree
+unfoldable pub number_code : ℕ → ℕ
+number_code n = let s = ((n + 1) * 11400714819323198485) % 2 ^ 64 in let t = ((s / 2 ^ 32) * s) % 2 ^ 64 in ((t / 2 ^ 32) * s) % 2 ^ 64
+
+-- the code of event numbers, the same in each order of them: equal terms have equal codes, and different terms may
+abbrev pub numbers_code : List ℕ → ℕ
+numbers_code [] = 0
+numbers_code (n ∷ ns) = (number_code n + numbers_code ns) % 2 ^ 64
+
 -- facts of a weight, of whether there is a walk, of these instances, of these event numbers and of these labels
 pub record AreFacts (w : ℕ) (walks : Bool) (places ns ls : List ℕ) (f : Facts) : Type 0 where
   pub weight : f.weight ≡ min w most_stored
@@ -43,6 +52,7 @@ pub record AreFacts (w : ℕ) (walks : Bool) (places ns ls : List ℕ) (f : Fact
   pub instances : (n : ℕ) → is_among f.instances.instances n ≡ is_among places n
   pub span : numbers_in f.ranges ≡ span_of ns
   pub labels : labels_in f.ranges ≡ span_of ls
+  pub code : f.code ≡ numbers_code ns
 
 -- the new facts are the old ones and those of another term together
 pub record Adds (old other new : Facts) : Type 0 where
@@ -51,6 +61,7 @@ pub record Adds (old other new : Facts) : Type 0 where
   pub instances : (n : ℕ) → is_among new.instances.instances n ≡ (is_among old.instances.instances n || is_among other.instances.instances n)
   pub span : numbers_in new.ranges ≡ wider (numbers_in old.ranges) (numbers_in other.ranges)
   pub labels : labels_in new.ranges ≡ wider (labels_in old.ranges) (labels_in other.ranges)
+  pub code : new.code ≡ (old.code + other.code) % 2 ^ 64
 
 -- no event of the block can hit a term with these facts: it holds no walk, and the block has none of its instances and no number of its range
 abbrev pub facts_miss : BlockValue → Facts → Bool

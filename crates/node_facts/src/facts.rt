@@ -1,9 +1,9 @@
-//! What a node of a term stores of it: weight, instances, ranges of numbers and labels; it looks at no table.
+//! What a node of a term stores of it: weight, instances, ranges of numbers and labels, a code of the numbers; it looks at no table.
 
 ghost use Rattle.std.specs.Prelude.{◌≡◌, ◌+◌, ◌<◌, ◌∷◌, ℕ, [], true, false, min, max, OnOk, IfOk, Some, option_to_list};
 ghost use Rattle.std.specs.List.{list_any};
 ghost use Rattle.std.specs.Option.{ForSome};
-ghost use Rattle.node_facts.specs.NodeFacts.{Adds, AreFacts, FactsPassed, FactsWithin, facts_may, facts_miss, labels_in, lies_in, most_stored, numbers_in, wider};
+ghost use Rattle.node_facts.specs.NodeFacts.{Adds, AreFacts, FactsPassed, FactsWithin, facts_may, facts_miss, labels_in, lies_in, most_stored, number_code, numbers_in, wider};
 
 use bit_sets::Block;
 use msc_base::{Limits, NoMemory};
@@ -33,6 +33,8 @@ pub struct Ranges {
 pub struct Facts {
     /// The weight, or the largest `u64` where it is larger.
     pub weight: u64,
+    /// A code of the event numbers, by which terms are told apart before they are compared part by part.
+    pub code: u64,
     /// The instances of the events of the term, of its loop operands and of its begun turns.
     pub instances: Block,
     /// The ranges of these events.
@@ -94,6 +96,17 @@ fn widened(ranges: Option<Ranges>, other: Option<Ranges>) -> Option<Ranges>
     }
 }
 
+/// What an event number adds to a code.
+#[tactic(auto, using(crate::proofs::Coding::coding))]
+fn number_code(number: u32) -> u64
+    ensures { result ≡ number_code number }
+{
+    let next = number as u64 + 1;
+    let spread = next.wrapping_mul(11_400_714_819_323_198_485);
+    let mixed = (spread >> 32).wrapping_mul(spread);
+    (mixed >> 32).wrapping_mul(spread)
+}
+
 impl Facts {
     /// The facts of no term. It takes no memory.
     pub fn none(alloc: Global) -> Facts
@@ -104,10 +117,12 @@ impl Facts {
             holds_walk: false,
             instances: Block::empty(alloc),
             ranges: None,
+            code: 0,
         }
     }
 
     /// The facts of an event of that number, at one instance or two, with that label.
+    #[tactic(auto, using(crate::proofs::Coding::coding))]
     pub fn of_event(
         alloc: Global,
         number: u32,
@@ -133,6 +148,7 @@ impl Facts {
             holds_walk: false,
             instances,
             ranges: Some(ranges),
+            code: number_code(number),
         })
     }
 
@@ -145,6 +161,7 @@ impl Facts {
             holds_walk: true,
             instances: Block::empty(alloc),
             ranges: None,
+            code: 0,
         }
     }
 
@@ -156,6 +173,7 @@ impl Facts {
         self.weight = self.weight.saturating_add(other.weight);
         self.holds_walk |= other.holds_walk;
         self.ranges = widened(self.ranges, other.ranges);
+        self.code = self.code.wrapping_add(other.code);
         Ok(())
     }
 
@@ -176,6 +194,7 @@ impl Facts {
             holds_walk: self.holds_walk,
             instances,
             ranges: self.ranges,
+            code: self.code,
         })
     }
 

@@ -129,19 +129,19 @@ fn tower_of(alloc: Global, tower: Tower) -> Result<Term, NoMemory>
     }
 }
 
-/// The term beside two equal actions of c.
+/// The term beside an action of c, which stands there twice.
 fn beside_actions(alloc: Global, inner: Term) -> Result<Term, NoMemory>
     requires { IsChart inner }
     ensures { IfOk result (λ term. IsChart term) }
 {
     let first = single(alloc, 1, 0, ACTION)?;
-    let second = single(alloc, 2, 0, ACTION)?;
+    let second = single(alloc, 1, 0, ACTION)?;
     let parts = three(alloc, inner, first, second)?;
     let term = par(alloc, parts)?;
     Ok(term)
 }
 
-/// The tower beside two equal actions; behind all of them another action of the same instance.
+/// The tower beside an action that stands there twice; behind all of them another action of the same instance.
 pub(crate) fn nested(alloc: Global, tower: Tower) -> Result<Term, NoMemory>
     ensures { IfOk result (λ term. IsChart term) }
 {

@@ -41,7 +41,7 @@ pub(crate) enum Work {
     Passed(Tower),
     /// The same, with the event that is within all choices of the tower.
     Entered(Tower),
-    /// The same, with an event beside the tower that leaves two terms, which differ behind it.
+    /// The same, with an event beside the tower that leaves the same term twice, so that both are compared to their end.
     Compared(Tower),
 }
 

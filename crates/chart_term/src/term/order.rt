@@ -1,8 +1,8 @@
-//! The order and the equality of terms, part by part: by them sets of terms (trace_judge) and choices keep each once.
+//! The order and the equality of terms, by codes, then part by part: by them sets of terms (trace_judge) and choices keep each once.
 
 ghost use Rattle.std.specs.Prelude.{◌≡◌, ◌+◌, ◌↔◌, IsTrue};
 ghost use Rattle.chart_term.specs.Comparisons.{ComparesAs};
-ghost use Rattle.chart_term.specs.Order.{event_cmp, pairs_cmp, rank, row_cmp, tree_cmp};
+ghost use Rattle.chart_term.specs.Order.{event_cmp, pairs_cmp, rank, row_cmp, shape_cmp, tree_cmp};
 ghost use Rattle.chart_term.specs.Sizes.{nodes, parts_nodes};
 ghost use Rattle.chart_term.specs.Terms.{row_of};
 ghost use Rattle.chart_term.specs.Views.{event_of, pairs_of};
@@ -73,7 +73,8 @@ impl Form {
 }
 
 impl Term {
-    /// By constructor, then by the parts in their order. It goes down the last parts of lists, and below ties, in a loop.
+    /// By code, by constructor, then by the parts in their order. It goes down the last parts of lists, and below ties, in a
+    /// loop. Most terms that differ have different codes, so a set mostly compares one number.
     #[cycle(compare)]
     pub(crate) fn compare(&self, other: &Term) -> Ordering
         ensures { result ≡ tree_cmp self.now other.now }
@@ -81,6 +82,10 @@ impl Term {
         let mut first = self;
         let mut second = other;
         loop {
+            let codes = first.facts().code.cmp(&second.facts().code);
+            if codes != Ordering::Equal {
+                return codes;
+            }
             match first.compare_fronts(second) {
                 Compared::Told(order) => return order,
                 Compared::As(inner, other_inner) => {
@@ -95,7 +100,7 @@ impl Term {
     #[cycle(compare)]
     #[tactic(auto, using(crate::proofs::Comparing::comparing))]
     fn compare_fronts<'a>(&'a self, other: &'a Term) -> Compared<'a>
-        ensures { ComparesAs (tree_cmp self.now other.now) (nodes self.now) result }
+        ensures { ComparesAs (shape_cmp self.now other.now) (nodes self.now) result }
     {
         let node: &'a Node = &self.node;
         let other_node: &'a Node = &other.node;

@@ -16,14 +16,14 @@ decreases-RowPart::compare l = goal.size-RowPart::compare l * 2
 abbrev pub decreases-PartList::compare_fronts : goal.decreases-PartList::compare_fronts
 decreases-PartList::compare_fronts l = goal.size-PartList::compare_fronts l * 2
 
-abbrev pub invariant-Term::compare-loop-order : goal.invariant-Term::compare-loop-order
-invariant-Term::compare-loop-order l = record {
+abbrev pub invariant-Term::compare-loop-first : goal.invariant-Term::compare-loop-first
+invariant-Term::compare-loop-first l = record {
   same : tree_cmp l.first l.second ≡ tree_cmp l.self l.other;
   within : nodes l.first ≤ nodes l.self;
 }
 
-abbrev pub decreases-Term::compare-loop-order : goal.decreases-Term::compare-loop-order
-decreases-Term::compare-loop-order l = nodes l.first
+abbrev pub decreases-Term::compare-loop-first : goal.decreases-Term::compare-loop-first
+decreases-Term::compare-loop-first l = nodes l.first
 
 abbrev pub invariant-PartList::compare_fronts-loop-at : goal.invariant-PartList::compare_fronts-loop-at
 invariant-PartList::compare_fronts-loop-at l = record {

@@ -1,7 +1,7 @@
 use Rattle.std.proofs.Common.{◌∙◌, ◌||◌, ap, ap₂, inl, inr, sym, arith}
 use Rattle.chart_term.specs.NormalForms.{numbers, numbers_row}
 use Rattle.chart_term.specs.Numbers.{part_numbers}
-use Rattle.chart_term.specs.Rows.{part_of, parts_of}
+use Rattle.chart_term.specs.Rows.{part_of}
 use Rattle.chart_term.specs.Sizes.{nodes, part_nodes, parts_nodes}
 use Rattle.chart_term.specs.TermViews.{held_parts}
 use Rattle.chart_term.specs.Terms.{has, row_of}

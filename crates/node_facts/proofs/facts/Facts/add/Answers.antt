@@ -10,4 +10,5 @@ returns c = record {
   instances = λ n. ap (λ (b : BlockValue). has b.instances n) c.in_ok-add_instances.ensures.ok ∙ has-insert_each c.args.self.now.instances.instances c.args.other.now.instances.instances n;
   span = c.widened-self.ensures.numbers;
   labels = c.widened-self.ensures.labels;
+  code = refl;
 }
