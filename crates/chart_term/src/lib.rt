@@ -18,5 +18,5 @@ pub use event::Event;
 pub use joins::{par, par_of, seq, seq_of};
 pub use list::TermList;
 pub use look::{Look, PartLook};
-pub use term::{PartList, RowPart, Term};
+pub use term::{PartList, RowPart, Term, push_copies};
 pub use ties::tied;

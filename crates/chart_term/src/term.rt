@@ -17,6 +17,7 @@ mod order;
 mod parts;
 mod search;
 
+pub use self::parts::push_copies;
 use crate::Look;
 use crate::event::StoredEvent;
 use bit_sets::Block;

@@ -10,3 +10,4 @@ pub mod AskedLoops
 pub mod Ranking
 pub mod LoopLaws
 pub mod Sorting
+pub mod InOrderSteps

@@ -1,4 +1,5 @@
-//! Whether the order of a body's events is cyclic: what is drawn of it is sorted, and so is each loop's operand by itself.
+//! Whether the order of a body's events is cyclic: what is drawn of it is sorted, and so is each loop's operand by itself. Where the
+//! events stand in the order of their numbers nothing is drawn.
 
 ghost use Rattle.std.specs.Prelude.{◌≡◌, ◌<◌, ◌≤◌, ◌+◌, ◌^◌, [], ℕ, true, false, IfOk, OnOk};
 ghost use Rattle.item_order.specs.Counts.{Leads};
@@ -8,6 +9,7 @@ ghost use Rattle.event_order.specs.Precedence.{BodyHasCyclicLoop, HasCyclicLoop,
 ghost use Rattle.event_order.specs.RankedBodies.{BodyHasRankedLoops, CanBeRanked, CanEachBeRanked, EachHasRankedLoops, HasRank, HasRankedLoops, HaveRankedLoops};
 ghost use Rattle.event_order.specs.Webs.{AreAdded, AreBelow, AreEdges, IsTidy};
 
+use crate::in_order::is_in_order;
 use crate::levels::{draw_body, is_loop};
 use crate::web::{Web, nothing};
 use item_order::{Edge, Sorted, sort_edges};
@@ -106,6 +108,9 @@ fn has_round(alloc: Global, body: &Body) -> Result<bool, NoMemory>
     ensures cyclic { IfOk result (λ cyclic. cyclic ≡ true → HasRound (body_view body.now)) }
     ensures ranked { IfOk result (λ cyclic. cyclic ≡ false → HasRank (body_view body.now)) }
 {
+    if is_in_order(body) {
+        return Ok(false);
+    }
     let mut web = nothing(alloc);
     draw_body(alloc, &mut web, body)?;
     let events = above_events(&web);

@@ -9,3 +9,4 @@ pub mod Ends
 pub mod EntryColumns
 pub mod Arranged
 pub mod WeavingLaws
+pub mod RisingColumns

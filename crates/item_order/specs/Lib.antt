@@ -5,3 +5,4 @@ pub mod Answers
 pub mod Columns
 pub mod Pairing
 pub mod Laws
+pub mod RisingEntries

@@ -10,4 +10,4 @@ mod weaving;
 pub use edge::Edge;
 pub use pairing::pair_up;
 pub use sorting::{Sorted, sort_edges};
-pub use weaving::{weave, weave_entries};
+pub use weaving::{text_order, weave, weave_entries};

@@ -1,9 +1,11 @@
 //! Weaves columns to one list, by sorting the edges between neighbours. msc_instances weaves levels of a chart by it.
 
-ghost use Rattle.std.specs.Prelude.{◌≡◌, ◌^◌, Vec, ℕ, ◌<◌, ◌++◌, List, All, length, IfOk, OnOk};
+ghost use Rattle.std.specs.Prelude.{◌≡◌, ◌^◌, Vec, ℕ, ◌<◌, ◌++◌, List, All, length, true, IfOk, OnOk};
 ghost use Rattle.msc_base.specs.Lists.{IsAmong};
 ghost use Rattle.item_order.specs.Answers.{IfWhole, IfStuck};
 ghost use Rattle.item_order.specs.Columns.{columns_from, items_of, neighbours};
+ghost use Rattle.item_order.specs.Laws.{numbers_from};
+ghost use Rattle.item_order.specs.RisingEntries.{DoAllRise};
 ghost use Rattle.item_order.specs.Weaving.{IsWoven, IsCrossedAt};
 
 use crate::Edge;
@@ -48,8 +50,35 @@ pub fn weave(alloc: Global, count: u32, columns: &[Vec<u32>]) -> Result<Sorted, 
     sort_edges(alloc, count, &edges)
 }
 
+/// Whether the items of each column rise along its entries, so that they stand in the order of the text. It looks at each entry once.
+fn are_in_order(alloc: Global, count: u32, columns: u32, entries: &[Edge]) -> Result<bool, NoMemory>
+    requires inside { All (λ entry. (entry.from < columns) × (entry.to < count)) entries.now }
+    ensures { IfOk result (λ so. so ≡ true → DoAllRise entries.now) }
+{
+    let mut ends = vec![in alloc; 0u32; columns as usize]?;
+    for entry in entries {
+        let column = entry.from as usize;
+        if entry.to < ends[column] {
+            return Ok(false);
+        }
+        ends[column] = entry.to + 1;
+    }
+    Ok(true)
+}
+
+/// So many items in the order of the text.
+pub fn text_order(alloc: Global, count: u32) -> Result<Vec<u32>, NoMemory>
+    ensures { IfOk result (λ order. order.items ≡ numbers_from 0 count) }
+{
+    let mut order = Vec::new(alloc);
+    for item in 0..count {
+        order.push(item)?;
+    }
+    Ok(order)
+}
+
 /// The same of columns that are given entry by entry: each entry leads from its column to its item, and those of a column stand in
-/// its order.
+/// its order. Where they rise the order of the text is the woven list, and nothing is sorted.
 pub fn weave_entries(
     alloc: Global,
     count: u32,
@@ -60,6 +89,10 @@ pub fn weave_entries(
     ensures woven { IfOk result (λ sorted. IfWhole sorted (λ order. IsWoven count (columns_from 0 columns entries.now) order.items)) }
     ensures crossed { IfOk result (λ sorted. IfStuck sorted (IsCrossedAt count (columns_from 0 columns entries.now))) }
 {
+    if are_in_order(alloc, count, columns, entries)? {
+        let order = text_order(alloc, count)?;
+        return Ok(Sorted::Whole(order));
+    }
     let lists = targets_of(alloc, columns, entries)?;
     weave(alloc, count, lists.as_slice())
 }

@@ -40,6 +40,9 @@ fn push_leads(
 ) -> Result<(), NoMemory>
     ensures { OnOk result (edges.new.items ≡ edges.old.items ++ lead_edges table.now [] leads.now item) }
 {
+    if leads.len() == 1 {
+        return push_edge(edges, table, &leads[0], item);
+    }
     let mut seen = NameTable::new(alloc);
     for at in leads {
         if !seen.has(at.bytes()) {

@@ -82,8 +82,8 @@ pub fn level_items<'a, 'n>(
     ensures parts { IfOk result (λ items. map part_view items.parts.items ≡ entries (map piece_view pieces.now)) }
     ensures items { IfOk result (λ items. map parts_view items.items.items ≡ items_of_level (map piece_view pieces.now)) }
 {
-    let mut numbering = no_items(alloc);
-    let mut parts = Vec::new(alloc);
+    let mut numbering = no_items(alloc, pieces.len())?;
+    let mut parts = Vec::with_capacity(alloc, pieces.len())?;
     for piece in pieces {
         add_piece(alloc, &mut numbering, &mut parts, *piece)?;
     }

@@ -23,15 +23,16 @@ pub struct Numbering<'a, 'n> {
     pub items: Vec<LevelItem<'a, 'n>>,
 }
 
-/// No items. It takes no memory.
-pub fn no_items<'a, 'n>(alloc: Global) -> Numbering<'a, 'n>
-    ensures { IsNumbering [] result }
+/// No items, with room for so many.
+pub fn no_items<'a, 'n>(alloc: Global, room: usize) -> Result<Numbering<'a, 'n>, NoMemory>
+    ensures { IfOk result (IsNumbering []) }
 {
-    Numbering {
+    let items = Vec::with_capacity(alloc, room)?;
+    Ok(Numbering {
         names: NameTable::new(alloc),
         numbers: Vec::new(alloc),
-        items: Vec::new(alloc),
-    }
+        items,
+    })
 }
 
 /// The name of an inline expression or a reference.

@@ -16,3 +16,4 @@ pub mod WovenSnoc
 pub mod JointLaws
 pub mod EventItems
 pub mod WalkSteps
+pub mod NumberLaws

@@ -22,7 +22,7 @@ use crate::answers::{Answer, Gathered, crossed_place, earlier_than};
 use crate::events::ordered_events;
 use crate::matching::pairs_of;
 use crate::pairing::level_pairs;
-use item_order::Sorted;
+use item_order::{Sorted, text_order};
 use level_pieces::{
     LevelItem, LevelNames, Piece, Setting, copied_events_of, copied_reference, covered, earlier_of,
     item_operands, level_items, operands_of_form, woven_order,
@@ -151,11 +151,8 @@ fn joint_answer(
 fn all_numbers(alloc: Global, count: usize) -> Result<Vec<u32>, NoMemory>
     ensures { IfOk result (λ numbers. numbers.items ≡ numbers_to count) }
 {
-    let mut numbers = Vec::new(alloc);
-    for index in 0..count {
-        numbers.push(number_of(index)?)?;
-    }
-    Ok(numbers)
+    let count = number_of(count)?;
+    text_order(alloc, count)
 }
 
 /// The body of these parts.

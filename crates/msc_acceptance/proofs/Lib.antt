@@ -6,3 +6,4 @@ pub mod AcceptLaws
 pub mod LimitLaws
 pub mod AcceptedLaws
 pub mod ListLaws
+pub mod InstanceLists

@@ -5,16 +5,18 @@ ghost use Rattle.msc_rules.specs.FirstFaults.{IsBest};
 ghost use Rattle.msc_rules.specs.Rules.{number_of};
 ghost use Rattle.msc_acceptance.specs.Acceptance.{BreaksOf};
 ghost use Rattle.msc_acceptance.specs.Deciding.{AreFaultsIn, IsDecided, IsFirstOf, IsWhole, body_groups, event_names, forms, limits, names, parts, sizes, text_groups};
+ghost use Rattle.msc_instances.specs.Instances.{instances};
 ghost use Rattle.msc_tree.specs.Charts.{Chart};
 ghost use Rattle.msc_tree.specs.Views.{chart_view};
 
+use crate::instances::instance_lists;
 use crate::limits::{further_chart, further_instance};
 use crate::names::second_chart;
 use crate::parts::part_places;
 use crate::sizes::{large_chart, large_total};
 use crate::tables::{BodyFaults, woven_charts};
 use crate::walks::{ChartRule, earlier, first_place};
-use msc_base::NoMemory;
+use msc_base::{Names, NoMemory};
 use msc_meaning::ChartEntry;
 use msc_rules::{Broken, Rule, broken_at, earlier_fault};
 use msc_tree::RawChart;
@@ -38,11 +40,16 @@ fn form_fault(alloc: Global, charts: &[RawChart]) -> Result<Option<Broken<Rule>>
 }
 
 /// The first fault by the limits.
-fn limit_fault(alloc: Global, charts: &[RawChart]) -> Result<Option<Broken<Rule>>, NoMemory>
+fn limit_fault(
+    alloc: Global,
+    charts: &[RawChart],
+    lists: &[Names],
+) -> Result<Option<Broken<Rule>>, NoMemory>
+    requires { lists.now ≡ map instances (map chart_view charts.now) }
     ensures { IfOk result (IsBest number_of (BreaksOf (map chart_view charts.now)) limits) }
 {
     let further = broken_at(Rule::Charts, further_chart(charts));
-    let place = further_instance(alloc, charts)?;
+    let place = further_instance(alloc, charts, lists)?;
     let instances = broken_at(Rule::Instances, place);
     let bound = first_place(alloc, charts, ChartRule::LoopBound)?;
     let high = broken_at(Rule::LoopBound, bound);
@@ -73,10 +80,15 @@ fn size_fault(charts: &[RawChart]) -> Result<Option<Broken<Rule>>, NoMemory>
 }
 
 /// The first fault of parts.
-fn part_fault(alloc: Global, charts: &[RawChart]) -> Result<Option<Broken<Rule>>, NoMemory>
+fn part_fault(
+    alloc: Global,
+    charts: &[RawChart],
+    lists: &[Names],
+) -> Result<Option<Broken<Rule>>, NoMemory>
+    requires { lists.now ≡ map instances (map chart_view charts.now) }
     ensures { IfOk result (IsBest number_of (BreaksOf (map chart_view charts.now)) parts) }
 {
-    let places = part_places(alloc, charts)?;
+    let places = part_places(alloc, charts, lists)?;
     let unshared = broken_at(Rule::NotShared, places.unshared);
     let differing = broken_at(Rule::OperandsDiffer, places.differing);
     let misplaced = broken_at(Rule::ExcPlace, places.misplaced);
@@ -84,13 +96,18 @@ fn part_fault(alloc: Global, charts: &[RawChart]) -> Result<Option<Broken<Rule>>
 }
 
 /// The first fault of the rules on the text.
-fn text_fault(alloc: Global, charts: &[RawChart]) -> Result<Option<Broken<Rule>>, NoMemory>
+fn text_fault(
+    alloc: Global,
+    charts: &[RawChart],
+    lists: &[Names],
+) -> Result<Option<Broken<Rule>>, NoMemory>
+    requires { lists.now ≡ map instances (map chart_view charts.now) }
     ensures { IfOk result (IsFirstOf (map chart_view charts.now) text_groups) }
 {
     if let Some(fault) = form_fault(alloc, charts)? {
         return Ok(Some(fault));
     }
-    if let Some(fault) = limit_fault(alloc, charts)? {
+    if let Some(fault) = limit_fault(alloc, charts, lists)? {
         return Ok(Some(fault));
     }
     if let Some(fault) = name_fault(alloc, charts)? {
@@ -99,7 +116,7 @@ fn text_fault(alloc: Global, charts: &[RawChart]) -> Result<Option<Broken<Rule>>
     if let Some(fault) = size_fault(charts)? {
         return Ok(Some(fault));
     }
-    part_fault(alloc, charts)
+    part_fault(alloc, charts, lists)
 }
 
 /// The first fault of the names of events.
@@ -139,10 +156,11 @@ fn body_fault(faults: BodyFaults) -> Option<Broken<Rule>>
 pub fn decide(alloc: Global, charts: &[RawChart]) -> Result<Decision, NoMemory>
     ensures { IfOk result (IsDecided (map chart_view charts.now)) }
 {
-    if let Some(fault) = text_fault(alloc, charts)? {
+    let lists = instance_lists(alloc, charts)?;
+    if let Some(fault) = text_fault(alloc, charts, lists.as_slice())? {
         return Ok(Decision::Faulty(fault));
     }
-    let made = woven_charts(alloc, charts)?;
+    let made = woven_charts(alloc, charts, lists.as_slice())?;
     match body_fault(made.faults) {
         Some(fault) => Ok(Decision::Faulty(fault)),
         None => Ok(Decision::Woven(made.entries)),

@@ -5,6 +5,7 @@ mod acceptance;
 mod accepted;
 mod deciding;
 mod declaring;
+mod instances;
 mod limits;
 mod listing;
 mod names;

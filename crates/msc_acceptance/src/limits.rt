@@ -5,10 +5,10 @@ ghost use Rattle.msc_base.specs.NameTables.{with_name};
 ghost use Rattle.msc_base.specs.Places.{IsLeast};
 ghost use Rattle.msc_base.specs.declared.limits.TheConstants.Limits.{INSTANCES};
 ghost use Rattle.msc_acceptance.specs.Rules.{HasFurther, IsFurther, passes};
+ghost use Rattle.msc_instances.specs.Instances.{instances};
 ghost use Rattle.msc_tree.specs.Views.{chart_view};
 
-use msc_base::{Limits, Name, NameTable, NoMemory, Place, earlier_if};
-use msc_instances::instances_of;
+use msc_base::{Limits, Name, NameTable, Names, NoMemory, Place, earlier_if};
 use msc_tree::RawChart;
 use std::alloc::Global;
 
@@ -39,18 +39,24 @@ fn add_names(alloc: Global, table: &mut NameTable, names: &[Name]) -> Result<(),
     Ok(())
 }
 
-/// The place of the chart whose instances bring the number of different names above the limit.
-pub fn further_instance(alloc: Global, charts: &[RawChart]) -> Result<Option<Place>, NoMemory>
+/// The place of the chart whose instances, which `lists` are, bring the number of different names above the limit.
+pub fn further_instance(
+    alloc: Global,
+    charts: &[RawChart],
+    lists: &[Names],
+) -> Result<Option<Place>, NoMemory>
+    requires { lists.now ≡ map instances (map chart_view charts.now) }
     ensures { IfOk result (IsLeast (HasFurther [] (map chart_view charts.now))) }
 {
     let mut seen = NameTable::new(alloc);
     let mut best = None;
+    let mut number = 0;
     for chart in charts {
         let before = seen.len();
-        let names = instances_of(alloc, chart)?;
-        add_names(alloc, &mut seen, names.as_slice())?;
+        add_names(alloc, &mut seen, lists[number].as_slice())?;
         let so = has_passed(before, &seen);
         best = earlier_if(best, chart.place, so);
+        number += 1;
     }
     Ok(best)
 }

@@ -2,12 +2,12 @@
 
 ghost use Rattle.std.specs.Prelude.{◌≡◌, IfOk, map};
 ghost use Rattle.msc_acceptance.specs.Deciding.{ArePartPlaces, AreOwnPlaces, earlier_of};
+ghost use Rattle.msc_instances.specs.Instances.{instances};
 ghost use Rattle.msc_tree.specs.Views.{chart_view};
 
 use crate::walks::earlier;
 use level_weaving::first_misplaced;
-use msc_base::{NoMemory, Place};
-use msc_instances::instances_of;
+use msc_base::{Names, NoMemory, Place};
 use msc_tree::RawChart;
 use shared_parts::part_faults;
 use std::alloc::Global;
@@ -23,13 +23,13 @@ pub struct PartPlaces {
     pub misplaced: Option<Place>,
 }
 
-/// The places of one chart.
-fn own_places(alloc: Global, chart: &RawChart) -> Result<PartPlaces, NoMemory>
+/// The places of one chart, whose instances `names` are.
+fn own_places(alloc: Global, chart: &RawChart, names: &Names) -> Result<PartPlaces, NoMemory>
+    requires { names.now ≡ instances (chart_view chart.now) }
     ensures { IfOk result (AreOwnPlaces (chart_view chart.now)) }
 {
-    let names = instances_of(alloc, chart)?;
-    let faults = part_faults(alloc, chart, &names)?;
-    let misplaced = first_misplaced(alloc, chart, &names)?;
+    let faults = part_faults(alloc, chart, names)?;
+    let misplaced = first_misplaced(alloc, chart, names)?;
     Ok(PartPlaces {
         unshared: faults.not_shared,
         differing: faults.differing,
@@ -50,8 +50,13 @@ fn earlier_places(places: PartPlaces, others: PartPlaces) -> PartPlaces
     }
 }
 
-/// The places of all charts.
-pub fn part_places(alloc: Global, charts: &[RawChart]) -> Result<PartPlaces, NoMemory>
+/// The places of all charts, whose instances `lists` are.
+pub fn part_places(
+    alloc: Global,
+    charts: &[RawChart],
+    lists: &[Names],
+) -> Result<PartPlaces, NoMemory>
+    requires { lists.now ≡ map instances (map chart_view charts.now) }
     ensures { IfOk result (ArePartPlaces (map chart_view charts.now)) }
 {
     let mut places = PartPlaces {
@@ -59,9 +64,11 @@ pub fn part_places(alloc: Global, charts: &[RawChart]) -> Result<PartPlaces, NoM
         differing: None,
         misplaced: None,
     };
+    let mut number = 0;
     for chart in charts {
-        let own = own_places(alloc, chart)?;
+        let own = own_places(alloc, chart, &lists[number])?;
         places = earlier_places(places, own);
+        number += 1;
     }
     Ok(places)
 }

@@ -19,8 +19,7 @@ use event_order::is_cyclic;
 use event_order::laws::ranks_rise;
 use general_ordering::{EventNameRule, first_name_fault};
 use level_weaving::{WeaveFault, weave};
-use msc_base::{NoMemory, Place};
-use msc_instances::instances_of;
+use msc_base::{Names, NoMemory, Place};
 use msc_meaning::{Body, ChartEntry, EntryContent};
 use msc_tree::RawChart;
 use std::alloc::Global;
@@ -153,13 +152,13 @@ fn faults_of(alloc: Global, chart: &RawChart, body: &Body) -> Result<BodyFaults,
     })
 }
 
-/// What a chart is woven to.
-fn woven(alloc: Global, chart: &RawChart) -> Result<ChartResult, NoMemory>
-    requires { IsBuilt (chart_view chart.now) }
+/// What a chart, whose instances `names` are, is woven to.
+fn woven(alloc: Global, chart: &RawChart, names: &Names) -> Result<ChartResult, NoMemory>
+    requires built { IsBuilt (chart_view chart.now) }
+    requires names { names.now ≡ instances (chart_view chart.now) }
     ensures { IfOk result (IsNextWoven (chart_view chart.now)) }
 {
-    let names = instances_of(alloc, chart)?;
-    match weave(alloc, chart, &names) {
+    match weave(alloc, chart, names) {
         Ok(body) => {
             let faults = faults_of(alloc, chart, &body)?;
             let entry = entry_of(alloc, chart, body)?;
@@ -169,21 +168,28 @@ fn woven(alloc: Global, chart: &RawChart) -> Result<ChartResult, NoMemory>
     }
 }
 
-/// What the charts are woven to.
-pub fn woven_charts(alloc: Global, charts: &[RawChart]) -> Result<Weaving, NoMemory>
-    requires { AreBuilt (map chart_view charts.now) }
+/// What the charts, whose instances `lists` are, are woven to.
+pub fn woven_charts(
+    alloc: Global,
+    charts: &[RawChart],
+    lists: &[Names],
+) -> Result<Weaving, NoMemory>
+    requires built { AreBuilt (map chart_view charts.now) }
+    requires lists { lists.now ≡ map instances (map chart_view charts.now) }
     ensures { IfOk result (AreWoven (map chart_view charts.now)) }
 {
     let mut entries = Vec::new(alloc);
     let mut faults = barring(None, None);
+    let mut number = 0;
     for chart in charts {
-        match woven(alloc, chart)? {
+        match woven(alloc, chart, &lists[number])? {
             ChartResult::Entry(entry, found) => {
                 entries.push(entry)?;
                 faults = earlier_faults(faults, found);
             }
             ChartResult::Barred(found) => faults = earlier_faults(faults, found),
         }
+        number += 1;
     }
     Ok(Weaving { entries, faults })
 }

@@ -1,6 +1,6 @@
 //! `Items`, a vector that a contract sees as the list. The trees of documents and the lists of charts are made of it.
 
-ghost use Rattle.std.specs.Prelude.{◌≡◌, ◌<◌, ◌++◌, ◌∷◌, [], List, length, slice_get, OnOk, OnErr, Some};
+ghost use Rattle.std.specs.Prelude.{◌≡◌, ◌<◌, ◌++◌, ◌∷◌, [], List, length, slice_get, IfOk, OnOk, OnErr, Some};
 
 use crate::NoMemory;
 use std::alloc::Global;
@@ -26,6 +26,15 @@ impl<T: Drop> Items<T> {
         Items {
             held: Vec::new(alloc),
         }
+    }
+
+    /// The list of this item alone. It has room for no other.
+    pub fn one(alloc: Global, item: T) -> Result<Items<T>, NoMemory>
+        ensures { IfOk result (λ list. list ≡ item ∷ []) }
+    {
+        let mut held = Vec::with_capacity(alloc, 1)?;
+        held.push(item)?;
+        Ok(Items { held })
     }
 
     /// Appends the item. After want of memory the list is as it was, and the item is dropped.

@@ -13,7 +13,9 @@ use crate::closer::{close, column_goes_on, form_token, starts_with_statement, st
 use crate::item::{
     InlineBody, condition_item, coregion_item, inline_item, reference_item, single_item, stop_item,
 };
-use crate::line_parts::{column_of, covered_by, end_statement, heading_statement, other_names};
+use crate::line_parts::{
+    column_of, covered_by, end_statement, heading_statement, one_item, other_names,
+};
 use crate::naming::{closing, naming};
 use crate::starts::{starts_with_event, starts_with_form, starts_with_multi};
 use msc_base::{Name, Names, Place};
@@ -483,8 +485,7 @@ fn behind_colon(
 {
     let (_colon, rest) = word(tokens, ":")?;
     if starts_with_event(rest) {
-        let mut names = Names::new(alloc);
-        names.push(name)?;
+        let names = Names::one(alloc, name)?;
         return run(alloc, rest, levels, closer, true, Cover::Listed(names));
     }
     if starts_with(rest, "instance") {
@@ -538,8 +539,7 @@ fn first_item(
     ensures { Gives (λ x. (map item_view x.0.items, x.1.now)) result (map_at alone (outside_item_at levels any) tokens.now) }
 {
     let (item, rest) = next_item(alloc, tokens, levels, any)?;
-    let mut items = Vec::new(alloc);
-    items.push(item)?;
+    let items = one_item(alloc, item)?;
     Ok((items, rest))
 }
 

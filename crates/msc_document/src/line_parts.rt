@@ -1,6 +1,6 @@
 //! Statements made of their parts, and declarations and ends that lead one: for `items`.
 
-ghost use Rattle.std.specs.Prelude.{◌≡◌, map, codes};
+ghost use Rattle.std.specs.Prelude.{◌≡◌, [], ◌∷◌, map, codes, IfOk};
 ghost use Rattle.msc_tree.specs.Statements.{Column, Covered, Heading, Ended, items};
 ghost use Rattle.msc_tree.specs.Views.{item_view, statement_view};
 ghost use Rattle.token_grammar.specs.Answers.{Gives};
@@ -9,18 +9,29 @@ ghost use Rattle.token_grammar.specs.PartReaders.{ending_at};
 ghost use Rattle.msc_events.specs.DeclarationReaders.{declared_at};
 ghost use Rattle.msc_document.specs.StatementReaders.{other_names_at};
 
-use msc_base::{Items, Name, Names, Place};
+use msc_base::{Items, Name, Names, NoMemory, Place};
 use msc_events::declared;
 use msc_tokens::Token;
 use msc_tree::{Cover, Decl, RawItem, Statement};
 use std::alloc::Global;
 use token_grammar::{ReadFault, ending, more_names, own_name, word};
 
-/// The statement that is the column of an instance.
+/// The list of this item alone. It has room for no other: most statements have one item, and an item is large.
+pub fn one_item(alloc: Global, item: RawItem) -> Result<Vec<RawItem>, NoMemory>
+    ensures { IfOk result (λ held. held.items ≡ item ∷ []) }
+{
+    let mut held = Vec::with_capacity(alloc, 1)?;
+    held.push(item)?;
+    Ok(held)
+}
+
+/// The statement that is the column of an instance. Its items keep no room for others.
 pub fn column_of(decl: Decl, held: Vec<RawItem>) -> Statement
     ensures { statement_view result ≡ Column decl (items (map item_view held.items)) }
 {
-    Statement::Column(decl, held)
+    let mut column = held;
+    column.shrink_to_fit();
+    Statement::Column(decl, column)
 }
 
 /// The statement that these instances are covered by these items.

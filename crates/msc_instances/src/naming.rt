@@ -43,6 +43,9 @@ struct Instances {
     table: NameTable,
 }
 
+/// Up to so many names a list is looked through.
+const FEW: usize = 8;
+
 /// Whether a name is one of the list.
 fn is_listed(names: &[Name], name: &Name) -> bool
     ensures { IsTrue result ↔ IsAmong names.now name.now }
@@ -69,6 +72,18 @@ fn may_name(table: &NameTable, scope: &Scope<'_>, name: &Name) -> bool
     }
 }
 
+/// Whether a name is one of the list, which the table has too: a short list is looked through, as that takes less time than a hash.
+fn is_known(names: &Names, table: &NameTable, name: &Name) -> bool
+    requires { names.now ≡ table.now }
+    ensures { IsTrue result ↔ IsAmong table.now name.now }
+{
+    if names.len() <= FEW {
+        is_listed(names.as_slice(), name)
+    } else {
+        table.has(name.bytes())
+    }
+}
+
 #[tactic(auto, using(crate::proofs::Tables::with_old, crate::proofs::Tables::with_new))]
 /// Adds an instance where it is new.
 fn add_instance(
@@ -81,7 +96,7 @@ fn add_instance(
     ensures table { OnOk result (table.new ≡ with_name table.old name.now) }
     ensures names { OnOk result (names.new ≡ table.new) }
 {
-    if table.has(name.bytes()) {
+    if is_known(names, table, name) {
         return Ok(());
     }
     names.push(name.copy(alloc)?)?;

@@ -1,7 +1,6 @@
 -- The machine takes a piece, and meets a fault.
 use Rattle.std.proofs.Common.{◌≡◌, ◌==◌, ◌<◌, ◌≤◌, ◌+◌, Bool, true, false, cond, nat_lt, List, ℕ, length, ◌++◌, [], ◌∷◌, Result, Ok, Err, All, arith, sym, refl, ap, ap₂, ◌∙◌, append_assoc, append-nil, subst, length-append, eqb-true, ltb-true}
 use Rattle.std.proofs.lemmas.List.Elements.{All-head, All-tail}
-use Rattle.std.proofs.lemmas.Bool.Decides.{Decides-ltb}
 use Rattle.msc_base.specs.declared.place.Place.{Place}
 use Rattle.msc_base.specs.Names.{IsWordByte, is_word_byte}
 use Rattle.msc_tokens.specs.declared.token.Token.{Token}
@@ -14,13 +13,12 @@ use Rattle.msc_tokens.specs.declared.mode.Mode.{Mode}
 use Rattle.msc_tokens.specs.declared.mode.Mode.TheVariants as mode
 use Rattle.msc_tokens.specs.ByteTests.{is_inside, has_letter, is_pair, class_of}
 use Rattle.msc_tokens.specs.Places.{after_byte, past}
-use Rattle.msc_tokens.specs.Machine.{State, in_mode, grown, closed, refused, begun_as, begun, step, listed}
+use Rattle.msc_tokens.specs.Machine.{State, in_mode, grown, closed, refused, begun_as, begun, step, listed, ended}
 use Rattle.msc_tokens.specs.Spelling.{IsInside, IsMark, IsPair, BeginsWith, IsApostrophe, IsSlash, Part, Plain, Doubled, held, AreParts, IsNoted}
 use Rattle.msc_tokens.proofs.ByteFacts.{test_false, equal_test, word_test, inside_test, pair_test, star_inside}
 use Rattle.msc_tokens.proofs.Soundness.{answer}
-
-abbrev pub stand : Mode → Place → List ℕ → Place → List Token → State
-stand m start kept place tokens = record { mode = m; start = start; text = kept; place = place; tokens = tokens }
+use Rattle.msc_tokens.proofs.Wholes.{begins as begins_at, word_runs as runs_in_word, word_ends as ends_word}
+pub use Rattle.msc_tokens.proofs.Wholes.{stand}
 
 -- a fault stays
 pub bad_stays : (bytes : List ℕ) (st : Place) (tx : List ℕ) (pl : Place) (tk : List Token) → answer (stand mode.BadByte st tx pl tk) bytes ≡ Err (fault.BadByte st)
@@ -36,21 +34,12 @@ long_stays (c ∷ bytes) st tx pl tk = long_stays bytes st tx pl tk
 -- a byte where nothing is open
 pub begins : (k : ByteClass) (c : ℕ) (bytes : List ℕ) (st : Place) (tx : List ℕ) (pl : Place) (tk : List Token) → class_of c ≡ k
     → answer (stand mode.Between st tx pl tk) (c ∷ bytes) ≡ answer (begun_as k (stand mode.Between st tx pl tk) c) bytes
-unfolding step
-begins k c bytes st tx pl tk e = ap (λ (d : ByteClass). answer (begun_as d (stand mode.Between st tx pl tk) c) bytes) e
+begins k c bytes st tx pl tk e = ap (λ (s : State). ended s.mode s) (begins_at k c bytes (stand mode.Between st tx pl tk) refl e)
 
 -- an open word takes the bytes of a word
 pub word_runs : (v rest : List ℕ) (st : Place) (tx : List ℕ) (pl : Place) (tk : List Token) → All IsWordByte v → length tx + length v ≤ 255
     → answer (stand mode.Word st tx pl tk) (v ++ rest) ≡ answer (stand mode.Word st (tx ++ v) (past pl v) tk) rest
-unfolding step
-word_runs [] rest st tx pl tk h short = ap (λ (bs : List ℕ). answer (stand mode.Word st bs pl tk) rest) (sym (append-nil tx))
-word_runs (c ∷ v) rest st tx pl tk h short =
-    let s : State = stand mode.Word st tx pl tk in
-    let word : is_word_byte c ≡ true = (word_test c).1 (All-head IsWordByte c v h) in
-    let room : nat_lt (length tx) 255 ≡ true = (Decides-ltb (length tx) 255).1 (omega arith) in
-    ap₂ (λ (b1 b2 : Bool). answer (cond b1 (cond b2 (grown mode.Word s c) (in_mode mode.LongName s)) (cond (has_letter tx) (begun (closed kind.Word s) c) (in_mode mode.BadByte s))) (v ++ rest)) word room
-    ∙ word_runs v rest st (tx ++ c ∷ []) (after_byte pl c) tk (All-tail IsWordByte c v h) (omega (arith, length-append tx (c ∷ [])))
-    ∙ ap (λ (bs : List ℕ). answer (stand mode.Word st bs (past pl (c ∷ v)) tk) rest) (append_assoc tx (c ∷ []) v)
+word_runs v rest st tx pl tk h short = ap (λ (s : State). ended s.mode s) (runs_in_word v rest st tx pl tk h short)
 
 pub word_ends : (rest : List ℕ) (st : Place) (tx : List ℕ) (pl : Place) (tk : List Token) → has_letter tx ≡ true → (BeginsWith IsWordByte rest → ⊥)
     → answer (stand mode.Word st tx pl tk) rest ≡ answer (closed kind.Word (stand mode.Word st tx pl tk)) rest
@@ -58,9 +47,7 @@ unfolding step
 word_ends [] st tx pl tk letter free =
     ap (λ (b : Bool). let r : Result TokenList LexFault = cond b (Ok (listed (closed kind.Word (stand mode.Word st tx pl tk)))) (Err (fault.BadByte st)) in r) letter
 word_ends (c ∷ rest) st tx pl tk letter free =
-    let s : State = stand mode.Word st tx pl tk in
-    let word : is_word_byte c ≡ false = test_false (is_word_byte c) (IsWordByte c) (word_test c) free in
-    ap₂ (λ (b1 b3 : Bool). answer (cond b1 (cond (nat_lt (length tx) 255) (grown mode.Word s c) (in_mode mode.LongName s)) (cond b3 (begun (closed kind.Word s) c) (in_mode mode.BadByte s))) rest) word letter
+    ap (λ (s : State). ended s.mode s) (ends_word c rest st tx pl tk letter (test_false (is_word_byte c) (IsWordByte c) (word_test c) free))
 
 pub word_fails : (rest : List ℕ) (st : Place) (tx : List ℕ) (pl : Place) (tk : List Token) → has_letter tx ≡ false → (BeginsWith IsWordByte rest → ⊥)
     → answer (stand mode.Word st tx pl tk) rest ≡ Err (fault.BadByte st)

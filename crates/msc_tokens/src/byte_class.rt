@@ -36,7 +36,7 @@ pub fn is_inside(byte: u8) -> bool
     byte == b'\t' || byte == b'\n' || byte == b'\r' || (byte >= 32 && byte <= 126) || byte >= 128
 }
 
-fn is_mark_byte(byte: u8) -> bool
+pub fn is_mark_byte(byte: u8) -> bool
     ensures { result ≡ is_mark_byte byte }
 {
     byte == b';'
@@ -53,7 +53,7 @@ fn is_mark_byte(byte: u8) -> bool
         || byte == b'='
 }
 
-fn is_pair(first: u8, second: u8) -> bool
+pub fn is_pair(first: u8, second: u8) -> bool
     ensures { result ≡ is_pair first second }
 {
     (first == b':' && second == b'=')

@@ -42,9 +42,11 @@ fn take_all(machine: &mut Machine, piece: &[u8]) -> bool
     ensures taken { OnTrue result (view machine.new ≡ fold step (view machine.old) piece.now) }
     ensures bound { machine.new.place.byte ≤ machine.old.place.byte + length piece.now }
 {
-    for byte in piece {
-        if machine.step(*byte).is_err() {
-            return false;
+    let mut rest = piece;
+    while !rest.is_empty() {
+        match machine.take(rest) {
+            Ok(behind) => rest = behind,
+            Err(NoMemory) => return false,
         }
     }
     true

@@ -9,6 +9,7 @@ mod mode;
 mod place;
 mod token;
 mod token_list;
+mod whole;
 
 pub use fault::LexFault;
 pub use lexer::{Lexer, lex_all};

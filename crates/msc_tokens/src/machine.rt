@@ -5,6 +5,7 @@ ghost use Rattle.std.specs.Prelude.{◌≤◌, ◌+◌};
 use crate::byte_class::{ByteClass, class_of, has_letter, is_inside, makes_pair};
 use crate::mode::Mode;
 use crate::place::after;
+use crate::whole::whole_token;
 use crate::{LexFault, Token, TokenKind, TokenList};
 use msc_base::{Items, Limits, NoMemory, Place, Text, is_word_byte};
 use std::alloc::Global;
@@ -24,9 +25,10 @@ pub struct Machine {
 }
 
 impl Machine {
-    ghost use Rattle.std.specs.Prelude.{◌≡◌, ◌<◌, ◌≤◌, ◌^◌, ◌+◌, OnOk, IfOk, IfErr, Some, Ok, Err};
+    ghost use Rattle.std.specs.Prelude.{◌≡◌, ◌<◌, ◌≤◌, ◌^◌, ◌+◌, OnOk, IfOk, IfErr, Some, Ok, Err, fold, length};
     ghost use Rattle.msc_tokens.specs.Machine.{closed, in_mode, opened, passed, grown, refused, begun, next, step, first_state, settled, ended, listed};
     ghost use Rattle.msc_tokens.specs.Views.{view};
+    ghost use Rattle.msc_tokens.specs.Wholes.{behind_token};
     ghost use Rattle.msc_tokens.specs.Faults.{IfNamed};
     ghost use Rattle.msc_tokens.specs.declared.fault.LexFault.{LexFault};
 
@@ -168,6 +170,62 @@ impl Machine {
             Mode::BadByte => Ok(()),
             Mode::LongName => Ok(()),
         }
+    }
+
+    /// Takes a whole token, which begins here.
+    fn take_token(&mut self, kind: TokenKind, token: &[u8]) -> Result<(), NoMemory>
+        requires { self.old.place.byte + length token.now < 2 ^ 63 }
+        ensures ok { OnOk result (view self.new ≡ behind_token kind (view self.old) token.now) }
+        ensures bound { self.new.place.byte ≤ self.old.place.byte + length token.now }
+    {
+        let bytes = Text::from_bytes(self.alloc, token)?;
+        let place = self.place;
+        self.tokens.push(Token { kind, bytes, place })?;
+        self.text.clear();
+        self.mode = Mode::Between;
+        self.start = place;
+        self.place = Place {
+            byte: place.byte + token.len() as u64,
+            line: place.line,
+            column: place.column + token.len() as u64,
+        };
+        Ok(())
+    }
+
+    /// Takes the first byte, and gives those behind it.
+    fn take_first<'a>(&mut self, bytes: &'a [u8]) -> Result<&'a [u8], NoMemory>
+        requires some { 0 < length bytes.now }
+        requires bound { self.old.place.byte + length bytes.now < 2 ^ 63 }
+        ensures ok { IfOk result (λ behind. fold step (view self.old) bytes.now ≡ fold step (view self.new) behind.now) }
+        ensures fewer { IfOk result (λ behind. length behind.now < length bytes.now) }
+        ensures place { IfOk result (λ behind. self.new.place.byte + length behind.now ≤ self.old.place.byte + length bytes.now) }
+        ensures bound { self.new.place.byte ≤ self.old.place.byte + length bytes.now }
+    {
+        match bytes.split_first() {
+            Some((first, behind)) => {
+                self.step(*first)?;
+                Ok(behind)
+            }
+            None => Ok(bytes),
+        }
+    }
+
+    /// Takes the first bytes, a whole token at once, and gives those behind them.
+    pub fn take<'a>(&mut self, bytes: &'a [u8]) -> Result<&'a [u8], NoMemory>
+        requires some { 0 < length bytes.now }
+        requires bound { self.old.place.byte + length bytes.now < 2 ^ 63 }
+        ensures ok { IfOk result (λ behind. fold step (view self.old) bytes.now ≡ fold step (view self.new) behind.now) }
+        ensures fewer { IfOk result (λ behind. length behind.now < length bytes.now) }
+        ensures place { IfOk result (λ behind. self.new.place.byte + length behind.now ≤ self.old.place.byte + length bytes.now) }
+        ensures bound { self.new.place.byte ≤ self.old.place.byte + length bytes.now }
+    {
+        if let Mode::Between = self.mode {
+            if let Some((kind, token, behind)) = whole_token(bytes) {
+                self.take_token(kind, token)?;
+                return Ok(behind);
+            }
+        }
+        self.take_first(bytes)
     }
 
     /// Takes a byte in a word.

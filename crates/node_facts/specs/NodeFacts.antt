@@ -36,9 +36,14 @@ abbrev pub labels_in : Option Ranges → Option Span
 labels_in None = None
 labels_in (Some r) = Some r.labels
 
--- what an event number adds to a code: spread over 64 bits, then multiplied twice, since for sets of numbers in a row sums of squares often agree
+-- an event number, spread over 64 bits, then multiplied twice, since for sets of numbers in a row sums of squares often agree
+unfoldable pub number_spread : ℕ → ℕ
+number_spread n = let s = ((n + 1) * 11400714819323198485) % 2 ^ 64 in let t = ((s / 2 ^ 32) * s) % 2 ^ 64 in ((t / 2 ^ 32) * s) % 2 ^ 64
+
+-- what an event number adds to a code: one of 32 bits, by which the order of codes keeps sets together that differ little, and below
+-- them bits by which numbers differ that have the same one
 unfoldable pub number_code : ℕ → ℕ
-number_code n = let s = ((n + 1) * 11400714819323198485) % 2 ^ 64 in let t = ((s / 2 ^ 32) * s) % 2 ^ 64 in ((t / 2 ^ 32) * s) % 2 ^ 64
+number_code n = (2 ^ (32 + n % 32) + number_spread n / 2 ^ 37) % 2 ^ 64
 
 -- the code of event numbers, the same in each order of them: equal terms have equal codes, and different terms may
 abbrev pub numbers_code : List ℕ → ℕ

@@ -1,6 +1,7 @@
 //! What a node of a term stores of it: weight, instances, ranges of numbers and labels, a code of the numbers; it looks at no table.
 
-ghost use Rattle.std.specs.Prelude.{◌≡◌, ◌+◌, ◌<◌, ◌∷◌, ℕ, [], true, false, min, max, OnOk, IfOk, Some, option_to_list};
+ghost use Rattle.std.specs.Prelude.{◌≡◌, ◌+◌, ◌<◌, ◌∷◌, ◌||◌, ℕ, [], true, false, min, max, OnOk, IfOk, Some, option_to_list};
+ghost use Rattle.bit_sets.specs.Blocks.{is_among};
 ghost use Rattle.std.specs.List.{list_any};
 ghost use Rattle.std.specs.Option.{ForSome};
 ghost use Rattle.node_facts.specs.NodeFacts.{Adds, AreFacts, FactsPassed, FactsWithin, facts_may, facts_miss, labels_in, lies_in, most_stored, number_code, numbers_in, wider};
@@ -96,7 +97,8 @@ fn widened(ranges: Option<Ranges>, other: Option<Ranges>) -> Option<Ranges>
     }
 }
 
-/// What an event number adds to a code.
+/// What an event number adds to a code: one of 32 bits, so that sets that differ little lie near each other in the order of codes, and
+/// below them bits that tell the numbers apart which have the same.
 #[tactic(auto, using(crate::proofs::Coding::coding))]
 fn number_code(number: u32) -> u64
     ensures { result ≡ number_code number }
@@ -104,7 +106,20 @@ fn number_code(number: u32) -> u64
     let next = number as u64 + 1;
     let spread = next.wrapping_mul(11_400_714_819_323_198_485);
     let mixed = (spread >> 32).wrapping_mul(spread);
-    (mixed >> 32).wrapping_mul(spread)
+    let folded = (mixed >> 32).wrapping_mul(spread);
+    let bit = 1u64 << (32 + number % 32);
+    bit.wrapping_add(folded >> 37)
+}
+
+/// Adds the instances of the other block, which often are the same.
+fn unite(block: &mut Block, other: &Block) -> Result<(), NoMemory>
+    ensures { OnOk result ((n : ℕ) → is_among block.new.instances n ≡ (is_among block.old.instances n || is_among other.now.instances n)) }
+{
+    if block.compare_instances(other) == Ordering::Equal {
+        return Ok(());
+    }
+    block.add_instances(other)?;
+    Ok(())
 }
 
 impl Facts {
@@ -169,7 +184,7 @@ impl Facts {
     pub fn add(&mut self, other: &Facts) -> Result<(), NoMemory>
         ensures { OnOk result (Adds self.old other.now self.new) }
     {
-        self.instances.add_instances(&other.instances)?;
+        unite(&mut self.instances, &other.instances)?;
         self.weight = self.weight.saturating_add(other.weight);
         self.holds_walk |= other.holds_walk;
         self.ranges = widened(self.ranges, other.ranges);

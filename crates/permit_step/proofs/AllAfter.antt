@@ -1,11 +1,20 @@
 -- What was found of more and more terms.
 use Rattle.std.specs.Prelude.{ℕ, ◌+◌, ◌≡◌, ◌≤◌, ◌<◌, Bool, true, false, List, [], ◌∷◌, Some, slice_get, take, refl}
-use Rattle.std.proofs.Common.{sym, ◌∙◌, subst, inl, inr}
+use Rattle.std.proofs.Common.{ap, sym, ◌∙◌, subst, arith, inl, inr}
 use Rattle.msc_base.specs.Lists.{IsAmong}
 use Rattle.chart_term.specs.Properties.{Each}
 use Rattle.chart_term.specs.Tables.{Tables}
 use Rattle.chart_term.specs.Terms.{Tree}
 use Rattle.term_laws.specs.Listing.{set_weight}
+use Rattle.msc_base.specs.declared.label.Label.{Label}
+use Rattle.term_tables.specs.NetValues.{NetsValue, label_number}
+use Rattle.chart_term.specs.TermPatterns.{Both}
+use Rattle.term_laws.specs.Permission.{permits_of}
+use Rattle.term_laws.specs.Taking.{IsAfter}
+use Rattle.permit_step.specs.AllAfter.{AreAllLeft, IsLeftOf}
+use Rattle.permit_step.specs.Successors.{IsSuccessor}
+use Rattle.permit_step.proofs.Tallying.{seen_listed, seen_weighs}
+use Rattle.permit_step.proofs.TermSets.{rising_different}
 use Rattle.permit_step.specs.Gatherings.{IsGathered, IsResultOf, IsTooMuch}
 use Rattle.permit_step.specs.Searches.{Gathers, IsFinding, IsResult}
 use Rattle.permit_step.specs.declared.found.Found.{Found}
@@ -44,5 +53,35 @@ module _ (w : Tables) (a most : ℕ) (terms : List Tree) (i : ℕ) (x : Tree) (e
     each = λ z j. let r = each_on false h z j in record { term = r.term; held = among_some terms (i + 1) r.term r.held; result = r.result };
     above = subst (λ (n : ℕ). n < set_weight new.terms) (h.gains.most ∙ g.most_is) (h.bounded.beyond refl).above;
   }
+
+-- what was found, in the order of terms
+module _ (v : NetsValue) (label : Label) (a : ℕ) (labelled : label_number v.labels label ≡ Some a) (most : ℕ) (terms : List Tree) (found : Found) (g : IsGathered v.tables a most terms found) where
+  result_left : (x z : Tree) → IsResult v.tables a [] x z → IsSuccessor v label x z
+  result_left x z r = record { event = r.event; labelled = labelled ∙ ap Some (sym r.labelled); after = subst (λ (y : Tree). IsAfter (permits_of v.tables) x r.event y) (same r.whole) r.taken }
+    where
+      same : {y u : Tree} → Some y ≡ Some u → y ≡ u
+      same e = cc
+
+  left_result : (x z : Tree) → IsSuccessor v label x z → IsResult v.tables a [] x z
+  left_result x z s = record { event = s.event; labelled = same (sym s.labelled ∙ labelled); left = z; taken = s.after; whole = refl }
+    where
+      same : {m n : ℕ} → Some m ≡ Some n → m ≡ n
+      same e = cc
+
+  left_exact : (y : Tree) → Both (IsAmong found.seen.keys y) (IsLeftOf v label terms y)
+  left_exact y = record {
+    to = λ i. let r = g.each y ((seen_listed found g.tally y).to i) in record { term = r.term; held = r.held; left = result_left r.term y r.result };
+    from = λ l. (seen_listed found g.tally y).from (g.whole y (record { term = l.term; held = l.held; result = left_result l.term y l.left }));
+  }
+
+  pub all_left : AreAllLeft v label terms most found.seen.keys
+  all_left = record {
+    different = rising_different found.seen.keys g.tally.rising;
+    exact = left_exact;
+    within = let e = seen_weighs found g.tally in let l = g.within in omega arith;
+  }
+
+pub all_weighed : (w : Tables) (a most : ℕ) (terms : List Tree) (found : Found) → IsGathered w a most terms found → found.weight ≡ set_weight found.seen.keys
+all_weighed w a most terms found g = let e = seen_weighs found g.tally in let l = g.within in let h = g.tally.weight in let m = g.tally.most in let q = g.most_is in omega arith
 
 pub ruleset gathering = (each_item)

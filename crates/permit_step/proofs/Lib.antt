@@ -13,6 +13,8 @@ pub mod Passes
 pub mod Placed
 pub mod Copies
 pub mod TermMembers
+pub mod TermSets
 pub mod AllAfter
 pub mod KeptNumbers
+pub mod Knowing
 pub mod EarlierPairs

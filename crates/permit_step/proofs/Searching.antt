@@ -10,7 +10,7 @@ use Rattle.term_laws.specs.Listing.{set_weight}
 use Rattle.msc_base.specs.Lists.{IsAmong}
 use Rattle.term_laws.specs.Permission.{permits_of}
 use Rattle.term_permission.specs.Ready.{IsReady, AreReadyTables}
-use Rattle.permit_step.specs.Searches.{AreReadyFrames, child_count, put_all, IsResult, IsFinding, IsTally, IsBounded, Gains, Gathers, GathersOwn, AddsOne, IsTaken, IsPassed, IsStep, AreSearched, IsSearched, at_root, below, IsOther}
+use Rattle.permit_step.specs.Searches.{AreReadyFrames, child_count, put_all, IsResult, IsFinding, IsTally, IsBounded, Gains, Gathers, GathersOwn, AddsOne, IsTaken, IsPassed, IsStep, AreSearched, IsSearched, at_root, below, IsOther, SkipsKnown}
 use Rattle.msc_base.specs.declared.label.Label.{Label}
 use Rattle.term_tables.specs.NetValues.{NetsValue, label_number}
 use Rattle.permit_step.specs.Successors.{IsJustAbove, IsSuccessor, AppendsFound}
@@ -53,7 +53,7 @@ gains_none : (P : Tree → Type 0) (old : Found) → IsTally old → Gains P old
 gains_none P old h = record { tally = h; most = refl; rest = []; are = sym (append-nil old.terms); each = tt }
 
 -- one event
-own_event : (w : Tables) (e f : TermEvent) (y : Tree) → IsAfter (permits_of w) (Event e) f y → (e ≡ f) × (y ≡ Nil)
+pub own_event : (w : Tables) (e f : TermEvent) (y : Tree) → IsAfter (permits_of w) (Event e) f y → (e ≡ f) × (y ≡ Nil)
 own_event w e f y h = elim (in-child (permits_of w) h) [
   | inl p ↦ (let q : Event e ≡ Event f = p.0 in cc, p.1)
   | inr i ↦ let g = i.there in cc
@@ -141,6 +141,20 @@ module _ (w : Tables) (tables : AreReadyTables w) (a : ℕ) (root : Tree) where
 
   finding_root : (zs : List Tree) {fs : List Frame} {x : Tree} {i : ℕ} → IsSearched w a root zs fs x i → (z : Tree) → IsFinding w a fs x z → IsFinding w a [] root z
   finding_root zs s z f = record { result = to_root zs s z f.result; ready = f.ready }
+
+  -- past children whose results were found before
+  pub state-past : (old new : Found) (fs : List Frame) (x : Tree) (i j : ℕ) → IsState w a root old new fs x i → SkipsKnown w a fs x i new.terms j → IsState w a root old new fs x j
+  state-past old new fs x i j h k = record { frames = h.frames; ready = h.ready; searched = further h.searched; gains = h.gains; within = h.within }
+    where
+      cut_place : (p : ℕ) → (p < i) ⊎ (i ≤ p)
+      cut_place p = grind arith
+
+      here : AreSearched w a fs x i new.terms → AreSearched w a fs x j new.terms
+      here m p l u c z r = elim (cut_place p) [ inl b ↦ m p b u c z r | inr b ↦ k.known p b l u c z r ]
+
+      further : IsSearched w a root new.terms fs x i → IsSearched w a root new.terms fs x j
+      further (at_root e q m) = at_root e q (here m)
+      further (below hs g e c u m) = below hs g e c u (here m)
 
   -- down to a child
   pub state-down : (old new : Found) (fs gs : List Frame) (x y : Tree) (i p : ℕ) → IsState w a root old new fs x i → (s : Step) → IsStep w a x i s → gs ≡ fs ++ record { parent = x; index = s.index } ∷ [] → y ≡ s.inner → IsState w a root old new gs y 0

@@ -1,13 +1,21 @@
 -- The terms that were found: each once, with their weight.
 use Rattle.std.specs.BTreeSet.{contains}
 use Rattle.std.specs.Ordering.{is_eq}
-use Rattle.std.specs.Prelude.{◌+◌, ◌<◌, ◌≤◌, Bool, true, false, List, [], ◌∷◌, ◌++◌, ◌≡◌, ◌||◌, ◌⊎◌, refl, min, nat_le, not}
+use Rattle.std.specs.Prelude.{◌+◌, ◌<◌, ◌≤◌, Bool, true, false, List, [], ◌∷◌, ◌++◌, ◌≡◌, ◌||◌, ◌⊎◌, refl, min, nat_le, nat_eq, not, Some, None}
 use Rattle.std.proofs.Common.{ap, sym, ◌∙◌, subst, arith, cond, inl, inr, append-nil}
 use Rattle.std.proofs.lemmas.Bool.Decides.{nat_tests}
 use Rattle.chart_term.specs.Equality.{same_tree}
 use Rattle.chart_term.specs.Facts.{most_stored}
 use Rattle.chart_term.specs.Order.{tree_cmp}
-use Rattle.chart_term.specs.Terms.{Tree, weight}
+use Rattle.chart_term.specs.TermPatterns.{Both}
+use Rattle.permit_step.proofs.TermSets.{among_seen, rising_different, same_weight, seen_among}
+use Rattle.std.specs.HashMap.{get}
+use Rattle.std.specs.Map.{lookup}
+use Rattle.msc_base.specs.Patterns.{par}
+use Rattle.chart_term.specs.NormalForms.{begun}
+use Rattle.chart_term.specs.Terms.{Tree, Join, trees, Part, weight}
+use Rattle.permit_step.specs.AllAfter.{AreRising}
+use Rattle.permit_step.specs.Knowns.{AreKnown}
 use Rattle.chart_term.proofs.Equal.{same_tree_is_exact}
 use Rattle.chart_term.proofs.Distinct.{same_by_order}
 use Rattle.term_laws.specs.Listing.{set_weight}
@@ -87,14 +95,22 @@ listed_snoc xs t y h = listed_more xs t y ∙ go (same_tree t y) refl
         ap (λ b. is_listed y xs || b) e ∙ both (is_listed y xs) (ap (λ z. is_listed z xs) (sym same) ∙ h)
     go false e = ap (λ b. is_listed y xs || b) e ∙ none (is_listed y xs)
 
+-- what is known stays known
+among_more : (xs : List Tree) (t z : Tree) → IsAmong xs z → IsAmong (xs ++ t ∷ []) z
+among_more [] t z h = absurd h
+among_more (x ∷ xs) t z (inl e) = inl e
+among_more (x ∷ xs) t z (inr h) = inr (among_more xs t z h)
+
 -- a new term
-pub added-new : (old new : Found) (t key : Tree) (all : Bool) → IsTally old → set_weight old.terms ≤ old.most → key ≡ t → contains tree_cmp old.seen key ≡ false → ((y : Tree) → contains tree_cmp new.seen y ≡ cond (is_eq (tree_cmp key y)) true (contains tree_cmp old.seen y))
+pub added-new : (old new : Found) (t key : Tree) (all : Bool) → IsTally old → set_weight old.terms ≤ old.most → ((zs : List Tree) → AreKnown old.known zs → IsAmong zs t → AreKnown new.known zs) → AreRising new.seen.keys → key ≡ t → contains tree_cmp old.seen key ≡ false → ((y : Tree) → contains tree_cmp new.seen y ≡ cond (is_eq (tree_cmp key y)) true (contains tree_cmp old.seen y))
     → new.terms ≡ old.terms ++ t ∷ [] → new.weight ≡ min (old.weight + min (weight t) most_stored) most_stored → new.most ≡ old.most → all ≡ nat_le new.weight new.most → AddsOne t old new all
-added-new old new t key all h within e free seen terms heavy most test = record {
+added-new old new t key all h within noted rises e free seen terms heavy most test = record {
   gains = record {
     tally = record {
       different = subst (λ (xs : List Tree). AreDifferent xs) (sym terms) (different_snoc old.terms t h.different unlisted);
       index = λ y. seen_snoc old.terms t key y (contains tree_cmp old.seen y) (contains tree_cmp new.seen y) e (seen y) (h.index y) ∙ ap (is_listed y) (sym terms);
+      known = noted new.terms (λ c ps g. subst (λ (xs : List Tree). IsAmong xs (Join par (trees (begun ps)))) (sym terms) (among_more old.terms t (Join par (trees (begun ps))) (h.known c ps g))) there;
+      rising = rises;
       weight = weighs;
       most = omega (arith, h.most);
     };
@@ -103,13 +119,16 @@ added-new old new t key all h within e free seen terms heavy most test = record 
     are = terms;
     each = (refl, tt);
   };
-  among = subst (λ (xs : List Tree). IsAmong xs t) (sym terms) (among_snoc old.terms t);
+  among = there;
   bounded = record {
     within = λ a. low a;
     beyond = λ a. record { prefix = old.terms; last = t; are = terms; below = omega arith; above = high a };
   };
 }
   where
+    there : IsAmong new.terms t
+    there = subst (λ (xs : List Tree). IsAmong xs t) (sym terms) (among_snoc old.terms t)
+
     unlisted : is_listed t old.terms ≡ false
     unlisted = ap (λ y. is_listed y old.terms) (sym e) ∙ (sym (h.index key) ∙ free)
 
@@ -127,12 +146,14 @@ added-new old new t key all h within e free seen terms heavy most test = record 
 
 -- a term that was found before
 pub added-met : (old new : Found) (t key : Tree) → IsTally old → set_weight old.terms ≤ old.most → key ≡ t → contains tree_cmp old.seen key ≡ true → ((y : Tree) → contains tree_cmp new.seen y ≡ cond (is_eq (tree_cmp key y)) true (contains tree_cmp old.seen y))
-    → new.terms ≡ old.terms → new.weight ≡ old.weight → new.most ≡ old.most → AddsOne t old new true
-added-met old new t key h within e met seen terms heavy most = record {
+    → new.known ≡ old.known → AreRising new.seen.keys → new.terms ≡ old.terms → new.weight ≡ old.weight → new.most ≡ old.most → AddsOne t old new true
+added-met old new t key h within e met seen known rises terms heavy most = record {
   gains = record {
     tally = record {
       different = subst (λ (xs : List Tree). AreDifferent xs) (sym terms) h.different;
       index = λ y. seen_snoc old.terms t key y (contains tree_cmp old.seen y) (contains tree_cmp new.seen y) e (seen y) (h.index y) ∙ (listed_snoc old.terms t y there ∙ ap (is_listed y) (sym terms));
+      known = λ c ps g. subst (λ (xs : List Tree). IsAmong xs (Join par (trees (begun ps)))) (sym terms) (h.known c ps (ap (λ m. get nat_eq m c) (sym known) ∙ g));
+      rising = rises;
       weight = heavy ∙ (h.weight ∙ ap (λ xs. min (set_weight xs) most_stored) (sym terms));
       most = omega (arith, h.most);
     };
@@ -156,12 +177,36 @@ pub not-false : (b : Bool) → not b ≡ false → b ≡ true
 not-false true h = refl
 not-false false h = cc
 
-pub tally-none : (f : Found) → f.terms ≡ [] → ((x : Tree) → contains tree_cmp f.seen x ≡ false) → f.weight ≡ 0 → f.most < most_stored → IsTally f
-tally-none f h g e l = record {
+pub tally-none : (f : Found) → f.terms ≡ [] → ((x : Tree) → contains tree_cmp f.seen x ≡ false) → f.seen.keys ≡ [] → f.known.entries ≡ [] → f.weight ≡ 0 → f.most < most_stored → IsTally f
+tally-none f h g s k e l = record {
   different = subst (λ (xs : List Tree). AreDifferent xs) (sym h) tt;
   index = λ x. g x ∙ sym (ap (is_listed x) h);
+  known = λ c ps q. absurd (none_some ps (ap (λ l. lookup (nat_eq c) l) (sym k) ∙ q));
+  rising = subst (λ (xs : List Tree). AreRising xs) (sym s) tt;
   weight = let p = ap set_weight h in omega arith;
   most = l;
 }
+  where
+    none_some : (ps : List Part) → None ≡ Some ps → ⊥
+    none_some ps q = cc
+
+-- the sorted terms are those that were found
+pub seen_listed : (f : Found) → IsTally f → (y : Tree) → Both (IsAmong f.seen.keys y) (IsAmong f.terms y)
+seen_listed f h y = record {
+  to = λ i. among_listed f.terms y (sym (h.index y) ∙ among_seen f.seen.keys y i);
+  from = λ i. seen_among f.seen.keys y (h.index y ∙ listed_among f.terms y i);
+}
+  where
+    listed_among : (xs : List Tree) (t : Tree) → IsAmong xs t → is_listed t xs ≡ true
+    listed_among [] t i = absurd i
+    listed_among (x ∷ xs) t (inl e) = ap (λ b. b || is_listed t xs) (same_tree_is_exact.whole x t (sym e))
+    listed_among (x ∷ xs) t (inr i) = ap (λ b. same_tree x t || b) (listed_among xs t i) ∙ both (same_tree x t)
+      where
+        both : (b : Bool) → (b || true) ≡ true
+        both true = refl
+        both false = refl
+
+pub seen_weighs : (f : Found) → IsTally f → set_weight f.seen.keys ≡ set_weight f.terms
+seen_weighs f h = same_weight f.seen.keys f.terms (rising_different f.seen.keys h.rising) h.different (λ y i. (seen_listed f h y).to i) (λ y i. (seen_listed f h y).from i)
 
 pub ruleset tallying = (set_weight-snoc, tally-none)

@@ -5,3 +5,4 @@ pub mod Skips
 pub mod AllAfter
 pub mod Gatherings
 pub mod Kept
+pub mod Knowns

@@ -14,12 +14,14 @@ use Rattle.chart_term.specs.TermPatterns.{instances_of}
 use Rattle.chart_term.specs.Terms.{TermEvent, has, Tree, Nil, Event, Join, Choice, Tied, Loop, Walk, items, Part, Gap, Turn, parts}
 use Rattle.chart_term.specs.Views.{event_of}
 use Rattle.permit_step.specs.Children.{child, put}
+use Rattle.permit_step.specs.Knowns.{AreKnown}
 use Rattle.term_laws.specs.Listing.{set_weight}
 use Rattle.msc_base.specs.Lists.{IsAmong}
 use Rattle.term_laws.specs.Normality.{AreDifferent}
 use Rattle.term_laws.specs.Permission.{permits_of}
 use Rattle.term_permission.specs.Ready.{IsReady}
 use Rattle.term_permission.specs.RowRests.{RowRest, turn_before, gap_before}
+use Rattle.permit_step.specs.AllAfter.{AreRising}
 use Rattle.permit_step.specs.Successors.{IsJustAbove}
 use Rattle.term_laws.specs.Taking.{IsAfter}
 use Rattle.permit_step.specs.declared.ascent.Frame.{Frame}
@@ -86,10 +88,13 @@ pub record IsResult (w : Tables) (a : ℕ) (fs : List Frame) (x z : Tree) : Type
 abbrev pub is_listed : Tree → List Tree → Bool
 is_listed x ys = list_any (λ y. same_tree y x) ys
 
--- what holds of the terms that were found: each once, all of them in the index, and their weight is kept
+-- what holds of the terms that were found: each once, all of them in the index, what is known by codes among them, and their weight
+-- is kept
 pub record IsTally (f : Found) : Type 0 where
   pub different : AreDifferent f.terms
   pub index : (x : Tree) → contains tree_cmp f.seen x ≡ is_listed x f.terms
+  pub known : AreKnown f.known f.terms
+  pub rising : AreRising f.seen.keys
   pub weight : f.weight ≡ min (set_weight f.terms) most_stored
   pub most : f.most < most_stored
 
@@ -141,6 +146,11 @@ IsNext w a x from (Some s) = IsStep w a x from s
 -- what is left after events of the children before an index is among the terms
 abbrev pub AreSearched : Tables → ℕ → List Frame → Tree → ℕ → List Tree → Type 0
 AreSearched w a fs x i zs = (p : ℕ) → p < i → (y : Tree) → child (permits_of w) x p ≡ Some y → (z : Tree) → IsResult w a (fs ++ record { parent = x; index = p } ∷ []) y z → IsAmong zs z
+
+-- from one index to another of the term to which the path leads, what is left after events of the children is among the terms
+pub record SkipsKnown (w : Tables) (a : ℕ) (fs : List Frame) (x : Tree) (from : ℕ) (zs : List Tree) (to : ℕ) : Type 0 where
+  pub behind : from ≤ to
+  pub known : (p : ℕ) → from ≤ p → p < to → (y : Tree) → child (permits_of w) x p ≡ Some y → (z : Tree) → IsResult w a (fs ++ record { parent = x; index = p } ∷ []) y z → IsAmong zs z
 
 -- a search has come to this index of the term to which the path leads from the root
 pub data IsSearched (w : Tables) (a : ℕ) (root : Tree) (zs : List Tree) : List Frame → Tree → ℕ → Type 0 where

@@ -11,6 +11,7 @@ ghost use Rattle.term_laws.specs.Placing.{HaveOnePlace};
 ghost use Rattle.term_tables.specs.NetValues.{label_number};
 
 use crate::found::Found;
+use crate::gathered::Gathered;
 use crate::search::search;
 use chart_term::TermList;
 use msc_base::NoMemory;
@@ -42,7 +43,7 @@ fn search_each(
     Ok(true)
 }
 
-/// What is left of any of the terms after an event with the label that has this number in the tables: each such term once. There
+/// What is left of any of the terms after an event with the label that has this number in the tables: each such term once, in their order. There
 /// is none where together they weigh more than `most`. Of each term events of one label have the same instances, which lets a search end
 /// where a part that comes first holds back what it looks for.
 pub fn after_each(
@@ -51,7 +52,7 @@ pub fn after_each(
     terms: &TermList,
     number: u32,
     most: u64,
-) -> Result<Option<TermList>, NoMemory>
+) -> Result<Option<Gathered>, NoMemory>
     requires tables { AreReadyTables nets.now.tables }
     requires terms { Each (IsReady nets.now.tables) terms.now }
     requires placed { Each (HaveOnePlace nets.now.tables) terms.now }
@@ -63,6 +64,6 @@ pub fn after_each(
     if !search_each(alloc, nets, number, terms, &mut found)? {
         return Ok(None);
     }
-    let Found { terms, .. } = found;
-    Ok(Some(terms))
+    let Found { seen, weight, .. } = found;
+    Ok(Some(Gathered::of(seen, weight)))
 }

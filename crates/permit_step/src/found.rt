@@ -1,15 +1,18 @@
 //! The terms that a search found, each once, and their weight, above which the search ends: for `search`.
 
 ghost use Rattle.std.specs.Prelude.{◌≡◌, ◌<◌, ◌≤◌, ◌++◌, List, [], IfOk, OnOk, OnErr};
+ghost use Rattle.msc_base.specs.Lists.{IsAmong};
 ghost use Rattle.chart_term.specs.Facts.{most_stored};
 ghost use Rattle.chart_term.specs.Terms.{Tree};
 ghost use Rattle.term_laws.specs.Listing.{set_weight};
+ghost use Rattle.permit_step.specs.Knowns.{AreKnown};
 ghost use Rattle.permit_step.specs.Searches.{AddsOne, IsTally};
 
-use chart_term::{Term, TermList};
+use crate::coded::CodedTerm;
+use chart_term::{Look, PartList, Term, TermList};
 use msc_base::NoMemory;
 use std::alloc::Global;
-use std::collections::BTreeSet;
+use std::collections::{BTreeSet, HashMap};
 
 /// The terms that a search has found, each once.
 #[derive(Drop)]
@@ -17,11 +20,23 @@ pub(crate) struct Found {
     /// The terms in the order in which they were found.
     pub(crate) terms: TermList,
     /// The same terms, sorted.
-    pub(crate) seen: BTreeSet<Term>,
+    pub(crate) seen: BTreeSet<CodedTerm>,
+    /// The parts of those terms that are parts side by side, by the codes of the terms: of each code those that came last.
+    pub(crate) known: HashMap<u64, PartList>,
     /// The sum of their weights, or the largest `u64` where it is larger.
     pub(crate) weight: u64,
     /// Above which weight the search ends.
     pub(crate) most: u64,
+}
+
+/// Notes the parts of the term, where it is parts side by side.
+fn note(alloc: Global, known: &mut HashMap<u64, PartList>, term: &Term) -> Result<(), NoMemory>
+    ensures { OnOk result ((zs : List Tree) → AreKnown known.old zs → IsAmong zs term.now → AreKnown known.new zs) }
+{
+    if let Look::Par(parts) = term.look() {
+        known.insert(term.facts().code, parts.copy(alloc)?)?;
+    }
+    Ok(())
 }
 
 impl Found {
@@ -36,6 +51,7 @@ impl Found {
         Found {
             terms: TermList::new(alloc),
             seen: BTreeSet::new(alloc),
+            known: HashMap::new(alloc),
             weight: 0,
             most,
         }
@@ -48,10 +64,11 @@ impl Found {
         requires within { set_weight self.old.terms ≤ self.old.most }
         ensures { IfOk result (λ all. AddsOne term self.old self.new all) }
     {
-        if !self.seen.insert(term.copy(alloc)?)? {
+        if !self.seen.insert(CodedTerm::new(term.copy(alloc)?))? {
             return Ok(true);
         }
         self.weight = self.weight.saturating_add(term.weight());
+        note(alloc, &mut self.known, &term)?;
         self.terms.push(term)?;
         Ok(self.weight <= self.most)
     }

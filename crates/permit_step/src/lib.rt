@@ -6,10 +6,14 @@
 
 mod all_after;
 mod ascent;
+mod coded;
 mod descent;
 mod found;
+mod gathered;
+mod known;
 mod search;
 mod successors;
 
 pub use all_after::after_each;
+pub use gathered::Gathered;
 pub use successors::{after, after_number};

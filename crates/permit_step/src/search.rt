@@ -14,6 +14,7 @@ ghost use Rattle.permit_step.specs.Skips.{IsMetAt};
 use crate::ascent::{Frame, Taken, rebuilt};
 use crate::descent::{behind, next_child};
 use crate::found::Found;
+use crate::known::past_known;
 use bit_sets::Block;
 use chart_term::{Event, Look, Term};
 use msc_base::NoMemory;
@@ -44,7 +45,8 @@ pub(crate) fn search(
     let mut next = 0;
     let mut met = None;
     'search: loop {
-        match next_child(alloc, nets, label, &here, next, &met, one_place)? {
+        let from = past_known(nets, label, &here, next, &path, found);
+        match next_child(alloc, nets, label, &here, from, &met, one_place)? {
             Some(step) => {
                 path.push(Frame {
                     parent: here,

@@ -9,7 +9,7 @@ use Rattle.term_laws.specs.Listing.{set_weight}
 use Rattle.trace_judge.specs.Gathers.{JoinsAll}
 use Rattle.trace_judge.specs.Logs.{AreResiduals}
 use Rattle.trace_judge.specs.Sets.{SetValue, IsSoundFor, IsServing, IsLeftOf, AreSuccessors, AreRising, IsNextSet}
-use Rattle.trace_judge.proofs.Lists.{rising_different, each_at, each_from}
+use Rattle.permit_step.proofs.TermSets.{rising_different, each_at, each_from}
 use Rattle.trace_judge.proofs.SetLaws.{set_step, stays_sound}
 use Rattle.residual_pool.specs.Memories.{PoolValue, set_at, IsMove, IsSetFor, IsPoolFor, held_set, held_terms, Remembers, AreNext}
 use Rattle.residual_pool.specs.declared.pool.Held.TheVariants.{Remembered}

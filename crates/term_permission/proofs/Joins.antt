@@ -5,7 +5,10 @@ use Rattle.std.proofs.Common.{ap, sym, ◌∙◌, subst, arith, append_assoc, ap
 use Rattle.msc_base.specs.Patterns.{Mode, seq, par}
 use Rattle.chart_term.specs.NormalForms.{NetPermits, and_then, begun, flat, has_gap, open_part}
 use Rattle.chart_term.specs.Properties.{Each, EachTurn}
-use Rattle.chart_term.specs.Terms.{Block, Tree, Join, trees, Part, Gap, Turn}
+use Rattle.chart_term.specs.Rows.{part_of, parts_of}
+use Rattle.chart_term.specs.Terms.{Block, Tree, Nil, Join, trees, Part, Gap, Turn}
+use Rattle.chart_term.specs.declared.term.RowPart.{RowPart}
+use Rattle.std.proofs.lemmas.List.{map-append, take-map, drop-map}
 use Rattle.chart_term.proofs.Lists.{items-trees, take_step}
 use Rattle.chart_term.proofs.Turns.{begun-append, gap-append}
 use Rattle.term_permission.specs.Lefts.{and_app, opened_left}
@@ -145,6 +148,23 @@ opened-here seq seq x ps qs q e h = ap begun h ∙ sym (ap (open_part seq) e ∙
 opened-here par par x ps qs q e h = ap begun h ∙ sym (ap (open_part par) e ∙ items-trees (begun ps))
 opened-here seq par x ps qs q e h = cc
 opened-here par seq x ps qs q e h = cc
+
+-- the parts of a leaf but for one of them
+module _ (ps new : List Part) (held : List RowPart) (i : ℕ) (e : ps ≡ parts_of held) (is : new ≡ parts_of (take i held ++ drop (i + 1) held)) where
+  pub others : new ≡ take i ps ++ drop (i + 1) ps
+  others = is ∙ (map-append part_of (take i held) (drop (i + 1) held) ∙ (λ k. front k ++ back k))
+    where
+      front : parts_of (take i held) ≡ take i ps
+      front = sym (ap (take i) e ∙ take-map part_of i held)
+
+      back : parts_of (drop (i + 1) held) ≡ drop (i + 1) ps
+      back = sym (ap (drop (i + 1)) e ∙ drop-map part_of (i + 1) held)
+
+  pub others-turns : has_gap ps ≡ false → has_gap new ≡ false
+  others-turns t = ap has_gap others ∙ turns-both (take i ps) (drop (i + 1) ps) (turns-take ps i t) (turns-drop ps (i + 1) t)
+
+  pub others-begun : (m : Mode) (x : Tree) → x ≡ Nil → begun new ≡ begun (take i ps) ++ (open_part m x ++ begun (drop (i + 1) ps))
+  others-begun m x n = ap begun others ∙ (begun-append (take i ps) (drop (i + 1) ps) ∙ ap (λ l. begun (take i ps) ++ (l ++ begun (drop (i + 1) ps))) (sym (ap (open_part m) n)))
 
 -- what holds of a result
 pub ok-as : {A E : Type 0} (P Q : A → Type 0) (r : Result A E) → ((x : A) → P x → Q x) → IfOk r P → IfOk r Q

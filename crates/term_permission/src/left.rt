@@ -1,12 +1,13 @@
 //! What permission leaves of a term, and of the parts of a join: what stays as it is isn't made anew. For `permission` and permit_step.
 
-ghost use Rattle.std.specs.Prelude.{◌≡◌, ◌++◌, ◌+◌, ◌<◌, ◌∷◌, List, Option, None, Some, [], IfOk, drop, length, true, false};
+ghost use Rattle.std.specs.Prelude.{◌≡◌, ◌++◌, ◌+◌, ◌<◌, ◌∷◌, List, Option, None, Some, [], IfOk, drop, take, length, true, false};
 ghost use Rattle.chart_term.specs.NormalForms.{begun, open_part};
 ghost use Rattle.chart_term.specs.PartLists.{AreTurns};
+ghost use Rattle.chart_term.specs.Rows.{parts_of};
 ghost use Rattle.chart_term.specs.Terms.{Tree, Part};
 ghost use Rattle.term_permission.specs.Lefts.{left_of, mode_of, and_app, ArePartsLeft, IsKept, IsOpened, IsSame};
 
-use chart_term::{Look, PartList, RowPart, Term};
+use chart_term::{Look, PartList, PartLook, RowPart, Term, push_copies};
 use msc_base::NoMemory;
 use std::alloc::Global;
 
@@ -209,4 +210,38 @@ pub fn replaced(
     let front = PartList::concat(alloc, before, &opened)?;
     let whole = PartList::concat(alloc, &front, &behind)?;
     Ok(whole)
+}
+
+/// The parts but for that of the index, as one list.
+fn without(alloc: Global, parts: &[RowPart], index: usize) -> Result<PartList, NoMemory>
+    requires { index < length parts.now }
+    ensures { IfOk result (λ list. list ≡ parts_of (take index parts.now ++ drop (index + 1) parts.now)) }
+{
+    let mut others = Vec::with_capacity(alloc, parts.len())?;
+    push_copies(alloc, &parts[..index], &mut others)?;
+    push_copies(alloc, &parts[index + 1..], &mut others)?;
+    PartList::from_vec(alloc, others)
+}
+
+/// The parts, where that of the index is replaced by what it leaves. Where it leaves nothing and the parts are one leaf, they are copied
+/// once.
+pub fn put_in(
+    alloc: Global,
+    joint: Joint,
+    left: &Term,
+    parts: &PartList,
+    index: usize,
+) -> Result<PartList, NoMemory>
+    requires turns { AreTurns parts.now }
+    requires index { index < length parts.now }
+    ensures turns { IfOk result (λ whole. AreTurns whole) }
+    ensures whole { IfOk result (λ whole. begun whole ≡ begun (take index parts.now) ++ (open_part (mode_of joint) left.now ++ begun (drop (index + 1) parts.now))) }
+{
+    match (left.look(), parts.look()) {
+        (Look::Nil, PartLook::Leaf(items)) => without(alloc, items, index),
+        _ => {
+            let before = parts.front(alloc, index)?;
+            replaced(alloc, joint, &before, left, parts, index)
+        }
+    }
 }

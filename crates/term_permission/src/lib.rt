@@ -24,7 +24,7 @@ pub use asking::{ask_parts, ask_term};
 pub use blocks::widened;
 pub use finishes::may_end;
 pub use fresh::{fresh_loop, fresh_walk};
-pub use left::{Joint, Left, PartsLeft, kept, replaced};
+pub use left::{Joint, Left, PartsLeft, kept, put_in, replaced};
 pub use loops::loop_end;
 pub use parts::{LoopBlock, LoopParts, WalkParts};
 pub use permission::{keep_parts, permit, permit_parts, permit_term, widened_walk};

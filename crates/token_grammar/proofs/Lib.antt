@@ -5,6 +5,7 @@ pub mod Eaches
 pub mod Eithers
 pub mod Exact
 pub mod Factors
+pub mod FirstNames
 pub mod Flats
 pub mod Items
 pub mod LevelFree

@@ -1,15 +1,13 @@
 -- The readers of the small productions are exact.
-use Rattle.std.proofs.Common.{ℕ, ◌≡◌, ◌++◌, true, false, not, inl, inr, List, [], ◌∷◌, Option, refl, sym, ap, codes}
+use Rattle.std.proofs.Common.{ℕ, ◌≡◌, ◌++◌, true, List, [], ◌∷◌, Option, refl, sym, ap, codes}
 use Rattle.msc_tokens.specs.declared.token.Token.{Token}
-use Rattle.std.proofs.lemmas.Bool.{or_cases, and_parts}
+use Rattle.std.proofs.lemmas.Bool.{and_parts}
 use Rattle.std.specs.List.{list_all}
 use Rattle.std.proofs.lemmas.List.Folds.{list_all-append}
-use Rattle.msc_base.specs.Names.{IsName}
-use Rattle.token_grammar.specs.Classes.{string, name_but, token_of, fits, differ, is_name, is_one_of}
-use Rattle.token_grammar.proofs.Classes.{name_decides}
-use Rattle.token_grammar.specs.Languages.{Set, any_fits, Read, among, apart, just, names, names_or_strings, numbers, seq_at, map_at}
+use Rattle.token_grammar.specs.Classes.{string, token_of, differ}
+use Rattle.token_grammar.specs.Languages.{Set, Read, among, apart, just, names, names_or_strings, numbers, seq_at, map_at}
 use Rattle.token_grammar.specs.Grammars.{Grammar}
-use Rattle.token_grammar.specs.Parts.{name, placed_name, other_leads, leads, lead, digits, mark, kept, dropped, all_or_none, placed, ending, all_of, separated, name_list}
+use Rattle.token_grammar.specs.Parts.{name, placed_name, leads, lead, digits, mark, kept, dropped, all_or_none, placed, ending, all_of, separated, name_list}
 use Rattle.token_grammar.specs.Messages.{item, parameters, Message, message}
 use Rattle.token_grammar.specs.PartReaders.{name_at, placed_name_at, lead_at, placed_at, digits_at, mark_at, ending_at, separated_at, name_list_at, item_at, parameters_at, pairing_at, list_at, message_at}
 use Rattle.token_grammar.proofs.Eaches.{last}
@@ -17,14 +15,6 @@ use Rattle.token_grammar.proofs.Lists.{apart_none}
 use Rattle.token_grammar.proofs.Flats.{rule_by}
 use Rattle.token_grammar.proofs.Rules.{Law, Rule, word_law, word_rule, seq_law, seq_rule, as_law, as_rule, chain_law, chain_rule}
 use Rattle.token_grammar.proofs.Optionals.{none, optional_rule, behind_law, behind_rule, bytes_law, bytes_rule, regrouped}
-
--- a lead is a name
-pub lead_is_name : (bytes : List ℕ) → any_fits leads bytes ≡ true → IsName bytes
-lead_is_name bytes e =
-    elim (or_cases (fits (name_but other_leads) bytes) false e) [
-      | inl h ↦ (name_decides bytes).0 (and_parts (is_name bytes) (not (is_one_of other_leads bytes)) h).0
-      | inr h ↦ cc
-    ]
 
 -- without levels, the rule has the law
 pub law_by : {A : Type 0} {R : Grammar A} {F : Set} {C : A → Set} {p : List Token → Read A} → ((n : ℕ) → Rule (λ m. R) n F C p) → (n : ℕ) → Law (λ m. R) n F C

@@ -1,14 +1,12 @@
 //! Names that may lead a statement, so no words that begin another one: for statements (msc_document) and `parts`.
 
-ghost use Rattle.std.specs.Prelude.{◌≡◌, ◌↔◌, IsTrue, IfOk};
-ghost use Rattle.msc_base.specs.Names.{IsName};
+ghost use Rattle.std.specs.Prelude.{◌≡◌, ◌↔◌, IsTrue};
 ghost use Rattle.msc_base.specs.Lists.{IsAmong};
-ghost use Rattle.token_grammar.specs.Answers.{Gives};
 ghost use Rattle.token_grammar.specs.Classes.{is_one_of};
-ghost use Rattle.token_grammar.specs.Languages.{among, starts, word_at};
+ghost use Rattle.token_grammar.specs.Languages.{among, starts};
 ghost use Rattle.token_grammar.specs.Parts.{leads, other_leads};
 
-use crate::readers::{ReadFault, is_name_token};
+use crate::readers::is_name_token;
 use msc_base::is_text;
 use msc_tokens::Token;
 
@@ -33,7 +31,7 @@ pub fn is_other_lead(bytes: &[u8]) -> bool
 }
 
 /// Whether the token is a word that begins another statement.
-fn is_other_token(token: &Token) -> bool
+pub fn is_other_token(token: &Token) -> bool
     ensures { result ≡ is_one_of other_leads token.now.bytes }
 {
     is_other_lead(token.bytes.bytes())
@@ -53,22 +51,5 @@ pub fn starts_with_lead(tokens: &[Token]) -> bool
     match tokens.split_first() {
         Some((first, _)) => is_lead_token(first),
         None => false,
-    }
-}
-
-/// The first token, where it is a name that may stand left of a statement's colon, and those behind it.
-pub fn lead(tokens: &[Token]) -> Result<(&Token, &[Token]), ReadFault>
-    ensures token { Gives (λ x. (x.0.now, x.1.now)) result (word_at leads tokens.now) }
-    ensures name { IfOk result (λ x. IsName x.0.now.bytes) }
-{
-    match tokens.split_first() {
-        Some((first, rest)) => {
-            if is_lead_token(first) {
-                Ok((first, rest))
-            } else {
-                Err(ReadFault::Refused(tokens.len()))
-            }
-        }
-        None => Err(ReadFault::Refused(0)),
     }
 }

@@ -14,7 +14,7 @@ mod readers;
 
 pub use fault::{ParseFault, form_of, refusal};
 pub use laws::one_word;
-pub use leads::{is_other_lead, lead, starts_with_lead};
+pub use leads::{is_other_lead, starts_with_lead};
 pub use messages::{MessageParts, item, message, parameters};
 pub use parts::{ending, more_names, name_of, names, own_name, own_text, placed_lead, placed_name};
 pub use readers::{

@@ -67,8 +67,7 @@ fn items(alloc: Global, tokens: &[Token]) -> Result<(Words, &[Token]), ReadFault
     ensures { Gives (λ x. (x.0, x.1.now)) result (items_at tokens.now) }
 {
     let (first, rest) = item(alloc, tokens)?;
-    let mut items = Items::new(alloc);
-    items.push(first)?;
+    let items = Items::one(alloc, first)?;
     more_items(alloc, rest, items)
 }
 

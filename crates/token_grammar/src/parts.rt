@@ -3,11 +3,12 @@
 ghost use Rattle.std.specs.Prelude.{◌≡◌, [], ◌∷◌, ◌++◌, length, IfOk};
 ghost use Rattle.msc_base.specs.Names.{IsName};
 ghost use Rattle.token_grammar.specs.Answers.{Gives};
+ghost use Rattle.token_grammar.specs.Languages.{names, word_at};
 ghost use Rattle.token_grammar.specs.PartReaders.{name_at, placed_name_at, lead_at, ending_at, comma_name_at, more_names_at, name_list_at};
 
-use crate::leads::lead;
+use crate::leads::is_other_token;
 use crate::readers::{ReadFault, name, starts_with, string, word};
-use msc_base::{Items, Name, Names, NoMemory, Place, Text};
+use msc_base::{Items, Name, NameRefused, Names, NoMemory, Place, Text};
 use msc_tokens::Token;
 use std::alloc::Global;
 
@@ -22,12 +23,26 @@ pub fn name_of(alloc: Global, token: &Token) -> Result<Name, NoMemory>
     }
 }
 
+/// The first token, where it is a name, as a name of its own and as it stands, and those behind it.
+fn taken_name(alloc: Global, tokens: &[Token]) -> Result<(Name, &Token, &[Token]), ReadFault>
+    ensures token { Gives (λ x. (x.1.now, x.2.now)) result (word_at names tokens.now) }
+    ensures name { IfOk result (λ x. x.0 ≡ x.1.now.bytes) }
+{
+    match tokens.split_first() {
+        Some((first, rest)) => match Name::from_bytes(alloc, first.bytes.bytes()) {
+            Ok(name) => Ok((name, first, rest)),
+            Err(NameRefused::NotAName) => Err(ReadFault::Refused(tokens.len())),
+            Err(NameRefused::NoMemory) => Err(ReadFault::NoMemory),
+        },
+        None => Err(ReadFault::Refused(0)),
+    }
+}
+
 /// The first token, where it is a name, as a name of its own, and those behind it.
 pub fn own_name(alloc: Global, tokens: &[Token]) -> Result<(Name, &[Token]), ReadFault>
     ensures { Gives (λ x. (x.0, x.1.now)) result (name_at tokens.now) }
 {
-    let (token, rest) = name(tokens)?;
-    let name = name_of(alloc, token)?;
+    let (name, _token, rest) = taken_name(alloc, tokens)?;
     Ok((name, rest))
 }
 
@@ -43,8 +58,7 @@ pub fn own_text(alloc: Global, tokens: &[Token]) -> Result<(Text, &[Token]), Rea
 pub fn placed_name(alloc: Global, tokens: &[Token]) -> Result<(Name, Place, &[Token]), ReadFault>
     ensures { Gives (λ x. ((x.0, x.1), x.2.now)) result (placed_name_at tokens.now) }
 {
-    let (token, rest) = name(tokens)?;
-    let name = name_of(alloc, token)?;
+    let (name, token, rest) = taken_name(alloc, tokens)?;
     Ok((name, token.place, rest))
 }
 
@@ -52,9 +66,16 @@ pub fn placed_name(alloc: Global, tokens: &[Token]) -> Result<(Name, Place, &[To
 pub fn placed_lead(alloc: Global, tokens: &[Token]) -> Result<(Name, Place, &[Token]), ReadFault>
     ensures { Gives (λ x. ((x.0, x.1), x.2.now)) result (lead_at tokens.now) }
 {
-    let (token, rest) = lead(tokens)?;
-    let name = name_of(alloc, token)?;
-    Ok((name, token.place, rest))
+    match tokens.split_first() {
+        Some((first, _)) => {
+            if is_other_token(first) {
+                Err(ReadFault::Refused(tokens.len()))
+            } else {
+                placed_name(alloc, tokens)
+            }
+        }
+        None => Err(ReadFault::Refused(0)),
+    }
 }
 
 /// The end of a statement: a semicolon, with or without a comment (Z.120, clause 2.3).
@@ -109,7 +130,6 @@ pub fn names(alloc: Global, tokens: &[Token]) -> Result<(Names, &[Token]), ReadF
     ensures { Gives (λ x. (x.0, x.1.now)) result (name_list_at tokens.now) }
 {
     let (first, rest) = own_name(alloc, tokens)?;
-    let mut names = Items::new(alloc);
-    names.push(first)?;
+    let names = Items::one(alloc, first)?;
     more_names(alloc, rest, names)
 }

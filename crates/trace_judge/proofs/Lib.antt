@@ -1,5 +1,4 @@
 mod Prefixes
-pub mod Lists
 mod Lefts
 pub mod SetLaws
 pub mod RunLaws

@@ -23,7 +23,7 @@ use Rattle.trace_judge.specs.Logs.{AreResiduals}
 use Rattle.trace_judge.specs.Sets.{IsSoundFor, IsLeftOf, AreSuccessors, PassBudget}
 use Rattle.trace_judge.specs.Gathers.{IsOver}
 use Rattle.trace_judge.proofs.Lefts.{one_more, last_one, stopped, left_more, left_last, left_start, left_itself}
-use Rattle.trace_judge.proofs.Lists.{lighter, same_weight}
+use Rattle.permit_step.proofs.TermSets.{lighter, same_weight}
 
 -- Sets after labels
 

@@ -1,10 +1,8 @@
 -- Sets of residual terms, and how one event changes them.
-use Rattle.std.specs.Prelude.{ℕ, ◌≡◌, ◌≤◌, ◌<◌, ◌⊎◌, Bool, true, false, List, [], ◌∷◌, length}
+use Rattle.std.specs.Prelude.{ℕ, ◌≡◌, ◌≤◌, ◌<◌, ◌⊎◌, Bool, true, false, List, length}
 use Rattle.msc_base.specs.declared.limits.TheConstants.Limits.{BUDGET_MOST}
-use Rattle.std.specs.declared.cmp.Ordering.TheVariants.{Less}
 use Rattle.msc_base.specs.declared.label.Label.{Label}
 use Rattle.term_tables.specs.NetValues.{NetsValue}
-use Rattle.chart_term.specs.Order.{tree_cmp}
 use Rattle.chart_term.specs.Properties.{Each}
 use Rattle.chart_term.specs.Tables.{terms_over}
 use Rattle.chart_term.specs.TermPatterns.{Both}
@@ -14,7 +12,7 @@ use Rattle.term_laws.specs.Listing.{set_weight}
 use Rattle.term_laws.specs.Placing.{HaveOnePlace}
 use Rattle.msc_base.specs.Lists.{IsAmong}
 use Rattle.term_laws.specs.Normality.{AreDifferent}
-pub use Rattle.permit_step.specs.AllAfter.{IsLeftOf}
+pub use Rattle.permit_step.specs.AllAfter.{AreRising, IsLeftOf}
 use Rattle.term_laws.specs.Taking.{MayEnd}
 
 -- a set: the terms held, their budget, and whether the budget was passed
@@ -27,11 +25,6 @@ pub record SetValue : Type 0 where
 pub record IsSoundFor (v : NetsValue) (x : Tree) : Type 0 where
   pub full : IsFullySound (length v.labels) v.tables x
   pub placed : HaveOnePlace v.tables x
-
--- the terms rise in the order of terms
-abbrev pub AreRising : List Tree → Type 0
-AreRising [] = Unit {0}
-AreRising (x ∷ xs) = Each (λ y. tree_cmp x y ≡ Less) xs × AreRising xs
 
 -- the set serves the tables: each of its terms is sound for them; the terms rise, so that each is held once; they are within the budget
 pub record IsServing (v : NetsValue) (s : SetValue) : Type 0 where

@@ -7,7 +7,6 @@
 
 mod advance;
 mod fault;
-mod gathered;
 mod judge;
 pub mod laws;
 mod residuals;
@@ -17,8 +16,8 @@ mod taking;
 mod track;
 
 pub use fault::JudgeFault;
-pub use gathered::Gathered;
 pub use judge::Judge;
+pub use permit_step::Gathered;
 pub use residuals::Residuals;
 pub use store::{StepFault, Store};
 pub use successors::{gather, is_none, one_may_end};

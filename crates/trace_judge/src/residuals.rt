@@ -5,11 +5,11 @@ ghost use Rattle.term_laws.specs.Listing.{set_weight};
 ghost use Rattle.trace_judge.specs.Sets.{SetValue, IsServing, IsLeftOf, PassBudget, AreRising};
 ghost use Rattle.trace_judge.specs.Gathers.{JoinsAll};
 
-use crate::gathered::Gathered;
 use crate::successors::{gather, is_none, one_may_end};
 use crate::{StepFault, Store};
 use chart_term::{Term, TermList};
 use msc_base::{Label, NoMemory};
+use permit_step::Gathered;
 use std::alloc::Global;
 use std::marker::Model;
 use term_tables::Nets;

@@ -11,35 +11,12 @@ ghost use Rattle.term_tables.specs.NetValues.{label_number};
 ghost use Rattle.trace_judge.specs.Sets.{IsSoundFor, IsLeftOf, HasEnding};
 ghost use Rattle.trace_judge.specs.Gathers.{IsOver, JoinsAll};
 
-use crate::gathered::Gathered;
 use chart_term::TermList;
 use msc_base::NoMemory;
-use permit_step::after_each;
+use permit_step::{Gathered, after_each};
 use std::alloc::Global;
 use term_permission::may_end;
 use term_tables::Nets;
-
-/// Adds the terms, unless they are there, as long as all together are within the budget. It says whether they are.
-fn add_found(
-    gathered: &mut Gathered,
-    alloc: Global,
-    found: &TermList,
-    budget: u64,
-) -> Result<bool, NoMemory>
-    requires most { budget ≤ BUDGET_MOST }
-    requires room { set_weight gathered.old ≤ budget }
-    requires light { Each (λ x. weight x ≤ budget) found.now }
-    ensures all { IfOk result (λ fits. fits ≡ true → JoinsAll (λ y. IsAmong found.now y) budget gathered.old gathered.new) }
-    ensures over { IfOk result (λ fits. fits ≡ false → IsOver (λ y. IsAmong gathered.old y ⊎ IsAmong found.now y) budget) }
-{
-    for index in 0..found.len() {
-        gathered.add(found.at(index).copy(alloc)?)?;
-        if gathered.weight() > budget {
-            return Ok(false);
-        }
-    }
-    Ok(true)
-}
 
 /// Whether there is no term.
 pub fn is_none(terms: &TermList) -> bool
@@ -63,17 +40,11 @@ pub fn gather(
         → MatchOption found (IsOver (IsLeftOf nets.now label terms.now) budget)
         (λ all. JoinsAll (IsLeftOf nets.now label terms.now) budget [] all)) }
 {
-    let mut gathered = Gathered::new(alloc);
     if is_none(terms) {
-        return Ok(Some(gathered));
+        return Ok(Some(Gathered::new(alloc)));
     }
-    let Some(found) = after_each(alloc, nets, terms, number, budget)? else {
-        return Ok(None);
-    };
-    if !add_found(&mut gathered, alloc, &found, budget)? {
-        return Ok(None);
-    }
-    Ok(Some(gathered))
+    let found = after_each(alloc, nets, terms, number, budget)?;
+    Ok(found)
 }
 
 /// Whether one of the terms may end.

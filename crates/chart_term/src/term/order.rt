@@ -202,7 +202,17 @@ impl Term {
     pub fn same(&self, other: &Term) -> bool
         ensures { IsTrue result ↔ (self.now ≡ other.now) }
     {
-        self.weight() == other.weight() && self.compare(other) == Ordering::Equal
+        let node: &Node = &self.node;
+        let other_node: &Node = &other.node;
+        match (&node.form, &other_node.form) {
+            (Form::Event(event), Form::Event(second)) => {
+                event.number == second.number
+                    && event.label == second.label
+                    && event.at == second.at
+                    && event.also == second.also
+            }
+            _ => self.weight() == other.weight() && self.compare(other) == Ordering::Equal,
+        }
     }
 }
 

@@ -29,12 +29,8 @@ impl RowPart {
     }
 }
 
-/// Appends copies of the parts.
-pub(crate) fn push_copies(
-    alloc: Global,
-    parts: &[RowPart],
-    out: &mut Vec<RowPart>,
-) -> Result<(), NoMemory>
+/// Appends copies of the parts: turns are shared. After want of memory some of them may stand behind the others.
+pub fn push_copies(alloc: Global, parts: &[RowPart], out: &mut Vec<RowPart>) -> Result<(), NoMemory>
     ensures { OnOk result (out.new.items ≡ out.old.items ++ parts.now) }
 {
     for part in parts {

@@ -22,7 +22,7 @@ use chart_term::{PartList, Term, par_of, seq_of};
 use msc_base::NoMemory;
 use node_facts::Span;
 use std::alloc::Global;
-use term_permission::{Joint, PartsLeft, kept, permit_parts, replaced};
+use term_permission::{Joint, PartsLeft, kept, permit_parts, put_in, replaced};
 use term_tables::Nets;
 
 /// The parts side by side, where that of the index is replaced.
@@ -43,8 +43,7 @@ pub(super) fn put_in_par(
 {
     let _ = nets;
     let _ = taken;
-    let before = parts.front(alloc, index)?;
-    let whole = replaced(alloc, Joint::Aside, &before, left, parts, index)?;
+    let whole = put_in(alloc, Joint::Aside, left, parts, index)?;
     let whole = par_of(alloc, whole)?;
     Ok(whole)
 }

@@ -1,9 +1,17 @@
-use Rattle.std.proofs.Common.{rules, ◌≡◌, ℕ, List, length, IfOk, subst}
+use Rattle.std.proofs.Common.{rules, ◌≡◌, ℕ, List, length, IfOk, subst, sym}
 use Rattle.item_order.specs.Answers.{IfWhole, IfStuck}
 use Rattle.item_order.specs.Weaving.{IsCrossedAt, IsWoven}
 use Rattle.msc_base.specs.Lists.{IsAmong}
+use Rattle.item_order.specs.Columns.{columns_from}
 use Rattle.item_order.proofs.EntryColumns.{lists_of, columns_low}
+use Rattle.item_order.proofs.RisingColumns.{in_order}
+use Rattle.item_order.proofs.WeavingLaws.{text_is_woven}
 use Rattle.item_order.proofs.weaving.weave_entries.Goals as goal
+
+pub returns-then-branch-clause-woven : goal.returns-then-branch-clause-woven
+returns-then-branch-clause-woven c =
+    let columns = columns_from 0 c.args.columns c.args.entries.now in
+    subst (IsWoven c.args.count columns) (sym c.in_ok-order.ensures) (text_is_woven c.args.count columns (in_order c.args.count c.args.columns c.args.entries.now c.requires.inside (c.in_ok-are_in_order.ensures c.if-branch.true)))
 
 pub weave-requires : goal.weave-requires
 weave-requires c =

@@ -12,8 +12,8 @@ use Rattle.level_pieces.proofs.items.level_items.Goals as goal
 
 pub loop-piece-init : goal.loop-piece-init
 loop-piece-init c = record {
-  numbering = c.no_items-numbering.ensures;
-  parts = ap (λ (l : List code_part.Part). map part_view l ++ entries (map piece_view c.args.pieces.now)) c.new-parts.ensures.items;
+  numbering = c.in_ok-numbering.ensures;
+  parts = ap (λ (l : List code_part.Part). map part_view l ++ entries (map piece_view c.args.pieces.now)) c.in_ok-parts.ensures.items;
 }
 
 pub loop-piece-preserved : goal.loop-piece-preserved

@@ -12,8 +12,8 @@ returns-in-Some c =
     let e : c.in_ok-fault.field-0 ≡ Some c.in-Some.fault = search rules in
     first_left charts text_groups body_groups c.in-Some.fault (subst (λ (o : Option (Broken Rule)). IsFirstOf charts text_groups o) e c.in_ok-fault.ensures)
 
-pub woven_charts-requires : goal.woven_charts-requires
-woven_charts-requires c =
+pub woven_charts-requires-clause-built : goal.woven_charts-requires-clause-built
+woven_charts-requires-clause-built c =
     let charts = map chart_view c.args.charts.now in
     let e : c.in_ok-fault.field-0 ≡ None = search rules in
     built_of charts (subst (λ (o : Option (Broken Rule)). IsFirstOf charts text_groups o) e c.in_ok-fault.ensures)
@@ -26,8 +26,8 @@ returns-in-Some-body_fault c =
     first_right charts text_groups body_groups c.in-Some-body_fault.fault (subst (λ (o : Option (Broken Rule)). IsFirstOf charts text_groups o) e c.in_ok-fault.ensures)
     (subst (λ (o : Option (Broken Rule)). IsFirstOf charts body_groups o) f (c.body_fault.ensures.first charts c.in_ok-made.ensures.faults))
 
-pub returns-in-None : goal.returns-in-None
-returns-in-None c =
+pub returns : goal.returns
+returns c =
     let charts = map chart_view c.args.charts.now in
     let e : c.in_ok-fault.field-0 ≡ None = search rules in
     let f : c.body_fault.result ≡ None = search rules in

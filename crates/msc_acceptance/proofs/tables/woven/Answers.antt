@@ -10,8 +10,8 @@ entry_of-requires c =
     let woven : IsWovenTo (chart_view c.args.chart.now) (body_view c.in-Ok.body) = search rules in
     woven_body (chart_view c.args.chart.now) (body_view c.in-Ok.body) woven
 
-pub returns-in-Ok : goal.returns-in-Ok
-returns-in-Ok c =
+pub returns-in_ok-entry-in-Ok : goal.returns-in_ok-entry-in-Ok
+returns-in_ok-entry-in-Ok c =
     let chart = chart_view c.args.chart.now in
     let body = body_view c.in-Ok.body in
     let woven : IsWovenTo chart body = search rules in (

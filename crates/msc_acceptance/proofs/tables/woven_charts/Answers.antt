@@ -1,4 +1,4 @@
-use Rattle.std.proofs.Common.{rules, arith, ◌≡◌, ◌<◌, length, ◌+◌, ◌++◌, ◌∷◌, [], List, take, subst, sym}
+use Rattle.std.proofs.Common.{rules, ℕ, ap, arith, ◌≡◌, ◌<◌, length, ◌+◌, ◌++◌, ◌∷◌, [], List, take, subst, sym}
 use Rattle.msc_instances.specs.Instances.{instances}
 use Rattle.msc_meaning.specs.Views.{table_view}
 use Rattle.msc_meaning.specs.WovenTables.{AreEntriesOf, no_entries}
@@ -7,6 +7,7 @@ use Rattle.msc_tree.specs.Views.{chart_view}
 use Rattle.msc_acceptance.specs.declared.tables.ChartResult.{ChartResult}
 use Rattle.msc_acceptance.specs.declared.tables.ChartResult.TheVariants as one
 use Rattle.msc_acceptance.specs.Deciding.{AreAllRanked, IsNextWoven}
+use Rattle.msc_acceptance.proofs.InstanceLists.{list_of}
 use Rattle.msc_acceptance.proofs.TableLaws.{AreEarlier, faults_all, faults_more, faults_start, made_all, made_more, made_none}
 use Rattle.msc_acceptance.proofs.WalkLaws.{chart_built}
 use Rattle.msc_acceptance.proofs.tables.woven_charts.Goals as goal
@@ -14,6 +15,7 @@ use Rattle.msc_acceptance.proofs.tables.woven_charts.Goals.{in-Entry+in_ok-push-
 
 pub loop-chart-init : goal.loop-chart-init
 loop-chart-init c = record {
+  number = search rules;
   faults = faults_start c.args.charts.now c.barring-faults.result (record {
     crossed = c.barring-faults.ensures.crossed;
     alone = c.barring-faults.ensures.alone;
@@ -27,8 +29,11 @@ loop-chart-init c = record {
   };
 }
 
-pub woven-requires : goal.woven-requires
-woven-requires c = chart_built c.args.charts.now c.loop-chart.chart-index c.chart-item.result c.requires c.loop-chart-test.true c.chart-item.is
+pub woven-requires-clause-names : goal.woven-requires-clause-names
+woven-requires-clause-names c = list_of c.args.charts.now c.args.lists.now c.loop-chart.chart-index c.loop-chart.number c.chart-item.result c.index-lists-number.result c.requires.lists c.loop-chart.invariant.number c.loop-chart-test.true c.chart-item.is c.index-lists-number.is
+
+pub woven-requires-clause-built : goal.woven-requires-clause-built
+woven-requires-clause-built c = chart_built c.args.charts.now c.loop-chart.chart-index c.chart-item.result c.requires.built c.loop-chart-test.true c.chart-item.is
 
 pub loop-chart-preserved : goal.loop-chart-preserved
 loop-chart-preserved c =
@@ -48,6 +53,7 @@ loop-chart-preserved c =
           }) in
           let pushed : c.match-branch-2.entries.items ≡ c.loop-chart.entries.items ++ w.in-Entry.entry ∷ [] = search rules in
           record {
+            number = ap (λ (n : ℕ). n + 1) c.loop-chart.invariant.number;
             faults = faults_more list k c.chart-item.result c.loop-chart.faults w.in-Entry.found c.match-branch-2.faults c.loop-chart-test.true c.chart-item.is next.1 earlier c.loop-chart.invariant.faults;
             made = made_more list k c.chart-item.result c.loop-chart.faults w.in-Entry.found c.match-branch-2.faults c.loop-chart.entries.items c.match-branch-2.entries.items w.in-Entry.entry
                 c.loop-chart-test.true c.chart-item.is earlier c.loop-chart.invariant.made next.0 next.2 pushed;
@@ -63,6 +69,7 @@ loop-chart-preserved c =
             cyclic = w.earlier_faults-faults-in-Barred.ensures.cyclic;
           }) in
           record {
+            number = ap (λ (n : ℕ). n + 1) c.loop-chart.invariant.number;
             faults = faults_more list k c.chart-item.result c.loop-chart.faults w.in-Barred.found c.match-branch-2.faults c.loop-chart-test.true c.chart-item.is next.1 earlier c.loop-chart.invariant.faults;
             made = made_none (take (k + 1) list) c.loop-chart.faults w.in-Barred.found c.match-branch-2.faults c.match-branch-2.entries.items earlier next.0;
           }

@@ -1,8 +1,11 @@
-use Rattle.std.proofs.Common.{◌≡◌, ◌≤◌, ◌+◌, take}
+use Rattle.std.proofs.Common.{◌≡◌, ◌≤◌, ◌+◌, length}
 use Rattle.std.specs.Prelude.{fold}
 use Rattle.msc_tokens.specs.Machine.{step}
 use Rattle.msc_tokens.specs.Views.{view}
 use Rattle.msc_tokens.proofs.lexer.take_all.Given as goal
 
-abbrev pub invariant-loop-byte : goal.invariant-loop-byte
-invariant-loop-byte l = (l.machine.place.byte ≤ l.initial.machine.place.byte + l.byte-index) × (view l.machine ≡ fold step (view l.initial.machine) (take l.byte-index l.piece))
+abbrev pub invariant-loop-rest : goal.invariant-loop-rest
+invariant-loop-rest l = (l.machine.place.byte + length l.rest ≤ l.initial.machine.place.byte + length l.piece) × (fold step (view l.initial.machine) l.piece ≡ fold step (view l.machine) l.rest)
+
+abbrev pub decreases-loop-rest : goal.decreases-loop-rest
+decreases-loop-rest l = length l.rest

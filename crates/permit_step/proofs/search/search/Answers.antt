@@ -5,7 +5,7 @@ use Rattle.permit_step.proofs.ChildReady.{child-good}
 use Rattle.permit_step.proofs.KeptNumbers.{linked_searched}
 use Rattle.permit_step.proofs.Placed.{placed-down, placed-start, placed-up}
 use Rattle.permit_step.proofs.Rebuilding.{front-ready}
-use Rattle.permit_step.proofs.Searching.{state-start, state-down, state-cut, state-end, state-up}
+use Rattle.permit_step.proofs.Searching.{state-start, state-past, state-down, state-cut, state-end, state-up}
 use Rattle.permit_step.proofs.Visits.{visits-down, visits-up, ranked-down, ranked-up, ranked-length, no-frames}
 use Rattle.term_laws.proofs.Measures.{rank_in}
 use Rattle.permit_step.proofs.search.search.Goals as goal
@@ -27,7 +27,7 @@ search-smaller-in-Some c =
     let step = rw c.in-Some.is at c.in_ok-step.ensures in
     let good = child-good w c.requires.tables c.search.here c.in-Some.step.index c.in-Some.step.inner c.search.invariant.state.ready step.there in
     visits-down w (rank_in w c.args.term.now) c.search.path.items c.push.new.self.items c.search.here c.in-Some.step.inner c.in-Some.step.inner c.search.next c.in-Some.step.index
-    (ranked-length w (rank_in w c.args.term.now) c.search.path.items c.search.here c.search.invariant.ranked (omega (arith, good.rank))) step.behind good.within step.there c.in_ok-push-in-Some.ensures.items refl
+    (ranked-length w (rank_in w c.args.term.now) c.search.path.items c.search.here c.search.invariant.ranked (omega (arith, good.rank))) (omega (arith, c.past_known-from.ensures.behind, step.behind)) good.within step.there c.in_ok-push-in-Some.ensures.items refl
 
 pub search-preserved-in-Some : goal.search-preserved-in-Some
 search-preserved-in-Some c =
@@ -35,7 +35,7 @@ search-preserved-in-Some c =
     let step = rw c.in-Some.is at c.in_ok-step.ensures in
     let good = child-good w c.requires.tables c.search.here c.in-Some.step.index c.in-Some.step.inner c.search.invariant.state.ready step.there in
     record {
-      state = state-down w c.requires.tables c.args.label c.args.term.now c.args.found.now c.search.found c.search.path.items c.push.new.self.items c.search.here c.in-Some.step.inner c.search.next c.in-Some.step.index c.search.invariant.state c.in-Some.step step c.in_ok-push-in-Some.ensures.items refl;
+      state = state-down w c.requires.tables c.args.label c.args.term.now c.args.found.now c.search.found c.search.path.items c.push.new.self.items c.search.here c.in-Some.step.inner c.past_known-from.result c.in-Some.step.index (state-past w c.requires.tables c.args.label c.args.term.now c.args.found.now c.search.found c.search.path.items c.search.here c.search.next c.past_known-from.result c.search.invariant.state c.past_known-from.ensures) c.in-Some.step step c.in_ok-push-in-Some.ensures.items refl;
       met = c.search.invariant.met;
       placed = λ one. placed-down w c.args.label c.search.path.items c.push.new.self.items c.search.here c.in-Some.step.inner c.in-Some.step.index c.search.met (c.search.invariant.placed one) step.there c.in_ok-push-in-Some.ensures.items;
       ranked = ranked-down w (rank_in w c.args.term.now) c.search.path.items c.push.new.self.items c.search.here c.in-Some.step.inner c.in-Some.step.inner c.in-Some.step.index c.search.invariant.ranked good.rank c.in_ok-push-in-Some.ensures.items refl;
@@ -45,14 +45,14 @@ pub returns-then-not-all : goal.returns-then-not-all
 returns-then-not-all c =
     let w = c.args.nets.now.tables in
     let no = c.if-not-all.true in
-    let cut = state-cut w c.requires.tables c.args.label c.args.term.now c.args.found.now c.search.found c.add_event.new.found c.search.path.items c.search.here c.search.next c.in_ok-all-in-None.all c.search.invariant.state c.in_ok-all-in-None.ensures.found no in
+    let cut = state-cut w c.requires.tables c.args.label c.args.term.now c.args.found.now c.search.found c.add_event.new.found c.search.path.items c.search.here c.past_known-from.result c.in_ok-all-in-None.all (state-past w c.requires.tables c.args.label c.args.term.now c.args.found.now c.search.found c.search.path.items c.search.here c.search.next c.past_known-from.result c.search.invariant.state c.past_known-from.ensures) c.in_ok-all-in-None.ensures.found no in
     rw no at cut
 
 pub returns-in-None-pop : goal.returns-in-None-pop
 returns-in-None-pop c =
     let w = c.args.nets.now.tables in
     let passed = rw c.in-None.is at c.in_ok-step.ensures in
-    state-end w c.requires.tables c.args.label c.args.term.now c.args.found.now c.search.found c.add_event.new.found c.search.path.items c.search.here c.search.next c.in_ok-all-in-None.all c.search.invariant.state c.in_ok-all-in-None.ensures.found passed c.if-not-all.false (no-frames c.search.path.items (sym c.search.path.ok.0 ∙ c.in-None-pop.ensures.cases.0))
+    state-end w c.requires.tables c.args.label c.args.term.now c.args.found.now c.search.found c.add_event.new.found c.search.path.items c.search.here c.past_known-from.result c.in_ok-all-in-None.all (state-past w c.requires.tables c.args.label c.args.term.now c.args.found.now c.search.found c.search.path.items c.search.here c.search.next c.past_known-from.result c.search.invariant.state c.past_known-from.ensures) c.in_ok-all-in-None.ensures.found passed c.if-not-all.false (no-frames c.search.path.items (sym c.search.path.ok.0 ∙ c.in-None-pop.ensures.cases.0))
 
 pub behind-next-requires-clause-term : goal.behind-next-requires-clause-term
 behind-next-requires-clause-term c =
@@ -72,7 +72,7 @@ search-preserved c =
     let w = c.args.nets.now.tables in
     let passed = rw c.in-None.is at c.in_ok-step.ensures in
     record {
-      state = state-up w c.requires.tables c.args.label c.args.term.now c.args.found.now c.search.found c.add_event.new.found c.search.path.items c.search.here c.search.next c.in_ok-all-in-None.all c.search.invariant.state c.in_ok-all-in-None.ensures.found passed c.if-not-all.false c.pop.new.self.items c.in-Some-pop.frame c.in-Some-pop.frame.parent c.behind-next.result c.in-Some-pop.ensures.items refl c.behind-next.ensures;
+      state = state-up w c.requires.tables c.args.label c.args.term.now c.args.found.now c.search.found c.add_event.new.found c.search.path.items c.search.here c.past_known-from.result c.in_ok-all-in-None.all (state-past w c.requires.tables c.args.label c.args.term.now c.args.found.now c.search.found c.search.path.items c.search.here c.search.next c.past_known-from.result c.search.invariant.state c.past_known-from.ensures) c.in_ok-all-in-None.ensures.found passed c.if-not-all.false c.pop.new.self.items c.in-Some-pop.frame c.in-Some-pop.frame.parent c.behind-next.result c.in-Some-pop.ensures.items refl c.behind-next.ensures;
       met = c.in_ok-all-in-None.ensures.met;
       placed = λ one. placed-up w c.args.label c.search.path.items c.pop.new.self.items c.in-Some-pop.frame c.search.here c.search.met c.add_event.new.met (c.search.invariant.placed one) c.in-Some-pop.ensures.items c.in_ok-all-in-None.ensures.placed;
       ranked = ranked-up w (rank_in w c.args.term.now) c.search.path.items c.pop.new.self.items c.in-Some-pop.frame c.search.here c.in-Some-pop.frame.parent c.search.invariant.ranked c.in-Some-pop.ensures.items refl;

@@ -1,4 +1,4 @@
-use Rattle.std.proofs.Common.{◌≡◌, ◌<◌, ◌≤◌, ◌↔◌, ◌∙◌, ◌-◌, ℕ, take, ap, sym, subst, arith, true, false, Bool, List, IsTrue, refl, length, ◌+◌}
+use Rattle.std.proofs.Common.{◌≡◌, ◌<◌, ◌≤◌, ◌↔◌, ◌∙◌, ◌-◌, ℕ, take, ap, sym, subst, arith, true, false, Bool, IsTrue, refl, length, ◌+◌}
 use Rattle.hmsc_graph.specs.Graphs.{Net}
 use Rattle.hmsc_graph.specs.Nets.{IsNet, size_of}
 use Rattle.hmsc_graph.specs.Spots.{spot_of, goal_of}
@@ -12,7 +12,7 @@ use Rattle.hmsc_graph.specs.Walks.{Leads}
 use Rattle.term_permission.specs.Endings.{AreEnding, EndsAs}
 use Rattle.term_permission.specs.Ready.{IsReady}
 use Rattle.term_laws.specs.Taking.{MayEnd, EndAll, EndOne, EndWalk}
-use Rattle.term_permission.proofs.EndingFacts.{all-empty, all-first, all-last, all-at, all-ending, ends_as, one-at, one-empty, one-last, none-ending, none-first, turns-first, turns-at, turns-part, seq-ends, par-ends, choice-ends, tied-ends, trail-ends, loop-not, loop-zero, loop-owed, walk-ends, ending-more, ok-map}
+use Rattle.term_permission.proofs.EndingFacts.{all-empty, all-first, all-last, all-at, all-ending, ends_as, one-at, one-last, none-ending, none-first, turns-first, turns-at, turns-part, seq-ends, par-ends, choice-ends, tied-ends, trail-ends, loop-not, loop-zero, loop-owed, walk-ends, ending-more, ok-map}
 use Rattle.term_laws.proofs.Measures.{rank_in, rank_all, rank-choice, rank-join, rank-loop, rank-at, rank-par, rank-part, rank-seq, rank-some, rank-tied}
 use Rattle.term_permission.proofs.NodeTerms.{node-is, sizes-are}
 use Rattle.term_permission.proofs.PermitLoops.{ready-loop}
