@@ -167,11 +167,11 @@ fn statement(places: &mut Items<Place>, statement: &Statement) -> Result<(), NoM
 {
     match statement {
         Statement::Column(held, list) => {
-            decl(places, held)?;
+            decl(places, held.decl())?;
             items(places, true, list.as_slice())
         }
         Statement::Covered(cover, list) => items(places, has_one(cover), list.as_slice()),
-        Statement::Heading(held) => decl(places, held),
+        Statement::Heading(held) => decl(places, held.decl()),
         Statement::Ended(_) => Ok(()),
     }
 }

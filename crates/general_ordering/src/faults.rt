@@ -14,6 +14,7 @@ use crate::firsts::FirstNumbers;
 use crate::named::NamedEvents;
 use msc_base::{Items, Name, NoMemory, Place, earlier_place};
 use msc_meaning::{Body, EventNode, InlineItem, Item};
+use msc_tree::BoxedName;
 use std::alloc::Global;
 
 /// A rule on the names of events.
@@ -54,13 +55,13 @@ fn names_none(named: &NamedEvents, names: &[Name]) -> bool
 }
 
 /// Whether an event of the name has a lower number.
-fn has_before(firsts: &FirstNumbers, name: &Option<Name>, number: u32) -> bool
+fn has_before(firsts: &FirstNumbers, name: &Option<BoxedName>, number: u32) -> bool
     requires { AreEven firsts.now }
     ensures { result ≡ has_first (first_of firsts.now) name.now number }
 {
     match name {
         None => false,
-        Some(name) => match firsts.first(name) {
+        Some(name) => match firsts.first(name.name()) {
             None => false,
             Some(first) => first < number,
         },

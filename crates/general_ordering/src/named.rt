@@ -64,7 +64,7 @@ impl NamedEvents {
         ensures added { OnOk result ((name : List ℕ) → group_of self.new name ≡ group_of self.old name ++ labelled (node_view node.now ∷ []) name) }
     {
         match &node.event.event_name {
-            Some(name) => self.add(alloc, name, node.number),
+            Some(name) => self.add(alloc, name.name(), node.number),
             None => Ok(()),
         }
     }

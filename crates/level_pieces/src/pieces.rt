@@ -122,7 +122,7 @@ fn statement<'a, 'n>(
         Statement::Column(decl, list) => {
             items(
                 pieces,
-                Setting::InColumn(&decl.name),
+                Setting::InColumn(&decl.decl().name),
                 first,
                 list.as_slice(),
             )

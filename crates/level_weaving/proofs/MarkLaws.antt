@@ -1,5 +1,5 @@
 -- What is so of the marks is so of their events.
-use Rattle.std.proofs.Common.{◌≡◌, ℕ, ◌<◌, ◌+◌, List, [], ◌∷◌, ◌++◌, map, Option, Some, None, slice_get, take, length, Bool, true, zero, suc, refl, sym, ap, ap₂, ◌∙◌, subst, if◌then◌else◌, ◌&&◌, get_or, Vec, Global}
+use Rattle.std.proofs.Common.{◌≡◌, ℕ, ◌<◌, ◌+◌, List, [], ◌∷◌, ◌++◌, map, Option, Some, None, slice_get, take, length, Bool, true, zero, suc, refl, sym, ap, ap₂, ◌∙◌, subst, if◌then◌else◌, ◌&&◌, get_or, Bor}
 use Rattle.std.specs.List.{position, count_by}
 use Rattle.std.proofs.lemmas.List.{take_more}
 use Rattle.std.proofs.lemmas.Option.{slice_get_within}
@@ -21,7 +21,7 @@ use Rattle.level_pieces.proofs.Positions.{position_map, position_passes}
 pub same_key : (a b : MessageKey) → is_key (key_view a) (key_view b) ≡ eq-value.it a b
 same_key a b = by a.pairing b.pairing
   where
-    by : (x y : Option (Vec ℕ Global)) → is_key (key_view (record { sender = a.sender; receiver = a.receiver; text = a.text; pairing = x })) (key_view (record { sender = b.sender; receiver = b.receiver; text = b.text; pairing = y }))
+    by : (x y : Option (Bor (List ℕ))) → is_key (key_view (record { sender = a.sender; receiver = a.receiver; text = a.text; pairing = x })) (key_view (record { sender = b.sender; receiver = b.receiver; text = b.text; pairing = y }))
         ≡ eq-value.it (record { sender = a.sender; receiver = a.receiver; text = a.text; pairing = x }) (record { sender = b.sender; receiver = b.receiver; text = b.text; pairing = y })
     by None None = refl
     by None (Some w) = refl

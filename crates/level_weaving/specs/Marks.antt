@@ -1,6 +1,6 @@
 -- Serves private contracts alone.
 -- Outputs and inputs by numbers: each key has a class, and a mark says the class and the direction of an event.
-use Rattle.std.specs.Prelude.{◌≡◌, ◌&&◌, ℕ, suc, Bool, false, List, [], ◌∷◌, ◌++◌, length, Option, Some, None, nat_eq, option_map, position, vec_items, if◌then◌else◌}
+use Rattle.std.specs.Prelude.{◌≡◌, ◌&&◌, ℕ, suc, Bool, false, List, [], ◌∷◌, ◌++◌, length, Option, Some, None, nat_eq, option_copied, position, if◌then◌else◌}
 use Rattle.msc_tree.specs.declared.event.Direction.{Direction}
 use Rattle.msc_tree.specs.Directions.{is_direction}
 use Rattle.item_order.specs.declared.edge.Edge.{Edge}
@@ -13,7 +13,7 @@ use Rattle.level_weaving.specs.Messages.{way, key_of, is_key, IsPaired}
 
 -- the plain key that a key stands for
 abbrev pub key_view : MessageKey → Key
-key_view key = record { sender = key.sender.items; receiver = key.receiver.items; text = key.text.items; pairing = option_map vec_items key.pairing }
+key_view key = record { sender = key.sender.now; receiver = key.receiver.now; text = key.text.items; pairing = option_copied key.pairing }
 
 -- the mark says the event's direction, and its class is the place of its key among those known
 abbrev pub IsMark : List Key → EventNode → Option Mark → Type 0

@@ -1,6 +1,6 @@
 //! What is woven, or where columns cross: what `levels` answers.
 
-ghost use Rattle.std.specs.Prelude.{◌≡◌, [], None, OnOk, Some};
+ghost use Rattle.std.specs.Prelude.{◌≡◌, [], IfOk, None, OnOk, Some};
 ghost use Rattle.level_weaving.specs.Answers.{IsAdded, crossed_at, gathered_answer};
 ghost use Rattle.msc_base.specs.Places.{earliest};
 
@@ -37,6 +37,19 @@ impl<T: Drop> Gathered<T> {
             alone: None,
             crossed: None,
         }
+    }
+
+    /// Of none, with room for so many.
+    pub fn with_room(alloc: Global, room: usize) -> Result<Gathered<T>, NoMemory>
+        ensures list { IfOk result (λ gathered. gathered.list.items ≡ []) }
+        ensures alone { IfOk result (λ gathered. gathered.alone ≡ None) }
+        ensures crossed { IfOk result (λ gathered. gathered.crossed ≡ None) }
+    {
+        Ok(Gathered {
+            list: Vec::with_capacity(alloc, room)?,
+            alone: None,
+            crossed: None,
+        })
     }
 
     /// Adds one more.

@@ -40,13 +40,13 @@ impl<'a> Model for EventList<'a> {
 }
 
 impl<'a> EventList<'a> {
-    /// No events. It takes no memory.
-    pub fn new(alloc: Global) -> EventList<'a>
-        ensures { result ≡ [] }
+    /// No events, with room for so many.
+    pub fn with_room(alloc: Global, room: usize) -> Result<EventList<'a>, NoMemory>
+        ensures { IfOk result (λ events. events ≡ []) }
     {
-        EventList {
-            held: Vec::new(alloc),
-        }
+        Ok(EventList {
+            held: Vec::with_capacity(alloc, room)?,
+        })
     }
 
     /// Appends an event. After want of memory the list is as it was.
@@ -122,7 +122,7 @@ pub fn ordered_events<'a>(
     requires { All (λ x. x < length items.now) order.now }
     ensures { IfOk result (λ events. events ≡ ordered_nodes (first_parts (map parts_view items.now)) order.now) }
 {
-    let mut events = EventList::new(alloc);
+    let mut events = EventList::with_room(alloc, order.len())?;
     for number in order {
         piece(&mut events, items[*number as usize].first)?;
     }

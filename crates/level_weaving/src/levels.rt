@@ -254,7 +254,7 @@ fn woven_items(
     requires low { All (λ x. x < length items.now) order.now }
     ensures { IfOk result (AreItemsAnswer level.now (map parts_view items.now) order.now) }
 {
-    let mut gathered = Gathered::new(alloc);
+    let mut gathered = Gathered::with_room(alloc, order.len())?;
     for number in order {
         let answer = woven_item(alloc, level, &items[*number as usize])?;
         gathered.add(answer)?;

@@ -1,6 +1,6 @@
 //! Pairs outputs with inputs by message, pairing name and both instances: for `levels`.
 
-ghost use Rattle.std.specs.Prelude.{◌≡◌, ◌++◌, IfOk, OnOk, Some, map, option_map, vec_items};
+ghost use Rattle.std.specs.Prelude.{◌≡◌, ◌++◌, IfOk, OnOk, Some, map, option_copied};
 ghost use Rattle.item_order.specs.Pairing.{RiseFrom};
 ghost use Rattle.level_weaving.specs.EventViews.{event_view};
 ghost use Rattle.level_weaving.specs.Marks.{AreMarked, IsMark, KeepsNumbers, LeadsPairs, edges_from, end_edges, key_view};
@@ -9,17 +9,17 @@ ghost use Rattle.level_weaving.specs.Messages.{key_of, way};
 use crate::PlacedEvent;
 use indexmap::IndexSet;
 use item_order::{Edge, pair_up};
-use msc_base::{Name, NoMemory, number_of};
-use msc_tree::{Direction, far_bytes, label_text, way_of};
+use msc_base::{NoMemory, number_of};
+use msc_tree::{BoxedName, Direction, far_bytes, label_text, way_of};
 use std::alloc::Global;
 
 /// What an output and the input that takes it in have in common.
 #[derive(Drop, PartialEq, Eq, Hash)]
-struct MessageKey {
-    sender: Vec<u8>,
-    receiver: Vec<u8>,
+struct MessageKey<'a> {
+    sender: &'a [u8],
+    receiver: &'a [u8],
     text: Vec<u8>,
-    pairing: Option<Vec<u8>>,
+    pairing: Option<&'a [u8]>,
 }
 
 /// What the pairing sees of an event: the number of its key, and its direction.
@@ -37,28 +37,28 @@ struct Marks {
 }
 
 /// The bytes of the name, where there is one.
-fn name_bytes(alloc: Global, name: &Option<Name>) -> Result<Option<Vec<u8>>, NoMemory>
-    ensures { IfOk result (λ bytes. option_map vec_items bytes ≡ name.now) }
+fn name_bytes(name: &Option<BoxedName>) -> Option<&[u8]>
+    ensures { option_copied result ≡ name.now }
 {
     match name {
-        Some(name) => Ok(Some(Vec::from_slice(alloc, name.bytes())?)),
-        None => Ok(None),
+        Some(name) => Some(name.name().bytes()),
+        None => None,
     }
 }
 
 /// The key of an output, or of an input.
-fn message_key(
+fn message_key<'a>(
     alloc: Global,
-    placed: PlacedEvent<'_>,
+    placed: PlacedEvent<'a>,
     direction: Direction,
-) -> Result<MessageKey, NoMemory>
+) -> Result<MessageKey<'a>, NoMemory>
     requires { way (event_view placed) ≡ Some direction }
     ensures { IfOk result (λ key. key_view key ≡ key_of (event_view placed.entry)) }
 {
-    let at = Vec::from_slice(alloc, placed.at.bytes())?;
-    let far = Vec::from_slice(alloc, far_bytes(&placed.event.target))?;
+    let at = placed.at.bytes();
+    let far = far_bytes(&placed.event.target);
     let text = label_text(alloc, placed.event.text.bytes(), &placed.event.parameters)?;
-    let pairing = name_bytes(alloc, &placed.event.pairing)?;
+    let pairing = name_bytes(&placed.event.pairing);
     match direction {
         Direction::Out => Ok(MessageKey {
             sender: at,
@@ -76,10 +76,10 @@ fn message_key(
 }
 
 /// The mark of an event, whose key is numbered where it is new.
-fn mark_of(
+fn mark_of<'a>(
     alloc: Global,
-    keys: &mut IndexSet<MessageKey>,
-    placed: PlacedEvent<'_>,
+    keys: &mut IndexSet<MessageKey<'a>>,
+    placed: PlacedEvent<'a>,
 ) -> Result<Option<Mark>, NoMemory>
     ensures mark { IfOk result (IsMark (map key_view keys.new.keys) (event_view placed.entry)) }
     ensures kept { KeepsNumbers (map key_view keys.old.keys) (map key_view keys.new.keys) }
@@ -98,7 +98,7 @@ fn marks_of(alloc: Global, events: &[PlacedEvent<'_>]) -> Result<Marks, NoMemory
     ensures { IfOk result (λ marks. AreMarked (map event_view events.now) marks.held.items marks.classes) }
 {
     let mut keys = IndexSet::new(alloc);
-    let mut held = Vec::new(alloc);
+    let mut held = Vec::with_capacity(alloc, events.len())?;
     for placed in events {
         let mark = mark_of(alloc, &mut keys, *placed)?;
         held.push(mark)?;

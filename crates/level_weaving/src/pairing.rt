@@ -24,7 +24,7 @@ fn numbered(
     requires { All (λ e. (e.from < length events.now) × (e.to < length events.now)) pairs.now }
     ensures { IfOk result (λ edges. edges.items ≡ edges_at (map event_view events.now) pairs.now) }
 {
-    let mut edges = Vec::new(alloc);
+    let mut edges = Vec::with_capacity(alloc, pairs.len())?;
     for pair in pairs {
         edges.push(Edge {
             from: events[pair.from as usize].number,

@@ -1,6 +1,7 @@
 pub mod WalkLaws
 pub mod ChartLaws
 pub mod TableLaws
+pub mod Taking
 pub mod GroupLaws
 pub mod AcceptLaws
 pub mod LimitLaws

@@ -17,19 +17,20 @@ use msc_base::{NoMemory, Place};
 use msc_tree::RawDocument;
 use std::alloc::Global;
 
-/// The table of the document's charts, or the first rule that it breaks, and where.
-pub fn accept(alloc: Global, raw: &RawDocument) -> Result<Accepted, DocFault>
-    ensures ok { IfOk result (λ accepted. IsAccepted (document_view raw.now) (table_view accepted)) }
-    ensures only { IfOk result (λ accepted. (other : Table) → IsTableOf instances (document_view raw.now) other → table_view accepted ≡ other) }
+/// The table of the document's charts, or the first rule that it breaks, and where. What a chart was read to is dropped as soon as
+/// the chart is woven.
+pub fn accept(alloc: Global, raw: RawDocument) -> Result<Accepted, DocFault>
+    ensures ok { IfOk result (λ accepted. IsAccepted (document_view raw) (table_view accepted)) }
+    ensures only { IfOk result (λ accepted. (other : Table) → IsTableOf instances (document_view raw) other → table_view accepted ≡ other) }
     ensures charts { IfOk result (λ accepted. AreAcceptedCharts (table_view accepted)) }
-    ensures faultless { IfOk result (λ accepted. (rule : Rule) (place : Place) → HasFault (document_view raw.now) rule place → ⊥) }
-    ensures fault { (rule : Rule) (place : Place) → IsErrOf result (DocFault.Refused rule place) → HasFault (document_view raw.now) rule place }
-    ensures only_fault { (rule : Rule) (place : Place) → IsErrOf result (DocFault.Refused rule place) → (other : Rule) (there : Place) → HasFault (document_view raw.now) other there → (other ≡ rule) × (there ≡ place) }
-    ensures none { (rule : Rule) (place : Place) → IsErrOf result (DocFault.Refused rule place) → (table : Table) → IsAccepted (document_view raw.now) table → ⊥ }
+    ensures faultless { IfOk result (λ accepted. (rule : Rule) (place : Place) → HasFault (document_view raw) rule place → ⊥) }
+    ensures fault { (rule : Rule) (place : Place) → IsErrOf result (DocFault.Refused rule place) → HasFault (document_view raw) rule place }
+    ensures only_fault { (rule : Rule) (place : Place) → IsErrOf result (DocFault.Refused rule place) → (other : Rule) (there : Place) → HasFault (document_view raw) other there → (other ≡ rule) × (there ≡ place) }
+    ensures none { (rule : Rule) (place : Place) → IsErrOf result (DocFault.Refused rule place) → (table : Table) → IsAccepted (document_view raw) table → ⊥ }
 {
     built_charts_are_known();
     woven_charts_are_known();
-    match decide(alloc, raw.charts.as_slice()) {
+    match decide(alloc, raw.charts) {
         Ok(Decision::Woven(entries)) => Ok(Accepted::of_entries(entries)),
         Ok(Decision::Faulty(fault)) => Err(DocFault::Refused {
             rule: fault.rule,

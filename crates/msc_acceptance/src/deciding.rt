@@ -153,11 +153,11 @@ fn body_fault(faults: BodyFaults) -> Option<Broken<Rule>>
 }
 
 /// The table of these charts, or their first fault.
-pub fn decide(alloc: Global, charts: &[RawChart]) -> Result<Decision, NoMemory>
-    ensures { IfOk result (IsDecided (map chart_view charts.now)) }
+pub fn decide(alloc: Global, charts: Vec<RawChart>) -> Result<Decision, NoMemory>
+    ensures { IfOk result (IsDecided (map chart_view charts.items)) }
 {
-    let lists = instance_lists(alloc, charts)?;
-    if let Some(fault) = text_fault(alloc, charts, lists.as_slice())? {
+    let lists = instance_lists(alloc, charts.as_slice())?;
+    if let Some(fault) = text_fault(alloc, charts.as_slice(), lists.as_slice())? {
         return Ok(Decision::Faulty(fault));
     }
     let made = woven_charts(alloc, charts, lists.as_slice())?;

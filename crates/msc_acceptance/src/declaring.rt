@@ -96,11 +96,11 @@ fn statement(alloc: Global, decls: &mut DeclList, statement: &Statement) -> Resu
 {
     match statement {
         Statement::Column(decl, list) => {
-            decls.push(copy_decl(alloc, decl)?)?;
+            decls.push(copy_decl(alloc, decl.decl())?)?;
             items(alloc, decls, list.as_slice())
         }
         Statement::Covered(_, list) => items(alloc, decls, list.as_slice()),
-        Statement::Heading(decl) => decls.push(copy_decl(alloc, decl)?),
+        Statement::Heading(decl) => decls.push(copy_decl(alloc, decl.decl())?),
         Statement::Ended(_) => Ok(()),
     }
 }

@@ -168,21 +168,21 @@ fn woven(alloc: Global, chart: &RawChart, names: &Names) -> Result<ChartResult, 
     }
 }
 
-/// What the charts, whose instances `lists` are, are woven to.
+/// What the charts, whose instances `lists` are, are woven to. Each is dropped as soon as it is woven.
 pub fn woven_charts(
     alloc: Global,
-    charts: &[RawChart],
+    charts: Vec<RawChart>,
     lists: &[Names],
 ) -> Result<Weaving, NoMemory>
-    requires built { AreBuilt (map chart_view charts.now) }
-    requires lists { lists.now ≡ map instances (map chart_view charts.now) }
-    ensures { IfOk result (AreWoven (map chart_view charts.now)) }
+    requires built { AreBuilt (map chart_view charts.items) }
+    requires lists { lists.now ≡ map instances (map chart_view charts.items) }
+    ensures { IfOk result (AreWoven (map chart_view charts.items)) }
 {
     let mut entries = Vec::new(alloc);
     let mut faults = barring(None, None);
     let mut number = 0;
     for chart in charts {
-        match woven(alloc, chart, &lists[number])? {
+        match woven(alloc, &chart, &lists[number])? {
             ChartResult::Entry(entry, found) => {
                 entries.push(entry)?;
                 faults = earlier_faults(faults, found);

@@ -1,10 +1,9 @@
 -- Taking a document piece by piece.
-use Rattle.std.proofs.Common.{◌≡◌, ◌<◌, ◌≤◌, ◌+◌, ◌-◌, inl, inr, ℕ, List, [], ◌∷◌, ◌++◌, length, min, take, arith, sym, refl, ap, ◌∙◌, subst, zero, suc, Option, Some, None, append-nil, length-append}
+use Rattle.std.proofs.Common.{◌≡◌, ◌<◌, ◌≤◌, ◌+◌, ◌-◌, inl, inr, ℕ, List, [], ◌∷◌, ◌++◌, length, min, take, arith, sym, refl, ap, ◌∙◌, zero, suc, Option, Some, None, append-nil, length-append}
 use Rattle.std.proofs.lemmas.List.{take_all, take_min}
 use Rattle.outside.specs.Shelves.{Files}
 use Rattle.msc_base.specs.declared.limits.TheConstants.Limits.{DOCUMENT_BYTES}
 use Rattle.msc_base.specs.declared.place.Place.{Place}
-use Rattle.msc_tokens.specs.Lexing.{Fed}
 use Rattle.msc_tokens.specs.Places.{first_place, after_byte, past}
 use Rattle.msc_cmd.specs.Intakes.{HasTaken, IsReading, HoldsDocument}
 use Rattle.msc_cmd.specs.declared.intake.Intake.{Intake}
@@ -22,15 +21,15 @@ past_both p (x ∷ xs) ys = past_both (after_byte p x) xs ys
 
 -- one more piece has been taken
 pub taken_more : (bytes piece prefix : List ℕ) (old new : Intake) → old.count ≤ DOCUMENT_BYTES → prefix ≡ take (min (DOCUMENT_BYTES - old.count) (length piece)) piece
-    → ((bs : List ℕ) → Fed bs old.lexer → Fed (bs ++ prefix) new.lexer) → new.place ≡ past old.place prefix → new.count ≡ old.count + length piece → HasTaken bytes old → HasTaken (bytes ++ piece) new
-taken_more bytes piece prefix old new room is feeds goes counts h =
+    → new.text.items ≡ old.text.items ++ prefix → new.place ≡ past old.place prefix → new.count ≡ old.count + length piece → HasTaken bytes old → HasTaken (bytes ++ piece) new
+taken_more bytes piece prefix old new room is grows goes counts h =
     let short : length bytes ≤ DOCUMENT_BYTES = omega (arith, h.counted) in
     let whole : take DOCUMENT_BYTES bytes ≡ bytes = take_all DOCUMENT_BYTES bytes short in
     let cut : prefix ≡ take (DOCUMENT_BYTES - length bytes) piece = is ∙ take_min (DOCUMENT_BYTES - old.count) piece ∙ ap (λ (n : ℕ). take (DOCUMENT_BYTES - n) piece) h.counted in
     let all : take DOCUMENT_BYTES (bytes ++ piece) ≡ take DOCUMENT_BYTES bytes ++ prefix = take_over DOCUMENT_BYTES bytes piece short ∙ ap (λ (bs : List ℕ). bytes ++ bs) (sym cut) ∙ ap (λ (bs : List ℕ). bs ++ prefix) (sym whole) in
     record {
       counted = omega (arith, counts, h.counted, length-append bytes piece);
-      fed = subst (λ (bs : List ℕ). Fed bs new.lexer) (sym all) (feeds (take DOCUMENT_BYTES bytes) h.fed);
+      held = grows ∙ ap (λ (bs : List ℕ). bs ++ prefix) h.held ∙ sym all;
       behind = goes ∙ ap (λ (p : Place). past p prefix) h.behind ∙ sym (past_both first_place (take DOCUMENT_BYTES bytes) prefix) ∙ ap (past first_place) (sym all);
     }
 

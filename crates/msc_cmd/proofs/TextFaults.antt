@@ -6,12 +6,12 @@ use Rattle.msc_base.specs.declared.memory.NoMemory.{NoMemory}
 use Rattle.msc_base.specs.declared.place.Place.{Place}
 use Rattle.outside.specs.Shelves.{Files}
 use Rattle.msc_tokens.specs.Faults.{IfNamed}
-use Rattle.msc_tokens.specs.Lexing.{Fed}
 use Rattle.msc_tokens.specs.Places.{first_place, past}
 use Rattle.msc_tokens.specs.Spelling.{Spells, HasLexFault}
 use Rattle.msc_tokens.specs.declared.fault.LexFault.{LexFault}
 use Rattle.msc_tokens.specs.declared.fault.LexFault.TheVariants as lexical
 use Rattle.msc_tokens.specs.declared.token.Token.{Token}
+use Rattle.msc_tokens.proofs.Unique.{one_spelling, not_both}
 use Rattle.msc_tree.specs.Charts.{Document}
 use Rattle.msc_tree.specs.Views.{document_view}
 use Rattle.token_grammar.specs.Refusals.{IsRefusal, IsFault}
@@ -20,6 +20,9 @@ use Rattle.token_grammar.specs.declared.fault.ParseFault.TheVariants as grammar
 use Rattle.msc_rules.specs.declared.rule.Rule.{Rule}
 use Rattle.msc_rules.specs.declared.rule.Rule.TheVariants as rule
 use Rattle.msc_document.specs.DocumentGrammar.{document as documents}
+use Rattle.msc_document.specs.DocumentParts.{IsWritten}
+use Rattle.msc_document.proofs.DocumentRules.{one_document}
+use Rattle.msc_document.proofs.ParseAnswers.{no_document}
 use Rattle.msc_cmd.specs.declared.document_text.DocumentText.{DocumentText}
 use Rattle.msc_cmd.specs.declared.document_text.DocumentText.TheVariants.{Read, Refused}
 use Rattle.msc_cmd.specs.DocumentTexts.{BreaksRule, BreaksGrammar, HasTextFault, too_long, lexical_fault, grammar_fault, IsOnlyText, IsOnlyTextFault, IsTheText, ReadsAlone, MisreadsAlone, ParsesAs}
@@ -111,13 +114,11 @@ only_read bytes tokens document short spells alone faultless r = record {
     by broken place (lexical_fault s f h x) = faultless f h
     by broken place (grammar_fault s ts sp f h x) = r.faultless f (subst (λ (us : List Token). IsFault documents NESTING us (past first_place bytes) f) (alone ts sp) h)
 
--- what was fed is the whole text
-fed_whole : (prefix bytes : List ℕ) (intake : Intake) → HasTaken prefix intake → IsPrefixOf prefix bytes → intake.count ≤ DOCUMENT_BYTES → (length bytes ≤ DOCUMENT_BYTES) × Fed bytes intake.lexer
-fed_whole prefix bytes intake h f small =
+-- what is held is the whole text
+text_whole : (prefix bytes : List ℕ) (intake : Intake) → HasTaken prefix intake → IsPrefixOf prefix bytes → intake.count ≤ DOCUMENT_BYTES → intake.text.items ≡ bytes
+text_whole prefix bytes intake h f small =
     let short : length prefix ≤ DOCUMENT_BYTES = omega (arith, h.counted) in
-    let same : prefix ≡ bytes = within prefix bytes f short in
-    let all : take DOCUMENT_BYTES prefix ≡ bytes = take_all DOCUMENT_BYTES prefix short ∙ same in
-    (omega (arith, ap length same), subst (λ (bs : List ℕ). Fed bs intake.lexer) all h.fed)
+    h.held ∙ take_all DOCUMENT_BYTES prefix short ∙ within prefix bytes f short
 
 -- a fault that breaks a rule is no want of memory
 named : (fault : LexFault) (broken : Rule) (place : Place) (P : Type 0) → BreaksRule fault broken place → IfNamed fault P → P
@@ -146,26 +147,33 @@ settled_long prefix bytes intake over h f =
     let l = over_long prefix bytes f (omega (arith, over, h.counted)) in
     only_long bytes intake.place l.0 (h.behind ∙ ap (past first_place) l.1)
 
-pub settled_fault : (prefix bytes : List ℕ) (intake : Intake) (fault : LexFault) (broken : Rule) (place : Place) → intake.count ≤ DOCUMENT_BYTES
-    → ((bs : List ℕ) → Fed bs intake.lexer → IfNamed fault (HasLexFault bs fault)) → ((bs : List ℕ) → Fed bs intake.lexer → IfNamed fault ((others : LexFault) → HasLexFault bs others → others ≡ fault))
-    → ((bs : List ℕ) → Fed bs intake.lexer → IfNamed fault ((others : List Token) → Spells bs others → ⊥)) → BreaksRule fault broken place → HasTaken prefix intake → IsPrefixOf prefix bytes → IsOnlyTextFault bytes broken place
-settled_fault prefix bytes intake fault broken place small has only none b h f =
-    let w = fed_whole prefix bytes intake h f small in
-    only_lexical bytes fault broken place w.0 (named fault broken place (HasLexFault bytes fault) b (has bytes w.1)) (named fault broken place ((others : LexFault) → HasLexFault bytes others → others ≡ fault) b (only bytes w.1))
-    (named fault broken place ((others : List Token) → Spells bytes others → ⊥) b (none bytes w.1)) b
+-- the whole text has a fault
+pub whole_fault : (bytes : List ℕ) (fault : LexFault) (broken : Rule) (place : Place) → length bytes ≤ DOCUMENT_BYTES → IfNamed fault (HasLexFault bytes fault) → IfNamed fault ((others : LexFault) → HasLexFault bytes others → others ≡ fault)
+    → IfNamed fault ((others : List Token) → Spells bytes others → ⊥) → BreaksRule fault broken place → IsOnlyTextFault bytes broken place
+whole_fault bytes fault broken place short has only none b =
+    only_lexical bytes fault broken place short (named fault broken place (HasLexFault bytes fault) b has) (named fault broken place ((others : LexFault) → HasLexFault bytes others → others ≡ fault) b only)
+    (named fault broken place ((others : List Token) → Spells bytes others → ⊥) b none) b
 
 as_text : (bytes : List ℕ) (tokens : List Token) (text : DocumentText) → length bytes ≤ DOCUMENT_BYTES → Spells bytes tokens → ((others : List Token) → Spells bytes others → others ≡ tokens) → ((fault : LexFault) → HasLexFault bytes fault → ⊥)
     → ParsesAs tokens (past first_place bytes) text → IsTheText bytes text
 as_text bytes tokens (Read document) short spells alone faultless r = only_read bytes tokens (document_view document) short spells alone faultless r
 as_text bytes tokens (Refused broken place) short spells alone faultless r = only_misread bytes tokens broken place short spells alone faultless r
 
-pub settled_tokens : (prefix bytes : List ℕ) (intake : Intake) (tokens : List Token) (end : Place) (r : Result DocumentText NoMemory) → intake.count ≤ DOCUMENT_BYTES → ((bs : List ℕ) → Fed bs intake.lexer → Spells bs tokens)
-    → ((bs : List ℕ) → Fed bs intake.lexer → end ≡ past first_place bs) → ((bs : List ℕ) → Fed bs intake.lexer → (others : List Token) → Spells bs others → others ≡ tokens)
-    → ((bs : List ℕ) → Fed bs intake.lexer → (fault : LexFault) → HasLexFault bs fault → ⊥) → IfOk r (ParsesAs tokens end) → HasTaken prefix intake → IsPrefixOf prefix bytes → IfOk r (IsTheText bytes)
-settled_tokens prefix bytes intake tokens end (Err e) small ok ends only faultless reads h f = tt
-settled_tokens prefix bytes intake tokens end (Ok text) small ok ends only faultless reads h f =
-    let w = fed_whole prefix bytes intake h f small in
-    as_text bytes tokens text w.0 (ok bytes w.1) (only bytes w.1) (faultless bytes w.1) (subst (λ (p : Place). ParsesAs tokens p text) (ends bytes w.1) reads)
+-- the whole text has these tokens
+pub whole_tokens : (bytes : List ℕ) (tokens : List Token) (end : Place) (r : Result DocumentText NoMemory) → length bytes ≤ DOCUMENT_BYTES → Spells bytes tokens → end ≡ past first_place bytes
+    → ((others : List Token) → Spells bytes others → others ≡ tokens) → ((fault : LexFault) → HasLexFault bytes fault → ⊥) → IfOk r (ParsesAs tokens end) → IfOk r (IsTheText bytes)
+whole_tokens bytes tokens end (Err e) short spells ends only faultless reads = tt
+whole_tokens bytes tokens end (Ok text) short spells ends only faultless reads = as_text bytes tokens text short spells only faultless (subst (λ (p : Place). ParsesAs tokens p text) ends reads)
+
+-- the text was read part by part
+pub written_text : (bytes : List ℕ) (document : Document) → length bytes ≤ DOCUMENT_BYTES → IsWritten NESTING bytes document → IsOnlyText bytes document
+written_text bytes document short w =
+    only_read bytes w.tokens document short w.spells (λ others k. one_spelling bytes others w.tokens k w.spells) (λ fault k. not_both bytes w.tokens fault w.spells k)
+    (record { reads = w.reads; only = λ other k. one_document NESTING NESTING w.tokens other document k w.reads; faultless = λ fault k. no_document NESTING w.tokens (past first_place bytes) fault k document w.reads })
+
+-- the text that is held is the whole
+pub settled_text : (prefix bytes : List ℕ) (intake : Intake) (r : Result DocumentText NoMemory) → intake.count ≤ DOCUMENT_BYTES → IfOk r (IsTheText intake.text.items) → HasTaken prefix intake → IsPrefixOf prefix bytes → IfOk r (IsTheText bytes)
+settled_text prefix bytes intake r small reads h f = subst (λ (bs : List ℕ). IfOk r (IsTheText bs)) (text_whole prefix bytes intake h f small) reads
 
 -- what the text of a document that was taken is
 pub taken_text : (files : Option Files) (name : List ℕ) (intake : Intake) (r : Result DocumentText NoMemory) → HoldsDocument files name intake

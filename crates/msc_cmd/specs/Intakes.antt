@@ -3,7 +3,6 @@
 use Rattle.std.specs.Prelude.{◌≡◌, ◌<◌, ◌⊎◌, ℕ, List, [], ◌++◌, length, take, Option, Some, None, ⊤}
 use Rattle.outside.specs.Shelves.{Files}
 use Rattle.msc_base.specs.declared.limits.TheConstants.Limits.{DOCUMENT_BYTES}
-use Rattle.msc_tokens.specs.Lexing.{Fed}
 use Rattle.msc_tokens.specs.Places.{first_place, past}
 use Rattle.msc_cmd.specs.declared.document.Document.{Document}
 use Rattle.msc_cmd.specs.declared.document_text.DocumentText.{DocumentText}
@@ -12,10 +11,10 @@ use Rattle.msc_cmd.specs.Documents.{IsTheDocument}
 use Rattle.msc_cmd.specs.Reading.{HasRead}
 use Rattle.msc_cmd.specs.declared.intake.Intake.{Intake}
 
--- these bytes have been taken: the lexer has been fed those within the limit
+-- these bytes have been taken, and those within the limit are held
 pub record HasTaken (bytes : List ℕ) (intake : Intake) : Type 0 where
   pub counted : intake.count ≡ length bytes
-  pub fed : Fed (take DOCUMENT_BYTES bytes) intake.lexer
+  pub held : intake.text.items ≡ take DOCUMENT_BYTES bytes
   pub behind : intake.place ≡ past first_place (take DOCUMENT_BYTES bytes)
 
 -- what has been taken and what is left are the entry of this name, where it is told

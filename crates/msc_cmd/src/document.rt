@@ -26,8 +26,8 @@ pub enum Document {
 }
 
 /// What a document that has been read comes to.
-fn come_to(alloc: Global, document: &RawDocument) -> Result<Document, NoMemory>
-    ensures { IfOk result (ComesTo (document_view document.now)) }
+fn come_to(alloc: Global, document: RawDocument) -> Result<Document, NoMemory>
+    ensures { IfOk result (ComesTo (document_view document)) }
 {
     match accept(alloc, document) {
         Ok(accepted) => Ok(Document::Charts(accepted)),
@@ -41,7 +41,7 @@ pub fn settle(alloc: Global, text: DocumentText) -> Result<Document, NoMemory>
     ensures { (bytes : List ℕ) → IsTheText bytes text → IfOk result (IsTheDocument bytes) }
 {
     match text {
-        DocumentText::Read(document) => come_to(alloc, &document),
+        DocumentText::Read(document) => come_to(alloc, document),
         DocumentText::Refused(broken, place) => Ok(Document::Refused(broken, place)),
     }
 }

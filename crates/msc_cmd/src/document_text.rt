@@ -1,17 +1,18 @@
 //! What the bytes of a document are as a text, before any rule on charts: for `reading` and `printing`.
 
-ghost use Rattle.std.specs.Prelude.{ℕ, List, IfOk, IfSome};
+ghost use Rattle.std.specs.Prelude.{◌≤◌, ℕ, List, IfOk, IfSome, length};
+ghost use Rattle.msc_base.specs.declared.limits.TheConstants.Limits.{DOCUMENT_BYTES};
 ghost use Rattle.msc_cmd.specs.DocumentTexts.{BreaksGrammar, BreaksRule, IsTheText, ParsesAs};
 ghost use Rattle.msc_cmd.specs.Intakes.{HasTaken, IsPrefixOf};
 
 use crate::intake::Intake;
 use msc_base::{Limits, NoMemory, Place};
-use msc_document::parse;
+use msc_document::{parse, read_by_parts};
 use msc_rules::Rule;
-use msc_tokens::{LexFault, TokenList};
+use msc_tokens::{LexFault, TokenList, lex_all};
 use msc_tree::RawDocument;
 use std::alloc::Global;
-use token_grammar::ParseFault;
+use token_grammar::{ParseFault, ReadFault};
 
 /// What the bytes of a document are as a text.
 #[derive(Drop)]
@@ -60,23 +61,38 @@ fn parsed(alloc: Global, tokens: TokenList) -> Result<DocumentText, NoMemory>
     }
 }
 
-/// What the text of the document that has been taken is.
-pub fn text_of(alloc: Global, intake: Intake) -> Result<DocumentText, NoMemory>
-    ensures { (prefix : List ℕ) (bytes : List ℕ) → HasTaken prefix intake → IsPrefixOf prefix bytes → IfOk result (IsTheText bytes) }
+/// What a text is, from its tokens as a whole.
+fn whole_text(alloc: Global, text: &[u8]) -> Result<DocumentText, NoMemory>
+    requires { length text.now ≤ DOCUMENT_BYTES }
+    ensures { IfOk result (IsTheText text.now) }
 {
-    let Intake {
-        lexer,
-        count,
-        place,
-    } = intake;
-    if count > Limits::DOCUMENT_BYTES {
-        return Ok(DocumentText::Refused(Rule::Bytes, place));
-    }
-    match lexer.finish() {
+    match lex_all(alloc, text) {
         Ok(tokens) => parsed(alloc, tokens),
         Err(fault) => match broken_by(&fault) {
             Some((broken, at)) => Ok(DocumentText::Refused(broken, at)),
             None => Err(NoMemory),
         },
     }
+}
+
+/// What a text is. Where it isn't read part by part, it is looked at as a whole.
+fn read_text(alloc: Global, text: &[u8]) -> Result<DocumentText, NoMemory>
+    requires { length text.now ≤ DOCUMENT_BYTES }
+    ensures { IfOk result (IsTheText text.now) }
+{
+    match read_by_parts(alloc, text) {
+        Ok(document) => Ok(DocumentText::Read(document)),
+        Err(ReadFault::NoMemory) => Err(NoMemory),
+        Err(_) => whole_text(alloc, text),
+    }
+}
+
+/// What the text of the document that has been taken is.
+pub fn text_of(alloc: Global, intake: Intake) -> Result<DocumentText, NoMemory>
+    ensures { (prefix : List ℕ) (bytes : List ℕ) → HasTaken prefix intake → IsPrefixOf prefix bytes → IfOk result (IsTheText bytes) }
+{
+    if intake.count > Limits::DOCUMENT_BYTES {
+        return Ok(DocumentText::Refused(Rule::Bytes, intake.place));
+    }
+    read_text(alloc, intake.text.as_slice())
 }

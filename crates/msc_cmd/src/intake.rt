@@ -1,16 +1,17 @@
-//! A document under way: feeds its bytes to the lexer, and counts them up to the limit. For `reading`.
+//! A document under way: holds its bytes up to the limit, and counts them. For `reading`.
 
-ghost use Rattle.std.specs.Prelude.{◌≤◌, ◌+◌};
+ghost use Rattle.std.specs.Prelude.{◌≤◌, ◌+◌, length};
+ghost use Rattle.msc_base.specs.declared.limits.TheConstants.Limits.{DOCUMENT_BYTES};
 
 use msc_base::{Limits, NoMemory, Place};
-use msc_tokens::{LexFault, Lexer, place_behind};
+use msc_tokens::place_behind;
 use std::alloc::Global;
 
 /// A document as far as it has been read.
 #[derive(Drop)]
 pub struct Intake {
-    /// Has been fed the bytes within the limit.
-    pub lexer: Lexer,
+    /// The bytes within the limit.
+    pub text: Vec<u8>,
     /// How many bytes have been read.
     pub count: u64,
     /// The place behind them, or behind the last byte within the limit.
@@ -18,12 +19,12 @@ pub struct Intake {
     ghost lines: { place.line ≤ place.byte + 1 },
     ghost columns: { place.column ≤ place.byte + 1 },
     ghost within: { place.byte ≤ count },
-    ghost fed: { lexer.count ≤ count },
+    ghost held: { length text.items ≤ count },
+    ghost short: { length text.items ≤ DOCUMENT_BYTES },
 }
 
 impl Intake {
     ghost use Rattle.std.specs.Prelude.{◌≡◌, ◌≤◌, ◌+◌, ◌++◌, [], ℕ, List, length, IfOk, OnOk};
-    ghost use Rattle.msc_base.specs.declared.limits.TheConstants.Limits.{DOCUMENT_BYTES};
     ghost use Rattle.msc_cmd.specs.declared.entry.TheConstants.{PIECE_BYTES};
     ghost use Rattle.msc_cmd.specs.Intakes.{HasTaken};
 
@@ -32,14 +33,13 @@ impl Intake {
         ensures taken { IfOk result (λ intake. HasTaken [] intake) }
         ensures count { IfOk result (λ intake. intake.count ≡ 0) }
     {
-        let lexer = Lexer::new(alloc)?;
         let place = Place {
             byte: 0,
             line: 1,
             column: 1,
         };
         Ok(Intake {
-            lexer,
+            text: Vec::new(alloc),
             count: 0,
             place,
         })
@@ -55,9 +55,7 @@ impl Intake {
         let room = (Limits::DOCUMENT_BYTES - self.count) as usize;
         let (prefix, _) = piece.split_at(room.min(piece.len()));
         self.count += piece.len() as u64;
-        if let Err(LexFault::NoMemory) = self.lexer.feed(prefix) {
-            return Err(NoMemory);
-        }
+        self.text.extend_from_slice(prefix)?;
         self.place = place_behind(self.place, prefix);
         Ok(())
     }

@@ -45,7 +45,7 @@ after_parts (p, Some e) = []
 document_end_law : (n : ℕ) → Law (λ m. document_end) n end_word none
 document_end_law n = behind_law end_word (ending_law n)
 
-document_end_rule : (n : ℕ) → Rule (λ m. document_end) n end_word none document_end_at
+pub document_end_rule : (n : ℕ) → Rule (λ m. document_end) n end_word none document_end_at
 document_end_rule n = behind_rule end_word (codes "endmscdocument") refl (ending_rule n)
 
 last_none : {A : Type 0} (xs : List A) → last none [] xs ≡ []

@@ -13,10 +13,11 @@ pub mod Lines
 pub mod OperandMaps
 pub mod OperandRules
 pub mod ParseAnswers
+pub mod PartReading
 pub mod Parts
 pub mod References
 pub mod Separators
 pub mod Shallows
+pub mod StatementForms
 pub mod StatementLoops
 pub mod StatementRules
-pub mod StatementForms

@@ -49,7 +49,7 @@ module _ (n : ℕ) (ts : List Token) (end : Place) where
   fault_of (fault.TooDeep at) is h = h
   fault_of fault.NoMemory is h = absurd is
 
-  no_document : (f : ParseFault) → IsFault document n ts end f → (d : Document) → (document n).reads ts d → ⊥
+  pub no_document : (f : ParseFault) → IsFault document n ts end f → (d : Document) → (document n).reads ts d → ⊥
   no_document f (inl r) d h = refused_none document n ts r.left r.first n d h
   no_document f (inr r) d h = deep_none document n ts (proper_document n) r.left r.first d h
 

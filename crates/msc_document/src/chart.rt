@@ -1,4 +1,4 @@
-//! A chart: heads, then statements or a graph. For `document` alone.
+//! A chart: heads, then statements or a graph. For `document` and `part_reading`.
 
 ghost use Rattle.std.specs.Prelude.{◌≡◌, ◌++◌, codes};
 ghost use Rattle.msc_tree.specs.Views.{content_view, chart_view};

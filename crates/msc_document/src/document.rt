@@ -1,4 +1,4 @@
-//! A document with or without heading: for `parsing` alone. It counts no place and no limit.
+//! A document with or without heading: for `parsing` and `part_reading`. It counts no place and no limit.
 
 ghost use Rattle.std.specs.Prelude.{◌≡◌, [], ◌∷◌, length, map};
 ghost use Rattle.msc_tree.specs.Views.{chart_view, document_view};
@@ -73,7 +73,7 @@ fn document_end(tokens: &[Token]) -> Result<&[Token], ReadFault>
 }
 
 /// The end of a document, where there is one.
-fn some_end(tokens: &[Token]) -> Result<&[Token], ReadFault>
+pub fn some_end(tokens: &[Token]) -> Result<&[Token], ReadFault>
     ensures { Gives (λ x. (tt, x.now)) result (some_end_at tokens.now) }
 {
     if starts_with(tokens, "endmscdocument") {

@@ -368,7 +368,8 @@ fn instance(
     let rest = ending(rest)?;
     let (items, rest) = column_items(alloc, rest, levels, None)?;
     let rest = ending(rest)?;
-    Ok((column_of(decl, items), rest))
+    let column = column_of(alloc, decl, items)?;
+    Ok((column, rest))
 }
 
 // ---- elsewhere

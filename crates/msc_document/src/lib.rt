@@ -13,9 +13,11 @@ mod laws;
 mod line_parts;
 mod naming;
 mod parsing;
+mod part_reading;
 mod reference;
 mod starts;
 mod statements;
 
 pub use laws::documents_are_exact;
 pub use parsing::parse;
+pub use part_reading::read_by_parts;

@@ -12,7 +12,7 @@ ghost use Rattle.msc_document.specs.StatementReaders.{other_names_at};
 use msc_base::{Items, Name, Names, NoMemory, Place};
 use msc_events::declared;
 use msc_tokens::Token;
-use msc_tree::{Cover, Decl, RawItem, Statement};
+use msc_tree::{BoxedDecl, Cover, Decl, RawItem, Statement};
 use std::alloc::Global;
 use token_grammar::{ReadFault, ending, more_names, own_name, word};
 
@@ -26,12 +26,12 @@ pub fn one_item(alloc: Global, item: RawItem) -> Result<Vec<RawItem>, NoMemory>
 }
 
 /// The statement that is the column of an instance. Its items keep no room for others.
-pub fn column_of(decl: Decl, held: Vec<RawItem>) -> Statement
-    ensures { statement_view result ≡ Column decl (items (map item_view held.items)) }
+pub fn column_of(alloc: Global, decl: Decl, held: Vec<RawItem>) -> Result<Statement, NoMemory>
+    ensures { IfOk result (λ statement. statement_view statement ≡ Column decl (items (map item_view held.items))) }
 {
     let mut column = held;
     column.shrink_to_fit();
-    Statement::Column(decl, column)
+    Ok(Statement::Column(BoxedDecl::of(alloc, decl)?, column))
 }
 
 /// The statement that these instances are covered by these items.
@@ -42,10 +42,10 @@ pub fn covered_by(cover: Cover, held: Vec<RawItem>) -> Statement
 }
 
 /// The statement that this instance is declared.
-fn heading_of(decl: Decl) -> Statement
-    ensures { statement_view result ≡ Heading decl }
+fn heading_of(alloc: Global, decl: Decl) -> Result<Statement, NoMemory>
+    ensures { IfOk result (λ statement. statement_view statement ≡ Heading decl) }
 {
-    Statement::Heading(decl)
+    Ok(Statement::Heading(BoxedDecl::of(alloc, decl)?))
 }
 
 /// The statement that this instance ends.
@@ -80,7 +80,8 @@ pub fn heading_statement(
     ensures { Gives (λ x. (statement_view x.0, x.1.now)) result (map_at Heading (declared_at (name, place)) tokens.now) }
 {
     let (decl, rest) = declared(alloc, name, place, tokens)?;
-    Ok((heading_of(decl), rest))
+    let heading = heading_of(alloc, decl)?;
+    Ok((heading, rest))
 }
 
 /// The end of the instance of this name.

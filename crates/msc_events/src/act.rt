@@ -1,6 +1,6 @@
 //! What an event does, with its text and address: for events of charts (`events`) and of logs (`log_event`).
 
-ghost use Rattle.std.specs.Prelude.{◌≡◌};
+ghost use Rattle.std.specs.Prelude.{◌≡◌, IfOk};
 ghost use Rattle.msc_tree.specs.declared.event.Target.TheVariants.{Nobody};
 ghost use Rattle.token_grammar.specs.Answers.{Gives};
 ghost use Rattle.token_grammar.specs.PartReaders.{message_view};
@@ -9,9 +9,9 @@ ghost use Rattle.msc_events.specs.EventReaders.{output_at, input_at, action_at, 
 
 use crate::address::{address, orders};
 use crate::event_parts::{Address, Orders, Setting};
-use msc_base::{Kind, Place, Text};
+use msc_base::{Kind, NoMemory, Place, Text};
 use msc_tokens::Token;
-use msc_tree::{RawEvent, Target};
+use msc_tree::{BoxedName, RawEvent, Target};
 use std::alloc::Global;
 use token_grammar::{
     MessageParts, ReadFault, either_word, item, message, name, name_of, starts_with,
@@ -19,20 +19,26 @@ use token_grammar::{
 };
 
 /// The event of these parts, without its label.
-fn made_event(place: Place, message: MessageParts, address: Address) -> RawEvent
-    ensures { result ≡ event_of place (message_view message) address }
+fn made_event(
+    alloc: Global,
+    place: Place,
+    message: MessageParts,
+    address: Address,
+) -> Result<RawEvent, NoMemory>
+    ensures { IfOk result (λ event. event ≡ event_of place (message_view message) address) }
 {
-    RawEvent {
+    let pairing = BoxedName::of_some(alloc, message.pairing)?;
+    Ok(RawEvent {
         event_name: None,
         kind: address.kind,
         text: message.text,
         parameters: message.parameters,
-        pairing: message.pairing,
+        pairing,
         target: address.target,
         earlier_than: address.orders.earlier_than,
         later_than: address.orders.later_than,
         place,
-    }
+    })
 }
 
 /// A text alone.
@@ -58,7 +64,8 @@ fn output(
     let (message, rest) = message(alloc, rest)?;
     let (_to, rest) = word(rest, "to")?;
     let (address, rest) = address(alloc, setting, rest, "lost", Kind::Output, Kind::OutputLost)?;
-    Ok((made_event(out.place, message, address), rest))
+    let event = made_event(alloc, out.place, message, address)?;
+    Ok((event, rest))
 }
 
 /// A message is received (Z.120, clause 4.3).
@@ -73,7 +80,8 @@ fn input(
     let (message, rest) = message(alloc, rest)?;
     let (_from, rest) = word(rest, "from")?;
     let (address, rest) = address(alloc, setting, rest, "found", Kind::Input, Kind::InputFound)?;
-    Ok((made_event(word_in.place, message, address), rest))
+    let event = made_event(alloc, word_in.place, message, address)?;
+    Ok((event, rest))
 }
 
 /// A local action (Z.120, clause 4.9).
@@ -92,7 +100,8 @@ fn action(
         target: Target::Nobody,
         orders,
     };
-    Ok((made_event(action.place, plain_parts(text), address), rest))
+    let event = made_event(alloc, action.place, plain_parts(text), address)?;
+    Ok((event, rest))
 }
 
 /// A timer and the orders of its event (Z.120, clause 4.8).
@@ -109,15 +118,21 @@ fn timing(
 }
 
 /// A timer's event.
-fn timed(place: Place, kind: Kind, timer: MessageParts, orders: Orders) -> RawEvent
-    ensures { result ≡ event_of place (message_view timer) (address_of kind Nobody orders) }
+fn timed(
+    alloc: Global,
+    place: Place,
+    kind: Kind,
+    timer: MessageParts,
+    orders: Orders,
+) -> Result<RawEvent, NoMemory>
+    ensures { IfOk result (λ event. event ≡ event_of place (message_view timer) (address_of kind Nobody orders)) }
 {
     let address = Address {
         kind,
         target: Target::Nobody,
         orders,
     };
-    made_event(place, timer, address)
+    made_event(alloc, place, timer, address)
 }
 
 /// An instance is created (Z.120, clause 4.10): the text and the other end are the child.
@@ -137,7 +152,8 @@ fn creation(
         target: Target::Instance(name_of(alloc, child)?),
         orders,
     };
-    Ok((made_event(create.place, plain_parts(text), address), rest))
+    let event = made_event(alloc, create.place, plain_parts(text), address)?;
+    Ok((event, rest))
 }
 
 /// A timer's event, or a creation.
@@ -151,17 +167,20 @@ fn timers(
     if starts_with_either(tokens, "starttimer", "set") {
         let (start, rest) = either_word(tokens, "starttimer", "set")?;
         let (timer, orders, rest) = timing(alloc, setting, rest)?;
-        return Ok((timed(start.place, Kind::TimerStart, timer, orders), rest));
+        let event = timed(alloc, start.place, Kind::TimerStart, timer, orders)?;
+        return Ok((event, rest));
     }
     if starts_with_either(tokens, "stoptimer", "reset") {
         let (stop, rest) = either_word(tokens, "stoptimer", "reset")?;
         let (timer, orders, rest) = timing(alloc, setting, rest)?;
-        return Ok((timed(stop.place, Kind::TimerStop, timer, orders), rest));
+        let event = timed(alloc, stop.place, Kind::TimerStop, timer, orders)?;
+        return Ok((event, rest));
     }
     if starts_with(tokens, "timeout") {
         let (timeout, rest) = word(tokens, "timeout")?;
         let (timer, orders, rest) = timing(alloc, setting, rest)?;
-        return Ok((timed(timeout.place, Kind::Timeout, timer, orders), rest));
+        let event = timed(alloc, timeout.place, Kind::Timeout, timer, orders)?;
+        return Ok((event, rest));
     }
     creation(alloc, setting, tokens)
 }

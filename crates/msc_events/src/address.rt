@@ -8,7 +8,7 @@ ghost use Rattle.msc_events.specs.EventReaders.{names_behind_at, own_orders_at, 
 use crate::event_parts::{Address, Orders, Setting};
 use msc_base::{Items, Kind, Name, Names};
 use msc_tokens::Token;
-use msc_tree::Target;
+use msc_tree::{BoxedName, Target};
 use std::alloc::Global;
 use token_grammar::{ReadFault, ending, names, own_name, starts_with, starts_with_name, word};
 
@@ -131,7 +131,7 @@ fn to_env(
     let (_env, rest) = word(tokens, "env")?;
     let (gate, rest) = via(alloc, setting, rest)?;
     let (orders, rest) = orders(alloc, setting, rest)?;
-    let target = Target::Env(gate);
+    let target = Target::Env(BoxedName::of_some(alloc, gate)?);
     Ok((
         Address {
             kind,
@@ -196,7 +196,7 @@ fn to_gate(alloc: Global, tokens: &[Token], kind: Kind) -> Result<(Address, &[To
     let (_via, rest) = word(rest, "via")?;
     let (gate, rest) = own_name(alloc, rest)?;
     let (orders, rest) = orders(alloc, Setting::Chart, rest)?;
-    let target = Target::Gate(name, gate);
+    let target = Target::Gate(BoxedName::of(alloc, name)?, BoxedName::of(alloc, gate)?);
     Ok((
         Address {
             kind,

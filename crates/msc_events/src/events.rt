@@ -1,6 +1,6 @@
 //! Single events, coregions and stops of a chart: what msc_document puts into columns and operands.
 
-ghost use Rattle.std.specs.Prelude.{◌≡◌};
+ghost use Rattle.std.specs.Prelude.{◌≡◌, IfOk};
 ghost use Rattle.token_grammar.specs.Answers.{Gives};
 ghost use Rattle.token_grammar.specs.Languages.{starts};
 ghost use Rattle.msc_events.specs.Events.{tagged};
@@ -8,9 +8,9 @@ ghost use Rattle.msc_events.specs.EventReaders.{label_at, some_label_at, single_
 
 use crate::act::act;
 use crate::event_parts::Setting;
-use msc_base::{Items, Name, Place};
+use msc_base::{Items, Name, NoMemory, Place};
 use msc_tokens::Token;
-use msc_tree::{RawEvent, RawEventList};
+use msc_tree::{BoxedName, RawEvent, RawEventList};
 use std::alloc::Global;
 use token_grammar::{ReadFault, ending, own_name, starts_with, starts_with_either, word};
 
@@ -36,13 +36,18 @@ fn some_label(alloc: Global, tokens: &[Token]) -> Result<(Option<Name>, &[Token]
 }
 
 /// The event with this label.
-fn with_label(event_name: Option<Name>, event: RawEvent) -> RawEvent
-    ensures { result ≡ tagged event_name event }
+fn with_label(
+    alloc: Global,
+    event_name: Option<Name>,
+    event: RawEvent,
+) -> Result<RawEvent, NoMemory>
+    ensures { IfOk result (λ labelled. labelled ≡ tagged event_name event) }
 {
-    RawEvent {
+    let event_name = BoxedName::of_some(alloc, event_name)?;
+    Ok(RawEvent {
         event_name,
         ..event
-    }
+    })
 }
 
 /// A single event of a chart (Z.120, clauses 4.3 to 4.10).
@@ -51,7 +56,8 @@ pub fn single(alloc: Global, tokens: &[Token]) -> Result<(RawEvent, &[Token]), R
 {
     let (event_name, rest) = some_label(alloc, tokens)?;
     let (event, rest) = act(alloc, Setting::Chart, rest)?;
-    Ok((with_label(event_name, event), rest))
+    let event = with_label(alloc, event_name, event)?;
+    Ok((event, rest))
 }
 
 /// Whether the tokens start with a timer's event, or a creation.

@@ -66,7 +66,7 @@ fn statement_part<'a>(level: &mut PartList<'a>, statement: &'a Statement) -> Res
 {
     match statement {
         Statement::Column(decl, list) => {
-            item_parts(level, Setting::InColumn(&decl.name), list.as_slice())
+            item_parts(level, Setting::InColumn(&decl.decl().name), list.as_slice())
         }
         Statement::Covered(_, list) => item_parts(level, Setting::Outside, list.as_slice()),
         Statement::Heading(_) => Ok(()),
@@ -194,7 +194,7 @@ fn statement<'a>(
         Statement::Column(decl, list) => items(
             alloc,
             levels,
-            Setting::InColumn(&decl.name),
+            Setting::InColumn(&decl.decl().name),
             list.as_slice(),
         ),
         Statement::Covered(_, list) => items(alloc, levels, Setting::Outside, list.as_slice()),

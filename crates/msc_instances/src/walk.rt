@@ -261,14 +261,19 @@ fn statement<'a>(
 {
     match statement {
         Statement::Column(held, list) => {
-            decl(notes, held)?;
-            items(notes, scope, Scope::Column(&held.name), list.as_slice())
+            decl(notes, held.decl())?;
+            items(
+                notes,
+                scope,
+                Scope::Column(&held.decl().name),
+                list.as_slice(),
+            )
         }
         Statement::Covered(cover, list) => {
             leads(notes, outermost, scope, cover, list.as_slice())?;
             items(notes, scope, left(scope, cover), list.as_slice())
         }
-        Statement::Heading(held) => decl(notes, held),
+        Statement::Heading(held) => decl(notes, held.decl()),
         Statement::Ended(name) => ended(notes, outermost, name),
     }
 }

@@ -7,8 +7,8 @@ ghost use Rattle.msc_print.specs.Words.{all_words, alone, each_behind, name_word
 
 use crate::page::Page;
 use crate::parts::{end, names_after};
-use msc_base::{Kind, Name, NoMemory, Text, Words};
-use msc_tree::{RawEvent, Target};
+use msc_base::{Kind, NoMemory, Text, Words};
+use msc_tree::{BoxedName, RawEvent, Target};
 
 #[tactic(auto, using(crate::proofs::Putting::each_step))]
 /// Writes other items of a list in parentheses, each behind a comma.
@@ -34,12 +34,12 @@ fn items(page: &mut Page, items: &[Text]) -> Result<(), NoMemory>
 }
 
 /// Writes the name that serves the pairing alone, where there is one.
-fn pairing(page: &mut Page, pairing: &Option<Name>) -> Result<(), NoMemory>
+fn pairing(page: &mut Page, pairing: &Option<BoxedName>) -> Result<(), NoMemory>
     ensures { OnOk result (page.new ≡ put_all page.old (pairing_words pairing.now)) }
 {
     if let Some(name) = pairing {
         page.word(",")?;
-        page.put(name.bytes())?;
+        page.put(name.name().bytes())?;
     }
     Ok(())
 }
@@ -77,14 +77,14 @@ fn target(page: &mut Page, target: &Target) -> Result<(), NoMemory>
         Target::Env(Some(gate)) => {
             page.word("env")?;
             page.word("via")?;
-            page.put(gate.bytes())
+            page.put(gate.name().bytes())
         }
         Target::Instance(name) => page.put(name.bytes()),
         Target::Gate(reference, gate) => {
             page.word("reference")?;
-            page.put(reference.bytes())?;
+            page.put(reference.name().bytes())?;
             page.word("via")?;
-            page.put(gate.bytes())
+            page.put(gate.name().bytes())
         }
     }
 }
@@ -152,12 +152,12 @@ fn act(page: &mut Page, event: &RawEvent) -> Result<(), NoMemory>
 }
 
 /// Writes the name by which general orderings know the event, where it has one.
-fn event_name(page: &mut Page, event_name: &Option<Name>) -> Result<(), NoMemory>
+fn event_name(page: &mut Page, event_name: &Option<BoxedName>) -> Result<(), NoMemory>
     ensures { OnOk result (page.new ≡ put_all page.old (tag_words event_name.now)) }
 {
     if let Some(name) = event_name {
         page.word("label")?;
-        page.put(name.bytes())?;
+        page.put(name.name().bytes())?;
         end(page)?;
     }
     Ok(())

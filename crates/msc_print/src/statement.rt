@@ -171,9 +171,9 @@ fn statement(page: &mut Page, statement: &Statement) -> Result<(), NoMemory>
     ensures { OnOk result (page.new ≡ put_all page.old (statement_words (statement_view statement.now))) }
 {
     match statement {
-        Statement::Column(held, list) => column(page, held, list.as_slice()),
+        Statement::Column(held, list) => column(page, held.decl(), list.as_slice()),
         Statement::Covered(cover, list) => covered(page, cover, list.as_slice()),
-        Statement::Heading(held) => heading(page, held),
+        Statement::Heading(held) => heading(page, held.decl()),
         Statement::Ended(name) => ended(page, name),
     }
 }

@@ -1,4 +1,4 @@
-//! The lexer of a text in pieces (msc_cmd feeds documents to it), and of a whole text at once (lines of event_log).
+//! The lexer of a text in pieces, and of a whole text at once (documents in msc_cmd, lines of event_log).
 
 ghost use Rattle.std.specs.Prelude.{◌≡◌, ◌+◌, ◌<◌, ◌≤◌, ◌^◌, List, fold, length, IfOk, IfErr};
 ghost use Rattle.std.specs.Bool.{OnTrue};
@@ -37,7 +37,7 @@ impl Model for Lexer {
 }
 
 /// Takes all bytes of a piece, or says that memory ran out.
-fn take_all(machine: &mut Machine, piece: &[u8]) -> bool
+pub fn take_all(machine: &mut Machine, piece: &[u8]) -> bool
     requires { machine.old.place.byte + length piece.now < 2 ^ 63 }
     ensures taken { OnTrue result (view machine.new ≡ fold step (view machine.old) piece.now) }
     ensures bound { machine.new.place.byte ≤ machine.old.place.byte + length piece.now }

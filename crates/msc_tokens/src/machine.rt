@@ -1,4 +1,4 @@
-//! One step of the lexer for each byte, with the token that is open and the tokens so far: for `lexer` alone.
+//! One step of the lexer for each byte, with the token that is open and the tokens so far: for `lexer` and `part_lexer`.
 
 ghost use Rattle.std.specs.Prelude.{◌≤◌, ◌+◌};
 
@@ -9,6 +9,7 @@ use crate::whole::whole_token;
 use crate::{LexFault, Token, TokenKind, TokenList};
 use msc_base::{Items, Limits, NoMemory, Place, Text, is_word_byte};
 use std::alloc::Global;
+use std::mem;
 
 /// Where a text stands between two bytes.
 #[derive(Drop)]
@@ -25,7 +26,7 @@ pub struct Machine {
 }
 
 impl Machine {
-    ghost use Rattle.std.specs.Prelude.{◌≡◌, ◌<◌, ◌≤◌, ◌^◌, ◌+◌, OnOk, IfOk, IfErr, Some, Ok, Err, fold, length};
+    ghost use Rattle.std.specs.Prelude.{◌≡◌, ◌<◌, ◌≤◌, ◌^◌, ◌+◌, [], OnOk, IfOk, IfErr, Some, Ok, Err, fold, length};
     ghost use Rattle.msc_tokens.specs.Machine.{closed, in_mode, opened, passed, grown, refused, begun, next, step, first_state, settled, ended, listed};
     ghost use Rattle.msc_tokens.specs.Views.{view};
     ghost use Rattle.msc_tokens.specs.Wholes.{behind_token};
@@ -348,6 +349,14 @@ impl Machine {
             Mode::LongName => Some(LexFault::LongName(self.start)),
             _ => None,
         }
+    }
+
+    /// Takes out the tokens so far.
+    pub fn take_tokens(&mut self) -> Items<Token>
+        ensures tokens { result ≡ self.old.tokens }
+        ensures left { view self.new ≡ record (view self.old) { tokens = [] } }
+    {
+        mem::replace(&mut self.tokens, Items::new(self.alloc))
     }
 
     /// The tokens of the text up to here.

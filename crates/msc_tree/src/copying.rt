@@ -2,14 +2,28 @@
 
 ghost use Rattle.std.specs.Prelude.{◌≡◌, IfOk};
 
-use crate::{RawEvent, Target};
-use msc_base::{Items, NoMemory, Text, Words, copy_name, copy_names};
+use crate::{BoxedName, RawEvent, Target};
+use msc_base::{Items, NoMemory, Text, Words, copy_names};
 use std::alloc::Global;
+
+/// A copy of the name, where there is one.
+fn copy_rare(alloc: Global, name: &Option<BoxedName>) -> Result<Option<BoxedName>, NoMemory>
+    ensures { IfOk result (λ copied. copied ≡ name.now) }
+{
+    match name {
+        Some(name) => Ok(Some(name.copy(alloc)?)),
+        None => Ok(None),
+    }
+}
 
 /// A copy of the texts.
 fn copy_words(alloc: Global, words: &[Text]) -> Result<Words, NoMemory>
     ensures { IfOk result (λ copied. copied ≡ words.now) }
 {
+    if words.len() == 1 {
+        let word = words[0].copy(alloc)?;
+        return Items::one(alloc, word);
+    }
     let mut copied = Items::new(alloc);
     for word in words {
         copied.push(word.copy(alloc)?)?;
@@ -33,7 +47,7 @@ fn copy_target(alloc: Global, target: &Target) -> Result<Target, NoMemory>
 {
     match target {
         Target::Nobody => Ok(Target::Nobody),
-        Target::Env(gate) => Ok(Target::Env(copy_name(alloc, gate)?)),
+        Target::Env(gate) => Ok(Target::Env(copy_rare(alloc, gate)?)),
         Target::Instance(name) => Ok(Target::Instance(name.copy(alloc)?)),
         Target::Gate(reference, gate) => {
             let reference = reference.copy(alloc)?;
@@ -47,10 +61,10 @@ fn copy_target(alloc: Global, target: &Target) -> Result<Target, NoMemory>
 pub fn copy_event(alloc: Global, event: &RawEvent) -> Result<RawEvent, NoMemory>
     ensures { IfOk result (λ copied. copied ≡ event.now) }
 {
-    let event_name = copy_name(alloc, &event.event_name)?;
+    let event_name = copy_rare(alloc, &event.event_name)?;
     let text = event.text.copy(alloc)?;
     let parameters = copy_parameters(alloc, &event.parameters)?;
-    let pairing = copy_name(alloc, &event.pairing)?;
+    let pairing = copy_rare(alloc, &event.pairing)?;
     let target = copy_target(alloc, &event.target)?;
     let earlier_than = copy_names(alloc, event.earlier_than.as_slice())?;
     let later_than = copy_names(alloc, event.later_than.as_slice())?;

@@ -3,6 +3,7 @@
 ghost use Rattle.std.specs.Prelude.{◌≡◌};
 ghost use Rattle.msc_tree.specs.Directions.{far_name, is_direction, way_by};
 
+use crate::BoxedName;
 use msc_base::{Items, Kind, Name, Names, Place, Text, Words};
 
 /// The other end of an event, as it is written.
@@ -11,18 +12,18 @@ pub enum Target {
     /// The event names no other end.
     Nobody,
     /// The environment, where one is named through this gate.
-    Env(Option<Name>),
+    Env(Option<BoxedName>),
     /// The instance of this name.
     Instance(Name),
     /// The reference or inline expression of the first name, through the gate of the second.
-    Gate(Name, Name),
+    Gate(BoxedName, BoxedName),
 }
 
 /// An event of a chart, as it is written (Z.120, clauses 4.3 to 4.10).
 #[derive(Drop)]
 pub struct RawEvent {
     /// The name by which general orderings know it, where it has one.
-    pub event_name: Option<Name>,
+    pub event_name: Option<BoxedName>,
     /// What it does.
     pub kind: Kind,
     /// The name of the message or timer, the action, or the name of the child.
@@ -30,7 +31,7 @@ pub struct RawEvent {
     /// The list in parentheses behind the message or timer, item by item, where there is one.
     pub parameters: Option<Words>,
     /// The name that serves the pairing alone, where there is one.
-    pub pairing: Option<Name>,
+    pub pairing: Option<BoxedName>,
     /// The other end.
     pub target: Target,
     /// The events that it comes before.
@@ -40,6 +41,9 @@ pub struct RawEvent {
     /// Where it stands, behind its event_name.
     pub place: Place,
 }
+
+/// A document has an event for nearly each of its lines: the names that few of them have stand in boxes.
+const _: () = prove!(size_of::<RawEvent>() == 216);
 
 /// A list of events.
 pub type RawEventList = Items<RawEvent>;

@@ -3,6 +3,8 @@
 //! `specs/` has the same as plain trees, which contracts see; `specs/Views.antt` says which tree each value stands for.
 #![tactic(auto)]
 
+mod boxed_decl;
+mod boxed_name;
 mod chart;
 mod copying;
 mod event;
@@ -12,6 +14,8 @@ mod labelling;
 mod reference;
 mod statement;
 
+pub use boxed_decl::BoxedDecl;
+pub use boxed_name::BoxedName;
 pub use chart::{Content, Cover, Decl, DeclList, Heading, RawChart, RawDocument};
 pub use copying::copy_event;
 pub use event::{Direction, RawEvent, RawEventList, Target, far_bytes, way_of};

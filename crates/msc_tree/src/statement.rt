@@ -1,6 +1,6 @@
 //! Statements and items of a basic chart: columns, references, inline expressions with their operands.
 
-use crate::{Cover, Decl, InlineForm, JoinList, RawEvent, RawEventList, RefExpr};
+use crate::{BoxedDecl, Cover, InlineForm, JoinList, RawEvent, RawEventList, RefExpr};
 use msc_base::{Name, Names, Place};
 
 /// A reference to charts (Z.120, clause 7.3).
@@ -77,11 +77,11 @@ pub enum RawOperand {
 #[derive(Drop)]
 pub enum Statement {
     /// The column of an instance.
-    Column(Decl, Vec<RawItem>),
+    Column(BoxedDecl, Vec<RawItem>),
     /// Items of the covered instances.
     Covered(Cover, Vec<RawItem>),
     /// An instance is declared.
-    Heading(Decl),
+    Heading(BoxedDecl),
     /// The instance of this name ends.
     Ended(Name),
 }

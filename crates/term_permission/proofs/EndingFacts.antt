@@ -1,5 +1,5 @@
 -- Whether a term may end, part by part.
-use Rattle.std.specs.Prelude.{ℕ, zero, suc, ◌+◌, ◌<◌, ◌≤◌, Bool, true, false, List, [], ◌∷◌, ◌++◌, ◌≡◌, ◌↔◌, ◌⊎◌, Option, Some, refl, length, take, slice_get, IsTrue, Result, Ok, Err, IfOk}
+use Rattle.std.specs.Prelude.{ℕ, zero, suc, ◌+◌, ◌<◌, ◌≤◌, Bool, true, false, List, [], ◌∷◌, ◌++◌, ◌≡◌, ◌≢◌, ◌↔◌, ◌⊎◌, Option, Some, refl, length, take, slice_get, IsTrue, Result, Ok, Err, IfOk}
 use Rattle.std.proofs.Common.{◌∙◌, ap, sym, subst, arith, inl, inr}
 use Rattle.msc_base.specs.Patterns.{Mode, seq, par}
 use Rattle.hmsc_graph.specs.Graphs.{Net, Spot, Start, At, Goal, To, End, Any, WalkThrough, last, step, behind}
@@ -27,57 +27,85 @@ take_all (x ∷ xs) (suc n) h = ap (λ l. x ∷ l) (take_all xs n (omega arith))
 
 module _ (w : NetTerms) where
   -- several parts
-  all_push : (xs : List Tree) (x : Tree) → EndAll w xs → MayEnd w x → EndAll w (xs ++ x ∷ [])
-  all_push [] x h e = end_more e end_none
-  all_push (y ∷ xs) x (end_more a h) e = end_more a (all_push xs x h e)
-
-  pub all-ending : (xs : List Tree) (i : ℕ) (x : Tree) → slice_get xs i ≡ Some x → EndAll w (take i xs) → MayEnd w x → EndAll w (take (i + 1) xs)
-  all-ending xs i x p h e = subst (λ (l : List Tree). EndAll w l) (sym (take_step xs i x p)) (all_push (take i xs) x h e)
-
-  pub all-first : (xs : List Tree) → EndAll w (take 0 xs)
-  all-first [] = end_none
-  all-first (x ∷ xs) = end_none
-
   pub all-at : (xs : List Tree) (i : ℕ) (x : Tree) → slice_get xs i ≡ Some x → EndAll w xs → MayEnd w x
   all-at [] i x p h = cc
   all-at (y ∷ xs) zero x p (end_more a h) = let e : y ≡ x = cc in subst (λ (z : Tree). MayEnd w z) e a
   all-at (y ∷ xs) (suc i) x p (end_more a h) = all-at xs i x p h
-
-  one_pushed : (xs : List Tree) (x : Tree) → EndOne w (xs ++ x ∷ []) → EndOne w xs ⊎ MayEnd w x
-  one_pushed [] x (end_this a) = inr a
-  one_pushed [] x (end_that h) = absurd (no_one h)
-    where
-      no_one : EndOne w [] → ⊥
-      no_one h = elim h [ ]
-  one_pushed (y ∷ xs) x (end_this a) = inl (end_this a)
-  one_pushed (y ∷ xs) x (end_that h) = elim (one_pushed xs x h) [ inl l ↦ inl (end_that l) | inr r ↦ inr r ]
-
-  pub none-ending : (xs : List Tree) (i : ℕ) (x : Tree) → slice_get xs i ≡ Some x → (EndOne w (take i xs) → ⊥) → (MayEnd w x → ⊥) → EndOne w (take (i + 1) xs) → ⊥
-  none-ending xs i x p h e o = elim (one_pushed (take i xs) x (subst (λ (l : List Tree). EndOne w l) (take_step xs i x p) o)) [ inl l ↦ h l | inr r ↦ e r ]
 
   pub one-at : (xs : List Tree) (i : ℕ) (x : Tree) → slice_get xs i ≡ Some x → MayEnd w x → EndOne w xs
   one-at [] i x p h = cc
   one-at (y ∷ xs) zero x p h = let e : x ≡ y = cc in end_this (subst (λ (z : Tree). MayEnd w z) e h)
   one-at (y ∷ xs) (suc i) x p h = end_that (one-at xs i x p h)
 
-  pub none-first : (xs : List Tree) → EndOne w (take 0 xs) → ⊥
-  none-first [] h = elim h [ ]
-  none-first (x ∷ xs) h = elim h [ ]
+  -- one of several, apart from the others
 
-  -- the last of several
-  pub all-last : (xs : List Tree) (i : ℕ) (x : Tree) → i + 1 ≡ length xs → slice_get xs i ≡ Some x → EndAll w (take i xs) → MayEnd w x ↔ EndAll w xs
-  all-last xs i x l e h = (λ m. subst (λ (k : List Tree). EndAll w k) (take_all xs (i + 1) (omega (arith, l))) (all-ending xs i x e h m), λ a. all-at xs i x e a)
+  -- those before a place may end, but for this one
+  abbrev pub EndBut : List Tree → ℕ → ℕ → Type 0
+  EndBut xs skip i = (j : ℕ) (x : Tree) → j < i → j ≢ skip → slice_get xs j ≡ Some x → MayEnd w x
 
-  pub one-last : (xs : List Tree) (i : ℕ) (x : Tree) → i + 1 ≡ length xs → slice_get xs i ≡ Some x → (EndOne w (take i xs) → ⊥) → MayEnd w x ↔ EndOne w xs
-  one-last xs i x l e h = (λ m. one-at xs i x e m, λ o. elim (one_pushed (take i xs) x (subst (λ (k : List Tree). EndOne w k) (sym (take_all xs (i + 1) (omega (arith, l))) ∙ take_step xs i x e) o)) [ inl a ↦ absurd (h a) | inr m ↦ m ])
+  -- none of them may
+  abbrev pub NoneBut : List Tree → ℕ → ℕ → Type 0
+  NoneBut xs skip i = (j : ℕ) (x : Tree) → j < i → j ≢ skip → slice_get xs j ≡ Some x → MayEnd w x → ⊥
+
+  cut_next : (j i : ℕ) → j < i + 1 → (j < i) ⊎ (j ≡ i)
+  cut_next j i l = grind arith
+
+  pub but-more : (xs : List Tree) (skip i : ℕ) (x : Tree) → slice_get xs i ≡ Some x → EndBut xs skip i → MayEnd w x → EndBut xs skip (i + 1)
+  but-more xs skip i x e h m j y l n g = elim (cut_next j i l) [
+    | inl b ↦ h j y b n g
+    | inr q ↦ let same : Some x ≡ Some y = sym e ∙ (ap (slice_get xs) (sym q) ∙ g) in let is : x ≡ y = cc in subst (MayEnd w) is m
+  ]
+
+  pub but-skipped : (xs : List Tree) (skip i : ℕ) → i ≡ skip → EndBut xs skip i → EndBut xs skip (i + 1)
+  but-skipped xs skip i e h j y l n g = elim (cut_next j i l) [ inl b ↦ h j y b n g | inr q ↦ absurd (n (q ∙ e)) ]
+
+  pub none-more : (xs : List Tree) (skip i : ℕ) (x : Tree) → slice_get xs i ≡ Some x → NoneBut xs skip i → (MayEnd w x → ⊥) → NoneBut xs skip (i + 1)
+  none-more xs skip i x e h m j y l n g k = elim (cut_next j i l) [
+    | inl b ↦ h j y b n g k
+    | inr q ↦ let same : Some x ≡ Some y = sym e ∙ (ap (slice_get xs) (sym q) ∙ g) in let is : x ≡ y = cc in m (subst (MayEnd w) (sym is) k)
+  ]
+
+  pub none-skipped : (xs : List Tree) (skip i : ℕ) → i ≡ skip → NoneBut xs skip i → NoneBut xs skip (i + 1)
+  none-skipped xs skip i e h j y l n g k = elim (cut_next j i l) [ inl b ↦ h j y b n g k | inr q ↦ n (q ∙ e) ]
+
+  all_each : (xs : List Tree) → ((j : ℕ) (x : Tree) → slice_get xs j ≡ Some x → MayEnd w x) → EndAll w xs
+  all_each [] f = end_none
+  all_each (x ∷ xs) f = end_more (f 0 x refl) (all_each xs (λ j y g. f (suc j) y g))
+
+  one_where : (xs : List Tree) → EndOne w xs → (j : ℕ) × (y : Tree) × (slice_get xs j ≡ Some y) × MayEnd w y
+  one_where [] h = elim h [ ]
+  one_where (x ∷ xs) (end_this a) = (0, x, refl, a)
+  one_where (x ∷ xs) (end_that h) = let (j, y, g, m) = one_where xs h in (suc j, y, g, m)
+
+  got_below : (xs : List Tree) (j : ℕ) (x : Tree) → slice_get xs j ≡ Some x → j < length xs
+  got_below [] j x g = cc
+  got_below (y ∷ xs) zero x g = omega arith
+  got_below (y ∷ xs) (suc j) x g = let l = got_below xs j x g in omega arith
+
+  this_or : (j skip : ℕ) → (j ≡ skip) ⊎ (j ≢ skip)
+  this_or j skip = grind arith
+
+  pub all-but : (xs : List Tree) (skip i : ℕ) (x : Tree) → length xs ≤ i → slice_get xs skip ≡ Some x → EndBut xs skip i → MayEnd w x ↔ EndAll w xs
+  all-but xs skip i x l e h = (
+    λ m. all_each xs (λ j y g. elim (this_or j skip) [
+      | inl q ↦ let same : Some x ≡ Some y = sym e ∙ (ap (slice_get xs) (sym q) ∙ g) in let is : x ≡ y = cc in subst (MayEnd w) is m
+      | inr n ↦ h j y (let b = got_below xs j y g in omega (arith, l)) n g
+    ]),
+    λ a. all-at xs skip x e a,
+  )
+
+  pub one-but : (xs : List Tree) (skip i : ℕ) (x : Tree) → length xs ≤ i → slice_get xs skip ≡ Some x → NoneBut xs skip i → MayEnd w x ↔ EndOne w xs
+  one-but xs skip i x l e h = (
+    λ m. one-at xs skip x e m,
+    λ o. let (j, y, g, m) = one_where xs o in elim (this_or j skip) [
+      | inl q ↦ let same : Some x ≡ Some y = sym e ∙ (ap (slice_get xs) (sym q) ∙ g) in let is : x ≡ y = cc in subst (MayEnd w) (sym is) m
+      | inr n ↦ absurd (h j y (let b = got_below xs j y g in omega (arith, l)) n g m)
+    ],
+  )
 
   pub all-empty : (xs : List Tree) → length xs ≡ 0 → EndAll w xs
   all-empty [] l = end_none
   all-empty (x ∷ xs) l = absurd (omega arith)
-
-  pub one-empty : (xs : List Tree) → length xs ≡ 0 → EndOne w xs → ⊥
-  one-empty [] l h = elim h [ ]
-  one-empty (x ∷ xs) l h = absurd (omega arith)
 
   -- a row
   turns_push : (ps : List Part) (t : Part) → EndLoop w ps → MayPartEnd w t → EndLoop w (ps ++ t ∷ [])

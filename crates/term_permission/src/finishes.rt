@@ -1,6 +1,6 @@
 //! Whether a term may end: trace_judge asks it at a log's end. It takes no event and looks at no block.
 
-ghost use Rattle.std.specs.Prelude.{◌≡◌, ◌+◌, ◌<◌, ◌↔◌, ◌⊎◌, ℕ, IfOk, IsTrue, true};
+ghost use Rattle.std.specs.Prelude.{◌≡◌, ◌+◌, ◌<◌, ◌↔◌, ◌⊎◌, ℕ, IfOk, IsTrue, length, true};
 ghost use Rattle.chart_term.specs.NormalForms.{begun};
 ghost use Rattle.chart_term.specs.PartLists.{AreTurns};
 ghost use Rattle.chart_term.specs.Properties.{Each};
@@ -23,17 +23,17 @@ use msc_base::NoMemory;
 use std::alloc::Global;
 use term_tables::Nets;
 
-/// Whether a term may end, as far as it is told without a look into its last part.
+/// Whether a term may end, as far as it is told without a look into one of its parts.
 #[derive(Drop)]
 pub(crate) enum Ending<'a> {
     /// Whether it may.
     Told(bool),
-    /// It may exactly if this last part may.
+    /// It may exactly if this part may.
     As(&'a Term),
 }
 
-/// Whether the term may end: whether the empty pattern is one of its finished patterns. It goes down the last parts of lists, and
-/// below ties, in a loop.
+/// Whether the term may end: whether the empty pattern is one of its finished patterns. It goes down the first or the last
+/// parts of lists, whichever is heavier, and below ties, in a loop.
 #[cycle(may_end)]
 pub fn may_end(alloc: Global, nets: &Nets, term: &Term) -> Result<bool, NoMemory>
     requires tables { AreReadyTables nets.now.tables }
@@ -50,7 +50,7 @@ pub fn may_end(alloc: Global, nets: &Nets, term: &Term) -> Result<bool, NoMemory
     }
 }
 
-/// The same, but that a last part is left to whom it is told.
+/// The same, but that a part is left to whom it is told.
 #[cycle(may_end)]
 #[tactic(auto, using(crate::proofs::EndingFacts::endings))]
 fn ending_of<'a>(alloc: Global, nets: &Nets, term: &'a Term) -> Result<Ending<'a>, NoMemory>
@@ -77,7 +77,21 @@ fn ending_of<'a>(alloc: Global, nets: &Nets, term: &'a Term) -> Result<Ending<'a
     }
 }
 
-/// Whether all parts may end; the last is left to whom it is told.
+/// The index of the heavier of the first and the last part.
+fn heavier_end(parts: &PartList) -> usize
+    requires turns { AreTurns parts.now }
+    requires some { 0 < length parts.now }
+    ensures { result < length parts.now }
+{
+    let last = parts.len() - 1;
+    if parts.term_at(0).weight() > parts.term_at(last).weight() {
+        0
+    } else {
+        last
+    }
+}
+
+/// Whether all parts may end; the heavier of the first and the last is left to whom it is told.
 #[cycle(may_end)]
 #[tactic(auto, using(crate::proofs::EndingFacts::endings))]
 fn all_may_end<'a>(alloc: Global, nets: &Nets, parts: &'a PartList) -> Result<Ending<'a>, NoMemory>
@@ -90,16 +104,16 @@ fn all_may_end<'a>(alloc: Global, nets: &Nets, parts: &'a PartList) -> Result<En
     if count == 0 {
         return Ok(Ending::Told(true));
     }
-    let last = count - 1;
-    for index in 0..last {
-        if !may_end(alloc, nets, parts.term_at(index))? {
+    let heavy = heavier_end(parts);
+    for index in 0..count {
+        if index != heavy && !may_end(alloc, nets, parts.term_at(index))? {
             return Ok(Ending::Told(false));
         }
     }
-    Ok(Ending::As(parts.term_at(last)))
+    Ok(Ending::As(parts.term_at(heavy)))
 }
 
-/// Whether one of the parts may end; the last is left to whom it is told.
+/// Whether one of the parts may end; the heavier of the first and the last is left to whom it is told.
 #[cycle(may_end)]
 #[tactic(auto, using(crate::proofs::EndingFacts::endings))]
 fn one_may_end<'a>(alloc: Global, nets: &Nets, parts: &'a PartList) -> Result<Ending<'a>, NoMemory>
@@ -112,13 +126,13 @@ fn one_may_end<'a>(alloc: Global, nets: &Nets, parts: &'a PartList) -> Result<En
     if count == 0 {
         return Ok(Ending::Told(false));
     }
-    let last = count - 1;
-    for index in 0..last {
-        if may_end(alloc, nets, parts.term_at(index))? {
+    let heavy = heavier_end(parts);
+    for index in 0..count {
+        if index != heavy && may_end(alloc, nets, parts.term_at(index))? {
             return Ok(Ending::Told(true));
         }
     }
-    Ok(Ending::As(parts.term_at(last)))
+    Ok(Ending::As(parts.term_at(heavy)))
 }
 
 /// Whether all begun turns of a loop may end, and the operand besides where a turn is owed.

@@ -1,7 +1,7 @@
 //! The order and the equality of terms, by codes, then part by part: by them sets of terms (trace_judge) and choices keep each once.
 
-ghost use Rattle.std.specs.Prelude.{◌≡◌, ◌+◌, ◌↔◌, IsTrue};
-ghost use Rattle.chart_term.specs.Comparisons.{ComparesAs};
+ghost use Rattle.std.specs.Prelude.{◌≡◌, ◌+◌, ◌≤◌, ◌↔◌, IsTrue, length};
+ghost use Rattle.chart_term.specs.Comparisons.{ComparesAs, ComparesParts};
 ghost use Rattle.chart_term.specs.Order.{event_cmp, pairs_cmp, rank, row_cmp, shape_cmp, tree_cmp};
 ghost use Rattle.chart_term.specs.Sizes.{nodes, parts_nodes};
 ghost use Rattle.chart_term.specs.Terms.{row_of};
@@ -13,13 +13,13 @@ use node_facts::{compare_counts, compare_maybe};
 use std::cmp::Ordering;
 use tie_list::TieList;
 
-/// How two terms, or two lists, compare by all but their last parts.
+/// How two terms, or two lists, compare.
 #[derive(Drop)]
 pub(crate) enum Compared<'a> {
-    /// They differ there, or no part stands last in both: their order.
+    /// In this order.
     Told(Ordering),
-    /// As these two do, which stand last in them.
-    As(&'a Term, &'a Term),
+    /// As these two do, which stand in them; where these are equal, in this order.
+    As(&'a Term, &'a Term, Ordering),
 }
 
 /// By number, instances and label.
@@ -73,33 +73,36 @@ impl Form {
 }
 
 impl Term {
-    /// By code, by constructor, then by the parts in their order. It goes down the last parts of lists, and below ties, in a
-    /// loop. Most terms that differ have different codes, so a set mostly compares one number.
+    /// By code, by constructor, then by the parts in their order. It goes down the heaviest parts of lists, and below ties, in a
+    /// loop, so that the stack grows with the logarithm of the weight. Most terms that differ have different codes, so a set mostly
+    /// compares one number.
     #[cycle(compare)]
     pub(crate) fn compare(&self, other: &Term) -> Ordering
         ensures { result ≡ tree_cmp self.now other.now }
     {
         let mut first = self;
         let mut second = other;
+        let mut behind = Ordering::Equal;
         loop {
             let codes = first.facts().code.cmp(&second.facts().code);
             if codes != Ordering::Equal {
                 return codes;
             }
-            match first.compare_fronts(second) {
-                Compared::Told(order) => return order,
-                Compared::As(inner, other_inner) => {
+            match first.compare_light(second) {
+                Compared::Told(order) => return order.then(behind),
+                Compared::As(inner, other_inner, order) => {
                     first = inner;
                     second = other_inner;
+                    behind = order.then(behind);
                 }
             }
         }
     }
 
-    /// By constructor, then by the parts but the last.
+    /// By constructor, then by the parts but for the heaviest.
     #[cycle(compare)]
     #[tactic(auto, using(crate::proofs::Comparing::comparing))]
-    fn compare_fronts<'a>(&'a self, other: &'a Term) -> Compared<'a>
+    fn compare_light<'a>(&'a self, other: &'a Term) -> Compared<'a>
         ensures { ComparesAs (shape_cmp self.now other.now) (nodes self.now) result }
     {
         let node: &'a Node = &self.node;
@@ -109,12 +112,12 @@ impl Term {
             (Form::Event(event), Form::Event(second)) => {
                 Compared::Told(compare_events(&event.shown(), &second.shown()))
             }
-            (Form::Seq(parts), Form::Seq(others)) => parts.compare_fronts(others),
-            (Form::Par(parts), Form::Par(others)) => parts.compare_fronts(others),
-            (Form::Choice(parts), Form::Choice(others)) => parts.compare_fronts(others),
+            (Form::Seq(parts), Form::Seq(others)) => parts.compare_light(others),
+            (Form::Par(parts), Form::Par(others)) => parts.compare_light(others),
+            (Form::Choice(parts), Form::Choice(others)) => parts.compare_light(others),
             (Form::Tied(inner, pairs), Form::Tied(second, others)) => {
                 match compare_ties(pairs, others) {
-                    Ordering::Equal => Compared::As(inner, second),
+                    Ordering::Equal => Compared::As(inner, second, Ordering::Equal),
                     order => Compared::Told(order),
                 }
             }
@@ -124,7 +127,7 @@ impl Term {
                     .cmp(&others.lower)
                     .then(compare_counts(parts.upper, others.upper));
                 match parts.body.compare(&others.body).then(counts) {
-                    Ordering::Equal => parts.row.compare_fronts(&others.row),
+                    Ordering::Equal => parts.row.compare_light(&others.row),
                     order => Compared::Told(order),
                 }
             }
@@ -157,43 +160,65 @@ impl RowPart {
             (RowPart::Turn(turn), RowPart::Turn(second)) => turn.compare(second),
         }
     }
-
-    /// The same, but that two turns are left to whom it is told.
-    fn compare_last<'a>(&'a self, other: &'a RowPart) -> Compared<'a>
-        ensures { ComparesAs (part_cmp (part_of self.now) (part_of other.now)) (part_nodes (part_of self.now) + 1) result }
-    {
-        match (self, other) {
-            (RowPart::Gap(block), RowPart::Gap(second)) => {
-                Compared::Told(block.compare_instances(second))
-            }
-            (RowPart::Gap(_), RowPart::Turn(_)) => Compared::Told(Ordering::Less),
-            (RowPart::Turn(_), RowPart::Gap(_)) => Compared::Told(Ordering::Greater),
-            (RowPart::Turn(turn), RowPart::Turn(second)) => Compared::As(turn, second),
-        }
-    }
 }
 
 impl PartList {
-    /// Part by part, gaps before begun turns, but for a part that stands last in both.
+    /// The parts of both lists from one place up to another, one by one, gaps before begun turns; where a list ends before that, by
+    /// the lengths.
     #[cycle(compare)]
     #[tactic(auto, using(crate::proofs::Comparing::comparing))]
-    fn compare_fronts<'a>(&'a self, other: &'a PartList) -> Compared<'a>
-        ensures { ComparesAs (row_cmp (row_of self.now) (row_of other.now)) (parts_nodes self.now) result }
+    fn compare_parts(&self, other: &PartList, from: usize, to: usize) -> Ordering
+        requires behind { from ≤ to }
+        requires within { from ≤ length self.now }
+        requires other_within { from ≤ length other.now }
+        ensures { ComparesParts self.now other.now from to result }
     {
         let count = self.len();
         let other_count = other.len();
-        let mut at = 0;
-        while at < count && at < other_count {
-            if at + 1 == count && at + 1 == other_count {
-                return self.at(at).compare_last(other.at(at));
-            }
+        let mut at = from;
+        while at < to && at < count && at < other_count {
             let order = self.at(at).compare(other.at(at));
             if order != Ordering::Equal {
-                return Compared::Told(order);
+                return order;
             }
             at += 1;
         }
-        Compared::Told(count.cmp(&other_count))
+        if at == to {
+            return Ordering::Equal;
+        }
+        count.cmp(&other_count)
+    }
+
+    /// Part by part, gaps before begun turns, but for the heaviest of those that both have.
+    #[cycle(compare)]
+    #[tactic(auto, using(crate::proofs::Comparing::comparing))]
+    fn compare_light<'a>(&'a self, other: &'a PartList) -> Compared<'a>
+        ensures { ComparesAs (row_cmp (row_of self.now) (row_of other.now)) (parts_nodes self.now) result }
+    {
+        let shared = self.len().min(other.len());
+        if shared == 0 {
+            return Compared::Told(self.len().cmp(&other.len()));
+        }
+        let mut heavy = 0;
+        let mut most = 0;
+        for at in 0..shared {
+            if let RowPart::Turn(turn) = self.at(at) {
+                if turn.weight() > most {
+                    heavy = at;
+                    most = turn.weight();
+                }
+            }
+        }
+        let front = self.compare_parts(other, 0, heavy);
+        if front != Ordering::Equal {
+            return Compared::Told(front);
+        }
+        let end = self.len().max(other.len());
+        let behind = self.compare_parts(other, heavy + 1, end);
+        match (self.at(heavy), other.at(heavy)) {
+            (RowPart::Turn(turn), RowPart::Turn(second)) => Compared::As(turn, second, behind),
+            (part, second) => Compared::Told(part.compare(second).then(behind)),
+        }
     }
 }
 

@@ -102,7 +102,7 @@ woven_item-returns t c =
 pub woven_items-loop-number-init : goal.woven_items-loop-number-init
 woven_items-loop-number-init t c =
     gathered_none (λ is. AreWovenItems c.args.level.now (map parts_view c.args.items.now) [] (items (map item_view is))) (λ is. ItemsLackPartner (items (map item_view is)))
-    (ItemsCross c.args.level.now (map parts_view c.args.items.now) []) c.new-gathered.result c.new-gathered.ensures.list c.new-gathered.ensures.alone c.new-gathered.ensures.crossed no_woven (λ q h. h) (λ q h. h)
+    (ItemsCross c.args.level.now (map parts_view c.args.items.now) []) c.in_ok-gathered.gathered c.in_ok-gathered.ensures.list c.in_ok-gathered.ensures.alone c.in_ok-gathered.ensures.crossed no_woven (λ q h. h) (λ q h. h)
 
 pub woven_items-woven_item-requires : goal.woven_items-woven_item-requires
 woven_items-woven_item-requires t c =

@@ -1,4 +1,4 @@
-use Rattle.std.proofs.Common.{◌≡◌, ◌<◌, ◌≤◌, ◌↔◌, ◌∙◌, ◌-◌, ℕ, take, ap, sym, subst, arith, true, false, Bool, IsTrue, refl, length, ◌+◌}
+use Rattle.std.proofs.Common.{◌≡◌, ◌<◌, ◌≤◌, ◌↔◌, ◌∙◌, ℕ, ap, sym, subst, arith, true, false, Bool, IsTrue, refl, length, ◌+◌}
 use Rattle.hmsc_graph.specs.Graphs.{Net}
 use Rattle.hmsc_graph.specs.Nets.{IsNet, size_of}
 use Rattle.hmsc_graph.specs.Spots.{spot_of, goal_of}
@@ -12,7 +12,7 @@ use Rattle.hmsc_graph.specs.Walks.{Leads}
 use Rattle.term_permission.specs.Endings.{AreEnding, EndsAs}
 use Rattle.term_permission.specs.Ready.{IsReady}
 use Rattle.term_laws.specs.Taking.{MayEnd, EndAll, EndOne, EndWalk}
-use Rattle.term_permission.proofs.EndingFacts.{all-empty, all-first, all-last, all-at, all-ending, ends_as, one-at, one-last, none-ending, none-first, turns-first, turns-at, turns-part, seq-ends, par-ends, choice-ends, tied-ends, trail-ends, loop-not, loop-zero, loop-owed, walk-ends, ending-more, ok-map}
+use Rattle.term_permission.proofs.EndingFacts.{all-but, all-empty, all-at, but-more, but-skipped, ends_as, none-more, none-skipped, one-at, one-but, turns-first, turns-at, turns-part, seq-ends, par-ends, choice-ends, tied-ends, trail-ends, loop-not, loop-zero, loop-owed, walk-ends, ending-more, ok-map}
 use Rattle.term_laws.proofs.Measures.{rank_in, rank_all, rank-choice, rank-join, rank-loop, rank-at, rank-par, rank-part, rank-seq, rank-some, rank-tied}
 use Rattle.term_permission.proofs.NodeTerms.{node-is, sizes-are}
 use Rattle.term_permission.proofs.PermitLoops.{ready-loop}
@@ -21,9 +21,10 @@ use Rattle.term_permission.proofs.PermitWalks.{ready-walk}
 use Rattle.term_permission.proofs.Permits.{ready-at, ready-choice, ready-par, ready-seq, ready-tied}
 use Rattle.term_laws.proofs.TermSentences.{net_rank}
 use Rattle.term_permission.proofs.finishes.+may_end.Goals as goal
+use Rattle.term_permission.proofs.finishes.+may_end.Goals.{all_may_end-else-index-heavy-via-then-index-heavy+in_ok-may_end+else-not-branch, all_may_end-else-index-heavy-via-else-index-heavy, one_may_end-else-index-heavy-via-then-index-heavy+in_ok-may_end+else-branch, one_may_end-else-index-heavy-via-else-index-heavy}
 
 pub all_may_end-loop-index-init : goal.all_may_end-loop-index-init
-all_may_end-loop-index-init t c = all-first (terms_over c.args.nets.now.tables) (begun c.args.parts.now)
+all_may_end-loop-index-init t c = λ j x l n g. absurd (omega arith)
 
 pub all_may_end-may_end-requires : goal.all_may_end-may_end-requires
 all_may_end-may_end-requires t c =
@@ -36,19 +37,24 @@ all_may_end-returns-then-not-branch t c =
 
 pub all_may_end-loop-index-preserved : goal.all_may_end-loop-index-preserved
 all_may_end-loop-index-preserved t c =
-    let e : c.in_ok-may_end.field-0 ≡ true = cc in
-    all-ending (terms_over c.args.nets.now.tables) (begun c.args.parts.now) c.loop-index.index c.term_at.result.now c.term_at.ensures c.loop-index.invariant (c.in_ok-may_end.ensures.0 e)
+    let w = terms_over c.args.nets.now.tables in
+    let xs = begun c.args.parts.now in
+    elim c.else-index-heavy.branch [
+      | all_may_end-else-index-heavy-via-then-index-heavy+in_ok-may_end+else-not-branch b ↦
+          let e : b.in_ok-may_end.field-0 ≡ true = cc in
+          but-more w xs c.heavier_end-heavy.result c.loop-index.index b.term_at.result.now b.term_at.ensures c.loop-index.invariant (b.in_ok-may_end.ensures.0 e)
+      | all_may_end-else-index-heavy-via-else-index-heavy b ↦ but-skipped w xs c.heavier_end-heavy.result c.loop-index.index b.if-index-heavy.false c.loop-index.invariant
+    ]
 
 pub all_may_end-returns : goal.all_may_end-returns
 all_may_end-returns t c =
     let w = c.args.nets.now.tables in
     let xs = begun c.args.parts.now in
-    let last : c.loop-index.index ≡ c.len-count.result - 1 = omega (arith, c.loop-index.auto.index-end, c.loop-index-test.false) in
-    let long : c.len-count.result - 1 + 1 ≡ length xs = omega (arith, c.if-count-eq0.false, c.len-count.ensures, begun-length c.args.parts.now c.requires.turns) in
+    let over : length xs ≤ c.loop-index.index = omega (arith, c.loop-index-test.false, c.len-count.ensures, begun-length c.args.parts.now c.requires.turns) in
     record {
-      ends = all-last (terms_over w) xs (c.len-count.result - 1) c.term_at-2.result.now long c.term_at-2.ensures (subst (λ (n : ℕ). EndAll (terms_over w) (take n xs)) last c.loop-index.invariant);
-      ready = ready-at w xs (c.len-count.result - 1) c.term_at-2.result.now c.term_at-2.ensures c.requires.parts;
-      below = omega (arith, rank-at w xs (c.len-count.result - 1) c.term_at-2.result.now c.term_at-2.ensures);
+      ends = all-but (terms_over w) xs c.heavier_end-heavy.result c.loop-index.index c.term_at-2.result.now over c.term_at-2.ensures c.loop-index.invariant;
+      ready = ready-at w xs c.heavier_end-heavy.result c.term_at-2.result.now c.term_at-2.ensures c.requires.parts;
+      below = omega (arith, rank-at w xs c.heavier_end-heavy.result c.term_at-2.result.now c.term_at-2.ensures);
     }
 
 pub one_may_end-may_end-requires : goal.one_may_end-may_end-requires
@@ -63,21 +69,26 @@ one_may_end-returns-then-branch t c =
 
 pub one_may_end-loop-index-preserved : goal.one_may_end-loop-index-preserved
 one_may_end-loop-index-preserved t c =
-    none-ending (terms_over c.args.nets.now.tables) (begun c.args.parts.now) c.loop-index.index c.term_at.result.now c.term_at.ensures c.loop-index.invariant (λ h. let q : c.in_ok-may_end.field-0 ≡ true = c.in_ok-may_end.ensures.1 h in cc)
+    let w = terms_over c.args.nets.now.tables in
+    let xs = begun c.args.parts.now in
+    elim c.else-index-heavy.branch [
+      | one_may_end-else-index-heavy-via-then-index-heavy+in_ok-may_end+else-branch b ↦
+          none-more w xs c.heavier_end-heavy.result c.loop-index.index b.term_at.result.now b.term_at.ensures c.loop-index.invariant (λ h. let q : b.in_ok-may_end.field-0 ≡ true = b.in_ok-may_end.ensures.1 h in cc)
+      | one_may_end-else-index-heavy-via-else-index-heavy b ↦ none-skipped w xs c.heavier_end-heavy.result c.loop-index.index b.if-index-heavy.false c.loop-index.invariant
+    ]
 
 pub one_may_end-loop-index-init : goal.one_may_end-loop-index-init
-one_may_end-loop-index-init t c = none-first (terms_over c.args.nets.now.tables) (begun c.args.parts.now)
+one_may_end-loop-index-init t c = λ j x l n g m. absurd (omega arith)
 
 pub one_may_end-returns : goal.one_may_end-returns
 one_may_end-returns t c =
     let w = c.args.nets.now.tables in
     let xs = begun c.args.parts.now in
-    let last : c.loop-index.index ≡ c.len-count.result - 1 = omega (arith, c.loop-index.auto.index-end, c.loop-index-test.false) in
-    let long : c.len-count.result - 1 + 1 ≡ length xs = omega (arith, c.if-count-eq0.false, c.len-count.ensures, begun-length c.args.parts.now c.requires.turns) in
+    let over : length xs ≤ c.loop-index.index = omega (arith, c.loop-index-test.false, c.len-count.ensures, begun-length c.args.parts.now c.requires.turns) in
     record {
-      ends = one-last (terms_over w) xs (c.len-count.result - 1) c.term_at-2.result.now long c.term_at-2.ensures (subst (λ (n : ℕ). EndOne (terms_over w) (take n xs) → ⊥) last c.loop-index.invariant);
-      ready = ready-at w xs (c.len-count.result - 1) c.term_at-2.result.now c.term_at-2.ensures c.requires.parts;
-      below = omega (arith, rank-at w xs (c.len-count.result - 1) c.term_at-2.result.now c.term_at-2.ensures);
+      ends = one-but (terms_over w) xs c.heavier_end-heavy.result c.loop-index.index c.term_at-2.result.now over c.term_at-2.ensures c.loop-index.invariant;
+      ready = ready-at w xs c.heavier_end-heavy.result c.term_at-2.result.now c.term_at-2.ensures c.requires.parts;
+      below = omega (arith, rank-at w xs c.heavier_end-heavy.result c.term_at-2.result.now c.term_at-2.ensures);
     }
 
 pub turns_may_end-loop-index-init : goal.turns_may_end-loop-index-init

@@ -5,7 +5,8 @@ use Rattle.chart_term.specs.Tables.{net_of, terms_over}
 use Rattle.hmsc_graph.specs.Nets.{size_of}
 use Rattle.term_permission.specs.Endings.{AreEnding}
 use Rattle.term_permission.specs.Ready.{IsReady}
-use Rattle.term_laws.specs.Taking.{EndAll, EndOne, EndLoop, MayEnd}
+use Rattle.term_permission.proofs.EndingFacts.{EndBut, NoneBut}
+use Rattle.term_laws.specs.Taking.{EndLoop, MayEnd}
 use Rattle.term_laws.proofs.Measures.{rank_in, rank_all, rank_row, rank_part}
 use Rattle.term_laws.proofs.TermSentences.{net_rank}
 use Rattle.term_permission.proofs.finishes.+may_end.Given as goal
@@ -45,10 +46,10 @@ abbrev pub decreases-may_end-loop-ends : goal.decreases-may_end-loop-ends
 decreases-may_end-loop-ends l = rank_in l.nets.tables l.part
 
 abbrev pub invariant-all_may_end-loop-index : goal.invariant-all_may_end-loop-index
-invariant-all_may_end-loop-index l = EndAll (terms_over l.nets.tables) (take l.index (begun l.parts))
+invariant-all_may_end-loop-index l = EndBut (terms_over l.nets.tables) (begun l.parts) l.heavy l.index
 
 abbrev pub invariant-one_may_end-loop-index : goal.invariant-one_may_end-loop-index
-invariant-one_may_end-loop-index l = EndOne (terms_over l.nets.tables) (take l.index (begun l.parts)) → ⊥
+invariant-one_may_end-loop-index l = NoneBut (terms_over l.nets.tables) (begun l.parts) l.heavy l.index
 
 abbrev pub invariant-turns_may_end-loop-index : goal.invariant-turns_may_end-loop-index
 invariant-turns_may_end-loop-index l = EndLoop (terms_over l.nets.tables) (take l.index l.row)
