@@ -10,6 +10,7 @@ use level_pieces::{earliest_place, note_if};
 use msc_base::{Items, Limits, NoMemory, Place};
 use msc_tree::{Content, InlineForm, RawChart, RawForm, RawInline, RawItem, RawOperand, Statement};
 use std::alloc::Global;
+use std::slice;
 
 /// Whether a bound of the loop, if it is one, is above the limit.
 fn has_high_bound(form: InlineForm, lower: u64, upper: Option<u64>) -> bool
@@ -30,7 +31,7 @@ fn items(places: &mut Items<Place>, list: &[RawItem]) -> Result<(), NoMemory>
     ensures { OnOk result (places.new ≡ places.old ++ high_items (item_tree (map item_view list.now))) }
 {
     for held in list {
-        form(places, held.place, &held.form)?;
+        form(places, held.place.get(), &held.form)?;
     }
     Ok(())
 }
@@ -92,6 +93,7 @@ fn statement(places: &mut Items<Place>, statement: &Statement) -> Result<(), NoM
 {
     match statement {
         Statement::Column(_, list) => items(places, list.as_slice()),
+        Statement::One(_, held) => items(places, slice::from_ref(held)),
         Statement::Covered(_, list) => items(places, list.as_slice()),
         Statement::Heading(_) => Ok(()),
         Statement::Ended(_) => Ok(()),

@@ -15,12 +15,13 @@ use msc_tree::{
     Statement,
 };
 use std::alloc::Global;
+use std::slice;
 
 /// Notes an event, where it isn't built.
 fn event(places: &mut Items<Place>, at_one: bool, event: &RawEvent) -> Result<(), NoMemory>
     ensures { OnOk result (places.new ≡ places.old ++ not_built_event at_one event.now) }
 {
-    note_if(places, event.place, !at_one || !is_plain(event))
+    note_if(places, event.place.get(), !at_one || !is_plain(event))
 }
 
 /// Notes the events of a coregion that aren't built.
@@ -95,7 +96,7 @@ fn items(places: &mut Items<Place>, at_one: bool, list: &[RawItem]) -> Result<()
     ensures { OnOk result (places.new ≡ places.old ++ not_built_items at_one (item_tree (map item_view list.now))) }
 {
     for held in list {
-        form(places, at_one, held.place, &held.form)?;
+        form(places, at_one, held.place.get(), &held.form)?;
     }
     Ok(())
 }
@@ -170,6 +171,7 @@ fn statement(places: &mut Items<Place>, statement: &Statement) -> Result<(), NoM
             decl(places, held.decl())?;
             items(places, true, list.as_slice())
         }
+        Statement::One(cover, held) => items(places, has_one(cover), slice::from_ref(held)),
         Statement::Covered(cover, list) => items(places, has_one(cover), list.as_slice()),
         Statement::Heading(held) => decl(places, held.decl()),
         Statement::Ended(_) => Ok(()),

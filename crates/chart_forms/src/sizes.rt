@@ -7,6 +7,7 @@ ghost use Rattle.msc_tree.specs.Views.{chart_view, content_view, form_view, inli
 
 use msc_base::NoMemory;
 use msc_tree::{Content, RawChart, RawEvent, RawForm, RawInline, RawItem, RawOperand, Statement};
+use std::slice;
 
 /// The sum; a larger one than 64 bits hold would want more memory than there is.
 fn sum_of(a: u64, b: u64) -> Result<u64, NoMemory>
@@ -23,8 +24,8 @@ fn event_size(event: &RawEvent) -> Result<u64, NoMemory>
     ensures { IfOk result (λ size. size ≡ event_size event.now) }
 {
     let named = sum_of(
-        event.earlier_than.len() as u64,
-        event.later_than.len() as u64,
+        event.order.earlier_than().len() as u64,
+        event.order.later_than().len() as u64,
     )?;
     sum_of(3, named)
 }
@@ -118,6 +119,7 @@ fn statement_size(statement: &Statement) -> Result<u64, NoMemory>
 {
     match statement {
         Statement::Column(_, list) => items_size(list.as_slice()),
+        Statement::One(_, held) => items_size(slice::from_ref(held)),
         Statement::Covered(_, list) => items_size(list.as_slice()),
         Statement::Heading(_) => Ok(0),
         Statement::Ended(_) => Ok(0),

@@ -11,7 +11,7 @@ AreWithin start end es = (e : EventNode) → Among e es → (start ≤ e.number)
 
 -- none of the events is ordered with others by their names
 abbrev pub AreFree : List EventNode → Type 0
-AreFree es = (e : EventNode) → Among e es → (e.event.earlier_than ≡ []) × (e.event.later_than ≡ [])
+AreFree es = (e : EventNode) → Among e es → (e.event.order.earlier_than ≡ []) × (e.event.order.later_than ≡ [])
 
 pub record AreEventsInOrder (start end : ℕ) (es : List EventNode) : Type 0 where
   pub fits : start ≤ end

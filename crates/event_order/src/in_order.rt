@@ -8,7 +8,7 @@ ghost use Rattle.event_order.specs.InOrder.{AreEventsInOrder, AreFree, AreItemsI
 ghost use Rattle.event_order.specs.RankedBodies.{HasRank};
 
 use crate::levels::is_loop;
-use msc_base::{Names, Pair};
+use msc_base::{Name, Pair};
 use msc_meaning::{Body, EventNode, EventNodeList, InlineItem, Item};
 
 /// Whether the first event of each pair has the lower number.
@@ -24,17 +24,17 @@ fn do_rise(pairs: &[Pair]) -> bool
 }
 
 /// Whether there are no names.
-fn is_empty(names: &Names) -> bool
+fn is_empty(names: &[Name]) -> bool
     ensures { result ≡ true → names.now ≡ [] }
 {
-    names.len() == 0
+    names.is_empty()
 }
 
 /// Whether the event is ordered with no others by their names.
 fn is_free(node: &EventNode) -> bool
     ensures { result ≡ true → AreFree (node_view node.now ∷ []) }
 {
-    is_empty(&node.event.earlier_than) && is_empty(&node.event.later_than)
+    is_empty(node.event.order.earlier_than()) && is_empty(node.event.order.later_than())
 }
 
 /// The number of the event, where it is below the end and the event is ordered with no others by their names.

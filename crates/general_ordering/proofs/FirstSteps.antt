@@ -19,7 +19,7 @@ use Rattle.general_ordering.proofs.Groups.{behind, below, value_added, value_set
 
 first_both : (name : List ℕ) (o : Option ℕ) (ns ms : List EventNode) → first_number name o (ns ++ ms) ≡ first_number name (first_number name o ns) ms
 first_both name o [] ms = refl
-first_both name o (n ∷ ns) ms = first_both name (if is_labelled n.event.event_name name then lower o n.number else o) ns ms
+first_both name o (n ∷ ns) ms = first_both name (if is_labelled n.event.order.event_name name then lower o n.number else o) ns ms
 
 -- one item more
 pub first_step : (name : List ℕ) (xs : List code.Item) (k : ℕ) (x : code.Item) (old new all : Option ℕ) → k < length xs → x ≡ get_or xs k x → new ≡ first_number name old (item_events (item_view x))
@@ -91,9 +91,9 @@ first_tells_from name o [] p = by (is_first_before o p)
     by true = refl
     by false = refl
 first_tells_from name o (n ∷ ns) p =
-    first_tells_from name (if is_labelled n.event.event_name name then lower o n.number else o) ns p
-    ∙ (ap (λ (b : Bool). b || stands_before ns name p) (by (is_labelled n.event.event_name name) o)
-    ∙ or_assoc (is_first_before o p) (is_labelled n.event.event_name name && nat_lt n.number p) (stands_before ns name p))
+    first_tells_from name (if is_labelled n.event.order.event_name name then lower o n.number else o) ns p
+    ∙ (ap (λ (b : Bool). b || stands_before ns name p) (by (is_labelled n.event.order.event_name name) o)
+    ∙ or_assoc (is_first_before o p) (is_labelled n.event.order.event_name name && nat_lt n.number p) (stands_before ns name p))
   where
     by : (b : Bool) (o : Option ℕ) → is_first_before (if b then lower o n.number else o) p ≡ (is_first_before o p || (b && nat_lt n.number p))
     by true None = refl

@@ -25,7 +25,7 @@ assoc (x ∷ xs) ys zs = ap (λ l. x ∷ l) (assoc xs ys zs)
 
 pub labelled_both : (ns ms : List EventNode) (name : List ℕ) → labelled (ns ++ ms) name ≡ labelled ns name ++ labelled ms name
 labelled_both [] ms name = refl
-labelled_both (n ∷ ns) ms name = by (is_labelled n.event.event_name name) (labelled_both ns ms name)
+labelled_both (n ∷ ns) ms name = by (is_labelled n.event.order.event_name name) (labelled_both ns ms name)
   where
     by : (b : Bool) → labelled (ns ++ ms) name ≡ labelled ns name ++ labelled ms name
         → (if b then n.number ∷ labelled (ns ++ ms) name else labelled (ns ++ ms) name) ≡ (if b then n.number ∷ labelled ns name else labelled ns name) ++ labelled ms name
@@ -35,9 +35,9 @@ labelled_both (n ∷ ns) ms name = by (is_labelled n.event.event_name name) (lab
 pub order_both : (named : List ℕ → List ℕ) (ns ms : List EventNode) → order_pairs named (ns ++ ms) ≡ order_pairs named ns ++ order_pairs named ms
 order_both named [] ms = refl
 order_both named (n ∷ ns) ms =
-    ap (λ l. before_pairs named n.number n.event.earlier_than ++ (after_pairs named n.number n.event.later_than ++ l)) (order_both named ns ms)
-    ∙ ap (λ l. before_pairs named n.number n.event.earlier_than ++ l) (assoc (after_pairs named n.number n.event.later_than) (order_pairs named ns) (order_pairs named ms))
-    ∙ assoc (before_pairs named n.number n.event.earlier_than) (after_pairs named n.number n.event.later_than ++ order_pairs named ns) (order_pairs named ms)
+    ap (λ l. before_pairs named n.number n.event.order.earlier_than ++ (after_pairs named n.number n.event.order.later_than ++ l)) (order_both named ns ms)
+    ∙ ap (λ l. before_pairs named n.number n.event.order.earlier_than ++ l) (assoc (after_pairs named n.number n.event.order.later_than) (order_pairs named ns) (order_pairs named ms))
+    ∙ assoc (before_pairs named n.number n.event.order.earlier_than) (after_pairs named n.number n.event.order.later_than ++ order_pairs named ns) (order_pairs named ms)
 
 -- the item at k, and those behind it
 pub behind : (xs : List code.Item) (k : ℕ) (x : code.Item) → k < length xs → x ≡ get_or xs k x → drop k xs ≡ x ∷ drop (k + 1) xs
@@ -68,9 +68,9 @@ module _ (f g : List ℕ → List ℕ) (same : (name : List ℕ) → f name ≡ 
   pub order_same : (ns : List EventNode) → order_pairs f ns ≡ order_pairs g ns
   order_same [] = refl
   order_same (n ∷ ns) =
-      ap (λ l. l ++ (after_pairs f n.number n.event.later_than ++ order_pairs f ns)) (before_same n.number n.event.earlier_than)
-      ∙ ap (λ l. before_pairs g n.number n.event.earlier_than ++ (l ++ order_pairs f ns)) (after_same n.number n.event.later_than)
-      ∙ ap (λ l. before_pairs g n.number n.event.earlier_than ++ (after_pairs g n.number n.event.later_than ++ l)) (order_same ns)
+      ap (λ l. l ++ (after_pairs f n.number n.event.order.later_than ++ order_pairs f ns)) (before_same n.number n.event.order.earlier_than)
+      ∙ ap (λ l. before_pairs g n.number n.event.order.earlier_than ++ (l ++ order_pairs f ns)) (after_same n.number n.event.order.later_than)
+      ∙ ap (λ l. before_pairs g n.number n.event.order.earlier_than ++ (after_pairs g n.number n.event.order.later_than ++ l)) (order_same ns)
 
 -- ---- one number more
 

@@ -37,14 +37,14 @@ module _ (name : List ℕ) where
   named all (Some label) k t = ap (λ (l : List ℕ). stands_before all l k) ((bytes_eq-Decides label name).0 t)
 
   -- one of a lower number breaks the rule
-  broken : (all : List EventNode) (a b : EventNode) → Among a all → is_labelled a.event.event_name name ≡ true → is_labelled b.event.event_name name ≡ true → a.number < b.number → breaks Twice all b ≡ true
+  broken : (all : List EventNode) (a b : EventNode) → Among a all → is_labelled a.event.order.event_name name ≡ true → is_labelled b.event.order.event_name name ≡ true → a.number < b.number → breaks Twice all b ≡ true
   broken all a b h s t low =
       let less : nat_lt a.number b.number ≡ true = grind (arith, nat_tests) in
-      named all b.event.event_name b.number t
-      ∙ passes (λ (n : EventNode). is_labelled n.event.event_name name && nat_lt n.number b.number) all a h (ap (λ (c : Bool). c && nat_lt a.number b.number) s ∙ less)
+      named all b.event.order.event_name b.number t
+      ∙ passes (λ (n : EventNode). is_labelled n.event.order.event_name name && nat_lt n.number b.number) all a h (ap (λ (c : Bool). c && nat_lt a.number b.number) s ∙ less)
 
   same_number : (all : List EventNode) → ((p : Place) → IsAmong (places_where (breaks Twice all) all) p → ⊥) → (a b : EventNode) → Among a all → Among b all
-      → is_labelled a.event.event_name name ≡ true → is_labelled b.event.event_name name ≡ true → a.number ≡ b.number
+      → is_labelled a.event.order.event_name name ≡ true → is_labelled b.event.order.event_name name ≡ true → a.number ≡ b.number
   same_number all none a b i j s t = by (cases_lt a.number b.number) (cases_lt b.number a.number)
     where
       by : (a.number < b.number) ⊎ (b.number ≤ a.number) → (b.number < a.number) ⊎ (a.number ≤ b.number) → a.number ≡ b.number
@@ -53,11 +53,11 @@ module _ (name : List ℕ) where
       by (inr high) (inr low) = omega arith
 
   -- no event of that name
-  labelled_none : (ns : List EventNode) → ((m : EventNode) → Among m ns → is_labelled m.event.event_name name ≡ true → ⊥) → labelled ns name ≡ []
+  labelled_none : (ns : List EventNode) → ((m : EventNode) → Among m ns → is_labelled m.event.order.event_name name ≡ true → ⊥) → labelled ns name ≡ []
   labelled_none [] f = refl
-  labelled_none (n ∷ ns) f = by (is_labelled n.event.event_name name) refl (labelled_none ns (λ m i t. f m (later i) t))
+  labelled_none (n ∷ ns) f = by (is_labelled n.event.order.event_name name) refl (labelled_none ns (λ m i t. f m (later i) t))
     where
-      by : (b : Bool) → is_labelled n.event.event_name name ≡ b → labelled ns name ≡ [] → (if b then n.number ∷ labelled ns name else labelled ns name) ≡ []
+      by : (b : Bool) → is_labelled n.event.order.event_name name ≡ b → labelled ns name ≡ [] → (if b then n.number ∷ labelled ns name else labelled ns name) ≡ []
       by true t e = absurd (f n first t)
       by false t e = e
 
@@ -66,12 +66,12 @@ module _ (name : List ℕ) where
   number_among (n ∷ ns) m (later h) = later (number_among ns m h)
   number_among [] m h = elim h [ ]
 
-  one_at_most : (ns : List EventNode) → Once (map (λ (n : EventNode). n.number) ns) → ((a b : EventNode) → Among a ns → Among b ns → is_labelled a.event.event_name name ≡ true → is_labelled b.event.event_name name ≡ true → a.number ≡ b.number)
+  one_at_most : (ns : List EventNode) → Once (map (λ (n : EventNode). n.number) ns) → ((a b : EventNode) → Among a ns → Among b ns → is_labelled a.event.order.event_name name ≡ true → is_labelled b.event.order.event_name name ≡ true → a.number ≡ b.number)
       → length (labelled ns name) ≤ 1
   one_at_most [] o f = omega arith
-  one_at_most (n ∷ ns) (o, h) f = by (is_labelled n.event.event_name name) refl (one_at_most ns h (λ a b i j. f a b (later i) (later j)))
+  one_at_most (n ∷ ns) (o, h) f = by (is_labelled n.event.order.event_name name) refl (one_at_most ns h (λ a b i j. f a b (later i) (later j)))
     where
-      by : (b : Bool) → is_labelled n.event.event_name name ≡ b → length (labelled ns name) ≤ 1 → length (if b then n.number ∷ labelled ns name else labelled ns name) ≤ 1
+      by : (b : Bool) → is_labelled n.event.order.event_name name ≡ b → length (labelled ns name) ≤ 1 → length (if b then n.number ∷ labelled ns name else labelled ns name) ≤ 1
       by false t few = few
       by true t few =
           let none : labelled ns name ≡ [] = labelled_none ns (λ m i s. o (subst (λ (k : ℕ). Among k (map (λ (e : EventNode). e.number) ns)) (f m n (later i) first s t) (number_among ns m i))) in

@@ -19,7 +19,7 @@ names_none named (name ∷ names) = is_none (named name) || names_none named nam
 
 -- an event of that name has a lower number; events are numbered in the order of the text
 abbrev pub stands_before : List EventNode → List ℕ → ℕ → Bool
-stands_before ns name number = list_any (λ (n : EventNode). is_labelled n.event.event_name name && nat_lt n.number number) ns
+stands_before ns name number = list_any (λ (n : EventNode). is_labelled n.event.order.event_name name && nat_lt n.number number) ns
 
 abbrev pub is_named_before : List EventNode → Option (List ℕ) → ℕ → Bool
 is_named_before ns None number = false
@@ -27,8 +27,8 @@ is_named_before ns (Some name) number = stands_before ns name number
 
 -- the event breaks the rule, among all events of its level
 abbrev pub breaks : EventNameRule → List EventNode → EventNode → Bool
-breaks Unknown all n = names_none (labelled all) n.event.earlier_than || names_none (labelled all) n.event.later_than
-breaks Twice all n = is_named_before all n.event.event_name n.number
+breaks Unknown all n = names_none (labelled all) n.event.order.earlier_than || names_none (labelled all) n.event.order.later_than
+breaks Twice all n = is_named_before all n.event.order.event_name n.number
 
 -- the places of those of these events that pass a test
 abbrev pub places_where : (EventNode → Bool) → List EventNode → List Place

@@ -26,7 +26,7 @@ lower (Some first) number = Some (min first number)
 -- the lowest number so far, and of these events
 abbrev pub first_number : List ℕ → Option ℕ → List EventNode → Option ℕ
 first_number name so_far [] = so_far
-first_number name so_far (n ∷ ns) = first_number name (if is_labelled n.event.event_name name then lower so_far n.number else so_far) ns
+first_number name so_far (n ∷ ns) = first_number name (if is_labelled n.event.order.event_name name then lower so_far n.number else so_far) ns
 
 abbrev pub is_first_before : Option ℕ → ℕ → Bool
 is_first_before None number = false
@@ -42,5 +42,5 @@ IsWhole (Firsts firsts) = AreEven firsts
 
 -- the event breaks the rule, as the table has it
 abbrev pub fails : NameTest → EventNode → Bool
-fails (Events named) n = names_none (group_of named) n.event.earlier_than || names_none (group_of named) n.event.later_than
-fails (Firsts firsts) n = has_before (first_of firsts) n.event.event_name n.number
+fails (Events named) n = names_none (group_of named) n.event.order.earlier_than || names_none (group_of named) n.event.order.later_than
+fails (Firsts firsts) n = has_before (first_of firsts) n.event.order.event_name n.number

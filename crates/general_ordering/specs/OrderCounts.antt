@@ -5,7 +5,7 @@ use Rattle.msc_meaning.specs.Bodies.{EventNode}
 
 -- how many names of events it is to come before or after
 abbrev pub order_count : RawEvent → ℕ
-order_count e = length e.earlier_than + length e.later_than
+order_count e = length e.order.earlier_than + length e.order.later_than
 
 abbrev pub orders_count : List EventNode → ℕ
 orders_count [] = 0

@@ -1,6 +1,6 @@
 //! The earliest event of a body whose name, or whose general ordering, breaks a rule.
 
-ghost use Rattle.std.specs.Prelude.{◌≡◌, ◌||◌, ◌++◌, ◌∷◌, [], IfOk, OnOk, map, if◌then◌else◌};
+ghost use Rattle.std.specs.Prelude.{◌≡◌, ◌||◌, ◌++◌, ◌∷◌, [], IfOk, OnOk, map, option_copied, if◌then◌else◌};
 ghost use Rattle.general_ordering.specs.EventNames.{BreaksNameRule, body_faults, breaks, is_none as has_none, item_faults, items_faults, names_none as none_named, operands_faults, places_where};
 ghost use Rattle.general_ordering.specs.FirstNumbers.{AreEven, IsWhole, fails as failing, first_of, has_before as has_first};
 ghost use Rattle.general_ordering.specs.NamedEvents.{IsEven, group_of};
@@ -14,7 +14,6 @@ use crate::firsts::FirstNumbers;
 use crate::named::NamedEvents;
 use msc_base::{Items, Name, NoMemory, Place, earlier_place};
 use msc_meaning::{Body, EventNode, InlineItem, Item};
-use msc_tree::BoxedName;
 use std::alloc::Global;
 
 /// A rule on the names of events.
@@ -55,13 +54,13 @@ fn names_none(named: &NamedEvents, names: &[Name]) -> bool
 }
 
 /// Whether an event of the name has a lower number.
-fn has_before(firsts: &FirstNumbers, name: &Option<BoxedName>, number: u32) -> bool
+fn has_before(firsts: &FirstNumbers, name: Option<&Name>, number: u32) -> bool
     requires { AreEven firsts.now }
-    ensures { result ≡ has_first (first_of firsts.now) name.now number }
+    ensures { result ≡ has_first (first_of firsts.now) (option_copied name.entry) number }
 {
     match name {
         None => false,
-        Some(name) => match firsts.first(name.name()) {
+        Some(name) => match firsts.first(name) {
             None => false,
             Some(first) => first < number,
         },
@@ -87,10 +86,14 @@ impl NameTest {
     {
         match self {
             NameTest::Events(named) => {
-                names_none(named, node.event.earlier_than.as_slice())
-                    || names_none(named, node.event.later_than.as_slice())
+                names_none(named, node.event.order.earlier_than())
+                    || names_none(named, node.event.order.later_than())
             }
-            NameTest::Firsts(firsts) => has_before(firsts, &node.event.event_name, node.number),
+            NameTest::Firsts(firsts) => has_before(
+                firsts,
+                node.event.order.event_name(),
+                node.number,
+            ),
         }
     }
 }
@@ -101,7 +104,7 @@ fn note(places: &mut Items<Place>, test: &NameTest, node: &EventNode) -> Result<
     ensures { OnOk result (places.new ≡ places.old ++ places_where (failing test.now) (node_view node.now ∷ [])) }
 {
     if test.fails(node) {
-        places.push(node.event.place)?;
+        places.push(node.event.place.get())?;
     }
     Ok(())
 }

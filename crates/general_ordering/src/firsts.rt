@@ -67,8 +67,8 @@ impl FirstNumbers {
         ensures even { OnOk result (AreEven self.new) }
         ensures added { OnOk result ((name : List ℕ) → first_of self.new name ≡ first_number name (first_of self.old name) (node_view node.now ∷ [])) }
     {
-        match &node.event.event_name {
-            Some(name) => self.add(alloc, name.name(), node.number),
+        match node.event.order.event_name() {
+            Some(name) => self.add(alloc, name, node.number),
             None => Ok(()),
         }
     }

@@ -63,8 +63,8 @@ impl NamedEvents {
         ensures even { OnOk result (IsEven self.new) }
         ensures added { OnOk result ((name : List ℕ) → group_of self.new name ≡ group_of self.old name ++ labelled (node_view node.now ∷ []) name) }
     {
-        match &node.event.event_name {
-            Some(name) => self.add(alloc, name.name(), node.number),
+        match node.event.order.event_name() {
+            Some(name) => self.add(alloc, name, node.number),
             None => Ok(()),
         }
     }

@@ -8,7 +8,7 @@ ghost use Rattle.msc_meaning.specs.Ties.{after_pairs, before_pairs, each_after, 
 ghost use Rattle.msc_meaning.specs.Views.{item_view, node_view};
 
 use crate::named::NamedEvents;
-use msc_base::{Names, NoMemory, Pair, PairList};
+use msc_base::{Name, NoMemory, Pair, PairList};
 use msc_meaning::{EventNode, Item};
 use std::alloc::Global;
 
@@ -43,12 +43,12 @@ fn add_earlier(
     list: &mut PairList,
     named: &NamedEvents,
     number: u32,
-    names: &Names,
+    names: &[Name],
 ) -> Result<(), NoMemory>
     requires { IsEven named.now }
     ensures { OnOk result (list.new ≡ list.old ++ before_pairs (group_of named.now) number names.now) }
 {
-    for name in names.as_slice() {
+    for name in names {
         add_after(list, number, named.numbers(name))?;
     }
     Ok(())
@@ -59,12 +59,12 @@ fn add_later(
     list: &mut PairList,
     named: &NamedEvents,
     number: u32,
-    names: &Names,
+    names: &[Name],
 ) -> Result<(), NoMemory>
     requires { IsEven named.now }
     ensures { OnOk result (list.new ≡ list.old ++ after_pairs (group_of named.now) number names.now) }
 {
-    for name in names.as_slice() {
+    for name in names {
         add_before(list, named.numbers(name), number)?;
     }
     Ok(())
@@ -76,8 +76,8 @@ fn add_events(list: &mut PairList, named: &NamedEvents, nodes: &[EventNode]) -> 
     ensures { OnOk result (list.new ≡ list.old ++ order_pairs (group_of named.now) (map node_view nodes.now)) }
 {
     for node in nodes {
-        add_earlier(list, named, node.number, &node.event.earlier_than)?;
-        add_later(list, named, node.number, &node.event.later_than)?;
+        add_earlier(list, named, node.number, node.event.order.earlier_than())?;
+        add_later(list, named, node.number, node.event.order.later_than())?;
     }
     Ok(())
 }
@@ -89,8 +89,8 @@ fn add_item(list: &mut PairList, named: &NamedEvents, item: &Item) -> Result<(),
 {
     match item {
         Item::Single(node) => {
-            add_earlier(list, named, node.number, &node.event.earlier_than)?;
-            add_later(list, named, node.number, &node.event.later_than)
+            add_earlier(list, named, node.number, node.event.order.earlier_than())?;
+            add_later(list, named, node.number, node.event.order.later_than())
         }
         Item::Coregion(nodes) => add_events(list, named, nodes.as_slice()),
         Item::Inline(_) => Ok(()),

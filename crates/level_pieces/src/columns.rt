@@ -10,6 +10,7 @@ ghost use Rattle.level_pieces.specs.PieceViews.{part_view, setting_leads};
 ghost use Rattle.msc_base.specs.Lists.{AreDifferent};
 ghost use Rattle.msc_tree.specs.Views.{form_view};
 
+use crate::column_table::ColumnTable;
 use crate::pieces::{Part, Setting};
 use item_order::{Edge, Sorted, weave_entries};
 use msc_base::{Kind, Name, NameTable, NoMemory, number_of};
@@ -17,10 +18,15 @@ use msc_tree::{RawForm, Target};
 use std::alloc::Global;
 
 /// Appends the edge of an item in the column of that name: from the number of the instance to that of the item.
-fn push_edge(edges: &mut Vec<Edge>, table: &NameTable, at: &Name, item: u32) -> Result<(), NoMemory>
+fn push_edge(
+    edges: &mut Vec<Edge>,
+    table: &ColumnTable<'_>,
+    at: &Name,
+    item: u32,
+) -> Result<(), NoMemory>
     ensures { OnOk result (edges.new.items ≡ edges.old.items ++ name_edge table.now at.now item) }
 {
-    match table.number_of(at.bytes()) {
+    match table.number_of(at) {
         None => Ok(()),
         Some(column) => {
             let from = number_of(column)?;
@@ -34,7 +40,7 @@ fn push_edge(edges: &mut Vec<Edge>, table: &NameTable, at: &Name, item: u32) -> 
 fn push_leads(
     alloc: Global,
     edges: &mut Vec<Edge>,
-    table: &NameTable,
+    table: &ColumnTable<'_>,
     leads: &[Name],
     item: u32,
 ) -> Result<(), NoMemory>
@@ -57,7 +63,7 @@ fn push_leads(
 fn push_item(
     alloc: Global,
     edges: &mut Vec<Edge>,
-    table: &NameTable,
+    table: &ColumnTable<'_>,
     setting: Setting<'_, '_>,
     item: u32,
 ) -> Result<(), NoMemory>
@@ -73,7 +79,7 @@ fn push_item(
 /// Appends the edge of a creation in the column of the child.
 fn push_created(
     edges: &mut Vec<Edge>,
-    table: &NameTable,
+    table: &ColumnTable<'_>,
     form: &RawForm,
     item: u32,
 ) -> Result<(), NoMemory>
@@ -91,7 +97,7 @@ fn push_created(
 /// Appends the edges of the creations.
 fn push_creations(
     edges: &mut Vec<Edge>,
-    table: &NameTable,
+    table: &ColumnTable<'_>,
     parts: &[Part<'_, '_>],
 ) -> Result<(), NoMemory>
     ensures { OnOk result (edges.new.items ≡ edges.old.items ++ creation_edges table.now (map part_view parts.now)) }
@@ -106,7 +112,7 @@ fn push_creations(
 fn push_parts(
     alloc: Global,
     edges: &mut Vec<Edge>,
-    table: &NameTable,
+    table: &ColumnTable<'_>,
     parts: &[Part<'_, '_>],
 ) -> Result<(), NoMemory>
     ensures { OnOk result (edges.new.items ≡ edges.old.items ++ own_edges table.now (map part_view parts.now)) }
@@ -118,7 +124,11 @@ fn push_parts(
 }
 
 /// The edges of the items: a creation stands first in the column of the child.
-fn edges_of(alloc: Global, table: &NameTable, parts: &[Part<'_, '_>]) -> Result<Vec<Edge>, NoMemory>
+fn edges_of(
+    alloc: Global,
+    table: &ColumnTable<'_>,
+    parts: &[Part<'_, '_>],
+) -> Result<Vec<Edge>, NoMemory>
     ensures { IfOk result (λ edges. edges.items ≡ item_edges table.now (map part_view parts.now)) }
 {
     let mut edges = Vec::new(alloc);
@@ -139,9 +149,9 @@ pub fn woven_order(
     ensures woven { IfOk result (λ sorted. IfWhole sorted (λ order. IsWoven items (columns_of (map part_view parts.now) names.now) order.items)) }
     ensures crossed { IfOk result (λ sorted. IfStuck sorted (IsCrossedAt items (columns_of (map part_view parts.now) names.now))) }
 {
-    let table = NameTable::of(alloc, names)?;
+    let table = ColumnTable::of(alloc, names)?;
     let edges = edges_of(alloc, &table, parts)?;
     let count = number_of(items)?;
-    let columns = number_of(table.len())?;
+    let columns = number_of(names.len())?;
     weave_entries(alloc, count, columns, edges.as_slice())
 }

@@ -7,6 +7,7 @@ ghost use Rattle.msc_tree.specs.Views.{form_view, inline_view, item_view, operan
 
 use msc_base::{NoMemory, number_of};
 use msc_tree::{RawForm, RawInline, RawItem, RawOperand, Statement};
+use std::slice;
 
 /// The sum; a larger one than 32 bits hold would want more memory than there is.
 pub fn sum_of(a: u32, b: u32) -> Result<u32, NoMemory>
@@ -85,6 +86,7 @@ fn statement_count(statement: &Statement) -> Result<u32, NoMemory>
 {
     match statement {
         Statement::Column(_, list) => items_count(list.as_slice()),
+        Statement::One(_, held) => items_count(slice::from_ref(held)),
         Statement::Covered(_, list) => items_count(list.as_slice()),
         Statement::Heading(_) => Ok(0),
         Statement::Ended(_) => Ok(0),

@@ -2,6 +2,7 @@
 //! operands, and the columns that these stand in.
 #![tactic(auto)]
 
+mod column_table;
 mod columns;
 mod counting;
 mod covers;

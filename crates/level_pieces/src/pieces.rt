@@ -8,8 +8,9 @@ ghost use Rattle.msc_tree.specs.Views.{item_view, operand_view, statement_view};
 
 use crate::counting::{form_count, sum_of};
 use msc_base::{Name, Names, NoMemory, Place};
-use msc_tree::{Cover, RawForm, RawItem, RawOperand, Statement};
+use msc_tree::{Cover, FewNames, RawForm, RawItem, RawOperand, Statement};
 use std::alloc::Global;
+use std::slice;
 
 /// Where a piece stands on its level.
 #[derive(Clone, Copy)]
@@ -17,7 +18,7 @@ pub enum Setting<'a, 'n> {
     /// In the column of that instance.
     InColumn(&'a Name),
     /// Behind a colon, with these instances left of it.
-    Behind(&'a Names),
+    Behind(&'a FewNames),
     /// Behind a colon with `all` left of it, or in a column inside such: these instances are what that level covers.
     Inside(&'n Names),
 }
@@ -97,7 +98,7 @@ fn items<'a, 'n>(
     for held in list {
         let piece = Piece {
             setting,
-            place: held.place,
+            place: held.place.get(),
             form: &held.form,
             first: next,
         };
@@ -126,6 +127,9 @@ fn statement<'a, 'n>(
                 first,
                 list.as_slice(),
             )
+        }
+        Statement::One(cover, held) => {
+            items(pieces, behind(level, cover), first, slice::from_ref(held))
         }
         Statement::Covered(cover, list) => {
             items(pieces, behind(level, cover), first, list.as_slice())
@@ -178,7 +182,7 @@ pub fn chart_pieces<'a, 'n>(
 ) -> Result<Vec<Piece<'a, 'n>>, NoMemory>
     ensures { IfOk result (λ pieces. map piece_view pieces.items ≡ statements_pieces names.now 0 (statement_tree (map statement_view list.now))) }
 {
-    let mut pieces = Vec::new(alloc);
+    let mut pieces = Vec::with_capacity(alloc, list.len())?;
     statements(&mut pieces, names, 0, list)?;
     Ok(pieces)
 }

@@ -12,6 +12,7 @@ use crate::pieces::{Piece, Setting};
 use msc_base::{Items, NoMemory, Place};
 use msc_tree::{Cover, RawForm, RawInline, RawItem, RawOperand, Statement};
 use std::alloc::Global;
+use std::slice;
 
 /// Whether a piece stands in the column of one instance.
 fn stands_at_one(setting: Setting<'_, '_>) -> bool
@@ -40,7 +41,7 @@ fn items(places: &mut Items<Place>, at_one: bool, list: &[RawItem]) -> Result<()
     ensures { OnOk result (places.new ≡ places.old ++ unwoven_items at_one (item_tree (map item_view list.now))) }
 {
     for held in list {
-        form(places, at_one, held.place, &held.form)?;
+        form(places, at_one, held.place.get(), &held.form)?;
     }
     Ok(())
 }
@@ -105,6 +106,7 @@ fn statement(places: &mut Items<Place>, statement: &Statement) -> Result<(), NoM
 {
     match statement {
         Statement::Column(_, list) => items(places, true, list.as_slice()),
+        Statement::One(cover, held) => items(places, has_one(cover), slice::from_ref(held)),
         Statement::Covered(cover, list) => items(places, has_one(cover), list.as_slice()),
         Statement::Heading(_) => Ok(()),
         Statement::Ended(_) => Ok(()),

@@ -91,10 +91,10 @@ module _ (named : List ℕ → List ℕ) (few : (name : List ℕ) → length (na
   orders_few (n ∷ ns) =
       omega (
         arith,
-        length_pairs (before_pairs named n.number n.event.earlier_than) (after_pairs named n.number n.event.later_than ++ order_pairs named ns),
-        length_pairs (after_pairs named n.number n.event.later_than) (order_pairs named ns),
-        before_few n.number n.event.earlier_than,
-        after_few n.number n.event.later_than,
+        length_pairs (before_pairs named n.number n.event.order.earlier_than) (after_pairs named n.number n.event.order.later_than ++ order_pairs named ns),
+        length_pairs (after_pairs named n.number n.event.order.later_than) (order_pairs named ns),
+        before_few n.number n.event.order.earlier_than,
+        after_few n.number n.event.order.later_than,
         orders_few ns,
       )
 

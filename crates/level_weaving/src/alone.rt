@@ -45,7 +45,7 @@ fn first_alone(events: &[PlacedEvent<'_>], told: &[bool]) -> Option<Place>
     let mut number = 0;
     for placed in events {
         let alone = is_alone(*placed, told[number]);
-        best = earlier_if(best, placed.event.place, alone);
+        best = earlier_if(best, placed.event.place.get(), alone);
         number += 1;
     }
     best

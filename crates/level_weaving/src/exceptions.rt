@@ -14,6 +14,7 @@ use level_pieces::{Piece, Setting, chart_pieces, covered, earliest_place, note_i
 use msc_base::{Items, Name, NameTable, Names, NoMemory, Place};
 use msc_tree::{Content, InlineForm, RawChart, RawForm, RawInline, RawItem, RawOperand, Statement};
 use std::alloc::Global;
+use std::slice;
 
 /// Whether the form is an exception.
 fn is_exc(form: InlineForm) -> bool
@@ -28,7 +29,7 @@ fn items(places: &mut Items<Place>, list: &[RawItem]) -> Result<(), NoMemory>
     ensures { OnOk result (places.new ≡ places.old ++ items_exceptions (item_tree (map item_view list.now))) }
 {
     for held in list {
-        form(places, held.place, &held.form)?;
+        form(places, held.place.get(), &held.form)?;
     }
     Ok(())
 }
@@ -82,6 +83,7 @@ fn statement(places: &mut Items<Place>, statement: &Statement) -> Result<(), NoM
 {
     match statement {
         Statement::Column(_, list) => items(places, list.as_slice()),
+        Statement::One(_, held) => items(places, slice::from_ref(held)),
         Statement::Covered(_, list) => items(places, list.as_slice()),
         Statement::Heading(_) => Ok(()),
         Statement::Ended(_) => Ok(()),

@@ -9,8 +9,8 @@ ghost use Rattle.level_weaving.specs.Messages.{key_of, way};
 use crate::PlacedEvent;
 use indexmap::IndexSet;
 use item_order::{Edge, pair_up};
-use msc_base::{NoMemory, number_of};
-use msc_tree::{BoxedName, Direction, far_bytes, label_text, way_of};
+use msc_base::{Name, NoMemory, number_of};
+use msc_tree::{Direction, far_bytes, label_text, way_of};
 use std::alloc::Global;
 
 /// What an output and the input that takes it in have in common.
@@ -37,11 +37,11 @@ struct Marks {
 }
 
 /// The bytes of the name, where there is one.
-fn name_bytes(name: &Option<BoxedName>) -> Option<&[u8]>
+fn name_bytes(name: &Option<Name>) -> Option<&[u8]>
     ensures { option_copied result ≡ name.now }
 {
     match name {
-        Some(name) => Some(name.name().bytes()),
+        Some(name) => Some(name.bytes()),
         None => None,
     }
 }
@@ -57,7 +57,11 @@ fn message_key<'a>(
 {
     let at = placed.at.bytes();
     let far = far_bytes(&placed.event.target);
-    let text = label_text(alloc, placed.event.text.bytes(), &placed.event.parameters)?;
+    let text = label_text(
+        alloc,
+        placed.event.text.bytes(),
+        placed.event.parameters.items(),
+    )?;
     let pairing = name_bytes(&placed.event.pairing);
     match direction {
         Direction::Out => Ok(MessageKey {
@@ -138,7 +142,7 @@ fn edges_of(
 ) -> Result<Vec<Edge>, NoMemory>
     ensures { IfOk result (λ edges. edges.items ≡ edges_from direction 0 marks.now) }
 {
-    let mut edges = Vec::new(alloc);
+    let mut edges = Vec::with_capacity(alloc, marks.len())?;
     let mut index = 0;
     for mark in marks {
         let number = number_of(index)?;

@@ -7,4 +7,5 @@ pub mod AcceptLaws
 pub mod LimitLaws
 pub mod AcceptedLaws
 pub mod ListLaws
-pub mod InstanceLists
+pub mod ChartLists
+pub mod SingleLaws

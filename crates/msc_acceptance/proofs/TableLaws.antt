@@ -2,18 +2,25 @@
 use Rattle.std.proofs.Common.{◌≡◌, inl, inr, ℕ, ◌<◌, ◌+◌, List, [], ◌∷◌, ◌++◌, Option, Some, None, get_or, drop, take, length, map, ◌≤◌, arith, refl, sym, subst, ap, ◌∙◌}
 use Rattle.std.proofs.lemmas.List.{map-append, take_all, take_more}
 use Rattle.std.proofs.lemmas.Bool.{cases_lt}
+use Rattle.chart_forms.specs.LoopBounds.{HasHighBound}
+use Rattle.chart_forms.specs.NotBuilt.{IsNotBuilt}
 use Rattle.general_ordering.specs.declared.faults.EventNameRule.TheVariants.{Unknown, Twice}
 use Rattle.level_weaving.specs.Exceptions.{IsMisplaced}
 use Rattle.msc_acceptance.proofs.WalkLaws.{part_step, walk_end}
 use Rattle.msc_acceptance.specs.ChartFaults.{CrossesAt, IsAloneAt, IsCyclicAt, IsMisnamedAt}
-use Rattle.msc_acceptance.specs.Deciding.{AreAllRanked, AreFaultsIn, AreFaultsOf, AreOwnPlaces, ArePartPlaces, ContentRanked, IsWhole, earlier_of}
+use Rattle.msc_acceptance.specs.Deciding.{AreAllRanked, AreEarlier, AreFaultsIn, AreFaultsOf, AreOwnPlaces, AreOwnTexts, ArePartPlaces, AreTextPlaces, ContentRanked, IsNextWoven, IsTakenIn, IsWhole, earlier_of}
 use Rattle.msc_acceptance.specs.Rules.{InOne}
 use Rattle.msc_acceptance.specs.declared.parts.PartPlaces.{PartPlaces}
+use Rattle.msc_acceptance.specs.declared.reading.TextPlaces.{TextPlaces}
 use Rattle.msc_acceptance.specs.declared.tables.BodyFaults.{BodyFaults}
+use Rattle.msc_acceptance.specs.declared.tables.ChartResult.{ChartResult}
+use Rattle.msc_acceptance.specs.declared.tables.ChartResult.TheVariants as one
+use Rattle.msc_acceptance.specs.declared.tables.Weaving.{Weaving}
 use Rattle.msc_base.proofs.Narrowing.{Narrows, earliest_is, narrows_start}
 use Rattle.msc_base.specs.Places.{IsLeast}
 use Rattle.msc_base.specs.declared.place.Place.{Place}
 use Rattle.msc_instances.specs.Instances.{instances}
+use Rattle.msc_instances.specs.NameFaults.{ChartNamesOther, ChartNamesTwice}
 use Rattle.msc_meaning.specs.Tables.{ChartEntry, Table}
 use Rattle.msc_meaning.specs.Views.{entry_view, table_view}
 use Rattle.msc_meaning.specs.WovenTables.{AreEntriesOf, no_entries, entry_and, IsEntryOf}
@@ -28,12 +35,55 @@ use Rattle.shared_parts.specs.declared.faults.PartRule.TheVariants as part
 abbrev pub LeastSoFar : (Chart → Place → Type 0) → List RawChart → ℕ → Option Place → Type 0
 LeastSoFar Holds list k found = Narrows (InOne Holds (map chart_view list)) (InOne Holds (map chart_view (drop k list))) found
 
+least_start : (Holds : Chart → Place → Type 0) (list : List RawChart) (found : Option Place) → found ≡ None → LeastSoFar Holds list 0 found
+least_start Holds list found e = subst (λ (o : Option Place). LeastSoFar Holds list 0 o) (sym e) (narrows_start (InOne Holds (map chart_view list)))
+
 least_more : (Holds : Chart → Place → Type 0) (list : List RawChart) (k : ℕ) (c : RawChart) (best found next : Option Place) → k < length list → c ≡ get_or list k c
     → IsLeast (Holds (chart_view c)) found → next ≡ earlier_of best found → LeastSoFar Holds list k best → LeastSoFar Holds list (k + 1) next
 least_more Holds list k c best found next low is least made h = part_step (InOne Holds (map chart_view list)) Holds list k c best found next low is least made h
 
 least_all : (Holds : Chart → Place → Type 0) (list : List RawChart) (k : ℕ) (found : Option Place) → (k < length list → ⊥) → LeastSoFar Holds list k found → IsLeast (InOne Holds (map chart_view list)) found
 least_all Holds list k found n h = walk_end (InOne Holds (map chart_view list)) (InOne Holds) list k found n (λ q g. g) h
+
+-- ---- what is read with the instances
+
+pub record AreTextsSoFar (list : List RawChart) (k : ℕ) (places : TextPlaces) : Type 0 where
+  pub not_built : LeastSoFar IsNotBuilt list k places.not_built
+  pub high_bound : LeastSoFar HasHighBound list k places.high_bound
+  pub twice : LeastSoFar ChartNamesTwice list k places.twice
+  pub undeclared : LeastSoFar ChartNamesOther list k places.undeclared
+
+pub texts_start : (list : List RawChart) → AreTextsSoFar list 0 (record { not_built = None; high_bound = None; twice = None; undeclared = None })
+texts_start list = record {
+  not_built = narrows_start (InOne IsNotBuilt (map chart_view list));
+  high_bound = narrows_start (InOne HasHighBound (map chart_view list));
+  twice = narrows_start (InOne ChartNamesTwice (map chart_view list));
+  undeclared = narrows_start (InOne ChartNamesOther (map chart_view list));
+}
+
+-- the places of both
+pub record AreEarlierTexts (a b c : TextPlaces) : Type 0 where
+  pub not_built : c.not_built ≡ earlier_of a.not_built b.not_built
+  pub high_bound : c.high_bound ≡ earlier_of a.high_bound b.high_bound
+  pub twice : c.twice ≡ earlier_of a.twice b.twice
+  pub undeclared : c.undeclared ≡ earlier_of a.undeclared b.undeclared
+
+pub texts_more : (list : List RawChart) (k : ℕ) (c : RawChart) (best found next : TextPlaces) → k < length list → c ≡ get_or list k c → AreOwnTexts (chart_view c) found → AreEarlierTexts best found next
+    → AreTextsSoFar list k best → AreTextsSoFar list (k + 1) next
+texts_more list k c best found next low is own made h = record {
+  not_built = least_more IsNotBuilt list k c best.not_built found.not_built next.not_built low is own.not_built made.not_built h.not_built;
+  high_bound = least_more HasHighBound list k c best.high_bound found.high_bound next.high_bound low is own.high_bound made.high_bound h.high_bound;
+  twice = least_more ChartNamesTwice list k c best.twice found.twice next.twice low is own.twice made.twice h.twice;
+  undeclared = least_more ChartNamesOther list k c best.undeclared found.undeclared next.undeclared low is own.undeclared made.undeclared h.undeclared;
+}
+
+pub texts_all : (list : List RawChart) (k : ℕ) (places : TextPlaces) → (k < length list → ⊥) → AreTextsSoFar list k places → AreTextPlaces (map chart_view list) places
+texts_all list k places n h = record {
+  not_built = least_all IsNotBuilt list k places.not_built n h.not_built;
+  high_bound = least_all HasHighBound list k places.high_bound n h.high_bound;
+  twice = least_all ChartNamesTwice list k places.twice n h.twice;
+  undeclared = least_all ChartNamesOther list k places.undeclared n h.undeclared;
+}
 
 -- ---- parts
 
@@ -42,11 +92,17 @@ pub record ArePartsSoFar (list : List RawChart) (k : ℕ) (places : PartPlaces) 
   pub differing : LeastSoFar (ChartBreaksPartRule part.OperandsDiffer) list k places.differing
   pub misplaced : LeastSoFar IsMisplaced list k places.misplaced
 
-pub parts_start : (list : List RawChart) → ArePartsSoFar list 0 (record { unshared = None; differing = None; misplaced = None })
-parts_start list = record {
-  unshared = narrows_start (InOne (ChartBreaksPartRule part.NotShared) (map chart_view list));
-  differing = narrows_start (InOne (ChartBreaksPartRule part.OperandsDiffer) (map chart_view list));
-  misplaced = narrows_start (InOne IsMisplaced (map chart_view list));
+-- no place
+pub record HasNoParts (places : PartPlaces) : Type 0 where
+  pub unshared : places.unshared ≡ None
+  pub differing : places.differing ≡ None
+  pub misplaced : places.misplaced ≡ None
+
+pub parts_start : (list : List RawChart) (places : PartPlaces) → HasNoParts places → ArePartsSoFar list 0 places
+parts_start list places none = record {
+  unshared = least_start (ChartBreaksPartRule part.NotShared) list places.unshared none.unshared;
+  differing = least_start (ChartBreaksPartRule part.OperandsDiffer) list places.differing none.differing;
+  misplaced = least_start IsMisplaced list places.misplaced none.misplaced;
 }
 
 -- the places of both
@@ -76,14 +132,6 @@ none_yet : (best found : Option Place) → earlier_of best found ≡ None → (b
 none_yet best None e = (e, refl)
 none_yet best (Some p) e = let it = earliest_is best p in let some : earlier_of best (Some p) ≡ Some it.0 = it.1 in absurd (cc)
 
--- the places of both
-pub record AreEarlier (a b c : BodyFaults) : Type 0 where
-  pub crossed : c.crossed ≡ earlier_of a.crossed b.crossed
-  pub alone : c.alone ≡ earlier_of a.alone b.alone
-  pub unknown : c.unknown ≡ earlier_of a.unknown b.unknown
-  pub twice : c.twice ≡ earlier_of a.twice b.twice
-  pub cyclic : c.cyclic ≡ earlier_of a.cyclic b.cyclic
-
 both_whole : (a b c : BodyFaults) → AreEarlier a b c → IsWhole c → IsWhole a × IsWhole b
 both_whole a b c made whole =
     let crossed = none_yet a.crossed b.crossed (sym made.crossed ∙ whole.0) in
@@ -105,9 +153,6 @@ pub record HasNone (faults : BodyFaults) : Type 0 where
   pub unknown : faults.unknown ≡ None
   pub twice : faults.twice ≡ None
   pub cyclic : faults.cyclic ≡ None
-
-least_start : (Holds : Chart → Place → Type 0) (list : List RawChart) (found : Option Place) → found ≡ None → LeastSoFar Holds list 0 found
-least_start Holds list found e = subst (λ (o : Option Place). LeastSoFar Holds list 0 o) (sym e) (narrows_start (InOne Holds (map chart_view list)))
 
 pub faults_start : (list : List RawChart) (faults : BodyFaults) → HasNone faults → AreFaultsSoFar list 0 faults
 faults_start list faults none = record {
@@ -188,6 +233,23 @@ pub made_none : (charts : List RawChart) (best found next : BodyFaults) (entries
 made_none charts best found next entries made barred = record {
   entries = λ w. absurd (barred (both_whole best found next made w).1);
   ranked = λ w none. absurd (barred (both_whole best found next made w).1);
+}
+
+-- what the charts so far are woven to
+pub record AreWovenSoFar (list : List RawChart) (k : ℕ) (weaving : Weaving) : Type 0 where
+  pub faults : AreFaultsSoFar list k weaving.faults
+  pub made : AreMadeSoFar (take k list) weaving.faults weaving.entries.items
+
+-- one chart further
+pub woven_more : (list : List RawChart) (k : ℕ) (c : RawChart) (result : ChartResult) (old new : Weaving) → k < length list → c ≡ get_or list k c → IsNextWoven (chart_view c) result → IsTakenIn old result new
+    → AreWovenSoFar list k old → AreWovenSoFar list (k + 1) new
+woven_more list k c (one.Entry entry found) old new low is woven taken h = record {
+  faults = faults_more list k c old.faults found new.faults low is woven.1 taken.0 h.faults;
+  made = made_more list k c old.faults found new.faults old.entries.items new.entries.items entry low is taken.0 h.made woven.0 woven.2 taken.1;
+}
+woven_more list k c (one.Barred found) old new low is woven taken h = record {
+  faults = faults_more list k c old.faults found new.faults low is woven.1 taken h.faults;
+  made = made_none (take (k + 1) list) old.faults found new.faults new.entries.items taken woven.0;
 }
 
 pub made_all : (list : List RawChart) (faults : BodyFaults) (entries : List code.ChartEntry) (k : ℕ) → (k < length list → ⊥) → AreMadeSoFar (take k list) faults entries → AreMadeSoFar list faults entries

@@ -1,6 +1,6 @@
 -- Serves private contracts alone.
 -- What a document comes to: its table, or its first fault.
-use Rattle.std.specs.Prelude.{◌≡◌, ⊤, List, [], ◌∷◌, ◌++◌, Option, None, Some}
+use Rattle.std.specs.Prelude.{◌≡◌, ⊤, List, [], ◌∷◌, ◌++◌, Option, None, Some, map}
 use Rattle.msc_base.specs.Places.{IsLeast, earliest}
 use Rattle.msc_base.specs.declared.place.Place.{Place}
 use Rattle.msc_tree.specs.Charts.{Chart}
@@ -17,6 +17,7 @@ use Rattle.general_ordering.specs.declared.faults.EventNameRule.TheVariants.{Unk
 use Rattle.msc_acceptance.specs.declared.tables.BodyFaults.{BodyFaults}
 use Rattle.msc_instances.specs.NameFaults.{ChartNamesOther, ChartNamesTwice}
 use Rattle.msc_instances.specs.Instances.{instances}
+use Rattle.chart_forms.specs.ChartSizes.{size_of}
 use Rattle.chart_forms.specs.LoopBounds.{HasHighBound}
 use Rattle.chart_forms.specs.NotBuilt.{IsNotBuilt}
 use Rattle.level_weaving.specs.Exceptions.{IsMisplaced}
@@ -29,8 +30,9 @@ use Rattle.msc_acceptance.specs.declared.deciding.Decision.TheVariants as decisi
 use Rattle.msc_acceptance.specs.declared.tables.Weaving.{Weaving}
 use Rattle.msc_acceptance.specs.declared.tables.ChartResult.{ChartResult}
 use Rattle.msc_acceptance.specs.declared.tables.ChartResult.TheVariants as one
-use Rattle.msc_acceptance.specs.declared.walks.ChartRule.{ChartRule}
-use Rattle.msc_acceptance.specs.declared.walks.ChartRule.TheVariants as rule
+use Rattle.msc_acceptance.specs.declared.reading.Reading.{Reading}
+use Rattle.msc_acceptance.specs.declared.reading.TextPlaces.{TextPlaces}
+use Rattle.msc_acceptance.specs.SingleItems.{is_single_chart}
 use Rattle.msc_acceptance.specs.Acceptance.{BreaksOf}
 use Rattle.msc_acceptance.specs.Rules.{InOne}
 
@@ -89,16 +91,31 @@ AreBuilt charts = (p : Place) → InOne IsNotBuilt charts p → ⊥
 
 -- ---- rules that a chart breaks by itself
 
-abbrev pub ChartBreaks : ChartRule → Chart → Place → Type 0
-ChartBreaks rule.NotBuilt = IsNotBuilt
-ChartBreaks rule.LoopBound = HasHighBound
-ChartBreaks rule.NamedTwice = ChartNamesTwice
-ChartBreaks rule.Undeclared = ChartNamesOther
-
 -- the earlier of two places
 abbrev pub earlier_of : Option Place → Option Place → Option Place
 earlier_of a None = a
 earlier_of a (Some p) = earliest a p
+
+-- the earliest places at which a chart breaks the rules that are read with its instances
+pub record AreOwnTexts (chart : Chart) (places : TextPlaces) : Type 0 where
+  pub not_built : IsLeast (IsNotBuilt chart) places.not_built
+  pub high_bound : IsLeast (HasHighBound chart) places.high_bound
+  pub twice : IsLeast (ChartNamesTwice chart) places.twice
+  pub undeclared : IsLeast (ChartNamesOther chart) places.undeclared
+
+-- the earliest places at which one of the charts breaks them
+pub record AreTextPlaces (charts : List Chart) (places : TextPlaces) : Type 0 where
+  pub not_built : IsLeast (InOne IsNotBuilt charts) places.not_built
+  pub high_bound : IsLeast (InOne HasHighBound charts) places.high_bound
+  pub twice : IsLeast (InOne ChartNamesTwice charts) places.twice
+  pub undeclared : IsLeast (InOne ChartNamesOther charts) places.undeclared
+
+-- that is read of the charts
+pub record IsReading (charts : List Chart) (reading : Reading) : Type 0 where
+  pub lists : reading.lists ≡ map instances charts
+  pub sizes : reading.sizes ≡ map size_of charts
+  pub singles : reading.singles ≡ map is_single_chart charts
+  pub places : AreTextPlaces charts reading.places
 
 -- the earliest places at which a chart breaks the rules on parts
 pub record AreOwnPlaces (chart : Chart) (places : PartPlaces) : Type 0 where
@@ -145,6 +162,19 @@ IsBarred chart faults = (IsWhole faults → ⊥) × AreFaultsOf chart faults
 abbrev pub IsNextWoven : Chart → ChartResult → Type 0
 IsNextWoven chart (one.Entry entry faults) = IsEntryOf (instances chart) chart (entry_view entry) × AreFaultsOf chart faults × (faults.cyclic ≡ None → ContentRanked (entry_view entry).content)
 IsNextWoven chart (one.Barred faults) = IsBarred chart faults
+
+-- the earlier places of both
+pub record AreEarlier (a b c : BodyFaults) : Type 0 where
+  pub crossed : c.crossed ≡ earlier_of a.crossed b.crossed
+  pub alone : c.alone ≡ earlier_of a.alone b.alone
+  pub unknown : c.unknown ≡ earlier_of a.unknown b.unknown
+  pub twice : c.twice ≡ earlier_of a.twice b.twice
+  pub cyclic : c.cyclic ≡ earlier_of a.cyclic b.cyclic
+
+-- what a chart is woven to is taken in
+abbrev pub IsTakenIn : Weaving → ChartResult → Weaving → Type 0
+IsTakenIn old (one.Entry entry found) new = AreEarlier old.faults found new.faults × (new.entries.items ≡ old.entries.items ++ entry ∷ [])
+IsTakenIn old (one.Barred found) new = AreEarlier old.faults found new.faults
 
 -- the earliest places at which one of the charts breaks these rules
 pub record AreFaultsIn (charts : List Chart) (faults : BodyFaults) : Type 0 where

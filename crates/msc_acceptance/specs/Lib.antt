@@ -4,3 +4,4 @@ pub mod Acceptance
 pub mod Listing
 pub mod AcceptedCharts
 pub mod Deciding
+pub mod SingleItems

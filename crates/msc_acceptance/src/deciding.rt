@@ -1,22 +1,25 @@
 //! The rules group by group, up to the first that is broken; else the table. For `acceptance` alone.
 
 ghost use Rattle.std.specs.Prelude.{◌≡◌, IfOk, List, None, map};
+ghost use Rattle.chart_forms.specs.ChartSizes.{size_of};
+ghost use Rattle.chart_forms.specs.NotBuilt.{IsNotBuilt};
 ghost use Rattle.msc_rules.specs.FirstFaults.{IsBest};
 ghost use Rattle.msc_rules.specs.Rules.{number_of};
 ghost use Rattle.msc_acceptance.specs.Acceptance.{BreaksOf};
-ghost use Rattle.msc_acceptance.specs.Deciding.{AreFaultsIn, IsDecided, IsFirstOf, IsWhole, body_groups, event_names, forms, limits, names, parts, sizes, text_groups};
-ghost use Rattle.msc_instances.specs.Instances.{instances};
+ghost use Rattle.msc_acceptance.specs.Deciding.{AreFaultsIn, AreTextPlaces, IsDecided, IsFirstOf, IsReading, IsWhole, body_groups, event_names, forms, limits, names, parts, sizes, text_groups};
+ghost use Rattle.msc_acceptance.specs.Rules.{InOne};
+ghost use Rattle.msc_base.specs.Places.{IsLeast};
 ghost use Rattle.msc_tree.specs.Charts.{Chart};
 ghost use Rattle.msc_tree.specs.Views.{chart_view};
 
-use crate::instances::instance_lists;
 use crate::limits::{further_chart, further_instance};
 use crate::names::second_chart;
 use crate::parts::part_places;
+use crate::reading::{Reading, TextPlaces, read_charts};
 use crate::sizes::{large_chart, large_total};
 use crate::tables::{BodyFaults, woven_charts};
-use crate::walks::{ChartRule, earlier, first_place};
-use msc_base::{Names, NoMemory};
+use crate::walks::earlier;
+use msc_base::{NoMemory, Place};
 use msc_meaning::ChartEntry;
 use msc_rules::{Broken, Rule, broken_at, earlier_fault};
 use msc_tree::RawChart;
@@ -32,91 +35,92 @@ pub enum Decision {
 }
 
 /// The first form that isn't built.
-fn form_fault(alloc: Global, charts: &[RawChart]) -> Result<Option<Broken<Rule>>, NoMemory>
-    ensures { IfOk result (IsBest number_of (BreaksOf (map chart_view charts.now)) forms) }
+fn form_fault(not_built: Option<Place>) -> Option<Broken<Rule>>
+    ensures { (charts : List Chart) → IsLeast (InOne IsNotBuilt charts) not_built → IsBest number_of (BreaksOf charts) forms result }
 {
-    let place = first_place(alloc, charts, ChartRule::NotBuilt)?;
-    Ok(broken_at(Rule::NotBuilt, place))
+    broken_at(Rule::NotBuilt, not_built)
 }
 
-/// The first fault by the limits.
+/// The first fault by the limits, by what is read of the charts.
 fn limit_fault(
     alloc: Global,
     charts: &[RawChart],
-    lists: &[Names],
+    reading: &Reading,
 ) -> Result<Option<Broken<Rule>>, NoMemory>
-    requires { lists.now ≡ map instances (map chart_view charts.now) }
+    requires { IsReading (map chart_view charts.now) reading.now }
     ensures { IfOk result (IsBest number_of (BreaksOf (map chart_view charts.now)) limits) }
 {
     let further = broken_at(Rule::Charts, further_chart(charts));
-    let place = further_instance(alloc, charts, lists)?;
+    let place = further_instance(alloc, charts, reading.lists.as_slice())?;
     let instances = broken_at(Rule::Instances, place);
-    let bound = first_place(alloc, charts, ChartRule::LoopBound)?;
-    let high = broken_at(Rule::LoopBound, bound);
+    let high = broken_at(Rule::LoopBound, reading.places.high_bound);
     Ok(earlier_fault(earlier_fault(further, instances), high))
 }
 
-/// The first fault of names.
-fn name_fault(alloc: Global, charts: &[RawChart]) -> Result<Option<Broken<Rule>>, NoMemory>
+/// The first fault of names, by the places inside charts.
+fn name_fault(
+    alloc: Global,
+    charts: &[RawChart],
+    places: TextPlaces,
+) -> Result<Option<Broken<Rule>>, NoMemory>
+    requires { AreTextPlaces (map chart_view charts.now) places }
     ensures { IfOk result (IsBest number_of (BreaksOf (map chart_view charts.now)) names) }
 {
     let again = second_chart(alloc, charts)?;
-    let inside = first_place(alloc, charts, ChartRule::NamedTwice)?;
-    let twice = broken_at(Rule::NamedTwice, earlier(again, inside));
-    let place = first_place(alloc, charts, ChartRule::Undeclared)?;
-    let other = broken_at(Rule::Undeclared, place);
+    let twice = broken_at(Rule::NamedTwice, earlier(again, places.twice));
+    let other = broken_at(Rule::Undeclared, places.undeclared);
     Ok(earlier_fault(twice, other))
 }
 
-/// The first fault by sizes.
-fn size_fault(charts: &[RawChart]) -> Result<Option<Broken<Rule>>, NoMemory>
-    ensures { IfOk result (IsBest number_of (BreaksOf (map chart_view charts.now)) sizes) }
+/// The first fault by sizes, which `listed` are.
+fn size_fault(charts: &[RawChart], listed: &[u64]) -> Option<Broken<Rule>>
+    requires { listed.now ≡ map size_of (map chart_view charts.now) }
+    ensures { IsBest number_of (BreaksOf (map chart_view charts.now)) sizes result }
 {
-    let largest = large_chart(charts)?;
-    let one = broken_at(Rule::Size, largest);
-    let total = large_total(charts)?;
-    let all = broken_at(Rule::Total, total);
-    Ok(earlier_fault(one, all))
+    let one = broken_at(Rule::Size, large_chart(charts, listed));
+    let all = broken_at(Rule::Total, large_total(charts, listed));
+    earlier_fault(one, all)
 }
 
-/// The first fault of parts.
+/// The first fault of parts, by what is read of the charts.
 fn part_fault(
     alloc: Global,
     charts: &[RawChart],
-    lists: &[Names],
+    reading: &Reading,
 ) -> Result<Option<Broken<Rule>>, NoMemory>
-    requires { lists.now ≡ map instances (map chart_view charts.now) }
+    requires { IsReading (map chart_view charts.now) reading.now }
     ensures { IfOk result (IsBest number_of (BreaksOf (map chart_view charts.now)) parts) }
 {
-    let places = part_places(alloc, charts, lists)?;
+    let lists = reading.lists.as_slice();
+    let places = part_places(alloc, charts, lists, reading.singles.as_slice())?;
     let unshared = broken_at(Rule::NotShared, places.unshared);
     let differing = broken_at(Rule::OperandsDiffer, places.differing);
     let misplaced = broken_at(Rule::ExcPlace, places.misplaced);
     Ok(earlier_fault(earlier_fault(unshared, differing), misplaced))
 }
 
-/// The first fault of the rules on the text.
+/// The first fault of the rules on the text, by what is read of the charts.
 fn text_fault(
     alloc: Global,
     charts: &[RawChart],
-    lists: &[Names],
+    reading: &Reading,
 ) -> Result<Option<Broken<Rule>>, NoMemory>
-    requires { lists.now ≡ map instances (map chart_view charts.now) }
+    requires { IsReading (map chart_view charts.now) reading.now }
     ensures { IfOk result (IsFirstOf (map chart_view charts.now) text_groups) }
 {
-    if let Some(fault) = form_fault(alloc, charts)? {
+    if let Some(fault) = form_fault(reading.places.not_built) {
         return Ok(Some(fault));
     }
-    if let Some(fault) = limit_fault(alloc, charts, lists)? {
+    if let Some(fault) = limit_fault(alloc, charts, reading)? {
         return Ok(Some(fault));
     }
-    if let Some(fault) = name_fault(alloc, charts)? {
+    if let Some(fault) = name_fault(alloc, charts, reading.places)? {
         return Ok(Some(fault));
     }
-    if let Some(fault) = size_fault(charts)? {
+    if let Some(fault) = size_fault(charts, reading.sizes.as_slice()) {
         return Ok(Some(fault));
     }
-    part_fault(alloc, charts, lists)
+    part_fault(alloc, charts, reading)
 }
 
 /// The first fault of the names of events.
@@ -156,11 +160,11 @@ fn body_fault(faults: BodyFaults) -> Option<Broken<Rule>>
 pub fn decide(alloc: Global, charts: Vec<RawChart>) -> Result<Decision, NoMemory>
     ensures { IfOk result (IsDecided (map chart_view charts.items)) }
 {
-    let lists = instance_lists(alloc, charts.as_slice())?;
-    if let Some(fault) = text_fault(alloc, charts.as_slice(), lists.as_slice())? {
+    let reading = read_charts(alloc, charts.as_slice())?;
+    if let Some(fault) = text_fault(alloc, charts.as_slice(), &reading)? {
         return Ok(Decision::Faulty(fault));
     }
-    let made = woven_charts(alloc, charts, lists.as_slice())?;
+    let made = woven_charts(alloc, charts, reading.lists.as_slice())?;
     match body_fault(made.faults) {
         Some(fault) => Ok(Decision::Faulty(fault)),
         None => Ok(Decision::Woven(made.entries)),

@@ -10,6 +10,7 @@ use msc_tree::{
     Content, Decl, DeclList, RawChart, RawForm, RawInline, RawItem, RawOperand, Statement,
 };
 use std::alloc::Global;
+use std::slice;
 
 /// A copy of the declaration.
 fn copy_decl(alloc: Global, decl: &Decl) -> Result<Decl, NoMemory>
@@ -99,6 +100,7 @@ fn statement(alloc: Global, decls: &mut DeclList, statement: &Statement) -> Resu
             decls.push(copy_decl(alloc, decl.decl())?)?;
             items(alloc, decls, list.as_slice())
         }
+        Statement::One(_, held) => items(alloc, decls, slice::from_ref(held)),
         Statement::Covered(_, list) => items(alloc, decls, list.as_slice()),
         Statement::Heading(decl) => decls.push(copy_decl(alloc, decl.decl())?),
         Statement::Ended(_) => Ok(()),

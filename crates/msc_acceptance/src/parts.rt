@@ -1,7 +1,8 @@
 //! The earliest places, over all charts, at which parts of items and exceptions break a rule: for `deciding`.
 
-ghost use Rattle.std.specs.Prelude.{◌≡◌, IfOk, map};
+ghost use Rattle.std.specs.Prelude.{◌≡◌, IfOk, None, map};
 ghost use Rattle.msc_acceptance.specs.Deciding.{ArePartPlaces, AreOwnPlaces, earlier_of};
+ghost use Rattle.msc_acceptance.specs.SingleItems.{is_single_chart};
 ghost use Rattle.msc_instances.specs.Instances.{instances};
 ghost use Rattle.msc_tree.specs.Views.{chart_view};
 
@@ -23,11 +24,33 @@ pub struct PartPlaces {
     pub misplaced: Option<Place>,
 }
 
-/// The places of one chart, whose instances `names` are.
-fn own_places(alloc: Global, chart: &RawChart, names: &Names) -> Result<PartPlaces, NoMemory>
-    requires { names.now ≡ instances (chart_view chart.now) }
+/// No places.
+fn no_places() -> PartPlaces
+    ensures unshared { result.unshared ≡ None }
+    ensures differing { result.differing ≡ None }
+    ensures misplaced { result.misplaced ≡ None }
+{
+    PartPlaces {
+        unshared: None,
+        differing: None,
+        misplaced: None,
+    }
+}
+
+/// The places of one chart, whose instances `names` are. One that has neither inline expressions nor references isn't looked at.
+fn own_places(
+    alloc: Global,
+    chart: &RawChart,
+    names: &Names,
+    single: bool,
+) -> Result<PartPlaces, NoMemory>
+    requires names { names.now ≡ instances (chart_view chart.now) }
+    requires single { single ≡ is_single_chart (chart_view chart.now) }
     ensures { IfOk result (AreOwnPlaces (chart_view chart.now)) }
 {
+    if single {
+        return Ok(no_places());
+    }
     let faults = part_faults(alloc, chart, names)?;
     let misplaced = first_misplaced(alloc, chart, names)?;
     Ok(PartPlaces {
@@ -50,23 +73,21 @@ fn earlier_places(places: PartPlaces, others: PartPlaces) -> PartPlaces
     }
 }
 
-/// The places of all charts, whose instances `lists` are.
+/// The places of all charts, whose instances `lists` are; `singles` tells which have neither inline expressions nor references.
 pub fn part_places(
     alloc: Global,
     charts: &[RawChart],
     lists: &[Names],
+    singles: &[bool],
 ) -> Result<PartPlaces, NoMemory>
-    requires { lists.now ≡ map instances (map chart_view charts.now) }
+    requires lists { lists.now ≡ map instances (map chart_view charts.now) }
+    requires singles { singles.now ≡ map is_single_chart (map chart_view charts.now) }
     ensures { IfOk result (ArePartPlaces (map chart_view charts.now)) }
 {
-    let mut places = PartPlaces {
-        unshared: None,
-        differing: None,
-        misplaced: None,
-    };
+    let mut places = no_places();
     let mut number = 0;
     for chart in charts {
-        let own = own_places(alloc, chart, &lists[number])?;
+        let own = own_places(alloc, chart, &lists[number], singles[number])?;
         places = earlier_places(places, own);
         number += 1;
     }

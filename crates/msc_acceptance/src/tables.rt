@@ -1,11 +1,11 @@
 //! The table of charts, each woven, with the earliest places at which what they are woven to breaks a rule: for `deciding`.
 
-ghost use Rattle.std.specs.Prelude.{◌≡◌, IfOk, None, Some, map};
+ghost use Rattle.std.specs.Prelude.{◌≡◌, IfOk, None, OnOk, Some, map};
 ghost use Rattle.chart_forms.specs.NotBuilt.{IsBuilt};
 ghost use Rattle.event_order.specs.RankedBodies.{CanBeRanked};
 ghost use Rattle.level_weaving.specs.WeaveFaults.{IsWeaveFault, IsWovenTo};
 ghost use Rattle.msc_acceptance.specs.ChartFaults.{IsBodyOf, IsCyclicAt};
-ghost use Rattle.msc_acceptance.specs.Deciding.{AreBuilt, AreFaultsOf, AreWoven, IsBarred, IsNextWoven, earlier_of};
+ghost use Rattle.msc_acceptance.specs.Deciding.{AreBuilt, AreFaultsOf, AreWoven, IsBarred, IsNextWoven, IsTakenIn, earlier_of};
 ghost use Rattle.msc_base.specs.Places.{IsLeast};
 ghost use Rattle.msc_instances.specs.Instances.{instances};
 ghost use Rattle.msc_meaning.specs.Views.{body_view, entry_view};
@@ -153,7 +153,7 @@ fn faults_of(alloc: Global, chart: &RawChart, body: &Body) -> Result<BodyFaults,
 }
 
 /// What a chart, whose instances `names` are, is woven to.
-fn woven(alloc: Global, chart: &RawChart, names: &Names) -> Result<ChartResult, NoMemory>
+fn result_of(alloc: Global, chart: &RawChart, names: &Names) -> Result<ChartResult, NoMemory>
     requires built { IsBuilt (chart_view chart.now) }
     requires names { names.now ≡ instances (chart_view chart.now) }
     ensures { IfOk result (IsNextWoven (chart_view chart.now)) }
@@ -168,6 +168,29 @@ fn woven(alloc: Global, chart: &RawChart, names: &Names) -> Result<ChartResult, 
     }
 }
 
+/// The same; the chart is dropped.
+fn woven(alloc: Global, chart: RawChart, names: &Names) -> Result<ChartResult, NoMemory>
+    requires built { IsBuilt (chart_view chart) }
+    requires names { names.now ≡ instances (chart_view chart) }
+    ensures { IfOk result (IsNextWoven (chart_view chart)) }
+{
+    result_of(alloc, &chart, names)
+}
+
+/// Takes in what one more chart is woven to: the earlier places of both, and its entry, where it has one.
+fn take_in(made: &mut Weaving, chart: ChartResult) -> Result<(), NoMemory>
+    ensures { OnOk result (IsTakenIn made.old chart made.new) }
+{
+    match chart {
+        ChartResult::Entry(entry, found) => {
+            made.entries.push(entry)?;
+            made.faults = earlier_faults(made.faults, found);
+        }
+        ChartResult::Barred(found) => made.faults = earlier_faults(made.faults, found),
+    }
+    Ok(())
+}
+
 /// What the charts, whose instances `lists` are, are woven to. Each is dropped as soon as it is woven.
 pub fn woven_charts(
     alloc: Global,
@@ -178,18 +201,15 @@ pub fn woven_charts(
     requires lists { lists.now ≡ map instances (map chart_view charts.items) }
     ensures { IfOk result (AreWoven (map chart_view charts.items)) }
 {
-    let mut entries = Vec::new(alloc);
-    let mut faults = barring(None, None);
+    let mut made = Weaving {
+        entries: Vec::new(alloc),
+        faults: barring(None, None),
+    };
     let mut number = 0;
     for chart in charts {
-        match woven(alloc, &chart, &lists[number])? {
-            ChartResult::Entry(entry, found) => {
-                entries.push(entry)?;
-                faults = earlier_faults(faults, found);
-            }
-            ChartResult::Barred(found) => faults = earlier_faults(faults, found),
-        }
+        let one = woven(alloc, chart, &lists[number])?;
+        take_in(&mut made, one)?;
         number += 1;
     }
-    Ok(Weaving { entries, faults })
+    Ok(made)
 }

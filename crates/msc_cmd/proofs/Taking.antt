@@ -3,8 +3,6 @@ use Rattle.std.proofs.Common.{◌≡◌, ◌<◌, ◌≤◌, ◌+◌, ◌-◌, i
 use Rattle.std.proofs.lemmas.List.{take_all, take_min}
 use Rattle.outside.specs.Shelves.{Files}
 use Rattle.msc_base.specs.declared.limits.TheConstants.Limits.{DOCUMENT_BYTES}
-use Rattle.msc_base.specs.declared.place.Place.{Place}
-use Rattle.msc_tokens.specs.Places.{first_place, after_byte, past}
 use Rattle.msc_cmd.specs.Intakes.{HasTaken, IsReading, HoldsDocument}
 use Rattle.msc_cmd.specs.declared.intake.Intake.{Intake}
 
@@ -15,14 +13,10 @@ take_over (suc most) (b ∷ bytes) piece short =
     let n : most - length bytes ≡ suc most - length (b ∷ bytes) = omega arith in
     ap (λ (bs : List ℕ). b ∷ bs) (take_over most bytes piece (omega arith) ∙ ap (λ (k : ℕ). bytes ++ take k piece) n)
 
-past_both : (p : Place) (xs ys : List ℕ) → past p (xs ++ ys) ≡ past (past p xs) ys
-past_both p [] ys = refl
-past_both p (x ∷ xs) ys = past_both (after_byte p x) xs ys
-
 -- one more piece has been taken
 pub taken_more : (bytes piece prefix : List ℕ) (old new : Intake) → old.count ≤ DOCUMENT_BYTES → prefix ≡ take (min (DOCUMENT_BYTES - old.count) (length piece)) piece
-    → new.text.items ≡ old.text.items ++ prefix → new.place ≡ past old.place prefix → new.count ≡ old.count + length piece → HasTaken bytes old → HasTaken (bytes ++ piece) new
-taken_more bytes piece prefix old new room is grows goes counts h =
+    → new.text.items ≡ old.text.items ++ prefix → new.count ≡ old.count + length piece → HasTaken bytes old → HasTaken (bytes ++ piece) new
+taken_more bytes piece prefix old new room is grows counts h =
     let short : length bytes ≤ DOCUMENT_BYTES = omega (arith, h.counted) in
     let whole : take DOCUMENT_BYTES bytes ≡ bytes = take_all DOCUMENT_BYTES bytes short in
     let cut : prefix ≡ take (DOCUMENT_BYTES - length bytes) piece = is ∙ take_min (DOCUMENT_BYTES - old.count) piece ∙ ap (λ (n : ℕ). take (DOCUMENT_BYTES - n) piece) h.counted in
@@ -30,7 +24,6 @@ taken_more bytes piece prefix old new room is grows goes counts h =
     record {
       counted = omega (arith, counts, h.counted, length-append bytes piece);
       held = grows ∙ ap (λ (bs : List ℕ). bs ++ prefix) h.held ∙ sym all;
-      behind = goes ∙ ap (λ (p : Place). past p prefix) h.behind ∙ sym (past_both first_place (take DOCUMENT_BYTES bytes) prefix) ∙ ap (past first_place) (sym all);
     }
 
 -- a document that was read to its end, or behind the limit

@@ -142,10 +142,10 @@ misread tokens end fault broken place b has only none =
     let is = refusal fault broken place b in
     record { fault = fault; is = has is; breaks = b; only = only is; none = none is }
 
-pub settled_long : (prefix bytes : List ℕ) (intake : Intake) → DOCUMENT_BYTES < intake.count → HasTaken prefix intake → IsPrefixOf prefix bytes → IsOnlyTextFault bytes rule.Bytes intake.place
-settled_long prefix bytes intake over h f =
+pub settled_long : (prefix bytes : List ℕ) (intake : Intake) (place : Place) → DOCUMENT_BYTES < intake.count → place ≡ past first_place intake.text.items → HasTaken prefix intake → IsPrefixOf prefix bytes → IsOnlyTextFault bytes rule.Bytes place
+settled_long prefix bytes intake place over is h f =
     let l = over_long prefix bytes f (omega (arith, over, h.counted)) in
-    only_long bytes intake.place l.0 (h.behind ∙ ap (past first_place) l.1)
+    only_long bytes place l.0 (is ∙ ap (past first_place) (h.held ∙ l.1))
 
 -- the whole text has a fault
 pub whole_fault : (bytes : List ℕ) (fault : LexFault) (broken : Rule) (place : Place) → length bytes ≤ DOCUMENT_BYTES → IfNamed fault (HasLexFault bytes fault) → IfNamed fault ((others : LexFault) → HasLexFault bytes others → others ≡ fault)

@@ -3,7 +3,6 @@
 use Rattle.std.specs.Prelude.{◌≡◌, ◌<◌, ◌⊎◌, ℕ, List, [], ◌++◌, length, take, Option, Some, None, ⊤}
 use Rattle.outside.specs.Shelves.{Files}
 use Rattle.msc_base.specs.declared.limits.TheConstants.Limits.{DOCUMENT_BYTES}
-use Rattle.msc_tokens.specs.Places.{first_place, past}
 use Rattle.msc_cmd.specs.declared.document.Document.{Document}
 use Rattle.msc_cmd.specs.declared.document_text.DocumentText.{DocumentText}
 use Rattle.msc_cmd.specs.DocumentTexts.{IsTheText}
@@ -15,7 +14,6 @@ use Rattle.msc_cmd.specs.declared.intake.Intake.{Intake}
 pub record HasTaken (bytes : List ℕ) (intake : Intake) : Type 0 where
   pub counted : intake.count ≡ length bytes
   pub held : intake.text.items ≡ take DOCUMENT_BYTES bytes
-  pub behind : intake.place ≡ past first_place (take DOCUMENT_BYTES bytes)
 
 -- what has been taken and what is left are the entry of this name, where it is told
 pub record IsReading (files : Option Files) (name : List ℕ) (rest : Option (List ℕ)) (intake : Intake) : Type 0 where

@@ -1,7 +1,8 @@
 //! What the bytes of a document are as a text, before any rule on charts: for `reading` and `printing`.
 
-ghost use Rattle.std.specs.Prelude.{◌≤◌, ℕ, List, IfOk, IfSome, length};
+ghost use Rattle.std.specs.Prelude.{◌≡◌, ◌≤◌, ℕ, List, IfOk, IfSome, length};
 ghost use Rattle.msc_base.specs.declared.limits.TheConstants.Limits.{DOCUMENT_BYTES};
+ghost use Rattle.msc_tokens.specs.Places.{first_place, past};
 ghost use Rattle.msc_cmd.specs.DocumentTexts.{BreaksGrammar, BreaksRule, IsTheText, ParsesAs};
 ghost use Rattle.msc_cmd.specs.Intakes.{HasTaken, IsPrefixOf};
 
@@ -9,10 +10,10 @@ use crate::intake::Intake;
 use msc_base::{Limits, NoMemory, Place};
 use msc_document::{parse, read_by_parts};
 use msc_rules::Rule;
-use msc_tokens::{LexFault, TokenList, lex_all};
+use msc_tokens::{LexFault, TokenList, lex_all, place_behind};
 use msc_tree::RawDocument;
 use std::alloc::Global;
-use token_grammar::{ParseFault, ReadFault};
+use token_grammar::ParseFault;
 
 /// What the bytes of a document are as a text.
 #[derive(Drop)]
@@ -80,11 +81,23 @@ fn read_text(alloc: Global, text: &[u8]) -> Result<DocumentText, NoMemory>
     requires { length text.now ≤ DOCUMENT_BYTES }
     ensures { IfOk result (IsTheText text.now) }
 {
-    match read_by_parts(alloc, text) {
-        Ok(document) => Ok(DocumentText::Read(document)),
-        Err(ReadFault::NoMemory) => Err(NoMemory),
-        Err(_) => whole_text(alloc, text),
+    match read_by_parts(alloc, text)? {
+        Some(document) => Ok(DocumentText::Read(document)),
+        None => whole_text(alloc, text),
     }
+}
+
+/// The place behind a text.
+fn end_of(text: &[u8]) -> Place
+    requires { length text.now ≤ DOCUMENT_BYTES }
+    ensures { result ≡ past first_place text.now }
+{
+    let first = Place {
+        byte: 0,
+        line: 1,
+        column: 1,
+    };
+    place_behind(first, text)
 }
 
 /// What the text of the document that has been taken is.
@@ -92,7 +105,7 @@ pub fn text_of(alloc: Global, intake: Intake) -> Result<DocumentText, NoMemory>
     ensures { (prefix : List ℕ) (bytes : List ℕ) → HasTaken prefix intake → IsPrefixOf prefix bytes → IfOk result (IsTheText bytes) }
 {
     if intake.count > Limits::DOCUMENT_BYTES {
-        return Ok(DocumentText::Refused(Rule::Bytes, intake.place));
+        return Ok(DocumentText::Refused(Rule::Bytes, end_of(intake.text.as_slice())));
     }
     read_text(alloc, intake.text.as_slice())
 }

@@ -1,10 +1,9 @@
 //! A document under way: holds its bytes up to the limit, and counts them. For `reading`.
 
-ghost use Rattle.std.specs.Prelude.{◌≤◌, ◌+◌, length};
+ghost use Rattle.std.specs.Prelude.{◌≤◌, length};
 ghost use Rattle.msc_base.specs.declared.limits.TheConstants.Limits.{DOCUMENT_BYTES};
 
-use msc_base::{Limits, NoMemory, Place};
-use msc_tokens::place_behind;
+use msc_base::{Limits, NoMemory};
 use std::alloc::Global;
 
 /// A document as far as it has been read.
@@ -14,11 +13,6 @@ pub struct Intake {
     pub text: Vec<u8>,
     /// How many bytes have been read.
     pub count: u64,
-    /// The place behind them, or behind the last byte within the limit.
-    pub place: Place,
-    ghost lines: { place.line ≤ place.byte + 1 },
-    ghost columns: { place.column ≤ place.byte + 1 },
-    ghost within: { place.byte ≤ count },
     ghost held: { length text.items ≤ count },
     ghost short: { length text.items ≤ DOCUMENT_BYTES },
 }
@@ -33,15 +27,9 @@ impl Intake {
         ensures taken { IfOk result (λ intake. HasTaken [] intake) }
         ensures count { IfOk result (λ intake. intake.count ≡ 0) }
     {
-        let place = Place {
-            byte: 0,
-            line: 1,
-            column: 1,
-        };
         Ok(Intake {
             text: Vec::new(alloc),
             count: 0,
-            place,
         })
     }
 
@@ -56,7 +44,6 @@ impl Intake {
         let (prefix, _) = piece.split_at(room.min(piece.len()));
         self.count += piece.len() as u64;
         self.text.extend_from_slice(prefix)?;
-        self.place = place_behind(self.place, prefix);
         Ok(())
     }
 }

@@ -10,6 +10,7 @@ use Rattle.msc_tree.specs.Statements.{Item, Items, Statement, Column, Covered, H
 use Rattle.token_grammar.specs.Languages.{Read, ◌>>=◌, just, starts, word_at, each_at, map_at, seq_at, either_at, behind_at}
 use Rattle.token_grammar.specs.Parts.{leads}
 use Rattle.token_grammar.specs.PartReaders.{name_at, lead_at, comma_name_at, ending_at}
+use Rattle.token_grammar.proofs.Lists.{apart_among}
 use Rattle.token_grammar.proofs.Optionals.{mapped}
 use Rattle.msc_events.specs.Declarations.{decl_of}
 use Rattle.msc_events.specs.DeclarationReaders.{declaration_at, decl_at}
@@ -154,9 +155,23 @@ module _ (closer : Option InlineForm) (e m : List Token → Read Item) where
   led_same ts (Ok at) h = rw h (ap gone (paired_lead at.0 (line_of at.1)) ∙ line_same at.0 at.1 (starts (just (codes ":")) at.1) refl)
   led_same ts (Err f) h = rw h refl
 
+  -- no lead is the word `all`
+  not_all : (ts : List Token) → starts leads ts ≡ true → starts (just (codes "all")) ts ≡ false
+  not_all [] h = refl
+  not_all (t ∷ ts) h = apart_among leads (just (codes "all")) t refl h
+
+  -- where neither stands there, the first token is refused by both
+  refused_same : (ts : List Token) → starts leads ts ≡ false → starts (just (codes "all")) ts ≡ false → all_form_at closer q ts ≡ led_form_at closer q ts
+  refused_same [] h k = refl
+  refused_same (t ∷ ts) h k = rw (h, k) refl
+
+  covered_other : (ts : List Token) (b : Bool) → starts leads ts ≡ false → starts (just (codes "all")) ts ≡ b → statement_at closer (opening_at e m) e m ts ≡ covered_form_at closer q ts
+  covered_other ts true h k = rw (h, k) (all_same ts (word_at (just (codes "all")) ts) refl)
+  covered_other ts false h k = rw (h, k) (all_same ts (word_at (just (codes "all")) ts) refl ∙ refused_same ts h k)
+
   covered_pick : (ts : List Token) (b : Bool) → starts leads ts ≡ b → statement_at closer (opening_at e m) e m ts ≡ covered_form_at closer q ts
-  covered_pick ts true h = rw h (led_same ts (lead_at ts) refl)
-  covered_pick ts false h = rw h (all_same ts (word_at (just (codes "all")) ts) refl)
+  covered_pick ts true h = rw (h, not_all ts h) (led_same ts (lead_at ts) refl)
+  covered_pick ts false h = covered_other ts (starts (just (codes "all")) ts) h refl
 
   pub covered_is : (ts : List Token) → statement_at closer (opening_at e m) e m ts ≡ covered_form_at closer q ts
   covered_is ts = covered_pick ts (starts leads ts) refl

@@ -8,7 +8,6 @@ use Rattle.msc_tree.specs.declared.chart.Cover.TheVariants.{All, Listed}
 use Rattle.msc_tree.specs.declared.reference.InlineForm.{InlineForm}
 use Rattle.msc_tree.specs.Statements.{Item, Statement, Covered, Heading, Ended, items}
 use Rattle.token_grammar.specs.Languages.{Set, Read, ◌>>=◌, just, starts, word_at, map_at, behind_at}
-use Rattle.token_grammar.specs.Parts.{leads}
 use Rattle.token_grammar.specs.PartReaders.{name_at, lead_at, more_names_at, ending_at}
 use Rattle.msc_events.specs.DeclarationReaders.{declared_at}
 use Rattle.msc_document.specs.DocumentReaders.{State, events, multis, alone, event_words, opening_words, chart_words, statement_goes_on, statement_at, statements_at, outside_event_at, outside_multi_at, outside_tails_at, covered_opening_at, chart_opening_at, instance_at}
@@ -49,7 +48,7 @@ module _ (closer : Option InlineForm) (q : Bool → List Token → Read Item) wh
   all_form_at ts = word_at (just (codes "all")) ts >>= λ a. word_at (just (codes ":")) a.1 >>= λ c. run_at false All c.1
 
   abbrev pub covered_form_at : List Token → Read Statement
-  covered_form_at ts = if starts leads ts then led_form_at ts else all_form_at ts
+  covered_form_at ts = if starts (just (codes "all")) ts then all_form_at ts else led_form_at ts
 
 -- ---- in operands, and in charts, where no form closes them
 

@@ -1,6 +1,6 @@
 //! Items of one kind each, made of what the readers of msc_events and `reference` read: for `items`.
 
-ghost use Rattle.std.specs.Prelude.{◌≡◌};
+ghost use Rattle.std.specs.Prelude.{◌≡◌, IfOk};
 ghost use Rattle.msc_tree.specs.Statements.{placed};
 ghost use Rattle.msc_tree.specs.Views.{item_view, inline_view};
 ghost use Rattle.token_grammar.specs.Answers.{Gives};
@@ -9,11 +9,11 @@ ghost use Rattle.msc_document.specs.DocumentReaders as specs;
 ghost use Rattle.msc_document.specs.ItemReaders.{body_view, inline_parts, item_of};
 
 use crate::reference::reference;
-use msc_base::{Name, Place};
+use msc_base::{Name, NoMemory, Place};
 use msc_events::{Orientation, condition, coregion, single, stop};
 use msc_expression::Bounds;
 use msc_tokens::Token;
-use msc_tree::{Cover, InlineForm, RawForm, RawInline, RawItem, RawOperand};
+use msc_tree::{Cover, InlineForm, RawForm, RawInline, RawItem, RawOperand, TreePlace};
 use std::alloc::Global;
 use token_grammar::ReadFault;
 
@@ -22,7 +22,7 @@ pub fn single_item(alloc: Global, tokens: &[Token]) -> Result<(RawItem, &[Token]
     ensures { Gives (λ x. (item_view x.0, x.1.now)) result (specs.single_item_at tokens.now) }
 {
     let (event, rest) = single(alloc, tokens)?;
-    let place = event.place;
+    let place = event.place.copy();
     Ok((
         RawItem {
             place,
@@ -39,7 +39,7 @@ pub fn coregion_item(alloc: Global, tokens: &[Token]) -> Result<(RawItem, &[Toke
     let (place, events, rest) = coregion(alloc, tokens)?;
     Ok((
         RawItem {
-            place,
+            place: TreePlace::of(place)?,
             form: RawForm::Coregion(events),
         },
         rest,
@@ -53,7 +53,7 @@ pub fn stop_item(tokens: &[Token]) -> Result<(RawItem, &[Token]), ReadFault>
     let (place, rest) = stop(tokens)?;
     Ok((
         RawItem {
-            place,
+            place: TreePlace::of(place)?,
             form: RawForm::Stop,
         },
         rest,
@@ -71,7 +71,7 @@ pub fn condition_item(
     let (place, names, shared, rest) = condition(alloc, orientation, tokens)?;
     Ok((
         RawItem {
-            place,
+            place: TreePlace::of(place)?,
             form: RawForm::Condition(names, shared),
         },
         rest,
@@ -90,7 +90,7 @@ pub fn reference_item(
     let (place, reference, rest) = reference(alloc, orientation, tokens, levels)?;
     Ok((
         RawItem {
-            place,
+            place: TreePlace::of(place)?,
             form: RawForm::Reference(reference),
         },
         rest,
@@ -123,18 +123,23 @@ fn inline_of(form: InlineForm, bounds: Bounds, body: InlineBody) -> RawInline
 }
 
 /// An item that is an inline expression.
-fn of_inline(place: Place, inline: RawInline) -> RawItem
-    ensures { item_view result ≡ placed place (inline_view inline) }
+fn of_inline(place: Place, inline: RawInline) -> Result<RawItem, NoMemory>
+    ensures { IfOk result (λ item. item_view item ≡ placed place (inline_view inline)) }
 {
-    RawItem {
-        place,
+    Ok(RawItem {
+        place: TreePlace::of(place)?,
         form: RawForm::Inline(inline),
-    }
+    })
 }
 
 /// The item of an inline expression.
-pub fn inline_item(place: Place, form: InlineForm, bounds: Bounds, body: InlineBody) -> RawItem
-    ensures { item_view result ≡ item_of form (place, (bounds, body_view body)) }
+pub fn inline_item(
+    place: Place,
+    form: InlineForm,
+    bounds: Bounds,
+    body: InlineBody,
+) -> Result<RawItem, NoMemory>
+    ensures { IfOk result (λ item. item_view item ≡ item_of form (place, (bounds, body_view body))) }
 {
     of_inline(place, inline_of(form, bounds, body))
 }

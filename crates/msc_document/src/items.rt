@@ -14,19 +14,18 @@ use crate::item::{
     InlineBody, condition_item, coregion_item, inline_item, reference_item, single_item, stop_item,
 };
 use crate::line_parts::{
-    column_of, covered_by, end_statement, heading_statement, one_item, other_names,
+    column_of, covered_by, covered_one, covered_these, end_statement, fitted, heading_statement,
+    one_item, other_names,
 };
 use crate::naming::{closing, naming};
 use crate::starts::{starts_with_event, starts_with_form, starts_with_multi};
-use msc_base::{Name, Names, Place};
+use msc_base::{Name, Place};
 use msc_events::{Orientation, decl, starts_with_single};
 use msc_expression::{Bounds, loop_bounds, open};
 use msc_tokens::Token;
 use msc_tree::{Cover, InlineForm, RawItem, RawOperand, Statement};
 use std::alloc::Global;
-use token_grammar::{
-    ReadFault, ending, placed_lead, starts_with, starts_with_either, starts_with_lead, word,
-};
+use token_grammar::{ReadFault, ending, placed_lead, starts_with, starts_with_either, word};
 
 /// An event of a column, or elsewhere, where so many levels may still be opened.
 #[cycle(items)]
@@ -107,7 +106,7 @@ fn inline_form(
 {
     let (first, rest) = form_token(tokens, form)?;
     let (bounds, body, rest) = tail(alloc, rest, levels, orientation, form)?;
-    let item = inline_item(first.place, form, bounds, body);
+    let item = inline_item(first.place, form, bounds, body)?;
     Ok((item, rest))
 }
 
@@ -386,7 +385,7 @@ pub fn statements(
 {
     let (statements, rest) = several_statements(alloc, tokens, levels, closer)?;
     let (_word, rest) = close(rest, "endmsc", closer)?;
-    Ok((statements, rest))
+    Ok((fitted(statements), rest))
 }
 
 /// Statements, one after the other.
@@ -447,12 +446,12 @@ fn covered(
 ) -> Result<(Statement, &[Token]), ReadFault>
     ensures { Gives (λ x. (statement_view x.0, x.1.now)) result (covered_form_at closer (outside_item_at levels) tokens.now) }
 {
-    if starts_with_lead(tokens) {
-        return led(alloc, tokens, levels, closer);
+    if starts_with(tokens, "all") {
+        let (_all, rest) = word(tokens, "all")?;
+        let (_colon, rest) = word(rest, ":")?;
+        return run(alloc, rest, levels, closer, false, Cover::All);
     }
-    let (_all, rest) = word(tokens, "all")?;
-    let (_colon, rest) = word(rest, ":")?;
-    run(alloc, rest, levels, closer, false, Cover::All)
+    led(alloc, tokens, levels, closer)
 }
 
 /// A statement that begins with the name of an instance.
@@ -486,8 +485,7 @@ fn behind_colon(
 {
     let (_colon, rest) = word(tokens, ":")?;
     if starts_with_event(rest) {
-        let names = Names::one(alloc, name)?;
-        return run(alloc, rest, levels, closer, true, Cover::Listed(names));
+        return run(alloc, rest, levels, closer, true, covered_one(name));
     }
     if starts_with(rest, "instance") {
         return heading_statement(alloc, name, place, rest);
@@ -509,7 +507,8 @@ fn behind_comma(
     let (_comma, rest) = word(tokens, ",")?;
     let (names, rest) = other_names(alloc, name, rest)?;
     let (_colon, rest) = word(rest, ":")?;
-    run(alloc, rest, levels, closer, false, Cover::Listed(names))
+    let cover = covered_these(alloc, names)?;
+    run(alloc, rest, levels, closer, false, cover)
 }
 
 /// An item and those that go on with it, for these instances: of any kind, or without events.

@@ -1,6 +1,7 @@
 //! Statements made of their parts, and declarations and ends that lead one: for `items`.
 
 ghost use Rattle.std.specs.Prelude.{◌≡◌, [], ◌∷◌, map, codes, IfOk};
+ghost use Rattle.msc_tree.specs.declared.chart.Cover.TheVariants.{Listed};
 ghost use Rattle.msc_tree.specs.Statements.{Column, Covered, Heading, Ended, items};
 ghost use Rattle.msc_tree.specs.Views.{item_view, statement_view};
 ghost use Rattle.token_grammar.specs.Answers.{Gives};
@@ -12,17 +13,26 @@ ghost use Rattle.msc_document.specs.StatementReaders.{other_names_at};
 use msc_base::{Items, Name, Names, NoMemory, Place};
 use msc_events::declared;
 use msc_tokens::Token;
-use msc_tree::{BoxedDecl, Cover, Decl, RawItem, Statement};
+use msc_tree::{BoxedDecl, Cover, Decl, FewNames, RawItem, Statement};
 use std::alloc::Global;
 use token_grammar::{ReadFault, ending, more_names, own_name, word};
 
-/// The list of this item alone. It has room for no other: most statements have one item, and an item is large.
+/// The list of this item alone. It has room for no other: most statements have one item.
 pub fn one_item(alloc: Global, item: RawItem) -> Result<Vec<RawItem>, NoMemory>
     ensures { IfOk result (λ held. held.items ≡ item ∷ []) }
 {
     let mut held = Vec::with_capacity(alloc, 1)?;
     held.push(item)?;
     Ok(held)
+}
+
+/// The same statements, which keep no room for others.
+pub fn fitted(statements: Vec<Statement>) -> Vec<Statement>
+    ensures { result.items ≡ statements.items }
+{
+    let mut fitted = statements;
+    fitted.shrink_to_fit();
+    fitted
 }
 
 /// The statement that is the column of an instance. Its items keep no room for others.
@@ -34,11 +44,32 @@ pub fn column_of(alloc: Global, decl: Decl, held: Vec<RawItem>) -> Result<Statem
     Ok(Statement::Column(BoxedDecl::of(alloc, decl)?, column))
 }
 
-/// The statement that these instances are covered by these items.
+/// The instance of this name is covered.
+pub fn covered_one(name: Name) -> Cover
+    ensures { result ≡ Listed (name ∷ []) }
+{
+    Cover::Listed(FewNames::one(name))
+}
+
+/// The instances of these names are covered.
+pub fn covered_these(alloc: Global, names: Names) -> Result<Cover, NoMemory>
+    ensures { IfOk result (λ cover. cover ≡ Listed names) }
+{
+    let list = FewNames::several(alloc, names)?;
+    Ok(Cover::Listed(list))
+}
+
+/// The statement that these instances are covered by these items. One item stands in the statement itself.
 pub fn covered_by(cover: Cover, held: Vec<RawItem>) -> Statement
     ensures { statement_view result ≡ Covered cover (items (map item_view held.items)) }
 {
-    Statement::Covered(cover, held)
+    let mut list = held;
+    if list.len() == 1 {
+        if let Some(item) = list.pop() {
+            return Statement::One(cover, item);
+        }
+    }
+    Statement::Covered(cover, list)
 }
 
 /// The statement that this instance is declared.

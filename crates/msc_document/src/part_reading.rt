@@ -1,6 +1,6 @@
 //! A document's text read part by part, so that the tokens of a few charts alone are held: for msc_cmd.
 
-ghost use Rattle.std.specs.Prelude.{◌≡◌, ◌<◌, ◌≤◌, ◌+◌, ◌^◌, ℕ, List, length, IfOk, OnOk, []};
+ghost use Rattle.std.specs.Prelude.{◌≡◌, ◌<◌, ◌≤◌, ◌+◌, ◌^◌, ℕ, List, length, IfOk, IfSome, OnOk, []};
 ghost use Rattle.std.specs.Bool.{OnTrue};
 ghost use Rattle.msc_base.specs.declared.limits.TheConstants.Limits.{NESTING};
 ghost use Rattle.msc_tree.specs.Views.{document_view};
@@ -8,7 +8,7 @@ ghost use Rattle.msc_document.specs.DocumentParts.{Continues, Ends, HasRead, IsN
 
 use crate::chart::chart;
 use crate::document::some_end;
-use msc_base::Limits;
+use msc_base::{Limits, NoMemory};
 use msc_events::heading;
 use msc_tokens::{LexFault, PartLexer, Token};
 use msc_tree::RawDocument;
@@ -207,10 +207,14 @@ fn read_text(alloc: Global, text: &[u8], levels: usize) -> Result<RawDocument, R
 
 /// The document that the text is. It is read part by part, so that the tokens of a few charts alone are held.
 ///
-/// A refusal tells only that it isn't read so, and not why: `parse` tells what is wrong, if anything is.
-pub fn read_by_parts(alloc: Global, text: &[u8]) -> Result<RawDocument, ReadFault>
+/// Where there is none, it isn't read so, which says nothing of why: `parse` tells what is wrong, if anything is.
+pub fn read_by_parts(alloc: Global, text: &[u8]) -> Result<Option<RawDocument>, NoMemory>
     requires { length text.now < 2 ^ 63 }
-    ensures { IfOk result (λ read. IsWritten NESTING text.now (document_view read)) }
+    ensures { IfOk result (λ read. IfSome read (λ document. IsWritten NESTING text.now (document_view document))) }
 {
-    read_text(alloc, text, Limits::NESTING as usize)
+    match read_text(alloc, text, Limits::NESTING as usize) {
+        Ok(document) => Ok(Some(document)),
+        Err(ReadFault::NoMemory) => Err(NoMemory),
+        Err(_) => Ok(None),
+    }
 }

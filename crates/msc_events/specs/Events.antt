@@ -8,6 +8,7 @@ use Rattle.msc_base.specs.declared.place.Place.{Place}
 use Rattle.msc_tree.specs.declared.event.RawEvent.{RawEvent}
 use Rattle.msc_tree.specs.declared.event.Target.{Target}
 use Rattle.msc_tree.specs.declared.event.Target.TheVariants.{Nobody, Env, Instance, Gate}
+use Rattle.msc_tree.specs.Orders.{with_name}
 use Rattle.token_grammar.specs.Languages.{Set, just}
 use Rattle.token_grammar.specs.Grammars.{Grammar, seq, or, read_as, until, optional, behind}
 use Rattle.token_grammar.specs.Parts.{name, mark, ending, kept, all_or_none, placed, name_list}
@@ -61,14 +62,12 @@ address setting lost kind lost_kind =
 -- the event at a place, without its label
 abbrev pub event_of : Place → Message → Address → RawEvent
 event_of place m a = record {
-  event_name = None;
   kind = a.kind;
   text = m.0;
   parameters = m.2;
   pairing = m.1;
   target = a.target;
-  earlier_than = a.orders.earlier_than;
-  later_than = a.orders.later_than;
+  order = record { event_name = None; earlier_than = a.orders.earlier_than; later_than = a.orders.later_than };
   place = place;
 }
 
@@ -107,14 +106,12 @@ act setting = or (output setting) (or (input setting) (or (action setting) (or (
 
 abbrev pub tagged : Option (List ℕ) → RawEvent → RawEvent
 tagged event_name e = record {
-  event_name = event_name;
   kind = e.kind;
   text = e.text;
   parameters = e.parameters;
   pairing = e.pairing;
   target = e.target;
-  earlier_than = e.earlier_than;
-  later_than = e.later_than;
+  order = with_name event_name e.order;
   place = e.place;
 }
 

@@ -11,7 +11,7 @@ use crate::address::{address, orders};
 use crate::event_parts::{Address, Orders, Setting};
 use msc_base::{Kind, NoMemory, Place, Text};
 use msc_tokens::Token;
-use msc_tree::{BoxedName, RawEvent, Target};
+use msc_tree::{BoxedOrder, GeneralOrder, Parameters, RawEvent, Target, TreePlace};
 use std::alloc::Global;
 use token_grammar::{
     MessageParts, ReadFault, either_word, item, message, name, name_of, starts_with,
@@ -27,17 +27,19 @@ fn made_event(
 ) -> Result<RawEvent, NoMemory>
     ensures { IfOk result (λ event. event ≡ event_of place (message_view message) address) }
 {
-    let pairing = BoxedName::of_some(alloc, message.pairing)?;
-    Ok(RawEvent {
+    let order = GeneralOrder {
         event_name: None,
-        kind: address.kind,
-        text: message.text,
-        parameters: message.parameters,
-        pairing,
-        target: address.target,
         earlier_than: address.orders.earlier_than,
         later_than: address.orders.later_than,
-        place,
+    };
+    Ok(RawEvent {
+        kind: address.kind,
+        place: TreePlace::of(place)?,
+        text: message.text,
+        parameters: Parameters::of(alloc, message.parameters)?,
+        pairing: message.pairing,
+        target: address.target,
+        order: BoxedOrder::of(alloc, order)?,
     })
 }
 

@@ -10,7 +10,7 @@ use crate::act::act;
 use crate::event_parts::Setting;
 use msc_base::{Items, Name, NoMemory, Place};
 use msc_tokens::Token;
-use msc_tree::{BoxedName, RawEvent, RawEventList};
+use msc_tree::{RawEvent, RawEventList};
 use std::alloc::Global;
 use token_grammar::{ReadFault, ending, own_name, starts_with, starts_with_either, word};
 
@@ -43,11 +43,8 @@ fn with_label(
 ) -> Result<RawEvent, NoMemory>
     ensures { IfOk result (λ labelled. labelled ≡ tagged event_name event) }
 {
-    let event_name = BoxedName::of_some(alloc, event_name)?;
-    Ok(RawEvent {
-        event_name,
-        ..event
-    })
+    let order = event.order.named(alloc, event_name)?;
+    Ok(RawEvent { order, ..event })
 }
 
 /// A single event of a chart (Z.120, clauses 4.3 to 4.10).

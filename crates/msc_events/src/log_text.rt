@@ -23,10 +23,10 @@ fn plain_message(alloc: Global, tokens: &[Token]) -> Result<(Text, &[Token]), Re
     let (first, rest) = name(tokens)?;
     if starts_with(rest, "(") {
         let (list, rest) = parameters(alloc, rest)?;
-        let text = label_text(alloc, first.bytes.bytes(), &Some(list))?;
+        let text = label_text(alloc, first.bytes.bytes(), Some(list.as_slice()))?;
         return Ok((Text::from_vec(text), rest));
     }
-    let text = label_text(alloc, first.bytes.bytes(), &None)?;
+    let text = label_text(alloc, first.bytes.bytes(), None)?;
     Ok((Text::from_vec(text), rest))
 }
 

@@ -6,7 +6,7 @@ ghost use Rattle.msc_events.specs.MultiReaders.{sharers_at, some_sharers_at, sha
 use crate::orientation::Orientation;
 use msc_base::{Items, Names, Place};
 use msc_tokens::Token;
-use msc_tree::Cover;
+use msc_tree::{Cover, FewNames};
 use std::alloc::Global;
 use token_grammar::{ReadFault, ending, names, starts_with, starts_with_name, word};
 
@@ -19,6 +19,7 @@ fn sharers(alloc: Global, tokens: &[Token]) -> Result<(Cover, &[Token]), ReadFau
         return Ok((Cover::All, rest));
     }
     let (names, rest) = names(alloc, tokens)?;
+    let names = FewNames::several(alloc, names)?;
     Ok((Cover::Listed(names), rest))
 }
 
@@ -29,7 +30,8 @@ fn some_sharers(alloc: Global, tokens: &[Token]) -> Result<(Cover, &[Token]), Re
     if starts_with(tokens, "all") || starts_with_name(tokens) {
         return sharers(alloc, tokens);
     }
-    Ok((Cover::Listed(Items::new(alloc)), tokens))
+    let none = FewNames::several(alloc, Items::new(alloc))?;
+    Ok((Cover::Listed(none), tokens))
 }
 
 /// The list of the instances that share a part of a chart.

@@ -10,6 +10,7 @@ use crate::{NamedPart, PartList, Setting};
 use msc_base::{Items, Name, NoMemory, Place};
 use msc_tree::{Content, RawChart, RawForm, RawInline, RawItem, RawOperand, Statement};
 use std::alloc::Global;
+use std::slice;
 
 /// Adds a part, where it has a name.
 fn named<'a>(
@@ -55,7 +56,7 @@ fn item_parts<'a>(
     ensures { OnOk result (level.new ≡ level.old ++ items_parts (column_view setting.entry) (item_tree (map item_view list.now))) }
 {
     for held in list {
-        form_part(level, setting, held.place, &held.form)?;
+        form_part(level, setting, held.place.get(), &held.form)?;
     }
     Ok(())
 }
@@ -68,6 +69,7 @@ fn statement_part<'a>(level: &mut PartList<'a>, statement: &'a Statement) -> Res
         Statement::Column(decl, list) => {
             item_parts(level, Setting::InColumn(&decl.decl().name), list.as_slice())
         }
+        Statement::One(_, held) => item_parts(level, Setting::Outside, slice::from_ref(held)),
         Statement::Covered(_, list) => item_parts(level, Setting::Outside, list.as_slice()),
         Statement::Heading(_) => Ok(()),
         Statement::Ended(_) => Ok(()),
@@ -197,6 +199,7 @@ fn statement<'a>(
             Setting::InColumn(&decl.decl().name),
             list.as_slice(),
         ),
+        Statement::One(_, held) => items(alloc, levels, Setting::Outside, slice::from_ref(held)),
         Statement::Covered(_, list) => items(alloc, levels, Setting::Outside, list.as_slice()),
         Statement::Heading(_) => Ok(()),
         Statement::Ended(_) => Ok(()),

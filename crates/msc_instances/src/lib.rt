@@ -9,7 +9,7 @@ mod parts;
 mod walk;
 
 pub use levels::chart_levels;
-pub use naming::{NameFault, first_named_twice, first_undeclared, instances_of, names};
+pub use naming::{ChartNames, NameFault, chart_names, names};
 pub use notes::{Note, NoteList, Scope};
 pub use parts::{NamedPart, PartList, Setting};
 pub use walk::chart_notes;

@@ -13,7 +13,7 @@ ghost use Rattle.msc_tree.specs.Views.{chart_view};
 use crate::again::named_again;
 use crate::{Note, PartList, Scope, chart_levels, chart_notes};
 use msc_base::{Name, NameTable, Names, NoMemory, Place, comes_before, earlier_if, earlier_place};
-use msc_tree::RawChart;
+use msc_tree::{FEW, RawChart, is_listed};
 use std::alloc::Global;
 
 /// Why the instances of a chart can't be listed.
@@ -36,6 +36,17 @@ impl From<NoMemory> for NameFault {
     }
 }
 
+/// The instances of a chart, and the earliest places at which it breaks the rules of names.
+#[derive(Drop)]
+pub struct ChartNames {
+    /// The instances, in the order in which they are first declared.
+    pub names: Names,
+    /// Of an instance that is decomposed a second time, or of a part that has the name of another.
+    pub twice: Option<Place>,
+    /// Of a name that may not stand there.
+    pub undeclared: Option<Place>,
+}
+
 /// The instances of a chart, as a list and as a table.
 #[derive(Drop)]
 struct Instances {
@@ -43,36 +54,7 @@ struct Instances {
     table: NameTable,
 }
 
-/// Up to so many names a list is looked through.
-const FEW: usize = 8;
-
-/// Whether a name is one of the list.
-fn is_listed(names: &[Name], name: &Name) -> bool
-    ensures { IsTrue result ↔ IsAmong names.now name.now }
-{
-    for other in names {
-        if name.same(other) {
-            return true;
-        }
-    }
-    false
-}
-
-/// Whether a name may stand where that scope is.
-fn may_name(table: &NameTable, scope: &Scope<'_>, name: &Name) -> bool
-    ensures { IsTrue result ↔ MayName table.now (scope_view scope.now) name.now }
-{
-    if !table.has(name.bytes()) {
-        return false;
-    }
-    match scope {
-        Scope::Whole => true,
-        Scope::Column(own) => name.same(own),
-        Scope::Listed(names) => is_listed(names.as_slice(), name),
-    }
-}
-
-/// Whether a name is one of the list, which the table has too: a short list is looked through, as that takes less time than a hash.
+/// Whether a name is one of the list, which the table has too.
 fn is_known(names: &Names, table: &NameTable, name: &Name) -> bool
     requires { names.now ≡ table.now }
     ensures { IsTrue result ↔ IsAmong table.now name.now }
@@ -81,6 +63,21 @@ fn is_known(names: &Names, table: &NameTable, name: &Name) -> bool
         is_listed(names.as_slice(), name)
     } else {
         table.has(name.bytes())
+    }
+}
+
+/// Whether a name, one of the list or not, may stand where that scope is; the table has the list too.
+fn may_name(names: &Names, table: &NameTable, scope: &Scope<'_>, name: &Name) -> bool
+    requires { names.now ≡ table.now }
+    ensures { IsTrue result ↔ MayName table.now (scope_view scope.now) name.now }
+{
+    if !is_known(names, table, name) {
+        return false;
+    }
+    match scope {
+        Scope::Whole => true,
+        Scope::Column(own) => name.same(own),
+        Scope::Listed(cover) => cover.has(name),
     }
 }
 
@@ -151,14 +148,15 @@ fn named_twice(
     }
 }
 
-/// The earliest place at which a name stands that may not.
-fn named_other(table: &NameTable, notes: &[Note<'_>]) -> Option<Place>
+/// The earliest place at which a name stands that may not, by the instances as a list and as a table.
+fn named_other(names: &Names, table: &NameTable, notes: &[Note<'_>]) -> Option<Place>
+    requires { names.now ≡ table.now }
     ensures { IsLeast (NamesOther table.now (map note_view notes.now)) result }
 {
     let mut best = None;
     for note in notes {
         if let Note::Named(name, place, scope) = note {
-            if !may_name(table, scope, name) {
+            if !may_name(names, table, scope, name) {
                 best = earlier_place(best, *place);
             }
         }
@@ -192,7 +190,7 @@ fn settled(alloc: Global, notes: &[Note<'_>], levels: &[PartList<'_>]) -> Result
 {
     let made = declared_in(alloc, notes)?;
     let twice = named_twice(alloc, notes, levels)?;
-    let other = named_other(&made.table, notes);
+    let other = named_other(&made.names, &made.table, notes);
     match first_fault(twice, other) {
         None => Ok(made.names),
         Some(fault) => Err(fault),
@@ -211,29 +209,21 @@ pub fn names(alloc: Global, chart: &RawChart) -> Result<Names, NameFault>
     settled(alloc, notes.as_slice(), levels.as_slice())
 }
 
-/// The instances of a chart in the order in which they are first declared, whether its names keep their rules or not.
-pub fn instances_of(alloc: Global, chart: &RawChart) -> Result<Names, NoMemory>
-    ensures { IfOk result (λ names. names ≡ instances (chart_view chart.now)) }
-{
-    let notes = chart_notes(alloc, chart)?;
-    let made = declared_in(alloc, notes.as_slice())?;
-    Ok(made.names)
-}
-
-/// The earliest place at which an instance of a chart is decomposed a second time, or a part has the name of another.
-pub fn first_named_twice(alloc: Global, chart: &RawChart) -> Result<Option<Place>, NoMemory>
-    ensures { IfOk result (IsLeast (ChartNamesTwice (chart_view chart.now))) }
+/// The instances of a chart in the order in which they are first declared, whether its names keep their rules or not, and the earliest
+/// places at which these break a rule. It goes through the text once.
+pub fn chart_names(alloc: Global, chart: &RawChart) -> Result<ChartNames, NoMemory>
+    ensures names { IfOk result (λ made. made.names ≡ instances (chart_view chart.now)) }
+    ensures twice { IfOk result (λ made. IsLeast (ChartNamesTwice (chart_view chart.now)) made.twice) }
+    ensures undeclared { IfOk result (λ made. IsLeast (ChartNamesOther (chart_view chart.now)) made.undeclared) }
 {
     let notes = chart_notes(alloc, chart)?;
     let levels = chart_levels(alloc, chart)?;
-    named_twice(alloc, notes.as_slice(), levels.as_slice())
-}
-
-/// The earliest place at which a name stands that may not stand there.
-pub fn first_undeclared(alloc: Global, chart: &RawChart) -> Result<Option<Place>, NoMemory>
-    ensures { IfOk result (IsLeast (ChartNamesOther (chart_view chart.now))) }
-{
-    let notes = chart_notes(alloc, chart)?;
     let made = declared_in(alloc, notes.as_slice())?;
-    Ok(named_other(&made.table, notes.as_slice()))
+    let twice = named_twice(alloc, notes.as_slice(), levels.as_slice())?;
+    let undeclared = named_other(&made.names, &made.table, notes.as_slice());
+    Ok(ChartNames {
+        names: made.names,
+        twice,
+        undeclared,
+    })
 }

@@ -4,7 +4,8 @@ ghost use Rattle.std.specs.Prelude.{◌≡◌, ◌++◌, ◌∷◌, [], List, ma
 ghost use Rattle.msc_instances.specs.NoteViews.{note_view};
 ghost use Rattle.msc_instances.specs.Notes as plain;
 
-use msc_base::{Name, Names, NoMemory, Place};
+use msc_base::{Name, NoMemory, Place};
+use msc_tree::FewNames;
 use std::alloc::Global;
 use std::marker::Model;
 
@@ -16,7 +17,7 @@ pub enum Scope<'a> {
     /// This one alone.
     Column(&'a Name),
     /// These.
-    Listed(&'a Names),
+    Listed(&'a FewNames),
 }
 
 /// What a chart writes of an instance.

@@ -13,6 +13,7 @@ use msc_tree::{
     Target,
 };
 use std::alloc::Global;
+use std::slice;
 
 /// Notes names that have to be in the scope.
 fn named<'a>(
@@ -70,7 +71,7 @@ fn event<'a>(
 {
     match (event.kind, &event.target) {
         (Kind::Output | Kind::Input | Kind::Create, Target::Instance(far)) => {
-            notes.push(Note::Named(far, event.place, scope))
+            notes.push(Note::Named(far, event.place.get(), scope))
         }
         _ => Ok(()),
     }
@@ -150,7 +151,7 @@ fn leads<'a>(
     }
     match list.first() {
         None => Ok(()),
-        Some(first) => named(notes, scope, first.place, names.as_slice()),
+        Some(first) => named(notes, scope, first.place.get(), names.as_slice()),
     }
 }
 
@@ -175,7 +176,7 @@ fn items<'a>(
     ensures { OnOk result (notes.new ≡ notes.old ++ items_notes (scope_view scope.entry) (scope_view own.entry) (item_tree (map item_view list.now))) }
 {
     for held in list {
-        form(notes, scope, own, held.place, &held.form)?;
+        form(notes, scope, own, held.place.get(), &held.form)?;
     }
     Ok(())
 }
@@ -268,6 +269,10 @@ fn statement<'a>(
                 Scope::Column(&held.decl().name),
                 list.as_slice(),
             )
+        }
+        Statement::One(cover, held) => {
+            leads(notes, outermost, scope, cover, slice::from_ref(held))?;
+            items(notes, scope, left(scope, cover), slice::from_ref(held))
         }
         Statement::Covered(cover, list) => {
             leads(notes, outermost, scope, cover, list.as_slice())?;

@@ -27,7 +27,7 @@ is_labelled (Some label) name = bytes_eq label name
 -- the numbers of the events with that label
 abbrev pub labelled : List EventNode → List ℕ → List ℕ
 labelled [] name = []
-labelled (n ∷ ns) name = if is_labelled n.event.event_name name then n.number ∷ labelled ns name else labelled ns name
+labelled (n ∷ ns) name = if is_labelled n.event.order.event_name name then n.number ∷ labelled ns name else labelled ns name
 
 abbrev pub each_after : ℕ → List ℕ → List Pair
 each_after x [] = []
@@ -50,7 +50,7 @@ after_pairs named x (name ∷ names) = each_before x (named name) ++ after_pairs
 -- the general ordering of these events
 abbrev pub order_pairs : (List ℕ → List ℕ) → List EventNode → List Pair
 order_pairs named [] = []
-order_pairs named (n ∷ ns) = before_pairs named n.number n.event.earlier_than ++ (after_pairs named n.number n.event.later_than ++ order_pairs named ns)
+order_pairs named (n ∷ ns) = before_pairs named n.number n.event.order.earlier_than ++ (after_pairs named n.number n.event.order.later_than ++ order_pairs named ns)
 
 -- what comes before what on a level: an output before its input, and the general ordering
 abbrev pub level_pairs : Items → List Pair → List Pair

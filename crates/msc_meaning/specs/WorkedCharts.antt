@@ -9,6 +9,7 @@ use Rattle.msc_tree.specs.declared.reference.Join.{Join}
 use Rattle.msc_tree.specs.declared.reference.JoinEnd.TheVariants as join_end
 use Rattle.msc_tree.specs.Expressions.{Chart, Seq, expressions}
 use Rattle.msc_tree.specs.Graphs.{Lines, lines, line, Ends, Refer}
+use Rattle.msc_tree.specs.Orders.{no_order, with_name}
 use Rattle.msc_meaning.specs.Bodies.{EventNode, Items, Single, Coregion, Inline, Body, level, items, bodies}
 use Rattle.msc_meaning.specs.Tables.{Table}
 use Rattle.msc_meaning.specs.WorkedParts.{node, out, taken_in, out_to, in_from, action, written, pair, decl, decomposed, part, refers, join, to, high_level, basic, somewhere}
@@ -120,10 +121,10 @@ referred = basic (codes "S") (decl i ∷ decl j ∷ []) referred_body ∷ messag
 -- msc G; inst i,j; i: out a to j; out b to j; j: concurrent; label p; in a from i; in b from i after p; endconcurrent; endmsc;
 
 abbrev pub labelled_in : RawEvent
-labelled_in = record (taken_in a i) { event_name = Some p }
+labelled_in = record (taken_in a i) { order = with_name (Some p) no_order }
 
 abbrev pub in_after : RawEvent
-in_after = record (taken_in b i) { later_than = p ∷ [] }
+in_after = record (taken_in b i) { order = record no_order { later_than = p ∷ [] } }
 
 abbrev pub concurrent_body : Body
 concurrent_body = level (i ∷ j ∷ []) (items (

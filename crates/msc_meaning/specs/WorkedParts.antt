@@ -16,6 +16,7 @@ use Rattle.msc_tree.specs.declared.reference.Join.{Join}
 use Rattle.msc_tree.specs.declared.reference.JoinEnd.{JoinEnd}
 use Rattle.msc_tree.specs.Expressions.{Expression}
 use Rattle.msc_tree.specs.Graphs.{graph, Lines}
+use Rattle.msc_tree.specs.Orders.{no_order}
 use Rattle.msc_meaning.specs.Bodies.{EventNode, InlinePart, Item, Refer, Body}
 use Rattle.msc_meaning.specs.Tables.{ChartEntry, Basic, HighLevel}
 
@@ -26,14 +27,12 @@ somewhere = record { byte = 0; line = 1; column = 1 }
 
 abbrev pub written : Kind → List ℕ → Target → RawEvent
 written kind text target = record {
-  event_name = None;
   kind = kind;
   text = text;
   parameters = None;
   pairing = None;
   target = target;
-  earlier_than = [];
-  later_than = [];
+  order = no_order;
   place = somewhere;
 }
 

@@ -205,11 +205,11 @@ module _ (lost : List ℕ) (kind lost_kind : Kind) (is : FitsFixed (just lost) l
       (λ a m. inl refl) (λ a m. ap (λ l. l ++ orders_words a.1.1) (plain_is (Gate a.0 a.1.0))) (λ a. refl))))
 
 abbrev pub orders_in : RawEvent → Orders
-orders_in e = record { earlier_than = e.earlier_than; later_than = e.later_than }
+orders_in e = record { earlier_than = e.order.earlier_than; later_than = e.order.later_than }
 
 -- an event without its label
 abbrev pub untagged : RawEvent → Words
-untagged e = act_words e.kind e ++ (names_behind (codes "before") e.earlier_than ++ (names_behind (codes "after") e.later_than ++ end_words))
+untagged e = act_words e.kind e ++ (names_behind (codes "before") e.order.earlier_than ++ (names_behind (codes "after") e.order.later_than ++ end_words))
 
 -- what is written of an exchange of one of two kinds
 kind_is_either : (way toward lost : List ℕ) (kind lost_kind k : Kind) (e : RawEvent) → (k ≡ kind) ⊎ (k ≡ lost_kind) →

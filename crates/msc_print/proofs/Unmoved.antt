@@ -52,7 +52,7 @@ act_unmoved Timeout e = refl
 act_unmoved Create e = refl
 
 event_unmoved : (e : RawEvent) → event_words (unplaced_event e) ≡ event_words e
-event_unmoved e = ap (λ (act : Words). tag_words e.event_name ++ (act ++ (names_behind (codes "before") e.earlier_than ++ (names_behind (codes "after") e.later_than ++ end_words)))) (act_unmoved e.kind e)
+event_unmoved e = ap (λ (act : Words). tag_words e.order.event_name ++ (act ++ (names_behind (codes "before") e.order.earlier_than ++ (names_behind (codes "after") e.order.later_than ++ end_words)))) (act_unmoved e.kind e)
 
 joins_unmoved : (js : List Join) → joins_words (map unplaced_join js) ≡ joins_words js
 joins_unmoved [] = refl

@@ -49,7 +49,7 @@ tag_words = if_any (λ event_name. codes "label" ∷ (event_name ∷ end_words))
 
 -- [ "label" name ";" ] act [ "before" names ] [ "after" names ] end
 abbrev pub event_words : RawEvent → Words
-event_words e = tag_words e.event_name ++ (act_words e.kind e ++ (names_behind (codes "before") e.earlier_than ++ (names_behind (codes "after") e.later_than ++ end_words)))
+event_words e = tag_words e.order.event_name ++ (act_words e.kind e ++ (names_behind (codes "before") e.order.earlier_than ++ (names_behind (codes "after") e.order.later_than ++ end_words)))
 
 -- "concurrent" end { single } "endconcurrent" end
 abbrev pub coregion_words : List RawEvent → Words

@@ -15,14 +15,12 @@ unplaced_decl d = record { name = d.name; kind = d.kind; refined = d.refined; pl
 
 abbrev pub unplaced_event : RawEvent → RawEvent
 unplaced_event e = record {
-  event_name = e.event_name;
   kind = e.kind;
   text = e.text;
   parameters = e.parameters;
   pairing = e.pairing;
   target = e.target;
-  earlier_than = e.earlier_than;
-  later_than = e.later_than;
+  order = e.order;
   place = first_place;
 }
 

@@ -1,14 +1,14 @@
 //! Prints events and coregions: for `statement`.
 
-ghost use Rattle.std.specs.Prelude.{◌≡◌, OnOk, ◌∷◌, [], codes};
+ghost use Rattle.std.specs.Prelude.{◌≡◌, OnOk, ◌∷◌, [], codes, option_copied};
 ghost use Rattle.msc_print.specs.EventWords.{act_words, coregion_words, event_words, message_words, parameter_words, pairing_words, tag_words, target_words, exchange_words};
 ghost use Rattle.msc_print.specs.Pages.{put_all};
 ghost use Rattle.msc_print.specs.Words.{all_words, alone, each_behind, name_words};
 
 use crate::page::Page;
 use crate::parts::{end, names_after};
-use msc_base::{Kind, NoMemory, Text, Words};
-use msc_tree::{BoxedName, RawEvent, Target};
+use msc_base::{Kind, Name, NoMemory, Text};
+use msc_tree::{RawEvent, Target};
 
 #[tactic(auto, using(crate::proofs::Putting::each_step))]
 /// Writes other items of a list in parentheses, each behind a comma.
@@ -34,24 +34,24 @@ fn items(page: &mut Page, items: &[Text]) -> Result<(), NoMemory>
 }
 
 /// Writes the name that serves the pairing alone, where there is one.
-fn pairing(page: &mut Page, pairing: &Option<BoxedName>) -> Result<(), NoMemory>
+fn pairing(page: &mut Page, pairing: &Option<Name>) -> Result<(), NoMemory>
     ensures { OnOk result (page.new ≡ put_all page.old (pairing_words pairing.now)) }
 {
     if let Some(name) = pairing {
         page.word(",")?;
-        page.put(name.name().bytes())?;
+        page.put(name.bytes())?;
     }
     Ok(())
 }
 
 #[tactic(auto, using(crate::proofs::Putting::put_append))]
 /// Writes the list in parentheses, where there is one.
-fn parameters(page: &mut Page, parameters: &Option<Words>) -> Result<(), NoMemory>
-    ensures { OnOk result (page.new ≡ put_all page.old (parameter_words parameters.now)) }
+fn parameters(page: &mut Page, parameters: Option<&[Text]>) -> Result<(), NoMemory>
+    ensures { OnOk result (page.new ≡ put_all page.old (parameter_words (option_copied parameters.entry))) }
 {
     if let Some(list) = parameters {
         page.word("(")?;
-        items(page, list.as_slice())?;
+        items(page, list)?;
         page.word(")")?;
     }
     Ok(())
@@ -64,7 +64,7 @@ fn message(page: &mut Page, event: &RawEvent) -> Result<(), NoMemory>
 {
     page.put(event.text.bytes())?;
     pairing(page, &event.pairing)?;
-    parameters(page, &event.parameters)
+    parameters(page, event.parameters.items())
 }
 
 /// Writes the other end of an event.
@@ -152,12 +152,12 @@ fn act(page: &mut Page, event: &RawEvent) -> Result<(), NoMemory>
 }
 
 /// Writes the name by which general orderings know the event, where it has one.
-fn event_name(page: &mut Page, event_name: &Option<BoxedName>) -> Result<(), NoMemory>
-    ensures { OnOk result (page.new ≡ put_all page.old (tag_words event_name.now)) }
+fn event_name(page: &mut Page, event_name: Option<&Name>) -> Result<(), NoMemory>
+    ensures { OnOk result (page.new ≡ put_all page.old (tag_words (option_copied event_name.entry))) }
 {
     if let Some(name) = event_name {
         page.word("label")?;
-        page.put(name.name().bytes())?;
+        page.put(name.bytes())?;
         end(page)?;
     }
     Ok(())
@@ -168,10 +168,10 @@ fn event_name(page: &mut Page, event_name: &Option<BoxedName>) -> Result<(), NoM
 pub fn event(page: &mut Page, event: &RawEvent) -> Result<(), NoMemory>
     ensures { OnOk result (page.new ≡ put_all page.old (event_words event.now)) }
 {
-    event_name(page, &event.event_name)?;
+    event_name(page, event.order.event_name())?;
     act(page, event)?;
-    names_after(page, "before", event.earlier_than.as_slice())?;
-    names_after(page, "after", event.later_than.as_slice())?;
+    names_after(page, "before", event.order.earlier_than())?;
+    names_after(page, "after", event.order.later_than())?;
     end(page)
 }
 

@@ -15,6 +15,7 @@ use crate::parts::end;
 use crate::shared::{condition, left, reference, shared};
 use msc_base::{Name, NoMemory};
 use msc_tree::{Cover, Decl, InlineForm, RawForm, RawInline, RawItem, RawOperand, Statement};
+use std::slice;
 
 /// Writes the bounds of a loop.
 fn bounds_of(
@@ -172,6 +173,7 @@ fn statement(page: &mut Page, statement: &Statement) -> Result<(), NoMemory>
 {
     match statement {
         Statement::Column(held, list) => column(page, held.decl(), list.as_slice()),
+        Statement::One(cover, held) => covered(page, cover, slice::from_ref(held)),
         Statement::Covered(cover, list) => covered(page, cover, list.as_slice()),
         Statement::Heading(held) => heading(page, held.decl()),
         Statement::Ended(name) => ended(page, name),

@@ -1,8 +1,10 @@
 pub mod Charts
 pub mod Directions
 pub mod Expressions
+pub mod Few
 pub mod Forms
 pub mod Graphs
 pub mod Labels
+pub mod Orders
 pub mod Statements
 pub mod Views

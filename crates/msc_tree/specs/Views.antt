@@ -1,5 +1,5 @@
 -- The plain trees that the types of this crate stand for.
-use Rattle.std.specs.Prelude.{map}
+use Rattle.std.specs.Prelude.{map, [], ◌∷◌}
 use Rattle.std.specs.Box.{box_value}
 use Rattle.msc_tree.specs.declared.chart.Content.{Content}
 use Rattle.msc_tree.specs.declared.chart.Content.TheVariants.{Events, Graph}
@@ -59,6 +59,7 @@ operand_step (RawOperand::Covered held) = tree.Outside (statements held.items)
 
 abbrev pub statement_step : Statement-F tree.Form tree.Operand tree.Statement tree.Form tree.Item → tree.Statement
 statement_step (Statement::Column decl held) = tree.Column decl (items held.items)
+statement_step (Statement-F.One cover held) = tree.Covered cover (items (held ∷ []))
 statement_step (Statement::Covered cover held) = tree.Covered cover (items held.items)
 statement_step (Statement-F.Heading decl) = tree.Heading decl
 statement_step (Statement-F.Ended instance_name) = tree.Ended instance_name

@@ -1,6 +1,6 @@
 //! Documents, charts and declarations of instances, as they are read. What they mean is not said here.
 
-use crate::{RawGraph, Statement};
+use crate::{FewNames, RawGraph, Statement};
 use msc_base::{Items, Name, Names, Place};
 
 /// The heading of a document.
@@ -34,7 +34,7 @@ pub enum Cover {
     /// All instances.
     All,
     /// The instances of these names.
-    Listed(Names),
+    Listed(FewNames),
 }
 
 /// What a chart holds.

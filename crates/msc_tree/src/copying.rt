@@ -3,7 +3,7 @@
 ghost use Rattle.std.specs.Prelude.{◌≡◌, IfOk};
 
 use crate::{BoxedName, RawEvent, Target};
-use msc_base::{Items, NoMemory, Text, Words, copy_names};
+use msc_base::{Items, NoMemory, Text, Words, copy_name};
 use std::alloc::Global;
 
 /// A copy of the name, where there is one.
@@ -17,7 +17,7 @@ fn copy_rare(alloc: Global, name: &Option<BoxedName>) -> Result<Option<BoxedName
 }
 
 /// A copy of the texts.
-fn copy_words(alloc: Global, words: &[Text]) -> Result<Words, NoMemory>
+pub(crate) fn copy_words(alloc: Global, words: &[Text]) -> Result<Words, NoMemory>
     ensures { IfOk result (λ copied. copied ≡ words.now) }
 {
     if words.len() == 1 {
@@ -29,16 +29,6 @@ fn copy_words(alloc: Global, words: &[Text]) -> Result<Words, NoMemory>
         copied.push(word.copy(alloc)?)?;
     }
     Ok(copied)
-}
-
-/// A copy of the parameters, where there are some.
-fn copy_parameters(alloc: Global, words: &Option<Words>) -> Result<Option<Words>, NoMemory>
-    ensures { IfOk result (λ copied. copied ≡ words.now) }
-{
-    match words {
-        Some(words) => Ok(Some(copy_words(alloc, words.as_slice())?)),
-        None => Ok(None),
-    }
 }
 
 /// A copy of the other end.
@@ -61,22 +51,18 @@ fn copy_target(alloc: Global, target: &Target) -> Result<Target, NoMemory>
 pub fn copy_event(alloc: Global, event: &RawEvent) -> Result<RawEvent, NoMemory>
     ensures { IfOk result (λ copied. copied ≡ event.now) }
 {
-    let event_name = copy_rare(alloc, &event.event_name)?;
     let text = event.text.copy(alloc)?;
-    let parameters = copy_parameters(alloc, &event.parameters)?;
-    let pairing = copy_rare(alloc, &event.pairing)?;
+    let parameters = event.parameters.copy(alloc)?;
+    let pairing = copy_name(alloc, &event.pairing)?;
     let target = copy_target(alloc, &event.target)?;
-    let earlier_than = copy_names(alloc, event.earlier_than.as_slice())?;
-    let later_than = copy_names(alloc, event.later_than.as_slice())?;
+    let order = event.order.copy(alloc)?;
     Ok(RawEvent {
-        event_name,
         kind: event.kind,
         text,
         parameters,
         pairing,
         target,
-        earlier_than,
-        later_than,
-        place: event.place,
+        order,
+        place: event.place.copy(),
     })
 }

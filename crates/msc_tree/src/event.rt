@@ -3,8 +3,8 @@
 ghost use Rattle.std.specs.Prelude.{◌≡◌};
 ghost use Rattle.msc_tree.specs.Directions.{far_name, is_direction, way_by};
 
-use crate::BoxedName;
-use msc_base::{Items, Kind, Name, Names, Place, Text, Words};
+use crate::{BoxedName, BoxedOrder, Parameters, TreePlace};
+use msc_base::{Items, Kind, Name, Text};
 
 /// The other end of an event, as it is written.
 #[derive(Drop)]
@@ -22,28 +22,24 @@ pub enum Target {
 /// An event of a chart, as it is written (Z.120, clauses 4.3 to 4.10).
 #[derive(Drop)]
 pub struct RawEvent {
-    /// The name by which general orderings know it, where it has one.
-    pub event_name: Option<BoxedName>,
     /// What it does.
     pub kind: Kind,
+    /// Where it stands, behind its event_name.
+    pub place: TreePlace,
     /// The name of the message or timer, the action, or the name of the child.
     pub text: Text,
     /// The list in parentheses behind the message or timer, item by item, where there is one.
-    pub parameters: Option<Words>,
+    pub parameters: Parameters,
     /// The name that serves the pairing alone, where there is one.
-    pub pairing: Option<BoxedName>,
+    pub pairing: Option<Name>,
     /// The other end.
     pub target: Target,
-    /// The events that it comes before.
-    pub earlier_than: Names,
-    /// The events that it comes after.
-    pub later_than: Names,
-    /// Where it stands, behind its event_name.
-    pub place: Place,
+    /// The name by which general orderings know it, and the events that it is ordered with.
+    pub order: BoxedOrder,
 }
 
-/// A document has an event for nearly each of its lines: the names that few of them have stand in boxes.
-const _: () = prove!(size_of::<RawEvent>() == 216);
+/// A document has an event for nearly each of its lines: what few of them have stands in boxes.
+const _: () = prove!(size_of::<RawEvent>() == 184);
 
 /// A list of events.
 pub type RawEventList = Items<RawEvent>;

@@ -1,10 +1,10 @@
 //! The label of a written event at an instance: for the events of logs (msc_events) and of charts (level_weaving, level_terms).
 
-ghost use Rattle.std.specs.Prelude.{◌≡◌, ◌++◌, IfOk, OnOk, Some, codes};
+ghost use Rattle.std.specs.Prelude.{◌≡◌, ◌++◌, IfOk, OnOk, Some, codes, option_copied};
 ghost use Rattle.msc_tree.specs.Labels.{far_of, inside_text, label_of, list_text, with_commas};
 
 use crate::{RawEvent, Target};
-use msc_base::{Far, Label, Name, NoMemory, Text, Words};
+use msc_base::{Far, Label, Name, NoMemory, Text};
 use std::alloc::Global;
 
 /// Appends the item behind a comma.
@@ -51,13 +51,13 @@ fn push_list(text: &mut Vec<u8>, items: &[Text]) -> Result<(), NoMemory>
 pub fn label_text(
     alloc: Global,
     name: &[u8],
-    parameters: &Option<Words>,
+    parameters: Option<&[Text]>,
 ) -> Result<Vec<u8>, NoMemory>
-    ensures { IfOk result (λ text. text.items ≡ name.now ++ list_text parameters.now) }
+    ensures { IfOk result (λ text. text.items ≡ name.now ++ list_text (option_copied parameters.entry)) }
 {
     let mut text = Vec::from_slice(alloc, name)?;
     if let Some(items) = parameters {
-        push_list(&mut text, items.as_slice())?;
+        push_list(&mut text, items)?;
     }
     Ok(text)
 }
@@ -78,7 +78,7 @@ fn far_of(alloc: Global, target: &Target) -> Result<Far, NoMemory>
 pub fn label_of(alloc: Global, at: Name, event: &RawEvent) -> Result<Label, NoMemory>
     ensures { IfOk result (λ label. label ≡ label_of at event.now) }
 {
-    let text = label_text(alloc, event.text.bytes(), &event.parameters)?;
+    let text = label_text(alloc, event.text.bytes(), event.parameters.items())?;
     let far = far_of(alloc, &event.target)?;
     Ok(Label {
         at,

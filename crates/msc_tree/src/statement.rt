@@ -1,7 +1,7 @@
 //! Statements and items of a basic chart: columns, references, inline expressions with their operands.
 
-use crate::{BoxedDecl, Cover, InlineForm, JoinList, RawEvent, RawEventList, RefExpr};
-use msc_base::{Name, Names, Place};
+use crate::{BoxedDecl, Cover, InlineForm, JoinList, RawEvent, RawEventList, RefExpr, TreePlace};
+use msc_base::{Name, Names};
 
 /// A reference to charts (Z.120, clause 7.3).
 #[derive(Drop)]
@@ -21,7 +21,7 @@ pub struct RawReference {
 #[derive(Drop)]
 pub struct RawItem {
     /// Where its first token stands. Of an event with a label it is the first token behind the label.
-    pub place: Place,
+    pub place: TreePlace,
     /// What it is.
     pub form: RawForm,
 }
@@ -78,6 +78,8 @@ pub enum RawOperand {
 pub enum Statement {
     /// The column of an instance.
     Column(BoxedDecl, Vec<RawItem>),
+    /// One item of the covered instances: most statements have no other.
+    One(Cover, RawItem),
     /// Items of the covered instances.
     Covered(Cover, Vec<RawItem>),
     /// An instance is declared.

@@ -8,6 +8,7 @@ pub mod Rebuilding
 pub mod ChildReady
 pub mod Tallying
 pub mod Searching
+pub mod Spelling
 pub mod Visits
 pub mod Passes
 pub mod Placed

@@ -1,5 +1,5 @@
 -- The search: what it finds is what is left, and all of it.
-use Rattle.std.specs.Prelude.{ℕ, ◌+◌, ◌<◌, ◌≤◌, ◌⊎◌, ◌||◌, Bool, true, false, List, [], ◌∷◌, ◌++◌, ◌≡◌, Option, Some, refl}
+use Rattle.std.specs.Prelude.{ℕ, ◌+◌, ◌<◌, ◌≤◌, ◌⊎◌, ◌||◌, Bool, true, false, List, [], ◌∷◌, ◌++◌, ◌≡◌, Option, Some, IfSome, refl}
 use Rattle.std.proofs.Common.{ap, sym, ◌∙◌, subst, arith, append_assoc, append-nil, inl, inr}
 use Rattle.chart_term.specs.Properties.{Each, MayHave}
 use Rattle.chart_term.specs.Tables.{Tables}
@@ -10,7 +10,7 @@ use Rattle.term_laws.specs.Listing.{set_weight}
 use Rattle.msc_base.specs.Lists.{IsAmong}
 use Rattle.term_laws.specs.Permission.{permits_of}
 use Rattle.term_permission.specs.Ready.{IsReady, AreReadyTables}
-use Rattle.permit_step.specs.Searches.{AreReadyFrames, child_count, put_all, IsResult, IsFinding, IsTally, IsBounded, Gains, Gathers, GathersOwn, AddsOne, IsTaken, IsPassed, IsStep, AreSearched, IsSearched, at_root, below, IsOther, SkipsKnown}
+use Rattle.permit_step.specs.Searches.{AreReadyFrames, child_count, put_all, IsResult, IsFinding, IsTally, IsBounded, Gains, Gathers, GathersOwn, AddsOne, NotesWord, TakesPart, TakesTo, IsTaken, IsPassed, IsStep, AreSearched, IsSearched, at_root, below, IsOther}
 use Rattle.msc_base.specs.declared.label.Label.{Label}
 use Rattle.term_tables.specs.NetValues.{NetsValue, label_number}
 use Rattle.permit_step.specs.Successors.{IsJustAbove, IsSuccessor, AppendsFound}
@@ -22,7 +22,11 @@ use Rattle.chart_term.specs.declared.event.Event.{Event as EventShown}
 use Rattle.bit_sets.specs.Blocks.{BlockValue}
 use Rattle.permit_step.specs.declared.ascent.Frame.{Frame}
 use Rattle.permit_step.specs.declared.found.Found.{Found}
+use Rattle.permit_step.specs.declared.spots.Spelled.{Spelled}
+use Rattle.permit_step.specs.declared.spots.Spots.{Spots}
+use Rattle.permit_step.specs.Spellings.{IsSpelledTerm}
 use Rattle.permit_step.proofs.Children.{in-child}
+use Rattle.permit_step.proofs.TermMembers.{among_left}
 use Rattle.permit_step.proofs.ChildReady.{child-good}
 use Rattle.permit_step.proofs.Rebuilding.{result-child, result-up, passed-none, snoc-parts, no_snoc, front-ready, frames-more}
 use Rattle.permit_step.specs.declared.descent.Step.{Step}
@@ -32,25 +36,27 @@ each_map : (P Q : Tree → Type 0) → ((x : Tree) → P x → Q x) → (xs : Li
 each_map P Q f [] h = tt
 each_map P Q f (x ∷ xs) h = (f x h.0, each_map P Q f xs h.1)
 
-among_left : (z : Tree) (xs ys : List Tree) → IsAmong xs z → IsAmong (xs ++ ys) z
-among_left z [] ys h = absurd h
-among_left z (x ∷ xs) ys (inl e) = inl e
-among_left z (x ∷ xs) ys (inr h) = inr (among_left z xs ys h)
-
 gains_stay : (P : Tree → Type 0) (old new : Found) → Gains P old new → (z : Tree) → IsAmong old.terms z → IsAmong new.terms z
-gains_stay P old new g z h = subst (λ (l : List Tree). IsAmong l z) (sym g.are) (among_left z old.terms g.rest h)
+gains_stay P old new g z h = subst (λ (l : List Tree). IsAmong l z) (sym g.are) (among_left old.terms g.rest z h)
 
 gains_both : (P Q : Tree → Type 0) → ((x : Tree) → Q x → P x) → (old mid new : Found) → Gains P old mid → Gains Q mid new → Gains P old new
 gains_both P Q f old mid new g h = record {
   tally = h.tally;
   most = h.most ∙ g.most;
+  spots = h.spots ∙ g.spots;
   rest = g.rest ++ h.rest;
   are = h.are ∙ (ap (λ l. l ++ h.rest) g.are ∙ append_assoc old.terms g.rest h.rest);
   each = each_app P g.rest h.rest g.each (each_map Q P f h.rest h.each);
 }
 
-gains_none : (P : Tree → Type 0) (old : Found) → IsTally old → Gains P old old
-gains_none P old h = record { tally = h; most = refl; rest = []; are = sym (append-nil old.terms); each = tt }
+pub gains_none : (P : Tree → Type 0) (old : Found) → IsTally old → Gains P old old
+gains_none P old h = record { tally = h; most = refl; spots = refl; rest = []; are = sym (append-nil old.terms); each = tt }
+
+pub gains_as : (P Q : Tree → Type 0) → ((x : Tree) → P x → Q x) → (old new : Found) → Gains P old new → Gains Q old new
+gains_as P Q f old new g = record { tally = g.tally; most = g.most; spots = g.spots; rest = g.rest; are = g.are; each = each_map P Q f g.rest g.each }
+
+pub gains_noted : (P : Tree → Type 0) (old mid new : Found) → Gains P old mid → NotesWord mid new → Gains P old new
+gains_noted P old mid new g n = record { tally = n.tally; most = n.most ∙ g.most; spots = n.spots ∙ g.spots; rest = g.rest; are = n.terms ∙ g.are; each = g.each }
 
 -- one event
 pub own_event : (w : Tables) (e f : TermEvent) (y : Tree) → IsAfter (permits_of w) (Event e) f y → (e ≡ f) × (y ≡ Nil)
@@ -105,6 +111,35 @@ own-gathered w a fs x e old new all q g = record {
   whole = λ b f r z h. g.whole b z (subst (λ (y : Tree). IsResult w a fs y z) q h);
 }
 
+-- children that are taken one by one
+module _ (w : Tables) (a : ℕ) (x : Tree) (from : ℕ) (old : Found) where
+  pub takes_none : (fs : List Frame) → IsTally old → set_weight old.terms ≤ old.most → TakesTo w a fs x from old old from
+  takes_none fs h l = record { gains = gains_none (IsFinding w a fs x) old h; within = l; are = record { behind = omega arith; taken = λ p b t. absurd (omega arith) } }
+
+  module _ (mid new : Found) (at : ℕ) (so_far : TakesTo w a [] x from old mid at) where
+    both_gains : {all : Bool} → TakesPart w a x at mid new all → Gains (IsFinding w a [] x) old new
+    both_gains t = gains_both (IsFinding w a [] x) (IsFinding w a [] x) (λ z f. f) old mid new so_far.gains t.gains
+
+    pub takes_next : TakesPart w a x at mid new true → TakesTo w a [] x from old new (at + 1)
+    takes_next t = record {
+      gains = both_gains t;
+      within = t.bounded.within refl;
+      are = record { behind = omega (arith, so_far.are.behind); taken = λ p b l y c z r. by p (place p l) b y c z r };
+    }
+      where
+        place : (p : ℕ) → p < at + 1 → (p < at) ⊎ (p ≡ at)
+        place p l = grind arith
+
+        by : (p : ℕ) → (p < at) ⊎ (p ≡ at) → from ≤ p → (y : Tree) → child (permits_of w) x p ≡ Some y → (z : Tree) → IsResult w a (record { parent = x; index = p } ∷ []) y z → IsAmong new.terms z
+        by p (inl l) b y c z r = gains_stay (IsFinding w a [] x) mid new t.gains z (so_far.are.taken p b l y c z r)
+        by p (inr e) b y c z r = t.among y (ap (child (permits_of w) x) (sym e) ∙ c) z (subst (λ (n : ℕ). IsResult w a (record { parent = x; index = n } ∷ []) y z) e r)
+
+    pub takes_cut : TakesPart w a x at mid new false → GathersOwn w a [] x old new false
+    takes_cut t = record { gains = both_gains t; bounded = t.bounded; whole = λ b. absurd (clash b) }
+      where
+        clash : false ≡ true → ⊥
+        clash q = cc
+
 -- the search: to which place it has come, what was found, and how deep it is
 pub record IsState (w : Tables) (a : ℕ) (root : Tree) (old new : Found) (fs : List Frame) (x : Tree) (i : ℕ) : Type 0 where
   pub frames : AreReadyFrames w fs
@@ -142,19 +177,38 @@ module _ (w : Tables) (tables : AreReadyTables w) (a : ℕ) (root : Tree) where
   finding_root : (zs : List Tree) {fs : List Frame} {x : Tree} {i : ℕ} → IsSearched w a root zs fs x i → (z : Tree) → IsFinding w a fs x z → IsFinding w a [] root z
   finding_root zs s z f = record { result = to_root zs s z f.result; ready = f.ready }
 
-  -- past children whose results were found before
-  pub state-past : (old new : Found) (fs : List Frame) (x : Tree) (i j : ℕ) → IsState w a root old new fs x i → SkipsKnown w a fs x i new.terms j → IsState w a root old new fs x j
-  state-past old new fs x i j h k = record { frames = h.frames; ready = h.ready; searched = further h.searched; gains = h.gains; within = h.within }
+  -- past children that were taken
+  pub state-taken : (old mid new : Found) (fs : List Frame) (x : Tree) (i j : ℕ) → IsState w a root old mid fs x i → TakesTo w a fs x i mid new j → IsState w a root old new fs x j
+  state-taken old mid new fs x i j h t = record {
+    frames = h.frames;
+    ready = h.ready;
+    searched = further (more_found mid.terms new.terms (gains_stay (IsFinding w a fs x) mid new t.gains) h.searched);
+    gains = gains_both (IsFinding w a [] root) (IsFinding w a fs x) (λ z f. finding_root mid.terms h.searched z f) old mid new h.gains t.gains;
+    within = t.within;
+  }
     where
       cut_place : (p : ℕ) → (p < i) ⊎ (i ≤ p)
       cut_place p = grind arith
 
       here : AreSearched w a fs x i new.terms → AreSearched w a fs x j new.terms
-      here m p l u c z r = elim (cut_place p) [ inl b ↦ m p b u c z r | inr b ↦ k.known p b l u c z r ]
+      here m p l u c z r = elim (cut_place p) [ inl b ↦ m p b u c z r | inr b ↦ t.are.taken p b l u c z r ]
 
       further : IsSearched w a root new.terms fs x i → IsSearched w a root new.terms fs x j
       further (at_root e q m) = at_root e q (here m)
       further (below hs g e c u m) = below hs g e c u (here m)
+
+  place_searched : {zs : List Tree} {fs : List Frame} {x : Tree} {i : ℕ} → IsSearched w a root zs fs x i → AreSearched w a fs x i zs
+  place_searched (at_root e q k) = k
+  place_searched (below hs g e c u k) = k
+
+  -- without a path it is at the root, whose word is known
+  pub spelled_here : (old new : Found) (fs : List Frame) (x : Tree) (i : ℕ) → IsState w a root old new fs x i → (q : Option Spelled) → IfSome q (IsSpelledTerm old.spots root) → fs ≡ [] → IfSome q (IsSpelledTerm new.spots x)
+  spelled_here old new fs x i h q given none =
+      subst (λ (u : Tree). IfSome q (IsSpelledTerm new.spots u)) (sym (at_top h.searched none)) (subst (λ (s : Spots). IfSome q (IsSpelledTerm s root)) (sym h.gains.spots) given)
+    where
+      at_top : {zs : List Tree} {fs : List Frame} {x : Tree} {i : ℕ} → IsSearched w a root zs fs x i → fs ≡ [] → x ≡ root
+      at_top (at_root e q h) n = q
+      at_top (below gs g e c s h) n = absurd (no_snoc gs g (sym e ∙ n))
 
   -- down to a child
   pub state-down : (old new : Found) (fs gs : List Frame) (x y : Tree) (i p : ℕ) → IsState w a root old new fs x i → (s : Step) → IsStep w a x i s → gs ≡ fs ++ record { parent = x; index = s.index } ∷ [] → y ≡ s.inner → IsState w a root old new gs y 0
@@ -163,15 +217,11 @@ module _ (w : Tables) (tables : AreReadyTables w) (a : ℕ) (root : Tree) where
       record {
         frames = subst (λ (hs : List Frame). AreReadyFrames w hs) (sym e) (frames-more w fs x s.index h.frames h.ready good.within);
         ready = subst (λ (u : Tree). IsReady w u) (sym q) good.ready;
-        searched = below fs (record { parent = x; index = s.index }) e (t.there ∙ ap Some (sym q)) (further h.searched (here (place_of h.searched))) (none_before gs y new.terms);
+        searched = below fs (record { parent = x; index = s.index }) e (t.there ∙ ap Some (sym q)) (further h.searched (here (place_searched h.searched))) (none_before gs y new.terms);
         gains = h.gains;
         within = h.within;
       }
     where
-      place_of : {i : ℕ} → IsSearched w a root new.terms fs x i → AreSearched w a fs x i new.terms
-      place_of (at_root e q k) = k
-      place_of (below hs g e c u k) = k
-
       cut_place : (j : ℕ) → (j < i) ⊎ (i ≤ j)
       cut_place j = grind arith
 
@@ -209,10 +259,6 @@ module _ (w : Tables) (tables : AreReadyTables w) (a : ℕ) (root : Tree) where
       kept : IsSearched w a root new.terms fs x i
       kept = more_found mid.terms new.terms (gains_stay (IsFinding w a fs x) mid new own.gains) state.searched
 
-      place_at : {hs : List Frame} {y : Tree} {j : ℕ} → IsSearched w a root new.terms hs y j → AreSearched w a hs y j new.terms
-      place_at (at_root e q k) = k
-      place_at (below hs g e c u k) = k
-
       cut_at : (p j : ℕ) → (p < j) ⊎ (j ≤ p)
       cut_at p j = grind arith
 
@@ -224,7 +270,7 @@ module _ (w : Tables) (tables : AreReadyTables w) (a : ℕ) (root : Tree) where
         where
           child_here : (z : Tree) → (p : ℕ) × (y : Tree) × (child (permits_of w) x p ≡ Some y) × IsResult w a (fs ++ record { parent = x; index = p } ∷ []) y z → IsAmong new.terms z
           child_here z (p, y, c, s) = elim (cut_at p i) [
-            | inl b ↦ place_at kept p b y c z s
+            | inl b ↦ place_searched kept p b y c z s
             | inr b ↦ absurd (passed-none w a fs x p y z c (passed p b) s)
           ]
 
@@ -235,8 +281,8 @@ module _ (w : Tables) (tables : AreReadyTables w) (a : ℕ) (root : Tree) where
           root_all e (at_root f q k) z r = all_here z (subst (λ (hs : List Frame). IsResult w a hs x z) (sym e) (subst (λ (y : Tree). IsResult w a [] y z) (sym q) r))
           root_all e (below hs g f c u k) z r = absurd (no_snoc hs g (sym f ∙ e))
 
-      pub state-up : (gs : List Frame) (f : Frame) (y : Tree) (j : ℕ) → fs ≡ gs ++ f ∷ [] → y ≡ f.parent → j ≡ f.index + 1 → IsState w a root old new gs y j
-      state-up gs f y j e q n = subst (λ (u : Tree). IsState w a root old new gs u j) (sym q) (subst (λ (m : ℕ). IsState w a root old new gs f.parent m) (sym n) above)
+      pub state-up : (gs : List Frame) (f : Frame) → fs ≡ gs ++ f ∷ [] → IsState w a root old new gs f.parent (f.index + 1)
+      state-up gs f e = record { frames = ready.0; ready = ready.1; searched = one_more kept; gains = both; within = own.bounded.within yes }
         where
           ready : AreReadyFrames w gs × IsReady w f.parent × (f.index < child_count w f.parent)
           ready = front-ready w gs f (subst (λ (hs : List Frame). AreReadyFrames w hs) e state.frames)
@@ -266,16 +312,7 @@ module _ (w : Tables) (tables : AreReadyTables w) (a : ℕ) (root : Tree) where
                   let v1 : IsSearched w a root new.terms hs f.parent f.index = subst (λ (h : Frame). IsSearched w a root new.terms hs h.parent h.index) n v in
                   let v2 : IsSearched w a root new.terms gs f.parent f.index = subst (λ (ks : List Frame). IsSearched w a root new.terms ks f.parent f.index) m v1 in
                   let d1 : child (permits_of w) f.parent f.index ≡ Some x = subst (λ (h : Frame). child (permits_of w) h.parent h.index ≡ Some x) n d in
-                  further v2 (there d1 (place_at v2))
-
-          above : IsState w a root old new gs f.parent (f.index + 1)
-          above = record {
-            frames = ready.0;
-            ready = ready.1;
-            searched = one_more kept;
-            gains = both;
-            within = own.bounded.within yes;
-          }
+                  further v2 (there d1 (place_searched v2))
 
 -- an event that a look shows
 pub taken-is : (x : Tree) (v : EventShown) (empty stored own : BlockValue) → x ≡ Event (event_of v) → ((n : ℕ) → has stored.instances n ≡ has (instances x) n) → empty ≡ record { instances = []; events = [] } → own ≡ record { instances = empty.instances ∪ stored.instances; events = [] }

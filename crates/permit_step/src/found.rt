@@ -1,18 +1,19 @@
 //! The terms that a search found, each once, and their weight, above which the search ends: for `search`.
 
-ghost use Rattle.std.specs.Prelude.{◌≡◌, ◌<◌, ◌≤◌, ◌++◌, List, [], IfOk, OnOk, OnErr};
-ghost use Rattle.msc_base.specs.Lists.{IsAmong};
+ghost use Rattle.std.specs.Prelude.{◌≡◌, ◌<◌, ◌≤◌, ◌++◌, List, [], IfOk, IfSome, OnOk, OnErr};
 ghost use Rattle.chart_term.specs.Facts.{most_stored};
 ghost use Rattle.chart_term.specs.Terms.{Tree};
 ghost use Rattle.term_laws.specs.Listing.{set_weight};
-ghost use Rattle.permit_step.specs.Knowns.{AreKnown};
-ghost use Rattle.permit_step.specs.Searches.{AddsOne, IsTally};
+ghost use Rattle.permit_step.specs.Knowns.{IsFoundWord};
+ghost use Rattle.permit_step.specs.Spellings.{IsSpelledTerm};
+ghost use Rattle.permit_step.specs.Searches.{AddsOne, IsTally, MeetsMore, NotesWord};
 
 use crate::coded::CodedTerm;
-use chart_term::{Look, PartList, Term, TermList};
+use crate::spots::{Spelled, Spots};
+use chart_term::{Term, TermList};
 use msc_base::NoMemory;
 use std::alloc::Global;
-use std::collections::{BTreeSet, HashMap};
+use std::collections::{BTreeSet, HashSet};
 
 /// The terms that a search has found, each once.
 #[derive(Drop)]
@@ -21,28 +22,20 @@ pub(crate) struct Found {
     pub(crate) terms: TermList,
     /// The same terms, sorted.
     pub(crate) seen: BTreeSet<CodedTerm>,
-    /// The parts of those terms that are parts side by side, by the codes of the terms: of each code those that came last.
-    pub(crate) known: HashMap<u64, PartList>,
+    /// Where the parts of the terms stand in a word.
+    pub(crate) spots: Spots,
+    /// The words of those terms that have one.
+    pub(crate) words: HashSet<u64>,
     /// The sum of their weights, or the largest `u64` where it is larger.
     pub(crate) weight: u64,
     /// Above which weight the search ends.
     pub(crate) most: u64,
 }
 
-/// Notes the parts of the term, where it is parts side by side.
-fn note(alloc: Global, known: &mut HashMap<u64, PartList>, term: &Term) -> Result<(), NoMemory>
-    ensures { OnOk result ((zs : List Tree) → AreKnown known.old zs → IsAmong zs term.now → AreKnown known.new zs) }
-{
-    if let Look::Par(parts) = term.look() {
-        known.insert(term.facts().code, parts.copy(alloc)?)?;
-    }
-    Ok(())
-}
-
 impl Found {
     /// No terms. It takes no memory.
     #[tactic(auto, using(crate::proofs::Tallying::tallying))]
-    pub(crate) fn new(alloc: Global, most: u64) -> Found
+    pub(crate) fn new(alloc: Global, spots: Spots, most: u64) -> Found
         requires { most < most_stored }
         ensures tally { IsTally result }
         ensures terms { result.terms ≡ [] }
@@ -51,7 +44,8 @@ impl Found {
         Found {
             terms: TermList::new(alloc),
             seen: BTreeSet::new(alloc),
-            known: HashMap::new(alloc),
+            spots,
+            words: HashSet::new(alloc),
             weight: 0,
             most,
         }
@@ -68,9 +62,31 @@ impl Found {
             return Ok(true);
         }
         self.weight = self.weight.saturating_add(term.weight());
-        note(alloc, &mut self.known, &term)?;
         self.terms.push(term)?;
         Ok(self.weight <= self.most)
+    }
+
+    /// The term with its word, where it has one. Its parts are met.
+    pub(crate) fn spelled<'a>(
+        &mut self,
+        alloc: Global,
+        term: &'a Term,
+    ) -> Result<Option<Spelled<'a>>, NoMemory>
+        ensures meets { OnOk result (MeetsMore self.old self.new) }
+        ensures word { IfOk result (λ found. IfSome found (IsSpelledTerm self.new.spots term.now)) }
+    {
+        let found = self.spots.spelled(alloc, term)?;
+        Ok(found)
+    }
+
+    /// Notes the word of a term that was found.
+    pub(crate) fn note(&mut self, word: u64) -> Result<(), NoMemory>
+        requires tally { IsTally self.old }
+        requires word { IsFoundWord self.old.spots self.old.terms word }
+        ensures { OnOk result (NotesWord self.old self.new) }
+    {
+        self.words.insert(word)?;
+        Ok(())
     }
 
     /// Appends the terms to a list.

@@ -10,8 +10,9 @@ mod coded;
 mod descent;
 mod found;
 mod gathered;
-mod known;
+mod parts;
 mod search;
+mod spots;
 mod successors;
 
 pub use all_after::after_each;

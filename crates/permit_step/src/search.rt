@@ -10,11 +10,13 @@ ghost use Rattle.permit_step.specs.Kept.{AreLinked};
 ghost use Rattle.term_permission.specs.Ready.{IsReady, AreReadyTables};
 ghost use Rattle.permit_step.specs.Searches.{AreReadyFrames, Gathers, GathersOwn, IsOther, IsTaken, IsTally};
 ghost use Rattle.permit_step.specs.Skips.{IsMetAt};
+ghost use Rattle.permit_step.specs.Spellings.{IsSpelledTerm};
 
 use crate::ascent::{Frame, Taken, rebuilt};
 use crate::descent::{behind, next_child};
 use crate::found::Found;
-use crate::known::past_known;
+use crate::parts::take_parts;
+use crate::spots::Spelled;
 use bit_sets::Block;
 use chart_term::{Event, Look, Term};
 use msc_base::NoMemory;
@@ -22,8 +24,9 @@ use std::alloc::Global;
 use term_permission::widened;
 use term_tables::Nets;
 
-/// Adds what is left of the term after each event with the label. It says whether all were found: it ends once they weigh more
-/// than is wanted. `one_place` says that events of one label have the same instances, so that less is looked at.
+/// Adds what is left of the term after each event with the label. It says whether all were found: it ends once they weigh more than
+/// is wanted. `one_place` says that events of one label have the same instances, so that less is looked at; `spelled` is the term with
+/// its word, if it has one, by which what was found before is passed over.
 #[tactic(auto, using(crate::proofs::Searching::searching))]
 pub(crate) fn search(
     alloc: Global,
@@ -31,11 +34,13 @@ pub(crate) fn search(
     label: u32,
     term: &Term,
     one_place: bool,
+    spelled: &Option<Spelled<'_>>,
     found: &mut Found,
 ) -> Result<bool, NoMemory>
     requires tables { AreReadyTables nets.now.tables }
     requires term { IsReady nets.now.tables term.now }
     requires placed { one_place ≡ true → HaveOnePlace nets.now.tables term.now }
+    requires spelled { IfSome spelled.now (IsSpelledTerm found.old.spots term.now) }
     requires tally { IsTally found.old }
     requires within { set_weight found.old.terms ≤ found.old.most }
     ensures { IfOk result (λ all. Gathers nets.now.tables label [] term.now found.old found.new all) }
@@ -45,7 +50,9 @@ pub(crate) fn search(
     let mut next = 0;
     let mut met = None;
     'search: loop {
-        let from = past_known(nets, label, &here, next, &path, found);
+        let Some(from) = take_parts(alloc, nets, label, &here, next, &path, spelled, found)? else {
+            return Ok(false);
+        };
         match next_child(alloc, nets, label, &here, from, &met, one_place)? {
             Some(step) => {
                 path.push(Frame {
@@ -63,8 +70,9 @@ pub(crate) fn search(
                 match path.pop() {
                     None => return Ok(true),
                     Some(frame) => {
-                        next = behind(nets, &frame.parent, frame.index);
-                        here = frame.parent;
+                        let Frame { parent, index } = frame;
+                        next = behind(nets, &parent, index);
+                        here = parent;
                     }
                 }
             }

@@ -4,4 +4,4 @@ mod SameFacts
 mod ColumnLaws
 mod CoverLaws
 mod SharingLaws
-mod LevelLaws
+pub mod LevelLaws

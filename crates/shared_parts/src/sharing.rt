@@ -73,7 +73,7 @@ fn known_of<'a>(
     requires { (i : List ℕ) → list_any (bytes_eq i) names.now ≡ list_any (bytes_eq i) cover.now }
     ensures { IfOk result (IsKnown level.now cover.now) }
 {
-    let kept = covered(alloc, level, Setting::Behind(cover), &None)?;
+    let kept = covered(alloc, level, Setting::Inside(cover), &None)?;
     Ok(Known {
         names,
         is_all: same_names(level.as_slice(), cover.as_slice()),

@@ -12,7 +12,7 @@ use Rattle.level_pieces.proofs.columns.woven_order.Goals as goal
 pub weave_entries-requires : goal.weave_entries-requires
 weave_entries-requires c =
     let es : List Entry = map part_view c.args.parts.now in
-    let table : c.in_ok-table.table ≡ c.args.names.now = c.in_ok-table.ensures.different c.requires.different in
+    let table : c.in_ok-table.table ≡ c.args.names.now = c.in_ok-table.ensures in
     let edges : c.as_slice.result.now ≡ item_edges c.args.names.now es =
     c.as_slice.ensures.value ∙ c.in_ok-edges.ensures ∙ ap (λ (t : List (List ℕ)). item_edges t es) table in
     let count : c.in_ok-count.count ≡ c.args.items = search rules in
@@ -27,7 +27,7 @@ weave_entries-requires c =
 pub returns-clause-woven : goal.returns-clause-woven
 returns-clause-woven c =
     let es : List Entry = map part_view c.args.parts.now in
-    let table : c.in_ok-table.table ≡ c.args.names.now = c.in_ok-table.ensures.different c.requires.different in
+    let table : c.in_ok-table.table ≡ c.args.names.now = c.in_ok-table.ensures in
     let edges : c.as_slice.result.now ≡ item_edges c.args.names.now es =
     c.as_slice.ensures.value ∙ c.in_ok-edges.ensures ∙ ap (λ (t : List (List ℕ)). item_edges t es) table in
     let count : c.in_ok-count.count ≡ c.args.items = search rules in
@@ -40,7 +40,7 @@ returns-clause-woven c =
 pub returns-clause-crossed : goal.returns-clause-crossed
 returns-clause-crossed c =
     let es : List Entry = map part_view c.args.parts.now in
-    let table : c.in_ok-table.table ≡ c.args.names.now = c.in_ok-table.ensures.different c.requires.different in
+    let table : c.in_ok-table.table ≡ c.args.names.now = c.in_ok-table.ensures in
     let edges : c.as_slice.result.now ≡ item_edges c.args.names.now es =
     c.as_slice.ensures.value ∙ c.in_ok-edges.ensures ∙ ap (λ (t : List (List ℕ)). item_edges t es) table in
     let count : c.in_ok-count.count ≡ c.args.items = search rules in

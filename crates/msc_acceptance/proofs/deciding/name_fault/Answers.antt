@@ -20,7 +20,7 @@ returns c =
     let charts = map chart_view c.args.charts.now in
     let twice : IsLeast (BreaksOf charts NamedTwice) c.earlier.result =
     subst (λ (o : Option Place). IsLeast (BreaksOf charts NamedTwice) o) (sym c.earlier.ensures)
-    (either_least (IsNamedAgain [] charts) (InOne ChartNamesTwice charts) c.in_ok-again.again c.in_ok-inside.inside c.in_ok-again.ensures c.in_ok-inside.ensures) in
-    let both : c.earlier_fault.result ≡ earlier_of number_of (fault_of NamedTwice c.earlier.result) (fault_of Undeclared c.in_ok-place.place) =
+    (either_least (IsNamedAgain [] charts) (InOne ChartNamesTwice charts) c.in_ok-again.again c.args.places.twice c.in_ok-again.ensures c.requires.twice) in
+    let both : c.earlier_fault.result ≡ earlier_of number_of (fault_of NamedTwice c.earlier.result) (fault_of Undeclared c.args.places.undeclared) =
     c.earlier_fault.ensures ∙ ap₂ (λ (x y : Option (Broken Rule)). earlier_of number_of x y) c.broken_at-twice.ensures c.broken_at-other.ensures in
-    subst (λ (x : Option (Broken Rule)). IsBest number_of (BreaksOf charts) names x) (sym both) (two_best charts NamedTwice Undeclared c.earlier.result c.in_ok-place.place twice c.in_ok-place.ensures)
+    subst (λ (x : Option (Broken Rule)). IsBest number_of (BreaksOf charts) names x) (sym both) (two_best charts NamedTwice Undeclared c.earlier.result c.args.places.undeclared twice c.requires.undeclared)

@@ -13,6 +13,6 @@ use Rattle.msc_acceptance.proofs.deciding.size_fault.Goals as goal
 pub returns : goal.returns
 returns c =
     let charts = map chart_view c.args.charts.now in
-    let both : c.earlier_fault.result ≡ earlier_of number_of (fault_of Size c.in_ok-largest.largest) (fault_of Total c.in_ok-total.total) =
+    let both : c.earlier_fault.result ≡ earlier_of number_of (fault_of Size c.large_chart.result) (fault_of Total c.large_total.result) =
     c.earlier_fault.ensures ∙ ap₂ (λ (x y : Option (Broken Rule)). earlier_of number_of x y) c.broken_at-one.ensures c.broken_at-all.ensures in
-    subst (λ (x : Option (Broken Rule)). IsBest number_of (BreaksOf charts) sizes x) (sym both) (two_best charts Size Total c.in_ok-largest.largest c.in_ok-total.total c.in_ok-largest.ensures c.in_ok-total.ensures)
+    subst (λ (x : Option (Broken Rule)). IsBest number_of (BreaksOf charts) sizes x) (sym both) (two_best charts Size Total c.large_chart.result c.large_total.result c.large_chart.ensures c.large_total.ensures)

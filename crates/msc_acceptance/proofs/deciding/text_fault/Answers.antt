@@ -19,9 +19,9 @@ last_group charts (Err e) a b c d h = tt
 pub returns : goal.returns
 returns c =
     let charts = map chart_view c.args.charts.now in
-    let e : c.in_ok-fault.field-0 ≡ None = search rules in
-    let e2 : c.in_ok-fault-2.field-0 ≡ None = search rules in
-    let e3 : c.in_ok-fault-3.field-0 ≡ None = search rules in
-    let e4 : c.in_ok-fault-4.field-0 ≡ None = search rules in
-    last_group charts c.part_fault.result (none_of charts forms c.in_ok-fault.field-0 e c.in_ok-fault.ensures) (none_of charts limits c.in_ok-fault-2.field-0 e2 c.in_ok-fault-2.ensures)
-    (none_of charts names c.in_ok-fault-3.field-0 e3 c.in_ok-fault-3.ensures) (none_of charts sizes c.in_ok-fault-4.field-0 e4 c.in_ok-fault-4.ensures) c.part_fault.ensures
+    let e : c.form_fault.result ≡ None = search rules in
+    let e2 : c.in_ok-fault.field-0 ≡ None = search rules in
+    let e3 : c.in_ok-fault-2.field-0 ≡ None = search rules in
+    let e4 : c.size_fault.result ≡ None = search rules in
+    last_group charts c.part_fault.result (none_of charts forms c.form_fault.result e (c.form_fault.ensures charts c.requires.places.not_built)) (none_of charts limits c.in_ok-fault.field-0 e2 c.in_ok-fault.ensures)
+    (none_of charts names c.in_ok-fault-2.field-0 e3 c.in_ok-fault-2.ensures) (none_of charts sizes c.size_fault.result e4 c.size_fault.ensures) c.part_fault.ensures

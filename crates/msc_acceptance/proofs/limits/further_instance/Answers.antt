@@ -6,7 +6,7 @@ use Rattle.msc_base.proofs.Narrowing.{Narrows}
 use Rattle.msc_instances.specs.Instances.{instances}
 use Rattle.msc_acceptance.specs.Rules.{HasFurther, passes}
 use Rattle.msc_tree.specs.Views.{chart_view}
-use Rattle.msc_acceptance.proofs.InstanceLists.{list_of}
+use Rattle.msc_acceptance.proofs.ChartLists.{own_of}
 use Rattle.msc_acceptance.proofs.WalkLaws.{walk_step}
 use Rattle.msc_acceptance.proofs.limits.further_instance.Goals as goal
 
@@ -15,7 +15,7 @@ loop-chart-preserved c =
     let list = c.args.charts.now in
     let seen : List (List ℕ) = c.loop-chart.seen in
     let own : List (List ℕ) = instances (chart_view c.chart-item.result) in
-    let names : c.as_slice.result.now ≡ own = c.as_slice.ensures ∙ list_of list c.args.lists.now c.loop-chart.chart-index c.loop-chart.number c.chart-item.result c.index-lists-number.result c.requires c.loop-chart.invariant.number c.loop-chart-test.true c.chart-item.is c.index-lists-number.is in
+    let names : c.as_slice.result.now ≡ own = c.as_slice.ensures ∙ own_of instances list c.args.lists.now c.loop-chart.chart-index c.loop-chart.number c.chart-item.result c.index-lists-number.result c.index-lists-number.result c.requires c.loop-chart.invariant.number c.loop-chart-test.true c.chart-item.is c.index-lists-number.is in
     let added : c.add_names.new.table ≡ fold with_name seen c.as_slice.result.now = search rules in
     let more : c.add_names.new.table ≡ fold with_name seen own = added ∙ ap (λ (ns : List (List ℕ)). fold with_name seen ns) names in
     let so : c.has_passed-so.result ≡ passes INSTANCES (length seen) (length (fold with_name seen own)) =

@@ -10,5 +10,5 @@ use Rattle.general_ordering.proofs.faults.NameTest.of.Goals as goal
 pub returns-in_ok-of-in-Twice-clause-tells : goal.returns-in_ok-of-in-Twice-clause-tells
 returns-in_ok-of-in-Twice-clause-tells c = λ n.
     let all = events (items_view c.args.items.now) in
-    firsts_tell (first_of c.in_ok-of-in-Twice.field-0) all c.in_ok-of-in-Twice.ensures.all n.event.event_name n.number
+    firsts_tell (first_of c.in_ok-of-in-Twice.field-0) all c.in_ok-of-in-Twice.ensures.all n.event.order.event_name n.number
     ∙ sym (ap (λ (rule : EventNameRule). breaks rule all n) c.in-Twice.is)

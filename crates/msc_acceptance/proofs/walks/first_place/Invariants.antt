@@ -1,9 +1,0 @@
-use Rattle.std.proofs.Common.{drop, map}
-use Rattle.msc_base.proofs.Narrowing.{Narrows}
-use Rattle.msc_acceptance.specs.Deciding.{ChartBreaks}
-use Rattle.msc_acceptance.specs.Rules.{InOne}
-use Rattle.msc_tree.specs.Views.{chart_view}
-use Rattle.msc_acceptance.proofs.walks.first_place.Given as goal
-
-abbrev pub invariant-loop-chart : goal.invariant-loop-chart
-invariant-loop-chart l = Narrows (InOne (ChartBreaks l.rule) (map chart_view l.charts)) (InOne (ChartBreaks l.rule) (map chart_view (drop l.chart-index l.charts))) l.best
