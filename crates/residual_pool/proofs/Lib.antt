@@ -1,4 +1,3 @@
-mod Terms
 mod Remembering
 mod Pooling
 mod Going

@@ -20,10 +20,7 @@ use Rattle.residual_pool.specs.declared.pool.Held.TheVariants.{Remembered}
 left_same : (v : NetsValue) (a b : Label) (terms : List Tree) (y : Tree) → label_number v.labels b ≡ label_number v.labels a → IsLeftOf v a terms y → IsLeftOf v b terms y
 left_same v a b terms y e l = record { term = l.term; held = l.held; left = record { event = l.left.event; labelled = e ∙ l.left.labelled; after = l.left.after } }
 
-module _ (v : NetsValue) (a : Label) (old : SetValue) (found set : List Tree) (serving : IsServing v old) (j : JoinsAll (IsLeftOf v a old.terms) old.budget [] found) (is : set ≡ found) (rising : AreRising set) where
-  joins : JoinsAll (IsLeftOf v a old.terms) old.budget [] set
-  joins = subst (JoinsAll (IsLeftOf v a old.terms) old.budget []) (sym is) j
-
+module _ (v : NetsValue) (a : Label) (old : SetValue) (set : List Tree) (serving : IsServing v old) (joins : JoinsAll (IsLeftOf v a old.terms) old.budget [] set) (rising : AreRising set) where
   found_left : (y : Tree) → IsAmong set y → IsLeftOf v a old.terms y
   found_left y i = elim ((joins.exact y).to i) [ inl b ↦ absurd b | inr l ↦ l ]
 

@@ -7,7 +7,6 @@
 mod bounds;
 mod memory;
 mod pool;
-mod term_set;
 
 pub use bounds::Bounds;
 pub use pool::Pool;

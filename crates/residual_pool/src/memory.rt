@@ -7,11 +7,11 @@ ghost use Rattle.residual_pool.specs.Memories.{set_at, held_weight, Gains, HasMo
 ghost use Rattle.residual_pool.specs.declared.bounds.TheConstants.Bounds.{LIGHT, HELD_MOST, ROWS_MOST};
 
 use crate::Bounds;
-use crate::term_set::{SetKey, TermSet};
 use msc_base::NoMemory;
 use std::alloc::Global;
 use std::collections::{BTreeMap, HashMap};
 use std::marker::Model;
+use trace_judge::{SetKey, TermSet};
 
 /// A set by its number, and the number of the label that an event has there.
 #[derive(Clone, Copy, PartialEq, Eq, Hash)]

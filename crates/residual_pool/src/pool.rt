@@ -1,6 +1,6 @@
 //! The store that remembers light sets of terms, and the moves between them.
 
-ghost use Rattle.std.specs.Prelude.{◌≡◌, ◌≤◌, ◌<◌, ◌+◌, [], length, true, IfOk, IfSome, OnOk, OnErr, MatchOption};
+ghost use Rattle.std.specs.Prelude.{◌≡◌, ◌≤◌, ◌<◌, ◌+◌, [], length, true, IfOk, IfSome, OnOk, OnErr, MatchOption, IsTrue};
 ghost use Rattle.term_tables.specs.NetValues.{NetsValue, label_number};
 ghost use Rattle.term_laws.specs.Listing.{set_weight};
 ghost use Rattle.trace_judge.specs.Gathers.{JoinsAll};
@@ -9,14 +9,14 @@ ghost use Rattle.residual_pool.specs.Memories.{set_at, held_set, held_weight, Is
 ghost use Rattle.residual_pool.specs.declared.bounds.TheConstants.Bounds.{LIGHT, HELD_MOST, ROWS_MOST};
 ghost use Rattle.residual_pool.specs.declared.pool.Held.TheVariants.{Remembered, Loose};
 
+use crate::Bounds;
 use crate::memory::Memory;
-use crate::term_set::TermSet;
-use chart_term::{Term, TermList};
+use chart_term::Term;
 use msc_base::{Label, NoMemory};
 use std::alloc::Global;
 use std::marker::Model;
 use term_tables::Nets;
-use trace_judge::{Gathered, StepFault, Store, gather, is_none, one_may_end};
+use trace_judge::{StepFault, Store, TermSet, gather, one_may_end};
 
 /// What is held.
 #[derive(Drop)]
@@ -52,6 +52,13 @@ impl Model for Pool {
     ghost invariant = { λ p. IsThere p.memory p.held };
 }
 
+/// Whether the set is light enough to be remembered.
+fn is_light(set: &TermSet) -> bool
+    ensures { IsTrue result → set_weight set.now ≤ LIGHT }
+{
+    set.weight() <= Bounds::LIGHT
+}
+
 impl Pool {
     /// The weight of all sets that are remembered. It takes no memory.
     pub fn held(&self) -> u64
@@ -77,13 +84,6 @@ impl Pool {
             Held::Remembered(number) => self.memory.set(*number),
             Held::Loose(set) => set,
         }
-    }
-
-    /// The terms that are held.
-    fn terms(&self) -> &TermList
-        ensures { result.now ≡ (held_set self.now).terms }
-    {
-        self.set().terms()
     }
 
     /// The number of the set that an event leaves whose label has this number, where it is remembered.
@@ -174,7 +174,7 @@ impl Pool {
         ensures ok { OnOk result (held_set self.new ≡ record (held_set self.old) { terms = set }) }
         ensures err { OnErr result (held_set self.new ≡ held_set self.old) }
     {
-        if !set.is_light() {
+        if !is_light(&set) {
             self.hold(set);
             return Ok(());
         }
@@ -191,16 +191,17 @@ impl Pool {
         nets: &Nets,
         label: &Label,
         number: Option<u32>,
-    ) -> Result<Option<Gathered>, NoMemory>
+    ) -> Result<Option<TermSet>, NoMemory>
         requires serves { IsPoolFor nets.now self.now }
         requires number { number ≡ label_number nets.now.labels label.now }
-        ensures { IfOk result (λ found. MatchOption found (PassBudget nets.now label.now (held_set self.now).terms self.now.budget)
+        ensures found { IfOk result (λ found. MatchOption found (PassBudget nets.now label.now (held_set self.now).terms self.now.budget)
             (λ all. JoinsAll (IsLeftOf nets.now label.now (held_set self.now).terms) self.now.budget [] all)) }
+        ensures rising { IfOk result (λ found. IfSome found AreRising) }
     {
         let _ = label;
         match number {
-            Some(number) => gather(self.alloc, nets, self.terms(), number, self.budget),
-            None => Ok(Some(Gathered::new(self.alloc))),
+            Some(number) => gather(self.alloc, nets, self.set(), number, self.budget),
+            None => Ok(Some(TermSet::new(self.alloc))),
         }
     }
 
@@ -210,21 +211,19 @@ impl Pool {
         nets: &Nets,
         label: &Label,
         number: Option<u32>,
-        found: Gathered,
+        found: TermSet,
     ) -> Result<(), NoMemory>
         requires serves { IsPoolFor nets.now self.old }
         requires number { number ≡ label_number nets.now.labels label.now }
         requires found { JoinsAll (IsLeftOf nets.now label.now (held_set self.old).terms) self.old.budget [] found }
+        requires rising { AreRising found }
         ensures serves { IsPoolFor nets.now self.new }
         ensures ok { OnOk result (held_set self.new ≡ record (held_set self.old) { terms = found }) }
-        ensures rising { OnOk result (AreRising (held_set self.new).terms) }
         ensures err { OnErr result (held_set self.new ≡ held_set self.old) }
     {
         let _ = nets;
         let _ = label;
-        let set = TermSet::gathered(self.alloc, found)?;
-        self.turn_to(number, set)?;
-        Ok(())
+        self.turn_to(number, found)
     }
 }
 
@@ -273,7 +272,7 @@ impl Store for Pool {
     }
 
     fn is_empty(&self) -> bool {
-        is_none(self.terms())
+        self.set().is_empty()
     }
 
     fn weight(&self) -> u64 {
@@ -281,7 +280,7 @@ impl Store for Pool {
     }
 
     fn may_end(&self, alloc: Global, nets: &Nets) -> Result<bool, NoMemory> {
-        one_may_end(alloc, nets, self.terms())
+        one_may_end(alloc, nets, self.set())
     }
 
     ghost serving = { pool_serving };

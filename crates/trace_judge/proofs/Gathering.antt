@@ -1,7 +1,7 @@
 -- Gathering what is left of terms.
-use Rattle.std.specs.Prelude.{ℕ, zero, suc, ◌+◌, ◌≡◌, ◌≤◌, ◌<◌, ◌↔◌, Bool, true, false, IsTrue, List, [], ◌∷◌, ◌++◌, Option, Some, None, slice_get, take, length, MatchOption, refl}
+use Rattle.std.specs.Prelude.{ℕ, ◌≡◌, ◌≤◌, ◌<◌, ◌↔◌, false, IsTrue, List, [], ◌∷◌, ◌++◌, Option, Some, None, MatchOption, refl}
 use Rattle.std.proofs.Common.{ap, sym, ◌∙◌, subst, arith, inl, inr}
-use Rattle.std.proofs.lemmas.List.{take_all}
+use Rattle.std.proofs.lemmas.Bool.{true≢false}
 use Rattle.msc_base.specs.declared.label.Label.{Label}
 use Rattle.term_tables.specs.NetValues.{NetsValue, label_number}
 use Rattle.chart_term.specs.Properties.{Each}
@@ -9,24 +9,16 @@ use Rattle.chart_term.specs.Terms.{Tree}
 use Rattle.term_laws.specs.Placing.{HaveOnePlace}
 use Rattle.term_laws.specs.Listing.{set_weight}
 use Rattle.msc_base.specs.Lists.{IsAmong}
-use Rattle.chart_term.specs.Tables.{terms_over}
 use Rattle.term_permission.specs.Ready.{IsReady, AreReadyTables}
 use Rattle.permit_step.specs.AllAfter.{AreAllLeft, AreTooMany}
-use Rattle.term_laws.specs.Taking.{MayEnd}
 use Rattle.term_permission.proofs.SoundReady.{ready_by_soundness}
-use Rattle.permit_step.proofs.TermMembers.{at_among, take_among}
 use Rattle.trace_judge.specs.Gathers.{IsOver, JoinsAll}
 use Rattle.trace_judge.specs.Logs.{AreResiduals}
 use Rattle.trace_judge.specs.Sets.{SetValue, IsSoundFor, IsServing, IsLeftOf, IsNextSet, PassBudget, AreRising, HasEnding}
 use Rattle.trace_judge.proofs.SetLaws.{set_step, over_passes, stays_sound}
 use Rattle.permit_step.proofs.TermSets.{each_at, each_from, rising_different}
 
--- endings
-
-pub tables_ready : (v : NetsValue) (xs : List Tree) (i : ℕ) (x : Tree) → slice_get xs i ≡ Some x → Each (IsSoundFor v) xs → AreReadyTables v.tables
-tables_ready v [] i x e h = cc
-tables_ready v (y ∷ ys) zero x e h = ready_by_soundness.tables _ v.tables y h.0.full
-tables_ready v (y ∷ ys) (suc i) x e h = tables_ready v ys i x e h.1
+-- what is asked of the terms of a set
 
 pub some_ready : (v : NetsValue) (xs : List Tree) → (xs ≡ [] → ⊥) → Each (IsSoundFor v) xs → AreReadyTables v.tables
 some_ready v [] none h = absurd (none refl)
@@ -40,33 +32,10 @@ pub all_placed : (v : NetsValue) (xs : List Tree) → Each (IsSoundFor v) xs →
 all_placed v [] h = tt
 all_placed v (y ∷ ys) h = (h.0.placed, all_placed v ys h.1)
 
-pub term_sound : (v : NetsValue) (xs : List Tree) (i : ℕ) (x : Tree) → slice_get xs i ≡ Some x → Each (IsSoundFor v) xs → IsSoundFor v x
-term_sound v [] i x e h = cc
-term_sound v (y ∷ ys) zero x e h = let q : y ≡ x = cc in subst (IsSoundFor v) q h.0
-term_sound v (y ∷ ys) (suc i) x e h = term_sound v ys i x e h.1
-
-pub term_ready : (v : NetsValue) (xs : List Tree) (i : ℕ) (x : Tree) → slice_get xs i ≡ Some x → Each (IsSoundFor v) xs → IsReady v.tables x
-term_ready v xs i x e h = ready_by_soundness.term _ v.tables x (term_sound v xs i x e h).full
-
-pub start_ends : (v : NetsValue) (xs : List Tree) → HasEnding v (take 0 xs) → ⊥
-start_ends v xs h = h.held
-
-pub this_ends : (v : NetsValue) (xs : List Tree) (i : ℕ) (x : Tree) (b : Bool) → slice_get xs i ≡ Some x → (IsTrue b ↔ MayEnd (terms_over v.tables) x) → b ≡ true → IsTrue true ↔ HasEnding v xs
-this_ends v xs i x b e h t = (λ u. record { term = x; held = at_among xs i x e; ends = h.0 t }, λ u. refl)
-
-true_false : true ≡ false → ⊥
-true_false e = cc
-
-pub more_ends : (v : NetsValue) (xs : List Tree) (i : ℕ) (x : Tree) (b : Bool) → slice_get xs i ≡ Some x → (IsTrue b ↔ MayEnd (terms_over v.tables) x) → b ≡ false → (HasEnding v (take i xs) → ⊥) → HasEnding v (take (i + 1) xs) → ⊥
-more_ends v xs i x b e h f g k = elim (take_among xs i x k.term e k.held) [
-  | inl q ↦ true_false (sym (h.1 (subst (MayEnd (terms_over v.tables)) q k.ends)) ∙ f)
-  | inr j ↦ g (record { term = k.term; held = j; ends = k.ends })
-]
-
-pub all_end : (v : NetsValue) (xs : List Tree) (i : ℕ) → length xs ≤ i → (HasEnding v (take i xs) → ⊥) → IsTrue false ↔ HasEnding v xs
-all_end v xs i l f = (λ b. absurd (true_false (sym b)), λ h. absurd (f (subst (HasEnding v) (sym (take_all i xs l)) h)))
-
-pub ruleset ending = (tables_ready, term_ready, start_ends, this_ends, more_ends, all_end)
+-- no term of the empty set may end
+pub none_ends : (v : NetsValue) (xs : List Tree) → xs ≡ [] → IsTrue false ↔ HasEnding v xs
+none_ends v [] e = (λ b. absurd (true≢false (sym b)), λ h. absurd h.held)
+none_ends v (y ∷ ys) e = cc
 
 -- what is gathered
 pub left_gathered : (v : NetsValue) (a : Label) (terms : List Tree) (budget : ℕ) (o : Option (List Tree)) → MatchOption o (AreTooMany v a terms budget) (AreAllLeft v a terms budget)
@@ -95,9 +64,12 @@ pub gathered_passes : (v : NetsValue) (a : Label) (terms : List Tree) (budget : 
 gathered_passes v a terms budget h None o = over_passes v a (some_sound v a terms budget o.some h o.each o.above).0 terms budget (some_sound v a terms budget o.some h o.each o.above).1 o
 gathered_passes v a terms budget h (Some all) o = o
 
-module _ (v : NetsValue) (a : Label) (old new : SetValue) (found : List Tree) (serving : IsServing v old) (j : JoinsAll (IsLeftOf v a old.terms) old.budget [] found) (is : new ≡ record old { terms = found }) (rising : AreRising new.terms) where
+module _ (v : NetsValue) (a : Label) (old new : SetValue) (found : List Tree) (serving : IsServing v old) (j : JoinsAll (IsLeftOf v a old.terms) old.budget [] found) (is : new ≡ record old { terms = found }) (rising : AreRising found) where
   new_terms : new.terms ≡ found
   new_terms = ap (λ (s : SetValue). s.terms) is
+
+  new_rising : AreRising new.terms
+  new_rising = subst AreRising (sym new_terms) rising
 
   left_of : (y : Tree) → IsAmong new.terms y → IsLeftOf v a old.terms y
   left_of y i = elim ((j.exact y).to (subst (λ (l : List Tree). IsAmong l y) new_terms i)) [ inl b ↦ absurd b | inr l ↦ l ]
@@ -112,7 +84,7 @@ module _ (v : NetsValue) (a : Label) (old new : SetValue) (found : List Tree) (s
   step_next small = record {
     small = small;
     terms = record {
-      different = rising_different new.terms rising;
+      different = rising_different new.terms new_rising;
       exact = λ y. record { to = left_of y; from = λ l. subst (λ (ts : List Tree). IsAmong ts y) (sym new_terms) ((j.exact y).from (inr l)) };
     };
     within = new_weight;
@@ -123,7 +95,7 @@ module _ (v : NetsValue) (a : Label) (old new : SetValue) (found : List Tree) (s
   pub step_serves : IsServing v new
   step_serves = record {
     sound = each_from (IsSoundFor v) new.terms (λ y i. let l = left_of y i in stays_sound v a l.term y (each_at (IsSoundFor v) old.terms l.term serving.sound l.held) l.left);
-    rising = rising;
+    rising = new_rising;
     within = omega (arith, new_weight, same_budget);
     most = omega (arith, same_budget, serving.most);
   }

@@ -11,3 +11,6 @@ pub mod Judged
 pub mod Taking
 pub mod States
 pub mod Faults
+pub mod Words
+pub mod Subsets
+pub mod Forms

@@ -1,60 +1,45 @@
-//! The set of residual terms as a sorted list, within a budget: the plain store, which remembers nothing.
+//! The set of residual terms within a budget: the plain store, which remembers nothing.
 
-ghost use Rattle.std.specs.Prelude.{◌≡◌, ◌≤◌, ◌<◌, ◌↔◌, [], ◌∷◌, ◌++◌, ℕ, IfOk, OnOk, OnErr, IsTrue, true, false, MatchOption};
-ghost use Rattle.term_laws.specs.Listing.{set_weight};
+ghost use Rattle.std.specs.Prelude.{◌≡◌, [], IfOk, IfSome, true, MatchOption};
 ghost use Rattle.trace_judge.specs.Sets.{SetValue, IsServing, IsLeftOf, PassBudget, AreRising};
 ghost use Rattle.trace_judge.specs.Gathers.{JoinsAll};
 
-use crate::successors::{gather, is_none, one_may_end};
-use crate::{StepFault, Store};
-use chart_term::{Term, TermList};
+use crate::successors::{gather, one_may_end};
+use crate::{StepFault, Store, TermSet};
+use chart_term::Term;
 use msc_base::{Label, NoMemory};
-use permit_step::Gathered;
 use std::alloc::Global;
 use std::marker::Model;
 use term_tables::Nets;
 
-/// A set of residual terms as a sorted list.
+/// A set of residual terms.
 #[derive(Drop)]
 pub struct Residuals {
     alloc: Global,
-    /// The terms, in their order.
-    terms: TermList,
-    /// Their weight.
-    weight: u64,
+    set: TermSet,
     budget: u64,
     /// Whether the budget was passed.
     too_large: bool,
 }
 
 impl Model for Residuals {
-    ghost use Rattle.std.specs.Prelude.{◌≡◌};
     ghost use Rattle.std.specs.Coded.{codes};
     ghost use Rattle.chart_term.specs.Codes.{coded_tree};
-    ghost use Rattle.term_laws.specs.Listing.{set_weight};
     ghost use Rattle.trace_judge.specs.Sets.{SetValue};
 
     ghost Value = { SetValue };
 
     ghost coded = { Prim.hlevel (codes, coded_tree) };
 
-    ghost view = { λ r. record { terms = r.terms; budget = r.budget; too_large = r.too_large } };
-
-    ghost invariant = { λ r. r.weight ≡ set_weight r.terms };
+    ghost view = { λ r. record { terms = r.set; budget = r.budget; too_large = r.too_large } };
 }
 
 impl Residuals {
     /// The terms that are held become these.
-    fn set_terms(&mut self, found: Gathered) -> Result<(), NoMemory>
-        ensures ok { OnOk result (self.new ≡ record self.old { terms = found }) }
-        ensures rising { OnOk result (AreRising self.new.terms) }
-        ensures err { OnErr result (self.new ≡ self.old) }
+    fn set_terms(&mut self, found: TermSet)
+        ensures { self.new ≡ record self.old { terms = found } }
     {
-        let weight = found.weight();
-        let terms = found.into_list(self.alloc)?;
-        self.terms = terms;
-        self.weight = weight;
-        Ok(())
+        self.set = found;
     }
 
     /// From now on the set is too large.
@@ -65,14 +50,15 @@ impl Residuals {
     }
 
     /// All that is left of its terms after an event with the label, unless it is above the budget.
-    fn successors(&self, nets: &Nets, label: &Label) -> Result<Option<Gathered>, NoMemory>
+    fn successors(&self, nets: &Nets, label: &Label) -> Result<Option<TermSet>, NoMemory>
         requires { IsServing nets.now self.now }
-        ensures { IfOk result (λ found. MatchOption found (PassBudget nets.now label.now self.now.terms self.now.budget)
+        ensures found { IfOk result (λ found. MatchOption found (PassBudget nets.now label.now self.now.terms self.now.budget)
             (λ all. JoinsAll (IsLeftOf nets.now label.now self.now.terms) self.now.budget [] all)) }
+        ensures rising { IfOk result (λ found. IfSome found AreRising) }
     {
         match nets.label(label) {
-            Some(number) => gather(self.alloc, nets, &self.terms, number, self.budget),
-            None => Ok(Some(Gathered::new(self.alloc))),
+            Some(number) => gather(self.alloc, nets, &self.set, number, self.budget),
+            None => Ok(Some(TermSet::new(self.alloc))),
         }
     }
 }
@@ -86,16 +72,13 @@ impl Store for Residuals {
 
     fn start(alloc: Global, nets: &Nets, term: Term, budget: u64) -> Result<Self, StepFault> {
         let _ = nets;
-        let weight = term.weight();
-        if weight > budget {
+        if term.weight() > budget {
             return Err(StepFault::TooLarge);
         }
-        let mut terms = TermList::new(alloc);
-        terms.push(term)?;
+        let set = TermSet::single(alloc, term)?;
         Ok(Residuals {
             alloc,
-            terms,
-            weight,
+            set,
             budget,
             too_large: false,
         })
@@ -107,7 +90,7 @@ impl Store for Residuals {
         }
         match self.successors(nets, label)? {
             Some(found) => {
-                self.set_terms(found)?;
+                self.set_terms(found);
                 Ok(())
             }
             None => {
@@ -118,15 +101,15 @@ impl Store for Residuals {
     }
 
     fn is_empty(&self) -> bool {
-        is_none(&self.terms)
+        self.set.is_empty()
     }
 
     fn weight(&self) -> u64 {
-        self.weight
+        self.set.weight()
     }
 
     fn may_end(&self, alloc: Global, nets: &Nets) -> Result<bool, NoMemory> {
-        one_may_end(alloc, nets, &self.terms)
+        one_may_end(alloc, nets, &self.set)
     }
 
     ghost serving = { λ s v h. h };

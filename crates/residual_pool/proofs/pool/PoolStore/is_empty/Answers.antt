@@ -5,5 +5,5 @@ use Rattle.trace_judge.proofs.RunLaws.{tells_empty}
 use Rattle.residual_pool.proofs.pool.PoolStore.is_empty.Goals as goal
 
 pub returns-clause-begins : goal.returns-clause-begins
-returns-clause-begins c = λ v x labels h r. tells_empty v x labels (held_set c.args.self.now).terms c.is_none.result
-    (subst (λ (l : List Tree). IsTrue c.is_none.result ↔ (l ≡ [])) c.terms.ensures c.is_none.ensures) h r
+returns-clause-begins c = λ v x labels h r. tells_empty v x labels (held_set c.args.self.now).terms c.is_empty.result
+    (subst (λ (l : List Tree). IsTrue c.is_empty.result ↔ (l ≡ [])) c.set.ensures c.is_empty.ensures) h r

@@ -20,14 +20,16 @@ returns-in-Some-clause-residuals c =
 
 pub returns-in_ok-accept-in-Some-2-clause-set : goal.returns-in_ok-accept-in-Some-2-clause-set
 returns-in_ok-accept-in-Some-2-clause-set c =
-    let j = rw c.in-Some-2.is at c.in_ok-found.ensures in
+    let j = rw c.in-Some-2.is at c.in_ok-found.ensures.found in
+    let rising = rw c.in-Some-2.is at c.in_ok-found.ensures.rising in
     let small : c.args.self.now.too_large ≡ false = ap (λ (p : PoolValue). p.too_large) (sym c.self.view_is) ∙ c.if-self.false in
     step_next c.args.nets.now c.args.label.now (held_set c.args.self.now) (held_set c.accept.new.self) c.in-Some-2.found
-    (pool_serving c.args.self.now c.args.nets.now c.requires) j c.in_ok-accept-in-Some-2.ensures.ok c.in_ok-accept-in-Some-2.ensures.rising small
+    (pool_serving c.args.self.now c.args.nets.now c.requires) j c.in_ok-accept-in-Some-2.ensures.ok rising small
 
 pub returns-in_ok-accept-in-Some-2-clause-residuals : goal.returns-in_ok-accept-in-Some-2-clause-residuals
 returns-in_ok-accept-in-Some-2-clause-residuals c =
-    let j = rw c.in-Some-2.is at c.in_ok-found.ensures in
+    let j = rw c.in-Some-2.is at c.in_ok-found.ensures.found in
+    let rising = rw c.in-Some-2.is at c.in_ok-found.ensures.rising in
     let small : c.args.self.now.too_large ≡ false = ap (λ (p : PoolValue). p.too_large) (sym c.self.view_is) ∙ c.if-self.false in
     step_residuals c.args.nets.now c.args.label.now (held_set c.args.self.now) (held_set c.accept.new.self) c.in-Some-2.found
-    (pool_serving c.args.self.now c.args.nets.now c.requires) j c.in_ok-accept-in-Some-2.ensures.ok c.in_ok-accept-in-Some-2.ensures.rising small
+    (pool_serving c.args.self.now c.args.nets.now c.requires) j c.in_ok-accept-in-Some-2.ensures.ok rising small
