@@ -121,6 +121,22 @@ fn equal_actions_pass_a_budget(rt: HostRuntime) -> Result<(), Fail> {
     Ok(())
 }
 
+/// Up to 64 events side by side are held as words, and more of them term by term. Of either n actions leave n terms of n nodes after
+/// the first.
+#[test]
+fn words_and_terms_weigh_alike(rt: HostRuntime) -> Result<(), Fail> {
+    let alloc = rt.alloc();
+    let (words, most) = judged::<Residuals>(alloc, coregion(alloc, 64)?, 4_096, "'x'", 1)?;
+    assert!(rt; words == Verdict::Early { events: 1 } && most == 4_096);
+    let (heavy, largest) = judged::<Residuals>(alloc, coregion(alloc, 64)?, 4_095, "'x'", 1)?;
+    assert!(rt; heavy == Verdict::TooLarge { event: 1 } && largest == 65);
+    let (terms, more) = judged::<Residuals>(alloc, coregion(alloc, 65)?, 4_225, "'x'", 1)?;
+    assert!(rt; terms == Verdict::Early { events: 1 } && more == 4_225);
+    let (above, one) = judged::<Residuals>(alloc, coregion(alloc, 65)?, 4_224, "'x'", 1)?;
+    assert!(rt; above == Verdict::TooLarge { event: 1 } && one == 66);
+    Ok(())
+}
+
 /// Two of three actions stop early, and a fourth fails, as does an action that the chart or its tables lack.
 #[test]
 fn too_few_stop_early_and_too_many_fail(rt: HostRuntime) -> Result<(), Fail> {

@@ -16,7 +16,7 @@ use Rattle.permit_step.specs.Successors.{IsSuccessor}
 use Rattle.permit_step.proofs.Tallying.{seen_listed, seen_weighs}
 use Rattle.permit_step.proofs.TermSets.{rising_different}
 use Rattle.permit_step.specs.Gatherings.{IsGathered, IsResultOf, IsTooMuch}
-use Rattle.permit_step.specs.Searches.{Gathers, IsFinding, IsResult, MeetsMore}
+use Rattle.permit_step.specs.Searches.{Gathers, IsFinding, IsResult}
 use Rattle.permit_step.specs.declared.found.Found.{Found}
 use Rattle.permit_step.proofs.TermMembers.{among_either, among_left, among_some, among_take, at_among, take_among}
 
@@ -27,16 +27,6 @@ each_member P (y ∷ xs) x h (inr i) = each_member P xs x h.1 i
 
 pub each_item : (P : Tree → Type 0) (xs : List Tree) (i : ℕ) (x : Tree) → slice_get xs i ≡ Some x → Each P xs → P x
 each_item P xs i x e h = each_member P xs x h (at_among xs i x e)
-
--- parts are met
-pub gathered_met : (w : Tables) (a most : ℕ) (terms : List Tree) (old new : Found) → IsGathered w a most terms old → MeetsMore old new → IsGathered w a most terms new
-gathered_met w a most terms old new g m = record {
-  tally = m.tally g.tally;
-  most_is = m.most ∙ g.most_is;
-  within = subst (λ (zs : List Tree). set_weight zs ≤ most) (sym m.terms) g.within;
-  each = λ z j. g.each z (subst (λ (zs : List Tree). IsAmong zs z) m.terms j);
-  whole = λ z r. subst (λ (zs : List Tree). IsAmong zs z) (sym m.terms) (g.whole z r);
-}
 
 module _ (w : Tables) (a most : ℕ) (terms : List Tree) (i : ℕ) (x : Tree) (e : slice_get terms i ≡ Some x) (mid new : Found) (g : IsGathered w a most (take i terms) mid) where
   each_on : (all : Bool) → Gathers w a [] x mid new all → (z : Tree) → IsAmong new.terms z → IsResultOf w a (take (i + 1) terms) z

@@ -8,7 +8,6 @@ pub mod Rebuilding
 pub mod ChildReady
 pub mod Tallying
 pub mod Searching
-pub mod Spelling
 pub mod Visits
 pub mod Passes
 pub mod Placed
@@ -17,5 +16,4 @@ pub mod TermMembers
 pub mod TermSets
 pub mod AllAfter
 pub mod KeptNumbers
-pub mod Knowing
 pub mod EarlierPairs

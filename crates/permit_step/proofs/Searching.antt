@@ -1,5 +1,5 @@
 -- The search: what it finds is what is left, and all of it.
-use Rattle.std.specs.Prelude.{ℕ, ◌+◌, ◌<◌, ◌≤◌, ◌⊎◌, ◌||◌, Bool, true, false, List, [], ◌∷◌, ◌++◌, ◌≡◌, Option, Some, IfSome, refl}
+use Rattle.std.specs.Prelude.{ℕ, ◌+◌, ◌<◌, ◌≤◌, ◌⊎◌, ◌||◌, Bool, true, false, List, [], ◌∷◌, ◌++◌, ◌≡◌, Option, Some, refl}
 use Rattle.std.proofs.Common.{ap, sym, ◌∙◌, subst, arith, append_assoc, append-nil, inl, inr}
 use Rattle.chart_term.specs.Properties.{Each, MayHave}
 use Rattle.chart_term.specs.Tables.{Tables}
@@ -10,7 +10,7 @@ use Rattle.term_laws.specs.Listing.{set_weight}
 use Rattle.msc_base.specs.Lists.{IsAmong}
 use Rattle.term_laws.specs.Permission.{permits_of}
 use Rattle.term_permission.specs.Ready.{IsReady, AreReadyTables}
-use Rattle.permit_step.specs.Searches.{AreReadyFrames, child_count, put_all, IsResult, IsFinding, IsTally, IsBounded, Gains, Gathers, GathersOwn, AddsOne, NotesWord, TakesPart, TakesTo, IsTaken, IsPassed, IsStep, AreSearched, IsSearched, at_root, below, IsOther}
+use Rattle.permit_step.specs.Searches.{AreReadyFrames, child_count, put_all, IsResult, IsFinding, IsTally, IsBounded, Gains, Gathers, GathersOwn, AddsOne, IsTaken, IsPassed, IsStep, AreSearched, IsSearched, at_root, below, IsOther}
 use Rattle.msc_base.specs.declared.label.Label.{Label}
 use Rattle.term_tables.specs.NetValues.{NetsValue, label_number}
 use Rattle.permit_step.specs.Successors.{IsJustAbove, IsSuccessor, AppendsFound}
@@ -22,9 +22,6 @@ use Rattle.chart_term.specs.declared.event.Event.{Event as EventShown}
 use Rattle.bit_sets.specs.Blocks.{BlockValue}
 use Rattle.permit_step.specs.declared.ascent.Frame.{Frame}
 use Rattle.permit_step.specs.declared.found.Found.{Found}
-use Rattle.permit_step.specs.declared.spots.Spelled.{Spelled}
-use Rattle.permit_step.specs.declared.spots.Spots.{Spots}
-use Rattle.permit_step.specs.Spellings.{IsSpelledTerm}
 use Rattle.permit_step.proofs.Children.{in-child}
 use Rattle.permit_step.proofs.TermMembers.{among_left}
 use Rattle.permit_step.proofs.ChildReady.{child-good}
@@ -43,20 +40,16 @@ gains_both : (P Q : Tree → Type 0) → ((x : Tree) → Q x → P x) → (old m
 gains_both P Q f old mid new g h = record {
   tally = h.tally;
   most = h.most ∙ g.most;
-  spots = h.spots ∙ g.spots;
   rest = g.rest ++ h.rest;
   are = h.are ∙ (ap (λ l. l ++ h.rest) g.are ∙ append_assoc old.terms g.rest h.rest);
   each = each_app P g.rest h.rest g.each (each_map Q P f h.rest h.each);
 }
 
 pub gains_none : (P : Tree → Type 0) (old : Found) → IsTally old → Gains P old old
-gains_none P old h = record { tally = h; most = refl; spots = refl; rest = []; are = sym (append-nil old.terms); each = tt }
+gains_none P old h = record { tally = h; most = refl; rest = []; are = sym (append-nil old.terms); each = tt }
 
 pub gains_as : (P Q : Tree → Type 0) → ((x : Tree) → P x → Q x) → (old new : Found) → Gains P old new → Gains Q old new
-gains_as P Q f old new g = record { tally = g.tally; most = g.most; spots = g.spots; rest = g.rest; are = g.are; each = each_map P Q f g.rest g.each }
-
-pub gains_noted : (P : Tree → Type 0) (old mid new : Found) → Gains P old mid → NotesWord mid new → Gains P old new
-gains_noted P old mid new g n = record { tally = n.tally; most = n.most ∙ g.most; spots = n.spots ∙ g.spots; rest = g.rest; are = n.terms ∙ g.are; each = g.each }
+gains_as P Q f old new g = record { tally = g.tally; most = g.most; rest = g.rest; are = g.are; each = each_map P Q f g.rest g.each }
 
 -- one event
 pub own_event : (w : Tables) (e f : TermEvent) (y : Tree) → IsAfter (permits_of w) (Event e) f y → (e ≡ f) × (y ≡ Nil)
@@ -111,35 +104,6 @@ own-gathered w a fs x e old new all q g = record {
   whole = λ b f r z h. g.whole b z (subst (λ (y : Tree). IsResult w a fs y z) q h);
 }
 
--- children that are taken one by one
-module _ (w : Tables) (a : ℕ) (x : Tree) (from : ℕ) (old : Found) where
-  pub takes_none : (fs : List Frame) → IsTally old → set_weight old.terms ≤ old.most → TakesTo w a fs x from old old from
-  takes_none fs h l = record { gains = gains_none (IsFinding w a fs x) old h; within = l; are = record { behind = omega arith; taken = λ p b t. absurd (omega arith) } }
-
-  module _ (mid new : Found) (at : ℕ) (so_far : TakesTo w a [] x from old mid at) where
-    both_gains : {all : Bool} → TakesPart w a x at mid new all → Gains (IsFinding w a [] x) old new
-    both_gains t = gains_both (IsFinding w a [] x) (IsFinding w a [] x) (λ z f. f) old mid new so_far.gains t.gains
-
-    pub takes_next : TakesPart w a x at mid new true → TakesTo w a [] x from old new (at + 1)
-    takes_next t = record {
-      gains = both_gains t;
-      within = t.bounded.within refl;
-      are = record { behind = omega (arith, so_far.are.behind); taken = λ p b l y c z r. by p (place p l) b y c z r };
-    }
-      where
-        place : (p : ℕ) → p < at + 1 → (p < at) ⊎ (p ≡ at)
-        place p l = grind arith
-
-        by : (p : ℕ) → (p < at) ⊎ (p ≡ at) → from ≤ p → (y : Tree) → child (permits_of w) x p ≡ Some y → (z : Tree) → IsResult w a (record { parent = x; index = p } ∷ []) y z → IsAmong new.terms z
-        by p (inl l) b y c z r = gains_stay (IsFinding w a [] x) mid new t.gains z (so_far.are.taken p b l y c z r)
-        by p (inr e) b y c z r = t.among y (ap (child (permits_of w) x) (sym e) ∙ c) z (subst (λ (n : ℕ). IsResult w a (record { parent = x; index = n } ∷ []) y z) e r)
-
-    pub takes_cut : TakesPart w a x at mid new false → GathersOwn w a [] x old new false
-    takes_cut t = record { gains = both_gains t; bounded = t.bounded; whole = λ b. absurd (clash b) }
-      where
-        clash : false ≡ true → ⊥
-        clash q = cc
-
 -- the search: to which place it has come, what was found, and how deep it is
 pub record IsState (w : Tables) (a : ℕ) (root : Tree) (old new : Found) (fs : List Frame) (x : Tree) (i : ℕ) : Type 0 where
   pub frames : AreReadyFrames w fs
@@ -177,38 +141,9 @@ module _ (w : Tables) (tables : AreReadyTables w) (a : ℕ) (root : Tree) where
   finding_root : (zs : List Tree) {fs : List Frame} {x : Tree} {i : ℕ} → IsSearched w a root zs fs x i → (z : Tree) → IsFinding w a fs x z → IsFinding w a [] root z
   finding_root zs s z f = record { result = to_root zs s z f.result; ready = f.ready }
 
-  -- past children that were taken
-  pub state-taken : (old mid new : Found) (fs : List Frame) (x : Tree) (i j : ℕ) → IsState w a root old mid fs x i → TakesTo w a fs x i mid new j → IsState w a root old new fs x j
-  state-taken old mid new fs x i j h t = record {
-    frames = h.frames;
-    ready = h.ready;
-    searched = further (more_found mid.terms new.terms (gains_stay (IsFinding w a fs x) mid new t.gains) h.searched);
-    gains = gains_both (IsFinding w a [] root) (IsFinding w a fs x) (λ z f. finding_root mid.terms h.searched z f) old mid new h.gains t.gains;
-    within = t.within;
-  }
-    where
-      cut_place : (p : ℕ) → (p < i) ⊎ (i ≤ p)
-      cut_place p = grind arith
-
-      here : AreSearched w a fs x i new.terms → AreSearched w a fs x j new.terms
-      here m p l u c z r = elim (cut_place p) [ inl b ↦ m p b u c z r | inr b ↦ t.are.taken p b l u c z r ]
-
-      further : IsSearched w a root new.terms fs x i → IsSearched w a root new.terms fs x j
-      further (at_root e q m) = at_root e q (here m)
-      further (below hs g e c u m) = below hs g e c u (here m)
-
   place_searched : {zs : List Tree} {fs : List Frame} {x : Tree} {i : ℕ} → IsSearched w a root zs fs x i → AreSearched w a fs x i zs
   place_searched (at_root e q k) = k
   place_searched (below hs g e c u k) = k
-
-  -- without a path it is at the root, whose word is known
-  pub spelled_here : (old new : Found) (fs : List Frame) (x : Tree) (i : ℕ) → IsState w a root old new fs x i → (q : Option Spelled) → IfSome q (IsSpelledTerm old.spots root) → fs ≡ [] → IfSome q (IsSpelledTerm new.spots x)
-  spelled_here old new fs x i h q given none =
-      subst (λ (u : Tree). IfSome q (IsSpelledTerm new.spots u)) (sym (at_top h.searched none)) (subst (λ (s : Spots). IfSome q (IsSpelledTerm s root)) (sym h.gains.spots) given)
-    where
-      at_top : {zs : List Tree} {fs : List Frame} {x : Tree} {i : ℕ} → IsSearched w a root zs fs x i → fs ≡ [] → x ≡ root
-      at_top (at_root e q h) n = q
-      at_top (below gs g e c s h) n = absurd (no_snoc gs g (sym e ∙ n))
 
   -- down to a child
   pub state-down : (old new : Found) (fs gs : List Frame) (x y : Tree) (i p : ℕ) → IsState w a root old new fs x i → (s : Step) → IsStep w a x i s → gs ≡ fs ++ record { parent = x; index = s.index } ∷ [] → y ≡ s.inner → IsState w a root old new gs y 0

@@ -2,8 +2,6 @@ pub mod Children
 pub mod Successors
 pub mod Searches
 pub mod Skips
-pub mod Spellings
 pub mod AllAfter
 pub mod Gatherings
 pub mod Kept
-pub mod Knowns

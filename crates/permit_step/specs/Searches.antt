@@ -14,7 +14,6 @@ use Rattle.chart_term.specs.TermPatterns.{instances_of}
 use Rattle.chart_term.specs.Terms.{TermEvent, has, Tree, Nil, Event, Join, Choice, Tied, Loop, Walk, items, Part, Gap, Turn, parts}
 use Rattle.chart_term.specs.Views.{event_of}
 use Rattle.permit_step.specs.Children.{child, put}
-use Rattle.permit_step.specs.Knowns.{AreKnown}
 use Rattle.term_laws.specs.Listing.{set_weight}
 use Rattle.msc_base.specs.Lists.{IsAmong}
 use Rattle.term_laws.specs.Normality.{AreDifferent}
@@ -88,39 +87,23 @@ pub record IsResult (w : Tables) (a : ℕ) (fs : List Frame) (x z : Tree) : Type
 abbrev pub is_listed : Tree → List Tree → Bool
 is_listed x ys = list_any (λ y. same_tree y x) ys
 
--- what holds of the terms that were found: each once, all of them in the index, their words those of terms among them, and their weight
--- is kept
+-- what holds of the terms that were found: each once, all of them in the index, and their weight is kept
 pub record IsTally (f : Found) : Type 0 where
   pub different : AreDifferent f.terms
   pub index : (x : Tree) → contains tree_cmp f.seen x ≡ is_listed x f.terms
-  pub known : AreKnown f.spots f.words f.terms
   pub rising : AreRising f.seen.keys
   pub weight : f.weight ≡ min (set_weight f.terms) most_stored
   pub most : f.most < most_stored
-
--- the same terms, of which more parts were met
-pub record MeetsMore (old new : Found) : Type 0 where
-  pub terms : new.terms ≡ old.terms
-  pub most : new.most ≡ old.most
-  pub tally : IsTally old → IsTally new
-
--- the same terms, of which more words are noted
-pub record NotesWord (old new : Found) : Type 0 where
-  pub terms : new.terms ≡ old.terms
-  pub most : new.most ≡ old.most
-  pub spots : new.spots ≡ old.spots
-  pub tally : IsTally new
 
 -- where all were found, the weight isn't above the bound; else it is just above
 pub record IsBounded (most : ℕ) (found : List Tree) (all : Bool) : Type 0 where
   pub within : all ≡ true → set_weight found ≤ most
   pub beyond : all ≡ false → IsJustAbove most found
 
--- the terms that were found became more by some that have the property; parts have their spots as before
+-- the terms that were found became more by some that have the property
 pub record Gains (P : Tree → Type 0) (old new : Found) : Type 0 where
   pub tally : IsTally new
   pub most : new.most ≡ old.most
-  pub spots : new.spots ≡ old.spots
   pub rest : List Tree
   pub are : new.terms ≡ old.terms ++ rest
   pub each : Each P rest
@@ -160,28 +143,6 @@ IsNext w a x from (Some s) = IsStep w a x from s
 -- what is left after events of the children before an index is among the terms
 abbrev pub AreSearched : Tables → ℕ → List Frame → Tree → ℕ → List Tree → Type 0
 AreSearched w a fs x i zs = (p : ℕ) → p < i → (y : Tree) → child (permits_of w) x p ≡ Some y → (z : Tree) → IsResult w a (fs ++ record { parent = x; index = p } ∷ []) y z → IsAmong zs z
-
--- what is left after events of the children from one index to another is among the terms
-pub record AreTaken (w : Tables) (a : ℕ) (fs : List Frame) (x : Tree) (from : ℕ) (zs : List Tree) (to : ℕ) : Type 0 where
-  pub behind : from ≤ to
-  pub taken : (p : ℕ) → from ≤ p → p < to → (y : Tree) → child (permits_of w) x p ≡ Some y → (z : Tree) → IsResult w a (fs ++ record { parent = x; index = p } ∷ []) y z → IsAmong zs z
-
--- what is left after events of the whole term's child is among the terms
-pub record TakesPart (w : Tables) (a : ℕ) (x : Tree) (i : ℕ) (old new : Found) (all : Bool) : Type 0 where
-  pub gains : Gains (IsFinding w a [] x) old new
-  pub bounded : IsBounded new.most new.terms all
-  pub among : (y : Tree) → child (permits_of w) x i ≡ Some y → (z : Tree) → IsResult w a (record { parent = x; index = i } ∷ []) y z → IsAmong new.terms z
-
--- the children from one index to another were taken
-pub record TakesTo (w : Tables) (a : ℕ) (fs : List Frame) (x : Tree) (from : ℕ) (old new : Found) (to : ℕ) : Type 0 where
-  pub gains : Gains (IsFinding w a fs x) old new
-  pub within : set_weight new.terms ≤ new.most
-  pub are : AreTaken w a fs x from new.terms to
-
--- they were taken up to an index; or, without one, what was found is just too heavy
-abbrev pub Takes : Tables → ℕ → List Frame → Tree → ℕ → Found → Found → Option ℕ → Type 0
-Takes w a fs x from old new None = GathersOwn w a fs x old new false
-Takes w a fs x from old new (Some to) = TakesTo w a fs x from old new to
 
 -- a search has come to this index of the term to which the path leads from the root
 pub data IsSearched (w : Tables) (a : ℕ) (root : Tree) (zs : List Tree) : List Frame → Tree → ℕ → Type 0 where

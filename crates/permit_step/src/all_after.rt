@@ -13,7 +13,6 @@ ghost use Rattle.term_tables.specs.NetValues.{label_number};
 use crate::found::Found;
 use crate::gathered::Gathered;
 use crate::search::search;
-use crate::spots::Spots;
 use chart_term::TermList;
 use msc_base::NoMemory;
 use std::alloc::Global;
@@ -37,9 +36,7 @@ fn search_each(
     ensures more { IfOk result (λ all. all ≡ false → IsTooMuch nets.now.tables label found.old.most terms.now found.new) }
 {
     for index in 0..terms.len() {
-        let term = terms.at(index);
-        let spelled = found.spelled(alloc, term)?;
-        if !search(alloc, nets, label, term, true, &spelled, found)? {
+        if !search(alloc, nets, label, terms.at(index), true, found)? {
             return Ok(false);
         }
     }
@@ -63,7 +60,7 @@ pub fn after_each(
     ensures { IfOk result (λ found. (label : LabelValue) → label_number nets.now.labels label ≡ Some number
         → MatchOption found (AreTooMany nets.now label terms.now most) (AreAllLeft nets.now label terms.now most)) }
 {
-    let mut found = Found::new(alloc, Spots::over(alloc, terms), most);
+    let mut found = Found::new(alloc, most);
     if !search_each(alloc, nets, number, terms, &mut found)? {
         return Ok(None);
     }

@@ -10,9 +10,7 @@ mod coded;
 mod descent;
 mod found;
 mod gathered;
-mod parts;
 mod search;
-mod spots;
 mod successors;
 
 pub use all_after::after_each;

@@ -10,13 +10,10 @@ ghost use Rattle.permit_step.specs.Kept.{AreLinked};
 ghost use Rattle.term_permission.specs.Ready.{IsReady, AreReadyTables};
 ghost use Rattle.permit_step.specs.Searches.{AreReadyFrames, Gathers, GathersOwn, IsOther, IsTaken, IsTally};
 ghost use Rattle.permit_step.specs.Skips.{IsMetAt};
-ghost use Rattle.permit_step.specs.Spellings.{IsSpelledTerm};
 
 use crate::ascent::{Frame, Taken, rebuilt};
 use crate::descent::{behind, next_child};
 use crate::found::Found;
-use crate::parts::take_parts;
-use crate::spots::Spelled;
 use bit_sets::Block;
 use chart_term::{Event, Look, Term};
 use msc_base::NoMemory;
@@ -25,8 +22,7 @@ use term_permission::widened;
 use term_tables::Nets;
 
 /// Adds what is left of the term after each event with the label. It says whether all were found: it ends once they weigh more than
-/// is wanted. `one_place` says that events of one label have the same instances, so that less is looked at; `spelled` is the term with
-/// its word, if it has one, by which what was found before is passed over.
+/// is wanted. `one_place` says that events of one label have the same instances, so that less is looked at.
 #[tactic(auto, using(crate::proofs::Searching::searching))]
 pub(crate) fn search(
     alloc: Global,
@@ -34,13 +30,11 @@ pub(crate) fn search(
     label: u32,
     term: &Term,
     one_place: bool,
-    spelled: &Option<Spelled<'_>>,
     found: &mut Found,
 ) -> Result<bool, NoMemory>
     requires tables { AreReadyTables nets.now.tables }
     requires term { IsReady nets.now.tables term.now }
     requires placed { one_place ≡ true → HaveOnePlace nets.now.tables term.now }
-    requires spelled { IfSome spelled.now (IsSpelledTerm found.old.spots term.now) }
     requires tally { IsTally found.old }
     requires within { set_weight found.old.terms ≤ found.old.most }
     ensures { IfOk result (λ all. Gathers nets.now.tables label [] term.now found.old found.new all) }
@@ -50,10 +44,7 @@ pub(crate) fn search(
     let mut next = 0;
     let mut met = None;
     'search: loop {
-        let Some(from) = take_parts(alloc, nets, label, &here, next, &path, spelled, found)? else {
-            return Ok(false);
-        };
-        match next_child(alloc, nets, label, &here, from, &met, one_place)? {
+        match next_child(alloc, nets, label, &here, next, &met, one_place)? {
             Some(step) => {
                 path.push(Frame {
                     parent: here,

@@ -9,7 +9,6 @@ ghost use Rattle.term_tables.specs.NetValues.{label_number};
 
 use crate::found::Found;
 use crate::search::search;
-use crate::spots::Spots;
 use chart_term::{Term, TermList};
 use msc_base::{Label, NoMemory};
 use std::alloc::Global;
@@ -55,8 +54,8 @@ pub fn after_number(
     ensures found { IfOk result (λ all. (label : LabelValue) → label_number nets.now.labels label ≡ Some number → AppendsFound nets.now label term.now most out.old out.new all) }
     ensures prefix { OnErr result ((found : List Tree) × (out.new ≡ out.old ++ found)) }
 {
-    let mut found = Found::new(alloc, Spots::none(alloc), most);
-    let all = search(alloc, nets, number, term, false, &None, &mut found)?;
+    let mut found = Found::new(alloc, most);
+    let all = search(alloc, nets, number, term, false, &mut found)?;
     found.append_to(alloc, out)?;
     Ok(all)
 }

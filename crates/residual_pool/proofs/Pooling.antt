@@ -112,6 +112,3 @@ pool_of m h b f = record { memory = m; held = h; budget = b; too_large = f }
 
 pub places_of : (m new : MemoryValue) (h : Held) (b : ℕ) (f : Bool) (old : PoolValue) (k : List Tree) → pool_of m h b f ≡ old → IsThere m h → Gains m.sets k new.sets → new.moves ≡ m.moves → Places old k (pool_of new h b f)
 places_of m new h b f old k is t g e = subst (λ (p : PoolValue). Places p k (pool_of new h b f)) is (record { there = t; sets = g; moves = e; held = refl; budget = refl; too_large = refl })
-
-pub notes_of : (m new : MemoryValue) (h : Held) (b : ℕ) (f : Bool) (old : PoolValue) (label : Option ℕ) (to : ℕ) → pool_of m h b f ≡ old → IsThere m h → new.sets ≡ m.sets → GainsFrom h label to m.moves new.moves → Notes old label to (pool_of new h b f)
-notes_of m new h b f old label to is t e g = subst (λ (p : PoolValue). Notes p label to (pool_of new h b f)) is (record { there = t; sets = e; moves = g; held = refl; budget = refl; too_large = refl })

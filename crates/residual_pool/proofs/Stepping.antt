@@ -1,5 +1,5 @@
 -- A step of a pool is a step of the definition.
-use Rattle.std.specs.Prelude.{ℕ, ◌≡◌, ◌≤◌, ◌<◌, false, List, [], ◌∷◌, ◌++◌, length, Option, Some}
+use Rattle.std.specs.Prelude.{ℕ, ◌≡◌, ◌≤◌, false, List, [], ◌∷◌, ◌++◌, Option, Some}
 use Rattle.std.proofs.Common.{ap, sym, ◌∙◌, subst, inl, inr}
 use Rattle.msc_base.specs.declared.label.Label.{Label}
 use Rattle.msc_base.specs.Lists.{IsAmong}
@@ -46,9 +46,6 @@ module _ (v : NetsValue) (a : Label) (old : SetValue) (set : List Tree) (serving
 module _ (v : NetsValue) (a : Label) (old new : PoolValue) (label : Option ℕ) (to : ℕ) (serves : IsPoolFor v old) (number : label ≡ label_number v.labels a) (move : Remembers old label to) (is : new ≡ record old { held = Remembered to }) where
   the_move : IsMove v old.memory.sets move.move.move
   the_move = serves.memory.moves move.move.move move.move.among
-
-  pub moved_there : to < length old.memory.sets
-  moved_there = subst (λ (n : ℕ). n < length old.memory.sets) move.move.to_is the_move.to
 
   old_terms : set_at old.memory.sets move.from ≡ held_terms old.memory old.held
   old_terms = ap (held_terms old.memory) (sym move.held)

@@ -16,7 +16,7 @@ use Rattle.trace_judge.specs.Tracks.{TrackValue}
 use Rattle.trace_judge.specs.Tracks as track
 use Rattle.trace_judge.specs.Faults.{judge_fault}
 use Rattle.trace_judge.specs.Judged.{IsJudgeFault}
-use Rattle.trace_judge.specs.States.{IsBehind, TakesLog}
+use Rattle.trace_judge.specs.States.{TakesLog}
 use Rattle.trace_judge.specs.Taking.{HoldsFirst, IsFollowing, TakesSome, TakesAll}
 
 -- an element of a list with one more at its end
@@ -101,13 +101,6 @@ follows_on holds v x budget old new at (Ok t) takes stays h = record { events = 
 follows_on holds v x budget old new at (Err e) takes stays h = record { events = h.events; taken = stays h.events h.taken }
 
 -- a fault of the reader
-
-pub behind_fault : (f : LogFault) (form : LogForm) (b : List ℕ) (n : ℕ) (s : LogState) → reader.Fed form b n s → Some f ≡ s.fault → s.finished ≡ false → IsBehind (judge_fault f) form b s
-behind_fault (fault.Syntax l) form b n s h e g = record { is_fault = tt; handed = n; fed = h; fault_is = sym e; goes_on = g }
-behind_fault (fault.LongLine l) form b n s h e g = record { is_fault = tt; handed = n; fed = h; fault_is = sym e; goes_on = g }
-behind_fault (fault.LogLimit l) form b n s h e g = record { is_fault = tt; handed = n; fed = h; fault_is = sym e; goes_on = g }
-behind_fault (fault.Version l) form b n s h e g = record { is_fault = tt; handed = n; fed = h; fault_is = sym e; goes_on = g }
-behind_fault fault.NoMemory form b n s h e g = tt
 
 pub answered_fault : (f : LogFault) (form : LogForm) (g : Bool) (b : List ℕ) → IsAnswer form g b (Some f) → IsJudgeFault form g b (judge_fault f)
 answered_fault (fault.Syntax l) form g b h = (tt, h)

@@ -14,3 +14,4 @@ pub mod Faults
 pub mod Words
 pub mod Subsets
 pub mod Forms
+pub mod Keys

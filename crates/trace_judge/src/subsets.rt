@@ -9,6 +9,7 @@ ghost use Rattle.chart_term.specs.Terms.{Tree};
 ghost use Rattle.msc_base.specs.Lists.{AreDifferent, IsAmong};
 ghost use Rattle.permit_step.specs.AllAfter.{AreRising};
 ghost use Rattle.term_laws.specs.Listing.{set_weight};
+ghost use Rattle.trace_judge.specs.Keys.{told};
 ghost use Rattle.trace_judge.specs.Sets.{HasEnding};
 ghost use Rattle.trace_judge.specs.Subsets.{AreAllTaken, AreBits, IsEvent, IsLabelled, IsSideBySide, IsTooMuch, side_by_side, weight_of_size};
 ghost use Rattle.term_tables.specs.NetValues.{NetsValue};
@@ -240,7 +241,9 @@ impl Subsets {
     }
 
     /// What they are found by, with the weight that they have together.
-    pub(crate) fn key(&self, alloc: Global, weight: u64) -> Result<SetKey, NoMemory> {
+    pub(crate) fn key(&self, alloc: Global, weight: u64) -> Result<SetKey, NoMemory>
+        ensures { IfOk result (λ key. told key ≡ self.now) }
+    {
         SetKey::of_words(alloc, weight, &self.whole, self.words.as_slice())
     }
 }

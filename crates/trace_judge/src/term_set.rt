@@ -9,6 +9,7 @@ ghost use Rattle.permit_step.specs.AllAfter.{AreAllLeft, AreRising, AreTooMany};
 ghost use Rattle.term_laws.specs.Listing.{set_weight};
 ghost use Rattle.term_laws.specs.Placing.{HaveOnePlace};
 ghost use Rattle.term_permission.specs.Ready.{IsReady, AreReadyTables};
+ghost use Rattle.trace_judge.specs.Keys.{told};
 ghost use Rattle.trace_judge.specs.Sets.{HasEnding};
 ghost use Rattle.term_tables.specs.NetValues.{label_number};
 
@@ -176,8 +177,10 @@ impl TermSet {
         }
     }
 
-    /// What it is found by.
-    pub fn key(&self, alloc: Global) -> Result<SetKey, NoMemory> {
+    /// What it is found by, which tells its terms.
+    pub fn key(&self, alloc: Global) -> Result<SetKey, NoMemory>
+        ensures { IfOk result (λ key. told key ≡ self.now) }
+    {
         match &self.form {
             Form::Listed(terms) => SetKey::of_list(alloc, self.weight, terms),
             Form::Subsets(terms) => terms.key(alloc, self.weight),

@@ -1,11 +1,11 @@
-use Rattle.std.proofs.Common.{◌≡◌, ℕ, false, [], List, refl, sym, ◌∙◌, subst, arith}
+use Rattle.std.proofs.Common.{◌≡◌, ℕ, [], List, refl, sym, ◌∙◌, subst, arith}
 use Rattle.permit_step.specs.Searches.{AreReadyFrames}
 use Rattle.permit_step.specs.declared.ascent.Frame.{Frame}
 use Rattle.permit_step.proofs.ChildReady.{child-good}
 use Rattle.permit_step.proofs.KeptNumbers.{linked_searched}
 use Rattle.permit_step.proofs.Placed.{placed-down, placed-start, placed-up}
 use Rattle.permit_step.proofs.Rebuilding.{front-ready}
-use Rattle.permit_step.proofs.Searching.{state-start, state-taken, state-down, state-cut, state-end, state-up, spelled_here, IsState}
+use Rattle.permit_step.proofs.Searching.{state-start, state-down, state-cut, state-end, state-up, IsState}
 use Rattle.permit_step.proofs.Visits.{visits-down, visits-up, ranked-down, ranked-up, ranked-length, no-frames}
 use Rattle.term_laws.proofs.Measures.{rank_in}
 use Rattle.permit_step.proofs.search.search.Goals as goal
@@ -21,38 +21,38 @@ search-init c =
       ranked = rw (path, c.in_ok-here.ensures) (omega arith);
     }
 
-pub search-smaller-in-Some-2 : goal.search-smaller-in-Some-2
-search-smaller-in-Some-2 c =
+pub search-smaller-in-Some : goal.search-smaller-in-Some
+search-smaller-in-Some c =
     let w = c.args.nets.now.tables in
-    let step = rw c.in-Some-2.is at c.in_ok-step.ensures in
-    let good = child-good w c.requires.tables c.search.here c.in-Some-2.step.index c.in-Some-2.step.inner c.search.invariant.state.ready step.there in
-    visits-down w (rank_in w c.args.term.now) c.search.path.items c.push.new.self.items c.search.here c.in-Some-2.step.inner c.in-Some-2.step.inner c.search.next c.in-Some-2.step.index
-    (ranked-length w (rank_in w c.args.term.now) c.search.path.items c.search.here c.search.invariant.ranked (omega (arith, good.rank))) (omega (arith, (rw c.in-Some.is at c.in_ok-from.ensures).are.behind, step.behind)) good.within step.there c.in_ok-push-in-Some-2.ensures.items refl
+    let step = rw c.in-Some.is at c.in_ok-step.ensures in
+    let good = child-good w c.requires.tables c.search.here c.in-Some.step.index c.in-Some.step.inner c.search.invariant.state.ready step.there in
+    visits-down w (rank_in w c.args.term.now) c.search.path.items c.push.new.self.items c.search.here c.in-Some.step.inner c.in-Some.step.inner c.search.next c.in-Some.step.index
+    (ranked-length w (rank_in w c.args.term.now) c.search.path.items c.search.here c.search.invariant.ranked (omega (arith, good.rank))) step.behind good.within step.there c.in_ok-push-in-Some.ensures.items refl
 
-pub search-preserved-in-Some-2 : goal.search-preserved-in-Some-2
-search-preserved-in-Some-2 c =
+pub search-preserved-in-Some : goal.search-preserved-in-Some
+search-preserved-in-Some c =
     let w = c.args.nets.now.tables in
-    let step = rw c.in-Some-2.is at c.in_ok-step.ensures in
-    let good = child-good w c.requires.tables c.search.here c.in-Some-2.step.index c.in-Some-2.step.inner c.search.invariant.state.ready step.there in
+    let step = rw c.in-Some.is at c.in_ok-step.ensures in
+    let good = child-good w c.requires.tables c.search.here c.in-Some.step.index c.in-Some.step.inner c.search.invariant.state.ready step.there in
     record {
-      state = state-down w c.requires.tables c.args.label c.args.term.now c.args.found.now c.take_parts.new.found c.search.path.items c.push.new.self.items c.search.here c.in-Some-2.step.inner c.in-Some.from c.in-Some-2.step.index (state-taken w c.requires.tables c.args.label c.args.term.now c.args.found.now c.search.found c.take_parts.new.found c.search.path.items c.search.here c.search.next c.in-Some.from c.search.invariant.state (rw c.in-Some.is at c.in_ok-from.ensures)) c.in-Some-2.step step c.in_ok-push-in-Some-2.ensures.items refl;
+      state = state-down w c.requires.tables c.args.label c.args.term.now c.args.found.now c.search.found c.search.path.items c.push.new.self.items c.search.here c.in-Some.step.inner c.search.next c.in-Some.step.index c.search.invariant.state c.in-Some.step step c.in_ok-push-in-Some.ensures.items refl;
       met = c.search.invariant.met;
-      placed = λ one. placed-down w c.args.label c.search.path.items c.push.new.self.items c.search.here c.in-Some-2.step.inner c.in-Some-2.step.index c.search.met (c.search.invariant.placed one) step.there c.in_ok-push-in-Some-2.ensures.items;
-      ranked = ranked-down w (rank_in w c.args.term.now) c.search.path.items c.push.new.self.items c.search.here c.in-Some-2.step.inner c.in-Some-2.step.inner c.in-Some-2.step.index c.search.invariant.ranked good.rank c.in_ok-push-in-Some-2.ensures.items refl;
+      placed = λ one. placed-down w c.args.label c.search.path.items c.push.new.self.items c.search.here c.in-Some.step.inner c.in-Some.step.index c.search.met (c.search.invariant.placed one) step.there c.in_ok-push-in-Some.ensures.items;
+      ranked = ranked-down w (rank_in w c.args.term.now) c.search.path.items c.push.new.self.items c.search.here c.in-Some.step.inner c.in-Some.step.inner c.in-Some.step.index c.search.invariant.ranked good.rank c.in_ok-push-in-Some.ensures.items refl;
     }
 
 pub returns-then-not-all : goal.returns-then-not-all
 returns-then-not-all c =
     let w = c.args.nets.now.tables in
     let no = c.if-not-all.true in
-    let cut = state-cut w c.requires.tables c.args.label c.args.term.now c.args.found.now c.take_parts.new.found c.add_event.new.found c.search.path.items c.search.here c.in-Some.from c.in_ok-all-in-None.all (state-taken w c.requires.tables c.args.label c.args.term.now c.args.found.now c.search.found c.take_parts.new.found c.search.path.items c.search.here c.search.next c.in-Some.from c.search.invariant.state (rw c.in-Some.is at c.in_ok-from.ensures)) c.in_ok-all-in-None.ensures.found no in
+    let cut = state-cut w c.requires.tables c.args.label c.args.term.now c.args.found.now c.search.found c.add_event.new.found c.search.path.items c.search.here c.search.next c.in_ok-all-in-None.all c.search.invariant.state c.in_ok-all-in-None.ensures.found no in
     rw no at cut
 
 pub returns-in-None-pop : goal.returns-in-None-pop
 returns-in-None-pop c =
     let w = c.args.nets.now.tables in
     let passed = rw c.in-None.is at c.in_ok-step.ensures in
-    state-end w c.requires.tables c.args.label c.args.term.now c.args.found.now c.take_parts.new.found c.add_event.new.found c.search.path.items c.search.here c.in-Some.from c.in_ok-all-in-None.all (state-taken w c.requires.tables c.args.label c.args.term.now c.args.found.now c.search.found c.take_parts.new.found c.search.path.items c.search.here c.search.next c.in-Some.from c.search.invariant.state (rw c.in-Some.is at c.in_ok-from.ensures)) c.in_ok-all-in-None.ensures.found passed c.if-not-all.false (no-frames c.search.path.items (sym c.search.path.ok.0 ∙ c.in-None-pop.ensures.cases.0))
+    state-end w c.requires.tables c.args.label c.args.term.now c.args.found.now c.search.found c.add_event.new.found c.search.path.items c.search.here c.search.next c.in_ok-all-in-None.all c.search.invariant.state c.in_ok-all-in-None.ensures.found passed c.if-not-all.false (no-frames c.search.path.items (sym c.search.path.ok.0 ∙ c.in-None-pop.ensures.cases.0))
 
 pub behind-next-requires-clause-term : goal.behind-next-requires-clause-term
 behind-next-requires-clause-term c =
@@ -71,7 +71,7 @@ pub search-preserved : goal.search-preserved
 search-preserved c =
     let w = c.args.nets.now.tables in
     let passed = rw c.in-None.is at c.in_ok-step.ensures in
-    let up = state-up w c.requires.tables c.args.label c.args.term.now c.args.found.now c.take_parts.new.found c.add_event.new.found c.search.path.items c.search.here c.in-Some.from c.in_ok-all-in-None.all (state-taken w c.requires.tables c.args.label c.args.term.now c.args.found.now c.search.found c.take_parts.new.found c.search.path.items c.search.here c.search.next c.in-Some.from c.search.invariant.state (rw c.in-Some.is at c.in_ok-from.ensures)) c.in_ok-all-in-None.ensures.found passed c.if-not-all.false c.pop.new.self.items c.in-Some-pop.frame c.in-Some-pop.ensures.items in
+    let up = state-up w c.requires.tables c.args.label c.args.term.now c.args.found.now c.search.found c.add_event.new.found c.search.path.items c.search.here c.search.next c.in_ok-all-in-None.all c.search.invariant.state c.in_ok-all-in-None.ensures.found passed c.if-not-all.false c.pop.new.self.items c.in-Some-pop.frame c.in-Some-pop.ensures.items in
     record {
       state = subst (λ (n : ℕ). IsState w c.args.label c.args.term.now c.args.found.now c.add_event.new.found c.pop.new.self.items c.in-Some-pop.frame.parent n) (sym c.behind-next.ensures) up;
       met = c.in_ok-all-in-None.ensures.met;
@@ -84,12 +84,3 @@ add_event-requires-clause-linked c = linked_searched c.args.nets.now.tables c.ar
 
 pub next_child-requires-clause-placed : goal.next_child-requires-clause-placed
 next_child-requires-clause-placed c = λ one. (c.search.invariant.placed one).here
-
-pub take_parts-requires-clause-spelled : goal.take_parts-requires-clause-spelled
-take_parts-requires-clause-spelled c = λ none.
-    spelled_here c.args.nets.now.tables c.requires.tables c.args.label c.args.term.now c.args.found.now c.search.found c.search.path.items c.search.here c.search.next c.search.invariant.state c.args.spelled.now c.requires.spelled none
-
-pub returns-in_default : goal.returns-in_default
-returns-in_default c =
-    let w = c.args.nets.now.tables in
-    state-cut w c.requires.tables c.args.label c.args.term.now c.args.found.now c.search.found c.take_parts.new.found c.search.path.items c.search.here c.search.next false c.search.invariant.state (rw c.in_default.is at c.in_ok-from.ensures) refl
