@@ -48,9 +48,6 @@ gains_both P Q f old mid new g h = record {
 pub gains_none : (P : Tree → Type 0) (old : Found) → IsTally old → Gains P old old
 gains_none P old h = record { tally = h; most = refl; rest = []; are = sym (append-nil old.terms); each = tt }
 
-pub gains_as : (P Q : Tree → Type 0) → ((x : Tree) → P x → Q x) → (old new : Found) → Gains P old new → Gains Q old new
-gains_as P Q f old new g = record { tally = g.tally; most = g.most; rest = g.rest; are = g.are; each = each_map P Q f g.rest g.each }
-
 -- one event
 pub own_event : (w : Tables) (e f : TermEvent) (y : Tree) → IsAfter (permits_of w) (Event e) f y → (e ≡ f) × (y ≡ Nil)
 own_event w e f y h = elim (in-child (permits_of w) h) [

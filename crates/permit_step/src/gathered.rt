@@ -1,6 +1,6 @@
 //! What is left of some terms: each term once, in their order, with the weight of all. trace_judge's sets are made of it.
 
-ghost use Rattle.std.specs.Prelude.{◌≡◌, [], IfOk};
+ghost use Rattle.std.specs.Prelude.{◌≡◌, IfOk};
 ghost use Rattle.permit_step.specs.AllAfter.{AreRising};
 ghost use Rattle.term_laws.specs.Listing.{set_weight};
 
@@ -38,16 +38,6 @@ impl Model for Gathered {
 }
 
 impl Gathered {
-    /// No terms. It takes no memory.
-    pub fn new(alloc: Global) -> Gathered
-        ensures { result ≡ [] }
-    {
-        Gathered {
-            terms: BTreeSet::new(alloc),
-            weight: 0,
-        }
-    }
-
     /// These terms, which together have this weight.
     pub(crate) fn of(terms: BTreeSet<CodedTerm>, weight: u64) -> Gathered
         requires weight { weight ≡ set_weight terms.keys }

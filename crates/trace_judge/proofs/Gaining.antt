@@ -10,7 +10,7 @@ use native.Mathlib.Nat.{div-eq_of_lt}
 use Rattle.chart_term.specs.TermPatterns.{Both}
 use Rattle.msc_base.specs.Lists.{AreDifferent, IsAmong}
 use Rattle.trace_judge.proofs.Members.{among_snoc, snoc_among, different_snoc, at_among, take_among, among_take, among_some}
-use Rattle.trace_judge.specs.Words.{AddsWord, AreWords, IsEachLeft, IsLeftOf, IsWithout, TakesEach}
+use Rattle.trace_judge.specs.Words.{AddsWord, AreWords, IsEachLeft, IsWordLeft, IsWithout, TakesEach}
 use Rattle.trace_judge.specs.declared.words.Words.{Words}
 
 pub false_true : {A : Type 0} → false ≡ true → A
@@ -213,7 +213,7 @@ pub takes_end : (bits : List ℕ) (i w : ℕ) (old new : Words) → length bits 
 takes_end bits i w old new l h = subst (λ (bs : List ℕ). TakesEach bs w old new true) (take_all i bits l) h
 
 -- words left of more and more words
-left_some : (bits words : List ℕ) (i v : ℕ) → IsLeftOf bits (take i words) v → IsLeftOf bits words v
+left_some : (bits words : List ℕ) (i v : ℕ) → IsWordLeft bits (take i words) v → IsWordLeft bits words v
 left_some bits words i v h = record { word = h.word; among = among_some words i h.word h.among; without = h.without }
 
 pub all_start : (bits : List ℕ) (old : Words) → AreWords old → old.list.items ≡ [] → IsEachLeft bits [] old old true
@@ -226,13 +226,13 @@ all_start bits old h e = record {
 }
 
 module _ (bits words : List ℕ) (i x : ℕ) (at : slice_get words i ≡ Some x) where
-  left_on : (v : ℕ) → IsLeftOf bits (take i words) v → IsLeftOf bits (take (i + 1) words) v
+  left_on : (v : ℕ) → IsWordLeft bits (take i words) v → IsWordLeft bits (take (i + 1) words) v
   left_on v h = record { word = h.word; among = among_take words i x h.word at (inr h.among); without = h.without }
 
-  left_this : (v : ℕ) → IsWithout bits x v → IsLeftOf bits (take (i + 1) words) v
+  left_this : (v : ℕ) → IsWithout bits x v → IsWordLeft bits (take (i + 1) words) v
   left_this v h = record { word = x; among = among_take words i x x at (inl refl); without = h }
 
-  left_either : (v : ℕ) → IsLeftOf bits (take (i + 1) words) v → IsWithout bits x v ⊎ IsLeftOf bits (take i words) v
+  left_either : (v : ℕ) → IsWordLeft bits (take (i + 1) words) v → IsWithout bits x v ⊎ IsWordLeft bits (take i words) v
   left_either v h = elim (take_among words i x h.word at h.among) [
     | inl e ↦ inl (subst (λ (w : ℕ). IsWithout bits w v) e h.without)
     | inr j ↦ inr (record { word = h.word; among = j; without = h.without })

@@ -7,7 +7,7 @@ use Rattle.chart_term.specs.NormalForms.{NetPermits}
 use Rattle.chart_term.specs.Terms.{Tree}
 use Rattle.term_laws.specs.Listing.{set_weight}
 use Rattle.trace_judge.specs.Subsets.{AreAllTaken, AreBits, AreSubsets, IsLeft, IsTaken, IsTooMuch, IsWord, all_spelled, picked, spelled, weight_of_size}
-use Rattle.trace_judge.specs.Words.{IsEachLeft, IsLeftOf}
+use Rattle.trace_judge.specs.Words.{IsEachLeft, IsWordLeft}
 use Rattle.trace_judge.specs.declared.words.Words.{Words}
 use Rattle.trace_judge.proofs.Holding.{held_word, word_held}
 use Rattle.trace_judge.proofs.Ordering.{in_order_rises}
@@ -46,7 +46,7 @@ weighs_some (suc zero) = omega arith
 weighs_some (suc (suc n)) = omega arith
 
 module _ (events : List Tree) (size a : ℕ) (words bits : List ℕ) (value : List Tree) (s : AreSubsets events size words) (is : all_spelled events words ≡ value) (b : AreBits events a bits) (old new : Words) (all : Bool) (r : IsEachLeft bits words old new all) where
-  word_fits : (v : ℕ) → IsLeftOf bits words v → IsWord events (size - 1) v
+  word_fits : (v : ℕ) → IsWordLeft bits words v → IsWord events (size - 1) v
   word_fits v l =
       let fits = s.are_words l.word l.among in
       let at = (b.exact l.without.bit).to l.without.among in
@@ -63,14 +63,14 @@ module _ (events : List Tree) (size a : ℕ) (words bits : List ℕ) (value : Li
     different = d;
   }
 
-  left_taken : (k : NetPermits) (v : ℕ) → IsLeftOf bits words v → IsTaken k a value (spelled events v)
+  left_taken : (k : NetPermits) (v : ℕ) → IsWordLeft bits words v → IsTaken k a value (spelled events v)
   left_taken k v l = record {
     term = spelled events l.word;
     held = subst (λ (t : List Tree). IsAmong t (spelled events l.word)) is (word_held events words l.word l.among);
     left = picked_left k a events l.word v l.without.bit s.each ((b.exact l.without.bit).to l.without.among) l.without.held l.without.left;
   }
 
-  taken_left : (k : NetPermits) (y : Tree) → IsTaken k a value y → (v : ℕ) × IsLeftOf bits words v × (y ≡ spelled events v)
+  taken_left : (k : NetPermits) (y : Tree) → IsTaken k a value y → (v : ℕ) × IsWordLeft bits words v × (y ≡ spelled events v)
   taken_left k y t =
       let w = held_word events words t.term (subst (λ (l : List Tree). IsAmong l t.term) (sym is) t.held) in
       let p = left_picked k a events w.0 y s.each (subst (λ (x : Tree). IsLeft k a x y) w.2 t.left) in

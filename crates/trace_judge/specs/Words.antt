@@ -40,7 +40,7 @@ pub record TakesEach (bits : List ℕ) (w : ℕ) (old new : Words) (all : Bool) 
   pub bounded : IsBounded new all
 
 -- the word is left of one of these
-pub record IsLeftOf (bits words : List ℕ) (v : ℕ) : Type 0 where
+pub record IsWordLeft (bits words : List ℕ) (v : ℕ) : Type 0 where
   pub word : ℕ
   pub among : IsAmong words word
   pub without : IsWithout bits word v
@@ -49,6 +49,6 @@ pub record IsLeftOf (bits words : List ℕ) (v : ℕ) : Type 0 where
 pub record IsEachLeft (bits words : List ℕ) (old new : Words) (all : Bool) : Type 0 where
   pub are : AreWords new
   pub room : new.room ≡ old.room
-  pub each : (v : ℕ) → IsAmong new.list.items v → IsLeftOf bits words v
-  pub whole : all ≡ true → (v : ℕ) → IsLeftOf bits words v → IsAmong new.list.items v
+  pub each : (v : ℕ) → IsAmong new.list.items v → IsWordLeft bits words v
+  pub whole : all ≡ true → (v : ℕ) → IsWordLeft bits words v → IsAmong new.list.items v
   pub bounded : IsBounded new all
