@@ -1,18 +1,17 @@
 #!/usr/bin/env python3
-"""budgets.py: whether the repository keeps the budgets of CONTRIBUTING.md.
+"""budgets.py: whether the repository keeps the budgets of CONTRIBUTING.md, and whether each crate stands on what its group may stand on.
 
-Run it at the top. It prints what is out of bounds, and ends with status 1 where something is. It takes a second and proves nothing.
+The groups are those of crates.txt: a line `# NAME, on OTHERS: what it is` begins one. Run it at the top. It prints what is out of
+bounds, and ends with status 1 where something is. It takes a second and proves nothing.
 """
 import glob
 import os
 import re
 import sys
 
-FUNCTIONS, LINES, CHAIN, EDITS, ALL_EDITS, TESTS = 100, 800, 12, 8, 90, 40
+FUNCTIONS, LINES, CHAIN, EDITS, ALL_EDITS, TESTS = 100, 800, 11, 8, 90, 40
+PROGRAM = "mscjudge"
 TEST_CRATES = ("text_tests", "calculus_tests", "command_tests", "residual_bench")
-# Neither of these two knows of the other (docs/ARCHITECTURE.md, what holds everywhere).
-CALCULUS = ("hmsc_graph", "chart_term", "term_tables", "term_laws", "term_permission", "permit_step")
-TEXT = ("msc_tokens", "token_grammar", "msc_events", "msc_expression", "msc_document", "msc_print")
 
 
 def needs():
@@ -39,17 +38,26 @@ def depth(crate, named, known):
     return known[crate]
 
 
-def below(crate, named):
-    """The crate and all crates that it stands on."""
-    return {crate}.union(*(below(library, named) for library in named.get(crate, []) if library in named))
+def groups():
+    """The group of each crate, and the groups that each group may stand on."""
+    group_of, stands_on, group = {}, {}, None
+    for line in open("crates.txt"):
+        head = re.match(r"# (\w+)(?:, on ([\w ]+))?: ", line)
+        if head:
+            group = head[1]
+            stands_on[group] = {group, *(head[2] or "").split()}
+        elif ":" in line and not line.startswith("#"):
+            group_of[line.split(":")[0].split()[0]] = group
+    return group_of, stands_on
 
 
-def of_rooms(named):
-    """Crates of the calculus that know text, and the other way round."""
-    for crates, others in ((CALCULUS, TEXT), (TEXT, CALCULUS)):
-        for crate in crates:
-            for other in sorted(below(crate, named) & {*others}):
-                yield f"crates.txt: {crate} stands on {other}"
+def of_groups(named):
+    """Crates that stand on a crate of a group that theirs may not know."""
+    group_of, stands_on = groups()
+    for crate, libraries in named.items():
+        for library in libraries:
+            if library in group_of and group_of[library] not in stands_on[group_of[crate]]:
+                yield f"crates.txt: {crate}, of {group_of[crate]}, stands on {library}, of {group_of[library]}"
 
 
 def of_crate(crate, libraries):
@@ -76,8 +84,8 @@ def of_crate(crate, libraries):
 def main():
     named, known = needs(), {}
     found = [line for crate in named for line in of_crate(crate, named[crate])]
-    found += [f"{crate}: a chain of {depth(crate, named, known)} crates" for crate in named if depth(crate, named, known) > CHAIN]
-    found += of_rooms(named)
+    found += [f"{PROGRAM}: a chain of {depth(PROGRAM, named, known)} crates"] if depth(PROGRAM, named, known) > CHAIN else []
+    found += of_groups(named)
     edits = len(glob.glob("crates/*/must-fail/*.edit"))
     found += [f"{edits} must-fail edits in all"] if edits > ALL_EDITS else []
     print("\n".join(found) or "the budgets are kept")

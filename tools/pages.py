@@ -1,13 +1,21 @@
 #!/usr/bin/env python3
-"""pages.py: whether the links of the pages lead somewhere, docs/RULES.md is what msc_rules has, and the contracts of docs/PROVED.md are there.
+"""pages.py: whether the links of the pages lead somewhere, and whether the pages say what the code and the benchmarks say.
 
 Looked at are all pages. A link to a file or a heading has to be there, and a link whose text is one name in backquotes
 to a file of code or specs/ asks that the file has the name. A page of the repository that is named in running text is to be
-a link. Run it at the top; it prints what is wrong, and ends with status 1 where something is. It takes a second.
+a link. Beside that:
+- docs/RULES.md has the rules of msc_rules, and docs/PROVED.md names contracts that are there;
+- docs/DEFINITIONS.md lists the files that tools/believed.py reaches, with their lines;
+- the files of specs/ that begin with 'Serves private contracts alone.' are those that no public contract reaches;
+- the limits in the README are those of msc_base, and times and sizes in the README, docs/ARCHITECTURE.md and docs/PROVED.md
+  stand in bench/README.md, or, in minutes, in CONTRIBUTING.md;
+- docs/ARCHITECTURE.md and docs/PROVED.md have a row for each crate.
+Run it at the top; it prints what is wrong, and ends with status 1 where something is. It takes some seconds.
 """
 import glob
 import os
 import re
+import subprocess
 import sys
 
 LINK = re.compile(r"\[((?:[^\[\]`]|`[^`]*`)*)\]\(([^)\s]+)\)")
@@ -100,8 +108,77 @@ def of_proved():
                 yield f"docs/PROVED.md: no contract {name}"
 
 
+def of_definitions():
+    """Where docs/DEFINITIONS.md doesn't list what the headline reaches, or says other numbers of lines."""
+    told = subprocess.run([sys.executable, "tools/believed.py"], capture_output=True, text=True, check=True).stdout
+    believed = {path: int(lines) for path, lines in re.findall(r"^(\S+): (\d+) of", told, re.M)}
+    page = open("docs/DEFINITIONS.md").read()
+    listed = {os.path.normpath(f"docs/{target}") for target in re.findall(r"\]\(([^)\s]+\.antt)\)", page)}
+    for path in sorted({*believed} - listed):
+        yield f"docs/DEFINITIONS.md: no {path}, which the headline reaches"
+    for path in sorted(listed - {*believed}):
+        yield f"docs/DEFINITIONS.md: {path} is listed, and the headline doesn't reach it"
+    for section in re.split(r"^## ", page, flags=re.M)[1:]:
+        paths = {os.path.normpath(f"docs/{target}") for target in re.findall(r"\]\(([^)\s]+\.antt)\)", section)}
+        lines = sum(believed.get(path, 0) for path in paths)
+        for shown in re.findall(r"^(\d[\d,]*) lines\.", section, re.M):
+            if int(shown.replace(",", "")) != lines:
+                yield f"docs/DEFINITIONS.md: section {section.splitlines()[0]} has {lines} lines, and says {shown}"
+    whole = re.search(r"\*\*(\d[\d,]*) lines in (\d+) files\*\*", page)
+    if not whole or (int(whole[1].replace(",", "")), int(whole[2])) != (sum(believed.values()), len(believed)):
+        yield f"docs/DEFINITIONS.md: the headline reaches {sum(believed.values())} lines in {len(believed)} files, which the page doesn't say"
+
+
+def of_first_lines():
+    """Files of specs/ that say that they serve private contracts alone, and don't, or don't say it."""
+    told = subprocess.run([sys.executable, "tools/believed.py", "--private"], capture_output=True, text=True, check=True).stdout
+    private = set(told.split())
+    for path in sorted(glob.glob("crates/*/specs/**/*.antt", recursive=True)):
+        says = open(path).read().startswith("-- Serves private contracts alone.")
+        if says != (path in private) and not path.endswith("/Lib.antt"):
+            yield f"{path}: " + ("says that it serves private contracts alone, and a public one reaches it" if says else "no public contract reaches it, which its first line doesn't say")
+
+
+def of_limits():
+    """Limits that the README shows otherwise than msc_base has them."""
+    limits = dict(re.findall(r"pub const (\w+): u64 = ([\d_]+);", open("crates/msc_base/src/limits.rt").read()))
+    section = open("README.md").read().split("## Limits")[1].split("\n## ")[0]
+    shown = set(re.findall(r"\d[\d,]*\d|\d", "\n".join(line.split("|")[2] for line in section.splitlines() if line.startswith("| "))))
+    told = ("DOCUMENT_BYTES", "CHARTS", "INSTANCES", "NESTING", "EXPANDED_SIZE", "TOTAL_SIZE", "LOOP_BOUND", "NAME_BYTES", "LOG_BYTES",
+            "LOG_EVENTS", "LINE_BYTES", "BUDGET_DEFAULT", "BUDGET_MOST")
+    for name in told:
+        if limits[name].replace("_", ",") not in shown:
+            yield f"README.md: the limits lack {limits[name].replace('_', ',')} ({name})"
+    for number in sorted(shown - {limits[name].replace("_", ",") for name in told}):
+        yield f"README.md: no limit of msc_base is {number}"
+
+
+def of_figures():
+    """Times and sizes of the pages that no table of measurements has."""
+    measured = {"s": "bench/README.md", "MiB": "bench/README.md", "minutes": "CONTRIBUTING.md"}
+    texts = {page: open(page).read() for page in {*measured.values()}}
+    for page in ("README.md", "docs/ARCHITECTURE.md", "docs/PROVED.md"):
+        text = re.sub(r"`[^`]*`", "", LINK.sub(r"\1", plain(open(page).read())))
+        for number, unit in re.findall(r"(?<![\w`.,])(\d[\d.,]*) (s|MiB|minutes)\b", text):
+            if not re.search(rf"(?<![\d.,]){re.escape(number)}(?: (?:and|to|or) [\d.,]+)? {unit}\b", texts[measured[unit]]):
+                yield f"{page}: {number} {unit} doesn't stand in {measured[unit]}"
+
+
+def of_crates():
+    """Crates without a row in docs/ARCHITECTURE.md, or in docs/PROVED.md where they carry a claim."""
+    named = [line.split(":")[0].split()[0] for line in open("crates.txt") if ":" in line and not line.lstrip().startswith("#")]
+    for page, without in (("docs/ARCHITECTURE.md", ()), ("docs/PROVED.md", ("msc_unfolding", "msc_rows", "text_tests", "calculus_tests", "command_tests"))):
+        text = open(page).read()
+        for crate in named:
+            if crate not in without and not re.search(rf"^\| (?:.*\| )?\[{crate}\]", text, re.M):
+                yield f"{page}: no row for {crate}"
+
+
+CHECKS = (of_rules, of_proved, of_definitions, of_first_lines, of_limits, of_figures, of_crates)
+
+
 def main():
-    found = [line for page in pages() for line in of_page(page)] + [*of_rules(), *of_proved()]
+    found = [line for page in pages() for line in of_page(page)] + [line for check in CHECKS for line in check()]
     print("\n".join(found) or "the pages' links lead somewhere")
     return 1 if found else 0
 
