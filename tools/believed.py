@@ -1,12 +1,12 @@
 #!/usr/bin/env python3
-"""believed.py [--private]: which files of specs/ the headline makes a reader believe.
+"""believed.py [--private | --page]: which files of specs/ the headline makes a reader believe.
 
 The headline is the contract of `run` in crates/msc_cmd/src/command.rt. From the names that its clauses cite, and from the types
 and traits of its arguments, the definitions of specs/ are followed through imports, and through `declared.` to types of the code:
 their fields, or what their `ghost` lines let a contract see. Printed is each file, in the order of crates.txt, with the lines of
 the definitions that are reached, and all its lines. Names are followed as words, so a file may be listed for a word too many.
 
-With --private the files are printed that no contract of any crate's public functions, methods, traits and types reaches.
+With --page the sums in docs/DEFINITIONS.md are written anew. With --private the files are printed that no contract of any crate's public functions, methods, traits and types reaches.
 """
 import os
 import re
@@ -191,18 +191,33 @@ def public_texts():
                         yield path, head_of(inner, method.start())
 
 
+def write_sums(believed):
+    """Writes into docs/DEFINITIONS.md how many lines the headline reaches, in all and in each section."""
+    parts = re.split(r"^(?=## )", open("docs/DEFINITIONS.md").read(), flags=re.M)
+    parts[0] = re.sub(r"\*\*\d[\d,]* lines in \d+ files\*\*", f"**{sum(believed.values()):,} lines in {len(believed)} files**", parts[0])
+    for number, part in enumerate(parts[1:], 1):
+        paths = {os.path.normpath(f"docs/{target}") for target in re.findall(r"\]\(([^)\s]+\.antt)\)", part)}
+        parts[number] = re.sub(r"^\d[\d,]* lines\.", f"{sum(believed.get(path, 0) for path in paths):,} lines.", part, flags=re.M)
+    with open("docs/DEFINITIONS.md", "w") as page:
+        page.write("".join(parts))
+
+
 def main():
     private = "--private" in sys.argv
     run = "crates/msc_cmd/src/command.rt"
     texts = public_texts() if private else [(run, head_of(SOURCES[run], SOURCES[run].index("pub fn run")))]
-    nodes = reached(texts, private)
+    nodes, believed = reached(texts, private), {}
     for path in sorted(ITEMS, key=lambda path: (CRATES.index(path.split("/")[1]), path)):
         found = {id(ITEMS[path][name]): ITEMS[path][name] for file, name in nodes if file == path}
         lines = sum(1 for block_lines in found.values() for line in block_lines if line.strip())
         if private and not found and not path.endswith("/Lib.antt"):
             print(path)
         if not private and found:
-            print(f"{path}: {lines} of {sum(1 for line in SOURCES[path].splitlines() if line.strip())}")
+            believed[path] = lines
+    if "--page" in sys.argv:
+        return write_sums(believed)
+    for path, lines in believed.items():
+        print(f"{path}: {lines} of {sum(1 for line in SOURCES[path].splitlines() if line.strip())}")
 
 
 if __name__ == "__main__":
