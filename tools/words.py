@@ -57,7 +57,8 @@ def manual(words):
         lines += [".TP", f".I {name}", roff(means)]
     lines += [".SH EXIT STATUS"]
     for row in words["statuses"]:
-        lines += [".TP", f".B {row['status']}", roff(row["means"]) + ". Printed: " + "; ".join(f"\\(lq{roff(text)}\\(rq" for text in row["prints"])]
+        printed = "; ".join(f"\\(lq{roff(text)}\\(rq" for text in row["prints"])
+        lines += [".TP", f".B {row['status']}", roff(row["means"]) + (f". Printed: {printed}" if printed else "")]
     lines += [".SH DIAGNOSTICS", "RULE, in the order in which the rules are looked at, is one of:"]
     lines += [text for rule in words["rules"] for text in (".br", f"\\(lq{roff(rule)}\\(rq")]
     lines += [".PP", "FAULT is one of: " + ", ".join(f"\\(lq{roff(fault)}\\(rq" for fault in words["faults"]) + "."]
