@@ -1,6 +1,7 @@
 -- A bound term in normal form has the patterns of the bound term.
 use Rattle.std.specs.Prelude.{ℕ, Bool, true, false, List, [], ◌∷◌, ◌≡◌, ◌||◌, ◌&&◌, ◌==◌, refl}
 use Rattle.std.proofs.Common.{ap, sym, ◌∙◌, arith, inl, inr}
+use Rattle.std.proofs.lemmas.Bool.{and_parts, or_parts}
 use Rattle.std.proofs.lemmas.Bool.Decides.{nat_tests}
 use Rattle.msc_base.specs.Patterns.{bind}
 use Rattle.chart_term.specs.NormalForms.{numbers, unless_pair, without_pair, with_pair, kept_pairs, bound_form, tie_of}
@@ -34,10 +35,6 @@ without_says p (r ∷ q) m n = go ((p.0 == r.0) && (p.1 == r.1)) refl (without_s
 not_there : (ns : List ℕ) (p : ℕ × ℕ) (m n : ℕ) → has ns m ≡ true → has ns n ≡ true → (has ns p.0 && has ns p.1) ≡ false → ((m == p.0) && (n == p.1)) ≡ false
 not_there ns p m n h i e = go ((m == p.0) && (n == p.1)) refl
   where
-    both : (a b : Bool) → (a && b) ≡ true → (a ≡ true) × (b ≡ true)
-    both true b k = (refl, k)
-    both false b k = cc
-
     is : (a b : ℕ) → (a == b) ≡ true → a ≡ b
     is a b k = grind (arith, nat_tests)
 
@@ -50,7 +47,7 @@ not_there ns p m n h i e = go ((m == p.0) && (n == p.1)) refl
     go : (t : Bool) → ((m == p.0) && (n == p.1)) ≡ t → t ≡ false
     go false k = refl
     go true k =
-        let (u, v) = both (m == p.0) (n == p.1) k in
+        let (u, v) = and_parts (m == p.0) (n == p.1) k in
         clash (has ns p.0) (has ns p.1) (moved m p.0 (is m p.0 u) h) (moved n p.1 (is n p.1 v) i) e
 
 kept_says : (ns : List ℕ) (q : List (ℕ × ℕ)) (m n : ℕ) → has ns m ≡ true → has ns n ≡ true → pairs (kept_pairs ns q) m n ≡ pairs q m n
@@ -85,16 +82,12 @@ or_none : (a b c : Bool) → (b ≡ false → c ≡ false) → (a || b) ≡ fals
 or_none true b c f h = h
 or_none false b c f h = f h
 
-second : (a b : Bool) → (a || b) ≡ false → b ≡ false
-second true b h = cc
-second false b h = h
-
 without_less : (p : ℕ × ℕ) (q : List (ℕ × ℕ)) (m n : ℕ) → pairs q m n ≡ false → pairs (without_pair p q) m n ≡ false
 without_less p [] m n h = h
 without_less p (r ∷ q) m n h = go ((p.0 == r.0) && (p.1 == r.1)) h (without_less p q m n)
   where
     go : (t : Bool) → (((m == r.0) && (n == r.1)) || pairs q m n) ≡ false → (pairs q m n ≡ false → pairs (without_pair p q) m n ≡ false) → pairs (unless_pair t r (without_pair p q)) m n ≡ false
-    go true h f = f (second ((m == r.0) && (n == r.1)) (pairs q m n) h)
+    go true h f = f (or_parts ((m == r.0) && (n == r.1)) (pairs q m n) h).1
     go false h f = or_none ((m == r.0) && (n == r.1)) (pairs q m n) (pairs (without_pair p q) m n) f h
 
 pub kept_less : (ns : List ℕ) (q : List (ℕ × ℕ)) (m n : ℕ) → pairs q m n ≡ false → pairs (kept_pairs ns q) m n ≡ false
@@ -103,7 +96,7 @@ kept_less ns (p ∷ q) m n h = go (has ns p.0 && has ns p.1) h (kept_less ns q m
   where
     go : (t : Bool) → (((m == p.0) && (n == p.1)) || pairs q m n) ≡ false → (pairs q m n ≡ false → pairs (kept_pairs ns q) m n ≡ false) → pairs (with_pair t p (kept_pairs ns q)) m n ≡ false
     go true h f = or_none ((m == p.0) && (n == p.1)) (pairs q m n) (pairs (without_pair p (kept_pairs ns q)) m n) (λ e. without_less p (kept_pairs ns q) m n (f e)) h
-    go false h f = f (second ((m == p.0) && (n == p.1)) (pairs q m n) h)
+    go false h f = f (or_parts ((m == p.0) && (n == p.1)) (pairs q m n) h).1
 
 said_in : (q : List (ℕ × ℕ)) (m n : ℕ) → pairs q m n ≡ true → InPairs m q × InPairs n q
 said_in [] m n h = cc
@@ -121,7 +114,7 @@ module _ (w : NetTerms) (o : Bool) where
   abbrev pub Shows : Tree → ℕ → Type 0
   Shows y j = (s : Shape) → HasPattern w o y s → Occurs j s → has (numbers y) j ≡ true
 
-  agrees : (y : Tree) (q : List (ℕ × ℕ)) → ((j : ℕ) → InPairs j q → Shows y j) → (s : Shape) → HasPattern w o y s → Agree q (kept_pairs (numbers y) q) s
+  pub agrees : (y : Tree) (q : List (ℕ × ℕ)) → ((j : ℕ) → InPairs j q → Shows y j) → (s : Shape) → HasPattern w o y s → Agree q (kept_pairs (numbers y) q) s
   agrees y q f s a m n h i = go (pairs q m n) refl
     where
       go : (t : Bool) → pairs q m n ≡ t → pairs q m n ≡ pairs (kept_pairs (numbers y) q) m n

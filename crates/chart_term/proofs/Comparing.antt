@@ -85,10 +85,6 @@ pub parts_on : (ps qs : List Part) (from i : ℕ) (x y : Part) (o : Ordering) �
 parts_on ps qs from i x y o l m e f is so h =
     so ∙ (next_part ps qs i x y l m e f ∙ ap (λ p. ordering_then p (rows_from (i + 1) ps qs)) (sym is ∙ untold o h))
 
--- all parts up to the place
-pub parts_equal : (ps qs : List Part) (from at to : ℕ) → at ≡ to → rows_from from ps qs ≡ rows_from at ps qs → ComparesParts ps qs from to Equal
-parts_equal ps qs from at to e so = sym (so ∙ ap (λ i. rows_from i ps qs) e)
-
 -- the end of a list before the place
 pub parts_ended : (ps qs : List Part) (from at to : ℕ) (o : Ordering) → at < to → at ≤ length ps → at ≤ length qs → (length ps ≤ at) ⊎ (length qs ≤ at) → o ≡ nat_cmp (length ps) (length qs) → rows_from from ps qs ≡ rows_from at ps qs → ComparesParts ps qs from to o
 parts_ended ps qs from at to o l a b over is so = go o refl ∙ (is ∙ (sym (rows_end ps qs at a b over) ∙ sym so))

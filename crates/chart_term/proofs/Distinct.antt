@@ -1,6 +1,7 @@
 -- Lists without repeats, one item after another.
 use Rattle.std.proofs.Common.{◌≡◌, ℕ, ◌+◌, ◌<◌, Bool, true, false, ◌||◌, not, cond, List, [], ◌∷◌, ◌++◌, refl, ap, ap₂, subst, sym, ◌∙◌, arith, length, take, get_or, append-nil}
 use Rattle.std.specs.List.{list_any}
+use Rattle.std.proofs.lemmas.Bool.{both_ways, false_from_ne_true, not-false, not-true}
 use Rattle.std.proofs.lemmas.List.Folds.{list_any-append}
 use Rattle.chart_term.specs.Equality.{same_tree}
 use Rattle.std.specs.Ordering.{is_eq}
@@ -72,16 +73,9 @@ same_by_order x y = by_case (same_tree x y) refl
     is_equal Equal h = refl
     is_equal Greater h = cc
 
-    other : (b : Bool) → (b ≡ true → ⊥) → b ≡ false
-    other true h = absurd (h refl)
-    other false h = refl
-
-    apart : (b : Bool) → b ≡ false → b ≡ true → ⊥
-    apart b p q = cc
-
     by_case : (b : Bool) → same_tree x y ≡ b → is_eq (tree_cmp x y) ≡ same_tree x y
     by_case true e = ap is_eq (ap (λ z. tree_cmp x z) (sym (same_tree_is_exact.sound x y e)) ∙ tree_itself x) ∙ sym e
-    by_case false e = other (is_eq (tree_cmp x y)) (λ h. apart (same_tree x y) e (same_tree_is_exact.whole x y (tree_equal x y (is_equal (tree_cmp x y) h)))) ∙ sym e
+    by_case false e = false_from_ne_true (is_eq (tree_cmp x y)) (λ h. both_ways (same_tree x y) e (same_tree_is_exact.whole x y (tree_equal x y (is_equal (tree_cmp x y) h)))) ∙ sym e
 
 -- what was seen, with one more item
 pub seen_next : (xs : List Tree) (i : ℕ) (x key y : Tree) (old new : Bool) → i < length xs → x ≡ get_or xs i x → key ≡ x → new ≡ cond (is_eq (tree_cmp key y)) true old → old ≡ is_met y (take i xs) → new ≡ is_met y (take (i + 1) xs)
@@ -97,20 +91,12 @@ seen_next xs i x key y old new lt e is p q =
 -- a new item is kept
 pub kept_new : (xs : List Tree) (i : ℕ) (x key item : Tree) (kept new : List Tree) (added old : Bool) → i < length xs → x ≡ get_or xs i x → key ≡ x → item ≡ x → kept ≡ distinct (take i xs) → new ≡ kept ++ item ∷ [] → added ≡ not old → added ≡ true → old ≡ is_met key (take i xs) → new ≡ distinct (take (i + 1) xs)
 kept_new xs i x key item kept new added old lt e is this so put a yes_ seen =
-    put ∙ ap₂ (λ l y. l ++ y ∷ []) so this ∙ sym (distinct-next_new xs i x lt e (ap (λ z. is_met z (take i xs)) (sym is) ∙ sym seen ∙ none old (sym a ∙ yes_)))
-  where
-    none : (b : Bool) → not b ≡ true → b ≡ false
-    none true h = cc
-    none false h = refl
+    put ∙ ap₂ (λ l y. l ++ y ∷ []) so this ∙ sym (distinct-next_new xs i x lt e (ap (λ z. is_met z (take i xs)) (sym is) ∙ sym seen ∙ not-true old (sym a ∙ yes_)))
 
 -- an item that was met isn't
 pub kept_met : (xs : List Tree) (i : ℕ) (x key : Tree) (kept : List Tree) (added old : Bool) → i < length xs → x ≡ get_or xs i x → key ≡ x → kept ≡ distinct (take i xs) → added ≡ not old → added ≡ false → old ≡ is_met key (take i xs) → kept ≡ distinct (take (i + 1) xs)
 kept_met xs i x key kept added old lt e is so a no_ seen =
-    so ∙ sym (distinct-next_met xs i x lt e (ap (λ z. is_met z (take i xs)) (sym is) ∙ sym seen ∙ some old (sym a ∙ no_)))
-  where
-    some : (b : Bool) → not b ≡ false → b ≡ true
-    some true h = refl
-    some false h = cc
+    so ∙ sym (distinct-next_met xs i x lt e (ap (λ z. is_met z (take i xs)) (sym is) ∙ sym seen ∙ not-false old (sym a ∙ no_)))
 
 -- the parts of a choice that has one
 pub full_choice : (f : Form) (ps : List Part) (x : Tree) → f ≡ form.Choice ps → tree_of f ≡ x → IsFull f → (open_choice x ≡ begun ps) × AreTurns ps × (0 < length ps)

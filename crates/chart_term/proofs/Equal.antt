@@ -2,7 +2,7 @@
 use Rattle.std.specs.Prelude.{ℕ, Bool, true, false, List, [], ◌∷◌, ◌≡◌, Option, Some, None, ◌&&◌, ◌==◌, refl}
 use Rattle.std.proofs.Common.{ap, arith}
 use Rattle.std.proofs.lemmas.Bool.Decides.{nat_tests}
-use Rattle.std.proofs.lemmas.Bool.{and_parts}
+use Rattle.std.proofs.lemmas.Bool.{and_from, and_parts}
 use Rattle.msc_base.specs.Patterns.{Mode, seq, par}
 use Rattle.hmsc_graph.specs.Graphs.{Spot, Start, At, Goal, To, End, Any}
 use Rattle.chart_term.specs.Equality.{same_maybe, same_event, same_mode, same_spot, same_goal, same_numbers, same_pairs, same_tree, same_trees, same_row, SameTreeIsExact}
@@ -94,10 +94,6 @@ mutual
   row_is (turn x r) (turn y s) h = let (p, q) = and_parts (same_tree x y) (same_row r s) h in λ i. turn (tree_is x y p i) (row_is r s q i)
   row_is r s h = cc
 
-and_is : (a b : Bool) → a ≡ true → b ≡ true → (a && b) ≡ true
-and_is true b h k = k
-and_is false b h k = cc
-
 number_self : (n : ℕ) → (n == n) ≡ true
 number_self n = grind (arith, nat_tests)
 
@@ -120,37 +116,37 @@ goal_self Any = refl
 
 numbers_self : (c : List ℕ) → same_numbers c c ≡ true
 numbers_self [] = refl
-numbers_self (n ∷ c) = and_is (n == n) (same_numbers c c) (number_self n) (numbers_self c)
+numbers_self (n ∷ c) = and_from (n == n) (same_numbers c c) (number_self n) (numbers_self c)
 
 pairs_self : (q : List (ℕ × ℕ)) → same_pairs q q ≡ true
 pairs_self [] = refl
-pairs_self (p ∷ q) = and_is ((p.0 == p.0) && (p.1 == p.1)) (same_pairs q q) (and_is (p.0 == p.0) (p.1 == p.1) (number_self p.0) (number_self p.1)) (pairs_self q)
+pairs_self (p ∷ q) = and_from ((p.0 == p.0) && (p.1 == p.1)) (same_pairs q q) (and_from (p.0 == p.0) (p.1 == p.1) (number_self p.0) (number_self p.1)) (pairs_self q)
 
 event_self : (e : TermEvent) → same_event e e ≡ true
 event_self e =
-    and_is ((e.number == e.number) && (e.at == e.at)) (same_maybe e.also e.also && (e.label == e.label)) (and_is (e.number == e.number) (e.at == e.at) (number_self e.number) (number_self e.at))
-    (and_is (same_maybe e.also e.also) (e.label == e.label) (maybe_self e.also) (number_self e.label))
+    and_from ((e.number == e.number) && (e.at == e.at)) (same_maybe e.also e.also && (e.label == e.label)) (and_from (e.number == e.number) (e.at == e.at) (number_self e.number) (number_self e.at))
+    (and_from (same_maybe e.also e.also) (e.label == e.label) (maybe_self e.also) (number_self e.label))
 
 mutual
   tree_self : (x : Tree) → same_tree x x ≡ true
   tree_self Nil = refl
   tree_self (Event e) = event_self e
-  tree_self (Join m xs) = and_is (same_mode m m) (same_trees xs xs) (mode_self m) (trees_self xs)
+  tree_self (Join m xs) = and_from (same_mode m m) (same_trees xs xs) (mode_self m) (trees_self xs)
   tree_self (Choice xs) = trees_self xs
-  tree_self (Tied x q) = and_is (same_tree x x) (same_pairs q q) (tree_self x) (pairs_self q)
+  tree_self (Tied x q) = and_from (same_tree x x) (same_pairs q q) (tree_self x) (pairs_self q)
   tree_self (Loop x lo hi r) =
-      and_is (same_tree x x && (lo == lo)) (same_maybe hi hi && same_row r r) (and_is (same_tree x x) (lo == lo) (tree_self x) (number_self lo)) (and_is (same_maybe hi hi) (same_row r r) (maybe_self hi) (row_self r))
+      and_from (same_tree x x && (lo == lo)) (same_maybe hi hi && same_row r r) (and_from (same_tree x x) (lo == lo) (tree_self x) (number_self lo)) (and_from (same_maybe hi hi) (same_row r r) (maybe_self hi) (row_self r))
   tree_self (Walk n f t c) =
-      and_is ((n == n) && same_spot f f) (same_goal t t && same_numbers c c) (and_is (n == n) (same_spot f f) (number_self n) (spot_self f)) (and_is (same_goal t t) (same_numbers c c) (goal_self t) (numbers_self c))
+      and_from ((n == n) && same_spot f f) (same_goal t t && same_numbers c c) (and_from (n == n) (same_spot f f) (number_self n) (spot_self f)) (and_from (same_goal t t) (same_numbers c c) (goal_self t) (numbers_self c))
 
   trees_self : (xs : Trees) → same_trees xs xs ≡ true
   trees_self none = refl
-  trees_self (more x xs) = and_is (same_tree x x) (same_trees xs xs) (tree_self x) (trees_self xs)
+  trees_self (more x xs) = and_from (same_tree x x) (same_trees xs xs) (tree_self x) (trees_self xs)
 
   row_self : (r : Row) → same_row r r ≡ true
   row_self ends = refl
-  row_self (gap c r) = and_is (same_numbers c c) (same_row r r) (numbers_self c) (row_self r)
-  row_self (turn x r) = and_is (same_tree x x) (same_row r r) (tree_self x) (row_self r)
+  row_self (gap c r) = and_from (same_numbers c c) (same_row r r) (numbers_self c) (row_self r)
+  row_self (turn x r) = and_from (same_tree x x) (same_row r r) (tree_self x) (row_self r)
 
 pub same_tree_is_exact : SameTreeIsExact
 same_tree_is_exact = record { sound = tree_is; whole = λ x y e. whole x y e }

@@ -1,6 +1,6 @@
 -- What a search for a label passes over, by the stored facts.
 use Rattle.std.proofs.Common.{◌≡◌, ℕ, zero, suc, ◌+◌, ◌-◌, ◌<◌, ◌≤◌, ◌==◌, ◌⊎◌, inl, inr, Bool, true, false, ◌||◌, ◌&&◌, nat_eq, nat_le, min, max, List, [], ◌∷◌, ◌++◌, length, slice_get, Option, Some, None, refl, ap, ap₂, sym, subst, ◌∙◌, arith}
-use Rattle.std.proofs.lemmas.Bool.{cases_order, eqb-true, leb-true, le-leb}
+use Rattle.std.proofs.lemmas.Bool.{and_from, and_parts, both_ways, cases_order, eqb-true, leb-true, le-leb, or_left, or_parts, or_right}
 use Rattle.std.proofs.lemmas.List.Folds.{list_any-append}
 use Rattle.shared_sequence.proofs.Parts.{length_parts}
 use Rattle.node_facts.specs.declared.facts.Facts.{Facts}
@@ -12,39 +12,24 @@ use Rattle.chart_term.specs.NormalForms.{has_gap}
 use Rattle.chart_term.specs.PartLists.{AllPassed, ArePassed, IsNext, IsPassed, IsWithin, Lacks}
 use Rattle.chart_term.specs.Terms.{Tree, Part, Gap, Turn, has, row_of}
 
-or_first : (a b : Bool) → (a || b) ≡ false → a ≡ false
-or_first true b h = cc
-or_first false b h = refl
-
-or_second : (a b : Bool) → (a || b) ≡ false → b ≡ false
-or_second true b h = cc
-or_second false b h = h
-
-and_both : (a b : Bool) → (a && b) ≡ true → (a ≡ true) × (b ≡ true)
-and_both true b h = (refl, h)
-and_both false b h = cc
-
-both_and : (a b : Bool) → a ≡ true → b ≡ true → (a && b) ≡ true
-both_and a b p q = ap₂ (λ x y. x && y) p q
-
 -- a number within one of two ranges lies in the wider one
 pub lies_first : (r s : Option Span) (n : ℕ) → lies_in r n ≡ true → lies_in (wider r s) n ≡ true
 lies_first None s n h = cc
 lies_first (Some r) None n h = h
 lies_first (Some r) (Some s) n h =
-    let (a, b) = and_both (nat_le r.least n) (nat_le n r.greatest) h in
+    let (a, b) = and_parts (nat_le r.least n) (nat_le n r.greatest) h in
     let p = leb-true r.least n a in
     let q = leb-true n r.greatest b in
-    both_and (nat_le (min r.least s.least) n) (nat_le n (max r.greatest s.greatest)) (le-leb (min r.least s.least) n (omega arith)) (le-leb n (max r.greatest s.greatest) (omega arith))
+    and_from (nat_le (min r.least s.least) n) (nat_le n (max r.greatest s.greatest)) (le-leb (min r.least s.least) n (omega arith)) (le-leb n (max r.greatest s.greatest) (omega arith))
 
 pub lies_second : (r s : Option Span) (n : ℕ) → lies_in s n ≡ true → lies_in (wider r s) n ≡ true
 lies_second None s n h = h
 lies_second (Some r) None n h = cc
 lies_second (Some r) (Some s) n h =
-    let (a, b) = and_both (nat_le s.least n) (nat_le n s.greatest) h in
+    let (a, b) = and_parts (nat_le s.least n) (nat_le n s.greatest) h in
     let p = leb-true s.least n a in
     let q = leb-true n s.greatest b in
-    both_and (nat_le (min r.least s.least) n) (nat_le n (max r.greatest s.greatest)) (le-leb (min r.least s.least) n (omega arith)) (le-leb n (max r.greatest s.greatest) (omega arith))
+    and_from (nat_le (min r.least s.least) n) (nat_le n (max r.greatest s.greatest)) (le-leb (min r.least s.least) n (omega arith)) (le-leb n (max r.greatest s.greatest) (omega arith))
 
 -- a number of the list lies in its range
 pub lies_there : (ns : List ℕ) (n : ℕ) → has ns n ≡ true → lies_in (span_of ns) n ≡ true
@@ -52,7 +37,7 @@ lies_there [] n h = cc
 lies_there (m ∷ ms) n h = by_case (m == n) refl h (lies_there ms n)
   where
     itself : m ≡ n → lies_in (Some (record { least = m; greatest = m })) n ≡ true
-    itself e = both_and (nat_le m n) (nat_le n m) (le-leb m n (omega arith)) (le-leb n m (omega arith))
+    itself e = and_from (nat_le m n) (nat_le n m) (le-leb m n (omega arith)) (le-leb n m (omega arith))
 
     by_case : (b : Bool) → (m == n) ≡ b → (b || has ms n) ≡ true → (has ms n ≡ true → lies_in (span_of ms) n ≡ true) → lies_in (span_of (m ∷ ms)) n ≡ true
     by_case true e k f = lies_first (Some (record { least = m; greatest = m })) (span_of ms) n (itself (eqb-true m n e))
@@ -69,8 +54,8 @@ lacks_there ns n h = by_case (has ns n) refl
 -- by the facts of a term
 pub term_lacks : (x : Tree) (a : ℕ) (f : Facts) → HasFacts x f → facts_may a f ≡ false → Lacks a x
 term_lacks x a f p h = (
-  sym p.trail ∙ or_first f.holds_walk (lies_in (labels_in f.ranges) a) h,
-  lacks_there (labels x) a (ap (λ s. lies_in s a) (sym p.labels) ∙ or_second f.holds_walk (lies_in (labels_in f.ranges) a) h),
+  sym p.trail ∙ (or_parts f.holds_walk (lies_in (labels_in f.ranges) a) h).0,
+  lacks_there (labels x) a (ap (λ s. lies_in s a) (sym p.labels) ∙ (or_parts f.holds_walk (lies_in (labels_in f.ranges) a) h).1),
 )
 
 term_within : (x : Tree) (c : List ℕ) (f : Facts) → HasFacts x f → FactsWithin c f → IsWithin c x
@@ -80,38 +65,27 @@ pub turn_passed : (x : Tree) (a : ℕ) (c : List ℕ) (f : Facts) → HasFacts x
 turn_passed x a c f p (inl h) = inl (term_lacks x a f p h)
 turn_passed x a c f p (inr w) = inr (term_within x c f p w)
 
-apart : (b : Bool) → b ≡ true → b ≡ false → ⊥
-apart b p q = cc
-
 -- by those of a list of turns, for each of them
 walk_at : (ps : List Part) (j : ℕ) (x : Tree) → row_walk (row_of ps) ≡ false → slice_get ps j ≡ Some (Turn x) → holds_walk x ≡ false
 walk_at [] j x h e = cc
 walk_at (Gap c ∷ ps) zero x h e = cc
 walk_at (Gap c ∷ ps) (suc j) x h e = walk_at ps j x h e
-walk_at (Turn y ∷ ps) zero x h e = let same : y ≡ x = cc in subst (λ z. holds_walk z ≡ false) same (or_first (holds_walk y) (row_walk (row_of ps)) h)
-walk_at (Turn y ∷ ps) (suc j) x h e = walk_at ps j x (or_second (holds_walk y) (row_walk (row_of ps)) h) e
-
-or_true : (a b : Bool) → b ≡ true → (a || b) ≡ true
-or_true true b h = refl
-or_true false b h = h
-
-or_left : (a b : Bool) → a ≡ true → (a || b) ≡ true
-or_left true b h = refl
-or_left false b h = cc
+walk_at (Turn y ∷ ps) zero x h e = let same : y ≡ x = cc in subst (λ z. holds_walk z ≡ false) same (or_parts (holds_walk y) (row_walk (row_of ps)) h).0
+walk_at (Turn y ∷ ps) (suc j) x h e = walk_at ps j x (or_parts (holds_walk y) (row_walk (row_of ps)) h).1 e
 
 label_at : (ps : List Part) (j : ℕ) (x : Tree) (n : ℕ) → slice_get ps j ≡ Some (Turn x) → has (labels x) n ≡ true → has (labels_row (row_of ps)) n ≡ true
 label_at [] j x n e h = cc
 label_at (Gap c ∷ ps) zero x n e h = cc
 label_at (Gap c ∷ ps) (suc j) x n e h = label_at ps j x n e h
 label_at (Turn y ∷ ps) zero x n e h = let same : y ≡ x = cc in list_any-append (λ m. nat_eq m n) (labels y) (labels_row (row_of ps)) ∙ or_left (has (labels y) n) (has (labels_row (row_of ps)) n) (ap (λ z. has (labels z) n) same ∙ h)
-label_at (Turn y ∷ ps) (suc j) x n e h = list_any-append (λ m. nat_eq m n) (labels y) (labels_row (row_of ps)) ∙ or_true (has (labels y) n) (has (labels_row (row_of ps)) n) (label_at ps j x n e h)
+label_at (Turn y ∷ ps) (suc j) x n e h = list_any-append (λ m. nat_eq m n) (labels y) (labels_row (row_of ps)) ∙ or_right (has (labels y) n) (has (labels_row (row_of ps)) n) (label_at ps j x n e h)
 
 instance_at : (ps : List Part) (j : ℕ) (x : Tree) (n : ℕ) → slice_get ps j ≡ Some (Turn x) → has (instances x) n ≡ true → has (instances_row (row_of ps)) n ≡ true
 instance_at [] j x n e h = cc
 instance_at (Gap c ∷ ps) zero x n e h = cc
 instance_at (Gap c ∷ ps) (suc j) x n e h = instance_at ps j x n e h
 instance_at (Turn y ∷ ps) zero x n e h = let same : y ≡ x = cc in list_any-append (λ m. nat_eq m n) (instances y) (instances_row (row_of ps)) ∙ or_left (has (instances y) n) (has (instances_row (row_of ps)) n) (ap (λ z. has (instances z) n) same ∙ h)
-instance_at (Turn y ∷ ps) (suc j) x n e h = list_any-append (λ m. nat_eq m n) (instances y) (instances_row (row_of ps)) ∙ or_true (has (instances y) n) (has (instances_row (row_of ps)) n) (instance_at ps j x n e h)
+instance_at (Turn y ∷ ps) (suc j) x n e h = list_any-append (λ m. nat_eq m n) (instances y) (instances_row (row_of ps)) ∙ or_right (has (instances y) n) (has (instances_row (row_of ps)) n) (instance_at ps j x n e h)
 
 gap_free : (ps : List Part) (j : ℕ) (c : List ℕ) → has_gap ps ≡ false → slice_get ps j ≡ Some (Gap c) → ⊥
 gap_free [] j c h e = cc
@@ -124,13 +98,13 @@ all_passed ps a c f g p h j (Gap d) e = gap_free ps j d g e
 all_passed ps a c f g p (inl h) j (Turn x) e = inl (walk_at ps j x walks e, lacking (has (labels x) a) refl)
   where
     walks : row_walk (row_of ps) ≡ false
-    walks = sym p.trail ∙ or_first f.holds_walk (lies_in (labels_in f.ranges) a) h
+    walks = sym p.trail ∙ (or_parts f.holds_walk (lies_in (labels_in f.ranges) a) h).0
 
     none : has (labels_row (row_of ps)) a ≡ false
-    none = lacks_there (labels_row (row_of ps)) a (ap (λ s. lies_in s a) (sym p.labels) ∙ or_second f.holds_walk (lies_in (labels_in f.ranges) a) h)
+    none = lacks_there (labels_row (row_of ps)) a (ap (λ s. lies_in s a) (sym p.labels) ∙ (or_parts f.holds_walk (lies_in (labels_in f.ranges) a) h).1)
 
     lacking : (b : Bool) → has (labels x) a ≡ b → has (labels x) a ≡ false
-    lacking true k = absurd (apart (has (labels_row (row_of ps)) a) (label_at ps j x a e k) none)
+    lacking true k = absurd (both_ways (has (labels_row (row_of ps)) a) none (label_at ps j x a e k))
     lacking false k = k
 all_passed ps a c f g p (inr w) j (Turn x) e = inr (walk_at ps j x (sym p.trail ∙ w.trail) e, λ n k. ap (λ l. has l n) (sym w.instances) ∙ p.instances n ∙ instance_at ps j x n e k)
 
@@ -144,9 +118,6 @@ passed_next ps i k a c q is new f j p low high at = elim (cases_order j k) [
 
 pub passed_first : (ps : List Part) (i a : ℕ) (c : List ℕ) → ArePassed a c ps i i
 passed_first ps i a c j p low high at = absurd (omega arith)
-
-pub passed_end : (ps : List Part) (i k a : ℕ) (c : List ℕ) → length ps ≤ k → ArePassed a c ps i k → IsNext ps i a c None
-passed_end ps i k a c long f j p low high at = f j p low (omega arith) at
 
 -- a search over two lists
 get_first : (ps qs : List Part) (j : ℕ) → j < length ps → slice_get (ps ++ qs) j ≡ slice_get ps j

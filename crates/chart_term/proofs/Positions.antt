@@ -1,28 +1,22 @@
 -- Positions of a pattern, and taking out a minimal one.
 use Rattle.std.specs.Prelude.{ℕ, Bool, true, false, List, ◌≡◌, refl}
 use Rattle.std.proofs.Common.{ap, sym, ◌∙◌, inl, inr}
+use Rattle.std.proofs.lemmas.Bool.{both_ways, false_from_ne_true}
 use Rattle.msc_base.specs.Patterns.{Mode, seq, par, Position, event_at, Crosses, empty, one, join, bind}
 use Rattle.chart_term.specs.TermPatterns.{numbered, Shape, Avoids, Lets, instances_of, earlier, Takes, take_one, take_first, take_later, take_bind}
 use Rattle.chart_term.specs.Terms.{TermEvent, Block, hits}
 use Rattle.chart_term.proofs.Sameness.{hits_earlier}
 use Rattle.chart_term.specs.TermRuns.{IsMinimal, taken_out, TakesMinimal}
 
-not_true : (b : Bool) → (b ≡ true → ⊥) → b ≡ false
-not_true true h = absurd (h refl)
-not_true false h = refl
-
-true_false : (b : Bool) → b ≡ true → b ≡ false → ⊥
-true_false b h k = cc
-
 avoids_at : (b : Block) (s : Shape) → ((p : Position s) → hits b (event_at numbered s p) ≡ true → ⊥) → Avoids b s
 avoids_at b empty h = tt
-avoids_at b (one e) h = not_true (hits b e) (h tt)
+avoids_at b (one e) h = false_from_ne_true (hits b e) (h tt)
 avoids_at b (join m x y) h = (avoids_at b x (λ p. h (inl p)), avoids_at b y (λ p. h (inr p)))
 avoids_at b (bind x r) h = avoids_at b x h
 
 at_avoids : (b : Block) (s : Shape) → Avoids b s → (p : Position s) → hits b (event_at numbered s p) ≡ true → ⊥
 at_avoids b empty h p i = absurd p
-at_avoids b (one e) h p i = true_false (hits b e) i h
+at_avoids b (one e) h p i = both_ways (hits b e) h i
 at_avoids b (join m x y) h (inl p) i = at_avoids b x h.0 p i
 at_avoids b (join m x y) h (inr p) i = at_avoids b y h.1 p i
 at_avoids b (bind x r) h p i = at_avoids b x h p i

@@ -72,12 +72,6 @@ joined_one m (Gap c ∷ ps) x h l e = cc
 joined_one m (Turn y ∷ []) x h l e = cc
 joined_one m (Turn y ∷ q ∷ ps) x h l e = absurd (omega arith)
 
--- one more term of a list of turns
-pub turns_next : (xs : List Tree) (i : ℕ) (x : Tree) (held new : List RowPart) → i < length xs → x ≡ get_or xs i x → parts_of held ≡ map Turn (take i xs) → new ≡ held ++ part.Turn x ∷ [] → parts_of new ≡ map Turn (take (i + 1) xs)
-turns_next xs i x held new lt e so put =
-    ap parts_of put ∙ map-append part_of held (part.Turn x ∷ []) ∙ ap (λ l. l ++ Turn x ∷ []) so
-    ∙ sym (ap (map Turn) (taken_next xs i x lt e) ∙ map-append Turn (take i xs) (x ∷ []))
-
 pub parts_next : (xs : List RowPart) (i : ℕ) (x : RowPart) → i < length xs → x ≡ get_or xs i x → parts_of (take (i + 1) xs) ≡ parts_of (take i xs) ++ part_of x ∷ []
 parts_next xs i x lt e = ap parts_of (taken_next xs i x lt e) ∙ map-append part_of (take i xs) (x ∷ [])
 

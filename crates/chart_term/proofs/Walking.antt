@@ -3,7 +3,7 @@ use Rattle.std.specs.List.{list_all}
 use Rattle.std.specs.Prelude.{ℕ, Bool, true, false, List, [], ◌∷◌, ◌≡◌, Option, Some, None, ◌&&◌, ◌==◌, refl, filter}
 use Rattle.std.proofs.Common.{arith, inl, inr, cond}
 use Rattle.std.proofs.lemmas.Bool.Decides.{nat_tests}
-use Rattle.std.proofs.lemmas.Bool.{and_parts}
+use Rattle.std.proofs.lemmas.Bool.{and_from, and_parts}
 use Rattle.msc_base.specs.Patterns.{empty}
 use Rattle.hmsc_graph.specs.Graphs.{Spot, At, Goal, To, End, Any, behind, WalkThrough, last, step, reach}
 use Rattle.msc_base.specs.Lists.{IsIn}
@@ -32,10 +32,6 @@ out_cond t false m k ms e h f = let r = f h in (inr r.0, r.1)
 pub out_filter : (t : ℕ → Bool) (ms : List ℕ) (m : ℕ) → IsIn m (filter t ms) → IsIn m ms × (t m ≡ true)
 out_filter t [] m i = absurd i
 out_filter t (k ∷ ms) m i = out_cond t (t k) m k ms refl i (out_filter t ms m)
-
-and_made : (a b : Bool) → a ≡ true → b ≡ true → (a && b) ≡ true
-and_made true b h k = k
-and_made false b h k = cc
 
 all_in : (t : ℕ → Bool) (ms : List ℕ) (m : ℕ) → list_all t ms ≡ true → IsIn m ms → t m ≡ true
 all_in t [] m h i = absurd i
@@ -98,7 +94,7 @@ module _ (k : NetPermits) (node : ℕ → ℕ → Tree) (o : Bool) (n : ℕ) whe
             let ks = allowed k n c in
             all_in (λ i. is_nil (k.kept n i c)) _ m nils
             (in_filter (λ i. reach (k.net n) ks from (To i) && reach (k.net n) ks (At i) t) ks m j
-            (and_made _ _ (reach_whole (k.net n) ks from (To m) u) (reach_whole (k.net n) ks (At m) t v)))
+            (and_from _ _ (reach_whole (k.net n) ks from (To m) u) (reach_whole (k.net n) ks (At m) t v)))
 
         abbrev Led : Spot → Type 0
         Led f = (m : ℕ) → IsIn m (behind (k.net n) f) → WalkThrough (k.net n) (allowed k n c) from (To m)

@@ -1,5 +1,5 @@
 -- Edges that lead the other way.
-use Rattle.std.proofs.Common.{ℕ, zero, suc, ◌+◌, ◌<◌, ◌≡◌, ◌↔◌, ◌⊎◌, inl, inr, List, [], ◌∷◌, ◌++◌, length, get_or, set, take, replicate, Bool, true, false, refl, sym, subst, arith, ap, ◌∙◌}
+use Rattle.std.proofs.Common.{ℕ, zero, suc, ◌+◌, ◌<◌, ◌≡◌, ◌↔◌, ◌⊎◌, inl, inr, List, [], ◌∷◌, ◌++◌, length, get_or, set, take, Bool, true, false, refl, sym, subst, arith, ap, ◌∙◌}
 use Rattle.std.proofs.Math.Seq.{take-append_seam}
 use Rattle.std.proofs.lemmas.Bool.{cases_eq, cases_lt, true≢false}
 use Rattle.std.proofs.lemmas.List.{get_or-set_same, get_or-set_other, length-set, length-replicate, get_or_past}
@@ -73,25 +73,6 @@ edge_more was node next more is to old new e h below made = record {
 
         back : IsIn m (get_or was n []) ⊎ ((m ≡ node) × IsIn n more) → IsIn m (get_or (set is to new) n [])
         back p = subst (λ l. IsIn m l) (sym kept) ((h.edges m n).1 (narrower p))
-
--- empty lists
-pub lists_more : (count : ℕ) → replicate {A = List ℕ} (count + 1) [] ≡ replicate count [] ++ [] ∷ []
-lists_more count = ap (λ (k : ℕ). replicate {A = List ℕ} k []) (add_one count) ∙ grown count
-  where
-    add_one : (k : ℕ) → k + 1 ≡ suc k
-    add_one k = omega arith
-
-    grown : (k : ℕ) → replicate {A = List ℕ} (suc k) [] ≡ replicate k [] ++ [] ∷ []
-    grown zero = refl
-    grown (suc k) = ap (λ (l : List (List ℕ)). [] ∷ l) (grown k)
-
-none_there : (count m n : ℕ) → IsIn m (get_or (replicate {A = List ℕ} count []) n []) → ⊥
-none_there zero m n h = h
-none_there (suc count) m zero h = h
-none_there (suc count) m (suc n) h = none_there count m n h
-
-pub no_edges_back : (next : List (List ℕ)) (count : ℕ) → AreEdgesBack next 0 (replicate {A = List ℕ} count [])
-no_edges_back next count = λ m n. ((λ h. absurd (none_there count m n h)), λ p. absurd (omega (arith, p.0)))
 
 pub edges_back_more : (next : List (List ℕ)) (k : ℕ) (back new : List (List ℕ)) → AreEdgesBack next k back → HasEdges back k (get_or next k []) new → AreEdgesBack next (k + 1) new
 edges_back_more next k back new was h = λ m n. ((λ i. there m n ((h.edges m n).0 i)), λ p. (h.edges m n).1 (from m n p))

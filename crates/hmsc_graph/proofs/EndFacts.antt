@@ -1,5 +1,5 @@
 -- Walks to `end` lines, forwards and backwards.
-use Rattle.std.proofs.Common.{ℕ, [], ◌∷◌, ◌++◌, get_or, ◌<◌, ◌≡◌, ◌↔◌, ◌⊎◌, inl, inr, List, Bool, true, false, IsTrue, refl, sym, subst, ◌∙◌, Option, Some, None, Result, Ok, Err, IfOk}
+use Rattle.std.proofs.Common.{ℕ, [], ◌∷◌, ◌++◌, get_or, ◌+◌, ◌<◌, ◌≡◌, ◌↔◌, ◌⊎◌, inl, inr, List, Bool, true, false, IsTrue, refl, sym, subst, arith, ◌∙◌, Option, Some, None, Result, Ok, Err, IfOk}
 use Rattle.std.proofs.lemmas.Bool.{true≢false, cases_lt}
 use Rattle.std.proofs.lemmas.List.{get_or_past}
 use Rattle.bit_sets.specs.NodeSets.{NodeSetValue}
@@ -7,8 +7,8 @@ use Rattle.hmsc_graph.specs.Graphs.{Net, Spot, Start, At, Goal, To, End, Any, Wa
 use Rattle.msc_base.specs.Lists.{IsIn}
 use Rattle.hmsc_graph.specs.Nets.{IsNet, size_of}
 use Rattle.hmsc_graph.specs.Reversals.{AreBefore, AreEdgesBack, way_of}
-use Rattle.hmsc_graph.specs.Searches.{IsFirstLost, LeadsOn, OneLeads}
-use Rattle.hmsc_graph.specs.Walks.{Leads, MayReach, IsFirstEndless}
+use Rattle.hmsc_graph.specs.Searches.{IsFirstLost, IsLost, LeadsOn, OneLeads}
+use Rattle.hmsc_graph.specs.Walks.{Leads, MayReach, IsEndless, IsFirstEndless}
 use Rattle.hmsc_graph.proofs.EdgeFacts.{behind_node}
 use Rattle.hmsc_graph.proofs.MemberFacts.{in_pushed}
 use Rattle.hmsc_graph.proofs.Reaching.{glue}
@@ -91,36 +91,74 @@ found_back g starts back allowed t (Err e) net edges are exact = tt
 way : (g : Net) (all : List ℕ) (s : Spot) (t : Goal) → WalkThrough g all s t → MayReach g s t
 way g all s t w = (all, w)
 
--- the first node that is reached and isn't met the other way is the first endless one
-pub first_endless : (g : Net) (starts : List ℕ) (back : List (List ℕ)) (all reached ending : List ℕ) (found : Option ℕ) → IsNet g → AreEdgesBack g.next (size_of g) back → ((m : ℕ) → IsIn m starts ↔ (arrives g End m ≡ true)) → ((n : ℕ) → n < size_of g → IsIn n all)
-    → ((m : ℕ) → IsIn m reached ↔ WalkThrough g all Start (To m)) → ((m : ℕ) → IsIn m ending ↔ WalkThrough (way_of starts back) all Start (To m))
-    → IsFirstLost (size_of g) reached ending found → IsFirstEndless g found
-first_endless g starts back all reached ending found net edges are each forth behind_ lost = choose found lost
+-- a search the other way from the `end` lines finds what is one or can reach one
+pub ends_back : (g : Net) (starts : List ℕ) (back : List (List ℕ)) (all ending : List ℕ) → IsNet g → AreEdgesBack g.next (size_of g) back → ((m : ℕ) → IsIn m starts ↔ (arrives g End m ≡ true)) → ((n : ℕ) → n < size_of g → IsIn n all)
+    → ((m : ℕ) → IsIn m ending ↔ WalkThrough (way_of starts back) all Start (To m)) → (m : ℕ) → IsIn m ending ↔ ((arrives g End m ≡ true) ⊎ WalkThrough g all (At m) End)
+ends_back g starts back all ending net edges are each found m = (
+  λ i. turned_end g starts back net edges all are m ((found m).0 i),
+  λ p. elim p [
+    | inl is ↦ (found m).1 (end_turned g starts back net edges all are m is)
+    | inr w ↦ (found m).1 (way_turned g starts back net edges all are each m w)
+  ],
+)
+
+module _ (g : Net) (all reached ending : List ℕ) (net : IsNet g) (each : (n : ℕ) → n < size_of g → IsIn n all) (forth : (m : ℕ) → IsIn m reached ↔ WalkThrough g all Start (To m)) (ends : (m : ℕ) → IsIn m ending ↔ ((arrives g End m ≡ true) ⊎ WalkThrough g all (At m) End)) where
+  meets : (m : ℕ) → MayReach g Start (To m) → IsIn m reached
+  meets m w = (forth m).1 (pass_all g w.0 all Start (To m) net each w.1)
+
+  comes_to_end : (m : ℕ) → IsIn m ending → arrives g End m ≡ false → MayReach g (At m) End
+  comes_to_end m i inner = elim ((ends m).0 i) [
+    | inl is ↦ absurd (true≢false (sym is ∙ inner))
+    | inr w ↦ way g all (At m) End w
+  ]
+
+  open_node : (m : ℕ) → (IsIn m ending → ⊥) → (b : Bool) → arrives g End m ≡ b → arrives g End m ≡ false
+  open_node m none true e = absurd (none ((ends m).1 (inl e)))
+  open_node m none false e = e
+
+  lost_is_endless : (m : ℕ) → IsIn m reached → (IsIn m ending → ⊥) → IsEndless g m
+  lost_is_endless m there none = record {
+    reached = way g all Start (To m) ((forth m).0 there);
+    inner = open_node m none (arrives g End m) refl;
+    stuck = λ w. none ((ends m).1 (inr (pass_all g w.0 all (At m) End net each w.1)));
+  }
+
+  -- the first node that is reached and isn't met the other way is the first endless one
+  pub first_endless : (found : Option ℕ) → IsFirstLost (size_of g) reached ending found → IsFirstEndless g found
+  first_endless (Some n) (below, there, none, before) = (lost_is_endless n there none, λ m lt w inner. comes_to_end m (before m lt (meets m w)) inner)
+  first_endless None f = λ m w inner. comes_to_end m (f m (walk_below g w.0 Start m net w.1) (meets m w)) inner
+
+  -- all such nodes are the endless ones
+  pub all_endless : (m : ℕ) → IsLost (size_of g) reached ending m ↔ IsEndless g m
+  all_endless m = (
+    λ lost. lost_is_endless m lost.1 lost.2,
+    λ e. (walk_below g e.reached.0 Start m net e.reached.1, meets m e.reached, λ i. e.stuck (comes_to_end m i e.inner)),
+  )
+
+-- one number more was looked at
+pub lost_kept : (n : ℕ) (reached ending set : List ℕ) → (IsIn n reached → IsIn n ending) → ((m : ℕ) → IsIn m set ↔ IsLost n reached ending m) → (m : ℕ) → IsIn m set ↔ IsLost (n + 1) reached ending m
+lost_kept n reached ending set ends are m = (
+  λ i. let p = (are m).0 i in (omega (arith, p.0), p.1, p.2),
+  λ (lt, there, none). (are m).1 (below lt (λ e. none (subst (λ (x : ℕ). IsIn x ending) (sym e) (ends (subst (λ (x : ℕ). IsIn x reached) e there)))), there, none),
+)
   where
-    meets : (m : ℕ) → MayReach g Start (To m) → IsIn m reached
-    meets m w = (forth m).1 (pass_all g w.0 all Start (To m) net each w.1)
+    below : m < n + 1 → (m ≡ n → ⊥) → m < n
+    below lt other = grind arith
 
-    inner_end : (m : ℕ) → arrives g End m ≡ false → (arrives g End m ≡ true) ⊎ WalkThrough g all (At m) End → MayReach g (At m) End
-    inner_end m inner (inl is) = absurd (true≢false (sym is ∙ inner))
-    inner_end m inner (inr w) = way g all (At m) End w
-
-    ends : (m : ℕ) → IsIn m ending → arrives g End m ≡ false → MayReach g (At m) End
-    ends m i inner = inner_end m inner (turned_end g starts back net edges all are m ((behind_ m).0 i))
-
-    open_node : (m : ℕ) → (IsIn m ending → ⊥) → (b : Bool) → arrives g End m ≡ b → arrives g End m ≡ false
-    open_node m none true e = absurd (none ((behind_ m).1 (end_turned g starts back net edges all are m e)))
-    open_node m none false e = e
-
-    choose : (o : Option ℕ) → IsFirstLost (size_of g) reached ending o → IsFirstEndless g o
-    choose (Some n) (below, there, none, before) = (
-      record {
-        reached = way g all Start (To n) ((forth n).0 there);
-        inner = open_node n none (arrives g End n) refl;
-        stuck = λ w. none ((behind_ n).1 (way_turned g starts back net edges all are each n (pass_all g w.0 all (At n) End net each w.1)));
-      },
-      λ m lt w inner. ends m (before m lt (meets m w)) inner,
-    )
-    choose None f = λ m w inner. ends m (f m (walk_below g w.0 Start m net w.1) (meets m w)) inner
+pub lost_more : (n : ℕ) (reached ending set more : List ℕ) → IsIn n reached → (IsIn n ending → ⊥) → ((m : ℕ) → IsIn m set ↔ IsLost n reached ending m) → ((m : ℕ) → IsIn m more ↔ (IsIn m set ⊎ (m ≡ n))) → (m : ℕ) → IsIn m more ↔ IsLost (n + 1) reached ending m
+lost_more n reached ending set more there none are added m = (
+  λ i. elim ((added m).0 i) [
+    | inl old ↦ let p = (are m).0 old in (omega (arith, p.0), p.1, p.2)
+    | inr e ↦ (omega (arith, e), subst (λ (x : ℕ). IsIn x reached) (sym e) there, λ j. none (subst (λ (x : ℕ). IsIn x ending) e j))
+  ],
+  λ (lt, here, open_here). elim (first lt) [
+    | inl l ↦ (added m).1 (inl ((are m).1 (l, here, open_here)))
+    | inr e ↦ (added m).1 (inr e)
+  ],
+)
+  where
+    first : m < n + 1 → (m < n) ⊎ (m ≡ n)
+    first lt = grind arith
 
 -- a walk leads there where one of the nodes behind its start is the goal, or leads on
 pub walk_by_one : (g : Net) (s : Spot) (t : Goal) (allowed leading : List ℕ) → IsNet g → ((m : ℕ) → m < size_of g → IsIn m leading ↔ WalkThrough g allowed (At m) t) → OneLeads g (behind g s) allowed leading t ↔ WalkThrough g allowed s t

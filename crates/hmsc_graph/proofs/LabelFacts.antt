@@ -1,10 +1,10 @@
 -- Labels of lines, and the faults that are met.
-use Rattle.std.proofs.Common.{ℕ, zero, suc, ◌+◌, ◌<◌, ◌≤◌, ◌≡◌, inl, inr, List, [], ◌∷◌, ◌++◌, length, map, take, Bool, true, false, cond, not, nat_lt, Option, Some, None, fold, refl, sym, subst, arith, ap, ap₂, ◌∙◌, append_assoc, filter_map, get_or, Result, Ok, Err, OnOk}
+use Rattle.std.proofs.Common.{ℕ, zero, suc, ◌+◌, ◌<◌, ◌≤◌, ◌≡◌, inl, inr, List, [], ◌∷◌, ◌++◌, length, map, take, Bool, true, false, cond, not, nat_lt, Option, Some, None, fold, refl, sym, subst, arith, ap, ap₂, ◌∙◌, filter_map, get_or, Result, Ok, Err, OnOk}
 use Rattle.std.proofs.lemmas.Bool.{ltb-true, lt-ltb, le-ltb, true≢false}
 use Rattle.std.proofs.lemmas.List.{take_more, append-nil, length-map}
-use Rattle.std.proofs.lemmas.List.Sums.{fold_more, fold-append}
+use Rattle.std.proofs.lemmas.List.Sums.{fold_more}
 use Rattle.std.proofs.lemmas.List.Elements.{filter_map-append}
-use Rattle.std.specs.List.{position, list_any, prefix_len, flat_map, cons_option}
+use Rattle.std.specs.List.{position, list_any, prefix_len, cons_option}
 use Rattle.std.specs.Option.{is_some}
 use Rattle.std.specs.Str.{bytes_eq}
 use Rattle.msc_base.specs.NameTables.{with_name}
@@ -102,22 +102,6 @@ module _ (names : List (List ℕ)) (labels : List LabelRef) (i : ℕ) (label : L
 
   pub new_found : number_in names label ≡ None → earliest found label.place ≡ fold (with_label names) start (take (i + 1) labels)
   new_found e = sym (folded ∙ label_new names found label e)
-
--- one more line
-pub unknown_more : (names : List (List ℕ)) (starts : List LabelRef) (lines : List ShapeLine) (i : ℕ) (line : ShapeLine) (found new : Option Place) → i < length lines → line ≡ get_or lines i line
-    → found ≡ fold (with_label names) None (starts ++ flat_map (λ l. l.next) (take i lines)) → new ≡ fold (with_label names) found line.next
-    → new ≡ fold (with_label names) None (starts ++ flat_map (λ l. l.next) (take (i + 1) lines))
-unknown_more names starts lines i line found new below is before after =
-    let labels : starts ++ flat_map (λ l. l.next) (take (i + 1) lines) ≡ (starts ++ flat_map (λ l. l.next) (take i lines)) ++ line.next =
-    ap (λ (ls : List ShapeLine). starts ++ flat_map (λ l. l.next) ls) (take_more lines i line below ∙ ap (λ (l : ShapeLine). take i lines ++ l ∷ []) (sym is))
-    ∙ ap (λ (ls : List LabelRef). starts ++ ls) (flat_map_added (take i lines) line)
-    ∙ sym (append_assoc starts (flat_map (λ l. l.next) (take i lines)) line.next) in
-    after ∙ ap (λ (o : Option Place). fold (with_label names) o line.next) before
-    ∙ sym (ap (fold (with_label names) None) labels ∙ fold-append (with_label names) None (starts ++ flat_map (λ l. l.next) (take i lines)) line.next)
-  where
-    flat_map_added : (ls : List ShapeLine) (line : ShapeLine) → flat_map (λ l. l.next) (ls ++ line ∷ []) ≡ flat_map (λ l. l.next) ls ++ line.next
-    flat_map_added [] line = append-nil line.next
-    flat_map_added (l ∷ ls) line = ap (λ (rest : List LabelRef). l.next ++ rest) (flat_map_added ls line) ∙ sym (append_assoc l.next (flat_map (λ k. k.next) ls) line.next)
 
 -- the numbers are those of the names
 number_below : (names : List (List ℕ)) (labels : List LabelRef) (m : ℕ) → IsIn m (filter_map (number_in names) labels) → m < length names

@@ -5,3 +5,4 @@ pub mod LabelFacts
 pub mod MemberFacts
 pub mod Reaching
 pub mod SearchFacts
+pub mod WayFacts

@@ -53,7 +53,7 @@ missing_same old new (suc s) f =
     rw (here, rest) refl
 
 -- a number more is one less that is missing
-missing_added : (old new : List ℕ) (x size : ℕ) → ((n : ℕ) → IsIn n new ↔ (IsIn n old ⊎ (n ≡ x))) → (IsIn x old → ⊥) → x < size → missing new size + 1 ≡ missing old size
+pub missing_added : (old new : List ℕ) (x size : ℕ) → ((n : ℕ) → IsIn n new ↔ (IsIn n old ⊎ (n ≡ x))) → (IsIn x old → ⊥) → x < size → missing new size + 1 ≡ missing old size
 missing_added old new x zero f none below = absurd (omega arith)
 missing_added old new x (suc s) f none below = elim (cases_eq s x) [
   | inl e ↦

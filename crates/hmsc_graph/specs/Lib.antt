@@ -5,4 +5,6 @@ pub mod Reversals
 pub mod Searches
 pub mod Shapes
 pub mod Spots
+pub mod Steps
 pub mod Walks
+pub mod Ways

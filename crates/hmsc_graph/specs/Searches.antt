@@ -33,6 +33,10 @@ abbrev pub IsFirstLost : ℕ → List ℕ → List ℕ → Option ℕ → Type 0
 IsFirstLost size reached ending (Some node) = (node < size) × IsIn node reached × (IsIn node ending → ⊥) × ((m : ℕ) → m < node → IsIn m reached → IsIn m ending)
 IsFirstLost size reached ending None = (m : ℕ) → m < size → IsIn m reached → IsIn m ending
 
+-- the number is below the size, and the first list has it and the second lacks it
+abbrev pub IsLost : ℕ → List ℕ → List ℕ → ℕ → Type 0
+IsLost size reached ending node = (node < size) × IsIn node reached × (IsIn node ending → ⊥)
+
 -- a walk that comes to the node is at the goal, or may go on to it
 abbrev pub LeadsOn : Net → ℕ → List ℕ → List ℕ → Goal → Type 0
 LeadsOn g m allowed leading t = (arrives g t m ≡ true) ⊎ (IsIn m allowed × IsIn m leading)

@@ -10,9 +10,9 @@ use std::alloc::Global;
 
 /// The labels of lines, each once, and the earliest line whose label a line before it has.
 #[derive(Drop)]
-pub struct Labels {
-    pub table: NameTable,
-    pub twice: Option<Place>,
+pub(crate) struct Labels {
+    pub(crate) table: NameTable,
+    pub(crate) twice: Option<Place>,
 }
 
 impl Labels {
@@ -29,7 +29,7 @@ impl Labels {
     }
 
     /// The labels of the lines.
-    pub fn of(alloc: Global, lines: &[ShapeLine]) -> Result<Labels, NoMemory>
+    pub(crate) fn of(alloc: Global, lines: &[ShapeLine]) -> Result<Labels, NoMemory>
         ensures { IfOk result (λ labels. labels ≡ fold with_line (record { table = []; twice = None }) lines.now) }
     {
         let mut labels = Labels {
@@ -44,7 +44,7 @@ impl Labels {
 }
 
 /// The numbers of the labels that the table has. The earliest of the others is kept in `unknown`, if none there is earlier.
-pub fn numbers_of(
+pub(crate) fn numbers_of(
     alloc: Global,
     table: &NameTable,
     labels: &[LabelRef],

@@ -11,10 +11,12 @@ mod search;
 mod shape;
 mod spot;
 mod walks;
+mod ways;
 
-pub use ending::endless;
+pub use ending::{endless, endless_nodes};
 pub use net::{Net, NetFault};
 pub use search::Traversal;
 pub use shape::{Shape, ShapeLine, ShapeLines};
 pub use spot::{Goal, Spot};
 pub use walks::{has_walk, leads, reach, reach_back};
+pub use ways::way_through;

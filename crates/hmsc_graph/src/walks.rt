@@ -55,7 +55,7 @@ pub fn reach_back(
 }
 
 /// Whether the goal is the node.
-fn arrives(net: &Net, to: Goal, node: u32) -> bool
+pub(crate) fn arrives(net: &Net, to: Goal, node: u32) -> bool
     requires { node < size_of net.now }
     ensures { result ≡ arrives net.now (goal_of to) node }
 {

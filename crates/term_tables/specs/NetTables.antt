@@ -1,6 +1,7 @@
 -- The tables of labels and nets that are stored.
 use Rattle.std.specs.Prelude.{ℕ, zero, suc, ◌≡◌, ◌≤◌, List, [], ◌∷◌, length}
 use Rattle.hmsc_graph.specs.Nets.{size_of}
+use Rattle.term_tables.specs.NetValues.{most_numbered}
 use Rattle.term_tables.specs.declared.nets.StoredNet.{StoredNet}
 use Rattle.chart_term.specs.Spreads.{spread_of}
 use Rattle.chart_term.specs.Tables.{NetEntry, Tables}
@@ -30,8 +31,8 @@ spread_at [] n = []
 spread_at (e ∷ es) zero = e.spread.instances
 spread_at (e ∷ es) (suc n) = spread_at es n
 
--- what holds of the stored nets: each has a number of 32 bits, and its instances are stored
+-- what holds of the stored nets: there are no more than have numbers, and its instances are stored
 pub record AreStored (es : List StoredNet) : Type 0 where
-  pub few : length es ≤ 4294967295
+  pub few : length es ≤ most_numbered
   pub sized : AreSized es
   pub spread : (i n : ℕ) → has (spread_at es i) n ≡ has (spread_of (tables_of es) i) n

@@ -1,5 +1,5 @@
 -- What a contract sees of the tables: the labels by their numbers, and the nets, the newest first.
-use Rattle.std.specs.Prelude.{List}
+use Rattle.std.specs.Prelude.{ℕ, List}
 use Rattle.msc_base.specs.declared.label.Label.{Label}
 use Rattle.chart_term.specs.Tables.{Tables}
 -- the number of a label in the table of labels
@@ -8,3 +8,7 @@ pub use Rattle.label_table.specs.Labels.{label_number}
 pub record NetsValue : Type 0 where
   pub labels : List Label
   pub tables : Tables
+
+-- so many labels are numbered at most, and so many nets: numbers have 32 bits
+abbrev pub most_numbered : ℕ
+most_numbered = 4294967295

@@ -3,7 +3,7 @@
 ghost use Rattle.std.specs.Prelude.{◌≡◌, ◌<◌, ℕ, ◌++◌, ◌∷◌, [], nat_lt, length, Contains, Some, slice_get, IfSome, IfNone, IfOk, OnOk, OnErr};
 ghost use Rattle.hmsc_graph.specs.Nets.{size_of};
 ghost use Rattle.hmsc_graph.specs.Spots.{goal_of, spot_of};
-ghost use Rattle.term_tables.specs.NetValues.{label_number};
+ghost use Rattle.term_tables.specs.NetValues.{label_number, most_numbered};
 ghost use Rattle.term_tables.specs.Fitting.{fits, goal_fits, spot_fits, walk_fits};
 ghost use Rattle.chart_term.specs.Spreads.{spread_of, touch};
 ghost use Rattle.chart_term.specs.Tables.{net_count, net_of, nodes_of, node_of};
@@ -70,13 +70,27 @@ impl Nets {
     /// Appends a label, and gives its number. After want of memory the tables are as they were, and
     /// the label is dropped.
     pub fn add_label(&mut self, label: Label) -> Result<u32, NoMemory>
-        requires few { length self.old.labels < 4294967295 }
+        requires few { length self.old.labels < most_numbered }
         requires new { Contains self.old.labels label → ⊥ }
         ensures number { IfOk result (λ number. number ≡ length self.old.labels) }
         ensures ok { OnOk result (self.new ≡ record self.old { labels = self.old.labels ++ label ∷ [] }) }
         ensures err { OnErr result (self.new ≡ self.old) }
     {
         self.labels.add(label)
+    }
+
+    /// How many labels the tables have. It takes no memory.
+    pub fn labels(&self) -> u32
+        ensures { result ≡ length self.now.labels }
+    {
+        self.labels.len()
+    }
+
+    /// How many nets the tables have. It takes no memory.
+    pub fn count(&self) -> u32
+        ensures { result ≡ net_count self.now.tables }
+    {
+        self.stored.len() as u32
     }
 
     /// The number of a label, if the table has it. It takes no memory.
@@ -91,7 +105,7 @@ impl Nets {
     /// Appends a net with the term of each of its nodes, and gives its number. After want of memory
     /// the tables are as they were, and the net is dropped.
     pub fn add_net(&mut self, net: Net, nodes: TermList) -> Result<u32, NoMemory>
-        requires few { net_count self.old.tables < 4294967295 }
+        requires few { net_count self.old.tables < most_numbered }
         requires sized { size_of net ≡ length nodes }
         ensures number { IfOk result (λ number. number ≡ net_count self.old.tables) }
         ensures ok { OnOk result (self.new ≡ record self.old { tables = record { net = net; nodes = nodes } ∷ self.old.tables }) }
