@@ -1,1 +1,2 @@
 pub mod OperandCounts
+pub mod TextSizes

@@ -1,6 +1,7 @@
 -- The forms that aren't built yet, and where a chart has them: in its heads, in its statements at any depth, or as it is a graph.
-use Rattle.std.specs.Prelude.{Bool, true, false, not, ◌||◌, List, [], ◌∷◌, ◌++◌, Option, Some, None, ℕ}
-use Rattle.level_pieces.specs.Unwoven.{is_one, place_if}
+use Rattle.std.specs.Prelude.{Bool, true, false, not, ◌||◌, List, [], ◌∷◌, ◌++◌, Option, Some, None, ℕ, length, nat_eq}
+use Rattle.chart_text.specs.Gathering.{gathered, place_if}
+use Rattle.chart_text.specs.Texts.{Passage, a_head, a_statement, an_item, an_operand, Side, in_column, behind, behind_all, chart_text}
 use Rattle.msc_base.specs.Lists.{IsAmong}
 use Rattle.msc_base.specs.declared.place.Place.{Place}
 use Rattle.msc_tree.specs.declared.chart.Decl.{Decl}
@@ -8,8 +9,14 @@ use Rattle.msc_tree.specs.declared.event.RawEvent.{RawEvent}
 use Rattle.msc_tree.specs.declared.reference.InlineForm.{InlineForm}
 use Rattle.msc_tree.specs.declared.reference.InlineForm.TheVariants as inline
 use Rattle.msc_tree.specs.Charts.{Chart, Content, Basic, HighLevel}
-use Rattle.msc_tree.specs.Statements.{Item, placed, Form, Single, Coregion, Condition, Inline, Refer, Stop, Items, no_items, item_and, Operand, InColumn, Outside, Operands, no_operands, operand_and, Statement, Column, Covered, Heading, Ended, Statements, no_statements, statement_and, statements}
+use Rattle.msc_tree.specs.Statements.{Form, Single, Coregion, Condition, Inline, Refer, Stop, Operands, no_operands, operand_and, Statement, Column, Covered, Heading, Ended}
 use Rattle.chart_forms.specs.BuiltBodies.{is_plain}
+
+-- an item stands at one instance: in its column, or behind a colon with its name alone
+abbrev pub stands_at_one : Side → Bool
+stands_at_one (in_column name) = true
+stands_at_one (behind names) = nat_eq (length names) 1
+stands_at_one (behind_all scope) = false
 
 -- an event with a gate or a creation isn't built; nor is one that doesn't stand at one instance, which no text has
 abbrev pub not_built_event : Bool → RawEvent → List Place
@@ -49,47 +56,36 @@ abbrev pub not_built_decls : List Decl → List Place
 not_built_decls [] = []
 not_built_decls (d ∷ ds) = not_built_decl d ++ not_built_decls ds
 
--- references and stops aren't built; what stands in an operand is looked at in turn
-abbrev mutual
-  pub not_built_form : Bool → Place → Form → List Place
-  not_built_form at_one place (Inline head held) = place_if (not (takes head.form held)) place ++ not_built_operands at_one held
-  not_built_form at_one place (Single e) = not_built_event at_one e
-  not_built_form at_one place (Coregion events) = not_built_coregion at_one place events
-  not_built_form at_one place (Condition names shared) = []
-  not_built_form at_one place (Refer reference) = place ∷ []
-  not_built_form at_one place Stop = place ∷ []
+-- of an item by itself: references and stops aren't built
+abbrev pub not_built_item : Bool → Place → Form → List Place
+not_built_item at_one place (Inline head held) = place_if (not (takes head.form held)) place
+not_built_item at_one place (Single e) = not_built_event at_one e
+not_built_item at_one place (Coregion events) = not_built_coregion at_one place events
+not_built_item at_one place (Condition names shared) = []
+not_built_item at_one place (Refer reference) = place ∷ []
+not_built_item at_one place Stop = place ∷ []
 
-  pub not_built_item : Bool → Item → List Place
-  not_built_item at_one (placed place form) = not_built_form at_one place form
+-- of what a statement declares
+abbrev pub not_built_heading : Statement → List Place
+not_built_heading (Column decl held) = not_built_decl decl
+not_built_heading (Covered cover held) = []
+not_built_heading (Heading decl) = not_built_decl decl
+not_built_heading (Ended name) = []
 
-  pub not_built_items : Bool → Items → List Place
-  not_built_items at_one no_items = []
-  not_built_items at_one (item_and x xs) = not_built_item at_one x ++ not_built_items at_one xs
+-- of a passage of the text
+abbrev pub not_built : Passage → List Place
+not_built (a_head decl) = not_built_decl decl
+not_built (a_statement depth scope x) = not_built_heading x
+not_built (an_item s place form) = not_built_item (stands_at_one s.side) place form
+not_built (an_operand s x) = []
 
-  pub not_built_operand : Bool → Operand → List Place
-  not_built_operand at_one (InColumn held) = not_built_items at_one held
-  not_built_operand at_one (Outside held) = not_built_statements held
-
-  pub not_built_operands : Bool → Operands → List Place
-  not_built_operands at_one no_operands = []
-  not_built_operands at_one (operand_and x xs) = not_built_operand at_one x ++ not_built_operands at_one xs
-
-  pub not_built_statement : Statement → List Place
-  not_built_statement (Column decl held) = not_built_decl decl ++ not_built_items true held
-  not_built_statement (Covered cover held) = not_built_items (is_one cover) held
-  not_built_statement (Heading decl) = not_built_decl decl
-  not_built_statement (Ended name) = []
-
-  pub not_built_statements : Statements → List Place
-  not_built_statements no_statements = []
-  not_built_statements (statement_and x xs) = not_built_statement x ++ not_built_statements xs
-
-abbrev pub not_built_content : Place → Content → List Place
-not_built_content place (Basic held) = not_built_statements (statements held)
-not_built_content place (HighLevel held) = place ∷ []
+-- a graph isn't built
+abbrev pub not_built_graph : Place → Content → List Place
+not_built_graph place (Basic held) = []
+not_built_graph place (HighLevel drawn) = place ∷ []
 
 abbrev pub not_built_chart : Chart → List Place
-not_built_chart chart = not_built_decls chart.decls ++ not_built_content chart.place chart.content
+not_built_chart chart = not_built_graph chart.place chart.content ++ gathered not_built (chart_text chart)
 
 -- such a form stands there
 abbrev pub IsNotBuilt : Chart → Place → Type 0

@@ -1,21 +1,19 @@
 //! The earliest form that isn't built yet, at any depth.
 
 ghost use Rattle.std.specs.Prelude.{◌≡◌, ◌++◌, IfOk, OnOk, map, true};
-ghost use Rattle.chart_forms.specs.NotBuilt.{IsNotBuilt, not_built_chart, not_built_content, not_built_coregion, not_built_decl, not_built_decls, not_built_event, not_built_events, not_built_form, not_built_items, not_built_operand, not_built_operands, not_built_statement, not_built_statements, takes as takes_operands};
-ghost use Rattle.level_pieces.specs.Unwoven.{is_one};
+ghost use Rattle.chart_forms.specs.NotBuilt.{IsNotBuilt, not_built as what_not, not_built_chart, not_built_coregion, not_built_decl, not_built_event, not_built_events, not_built_graph, not_built_heading, not_built_item, stands_at_one, takes as takes_operands};
+ghost use Rattle.chart_text.specs.Gathering.{gathered};
+ghost use Rattle.chart_text.specs.PassageViews.{passage_view, side_view, text_view};
+ghost use Rattle.chart_text.specs.Texts.{chart_text as text_of};
 ghost use Rattle.msc_base.specs.Places.{IsLeast};
-ghost use Rattle.msc_tree.specs.Statements.{items as item_tree, operands as operand_tree, statements as statement_tree};
-ghost use Rattle.msc_tree.specs.Views.{chart_view, content_view, form_view, inline_view, item_view, operand_view, statement_view};
+ghost use Rattle.msc_tree.specs.Statements.{operands as operand_tree};
+ghost use Rattle.msc_tree.specs.Views.{chart_view, content_view, form_view, operand_view, statement_view};
 
 use crate::plain::is_plain;
-use level_pieces::{earliest_place, note_if};
+use chart_text::{Passage, Side, earliest_place, note_if};
 use msc_base::{Items, NoMemory, Place};
-use msc_tree::{
-    Content, Cover, Decl, InlineForm, RawChart, RawEvent, RawForm, RawInline, RawItem, RawOperand,
-    Statement,
-};
+use msc_tree::{Content, Decl, InlineForm, RawChart, RawEvent, RawForm, RawOperand, Statement};
 use std::alloc::Global;
-use std::slice;
 
 /// Notes an event, where it isn't built.
 fn event(places: &mut Items<Place>, at_one: bool, event: &RawEvent) -> Result<(), NoMemory>
@@ -60,13 +58,14 @@ fn takes(form: InlineForm, list: &[RawOperand]) -> bool
     }
 }
 
-/// Whether one instance stands left of the colon.
-fn has_one(cover: &Cover) -> bool
-    ensures { result ≡ is_one cover.now }
+/// Whether an item stands at one instance.
+fn is_at_one(side: Side<'_>) -> bool
+    ensures { result ≡ stands_at_one (side_view side.entry) }
 {
-    match cover {
-        Cover::All => false,
-        Cover::Listed(names) => names.len() == 1,
+    match side {
+        Side::InColumn(_) => true,
+        Side::Behind(names) => names.len() == 1,
+        Side::BehindAll(_) => false,
     }
 }
 
@@ -80,138 +79,96 @@ fn decl(places: &mut Items<Place>, decl: &Decl) -> Result<(), NoMemory>
     }
 }
 
-/// Notes the declarations whose instances are decomposed.
-fn decls(places: &mut Items<Place>, list: &[Decl]) -> Result<(), NoMemory>
-    ensures { OnOk result (places.new ≡ places.old ++ not_built_decls list.now) }
-{
-    for held in list {
-        decl(places, held)?;
-    }
-    Ok(())
-}
-
-/// Notes the items that aren't built, by whether these stand at one instance.
-#[cycle(forms)]
-fn items(places: &mut Items<Place>, at_one: bool, list: &[RawItem]) -> Result<(), NoMemory>
-    ensures { OnOk result (places.new ≡ places.old ++ not_built_items at_one (item_tree (map item_view list.now))) }
-{
-    for held in list {
-        form(places, at_one, held.place.get(), &held.form)?;
-    }
-    Ok(())
-}
-
-/// Notes what of an item isn't built.
-#[cycle(forms)]
-fn form(
+/// Notes what of an item by itself isn't built.
+fn item(
     places: &mut Items<Place>,
     at_one: bool,
     place: Place,
     form: &RawForm,
 ) -> Result<(), NoMemory>
-    ensures { OnOk result (places.new ≡ places.old ++ not_built_form at_one place (form_view form.now)) }
+    ensures { OnOk result (places.new ≡ places.old ++ not_built_item at_one place (form_view form.now)) }
 {
     match form {
         RawForm::Single(held) => event(places, at_one, held),
         RawForm::Condition(_, _) => Ok(()),
         RawForm::Coregion(list) => coregion(places, at_one, place, list.as_slice()),
-        RawForm::Inline(held) => inline(places, at_one, place, held),
+        RawForm::Inline(held) => note_if(
+            places,
+            place,
+            !takes(held.form, held.operands.as_slice()),
+        ),
         RawForm::Reference(_) => places.push(place),
         RawForm::Stop => places.push(place),
     }
 }
 
-/// Notes an inline expression, where its form doesn't take so many operands, and what of these isn't built.
-#[cycle(forms)]
-fn inline(
-    places: &mut Items<Place>,
-    at_one: bool,
-    place: Place,
-    inline: &RawInline,
-) -> Result<(), NoMemory>
-    ensures { OnOk result (places.new ≡ places.old ++ not_built_form at_one place (inline_view inline.now)) }
-{
-    note_if(
-        places,
-        place,
-        !takes(inline.form, inline.operands.as_slice()),
-    )?;
-    operands(places, at_one, inline.operands.as_slice())
-}
-
-/// Notes what of operands isn't built.
-#[cycle(forms)]
-fn operands(places: &mut Items<Place>, at_one: bool, list: &[RawOperand]) -> Result<(), NoMemory>
-    ensures { OnOk result (places.new ≡ places.old ++ not_built_operands at_one (operand_tree (map operand_view list.now))) }
-{
-    for held in list {
-        operand(places, at_one, held)?;
-    }
-    Ok(())
-}
-
-/// Notes what of an operand isn't built.
-#[cycle(forms)]
-fn operand(places: &mut Items<Place>, at_one: bool, operand: &RawOperand) -> Result<(), NoMemory>
-    ensures { OnOk result (places.new ≡ places.old ++ not_built_operand at_one (operand_view operand.now)) }
-{
-    match operand {
-        RawOperand::Column(list) => items(places, at_one, list.as_slice()),
-        RawOperand::Covered(list) => statements(places, list.as_slice()),
-    }
-}
-
-/// Notes what of a statement isn't built.
-#[cycle(forms)]
-fn statement(places: &mut Items<Place>, statement: &Statement) -> Result<(), NoMemory>
-    ensures { OnOk result (places.new ≡ places.old ++ not_built_statement (statement_view statement.now)) }
+/// Notes what a statement declares, where it isn't built.
+fn heading(places: &mut Items<Place>, statement: &Statement) -> Result<(), NoMemory>
+    ensures { OnOk result (places.new ≡ places.old ++ not_built_heading (statement_view statement.now)) }
 {
     match statement {
-        Statement::Column(held, list) => {
-            decl(places, held.decl())?;
-            items(places, true, list.as_slice())
-        }
-        Statement::One(cover, held) => items(places, has_one(cover), slice::from_ref(held)),
-        Statement::Covered(cover, list) => items(places, has_one(cover), list.as_slice()),
+        Statement::Column(held, _) => decl(places, held.decl()),
         Statement::Heading(held) => decl(places, held.decl()),
+        Statement::One(_, _) => Ok(()),
+        Statement::Covered(_, _) => Ok(()),
         Statement::Ended(_) => Ok(()),
     }
 }
 
-/// Notes what of statements isn't built.
-#[cycle(forms)]
-fn statements(places: &mut Items<Place>, list: &[Statement]) -> Result<(), NoMemory>
-    ensures { OnOk result (places.new ≡ places.old ++ not_built_statements (statement_tree (map statement_view list.now))) }
+/// Notes what of a passage isn't built.
+fn passage(places: &mut Items<Place>, passage: Passage<'_>) -> Result<(), NoMemory>
+    ensures { OnOk result (places.new ≡ places.old ++ what_not (passage_view passage.entry)) }
 {
-    for held in list {
-        statement(places, held)?;
+    match passage {
+        Passage::Head(held) => decl(places, held),
+        Passage::Statement(_, _, held) => heading(places, held),
+        Passage::Item(standing, held) => {
+            let at_one = is_at_one(standing.side);
+            item(places, at_one, held.place.get(), &held.form)
+        }
+        Passage::Operand(_, _) => Ok(()),
+    }
+}
+
+/// Notes what of a text isn't built.
+fn passages(places: &mut Items<Place>, text: &[Passage<'_>]) -> Result<(), NoMemory>
+    ensures { OnOk result (places.new ≡ places.old ++ gathered what_not (text_view text.now)) }
+{
+    for held in text {
+        passage(places, *held)?;
     }
     Ok(())
 }
 
-/// Notes what of a chart's content isn't built.
-fn content(places: &mut Items<Place>, place: Place, content: &Content) -> Result<(), NoMemory>
-    ensures { OnOk result (places.new ≡ places.old ++ not_built_content place (content_view content.now)) }
+/// Notes a chart, where it is a graph.
+fn graph(places: &mut Items<Place>, place: Place, content: &Content) -> Result<(), NoMemory>
+    ensures { OnOk result (places.new ≡ places.old ++ not_built_graph place (content_view content.now)) }
 {
     match content {
-        Content::Events(list) => statements(places, list.as_slice()),
+        Content::Events(_) => Ok(()),
         Content::Graph(_) => places.push(place),
     }
 }
 
-/// Notes what of a chart isn't built.
-fn whole(places: &mut Items<Place>, chart: &RawChart) -> Result<(), NoMemory>
+/// Notes what of a chart, whose text that is, isn't built.
+fn whole(places: &mut Items<Place>, chart: &RawChart, text: &[Passage<'_>]) -> Result<(), NoMemory>
+    requires { text_view text.now ≡ text_of (chart_view chart.now) }
     ensures { OnOk result (places.new ≡ places.old ++ not_built_chart (chart_view chart.now)) }
 {
-    decls(places, chart.decls.as_slice())?;
-    content(places, chart.place, &chart.content)
+    graph(places, chart.place, &chart.content)?;
+    passages(places, text)
 }
 
-/// The earliest place at which a form stands that isn't built.
-pub fn first_not_built(alloc: Global, chart: &RawChart) -> Result<Option<Place>, NoMemory>
+/// The earliest place of a chart, whose text that is, at which a form stands that isn't built.
+pub fn first_not_built(
+    alloc: Global,
+    chart: &RawChart,
+    text: &[Passage<'_>],
+) -> Result<Option<Place>, NoMemory>
+    requires { text_view text.now ≡ text_of (chart_view chart.now) }
     ensures { IfOk result (IsLeast (IsNotBuilt (chart_view chart.now))) }
 {
     let mut places = Items::new(alloc);
-    whole(&mut places, chart)?;
+    whole(&mut places, chart, text)?;
     Ok(earliest_place(places.as_slice()))
 }

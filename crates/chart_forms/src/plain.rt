@@ -18,8 +18,15 @@ fn creates_nobody(kind: Kind) -> bool
     ensures { result ≡ makes_none kind }
 {
     match kind {
+        Kind::Output
+        | Kind::Input
+        | Kind::OutputLost
+        | Kind::InputFound
+        | Kind::Action
+        | Kind::TimerStart
+        | Kind::TimerStop
+        | Kind::Timeout => true,
         Kind::Create => false,
-        _ => true,
     }
 }
 
@@ -29,7 +36,7 @@ fn names_no_gate(target: &Target) -> bool
 {
     match target {
         Target::Env(Some(_)) | Target::Gate(_, _) => false,
-        _ => true,
+        Target::Nobody | Target::Env(None) | Target::Instance(_) => true,
     }
 }
 

@@ -1,5 +1,6 @@
 -- The forms that aren't woven: an event or a coregion that doesn't stand at one instance, at any depth, which no text has.
-use Rattle.std.specs.Prelude.{ℕ, Bool, true, false, not, List, [], ◌∷◌, ◌++◌, length, nat_eq, if◌then◌else◌}
+use Rattle.std.specs.Prelude.{ℕ, Bool, true, false, not, List, [], ◌∷◌, ◌++◌, length, nat_eq}
+use Rattle.chart_text.specs.Gathering.{place_if}
 use Rattle.msc_base.specs.Lists.{IsAmong}
 use Rattle.msc_base.specs.declared.place.Place.{Place}
 use Rattle.msc_tree.specs.declared.chart.Cover.{Cover}
@@ -14,9 +15,6 @@ is_at_one names = nat_eq (length names) 1
 abbrev pub is_one : Cover → Bool
 is_one All = false
 is_one (Listed names) = is_at_one names
-
-abbrev pub place_if : Bool → Place → List Place
-place_if holds place = if holds then place ∷ [] else []
 
 -- the places of such events, by whether what holds them stands at one instance
 abbrev mutual

@@ -3,11 +3,12 @@
 ghost use Rattle.std.specs.Prelude.{◌≡◌, ◌++◌, IfOk, OnOk, [], map};
 ghost use Rattle.item_order.specs.Answers.{IfStuck, IfWhole};
 ghost use Rattle.item_order.specs.Weaving.{IsCrossedAt, IsWoven};
-ghost use Rattle.level_pieces.specs.ItemEdges.{created_edges, creation_edges, item_edges, lead_edges, name_edge, own_edges};
+ghost use Rattle.level_pieces.specs.ItemEdges.{child_edges, created_edges, creation_edges, item_edges, lead_edges, name_edge, own_edges};
 ghost use Rattle.level_pieces.specs.ItemNumbers.{AreInside};
 ghost use Rattle.msc_meaning.specs.LevelItems.{columns_of};
 ghost use Rattle.level_pieces.specs.PieceViews.{part_view, setting_leads};
 ghost use Rattle.msc_base.specs.Lists.{AreDifferent};
+ghost use Rattle.msc_base.specs.declared.label.Kind.TheVariants.{Create};
 ghost use Rattle.msc_tree.specs.Views.{form_view};
 
 use crate::column_table::ColumnTable;
@@ -76,6 +77,23 @@ fn push_item(
     }
 }
 
+/// Appends the edge of a child, where it is an instance.
+fn push_child(
+    edges: &mut Vec<Edge>,
+    table: &ColumnTable<'_>,
+    target: &Target,
+    item: u32,
+) -> Result<(), NoMemory>
+    ensures { OnOk result (edges.new.items ≡ edges.old.items ++ child_edges table.now Create target.now item) }
+{
+    match target {
+        Target::Instance(child) => push_edge(edges, table, child, item),
+        Target::Nobody => Ok(()),
+        Target::Env(_) => Ok(()),
+        Target::Gate(_, _) => Ok(()),
+    }
+}
+
 /// Appends the edge of a creation in the column of the child.
 fn push_created(
     edges: &mut Vec<Edge>,
@@ -88,9 +106,16 @@ fn push_created(
     let RawForm::Single(event) = form else {
         return Ok(());
     };
-    match (event.kind, &event.target) {
-        (Kind::Create, Target::Instance(child)) => push_edge(edges, table, child, item),
-        _ => Ok(()),
+    match event.kind {
+        Kind::Create => push_child(edges, table, &event.target, item),
+        Kind::Output
+        | Kind::Input
+        | Kind::OutputLost
+        | Kind::InputFound
+        | Kind::Action
+        | Kind::TimerStart
+        | Kind::TimerStop
+        | Kind::Timeout => Ok(()),
     }
 }
 

@@ -18,7 +18,7 @@ pub use columns::woven_order;
 pub use counting::sum_of;
 pub use covers::covered;
 pub use items::{LevelItems, copied_events_of, copied_reference, level_items};
-pub use noting::{earlier_of, earliest_place, note_if};
+pub use noting::earlier_of;
 pub use operands::{LevelNames, item_operands, operands_of_form};
 pub use pieces::{LevelItem, Part, Piece, Setting, chart_pieces, lead_of};
 pub use unwoven::first_unwoven;

@@ -7,8 +7,8 @@ ghost use Rattle.msc_base.specs.Places.{IsLeast};
 ghost use Rattle.msc_tree.specs.Statements.{items as item_tree, operands as operand_tree, statements as statement_tree};
 ghost use Rattle.msc_tree.specs.Views.{form_view, inline_view, item_view, operand_view, statement_view};
 
-use crate::noting::{earliest_place, note_if};
 use crate::pieces::{Piece, Setting};
+use chart_text::{earliest_place, note_if};
 use msc_base::{Items, NoMemory, Place};
 use msc_tree::{Cover, RawForm, RawInline, RawItem, RawOperand, Statement};
 use std::alloc::Global;

@@ -17,3 +17,4 @@ pub mod JointLaws
 pub mod EventItems
 pub mod WalkSteps
 pub mod NumberLaws
+mod WalkedExceptions

@@ -21,7 +21,8 @@ use Rattle.msc_meaning.specs.Pieces.{Piece, covered, form_count, items_count, it
 use Rattle.level_pieces.specs.ItemNumbers.{AreInside, joint_name, joint_of}
 use Rattle.level_weaving.specs.LevelPairs.{number_of}
 use Rattle.level_weaving.specs.TextOrder.{AreInOneColumn, IsFormInOneColumn, IsInOneColumn, IsOneCovered, TextIsOrder, form_items, piece_items, pieces_items}
-use Rattle.level_pieces.specs.Unwoven.{AreAllWoven, is_at_one, place_if, unwoven_form}
+use Rattle.chart_text.specs.Gathering.{place_if}
+use Rattle.level_pieces.specs.Unwoven.{AreAllWoven, is_at_one, unwoven_form}
 use Rattle.level_pieces.proofs.ItemLaws.{Each, entries_inside, length_snoc}
 use Rattle.level_pieces.proofs.ItemLaws.{all_woven as none_unwoven}
 use Rattle.level_weaving.proofs.LevelLaws.{empty_uncrossed}

@@ -1,104 +1,31 @@
 //! The earliest exception that stands where it may not: inside an operand, or not covering all instances.
 
-ghost use Rattle.std.specs.Prelude.{◌≡◌, ◌++◌, ◌&&◌, IfOk, OnOk, map, not};
-ghost use Rattle.level_weaving.specs.Exceptions.{IsMisplaced, content_misplaced, covers_all as all_covered, form_exceptions, is_exception, items_exceptions, operand_exceptions, operands_exceptions, outer_form, outer_piece, outer_pieces, statement_exceptions, statements_exceptions};
+ghost use Rattle.std.specs.Prelude.{◌≡◌, ◌++◌, ◌&&◌, IfOk, OnOk, map, nat_eq, not};
+ghost use Rattle.chart_text.specs.Gathering.{gathered, place_if};
+ghost use Rattle.chart_text.specs.PassageViews.{passage_view, text_view};
+ghost use Rattle.chart_text.specs.Texts.{chart_text as text_of};
+ghost use Rattle.level_weaving.specs.Exceptions.{IsMisplaced, covers_all as all_covered, inner_exceptions, inner_item, is_exception, misplaced, outer_exceptions, outer_piece, outer_pieces};
 ghost use Rattle.level_pieces.specs.PieceViews.{piece_view, setting_column, setting_leads};
-ghost use Rattle.level_pieces.specs.Unwoven.{place_if};
 ghost use Rattle.msc_base.specs.Places.{IsLeast};
 ghost use Rattle.msc_instances.specs.Instances.{instances};
-ghost use Rattle.msc_meaning.specs.LevelItems.{cover_by, shared_of};
-ghost use Rattle.msc_tree.specs.Statements.{items as item_tree, operands as operand_tree, statements as statement_tree};
-ghost use Rattle.msc_tree.specs.Views.{chart_view, content_view, form_view, inline_view, item_view, operand_view, statement_view};
+ghost use Rattle.msc_meaning.specs.LevelItems.{cover_by};
+ghost use Rattle.msc_tree.specs.Statements.{statements as statement_tree};
+ghost use Rattle.msc_tree.specs.Views.{chart_view, content_view, form_view, statement_view};
 
-use level_pieces::{Piece, Setting, chart_pieces, covered, earliest_place, note_if};
+use chart_text::{Passage, earliest_place, note_if};
+use level_pieces::{Piece, Setting, chart_pieces, covered};
 use msc_base::{Items, Name, NameTable, Names, NoMemory, Place};
-use msc_tree::{Content, InlineForm, RawChart, RawForm, RawInline, RawItem, RawOperand, Statement};
+use msc_tree::{Content, InlineForm, RawChart, RawForm, RawInline};
 use std::alloc::Global;
-use std::slice;
 
 /// Whether the form is an exception.
 fn is_exc(form: InlineForm) -> bool
     ensures { result ≡ is_exception form }
 {
-    matches!(form, InlineForm::Exc)
-}
-
-/// Notes the exceptions among items.
-#[cycle(exceptions)]
-fn items(places: &mut Items<Place>, list: &[RawItem]) -> Result<(), NoMemory>
-    ensures { OnOk result (places.new ≡ places.old ++ items_exceptions (item_tree (map item_view list.now))) }
-{
-    for held in list {
-        form(places, held.place.get(), &held.form)?;
-    }
-    Ok(())
-}
-
-/// Notes the exceptions of an item.
-#[cycle(exceptions)]
-fn form(places: &mut Items<Place>, place: Place, form: &RawForm) -> Result<(), NoMemory>
-    ensures { OnOk result (places.new ≡ places.old ++ form_exceptions place (form_view form.now)) }
-{
     match form {
-        RawForm::Inline(held) => inline(places, place, held),
-        _ => Ok(()),
+        InlineForm::Exc => true,
+        InlineForm::Alt | InlineForm::Opt | InlineForm::Par | InlineForm::Loop => false,
     }
-}
-
-/// Notes an inline expression, where it is an exception, and the exceptions inside it.
-#[cycle(exceptions)]
-fn inline(places: &mut Items<Place>, place: Place, inline: &RawInline) -> Result<(), NoMemory>
-    ensures { OnOk result (places.new ≡ places.old ++ form_exceptions place (inline_view inline.now)) }
-{
-    note_if(places, place, is_exc(inline.form))?;
-    operands(places, inline.operands.as_slice())
-}
-
-/// Notes the exceptions inside operands.
-#[cycle(exceptions)]
-fn operands(places: &mut Items<Place>, list: &[RawOperand]) -> Result<(), NoMemory>
-    ensures { OnOk result (places.new ≡ places.old ++ operands_exceptions (operand_tree (map operand_view list.now))) }
-{
-    for held in list {
-        operand(places, held)?;
-    }
-    Ok(())
-}
-
-/// Notes the exceptions inside an operand.
-#[cycle(exceptions)]
-fn operand(places: &mut Items<Place>, operand: &RawOperand) -> Result<(), NoMemory>
-    ensures { OnOk result (places.new ≡ places.old ++ operand_exceptions (operand_view operand.now)) }
-{
-    match operand {
-        RawOperand::Column(list) => items(places, list.as_slice()),
-        RawOperand::Covered(list) => statements(places, list.as_slice()),
-    }
-}
-
-/// Notes the exceptions of a statement.
-#[cycle(exceptions)]
-fn statement(places: &mut Items<Place>, statement: &Statement) -> Result<(), NoMemory>
-    ensures { OnOk result (places.new ≡ places.old ++ statement_exceptions (statement_view statement.now)) }
-{
-    match statement {
-        Statement::Column(_, list) => items(places, list.as_slice()),
-        Statement::One(_, held) => items(places, slice::from_ref(held)),
-        Statement::Covered(_, list) => items(places, list.as_slice()),
-        Statement::Heading(_) => Ok(()),
-        Statement::Ended(_) => Ok(()),
-    }
-}
-
-/// Notes the exceptions of statements.
-#[cycle(exceptions)]
-fn statements(places: &mut Items<Place>, list: &[Statement]) -> Result<(), NoMemory>
-    ensures { OnOk result (places.new ≡ places.old ++ statements_exceptions (statement_tree (map statement_view list.now))) }
-{
-    for held in list {
-        statement(places, held)?;
-    }
-    Ok(())
 }
 
 /// Whether both hold.
@@ -120,6 +47,49 @@ fn covers_all(alloc: Global, names: &[Name], cover: &[Name]) -> Result<bool, NoM
     Ok(all)
 }
 
+/// Notes an item at that depth, where it is an exception inside an operand.
+fn inner(
+    places: &mut Items<Place>,
+    depth: u32,
+    place: Place,
+    form: &RawForm,
+) -> Result<(), NoMemory>
+    ensures { OnOk result (places.new ≡ places.old ++ inner_item depth place (form_view form.now)) }
+{
+    match form {
+        RawForm::Inline(held) => note_if(places, place, both(is_exc(held.form), depth != 0)),
+        RawForm::Single(_) => Ok(()),
+        RawForm::Coregion(_) => Ok(()),
+        RawForm::Condition(_, _) => Ok(()),
+        RawForm::Reference(_) => Ok(()),
+        RawForm::Stop => Ok(()),
+    }
+}
+
+/// Notes such an exception of a passage.
+fn passage(places: &mut Items<Place>, passage: Passage<'_>) -> Result<(), NoMemory>
+    ensures { OnOk result (places.new ≡ places.old ++ inner_exceptions (passage_view passage.entry)) }
+{
+    match passage {
+        Passage::Item(standing, held) => {
+            inner(places, standing.depth, held.place.get(), &held.form)
+        }
+        Passage::Head(_) => Ok(()),
+        Passage::Statement(_, _, _) => Ok(()),
+        Passage::Operand(_, _) => Ok(()),
+    }
+}
+
+/// Notes such exceptions of a text.
+fn passages(places: &mut Items<Place>, text: &[Passage<'_>]) -> Result<(), NoMemory>
+    ensures { OnOk result (places.new ≡ places.old ++ gathered inner_exceptions (text_view text.now)) }
+{
+    for held in text {
+        passage(places, *held)?;
+    }
+    Ok(())
+}
+
 /// Notes an inline expression of the outermost level, where it is an exception that doesn't cover all instances.
 fn uncovering(
     alloc: Global,
@@ -139,21 +109,6 @@ fn uncovering(
     note_if(places, place, !all)
 }
 
-/// The same, and the exceptions inside it.
-fn outer_inline(
-    alloc: Global,
-    places: &mut Items<Place>,
-    names: &Names,
-    setting: Setting<'_, '_>,
-    place: Place,
-    inline: &RawInline,
-) -> Result<(), NoMemory>
-    ensures { OnOk result (places.new ≡ places.old ++ outer_form (all_covered names.now (cover_by names.now (setting_leads setting.entry) (setting_column setting.entry) (shared_of (inline_view inline.now)))) place (inline_view inline.now)) }
-{
-    uncovering(alloc, places, names, setting, place, inline)?;
-    operands(places, inline.operands.as_slice())
-}
-
 /// The same of a piece.
 fn outer(
     alloc: Global,
@@ -164,15 +119,14 @@ fn outer(
     ensures { OnOk result (places.new ≡ places.old ++ outer_piece names.now (piece_view piece.entry)) }
 {
     match piece.form {
-        RawForm::Inline(held) => outer_inline(
-            alloc,
-            places,
-            names,
-            piece.setting,
-            piece.place,
-            held,
-        ),
-        _ => Ok(()),
+        RawForm::Inline(held) => {
+            uncovering(alloc, places, names, piece.setting, piece.place, held)
+        }
+        RawForm::Single(_) => Ok(()),
+        RawForm::Coregion(_) => Ok(()),
+        RawForm::Condition(_, _) => Ok(()),
+        RawForm::Reference(_) => Ok(()),
+        RawForm::Stop => Ok(()),
     }
 }
 
@@ -198,7 +152,7 @@ fn content(
     names: &Names,
     content: &Content,
 ) -> Result<(), NoMemory>
-    ensures { OnOk result (places.new ≡ places.old ++ content_misplaced names.now (content_view content.now)) }
+    ensures { OnOk result (places.new ≡ places.old ++ outer_exceptions names.now (content_view content.now)) }
 {
     match content {
         Content::Events(list) => {
@@ -209,16 +163,33 @@ fn content(
     }
 }
 
-/// The earliest place of a chart, whose instances `names` are, at which an exception stands that may not.
+/// The same of a chart, and the exceptions inside operands.
+fn whole(
+    alloc: Global,
+    places: &mut Items<Place>,
+    chart: &RawChart,
+    names: &Names,
+    text: &[Passage<'_>],
+) -> Result<(), NoMemory>
+    requires { text_view text.now ≡ text_of (chart_view chart.now) }
+    ensures { OnOk result (places.new ≡ places.old ++ misplaced names.now (chart_view chart.now)) }
+{
+    passages(places, text)?;
+    content(alloc, places, names, &chart.content)
+}
+
+/// The earliest place of a chart, whose instances `names` are and whose text that is, at which an exception stands that may not.
 pub fn first_misplaced(
     alloc: Global,
     chart: &RawChart,
     names: &Names,
+    text: &[Passage<'_>],
 ) -> Result<Option<Place>, NoMemory>
-    requires { names.now ≡ instances (chart_view chart.now) }
+    requires names { names.now ≡ instances (chart_view chart.now) }
+    requires text { text_view text.now ≡ text_of (chart_view chart.now) }
     ensures { IfOk result (IsLeast (IsMisplaced (chart_view chart.now))) }
 {
     let mut places = Items::new(alloc);
-    content(alloc, &mut places, names, &chart.content)?;
+    whole(alloc, &mut places, chart, names, text)?;
     Ok(earliest_place(places.as_slice()))
 }

@@ -2,8 +2,9 @@
 use Rattle.std.proofs.Common.{◌≡◌, ◌≤◌, length, arith, inl, inr, ℕ, true, nat_lt, List, [], ◌∷◌, refl, sym, subst, ap, ap₂, ◌∙◌}
 use Rattle.std.proofs.lemmas.Bool.{cases_lt}
 use Rattle.std.proofs.lemmas.Bool.Decides.{nat_tests}
-use Rattle.built_charts.specs.BuiltCharts.{BuiltChartsAreKnown, WovenChartsAreKnown}
+use Rattle.woven_laws.specs.BuiltCharts.{BuiltChartsAreKnown, WovenChartsAreKnown}
 use Rattle.chart_forms.specs.BuiltBodies.{is_built}
+use Rattle.chart_forms.proofs.TextSizes.{size_by_content}
 use Rattle.chart_forms.specs.ChartSizes.{content_size, size_of}
 use Rattle.chart_forms.specs.NotBuilt.{IsBuilt}
 use Rattle.general_ordering.specs.declared.faults.EventNameRule.TheVariants.{Twice}
@@ -83,7 +84,7 @@ module _ (built : BuiltChartsAreKnown) (known : WovenChartsAreKnown) where
         named_once = λ q m. keeps.named_once q (record { body = b.0; woven = woven_to; misnamed = m });
         ranked = subst ContentRanked b.1 ranked;
         few_instances = subst (λ (names : List (List ℕ)). length names ≤ INSTANCES) (sym cover) keeps.few_instances;
-        small = omega (arith, light, most, size);
+        small = omega (arith, light, most, size, size_by_content c);
       }
 
   -- ---- tables

@@ -1,6 +1,6 @@
 -- What charts whose forms are built are woven to.
 use Rattle.std.proofs.Common.{◌≡◌, ℕ, List, Option, Some, None, refl, sym, subst, ap, ◌∙◌}
-use Rattle.built_charts.specs.BuiltCharts.{BuiltChartsAreKnown}
+use Rattle.woven_laws.specs.BuiltCharts.{BuiltChartsAreKnown}
 use Rattle.chart_forms.specs.NotBuilt.{IsBuilt}
 use Rattle.event_order.specs.OrderLaws.{RanksRise}
 use Rattle.event_order.specs.Precedence.{IsCyclic}

@@ -1,8 +1,12 @@
 -- Charts whose items are neither inline expressions nor references: no rule on parts is broken there.
-use Rattle.std.proofs.Common.{◌≡◌, inl, inr, ℕ, ◌+◌, Bool, true, false, cond, ◌&&◌, List, [], ◌∷◌, ◌++◌, Option, None, refl, ap, ◌∙◌, subst}
+use Rattle.std.proofs.Common.{◌≡◌, inl, inr, ℕ, ◌+◌, Bool, true, false, cond, ◌&&◌, List, [], ◌∷◌, ◌++◌, Option, None, refl, ap, ◌∙◌, subst, map}
 use Rattle.std.specs.Prelude.{⊤}
 use Rattle.level_pieces.specs.ItemParts.{has_events}
-use Rattle.level_weaving.specs.Exceptions.{IsMisplaced, content_misplaced, outer_form, outer_pieces}
+use Rattle.level_weaving.specs.Exceptions.{IsMisplaced, inner_exceptions, outer_exceptions, outer_form, outer_pieces}
+use Rattle.chart_text.proofs.GatheringLaws.{gathered_append}
+use Rattle.chart_text.specs.Gathering.{gathered}
+use Rattle.chart_text.specs.Texts.{Scope, Standing, Whole, a_head, an_item, chart_text, content_text, form_text, items_text, statement_held, statements_text}
+use Rattle.msc_tree.specs.declared.chart.Decl.{Decl}
 use Rattle.msc_base.specs.Lists.{IsAmong}
 use Rattle.msc_base.specs.Places.{IsLeast}
 use Rattle.msc_base.specs.declared.place.Place.{Place}
@@ -116,10 +120,57 @@ no_places : (names : List (List ℕ)) (ps : List Piece) → AreSingle ps → out
 no_places names [] s = refl
 no_places names (p ∷ ps) s = ap (λ (l : List Place). l ++ outer_pieces names ps) (no_place _ p.place p.form s.0) ∙ no_places names ps s.1
 
-content_placed : (names : List (List ℕ)) (x : Content) → is_single_content x ≡ true → content_misplaced names x ≡ []
+content_placed : (names : List (List ℕ)) (x : Content) → is_single_content x ≡ true → outer_exceptions names x ≡ []
 content_placed names (Basic held) s = no_places names (statements_pieces names 0 (statements held)) (statements_single names 0 (statements held) s)
 content_placed names (HighLevel drawn) s = refl
 
+-- ---- inside operands, of which there are none
+
+both_none : (xs ys : List Place) → xs ≡ [] → ys ≡ [] → xs ++ ys ≡ []
+both_none xs ys a b = ap (λ l. l ++ ys) a ∙ b
+
+heads_free : (ds : List Decl) → gathered inner_exceptions (map a_head ds) ≡ []
+heads_free [] = refl
+heads_free (d ∷ ds) = heads_free ds
+
+item_free : (t : Standing) (place : Place) (form : Form) → is_single form ≡ true → gathered inner_exceptions (an_item t place form ∷ form_text t form) ≡ []
+item_free t place (Single event) s = refl
+item_free t place (Coregion held) s = refl
+item_free t place (Condition names shared) s = refl
+item_free t place (Inline head held) s = cc
+item_free t place (Refer reference) s = refl
+item_free t place Stop s = refl
+
+items_free : (t : Standing) (xs : Items) → are_single xs ≡ true → gathered inner_exceptions (items_text t xs) ≡ []
+items_free t no_items s = refl
+items_free t (item_and (placed place form) xs) s =
+    gathered_append inner_exceptions (an_item t place form ∷ form_text t form) (items_text t xs)
+    ∙ both_none (gathered inner_exceptions (an_item t place form ∷ form_text t form)) (gathered inner_exceptions (items_text t xs)) (item_free t place form (first_true (is_single form) (are_single xs) s))
+    (items_free t xs (second_true (is_single form) (are_single xs) s))
+
+statement_free : (depth : ℕ) (scope : Scope) (x : Statement) → is_single_statement x ≡ true → gathered inner_exceptions (statement_held depth scope x) ≡ []
+statement_free depth scope (Column decl held) s = items_free _ held s
+statement_free depth scope (Covered cover held) s = items_free _ held s
+statement_free depth scope (Heading decl) s = refl
+statement_free depth scope (Ended name) s = refl
+
+statements_free : (depth : ℕ) (scope : Scope) (xs : Statements) → are_single_statements xs ≡ true → gathered inner_exceptions (statements_text depth scope xs) ≡ []
+statements_free depth scope no_statements s = refl
+statements_free depth scope (statement_and x xs) s =
+    gathered_append inner_exceptions (statement_held depth scope x) (statements_text depth scope xs)
+    ∙ both_none (gathered inner_exceptions (statement_held depth scope x)) (gathered inner_exceptions (statements_text depth scope xs))
+    (statement_free depth scope x (first_true (is_single_statement x) (are_single_statements xs) s)) (statements_free depth scope xs (second_true (is_single_statement x) (are_single_statements xs) s))
+
+content_free : (x : Content) → is_single_content x ≡ true → gathered inner_exceptions (content_text x) ≡ []
+content_free (Basic held) s = statements_free 0 Whole (statements held) s
+content_free (HighLevel drawn) s = refl
+
+chart_free : (c : Chart) → is_single_chart c ≡ true → gathered inner_exceptions (chart_text c) ≡ []
+chart_free c s =
+    gathered_append inner_exceptions (map a_head c.decls) (content_text c.content)
+    ∙ both_none (gathered inner_exceptions (map a_head c.decls)) (gathered inner_exceptions (content_text c.content)) (heads_free c.decls) (content_free c.content s)
+
 -- no exception is misplaced
 pub exceptions_kept : (c : Chart) → is_single_chart c ≡ true → IsLeast (IsMisplaced c) None
-exceptions_kept c s = λ q b. subst (λ (l : List Place). IsAmong l q) (content_placed (instances c) c.content s) b
+exceptions_kept c s = λ q b.
+    subst (λ (l : List Place). IsAmong l q) (both_none (gathered inner_exceptions (chart_text c)) (outer_exceptions (instances c) c.content) (chart_free c s) (content_placed (instances c) c.content s)) b

@@ -3,7 +3,7 @@ use Rattle.std.specs.Prelude.{◌⊎◌, [], List}
 use Rattle.msc_base.specs.declared.place.Place.{Place}
 use Rattle.msc_tree.specs.Charts.{Chart, Document}
 use Rattle.msc_rules.specs.declared.rule.Rule.{Rule}
-use Rattle.msc_rules.specs.declared.rule.Rule.TheVariants.{NotBuilt, Charts, Instances, LoopBound, NamedTwice, Undeclared, Size, Total, NotShared, OperandsDiffer, ExcPlace, Crossed, Unmatched, UnknownEvent, EventNamedTwice, Cyclic}
+use Rattle.msc_rules.specs.declared.rule.Rule.TheVariants.{Bytes, BadByte, OpenString, OpenNote, LongName, Syntax, Unsupported, TooDeep, Charts, Instances, Nodes, LoopBound, NamedTwice, Undeclared, MissingChart, Recursive, Uncovered, ExpandedNesting, Size, Total, NotShared, OperandsDiffer, ExcPlace, Crossed, Unmatched, NoGate, GateTwice, GateWays, GateSplit, GateOnLoop, DecompositionMismatch, SharedPart, Inside, LocalEvent, UnknownEvent, EventNamedTwice, Cyclic, UnknownLabel, LabelNamedTwice, Endless, CreatePlace, CreateTwice, AfterStop, NotBuilt}
 use Rattle.msc_rules.specs.FirstFaults.{IsFirstFault, IsFaultless}
 use Rattle.msc_rules.specs.Rules.{group_of, number_of}
 use Rattle.chart_forms.specs.LoopBounds.{HasHighBound}
@@ -37,7 +37,36 @@ BreaksOf charts Unmatched place = InOne IsAloneAt charts place
 BreaksOf charts UnknownEvent place = InOne (IsMisnamedAt Unknown) charts place
 BreaksOf charts EventNamedTwice place = InOne (IsMisnamedAt Twice) charts place
 BreaksOf charts Cyclic place = InOne IsCyclicAt charts place
-BreaksOf charts _ place = ⊥
+-- rules on bytes, tokens and the grammar, which the reader of a text decides
+BreaksOf charts Bytes place = ⊥
+BreaksOf charts BadByte place = ⊥
+BreaksOf charts OpenString place = ⊥
+BreaksOf charts OpenNote place = ⊥
+BreaksOf charts LongName place = ⊥
+BreaksOf charts Syntax place = ⊥
+BreaksOf charts (Unsupported form) place = ⊥
+BreaksOf charts TooDeep place = ⊥
+-- rules on forms that aren't built
+BreaksOf charts Nodes place = ⊥
+BreaksOf charts MissingChart place = ⊥
+BreaksOf charts Recursive place = ⊥
+BreaksOf charts Uncovered place = ⊥
+BreaksOf charts ExpandedNesting place = ⊥
+BreaksOf charts NoGate place = ⊥
+BreaksOf charts GateTwice place = ⊥
+BreaksOf charts GateWays place = ⊥
+BreaksOf charts GateSplit place = ⊥
+BreaksOf charts GateOnLoop place = ⊥
+BreaksOf charts DecompositionMismatch place = ⊥
+BreaksOf charts SharedPart place = ⊥
+BreaksOf charts Inside place = ⊥
+BreaksOf charts LocalEvent place = ⊥
+BreaksOf charts UnknownLabel place = ⊥
+BreaksOf charts LabelNamedTwice place = ⊥
+BreaksOf charts Endless place = ⊥
+BreaksOf charts CreatePlace place = ⊥
+BreaksOf charts CreateTwice place = ⊥
+BreaksOf charts AfterStop place = ⊥
 
 -- the document breaks the rule at that place
 abbrev pub Breaks : Document → Rule → Place → Type 0

@@ -1,6 +1,5 @@
 -- How the charts of an accepted document are listed: their names, whether they are high-level charts, and their instances.
 use Rattle.std.specs.Prelude.{ℕ, Bool, true, false, List, [], map, Option}
-use Rattle.std.specs.Str.{bytes_eq}
 use Rattle.msc_tree.specs.declared.chart.Decl.{Decl}
 use Rattle.msc_meaning.specs.Bodies.{Body, level}
 use Rattle.msc_meaning.specs.Tables.{ChartEntry, Woven, Basic, HighLevel, refined_as}
@@ -27,7 +26,3 @@ content_instances (HighLevel drawn) = []
 -- each with the chart that refines it, by the declarations
 abbrev pub listed_of : ChartEntry → List Decl
 listed_of c = map (λ (n : List ℕ). as_listed n (refined_as c.decls n)) (content_instances c.content)
-
--- the chart has the name
-abbrev pub is_named : List ℕ → ChartEntry → Bool
-is_named chart_name c = bytes_eq c.name chart_name

@@ -12,10 +12,10 @@ ghost use Rattle.msc_acceptance.specs.AcceptedCharts.{AreAcceptedCharts};
 
 use crate::deciding::{Decision, decide};
 use crate::{Accepted, DocFault};
-use built_charts::laws::{built_charts_are_known, woven_charts_are_known};
 use msc_base::{NoMemory, Place};
 use msc_tree::RawDocument;
 use std::alloc::Global;
+use woven_laws::laws::{built_charts_are_known, woven_charts_are_known};
 
 /// The table of the document's charts, or the first rule that it breaks, and where. What a chart was read to is dropped as soon as
 /// the chart is woven.

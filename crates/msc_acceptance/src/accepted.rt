@@ -1,17 +1,13 @@
-//! The charts of an accepted document, asked by name and number.
+//! The charts of an accepted document, in the order of the text and by name.
 
-ghost use Rattle.std.specs.Prelude.{◌≡◌, ◌<◌, ◌≤◌, IfOk, Some, length, map, option_copied, option_map, position, slice_get};
+ghost use Rattle.std.specs.Prelude.{◌≡◌, ◌≤◌, length, option_copied, option_map};
 ghost use Rattle.msc_base.specs.declared.limits.TheConstants.Limits.{CHARTS};
 ghost use Rattle.msc_meaning.specs.Tables.{chart_at};
 ghost use Rattle.msc_meaning.specs.Views.{entry_view, table_view};
-ghost use Rattle.msc_acceptance.specs.Listing.{is_graph_of, is_named, listed_of};
 
-use crate::listing::{is_graph, listed_of};
-use msc_base::{Name, NoMemory, Place};
+use msc_base::Place;
 use msc_meaning::ChartEntry;
 use msc_rules::Rule;
-use msc_tree::DeclList;
-use std::alloc::Global;
 use std::marker::Model;
 
 /// Why a document isn't accepted.
@@ -71,20 +67,6 @@ impl Accepted {
         self.held.len() as u32
     }
 
-    /// The number of the chart of that name, which no two charts have; none where no chart has it. It takes no memory.
-    pub fn chart(&self, name: &[u8]) -> Option<u32>
-        ensures { result ≡ position (λ c. is_named name.now (entry_view c)) self.now }
-    {
-        let mut number = 0;
-        for chart in self.held.as_slice() {
-            if chart.name.bytes() == name {
-                return Some(number);
-            }
-            number += 1;
-        }
-        None
-    }
-
     /// The chart of that name; none where no chart has it. It takes no memory.
     pub fn chart_named(&self, name: &[u8]) -> Option<&ChartEntry>
         ensures { option_map entry_view (option_copied result) ≡ chart_at (table_view self.now) name.now }
@@ -95,30 +77,5 @@ impl Accepted {
             }
         }
         None
-    }
-
-    /// The name of a chart. It takes no memory.
-    pub fn chart_name(&self, chart: u32) -> &Name
-        requires { chart < length self.now }
-        ensures { slice_get (map (λ c. c.name) self.now) chart ≡ Some result.now }
-    {
-        &self.held[chart as usize].name
-    }
-
-    /// Whether a chart is a high-level chart. It takes no memory.
-    pub fn is_graph(&self, chart: u32) -> bool
-        requires { chart < length self.now }
-        ensures { slice_get (map (λ c. is_graph_of (entry_view c)) self.now) chart ≡ Some result }
-    {
-        is_graph(&self.held[chart as usize])
-    }
-
-    /// The listed instances of a chart, in the order of their first declaration; of each the chart that refines it, and neither
-    /// its kind nor its place.
-    pub fn listed(&self, alloc: Global, chart: u32) -> Result<DeclList, NoMemory>
-        requires { chart < length self.now }
-        ensures { IfOk result (λ listed. slice_get (map (λ c. listed_of (entry_view c)) self.now) chart ≡ Some listed) }
-    {
-        listed_of(alloc, &self.held[chart as usize])
     }
 }

@@ -7,6 +7,7 @@ ghost use Rattle.msc_instances.specs.Instances.{instances};
 ghost use Rattle.msc_tree.specs.Views.{chart_view};
 
 use crate::walks::earlier;
+use chart_text::chart_text;
 use level_weaving::first_misplaced;
 use msc_base::{Names, NoMemory, Place};
 use msc_tree::RawChart;
@@ -52,7 +53,8 @@ fn own_places(
         return Ok(no_places());
     }
     let faults = part_faults(alloc, chart, names)?;
-    let misplaced = first_misplaced(alloc, chart, names)?;
+    let text = chart_text(alloc, chart)?;
+    let misplaced = first_misplaced(alloc, chart, names, text.as_slice())?;
     Ok(PartPlaces {
         unshared: faults.not_shared,
         differing: faults.differing,

@@ -1,4 +1,4 @@
-//! What is read of one chart after another, so that the text of each is gone through while it is at hand: for `deciding`.
+//! What is read of one chart after another, by its text, which is listed once: for `deciding`.
 
 ghost use Rattle.std.specs.Prelude.{◌≡◌, IfOk, None, map};
 ghost use Rattle.chart_forms.specs.ChartSizes.{size_of};
@@ -10,6 +10,7 @@ ghost use Rattle.msc_tree.specs.Views.{chart_view};
 use crate::singles::holds_singles;
 use crate::walks::earlier;
 use chart_forms::{first_high_bound, first_not_built, size};
+use chart_text::chart_text;
 use msc_base::{Items, Names, NoMemory, Place};
 use msc_instances::chart_names;
 use msc_tree::RawChart;
@@ -72,10 +73,11 @@ fn read_chart(alloc: Global, chart: &RawChart) -> Result<ChartText, NoMemory>
     ensures single { IfOk result (λ text. text.single ≡ is_single_chart (chart_view chart.now)) }
     ensures places { IfOk result (λ text. AreOwnTexts (chart_view chart.now) text.places) }
 {
-    let not_built = first_not_built(alloc, chart)?;
-    let high_bound = first_high_bound(alloc, chart)?;
-    let named = chart_names(alloc, chart)?;
-    let size = size(chart)?;
+    let text = chart_text(alloc, chart)?;
+    let not_built = first_not_built(alloc, chart, text.as_slice())?;
+    let high_bound = first_high_bound(alloc, text.as_slice())?;
+    let named = chart_names(alloc, chart, text.as_slice())?;
+    let size = size(text.as_slice())?;
     Ok(ChartText {
         names: named.names,
         size,

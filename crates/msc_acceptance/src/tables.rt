@@ -14,7 +14,6 @@ ghost use Rattle.msc_tree.specs.Views.{chart_view};
 
 use crate::declaring::chart_decls;
 use crate::walks::earlier;
-use built_charts::laws::built_charts_are_known;
 use event_order::is_cyclic;
 use event_order::laws::ranks_rise;
 use general_ordering::{EventNameRule, first_name_fault};
@@ -23,6 +22,7 @@ use msc_base::{Names, NoMemory, Place};
 use msc_meaning::{Body, ChartEntry, EntryContent};
 use msc_tree::RawChart;
 use std::alloc::Global;
+use woven_laws::laws::built_charts_are_known;
 
 /// What charts are woven to.
 #[derive(Drop)]

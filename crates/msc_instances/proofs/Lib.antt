@@ -1,5 +1,5 @@
 pub mod Tables
-pub mod FirstOf
+pub mod LeastOfBoth
 pub mod NoteSteps
 pub mod Meeting
 pub mod PartSteps

@@ -1,10 +1,11 @@
 -- The instances of a basic chart, in the order in which they are first declared, and what breaks the rules on them.
 use Rattle.std.specs.Prelude.{◌≡◌, ◌⊎◌, ℕ, List, [], ◌∷◌}
+use Rattle.chart_text.specs.Texts.{Scope, Whole, Within}
 use Rattle.msc_base.specs.declared.place.Place.{Place}
 use Rattle.msc_base.specs.Lists.{IsAmong}
 use Rattle.msc_base.specs.NameTables.{with_name}
 use Rattle.msc_tree.specs.Charts.{Chart}
-use Rattle.msc_instances.specs.Notes.{Scope, Whole, Within, Note, Declared, Decomposed, Named, chart_notes}
+use Rattle.msc_instances.specs.Notes.{Note, Declared, Decomposed, Named, chart_notes}
 
 -- the names, with those that the notes declare behind them, each once
 abbrev pub with_declared : List (List ℕ) → List Note → List (List ℕ)

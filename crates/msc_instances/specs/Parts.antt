@@ -2,9 +2,11 @@
 -- they have. A level is the body of the chart, or one operand of an inline expression. In columns, parts of one name are one
 -- item, so one name may stand in several columns of a level; nothing joins two in one column, or one outside columns with another.
 use Rattle.std.specs.Prelude.{◌≡◌, ◌⊎◌, ⊤, ℕ, List, [], ◌∷◌, ◌++◌, Option, None, Some}
+use Rattle.chart_text.specs.Gathering.{gathered}
+use Rattle.chart_text.specs.Texts.{Passage, a_head, a_statement, an_item, an_operand, chart_text, column_of}
 use Rattle.msc_base.specs.declared.place.Place.{Place}
 use Rattle.msc_tree.specs.Charts.{Chart, Content, Basic, HighLevel}
-use Rattle.msc_tree.specs.Statements.{Item, placed, Form, Single, Coregion, Condition, Inline, Refer, Stop, Items, no_items, item_and, Operand, InColumn, Outside, Operands, no_operands, operand_and, Statement, Column, Covered, Heading, Ended, Statements, no_statements, statement_and, statements}
+use Rattle.msc_tree.specs.Statements.{Item, placed, Form, Single, Coregion, Condition, Inline, Refer, Stop, Items, no_items, item_and, Operand, InColumn, Outside, Statement, Column, Covered, Heading, Ended, Statements, no_statements, statement_and, statements}
 
 -- an inline expression or reference that has a name: the column that it stands in, or none outside columns, and its place
 pub record NamedPart : Type 0 where
@@ -43,49 +45,27 @@ abbrev pub statements_parts : Statements → List NamedPart
 statements_parts no_statements = []
 statements_parts (statement_and statement statements) = statement_parts statement ++ statements_parts statements
 
--- ---- the levels inside
+abbrev pub operand_parts : Option (List ℕ) → Operand → List NamedPart
+operand_parts column (InColumn held) = items_parts column held
+operand_parts column (Outside held) = statements_parts held
 
-abbrev mutual
-  pub items_levels : Option (List ℕ) → Items → List (List NamedPart)
-  items_levels column no_items = []
-  items_levels column (item_and item items) = item_levels column item ++ items_levels column items
+-- ---- the levels of a chart
 
-  pub item_levels : Option (List ℕ) → Item → List (List NamedPart)
-  item_levels column (placed place form) = form_levels column form
+-- the level that an operand is
+abbrev pub passage_levels : Passage → List (List NamedPart)
+passage_levels (a_head decl) = []
+passage_levels (a_statement depth scope x) = []
+passage_levels (an_item s place form) = []
+passage_levels (an_operand s x) = operand_parts (column_of s.side) x ∷ []
 
-  pub form_levels : Option (List ℕ) → Form → List (List NamedPart)
-  form_levels column (Single event) = []
-  form_levels column (Coregion events) = []
-  form_levels column (Condition names shared) = []
-  form_levels column (Inline head operands) = operands_levels column operands
-  form_levels column (Refer reference) = []
-  form_levels column Stop = []
-
-  pub operands_levels : Option (List ℕ) → Operands → List (List NamedPart)
-  operands_levels column no_operands = []
-  operands_levels column (operand_and operand operands) = operand_levels column operand ++ operands_levels column operands
-
-  pub operand_levels : Option (List ℕ) → Operand → List (List NamedPart)
-  operand_levels column (InColumn items) = items_parts column items ∷ items_levels column items
-  operand_levels column (Outside statements) = statements_parts statements ∷ statements_levels statements
-
-  pub statement_levels : Statement → List (List NamedPart)
-  statement_levels (Column decl items) = items_levels (Some decl.name) items
-  statement_levels (Covered cover items) = items_levels None items
-  statement_levels (Heading decl) = []
-  statement_levels (Ended name) = []
-
-  pub statements_levels : Statements → List (List NamedPart)
-  statements_levels no_statements = []
-  statements_levels (statement_and statement statements) = statement_levels statement ++ statements_levels statements
-
-abbrev pub content_levels : Content → List (List NamedPart)
-content_levels (Basic held) = statements_parts (statements held) ∷ statements_levels (statements held)
-content_levels (HighLevel held) = []
+-- the outermost level
+abbrev pub outermost_level : Content → List (List NamedPart)
+outermost_level (Basic held) = statements_parts (statements held) ∷ []
+outermost_level (HighLevel held) = []
 
 -- all levels of a chart
 abbrev pub chart_levels : Chart → List (List NamedPart)
-chart_levels chart = content_levels chart.content
+chart_levels chart = outermost_level chart.content ++ gathered passage_levels (chart_text chart)
 
 -- ---- the rule
 

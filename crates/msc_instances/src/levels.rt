@@ -1,14 +1,18 @@
-//! The named parts of a chart, level by level, by a walk through its text: for `naming`.
+//! The named parts of a chart, level by level, by its text: for `naming`.
 
 ghost use Rattle.std.specs.Prelude.{◌≡◌, ◌++◌, IfOk, OnOk, map};
+ghost use Rattle.chart_text.specs.Gathering.{gathered};
+ghost use Rattle.chart_text.specs.PassageViews.{passage_view, side_view, text_view};
+ghost use Rattle.chart_text.specs.Texts.{chart_text as text_of, column_of};
 ghost use Rattle.msc_instances.specs.PartViews.{column_view};
-ghost use Rattle.msc_instances.specs.Parts.{chart_levels, content_levels, form_levels, form_parts, items_levels, items_parts, named_part, operand_levels, operands_levels, statement_levels, statement_parts, statements_levels, statements_parts};
-ghost use Rattle.msc_tree.specs.Statements.{items as item_tree, operands as operand_tree, statements as statement_tree};
-ghost use Rattle.msc_tree.specs.Views.{chart_view, content_view, form_view, inline_view, item_view, operand_view, statement_view};
+ghost use Rattle.msc_instances.specs.Parts.{chart_levels, form_parts, items_parts, named_part, operand_parts, outermost_level, passage_levels, statement_parts, statements_parts};
+ghost use Rattle.msc_tree.specs.Statements.{items as item_tree, statements as statement_tree};
+ghost use Rattle.msc_tree.specs.Views.{chart_view, content_view, form_view, item_view, operand_view, statement_view};
 
 use crate::{NamedPart, PartList, Setting};
+use chart_text::{Passage, Side};
 use msc_base::{Items, Name, NoMemory, Place};
-use msc_tree::{Content, RawChart, RawForm, RawInline, RawItem, RawOperand, Statement};
+use msc_tree::{Content, RawChart, RawForm, RawItem, RawOperand, Statement};
 use std::alloc::Global;
 use std::slice;
 
@@ -43,7 +47,10 @@ fn form_part<'a>(
     match form {
         RawForm::Inline(held) => named(level, setting, place, &held.name),
         RawForm::Reference(held) => named(level, setting, place, &held.name),
-        _ => Ok(()),
+        RawForm::Single(_) => Ok(()),
+        RawForm::Coregion(_) => Ok(()),
+        RawForm::Condition(_, _) => Ok(()),
+        RawForm::Stop => Ok(()),
     }
 }
 
@@ -76,16 +83,51 @@ fn statement_part<'a>(level: &mut PartList<'a>, statement: &'a Statement) -> Res
     }
 }
 
-/// The named parts of the level that items of a column are.
-fn column_level<'a>(
+/// Where items stand, in the column of an instance or outside columns.
+fn setting_of<'a>(side: Side<'a>) -> Setting<'a>
+    ensures { column_view result ≡ column_of (side_view side.entry) }
+{
+    match side {
+        Side::InColumn(name) => Setting::InColumn(name),
+        Side::Behind(_) => Setting::Outside,
+        Side::BehindAll(_) => Setting::Outside,
+    }
+}
+
+/// Adds the items of statements that have names.
+fn statements<'a>(level: &mut PartList<'a>, list: &'a [Statement]) -> Result<(), NoMemory>
+    ensures { OnOk result (level.new ≡ level.old ++ statements_parts (statement_tree (map statement_view list.now))) }
+{
+    for held in list {
+        statement_part(level, held)?;
+    }
+    Ok(())
+}
+
+/// Adds the items of an operand that have names.
+fn operand<'a>(
+    level: &mut PartList<'a>,
+    setting: Setting<'a>,
+    operand: &'a RawOperand,
+) -> Result<(), NoMemory>
+    ensures { OnOk result (level.new ≡ level.old ++ operand_parts (column_view setting.entry) (operand_view operand.now)) }
+{
+    match operand {
+        RawOperand::Column(list) => item_parts(level, setting, list.as_slice()),
+        RawOperand::Covered(list) => statements(level, list.as_slice()),
+    }
+}
+
+/// The named parts of the level that an operand is.
+fn operand_level<'a>(
     alloc: Global,
     setting: Setting<'a>,
-    list: &'a [RawItem],
+    held: &'a RawOperand,
 ) -> Result<PartList<'a>, NoMemory>
-    ensures { IfOk result (λ level. level ≡ items_parts (column_view setting.entry) (item_tree (map item_view list.now))) }
+    ensures { IfOk result (λ level. level ≡ operand_parts (column_view setting.entry) (operand_view held.now)) }
 {
     let mut level = PartList::new(alloc);
-    item_parts(&mut level, setting, list)?;
+    operand(&mut level, setting, held)?;
     Ok(level)
 }
 
@@ -94,155 +136,71 @@ fn statement_level<'a>(alloc: Global, list: &'a [Statement]) -> Result<PartList<
     ensures { IfOk result (λ level. level ≡ statements_parts (statement_tree (map statement_view list.now))) }
 {
     let mut level = PartList::new(alloc);
-    for held in list {
-        statement_part(&mut level, held)?;
-    }
+    statements(&mut level, list)?;
     Ok(level)
 }
 
-/// Adds the levels inside items.
-#[cycle(levels)]
-fn items<'a>(
+/// Adds the level that a passage is, where it is an operand.
+fn passage<'a>(
     alloc: Global,
     levels: &mut Items<PartList<'a>>,
-    setting: Setting<'a>,
-    list: &'a [RawItem],
+    passage: Passage<'a>,
 ) -> Result<(), NoMemory>
-    ensures { OnOk result (levels.new ≡ levels.old ++ items_levels (column_view setting.entry) (item_tree (map item_view list.now))) }
+    ensures { OnOk result (levels.new ≡ levels.old ++ passage_levels (passage_view passage.entry)) }
 {
-    for held in list {
-        form(alloc, levels, setting, &held.form)?;
-    }
-    Ok(())
-}
-
-/// Adds the levels inside an item.
-#[cycle(levels)]
-fn form<'a>(
-    alloc: Global,
-    levels: &mut Items<PartList<'a>>,
-    setting: Setting<'a>,
-    form: &'a RawForm,
-) -> Result<(), NoMemory>
-    ensures { OnOk result (levels.new ≡ levels.old ++ form_levels (column_view setting.entry) (form_view form.now)) }
-{
-    match form {
-        RawForm::Inline(held) => inline(alloc, levels, setting, held),
-        _ => Ok(()),
-    }
-}
-
-/// Adds the levels of an inline expression.
-#[cycle(levels)]
-fn inline<'a>(
-    alloc: Global,
-    levels: &mut Items<PartList<'a>>,
-    setting: Setting<'a>,
-    inline: &'a RawInline,
-) -> Result<(), NoMemory>
-    ensures { OnOk result (levels.new ≡ levels.old ++ form_levels (column_view setting.entry) (inline_view inline.now)) }
-{
-    operands(alloc, levels, setting, inline.operands.as_slice())
-}
-
-/// Adds the levels of operands.
-#[cycle(levels)]
-fn operands<'a>(
-    alloc: Global,
-    levels: &mut Items<PartList<'a>>,
-    setting: Setting<'a>,
-    list: &'a [RawOperand],
-) -> Result<(), NoMemory>
-    ensures { OnOk result (levels.new ≡ levels.old ++ operands_levels (column_view setting.entry) (operand_tree (map operand_view list.now))) }
-{
-    for held in list {
-        operand(alloc, levels, setting, held)?;
-    }
-    Ok(())
-}
-
-/// Adds the level that an operand is, and the levels inside.
-#[cycle(levels)]
-fn operand<'a>(
-    alloc: Global,
-    levels: &mut Items<PartList<'a>>,
-    setting: Setting<'a>,
-    operand: &'a RawOperand,
-) -> Result<(), NoMemory>
-    ensures { OnOk result (levels.new ≡ levels.old ++ operand_levels (column_view setting.entry) (operand_view operand.now)) }
-{
-    match operand {
-        RawOperand::Column(list) => {
-            levels.push(column_level(alloc, setting, list.as_slice())?)?;
-            items(alloc, levels, setting, list.as_slice())
+    match passage {
+        Passage::Operand(standing, held) => {
+            let level = operand_level(alloc, setting_of(standing.side), held)?;
+            levels.push(level)
         }
-        RawOperand::Covered(list) => {
-            levels.push(statement_level(alloc, list.as_slice())?)?;
-            statements(alloc, levels, list.as_slice())
-        }
+        Passage::Head(_) => Ok(()),
+        Passage::Statement(_, _, _) => Ok(()),
+        Passage::Item(_, _) => Ok(()),
     }
 }
 
-/// Adds the levels inside a statement.
-#[cycle(levels)]
-fn statement<'a>(
+/// Adds the levels that the operands of a text are.
+fn passages<'a>(
     alloc: Global,
     levels: &mut Items<PartList<'a>>,
-    statement: &'a Statement,
+    text: &[Passage<'a>],
 ) -> Result<(), NoMemory>
-    ensures { OnOk result (levels.new ≡ levels.old ++ statement_levels (statement_view statement.now)) }
+    ensures { OnOk result (levels.new ≡ levels.old ++ gathered passage_levels (text_view text.now)) }
 {
-    match statement {
-        Statement::Column(decl, list) => items(
-            alloc,
-            levels,
-            Setting::InColumn(&decl.decl().name),
-            list.as_slice(),
-        ),
-        Statement::One(_, held) => items(alloc, levels, Setting::Outside, slice::from_ref(held)),
-        Statement::Covered(_, list) => items(alloc, levels, Setting::Outside, list.as_slice()),
-        Statement::Heading(_) => Ok(()),
-        Statement::Ended(_) => Ok(()),
-    }
-}
-
-/// Adds the levels inside statements.
-#[cycle(levels)]
-fn statements<'a>(
-    alloc: Global,
-    levels: &mut Items<PartList<'a>>,
-    list: &'a [Statement],
-) -> Result<(), NoMemory>
-    ensures { OnOk result (levels.new ≡ levels.old ++ statements_levels (statement_tree (map statement_view list.now))) }
-{
-    for held in list {
-        statement(alloc, levels, held)?;
+    for held in text {
+        passage(alloc, levels, *held)?;
     }
     Ok(())
 }
 
-/// The levels of what a chart holds.
-fn content<'a>(
+/// Adds the outermost level of what a chart holds.
+fn outermost<'a>(
     alloc: Global,
     levels: &mut Items<PartList<'a>>,
     content: &'a Content,
 ) -> Result<(), NoMemory>
-    ensures { OnOk result (levels.new ≡ levels.old ++ content_levels (content_view content.now)) }
+    ensures { OnOk result (levels.new ≡ levels.old ++ outermost_level (content_view content.now)) }
 {
     match content {
         Content::Events(list) => {
-            levels.push(statement_level(alloc, list.as_slice())?)?;
-            statements(alloc, levels, list.as_slice())
+            let level = statement_level(alloc, list.as_slice())?;
+            levels.push(level)
         }
         Content::Graph(_) => Ok(()),
     }
 }
 
-/// The named parts of all levels of a chart.
-pub fn chart_levels<'a>(alloc: Global, chart: &'a RawChart) -> Result<Items<PartList<'a>>, NoMemory>
+/// The named parts of all levels of a chart, whose text that is.
+pub fn chart_levels<'a>(
+    alloc: Global,
+    chart: &'a RawChart,
+    text: &[Passage<'a>],
+) -> Result<Items<PartList<'a>>, NoMemory>
+    requires { text_view text.now ≡ text_of (chart_view chart.now) }
     ensures { IfOk result (λ levels. levels ≡ chart_levels (chart_view chart.now)) }
 {
     let mut levels = Items::new(alloc);
-    content(alloc, &mut levels, &chart.content)?;
+    outermost(alloc, &mut levels, &chart.content)?;
+    passages(alloc, &mut levels, text)?;
     Ok(levels)
 }

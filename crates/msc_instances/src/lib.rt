@@ -9,7 +9,7 @@ mod parts;
 mod walk;
 
 pub use levels::chart_levels;
-pub use naming::{ChartNames, NameFault, chart_names, names};
-pub use notes::{Note, NoteList, Scope};
+pub use naming::{ChartNames, chart_names};
+pub use notes::{Note, NoteList};
 pub use parts::{NamedPart, PartList, Setting};
 pub use walk::chart_notes;

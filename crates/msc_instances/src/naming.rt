@@ -1,40 +1,22 @@
-//! The instances of a chart, or the first fault of its names: `names`, which no crate calls yet.
+//! The instances of a chart, and the faults of its names: msc_acceptance looks for these, and level_weaving weaves by those.
 
-ghost use Rattle.std.specs.Prelude.{◌≡◌, ◌↔◌, IsTrue, IfOk, IfErr, OnOk, map, []};
+ghost use Rattle.std.specs.Prelude.{◌≡◌, ◌↔◌, IsTrue, IfOk, OnOk, map, []};
+ghost use Rattle.chart_text.specs.PassageViews.{scope_view, text_view};
+ghost use Rattle.chart_text.specs.Texts.{chart_text as text_of};
 ghost use Rattle.msc_base.specs.Places.{IsLeast};
 ghost use Rattle.msc_base.specs.Lists.{IsAmong};
 ghost use Rattle.msc_base.specs.NameTables.{with_name};
 ghost use Rattle.msc_instances.specs.Instances.{DecomposesAgain, MayName, NamesOther, instances, with_declared};
-ghost use Rattle.msc_instances.specs.NameFaults.{ChartNamesOther, ChartNamesTwice, IsFaultOf, IsNameFault, KeepNames, KeepsNames, NamesTwice, first_of};
-ghost use Rattle.msc_instances.specs.NoteViews.{note_view, scope_view};
-ghost use Rattle.msc_instances.specs.declared.naming.NameFault.TheVariants.{NoMemory as WantOfMemory};
+ghost use Rattle.msc_instances.specs.NameFaults.{ChartNamesOther, ChartNamesTwice, NamesTwice};
+ghost use Rattle.msc_instances.specs.NoteViews.{note_view};
 ghost use Rattle.msc_tree.specs.Views.{chart_view};
 
 use crate::again::named_again;
-use crate::{Note, PartList, Scope, chart_levels, chart_notes};
-use msc_base::{Name, NameTable, Names, NoMemory, Place, comes_before, earlier_if, earlier_place};
+use crate::{Note, PartList, chart_levels, chart_notes};
+use chart_text::{Passage, Scope};
+use msc_base::{Name, NameTable, Names, NoMemory, Place, earlier_if, earlier_place};
 use msc_tree::{FEW, RawChart, is_listed};
 use std::alloc::Global;
-
-/// Why the instances of a chart can't be listed.
-#[derive(Clone, Copy, Debug, PartialEq, Eq)]
-pub enum NameFault {
-    /// At that place an instance is decomposed a second time, or an inline expression or reference has the name of another of its
-    /// level that is in the same column, or where one of the two is in no column.
-    NamedTwice(Place),
-    /// At that place a name stands that is none of the chart's instances, or of those that an operand covers.
-    Undeclared(Place),
-    /// Memory was wanting.
-    NoMemory,
-}
-
-impl From<NoMemory> for NameFault {
-    ghost from_gives = { λ _ fault. fault ≡ WantOfMemory };
-
-    fn from(_: NoMemory) -> Self {
-        NameFault::NoMemory
-    }
-}
 
 /// The instances of a chart, and the earliest places at which it breaks the rules of names.
 #[derive(Drop)]
@@ -164,60 +146,20 @@ fn named_other(names: &Names, table: &NameTable, notes: &[Note<'_>]) -> Option<P
     best
 }
 
-/// The first of the two faults: the earlier, and at one place that of a second name.
-fn first_fault(twice: Option<Place>, undeclared: Option<Place>) -> Option<NameFault>
-    ensures { result ≡ first_of twice undeclared }
-{
-    match (twice, undeclared) {
-        (None, None) => None,
-        (Some(p), None) => Some(NameFault::NamedTwice(p)),
-        (None, Some(q)) => Some(NameFault::Undeclared(q)),
-        (Some(p), Some(q)) => {
-            if comes_before(q, p) {
-                Some(NameFault::Undeclared(q))
-            } else {
-                Some(NameFault::NamedTwice(p))
-            }
-        }
-    }
-}
-
-/// The instances that notes declare, or the first fault of the names in them and in the levels.
-fn settled(alloc: Global, notes: &[Note<'_>], levels: &[PartList<'_>]) -> Result<Names, NameFault>
-    ensures ok { IfOk result (λ names. names ≡ with_declared [] (map note_view notes.now)) }
-    ensures kept { IfOk result (λ names. KeepNames (map note_view notes.now) levels.now) }
-    ensures fault { IfErr result (IsFaultOf (map note_view notes.now) levels.now) }
-{
-    let made = declared_in(alloc, notes)?;
-    let twice = named_twice(alloc, notes, levels)?;
-    let other = named_other(&made.names, &made.table, notes);
-    match first_fault(twice, other) {
-        None => Ok(made.names),
-        Some(fault) => Err(fault),
-    }
-}
-
-/// The instances of a chart in the order in which they are first declared, or the first fault of its names: the earlier one, and
-/// at one place that of a second name.
-pub fn names(alloc: Global, chart: &RawChart) -> Result<Names, NameFault>
-    ensures ok { IfOk result (λ names. names ≡ instances (chart_view chart.now)) }
-    ensures kept { IfOk result (λ names. KeepsNames (chart_view chart.now)) }
-    ensures fault { IfErr result (IsNameFault (chart_view chart.now)) }
-{
-    let notes = chart_notes(alloc, chart)?;
-    let levels = chart_levels(alloc, chart)?;
-    settled(alloc, notes.as_slice(), levels.as_slice())
-}
-
 /// The instances of a chart in the order in which they are first declared, whether its names keep their rules or not, and the earliest
-/// places at which these break a rule. It goes through the text once.
-pub fn chart_names(alloc: Global, chart: &RawChart) -> Result<ChartNames, NoMemory>
+/// places at which these break a rule; that is its text.
+pub fn chart_names(
+    alloc: Global,
+    chart: &RawChart,
+    text: &[Passage<'_>],
+) -> Result<ChartNames, NoMemory>
+    requires { text_view text.now ≡ text_of (chart_view chart.now) }
     ensures names { IfOk result (λ made. made.names ≡ instances (chart_view chart.now)) }
     ensures twice { IfOk result (λ made. IsLeast (ChartNamesTwice (chart_view chart.now)) made.twice) }
     ensures undeclared { IfOk result (λ made. IsLeast (ChartNamesOther (chart_view chart.now)) made.undeclared) }
 {
-    let notes = chart_notes(alloc, chart)?;
-    let levels = chart_levels(alloc, chart)?;
+    let notes = chart_notes(alloc, chart, text)?;
+    let levels = chart_levels(alloc, chart, text)?;
     let made = declared_in(alloc, notes.as_slice())?;
     let twice = named_twice(alloc, notes.as_slice(), levels.as_slice())?;
     let undeclared = named_other(&made.names, &made.table, notes.as_slice());

@@ -4,21 +4,10 @@ ghost use Rattle.std.specs.Prelude.{◌≡◌, ◌++◌, ◌∷◌, [], List, ma
 ghost use Rattle.msc_instances.specs.NoteViews.{note_view};
 ghost use Rattle.msc_instances.specs.Notes as plain;
 
+use chart_text::Scope;
 use msc_base::{Name, NoMemory, Place};
-use msc_tree::FewNames;
 use std::alloc::Global;
 use std::marker::Model;
-
-/// Which instances may be named.
-#[derive(Clone, Copy)]
-pub enum Scope<'a> {
-    /// All of the chart.
-    Whole,
-    /// This one alone.
-    Column(&'a Name),
-    /// These.
-    Listed(&'a FewNames),
-}
 
 /// What a chart writes of an instance.
 #[derive(Clone, Copy)]

@@ -3,7 +3,7 @@ use Rattle.std.proofs.Common.{◌≡◌, ◌↔◌, ◌⊎◌, inl, inr, ◌<◌
 use Rattle.msc_base.specs.Lists.{IsAmong}
 use Rattle.msc_base.specs.Places.{IsLeast}
 use Rattle.msc_base.specs.declared.place.Place.{Place}
-use Rattle.level_pieces.specs.Unwoven.{place_if}
+use Rattle.chart_text.specs.Gathering.{place_if}
 use Rattle.level_pieces.proofs.LeastLaws.{least_same}
 use Rattle.level_pieces.proofs.Walks.{drop_end, drop_read}
 use Rattle.shared_parts.specs.Noting.{AreNoted, OneHolds}

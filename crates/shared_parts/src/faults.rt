@@ -11,7 +11,8 @@ ghost use Rattle.shared_parts.specs.declared.faults.PartRule.TheVariants.{NotSha
 
 use crate::levels::note_level;
 use crate::noting::PartPlaces;
-use level_pieces::{chart_pieces, earliest_place};
+use chart_text::earliest_place;
+use level_pieces::chart_pieces;
 use msc_base::{Items, Names, NoMemory, Place};
 use msc_tree::{Content, RawChart};
 use std::alloc::Global;

@@ -9,7 +9,8 @@ ghost use Rattle.shared_parts.specs.declared.faults.PartRule.TheVariants.{NotSha
 
 use crate::alike::are_alike;
 use crate::sharing::{is_unshared, sharing_of};
-use level_pieces::{LevelItem, note_if};
+use chart_text::note_if;
+use level_pieces::LevelItem;
 use msc_base::{Items, Names, NoMemory, Place};
 use std::alloc::Global;
 

@@ -1,8 +1,9 @@
 //! The levels of charts as they are woven, and what is refused.
+use chart_text::chart_text;
 use level_weaving::{WeaveFault, first_misplaced, weave};
 use msc_base::{Name, Place};
 use msc_document::parse;
-use msc_instances::{NameFault, names};
+use msc_instances::chart_names;
 use msc_meaning::{Body, EventNode, Item};
 use msc_tokens::lex_all;
 use msc_tree::RawChart;
@@ -94,13 +95,19 @@ fn told(alloc: Global, body: &Body) -> Result<String, AllocError> {
 
 /// What the chart is woven to, or why it isn't.
 fn woven(alloc: Global, chart: &RawChart) -> Result<String, AllocError> {
-    let listed = match names(alloc, chart) {
-        Ok(listed) => listed,
-        Err(NameFault::NamedTwice(place)) => return at(alloc, "twice", place),
-        Err(NameFault::Undeclared(place)) => return at(alloc, "undeclared", place),
-        Err(NameFault::NoMemory) => return Err(AllocError),
+    let Ok(text) = chart_text(alloc, chart) else {
+        return Err(AllocError);
     };
-    match weave(alloc, chart, &listed) {
+    let Ok(named) = chart_names(alloc, chart, text.as_slice()) else {
+        return Err(AllocError);
+    };
+    if let Some(place) = named.twice {
+        return at(alloc, "twice", place);
+    }
+    if let Some(place) = named.undeclared {
+        return at(alloc, "undeclared", place);
+    }
+    match weave(alloc, chart, &named.names) {
         Ok(body) => told(alloc, &body),
         Err(WeaveFault::NotWoven(place)) => at(alloc, "not woven", place),
         Err(WeaveFault::Crossed(place)) => at(alloc, "crossed", place),
@@ -111,11 +118,13 @@ fn woven(alloc: Global, chart: &RawChart) -> Result<String, AllocError> {
 
 /// The earliest exception that stands where it may not.
 fn misplaced(alloc: Global, chart: &RawChart) -> Result<String, AllocError> {
-    let listed = match names(alloc, chart) {
-        Ok(listed) => listed,
-        Err(_) => return Err(AllocError),
+    let Ok(text) = chart_text(alloc, chart) else {
+        return Err(AllocError);
     };
-    match first_misplaced(alloc, chart, &listed) {
+    let Ok(named) = chart_names(alloc, chart, text.as_slice()) else {
+        return Err(AllocError);
+    };
+    match first_misplaced(alloc, chart, &named.names, text.as_slice()) {
         Ok(Some(place)) => at(alloc, "exc placed", place),
         Ok(None) => Ok(String::new(alloc)),
         Err(_) => Err(AllocError),

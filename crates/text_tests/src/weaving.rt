@@ -1,8 +1,9 @@
 //! The instances and the woven list of a chart, and what is refused.
+use chart_text::chart_text;
 use level_weaving::{WeaveFault, weave};
 use msc_base::Place;
 use msc_document::parse;
-use msc_instances::{NameFault, names};
+use msc_instances::chart_names;
 use msc_meaning::{Body, Item};
 use msc_tokens::lex_all;
 use msc_tree::RawChart;
@@ -44,13 +45,19 @@ fn told(alloc: Global, body: &Body) -> Result<String, AllocError> {
 
 /// What the chart is woven to, or why it isn't.
 fn woven(alloc: Global, chart: &RawChart) -> Result<String, AllocError> {
-    let listed = match names(alloc, chart) {
-        Ok(listed) => listed,
-        Err(NameFault::NamedTwice(place)) => return at(alloc, "twice", place),
-        Err(NameFault::Undeclared(place)) => return at(alloc, "undeclared", place),
-        Err(NameFault::NoMemory) => return Err(AllocError),
+    let Ok(text) = chart_text(alloc, chart) else {
+        return Err(AllocError);
     };
-    match weave(alloc, chart, &listed) {
+    let Ok(named) = chart_names(alloc, chart, text.as_slice()) else {
+        return Err(AllocError);
+    };
+    if let Some(place) = named.twice {
+        return at(alloc, "twice", place);
+    }
+    if let Some(place) = named.undeclared {
+        return at(alloc, "undeclared", place);
+    }
+    match weave(alloc, chart, &named.names) {
         Ok(body) => told(alloc, &body),
         Err(WeaveFault::NotWoven(place)) => at(alloc, "not woven", place),
         Err(WeaveFault::Crossed(place)) => at(alloc, "crossed", place),

@@ -1,5 +1,5 @@
 use Rattle.std.proofs.Common.{◌≡◌, ◌++◌, drop}
-use Rattle.msc_instances.specs.NoteViews.{scope_view}
+use Rattle.chart_text.specs.PassageViews.{scope_view}
 use Rattle.msc_instances.specs.Notes.{events_notes}
 use Rattle.msc_instances.proofs.walk.events.Given as goal
 

@@ -1,4 +1,0 @@
-//! Laws of the charts whose forms are built.
-#![tactic(auto)]
-
-pub mod laws;

@@ -1,0 +1,157 @@
+-- What the statements of a chart whose forms are built are woven to is built.
+use Rattle.std.proofs.Common.{◌≡◌, ℕ, zero, suc, Bool, true, ◌&&◌, not, List, [], ◌∷◌, Some, slice_get, refl, sym, subst, ap, ap₂, ◌∙◌, arith}
+use Rattle.std.specs.List.{list_any}
+use Rattle.std.specs.Str.{bytes_eq}
+use Rattle.msc_base.specs.Lists.{IsAmong}
+use Rattle.msc_base.specs.declared.place.Place.{Place}
+use Rattle.msc_base.proofs.NameFacts.{any_from_one}
+use Rattle.msc_tree.specs.declared.event.RawEvent.{RawEvent}
+use Rattle.msc_tree.specs.declared.reference.InlineForm.{InlineForm}
+use Rattle.msc_tree.specs.declared.reference.InlineForm.TheVariants as inline
+use Rattle.msc_tree.specs.Charts.{Chart, Basic}
+use Rattle.msc_tree.specs.Statements.{Form, InlineHead, Operands, no_operands, operand_and, Reference, Statement, statements}
+use Rattle.msc_tree.specs.Statements as tree
+use Rattle.msc_meaning.specs.Bodies.{Body, Items, Item, Bodies, no_bodies, body_and}
+use Rattle.msc_meaning.specs.LevelItems.{level_items}
+use Rattle.msc_meaning.specs.Levels.{AreWovenItems, AreWovenOperands, IsWovenItem, IsWovenLevel, a_coregion, a_reference, an_event, an_inline, no_woven, no_woven_operand, nodes_from, operand_number, woven, woven_and, woven_operand_and}
+use Rattle.msc_meaning.specs.Pieces.{Piece, operands_of, statements_pieces}
+use Rattle.msc_instances.specs.Instances.{instances}
+use Rattle.msc_instances.specs.NameFaults.{ChartNamesOther}
+use Rattle.chart_text.specs.Gathering.{place_if}
+use Rattle.level_pieces.specs.Unwoven.{is_at_one}
+use Rattle.level_pieces.proofs.ItemLaws.{left_none, right_none}
+use Rattle.chart_forms.specs.BuiltBodies.{are_built, are_built_nodes, has_operands, have_built, is_built, is_built_item, is_plain}
+use Rattle.chart_forms.specs.NotBuilt.{IsBuilt, not_built_event, not_built_events, takes}
+use Rattle.woven_laws.specs.BuiltCharts.{BuiltChartsAreKnown}
+use Rattle.woven_laws.proofs.BuiltPieces.{IsBuiltPiece, neither, never, no_graph, none_within, not_not, of_built, pieces_woven, statements_built}
+use Rattle.woven_laws.proofs.Declaring.{AreAmong, all_among}
+use Rattle.woven_laws.proofs.EachPiece.{Each, EachOfAll, level_each, operands_each, parts_each}
+use Rattle.woven_laws.proofs.NamedPieces.{IsNamedPiece, chart_named, cover_among, of_are}
+use Rattle.woven_laws.proofs.Unrefined.{chart_whole}
+use Rattle.woven_laws.proofs.WalkedForms.{not_built_form, not_built_operands}
+
+both : (a b : Bool) → a ≡ true → b ≡ true → (a && b) ≡ true
+both a b h g = ap₂ (λ (x y : Bool). x && y) h g
+
+-- ---- as many operands as the form has
+
+bodies_number : Bodies → ℕ
+bodies_number no_bodies = zero
+bodies_number (body_and b bs) = suc (bodies_number bs)
+
+number_none : bodies_number no_bodies ≡ zero
+unfolding bodies_number
+number_none = refl
+
+number_more : (b : Body) (bs : Bodies) → bodies_number (body_and b bs) ≡ suc (bodies_number bs)
+unfolding bodies_number
+number_more b bs = refl
+
+woven_number : {cover : List (List ℕ)} {parts : List Piece} {k count : ℕ} (bs : Bodies) → AreWovenOperands cover parts k count bs → count ≡ bodies_number bs
+woven_number _ (no_woven_operand) = sym number_none
+woven_number _ (woven_operand_and {body = b} {others = bs} h g) = ap suc (woven_number bs g) ∙ sym (number_more b bs)
+
+same_operands : (f : InlineForm) (xs : Operands) (bs : Bodies) → operand_number xs ≡ bodies_number bs → takes f xs ≡ true → has_operands f bs ≡ true
+unfolding bodies_number
+same_operands inline.Alt no_operands bs n h = cc
+same_operands inline.Alt (operand_and x xs) no_bodies n h = absurd (omega (arith, n))
+same_operands inline.Alt (operand_and x xs) (body_and b bs) n h = refl
+same_operands inline.Opt no_operands bs n h = cc
+same_operands inline.Opt (operand_and x no_operands) no_bodies n h = absurd (omega (arith, n))
+same_operands inline.Opt (operand_and x no_operands) (body_and b no_bodies) n h = refl
+same_operands inline.Opt (operand_and x no_operands) (body_and b (body_and c bs)) n h = absurd (omega (arith, n))
+same_operands inline.Opt (operand_and x (operand_and y xs)) bs n h = cc
+same_operands inline.Exc no_operands bs n h = cc
+same_operands inline.Exc (operand_and x no_operands) no_bodies n h = absurd (omega (arith, n))
+same_operands inline.Exc (operand_and x no_operands) (body_and b no_bodies) n h = refl
+same_operands inline.Exc (operand_and x no_operands) (body_and b (body_and c bs)) n h = absurd (omega (arith, n))
+same_operands inline.Exc (operand_and x (operand_and y xs)) bs n h = cc
+same_operands inline.Par xs bs n h = refl
+same_operands inline.Loop no_operands bs n h = cc
+same_operands inline.Loop (operand_and x no_operands) no_bodies n h = absurd (omega (arith, n))
+same_operands inline.Loop (operand_and x no_operands) (body_and b no_bodies) n h = refl
+same_operands inline.Loop (operand_and x no_operands) (body_and b (body_and c bs)) n h = absurd (omega (arith, n))
+same_operands inline.Loop (operand_and x (operand_and y xs)) bs n h = cc
+
+-- ---- one piece
+
+lead_among : (names leads : List (List ℕ)) (at : List ℕ) → AreAmong names leads → slice_get leads 0 ≡ Some at → IsAmong names at
+lead_among names [] at h e = cc
+lead_among names (l ∷ leads) at h e = let same : l ≡ at = cc in subst (IsAmong names) same h.0
+
+plain_event : (b : Bool) (e : RawEvent) → not_built_event b e ≡ [] → is_plain e ≡ true
+plain_event b e h = (neither b (is_plain e) (never _ e.place h)).1
+
+plain_nodes : (names : List (List ℕ)) (n : ℕ) (at : List ℕ) (es : List RawEvent) → IsAmong names at → not_built_events es ≡ [] → are_built_nodes names (nodes_from n at es) ≡ true
+plain_nodes names n at [] a h = refl
+plain_nodes names n at (e ∷ es) a h =
+    both (list_any (bytes_eq at) names && is_plain e) (are_built_nodes names (nodes_from (suc n) at es))
+    (both (list_any (bytes_eq at) names) (is_plain e) (any_from_one names at a) (plain_event true e (left_none (not_built_event true e) (not_built_events es) h)))
+    (plain_nodes names (suc n) at es a (right_none (not_built_event true e) (not_built_events es) h))
+
+-- a piece of that form
+formed : (p : Piece) (f : Form) → p.form ≡ f → IsBuiltPiece p → not_built_form (is_at_one p.leads) p.place f ≡ []
+formed p f is h = subst (λ (x : Form). not_built_form (is_at_one p.leads) p.place x ≡ []) is h
+
+takes_all : (p : Piece) (head : InlineHead) (held : Operands) → p.form ≡ tree.Inline head held → IsBuiltPiece p → takes head.form held ≡ true
+takes_all p head held is h =
+    not_not (takes head.form held) (never (not (takes head.form held)) p.place (left_none (place_if (not (takes head.form held)) p.place) (not_built_operands (is_at_one p.leads) held) (formed p (tree.Inline head held) is h)))
+
+no_reference : (p : Piece) (r : Reference) → p.form ≡ tree.Refer r → IsBuiltPiece p → ⊥
+no_reference p r is h = let here = formed p (tree.Refer r) is h in cc
+
+module _ (names : List (List ℕ)) where
+  -- a piece is built, and stands at instances
+  abbrev IsGood : Piece → Type 0
+  IsGood p = IsBuiltPiece p × IsNamedPiece names p
+
+  zipped : (ps : List Piece) → Each IsBuiltPiece ps → Each (IsNamedPiece names) ps → Each IsGood ps
+  zipped [] h g = tt
+  zipped (p ∷ ps) h g = ((h.0, g.0), zipped ps h.1 g.1)
+
+  operands_good : (cover : List (List ℕ)) (k : ℕ) (ps : List Piece) → AreAmong names cover → Each IsGood ps → Each IsGood (operands_of cover k ps)
+  operands_good cover k ps c h = operands_each IsGood cover k ps (λ p g. zipped _ (of_built cover k p p.form g.0) (of_are names cover k p p.form c g.1 g.1.inside)) h
+
+  mutual
+    body_built : {cover : List (List ℕ)} {ps : List Piece} (b : Body) → AreAmong names cover → Each IsGood ps → IsWovenLevel cover ps b → is_built names b ≡ true
+    body_built {ps = ps} _ c h (woven {held = held} o w p) = items_built (level_items ps) held c (level_each IsGood ps h) w
+
+    items_built : {cover : List (List ℕ)} {order : List ℕ} (all : List (List Piece)) (xs : Items) → AreAmong names cover → EachOfAll IsGood all → AreWovenItems cover all order xs → are_built names xs ≡ true
+    items_built all _ c h (no_woven) = refl
+    items_built all _ c h (woven_and {x = i} {parts = parts} {item = x} {held = xs} at w k) =
+        both (is_built_item names x) (are_built names xs) (item_built x c (parts_each IsGood all i parts h at) w) (items_built all xs c h k)
+
+    item_built : {cover : List (List ℕ)} {parts : List Piece} (x : Item) → AreAmong names cover → Each IsGood parts → IsWovenItem cover parts x → is_built_item names x ≡ true
+    item_built _ c h (an_event {p = p} {at = at} {e = e} is here) =
+        both (list_any (bytes_eq at) names) (is_plain e) (any_from_one names at (lead_among names p.leads at h.0.1.leads here)) (plain_event (is_at_one p.leads) e (formed p (tree.Single e) is h.0.0))
+    item_built _ c h (a_coregion {p = p} {at = at} {es = es} is here) =
+        plain_nodes names p.first at es (lead_among names p.leads at h.0.1.leads here) (right_none (place_if (not (is_at_one p.leads)) p.place) (not_built_events es) (formed p (tree.Coregion es) is h.0.0))
+    item_built _ c h (an_inline {cover = cover} {p = p} {ps = ps} {head = head} {operands = operands} {held = held} is w) =
+        both (has_operands head.form held) (have_built names held)
+        (same_operands head.form operands held (woven_number held w) (takes_all p head operands is h.0.0))
+        (operands_built held (cover_among names cover p c h.0.1) h w)
+    item_built _ c h (a_reference {p = p} {r = r} is) = absurd (no_reference p r is h.0.0)
+
+    operands_built : {cover : List (List ℕ)} {parts : List Piece} {k count : ℕ} (bs : Bodies) → AreAmong names cover → Each IsGood parts → AreWovenOperands cover parts k count bs → have_built names bs ≡ true
+    operands_built _ c h (no_woven_operand) = refl
+    operands_built _ c h (woven_operand_and {cover = cover} {parts = parts} {k = k} {body = b} {others = bs} w g) =
+        both (is_built names b) (have_built names bs) (body_built b c (operands_good cover k parts c h) w) (operands_built bs c h g)
+
+-- ---- a chart
+
+chart_pieces : (c : Chart) (held : List Statement) → c.content ≡ Basic held → IsBuilt c → Each IsBuiltPiece (statements_pieces (instances c) 0 (statements held))
+chart_pieces c held is built = statements_built (instances c) 0 (statements held) (none_within c (Basic held) is built)
+
+chart_built : (c : Chart) (held : List Statement) (b : Body) → c.content ≡ Basic held → IsBuilt c → ((p : Place) → ChartNamesOther c p → ⊥)
+    → IsWovenLevel (instances c) (statements_pieces (instances c) 0 (statements held)) b → is_built (instances c) b ≡ true
+chart_built c held b is built none w =
+    let all = all_among (instances c) in
+    body_built (instances c) b all (zipped (instances c) (statements_pieces (instances c) 0 (statements held)) (chart_pieces c held is built) (chart_named c held (instances c) is none all)) w
+
+pub built_charts_are_known : BuiltChartsAreKnown
+built_charts_are_known = record {
+  built = chart_built;
+  all_woven = λ c held is built. pieces_woven (statements_pieces (instances c) 0 (statements held)) (chart_pieces c held is built);
+  whole = chart_whole;
+  basic = no_graph;
+}

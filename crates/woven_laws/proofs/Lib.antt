@@ -1,0 +1,17 @@
+mod Regions
+mod ItemRegions
+mod OperandRegions
+pub mod Differing
+mod WalkedForms
+mod WalkedSizes
+mod WalkedNotes
+mod EachPiece
+mod PieceSizes
+mod BuiltPieces
+mod Declaring
+mod NamedPieces
+mod Unrefined
+pub mod BuiltLaws
+pub mod WovenSizes
+mod WalkedBounds
+mod WalkedLevels

@@ -1,4 +1,0 @@
-mod Regions
-mod ItemRegions
-mod OperandRegions
-pub mod Differing

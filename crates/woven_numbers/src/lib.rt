@@ -1,4 +1,0 @@
-//! Laws of the numbers of the events of woven bodies.
-#![tactic(auto)]
-
-pub mod laws;
