@@ -1,3 +1,4 @@
 pub mod Texts
 pub mod Gathering
 pub mod PassageViews
+pub mod WellFormed

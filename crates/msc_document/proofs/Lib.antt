@@ -5,6 +5,8 @@ pub mod ColumnRules
 pub mod Continued
 pub mod DocumentRules
 pub mod Firsts
+pub mod Formed
+pub mod Giving
 pub mod Goings
 pub mod ItemForms
 pub mod ItemRules

@@ -6,3 +6,4 @@ pub mod DocumentReaders
 pub mod Inlines
 pub mod ItemReaders
 pub mod StatementReaders
+pub mod FormedDocuments

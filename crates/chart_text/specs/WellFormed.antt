@@ -1,0 +1,56 @@
+-- What each text that is read has beside its tree: an event and a coregion stand at one instance, and an inline expression has as many
+-- operands as its form takes (Z.120, clauses 4.2 and 7.2).
+use Rattle.std.specs.Prelude.{ℕ, ◌≡◌, ⊤, Bool, true, false, nat_eq, length, List, [], ◌∷◌}
+use Rattle.msc_tree.specs.declared.reference.InlineForm.{InlineForm}
+use Rattle.msc_tree.specs.declared.reference.InlineForm.TheVariants.{Alt, Opt, Par, Loop, Exc}
+use Rattle.msc_tree.specs.Charts.{Chart}
+use Rattle.msc_tree.specs.Statements.{Form, Single, Coregion, Condition, Inline, Refer, Stop, Operands, no_operands, operand_and}
+use Rattle.chart_text.specs.Texts.{Side, in_column, behind, behind_all, Passage, a_head, a_statement, an_item, an_operand, chart_text}
+
+-- one instance
+abbrev pub is_at_one : Side → Bool
+is_at_one (in_column name) = true
+is_at_one (behind names) = nat_eq (length names) 1
+is_at_one (behind_all scope) = false
+
+-- `alt` and `par` take any number of operands but none, the others one
+abbrev pub takes : InlineForm → Operands → Bool
+takes Alt no_operands = false
+takes Alt (operand_and operand others) = true
+takes Par no_operands = false
+takes Par (operand_and operand others) = true
+takes Opt no_operands = false
+takes Opt (operand_and operand no_operands) = true
+takes Opt (operand_and operand (operand_and other others)) = false
+takes Exc no_operands = false
+takes Exc (operand_and operand no_operands) = true
+takes Exc (operand_and operand (operand_and other others)) = false
+takes Loop no_operands = false
+takes Loop (operand_and operand no_operands) = true
+takes Loop (operand_and operand (operand_and other others)) = false
+
+abbrev pub is_well_formed_item : Side → Form → Bool
+is_well_formed_item side (Single event) = is_at_one side
+is_well_formed_item side (Coregion events) = is_at_one side
+is_well_formed_item side (Inline head held) = takes head.form held
+is_well_formed_item side (Condition names shared) = true
+is_well_formed_item side (Refer reference) = true
+is_well_formed_item side Stop = true
+
+abbrev pub is_well_formed : Passage → Bool
+is_well_formed (an_item s place form) = is_well_formed_item s.side form
+is_well_formed (a_head decl) = true
+is_well_formed (a_statement depth scope statement) = true
+is_well_formed (an_operand s operand) = true
+
+abbrev pub AreWellFormed : List Passage → Type 0
+AreWellFormed [] = ⊤
+AreWellFormed (p ∷ passages) = (is_well_formed p ≡ true) × AreWellFormed passages
+
+abbrev pub IsWellFormed : Chart → Type 0
+IsWellFormed chart = AreWellFormed (chart_text chart)
+
+-- each of the charts
+abbrev pub AreAllWellFormed : List Chart → Type 0
+AreAllWellFormed [] = ⊤
+AreAllWellFormed (c ∷ charts) = IsWellFormed c × AreAllWellFormed charts
