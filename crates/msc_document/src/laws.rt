@@ -1,4 +1,4 @@
-//! The laws of documents: tokens read as one at most, and are read so; and what each has. Each is the contract of a function that does nothing.
+//! The law of documents: tokens read as one at most, and are read so; and what each has; as the contract of a function that does nothing.
 
 ghost use Rattle.std.specs.Prelude.{ℕ, List};
 ghost use Rattle.msc_tokens.specs.declared.token.Token.{Token};
@@ -9,14 +9,10 @@ ghost use Rattle.msc_document.specs.DocumentReaders.{document_at};
 ghost use Rattle.msc_document.specs.FormedDocuments.{DocumentsAreWellFormed};
 
 /// Tokens read as at most one document, and what the reader of documents answers at each number of levels is that
-/// document, or the first token that is refused or opens a level too many.
+/// document, or the first token that is refused or opens a level too many. In a document that is read events and coregions stand
+/// at one instance, and inline expressions have as many operands as their forms take.
 pub fn documents_are_exact()
     ensures one { OneReading document }
     ensures exact { (n : ℕ) (tokens : List Token) → IsExact document n tokens (document_at n tokens) }
-{}
-
-/// In each document that tokens read as, events and coregions stand at one instance, and inline expressions have as many
-/// operands as their forms take.
-pub fn documents_are_well_formed()
-    ensures { DocumentsAreWellFormed }
+    ensures formed { DocumentsAreWellFormed }
 {}
