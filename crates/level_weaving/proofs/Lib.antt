@@ -17,4 +17,3 @@ pub mod JointLaws
 pub mod EventItems
 pub mod WalkSteps
 pub mod NumberLaws
-mod WalkedExceptions

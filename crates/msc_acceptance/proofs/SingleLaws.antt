@@ -1,12 +1,10 @@
--- Charts whose items are neither inline expressions nor references: no rule on parts is broken there.
+-- Charts without inline expressions and references: no rule on parts is broken there.
 use Rattle.std.proofs.Common.{◌≡◌, inl, inr, ℕ, ◌+◌, Bool, true, false, cond, ◌&&◌, List, [], ◌∷◌, ◌++◌, Option, None, refl, ap, ◌∙◌, subst, map}
 use Rattle.std.specs.Prelude.{⊤}
 use Rattle.level_pieces.specs.ItemParts.{has_events}
-use Rattle.level_weaving.specs.Exceptions.{IsMisplaced, inner_exceptions, outer_exceptions, outer_form, outer_pieces}
-use Rattle.chart_text.proofs.GatheringLaws.{gathered_append}
+use Rattle.level_weaving.specs.Exceptions.{IsMisplaced, inner_exceptions, inner_item, outer_exceptions, outer_form, outer_pieces}
 use Rattle.chart_text.specs.Gathering.{gathered}
-use Rattle.chart_text.specs.Texts.{Scope, Standing, Whole, a_head, an_item, chart_text, content_text, form_text, items_text, statement_held, statements_text}
-use Rattle.msc_tree.specs.declared.chart.Decl.{Decl}
+use Rattle.chart_text.specs.Texts.{Passage, Scope, Standing, Whole, a_head, a_statement, an_item, an_operand, chart_text, content_text, form_text, items_text, statement_held, statements_text}
 use Rattle.msc_base.specs.Lists.{IsAmong}
 use Rattle.msc_base.specs.Places.{IsLeast}
 use Rattle.msc_base.specs.declared.place.Place.{Place}
@@ -19,7 +17,7 @@ use Rattle.shared_parts.proofs.LevelLaws.{break_items, event_keeps, level_joined
 use Rattle.shared_parts.specs.Noting.{AreAllJoined, ItemBreaks, OneHolds}
 use Rattle.shared_parts.specs.PartRules.{ChartBreaksPartRule, ContentBreaksPartRule}
 use Rattle.shared_parts.specs.declared.faults.PartRule.{PartRule}
-use Rattle.msc_acceptance.specs.SingleItems.{are_single, are_single_statements, is_single, is_single_chart, is_single_content, is_single_statement}
+use Rattle.msc_acceptance.specs.SingleItems.{are_single, is_single, is_single_chart, is_single_passage}
 
 first_true : (a b : Bool) → (a && b) ≡ true → a ≡ true
 first_true true b h = refl
@@ -28,6 +26,10 @@ first_true false b h = h
 second_true : (a b : Bool) → (a && b) ≡ true → b ≡ true
 second_true true b h = h
 second_true false b h = cc
+
+both_true : (a b : Bool) → a ≡ true → b ≡ true → (a && b) ≡ true
+both_true true b h g = g
+both_true false b h g = h
 
 -- ---- pieces
 
@@ -40,22 +42,34 @@ both_single : (ps qs : List Piece) → AreSingle ps → AreSingle qs → AreSing
 both_single [] qs g h = h
 both_single (p ∷ ps) qs g h = (g.0, both_single ps qs g.1 h)
 
+single_left : (xs ys : List Passage) → are_single (xs ++ ys) ≡ true → are_single xs ≡ true
+single_left [] ys h = refl
+single_left (x ∷ xs) ys h = both_true (is_single_passage x) (are_single xs) (first_true (is_single_passage x) (are_single (xs ++ ys)) h) (single_left xs ys (second_true (is_single_passage x) (are_single (xs ++ ys)) h))
+
+single_right : (xs ys : List Passage) → are_single (xs ++ ys) ≡ true → are_single ys ≡ true
+single_right [] ys h = h
+single_right (x ∷ xs) ys h = single_right xs ys (second_true (is_single_passage x) (are_single (xs ++ ys)) h)
+
 module _ (cover : List (List ℕ)) where
-  items_single : (column : Option (List ℕ)) (leads : List (List ℕ)) (n : ℕ) (xs : Items) → are_single xs ≡ true → AreSingle (items_pieces column leads n xs)
-  items_single column leads n no_items h = tt
-  items_single column leads n (item_and (placed place form) xs) h = (first_true (is_single form) (are_single xs) h, items_single column leads (n + form_count form) xs (second_true (is_single form) (are_single xs) h))
+  items_single : (t : Standing) (column : Option (List ℕ)) (leads : List (List ℕ)) (n : ℕ) (xs : Items) → are_single (items_text t xs) ≡ true → AreSingle (items_pieces column leads n xs)
+  items_single t column leads n no_items h = tt
+  items_single t column leads n (item_and (placed place form) xs) h = (
+    first_true (is_single form) (are_single (form_text t form)) (single_left (an_item t place form ∷ form_text t form) (items_text t xs) h),
+    items_single t column leads (n + form_count form) xs (single_right (an_item t place form ∷ form_text t form) (items_text t xs) h),
+  )
 
-  statement_single : (n : ℕ) (x : Statement) → is_single_statement x ≡ true → AreSingle (statement_pieces cover n x)
-  statement_single n (Column decl held) h = items_single _ _ n held h
-  statement_single n (Covered names held) h = items_single _ _ n held h
-  statement_single n (Heading decl) h = tt
-  statement_single n (Ended name) h = tt
+  statement_single : (n depth : ℕ) (scope : Scope) (x : Statement) → are_single (statement_held depth scope x) ≡ true → AreSingle (statement_pieces cover n x)
+  statement_single n depth scope (Column decl held) h = items_single _ _ _ n held h
+  statement_single n depth scope (Covered names held) h = items_single _ _ _ n held h
+  statement_single n depth scope (Heading decl) h = tt
+  statement_single n depth scope (Ended name) h = tt
 
-  statements_single : (n : ℕ) (xs : Statements) → are_single_statements xs ≡ true → AreSingle (statements_pieces cover n xs)
-  statements_single n no_statements h = tt
-  statements_single n (statement_and x xs) h =
-      both_single (statement_pieces cover n x) (statements_pieces cover (n + statement_count x) xs) (statement_single n x (first_true (is_single_statement x) (are_single_statements xs) h))
-      (statements_single (n + statement_count x) xs (second_true (is_single_statement x) (are_single_statements xs) h))
+  statements_single : (n depth : ℕ) (scope : Scope) (xs : Statements) → are_single (statements_text depth scope xs) ≡ true → AreSingle (statements_pieces cover n xs)
+  statements_single n depth scope no_statements h = tt
+  statements_single n depth scope (statement_and x xs) h =
+      both_single (statement_pieces cover n x) (statements_pieces cover (n + statement_count x) xs)
+      (statement_single n depth scope x (single_left (statement_held depth scope x) (statements_text depth scope xs) h))
+      (statements_single (n + statement_count x) depth scope xs (single_right (statement_held depth scope x) (statements_text depth scope xs) h))
 
 -- ---- their items
 
@@ -98,15 +112,18 @@ events_keep rule cover ((p ∷ ps) ∷ xs) q j h (inr b) = events_keep rule cove
 
 -- ---- charts
 
-content_keeps : (rule : PartRule) (names : List (List ℕ)) (x : Content) (q : Place) → is_single_content x ≡ true → ContentBreaksPartRule rule names x q → ⊥
+content_keeps : (rule : PartRule) (names : List (List ℕ)) (x : Content) (q : Place) → are_single (content_text x) ≡ true → ContentBreaksPartRule rule names x q → ⊥
 content_keeps rule names (Basic held) q s b =
     let ps = statements_pieces names 0 (statements held) in
-    events_keep rule names (level_items ps) q (level_joined ps) (with_all [] ps (statements_single names 0 (statements held) s) tt) (break_items rule names ps q b)
+    events_keep rule names (level_items ps) q (level_joined ps) (with_all [] ps (statements_single names 0 0 Whole (statements held) s) tt) (break_items rule names ps q b)
 content_keeps rule names (HighLevel drawn) q s b = b
+
+content_single : (c : Chart) → is_single_chart c ≡ true → are_single (content_text c.content) ≡ true
+content_single c s = single_right (map a_head c.decls) (content_text c.content) s
 
 -- no part breaks a rule
 pub parts_kept : (rule : PartRule) (c : Chart) → is_single_chart c ≡ true → IsLeast (ChartBreaksPartRule rule c) None
-parts_kept rule c s = λ q b. content_keeps rule (instances c) c.content q s b
+parts_kept rule c s = λ q b. content_keeps rule (instances c) c.content q (content_single c s) b
 
 no_place : (all : Bool) (place : Place) (form : Form) → is_single form ≡ true → outer_form all place form ≡ []
 no_place all place (Single event) s = refl
@@ -120,57 +137,36 @@ no_places : (names : List (List ℕ)) (ps : List Piece) → AreSingle ps → out
 no_places names [] s = refl
 no_places names (p ∷ ps) s = ap (λ (l : List Place). l ++ outer_pieces names ps) (no_place _ p.place p.form s.0) ∙ no_places names ps s.1
 
-content_placed : (names : List (List ℕ)) (x : Content) → is_single_content x ≡ true → outer_exceptions names x ≡ []
-content_placed names (Basic held) s = no_places names (statements_pieces names 0 (statements held)) (statements_single names 0 (statements held) s)
+content_placed : (names : List (List ℕ)) (x : Content) → are_single (content_text x) ≡ true → outer_exceptions names x ≡ []
+content_placed names (Basic held) s = no_places names (statements_pieces names 0 (statements held)) (statements_single names 0 0 Whole (statements held) s)
 content_placed names (HighLevel drawn) s = refl
 
--- ---- inside operands, of which there are none
+-- ---- inside operands
 
 both_none : (xs ys : List Place) → xs ≡ [] → ys ≡ [] → xs ++ ys ≡ []
 both_none xs ys a b = ap (λ l. l ++ ys) a ∙ b
 
-heads_free : (ds : List Decl) → gathered inner_exceptions (map a_head ds) ≡ []
-heads_free [] = refl
-heads_free (d ∷ ds) = heads_free ds
+no_inner : (depth : ℕ) (place : Place) (form : Form) → is_single form ≡ true → inner_item depth place form ≡ []
+no_inner depth place (Single event) s = refl
+no_inner depth place (Coregion held) s = refl
+no_inner depth place (Condition names shared) s = refl
+no_inner depth place (Inline head held) s = cc
+no_inner depth place (Refer reference) s = refl
+no_inner depth place Stop s = refl
 
-item_free : (t : Standing) (place : Place) (form : Form) → is_single form ≡ true → gathered inner_exceptions (an_item t place form ∷ form_text t form) ≡ []
-item_free t place (Single event) s = refl
-item_free t place (Coregion held) s = refl
-item_free t place (Condition names shared) s = refl
-item_free t place (Inline head held) s = cc
-item_free t place (Refer reference) s = refl
-item_free t place Stop s = refl
+passage_free : (x : Passage) → is_single_passage x ≡ true → inner_exceptions x ≡ []
+passage_free (a_head decl) s = refl
+passage_free (a_statement depth scope x) s = refl
+passage_free (an_item t place form) s = no_inner t.depth place form s
+passage_free (an_operand t x) s = refl
 
-items_free : (t : Standing) (xs : Items) → are_single xs ≡ true → gathered inner_exceptions (items_text t xs) ≡ []
-items_free t no_items s = refl
-items_free t (item_and (placed place form) xs) s =
-    gathered_append inner_exceptions (an_item t place form ∷ form_text t form) (items_text t xs)
-    ∙ both_none (gathered inner_exceptions (an_item t place form ∷ form_text t form)) (gathered inner_exceptions (items_text t xs)) (item_free t place form (first_true (is_single form) (are_single xs) s))
-    (items_free t xs (second_true (is_single form) (are_single xs) s))
-
-statement_free : (depth : ℕ) (scope : Scope) (x : Statement) → is_single_statement x ≡ true → gathered inner_exceptions (statement_held depth scope x) ≡ []
-statement_free depth scope (Column decl held) s = items_free _ held s
-statement_free depth scope (Covered cover held) s = items_free _ held s
-statement_free depth scope (Heading decl) s = refl
-statement_free depth scope (Ended name) s = refl
-
-statements_free : (depth : ℕ) (scope : Scope) (xs : Statements) → are_single_statements xs ≡ true → gathered inner_exceptions (statements_text depth scope xs) ≡ []
-statements_free depth scope no_statements s = refl
-statements_free depth scope (statement_and x xs) s =
-    gathered_append inner_exceptions (statement_held depth scope x) (statements_text depth scope xs)
-    ∙ both_none (gathered inner_exceptions (statement_held depth scope x)) (gathered inner_exceptions (statements_text depth scope xs))
-    (statement_free depth scope x (first_true (is_single_statement x) (are_single_statements xs) s)) (statements_free depth scope xs (second_true (is_single_statement x) (are_single_statements xs) s))
-
-content_free : (x : Content) → is_single_content x ≡ true → gathered inner_exceptions (content_text x) ≡ []
-content_free (Basic held) s = statements_free 0 Whole (statements held) s
-content_free (HighLevel drawn) s = refl
-
-chart_free : (c : Chart) → is_single_chart c ≡ true → gathered inner_exceptions (chart_text c) ≡ []
-chart_free c s =
-    gathered_append inner_exceptions (map a_head c.decls) (content_text c.content)
-    ∙ both_none (gathered inner_exceptions (map a_head c.decls)) (gathered inner_exceptions (content_text c.content)) (heads_free c.decls) (content_free c.content s)
+text_free : (xs : List Passage) → are_single xs ≡ true → gathered inner_exceptions xs ≡ []
+text_free [] s = refl
+text_free (x ∷ xs) s =
+    both_none (inner_exceptions x) (gathered inner_exceptions xs) (passage_free x (first_true (is_single_passage x) (are_single xs) s)) (text_free xs (second_true (is_single_passage x) (are_single xs) s))
 
 -- no exception is misplaced
 pub exceptions_kept : (c : Chart) → is_single_chart c ≡ true → IsLeast (IsMisplaced c) None
 exceptions_kept c s = λ q b.
-    subst (λ (l : List Place). IsAmong l q) (both_none (gathered inner_exceptions (chart_text c)) (outer_exceptions (instances c) c.content) (chart_free c s) (content_placed (instances c) c.content s)) b
+    subst (λ (l : List Place). IsAmong l q)
+    (both_none (gathered inner_exceptions (chart_text c)) (outer_exceptions (instances c) c.content) (text_free (chart_text c) s) (content_placed (instances c) c.content (content_single c s))) b

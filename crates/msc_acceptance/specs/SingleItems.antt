@@ -1,32 +1,28 @@
 -- Serves private contracts alone.
--- Charts whose items at the outermost level are neither inline expressions nor references: no rule on parts is broken there.
-use Rattle.std.specs.Prelude.{Bool, true, false, ◌&&◌}
-use Rattle.msc_tree.specs.Charts.{Basic, Chart, Content, HighLevel}
-use Rattle.msc_tree.specs.Statements.{Form, Inline, Refer, Items, no_items, item_and, placed, Statement, Column, Covered, Heading, Ended, Statements, no_statements, statement_and, statements}
+-- Charts without inline expressions and references: no rule on parts is broken there.
+use Rattle.std.specs.Prelude.{Bool, true, false, ◌&&◌, List, [], ◌∷◌}
+use Rattle.chart_text.specs.Texts.{Passage, a_head, a_statement, an_item, an_operand, chart_text}
+use Rattle.msc_tree.specs.Charts.{Chart}
+use Rattle.msc_tree.specs.Statements.{Form, Single, Coregion, Condition, Inline, Refer, Stop}
 
 -- neither an inline expression nor a reference
 abbrev pub is_single : Form → Bool
 is_single (Inline head held) = false
 is_single (Refer reference) = false
-is_single _ = true
+is_single (Single event) = true
+is_single (Coregion events) = true
+is_single (Condition names shared) = true
+is_single Stop = true
 
-abbrev pub are_single : Items → Bool
-are_single no_items = true
-are_single (item_and (placed place form) xs) = is_single form && are_single xs
+abbrev pub is_single_passage : Passage → Bool
+is_single_passage (a_head decl) = true
+is_single_passage (a_statement depth scope x) = true
+is_single_passage (an_item s place form) = is_single form
+is_single_passage (an_operand s x) = true
 
-abbrev pub is_single_statement : Statement → Bool
-is_single_statement (Column decl held) = are_single held
-is_single_statement (Covered cover held) = are_single held
-is_single_statement (Heading decl) = true
-is_single_statement (Ended name) = true
-
-abbrev pub are_single_statements : Statements → Bool
-are_single_statements no_statements = true
-are_single_statements (statement_and x xs) = is_single_statement x && are_single_statements xs
-
-abbrev pub is_single_content : Content → Bool
-is_single_content (Basic held) = are_single_statements (statements held)
-is_single_content (HighLevel drawn) = true
+abbrev pub are_single : List Passage → Bool
+are_single [] = true
+are_single (x ∷ xs) = is_single_passage x && are_single xs
 
 abbrev pub is_single_chart : Chart → Bool
-is_single_chart chart = is_single_content chart.content
+is_single_chart chart = are_single (chart_text chart)

@@ -81,7 +81,7 @@ fn read_chart(alloc: Global, chart: &RawChart) -> Result<ChartText, NoMemory>
     Ok(ChartText {
         names: named.names,
         size,
-        single: holds_singles(&chart.content),
+        single: holds_singles(text.as_slice()),
         places: TextPlaces {
             not_built,
             high_bound,

@@ -1,11 +1,12 @@
 //! Whether a chart has neither inline expressions nor references, so that no rule on parts is asked of it: for `reading`.
 
-ghost use Rattle.std.specs.Prelude.{◌≡◌, ◌&&◌, map};
-ghost use Rattle.msc_acceptance.specs.SingleItems.{are_single, are_single_statements, is_single, is_single_content, is_single_statement};
-ghost use Rattle.msc_tree.specs.Statements.{items as item_tree, statements as statement_tree};
-ghost use Rattle.msc_tree.specs.Views.{content_view, form_view, item_view, statement_view};
+ghost use Rattle.std.specs.Prelude.{◌≡◌, ◌&&◌};
+ghost use Rattle.chart_text.specs.PassageViews.{passage_view, text_view};
+ghost use Rattle.msc_acceptance.specs.SingleItems.{are_single, is_single, is_single_passage};
+ghost use Rattle.msc_tree.specs.Views.{form_view};
 
-use msc_tree::{Content, RawForm, RawItem, Statement};
+use chart_text::Passage;
+use msc_tree::RawForm;
 
 /// Whether the form is neither an inline expression nor a reference.
 fn is_one(form: &RawForm) -> bool
@@ -14,7 +15,22 @@ fn is_one(form: &RawForm) -> bool
     match form {
         RawForm::Inline(_) => false,
         RawForm::Reference(_) => false,
-        _ => true,
+        RawForm::Single(_) => true,
+        RawForm::Coregion(_) => true,
+        RawForm::Condition(_, _) => true,
+        RawForm::Stop => true,
+    }
+}
+
+/// Whether the passage is no such item.
+fn is_single_in(passage: Passage<'_>) -> bool
+    ensures { result ≡ is_single_passage (passage_view passage.entry) }
+{
+    match passage {
+        Passage::Item(_, held) => is_one(&held.form),
+        Passage::Head(_) => true,
+        Passage::Statement(_, _, _) => true,
+        Passage::Operand(_, _) => true,
     }
 }
 
@@ -25,47 +41,13 @@ fn both(one: bool, other: bool) -> bool
     one && other
 }
 
-/// Whether none of the items is such.
-fn are_ones(list: &[RawItem]) -> bool
-    ensures { result ≡ are_single (item_tree (map item_view list.now)) }
+/// Whether no item of a text is such.
+pub fn holds_singles(text: &[Passage<'_>]) -> bool
+    ensures { result ≡ are_single (text_view text.now) }
 {
     let mut all = true;
-    for held in list {
-        all = both(all, is_one(&held.form));
+    for held in text {
+        all = both(all, is_single_in(*held));
     }
     all
-}
-
-/// Whether none of the items of a statement is such.
-fn holds_ones(statement: &Statement) -> bool
-    ensures { result ≡ is_single_statement (statement_view statement.now) }
-{
-    match statement {
-        Statement::One(_, item) => is_one(&item.form),
-        Statement::Column(_, list) => are_ones(list.as_slice()),
-        Statement::Covered(_, list) => are_ones(list.as_slice()),
-        Statement::Heading(_) => true,
-        Statement::Ended(_) => true,
-    }
-}
-
-/// Whether none of the items of statements is such.
-fn hold_ones(list: &[Statement]) -> bool
-    ensures { result ≡ are_single_statements (statement_tree (map statement_view list.now)) }
-{
-    let mut all = true;
-    for held in list {
-        all = both(all, holds_ones(held));
-    }
-    all
-}
-
-/// Whether none of a chart's items outside inline expressions is such. A graph has none.
-pub fn holds_singles(content: &Content) -> bool
-    ensures { result ≡ is_single_content (content_view content.now) }
-{
-    match content {
-        Content::Events(list) => hold_ones(list.as_slice()),
-        Content::Graph(_) => true,
-    }
 }

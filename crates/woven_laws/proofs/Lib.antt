@@ -13,5 +13,3 @@ mod NamedPieces
 mod Unrefined
 pub mod BuiltLaws
 pub mod WovenSizes
-mod WalkedBounds
-mod WalkedLevels
