@@ -6,7 +6,7 @@ to a file of code or specs/ asks that the file has the name. A page of the repos
 a link. Beside that:
 - docs/RULES.md has the rules of msc_rules, and docs/PROVED.md names contracts that are there;
 - docs/DEFINITIONS.md lists the files that tools/believed.py reaches, with their lines;
-- the files of specs/ that begin with 'Serves private contracts alone.' are those that no public contract reaches;
+- no public contract reaches a file of specs/ that begins with 'Serves private contracts alone.';
 - the limits in the README are those of msc_base, and times and sizes in the README, docs/ARCHITECTURE.md and docs/PROVED.md
   stand in bench/README.md, or, in minutes, in CONTRIBUTING.md;
 - docs/ARCHITECTURE.md has the crates of crates.txt as tools/crates.py writes them, and docs/PROVED.md a row for each that carries a claim.
@@ -130,13 +130,12 @@ def of_definitions():
 
 
 def of_first_lines():
-    """Files of specs/ that say that they serve private contracts alone, and don't, or don't say it."""
+    """Files of specs/ that say that they serve private contracts alone, and that a public one reaches."""
     told = subprocess.run([sys.executable, "tools/believed.py", "--private"], capture_output=True, text=True, check=True).stdout
     private = set(told.split())
     for path in sorted(glob.glob("crates/*/specs/**/*.antt", recursive=True)):
-        says = open(path).read().startswith("-- Serves private contracts alone.")
-        if says != (path in private) and not path.endswith("/Lib.antt"):
-            yield f"{path}: " + ("says that it serves private contracts alone, and a public one reaches it" if says else "no public contract reaches it, which its first line doesn't say")
+        if open(path).read().startswith("-- Serves private contracts alone.\n") and path not in private:
+            yield f"{path}: says that it serves private contracts alone, and a public one reaches it"
 
 
 def of_limits():
