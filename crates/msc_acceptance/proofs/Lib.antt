@@ -9,3 +9,4 @@ pub mod AcceptedLaws
 pub mod ListLaws
 pub mod ChartLists
 pub mod SingleLaws
+mod DeclaringLaws

@@ -5,3 +5,4 @@ pub mod Listing
 pub mod AcceptedCharts
 pub mod Deciding
 pub mod SingleItems
+pub mod Declaring

@@ -1,0 +1,8 @@
+use Rattle.std.proofs.Common.{◌≡◌, ◌++◌, drop}
+use Rattle.chart_text.specs.Gathering.{gathered}
+use Rattle.chart_text.specs.PassageViews.{text_view}
+use Rattle.msc_acceptance.specs.Declaring.{declares}
+use Rattle.msc_acceptance.proofs.declaring.passages.Given as goal
+
+abbrev pub invariant-loop-held : goal.invariant-loop-held
+invariant-loop-held l = l.decls ++ gathered declares (text_view (drop l.held-index l.text)) ≡ l.initial.decls ++ gathered declares (text_view l.text)
