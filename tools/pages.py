@@ -6,7 +6,6 @@ to a file of code or specs/ asks that the file has the name. A page of the repos
 a link. Beside that:
 - docs/RULES.md has the rules of msc_rules, and docs/PROVED.md names contracts that are there;
 - docs/DEFINITIONS.md lists the files that tools/believed.py reaches, with their lines;
-- no public contract reaches a file of specs/ that begins with 'Serves private contracts alone.';
 - the limits in the README are those of msc_base, and times and sizes in the README, docs/ARCHITECTURE.md and docs/PROVED.md
   stand in bench/README.md, or, in minutes, in CONTRIBUTING.md;
 - docs/ARCHITECTURE.md has the crates of crates.txt as tools/crates.py writes them, and docs/PROVED.md a row for each that carries a claim.
@@ -129,15 +128,6 @@ def of_definitions():
         yield f"docs/DEFINITIONS.md: the headline reaches {sum(believed.values())} lines in {len(believed)} files, which the page doesn't say"
 
 
-def of_first_lines():
-    """Files of specs/ that say that they serve private contracts alone, and that a public one reaches."""
-    told = subprocess.run([sys.executable, "tools/believed.py", "--private"], capture_output=True, text=True, check=True).stdout
-    private = set(told.split())
-    for path in sorted(glob.glob("crates/*/specs/**/*.antt", recursive=True)):
-        if open(path).read().startswith("-- Serves private contracts alone.\n") and path not in private:
-            yield f"{path}: says that it serves private contracts alone, and a public one reaches it"
-
-
 def of_limits():
     """Limits that the README shows otherwise than msc_base has them."""
     limits = dict(re.findall(r"pub const (\w+): u64 = ([\d_]+);", open("crates/msc_base/src/limits.rt").read()))
@@ -174,7 +164,7 @@ def of_crates():
             yield f"docs/PROVED.md: no row for {crate}"
 
 
-CHECKS = (of_rules, of_proved, of_definitions, of_first_lines, of_limits, of_figures, of_crates)
+CHECKS = (of_rules, of_proved, of_definitions, of_limits, of_figures, of_crates)
 
 
 def main():
