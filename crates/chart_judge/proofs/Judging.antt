@@ -6,11 +6,11 @@ use Rattle.event_log.specs.declared.event.LogFault.{LogFault}
 use Rattle.event_log.specs.declared.event.LogForm.{LogForm}
 use Rattle.chart_term.specs.Terms.{Tree}
 use Rattle.term_tables.specs.NetValues.{NetsValue}
-use Rattle.trace_judge.specs.Judged.{fault_in, IsJudged}
-use Rattle.residual_pool.specs.Memories.{PoolValue}
-use Rattle.residual_pool.specs.contracts.pool.PoolStore.TheImpl.{holds-value}
-use Rattle.trace_judge.specs.States.{JudgeValue, Fed, IsGoing, Stands}
-use Rattle.trace_judge.specs.declared.fault.JudgeFault.{JudgeFault}
+use Rattle.chart_judge.specs.Judged.{fault_in, IsJudged}
+use Rattle.term_sets.specs.Memories.{PoolValue}
+use Rattle.term_sets.specs.contracts.pool.PoolStore.TheImpl.{holds-value}
+use Rattle.chart_judge.specs.States.{JudgeValue, Fed, IsGoing, Stands}
+use Rattle.chart_judge.specs.declared.fault.JudgeFault.{JudgeFault}
 use Rattle.msc_acceptance.specs.AcceptedCharts.{IsAcceptedChart}
 use Rattle.msc_meaning.specs.Tables.{ChartEntry}
 use Rattle.chart_judge.specs.ChartsTold.{VerdictsAreTold}

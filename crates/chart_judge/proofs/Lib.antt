@@ -3,3 +3,6 @@ pub mod Judging
 pub mod Known
 pub mod Made
 pub mod Verdicts
+mod Few
+mod Takings
+mod LogJudging

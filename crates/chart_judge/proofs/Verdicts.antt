@@ -3,7 +3,7 @@ use Rattle.std.proofs.Common.{◌≡◌, ℕ, List, [], subst}
 use Rattle.msc_base.specs.Only.{Only}
 use Rattle.msc_base.specs.declared.label.Label.{Label}
 use Rattle.msc_base.specs.declared.verdict.Verdict.{Verdict}
-use Rattle.event_log.specs.declared.event.LineEvent.{LineEvent}
+use Rattle.line_events.specs.declared.event.LineEvent.{LineEvent}
 use Rattle.msc_meaning.specs.Meanings.{Finished, Begun, Conforms, Begins}
 use Rattle.msc_meaning.specs.Tables.{Table}
 use Rattle.chart_term.specs.TermPatterns.{Both}

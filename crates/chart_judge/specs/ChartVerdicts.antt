@@ -2,7 +2,7 @@
 use Rattle.std.specs.Prelude.{◌≡◌, ℕ, List, Some}
 use Rattle.msc_base.specs.declared.label.Label.{Label}
 use Rattle.msc_base.specs.declared.verdict.Verdict.{Verdict}
-use Rattle.event_log.specs.declared.event.LineEvent.{LineEvent}
+use Rattle.line_events.specs.declared.event.LineEvent.{LineEvent}
 use Rattle.msc_meaning.specs.Meanings.{Conforms, Begins}
 use Rattle.msc_meaning.specs.Tables.{ChartEntry, Table, chart_at}
 use Rattle.chart_term.specs.Terms.{Tree}

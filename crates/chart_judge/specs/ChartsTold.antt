@@ -4,7 +4,7 @@ use Rattle.msc_base.specs.Only.{Only}
 use Rattle.msc_base.specs.declared.label.Label.{Label}
 use Rattle.msc_base.specs.declared.limits.TheConstants.Limits.{EXPANDED_SIZE}
 use Rattle.msc_base.specs.declared.verdict.Verdict.{Verdict}
-use Rattle.event_log.specs.declared.event.LineEvent.{LineEvent}
+use Rattle.line_events.specs.declared.event.LineEvent.{LineEvent}
 use Rattle.msc_acceptance.specs.AcceptedCharts.{IsAcceptedChart}
 use Rattle.msc_acceptance.specs.Listing.{cover_of}
 use Rattle.msc_unfolding.specs.Runs.{IsRun}

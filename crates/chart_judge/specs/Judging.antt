@@ -9,9 +9,9 @@ use Rattle.event_log.specs.States.{IsFaultOf}
 use Rattle.event_log.specs.declared.event.LogForm.{LogForm}
 use Rattle.chart_term.specs.Terms.{Tree}
 use Rattle.term_tables.specs.NetValues.{NetsValue}
-use Rattle.residual_pool.specs.contracts.pool.PoolStore.TheImpl.{holds-value}
-use Rattle.residual_pool.specs.Memories.{PoolValue}
-use Rattle.trace_judge.specs.States.{JudgeValue, Fed}
+use Rattle.term_sets.specs.contracts.pool.PoolStore.TheImpl.{holds-value}
+use Rattle.term_sets.specs.Memories.{PoolValue}
+use Rattle.chart_judge.specs.States.{JudgeValue, Fed}
 use Rattle.chart_judge.specs.ChartTerms.{IsTermOf}
 use Rattle.chart_judge.specs.ChartVerdicts.{IsVerdict}
 

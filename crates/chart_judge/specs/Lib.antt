@@ -2,3 +2,7 @@ pub mod ChartTerms
 pub mod ChartVerdicts
 pub mod ChartsTold
 pub mod Judging
+pub mod Judged
+pub mod Taking
+pub mod States
+pub mod Faults

@@ -7,17 +7,17 @@ ghost use Rattle.msc_acceptance.specs.AcceptedCharts.{IsAcceptedChart};
 ghost use Rattle.msc_base.specs.declared.limits.TheConstants.Limits.{BUDGET_MOST};
 ghost use Rattle.msc_meaning.specs.Tables.{ChartEntry as Chart};
 ghost use Rattle.msc_meaning.specs.Views.{entry_view};
-ghost use Rattle.trace_judge.specs.Judged.{IsJudgeFault, fault_in};
+ghost use Rattle.chart_judge.specs.Judged.{IsJudgeFault, fault_in};
 
 use crate::laws::{charts_have_terms, verdicts_are_told};
 use crate::term::term_of;
+use crate::{Judge, JudgeFault};
 use event_log::LogForm;
 use msc_base::{NoMemory, Verdict};
 use msc_meaning::ChartEntry;
-use residual_pool::Pool;
 use std::alloc::Global;
 use std::marker::Model;
-use trace_judge::{Judge, JudgeFault};
+use term_sets::Pool;
 
 /// Judges a log, which it is fed in pieces, by a chart.
 #[derive(Drop)]
@@ -28,8 +28,8 @@ pub struct ChartJudge {
 impl Model for ChartJudge {
     ghost use Rattle.std.specs.Coded.{codes};
     ghost use Rattle.chart_term.specs.Codes.{coded_tree};
-    ghost use Rattle.residual_pool.specs.Memories.{PoolValue};
-    ghost use Rattle.trace_judge.specs.States.{JudgeValue};
+    ghost use Rattle.term_sets.specs.Memories.{PoolValue};
+    ghost use Rattle.chart_judge.specs.States.{JudgeValue};
 
     ghost Value = { JudgeValue PoolValue };
 

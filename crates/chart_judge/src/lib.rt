@@ -3,8 +3,13 @@
 //! `specs/` says which term a chart has, what verdict a log has by a chart, and what a judge says of the bytes that it was fed.
 #![tactic(auto)]
 
+mod fault;
 mod judge;
 pub mod laws;
+mod log_judge;
+mod taking;
 mod term;
 
+pub use fault::JudgeFault;
 pub use judge::ChartJudge;
+pub use log_judge::Judge;

@@ -1,11 +1,12 @@
 //! A judge of a log in pieces, by the empty term.
+use chart_judge::{Judge, JudgeFault};
 use chart_term::Term;
 use event_log::{LogFault, LogForm};
 use msc_base::Verdict;
 use std::alloc::Global;
 use std::test::Fail;
+use term_sets::Residuals;
 use term_tables::Nets;
-use trace_judge::{Judge, JudgeFault, Residuals};
 
 /// A judge by the empty term.
 fn empty(alloc: Global) -> Result<Judge<Residuals>, Fail> {

@@ -8,8 +8,9 @@ use chart_term::{Term, TermList, par};
 use msc_base::{Far, Kind, Label, Name, NoMemory, Text, Verdict};
 use std::alloc::Global;
 use std::test::Fail;
+use term_sets::Residuals;
 use term_tables::Nets;
-use trace_judge::{Residuals, Store, Track};
+use trace_judge::{Store, Track};
 
 /// An action of instance i.
 fn action(alloc: Global, text: &str) -> Result<Label, Fail> {
@@ -73,7 +74,8 @@ fn feed<S: Store + Drop>(
     ensures { IfHeld (λ set. S.serves set nets.now) track.new }
 {
     for index in 0..count {
-        track.take(nets, label, index + 1)?;
+        let number = nets.label(label);
+        track.take(nets, number, index + 1)?;
     }
     Ok(())
 }

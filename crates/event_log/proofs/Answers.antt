@@ -7,7 +7,7 @@ use Rattle.event_log.specs.Lines.{cut_of, decided, last_line, lines_of}
 use Rattle.msc_base.specs.Only.{Never, Only}
 use Rattle.event_log.specs.Logs.{Stage, first_stage, HasFault, Reading, Reaches, limited, LogOf, HoldsEvent}
 use Rattle.event_log.specs.States.{LogState, HandsOut, TakesLine, RefusesLine, IsGoing, IsSettled, IsWanting, HoldsAt, Fed, IsFaultOf, IsAnswer}
-use Rattle.event_log.specs.declared.event.LineEvent.{LineEvent}
+use Rattle.line_events.specs.declared.event.LineEvent.{LineEvent}
 use Rattle.event_log.specs.declared.event.LogFault.{LogFault}
 use Rattle.event_log.specs.declared.event.LogFault.TheVariants as fault
 use Rattle.event_log.specs.declared.event.LogForm.{LogForm}

@@ -7,7 +7,7 @@ use Rattle.event_log.specs.Lines.{Cut, nothing_cut, cut_of, decided, decided_tai
 use Rattle.event_log.specs.Meanings.{Says}
 use Rattle.event_log.specs.Logs.{Stage, first_stage, After, Breaks, Passes, HasFault, too_long, of_meaning, Reading, Reaches, limited, LogOf}
 use Rattle.event_log.specs.States.{LogState, HandsOut, StandsAt, next_line, Takes, Refuses, TakesLine, RefusesLine, Grows, IsTooLong, counted, IsGoing, IsSettled, IsWanting, HoldsAt}
-use Rattle.event_log.specs.declared.event.LineEvent.{LineEvent}
+use Rattle.line_events.specs.declared.event.LineEvent.{LineEvent}
 use Rattle.event_log.specs.declared.event.LogFault.{LogFault}
 use Rattle.event_log.specs.declared.event.LogFault.TheVariants as fault
 use Rattle.event_log.specs.declared.event.LogForm.{LogForm}

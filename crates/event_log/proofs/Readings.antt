@@ -4,7 +4,7 @@ use Rattle.msc_base.specs.declared.label.Label.{Label}
 use Rattle.msc_base.specs.declared.limits.TheConstants.Limits.{LINE_BYTES}
 use Rattle.event_log.specs.Meanings.{Says}
 use Rattle.event_log.specs.Logs.{Stage, After, Breaks, Passes, HasFault, too_long, of_meaning, Reading, Reaches}
-use Rattle.event_log.specs.declared.event.LineEvent.{LineEvent}
+use Rattle.line_events.specs.declared.event.LineEvent.{LineEvent}
 use Rattle.event_log.specs.declared.event.LogFault.{LogFault}
 use Rattle.event_log.specs.declared.event.LogForm.{LogForm}
 use Rattle.event_log.specs.declared.event.Version.{Version}

@@ -4,7 +4,7 @@ use Rattle.msc_base.specs.declared.limits.TheConstants.Limits.{LINE_BYTES, LOG_B
 use Rattle.event_log.specs.Lines.{cut_of, lines_of}
 use Rattle.event_log.specs.Logs.{Stage, first_stage, Reading, Reaches, LogOf, HoldsEvent}
 use Rattle.event_log.specs.Meanings.{Says}
-use Rattle.event_log.specs.declared.event.LineEvent.{LineEvent}
+use Rattle.line_events.specs.declared.event.LineEvent.{LineEvent}
 use Rattle.event_log.specs.declared.event.LogFault.{LogFault}
 use Rattle.event_log.specs.declared.event.LogFault.TheVariants as fault
 use Rattle.event_log.specs.declared.event.LogForm.{LogForm}

@@ -1,13 +1,10 @@
-//! Form and version of a log, its events with their lines, and its faults: what msc_cmd and trace_judge see of logs.
+//! Form and version of a log, and its faults: what msc_cmd and chart_judge see of logs beside its events.
 
-ghost use Rattle.std.specs.Prelude.{◌≡◌, IfOk};
+ghost use Rattle.std.specs.Prelude.{◌≡◌};
 ghost use Rattle.event_log.specs.Faults.{IsFault, fault_text};
 ghost use Rattle.event_log.specs.declared.event.LogFault.TheVariants.{NoMemory};
 
-use msc_base::{Label, NoMemory};
-use std::alloc::Global;
-use std::marker::Model;
-use std::rc::Rc;
+use msc_base::NoMemory;
 
 /// How the lines of a log are written.
 #[derive(Clone, Copy, Debug, PartialEq, Eq)]
@@ -25,56 +22,6 @@ pub enum Version {
     First,
     /// Version 2.
     Second,
-}
-
-/// What an event says, once for all events of equal lines.
-///
-/// A contract sees the label.
-#[derive(Drop)]
-pub struct SharedLabel {
-    label: Rc<Label>,
-}
-
-impl Model for SharedLabel {
-    ghost use Rattle.msc_base.specs.declared.label.Label.{Label};
-
-    ghost Value = { Label };
-
-    ghost view = { λ s. s.label.value };
-}
-
-impl SharedLabel {
-    /// The label, to be shared.
-    pub fn new(alloc: Global, label: Label) -> Result<SharedLabel, NoMemory>
-        ensures { IfOk result (λ shared. shared ≡ label) }
-    {
-        Ok(SharedLabel {
-            label: Rc::new(alloc, label)?,
-        })
-    }
-
-    /// The label.
-    pub fn label(&self) -> &Label
-        ensures { result.now ≡ self.now }
-    {
-        &self.label
-    }
-
-    /// The same label once more: it is shared, and takes no memory.
-    pub fn copy(&self) -> Result<SharedLabel, NoMemory>
-        ensures { IfOk result (λ shared. shared ≡ self.now) }
-    {
-        Ok(SharedLabel {
-            label: self.label.clone()?,
-        })
-    }
-}
-
-/// An event, with the number of its line from 1.
-#[derive(Drop)]
-pub struct LineEvent {
-    pub label: SharedLabel,
-    pub line: u64,
 }
 
 /// The first fault of a log, with the number of the line in which it is decided.

@@ -7,10 +7,10 @@ mod event;
 mod json_line;
 mod line;
 mod line_memory;
-mod line_slots;
 mod object;
 mod reader;
 mod text_line;
 
-pub use event::{LineEvent, LogFault, LogForm, SharedLabel, Version};
+pub use event::{LogFault, LogForm, Version};
+pub use line_events::{LineEvent, SharedLabel};
 pub use reader::LogReader;

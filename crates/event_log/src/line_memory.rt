@@ -7,10 +7,11 @@ ghost use Rattle.event_log.specs.declared.event.Version.TheVariants.{First};
 ghost use Rattle.event_log.specs.declared.line_memory.TheConstants.LineMemory.{LINES, BYTES};
 
 use crate::line::{Line, read_line};
-use crate::line_slots::{LineSlots, code_of};
 use crate::{LogForm, Version};
+use code_slots::CodeSlots;
 use msc_base::NoMemory;
 use std::alloc::Global;
+use std::hash::{FoldHasher, Hasher};
 use std::marker::Model;
 
 /// How lines are read: the form of their log, and its version.
@@ -27,13 +28,13 @@ pub struct KnownLine {
 }
 
 impl KnownLine {
-    /// The line with what it says.
-    fn new(alloc: Global, bytes: &[u8], says: &Line) -> Result<KnownLine, NoMemory>
+    /// The line with what it says, as the known one of this index.
+    fn new(alloc: Global, index: u32, bytes: &[u8], says: &Line) -> Result<KnownLine, NoMemory>
         ensures bytes { IfOk result (λ line. line.bytes.items ≡ bytes.now) }
         ensures says { IfOk result (λ line. line.says ≡ says.now) }
     {
         let bytes = Vec::from_slice(alloc, bytes)?;
-        let says = says.copy()?;
+        let says = says.of_known(index)?;
         Ok(KnownLine { bytes, says })
     }
 }
@@ -48,7 +49,7 @@ pub struct LineMemory {
     /// In the order in which they came.
     known: Vec<KnownLine>,
     /// Where a line stands, if it is known. A look-up follows it to one line at most, so that no log makes look-ups slow.
-    slots: LineSlots,
+    slots: CodeSlots,
     /// The known lines have no more bytes than this.
     bytes: usize,
     /// How many lines weren't remembered since a line was known.
@@ -66,6 +67,13 @@ impl Model for LineMemory {
     ghost view = { λ m. record { form = m.form; version = m.version } };
 
     ghost invariant = { λ m. AreKnown m.form m.version m.known.items × (length m.known.items ≤ LINES) × (line_bytes m.known.items ≤ m.bytes) × (m.bytes ≤ BYTES) };
+}
+
+/// The code of a line: equal lines have the same, and others mostly different ones.
+fn code_of(bytes: &[u8]) -> u32 {
+    let mut hasher = FoldHasher::default();
+    hasher.write(bytes);
+    (hasher.finish() >> 32) as u32
 }
 
 /// Whether there is room for one line more, of this length.
@@ -90,7 +98,7 @@ impl LineMemory {
             form,
             version: Version::First,
             known: Vec::new(alloc),
-            slots: LineSlots::new(alloc),
+            slots: CodeSlots::new(alloc),
             bytes: 0,
             unknown: 0,
         }
@@ -119,8 +127,8 @@ impl LineMemory {
     fn find(&self, code: u32, bytes: &[u8]) -> Option<&Line>
         ensures { IfSome result (λ line. SaysBehind self.now.form self.now.version bytes.now line.now) }
     {
-        let place = self.slots.guess(code)?;
-        let line = self.known.get(place)?;
+        let index = self.slots.guess(code)?;
+        let line = self.known.get(index as usize)?;
         if line.bytes.as_slice() == bytes {
             Some(&line.says)
         } else {
@@ -136,11 +144,13 @@ impl LineMemory {
         if !has_room(self.known.len(), self.bytes, bytes.len()) {
             return None;
         }
-        let place = self.known.len();
-        let slot = self.slots.free_slot(alloc, code, place)?;
-        let line = KnownLine::new(alloc, bytes, line).ok()?;
+        let count = self.known.len();
+        let index = count as u32;
+        self.slots.make_room(alloc, count).ok()?;
+        let slot = self.slots.free_slot(code)?;
+        let line = KnownLine::new(alloc, index, bytes, line).ok()?;
         self.known.push(line).ok()?;
-        self.slots.fill(slot, code, place as u32);
+        self.slots.fill(slot, code, index);
         self.bytes += bytes.len();
         Some(())
     }

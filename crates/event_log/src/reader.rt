@@ -1,11 +1,11 @@
-//! The reader of a log in pieces: cuts it into lines and hands out events. msc_cmd and trace_judge feed it.
+//! The reader of a log in pieces: cuts it into lines and hands out events. chart_judge feeds it.
 
 ghost use Rattle.std.specs.Prelude.{◌≡◌, ◌<◌, ◌≤◌, ◌+◌, ◌++◌, ◌∷◌, [], ℕ, List, true, false, not, length, All, ◌≢◌, take, slice_index, IfOk, IfErr, OnOk, OnErr, IfSome, MatchOption, ◌↔◌, Option, Some, None, Ok, Err, option_to_list};
 ghost use Rattle.event_log.specs.Faults.{IsFault};
 ghost use Rattle.event_log.specs.Logs.{HoldsEvent};
 ghost use Rattle.msc_base.specs.Only.{Never, Only};
 ghost use Rattle.event_log.specs.States.{LogState, IsGoing, HoldsAt, Fed, IsAnswer, fault_in, Takes, Refuses, TakesLine, RefusesLine, Grows, IsTooLong, counted, whole, next_line};
-ghost use Rattle.event_log.specs.declared.event.LineEvent.{LineEvent};
+ghost use Rattle.line_events.specs.declared.event.LineEvent.{LineEvent};
 ghost use Rattle.event_log.specs.declared.event.LogFault.{LogFault};
 ghost use Rattle.event_log.specs.declared.event.LogForm.{LogForm};
 ghost use Rattle.event_log.specs.declared.line.Line.{Line};

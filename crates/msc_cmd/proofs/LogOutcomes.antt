@@ -4,7 +4,7 @@ use Rattle.msc_base.specs.declared.verdict.Verdict.{Verdict}
 use Rattle.outside.specs.Shelves.{Files}
 use Rattle.msc_meaning.specs.Tables.{ChartEntry, Table, chart_at}
 use Rattle.event_log.specs.States.{IsFaultOf}
-use Rattle.event_log.specs.declared.event.LineEvent.{LineEvent}
+use Rattle.line_events.specs.declared.event.LineEvent.{LineEvent}
 use Rattle.event_log.specs.declared.event.LogFault.{LogFault}
 use Rattle.event_log.specs.declared.event.LogForm.{LogForm}
 use Rattle.chart_judge.specs.ChartVerdicts.{IsVerdict}

@@ -6,8 +6,8 @@ use Rattle.msc_base.specs.declared.limits.TheConstants.Limits.{LOG_BYTES}
 use Rattle.event_log.specs.Faults.{IsFault}
 use Rattle.event_log.specs.States.{IsFaultOf}
 use Rattle.event_log.specs.declared.event.LogForm.{LogForm}
-use Rattle.residual_pool.specs.Memories.{PoolValue}
-use Rattle.trace_judge.specs.States.{JudgeValue}
+use Rattle.term_sets.specs.Memories.{PoolValue}
+use Rattle.chart_judge.specs.States.{JudgeValue}
 use Rattle.msc_meaning.specs.Tables.{ChartEntry}
 use Rattle.chart_judge.specs.Judging.{IsJudging, IsVerdictOn}
 use Rattle.msc_cmd.specs.Intakes.{IsHeld}

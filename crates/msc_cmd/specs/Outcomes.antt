@@ -9,7 +9,7 @@ use Rattle.msc_print.specs.ChartWords.{canonical_text}
 use Rattle.msc_acceptance.specs.Listing.{listed_of}
 use Rattle.msc_meaning.specs.Tables.{ChartEntry, Table, chart_at}
 use Rattle.msc_rules.specs.declared.rule.Rule.{Rule}
-use Rattle.event_log.specs.declared.event.LineEvent.{LineEvent}
+use Rattle.line_events.specs.declared.event.LineEvent.{LineEvent}
 use Rattle.event_log.specs.declared.event.LogFault.{LogFault}
 use Rattle.event_log.specs.declared.event.LogForm.{LogForm}
 use Rattle.event_log.specs.Logs.{LogOf}

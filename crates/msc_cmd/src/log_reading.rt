@@ -11,13 +11,12 @@ ghost use Rattle.msc_meaning.specs.Views.{entry_view};
 ghost use Rattle.msc_cmd.specs.LogJudging.{IsJudgedLog, IsReadingLog, IsStep};
 
 use crate::entry::{PIECE_BYTES, ReadFault, read_piece, start_entry};
-use chart_judge::ChartJudge;
+use chart_judge::{ChartJudge, JudgeFault};
 use event_log::{LogFault, LogForm};
 use msc_base::{Text, Verdict};
 use msc_meaning::ChartEntry;
 use outside::Shelf;
 use std::alloc::Global;
-use trace_judge::JudgeFault;
 
 /// What the bytes of a log come to for a chart.
 #[derive(Clone, Copy, Debug, PartialEq, Eq)]

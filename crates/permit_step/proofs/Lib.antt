@@ -12,8 +12,6 @@ pub mod Visits
 pub mod Passes
 pub mod Placed
 pub mod Copies
-pub mod TermMembers
-pub mod TermSets
 pub mod AllAfter
 pub mod KeptNumbers
 pub mod EarlierPairs

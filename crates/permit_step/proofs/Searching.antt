@@ -1,9 +1,10 @@
 -- The search: what it finds is what is left, and all of it.
-use Rattle.std.specs.Prelude.{ℕ, ◌+◌, ◌<◌, ◌≤◌, ◌⊎◌, ◌||◌, Bool, true, false, List, [], ◌∷◌, ◌++◌, ◌≡◌, Option, Some, refl}
-use Rattle.std.proofs.Common.{ap, sym, ◌∙◌, subst, arith, append_assoc, append-nil, inl, inr}
+use Rattle.std.specs.Prelude.{ℕ, ◌+◌, ◌<◌, ◌≤◌, ◌⊎◌, ◌↔◌, ◌||◌, not, IsTrue, Bool, true, false, List, [], ◌∷◌, ◌++◌, ◌≡◌, Option, Some, refl}
+use Rattle.std.proofs.Common.{ap, sym, ◌∙◌, subst, arith, inl, inr}
+use Rattle.std.proofs.lemmas.Bool.{true≢false}
 use Rattle.chart_term.specs.Properties.{Each, MayHave}
 use Rattle.chart_term.specs.Tables.{Tables}
-use Rattle.chart_term.specs.Terms.{TermEvent, Tree, Nil, Event, Join, Choice, Tied, Loop, Walk, has, ◌∪◌}
+use Rattle.chart_term.specs.Terms.{TermEvent, Tree, weight, Nil, Event, Join, Choice, Tied, Loop, Walk, has, ◌∪◌}
 use Rattle.chart_term.proofs.Instances.{has_union}
 use Rattle.permit_step.specs.Children.{child}
 use Rattle.term_laws.specs.Listing.{set_weight}
@@ -13,9 +14,8 @@ use Rattle.term_permission.specs.Ready.{IsReady, AreReadyTables}
 use Rattle.permit_step.specs.Searches.{AreReadyFrames, child_count, put_all, IsResult, IsFinding, IsTally, IsBounded, Gains, Gathers, GathersOwn, AddsOne, IsTaken, IsPassed, IsStep, AreSearched, IsSearched, at_root, below, IsOther}
 use Rattle.msc_base.specs.declared.label.Label.{Label}
 use Rattle.term_tables.specs.NetValues.{NetsValue, label_number}
-use Rattle.permit_step.specs.Successors.{IsJustAbove, IsSuccessor, AppendsFound}
+use Rattle.term_successors.specs.Successors.{IsSuccessor}
 use Rattle.term_laws.specs.Taking.{IsAfter, after_event}
-use Rattle.term_laws.proofs.Opening.{each_app}
 use Rattle.chart_term.specs.Facts.{instances}
 use Rattle.chart_term.specs.Views.{event_of}
 use Rattle.chart_term.specs.declared.event.Event.{Event as EventShown}
@@ -23,30 +23,22 @@ use Rattle.bit_sets.specs.Blocks.{BlockValue}
 use Rattle.permit_step.specs.declared.ascent.Frame.{Frame}
 use Rattle.permit_step.specs.declared.found.Found.{Found}
 use Rattle.permit_step.proofs.Children.{in-child}
-use Rattle.permit_step.proofs.TermMembers.{among_left}
+use Rattle.term_successors.proofs.TermSets.{member_weight}
 use Rattle.permit_step.proofs.ChildReady.{child-good}
 use Rattle.permit_step.proofs.Rebuilding.{result-child, result-up, passed-none, snoc-parts, no_snoc, front-ready, frames-more}
 use Rattle.permit_step.specs.declared.descent.Step.{Step}
 
--- lists that grow
-each_map : (P Q : Tree → Type 0) → ((x : Tree) → P x → Q x) → (xs : List Tree) → Each P xs → Each Q xs
-each_map P Q f [] h = tt
-each_map P Q f (x ∷ xs) h = (f x h.0, each_map P Q f xs h.1)
-
-gains_stay : (P : Tree → Type 0) (old new : Found) → Gains P old new → (z : Tree) → IsAmong old.terms z → IsAmong new.terms z
-gains_stay P old new g z h = subst (λ (l : List Tree). IsAmong l z) (sym g.are) (among_left old.terms g.rest z h)
-
+-- terms that become more
 gains_both : (P Q : Tree → Type 0) → ((x : Tree) → Q x → P x) → (old mid new : Found) → Gains P old mid → Gains Q mid new → Gains P old new
 gains_both P Q f old mid new g h = record {
   tally = h.tally;
   most = h.most ∙ g.most;
-  rest = g.rest ++ h.rest;
-  are = h.are ∙ (ap (λ l. l ++ h.rest) g.are ∙ append_assoc old.terms g.rest h.rest);
-  each = each_app P g.rest h.rest g.each (each_map Q P f h.rest h.each);
+  kept = λ z i. h.kept z (g.kept z i);
+  each = λ z i. elim (h.each z i) [ inl m ↦ g.each z m | inr q ↦ inr (f z q) ];
 }
 
 pub gains_none : (P : Tree → Type 0) (old : Found) → IsTally old → Gains P old old
-gains_none P old h = record { tally = h; most = refl; rest = []; are = sym (append-nil old.terms); each = tt }
+gains_none P old h = record { tally = h; most = refl; kept = λ z i. i; each = λ z i. inl i }
 
 -- one event
 pub own_event : (w : Tables) (e f : TermEvent) (y : Tree) → IsAfter (permits_of w) (Event e) f y → (e ≡ f) × (y ≡ Nil)
@@ -55,7 +47,7 @@ own_event w e f y h = elim (in-child (permits_of w) h) [
   | inr i ↦ let g = i.there in cc
 ]
 
-module _ (w : Tables) (a : ℕ) (fs : List Frame) (e : TermEvent) (old : Found) (tally : IsTally old) (within : set_weight old.terms ≤ old.most) where
+module _ (w : Tables) (a : ℕ) (fs : List Frame) (e : TermEvent) (old : Found) (tally : IsTally old) (within : set_weight old.terms.keys ≤ old.most) where
   only_this : (z : Tree) → IsResult w a fs (Event e) z → (e.label ≡ a) × (put_all (permits_of w) e fs Nil ≡ Some z)
   only_this z r =
       let p = own_event w e r.event r.left r.taken in
@@ -65,7 +57,7 @@ module _ (w : Tables) (a : ℕ) (fs : List Frame) (e : TermEvent) (old : Found) 
   one-rebuilt o t new all h s r l g = record {
     gains = gains_both (IsFinding w a fs (Event e)) (λ x. x ≡ t) one old old new (gains_none (IsFinding w a fs (Event e)) old tally) g.gains;
     bounded = g.bounded;
-    whole = λ b z q. subst (λ (y : Tree). IsAmong new.terms y) (same z (only_this z q).1) g.among;
+    whole = λ b z q. subst (λ (y : Tree). IsAmong new.terms.keys y) (same z (only_this z q).1) g.among;
   }
     where
       ready : IsReady w t
@@ -84,7 +76,7 @@ module _ (w : Tables) (a : ℕ) (fs : List Frame) (e : TermEvent) (old : Found) 
       one x p = subst (λ (y : Tree). IsFinding w a fs (Event e) y) (sym p) this
 
 -- a term that isn't an event with the label
-pub own-other : (w : Tables) (a : ℕ) (fs : List Frame) (x : Tree) (old : Found) → IsTally old → set_weight old.terms ≤ old.most → IsOther a x → GathersOwn w a fs x old old true
+pub own-other : (w : Tables) (a : ℕ) (fs : List Frame) (x : Tree) (old : Found) → IsTally old → set_weight old.terms.keys ≤ old.most → IsOther a x → GathersOwn w a fs x old old true
 own-other w a fs x old h l n = record {
   gains = gains_none (IsFinding w a fs x) old h;
   bounded = record { within = λ b. l; beyond = λ b. cc };
@@ -105,19 +97,19 @@ own-gathered w a fs x e old new all q g = record {
 pub record IsState (w : Tables) (a : ℕ) (root : Tree) (old new : Found) (fs : List Frame) (x : Tree) (i : ℕ) : Type 0 where
   pub frames : AreReadyFrames w fs
   pub ready : IsReady w x
-  pub searched : IsSearched w a root new.terms fs x i
+  pub searched : IsSearched w a root new.terms.keys fs x i
   pub gains : Gains (IsFinding w a [] root) old new
-  pub within : set_weight new.terms ≤ new.most
+  pub within : set_weight new.terms.keys ≤ new.most
 
 module _ (w : Tables) (tables : AreReadyTables w) (a : ℕ) (root : Tree) where
   none_before : (fs : List Frame) (x : Tree) (zs : List Tree) → AreSearched w a fs x 0 zs
   none_before fs x zs p l = absurd (omega arith)
 
-  pub state-start : (old : Found) → IsReady w root → IsTally old → set_weight old.terms ≤ old.most → IsState w a root old old [] root 0
+  pub state-start : (old : Found) → IsReady w root → IsTally old → set_weight old.terms.keys ≤ old.most → IsState w a root old old [] root 0
   state-start old r h l = record {
     frames = tt;
     ready = r;
-    searched = at_root refl refl (none_before [] root old.terms);
+    searched = at_root refl refl (none_before [] root old.terms.keys);
     gains = gains_none (IsFinding w a [] root) old h;
     within = l;
   }
@@ -149,7 +141,7 @@ module _ (w : Tables) (tables : AreReadyTables w) (a : ℕ) (root : Tree) where
       record {
         frames = subst (λ (hs : List Frame). AreReadyFrames w hs) (sym e) (frames-more w fs x s.index h.frames h.ready good.within);
         ready = subst (λ (u : Tree). IsReady w u) (sym q) good.ready;
-        searched = below fs (record { parent = x; index = s.index }) e (t.there ∙ ap Some (sym q)) (further h.searched (here (place_searched h.searched))) (none_before gs y new.terms);
+        searched = below fs (record { parent = x; index = s.index }) e (t.there ∙ ap Some (sym q)) (further h.searched (here (place_searched h.searched))) (none_before gs y new.terms.keys);
         gains = h.gains;
         within = h.within;
       }
@@ -157,13 +149,13 @@ module _ (w : Tables) (tables : AreReadyTables w) (a : ℕ) (root : Tree) where
       cut_place : (j : ℕ) → (j < i) ⊎ (i ≤ j)
       cut_place j = grind arith
 
-      here : AreSearched w a fs x i new.terms → AreSearched w a fs x s.index new.terms
+      here : AreSearched w a fs x i new.terms.keys → AreSearched w a fs x s.index new.terms.keys
       here k j l u c z r = elim (cut_place j) [
         | inl b ↦ k j b u c z r
         | inr b ↦ absurd (passed-none w a fs x j u z c (t.passed j b l) r)
       ]
 
-      further : {i j : ℕ} → IsSearched w a root new.terms fs x i → AreSearched w a fs x j new.terms → IsSearched w a root new.terms fs x j
+      further : {i j : ℕ} → IsSearched w a root new.terms.keys fs x i → AreSearched w a fs x j new.terms.keys → IsSearched w a root new.terms.keys fs x j
       further (at_root e q k) m = at_root e q m
       further (below hs g e c u k) m = below hs g e c u m
 
@@ -179,7 +171,7 @@ module _ (w : Tables) (tables : AreReadyTables w) (a : ℕ) (root : Tree) where
 
   module _ (old mid new : Found) (fs : List Frame) (x : Tree) (i : ℕ) (all : Bool) (state : IsState w a root old mid fs x i) (own : GathersOwn w a fs x mid new all) where
     both : Gains (IsFinding w a [] root) old new
-    both = gains_both (IsFinding w a [] root) (IsFinding w a fs x) (λ z f. finding_root mid.terms state.searched z f) old mid new state.gains own.gains
+    both = gains_both (IsFinding w a [] root) (IsFinding w a fs x) (λ z f. finding_root mid.terms.keys state.searched z f) old mid new state.gains own.gains
 
     pub state-cut : all ≡ false → Gathers w a [] root old new all
     state-cut e = record { gains = both; bounded = own.bounded; whole = λ b. absurd (clash (sym e ∙ b)) }
@@ -188,28 +180,28 @@ module _ (w : Tables) (tables : AreReadyTables w) (a : ℕ) (root : Tree) where
         clash q = cc
 
     module _ (passed : (p : ℕ) → i ≤ p → IsPassed w a x p) (yes : all ≡ true) where
-      kept : IsSearched w a root new.terms fs x i
-      kept = more_found mid.terms new.terms (gains_stay (IsFinding w a fs x) mid new own.gains) state.searched
+      kept : IsSearched w a root new.terms.keys fs x i
+      kept = more_found mid.terms.keys new.terms.keys own.gains.kept state.searched
 
       cut_at : (p j : ℕ) → (p < j) ⊎ (j ≤ p)
       cut_at p j = grind arith
 
-      all_here : (z : Tree) → IsResult w a fs x z → IsAmong new.terms z
+      all_here : (z : Tree) → IsResult w a fs x z → IsAmong new.terms.keys z
       all_here z r = elim (event_or x) [
         | inl q ↦ own.whole yes q.0 q.1 z r
         | inr n ↦ child_here z (result-child w a fs x z n r)
       ]
         where
-          child_here : (z : Tree) → (p : ℕ) × (y : Tree) × (child (permits_of w) x p ≡ Some y) × IsResult w a (fs ++ record { parent = x; index = p } ∷ []) y z → IsAmong new.terms z
+          child_here : (z : Tree) → (p : ℕ) × (y : Tree) × (child (permits_of w) x p ≡ Some y) × IsResult w a (fs ++ record { parent = x; index = p } ∷ []) y z → IsAmong new.terms.keys z
           child_here z (p, y, c, s) = elim (cut_at p i) [
             | inl b ↦ place_searched kept p b y c z s
             | inr b ↦ absurd (passed-none w a fs x p y z c (passed p b) s)
           ]
 
       pub state-end : fs ≡ [] → Gathers w a [] root old new true
-      state-end e = record { gains = both; bounded = subst (λ (b : Bool). IsBounded new.most new.terms b) yes own.bounded; whole = λ b z r. root_all e kept z r }
+      state-end e = record { gains = both; bounded = subst (λ (b : Bool). IsBounded new.most new.terms.keys b) yes own.bounded; whole = λ b z r. root_all e kept z r }
         where
-          root_all : fs ≡ [] → IsSearched w a root new.terms fs x i → (z : Tree) → IsResult w a [] root z → IsAmong new.terms z
+          root_all : fs ≡ [] → IsSearched w a root new.terms.keys fs x i → (z : Tree) → IsResult w a [] root z → IsAmong new.terms.keys z
           root_all e (at_root f q k) z r = all_here z (subst (λ (hs : List Frame). IsResult w a hs x z) (sym e) (subst (λ (y : Tree). IsResult w a [] y z) (sym q) r))
           root_all e (below hs g f c u k) z r = absurd (no_snoc hs g (sym f ∙ e))
 
@@ -219,7 +211,7 @@ module _ (w : Tables) (tables : AreReadyTables w) (a : ℕ) (root : Tree) where
           ready : AreReadyFrames w gs × IsReady w f.parent × (f.index < child_count w f.parent)
           ready = front-ready w gs f (subst (λ (hs : List Frame). AreReadyFrames w hs) e state.frames)
 
-          there : child (permits_of w) f.parent f.index ≡ Some x → AreSearched w a gs f.parent f.index new.terms → AreSearched w a gs f.parent (f.index + 1) new.terms
+          there : child (permits_of w) f.parent f.index ≡ Some x → AreSearched w a gs f.parent f.index new.terms.keys → AreSearched w a gs f.parent (f.index + 1) new.terms.keys
           there c k p l u d z r = elim (cut_at p f.index) [
             | inl b ↦ k p b u d z r
             | inr b ↦ all_here z (moved (omega arith) r)
@@ -231,18 +223,18 @@ module _ (w : Tables) (tables : AreReadyTables w) (a : ℕ) (root : Tree) where
                   let v : u ≡ x = cc in
                   subst (λ (hs : List Frame). IsResult w a hs x z) (sym e) (subst (λ (t : Tree). IsResult w a (gs ++ f ∷ []) t z) v (subst (λ (l : ℕ). IsResult w a (gs ++ record { parent = f.parent; index = l } ∷ []) u z) m s))
 
-          further : {hs : List Frame} {t : Tree} {l m : ℕ} → IsSearched w a root new.terms hs t l → AreSearched w a hs t m new.terms → IsSearched w a root new.terms hs t m
+          further : {hs : List Frame} {t : Tree} {l m : ℕ} → IsSearched w a root new.terms.keys hs t l → AreSearched w a hs t m new.terms.keys → IsSearched w a root new.terms.keys hs t m
           further (at_root e q k) n = at_root e q n
           further (below hs g e c u k) n = below hs g e c u n
 
-          one_more : IsSearched w a root new.terms fs x i → IsSearched w a root new.terms gs f.parent (f.index + 1)
+          one_more : IsSearched w a root new.terms.keys fs x i → IsSearched w a root new.terms.keys gs f.parent (f.index + 1)
           one_more (at_root r q k) = absurd (no_snoc gs f (sym e ∙ r))
           one_more (below hs g r c u k) = turned (snoc-parts hs gs g f (sym r ∙ e)) c u
             where
-              turned : (hs ≡ gs) × (g ≡ f) → child (permits_of w) g.parent g.index ≡ Some x → IsSearched w a root new.terms hs g.parent g.index → IsSearched w a root new.terms gs f.parent (f.index + 1)
+              turned : (hs ≡ gs) × (g ≡ f) → child (permits_of w) g.parent g.index ≡ Some x → IsSearched w a root new.terms.keys hs g.parent g.index → IsSearched w a root new.terms.keys gs f.parent (f.index + 1)
               turned (m, n) d v =
-                  let v1 : IsSearched w a root new.terms hs f.parent f.index = subst (λ (h : Frame). IsSearched w a root new.terms hs h.parent h.index) n v in
-                  let v2 : IsSearched w a root new.terms gs f.parent f.index = subst (λ (ks : List Frame). IsSearched w a root new.terms ks f.parent f.index) m v1 in
+                  let v1 : IsSearched w a root new.terms.keys hs f.parent f.index = subst (λ (h : Frame). IsSearched w a root new.terms.keys hs h.parent h.index) n v in
+                  let v2 : IsSearched w a root new.terms.keys gs f.parent f.index = subst (λ (ks : List Frame). IsSearched w a root new.terms.keys ks f.parent f.index) m v1 in
                   let d1 : child (permits_of w) f.parent f.index ≡ Some x = subst (λ (h : Frame). child (permits_of w) h.parent h.index ≡ Some x) n d in
                   further v2 (there d1 (place_searched v2))
 
@@ -254,8 +246,18 @@ taken-is x v empty stored own e h n o = record {
   alone = ap (λ (b : BlockValue). b.events) o;
 }
 
--- what was found from the whole term
-module _ (v : NetsValue) (label : Label) (x : Tree) (a : ℕ) (labelled : label_number v.labels label ≡ Some a) (old new : Found) (empty : old.terms ≡ []) (all : Bool) (h : Gathers v.tables a [] x old new all) where
+-- whether anything was found from the whole term
+
+some_weight : (x : Tree) → 1 ≤ weight x
+some_weight Nil = omega arith
+some_weight (Event e) = omega arith
+some_weight (Join m xs) = omega arith
+some_weight (Choice xs) = omega arith
+some_weight (Tied x q) = omega arith
+some_weight (Loop x lo hi r) = omega arith
+some_weight (Walk n f t c) = omega arith
+
+module _ (v : NetsValue) (label : Label) (x : Tree) (a : ℕ) (labelled : label_number v.labels label ≡ Some a) (old new : Found) (empty : old.terms.keys ≡ []) (nothing : old.most ≡ 0) (all : Bool) (h : Gathers v.tables a [] x old new all) where
   successor : (z : Tree) → IsFinding v.tables a [] x z → IsSuccessor v label x z
   successor z f =
       let same : f.result.left ≡ z = let p = f.result.whole in cc in
@@ -270,21 +272,30 @@ module _ (v : NetsValue) (label : Label) (x : Tree) (a : ℕ) (labelled : label_
       let p : Some s.event.label ≡ Some a = sym s.labelled ∙ labelled in
       record { event = s.event; labelled = cc; left = z; taken = s.after; whole = refl }
 
-  found_is : new.terms ≡ h.gains.rest
-  found_is = h.gains.are ∙ ap (λ l. l ++ h.gains.rest) empty
+  -- a term that was found weighs something
+  none_found : all ≡ true → (z : Tree) → IsSuccessor v label x z → ⊥
+  none_found t z s =
+      let m = member_weight z new.terms.keys (h.whole t z (finding z s)) in
+      let w = some_weight z in
+      let b = h.bounded.within t in
+      let e = h.gains.most in
+      omega arith
 
-  pub found-all : (most : ℕ) → old.most ≡ most → (start out : List Tree) → out ≡ start ++ new.terms → AppendsFound v label x most start out all
-  found-all most m start out e = record {
-    found = new.terms;
-    are = e;
-    they_are = record {
-      different = h.gains.tally.different;
-      each = subst (λ (l : List Tree). Each (IsSuccessor v label x) l) (sym found_is) (each_map (IsFinding v.tables a [] x) (IsSuccessor v label x) successor h.gains.rest h.gains.each);
-      ready = subst (λ (l : List Tree). Each (IsReady v.tables) l) (sym found_is) (each_map (IsFinding v.tables a [] x) (IsReady v.tables) (λ y f. f.ready) h.gains.rest h.gains.each);
-      whole = λ t z s. h.whole t z (finding z s);
-      within = λ t. subst (λ (n : ℕ). set_weight new.terms ≤ n) (h.gains.most ∙ m) (h.bounded.within t);
-      beyond = λ t. subst (λ (n : ℕ). IsJustAbove n new.terms) (h.gains.most ∙ m) (h.bounded.beyond t);
-    };
-  }
+  some_found : all ≡ false → (z : Tree) × IsSuccessor v label x z
+  some_found t = go new.terms.keys refl (h.bounded.beyond t)
+    where
+      go : (zs : List Tree) → new.terms.keys ≡ zs → new.most < set_weight zs → (z : Tree) × IsSuccessor v label x z
+      go [] e l = absurd (omega arith)
+      go (z ∷ zs) e l = elim (h.gains.each z (subst (λ (us : List Tree). IsAmong us z) (sym e) (inl refl))) [
+        | inl i ↦ absurd (subst (λ (us : List Tree). IsAmong us z) empty i)
+        | inr f ↦ (z, successor z f)
+      ]
+
+  pub found_any : IsTrue (not all) ↔ ((z : Tree) × IsSuccessor v label x z)
+  found_any = go all refl
+    where
+      go : (b : Bool) → all ≡ b → IsTrue (not b) ↔ ((z : Tree) × IsSuccessor v label x z)
+      go true t = (λ no. absurd (true≢false (sym no)), λ s. absurd (none_found t s.0 s.1))
+      go false t = (λ yes. some_found t, λ s. refl)
 
 pub ruleset searching = (own-other)

@@ -1,160 +1,125 @@
--- The terms that were found: each once, with their weight.
+-- The terms that were found: in their order, each once, with their weight.
 use Rattle.std.specs.BTreeSet.{contains}
 use Rattle.std.specs.Ordering.{is_eq}
-use Rattle.std.specs.Prelude.{◌+◌, ◌<◌, ◌≤◌, Bool, true, false, List, [], ◌∷◌, ◌++◌, ◌≡◌, ◌||◌, ◌⊎◌, refl, min, nat_le, not}
-use Rattle.std.proofs.Common.{ap, sym, ◌∙◌, subst, arith, cond, inl, inr, append-nil}
+use Rattle.std.specs.Prelude.{◌+◌, ◌<◌, ◌≤◌, Bool, true, false, List, [], ◌∷◌, ◌≡◌, ◌⊎◌, refl, min, nat_le, not}
+use Rattle.std.proofs.Common.{ap, sym, ◌∙◌, subst, arith, cond, inl, inr}
 use Rattle.std.proofs.lemmas.Bool.Decides.{nat_tests}
 use Rattle.chart_term.specs.Equality.{same_tree}
 use Rattle.chart_term.specs.Facts.{most_stored}
 use Rattle.chart_term.specs.Order.{tree_cmp}
-use Rattle.chart_term.specs.TermPatterns.{Both}
-use Rattle.permit_step.proofs.TermSets.{among_seen, rising_different, same_weight, seen_among}
 use Rattle.chart_term.specs.Terms.{Tree, weight}
-use Rattle.permit_step.specs.AllAfter.{AreRising}
 use Rattle.chart_term.proofs.Equal.{same_tree_is_exact}
 use Rattle.chart_term.proofs.Distinct.{same_by_order}
-use Rattle.term_laws.specs.Listing.{set_weight}
 use Rattle.msc_base.specs.Lists.{IsAmong}
+use Rattle.term_laws.specs.Listing.{set_weight}
 use Rattle.term_laws.specs.Normality.{AreDifferent}
-use Rattle.term_laws.proofs.Opening.{each_app}
-use Rattle.permit_step.specs.Searches.{IsTally, AddsOne, is_listed}
+use Rattle.term_successors.specs.Successors.{AreRising}
+use Rattle.term_successors.proofs.TermSets.{among_seen, each_from, rising_different, same_weight, seen_among}
+use Rattle.permit_step.specs.Searches.{IsTally, AddsOne}
 use Rattle.permit_step.specs.declared.found.Found.{Found}
 
-pub set_weight-snoc : (xs : List Tree) (t : Tree) → set_weight (xs ++ t ∷ []) ≡ set_weight xs + weight t
-set_weight-snoc [] t = omega arith
-set_weight-snoc (x ∷ xs) t = omega (arith, set_weight-snoc xs t)
+-- ---- a term that is put into a sorted set
 
-different_snoc : (xs : List Tree) (t : Tree) → AreDifferent xs → is_listed t xs ≡ false → AreDifferent (xs ++ t ∷ [])
-different_snoc [] t h l = (tt, tt)
-different_snoc (x ∷ xs) t h l = (each_app (λ y. same_tree x y ≡ false) xs (t ∷ []) h.0 (left (same_tree x t) (is_listed t xs) l, tt), different_snoc xs t h.1 (right (same_tree x t) (is_listed t xs) l))
+module _ (t key : Tree) (e : key ≡ t) (old new : Found) (puts : (y : Tree) → contains tree_cmp new.terms y ≡ cond (is_eq (tree_cmp key y)) true (contains tree_cmp old.terms y)) where
+  put_there : (b : Bool) → b ≡ true → (c : Bool) → cond b true c ≡ true
+  put_there true q c = refl
+  put_there false q c = cc
+
+  put_kept : (b c : Bool) → c ≡ true → cond b true c ≡ true
+  put_kept true c q = refl
+  put_kept false c q = q
+
+  pub is_there : IsAmong new.terms.keys t
+  is_there =
+      let same : is_eq (tree_cmp key t) ≡ true = same_by_order key t ∙ same_tree_is_exact.whole key t e in
+      seen_among new.terms.keys t (puts t ∙ put_there (is_eq (tree_cmp key t)) same (contains tree_cmp old.terms t))
+
+  pub is_kept : (z : Tree) → IsAmong old.terms.keys z → IsAmong new.terms.keys z
+  is_kept z i = seen_among new.terms.keys z (puts z ∙ put_kept (is_eq (tree_cmp key z)) (contains tree_cmp old.terms z) (among_seen old.terms.keys z i))
+
+  pub was_or_is : (z : Tree) → IsAmong new.terms.keys z → IsAmong old.terms.keys z ⊎ (z ≡ t)
+  was_or_is z i = go (is_eq (tree_cmp key z)) refl (sym (puts z) ∙ among_seen new.terms.keys z i)
+    where
+      go : (b : Bool) → is_eq (tree_cmp key z) ≡ b → cond b true (contains tree_cmp old.terms z) ≡ true → IsAmong old.terms.keys z ⊎ (z ≡ t)
+      go true q h = inr (sym (same_tree_is_exact.sound key z (sym (same_by_order key z) ∙ q)) ∙ e)
+      go false q h = inl (seen_among old.terms.keys z h)
+
+-- ---- a new term
+
+apart : (t : Tree) (old : Found) → contains tree_cmp old.terms t ≡ false → (y : Tree) → IsAmong old.terms.keys y → same_tree t y ≡ false
+apart t old free y i = go (same_tree t y) refl
   where
-    left : (a b : Bool) → (a || b) ≡ false → a ≡ false
-    left true b h = cc
-    left false b h = refl
+    go : (b : Bool) → same_tree t y ≡ b → b ≡ false
+    go true q =
+        let held : IsAmong old.terms.keys t = subst (λ (u : Tree). IsAmong old.terms.keys u) (sym (same_tree_is_exact.sound t y q)) i in
+        let bad : true ≡ false = sym (among_seen old.terms.keys t held) ∙ free in
+        cc
+    go false q = refl
 
-    right : (a b : Bool) → (a || b) ≡ false → b ≡ false
-    right true b h = cc
-    right false b h = h
-
-among_snoc : (xs : List Tree) (t : Tree) → IsAmong (xs ++ t ∷ []) t
-among_snoc [] t = inl refl
-among_snoc (x ∷ xs) t = inr (among_snoc xs t)
-
-among_listed : (xs : List Tree) (t : Tree) → is_listed t xs ≡ true → IsAmong xs t
-among_listed [] t h = cc
-among_listed (x ∷ xs) t h = go (same_tree x t) refl h (among_listed xs t)
-  where
-    go : (a : Bool) → same_tree x t ≡ a → (a || is_listed t xs) ≡ true → (is_listed t xs ≡ true → IsAmong xs t) → (t ≡ x) ⊎ IsAmong xs t
-    go true e l f = inl (sym (same_tree_is_exact.sound x t e))
-    go false e l f = inr (f l)
-
--- the order and the test of equality agree
-
--- one more item
-listed_more : (xs : List Tree) (t y : Tree) → is_listed y (xs ++ t ∷ []) ≡ (is_listed y xs || same_tree t y)
-listed_more [] t y = none (same_tree t y)
-  where
-    none : (b : Bool) → (b || false) ≡ b
-    none true = refl
-    none false = refl
-listed_more (x ∷ xs) t y = ap (λ b. same_tree x y || b) (listed_more xs t y) ∙ group (same_tree x y) (is_listed y xs) (same_tree t y)
-  where
-    group : (a b c : Bool) → (a || (b || c)) ≡ ((a || b) || c)
-    group true b c = refl
-    group false b c = refl
-
-seen_snoc : (xs : List Tree) (t key y : Tree) (old new : Bool) → key ≡ t → new ≡ cond (is_eq (tree_cmp key y)) true old → old ≡ is_listed y xs → new ≡ is_listed y (xs ++ t ∷ [])
-seen_snoc xs t key y old new e p q =
-    p ∙ ((λ i. cond (is_eq (tree_cmp (e i) y)) true (q i)) ∙ (ap (λ b. cond b true (is_listed y xs)) (same_by_order t y) ∙ (turned (same_tree t y) (is_listed y xs) ∙ sym (listed_more xs t y))))
-  where
-    turned : (b c : Bool) → cond b true c ≡ (c || b)
-    turned true true = refl
-    turned true false = refl
-    turned false true = refl
-    turned false false = refl
-
-listed_snoc : (xs : List Tree) (t y : Tree) → is_listed t xs ≡ true → is_listed y (xs ++ t ∷ []) ≡ is_listed y xs
-listed_snoc xs t y h = listed_more xs t y ∙ go (same_tree t y) refl
-  where
-    none : (b : Bool) → (b || false) ≡ b
-    none true = refl
-    none false = refl
-
-    both : (a : Bool) → a ≡ true → (a || true) ≡ a
-    both true e = refl
-    both false e = cc
-
-    go : (a : Bool) → same_tree t y ≡ a → (is_listed y xs || same_tree t y) ≡ is_listed y xs
-    go true e =
-        let same : t ≡ y = same_tree_is_exact.sound t y e in
-        ap (λ b. is_listed y xs || b) e ∙ both (is_listed y xs) (ap (λ z. is_listed z xs) (sym same) ∙ h)
-    go false e = ap (λ b. is_listed y xs || b) e ∙ none (is_listed y xs)
-
--- a new term
-pub added-new : (old new : Found) (t key : Tree) (all : Bool) → IsTally old → set_weight old.terms ≤ old.most → AreRising new.seen.keys → key ≡ t → contains tree_cmp old.seen key ≡ false → ((y : Tree) → contains tree_cmp new.seen y ≡ cond (is_eq (tree_cmp key y)) true (contains tree_cmp old.seen y))
-    → new.terms ≡ old.terms ++ t ∷ [] → new.weight ≡ min (old.weight + min (weight t) most_stored) most_stored → new.most ≡ old.most → all ≡ nat_le new.weight new.most → AddsOne t old new all
-added-new old new t key all h within rises e free seen terms heavy most test = record {
+pub added-new : (old new : Found) (t key : Tree) (all : Bool) → IsTally old → set_weight old.terms.keys ≤ old.most → AreRising new.terms.keys → key ≡ t → contains tree_cmp old.terms key ≡ false
+    → ((y : Tree) → contains tree_cmp new.terms y ≡ cond (is_eq (tree_cmp key y)) true (contains tree_cmp old.terms y)) → new.weight ≡ min (old.weight + min (weight t) most_stored) most_stored → new.most ≡ old.most
+    → all ≡ nat_le new.weight new.most → AddsOne t old new all
+added-new old new t key all h within rises e free puts heavy most test = record {
   gains = record {
-    tally = record {
-      different = subst (λ (xs : List Tree). AreDifferent xs) (sym terms) (different_snoc old.terms t h.different unlisted);
-      index = λ y. seen_snoc old.terms t key y (contains tree_cmp old.seen y) (contains tree_cmp new.seen y) e (seen y) (h.index y) ∙ ap (is_listed y) (sym terms);
-      rising = rises;
-      weight = weighs;
-      most = omega (arith, h.most);
-    };
+    tally = record { rising = rises; weight = weighs; most = omega (arith, h.most) };
     most = most;
-    rest = t ∷ [];
-    are = terms;
-    each = (refl, tt);
+    kept = is_kept t key e old new puts;
+    each = was_or_is t key e old new puts;
   };
-  among = there;
-  bounded = record {
-    within = λ a. low a;
-    beyond = λ a. record { prefix = old.terms; last = t; are = terms; below = omega arith; above = high a };
-  };
+  among = is_there t key e old new puts;
+  bounded = record { within = low; beyond = high };
 }
   where
-    there : IsAmong new.terms t
-    there = subst (λ (xs : List Tree). IsAmong xs t) (sym terms) (among_snoc old.terms t)
+    lacks : contains tree_cmp old.terms t ≡ false
+    lacks = ap (λ (y : Tree). contains tree_cmp old.terms y) (sym e) ∙ free
 
-    unlisted : is_listed t old.terms ≡ false
-    unlisted = ap (λ y. is_listed y old.terms) (sym e) ∙ (sym (h.index key) ∙ free)
+    turned : (z : Tree) → IsAmong old.terms.keys z ⊎ (z ≡ t) → IsAmong (t ∷ old.terms.keys) z
+    turned z (inl i) = inr i
+    turned z (inr q) = inl q
 
-    whole : set_weight new.terms ≡ set_weight old.terms + weight t
-    whole = ap set_weight terms ∙ set_weight-snoc old.terms t
+    back : (z : Tree) → IsAmong (t ∷ old.terms.keys) z → IsAmong new.terms.keys z
+    back z (inl q) = subst (λ (y : Tree). IsAmong new.terms.keys y) (sym q) (is_there t key e old new puts)
+    back z (inr i) = is_kept t key e old new puts z i
 
-    weighs : new.weight ≡ min (set_weight new.terms) most_stored
+    different : AreDifferent (t ∷ old.terms.keys)
+    different = (each_from (λ y. same_tree t y ≡ false) old.terms.keys (apart t old lacks), rising_different old.terms.keys h.rising)
+
+    whole : set_weight new.terms.keys ≡ weight t + set_weight old.terms.keys
+    whole = same_weight new.terms.keys (t ∷ old.terms.keys) (rising_different new.terms.keys rises) different (λ z i. turned z (was_or_is t key e old new puts z i)) back
+
+    weighs : new.weight ≡ min (set_weight new.terms.keys) most_stored
     weighs = let a = h.weight in let b = whole in omega arith
 
-    low : all ≡ true → set_weight new.terms ≤ new.most
+    low : all ≡ true → set_weight new.terms.keys ≤ new.most
     low a = let b : nat_le new.weight new.most ≡ true = sym test ∙ a in let l : new.weight ≤ new.most = grind (arith, nat_tests) in let m = h.most in let g = weighs in omega arith
 
-    high : all ≡ false → new.most < set_weight new.terms
+    high : all ≡ false → new.most < set_weight new.terms.keys
     high a = let b : nat_le new.weight new.most ≡ false = sym test ∙ a in let l : new.most < new.weight = grind (arith, nat_tests) in let g = weighs in omega arith
 
--- a term that was found before
-pub added-met : (old new : Found) (t key : Tree) → IsTally old → set_weight old.terms ≤ old.most → key ≡ t → contains tree_cmp old.seen key ≡ true → ((y : Tree) → contains tree_cmp new.seen y ≡ cond (is_eq (tree_cmp key y)) true (contains tree_cmp old.seen y))
-    → AreRising new.seen.keys → new.terms ≡ old.terms → new.weight ≡ old.weight → new.most ≡ old.most → AddsOne t old new true
-added-met old new t key h within e met seen rises terms heavy most = record {
+-- ---- a term that was found before
+
+pub added-met : (old new : Found) (t key : Tree) → IsTally old → set_weight old.terms.keys ≤ old.most → key ≡ t → contains tree_cmp old.terms key ≡ true → ((y : Tree) → contains tree_cmp new.terms y ≡ cond (is_eq (tree_cmp key y)) true (contains tree_cmp old.terms y))
+    → AreRising new.terms.keys → new.weight ≡ old.weight → new.most ≡ old.most → AddsOne t old new true
+added-met old new t key h within e met puts rises heavy most = record {
   gains = record {
-    tally = record {
-      different = subst (λ (xs : List Tree). AreDifferent xs) (sym terms) h.different;
-      index = λ y. seen_snoc old.terms t key y (contains tree_cmp old.seen y) (contains tree_cmp new.seen y) e (seen y) (h.index y) ∙ (listed_snoc old.terms t y there ∙ ap (is_listed y) (sym terms));
-      rising = rises;
-      weight = heavy ∙ (h.weight ∙ ap (λ xs. min (set_weight xs) most_stored) (sym terms));
-      most = omega (arith, h.most);
-    };
+    tally = record { rising = rises; weight = let a = h.weight in let b = whole in omega arith; most = omega (arith, h.most) };
     most = most;
-    rest = [];
-    are = terms ∙ sym (append-nil old.terms);
-    each = tt;
+    kept = is_kept t key e old new puts;
+    each = λ z i. inl (held z (was_or_is t key e old new puts z i));
   };
-  among = subst (λ (xs : List Tree). IsAmong xs t) (sym terms) (among_listed old.terms t there);
-  bounded = record { within = λ a. let f = ap set_weight terms in omega arith; beyond = λ a. cc };
+  among = is_there t key e old new puts;
+  bounded = record { within = λ a. let b = whole in omega arith; beyond = λ a. cc };
 }
   where
-    there : is_listed t old.terms ≡ true
-    there = ap (λ y. is_listed y old.terms) (sym e) ∙ (sym (h.index key) ∙ met)
+    there : IsAmong old.terms.keys t
+    there = seen_among old.terms.keys t (ap (λ (y : Tree). contains tree_cmp old.terms y) (sym e) ∙ met)
+
+    held : (z : Tree) → IsAmong old.terms.keys z ⊎ (z ≡ t) → IsAmong old.terms.keys z
+    held z (inl i) = i
+    held z (inr q) = subst (λ (y : Tree). IsAmong old.terms.keys y) (sym q) there
+
+    whole : set_weight new.terms.keys ≡ set_weight old.terms.keys
+    whole = same_weight new.terms.keys old.terms.keys (rising_different new.terms.keys rises) (rising_different old.terms.keys h.rising) (λ z i. held z (was_or_is t key e old new puts z i)) (is_kept t key e old new puts)
 
 pub not-true : (b : Bool) → not b ≡ true → b ≡ false
 not-true true h = cc
@@ -164,32 +129,11 @@ pub not-false : (b : Bool) → not b ≡ false → b ≡ true
 not-false true h = refl
 not-false false h = cc
 
-pub tally-none : (f : Found) → f.terms ≡ [] → ((x : Tree) → contains tree_cmp f.seen x ≡ false) → f.seen.keys ≡ [] → f.weight ≡ 0 → f.most < most_stored → IsTally f
-tally-none f h g s e l = record {
-  different = subst (λ (xs : List Tree). AreDifferent xs) (sym h) tt;
-  index = λ x. g x ∙ sym (ap (is_listed x) h);
-  rising = subst (λ (xs : List Tree). AreRising xs) (sym s) tt;
+pub tally-none : (f : Found) → f.terms.keys ≡ [] → f.weight ≡ 0 → f.most < most_stored → IsTally f
+tally-none f h e l = record {
+  rising = subst (λ (xs : List Tree). AreRising xs) (sym h) tt;
   weight = let p = ap set_weight h in omega arith;
   most = l;
 }
 
--- the sorted terms are those that were found
-pub seen_listed : (f : Found) → IsTally f → (y : Tree) → Both (IsAmong f.seen.keys y) (IsAmong f.terms y)
-seen_listed f h y = record {
-  to = λ i. among_listed f.terms y (sym (h.index y) ∙ among_seen f.seen.keys y i);
-  from = λ i. seen_among f.seen.keys y (h.index y ∙ listed_among f.terms y i);
-}
-  where
-    listed_among : (xs : List Tree) (t : Tree) → IsAmong xs t → is_listed t xs ≡ true
-    listed_among [] t i = absurd i
-    listed_among (x ∷ xs) t (inl e) = ap (λ b. b || is_listed t xs) (same_tree_is_exact.whole x t (sym e))
-    listed_among (x ∷ xs) t (inr i) = ap (λ b. same_tree x t || b) (listed_among xs t i) ∙ both (same_tree x t)
-      where
-        both : (b : Bool) → (b || true) ≡ true
-        both true = refl
-        both false = refl
-
-pub seen_weighs : (f : Found) → IsTally f → set_weight f.seen.keys ≡ set_weight f.terms
-seen_weighs f h = same_weight f.seen.keys f.terms (rising_different f.seen.keys h.rising) h.different (λ y i. (seen_listed f h y).to i) (λ y i. (seen_listed f h y).from i)
-
-pub ruleset tallying = (set_weight-snoc, tally-none)
+pub ruleset tallying = (tally-none)

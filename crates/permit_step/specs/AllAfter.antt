@@ -1,27 +1,13 @@
 -- What is left of some terms after an event with a given label.
-use Rattle.std.specs.Prelude.{ℕ, List, [], ◌∷◌, ◌≡◌, ◌≤◌, ◌<◌}
-use Rattle.std.specs.declared.cmp.Ordering.TheVariants.{Less}
+use Rattle.std.specs.Prelude.{ℕ, List, ◌≤◌, ◌<◌}
 use Rattle.msc_base.specs.declared.label.Label.{Label}
 use Rattle.msc_base.specs.Lists.{IsAmong}
 use Rattle.term_tables.specs.NetValues.{NetsValue}
-use Rattle.chart_term.specs.Order.{tree_cmp}
-use Rattle.chart_term.specs.Properties.{Each}
 use Rattle.chart_term.specs.TermPatterns.{Both}
 use Rattle.chart_term.specs.Terms.{Tree}
 use Rattle.term_laws.specs.Listing.{set_weight}
 use Rattle.term_laws.specs.Normality.{AreDifferent}
-use Rattle.permit_step.specs.Successors.{IsSuccessor}
-
--- the terms rise in the order of terms
-abbrev pub AreRising : List Tree → Type 0
-AreRising [] = Unit {0}
-AreRising (x ∷ xs) = Each (λ y. tree_cmp x y ≡ Less) xs × AreRising xs
-
--- y is left of one of the terms after an event with the label
-pub record IsLeftOf (v : NetsValue) (label : Label) (terms : List Tree) (y : Tree) : Type 0 where
-  pub term : Tree
-  pub held : IsAmong terms term
-  pub left : IsSuccessor v label term y
+use Rattle.term_successors.specs.Successors.{IsLeftOf}
 
 -- the list has exactly what is left of the terms, each once, and weighs no more than `most`
 pub record AreAllLeft (v : NetsValue) (label : Label) (terms : List Tree) (most : ℕ) (found : List Tree) : Type 0 where

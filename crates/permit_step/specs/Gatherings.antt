@@ -5,6 +5,7 @@ use Rattle.msc_base.specs.Lists.{IsAmong}
 use Rattle.chart_term.specs.Tables.{Tables}
 use Rattle.chart_term.specs.Terms.{Tree}
 use Rattle.term_laws.specs.Listing.{set_weight}
+use Rattle.term_permission.specs.Ready.{IsReady}
 use Rattle.permit_step.specs.Searches.{IsResult, IsTally}
 use Rattle.permit_step.specs.declared.found.Found.{Found}
 
@@ -18,12 +19,13 @@ pub record IsResultOf (w : Tables) (a : ℕ) (terms : List Tree) (z : Tree) : Ty
 pub record IsGathered (w : Tables) (a most : ℕ) (terms : List Tree) (found : Found) : Type 0 where
   pub tally : IsTally found
   pub most_is : found.most ≡ most
-  pub within : set_weight found.terms ≤ most
-  pub each : (z : Tree) → IsAmong found.terms z → IsResultOf w a terms z
-  pub whole : (z : Tree) → IsResultOf w a terms z → IsAmong found.terms z
+  pub within : set_weight found.terms.keys ≤ most
+  pub each : (z : Tree) → IsAmong found.terms.keys z → IsResultOf w a terms z
+  pub whole : (z : Tree) → IsResultOf w a terms z → IsAmong found.terms.keys z
+  pub ready : (z : Tree) → IsAmong found.terms.keys z → IsReady w z
 
 -- what was found is too heavy
 pub record IsTooMuch (w : Tables) (a most : ℕ) (terms : List Tree) (found : Found) : Type 0 where
   pub tally : IsTally found
-  pub each : (z : Tree) → IsAmong found.terms z → IsResultOf w a terms z
-  pub above : most < set_weight found.terms
+  pub each : (z : Tree) → IsAmong found.terms.keys z → IsResultOf w a terms z
+  pub above : most < set_weight found.terms.keys

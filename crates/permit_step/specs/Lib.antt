@@ -1,5 +1,4 @@
 pub mod Children
-pub mod Successors
 pub mod Searches
 pub mod Skips
 pub mod AllAfter

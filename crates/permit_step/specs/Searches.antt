@@ -1,8 +1,6 @@
 -- Serves private contracts alone.
 -- The search for the events that can be taken from a term, through its children.
-use Rattle.std.specs.BTreeSet.{contains}
-use Rattle.std.specs.List.{list_any}
-use Rattle.std.specs.Prelude.{ℕ, zero, suc, ◌<◌, ◌≤◌, Bool, true, false, List, [], ◌∷◌, ◌++◌, ◌≡◌, Option, Some, None, length, min}
+use Rattle.std.specs.Prelude.{ℕ, zero, suc, ◌<◌, ◌≤◌, Bool, true, false, List, [], ◌∷◌, ◌++◌, ◌≡◌, ◌⊎◌, Option, Some, None, length, min}
 use Rattle.hmsc_graph.specs.Nets.{size_of}
 use Rattle.chart_term.specs.Equality.{same_tree}
 use Rattle.chart_term.specs.Facts.{most_stored}
@@ -20,8 +18,7 @@ use Rattle.term_laws.specs.Normality.{AreDifferent}
 use Rattle.term_laws.specs.Permission.{permits_of}
 use Rattle.term_permission.specs.Ready.{IsReady}
 use Rattle.term_permission.specs.RowRests.{RowRest, turn_before, gap_before}
-use Rattle.permit_step.specs.AllAfter.{AreRising}
-use Rattle.permit_step.specs.Successors.{IsJustAbove}
+use Rattle.term_successors.specs.Successors.{AreRising}
 use Rattle.term_laws.specs.Taking.{IsAfter}
 use Rattle.permit_step.specs.declared.ascent.Frame.{Frame}
 use Rattle.permit_step.specs.declared.ascent.Taken.{Taken}
@@ -83,30 +80,23 @@ pub record IsResult (w : Tables) (a : ℕ) (fs : List Frame) (x z : Tree) : Type
   pub taken : IsAfter (permits_of w) x event left
   pub whole : put_all (permits_of w) event fs left ≡ Some z
 
--- whether the term is in the list
-abbrev pub is_listed : Tree → List Tree → Bool
-is_listed x ys = list_any (λ y. same_tree y x) ys
-
--- what holds of the terms that were found: each once, all of them in the index, and their weight is kept
+-- what holds of the terms that were found: they are in their order, and their weight is kept
 pub record IsTally (f : Found) : Type 0 where
-  pub different : AreDifferent f.terms
-  pub index : (x : Tree) → contains tree_cmp f.seen x ≡ is_listed x f.terms
-  pub rising : AreRising f.seen.keys
-  pub weight : f.weight ≡ min (set_weight f.terms) most_stored
+  pub rising : AreRising f.terms.keys
+  pub weight : f.weight ≡ min (set_weight f.terms.keys) most_stored
   pub most : f.most < most_stored
 
--- where all were found, the weight isn't above the bound; else it is just above
+-- where all were found, the weight isn't above the bound; else it is
 pub record IsBounded (most : ℕ) (found : List Tree) (all : Bool) : Type 0 where
   pub within : all ≡ true → set_weight found ≤ most
-  pub beyond : all ≡ false → IsJustAbove most found
+  pub beyond : all ≡ false → most < set_weight found
 
 -- the terms that were found became more by some that have the property
 pub record Gains (P : Tree → Type 0) (old new : Found) : Type 0 where
   pub tally : IsTally new
   pub most : new.most ≡ old.most
-  pub rest : List Tree
-  pub are : new.terms ≡ old.terms ++ rest
-  pub each : Each P rest
+  pub kept : (z : Tree) → IsAmong old.terms.keys z → IsAmong new.terms.keys z
+  pub each : (z : Tree) → IsAmong new.terms.keys z → IsAmong old.terms.keys z ⊎ P z
 
 -- a result that is ready
 pub record IsFinding (w : Tables) (a : ℕ) (fs : List Frame) (x z : Tree) : Type 0 where
@@ -116,14 +106,14 @@ pub record IsFinding (w : Tables) (a : ℕ) (fs : List Frame) (x z : Tree) : Typ
 -- a search through x found results alone, and all of them unless it was cut off
 pub record Gathers (w : Tables) (a : ℕ) (fs : List Frame) (x : Tree) (old new : Found) (all : Bool) : Type 0 where
   pub gains : Gains (IsFinding w a fs x) old new
-  pub bounded : IsBounded new.most new.terms all
-  pub whole : all ≡ true → (z : Tree) → IsResult w a fs x z → IsAmong new.terms z
+  pub bounded : IsBounded new.most new.terms.keys all
+  pub whole : all ≡ true → (z : Tree) → IsResult w a fs x z → IsAmong new.terms.keys z
 
 -- the same of the term itself alone, where it is an event
 pub record GathersOwn (w : Tables) (a : ℕ) (fs : List Frame) (x : Tree) (old new : Found) (all : Bool) : Type 0 where
   pub gains : Gains (IsFinding w a fs x) old new
-  pub bounded : IsBounded new.most new.terms all
-  pub whole : all ≡ true → (e : TermEvent) → x ≡ Event e → (z : Tree) → IsResult w a fs x z → IsAmong new.terms z
+  pub bounded : IsBounded new.most new.terms.keys all
+  pub whole : all ≡ true → (e : TermEvent) → x ≡ Event e → (z : Tree) → IsResult w a fs x z → IsAmong new.terms.keys z
 
 -- nothing is left of the term after an event with the label that is taken from the child of this index
 abbrev pub IsPassed : Tables → ℕ → Tree → ℕ → Type 0
@@ -156,5 +146,5 @@ IsOther a x = (e : TermEvent) → x ≡ Event e → e.label ≡ a → ⊥
 -- the term is there once, and the others are as they were
 pub record AddsOne (t : Tree) (old new : Found) (all : Bool) : Type 0 where
   pub gains : Gains (λ x. x ≡ t) old new
-  pub among : IsAmong new.terms t
-  pub bounded : IsBounded new.most new.terms all
+  pub among : IsAmong new.terms.keys t
+  pub bounded : IsBounded new.most new.terms.keys all

@@ -1,6 +1,7 @@
-//! What is left of any of some terms after an event with a label, in one table. trace_judge steps sets by it.
+//! What is left of any of some terms after an event with a label, in one set. term_sets steps sets by it.
 
-ghost use Rattle.std.specs.Prelude.{◌≡◌, ◌<◌, [], true, false, Some, IfOk, MatchOption};
+ghost use Rattle.std.specs.Prelude.{◌≡◌, ◌<◌, [], true, false, Some, IfOk, IfSome, MatchOption};
+ghost use Rattle.chart_term.specs.Facts.{most_stored};
 ghost use Rattle.chart_term.specs.Properties.{Each};
 ghost use Rattle.msc_base.specs.declared.label.Label.{Label as LabelValue};
 ghost use Rattle.permit_step.specs.AllAfter.{AreAllLeft, AreTooMany};
@@ -31,7 +32,7 @@ fn search_each(
     requires terms { Each (IsReady nets.now.tables) terms.now }
     requires placed { Each (HaveOnePlace nets.now.tables) terms.now }
     requires tally { IsTally found.old }
-    requires none { found.old.terms ≡ [] }
+    requires none { found.old.terms.keys ≡ [] }
     ensures all { IfOk result (λ all. all ≡ true → IsGathered nets.now.tables label found.old.most terms.now found.new) }
     ensures more { IfOk result (λ all. all ≡ false → IsTooMuch nets.now.tables label found.old.most terms.now found.new) }
 {
@@ -56,14 +57,15 @@ pub fn after_each(
     requires tables { AreReadyTables nets.now.tables }
     requires terms { Each (IsReady nets.now.tables) terms.now }
     requires placed { Each (HaveOnePlace nets.now.tables) terms.now }
-    requires most { most < 18446744073709551615 }
-    ensures { IfOk result (λ found. (label : LabelValue) → label_number nets.now.labels label ≡ Some number
+    requires most { most < most_stored }
+    ensures left { IfOk result (λ found. (label : LabelValue) → label_number nets.now.labels label ≡ Some number
         → MatchOption found (AreTooMany nets.now label terms.now most) (AreAllLeft nets.now label terms.now most)) }
+    ensures ready { IfOk result (λ found. IfSome found (Each (IsReady nets.now.tables))) }
 {
     let mut found = Found::new(alloc, most);
     if !search_each(alloc, nets, number, terms, &mut found)? {
         return Ok(None);
     }
-    let Found { seen, weight, .. } = found;
-    Ok(Some(Gathered::of(seen, weight)))
+    let Found { terms, weight, .. } = found;
+    Ok(Some(Gathered::of(terms, weight)))
 }

@@ -1,13 +1,12 @@
 //! The terms that a search found, each once, and their weight, above which the search ends: for `search`.
 
-ghost use Rattle.std.specs.Prelude.{◌≡◌, ◌<◌, ◌≤◌, ◌++◌, List, [], IfOk, OnOk, OnErr};
+ghost use Rattle.std.specs.Prelude.{◌≡◌, ◌<◌, ◌≤◌, [], IfOk};
 ghost use Rattle.chart_term.specs.Facts.{most_stored};
-ghost use Rattle.chart_term.specs.Terms.{Tree};
 ghost use Rattle.term_laws.specs.Listing.{set_weight};
 ghost use Rattle.permit_step.specs.Searches.{AddsOne, IsTally};
 
 use crate::coded::CodedTerm;
-use chart_term::{Term, TermList};
+use chart_term::Term;
 use msc_base::NoMemory;
 use std::alloc::Global;
 use std::collections::BTreeSet;
@@ -15,10 +14,8 @@ use std::collections::BTreeSet;
 /// The terms that a search has found, each once.
 #[derive(Drop)]
 pub(crate) struct Found {
-    /// The terms in the order in which they were found.
-    pub(crate) terms: TermList,
-    /// The same terms, sorted.
-    pub(crate) seen: BTreeSet<CodedTerm>,
+    /// The terms in their order.
+    pub(crate) terms: BTreeSet<CodedTerm>,
     /// The sum of their weights, or the largest `u64` where it is larger.
     pub(crate) weight: u64,
     /// Above which weight the search ends.
@@ -31,12 +28,11 @@ impl Found {
     pub(crate) fn new(alloc: Global, most: u64) -> Found
         requires { most < most_stored }
         ensures tally { IsTally result }
-        ensures terms { result.terms ≡ [] }
+        ensures terms { result.terms.keys ≡ [] }
         ensures most { result.most ≡ most }
     {
         Found {
-            terms: TermList::new(alloc),
-            seen: BTreeSet::new(alloc),
+            terms: BTreeSet::new(alloc),
             weight: 0,
             most,
         }
@@ -44,27 +40,16 @@ impl Found {
 
     /// Adds the term where it is new, and says whether the terms' weight isn't above the bound.
     #[tactic(auto, using(crate::proofs::Tallying::tallying))]
-    pub(crate) fn add(&mut self, alloc: Global, term: Term) -> Result<bool, NoMemory>
+    pub(crate) fn add(&mut self, term: Term) -> Result<bool, NoMemory>
         requires tally { IsTally self.old }
-        requires within { set_weight self.old.terms ≤ self.old.most }
+        requires within { set_weight self.old.terms.keys ≤ self.old.most }
         ensures { IfOk result (λ all. AddsOne term self.old self.new all) }
     {
-        if !self.seen.insert(CodedTerm::new(term.copy(alloc)?))? {
+        let weight = term.weight();
+        if !self.terms.insert(CodedTerm::new(term))? {
             return Ok(true);
         }
-        self.weight = self.weight.saturating_add(term.weight());
-        self.terms.push(term)?;
+        self.weight = self.weight.saturating_add(weight);
         Ok(self.weight <= self.most)
-    }
-
-    /// Appends the terms to a list.
-    pub(crate) fn append_to(&self, alloc: Global, out: &mut TermList) -> Result<(), NoMemory>
-        ensures ok { OnOk result (out.new ≡ out.old ++ self.now.terms) }
-        ensures err { OnErr result ((found : List Tree) × (out.new ≡ out.old ++ found)) }
-    {
-        for index in 0..self.terms.len() {
-            out.push(self.terms.at(index).copy(alloc)?)?;
-        }
-        Ok(())
     }
 }

@@ -1,7 +1,7 @@
-//! What is left of some terms: each term once, in their order, with the weight of all. trace_judge's sets are made of it.
+//! What is left of some terms: each term once, in their order, with the weight of all. term_sets' sets are made of it.
 
 ghost use Rattle.std.specs.Prelude.{◌≡◌, IfOk};
-ghost use Rattle.permit_step.specs.AllAfter.{AreRising};
+ghost use Rattle.term_successors.specs.Successors.{AreRising};
 ghost use Rattle.term_laws.specs.Listing.{set_weight};
 
 use crate::coded::CodedTerm;
@@ -25,7 +25,7 @@ impl Model for Gathered {
     ghost use Rattle.std.specs.Coded.{coded_list};
     ghost use Rattle.chart_term.specs.Codes.{coded_tree};
     ghost use Rattle.chart_term.specs.Terms.{Tree};
-    ghost use Rattle.permit_step.specs.AllAfter.{AreRising};
+    ghost use Rattle.term_successors.specs.Successors.{AreRising};
     ghost use Rattle.term_laws.specs.Listing.{set_weight};
 
     ghost Value = { List Tree };

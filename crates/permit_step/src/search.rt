@@ -1,4 +1,4 @@
-//! The search down to each event with a label, as a loop over its path: for `successors` and `all_after`.
+//! The search down to each event with a label, as a loop over its path: for `all_after` and `any_after`.
 
 ghost use Rattle.std.specs.Prelude.{◌≡◌, ◌≤◌, ◌<◌, ◌+◌, [], ℕ, List, true, IfOk, OnOk, IfSome, IfNone};
 ghost use Rattle.chart_term.specs.Terms.{Event as EventTree};
@@ -36,7 +36,7 @@ pub(crate) fn search(
     requires term { IsReady nets.now.tables term.now }
     requires placed { one_place ≡ true → HaveOnePlace nets.now.tables term.now }
     requires tally { IsTally found.old }
-    requires within { set_weight found.old.terms ≤ found.old.most }
+    requires within { set_weight found.old.terms.keys ≤ found.old.most }
     ensures { IfOk result (λ all. Gathers nets.now.tables label [] term.now found.old found.new all) }
 {
     let mut path = Vec::new(alloc);
@@ -88,7 +88,7 @@ fn add_event(
     requires linked { AreLinked (permits_of nets.now.tables) path.now.items term.now }
     requires met { IfSome met.old IsTaken }
     requires tally { IsTally found.old }
-    requires within { set_weight found.old.terms ≤ found.old.most }
+    requires within { set_weight found.old.terms.keys ≤ found.old.most }
     ensures met { OnOk result (IfSome met.new IsTaken) }
     ensures placed { OnOk result ((places : ℕ → List ℕ) → AreEventsPlaced places term.now → IfSome met.old (IsMetAt places label) → IfSome met.new (IsMetAt places label)) }
     ensures found { IfOk result (λ all. GathersOwn nets.now.tables label path.now.items term.now found.old found.new all) }
@@ -100,7 +100,7 @@ fn add_event(
     *met = Some(taken);
     match left {
         Some(left) => {
-            let all = found.add(alloc, left)?;
+            let all = found.add(left)?;
             Ok(all)
         }
         None => Ok(true),

@@ -6,11 +6,11 @@ ghost use Rattle.residual_bench.specs.Charts.{labels, IsChart};
 use crate::charts::{ACTION, DISTANT_ACTION, OTHER_ACTION, label, nested_loops, ordered, tables};
 use chart_term::Term;
 use msc_base::Label;
-use residual_pool::Pool;
 use std::alloc::Global;
 use std::test::Fail;
+use term_sets::{Pool, Residuals};
 use term_tables::Nets;
-use trace_judge::{Residuals, StepFault, Store};
+use trace_judge::{StepFault, Store};
 
 /// What both stores tell of a log.
 #[derive(Drop)]
@@ -34,7 +34,8 @@ fn take_both<S: Store + Drop, T: Store + Drop>(
     ensures first { S.serves first.new nets.now }
     ensures second { T.serves second.new nets.now }
 {
-    let taken = match (first.step(nets, label), second.step(nets, label)) {
+    let number = nets.label(label);
+    let taken = match (first.step(nets, number), second.step(nets, number)) {
         (Ok(()), Ok(())) => true,
         (Err(StepFault::TooLarge), Err(StepFault::TooLarge)) => false,
         _ => return Err(Fail::from("one store takes the event, and the other doesn't")),

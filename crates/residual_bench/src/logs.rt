@@ -107,7 +107,8 @@ fn take_turn<S: Store + Drop>(
     ensures count { OnOk result (track.new.events ≤ track.old.events + 4) }
 {
     for index in 0..turn.len() {
-        track.take(nets, turn.at(index), 1)?;
+        let number = nets.label(turn.at(index));
+        track.take(nets, number, 1)?;
     }
     Ok(())
 }
@@ -158,7 +159,8 @@ pub(crate) fn follow_all<S: Store + Drop>(
 {
     let mut track = Track::<S>::new(alloc, nets, term, BUDGET)?;
     for index in 0..labels.len() {
-        track.take(nets, labels.at(index), 1)?;
+        let number = nets.label(labels.at(index));
+        track.take(nets, number, 1)?;
     }
     come_to(alloc, nets, &track)
 }

@@ -14,12 +14,11 @@ mod work;
 use crate::fault::Fault;
 use crate::logs::Judged;
 use crate::work::{Asked, asked_of, judge};
-use residual_pool::Pool;
 use std::alloc::Global;
 use std::env;
 use std::process::ExitCode;
 use std::rt::Env;
-use trace_judge::Residuals;
+use term_sets::{Pool, Residuals};
 
 /// What the program's words ask for, and whether by the plain store.
 #[derive(Clone, Copy)]

@@ -7,7 +7,7 @@ use Rattle.chart_term.specs.NormalForms.{NetPermits}
 use Rattle.chart_term.specs.Terms.{TermEvent, Tree}
 use Rattle.term_laws.specs.Permission.{permits_of}
 use Rattle.term_laws.specs.Residuals.{IsResidual, res_none, res_more}
-use Rattle.permit_step.specs.Successors.{IsSuccessor}
+use Rattle.term_successors.specs.Successors.{IsSuccessor}
 use Rattle.term_laws.specs.Taking.{IsAfter}
 use Rattle.trace_judge.specs.Logs.{AreNumbers, IsLeft}
 

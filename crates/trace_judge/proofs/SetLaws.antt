@@ -10,7 +10,7 @@ use Rattle.term_laws.specs.Listing.{IsDeepEnough, next_set, set_weight}
 use Rattle.term_laws.specs.Permission.{permits_of}
 use Rattle.term_laws.specs.Residuals.{IsResidual, res_none}
 use Rattle.term_laws.specs.Soundness.{AreTidyTables}
-use Rattle.permit_step.specs.Successors.{IsSuccessor}
+use Rattle.term_successors.specs.Successors.{IsSuccessor}
 use Rattle.term_laws.specs.Taking.{IsAfter}
 use Rattle.term_laws.proofs.Placed.{one_place_is_kept}
 use Rattle.term_laws.proofs.FullSound.{full_soundness_is_kept, tidy_tables}
@@ -20,10 +20,10 @@ use Rattle.term_laws.proofs.SetExact.{set_sound, set_whole, deep_at}
 use Rattle.term_laws.proofs.TermSentences.{net_rank}
 use Rattle.trace_judge.specs.Laws.{SetsGoOn}
 use Rattle.trace_judge.specs.Logs.{AreResiduals}
-use Rattle.trace_judge.specs.Sets.{IsSoundFor, IsLeftOf, AreSuccessors, PassBudget}
-use Rattle.trace_judge.specs.Gathers.{IsOver}
+use Rattle.trace_judge.specs.Sets.{IsSoundFor, AreSuccessors}
+use Rattle.term_successors.specs.Successors.{IsLeftOf}
 use Rattle.trace_judge.proofs.Lefts.{one_more, last_one, stopped, left_more, left_last, left_start, left_itself}
-use Rattle.permit_step.proofs.TermSets.{lighter, same_weight}
+use Rattle.term_successors.proofs.TermSets.{same_weight}
 
 -- Sets after labels
 
@@ -100,13 +100,6 @@ successors_exist v a x terms h = go (label_number v.labels a) refl
             };
           };
         }
-
--- where some of it weighs more than the budget, all of it does
-pub over_passes : (v : NetsValue) (a : Label) (x : Tree) (terms : List Tree) (budget : ℕ) → IsSoundFor v x → IsOver (IsLeftOf v a terms) budget → PassBudget v a terms budget
-over_passes v a x terms budget h o =
-    let s = successors_exist v a x terms h in
-    let l = lighter o.some s.next o.different (λ y i. (s.are.exact y).from (o.each y i)) in
-    record { next = s.next; are = s.are; above = omega (arith, o.above, l) }
 
 -- what an event leaves of a sound term is sound
 pub stays_sound : (v : NetsValue) (a : Label) (x y : Tree) → IsSoundFor v x → IsSuccessor v a x y → IsSoundFor v y

@@ -9,7 +9,7 @@ use Rattle.term_tables.specs.NetValues.{NetsValue}
 use Rattle.chart_term.specs.Terms.{Tree, weight}
 use Rattle.term_laws.specs.Listing.{set_weight}
 use Rattle.msc_base.specs.Lists.{IsAmong}
-use Rattle.event_log.specs.declared.event.LineEvent.{LineEvent}
+use Rattle.line_events.specs.declared.event.LineEvent.{LineEvent}
 use Rattle.trace_judge.specs.Logs.{labels_of, AreResiduals, IsWithin, IsAbove}
 use Rattle.trace_judge.specs.Sets.{SetValue, IsSoundFor, IsNextSet, PassBudget, HasEnding}
 use Rattle.trace_judge.specs.Verdicts.{AreWithin, HasLeft, IsVerdict, Weighs, IsReached, by_front, by_none, IsLargest}

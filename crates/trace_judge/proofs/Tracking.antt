@@ -5,10 +5,12 @@ use Rattle.std.proofs.lemmas.Result.{IfOk-weaker}
 use Rattle.msc_base.specs.declared.label.Label.{Label}
 use Rattle.msc_base.specs.declared.verdict.Verdict.{Verdict}
 use Rattle.msc_base.specs.declared.verdict.Verdict.TheVariants.{Conforms, Fails, Early, TooLarge}
-use Rattle.event_log.specs.declared.event.LineEvent.{LineEvent}
-use Rattle.term_tables.specs.NetValues.{NetsValue}
+use Rattle.line_events.specs.declared.event.LineEvent.{LineEvent}
+use Rattle.term_tables.specs.NetValues.{NetsValue, label_number}
 use Rattle.chart_term.specs.Terms.{Tree}
-use Rattle.trace_judge.specs.Advances.{FollowsOpen, IsOpenVerdict}
+use Rattle.trace_judge.specs.Advances.{Advances, Follows, FollowsOpen, IsOpenVerdict, settled, risen}
+use Rattle.trace_judge.specs.Steps.{ForLabels}
+use Rattle.trace_judge.specs.declared.advance.Outcome.{Outcome}
 use Rattle.trace_judge.specs.Sets.{SetValue}
 use Rattle.trace_judge.specs.Tracks.{TrackValue, AreSame, Fed, IsGoing, IsSame, Stands}
 use Rattle.trace_judge.specs.Verdicts.{IsLargest, IsVerdict, TellsRuns}
@@ -16,14 +18,14 @@ use Rattle.trace_judge.proofs.TrackFacts.{take_settled, take_going, verdict_sett
 use Rattle.trace_judge.proofs.VerdictLaws.{tells_runs}
 
 module _ {S : Type 0} (holds : S → SetValue) (v : NetsValue) (x : Tree) (budget : ℕ) (events : List LineEvent) where
-  pub take_fed : (a : Label) (line : ℕ) (old mid new : TrackValue S) → FollowsOpen holds v a line old.ended old mid → new ≡ record mid { events = mid.events + 1 }
+  pub take_fed : (number : Option ℕ) (a : Label) (line : ℕ) (old mid new : TrackValue S) → number ≡ label_number v.labels a → FollowsOpen holds v number line old.ended old mid → new ≡ record mid { events = mid.events + 1 }
       → Fed holds v x budget events old → Fed holds v x budget (events ++ record { label = a; line = line } ∷ []) new
-  take_fed a line old mid new h q f = go old.ended old.set refl refl h
+  take_fed number a line old mid new is h q f = go old.ended old.set refl refl h
     where
-      go : (ended : Option Verdict) (set : Option S) → old.ended ≡ ended → old.set ≡ set → FollowsOpen holds v a line ended (record old { set = set }) mid → Fed holds v x budget (events ++ record { label = a; line = line } ∷ []) new
+      go : (ended : Option Verdict) (set : Option S) → old.ended ≡ ended → old.set ≡ set → FollowsOpen holds v number line ended (record old { set = set }) mid → Fed holds v x budget (events ++ record { label = a; line = line } ∷ []) new
       go None None p r h = absurd (none_settled holds v x budget events old f p r)
       go None (Some s) p r h =
-          take_going holds v x budget events (record { label = a; line = line }) old new s h.set h.outcome f p r h.advances
+          take_going holds v x budget events (record { label = a; line = line }) old new s h.set h.outcome f p r (h.advances a is)
           (q ∙ (λ i. record { set = h.is i; events = h.events i + 1; ended = h.ended i; largest = h.largest i }))
       go (Some w) set p r h =
           take_settled holds v x budget events (record { label = a; line = line }) old new w f p
@@ -46,6 +48,19 @@ module _ {S : Type 0} (holds : S → SetValue) (v : NetsValue) (x : Tree) (budge
 
   pub settled_tells : (t : TrackValue S) (verdict : Verdict) → t.ended ≡ Some verdict → Fed holds v x budget events t → TellsRuns v x events verdict
   settled_tells t verdict p f = tells_runs v x budget events verdict f.sound (settled_is t verdict p f)
+
+-- a track whose set took an event
+pub followed : {S : Type 0} (holds : S → SetValue) (v : NetsValue) (number : Option ℕ) (line : ℕ) (old new : TrackValue S) (s set : S) (outcome : Outcome) → old.set ≡ Some s → ForLabels v number (λ label. Advances v label (holds s) (holds set) outcome)
+    → new ≡ record { set = Some set; events = old.events; ended = settled outcome (old.events + 1) line; largest = risen outcome old.largest } → Follows holds v number line old.set old new
+followed holds v number line old new s set outcome e a n = subst (λ (o : Option _). Follows holds v number line o old new) (sym e) (record {
+  set = set;
+  outcome = outcome;
+  is = ap (λ (t : TrackValue _). t.set) n;
+  advances = a;
+  ended = ap (λ (t : TrackValue _). t.ended) n;
+  largest = ap (λ (t : TrackValue _). t.largest) n;
+  events = ap (λ (t : TrackValue _). t.events) n;
+})
 
 -- after want of memory a track stays as it was
 module _ {S : Type 0} (holds : S → SetValue) (v : NetsValue) (x : Tree) (budget : ℕ) (events : List LineEvent) where

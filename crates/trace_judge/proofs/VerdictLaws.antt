@@ -4,7 +4,7 @@ use Rattle.std.proofs.Common.{ap, sym, ◌∙◌, subst, arith, inl, append_asso
 use Rattle.msc_base.specs.declared.label.Label.{Label}
 use Rattle.msc_base.specs.declared.verdict.Verdict.{Verdict}
 use Rattle.msc_base.specs.declared.verdict.Verdict.TheVariants.{Conforms, Fails, Early, TooLarge}
-use Rattle.event_log.specs.declared.event.LineEvent.{LineEvent}
+use Rattle.line_events.specs.declared.event.LineEvent.{LineEvent}
 use Rattle.term_tables.specs.NetValues.{NetsValue}
 use Rattle.chart_term.specs.Terms.{Tree}
 use Rattle.term_laws.specs.Listing.{set_weight}

@@ -7,6 +7,7 @@ use Rattle.msc_base.specs.declared.verdict.Verdict.TheVariants.{Conforms, Fails,
 use Rattle.term_tables.specs.NetValues.{NetsValue}
 use Rattle.term_laws.specs.Listing.{set_weight}
 use Rattle.trace_judge.specs.Sets.{SetValue, IsNextSet, IsTooLarge, HasEnding}
+use Rattle.trace_judge.specs.Steps.{ForLabels}
 use Rattle.trace_judge.specs.Tracks.{TrackValue}
 use Rattle.trace_judge.specs.declared.advance.Outcome.{Outcome}
 use Rattle.trace_judge.specs.declared.advance.Outcome.TheVariants.{Goes, Empties, Passes}
@@ -37,24 +38,24 @@ risen Passes largest = largest
 
 module _ {S : Type 0} (holds : S → SetValue) where
   -- the track before and after its set took an event, of which it hasn't counted yet
-  pub record FollowsSet (v : NetsValue) (a : Label) (line : ℕ) (s : S) (old new : TrackValue S) : Type 0 where
+  pub record FollowsSet (v : NetsValue) (number : Option ℕ) (line : ℕ) (s : S) (old new : TrackValue S) : Type 0 where
     pub set : S
     pub outcome : Outcome
     pub is : new.set ≡ Some set
-    pub advances : Advances v a (holds s) (holds set) outcome
+    pub advances : ForLabels v number (λ label. Advances v label (holds s) (holds set) outcome)
     pub ended : new.ended ≡ settled outcome (old.events + 1) line
     pub largest : new.largest ≡ risen outcome old.largest
     pub events : new.events ≡ old.events
 
   -- a track without a set stays as it is
-  abbrev pub Follows : NetsValue → Label → ℕ → Option S → TrackValue S → TrackValue S → Type 0
-  Follows v a line None old new = new ≡ old
-  Follows v a line (Some s) old new = FollowsSet v a line s old new
+  abbrev pub Follows : NetsValue → Option ℕ → ℕ → Option S → TrackValue S → TrackValue S → Type 0
+  Follows v number line None old new = new ≡ old
+  Follows v number line (Some s) old new = FollowsSet v number line s old new
 
   -- nor does one whose verdict is settled change
-  abbrev pub FollowsOpen : NetsValue → Label → ℕ → Option Verdict → TrackValue S → TrackValue S → Type 0
-  FollowsOpen v a line None old new = Follows v a line old.set old new
-  FollowsOpen v a line (Some verdict) old new = new ≡ old
+  abbrev pub FollowsOpen : NetsValue → Option ℕ → ℕ → Option Verdict → TrackValue S → TrackValue S → Type 0
+  FollowsOpen v number line None old new = Follows v number line old.set old new
+  FollowsOpen v number line (Some verdict) old new = new ≡ old
 
 -- the verdict of a set, where none is settled, after so many events
 abbrev pub IsOpenVerdict : NetsValue → SetValue → ℕ → Verdict → Type 0

@@ -5,13 +5,4 @@ pub mod VerdictsBy
 pub mod Tracks
 pub mod Laws
 pub mod Steps
-pub mod Gathers
 pub mod Advances
-pub mod Judged
-pub mod Taking
-pub mod States
-pub mod Faults
-pub mod Words
-pub mod Subsets
-pub mod Forms
-pub mod Keys

@@ -6,7 +6,7 @@ use Rattle.chart_term.specs.TermPatterns.{Both}
 use Rattle.chart_term.specs.Terms.{Tree}
 use Rattle.term_laws.specs.Listing.{set_weight}
 use Rattle.msc_base.specs.Lists.{IsAmong}
-use Rattle.event_log.specs.declared.event.LineEvent.{LineEvent}
+use Rattle.line_events.specs.declared.event.LineEvent.{LineEvent}
 use Rattle.term_laws.specs.Normality.{AreDifferent}
 use Rattle.term_laws.specs.Permission.{permits_of}
 use Rattle.term_laws.specs.Residuals.{IsResidual, BeginsRun, IsFinishedRun}

@@ -12,7 +12,7 @@ use Rattle.term_laws.specs.Listing.{set_weight}
 use Rattle.term_laws.specs.Placing.{HaveOnePlace}
 use Rattle.msc_base.specs.Lists.{IsAmong}
 use Rattle.term_laws.specs.Normality.{AreDifferent}
-pub use Rattle.permit_step.specs.AllAfter.{AreRising, IsLeftOf}
+use Rattle.term_successors.specs.Successors.{AreRising, IsLeftOf}
 use Rattle.term_laws.specs.Taking.{MayEnd}
 
 -- a set: the terms held, their budget, and whether the budget was passed

@@ -2,9 +2,10 @@
 
 ghost use Rattle.std.specs.Prelude.{◌≡◌, IfOk, OnErr};
 ghost use Rattle.trace_judge.specs.Advances.{Advances, LeavesOver};
+ghost use Rattle.trace_judge.specs.Steps.{ForLabels, IsNumber};
 
 use crate::{StepFault, Store};
-use msc_base::{Label, NoMemory};
+use msc_base::NoMemory;
 use term_tables::Nets;
 
 /// What became of a set at an event.
@@ -29,18 +30,19 @@ fn outcome_of<S: Store>(set: &S) -> Outcome
     }
 }
 
-/// Takes an event with this label. After want of memory the set is as it was.
+/// Takes an event whose label has this number, or none. After want of memory the set is as it was.
 pub(crate) fn advance<S: Store>(
     set: &mut S,
     nets: &Nets,
-    label: &Label,
+    number: Option<u32>,
 ) -> Result<Outcome, NoMemory>
-    requires { S.serves set.old nets.now }
+    requires serves { S.serves set.old nets.now }
+    requires number { IsNumber nets.now number }
     ensures serves { S.serves set.new nets.now }
-    ensures ok { IfOk result (λ outcome. Advances nets.now label.now (S.holds set.old) (S.holds set.new) outcome) }
+    ensures ok { IfOk result (λ outcome. ForLabels nets.now number (λ label. Advances nets.now label (S.holds set.old) (S.holds set.new) outcome)) }
     ensures err { OnErr result (S.holds set.new ≡ S.holds set.old) }
 {
-    match set.step(nets, label) {
+    match set.step(nets, number) {
         Ok(()) => Ok(outcome_of(set)),
         Err(StepFault::TooLarge) => Ok(Outcome::Passes),
         Err(StepFault::NoMemory) => Err(NoMemory),

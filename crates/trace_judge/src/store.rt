@@ -1,4 +1,4 @@
-//! What a judge asks of a set of residual terms; `Track` and `Judge` know no more of it than this.
+//! What a judge asks of a set of residual terms; `Track` knows no more of it than this.
 
 ghost use Rattle.std.specs.Prelude.{◌≡◌, ◌≤◌, ◌<◌, ◌↔◌, ◌++◌, ◌∷◌, [], List, true, false, IfOk, IfErr, OnOk, IsTrue, Err};
 ghost use Rattle.msc_base.specs.declared.limits.TheConstants.Limits.{BUDGET_MOST};
@@ -8,11 +8,11 @@ ghost use Rattle.chart_term.specs.Terms.{Tree, weight};
 ghost use Rattle.term_laws.specs.Listing.{set_weight};
 ghost use Rattle.trace_judge.specs.Logs.{AreResiduals, Begins, IsRun};
 ghost use Rattle.trace_judge.specs.Sets.{SetValue, IsSoundFor, IsServing, IsNextSet, HasEnding};
-ghost use Rattle.trace_judge.specs.Steps.{IsStepFault};
+ghost use Rattle.trace_judge.specs.Steps.{ForLabels, IsNumber, IsStepFault};
 ghost use Rattle.trace_judge.specs.declared.store.StepFault.TheVariants.{TooLarge, NoMemory};
 
 use chart_term::Term;
-use msc_base::{Label, NoMemory};
+use msc_base::NoMemory;
 use std::alloc::Global;
 use term_tables::Nets;
 
@@ -51,17 +51,18 @@ pub trait Store: Sized {
         ensures within { OnOk result (weight term ≤ budget) }
         ensures above { IfErr result (λ fault. fault ≡ TooLarge → budget < weight term) };
 
-    /// Takes an event with this label: the set becomes that of all terms that are left of its terms after such an event. It fails
-    /// with `TooLarge` exactly where that set weighs more than the budget, and from then on always, with the set as before; for want
-    /// of memory the set is as it was.
-    fn step(&mut self, nets: &Nets, label: &Label) -> Result<(), StepFault>
-        requires { serves self.old nets.now }
+    /// Takes an event whose label has this number in the tables, or none where they lack it: the set becomes that of all terms that
+    /// are left of its terms after such an event. It fails with `TooLarge` exactly where that set weighs more than the budget, and
+    /// from then on always, with the set as before; for want of memory the set is as it was.
+    fn step(&mut self, nets: &Nets, number: Option<u32>) -> Result<(), StepFault>
+        requires serves { serves self.old nets.now }
+        requires number { IsNumber nets.now number }
         ensures serves { serves self.new nets.now }
-        ensures set { OnOk result (IsNextSet nets.now label.now (holds self.old) (holds self.new)) }
-        ensures fault { IfErr result (λ fault. IsStepFault fault nets.now label.now (holds self.old) (holds self.new)) }
+        ensures set { OnOk result (ForLabels nets.now number (λ label. IsNextSet nets.now label (holds self.old) (holds self.new))) }
+        ensures fault { IfErr result (λ fault. IsStepFault fault nets.now number (holds self.old) (holds self.new)) }
         ensures lasts { (holds self.old).too_large ≡ true → result ≡ Err TooLarge }
         ensures residuals { (x : Tree) (labels : List Label) → AreResiduals nets.now x labels (holds self.old).terms
-            → OnOk result (AreResiduals nets.now x (labels ++ label.now ∷ []) (holds self.new).terms) };
+            → OnOk result (ForLabels nets.now number (λ label. AreResiduals nets.now x (labels ++ label ∷ []) (holds self.new).terms)) };
 
     /// Whether no term is held. It takes no memory.
     ///

@@ -1,19 +1,20 @@
 //! Follows the events of one log to a verdict, whatever the store. It knows labels and lines, and no bytes.
 
-ghost use Rattle.std.specs.Prelude.{◌≡◌, ◌≤◌, ◌<◌, ◌+◌, ◌++◌, ◌∷◌, [], ℕ, List, IfOk, OnOk, OnErr};
+ghost use Rattle.std.specs.Prelude.{◌≡◌, ◌≤◌, ◌<◌, ◌+◌, ◌++◌, ◌∷◌, [], ℕ, List, IfOk, OnOk, OnErr, MatchOption, Some, None};
 ghost use Rattle.msc_base.specs.declared.limits.TheConstants.Limits.{BUDGET_MOST};
 ghost use Rattle.term_tables.specs.NetValues.{NetsValue};
 ghost use Rattle.chart_term.specs.Terms.{Tree};
 ghost use Rattle.trace_judge.specs.Advances.{Follows, FollowsOpen, settled, risen, IsOpenVerdict};
 ghost use Rattle.trace_judge.specs.Sets.{IsSoundFor};
+ghost use Rattle.trace_judge.specs.Steps.{ForLabels, IsNumber};
 ghost use Rattle.trace_judge.specs.Tracks.{Fed, IfHeld, IsSame};
 ghost use Rattle.trace_judge.specs.Verdicts.{IsVerdict, TellsRuns, IsLargest};
-ghost use Rattle.event_log.specs.declared.event.LineEvent.{LineEvent};
+ghost use Rattle.line_events.specs.declared.event.LineEvent.{LineEvent};
 
 use crate::advance::{Outcome, advance};
 use crate::{StepFault, Store};
 use chart_term::Term;
-use msc_base::{Label, NoMemory, Verdict};
+use msc_base::{NoMemory, Verdict};
 use std::alloc::Global;
 use std::marker::Model;
 use term_tables::Nets;
@@ -90,18 +91,19 @@ impl<S: Store + Drop> Track<S> {
     }
 
     /// Lets the set take the next event.
-    fn follow(&mut self, nets: &Nets, label: &Label, line: u64) -> Result<(), NoMemory>
+    fn follow(&mut self, nets: &Nets, number: Option<u32>, line: u64) -> Result<(), NoMemory>
         requires serves { IfHeld (λ set. S.serves set nets.now) self.old }
+        requires number { IsNumber nets.now number }
         requires room { self.old.events < 18446744073709551615 }
         ensures serves { IfHeld (λ set. S.serves set nets.now) self.new }
-        ensures ok { OnOk result (Follows S.holds nets.now label.now line self.old.set self.old self.new) }
+        ensures ok { OnOk result (Follows S.holds nets.now number line self.old.set self.old self.new) }
         ensures count { OnOk result (self.new.events ≡ self.old.events) }
         ensures err { OnErr result (IsSame S.holds self.old self.new) }
     {
         match &mut self.set {
             None => Ok(()),
             Some(set) => {
-                let outcome = advance(set, nets, label)?;
+                let outcome = advance(set, nets, number)?;
                 self.note(outcome, line);
                 Ok(())
             }
@@ -109,16 +111,17 @@ impl<S: Store + Drop> Track<S> {
     }
 
     /// Lets the set take the next event, unless a verdict is settled.
-    fn follow_open(&mut self, nets: &Nets, label: &Label, line: u64) -> Result<(), NoMemory>
+    fn follow_open(&mut self, nets: &Nets, number: Option<u32>, line: u64) -> Result<(), NoMemory>
         requires serves { IfHeld (λ set. S.serves set nets.now) self.old }
+        requires number { IsNumber nets.now number }
         requires room { self.old.events < 18446744073709551615 }
         ensures serves { IfHeld (λ set. S.serves set nets.now) self.new }
-        ensures ok { OnOk result (FollowsOpen S.holds nets.now label.now line self.old.ended self.old self.new) }
+        ensures ok { OnOk result (FollowsOpen S.holds nets.now number line self.old.ended self.old self.new) }
         ensures count { OnOk result (self.new.events ≡ self.old.events) }
         ensures err { OnErr result (IsSame S.holds self.old self.new) }
     {
         match self.ended {
-            None => self.follow(nets, label, line),
+            None => self.follow(nets, number, line),
             Some(_) => Ok(()),
         }
     }
@@ -131,21 +134,34 @@ impl<S: Store + Drop> Track<S> {
         self.events += 1;
     }
 
-    /// Takes the next event, which stands in this line. After want of memory the track is as it was.
-    pub fn take(&mut self, nets: &Nets, label: &Label, line: u64) -> Result<(), NoMemory>
+    /// Takes the next event, whose label has this number in the tables, or none where they lack it, and which stands in this line.
+    /// After want of memory the track is as it was.
+    pub fn take(&mut self, nets: &Nets, number: Option<u32>, line: u64) -> Result<(), NoMemory>
         requires serves { IfHeld (λ set. S.serves set nets.now) self.old }
+        requires number { IsNumber nets.now number }
         requires room { self.old.events < 18446744073709551615 }
         ensures serves { IfHeld (λ set. S.serves set nets.now) self.new }
         ensures count { OnOk result (self.new.events ≡ self.old.events + 1) }
         ensures fed { (x : Tree) (budget : ℕ) (events : List LineEvent) → Fed S.holds nets.now x budget events self.old
-            → OnOk result (Fed S.holds nets.now x budget (events ++ record { label = label.now; line = line } ∷ []) self.new) }
+            → OnOk result (ForLabels nets.now number (λ label. Fed S.holds nets.now x budget (events ++ record { label = label; line = line } ∷ []) self.new)) }
         ensures stays { (x : Tree) (budget : ℕ) (events : List LineEvent) → Fed S.holds nets.now x budget events self.old
             → OnErr result (Fed S.holds nets.now x budget events self.new) }
         ensures err { OnErr result (IsSame S.holds self.old self.new) }
     {
-        self.follow_open(nets, label, line)?;
+        self.follow_open(nets, number, line)?;
         self.count();
         Ok(())
+    }
+
+    /// The set of what is left, unless the term alone is above the budget. It takes no memory. Behind a settled verdict it stays as it
+    /// was then.
+    pub fn set(&self) -> Option<&S>
+        ensures { MatchOption result (self.now.set ≡ None) (λ set. self.now.set ≡ Some set.now) }
+    {
+        match &self.set {
+            Some(set) => Some(set),
+            None => None,
+        }
     }
 
     /// The verdict where none is settled, by the set.

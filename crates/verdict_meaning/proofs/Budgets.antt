@@ -3,7 +3,7 @@ use Rattle.std.specs.Prelude.{ℕ, suc, ◌+◌, ◌*◌, ◌≤◌, ◌<◌, Bo
 use Rattle.std.proofs.Common.{ap, sym, ◌∙◌, refl, subst, arith, inl, inr}
 use Rattle.std.proofs.Math.Nat.{mul-le-mul_right}
 use Rattle.msc_base.specs.declared.label.Label.{Label}
-use Rattle.event_log.specs.declared.event.LineEvent.{LineEvent}
+use Rattle.line_events.specs.declared.event.LineEvent.{LineEvent}
 use Rattle.chart_term.specs.Equality.{same_tree, SameTreeIsExact}
 use Rattle.term_tables.specs.NetValues.{NetsValue}
 use Rattle.chart_term.specs.Terms.{Tree, weight}

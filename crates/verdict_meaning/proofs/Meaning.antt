@@ -6,7 +6,7 @@ use Rattle.msc_base.specs.declared.verdict.Verdict.{Verdict}
 use Rattle.msc_base.specs.Orders.{Once}
 use Rattle.msc_unfolding.specs.Runs.{IsRunOf, BeginsRunOf}
 use Rattle.msc_unfolding.specs.Unfoldings.{Unfolding}
-use Rattle.event_log.specs.declared.event.LineEvent.{LineEvent}
+use Rattle.line_events.specs.declared.event.LineEvent.{LineEvent}
 use Rattle.term_tables.specs.NetValues.{NetsValue}
 use Rattle.chart_term.specs.TermPatterns.{Both}
 use Rattle.chart_term.specs.TermRuns.{IsLinearRun}

@@ -12,11 +12,11 @@ use Rattle.term_laws.specs.Listing.{ListIsExact, ResidualSetIsExact, next_set}
 use Rattle.term_laws.specs.Permission.{permits_of}
 use Rattle.term_laws.specs.Residuals.{IsResidual, res_none, res_more}
 use Rattle.term_laws.specs.Soundness.{AreTidyTables}
-use Rattle.permit_step.specs.Successors.{IsSuccessor}
+use Rattle.term_successors.specs.Successors.{IsSuccessor}
 use Rattle.term_laws.specs.Taking.{IsAfter}
 use Rattle.term_laws.proofs.Normalising.{are_different}
 use Rattle.trace_judge.specs.Laws.{SetsGoOn}
-use Rattle.trace_judge.specs.Sets.{IsLeftOf}
+use Rattle.term_successors.specs.Successors.{IsLeftOf}
 use Rattle.verdict_meaning.specs.SetsThere.{HasResiduals, HasSuccessors, SetsAreThere}
 
 module _ (equal : SameTreeIsExact) where

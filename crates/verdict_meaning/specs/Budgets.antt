@@ -1,7 +1,7 @@
 -- The budget that is never passed.
 use Rattle.std.specs.Prelude.{ℕ, ◌+◌, ◌*◌, ◌≤◌, List, length}
 use Rattle.msc_base.specs.declared.verdict.Verdict.TheVariants.{TooLarge}
-use Rattle.event_log.specs.declared.event.LineEvent.{LineEvent}
+use Rattle.line_events.specs.declared.event.LineEvent.{LineEvent}
 use Rattle.chart_term.specs.Terms.{Tree, weight}
 use Rattle.term_laws.specs.OneResidual.{IsUnambiguous}
 use Rattle.term_tables.specs.NetValues.{NetsValue}

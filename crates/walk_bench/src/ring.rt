@@ -3,6 +3,7 @@ ghost use Rattle.std.specs.Prelude.{◌≡◌, ◌<◌, ◌≤◌, ◌+◌, [], 
 ghost use Rattle.chart_term.specs.Properties.{Each};
 ghost use Rattle.chart_term.specs.Tables.{net_count};
 ghost use Rattle.term_permission.specs.Ready.{IsReady, AreReadyTables};
+ghost use Rattle.walk_bench.specs.Homes.{AreHome, IsHome};
 
 use crate::fault::Fault;
 use chart_term::{Term, TermList};
@@ -82,7 +83,8 @@ fn ring(alloc: Global, size: u32) -> Result<Shape, Fault>
 #[tactic(auto, using(crate::proofs::ReadyRing::ready))]
 fn node(alloc: Global, number: u32, size: u32) -> Result<Term, NoMemory>
     requires { number < size }
-    ensures { IfOk result (λ term. IsReady [] term) }
+    ensures ready { IfOk result (λ term. IsReady [] term) }
+    ensures home { IfOk result IsHome }
 {
     if size - number == 1 {
         let term = Term::nil(alloc)?;
@@ -97,6 +99,7 @@ fn node(alloc: Global, number: u32, size: u32) -> Result<Term, NoMemory>
 fn nodes(alloc: Global, size: u32) -> Result<TermList, NoMemory>
     ensures size { IfOk result (λ nodes. length nodes ≡ size) }
     ensures ready { IfOk result (λ nodes. Each (IsReady []) nodes) }
+    ensures home { IfOk result (λ nodes. Each IsHome nodes) }
 {
     let mut nodes = TermList::new(alloc);
     for number in 0..size {
@@ -158,6 +161,7 @@ fn labelled(alloc: Global) -> Result<Nets, Fault>
 pub(crate) fn tables(alloc: Global, size: u32) -> Result<Nets, Fault>
     requires { size ≤ 4096 }
     ensures ready { IfOk result (λ nets. AreReadyTables nets.tables) }
+    ensures home { IfOk result (λ nets. AreHome nets.tables) }
     ensures one { IfOk result (λ nets. net_count nets.tables ≡ 1) }
 {
     let shape = ring(alloc, size)?;

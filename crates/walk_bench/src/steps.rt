@@ -1,15 +1,17 @@
 //! Steps a walk through the ring, one node after another.
-ghost use Rattle.std.specs.Prelude.{◌≡◌, IfOk};
+ghost use Rattle.std.specs.Prelude.{◌≡◌, true, IfOk};
 ghost use Rattle.chart_term.specs.Properties.{Each, MayHave};
 ghost use Rattle.chart_term.specs.Tables.{net_count};
+ghost use Rattle.term_laws.specs.Placing.{HaveOnePlace};
 ghost use Rattle.term_permission.specs.Ready.{IsReady, AreReadyTables};
+ghost use Rattle.walk_bench.specs.Homes.{AreHome, IsHome};
 
 use crate::fault::Fault;
 use crate::ring::{LABELS, labels};
-use chart_term::{Term, TermList};
+use chart_term::{Look, Term, TermList};
 use hmsc_graph::Goal;
 use msc_base::{Label, NoMemory};
-use permit_step::after;
+use permit_step::after_each;
 use std::alloc::Global;
 use term_permission::fresh_walk;
 use term_tables::Nets;
@@ -22,18 +24,42 @@ const MOST: u64 = 1_000_000;
 fn left_after(alloc: Global, nets: &Nets, term: &Term, label: &Label) -> Result<TermList, NoMemory>
     requires tables { AreReadyTables nets.now.tables }
     requires term { IsReady nets.now.tables term.now }
-    ensures { IfOk result (λ left. Each (IsReady nets.now.tables) left) }
+    requires placed { HaveOnePlace nets.now.tables term.now }
+    ensures ready { IfOk result (λ left. Each (IsReady nets.now.tables) left) }
+    ensures placed { IfOk result (λ left. Each (HaveOnePlace nets.now.tables) left) }
 {
-    let mut left = TermList::new(alloc);
-    after(alloc, nets, term, label, MOST, &mut left)?;
-    Ok(left)
+    let Some(number) = nets.label(label) else {
+        return Ok(TermList::new(alloc));
+    };
+    let mut terms = TermList::new(alloc);
+    terms.push(term.copy(alloc)?)?;
+    match after_each(alloc, nets, &terms, number, MOST)? {
+        Some(found) => {
+            let left = found.into_list(alloc)?;
+            Ok(left)
+        }
+        None => Ok(TermList::new(alloc)),
+    }
+}
+
+/// Whether the term is a walk. A walk has no event outside its net.
+#[tactic(auto, using(crate::proofs::ReadyRing::found))]
+fn is_walk(term: &Term) -> bool
+    ensures { result ≡ true → IsHome term.now }
+{
+    match term.look() {
+        Look::Walk { .. } => true,
+        _ => false,
+    }
 }
 
 /// The first of the terms, if there is one.
 #[tactic(auto, using(crate::proofs::ReadyRing::found))]
 fn first(alloc: Global, nets: &Nets, terms: &TermList) -> Result<Option<Term>, NoMemory>
-    requires { Each (IsReady nets.now.tables) terms.now }
-    ensures { IfOk result (λ term. MayHave (IsReady nets.now.tables) term) }
+    requires ready { Each (IsReady nets.now.tables) terms.now }
+    requires placed { Each (HaveOnePlace nets.now.tables) terms.now }
+    ensures ready { IfOk result (λ term. MayHave (IsReady nets.now.tables) term) }
+    ensures placed { IfOk result (λ term. MayHave (HaveOnePlace nets.now.tables) term) }
 {
     let _ = nets;
     if terms.len() == 0 {
@@ -47,12 +73,16 @@ fn first(alloc: Global, nets: &Nets, terms: &TermList) -> Result<Option<Term>, N
 #[tactic(auto, using(crate::proofs::ReadyRing::found))]
 pub(crate) fn steps(alloc: Global, nets: &Nets, events: u32) -> Result<u32, Fault>
     requires tables { AreReadyTables nets.now.tables }
+    requires home { AreHome nets.now.tables }
     requires one { net_count nets.now.tables ≡ 1 }
 {
     let labels = labels(alloc)?;
     let Some(walk) = fresh_walk(alloc, nets, 0, Goal::End)? else {
         return Err(Fault::Chart);
     };
+    if !is_walk(&walk) {
+        return Err(Fault::Chart);
+    }
     let mut here = walk;
     for taken in 0..events {
         let label = labels.at((taken % LABELS) as usize);

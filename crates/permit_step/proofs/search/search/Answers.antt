@@ -80,7 +80,7 @@ search-preserved c =
     }
 
 pub add_event-requires-clause-linked : goal.add_event-requires-clause-linked
-add_event-requires-clause-linked c = linked_searched c.args.nets.now.tables c.args.label c.args.term.now c.search.found.terms c.search.path.items c.search.here c.search.next c.search.invariant.state.searched
+add_event-requires-clause-linked c = linked_searched c.args.nets.now.tables c.args.label c.args.term.now c.search.found.terms.keys c.search.path.items c.search.here c.search.next c.search.invariant.state.searched
 
 pub next_child-requires-clause-placed : goal.next_child-requires-clause-placed
 next_child-requires-clause-placed c = λ one. (c.search.invariant.placed one).here

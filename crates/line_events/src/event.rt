@@ -1,0 +1,77 @@
+//! An event with its line: event_log makes them, and trace_judge and chart_judge take them.
+
+ghost use Rattle.std.specs.Prelude.{◌≡◌, IfOk};
+
+use msc_base::{Label, NoMemory};
+use std::alloc::Global;
+use std::marker::Model;
+use std::rc::Rc;
+
+/// What an event says, once for all events of equal lines.
+///
+/// A contract sees the label.
+#[derive(Drop)]
+pub struct SharedLabel {
+    label: Rc<Label>,
+    /// The index of its line among the known ones, where its line is known.
+    known: Option<u32>,
+}
+
+impl Model for SharedLabel {
+    ghost use Rattle.msc_base.specs.declared.label.Label.{Label};
+
+    ghost Value = { Label };
+
+    ghost view = { λ s. s.label.value };
+}
+
+impl SharedLabel {
+    /// The label, to be shared.
+    pub fn new(alloc: Global, label: Label) -> Result<SharedLabel, NoMemory>
+        ensures { IfOk result (λ shared. shared ≡ label) }
+    {
+        Ok(SharedLabel {
+            label: Rc::new(alloc, label)?,
+            known: None,
+        })
+    }
+
+    /// The label.
+    pub fn label(&self) -> &Label
+        ensures { result.now ≡ self.now }
+    {
+        &self.label
+    }
+
+    /// The same label once more: it is shared, and takes no memory.
+    pub fn copy(&self) -> Result<SharedLabel, NoMemory>
+        ensures { IfOk result (λ shared. shared ≡ self.now) }
+    {
+        Ok(SharedLabel {
+            label: self.label.clone()?,
+            known: self.known,
+        })
+    }
+
+    /// The same label once more, of the known line of this index.
+    pub fn of_known(&self, index: u32) -> Result<SharedLabel, NoMemory>
+        ensures { IfOk result (λ shared. shared ≡ self.now) }
+    {
+        Ok(SharedLabel {
+            label: self.label.clone()?,
+            known: Some(index),
+        })
+    }
+
+    /// The index of its line among the known ones, where its line is known: a guess at where something is noted for the label.
+    pub fn known(&self) -> Option<u32> {
+        self.known
+    }
+}
+
+/// An event, with the number of its line from 1.
+#[derive(Drop)]
+pub struct LineEvent {
+    pub label: SharedLabel,
+    pub line: u64,
+}

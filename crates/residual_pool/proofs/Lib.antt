@@ -1,4 +1,0 @@
-mod Remembering
-mod Pooling
-mod Going
-mod Stepping

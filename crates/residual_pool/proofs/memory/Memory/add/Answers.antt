@@ -1,8 +1,0 @@
-use Rattle.std.proofs.Common.{ap}
-use Rattle.residual_pool.specs.Memories.{MemoryValue}
-use Rattle.residual_pool.proofs.Remembering.{bounded_more}
-use Rattle.residual_pool.proofs.memory.Memory.add.Goals as goal
-
-pub invariant_of-self-2 : goal.invariant_of-self-2
-invariant_of-self-2 c = bounded_more c.self.inside.held c.weight-weight.result c.args.self.now c.self.inside.sets.items c.push.new.self.items c.args.set c.self.inside.moves.items
-    (ap (λ (m : MemoryValue). m.sets) c.self.view_is) c.self.invariant c.requires.light c.requires.held c.requires.few c.weight-weight.ensures c.in_ok-push.ensures.items

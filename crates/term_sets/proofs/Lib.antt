@@ -1,0 +1,19 @@
+pub mod Gathering
+mod Apart
+mod Choosing
+mod Ending
+mod Finishing
+mod Gaining
+mod Holding
+mod Leaving
+mod Ordering
+mod Picking
+mod Sorting
+mod Stepping
+mod Terms
+mod Weighing
+mod Members
+mod Remembering
+mod Pooling
+mod Going
+mod PoolStepping

@@ -1,0 +1,2 @@
+pub mod TermMembers
+pub mod TermSets

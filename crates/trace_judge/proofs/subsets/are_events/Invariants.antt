@@ -1,8 +1,0 @@
-use Rattle.std.proofs.Common.{take}
-use Rattle.chart_term.specs.NormalForms.{begun}
-use Rattle.chart_term.specs.Properties.{Each}
-use Rattle.trace_judge.specs.Subsets.{IsEvent}
-use Rattle.trace_judge.proofs.subsets.are_events.Given as goal
-
-abbrev pub invariant-loop-index : goal.invariant-loop-index
-invariant-loop-index l = Each IsEvent (take l.index (begun l.parts))

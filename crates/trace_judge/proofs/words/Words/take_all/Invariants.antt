@@ -1,6 +1,0 @@
-use Rattle.std.proofs.Common.{take, true}
-use Rattle.trace_judge.specs.Words.{IsEachLeft}
-use Rattle.trace_judge.proofs.words.Words.take_all.Given as goal
-
-abbrev pub invariant-loop-index : goal.invariant-loop-index
-invariant-loop-index l = IsEachLeft l.bits (take l.index l.words) l.fn.self l.self true

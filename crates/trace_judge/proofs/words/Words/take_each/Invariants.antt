@@ -1,6 +1,0 @@
-use Rattle.std.proofs.Common.{take, true}
-use Rattle.trace_judge.specs.Words.{TakesEach}
-use Rattle.trace_judge.proofs.words.Words.take_each.Given as goal
-
-abbrev pub invariant-loop-index : goal.invariant-loop-index
-invariant-loop-index l = TakesEach (take l.index l.bits) l.word l.fn.self l.self true
