@@ -34,16 +34,6 @@ impl Line {
             Line::NoEvent => Ok(Line::NoEvent),
         }
     }
-
-    /// The same once more, of the known line of this index.
-    pub fn of_known(&self, index: u32) -> Result<Line, NoMemory>
-        ensures { IfOk result (λ line. line ≡ self.now) }
-    {
-        match self {
-            Line::Event(label) => Ok(Line::Event(label.of_known(index)?)),
-            _ => self.copy(),
-        }
-    }
 }
 
 /// What the line of this number says, in a log of this version.

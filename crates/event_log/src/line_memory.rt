@@ -28,13 +28,13 @@ pub struct KnownLine {
 }
 
 impl KnownLine {
-    /// The line with what it says, as the known one of this index.
-    fn new(alloc: Global, index: u32, bytes: &[u8], says: &Line) -> Result<KnownLine, NoMemory>
+    /// The line with what it says.
+    fn new(alloc: Global, bytes: &[u8], says: &Line) -> Result<KnownLine, NoMemory>
         ensures bytes { IfOk result (λ line. line.bytes.items ≡ bytes.now) }
         ensures says { IfOk result (λ line. line.says ≡ says.now) }
     {
         let bytes = Vec::from_slice(alloc, bytes)?;
-        let says = says.of_known(index)?;
+        let says = says.copy()?;
         Ok(KnownLine { bytes, says })
     }
 }
@@ -148,7 +148,7 @@ impl LineMemory {
         let index = count as u32;
         self.slots.make_room(alloc, count).ok()?;
         let slot = self.slots.free_slot(code)?;
-        let line = KnownLine::new(alloc, index, bytes, line).ok()?;
+        let line = KnownLine::new(alloc, bytes, line).ok()?;
         self.known.push(line).ok()?;
         self.slots.fill(slot, code, index);
         self.bytes += bytes.len();

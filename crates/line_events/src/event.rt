@@ -13,8 +13,6 @@ use std::rc::Rc;
 #[derive(Drop)]
 pub struct SharedLabel {
     label: Rc<Label>,
-    /// The index of its line among the known ones, where its line is known.
-    known: Option<u32>,
 }
 
 impl Model for SharedLabel {
@@ -32,7 +30,6 @@ impl SharedLabel {
     {
         Ok(SharedLabel {
             label: Rc::new(alloc, label)?,
-            known: None,
         })
     }
 
@@ -49,23 +46,7 @@ impl SharedLabel {
     {
         Ok(SharedLabel {
             label: self.label.clone()?,
-            known: self.known,
         })
-    }
-
-    /// The same label once more, of the known line of this index.
-    pub fn of_known(&self, index: u32) -> Result<SharedLabel, NoMemory>
-        ensures { IfOk result (λ shared. shared ≡ self.now) }
-    {
-        Ok(SharedLabel {
-            label: self.label.clone()?,
-            known: Some(index),
-        })
-    }
-
-    /// The index of its line among the known ones, where its line is known: a guess at where something is noted for the label.
-    pub fn known(&self) -> Option<u32> {
-        self.known
     }
 }
 
