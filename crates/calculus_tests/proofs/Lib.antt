@@ -1,1 +1,1 @@
-mod ReadyTerms
+mod SampleTerms

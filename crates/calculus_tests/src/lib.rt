@@ -1,12 +1,8 @@
-//! What no clause says of the calculus: outside values of weights, walks, permission and steps, each call once.
+//! What no clause says of the calculus: outside values of weights, permission and steps, each call once.
 #![tactic(auto)]
 
 #[cfg(test)]
-mod blocks;
-#[cfg(test)]
-mod graphs;
-#[cfg(test)]
-mod labels;
+mod parts;
 #[cfg(test)]
 mod permission;
 #[cfg(test)]

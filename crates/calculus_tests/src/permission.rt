@@ -12,7 +12,7 @@ use term_permission::{fresh_loop, fresh_walk, may_end, permit};
 use term_tables::Nets;
 
 /// What permission by a block of that instance leaves of the message: whether it is the message itself.
-#[tactic(auto, using(crate::proofs::ReadyTerms::ready))]
+#[tactic(auto, using(crate::proofs::SampleTerms::over_no_nets))]
 fn leaves_it(alloc: Global, at: u32) -> Result<Option<bool>, NoMemory>
     requires { at < 1024 }
 {
@@ -35,7 +35,7 @@ fn permission_of_a_message(rt: HostRuntime) -> Result<(), Fail> {
 }
 
 /// A loop of messages before its first turn: whether it is empty, and whether it may end.
-#[tactic(auto, using(crate::proofs::ReadyTerms::ready))]
+#[tactic(auto, using(crate::proofs::SampleTerms::over_no_nets))]
 fn loop_is(alloc: Global, lower: u64, upper: Option<u64>) -> Result<(bool, bool), NoMemory> {
     let nets = Nets::new(alloc);
     let term = fresh_loop(alloc, &nets, message(alloc)?, lower, upper)?;
@@ -53,7 +53,7 @@ fn ends_of_loops(rt: HostRuntime) -> Result<(), Fail> {
 }
 
 /// The walk from the start of the ring, anywhere or to an end: whether it may end, if there is one.
-#[tactic(auto, using(crate::proofs::ReadyTerms::ready))]
+#[tactic(auto, using(crate::proofs::SampleTerms::tables_ready))]
 fn walk_ends(alloc: Global, to_end: bool) -> Result<Option<bool>, Fail> {
     let nets = ring_tables(alloc)?;
     let to = if to_end { Goal::End } else { Goal::Any };

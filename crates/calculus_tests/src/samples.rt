@@ -1,8 +1,8 @@
 //! Terms and tables that the tests share.
-ghost use Rattle.std.specs.Prelude.{◌<◌, ◌≡◌, [], IfOk};
+ghost use Rattle.std.specs.Prelude.{◌<◌, ◌≡◌, [], length, IfOk};
+ghost use Rattle.calculus_tests.specs.Samples.{IsSample, AreSampleTables};
 ghost use Rattle.chart_term.specs.Properties.{Each};
 ghost use Rattle.chart_term.specs.Tables.{net_count};
-ghost use Rattle.term_permission.specs.Ready.{IsReady, AreReadyTables};
 
 use chart_term::{Term, TermList, seq, tied};
 use hmsc_graph::{Net, Shape, ShapeLine, ShapeLines};
@@ -11,22 +11,21 @@ use std::alloc::Global;
 use std::test::Fail;
 use term_tables::Nets;
 
-/// An event of that number at an instance, with that label.
-#[tactic(auto, using(crate::proofs::ReadyTerms::ready))]
-pub(crate) fn event(alloc: Global, number: u32, at: u32, label: u32) -> Result<Term, NoMemory>
-    requires { at < 1024 }
-    ensures { IfOk result (λ term. IsReady [] term) }
+/// An event of that number and label, at instance 0 if the label's number is even, and at instance 1 if it is odd.
+#[tactic(auto, using(crate::proofs::SampleTerms::samples))]
+pub(crate) fn event(alloc: Global, number: u32, label: u32) -> Result<Term, NoMemory>
+    ensures { IfOk result (λ term. IsSample [] term) }
 {
-    let term = Term::event(alloc, number, at, None, label)?;
+    let term = Term::event(alloc, number, label % 2, None, label)?;
     Ok(term)
 }
 
 /// A list of two terms.
-#[tactic(auto, using(crate::proofs::ReadyTerms::ready))]
 pub(crate) fn both(alloc: Global, first: Term, second: Term) -> Result<TermList, NoMemory>
-    requires first { IsReady [] first }
-    requires second { IsReady [] second }
-    ensures { IfOk result (λ list. Each (IsReady []) list) }
+    requires first { IsSample [] first }
+    requires second { IsSample [] second }
+    ensures samples { IfOk result (λ list. Each (IsSample []) list) }
+    ensures two { IfOk result (λ list. length list ≡ 2) }
 {
     let mut list = TermList::new(alloc);
     list.push(first)?;
@@ -35,21 +34,20 @@ pub(crate) fn both(alloc: Global, first: Term, second: Term) -> Result<TermList,
 }
 
 /// Both terms in weak sequence.
-#[tactic(auto, using(crate::proofs::ReadyTerms::ready))]
 pub(crate) fn in_sequence(alloc: Global, first: Term, second: Term) -> Result<Term, NoMemory>
-    requires first { IsReady [] first }
-    requires second { IsReady [] second }
-    ensures { IfOk result (λ term. IsReady [] term) }
+    requires first { IsSample [] first }
+    requires second { IsSample [] second }
+    ensures { IfOk result (λ term. IsSample [] term) }
 {
     let term = seq(alloc, both(alloc, first, second)?)?;
     Ok(term)
 }
 
 /// The term, in which the event of the first number comes before that of the second.
-#[tactic(auto, using(crate::proofs::ReadyTerms::ready))]
+#[tactic(auto, using(crate::proofs::SampleTerms::sample_tied))]
 pub(crate) fn ordered(alloc: Global, inner: Term, first: u32, second: u32) -> Result<Term, NoMemory>
-    requires { IsReady [] inner }
-    ensures { IfOk result (λ term. IsReady [] term) }
+    requires { IsSample [] inner }
+    ensures { IfOk result (λ term. IsSample [] term) }
 {
     let mut pairs = PairList::new(alloc);
     pairs.push(Pair { first, second })?;
@@ -59,10 +57,10 @@ pub(crate) fn ordered(alloc: Global, inner: Term, first: u32, second: u32) -> Re
 
 /// A message from instance 0 to instance 1: an output with label 0, and the input behind it with label 1.
 pub(crate) fn message(alloc: Global) -> Result<Term, NoMemory>
-    ensures { IfOk result (λ term. IsReady [] term) }
+    ensures { IfOk result (λ term. IsSample [] term) }
 {
-    let output = event(alloc, 1, 0, 0)?;
-    let input = event(alloc, 2, 1, 1)?;
+    let output = event(alloc, 1, 0)?;
+    let input = event(alloc, 2, 1)?;
     let events = in_sequence(alloc, output, input)?;
     ordered(alloc, events, 1, 2)
 }
@@ -98,9 +96,9 @@ fn ring(alloc: Global) -> Result<Shape, Fail> {
 }
 
 /// The tables of the ring, where A is the message.
-#[tactic(auto, using(crate::proofs::ReadyTerms::ready))]
+#[tactic(auto, using(crate::proofs::SampleTerms::ring))]
 pub(crate) fn ring_tables(alloc: Global) -> Result<Nets, Fail>
-    ensures ready { IfOk result (λ nets. AreReadyTables nets.tables) }
+    ensures samples { IfOk result (λ nets. AreSampleTables nets.tables) }
     ensures one { IfOk result (λ nets. net_count nets.tables ≡ 1) }
     ensures labels { IfOk result (λ nets. nets.labels ≡ []) }
 {

@@ -1,13 +1,14 @@
 //! What is left of a term after one event and another.
 ghost use Rattle.std.specs.Prelude.{◌<◌, ◌≤◌, ◌+◌, ◌≡◌, [], length, IfOk, OnOk};
-ghost use Rattle.chart_term.specs.Properties.{Each};
-ghost use Rattle.term_permission.specs.Ready.{IsReady, AreReadyTables};
+ghost use Rattle.calculus_tests.specs.Samples.{IsSample, AreSampleTables};
+ghost use Rattle.chart_term.specs.Properties.{Each, MayHave};
+ghost use Rattle.chart_term.specs.Tables.{net_count};
 
 use crate::samples::{both, event, in_sequence, message, ordered, ring_tables};
 use chart_term::{Term, TermList, choice, par};
 use hmsc_graph::Goal;
 use msc_base::{Far, Kind, Label, Name, NoMemory, Text};
-use permit_step::after;
+use permit_step::after_each;
 use std::alloc::Global;
 use std::test::Fail;
 use term_permission::{fresh_loop, fresh_walk};
@@ -23,12 +24,13 @@ fn label(alloc: Global, text: &str) -> Result<Label, Fail> {
     })
 }
 
-/// Adds a label where it is new.
-fn add(nets: &mut Nets, label: Label) -> Result<(), NoMemory>
+/// Adds the action's label where it is new.
+fn add(alloc: Global, nets: &mut Nets, text: &str) -> Result<(), Fail>
     requires { length nets.old.labels < 100 }
     ensures tables { OnOk result (nets.new.tables ≡ nets.old.tables) }
     ensures labels { OnOk result (length nets.new.labels ≤ length nets.old.labels + 1) }
 {
+    let label = label(alloc, text)?;
     match nets.label(&label) {
         Some(_) => Ok(()),
         None => {
@@ -38,17 +40,18 @@ fn add(nets: &mut Nets, label: Label) -> Result<(), NoMemory>
     }
 }
 
-/// Adds the labels a to f, which become 0 to 5.
+/// Adds the labels a to g, which become 0 to 6.
 fn add_all(alloc: Global, nets: &mut Nets) -> Result<(), Fail>
     requires { length nets.old.labels < 90 }
     ensures { OnOk result (nets.new.tables ≡ nets.old.tables) }
 {
-    add(nets, label(alloc, "a")?)?;
-    add(nets, label(alloc, "b")?)?;
-    add(nets, label(alloc, "c")?)?;
-    add(nets, label(alloc, "d")?)?;
-    add(nets, label(alloc, "e")?)?;
-    add(nets, label(alloc, "f")?)?;
+    add(alloc, nets, "a")?;
+    add(alloc, nets, "b")?;
+    add(alloc, nets, "c")?;
+    add(alloc, nets, "d")?;
+    add(alloc, nets, "e")?;
+    add(alloc, nets, "f")?;
+    add(alloc, nets, "g")?;
     Ok(())
 }
 
@@ -61,34 +64,21 @@ fn tables(alloc: Global) -> Result<Nets, Fail>
     Ok(nets)
 }
 
-/// Adds what is left of the term after the label.
-#[tactic(auto, using(crate::proofs::ReadyTerms::found_ready))]
-fn add_left(
-    alloc: Global,
-    nets: &Nets,
-    term: &Term,
-    label: &Label,
-    next: &mut TermList,
-) -> Result<(), NoMemory>
-    requires tables { AreReadyTables nets.now.tables }
-    requires term { IsReady nets.now.tables term.now }
-    requires next { Each (IsReady nets.now.tables) next.old }
-    ensures { OnOk result (Each (IsReady nets.now.tables) next.new) }
+/// What is left of the terms after the label: nothing where the tables lack it.
+#[tactic(auto, using(crate::proofs::SampleTerms::stepped))]
+fn step(alloc: Global, nets: &Nets, set: &TermList, label: &Label) -> Result<TermList, Fail>
+    requires tables { AreSampleTables nets.now.tables }
+    requires set { Each (IsSample nets.now.tables) set.now }
+    ensures { IfOk result (λ next. Each (IsSample nets.now.tables) next) }
 {
-    after(alloc, nets, term, label, 1_000_000, next)?;
-    Ok(())
-}
-
-/// What is left of the terms after the label.
-fn step(alloc: Global, nets: &Nets, set: &TermList, label: &Label) -> Result<TermList, NoMemory>
-    requires tables { AreReadyTables nets.now.tables }
-    requires set { Each (IsReady nets.now.tables) set.now }
-    ensures { IfOk result (λ next. Each (IsReady nets.now.tables) next) }
-{
-    let mut next = TermList::new(alloc);
-    for index in 0..set.len() {
-        add_left(alloc, nets, set.at(index), label, &mut next)?;
-    }
+    let Some(number) = nets.label(label) else {
+        return Ok(TermList::new(alloc));
+    };
+    let found = after_each(alloc, nets, set, number, 1_000_000)?;
+    let Some(left) = found else {
+        return Err(Fail::from("too much is left"));
+    };
+    let next = left.into_list(alloc)?;
     Ok(next)
 }
 
@@ -101,32 +91,35 @@ fn total(set: &TermList) -> u64 {
     sum
 }
 
+/// Whether the word is the weight of the terms together.
+fn is_weight(set: &TermList, word: Option<&str>) -> bool {
+    match word {
+        Some(word) => word.parse::<u64>().ok() == Some(total(set)),
+        None => false,
+    }
+}
+
 /// Whether the weights are these: of the term, and of what is left after each label in turn.
-fn weigh(
-    alloc: Global,
-    nets: &Nets,
-    term: Term,
-    texts: &[&str],
-    weights: &[u64],
-) -> Result<bool, Fail>
-    requires tables { AreReadyTables nets.now.tables }
-    requires term { IsReady nets.now.tables term }
+#[tactic(auto, using(crate::proofs::SampleTerms::sample_one))]
+fn weigh(alloc: Global, nets: &Nets, term: Term, texts: &str, weights: &str) -> Result<bool, Fail>
+    requires tables { AreSampleTables nets.now.tables }
+    requires term { IsSample nets.now.tables term }
 {
     let mut set = TermList::new(alloc);
     set.push(term)?;
-    let mut found = Vec::new(alloc);
-    found.push(total(&set))?;
-    for text in texts {
+    let mut wanted = weights.split_whitespace();
+    let mut same = is_weight(&set, wanted.next());
+    for text in texts.split_whitespace() {
         set = step(alloc, nets, &set, &label(alloc, text)?)?;
-        found.push(total(&set))?;
+        same = same && is_weight(&set, wanted.next());
     }
-    Ok(found.as_slice() == weights)
+    Ok(same && wanted.next().is_none())
 }
 
 /// The same over tables without nets.
-#[tactic(auto, using(crate::proofs::ReadyTerms::here))]
-fn weighs(alloc: Global, term: Term, texts: &[&str], weights: &[u64]) -> Result<bool, Fail>
-    requires { IsReady [] term }
+#[tactic(auto, using(crate::proofs::SampleTerms::no_nets, crate::proofs::SampleTerms::over_none))]
+fn weighs(alloc: Global, term: Term, texts: &str, weights: &str) -> Result<bool, Fail>
+    requires { IsSample [] term }
 {
     let nets = tables(alloc)?;
     weigh(alloc, &nets, term, texts, weights)
@@ -136,100 +129,103 @@ fn weighs(alloc: Global, term: Term, texts: &[&str], weights: &[u64]) -> Result<
 #[test]
 fn input_waits_for_its_output(rt: HostRuntime) -> Result<(), Fail> {
     let alloc = rt.alloc();
-    assert!(rt; weighs(alloc, message(alloc)?, &["a", "b"], &[5, 1, 1])?);
-    assert!(rt; weighs(alloc, message(alloc)?, &["b"], &[5, 0])?);
+    assert!(rt; weighs(alloc, message(alloc)?, "a b", "5 1 1")?);
+    assert!(rt; weighs(alloc, message(alloc)?, "b", "5 0")?);
     Ok(())
 }
 
 /// Both terms side by side.
-#[tactic(auto, using(crate::proofs::ReadyTerms::aside_ready))]
 fn aside(alloc: Global, first: Term, second: Term) -> Result<Term, NoMemory>
-    requires first { IsReady [] first }
-    requires second { IsReady [] second }
-    ensures { IfOk result (λ term. IsReady [] term) }
+    requires first { IsSample [] first }
+    requires second { IsSample [] second }
+    ensures { IfOk result (λ term. IsSample [] term) }
 {
     let term = par(alloc, both(alloc, first, second)?)?;
     Ok(term)
 }
 
-/// Actions a, a and b in a coregion, where the second a comes before b.
+/// Actions a, a and c in a coregion, where the second a comes before c.
 fn coregion(alloc: Global) -> Result<Term, NoMemory>
-    ensures { IfOk result (λ term. IsReady [] term) }
+    ensures { IfOk result (λ term. IsSample [] term) }
 {
-    let first = event(alloc, 1, 0, 0)?;
-    let second = event(alloc, 2, 0, 0)?;
-    let third = event(alloc, 3, 0, 1)?;
+    let first = event(alloc, 1, 0)?;
+    let second = event(alloc, 2, 0)?;
+    let third = event(alloc, 3, 2)?;
     let others = aside(alloc, second, third)?;
     let all = aside(alloc, first, others)?;
     ordered(alloc, all, 2, 3)
 }
 
-/// The first a may have been either, with 5 and 3 left; after b it was the second.
+/// The first a may have been either, with 5 and 3 left; after c it was the second.
 #[test]
 fn equal_labels_leave_a_term_each(rt: HostRuntime) -> Result<(), Fail> {
     let alloc = rt.alloc();
-    assert!(rt; weighs(alloc, coregion(alloc)?, &["a", "b", "a"], &[6, 8, 1, 1])?);
+    assert!(rt; weighs(alloc, coregion(alloc)?, "a c a", "6 8 1 1")?);
     Ok(())
 }
 
-/// Whether all that is left of the coregion after a weighs at most so much, and the weight of what was appended behind a term.
-#[tactic(auto, using(crate::proofs::ReadyTerms::here))]
-fn within(alloc: Global, most: u64) -> Result<(bool, u64), Fail>
+/// The weight of all that is left of the coregion after a, if it is at most so much.
+#[tactic(auto, using(crate::proofs::SampleTerms::alone))]
+fn within(alloc: Global, most: u64) -> Result<Option<u64>, Fail>
     requires { most < 1000 }
 {
     let nets = tables(alloc)?;
-    let term = coregion(alloc)?;
-    let mut found = TermList::new(alloc);
-    found.push(event(alloc, 9, 0, 0)?)?;
-    let all = after(alloc, &nets, &term, &label(alloc, "a")?, most, &mut found)?;
-    Ok((all, total(&found)))
+    let mut set = TermList::new(alloc);
+    set.push(coregion(alloc)?)?;
+    match after_each(alloc, &nets, &set, 0, most)? {
+        Some(left) => Ok(Some(left.weight())),
+        None => Ok(None),
+    }
 }
 
-/// The answer is no where all together weighs more than is wanted.
+/// Nothing is given where all together weighs more than is wanted.
 #[test]
 fn more_than_is_wanted_is_told(rt: HostRuntime) -> Result<(), Fail> {
     let alloc = rt.alloc();
-    assert!(rt; within(alloc, 8)? == (true, 9));
-    assert!(rt; within(alloc, 7)? == (false, 9));
+    assert!(rt; within(alloc, 8)? == Some(8));
+    assert!(rt; within(alloc, 7)? == None);
     Ok(())
 }
 
 /// A loop of the term.
-#[tactic(auto, using(crate::proofs::ReadyTerms::alone))]
 fn repeated(alloc: Global, body: Term, lower: u64, upper: Option<u64>) -> Result<Term, NoMemory>
-    requires { IsReady [] body }
-    ensures { IfOk result (λ term. IsReady [] term) }
+    requires { IsSample [] body }
+    ensures { IfOk result (λ term. IsSample [] term) }
 {
     let nets = Nets::new(alloc);
     let term = fresh_loop(alloc, &nets, body, lower, upper)?;
     Ok(term)
 }
 
-/// A loop of messages.
-fn messages(alloc: Global, lower: u64, upper: Option<u64>) -> Result<Term, NoMemory>
-    ensures { IfOk result (λ term. IsReady [] term) }
-{
-    let body = message(alloc)?;
-    repeated(alloc, body, lower, upper)
-}
-
 /// Two messages in a loop: both outputs may come before the first input, and then no third.
 #[test]
 fn later_turn_overtakes(rt: HostRuntime) -> Result<(), Fail> {
     let alloc = rt.alloc();
-    let twice = messages(alloc, 2, Some(2))?;
-    assert!(rt; weighs(alloc, twice, &["a", "a", "b", "b"], &[7, 8, 3, 1, 1])?);
-    let again = messages(alloc, 2, Some(2))?;
-    assert!(rt; weighs(alloc, again, &["a", "a", "a"], &[7, 8, 3, 0])?);
+    assert!(rt;
+        weighs(
+            alloc,
+            repeated(alloc, message(alloc)?, 2, Some(2))?,
+            "a a b b",
+            "7 8 3 1 1"
+        )?
+    );
+    assert!(rt;
+        weighs(
+            alloc,
+            repeated(alloc, message(alloc)?, 2, Some(2))?,
+            "a a a",
+            "7 8 3 0"
+        )?
+    );
     Ok(())
 }
 
 /// An action of the sender behind a loop of messages that owes a turn.
 fn action_behind_loop(alloc: Global) -> Result<Term, NoMemory>
-    ensures { IfOk result (λ term. IsReady [] term) }
+    ensures { IfOk result (λ term. IsSample [] term) }
 {
-    let first = messages(alloc, 1, None)?;
-    let action = event(alloc, 3, 0, 2)?;
+    let first = repeated(alloc, message(alloc)?, 1, None)?;
+    let action = event(alloc, 3, 2)?;
     in_sequence(alloc, first, action)
 }
 
@@ -237,28 +233,18 @@ fn action_behind_loop(alloc: Global) -> Result<Term, NoMemory>
 #[test]
 fn action_waits_for_an_owed_turn(rt: HostRuntime) -> Result<(), Fail> {
     let alloc = rt.alloc();
-    assert!(rt; weighs(alloc, action_behind_loop(alloc)?, &["c"], &[9, 0])?);
-    assert!(rt;
-        weighs(
-            alloc,
-            action_behind_loop(alloc)?,
-            &["a", "c", "b"],
-            &[9, 10, 1, 1]
-        )?
-    );
+    assert!(rt; weighs(alloc, action_behind_loop(alloc)?, "c", "9 0")?);
+    assert!(rt; weighs(alloc, action_behind_loop(alloc)?, "a c b", "9 10 1 1")?);
     Ok(())
 }
 
 /// One of both terms.
-#[tactic(auto, using(crate::proofs::ReadyTerms::chosen))]
 fn either(alloc: Global, first: Term, second: Term) -> Result<Term, NoMemory>
-    requires first { IsReady [] first }
-    requires second { IsReady [] second }
-    ensures { IfOk result (λ term. IsReady [] term) }
+    requires first { IsSample [] first }
+    requires second { IsSample [] second }
+    ensures { IfOk result (λ term. IsSample [] term) }
 {
-    let mut parts = TermList::new(alloc);
-    parts.push(first)?;
-    parts.push(second)?;
+    let parts = both(alloc, first, second)?;
     let term = choice(alloc, parts)?;
     Ok(term)
 }
@@ -266,19 +252,19 @@ fn either(alloc: Global, first: Term, second: Term) -> Result<Term, NoMemory>
 /// An action a of instance 0, and behind it one with that label.
 fn two_actions(alloc: Global, number: u32, label: u32) -> Result<Term, NoMemory>
     requires { number < 1000 }
-    ensures { IfOk result (λ term. IsReady [] term) }
+    ensures { IfOk result (λ term. IsSample [] term) }
 {
-    let first = event(alloc, number, 0, 0)?;
-    let second = event(alloc, number + 1, 0, label)?;
+    let first = event(alloc, number, 0)?;
+    let second = event(alloc, number + 1, label)?;
     in_sequence(alloc, first, second)
 }
 
-/// Either a and then b, or a and then c.
+/// Either a and then c, or a and then e.
 fn branches(alloc: Global) -> Result<Term, NoMemory>
-    ensures { IfOk result (λ term. IsReady [] term) }
+    ensures { IfOk result (λ term. IsSample [] term) }
 {
-    let first = two_actions(alloc, 1, 1)?;
-    let second = two_actions(alloc, 3, 2)?;
+    let first = two_actions(alloc, 1, 2)?;
+    let second = two_actions(alloc, 3, 4)?;
     either(alloc, first, second)
 }
 
@@ -286,8 +272,8 @@ fn branches(alloc: Global) -> Result<Term, NoMemory>
 #[test]
 fn shared_event_decides_nothing(rt: HostRuntime) -> Result<(), Fail> {
     let alloc = rt.alloc();
-    assert!(rt; weighs(alloc, branches(alloc)?, &["a", "b"], &[7, 2, 1])?);
-    assert!(rt; weighs(alloc, branches(alloc)?, &["a", "c"], &[7, 2, 1])?);
+    assert!(rt; weighs(alloc, branches(alloc)?, "a c", "7 2 1")?);
+    assert!(rt; weighs(alloc, branches(alloc)?, "a e", "7 2 1")?);
     Ok(())
 }
 
@@ -295,23 +281,23 @@ fn shared_event_decides_nothing(rt: HostRuntime) -> Result<(), Fail> {
 fn answer(alloc: Global, number: u32, label: u32) -> Result<Term, NoMemory>
     requires number { number < 1000 }
     requires label { label < 1000 }
-    ensures { IfOk result (λ term. IsReady [] term) }
+    ensures { IfOk result (λ term. IsSample [] term) }
 {
-    let output = event(alloc, number, 1, label)?;
-    let input = event(alloc, number + 1, 0, label + 1)?;
+    let output = event(alloc, number, label)?;
+    let input = event(alloc, number + 1, label + 1)?;
     let events = in_sequence(alloc, output, input)?;
     ordered(alloc, events, number, number + 1)
 }
 
 /// A loop of a request and one of two answers.
 fn exchanges(alloc: Global) -> Result<Term, NoMemory>
-    ensures { IfOk result (λ term. IsReady [] term) }
+    ensures { IfOk result (λ term. IsSample [] term) }
 {
-    let yes = answer(alloc, 3, 2)?;
-    let no = answer(alloc, 5, 4)?;
+    let yes = answer(alloc, 3, 3)?;
+    let no = answer(alloc, 5, 5)?;
     let answers = either(alloc, yes, no)?;
-    let output = event(alloc, 1, 0, 0)?;
-    let input = event(alloc, 2, 1, 1)?;
+    let output = event(alloc, 1, 0)?;
+    let input = event(alloc, 2, 1)?;
     let taken = in_sequence(alloc, input, answers)?;
     let whole = in_sequence(alloc, output, taken)?;
     let turn = ordered(alloc, whole, 1, 2)?;
@@ -322,22 +308,21 @@ fn exchanges(alloc: Global) -> Result<Term, NoMemory>
 #[test]
 fn exchanges_weigh_the_same_in_each_turn(rt: HostRuntime) -> Result<(), Fail> {
     let alloc = rt.alloc();
-    let texts = ["a", "b", "c", "d", "a", "b", "e", "f"];
-    let weights = [18, 31, 29, 19, 18, 31, 29, 19, 18];
-    assert!(rt; weighs(alloc, exchanges(alloc)?, &texts, &weights)?);
+    let weights = "18 31 29 19 18 31 29 19 18";
+    assert!(rt; weighs(alloc, exchanges(alloc)?, "a b d e a b f g", weights)?);
     Ok(())
 }
 
-/// So many choices of a or b, one behind the other, and one more.
+/// So many choices of a or c, one behind the other, and one more.
 fn choices(alloc: Global, count: u32) -> Result<Term, NoMemory>
-    ensures { IfOk result (λ term. IsReady [] term) }
+    ensures { IfOk result (λ term. IsSample [] term) }
 {
-    let first = event(alloc, 0, 0, 0)?;
-    let second = event(alloc, 0, 0, 1)?;
+    let first = event(alloc, 0, 0)?;
+    let second = event(alloc, 0, 2)?;
     let mut all = either(alloc, first, second)?;
     for number in 0..count {
-        let first = event(alloc, number, 0, 0)?;
-        let second = event(alloc, number, 0, 1)?;
+        let first = event(alloc, number, 0)?;
+        let second = event(alloc, number, 2)?;
         let next = either(alloc, first, second)?;
         all = in_sequence(alloc, all, next)?;
     }
@@ -348,12 +333,22 @@ fn choices(alloc: Global, count: u32) -> Result<Term, NoMemory>
 #[test]
 fn forty_choices_leave_one_term(rt: HostRuntime) -> Result<(), Fail> {
     let alloc = rt.alloc();
-    let weights = [
-        121, 118, 115, 112, 109, 106, 103, 100, 97, 94, 91, 88, 85, 82, 79, 76, 73, 70, 67, 64, 61,
-        58, 55, 52, 49, 46, 43, 40, 37, 34, 31, 28, 25, 22, 19, 16, 13, 10, 7, 3, 1,
-    ];
-    assert!(rt; weighs(alloc, choices(alloc, 39)?, &["b"; 40], &weights)?);
+    let texts = "c c c c c c c c c c c c c c c c c c c c c c c c c c c c c c c c c c c c c c c c";
+    let weights =
+        "121 118 115 112 109 106 103 100 97 94 91 88 85 82 79 76 73 70 67 64 61 58 55 52 49 46 43 40 37 34 31 28 25 22 19 16 13 10 7 3 1";
+    assert!(rt; weighs(alloc, choices(alloc, 39)?, texts, weights)?);
     Ok(())
+}
+
+/// The walk from the start of the first net to anywhere.
+#[tactic(auto, using(crate::proofs::SampleTerms::walking))]
+fn walk(alloc: Global, nets: &Nets) -> Result<Option<Term>, NoMemory>
+    requires tables { AreSampleTables nets.now.tables }
+    requires one { net_count nets.now.tables ≡ 1 }
+    ensures { IfOk result (λ walk. MayHave (IsSample nets.now.tables) walk) }
+{
+    let walk = fresh_walk(alloc, nets, 0, Goal::Any)?;
+    Ok(walk)
 }
 
 /// A walk round a ring of messages goes on after each message.
@@ -362,10 +357,9 @@ fn walk_goes_round(rt: HostRuntime) -> Result<(), Fail> {
     let alloc = rt.alloc();
     let mut nets = ring_tables(alloc)?;
     add_all(alloc, &mut nets)?;
-    let walk = fresh_walk(alloc, &nets, 0, Goal::Any)?;
-    let Some(walk) = walk else {
+    let Some(walk) = walk(alloc, &nets)? else {
         return Err(Fail::from("no walk"));
     };
-    assert!(rt; weigh(alloc, &nets, walk, &["a", "b", "a"], &[1, 3, 1, 3])?);
+    assert!(rt; weigh(alloc, &nets, walk, "a b a", "1 3 1 3")?);
     Ok(())
 }

@@ -1,49 +1,15 @@
 //! Labels and graphs by their numbers.
-ghost use Rattle.std.specs.Prelude.{◌<◌, ◌≡◌, ◌+◌, [], IfOk, length};
+ghost use Rattle.std.specs.Prelude.{◌<◌, ◌≡◌, ◌+◌, [], IfOk};
 ghost use Rattle.chart_term.specs.Tables.{net_count};
 
+use crate::parts::{both, event, events, loop_shut};
 use bit_sets::Block;
-use chart_term::{PartList, RowPart, Term, TermList, seq};
+use chart_term::{PartList, RowPart, Term, seq};
 use hmsc_graph::{Goal, Net, Shape, ShapeLine, ShapeLines, Spot};
 use msc_base::{Far, Kind, Label, LabelRef, LabelRefs, Name, NoMemory, Place, Text};
 use std::alloc::Global;
 use std::test::Fail;
 use term_tables::Nets;
-
-/// An event of that number, at an instance, labelled by its number.
-fn event(alloc: Global, number: u32, at: u32) -> Result<Term, NoMemory>
-    requires { at < 1024 }
-{
-    Term::event(alloc, number, at, None, number)
-}
-
-/// A list of two terms.
-fn both(alloc: Global, first: Term, second: Term) -> Result<TermList, NoMemory>
-    ensures { IfOk result (λ list. length list ≡ 2) }
-{
-    let mut list = TermList::new(alloc);
-    list.push(first)?;
-    list.push(second)?;
-    Ok(list)
-}
-
-/// A block of one instance and one event.
-fn block(alloc: Global, at: u32, number: u32) -> Result<Block, NoMemory>
-    requires { at < 1024 }
-{
-    let mut block = Block::empty(alloc);
-    block.add_instance(at)?;
-    block.add_event(number)?;
-    Ok(block)
-}
-
-/// A loop of that body with one gap, which a block of one instance shuts.
-fn loop_shut(alloc: Global, body: Term, at: u32) -> Result<Term, NoMemory>
-    requires { at < 1024 }
-{
-    let row = PartList::one(alloc, RowPart::Gap(block(alloc, at, 0)?))?;
-    Term::loop_of(alloc, body, 1, None, row)
-}
 
 /// A label at its place.
 fn reference(alloc: Global, name: &str) -> Result<LabelRef, Fail> {
@@ -154,35 +120,63 @@ fn fits(alloc: Global, term: Term) -> Result<bool, Fail> {
     Ok(nets.fits(&term))
 }
 
+/// The number of the label of the instance's action.
+fn number_of(alloc: Global, at: &str) -> Result<Option<u32>, Fail> {
+    let nets = labelled(alloc)?;
+    let label = action(alloc, at)?;
+    Ok(nets.label(&label))
+}
+
 #[test]
 fn labels_are_numbered_in_the_order_in_which_they_came(rt: HostRuntime) -> Result<(), Fail> {
     let alloc = rt.alloc();
-    let nets = labelled(alloc)?;
-    assert_eq!(rt; nets.label(&action(alloc, "i")?), Some(0));
-    assert_eq!(rt; nets.label(&action(alloc, "j")?), Some(1));
-    assert_eq!(rt; nets.label(&action(alloc, "k")?), None);
+    assert!(rt; number_of(alloc, "i")? == Some(0));
+    assert!(rt; number_of(alloc, "j")? == Some(1));
+    assert!(rt; number_of(alloc, "k")? == None);
+    assert!(rt; labelled(alloc)?.labels() == 2);
     Ok(())
+}
+
+/// Whether the node of the net in the two graphs has that term.
+fn has_node(alloc: Global, net: u32, node: u32, term: &Term) -> Result<bool, Fail>
+    requires { net < 2 }
+{
+    let nets = linked(alloc)?;
+    Ok(node_is(&nets, net, node, term))
 }
 
 #[test]
 fn nodes_stand_under_their_numbers(rt: HostRuntime) -> Result<(), Fail> {
     let alloc = rt.alloc();
-    let nets = linked(alloc)?;
-    let first = walk(alloc, 0, Spot::Start, Goal::End)?;
-    assert!(rt; node_is(&nets, 0, 0, &event(alloc, 0, 5)?));
-    assert!(rt; node_is(&nets, 0, 1, &Term::nil(alloc)?));
-    assert!(rt; node_is(&nets, 1, 0, &first));
-    assert!(rt; node_is(&nets, 1, 1, &event(alloc, 1, 7)?));
+    assert!(rt; has_node(alloc, 0, 0, &event(alloc, 0, 5)?)?);
+    assert!(rt; has_node(alloc, 0, 1, &Term::nil(alloc)?)?);
+    assert!(rt; has_node(alloc, 1, 0, &walk(alloc, 0, Spot::Start, Goal::End)?)?);
+    assert!(rt; has_node(alloc, 1, 1, &event(alloc, 1, 7)?)?);
+    assert!(rt; linked(alloc)?.count() == 2);
     Ok(())
+}
+
+/// Whether the net of the two graphs has an event at the instance, or a net that it names.
+fn is_spread(alloc: Global, net: u32, at: u32) -> Result<bool, Fail>
+    requires { net < 2 }
+{
+    let nets = linked(alloc)?;
+    Ok(nets.spread(net).has_instance(at))
 }
 
 #[test]
 fn spread_of_a_net_has_those_of_the_nets_that_it_names(rt: HostRuntime) -> Result<(), Fail> {
-    let nets = linked(rt.alloc())?;
-    assert!(rt; nets.spread(0).has_instance(5) && !nets.spread(0).has_instance(7));
-    assert!(rt; nets.spread(1).has_instance(5) && nets.spread(1).has_instance(7));
-    assert!(rt; !nets.spread(1).has_instance(6));
+    let alloc = rt.alloc();
+    assert!(rt; is_spread(alloc, 0, 5)? && !is_spread(alloc, 0, 7)?);
+    assert!(rt; is_spread(alloc, 1, 5)? && is_spread(alloc, 1, 7)?);
+    assert!(rt; !is_spread(alloc, 1, 6)?);
     Ok(())
+}
+
+/// A loop of an event, with a begun turn of another.
+fn begun_loop(alloc: Global, body: u32, turn: u32) -> Result<Term, NoMemory> {
+    let row = PartList::one(alloc, RowPart::Turn(event(alloc, turn, 0)?))?;
+    Term::loop_of(alloc, event(alloc, body, 0)?, 1, None, row)
 }
 
 #[test]
@@ -190,16 +184,9 @@ fn numbers_beyond_the_tables_do_not_fit(rt: HostRuntime) -> Result<(), Fail> {
     let alloc = rt.alloc();
     assert!(rt; fits(alloc, event(alloc, 1, 0)?)?);
     assert!(rt; !fits(alloc, event(alloc, 2, 0)?)?);
-    let later = both(alloc, event(alloc, 1, 0)?, event(alloc, 2, 0)?)?;
-    assert!(rt; !fits(alloc, seq(alloc, later)?)?);
+    assert!(rt; !fits(alloc, seq(alloc, events(alloc, 1, 2)?)?)?);
     assert!(rt; !fits(alloc, loop_shut(alloc, event(alloc, 2, 0)?, 0)?)?);
-    let row = PartList::one(alloc, RowPart::Turn(event(alloc, 2, 0)?))?;
-    assert!(rt;
-        !fits(
-            alloc,
-            Term::loop_of(alloc, event(alloc, 1, 0)?, 1, None, row)?
-        )?
-    );
+    assert!(rt; !fits(alloc, begun_loop(alloc, 1, 2)?)?);
     Ok(())
 }
 
