@@ -3,7 +3,8 @@
 
 An item is used where its name stands in another line than that of its definition and those that only hand it on: in the code of a
 crate of the program, in a clause, or in a definition or a proof. Tests and benchmarks don't count. A law, that is a function that
-does nothing but carry a clause, is used where a page names it. Names are looked for as words, so an item may count as used for
+does nothing but carry a clause, is used where a page names it. What waits for a form that isn't built yet isn't listed, if the
+README.md of its crate names it in a sentence with 'No crate calls'. Names are looked for as words, so an item may count as used for
 another of its name. Run it at the top; it ends with status 1 where something is found, and takes some seconds.
 """
 import collections
@@ -45,6 +46,7 @@ def main():
                 if not is_handing_on(path, line):
                     uses.update(set(WORD.findall(line)))
     pages = {word for page in glob.glob("docs/*.md") + glob.glob("*.md") + glob.glob("crates/*/README.md") for word in WORD.findall(open(page).read())}
+    waiting = {crate: set(WORD.findall(" ".join(re.findall(r"[Nn]o crate calls[^.;]*", open(f"crates/{crate}/README.md").read())))) for crate in crates()}
     for path, held in lines.items():
         crate, part = path.split("/")[1:3]
         if crate in TESTS or part == "proofs":
@@ -55,7 +57,7 @@ def main():
             # each function by equations names itself in its type and in each equation
             own = sum(1 for other in held if re.match(rf"\s*(?:abbrev |pub )*{re.escape(name)}\b", other)) if name and part == "specs" else 1
             is_law = path.endswith(("/laws.rt", "/worked.rt"))
-            if name and uses[name] <= own and not (is_law and name in pages):
+            if name and uses[name] <= own and name not in waiting[crate] and not (is_law and name in pages):
                 found.append(f"{path}:{number}: {name}")
     print("\n".join(found) or "nothing that is public is unused")
     return 1 if found else 0
