@@ -41,7 +41,7 @@ def task_of(process):
         return None
     if not words[0].endswith("/rattle") or "--crate-name" not in words:
         return None
-    kind = "edits" if words[1] == "check" else "tests" if "--test" in words else "proof"
+    kind = "edits" if "--incremental" in words else "tests" if "--test" in words else "proof"
     return words[words.index("--crate-name") + 1], kind
 
 
@@ -69,7 +69,8 @@ def sample(root, seen):
                 seconds, memory = taken(process)
             except (OSError, IndexError):
                 continue
-            seen.setdefault(top, (task_of(top), {}))[1][process] = (seconds, memory)
+            parts = seen.setdefault(top, (task_of(top), {}))[1]
+            parts[process] = seconds, max(memory, parts.get(process, (0, 0))[1])
 
 
 def sums(seen):
