@@ -1,4 +1,4 @@
-//! Sets of instances and of events, by number. chart_term, term_tables and permit_step say by them what a term touches.
+//! Sets of instances and of events, by number. chart_term, term_tables and term_step say by them what a term touches.
 
 ghost use Rattle.std.specs.Prelude.{◌≡◌, ◌<◌, ◌↔◌, [], Contains, OnOk, OnErr, IfOk, IsTrue};
 ghost use Rattle.bit_sets.specs.Blocks.{IsBlock, insert_rising, insert_each, share, shared, set_cmp};

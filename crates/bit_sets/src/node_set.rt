@@ -1,4 +1,4 @@
-//! Sets of node numbers below a size. The searches of hmsc_graph and permit_step mark nodes in them.
+//! Sets of node numbers below a size. The searches of hmsc_graph and term_step mark nodes in them.
 
 ghost use Rattle.std.specs.Prelude.{◌≡◌, ◌<◌, ◌↔◌, ◌⊎◌, ℕ, IsTrue, IfOk};
 ghost use Rattle.msc_base.specs.Lists.{IsIn};

@@ -25,7 +25,7 @@ use Rattle.term_permission.specs.Fresh.{IsFreshLoop}
 use Rattle.term_permission.specs.Ready.{AreReadyTables, IsGoalWithin, IsReady, IsSpotWithin, IsWalkWithin, IsWithin}
 use Rattle.term_permission.proofs.ReadyTerms.{ready_is_kept}
 use Rattle.term_permission.proofs.Within.{kept_within, permit-ready}
-use Rattle.permit_step.specs.AllAfter.{AreAllLeft, AreTooMany}
+use Rattle.term_step.specs.AllAfter.{AreAllLeft, AreTooMany}
 use Rattle.calculus_tests.specs.Samples.{AreSampleTables, IsSample, places}
 
 -- what is left of a ready term after an event is ready

@@ -8,10 +8,10 @@ use crate::samples::{both, event, in_sequence, message, ordered, ring_tables};
 use chart_term::{Term, TermList, choice, par};
 use hmsc_graph::Goal;
 use msc_base::{Far, Kind, Label, Name, NoMemory, Text};
-use permit_step::after_each;
 use std::alloc::Global;
 use std::test::Fail;
 use term_permission::{fresh_loop, fresh_walk};
+use term_step::after_each;
 use term_tables::Nets;
 
 /// An action's label.

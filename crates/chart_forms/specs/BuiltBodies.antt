@@ -9,7 +9,7 @@ use Rattle.msc_tree.specs.declared.event.Target.{Target}
 use Rattle.msc_tree.specs.declared.event.Target.TheVariants.{Nobody, Env, Instance, Gate}
 use Rattle.msc_tree.specs.declared.reference.InlineForm.{InlineForm}
 use Rattle.msc_tree.specs.declared.reference.InlineForm.TheVariants as inline
-use Rattle.msc_meaning.specs.Bodies.{EventNode, Body, level, Items, no_items, item_and, Item, Single, Coregion, Inline, Refer, Bodies, no_bodies, body_and}
+use Rattle.msc_meaning.specs.Bodies.{EventNode, Body, level, WovenItems, no_items, item_and, WovenItem, Single, Coregion, Inline, Refer, Bodies, no_bodies, body_and}
 
 -- no creation
 abbrev pub creates_nobody : Kind → Bool
@@ -64,11 +64,11 @@ module _ (names : List (List ℕ)) where
     pub is_built : Body → Bool
     is_built (level cover held pairs) = are_built held
 
-    pub are_built : Items → Bool
+    pub are_built : WovenItems → Bool
     are_built no_items = true
     are_built (item_and x xs) = is_built_item x && are_built xs
 
-    pub is_built_item : Item → Bool
+    pub is_built_item : WovenItem → Bool
     is_built_item (Single n) = is_built_node n
     is_built_item (Coregion ns) = are_built_nodes ns
     is_built_item (Inline form part operands) = has_operands form operands && have_built operands
@@ -83,11 +83,11 @@ abbrev mutual
   pub event_count : Body → ℕ
   event_count (level cover held pairs) = events_count held
 
-  pub events_count : Items → ℕ
+  pub events_count : WovenItems → ℕ
   events_count no_items = 0
   events_count (item_and x xs) = item_count x + events_count xs
 
-  pub item_count : Item → ℕ
+  pub item_count : WovenItem → ℕ
   item_count (Single n) = 1
   item_count (Coregion ns) = length ns
   item_count (Inline form part operands) = operands_count operands
@@ -98,7 +98,7 @@ abbrev mutual
   operands_count (body_and b bs) = event_count b + operands_count bs
 
 -- a term is made of the body: it is built, and there are numbers for its events
-pub record HasTerm (names : List (List ℕ)) (b : Body) : Type 0 where
+pub record CanHaveTerm (names : List (List ℕ)) (b : Body) : Type 0 where
   pub built : is_built names b ≡ true
   pub room : event_count b ≤ 4294967295
 

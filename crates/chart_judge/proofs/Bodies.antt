@@ -3,7 +3,7 @@ use Rattle.std.proofs.Common.{◌≤◌, arith}
 use Rattle.chart_forms.specs.BodySizes.{body_size, item_size, items_size, operands_size}
 use Rattle.chart_forms.specs.BuiltBodies.{event_count, events_count, item_count, operands_count}
 use Rattle.msc_acceptance.specs.AcceptedCharts.{IsAcceptedChart}
-use Rattle.msc_meaning.specs.Bodies.{Body, level, Items, no_items, item_and, Item, Single, Coregion, Inline, Refer, Bodies, no_bodies, body_and}
+use Rattle.msc_meaning.specs.Bodies.{Body, level, WovenItems, no_items, item_and, WovenItem, Single, Coregion, Inline, Refer, Bodies, no_bodies, body_and}
 use Rattle.msc_meaning.specs.Tables.{ChartEntry}
 
 -- a body has no more events than its size
@@ -11,11 +11,11 @@ mutual
   events_fit : (b : Body) → event_count b ≤ body_size b
   events_fit (level cover held pairs) = items_fit held
 
-  items_fit : (xs : Items) → events_count xs ≤ items_size xs
+  items_fit : (xs : WovenItems) → events_count xs ≤ items_size xs
   items_fit no_items = omega arith
   items_fit (item_and x xs) = let one = item_fits x in let others = items_fit xs in omega (arith, one, others)
 
-  item_fits : (x : Item) → item_count x ≤ item_size x
+  item_fits : (x : WovenItem) → item_count x ≤ item_size x
   item_fits (Single n) = omega arith
   item_fits (Coregion ns) = omega arith
   item_fits (Inline form part operands) = let held = operands_fit operands in omega (arith, held)

@@ -4,7 +4,7 @@ use Rattle.std.proofs.Common.{sym, subst, append-nil}
 use Rattle.msc_base.specs.declared.verdict.Verdict.{Verdict}
 use Rattle.term_tables.specs.NetValues.{NetsValue}
 use Rattle.chart_term.specs.Terms.{Tree}
-use Rattle.event_log.specs.Faults.{IsFault}
+use Rattle.event_log.specs.Faults.{IsLogFault}
 use Rattle.event_log.specs.States.{LogState, IsFaultOf, IsAnswer}
 use Rattle.event_log.specs.declared.event.LogFault.{LogFault}
 use Rattle.event_log.specs.declared.event.LogFault.TheVariants as fault
@@ -14,7 +14,7 @@ use Rattle.line_events.specs.declared.event.LineEvent.{LineEvent}
 use Rattle.trace_judge.specs.Sets.{SetValue}
 use Rattle.trace_judge.specs.Tracks.{TrackValue}
 use Rattle.trace_judge.specs.Tracks as track
-use Rattle.trace_judge.specs.Verdicts.{IsVerdict, TellsRuns, IsLargest}
+use Rattle.trace_judge.specs.Verdicts.{IsTermVerdict, TellsRuns, IsLargest}
 use Rattle.chart_judge.specs.Judged.{IsJudged, IsJudgeFault, IsLargestOf}
 use Rattle.chart_judge.specs.States.{JudgeValue, HasStopped, IsFaulty, IsBehind, IsGoing, Stands, Fed, TakesLog}
 use Rattle.chart_judge.specs.Taking.{IsFollowing, TakesAll}
@@ -37,7 +37,7 @@ pub behind_on : (f : JudgeFault) (form : LogForm) (b p : List ℕ) (s : LogState
 behind_on (Log f) form b p s h = faulty_on form b p f s h
 behind_on NoMemory form b p s h = tt
 
-answer_is : (f : LogFault) (form : LogForm) (g : Bool) (b : List ℕ) → IsFault f → IsAnswer form g b (Some f) → IsFaultOf form g b (Some f)
+answer_is : (f : LogFault) (form : LogForm) (g : Bool) (b : List ℕ) → IsLogFault f → IsAnswer form g b (Some f) → IsFaultOf form g b (Some f)
 answer_is (fault.Syntax l) form g b i h = h
 answer_is (fault.LongLine l) form g b i h = h
 answer_is (fault.LogLimit l) form g b i h = h
@@ -86,7 +86,7 @@ module _ {S : Type 0} (holds : S → SetValue) (v : NetsValue) (x : Tree) (form 
         largest = subst (λ (es : List LineEvent). IsLargest v x budget es n) (sym (log_is form true b g.takes.events log g.takes.has.first g.takes.all)) (f v x budget g.takes.events g.takes.has.taken);
       }
 
-  pub judged_is : (b : List ℕ) (w : NetsValue) (t : TrackValue S) (verdict : Verdict) → ((y : Tree) (m : ℕ) (events : List LineEvent) → track.Fed holds w y m events t → IsVerdict w y m events verdict)
+  pub judged_is : (b : List ℕ) (w : NetsValue) (t : TrackValue S) (verdict : Verdict) → ((y : Tree) (m : ℕ) (events : List LineEvent) → track.Fed holds w y m events t → IsTermVerdict w y m events verdict)
       → ((y : Tree) (m : ℕ) (events : List LineEvent) → track.Fed holds w y m events t → TellsRuns w y events verdict) → TakesLog holds w x form budget b t → w ≡ v → IsJudged v x form budget b verdict
   judged_is b w t verdict f g h e = subst (λ (u : NetsValue). IsJudged u x form budget b verdict) e (record { log = h.log; verdict_is = f x budget h.log.events h.taken; runs = g x budget h.log.events h.taken })
 

@@ -18,7 +18,7 @@ use Rattle.chart_judge.proofs.Bodies.{few}
 use Rattle.chart_judge.proofs.Known.{same_body}
 
 cover_is : (b : Body) → cover_of (body_view b) ≡ (out-Body b).cover
-cover_is b = ap cover_of (fold_out-Body body.Item body.Body body.Item item_step body_step inline_step b)
+cover_is b = ap cover_of (fold_out-Body body.WovenItem body.Body body.WovenItem item_step body_step inline_step b)
 
 module _ (chart : ChartEntry) (b : Body) (names : List (List ℕ)) (is : chart.content ≡ entry.Basic b) (are : names ≡ (out-Body b).cover) where
   content : (entry_view chart).content ≡ table.Basic (body_view b)

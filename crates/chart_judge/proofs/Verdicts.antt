@@ -11,7 +11,7 @@ use Rattle.chart_term.specs.Terms.{Tree}
 use Rattle.term_tables.specs.NetValues.{NetsValue}
 use Rattle.term_laws.specs.Residuals.{res_none}
 use Rattle.trace_judge.specs.Laws.{VerdictsTellRuns}
-use Rattle.trace_judge.specs.Logs.{IsWithin, IsAbove}
+use Rattle.trace_judge.specs.Logs.{WeighsWithin, WeighsMore}
 use Rattle.trace_judge.specs.Sets.{IsSoundFor}
 use Rattle.trace_judge.specs.Verdicts as residual
 use Rattle.trace_judge.specs.Verdicts.{LeavesSome, LeavesEnding}
@@ -19,7 +19,7 @@ use Rattle.trace_judge.proofs.RunLaws.{left_exact, ending_exact}
 use Rattle.trace_judge.proofs.VerdictMoves.{verdict_moves}
 use Rattle.term_meaning.specs.Meanings.{Means}
 use Rattle.verdict_meaning.proofs.Meaning.{runs, begins}
-use Rattle.chart_judge.specs.ChartVerdicts.{HasTerm, IsWithinBudget, IsAboveBudget, IsVerdict}
+use Rattle.chart_judge.specs.ChartVerdicts.{HasTerm, IsWithinBudget, IsAboveBudget, IsChartVerdict}
 
 -- all that is known of the term of the chart of a name
 pub record IsKnown (table : Table) (name : List ℕ) (v : NetsValue) (x : Tree) : Type 0 where
@@ -54,33 +54,33 @@ module _ (table : Table) (name : List ℕ) (v : NetsValue) (x : Tree) (known : I
   there : (P : NetsValue → Tree → Type 0) (w : NetsValue) (y : Tree) → HasTerm table name w y → P w y → P v x
   there P w y has p = let one = known.one w y has in subst (λ (z : Tree). P v z) one.1 (subst (λ (u : NetsValue). P u y) one.0 p)
 
-  within_there : (budget : ℕ) (labels : List Label) → IsWithinBudget table name budget labels → IsWithin v x budget labels
-  within_there budget labels w = there (λ u y. IsWithin u y budget labels) w.tables w.term w.has w.within
+  within_there : (budget : ℕ) (labels : List Label) → IsWithinBudget table name budget labels → WeighsWithin v x budget labels
+  within_there budget labels w = there (λ u y. WeighsWithin u y budget labels) w.tables w.term w.has w.within
 
-  within_back : (budget : ℕ) (labels : List Label) → IsWithin v x budget labels → IsWithinBudget table name budget labels
+  within_back : (budget : ℕ) (labels : List Label) → WeighsWithin v x budget labels → IsWithinBudget table name budget labels
   within_back budget labels w = record { tables = v; term = x; has = known.has; within = w }
 
-  above_there : (budget : ℕ) (labels : List Label) → IsAboveBudget table name budget labels → IsAbove v x budget labels
-  above_there budget labels a = there (λ u y. IsAbove u y budget labels) a.tables a.term a.has a.above
+  above_there : (budget : ℕ) (labels : List Label) → IsAboveBudget table name budget labels → WeighsMore v x budget labels
+  above_there budget labels a = there (λ u y. WeighsMore u y budget labels) a.tables a.term a.has a.above
 
-  above_back : (budget : ℕ) (labels : List Label) → IsAbove v x budget labels → IsAboveBudget table name budget labels
+  above_back : (budget : ℕ) (labels : List Label) → WeighsMore v x budget labels → IsAboveBudget table name budget labels
   above_back budget labels a = record { tables = v; term = x; has = known.has; above = a }
 
   -- ---- verdicts
 
-  to_residual : (budget : ℕ) (events : List LineEvent) (verdict : Verdict) → IsVerdict table name budget events verdict → residual.IsVerdict v x budget events verdict
+  to_residual : (budget : ℕ) (events : List LineEvent) (verdict : Verdict) → IsChartVerdict table name budget events verdict → residual.IsTermVerdict v x budget events verdict
   to_residual budget events verdict w =
       verdict_moves (Conforms table name) (Begins table name) (LeavesEnding v x) (LeavesSome v x) (λ labels. back (run labels)) (λ labels. back (begin labels)) events
-      (IsWithinBudget table name budget) (IsAboveBudget table name budget) (IsWithin v x budget) (IsAbove v x budget)
+      (IsWithinBudget table name budget) (IsAboveBudget table name budget) (WeighsWithin v x budget) (WeighsMore v x budget)
       (within_there budget) (above_there budget) verdict w
 
-  from_residual : (budget : ℕ) (events : List LineEvent) (verdict : Verdict) → residual.IsVerdict v x budget events verdict → IsVerdict table name budget events verdict
+  from_residual : (budget : ℕ) (events : List LineEvent) (verdict : Verdict) → residual.IsTermVerdict v x budget events verdict → IsChartVerdict table name budget events verdict
   from_residual budget events verdict w =
       verdict_moves (LeavesEnding v x) (LeavesSome v x) (Conforms table name) (Begins table name) run begin events
-      (IsWithin v x budget) (IsAbove v x budget) (IsWithinBudget table name budget) (IsAboveBudget table name budget)
+      (WeighsWithin v x budget) (WeighsMore v x budget) (IsWithinBudget table name budget) (IsAboveBudget table name budget)
       (within_back budget) (above_back budget) verdict w
 
-  pub told : VerdictsTellRuns → (budget : ℕ) (events : List LineEvent) (verdict : Verdict) → residual.IsVerdict v x budget events verdict → Only (IsVerdict table name budget events) verdict
+  pub told : VerdictsTellRuns → (budget : ℕ) (events : List LineEvent) (verdict : Verdict) → residual.IsTermVerdict v x budget events verdict → Only (IsChartVerdict table name budget events) verdict
   told laws budget events verdict w = record {
     holds = from_residual budget events verdict w;
     alone = λ other o. laws.one v x budget events other verdict (to_residual budget events other o) w;

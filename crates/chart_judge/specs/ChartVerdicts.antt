@@ -7,7 +7,7 @@ use Rattle.msc_meaning.specs.Meanings.{Conforms, Begins}
 use Rattle.msc_meaning.specs.Tables.{ChartEntry, Table, chart_at}
 use Rattle.chart_term.specs.Terms.{Tree}
 use Rattle.term_tables.specs.NetValues.{NetsValue}
-use Rattle.trace_judge.specs.Logs.{IsWithin, IsAbove}
+use Rattle.trace_judge.specs.Logs.{WeighsWithin, WeighsMore}
 use Rattle.trace_judge.specs.VerdictsBy as by
 use Rattle.chart_judge.specs.ChartTerms.{IsTermOf}
 
@@ -22,15 +22,15 @@ pub record IsWithinBudget (table : Table) (name : List ℕ) (budget : ℕ) (labe
   pub tables : NetsValue
   pub term : Tree
   pub has : HasTerm table name tables term
-  pub within : IsWithin tables term budget labels
+  pub within : WeighsWithin tables term budget labels
 
 -- it weighs more
 pub record IsAboveBudget (table : Table) (name : List ℕ) (budget : ℕ) (labels : List Label) : Type 0 where
   pub tables : NetsValue
   pub term : Tree
   pub has : HasTerm table name tables term
-  pub above : IsAbove tables term budget labels
+  pub above : WeighsMore tables term budget labels
 
 -- the verdict on the events of a log by the chart of that name, within the budget
-abbrev pub IsVerdict : Table → List ℕ → ℕ → List LineEvent → Verdict → Type 0
-IsVerdict table name budget events verdict = by.IsVerdict (IsWithinBudget table name budget) (IsAboveBudget table name budget) (Conforms table name) (Begins table name) events verdict
+abbrev pub IsChartVerdict : Table → List ℕ → ℕ → List LineEvent → Verdict → Type 0
+IsChartVerdict table name budget events verdict = by.IsVerdict (IsWithinBudget table name budget) (IsAboveBudget table name budget) (Conforms table name) (Begins table name) events verdict

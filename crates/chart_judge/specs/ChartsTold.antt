@@ -18,11 +18,11 @@ use Rattle.term_tables.specs.NetValues.{NetsValue}
 use Rattle.trace_judge.specs.Sets.{IsSoundFor}
 use Rattle.trace_judge.specs.Verdicts as residual
 use Rattle.chart_judge.specs.ChartTerms.{IsTermOf}
-use Rattle.chart_judge.specs.ChartVerdicts.{IsVerdict}
+use Rattle.chart_judge.specs.ChartVerdicts.{IsChartVerdict}
 
 abbrev pub VerdictsAreTold : Type 0
 VerdictsAreTold = (table : Table) (name : List ℕ) (chart : ChartEntry) (v : NetsValue) (x : Tree) (budget : ℕ) (events : List LineEvent) (verdict : Verdict)
-    → chart_at table name ≡ Some chart → IsAcceptedChart chart → IsTermOf chart v x → residual.IsVerdict v x budget events verdict → Only (IsVerdict table name budget events) verdict
+    → chart_at table name ≡ Some chart → IsAcceptedChart chart → IsTermOf chart v x → residual.IsTermVerdict v x budget events verdict → Only (IsChartVerdict table name budget events) verdict
 
 -- a chart has one term; that of an accepted chart means the chart's unfoldings, finished and under way, over the names of its instances,
 -- is sound, and weighs no more than the size of what the chart is woven to, nor than the limit of sizes

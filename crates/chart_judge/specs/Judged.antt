@@ -3,22 +3,22 @@ use Rattle.std.specs.Prelude.{ℕ, Bool, true, false, List, Option, Some, None, 
 use Rattle.msc_base.specs.declared.verdict.Verdict.{Verdict}
 use Rattle.term_tables.specs.NetValues.{NetsValue}
 use Rattle.chart_term.specs.Terms.{Tree}
-use Rattle.event_log.specs.Faults.{IsFault}
+use Rattle.event_log.specs.Faults.{IsLogFault}
 use Rattle.event_log.specs.States.{IsFaultOf}
 use Rattle.event_log.specs.declared.event.LogForm.{LogForm}
-use Rattle.trace_judge.specs.Verdicts.{IsVerdict, TellsRuns, IsLargest}
+use Rattle.trace_judge.specs.Verdicts.{IsTermVerdict, TellsRuns, IsLargest}
 use Rattle.chart_judge.specs.declared.fault.JudgeFault.{JudgeFault}
 use Rattle.chart_judge.specs.declared.fault.JudgeFault.TheVariants.{Log, NoMemory}
 
 -- the bytes are a log, and this is the verdict on its events
 pub record IsJudged (v : NetsValue) (x : Tree) (form : LogForm) (budget : ℕ) (bytes : List ℕ) (verdict : Verdict) : Type 0 where
   pub log : IsFaultOf form false bytes None
-  pub verdict_is : IsVerdict v x budget log.events verdict
+  pub verdict_is : IsTermVerdict v x budget log.events verdict
   pub runs : TellsRuns v x log.events verdict
 
 -- the first fault of the bytes, whole or as a text that may go on; want of memory says nothing
 abbrev pub IsJudgeFault : LogForm → Bool → List ℕ → JudgeFault → Type 0
-IsJudgeFault form goes_on bytes (Log fault) = IsFault fault × IsFaultOf form goes_on bytes (Some fault)
+IsJudgeFault form goes_on bytes (Log fault) = IsLogFault fault × IsFaultOf form goes_on bytes (Some fault)
 IsJudgeFault form goes_on bytes NoMemory = Unit {0}
 
 -- the answer is that fault, or there is none

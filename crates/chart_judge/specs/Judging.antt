@@ -13,7 +13,7 @@ use Rattle.term_sets.specs.contracts.pool.PoolStore.TheImpl.{holds-value}
 use Rattle.term_sets.specs.Memories.{PoolValue}
 use Rattle.chart_judge.specs.States.{JudgeValue, Fed}
 use Rattle.chart_judge.specs.ChartTerms.{IsTermOf}
-use Rattle.chart_judge.specs.ChartVerdicts.{IsVerdict}
+use Rattle.chart_judge.specs.ChartVerdicts.{IsChartVerdict}
 
 -- so many bytes were fed, and no more than a log may have
 pub record HasCounted (bytes : List ℕ) (judge : JudgeValue PoolValue) : Type 0 where
@@ -33,4 +33,4 @@ pub record IsJudging (chart : ChartEntry) (form : LogForm) (budget : ℕ) (bytes
 -- the bytes are a log, and this is the one verdict on its events by the chart, in each table that has it, by the name that it has there
 pub record IsVerdictOn (chart : ChartEntry) (form : LogForm) (budget : ℕ) (bytes : List ℕ) (verdict : Verdict) : Type 0 where
   pub log : IsFaultOf form false bytes None
-  pub is : (table : Table) (name : List ℕ) → chart_at table name ≡ Some chart → Only (IsVerdict table name budget log.events) verdict
+  pub is : (table : Table) (name : List ℕ) → chart_at table name ≡ Some chart → Only (IsChartVerdict table name budget log.events) verdict

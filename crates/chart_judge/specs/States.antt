@@ -2,7 +2,7 @@
 use Rattle.std.specs.Prelude.{ℕ, ◌≡◌, false, true, List, Option, Some, None}
 use Rattle.term_tables.specs.NetValues.{NetsValue}
 use Rattle.chart_term.specs.Terms.{Tree}
-use Rattle.event_log.specs.Faults.{IsFault}
+use Rattle.event_log.specs.Faults.{IsLogFault}
 use Rattle.event_log.specs.States.{LogState}
 use Rattle.event_log.specs.States as reader
 use Rattle.event_log.specs.declared.event.LogFault.{LogFault}
@@ -34,7 +34,7 @@ pub record IsKept {S : Type 0} (serves : S → NetsValue → Type 0) (s : LogSta
 
 -- the reader has this fault of the log
 pub record IsFaulty (form : LogForm) (bytes : List ℕ) (fault : LogFault) (s : LogState) : Type 0 where
-  pub is_fault : IsFault fault
+  pub is_fault : IsLogFault fault
   pub handed : ℕ
   pub fed : reader.Fed form bytes handed s
   pub fault_is : s.fault ≡ Some fault

@@ -4,7 +4,7 @@ use Rattle.std.specs.Ordering.{nat_cmp, ordering_then, ordering_index}
 use Rattle.std.specs.declared.cmp.Ordering.{Ordering}
 use Rattle.std.specs.declared.cmp.Ordering.TheVariants.{Less, Equal, Greater}
 use Rattle.bit_sets.specs.Blocks.{set_cmp}
-use Rattle.node_facts.proofs.Listing.{got_is, is_equal, list_cmp, list_cmp-end, list_cmp-next, number_equal}
+use Rattle.term_facts.proofs.Listing.{got_is, is_equal, list_cmp, list_cmp-end, list_cmp-next, number_equal}
 use Rattle.chart_term.specs.Comparisons.{ComparesAs, ComparesParts}
 use Rattle.chart_term.specs.Order.{code_cmp, maybe_cmp, part_cmp, tree_cmp, shape_cmp, trees_cmp, row_cmp}
 use Rattle.chart_term.specs.OrderLaws.{tree_equal, tree_itself}

@@ -1,7 +1,7 @@
 -- Lists of parts, cut in two, by the parts as the code holds them.
 use Rattle.std.proofs.Common.{◌≡◌, ℕ, zero, suc, ◌<◌, List, [], ◌∷◌, ◌++◌, length, take, drop, get_or, slice_get, Some, ap, sym, ◌∙◌, arith}
 use Rattle.std.proofs.lemmas.List.{map-append, take-append-drop, take-map, drop-map, length-map}
-use Rattle.shared_sequence.proofs.Parts.{shorter_behind, shorter_before, length_parts, at_first, at_second, take_first, take_second, drop_first, drop_second}
+use Rattle.persistent_sequence.proofs.Parts.{shorter_behind, shorter_before, length_parts, at_first, at_second, take_first, take_second, drop_first, drop_second}
 use Rattle.chart_term.specs.declared.term.RowPart.{RowPart}
 use Rattle.chart_term.specs.Rows.{part_of, parts_of}
 use Rattle.chart_term.specs.Terms.{Part}

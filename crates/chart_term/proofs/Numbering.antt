@@ -2,8 +2,8 @@
 use Rattle.std.proofs.Common.{◌≡◌, ℕ, zero, suc, arith, ◌+◌, ◌*◌, ◌<◌, ◌≤◌, ◌⊎◌, inl, inr, Bool, true, false, ◌||◌, nat_eq, List, [], ◌∷◌, ◌++◌, refl, ap, sym, ◌∙◌, length, take, get_or, Option, append-nil, subst}
 use Rattle.std.proofs.lemmas.List.{map-append, take_all}
 use Rattle.std.proofs.lemmas.List.Folds.{list_any-append}
-use Rattle.node_facts.specs.declared.facts.Facts.{Facts}
-use Rattle.node_facts.specs.NodeFacts.{lies_in, numbers_in}
+use Rattle.term_facts.specs.declared.facts.Facts.{Facts}
+use Rattle.term_facts.specs.NodeFacts.{lies_in, numbers_in}
 use Rattle.chart_term.specs.Facts.{HasFacts, RowHasFacts}
 use Rattle.chart_term.specs.NormalForms.{numbers, numbers_row}
 use Rattle.chart_term.specs.Numbers.{part_numbers}

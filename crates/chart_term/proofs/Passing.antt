@@ -2,10 +2,10 @@
 use Rattle.std.proofs.Common.{◌≡◌, ℕ, zero, suc, ◌+◌, ◌-◌, ◌<◌, ◌≤◌, ◌==◌, ◌⊎◌, inl, inr, Bool, true, false, ◌||◌, ◌&&◌, nat_eq, nat_le, min, max, List, [], ◌∷◌, ◌++◌, length, slice_get, Option, Some, None, refl, ap, ap₂, sym, subst, ◌∙◌, arith}
 use Rattle.std.proofs.lemmas.Bool.{and_from, and_parts, both_ways, cases_order, eqb-true, leb-true, le-leb, or_left, or_parts, or_right}
 use Rattle.std.proofs.lemmas.List.Folds.{list_any-append}
-use Rattle.shared_sequence.proofs.Parts.{length_parts}
-use Rattle.node_facts.specs.declared.facts.Facts.{Facts}
-use Rattle.node_facts.specs.declared.facts.Span.{Span}
-use Rattle.node_facts.specs.NodeFacts.{FactsPassed, FactsWithin, facts_may, labels_in, lies_in, span_of, wider}
+use Rattle.persistent_sequence.proofs.Parts.{length_parts}
+use Rattle.term_facts.specs.declared.facts.Facts.{Facts}
+use Rattle.term_facts.specs.declared.facts.Span.{Span}
+use Rattle.term_facts.specs.NodeFacts.{FactsPassed, FactsWithin, facts_may, labels_in, lies_in, span_of, wider}
 use Rattle.chart_term.specs.Facts.{HasFacts, RowHasFacts, holds_walk, instances, instances_row, row_walk}
 use Rattle.chart_term.specs.Labels.{labels, labels_row}
 use Rattle.chart_term.specs.NormalForms.{has_gap}

@@ -7,8 +7,8 @@ use Rattle.std.specs.declared.cmp.Ordering.TheVariants.{Less, Equal, Greater}
 use Rattle.bit_sets.specs.Blocks.{set_cmp}
 use Rattle.msc_base.specs.Patterns.{seq, par}
 pub use Rattle.hmsc_graph.specs.Spots.{spot_cmp, goal_cmp}
-pub use Rattle.node_facts.specs.NodeFacts.{numbers_code}
-pub use Rattle.node_facts.specs.PlainOrder.{maybe_cmp, pair_cmp, pairs_cmp}
+pub use Rattle.term_facts.specs.NodeFacts.{numbers_code}
+pub use Rattle.term_facts.specs.PlainOrder.{maybe_cmp, pair_cmp, pairs_cmp}
 use Rattle.chart_term.specs.NormalForms.{numbers}
 use Rattle.chart_term.specs.Terms.{TermEvent, Tree, Nil, Event, Join, Choice, Tied, Loop, Walk, Trees, none, more, Row, ends, gap, turn, Part, Gap, Turn}
 

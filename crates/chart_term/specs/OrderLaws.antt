@@ -10,7 +10,7 @@ use Rattle.std.specs.declared.cmp.Ordering.TheVariants.{Less, Equal, Greater}
 use Rattle.bit_sets.specs.Blocks.{set_cmp}
 use Rattle.msc_base.specs.Patterns.{seq, par}
 use Rattle.hmsc_graph.specs.Graphs.{Spot, Start, At, Goal, To, End, Any}
-use Rattle.node_facts.proofs.Listing.{both_equal, number_equal, set_equal}
+use Rattle.term_facts.proofs.Listing.{both_equal, number_equal, set_equal}
 use Rattle.chart_term.specs.Order.{maybe_cmp, event_cmp, pair_cmp, pairs_cmp, spot_cmp, goal_cmp, numbers_code, code_cmp, tree_cmp, shape_cmp, trees_cmp, row_cmp, TermsAreOrdered}
 use Rattle.chart_term.specs.NormalForms.{numbers}
 use Rattle.chart_term.specs.Terms.{TermEvent, Tree, Nil, Event, Join, Choice, Tied, Loop, Walk, Trees, none, more, Row, ends, gap, turn}

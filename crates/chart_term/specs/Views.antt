@@ -1,5 +1,5 @@
 -- The values that events and pairs of the code stand for.
-pub use Rattle.node_facts.specs.PlainOrder.{pair_of, pairs_of}
+pub use Rattle.term_facts.specs.PlainOrder.{pair_of, pairs_of}
 use Rattle.chart_term.specs.declared.event.Event.{Event}
 use Rattle.chart_term.specs.declared.event.StoredEvent.{StoredEvent}
 use Rattle.chart_term.specs.Terms.{TermEvent}

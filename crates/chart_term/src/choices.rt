@@ -1,4 +1,4 @@
-//! The choice of parts in normal form, opened and without repeats. permit_step calls it for what is left of choices.
+//! The choice of parts in normal form, opened and without repeats. term_step calls it for what is left of choices.
 
 ghost use Rattle.std.specs.Prelude.{◌≡◌, ◌<◌, ◌++◌, length, IfOk, OnOk, Some};
 ghost use Rattle.chart_term.specs.NormalForms.{begun, open_choice, distinct, choice_form, choice_of};

@@ -1,4 +1,4 @@
-//! Rows and parts side by side in normal form, opened and without empty parts. permit_step rebuilds terms by them.
+//! Rows and parts side by side in normal form, opened and without empty parts. term_step rebuilds terms by them.
 
 ghost use Rattle.std.specs.Prelude.{◌≡◌, ◌++◌, ◌∷◌, [], map, IfOk};
 ghost use Rattle.msc_base.specs.Patterns.{seq, par};

@@ -1,4 +1,4 @@
-//! The parts of a term, and of a list of parts, for those who walk down it: term_tables, permit_step, and the constructors here.
+//! The parts of a term, and of a list of parts, for those who walk down it: term_tables, term_step, and the constructors here.
 
 use crate::{PartList, RowPart, Term};
 use bit_sets::Block;

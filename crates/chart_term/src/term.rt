@@ -23,10 +23,10 @@ use crate::event::StoredEvent;
 use bit_sets::Block;
 use hmsc_graph::{Goal, Spot};
 use msc_base::{Limits, NoMemory};
-use node_facts::Facts;
 use std::alloc::Global;
 use std::marker::Model;
 use std::rc::Rc;
+use term_facts::Facts;
 use tie_list::TieList;
 
 /// A term of a chart: a process that stands for a set of patterns.

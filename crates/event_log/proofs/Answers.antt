@@ -2,10 +2,10 @@
 use Rattle.std.proofs.Common.{Result, Ok, Err, IfErr, OnOk, OnErr, IfSome, MatchOption, ◌≡◌, ◌<◌, ◌≤◌, ◌+◌, ◌++◌, inl, inr, Bool, true, false, not, List, ℕ, length, [], ◌∷◌, arith, sym, refl, ap, ◌∙◌, subst, take, drop, append-nil, append_assoc, length-append, Option, Some, None, slice_get, zero, suc, option_to_list, ◌↔◌}
 use Rattle.std.proofs.lemmas.List.{take_all}
 use Rattle.msc_base.specs.declared.limits.TheConstants.Limits.{LINE_BYTES, LOG_BYTES}
-use Rattle.event_log.specs.Faults.{IsFault}
+use Rattle.event_log.specs.Faults.{IsLogFault}
 use Rattle.event_log.specs.Lines.{cut_of, decided, last_line, lines_of}
 use Rattle.msc_base.specs.Only.{Never, Only}
-use Rattle.event_log.specs.Logs.{Stage, first_stage, HasFault, Reading, Reaches, limited, LogOf, HoldsEvent}
+use Rattle.event_log.specs.Logs.{Stage, first_stage, HasLineFault, PassesLines, Reaches, limited, LogOf, HoldsEvent}
 use Rattle.event_log.specs.States.{LogState, HandsOut, TakesLine, RefusesLine, IsGoing, IsSettled, IsWanting, HoldsAt, Fed, IsFaultOf, IsAnswer}
 use Rattle.line_events.specs.declared.event.LineEvent.{LineEvent}
 use Rattle.event_log.specs.declared.event.LogFault.{LogFault}
@@ -122,7 +122,7 @@ limit_reached form b piece prefix rest n s h e some full =
       log = record {
         stage = h.stage;
         found = None;
-        reads = subst (λ ls. Reading form first_stage ls h.stage None) (sym lines) h.reads;
+        reads = subst (λ ls. PassesLines form first_stage ls h.stage None) (sym lines) h.reads;
         events_are = refl;
         fault_is = limit;
       };
@@ -142,7 +142,7 @@ ends_empty form b n s h e =
       log = record {
         stage = h.stage;
         found = None;
-        reads = subst (λ ls. Reading form first_stage ls h.stage None) (sym lines) h.reads;
+        reads = subst (λ ls. PassesLines form first_stage ls h.stage None) (sym lines) h.reads;
         events_are = refl;
         fault_is = limited_within b h.stage None le;
       };
@@ -170,7 +170,7 @@ ends_line s u (Ok v) k some form b n h =
       log = record {
         stage = p.stage;
         found = None;
-        reads = subst (λ ls. Reading form first_stage ls p.stage None) (sym (last_lines b le (omega (arith, some, ap length h.line_is))))
+        reads = subst (λ ls. PassesLines form first_stage ls p.stage None) (sym (last_lines b le (omega (arith, some, ap length h.line_is))))
             (reading_pass form first_stage (cut_of b).ended (cut_of b).tail h.stage p.stage h.reads p.passes);
         events_are = refl;
         fault_is = limited_within b p.stage None le;
@@ -183,14 +183,14 @@ end_refused : (form : LogForm) (b : List ℕ) (n : ℕ) (s : LogState) (x : LogF
 end_refused form b n s x h k some =
     let le : length b ≤ LOG_BYTES = omega (arith, h.count_is, h.within) in
     let short : length (cut_of b).tail ≤ LINE_BYTES = subst (λ (t : List ℕ). length t ≤ LINE_BYTES) h.line_is h.short in
-    let found : HasFault form h.stage (cut_of b).tail x = refused form h.stage n s (cut_of b).tail x h.form_is h.stands h.line_is short k in
+    let found : HasLineFault form h.stage (cut_of b).tail x = refused form h.stage n s (cut_of b).tail x h.form_is h.stands h.line_is short k in
     record {
       form_is = h.form_is;
       events = h.stage.events;
       log = record {
         stage = h.stage;
         found = Some x;
-        reads = subst (λ ls. Reading form first_stage ls h.stage (Some x)) (sym (last_lines b le (omega (arith, some, ap length h.line_is))))
+        reads = subst (λ ls. PassesLines form first_stage ls h.stage (Some x)) (sym (last_lines b le (omega (arith, some, ap length h.line_is))))
             (reading_fault form first_stage (cut_of b).ended (cut_of b).tail h.stage x h.reads found);
         events_are = refl;
         fault_is = refl;
@@ -199,7 +199,7 @@ end_refused form b n s x h k some =
     }
 
 -- the text ends, and its last line isn't taken
-pub end_fails : {T : Type 0} (s u : LogState) (answer : Result T LogFault) → OnErr answer (u ≡ s) → IfErr answer (λ x. IsFault x → RefusesLine s x) → 0 < length s.line
+pub end_fails : {T : Type 0} (s u : LogState) (answer : Result T LogFault) → OnErr answer (u ≡ s) → IfErr answer (λ x. IsLogFault x → RefusesLine s x) → 0 < length s.line
     → (form : LogForm) (b : List ℕ) (n : ℕ) → IsGoing form b n s → IfErr answer (λ x. HoldsAt (Some x) true form b n u)
 end_fails s u (Ok v) same k some form b n h = tt
 end_fails s u (Err fault.NoMemory) same k some form b n h =

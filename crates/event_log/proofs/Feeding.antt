@@ -2,10 +2,10 @@
 use Rattle.std.proofs.Common.{Result, Ok, Err, IfErr, OnOk, OnErr, ◌≡◌, ◌≢◌, ◌<◌, ◌≤◌, ◌+◌, ◌++◌, Bool, true, false, List, ℕ, length, [], ◌∷◌, All, arith, sym, refl, ap, ◌∙◌, subst, take, drop, append-nil, append_assoc, length-append, Option, Some, None, zero, suc, ◌⊎◌, inl, inr, slice_index}
 use Rattle.std.proofs.lemmas.Bool.Decides.{nat_tests}
 use Rattle.msc_base.specs.declared.limits.TheConstants.Limits.{LINE_BYTES, LOG_BYTES}
-use Rattle.event_log.specs.Faults.{IsFault}
+use Rattle.event_log.specs.Faults.{IsLogFault}
 use Rattle.event_log.specs.Lines.{Cut, nothing_cut, cut_of, decided, decided_tail, is_within, lines_of}
-use Rattle.event_log.specs.Meanings.{Says}
-use Rattle.event_log.specs.Logs.{Stage, first_stage, After, Breaks, Passes, HasFault, too_long, of_meaning, Reading, Reaches, limited, LogOf}
+use Rattle.event_log.specs.Meanings.{LineSays}
+use Rattle.event_log.specs.Logs.{Stage, first_stage, After, BreaksLog, Passes, HasLineFault, too_long, of_meaning, PassesLines, Reaches, limited, LogOf}
 use Rattle.event_log.specs.States.{LogState, HandsOut, StandsAt, next_line, Takes, Refuses, TakesLine, RefusesLine, Grows, IsTooLong, counted, IsGoing, IsSettled, IsWanting, HoldsAt}
 use Rattle.line_events.specs.declared.event.LineEvent.{LineEvent}
 use Rattle.event_log.specs.declared.event.LogFault.{LogFault}
@@ -44,7 +44,7 @@ log_stays form g b c es x h = elim (limited_some b h.stage h.found x (is_within 
   | inl e ↦ record {
     stage = h.stage;
     found = Some x;
-    reads = fault_stays form first_stage (lines_of true b) (lines_of g (b ++ c)) h.stage x (lines_grow g b c) (subst (λ f. Reading form first_stage (lines_of true b) h.stage f) e h.reads);
+    reads = fault_stays form first_stage (lines_of true b) (lines_of g (b ++ c)) h.stage x (lines_grow g b c) (subst (λ f. PassesLines form first_stage (lines_of true b) h.stage f) e h.reads);
     events_are = h.events_are;
     fault_is = refl;
   }
@@ -54,7 +54,7 @@ log_stays form g b c es x h = elim (limited_some b h.stage h.found x (is_within 
       record {
         stage = h.stage;
         found = None;
-        reads = subst (λ f. Reading form first_stage (lines_of g (b ++ c)) h.stage f) e.0 (subst (λ ls. Reading form first_stage ls h.stage h.found) (same_lines g b c lt) h.reads);
+        reads = subst (λ f. PassesLines form first_stage (lines_of g (b ++ c)) h.stage f) e.0 (subst (λ ls. PassesLines form first_stage ls h.stage h.found) (same_lines g b c lt) h.reads);
         events_are = h.events_are;
         fault_is = ap (λ (z : LogFault). Some z) e.2 ∙ sym (limited_beyond (b ++ c) h.stage far);
       }
@@ -109,7 +109,7 @@ going_log form b n s h =
       log = record {
         stage = h.stage;
         found = None;
-        reads = subst (λ ls. Reading form first_stage ls h.stage None) (sym (going_lines b short le)) h.reads;
+        reads = subst (λ ls. PassesLines form first_stage ls h.stage None) (sym (going_lines b short le)) h.reads;
         events_are = refl;
         fault_is = limited_within b h.stage None le;
       };
@@ -142,7 +142,7 @@ going_grows form b f n s t h g free room =
     subst (λ u. IsGoing form (b ++ f) n u) (sym g.is) (record {
       form_is = h.form_is;
       stage = h.stage;
-      reads = subst (λ ls. Reading form first_stage ls h.stage None) (sym (ap (λ (c : Cut). c.ended) cut)) h.reads;
+      reads = subst (λ ls. PassesLines form first_stage ls h.stage None) (sym (ap (λ (c : Cut). c.ended) cut)) h.reads;
       stands = record { version_is = h.stands.version_is; number_is = h.stands.number_is; read_is = h.stands.read_is; events = h.stands.events };
       line_is = line;
       short = omega (arith, g.short, length-append s.line f);
@@ -159,14 +159,14 @@ going_long form b f n s x h g free room =
     let long : LINE_BYTES < length line = omega (arith, g.long, ap length h.line_is, length-append (cut_of b).tail f) in
     let is : lines_of true (b ++ f) ≡ (cut_of b).ended ++ line ∷ [] =
     lines_within true (b ++ f) le ∙ ap (λ (c : Cut). c.ended ++ decided_tail true c.tail) (cut_front b f free) ∙ ap (λ (ls : List (List ℕ)). (cut_of b).ended ++ ls) (too_long_line line long) in
-    let found : HasFault form h.stage line x = too_long long (g.is ∙ ap (λ (k : ℕ). fault.LongLine k) h.stands.number_is) in
+    let found : HasLineFault form h.stage line x = too_long long (g.is ∙ ap (λ (k : ℕ). fault.LongLine k) h.stands.number_is) in
     record {
       form_is = h.form_is;
       events = h.stage.events;
       log = record {
         stage = h.stage;
         found = Some x;
-        reads = subst (λ ls. Reading form first_stage ls h.stage (Some x)) (sym is) (reading_fault form first_stage (cut_of b).ended line h.stage x h.reads found);
+        reads = subst (λ ls. PassesLines form first_stage ls h.stage (Some x)) (sym is) (reading_fault form first_stage (cut_of b).ended line h.stage x h.reads found);
         events_are = refl;
         fault_is = refl;
       };
@@ -206,17 +206,17 @@ stands_next t n s u (Event a) h k =
     })
 stands_next t n s u NoEvent h k = absurd k
 
-breaks_too : (t : Stage) (n : ℕ) (s : LogState) (m : Line) (x : LogFault) → StandsAt t n s → Refuses s m x → Breaks t m x
+breaks_too : (t : Stage) (n : ℕ) (s : LogState) (m : Line) (x : LogFault) → StandsAt t n s → Refuses s m x → BreaksLog t m x
 breaks_too t n s Blank x h k = k
 breaks_too t n s (VersionLine None) x h k = k ∙ ap (λ (i : ℕ). fault.Version i) h.number_is
 breaks_too t n s (VersionLine (Some v)) x h k = k
 breaks_too t n s (Event a) x h k = (omega (arith, k.0, h.read_is), k.1 ∙ ap (λ (i : ℕ). fault.LogLimit i) h.number_is)
 breaks_too t n s NoEvent x h k = k ∙ ap (λ (i : ℕ). fault.Syntax i) h.number_is
 
-says_there : (form : LogForm) (t : Stage) (n : ℕ) (s : LogState) (line : List ℕ) (m : Line) → s.form ≡ form → StandsAt t n s → s.line ≡ line → Says s.form s.version s.number s.line m → Says form t.version t.number line m
+says_there : (form : LogForm) (t : Stage) (n : ℕ) (s : LogState) (line : List ℕ) (m : Line) → s.form ≡ form → StandsAt t n s → s.line ≡ line → LineSays s.form s.version s.number s.line m → LineSays form t.version t.number line m
 says_there form t n s line m f h l says =
-    subst (λ g. Says g t.version t.number line m) f (subst (λ v. Says s.form v t.number line m) h.version_is
-    (subst (λ k. Says s.form s.version k line m) h.number_is (subst (λ b. Says s.form s.version s.number b m) l says)))
+    subst (λ g. LineSays g t.version t.number line m) f (subst (λ v. LineSays s.form v t.number line m) h.version_is
+    (subst (λ k. LineSays s.form s.version k line m) h.number_is (subst (λ b. LineSays s.form s.version s.number b m) l says)))
 
 -- the state has taken its line
 pub record Passed (form : LogForm) (t : Stage) (n : ℕ) (line : List ℕ) (s : LogState) : Type 0 where
@@ -233,7 +233,7 @@ passed form t n s u line f h l short k =
       stands = r.stands;
     }
 
-pub refused : (form : LogForm) (t : Stage) (n : ℕ) (s : LogState) (line : List ℕ) (x : LogFault) → s.form ≡ form → StandsAt t n s → s.line ≡ line → length line ≤ LINE_BYTES → RefusesLine s x → HasFault form t line x
+pub refused : (form : LogForm) (t : Stage) (n : ℕ) (s : LogState) (line : List ℕ) (x : LogFault) → s.form ≡ form → StandsAt t n s → s.line ≡ line → length line ≤ LINE_BYTES → RefusesLine s x → HasLineFault form t line x
 refused form t n s line x f h l short k = of_meaning short k.meaning (says_there form t n s line k.meaning f h l k.says) (breaks_too t n s k.meaning x h k.refuses)
 
 -- what a line that is taken leaves
@@ -276,7 +276,7 @@ going_ends form b n s u h k lt =
     record {
       form_is = r.form_is ∙ h.form_is;
       stage = p.stage;
-      reads = subst (λ ls. Reading form first_stage ls p.stage None) (sym (ap (λ (c : Cut). c.ended) cut)) (reading_pass form first_stage (cut_of b).ended (cut_of b).tail h.stage p.stage h.reads p.passes);
+      reads = subst (λ ls. PassesLines form first_stage ls p.stage None) (sym (ap (λ (c : Cut). c.ended) cut)) (reading_pass form first_stage (cut_of b).ended (cut_of b).tail h.stage p.stage h.reads p.passes);
       stands = p.stands;
       line_is = r.line_is ∙ sym (ap (λ (c : Cut). c.tail) cut);
       short = omega (arith, ap length r.line_is);
@@ -299,7 +299,7 @@ going_refused form b n s x h k lt =
       log = record {
         stage = h.stage;
         found = Some x;
-        reads = subst (λ ls. Reading form first_stage ls h.stage (Some x)) (sym is) (reading_fault form first_stage (cut_of b).ended (cut_of b).tail h.stage x h.reads found);
+        reads = subst (λ ls. PassesLines form first_stage ls h.stage (Some x)) (sym is) (reading_fault form first_stage (cut_of b).ended (cut_of b).tail h.stage x h.reads found);
         events_are = refl;
         fault_is = refl;
       };
@@ -307,7 +307,7 @@ going_refused form b n s x h k lt =
     }
 
 -- bytes of a line weren't taken
-pub append_fails : {T : Type 0} (s t : LogState) (f : List ℕ) (answer : Result T LogFault) → OnErr answer (t ≡ s) → IfErr answer (λ x. IsFault x → IsTooLong s f x) → All (λ y. y ≢ 10) f
+pub append_fails : {T : Type 0} (s t : LogState) (f : List ℕ) (answer : Result T LogFault) → OnErr answer (t ≡ s) → IfErr answer (λ x. IsLogFault x → IsTooLong s f x) → All (λ y. y ≢ 10) f
     → s.count + length f ≤ LOG_BYTES → (form : LogForm) (b : List ℕ) (n : ℕ) (more : List ℕ) → IsGoing form b n s → IfErr answer (λ x. HoldsAt (Some x) false form (b ++ (f ++ more)) n t)
 append_fails s t f (Ok r) same long free room form b n more h = tt
 append_fails s t f (Err fault.NoMemory) same long free room form b n more h = subst (λ u. IsWanting form true (b ++ (f ++ more)) n u) (sym same) (going_wants form true b (f ++ more) n s h)
@@ -333,7 +333,7 @@ line_going s t (Ok r) takes lt form b n h = going_ends form b n s t h takes lt
 line_going s t (Err x) takes lt form b n h = tt
 
 -- a line with its end wasn't taken
-pub line_fails : {T : Type 0} (s t : LogState) (answer : Result T LogFault) → OnErr answer (t ≡ counted s) → IfErr answer (λ x. IsFault x → RefusesLine (counted s) x) → s.count < LOG_BYTES
+pub line_fails : {T : Type 0} (s t : LogState) (answer : Result T LogFault) → OnErr answer (t ≡ counted s) → IfErr answer (λ x. IsLogFault x → RefusesLine (counted s) x) → s.count < LOG_BYTES
     → (form : LogForm) (b : List ℕ) (n : ℕ) (more : List ℕ) → IsGoing form b n s → IfErr answer (λ x. HoldsAt (Some x) false form (b ++ 10 ∷ more) n t)
 line_fails s t (Ok r) same refuses lt form b n more h = tt
 line_fails s t (Err fault.NoMemory) same refuses lt form b n more h =

@@ -2,7 +2,7 @@
 use Rattle.std.proofs.Common.{◌<◌, ◌≤◌, ◌+◌, ◌++◌, List, ℕ, [], ◌∷◌, length, arith}
 use Rattle.std.proofs.lemmas.List.Elements.{All-push}
 use Rattle.std.proofs.lemmas.List.Sums.{sum_by_push}
-use Rattle.event_log.specs.Meanings.{Says}
+use Rattle.event_log.specs.Meanings.{LineSays}
 use Rattle.event_log.specs.Memories.{SaysBehind, AreKnown, line_bytes}
 use Rattle.event_log.specs.declared.event.LogForm.{LogForm}
 use Rattle.event_log.specs.declared.event.Version.{Version}
@@ -11,7 +11,7 @@ use Rattle.event_log.specs.declared.line.Line.TheVariants.{Blank, VersionLine, E
 use Rattle.event_log.specs.declared.line_memory.KnownLine.{KnownLine}
 
 -- what a line says behind the first, it says in each line behind the first
-pub says_behind : (form : LogForm) (version : Version) (number : ℕ) (line : List ℕ) (m : Line) → 1 < number → Says form version number line m → SaysBehind form version line m
+pub says_behind : (form : LogForm) (version : Version) (number : ℕ) (line : List ℕ) (m : Line) → 1 < number → LineSays form version number line m → SaysBehind form version line m
 says_behind form version number line Blank lt says k more = says
 says_behind form version number line (VersionLine stated) lt says k more = absurd (omega (arith, says.1.0))
 says_behind form version number line (Event label) lt says k more = (says.0, (λ first. absurd (omega (arith, first)), says.1.1))

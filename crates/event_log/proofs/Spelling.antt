@@ -12,10 +12,10 @@ use Rattle.msc_events.specs.LogEvents.{ReadsEvent}
 use Rattle.token_grammar.specs.Refusals.{IsRefusal}
 use Rattle.token_grammar.specs.declared.fault.ParseFault.{ParseFault}
 use Rattle.token_grammar.specs.declared.fault.ParseFault.TheVariants as fault
-use Rattle.event_log.specs.Meanings.{StatesVersion, IsEventOf, SaysBy, Says}
+use Rattle.event_log.specs.Meanings.{StatesVersion, IsEventOf, SaysBy, LineSays}
 use Rattle.msc_base.specs.Only.{Never, Only}
 use Rattle.event_log.specs.Objects.{Spelled, IsAllowed}
-use Rattle.event_log.specs.Faults.{IsFault}
+use Rattle.event_log.specs.Faults.{IsLogFault}
 use Rattle.event_log.specs.States.{LogState, Refuses, RefusesLine}
 use Rattle.event_log.specs.declared.event.LogFault.{LogFault}
 use Rattle.event_log.specs.declared.event.LogForm.{LogForm}
@@ -37,7 +37,7 @@ not_empty : (line : List ℕ) (tokens : List Token) → Only (Spells line) token
 not_empty line tokens s some h = omega (arith, ap length (s.alone [] h))
 
 says_one : (version : Version) (number : ℕ) (line : List ℕ) (tokens : List Token) (m : Line) → Only (Spells line) tokens → 0 < length tokens
-    → SaysBy (StatesVersion (texts tokens)) (IsEventOf version (texts tokens)) number m → Says Lines version number line m
+    → SaysBy (StatesVersion (texts tokens)) (IsEventOf version (texts tokens)) number m → LineSays Lines version number line m
 says_one version number line tokens Blank s some h = absurd h
 says_one version number line tokens (VersionLine stated) s some h = (not_empty line tokens s some, (h.0, only_spelled StatesVersion line tokens stated s h.1))
 says_one version number line tokens (Event label) s some h = (not_empty line tokens s some, (λ first. never_spelled StatesVersion line tokens s (h.0 first), only_spelled (IsEventOf version) line tokens label s h.1))
@@ -45,12 +45,12 @@ says_one version number line tokens NoEvent s some h = (not_empty line tokens s 
 
 -- what the tokens say is what the line says
 pub says_spelled : (version : Version) (number : ℕ) (line : List ℕ) (tokens : List Token) (answer : Result Line NoMemory) → Only (Spells line) tokens → 0 < length tokens
-    → IfOk answer (λ m. SaysBy (StatesVersion (texts tokens)) (IsEventOf version (texts tokens)) number m) → IfOk answer (λ m. Says Lines version number line m)
+    → IfOk answer (λ m. SaysBy (StatesVersion (texts tokens)) (IsEventOf version (texts tokens)) number m) → IfOk answer (λ m. LineSays Lines version number line m)
 says_spelled version number line tokens (Ok m) s some h = says_one version number line tokens m s some h
 says_spelled version number line tokens (Err e) s some h = tt
 
 -- bytes that have no reading as tokens say nothing
-pub says_unspelled : (version : Version) (number : ℕ) (line : List ℕ) → Never (Spells line) → Says Lines version number line NoEvent
+pub says_unspelled : (version : Version) (number : ℕ) (line : List ℕ) → Never (Spells line) → LineSays Lines version number line NoEvent
 says_unspelled version number line h = (λ s. h [] s, (λ first. λ y p. h p.tokens p.spells, λ y p. h p.tokens p.spells))
 
 -- a fault of the reading that is no want of memory is a refusal
@@ -58,8 +58,8 @@ pub refusal : (x : ParseFault) → (x ≡ fault.NoMemory → ⊥) → IsRefusal 
 refusal fault.NoMemory h = h refl
 refusal x h = tt
 
-pub refuses_line : {T : Type 0} (s : LogState) (m : Line) (answer : Result T LogFault) → Says s.form s.version s.number s.line m
-    → IfErr answer (λ x. IsFault x → Refuses s m x) → IfErr answer (λ x. IsFault x → RefusesLine s x)
+pub refuses_line : {T : Type 0} (s : LogState) (m : Line) (answer : Result T LogFault) → LineSays s.form s.version s.number s.line m
+    → IfErr answer (λ x. IsLogFault x → Refuses s m x) → IfErr answer (λ x. IsLogFault x → RefusesLine s x)
 refuses_line s m (Ok t) says h = tt
 refuses_line s m (Err x) says h = λ is. record { meaning = m; says = says; refuses = h is }
 
@@ -91,8 +91,8 @@ barred_event version tokens label only barred = λ y p. barred (subst (λ (l : L
 
 -- what a line says in the form that is meant
 pub says_in : (form meant : LogForm) (version : Version) (number : ℕ) (line : List ℕ) (answer : Result Line NoMemory) → form ≡ meant
-    → IfOk answer (λ m. Says meant version number line m) → IfOk answer (λ m. Says form version number line m)
-says_in form meant version number line answer is h = subst (λ f. IfOk answer (λ m. Says f version number line m)) (sym is) h
+    → IfOk answer (λ m. LineSays meant version number line m) → IfOk answer (λ m. LineSays form version number line m)
+says_in form meant version number line answer is h = subst (λ f. IfOk answer (λ m. LineSays f version number line m)) (sym is) h
 
 pub not_both : (b : Bool) → IsTrue b → b ≡ false → ⊥
 not_both b here gone = true≢false (sym here ∙ gone)

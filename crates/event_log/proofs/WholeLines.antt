@@ -4,8 +4,8 @@ use Rattle.std.proofs.lemmas.Bool.Decides.{Decides-eqb}
 use Rattle.std.proofs.lemmas.List.Elements.{All-nil, All-cons, All-from_get_or}
 use Rattle.memchr.specs.Find.{IsFirstByte, is_byte}
 use Rattle.msc_base.specs.declared.limits.TheConstants.Limits.{LINE_BYTES, LOG_BYTES}
-use Rattle.event_log.specs.Faults.{IsFault}
-use Rattle.event_log.specs.Meanings.{Says}
+use Rattle.event_log.specs.Faults.{IsLogFault}
+use Rattle.event_log.specs.Meanings.{LineSays}
 use Rattle.event_log.specs.States.{LogState, Refuses, TakesLine, RefusesLine, Grows, IsTooLong, counted, whole, IsGoing, HoldsAt}
 use Rattle.event_log.specs.declared.event.LogFault.{LogFault}
 use Rattle.event_log.specs.declared.event.LogFault.TheVariants as fault
@@ -53,7 +53,7 @@ whole_going s u f answer none short free room takes form b n h =
 
 -- a whole line wasn't taken
 pub whole_fails : {T : Type 0} (s u : LogState) (f : List ℕ) (answer : Result T LogFault) → s.line ≡ [] → length f ≤ LINE_BYTES → All (λ b. b ≢ 10) f → s.count + length f < LOG_BYTES
-    → OnErr answer (u ≡ record s { count = s.count + length f + 1 }) → IfErr answer (λ x. IsFault x → RefusesLine (whole s f) x)
+    → OnErr answer (u ≡ record s { count = s.count + length f + 1 }) → IfErr answer (λ x. IsLogFault x → RefusesLine (whole s f) x)
     → (form : LogForm) (b : List ℕ) (n : ℕ) (more : List ℕ) → IsGoing form b n s → IfErr answer (λ x. HoldsAt (Some x) false form (b ++ (f ++ 10 ∷ more)) n u)
 whole_fails s u f (Ok r) none short free room same refuses form b n more h = tt
 whole_fails {T = T} s u f (Err x) none short free room same refuses form b n more h =
@@ -77,7 +77,7 @@ refuses_alike s t (Event a) x n r h = (omega (arith, h.0, r), h.1 ∙ ap (λ (k 
 refuses_alike s t NoEvent x n r h = h ∙ ap (λ (k : ℕ). fault.Syntax k) n
 
 -- a line that is refused where the number and the events are the same
-pub refuses_there : {T : Type 0} (s t : LogState) (m : Line) (answer : Result T LogFault) → s.number ≡ t.number → s.read ≡ t.read → Says t.form t.version t.number t.line m
-    → IfErr answer (λ x. IsFault x → Refuses s m x) → IfErr answer (λ x. IsFault x → RefusesLine t x)
+pub refuses_there : {T : Type 0} (s t : LogState) (m : Line) (answer : Result T LogFault) → s.number ≡ t.number → s.read ≡ t.read → LineSays t.form t.version t.number t.line m
+    → IfErr answer (λ x. IsLogFault x → Refuses s m x) → IfErr answer (λ x. IsLogFault x → RefusesLine t x)
 refuses_there s t m (Ok r) n e says h = tt
 refuses_there s t m (Err x) n e says h = λ is. record { meaning = m; says = says; refuses = refuses_alike s t m x n e (h is) }

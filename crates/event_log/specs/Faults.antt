@@ -4,12 +4,12 @@ use Rattle.event_log.specs.declared.event.LogFault.{LogFault}
 use Rattle.event_log.specs.declared.event.LogFault.TheVariants.{Syntax, LongLine, LogLimit, Version, NoMemory}
 
 -- the fault is one of the log's, and no want of memory
-abbrev pub IsFault : LogFault → Type 0
-IsFault (Syntax line) = Unit {0}
-IsFault (LongLine line) = Unit {0}
-IsFault (LogLimit line) = Unit {0}
-IsFault (Version line) = Unit {0}
-IsFault NoMemory = ⊥
+abbrev pub IsLogFault : LogFault → Type 0
+IsLogFault (Syntax line) = Unit {0}
+IsLogFault (LongLine line) = Unit {0}
+IsLogFault (LogLimit line) = Unit {0}
+IsLogFault (Version line) = Unit {0}
+IsLogFault NoMemory = ⊥
 
 -- the fault in words
 abbrev pub fault_text : LogFault → List ℕ

@@ -2,7 +2,7 @@
 use Rattle.std.specs.Prelude.{◌≡◌, ◌<◌, ◌≤◌, ◌+◌, ◌⊎◌, ℕ, Bool, List, [], ◌∷◌, ◌++◌, length, Option, Some, None, if◌then◌else◌, slice_get}
 use Rattle.msc_base.specs.declared.limits.TheConstants.Limits.{LINE_BYTES, LOG_EVENTS}
 use Rattle.event_log.specs.Lines.{is_within, lines_of}
-use Rattle.event_log.specs.Meanings.{Says}
+use Rattle.event_log.specs.Meanings.{LineSays}
 use Rattle.line_events.specs.declared.event.LineEvent.{LineEvent}
 use Rattle.event_log.specs.declared.event.LogFault.{LogFault}
 use Rattle.event_log.specs.declared.event.LogFault.TheVariants as fault
@@ -36,27 +36,27 @@ After s NoEvent t = ⊥
 pub record Passes (form : LogForm) (s : Stage) (line : List ℕ) (t : Stage) : Type 0 where
   pub short : IsShort line
   pub meaning : Line
-  pub says : Says form s.version s.number line meaning
+  pub says : LineSays form s.version s.number line meaning
   pub after : After s meaning t
 
 -- a line that says this has this fault
-abbrev pub Breaks : Stage → Line → LogFault → Type 0
-Breaks s Blank x = ⊥
-Breaks s (VersionLine (Some version)) x = ⊥
-Breaks s (VersionLine None) x = x ≡ fault.Version s.number
-Breaks s (Event label) x = (LOG_EVENTS ≤ length s.events) × (x ≡ fault.LogLimit s.number)
-Breaks s NoEvent x = x ≡ fault.Syntax s.number
+abbrev pub BreaksLog : Stage → Line → LogFault → Type 0
+BreaksLog s Blank x = ⊥
+BreaksLog s (VersionLine (Some version)) x = ⊥
+BreaksLog s (VersionLine None) x = x ≡ fault.Version s.number
+BreaksLog s (Event label) x = (LOG_EVENTS ≤ length s.events) × (x ≡ fault.LogLimit s.number)
+BreaksLog s NoEvent x = x ≡ fault.Syntax s.number
 
 -- the fault of a line: it is too long, else it is that of what the line says
-pub data HasFault (form : LogForm) (s : Stage) (line : List ℕ) (x : LogFault) : Type 0 where
-  too_long : LINE_BYTES < length line → x ≡ fault.LongLine s.number → HasFault form s line x
-  of_meaning : IsShort line → (meaning : Line) → Says form s.version s.number line meaning → Breaks s meaning x → HasFault form s line x
+pub data HasLineFault (form : LogForm) (s : Stage) (line : List ℕ) (x : LogFault) : Type 0 where
+  too_long : LINE_BYTES < length line → x ≡ fault.LongLine s.number → HasLineFault form s line x
+  of_meaning : IsShort line → (meaning : Line) → LineSays form s.version s.number line meaning → BreaksLog s meaning x → HasLineFault form s line x
 
 -- one line after another passes up to this stage, where none is left or the next has this fault
-abbrev pub Reading : LogForm → Stage → List (List ℕ) → Stage → Option LogFault → Type 0
-Reading form s [] t found = (t ≡ s) × (found ≡ None)
-Reading form s (l ∷ ls) t found = ((m : Stage) × Passes form s l m × Reading form m ls t found)
-    ⊎ ((t ≡ s) × ((x : LogFault) × (found ≡ Some x) × HasFault form s l x))
+abbrev pub PassesLines : LogForm → Stage → List (List ℕ) → Stage → Option LogFault → Type 0
+PassesLines form s [] t found = (t ≡ s) × (found ≡ None)
+PassesLines form s (l ∷ ls) t found = ((m : Stage) × Passes form s l m × PassesLines form m ls t found)
+    ⊎ ((t ≡ s) × ((x : LogFault) × (found ≡ Some x) × HasLineFault form s l x))
 
 -- one line after another passes up to this stage, and more may follow
 abbrev pub Reaches : LogForm → Stage → List (List ℕ) → Stage → Type 0
@@ -73,7 +73,7 @@ limited bytes t None = (if is_within bytes then None else Some (fault.LogLimit t
 pub record LogOf (form : LogForm) (goes_on : Bool) (bytes : List ℕ) (events : List LineEvent) (fault : Option LogFault) : Type 0 where
   pub stage : Stage
   pub found : Option LogFault
-  pub reads : Reading form first_stage (lines_of goes_on bytes) stage found
+  pub reads : PassesLines form first_stage (lines_of goes_on bytes) stage found
   pub events_are : events ≡ stage.events
   pub fault_is : fault ≡ limited bytes stage found
 

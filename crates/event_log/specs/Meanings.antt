@@ -60,8 +60,8 @@ SaysBy states is number (Event label) = (number ≡ 1 → Never states) × Only 
 SaysBy states is number NoEvent = (number ≡ 1 → Never states) × Never is
 
 -- what the line says, which has this number, in a log of this version
-abbrev pub Says : LogForm → Version → ℕ → List ℕ → Line → Type 0
-Says form version number line Blank = IsBlankLine form line
-Says form version number line (VersionLine stated) = (IsBlankLine form line → ⊥) × SaysBy (IsVersionLine form line) (IsEventLine form version line) number (VersionLine stated)
-Says form version number line (Event label) = (IsBlankLine form line → ⊥) × SaysBy (IsVersionLine form line) (IsEventLine form version line) number (Event label)
-Says form version number line NoEvent = (IsBlankLine form line → ⊥) × SaysBy (IsVersionLine form line) (IsEventLine form version line) number NoEvent
+abbrev pub LineSays : LogForm → Version → ℕ → List ℕ → Line → Type 0
+LineSays form version number line Blank = IsBlankLine form line
+LineSays form version number line (VersionLine stated) = (IsBlankLine form line → ⊥) × SaysBy (IsVersionLine form line) (IsEventLine form version line) number (VersionLine stated)
+LineSays form version number line (Event label) = (IsBlankLine form line → ⊥) × SaysBy (IsVersionLine form line) (IsEventLine form version line) number (Event label)
+LineSays form version number line NoEvent = (IsBlankLine form line → ⊥) × SaysBy (IsVersionLine form line) (IsEventLine form version line) number NoEvent

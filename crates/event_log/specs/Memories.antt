@@ -1,7 +1,7 @@
 -- Serves private contracts alone.
 -- What is remembered of lines.
 use Rattle.std.specs.Prelude.{◌<◌, ℕ, List, All, length, sum_by}
-use Rattle.event_log.specs.Meanings.{Says}
+use Rattle.event_log.specs.Meanings.{LineSays}
 use Rattle.event_log.specs.declared.event.LogForm.{LogForm}
 use Rattle.event_log.specs.declared.event.Version.{Version}
 use Rattle.event_log.specs.declared.line.Line.{Line}
@@ -9,7 +9,7 @@ use Rattle.event_log.specs.declared.line_memory.KnownLine.{KnownLine}
 
 -- what the line says wherever it stands behind the first
 abbrev pub SaysBehind : LogForm → Version → List ℕ → Line → Type 0
-SaysBehind form version line meaning = (number : ℕ) → 1 < number → Says form version number line meaning
+SaysBehind form version line meaning = (number : ℕ) → 1 < number → LineSays form version number line meaning
 
 -- each line, with what it says wherever it stands behind the first
 abbrev pub AreKnown : LogForm → Version → List KnownLine → Type 0

@@ -2,8 +2,8 @@
 use Rattle.std.specs.Prelude.{◌≡◌, ◌<◌, ◌≤◌, ◌+◌, ℕ, Bool, true, false, not, List, [], ◌∷◌, ◌++◌, length, Option, Some, None, Result, Ok, Err, ◌↔◌, slice_get}
 use Rattle.msc_base.specs.declared.limits.TheConstants.Limits.{LINE_BYTES, LOG_BYTES, LOG_EVENTS}
 use Rattle.event_log.specs.Lines.{cut_of, lines_of}
-use Rattle.event_log.specs.Logs.{Stage, first_stage, Reading, Reaches, LogOf, HoldsEvent}
-use Rattle.event_log.specs.Meanings.{Says}
+use Rattle.event_log.specs.Logs.{Stage, first_stage, PassesLines, Reaches, LogOf, HoldsEvent}
+use Rattle.event_log.specs.Meanings.{LineSays}
 use Rattle.line_events.specs.declared.event.LineEvent.{LineEvent}
 use Rattle.event_log.specs.declared.event.LogFault.{LogFault}
 use Rattle.event_log.specs.declared.event.LogFault.TheVariants as fault
@@ -76,12 +76,12 @@ Refuses s NoEvent x = x ≡ fault.Syntax s.number
 -- the state takes its line, or refuses it
 pub record TakesLine (s t : LogState) : Type 0 where
   pub meaning : Line
-  pub says : Says s.form s.version s.number s.line meaning
+  pub says : LineSays s.form s.version s.number s.line meaning
   pub takes : Takes s meaning t
 
 pub record RefusesLine (s : LogState) (x : LogFault) : Type 0 where
   pub meaning : Line
-  pub says : Says s.form s.version s.number s.line meaning
+  pub says : LineSays s.form s.version s.number s.line meaning
   pub refuses : Refuses s meaning x
 
 -- the state takes bytes of its line, or they make it too long
@@ -105,7 +105,7 @@ whole s line = record s { line = line; count = s.count + length line + 1 }
 pub record IsGoing (form : LogForm) (bytes : List ℕ) (n : ℕ) (s : LogState) : Type 0 where
   pub form_is : s.form ≡ form
   pub stage : Stage
-  pub reads : Reading form first_stage (cut_of bytes).ended stage None
+  pub reads : PassesLines form first_stage (cut_of bytes).ended stage None
   pub stands : StandsAt stage n s
   pub line_is : s.line ≡ (cut_of bytes).tail
   pub short : length s.line ≤ LINE_BYTES

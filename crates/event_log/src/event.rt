@@ -1,7 +1,7 @@
 //! Form and version of a log, and its faults: what msc_cmd and chart_judge see of logs beside its events.
 
 ghost use Rattle.std.specs.Prelude.{◌≡◌};
-ghost use Rattle.event_log.specs.Faults.{IsFault, fault_text};
+ghost use Rattle.event_log.specs.Faults.{IsLogFault, fault_text};
 ghost use Rattle.event_log.specs.declared.event.LogFault.TheVariants.{NoMemory};
 
 use msc_base::NoMemory;
@@ -50,7 +50,7 @@ impl From<NoMemory> for LogFault {
 impl LogFault {
     /// The fault in words. The fault isn't want of memory.
     pub fn text(&self) -> &str
-        requires { IsFault self.now }
+        requires { IsLogFault self.now }
         ensures { result.now ≡ fault_text self.now }
     {
         match self {

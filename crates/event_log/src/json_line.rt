@@ -6,7 +6,7 @@ ghost use Rattle.std.specs.BTreeMap.{keys};
 ghost use Rattle.serde_json.specs.View.{view};
 ghost use Rattle.serde_json.specs.Find.{get};
 ghost use Rattle.serde_json.specs.Read.{read};
-ghost use Rattle.event_log.specs.Meanings.{IsBlankByte, SaysBy, Says};
+ghost use Rattle.event_log.specs.Meanings.{IsBlankByte, SaysBy, LineSays};
 ghost use Rattle.msc_base.specs.Only.{Never, Only};
 ghost use Rattle.event_log.specs.Objects.{IsVersionObject, IsEventObject, HasMembers, is_version_member, is_event_member, text_at, text_or_none, version_of_number};
 ghost use Rattle.event_log.specs.declared.event.LogForm.TheVariants.{Json};
@@ -191,7 +191,7 @@ pub fn read_json_line(
     number: u64,
     bytes: &[u8],
 ) -> Result<Line, NoMemory>
-    ensures { IfOk result (λ line. Says Json version number bytes.now line) }
+    ensures { IfOk result (λ line. LineSays Json version number bytes.now line) }
 {
     if is_blank(bytes) {
         return Ok(Line::Blank);

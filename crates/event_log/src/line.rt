@@ -1,7 +1,7 @@
 //! What a line says, in either form: for `reader`, which counts lines.
 
 ghost use Rattle.std.specs.Prelude.{◌≡◌, ◌<◌, ◌≤◌, ◌^◌, ◌↔◌, IfOk, length};
-ghost use Rattle.event_log.specs.Meanings.{Says};
+ghost use Rattle.event_log.specs.Meanings.{LineSays};
 
 use crate::json_line::read_json_line;
 use crate::text_line::read_text_line;
@@ -45,7 +45,7 @@ pub fn read_line(
     bytes: &[u8],
 ) -> Result<Line, NoMemory>
     requires { length bytes.now < 2 ^ 63 }
-    ensures { IfOk result (λ line. Says form version number bytes.now line) }
+    ensures { IfOk result (λ line. LineSays form version number bytes.now line) }
 {
     match form {
         LogForm::Lines => read_text_line(alloc, version, number, bytes),

@@ -1,7 +1,7 @@
 //! Reads lines, and remembers what they say: for `reader`. A line that is known costs one look-up.
 
 ghost use Rattle.std.specs.Prelude.{◌≡◌, ◌<◌, ◌≤◌, ◌+◌, ◌^◌, IfOk, IfSome, IsTrue, length};
-ghost use Rattle.event_log.specs.Meanings.{Says};
+ghost use Rattle.event_log.specs.Meanings.{LineSays};
 ghost use Rattle.event_log.specs.Memories.{SaysBehind, AreKnown, line_bytes};
 ghost use Rattle.event_log.specs.declared.event.Version.TheVariants.{First};
 ghost use Rattle.event_log.specs.declared.line_memory.TheConstants.LineMemory.{LINES, BYTES};
@@ -158,7 +158,7 @@ impl LineMemory {
     /// What the line of this number says.
     pub fn read(&mut self, alloc: Global, number: u64, bytes: &[u8]) -> Result<Line, NoMemory>
         requires { length bytes.now < 2 ^ 63 }
-        ensures says { IfOk result (λ line. Says self.old.form self.old.version number bytes.now line) }
+        ensures says { IfOk result (λ line. LineSays self.old.form self.old.version number bytes.now line) }
         ensures same { self.new ≡ self.old }
     {
         if !self.looks_up(number) {

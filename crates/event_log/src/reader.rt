@@ -1,7 +1,7 @@
 //! The reader of a log in pieces: cuts it into lines and hands out events. chart_judge feeds it.
 
 ghost use Rattle.std.specs.Prelude.{◌≡◌, ◌<◌, ◌≤◌, ◌+◌, ◌++◌, ◌∷◌, [], ℕ, List, true, false, not, length, All, ◌≢◌, take, slice_index, IfOk, IfErr, OnOk, OnErr, IfSome, MatchOption, ◌↔◌, Option, Some, None, Ok, Err, option_to_list};
-ghost use Rattle.event_log.specs.Faults.{IsFault};
+ghost use Rattle.event_log.specs.Faults.{IsLogFault};
 ghost use Rattle.event_log.specs.Logs.{HoldsEvent};
 ghost use Rattle.msc_base.specs.Only.{Never, Only};
 ghost use Rattle.event_log.specs.States.{LogState, IsGoing, HoldsAt, Fed, IsAnswer, fault_in, Takes, Refuses, TakesLine, RefusesLine, Grows, IsTooLong, counted, whole, next_line};
@@ -123,7 +123,7 @@ impl LogReader {
         requires { self.old.number ≤ self.old.count }
         ensures ok { OnOk result (Takes self.old (Line.Event label) self.new) }
         ensures err { OnErr result (self.new ≡ self.old) }
-        ensures fault { IfErr result (λ fault. IsFault fault → Refuses self.old (Line.Event label) fault) }
+        ensures fault { IfErr result (λ fault. IsLogFault fault → Refuses self.old (Line.Event label) fault) }
     {
         if self.read >= Limits::LOG_EVENTS {
             return Err(LogFault::LogLimit(self.number));
@@ -144,7 +144,7 @@ impl LogReader {
         requires { self.old.number ≤ self.old.count }
         ensures ok { OnOk result (Takes self.old line self.new) }
         ensures err { OnErr result (self.new ≡ self.old) }
-        ensures fault { IfErr result (λ fault. IsFault fault → Refuses self.old line fault) }
+        ensures fault { IfErr result (λ fault. IsLogFault fault → Refuses self.old line fault) }
     {
         match line {
             Line::Blank => {
@@ -167,7 +167,7 @@ impl LogReader {
         requires { self.old.number ≤ self.old.count }
         ensures ok { OnOk result (TakesLine self.old self.new) }
         ensures err { OnErr result (self.new ≡ self.old) }
-        ensures fault { IfErr result (λ fault. IsFault fault → RefusesLine self.old fault) }
+        ensures fault { IfErr result (λ fault. IsLogFault fault → RefusesLine self.old fault) }
     {
         let bytes = self.line.as_slice();
         let line = self.memory.read(self.alloc, self.number, bytes)?;
@@ -179,7 +179,7 @@ impl LogReader {
         requires { self.old.count + length prefix.now ≤ LOG_BYTES }
         ensures ok { OnOk result (Grows self.old prefix.now self.new) }
         ensures err { OnErr result (self.new ≡ self.old) }
-        ensures fault { IfErr result (λ fault. IsFault fault → IsTooLong self.old prefix.now fault) }
+        ensures fault { IfErr result (λ fault. IsLogFault fault → IsTooLong self.old prefix.now fault) }
     {
         let room = Limits::LINE_BYTES as usize - self.line.len();
         if prefix.len() > room {
@@ -195,7 +195,7 @@ impl LogReader {
         requires { self.old.count < LOG_BYTES }
         ensures ok { OnOk result (TakesLine (counted self.old) self.new) }
         ensures err { OnErr result (self.new ≡ counted self.old) }
-        ensures fault { IfErr result (λ fault. IsFault fault → RefusesLine (counted self.old) fault) }
+        ensures fault { IfErr result (λ fault. IsLogFault fault → RefusesLine (counted self.old) fault) }
     {
         self.count += 1;
         self.read_pending()
@@ -209,7 +209,7 @@ impl LogReader {
         requires short { length line.now ≤ LINE_BYTES }
         ensures ok { OnOk result (TakesLine (whole self.old line.now) self.new) }
         ensures err { OnErr result (self.new ≡ record self.old { count = self.old.count + length line.now + 1 }) }
-        ensures fault { IfErr result (λ fault. IsFault fault → RefusesLine (whole self.old line.now) fault) }
+        ensures fault { IfErr result (λ fault. IsLogFault fault → RefusesLine (whole self.old line.now) fault) }
     {
         self.count += line.len() as u64 + 1;
         let line = self.memory.read(self.alloc, self.number, line)?;

@@ -3,7 +3,7 @@
 ghost use Rattle.std.specs.Prelude.{◌≡◌, ◌<◌, ◌≤◌, ◌^◌, ◌↔◌, ◌∷◌, [], IfOk, MatchOption, IsTrue, length, All, ℕ};
 ghost use Rattle.msc_tokens.specs.Spelling.{Spells};
 ghost use Rattle.token_grammar.specs.Languages.{texts};
-ghost use Rattle.event_log.specs.Meanings.{IsDigit, Says, version_of, StatesVersion, IsEventOf, SaysBy};
+ghost use Rattle.event_log.specs.Meanings.{IsDigit, LineSays, version_of, StatesVersion, IsEventOf, SaysBy};
 ghost use Rattle.msc_base.specs.Only.{Never, Only};
 ghost use Rattle.event_log.specs.Objects.{IsAllowed};
 ghost use Rattle.event_log.specs.declared.event.LogForm.TheVariants.{Lines};
@@ -134,7 +134,7 @@ pub fn read_text_line(
     bytes: &[u8],
 ) -> Result<Line, NoMemory>
     requires { length bytes.now < 2 ^ 63 }
-    ensures { IfOk result (λ line. Says Lines version number bytes.now line) }
+    ensures { IfOk result (λ line. LineSays Lines version number bytes.now line) }
 {
     let Some(tokens) = tokens_of(alloc, bytes)? else {
         return Ok(Line::NoEvent);

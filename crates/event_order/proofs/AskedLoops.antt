@@ -1,7 +1,7 @@
 -- Items and operands asked one by one for cyclic loops.
 use Rattle.std.proofs.Common.{◌≡◌, ◌<◌, ◌+◌, inl, inr, ℕ, zero, suc, List, [], ◌∷◌, ◌++◌, get_or, length, take, map, sym, subst, ap, ◌∙◌, arith}
 use Rattle.std.proofs.lemmas.List.{map-append, take_more}
-use Rattle.msc_meaning.specs.Bodies.{Body, Item, items, bodies}
+use Rattle.msc_meaning.specs.Bodies.{Body, WovenItem, items, bodies}
 use Rattle.msc_meaning.specs.Views.{body_view, item_view}
 use Rattle.msc_meaning.specs.declared.body.Body as rust_body
 use Rattle.msc_meaning.specs.declared.body.Item as rust_item
@@ -28,7 +28,7 @@ within_cyclic (c ∷ bs) (suc i) b low is h = inr (within_cyclic bs i b (omega (
 
 -- ---- one more
 
-items_both : (xs : List Item) (x : Item) → HaveRankedLoops (items xs) → HasRankedLoops x → HaveRankedLoops (items (xs ++ x ∷ []))
+items_both : (xs : List WovenItem) (x : WovenItem) → HaveRankedLoops (items xs) → HasRankedLoops x → HaveRankedLoops (items (xs ++ x ∷ []))
 items_both [] x h one = (one, tt)
 items_both (y ∷ xs) x h one = (h.0, items_both xs x h.1 one)
 
@@ -47,7 +47,7 @@ more_bodies : (bs : List rust_body.Body) (i : ℕ) (b : rust_body.Body) → i < 
 more_bodies bs i b low is = ap (map body_view) (take_more bs i b low ∙ ap (λ (y : rust_body.Body). take i bs ++ y ∷ []) (sym is)) ∙ map-append body_view (take i bs) (b ∷ [])
 
 pub items_ranked_step : (xs : List rust_item.Item) (i : ℕ) (x : rust_item.Item) → i < length xs → x ≡ get_or xs i x → HaveRankedLoops (items_view (take i xs)) → HasRankedLoops (item_view x) → HaveRankedLoops (items_view (take (i + 1) xs))
-items_ranked_step xs i x low is h one = subst (λ (l : List Item). HaveRankedLoops (items l)) (sym (more_items xs i x low is)) (items_both (map item_view (take i xs)) (item_view x) h one)
+items_ranked_step xs i x low is h one = subst (λ (l : List WovenItem). HaveRankedLoops (items l)) (sym (more_items xs i x low is)) (items_both (map item_view (take i xs)) (item_view x) h one)
 
 pub operands_ranked_step : (bs : List rust_body.Body) (i : ℕ) (b : rust_body.Body) → i < length bs → b ≡ get_or bs i b → CanEachBeRanked (bodies_view (take i bs)) → CanBeRanked (body_view b) → CanEachBeRanked (bodies_view (take (i + 1) bs))
 operands_ranked_step bs i b low is h one = subst (λ (l : List Body). CanEachBeRanked (bodies l)) (sym (more_bodies bs i b low is)) (operands_both (map body_view (take i bs)) (body_view b) h one)

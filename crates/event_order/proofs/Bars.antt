@@ -2,8 +2,8 @@
 use Rattle.std.proofs.Common.{◌≡◌, ◌<◌, ◌+◌, ◌⊎◌, inl, inr, ℕ, List, [], ◌∷◌, ◌++◌, Option, Some, None, get_or, length, take, refl, sym, subst, ap, ◌∙◌}
 use Rattle.std.proofs.lemmas.List.{take_more}
 use Rattle.std.proofs.lemmas.Option.{same_Some}
-use Rattle.item_order.specs.Counts.{Leads}
-use Rattle.item_order.specs.declared.edge.Edge.{Edge}
+use Rattle.column_order.specs.Counts.{EdgeLeads}
+use Rattle.column_order.specs.declared.edge.Edge.{Edge}
 use Rattle.event_order.specs.Webs.{AreEntered, HasStop}
 use Rattle.event_order.specs.declared.web.Stop.{Stop}
 use Rattle.event_order.specs.declared.web.Web.{Web}
@@ -58,9 +58,9 @@ entered_more old now last ss s bar pushed at is h = record {
     | inr r ↦
         let here : last s.column ≡ Some b = subst (λ (i : ℕ). last i ≡ Some b) (sym r.0) e in
         let same : bar ≡ b = same_Some bar b (sym at ∙ here) in
-        subst (λ (i : ℕ). Leads pushed i v) same (subst (λ (i : ℕ). Leads pushed bar i) r.1 (subst (λ (l : List Edge). Leads l bar s.number) (sym is) (leads_last now.behind edge)))
+        subst (λ (i : ℕ). EdgeLeads pushed i v) same (subst (λ (i : ℕ). EdgeLeads pushed bar i) r.1 (subst (λ (l : List Edge). EdgeLeads l bar s.number) (sym is) (leads_last now.behind edge)))
   ];
-  only = λ b v x. elim (leads_snoc now.behind edge b v (subst (λ (l : List Edge). Leads l b v) is x)) [
+  only = λ b v x. elim (leads_snoc now.behind edge b v (subst (λ (l : List Edge). EdgeLeads l b v) is x)) [
     | inl o ↦ elim (h.only b v o) [ inl p ↦ inl p | inr r ↦ inr (r.0, stop_left ss (s ∷ []) r.0 v r.1, r.2) ]
     | inr r ↦ inr (s.column, subst (λ (i : ℕ). HasStop (ss ++ s ∷ []) s.column i) r.1 (stop_last ss s), at ∙ ap (λ (i : ℕ). Some i) r.0)
   ];
@@ -69,8 +69,8 @@ entered_more old now last ss s bar pushed at is h = record {
     edge : Edge
     edge = record { from = bar; to = s.number }
 
-    kept : (b v : ℕ) → Leads now.behind b v → Leads pushed b v
-    kept b v x = subst (λ (l : List Edge). Leads l b v) (sym is) (leads_left now.behind (edge ∷ []) b v x)
+    kept : (b v : ℕ) → EdgeLeads now.behind b v → EdgeLeads pushed b v
+    kept b v x = subst (λ (l : List Edge). EdgeLeads l b v) (sym is) (leads_left now.behind (edge ∷ []) b v x)
 
 pub entered_past_step : (old now : Web) (last : ℕ → Option ℕ) (all : List Stop) (i : ℕ) (d : Stop) → i < length all → last (get_or all i d).column ≡ None → AreEntered old now last (take i all) → AreEntered old now last (take (i + 1) all)
 entered_past_step old now last all i d low none h = subst (AreEntered old now last) (sym (take_more all i d low)) (entered_past old now last (take i all) (get_or all i d) none h)

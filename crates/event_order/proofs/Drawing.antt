@@ -3,8 +3,8 @@ use Rattle.std.proofs.Common.{◌≡◌, ◌<◌, ◌+◌, ◌⊎◌, inl, inr, 
 use Rattle.std.proofs.lemmas.List.{take_more, map-append}
 use Rattle.msc_meaning.specs.Views.{node_view}
 use Rattle.msc_meaning.specs.declared.body.EventNode as rust_event
-use Rattle.item_order.specs.Counts.{Leads}
-use Rattle.item_order.specs.declared.edge.Edge.{Edge}
+use Rattle.column_order.specs.Counts.{EdgeLeads}
+use Rattle.column_order.specs.declared.edge.Edge.{Edge}
 use Rattle.msc_base.specs.declared.label.Pair.{Pair}
 use Rattle.msc_meaning.specs.Bodies.{EventNode}
 use Rattle.msc_meaning.specs.Pairing.{HasPair}
@@ -14,16 +14,16 @@ use Rattle.event_order.specs.declared.web.Web.{Web}
 
 -- ---- edges
 
-pub leads_left : (es fs : List Edge) (y x : ℕ) → Leads es y x → Leads (es ++ fs) y x
+pub leads_left : (es fs : List Edge) (y x : ℕ) → EdgeLeads es y x → EdgeLeads (es ++ fs) y x
 leads_left [] fs y x h = absurd h
 leads_left (e ∷ es) fs y x (inl h) = inl h
 leads_left (e ∷ es) fs y x (inr h) = inr (leads_left es fs y x h)
 
-pub leads_last : (es : List Edge) (e : Edge) → Leads (es ++ e ∷ []) e.from e.to
+pub leads_last : (es : List Edge) (e : Edge) → EdgeLeads (es ++ e ∷ []) e.from e.to
 leads_last [] e = inl (refl, refl)
 leads_last (d ∷ es) e = inr (leads_last es e)
 
-pub leads_snoc : (es : List Edge) (e : Edge) (y x : ℕ) → Leads (es ++ e ∷ []) y x → Leads es y x ⊎ ((e.from ≡ y) × (e.to ≡ x))
+pub leads_snoc : (es : List Edge) (e : Edge) (y x : ℕ) → EdgeLeads (es ++ e ∷ []) y x → EdgeLeads es y x ⊎ ((e.from ≡ y) × (e.to ≡ x))
 leads_snoc [] e y x (inl h) = inr h
 leads_snoc [] e y x (inr h) = absurd h
 leads_snoc (d ∷ es) e y x (inl h) = inl (inl h)

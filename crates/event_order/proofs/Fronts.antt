@@ -1,12 +1,12 @@
 -- What stands in front of an item, and what the item adds to it.
 use Rattle.std.proofs.Common.{◌≡◌, ◌<◌, ◌⊎◌, inl, inr, ℕ, List, [], ◌∷◌, ◌++◌, Option, Some, slice_get, refl, sym, subst, ap, ◌∙◌, arith}
 use Rattle.std.proofs.lemmas.Option.{same_Some}
-use Rattle.item_order.specs.Counts.{Leads}
-use Rattle.item_order.specs.declared.edge.Edge.{Edge}
+use Rattle.column_order.specs.Counts.{EdgeLeads}
+use Rattle.column_order.specs.declared.edge.Edge.{Edge}
 use Rattle.msc_base.specs.Lists.{AreDifferent}
 use Rattle.msc_base.specs.Orders.{Among, first, later}
 use Rattle.msc_meaning.specs.Bodies.{EventNode}
-use Rattle.event_order.specs.Precedence.{ComesFirst}
+use Rattle.event_order.specs.Precedence.{EventsOrder}
 use Rattle.event_order.specs.Webs.{AreDrawn, AreEntered, AreLeft, AreStops, Grows, HasStop, IsFront, IsTidy, Nothing}
 use Rattle.event_order.specs.declared.web.Stop.{Stop}
 use Rattle.event_order.specs.declared.web.Web.{Web}
@@ -65,23 +65,23 @@ module _ (old new : Web) (last : ℕ → Option ℕ) (stops : List Stop) (front 
   entered_grows = record {
     names = λ k at x. subst (λ (l : List (List ℕ)). slice_get l k ≡ Some at) (sym h.names) x;
     bars = let e = h.bars in omega (arith, e);
-    pairs = λ u v x. subst (λ (l : List Edge). Leads l u v) (sym h.pairs) x;
-    before = λ u b x. subst (λ (l : List Edge). Leads l u b) (sym h.before) x;
+    pairs = λ u v x. subst (λ (l : List Edge). EdgeLeads l u v) (sym h.pairs) x;
+    before = λ u b x. subst (λ (l : List Edge). EdgeLeads l u b) (sym h.before) x;
     behind = h.kept;
-    same = λ u b x lt. subst (λ (l : List Edge). Leads l u b) h.before x;
+    same = λ u b x lt. subst (λ (l : List Edge). EdgeLeads l u b) h.before x;
   }
 
   entered_tidy : IsTidy new
   entered_tidy = record {
     different = subst AreDifferent (sym h.names) tidy.different;
-    before = λ u b x. let l = tidy.before u b (subst (λ (l : List Edge). Leads l u b) h.before x) in let e = h.bars in omega (arith, l, e);
+    before = λ u b x. let l = tidy.before u b (subst (λ (l : List Edge). EdgeLeads l u b) h.before x) in let e = h.bars in omega (arith, l, e);
     behind = λ b v x. elim (h.only b v x) [
       | inl o ↦ let l = tidy.behind b v o in let e = h.bars in omega (arith, l, e)
       | inr r ↦ let l = stands.low r.0 b r.2 in let e = h.bars in omega (arith, l, e)
     ];
   }
 
-  pub entered_drawn : AreDrawn (ComesFirst front fs) [] old new []
+  pub entered_drawn : AreDrawn (EventsOrder front fs) [] old new []
   entered_drawn = record {
     tidy = entered_tidy;
     grown = entered_grows;
@@ -97,9 +97,9 @@ module _ (old new : Web) (last : ℕ → Option ℕ) (stops : List Stop) (front 
         let both : rank c.earlier.number < rank c.later.number = omega (arith, low, high) in
         subst (λ (i : ℕ). rank i < rank v) c.first (subst (λ (i : ℕ). rank c.earlier.number < rank i) c.second both);
     asked = λ u v d. elim d [
-      | inl p ↦ inl (inl (subst (λ (l : List Edge). Leads l u v) h.pairs p))
+      | inl p ↦ inl (inl (subst (λ (l : List Edge). EdgeLeads l u v) h.pairs p))
       | inr p ↦
-          let before : Leads old.before u p.bar = subst (λ (l : List Edge). Leads l u p.bar) h.before p.before in
+          let before : EdgeLeads old.before u p.bar = subst (λ (l : List Edge). EdgeLeads l u p.bar) h.before p.before in
           elim (h.only p.bar v p.behind) [
             | inl o ↦ inl (inr (record { bar = p.bar; before = before; behind = o }))
             | inr r ↦
@@ -117,21 +117,21 @@ module _ (old new : Web) (last : ℕ → Option ℕ) (stops : List Stop) (front 
         let f = stands.rises rank bar (rises_before rank bar old new entered_grows r) e a in
         (f.0, f.1, subst (λ (l : List (List ℕ)). slice_get l f.0 ≡ Some e.at) (sym h.names) f.2, f.3, f.4);
     only = λ k b u x l.
-        let f = stands.only k b u x (subst (λ (l : List Edge). Leads l u b) h.before l) in
+        let f = stands.only k b u x (subst (λ (l : List Edge). EdgeLeads l u b) h.before l) in
         (f.0, f.1, subst (λ (l : List (List ℕ)). slice_get l k ≡ Some f.0.at) (sym h.names) f.2, f.3);
   }
 
 -- ---- an item before new bars
 
 module _ (old new : Web) (was last : ℕ → Option ℕ) (stops : List Stop) (front fs : List EventNode) (tidy : IsTidy old) (stands : IsFront old was front) (are : AreStops old.names stops fs)
-    (entered : (k b v : ℕ) → HasStop stops k v → was k ≡ Some b → Leads old.behind b v) (h : AreLeft old new was last stops) where
+    (entered : (k b v : ℕ) → HasStop stops k v → was k ≡ Some b → EdgeLeads old.behind b v) (h : AreLeft old new was last stops) where
   left_grows : Grows old new
   left_grows = record {
     names = λ k at x. subst (λ (l : List (List ℕ)). slice_get l k ≡ Some at) (sym h.names) x;
     bars = h.bars;
-    pairs = λ u v x. subst (λ (l : List Edge). Leads l u v) (sym h.pairs) x;
+    pairs = λ u v x. subst (λ (l : List Edge). EdgeLeads l u v) (sym h.pairs) x;
     before = h.kept;
-    behind = λ b v x. subst (λ (l : List Edge). Leads l b v) (sym h.behind) x;
+    behind = λ b v x. subst (λ (l : List Edge). EdgeLeads l b v) (sym h.behind) x;
     same = λ u b x lt. elim (h.only u b x) [ inl o ↦ o | inr r ↦ let g = r.3 in absurd (omega (arith, g, lt)) ];
   }
 
@@ -142,7 +142,7 @@ module _ (old new : Web) (was last : ℕ → Option ℕ) (stops : List Stop) (fr
   left_tidy = record {
     different = subst AreDifferent (sym h.names) tidy.different;
     before = λ u b x. elim (h.only u b x) [ inl o ↦ let l = tidy.before u b o in let e = h.bars in omega (arith, l, e) | inr r ↦ last_low r.0 b r.2 ];
-    behind = λ b v x. let l = tidy.behind b v (subst (λ (l : List Edge). Leads l b v) h.behind x) in let e = h.bars in omega (arith, l, e);
+    behind = λ b v x. let l = tidy.behind b v (subst (λ (l : List Edge). EdgeLeads l b v) h.behind x) in let e = h.bars in omega (arith, l, e);
   }
 
   pub left_drawn : AreDrawn Nothing [] old new []
@@ -152,9 +152,9 @@ module _ (old new : Web) (was last : ℕ → Option ℕ) (stops : List Stop) (fr
     handed = tt;
     rises = λ rank bar r u v x. absurd x;
     asked = λ u v d. elim d [
-      | inl p ↦ inl (inl (subst (λ (l : List Edge). Leads l u v) h.pairs p))
+      | inl p ↦ inl (inl (subst (λ (l : List Edge). EdgeLeads l u v) h.pairs p))
       | inr p ↦
-          let behind : Leads old.behind p.bar v = subst (λ (l : List Edge). Leads l p.bar v) h.behind p.behind in
+          let behind : EdgeLeads old.behind p.bar v = subst (λ (l : List Edge). EdgeLeads l p.bar v) h.behind p.behind in
           inl (inr (record { bar = p.bar; before = left_grows.same u p.bar p.before (tidy.behind p.bar v behind); behind = behind }))
     ];
   }
@@ -170,7 +170,7 @@ module _ (old new : Web) (was last : ℕ → Option ℕ) (stops : List Stop) (fr
             | inl s ↦ (f.0, f.1, named, s, f.4)
             | inr s ↦
                 let d = h.drawn f.0 s.0 s.1 in
-                let above : bar f.1 < rank s.0 = r.behind f.1 s.0 (subst (λ (l : List Edge). Leads l f.1 s.0) (sym h.behind) (entered f.0 f.1 s.0 s.1 f.3)) in
+                let above : bar f.1 < rank s.0 = r.behind f.1 s.0 (subst (λ (l : List Edge). EdgeLeads l f.1 s.0) (sym h.behind) (entered f.0 f.1 s.0 s.1 f.3)) in
                 let under : rank s.0 < bar d.0 = r.before s.0 d.0 d.3 in
                 let here : rank e.number < bar f.1 = f.4 in
                 (f.0, d.0, named, d.1, omega (arith, above, under, here))

@@ -4,7 +4,7 @@ use Rattle.std.proofs.lemmas.List.{drop_more}
 use Rattle.std.proofs.lemmas.List.Elements.{All-head, All-tail}
 use Rattle.msc_base.specs.Orders.{Among, first, later}
 use Rattle.msc_base.specs.declared.label.Pair.{Pair}
-use Rattle.msc_meaning.specs.Bodies.{EventNode, Body, level, Items, no_items, item_and, Item, Single, Coregion, Inline, Refer, InlinePart, ReferencePart, Bodies, no_bodies, body_and, events, item_events}
+use Rattle.msc_meaning.specs.Bodies.{EventNode, Body, level, WovenItems, no_items, item_and, WovenItem, Single, Coregion, Inline, Refer, InlinePart, ReferencePart, Bodies, no_bodies, body_and, events, item_events}
 use Rattle.msc_meaning.specs.Ties.{labelled, order_pairs}
 use Rattle.msc_meaning.specs.Views.{body_view, item_view, node_view}
 use Rattle.msc_meaning.specs.declared.body.Body as rust_body
@@ -65,7 +65,7 @@ events_more start mid end ns i j n low is next one rest =
 pub no_more_items : (end : ℕ) → AreItemsInOrder end end no_items
 no_more_items end = record { fits = omega arith; within = no_events end end; free = none_free; ranked = tt }
 
-both_items : (start mid end : ℕ) (x : Item) (xs : Items) → IsItemInOrder start mid x → AreItemsInOrder mid end xs → AreItemsInOrder start end (item_and x xs)
+both_items : (start mid end : ℕ) (x : WovenItem) (xs : WovenItems) → IsItemInOrder start mid x → AreItemsInOrder mid end xs → AreItemsInOrder start end (item_and x xs)
 both_items start mid end x xs one rest = record {
   fits = let a = one.fits in let b = rest.fits in omega (arith, a, b);
   within = within_both start mid end (item_counted x) (items_counted xs) one.fits rest.fits one.within rest.within;
@@ -124,7 +124,7 @@ no_order named (n ∷ ns) free =
     let own = free n first in
     rw (own.0, own.1) (no_order named ns (λ e a. free e (later a)))
 
-pub body_in_order : (start end : ℕ) (cover : List (List ℕ)) (held : Items) (pairs : List Pair) → All (λ (p : Pair). p.first < p.second) pairs → AreItemsInOrder start end held → IsBodyInOrder start end (level cover held pairs)
+pub body_in_order : (start end : ℕ) (cover : List (List ℕ)) (held : WovenItems) (pairs : List Pair) → All (λ (p : Pair). p.first < p.second) pairs → AreItemsInOrder start end held → IsBodyInOrder start end (level cover held pairs)
 body_in_order start end cover held pairs rise h = record {
   fits = h.fits;
   within = h.within;

@@ -3,8 +3,8 @@ use Rattle.std.proofs.Common.{◌≡◌, ◌<◌, ◌≤◌, ◌+◌, inl, inr, 
 use Rattle.std.proofs.lemmas.Bool.{cases_eq}
 use Rattle.std.proofs.lemmas.List.{take_more}
 use Rattle.std.proofs.lemmas.Option.{same_Some}
-use Rattle.item_order.specs.Counts.{Leads}
-use Rattle.item_order.specs.declared.edge.Edge.{Edge}
+use Rattle.column_order.specs.Counts.{EdgeLeads}
+use Rattle.column_order.specs.declared.edge.Edge.{Edge}
 use Rattle.event_order.specs.Webs.{AreLeft, HasStop, IsBarAt}
 use Rattle.event_order.specs.declared.web.Stop.{Stop}
 use Rattle.event_order.specs.declared.web.Web.{Web}
@@ -52,8 +52,8 @@ module _ (old now next : Web) (was mid last : ℕ → Option ℕ) (ss : List Sto
       ]
 
   module _ (pushed : List Edge) (is : pushed ≡ next.before ++ edge ∷ []) where
-    kept_before : (u b : ℕ) → Leads now.before u b → Leads pushed u b
-    kept_before u b x = subst (λ (l : List Edge). Leads l u b) (sym is) (leads_left next.before (edge ∷ []) u b (subst (λ (l : List Edge). Leads l u b) (sym at.before) x))
+    kept_before : (u b : ℕ) → EdgeLeads now.before u b → EdgeLeads pushed u b
+    kept_before u b x = subst (λ (l : List Edge). EdgeLeads l u b) (sym is) (leads_left next.before (edge ∷ []) u b (subst (λ (l : List Edge). EdgeLeads l u b) (sym at.before) x))
 
     pub left_more : AreLeft old (record next { before = pushed }) was last (ss ++ s ∷ [])
     left_more = record {
@@ -68,11 +68,11 @@ module _ (old now next : Web) (was mid last : ℕ → Option ℕ) (ss : List Sto
           bar,
           subst (λ (i : ℕ). last i ≡ Some bar) r.0 at.here,
           bar_is_new,
-          subst (λ (i : ℕ). Leads pushed i bar) r.1 (subst (λ (l : List Edge). Leads l s.number bar) (sym is) (leads_last next.before edge)),
+          subst (λ (i : ℕ). EdgeLeads pushed i bar) r.1 (subst (λ (l : List Edge). EdgeLeads l s.number bar) (sym is) (leads_last next.before edge)),
         )
       ];
-      only = λ u b x. elim (leads_snoc next.before edge u b (subst (λ (l : List Edge). Leads l u b) is x)) [
-        | inl o ↦ elim (h.only u b (subst (λ (l : List Edge). Leads l u b) at.before o)) [
+      only = λ u b x. elim (leads_snoc next.before edge u b (subst (λ (l : List Edge). EdgeLeads l u b) is x)) [
+        | inl o ↦ elim (h.only u b (subst (λ (l : List Edge). EdgeLeads l u b) at.before o)) [
           | inl p ↦ inl p
           | inr r ↦ inr (r.0, stop_left ss (s ∷ []) r.0 u r.1, stays r.0 b r.2 r.3, r.3)
         ]

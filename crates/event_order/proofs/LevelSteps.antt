@@ -3,7 +3,7 @@ use Rattle.std.proofs.Common.{◌≡◌, ◌<◌, ◌+◌, inl, inr, ℕ, Bool, 
 use Rattle.std.proofs.lemmas.List.{append-nil, map-append, take_more}
 use Rattle.std.proofs.lemmas.Option.{same_Some, slice_get_read}
 use Rattle.msc_base.specs.declared.label.Pair.{Pair}
-use Rattle.msc_meaning.specs.Bodies.{EventNode, Body, Item, items, bodies}
+use Rattle.msc_meaning.specs.Bodies.{EventNode, Body, WovenItem, items, bodies}
 use Rattle.msc_meaning.specs.Bodies as body
 use Rattle.msc_meaning.specs.Pairing.{HasPair}
 use Rattle.msc_meaning.specs.Ties.{level_pairs}
@@ -11,7 +11,7 @@ use Rattle.msc_meaning.specs.Views.{body_view, item_view}
 use Rattle.msc_meaning.specs.declared.body.Body as rust_body
 use Rattle.msc_meaning.specs.declared.body.Item as rust_item
 use Rattle.general_ordering.specs.ItemViews.{bodies_view, items_view}
-use Rattle.event_order.specs.Precedence.{ComesFirst, Precedes, PrecedesIn, PrecedesInOne, PrecedesWithin}
+use Rattle.event_order.specs.Precedence.{EventsOrder, Precedes, PrecedesIn, PrecedesInOne, PrecedesWithin}
 use Rattle.event_order.specs.RankedBodies.{counted_within, is_exception, item_counted, items_counted, operands_counted}
 use Rattle.event_order.specs.Webs.{AreDrawn, AreEntered, AreLeft, Grows, IsFront, IsPut, IsTidy, Nothing, OneOf, line, with_item}
 use Rattle.event_order.specs.declared.web.Stop.{Stop}
@@ -34,8 +34,8 @@ put_left old mid new was last stays stops tidy low h left is = record {
   low = λ k b x. elim (left.come k b x) [ inl w ↦ let l = low k b w in let e = h.bars in let m = left.bars in omega (arith, l, e, m) | inr r ↦ r.1 ];
   drawn = λ front es stands are.
       let first = entered_drawn old mid was stops front es tidy stands are h in
-      drawn_as (OneOf (ComesFirst front es) Nothing) (ComesFirst front es) [] old new [] (λ u v x. elim x [ inl a ↦ a | inr b ↦ absurd b ]) (λ u v x. inl x)
-      (drawn_then (ComesFirst front es) Nothing [] [] old mid new [] [] first
+      drawn_as (OneOf (EventsOrder front es) Nothing) (EventsOrder front es) [] old new [] (λ u v x. elim x [ inl a ↦ a | inr b ↦ absurd b ]) (λ u v x. inl x)
+      (drawn_then (EventsOrder front es) Nothing [] [] old mid new [] [] first
       (left_drawn mid new was last stops front es first.tidy (entered_front old mid was stops front es tidy stands are h) (stops_later old mid stops es first.grown are) h.drawn left));
   front = λ front es stands are.
       let first = entered_drawn old mid was stops front es tidy stands are h in
@@ -52,16 +52,16 @@ front_later now mid last es g h = record {
   only = λ k b u x l. let f = h.only k b u x (g.same u b l (h.low k b x)) in (f.0, f.1, g.names k f.0.at f.2, f.3);
 }
 
-pub record AreItemsDrawn (held : body.Items) (old new : Web) (all : List Stop) (last : ℕ → Option ℕ) : Type 0 where
+pub record AreItemsDrawn (held : body.WovenItems) (old new : Web) (all : List Stop) (last : ℕ → Option ℕ) : Type 0 where
   pub drawn : AreDrawn (PrecedesIn held) (items_counted held) old new all
   pub front : IsFront new last (line held)
 
-more_drawn : (old now mid new : Web) (was last : ℕ → Option ℕ) (xs : List Item) (x : Item) (all stops : List Stop) → AreItemsDrawn (items xs) old now all was → AreDrawn (PrecedesWithin x) (item_counted x) now mid stops
+more_drawn : (old now mid new : Web) (was last : ℕ → Option ℕ) (xs : List WovenItem) (x : WovenItem) (all stops : List Stop) → AreItemsDrawn (items xs) old now all was → AreDrawn (PrecedesWithin x) (item_counted x) now mid stops
     → IsPut mid new was last (is_exception x) stops → AreItemsDrawn (items (xs ++ x ∷ [])) old new (all ++ stops) last
 more_drawn old now mid new was last xs x all stops h inside p =
     let front : IsFront mid was (line (items xs)) = front_later now mid was (line (items xs)) inside.grown h.front in
     let both = drawn_then (PrecedesIn (items xs)) (PrecedesWithin x) (items_counted (items xs)) (item_counted x) old now mid all stops h.drawn inside in
-    let three = drawn_then (OneOf (PrecedesIn (items xs)) (PrecedesWithin x)) (ComesFirst (line (items xs)) (item_counted x)) (items_counted (items xs) ++ item_counted x) [] old mid new (all ++ stops) [] both (p.drawn (line (items xs)) (item_counted x) front inside.handed) in
+    let three = drawn_then (OneOf (PrecedesIn (items xs)) (PrecedesWithin x)) (EventsOrder (line (items xs)) (item_counted x)) (items_counted (items xs) ++ item_counted x) [] old mid new (all ++ stops) [] both (p.drawn (line (items xs)) (item_counted x) front inside.handed) in
     record {
       drawn =
           drawn_as (AsksMore xs x) (PrecedesIn (items (xs ++ x ∷ []))) (items_counted (items (xs ++ x ∷ []))) old new (all ++ stops) (asks_snoc xs x) (snoc_asks xs x)
@@ -76,7 +76,7 @@ items_step old now mid new was last xs i x stays all stops pushed low is h insid
     let more : map item_view (take (i + 1) xs) ≡ map item_view (take i xs) ++ item_view x ∷ [] =
     ap (map item_view) (take_more xs i x low ∙ ap (λ (y : rust_item.Item). take i xs ++ y ∷ []) (sym is)) ∙ map-append item_view (take i xs) (x ∷ []) in
     subst (λ (l : List Stop). AreItemsDrawn (items_view (take (i + 1) xs)) old new l last) (sym push)
-    (subst (λ (l : List Item). AreItemsDrawn (items l) old new (all ++ stops) last) (sym more)
+    (subst (λ (l : List WovenItem). AreItemsDrawn (items l) old new (all ++ stops) last) (sym more)
     (more_drawn old now mid new was last (map item_view (take i xs)) (item_view x) all stops h inside (subst (λ (b : Bool). IsPut mid new was last b stops) exc p)))
 
 pub items_start : (w : Web) (last : ℕ → Option ℕ) → IsTidy w → ((k : ℕ) → last k ≡ None) → AreItemsDrawn body.no_items w w [] last
@@ -98,7 +98,7 @@ same_item xs i x y low a b = same_Some x y (sym (slice_get_read xs (length xs) i
 
 -- ---- a level
 
-pub level_drawn : (old mid new : Web) (cover : List (List ℕ)) (held : body.Items) (pairs : List Pair) (stops : List Stop) → AreDrawn (HasPair (level_pairs held pairs)) [] old mid [] → AreDrawn (PrecedesIn held) (items_counted held) mid new stops
+pub level_drawn : (old mid new : Web) (cover : List (List ℕ)) (held : body.WovenItems) (pairs : List Pair) (stops : List Stop) → AreDrawn (HasPair (level_pairs held pairs)) [] old mid [] → AreDrawn (PrecedesIn held) (items_counted held) mid new stops
     → AreDrawn (Precedes (body.level cover held pairs)) (items_counted held) old new stops
 level_drawn old mid new cover held pairs stops a b = drawn_then (HasPair (level_pairs held pairs)) (PrecedesIn held) [] (items_counted held) old mid new [] stops a b
 

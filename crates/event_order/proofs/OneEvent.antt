@@ -2,7 +2,7 @@
 use Rattle.std.proofs.Common.{◌≡◌, ◌<◌, ◌+◌, inl, inr, ℕ, List, [], ◌∷◌, ◌++◌, Some, get_or, length, take, map, slice_get, refl, sym, subst, ap, ◌∙◌}
 use Rattle.std.proofs.lemmas.List.{map-append, take_more}
 use Rattle.std.proofs.lemmas.Option.{same_Some}
-use Rattle.msc_meaning.specs.Bodies.{EventNode, Body, Item, items, bodies}
+use Rattle.msc_meaning.specs.Bodies.{EventNode, Body, WovenItem, items, bodies}
 use Rattle.msc_meaning.specs.Views.{body_view, item_view}
 use Rattle.msc_meaning.specs.declared.body.Body as rust_body
 use Rattle.msc_meaning.specs.declared.body.Item as rust_item
@@ -27,7 +27,7 @@ gathered_items old now new xs i x all stops pushed low is h one push =
     let more : map item_view (take (i + 1) xs) ≡ map item_view (take i xs) ++ item_view x ∷ [] =
     ap (map item_view) (take_more xs i x low ∙ ap (λ (y : rust_item.Item). take i xs ++ y ∷ []) (sym is)) ∙ map-append item_view (take i xs) (x ∷ []) in
     events_as Nothing (items_within (items_view (take i xs)) ++ item_within (item_view x)) (items_within (items_view (take (i + 1) xs))) old new (all ++ stops) pushed
-    (sym (ap (λ (l : List Item). items_within (items l)) more ∙ within_snoc (map item_view (take i xs)) (item_view x))) (sym push)
+    (sym (ap (λ (l : List WovenItem). items_within (items l)) more ∙ within_snoc (map item_view (take i xs)) (item_view x))) (sym push)
     (gathered_then (items_within (items_view (take i xs))) (item_within (item_view x)) old now new all stops h one)
 
 pub gathered_operands : (old now new : Web) (bs : List rust_body.Body) (i : ℕ) (b : rust_body.Body) (all stops pushed : List Stop) → i < length bs → b ≡ get_or bs i b → AreDrawn Nothing (operands_within (bodies_view (take i bs))) old now all

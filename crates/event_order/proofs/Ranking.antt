@@ -2,7 +2,7 @@
 use Rattle.std.proofs.Common.{◌≡◌, ◌<◌, inl, inr, ℕ, List, [], ◌∷◌, refl, subst, arith}
 use Rattle.msc_base.specs.Orders.{Among, first, later}
 use Rattle.msc_base.specs.declared.label.Pair.{Pair}
-use Rattle.msc_meaning.specs.Bodies.{Body, level, Items, no_items, item_and, Item, Single, Coregion, Inline, Refer, Bodies, no_bodies, body_and}
+use Rattle.msc_meaning.specs.Bodies.{Body, level, WovenItems, no_items, item_and, WovenItem, Single, Coregion, Inline, Refer, Bodies, no_bodies, body_and}
 use Rattle.msc_meaning.specs.Pairing.{HasPair}
 use Rattle.msc_meaning.specs.Ties.{level_pairs}
 use Rattle.msc_tree.specs.declared.reference.InlineForm.TheVariants as inline
@@ -29,13 +29,13 @@ module _ (rank : ℕ → ℕ) where
     body_rises (level cover held pairs) r u v (inl h) = let p = pair_among (level_pairs held pairs) u v h in raised u v p.0.first p.0.second p.2 p.3 (r.0 p.0 p.1)
     body_rises (level cover held pairs) r u v (inr h) = items_rise held r.1 u v h
 
-    items_rise : (xs : Items) → AreRanked rank xs → (u v : ℕ) → PrecedesIn xs u v → rank u < rank v
+    items_rise : (xs : WovenItems) → AreRanked rank xs → (u v : ℕ) → PrecedesIn xs u v → rank u < rank v
     items_rise no_items r u v h = absurd h
     items_rise (item_and x xs) r u v (inl h) = let c = h.1 in raised u v c.earlier.number c.later.number c.first c.second (r.1 h.0 c.earlier c.later c.among_first c.among_second c.at_one)
     items_rise (item_and x xs) r u v (inr (inl h)) = item_rises x r.0 u v h
     items_rise (item_and x xs) r u v (inr (inr h)) = items_rise xs r.2 u v h
 
-    item_rises : (x : Item) → IsRankedItem rank x → (u v : ℕ) → PrecedesWithin x u v → rank u < rank v
+    item_rises : (x : WovenItem) → IsRankedItem rank x → (u v : ℕ) → PrecedesWithin x u v → rank u < rank v
     item_rises (Single n) r u v h = absurd h
     item_rises (Coregion ns) r u v h = absurd h
     item_rises (Inline inline.Loop part operands) r u v h = absurd h
@@ -54,7 +54,7 @@ module _ (rank : ℕ → ℕ) where
     body_ranked : (b : Body) → ((u v : ℕ) → Precedes b u v → rank u < rank v) → IsRanked rank b
     body_ranked (level cover held pairs) h = ((λ p a. h p.first p.second (inl (among_pair (level_pairs held pairs) p a))), items_ranked held (λ u v x. h u v (inr x)))
 
-    items_ranked : (xs : Items) → ((u v : ℕ) → PrecedesIn xs u v → rank u < rank v) → AreRanked rank xs
+    items_ranked : (xs : WovenItems) → ((u v : ℕ) → PrecedesIn xs u v → rank u < rank v) → AreRanked rank xs
     items_ranked no_items h = tt
     items_ranked (item_and x xs) h = (
       item_ranked x (λ u v p. h u v (inr (inl p))),
@@ -62,7 +62,7 @@ module _ (rank : ℕ → ℕ) where
       items_ranked xs (λ u v p. h u v (inr (inr p))),
     )
 
-    item_ranked : (x : Item) → ((u v : ℕ) → PrecedesWithin x u v → rank u < rank v) → IsRankedItem rank x
+    item_ranked : (x : WovenItem) → ((u v : ℕ) → PrecedesWithin x u v → rank u < rank v) → IsRankedItem rank x
     item_ranked (Single n) h = tt
     item_ranked (Coregion ns) h = tt
     item_ranked (Inline inline.Loop part operands) h = tt
@@ -88,12 +88,12 @@ mutual
   body_apart (level cover held pairs) r (inl round) = no_rank (level cover held pairs) r.0.rank r.0.ranked round
   body_apart (level cover held pairs) r (inr c) = items_apart held r.1 c
 
-  items_apart : (xs : Items) → HaveRankedLoops xs → HaveCyclicLoop xs → ⊥
+  items_apart : (xs : WovenItems) → HaveRankedLoops xs → HaveCyclicLoop xs → ⊥
   items_apart no_items r c = absurd c
   items_apart (item_and x xs) r (inl c) = item_apart x r.0 c
   items_apart (item_and x xs) r (inr c) = items_apart xs r.1 c
 
-  item_apart : (x : Item) → HasRankedLoops x → HasCyclicLoop x → ⊥
+  item_apart : (x : WovenItem) → HasRankedLoops x → HasCyclicLoop x → ⊥
   item_apart (Single n) r c = absurd c
   item_apart (Coregion ns) r c = absurd c
   item_apart (Inline inline.Loop part operands) r c = operands_apart operands r c

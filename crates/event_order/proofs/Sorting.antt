@@ -2,14 +2,14 @@
 use Rattle.std.proofs.Common.{◌≡◌, ◌<◌, ◌≤◌, ◌+◌, ◌-◌, ◌⊎◌, inl, inr, ℕ, zero, suc, List, [], ◌∷◌, ◌++◌, get_or, length, take, All, refl, sym, subst, arith}
 use Rattle.std.proofs.lemmas.Bool.{cases_eq, cases_lt}
 use Rattle.std.proofs.lemmas.List.{take_more}
-use Rattle.item_order.specs.Counts.{Inside, Leads}
-use Rattle.item_order.specs.Orders.{IsStuckAt, IsWhole}
-use Rattle.item_order.specs.declared.edge.Edge.{Edge}
-use Rattle.item_order.proofs.Arranged.{IsOrder, whole_order}
-use Rattle.item_order.proofs.Columns.{all_leads_inside}
-use Rattle.item_order.proofs.Counting.{free, free_less, has_false}
-use Rattle.item_order.proofs.Exchange.{has_either}
-use Rattle.item_order.proofs.Ranks.{has_or_not}
+use Rattle.column_order.specs.Counts.{Inside, EdgeLeads}
+use Rattle.column_order.specs.Orders.{IsStuckAt, IsWhole}
+use Rattle.column_order.specs.declared.edge.Edge.{Edge}
+use Rattle.column_order.proofs.Arranged.{IsOrder, whole_order}
+use Rattle.column_order.proofs.Columns.{all_leads_inside}
+use Rattle.column_order.proofs.Counting.{free, free_less, has_false}
+use Rattle.column_order.proofs.Exchange.{has_either}
+use Rattle.column_order.proofs.Ranks.{has_or_not}
 use Rattle.msc_base.specs.Lists.{IsAmong}
 use Rattle.msc_meaning.specs.Bodies.{Body, EventNode}
 use Rattle.event_order.specs.Precedence.{ComesBefore, HasRound, Precedes, next, further}
@@ -22,13 +22,13 @@ use Rattle.event_order.proofs.Ranking.{can_rank}
 
 -- ---- edges one by one
 
-pub leads_at : (es : List Edge) (i : ℕ) (d : Edge) → i < length es → Leads es (get_or es i d).from (get_or es i d).to
+pub leads_at : (es : List Edge) (i : ℕ) (d : Edge) → i < length es → EdgeLeads es (get_or es i d).from (get_or es i d).to
 leads_at [] i d lt = absurd (omega arith)
 leads_at (e ∷ es) zero d lt = inl (refl, refl)
 leads_at (e ∷ es) (suc i) d lt = inr (leads_at es i d (omega arith))
 
-pub below_step : (es : List Edge) (i : ℕ) (d : Edge) (End : ℕ → ℕ → Type 0) → i < length es → ((y x : ℕ) → Leads (take i es) y x → End y x) → End (get_or es i d).from (get_or es i d).to → (y x : ℕ) → Leads (take (i + 1) es) y x → End y x
-below_step es i d End low h last y x l = elim (leads_snoc (take i es) (get_or es i d) y x (subst (λ (k : List Edge). Leads k y x) (take_more es i d low) l)) [
+pub below_step : (es : List Edge) (i : ℕ) (d : Edge) (End : ℕ → ℕ → Type 0) → i < length es → ((y x : ℕ) → EdgeLeads (take i es) y x → End y x) → End (get_or es i d).from (get_or es i d).to → (y x : ℕ) → EdgeLeads (take (i + 1) es) y x → End y x
+below_step es i d End low h last y x l = elim (leads_snoc (take i es) (get_or es i d) y x (subst (λ (k : List Edge). EdgeLeads k y x) (take_more es i d low) l)) [
   | inl o ↦ h y x o
   | inr e ↦ subst (λ (k : ℕ). End k x) e.0 (subst (λ (k : ℕ). End (get_or es i d).from k) e.1 last)
 ]
@@ -36,24 +36,24 @@ below_step es i d End low h last y x l = elim (leads_snoc (take i es) (get_or es
 pub added_step : (es : List Edge) (f t i : ℕ) (d : Edge) (old now new : List Edge) → i < length es → AreAdded (take i es) f t old now → new ≡ now ++ record { from = (get_or es i d).from + f; to = (get_or es i d).to + t } ∷ [] → AreAdded (take (i + 1) es) f t old new
 added_step es f t i d old now new low h is = record {
   kept = λ y x l. kept y x (h.kept y x l);
-  moved = λ u v l. elim (leads_snoc (take i es) (get_or es i d) u v (subst (λ (k : List Edge). Leads k u v) (take_more es i d low) l)) [
+  moved = λ u v l. elim (leads_snoc (take i es) (get_or es i d) u v (subst (λ (k : List Edge). EdgeLeads k u v) (take_more es i d low) l)) [
     | inl o ↦ kept (u + f) (v + t) (h.moved u v o)
-    | inr e ↦ subst (λ (k : ℕ). Leads new (k + f) (v + t)) e.0 (subst (λ (k : ℕ). Leads new ((get_or es i d).from + f) (k + t)) e.1 (subst (λ (k : List Edge). Leads k edge.from edge.to) (sym is) (leads_last now edge)))
+    | inr e ↦ subst (λ (k : ℕ). EdgeLeads new (k + f) (v + t)) e.0 (subst (λ (k : ℕ). EdgeLeads new ((get_or es i d).from + f) (k + t)) e.1 (subst (λ (k : List Edge). EdgeLeads k edge.from edge.to) (sym is) (leads_last now edge)))
   ];
-  only = λ y x l. elim (leads_snoc now edge y x (subst (λ (k : List Edge). Leads k y x) is l)) [
+  only = λ y x l. elim (leads_snoc now edge y x (subst (λ (k : List Edge). EdgeLeads k y x) is l)) [
     | inl o ↦ elim (h.only y x o) [
       | inl p ↦ inl p
-      | inr m ↦ inr (record { first = m.first; second = m.second; leads = subst (λ (k : List Edge). Leads k m.first m.second) (sym (take_more es i d low)) (leads_left (take i es) (get_or es i d ∷ []) m.first m.second m.leads); from_is = m.from_is; to_is = m.to_is })
+      | inr m ↦ inr (record { first = m.first; second = m.second; leads = subst (λ (k : List Edge). EdgeLeads k m.first m.second) (sym (take_more es i d low)) (leads_left (take i es) (get_or es i d ∷ []) m.first m.second m.leads); from_is = m.from_is; to_is = m.to_is })
     ]
-    | inr e ↦ inr (record { first = (get_or es i d).from; second = (get_or es i d).to; leads = subst (λ (k : List Edge). Leads k (get_or es i d).from (get_or es i d).to) (sym (take_more es i d low)) (leads_last (take i es) (get_or es i d)); from_is = e.0; to_is = e.1 })
+    | inr e ↦ inr (record { first = (get_or es i d).from; second = (get_or es i d).to; leads = subst (λ (k : List Edge). EdgeLeads k (get_or es i d).from (get_or es i d).to) (sym (take_more es i d low)) (leads_last (take i es) (get_or es i d)); from_is = e.0; to_is = e.1 })
   ];
 }
   where
     edge : Edge
     edge = record { from = (get_or es i d).from + f; to = (get_or es i d).to + t }
 
-    kept : (y x : ℕ) → Leads now y x → Leads new y x
-    kept y x l = subst (λ (k : List Edge). Leads k y x) (sym is) (leads_left now (edge ∷ []) y x l)
+    kept : (y x : ℕ) → EdgeLeads now y x → EdgeLeads new y x
+    kept y x l = subst (λ (k : List Edge). EdgeLeads k y x) (sym is) (leads_left now (edge ∷ []) y x l)
 
 -- ---- all edges
 
@@ -63,7 +63,7 @@ pub record HasRanks (w : Web) : Type 0 where
   pub rises : Rises rank bar w
 
 -- all that lead to it are in the list, or one isn't
-all_or_one : (es : List Edge) (prefix : List ℕ) (x : ℕ) → ((y : ℕ) → Leads es y x → IsAmong prefix y) ⊎ ((y : ℕ) × Leads es y x × (IsAmong prefix y → ⊥))
+all_or_one : (es : List Edge) (prefix : List ℕ) (x : ℕ) → ((y : ℕ) → EdgeLeads es y x → IsAmong prefix y) ⊎ ((y : ℕ) × EdgeLeads es y x × (IsAmong prefix y → ⊥))
 all_or_one [] prefix x = inl (λ y h. absurd h)
 all_or_one (e ∷ es) prefix x = elim (all_or_one es prefix x) [
   | inr one ↦ inr (one.0, inr one.1, one.2)
@@ -77,7 +77,7 @@ all_or_one (e ∷ es) prefix x = elim (all_or_one es prefix x) [
 ]
 
 module _ (w : Web) (m n : ℕ) (edges : List Edge) (tidy : IsTidy w) (below : AreBelow m w) (are : AreEdges w m edges) (all : n ≡ m + w.bars) where
-  within : (y x : ℕ) → Leads edges y x → (y < n) × (x < n)
+  within : (y x : ℕ) → EdgeLeads edges y x → (y < n) × (x < n)
   within y x l = elim (are.only y x l) [
     | inl p ↦ let a = below.first y x p in let b = below.second y x p in (omega (arith, a, all), omega (arith, b, all))
     | inr q ↦ elim q [
@@ -100,9 +100,9 @@ module _ (w : Web) (m n : ℕ) (edges : List Edge) (tidy : IsTidy w) (below : Ar
   edges_inside = all_leads_inside n edges within
 
   -- an order of all gives ranks
-  module _ (order : List ℕ) (whole : IsWhole n (Leads edges) order) where
-    arranged : IsOrder n (Leads edges) order
-    arranged = whole_order n (Leads edges) within order whole
+  module _ (order : List ℕ) (whole : IsWhole n (EdgeLeads edges) order) where
+    arranged : IsOrder n (EdgeLeads edges) order
+    arranged = whole_order n (EdgeLeads edges) within order whole
 
     pick : (y : ℕ) → (y < n) ⊎ (n ≤ y) → ℕ
     pick y (inl lt) = (arranged.every y lt).0
@@ -111,7 +111,7 @@ module _ (w : Web) (m n : ℕ) (edges : List Edge) (tidy : IsTidy w) (below : Ar
     abbrev place : ℕ → ℕ
     place y = pick y (cases_lt y n)
 
-    along : (y x : ℕ) → Leads edges y x → place y < place x
+    along : (y x : ℕ) → EdgeLeads edges y x → place y < place x
     unfolding pick arranged
     along y x l = go (cases_lt y n) (cases_lt x n)
       where
@@ -128,13 +128,13 @@ module _ (w : Web) (m n : ℕ) (edges : List Edge) (tidy : IsTidy w) (below : Ar
     }
 
   -- where the sorting is stuck, each event that remains comes behind one that does
-  module _ (x : ℕ) (stuck : IsStuckAt n (Leads edges) x) where
+  module _ (x : ℕ) (stuck : IsStuckAt n (EdgeLeads edges) x) where
     -- what remains waits for something that does
-    waits : (y : ℕ) → y < n → (IsAmong stuck.prefix y → ⊥) → (z : ℕ) × Leads edges z y × (IsAmong stuck.prefix z → ⊥)
+    waits : (y : ℕ) → y < n → (IsAmong stuck.prefix y → ⊥) → (z : ℕ) × EdgeLeads edges z y × (IsAmong stuck.prefix z → ⊥)
     waits y low out = elim (all_or_one edges stuck.prefix y) [ inl all ↦ absurd (stuck.stuck y (record { inside = low; remains = out; ready = all })) | inr one ↦ one ]
 
     -- what a bar waits for is an event before it
-    bar_waits : (b : ℕ) → b < w.bars → (IsAmong stuck.prefix (b + m) → ⊥) → (u : ℕ) × (u < m) × Leads w.before u b × (IsAmong stuck.prefix u → ⊥)
+    bar_waits : (b : ℕ) → b < w.bars → (IsAmong stuck.prefix (b + m) → ⊥) → (u : ℕ) × (u < m) × EdgeLeads w.before u b × (IsAmong stuck.prefix u → ⊥)
     bar_waits b low out =
         let z = waits (b + m) (omega (arith, low, all)) out in
         elim (are.only z.0 (b + m) z.1) [
@@ -143,7 +143,7 @@ module _ (w : Web) (m n : ℕ) (edges : List Edge) (tidy : IsTidy w) (below : Ar
             | inl r ↦
                 let e : r.first ≡ z.0 = let h = r.from_is in omega (arith, h) in
                 let f : r.second ≡ b = let h = r.to_is in omega (arith, h) in
-                let leads : Leads w.before z.0 b = subst (λ (k : ℕ). Leads w.before k b) e (subst (λ (k : ℕ). Leads w.before r.first k) f r.leads) in
+                let leads : EdgeLeads w.before z.0 b = subst (λ (k : ℕ). EdgeLeads w.before k b) e (subst (λ (k : ℕ). EdgeLeads w.before r.first k) f r.leads) in
                 (z.0, below.before z.0 b leads, leads, z.2)
             | inr r ↦ let l = below.behind r.first r.second r.leads in let h = r.to_is in absurd (omega (arith, l, h))
           ]
@@ -160,7 +160,7 @@ module _ (w : Web) (m n : ℕ) (edges : List Edge) (tidy : IsTidy w) (below : Ar
             | inr r ↦
                 let e : r.first + m ≡ z.0 = r.from_is in
                 let f : r.second ≡ v = let h = r.to_is in omega (arith, h) in
-                let behind : Leads w.behind r.first v = subst (λ (k : ℕ). Leads w.behind r.first k) f r.leads in
+                let behind : EdgeLeads w.behind r.first v = subst (λ (k : ℕ). EdgeLeads w.behind r.first k) f r.leads in
                 let u = bar_waits r.first (tidy.behind r.first v behind) (λ h. z.2 (subst (IsAmong stuck.prefix) e h)) in
                 (u.0, u.1, u.3, inr (record { bar = r.first; before = u.2; behind = behind }))
           ]
@@ -203,7 +203,7 @@ module _ (b : Body) (es : List EventNode) (old w : Web) (stops : List Stop) (dra
   ranked_body r = record { rank = r.rank; ranked = can_rank b r.rank (drawn.rises r.rank r.bar r.rises) }
 
   module _ (none : (u v : ℕ) → IsDrawn old u v → ⊥) (m n : ℕ) (edges : List Edge) (below : AreBelow m w) (are : AreEdges w m edges) (all : n ≡ m + w.bars) where
-    pub cyclic_body : (x : ℕ) → IsStuckAt n (Leads edges) x → HasRound b
+    pub cyclic_body : (x : ℕ) → IsStuckAt n (EdgeLeads edges) x → HasRound b
     cyclic_body x stuck =
         let some = some_waits w m n edges drawn.tidy below are all x stuck in
         comes_round b m (λ v. IsAmong stuck.prefix v → ⊥)
@@ -214,5 +214,5 @@ module _ (b : Body) (es : List EventNode) (old w : Web) (stops : List Stop) (dra
 
 -- nothing is drawn where there are no edges
 pub none_drawn : (w : Web) → w.pairs ≡ [] → w.before ≡ [] → (u v : ℕ) → IsDrawn w u v → ⊥
-none_drawn w p q u v (inl h) = let k : Leads [] u v = subst (λ (l : List Edge). Leads l u v) p h in k
-none_drawn w p q u v (inr h) = let k : Leads [] u h.bar = subst (λ (l : List Edge). Leads l u h.bar) q h.before in k
+none_drawn w p q u v (inl h) = let k : EdgeLeads [] u v = subst (λ (l : List Edge). EdgeLeads l u v) p h in k
+none_drawn w p q u v (inr h) = let k : EdgeLeads [] u h.bar = subst (λ (l : List Edge). EdgeLeads l u h.bar) q h.before in k

@@ -2,7 +2,7 @@
 -- Bodies whose events stand in the order of their numbers, so that these are ranks of them.
 use Rattle.std.specs.Prelude.{◌≡◌, ◌<◌, ◌≤◌, ℕ, List, []}
 use Rattle.msc_base.specs.Orders.{Among}
-use Rattle.msc_meaning.specs.Bodies.{EventNode, Body, Items, Item, Bodies, events, item_events}
+use Rattle.msc_meaning.specs.Bodies.{EventNode, Body, WovenItems, WovenItem, Bodies, events, item_events}
 use Rattle.event_order.specs.RankedBodies.{AreRanked, HaveRanked, IsRanked, IsRankedItem, counted_within, item_counted, items_counted, operands_counted}
 
 -- the events have numbers from start on and below the end
@@ -18,13 +18,13 @@ pub record AreEventsInOrder (start end : ℕ) (es : List EventNode) : Type 0 whe
   pub within : AreWithin start end es
   pub free : AreFree es
 
-pub record IsItemInOrder (start end : ℕ) (x : Item) : Type 0 where
+pub record IsItemInOrder (start end : ℕ) (x : WovenItem) : Type 0 where
   pub fits : start ≤ end
   pub within : AreWithin start end (item_counted x)
   pub free : AreFree (item_events x)
   pub ranked : IsRankedItem (λ k. k) x
 
-pub record AreItemsInOrder (start end : ℕ) (xs : Items) : Type 0 where
+pub record AreItemsInOrder (start end : ℕ) (xs : WovenItems) : Type 0 where
   pub fits : start ≤ end
   pub within : AreWithin start end (items_counted xs)
   pub free : AreFree (events xs)

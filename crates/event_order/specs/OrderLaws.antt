@@ -1,7 +1,7 @@
 -- The laws of the order of events.
 use Rattle.std.specs.Prelude.{ℕ, ◌≡◌, ◌<◌, List, [], ◌∷◌}
 use Rattle.msc_base.specs.Orders.{Among}
-use Rattle.msc_meaning.specs.Bodies.{EventNode, Body, level, Items, no_items, item_and, Single, Inline, InlinePart, Bodies}
+use Rattle.msc_meaning.specs.Bodies.{EventNode, Body, level, WovenItems, no_items, item_and, Single, Inline, InlinePart, Bodies}
 use Rattle.msc_tree.specs.declared.reference.InlineForm.TheVariants as inline
 use Rattle.event_order.specs.Precedence.{IsCyclic, Precedes}
 use Rattle.event_order.specs.RankedBodies.{CanBeRanked, CanEachBeRanked, IsRanked, operands_within}
@@ -13,7 +13,7 @@ pub record RanksRise : Type 0 where
   pub ranked : (b : Body) (rank : ℕ → ℕ) → ((u v : ℕ) → Precedes b u v → rank u < rank v) → IsRanked rank b
 
 -- an event, a loop, and another event
-abbrev pub around : EventNode → InlinePart → Bodies → EventNode → Items
+abbrev pub around : EventNode → InlinePart → Bodies → EventNode → WovenItems
 around x part operands y = item_and (Single x) (item_and (Inline inline.Loop part operands) (item_and (Single y) no_items))
 
 -- all events of a loop count as one: the event behind it can't come before that in front of it, where some events of the loop share their

@@ -2,14 +2,14 @@
 -- operand of each loop is looked at by itself.
 use Rattle.std.specs.Prelude.{ℕ, ◌≡◌, ◌⊎◌, false, List}
 use Rattle.msc_base.specs.Orders.{Among}
-use Rattle.msc_meaning.specs.Bodies.{EventNode, Body, level, Items, no_items, item_and, Item, Single, Coregion, Inline, Refer, Bodies, no_bodies, body_and}
+use Rattle.msc_meaning.specs.Bodies.{EventNode, Body, level, WovenItems, no_items, item_and, WovenItem, Single, Coregion, Inline, Refer, Bodies, no_bodies, body_and}
 use Rattle.msc_meaning.specs.Pairing.{HasPair}
 use Rattle.msc_meaning.specs.Ties.{level_pairs}
 use Rattle.msc_tree.specs.declared.reference.InlineForm.TheVariants as inline
 use Rattle.event_order.specs.RankedBodies.{is_exception, item_counted, items_counted}
 
 -- u is the number of an event of the first list, and v that of an event of the second at the same instance
-pub record ComesFirst (es fs : List EventNode) (u v : ℕ) : Type 0 where
+pub record EventsOrder (es fs : List EventNode) (u v : ℕ) : Type 0 where
   pub earlier : EventNode
   pub later : EventNode
   pub among_first : Among earlier es
@@ -24,11 +24,11 @@ abbrev mutual
   pub Precedes : Body → ℕ → ℕ → Type 0
   Precedes (level cover held pairs) u v = HasPair (level_pairs held pairs) u v ⊎ PrecedesIn held u v
 
-  pub PrecedesIn : Items → ℕ → ℕ → Type 0
+  pub PrecedesIn : WovenItems → ℕ → ℕ → Type 0
   PrecedesIn no_items u v = ⊥
-  PrecedesIn (item_and x xs) u v = ((is_exception x ≡ false) × ComesFirst (item_counted x) (items_counted xs) u v) ⊎ (PrecedesWithin x u v ⊎ PrecedesIn xs u v)
+  PrecedesIn (item_and x xs) u v = ((is_exception x ≡ false) × EventsOrder (item_counted x) (items_counted xs) u v) ⊎ (PrecedesWithin x u v ⊎ PrecedesIn xs u v)
 
-  pub PrecedesWithin : Item → ℕ → ℕ → Type 0
+  pub PrecedesWithin : WovenItem → ℕ → ℕ → Type 0
   PrecedesWithin (Single n) u v = ⊥
   PrecedesWithin (Coregion ns) u v = ⊥
   PrecedesWithin (Inline inline.Loop part operands) u v = ⊥
@@ -57,11 +57,11 @@ abbrev mutual
   pub IsCyclic : Body → Type 0
   IsCyclic (level cover held pairs) = HasRound (level cover held pairs) ⊎ HaveCyclicLoop held
 
-  pub HaveCyclicLoop : Items → Type 0
+  pub HaveCyclicLoop : WovenItems → Type 0
   HaveCyclicLoop no_items = ⊥
   HaveCyclicLoop (item_and x xs) = HasCyclicLoop x ⊎ HaveCyclicLoop xs
 
-  pub HasCyclicLoop : Item → Type 0
+  pub HasCyclicLoop : WovenItem → Type 0
   HasCyclicLoop (Single n) = ⊥
   HasCyclicLoop (Coregion ns) = ⊥
   HasCyclicLoop (Inline inline.Loop part operands) = IsOneCyclic operands

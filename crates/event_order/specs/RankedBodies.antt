@@ -4,12 +4,12 @@
 use Rattle.std.specs.Prelude.{ℕ, ◌<◌, ◌≡◌, Bool, true, false, List, [], ◌∷◌, ◌++◌}
 use Rattle.msc_base.specs.declared.label.Pair.{Pair}
 use Rattle.msc_base.specs.Orders.{Among}
-use Rattle.msc_meaning.specs.Bodies.{EventNode, Body, level, Items, no_items, item_and, Item, Single, Coregion, Inline, Refer, Bodies, no_bodies, body_and}
+use Rattle.msc_meaning.specs.Bodies.{EventNode, Body, level, WovenItems, no_items, item_and, WovenItem, Single, Coregion, Inline, Refer, Bodies, no_bodies, body_and}
 use Rattle.msc_meaning.specs.Ties.{level_pairs}
 use Rattle.msc_tree.specs.declared.reference.InlineForm.TheVariants as inline
 
 -- the item is an exception
-abbrev pub is_exception : Item → Bool
+abbrev pub is_exception : WovenItem → Bool
 is_exception (Inline inline.Exc part operands) = true
 is_exception x = false
 
@@ -18,11 +18,11 @@ abbrev mutual
   pub events_within : Body → List EventNode
   events_within (level cover held pairs) = items_within held
 
-  pub items_within : Items → List EventNode
+  pub items_within : WovenItems → List EventNode
   items_within no_items = []
   items_within (item_and x xs) = item_within x ++ items_within xs
 
-  pub item_within : Item → List EventNode
+  pub item_within : WovenItem → List EventNode
   item_within (Single n) = n ∷ []
   item_within (Coregion ns) = ns
   item_within (Inline form part operands) = operands_within operands
@@ -47,11 +47,11 @@ abbrev mutual
   pub counted_within : Body → List EventNode
   counted_within (level cover held pairs) = items_counted held
 
-  pub items_counted : Items → List EventNode
+  pub items_counted : WovenItems → List EventNode
   items_counted no_items = []
   items_counted (item_and x xs) = item_counted x ++ items_counted xs
 
-  pub item_counted : Item → List EventNode
+  pub item_counted : WovenItem → List EventNode
   item_counted (Single n) = n ∷ []
   item_counted (Coregion ns) = ns
   item_counted (Inline inline.Loop part operands) = as_one (operands_within operands)
@@ -77,11 +77,11 @@ module _ (rank : ℕ → ℕ) where
     pub IsRanked : Body → Type 0
     IsRanked (level cover held pairs) = ((p : Pair) → Among p (level_pairs held pairs) → rank p.first < rank p.second) × AreRanked held
 
-    pub AreRanked : Items → Type 0
+    pub AreRanked : WovenItems → Type 0
     AreRanked no_items = Unit {0}
     AreRanked (item_and x xs) = IsRankedItem x × (is_exception x ≡ false → DoPrecede (item_counted x) (items_counted xs)) × AreRanked xs
 
-    pub IsRankedItem : Item → Type 0
+    pub IsRankedItem : WovenItem → Type 0
     IsRankedItem (Single n) = Unit {0}
     IsRankedItem (Coregion ns) = Unit {0}
     IsRankedItem (Inline inline.Loop part operands) = Unit {0}
@@ -105,11 +105,11 @@ abbrev mutual
   pub CanBeRanked : Body → Type 0
   CanBeRanked (level cover held pairs) = HasRank (level cover held pairs) × HaveRankedLoops held
 
-  pub HaveRankedLoops : Items → Type 0
+  pub HaveRankedLoops : WovenItems → Type 0
   HaveRankedLoops no_items = Unit {0}
   HaveRankedLoops (item_and x xs) = HasRankedLoops x × HaveRankedLoops xs
 
-  pub HasRankedLoops : Item → Type 0
+  pub HasRankedLoops : WovenItem → Type 0
   HasRankedLoops (Single n) = Unit {0}
   HasRankedLoops (Coregion ns) = Unit {0}
   HasRankedLoops (Inline inline.Loop part operands) = CanEachBeRanked operands

@@ -1,13 +1,13 @@
 -- Serves private contracts alone.
 -- What is drawn of a body: which events are to come before which, and at an instance before and behind bars.
 use Rattle.std.specs.Prelude.{ℕ, ◌≡◌, ◌<◌, ◌≤◌, ◌+◌, ◌⊎◌, Bool, true, false, List, [], ◌∷◌, ◌++◌, Option, Some, slice_get}
-use Rattle.item_order.specs.Counts.{Leads}
-use Rattle.item_order.specs.declared.edge.Edge.{Edge}
+use Rattle.column_order.specs.Counts.{EdgeLeads}
+use Rattle.column_order.specs.declared.edge.Edge.{Edge}
 use Rattle.msc_base.specs.Lists.{AreDifferent}
 use Rattle.msc_base.specs.Orders.{Among}
-use Rattle.msc_meaning.specs.Bodies.{EventNode, Item, Inline, Items, no_items, item_and}
+use Rattle.msc_meaning.specs.Bodies.{EventNode, WovenItem, Inline, WovenItems, no_items, item_and}
 use Rattle.msc_tree.specs.declared.reference.InlineForm.TheVariants as inline
-use Rattle.event_order.specs.Precedence.{ComesFirst}
+use Rattle.event_order.specs.Precedence.{EventsOrder}
 use Rattle.event_order.specs.RankedBodies.{is_exception, item_counted}
 use Rattle.event_order.specs.declared.web.Stop.{Stop}
 use Rattle.event_order.specs.declared.web.Web.{Web}
@@ -15,32 +15,32 @@ use Rattle.event_order.specs.declared.web.Web.{Web}
 -- u is drawn before v: as a pair, or before a bar behind which v is
 pub record PassesBar (w : Web) (u v : ℕ) : Type 0 where
   pub bar : ℕ
-  pub before : Leads w.before u bar
-  pub behind : Leads w.behind bar v
+  pub before : EdgeLeads w.before u bar
+  pub behind : EdgeLeads w.behind bar v
 
 abbrev pub IsDrawn : Web → ℕ → ℕ → Type 0
-IsDrawn w u v = Leads w.pairs u v ⊎ PassesBar w u v
+IsDrawn w u v = EdgeLeads w.pairs u v ⊎ PassesBar w u v
 
 -- the names differ, and there are as many bars
 pub record IsTidy (w : Web) : Type 0 where
   pub different : AreDifferent w.names
-  pub before : (u b : ℕ) → Leads w.before u b → b < w.bars
-  pub behind : (b v : ℕ) → Leads w.behind b v → b < w.bars
+  pub before : (u b : ℕ) → EdgeLeads w.before u b → b < w.bars
+  pub behind : (b v : ℕ) → EdgeLeads w.behind b v → b < w.bars
 
 -- ranks of events and of bars that rise along what is drawn
 pub record Rises (rank bar : ℕ → ℕ) (w : Web) : Type 0 where
-  pub pairs : (u v : ℕ) → Leads w.pairs u v → rank u < rank v
-  pub before : (u b : ℕ) → Leads w.before u b → rank u < bar b
-  pub behind : (b v : ℕ) → Leads w.behind b v → bar b < rank v
+  pub pairs : (u v : ℕ) → EdgeLeads w.pairs u v → rank u < rank v
+  pub before : (u b : ℕ) → EdgeLeads w.before u b → rank u < bar b
+  pub behind : (b v : ℕ) → EdgeLeads w.behind b v → bar b < rank v
 
 -- more is drawn, and nothing more before the bars that were there
 pub record Grows (old new : Web) : Type 0 where
   pub names : (k : ℕ) (at : List ℕ) → slice_get old.names k ≡ Some at → slice_get new.names k ≡ Some at
   pub bars : old.bars ≤ new.bars
-  pub pairs : (u v : ℕ) → Leads old.pairs u v → Leads new.pairs u v
-  pub before : (u b : ℕ) → Leads old.before u b → Leads new.before u b
-  pub behind : (b v : ℕ) → Leads old.behind b v → Leads new.behind b v
-  pub same : (u b : ℕ) → Leads new.before u b → b < old.bars → Leads old.before u b
+  pub pairs : (u v : ℕ) → EdgeLeads old.pairs u v → EdgeLeads new.pairs u v
+  pub before : (u b : ℕ) → EdgeLeads old.before u b → EdgeLeads new.before u b
+  pub behind : (b v : ℕ) → EdgeLeads old.behind b v → EdgeLeads new.behind b v
+  pub same : (u b : ℕ) → EdgeLeads new.before u b → b < old.bars → EdgeLeads old.before u b
 
 -- the stop has the event's number, and that of its instance
 pub record IsStop (names : List (List ℕ)) (s : Stop) (e : EventNode) : Type 0 where
@@ -67,7 +67,7 @@ numbered k [] = []
 numbered k (s ∷ stops) = record s { number = k } ∷ numbered k stops
 
 -- the item is a loop
-abbrev pub is_loop : Item → Bool
+abbrev pub is_loop : WovenItem → Bool
 is_loop (Inline inline.Loop part operands) = true
 is_loop x = false
 
@@ -102,9 +102,9 @@ pub record AreEntered (old new : Web) (last : ℕ → Option ℕ) (stops : List 
   pub bars : new.bars ≡ old.bars
   pub pairs : new.pairs ≡ old.pairs
   pub before : new.before ≡ old.before
-  pub kept : (b v : ℕ) → Leads old.behind b v → Leads new.behind b v
-  pub drawn : (k b v : ℕ) → HasStop stops k v → last k ≡ Some b → Leads new.behind b v
-  pub only : (b v : ℕ) → Leads new.behind b v → Leads old.behind b v ⊎ ((k : ℕ) × HasStop stops k v × (last k ≡ Some b))
+  pub kept : (b v : ℕ) → EdgeLeads old.behind b v → EdgeLeads new.behind b v
+  pub drawn : (k b v : ℕ) → HasStop stops k v → last k ≡ Some b → EdgeLeads new.behind b v
+  pub only : (b v : ℕ) → EdgeLeads new.behind b v → EdgeLeads old.behind b v ⊎ ((k : ℕ) × HasStop stops k v × (last k ≡ Some b))
 
 -- the stops are drawn before a new bar at their instance, which is its last then
 pub record AreLeft (old new : Web) (was last : ℕ → Option ℕ) (stops : List Stop) : Type 0 where
@@ -112,11 +112,11 @@ pub record AreLeft (old new : Web) (was last : ℕ → Option ℕ) (stops : List
   pub pairs : new.pairs ≡ old.pairs
   pub behind : new.behind ≡ old.behind
   pub bars : old.bars ≤ new.bars
-  pub kept : (u b : ℕ) → Leads old.before u b → Leads new.before u b
+  pub kept : (u b : ℕ) → EdgeLeads old.before u b → EdgeLeads new.before u b
   -- of each stop
-  pub drawn : (k u : ℕ) → HasStop stops k u → (b : ℕ) × (last k ≡ Some b) × (old.bars ≤ b) × Leads new.before u b
+  pub drawn : (k u : ℕ) → HasStop stops k u → (b : ℕ) × (last k ≡ Some b) × (old.bars ≤ b) × EdgeLeads new.before u b
   -- nothing else is drawn
-  pub only : (u b : ℕ) → Leads new.before u b → Leads old.before u b ⊎ ((k : ℕ) × HasStop stops k u × (last k ≡ Some b) × (old.bars ≤ b))
+  pub only : (u b : ℕ) → EdgeLeads new.before u b → EdgeLeads old.before u b ⊎ ((k : ℕ) × HasStop stops k u × (last k ≡ Some b) × (old.bars ≤ b))
   -- a last bar is that of before, or new, and then no other instance's, and some stop is there
   pub come : (k b : ℕ) → last k ≡ Some b → (was k ≡ Some b) ⊎ ((old.bars ≤ b) × (b < new.bars) × (n : ℕ) × HasStop stops k n)
   pub apart : (k l b : ℕ) → last k ≡ Some b → last l ≡ Some b → old.bars ≤ b → k ≡ l
@@ -126,7 +126,7 @@ pub record AreLeft (old new : Web) (was last : ℕ → Option ℕ) (stops : List
 pub record IsFront (w : Web) (last : ℕ → Option ℕ) (es : List EventNode) : Type 0 where
   pub low : (k b : ℕ) → last k ≡ Some b → b < w.bars
   pub rises : (rank bar : ℕ → ℕ) → Rises rank bar w → (e : EventNode) → Among e es → (k : ℕ) × (b : ℕ) × (slice_get w.names k ≡ Some e.at) × (last k ≡ Some b) × (rank e.number < bar b)
-  pub only : (k b u : ℕ) → last k ≡ Some b → Leads w.before u b → (e : EventNode) × Among e es × (slice_get w.names k ≡ Some e.at) × (e.number ≡ u)
+  pub only : (k b u : ℕ) → last k ≡ Some b → EdgeLeads w.before u b → (e : EventNode) × Among e es × (slice_get w.names k ≡ Some e.at) × (e.number ≡ u)
 
 -- the events that come before a later item
 abbrev pub with_item : Bool → List EventNode → List EventNode → List EventNode
@@ -136,7 +136,7 @@ with_item false front es = front ++ es
 -- the item of these events, which is an exception or isn't, stands behind the front, and belongs to it then
 pub record IsPut (old new : Web) (was last : ℕ → Option ℕ) (stays : Bool) (stops : List Stop) : Type 0 where
   pub low : (k b : ℕ) → last k ≡ Some b → b < new.bars
-  pub drawn : (front es : List EventNode) → IsFront old was front → AreStops old.names stops es → AreDrawn (ComesFirst front es) [] old new []
+  pub drawn : (front es : List EventNode) → IsFront old was front → AreStops old.names stops es → AreDrawn (EventsOrder front es) [] old new []
   pub front : (front es : List EventNode) → IsFront old was front → AreStops old.names stops es → IsFront new last (with_item stays front es)
 
 abbrev pub line_item : Bool → List EventNode → List EventNode
@@ -144,7 +144,7 @@ line_item true es = []
 line_item false es = es
 
 -- the events of the items that aren't exceptions, those of a loop as one
-abbrev pub line : Items → List EventNode
+abbrev pub line : WovenItems → List EventNode
 line no_items = []
 line (item_and x xs) = line_item (is_exception x) (item_counted x) ++ line xs
 
@@ -152,27 +152,27 @@ line (item_and x xs) = line_item (is_exception x) (item_counted x) ++ line xs
 
 -- the events that are drawn have lower numbers
 pub record AreBelow (m : ℕ) (w : Web) : Type 0 where
-  pub first : (u v : ℕ) → Leads w.pairs u v → u < m
-  pub second : (u v : ℕ) → Leads w.pairs u v → v < m
-  pub before : (u b : ℕ) → Leads w.before u b → u < m
-  pub behind : (b v : ℕ) → Leads w.behind b v → v < m
+  pub first : (u v : ℕ) → EdgeLeads w.pairs u v → u < m
+  pub second : (u v : ℕ) → EdgeLeads w.pairs u v → v < m
+  pub before : (u b : ℕ) → EdgeLeads w.before u b → u < m
+  pub behind : (b v : ℕ) → EdgeLeads w.behind b v → v < m
 
 -- of one of the edges the ends are so much lower
 pub record IsMoved (edges : List Edge) (from_by to_by y x : ℕ) : Type 0 where
   pub first : ℕ
   pub second : ℕ
-  pub leads : Leads edges first second
+  pub leads : EdgeLeads edges first second
   pub from_is : first + from_by ≡ y
   pub to_is : second + to_by ≡ x
 
 pub record AreAdded (edges : List Edge) (from_by to_by : ℕ) (old new : List Edge) : Type 0 where
-  pub kept : (y x : ℕ) → Leads old y x → Leads new y x
-  pub moved : (u v : ℕ) → Leads edges u v → Leads new (u + from_by) (v + to_by)
-  pub only : (y x : ℕ) → Leads new y x → Leads old y x ⊎ IsMoved edges from_by to_by y x
+  pub kept : (y x : ℕ) → EdgeLeads old y x → EdgeLeads new y x
+  pub moved : (u v : ℕ) → EdgeLeads edges u v → EdgeLeads new (u + from_by) (v + to_by)
+  pub only : (y x : ℕ) → EdgeLeads new y x → EdgeLeads old y x ⊎ IsMoved edges from_by to_by y x
 
 -- what is drawn as edges
 pub record AreEdges (w : Web) (m : ℕ) (edges : List Edge) : Type 0 where
-  pub pairs : (u v : ℕ) → Leads w.pairs u v → Leads edges u v
-  pub before : (u b : ℕ) → Leads w.before u b → Leads edges u (b + m)
-  pub behind : (b v : ℕ) → Leads w.behind b v → Leads edges (b + m) v
-  pub only : (y x : ℕ) → Leads edges y x → Leads w.pairs y x ⊎ (IsMoved w.before 0 m y x ⊎ IsMoved w.behind m 0 y x)
+  pub pairs : (u v : ℕ) → EdgeLeads w.pairs u v → EdgeLeads edges u v
+  pub before : (u b : ℕ) → EdgeLeads w.before u b → EdgeLeads edges u (b + m)
+  pub behind : (b v : ℕ) → EdgeLeads w.behind b v → EdgeLeads edges (b + m) v
+  pub only : (y x : ℕ) → EdgeLeads edges y x → EdgeLeads w.pairs y x ⊎ (IsMoved w.before 0 m y x ⊎ IsMoved w.behind m 0 y x)

@@ -2,7 +2,7 @@
 //! events stand in the order of their numbers nothing is drawn.
 
 ghost use Rattle.std.specs.Prelude.{◌≡◌, ◌<◌, ◌≤◌, ◌+◌, ◌^◌, [], ℕ, true, false, IfOk, OnOk};
-ghost use Rattle.item_order.specs.Counts.{Leads};
+ghost use Rattle.column_order.specs.Counts.{EdgeLeads};
 ghost use Rattle.msc_meaning.specs.Views.{body_view, item_view};
 ghost use Rattle.general_ordering.specs.ItemViews.{bodies_view, inline_view, items_view};
 ghost use Rattle.event_order.specs.Precedence.{BodyHasCyclicLoop, HasCyclicLoop, HasOneCyclicLoop, HasRound, HaveCyclicLoop, IsCyclic, IsOneCyclic};
@@ -12,7 +12,7 @@ ghost use Rattle.event_order.specs.Webs.{AreAdded, AreBelow, AreEdges, IsTidy};
 use crate::in_order::is_in_order;
 use crate::levels::{draw_body, is_loop};
 use crate::web::{Web, nothing};
-use item_order::{Edge, Sorted, sort_edges};
+use column_order::{Edge, Sorted, sort_edges};
 use msc_base::{Items, NoMemory};
 use msc_meaning::{Body, InlineItem, Item};
 use std::alloc::Global;
@@ -35,7 +35,7 @@ fn above(least: u64, number: u32) -> u64
 fn above_from(least: u64, edges: &[Edge]) -> u64
     requires { least ≤ 2 ^ 32 }
     ensures least { least ≤ result }
-    ensures above { (y x : ℕ) → Leads edges.now y x → y < result }
+    ensures above { (y x : ℕ) → EdgeLeads edges.now y x → y < result }
     ensures most { result ≤ 2 ^ 32 }
 {
     let mut number = least;
@@ -49,7 +49,7 @@ fn above_from(least: u64, edges: &[Edge]) -> u64
 fn above_to(least: u64, edges: &[Edge]) -> u64
     requires { least ≤ 2 ^ 32 }
     ensures least { least ≤ result }
-    ensures above { (y x : ℕ) → Leads edges.now y x → x < result }
+    ensures above { (y x : ℕ) → EdgeLeads edges.now y x → x < result }
     ensures most { result ≤ 2 ^ 32 }
 {
     let mut number = least;
@@ -77,7 +77,7 @@ fn add_edges(
     from_by: u32,
     to_by: u32,
 ) -> Result<(), NoMemory>
-    requires { (y x : ℕ) → Leads edges.now y x → (y + from_by < 2 ^ 32) × (x + to_by < 2 ^ 32) }
+    requires { (y x : ℕ) → EdgeLeads edges.now y x → (y + from_by < 2 ^ 32) × (x + to_by < 2 ^ 32) }
     ensures { OnOk result (AreAdded edges.now from_by to_by list.old list.new) }
 {
     for edge in edges {

@@ -11,7 +11,7 @@ ghost use Rattle.msc_meaning.specs.Pairing.{HasPair};
 ghost use Rattle.msc_meaning.specs.Views.{node_view};
 ghost use Rattle.event_order.specs.Webs.{AreDrawn, AreEntered, AreLeft, IsBarAt, IsTidy, Nothing};
 
-use item_order::Edge;
+use column_order::Edge;
 use msc_base::{Items, NameTable, NoMemory, Pair};
 use msc_meaning::EventNode;
 use std::alloc::Global;

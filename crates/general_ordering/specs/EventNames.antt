@@ -3,7 +3,7 @@ use Rattle.std.specs.List.{list_any}
 use Rattle.std.specs.Prelude.{ℕ, Bool, true, false, ◌||◌, ◌&&◌, List, [], ◌∷◌, ◌++◌, Option, Some, None, nat_lt, if◌then◌else◌}
 use Rattle.msc_base.specs.Lists.{IsAmong}
 use Rattle.msc_base.specs.declared.place.Place.{Place}
-use Rattle.msc_meaning.specs.Bodies.{EventNode, Body, level, Items, no_items, item_and, Item, Single, Coregion, Inline, Refer, Bodies, no_bodies, body_and, events}
+use Rattle.msc_meaning.specs.Bodies.{EventNode, Body, level, WovenItems, no_items, item_and, WovenItem, Single, Coregion, Inline, Refer, Bodies, no_bodies, body_and, events}
 use Rattle.msc_meaning.specs.Ties.{is_labelled, labelled}
 use Rattle.general_ordering.specs.declared.faults.EventNameRule.{EventNameRule}
 use Rattle.general_ordering.specs.declared.faults.EventNameRule.TheVariants.{Unknown, Twice}
@@ -41,11 +41,11 @@ module _ (rule : EventNameRule) where
     pub body_faults : Body → List Place
     body_faults (level cover held pairs) = places_where (breaks rule (events held)) (events held) ++ items_faults held
 
-    pub items_faults : Items → List Place
+    pub items_faults : WovenItems → List Place
     items_faults no_items = []
     items_faults (item_and x xs) = item_faults x ++ items_faults xs
 
-    pub item_faults : Item → List Place
+    pub item_faults : WovenItem → List Place
     item_faults (Single n) = []
     item_faults (Coregion ns) = []
     item_faults (Inline form part operands) = operands_faults operands

@@ -1,4 +1,4 @@
-//! A search over edges: for `walks` and `ending`, and for permit_step, which says of each node that is met whether walks
+//! A search over edges: for `walks` and `ending`, and for term_step, which says of each node that is met whether walks
 //! may pass it.
 
 ghost use Rattle.std.specs.Prelude.{◌≡◌, ◌≤◌, ◌<◌, ◌↔◌, ◌∷◌, ◌++◌, [], None, ℕ, List, length, IfOk, OnOk, IfSome};

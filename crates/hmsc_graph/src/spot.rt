@@ -1,4 +1,4 @@
-//! Where a walk begins and where it leads. Terms of walks (chart_term, permit_step) carry both.
+//! Where a walk begins and where it leads. Terms of walks (chart_term, term_step) carry both.
 
 ghost use Rattle.std.specs.Prelude.{◌≡◌};
 ghost use Rattle.hmsc_graph.specs.Spots.{goal_cmp, goal_of, spot_cmp, spot_of};

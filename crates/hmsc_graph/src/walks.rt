@@ -1,4 +1,4 @@
-//! The nodes that walks through allowed nodes reach, and those from which they lead to a goal. permit_step asks by them
+//! The nodes that walks through allowed nodes reach, and those from which they lead to a goal. term_step asks by them
 //! whether a walk can go on.
 
 ghost use Rattle.std.specs.Prelude.{◌≡◌, ◌<◌, ◌↔◌, ℕ, IfOk, IsTrue};

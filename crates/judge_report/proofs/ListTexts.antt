@@ -14,7 +14,7 @@ use Rattle.msc_meaning.specs.Tables.{ChartEntry}
 use Rattle.msc_meaning.specs.Views.{entry_view, table_view}
 use Rattle.msc_meaning.specs.declared.body.ChartEntry as code
 use Rattle.judge_report.specs.Lists.{array_data, chart_data, chart_json, chart_line, chart_list, instance_data, instance_json, instance_list, kind_word, separated}
-use Rattle.judge_report.specs.Texts.{is_plain}
+use Rattle.judge_report.specs.Texts.{needs_no_escape}
 use Rattle.judge_report.proofs.PlainWords.{quoted_plain}
 
 -- one item more
@@ -45,7 +45,7 @@ closed text = append_assoc (text ++ 93 ∷ []) (125 ∷ []) (10 ∷ []) ∙ appe
 
 -- ---- charts
 
-chart_object : (count : ℕ) (graph : Bool) (name : List ℕ) → is_plain name ≡ true
+chart_object : (count : ℕ) (graph : Bool) (name : List ℕ) → needs_no_escape name ≡ true
     → compact_text (object (member (codes "instances") (number (unsigned count)) (member (codes "kind") (string (kind_word graph)) (member (codes "name") (string name) no_members))))
     ≡ codes "{\"instances\":" ++ (decimal count ++ (codes ",\"kind\":\"" ++ (kind_word graph ++ (codes "\",\"name\":\"" ++ (name ++ codes "\"}")))))
 unfolding serde_json_on_literals
@@ -56,7 +56,7 @@ chart_object count true name h =
     ap (λ t. codes "{\"instances\":" ++ (decimal count ++ (codes ",\"kind\":\"graph\",\"name\":" ++ (t ++ 125 ∷ [])))) (quoted_plain name h)
     ∙ ap (λ t. codes "{\"instances\":" ++ (decimal count ++ (codes ",\"kind\":\"graph\",\"name\":\"" ++ t))) (append_assoc name (34 ∷ []) (125 ∷ []))
 
-chart_shown : (c : ChartEntry) → is_plain c.name ≡ true → compact_text (chart_data c) ≡ chart_json c
+chart_shown : (c : ChartEntry) → needs_no_escape c.name ≡ true → compact_text (chart_data c) ≡ chart_json c
 chart_shown c h = chart_object (length (listed_of c)) (is_graph_of c) c.name h
 
 -- charts as the code has them, and as they are listed
@@ -68,15 +68,15 @@ pub lines_shown : (charts : List code.ChartEntry) → flat_map (λ c. chart_line
 lines_shown [] = refl
 lines_shown (c ∷ charts) = ap (λ t. chart_line (entry_view c) ++ t) (lines_shown charts)
 
-charts_text : (charts : List code.ChartEntry) → list_all (λ c. is_plain c.name) charts ≡ true
+charts_text : (charts : List code.ChartEntry) → list_all (λ c. needs_no_escape c.name) charts ≡ true
     → compact_text (array_data (codes "charts") (map (λ c. chart_data (entry_view c)) charts)) ++ 10 ∷ [] ≡ chart_list true (table_view charts)
 unfolding serde_json_on_literals
 charts_text charts h =
-    ap (λ t. codes "{\"charts\":[" ++ ((t ++ 125 ∷ []) ++ 10 ∷ [])) (items_shown (λ c. chart_data (entry_view c)) (λ c. chart_json (entry_view c)) (λ c. is_plain c.name) (λ c p. chart_shown (entry_view c) p) charts h)
+    ap (λ t. codes "{\"charts\":[" ++ ((t ++ 125 ∷ []) ++ 10 ∷ [])) (items_shown (λ c. chart_data (entry_view c)) (λ c. chart_json (entry_view c)) (λ c. needs_no_escape c.name) (λ c p. chart_shown (entry_view c) p) charts h)
     ∙ ap (λ t. codes "{\"charts\":[" ++ t) (closed (separated (map (λ c. chart_json (entry_view c)) charts)))
     ∙ ap (λ ts. codes "{\"charts\":[" ++ (separated ts ++ codes "]}\n")) (viewed chart_json entry_view charts)
 
-pub charts_shown : (line : List ℕ) (value : Data) (held : List Data) (charts : List code.ChartEntry) → list_all (λ c. is_plain c.name) charts ≡ true → held ≡ map (λ c. chart_data (entry_view c)) charts
+pub charts_shown : (line : List ℕ) (value : Data) (held : List Data) (charts : List code.ChartEntry) → list_all (λ c. needs_no_escape c.name) charts ≡ true → held ≡ map (λ c. chart_data (entry_view c)) charts
     → value ≡ array_data (codes "charts") held → line ≡ compact_text value ++ 10 ∷ [] → line ≡ chart_list true (table_view charts)
 charts_shown line value held charts h are is e =
     e ∙ ap (λ d. compact_text d ++ 10 ∷ []) is ∙ ap (λ ds. compact_text (array_data (codes "charts") ds) ++ 10 ∷ []) are ∙ charts_text charts h
@@ -86,16 +86,16 @@ charts_no_float value held charts are is = rw (is, are) rw (no_float_among (λ (
 
 -- ---- instances
 
-instance_shown : (d : Decl) → is_plain d.name ≡ true → compact_text (instance_data d) ≡ instance_json d
+instance_shown : (d : Decl) → needs_no_escape d.name ≡ true → compact_text (instance_data d) ≡ instance_json d
 instance_shown d h = quoted_plain d.name h
 
-instances_text : (listed : List Decl) → list_all (λ d. is_plain d.name) listed ≡ true → compact_text (array_data (codes "instances") (map instance_data listed)) ++ 10 ∷ [] ≡ instance_list true listed
+instances_text : (listed : List Decl) → list_all (λ d. needs_no_escape d.name) listed ≡ true → compact_text (array_data (codes "instances") (map instance_data listed)) ++ 10 ∷ [] ≡ instance_list true listed
 unfolding serde_json_on_literals
 instances_text listed h =
-    ap (λ t. codes "{\"instances\":[" ++ ((t ++ 125 ∷ []) ++ 10 ∷ [])) (items_shown instance_data instance_json (λ d. is_plain d.name) instance_shown listed h)
+    ap (λ t. codes "{\"instances\":[" ++ ((t ++ 125 ∷ []) ++ 10 ∷ [])) (items_shown instance_data instance_json (λ d. needs_no_escape d.name) instance_shown listed h)
     ∙ ap (λ t. codes "{\"instances\":[" ++ t) (closed (separated (map instance_json listed)))
 
-pub instances_shown : (line : List ℕ) (value : Data) (held : List Data) (listed : List Decl) → list_all (λ d. is_plain d.name) listed ≡ true → held ≡ map instance_data listed → value ≡ array_data (codes "instances") held
+pub instances_shown : (line : List ℕ) (value : Data) (held : List Data) (listed : List Decl) → list_all (λ d. needs_no_escape d.name) listed ≡ true → held ≡ map instance_data listed → value ≡ array_data (codes "instances") held
     → line ≡ compact_text value ++ 10 ∷ [] → line ≡ instance_list true listed
 instances_shown line value held listed h are is e =
     e ∙ ap (λ d. compact_text d ++ 10 ∷ []) is ∙ ap (λ ds. compact_text (array_data (codes "instances") ds) ++ 10 ∷ []) are ∙ instances_text listed h

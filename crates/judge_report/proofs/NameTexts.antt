@@ -7,16 +7,16 @@ use Rattle.std.proofs.lemmas.Str.{IsUtf8-from_ascii}
 use Rattle.std.proofs.lemmas.Str.Ascii.{IsAscii-cons, IsAscii-nil}
 use Rattle.std.specs.Str.{IsAscii, IsUtf8}
 use Rattle.msc_base.specs.Names.{IsName, IsWordByte}
-use Rattle.judge_report.specs.Texts.{is_plain, is_plain_byte}
+use Rattle.judge_report.specs.Texts.{needs_no_escape, needs_no_escape_byte}
 
-word_byte_plain : (b : ℕ) → IsWordByte b → is_plain_byte b ≡ true
+word_byte_plain : (b : ℕ) → IsWordByte b → needs_no_escape_byte b ≡ true
 word_byte_plain b h = grind (arith, nat_tests)
 
-word_bytes_plain : (bs : List ℕ) → All IsWordByte bs → is_plain bs ≡ true
+word_bytes_plain : (bs : List ℕ) → All IsWordByte bs → needs_no_escape bs ≡ true
 word_bytes_plain [] h = refl
-word_bytes_plain (b ∷ bs) h = and_from (is_plain_byte b) (is_plain bs) (word_byte_plain b (h 0 0 (omega arith))) (word_bytes_plain bs (All-tail IsWordByte b bs h))
+word_bytes_plain (b ∷ bs) h = and_from (needs_no_escape_byte b) (needs_no_escape bs) (word_byte_plain b (h 0 0 (omega arith))) (word_bytes_plain bs (All-tail IsWordByte b bs h))
 
-pub name_plain : (name : List ℕ) → IsName name → is_plain name ≡ true
+pub name_plain : (name : List ℕ) → IsName name → needs_no_escape name ≡ true
 name_plain name h = word_bytes_plain name h.word.bytes_are
 
 word_byte_ascii : (b : ℕ) → IsWordByte b → b < 128

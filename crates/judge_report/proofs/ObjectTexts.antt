@@ -6,7 +6,7 @@ use Rattle.serde_json.proofs.OnLiterals.{serde_json_on_literals}
 use Rattle.msc_base.specs.declared.verdict.Verdict.{Verdict}
 use Rattle.msc_base.specs.declared.verdict.Verdict.TheVariants.{Conforms, Fails, Early, TooLarge}
 use Rattle.judge_report.specs.Objects.{accepted_data, fault_data, verdict_data}
-use Rattle.judge_report.specs.Texts.{accepted_json, accepted_line, is_plain, told, verdict_json, verdict_line}
+use Rattle.judge_report.specs.Texts.{accepted_json, accepted_line, needs_no_escape, told, verdict_json, verdict_line}
 use Rattle.judge_report.proofs.PlainWords.{quoted_plain}
 
 no_float_in : (verdict : Verdict) → has_float (verdict_data verdict) ≡ false
@@ -41,10 +41,10 @@ accepted_shown line value charts is e = e ∙ ap (λ d. compact_text d ++ 10 ∷
 pub fault_no_float : (value : Data) (words : List ℕ) → value ≡ fault_data words → has_float value ≡ false
 fault_no_float value words is = ap has_float is
 
-text_of_fault : (words : List ℕ) → is_plain words ≡ true → compact_text (fault_data words) ≡ codes "{\"fault\":\"" ++ (words ++ codes "\"}")
+text_of_fault : (words : List ℕ) → needs_no_escape words ≡ true → compact_text (fault_data words) ≡ codes "{\"fault\":\"" ++ (words ++ codes "\"}")
 unfolding serde_json_on_literals
 text_of_fault words h =
     ap (λ t. codes "{\"fault\":" ++ (t ++ 125 ∷ [])) (quoted_plain words h) ∙ ap (λ t. codes "{\"fault\":\"" ++ t) (append_assoc words (34 ∷ []) (125 ∷ []))
 
-pub fault_shown : (line : List ℕ) (value : Data) (words : List ℕ) → is_plain words ≡ true → value ≡ fault_data words → line ≡ compact_text value ++ 10 ∷ [] → line ≡ told true words
+pub fault_shown : (line : List ℕ) (value : Data) (words : List ℕ) → needs_no_escape words ≡ true → value ≡ fault_data words → line ≡ compact_text value ++ 10 ∷ [] → line ≡ told true words
 fault_shown line value words h is e = e ∙ ap (λ d. compact_text d ++ 10 ∷ []) is ∙ ap (λ t. t ++ 10 ∷ []) (text_of_fault words h)

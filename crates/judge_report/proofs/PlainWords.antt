@@ -18,7 +18,7 @@ use Rattle.msc_rules.specs.Rules.{rule_text}
 use Rattle.event_log.specs.Faults.{fault_text}
 use Rattle.event_log.specs.declared.event.LogFault.{LogFault}
 use Rattle.event_log.specs.declared.event.LogFault.TheVariants.{Syntax, LongLine, LogLimit, Version, NoMemory}
-use Rattle.judge_report.specs.Texts.{is_plain, is_plain_byte, document_words, log_words, line_number}
+use Rattle.judge_report.specs.Texts.{needs_no_escape, needs_no_escape_byte, document_words, log_words, line_number}
 
 -- a byte is none of those that are escaped
 record EscapesNone (b : ℕ) : Type 0 where
@@ -31,7 +31,7 @@ record EscapesNone (b : ℕ) : Type 0 where
   tab : (b == 9) ≡ false
   control : nat_lt b 32 ≡ false
 
-escapes_none : (b : ℕ) → is_plain_byte b ≡ true → EscapesNone b
+escapes_none : (b : ℕ) → needs_no_escape_byte b ≡ true → EscapesNone b
 escapes_none b h = record {
   quote = grind (arith, nat_tests);
   backslash = grind (arith, nat_tests);
@@ -44,54 +44,54 @@ escapes_none b h = record {
 }
 
 -- words after plain words
-pub plain_append : (a b : List ℕ) → is_plain a ≡ true → is_plain b ≡ true → is_plain (a ++ b) ≡ true
-plain_append a b h k = list_all-append is_plain_byte a b ∙ and_from (is_plain a) (is_plain b) h k
+pub plain_append : (a b : List ℕ) → needs_no_escape a ≡ true → needs_no_escape b ≡ true → needs_no_escape (a ++ b) ≡ true
+plain_append a b h k = list_all-append needs_no_escape_byte a b ∙ and_from (needs_no_escape a) (needs_no_escape b) h k
 
 -- a digit stands for itself
-plain_digit : (b : ℕ) → 48 ≤ b → b ≤ 57 → is_plain_byte b ≡ true
+plain_digit : (b : ℕ) → 48 ≤ b → b ≤ 57 → needs_no_escape_byte b ≡ true
 plain_digit b low high = grind (arith, nat_tests)
 
-plain_one : (n : ℕ) → n < 10 → is_plain ((48 + n) ∷ []) ≡ true
+plain_one : (n : ℕ) → n < 10 → needs_no_escape ((48 + n) ∷ []) ≡ true
 plain_one n lt = and_from _ true (plain_digit (48 + n) (omega arith) (omega arith)) refl
 
-pub plain_decimal : (n : ℕ) → n < 2 ^ 64 → is_plain (decimal n) ≡ true
+pub plain_decimal : (n : ℕ) → n < 2 ^ 64 → needs_no_escape (decimal n) ≡ true
 plain_decimal n small =
-    decimal_by_steps (λ m ds. is_plain ds ≡ true) plain_one (λ m ds le h. plain_append ds _ h (plain_one (m % 10) (omega arith))) n small
+    decimal_by_steps (λ m ds. needs_no_escape ds ≡ true) plain_one (λ m ds le h. plain_append ds _ h (plain_one (m % 10) (omega arith))) n small
 
-form_plain : (form : Form) → is_plain (rule_text (Unsupported form)) ≡ true
+form_plain : (form : Form) → needs_no_escape (rule_text (Unsupported form)) ≡ true
 form_plain Guard = refl
 form_plain _ = refl
 
-pub rule_plain : (rule : Rule) → is_plain (rule_text rule) ≡ true
+pub rule_plain : (rule : Rule) → needs_no_escape (rule_text rule) ≡ true
 rule_plain (Unsupported form) = form_plain form
 rule_plain _ = refl
 
 -- words, a number and words behind them
-number_plain : (prefix back : List ℕ) (n : ℕ) → is_plain prefix ≡ true → n < 2 ^ 64 → is_plain back ≡ true → is_plain (prefix ++ (decimal n ++ back)) ≡ true
+number_plain : (prefix back : List ℕ) (n : ℕ) → needs_no_escape prefix ≡ true → n < 2 ^ 64 → needs_no_escape back ≡ true → needs_no_escape (prefix ++ (decimal n ++ back)) ≡ true
 number_plain prefix back n f small b = plain_append prefix (decimal n ++ back) f (plain_append (decimal n) back (plain_decimal n small) b)
 
-pub document_plain : (rule : Rule) (place : Place) → place.line < 2 ^ 64 → place.column < 2 ^ 64 → is_plain (document_words rule place) ≡ true
+pub document_plain : (rule : Rule) (place : Place) → place.line < 2 ^ 64 → place.column < 2 ^ 64 → needs_no_escape (document_words rule place) ≡ true
 document_plain rule place l c =
     number_plain (codes "document refused at ") (codes ":" ++ (decimal place.column ++ (codes ": " ++ rule_text rule))) place.line refl l
     (number_plain (codes ":") (codes ": " ++ rule_text rule) place.column refl c (plain_append (codes ": ") (rule_text rule) refl (rule_plain rule)))
 
-fault_plain : (fault : LogFault) → is_plain (fault_text fault) ≡ true
+fault_plain : (fault : LogFault) → needs_no_escape (fault_text fault) ≡ true
 fault_plain (Syntax line) = refl
 fault_plain (LongLine line) = refl
 fault_plain (LogLimit line) = refl
 fault_plain (Version line) = refl
 fault_plain NoMemory = refl
 
-pub log_plain : (fault : LogFault) → line_number fault < 2 ^ 64 → is_plain (log_words fault) ≡ true
+pub log_plain : (fault : LogFault) → line_number fault < 2 ^ 64 → needs_no_escape (log_words fault) ≡ true
 log_plain fault l =
     number_plain (codes "log refused at line ") (codes ": " ++ fault_text fault) (line_number fault) refl l (plain_append (codes ": ") (fault_text fault) refl (fault_plain fault))
 
 -- plain words stand as they are in a JSON string
-pub quoted_plain : (words : List ℕ) → is_plain words ≡ true → compact_text (string words) ≡ 34 ∷ (words ++ 34 ∷ [])
+pub quoted_plain : (words : List ℕ) → needs_no_escape words ≡ true → compact_text (string words) ≡ 34 ∷ (words ++ 34 ∷ [])
 unfolding serde_json_on_literals
 quoted_plain [] h = refl
 quoted_plain (b ∷ bs) h =
-    let parts = and_parts (is_plain_byte b) (is_plain bs) h in
+    let parts = and_parts (needs_no_escape_byte b) (needs_no_escape bs) h in
     let rest = quoted_plain bs parts.1 in
     let e = escapes_none b parts.0 in
     rw (e.quote, e.backslash, e.backspace, e.form_feed, e.line_feed, e.carriage_return, e.tab, e.control) cc

@@ -9,7 +9,7 @@ use Rattle.msc_rules.specs.declared.rule.Rule.{Rule}
 use Rattle.msc_rules.specs.Rules.{rule_text}
 use Rattle.event_log.specs.declared.event.LogFault.{LogFault}
 use Rattle.event_log.specs.declared.event.LogFault.TheVariants.{Syntax, LongLine, LogLimit, Version, NoMemory}
-use Rattle.event_log.specs.Faults.{IsFault, fault_text}
+use Rattle.event_log.specs.Faults.{IsLogFault, fault_text}
 use Rattle.judge_report.specs.declared.fault.Fault.{Fault}
 use Rattle.judge_report.specs.declared.fault.Fault.TheVariants.{Document, NoChart, Log, DocumentRead, LogRead, Usage}
 
@@ -72,14 +72,14 @@ fault_line json Usage = told false (codes "usage: mscjudge COMMAND WORDS")
 abbrev pub IsTold : Fault → Type 0
 IsTold (Document rule place) = Unit {0}
 IsTold NoChart = Unit {0}
-IsTold (Log fault) = IsFault fault
+IsTold (Log fault) = IsLogFault fault
 IsTold DocumentRead = Unit {0}
 IsTold LogRead = Unit {0}
 IsTold Usage = Unit {0}
 
 -- a byte that stands for itself in a JSON string: no control byte, no quote and no backslash
-abbrev pub is_plain_byte : ℕ → Bool
-is_plain_byte b = nat_le 32 b && (not (b == 34) && not (b == 92))
+abbrev pub needs_no_escape_byte : ℕ → Bool
+needs_no_escape_byte b = nat_le 32 b && (not (b == 34) && not (b == 92))
 
-abbrev pub is_plain : List ℕ → Bool
-is_plain words = list_all is_plain_byte words
+abbrev pub needs_no_escape : List ℕ → Bool
+needs_no_escape words = list_all needs_no_escape_byte words

@@ -1,8 +1,8 @@
 //! What is told of each fault: msc_cmd names the fault, and never writes words of its own.
 
 ghost use Rattle.std.specs.Prelude.{◌≡◌, IfOk, string_bytes, true};
-ghost use Rattle.event_log.specs.Faults.{IsFault};
-ghost use Rattle.judge_report.specs.Texts.{IsTold, document_words, fault_line, line_number, log_words, is_plain};
+ghost use Rattle.event_log.specs.Faults.{IsLogFault};
+ghost use Rattle.judge_report.specs.Texts.{IsTold, document_words, fault_line, line_number, log_words, needs_no_escape};
 
 use crate::lines::fault_line_of;
 use event_log::LogFault;
@@ -42,9 +42,9 @@ fn line_of_fault(fault: &LogFault) -> u64
 
 /// What is told of a log's fault.
 fn words_of_log(alloc: Global, fault: &LogFault) -> Result<String, AllocError>
-    requires { IsFault fault.now }
+    requires { IsLogFault fault.now }
     ensures words { IfOk result (λ s. string_bytes s ≡ log_words fault.now) }
-    ensures plain { IfOk result (λ s. is_plain (string_bytes s) ≡ true) }
+    ensures plain { IfOk result (λ s. needs_no_escape (string_bytes s) ≡ true) }
 {
     let line = line_of_fault(fault);
     let text = fault.text();
@@ -54,7 +54,7 @@ fn words_of_log(alloc: Global, fault: &LogFault) -> Result<String, AllocError>
 /// What is told of a broken rule.
 fn words_of_document(alloc: Global, rule: &Rule, place: &Place) -> Result<String, AllocError>
     ensures words { IfOk result (λ s. string_bytes s ≡ document_words rule.now place.now) }
-    ensures plain { IfOk result (λ s. is_plain (string_bytes s) ≡ true) }
+    ensures plain { IfOk result (λ s. needs_no_escape (string_bytes s) ≡ true) }
 {
     let line = place.line;
     let column = place.column;

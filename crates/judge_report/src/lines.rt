@@ -4,7 +4,7 @@ ghost use Rattle.std.specs.Prelude.{◌≡◌, ◌++◌, ◌∷◌, [], IfOk, tr
 ghost use Rattle.serde_json.specs.View.{view};
 ghost use Rattle.serde_json.specs.Written.{compact_text, has_float};
 ghost use Rattle.judge_report.specs.Objects.{fault_data};
-ghost use Rattle.judge_report.specs.Texts.{is_plain, told};
+ghost use Rattle.judge_report.specs.Texts.{needs_no_escape, told};
 
 use msc_base::{NoMemory, Text};
 use serde_json::{Value, json};
@@ -45,7 +45,7 @@ fn fault_value(alloc: Global, words: &str) -> Result<Value, AllocError>
 #[tactic(auto, using(crate::proofs::ObjectTexts::fault_no_float, crate::proofs::ObjectTexts::fault_shown))]
 /// The line that tells a fault in these words.
 pub fn fault_line_of(alloc: Global, words: &str, json: bool) -> Result<Text, NoMemory>
-    requires { is_plain words.now ≡ true }
+    requires { needs_no_escape words.now ≡ true }
     ensures { IfOk result (λ line. line ≡ told json words.now) }
 {
     if json {

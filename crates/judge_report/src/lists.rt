@@ -6,7 +6,7 @@ ghost use Rattle.serde_json.specs.View.{view};
 ghost use Rattle.msc_acceptance.specs.Listing.{is_graph_of};
 ghost use Rattle.msc_meaning.specs.Views.{entry_view, table_view};
 ghost use Rattle.judge_report.specs.Lists.{array_data, chart_data, chart_line, chart_list, instance_data, instance_line, instance_list, kind_word, refined_words};
-ghost use Rattle.judge_report.specs.Texts.{is_plain};
+ghost use Rattle.judge_report.specs.Texts.{needs_no_escape};
 
 use crate::lines::line_of_value;
 use msc_acceptance::{Accepted, is_graph, listed_count};
@@ -27,7 +27,7 @@ fn kind_of(chart: &ChartEntry) -> &'static str
 #[tactic(auto, using(crate::proofs::NameTexts::name_plain, crate::proofs::NameTexts::name_utf8))]
 fn text_of(name: &Name) -> &str
     ensures text { result.now ≡ name.now }
-    ensures plain { is_plain name.now ≡ true }
+    ensures plain { needs_no_escape name.now ≡ true }
 {
     match str::from_utf8(name.bytes()) {
         Ok(text) => text,
@@ -96,7 +96,7 @@ fn instance_lines(alloc: Global, listed: &[Decl]) -> Result<Vec<u8>, AllocError>
 /// The object that tells a chart.
 fn chart_value(alloc: Global, chart: &ChartEntry) -> Result<Value, AllocError>
     ensures value { IfOk result (λ v. view v ≡ chart_data (entry_view chart.now)) }
-    ensures plain { is_plain chart.now.name ≡ true }
+    ensures plain { needs_no_escape chart.now.name ≡ true }
 {
     let name = text_of(&chart.name);
     let kind = kind_of(chart);
@@ -107,7 +107,7 @@ fn chart_value(alloc: Global, chart: &ChartEntry) -> Result<Value, AllocError>
 /// The objects that tell the charts.
 fn chart_values(alloc: Global, charts: &[ChartEntry]) -> Result<Vec<Value>, AllocError>
     ensures values { IfOk result (λ values. map view values.items ≡ map (λ c. chart_data (entry_view c)) charts.now) }
-    ensures plain { IsOk result → list_all (λ c. is_plain c.name) charts.now ≡ true }
+    ensures plain { IsOk result → list_all (λ c. needs_no_escape c.name) charts.now ≡ true }
 {
     let mut values = Vec::new(alloc);
     for chart in charts {
@@ -119,7 +119,7 @@ fn chart_values(alloc: Global, charts: &[ChartEntry]) -> Result<Vec<Value>, Allo
 /// The text that tells an instance.
 fn instance_value(alloc: Global, decl: &Decl) -> Result<Value, AllocError>
     ensures value { IfOk result (λ v. view v ≡ instance_data decl.now) }
-    ensures plain { is_plain decl.now.name ≡ true }
+    ensures plain { needs_no_escape decl.now.name ≡ true }
 {
     Value::try_from_str(alloc, text_of(&decl.name))
 }
@@ -127,7 +127,7 @@ fn instance_value(alloc: Global, decl: &Decl) -> Result<Value, AllocError>
 /// The texts that tell the instances.
 fn instance_values(alloc: Global, listed: &[Decl]) -> Result<Vec<Value>, AllocError>
     ensures values { IfOk result (λ values. map view values.items ≡ map instance_data listed.now) }
-    ensures plain { IsOk result → list_all (λ d. is_plain d.name) listed.now ≡ true }
+    ensures plain { IsOk result → list_all (λ d. needs_no_escape d.name) listed.now ≡ true }
 {
     let mut values = Vec::new(alloc);
     for decl in listed {

@@ -7,9 +7,9 @@ use Rattle.std.proofs.lemmas.Bool.{cases_eq, eq-eqb, ne_eqb, false_from_ne_true,
 use Rattle.std.proofs.lemmas.List.Elements.{All-cons, All-head, All-nil, All-tail}
 use Rattle.std.proofs.lemmas.Option.{slice_get_within}
 use Rattle.std.proofs.lemmas.Slice.Eq.{bytes_eq-Decides}
-use Rattle.item_order.specs.declared.edge.Edge.{Edge}
-use Rattle.item_order.specs.Columns.{columns_from}
-use Rattle.item_order.specs.Counts.{targets}
+use Rattle.column_order.specs.declared.edge.Edge.{Edge}
+use Rattle.column_order.specs.Columns.{columns_from}
+use Rattle.column_order.specs.Counts.{targets}
 use Rattle.msc_base.specs.Lists.{AreDifferent, IsAmong}
 use Rattle.msc_base.specs.NameTables.{with_name}
 use Rattle.msc_instances.specs.Instances.{instances, with_declared}

@@ -18,10 +18,10 @@ use Rattle.msc_tree.specs.declared.statement.RawForm.TheVariants as raw
 use Rattle.msc_tree.specs.declared.statement.RawReference.{RawReference}
 
 pub single_is : (n : EventNode) → item_view (item.Single n) ≡ body.Single (node_view n)
-single_is n = ap item_view (sym (item.rolls-Single n)) ∙ fold-roll-Item body.Item body.Body body.Item item_step body_step inline_step (Item-F.Single n)
+single_is n = ap item_view (sym (item.rolls-Single n)) ∙ fold-roll-Item body.WovenItem body.Body body.WovenItem item_step body_step inline_step (Item-F.Single n)
 
 pub coregion_is : (ns : List EventNode) → item_view (item.Coregion ns) ≡ body.Coregion (map node_view ns)
-coregion_is ns = ap item_view (sym (item.rolls-Coregion ns)) ∙ fold-roll-Item body.Item body.Body body.Item item_step body_step inline_step (Item-F.Coregion ns)
+coregion_is ns = ap item_view (sym (item.rolls-Coregion ns)) ∙ fold-roll-Item body.WovenItem body.Body body.WovenItem item_step body_step inline_step (Item-F.Coregion ns)
 
 pub single_form : (e : RawEvent) → form_view (raw.Single e) ≡ tree.Single e
 single_form e = ap form_view (sym (raw.rolls-Single e)) ∙ fold-roll-RawForm tree.Form tree.Operand tree.Statement tree.Form tree.Item form_step operand_step statement_step view.inline_step view.item_step (RawForm-F.Single e)
@@ -30,7 +30,7 @@ pub coregion_form : (es : List RawEvent) → form_view (raw.Coregion es) ≡ tre
 coregion_form es = ap form_view (sym (raw.rolls-Coregion es)) ∙ fold-roll-RawForm tree.Form tree.Operand tree.Statement tree.Form tree.Item form_step operand_step statement_step view.inline_step view.item_step (RawForm-F.Coregion es)
 
 pub reference_is : (r : ReferenceItem) → item_view (item.Reference r) ≡ reference_view r
-reference_is r = ap item_view (sym (item.rolls-Reference r)) ∙ fold-roll-Item body.Item body.Body body.Item item_step body_step inline_step (Item-F.Reference r)
+reference_is r = ap item_view (sym (item.rolls-Reference r)) ∙ fold-roll-Item body.WovenItem body.Body body.WovenItem item_step body_step inline_step (Item-F.Reference r)
 
 pub reference_form : (r : RawReference) → form_view (raw.Reference r) ≡ tree.Refer (view.reference_view r)
 reference_form r = ap form_view (sym (raw.rolls-Reference r)) ∙ fold-roll-RawForm tree.Form tree.Operand tree.Statement tree.Form tree.Item form_step operand_step statement_step view.inline_step view.item_step (RawForm-F.Reference r)

@@ -3,7 +3,7 @@ use Rattle.std.specs.Prelude.{ℕ, Bool, ◌≡◌, ⊤, true, false, List, [], 
 use Rattle.level_pieces.specs.PieceNumbers.{AreNumbered}
 use Rattle.level_pieces.specs.Unwoven.{AreAllWoven}
 use Rattle.msc_base.specs.declared.place.Place.{Place}
-use Rattle.msc_meaning.specs.Bodies.{Item, Refer}
+use Rattle.msc_meaning.specs.Bodies.{WovenItem, Refer}
 use Rattle.msc_meaning.specs.LevelItems.{is_item, name_of}
 use Rattle.msc_meaning.specs.Pieces.{Piece}
 use Rattle.msc_tree.specs.Statements.{Form, Single, Coregion, Reference}
@@ -35,5 +35,5 @@ AreItems [] = ⊤
 AreItems (x ∷ xs) = AreParts x × AreItems xs
 
 -- the item of a reference that covers these instances
-abbrev pub refer_item : List (List ℕ) → Place → Reference → Item
+abbrev pub refer_item : List (List ℕ) → Place → Reference → WovenItem
 refer_item cover place r = Refer (record { name = r.name; expression = r.expression; joins = r.joins; cover = cover; place = place })

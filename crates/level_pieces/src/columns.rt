@@ -1,8 +1,8 @@
-//! Numbers items and instances, and weaves the columns by item_order: for `weaving`.
+//! Numbers items and instances, and weaves the columns by column_order: for `weaving`.
 
 ghost use Rattle.std.specs.Prelude.{◌≡◌, ◌++◌, IfOk, OnOk, [], map};
-ghost use Rattle.item_order.specs.Answers.{IfStuck, IfWhole};
-ghost use Rattle.item_order.specs.Weaving.{IsCrossedAt, IsWoven};
+ghost use Rattle.column_order.specs.Answers.{IfStuck, IfWhole};
+ghost use Rattle.column_order.specs.Weaving.{IsCrossedAt, IsWoven};
 ghost use Rattle.level_pieces.specs.ItemEdges.{child_edges, created_edges, creation_edges, item_edges, lead_edges, name_edge, own_edges};
 ghost use Rattle.level_pieces.specs.ItemNumbers.{AreInside};
 ghost use Rattle.msc_meaning.specs.LevelItems.{columns_of};
@@ -13,7 +13,7 @@ ghost use Rattle.msc_tree.specs.Views.{form_view};
 
 use crate::column_table::ColumnTable;
 use crate::pieces::{Part, Setting};
-use item_order::{Edge, Sorted, weave_entries};
+use column_order::{Edge, Sorted, weave_entries};
 use msc_base::{Kind, Name, NameTable, NoMemory, number_of};
 use msc_tree::{RawForm, Target};
 use std::alloc::Global;

@@ -7,7 +7,7 @@ use Rattle.term_tables.specs.NetValues.{NetsValue}
 use Rattle.msc_meaning.specs.declared.body.Body as rust_body
 use Rattle.msc_meaning.specs.declared.body.EventNode as rust_event
 use Rattle.msc_meaning.specs.declared.body.Item as rust_item
-use Rattle.msc_meaning.specs.Bodies.{Body, level, Items, no_items, item_and, Item, Single, Coregion, Inline, Refer, Bodies, no_bodies, body_and}
+use Rattle.msc_meaning.specs.Bodies.{Body, level, WovenItems, no_items, item_and, WovenItem, Single, Coregion, Inline, Refer, Bodies, no_bodies, body_and}
 use Rattle.msc_meaning.specs.EventLabels.{written_label}
 use Rattle.msc_meaning.specs.Views.{body_view, item_view, node_view}
 use Rattle.level_terms.proofs.LabelFacts.{length_folded}
@@ -54,11 +54,11 @@ mutual
   few_body : (b : Body) → length (body_labels b) ≤ event_count b
   few_body (level cover held pairs) = few_items held
 
-  few_items : (xs : Items) → length (items_labels xs) ≤ events_count xs
+  few_items : (xs : WovenItems) → length (items_labels xs) ≤ events_count xs
   few_items no_items = omega arith
   few_items (item_and x xs) = omega (arith, length_both (item_labels x) (items_labels xs), few_item x, few_items xs)
 
-  few_item : (x : Item) → length (item_labels x) ≤ item_count x
+  few_item : (x : WovenItem) → length (item_labels x) ≤ item_count x
   few_item (Single n) = omega arith
   few_item (Coregion ns) = omega (arith, length_map written_label ns)
   few_item (Inline form part operands) = few_operands operands

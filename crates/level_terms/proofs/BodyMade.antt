@@ -13,7 +13,7 @@ use Rattle.term_laws.specs.ConstructorLaws.{NormalFormsKeepPatterns}
 use Rattle.term_meaning.specs.UnfoldingSets.{OnlyEmpty, OnlyEvent, AreJoined, AreTied, Either, AreSomeOften}
 use Rattle.msc_tree.specs.declared.reference.InlineForm.{InlineForm}
 use Rattle.msc_tree.specs.declared.reference.InlineForm.TheVariants as inline
-use Rattle.msc_meaning.specs.Bodies.{EventNode, InlinePart, Body, level, Items, no_items, item_and, Item, Single, Coregion, Inline, Refer, Bodies, no_bodies, body_and}
+use Rattle.msc_meaning.specs.Bodies.{EventNode, InlinePart, Body, level, WovenItems, no_items, item_and, WovenItem, Single, Coregion, Inline, Refer, Bodies, no_bodies, body_and}
 use Rattle.msc_meaning.specs.EventLabels.{written_label}
 use Rattle.msc_meaning.specs.FarEnds.{Around, Gates, inside, happening}
 use Rattle.msc_meaning.specs.Tables.{Table}
@@ -65,18 +65,18 @@ module _ (v : NetsValue) (m : List (List ℕ)) where
   plain_nodes [] b = tt
   plain_nodes (n ∷ ns) b = let (i, j) = and_both (is_built_node m n) (are_built_nodes m ns) b in (node_is_plain v m n i, plain_nodes ns j)
 
-  plain_item : (x : Item) → is_built_item m x ≡ true → IsPlainItem x
+  plain_item : (x : WovenItem) → is_built_item m x ≡ true → IsPlainItem x
   plain_item (Single n) b = node_is_plain v m n b
   plain_item (Coregion ns) b = plain_nodes ns b
   plain_item (Inline form part operands) b = tt
   plain_item (Refer part) b = absurd cc
 
-  plain_items : (xs : Items) → are_built m xs ≡ true → ArePlainItems xs
+  plain_items : (xs : WovenItems) → are_built m xs ≡ true → ArePlainItems xs
   plain_items no_items b = tt
   plain_items (item_and x xs) b = let (i, j) = and_both (is_built_item m x) (are_built m xs) b in (plain_item x i, plain_items xs j)
 
   -- an exception has one operand
-  front_item : (x : Item) → is_built_item m x ≡ true → IsFrontItem x
+  front_item : (x : WovenItem) → is_built_item m x ≡ true → IsFrontItem x
   front_item (Single n) b = plain_item (Single n) b
   front_item (Coregion ns) b = plain_item (Coregion ns) b
   front_item (Inline inline.Alt part bs) b = tt
@@ -91,12 +91,12 @@ module _ (v : NetsValue) (m : List (List ℕ)) where
 module _ (keep : NormalFormsKeepPatterns) (v : NetsValue) (m : List (List ℕ)) (fit : AreFit v m) where
   -- ---- an item and what stands behind it
 
-  module _ (lo mid hi : ℕ) (ps qs : List Pair) (y z : Tree) (xs : Items) (q : IsMade v m lo mid qs z (λ t g a. OfItems t g a xs)) where
-    in_front : (x : Item) → ((t : Table) (g : Gates) (a : Around) (u : Unfolding) → Both (AreJoined seq (OfItem t g a x) (OfItems t g a xs) u) (OfItems t g a (item_and x xs) u)) → IsMade v m mid hi ps y (λ t g a. OfItem t g a x)
+  module _ (lo mid hi : ℕ) (ps qs : List Pair) (y z : Tree) (xs : WovenItems) (q : IsMade v m lo mid qs z (λ t g a. OfItems t g a xs)) where
+    in_front : (x : WovenItem) → ((t : Table) (g : Gates) (a : Around) (u : Unfolding) → Both (AreJoined seq (OfItem t g a x) (OfItems t g a xs) u) (OfItems t g a (item_and x xs) u)) → IsMade v m mid hi ps y (λ t g a. OfItem t g a x)
         → IsMade v m lo hi (qs ++ ps) (placed false y z) (λ t g a. OfItems t g a (item_and x xs))
     in_front x sets p = front_made keep v m fit seq lo mid hi ps qs y z (λ t g a. OfItem t g a x) (λ t g a. OfItems t g a xs) (λ t g a. OfItems t g a (item_and x xs)) sets p q
 
-    item_placed : (x : Item) → IsFrontItem x → IsMade v m mid hi ps y (λ t g a. FrontOf t g a x) → IsMade v m lo hi (qs ++ ps) (placed (is_exception x) y z) (λ t g a. OfItems t g a (item_and x xs))
+    item_placed : (x : WovenItem) → IsFrontItem x → IsMade v m mid hi ps y (λ t g a. FrontOf t g a x) → IsMade v m lo hi (qs ++ ps) (placed (is_exception x) y z) (λ t g a. OfItems t g a (item_and x xs))
     item_placed (Single k) f p = in_front (Single k) (λ t g a u. items_more t g a (Single k) xs tt u) p
     item_placed (Coregion ns) f p = in_front (Coregion ns) (λ t g a u. items_more t g a (Coregion ns) xs tt u) p
     item_placed (Inline inline.Alt part bs) f p = in_front (Inline inline.Alt part bs) (λ t g a u. items_more t g a (Inline inline.Alt part bs) xs (λ i. differ i) u) p
@@ -194,7 +194,7 @@ module _ (keep : NormalFormsKeepPatterns) (v : NetsValue) (m : List (List ℕ)) 
     pub level_is : (n : ℕ) (b : Body) → is_built m b ≡ true → HasLabels v.labels (body_labels b) → IsMade v m n (n + event_count b) [] (level_term m v.labels n b) (λ t g a. OfLevel t a b)
     level_is n (level cover held pairs) b h = level_made keep v m fit n (n + events_count held) (shown_items n held) (items_term m v.labels n held) cover held pairs (plain_items v m held b) (items_are n held b h)
 
-    items_are : (n : ℕ) (xs : Items) → are_built m xs ≡ true → HasLabels v.labels (items_labels xs) → IsMade v m n (n + events_count xs) (shown_items n xs) (items_term m v.labels n xs) (λ t g a. OfItems t g a xs)
+    items_are : (n : ℕ) (xs : WovenItems) → are_built m xs ≡ true → HasLabels v.labels (items_labels xs) → IsMade v m n (n + events_count xs) (shown_items n xs) (items_term m v.labels n xs) (λ t g a. OfItems t g a xs)
     items_are n no_items b h =
         until_made keep v m fit n n (n + 0) [] Nil (λ t g a. OfItems t g a no_items) (omega arith)
         (sets_made keep v m fit n n [] Nil (λ t g a. OnlyEmpty) (λ t g a. OfItems t g a no_items) (λ t g a u. items_none t g a u) (nothing_made keep v m fit n))
@@ -204,7 +204,7 @@ module _ (keep : NormalFormsKeepPatterns) (v : NetsValue) (m : List (List ℕ)) 
         (item_placed n (n + events_count xs) (n + events_count xs + item_count x) (shown_item (n + events_count xs) x) (shown_items n xs) (item_term m v.labels (n + events_count xs) x) (items_term m v.labels n xs) xs
         (items_are n xs j (has_right v.labels (item_labels x) (items_labels xs) h)) x (front_item v m x i) (item_is (n + events_count xs) x i (has_left v.labels (item_labels x) (items_labels xs) h)))
 
-    item_is : (n : ℕ) (x : Item) → is_built_item m x ≡ true → HasLabels v.labels (item_labels x) → IsMade v m n (n + item_count x) (shown_item n x) (item_term m v.labels n x) (λ t g a. FrontOf t g a x)
+    item_is : (n : ℕ) (x : WovenItem) → is_built_item m x ≡ true → HasLabels v.labels (item_labels x) → IsMade v m n (n + item_count x) (shown_item n x) (item_term m v.labels n x) (λ t g a. FrontOf t g a x)
     item_is n (Single e) b h =
         sets_made keep v m fit n (n + 1) (shows n e.number ∷ []) (event_term m v.labels n e) (λ t g a. OnlyEvent (happening g.ends a e)) (λ t g a. FrontOf t g a (Single e)) (λ t g a u. item_single t g a e u)
         (event_made v m n e b (has_first v.labels (written_label e) [] h))

@@ -9,7 +9,7 @@ use Rattle.term_laws.specs.ConstructorLaws.{NormalFormsKeepPatterns}
 use Rattle.term_laws.specs.FullSoundness.{AreSoundNets, IsSoundNode, ConstructorsKeepSoundness}
 use Rattle.term_laws.specs.Soundness.{AreTidyTables}
 use Rattle.msc_tree.specs.declared.reference.InlineForm.TheVariants as inline
-use Rattle.msc_meaning.specs.Bodies.{EventNode, Body, level, Items, no_items, item_and, Item, Single, Coregion, Inline, Refer, Bodies, no_bodies, body_and}
+use Rattle.msc_meaning.specs.Bodies.{EventNode, Body, level, WovenItems, no_items, item_and, WovenItem, Single, Coregion, Inline, Refer, Bodies, no_bodies, body_and}
 use Rattle.msc_meaning.specs.EventLabels.{written_label}
 use Rattle.msc_meaning.specs.Ties.{level_pairs}
 use Rattle.chart_forms.specs.BuiltBodies.{is_built_node, are_built_nodes, is_built, are_built, is_built_item, have_built, events_count, operands_count}
@@ -65,7 +65,7 @@ module _ (same_as : NormalFormsKeepPatterns) (keep : ConstructorsKeepSoundness) 
         let (forward, f) = ranked_ordered m has.rank n (level cover held pairs) has.ranked in
         (r, tied_rises same_as keep v nets tidy m r (items_numbered n held) (level_pairs held pairs) (shown_items n held) (items_term m v.labels n held) forward (items_rise r n held b h f loops))
 
-    items_rise : (r : ℕ → ℕ) (n : ℕ) (xs : Items) → are_built m xs ≡ true → HasLabels v.labels (items_labels xs) → AreOrdered r m n xs → HaveRankedLoops xs → Rises r (items_numbered n xs) (shown_items n xs) (items_term m v.labels n xs)
+    items_rise : (r : ℕ → ℕ) (n : ℕ) (xs : WovenItems) → are_built m xs ≡ true → HasLabels v.labels (items_labels xs) → AreOrdered r m n xs → HaveRankedLoops xs → Rises r (items_numbered n xs) (shown_items n xs) (items_term m v.labels n xs)
     items_rise r n no_items b h f loops = nothing_rises same_as keep v nets tidy m r
     items_rise r n (item_and x xs) b h f loops =
         let (i, j) = and_both (is_built_item m x) (are_built m xs) b in
@@ -73,7 +73,7 @@ module _ (same_as : NormalFormsKeepPatterns) (keep : ConstructorsKeepSoundness) 
         (item_rises r (n + events_count xs) x i (has_left v.labels (item_labels x) (items_labels xs) h) f.0 loops.0)
         (items_rise r n xs j (has_right v.labels (item_labels x) (items_labels xs) h) f.2 loops.1) (is_exception x) f.1
 
-    item_rises : (r : ℕ → ℕ) (n : ℕ) (x : Item) → is_built_item m x ≡ true → HasLabels v.labels (item_labels x) → IsOrderedItem r m n x → HasRankedLoops x → Rises r (item_numbered n x) (shown_item n x) (item_term m v.labels n x)
+    item_rises : (r : ℕ → ℕ) (n : ℕ) (x : WovenItem) → is_built_item m x ≡ true → HasLabels v.labels (item_labels x) → IsOrderedItem r m n x → HasRankedLoops x → Rises r (item_numbered n x) (shown_item n x) (item_term m v.labels n x)
     item_rises r n (Single e) b h f loops = event_rises same_as keep v nets tidy m r n e b (has_first v.labels (written_label e) [] h)
     item_rises r n (Coregion es) b h f loops = coregion_rises r n es b h
     item_rises r n (Inline inline.Alt part no_bodies) b h f loops = absurd cc

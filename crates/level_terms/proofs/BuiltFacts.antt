@@ -15,7 +15,7 @@ use Rattle.msc_tree.specs.Labels.{far_of}
 use Rattle.msc_meaning.specs.declared.body.Body as rust_body
 use Rattle.msc_meaning.specs.declared.body.EventNode as rust_event
 use Rattle.msc_meaning.specs.declared.body.Item as rust_item
-use Rattle.msc_meaning.specs.Bodies.{EventNode, Body, Item, Bodies}
+use Rattle.msc_meaning.specs.Bodies.{EventNode, Body, WovenItem, Bodies}
 use Rattle.msc_meaning.specs.Views.{body_view, item_view, node_view}
 use Rattle.chart_forms.specs.BuiltBodies.{creates_nobody, names_no_gate, is_plain, has_operands, is_built_node, are_built_nodes, is_built, are_built, is_built_item, have_built, event_count, events_count, item_count, operands_count}
 use Rattle.general_ordering.specs.ItemViews.{inline_view, items_view, bodies_view}
@@ -141,7 +141,7 @@ inline_parts names form bs h = and_both (has_operands form bs) (have_built names
 
 pub inline_operands : (names : List (List ℕ)) (i : InlineItem) → is_built_item names (inline_view i) ≡ true
     → (has_operands (out-InlineItem i).form (bodies_view (out-InlineItem i).operands.items) ≡ true) × (have_built names (bodies_view (out-InlineItem i).operands.items) ≡ true)
-inline_operands names i h = inline_parts names (out-InlineItem i).form (bodies_view (out-InlineItem i).operands.items) (subst (λ (x : Item). is_built_item names x ≡ true) (inline_is i) h)
+inline_operands names i h = inline_parts names (out-InlineItem i).form (bodies_view (out-InlineItem i).operands.items) (subst (λ (x : WovenItem). is_built_item names x ≡ true) (inline_is i) h)
 
 pub inline_count : (i : InlineItem) → item_count (inline_view i) ≡ operands_count (bodies_view (out-InlineItem i).operands.items)
 inline_count i = ap item_count (inline_is i)
@@ -154,16 +154,16 @@ body_count b = ap event_count (body_is b)
 
 module _ (names : List (List ℕ)) (x : rust_item.Item) (h : is_built_item names (item_view x) ≡ true) where
   pub single_built : (n : rust_event.EventNode) → x ≡ item.Single n → is_built_node names (node_view n) ≡ true
-  single_built n e = subst (λ (y : Item). is_built_item names y ≡ true) (ap item_view e ∙ single_is n) h
+  single_built n e = subst (λ (y : WovenItem). is_built_item names y ≡ true) (ap item_view e ∙ single_is n) h
 
   pub coregion_built : (ns : List rust_event.EventNode) → x ≡ item.Coregion ns → are_built_nodes names (map node_view ns) ≡ true
-  coregion_built ns e = subst (λ (y : Item). is_built_item names y ≡ true) (ap item_view e ∙ coregion_is ns) h
+  coregion_built ns e = subst (λ (y : WovenItem). is_built_item names y ≡ true) (ap item_view e ∙ coregion_is ns) h
 
   pub inline_built : (i : InlineItem) → x ≡ item.Inline i → is_built_item names (inline_view i) ≡ true
-  inline_built i e = subst (λ (y : Item). is_built_item names y ≡ true) (ap item_view e ∙ inline_item_is i) h
+  inline_built i e = subst (λ (y : WovenItem). is_built_item names y ≡ true) (ap item_view e ∙ inline_item_is i) h
 
   pub no_reference : (r : ReferenceItem) → x ≡ item.Reference r → ⊥
-  no_reference r e = clash (subst (λ (y : Item). is_built_item names y ≡ true) (ap item_view e ∙ reference_is r) h)
+  no_reference r e = clash (subst (λ (y : WovenItem). is_built_item names y ≡ true) (ap item_view e ∙ reference_is r) h)
     where
       clash : false ≡ true → ⊥
       clash c = absurd cc

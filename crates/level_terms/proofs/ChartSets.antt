@@ -8,7 +8,7 @@ use Rattle.msc_base.specs.Patterns.{Mode, seq, par, empty, join, bind}
 use Rattle.msc_unfolding.specs.Unfoldings.{Unfolding, level_tie}
 use Rattle.msc_tree.specs.Expressions.{Expression, Empty, Chart, Alt, Par, Seq, Opt, Loop, Expressions, more}
 use Rattle.msc_tree.specs.Graphs.{graph, Lines, Refer, Graphs, graph_and}
-use Rattle.msc_meaning.specs.Bodies.{EventNode, ReferencePart, Body, level, Items}
+use Rattle.msc_meaning.specs.Bodies.{EventNode, ReferencePart, Body, level, WovenItems}
 use Rattle.msc_meaning.specs.Bodies as body
 use Rattle.msc_meaning.specs.Tables.{Table, ChartEntry, chart_at, Basic, HighLevel, Refinement, refinements}
 use Rattle.msc_meaning.specs.Calls.{calls}
@@ -16,7 +16,7 @@ use Rattle.msc_meaning.specs.InnerEvents.{GateEnd, AreEnds}
 use Rattle.msc_meaning.specs.FarEnds.{GateMap, no_gates, Around, Gates, gates_referred, far_end}
 use Rattle.msc_meaning.specs.Ties.{ties, past_reference, past_node, passing}
 use Rattle.msc_meaning.specs.ChartUnfoldings.{UpTo, gates_of, under, refined_under, refining_under, OfRefinings, of_refined, refining_and, OfLevel, of_level, OfItems, OfItem, reference, OfExpression, nothing, chart, one_of, beside, in_turn, done, not_done, rounds, no_rounds, OfOne, this_part, that_part, OfEach, part_and, OfRounds, no_round, round_and, OfWoven, of_body, of_graph, OfWalk, OfNode, refer, OfFrames, frame_and}
-use Rattle.msc_meaning.specs.Refinements.{Match, Refining, refining, refinings, without, refining_tie}
+use Rattle.msc_meaning.specs.Refinements.{Match, Refining, refining, refinings, without_decomposed, refining_tie}
 use Rattle.msc_meaning.specs.MeaningLaws.{HaveOneEnd}
 use Rattle.term_meaning.specs.UnfoldingSets.{OnlyEmpty, AreJoined, joined, AreTied, tied, Either, AreRepeated, no_more, once_more, AreSomeOften}
 use Rattle.chart_term.specs.TermPatterns.{Both}
@@ -27,7 +27,7 @@ use Rattle.msc_meaning.proofs.MeaningLaws.{ends_are_one}
 -- ---- levels and items
 
 -- a level is its items below its tie, where the ends of its called gates are these and no others
-pub level_set : (table : Table) (around : Around) (cover : List (List ℕ)) (held : Items) (pairs : List Pair) (ends : List GateEnd) → AreEnds table held (calls held) ends → HaveOneEnd table held (calls held)
+pub level_set : (table : Table) (around : Around) (cover : List (List ℕ)) (held : WovenItems) (pairs : List Pair) (ends : List GateEnd) → AreEnds table held (calls held) ends → HaveOneEnd table held (calls held)
     → AreSame (OfLevel table around (level cover held pairs)) (AreTied (OfItems table (gates_of held ends) around held) (level_tie (ties held pairs (calls held) ends)))
 level_set table around cover held pairs ends h f u = record { to = λ h. to u h; from = λ h. from u h }
   where
@@ -150,28 +150,28 @@ module _ (table : Table) (gates : GateMap) where
 -- ---- decomposition
 
 -- what is left of a chart beside its refining charts, below its tie
-pub refined_set : (table : Table) (gates : GateMap) (r : Refinement) (rs : List Refinement) (cover : List (List ℕ)) (held : Items) (pairs : List Pair) (ends : List GateEnd)
+pub refined_set : (table : Table) (gates : GateMap) (r : Refinement) (rs : List Refinement) (cover : List (List ℕ)) (held : WovenItems) (pairs : List Pair) (ends : List GateEnd)
     → AreEnds table held (calls held) ends → HaveOneEnd table held (calls held)
     → AreSame (OfWoven table gates (r ∷ rs) (Basic (level cover held pairs)))
-    (AreTied (AreJoined par (OfItems table (gates_of held ends) (refined_under gates pairs (refinings table held (r ∷ rs))) (without (r ∷ rs) held))
+    (AreTied (AreJoined par (OfItems table (gates_of held ends) (refined_under gates pairs (refinings table held (r ∷ rs))) (without_decomposed (r ∷ rs) held))
     (OfRefinings table (far_end ends (refined_under gates pairs (refinings table held (r ∷ rs)))) (refinings table held (r ∷ rs)))) (level_tie (ties held pairs (calls held) ends)))
 refined_set table gates r rs cover held pairs ends h f u = record { to = λ h. to u h; from = λ h. from u h }
   where
     to : (u : Unfolding) → OfWoven table gates (r ∷ rs) (Basic (level cover held pairs)) u
-        → AreTied (AreJoined par (OfItems table (gates_of held ends) (refined_under gates pairs (refinings table held (r ∷ rs))) (without (r ∷ rs) held))
+        → AreTied (AreJoined par (OfItems table (gates_of held ends) (refined_under gates pairs (refinings table held (r ∷ rs))) (without_decomposed (r ∷ rs) held))
         (OfRefinings table (far_end ends (refined_under gates pairs (refinings table held (r ∷ rs)))) (refinings table held (r ∷ rs)))) (level_tie (ties held pairs (calls held) ends)) u
     to _ (of_refined {ends = es} {u = v} {v = w} k a b) =
-        let P : List GateEnd → Type 0 = λ x. AreTied (AreJoined par (OfItems table (gates_of held x) (refined_under gates pairs (refinings table held (r ∷ rs))) (without (r ∷ rs) held))
+        let P : List GateEnd → Type 0 = λ x. AreTied (AreJoined par (OfItems table (gates_of held x) (refined_under gates pairs (refinings table held (r ∷ rs))) (without_decomposed (r ∷ rs) held))
         (OfRefinings table (far_end x (refined_under gates pairs (refinings table held (r ∷ rs)))) (refinings table held (r ∷ rs)))) (level_tie (ties held pairs (calls held) x)) (bind (join par v w) (level_tie (ties held pairs (calls held) es))) in
         subst P (ends_are_one table held (calls held) f es ends k h) (tied (joined a b))
 
-    from : (u : Unfolding) → AreTied (AreJoined par (OfItems table (gates_of held ends) (refined_under gates pairs (refinings table held (r ∷ rs))) (without (r ∷ rs) held))
+    from : (u : Unfolding) → AreTied (AreJoined par (OfItems table (gates_of held ends) (refined_under gates pairs (refinings table held (r ∷ rs))) (without_decomposed (r ∷ rs) held))
         (OfRefinings table (far_end ends (refined_under gates pairs (refinings table held (r ∷ rs)))) (refinings table held (r ∷ rs)))) (level_tie (ties held pairs (calls held) ends)) u
         → OfWoven table gates (r ∷ rs) (Basic (level cover held pairs)) u
     from _ (tied (joined a b)) = of_refined h a b
 
 -- a refining chart, and those behind it
-pub refinings_set : (table : Table) (far_of : EventNode → Far) (cover : List (List ℕ)) (held : Items) (pairs : List Pair) (ms : List Match) (others : List Refining) (ends : List GateEnd)
+pub refinings_set : (table : Table) (far_of : EventNode → Far) (cover : List (List ℕ)) (held : WovenItems) (pairs : List Pair) (ms : List Match) (others : List Refining) (ends : List GateEnd)
     → AreEnds table held (calls held) ends → HaveOneEnd table held (calls held)
     → AreSame (OfRefinings table far_of (refining (level cover held pairs) ms ∷ others))
     (AreJoined par (AreTied (OfItems table (gates_of held ends) (refining_under far_of ms) held) (refining_tie ms (ties held pairs (calls held) ends))) (OfRefinings table far_of others))

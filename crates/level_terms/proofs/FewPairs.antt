@@ -3,7 +3,7 @@ use Rattle.std.specs.Prelude.{ℕ, suc, ◌≤◌, List, [], ◌∷◌, ◌++◌
 use Rattle.std.proofs.Common.{◌≡◌, refl, subst, ap, inl, inr, arith}
 use Rattle.msc_base.specs.declared.label.Pair.{Pair}
 use Rattle.msc_base.specs.Orders.{Among, first, later}
-use Rattle.msc_meaning.specs.Bodies.{EventNode, Items, events}
+use Rattle.msc_meaning.specs.Bodies.{EventNode, WovenItems, events}
 use Rattle.msc_meaning.specs.Pairing.{ArePairs, DoRise, HasPair}
 use Rattle.msc_meaning.specs.Ties.{after_pairs, before_pairs, each_after, each_before, labelled, level_pairs, order_pairs}
 use Rattle.general_ordering.specs.OrderCounts.{orders_count}
@@ -98,6 +98,6 @@ module _ (named : List ℕ → List ℕ) (few : (name : List ℕ) → length (na
         orders_few ns,
       )
 
-pub level_is_few : (held : Items) (pairs : List Pair) → ArePairs (events held) pairs → ((name : List ℕ) → length (labelled (events held) name) ≤ 1) → length (level_pairs held pairs) ≤ length (events held) + orders_count (events held)
+pub level_is_few : (held : WovenItems) (pairs : List Pair) → ArePairs (events held) pairs → ((name : List ℕ) → length (labelled (events held) name) ≤ 1) → length (level_pairs held pairs) ≤ length (events held) + orders_count (events held)
 level_is_few held pairs h few =
     omega (arith, length_pairs pairs (order_pairs (labelled (events held)) (events held)), pairs_are_few (events held) pairs h, orders_few (labelled (events held)) few (events held))

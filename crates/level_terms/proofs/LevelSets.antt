@@ -7,7 +7,7 @@ use Rattle.msc_unfolding.specs.Unfoldings.{Unfolding, level_tie}
 use Rattle.chart_term.specs.TermPatterns.{Both}
 use Rattle.msc_tree.specs.declared.reference.InlineForm.{InlineForm}
 use Rattle.msc_tree.specs.declared.reference.InlineForm.TheVariants as inline
-use Rattle.msc_meaning.specs.Bodies.{EventNode, InlinePart, Body, level, Items, no_items, item_and, Item, Single, Coregion, Inline, Refer, Bodies, no_bodies, body_and}
+use Rattle.msc_meaning.specs.Bodies.{EventNode, InlinePart, Body, level, WovenItems, no_items, item_and, WovenItem, Single, Coregion, Inline, Refer, Bodies, no_bodies, body_and}
 use Rattle.msc_meaning.specs.Tables.{Table}
 use Rattle.msc_meaning.specs.Calls.{calls, event_calls, events_calls}
 use Rattle.msc_meaning.specs.InnerEvents.{GateEnd, AreEnds, no_ends}
@@ -29,7 +29,7 @@ plain_events_calls : (ns : List EventNode) → ArePlainNodes ns → events_calls
 plain_events_calls [] h = refl
 plain_events_calls (n ∷ ns) (h, k) = app_none (event_calls n n.event.target) (events_calls ns) h.no_calls (plain_events_calls ns k)
 
-pub plain_calls : (xs : Items) → ArePlainItems xs → calls xs ≡ []
+pub plain_calls : (xs : WovenItems) → ArePlainItems xs → calls xs ≡ []
 plain_calls no_items h = refl
 plain_calls (item_and (Single n) xs) (h, k) = app_none (event_calls n n.event.target) (calls xs) h.no_calls (plain_calls xs k)
 plain_calls (item_and (Coregion ns) xs) (h, k) = app_none (events_calls ns) (calls xs) (plain_events_calls ns h) (plain_calls xs k)
@@ -40,7 +40,7 @@ app_nil : {X : Type 0} (xs : List X) → xs ++ [] ≡ xs
 app_nil [] = refl
 app_nil (x ∷ xs) = ap (λ l. x ∷ l) (app_nil xs)
 
-pub plain_joins : (es : List GateEnd) (xs : Items) → ArePlainItems xs → items_joins_ties es xs ≡ []
+pub plain_joins : (es : List GateEnd) (xs : WovenItems) → ArePlainItems xs → items_joins_ties es xs ≡ []
 plain_joins es no_items h = refl
 plain_joins es (item_and (Single n) xs) (h, k) = plain_joins es xs k
 plain_joins es (item_and (Coregion ns) xs) (h, k) = plain_joins es xs k
@@ -48,16 +48,16 @@ plain_joins es (item_and (Inline form part operands) xs) (h, k) = plain_joins es
 plain_joins es (item_and (Refer part) xs) (h, k) = absurd h
 
 -- its ties are those of its messages and of its general ordering
-pub plain_ties : (xs : Items) (pairs : List Pair) → ArePlainItems xs → ties xs pairs (calls xs) [] ≡ own_ties (level_pairs xs pairs)
+pub plain_ties : (xs : WovenItems) (pairs : List Pair) → ArePlainItems xs → ties xs pairs (calls xs) [] ≡ own_ties (level_pairs xs pairs)
 plain_ties xs pairs h =
     ap (λ l. own_ties (level_pairs xs pairs) ++ l) (app_none (event_ties (calls xs)) (items_joins_ties [] xs) (ap event_ties (plain_calls xs h)) (plain_joins [] xs h))
     ∙ app_nil (own_ties (level_pairs xs pairs))
 
 module _ (table : Table) where
-  no_calls_ends : (held : Items) (es : List GateEnd) → AreEnds table held [] es → es ≡ []
+  no_calls_ends : (held : WovenItems) (es : List GateEnd) → AreEnds table held [] es → es ≡ []
   no_calls_ends held _ no_ends = refl
 
-  pub plain_level : (around : Around) (cover : List (List ℕ)) (held : Items) (pairs : List Pair) → ArePlainItems held → (u : Unfolding)
+  pub plain_level : (around : Around) (cover : List (List ℕ)) (held : WovenItems) (pairs : List Pair) → ArePlainItems held → (u : Unfolding)
       → Both (AreTied (OfItems table (gates_of held []) around held) (level_tie (ties held pairs (calls held) [])) u) (OfLevel table around (level cover held pairs) u)
   plain_level around cover held pairs plain u = record { to = λ h. to u h; from = λ h. from u h }
     where
@@ -93,33 +93,33 @@ module _ (table : Table) (gates : Gates) (around : Around) where
       from _ no_item = refl
 
   -- an item that is no exception
-  abbrev IsNoException : Item → Type 0
+  abbrev IsNoException : WovenItem → Type 0
   IsNoException (Inline form part operands) = form ≡ inline.Exc → ⊥
   IsNoException x = Unit {0}
 
-  pub items_more : (x : Item) (xs : Items) → IsNoException x → (u : Unfolding) → Both (AreJoined seq (OfItem table gates around x) (OfItems table gates around xs) u) (OfItems table gates around (item_and x xs) u)
+  pub items_more : (x : WovenItem) (xs : WovenItems) → IsNoException x → (u : Unfolding) → Both (AreJoined seq (OfItem table gates around x) (OfItems table gates around xs) u) (OfItems table gates around (item_and x xs) u)
   items_more x xs n u = record { to = λ h. to u h; from = λ h. from x n u h }
     where
       to : (u : Unfolding) → AreJoined seq (OfItem table gates around x) (OfItems table gates around xs) u → OfItems table gates around (item_and x xs) u
       to _ (joined a b) = item_then a b
 
-      from : (x : Item) → IsNoException x → (u : Unfolding) → OfItems table gates around (item_and x xs) u → AreJoined seq (OfItem table gates around x) (OfItems table gates around xs) u
+      from : (x : WovenItem) → IsNoException x → (u : Unfolding) → OfItems table gates around (item_and x xs) u → AreJoined seq (OfItem table gates around x) (OfItems table gates around xs) u
       from x n _ (item_then a b) = joined a b
       from _ n _ (exception h) = absurd (n refl)
       from _ n _ (no_exception h) = absurd (n refl)
 
   -- the same, said without looking into the item
-  pub items_unless : (x : Item) (xs : Items) → ((part : InlinePart) (operands : Bodies) → x ≡ Inline inline.Exc part operands → ⊥)
+  pub items_unless : (x : WovenItem) (xs : WovenItems) → ((part : InlinePart) (operands : Bodies) → x ≡ Inline inline.Exc part operands → ⊥)
       → (u : Unfolding) → Both (AreJoined seq (OfItem table gates around x) (OfItems table gates around xs) u) (OfItems table gates around (item_and x xs) u)
   items_unless x xs f u = items_more x xs (none_of x f) u
     where
-      none_of : (x : Item) → ((part : InlinePart) (operands : Bodies) → x ≡ Inline inline.Exc part operands → ⊥) → IsNoException x
+      none_of : (x : WovenItem) → ((part : InlinePart) (operands : Bodies) → x ≡ Inline inline.Exc part operands → ⊥) → IsNoException x
       none_of (Inline form part operands) f = λ e. f part operands (ap (λ (k : InlineForm). Inline k part operands) e)
       none_of (Single n) f = tt
       none_of (Coregion ns) f = tt
       none_of (Refer part) f = tt
 
-  pub items_exception : (part : InlinePart) (operand : Body) (xs : Items) (u : Unfolding)
+  pub items_exception : (part : InlinePart) (operand : Body) (xs : WovenItems) (u : Unfolding)
       → Both (Either (AreTied (OfLevel table (inside gates part.name around) operand) (passing (past_inline gates.calls part.name))) (OfItems table gates around xs) u)
       (OfItems table gates around (item_and (Inline inline.Exc part (body_and operand no_bodies)) xs) u)
   items_exception part operand xs u = record { to = λ h. to u h; from = λ h. from u h }

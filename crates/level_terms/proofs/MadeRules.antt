@@ -14,7 +14,7 @@ use Rattle.term_laws.specs.ConstructorLaws.{HaveSame, NormalFormsKeepPatterns}
 use Rattle.term_meaning.specs.Portions.{IsPortion, shown_pairs}
 use Rattle.term_meaning.specs.UnfoldingSets.{OnlyEmpty, AreJoined, AreTied, Either, Nothing}
 use Rattle.term_meaning.proofs.PortionRules.{portion_nil, portion_sets, portion_pass, portion_same, portion_choice, portion_no_choice, portion_choice_of}
-use Rattle.msc_meaning.specs.Bodies.{Items, level, no_bodies}
+use Rattle.msc_meaning.specs.Bodies.{WovenItems, level, no_bodies}
 use Rattle.msc_meaning.specs.Calls.{calls}
 use Rattle.msc_meaning.specs.FarEnds.{Around, Gates, inside, no_far}
 use Rattle.msc_meaning.specs.Tables.{Table}
@@ -102,7 +102,7 @@ module _ (keep : NormalFormsKeepPatterns) (v : NetsValue) (m : List (List ℕ)) 
   }
 
   -- a level: its items, tied
-  pub level_made : (lo hi : ℕ) (ps : List Pair) (x : Tree) (cover : List (List ℕ)) (held : Items) (pairs : List Pair) → ArePlainItems held → IsMade v m lo hi ps x (λ t g a. OfItems t g a held)
+  pub level_made : (lo hi : ℕ) (ps : List Pair) (x : Tree) (cover : List (List ℕ)) (held : WovenItems) (pairs : List Pair) → ArePlainItems held → IsMade v m lo hi ps x (λ t g a. OfItems t g a held)
       → IsMade v m lo hi [] (tie_of x (tie_pairs ps (level_pairs held pairs))) (λ t g a. OfLevel t a (level cover held pairs))
   level_made lo hi ps x cover held pairs plain p = record {
     bare = bare_tie x (tie_pairs ps (level_pairs held pairs)) p.bare;

@@ -12,7 +12,7 @@ use Rattle.term_laws.proofs.Identity.{permit_same}
 use Rattle.term_laws.proofs.Normalising.{join_normal, choice_normal, bound_normal}
 use Rattle.term_laws.proofs.Opening.{each_app}
 use Rattle.msc_tree.specs.declared.reference.InlineForm.TheVariants as inline
-use Rattle.msc_meaning.specs.Bodies.{EventNode, Body, level, Items, no_items, item_and, Item, Single, Coregion, Inline, Refer, Bodies, no_bodies, body_and}
+use Rattle.msc_meaning.specs.Bodies.{EventNode, Body, level, WovenItems, no_items, item_and, WovenItem, Single, Coregion, Inline, Refer, Bodies, no_bodies, body_and}
 use Rattle.msc_meaning.specs.Ties.{level_pairs}
 use Rattle.event_order.specs.RankedBodies.{is_exception}
 use Rattle.chart_forms.specs.BuiltBodies.{events_count, operands_count}
@@ -72,11 +72,11 @@ module _ (k : NetPermits) where
       level_normal : (n : ℕ) (b : Body) → IsNormal k (level_term names labels n b)
       level_normal n (level cover held pairs) = bound_normal k (items_term names labels n held) (tie_pairs (shown_items n held) (level_pairs held pairs)) (items_normal n held)
 
-      pub items_normal : (n : ℕ) (xs : Items) → IsNormal k (items_term names labels n xs)
+      pub items_normal : (n : ℕ) (xs : WovenItems) → IsNormal k (items_term names labels n xs)
       items_normal n no_items = tt
       items_normal n (item_and x xs) = placed_normal (is_exception x) (item_term names labels (n + events_count xs) x) (items_term names labels n xs) (item_normal (n + events_count xs) x) (items_normal n xs)
 
-      pub item_normal : (n : ℕ) (x : Item) → IsNormal k (item_term names labels n x)
+      pub item_normal : (n : ℕ) (x : WovenItem) → IsNormal k (item_term names labels n x)
       item_normal n (Single e) = tt
       item_normal n (Coregion es) = coregion_normal n es
       item_normal n (Inline inline.Alt part operands) = one_normal (operand_terms names labels n operands) (operands_normal n operands)

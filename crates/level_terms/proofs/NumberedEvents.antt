@@ -5,7 +5,7 @@ use Rattle.std.proofs.Common.{◌≡◌, inl, inr, refl, sym, ◌∙◌, subst, 
 use Rattle.msc_base.specs.declared.label.Pair.{Pair}
 use Rattle.msc_base.specs.Orders.{Among, first, later, Once}
 use Rattle.msc_tree.specs.declared.reference.InlineForm.TheVariants as inline
-use Rattle.msc_meaning.specs.Bodies.{EventNode, Body, level, Items, no_items, item_and, Item, Single, Coregion, Inline, Refer, Bodies, no_bodies, body_and}
+use Rattle.msc_meaning.specs.Bodies.{EventNode, Body, level, WovenItems, no_items, item_and, WovenItem, Single, Coregion, Inline, Refer, Bodies, no_bodies, body_and}
 use Rattle.chart_forms.specs.BuiltBodies.{event_count, events_count, item_count, operands_count}
 use Rattle.event_order.specs.RankedBodies.{events_within, items_within, item_within, operands_within, with_number, as_one, counted_within, items_counted, item_counted, operands_counted}
 use Rattle.sound_terms.proofs.Ordering.{among_either, among_left, among_right, once_both}
@@ -39,11 +39,11 @@ abbrev mutual
   pub body_numbered : ℕ → Body → Numbered
   body_numbered n (level cover held pairs) = items_numbered n held
 
-  pub items_numbered : ℕ → Items → Numbered
+  pub items_numbered : ℕ → WovenItems → Numbered
   items_numbered n no_items = []
   items_numbered n (item_and x xs) = item_numbered (n + events_count xs) x ++ items_numbered n xs
 
-  pub item_numbered : ℕ → Item → Numbered
+  pub item_numbered : ℕ → WovenItem → Numbered
   item_numbered n (Single e) = (n, e) ∷ []
   item_numbered n (Coregion es) = numbered_events n es
   item_numbered n (Inline inline.Loop part operands) = numbered_as (first_number (operands_within operands)) (operands_numbered n operands)
@@ -127,12 +127,12 @@ mutual
   body_numbering : (n : ℕ) (b : Body) → IsNumbering n (n + event_count b) (body_numbered n b)
   body_numbering n (level cover held pairs) = items_numbering n held
 
-  items_numbering : (n : ℕ) (xs : Items) → IsNumbering n (n + events_count xs) (items_numbered n xs)
+  items_numbering : (n : ℕ) (xs : WovenItems) → IsNumbering n (n + events_count xs) (items_numbered n xs)
   items_numbering n no_items = until_numbering n n (n + 0) [] (omega arith) (no_numbering n)
   items_numbering n (item_and x xs) = until_numbering n (n + events_count xs + item_count x) (n + (item_count x + events_count xs)) (items_numbered n (item_and x xs)) (omega arith)
       (both_numbering n (n + events_count xs) (n + events_count xs + item_count x) (item_numbered (n + events_count xs) x) (items_numbered n xs) (item_numbering (n + events_count xs) x) (items_numbering n xs))
 
-  item_numbering : (n : ℕ) (x : Item) → IsNumbering n (n + item_count x) (item_numbered n x)
+  item_numbering : (n : ℕ) (x : WovenItem) → IsNumbering n (n + item_count x) (item_numbered n x)
   item_numbering n (Single e) = one_numbering n e
   item_numbering n (Coregion es) = coregion_numbering n es
   item_numbering n (Inline inline.Loop part operands) = numbering_as (first_number (operands_within operands)) n (n + operands_count operands) (operands_numbered n operands) (operands_numbering n operands)
@@ -153,7 +153,7 @@ body_once n b = (body_numbering n b).once
 pub events_differ : (n : ℕ) (e : EventNode) (es : List EventNode) → DoDiffer ((n + length es, e) ∷ []) (numbered_events n es)
 events_differ n e es = once_differ ((n + length es, e) ∷ []) (numbered_events n es) (coregion_numbering n (e ∷ es)).once
 
-pub items_differ : (n : ℕ) (x : Item) (xs : Items) → DoDiffer (item_numbered (n + events_count xs) x) (items_numbered n xs)
+pub items_differ : (n : ℕ) (x : WovenItem) (xs : WovenItems) → DoDiffer (item_numbered (n + events_count xs) x) (items_numbered n xs)
 items_differ n x xs = once_differ (item_numbered (n + events_count xs) x) (items_numbered n xs) (items_numbering n (item_and x xs)).once
 
 pub operands_differ : (n : ℕ) (b : Body) (bs : Bodies) → DoDiffer (body_numbered (n + operands_count bs) b) (operands_numbered n bs)
@@ -203,12 +203,12 @@ mutual
   body_counted : (k : ℕ) (b : Body) → with_number k (counted_within b) ≡ with_number k (events_within b)
   body_counted k (level cover held pairs) = all_counted k held
 
-  all_counted : (k : ℕ) (xs : Items) → with_number k (items_counted xs) ≡ with_number k (items_within xs)
+  all_counted : (k : ℕ) (xs : WovenItems) → with_number k (items_counted xs) ≡ with_number k (items_within xs)
   all_counted k no_items = refl
   all_counted k (item_and x xs) =
       with_both k (item_counted x) (items_counted xs) ∙ (ap (λ (l : List EventNode). l ++ with_number k (items_counted xs)) (one_counted k x) ∙ (ap (λ (l : List EventNode). with_number k (item_within x) ++ l) (all_counted k xs) ∙ sym (with_both k (item_within x) (items_within xs))))
 
-  one_counted : (k : ℕ) (x : Item) → with_number k (item_counted x) ≡ with_number k (item_within x)
+  one_counted : (k : ℕ) (x : WovenItem) → with_number k (item_counted x) ≡ with_number k (item_within x)
   one_counted k (Single e) = refl
   one_counted k (Coregion es) = refl
   one_counted k (Inline inline.Loop part operands) = with_one k (operands_within operands)
@@ -234,14 +234,14 @@ mutual
   body_has : (n : ℕ) (b : Body) (p : ℕ × EventNode) → Among p (body_numbered n b) → Among p.1 (counted_within b)
   body_has n (level cover held pairs) p h = items_have n held p h
 
-  pub items_have : (n : ℕ) (xs : Items) (p : ℕ × EventNode) → Among p (items_numbered n xs) → Among p.1 (items_counted xs)
+  pub items_have : (n : ℕ) (xs : WovenItems) (p : ℕ × EventNode) → Among p (items_numbered n xs) → Among p.1 (items_counted xs)
   items_have n no_items p h = elim h [ ]
   items_have n (item_and x xs) p h = elim (among_either (item_numbered (n + events_count xs) x) (items_numbered n xs) p h) [
     | inl i ↦ among_left (item_counted x) (items_counted xs) p.1 (item_has (n + events_count xs) x p i)
     | inr i ↦ among_right (item_counted x) (items_counted xs) p.1 (items_have n xs p i)
   ]
 
-  pub item_has : (n : ℕ) (x : Item) (p : ℕ × EventNode) → Among p (item_numbered n x) → Among p.1 (item_counted x)
+  pub item_has : (n : ℕ) (x : WovenItem) (p : ℕ × EventNode) → Among p (item_numbered n x) → Among p.1 (item_counted x)
   item_has n (Single e) p h = only n e p h
     where
       only : (n : ℕ) (e : EventNode) (p : ℕ × EventNode) → Among p ((n, e) ∷ []) → Among p.1 (e ∷ [])
@@ -297,13 +297,13 @@ events_shown a k n (e ∷ es) h = elim (among_either (shown_events n es) (shows 
   | inr i ↦ shown_left a k ((n + length es, e) ∷ []) (numbered_events n es) (one_shown a k (n + length es) e i)
 ]
 
-item_shown : (a k n : ℕ) (x : Item) → Among (shows a k) (shown_item n x) → IsShownOf a k (item_numbered n x)
+item_shown : (a k n : ℕ) (x : WovenItem) → Among (shows a k) (shown_item n x) → IsShownOf a k (item_numbered n x)
 item_shown a k n (Single e) h = one_shown a k n e h
 item_shown a k n (Coregion es) h = events_shown a k n es h
 item_shown a k n (Inline form part operands) h = elim h [ ]
 item_shown a k n (Refer part) h = elim h [ ]
 
-pub items_shown : (a k n : ℕ) (xs : Items) → Among (shows a k) (shown_items n xs) → IsShownOf a k (items_numbered n xs)
+pub items_shown : (a k n : ℕ) (xs : WovenItems) → Among (shows a k) (shown_items n xs) → IsShownOf a k (items_numbered n xs)
 items_shown a k n no_items h = elim h [ ]
 items_shown a k n (item_and x xs) h = elim (among_either (shown_items n xs) (shown_item (n + events_count xs) x) (shows a k) h) [
   | inl i ↦ shown_right a k (item_numbered (n + events_count xs) x) (items_numbered n xs) (items_shown a k n xs i)

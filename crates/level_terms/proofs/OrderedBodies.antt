@@ -5,7 +5,7 @@ use Rattle.std.proofs.lemmas.Bool.Decides.{Decides-eqb}
 use Rattle.msc_base.specs.declared.label.Pair.{Pair}
 use Rattle.msc_base.specs.Orders.{Among, first, later, Once}
 use Rattle.msc_tree.specs.declared.reference.InlineForm.TheVariants as inline
-use Rattle.msc_meaning.specs.Bodies.{EventNode, Body, level, Items, no_items, item_and, Item, Single, Coregion, Inline, Refer, Bodies, no_bodies, body_and}
+use Rattle.msc_meaning.specs.Bodies.{EventNode, Body, level, WovenItems, no_items, item_and, WovenItem, Single, Coregion, Inline, Refer, Bodies, no_bodies, body_and}
 use Rattle.msc_meaning.specs.Ties.{level_pairs}
 use Rattle.chart_forms.specs.BuiltBodies.{events_count, operands_count}
 use Rattle.event_order.specs.RankedBodies.{is_exception, DoPrecede, IsRanked, AreRanked, IsRankedItem, HaveRanked, item_counted, items_counted, operands_within}
@@ -21,18 +21,18 @@ pub record IsLevel (r : ℕ → ℕ) (ps : Numbered) : Type 0 where
 
 module _ (r : ℕ → ℕ) (names : List (List ℕ)) where
   -- the first event of each pair has the lower rank
-  abbrev DoTiesRise : ℕ → Items → List Pair → Type 0
+  abbrev DoTiesRise : ℕ → WovenItems → List Pair → Type 0
   DoTiesRise n held pairs = (a b : ℕ) (p : Pair) → Among p pairs → Among (shows a p.first) (shown_items n held) → Among (shows b p.second) (shown_items n held) → r a < r b
 
   abbrev mutual
     pub IsOrdered : ℕ → Body → Type 0
     IsOrdered n (level cover held pairs) = DoTiesRise n held (level_pairs held pairs) × AreOrdered n held
 
-    pub AreOrdered : ℕ → Items → Type 0
+    pub AreOrdered : ℕ → WovenItems → Type 0
     AreOrdered n no_items = Unit {0}
     AreOrdered n (item_and x xs) = IsOrderedItem (n + events_count xs) x × (is_exception x ≡ false → DoPrecedeAt r names (item_numbered (n + events_count xs) x) (items_numbered n xs)) × AreOrdered n xs
 
-    pub IsOrderedItem : ℕ → Item → Type 0
+    pub IsOrderedItem : ℕ → WovenItem → Type 0
     IsOrderedItem n (Single e) = Unit {0}
     IsOrderedItem n (Coregion es) = Unit {0}
     IsOrderedItem n (Inline inline.Loop part operands) = IsLevel r (numbered_as (first_number (operands_within operands)) (operands_numbered n operands))
@@ -72,7 +72,7 @@ module _ (names : List (List ℕ)) (rank r : ℕ → ℕ) where
             let up = f p i in
             omega (arith, up, g.agree a x.node x.among, ap rank x.is, g.agree b y.node y.among, ap rank y.is)
 
-    items_ordered : (n : ℕ) (xs : Items) → DoAgree rank r (items_numbered n xs) → AreRanked rank xs → AreOrdered r names n xs
+    items_ordered : (n : ℕ) (xs : WovenItems) → DoAgree rank r (items_numbered n xs) → AreRanked rank xs → AreOrdered r names n xs
     items_ordered n no_items g f = tt
     items_ordered n (item_and x xs) g (f, k, l) = (
       item_ordered (n + events_count xs) x (agree_left rank r (item_numbered (n + events_count xs) x) (items_numbered n xs) g) f,
@@ -85,7 +85,7 @@ module _ (names : List (List ℕ)) (rank r : ℕ → ℕ) where
             let up = h d e (item_has (n + events_count xs) x (a, d) i) (items_have n xs (b, e) j) at in
             omega (arith, up, g.agree a d (among_left (item_numbered (n + events_count xs) x) (items_numbered n xs) (a, d) i), g.agree b e (among_right (item_numbered (n + events_count xs) x) (items_numbered n xs) (b, e) j))
 
-    item_ordered : (n : ℕ) (x : Item) → DoAgree rank r (item_numbered n x) → IsRankedItem rank x → IsOrderedItem r names n x
+    item_ordered : (n : ℕ) (x : WovenItem) → DoAgree rank r (item_numbered n x) → IsRankedItem rank x → IsOrderedItem r names n x
     item_ordered n (Single e) g f = tt
     item_ordered n (Coregion es) g f = tt
     item_ordered n (Inline inline.Loop part operands) g f = agree_level rank r (first_number (operands_within operands)) (operands_numbered n operands) g

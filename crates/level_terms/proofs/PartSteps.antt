@@ -16,7 +16,7 @@ use Rattle.msc_tree.specs.declared.reference.InlineForm.TheVariants as inline
 use Rattle.msc_meaning.specs.declared.body.Body as rust_body
 use Rattle.msc_meaning.specs.declared.body.EventNode as rust_event
 use Rattle.msc_meaning.specs.declared.body.Item as rust_item
-use Rattle.msc_meaning.specs.Bodies.{EventNode, InlinePart, Items, Inline, Bodies, level}
+use Rattle.msc_meaning.specs.Bodies.{EventNode, InlinePart, WovenItems, Inline, Bodies, level}
 use Rattle.msc_meaning.specs.EventLabels.{written_label}
 use Rattle.msc_meaning.specs.Views.{body_view, item_view, node_view}
 use Rattle.level_terms.specs.BodyLabels.{HasLabels, body_labels, item_labels, items_labels, operands_labels}
@@ -78,7 +78,7 @@ module _ (names : List (List ℕ)) (labels : List Label) (n : ℕ) where
 
   -- ---- levels
 
-  pub level_part : (inner made : Made) (cover : List (List ℕ)) (held : Items) (pairs : List Pair) → IsPart (items_term names labels n held) (shown_items n held) inner → IsTied (level_pairs held pairs) inner made → IsPart (level_term names labels n (level cover held pairs)) [] made
+  pub level_part : (inner made : Made) (cover : List (List ℕ)) (held : WovenItems) (pairs : List Pair) → IsPart (items_term names labels n held) (shown_items n held) inner → IsTied (level_pairs held pairs) inner made → IsPart (level_term names labels n (level cover held pairs)) [] made
   level_part inner made cover held pairs h e = record {
     term = e.term ∙ (ap (λ x. tie_of x (tie_pairs inner.shown (level_pairs held pairs))) h.term ∙ ap (λ ps. tie_of (items_term names labels n held) (tie_pairs ps (level_pairs held pairs))) h.shown_are);
     shown_are = e.shown;

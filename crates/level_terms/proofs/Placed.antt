@@ -13,7 +13,7 @@ use Rattle.term_laws.specs.Permission.{permits_of}
 use Rattle.term_laws.specs.Placing.{AreEventsPlaced}
 use Rattle.term_laws.proofs.Placed.{choice-placed, join-placed, tie-placed}
 use Rattle.msc_tree.specs.declared.reference.InlineForm.TheVariants as inline
-use Rattle.msc_meaning.specs.Bodies.{EventNode, Body, level, Items, no_items, item_and, Item, Single, Coregion, Inline, Refer, Bodies, no_bodies, body_and}
+use Rattle.msc_meaning.specs.Bodies.{EventNode, Body, level, WovenItems, no_items, item_and, WovenItem, Single, Coregion, Inline, Refer, Bodies, no_bodies, body_and}
 use Rattle.msc_meaning.specs.EventLabels.{written_label}
 use Rattle.msc_meaning.specs.Ties.{level_pairs}
 use Rattle.event_order.specs.RankedBodies.{is_exception}
@@ -73,12 +73,12 @@ module _ (names : List (List ℕ)) (labels : List Label) where
     pub level_placed : (n : ℕ) (b : Body) → HasLabels labels (body_labels b) → P (level_term names labels n b)
     level_placed n (level cover held pairs) h = tie-placed places (permits_of []) (items_term names labels n held) (tie_pairs (shown_items n held) (level_pairs held pairs)) (items_placed n held h)
 
-    items_placed : (n : ℕ) (xs : Items) → HasLabels labels (items_labels xs) → P (items_term names labels n xs)
+    items_placed : (n : ℕ) (xs : WovenItems) → HasLabels labels (items_labels xs) → P (items_term names labels n xs)
     items_placed n no_items h = tt
     items_placed n (item_and x xs) h =
         front_placed (is_exception x) (item_term names labels (n + events_count xs) x) (items_term names labels n xs) (item_placed (n + events_count xs) x (has_left labels (item_labels x) (items_labels xs) h)) (items_placed n xs (has_right labels (item_labels x) (items_labels xs) h))
 
-    item_placed : (n : ℕ) (x : Item) → HasLabels labels (item_labels x) → P (item_term names labels n x)
+    item_placed : (n : ℕ) (x : WovenItem) → HasLabels labels (item_labels x) → P (item_term names labels n x)
     item_placed n (Single e) h = event_placed n e h
     item_placed n (Coregion es) h = coregion_placed n es h
     item_placed n (Inline inline.Alt part operands) h = one_placed (operand_terms names labels n operands) (some_placed n operands h)

@@ -5,7 +5,7 @@ use Rattle.msc_base.specs.declared.label.Label.{Label}
 use Rattle.msc_unfolding.specs.Unfoldings.{Own, Unfolding}
 use Rattle.term_meaning.specs.UnfoldingSets.{AreTied, Nothing}
 use Rattle.msc_tree.specs.declared.event.Target.{Target}
-use Rattle.msc_meaning.specs.Bodies.{EventNode, Items, no_items, item_and, Item, Single, Coregion, Inline, Refer, no_bodies, body_and}
+use Rattle.msc_meaning.specs.Bodies.{EventNode, WovenItems, no_items, item_and, WovenItem, Single, Coregion, Inline, Refer, no_bodies, body_and}
 use Rattle.msc_meaning.specs.Ties.{passing, past_inline}
 use Rattle.msc_meaning.specs.ChartUnfoldings.{OfItem, OfLevel}
 use Rattle.msc_tree.specs.declared.reference.InlineForm.TheVariants as inline
@@ -34,25 +34,25 @@ pub record IsPlainEvent (n : EventNode) (l : Label) : Type 0 where
   pub plain : IsPlainNode n
 
 -- the item isn't a reference, and calls no gate
-abbrev pub IsPlainItem : Item → Type 0
+abbrev pub IsPlainItem : WovenItem → Type 0
 IsPlainItem (Single n) = IsPlainNode n
 IsPlainItem (Coregion ns) = ArePlainNodes ns
 IsPlainItem (Inline form part operands) = Unit {0}
 IsPlainItem (Refer part) = ⊥
 
-abbrev pub ArePlainItems : Items → Type 0
+abbrev pub ArePlainItems : WovenItems → Type 0
 ArePlainItems no_items = Unit {0}
 ArePlainItems (item_and x xs) = IsPlainItem x × ArePlainItems xs
 
 -- what an item is in front of those behind it: of an exception its operand
-abbrev pub FrontOf : Table → Gates → Around → Item → Unfolding → Type 0
+abbrev pub FrontOf : Table → Gates → Around → WovenItem → Unfolding → Type 0
 FrontOf t g a (Inline inline.Exc part no_bodies) = Nothing
 FrontOf t g a (Inline inline.Exc part (body_and operand no_bodies)) = AreTied (OfLevel t (inside g part.name a) operand) (passing (past_inline g.calls part.name))
 FrontOf t g a (Inline inline.Exc part (body_and operand (body_and other others))) = Nothing
 FrontOf t g a x = OfItem t g a x
 
 -- an exception has one operand
-abbrev pub IsFrontItem : Item → Type 0
+abbrev pub IsFrontItem : WovenItem → Type 0
 IsFrontItem (Inline inline.Exc part no_bodies) = ⊥
 IsFrontItem (Inline inline.Exc part (body_and operand no_bodies)) = Unit {0}
 IsFrontItem (Inline inline.Exc part (body_and operand (body_and other others))) = ⊥

@@ -11,7 +11,7 @@ use Rattle.chart_term.specs.NormalForms.{open_part, flat, join_of, join_all, ope
 use Rattle.chart_term.specs.Terms.{Tree, Nil, Event, Join, Choice, Tied, Loop, Walk, Trees, none, more, items, trees, weight, weights}
 use Rattle.sound_terms.specs.TableLaws.{ConstructorsWeigh, weight_all}
 use Rattle.msc_tree.specs.declared.reference.InlineForm.TheVariants as inline
-use Rattle.msc_meaning.specs.Bodies.{EventNode, Body, level, Items, no_items, item_and, Item, Single, Coregion, Inline, Refer, Bodies, no_bodies, body_and, events, item_events}
+use Rattle.msc_meaning.specs.Bodies.{EventNode, Body, level, WovenItems, no_items, item_and, WovenItem, Single, Coregion, Inline, Refer, Bodies, no_bodies, body_and, events, item_events}
 use Rattle.msc_base.specs.declared.label.Label.{Label}
 use Rattle.chart_forms.specs.BuiltBodies.{has_operands, is_built, are_built, is_built_item, have_built, events_count, operands_count}
 use Rattle.msc_meaning.specs.Ties.{level_pairs}
@@ -203,13 +203,13 @@ events_tally k n [] = omega (arith, tally_none k)
 events_tally k n (e ∷ es) =
     omega (arith, numbers_both k (shown_events n es) (shows (n + length es) e.number ∷ []), one_number k (n + length es) e.number, tally_cons k e.number [], tally_none k, tally_cons k e.number (numbers es), events_tally k n es)
 
-item_tally : (k n : ℕ) (x : Item) → length (numbers_of k (shown_item n x)) ≡ tally k (numbers (item_events x))
+item_tally : (k n : ℕ) (x : WovenItem) → length (numbers_of k (shown_item n x)) ≡ tally k (numbers (item_events x))
 item_tally k n (Single e) = one_number k n e.number
 item_tally k n (Coregion es) = events_tally k n es
 item_tally k n (Inline form part operands) = omega (arith, tally_none k)
 item_tally k n (Refer part) = omega (arith, tally_none k)
 
-items_tally : (k n : ℕ) (xs : Items) → length (numbers_of k (shown_items n xs)) ≡ tally k (numbers (events xs))
+items_tally : (k n : ℕ) (xs : WovenItems) → length (numbers_of k (shown_items n xs)) ≡ tally k (numbers (events xs))
 items_tally k n no_items = omega (arith, tally_none k)
 items_tally k n (item_and x xs) =
     let split = ap (tally k) (numbers_app (item_events x) (events xs)) in
@@ -233,7 +233,7 @@ ties_length shown [] f = omega arith
 ties_length shown (t ∷ ts) f =
     omega (arith, length_app (pairs_between (numbers_of t.first shown) (numbers_of t.second shown)) (tie_pairs shown ts), between_length (numbers_of t.first shown) (numbers_of t.second shown) (f t.first) (f t.second), ties_length shown ts f)
 
-few_ties : (n most : ℕ) (held : Items) (pairs : List Pair) → Once (numbers (events held)) → length pairs ≤ most → length (tie_pairs (shown_items n held) pairs) ≤ most
+few_ties : (n most : ℕ) (held : WovenItems) (pairs : List Pair) → Once (numbers (events held)) → length pairs ≤ most → length (tie_pairs (shown_items n held) pairs) ≤ most
 few_ties n most held pairs o l = omega (arith, ties_length (shown_items n held) pairs one, l)
   where
     one : (k : ℕ) → length (numbers_of k (shown_items n held)) ≤ 1
@@ -300,7 +300,7 @@ module _ (weigh : ConstructorsWeigh) (names : List (List ℕ)) (labels : List La
         tied_weighs (items_term names labels n held) (tie_pairs (shown_items n held) (level_pairs held pairs)) (room (events held)) (items_size held) (items_weigh n held b f.2).0
         (some_room (events held) (length (tie_pairs (shown_items n held) (level_pairs held pairs))) few)
 
-    items_weigh : (n : ℕ) (xs : Items) → are_built names xs ≡ true → HaveFewPairs xs → IsWithin (items_term names labels n xs) (room (events xs)) (items_size xs)
+    items_weigh : (n : ℕ) (xs : WovenItems) → are_built names xs ≡ true → HaveFewPairs xs → IsWithin (items_term names labels n xs) (room (events xs)) (items_size xs)
     items_weigh n no_items b f = (omega (arith, room_none), omega (arith, room_none))
     items_weigh n (item_and x xs) b f =
         let (i, j) = and_both (is_built_item names x) (are_built names xs) b in
@@ -308,7 +308,7 @@ module _ (weigh : ConstructorsWeigh) (names : List (List ℕ)) (labels : List La
         (placed_weighs (is_exception x) (item_term names labels (n + events_count xs) x) (items_term names labels n xs) (room (item_events x)) (room (events xs)) (item_size x) (items_size xs)
         (item_weighs (n + events_count xs) x i f.0) (exception_weighs (n + events_count xs) x i f.0) (items_weigh n xs j f.1))
 
-    item_weighs : (n : ℕ) (x : Item) → is_built_item names x ≡ true → HasFewWithin x → weight (item_term names labels n x) + room (item_events x) ≤ item_size x
+    item_weighs : (n : ℕ) (x : WovenItem) → is_built_item names x ≡ true → HasFewWithin x → weight (item_term names labels n x) + room (item_events x) ≤ item_size x
     item_weighs n (Single e) b f = omega (arith, room_one e)
     item_weighs n (Coregion es) b f = let (a, c) = coregion_weighs n es in omega (arith, a, room_is es)
     item_weighs n (Inline inline.Alt part bs) b f = omega (arith, room_none, one_weight (operand_terms names labels n bs), choices_opened (operand_terms names labels n bs), operands_weigh n bs (and_both (has_operands inline.Alt bs) (have_built names bs) b).1 f)
@@ -325,7 +325,7 @@ module _ (weigh : ConstructorsWeigh) (names : List (List ℕ)) (labels : List La
     item_weighs n (Refer part) b f = absurd cc
 
     -- an exception has no events of its own, and is opened
-    exception_weighs : (n : ℕ) (x : Item) → is_built_item names x ≡ true → HasFewWithin x → is_exception x ≡ true → (weight_all (open_choice (item_term names labels n x)) + 2 ≤ item_size x) × (room (item_events x) ≡ 0)
+    exception_weighs : (n : ℕ) (x : WovenItem) → is_built_item names x ≡ true → HasFewWithin x → is_exception x ≡ true → (weight_all (open_choice (item_term names labels n x)) + 2 ≤ item_size x) × (room (item_events x) ≡ 0)
     exception_weighs n (Single e) b f is = absurd cc
     exception_weighs n (Coregion es) b f is = absurd cc
     exception_weighs n (Inline inline.Alt part bs) b f is = absurd cc

@@ -2,7 +2,7 @@
 -- no event has the name of an earlier one.
 use Rattle.std.specs.Prelude.{ℕ, List, [], ◌∷◌, ◌++◌}
 use Rattle.msc_base.specs.Orders.{Among, first, later, Once}
-use Rattle.msc_meaning.specs.Bodies.{EventNode, Body, level, Items, no_items, item_and, Item, Single, Coregion, Inline, Refer, Bodies, no_bodies, body_and, events}
+use Rattle.msc_meaning.specs.Bodies.{EventNode, Body, level, WovenItems, no_items, item_and, WovenItem, Single, Coregion, Inline, Refer, Bodies, no_bodies, body_and, events}
 use Rattle.msc_meaning.specs.Levels.{IsWovenLevel, woven, AreWovenItems, no_woven, woven_and, IsWovenItem, an_event, a_coregion, an_inline, a_reference, AreWovenOperands, no_woven_operand, woven_operand_and}
 use Rattle.msc_meaning.specs.Pieces.{Piece}
 use Rattle.msc_base.specs.Lists.{IsAmong}
@@ -43,14 +43,14 @@ once_right : (ns ms : List EventNode) → Once (numbers (ns ++ ms)) → Once (nu
 once_right [] ms o = o
 once_right (n ∷ ns) ms (o, h) = once_right ns ms h
 
-own_within : (xs : Items) (k : ℕ) → Among k (numbers (events xs)) → Among k (numbers (items_within xs))
+own_within : (xs : WovenItems) (k : ℕ) → Among k (numbers (events xs)) → Among k (numbers (items_within xs))
 own_within no_items k h = h
 own_within (item_and (Single n) xs) k h = among_over (n ∷ []) (events xs) (items_within xs) (λ j i. own_within xs j i) k h
 own_within (item_and (Coregion ns) xs) k h = among_over ns (events xs) (items_within xs) (λ j i. own_within xs j i) k h
 own_within (item_and (Inline form part operands) xs) k h = among_right (operands_within operands) (items_within xs) k (own_within xs k h)
 own_within (item_and (Refer part) xs) k h = own_within xs k h
 
-own_once : (xs : Items) → Once (numbers (items_within xs)) → Once (numbers (events xs))
+own_once : (xs : WovenItems) → Once (numbers (items_within xs)) → Once (numbers (events xs))
 own_once no_items o = o
 own_once (item_and (Single n) xs) o = once_over (n ∷ []) (events xs) (items_within xs) (λ j i. own_within xs j i) (λ h. own_once xs h) o
 own_once (item_and (Coregion ns) xs) o = once_over ns (events xs) (items_within xs) (λ j i. own_within xs j i) (λ h. own_once xs h) o
@@ -75,14 +75,14 @@ mutual
       let once = own_once held o in
       (once, level_is_few held pairs h (names_once (events held) once (none_left level (items_faults Twice held) f)), few_items held k o (none_right level (items_faults Twice held) f))
 
-  few_items : (xs : Items) → HaveOwnPairs xs → Once (numbers (items_within xs)) → NoneOf (items_faults Twice xs) → HaveFewPairs xs
+  few_items : (xs : WovenItems) → HaveOwnPairs xs → Once (numbers (items_within xs)) → NoneOf (items_faults Twice xs) → HaveFewPairs xs
   few_items no_items h o f = tt
   few_items (item_and x xs) (h, k) o f = (
     few_item x h (once_left (item_within x) (items_within xs) o) (none_left (item_faults Twice x) (items_faults Twice xs) f),
     few_items xs k (once_right (item_within x) (items_within xs) o) (none_right (item_faults Twice x) (items_faults Twice xs) f),
   )
 
-  few_item : (x : Item) → HasOwnWithin x → Once (numbers (item_within x)) → NoneOf (item_faults Twice x) → HasFewWithin x
+  few_item : (x : WovenItem) → HasOwnWithin x → Once (numbers (item_within x)) → NoneOf (item_faults Twice x) → HasFewWithin x
   few_item (Single n) h o f = tt
   few_item (Coregion ns) h o f = tt
   few_item (Inline form part operands) h o f = few_operands operands h o f
@@ -99,11 +99,11 @@ mutual
   own_body : {cover : List (List ℕ)} {ps : List Piece} (b : Body) → IsWovenLevel cover ps b → HasOwnPairs b
   own_body _ (woven {held = held} o h p) = (p, own_items held h)
 
-  own_items : {cover : List (List ℕ)} {all : List (List Piece)} {order : List ℕ} (xs : Items) → AreWovenItems cover all order xs → HaveOwnPairs xs
+  own_items : {cover : List (List ℕ)} {all : List (List Piece)} {order : List ℕ} (xs : WovenItems) → AreWovenItems cover all order xs → HaveOwnPairs xs
   own_items _ no_woven = tt
   own_items _ (woven_and {item = x} {held = xs} at h k) = (own_item x h, own_items xs k)
 
-  own_item : {cover : List (List ℕ)} {ps : List Piece} (x : Item) → IsWovenItem cover ps x → HasOwnWithin x
+  own_item : {cover : List (List ℕ)} {ps : List Piece} (x : WovenItem) → IsWovenItem cover ps x → HasOwnWithin x
   own_item _ (an_event e f) = tt
   own_item _ (a_coregion e f) = tt
   own_item _ (an_inline {held = held} e h) = own_operands held h

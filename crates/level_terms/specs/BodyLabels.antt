@@ -2,18 +2,18 @@
 use Rattle.std.specs.Prelude.{List, [], ◌∷◌, ◌++◌, map}
 use Rattle.msc_base.specs.declared.label.Label.{Label}
 use Rattle.msc_base.specs.Orders.{Among}
-use Rattle.msc_meaning.specs.Bodies.{Body, level, Items, no_items, item_and, Item, Single, Coregion, Inline, Refer, Bodies, no_bodies, body_and}
+use Rattle.msc_meaning.specs.Bodies.{Body, level, WovenItems, no_items, item_and, WovenItem, Single, Coregion, Inline, Refer, Bodies, no_bodies, body_and}
 use Rattle.msc_meaning.specs.EventLabels.{written_label}
 
 abbrev mutual
   pub body_labels : Body → List Label
   body_labels (level cover held pairs) = items_labels held
 
-  pub items_labels : Items → List Label
+  pub items_labels : WovenItems → List Label
   items_labels no_items = []
   items_labels (item_and x xs) = item_labels x ++ items_labels xs
 
-  pub item_labels : Item → List Label
+  pub item_labels : WovenItem → List Label
   item_labels (Single n) = written_label n ∷ []
   item_labels (Coregion ns) = map written_label ns
   item_labels (Inline form part operands) = operands_labels operands

@@ -5,7 +5,7 @@ use Rattle.msc_base.specs.Orders.{Once}
 use Rattle.chart_term.specs.Terms.{weight}
 use Rattle.term_laws.specs.FullSoundness.{IsFullySound}
 use Rattle.term_laws.specs.Placing.{HaveOnePlace}
-use Rattle.msc_meaning.specs.Bodies.{Body, level, Items, no_items, item_and, Item, Single, Coregion, Inline, Refer, Bodies, no_bodies, body_and, events}
+use Rattle.msc_meaning.specs.Bodies.{Body, level, WovenItems, no_items, item_and, WovenItem, Single, Coregion, Inline, Refer, Bodies, no_bodies, body_and, events}
 use Rattle.msc_meaning.specs.Levels.{IsWovenLevel}
 use Rattle.msc_meaning.specs.Pairing.{ArePairs}
 use Rattle.msc_meaning.specs.Pieces.{Piece}
@@ -26,11 +26,11 @@ abbrev mutual
   pub HasFewPairs : Body → Type 0
   HasFewPairs (level cover held pairs) = Once (numbers (events held)) × (length (level_pairs held pairs) ≤ length (events held) + orders_count (events held)) × HaveFewPairs held
 
-  pub HaveFewPairs : Items → Type 0
+  pub HaveFewPairs : WovenItems → Type 0
   HaveFewPairs no_items = Unit {0}
   HaveFewPairs (item_and x xs) = HasFewWithin x × HaveFewPairs xs
 
-  pub HasFewWithin : Item → Type 0
+  pub HasFewWithin : WovenItem → Type 0
   HasFewWithin (Single n) = Unit {0}
   HasFewWithin (Coregion ns) = Unit {0}
   HasFewWithin (Inline form part operands) = EachHasFew operands
@@ -45,11 +45,11 @@ abbrev mutual
   pub HasOwnPairs : Body → Type 0
   HasOwnPairs (level cover held pairs) = ArePairs (events held) pairs × HaveOwnPairs held
 
-  pub HaveOwnPairs : Items → Type 0
+  pub HaveOwnPairs : WovenItems → Type 0
   HaveOwnPairs no_items = Unit {0}
   HaveOwnPairs (item_and x xs) = HasOwnWithin x × HaveOwnPairs xs
 
-  pub HasOwnWithin : Item → Type 0
+  pub HasOwnWithin : WovenItem → Type 0
   HasOwnWithin (Single n) = Unit {0}
   HasOwnWithin (Coregion ns) = Unit {0}
   HasOwnWithin (Inline form part operands) = EachHasOwn operands

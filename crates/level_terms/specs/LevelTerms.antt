@@ -12,7 +12,7 @@ use Rattle.label_table.specs.Labels.{label_number}
 use Rattle.level_terms.specs.LabelTables.{labels_once, tables_of_labels, with_labels}
 use Rattle.term_tables.specs.NetValues.{NetsValue}
 use Rattle.msc_tree.specs.declared.reference.InlineForm.TheVariants as inline
-use Rattle.msc_meaning.specs.Bodies.{EventNode, Body, level, Items, no_items, item_and, Item, Single, Coregion, Inline, Refer, Bodies, no_bodies, body_and}
+use Rattle.msc_meaning.specs.Bodies.{EventNode, Body, level, WovenItems, no_items, item_and, WovenItem, Single, Coregion, Inline, Refer, Bodies, no_bodies, body_and}
 use Rattle.msc_meaning.specs.EventLabels.{written_label}
 use Rattle.msc_meaning.specs.Ties.{level_pairs}
 use Rattle.event_order.specs.RankedBodies.{is_exception}
@@ -57,12 +57,12 @@ module _ (names : List (List ℕ)) (labels : List Label) where
     pub level_term : ℕ → Body → Tree
     level_term n (level cover held pairs) = tie_of (items_term n held) (tie_pairs (shown_items n held) (level_pairs held pairs))
 
-    pub items_term : ℕ → Items → Tree
+    pub items_term : ℕ → WovenItems → Tree
     items_term n no_items = Nil
     items_term n (item_and x xs) = placed (is_exception x) (item_term (n + events_count xs) x) (items_term n xs)
 
     -- an item; of an exception its operand
-    pub item_term : ℕ → Item → Tree
+    pub item_term : ℕ → WovenItem → Tree
     item_term n (Single e) = event_term n e
     item_term n (Coregion es) = coregion_term n es
     item_term n (Inline inline.Alt part operands) = one_of (operand_terms n operands)

@@ -2,7 +2,7 @@
 -- numbered from the last to the first, here from n on.
 use Rattle.std.specs.Prelude.{ℕ, ◌+◌, ◌==◌, Bool, true, false, List, [], ◌∷◌, ◌++◌, length}
 use Rattle.msc_base.specs.declared.label.Pair.{Pair}
-use Rattle.msc_meaning.specs.Bodies.{EventNode, Items, no_items, item_and, Item, Single, Coregion, Inline, Refer}
+use Rattle.msc_meaning.specs.Bodies.{EventNode, WovenItems, no_items, item_and, WovenItem, Single, Coregion, Inline, Refer}
 use Rattle.chart_forms.specs.BuiltBodies.{events_count}
 
 -- the number m in the term, of the event k of its chart
@@ -15,14 +15,14 @@ shown_events n [] = []
 shown_events n (e ∷ es) = shown_events n es ++ shows (n + length es) e.number ∷ []
 
 -- those of an item's own events
-abbrev pub shown_item : ℕ → Item → List Pair
+abbrev pub shown_item : ℕ → WovenItem → List Pair
 shown_item n (Single e) = shows n e.number ∷ []
 shown_item n (Coregion es) = shown_events n es
 shown_item n (Inline form part operands) = []
 shown_item n (Refer part) = []
 
 -- those of a level's own events
-abbrev pub shown_items : ℕ → Items → List Pair
+abbrev pub shown_items : ℕ → WovenItems → List Pair
 shown_items n no_items = []
 shown_items n (item_and x xs) = shown_items n xs ++ shown_item (n + events_count xs) x
 

@@ -5,7 +5,7 @@ ghost use Rattle.msc_base.specs.declared.limits.TheConstants.Limits.{INSTANCES};
 ghost use Rattle.msc_base.specs.Lists.{AreDifferent};
 ghost use Rattle.msc_meaning.specs.Views.{body_view};
 ghost use Rattle.term_laws.specs.FullSoundness.{IsFullySound};
-ghost use Rattle.chart_forms.specs.BuiltBodies.{HasTerm, IsTooLong, is_built};
+ghost use Rattle.chart_forms.specs.BuiltBodies.{CanHaveTerm, IsTooLong, is_built};
 ghost use Rattle.level_terms.specs.LevelTerms.{chart_tables, chart_term};
 ghost use Rattle.level_terms.specs.MadeCharts.{IsChartMade};
 ghost use Rattle.event_order.specs.RankedBodies.{CanBeRanked};
@@ -41,7 +41,7 @@ pub fn chart_of(alloc: Global, names: &[Name], body: &Body) -> Result<ChartTerm,
     ensures nets { IfOk result (λ made. made.nets ≡ chart_tables (body_view body.now)) }
     ensures means { IfOk result (λ made. IsChartMade made.nets names.now made.term (body_view body.now)) }
     ensures sound { IfOk result (λ made. CanBeRanked (body_view body.now) → IsFullySound (length made.nets.labels) made.nets.tables made.term) }
-    ensures made { IfOk result (λ made. HasTerm names.now (body_view body.now)) }
+    ensures made { IfOk result (λ made. CanHaveTerm names.now (body_view body.now)) }
     ensures not_built { IsErrOf result LevelFault.NotBuilt → is_built names.now (body_view body.now) ≡ false }
     ensures full { IsErrOf result LevelFault.Full → IsTooLong names.now (body_view body.now) }
 {

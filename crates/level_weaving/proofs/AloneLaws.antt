@@ -4,8 +4,8 @@ use Rattle.std.proofs.lemmas.Bool.{and_parts, true≢false}
 use Rattle.std.proofs.lemmas.List.{length-set}
 use Rattle.std.proofs.lemmas.Option.{slice_get_within, slice_get-get_or}
 use Rattle.msc_base.specs.declared.place.Place.{Place}
-use Rattle.item_order.specs.declared.edge.Edge.{Edge}
-use Rattle.item_order.specs.Counts.{Leads}
+use Rattle.column_order.specs.declared.edge.Edge.{Edge}
+use Rattle.column_order.specs.Counts.{EdgeLeads}
 use Rattle.msc_base.specs.Places.{IsLeast, earliest_if}
 use Rattle.msc_base.proofs.Narrowing.{Narrows, narrows_end, narrows_step}
 use Rattle.msc_tree.specs.declared.event.Direction.{Direction}
@@ -128,17 +128,17 @@ alone_at (d ∷ events) (t ∷ told) zero e long at m u =
     inl (ap (λ (x : EventNode). x.event.place) same, ap (λ (b : Bool). b && not t) message ∙ ap not u)
 alone_at (d ∷ events) (t ∷ told) (suc i) e long at m u = inr (alone_at events told i e (omega arith) at m u)
 
-end_left : (pairs : List Edge) (p q : ℕ) → Leads pairs p q → HasEnd pairs p
+end_left : (pairs : List Edge) (p q : ℕ) → EdgeLeads pairs p q → HasEnd pairs p
 end_left [] p q h = absurd h
 end_left (e ∷ pairs) p q (inl h) = inl h.0
 end_left (e ∷ pairs) p q (inr h) = inr (inr (end_left pairs p q h))
 
-end_right : (pairs : List Edge) (p q : ℕ) → Leads pairs p q → HasEnd pairs q
+end_right : (pairs : List Edge) (p q : ℕ) → EdgeLeads pairs p q → HasEnd pairs q
 end_right [] p q h = absurd h
 end_right (e ∷ pairs) p q (inl h) = inr (inl h.1)
 end_right (e ∷ pairs) p q (inr h) = inr (inr (end_right pairs p q h))
 
-end_of : (pairs : List Edge) (p : ℕ) → HasEnd pairs p → (q : ℕ) × (Leads pairs p q ⊎ Leads pairs q p)
+end_of : (pairs : List Edge) (p : ℕ) → HasEnd pairs p → (q : ℕ) × (EdgeLeads pairs p q ⊎ EdgeLeads pairs q p)
 end_of [] p h = absurd h
 end_of (e ∷ pairs) p (inl h) = (e.to, inl (inl (h, refl)))
 end_of (e ∷ pairs) p (inr (inl h)) = (e.from, inr (inl (refl, h)))
@@ -181,7 +181,7 @@ pub least_unmatched : (events : List EventNode) (pairs : List Edge) (told : List
 least_unmatched events pairs told best leads are k =
     least_same (IsAlone events told) (IsUnmatched events) best (alone_unmatched events pairs told leads are) (unmatched_alone events pairs told leads are) k
 
-leads_at : (pairs : List Edge) (k : ℕ) (e : Edge) → slice_get pairs k ≡ Some e → Leads pairs e.from e.to
+leads_at : (pairs : List Edge) (k : ℕ) (e : Edge) → slice_get pairs k ≡ Some e → EdgeLeads pairs e.from e.to
 leads_at [] k e is = cc
 leads_at (d ∷ pairs) zero e is = let same : d ≡ e = cc in inl (ap (λ (x : Edge). x.from) same, ap (λ (x : Edge). x.to) same)
 leads_at (d ∷ pairs) (suc k) e is = inr (leads_at pairs k e is)

@@ -2,8 +2,8 @@
 use Rattle.std.proofs.Common.{◌≡◌, ℕ, ◌<◌, ◌≤◌, ◌+◌, List, [], ◌∷◌, ◌++◌, Option, Some, None, slice_get, take, drop, Bool, true, false, zero, suc, arith, refl, sym, ap, ◌∙◌, subst, nat_eq, if◌then◌else◌, ◌&&◌, All, get_or}
 use Rattle.std.specs.List.{count_by}
 use Rattle.std.proofs.lemmas.Option.{slice_get-get_or}
-use Rattle.item_order.specs.declared.edge.Edge.{Edge}
-use Rattle.item_order.specs.Pairing.{count, RiseTo}
+use Rattle.column_order.specs.declared.edge.Edge.{Edge}
+use Rattle.column_order.specs.Pairing.{count, RiseTo}
 use Rattle.level_weaving.specs.declared.matching.Mark.{Mark}
 use Rattle.msc_tree.specs.declared.event.Direction.{Direction}
 use Rattle.msc_tree.specs.declared.event.Direction.TheVariants.{Out, In}

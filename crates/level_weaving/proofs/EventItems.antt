@@ -2,7 +2,7 @@
 use Rattle.std.proofs.Common.{◌≡◌, ℕ, Bool, true, false, List, [], ◌∷◌, ◌++◌, None, refl, sym, ap, ◌∙◌}
 use Rattle.msc_base.specs.declared.place.Place.{Place}
 use Rattle.msc_tree.specs.Statements.{Form, Single, Coregion, Condition, Inline, Refer, Stop}
-use Rattle.msc_meaning.specs.Bodies.{Item}
+use Rattle.msc_meaning.specs.Bodies.{WovenItem}
 use Rattle.msc_meaning.specs.LevelItems.{cover_of, name_of}
 use Rattle.msc_meaning.specs.Levels.{IsWovenItem, an_event, a_coregion, an_inline, a_reference}
 use Rattle.msc_meaning.specs.Partners.{ItemLacksPartner}
@@ -45,7 +45,7 @@ no_operand c k p Stop is = cc
 event_uncrossed : (level : List (List ℕ)) (p : Piece) (q : Place) → has_events p.form ≡ true → ItemCrosses level (p ∷ []) q → ⊥
 event_uncrossed level p q is h = empty_uncrossed (ap (λ (l : List Piece). l ++ []) (no_operand (cover_of level p) h.0 p p.form is)) h.1
 
-event_matched : {level : List (List ℕ)} {parts : List Piece} {item : Item} (p : Piece) (q : Place) → parts ≡ p ∷ [] → has_events p.form ≡ true → IsWovenItem level parts item → ItemLacksPartner item q → ⊥
+event_matched : {level : List (List ℕ)} {parts : List Piece} {item : WovenItem} (p : Piece) (q : Place) → parts ≡ p ∷ [] → has_events p.form ≡ true → IsWovenItem level parts item → ItemLacksPartner item q → ⊥
 event_matched p q e is (an_event f l) h = h
 event_matched p q e is (a_coregion f l) h = h
 event_matched p q e is (an_inline {p = r} {head = head} {operands = held} f l) h =
@@ -54,11 +54,11 @@ event_matched p q e is (an_inline {p = r} {head = head} {operands = held} f l) h
 event_matched p q e is (a_reference f) h = h
 
 -- it has one part, and nothing stands inside it
-pub record IsEventItem (level : List (List ℕ)) (parts : List Piece) (item : Item) : Type 0 where
+pub record IsEventItem (level : List (List ℕ)) (parts : List Piece) (item : WovenItem) : Type 0 where
   pub woven : IsWovenItem level parts item
   pub uncrossed : (q : Place) → ItemCrosses level parts q → ⊥
   pub matched : (q : Place) → ItemLacksPartner item q → ⊥
 
-pub event_is : (level : List (List ℕ)) (p : Piece) (others : List Piece) (item : Item) → AreParts (p ∷ others) → has_events p.form ≡ true → IsWovenItem level (p ∷ []) item → IsEventItem level (p ∷ others) item
+pub event_is : (level : List (List ℕ)) (p : Piece) (others : List Piece) (item : WovenItem) → AreParts (p ∷ others) → has_events p.form ≡ true → IsWovenItem level (p ∷ []) item → IsEventItem level (p ∷ others) item
 event_is level p [] item are is w = record { woven = w; uncrossed = λ q h. event_uncrossed level p q is h; matched = λ q h. event_matched p q refl is w h }
 event_is level p (r ∷ others) item are is w = absurd (are.1 (unnamed p.form is))

@@ -4,7 +4,7 @@ use Rattle.msc_base.specs.Places.{IsLeast}
 use Rattle.msc_base.specs.declared.place.Place.{Place}
 use Rattle.msc_tree.specs.Statements.{Form, Single, Coregion, Condition, Inline, Refer, Stop, Operands, no_operands, operand_and}
 use Rattle.msc_meaning.specs.Bodies.{Body, Bodies, no_bodies, bodies}
-use Rattle.msc_meaning.specs.Crossings.{Crosses}
+use Rattle.msc_meaning.specs.Crossings.{ColumnsCross}
 use Rattle.msc_meaning.specs.LevelItems.{cover_of, is_item}
 use Rattle.msc_meaning.specs.Levels.{AreWovenOperands, IsWovenItem, an_inline, a_reference, no_woven_operand, operand_number, woven_operand_and}
 use Rattle.msc_meaning.specs.Partners.{ItemLacksPartner, OneLacksPartner}
@@ -42,19 +42,19 @@ none_beyond cover n k (p ∷ ps) h le = ap₂ (λ (a b : List Piece). a ++ b) (n
 -- ---- where the operands cross
 
 module _ (cover : List (List ℕ)) (parts : List Piece) (q : Place) where
-  some_list : (k n : ℕ) → OneCrosses cover (operand_lists cover parts k n) q → (j : ℕ) × Crosses cover (operands_of cover j parts) q
+  some_list : (k n : ℕ) → OneCrosses cover (operand_lists cover parts k n) q → (j : ℕ) × ColumnsCross cover (operands_of cover j parts) q
   some_list k zero h = absurd h
   some_list k (suc n) (inl h) = (k, h)
   some_list k (suc n) (inr h) = some_list (suc k) n h
 
-  one_list : (k n j : ℕ) → j < n → Crosses cover (operands_of cover (k + j) parts) q → OneCrosses cover (operand_lists cover parts k n) q
+  one_list : (k n j : ℕ) → j < n → ColumnsCross cover (operands_of cover (k + j) parts) q → OneCrosses cover (operand_lists cover parts k n) q
   one_list k zero j lt h = absurd (omega (arith, lt))
-  one_list k (suc n) zero lt h = let z : k + 0 ≡ k = omega arith in inl (subst (λ (m : ℕ). Crosses cover (operands_of cover m parts) q) z h)
-  one_list k (suc n) (suc j) lt h = let z : k + suc j ≡ suc k + j = omega arith in inr (one_list (suc k) n j (omega (arith, lt)) (subst (λ (m : ℕ). Crosses cover (operands_of cover m parts) q) z h))
+  one_list k (suc n) zero lt h = let z : k + 0 ≡ k = omega arith in inl (subst (λ (m : ℕ). ColumnsCross cover (operands_of cover m parts) q) z h)
+  one_list k (suc n) (suc j) lt h = let z : k + suc j ≡ suc k + j = omega arith in inr (one_list (suc k) n j (omega (arith, lt)) (subst (λ (m : ℕ). ColumnsCross cover (operands_of cover m parts) q) z h))
 
-  one_of : (lists : List (List Piece)) → AreOperands cover parts lists → (j : ℕ) → Crosses cover (operands_of cover j parts) q → OneCrosses cover lists q
+  one_of : (lists : List (List Piece)) → AreOperands cover parts lists → (j : ℕ) → ColumnsCross cover (operands_of cover j parts) q → OneCrosses cover lists q
   one_of lists are j h = elim (below j (length lists)) [
-    | inl low ↦ subst (λ (l : List (List Piece)). OneCrosses cover l q) (sym are.are) (one_list 0 (length lists) j low (let z : j ≡ 0 + j = omega arith in subst (λ (m : ℕ). Crosses cover (operands_of cover m parts) q) z h))
+    | inl low ↦ subst (λ (l : List (List Piece)). OneCrosses cover l q) (sym are.are) (one_list 0 (length lists) j low (let z : j ≡ 0 + j = omega arith in subst (λ (m : ℕ). ColumnsCross cover (operands_of cover m parts) q) z h))
     | inr high ↦ absurd (empty_uncrossed (none_beyond cover (length lists) j parts are.enough high) h)
   ]
     where
@@ -91,7 +91,7 @@ item_least level cover p ps lists n a b are is f g =
     all : (q : Place) → OneCrosses cover lists q → ItemCrosses level (p ∷ ps) q
     all q h =
         let one = some_list cover (p ∷ ps) q 0 (length lists) (subst (λ (l : List (List Piece)). OneCrosses cover l q) are.are h) in
-        (one.0, subst (λ (c : List (List ℕ)). Crosses c (operands_of c one.0 (p ∷ ps)) q) is one.1)
+        (one.0, subst (λ (c : List (List ℕ)). ColumnsCross c (operands_of c one.0 (p ∷ ps)) q) is one.1)
 
     on : (q : Place) → OneCrosses cover (drop n lists) q ⊎ OneCrosses cover (take n lists) q → ItemCrosses level (p ∷ ps) q
     on q (inl h) = all q (split_on cover (p ∷ ps) q n lists (inr h))
@@ -99,7 +99,7 @@ item_least level cover p ps lists n a b are is f g =
 
     of : (q : Place) → ItemCrosses level (p ∷ ps) q → OneCrosses cover (drop n lists) q ⊎ OneCrosses cover (take n lists) q
     of q h =
-        let one = one_of cover (p ∷ ps) q lists are h.0 (subst (λ (c : List (List ℕ)). Crosses c (operands_of c h.0 (p ∷ ps)) q) (sym is) h.1) in
+        let one = one_of cover (p ∷ ps) q lists are h.0 (subst (λ (c : List (List ℕ)). ColumnsCross c (operands_of c h.0 (p ∷ ps)) q) (sym is) h.1) in
         elim (split_of cover (p ∷ ps) q n lists one) [ inl l ↦ inr l | inr r ↦ inl r ]
 
 -- ---- what the operands are woven to

@@ -1,15 +1,15 @@
 -- What a level is woven to, whose messages lack a partner, and where its columns cross.
 use Rattle.std.proofs.Common.{◌≡◌, ◌⊎◌, inl, inr, ℕ, ◌<◌, zero, suc, List, [], ◌∷◌, ◌++◌, Option, Some, None, All, slice_get, length, map, refl, sym, subst, ap, ap₂, ◌∙◌, arith}
 use Rattle.std.proofs.lemmas.Bool.{cases_order}
-use Rattle.item_order.specs.Weaving.{IsWoven, IsCrossedAt}
-use Rattle.item_order.proofs.WeavingLaws.{crossed_is_one, never_woven_and_crossed}
+use Rattle.column_order.specs.Weaving.{IsWoven, IsCrossedAt}
+use Rattle.column_order.proofs.WeavingLaws.{crossed_is_one, never_woven_and_crossed}
 use Rattle.msc_base.specs.Lists.{AreDifferent, IsAmong}
 use Rattle.msc_base.specs.Places.{IsLeast, earliest}
 use Rattle.msc_base.specs.declared.label.Pair.{Pair}
 use Rattle.msc_base.specs.declared.place.Place.{Place}
 use Rattle.msc_tree.specs.Statements as tree
-use Rattle.msc_meaning.specs.Bodies.{Body, EventNode, Item, Items, events, item_events, level}
-use Rattle.msc_meaning.specs.Crossings.{Crosses, crossed, inside}
+use Rattle.msc_meaning.specs.Bodies.{Body, EventNode, WovenItem, WovenItems, events, item_events, level}
+use Rattle.msc_meaning.specs.Crossings.{ColumnsCross, crossed, inside}
 use Rattle.msc_meaning.specs.LevelItems.{cover_of, entries, level_items}
 use Rattle.msc_meaning.specs.LevelItems as level_item
 use Rattle.msc_meaning.specs.Levels.{AreWovenItems, IsWovenItem, IsWovenLevel, an_event, a_coregion, an_inline, a_reference, no_woven, woven, woven_and}
@@ -51,7 +51,7 @@ none_reference : (o : Option (List ℕ)) (n : ℕ) (r : tree.Reference) → node
 none_reference None n r = refl
 none_reference (Some at) n r = refl
 
-item_nodes : {cover : List (List ℕ)} {parts : List Piece} {item : Item} → IsWovenItem cover parts item → item_events item ≡ parts_nodes parts
+item_nodes : {cover : List (List ℕ)} {parts : List Piece} {item : WovenItem} → IsWovenItem cover parts item → item_events item ≡ parts_nodes parts
 item_nodes (an_event {p = p} f l) = sym (ap₂ (λ (o : Option (List ℕ)) (g : tree.Form). nodes_at o p.first g) l f)
 item_nodes (a_coregion {p = p} f l) = sym (ap₂ (λ (o : Option (List ℕ)) (g : tree.Form). nodes_at o p.first g) l f)
 item_nodes (an_inline {p = p} {head = head} {operands = inner} f h) = sym (ap (λ (g : tree.Form). nodes_at (slice_get p.leads 0) p.first g) f ∙ none_inline (slice_get p.leads 0) p.first head inner)
@@ -60,7 +60,7 @@ item_nodes (a_reference {p = p} {r = r} f) = sym (ap (λ (g : tree.Form). nodes_
 first_nodes : (all : List (List Piece)) (x : ℕ) (parts : List Piece) → AreItems all → slice_get all x ≡ Some parts → option_nodes (slice_get (first_parts all) x) ≡ parts_nodes parts
 first_nodes all x parts g at = let r = item_at all x parts g at in ap option_nodes r.at ∙ sym (ap parts_nodes r.is)
 
-woven_nodes : {cover : List (List ℕ)} {all : List (List Piece)} {order : List ℕ} {held : Items} → AreItems all → AreWovenItems cover all order held → events held ≡ ordered_nodes (first_parts all) order
+woven_nodes : {cover : List (List ℕ)} {all : List (List Piece)} {order : List ℕ} {held : WovenItems} → AreItems all → AreWovenItems cover all order held → events held ≡ ordered_nodes (first_parts all) order
 woven_nodes g no_woven = refl
 woven_nodes {all = all} g (woven_and {x = x} {parts = parts} at is others) =
     ap₂ (λ (a b : List EventNode). a ++ b) (item_nodes is ∙ sym (first_nodes all x parts g at)) (woven_nodes g others)
@@ -71,7 +71,7 @@ numbers_differ ps order numbered d = ordered_different (first_parts (level_items
 
 -- ---- where columns cross
 
-pub empty_uncrossed : {c : List (List ℕ)} {ps : List Piece} {place : Place} → ps ≡ [] → Crosses c ps place → ⊥
+pub empty_uncrossed : {c : List (List ℕ)} {ps : List Piece} {place : Place} → ps ≡ [] → ColumnsCross c ps place → ⊥
 empty_uncrossed {c} e (crossed x p parts k at there) =
     let at_none : slice_get (level_items []) x ≡ Some (p ∷ parts) = subst (λ (l : List Piece). slice_get (level_items l) x ≡ Some (p ∷ parts)) e at in cc
 empty_uncrossed {c} e (inside x k p parts at rest) =
@@ -107,10 +107,10 @@ crossing_among cover all (x ∷ order) q h (inl e) =
     inl (subst (λ (o : Option (List Piece)). OptionCrosses cover o q) (sym (subst (λ (n : ℕ). slice_get all n ≡ Some h.parts) e h.at)) h.crosses)
 crossing_among cover all (x ∷ order) q h (inr m) = inr (crossing_among cover all order q h m)
 
-crossing_inside : (cover : List (List ℕ)) (ps : List Piece) (q : Place) → HasCrossing cover (level_items ps) q → Crosses cover ps q
+crossing_inside : (cover : List (List ℕ)) (ps : List Piece) (q : Place) → HasCrossing cover (level_items ps) q → ColumnsCross cover ps q
 crossing_inside cover ps q h = by h.parts h.at h.crosses
   where
-    by : (parts : List Piece) → slice_get (level_items ps) h.number ≡ Some parts → ItemCrosses cover parts q → Crosses cover ps q
+    by : (parts : List Piece) → slice_get (level_items ps) h.number ≡ Some parts → ItemCrosses cover parts q → ColumnsCross cover ps q
     by [] at c = absurd c
     by (p ∷ parts) at c = inside h.number c.0 p parts at c.1
 
@@ -123,10 +123,10 @@ pub record CrossesHere (cover : List (List ℕ)) (ps : List Piece) (place : Plac
   pub at : slice_get (level_items ps) item ≡ Some (piece ∷ parts)
   pub there : piece.place ≡ place
 
-crossing_of : (cover : List (List ℕ)) (ps : List Piece) (place : Place) → Crosses cover ps place → CrossesHere cover ps place ⊎ HasCrossing cover (level_items ps) place
+crossing_of : (cover : List (List ℕ)) (ps : List Piece) (place : Place) → ColumnsCross cover ps place → CrossesHere cover ps place ⊎ HasCrossing cover (level_items ps) place
 crossing_of cover ps place h = by h refl refl
   where
-    by : {c : List (List ℕ)} {qs : List Piece} {q : Place} → Crosses c qs q → cover ≡ c → ps ≡ qs → CrossesHere cover ps q ⊎ HasCrossing cover (level_items ps) q
+    by : {c : List (List ℕ)} {qs : List Piece} {q : Place} → ColumnsCross c qs q → cover ≡ c → ps ≡ qs → CrossesHere cover ps q ⊎ HasCrossing cover (level_items ps) q
     by {c} {qs} {q} (crossed x p parts k at there) n e = inl (record {
       item = x;
       piece = p;
@@ -140,25 +140,25 @@ crossing_of cover ps place h = by h refl refl
       number = x;
       parts = p ∷ parts;
       at = subst (λ (l : List Piece). slice_get (level_items l) x ≡ Some (p ∷ parts)) (sym e) at;
-      crosses = (k, subst (λ (w : List (List ℕ)). Crosses (cover_of w p) (operands_of (cover_of w p) k (p ∷ parts)) q) (sym n) rest);
+      crosses = (k, subst (λ (w : List (List ℕ)). ColumnsCross (cover_of w p) (operands_of (cover_of w p) k (p ∷ parts)) q) (sym n) rest);
     })
 
 -- ---- a level that is woven
 
 module _ (cover : List (List ℕ)) (ps : List Piece) (order : List ℕ) (own_woven : IsWoven (length (level_items ps)) (level_item.columns_of (entries ps) cover) order) where
-  whole_on : (q : Place) → Crosses cover ps q → ItemsCross cover (level_items ps) order q
+  whole_on : (q : Place) → ColumnsCross cover ps q → ItemsCross cover (level_items ps) order q
   whole_on q h = elim (crossing_of cover ps q h) [
     | inl here ↦ absurd (never_woven_and_crossed (length (level_items ps)) (level_item.columns_of (entries ps) cover) order here.item own_woven here.crossing)
     | inr in_item ↦ crossing_among cover (level_items ps) order q in_item (own_woven.every in_item.number (low_at (level_items ps) in_item.number in_item.parts in_item.at))
   ]
 
-  whole_of : (q : Place) → ItemsCross cover (level_items ps) order q → Crosses cover ps q
+  whole_of : (q : Place) → ItemsCross cover (level_items ps) order q → ColumnsCross cover ps q
   whole_of q h = crossing_inside cover ps q (has_crossing cover (level_items ps) order q h)
 
-  pub whole_least : (b : Option Place) → IsLeast (ItemsCross cover (level_items ps) order) b → IsLeast (Crosses cover ps) b
-  whole_least b least = least_same (ItemsCross cover (level_items ps) order) (Crosses cover ps) b whole_of whole_on least
+  pub whole_least : (b : Option Place) → IsLeast (ItemsCross cover (level_items ps) order) b → IsLeast (ColumnsCross cover ps) b
+  whole_least b least = least_same (ItemsCross cover (level_items ps) order) (ColumnsCross cover ps) b whole_of whole_on least
 
-  module _ (held : Items) (pairs : List Pair) (all : AreItems (level_items ps)) (numbered : AreNumbered 0 ps) (are : AreWovenItems cover (level_items ps) order held)
+  module _ (held : WovenItems) (pairs : List Pair) (all : AreItems (level_items ps)) (numbered : AreNumbered 0 ps) (are : AreWovenItems cover (level_items ps) order held)
       (paired : ArePairs (ordered_nodes (first_parts (level_items ps)) order) pairs) where
     own_events : events held ≡ ordered_nodes (first_parts (level_items ps)) order
     own_events = woven_nodes all are
@@ -213,11 +213,11 @@ numbers_low n = all_low (numbers_to n) n (λ x h. numbers_below n x h)
 
 module _ (cover : List (List ℕ)) (ps : List Piece) (x : ℕ) (p : Piece) (others : List Piece) (stuck : IsCrossedAt (length (level_items ps)) (level_item.columns_of (entries ps) cover) x)
     (at : slice_get (level_items ps) x ≡ Some (p ∷ others)) (n : ℕ) (count : length (level_items ps) ≡ n) where
-  stuck_on : (q : Place) → ItemsCross cover (level_items ps) (numbers_to n) q ⊎ (p.place ≡ q) → Crosses cover ps q
+  stuck_on : (q : Place) → ItemsCross cover (level_items ps) (numbers_to n) q ⊎ (p.place ≡ q) → ColumnsCross cover ps q
   stuck_on q (inl h) = crossing_inside cover ps q (has_crossing cover (level_items ps) (numbers_to n) q h)
   stuck_on q (inr e) = crossed x p others stuck at e
 
-  stuck_of : (q : Place) → Crosses cover ps q → ItemsCross cover (level_items ps) (numbers_to n) q ⊎ (p.place ≡ q)
+  stuck_of : (q : Place) → ColumnsCross cover ps q → ItemsCross cover (level_items ps) (numbers_to n) q ⊎ (p.place ≡ q)
   stuck_of q h = elim (crossing_of cover ps q h) [
     | inl here ↦
         let one : here.item ≡ x = crossed_is_one (length (level_items ps)) (level_item.columns_of (entries ps) cover) here.item x here.crossing stuck in
@@ -230,9 +230,9 @@ module _ (cover : List (List ℕ)) (ps : List Piece) (x : ℕ) (p : Piece) (othe
         inl (crossing_among cover (level_items ps) (numbers_to n) q in_item (numbers_have n in_item.number (omega (arith, low, count))))
   ]
 
-  pub stuck_least : (b : Option Place) → IsLeast (ItemsCross cover (level_items ps) (numbers_to n)) b → IsLeast (Crosses cover ps) (earliest b p.place)
+  pub stuck_least : (b : Option Place) → IsLeast (ItemsCross cover (level_items ps) (numbers_to n)) b → IsLeast (ColumnsCross cover ps) (earliest b p.place)
   stuck_least b least =
-      least_same (λ q. ItemsCross cover (level_items ps) (numbers_to n) q ⊎ (p.place ≡ q)) (Crosses cover ps) (earliest b p.place) stuck_on stuck_of
+      least_same (λ q. ItemsCross cover (level_items ps) (numbers_to n) q ⊎ (p.place ≡ q)) (ColumnsCross cover ps) (earliest b p.place) stuck_on stuck_of
       (least_of (ItemsCross cover (level_items ps) (numbers_to n)) (λ q. p.place ≡ q) b (Some p.place) least (refl, λ q e. inr e))
 
 -- ---- answers
@@ -241,7 +241,7 @@ pub answer_least : {A : Type 0} (Is : A → Type 0) (Lacks : A → Place → Typ
 answer_least Is Lacks CrossesAt (answer.Woven held alone) h = h.1
 answer_least Is Lacks CrossesAt (answer.Crossed p) h = h
 
-module _ (cover : List (List ℕ)) (ps : List Piece) (body : Body) (all_woven : AreAllWoven ps) (own : IsWovenLevel cover ps body) (uncrossed : (q : Place) → Crosses cover ps q → ⊥) where
+module _ (cover : List (List ℕ)) (ps : List Piece) (body : Body) (all_woven : AreAllWoven ps) (own : IsWovenLevel cover ps body) (uncrossed : (q : Place) → ColumnsCross cover ps q → ⊥) where
   alone_of : (q : Place) → IsAloneIn cover ps q → LacksPartner body q
   alone_of q a = subst (λ (b : Body). LacksPartner b q) (one_body cover ps a.body body a.woven own) a.alone
 
@@ -251,5 +251,5 @@ module _ (cover : List (List ℕ)) (ps : List Piece) (body : Body) (all_woven : 
   pub level_is_woven : IsLeast (LacksPartner body) None → IsLevelWoven cover ps body
   level_is_woven least = record { all_woven = all_woven; uncrossed = uncrossed; matched = λ q a. least q (alone_of q a); woven = own }
 
-  pub level_is_unmatched : (place : Place) → IsLeast (LacksPartner body) (Some place) → AreAllWoven ps × ((q : Place) → Crosses cover ps q → ⊥) × IsLeast (IsAloneIn cover ps) (Some place)
+  pub level_is_unmatched : (place : Place) → IsLeast (LacksPartner body) (Some place) → AreAllWoven ps × ((q : Place) → ColumnsCross cover ps q → ⊥) × IsLeast (IsAloneIn cover ps) (Some place)
   level_is_unmatched place least = (all_woven, uncrossed, least_same (LacksPartner body) (IsAloneIn cover ps) (Some place) alone_on alone_of least)

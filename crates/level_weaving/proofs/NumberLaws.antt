@@ -1,6 +1,6 @@
 -- Numbers put together from the first, and from the last.
 use Rattle.std.proofs.Common.{◌≡◌, ℕ, ◌+◌, zero, suc, List, [], ◌∷◌, ◌++◌, refl, ap, ap₂, ◌∙◌, arith}
-use Rattle.item_order.specs.Laws.{numbers_from}
+use Rattle.column_order.specs.Laws.{numbers_from}
 use Rattle.level_weaving.specs.LevelNumbers.{numbers_to}
 
 from_last : (k n : ℕ) → numbers_from k (suc n) ≡ numbers_from k n ++ (k + n) ∷ []

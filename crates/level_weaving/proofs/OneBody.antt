@@ -1,9 +1,9 @@
 -- A level is woven to one body at most.
 use Rattle.std.proofs.Common.{◌≡◌, ℕ, suc, List, [], ◌∷◌, Some, slice_get, length, refl, sym, subst, ap, ap₂, ◌∙◌}
-use Rattle.item_order.specs.Weaving.{IsWoven}
-use Rattle.item_order.proofs.WeavingLaws.{woven_is_one}
+use Rattle.column_order.specs.Weaving.{IsWoven}
+use Rattle.column_order.proofs.WeavingLaws.{woven_is_one}
 use Rattle.msc_tree.specs.Statements as tree
-use Rattle.msc_meaning.specs.Bodies.{Body, Bodies, Item, Items, Single, Coregion, Inline, Refer, body_and, events, item_and, level}
+use Rattle.msc_meaning.specs.Bodies.{Body, Bodies, WovenItem, WovenItems, Single, Coregion, Inline, Refer, body_and, events, item_and, level}
 use Rattle.msc_meaning.specs.LevelItems.{columns_of, cover_of, entries, level_items}
 use Rattle.msc_meaning.specs.Levels.{AreWovenItems, AreWovenOperands, IsWovenItem, IsWovenLevel, a_coregion, a_reference, an_event, an_inline, no_woven, no_woven_operand, nodes_from, operand_number, woven, woven_and, woven_operand_and}
 use Rattle.msc_meaning.specs.Pairing.{ArePairs}
@@ -27,10 +27,10 @@ mutual
       subst (λ (x : List (List ℕ)). IsWoven (length (level_items ps)) (columns_of (entries ps) x) other) (sym ec) (subst (λ (l : List Piece). IsWoven (length (level_items l)) (columns_of (entries l) d) other) (sym ep) v) in
       let orders : order ≡ other = woven_is_one (length (level_items ps)) (columns_of (entries ps) c) order other w moved in
       let items : held ≡ more = one_items is are ec (ap level_items ep) orders in
-      let lists : pairs ≡ others = one_list (events held) pairs others p (subst (λ (h : Items). ArePairs (events h) others) (sym items) q) in
+      let lists : pairs ≡ others = one_list (events held) pairs others p (subst (λ (h : WovenItems). ArePairs (events h) others) (sym items) q) in
       λ i. level (ec i) (items i) (lists i)
 
-  pub one_items : {c d : List (List ℕ)} {all every : List (List Piece)} {order other : List ℕ} {a b : Items} → AreWovenItems c all order a → AreWovenItems d every other b → c ≡ d → all ≡ every → order ≡ other → a ≡ b
+  pub one_items : {c d : List (List ℕ)} {all every : List (List Piece)} {order other : List ℕ} {a b : WovenItems} → AreWovenItems c all order a → AreWovenItems d every other b → c ≡ d → all ≡ every → order ≡ other → a ≡ b
   one_items no_woven no_woven ec ea eo = refl
   one_items no_woven (woven_and at is rest) ec ea eo = cc
   one_items (woven_and at is rest) no_woven ec ea eo = cc
@@ -39,9 +39,9 @@ mutual
       let more : xs ≡ ys = cc in
       let moved : slice_get every y ≡ Some ps = subst (λ (l : List (List Piece)). slice_get l y ≡ Some ps) ea (subst (λ (k : ℕ). slice_get all k ≡ Some ps) first at) in
       let parts : ps ≡ qs = cc (moved, there) in
-      ap₂ (λ (i : Item) (l : Items). item_and i l) (one_item is are ec parts) (one_items rest others ec ea more)
+      ap₂ (λ (i : WovenItem) (l : WovenItems). item_and i l) (one_item is are ec parts) (one_items rest others ec ea more)
 
-  one_item : {c d : List (List ℕ)} {ps qs : List Piece} {a b : Item} → IsWovenItem c ps a → IsWovenItem d qs b → c ≡ d → ps ≡ qs → a ≡ b
+  one_item : {c d : List (List ℕ)} {ps qs : List Piece} {a b : WovenItem} → IsWovenItem c ps a → IsWovenItem d qs b → c ≡ d → ps ≡ qs → a ≡ b
   one_item (an_event {p = p} {at = x} {e = e} f l) (an_event {p = q} {at = y} {e = g} h m) ec ep =
       let one : p ≡ q = first_part p q [] [] ep in
       let forms : tree.Single e ≡ tree.Single g = same_form p q (tree.Single e) (tree.Single g) one f h in

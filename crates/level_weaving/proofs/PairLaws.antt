@@ -1,9 +1,9 @@
 -- Pairs of the ends are pairs of the events, and an event has one partner.
 use Rattle.std.proofs.Common.{◌≡◌, ℕ, ◌<◌, ◌+◌, List, Option, Some, None, slice_get, take, arith, refl, sym, ap, ap₂, ◌∙◌, subst, All, ◌↔◌, Result, Ok, Err, IfOk, Vec, Global}
 use Rattle.std.specs.List.{count_by, position}
-use Rattle.item_order.specs.declared.edge.Edge.{Edge}
-use Rattle.item_order.specs.Counts.{Leads}
-use Rattle.item_order.specs.Pairing.{count, IsPair}
+use Rattle.column_order.specs.declared.edge.Edge.{Edge}
+use Rattle.column_order.specs.Counts.{EdgeLeads}
+use Rattle.column_order.specs.Pairing.{count, IsPair}
 use Rattle.msc_meaning.specs.Bodies.{EventNode}
 use Rattle.level_weaving.specs.declared.matching.Mark.{Mark}
 use Rattle.msc_tree.specs.declared.event.Direction.{Direction}
@@ -86,13 +86,13 @@ pair_down events marks classes p q h pair =
     }
 
 pub leads_pairs : (events : List EventNode) (marks : List (Option Mark)) (classes : ℕ) (pairs : List Edge) → AreMarked events marks classes
-    → ((p q : ℕ) → (Leads pairs p q → IsPair (edges_from Out 0 marks) (edges_from In 0 marks) p q) × (IsPair (edges_from Out 0 marks) (edges_from In 0 marks) p q → Leads pairs p q))
+    → ((p q : ℕ) → (EdgeLeads pairs p q → IsPair (edges_from Out 0 marks) (edges_from In 0 marks) p q) × (IsPair (edges_from Out 0 marks) (edges_from In 0 marks) p q → EdgeLeads pairs p q))
     → LeadsPairs events pairs
 leads_pairs events marks classes pairs h exact = λ p q. (λ l. pair_up events marks classes p q h ((exact p q).0 l), λ i. (exact p q).1 (pair_down events marks classes p q h i))
 
 -- the pairs that were found of the ends lead from each output to its input
 pub pairs_found : {E : Type 0} (events : List EventNode) (marks : List (Option Mark)) (classes : ℕ) (outs ins : List Edge) (result : Result (Vec Edge Global) E) → AreMarked events marks classes
-    → outs ≡ edges_from Out 0 marks → ins ≡ edges_from In 0 marks → IfOk result (λ pairs. (p q : ℕ) → Leads pairs.items p q ↔ IsPair outs ins p q) → IfOk result (λ pairs. LeadsPairs events pairs.items)
+    → outs ≡ edges_from Out 0 marks → ins ≡ edges_from In 0 marks → IfOk result (λ pairs. (p q : ℕ) → EdgeLeads pairs.items p q ↔ IsPair outs ins p q) → IfOk result (λ pairs. LeadsPairs events pairs.items)
 pairs_found events marks classes outs ins (Err e) h o i found = found
 pairs_found events marks classes outs ins (Ok pairs) h o i found = leads_pairs events marks classes pairs.items h (λ p q. rw (sym o, sym i) (found p q))
 

@@ -4,9 +4,9 @@ use Rattle.std.specs.List.{Contains, count_by}
 use Rattle.std.specs.List.Sorted.{IsNonDecreasingBy, IsPermutation}
 use Rattle.std.proofs.lemmas.Bool.{cases_eq, eq-eqb, ne_eqb}
 use Rattle.std.proofs.lemmas.List.Sorted.{Contains-permutation, IsPermutation-sym, sum_by-IsPermutation}
-use Rattle.item_order.specs.Counts.{Leads}
-use Rattle.item_order.specs.Pairing.{RiseFrom}
-use Rattle.item_order.specs.declared.edge.Edge.{Edge}
+use Rattle.column_order.specs.Counts.{EdgeLeads}
+use Rattle.column_order.specs.Pairing.{RiseFrom}
+use Rattle.column_order.specs.declared.edge.Edge.{Edge}
 use Rattle.msc_base.specs.declared.label.Kind.{Kind}
 use Rattle.msc_base.specs.declared.label.Kind.TheVariants.{Output, Input, OutputLost, InputFound, Action, TimerStart, TimerStop, Timeout, Create}
 use Rattle.msc_base.specs.Lists.{AreDifferent, IsAmong}
@@ -200,13 +200,13 @@ paired_positions held n m h =
 
 -- ---- the pairs by numbers
 
-has_leads : (held : List EventNode) (es : List Edge) (n m : ℕ) → Leads (edges_at held es) n m
-    → (p : ℕ) × (q : ℕ) × Leads es p q × (number_or_zero (slice_get held p) ≡ n) × (number_or_zero (slice_get held q) ≡ m)
+has_leads : (held : List EventNode) (es : List Edge) (n m : ℕ) → EdgeLeads (edges_at held es) n m
+    → (p : ℕ) × (q : ℕ) × EdgeLeads es p q × (number_or_zero (slice_get held p) ≡ n) × (number_or_zero (slice_get held q) ≡ m)
 has_leads held [] n m h = absurd h
 has_leads held (e ∷ es) n m (inl h) = (e.from, e.to, inl (refl, refl), h.0, h.1)
 has_leads held (e ∷ es) n m (inr h) = let r = has_leads held es n m h in (r.0, r.1, inr r.2, r.3, r.4)
 
-leads_has : (held : List EventNode) (es : List Edge) (p q : ℕ) → Leads es p q → Leads (edges_at held es) (number_or_zero (slice_get held p)) (number_or_zero (slice_get held q))
+leads_has : (held : List EventNode) (es : List Edge) (p q : ℕ) → EdgeLeads es p q → EdgeLeads (edges_at held es) (number_or_zero (slice_get held p)) (number_or_zero (slice_get held q))
 leads_has held [] p q h = absurd h
 leads_has held (e ∷ es) p q (inl h) = inl (ap (λ (k : ℕ). number_or_zero (slice_get held k)) h.0, ap (λ (k : ℕ). number_or_zero (slice_get held k)) h.1)
 leads_has held (e ∷ es) p q (inr h) = inr (leads_has held es p q h)
@@ -214,7 +214,7 @@ leads_has held (e ∷ es) p q (inr h) = inr (leads_has held es p q h)
 number_at : (held : List EventNode) (p : ℕ) (d : EventNode) → slice_get held p ≡ Some d → number_or_zero (slice_get held p) ≡ d.number
 number_at held p d at = ap number_or_zero at
 
-paired_leads : (held : List EventNode) (es : List Edge) (n m : ℕ) → LeadsPairs held es → Leads (edges_at held es) n m → pairing.IsPaired held n m
+paired_leads : (held : List EventNode) (es : List Edge) (n m : ℕ) → LeadsPairs held es → EdgeLeads (edges_at held es) n m → pairing.IsPaired held n m
 paired_leads held es n m leads has =
     let r = has_leads held es n m has in
     let h = (leads r.0 r.1).0 r.2 in
@@ -222,34 +222,34 @@ paired_leads held es n m leads has =
     let second : h.input.number ≡ m = sym (number_at held r.1 h.input h.input_at) ∙ r.4 in
     subst (λ (k : ℕ). pairing.IsPaired held n k) second (subst (λ (k : ℕ). pairing.IsPaired held k h.input.number) first (paired_numbers held r.0 r.1 h))
 
-leads_paired : (held : List EventNode) (es : List Edge) (n m : ℕ) → LeadsPairs held es → pairing.IsPaired held n m → Leads (edges_at held es) n m
+leads_paired : (held : List EventNode) (es : List Edge) (n m : ℕ) → LeadsPairs held es → pairing.IsPaired held n m → EdgeLeads (edges_at held es) n m
 leads_paired held es n m leads h =
     let l = (leads h.output_position h.input_position).1 (paired_positions held n m h) in
     let first : number_or_zero (slice_get held h.output_position) ≡ n = number_at held h.output_position h.output h.output_at ∙ h.output_number in
     let second : number_or_zero (slice_get held h.input_position) ≡ m = number_at held h.input_position h.input h.input_at ∙ h.input_number in
-    subst (λ (k : ℕ). Leads (edges_at held es) n k) second (subst (λ (k : ℕ). Leads (edges_at held es) k (number_or_zero (slice_get held h.input_position))) first (leads_has held es h.output_position h.input_position l))
+    subst (λ (k : ℕ). EdgeLeads (edges_at held es) n k) second (subst (λ (k : ℕ). EdgeLeads (edges_at held es) k (number_or_zero (slice_get held h.input_position))) first (leads_has held es h.output_position h.input_position l))
 
 -- ---- the same in another order
 
-leads_contains : (xs : List Edge) (n m : ℕ) → Leads xs n m → Contains xs (record { from = n; to = m })
+leads_contains : (xs : List Edge) (n m : ℕ) → EdgeLeads xs n m → Contains xs (record { from = n; to = m })
 leads_contains [] n m h = absurd h
 leads_contains (x ∷ xs) n m (inl h) = let same : x ≡ record { from = n; to = m } = λ i. record { from = h.0 i; to = h.1 i } in (0, omega arith, same)
 leads_contains (x ∷ xs) n m (inr h) = let r = leads_contains xs n m h in (suc r.0, omega (arith, r.1), r.2)
 
-contains_leads : (xs : List Edge) (k n m : ℕ) → k < length xs → get_or xs k (record { from = n; to = m }) ≡ record { from = n; to = m } → Leads xs n m
+contains_leads : (xs : List Edge) (k n m : ℕ) → k < length xs → get_or xs k (record { from = n; to = m }) ≡ record { from = n; to = m } → EdgeLeads xs n m
 contains_leads [] k n m lt is = absurd (omega arith)
 contains_leads (x ∷ xs) zero n m lt is = inl (ap (λ (e : Edge). e.from) is, ap (λ (e : Edge). e.to) is)
 contains_leads (x ∷ xs) (suc k) n m lt is = inr (contains_leads xs k n m (omega arith) is)
 
-moved_leads : (xs ys : List Edge) (n m : ℕ) → IsPermutation xs ys → Leads xs n m → Leads ys n m
+moved_leads : (xs ys : List Edge) (n m : ℕ) → IsPermutation xs ys → EdgeLeads xs n m → EdgeLeads ys n m
 moved_leads xs ys n m moves h = let r = Contains-permutation xs ys (record { from = n; to = m }) moves (leads_contains xs n m h) in contains_leads ys r.0 n m r.1 r.2
 
-pair_leads : (es : List Edge) (p q : ℕ) → HasPair (map pair_of es) p q → Leads es p q
+pair_leads : (es : List Edge) (p q : ℕ) → HasPair (map pair_of es) p q → EdgeLeads es p q
 pair_leads [] p q h = h
 pair_leads (e ∷ es) p q (inl h) = inl h
 pair_leads (e ∷ es) p q (inr h) = inr (pair_leads es p q h)
 
-leads_pair : (es : List Edge) (p q : ℕ) → Leads es p q → HasPair (map pair_of es) p q
+leads_pair : (es : List Edge) (p q : ℕ) → EdgeLeads es p q → HasPair (map pair_of es) p q
 leads_pair [] p q h = h
 leads_pair (e ∷ es) p q (inl h) = inl h
 leads_pair (e ∷ es) p q (inr h) = inr (leads_pair es p q h)
@@ -288,12 +288,12 @@ some_from (e ∷ es) zero d lt =
     omega (arith, count_cons (λ x. nat_eq x.from e.from) e es, one)
 some_from (e ∷ es) (suc k) d lt = omega (arith, count_cons (λ x. nat_eq x.from (get_or es k d).from) e es, some_from es k d (omega arith))
 
-among_from : (held : List EventNode) (k n : ℕ) (es : List Edge) → RiseFrom k es → IsAmong (map from_of (edges_at held es)) n → (p : ℕ) × (q : ℕ) × (k ≤ p) × Leads es p q × (number_or_zero (slice_get held p) ≡ n)
+among_from : (held : List EventNode) (k n : ℕ) (es : List Edge) → RiseFrom k es → IsAmong (map from_of (edges_at held es)) n → (p : ℕ) × (q : ℕ) × (k ≤ p) × EdgeLeads es p q × (number_or_zero (slice_get held p) ≡ n)
 among_from held k n [] rise h = absurd h
 among_from held k n (e ∷ es) rise (inl is) = (e.from, e.to, rise.0, inl (refl, refl), sym is)
 among_from held k n (e ∷ es) rise (inr h) = let r = among_from held (suc e.from) n es rise.1 h in (r.0, r.1, omega (arith, r.2, rise.0), inr r.3, r.4)
 
-edges_different : (held : List EventNode) (k : ℕ) (es : List Edge) → AreDifferent (map number_of held) → RiseFrom k es → ((p q : ℕ) → Leads es p q → (d : EventNode) × (slice_get held p ≡ Some d)) → AreDifferent (map from_of (edges_at held es))
+edges_different : (held : List EventNode) (k : ℕ) (es : List Edge) → AreDifferent (map number_of held) → RiseFrom k es → ((p q : ℕ) → EdgeLeads es p q → (d : EventNode) × (slice_get held p ≡ Some d)) → AreDifferent (map from_of (edges_at held es))
 edges_different held k [] different rise there = tt
 edges_different held k (e ∷ es) different rise there = (
   λ h.

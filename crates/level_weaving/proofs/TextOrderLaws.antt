@@ -2,18 +2,18 @@
 use Rattle.std.proofs.Common.{◌≡◌, inl, inr, ℕ, ◌<◌, ◌≤◌, ◌+◌, zero, suc, Bool, true, false, not, cond, List, [], ◌∷◌, ◌++◌, Option, Some, None, slice_get, length, map, refl, sym, subst, ap, ap₂, ◌∙◌, arith}
 use Rattle.std.specs.Bool.{⊤}
 use Rattle.std.proofs.lemmas.List.{append-nil, length-map, map-append}
-use Rattle.item_order.specs.Laws.{AreInOrder, numbers_from}
-use Rattle.item_order.specs.Weaving.{Before, IsCrossedAt, IsWoven}
-use Rattle.item_order.proofs.WeavingLaws.{never_woven_and_crossed, text_is_woven, woven_is_one}
+use Rattle.column_order.specs.Laws.{AreInOrder, numbers_from}
+use Rattle.column_order.specs.Weaving.{ColumnOrders, IsCrossedAt, IsWoven}
+use Rattle.column_order.proofs.WeavingLaws.{never_woven_and_crossed, text_is_woven, woven_is_one}
 use Rattle.msc_base.specs.Lists.{IsAmong}
 use Rattle.msc_base.specs.declared.label.Pair.{Pair}
 use Rattle.msc_base.specs.declared.place.Place.{Place}
 use Rattle.msc_tree.specs.declared.event.RawEvent.{RawEvent}
 use Rattle.msc_tree.specs.Statements.{Form, Single, Coregion, Condition, Inline, Refer, Stop, placed, Statement, Column, Covered, Heading, Ended, Statements, no_statements, statement_and}
 use Rattle.msc_tree.specs.Statements as tree
-use Rattle.msc_meaning.specs.Bodies.{Body, EventNode, Item, Items, events, item_and, item_events, items, level}
+use Rattle.msc_meaning.specs.Bodies.{Body, EventNode, WovenItem, WovenItems, events, item_and, item_events, items, level}
 use Rattle.msc_meaning.specs.Bodies as body
-use Rattle.msc_meaning.specs.Crossings.{Crosses, crossed, inside}
+use Rattle.msc_meaning.specs.Crossings.{ColumnsCross, crossed, inside}
 use Rattle.msc_meaning.specs.LevelItems.{Entry, columns_of, cover_of, creations_of, entries, entries_at, entries_behind, is_creation, is_in, is_item, level_items, name_of, number_in, with_piece, with_pieces}
 use Rattle.msc_meaning.specs.Levels.{AreWovenItems, IsWovenItem, IsWovenLevel, a_coregion, an_event, no_woven, nodes_from, woven, woven_and}
 use Rattle.msc_meaning.specs.Pairing.{ArePairs}
@@ -98,11 +98,11 @@ column_above k (e ∷ es) i x r h = by (is_in e.piece.leads i) h (column_above (
     by true g rest = elim g [ inl is ↦ omega (arith, is, r.0) | inr more ↦ let low = rest more in omega (arith, r.0, low) ]
     by false g rest = let low = rest g in omega (arith, r.0, low)
 
-column_rises : (k : ℕ) (es : List Entry) (i : List ℕ) (y x : ℕ) → Rise k es → Before (entries_at es i) y x → y < x
+column_rises : (k : ℕ) (es : List Entry) (i : List ℕ) (y x : ℕ) → Rise k es → ColumnOrders (entries_at es i) y x → y < x
 column_rises k [] i y x r h = absurd h
 column_rises k (e ∷ es) i y x r h = by (is_in e.piece.leads i) h (column_rises (suc e.item) es i y x r.1)
   where
-    by : (b : Bool) → Before (cond b (e.item ∷ entries_at es i) (entries_at es i)) y x → (Before (entries_at es i) y x → y < x) → y < x
+    by : (b : Bool) → ColumnOrders (cond b (e.item ∷ entries_at es i) (entries_at es i)) y x → (ColumnOrders (entries_at es i) y x → y < x) → y < x
     by true g rest = elim g [ inl here ↦ let low = column_above (suc e.item) es i x r.1 here.1 in omega (arith, here.0, low) | inr more ↦ rest more ]
     by false g rest = rest g
 
@@ -138,7 +138,7 @@ in_order n es (i ∷ cover) r s none = λ column mine. elim mine [
   | inl is ↦
       let own : column ≡ entries_at es i = is ∙ ap (λ (l : List ℕ). l ++ entries_at es i) (none i) in (
         λ x h. column_below n es i x s (subst (λ (l : List ℕ). IsAmong l x) own h),
-        λ y x h. column_rises 0 es i y x r (subst (λ (l : List ℕ). Before l y x) own h),
+        λ y x h. column_rises 0 es i y x r (subst (λ (l : List ℕ). ColumnOrders l y x) own h),
       )
   | inr more ↦ in_order n es cover r s none column more
 ]
@@ -193,10 +193,10 @@ kept_columns cover (p ∷ ps) h = by (is_item p.form) (kept_columns cover ps h.1
     by true rest = (h.0, rest)
     by false rest = rest
 
-pub text_uncrossed : (cover : List (List ℕ)) (ps : List Piece) (place : Place) → AreInOneColumn cover ps → Crosses cover ps place → ⊥
+pub text_uncrossed : (cover : List (List ℕ)) (ps : List Piece) (place : Place) → AreInOneColumn cover ps → ColumnsCross cover ps place → ⊥
 text_uncrossed cover ps place h c = by c refl refl
   where
-    by : {d : List (List ℕ)} {qs : List Piece} {q : Place} → Crosses d qs q → cover ≡ d → ps ≡ qs → ⊥
+    by : {d : List (List ℕ)} {qs : List Piece} {q : Place} → ColumnsCross d qs q → cover ≡ d → ps ≡ qs → ⊥
     by {d} {qs} (crossed x p parts k at there) n e =
         never_woven_and_crossed (length (level_items ps)) (columns_of (entries ps) cover) (numbers_from 0 (length (level_items ps))) x (text_woven cover ps h)
         (subst (λ (w : List (List ℕ)). IsCrossedAt (length (level_items ps)) (columns_of (entries ps) w) x) (sym n)
@@ -222,12 +222,12 @@ kept_items [] = refl
 kept_items (p ∷ ps) = by (is_item p.form) refl (kept_items ps)
   where
     by : (b : Bool) → is_item p.form ≡ b → pieces_items (kept ps) ≡ pieces_items ps → pieces_items (cond b (p ∷ kept ps) (kept ps)) ≡ piece_items p ++ pieces_items ps
-    by true is rest = ap (λ (l : List Item). piece_items p ++ l) rest
-    by false is rest = rest ∙ ap (λ (l : List Item). l ++ pieces_items ps) (sym (no_item (slice_get p.leads 0) p.first p.form is))
+    by true is rest = ap (λ (l : List WovenItem). piece_items p ++ l) rest
+    by false is rest = rest ∙ ap (λ (l : List WovenItem). l ++ pieces_items ps) (sym (no_item (slice_get p.leads 0) p.first p.form is))
 
 -- a piece that is an item has it by itself
 pub record HasItem (cover : List (List ℕ)) (q : Piece) : Type 0 where
-  pub item : Item
+  pub item : WovenItem
   pub is : piece_items q ≡ item ∷ []
   pub woven : IsWovenItem cover (lone q) item
 
@@ -274,14 +274,14 @@ lone_woven cover front (q ∷ qs) h =
     subst (λ (k : ℕ). AreWovenItems cover (map lone (front ++ q ∷ qs)) (numbers_from k (length qs)) (items (pieces_items qs))) (length_snoc front q)
     (subst (λ (l : List Piece). AreWovenItems cover (map lone l) (numbers_from (length (front ++ q ∷ [])) (length qs)) (items (pieces_items qs))) (sym (assoc front (q ∷ []) qs))
     (lone_woven cover (front ++ q ∷ []) qs h.1)) in
-    subst (λ (l : List Item). AreWovenItems cover (map lone (front ++ q ∷ qs)) (numbers_from (length front) (length (q ∷ qs))) (items (l ++ pieces_items qs))) (sym h.0.is)
+    subst (λ (l : List WovenItem). AreWovenItems cover (map lone (front ++ q ∷ qs)) (numbers_from (length front) (length (q ∷ qs))) (items (l ++ pieces_items qs))) (sym h.0.is)
     (woven_and (at_front front q qs) h.0.woven moved)
 
 items_woven : (cover : List (List ℕ)) (ps : List Piece) → AreInOneColumn cover ps → AreWovenItems cover (level_items ps) (numbers_from 0 (length (level_items ps))) (items (pieces_items ps))
 items_woven cover ps h =
     let all_are : map lone (kept ps) ≡ level_items ps = sym (level_items_are cover ps h) in
     let count : length (kept ps) ≡ length (level_items ps) = sym (length-map (kept ps) lone) ∙ ap length all_are in
-    subst (λ (l : List Item). AreWovenItems cover (level_items ps) (numbers_from 0 (length (level_items ps))) (items l)) (kept_items ps)
+    subst (λ (l : List WovenItem). AreWovenItems cover (level_items ps) (numbers_from 0 (length (level_items ps))) (items l)) (kept_items ps)
     (subst (λ (n : ℕ). AreWovenItems cover (level_items ps) (numbers_from 0 n) (items (pieces_items (kept ps)))) count
     (subst (λ (all : List (List Piece)). AreWovenItems cover all (numbers_from 0 (length (kept ps))) (items (pieces_items (kept ps)))) all_are (lone_woven cover [] (kept ps) (kept_have cover ps h))))
 
@@ -296,7 +296,7 @@ only_text cover ps h (woven {order = order} {held = held} {pairs = pairs} w are 
     let order_is : order ≡ numbers_from 0 (length (level_items ps)) =
     woven_is_one (length (level_items ps)) (columns_of (entries ps) cover) order (numbers_from 0 (length (level_items ps))) w (text_woven cover ps h) in
     let held_is : held ≡ items (pieces_items ps) = one_items are (items_woven cover ps h) refl refl order_is in
-    (pairs, ap (λ (l : Items). level cover l pairs) held_is, subst (λ (l : Items). ArePairs (events l) pairs) held_is paired)
+    (pairs, ap (λ (l : WovenItems). level cover l pairs) held_is, subst (λ (l : WovenItems). ArePairs (events l) pairs) held_is paired)
 
 pub text_is_order : TextIsOrder
 text_is_order = record {
@@ -326,7 +326,7 @@ numbers_on n (suc a) b =
     let count : suc (a + b) ≡ suc a + b = omega arith in
     ap (λ (k : ℕ). n ∷ (numbers_from (suc n) a ++ numbers_from k b)) start ∙ ap (λ (l : List ℕ). n ∷ l) (numbers_on (suc n) a b) ∙ ap (numbers_from n) count
 
-events_on : (xs ys : List Item) → events (items (xs ++ ys)) ≡ events (items xs) ++ events (items ys)
+events_on : (xs ys : List WovenItem) → events (items (xs ++ ys)) ≡ events (items xs) ++ events (items ys)
 events_on [] ys = refl
 events_on (x ∷ xs) ys = ap (λ (l : List EventNode). item_events x ++ l) (events_on xs ys) ∙ assoc (item_events x) (events (items xs)) (events (items ys))
 
@@ -341,10 +341,10 @@ form_numbers cover (at ∷ other ∷ leads) n (Single e) h = absurd h.0
 form_numbers cover [] n (Coregion es) h = absurd h
 form_numbers cover (at ∷ []) n (Coregion es) h = ap (map number_of) (append-nil (nodes_from n at es)) ∙ nodes_numbers n at es
 form_numbers cover (at ∷ other ∷ leads) n (Coregion es) h = absurd h
-form_numbers cover leads n (Condition names shared) h = ap (λ (l : List Item). map number_of (events (items l))) (no_item (slice_get leads 0) n (Condition names shared) refl)
+form_numbers cover leads n (Condition names shared) h = ap (λ (l : List WovenItem). map number_of (events (items l))) (no_item (slice_get leads 0) n (Condition names shared) refl)
 form_numbers cover leads n (Inline head held) h = absurd h
 form_numbers cover leads n (Refer r) h = absurd h
-form_numbers cover leads n Stop h = ap (λ (l : List Item). map number_of (events (items l))) (no_item (slice_get leads 0) n Stop refl)
+form_numbers cover leads n Stop h = ap (λ (l : List WovenItem). map number_of (events (items l))) (no_item (slice_get leads 0) n Stop refl)
 
 numbers_count : (n m : ℕ) → length (numbers_from n m) ≡ m
 numbers_count n zero = refl

@@ -1,8 +1,8 @@
 -- Steps of the walks that weave the items of a level, or several levels.
 use Rattle.std.proofs.Common.{◌≡◌, ℕ, ◌<◌, ◌+◌, List, [], ◌∷◌, ◌++◌, Some, get_or, length, map, slice_get, take, sym, subst, ap, ◌∙◌}
 use Rattle.std.proofs.lemmas.List.{map-append, take_more}
-use Rattle.msc_meaning.specs.Bodies.{Body, Item, bodies, items}
-use Rattle.msc_meaning.specs.Crossings.{Crosses}
+use Rattle.msc_meaning.specs.Bodies.{Body, WovenItem, bodies, items}
+use Rattle.msc_meaning.specs.Crossings.{ColumnsCross}
 use Rattle.msc_meaning.specs.Levels.{AreWovenItems, IsWovenItem, IsWovenLevel}
 use Rattle.msc_meaning.specs.Partners.{ItemLacksPartner, ItemsLackPartner, LacksPartner, OneLacksPartner}
 use Rattle.msc_meaning.specs.Pieces.{Piece}
@@ -26,9 +26,9 @@ module _ (cover : List (List ℕ)) (all : List (List Piece)) where
   one_item_more order x parts old new answer at h is added =
       gathered_more (λ is. AreWovenItems cover all order (items (map item_view is))) (λ is. AreWovenItems cover all (order ++ x ∷ []) (items (map item_view is))) (λ is. ItemsLackPartner (items (map item_view is)))
       (ItemsCross cover all order) (ItemsCross cover all (order ++ x ∷ [])) (λ i. IsWovenItem cover parts (item_view i)) (λ i. ItemLacksPartner (item_view i)) (ItemCrosses cover parts) old new answer h is added
-      (λ l i w one. subst (λ (is : List Item). AreWovenItems cover all (order ++ x ∷ []) (items is)) (sym (map-append item_view l (i ∷ []))) (woven_snoc order (map item_view l) x parts (item_view i) w at one))
-      (λ l i q k. subst (λ (is : List Item). ItemsLackPartner (items is) q) (sym (map-append item_view l (i ∷ []))) (lack_on (map item_view l) (item_view i) q k))
-      (λ l i q k. lack_of (map item_view l) (item_view i) q (subst (λ (is : List Item). ItemsLackPartner (items is) q) (map-append item_view l (i ∷ [])) k))
+      (λ l i w one. subst (λ (is : List WovenItem). AreWovenItems cover all (order ++ x ∷ []) (items is)) (sym (map-append item_view l (i ∷ []))) (woven_snoc order (map item_view l) x parts (item_view i) w at one))
+      (λ l i q k. subst (λ (is : List WovenItem). ItemsLackPartner (items is) q) (sym (map-append item_view l (i ∷ []))) (lack_on (map item_view l) (item_view i) q k))
+      (λ l i q k. lack_of (map item_view l) (item_view i) q (subst (λ (is : List WovenItem). ItemsLackPartner (items is) q) (map-append item_view l (i ∷ [])) k))
       (cross_on cover all x parts at order) (cross_of cover all x parts at order)
 
   pub item_more : (order : List ℕ) (k x : ℕ) (parts : List Piece) (old new : Gathered code_item.Item) (answer : Answer code_item.Item) → k < length order → x ≡ get_or order k 0 → slice_get all x ≡ Some parts
@@ -52,7 +52,7 @@ pub level_more : (cover : List (List ℕ)) (pss longer : List (List Piece)) (ps 
 level_more cover pss longer ps old new answer made h is added =
     subst (λ (l : List (List Piece)). GatheredLevels cover l new) (sym made)
     (gathered_more (λ bs. AreWovenLevels cover pss (map body_view bs)) (λ bs. AreWovenLevels cover (pss ++ ps ∷ []) (map body_view bs)) (λ bs. OneLacksPartner (bodies (map body_view bs)))
-    (OneCrosses cover pss) (OneCrosses cover (pss ++ ps ∷ [])) (λ b. IsWovenLevel cover ps (body_view b)) (λ b. LacksPartner (body_view b)) (Crosses cover ps) old new answer h is added
+    (OneCrosses cover pss) (OneCrosses cover (pss ++ ps ∷ [])) (λ b. IsWovenLevel cover ps (body_view b)) (λ b. LacksPartner (body_view b)) (ColumnsCross cover ps) old new answer h is added
     (λ l b w one. subst (λ (bs : List Body). AreWovenLevels cover (pss ++ ps ∷ []) bs) (sym (map-append body_view l (b ∷ []))) (levels_snoc cover pss (map body_view l) ps (body_view b) w one))
     (λ l b q k. subst (λ (bs : List Body). OneLacksPartner (bodies bs) q) (sym (map-append body_view l (b ∷ []))) (one_lack_on (map body_view l) (body_view b) q k))
     (λ l b q k. one_lack_of (map body_view l) (body_view b) q (subst (λ (bs : List Body). OneLacksPartner (bodies bs) q) (map-append body_view l (b ∷ [])) k))

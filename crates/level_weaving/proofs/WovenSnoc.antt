@@ -1,8 +1,8 @@
 -- One more of what is woven: an item, or a level.
 use Rattle.std.proofs.Common.{◌≡◌, ◌⊎◌, inl, inr, ℕ, List, [], ◌∷◌, ◌++◌, Option, Some, slice_get, sym, subst}
 use Rattle.msc_base.specs.declared.place.Place.{Place}
-use Rattle.msc_meaning.specs.Bodies.{Body, Item, bodies, items}
-use Rattle.msc_meaning.specs.Crossings.{Crosses}
+use Rattle.msc_meaning.specs.Bodies.{Body, WovenItem, bodies, items}
+use Rattle.msc_meaning.specs.Crossings.{ColumnsCross}
 use Rattle.msc_meaning.specs.Levels.{AreWovenItems, IsWovenItem, IsWovenLevel, no_woven, woven_and}
 use Rattle.msc_meaning.specs.Partners.{ItemLacksPartner, ItemsLackPartner, LacksPartner, OneLacksPartner}
 use Rattle.msc_meaning.specs.Pieces.{Piece}
@@ -10,21 +10,21 @@ use Rattle.level_weaving.specs.Answers.{AreWovenLevels, ItemCrosses, ItemsCross,
 
 -- ---- items
 
-pub woven_snoc : {cover : List (List ℕ)} {all : List (List Piece)} (order : List ℕ) (held : List Item) (x : ℕ) (parts : List Piece) (i : Item)
+pub woven_snoc : {cover : List (List ℕ)} {all : List (List Piece)} (order : List ℕ) (held : List WovenItem) (x : ℕ) (parts : List Piece) (i : WovenItem)
     → AreWovenItems cover all order (items held) → slice_get all x ≡ Some parts → IsWovenItem cover parts i → AreWovenItems cover all (order ++ x ∷ []) (items (held ++ i ∷ []))
 woven_snoc [] [] x parts i no_woven at is = woven_and at is no_woven
 woven_snoc [] (h ∷ held) x parts i w at is = elim w [ ]
 woven_snoc (y ∷ order) [] x parts i w at is = elim w [ ]
 woven_snoc (y ∷ order) (h ∷ held) x parts i (woven_and a b c) at is = woven_and a b (woven_snoc order held x parts i c at is)
 
-pub lack_on : (held : List Item) (i : Item) (q : Place) → ItemsLackPartner (items held) q ⊎ ItemLacksPartner i q → ItemsLackPartner (items (held ++ i ∷ [])) q
+pub lack_on : (held : List WovenItem) (i : WovenItem) (q : Place) → ItemsLackPartner (items held) q ⊎ ItemLacksPartner i q → ItemsLackPartner (items (held ++ i ∷ [])) q
 lack_on [] i q (inl h) = absurd h
 lack_on [] i q (inr h) = inl h
 lack_on (x ∷ held) i q (inl (inl h)) = inl h
 lack_on (x ∷ held) i q (inl (inr h)) = inr (lack_on held i q (inl h))
 lack_on (x ∷ held) i q (inr h) = inr (lack_on held i q (inr h))
 
-pub lack_of : (held : List Item) (i : Item) (q : Place) → ItemsLackPartner (items (held ++ i ∷ [])) q → ItemsLackPartner (items held) q ⊎ ItemLacksPartner i q
+pub lack_of : (held : List WovenItem) (i : WovenItem) (q : Place) → ItemsLackPartner (items (held ++ i ∷ [])) q → ItemsLackPartner (items held) q ⊎ ItemLacksPartner i q
 lack_of [] i q (inl h) = inr h
 lack_of [] i q (inr h) = absurd h
 lack_of (x ∷ held) i q (inl h) = inl (inl h)
@@ -65,14 +65,14 @@ one_lack_of [] b q (inr h) = absurd h
 one_lack_of (c ∷ bs) b q (inl h) = inl (inl h)
 one_lack_of (c ∷ bs) b q (inr h) = elim (one_lack_of bs b q h) [ inl l ↦ inl (inr l) | inr r ↦ inr r ]
 
-pub one_cross_on : (cover : List (List ℕ)) (pss : List (List Piece)) (ps : List Piece) (q : Place) → OneCrosses cover pss q ⊎ Crosses cover ps q → OneCrosses cover (pss ++ ps ∷ []) q
+pub one_cross_on : (cover : List (List ℕ)) (pss : List (List Piece)) (ps : List Piece) (q : Place) → OneCrosses cover pss q ⊎ ColumnsCross cover ps q → OneCrosses cover (pss ++ ps ∷ []) q
 one_cross_on cover [] ps q (inl h) = absurd h
 one_cross_on cover [] ps q (inr h) = inl h
 one_cross_on cover (qs ∷ pss) ps q (inl (inl h)) = inl h
 one_cross_on cover (qs ∷ pss) ps q (inl (inr h)) = inr (one_cross_on cover pss ps q (inl h))
 one_cross_on cover (qs ∷ pss) ps q (inr h) = inr (one_cross_on cover pss ps q (inr h))
 
-pub one_cross_of : (cover : List (List ℕ)) (pss : List (List Piece)) (ps : List Piece) (q : Place) → OneCrosses cover (pss ++ ps ∷ []) q → OneCrosses cover pss q ⊎ Crosses cover ps q
+pub one_cross_of : (cover : List (List ℕ)) (pss : List (List Piece)) (ps : List Piece) (q : Place) → OneCrosses cover (pss ++ ps ∷ []) q → OneCrosses cover pss q ⊎ ColumnsCross cover ps q
 one_cross_of cover [] ps q (inl h) = inr h
 one_cross_of cover [] ps q (inr h) = absurd h
 one_cross_of cover (qs ∷ pss) ps q (inl h) = inl (inl h)

@@ -11,8 +11,8 @@ use Rattle.level_weaving.specs.declared.answers.Answer.TheVariants.{Woven, Cross
 use Rattle.level_weaving.specs.declared.answers.Gathered.{Gathered}
 use Rattle.msc_base.specs.Places.{IsLeast, earliest}
 use Rattle.msc_base.specs.declared.place.Place.{Place}
-use Rattle.msc_meaning.specs.Bodies.{Body, Bodies, Coregion, Inline, Item, bodies, items}
-use Rattle.msc_meaning.specs.Crossings.{Crosses}
+use Rattle.msc_meaning.specs.Bodies.{Body, Bodies, Coregion, Inline, WovenItem, bodies, items}
+use Rattle.msc_meaning.specs.Crossings.{ColumnsCross}
 use Rattle.msc_meaning.specs.LevelItems.{cover_of}
 use Rattle.msc_meaning.specs.Levels.{AreWovenItems, IsWovenItem, IsWovenLevel}
 use Rattle.msc_meaning.specs.Partners.{ItemLacksPartner, ItemsLackPartner, LacksPartner, OneLacksPartner}
@@ -49,7 +49,7 @@ gathered_answer list alone (Some p) = Crossed p
 -- ---- a level
 
 abbrev pub IsLevelAnswer : List (List ℕ) → List Piece → Answer code_body.Body → Type 0
-IsLevelAnswer cover ps answer = IsAnswer (λ b. IsWovenLevel cover ps (body_view b)) (λ b. LacksPartner (body_view b)) (Crosses cover ps) answer
+IsLevelAnswer cover ps answer = IsAnswer (λ b. IsWovenLevel cover ps (body_view b)) (λ b. LacksPartner (body_view b)) (ColumnsCross cover ps) answer
 
 -- ---- several levels that cover the same
 
@@ -65,7 +65,7 @@ AreWovenLevels cover (ps ∷ pss) (b ∷ bs) = IsWovenLevel cover ps b × AreWov
 
 abbrev pub OneCrosses : List (List ℕ) → List (List Piece) → Place → Type 0
 OneCrosses cover [] q = ⊥
-OneCrosses cover (ps ∷ pss) q = Crosses cover ps q ⊎ OneCrosses cover pss q
+OneCrosses cover (ps ∷ pss) q = ColumnsCross cover ps q ⊎ OneCrosses cover pss q
 
 abbrev pub AreLevelsAnswer : List (List ℕ) → List (List Piece) → Answer (Vec code_body.Body Global) → Type 0
 AreLevelsAnswer cover pss answer =
@@ -76,13 +76,13 @@ AreLevelsAnswer cover pss answer =
 -- columns cross there in one of its operands
 abbrev pub ItemCrosses : List (List ℕ) → List Piece → Place → Type 0
 ItemCrosses level [] q = ⊥
-ItemCrosses level (p ∷ ps) q = (k : ℕ) × Crosses (cover_of level p) (operands_of (cover_of level p) k (p ∷ ps)) q
+ItemCrosses level (p ∷ ps) q = (k : ℕ) × ColumnsCross (cover_of level p) (operands_of (cover_of level p) k (p ∷ ps)) q
 
 abbrev pub IsItemAnswer : List (List ℕ) → List Piece → Answer code_item.Item → Type 0
 IsItemAnswer level parts answer = IsAnswer (λ i. IsWovenItem level parts (item_view i)) (λ i. ItemLacksPartner (item_view i)) (ItemCrosses level parts) answer
 
 -- the item that begins with that piece, an inline expression or a reference, with these operands
-abbrev pub joint_item_of : List (List ℕ) → Place → Form → Bodies → Item
+abbrev pub joint_item_of : List (List ℕ) → Place → Form → Bodies → WovenItem
 joint_item_of cover place (tree.Inline head held) operands = Inline head.form (record { lower = head.lower; upper = head.upper; name = head.name; cover = cover; place = place }) operands
 joint_item_of cover place (Refer r) operands = refer_item cover place r
 joint_item_of cover place _ operands = Coregion []

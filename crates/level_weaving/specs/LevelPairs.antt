@@ -1,7 +1,7 @@
 -- Serves private contracts alone.
 -- The pairs of a level by the numbers of its events.
 use Rattle.std.specs.Prelude.{ℕ, List, Option, Some, None, slice_get, map}
-use Rattle.item_order.specs.declared.edge.Edge.{Edge}
+use Rattle.column_order.specs.declared.edge.Edge.{Edge}
 use Rattle.msc_base.specs.declared.label.Pair.{Pair}
 use Rattle.msc_meaning.specs.Bodies.{EventNode}
 

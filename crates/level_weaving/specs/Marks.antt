@@ -3,8 +3,8 @@
 use Rattle.std.specs.Prelude.{◌≡◌, ◌&&◌, ℕ, suc, Bool, false, List, [], ◌∷◌, ◌++◌, length, Option, Some, None, nat_eq, option_copied, position, if◌then◌else◌}
 use Rattle.msc_tree.specs.declared.event.Direction.{Direction}
 use Rattle.msc_tree.specs.Directions.{is_direction}
-use Rattle.item_order.specs.declared.edge.Edge.{Edge}
-use Rattle.item_order.specs.Counts.{Leads}
+use Rattle.column_order.specs.declared.edge.Edge.{Edge}
+use Rattle.column_order.specs.Counts.{EdgeLeads}
 use Rattle.msc_meaning.specs.Bodies.{EventNode}
 use Rattle.level_weaving.specs.declared.matching.Mark.{Mark}
 use Rattle.level_weaving.specs.declared.matching.MessageKey.{MessageKey}
@@ -53,4 +53,4 @@ edges_from direction n (m ∷ ms) = end_edges direction n m ++ edges_from direct
 
 -- the pairs lead from each output to its input
 abbrev pub LeadsPairs : List EventNode → List Edge → Type 0
-LeadsPairs events pairs = (p q : ℕ) → (Leads pairs p q → IsPaired events p q) × (IsPaired events p q → Leads pairs p q)
+LeadsPairs events pairs = (p q : ℕ) → (EdgeLeads pairs p q → IsPaired events p q) × (IsPaired events p q → EdgeLeads pairs p q)

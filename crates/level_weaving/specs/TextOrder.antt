@@ -5,8 +5,8 @@ use Rattle.msc_base.specs.declared.label.Pair.{Pair}
 use Rattle.msc_base.specs.declared.place.Place.{Place}
 use Rattle.msc_tree.specs.Statements.{Form, Condition, Inline, Refer, Stop}
 use Rattle.msc_tree.specs.Statements as tree
-use Rattle.msc_meaning.specs.Bodies.{Body, level, Item, Single, Coregion, items, events}
-use Rattle.msc_meaning.specs.Crossings.{Crosses}
+use Rattle.msc_meaning.specs.Bodies.{Body, level, WovenItem, Single, Coregion, items, events}
+use Rattle.msc_meaning.specs.Crossings.{ColumnsCross}
 use Rattle.msc_meaning.specs.LevelItems.{is_creation}
 use Rattle.msc_meaning.specs.Levels.{IsWovenLevel, nodes_from}
 use Rattle.msc_meaning.specs.Pairing.{ArePairs}
@@ -15,16 +15,16 @@ use Rattle.msc_meaning.specs.Pieces.{Piece}
 -- ---- items in the order of the text
 
 -- of an event or a coregion at this instance, with its events numbered from n on; other forms have none
-abbrev pub form_items : Option (List ℕ) → ℕ → Form → List Item
+abbrev pub form_items : Option (List ℕ) → ℕ → Form → List WovenItem
 form_items None n form = []
 form_items (Some at) n (tree.Single e) = Single (record { number = n; at = at; event = e }) ∷ []
 form_items (Some at) n (tree.Coregion es) = Coregion (nodes_from n at es) ∷ []
 form_items (Some at) n _ = []
 
-abbrev pub piece_items : Piece → List Item
+abbrev pub piece_items : Piece → List WovenItem
 piece_items p = form_items (slice_get p.leads 0) p.first p.form
 
-abbrev pub pieces_items : List Piece → List Item
+abbrev pub pieces_items : List Piece → List WovenItem
 pieces_items [] = []
 pieces_items (p ∷ ps) = piece_items p ++ pieces_items ps
 
@@ -66,4 +66,4 @@ pub record TextIsOrder : Type 0 where
       → IsWovenLevel cover ps (level cover (items (pieces_items ps)) pairs)
   pub only : (cover : List (List ℕ)) (ps : List Piece) (b : Body) → AreDifferent cover → AreInOneColumn cover ps → IsWovenLevel cover ps b
       → (pairs : List Pair) × (b ≡ level cover (items (pieces_items ps)) pairs) × ArePairs (events (items (pieces_items ps))) pairs
-  pub none_cross : (cover : List (List ℕ)) (ps : List Piece) (place : Place) → AreDifferent cover → AreInOneColumn cover ps → Crosses cover ps place → ⊥
+  pub none_cross : (cover : List (List ℕ)) (ps : List Piece) (place : Place) → AreDifferent cover → AreInOneColumn cover ps → ColumnsCross cover ps place → ⊥

@@ -7,7 +7,7 @@ use Rattle.msc_base.specs.Places.{IsLeast}
 use Rattle.msc_base.specs.declared.place.Place.{Place}
 use Rattle.msc_instances.specs.Instances.{instances}
 use Rattle.msc_meaning.specs.Bodies.{Body}
-use Rattle.msc_meaning.specs.Crossings.{Crosses}
+use Rattle.msc_meaning.specs.Crossings.{ColumnsCross}
 use Rattle.msc_meaning.specs.Levels.{IsWovenLevel}
 use Rattle.msc_meaning.specs.Partners.{LacksPartner}
 use Rattle.msc_meaning.specs.Pieces.{Piece, statements_pieces}
@@ -25,15 +25,15 @@ pub record IsAloneIn (cover : List (List ℕ)) (ps : List Piece) (place : Place)
 -- the level can be woven, each message has both ends, and that is its body
 pub record IsLevelWoven (cover : List (List ℕ)) (ps : List Piece) (body : Body) : Type 0 where
   pub all_woven : AreAllWoven ps
-  pub uncrossed : (p : Place) → Crosses cover ps p → ⊥
+  pub uncrossed : (p : Place) → ColumnsCross cover ps p → ⊥
   pub matched : (p : Place) → IsAloneIn cover ps p → ⊥
   pub woven : IsWovenLevel cover ps body
 
 -- the first fault of a level: a form that isn't woven; else columns that cross; else a message without partner
 abbrev pub IsLevelFault : List (List ℕ) → List Piece → WeaveFault → Type 0
 IsLevelFault cover ps (NotWoven p) = IsLeast (IsUnwoven ps) (Some p)
-IsLevelFault cover ps (Crossed p) = AreAllWoven ps × IsLeast (Crosses cover ps) (Some p)
-IsLevelFault cover ps (Unmatched p) = AreAllWoven ps × ((q : Place) → Crosses cover ps q → ⊥) × IsLeast (IsAloneIn cover ps) (Some p)
+IsLevelFault cover ps (Crossed p) = AreAllWoven ps × IsLeast (ColumnsCross cover ps) (Some p)
+IsLevelFault cover ps (Unmatched p) = AreAllWoven ps × ((q : Place) → ColumnsCross cover ps q → ⊥) × IsLeast (IsAloneIn cover ps) (Some p)
 IsLevelFault cover ps NoMemory = ⊤
 
 -- ---- of a chart

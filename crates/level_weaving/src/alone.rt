@@ -8,7 +8,7 @@ ghost use Rattle.level_weaving.specs.Marks.{LeadsPairs};
 ghost use Rattle.level_weaving.specs.Messages.{IsUnmatched, way};
 
 use crate::PlacedEvent;
-use item_order::Edge;
+use column_order::Edge;
 use msc_base::{NoMemory, Place, earlier_if};
 use msc_tree::way_of;
 use std::alloc::Global;

@@ -1,7 +1,7 @@
 //! Weaves levels, with the operands of their inline expressions: for `weaving`.
 
 ghost use Rattle.std.specs.Prelude.{◌≡◌, ◌<◌, All, IfOk, List, Some, drop, false, length, map, take, true, ℕ};
-ghost use Rattle.item_order.specs.Weaving.{IsCrossedAt, IsWoven};
+ghost use Rattle.column_order.specs.Weaving.{IsCrossedAt, IsWoven};
 ghost use Rattle.level_pieces.specs.ItemOperands.{AreOperands, IsWithin, operands_in, pieces_view};
 ghost use Rattle.level_pieces.specs.ItemParts.{AreItems, AreParts, has_events};
 ghost use Rattle.level_pieces.specs.PieceNumbers.{AreNumbered};
@@ -22,7 +22,7 @@ use crate::answers::{Answer, Gathered, crossed_place, earlier_than};
 use crate::events::ordered_events;
 use crate::matching::pairs_of;
 use crate::pairing::level_pairs;
-use item_order::{Sorted, text_order};
+use column_order::{Sorted, text_order};
 use level_pieces::{
     LevelItem, LevelNames, Piece, Setting, copied_events_of, copied_reference, covered, earlier_of,
     item_operands, level_items, operands_of_form, woven_order,

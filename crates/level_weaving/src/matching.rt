@@ -1,14 +1,14 @@
 //! Pairs outputs with inputs by message, pairing name and both instances: for `levels`.
 
 ghost use Rattle.std.specs.Prelude.{◌≡◌, ◌++◌, IfOk, OnOk, Some, map, option_copied};
-ghost use Rattle.item_order.specs.Pairing.{RiseFrom};
+ghost use Rattle.column_order.specs.Pairing.{RiseFrom};
 ghost use Rattle.level_weaving.specs.EventViews.{event_view};
 ghost use Rattle.level_weaving.specs.Marks.{AreMarked, IsMark, KeepsNumbers, LeadsPairs, edges_from, end_edges, key_view};
 ghost use Rattle.level_weaving.specs.Messages.{key_of, way};
 
 use crate::PlacedEvent;
+use column_order::{Edge, pair_up};
 use indexmap::IndexSet;
-use item_order::{Edge, pair_up};
 use msc_base::{Name, NoMemory, number_of};
 use msc_tree::{Direction, far_bytes, label_text, way_of};
 use std::alloc::Global;

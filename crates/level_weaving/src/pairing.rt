@@ -2,8 +2,8 @@
 
 ghost use Rattle.std.specs.Prelude.{◌≡◌, ◌<◌, All, IfOk, OnOk, length, map};
 ghost use Rattle.std.specs.List.Sorted.{IsNonDecreasingBy, IsPermutation};
-ghost use Rattle.item_order.specs.Pairing.{RiseFrom};
-ghost use Rattle.item_order.specs.declared.edge.Edge.{Edge as PlainEdge};
+ghost use Rattle.column_order.specs.Pairing.{RiseFrom};
+ghost use Rattle.column_order.specs.declared.edge.Edge.{Edge as PlainEdge};
 ghost use Rattle.level_weaving.specs.LevelPairs.{edges_at, number_of, pair_of};
 ghost use Rattle.level_weaving.specs.Marks.{LeadsPairs};
 ghost use Rattle.level_weaving.specs.EventViews.{event_view};
@@ -11,7 +11,7 @@ ghost use Rattle.msc_base.specs.Lists.{AreDifferent};
 ghost use Rattle.msc_meaning.specs.Pairing.{ArePairs};
 
 use crate::PlacedEvent;
-use item_order::Edge;
+use column_order::Edge;
 use msc_base::{Items, NoMemory, Pair, PairList};
 use std::alloc::Global;
 

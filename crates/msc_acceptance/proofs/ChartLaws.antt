@@ -18,7 +18,7 @@ use Rattle.msc_base.specs.Places.{IsLeast}
 use Rattle.msc_base.specs.declared.place.Place.{Place}
 use Rattle.msc_instances.specs.Instances.{instances}
 use Rattle.msc_meaning.specs.Bodies.{Body}
-use Rattle.msc_meaning.specs.Crossings.{Crosses}
+use Rattle.msc_meaning.specs.Crossings.{ColumnsCross}
 use Rattle.msc_meaning.specs.Levels.{IsWovenLevel}
 use Rattle.msc_meaning.specs.Partners.{LacksPartner}
 use Rattle.msc_meaning.specs.Pieces.{Piece, statements_pieces}
@@ -71,17 +71,17 @@ never_unwoven known c place built h =
     let g = level_fault c p (fault.NotWoven place) h in
     known.all_woven c p.held p.is built place g.0
 
-crosses_at : (c : Chart) (p : IsBasic c) (q : Place) → Crosses (instances c) (pieces_of c p) q → CrossesAt c q
+crosses_at : (c : Chart) (p : IsBasic c) (q : Place) → ColumnsCross (instances c) (pieces_of c p) q → CrossesAt c q
 crosses_at c p q h = subst (λ (x : Content). ContentCrosses (instances c) x q) (sym p.is) h
 
-crosses_in : (c : Chart) (p : IsBasic c) (q : Place) → CrossesAt c q → Crosses (instances c) (pieces_of c p) q
+crosses_in : (c : Chart) (p : IsBasic c) (q : Place) → CrossesAt c q → ColumnsCross (instances c) (pieces_of c p) q
 crosses_in c p q h = subst (λ (x : Content). ContentCrosses (instances c) x q) p.is h
 
 pub crossed_of : BuiltChartsAreKnown → (c : Chart) (place : Place) → IsBuilt c → IsWeaveFault c (fault.Crossed place) → IsLeast (CrossesAt c) (Some place)
 crossed_of known c place built h =
     let p = is_basic known c built in
     let g = level_fault c p (fault.Crossed place) h in
-    least_same (Crosses (instances c) (pieces_of c p)) (CrossesAt c) (Some place) (crosses_at c p) (crosses_in c p) g.1
+    least_same (ColumnsCross (instances c) (pieces_of c p)) (CrossesAt c) (Some place) (crosses_at c p) (crosses_in c p) g.1
 
 alone_at : (c : Chart) (p : IsBasic c) (q : Place) → IsAloneIn (instances c) (pieces_of c p) q → IsAloneAt c q
 alone_at c p q a = record { body = a.body; woven = subst (λ (x : Content). IsWovenContent (instances c) x (Basic a.body)) (sym p.is) a.woven; alone = a.alone }

@@ -4,7 +4,7 @@ use Rattle.msc_base.specs.declared.place.Place.{Place}
 use Rattle.msc_tree.specs.Charts.{Chart, Content, Basic, HighLevel}
 use Rattle.msc_tree.specs.Statements.{statements}
 use Rattle.msc_meaning.specs.Bodies.{Body}
-use Rattle.msc_meaning.specs.Crossings.{Crosses}
+use Rattle.msc_meaning.specs.Crossings.{ColumnsCross}
 use Rattle.msc_meaning.specs.Partners.{LacksPartner}
 use Rattle.msc_meaning.specs.Pieces.{statements_pieces}
 use Rattle.msc_meaning.specs.Tables as table
@@ -19,7 +19,7 @@ abbrev pub IsBodyOf : Chart → Body → Type 0
 IsBodyOf chart body = IsWovenContent (instances chart) chart.content (table.Basic body)
 
 abbrev pub ContentCrosses : List (List ℕ) → Content → Place → Type 0
-ContentCrosses names (Basic held) place = Crosses names (statements_pieces names 0 (statements held)) place
+ContentCrosses names (Basic held) place = ColumnsCross names (statements_pieces names 0 (statements held)) place
 ContentCrosses names (HighLevel drawn) place = ⊥
 
 -- at that place columns of the chart cross

@@ -7,7 +7,7 @@ use Rattle.event_log.specs.States.{IsFaultOf}
 use Rattle.line_events.specs.declared.event.LineEvent.{LineEvent}
 use Rattle.event_log.specs.declared.event.LogFault.{LogFault}
 use Rattle.event_log.specs.declared.event.LogForm.{LogForm}
-use Rattle.chart_judge.specs.ChartVerdicts.{IsVerdict}
+use Rattle.chart_judge.specs.ChartVerdicts.{IsChartVerdict}
 use Rattle.chart_judge.specs.Judging.{IsVerdictOn}
 use Rattle.judge_report.specs.declared.fault.Fault.TheVariants.{Log}
 use Rattle.judge_report.specs.Texts.{fault_line, verdict_line}
@@ -21,7 +21,7 @@ judged_one form budget json table name chart bytes verdict status text at v s t 
     by : (other : ℕ) (others : List ℕ) → LogOutcome form budget json table name bytes other others → (other ≡ status) × (others ≡ text)
     by other others (bad_log es fault l os ot) = let bad : Some fault ≡ None = (v.log.alone es (Some fault) l).1 in cc
     by other others (judged es w l x os ot) =
-        let same : w ≡ verdict = (v.is table name at).alone w (subst (λ (us : List LineEvent). IsVerdict table name budget us w) (v.log.alone es None l).0 x) in
+        let same : w ≡ verdict = (v.is table name at).alone w (subst (λ (us : List LineEvent). IsChartVerdict table name budget us w) (v.log.alone es None l).0 x) in
         (os ∙ ap status_of same ∙ sym s, ot ∙ ap (verdict_line json) same ∙ sym t)
 
 -- a log that has a fault

@@ -3,7 +3,7 @@
 use Rattle.std.specs.Prelude.{◌<◌, ◌≤◌, ℕ, false, List, [], Option, Some}
 use Rattle.outside.specs.Shelves.{Files}
 use Rattle.msc_base.specs.declared.limits.TheConstants.Limits.{LOG_BYTES}
-use Rattle.event_log.specs.Faults.{IsFault}
+use Rattle.event_log.specs.Faults.{IsLogFault}
 use Rattle.event_log.specs.States.{IsFaultOf}
 use Rattle.event_log.specs.declared.event.LogForm.{LogForm}
 use Rattle.term_sets.specs.Memories.{PoolValue}
@@ -26,12 +26,12 @@ pub record IsReadingLog (chart : ChartEntry) (form : LogForm) (budget : ℕ) (fi
 -- the bytes are a log, and this is the one verdict on its events; or this is their first fault
 abbrev pub IsJudged : ChartEntry → LogForm → ℕ → List ℕ → Judged → Type 0
 IsJudged chart form budget bytes (Told verdict) = IsVerdictOn chart form budget bytes verdict
-IsJudged chart form budget bytes (Refused fault) = IsFault fault × IsFaultOf form false bytes (Some fault)
+IsJudged chart form budget bytes (Refused fault) = IsLogFault fault × IsFaultOf form false bytes (Some fault)
 
 -- a fault that is told is no want of memory
 abbrev pub IsToldLog : Judged → Type 0
 IsToldLog (Told verdict) = Unit {0}
-IsToldLog (Refused fault) = IsFault fault
+IsToldLog (Refused fault) = IsLogFault fault
 
 -- the entry of this name comes to this; its bytes are told where the entries are
 pub record IsJudgedLog (chart : ChartEntry) (form : LogForm) (budget : ℕ) (files : Option Files) (name : List ℕ) (judged : Judged) : Type 0 where

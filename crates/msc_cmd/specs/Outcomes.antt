@@ -13,7 +13,7 @@ use Rattle.line_events.specs.declared.event.LineEvent.{LineEvent}
 use Rattle.event_log.specs.declared.event.LogFault.{LogFault}
 use Rattle.event_log.specs.declared.event.LogForm.{LogForm}
 use Rattle.event_log.specs.Logs.{LogOf}
-use Rattle.chart_judge.specs.ChartVerdicts.{IsVerdict}
+use Rattle.chart_judge.specs.ChartVerdicts.{IsChartVerdict}
 use Rattle.judge_report.specs.declared.fault.Fault.TheVariants.{Document, NoChart, Log, Usage}
 use Rattle.judge_report.specs.Lists.{chart_list, instance_list}
 use Rattle.judge_report.specs.Texts.{accepted_line, fault_line, verdict_line}
@@ -33,7 +33,7 @@ status_of (TooLarge event) = 6
 -- what the bytes of a log in this form give for the chart of a name within the budget, told as JSON or plain
 pub data LogOutcome (form : LogForm) (budget : ℕ) (json : Bool) (table : Table) (name bytes : List ℕ) (status : ℕ) (text : List ℕ) : Type 0 where
   bad_log : (events : List LineEvent) (fault : LogFault) → LogOf form false bytes events (Some fault) → status ≡ 5 → text ≡ fault_line json (Log fault) → LogOutcome form budget json table name bytes status text
-  judged : (events : List LineEvent) (verdict : Verdict) → LogOf form false bytes events None → IsVerdict table name budget events verdict → status ≡ status_of verdict → text ≡ verdict_line json verdict
+  judged : (events : List LineEvent) (verdict : Verdict) → LogOf form false bytes events None → IsChartVerdict table name budget events verdict → status ≡ status_of verdict → text ≡ verdict_line json verdict
       → LogOutcome form budget json table name bytes status text
 
 -- what the log of this entry gives for the chart of that name

@@ -8,7 +8,7 @@ use Rattle.token_grammar.specs.Languages.{Set, just}
 use Rattle.token_grammar.specs.Grammars.{Grammar, seq, or, read_as, word, behind}
 use Rattle.token_grammar.specs.Parts.{ending, lead, name_list}
 use Rattle.msc_events.specs.Declarations.{declaration}
-use Rattle.msc_document.specs.DocumentGrammar.{Line, happen, list, declare, finish, lead_statement, covered_of, some}
+use Rattle.msc_document.specs.DocumentGrammar.{LedLine, happen, list, declare, finish, lead_statement, covered_of, some}
 use Rattle.msc_document.specs.DocumentReaders.{State, idle, events, multis, cover_kind, kind, long}
 use Rattle.msc_document.proofs.Continued.{nothing, Continued, some_continued, seq_continued, or_continued, as_continued, whole_continued}
 
@@ -39,25 +39,25 @@ module _ (E M : Grammar Item) where
   more events = E
   more multis = M
 
-  abbrev line_more : Line → Grammar Item
+  abbrev line_more : LedLine → Grammar Item
   line_more (happen held) = E
   line_more (list names held) = M
   line_more (declare d) = nothing
   line_more finish = nothing
 
-  abbrev line_long : Line → List Item → Line
+  abbrev line_long : LedLine → List Item → LedLine
   line_long (happen held) more = happen (held ++ more)
   line_long (list names held) more = list names (held ++ more)
   line_long (declare d) more = declare d
   line_long finish more = finish
 
-  abbrev colon_lines : Grammar (List Item) → Grammar Line
+  abbrev colon_lines : Grammar (List Item) → Grammar LedLine
   colon_lines EE = or (read_as happen EE) (or (read_as declare declaration) (read_as (λ e. finish) (behind (just (codes "endinstance")) ending)))
 
-  abbrev list_lines : Grammar (List Item) → Grammar Line
+  abbrev list_lines : Grammar (List Item) → Grammar LedLine
   list_lines MM = read_as (λ p. list p.0 p.1) (behind (just (codes ",")) (seq name_list (behind (just (codes ":")) MM)))
 
-  abbrev lines : Grammar (List Item) → Grammar (List Item) → Grammar Line
+  abbrev lines : Grammar (List Item) → Grammar (List Item) → Grammar LedLine
   lines EE MM = or (behind (just (codes ":")) (colon_lines EE)) (list_lines MM)
 
   colon_continued : Continued (colon_lines (some E)) (colon_lines (one E)) line_more line_long
@@ -85,7 +85,7 @@ module _ (E M : Grammar Item) where
   named : (x : List Token) (names : List (List ℕ)) → name_list.reads x names → (n : List ℕ) × (ns : List (List ℕ)) × (names ≡ n ∷ ns)
   named x names h = (h.0.0, h.0.1, h.2)
 
-  no_list : (names : List (List ℕ)) (held : List Item) (x : List Token) (l : Line) → (colon_lines (one E)).reads x l → list names held ≡ l → ⊥
+  no_list : (names : List (List ℕ)) (held : List Item) (x : List Token) (l : LedLine) → (colon_lines (one E)).reads x l → list names held ≡ l → ⊥
   no_list names held x l (inl h) q = not_happening h.0 (q ∙ h.2)
     where
       not_happening : (a : List Item) → list names held ≡ happen a → ⊥
@@ -110,13 +110,13 @@ module _ (E M : Grammar Item) where
       let n = named k.0 g.0.1.0 k.3 in
       subst (λ (l : List (List ℕ)). more (cover_kind (Listed (at.0 ∷ l))) ≡ M) (sym (list_names names h.0.0 held h.0.1 h.2 ∙ ap (λ (p : List (List ℕ) × List Item). p.0) g.2 ∙ n.2)) refl
 
-  state_of_line : (x : List Token) (at : List ℕ × Place) (l : Line) → (lines (one E) (one M)).reads x l → more (kind (lead_statement at l)) ≡ line_more l
+  state_of_line : (x : List Token) (at : List ℕ × Place) (l : LedLine) → (lines (one E) (one M)).reads x l → more (kind (lead_statement at l)) ≡ line_more l
   state_of_line x at (happen held) h = refl
   state_of_line x at (list names held) h = list_state x at names held h
   state_of_line x at (declare d) h = refl
   state_of_line x at finish h = refl
 
-  long_of_line : (at : List ℕ × Place) (l : Line) (bs : List Item) → long (lead_statement at l) bs ≡ lead_statement at (line_long l bs)
+  long_of_line : (at : List ℕ × Place) (l : LedLine) (bs : List Item) → long (lead_statement at l) bs ≡ lead_statement at (line_long l bs)
   long_of_line at (happen held) bs = ap (λ k. Covered (Listed (at.0 ∷ [])) (items (k ++ bs))) (list_items held)
   long_of_line at (list names held) bs = ap (λ k. Covered (Listed (at.0 ∷ names)) (items (k ++ bs))) (list_items held)
   long_of_line at (declare d) bs = refl

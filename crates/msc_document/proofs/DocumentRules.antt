@@ -7,7 +7,7 @@ use Rattle.token_grammar.specs.Languages.{Set, Read, refused, deep, apart, just,
 use Rattle.token_grammar.specs.Languages as rules
 use Rattle.token_grammar.specs.Grammars.{Grammar, or, read_as, chain, tail, behind}
 use Rattle.token_grammar.specs.Parts.{ending}
-use Rattle.token_grammar.specs.Parsing.{Begins, Level, IsRefused, IsTooDeep, OneReading}
+use Rattle.token_grammar.specs.Parsing.{BeginsReading, Level, IsRefused, IsTooDeep, OneReading}
 use Rattle.token_grammar.proofs.Lists.{starts_some}
 use Rattle.token_grammar.proofs.Eaches.{last}
 use Rattle.token_grammar.proofs.Chains.{ends_of}
@@ -164,17 +164,17 @@ one_document m n ts a b h k = pick (from_document m ts a h) (from_document n ts 
     pick (inr (q, r, s)) (inr (u, v, w)) = s ∙ ap parts_of (one_value parts (just (codes "mscdocument") ++ (msc_word ++ end_word)) after_parts parts_law m n ts q u r v) ∙ sym w
 
 module _ (n : ℕ) (t : Token) (ts : List Token) where
-  begins_document : (m : ℕ) (prefix : List Token) → Begins parts m prefix → Begins document m prefix
+  begins_document : (m : ℕ) (prefix : List Token) → BeginsReading parts m prefix → BeginsReading document m prefix
   begins_document m prefix b = record { more = b.more; value = parts_of b.value; reads = to_document m (prefix ++ b.more) b.value b.reads }
 
-  begins_parts : (m : ℕ) (prefix : List Token) (token : Token) → Begins document m (prefix ++ token ∷ []) → Begins parts m (prefix ++ token ∷ [])
+  begins_parts : (m : ℕ) (prefix : List Token) (token : Token) → BeginsReading document m (prefix ++ token ∷ []) → BeginsReading parts m (prefix ++ token ∷ [])
   begins_parts m prefix token b = pick (from_document m ((prefix ++ token ∷ []) ++ b.more) b.value b.reads)
     where
       some : (l : List Token) → (l ++ token ∷ []) ++ b.more ≡ [] → ⊥
       some [] e = cc
       some (u ∷ l) e = cc
 
-      pick : Known m ((prefix ++ token ∷ []) ++ b.more) b.value → Begins parts m (prefix ++ token ∷ [])
+      pick : Known m ((prefix ++ token ∷ []) ++ b.more) b.value → BeginsReading parts m (prefix ++ token ∷ [])
       pick (inl (e, p)) = absurd (some prefix e)
       pick (inr (q, r, s)) = record { more = b.more; value = q; reads = r }
 
@@ -222,7 +222,7 @@ document_exact n [] = ((None, ([], None)), ([], [], refl, inl (refl, refl), ([],
 document_exact n (t ∷ ts) = answer n t ts (parts_at n (t ∷ ts)) refl
 
 -- what opens a level too many goes on with one level more
-pub opened_document : (n : ℕ) (p : List Token) → (document n).brink p → Begins document (suc n) p
+pub opened_document : (n : ℕ) (p : List Token) → (document n).brink p → BeginsReading document (suc n) p
 opened_document n p k =
     let v = (parts_rule n).known.opened p (from_document_brink n p k) in
     record { more = v.more; value = parts_of v.value; reads = to_document (suc n) (p ++ v.more) v.value v.holds }

@@ -2,7 +2,7 @@
 use Rattle.std.proofs.Common.{ℕ, suc, ◌≡◌, ◌∙◌, ◌++◌, ◌⊎◌, List, [], ◌∷◌, refl, sym, ap, inl, inr, subst, append-nil, append_assoc}
 use Rattle.msc_tokens.specs.declared.token.Token.{Token}
 use Rattle.token_grammar.specs.Grammars.{Grammar}
-use Rattle.token_grammar.specs.Parsing.{Begins, Level, IsRefused, IsTooDeep}
+use Rattle.token_grammar.specs.Parsing.{BeginsReading, Level, IsRefused, IsTooDeep}
 
 -- ---- two ways to cut a list
 
@@ -32,7 +32,7 @@ cuts (t ∷ a) x (u ∷ b) y e =
 
 module _ {A : Type 0} (R : ℕ → Grammar A) (n : ℕ) (ts : List Token) where
   -- what refuses a token also refuses whatever begins with the tokens up to it
-  refuses : (left : ℕ) (r : IsRefused R n ts left) (m : ℕ) (longer : List Token) → Longer r.prefix r.rest longer → Begins R m longer → ⊥
+  refuses : (left : ℕ) (r : IsRefused R n ts left) (m : ℕ) (longer : List Token) → Longer r.prefix r.rest longer → BeginsReading R m longer → ⊥
   refuses left r m longer (token, behind, more, e, h) b =
       r.stops m token behind e (record { more = more ++ b.more; value = b.value; reads = subst (λ l. (R m).reads l b.value) (ap (λ l. l ++ b.more) h ∙ shifted) b.reads })
     where
@@ -64,7 +64,7 @@ module _ {A : Type 0} (R : ℕ → Grammar A) (n : ℕ) (ts : List Token) where
       pick (inr (inr h)) = absurd (opens_in j s r.prefix h r.level)
 
   -- where an opening too many goes on with one level more
-  pub not_both : ((p : List Token) → (R n).brink p → Begins R (suc n) p) → (k j : ℕ) → IsRefused R n ts k → IsTooDeep R n ts j → ⊥
+  pub not_both : ((p : List Token) → (R n).brink p → BeginsReading R (suc n) p) → (k j : ℕ) → IsRefused R n ts k → IsTooDeep R n ts j → ⊥
   not_both opened k j r s = pick (cuts r.prefix r.rest s.prefix (s.token ∷ s.rest) (sym r.cut ∙ s.cut))
     where
       here : Longer r.prefix r.rest (s.prefix ++ s.token ∷ []) → ⊥

@@ -28,7 +28,7 @@ use Rattle.msc_expression.specs.GraphGrammar.{chart_graph}
 use Rattle.msc_document.specs.Inlines as Inlines
 use Rattle.msc_document.specs.Inlines.{Naming, Tail, each, several, body, alt_tail, par_tail, opt_tail, exc_tail, loop_tail, taken_once, inline, inline_item, form}
 use Rattle.msc_document.specs.FormedDocuments.{DocumentsAreWellFormed}
-use Rattle.msc_document.specs.DocumentGrammar.{naming, reference, multi_of, event_of, column_operand, column_event, Line, happen, list, declare, finish, lead_statement, covered_of, some, outside_operand, outside_event, outside_multi, covered_in, covered, statement, content, chart, chart_of, perhaps, document, chart_end}
+use Rattle.msc_document.specs.DocumentGrammar.{naming, reference, multi_of, event_of, column_operand, column_event, LedLine, happen, list, declare, finish, lead_statement, covered_of, some, outside_operand, outside_event, outside_multi, covered_in, covered, statement, content, chart, chart_of, perhaps, document, chart_end}
 use Rattle.msc_document.proofs.Giving.{Gives, Each, Within, IsSome, IsOne, anything, weaker, read_gives, or_gives, seq_gives, behind_gives, placed_gives, each_gives, some_gives, opens_gives, several_gives, single_gives}
 
 formed_behind : (xs ys : List Passage) → AreWellFormed xs → AreWellFormed ys → AreWellFormed (xs ++ ys)
@@ -149,7 +149,7 @@ statements_formed (x ∷ xs) depth scope h = (refl, formed_behind (statement_hel
 
 module _ (X : Grammar Expression) (P : Inner (List Statement)) where
   -- what stands behind a lead
-  abbrev behind_lead : Grammar Line
+  abbrev behind_lead : Grammar LedLine
   behind_lead = or (behind (just (codes ":")) (or (read_as happen (some (outside_event X P))) (or (read_as declare declaration) (read_as (λ e. finish) (behind (just (codes "endinstance")) ending)))))
       (read_as (λ p. list p.0 p.1) (behind (just (codes ",")) (seq name_list (behind (just (codes ":")) (some (outside_multi X P))))))
 
@@ -168,7 +168,7 @@ module _ (X : Grammar Expression) (P : Inner (List Statement)) where
       multis : Gives (outside_multi X P) (IsFormedAt Anywhere)
       multis = multi_formed outside_operand Anywhere written.Covered X P (inner_held Anywhere P w)
 
-      lines : Gives behind_lead (λ (line : Line). (at : List ℕ × Place) → IsFormedStatement (lead_statement at line))
+      lines : Gives behind_lead (λ (line : LedLine). (at : List ℕ × Place) → IsFormedStatement (lead_statement at line))
       lines = or_gives (behind_gives (just (codes ":")) (or_gives (read_gives happen (weaker (some_gives events) (λ held h at depth scope. items_formed AtOne held _ refl h)))
           (or_gives (read_gives declare (weaker (anything declaration) (λ d h at depth scope. tt))) (read_gives (λ e. finish) (weaker (anything (behind (just (codes "endinstance")) ending)) (λ e h at depth scope. tt))))))
           (read_gives (λ p. list p.0 p.1) (behind_gives (just (codes ",")) (weaker (seq_gives (anything name_list) (behind_gives (just (codes ":")) (some_gives multis)))

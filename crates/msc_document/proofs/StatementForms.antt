@@ -14,7 +14,7 @@ use Rattle.token_grammar.proofs.Lists.{apart_among}
 use Rattle.token_grammar.proofs.Optionals.{mapped}
 use Rattle.msc_events.specs.Declarations.{decl_of}
 use Rattle.msc_events.specs.DeclarationReaders.{declaration_at, decl_at}
-use Rattle.msc_document.specs.DocumentGrammar.{Line, lead_statement}
+use Rattle.msc_document.specs.DocumentGrammar.{LedLine, lead_statement}
 use Rattle.msc_document.specs.DocumentReaders.{State, alone, cover_kind, kind, long, going_at, more_at, event_words, statement_goes_on, statement_at, opening_at, colon_line_at, list_line_at, outside_event_at, outside_multi_at, outside_tails_at, column_at, column_event_at}
 use Rattle.msc_document.specs.ItemReaders.{event_item_at, multi_item_at, more_going_at}
 use Rattle.msc_document.specs.StatementReaders.{state_of, colon_form_at, list_form_at, led_form_at, all_form_at, covered_form_at, any_statement_at, statement_form_at, outside_item_at}
@@ -78,7 +78,7 @@ module _ (closer : Option InlineForm) (e m : List Token → Read Item) where
   -- ---- behind a lead and a colon
 
   abbrev ColonSame : List ℕ × Place → List Token → Type 0
-  ColonSame at ts = gone (mapped (λ (l : Line). lead_statement at l) (colon_line_at e ts)) ≡ colon_form_at closer q at ts
+  ColonSame at ts = gone (mapped (λ (l : LedLine). lead_statement at l) (colon_line_at e ts)) ≡ colon_form_at closer q at ts
 
   colon_event : (at : List ℕ × Place) (ts : List Token) (c : Token × List Token) → word_at (just (codes ":")) ts ≡ Ok c → starts event_words c.1 ≡ true → (r : Read Item) → e c.1 ≡ r → ColonSame at ts
   colon_event at ts c h k (Ok i) l = rw (h, k, l) (run_same true (Listed (at.0 ∷ [])) refl i.0 i.1)
@@ -109,7 +109,7 @@ module _ (closer : Option InlineForm) (e m : List Token → Read Item) where
   -- ---- behind a lead and a comma
 
   abbrev ListSame : List ℕ × Place → List Token → Type 0
-  ListSame at ts = gone (mapped (λ (l : Line). lead_statement at l) (list_line_at m ts)) ≡ list_form_at closer q at.0 ts
+  ListSame at ts = gone (mapped (λ (l : LedLine). lead_statement at l) (list_line_at m ts)) ≡ list_form_at closer q at.0 ts
 
   list_item : (at : List ℕ × Place) (ts : List Token) (c : Token × List Token) (x : List ℕ × List Token) (y : List (List ℕ) × List Token) (d : Token × List Token) → word_at (just (codes ",")) ts ≡ Ok c → name_at c.1 ≡ Ok x
       → each_at (just (codes ",")) comma_name_at (length x.1) x.1 ≡ Ok y → word_at (just (codes ":")) y.1 ≡ Ok d → (r : Read Item) → m d.1 ≡ r → ListSame at ts
@@ -136,15 +136,15 @@ module _ (closer : Option InlineForm) (e m : List Token → Read Item) where
 
   -- ---- the whole line
 
-  paired_lead : (at : List ℕ × Place) (r : Read Line) → mapped (λ (p : (List ℕ × Place) × Line). lead_statement p.0 p.1) (mapped (λ (l : Line). (at, l)) r) ≡ mapped (λ (l : Line). lead_statement at l) r
+  paired_lead : (at : List ℕ × Place) (r : Read LedLine) → mapped (λ (p : (List ℕ × Place) × LedLine). lead_statement p.0 p.1) (mapped (λ (l : LedLine). (at, l)) r) ≡ mapped (λ (l : LedLine). lead_statement at l) r
   paired_lead at (Ok l) = refl
   paired_lead at (Err f) = refl
 
-  abbrev line_of : List Token → Read Line
+  abbrev line_of : List Token → Read LedLine
   line_of ts = either_at (just (codes ":")) (colon_line_at e) (list_line_at m) ts
 
   line_same : (at : List ℕ × Place) (ts : List Token) (b : Bool) → starts (just (codes ":")) ts ≡ b
-      → gone (mapped (λ (l : Line). lead_statement at l) (line_of ts)) ≡ cond (starts (just (codes ":")) ts) (colon_form_at closer q at ts) (list_form_at closer q at.0 ts)
+      → gone (mapped (λ (l : LedLine). lead_statement at l) (line_of ts)) ≡ cond (starts (just (codes ":")) ts) (colon_form_at closer q at ts) (list_form_at closer q at.0 ts)
   line_same at ts true h = rw h (colon_same at ts (word_at (just (codes ":")) ts) refl)
   line_same at ts false h = rw h (list_same at ts (word_at (just (codes ",")) ts) refl)
 

@@ -65,18 +65,18 @@ column_event (suc n) = event_of written.Column column_operand (expression (suc n
 -- ---- elsewhere
 
 -- behind a lead
-pub data Line : Type 0 where
+pub data LedLine : Type 0 where
   -- ":" event { event }
-  happen : List Item → Line
+  happen : List Item → LedLine
   -- "," names ":" multi { multi }
-  list : List (List ℕ) → List Item → Line
+  list : List (List ℕ) → List Item → LedLine
   -- ":" "instance" [ name [ name ] ] [ "decomposed" "as" name ] end
-  declare : List (List ℕ) × Option (Place × List ℕ) → Line
+  declare : List (List ℕ) × Option (Place × List ℕ) → LedLine
   -- ":" "endinstance" end
-  finish : Line
+  finish : LedLine
 
 -- what a lead and what stands behind it say
-abbrev pub lead_statement : List ℕ × Place → Line → Statement
+abbrev pub lead_statement : List ℕ × Place → LedLine → Statement
 lead_statement at (happen held) = Covered (Listed (at.0 ∷ [])) (items held)
 lead_statement at (list others held) = Covered (Listed (at.0 ∷ others)) (items held)
 lead_statement at (declare d) = Heading (decl_of at d.0 d.1)

@@ -25,7 +25,7 @@ use Rattle.msc_expression.specs.Bounds.{loop_bounds_at}
 use Rattle.msc_expression.specs.ExpressionReaders.{expression_at}
 use Rattle.msc_expression.specs.GraphReaders.{chart_graph_at}
 use Rattle.msc_document.specs.Inlines.{Naming, Tail, taken_once, inline_item, firsts}
-use Rattle.msc_document.specs.DocumentGrammar.{Line, happen, list, declare, finish, lead_statement, reference_of, column_operand, outside_operand, chart_of}
+use Rattle.msc_document.specs.DocumentGrammar.{LedLine, happen, list, declare, finish, lead_statement, reference_of, column_operand, outside_operand, chart_of}
 use Rattle.msc_events.specs.declared.orientation.Orientation.{Orientation}
 use Rattle.msc_events.specs.declared.orientation.Orientation.TheVariants as written
 
@@ -194,12 +194,12 @@ abbrev pub alone : Item → List Item
 alone i = i ∷ []
 
 -- behind a lead and a colon: an event, a declaration or an end
-abbrev pub colon_line_at : (List Token → Read Item) → List Token → Read Line
+abbrev pub colon_line_at : (List Token → Read Item) → List Token → Read LedLine
 colon_line_at e = behind_at (just (codes ":")) (either_at event_words (map_at happen (map_at alone e)) (either_at (just (codes "instance")) (map_at declare declaration_at)
     (map_at (λ x. finish) (behind_at (just (codes "endinstance")) ending_at))))
 
 -- behind a lead and a comma: names, and a multi
-abbrev pub list_line_at : (List Token → Read Item) → List Token → Read Line
+abbrev pub list_line_at : (List Token → Read Item) → List Token → Read LedLine
 list_line_at m = map_at (λ p. list p.0 p.1) (behind_at (just (codes ",")) (seq_at name_list_at (behind_at (just (codes ":")) (map_at alone m))))
 
 -- a statement up to its first item

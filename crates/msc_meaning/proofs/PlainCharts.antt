@@ -6,7 +6,7 @@ use Rattle.msc_base.specs.declared.label.Label.{Label}
 use Rattle.msc_unfolding.specs.Runs.{IsRun}
 use Rattle.msc_base.specs.Patterns.{seq, empty, one, join, bind}
 use Rattle.msc_unfolding.specs.Unfoldings.{Unfolding, level_tie}
-use Rattle.msc_meaning.specs.Bodies.{EventNode, level, Items}
+use Rattle.msc_meaning.specs.Bodies.{EventNode, level, WovenItems}
 use Rattle.msc_meaning.specs.Tables.{Table, ChartEntry, Refinement, refinements, Woven, Basic, HighLevel}
 use Rattle.msc_meaning.specs.Calls.{Call, calls}
 use Rattle.msc_meaning.specs.InnerEvents.{GateEnd, AreEnds, no_ends, end_and}
@@ -28,7 +28,7 @@ a_row : (table : Table) (ns : List EventNode) (gates : Gates) (around : Around) 
 a_row table [] gates around = no_item
 a_row table (n ∷ ns) gates around = item_then single (a_row table ns gates around)
 
-no_end : (table : Table) (held : Items) {cs : List Call} {ends : List GateEnd} → AreEnds table held cs ends → cs ≡ [] → ends ≡ []
+no_end : (table : Table) (held : WovenItems) {cs : List Call} {ends : List GateEnd} → AreEnds table held cs ends → cs ≡ [] → ends ≡ []
 no_end table held no_ends e = refl
 no_end table held (end_and {c = c} {cs = cs} n h k) e = absurd (clash e)
   where

@@ -5,9 +5,9 @@ use Rattle.std.specs.Str.{bytes_eq}
 use Rattle.std.proofs.lemmas.Bool.Decides.{Decides-ltb, Decides-eqb}
 use Rattle.std.proofs.lemmas.Option.{same_Some}
 use Rattle.std.proofs.lemmas.Slice.Eq.{bytes_eq-Decides}
-use Rattle.item_order.specs.Counts.{has}
-use Rattle.item_order.specs.Orders.{IsDue, IsNext}
-use Rattle.item_order.specs.Weaving.{Before, Precedes, restricted, IsWoven}
+use Rattle.column_order.specs.Counts.{has}
+use Rattle.column_order.specs.Orders.{IsDue, IsNext}
+use Rattle.column_order.specs.Weaving.{ColumnOrders, ColumnsOrder, restricted, IsWoven}
 use Rattle.msc_base.specs.Lists.{AreDifferent, IsAmong}
 use Rattle.msc_meaning.proofs.Deciding.{and_left, and_right, not_so, not_both, either_so}
 use Rattle.msc_meaning.proofs.Beginnings.{both_so, not_true}
@@ -45,21 +45,21 @@ abbrev pub before_list : List ℕ → ℕ → List ℕ
 before_list [] x = []
 before_list (c ∷ cs) x = if has cs x then c ∷ before_list cs x else before_list cs x
 
-pub before_so : (cs : List ℕ) (y x : ℕ) → Before cs y x → IsAmong (before_list cs x) y
+pub before_so : (cs : List ℕ) (y x : ℕ) → ColumnOrders cs y x → IsAmong (before_list cs x) y
 before_so [] y x h = h
 before_so (c ∷ cs) y x h = go (has cs x) refl (before_so cs y x) h
   where
-    go : (b : Bool) → has cs x ≡ b → (Before cs y x → IsAmong (before_list cs x) y) → ((c ≡ y) × IsAmong cs x) ⊎ Before cs y x → IsAmong (if b then c ∷ before_list cs x else before_list cs x) y
+    go : (b : Bool) → has cs x ≡ b → (ColumnOrders cs y x → IsAmong (before_list cs x) y) → ((c ≡ y) × IsAmong cs x) ⊎ ColumnOrders cs y x → IsAmong (if b then c ∷ before_list cs x else before_list cs x) y
     go true e f (inl k) = inl (sym k.0)
     go true e f (inr k) = inr (f k)
     go false e f (inl k) = absurd (not_so (sym e ∙ so_has cs x k.1))
     go false e f (inr k) = f k
 
-pub so_before : (cs : List ℕ) (y x : ℕ) → IsAmong (before_list cs x) y → Before cs y x
+pub so_before : (cs : List ℕ) (y x : ℕ) → IsAmong (before_list cs x) y → ColumnOrders cs y x
 so_before [] y x h = h
 so_before (c ∷ cs) y x h = go (has cs x) refl (so_before cs y x) h
   where
-    go : (b : Bool) → has cs x ≡ b → (IsAmong (before_list cs x) y → Before cs y x) → IsAmong (if b then c ∷ before_list cs x else before_list cs x) y → ((c ≡ y) × IsAmong cs x) ⊎ Before cs y x
+    go : (b : Bool) → has cs x ≡ b → (IsAmong (before_list cs x) y → ColumnOrders cs y x) → IsAmong (if b then c ∷ before_list cs x else before_list cs x) y → ((c ≡ y) × IsAmong cs x) ⊎ ColumnOrders cs y x
     go true e f (inl k) = inl (sym k, has_so cs x e)
     go true e f (inr k) = inr (f k)
     go false e f k = inr (f k)
@@ -81,12 +81,12 @@ abbrev pub is_ready : List (List ℕ) → List ℕ → ℕ → Bool
 is_ready [] prefix x = true
 is_ready (c ∷ cs) prefix x = ready_in prefix (before_list c x) && is_ready cs prefix x
 
-all_ready_so : (cs : List (List ℕ)) (prefix : List ℕ) (x : ℕ) → is_ready cs prefix x ≡ true → (y : ℕ) → Precedes cs y x → IsAmong prefix y
+all_ready_so : (cs : List (List ℕ)) (prefix : List ℕ) (x : ℕ) → is_ready cs prefix x ≡ true → (y : ℕ) → ColumnsOrder cs y x → IsAmong prefix y
 all_ready_so [] prefix x h y k = absurd k
 all_ready_so (c ∷ cs) prefix x h y (inl k) = ready_so prefix (before_list c x) (and_left (ready_in prefix (before_list c x)) _ h) y (before_so c y x k)
 all_ready_so (c ∷ cs) prefix x h y (inr k) = all_ready_so cs prefix x (and_right (ready_in prefix (before_list c x)) _ h) y k
 
-so_all_ready : (cs : List (List ℕ)) (prefix : List ℕ) (x : ℕ) → ((y : ℕ) → Precedes cs y x → IsAmong prefix y) → is_ready cs prefix x ≡ true
+so_all_ready : (cs : List (List ℕ)) (prefix : List ℕ) (x : ℕ) → ((y : ℕ) → ColumnsOrder cs y x → IsAmong prefix y) → is_ready cs prefix x ≡ true
 so_all_ready [] prefix x f = refl
 so_all_ready (c ∷ cs) prefix x f = both_so (ready_in prefix (before_list c x)) _ (so_ready prefix (before_list c x) (λ y k. f y (inl (so_before c y x k)))) (so_all_ready cs prefix x (λ y k. f y (inr k)))
 
@@ -95,14 +95,14 @@ so_all_ready (c ∷ cs) prefix x f = both_so (ready_in prefix (before_list c x))
 abbrev pub is_due : ℕ → List (List ℕ) → List ℕ → ℕ → Bool
 is_due n cs prefix x = nat_lt x n && (not (has prefix x) && is_ready cs prefix x)
 
-due_so : (n : ℕ) (cs : List (List ℕ)) (prefix : List ℕ) (x : ℕ) → is_due n cs prefix x ≡ true → IsDue n (Precedes cs) prefix x
+due_so : (n : ℕ) (cs : List (List ℕ)) (prefix : List ℕ) (x : ℕ) → is_due n cs prefix x ≡ true → IsDue n (ColumnsOrder cs) prefix x
 due_so n cs prefix x h = record {
   inside = (Decides-ltb x n).0 (and_left (nat_lt x n) _ h);
   remains = λ k. not_both (has prefix x) (and_left (not (has prefix x)) _ (and_right (nat_lt x n) _ h)) (so_has prefix x k);
   ready = all_ready_so cs prefix x (and_right (not (has prefix x)) _ (and_right (nat_lt x n) _ h));
 }
 
-so_due : (n : ℕ) (cs : List (List ℕ)) (prefix : List ℕ) (x : ℕ) → IsDue n (Precedes cs) prefix x → is_due n cs prefix x ≡ true
+so_due : (n : ℕ) (cs : List (List ℕ)) (prefix : List ℕ) (x : ℕ) → IsDue n (ColumnsOrder cs) prefix x → is_due n cs prefix x ≡ true
 so_due n cs prefix x d = both_so (nat_lt x n) _ ((Decides-ltb x n).1 d.inside) (both_so (not (has prefix x)) _ (not_true (has prefix x) (λ k. d.remains (has_so prefix x k))) (so_all_ready cs prefix x d.ready))
 
 -- ---- all numbers below n
@@ -130,7 +130,7 @@ below_so (suc n) f h x k = go (below_so n f (and_right (f n) _ h) x) (last x n k
 abbrev pub is_next : ℕ → List (List ℕ) → List ℕ → ℕ → Bool
 is_next n cs prefix x = is_due n cs prefix x && all_below n (λ y. not (is_due n cs prefix y) || not (nat_lt y x))
 
-next_so : (n : ℕ) (cs : List (List ℕ)) (prefix : List ℕ) (x : ℕ) → is_next n cs prefix x ≡ true → IsNext n (Precedes cs) prefix x
+next_so : (n : ℕ) (cs : List (List ℕ)) (prefix : List ℕ) (x : ℕ) → is_next n cs prefix x ≡ true → IsNext n (ColumnsOrder cs) prefix x
 next_so n cs prefix x h = record { due = due_so n cs prefix x (and_left (is_due n cs prefix x) _ h); earliest = λ y d. go y d (either_so (not (is_due n cs prefix y)) _ (all y d.inside)) }
   where
     all : (y : ℕ) → y < n → (not (is_due n cs prefix y) || not (nat_lt y x)) ≡ true
@@ -139,7 +139,7 @@ next_so n cs prefix x h = record { due = due_so n cs prefix x (and_left (is_due 
     not_less : (y : ℕ) → (y < x → ⊥) → x ≤ y
     not_less y f = grind arith
 
-    go : (y : ℕ) → IsDue n (Precedes cs) prefix y → (not (is_due n cs prefix y) ≡ true) ⊎ (not (nat_lt y x) ≡ true) → x ≤ y
+    go : (y : ℕ) → IsDue n (ColumnsOrder cs) prefix y → (not (is_due n cs prefix y) ≡ true) ⊎ (not (nat_lt y x) ≡ true) → x ≤ y
     go y d (inl e) = absurd (not_both (is_due n cs prefix y) e (so_due n cs prefix y d))
     go y d (inr e) = not_less y (λ l. not_both (nat_lt y x) e ((Decides-ltb y x).1 l))
 
@@ -147,7 +147,7 @@ abbrev pub are_next : ℕ → List (List ℕ) → List ℕ → List ℕ → Bool
 are_next n cs prefix [] = true
 are_next n cs prefix (x ∷ xs) = is_next n cs prefix x && are_next n cs (prefix ++ x ∷ []) xs
 
-each_next : (n : ℕ) (cs : List (List ℕ)) (prefix xs : List ℕ) → are_next n cs prefix xs ≡ true → (i x : ℕ) → slice_get xs i ≡ Some x → IsNext n (Precedes cs) (prefix ++ take i xs) x
+each_next : (n : ℕ) (cs : List (List ℕ)) (prefix xs : List ℕ) → are_next n cs prefix xs ≡ true → (i x : ℕ) → slice_get xs i ≡ Some x → IsNext n (ColumnsOrder cs) (prefix ++ take i xs) x
 each_next n cs prefix [] h zero x e = absurd (nothing e)
   where
     nothing : slice_get {X = ℕ} [] zero ≡ Some x → ⊥
@@ -157,11 +157,11 @@ each_next n cs prefix [] h (suc i) x e = absurd (nothing e)
     nothing : slice_get {X = ℕ} [] (suc i) ≡ Some x → ⊥
     nothing e = cc
 each_next n cs prefix (y ∷ xs) h zero x e =
-    let P : List ℕ → Type 0 = λ f. IsNext n (Precedes cs) f x in
-    let Q : ℕ → Type 0 = λ z. IsNext n (Precedes cs) prefix z in
+    let P : List ℕ → Type 0 = λ f. IsNext n (ColumnsOrder cs) f x in
+    let Q : ℕ → Type 0 = λ z. IsNext n (ColumnsOrder cs) prefix z in
     subst P (sym (append-nil prefix)) (subst Q (same_Some y x e) (next_so n cs prefix y (and_left (is_next n cs prefix y) _ h)))
 each_next n cs prefix (y ∷ xs) h (suc i) x e =
-    let P : List ℕ → Type 0 = λ f. IsNext n (Precedes cs) f x in
+    let P : List ℕ → Type 0 = λ f. IsNext n (ColumnsOrder cs) f x in
     subst P (append_assoc prefix (y ∷ []) (take i xs)) (each_next n cs (prefix ++ y ∷ []) xs (and_right (is_next n cs prefix y) _ h) i x e)
 
 -- ---- woven

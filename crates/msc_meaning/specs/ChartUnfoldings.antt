@@ -11,21 +11,21 @@ use Rattle.msc_tree.specs.declared.reference.InlineForm.{InlineForm}
 use Rattle.msc_tree.specs.declared.reference.InlineForm.TheVariants as inline
 use Rattle.msc_tree.specs.Expressions.{Expression, Empty, Chart, Alt, Par, Seq, Opt, Loop, Expressions, none, more}
 use Rattle.msc_tree.specs.Graphs.{graph, Lines, line, line_list, Node, Ends, Connect, Condition, Refer, Frames, Graphs, no_graphs, graph_and}
-use Rattle.msc_meaning.specs.Bodies.{EventNode, InlinePart, ReferencePart, Body, level, Items, no_items, item_and, Item, Single, Coregion, Inline, Bodies, no_bodies, body_and}
+use Rattle.msc_meaning.specs.Bodies.{EventNode, InlinePart, ReferencePart, Body, level, WovenItems, no_items, item_and, WovenItem, Single, Coregion, Inline, Bodies, no_bodies, body_and}
 use Rattle.msc_meaning.specs.Bodies as body
 use Rattle.msc_meaning.specs.Tables.{Table, ChartEntry, chart_at, Woven, Basic, HighLevel, Refinement, refinements}
 use Rattle.msc_meaning.specs.Calls.{calls}
 use Rattle.msc_meaning.specs.InnerEvents.{GateEnd, AreEnds}
 use Rattle.msc_meaning.specs.FarEnds.{GateMap, no_gates, no_far, Around, Gates, inside, gates_referred, far_end, happening}
 use Rattle.msc_meaning.specs.Ties.{ties, past_inline, past_reference, past_node, passing}
-use Rattle.msc_meaning.specs.Refinements.{Match, Refining, refining, refinings, all_matches, refined_far, inner_far, without, refining_tie}
+use Rattle.msc_meaning.specs.Refinements.{Match, Refining, refining, refinings, all_matches, refined_far, inner_far, without_decomposed, refining_tie}
 
 -- at most that often, where there is a bound
 abbrev pub UpTo : Option ℕ → ℕ → Type 0
 UpTo None n = ⊤
 UpTo (Some most) n = n ≤ most
 
-abbrev pub gates_of : Items → List GateEnd → Gates
+abbrev pub gates_of : WovenItems → List GateEnd → Gates
 gates_of held ends = record { calls = calls held; ends = ends }
 
 -- what a chart is given whose gates lead there
@@ -52,22 +52,22 @@ pub data OfEvents (ends : List GateEnd) (around : Around) : List EventNode → U
 mutual
   -- a level: its items, tied
   pub data OfLevel (table : Table) : Around → Body → Unfolding → Type 0 where
-    of_level : {around : Around} {cover : List (List ℕ)} {held : Items} {pairs : List Pair} {ends : List GateEnd} {u : Unfolding}
+    of_level : {around : Around} {cover : List (List ℕ)} {held : WovenItems} {pairs : List Pair} {ends : List GateEnd} {u : Unfolding}
         → AreEnds table held (calls held) ends → OfItems table (gates_of held ends) around held u
         → OfLevel table around (level cover held pairs) (bind u (level_tie (ties held pairs (calls held) ends)))
 
   -- items, one after another; of an `exc` its operand, or what stands behind it
-  pub data OfItems (table : Table) : Gates → Around → Items → Unfolding → Type 0 where
+  pub data OfItems (table : Table) : Gates → Around → WovenItems → Unfolding → Type 0 where
     no_item : {gates : Gates} {around : Around} → OfItems table gates around no_items empty
-    item_then : {gates : Gates} {around : Around} {x : Item} {xs : Items} {u v : Unfolding}
+    item_then : {gates : Gates} {around : Around} {x : WovenItem} {xs : WovenItems} {u v : Unfolding}
         → OfItem table gates around x u → OfItems table gates around xs v → OfItems table gates around (item_and x xs) (join seq u v)
-    exception : {gates : Gates} {around : Around} {part : InlinePart} {operand : Body} {xs : Items} {u : Unfolding}
+    exception : {gates : Gates} {around : Around} {part : InlinePart} {operand : Body} {xs : WovenItems} {u : Unfolding}
         → OfLevel table (inside gates part.name around) operand u
         → OfItems table gates around (item_and (Inline inline.Exc part (body_and operand no_bodies)) xs) (bind u (passing (past_inline gates.calls part.name)))
-    no_exception : {gates : Gates} {around : Around} {part : InlinePart} {operands : Bodies} {xs : Items} {u : Unfolding}
+    no_exception : {gates : Gates} {around : Around} {part : InlinePart} {operands : Bodies} {xs : WovenItems} {u : Unfolding}
         → OfItems table gates around xs u → OfItems table gates around (item_and (Inline inline.Exc part operands) xs) u
 
-  pub data OfItem (table : Table) : Gates → Around → Item → Unfolding → Type 0 where
+  pub data OfItem (table : Table) : Gates → Around → WovenItem → Unfolding → Type 0 where
     single : {gates : Gates} {around : Around} {n : EventNode} → OfItem table gates around (Single n) (one (happening gates.ends around n))
     coregion : {gates : Gates} {around : Around} {ns : List EventNode} {u : Unfolding} → OfEvents gates.ends around ns u → OfItem table gates around (Coregion ns) u
     inline_part : {gates : Gates} {around : Around} {form : InlineForm} {part : InlinePart} {operands : Bodies} {u : Unfolding}
@@ -137,9 +137,9 @@ mutual
   -- a chart, its gates leading there: its body; its body with refining charts beside it; or a finished walk through its graph
   pub data OfWoven (table : Table) : GateMap → List Refinement → Woven → Unfolding → Type 0 where
     of_body : {gates : GateMap} {held : Body} {u : Unfolding} → OfLevel table (under gates) held u → OfWoven table gates [] (Basic held) u
-    of_refined : {gates : GateMap} {r : Refinement} {rs : List Refinement} {cover : List (List ℕ)} {held : Items} {pairs : List Pair} {ends : List GateEnd} {u v : Unfolding}
+    of_refined : {gates : GateMap} {r : Refinement} {rs : List Refinement} {cover : List (List ℕ)} {held : WovenItems} {pairs : List Pair} {ends : List GateEnd} {u v : Unfolding}
         → AreEnds table held (calls held) ends
-        → OfItems table (gates_of held ends) (refined_under gates pairs (refinings table held (r ∷ rs))) (without (r ∷ rs) held) u
+        → OfItems table (gates_of held ends) (refined_under gates pairs (refinings table held (r ∷ rs))) (without_decomposed (r ∷ rs) held) u
         → OfRefinings table (far_end ends (refined_under gates pairs (refinings table held (r ∷ rs)))) (refinings table held (r ∷ rs)) v
         → OfWoven table gates (r ∷ rs) (Basic (level cover held pairs)) (bind (join par u v) (level_tie (ties held pairs (calls held) ends)))
     of_graph : {gates : GateMap} {rs : List Refinement} {starts : List LabelRef} {lines : Lines} {u : Unfolding}
@@ -148,7 +148,7 @@ mutual
   -- refining charts, side by side; the far ends are those of the events of the refined chart
   pub data OfRefinings (table : Table) : (EventNode → Far) → List Refining → Unfolding → Type 0 where
     no_refining : {far_of : EventNode → Far} → OfRefinings table far_of [] empty
-    refining_and : {far_of : EventNode → Far} {cover : List (List ℕ)} {held : Items} {pairs : List Pair} {ms : List Match} {others : List Refining} {ends : List GateEnd} {u v : Unfolding}
+    refining_and : {far_of : EventNode → Far} {cover : List (List ℕ)} {held : WovenItems} {pairs : List Pair} {ms : List Match} {others : List Refining} {ends : List GateEnd} {u v : Unfolding}
         → AreEnds table held (calls held) ends → OfItems table (gates_of held ends) (refining_under far_of ms) held u → OfRefinings table far_of others v
         → OfRefinings table far_of (refining (level cover held pairs) ms ∷ others) (join par (bind u (refining_tie ms (ties held pairs (calls held) ends))) v)
 

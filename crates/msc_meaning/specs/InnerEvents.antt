@@ -9,7 +9,7 @@ use Rattle.msc_tree.specs.declared.reference.InlineForm.{InlineForm}
 use Rattle.msc_tree.specs.declared.reference.Join.{Join}
 use Rattle.msc_tree.specs.declared.reference.JoinEnd.TheVariants as join_end
 use Rattle.msc_tree.specs.Expressions.{Expression, Empty, Chart, Alt, Par, Seq, Opt, Loop, Expressions, none, more}
-use Rattle.msc_meaning.specs.Bodies.{EventNode, InlinePart, ReferencePart, Body, level, Items, item_list, Inline, Refer, Bodies, body_and, events}
+use Rattle.msc_meaning.specs.Bodies.{EventNode, InlinePart, ReferencePart, Body, level, WovenItems, item_list, Inline, Refer, Bodies, body_and, events}
 use Rattle.msc_meaning.specs.Tables.{Table, body_at}
 use Rattle.msc_meaning.specs.Calls.{Call, calls, is_called}
 
@@ -44,12 +44,12 @@ mutual
   -- e is an inner event of the gate of the level: its own; of an operand of an inline expression on which the gate isn't called; or
   -- of the gate of a reference that a join makes this gate of the level
   pub data IsInner (table : Table) : Body → List ℕ → InnerEvent → Type 0 where
-    own : {cover : List (List ℕ)} {held : Items} {pairs : List Pair} {g : List ℕ} {n : EventNode}
+    own : {cover : List (List ℕ)} {held : WovenItems} {pairs : List Pair} {g : List ℕ} {n : EventNode}
         → Among n (events held) → n.event.target ≡ Env (Some g) → IsInner table (level cover held pairs) g (here n)
-    inside : {cover : List (List ℕ)} {held : Items} {pairs : List Pair} {g : List ℕ} {e : InnerEvent} {form : InlineForm} {part : InlinePart} {operands : Bodies}
+    inside : {cover : List (List ℕ)} {held : WovenItems} {pairs : List Pair} {g : List ℕ} {e : InnerEvent} {form : InlineForm} {part : InlinePart} {operands : Bodies}
         → Among (Inline form part operands) (item_list held) → is_called (calls held) part.name g ≡ false → IsInnerOfSome table operands g e
         → IsInner table (level cover held pairs) g e
-    passed : {cover : List (List ℕ)} {held : Items} {pairs : List Pair} {g : List ℕ} {e : InnerEvent} {part : ReferencePart} {j : Join}
+    passed : {cover : List (List ℕ)} {held : WovenItems} {pairs : List Pair} {g : List ℕ} {e : InnerEvent} {part : ReferencePart} {j : Join}
         → Among (Refer part) (item_list held) → Among j part.joins → j.to ≡ join_end.Env g → IsInnerOfExpression table part.expression j.gate e
         → IsInner table (level cover held pairs) g e
 
@@ -64,7 +64,7 @@ mutual
         → Among name (charts_in expression) → body_at table name ≡ Some body → IsInner table body g e → IsInnerOfExpression table expression g (in_chart name e)
 
 -- e is an inner event of the gate of the level's reference or inline expression of that name
-pub data IsInnerOf (table : Table) (held : Items) : List ℕ → List ℕ → InnerEvent → Type 0 where
+pub data IsInnerOf (table : Table) (held : WovenItems) : List ℕ → List ℕ → InnerEvent → Type 0 where
   of_inline : {name g : List ℕ} {e : InnerEvent} {form : InlineForm} {part : InlinePart} {operands : Bodies}
       → Among (Inline form part operands) (item_list held) → part.name ≡ Some name → IsInnerOfSome table operands g e → IsInnerOf table held name g e
   of_reference : {name g : List ℕ} {e : InnerEvent} {part : ReferencePart}
@@ -78,7 +78,7 @@ pub record GateEnd : Type 0 where
   pub kind : Kind
 
 -- the called gates of a level, call by call
-pub data AreEnds (table : Table) (held : Items) : List Call → List GateEnd → Type 0 where
+pub data AreEnds (table : Table) (held : WovenItems) : List Call → List GateEnd → Type 0 where
   no_ends : AreEnds table held [] []
   end_and : {c : Call} {cs : List Call} {ends : List GateEnd} (e : InnerEvent)
       → IsInnerOf table held c.name c.gate e → AreEnds table held cs ends

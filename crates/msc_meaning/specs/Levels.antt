@@ -1,11 +1,11 @@
 -- The body that a level is woven to: its items in the order of the woven list, its operands woven in turn, and its message pairs.
 use Rattle.std.specs.Prelude.{◌≡◌, ℕ, zero, suc, List, [], ◌∷◌, length, Some, slice_get}
-use Rattle.item_order.specs.Weaving.{IsWoven}
+use Rattle.column_order.specs.Weaving.{IsWoven}
 use Rattle.msc_base.specs.declared.label.Pair.{Pair}
 use Rattle.msc_tree.specs.declared.event.RawEvent.{RawEvent}
 use Rattle.msc_tree.specs.Statements.{InlineHead, Reference, Operands, no_operands, operand_and}
 use Rattle.msc_tree.specs.Statements as tree
-use Rattle.msc_meaning.specs.Bodies.{EventNode, Body, level, Item, Single, Coregion, Inline, Refer, Bodies, no_bodies, body_and, events}
+use Rattle.msc_meaning.specs.Bodies.{EventNode, Body, level, WovenItem, Single, Coregion, Inline, Refer, Bodies, no_bodies, body_and, events}
 use Rattle.msc_meaning.specs.Bodies as body
 use Rattle.msc_meaning.specs.LevelItems.{level_items, entries, columns_of, cover_of}
 use Rattle.msc_meaning.specs.Pairing.{ArePairs}
@@ -22,19 +22,19 @@ operand_number (operand_and x xs) = suc (operand_number xs)
 mutual
   -- the pieces of a level that covers these instances are woven to the body
   pub data IsWovenLevel : List (List ℕ) → List Piece → Body → Type 0 where
-    woven : {cover : List (List ℕ)} {ps : List Piece} {order : List ℕ} {held : body.Items} {pairs : List Pair}
+    woven : {cover : List (List ℕ)} {ps : List Piece} {order : List ℕ} {held : body.WovenItems} {pairs : List Pair}
         → IsWoven (length (level_items ps)) (columns_of (entries ps) cover) order → AreWovenItems cover (level_items ps) order held → ArePairs (events held) pairs
         → IsWovenLevel cover ps (level cover held pairs)
 
   -- the items of these numbers
-  pub data AreWovenItems : List (List ℕ) → List (List Piece) → List ℕ → body.Items → Type 0 where
+  pub data AreWovenItems : List (List ℕ) → List (List Piece) → List ℕ → body.WovenItems → Type 0 where
     no_woven : {cover : List (List ℕ)} {all : List (List Piece)} → AreWovenItems cover all [] body.no_items
-    woven_and : {cover : List (List ℕ)} {all : List (List Piece)} {x : ℕ} {order : List ℕ} {parts : List Piece} {item : Item} {held : body.Items}
+    woven_and : {cover : List (List ℕ)} {all : List (List Piece)} {x : ℕ} {order : List ℕ} {parts : List Piece} {item : WovenItem} {held : body.WovenItems}
         → slice_get all x ≡ Some parts → IsWovenItem cover parts item → AreWovenItems cover all order held
         → AreWovenItems cover all (x ∷ order) (body.item_and item held)
 
   -- an item, by its parts
-  pub data IsWovenItem : List (List ℕ) → List Piece → Item → Type 0 where
+  pub data IsWovenItem : List (List ℕ) → List Piece → WovenItem → Type 0 where
     an_event : {cover : List (List ℕ)} {p : Piece} {at : List ℕ} {e : RawEvent}
         → p.form ≡ tree.Single e → slice_get p.leads 0 ≡ Some at → IsWovenItem cover (p ∷ []) (Single (record { number = p.first; at = at; event = e }))
     a_coregion : {cover : List (List ℕ)} {p : Piece} {at : List ℕ} {es : List RawEvent}

@@ -5,7 +5,7 @@ use Rattle.msc_base.specs.declared.label.LabelRef.{LabelRef}
 use Rattle.msc_base.specs.Orders.{Among}
 use Rattle.msc_unfolding.specs.Unfoldings.{Unfolding}
 use Rattle.msc_tree.specs.Graphs.{graph, Lines}
-use Rattle.msc_meaning.specs.Bodies.{Items}
+use Rattle.msc_meaning.specs.Bodies.{WovenItems}
 use Rattle.msc_meaning.specs.Calls.{Call}
 use Rattle.msc_meaning.specs.InnerEvents.{InnerEvent, IsInnerOf, GateEnd, AreEnds}
 use Rattle.msc_meaning.specs.Meanings.{Conforms, Begins}
@@ -30,17 +30,17 @@ abbrev pub end_by : List ℕ → List ℕ → InnerEvent → GateEnd
 end_by name gate e = record { name = name; gate = gate; at = e.node.at; kind = e.node.event.kind }
 
 -- each of the calls has an inner event
-abbrev pub HaveEnds : Table → Items → List Call → Type 0
+abbrev pub HaveEnds : Table → WovenItems → List Call → Type 0
 HaveEnds table held cs = (c : Call) → Among c cs → (e : InnerEvent) × IsInnerOf table held c.name c.gate e
 
 -- the inner events of each called gate agree on their instance and direction
-abbrev pub HaveOneEnd : Table → Items → List Call → Type 0
+abbrev pub HaveOneEnd : Table → WovenItems → List Call → Type 0
 HaveOneEnd table held cs = (c : Call) → Among c cs → (e f : InnerEvent) → IsInnerOf table held c.name c.gate e → IsInnerOf table held c.name c.gate f → end_by c.name c.gate e ≡ end_by c.name c.gate f
 
 -- then the called gates have ends
 abbrev pub EndsAreThere : Type 0
-EndsAreThere = (table : Table) (held : Items) (cs : List Call) → HaveEnds table held cs → (ends : List GateEnd) × AreEnds table held cs ends
+EndsAreThere = (table : Table) (held : WovenItems) (cs : List Call) → HaveEnds table held cs → (ends : List GateEnd) × AreEnds table held cs ends
 
 -- and they are one list
 abbrev pub EndsAreOne : Type 0
-EndsAreOne = (table : Table) (held : Items) (cs : List Call) → HaveOneEnd table held cs → (ends others : List GateEnd) → AreEnds table held cs ends → AreEnds table held cs others → ends ≡ others
+EndsAreOne = (table : Table) (held : WovenItems) (cs : List Call) → HaveOneEnd table held cs → (ends others : List GateEnd) → AreEnds table held cs ends → AreEnds table held cs others → ends ≡ others

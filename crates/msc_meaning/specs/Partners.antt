@@ -1,7 +1,7 @@
 -- Outputs and inputs that have no partner, on a level or on one inside it, and inputs before their outputs.
 use Rattle.std.specs.Prelude.{◌≡◌, ◌<◌, ◌⊎◌, ℕ, [], ◌∷◌, List, Some, slice_get}
 use Rattle.msc_base.specs.declared.place.Place.{Place}
-use Rattle.msc_meaning.specs.Bodies.{EventNode, Body, level, Items, no_items, item_and, Item, Single, Coregion, Inline, Refer, Bodies, no_bodies, body_and, events}
+use Rattle.msc_meaning.specs.Bodies.{EventNode, Body, level, WovenItems, no_items, item_and, WovenItem, Single, Coregion, Inline, Refer, Bodies, no_bodies, body_and, events}
 use Rattle.msc_meaning.specs.Pairing.{Key, output_key, input_key, IsPaired}
 
 -- of the events of a level, an output to an instance or an input from one that is paired with none, and where it stands
@@ -19,11 +19,11 @@ abbrev mutual
   pub LacksPartner : Body → Place → Type 0
   LacksPartner (level cover held pairs) place = IsUnmatched (events held) place ⊎ ItemsLackPartner held place
 
-  pub ItemsLackPartner : Items → Place → Type 0
+  pub ItemsLackPartner : WovenItems → Place → Type 0
   ItemsLackPartner no_items place = ⊥
   ItemsLackPartner (item_and x xs) place = ItemLacksPartner x place ⊎ ItemsLackPartner xs place
 
-  pub ItemLacksPartner : Item → Place → Type 0
+  pub ItemLacksPartner : WovenItem → Place → Type 0
   ItemLacksPartner (Single n) place = ⊥
   ItemLacksPartner (Coregion ns) place = ⊥
   ItemLacksPartner (Inline form part operands) place = OneLacksPartner operands place

@@ -5,7 +5,7 @@ use Rattle.msc_base.specs.declared.label.Label.{Label}
 use Rattle.msc_base.specs.Patterns.{seq, empty, one, join, bind}
 use Rattle.msc_unfolding.specs.Runs.{IsRun}
 use Rattle.msc_unfolding.specs.Unfoldings.{Unfolding, level_tie}
-use Rattle.msc_meaning.specs.Bodies.{EventNode, level, Items, no_items, item_and, Single}
+use Rattle.msc_meaning.specs.Bodies.{EventNode, level, WovenItems, no_items, item_and, Single}
 use Rattle.msc_meaning.specs.Tables.{Table, ChartEntry, chart_at, Basic, refinements}
 use Rattle.msc_meaning.specs.Calls.{calls}
 use Rattle.msc_meaning.specs.FarEnds.{Around, no_gates, happening}
@@ -14,7 +14,7 @@ use Rattle.msc_meaning.specs.Meanings.{Conforms, Begins}
 use Rattle.msc_meaning.specs.ChartUnfoldings.{under, OfLevel}
 
 -- items that are events
-abbrev pub singles : List EventNode → Items
+abbrev pub singles : List EventNode → WovenItems
 singles [] = no_items
 singles (n ∷ ns) = item_and (Single n) (singles ns)
 

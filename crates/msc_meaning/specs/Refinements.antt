@@ -10,7 +10,7 @@ use Rattle.msc_base.specs.declared.label.Pair.{Pair}
 use Rattle.msc_unfolding.specs.Unfoldings.{Tag, Own, Via, On, Tie}
 use Rattle.msc_tree.specs.declared.event.Target.{Target}
 use Rattle.msc_tree.specs.declared.event.Target.TheVariants.{Env}
-use Rattle.msc_meaning.specs.Bodies.{EventNode, Body, level, Items, no_items, item_and, Single, Coregion, Inline, Refer, events}
+use Rattle.msc_meaning.specs.Bodies.{EventNode, Body, level, WovenItems, no_items, item_and, Single, Coregion, Inline, Refer, events}
 use Rattle.msc_meaning.specs.EventLabels.{text_of}
 use Rattle.msc_meaning.specs.Tables.{Table, body_at, Refinement}
 
@@ -64,7 +64,7 @@ matches_behind inner before [] = []
 matches_behind inner before (e ∷ es) = match_list e (slice_get (all_like e inner) (count_like e before)) ++ matches_behind inner (before ++ e ∷ []) es
 
 -- of a direction and text the k-th event of the instance is matched with the k-th of the refining chart
-abbrev pub matches : List ℕ → Items → Items → List Match
+abbrev pub matches : List ℕ → WovenItems → WovenItems → List Match
 matches i held inner = matches_behind (env_events (events inner)) [] (events_at i (events held))
 
 -- ---- refining charts
@@ -73,12 +73,12 @@ matches i held inner = matches_behind (env_events (events inner)) [] (events_at 
 pub data Refining : Type 0 where
   refining : Body → List Match → Refining
 
-abbrev pub refining_by : List ℕ → Items → Option Body → List Refining
+abbrev pub refining_by : List ℕ → WovenItems → Option Body → List Refining
 refining_by i held None = []
 refining_by i held (Some (level cover inner pairs)) = refining (level cover inner pairs) (matches i held inner) ∷ []
 
 -- of each decomposed instance of a level
-abbrev pub refinings : Table → Items → List Refinement → List Refining
+abbrev pub refinings : Table → WovenItems → List Refinement → List Refining
 refinings table held [] = []
 refinings table held (r ∷ rs) = refining_by r.instance held (body_at table r.chart) ++ refinings table held rs
 
@@ -124,13 +124,13 @@ abbrev pub left_of : List Refinement → List EventNode → List EventNode
 left_of rs [] = []
 left_of rs (n ∷ ns) = if is_decomposed rs n then left_of rs ns else n ∷ left_of rs ns
 
--- the items without the events of decomposed instances
-abbrev pub without : List Refinement → Items → Items
-without rs no_items = no_items
-without rs (item_and (Single n) xs) = if is_decomposed rs n then without rs xs else item_and (Single n) (without rs xs)
-without rs (item_and (Coregion ns) xs) = item_and (Coregion (left_of rs ns)) (without rs xs)
-without rs (item_and (Inline form part operands) xs) = item_and (Inline form part operands) (without rs xs)
-without rs (item_and (Refer part) xs) = item_and (Refer part) (without rs xs)
+-- the items without_decomposed the events of decomposed instances
+abbrev pub without_decomposed : List Refinement → WovenItems → WovenItems
+without_decomposed rs no_items = no_items
+without_decomposed rs (item_and (Single n) xs) = if is_decomposed rs n then without_decomposed rs xs else item_and (Single n) (without_decomposed rs xs)
+without_decomposed rs (item_and (Coregion ns) xs) = item_and (Coregion (left_of rs ns)) (without_decomposed rs xs)
+without_decomposed rs (item_and (Inline form part operands) xs) = item_and (Inline form part operands) (without_decomposed rs xs)
+without_decomposed rs (item_and (Refer part) xs) = item_and (Refer part) (without_decomposed rs xs)
 
 -- the number of the event that one stands for
 abbrev pub stands_for : List Match → ℕ → List Tag

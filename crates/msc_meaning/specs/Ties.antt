@@ -8,7 +8,7 @@ use Rattle.msc_unfolding.specs.Unfoldings.{Tag, Own, Via, On, Tie}
 use Rattle.msc_tree.specs.declared.reference.Join.{Join}
 use Rattle.msc_tree.specs.declared.reference.JoinEnd.{JoinEnd}
 use Rattle.msc_tree.specs.declared.reference.JoinEnd.TheVariants as join_end
-use Rattle.msc_meaning.specs.Bodies.{EventNode, Items, no_items, item_and, Item, Single, Coregion, Inline, Refer, events}
+use Rattle.msc_meaning.specs.Bodies.{EventNode, WovenItems, no_items, item_and, WovenItem, Single, Coregion, Inline, Refer, events}
 use Rattle.msc_meaning.specs.Calls.{Caller, an_event, a_gate, Call, is_called, passed_to}
 use Rattle.msc_meaning.specs.InnerEvents.{GateEnd}
 use Rattle.msc_meaning.specs.FarEnds.{end_at}
@@ -53,7 +53,7 @@ order_pairs named [] = []
 order_pairs named (n ∷ ns) = before_pairs named n.number n.event.order.earlier_than ++ (after_pairs named n.number n.event.order.later_than ++ order_pairs named ns)
 
 -- what comes before what on a level: an output before its input, and the general ordering
-abbrev pub level_pairs : Items → List Pair → List Pair
+abbrev pub level_pairs : WovenItems → List Pair → List Pair
 level_pairs held pairs = pairs ++ order_pairs (labelled (events held)) (events held)
 
 -- events of that kind before those of the other end, or behind them where they are inputs
@@ -84,18 +84,18 @@ joins_ties ends None js = []
 joins_ties ends (Some own) [] = []
 joins_ties ends (Some own) (j ∷ js) = join_tie ends own j.gate j.to ++ joins_ties ends (Some own) js
 
-abbrev pub items_joins_ties : List GateEnd → Items → List (Tag × Tag)
+abbrev pub items_joins_ties : List GateEnd → WovenItems → List (Tag × Tag)
 items_joins_ties ends no_items = []
 items_joins_ties ends (item_and x xs) = item_joins_ties x ++ items_joins_ties ends xs
   where
-    item_joins_ties : Item → List (Tag × Tag)
+    item_joins_ties : WovenItem → List (Tag × Tag)
     item_joins_ties (Single n) = []
     item_joins_ties (Coregion ns) = []
     item_joins_ties (Inline form part operands) = []
     item_joins_ties (Refer part) = joins_ties ends part.name part.joins
 
 -- what ties the events of a level: its messages, its general ordering, its callers, and its joins
-abbrev pub ties : Items → List Pair → List Call → List GateEnd → List (Tag × Tag)
+abbrev pub ties : WovenItems → List Pair → List Call → List GateEnd → List (Tag × Tag)
 ties held pairs cs ends = own_ties (level_pairs held pairs) ++ (event_ties cs ++ items_joins_ties ends held)
 
 -- ---- tags, on their way up

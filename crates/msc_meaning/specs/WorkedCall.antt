@@ -12,7 +12,7 @@ use Rattle.msc_tree.specs.declared.reference.InlineForm.TheVariants.{Alt}
 use Rattle.msc_tree.specs.Charts as drawn
 use Rattle.msc_tree.specs.Statements.{InlineHead, InColumn, operands, placed, Statement, Column, Condition}
 use Rattle.msc_tree.specs.Statements as tree
-use Rattle.msc_meaning.specs.Bodies.{Body, level, Items, Single, Inline, items, item_list, bodies}
+use Rattle.msc_meaning.specs.Bodies.{Body, level, WovenItems, Single, Inline, items, item_list, bodies}
 use Rattle.msc_meaning.specs.Meanings.{Finished, Conforms}
 use Rattle.msc_meaning.specs.ShownUnfoldings.{Shown, AreShown, in_order}
 use Rattle.msc_meaning.specs.Tables.{Table, ChartEntry, Basic}
@@ -101,10 +101,10 @@ hanging_up = level all (items (
     ∷ [])) (pair 3 12 ∷ pair 14 19 ∷ [])
 
 -- what stands behind the events of the columns
-abbrev pub choice_items : Items
+abbrev pub choice_items : WovenItems
 choice_items = items (Inline Alt (record { lower = 1; upper = Some 1; name = Some (codes "A"); cover = all; place = place_at 3 }) (bodies (dialling ∷ hanging_up ∷ [])) ∷ [])
 
-abbrev pub call_items : Items
+abbrev pub call_items : WovenItems
 call_items = items (
     Single (node 0 user (out (codes "offhook") phone))
     ∷ Single (node 1 user (taken_in (codes "tone") phone))

@@ -10,7 +10,7 @@ use Rattle.msc_tree.specs.declared.reference.JoinEnd.TheVariants as join_end
 use Rattle.msc_tree.specs.Expressions.{Chart, Seq, expressions}
 use Rattle.msc_tree.specs.Graphs.{Lines, lines, line, Ends, Refer}
 use Rattle.msc_tree.specs.Orders.{no_order, with_name}
-use Rattle.msc_meaning.specs.Bodies.{EventNode, Items, Single, Coregion, Inline, Body, level, items, bodies}
+use Rattle.msc_meaning.specs.Bodies.{EventNode, WovenItems, Single, Coregion, Inline, Body, level, items, bodies}
 use Rattle.msc_meaning.specs.Tables.{Table}
 use Rattle.msc_meaning.specs.WorkedParts.{node, out, taken_in, out_to, in_from, action, written, pair, decl, decomposed, part, refers, join, to, high_level, basic, somewhere}
 
@@ -152,7 +152,7 @@ gate_in = node 0 k (in_from m (Env (Some g)))
 abbrev pub gate_body : Body
 gate_body = level (k ∷ []) (items (Single gate_in ∷ [])) []
 
-abbrev pub gate_items : Items
+abbrev pub gate_items : WovenItems
 gate_items = items (Single (node 0 i (out_to m (Gate (codes "R") g))) ∷ refers (Some (codes "R")) (Chart (codes "B")) [] (k ∷ []) ∷ [])
 
 abbrev pub gate_of_reference : Table
@@ -165,13 +165,13 @@ gate_of_reference = basic (codes "B") (decl k ∷ []) gate_body ∷ basic (codes
 abbrev pub passing_joins : List Join
 passing_joins = join g (join_end.Env h) ∷ []
 
-abbrev pub passing_items : Items
+abbrev pub passing_items : WovenItems
 passing_items = items (refers (Some (codes "S")) (Chart (codes "C")) passing_joins (k ∷ []) ∷ [])
 
 abbrev pub passing_body : Body
 passing_body = level (k ∷ []) passing_items []
 
-abbrev pub outer_items : Items
+abbrev pub outer_items : WovenItems
 outer_items = items (Single (node 0 i (out_to m (Gate (codes "R") h))) ∷ refers (Some (codes "R")) (Chart (codes "B")) [] (k ∷ []) ∷ [])
 
 abbrev pub gate_through_levels : Table
@@ -197,7 +197,7 @@ in_body = level (q ∷ []) (items (Single gate_in_q ∷ [])) []
 abbrev pub joins_of_r : List Join
 joins_of_r = join g (join_end.Reference (codes "S") h) ∷ []
 
-abbrev pub joined_items : Items
+abbrev pub joined_items : WovenItems
 joined_items = items (refers (Some (codes "R")) (Chart (codes "P")) joins_of_r (p ∷ []) ∷ refers (Some (codes "S")) (Chart (codes "Q")) [] (q ∷ []) ∷ [])
 
 abbrev pub gates_joined : Table
@@ -215,7 +215,7 @@ with_gate = level (k ∷ []) (items (Single inner_in ∷ [])) []
 abbrev pub without_gate : Body
 without_gate = level (k ∷ []) (items (Single (node 2 k (action x)) ∷ [])) []
 
-abbrev pub inline_items : Items
+abbrev pub inline_items : WovenItems
 inline_items = items (Single (node 0 i (out_to m (Gate (codes "X") g)))
     ∷ Inline Alt (part 1 (Some 1) (Some (codes "X")) (k ∷ [])) (bodies (with_gate ∷ without_gate ∷ [])) ∷ [])
 

@@ -17,7 +17,7 @@ use Rattle.msc_tree.specs.declared.reference.JoinEnd.{JoinEnd}
 use Rattle.msc_tree.specs.Expressions.{Expression}
 use Rattle.msc_tree.specs.Graphs.{graph, Lines}
 use Rattle.msc_tree.specs.Orders.{no_order}
-use Rattle.msc_meaning.specs.Bodies.{EventNode, InlinePart, Item, Refer, Body}
+use Rattle.msc_meaning.specs.Bodies.{EventNode, InlinePart, WovenItem, Refer, Body}
 use Rattle.msc_meaning.specs.Tables.{ChartEntry, Basic, HighLevel}
 
 -- ---- charts
@@ -68,7 +68,7 @@ decomposed name chart = record { name = name; kind = []; refined = Some chart; p
 abbrev pub part : ℕ → Option ℕ → Option (List ℕ) → List (List ℕ) → InlinePart
 part lower upper name cover = record { lower = lower; upper = upper; name = name; cover = cover; place = somewhere }
 
-abbrev pub refers : Option (List ℕ) → Expression → List Join → List (List ℕ) → Item
+abbrev pub refers : Option (List ℕ) → Expression → List Join → List (List ℕ) → WovenItem
 refers name expression joins cover = Refer (record { name = name; expression = expression; joins = joins; cover = cover; place = somewhere })
 
 abbrev pub join : List ℕ → JoinEnd → Join

@@ -22,7 +22,7 @@ use Rattle.msc_expression.specs.Bounds.{with_bounds}
 use Rattle.msc_expression.specs.ExpressionGrammar.{expression}
 use Rattle.msc_document.specs.Inlines.{each, after, closing, firsts, several, Naming, body, Tail, taken_once, alt_tail, par_tail, opt_tail, exc_tail, loop_tail, inline_item, form, inline}
 use Rattle.msc_document.specs.Inlines as inlines
-use Rattle.msc_document.specs.DocumentGrammar.{naming, reference_parts, reference_of, reference, multi_of, event_of, column_operand, column_event, Line, happen, list, declare, finish, lead_statement, covered_of, some, outside_operand, outside_event, outside_multi, covered_in, covered, statement}
+use Rattle.msc_document.specs.DocumentGrammar.{naming, reference_parts, reference_of, reference, multi_of, event_of, column_operand, column_event, LedLine, happen, list, declare, finish, lead_statement, covered_of, some, outside_operand, outside_event, outside_multi, covered_in, covered, statement}
 use Rattle.msc_print.specs.Words.{Words, all_words, name_words, end_words}
 use Rattle.msc_print.specs.ExpressionWords.{bound_words, expression_words}
 use Rattle.msc_tree.specs.Forms.{form_text}
@@ -224,7 +224,7 @@ column_event_back (suc n) = event_back column_operand written.Column (suc n) (in
 
 -- ---- elsewhere
 
-abbrev line_words : Line → Words
+abbrev line_words : LedLine → Words
 line_words (happen held) = codes ":" ∷ items_words (items held)
 line_words (list others held) = codes "," ∷ (name_words others ++ codes ":" ∷ items_words (items held))
 line_words (declare d) = codes ":" ∷ codes "instance" ∷ (d.0 ++ (refined_words (chart_in d.1) ++ end_words))
@@ -233,19 +233,19 @@ line_words finish = codes ":" ∷ codes "endinstance" ∷ end_words
 abbrev at_first : Option (List ℕ) → Option (Place × List ℕ)
 at_first = option_map (λ n. (first_place, n))
 
-abbrev line_shown : Line → Line
+abbrev line_shown : LedLine → LedLine
 line_shown (happen held) = happen (map unplaced_item held)
 line_shown (list others held) = list others (map unplaced_item held)
 line_shown (declare d) = declare (d.0, at_first (chart_in d.1))
 line_shown finish = finish
 
-abbrev Known : Line → Type 0
+abbrev Known : LedLine → Type 0
 Known (happen held) = Unit {0}
 Known (list others held) = Filled others
 Known (declare d) = Unit {0}
 Known finish = Unit {0}
 
-lead_is : (at : List ℕ × Place) (l : Line) → Known l → statement_words (lead_statement at l) ≡ at.0 ∷ line_words l
+lead_is : (at : List ℕ × Place) (l : LedLine) → Known l → statement_words (lead_statement at l) ≡ at.0 ∷ line_words l
 lead_is at (happen held) m = refl
 lead_is at (list [] held) m = absurd m
 lead_is at (list (o ∷ os) held) m = refl
@@ -253,7 +253,7 @@ lead_is at (declare (k, None)) m = refl
 lead_is at (declare (k, Some r)) m = refl
 lead_is at finish m = refl
 
-lead_shown : (at : List ℕ × Place) (l : Line) → unplaced_statement (lead_statement at l) ≡ lead_statement (at.0, first_place) (line_shown l)
+lead_shown : (at : List ℕ × Place) (l : LedLine) → unplaced_statement (lead_statement at l) ≡ lead_statement (at.0, first_place) (line_shown l)
 lead_shown at (happen held) = ap (λ (is : Items). Covered (Listed (at.0 ∷ [])) is) (items_shown held)
 lead_shown at (list others held) = ap (λ (is : Items). Covered (Listed (at.0 ∷ others)) is) (items_shown held)
 lead_shown at (declare (k, None)) = refl
@@ -261,26 +261,26 @@ lead_shown at (declare (k, Some r)) = refl
 lead_shown at finish = refl
 
 -- not a list of instances
-abbrev Plain : Line → Type 0
+abbrev Plain : LedLine → Type 0
 Plain (happen held) = Unit {0}
 Plain (list others held) = ⊥
 Plain (declare d) = Unit {0}
 Plain finish = Unit {0}
 
 -- behind the colon
-abbrev rest : Line → Words
+abbrev rest : LedLine → Words
 rest (happen held) = items_words (items held)
 rest (list others held) = []
 rest (declare d) = codes "instance" ∷ (d.0 ++ (refined_words (chart_in d.1) ++ end_words))
 rest finish = codes "endinstance" ∷ end_words
 
-plain_known : (l : Line) → Plain l → Known l
+plain_known : (l : LedLine) → Plain l → Known l
 plain_known (happen held) m = tt
 plain_known (list others held) m = absurd m
 plain_known (declare d) m = tt
 plain_known finish m = tt
 
-colon_is : (l : Line) → Plain l → line_words l ≡ codes ":" ∷ rest l
+colon_is : (l : LedLine) → Plain l → line_words l ≡ codes ":" ∷ rest l
 colon_is (happen held) m = refl
 colon_is (list others held) m = absurd m
 colon_is (declare d) m = refl

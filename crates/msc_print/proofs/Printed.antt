@@ -4,7 +4,7 @@ use Rattle.std.proofs.lemmas.Bool.Decides.{nat_tests}
 use Rattle.msc_base.specs.declared.place.Place.{Place}
 use Rattle.msc_tokens.specs.declared.token.Token.{Token}
 use Rattle.msc_tokens.specs.Places.{first_place, past}
-use Rattle.msc_tokens.specs.Spelling.{IsPair, Piece, Blank, Note, OneWord, OneString, OneMark, LongMark, text, tokens_from, IsWellCut, Spells}
+use Rattle.msc_tokens.specs.Spelling.{IsPair, TextPiece, Blank, Note, OneWord, OneString, OneMark, LongMark, text, tokens_from, IsWellCut, Spells}
 use Rattle.msc_tree.specs.Charts.{Document}
 use Rattle.token_grammar.specs.Classes.{is_string}
 use Rattle.msc_document.specs.DocumentGrammar.{document}
@@ -16,7 +16,7 @@ use Rattle.msc_print.proofs.DocumentBack.{document_tidy}
 long_mark : (b c : ℕ) → IsPair b c → is_string (b ∷ c ∷ []) ≡ true → ⊥
 long_mark b c pair is = grind (arith, nat_tests)
 
-proper_pieces : (p : Place) (xs : List Piece) (rest : List ℕ) → IsWellCut xs rest → Proper (tokens_from p xs)
+proper_pieces : (p : Place) (xs : List TextPiece) (rest : List ℕ) → IsWellCut xs rest → Proper (tokens_from p xs)
 proper_pieces p [] rest h = tt
 proper_pieces p (Blank b ∷ xs) rest h = proper_pieces (past p (text (Blank b))) xs rest h.2
 proper_pieces p (Note bs ∷ xs) rest h = proper_pieces (past p (text (Note bs))) xs rest h.2

@@ -9,14 +9,14 @@ use Rattle.msc_base.specs.Names.{IsWordByte}
 use Rattle.msc_base.specs.Lists.{IsAmong}
 use Rattle.msc_tokens.specs.declared.token.Token.{Token}
 use Rattle.msc_tokens.specs.Places.{first_place, past}
-use Rattle.msc_tokens.specs.Spelling.{IsBlank, IsPair, BeginsWith, Piece, Blank, OneWord, OneString, OneMark, text, bytes_of, token_of, tokens_from, IsPiece, Ends, IsWellCut}
+use Rattle.msc_tokens.specs.Spelling.{IsBlank, IsPair, BeginsWith, TextPiece, Blank, OneWord, OneString, OneMark, text, bytes_of, token_of, tokens_from, IsPiece, Ends, IsWellCut}
 use Rattle.token_grammar.specs.Classes.{is_one_of}
 use Rattle.token_grammar.specs.Languages.{texts}
 use Rattle.msc_print.specs.Words.{Words}
 use Rattle.msc_print.specs.Layout.{ends_line, joins_before, joins_behind, gap, laid_out}
 use Rattle.msc_print.specs.Texts.{IsText, word, quoted, mark, Parts, AreTexts, SpellsTexts}
 
-abbrev piece_of : (w : List ℕ) → IsText w → Piece
+abbrev piece_of : (w : List ℕ) → IsText w → TextPiece
 piece_of w (word h) = OneWord w
 piece_of w (quoted ps e h) = OneString ps
 piece_of w (mark b e h) = OneMark b
@@ -106,8 +106,8 @@ ends_opening : (w : List ℕ) (t : IsText w) (v : List ℕ) (r : Words) → IsTe
 ends_opening w t v r tv m apart = by (one_of (codes "(" ∷ codes "<" ∷ []) w m)
   where
     by : IsAmong (codes "(" ∷ codes "<" ∷ []) w → Ends (piece_of w t) (v ++ (gap v r ++ laid_out r))
-    by (inl e) = subst (λ (p : Piece). Ends p (v ++ (gap v r ++ laid_out r))) (sym (one_byte 40 w t e (λ k. grind arith) (λ k. omega arith))) (no_pair (v ++ (gap v r ++ laid_out r)))
-    by (inr (inl e)) = subst (λ (p : Piece). Ends p (v ++ (gap v r ++ laid_out r))) (sym (one_byte 60 w t e (λ k. grind arith) (λ k. omega arith)))
+    by (inl e) = subst (λ (p : TextPiece). Ends p (v ++ (gap v r ++ laid_out r))) (sym (one_byte 40 w t e (λ k. grind arith) (λ k. omega arith))) (no_pair (v ++ (gap v r ++ laid_out r)))
+    by (inr (inl e)) = subst (λ (p : TextPiece). Ends p (v ++ (gap v r ++ laid_out r))) (sym (one_byte 60 w t e (λ k. grind arith) (λ k. omega arith)))
         (λ k. begins_open v tv (gap v r ++ laid_out r) (apart e) (pair_opens (v ++ (gap v r ++ laid_out r)) k))
     by (inr (inr k)) = absurd k
 
@@ -128,14 +128,14 @@ behind w t (v ∷ r) a p = by (ends_line w) (joins_behind w) (joins_before v) re
         inr (rw (i, k, l) refl, subst (λ (z : List ℕ). Ends (piece_of w t) (z ++ (gap v r ++ laid_out r))) (sym c.1) (ends_closing w t c.0 (gap v r ++ laid_out r) c.2 (λ f h. p.1 f (c.1 ∙ ap (λ (z : ℕ). z ∷ []) h))))
     by false false false i k l = inl (32, inr (inr (inr refl)), rw (i, k, l) refl)
 
-abbrev IsCut : Words → List Piece → Type 0
+abbrev IsCut : Words → List TextPiece → Type 0
 IsCut words pieces = (laid_out words ≡ bytes_of pieces) × IsWellCut pieces [] × ((p : Place) → texts (tokens_from p pieces) ≡ words)
 
-build : (words : Words) → AreTexts words → (pieces : List Piece) × IsCut words pieces
+build : (words : Words) → AreTexts words → (pieces : List TextPiece) × IsCut words pieces
 build [] a = ([], (refl, tt, λ p. refl))
 build (w ∷ rest) a = by (build rest a.2) (behind w a.0 rest a.2 a.1)
   where
-    by : (pieces : List Piece) × IsCut rest pieces → ((g : ℕ) × IsBlank g × (gap w rest ≡ g ∷ [])) ⊎ ((gap w rest ≡ []) × Ends (piece_of w a.0) (laid_out rest)) → (pieces : List Piece) × IsCut (w ∷ rest) pieces
+    by : (pieces : List TextPiece) × IsCut rest pieces → ((g : ℕ) × IsBlank g × (gap w rest ≡ g ∷ [])) ⊎ ((gap w rest ≡ []) × Ends (piece_of w a.0) (laid_out rest)) → (pieces : List TextPiece) × IsCut (w ∷ rest) pieces
     by r (inl b) =
         let x = piece_of w a.0 in
         let next = λ (p : Place). past (past p (text x)) (b.0 ∷ []) in (

@@ -2,14 +2,14 @@
 use Rattle.std.specs.Prelude.{ℕ, ◌≡◌, List, [], ◌∷◌, ◌++◌, codes}
 use Rattle.msc_base.specs.Names.{IsWord}
 use Rattle.msc_tokens.specs.declared.token.Token.{Token}
-use Rattle.msc_tokens.specs.Spelling.{Part, held, AreParts, IsMark, Spells}
+use Rattle.msc_tokens.specs.Spelling.{StringPart, held, AreParts, IsMark, Spells}
 use Rattle.token_grammar.specs.Languages.{texts}
 use Rattle.msc_print.specs.Words.{Words}
 
 -- the text of a token: a word, a string, or a mark of one byte
 pub data IsText (w : List ℕ) : Type 0 where
   word : IsWord w → IsText w
-  quoted : (ps : List Part) → w ≡ 39 ∷ (held ps ++ 39 ∷ []) → AreParts ps → IsText w
+  quoted : (ps : List StringPart) → w ≡ 39 ∷ (held ps ++ 39 ∷ []) → AreParts ps → IsText w
   mark : (b : ℕ) → w ≡ b ∷ [] → IsMark b → IsText w
 
 -- the first of these isn't `<` behind `<`, nor `>` behind `>`

@@ -12,14 +12,14 @@ use Rattle.msc_tokens.specs.declared.mode.Mode.TheVariants as mode
 use Rattle.msc_tokens.specs.ByteTests.{has_letter}
 use Rattle.msc_tokens.specs.Places.{first_place, after_byte, past}
 use Rattle.msc_tokens.specs.Machine.{step, first_state}
-use Rattle.msc_tokens.specs.Spelling.{BeginsWith, IsApostrophe, IsStar, Part, held, AreParts, IsNoted, Piece, Blank, Note, OneWord, OneString, OneMark, LongMark, text, bytes_of, token_of, tokens_from, IsPiece, Ends, IsWellCut, Breaks, long_word, bad_word, bad_byte, lone_slash, open_string, open_note, bad_in_string, bad_in_note, Spells, HasLexFault}
+use Rattle.msc_tokens.specs.Spelling.{BeginsWith, IsApostrophe, IsStar, StringPart, held, AreParts, IsNoted, TextPiece, Blank, Note, OneWord, OneString, OneMark, LongMark, text, bytes_of, token_of, tokens_from, IsPiece, Ends, IsWellCut, BreaksSpelling, long_word, bad_word, bad_byte, lone_slash, open_string, open_note, bad_in_string, bad_in_note, Spells, HasLexFault}
 use Rattle.msc_tokens.proofs.ByteFacts.{test_false, equal_test, letters_test, class_is_blank, class_is_word, class_is_mark, class_is_other}
 use Rattle.msc_tokens.proofs.Cutting.{past-append}
 use Rattle.msc_tokens.proofs.Soundness.{answer}
 use Rattle.msc_tokens.proofs.Running.{stand, bad_stays, begins, word_runs, word_ends, word_fails, long_runs, parts_run, quote_ends, string_breaks, note_runs, note_closes, note_stays, note_breaks, mark_ends, mark_grows, pair_mark}
 
 -- the machine takes a piece, and stands behind it with its token
-abbrev Takes : Piece → List ℕ → Place → List ℕ → Place → List Token → Type 0
+abbrev Takes : TextPiece → List ℕ → Place → List ℕ → Place → List Token → Type 0
 Takes x rest st tx pl tk = (start : Place) × (kept : List ℕ)
     × (answer (stand mode.Between st tx pl tk) (text x ++ rest) ≡ answer (stand mode.Between start kept (past pl (text x)) (tk ++ token_of pl x)) rest)
 
@@ -73,7 +73,7 @@ takes_word (c ∷ v) rest st tx pl tk h free = (
       ∙ word_ends rest pl (c ∷ v) (past pl (c ∷ v)) tk ((letters_test (c ∷ v)).1 h.has_one) free,
 )
 
-takes_string : (ps : List Part) (rest : List ℕ) (st : Place) (tx : List ℕ) (pl : Place) (tk : List Token) → AreParts ps → (BeginsWith IsApostrophe rest → ⊥) → Takes (OneString ps) rest st tx pl tk
+takes_string : (ps : List StringPart) (rest : List ℕ) (st : Place) (tx : List ℕ) (pl : Place) (tk : List Token) → AreParts ps → (BeginsWith IsApostrophe rest → ⊥) → Takes (OneString ps) rest st tx pl tk
 takes_string ps rest st tx pl tk h free =
     let inside : Place = after_byte pl 39 in (
       pl,
@@ -86,7 +86,7 @@ takes_string ps rest st tx pl tk h free =
           ∙ ap (λ (p : Place). answer (stand mode.Between pl [] p (tk ++ token_of pl (OneString ps))) rest) (sym (past-append inside (held ps) (39 ∷ []))),
     )
 
-takes : (x : Piece) (rest : List ℕ) (st : Place) (tx : List ℕ) (pl : Place) (tk : List Token) → IsPiece x → Ends x rest → Takes x rest st tx pl tk
+takes : (x : TextPiece) (rest : List ℕ) (st : Place) (tx : List ℕ) (pl : Place) (tk : List Token) → IsPiece x → Ends x rest → Takes x rest st tx pl tk
 takes (Blank b) rest st tx pl tk is ends = (
   st,
   tx,
@@ -113,7 +113,7 @@ abbrev pub list_of : List Token → Place → TokenList
 list_of tokens end_place = record { tokens = tokens; end_place = end_place }
 
 -- a row of pieces is answered by its tokens
-row_answer : (pieces : List Piece) (st : Place) (tx : List ℕ) (pl : Place) (tk : List Token) → IsWellCut pieces []
+row_answer : (pieces : List TextPiece) (st : Place) (tx : List ℕ) (pl : Place) (tk : List Token) → IsWellCut pieces []
     → answer (stand mode.Between st tx pl tk) (bytes_of pieces) ≡ Ok (list_of (tk ++ tokens_from pl pieces) (past pl (bytes_of pieces)))
 row_answer [] st tx pl tk h = ap (λ (ts : List Token). let r : Result TokenList LexFault = Ok (list_of ts pl) in r) (sym (append-nil tk))
 row_answer (x ∷ xs) st tx pl tk h =
@@ -123,7 +123,7 @@ row_answer (x ∷ xs) st tx pl tk h =
     (append_assoc tk (token_of pl x) (tokens_from (past pl (text x)) xs)) (sym (past-append pl (text x) (bytes_of xs)))
 
 -- what begins no piece is answered by its fault
-break_answer : (rest : List ℕ) (f : LexFault) (st : Place) (tx : List ℕ) (pl : Place) (tk : List Token) → Breaks pl rest f
+break_answer : (rest : List ℕ) (f : LexFault) (st : Place) (tx : List ℕ) (pl : Place) (tk : List Token) → BreaksSpelling pl rest f
     → answer (stand mode.Between st tx pl tk) rest ≡ Err f
 break_answer rest f st tx pl tk (long_word [] behind is all count f_is) = absurd (omega (arith, count))
 break_answer rest f st tx pl tk (long_word (c ∷ v) behind is all count f_is) =
@@ -176,14 +176,14 @@ break_answer rest f st tx pl tk (bad_in_note bs b behind is noted outside f_is) 
     ∙ ap refused_as (sym f_is)
 
 -- a row of pieces and what begins none is answered by the fault
-broken_answer : (pieces : List Piece) (rest : List ℕ) (f : LexFault) (st : Place) (tx : List ℕ) (pl : Place) (tk : List Token) → IsWellCut pieces rest
-    → Breaks (past pl (bytes_of pieces)) rest f → answer (stand mode.Between st tx pl tk) (bytes_of pieces ++ rest) ≡ Err f
+broken_answer : (pieces : List TextPiece) (rest : List ℕ) (f : LexFault) (st : Place) (tx : List ℕ) (pl : Place) (tk : List Token) → IsWellCut pieces rest
+    → BreaksSpelling (past pl (bytes_of pieces)) rest f → answer (stand mode.Between st tx pl tk) (bytes_of pieces ++ rest) ≡ Err f
 broken_answer [] rest f st tx pl tk h breaks = break_answer rest f st tx pl tk breaks
 broken_answer (x ∷ xs) rest f st tx pl tk h breaks =
     let t = takes x (bytes_of xs ++ rest) st tx pl tk h.0 h.1 in
     ap (λ (bytes : List ℕ). answer (stand mode.Between st tx pl tk) bytes) (append_assoc (text x) (bytes_of xs) rest)
     ∙ t.2
-    ∙ broken_answer xs rest f t.0 t.1 (past pl (text x)) (tk ++ token_of pl x) h.2 (subst (λ (p : Place). Breaks p rest f) (past-append pl (text x) (bytes_of xs)) breaks)
+    ∙ broken_answer xs rest f t.0 t.1 (past pl (text x)) (tk ++ token_of pl x) h.2 (subst (λ (p : Place). BreaksSpelling p rest f) (past-append pl (text x) (bytes_of xs)) breaks)
 
 -- the tokens of a text are what the machine answers
 pub spells_answer : (bytes : List ℕ) (tokens : List Token) → Spells bytes tokens → answer first_state bytes ≡ Ok (list_of tokens (past first_place bytes))

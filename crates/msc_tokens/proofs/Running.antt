@@ -14,7 +14,7 @@ use Rattle.msc_tokens.specs.declared.mode.Mode.TheVariants as mode
 use Rattle.msc_tokens.specs.ByteTests.{is_inside, has_letter, is_pair, class_of}
 use Rattle.msc_tokens.specs.Places.{after_byte, past}
 use Rattle.msc_tokens.specs.Machine.{State, in_mode, grown, closed, refused, begun_as, begun, step, listed, ended}
-use Rattle.msc_tokens.specs.Spelling.{IsInside, IsMark, IsPair, BeginsWith, IsApostrophe, IsSlash, Part, Plain, Doubled, held, AreParts, IsNoted}
+use Rattle.msc_tokens.specs.Spelling.{IsInside, IsMark, IsPair, BeginsWith, IsApostrophe, IsSlash, StringPart, Plain, Doubled, held, AreParts, IsNoted}
 use Rattle.msc_tokens.proofs.ByteFacts.{test_false, equal_test, word_test, inside_test, pair_test, star_inside}
 use Rattle.msc_tokens.proofs.Soundness.{answer}
 use Rattle.msc_tokens.proofs.Wholes.{begins as begins_at, word_runs as runs_in_word, word_ends as ends_word}
@@ -85,7 +85,7 @@ long_runs (c ∷ v) rest st tx pl tk h short long =
     go later false e = long_stays (v ++ rest) st tx pl tk
 
 -- an open string takes its parts
-pub parts_run : (ps : List Part) (rest : List ℕ) (st : Place) (tx : List ℕ) (pl : Place) (tk : List Token) → AreParts ps
+pub parts_run : (ps : List StringPart) (rest : List ℕ) (st : Place) (tx : List ℕ) (pl : Place) (tk : List Token) → AreParts ps
     → answer (stand mode.Str st tx pl tk) (held ps ++ rest) ≡ answer (stand mode.Str st (tx ++ held ps) (past pl (held ps)) tk) rest
 unfolding step
 parts_run [] rest st tx pl tk h = ap (λ (bs : List ℕ). answer (stand mode.Str st bs pl tk) rest) (sym (append-nil tx))

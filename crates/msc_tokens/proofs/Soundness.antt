@@ -17,7 +17,7 @@ use Rattle.msc_tokens.specs.declared.mode.Mode.TheVariants as mode
 use Rattle.msc_tokens.specs.ByteTests.{is_inside, has_letter, is_pair, makes_pair, class_of}
 use Rattle.msc_tokens.specs.Places.{first_place, after_byte, past}
 use Rattle.msc_tokens.specs.Machine.{State, in_mode, opened, passed, grown, closed, refused, begun_as, begun, next, step, first_state, listed, ended}
-use Rattle.msc_tokens.specs.Spelling.{IsInside, IsMark, IsPair, IsSlash, IsStar, Part, Plain, Doubled, held, AreParts, IsNoted, Piece, Blank, Note, OneWord, OneString, OneMark, LongMark, text, token_of, IsPiece, Ends, Breaks, long_word, bad_word, bad_byte, lone_slash, open_string, open_note, bad_in_string, bad_in_note}
+use Rattle.msc_tokens.specs.Spelling.{IsInside, IsMark, IsPair, IsSlash, IsStar, StringPart, Plain, Doubled, held, AreParts, IsNoted, TextPiece, Blank, Note, OneWord, OneString, OneMark, LongMark, text, token_of, IsPiece, Ends, BreaksSpelling, long_word, bad_word, bad_byte, lone_slash, open_string, open_note, bad_in_string, bad_in_note}
 use Rattle.msc_tokens.proofs.ByteFacts.{not_when_false, equal_test, star_inside, star_no_slash, word_test, inside_test, pair_test, letters_test, blank_class, word_class, apostrophe_class, slash_class, mark_class, other_class}
 use Rattle.msc_tokens.proofs.Cutting.{past-append, Reads, piece_more, broken_here}
 
@@ -40,14 +40,14 @@ record IsKept (s : State) (pend : List ℕ) (at : Place) : Type 0 where
 abbrev Open : Mode → State → List ℕ → Place → Type 0
 Open mode.Between s pend at = (pend ≡ []) × (s.place ≡ at)
 Open mode.Word s pend at = IsKept s pend at × All IsWordByte pend × (0 < length pend) × (length pend ≤ 255)
-Open mode.Str s pend at = (ps : List Part) × IsKept s pend at × AreParts ps × (pend ≡ 39 ∷ held ps)
-Open mode.Quote s pend at = (ps : List Part) × IsKept s pend at × AreParts ps × (pend ≡ 39 ∷ (held ps ++ 39 ∷ []))
+Open mode.Str s pend at = (ps : List StringPart) × IsKept s pend at × AreParts ps × (pend ≡ 39 ∷ held ps)
+Open mode.Quote s pend at = (ps : List StringPart) × IsKept s pend at × AreParts ps × (pend ≡ 39 ∷ (held ps ++ 39 ∷ []))
 Open mode.Slash s pend at = (s.start ≡ at) × (s.place ≡ past at pend) × (pend ≡ 47 ∷ [])
 Open mode.Note s pend at = (bs : List ℕ) × (s.start ≡ at) × (s.place ≡ past at pend) × IsNoted bs × (EndsInStar bs → ⊥) × (pend ≡ 47 ∷ 42 ∷ bs)
 Open mode.Star s pend at = (bs : List ℕ) × (s.start ≡ at) × (s.place ≡ past at pend) × IsNoted (bs ++ 42 ∷ []) × (pend ≡ 47 ∷ 42 ∷ (bs ++ 42 ∷ []))
 Open mode.Mark s pend at = (b : ℕ) × IsKept s pend at × IsMark b × (pend ≡ b ∷ [])
-Open mode.BadByte s pend at = (more : List ℕ) → Breaks at (pend ++ more) (fault.BadByte s.start)
-Open mode.LongName s pend at = (more : List ℕ) → Breaks at (pend ++ more) (fault.LongName s.start)
+Open mode.BadByte s pend at = (more : List ℕ) → BreaksSpelling at (pend ++ more) (fault.BadByte s.start)
+Open mode.LongName s pend at = (more : List ℕ) → BreaksSpelling at (pend ++ more) (fault.LongName s.start)
 
 -- a text that ends where nothing is open
 nothing_more : (s : State) → Reads s.place s.tokens [] (Ok (listed s))
@@ -57,7 +57,7 @@ abbrev one_token : TokenKind → List ℕ → Place → List Token
 one_token k bs p = (record { kind = k; bytes = bs; place = p }) ∷ []
 
 -- the open token ends before the bytes that follow
-ending : (x : Piece) (k : TokenKind) (s : State) (at : Place) (bytes : List ℕ) (a : Result TokenList LexFault) → IsPiece x → Ends x bytes
+ending : (x : TextPiece) (k : TokenKind) (s : State) (at : Place) (bytes : List ℕ) (a : Result TokenList LexFault) → IsPiece x → Ends x bytes
     → ((p : Place) → token_of p x ≡ one_token k (text x) p) → IsKept s (text x) at
     → Reads (closed k s).place (closed k s).tokens bytes a → Reads at s.tokens (text x ++ bytes) a
 ending x k s at bytes a is ends one kept h = piece_more x at s.tokens bytes a is ends
@@ -119,12 +119,12 @@ ends_in [] c h = h
 ends_in (b ∷ []) c h = h
 ends_in (b ∷ d ∷ bs) c h = ends_in (d ∷ bs) c h
 
-held_more : (ps : List Part) (p : Part) → held (ps ++ p ∷ []) ≡ held ps ++ held (p ∷ [])
+held_more : (ps : List StringPart) (p : StringPart) → held (ps ++ p ∷ []) ≡ held ps ++ held (p ∷ [])
 held_more [] p = refl
 held_more (Plain b ∷ ps) p = ap (λ (bs : List ℕ). b ∷ bs) (held_more ps p)
 held_more (Doubled ∷ ps) p = ap (λ (bs : List ℕ). 39 ∷ 39 ∷ bs) (held_more ps p)
 
-parts_more : (ps : List Part) (p : Part) → AreParts ps → AreParts (p ∷ []) → AreParts (ps ++ p ∷ [])
+parts_more : (ps : List StringPart) (p : StringPart) → AreParts ps → AreParts (p ∷ []) → AreParts (ps ++ p ∷ [])
 parts_more [] p h k = k
 parts_more (Plain b ∷ ps) p h k = (h.0, h.1, parts_more ps p h.2 k)
 parts_more (Doubled ∷ ps) p h k = parts_more ps p h k
@@ -328,9 +328,9 @@ known_next bytes known mode.Note s c pend at is h = known_in_note bytes known s 
 known_next bytes known mode.Star s c pend at is h = known_behind_star bytes known s c pend at h
 known_next bytes known mode.Mark s c pend at is h = known_behind_mark bytes known s c pend at h
 known_next bytes known mode.BadByte s c pend at is h = more_open at s.tokens pend c bytes (answer s bytes)
-    (known mode.BadByte s (pend ++ c ∷ []) at is (λ more. subst (λ (bs : List ℕ). Breaks at bs (fault.BadByte s.start)) (sym (append_assoc pend (c ∷ []) more)) (h (c ∷ more))))
+    (known mode.BadByte s (pend ++ c ∷ []) at is (λ more. subst (λ (bs : List ℕ). BreaksSpelling at bs (fault.BadByte s.start)) (sym (append_assoc pend (c ∷ []) more)) (h (c ∷ more))))
 known_next bytes known mode.LongName s c pend at is h = more_open at s.tokens pend c bytes (answer s bytes)
-    (known mode.LongName s (pend ++ c ∷ []) at is (λ more. subst (λ (bs : List ℕ). Breaks at bs (fault.LongName s.start)) (sym (append_assoc pend (c ∷ []) more)) (h (c ∷ more))))
+    (known mode.LongName s (pend ++ c ∷ []) at is (λ more. subst (λ (bs : List ℕ). BreaksSpelling at bs (fault.LongName s.start)) (sym (append_assoc pend (c ∷ []) more)) (h (c ∷ more))))
 
 -- the text ends
 known_end : (m : Mode) (s : State) (pend : List ℕ) (at : Place) → Open m s pend at → Reads at s.tokens (pend ++ []) (ended m s)

@@ -40,16 +40,16 @@ abbrev pub IsStar : ℕ → Type 0
 IsStar b = b ≡ 42
 
 -- a part of what a string holds: a byte, or an apostrophe, which is doubled
-pub data Part : Type 0 where
-  Plain : ℕ → Part
-  Doubled : Part
+pub data StringPart : Type 0 where
+  Plain : ℕ → StringPart
+  Doubled : StringPart
 
-abbrev pub held : List Part → List ℕ
+abbrev pub held : List StringPart → List ℕ
 held [] = []
 held (Plain b ∷ ps) = b ∷ held ps
 held (Doubled ∷ ps) = 39 ∷ 39 ∷ held ps
 
-abbrev pub AreParts : List Part → Type 0
+abbrev pub AreParts : List StringPart → Type 0
 AreParts [] = Unit {0}
 AreParts (Plain b ∷ ps) = IsInside b × (b ≢ 39) × AreParts ps
 AreParts (Doubled ∷ ps) = AreParts ps
@@ -60,15 +60,15 @@ IsNoted [] = Unit {0}
 IsNoted (b ∷ bs) = IsInside b × (IsStar b → BeginsWith IsSlash bs → ⊥) × IsNoted bs
 
 -- a part of a text: a blank, a note with what it holds, or what a token takes
-pub data Piece : Type 0 where
-  Blank : ℕ → Piece
-  Note : List ℕ → Piece
-  OneWord : List ℕ → Piece
-  OneString : List Part → Piece
-  OneMark : ℕ → Piece
-  LongMark : ℕ → ℕ → Piece
+pub data TextPiece : Type 0 where
+  Blank : ℕ → TextPiece
+  Note : List ℕ → TextPiece
+  OneWord : List ℕ → TextPiece
+  OneString : List StringPart → TextPiece
+  OneMark : ℕ → TextPiece
+  LongMark : ℕ → ℕ → TextPiece
 
-abbrev pub text : Piece → List ℕ
+abbrev pub text : TextPiece → List ℕ
 text (Blank b) = b ∷ []
 text (Note bs) = 47 ∷ 42 ∷ (bs ++ 42 ∷ 47 ∷ [])
 text (OneWord w) = w
@@ -76,12 +76,12 @@ text (OneString ps) = 39 ∷ (held ps ++ 39 ∷ [])
 text (OneMark b) = b ∷ []
 text (LongMark b c) = b ∷ c ∷ []
 
-abbrev pub bytes_of : List Piece → List ℕ
+abbrev pub bytes_of : List TextPiece → List ℕ
 bytes_of [] = []
 bytes_of (x ∷ xs) = text x ++ bytes_of xs
 
 -- the token that a piece is, at its place
-abbrev pub token_of : Place → Piece → List Token
+abbrev pub token_of : Place → TextPiece → List Token
 token_of p (Blank b) = []
 token_of p (Note bs) = []
 token_of p (OneWord w) = (record { kind = Word; bytes = w; place = p }) ∷ []
@@ -89,11 +89,11 @@ token_of p (OneString ps) = (record { kind = Str; bytes = 39 ∷ (held ps ++ 39 
 token_of p (OneMark b) = (record { kind = Mark; bytes = b ∷ []; place = p }) ∷ []
 token_of p (LongMark b c) = (record { kind = Mark; bytes = b ∷ c ∷ []; place = p }) ∷ []
 
-abbrev pub tokens_from : Place → List Piece → List Token
+abbrev pub tokens_from : Place → List TextPiece → List Token
 tokens_from p [] = []
 tokens_from p (x ∷ xs) = token_of p x ++ tokens_from (past p (text x)) xs
 
-abbrev pub IsPiece : Piece → Type 0
+abbrev pub IsPiece : TextPiece → Type 0
 IsPiece (Blank b) = IsBlank b
 IsPiece (Note bs) = IsNoted bs
 IsPiece (OneWord w) = IsWord w
@@ -102,7 +102,7 @@ IsPiece (OneMark b) = IsMark b
 IsPiece (LongMark b c) = IsPair b c
 
 -- what follows a piece doesn't make it longer
-abbrev pub Ends : Piece → List ℕ → Type 0
+abbrev pub Ends : TextPiece → List ℕ → Type 0
 Ends (Blank b) rest = Unit {0}
 Ends (Note bs) rest = Unit {0}
 Ends (OneWord w) rest = BeginsWith IsWordByte rest → ⊥
@@ -111,13 +111,13 @@ Ends (OneMark b) rest = BeginsWith (IsPair b) rest → ⊥
 Ends (LongMark b c) rest = Unit {0}
 
 -- each of the pieces is one, and ends before what follows
-abbrev pub IsWellCut : List Piece → List ℕ → Type 0
+abbrev pub IsWellCut : List TextPiece → List ℕ → Type 0
 IsWellCut [] rest = Unit {0}
 IsWellCut (x ∷ xs) rest = IsPiece x × Ends x (bytes_of xs ++ rest) × IsWellCut xs rest
 
 -- the bytes are a row of pieces, and these are its tokens
 pub record Spells (bytes : List ℕ) (tokens : List Token) : Type 0 where
-  pub pieces : List Piece
+  pub pieces : List TextPiece
   pub spelled : bytes ≡ bytes_of pieces
   pub cut : IsWellCut pieces []
   pub tokens_are : tokens ≡ tokens_from first_place pieces
@@ -131,33 +131,33 @@ pub record BeginsNothing (b : ℕ) : Type 0 where
   pub no_mark : IsMark b → ⊥
 
 -- the rest of a text, which begins at this place, begins no piece for this fault
-pub data Breaks (at : Place) (rest : List ℕ) (fault : LexFault) : Type 0 where
+pub data BreaksSpelling (at : Place) (rest : List ℕ) (fault : LexFault) : Type 0 where
   -- so many bytes are of a word, one more than a name may have
-  long_word : (w behind : List ℕ) → rest ≡ w ++ behind → All IsWordByte w → length w ≡ NAME_BYTES + 1 → fault ≡ LongName at → Breaks at rest fault
+  long_word : (w behind : List ℕ) → rest ≡ w ++ behind → All IsWordByte w → length w ≡ NAME_BYTES + 1 → fault ≡ LongName at → BreaksSpelling at rest fault
   -- a word that is short enough has no letter or digit
   bad_word : (w behind : List ℕ) → rest ≡ w ++ behind → All IsWordByte w → (BeginsWith IsWordByte behind → ⊥) → 0 < length w → length w ≤ NAME_BYTES
-      → (Any IsLetterOrDigit w → ⊥) → fault ≡ BadByte at → Breaks at rest fault
-  bad_byte : (b : ℕ) (behind : List ℕ) → rest ≡ b ∷ behind → BeginsNothing b → fault ≡ BadByte at → Breaks at rest fault
+      → (Any IsLetterOrDigit w → ⊥) → fault ≡ BadByte at → BreaksSpelling at rest fault
+  bad_byte : (b : ℕ) (behind : List ℕ) → rest ≡ b ∷ behind → BeginsNothing b → fault ≡ BadByte at → BreaksSpelling at rest fault
   -- a `/` that begins no note
-  lone_slash : (behind : List ℕ) → rest ≡ 47 ∷ behind → (BeginsWith IsStar behind → ⊥) → fault ≡ BadByte at → Breaks at rest fault
+  lone_slash : (behind : List ℕ) → rest ≡ 47 ∷ behind → (BeginsWith IsStar behind → ⊥) → fault ≡ BadByte at → BreaksSpelling at rest fault
   -- the text ends inside a string
-  open_string : (ps : List Part) → rest ≡ 39 ∷ held ps → AreParts ps → fault ≡ OpenString at → Breaks at rest fault
+  open_string : (ps : List StringPart) → rest ≡ 39 ∷ held ps → AreParts ps → fault ≡ OpenString at → BreaksSpelling at rest fault
   -- the text ends inside a note
-  open_note : (bs : List ℕ) → rest ≡ 47 ∷ 42 ∷ bs → IsNoted bs → fault ≡ OpenNote at → Breaks at rest fault
+  open_note : (bs : List ℕ) → rest ≡ 47 ∷ 42 ∷ bs → IsNoted bs → fault ≡ OpenNote at → BreaksSpelling at rest fault
   -- a byte that a string can't hold
-  bad_in_string : (ps : List Part) (b : ℕ) (behind : List ℕ) → rest ≡ (39 ∷ held ps) ++ b ∷ behind → AreParts ps → (IsInside b → ⊥)
-      → fault ≡ BadByte (past at (39 ∷ held ps)) → Breaks at rest fault
+  bad_in_string : (ps : List StringPart) (b : ℕ) (behind : List ℕ) → rest ≡ (39 ∷ held ps) ++ b ∷ behind → AreParts ps → (IsInside b → ⊥)
+      → fault ≡ BadByte (past at (39 ∷ held ps)) → BreaksSpelling at rest fault
   -- a byte that a note can't hold
   bad_in_note : (bs : List ℕ) (b : ℕ) (behind : List ℕ) → rest ≡ (47 ∷ 42 ∷ bs) ++ b ∷ behind → IsNoted bs → (IsInside b → ⊥)
-      → fault ≡ BadByte (past at (47 ∷ 42 ∷ bs)) → Breaks at rest fault
+      → fault ≡ BadByte (past at (47 ∷ 42 ∷ bs)) → BreaksSpelling at rest fault
 
 -- the bytes are a row of pieces and a rest that begins none: the first fault of the text
 pub record HasLexFault (bytes : List ℕ) (fault : LexFault) : Type 0 where
-  pub pieces : List Piece
+  pub pieces : List TextPiece
   pub rest : List ℕ
   pub spelled : bytes ≡ bytes_of pieces ++ rest
   pub cut : IsWellCut pieces rest
-  pub breaks : Breaks (past first_place (bytes_of pieces)) rest fault
+  pub breaks : BreaksSpelling (past first_place (bytes_of pieces)) rest fault
 
 -- the fault of each text that begins with these bytes
 abbrev pub IsSettled : List ℕ → LexFault → Type 0

@@ -7,7 +7,7 @@ use Rattle.std.proofs.lemmas.Bool.{eq-eqb, eqb-true, and_parts, or_parts}
 use Rattle.std.proofs.lemmas.Bool.Decides.{nat_tests}
 use Rattle.std.proofs.lemmas.List.Folds.{list_any-append}
 use Rattle.bit_sets.specs.Blocks.{BlockValue}
-use Rattle.node_facts.specs.declared.facts.Span.{Span}
+use Rattle.term_facts.specs.declared.facts.Span.{Span}
 use Rattle.chart_term.specs.Facts.{holds_walk, any_walk, row_walk, instances, instances_all, instances_row, misses, row_misses, span_of, lies_in, wider as wider_span}
 use Rattle.chart_term.specs.NormalForms.{NetPermits, only, cut, join_all, and_then, or_skip, unless, choice_of, tie_of, cut_gaps, drop_nil, at_zero, live, has_free, drop_free, lower_of, thin, turns_end, turns_in, numbers, numbers_all, numbers_row}
 use Rattle.chart_term.specs.Properties.{EachTurn}

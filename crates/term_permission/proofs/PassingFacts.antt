@@ -10,7 +10,7 @@ use Rattle.msc_base.specs.Lists.{IsIn}
 use Rattle.chart_term.specs.NormalForms.{some_kept}
 use Rattle.chart_term.specs.Terms.{Tree}
 use Rattle.term_permission.specs.Passing.{ArePassable, IsPassing, HasVisited, HaveCommon}
-use Rattle.term_permission.specs.Remnants.{is_full, Says}
+use Rattle.term_permission.specs.Remnants.{is_full, RemnantSays}
 use Rattle.term_permission.specs.declared.passing.Passable.{Passable}
 use Rattle.term_permission.specs.declared.remnant.Remnant.{Remnant}
 use Rattle.term_permission.specs.declared.remnant.Remnant.TheVariants as remnant
@@ -20,14 +20,14 @@ pub added : (P A B : Type 0) (t : Bool) → (P ↔ (A ⊎ B)) → t ≡ true →
 added P A B t h e = (λ p. elim (h.0 p) [ inl a ↦ inl a | inr b ↦ inr (b, e) ], λ q. elim q [ inl a ↦ h.1 (inl a) | inr b ↦ h.1 (inr b.0) ])
 
 -- what a remnant says
-pub says_none : (left : Remnant) (o : Option Tree) → left ≡ remnant.Fails → Says left o → o ≡ None
-says_none left o e h = subst (λ (r : Remnant). Says r o) e h
+pub says_none : (left : Remnant) (o : Option Tree) → left ≡ remnant.Fails → RemnantSays left o → o ≡ None
+says_none left o e h = subst (λ (r : Remnant). RemnantSays r o) e h
 
-pub says_empty : (left : Remnant) (o : Option Tree) → left ≡ remnant.Empty → Says left o → (some_kept o ≡ true) × (is_full o ≡ false)
-says_empty left o e h = subst (λ (r : Remnant). Says r o) e h
+pub says_empty : (left : Remnant) (o : Option Tree) → left ≡ remnant.Empty → RemnantSays left o → (some_kept o ≡ true) × (is_full o ≡ false)
+says_empty left o e h = subst (λ (r : Remnant). RemnantSays r o) e h
 
-pub says_more : (left : Remnant) (o : Option Tree) → left ≡ remnant.More → Says left o → is_full o ≡ true
-says_more left o e h = subst (λ (r : Remnant). Says r o) e h
+pub says_more : (left : Remnant) (o : Option Tree) → left ≡ remnant.More → RemnantSays left o → is_full o ≡ true
+says_more left o e h = subst (λ (r : Remnant). RemnantSays r o) e h
 
 pub full_kept : (o : Option Tree) → is_full o ≡ true → some_kept o ≡ true
 full_kept None h = cc
@@ -56,7 +56,7 @@ module _ (g : Net) (node : ℕ) (left : Remnant) (was : Traversal) (had : Passab
     passing = past;
   }
     where
-      past : (allowed : List ℕ) (kept : ℕ → Option Tree) (from : Spot) → (IsIn node allowed ↔ (some_kept (kept node) ≡ true)) → Says left (kept node)
+      past : (allowed : List ℕ) (kept : ℕ → Option Tree) (from : Spot) → (IsIn node allowed ↔ (some_kept (kept node) ≡ true)) → RemnantSays left (kept node)
           → IsPassing g allowed kept from was.reached.nodes (was.waiting.items ++ node ∷ []) had.passed.nodes had.full → IsPassing g allowed kept from was.reached.nodes was.waiting.items had.passed.nodes had.full
       past allowed kept from al says h = record {
         search = search_past g allowed from was.reached (was.waiting.items ++ node ∷ []) was.waiting.items node refl h.search shut;
@@ -73,7 +73,7 @@ module _ (g : Net) (node : ℕ) (left : Remnant) (was : Traversal) (had : Passab
 
   -- a node that is passed
   module _ (is : Traversal) (has : Passable) (size : has.passed.size ≡ had.passed.size) (passed : (n : ℕ) → IsIn n has.passed.nodes ↔ (IsIn n had.passed.nodes ⊎ (n ≡ node))) (entered : HasEntered (behind g (At node)) was.reached was.waiting.items is.reached is.waiting.items) where
-    visited_on : ((o : Option Tree) → Says left o → some_kept o ≡ true) → ((o : Option Tree) → Says left o → (m : ℕ) → IsIn m has.full ↔ (IsIn m had.full ⊎ ((m ≡ node) × (is_full o ≡ true)))) → HasVisited g node left was had is has
+    visited_on : ((o : Option Tree) → RemnantSays left o → some_kept o ≡ true) → ((o : Option Tree) → RemnantSays left o → (m : ℕ) → IsIn m has.full ↔ (IsIn m had.full ⊎ ((m ≡ node) × (is_full o ≡ true)))) → HasVisited g node left was had is has
     visited_on some fulls = record {
       size = size;
       reached = entered.size;
@@ -81,7 +81,7 @@ module _ (g : Net) (node : ℕ) (left : Remnant) (was : Traversal) (had : Passab
       passing = on;
     }
       where
-        on : (allowed : List ℕ) (kept : ℕ → Option Tree) (from : Spot) → (IsIn node allowed ↔ (some_kept (kept node) ≡ true)) → Says left (kept node)
+        on : (allowed : List ℕ) (kept : ℕ → Option Tree) (from : Spot) → (IsIn node allowed ↔ (some_kept (kept node) ≡ true)) → RemnantSays left (kept node)
             → IsPassing g allowed kept from was.reached.nodes (was.waiting.items ++ node ∷ []) had.passed.nodes had.full → IsPassing g allowed kept from is.reached.nodes is.waiting.items has.passed.nodes has.full
         on allowed kept from al says h = record {
           search = search_on g allowed from was.reached (was.waiting.items ++ node ∷ []) was.waiting.items node refl h.search is.reached is.waiting.items there entered;

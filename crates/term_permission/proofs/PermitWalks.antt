@@ -26,7 +26,7 @@ use Rattle.hmsc_graph.specs.declared.search.Traversal.{Traversal}
 use Rattle.term_permission.specs.Passing.{ArePassable, IsPassing, HasVisited, HaveCommon}
 use Rattle.term_permission.specs.declared.passing.Passable.{Passable}
 use Rattle.term_permission.specs.declared.remnant.Remnant.{Remnant}
-use Rattle.term_permission.specs.Remnants.{is_full, Says}
+use Rattle.term_permission.specs.Remnants.{is_full, RemnantSays}
 use Rattle.term_laws.specs.Permission.{permit, permits_of}
 use Rattle.term_permission.specs.Ready.{IsReady, AreReadyTables, IsSpotWithin, IsGoalWithin}
 use Rattle.term_laws.proofs.Measures.{rank_in}
@@ -247,13 +247,13 @@ module _ (w : Tables) (ready : AreReadyTables w) (n : ℕ) (known : n < net_coun
   pub node-below : (reached : NodeSetValue) (waits rest passed full : List ℕ) (node : ℕ) → IsNet g → waits ≡ rest ++ node ∷ [] → Passes reached.nodes waits passed full → node < size_of (net_of w n)
   node-below reached waits rest passed full node net is h = due_below (net_of w n) (allowed (permits_of w) n c) s reached waits rest node is h.search (subst IsNet same net)
 
-  pub passing-next : (node : ℕ) (left : Remnant) (was popped is : Traversal) (had has : Passable) → IsNet g → popped.reached ≡ was.reached → was.waiting.items ≡ popped.waiting.items ++ node ∷ [] → Says left (permit (permits_of w) (only c) (node_of w n node))
+  pub passing-next : (node : ℕ) (left : Remnant) (was popped is : Traversal) (had has : Passable) → IsNet g → popped.reached ≡ was.reached → was.waiting.items ≡ popped.waiting.items ++ node ∷ [] → RemnantSays left (permit (permits_of w) (only c) (node_of w n node))
       → HasVisited g node left popped had is has → had.passed.size ≡ size_of (net_of w n) → was.reached.size ≡ size_of (net_of w n) → Passes was.reached.nodes was.waiting.items had.passed.nodes had.full
       → (has.passed.size ≡ size_of (net_of w n)) × (is.reached.size ≡ size_of (net_of w n)) × Passes is.reached.nodes is.waiting.items has.passed.nodes has.full
   passing-next node left was popped is had has net reached waits says h size sized b =
       let below : node < size_of (net_of w n) = node-below was.reached was.waiting.items popped.waiting.items had.passed.nodes had.full node net waits b in
       let term = node-is w ready n node known (omega (arith, sizes-are w ready n known)) in
-      let told : Says left ((permits_of w).kept n node c) = subst (Says left) (sym (term.kept c)) says in
+      let told : RemnantSays left ((permits_of w).kept n node c) = subst (RemnantSays left) (sym (term.kept c)) says in
       let before : Passes popped.reached.nodes (popped.waiting.items ++ node ∷ []) had.passed.nodes had.full =
       subst (λ l. Passes popped.reached.nodes l had.passed.nodes had.full) waits (subst (λ (r : NodeSetValue). Passes r.nodes was.waiting.items had.passed.nodes had.full) (sym reached) b) in
       let visited : HasVisited (net_of w n) node left popped had is has = subst (λ (f : Net). HasVisited f node left popped had is has) same h in (

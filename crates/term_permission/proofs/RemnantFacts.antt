@@ -8,7 +8,7 @@ use Rattle.chart_term.specs.NormalForms.{NetPermits, and_then, begun, choice_for
 use Rattle.chart_term.specs.Properties.{Each, EachTurn, MayHave}
 use Rattle.chart_term.specs.Terms.{Block, Tree, Nil, Event, Join, Choice, Tied, Loop, Walk, Trees, none, more, items, trees, Part, Gap, Turn}
 use Rattle.term_permission.specs.Lefts.{and_app, opened_left}
-use Rattle.term_permission.specs.Remnants.{is_full, Says, SaysParts, SaysSome, both, either, stays, AreNil, SomeFull, Tallies, TalliesSome}
+use Rattle.term_permission.specs.Remnants.{is_full, RemnantSays, SaysParts, SaysSome, both, either, stays, AreNil, SomeFull, Tallies, TalliesSome}
 use Rattle.term_permission.specs.RowRests.{RowRest, turn_before, kept_before, keep_part, keep_parts}
 use Rattle.term_permission.specs.declared.remnant.Remnant.{Remnant}
 use Rattle.term_permission.specs.declared.remnant.Remnant.TheVariants as remnant
@@ -82,7 +82,7 @@ opened_full k m (Loop x lo hi r) h n = (Loop x lo hi r, [], refl, refl)
 opened_full k m (Walk p s t c) h n = (Walk p s t c, [], refl, refl)
 
 -- what is left of a part
-pub says_opened : (k : NetPermits) (m : Mode) (r : Remnant) (o : Option Tree) → MayHave (IsNormal k) o → Says r o → SaysParts r (option_map (open_part m) o)
+pub says_opened : (k : NetPermits) (m : Mode) (r : Remnant) (o : Option Tree) → MayHave (IsNormal k) o → RemnantSays r o → SaysParts r (option_map (open_part m) o)
 says_opened k m remnant.Fails o n h = ap (option_map (open_part m)) h
 says_opened k m remnant.Empty None n h = let q = h.0 in cc
 says_opened k m remnant.Empty (Some x) n h = ap (λ y. Some (open_part m y)) (empty_nil x h.1)
@@ -135,7 +135,7 @@ tie_full : (y : Tree) (q : List (ℕ × ℕ)) → IsNotNil y → is_full (Some (
 tie_full y [] f = ap not f
 tie_full y (p ∷ q) f = refl
 
-pub says_tied : (q : List (ℕ × ℕ)) (r : Remnant) (o : Option Tree) → Says r o → Says r (option_map (λ y. tie_of y q) o)
+pub says_tied : (q : List (ℕ × ℕ)) (r : Remnant) (o : Option Tree) → RemnantSays r o → RemnantSays r (option_map (λ y. tie_of y q) o)
 says_tied q remnant.Fails o h = ap (option_map (λ y. tie_of y q)) h
 says_tied q remnant.Empty None h = let s = h.0 in cc
 says_tied q remnant.Empty (Some x) h = (refl, ap (λ y. is_full (Some (tie_of y q))) (empty_nil x h.1) ∙ ap (λ l. is_full (Some (bound_form Nil l))) (never_has q))
@@ -157,7 +157,7 @@ full_behind [] ys h = h
 full_behind (x ∷ xs) ys h = inr (full_behind xs ys h)
 
 -- one alone
-says_one : (q : Remnant) (o : Option Tree) → Says q o → SaysSome q (or_skip o [])
+says_one : (q : Remnant) (o : Option Tree) → RemnantSays q o → SaysSome q (or_skip o [])
 says_one remnant.Fails o h = ap (λ p. or_skip p []) h
 says_one remnant.Empty None h = let s = h.0 in cc
 says_one remnant.Empty (Some x) h = ([], ap (λ y. y ∷ []) (empty_nil x h.1), tt)
@@ -171,7 +171,7 @@ says_either remnant.Empty remnant.Empty ks ls (xs, e, a) (ys, f, b) = (xs ++ Nil
 says_either remnant.Empty remnant.More ks ls h g = full_behind ks ls g
 says_either remnant.More q ks ls h g = full_before ks ls h
 
-pub says_next : (r q : Remnant) (ks : List Tree) (o : Option Tree) → SaysSome r ks → Says q o → SaysSome (either r q) (ks ++ or_skip o [])
+pub says_next : (r q : Remnant) (ks : List Tree) (o : Option Tree) → SaysSome r ks → RemnantSays q o → SaysSome (either r q) (ks ++ or_skip o [])
 says_next r q ks o h g = says_either r q ks (or_skip o []) h (says_one q o g)
 
 -- of the whole choice
@@ -241,7 +241,7 @@ form_full (x ∷ []) (inl f) = ap not f
 form_full (x ∷ []) (inr r) = absurd r
 form_full (x ∷ y ∷ ys) h = refl
 
-pub says_choice : (k : NetPermits) (r : Remnant) (ks : List Tree) → Each (IsNormal k) ks → SaysSome r ks → Says r (choice_of ks)
+pub says_choice : (k : NetPermits) (r : Remnant) (ks : List Tree) → Each (IsNormal k) ks → SaysSome r ks → RemnantSays r (choice_of ks)
 says_choice k remnant.Fails ks n h = ap choice_of h
 says_choice k remnant.Empty ks n (xs, e, a) = let q = ap choice_of e ∙ choice_nil xs a in (ap some_kept q, ap is_full q)
 says_choice k remnant.More ks n h = form_full (distinct (open_choices ks)) (full_distinct (open_choices ks) (full_open k ks n h))
@@ -266,7 +266,7 @@ put_flat (Loop x lo hi r) ps = refl
 put_flat (Walk n s t c) ps = refl
 
 -- one more turn in front
-pub tally_turn : (k : NetPermits) (t : RowTally) (r : RowRest) (left : Remnant) (x : Tree) → IsNormal k x → Says left (Some x) → Tallies t r → Tallies (record t { turns = both left t.turns }) (turn_before x r)
+pub tally_turn : (k : NetPermits) (t : RowTally) (r : RowRest) (left : Remnant) (x : Tree) → IsNormal k x → RemnantSays left (Some x) → Tallies t r → Tallies (record t { turns = both left t.turns }) (turn_before x r)
 tally_turn k t r left x n h g = record {
   gap = g.gap ∙ sym (put_gaps x r.parts);
   free = g.free;
@@ -287,7 +287,7 @@ tally_whole k t r ps e n o g = record {
     no_gap (Turn x ∷ ps) h = no_gap ps h
 
 -- a begun turn that doesn't fail
-pub tally_some : (k : NetPermits) (t : RowTally) (r : RowRest) (left : Remnant) (o : Option Tree) → MayHave (IsNormal k) o → (left ≡ remnant.Fails → ⊥) → Says left o → Tallies t r → TalliesSome (Some (record t { turns = both left t.turns })) (kept_before o r)
+pub tally_some : (k : NetPermits) (t : RowTally) (r : RowRest) (left : Remnant) (o : Option Tree) → MayHave (IsNormal k) o → (left ≡ remnant.Fails → ⊥) → RemnantSays left o → Tallies t r → TalliesSome (Some (record t { turns = both left t.turns })) (kept_before o r)
 tally_some k t r remnant.Fails o n f h g = absurd (f refl)
 tally_some k t r remnant.Empty None n f h g = let s = h.0 in cc
 tally_some k t r remnant.More None n f h g = cc
@@ -322,7 +322,7 @@ module _ (p : List ℕ → Option Tree) (q : Tree → Option Tree) (hi : Option 
 
 -- the parts of a join, one after another from its end
 module _ (k : NetPermits) (b : Block) (m : Mode) where
-  pub items_next : (ps : List Part) (i j : ℕ) (x : Tree) (r q : Remnant) → slice_get ps i ≡ Some (Turn x) → i + 1 ≡ j → MayHave (IsNormal k) (permit k b x) → Says r (permit k b x) → SaysParts q (opened_left k b m (begun (drop j ps))) → SaysParts (both r q) (opened_left k b m (begun (drop i ps)))
+  pub items_next : (ps : List Part) (i j : ℕ) (x : Tree) (r q : Remnant) → slice_get ps i ≡ Some (Turn x) → i + 1 ≡ j → MayHave (IsNormal k) (permit k b x) → RemnantSays r (permit k b x) → SaysParts q (opened_left k b m (begun (drop j ps))) → SaysParts (both r q) (opened_left k b m (begun (drop i ps)))
   items_next ps i j x r q g e n h f =
       let split : drop i ps ≡ Turn x ∷ drop j ps = drop_next ps i (Turn x) g ∙ ap (λ n. Turn x ∷ drop n ps) (sym (add-one i) ∙ e) in
       subst (λ l. SaysParts (both r q) (opened_left k b m (begun l))) (sym split)
@@ -337,7 +337,7 @@ module _ (w : Tables) (b : Block) where
   some_next xs i x None g e = some-skip (permits_of w) b xs i x (permit_some (permits_of w) b (trees (take i xs))) refl g e ∙ sym (append-nil (permit_some (permits_of w) b (trees (take i xs))))
   some_next xs i x (Some y) g e = some-more (permits_of w) b xs i x y (permit_some (permits_of w) b (trees (take i xs))) refl g e
 
-  pub choice_next : (xs : List Tree) (i : ℕ) (x : Tree) (r q : Remnant) → slice_get xs i ≡ Some x → Says q (permit (permits_of w) b x) → SaysSome r (permit_some (permits_of w) b (trees (take i xs))) → SaysSome (either r q) (permit_some (permits_of w) b (trees (take (i + 1) xs)))
+  pub choice_next : (xs : List Tree) (i : ℕ) (x : Tree) (r q : Remnant) → slice_get xs i ≡ Some x → RemnantSays q (permit (permits_of w) b x) → SaysSome r (permit_some (permits_of w) b (trees (take i xs))) → SaysSome (either r q) (permit_some (permits_of w) b (trees (take (i + 1) xs)))
   choice_next xs i x r q g h f = subst (SaysSome (either r q)) (sym (some_next xs i x (permit (permits_of w) b x) g refl)) (says_next r q (permit_some (permits_of w) b (trees (take i xs))) (permit (permits_of w) b x) f h)
 
   each_normal : (xs : List Tree) → Each (IsReady w) xs → Each (IsNormal (permits_of w)) (permit_some (permits_of w) b (trees xs))
@@ -348,7 +348,7 @@ module _ (w : Tables) (b : Block) where
       front None n r = r
       front (Some y) n r = (n, r)
 
-  pub choice_ended : (xs : List Tree) (n : ℕ) (r : Remnant) → length xs ≤ n → Each (IsReady w) xs → SaysSome r (permit_some (permits_of w) b (trees (take n xs))) → Says r (permit (permits_of w) b (Choice (trees xs)))
+  pub choice_ended : (xs : List Tree) (n : ℕ) (r : Remnant) → length xs ≤ n → Each (IsReady w) xs → SaysSome r (permit_some (permits_of w) b (trees (take n xs))) → RemnantSays r (permit (permits_of w) b (Choice (trees xs)))
   choice_ended xs n r l h f = says_choice (permits_of w) r (permit_some (permits_of w) b (trees xs)) (each_normal xs h) (subst (λ l. SaysSome r (permit_some (permits_of w) b (trees l))) (take_all xs n l) f)
 
 -- how long a list is

@@ -4,9 +4,9 @@ use Rattle.std.specs.Prelude.{ℕ, ◌+◌, ◌<◌, ◌≤◌, ◌==◌, Bool, 
 use Rattle.std.proofs.Common.{ap, ap₂, sym, ◌∙◌, arith, cond, subst}
 use Rattle.std.proofs.lemmas.Bool.Decides.{nat_tests}
 use Rattle.msc_base.specs.declared.label.Pair.{Pair}
-use Rattle.node_facts.specs.NodeFacts.{lies_in, numbers_in}
-use Rattle.node_facts.specs.declared.facts.Facts.{Facts}
-use Rattle.node_facts.specs.declared.facts.Span.{Span}
+use Rattle.term_facts.specs.NodeFacts.{lies_in, numbers_in}
+use Rattle.term_facts.specs.declared.facts.Facts.{Facts}
+use Rattle.term_facts.specs.declared.facts.Span.{Span}
 use Rattle.tie_list.specs.Names.{has_end_in}
 use Rattle.chart_term.specs.Facts.{HasFacts}
 use Rattle.chart_term.specs.NormalForms.{bound_form, kept_pairs, numbers, tie_of, unless_pair, with_pair, without_pair}

@@ -1,7 +1,7 @@
 -- Which pairs of a tie may have lost an end, where numbers of the term below it are gone.
 use Rattle.std.specs.Prelude.{ℕ, ◌≡◌, ◌&&◌, Bool, true, false, List, [], ◌∷◌}
 use Rattle.msc_base.specs.declared.label.Pair.{Pair}
-use Rattle.node_facts.specs.declared.facts.Span.{Span}
+use Rattle.term_facts.specs.declared.facts.Span.{Span}
 use Rattle.tie_list.specs.Names.{has_end_in}
 use Rattle.chart_term.specs.Terms.{has}
 

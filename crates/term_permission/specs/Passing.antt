@@ -7,7 +7,7 @@ use Rattle.hmsc_graph.specs.declared.search.Traversal.{Traversal}
 use Rattle.msc_base.specs.Lists.{IsIn}
 use Rattle.chart_term.specs.NormalForms.{some_kept}
 use Rattle.chart_term.specs.Terms.{Tree}
-use Rattle.term_permission.specs.Remnants.{is_full, Says}
+use Rattle.term_permission.specs.Remnants.{is_full, RemnantSays}
 use Rattle.term_permission.specs.declared.passing.Passable.{Passable}
 use Rattle.term_permission.specs.declared.remnant.Remnant.{Remnant}
 
@@ -28,7 +28,7 @@ pub record HasVisited (g : Net) (node : ℕ) (left : Remnant) (was : Traversal) 
   pub size : has.passed.size ≡ had.passed.size
   pub reached : is.reached.size ≡ was.reached.size
   pub work : missing is.reached.nodes is.reached.size + length is.waiting.items ≤ missing was.reached.nodes was.reached.size + length was.waiting.items
-  pub passing : (allowed : List ℕ) (kept : ℕ → Option Tree) (from : Spot) → (IsIn node allowed ↔ (some_kept (kept node) ≡ true)) → Says left (kept node)
+  pub passing : (allowed : List ℕ) (kept : ℕ → Option Tree) (from : Spot) → (IsIn node allowed ↔ (some_kept (kept node) ≡ true)) → RemnantSays left (kept node)
       → IsPassing g allowed kept from was.reached.nodes (was.waiting.items ++ node ∷ []) had.passed.nodes had.full → IsPassing g allowed kept from is.reached.nodes is.waiting.items has.passed.nodes has.full
 
 -- a number stands in both lists

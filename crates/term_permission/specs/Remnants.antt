@@ -15,10 +15,10 @@ is_full None = false
 is_full (Some x) = not (is_nil (Some x))
 
 -- permission leaves so much
-abbrev pub Says : Remnant → Option Tree → Type 0
-Says remnant.Fails o = o ≡ None
-Says remnant.Empty o = (some_kept o ≡ true) × (is_full o ≡ false)
-Says remnant.More o = is_full o ≡ true
+abbrev pub RemnantSays : Remnant → Option Tree → Type 0
+RemnantSays remnant.Fails o = o ≡ None
+RemnantSays remnant.Empty o = (some_kept o ≡ true) × (is_full o ≡ false)
+RemnantSays remnant.More o = is_full o ≡ true
 
 -- so much is left of the parts of a join, opened
 abbrev pub SaysParts : Remnant → Option (List Tree) → Type 0

@@ -1,4 +1,4 @@
-//! What permission leaves of a term, asked without making it: for `permission` and permit_step.
+//! What permission leaves of a term, asked without making it: for `permission` and term_step.
 
 ghost use Rattle.std.specs.Prelude.{◌≡◌, ◌<◌, IfOk, List, ℕ};
 ghost use Rattle.chart_term.specs.NormalForms.{allowed, begun, only, walk_cut};
@@ -12,7 +12,7 @@ ghost use Rattle.hmsc_graph.specs.Spots.{spot_of, goal_of, IsSpotBelow, IsGoalBe
 ghost use Rattle.term_permission.specs.Lefts.{mode_of, opened_left};
 ghost use Rattle.term_permission.specs.Passing.{ArePassable};
 ghost use Rattle.term_permission.specs.Ready.{IsReady, AreReadyTables, IsReadyPart, AreReadyParts, IsReadyLoop};
-ghost use Rattle.term_permission.specs.Remnants.{Says, SaysParts, Tallies, TalliesSome};
+ghost use Rattle.term_permission.specs.Remnants.{RemnantSays, SaysParts, Tallies, TalliesSome};
 ghost use Rattle.term_permission.specs.RowRests.{RowRest, open_before, keep_part, keep_parts};
 ghost use Rattle.term_laws.specs.Normality.{IsNotNil, IsPartOf};
 ghost use Rattle.term_laws.specs.Permission.{permits_of, permit as permitted};
@@ -36,7 +36,7 @@ use term_tables::Nets;
 pub fn ask_term(alloc: Global, nets: &Nets, term: &Term, block: &Block) -> Result<Remnant, NoMemory>
     requires tables { AreReadyTables nets.now.tables }
     requires term { IsReady nets.now.tables term.now }
-    ensures { IfOk result (λ left. Says left (permitted (permits_of nets.now.tables) (block_of block.now) term.now)) }
+    ensures { IfOk result (λ left. RemnantSays left (permitted (permits_of nets.now.tables) (block_of block.now) term.now)) }
 {
     if term.misses(block) {
         return Ok(Remnant::of(term));
@@ -165,7 +165,7 @@ fn ask_choice(
     requires tables { AreReadyTables nets.now.tables }
     requires turns { AreTurns parts.now }
     requires choice { IsReady nets.now.tables (Choice (trees (begun parts.now))) }
-    ensures { IfOk result (λ left. Says left (permitted (permits_of nets.now.tables) (block_of block.now) (Choice (trees (begun parts.now))))) }
+    ensures { IfOk result (λ left. RemnantSays left (permitted (permits_of nets.now.tables) (block_of block.now) (Choice (trees (begun parts.now))))) }
 {
     let mut kept = Remnant::Fails;
     for index in 0..parts.len() {
@@ -186,7 +186,7 @@ fn ask_loop(
 ) -> Result<Remnant, NoMemory>
     requires tables { AreReadyTables nets.now.tables }
     requires row { IsReadyLoop nets.now.tables turns.body.now turns.upper turns.row.now }
-    ensures { IfOk result (λ left. Says left (permitted (permits_of nets.now.tables) (block_of block.now) (Loop turns.entry.body.now turns.entry.lower turns.entry.upper (row_of turns.entry.row.now)))) }
+    ensures { IfOk result (λ left. RemnantSays left (permitted (permits_of nets.now.tables) (block_of block.now) (Loop turns.entry.body.now turns.entry.lower turns.entry.upper (row_of turns.entry.row.now)))) }
 {
     let all = nets.touched(alloc, turns.body)?;
     let narrow = block.common(alloc, &all)?;
@@ -334,7 +334,7 @@ pub(crate) fn ask_walk(
     requires from { IsSpotBelow (size_of (net_of nets.now.tables net)) from }
     requires to { IsGoalBelow (size_of (net_of nets.now.tables net)) to }
     requires block { block_of block.now ≡ only block.now.instances }
-    ensures { IfOk result (λ left. Says left (walk_cut (permits_of nets.now.tables) net (spot_of from) (goal_of to) block.now.instances)) }
+    ensures { IfOk result (λ left. RemnantSays left (walk_cut (permits_of nets.now.tables) net (spot_of from) (goal_of to) block.now.instances)) }
 {
     if !is_aimed(to) {
         return Ok(Remnant::More);

@@ -1,4 +1,4 @@
-//! Unions of blocks: for `asking` and `permission`, and for permit_step.
+//! Unions of blocks: for `asking` and `permission`, and for term_step.
 
 ghost use Rattle.std.specs.Prelude.{◌≡◌, [], IfOk};
 ghost use Rattle.chart_term.specs.Terms.{◌∪◌};

@@ -1,4 +1,4 @@
-//! What permission leaves of a term, and of the parts of a join: what stays as it is isn't made anew. For `permission` and permit_step.
+//! What permission leaves of a term, and of the parts of a join: what stays as it is isn't made anew. For `permission` and term_step.
 
 ghost use Rattle.std.specs.Prelude.{◌≡◌, ◌++◌, ◌+◌, ◌<◌, ◌∷◌, List, Option, None, Some, [], IfOk, drop, take, length, true, false};
 ghost use Rattle.chart_term.specs.NormalForms.{begun, open_part};

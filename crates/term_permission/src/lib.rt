@@ -1,7 +1,7 @@
 //! Permission and ending of terms: what is left of a term where no event of a block may happen, and whether it may end.
 //!
 //! A term stands for a set of patterns. `permit` leaves those that avoid a block, and a term may end where it has the empty
-//! pattern; `fresh_loop` and `fresh_walk` make loops before their first turn and walks at their start. The rest is what permit_step
+//! pattern; `fresh_loop` and `fresh_walk` make loops before their first turn and walks at their start. The rest is what term_step
 //! takes events out by: what permission leaves of the parts of a term, and terms put together again in normal form. The module
 //! `laws` says which terms all this is asked of.
 #![tactic(auto)]

@@ -1,4 +1,4 @@
-//! What the row of a loop comes to once its parts are put together: for `permission` and permit_step.
+//! What the row of a loop comes to once its parts are put together: for `permission` and term_step.
 
 ghost use Rattle.std.specs.Prelude.{◌≡◌, IfOk};
 ghost use Rattle.term_permission.specs.RowRests.{rest_end};

@@ -1,4 +1,4 @@
-//! The parts of loops and walks as structs, which `permission` and permit_step hand on.
+//! The parts of loops and walks as structs, which `permission` and term_step hand on.
 
 use bit_sets::Block;
 use chart_term::{PartList, Term};

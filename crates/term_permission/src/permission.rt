@@ -1,4 +1,4 @@
-//! What permission by a block leaves of a term, part by part. permit_step asks it for what is before an event.
+//! What permission by a block leaves of a term, part by part. term_step asks it for what is before an event.
 
 ghost use Rattle.std.specs.Prelude.{◌≡◌, ◌<◌, IfOk, OnOk, Some, None, if◌then◌else◌};
 ghost use Rattle.chart_term.specs.NormalForms.{begun, choice_of, only, walk_of, walk_cut};

@@ -3,7 +3,7 @@
 ghost use Rattle.std.specs.Prelude.{◌≡◌, ℕ, List, Some, Option, true, false};
 ghost use Rattle.chart_term.specs.Terms.{Tree, Part};
 ghost use Rattle.term_permission.specs.RowRests.{RowRest, no_rest, rest_end, tried_before};
-ghost use Rattle.term_permission.specs.Remnants.{Says, Tallies, both, either, stays};
+ghost use Rattle.term_permission.specs.Remnants.{RemnantSays, Tallies, both, either, stays};
 ghost use Rattle.term_permission.specs.declared.remnant.Remnant.TheVariants.{Fails};
 
 use crate::row_end::is_empty;
@@ -23,7 +23,7 @@ pub enum Remnant {
 impl Remnant {
     /// Where this term is left.
     pub(crate) fn of(term: &Term) -> Remnant
-        ensures { Says result (Some term.now) }
+        ensures { RemnantSays result (Some term.now) }
     {
         if is_empty(term) {
             Remnant::Empty
@@ -118,7 +118,7 @@ impl RowTally {
 
     /// With a gap in front that leaves this of the operand.
     pub(crate) fn with_gap(self, left: Remnant) -> RowTally
-        ensures { (o : Option Tree) (c : List ℕ) (r : RowRest) → Says left o → Tallies self r → Tallies result (tried_before o c r) }
+        ensures { (o : Option Tree) (c : List ℕ) (r : RowRest) → RemnantSays left o → Tallies self r → Tallies result (tried_before o c r) }
     {
         match left {
             Remnant::Fails => self,
@@ -137,7 +137,7 @@ impl RowTally {
 
     /// What the loop comes to, in which so many turns have to begin yet.
     pub(crate) fn end(self, lower: u64) -> Remnant
-        ensures { (r : RowRest) (x : Tree) (hi : Option ℕ) → Tallies self r → Says result (rest_end x lower hi r) }
+        ensures { (r : RowRest) (x : Tree) (hi : Option ℕ) → Tallies self r → RemnantSays result (rest_end x lower hi r) }
     {
         let lower = if self.free { 0 } else { lower };
         if self.gap {

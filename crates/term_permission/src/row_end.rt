@@ -1,4 +1,4 @@
-//! The end of a loop's row in normal form, to which parts are put in front: for `permission` and permit_step.
+//! The end of a loop's row in normal form, to which parts are put in front: for `permission` and term_step.
 
 ghost use Rattle.std.specs.Prelude.{◌≡◌, ◌++◌, [], true, false, IfOk, OnOk, Some};
 ghost use Rattle.chart_term.specs.NormalForms.{begun, has_gap, is_nil};

@@ -1,4 +1,4 @@
-//! A tie put back over a term that may have lost numbers: for `permission` and permit_step.
+//! A tie put back over a term that may have lost numbers: for `permission` and term_step.
 
 ghost use Rattle.std.specs.Prelude.{◌≡◌, IfOk};
 ghost use Rattle.chart_term.specs.NormalForms.{numbers, tie_of};
@@ -8,8 +8,8 @@ ghost use Rattle.term_laws.specs.Normality.{ArePairsOnce};
 
 use chart_term::Term;
 use msc_base::NoMemory;
-use node_facts::Span;
 use std::alloc::Global;
+use term_facts::Span;
 use tie_list::TieList;
 
 /// The term below a tie of the pairs, in normal form, where no pair stands twice. Only those with an end in the span are looked at;

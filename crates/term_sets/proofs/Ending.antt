@@ -6,7 +6,7 @@ use Rattle.term_tables.specs.NetValues.{NetsValue}
 use Rattle.chart_term.specs.Tables.{terms_over}
 use Rattle.chart_term.specs.Terms.{Tree}
 use Rattle.term_laws.specs.Taking.{MayEnd}
-use Rattle.permit_step.proofs.AllAfter.{each_item}
+use Rattle.term_step.proofs.AllAfter.{each_item}
 use Rattle.term_successors.proofs.TermMembers.{at_among, take_among}
 use Rattle.trace_judge.specs.Sets.{HasEnding}
 

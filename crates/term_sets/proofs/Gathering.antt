@@ -10,7 +10,7 @@ use Rattle.term_laws.specs.Placing.{HaveOnePlace}
 use Rattle.term_laws.specs.Listing.{set_weight}
 use Rattle.msc_base.specs.Lists.{IsAmong}
 use Rattle.term_permission.specs.Ready.{IsReady, AreReadyTables}
-use Rattle.permit_step.specs.AllAfter.{AreAllLeft, AreTooMany}
+use Rattle.term_step.specs.AllAfter.{AreAllLeft, AreTooMany}
 use Rattle.term_permission.proofs.SoundReady.{ready_by_soundness}
 use Rattle.term_sets.specs.Gathers.{IsGathered, JoinsAll}
 use Rattle.trace_judge.specs.Logs.{AreResiduals}

@@ -5,7 +5,7 @@ use Rattle.msc_base.specs.declared.label.Label.{Label}
 use Rattle.chart_term.specs.Terms.{Tree}
 use Rattle.term_laws.specs.Permission.{permits_of}
 use Rattle.term_tables.specs.NetValues.{NetsValue, label_number}
-use Rattle.permit_step.specs.AllAfter.{AreAllLeft, AreTooMany}
+use Rattle.term_step.specs.AllAfter.{AreAllLeft, AreTooMany}
 use Rattle.term_successors.specs.Successors.{AreRising, IsLeftOf}
 use Rattle.term_successors.proofs.TermSets.{rising_different}
 use Rattle.term_sets.specs.Subsets.{AreAllTaken, IsTaken, IsTooMuch}

@@ -5,7 +5,7 @@ ghost use Rattle.chart_term.specs.Facts.{most_stored};
 ghost use Rattle.chart_term.specs.Properties.{Each};
 ghost use Rattle.chart_term.specs.Terms.{weight};
 ghost use Rattle.msc_base.specs.declared.label.Label.{Label as LabelValue};
-ghost use Rattle.permit_step.specs.AllAfter.{AreAllLeft, AreTooMany};
+ghost use Rattle.term_step.specs.AllAfter.{AreAllLeft, AreTooMany};
 ghost use Rattle.term_successors.specs.Successors.{AreRising};
 ghost use Rattle.term_laws.specs.Listing.{set_weight};
 ghost use Rattle.term_laws.specs.Placing.{HaveOnePlace};
@@ -18,10 +18,10 @@ use crate::set_key::SetKey;
 use crate::subsets::Subsets;
 use chart_term::{Term, TermList};
 use msc_base::NoMemory;
-use permit_step::{Gathered, after_each};
 use std::alloc::Global;
 use std::marker::Model;
 use term_permission::may_end;
+use term_step::{Gathered, after_each};
 use term_tables::Nets;
 
 /// How a set holds its terms.

@@ -1,4 +1,4 @@
-//! The tables of labels and nets, where permit_step and trace_judge look numbers up. A net names earlier ones alone.
+//! The tables of labels and nets, where term_step and trace_judge look numbers up. A net names earlier ones alone.
 
 ghost use Rattle.std.specs.Prelude.{◌≡◌, ◌<◌, ℕ, ◌++◌, ◌∷◌, [], nat_lt, length, Contains, Some, slice_get, IfSome, IfNone, IfOk, OnOk, OnErr};
 ghost use Rattle.hmsc_graph.specs.Nets.{size_of};

@@ -1,7 +1,7 @@
 //! Orders of items, pairs, and the first of two faults.
 ghost use Rattle.std.specs.Prelude.{◌<◌};
 
-use item_order::{Edge, Sorted, pair_up, sort_edges, weave, weave_entries};
+use column_order::{Edge, Sorted, pair_up, sort_edges, weave, weave_entries};
 use msc_base::{NoMemory, Place};
 use msc_rules::{Broken, Numbered, earlier_fault};
 use std::alloc::Global;

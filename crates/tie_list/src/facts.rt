@@ -5,7 +5,7 @@ ghost use Rattle.tie_list.specs.Facts.{AreWithin};
 
 use crate::Tie;
 use msc_base::NoMemory;
-use shared_sequence::Summed;
+use persistent_sequence::Summed;
 use std::alloc::Global;
 
 /// Bounds of the ends of some pairs. Of no pairs each least bound is above the greatest.

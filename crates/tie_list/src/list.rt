@@ -2,13 +2,13 @@
 
 ghost use Rattle.std.specs.Prelude.{◌≡◌, ◌+◌, ◌++◌, ◌<◌, ◌==◌, length, take, drop, slice_get, IfOk, Some};
 ghost use Rattle.std.specs.List.{position_from};
-ghost use Rattle.shared_sequence.specs.Walks.{IsAhead};
+ghost use Rattle.persistent_sequence.specs.Walks.{IsAhead};
 ghost use Rattle.tie_list.specs.Names.{has_end_in, has_second};
 
 use crate::Tie;
 use crate::search::{HasEndIn, HasSecond};
 use msc_base::{NoMemory, Pair, PairList};
-use shared_sequence::Sequence;
+use persistent_sequence::Sequence;
 use std::alloc::Global;
 use std::marker::Model;
 

@@ -6,7 +6,7 @@ ghost use Rattle.tie_list.specs.Names.{has_end_in, has_second, lies_in, overlap}
 
 use crate::Tie;
 use crate::facts::Bounds;
-use shared_sequence::Search;
+use persistent_sequence::Search;
 
 /// Whether the number lies from the least to the greatest.
 fn lies_in(least: u32, greatest: u32, number: u32) -> bool

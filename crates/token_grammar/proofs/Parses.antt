@@ -3,7 +3,7 @@ use Rattle.std.proofs.Common.{ℕ, ◌≡◌, ◌∙◌, ◌++◌, ◌⊎◌, Li
 use Rattle.msc_tokens.specs.declared.token.Token.{Token}
 use Rattle.token_grammar.specs.Languages.{Set, refused, deep, Read}
 use Rattle.token_grammar.specs.Grammars.{Grammar}
-use Rattle.token_grammar.specs.Parsing.{Begins, IsRefused, IsTooDeep, OneReading}
+use Rattle.token_grammar.specs.Parsing.{BeginsReading, IsRefused, IsTooDeep, OneReading}
 use Rattle.token_grammar.proofs.Lists.{NotStart, no_start, none_more}
 use Rattle.token_grammar.proofs.Base.{Viable, Refused, TooDeep, Takes, Meant, Meets}
 use Rattle.token_grammar.proofs.Levels.{reads_of, brink_of}
@@ -13,11 +13,11 @@ pub one_value : {A : Type 0} (R : ℕ → Grammar A) (F : Set) (C : A → Set) �
 one_value R F C law m n ts a b h k = ((law m).laws.unique n ts ts [] [] a b h k refl (no_start (C a)) (no_start (C b))).1
 
 module _ {A : Type 0} (R : ℕ → Grammar A) (n : ℕ) (F : Set) (C : A → Set) (p : List Token → Read A) (rule : Rule R n F C p) where
-  begins_of : (m : ℕ) (used : List Token) → Viable (reads_of R) m used → Begins R m used
+  begins_of : (m : ℕ) (used : List Token) → Viable (reads_of R) m used → BeginsReading R m used
   begins_of m used v = record { more = v.more; value = v.value; reads = v.holds }
 
-  begins_or : (used : List Token) → (used ≡ []) ⊎ Viable (reads_of R) (suc n) used → Begins R (suc n) used
-  begins_or used (inl e) = subst (Begins R (suc n)) (sym e) (begins_of (suc n) [] rule.known.word)
+  begins_or : (used : List Token) → (used ≡ []) ⊎ Viable (reads_of R) (suc n) used → BeginsReading R (suc n) used
+  begins_or used (inl e) = subst (BeginsReading R (suc n)) (sym e) (begins_of (suc n) [] rule.known.word)
   begins_or used (inr v) = begins_of (suc n) used v
 
   is_refused : (ts : List Token) (k : ℕ) → Refused (reads_of R) (brink_of R) n F ts k → IsRefused R n ts k

@@ -5,7 +5,7 @@ use Rattle.token_grammar.specs.Grammars.{Grammar}
 
 module _ {A : Type 0} (R : ℕ → Grammar A) where
   -- the tokens begin something that reads with so many levels
-  pub record Begins (n : ℕ) (prefix : List Token) : Type 0 where
+  pub record BeginsReading (n : ℕ) (prefix : List Token) : Type 0 where
     pub more : List Token
     pub value : A
     pub reads : (R n).reads (prefix ++ more) value
@@ -21,9 +21,9 @@ module _ {A : Type 0} (R : ℕ → Grammar A) where
     pub rest : List Token
     pub cut : tokens ≡ prefix ++ rest
     pub counted : left ≡ length rest
-    pub begins : Begins (suc levels) prefix
+    pub begins : BeginsReading (suc levels) prefix
     pub level : Level levels prefix
-    pub stops : (n : ℕ) (token : Token) (behind : List Token) → rest ≡ token ∷ behind → Begins n (prefix ++ token ∷ []) → ⊥
+    pub stops : (n : ℕ) (token : Token) (behind : List Token) → rest ≡ token ∷ behind → BeginsReading n (prefix ++ token ∷ []) → ⊥
     pub ends : rest ≡ [] → (n : ℕ) (value : A) → (R n).reads prefix value → ⊥
 
   -- the first of the last `left` tokens opens a level too many, and none before it does

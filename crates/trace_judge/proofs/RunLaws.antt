@@ -10,21 +10,21 @@ use Rattle.term_laws.specs.Sound.{IsSound}
 use Rattle.term_laws.proofs.FullSound.{full_soundness_is_kept}
 use Rattle.term_laws.proofs.SoundLaws.{residuals_are_exact}
 use Rattle.trace_judge.specs.Laws.{SetsTellRuns}
-use Rattle.trace_judge.specs.Logs.{IsLeft, AreResiduals, Begins, IsRun}
+use Rattle.trace_judge.specs.Logs.{IsLeft, AreResiduals, BeginsTermRun, IsTermRun}
 use Rattle.trace_judge.specs.Sets.{IsSoundFor, HasEnding}
 use Rattle.trace_judge.specs.Verdicts.{LeavesSome, LeavesEnding}
 
 sound_of : (v : NetsValue) (x : Tree) → IsSoundFor v x → IsSound v.tables x
 sound_of v x h = full_soundness_is_kept.suffices (length v.labels) v.tables x h.full
 
-pub left_begins : (v : NetsValue) (x y : Tree) (l : List Label) → IsSoundFor v x → IsLeft v x l y → Begins v x l
+pub left_begins : (v : NetsValue) (x y : Tree) (l : List Label) → IsSoundFor v x → IsLeft v x l y → BeginsTermRun v x l
 left_begins v x y l h i = record {
   numbers = i.numbers;
   are = i.are;
   begins = (residuals_are_exact.begins v.tables x i.numbers (sound_of v x h)).to (record { term = y; left = i.left });
 }
 
-pub begins_left : (v : NetsValue) (x : Tree) (l : List Label) → IsSoundFor v x → Begins v x l → LeavesSome v x l
+pub begins_left : (v : NetsValue) (x : Tree) (l : List Label) → IsSoundFor v x → BeginsTermRun v x l → LeavesSome v x l
 begins_left v x l h b = let r = (residuals_are_exact.begins v.tables x b.numbers (sound_of v x h)).from b.begins in record { term = r.term; left = record { numbers = b.numbers; are = b.are; left = r.left } }
 
 none_empty : (v : NetsValue) (x : Tree) (l : List Label) (set : List Tree) → AreResiduals v x l set → ((y : Tree) → IsLeft v x l y → ⊥) → set ≡ []
@@ -54,14 +54,14 @@ sets_tell_runs = record {
   };
 }
 
-pub ending_run : (v : NetsValue) (x : Tree) (l : List Label) → IsSoundFor v x → LeavesEnding v x l → IsRun v x l
+pub ending_run : (v : NetsValue) (x : Tree) (l : List Label) → IsSoundFor v x → LeavesEnding v x l → IsTermRun v x l
 ending_run v x l h e = record {
   numbers = e.left.numbers;
   are = e.left.are;
   run = (residuals_are_exact.ends v.tables x e.left.numbers (sound_of v x h)).to (record { term = e.term; left = e.left.left; ends = e.ends });
 }
 
-pub run_ending : (v : NetsValue) (x : Tree) (l : List Label) → IsSoundFor v x → IsRun v x l → LeavesEnding v x l
+pub run_ending : (v : NetsValue) (x : Tree) (l : List Label) → IsSoundFor v x → IsTermRun v x l → LeavesEnding v x l
 run_ending v x l h f = let e = (residuals_are_exact.ends v.tables x f.numbers (sound_of v x h)).from f.run in record {
   term = e.term;
   left = record { numbers = f.numbers; are = f.are; left = e.left };
@@ -69,15 +69,15 @@ run_ending v x l h f = let e = (residuals_are_exact.ends v.tables x f.numbers (s
 }
 
 -- something is left exactly where a run of the term begins so, and something that may end exactly where the labels are a run
-pub left_exact : (v : NetsValue) (x : Tree) → IsSoundFor v x → (l : List Label) → Both (LeavesSome v x l) (Begins v x l)
+pub left_exact : (v : NetsValue) (x : Tree) → IsSoundFor v x → (l : List Label) → Both (LeavesSome v x l) (BeginsTermRun v x l)
 left_exact v x h l = record { to = λ i. left_begins v x i.term l h i.left; from = begins_left v x l h }
 
-pub ending_exact : (v : NetsValue) (x : Tree) → IsSoundFor v x → (l : List Label) → Both (LeavesEnding v x l) (IsRun v x l)
+pub ending_exact : (v : NetsValue) (x : Tree) → IsSoundFor v x → (l : List Label) → Both (LeavesEnding v x l) (IsTermRun v x l)
 ending_exact v x h l = record { to = ending_run v x l h; from = run_ending v x l h }
 
 -- what tests of a set tell
-pub tells_empty : (v : NetsValue) (x : Tree) (l : List Label) (set : List Tree) (b : Bool) → (IsTrue b ↔ (set ≡ [])) → IsSoundFor v x → AreResiduals v x l set → IsTrue b ↔ (Begins v x l → ⊥)
+pub tells_empty : (v : NetsValue) (x : Tree) (l : List Label) (set : List Tree) (b : Bool) → (IsTrue b ↔ (set ≡ [])) → IsSoundFor v x → AreResiduals v x l set → IsTrue b ↔ (BeginsTermRun v x l → ⊥)
 tells_empty v x l set b e h r = let t = sets_tell_runs.empty v x l set h r in (λ u. t.to (e.0 u), λ f. e.1 (t.from f))
 
-pub tells_ends : (v : NetsValue) (x : Tree) (l : List Label) (set : List Tree) (b : Bool) → (IsTrue b ↔ HasEnding v set) → IsSoundFor v x → AreResiduals v x l set → IsTrue b ↔ IsRun v x l
+pub tells_ends : (v : NetsValue) (x : Tree) (l : List Label) (set : List Tree) (b : Bool) → (IsTrue b ↔ HasEnding v set) → IsSoundFor v x → AreResiduals v x l set → IsTrue b ↔ IsTermRun v x l
 tells_ends v x l set b e h r = let t = sets_tell_runs.ends v x l set h r in (λ u. t.to (e.0 u), λ f. e.1 (t.from f))

@@ -10,9 +10,9 @@ use Rattle.chart_term.specs.Terms.{Tree, weight}
 use Rattle.term_laws.specs.Listing.{set_weight}
 use Rattle.msc_base.specs.Lists.{IsAmong}
 use Rattle.line_events.specs.declared.event.LineEvent.{LineEvent}
-use Rattle.trace_judge.specs.Logs.{labels_of, AreResiduals, IsWithin, IsAbove}
+use Rattle.trace_judge.specs.Logs.{labels_of, AreResiduals, WeighsWithin, WeighsMore}
 use Rattle.trace_judge.specs.Sets.{SetValue, IsSoundFor, IsNextSet, PassBudget, HasEnding}
-use Rattle.trace_judge.specs.Verdicts.{AreWithin, HasLeft, IsVerdict, Weighs, IsReached, by_front, by_none, IsLargest}
+use Rattle.trace_judge.specs.Verdicts.{AreWithin, HasLeft, IsTermVerdict, Weighs, IsReached, by_front, by_none, IsLargest}
 use Rattle.trace_judge.specs.Tracks.{TrackValue, IsGoing, IsSettled, Stands, Fed}
 use Rattle.trace_judge.specs.Advances.{Advances, settled, risen}
 use Rattle.trace_judge.specs.declared.advance.Outcome.{Outcome}
@@ -32,7 +32,7 @@ no_event (x ∷ f) e b q = cc
 module _ (v : NetsValue) (x : Tree) (budget : ℕ) where
   -- before the first event
   start_within : weight x ≤ budget → AreWithin v x budget []
-  start_within l f b e = subst (λ (g : List LineEvent). IsWithin v x budget (labels_of g)) (sym (nothing_in_front f b e)) (record { set = x ∷ []; are = set_start v x; within = omega arith })
+  start_within l f b e = subst (λ (g : List LineEvent). WeighsWithin v x budget (labels_of g)) (sym (nothing_in_front f b e)) (record { set = x ∷ []; are = set_start v x; within = omega arith })
 
   start_largest : (n : ℕ) → weight x ≤ budget → n ≡ weight x → IsLargest v x budget [] n
   start_largest n l e = record {
@@ -40,7 +40,7 @@ module _ (v : NetsValue) (x : Tree) (budget : ℕ) where
     bound = λ f b m q w. let d : f ≡ [] = nothing_in_front f b q in let s = set_weighs v x [] w.set (x ∷ []) (subst (λ (g : List LineEvent). AreResiduals v x (labels_of g) w.set) d w.are) (set_start v x) in omega (arith, w.is, s);
   }
 
-  start_above : budget < weight x → IsAbove v x budget []
+  start_above : budget < weight x → WeighsMore v x budget []
   start_above l = record { set = x ∷ []; are = set_start v x; above = omega arith }
 
   above_largest : budget < weight x → IsLargest v x budget [] 0
@@ -92,11 +92,11 @@ module _ (v : NetsValue) (x : Tree) (budget : ℕ) where
         bound prefix back m w (within rest q r) = h.bound prefix rest m q w
 
     -- one event more
-    within_more : AreWithin v x budget events → IsWithin v x budget (labels_of (events ++ e ∷ [])) → AreWithin v x budget (events ++ e ∷ [])
+    within_more : AreWithin v x budget events → WeighsWithin v x budget (labels_of (events ++ e ∷ [])) → AreWithin v x budget (events ++ e ∷ [])
     within_more h i prefix back q = go (cut_at events e prefix back q)
       where
-        go : IsCutAt events e prefix back → IsWithin v x budget (labels_of prefix)
-        go (whole p r) = subst (λ (g : List LineEvent). IsWithin v x budget (labels_of g)) (sym p) i
+        go : IsCutAt events e prefix back → WeighsWithin v x budget (labels_of prefix)
+        go (whole p r) = subst (λ (g : List LineEvent). WeighsWithin v x budget (labels_of g)) (sym p) i
         go (within rest p r) = h prefix rest p
 
     largest_rises : (n m : ℕ) → IsLargest v x budget events n → Weighs v x budget (events ++ e ∷ []) m → IsLargest v x budget (events ++ e ∷ []) (max n m)
@@ -238,11 +238,11 @@ module _ {S : Type 0} (holds : S → SetValue) (v : NetsValue) (x : Tree) (budge
           above = passed h.why;
         }
           where
-            before : (prefix : List LineEvent) (at : LineEvent) (back : List LineEvent) → IsCutAt events e prefix (at ∷ back) → IsWithin v x budget (labels_of prefix)
+            before : (prefix : List LineEvent) (at : LineEvent) (back : List LineEvent) → IsCutAt events e prefix (at ∷ back) → WeighsWithin v x budget (labels_of prefix)
             before prefix at back (whole z y) = cc
             before prefix at back (within rest z y) = g.within prefix rest z
 
-            passed : ((holds s).too_large ≡ true) ⊎ PassBudget v e.label (holds s).terms (holds s).budget → IsAbove v x budget (labels_of (events ++ e ∷ []))
+            passed : ((holds s).too_large ≡ true) ⊎ PassBudget v e.label (holds s).terms (holds s).budget → WeighsMore v x budget (labels_of (events ++ e ∷ []))
             passed (inl z) = let bad : false ≡ true = sym g.small ∙ z in cc
             passed (inr b) = record {
               set = b.next;
@@ -259,26 +259,26 @@ module _ {S : Type 0} (holds : S → SetValue) (v : NetsValue) (x : Tree) (budge
         large Passes h = largest_lasts v x budget events e old.largest f.largest (λ m w. absurd (not_both v x budget (labels_of (events ++ e ∷ [])) (w.within (events ++ e ∷ []) [] (sym (ends_empty (events ++ e ∷ [])))) (stand Passes h).above))
 
   -- the verdict
-  pub verdict_settled : (events : List LineEvent) (t : TrackValue S) (verdict : Verdict) → Fed holds v x budget events t → t.ended ≡ Some verdict → IsVerdict v x budget events verdict
+  pub verdict_settled : (events : List LineEvent) (t : TrackValue S) (verdict : Verdict) → Fed holds v x budget events t → t.ended ≡ Some verdict → IsTermVerdict v x budget events verdict
   verdict_settled events t verdict f q = go t.set t.ended q f.stands
     where
-      as_verdict : (w : Verdict) → IsSettled v x budget events w → IsVerdict v x budget events w
+      as_verdict : (w : Verdict) → IsSettled v x budget events w → IsTermVerdict v x budget events w
       as_verdict (Conforms n) h = absurd h
       as_verdict (Fails n k) h = h
       as_verdict (Early n) h = absurd h
       as_verdict (TooLarge n) h = h
 
-      go : (set : Option S) (ended : Option Verdict) → ended ≡ Some verdict → Stands holds v x budget events set ended → IsVerdict v x budget events verdict
+      go : (set : Option S) (ended : Option Verdict) → ended ≡ Some verdict → Stands holds v x budget events set ended → IsTermVerdict v x budget events verdict
       go set None q h = cc
-      go None (Some w) q h = let p : w ≡ verdict = cc in subst (IsVerdict v x budget events) p (as_verdict w h)
-      go (Some s) (Some w) q h = let p : w ≡ verdict = cc in subst (IsVerdict v x budget events) p (as_verdict w h)
+      go None (Some w) q h = let p : w ≡ verdict = cc in subst (IsTermVerdict v x budget events) p (as_verdict w h)
+      go (Some s) (Some w) q h = let p : w ≡ verdict = cc in subst (IsTermVerdict v x budget events) p (as_verdict w h)
 
-  pub verdict_conforms : (events : List LineEvent) (t : TrackValue S) (s : S) → Fed holds v x budget events t → t.ended ≡ None → t.set ≡ Some s → HasEnding v (holds s).terms → IsVerdict v x budget events (Conforms t.events)
+  pub verdict_conforms : (events : List LineEvent) (t : TrackValue S) (s : S) → Fed holds v x budget events t → t.ended ≡ None → t.set ≡ Some s → HasEnding v (holds s).terms → IsTermVerdict v x budget events (Conforms t.events)
   verdict_conforms events t s f q p h =
       let g = going_of events t.set t.ended s p q f.stands in
       (f.count, g.within, record { term = h.term; left = (g.are.exact h.term).to h.held; ends = h.ends })
 
-  pub verdict_early : (events : List LineEvent) (t : TrackValue S) (s : S) → Fed holds v x budget events t → t.ended ≡ None → t.set ≡ Some s → (HasEnding v (holds s).terms → ⊥) → IsVerdict v x budget events (Early t.events)
+  pub verdict_early : (events : List LineEvent) (t : TrackValue S) (s : S) → Fed holds v x budget events t → t.ended ≡ None → t.set ≡ Some s → (HasEnding v (holds s).terms → ⊥) → IsTermVerdict v x budget events (Early t.events)
   verdict_early events t s f q p h =
       let g = going_of events t.set t.ended s p q f.stands in (
         f.count,

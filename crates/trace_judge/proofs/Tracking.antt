@@ -13,7 +13,7 @@ use Rattle.trace_judge.specs.Steps.{ForLabels}
 use Rattle.trace_judge.specs.declared.advance.Outcome.{Outcome}
 use Rattle.trace_judge.specs.Sets.{SetValue}
 use Rattle.trace_judge.specs.Tracks.{TrackValue, AreSame, Fed, IsGoing, IsSame, Stands}
-use Rattle.trace_judge.specs.Verdicts.{IsLargest, IsVerdict, TellsRuns}
+use Rattle.trace_judge.specs.Verdicts.{IsLargest, IsTermVerdict, TellsRuns}
 use Rattle.trace_judge.proofs.TrackFacts.{take_settled, take_going, verdict_settled, verdict_conforms, verdict_early, none_settled}
 use Rattle.trace_judge.proofs.VerdictLaws.{tells_runs}
 
@@ -31,19 +31,19 @@ module _ {S : Type 0} (holds : S → SetValue) (v : NetsValue) (x : Tree) (budge
           take_settled holds v x budget events (record { label = a; line = line }) old new w f p
           (q ∙ ap (λ (t : TrackValue S). record t { events = t.events + 1 }) (h ∙ (λ i. record old { set = sym r i })))
 
-  open_is : (t : TrackValue S) (s : S) → Fed holds v x budget events t → t.ended ≡ None → t.set ≡ Some s → (verdict : Verdict) → IsOpenVerdict v (holds s) t.events verdict → IsVerdict v x budget events verdict
-  open_is t s f p q (Conforms n) h = subst (λ (m : ℕ). IsVerdict v x budget events (Conforms m)) (sym h.0) (verdict_conforms holds v x budget events t s f p q h.1)
+  open_is : (t : TrackValue S) (s : S) → Fed holds v x budget events t → t.ended ≡ None → t.set ≡ Some s → (verdict : Verdict) → IsOpenVerdict v (holds s) t.events verdict → IsTermVerdict v x budget events verdict
+  open_is t s f p q (Conforms n) h = subst (λ (m : ℕ). IsTermVerdict v x budget events (Conforms m)) (sym h.0) (verdict_conforms holds v x budget events t s f p q h.1)
   open_is t s f p q (Fails n k) h = absurd h
-  open_is t s f p q (Early n) h = subst (λ (m : ℕ). IsVerdict v x budget events (Early m)) (sym h.0) (verdict_early holds v x budget events t s f p q h.1)
+  open_is t s f p q (Early n) h = subst (λ (m : ℕ). IsTermVerdict v x budget events (Early m)) (sym h.0) (verdict_early holds v x budget events t s f p q h.1)
   open_is t s f p q (TooLarge n) h = absurd h
 
-  pub open_verdict_is : {E : Type 0} (t : TrackValue S) (s : S) (r : Result Verdict E) → t.ended ≡ None → t.set ≡ Some s → IfOk r (IsOpenVerdict v (holds s) t.events) → Fed holds v x budget events t → IfOk r (IsVerdict v x budget events)
+  pub open_verdict_is : {E : Type 0} (t : TrackValue S) (s : S) (r : Result Verdict E) → t.ended ≡ None → t.set ≡ Some s → IfOk r (IsOpenVerdict v (holds s) t.events) → Fed holds v x budget events t → IfOk r (IsTermVerdict v x budget events)
   open_verdict_is t s r p q h f = IfOk-weaker r _ _ (open_is t s f p q) h
 
   pub open_verdict_tells : {E : Type 0} (t : TrackValue S) (s : S) (r : Result Verdict E) → t.ended ≡ None → t.set ≡ Some s → IfOk r (IsOpenVerdict v (holds s) t.events) → Fed holds v x budget events t → IfOk r (TellsRuns v x events)
   open_verdict_tells t s r p q h f = IfOk-weaker r _ _ (λ w i. tells_runs v x budget events w f.sound (open_is t s f p q w i)) h
 
-  pub settled_is : (t : TrackValue S) (verdict : Verdict) → t.ended ≡ Some verdict → Fed holds v x budget events t → IsVerdict v x budget events verdict
+  pub settled_is : (t : TrackValue S) (verdict : Verdict) → t.ended ≡ Some verdict → Fed holds v x budget events t → IsTermVerdict v x budget events verdict
   settled_is t verdict p f = verdict_settled holds v x budget events t verdict f p
 
   pub settled_tells : (t : TrackValue S) (verdict : Verdict) → t.ended ≡ Some verdict → Fed holds v x budget events t → TellsRuns v x events verdict

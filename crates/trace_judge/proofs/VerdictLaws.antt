@@ -9,9 +9,9 @@ use Rattle.term_tables.specs.NetValues.{NetsValue}
 use Rattle.chart_term.specs.Terms.{Tree}
 use Rattle.term_laws.specs.Listing.{set_weight}
 use Rattle.trace_judge.specs.Laws.{VerdictsTellRuns}
-use Rattle.trace_judge.specs.Logs.{labels_of, IsLeft, AreResiduals, Begins, IsRun, IsWithin, IsAbove}
+use Rattle.trace_judge.specs.Logs.{labels_of, IsLeft, AreResiduals, BeginsTermRun, IsTermRun, WeighsWithin, WeighsMore}
 use Rattle.trace_judge.specs.Sets.{IsSoundFor}
-use Rattle.trace_judge.specs.Verdicts.{AreWithin, HasLeft, LeavesSome, LeavesEnding, FailsAt, PassesAt, IsVerdict, TellsRuns}
+use Rattle.trace_judge.specs.Verdicts.{AreWithin, HasLeft, LeavesSome, LeavesEnding, FailsAt, PassesAt, IsTermVerdict, TellsRuns}
 use Rattle.trace_judge.specs.VerdictsBy.{EndsAt}
 use Rattle.trace_judge.proofs.Prefixes.{IsCutAt, whole, within, cut_at, AreOrdered, first, second, ordered, first_of_rest, ends_empty, map_more}
 use Rattle.trace_judge.proofs.Lefts.{left_last}
@@ -35,11 +35,11 @@ module _ (v : NetsValue) (x : Tree) where
   some_left events [] r l = absurd (omega arith)
   some_left events (y ∷ ys) r l = record { term = y; left = (r.exact y).to (inl refl) }
 
-  pub above_left : (budget : ℕ) (events : List LineEvent) → IsAbove v x budget (labels_of events) → HasLeft v x events
+  pub above_left : (budget : ℕ) (events : List LineEvent) → WeighsMore v x budget (labels_of events) → HasLeft v x events
   above_left budget events h = some_left events h.set h.are (omega (arith, h.above))
 
   -- one weight isn't within the budget and above it
-  pub not_both : (budget : ℕ) (l : List Label) → IsWithin v x budget l → IsAbove v x budget l → ⊥
+  pub not_both : (budget : ℕ) (l : List Label) → WeighsWithin v x budget l → WeighsMore v x budget l → ⊥
   not_both budget l h g = absurd (omega (arith, h.within, g.above, set_weighs v x l h.set g.set h.are g.are))
 
   module _ (budget : ℕ) (events : List LineEvent) where
@@ -94,7 +94,7 @@ module _ (v : NetsValue) (x : Tree) where
     ends_left : LeavesEnding v x (labels_of events) → HasLeft v x events
     ends_left e = record { term = e.term; left = e.left }
 
-    pub one_verdict : (p q : Verdict) → IsVerdict v x budget events p → IsVerdict v x budget events q → p ≡ q
+    pub one_verdict : (p q : Verdict) → IsTermVerdict v x budget events p → IsTermVerdict v x budget events q → p ≡ q
     one_verdict (Conforms n) (Conforms m) h g = ap Conforms (h.0 ∙ sym g.0)
     one_verdict (Conforms n) (Fails k l) h g = absurd (left_fails (ends_left h.2) g.ends)
     one_verdict (Conforms n) (Early m) h g = absurd (g.2.unfinished h.2)
@@ -112,10 +112,10 @@ module _ (v : NetsValue) (x : Tree) where
     one_verdict (TooLarge n) (Early m) h g = absurd (within_passes g.1 h)
     one_verdict (TooLarge n) (TooLarge m) h g = ap TooLarge (only_passes h g)
 
-pub tells_runs : (v : NetsValue) (x : Tree) (budget : ℕ) (events : List LineEvent) (verdict : Verdict) → IsSoundFor v x → IsVerdict v x budget events verdict → TellsRuns v x events verdict
+pub tells_runs : (v : NetsValue) (x : Tree) (budget : ℕ) (events : List LineEvent) (verdict : Verdict) → IsSoundFor v x → IsTermVerdict v x budget events verdict → TellsRuns v x events verdict
 tells_runs v x budget events verdict h i =
-    tells_move (LeavesEnding v x) (LeavesSome v x) (IsRun v x) (Begins v x) (ending_exact v x h) (left_exact v x h) events verdict
-    (told (IsWithin v x budget) (IsAbove v x budget) (LeavesEnding v x) (LeavesSome v x) events verdict i)
+    tells_move (LeavesEnding v x) (LeavesSome v x) (IsTermRun v x) (BeginsTermRun v x) (ending_exact v x h) (left_exact v x h) events verdict
+    (told (WeighsWithin v x budget) (WeighsMore v x budget) (LeavesEnding v x) (LeavesSome v x) events verdict i)
 
 pub verdicts_tell_runs : VerdictsTellRuns
 verdicts_tell_runs = record { one = one_verdict; runs = tells_runs }

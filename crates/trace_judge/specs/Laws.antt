@@ -7,9 +7,9 @@ use Rattle.term_tables.specs.NetValues.{NetsValue}
 use Rattle.chart_term.specs.TermPatterns.{Both}
 use Rattle.chart_term.specs.Terms.{Tree}
 use Rattle.term_laws.specs.Listing.{set_weight}
-use Rattle.trace_judge.specs.Logs.{AreResiduals, Begins, IsRun}
+use Rattle.trace_judge.specs.Logs.{AreResiduals, BeginsTermRun, IsTermRun}
 use Rattle.trace_judge.specs.Sets.{IsSoundFor, AreSuccessors, HasEnding}
-use Rattle.trace_judge.specs.Verdicts.{IsVerdict, TellsRuns}
+use Rattle.trace_judge.specs.Verdicts.{IsTermVerdict, TellsRuns}
 
 -- before the first event only the term is left; what is left after one event more is what an event leaves of the set; all such sets of
 -- one term have one weight, and each term has such a set after any labels
@@ -20,10 +20,10 @@ pub record SetsGoOn : Type 0 where
 
 -- the set is empty exactly where no run of the term begins with the labels, and a term of it may end exactly where they are a finished run
 pub record SetsTellRuns : Type 0 where
-  pub empty : (v : NetsValue) (x : Tree) (labels : List Label) (set : List Tree) → IsSoundFor v x → AreResiduals v x labels set → Both (set ≡ []) (Begins v x labels → ⊥)
-  pub ends : (v : NetsValue) (x : Tree) (labels : List Label) (set : List Tree) → IsSoundFor v x → AreResiduals v x labels set → Both (HasEnding v set) (IsRun v x labels)
+  pub empty : (v : NetsValue) (x : Tree) (labels : List Label) (set : List Tree) → IsSoundFor v x → AreResiduals v x labels set → Both (set ≡ []) (BeginsTermRun v x labels → ⊥)
+  pub ends : (v : NetsValue) (x : Tree) (labels : List Label) (set : List Tree) → IsSoundFor v x → AreResiduals v x labels set → Both (HasEnding v set) (IsTermRun v x labels)
 
 -- there is one verdict at most, and it tells the runs of the term
 pub record VerdictsTellRuns : Type 0 where
-  pub one : (v : NetsValue) (x : Tree) (budget : ℕ) (events : List LineEvent) (verdict other : Verdict) → IsVerdict v x budget events verdict → IsVerdict v x budget events other → verdict ≡ other
-  pub runs : (v : NetsValue) (x : Tree) (budget : ℕ) (events : List LineEvent) (verdict : Verdict) → IsSoundFor v x → IsVerdict v x budget events verdict → TellsRuns v x events verdict
+  pub one : (v : NetsValue) (x : Tree) (budget : ℕ) (events : List LineEvent) (verdict other : Verdict) → IsTermVerdict v x budget events verdict → IsTermVerdict v x budget events other → verdict ≡ other
+  pub runs : (v : NetsValue) (x : Tree) (budget : ℕ) (events : List LineEvent) (verdict : Verdict) → IsSoundFor v x → IsTermVerdict v x budget events verdict → TellsRuns v x events verdict

@@ -34,25 +34,25 @@ pub record AreResiduals (v : NetsValue) (x : Tree) (labels : List Label) (set : 
   pub exact : (y : Tree) → Both (IsAmong set y) (IsLeft v x labels y)
 
 -- a run of the term begins with these labels; runs of walks under way count
-pub record Begins (v : NetsValue) (x : Tree) (labels : List Label) : Type 0 where
+pub record BeginsTermRun (v : NetsValue) (x : Tree) (labels : List Label) : Type 0 where
   pub numbers : List ℕ
   pub are : AreNumbers v.labels labels numbers
   pub begins : BeginsRun v.tables x numbers
 
 -- the labels are a finished run of the term
-pub record IsRun (v : NetsValue) (x : Tree) (labels : List Label) : Type 0 where
+pub record IsTermRun (v : NetsValue) (x : Tree) (labels : List Label) : Type 0 where
   pub numbers : List ℕ
   pub are : AreNumbers v.labels labels numbers
   pub run : IsFinishedRun v.tables x numbers
 
 -- what is left after the labels weighs no more than the budget
-pub record IsWithin (v : NetsValue) (x : Tree) (budget : ℕ) (labels : List Label) : Type 0 where
+pub record WeighsWithin (v : NetsValue) (x : Tree) (budget : ℕ) (labels : List Label) : Type 0 where
   pub set : List Tree
   pub are : AreResiduals v x labels set
   pub within : set_weight set ≤ budget
 
 -- what is left after the labels weighs more
-pub record IsAbove (v : NetsValue) (x : Tree) (budget : ℕ) (labels : List Label) : Type 0 where
+pub record WeighsMore (v : NetsValue) (x : Tree) (budget : ℕ) (labels : List Label) : Type 0 where
   pub set : List Tree
   pub are : AreResiduals v x labels set
   pub above : budget < set_weight set

@@ -8,7 +8,7 @@ use Rattle.chart_term.specs.Tables.{terms_over}
 use Rattle.chart_term.specs.Terms.{Tree}
 use Rattle.term_laws.specs.Listing.{set_weight}
 use Rattle.term_laws.specs.Taking.{MayEnd}
-use Rattle.trace_judge.specs.Logs.{labels_of, IsLeft, AreResiduals, Begins, IsRun, IsWithin, IsAbove}
+use Rattle.trace_judge.specs.Logs.{labels_of, IsLeft, AreResiduals, BeginsTermRun, IsTermRun, WeighsWithin, WeighsMore}
 use Rattle.trace_judge.specs.VerdictsBy as by
 
 -- something is left after these labels
@@ -28,23 +28,23 @@ pub record LeavesEnding (v : NetsValue) (x : Tree) (labels : List Label) : Type 
 
 -- what is left after each prefix of the events is within the budget
 abbrev pub AreWithin : NetsValue → Tree → ℕ → List LineEvent → Type 0
-AreWithin v x budget events = by.StaysWithin (IsWithin v x budget) (IsAbove v x budget) (LeavesEnding v x) (LeavesSome v x) events
+AreWithin v x budget events = by.StaysWithin (WeighsWithin v x budget) (WeighsMore v x budget) (LeavesEnding v x) (LeavesSome v x) events
 
 -- the first event after which nothing is left
 abbrev pub FailsAt : NetsValue → Tree → ℕ → List LineEvent → ℕ → ℕ → Type 0
-FailsAt v x budget events number line = by.FailsAt (IsWithin v x budget) (IsAbove v x budget) (LeavesEnding v x) (LeavesSome v x) events number line
+FailsAt v x budget events number line = by.FailsAt (WeighsWithin v x budget) (WeighsMore v x budget) (LeavesEnding v x) (LeavesSome v x) events number line
 
 -- the first event after which what is left passes the budget
 abbrev pub PassesAt : NetsValue → Tree → ℕ → List LineEvent → ℕ → Type 0
-PassesAt v x budget events number = by.PassesAt (IsWithin v x budget) (IsAbove v x budget) (LeavesEnding v x) (LeavesSome v x) events number
+PassesAt v x budget events number = by.PassesAt (WeighsWithin v x budget) (WeighsMore v x budget) (LeavesEnding v x) (LeavesSome v x) events number
 
 -- the verdict on these events, by what is left of the term
-abbrev pub IsVerdict : NetsValue → Tree → ℕ → List LineEvent → Verdict → Type 0
-IsVerdict v x budget events verdict = by.IsVerdict (IsWithin v x budget) (IsAbove v x budget) (LeavesEnding v x) (LeavesSome v x) events verdict
+abbrev pub IsTermVerdict : NetsValue → Tree → ℕ → List LineEvent → Verdict → Type 0
+IsTermVerdict v x budget events verdict = by.IsVerdict (WeighsWithin v x budget) (WeighsMore v x budget) (LeavesEnding v x) (LeavesSome v x) events verdict
 
 -- what the verdict says of the term's runs
 abbrev pub TellsRuns : NetsValue → Tree → List LineEvent → Verdict → Type 0
-TellsRuns v x events verdict = by.Tells (IsRun v x) (Begins v x) events verdict
+TellsRuns v x events verdict = by.Tells (IsTermRun v x) (BeginsTermRun v x) events verdict
 
 -- what is left after these events and each prefix of them is within the budget, and weighs so much after them
 pub record Weighs (v : NetsValue) (x : Tree) (budget : ℕ) (events : List LineEvent) (n : ℕ) : Type 0 where
@@ -56,7 +56,7 @@ pub record Weighs (v : NetsValue) (x : Tree) (budget : ℕ) (events : List LineE
 -- there is a prefix of the events with this weight; where the term alone is above the budget there is none, and this is 0
 pub data IsReached (v : NetsValue) (x : Tree) (budget : ℕ) (events : List LineEvent) (n : ℕ) : Type 0 where
   by_front : (prefix back : List LineEvent) → events ≡ prefix ++ back → Weighs v x budget prefix n → IsReached v x budget events n
-  by_none : IsAbove v x budget [] → n ≡ 0 → IsReached v x budget events n
+  by_none : WeighsMore v x budget [] → n ≡ 0 → IsReached v x budget events n
 
 -- the largest weight after a prefix of the events, as far as the budget isn't passed
 pub record IsLargest (v : NetsValue) (x : Tree) (budget : ℕ) (events : List LineEvent) (n : ℕ) : Type 0 where

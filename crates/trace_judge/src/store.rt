@@ -6,7 +6,7 @@ ghost use Rattle.msc_base.specs.declared.label.Label.{Label};
 ghost use Rattle.term_tables.specs.NetValues.{NetsValue};
 ghost use Rattle.chart_term.specs.Terms.{Tree, weight};
 ghost use Rattle.term_laws.specs.Listing.{set_weight};
-ghost use Rattle.trace_judge.specs.Logs.{AreResiduals, Begins, IsRun};
+ghost use Rattle.trace_judge.specs.Logs.{AreResiduals, BeginsTermRun, IsTermRun};
 ghost use Rattle.trace_judge.specs.Sets.{SetValue, IsSoundFor, IsServing, IsNextSet, HasEnding};
 ghost use Rattle.trace_judge.specs.Steps.{ForLabels, IsNumber, IsStepFault};
 ghost use Rattle.trace_judge.specs.declared.store.StepFault.TheVariants.{TooLarge, NoMemory};
@@ -71,7 +71,7 @@ pub trait Store: Sized {
     fn is_empty(&self) -> bool
         ensures empty { IsTrue result ↔ ((holds self.now).terms ≡ []) }
         ensures begins { (v : NetsValue) (x : Tree) (labels : List Label) → IsSoundFor v x → AreResiduals v x labels (holds self.now).terms
-            → (IsTrue result ↔ (Begins v x labels → ⊥)) };
+            → (IsTrue result ↔ (BeginsTermRun v x labels → ⊥)) };
 
     /// The weight of the terms held. It takes no memory.
     fn weight(&self) -> u64
@@ -85,7 +85,7 @@ pub trait Store: Sized {
         requires { serves self.now nets.now }
         ensures ending { IfOk result (λ ends. IsTrue ends ↔ HasEnding nets.now (holds self.now).terms) }
         ensures finishes { (x : Tree) (labels : List Label) → IsSoundFor nets.now x → AreResiduals nets.now x labels (holds self.now).terms
-            → IfOk result (λ ends. IsTrue ends ↔ IsRun nets.now x labels) };
+            → IfOk result (λ ends. IsTrue ends ↔ IsTermRun nets.now x labels) };
 
     /// A set that serves tables holds only terms that are sound for them, each once, in the order of terms, within the budget.
     ghost serving: { (set : Self) (v : NetsValue) → serves set v → IsServing v (holds set) };

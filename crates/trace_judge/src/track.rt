@@ -8,7 +8,7 @@ ghost use Rattle.trace_judge.specs.Advances.{Follows, FollowsOpen, settled, rise
 ghost use Rattle.trace_judge.specs.Sets.{IsSoundFor};
 ghost use Rattle.trace_judge.specs.Steps.{ForLabels, IsNumber};
 ghost use Rattle.trace_judge.specs.Tracks.{Fed, IfHeld, IsSame};
-ghost use Rattle.trace_judge.specs.Verdicts.{IsVerdict, TellsRuns, IsLargest};
+ghost use Rattle.trace_judge.specs.Verdicts.{IsTermVerdict, TellsRuns, IsLargest};
 ghost use Rattle.line_events.specs.declared.event.LineEvent.{LineEvent};
 
 use crate::advance::{Outcome, advance};
@@ -181,7 +181,7 @@ impl<S: Store + Drop> Track<S> {
     pub fn verdict(&self, alloc: Global, nets: &Nets) -> Result<Verdict, NoMemory>
         requires { IfHeld (λ set. S.serves set nets.now) self.now }
         ensures verdict { (x : Tree) (budget : ℕ) (events : List LineEvent) → Fed S.holds nets.now x budget events self.now
-            → IfOk result (IsVerdict nets.now x budget events) }
+            → IfOk result (IsTermVerdict nets.now x budget events) }
         ensures runs { (x : Tree) (budget : ℕ) (events : List LineEvent) → Fed S.holds nets.now x budget events self.now
             → IfOk result (TellsRuns nets.now x events) }
     {

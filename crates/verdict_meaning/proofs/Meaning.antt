@@ -11,9 +11,9 @@ use Rattle.term_tables.specs.NetValues.{NetsValue}
 use Rattle.chart_term.specs.TermPatterns.{Both}
 use Rattle.chart_term.specs.TermRuns.{IsLinearRun}
 use Rattle.chart_term.specs.Terms.{Tree}
-use Rattle.trace_judge.specs.Logs.{AreResiduals, Begins, IsRun}
+use Rattle.trace_judge.specs.Logs.{AreResiduals, BeginsTermRun, IsTermRun}
 use Rattle.trace_judge.specs.Sets.{IsSoundFor, HasEnding}
-use Rattle.trace_judge.specs.Verdicts.{IsVerdict}
+use Rattle.trace_judge.specs.Verdicts.{IsTermVerdict}
 use Rattle.trace_judge.specs.VerdictsBy.{Tells}
 use Rattle.trace_judge.proofs.VerdictMoves.{tells_move}
 use Rattle.trace_judge.specs.Laws.{SetsTellRuns, VerdictsTellRuns}
@@ -22,7 +22,7 @@ use Rattle.verdict_meaning.proofs.Labelled.{run_there, run_here, begun_there, nu
 
 module _ (v : NetsValue) (names : List (List ℕ)) (x : Tree) (once : Once v.labels) where
   -- the finished runs of the term are the runs of the finished unfoldings
-  pub runs : (finished : Unfolding → Type 0) → MeansUnfoldings v names false x finished → (labels : List Label) → Both (IsRun v x labels) (IsRunOf finished labels)
+  pub runs : (finished : Unfolding → Type 0) → MeansUnfoldings v names false x finished → (labels : List Label) → Both (IsTermRun v x labels) (IsRunOf finished labels)
   runs finished m labels = record {
     to = λ r. let p = m.each r.run.pattern r.run.has in
         record { of = p.of; is = p.is; run = run_there v.labels names r.run.pattern p.of p.stands labels (record { numbers = r.numbers; are = r.are; run = r.run.run }) };
@@ -32,7 +32,7 @@ module _ (v : NetsValue) (names : List (List ℕ)) (x : Tree) (once : Once v.lab
   }
 
   -- a run of the term begins with the labels exactly where a run of the unfoldings does
-  pub begins : (unfolds : Unfolding → Type 0) → MeansUnfoldings v names true x unfolds → (labels : List Label) → Both (Begins v x labels) (BeginsRunOf unfolds labels)
+  pub begins : (unfolds : Unfolding → Type 0) → MeansUnfoldings v names true x unfolds → (labels : List Label) → Both (BeginsTermRun v x labels) (BeginsRunOf unfolds labels)
   begins unfolds m labels = record {
     to = λ r. let p = m.each r.begins.pattern r.begins.has in
         let (more, q) = begun_there v.labels names r.begins.pattern p.of p.stands labels r.numbers r.begins.rest r.are r.begins.run in
@@ -61,6 +61,6 @@ module _ (v : NetsValue) (names : List (List ℕ)) (x : Tree) (once : Once v.lab
 
   -- the verdict by residual terms tells the runs of the unfoldings
   pub verdict_tells : VerdictsTellRuns → (finished unfolds : Unfolding → Type 0) → MeansUnfoldings v names false x finished → MeansUnfoldings v names true x unfolds → IsSoundFor v x
-      → (budget : ℕ) (events : List LineEvent) (verdict : Verdict) → IsVerdict v x budget events verdict → Tells (IsRunOf finished) (BeginsRunOf unfolds) events verdict
+      → (budget : ℕ) (events : List LineEvent) (verdict : Verdict) → IsTermVerdict v x budget events verdict → Tells (IsRunOf finished) (BeginsRunOf unfolds) events verdict
   verdict_tells law finished unfolds m n sound budget events verdict h =
-      tells_move (IsRun v x) (Begins v x) (IsRunOf finished) (BeginsRunOf unfolds) (runs finished m) (begins unfolds n) events verdict (law.runs v x budget events verdict sound h)
+      tells_move (IsTermRun v x) (BeginsTermRun v x) (IsRunOf finished) (BeginsRunOf unfolds) (runs finished m) (begins unfolds n) events verdict (law.runs v x budget events verdict sound h)

@@ -10,7 +10,7 @@ use Rattle.chart_term.specs.Terms.{Tree}
 use Rattle.term_tables.specs.NetValues.{NetsValue}
 use Rattle.trace_judge.specs.Logs.{AreResiduals}
 use Rattle.trace_judge.specs.Sets.{IsSoundFor, HasEnding}
-use Rattle.trace_judge.specs.Verdicts.{IsVerdict}
+use Rattle.trace_judge.specs.Verdicts.{IsTermVerdict}
 use Rattle.trace_judge.specs.VerdictsBy.{Tells}
 use Rattle.term_meaning.specs.Meanings.{Means}
 
@@ -27,4 +27,4 @@ pub record ChartsAreTold : Type 0 where
   pub ends : (table : Table) (name : List ℕ) (v : NetsValue) (names : List (List ℕ)) (x : Tree) → IsTermOf table name v names x → (labels : List Label) (set : List Tree) → AreResiduals v x labels set
       → Both (HasEnding v set) (Conforms table name labels)
   pub verdict : (table : Table) (name : List ℕ) (v : NetsValue) (names : List (List ℕ)) (x : Tree) → IsTermOf table name v names x → (budget : ℕ) (events : List LineEvent) (verdict : Verdict)
-      → IsVerdict v x budget events verdict → Tells (Conforms table name) (Begins table name) events verdict
+      → IsTermVerdict v x budget events verdict → Tells (Conforms table name) (Begins table name) events verdict

@@ -8,7 +8,7 @@ use Rattle.chart_term.specs.Properties.{Each}
 use Rattle.chart_term.specs.Tables.{Tables, NetEntry, net_count}
 use Rattle.chart_term.specs.Terms.{TermEvent, Tree, Nil, Event, Walk}
 use Rattle.term_permission.specs.Ready.{AreReadyTables, IsReady}
-use Rattle.permit_step.specs.AllAfter.{AreAllLeft}
+use Rattle.term_step.specs.AllAfter.{AreAllLeft}
 use Rattle.hmsc_graph.specs.Graphs.{Spot, Goal}
 use Rattle.chart_term.specs.TermPatterns.{some_list}
 use Rattle.term_laws.specs.Placing.{HaveOnePlace}

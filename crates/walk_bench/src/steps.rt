@@ -11,9 +11,9 @@ use crate::ring::{LABELS, labels};
 use chart_term::{Look, Term, TermList};
 use hmsc_graph::Goal;
 use msc_base::{Label, NoMemory};
-use permit_step::after_each;
 use std::alloc::Global;
 use term_permission::fresh_walk;
+use term_step::after_each;
 use term_tables::Nets;
 
 /// The most that what is left of the walk may weigh.

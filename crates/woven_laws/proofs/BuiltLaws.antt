@@ -11,7 +11,7 @@ use Rattle.msc_tree.specs.declared.reference.InlineForm.TheVariants as inline
 use Rattle.msc_tree.specs.Charts.{Chart, Basic}
 use Rattle.msc_tree.specs.Statements.{Form, InlineHead, Operands, no_operands, operand_and, Reference, Statement, statements}
 use Rattle.msc_tree.specs.Statements as tree
-use Rattle.msc_meaning.specs.Bodies.{Body, Items, Item, Bodies, no_bodies, body_and}
+use Rattle.msc_meaning.specs.Bodies.{Body, WovenItems, WovenItem, Bodies, no_bodies, body_and}
 use Rattle.msc_meaning.specs.LevelItems.{level_items}
 use Rattle.msc_meaning.specs.Levels.{AreWovenItems, AreWovenOperands, IsWovenItem, IsWovenLevel, a_coregion, a_reference, an_event, an_inline, no_woven, no_woven_operand, nodes_from, operand_number, woven, woven_and, woven_operand_and}
 use Rattle.msc_meaning.specs.Pieces.{Piece, operands_of, statements_pieces}
@@ -116,12 +116,12 @@ module _ (names : List (List ℕ)) where
     body_built : {cover : List (List ℕ)} {ps : List Piece} (b : Body) → AreAmong names cover → Each IsGood ps → IsWovenLevel cover ps b → is_built names b ≡ true
     body_built {ps = ps} _ c h (woven {held = held} o w p) = items_built (level_items ps) held c (level_each IsGood ps h) w
 
-    items_built : {cover : List (List ℕ)} {order : List ℕ} (all : List (List Piece)) (xs : Items) → AreAmong names cover → EachOfAll IsGood all → AreWovenItems cover all order xs → are_built names xs ≡ true
+    items_built : {cover : List (List ℕ)} {order : List ℕ} (all : List (List Piece)) (xs : WovenItems) → AreAmong names cover → EachOfAll IsGood all → AreWovenItems cover all order xs → are_built names xs ≡ true
     items_built all _ c h (no_woven) = refl
     items_built all _ c h (woven_and {x = i} {parts = parts} {item = x} {held = xs} at w k) =
         both (is_built_item names x) (are_built names xs) (item_built x c (parts_each IsGood all i parts h at) w) (items_built all xs c h k)
 
-    item_built : {cover : List (List ℕ)} {parts : List Piece} (x : Item) → AreAmong names cover → Each IsGood parts → IsWovenItem cover parts x → is_built_item names x ≡ true
+    item_built : {cover : List (List ℕ)} {parts : List Piece} (x : WovenItem) → AreAmong names cover → Each IsGood parts → IsWovenItem cover parts x → is_built_item names x ≡ true
     item_built _ c h (an_event {p = p} {at = at} {e = e} is here) =
         both (list_any (bytes_eq at) names) (is_plain e) (any_from_one names at (lead_among names p.leads at h.0.1.leads here)) (plain_event (is_at_one p.leads) e (formed p (tree.Single e) is h.0.0))
     item_built _ c h (a_coregion {p = p} {at = at} {es = es} is here) =

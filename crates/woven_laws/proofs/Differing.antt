@@ -4,7 +4,7 @@ use Rattle.msc_base.specs.Lists.{AreDifferent, IsAmong}
 use Rattle.msc_base.specs.Orders.{Among, Once}
 use Rattle.msc_tree.specs.declared.event.RawEvent.{RawEvent}
 use Rattle.msc_tree.specs.Statements.{Form}
-use Rattle.msc_meaning.specs.Bodies.{EventNode, Body, Items, Item, Bodies}
+use Rattle.msc_meaning.specs.Bodies.{EventNode, Body, WovenItems, WovenItem, Bodies}
 use Rattle.msc_meaning.specs.LevelItems.{level_items}
 use Rattle.msc_meaning.specs.Levels.{AreWovenItems, AreWovenOperands, IsWovenItem, IsWovenLevel, a_coregion, a_reference, an_event, an_inline, no_woven, no_woven_operand, nodes_from, woven, woven_and, woven_operand_and}
 use Rattle.msc_meaning.specs.Pieces.{Piece, form_count, operands_of, statements_count}
@@ -44,7 +44,7 @@ mutual
       let known = items_of_level n m ps w in
       differ_as (HasSome (level_items ps) order) (λ k. Has k ps) (numbers (items_within held)) (λ k s. known.within k s.item s.parts s.at s.has) (items_differ m ps (level_items ps) held known o.once h)
 
-  items_differ : {cover : List (List ℕ)} {order : List ℕ} (m : ℕ) (ps : List Piece) (all : List (List Piece)) (xs : Items) → AreLevelItems m ps all → AreDifferent order → AreWovenItems cover all order xs → Differ (HasSome all order) (numbers (items_within xs))
+  items_differ : {cover : List (List ℕ)} {order : List ℕ} (m : ℕ) (ps : List Piece) (all : List (List Piece)) (xs : WovenItems) → AreLevelItems m ps all → AreDifferent order → AreWovenItems cover all order xs → Differ (HasSome all order) (numbers (items_within xs))
   items_differ m ps all _ known d (no_woven) = subst (Differ (HasSome all [])) (sym numbers_none) (differ_none (HasSome all []))
   items_differ m ps all _ known d (woven_and {x = i} {order = order} {parts = parts} {item = x} {held = xs} at h k) =
       differ_on (λ j. Has j parts) (HasSome all order) (HasSome all (i ∷ order)) (item_within x) (items_within xs)
@@ -53,7 +53,7 @@ mutual
       (λ j s. record { item = s.item; parts = s.parts; among = inr s.among; at = s.at; has = s.has })
       (λ j a s. d.0 (subst (IsAmong order) (sym (known.apart j i s.item parts s.parts at s.at a s.has)) s.among))
 
-  item_differs : {cover : List (List ℕ)} {parts : List Piece} (n m : ℕ) (x : Item) → ArePlaced n m parts → IsWovenItem cover parts x → Differ (λ k. Has k parts) (numbers (item_within x))
+  item_differs : {cover : List (List ℕ)} {parts : List Piece} (n m : ℕ) (x : WovenItem) → ArePlaced n m parts → IsWovenItem cover parts x → Differ (λ k. Has k parts) (numbers (item_within x))
   item_differs n m _ w (an_event {p = p} {at = at} {e = e} is here) = one_differs (record { number = p.first; at = at; event = e }) p refl (subst (λ (f : Form). form_count f ≡ 1) (sym is) refl)
   item_differs n m _ w (a_coregion {p = p} {at = at} {es = es} is here) =
       let many : form_count p.form ≡ length es = subst (λ (f : Form). form_count f ≡ length es) (sym is) refl in

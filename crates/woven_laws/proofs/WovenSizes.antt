@@ -3,7 +3,7 @@ use Rattle.std.proofs.Common.{◌≡◌, ℕ, suc, ◌≤◌, ◌+◌, List, [],
 use Rattle.msc_tree.specs.declared.event.RawEvent.{RawEvent}
 use Rattle.msc_tree.specs.Statements.{Form, Statement, statements}
 use Rattle.msc_tree.specs.Statements as tree
-use Rattle.msc_meaning.specs.Bodies.{Body, Items, Item, Coregion, Bodies}
+use Rattle.msc_meaning.specs.Bodies.{Body, WovenItems, WovenItem, Coregion, Bodies}
 use Rattle.msc_meaning.specs.LevelItems.{cover_of, level_items}
 use Rattle.msc_meaning.specs.Levels.{AreWovenItems, AreWovenOperands, IsWovenItem, IsWovenLevel, a_coregion, a_reference, an_event, an_inline, no_woven, no_woven_operand, nodes_from, operand_number, woven, woven_and, woven_operand_and}
 use Rattle.msc_meaning.specs.Pieces.{Piece}
@@ -24,14 +24,14 @@ mutual
       let here : items_size held ≤ sizes_at (level_items ps) order = items_light (level_items ps) held h in
       omega (arith, here, different_size (level_items ps) order o.once, level_size ps)
 
-  items_light : {cover : List (List ℕ)} {order : List ℕ} (all : List (List Piece)) (xs : Items) → AreWovenItems cover all order xs → items_size xs ≤ sizes_at all order
+  items_light : {cover : List (List ℕ)} {order : List ℕ} (all : List (List Piece)) (xs : WovenItems) → AreWovenItems cover all order xs → items_size xs ≤ sizes_at all order
   items_light all _ (no_woven) = omega arith
   items_light all _ (woven_and {x = i} {order = order} {parts = parts} {item = x} {held = xs} at h k) =
       let here : item_size x ≤ pieces_size parts = item_light x h in
       let rest : items_size xs ≤ sizes_at all order = items_light all xs k in
       omega (arith, here, rest, at_size_is all i parts at)
 
-  item_light : {cover : List (List ℕ)} {parts : List Piece} (x : Item) → IsWovenItem cover parts x → item_size x ≤ pieces_size parts
+  item_light : {cover : List (List ℕ)} {parts : List Piece} (x : WovenItem) → IsWovenItem cover parts x → item_size x ≤ pieces_size parts
   item_light _ (an_event {p = p} {e = e} is here) = let size : form_size p.form ≡ form_size (tree.Single e) = ap form_size is in omega (arith, size)
   item_light _ (a_coregion {p = p} {at = at} {es = es} is here) = let size : form_size p.form ≡ form_size (tree.Coregion es) = ap form_size is in omega (arith, size, nodes_size p.first at es)
   item_light _ (an_inline {cover = cover} {p = p} {ps = ps} {head = head} {operands = operands} {held = held} is h) =

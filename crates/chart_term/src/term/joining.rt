@@ -112,7 +112,7 @@ impl PartList {
     }
 
     /// The parts of the first, and then those of the second.
-    #[tactic(auto, using(shared_sequence::proofs::Parts::parts))]
+    #[tactic(auto, using(persistent_sequence::proofs::Parts::parts))]
     fn concat_full(alloc: Global, first: &PartList, second: &PartList) -> Result<PartList, NoMemory>
         requires first { 0 < length first.now }
         requires second { 0 < length second.now }

@@ -9,8 +9,8 @@ ghost use Rattle.chart_term.specs.Views.{event_of, pairs_of};
 
 use super::{Form, Node, PartList, RowPart, Term};
 use crate::Event;
-use node_facts::{compare_counts, compare_maybe};
 use std::cmp::Ordering;
+use term_facts::{compare_counts, compare_maybe};
 use tie_list::TieList;
 
 /// How two terms, or two lists, compare.
@@ -34,7 +34,7 @@ fn compare_events(event: &Event, other: &Event) -> Ordering
 }
 
 /// Pair by pair.
-#[tactic(auto, using(node_facts::proofs::Listing::listing))]
+#[tactic(auto, using(term_facts::proofs::Listing::listing))]
 fn compare_ties(pairs: &TieList, others: &TieList) -> Ordering
     ensures { result ≡ pairs_cmp (pairs_of pairs.now) (pairs_of others.now) }
 {

@@ -10,9 +10,9 @@ use super::{PartList, RowPart, Stretch, StretchForm};
 use crate::PartLook;
 use bit_sets::Block;
 use msc_base::NoMemory;
-use node_facts::Facts;
 use std::alloc::Global;
 use std::rc::Rc;
+use term_facts::Facts;
 
 /// How many parts a leaf holds at most.
 pub(crate) const LEAF: usize = 16;

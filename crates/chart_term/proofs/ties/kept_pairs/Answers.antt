@@ -5,7 +5,7 @@ use Rattle.chart_term.specs.NormalForms.{numbers}
 use Rattle.chart_term.specs.Order.{pair_cmp}
 use Rattle.chart_term.specs.Views.{pair_of, pairs_of}
 use Rattle.chart_term.proofs.Binds.{pair_kept, pair_dropped, pair_seen}
-use Rattle.node_facts.proofs.Listing.{get_or_any}
+use Rattle.term_facts.proofs.Listing.{get_or_any}
 use Rattle.chart_term.proofs.ties.kept_pairs.Goals as goal
 use Rattle.chart_term.proofs.ties.kept_pairs.Goals.{then-occurs-new+in_ok-push, else-occurs-new}
 

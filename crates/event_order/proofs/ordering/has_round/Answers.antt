@@ -1,9 +1,9 @@
 use Rattle.std.proofs.Common.{◌+◌, All, List, refl, sym, subst}
-use Rattle.item_order.specs.Answers.{IfStuck, IfWhole}
-use Rattle.item_order.specs.Counts.{Inside, Leads}
-use Rattle.item_order.specs.Orders.{IsStuckAt, IsWhole}
-use Rattle.item_order.specs.declared.edge.Edge.{Edge}
-use Rattle.item_order.specs.declared.sorting.Sorted.{Sorted}
+use Rattle.column_order.specs.Answers.{IfStuck, IfWhole}
+use Rattle.column_order.specs.Counts.{Inside, EdgeLeads}
+use Rattle.column_order.specs.Orders.{IsStuckAt, IsWhole}
+use Rattle.column_order.specs.declared.edge.Edge.{Edge}
+use Rattle.column_order.specs.declared.sorting.Sorted.{Sorted}
 use Rattle.msc_meaning.specs.Views.{body_view}
 use Rattle.event_order.specs.RankedBodies.{counted_within}
 use Rattle.event_order.proofs.Sorting.{cyclic_body, edges_inside, none_drawn, order_ranks, ranked_body}
@@ -21,9 +21,9 @@ returns-in-Whole-clause-ranked c = λ e.
     let n = m + c.draw_body.new.web.bars in
     let w = c.draw_body.new.web in
     let b = body_view c.args.body.now in
-    let whole : IsWhole n (Leads c.as_slice.result.now) c.in-Whole.field-0.items = subst (λ (s : Sorted). IfWhole s (λ order. IsWhole n (Leads c.as_slice.result.now) order.items)) c.in-Whole.is c.in_ok-sort_edges.ensures.whole in
+    let whole : IsWhole n (EdgeLeads c.as_slice.result.now) c.in-Whole.field-0.items = subst (λ (s : Sorted). IfWhole s (λ order. IsWhole n (EdgeLeads c.as_slice.result.now) order.items)) c.in-Whole.is c.in_ok-sort_edges.ensures.whole in
     ranked_body b (counted_within b) c.nothing-web.result w c.in_ok-draw_body.field-0 c.in_ok-draw_body.ensures
-    (order_ranks w m n c.in_ok-edges.edges c.in_ok-draw_body.ensures.tidy c.above_events-events.ensures.below c.in_ok-edges.ensures refl c.in-Whole.field-0.items (subst (λ (l : List Edge). IsWhole n (Leads l) c.in-Whole.field-0.items) c.as_slice.ensures whole))
+    (order_ranks w m n c.in_ok-edges.edges c.in_ok-draw_body.ensures.tidy c.above_events-events.ensures.below c.in_ok-edges.ensures refl c.in-Whole.field-0.items (subst (λ (l : List Edge). IsWhole n (EdgeLeads l) c.in-Whole.field-0.items) c.as_slice.ensures whole))
 
 pub returns-clause-cyclic : goal.returns-clause-cyclic
 returns-clause-cyclic c = λ e.
@@ -31,6 +31,6 @@ returns-clause-cyclic c = λ e.
     let n = m + c.draw_body.new.web.bars in
     let w = c.draw_body.new.web in
     let b = body_view c.args.body.now in
-    let stuck : IsStuckAt n (Leads c.as_slice.result.now) c.in-Stuck.field-0 = subst (λ (s : Sorted). IfStuck s (IsStuckAt n (Leads c.as_slice.result.now))) c.in-Stuck.is c.in_ok-sort_edges.ensures.stuck in
+    let stuck : IsStuckAt n (EdgeLeads c.as_slice.result.now) c.in-Stuck.field-0 = subst (λ (s : Sorted). IfStuck s (IsStuckAt n (EdgeLeads c.as_slice.result.now))) c.in-Stuck.is c.in_ok-sort_edges.ensures.stuck in
     cyclic_body b (counted_within b) c.nothing-web.result w c.in_ok-draw_body.field-0 c.in_ok-draw_body.ensures (none_drawn c.nothing-web.result c.nothing-web.ensures.pairs c.nothing-web.ensures.before) m n c.in_ok-edges.edges
-    c.above_events-events.ensures.below c.in_ok-edges.ensures refl c.in-Stuck.field-0 (subst (λ (l : List Edge). IsStuckAt n (Leads l) c.in-Stuck.field-0) c.as_slice.ensures stuck)
+    c.above_events-events.ensures.below c.in_ok-edges.ensures refl c.in-Stuck.field-0 (subst (λ (l : List Edge). IsStuckAt n (EdgeLeads l) c.in-Stuck.field-0) c.as_slice.ensures stuck)

@@ -1,5 +1,5 @@
 use Rattle.std.proofs.Common.{◌≡◌, ◌++◌, ◌∷◌, [], ℕ, List, length, get_or, append-nil, ap, sym, subst, ◌∙◌, arith, OnOk}
-use Rattle.item_order.specs.declared.edge.Edge.{Edge}
+use Rattle.column_order.specs.declared.edge.Edge.{Edge}
 use Rattle.level_pieces.specs.ItemEdges.{lead_edges, name_edge}
 use Rattle.level_pieces.proofs.columns.push_leads.Goals as goal
 

@@ -1,8 +1,8 @@
 use Rattle.std.proofs.Common.{rules, ◌≡◌, ◌<◌, ◌∙◌, All, List, ℕ, IfOk, length, map, ap, ap₂, sym, subst}
-use Rattle.item_order.specs.Answers.{IfStuck, IfWhole}
-use Rattle.item_order.specs.Columns.{columns_from}
-use Rattle.item_order.specs.Weaving.{IsCrossedAt, IsWoven}
-use Rattle.item_order.specs.declared.edge.Edge.{Edge}
+use Rattle.column_order.specs.Answers.{IfStuck, IfWhole}
+use Rattle.column_order.specs.Columns.{columns_from}
+use Rattle.column_order.specs.Weaving.{IsCrossedAt, IsWoven}
+use Rattle.column_order.specs.declared.edge.Edge.{Edge}
 use Rattle.msc_meaning.specs.LevelItems.{Entry, columns_of}
 use Rattle.level_pieces.specs.ItemEdges.{item_edges}
 use Rattle.level_pieces.specs.PieceViews.{part_view}

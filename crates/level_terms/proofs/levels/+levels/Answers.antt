@@ -132,40 +132,40 @@ tied_level-returns-clause-part t c =
 
 pub inline_of-returns-in_ok-made-in-Alt-clause-part : goal.inline_of-returns-in_ok-made-in-Alt-clause-part
 inline_of-returns-in_ok-made-in-Alt-clause-part t c =
-    subst (λ (x : body.Item). IsPart (item_term c.args.names.now c.args.nets.now.labels c.args.next x) [] c.in_ok-made-in-Alt.made) (sym (inline_is c.args.inline.now))
+    subst (λ (x : body.WovenItem). IsPart (item_term c.args.names.now c.args.nets.now.labels c.args.next x) [] c.in_ok-made-in-Alt.made) (sym (inline_is c.args.inline.now))
     (alt_part c.args.names.now c.args.nets.now.labels c.args.next c.in_ok-made-in-Alt.made (part_of c.args.inline.now) (bodies_view (out-InlineItem c.args.inline.now).operands.items) (out-InlineItem c.args.inline.now).form c.in-Alt.is c.in_ok-made-in-Alt.ensures.part)
 
 pub inline_of-returns-in_ok-made-in-Par-clause-part : goal.inline_of-returns-in_ok-made-in-Par-clause-part
 inline_of-returns-in_ok-made-in-Par-clause-part t c =
-    subst (λ (x : body.Item). IsPart (item_term c.args.names.now c.args.nets.now.labels c.args.next x) [] c.in_ok-made-in-Par.made) (sym (inline_is c.args.inline.now))
+    subst (λ (x : body.WovenItem). IsPart (item_term c.args.names.now c.args.nets.now.labels c.args.next x) [] c.in_ok-made-in-Par.made) (sym (inline_is c.args.inline.now))
     (par_part c.args.names.now c.args.nets.now.labels c.args.next c.in_ok-made-in-Par.made (part_of c.args.inline.now) (bodies_view (out-InlineItem c.args.inline.now).operands.items) (out-InlineItem c.args.inline.now).form c.in-Par.is c.in_ok-made-in-Par.ensures.part)
 
 pub inline_of-returns-in_ok-made-in-Exc-clause-part : goal.inline_of-returns-in_ok-made-in-Exc-clause-part
 inline_of-returns-in_ok-made-in-Exc-clause-part t c =
-    subst (λ (x : body.Item). IsPart (item_term c.args.names.now c.args.nets.now.labels c.args.next x) [] c.in_ok-made-in-Exc.made) (sym (inline_is c.args.inline.now))
+    subst (λ (x : body.WovenItem). IsPart (item_term c.args.names.now c.args.nets.now.labels c.args.next x) [] c.in_ok-made-in-Exc.made) (sym (inline_is c.args.inline.now))
     (exc_part c.args.names.now c.args.nets.now.labels c.args.next c.in_ok-made-in-Exc.made (part_of c.args.inline.now) (bodies_view (out-InlineItem c.args.inline.now).operands.items) (out-InlineItem c.args.inline.now).form c.in-Exc.is c.in_ok-made-in-Exc.ensures.part)
 
 pub inline_of-returns-in_ok-made-in-Loop-clause-part : goal.inline_of-returns-in_ok-made-in-Loop-clause-part
 inline_of-returns-in_ok-made-in-Loop-clause-part t c =
-    subst (λ (x : body.Item). IsPart (item_term c.args.names.now c.args.nets.now.labels c.args.next x) [] c.in_ok-made-in-Loop.made) (sym (inline_is c.args.inline.now))
+    subst (λ (x : body.WovenItem). IsPart (item_term c.args.names.now c.args.nets.now.labels c.args.next x) [] c.in_ok-made-in-Loop.made) (sym (inline_is c.args.inline.now))
     (loop_part c.args.names.now c.args.nets.now.labels c.args.next c.in_ok-made-in-Loop.made (part_of c.args.inline.now) (bodies_view (out-InlineItem c.args.inline.now).operands.items) (out-InlineItem c.args.inline.now).form c.in_ok-operand-in-Loop.operand
     c.in-Loop.is c.in_ok-operand-in-Loop.ensures.part c.in_ok-made-in-Loop.ensures)
 
 pub inline_of-returns-in_ok-made-in-Opt-clause-part : goal.inline_of-returns-in_ok-made-in-Opt-clause-part
 inline_of-returns-in_ok-made-in-Opt-clause-part t c =
-    subst (λ (x : body.Item). IsPart (item_term c.args.names.now c.args.nets.now.labels c.args.next x) [] c.in_ok-made-in-Opt.made) (sym (inline_is c.args.inline.now))
+    subst (λ (x : body.WovenItem). IsPart (item_term c.args.names.now c.args.nets.now.labels c.args.next x) [] c.in_ok-made-in-Opt.made) (sym (inline_is c.args.inline.now))
     (opt_part c.args.names.now c.args.nets.now.labels c.args.next c.in_ok-made-in-Opt.made (part_of c.args.inline.now) (bodies_view (out-InlineItem c.args.inline.now).operands.items) (out-InlineItem c.args.inline.now).form c.in_ok-front-in-Opt.front c.in_ok-rest-in-Opt.rest
     c.in-Opt.is c.in_ok-rest-in-Opt.ensures c.in_ok-front-in-Opt.ensures.part c.in_ok-made-in-Opt.ensures)
 
 pub item_of-returns-in_ok-made-in-Single-clause-part : goal.item_of-returns-in_ok-made-in-Single-clause-part
 item_of-returns-in_ok-made-in-Single-clause-part t c =
-    subst (λ (x : body.Item). IsPart (item_term c.args.names.now c.args.nets.now.labels c.args.next x) (shown_item c.args.next x) c.in_ok-made-in-Single.made) (sym (ap item_view c.in-Single.is ∙ single_is c.in-Single.node)) c.in_ok-made-in-Single.ensures.part
+    subst (λ (x : body.WovenItem). IsPart (item_term c.args.names.now c.args.nets.now.labels c.args.next x) (shown_item c.args.next x) c.in_ok-made-in-Single.made) (sym (ap item_view c.in-Single.is ∙ single_is c.in-Single.node)) c.in_ok-made-in-Single.ensures.part
 
 pub item_of-returns-in_ok-made-in-Coregion-clause-part : goal.item_of-returns-in_ok-made-in-Coregion-clause-part
 item_of-returns-in_ok-made-in-Coregion-clause-part t c =
-    subst (λ (x : body.Item). IsPart (item_term c.args.names.now c.args.nets.now.labels c.args.next x) (shown_item c.args.next x) c.in_ok-made-in-Coregion.made) (sym (ap item_view c.in-Coregion.is ∙ coregion_is c.in-Coregion.nodes)) c.in_ok-made-in-Coregion.ensures.part
+    subst (λ (x : body.WovenItem). IsPart (item_term c.args.names.now c.args.nets.now.labels c.args.next x) (shown_item c.args.next x) c.in_ok-made-in-Coregion.made) (sym (ap item_view c.in-Coregion.is ∙ coregion_is c.in-Coregion.nodes)) c.in_ok-made-in-Coregion.ensures.part
 
 pub item_of-returns-in_ok-made-in-Inline-clause-part : goal.item_of-returns-in_ok-made-in-Inline-clause-part
 item_of-returns-in_ok-made-in-Inline-clause-part t c =
-    subst (λ (x : body.Item). IsPart (item_term c.args.names.now c.args.nets.now.labels c.args.next x) (shown_item c.args.next x) c.in_ok-made-in-Inline.made) (sym (ap item_view c.in-Inline.is ∙ inline_item_is c.in-Inline.inline ∙ inline_is c.in-Inline.inline))
-    (subst (λ (x : body.Item). IsPart (item_term c.args.names.now c.args.nets.now.labels c.args.next x) [] c.in_ok-made-in-Inline.made) (inline_is c.in-Inline.inline) c.in_ok-made-in-Inline.ensures.part)
+    subst (λ (x : body.WovenItem). IsPart (item_term c.args.names.now c.args.nets.now.labels c.args.next x) (shown_item c.args.next x) c.in_ok-made-in-Inline.made) (sym (ap item_view c.in-Inline.is ∙ inline_item_is c.in-Inline.inline ∙ inline_is c.in-Inline.inline))
+    (subst (λ (x : body.WovenItem). IsPart (item_term c.args.names.now c.args.nets.now.labels c.args.next x) [] c.in_ok-made-in-Inline.made) (inline_is c.in-Inline.inline) c.in_ok-made-in-Inline.ensures.part)

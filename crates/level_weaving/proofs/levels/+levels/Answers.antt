@@ -4,8 +4,8 @@ use Rattle.std.proofs.lemmas.List.{length-map, map-append, take_all, take_more}
 use Rattle.std.proofs.lemmas.Option.{slice_get_read}
 use Rattle.msc_base.specs.Lists.{AreDifferent}
 use Rattle.msc_meaning.specs.Bodies.{items}
-use Rattle.item_order.specs.Answers.{IfWhole}
-use Rattle.item_order.specs.Weaving.{IsWoven}
+use Rattle.column_order.specs.Answers.{IfWhole}
+use Rattle.column_order.specs.Weaving.{IsWoven}
 use Rattle.msc_meaning.specs.LevelItems.{Entry, columns_of, entries, level_items}
 use Rattle.level_pieces.specs.PieceNumbers.{AreNumbered}
 use Rattle.level_pieces.specs.Unwoven.{AreAllWoven}

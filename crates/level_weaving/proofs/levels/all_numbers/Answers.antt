@@ -1,5 +1,5 @@
 use Rattle.std.proofs.Common.{rules, ◌≡◌, ◌∙◌, ℕ, List, IfOk, ap, subst}
-use Rattle.item_order.specs.Laws.{numbers_from}
+use Rattle.column_order.specs.Laws.{numbers_from}
 use Rattle.level_weaving.proofs.NumberLaws.{text_numbers}
 use Rattle.level_weaving.proofs.levels.all_numbers.Goals as goal
 

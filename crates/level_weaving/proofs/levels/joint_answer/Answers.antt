@@ -1,7 +1,7 @@
 use Rattle.std.proofs.Common.{◌≡◌, ◌∷◌, ◌∙◌, ℕ, List, Option, Some, None, ap, drop, map, subst, sym, take}
 use Rattle.msc_base.specs.Places.{IsLeast, earliest}
 use Rattle.msc_base.specs.declared.place.Place.{Place}
-use Rattle.msc_meaning.specs.Bodies.{Bodies, Item, bodies}
+use Rattle.msc_meaning.specs.Bodies.{Bodies, WovenItem, bodies}
 use Rattle.msc_meaning.specs.LevelItems.{cover_of}
 use Rattle.msc_meaning.specs.Levels.{AreWovenOperands, IsWovenItem, operand_number}
 use Rattle.msc_meaning.specs.Partners.{ItemLacksPartner, OneLacksPartner}
@@ -54,9 +54,9 @@ returns-in_ok-made-in-None c = λ level lists are is own beyond.
     let told : crossed_at c.args.beyond.now ≡ None = sym c.crossed_place-in-Woven.ensures ∙ c.in-None.is in
     let held : Bodies = bodies (map body_view c.in-Woven.operands.items) in
     let operands : AreWovenOperands (cover_of level p) (p ∷ others) 0 n held = subst (λ (w : List (List ℕ)). AreWovenOperands w (p ∷ others) 0 n held) is (own_operands cover p others lists (map body_view c.in-Woven.operands.items) are mine.0) in
-    let made : Item = joint_item_of (cover_of level p) p.place p.form held in
+    let made : WovenItem = joint_item_of (cover_of level p) p.place p.form held in
     let shown : item_view c.in_ok-made-in-None.made ≡ made = c.in_ok-made-in-None.ensures ∙ ap (λ (w : List (List ℕ)). joint_item_of w p.place p.form held) is in (
-      subst (λ (i : Item). IsWovenItem level (p ∷ others) i) (sym shown) (joint_woven level p others held operands c.requires.events c.requires.item),
+      subst (λ (i : WovenItem). IsWovenItem level (p ∷ others) i) (sym shown) (joint_woven level p others held operands c.requires.events c.requires.item),
       subst (λ (o : Option Place). IsLeast (ItemCrosses level (p ∷ others)) o) told all,
-      subst (λ (i : Item). IsLeast (ItemLacksPartner i) c.in-Woven.alone) (sym shown) (joint_lacks level p others held operands c.requires.events c.requires.item c.in-Woven.alone mine.2),
+      subst (λ (i : WovenItem). IsLeast (ItemLacksPartner i) c.in-Woven.alone) (sym shown) (joint_lacks level p others held operands c.requires.events c.requires.item c.in-Woven.alone mine.2),
     )

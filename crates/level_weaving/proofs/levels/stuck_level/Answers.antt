@@ -4,7 +4,7 @@ use Rattle.std.proofs.lemmas.Option.{slice_get_read}
 use Rattle.msc_base.specs.Places.{IsLeast, earliest}
 use Rattle.msc_base.specs.declared.place.Place.{Place}
 use Rattle.msc_meaning.specs.Bodies.{items}
-use Rattle.msc_meaning.specs.Crossings.{Crosses}
+use Rattle.msc_meaning.specs.Crossings.{ColumnsCross}
 use Rattle.msc_meaning.specs.LevelItems.{level_items}
 use Rattle.msc_meaning.specs.Levels.{AreWovenItems}
 use Rattle.msc_meaning.specs.Partners.{ItemsLackPartner}
@@ -33,7 +33,7 @@ returns c =
     (ItemsCross cover (map parts_view held) (numbers_to (length held))) c.args.answer.now c.requires.answer in
     let own : IsLeast (ItemsCross cover (level_items ps) (numbers_to (length held))) (crossed_at c.args.answer.now) =
     subst (λ (l : List (List Piece)). IsLeast (ItemsCross cover l (numbers_to (length held))) (crossed_at c.args.answer.now)) c.requires.items least in
-    let all : IsLeast (Crosses cover ps) (earliest (crossed_at c.args.answer.now) item.first.place) =
+    let all : IsLeast (ColumnsCross cover ps) (earliest (crossed_at c.args.answer.now) item.first.place) =
     stuck_least cover ps c.args.number (piece_view item.first) (map piece_view item.others.items) c.requires.stuck at (length held) count (crossed_at c.args.answer.now) own in
     let is : earliest (crossed_at c.args.answer.now) item.first.place ≡ Some c.earlier_than.result = ap (λ (o : Option Place). earliest o item.first.place) (sym c.crossed_place.ensures) ∙ ap (λ (i : code.LevelItem). earliest c.crossed_place.result i.first.place) c.index-items-number.is ∙ sym c.earlier_than.ensures in
-    subst (λ (o : Option Place). IsLeast (Crosses cover ps) o) is all
+    subst (λ (o : Option Place). IsLeast (ColumnsCross cover ps) o) is all

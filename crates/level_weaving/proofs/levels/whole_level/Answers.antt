@@ -1,11 +1,11 @@
 use Rattle.std.proofs.Common.{rules, ◌≡◌, ◌<◌, ◌∙◌, List, ℕ, Option, None, Some, length, map, ap, sym, subst}
 use Rattle.std.proofs.lemmas.List.{length-map}
-use Rattle.item_order.specs.declared.edge.Edge.{Edge}
-use Rattle.item_order.specs.Pairing.{RiseFrom}
+use Rattle.column_order.specs.declared.edge.Edge.{Edge}
+use Rattle.column_order.specs.Pairing.{RiseFrom}
 use Rattle.msc_base.specs.Lists.{AreDifferent}
 use Rattle.msc_base.specs.Places.{IsLeast}
 use Rattle.msc_base.specs.declared.place.Place.{Place}
-use Rattle.msc_meaning.specs.Bodies.{Body, EventNode, Items, items, level}
+use Rattle.msc_meaning.specs.Bodies.{Body, EventNode, WovenItems, items, level}
 use Rattle.msc_meaning.specs.LevelItems.{level_items}
 use Rattle.msc_meaning.specs.Levels.{IsWovenLevel}
 use Rattle.msc_meaning.specs.Pairing.{ArePairs}
@@ -69,7 +69,7 @@ returns-in_ok-names-in-Woven c =
     let ps : List Piece = map piece_view c.args.pieces.now in
     let cover : List (List ℕ) = c.args.cover.now in
     let order : List ℕ = c.args.order.now in
-    let held : Items = items (map item_view c.in-Woven.list.items) in
+    let held : WovenItems = items (map item_view c.in-Woven.list.items) in
     let given : AreItemsAnswer cover (level_items ps) order (answer.Woven c.in-Woven.list c.in-Woven.inner) =
     subst (λ (l : List (List Piece)). AreItemsAnswer cover l order (answer.Woven c.in-Woven.list c.in-Woven.inner)) c.requires.items
     (subst (λ a. AreItemsAnswer cover (map parts_view c.args.items.now) order a) c.in-Woven.is c.requires.answer) in

@@ -1,10 +1,10 @@
 use Rattle.std.proofs.Common.{rules, map, ◌≡◌, List, Option, All, ap, sym, subst, ◌<◌, ◌∙◌}
-use Rattle.item_order.specs.declared.edge.Edge.{Edge}
+use Rattle.column_order.specs.declared.edge.Edge.{Edge}
 use Rattle.msc_tree.specs.declared.event.Direction.TheVariants.{Out, In}
 use Rattle.level_weaving.specs.declared.matching.Mark.{Mark}
 use Rattle.level_weaving.specs.EventViews.{event_view}
 use Rattle.level_weaving.specs.Marks.{AreMarked, edges_from}
-use Rattle.item_order.specs.Pairing.{RiseTo}
+use Rattle.column_order.specs.Pairing.{RiseTo}
 use Rattle.level_weaving.proofs.EdgeLaws.{ends_rise}
 use Rattle.level_weaving.proofs.PairLaws.{pairs_found, classes_low}
 use Rattle.level_weaving.proofs.matching.pairs_of.Goals as goal

@@ -1,7 +1,7 @@
 use Rattle.std.proofs.Common.{rules, ◌≡◌, ◌<◌, ◌++◌, ◌∷◌, ◌∙◌, [], Some, ap, get_or, length, map, refl, slice_get, sym, List}
 use Rattle.std.proofs.lemmas.List.{get_or_default}
 use Rattle.std.proofs.lemmas.Option.{slice_get_read}
-use Rattle.item_order.specs.declared.edge.Edge.{Edge}
+use Rattle.column_order.specs.declared.edge.Edge.{Edge}
 use Rattle.msc_meaning.specs.Bodies.{EventNode}
 use Rattle.level_weaving.specs.LevelPairs.{edge_at, number_or_zero}
 use Rattle.level_weaving.specs.EventViews.{event_view}

@@ -1,6 +1,6 @@
 use Rattle.std.proofs.Common.{rules}
 use Rattle.std.proofs.lemmas.List.Sorted.{IsNonDecreasingBy-from_sort_by_key}
-use Rattle.item_order.specs.declared.edge.Edge.{Edge}
+use Rattle.column_order.specs.declared.edge.Edge.{Edge}
 use Rattle.level_weaving.proofs.pairing.sort_pairs.Goals as goal
 
 pub returns-clause-sorted : goal.returns-clause-sorted

@@ -8,7 +8,7 @@ use Rattle.hmsc_graph.specs.Spots.{spot_of, goal_of}
 use Rattle.msc_base.specs.Patterns.{seq, par}
 use Rattle.term_permission.specs.Lefts.{mode_of, opened_left}
 use Rattle.term_permission.specs.Passing.{HaveCommon}
-use Rattle.term_permission.specs.Remnants.{Says, is_full, SaysParts, SaysSome, Tallies, TalliesSome, both}
+use Rattle.term_permission.specs.Remnants.{RemnantSays, is_full, SaysParts, SaysSome, Tallies, TalliesSome, both}
 use Rattle.term_permission.proofs.PassingFacts.{passing_ended, says_none}
 use Rattle.chart_term.specs.Spreads.{spread_of}
 use Rattle.term_laws.specs.Permission.{permit, permits_of, permit_some}
@@ -141,7 +141,7 @@ pub ask_loop-returns : goal.ask_loop-returns
 ask_loop-returns t c =
     let w = c.args.nets.now.tables in
     let (r, e, k) = subst (λ (o : Option RowTally). TalliesSome o (keep_parts (λ d. permit (permits_of w) (only d) c.args.turns.body.now) (λ y. permit (permits_of w) (block_of c.args.block.now) y) c.args.turns.upper c.in_ok-narrow.narrow.instances c.args.turns.row.now no_rest)) c.in-Some.is (c.in_ok-ask_row.ensures no_rest c.none.ensures) in
-    subst (Says c.end.result) (sym (loop-left w c.args.turns.body.now c.args.turns.lower c.args.turns.upper c.args.turns.row.now (block_of c.args.block.now) c.in_ok-all.all.instances c.in_ok-narrow.narrow.instances c.requires.row c.in_ok-all.ensures (ap (λ (b : BlockValue). b.instances) c.in_ok-narrow.ensures) r e)) (c.end.ensures r c.args.turns.body.now c.args.turns.upper k)
+    subst (RemnantSays c.end.result) (sym (loop-left w c.args.turns.body.now c.args.turns.lower c.args.turns.upper c.args.turns.row.now (block_of c.args.block.now) c.in_ok-all.all.instances c.in_ok-narrow.narrow.instances c.requires.row c.in_ok-all.ensures (ap (λ (b : BlockValue). b.instances) c.in_ok-narrow.ensures) r e)) (c.end.ensures r c.args.turns.body.now c.args.turns.upper k)
 
 pub ask_loop-returns-in-None : goal.ask_loop-returns-in-None
 ask_loop-returns-in-None t c =
@@ -263,7 +263,7 @@ ask_walk-returns-then-has_one_of t c =
 
 pub ask_term-returns-in_ok-left-in-Tied : goal.ask_term-returns-in_ok-left-in-Tied
 ask_term-returns-in_ok-left-in-Tied t c =
-    subst (λ (x : Tree). Says c.in_ok-left-in-Tied.left (permit (permits_of c.args.nets.now.tables) (block_of c.args.block.now) x)) (sym c.in-Tied.ensures)
+    subst (λ (x : Tree). RemnantSays c.in_ok-left-in-Tied.left (permit (permits_of c.args.nets.now.tables) (block_of c.args.block.now) x)) (sym c.in-Tied.ensures)
     (says_tied (pairs_of c.in-Tied.field-1.now) c.in_ok-left-in-Tied.left (permit (permits_of c.args.nets.now.tables) (block_of c.args.block.now) c.in-Tied.inner.now) c.in_ok-left-in-Tied.ensures)
 
 pub ask_term-returns-in_ok-left-in-Walk : goal.ask_term-returns-in_ok-left-in-Walk
@@ -271,8 +271,8 @@ ask_term-returns-in_ok-left-in-Walk t c =
     let w = c.args.nets.now.tables in
     let narrow : c.in_ok-narrow-in-Walk.narrow.instances ≡ cut (spread_of w c.in-Walk.net) (c.in-Walk.own.now.instances ∪ c.args.block.now.instances) =
     ap (λ (b : BlockValue). b.instances) c.in_ok-narrow-in-Walk.ensures ∙ ((λ i. cut c.spread.result.now.instances (ap (λ (b : BlockValue). b.instances) c.in_ok-wide-in-Walk.ensures i)) ∙ cut_alike c.spread.result.now.instances (spread_of w c.in-Walk.net) (c.in-Walk.own.now.instances ∪ c.args.block.now.instances) c.spread.ensures) in
-    subst (λ (x : Tree). Says c.in_ok-left-in-Walk.left (permit (permits_of w) (block_of c.args.block.now) x)) (sym c.in-Walk.ensures)
-    (subst (λ (d : List ℕ). Says c.in_ok-left-in-Walk.left (walk_cut (permits_of w) c.in-Walk.net (spot_of c.in-Walk.from) (goal_of c.in-Walk.to) d)) narrow c.in_ok-left-in-Walk.ensures)
+    subst (λ (x : Tree). RemnantSays c.in_ok-left-in-Walk.left (permit (permits_of w) (block_of c.args.block.now) x)) (sym c.in-Walk.ensures)
+    (subst (λ (d : List ℕ). RemnantSays c.in_ok-left-in-Walk.left (walk_cut (permits_of w) c.in-Walk.net (spot_of c.in-Walk.from) (goal_of c.in-Walk.to) d)) narrow c.in_ok-left-in-Walk.ensures)
 
 pub ask_walk-returns-then-not-leads : goal.ask_walk-returns-then-not-leads
 ask_walk-returns-then-not-leads t c =
@@ -287,8 +287,8 @@ passable-returns-clause-nodes t c =
 pub passable-loop-node-preserved : goal.passable-loop-node-preserved
 passable-loop-node-preserved t c =
     let w = c.args.nets.now.tables in
-    let says : Says c.in_ok-left.left (permit (permits_of w) (only c.args.block.now.instances) (node_of w c.args.net c.in-Some.node)) =
-    subst (Says c.in_ok-left.left) (λ i. permit (permits_of w) (c.requires.block i) (c.node.ensures i)) c.in_ok-left.ensures in
+    let says : RemnantSays c.in_ok-left.left (permit (permits_of w) (only c.args.block.now.instances) (node_of w c.args.net c.in-Some.node)) =
+    subst (RemnantSays c.in_ok-left.left) (λ i. permit (permits_of w) (c.requires.block i) (c.node.ensures i)) c.in_ok-left.ensures in
     let (nodes, search, passing) = passing-next w c.requires.tables c.args.net c.requires.net c.args.block.now.instances (spot_of c.args.from) c.net-graph.result.now c.net-graph.ensures.net c.in-Some.node c.in_ok-left.left
     c.loop-node.search c.next.new.self c.visit.new.search c.loop-node.nodes c.visit.new.nodes c.size.ensures.net c.in-Some.ensures.reached c.in-Some.ensures.node says c.in_ok-visit.ensures c.loop-node.invariant.nodes c.loop-node.invariant.search c.loop-node.invariant.passing in
     record { nodes = nodes; search = search; passing = passing }

@@ -1,7 +1,7 @@
 use Rattle.std.proofs.Common.{◌≡◌, IfOk, List, MatchOption, Some, sym, ◌∙◌, subst}
 use Rattle.msc_base.specs.declared.label.Label.{Label}
 use Rattle.chart_term.specs.Terms.{Tree}
-use Rattle.permit_step.specs.AllAfter.{AreAllLeft, AreTooMany}
+use Rattle.term_step.specs.AllAfter.{AreAllLeft, AreTooMany}
 use Rattle.term_tables.specs.NetValues.{label_number}
 use Rattle.term_sets.proofs.Leaving.{one_alone}
 use Rattle.term_sets.proofs.term_set.after_list.Goals as goal

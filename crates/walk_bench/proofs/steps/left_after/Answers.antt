@@ -1,7 +1,7 @@
 use Rattle.std.proofs.Common.{◌≡◌, ◌∙◌, ◌++◌, ◌∷◌, [], List, Option, Some, MatchOption, ap, sym, subst}
 use Rattle.chart_term.specs.Properties.{Each}
 use Rattle.chart_term.specs.Terms.{Tree}
-use Rattle.permit_step.specs.AllAfter.{AreAllLeft, AreTooMany}
+use Rattle.term_step.specs.AllAfter.{AreAllLeft, AreTooMany}
 use Rattle.term_laws.specs.Placing.{HaveOnePlace}
 use Rattle.term_tables.specs.NetValues.{label_number}
 use Rattle.walk_bench.proofs.ReadyRing.{left-placed, one-placed}

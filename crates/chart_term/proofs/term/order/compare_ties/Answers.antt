@@ -1,6 +1,6 @@
 use Rattle.std.proofs.Common.{◌≤◌, ◌⊎◌, length, arith, sym, ◌∙◌, inl, inr, ap₂}
 use Rattle.std.specs.Ordering.{nat_cmp, ordering_then}
-use Rattle.node_facts.proofs.Listing.{got_is, list_cmp-decided, list_cmp-goes_on, list_cmp-end, held_cmp, pairs_by_list}
+use Rattle.term_facts.proofs.Listing.{got_is, list_cmp-decided, list_cmp-goes_on, list_cmp-end, held_cmp, pairs_by_list}
 use Rattle.chart_term.proofs.term.order.compare_ties.Goals as goal
 use Rattle.chart_term.proofs.term.order.compare_ties.Goals.{then-loop-at-test+else-at-len, else-loop-at-test}
 

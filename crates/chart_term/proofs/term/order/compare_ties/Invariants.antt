@@ -1,5 +1,5 @@
 use Rattle.std.proofs.Common.{length, drop, ◌-◌, ◌≡◌, ◌≤◌}
-use Rattle.node_facts.proofs.Listing.{list_cmp, held_cmp}
+use Rattle.term_facts.proofs.Listing.{list_cmp, held_cmp}
 use Rattle.chart_term.proofs.term.order.compare_ties.Given as goal
 
 abbrev pub invariant-loop-at : goal.invariant-loop-at

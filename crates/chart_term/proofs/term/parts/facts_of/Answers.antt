@@ -1,5 +1,5 @@
 use Rattle.std.proofs.Common.{subst, sym, ◌∙◌}
-use Rattle.node_facts.specs.NodeFacts.{Adds}
+use Rattle.term_facts.specs.NodeFacts.{Adds}
 use Rattle.chart_term.proofs.Gathering.{row_facts-next_gap, row_facts-next_turn}
 use Rattle.chart_term.proofs.term.parts.facts_of.Goals as goal
 use Rattle.chart_term.proofs.term.parts.facts_of.Goals.{in-Gap, in-Turn+in_ok-add-in-Turn}

@@ -1,5 +1,0 @@
-use Rattle.item_order.proofs.WeavingLaws.{never_woven_and_crossed}
-use Rattle.item_order.proofs.laws.woven_or_crossed.Goals as goal
-
-pub returns : goal.returns
-returns c = never_woven_and_crossed

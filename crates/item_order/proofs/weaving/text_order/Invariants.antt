@@ -1,6 +1,0 @@
-use Rattle.std.proofs.Common.{◌≡◌, ◌++◌, ◌-◌}
-use Rattle.item_order.specs.Laws.{numbers_from}
-use Rattle.item_order.proofs.weaving.text_order.Given as goal
-
-abbrev pub invariant-loop-item : goal.invariant-loop-item
-invariant-loop-item l = l.order.items ++ numbers_from l.item (l.count - l.item) ≡ numbers_from 0 l.count

@@ -1,6 +1,0 @@
-use Rattle.std.proofs.Common.{take}
-use Rattle.permit_step.specs.Gatherings.{IsGathered}
-use Rattle.permit_step.proofs.all_after.search_each.Given as goal
-
-abbrev pub invariant-loop-index : goal.invariant-loop-index
-invariant-loop-index l = IsGathered l.nets.tables l.label l.initial.found.most (take l.index l.terms) l.found

@@ -1,5 +1,0 @@
-use Rattle.std.proofs.Common.{◌≡◌, ◌++◌}
-use Rattle.permit_step.proofs.gathered.Gathered.into_list.Given as goal
-
-abbrev pub invariant-loop-term : goal.invariant-loop-term
-invariant-loop-term l = l.list ++ l.term-iterator ≡ l.fn.self
