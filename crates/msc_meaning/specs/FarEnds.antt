@@ -50,7 +50,8 @@ instance_at (Some e) = Some e.at
 -- the caller's instance: that of the event, or that of the inner events of the other gate
 abbrev pub caller_at : List GateEnd → Caller → Option (List ℕ)
 caller_at ends (an_event n) = Some n.at
-caller_at ends (a_gate name gate) = instance_at (end_at ends name gate)
+caller_at ends (a_gate None gate) = None
+caller_at ends (a_gate (Some name) gate) = instance_at (end_at ends name gate)
 
 abbrev pub called_from : List GateEnd → List Call → List ℕ → List ℕ → Option (List ℕ)
 called_from ends [] name gate = None

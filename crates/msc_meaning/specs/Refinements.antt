@@ -137,7 +137,7 @@ abbrev pub stands_for : List Match → ℕ → List Tag
 stands_for [] d = []
 stands_for (m ∷ ms) d = if m.inner.number == d then Own m.event.number ∷ [] else stands_for ms d
 
--- above a refining chart an event that stands for another has that one's number; no other event_name is left
+-- above a refining chart an event that stands for another has that one's number; no other tag is left
 abbrev pub past_refining : List Match → Tag → List Tag
 past_refining ms (Own d) = stands_for ms d
 past_refining ms (Via g) = []

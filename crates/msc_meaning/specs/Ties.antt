@@ -105,7 +105,7 @@ called_tag true (Some name) g others = On name g ∷ []
 called_tag true None g others = others
 called_tag false name g others = others
 
--- above an inline expression a gate event_name becomes one of its own where that gate has a caller, and else stays
+-- above an inline expression a gate's tag becomes one of its own where that gate has a caller, and else stays
 abbrev pub past_inline : List Call → Option (List ℕ) → Tag → List Tag
 past_inline cs name (Own n) = []
 past_inline cs name (On y g) = []
