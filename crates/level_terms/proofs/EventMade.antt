@@ -1,10 +1,7 @@
 -- The term of an event.
-use Rattle.std.specs.List.{position}
 use Rattle.std.specs.Option.{unwrap_or}
 use Rattle.std.specs.Prelude.{ℕ, suc, ◌+◌, true, List, [], ◌∷◌, None, Option}
-use Rattle.std.specs.Str.{bytes_eq}
 use Rattle.std.proofs.Common.{◌≡◌, ◌∙◌, ap, refl, sym, subst, arith}
-use Rattle.label_table.specs.Labels.{label_number}
 use Rattle.msc_base.specs.declared.label.Far.{Far}
 use Rattle.msc_base.specs.declared.label.Kind.{Kind}
 use Rattle.msc_base.specs.declared.label.Kind.TheVariants.{Output, Input, OutputLost, InputFound, Action, TimerStart, TimerStop, Timeout, Create}
@@ -26,7 +23,7 @@ use Rattle.msc_meaning.specs.EventLabels.{written_label}
 use Rattle.msc_meaning.specs.FarEnds.{Around, child_by, far_end, gate_tags, happening, no_far, written_far}
 use Rattle.msc_meaning.specs.InnerEvents.{GateEnd}
 use Rattle.chart_forms.specs.BuiltBodies.{is_built_node}
-use Rattle.level_terms.specs.LevelTerms.{event_term}
+use Rattle.level_terms.specs.LevelTerms.{number_at, number_with, event_term}
 use Rattle.level_terms.specs.MadeParts.{IsMade}
 use Rattle.level_terms.proofs.PlainItems.{IsPlainEvent, IsPlainFar, IsPlainNode}
 use Rattle.level_terms.specs.ShownNumbers.{shows}
@@ -76,7 +73,7 @@ module _ (v : NetsValue) (m : List (List ℕ)) where
       plain = plain_event n (written_label n) (is_simple n.event (node_plain m n built)) (is_far n.event (node_plain m n built)) refl
 
       event : TermEvent
-      event = record { number = k; at = unwrap_or (position (bytes_eq n.at) m) 0; also = None; label = unwrap_or (label_number v.labels (written_label n)) 0 }
+      event = record { number = k; at = number_at m n.at; also = None; label = number_with v.labels (written_label n) }
 
       happened : Happening
       happened = record { label = written_label n; also = None; tags = Own n.number ∷ [] }

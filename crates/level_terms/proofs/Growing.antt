@@ -14,6 +14,7 @@ use Rattle.msc_base.proofs.NameFacts.{number_of_one, one_from_any}
 use Rattle.msc_base.specs.Orders.{Among}
 use Rattle.level_terms.proofs.LabelFacts.{among_contains, once_with}
 use Rattle.level_terms.specs.LabelTables.{with_label}
+use Rattle.level_terms.specs.LevelTerms.{number_at, number_with}
 use Rattle.term_meaning.proofs.Extended.{keeps_same, keeps_on}
 use Rattle.term_meaning.proofs.SeenRules.{keeps_more}
 use Rattle.term_meaning.specs.Growing.{KeepsPlaces}
@@ -56,17 +57,17 @@ found_name name names n h =
     let found = position-Some (bytes_eq name) names n name h in
     slice_get-get_or names n name found.0 ∙ ap Some (sym ((bytes_eq-Decides name (get_or names n name)).0 found.1))
 
-pub name_there : (name : List ℕ) (names : List (List ℕ)) → list_any (bytes_eq name) names ≡ true → slice_get names (unwrap_or (position (bytes_eq name) names) 0) ≡ Some name
+pub name_there : (name : List ℕ) (names : List (List ℕ)) → list_any (bytes_eq name) names ≡ true → slice_get names (number_at names name) ≡ Some name
 name_there name names h = by (position (bytes_eq name) names) refl
   where
-    by : (o : Option ℕ) → position (bytes_eq name) names ≡ o → slice_get names (unwrap_or o 0) ≡ Some name
+    by : (o : Option ℕ) → position (bytes_eq name) names ≡ o → slice_get names (unwrap_or o (length names)) ≡ Some name
     by None e = absurd (found_there name names h e)
     by (Some n) e = found_name name names n e
 
-pub label_there : (l : Label) (labels : List Label) → Among l labels → slice_get labels (unwrap_or (label_number labels l) 0) ≡ Some l
+pub label_there : (l : Label) (labels : List Label) → Among l labels → slice_get labels (number_with labels l) ≡ Some l
 label_there l labels h = by (label_number labels l) refl
   where
-    by : (o : Option ℕ) → label_number labels l ≡ o → slice_get labels (unwrap_or o 0) ≡ Some l
+    by : (o : Option ℕ) → label_number labels l ≡ o → slice_get labels (unwrap_or o (length labels)) ≡ Some l
     by None e = absurd (absent l labels e (among_contains labels l h))
     by (Some n) e = present l labels n e
 

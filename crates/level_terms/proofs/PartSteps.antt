@@ -23,7 +23,7 @@ use Rattle.level_terms.specs.BodyLabels.{HasLabels, body_labels, item_labels, it
 use Rattle.chart_forms.specs.BuiltBodies.{operands_count}
 use Rattle.level_terms.specs.declared.made.Made.{Made}
 use Rattle.general_ordering.specs.ItemViews.{items_view, bodies_view}
-use Rattle.level_terms.specs.LevelTerms.{one_of, event_term, coregion_term, level_term, items_term, item_term, operand_terms, parallel_term, turns_of}
+use Rattle.level_terms.specs.LevelTerms.{number_at, one_of, event_term, coregion_term, level_term, items_term, item_term, operand_terms, parallel_term, turns_of}
 use Rattle.level_terms.specs.MadeParts.{IsNothing, IsFront, IsInstead, IsPart, IsRepeated, IsTied}
 use Rattle.msc_meaning.specs.Ties.{level_pairs}
 use Rattle.level_terms.specs.ShownNumbers.{shows, shown_events, shown_items, tie_pairs}
@@ -40,8 +40,8 @@ part_as x y ps qs made e f h = record { term = h.term ∙ e; shown_are = h.shown
 pub event_is : (names : List (List ℕ)) (labels : List Label) (n : ℕ) (e : EventNode) (l : Label) (at place : ℕ) (x : Tree) (ps : List Pair) → l ≡ written_label e → position (bytes_eq l.at) names ≡ Some at → label_number labels l ≡ Some place
     → x ≡ Event (record { number = n; at = at; also = None; label = place }) → ps ≡ shows n e.number ∷ [] → IsPart (event_term names labels n e) (shows n e.number ∷ []) (record { term = x; shown = ps; next = n + 1 })
 event_is names labels n e l at place x ps is named labelled t shown = record {
-  term = t ∙ (ap (λ (a : ℕ). Event (record { number = n; at = a; also = None; label = place })) (sym (ap (λ (o : Option ℕ). unwrap_or o 0) (ap (λ (k : Label). position (bytes_eq k.at) names) (sym is) ∙ named)))
-      ∙ ap (λ (k : ℕ). Event (record { number = n; at = unwrap_or (position (bytes_eq e.at) names) 0; also = None; label = k })) (sym (ap (λ (o : Option ℕ). unwrap_or o 0) (ap (label_number labels) (sym is) ∙ labelled))));
+  term = t ∙ (ap (λ (a : ℕ). Event (record { number = n; at = a; also = None; label = place })) (sym (ap (λ (o : Option ℕ). unwrap_or o (length names)) (ap (λ (k : Label). position (bytes_eq k.at) names) (sym is) ∙ named)))
+      ∙ ap (λ (k : ℕ). Event (record { number = n; at = number_at names e.at; also = None; label = k })) (sym (ap (λ (o : Option ℕ). unwrap_or o (length labels)) (ap (label_number labels) (sym is) ∙ labelled))));
   shown_are = shown;
 }
 

@@ -1,8 +1,6 @@
 -- The events of a body's term stand where their labels say.
-use Rattle.std.specs.List.{position}
 use Rattle.std.specs.Option.{unwrap_or}
 use Rattle.std.specs.Prelude.{ℕ, ◌+◌, Bool, true, false, not, ◌&&◌, List, [], ◌∷◌, ◌++◌, Option, Some, None, slice_get, length, map}
-use Rattle.std.specs.Str.{bytes_eq}
 use Rattle.std.proofs.Common.{ap}
 use Rattle.msc_base.specs.declared.label.Label.{Label}
 use Rattle.msc_base.specs.Patterns.{Mode, seq, par}
@@ -19,7 +17,7 @@ use Rattle.msc_meaning.specs.Ties.{level_pairs}
 use Rattle.event_order.specs.RankedBodies.{is_exception}
 use Rattle.chart_forms.specs.BuiltBodies.{events_count, operands_count}
 use Rattle.level_terms.specs.BodyLabels.{HasLabels, body_labels, items_labels, item_labels, operands_labels}
-use Rattle.level_terms.specs.LevelTerms.{one_of, placed, leave_turn, turns_if, turns_of, event_term, coregion_term, level_term, items_term, item_term, operand_terms, parallel_term}
+use Rattle.level_terms.specs.LevelTerms.{number_at, one_of, placed, leave_turn, turns_if, turns_of, event_term, coregion_term, level_term, items_term, item_term, operand_terms, parallel_term}
 use Rattle.level_terms.specs.ShownNumbers.{shown_items, tie_pairs}
 use Rattle.level_terms.proofs.BodyMade.{has_left, has_right, has_first, has_others}
 use Rattle.level_terms.proofs.Growing.{label_there}
@@ -28,7 +26,7 @@ module _ (names : List (List ℕ)) (labels : List Label) where
   -- the instance of the label, by its name
   abbrev label_place : Option Label → List ℕ
   label_place None = []
-  label_place (Some l) = unwrap_or (position (bytes_eq l.at) names) 0 ∷ []
+  label_place (Some l) = number_at names l.at ∷ []
 
   abbrev pub places : ℕ → List ℕ
   places n = label_place (slice_get labels n)

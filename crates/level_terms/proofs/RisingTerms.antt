@@ -1,12 +1,8 @@
 -- Terms whose patterns rise in rank, and are sound: made by the normalising constructors.
-use Rattle.std.specs.List.{position}
-use Rattle.std.specs.Option.{unwrap_or}
-use Rattle.std.specs.Str.{bytes_eq}
 use Rattle.std.specs.Prelude.{ℕ, ◌<◌, ◌≤◌, ◌==◌, ◌&&◌, ◌||◌, Bool, true, false, List, [], ◌∷◌, ◌++◌, Option, Some, None, length, nat_le, nat_lt}
 use Rattle.std.proofs.Common.{◌≡◌, ◌⊎◌, inl, inr, refl, sym, subst, arith}
 use Rattle.std.proofs.lemmas.Bool.Decides.{Decides-eqb, nat_tests}
 use Rattle.std.proofs.lemmas.Option.{slice_get_within}
-use Rattle.label_table.specs.Labels.{label_number}
 use Rattle.msc_base.specs.declared.label.Pair.{Pair}
 use Rattle.msc_base.specs.Orders.{Among, first}
 use Rattle.msc_base.specs.Patterns.{Mode, seq}
@@ -28,7 +24,7 @@ use Rattle.msc_meaning.specs.Bodies.{EventNode}
 use Rattle.msc_meaning.specs.EventLabels.{written_label}
 use Rattle.chart_forms.specs.BuiltBodies.{is_built_node}
 use Rattle.level_terms.specs.BareTerms.{IsBare}
-use Rattle.level_terms.specs.LevelTerms.{one_of, placed, event_term, leave_turn, turns_of}
+use Rattle.level_terms.specs.LevelTerms.{number_at, number_with, one_of, placed, event_term, leave_turn, turns_of}
 use Rattle.level_terms.specs.ShownNumbers.{shows, tie_pairs}
 use Rattle.level_terms.proofs.BuiltFacts.{and_both, node_named}
 use Rattle.level_terms.proofs.Growing.{label_there, name_there}
@@ -145,7 +141,7 @@ module _ (same_as : NormalFormsKeepPatterns) (keep : ConstructorsKeepSoundness) 
 
   pub event_rises : (r : ℕ → ℕ) (n : ℕ) (e : EventNode) → is_built_node m e ≡ true → Among (written_label e) v.labels → IsRising r ((n, e) ∷ []) (shows n e.number ∷ []) (event_term m v.labels n e)
   event_rises r n e b h = record {
-    node = keep.event (length v.labels) v.tables d (slice_get_within v.labels (unwrap_or (label_number v.labels (written_label e)) 0) (written_label e) (label_there (written_label e) v.labels h));
+    node = keep.event (length v.labels) v.tables d (slice_get_within v.labels (number_with v.labels (written_label e)) (written_label e) (label_there (written_label e) v.labels h));
     bare = tt;
     lacks = λ j never q. never e (subst (λ (i : ℕ). Among {P = ℕ × EventNode} (i, e) ((n, e) ∷ [])) q first);
     outside = λ a k i. tt;
@@ -154,7 +150,7 @@ module _ (same_as : NormalFormsKeepPatterns) (keep : ConstructorsKeepSoundness) 
   }
     where
       d : TermEvent
-      d = record { number = n; at = unwrap_or (position (bytes_eq e.at) m) 0; also = None; label = unwrap_or (label_number v.labels (written_label e)) 0 }
+      d = record { number = n; at = number_at m e.at; also = None; label = number_with v.labels (written_label e) }
 
   -- ---- two parts
 

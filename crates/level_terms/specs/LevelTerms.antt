@@ -42,10 +42,18 @@ turns_if false lower upper x = Nil
 abbrev pub turns_of : ℕ → Option ℕ → Tree → Tree
 turns_of lower upper x = turns_if (leave_turn lower upper && not (is_nil (Some x))) lower upper x
 
+-- the number of a name; of one that isn't there a number that no name has
+abbrev pub number_at : List (List ℕ) → List ℕ → ℕ
+number_at names name = unwrap_or (position (bytes_eq name) names) (length names)
+
+-- the number of a label, and the like
+abbrev pub number_with : List Label → Label → ℕ
+number_with labels label = unwrap_or (label_number labels label) (length labels)
+
 module _ (names : List (List ℕ)) (labels : List Label) where
   -- an event at one of the instances, with one of the labels
   abbrev pub event_term : ℕ → EventNode → Tree
-  event_term n e = Event (record { number = n; at = unwrap_or (position (bytes_eq e.at) names) 0; also = None; label = unwrap_or (label_number labels (written_label e)) 0 })
+  event_term n e = Event (record { number = n; at = number_at names e.at; also = None; label = number_with labels (written_label e) })
 
   -- the events of a coregion, side by side
   abbrev pub coregion_term : ℕ → List EventNode → Tree
