@@ -6,8 +6,8 @@ pub mod Fronts
 pub mod Items
 pub mod LevelSteps
 pub mod OneEvent
-pub mod AskedLoops
 pub mod Ranking
 pub mod LoopLaws
 pub mod Sorting
 pub mod InOrderSteps
+pub mod OldLoops
