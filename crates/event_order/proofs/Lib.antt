@@ -8,6 +8,7 @@ pub mod LevelSteps
 pub mod OneEvent
 pub mod Ranking
 pub mod LoopLaws
+pub mod OwnRanks
 pub mod Sorting
 pub mod InOrderSteps
 pub mod OldLoops

@@ -7,7 +7,7 @@ use Rattle.body_levels.proofs.LevelLaws.{each_both}
 use Rattle.body_levels.specs.BodyLevels.{operands_levels}
 use Rattle.event_order.specs.OrderLaws.{LoopsAreOne, around}
 use Rattle.event_order.specs.Precedence.{IsCyclic, Precedes, next, further}
-use Rattle.event_order.specs.RankedBodies.{CanBeRanked, HasOwnRank, HaveRanks, as_one, operands_within, with_number}
+use Rattle.event_order.specs.RankedBodies.{CanBeRanked, HasLevelRank, HaveRanks, as_one, operands_within, with_number}
 use Rattle.event_order.proofs.Fronts.{among_left}
 
 -- one of the events as they count
@@ -43,10 +43,10 @@ through cover part operands x a b y among_a among_b before behind =
     inr (inl (refl, record { earlier = x; later = c.event; among_first = first; among_second = among_left c.event (as_one es) (y ∷ []) c.among; at_one = before ∙ sym c.there; first = refl; second = c.is })) in
     let leaves : Precedes body k y.number = inr (inr (inr (inl (refl, record { earlier = d.event; later = y; among_first = d.among; among_second = first; at_one = d.there ∙ behind; first = d.is; second = refl })))) in
     let back : Precedes body y.number x.number = inl (inl (refl, refl)) in
-    inl (refl, record { number = x.number; round = further x.number k x.number enters (further k y.number x.number leaves (next y.number x.number back)) })
+    inl (record { number = x.number; round = further x.number k x.number enters (further k y.number x.number leaves (next y.number x.number back)) })
 
 alone : (cover : List (List ℕ)) (part : InlinePart) (operands : Bodies) → HaveRanks (operands_levels inline.Loop operands) → CanBeRanked (level cover (item_and (Inline inline.Loop part operands) no_items) [])
-alone cover part operands h = ((λ e. record { rank = λ n. n; ranked = ((λ p a. elim a [ ]), (tt, (λ e a b i j at. elim j [ ]), tt)) }), each_both HasOwnRank (operands_levels inline.Loop operands) [] h tt)
+alone cover part operands h = (record { rank = λ n. n; ranked = ((λ p a. elim a [ ]), (tt, (λ e a b i j at. elim j [ ]), tt)) }, each_both HasLevelRank (operands_levels inline.Loop operands) [] h tt)
 
 pub loops_are_one : LoopsAreOne
 loops_are_one = record { through = through; alone = alone }

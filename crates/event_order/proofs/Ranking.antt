@@ -8,7 +8,8 @@ use Rattle.msc_meaning.specs.Ties.{level_pairs}
 use Rattle.msc_tree.specs.declared.reference.InlineForm.TheVariants as inline
 use Rattle.body_levels.specs.BodyLevels.{BodyLevel, body_levels}
 use Rattle.event_order.specs.OrderLaws.{RanksRise}
-use Rattle.event_order.specs.Precedence.{ComesBefore, HasRound, HaveRounds, Precedes, PrecedesIn, PrecedesInOne, PrecedesWithin, next, further}
+use Rattle.event_order.specs.OwnOrders.{HaveRounds}
+use Rattle.event_order.specs.Precedence.{ComesBefore, HasRound, Precedes, PrecedesIn, PrecedesInOne, PrecedesWithin, next, further}
 use Rattle.event_order.specs.RankedBodies.{AreRanked, HaveRanked, HaveRanks, IsRanked, IsRankedItem}
 
 pair_among : (ps : List Pair) (u v : ℕ) → HasPair ps u v → (p : Pair) × Among p ps × (p.first ≡ u) × (p.second ≡ v)
@@ -84,9 +85,9 @@ steps_rise b rank r _ _ (further u v w p h) = let one = body_rises rank b r u v 
 no_rank : (b : Body) (rank : ℕ → ℕ) → IsRanked rank b → HasRound b → ⊥
 no_rank b rank r c = let up = steps_rise b rank r c.number c.number c.round in omega (arith, up)
 
-pub levels_apart : (ls : List BodyLevel) → HaveRanks ls → HaveRounds ls → ⊥
+levels_apart : (ls : List BodyLevel) → HaveRanks ls → HaveRounds ls → ⊥
 levels_apart [] r c = c
-levels_apart (l ∷ ls) r (inl c) = let h = r.0 c.0 in no_rank l.body h.rank h.ranked c.1
+levels_apart (l ∷ ls) r (inl c) = no_rank l.body r.0.rank r.0.ranked c
 levels_apart (l ∷ ls) r (inr c) = levels_apart ls r.1 c
 
 pub can_rank : (b : Body) (rank : ℕ → ℕ) → ((u v : ℕ) → Precedes b u v → rank u < rank v) → IsRanked rank b

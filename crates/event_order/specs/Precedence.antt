@@ -1,13 +1,13 @@
 -- Which event of a body comes before which, and when the order of its events is cyclic. All events of a loop count as one, and the
 -- operand of each loop is looked at by itself.
-use Rattle.std.specs.Prelude.{ℕ, ◌≡◌, ◌⊎◌, true, false, List}
+use Rattle.std.specs.Prelude.{ℕ, ◌≡◌, ◌⊎◌, false, List}
 use Rattle.msc_base.specs.Orders.{Among}
 use Rattle.msc_meaning.specs.Bodies.{EventNode, Body, level, WovenItems, no_items, item_and, WovenItem, Single, Coregion, Inline, Refer, Bodies, no_bodies, body_and}
 use Rattle.msc_meaning.specs.Pairing.{HasPair}
 use Rattle.msc_meaning.specs.Ties.{level_pairs}
 use Rattle.msc_tree.specs.declared.reference.InlineForm.TheVariants as inline
-use Rattle.body_levels.specs.BodyLevels.{BodyLevel, SomeLevel, body_levels}
-use Rattle.event_order.specs.RankedBodies.{has_own_order, is_exception, item_counted, items_counted}
+use Rattle.body_levels.specs.BodyLevels.{SomeLevel, body_levels}
+use Rattle.event_order.specs.RankedBodies.{is_exception, item_counted, items_counted}
 
 -- u is the number of an event of the first list, and v that of an event of the second at the same instance
 pub record EventsOrder (es fs : List EventNode) (u v : ℕ) : Type 0 where
@@ -53,13 +53,6 @@ pub record HasRound (b : Body) : Type 0 where
   pub number : ℕ
   pub round : ComesBefore b number number
 
--- one comes back so in the level, which has an order of its own
-abbrev pub HasOwnRound : BodyLevel → Type 0
-HasOwnRound l = (has_own_order l.operand_of ≡ true) × HasRound l.body
-
-abbrev pub HaveRounds : List BodyLevel → Type 0
-HaveRounds = SomeLevel HasOwnRound
-
--- one comes back so in the body, or in the operand of a loop by itself
+-- one comes back so on one of its levels: in the body, or in the operand of a loop by itself
 abbrev pub IsCyclic : Body → Type 0
-IsCyclic b = HaveRounds (body_levels b)
+IsCyclic b = SomeLevel (λ l. HasRound l.body) (body_levels b)

@@ -1,12 +1,11 @@
 -- Bodies whose events can be ranked: on each level, of two events at one instance that stand in different items the earlier has the lower
 -- rank, and so has the first event of each pair and of each ordered pair. Then the events can happen in that order. All events of a loop
 -- count as one there, since one turn of it may follow another; the operand of each loop has ranks of its own.
-use Rattle.std.specs.Prelude.{ℕ, ◌<◌, ◌≡◌, Bool, true, false, List, [], ◌∷◌, ◌++◌, Option, None, Some}
+use Rattle.std.specs.Prelude.{ℕ, ◌<◌, ◌≡◌, Bool, true, false, List, [], ◌∷◌, ◌++◌}
 use Rattle.msc_base.specs.declared.label.Pair.{Pair}
 use Rattle.msc_base.specs.Orders.{Among}
 use Rattle.msc_meaning.specs.Bodies.{EventNode, Body, level, WovenItems, no_items, item_and, WovenItem, Single, Coregion, Inline, Refer, Bodies, no_bodies, body_and}
 use Rattle.msc_meaning.specs.Ties.{level_pairs}
-use Rattle.msc_tree.specs.declared.reference.InlineForm.{InlineForm}
 use Rattle.msc_tree.specs.declared.reference.InlineForm.TheVariants as inline
 use Rattle.body_levels.specs.BodyLevels.{BodyLevel, EachLevel, body_levels}
 
@@ -14,15 +13,6 @@ use Rattle.body_levels.specs.BodyLevels.{BodyLevel, EachLevel, body_levels}
 abbrev pub is_exception : WovenItem → Bool
 is_exception (Inline inline.Exc part operands) = true
 is_exception x = false
-
--- the order of the whole body, and that of the operand of a loop, is looked at by itself
-abbrev pub has_own_order : Option InlineForm → Bool
-has_own_order None = true
-has_own_order (Some inline.Loop) = true
-has_own_order (Some inline.Alt) = false
-has_own_order (Some inline.Opt) = false
-has_own_order (Some inline.Par) = false
-has_own_order (Some inline.Exc) = false
 
 -- the events of items, with those of their inline expressions
 abbrev mutual
@@ -111,12 +101,12 @@ pub record HasRank (b : Body) : Type 0 where
   pub rank : ℕ → ℕ
   pub ranked : IsRanked rank b
 
--- the level's events have ranks, where it has an order of its own
-abbrev pub HasOwnRank : BodyLevel → Type 0
-HasOwnRank l = has_own_order l.operand_of ≡ true → HasRank l.body
+-- so have those of a level
+abbrev pub HasLevelRank : BodyLevel → Type 0
+HasLevelRank l = HasRank l.body
 
 abbrev pub HaveRanks : List BodyLevel → Type 0
-HaveRanks = EachLevel HasOwnRank
+HaveRanks = EachLevel HasLevelRank
 
 -- the events can happen in an order: those of the body have ranks, and so have those of the operand of each loop by itself
 abbrev pub CanBeRanked : Body → Type 0

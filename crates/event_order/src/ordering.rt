@@ -3,10 +3,13 @@
 
 ghost use Rattle.std.specs.Prelude.{◌≡◌, ◌<◌, ◌≤◌, ◌+◌, ◌^◌, [], ℕ, true, false, IfOk, OnOk};
 ghost use Rattle.column_order.specs.Counts.{EdgeLeads};
+ghost use Rattle.msc_meaning.specs.Bodies as plain;
 ghost use Rattle.msc_meaning.specs.Views.{body_view};
+ghost use Rattle.body_levels.specs.BodyLevels.{body_levels};
 ghost use Rattle.body_levels.specs.LevelViews.{level_view, levels_view};
-ghost use Rattle.event_order.specs.Precedence.{HasOwnRound, HasRound, HaveRounds};
-ghost use Rattle.event_order.specs.RankedBodies.{HasOwnRank, HasRank, HaveRanks, has_own_order as own_order};
+ghost use Rattle.event_order.specs.OwnOrders.{HasLevelRound, HasOwnRank, HaveOwnRanks, HaveRounds, has_own_order as own_order};
+ghost use Rattle.event_order.specs.Precedence.{HasRound, IsCyclic};
+ghost use Rattle.event_order.specs.RankedBodies.{CanBeRanked, HasRank};
 ghost use Rattle.event_order.specs.Webs.{AreAdded, AreBelow, AreEdges, IsTidy};
 
 use crate::in_order::is_in_order;
@@ -146,7 +149,7 @@ fn has_own_order(operand_of: Option<InlineForm>) -> bool
 
 /// Whether the level has an order of its own, and this is cyclic; if not, its events have ranks, where it has one.
 fn has_own_round(alloc: Global, level: BodyLevel<'_>) -> Result<bool, NoMemory>
-    ensures cyclic { IfOk result (λ cyclic. cyclic ≡ true → HasOwnRound (level_view level.entry)) }
+    ensures cyclic { IfOk result (λ cyclic. cyclic ≡ true → HasLevelRound (level_view level.entry)) }
     ensures ranked { IfOk result (λ cyclic. cyclic ≡ false → HasOwnRank (level_view level.entry)) }
 {
     if has_own_order(level.operand_of) {
@@ -155,12 +158,10 @@ fn has_own_round(alloc: Global, level: BodyLevel<'_>) -> Result<bool, NoMemory>
     Ok(false)
 }
 
-/// Whether the order of a body's events, whose levels these are, is cyclic, or that of a loop's operand by itself; if not, they can be
-/// ranked. It fails only for want of memory, for which it takes 2^32 edges of a body too. It takes n log n time, n being the events, each
-/// as often as levels hold it, and that again for each loop that it stands in.
-pub fn is_cyclic(alloc: Global, levels: &[BodyLevel<'_>]) -> Result<bool, NoMemory>
+/// Whether on one of the levels that have an order of their own this is cyclic; if not, the events of each have ranks.
+fn have_own_round(alloc: Global, levels: &[BodyLevel<'_>]) -> Result<bool, NoMemory>
     ensures cyclic { IfOk result (λ cyclic. cyclic ≡ true → HaveRounds (levels_view levels.now)) }
-    ensures ranked { IfOk result (λ cyclic. cyclic ≡ false → HaveRanks (levels_view levels.now)) }
+    ensures ranked { IfOk result (λ cyclic. cyclic ≡ false → HaveOwnRanks (levels_view levels.now)) }
 {
     for level in levels {
         if has_own_round(alloc, *level)? {
@@ -168,4 +169,15 @@ pub fn is_cyclic(alloc: Global, levels: &[BodyLevel<'_>]) -> Result<bool, NoMemo
         }
     }
     Ok(false)
+}
+
+/// Whether the order of a body's events, whose levels these are, is cyclic, or that of a loop's operand by itself; if not, they can be
+/// ranked. It fails only for want of memory, for which it takes 2^32 edges of a body too. It takes n log n time, n being the events, each
+/// as often as levels hold it, and that again for each loop that it stands in.
+pub fn is_cyclic(alloc: Global, levels: &[BodyLevel<'_>]) -> Result<bool, NoMemory>
+    ensures cyclic { IfOk result (λ cyclic. cyclic ≡ true → (body : plain.Body) → levels_view levels.now ≡ body_levels body → IsCyclic body) }
+    ensures ranked { IfOk result (λ cyclic. cyclic ≡ false → (body : plain.Body) → levels_view levels.now ≡ body_levels body → CanBeRanked body) }
+{
+    let cyclic = have_own_round(alloc, levels)?;
+    Ok(cyclic)
 }

@@ -4,8 +4,8 @@ use Rattle.woven_laws.specs.BuiltCharts.{BuiltChartsAreKnown}
 use Rattle.chart_forms.specs.NotBuilt.{IsBuilt}
 use Rattle.event_order.specs.OrderLaws.{RanksRise}
 use Rattle.body_levels.specs.BodyLevels.{BodyLevel}
-use Rattle.event_order.specs.Precedence.{HaveRounds, IsCyclic}
-use Rattle.event_order.specs.RankedBodies.{CanBeRanked, HaveRanks}
+use Rattle.event_order.specs.Precedence.{IsCyclic}
+use Rattle.event_order.specs.RankedBodies.{CanBeRanked}
 use Rattle.general_ordering.specs.EventNames.{BreaksNameRule, EventNameRule}
 use Rattle.level_pieces.proofs.LeastLaws.{least_same}
 use Rattle.level_weaving.proofs.OneBody.{one_body}
@@ -126,12 +126,11 @@ pub none_alone : (c : Chart) (b : Body) → IsWovenTo c b → IsLeast (IsAloneAt
 none_alone c b h q a = content_matched (instances c) c.content b a.body h a.woven q a.alone
 
 -- where the events of a chart can be ranked its order isn't cyclic
-pub never_cyclic : RanksRise → (c : Chart) (levels : List BodyLevel) → AreLevelsOf c levels → HaveRanks levels → IsLeast (IsCyclicAt c) None
-never_cyclic law c levels h r = λ q g. law.apart h.body (subst HaveRanks h.are r) (subst IsCyclic (same_body c g.body h.body g.woven h.woven) g.cyclic)
+pub never_cyclic : RanksRise → (c : Chart) (levels : List BodyLevel) (h : AreLevelsOf c levels) → CanBeRanked h.body → IsLeast (IsCyclicAt c) None
+never_cyclic law c levels h r = λ q g. law.apart h.body r (subst IsCyclic (same_body c g.body h.body g.woven h.woven) g.cyclic)
 
--- where one comes back to an event of it, it is
-pub is_cyclic_at : (c : Chart) (levels : List BodyLevel) → AreLevelsOf c levels → HaveRounds levels → IsLeast (IsCyclicAt c) (Some c.place)
-is_cyclic_at c levels h r = (record { body = h.body; woven = h.woven; cyclic = subst HaveRounds h.are r; there = refl }, (λ q g. inr g.there))
+pub is_cyclic_at : (c : Chart) (levels : List BodyLevel) (h : AreLevelsOf c levels) → IsCyclic h.body → IsLeast (IsCyclicAt c) (Some c.place)
+is_cyclic_at c levels h r = (record { body = h.body; woven = h.woven; cyclic = r; there = refl }, (λ q g. inr g.there))
 
 -- the events of a chart that break a rule on names are those of its body
 pub misnamed_least : (rule : EventNameRule) (c : Chart) (b : Body) (o : Option Place) → IsBodyOf c b → IsLeast (BreaksNameRule rule b) o → IsLeast (IsMisnamedAt rule c) o
