@@ -128,7 +128,7 @@ def main():
     rows.append(("bodies", "function bodies that stand twice", len(bodies), [" = ".join(places) for places in bodies]))
     texts = code_walks(TEXT_TYPES), specs_walks(("Statements", "Items"))
     rows.append(("texts", "recursive walks over texts", max(map(len, texts)), [*texts[0], *texts[1]]))
-    woven = code_walks(BODY_TYPES), specs_walks(("Body", "Items"))
+    woven = code_walks(BODY_TYPES), specs_walks(("Body", "WovenItems"))
     rows.append(("woven", "recursive walks over woven bodies", max(map(len, woven)), [*woven[0], *woven[1]]))
     for name, what, count, places in rows:
         print(f"{what}: {count} of {BUDGETS[name]}" + ("" if count <= BUDGETS[name] else ", which is too many"))

@@ -6,8 +6,9 @@ pub mod Fronts
 pub mod Items
 pub mod LevelSteps
 pub mod OneEvent
-pub mod AskedLoops
 pub mod Ranking
 pub mod LoopLaws
+pub mod OwnRanks
 pub mod Sorting
 pub mod InOrderSteps
+pub mod OldLoops

@@ -3,9 +3,11 @@ use Rattle.std.proofs.Common.{◌≡◌, inl, inr, ℕ, List, [], ◌∷◌, ref
 use Rattle.msc_base.specs.Orders.{Among, first, later}
 use Rattle.msc_meaning.specs.Bodies.{EventNode, Body, level, no_items, item_and, Inline, InlinePart, Bodies}
 use Rattle.msc_tree.specs.declared.reference.InlineForm.TheVariants as inline
+use Rattle.body_levels.proofs.LevelLaws.{each_both}
+use Rattle.body_levels.specs.BodyLevels.{operands_levels}
 use Rattle.event_order.specs.OrderLaws.{LoopsAreOne, around}
 use Rattle.event_order.specs.Precedence.{IsCyclic, Precedes, next, further}
-use Rattle.event_order.specs.RankedBodies.{CanBeRanked, CanEachBeRanked, as_one, operands_within, with_number}
+use Rattle.event_order.specs.RankedBodies.{CanBeRanked, HasLevelRank, HaveRanks, as_one, operands_within, with_number}
 use Rattle.event_order.proofs.Fronts.{among_left}
 
 -- one of the events as they count
@@ -43,8 +45,8 @@ through cover part operands x a b y among_a among_b before behind =
     let back : Precedes body y.number x.number = inl (inl (refl, refl)) in
     inl (record { number = x.number; round = further x.number k x.number enters (further k y.number x.number leaves (next y.number x.number back)) })
 
-alone : (cover : List (List ℕ)) (part : InlinePart) (operands : Bodies) → CanEachBeRanked operands → CanBeRanked (level cover (item_and (Inline inline.Loop part operands) no_items) [])
-alone cover part operands h = (record { rank = λ n. n; ranked = ((λ p a. elim a [ ]), (tt, (λ e a b i j at. elim j [ ]), tt)) }, (h, tt))
+alone : (cover : List (List ℕ)) (part : InlinePart) (operands : Bodies) → HaveRanks (operands_levels inline.Loop operands) → CanBeRanked (level cover (item_and (Inline inline.Loop part operands) no_items) [])
+alone cover part operands h = (record { rank = λ n. n; ranked = ((λ p a. elim a [ ]), (tt, (λ e a b i j at. elim j [ ]), tt)) }, each_both HasLevelRank (operands_levels inline.Loop operands) [] h tt)
 
 pub loops_are_one : LoopsAreOne
 loops_are_one = record { through = through; alone = alone }

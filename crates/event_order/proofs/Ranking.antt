@@ -6,9 +6,11 @@ use Rattle.msc_meaning.specs.Bodies.{Body, level, WovenItems, no_items, item_and
 use Rattle.msc_meaning.specs.Pairing.{HasPair}
 use Rattle.msc_meaning.specs.Ties.{level_pairs}
 use Rattle.msc_tree.specs.declared.reference.InlineForm.TheVariants as inline
+use Rattle.body_levels.specs.BodyLevels.{BodyLevel, body_levels}
 use Rattle.event_order.specs.OrderLaws.{RanksRise}
-use Rattle.event_order.specs.Precedence.{BodyHasCyclicLoop, ComesBefore, HasCyclicLoop, HasOneCyclicLoop, HasRound, HaveCyclicLoop, IsCyclic, IsOneCyclic, Precedes, PrecedesIn, PrecedesInOne, PrecedesWithin, next, further}
-use Rattle.event_order.specs.RankedBodies.{AreRanked, BodyHasRankedLoops, CanBeRanked, CanEachBeRanked, EachHasRankedLoops, HasRankedLoops, HaveRanked, HaveRankedLoops, IsRanked, IsRankedItem}
+use Rattle.event_order.specs.OwnOrders.{HaveRounds}
+use Rattle.event_order.specs.Precedence.{ComesBefore, HasRound, Precedes, PrecedesIn, PrecedesInOne, PrecedesWithin, next, further}
+use Rattle.event_order.specs.RankedBodies.{AreRanked, HaveRanked, HaveRanks, IsRanked, IsRankedItem}
 
 pair_among : (ps : List Pair) (u v : ℕ) → HasPair ps u v → (p : Pair) × Among p ps × (p.first ≡ u) × (p.second ≡ v)
 pair_among [] u v h = absurd h
@@ -83,41 +85,13 @@ steps_rise b rank r _ _ (further u v w p h) = let one = body_rises rank b r u v 
 no_rank : (b : Body) (rank : ℕ → ℕ) → IsRanked rank b → HasRound b → ⊥
 no_rank b rank r c = let up = steps_rise b rank r c.number c.number c.round in omega (arith, up)
 
-mutual
-  body_apart : (b : Body) → CanBeRanked b → IsCyclic b → ⊥
-  body_apart (level cover held pairs) r (inl round) = no_rank (level cover held pairs) r.0.rank r.0.ranked round
-  body_apart (level cover held pairs) r (inr c) = items_apart held r.1 c
-
-  items_apart : (xs : WovenItems) → HaveRankedLoops xs → HaveCyclicLoop xs → ⊥
-  items_apart no_items r c = absurd c
-  items_apart (item_and x xs) r (inl c) = item_apart x r.0 c
-  items_apart (item_and x xs) r (inr c) = items_apart xs r.1 c
-
-  item_apart : (x : WovenItem) → HasRankedLoops x → HasCyclicLoop x → ⊥
-  item_apart (Single n) r c = absurd c
-  item_apart (Coregion ns) r c = absurd c
-  item_apart (Inline inline.Loop part operands) r c = operands_apart operands r c
-  item_apart (Inline inline.Alt part operands) r c = loops_apart operands r c
-  item_apart (Inline inline.Opt part operands) r c = loops_apart operands r c
-  item_apart (Inline inline.Par part operands) r c = loops_apart operands r c
-  item_apart (Inline inline.Exc part operands) r c = loops_apart operands r c
-  item_apart (Refer part) r c = absurd c
-
-  operands_apart : (bs : Bodies) → CanEachBeRanked bs → IsOneCyclic bs → ⊥
-  operands_apart no_bodies r c = absurd c
-  operands_apart (body_and b bs) r (inl c) = body_apart b r.0 c
-  operands_apart (body_and b bs) r (inr c) = operands_apart bs r.1 c
-
-  loops_apart : (bs : Bodies) → EachHasRankedLoops bs → HasOneCyclicLoop bs → ⊥
-  loops_apart no_bodies r c = absurd c
-  loops_apart (body_and b bs) r (inl c) = within_apart b r.0 c
-  loops_apart (body_and b bs) r (inr c) = loops_apart bs r.1 c
-
-  within_apart : (b : Body) → BodyHasRankedLoops b → BodyHasCyclicLoop b → ⊥
-  within_apart (level cover held pairs) r c = items_apart held r c
+levels_apart : (ls : List BodyLevel) → HaveRanks ls → HaveRounds ls → ⊥
+levels_apart [] r c = c
+levels_apart (l ∷ ls) r (inl c) = no_rank l.body r.0.rank r.0.ranked c
+levels_apart (l ∷ ls) r (inr c) = levels_apart ls r.1 c
 
 pub can_rank : (b : Body) (rank : ℕ → ℕ) → ((u v : ℕ) → Precedes b u v → rank u < rank v) → IsRanked rank b
 can_rank b rank h = body_ranked rank b h
 
 pub ranks_rise : RanksRise
-ranks_rise = record { apart = body_apart; rise = λ b rank r u v p. body_rises rank b r u v p; ranked = λ b rank h. body_ranked rank b h }
+ranks_rise = record { apart = λ b. levels_apart (body_levels b); rise = λ b rank r u v p. body_rises rank b r u v p; ranked = λ b rank h. body_ranked rank b h }

@@ -3,8 +3,9 @@ use Rattle.std.specs.Prelude.{ℕ, ◌≡◌, ◌<◌, List, [], ◌∷◌}
 use Rattle.msc_base.specs.Orders.{Among}
 use Rattle.msc_meaning.specs.Bodies.{EventNode, Body, level, WovenItems, no_items, item_and, Single, Inline, InlinePart, Bodies}
 use Rattle.msc_tree.specs.declared.reference.InlineForm.TheVariants as inline
+use Rattle.body_levels.specs.BodyLevels.{operands_levels}
 use Rattle.event_order.specs.Precedence.{IsCyclic, Precedes}
-use Rattle.event_order.specs.RankedBodies.{CanBeRanked, CanEachBeRanked, IsRanked, operands_within}
+use Rattle.event_order.specs.RankedBodies.{CanBeRanked, HaveRanks, IsRanked, operands_within}
 
 -- a body whose order is cyclic can't be ranked, and a rank is one that rises from each event to those behind it
 pub record RanksRise : Type 0 where
@@ -21,4 +22,4 @@ around x part operands y = item_and (Single x) (item_and (Inline inline.Loop par
 pub record LoopsAreOne : Type 0 where
   pub through : (cover : List (List ℕ)) (part : InlinePart) (operands : Bodies) (x a b y : EventNode) → Among a (operands_within operands) → Among b (operands_within operands) → x.at ≡ a.at → b.at ≡ y.at
       → IsCyclic (level cover (around x part operands y) (record { first = y.number; second = x.number } ∷ []))
-  pub alone : (cover : List (List ℕ)) (part : InlinePart) (operands : Bodies) → CanEachBeRanked operands → CanBeRanked (level cover (item_and (Inline inline.Loop part operands) no_items) [])
+  pub alone : (cover : List (List ℕ)) (part : InlinePart) (operands : Bodies) → HaveRanks (operands_levels inline.Loop operands) → CanBeRanked (level cover (item_and (Inline inline.Loop part operands) no_items) [])

@@ -6,6 +6,7 @@ use Rattle.msc_meaning.specs.Bodies.{EventNode, Body, level, WovenItems, no_item
 use Rattle.msc_meaning.specs.Pairing.{HasPair}
 use Rattle.msc_meaning.specs.Ties.{level_pairs}
 use Rattle.msc_tree.specs.declared.reference.InlineForm.TheVariants as inline
+use Rattle.body_levels.specs.BodyLevels.{SomeLevel, body_levels}
 use Rattle.event_order.specs.RankedBodies.{is_exception, item_counted, items_counted}
 
 -- u is the number of an event of the first list, and v that of an event of the second at the same instance
@@ -52,34 +53,6 @@ pub record HasRound (b : Body) : Type 0 where
   pub number : ℕ
   pub round : ComesBefore b number number
 
--- one comes back so in the body, or in the operand of a loop by itself
-abbrev mutual
-  pub IsCyclic : Body → Type 0
-  IsCyclic (level cover held pairs) = HasRound (level cover held pairs) ⊎ HaveCyclicLoop held
-
-  pub HaveCyclicLoop : WovenItems → Type 0
-  HaveCyclicLoop no_items = ⊥
-  HaveCyclicLoop (item_and x xs) = HasCyclicLoop x ⊎ HaveCyclicLoop xs
-
-  pub HasCyclicLoop : WovenItem → Type 0
-  HasCyclicLoop (Single n) = ⊥
-  HasCyclicLoop (Coregion ns) = ⊥
-  HasCyclicLoop (Inline inline.Loop part operands) = IsOneCyclic operands
-  HasCyclicLoop (Inline inline.Alt part operands) = HasOneCyclicLoop operands
-  HasCyclicLoop (Inline inline.Opt part operands) = HasOneCyclicLoop operands
-  HasCyclicLoop (Inline inline.Par part operands) = HasOneCyclicLoop operands
-  HasCyclicLoop (Inline inline.Exc part operands) = HasOneCyclicLoop operands
-  HasCyclicLoop (Refer part) = ⊥
-
-  -- of the operands of a loop
-  pub IsOneCyclic : Bodies → Type 0
-  IsOneCyclic no_bodies = ⊥
-  IsOneCyclic (body_and b bs) = IsCyclic b ⊎ IsOneCyclic bs
-
-  -- of the loops in operands
-  pub HasOneCyclicLoop : Bodies → Type 0
-  HasOneCyclicLoop no_bodies = ⊥
-  HasOneCyclicLoop (body_and b bs) = BodyHasCyclicLoop b ⊎ HasOneCyclicLoop bs
-
-  pub BodyHasCyclicLoop : Body → Type 0
-  BodyHasCyclicLoop (level cover held pairs) = HaveCyclicLoop held
+-- one comes back so on one of its levels: in the body, or in the operand of a loop by itself
+abbrev pub IsCyclic : Body → Type 0
+IsCyclic b = SomeLevel (λ l. HasRound l.body) (body_levels b)

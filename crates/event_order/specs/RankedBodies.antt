@@ -7,6 +7,7 @@ use Rattle.msc_base.specs.Orders.{Among}
 use Rattle.msc_meaning.specs.Bodies.{EventNode, Body, level, WovenItems, no_items, item_and, WovenItem, Single, Coregion, Inline, Refer, Bodies, no_bodies, body_and}
 use Rattle.msc_meaning.specs.Ties.{level_pairs}
 use Rattle.msc_tree.specs.declared.reference.InlineForm.TheVariants as inline
+use Rattle.body_levels.specs.BodyLevels.{BodyLevel, EachLevel, body_levels}
 
 -- the item is an exception
 abbrev pub is_exception : WovenItem → Bool
@@ -100,34 +101,13 @@ pub record HasRank (b : Body) : Type 0 where
   pub rank : ℕ → ℕ
   pub ranked : IsRanked rank b
 
+-- so have those of a level
+abbrev pub HasLevelRank : BodyLevel → Type 0
+HasLevelRank l = HasRank l.body
+
+abbrev pub HaveRanks : List BodyLevel → Type 0
+HaveRanks = EachLevel HasLevelRank
+
 -- the events can happen in an order: those of the body have ranks, and so have those of the operand of each loop by itself
-abbrev mutual
-  pub CanBeRanked : Body → Type 0
-  CanBeRanked (level cover held pairs) = HasRank (level cover held pairs) × HaveRankedLoops held
-
-  pub HaveRankedLoops : WovenItems → Type 0
-  HaveRankedLoops no_items = Unit {0}
-  HaveRankedLoops (item_and x xs) = HasRankedLoops x × HaveRankedLoops xs
-
-  pub HasRankedLoops : WovenItem → Type 0
-  HasRankedLoops (Single n) = Unit {0}
-  HasRankedLoops (Coregion ns) = Unit {0}
-  HasRankedLoops (Inline inline.Loop part operands) = CanEachBeRanked operands
-  HasRankedLoops (Inline inline.Alt part operands) = EachHasRankedLoops operands
-  HasRankedLoops (Inline inline.Opt part operands) = EachHasRankedLoops operands
-  HasRankedLoops (Inline inline.Par part operands) = EachHasRankedLoops operands
-  HasRankedLoops (Inline inline.Exc part operands) = EachHasRankedLoops operands
-  HasRankedLoops (Refer part) = Unit {0}
-
-  -- of the operands of a loop
-  pub CanEachBeRanked : Bodies → Type 0
-  CanEachBeRanked no_bodies = Unit {0}
-  CanEachBeRanked (body_and b bs) = CanBeRanked b × CanEachBeRanked bs
-
-  -- of the loops in operands
-  pub EachHasRankedLoops : Bodies → Type 0
-  EachHasRankedLoops no_bodies = Unit {0}
-  EachHasRankedLoops (body_and b bs) = BodyHasRankedLoops b × EachHasRankedLoops bs
-
-  pub BodyHasRankedLoops : Body → Type 0
-  BodyHasRankedLoops (level cover held pairs) = HaveRankedLoops held
+abbrev pub CanBeRanked : Body → Type 0
+CanBeRanked b = HaveRanks (body_levels b)

@@ -3,18 +3,23 @@
 
 ghost use Rattle.std.specs.Prelude.{◌≡◌, ◌<◌, ◌≤◌, ◌+◌, ◌^◌, [], ℕ, true, false, IfOk, OnOk};
 ghost use Rattle.column_order.specs.Counts.{EdgeLeads};
-ghost use Rattle.msc_meaning.specs.Views.{body_view, item_view};
-ghost use Rattle.general_ordering.specs.ItemViews.{bodies_view, inline_view, items_view};
-ghost use Rattle.event_order.specs.Precedence.{BodyHasCyclicLoop, HasCyclicLoop, HasOneCyclicLoop, HasRound, HaveCyclicLoop, IsCyclic, IsOneCyclic};
-ghost use Rattle.event_order.specs.RankedBodies.{BodyHasRankedLoops, CanBeRanked, CanEachBeRanked, EachHasRankedLoops, HasRank, HasRankedLoops, HaveRankedLoops};
+ghost use Rattle.msc_meaning.specs.Bodies as plain;
+ghost use Rattle.msc_meaning.specs.Views.{body_view};
+ghost use Rattle.body_levels.specs.BodyLevels.{body_levels};
+ghost use Rattle.body_levels.specs.LevelViews.{level_view, levels_view};
+ghost use Rattle.event_order.specs.OwnOrders.{HasLevelRound, HasOwnRank, HaveOwnRanks, HaveRounds, has_own_order as own_order};
+ghost use Rattle.event_order.specs.Precedence.{HasRound, IsCyclic};
+ghost use Rattle.event_order.specs.RankedBodies.{CanBeRanked, HasRank};
 ghost use Rattle.event_order.specs.Webs.{AreAdded, AreBelow, AreEdges, IsTidy};
 
 use crate::in_order::is_in_order;
-use crate::levels::{draw_body, is_loop};
+use crate::levels::draw_body;
 use crate::web::{Web, nothing};
+use body_levels::BodyLevel;
 use column_order::{Edge, Sorted, sort_edges};
 use msc_base::{Items, NoMemory};
-use msc_meaning::{Body, InlineItem, Item};
+use msc_meaning::Body;
+use msc_tree::InlineForm;
 use std::alloc::Global;
 
 /// The least number that is no lower than this and above the other.
@@ -128,98 +133,51 @@ fn has_round(alloc: Global, body: &Body) -> Result<bool, NoMemory>
     }
 }
 
-/// Whether the order of the body's events is cyclic, or that of a loop's operand by itself; if not, they can be ranked. It fails only
-/// for want of memory, for which it takes 2^32 edges of a body too. It takes n log n time, n being the events, each as often as
-/// levels hold it, and that again for each loop that it stands in.
-#[cycle(loops)]
-pub fn is_cyclic(alloc: Global, body: &Body) -> Result<bool, NoMemory>
-    ensures cyclic { IfOk result (λ cyclic. cyclic ≡ true → IsCyclic (body_view body.now)) }
-    ensures ranked { IfOk result (λ cyclic. cyclic ≡ false → CanBeRanked (body_view body.now)) }
+/// Whether a level has an order of its own.
+fn has_own_order(operand_of: Option<InlineForm>) -> bool
+    ensures { result ≡ own_order operand_of }
 {
-    if has_round(alloc, body)? {
-        return Ok(true);
+    match operand_of {
+        None => true,
+        Some(InlineForm::Loop) => true,
+        Some(InlineForm::Alt) => false,
+        Some(InlineForm::Opt) => false,
+        Some(InlineForm::Par) => false,
+        Some(InlineForm::Exc) => false,
     }
-    let within = have_cyclic_loop(alloc, &body.items)?;
-    Ok(within)
 }
 
-/// Whether a loop among the items, at any depth outside loops, is cyclic.
-#[cycle(loops)]
-fn have_cyclic_loop(alloc: Global, items: &Vec<Item>) -> Result<bool, NoMemory>
-    ensures cyclic { IfOk result (λ cyclic. cyclic ≡ true → HaveCyclicLoop (items_view items.now.items)) }
-    ensures ranked { IfOk result (λ cyclic. cyclic ≡ false → HaveRankedLoops (items_view items.now.items)) }
+/// Whether the level has an order of its own, and this is cyclic; if not, its events have ranks, where it has one.
+fn has_own_round(alloc: Global, level: BodyLevel<'_>) -> Result<bool, NoMemory>
+    ensures cyclic { IfOk result (λ cyclic. cyclic ≡ true → HasLevelRound (level_view level.entry)) }
+    ensures ranked { IfOk result (λ cyclic. cyclic ≡ false → HasOwnRank (level_view level.entry)) }
 {
-    for index in 0..items.len() {
-        if has_cyclic_loop(alloc, &items[index])? {
+    if has_own_order(level.operand_of) {
+        return has_round(alloc, level.body);
+    }
+    Ok(false)
+}
+
+/// Whether on one of the levels that have an order of their own this is cyclic; if not, the events of each have ranks.
+fn have_own_round(alloc: Global, levels: &[BodyLevel<'_>]) -> Result<bool, NoMemory>
+    ensures cyclic { IfOk result (λ cyclic. cyclic ≡ true → HaveRounds (levels_view levels.now)) }
+    ensures ranked { IfOk result (λ cyclic. cyclic ≡ false → HaveOwnRanks (levels_view levels.now)) }
+{
+    for level in levels {
+        if has_own_round(alloc, *level)? {
             return Ok(true);
         }
     }
     Ok(false)
 }
 
-/// Whether the item is a cyclic loop, or holds one.
-#[cycle(loops)]
-fn has_cyclic_loop(alloc: Global, item: &Item) -> Result<bool, NoMemory>
-    ensures cyclic { IfOk result (λ cyclic. cyclic ≡ true → HasCyclicLoop (item_view item.now)) }
-    ensures ranked { IfOk result (λ cyclic. cyclic ≡ false → HasRankedLoops (item_view item.now)) }
+/// Whether the order of a body's events, whose levels these are, is cyclic, or that of a loop's operand by itself; if not, they can be
+/// ranked. It fails only for want of memory, for which it takes 2^32 edges of a body too. It takes n log n time, n being the events, each
+/// as often as levels hold it, and that again for each loop that it stands in.
+pub fn is_cyclic(alloc: Global, levels: &[BodyLevel<'_>]) -> Result<bool, NoMemory>
+    ensures cyclic { IfOk result (λ cyclic. cyclic ≡ true → (body : plain.Body) → levels_view levels.now ≡ body_levels body → IsCyclic body) }
+    ensures ranked { IfOk result (λ cyclic. cyclic ≡ false → (body : plain.Body) → levels_view levels.now ≡ body_levels body → CanBeRanked body) }
 {
-    match item {
-        Item::Inline(inline) => {
-            let cyclic = is_cyclic_inline(alloc, inline)?;
-            Ok(cyclic)
-        }
-        _ => Ok(false),
-    }
-}
-
-/// Whether the inline expression is a cyclic loop, or holds one.
-#[cycle(loops)]
-fn is_cyclic_inline(alloc: Global, inline: &InlineItem) -> Result<bool, NoMemory>
-    ensures cyclic { IfOk result (λ cyclic. cyclic ≡ true → HasCyclicLoop (inline_view inline.now)) }
-    ensures ranked { IfOk result (λ cyclic. cyclic ≡ false → HasRankedLoops (inline_view inline.now)) }
-{
-    if is_loop(inline) {
-        let cyclic = is_one_cyclic(alloc, &inline.operands)?;
-        return Ok(cyclic);
-    }
-    let within = has_one_cyclic_loop(alloc, &inline.operands)?;
-    Ok(within)
-}
-
-/// Whether the order of one of the operands is cyclic.
-#[cycle(loops)]
-fn is_one_cyclic(alloc: Global, operands: &Vec<Body>) -> Result<bool, NoMemory>
-    ensures cyclic { IfOk result (λ cyclic. cyclic ≡ true → IsOneCyclic (bodies_view operands.now.items)) }
-    ensures ranked { IfOk result (λ cyclic. cyclic ≡ false → CanEachBeRanked (bodies_view operands.now.items)) }
-{
-    for index in 0..operands.len() {
-        if is_cyclic(alloc, &operands[index])? {
-            return Ok(true);
-        }
-    }
-    Ok(false)
-}
-
-/// Whether one of the operands holds a cyclic loop.
-#[cycle(loops)]
-fn has_one_cyclic_loop(alloc: Global, operands: &Vec<Body>) -> Result<bool, NoMemory>
-    ensures cyclic { IfOk result (λ cyclic. cyclic ≡ true → HasOneCyclicLoop (bodies_view operands.now.items)) }
-    ensures ranked { IfOk result (λ cyclic. cyclic ≡ false → EachHasRankedLoops (bodies_view operands.now.items)) }
-{
-    for index in 0..operands.len() {
-        if body_has_cyclic_loop(alloc, &operands[index])? {
-            return Ok(true);
-        }
-    }
-    Ok(false)
-}
-
-/// Whether the body holds a cyclic loop.
-#[cycle(loops)]
-fn body_has_cyclic_loop(alloc: Global, body: &Body) -> Result<bool, NoMemory>
-    ensures cyclic { IfOk result (λ cyclic. cyclic ≡ true → BodyHasCyclicLoop (body_view body.now)) }
-    ensures ranked { IfOk result (λ cyclic. cyclic ≡ false → BodyHasRankedLoops (body_view body.now)) }
-{
-    let within = have_cyclic_loop(alloc, &body.items)?;
-    Ok(within)
+    let cyclic = have_own_round(alloc, levels)?;
+    Ok(cyclic)
 }

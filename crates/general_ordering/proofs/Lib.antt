@@ -1,6 +1,7 @@
 mod Groups
 mod NameNumbers
-mod FirstSteps
+mod LowestFacts
 mod Tests
 pub mod ViewFacts
 pub mod NamesOnce
+pub mod OldFaults

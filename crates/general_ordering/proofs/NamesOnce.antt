@@ -9,8 +9,7 @@ use Rattle.msc_base.specs.Orders.{Among, first, later, Once}
 use Rattle.msc_base.specs.declared.place.Place.{Place}
 use Rattle.msc_meaning.specs.Bodies.{EventNode}
 use Rattle.msc_meaning.specs.Ties.{is_labelled, labelled}
-use Rattle.general_ordering.specs.EventNames.{breaks, is_named_before, places_where, stands_before}
-use Rattle.general_ordering.specs.declared.faults.EventNameRule.TheVariants.{Twice}
+use Rattle.general_ordering.specs.EventNames.{breaks, is_named_before, places_where, stands_before, Twice}
 
 pub is_one : {A : Type 0} (x : A) (xs ys : List A) → IsAmong xs x → IsAmong (xs ++ ys) x
 is_one x [] ys h = absurd h

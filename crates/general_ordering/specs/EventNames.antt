@@ -3,10 +3,14 @@ use Rattle.std.specs.List.{list_any}
 use Rattle.std.specs.Prelude.{ℕ, Bool, true, false, ◌||◌, ◌&&◌, List, [], ◌∷◌, ◌++◌, Option, Some, None, nat_lt, if◌then◌else◌}
 use Rattle.msc_base.specs.Lists.{IsAmong}
 use Rattle.msc_base.specs.declared.place.Place.{Place}
-use Rattle.msc_meaning.specs.Bodies.{EventNode, Body, level, WovenItems, no_items, item_and, WovenItem, Single, Coregion, Inline, Refer, Bodies, no_bodies, body_and, events}
+use Rattle.msc_meaning.specs.Bodies.{EventNode, Body}
 use Rattle.msc_meaning.specs.Ties.{is_labelled, labelled}
-use Rattle.general_ordering.specs.declared.faults.EventNameRule.{EventNameRule}
-use Rattle.general_ordering.specs.declared.faults.EventNameRule.TheVariants.{Unknown, Twice}
+use Rattle.body_levels.specs.BodyLevels.{BodyLevel, SomeLevel, body_levels, level_events}
+
+-- an event is ordered with names that events of its level have; on a level no two events have one name
+pub data EventNameRule : Type 0 where
+  Unknown : EventNameRule
+  Twice : EventNameRule
 
 abbrev pub is_none : List ℕ → Bool
 is_none [] = true
@@ -35,26 +39,13 @@ abbrev pub places_where : (EventNode → Bool) → List EventNode → List Place
 places_where test [] = []
 places_where test (n ∷ ns) = (if test n then n.event.place ∷ [] else []) ++ places_where test ns
 
--- the places of the events that break the rule, on the level and on those inside it
-module _ (rule : EventNameRule) where
-  abbrev mutual
-    pub body_faults : Body → List Place
-    body_faults (level cover held pairs) = places_where (breaks rule (events held)) (events held) ++ items_faults held
+-- the places of the events of a level that break the rule
+abbrev pub level_faults : EventNameRule → BodyLevel → List Place
+level_faults rule l = places_where (breaks rule (level_events l.body)) (level_events l.body)
 
-    pub items_faults : WovenItems → List Place
-    items_faults no_items = []
-    items_faults (item_and x xs) = item_faults x ++ items_faults xs
+-- an event of one of the levels, at that place, breaks the rule
+abbrev pub LevelsBreakNameRule : EventNameRule → List BodyLevel → Place → Type 0
+LevelsBreakNameRule rule levels place = SomeLevel (λ l. IsAmong (level_faults rule l) place) levels
 
-    pub item_faults : WovenItem → List Place
-    item_faults (Single n) = []
-    item_faults (Coregion ns) = []
-    item_faults (Inline form part operands) = operands_faults operands
-    item_faults (Refer part) = []
-
-    pub operands_faults : Bodies → List Place
-    operands_faults no_bodies = []
-    operands_faults (body_and b bs) = body_faults b ++ operands_faults bs
-
--- an event of the body at that place breaks the rule
 abbrev pub BreaksNameRule : EventNameRule → Body → Place → Type 0
-BreaksNameRule rule b place = IsAmong (body_faults rule b) place
+BreaksNameRule rule b = LevelsBreakNameRule rule (body_levels b)

@@ -1,5 +1,5 @@
 pub mod NamedEvents
 pub mod EventNames
-pub mod FirstNumbers
+pub mod LevelNames
 pub mod ItemViews
 pub mod OrderCounts

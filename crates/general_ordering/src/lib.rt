@@ -3,9 +3,9 @@
 #![tactic(auto)]
 
 mod faults;
-mod firsts;
+mod level_names;
 mod named;
 mod ordering;
 
-pub use faults::{EventNameRule, first_name_fault};
+pub use faults::{NameFaults, first_name_faults};
 pub use ordering::level_pairs_of;

@@ -1,4 +1,4 @@
-//! The events of a level by their names: for `faults` and `ordering`.
+//! The events of a level by their names: for `level_names` and `ordering`.
 
 ghost use Rattle.std.specs.Prelude.{◌≡◌, ◌++◌, ◌∷◌, ℕ, [], List, IfOk, OnOk, length, map};
 ghost use Rattle.general_ordering.specs.NamedEvents.{IsEven, group_of, own_group};
@@ -15,9 +15,9 @@ use std::alloc::Global;
 #[derive(Drop)]
 pub(crate) struct NamedEvents {
     /// The names, each once.
-    names: NameTable,
+    pub(crate) names: NameTable,
     /// The numbers of the events of each name, in the order of the names.
-    groups: Vec<NumberList>,
+    pub(crate) groups: Vec<NumberList>,
 }
 
 /// The list of one number.

@@ -1,5 +1,5 @@
 -- From a level to the chart of one body.
-use Rattle.std.specs.Prelude.{ℕ, ◌+◌, Bool, true, false, List, [], Some}
+use Rattle.std.specs.Prelude.{ℕ, ◌+◌, Bool, true, false, List, [], None, Some}
 use Rattle.std.proofs.Common.{◌≡◌, refl, sym, ◌∙◌, subst, ap, inl, inr, arith}
 use Rattle.std.proofs.lemmas.Option.{same_Some}
 use Rattle.msc_base.specs.declared.label.Pair.{Pair}
@@ -97,5 +97,5 @@ chart_terms_mean keep sound weigh = record {
   means = λ names b d built. chart_made (chart_tables b) names 0 (0 + event_count b) [] (chart_term names b) b (labels_once_once (body_labels b)) (level_is keep (chart_tables b) names (tables_fit names b d) 0 b built (has_all (body_labels b)));
   ranked = λ names b built f. record { nets = tt; term = (ranked_is_sound keep sound (chart_tables b) tt tt names 0 b built (has_all (body_labels b)) f).sound };
   placed = λ names b. record { places = places names (labels_once (body_labels b)); nets = tt; term = level_placed names (labels_once (body_labels b)) 0 b (has_all (body_labels b)) };
-  weighs = λ names b built few. omega (arith, level_weighs weigh names (labels_once (body_labels b)) 0 b built few);
+  weighs = λ names b built few. omega (arith, level_weighs weigh names (labels_once (body_labels b)) None 0 b built few);
 }

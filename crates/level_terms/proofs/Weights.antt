@@ -10,6 +10,7 @@ use Rattle.chart_term.specs.Equality.{same_tree}
 use Rattle.chart_term.specs.NormalForms.{open_part, flat, join_of, join_all, open_choice, open_choices, unless_same, without, distinct, choice_form, tie_of, is_nil}
 use Rattle.chart_term.specs.Terms.{Tree, Nil, Event, Join, Choice, Tied, Loop, Walk, Trees, none, more, items, trees, weight, weights}
 use Rattle.sound_terms.specs.TableLaws.{ConstructorsWeigh, weight_all}
+use Rattle.msc_tree.specs.declared.reference.InlineForm.{InlineForm}
 use Rattle.msc_tree.specs.declared.reference.InlineForm.TheVariants as inline
 use Rattle.msc_meaning.specs.Bodies.{EventNode, Body, level, WovenItems, no_items, item_and, WovenItem, Single, Coregion, Inline, Refer, Bodies, no_bodies, body_and, events, item_events}
 use Rattle.msc_base.specs.declared.label.Label.{Label}
@@ -17,7 +18,9 @@ use Rattle.chart_forms.specs.BuiltBodies.{has_operands, is_built, are_built, is_
 use Rattle.msc_meaning.specs.Ties.{level_pairs}
 use Rattle.general_ordering.specs.OrderCounts.{order_count, orders_count}
 use Rattle.chart_forms.specs.BodySizes.{body_size, items_size, item_size, operands_size}
-use Rattle.level_terms.specs.LevelLaws.{HasFewPairs, HaveFewPairs, HasFewWithin, EachHasFew}
+use Rattle.body_levels.specs.BodyLevels.{BodyLevel, item_levels, items_levels, levels_from, operands_levels}
+use Rattle.body_levels.proofs.LevelLaws.{each_left, each_right}
+use Rattle.level_terms.specs.LevelLaws.{HasFewOwnPairs, HaveFewPairs}
 use Rattle.level_terms.specs.LevelTerms.{one_of, placed, leave_turn, turns_if, turns_of, event_term, coregion_term, level_term, items_term, item_term, operand_terms, parallel_term}
 use Rattle.event_order.specs.RankedBodies.{is_exception}
 use Rattle.level_terms.specs.ShownNumbers.{shows, shown_events, shown_item, shown_items, number_if, numbers_of, pairs_with, pairs_between, tie_pairs}
@@ -293,60 +296,64 @@ module _ (weigh : ConstructorsWeigh) (names : List (List ℕ)) (labels : List La
   some_operand : (n : ℕ) (x : Body) (bs : Bodies) → operand_terms names labels n (body_and x bs) ≡ [] → ⊥
   some_operand n x bs = not_empty (operand_terms names labels n bs) (level_term names labels (n + operands_count bs) x)
 
+  abbrev Few : BodyLevel → Type 0
+  Few l = HasFewOwnPairs l.body
+
   mutual
-    pub level_weighs : (n : ℕ) (b : Body) → is_built names b ≡ true → HasFewPairs b → weight (level_term names labels n b) ≤ 1 + body_size b
-    level_weighs n (level cover held pairs) b f =
-        let few = few_ties n (length (events held) + orders_count (events held)) held (level_pairs held pairs) f.0 f.1 in
-        tied_weighs (items_term names labels n held) (tie_pairs (shown_items n held) (level_pairs held pairs)) (room (events held)) (items_size held) (items_weigh n held b f.2).0
+    pub level_weighs : (form : Option InlineForm) (n : ℕ) (b : Body) → is_built names b ≡ true → HaveFewPairs (levels_from form b) → weight (level_term names labels n b) ≤ 1 + body_size b
+    level_weighs form n (level cover held pairs) b f =
+        let few = few_ties n (length (events held) + orders_count (events held)) held (level_pairs held pairs) f.0.0 f.0.1 in
+        tied_weighs (items_term names labels n held) (tie_pairs (shown_items n held) (level_pairs held pairs)) (room (events held)) (items_size held) (items_weigh n held b f.1).0
         (some_room (events held) (length (tie_pairs (shown_items n held) (level_pairs held pairs))) few)
 
-    items_weigh : (n : ℕ) (xs : WovenItems) → are_built names xs ≡ true → HaveFewPairs xs → IsWithin (items_term names labels n xs) (room (events xs)) (items_size xs)
+    items_weigh : (n : ℕ) (xs : WovenItems) → are_built names xs ≡ true → HaveFewPairs (items_levels xs) → IsWithin (items_term names labels n xs) (room (events xs)) (items_size xs)
     items_weigh n no_items b f = (omega (arith, room_none), omega (arith, room_none))
     items_weigh n (item_and x xs) b f =
         let (i, j) = and_both (is_built_item names x) (are_built names xs) b in
         subst (λ k. IsWithin (items_term names labels n (item_and x xs)) k (item_size x + items_size xs)) (sym (room_both (item_events x) (events xs)))
         (placed_weighs (is_exception x) (item_term names labels (n + events_count xs) x) (items_term names labels n xs) (room (item_events x)) (room (events xs)) (item_size x) (items_size xs)
-        (item_weighs (n + events_count xs) x i f.0) (exception_weighs (n + events_count xs) x i f.0) (items_weigh n xs j f.1))
+        (item_weighs (n + events_count xs) x i (each_left Few (item_levels x) (items_levels xs) f)) (exception_weighs (n + events_count xs) x i (each_left Few (item_levels x) (items_levels xs) f))
+        (items_weigh n xs j (each_right Few (item_levels x) (items_levels xs) f)))
 
-    item_weighs : (n : ℕ) (x : WovenItem) → is_built_item names x ≡ true → HasFewWithin x → weight (item_term names labels n x) + room (item_events x) ≤ item_size x
+    item_weighs : (n : ℕ) (x : WovenItem) → is_built_item names x ≡ true → HaveFewPairs (item_levels x) → weight (item_term names labels n x) + room (item_events x) ≤ item_size x
     item_weighs n (Single e) b f = omega (arith, room_one e)
     item_weighs n (Coregion es) b f = let (a, c) = coregion_weighs n es in omega (arith, a, room_is es)
-    item_weighs n (Inline inline.Alt part bs) b f = omega (arith, room_none, one_weight (operand_terms names labels n bs), choices_opened (operand_terms names labels n bs), operands_weigh n bs (and_both (has_operands inline.Alt bs) (have_built names bs) b).1 f)
+    item_weighs n (Inline inline.Alt part bs) b f = omega (arith, room_none, one_weight (operand_terms names labels n bs), choices_opened (operand_terms names labels n bs), operands_weigh inline.Alt n bs (and_both (has_operands inline.Alt bs) (have_built names bs) b).1 f)
     item_weighs n (Inline inline.Opt part no_bodies) b f = absurd cc
     item_weighs n (Inline inline.Opt part (body_and x bs)) b f =
-        omega (arith, room_none, two_weight (one_of (operand_terms names labels n (body_and x bs))) Nil, one_opened (operand_terms names labels n (body_and x bs)) (some_operand n x bs), operands_weigh n (body_and x bs) (and_both (has_operands inline.Opt (body_and x bs)) (have_built names (body_and x bs)) b).1 f)
-    item_weighs n (Inline inline.Exc part bs) b f = omega (arith, room_none, one_weight (operand_terms names labels n bs), choices_opened (operand_terms names labels n bs), operands_weigh n bs (and_both (has_operands inline.Exc bs) (have_built names bs) b).1 f)
-    item_weighs n (Inline inline.Par part bs) b f = let (a, c) = parallel_weighs n bs b f in omega (arith, a, room_none)
+        omega (arith, room_none, two_weight (one_of (operand_terms names labels n (body_and x bs))) Nil, one_opened (operand_terms names labels n (body_and x bs)) (some_operand n x bs), operands_weigh inline.Opt n (body_and x bs) (and_both (has_operands inline.Opt (body_and x bs)) (have_built names (body_and x bs)) b).1 f)
+    item_weighs n (Inline inline.Exc part bs) b f = omega (arith, room_none, one_weight (operand_terms names labels n bs), choices_opened (operand_terms names labels n bs), operands_weigh inline.Exc n bs (and_both (has_operands inline.Exc bs) (have_built names bs) b).1 f)
+    item_weighs n (Inline inline.Par part bs) b f = let (a, c) = parallel_weighs inline.Par n bs b f in omega (arith, a, room_none)
     item_weighs n (Inline inline.Loop part no_bodies) b f = absurd cc
     item_weighs n (Inline inline.Loop part (body_and x no_bodies)) b f =
         let (i, j) = and_both (is_built names x) true b in
-        omega (arith, room_none, turns_weight part.lower part.upper (one_of (operand_terms names labels n (body_and x no_bodies))), alone_weight (level_term names labels (n + operands_count no_bodies) x), level_weighs (n + operands_count no_bodies) x i f.0)
+        omega (arith, room_none, turns_weight part.lower part.upper (one_of (operand_terms names labels n (body_and x no_bodies))), alone_weight (level_term names labels (n + operands_count no_bodies) x), level_weighs (Some inline.Loop) (n + operands_count no_bodies) x i (each_left Few (levels_from (Some inline.Loop) x) [] f))
     item_weighs n (Inline inline.Loop part (body_and x (body_and y bs))) b f = absurd cc
     item_weighs n (Refer part) b f = absurd cc
 
     -- an exception has no events of its own, and is opened
-    exception_weighs : (n : ℕ) (x : WovenItem) → is_built_item names x ≡ true → HasFewWithin x → is_exception x ≡ true → (weight_all (open_choice (item_term names labels n x)) + 2 ≤ item_size x) × (room (item_events x) ≡ 0)
+    exception_weighs : (n : ℕ) (x : WovenItem) → is_built_item names x ≡ true → HaveFewPairs (item_levels x) → is_exception x ≡ true → (weight_all (open_choice (item_term names labels n x)) + 2 ≤ item_size x) × (room (item_events x) ≡ 0)
     exception_weighs n (Single e) b f is = absurd cc
     exception_weighs n (Coregion es) b f is = absurd cc
     exception_weighs n (Inline inline.Alt part bs) b f is = absurd cc
     exception_weighs n (Inline inline.Opt part bs) b f is = absurd cc
     exception_weighs n (Inline inline.Exc part no_bodies) b f is = absurd cc
     exception_weighs n (Inline inline.Exc part (body_and x bs)) b f is =
-        (omega (arith, one_opened (operand_terms names labels n (body_and x bs)) (some_operand n x bs), operands_weigh n (body_and x bs) (and_both (has_operands inline.Exc (body_and x bs)) (have_built names (body_and x bs)) b).1 f), room_none)
+        (omega (arith, one_opened (operand_terms names labels n (body_and x bs)) (some_operand n x bs), operands_weigh inline.Exc n (body_and x bs) (and_both (has_operands inline.Exc (body_and x bs)) (have_built names (body_and x bs)) b).1 f), room_none)
     exception_weighs n (Inline inline.Par part bs) b f is = absurd cc
     exception_weighs n (Inline inline.Loop part bs) b f is = absurd cc
     exception_weighs n (Refer part) b f is = absurd cc
 
-    operands_weigh : (n : ℕ) (bs : Bodies) → have_built names bs ≡ true → EachHasFew bs → weight_all (operand_terms names labels n bs) ≤ operands_size bs
-    operands_weigh n no_bodies b f = omega arith
-    operands_weigh n (body_and x bs) b f =
+    operands_weigh : (form : InlineForm) (n : ℕ) (bs : Bodies) → have_built names bs ≡ true → HaveFewPairs (operands_levels form bs) → weight_all (operand_terms names labels n bs) ≤ operands_size bs
+    operands_weigh form n no_bodies b f = omega arith
+    operands_weigh form n (body_and x bs) b f =
         let (i, j) = and_both (is_built names x) (have_built names bs) b in
-        omega (arith, weight_both (operand_terms names labels n bs) (level_term names labels (n + operands_count bs) x ∷ []), level_weighs (n + operands_count bs) x i f.0, operands_weigh n bs j f.1)
+        omega (arith, weight_both (operand_terms names labels n bs) (level_term names labels (n + operands_count bs) x ∷ []), level_weighs (Some form) (n + operands_count bs) x i (each_left Few (levels_from (Some form) x) (operands_levels form bs) f), operands_weigh form n bs j (each_right Few (levels_from (Some form) x) (operands_levels form bs) f))
 
-    parallel_weighs : (n : ℕ) (bs : Bodies) → have_built names bs ≡ true → EachHasFew bs → (weight (parallel_term names labels n bs) ≤ 1 + operands_size bs) × (weight_all (open_part par (parallel_term names labels n bs)) ≤ operands_size bs)
-    parallel_weighs n no_bodies b f = (omega arith, omega arith)
-    parallel_weighs n (body_and x bs) b f =
+    parallel_weighs : (form : InlineForm) (n : ℕ) (bs : Bodies) → have_built names bs ≡ true → HaveFewPairs (operands_levels form bs) → (weight (parallel_term names labels n bs) ≤ 1 + operands_size bs) × (weight_all (open_part par (parallel_term names labels n bs)) ≤ operands_size bs)
+    parallel_weighs form n no_bodies b f = (omega arith, omega arith)
+    parallel_weighs form n (body_and x bs) b f =
         let (i, j) = and_both (is_built names x) (have_built names bs) b in
-        let (a, c) = parallel_weighs n bs j f.1 in
-        let h = level_weighs (n + operands_count bs) x i f.0 in
+        let (a, c) = parallel_weighs form n bs j (each_right Few (levels_from (Some form) x) (operands_levels form bs) f) in
+        let h = level_weighs (Some form) (n + operands_count bs) x i (each_left Few (levels_from (Some form) x) (operands_levels form bs) f) in
         (omega (arith, c, h, both_weight par (level_term names labels (n + operands_count bs) x) (parallel_term names labels n bs)), omega (arith, c, h, both_open par (level_term names labels (n + operands_count bs) x) (parallel_term names labels n bs)))

@@ -33,7 +33,7 @@ input_is_first = record {
   different = ((λ h. elim h [ inl e ↦ not_same e | inr i ↦ absurd i ]), ((λ h. absurd h), tt));
   built = refl;
   ranked = (rising, (tt, (λ no. apart), (tt, (λ no d c i j at. elim j [ ]), tt)));
-  few = (((λ h. differ h), ((λ h. elim h [ ]), tt)), lit≤ tt, (tt, (tt, tt)));
+  few = ((((λ h. differ h), ((λ h. elim h [ ]), tt)), lit≤ tt), tt);
 }
   where
     differ : Among {P = ℕ} 0 (1 ∷ []) → ⊥

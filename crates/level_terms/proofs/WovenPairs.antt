@@ -1,16 +1,19 @@
 -- Woven bodies have no more pairs than events and what these are ordered with on any level, where the numbers of their events differ, and
 -- no event has the name of an earlier one.
-use Rattle.std.specs.Prelude.{ℕ, List, [], ◌∷◌, ◌++◌}
+use Rattle.std.specs.Prelude.{ℕ, List, [], ◌∷◌, ◌++◌, Option, None, Some, inl, inr}
 use Rattle.msc_base.specs.Orders.{Among, first, later, Once}
 use Rattle.msc_meaning.specs.Bodies.{EventNode, Body, level, WovenItems, no_items, item_and, WovenItem, Single, Coregion, Inline, Refer, Bodies, no_bodies, body_and, events}
 use Rattle.msc_meaning.specs.Levels.{IsWovenLevel, woven, AreWovenItems, no_woven, woven_and, IsWovenItem, an_event, a_coregion, an_inline, a_reference, AreWovenOperands, no_woven_operand, woven_operand_and}
+use Rattle.msc_meaning.specs.Pairing.{ArePairs}
 use Rattle.msc_meaning.specs.Pieces.{Piece}
 use Rattle.msc_base.specs.Lists.{IsAmong}
 use Rattle.msc_base.specs.declared.place.Place.{Place}
-use Rattle.general_ordering.specs.EventNames.{body_faults, breaks, item_faults, items_faults, operands_faults, places_where}
-use Rattle.general_ordering.specs.declared.faults.EventNameRule.TheVariants.{Twice}
-use Rattle.general_ordering.proofs.NamesOnce.{is_one, is_other, names_once}
-use Rattle.level_terms.specs.LevelLaws.{HasFewPairs, HaveFewPairs, HasFewWithin, EachHasFew, HasOwnPairs, HaveOwnPairs, HasOwnWithin, EachHasOwn, WovenHaveFew}
+use Rattle.msc_tree.specs.declared.reference.InlineForm.{InlineForm}
+use Rattle.body_levels.specs.BodyLevels.{BodyLevel, EachLevel, body_levels, item_levels, items_levels, level_events, levels_from, operands_levels}
+use Rattle.body_levels.proofs.LevelLaws.{each_both}
+use Rattle.general_ordering.specs.EventNames.{LevelsBreakNameRule, Twice, breaks, places_where}
+use Rattle.general_ordering.proofs.NamesOnce.{names_once}
+use Rattle.level_terms.specs.LevelLaws.{HasFewOwnPairs, HaveFewPairs, WovenHaveFew}
 use Rattle.event_order.specs.RankedBodies.{events_within, items_within, item_within, operands_within}
 use Rattle.level_terms.specs.EventNumbers.{numbers}
 use Rattle.level_terms.proofs.FewPairs.{level_is_few}
@@ -59,59 +62,60 @@ own_once (item_and (Refer part) xs) o = own_once xs o
 
 -- ---- by the levels
 
-abbrev NoneOf : List Place → Type 0
-NoneOf ps = (p : Place) → IsAmong ps p → ⊥
-
-none_left : (ps qs : List Place) → NoneOf (ps ++ qs) → NoneOf ps
-none_left ps qs f = λ p h. f p (is_one p ps qs h)
-
-none_right : (ps qs : List Place) → NoneOf (ps ++ qs) → NoneOf qs
-none_right ps qs f = λ p h. f p (is_other p ps qs h)
+abbrev IsOnce : BodyLevel → Type 0
+IsOnce l = Once (numbers (level_events l.body))
 
 mutual
-  few_body : (b : Body) → HasOwnPairs b → Once (numbers (events_within b)) → NoneOf (body_faults Twice b) → HasFewPairs b
-  few_body (level cover held pairs) (h, k) o f =
-      let level = places_where (breaks Twice (events held)) (events held) in
-      let once = own_once held o in
-      (once, level_is_few held pairs h (names_once (events held) once (none_left level (items_faults Twice held) f)), few_items held k o (none_right level (items_faults Twice held) f))
+  once_body : (f : Option InlineForm) (b : Body) → Once (numbers (events_within b)) → EachLevel IsOnce (levels_from f b)
+  once_body f (level cover held pairs) o = (own_once held o, once_items held o)
 
-  few_items : (xs : WovenItems) → HaveOwnPairs xs → Once (numbers (items_within xs)) → NoneOf (items_faults Twice xs) → HaveFewPairs xs
-  few_items no_items h o f = tt
-  few_items (item_and x xs) (h, k) o f = (
-    few_item x h (once_left (item_within x) (items_within xs) o) (none_left (item_faults Twice x) (items_faults Twice xs) f),
-    few_items xs k (once_right (item_within x) (items_within xs) o) (none_right (item_faults Twice x) (items_faults Twice xs) f),
-  )
+  once_items : (xs : WovenItems) → Once (numbers (items_within xs)) → EachLevel IsOnce (items_levels xs)
+  once_items no_items o = tt
+  once_items (item_and x xs) o = each_both IsOnce (item_levels x) (items_levels xs) (once_item x (once_left (item_within x) (items_within xs) o)) (once_items xs (once_right (item_within x) (items_within xs) o))
 
-  few_item : (x : WovenItem) → HasOwnWithin x → Once (numbers (item_within x)) → NoneOf (item_faults Twice x) → HasFewWithin x
-  few_item (Single n) h o f = tt
-  few_item (Coregion ns) h o f = tt
-  few_item (Inline form part operands) h o f = few_operands operands h o f
-  few_item (Refer part) h o f = tt
+  once_item : (x : WovenItem) → Once (numbers (item_within x)) → EachLevel IsOnce (item_levels x)
+  once_item (Single n) o = tt
+  once_item (Coregion ns) o = tt
+  once_item (Inline form part operands) o = once_operands form operands o
+  once_item (Refer part) o = tt
 
-  few_operands : (bs : Bodies) → EachHasOwn bs → Once (numbers (operands_within bs)) → NoneOf (operands_faults Twice bs) → EachHasFew bs
-  few_operands no_bodies h o f = tt
-  few_operands (body_and b bs) (h, k) o f = (
-    few_body b h (once_left (events_within b) (operands_within bs) o) (none_left (body_faults Twice b) (operands_faults Twice bs) f),
-    few_operands bs k (once_right (events_within b) (operands_within bs) o) (none_right (body_faults Twice b) (operands_faults Twice bs) f),
-  )
+  once_operands : (f : InlineForm) (bs : Bodies) → Once (numbers (operands_within bs)) → EachLevel IsOnce (operands_levels f bs)
+  once_operands f no_bodies o = tt
+  once_operands f (body_and b bs) o =
+      each_both IsOnce (levels_from (Some f) b) (operands_levels f bs) (once_body (Some f) b (once_left (events_within b) (operands_within bs) o)) (once_operands f bs (once_right (events_within b) (operands_within bs) o))
+
+-- on a level the pairs are those of its messages
+abbrev HasPairs : Body → Type 0
+HasPairs (level cover held pairs) = ArePairs (events held) pairs
+
+abbrev HasOwn : BodyLevel → Type 0
+HasOwn l = HasPairs l.body
 
 mutual
-  own_body : {cover : List (List ℕ)} {ps : List Piece} (b : Body) → IsWovenLevel cover ps b → HasOwnPairs b
-  own_body _ (woven {held = held} o h p) = (p, own_items held h)
+  own_body : {cover : List (List ℕ)} {ps : List Piece} (f : Option InlineForm) (b : Body) → IsWovenLevel cover ps b → EachLevel HasOwn (levels_from f b)
+  own_body f _ (woven {held = held} o h p) = (p, own_items held h)
 
-  own_items : {cover : List (List ℕ)} {all : List (List Piece)} {order : List ℕ} (xs : WovenItems) → AreWovenItems cover all order xs → HaveOwnPairs xs
+  own_items : {cover : List (List ℕ)} {all : List (List Piece)} {order : List ℕ} (xs : WovenItems) → AreWovenItems cover all order xs → EachLevel HasOwn (items_levels xs)
   own_items _ no_woven = tt
-  own_items _ (woven_and {item = x} {held = xs} at h k) = (own_item x h, own_items xs k)
+  own_items _ (woven_and {item = x} {held = xs} at h k) = each_both HasOwn (item_levels x) (items_levels xs) (own_item x h) (own_items xs k)
 
-  own_item : {cover : List (List ℕ)} {ps : List Piece} (x : WovenItem) → IsWovenItem cover ps x → HasOwnWithin x
+  own_item : {cover : List (List ℕ)} {ps : List Piece} (x : WovenItem) → IsWovenItem cover ps x → EachLevel HasOwn (item_levels x)
   own_item _ (an_event e f) = tt
   own_item _ (a_coregion e f) = tt
-  own_item _ (an_inline {held = held} e h) = own_operands held h
+  own_item _ (an_inline {head = head} {held = held} e h) = own_operands head.form held h
   own_item _ (a_reference e) = tt
 
-  own_operands : {cover : List (List ℕ)} {ps : List Piece} {k n : ℕ} (bs : Bodies) → AreWovenOperands cover ps k n bs → EachHasOwn bs
-  own_operands _ no_woven_operand = tt
-  own_operands _ (woven_operand_and {body = b} {others = bs} h k) = (own_body b h, own_operands bs k)
+  own_operands : {cover : List (List ℕ)} {ps : List Piece} {k n : ℕ} (f : InlineForm) (bs : Bodies) → AreWovenOperands cover ps k n bs → EachLevel HasOwn (operands_levels f bs)
+  own_operands f _ no_woven_operand = tt
+  own_operands f _ (woven_operand_and {body = b} {others = bs} h k) = each_both HasOwn (levels_from (Some f) b) (operands_levels f bs) (own_body (Some f) b h) (own_operands f bs k)
+
+-- of one level
+few_own : (b : Body) → HasPairs b → Once (numbers (level_events b)) → ((p : Place) → IsAmong (places_where (breaks Twice (level_events b)) (level_events b)) p → ⊥) → HasFewOwnPairs b
+few_own (level cover held pairs) h o f = (o, level_is_few held pairs h (names_once (events held) o f))
+
+few_levels : (ls : List BodyLevel) → EachLevel HasOwn ls → EachLevel IsOnce ls → ((p : Place) → LevelsBreakNameRule Twice ls p → ⊥) → HaveFewPairs ls
+few_levels [] h o f = tt
+few_levels (l ∷ ls) h o f = (few_own l.body h.0 o.0 (λ p i. f p (inl i)), few_levels ls h.1 o.1 (λ p i. f p (inr i)))
 
 pub woven_have_few : WovenHaveFew
-woven_have_few cover ps b h o m = few_body b (own_body b h) o m
+woven_have_few cover ps b h o m = few_levels (body_levels b) (own_body None b h) (once_body None b o) m

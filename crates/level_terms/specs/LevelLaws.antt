@@ -5,13 +5,12 @@ use Rattle.msc_base.specs.Orders.{Once}
 use Rattle.chart_term.specs.Terms.{weight}
 use Rattle.term_laws.specs.FullSoundness.{IsFullySound}
 use Rattle.term_laws.specs.Placing.{HaveOnePlace}
-use Rattle.msc_meaning.specs.Bodies.{Body, level, WovenItems, no_items, item_and, WovenItem, Single, Coregion, Inline, Refer, Bodies, no_bodies, body_and, events}
+use Rattle.msc_meaning.specs.Bodies.{Body, level, events}
 use Rattle.msc_meaning.specs.Levels.{IsWovenLevel}
-use Rattle.msc_meaning.specs.Pairing.{ArePairs}
 use Rattle.msc_meaning.specs.Pieces.{Piece}
 use Rattle.msc_meaning.specs.Ties.{level_pairs}
-use Rattle.general_ordering.specs.EventNames.{BreaksNameRule}
-use Rattle.general_ordering.specs.declared.faults.EventNameRule.TheVariants.{Twice}
+use Rattle.body_levels.specs.BodyLevels.{BodyLevel, EachLevel, body_levels}
+use Rattle.general_ordering.specs.EventNames.{BreaksNameRule, Twice}
 use Rattle.msc_base.specs.declared.place.Place.{Place}
 use Rattle.general_ordering.specs.OrderCounts.{orders_count}
 use Rattle.chart_forms.specs.BodySizes.{body_size}
@@ -21,43 +20,16 @@ use Rattle.level_terms.specs.MadeCharts.{IsChartMade}
 use Rattle.event_order.specs.RankedBodies.{CanBeRanked, events_within}
 use Rattle.level_terms.specs.EventNumbers.{numbers}
 
--- on each level the numbers of the events differ, and there are no more pairs than events and what these are ordered with
-abbrev mutual
-  pub HasFewPairs : Body → Type 0
-  HasFewPairs (level cover held pairs) = Once (numbers (events held)) × (length (level_pairs held pairs) ≤ length (events held) + orders_count (events held)) × HaveFewPairs held
+-- on a level the numbers of the events differ, and there are no more pairs than events and what these are ordered with
+abbrev pub HasFewOwnPairs : Body → Type 0
+HasFewOwnPairs (level cover held pairs) = Once (numbers (events held)) × (length (level_pairs held pairs) ≤ length (events held) + orders_count (events held))
 
-  pub HaveFewPairs : WovenItems → Type 0
-  HaveFewPairs no_items = Unit {0}
-  HaveFewPairs (item_and x xs) = HasFewWithin x × HaveFewPairs xs
+-- of each level
+abbrev pub HaveFewPairs : List BodyLevel → Type 0
+HaveFewPairs = EachLevel (λ l. HasFewOwnPairs l.body)
 
-  pub HasFewWithin : WovenItem → Type 0
-  HasFewWithin (Single n) = Unit {0}
-  HasFewWithin (Coregion ns) = Unit {0}
-  HasFewWithin (Inline form part operands) = EachHasFew operands
-  HasFewWithin (Refer part) = Unit {0}
-
-  pub EachHasFew : Bodies → Type 0
-  EachHasFew no_bodies = Unit {0}
-  EachHasFew (body_and b bs) = HasFewPairs b × EachHasFew bs
-
--- on each level the pairs are those of its messages
-abbrev mutual
-  pub HasOwnPairs : Body → Type 0
-  HasOwnPairs (level cover held pairs) = ArePairs (events held) pairs × HaveOwnPairs held
-
-  pub HaveOwnPairs : WovenItems → Type 0
-  HaveOwnPairs no_items = Unit {0}
-  HaveOwnPairs (item_and x xs) = HasOwnWithin x × HaveOwnPairs xs
-
-  pub HasOwnWithin : WovenItem → Type 0
-  HasOwnWithin (Single n) = Unit {0}
-  HasOwnWithin (Coregion ns) = Unit {0}
-  HasOwnWithin (Inline form part operands) = EachHasOwn operands
-  HasOwnWithin (Refer part) = Unit {0}
-
-  pub EachHasOwn : Bodies → Type 0
-  EachHasOwn no_bodies = Unit {0}
-  EachHasOwn (body_and b bs) = HasOwnPairs b × EachHasOwn bs
+abbrev pub HasFewPairs : Body → Type 0
+HasFewPairs b = HaveFewPairs (body_levels b)
 
 -- a body that a level is woven to has no more pairs than events and what these are ordered with on any level, where the numbers of its
 -- events differ, and no event has the name of an earlier one of its level

@@ -5,7 +5,7 @@ use Rattle.msc_tree.specs.Statements.{Form, Single, Coregion, Condition, Inline,
 use Rattle.msc_meaning.specs.Bodies.{WovenItem}
 use Rattle.msc_meaning.specs.LevelItems.{cover_of, name_of}
 use Rattle.msc_meaning.specs.Levels.{IsWovenItem, an_event, a_coregion, an_inline, a_reference}
-use Rattle.msc_meaning.specs.Partners.{ItemLacksPartner}
+use Rattle.level_weaving.specs.LonelyItems.{ItemLacksPartner}
 use Rattle.msc_meaning.specs.Pieces.{Piece, operand_of}
 use Rattle.level_pieces.specs.ItemParts.{AreParts, has_events}
 use Rattle.level_pieces.specs.Unwoven.{is_at_one, unwoven_form}

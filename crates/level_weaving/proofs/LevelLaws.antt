@@ -14,7 +14,9 @@ use Rattle.msc_meaning.specs.LevelItems.{cover_of, entries, level_items}
 use Rattle.msc_meaning.specs.LevelItems as level_item
 use Rattle.msc_meaning.specs.Levels.{AreWovenItems, IsWovenItem, IsWovenLevel, an_event, a_coregion, an_inline, a_reference, no_woven, woven, woven_and}
 use Rattle.msc_meaning.specs.Pairing.{ArePairs}
-use Rattle.msc_meaning.specs.Partners.{ItemsLackPartner, LacksPartner}
+use Rattle.body_levels.specs.Partners.{LacksPartner}
+use Rattle.level_weaving.proofs.LonelyLevels.{items_of, items_on}
+use Rattle.level_weaving.specs.LonelyItems.{ItemsLackPartner}
 use Rattle.msc_meaning.specs.Partners as partners
 use Rattle.msc_meaning.specs.Pieces.{Piece, operands_of}
 use Rattle.level_pieces.specs.Earliest.{earliest_of}
@@ -168,11 +170,11 @@ module _ (cover : List (List ℕ)) (ps : List Piece) (order : List ℕ) (own_wov
 
     own_on : (q : Place) → IsUnmatched (ordered_nodes (first_parts (level_items ps)) order) q ⊎ ItemsLackPartner held q → LacksPartner (level cover held pairs) q
     own_on q (inl u) = inl (subst (λ (ns : List EventNode). partners.IsUnmatched ns q) (sym own_events) (unmatched_numbers (ordered_nodes (first_parts (level_items ps)) order) q (numbers_differ ps order numbered own_woven.once) u))
-    own_on q (inr h) = inr h
+    own_on q (inr h) = inr (items_on q held h)
 
     own_of : (q : Place) → LacksPartner (level cover held pairs) q → IsUnmatched (ordered_nodes (first_parts (level_items ps)) order) q ⊎ ItemsLackPartner held q
     own_of q (inl u) = inl (unmatched_positions (ordered_nodes (first_parts (level_items ps)) order) q (subst (λ (ns : List EventNode). partners.IsUnmatched ns q) own_events u))
-    own_of q (inr h) = inr h
+    own_of q (inr h) = inr (items_of q held h)
 
     pub whole_lacks : (own inner : Option Place) → IsLeast (IsUnmatched (ordered_nodes (first_parts (level_items ps)) order)) own → IsLeast (ItemsLackPartner held) inner → IsLeast (LacksPartner (level cover held pairs)) (earliest_of own inner)
     whole_lacks own inner f g =

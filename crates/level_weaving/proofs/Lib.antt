@@ -6,6 +6,7 @@ pub mod PairLaws
 pub mod AloneLaws
 pub mod NodeLaws
 pub mod PartnerLaws
+pub mod LonelyLevels
 pub mod LevelLaws
 pub mod AnswerLaws
 pub mod StepLaws

@@ -15,7 +15,8 @@ use Rattle.msc_meaning.specs.Bodies.{Body, Bodies, Coregion, Inline, WovenItem, 
 use Rattle.msc_meaning.specs.Crossings.{ColumnsCross}
 use Rattle.msc_meaning.specs.LevelItems.{cover_of}
 use Rattle.msc_meaning.specs.Levels.{AreWovenItems, IsWovenItem, IsWovenLevel}
-use Rattle.msc_meaning.specs.Partners.{ItemLacksPartner, ItemsLackPartner, LacksPartner, OneLacksPartner}
+use Rattle.body_levels.specs.Partners.{LacksPartner}
+use Rattle.level_weaving.specs.LonelyItems.{ItemLacksPartner, ItemsLackPartner, OneLacksPartner}
 use Rattle.msc_meaning.specs.Pieces.{Piece, operands_of}
 use Rattle.msc_meaning.specs.Views.{body_view, item_view}
 use Rattle.msc_meaning.specs.declared.body.Body as code_body

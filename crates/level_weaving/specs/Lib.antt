@@ -8,5 +8,6 @@ pub mod LevelPairs
 pub mod Laws
 pub mod TextOrder
 pub mod EventViews
+pub mod LonelyItems
 pub mod Answers
 pub mod LevelNumbers

@@ -9,7 +9,7 @@ use Rattle.msc_instances.specs.Instances.{instances}
 use Rattle.msc_meaning.specs.Bodies.{Body}
 use Rattle.msc_meaning.specs.Crossings.{ColumnsCross}
 use Rattle.msc_meaning.specs.Levels.{IsWovenLevel}
-use Rattle.msc_meaning.specs.Partners.{LacksPartner}
+use Rattle.body_levels.specs.Partners.{LacksPartner}
 use Rattle.msc_meaning.specs.Pieces.{Piece, statements_pieces}
 use Rattle.msc_tree.specs.Charts.{Chart, Content, Basic, HighLevel}
 use Rattle.msc_tree.specs.Statements.{statements}

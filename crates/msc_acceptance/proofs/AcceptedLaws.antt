@@ -7,7 +7,7 @@ use Rattle.chart_forms.specs.BuiltBodies.{is_built}
 use Rattle.chart_forms.proofs.TextSizes.{size_by_content}
 use Rattle.chart_forms.specs.ChartSizes.{content_size, size_of}
 use Rattle.chart_forms.specs.NotBuilt.{IsBuilt}
-use Rattle.general_ordering.specs.declared.faults.EventNameRule.TheVariants.{Twice}
+use Rattle.general_ordering.specs.EventNames.{Twice}
 use Rattle.level_pieces.proofs.ColumnLaws.{instances_differ}
 use Rattle.msc_acceptance.proofs.AcceptLaws.{free}
 use Rattle.msc_acceptance.proofs.ChartLaws.{IsBasic, is_basic, level_of, one_content, pieces_of}

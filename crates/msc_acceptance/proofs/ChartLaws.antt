@@ -1,17 +1,18 @@
 -- What charts whose forms are built are woven to.
-use Rattle.std.proofs.Common.{◌≡◌, ℕ, List, Option, Some, None, refl, sym, subst, ap, ◌∙◌}
+use Rattle.std.proofs.Common.{◌≡◌, ℕ, List, Option, Some, None, inr, refl, sym, subst, ap, ◌∙◌}
 use Rattle.woven_laws.specs.BuiltCharts.{BuiltChartsAreKnown}
 use Rattle.chart_forms.specs.NotBuilt.{IsBuilt}
 use Rattle.event_order.specs.OrderLaws.{RanksRise}
+use Rattle.body_levels.specs.BodyLevels.{BodyLevel}
 use Rattle.event_order.specs.Precedence.{IsCyclic}
 use Rattle.event_order.specs.RankedBodies.{CanBeRanked}
-use Rattle.general_ordering.specs.EventNames.{BreaksNameRule}
-use Rattle.general_ordering.specs.declared.faults.EventNameRule.{EventNameRule}
+use Rattle.general_ordering.specs.EventNames.{BreaksNameRule, EventNameRule}
 use Rattle.level_pieces.proofs.LeastLaws.{least_same}
 use Rattle.level_weaving.proofs.OneBody.{one_body}
 use Rattle.level_weaving.specs.WeaveFaults.{IsAloneIn, IsContentFault, IsContentWoven, IsLevelFault, IsWeaveFault, IsWovenTo}
 use Rattle.level_weaving.specs.declared.weaving.WeaveFault.{WeaveFault}
 use Rattle.level_weaving.specs.declared.weaving.WeaveFault.TheVariants as fault
+use Rattle.msc_acceptance.specs.ChartLevels.{AreLevelsOf}
 use Rattle.msc_acceptance.specs.ChartFaults.{ContentCrosses, CrossesAt, IsAloneAt, IsBodyOf, IsCyclicAt, IsMisnamedAt}
 use Rattle.msc_acceptance.specs.Deciding.{ContentRanked}
 use Rattle.msc_base.specs.Places.{IsLeast}
@@ -20,7 +21,7 @@ use Rattle.msc_instances.specs.Instances.{instances}
 use Rattle.msc_meaning.specs.Bodies.{Body}
 use Rattle.msc_meaning.specs.Crossings.{ColumnsCross}
 use Rattle.msc_meaning.specs.Levels.{IsWovenLevel}
-use Rattle.msc_meaning.specs.Partners.{LacksPartner}
+use Rattle.body_levels.specs.Partners.{LacksPartner}
 use Rattle.msc_meaning.specs.Pieces.{Piece, statements_pieces}
 use Rattle.msc_meaning.specs.Tables.{ChartEntry, Woven, Basic, HighLevel}
 use Rattle.msc_meaning.specs.WovenTables.{IsEntryOf, IsWovenContent}
@@ -125,8 +126,11 @@ pub none_alone : (c : Chart) (b : Body) → IsWovenTo c b → IsLeast (IsAloneAt
 none_alone c b h q a = content_matched (instances c) c.content b a.body h a.woven q a.alone
 
 -- where the events of a chart can be ranked its order isn't cyclic
-pub never_cyclic : RanksRise → (c : Chart) (b : Body) → IsBodyOf c b → CanBeRanked b → IsLeast (IsCyclicAt c) None
-never_cyclic law c b h r = λ q g. law.apart b r (subst IsCyclic (same_body c g.body b g.woven h) g.cyclic)
+pub never_cyclic : RanksRise → (c : Chart) (levels : List BodyLevel) (h : AreLevelsOf c levels) → CanBeRanked h.body → IsLeast (IsCyclicAt c) None
+never_cyclic law c levels h r = λ q g. law.apart h.body r (subst IsCyclic (same_body c g.body h.body g.woven h.woven) g.cyclic)
+
+pub is_cyclic_at : (c : Chart) (levels : List BodyLevel) (h : AreLevelsOf c levels) → IsCyclic h.body → IsLeast (IsCyclicAt c) (Some c.place)
+is_cyclic_at c levels h r = (record { body = h.body; woven = h.woven; cyclic = r; there = refl }, (λ q g. inr g.there))
 
 -- the events of a chart that break a rule on names are those of its body
 pub misnamed_least : (rule : EventNameRule) (c : Chart) (b : Body) (o : Option Place) → IsBodyOf c b → IsLeast (BreaksNameRule rule b) o → IsLeast (IsMisnamedAt rule c) o

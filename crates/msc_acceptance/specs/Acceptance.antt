@@ -14,7 +14,7 @@ use Rattle.shared_parts.specs.declared.faults.PartRule.TheVariants as part
 use Rattle.msc_meaning.specs.Tables.{Table}
 use Rattle.msc_meaning.specs.WovenTables.{IsTableOf}
 use Rattle.msc_acceptance.specs.ChartFaults.{CrossesAt, IsAloneAt, IsCyclicAt, IsMisnamedAt}
-use Rattle.general_ordering.specs.declared.faults.EventNameRule.TheVariants.{Unknown, Twice}
+use Rattle.general_ordering.specs.EventNames.{Unknown, Twice}
 use Rattle.msc_instances.specs.Instances.{instances}
 use Rattle.msc_instances.specs.NameFaults.{ChartNamesOther, ChartNamesTwice}
 use Rattle.msc_acceptance.specs.Rules.{InOne, IsFurther, HasFurther, IsNamedAgain, IsLarge, PassesTotal}

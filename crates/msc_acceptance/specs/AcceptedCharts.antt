@@ -3,8 +3,7 @@ use Rattle.std.specs.Prelude.{◌≡◌, ◌≤◌, ◌+◌, ⊤, true, List, []
 use Rattle.chart_forms.specs.BodySizes.{body_size}
 use Rattle.chart_forms.specs.BuiltBodies.{is_built}
 use Rattle.event_order.specs.RankedBodies.{CanBeRanked, events_within}
-use Rattle.general_ordering.specs.EventNames.{BreaksNameRule}
-use Rattle.general_ordering.specs.declared.faults.EventNameRule.TheVariants.{Twice}
+use Rattle.general_ordering.specs.EventNames.{BreaksNameRule, Twice}
 use Rattle.msc_base.specs.Lists.{AreDifferent}
 use Rattle.msc_base.specs.Orders.{Once}
 use Rattle.msc_base.specs.declared.limits.TheConstants.Limits.{EXPANDED_SIZE, INSTANCES}

@@ -5,12 +5,11 @@ use Rattle.msc_tree.specs.Charts.{Chart, Content, Basic, HighLevel}
 use Rattle.msc_tree.specs.Statements.{statements}
 use Rattle.msc_meaning.specs.Bodies.{Body}
 use Rattle.msc_meaning.specs.Crossings.{ColumnsCross}
-use Rattle.msc_meaning.specs.Partners.{LacksPartner}
+use Rattle.body_levels.specs.Partners.{LacksPartner}
 use Rattle.msc_meaning.specs.Pieces.{statements_pieces}
 use Rattle.msc_meaning.specs.Tables as table
 use Rattle.msc_meaning.specs.WovenTables.{IsWovenContent}
-use Rattle.general_ordering.specs.EventNames.{BreaksNameRule}
-use Rattle.general_ordering.specs.declared.faults.EventNameRule.{EventNameRule}
+use Rattle.general_ordering.specs.EventNames.{BreaksNameRule, EventNameRule}
 use Rattle.event_order.specs.Precedence.{IsCyclic}
 use Rattle.msc_instances.specs.Instances.{instances}
 

@@ -1,4 +1,5 @@
 pub mod ChartFaults
+pub mod ChartLevels
 pub mod Rules
 pub mod Acceptance
 pub mod Listing

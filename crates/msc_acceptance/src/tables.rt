@@ -1,10 +1,12 @@
 //! The table of charts, each woven, with the earliest places at which what they are woven to breaks a rule: for `deciding`.
 
 ghost use Rattle.std.specs.Prelude.{◌≡◌, IfOk, None, OnOk, Some, map};
+ghost use Rattle.body_levels.specs.LevelViews.{levels_view};
 ghost use Rattle.chart_forms.specs.NotBuilt.{IsBuilt};
-ghost use Rattle.event_order.specs.RankedBodies.{CanBeRanked};
+ghost use Rattle.event_order.specs.RankedBodies.{CanBeRanked, HaveRanks};
 ghost use Rattle.level_weaving.specs.WeaveFaults.{IsWeaveFault, IsWovenTo};
 ghost use Rattle.msc_acceptance.specs.ChartFaults.{IsBodyOf, IsCyclicAt};
+ghost use Rattle.msc_acceptance.specs.ChartLevels.{AreLevelsOf};
 ghost use Rattle.msc_acceptance.specs.Deciding.{AreBuilt, AreFaultsOf, AreWoven, IsBarred, IsNextWoven, IsTakenIn, earlier_of};
 ghost use Rattle.msc_base.specs.Places.{IsLeast};
 ghost use Rattle.msc_instances.specs.Instances.{instances};
@@ -14,9 +16,10 @@ ghost use Rattle.msc_tree.specs.Views.{chart_view};
 
 use crate::declaring::chart_decls;
 use crate::walks::earlier;
+use body_levels::{BodyLevel, body_levels};
 use event_order::is_cyclic;
 use event_order::laws::ranks_rise;
-use general_ordering::{EventNameRule, first_name_fault};
+use general_ordering::first_name_faults;
 use level_weaving::{WeaveFault, weave};
 use msc_base::{Names, NoMemory, Place};
 use msc_meaning::{Body, ChartEntry, EntryContent};
@@ -120,14 +123,18 @@ fn barred_by(chart: &RawChart, fault: WeaveFault) -> Result<BodyFaults, NoMemory
     }
 }
 
-/// The place of a chart, which is woven to that body, where its order is cyclic.
-fn cycle_place(alloc: Global, chart: &RawChart, body: &Body) -> Result<Option<Place>, NoMemory>
-    requires { IsBodyOf (chart_view chart.now) (body_view body.now) }
+/// The place of a chart, which is woven to a body of these levels, where its order is cyclic.
+fn cycle_place(
+    alloc: Global,
+    chart: &RawChart,
+    levels: &[BodyLevel<'_>],
+) -> Result<Option<Place>, NoMemory>
+    requires { AreLevelsOf (chart_view chart.now) (levels_view levels.now) }
     ensures least { IfOk result (IsLeast (IsCyclicAt (chart_view chart.now))) }
-    ensures ranked { IfOk result (λ cyclic. cyclic ≡ None → CanBeRanked (body_view body.now)) }
+    ensures ranked { IfOk result (λ cyclic. cyclic ≡ None → HaveRanks (levels_view levels.now)) }
 {
     ranks_rise();
-    if is_cyclic(alloc, body)? {
+    if is_cyclic(alloc, levels)? {
         Ok(Some(chart.place))
     } else {
         Ok(None)
@@ -140,14 +147,15 @@ fn faults_of(alloc: Global, chart: &RawChart, body: &Body) -> Result<BodyFaults,
     ensures least { IfOk result (AreFaultsOf (chart_view chart.now)) }
     ensures ranked { IfOk result (λ faults. faults.cyclic ≡ None → CanBeRanked (body_view body.now)) }
 {
-    let unknown = first_name_fault(alloc, EventNameRule::Unknown, body)?;
-    let twice = first_name_fault(alloc, EventNameRule::Twice, body)?;
-    let cyclic = cycle_place(alloc, chart, body)?;
+    let held = body_levels(alloc, body)?;
+    let levels = held.as_slice();
+    let names = first_name_faults(alloc, levels)?;
+    let cyclic = cycle_place(alloc, chart, levels)?;
     Ok(BodyFaults {
         crossed: None,
         alone: None,
-        unknown,
-        twice,
+        unknown: names.unknown,
+        twice: names.twice,
         cyclic,
     })
 }

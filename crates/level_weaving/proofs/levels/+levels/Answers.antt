@@ -10,7 +10,7 @@ use Rattle.msc_meaning.specs.LevelItems.{Entry, columns_of, entries, level_items
 use Rattle.level_pieces.specs.PieceNumbers.{AreNumbered}
 use Rattle.level_pieces.specs.Unwoven.{AreAllWoven}
 use Rattle.msc_meaning.specs.Levels.{AreWovenItems, no_woven, operand_number}
-use Rattle.msc_meaning.specs.Partners.{ItemsLackPartner}
+use Rattle.level_weaving.specs.LonelyItems.{ItemsLackPartner}
 use Rattle.msc_meaning.specs.Pieces.{Piece}
 use Rattle.msc_meaning.specs.Views.{item_view}
 use Rattle.level_pieces.specs.ItemNumbers.{AreInside}

@@ -6,7 +6,7 @@ use Rattle.level_weaving.specs.Answers.{AreWovenLevels, ItemsCross, OneCrosses}
 use Rattle.level_weaving.proofs.GatherLaws.{IsGathered}
 use Rattle.msc_meaning.specs.Bodies.{bodies, items}
 use Rattle.msc_meaning.specs.Levels.{AreWovenItems}
-use Rattle.msc_meaning.specs.Partners.{ItemsLackPartner, OneLacksPartner}
+use Rattle.level_weaving.specs.LonelyItems.{ItemsLackPartner, OneLacksPartner}
 use Rattle.msc_meaning.specs.Views.{body_view, item_view}
 use Rattle.level_weaving.proofs.levels.+levels.Given as goal
 

@@ -4,7 +4,7 @@ use Rattle.msc_base.specs.declared.place.Place.{Place}
 use Rattle.msc_meaning.specs.Bodies.{Bodies, WovenItem, bodies}
 use Rattle.msc_meaning.specs.LevelItems.{cover_of}
 use Rattle.msc_meaning.specs.Levels.{AreWovenOperands, IsWovenItem, operand_number}
-use Rattle.msc_meaning.specs.Partners.{ItemLacksPartner, OneLacksPartner}
+use Rattle.level_weaving.specs.LonelyItems.{ItemLacksPartner, OneLacksPartner}
 use Rattle.msc_meaning.specs.Pieces.{Piece}
 use Rattle.msc_meaning.specs.Views.{body_view, item_view}
 use Rattle.level_pieces.specs.ItemOperands.{operands_in}

@@ -7,7 +7,7 @@ use Rattle.msc_meaning.specs.Bodies.{items}
 use Rattle.msc_meaning.specs.Crossings.{ColumnsCross}
 use Rattle.msc_meaning.specs.LevelItems.{level_items}
 use Rattle.msc_meaning.specs.Levels.{AreWovenItems}
-use Rattle.msc_meaning.specs.Partners.{ItemsLackPartner}
+use Rattle.level_weaving.specs.LonelyItems.{ItemsLackPartner}
 use Rattle.msc_meaning.specs.Pieces.{Piece}
 use Rattle.msc_meaning.specs.Views.{item_view}
 use Rattle.level_pieces.specs.PieceViews.{parts_view, piece_view}

@@ -9,7 +9,7 @@ use Rattle.msc_meaning.specs.Bodies.{Body, EventNode, WovenItems, items, level}
 use Rattle.msc_meaning.specs.LevelItems.{level_items}
 use Rattle.msc_meaning.specs.Levels.{IsWovenLevel}
 use Rattle.msc_meaning.specs.Pairing.{ArePairs}
-use Rattle.msc_meaning.specs.Partners.{LacksPartner}
+use Rattle.body_levels.specs.Partners.{LacksPartner}
 use Rattle.msc_meaning.specs.Pieces.{Piece}
 use Rattle.msc_meaning.specs.Views.{body_view, item_view}
 use Rattle.level_pieces.specs.Earliest.{earliest_of}

@@ -1,7 +1,7 @@
 use Rattle.std.proofs.Common.{List, Option, map, subst}
 use Rattle.msc_base.specs.Places.{IsLeast}
 use Rattle.msc_base.specs.declared.place.Place.{Place}
-use Rattle.msc_meaning.specs.Partners.{LacksPartner}
+use Rattle.body_levels.specs.Partners.{LacksPartner}
 use Rattle.msc_meaning.specs.Pieces.{Piece}
 use Rattle.msc_meaning.specs.Views.{body_view}
 use Rattle.level_pieces.specs.PieceViews.{piece_view}

@@ -1,0 +1,4 @@
+pub mod BodyLevels
+pub mod ItemViews
+pub mod LevelViews
+pub mod Partners
