@@ -7,7 +7,6 @@ pub mod AloneLaws
 pub mod NodeLaws
 pub mod PartnerLaws
 pub mod LevelLaws
-pub mod AnswerLaws
 pub mod StepLaws
 pub mod OneBody
 pub mod TextOrderLaws

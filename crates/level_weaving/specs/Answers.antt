@@ -5,7 +5,7 @@ use Rattle.std.specs.Global.{Global}
 use Rattle.level_pieces.specs.Earliest.{earliest_of}
 use Rattle.level_pieces.specs.ItemParts.{refer_item}
 use Rattle.level_pieces.specs.PieceNumbers.{AreNumbered}
-use Rattle.level_pieces.specs.Unwoven.{AreAllWoven}
+use Rattle.level_pieces.specs.FormedPieces.{AreFormed}
 use Rattle.level_weaving.specs.declared.answers.Answer.{Answer}
 use Rattle.level_weaving.specs.declared.answers.Answer.TheVariants.{Woven, Crossed}
 use Rattle.level_weaving.specs.declared.answers.Gathered.{Gathered}
@@ -55,7 +55,7 @@ IsLevelAnswer cover ps answer = IsAnswer (λ b. IsWovenLevel cover ps (body_view
 
 abbrev pub AreLevels : List (List Piece) → Type 0
 AreLevels [] = ⊤
-AreLevels (ps ∷ pss) = (AreNumbered 0 ps × AreAllWoven ps) × AreLevels pss
+AreLevels (ps ∷ pss) = (AreNumbered 0 ps × AreFormed ps) × AreLevels pss
 
 abbrev pub AreWovenLevels : List (List ℕ) → List (List Piece) → List Body → Type 0
 AreWovenLevels cover [] [] = ⊤
