@@ -1,2 +1,2 @@
-pub mod OperandCounts
 pub mod TextSizes
+pub mod FormedForms

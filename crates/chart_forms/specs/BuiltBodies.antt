@@ -1,6 +1,6 @@
 -- Of which bodies terms are made, and how many events a body has.
 use Rattle.std.specs.List.{list_any}
-use Rattle.std.specs.Prelude.{ℕ, ◌+◌, ◌<◌, ◌≤◌, ◌≡◌, Bool, true, false, List, [], ◌∷◌, Some, None, ◌&&◌, length}
+use Rattle.std.specs.Prelude.{ℕ, ◌+◌, ◌≤◌, ◌≡◌, Bool, true, false, List, [], ◌∷◌, Some, None, ◌&&◌, length}
 use Rattle.std.specs.Str.{bytes_eq}
 use Rattle.msc_base.specs.declared.label.Kind.{Kind}
 use Rattle.msc_base.specs.declared.label.Kind.TheVariants.{Output, Input, OutputLost, InputFound, Action, TimerStart, TimerStop, Timeout, Create}
@@ -101,8 +101,3 @@ abbrev mutual
 pub record CanHaveTerm (names : List (List ℕ)) (b : Body) : Type 0 where
   pub built : is_built names b ≡ true
   pub room : event_count b ≤ 4294967295
-
--- it is built, and there are no numbers for so many events
-pub record IsTooLong (names : List (List ℕ)) (b : Body) : Type 0 where
-  pub built : is_built names b ≡ true
-  pub full : 4294967295 < event_count b

@@ -8,5 +8,4 @@ mod sizes;
 
 pub use bounds::first_high_bound;
 pub use not_built::first_not_built;
-pub use plain::is_plain;
 pub use sizes::size;

@@ -1,25 +1,24 @@
 //! The earliest form that isn't built yet, at any depth.
 
-ghost use Rattle.std.specs.Prelude.{◌≡◌, ◌++◌, IfOk, OnOk, map, true};
-ghost use Rattle.chart_forms.specs.NotBuilt.{IsNotBuilt, not_built as what_not, not_built_chart, not_built_coregion, not_built_decl, not_built_event, not_built_events, not_built_graph, not_built_heading, not_built_item, stands_at_one, takes as takes_operands};
+ghost use Rattle.std.specs.Prelude.{◌≡◌, ◌++◌, IfOk, OnOk};
+ghost use Rattle.chart_forms.specs.NotBuilt.{IsNotBuilt, not_built as what_not, not_built_chart, not_built_decl, not_built_event, not_built_events, not_built_graph, not_built_heading, not_built_item};
 ghost use Rattle.chart_text.specs.Gathering.{gathered};
-ghost use Rattle.chart_text.specs.PassageViews.{passage_view, side_view, text_view};
+ghost use Rattle.chart_text.specs.PassageViews.{passage_view, text_view};
 ghost use Rattle.chart_text.specs.Texts.{chart_text as text_of};
 ghost use Rattle.msc_base.specs.Places.{IsLeast};
-ghost use Rattle.msc_tree.specs.Statements.{operands as operand_tree};
-ghost use Rattle.msc_tree.specs.Views.{chart_view, content_view, form_view, operand_view, statement_view};
+ghost use Rattle.msc_tree.specs.Views.{chart_view, content_view, form_view, statement_view};
 
 use crate::plain::is_plain;
-use chart_text::{Passage, Side, earliest_place, note_if};
+use chart_text::{Passage, earliest_place, note_if};
 use msc_base::{Items, NoMemory, Place};
-use msc_tree::{Content, Decl, InlineForm, RawChart, RawEvent, RawForm, RawOperand, Statement};
+use msc_tree::{Content, Decl, RawChart, RawEvent, RawForm, Statement};
 use std::alloc::Global;
 
 /// Notes an event, where it isn't built.
-fn event(places: &mut Items<Place>, at_one: bool, event: &RawEvent) -> Result<(), NoMemory>
-    ensures { OnOk result (places.new ≡ places.old ++ not_built_event at_one event.now) }
+fn event(places: &mut Items<Place>, event: &RawEvent) -> Result<(), NoMemory>
+    ensures { OnOk result (places.new ≡ places.old ++ not_built_event event.now) }
 {
-    note_if(places, event.place.get(), !at_one || !is_plain(event))
+    note_if(places, event.place.get(), !is_plain(event))
 }
 
 /// Notes the events of a coregion that aren't built.
@@ -27,46 +26,9 @@ fn events(places: &mut Items<Place>, list: &[RawEvent]) -> Result<(), NoMemory>
     ensures { OnOk result (places.new ≡ places.old ++ not_built_events list.now) }
 {
     for held in list {
-        event(places, true, held)?;
+        event(places, held)?;
     }
     Ok(())
-}
-
-/// Notes what of a coregion isn't built.
-fn coregion(
-    places: &mut Items<Place>,
-    at_one: bool,
-    place: Place,
-    list: &[RawEvent],
-) -> Result<(), NoMemory>
-    ensures { OnOk result (places.new ≡ places.old ++ not_built_coregion at_one place list.now) }
-{
-    note_if(places, place, !at_one)?;
-    events(places, list)
-}
-
-/// Whether the form takes so many operands.
-fn takes(form: InlineForm, list: &[RawOperand]) -> bool
-    ensures { result ≡ takes_operands form (operand_tree (map operand_view list.now)) }
-{
-    match form {
-        InlineForm::Alt => list.len() > 0,
-        InlineForm::Opt => list.len() == 1,
-        InlineForm::Exc => list.len() == 1,
-        InlineForm::Loop => list.len() == 1,
-        InlineForm::Par => true,
-    }
-}
-
-/// Whether an item stands at one instance.
-fn is_at_one(side: Side<'_>) -> bool
-    ensures { result ≡ stands_at_one (side_view side.entry) }
-{
-    match side {
-        Side::InColumn(_) => true,
-        Side::Behind(names) => names.len() == 1,
-        Side::BehindAll(_) => false,
-    }
 }
 
 /// Notes a declaration, where its instance is decomposed.
@@ -80,23 +42,14 @@ fn decl(places: &mut Items<Place>, decl: &Decl) -> Result<(), NoMemory>
 }
 
 /// Notes what of an item by itself isn't built.
-fn item(
-    places: &mut Items<Place>,
-    at_one: bool,
-    place: Place,
-    form: &RawForm,
-) -> Result<(), NoMemory>
-    ensures { OnOk result (places.new ≡ places.old ++ not_built_item at_one place (form_view form.now)) }
+fn item(places: &mut Items<Place>, place: Place, form: &RawForm) -> Result<(), NoMemory>
+    ensures { OnOk result (places.new ≡ places.old ++ not_built_item place (form_view form.now)) }
 {
     match form {
-        RawForm::Single(held) => event(places, at_one, held),
+        RawForm::Single(held) => event(places, held),
         RawForm::Condition(_, _) => Ok(()),
-        RawForm::Coregion(list) => coregion(places, at_one, place, list.as_slice()),
-        RawForm::Inline(held) => note_if(
-            places,
-            place,
-            !takes(held.form, held.operands.as_slice()),
-        ),
+        RawForm::Coregion(list) => events(places, list.as_slice()),
+        RawForm::Inline(_) => Ok(()),
         RawForm::Reference(_) => places.push(place),
         RawForm::Stop => places.push(place),
     }
@@ -122,10 +75,7 @@ fn passage(places: &mut Items<Place>, passage: Passage<'_>) -> Result<(), NoMemo
     match passage {
         Passage::Head(held) => decl(places, held),
         Passage::Statement(_, _, held) => heading(places, held),
-        Passage::Item(standing, held) => {
-            let at_one = is_at_one(standing.side);
-            item(places, at_one, held.place.get(), &held.form)
-        }
+        Passage::Item(_, held) => item(places, held.place.get(), &held.form),
         Passage::Operand(_, _) => Ok(()),
     }
 }

@@ -1,4 +1,4 @@
-//! Which events are built: for `not_built`, and for level_terms.
+//! Which events are built: for `not_built`.
 
 ghost use Rattle.std.specs.Prelude.{◌≡◌, ◌&&◌};
 ghost use Rattle.chart_forms.specs.BuiltBodies.{creates_nobody as makes_none, is_plain as plain_event, names_no_gate as no_gate};

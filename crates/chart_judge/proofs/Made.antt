@@ -1,6 +1,5 @@
 -- The term that is made of a chart's body is the chart's.
-use Rattle.std.proofs.Common.{◌≡◌, ℕ, List, false, arith, sym, ap, ◌∙◌}
-use Rattle.std.proofs.lemmas.Bool.{true≢false}
+use Rattle.std.proofs.Common.{◌≡◌, ℕ, List, arith, sym, ap, ◌∙◌}
 use Rattle.msc_meaning.specs.declared.body.Body.{Body, out-Body, fold_out-Body}
 use Rattle.msc_meaning.specs.declared.body.ChartEntry.{ChartEntry}
 use Rattle.msc_meaning.specs.declared.body.EntryContent.TheVariants as entry
@@ -8,7 +7,7 @@ use Rattle.msc_meaning.specs.Bodies as body
 use Rattle.msc_meaning.specs.Tables as table
 use Rattle.msc_meaning.specs.Views.{body_step, body_view, content_view, entry_view, inline_step, item_step}
 use Rattle.chart_term.specs.Terms.{Tree}
-use Rattle.chart_forms.specs.BuiltBodies.{IsTooLong, event_count, is_built}
+use Rattle.chart_forms.specs.BuiltBodies.{HasTerm, event_count, is_built}
 use Rattle.level_terms.specs.LevelTerms.{chart_tables, chart_term}
 use Rattle.term_tables.specs.NetValues.{NetsValue}
 use Rattle.msc_acceptance.specs.AcceptedCharts.{IsAcceptedChart}
@@ -39,15 +38,10 @@ module _ (chart : ChartEntry) (b : Body) (names : List (List ℕ)) (is : chart.c
     cover : names ≡ cover_of accepted.body
     cover = are ∙ sym (cover_is b) ∙ ap cover_of same
 
-    pub is_made : is_built names (body_view b) ≡ false → ⊥
-    is_made h =
-        let whole : is_built names (body_view b) ≡ is_built (cover_of accepted.body) accepted.body =
-        ap (λ (ns : List (List ℕ)). is_built ns (body_view b)) cover ∙ ap (λ (d : body.Body). is_built (cover_of accepted.body) d) same in
-        true≢false (sym accepted.built ∙ (sym whole ∙ h))
-
-    pub has_room : IsTooLong names (body_view b) → ⊥
-    has_room long =
+    pub has_term : HasTerm names (body_view b)
+    has_term =
         let within = few (entry_view chart) accepted in
         let count : event_count (body_view b) ≡ event_count accepted.body = ap event_count same in
-        let over = long.full in
-        omega (arith, within, count, over)
+        let whole : is_built names (body_view b) ≡ is_built (cover_of accepted.body) accepted.body =
+        ap (λ (ns : List (List ℕ)). is_built ns (body_view b)) cover ∙ ap (λ (d : body.Body). is_built (cover_of accepted.body) d) same in
+        record { built = whole ∙ accepted.built; room = omega (arith, within, count) }

@@ -5,7 +5,7 @@ ghost use Rattle.chart_judge.specs.ChartTerms.{IsTermOf};
 ghost use Rattle.msc_acceptance.specs.AcceptedCharts.{IsAcceptedChart};
 ghost use Rattle.msc_meaning.specs.Views.{entry_view};
 
-use level_terms::{ChartTerm, LevelFault, chart_of};
+use level_terms::{ChartTerm, chart_of};
 use msc_base::NoMemory;
 use msc_meaning::{ChartEntry, EntryContent};
 use std::alloc::Global;
@@ -16,12 +16,7 @@ pub(crate) fn term_of(alloc: Global, chart: &ChartEntry) -> Result<ChartTerm, No
     ensures { IfOk result (λ made. IsTermOf (entry_view chart.now) made.nets made.term) }
 {
     match &chart.content {
-        EntryContent::Basic(body) => match chart_of(alloc, body.cover.as_slice(), body) {
-            Ok(made) => Ok(made),
-            Err(LevelFault::NoMemory) => Err(NoMemory),
-            Err(LevelFault::NotBuilt) => unreachable!(),
-            Err(LevelFault::Full) => unreachable!(),
-        },
+        EntryContent::Basic(body) => chart_of(alloc, body.cover.as_slice(), body),
         EntryContent::Graph(_) => unreachable!(),
     }
 }

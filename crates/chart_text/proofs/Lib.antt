@@ -1,1 +1,2 @@
 pub mod GatheringLaws
+pub mod StandingLaws

@@ -1,6 +1,6 @@
 -- What each text that is read has beside its tree: an event and a coregion stand at one instance, and an inline expression has as many
 -- operands as its form takes (Z.120, clauses 4.2 and 7.2).
-use Rattle.std.specs.Prelude.{ℕ, ◌≡◌, ⊤, Bool, true, false, nat_eq, length, List, [], ◌∷◌}
+use Rattle.std.specs.Prelude.{◌≡◌, ⊤, Bool, true, false, nat_eq, length, List, [], ◌∷◌}
 use Rattle.msc_tree.specs.declared.reference.InlineForm.{InlineForm}
 use Rattle.msc_tree.specs.declared.reference.InlineForm.TheVariants.{Alt, Opt, Par, Loop, Exc}
 use Rattle.msc_tree.specs.Charts.{Chart}
@@ -43,9 +43,13 @@ is_well_formed (a_head decl) = true
 is_well_formed (a_statement depth scope statement) = true
 is_well_formed (an_operand s operand) = true
 
+-- each passage has it
+abbrev pub Each : (Passage → Type 0) → List Passage → Type 0
+Each P [] = ⊤
+Each P (p ∷ passages) = P p × Each P passages
+
 abbrev pub AreWellFormed : List Passage → Type 0
-AreWellFormed [] = ⊤
-AreWellFormed (p ∷ passages) = (is_well_formed p ≡ true) × AreWellFormed passages
+AreWellFormed text = Each (λ p. is_well_formed p ≡ true) text
 
 abbrev pub IsWellFormed : Chart → Type 0
 IsWellFormed chart = AreWellFormed (chart_text chart)

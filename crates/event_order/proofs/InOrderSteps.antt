@@ -12,7 +12,7 @@ use Rattle.msc_meaning.specs.declared.body.EventNode as rust_event
 use Rattle.msc_meaning.specs.declared.body.Item as rust_item
 use Rattle.msc_tree.specs.declared.reference.InlineForm.{InlineForm}
 use Rattle.msc_tree.specs.declared.reference.InlineForm.TheVariants as inline
-use Rattle.general_ordering.specs.ItemViews.{bodies_view, items_view}
+use Rattle.msc_meaning.specs.ItemViews.{bodies_view, items_view}
 use Rattle.event_order.specs.InOrder.{AreEventsInOrder, AreFree, AreItemsInOrder, AreOperandsInOrder, AreWithin, IsBodyInOrder, IsItemInOrder}
 use Rattle.event_order.specs.RankedBodies.{HasRank, counted_within, item_counted, items_counted, operands_counted}
 use Rattle.event_order.specs.Webs.{is_loop}

@@ -10,7 +10,7 @@ use Rattle.msc_meaning.specs.Ties.{level_pairs}
 use Rattle.msc_meaning.specs.Views.{body_view, item_view}
 use Rattle.msc_meaning.specs.declared.body.Body as rust_body
 use Rattle.msc_meaning.specs.declared.body.Item as rust_item
-use Rattle.general_ordering.specs.ItemViews.{bodies_view, items_view}
+use Rattle.msc_meaning.specs.ItemViews.{bodies_view, items_view}
 use Rattle.event_order.specs.Precedence.{EventsOrder, Precedes, PrecedesIn, PrecedesInOne, PrecedesWithin}
 use Rattle.event_order.specs.RankedBodies.{counted_within, is_exception, item_counted, items_counted, operands_counted}
 use Rattle.event_order.specs.Webs.{AreDrawn, AreEntered, AreLeft, Grows, IsFront, IsPut, IsTidy, Nothing, OneOf, line, with_item}

@@ -11,4 +11,3 @@ pub mod LoopLaws
 pub mod OwnRanks
 pub mod Sorting
 pub mod InOrderSteps
-pub mod OldLoops

@@ -3,8 +3,8 @@ use Rattle.std.proofs.Common.{◌≡◌, inl, inr, ℕ, List, [], ◌∷◌, ref
 use Rattle.msc_base.specs.Orders.{Among, first, later}
 use Rattle.msc_meaning.specs.Bodies.{EventNode, Body, level, no_items, item_and, Inline, InlinePart, Bodies}
 use Rattle.msc_tree.specs.declared.reference.InlineForm.TheVariants as inline
-use Rattle.body_levels.proofs.LevelLaws.{each_both}
-use Rattle.body_levels.specs.BodyLevels.{operands_levels}
+use Rattle.msc_meaning.proofs.LevelLaws.{each_both}
+use Rattle.msc_meaning.specs.BodyLevels.{operands_levels}
 use Rattle.event_order.specs.OrderLaws.{LoopsAreOne, around}
 use Rattle.event_order.specs.Precedence.{IsCyclic, Precedes, next, further}
 use Rattle.event_order.specs.RankedBodies.{CanBeRanked, HasLevelRank, HaveRanks, as_one, operands_within, with_number}

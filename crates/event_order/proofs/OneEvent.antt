@@ -6,7 +6,7 @@ use Rattle.msc_meaning.specs.Bodies.{EventNode, Body, WovenItem, items, bodies}
 use Rattle.msc_meaning.specs.Views.{body_view, item_view}
 use Rattle.msc_meaning.specs.declared.body.Body as rust_body
 use Rattle.msc_meaning.specs.declared.body.Item as rust_item
-use Rattle.general_ordering.specs.ItemViews.{bodies_view, items_view}
+use Rattle.msc_meaning.specs.ItemViews.{bodies_view, items_view}
 use Rattle.event_order.specs.RankedBodies.{as_one, events_within, item_within, items_within, operands_within, with_number}
 use Rattle.event_order.specs.Webs.{AreDrawn, AreStops, Nothing, OneOf, numbered}
 use Rattle.event_order.specs.declared.web.Stop.{Stop}

@@ -4,8 +4,8 @@ use Rattle.std.proofs.Common.{◌≡◌, refl}
 use Rattle.msc_tree.specs.declared.reference.InlineForm.{InlineForm}
 use Rattle.msc_tree.specs.declared.reference.InlineForm.TheVariants as inline
 use Rattle.msc_meaning.specs.Bodies.{Body, level, WovenItems, no_items, item_and, WovenItem, Single, Coregion, Inline, Refer, Bodies, no_bodies, body_and}
-use Rattle.body_levels.specs.BodyLevels.{body_levels, item_levels, items_levels, levels_from, operands_levels}
-use Rattle.body_levels.proofs.LevelLaws.{each_both, each_left, each_right}
+use Rattle.msc_meaning.specs.BodyLevels.{body_levels, item_levels, items_levels, levels_from, operands_levels}
+use Rattle.msc_meaning.proofs.LevelLaws.{each_both, each_left, each_right}
 use Rattle.event_order.specs.OwnOrders.{HasOwnRank, HaveOwnRanks, has_own_order}
 use Rattle.event_order.specs.RankedBodies.{AreRanked, CanBeRanked, HasLevelRank, HasRank, HaveRanked, HaveRanks, IsRanked, IsRankedItem}
 

@@ -6,7 +6,7 @@ use Rattle.msc_meaning.specs.Bodies.{Body, level, WovenItems, no_items, item_and
 use Rattle.msc_meaning.specs.Pairing.{HasPair}
 use Rattle.msc_meaning.specs.Ties.{level_pairs}
 use Rattle.msc_tree.specs.declared.reference.InlineForm.TheVariants as inline
-use Rattle.body_levels.specs.BodyLevels.{BodyLevel, body_levels}
+use Rattle.msc_meaning.specs.BodyLevels.{BodyLevel, body_levels}
 use Rattle.event_order.specs.OrderLaws.{RanksRise}
 use Rattle.event_order.specs.OwnOrders.{HaveRounds}
 use Rattle.event_order.specs.Precedence.{ComesBefore, HasRound, Precedes, PrecedesIn, PrecedesInOne, PrecedesWithin, next, further}

@@ -3,7 +3,7 @@ use Rattle.std.specs.Prelude.{ℕ, ◌≡◌, ◌<◌, List, [], ◌∷◌}
 use Rattle.msc_base.specs.Orders.{Among}
 use Rattle.msc_meaning.specs.Bodies.{EventNode, Body, level, WovenItems, no_items, item_and, Single, Inline, InlinePart, Bodies}
 use Rattle.msc_tree.specs.declared.reference.InlineForm.TheVariants as inline
-use Rattle.body_levels.specs.BodyLevels.{operands_levels}
+use Rattle.msc_meaning.specs.BodyLevels.{operands_levels}
 use Rattle.event_order.specs.Precedence.{IsCyclic, Precedes}
 use Rattle.event_order.specs.RankedBodies.{CanBeRanked, HaveRanks, IsRanked, operands_within}
 

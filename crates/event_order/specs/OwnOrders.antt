@@ -3,7 +3,7 @@
 use Rattle.std.specs.Prelude.{◌≡◌, Bool, true, false, List, Option, None, Some}
 use Rattle.msc_tree.specs.declared.reference.InlineForm.{InlineForm}
 use Rattle.msc_tree.specs.declared.reference.InlineForm.TheVariants as inline
-use Rattle.body_levels.specs.BodyLevels.{BodyLevel, EachLevel, SomeLevel}
+use Rattle.msc_meaning.specs.BodyLevels.{BodyLevel, EachLevel, SomeLevel}
 use Rattle.event_order.specs.Precedence.{HasRound}
 use Rattle.event_order.specs.RankedBodies.{HasRank}
 

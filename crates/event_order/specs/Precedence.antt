@@ -6,7 +6,7 @@ use Rattle.msc_meaning.specs.Bodies.{EventNode, Body, level, WovenItems, no_item
 use Rattle.msc_meaning.specs.Pairing.{HasPair}
 use Rattle.msc_meaning.specs.Ties.{level_pairs}
 use Rattle.msc_tree.specs.declared.reference.InlineForm.TheVariants as inline
-use Rattle.body_levels.specs.BodyLevels.{SomeLevel, body_levels}
+use Rattle.msc_meaning.specs.BodyLevels.{SomeLevel, body_levels}
 use Rattle.event_order.specs.RankedBodies.{is_exception, item_counted, items_counted}
 
 -- u is the number of an event of the first list, and v that of an event of the second at the same instance

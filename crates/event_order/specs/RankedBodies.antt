@@ -7,7 +7,7 @@ use Rattle.msc_base.specs.Orders.{Among}
 use Rattle.msc_meaning.specs.Bodies.{EventNode, Body, level, WovenItems, no_items, item_and, WovenItem, Single, Coregion, Inline, Refer, Bodies, no_bodies, body_and}
 use Rattle.msc_meaning.specs.Ties.{level_pairs}
 use Rattle.msc_tree.specs.declared.reference.InlineForm.TheVariants as inline
-use Rattle.body_levels.specs.BodyLevels.{BodyLevel, EachLevel, body_levels}
+use Rattle.msc_meaning.specs.BodyLevels.{BodyLevel, EachLevel, body_levels}
 
 -- the item is an exception
 abbrev pub is_exception : WovenItem → Bool

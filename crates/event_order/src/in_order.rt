@@ -3,7 +3,7 @@
 
 ghost use Rattle.std.specs.Prelude.{◌≡◌, ◌<◌, ◌∷◌, [], All, IfSome, map, true};
 ghost use Rattle.msc_meaning.specs.Views.{body_view, item_view, node_view};
-ghost use Rattle.general_ordering.specs.ItemViews.{bodies_view, inline_view, items_view};
+ghost use Rattle.msc_meaning.specs.ItemViews.{bodies_view, inline_view, items_view};
 ghost use Rattle.event_order.specs.InOrder.{AreEventsInOrder, AreFree, AreItemsInOrder, AreOperandsInOrder, IsBodyInOrder, IsItemInOrder};
 ghost use Rattle.event_order.specs.RankedBodies.{HasRank};
 

@@ -4,7 +4,7 @@ ghost use Rattle.std.specs.BTreeMap.{get};
 ghost use Rattle.std.specs.Ordering.{nat_cmp};
 ghost use Rattle.std.specs.Prelude.{◌≡◌, ◌<◌, ℕ, IfOk, OnOk, Some};
 ghost use Rattle.msc_meaning.specs.Views.{body_view, item_view};
-ghost use Rattle.general_ordering.specs.ItemViews.{bodies_view, inline_view, items_view};
+ghost use Rattle.msc_meaning.specs.ItemViews.{bodies_view, inline_view, items_view};
 ghost use Rattle.event_order.specs.Precedence.{Precedes, PrecedesIn, PrecedesInOne, PrecedesWithin};
 ghost use Rattle.event_order.specs.RankedBodies.{counted_within, is_exception as exception, item_counted, items_counted, operands_counted};
 ghost use Rattle.event_order.specs.Webs.{AreDrawn, IsPut, IsTidy, is_loop as loops};

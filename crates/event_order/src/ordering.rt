@@ -5,8 +5,8 @@ ghost use Rattle.std.specs.Prelude.{◌≡◌, ◌<◌, ◌≤◌, ◌+◌, ◌^
 ghost use Rattle.column_order.specs.Counts.{EdgeLeads};
 ghost use Rattle.msc_meaning.specs.Bodies as plain;
 ghost use Rattle.msc_meaning.specs.Views.{body_view};
-ghost use Rattle.body_levels.specs.BodyLevels.{body_levels};
-ghost use Rattle.body_levels.specs.LevelViews.{level_view, levels_view};
+ghost use Rattle.msc_meaning.specs.BodyLevels.{body_levels};
+ghost use Rattle.msc_meaning.specs.LevelViews.{level_view, levels_view};
 ghost use Rattle.event_order.specs.OwnOrders.{HasLevelRound, HasOwnRank, HaveOwnRanks, HaveRounds, has_own_order as own_order};
 ghost use Rattle.event_order.specs.Precedence.{HasRound, IsCyclic};
 ghost use Rattle.event_order.specs.RankedBodies.{CanBeRanked, HasRank};
@@ -15,10 +15,9 @@ ghost use Rattle.event_order.specs.Webs.{AreAdded, AreBelow, AreEdges, IsTidy};
 use crate::in_order::is_in_order;
 use crate::levels::draw_body;
 use crate::web::{Web, nothing};
-use body_levels::BodyLevel;
 use column_order::{Edge, Sorted, sort_edges};
 use msc_base::{Items, NoMemory};
-use msc_meaning::Body;
+use msc_meaning::{Body, BodyLevel};
 use msc_tree::InlineForm;
 use std::alloc::Global;
 

@@ -4,7 +4,7 @@
 ghost use Rattle.std.specs.Prelude.{◌≡◌, ℕ, List, [], IfOk};
 ghost use Rattle.msc_meaning.specs.Bodies.{EventNode};
 ghost use Rattle.msc_meaning.specs.Views.{body_view, item_view};
-ghost use Rattle.general_ordering.specs.ItemViews.{bodies_view, items_view};
+ghost use Rattle.msc_meaning.specs.ItemViews.{bodies_view, items_view};
 ghost use Rattle.event_order.specs.RankedBodies.{as_one, events_within, item_within, items_within, operands_within};
 ghost use Rattle.event_order.specs.Webs.{AreDrawn, AreStops, IsTidy, Nothing, numbered};
 

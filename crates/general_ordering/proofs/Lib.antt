@@ -4,4 +4,3 @@ mod LowestFacts
 mod Tests
 pub mod ViewFacts
 pub mod NamesOnce
-pub mod OldFaults

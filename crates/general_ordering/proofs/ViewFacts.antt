@@ -10,7 +10,7 @@ use Rattle.msc_meaning.specs.declared.body.InlineItem.{InlineItem, out-InlineIte
 use Rattle.msc_meaning.specs.declared.body.ReferenceItem.{ReferenceItem}
 use Rattle.msc_meaning.specs.Bodies as body
 use Rattle.msc_meaning.specs.Views.{item_step, body_step, inline_step, body_view, item_view, node_view, reference_view}
-use Rattle.general_ordering.specs.ItemViews.{inline_view, items_view, bodies_view}
+use Rattle.msc_meaning.specs.ItemViews.{inline_view, items_view, bodies_view}
 
 pub body_is : (b : Body) → body_view b ≡ body.level (out-Body b).cover (items_view (out-Body b).items.items) (out-Body b).pairs
 body_is = fold_out-Body body.WovenItem body.Body body.WovenItem item_step body_step inline_step

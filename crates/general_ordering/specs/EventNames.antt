@@ -5,7 +5,7 @@ use Rattle.msc_base.specs.Lists.{IsAmong}
 use Rattle.msc_base.specs.declared.place.Place.{Place}
 use Rattle.msc_meaning.specs.Bodies.{EventNode, Body}
 use Rattle.msc_meaning.specs.Ties.{is_labelled, labelled}
-use Rattle.body_levels.specs.BodyLevels.{BodyLevel, SomeLevel, body_levels, level_events}
+use Rattle.msc_meaning.specs.BodyLevels.{BodyLevel, SomeLevel, body_levels, level_events}
 
 -- an event is ordered with names that events of its level have; on a level no two events have one name
 pub data EventNameRule : Type 0 where

@@ -2,10 +2,10 @@
 
 ghost use Rattle.std.specs.Prelude.{◌≡◌, ◌++◌, ◌∷◌, [], IfOk, OnOk, map};
 ghost use Rattle.std.specs.List.{flat_map};
-ghost use Rattle.body_levels.specs.BodyLevels.{level_events};
-ghost use Rattle.body_levels.specs.LevelViews.{level_view, levels_view};
+ghost use Rattle.msc_meaning.specs.BodyLevels.{level_events};
+ghost use Rattle.msc_meaning.specs.LevelViews.{level_view, levels_view};
 ghost use Rattle.general_ordering.specs.EventNames.{LevelsBreakNameRule, Twice, Unknown, breaks, level_faults, places_where};
-ghost use Rattle.general_ordering.specs.ItemViews.{items_view};
+ghost use Rattle.msc_meaning.specs.ItemViews.{items_view};
 ghost use Rattle.general_ordering.specs.LevelNames.{IsWhole, is_named_twice, orders_unknown};
 ghost use Rattle.msc_base.specs.Lists.{IsAmong};
 ghost use Rattle.msc_base.specs.Places.{IsLeast};
@@ -13,9 +13,8 @@ ghost use Rattle.msc_meaning.specs.Bodies as plain;
 ghost use Rattle.msc_meaning.specs.Views.{body_view, item_view, node_view};
 
 use crate::level_names::LevelNames;
-use body_levels::BodyLevel;
 use msc_base::{Items, NoMemory, Place, earlier_place};
-use msc_meaning::{EventNode, Item};
+use msc_meaning::{BodyLevel, EventNode, Item};
 use std::alloc::Global;
 
 /// The earliest places at which names of events break the rules.

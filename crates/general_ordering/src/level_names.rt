@@ -2,7 +2,7 @@
 
 ghost use Rattle.std.specs.Prelude.{◌≡◌, ◌<◌, ℕ, IfOk, List, None, Some, map, option_copied};
 ghost use Rattle.general_ordering.specs.EventNames.{breaks, is_none as has_none, names_none as none_named, Twice, Unknown};
-ghost use Rattle.general_ordering.specs.ItemViews.{items_view};
+ghost use Rattle.msc_meaning.specs.ItemViews.{items_view};
 ghost use Rattle.general_ordering.specs.LevelNames.{IsWhole, has_before as has_lower, is_lower as lower_than, is_named_twice as twice_named, lower as lower_of, lowest_from, orders_unknown as unknown_ordered};
 ghost use Rattle.general_ordering.specs.NamedEvents.{IsEven, group_of};
 ghost use Rattle.msc_meaning.specs.Bodies as plain;

@@ -2,7 +2,7 @@
 
 ghost use Rattle.std.specs.Prelude.{◌≡◌, ◌++◌, ◌∷◌, ℕ, [], List, IfOk, OnOk, length, map};
 ghost use Rattle.general_ordering.specs.NamedEvents.{IsEven, group_of, own_group};
-ghost use Rattle.general_ordering.specs.ItemViews.{items_view};
+ghost use Rattle.msc_meaning.specs.ItemViews.{items_view};
 ghost use Rattle.msc_meaning.specs.Bodies.{events, item_events};
 ghost use Rattle.msc_meaning.specs.Ties.{labelled};
 ghost use Rattle.msc_meaning.specs.Views.{item_view, node_view};

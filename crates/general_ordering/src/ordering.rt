@@ -2,7 +2,7 @@
 
 ghost use Rattle.std.specs.Prelude.{◌≡◌, ◌++◌, IfOk, OnOk, map};
 ghost use Rattle.general_ordering.specs.NamedEvents.{IsEven, group_of};
-ghost use Rattle.general_ordering.specs.ItemViews.{items_view};
+ghost use Rattle.msc_meaning.specs.ItemViews.{items_view};
 ghost use Rattle.msc_meaning.specs.Bodies.{events, item_events};
 ghost use Rattle.msc_meaning.specs.Ties.{after_pairs, before_pairs, each_after, each_before, level_pairs, order_pairs};
 ghost use Rattle.msc_meaning.specs.Views.{item_view, node_view};

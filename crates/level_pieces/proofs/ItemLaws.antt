@@ -1,8 +1,6 @@
--- The items of a level all of whose forms are woven, by their first parts.
-use Rattle.std.proofs.Common.{◌≡◌, ◌⊎◌, inl, inr, ℕ, ◌<◌, ◌≤◌, ◌+◌, zero, suc, Bool, true, false, cond, List, [], ◌∷◌, ◌++◌, Option, Some, None, length, map, slice_get, refl, sym, subst, ap, ◌∙◌, arith}
+-- The items of a level whose pieces are well formed, by their first parts.
+use Rattle.std.proofs.Common.{◌≡◌, ◌⊎◌, inl, inr, ℕ, ◌<◌, ◌≤◌, ◌+◌, zero, suc, Bool, true, false, cond, List, [], ◌∷◌, ◌++◌, Option, Some, None, length, map, slice_get, refl, sym, subst, ap, arith}
 use Rattle.std.specs.Bool.{⊤}
-use Rattle.msc_base.specs.Lists.{IsAmong}
-use Rattle.msc_base.specs.declared.place.Place.{Place}
 use Rattle.msc_meaning.specs.LevelItems.{entries, entries_behind, is_item, is_joined, is_part, is_part_of, level_items, name_of, number_in, with_piece, with_pieces}
 use Rattle.msc_meaning.specs.Pieces.{Piece, form_count}
 use Rattle.level_pieces.specs.ItemNumbers.{AreInside, first_parts, next_entries, with_next}
@@ -10,48 +8,13 @@ use Rattle.level_pieces.specs.ItemParts.{AreInColumns, AreItems, AreParts, HasMo
 use Rattle.level_pieces.specs.PieceNumbers.{AreNumbered}
 use Rattle.level_pieces.specs.PieceViews.{parts_view, piece_view}
 use Rattle.level_pieces.specs.declared.pieces.LevelItem as code
-use Rattle.level_pieces.specs.Unwoven.{AreAllWoven, unwoven_piece, unwoven_pieces}
+use Rattle.level_pieces.specs.FormedPieces.{AreFormed, IsFormedPiece}
+use Rattle.level_pieces.proofs.PieceTexts.{pieces_behind}
 use Rattle.level_pieces.proofs.NumberedPieces.{ArePlaced, placed_later, placed_numbered, placed_on}
 
 pub length_snoc : {A : Type 0} (xs : List A) (x : A) → length (xs ++ x ∷ []) ≡ suc (length xs)
 length_snoc [] x = refl
 length_snoc (w ∷ xs) x = omega (arith, length_snoc xs x)
-
--- ---- each piece is woven
-
-abbrev pub Each : List Piece → Type 0
-Each [] = ⊤
-Each (p ∷ ps) = (unwoven_piece p ≡ []) × Each ps
-
-pub left_none : {A : Type 0} (xs ys : List A) → xs ++ ys ≡ [] → xs ≡ []
-left_none [] ys h = refl
-left_none (x ∷ xs) ys h = cc
-
-pub right_none : {A : Type 0} (xs ys : List A) → xs ++ ys ≡ [] → ys ≡ []
-right_none [] ys h = h
-right_none (x ∷ xs) ys h = cc
-
-pub none_among : {A : Type 0} (xs : List A) → ((x : A) → IsAmong xs x → ⊥) → xs ≡ []
-none_among [] none = refl
-none_among (x ∷ xs) none = absurd (none x (inl refl))
-
-each_none : (ps : List Piece) → unwoven_pieces ps ≡ [] → Each ps
-each_none [] h = tt
-each_none (p ∷ ps) h = (left_none (unwoven_piece p) (unwoven_pieces ps) h, each_none ps (right_none (unwoven_piece p) (unwoven_pieces ps) h))
-
-none_each : (ps : List Piece) → Each ps → unwoven_pieces ps ≡ []
-none_each [] h = refl
-none_each (p ∷ ps) h = ap (λ (l : List Place). l ++ unwoven_pieces ps) h.0 ∙ none_each ps h.1
-
-pub each_woven : (ps : List Piece) → AreAllWoven ps → Each ps
-each_woven ps h = each_none ps (none_among (unwoven_pieces ps) h)
-
-pub all_woven : (ps : List Piece) → Each ps → AreAllWoven ps
-all_woven ps h q u = subst (λ (l : List Place). IsAmong l q) (none_each ps h) u
-
-pub each_on : (ps qs : List Piece) → Each ps → Each qs → Each (ps ++ qs)
-each_on [] qs h g = g
-each_on (p ∷ ps) qs h g = (h.0, each_on ps qs h.1 g)
 
 -- ---- what the parts of an item have in common
 
@@ -66,10 +29,10 @@ joined_column : (c d e f : Option (List ℕ)) → is_joined c d e f ≡ true →
 joined_column None d e f h is = cc
 joined_column (Some i) d e f h is = cc
 
--- they are woven, and their events are numbered below n
+-- they are well formed, and their events are numbered below n
 abbrev IsGood : ℕ → List Piece → Type 0
 IsGood n [] = ⊥
-IsGood n (p ∷ ps) = (is_item p.form ≡ true) × HasMore p ps × Each (p ∷ ps) × ArePlaced 0 n (p ∷ ps) × AreInColumns ps
+IsGood n (p ∷ ps) = (is_item p.form ≡ true) × HasMore p ps × AreFormed (p ∷ ps) × ArePlaced 0 n (p ∷ ps) × AreInColumns ps
 
 abbrev AllGood : ℕ → List (List Piece) → Type 0
 AllGood n [] = ⊤
@@ -83,9 +46,9 @@ all_later : (n m : ℕ) (xs : List (List Piece)) → n ≤ m → AllGood n xs �
 all_later n m [] le g = tt
 all_later n m (x ∷ xs) le g = (good_later n m x le g.0, all_later n m xs le g.1)
 
-good_more : (n : ℕ) (x : List Piece) (p : Piece) → IsGood n x → n ≤ p.first → unwoven_piece p ≡ [] → is_part_of p x ≡ true → IsGood (p.first + form_count p.form) (x ++ p ∷ [])
+good_more : (n : ℕ) (x : List Piece) (p : Piece) → IsGood n x → n ≤ p.first → IsFormedPiece p → is_part_of p x ≡ true → IsGood (p.first + form_count p.form) (x ++ p ∷ [])
 good_more n [] p g le h is = absurd g
-good_more n (q ∷ qs) p g le h is = (g.0, named qs, each_on (q ∷ qs) (p ∷ []) g.2 (h, tt), placed_on 0 n (p.first + form_count p.form) (q ∷ qs) (p ∷ []) g.3 (le, omega arith), columns qs g.4)
+good_more n (q ∷ qs) p g le h is = (g.0, named qs, pieces_behind IsFormedPiece (q ∷ qs) (p ∷ []) g.2 (h, tt), placed_on 0 n (p.first + form_count p.form) (q ∷ qs) (p ∷ []) g.3 (le, omega arith), columns qs g.4)
   where
     named : (rs : List Piece) → HasMore q (rs ++ p ∷ [])
     named [] = λ none. joined_first p.column (name_of p.form) q.column (name_of q.form) is none
@@ -95,7 +58,7 @@ good_more n (q ∷ qs) p g le h is = (g.0, named qs, each_on (q ∷ qs) (p ∷ [
     columns [] k = (λ none. joined_column p.column (name_of p.form) q.column (name_of q.form) is none, tt)
     columns (r ∷ rs) k = (k.0, columns rs k.1)
 
-good_with : (n : ℕ) (xs : List (List Piece)) (p : Piece) → AllGood n xs → n ≤ p.first → unwoven_piece p ≡ [] → is_item p.form ≡ true → AllGood (p.first + form_count p.form) (with_piece xs p)
+good_with : (n : ℕ) (xs : List (List Piece)) (p : Piece) → AllGood n xs → n ≤ p.first → IsFormedPiece p → is_item p.form ≡ true → AllGood (p.first + form_count p.form) (with_piece xs p)
 good_with n [] p g le h is = ((is, tt, (h, tt), (omega arith, omega arith), tt), tt)
 good_with n (x ∷ xs) p g le h is = by (is_part_of p x) refl (good_with n xs p g.1 le h is)
   where
@@ -106,9 +69,9 @@ good_with n (x ∷ xs) p g le h is = by (is_part_of p x) refl (good_with n xs p 
 abbrev parts_of_good : (n : ℕ) (xs : List (List Piece)) → AllGood n xs → AreItems xs
 parts_of_good n [] g = tt
 parts_of_good n ([] ∷ xs) g = absurd g.0
-parts_of_good n ((p ∷ ps) ∷ xs) g = ((g.0.0, g.0.1, all_woven (p ∷ ps) g.0.2, placed_numbered 0 n (p ∷ ps) g.0.3, g.0.4), parts_of_good n xs g.1)
+parts_of_good n ((p ∷ ps) ∷ xs) g = ((g.0.0, g.0.1, g.0.2, placed_numbered 0 n (p ∷ ps) g.0.3, g.0.4), parts_of_good n xs g.1)
 
-good_from : (n : ℕ) (xs : List (List Piece)) (ps : List Piece) → AllGood n xs → Each ps → AreNumbered n ps → AreItems (with_pieces xs ps)
+good_from : (n : ℕ) (xs : List (List Piece)) (ps : List Piece) → AllGood n xs → AreFormed ps → AreNumbered n ps → AreItems (with_pieces xs ps)
 good_from n xs [] g h k = parts_of_good n xs g
 good_from n xs (p ∷ ps) g h k =
     by (is_item p.form) refl
@@ -119,9 +82,9 @@ good_from n xs (p ∷ ps) g h k =
     by true is one other = one (good_with n xs p g k.0 h.0 is)
     by false is one other = other
 
--- the items of a level all of whose forms are woven
-pub level_parts : (ps : List Piece) → AreAllWoven ps → AreNumbered 0 ps → AreItems (level_items ps)
-level_parts ps h k = good_from 0 [] ps tt (each_woven ps h) k
+-- the items of a level whose pieces are well formed
+pub level_parts : (ps : List Piece) → AreFormed ps → AreNumbered 0 ps → AreItems (level_items ps)
+level_parts ps h k = good_from 0 [] ps tt h k
 
 pub record IsItemAt (xs : List (List Piece)) (x : ℕ) (parts : List Piece) : Type 0 where
   pub first : Piece

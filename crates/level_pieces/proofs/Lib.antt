@@ -1,6 +1,7 @@
 pub mod Walks
 pub mod Positions
 pub mod NumberedPieces
+pub mod PieceTexts
 pub mod ItemLaws
 pub mod NumberLaws
 pub mod ColumnLaws

@@ -1,7 +1,7 @@
--- The parts of an item, as a level whose forms are all woven has them.
+-- The parts of an item, as a level whose pieces are well formed has them.
 use Rattle.std.specs.Prelude.{ℕ, Bool, ◌≡◌, ⊤, true, false, List, [], ◌∷◌, None}
 use Rattle.level_pieces.specs.PieceNumbers.{AreNumbered}
-use Rattle.level_pieces.specs.Unwoven.{AreAllWoven}
+use Rattle.level_pieces.specs.FormedPieces.{AreFormed}
 use Rattle.msc_base.specs.declared.place.Place.{Place}
 use Rattle.msc_meaning.specs.Bodies.{WovenItem, Refer}
 use Rattle.msc_meaning.specs.LevelItems.{is_item, name_of}
@@ -27,7 +27,7 @@ AreInColumns (p ∷ ps) = (p.column ≡ None → ⊥) × AreInColumns ps
 -- all parts of an item: those behind the first stand in columns
 abbrev pub AreParts : List Piece → Type 0
 AreParts [] = ⊥
-AreParts (p ∷ ps) = (is_item p.form ≡ true) × HasMore p ps × AreAllWoven (p ∷ ps) × AreNumbered 0 (p ∷ ps) × AreInColumns ps
+AreParts (p ∷ ps) = (is_item p.form ≡ true) × HasMore p ps × AreFormed (p ∷ ps) × AreNumbered 0 (p ∷ ps) × AreInColumns ps
 
 -- each of the items has such parts
 abbrev pub AreItems : List (List Piece) → Type 0

@@ -1,7 +1,7 @@
 pub mod PieceViews
 pub mod PieceNumbers
 pub mod Earliest
-pub mod Unwoven
+pub mod FormedPieces
 pub mod ItemNumbers
 pub mod ItemEdges
 pub mod ItemParts

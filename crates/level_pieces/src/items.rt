@@ -4,7 +4,8 @@ ghost use Rattle.std.specs.Prelude.{◌≡◌, ◌++◌, ◌∷◌, [], IfOk, Li
 ghost use Rattle.level_pieces.specs.ItemNumbers.{HasNumbering, IsNumbering, next_entries, with_next};
 ghost use Rattle.level_pieces.specs.ItemParts.{has_events, refer_item};
 ghost use Rattle.level_pieces.specs.PieceViews.{part_view, parts_view, piece_view, setting_leads};
-ghost use Rattle.level_pieces.specs.Unwoven.{is_at_one};
+ghost use Rattle.chart_text.specs.Texts.{behind};
+ghost use Rattle.chart_text.specs.WellFormed.{is_at_one};
 ghost use Rattle.msc_meaning.specs.LevelItems.{entries, is_item, level_items as items_of_level, number_in, with_piece};
 ghost use Rattle.msc_meaning.specs.Pieces as plain;
 ghost use Rattle.msc_meaning.specs.Levels.{IsWovenItem, nodes_from};
@@ -127,7 +128,7 @@ fn copied_events(
 
 /// The instance of an event or a coregion.
 fn at_of<'a>(piece: Piece<'a, 'a>) -> &'a Name
-    requires { is_at_one (setting_leads piece.setting) ≡ true }
+    requires { is_at_one (behind (setting_leads piece.setting)) ≡ true }
     ensures { slice_get (piece_view piece.entry).leads 0 ≡ Some result.now }
 {
     match lead_of(piece) {
@@ -160,7 +161,7 @@ pub fn copied_reference(
 /// A copy of an event or a coregion with its events.
 pub fn copied_events_of(alloc: Global, piece: Piece<'_, '_>) -> Result<Item, NoMemory>
     requires form { has_events (form_view piece.form.now) ≡ true }
-    requires at_one { is_at_one (setting_leads piece.setting) ≡ true }
+    requires at_one { is_at_one (behind (setting_leads piece.setting)) ≡ true }
     ensures { (level : List (List ℕ)) → IfOk result (λ item. IsWovenItem level (piece_view piece.entry ∷ []) (item_view item)) }
 {
     match piece.form {

@@ -12,7 +12,6 @@ mod numbering;
 mod operands;
 mod pieces;
 mod references;
-mod unwoven;
 
 pub use columns::woven_order;
 pub use counting::sum_of;
@@ -21,4 +20,3 @@ pub use items::{LevelItems, copied_events_of, copied_reference, level_items};
 pub use noting::earlier_of;
 pub use operands::{LevelNames, item_operands, operands_of_form};
 pub use pieces::{LevelItem, Part, Piece, Setting, chart_pieces, lead_of};
-pub use unwoven::first_unwoven;

@@ -14,7 +14,7 @@ use Rattle.level_terms.proofs.LabelFacts.{length_folded}
 use Rattle.level_terms.specs.LabelTables.{with_label, with_labels}
 use Rattle.level_terms.specs.BodyLabels.{body_labels, item_labels, items_labels, operands_labels}
 use Rattle.chart_forms.specs.BuiltBodies.{event_count, events_count, item_count, operands_count}
-use Rattle.general_ordering.specs.ItemViews.{items_view, bodies_view}
+use Rattle.msc_meaning.specs.ItemViews.{items_view, bodies_view}
 use Rattle.level_terms.specs.MadeParts.{IsGrown}
 use Rattle.level_terms.proofs.Dropped.{drop_all, drop_less}
 use Rattle.level_terms.proofs.Growing.{nets_on, nets_same}

@@ -14,8 +14,8 @@ use Rattle.msc_meaning.specs.Bodies.{EventNode, Body, level, WovenItems, no_item
 use Rattle.msc_meaning.specs.EventLabels.{written_label}
 use Rattle.msc_meaning.specs.Ties.{level_pairs}
 use Rattle.chart_forms.specs.BuiltBodies.{is_built_node, are_built_nodes, is_built, are_built, is_built_item, have_built, events_count, operands_count}
-use Rattle.body_levels.specs.BodyLevels.{item_levels, items_levels, levels_from, operands_levels}
-use Rattle.body_levels.proofs.LevelLaws.{each_left, each_right}
+use Rattle.msc_meaning.specs.BodyLevels.{item_levels, items_levels, levels_from, operands_levels}
+use Rattle.msc_meaning.proofs.LevelLaws.{each_left, each_right}
 use Rattle.event_order.specs.RankedBodies.{is_exception, operands_within, CanBeRanked, HasLevelRank, HaveRanks}
 use Rattle.level_terms.specs.BodyLabels.{HasLabels, body_labels, items_labels, item_labels, operands_labels}
 use Rattle.level_terms.specs.LevelTerms.{one_of, event_term, coregion_term, level_term, items_term, item_term, operand_terms, parallel_term}

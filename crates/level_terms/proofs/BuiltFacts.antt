@@ -18,7 +18,7 @@ use Rattle.msc_meaning.specs.declared.body.Item as rust_item
 use Rattle.msc_meaning.specs.Bodies.{EventNode, Body, WovenItem, Bodies}
 use Rattle.msc_meaning.specs.Views.{body_view, item_view, node_view}
 use Rattle.chart_forms.specs.BuiltBodies.{creates_nobody, names_no_gate, is_plain, has_operands, is_built_node, are_built_nodes, is_built, are_built, is_built_item, have_built, event_count, events_count, item_count, operands_count}
-use Rattle.general_ordering.specs.ItemViews.{inline_view, items_view, bodies_view}
+use Rattle.msc_meaning.specs.ItemViews.{inline_view, items_view, bodies_view}
 use Rattle.level_terms.proofs.PlainItems.{IsPlainFar}
 use Rattle.msc_meaning.specs.declared.body.Body.{out-Body}
 use Rattle.msc_meaning.specs.declared.body.InlineItem.{InlineItem, out-InlineItem}

@@ -22,7 +22,7 @@ use Rattle.msc_meaning.specs.Views.{body_view, item_view, node_view}
 use Rattle.level_terms.specs.BodyLabels.{HasLabels, body_labels, item_labels, items_labels, operands_labels}
 use Rattle.chart_forms.specs.BuiltBodies.{operands_count}
 use Rattle.level_terms.specs.declared.made.Made.{Made}
-use Rattle.general_ordering.specs.ItemViews.{items_view, bodies_view}
+use Rattle.msc_meaning.specs.ItemViews.{items_view, bodies_view}
 use Rattle.level_terms.specs.LevelTerms.{number_at, one_of, event_term, coregion_term, level_term, items_term, item_term, operand_terms, parallel_term, turns_of}
 use Rattle.level_terms.specs.MadeParts.{IsNothing, IsFront, IsInstead, IsPart, IsRepeated, IsTied}
 use Rattle.msc_meaning.specs.Ties.{level_pairs}

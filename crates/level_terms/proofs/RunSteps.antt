@@ -14,7 +14,7 @@ use Rattle.term_laws.proofs.Normalising.{join_normal}
 use Rattle.term_laws.proofs.Opening.{each_app}
 use Rattle.msc_meaning.specs.declared.body.Item as rust_item
 use Rattle.msc_meaning.specs.Views.{item_view}
-use Rattle.general_ordering.specs.ItemViews.{items_view}
+use Rattle.msc_meaning.specs.ItemViews.{items_view}
 use Rattle.event_order.specs.RankedBodies.{is_exception}
 use Rattle.chart_forms.specs.BuiltBodies.{events_count}
 use Rattle.level_terms.specs.declared.made.Made.{Made}

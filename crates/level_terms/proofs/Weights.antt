@@ -18,8 +18,8 @@ use Rattle.chart_forms.specs.BuiltBodies.{has_operands, is_built, are_built, is_
 use Rattle.msc_meaning.specs.Ties.{level_pairs}
 use Rattle.general_ordering.specs.OrderCounts.{order_count, orders_count}
 use Rattle.chart_forms.specs.BodySizes.{body_size, items_size, item_size, operands_size}
-use Rattle.body_levels.specs.BodyLevels.{BodyLevel, item_levels, items_levels, levels_from, operands_levels}
-use Rattle.body_levels.proofs.LevelLaws.{each_left, each_right}
+use Rattle.msc_meaning.specs.BodyLevels.{BodyLevel, item_levels, items_levels, levels_from, operands_levels}
+use Rattle.msc_meaning.proofs.LevelLaws.{each_left, each_right}
 use Rattle.level_terms.specs.LevelLaws.{HasFewOwnPairs, HaveFewPairs}
 use Rattle.level_terms.specs.LevelTerms.{one_of, placed, leave_turn, turns_if, turns_of, event_term, coregion_term, level_term, items_term, item_term, operand_terms, parallel_term}
 use Rattle.event_order.specs.RankedBodies.{is_exception}

@@ -9,8 +9,8 @@ use Rattle.msc_meaning.specs.Pieces.{Piece}
 use Rattle.msc_base.specs.Lists.{IsAmong}
 use Rattle.msc_base.specs.declared.place.Place.{Place}
 use Rattle.msc_tree.specs.declared.reference.InlineForm.{InlineForm}
-use Rattle.body_levels.specs.BodyLevels.{BodyLevel, EachLevel, body_levels, item_levels, items_levels, level_events, levels_from, operands_levels}
-use Rattle.body_levels.proofs.LevelLaws.{each_both}
+use Rattle.msc_meaning.specs.BodyLevels.{BodyLevel, EachLevel, body_levels, item_levels, items_levels, level_events, levels_from, operands_levels}
+use Rattle.msc_meaning.proofs.LevelLaws.{each_both}
 use Rattle.general_ordering.specs.EventNames.{LevelsBreakNameRule, Twice, breaks, places_where}
 use Rattle.general_ordering.proofs.NamesOnce.{names_once}
 use Rattle.level_terms.specs.LevelLaws.{HasFewOwnPairs, HaveFewPairs, WovenHaveFew}

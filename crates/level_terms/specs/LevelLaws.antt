@@ -9,7 +9,7 @@ use Rattle.msc_meaning.specs.Bodies.{Body, level, events}
 use Rattle.msc_meaning.specs.Levels.{IsWovenLevel}
 use Rattle.msc_meaning.specs.Pieces.{Piece}
 use Rattle.msc_meaning.specs.Ties.{level_pairs}
-use Rattle.body_levels.specs.BodyLevels.{BodyLevel, EachLevel, body_levels}
+use Rattle.msc_meaning.specs.BodyLevels.{BodyLevel, EachLevel, body_levels}
 use Rattle.general_ordering.specs.EventNames.{BreaksNameRule, Twice}
 use Rattle.msc_base.specs.declared.place.Place.{Place}
 use Rattle.general_ordering.specs.OrderCounts.{orders_count}

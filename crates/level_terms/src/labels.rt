@@ -6,7 +6,7 @@ ghost use Rattle.msc_meaning.specs.Views.{body_view, item_view, node_view};
 ghost use Rattle.level_terms.specs.LabelTables.{with_label, with_labels};
 ghost use Rattle.level_terms.specs.BodyLabels.{item_labels, items_labels, operands_labels};
 ghost use Rattle.chart_forms.specs.BuiltBodies.{event_count, events_count, item_count, operands_count};
-ghost use Rattle.general_ordering.specs.ItemViews.{bodies_view, items_view};
+ghost use Rattle.msc_meaning.specs.ItemViews.{bodies_view, items_view};
 ghost use Rattle.level_terms.specs.LevelTerms.{body_tables};
 ghost use Rattle.level_terms.specs.MadeParts.{IsGrown};
 

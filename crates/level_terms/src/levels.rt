@@ -7,7 +7,7 @@ ghost use Rattle.msc_meaning.specs.Views.{body_view, item_view};
 ghost use Rattle.term_laws.specs.FullSoundness.{AreSoundNets, IsSoundNode};
 ghost use Rattle.level_terms.specs.BodyLabels.{HasLabels, body_labels, item_labels, items_labels, operands_labels};
 ghost use Rattle.chart_forms.specs.BuiltBodies.{are_built, event_count, events_count, have_built, is_built, is_built_item, item_count, operands_count};
-ghost use Rattle.general_ordering.specs.ItemViews.{inline_view, items_view, bodies_view};
+ghost use Rattle.msc_meaning.specs.ItemViews.{inline_view, items_view, bodies_view};
 ghost use Rattle.level_terms.specs.LevelTerms.{item_term, items_term, level_term, one_of, operand_terms, parallel_term};
 ghost use Rattle.level_terms.specs.MadeParts.{AreFit, IsMade, IsPart};
 ghost use Rattle.level_terms.specs.ShownNumbers.{shown_item, shown_items};

@@ -8,23 +8,22 @@ use Rattle.msc_meaning.specs.Levels.{IsWovenItem, an_event, a_coregion, an_inlin
 use Rattle.level_weaving.specs.LonelyItems.{ItemLacksPartner}
 use Rattle.msc_meaning.specs.Pieces.{Piece, operand_of}
 use Rattle.level_pieces.specs.ItemParts.{AreParts, has_events}
-use Rattle.level_pieces.specs.Unwoven.{is_at_one, unwoven_form}
-use Rattle.level_pieces.proofs.ItemLaws.{each_woven}
+use Rattle.chart_text.specs.Texts.{Side, behind}
+use Rattle.chart_text.specs.WellFormed.{is_at_one, is_well_formed_item}
 use Rattle.level_weaving.specs.Answers.{ItemCrosses}
 use Rattle.level_weaving.proofs.LevelLaws.{empty_uncrossed}
 
-at_one_form : (b : Bool) (place : Place) (f : Form) → unwoven_form b place f ≡ [] → has_events f ≡ true → b ≡ true
-at_one_form true place f h is = refl
-at_one_form false place (Single e) h is = cc
-at_one_form false place (Coregion es) h is = cc
-at_one_form false place (Condition names shared) h is = cc
-at_one_form false place (Inline head held) h is = cc
-at_one_form false place (Refer r) h is = cc
-at_one_form false place Stop h is = cc
+at_one_form : (side : Side) (f : Form) → is_well_formed_item side f ≡ true → has_events f ≡ true → is_at_one side ≡ true
+at_one_form side (Single e) h is = h
+at_one_form side (Coregion es) h is = h
+at_one_form side (Condition names shared) h is = cc
+at_one_form side (Inline head held) h is = cc
+at_one_form side (Refer r) h is = cc
+at_one_form side Stop h is = cc
 
 -- it stands at one instance
-pub event_at_one : (p : Piece) (others : List Piece) → AreParts (p ∷ others) → has_events p.form ≡ true → is_at_one p.leads ≡ true
-event_at_one p others are is = at_one_form (is_at_one p.leads) p.place p.form (each_woven (p ∷ others) are.2).0 is
+pub event_at_one : (p : Piece) (others : List Piece) → AreParts (p ∷ others) → has_events p.form ≡ true → is_at_one (behind p.leads) ≡ true
+event_at_one p others are is = at_one_form (behind p.leads) p.form are.2.0.0 is
 
 unnamed : (f : Form) → has_events f ≡ true → name_of f ≡ None
 unnamed (Single e) is = refl

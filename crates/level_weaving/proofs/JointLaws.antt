@@ -14,9 +14,9 @@ use Rattle.level_pieces.specs.Earliest.{earliest_of}
 use Rattle.level_pieces.specs.ItemOperands.{AreOperands, HaveAtMost, operand_lists, operands_in}
 use Rattle.level_pieces.specs.ItemParts.{AreParts, has_events}
 use Rattle.level_pieces.specs.PieceNumbers.{AreNumbered}
-use Rattle.level_pieces.specs.Unwoven.{AreAllWoven}
+use Rattle.level_pieces.specs.FormedPieces.{AreFormed}
 use Rattle.level_pieces.proofs.LeastLaws.{least_of, least_same}
-use Rattle.level_pieces.proofs.OperandLaws.{operands_numbered, operands_woven}
+use Rattle.level_pieces.proofs.OperandLaws.{operands_numbered, operands_formed}
 use Rattle.level_weaving.specs.Answers.{AreLevels, AreWovenLevels, ItemCrosses, OneCrosses, joint_item_of}
 use Rattle.level_weaving.proofs.LevelLaws.{empty_uncrossed}
 
@@ -158,7 +158,7 @@ module _ (level : List (List ℕ)) (p : Piece) (ps : List Piece) (bs : Bodies) (
 
 pub lists_levels : (cover : List (List ℕ)) (parts : List Piece) (k n : ℕ) → AreParts parts → AreLevels (operand_lists cover parts k n)
 lists_levels cover parts k zero h = tt
-lists_levels cover parts k (suc n) h = ((operands_numbered cover k parts h, operands_woven cover k parts h), lists_levels cover parts (suc k) n h)
+lists_levels cover parts k (suc n) h = ((operands_numbered cover k parts h, operands_formed cover k parts h), lists_levels cover parts (suc k) n h)
 
 pub take_levels : (n : ℕ) (pss : List (List Piece)) → AreLevels pss → AreLevels (take n pss)
 take_levels zero [] h = tt
@@ -172,7 +172,7 @@ drop_levels (suc n) [] h = tt
 drop_levels zero (ps ∷ pss) h = h
 drop_levels (suc n) (ps ∷ pss) h = drop_levels n pss h.1
 
-pub level_at : (pss : List (List Piece)) (k : ℕ) (ps : List Piece) → AreLevels pss → slice_get pss k ≡ Some ps → AreNumbered 0 ps × AreAllWoven ps
+pub level_at : (pss : List (List Piece)) (k : ℕ) (ps : List Piece) → AreLevels pss → slice_get pss k ≡ Some ps → AreNumbered 0 ps × AreFormed ps
 level_at [] k ps h at = cc
-level_at (qs ∷ pss) zero ps h at = let same : qs ≡ ps = cc in subst (λ (l : List Piece). AreNumbered 0 l × AreAllWoven l) same h.0
+level_at (qs ∷ pss) zero ps h at = let same : qs ≡ ps = cc in subst (λ (l : List Piece). AreNumbered 0 l × AreFormed l) same h.0
 level_at (qs ∷ pss) (suc k) ps h at = level_at pss k ps h.1 at

@@ -14,7 +14,7 @@ use Rattle.msc_meaning.specs.LevelItems.{cover_of, entries, level_items}
 use Rattle.msc_meaning.specs.LevelItems as level_item
 use Rattle.msc_meaning.specs.Levels.{AreWovenItems, IsWovenItem, IsWovenLevel, an_event, a_coregion, an_inline, a_reference, no_woven, woven, woven_and}
 use Rattle.msc_meaning.specs.Pairing.{ArePairs}
-use Rattle.body_levels.specs.Partners.{LacksPartner}
+use Rattle.msc_meaning.specs.Partners.{LacksPartner}
 use Rattle.level_weaving.proofs.LonelyLevels.{items_of, items_on}
 use Rattle.level_weaving.specs.LonelyItems.{ItemsLackPartner}
 use Rattle.msc_meaning.specs.Partners as partners
@@ -23,7 +23,6 @@ use Rattle.level_pieces.specs.Earliest.{earliest_of}
 use Rattle.level_pieces.specs.ItemNumbers.{first_parts}
 use Rattle.level_pieces.specs.ItemParts.{AreItems}
 use Rattle.level_pieces.specs.PieceNumbers.{AreNumbered}
-use Rattle.level_pieces.specs.Unwoven.{AreAllWoven}
 use Rattle.level_pieces.proofs.ItemLaws.{firsts_numbered, item_at}
 use Rattle.level_pieces.proofs.LeastLaws.{least_of, least_same}
 use Rattle.level_pieces.proofs.Walks.{all_low}
@@ -243,7 +242,7 @@ pub answer_least : {A : Type 0} (Is : A → Type 0) (Lacks : A → Place → Typ
 answer_least Is Lacks CrossesAt (answer.Woven held alone) h = h.1
 answer_least Is Lacks CrossesAt (answer.Crossed p) h = h
 
-module _ (cover : List (List ℕ)) (ps : List Piece) (body : Body) (all_woven : AreAllWoven ps) (own : IsWovenLevel cover ps body) (uncrossed : (q : Place) → ColumnsCross cover ps q → ⊥) where
+module _ (cover : List (List ℕ)) (ps : List Piece) (body : Body) (own : IsWovenLevel cover ps body) (uncrossed : (q : Place) → ColumnsCross cover ps q → ⊥) where
   alone_of : (q : Place) → IsAloneIn cover ps q → LacksPartner body q
   alone_of q a = subst (λ (b : Body). LacksPartner b q) (one_body cover ps a.body body a.woven own) a.alone
 
@@ -251,7 +250,7 @@ module _ (cover : List (List ℕ)) (ps : List Piece) (body : Body) (all_woven : 
   alone_on q h = record { body = body; woven = own; alone = h }
 
   pub level_is_woven : IsLeast (LacksPartner body) None → IsLevelWoven cover ps body
-  level_is_woven least = record { all_woven = all_woven; uncrossed = uncrossed; matched = λ q a. least q (alone_of q a); woven = own }
+  level_is_woven least = record { uncrossed = uncrossed; matched = λ q a. least q (alone_of q a); woven = own }
 
-  pub level_is_unmatched : (place : Place) → IsLeast (LacksPartner body) (Some place) → AreAllWoven ps × ((q : Place) → ColumnsCross cover ps q → ⊥) × IsLeast (IsAloneIn cover ps) (Some place)
-  level_is_unmatched place least = (all_woven, uncrossed, least_same (LacksPartner body) (IsAloneIn cover ps) (Some place) alone_on alone_of least)
+  pub level_is_unmatched : (place : Place) → IsLeast (LacksPartner body) (Some place) → ((q : Place) → ColumnsCross cover ps q → ⊥) × IsLeast (IsAloneIn cover ps) (Some place)
+  level_is_unmatched place least = (uncrossed, least_same (LacksPartner body) (IsAloneIn cover ps) (Some place) alone_on alone_of least)

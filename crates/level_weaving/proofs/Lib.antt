@@ -8,7 +8,6 @@ pub mod NodeLaws
 pub mod PartnerLaws
 pub mod LonelyLevels
 pub mod LevelLaws
-pub mod AnswerLaws
 pub mod StepLaws
 pub mod OneBody
 pub mod TextOrderLaws

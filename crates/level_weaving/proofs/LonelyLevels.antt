@@ -4,9 +4,9 @@ use Rattle.msc_base.specs.declared.place.Place.{Place}
 use Rattle.msc_tree.specs.declared.reference.InlineForm.{InlineForm}
 use Rattle.msc_meaning.specs.Bodies.{Body, level, WovenItems, no_items, item_and, Bodies, no_bodies, body_and}
 use Rattle.msc_meaning.specs.Partners.{IsUnmatched}
-use Rattle.body_levels.specs.BodyLevels.{BodyLevel, item_levels, items_levels, level_events, levels_from, operands_levels}
-use Rattle.body_levels.specs.Partners.{LacksPartner, LevelsLackPartner}
-use Rattle.body_levels.proofs.LevelLaws.{some_either, some_left, some_right}
+use Rattle.msc_meaning.specs.BodyLevels.{BodyLevel, item_levels, items_levels, level_events, levels_from, operands_levels}
+use Rattle.msc_meaning.specs.Partners.{LacksPartner, LevelsLackPartner}
+use Rattle.msc_meaning.proofs.LevelLaws.{some_either, some_left, some_right}
 use Rattle.level_weaving.specs.LonelyItems.{ItemsLackPartner, OneLacksPartner}
 
 module _ (q : Place) where

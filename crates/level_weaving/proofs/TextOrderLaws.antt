@@ -21,10 +21,7 @@ use Rattle.msc_meaning.specs.Pieces.{Piece, covered, form_count, items_count, it
 use Rattle.level_pieces.specs.ItemNumbers.{AreInside, joint_name, joint_of}
 use Rattle.level_weaving.specs.LevelPairs.{number_of}
 use Rattle.level_weaving.specs.TextOrder.{AreInOneColumn, IsFormInOneColumn, IsInOneColumn, IsOneCovered, TextIsOrder, form_items, piece_items, pieces_items}
-use Rattle.chart_text.specs.Gathering.{place_if}
-use Rattle.level_pieces.specs.Unwoven.{AreAllWoven, is_at_one, unwoven_form}
-use Rattle.level_pieces.proofs.ItemLaws.{Each, entries_inside, length_snoc}
-use Rattle.level_pieces.proofs.ItemLaws.{all_woven as none_unwoven}
+use Rattle.level_pieces.proofs.ItemLaws.{entries_inside, length_snoc}
 use Rattle.level_weaving.proofs.LevelLaws.{empty_uncrossed}
 use Rattle.level_weaving.proofs.OneBody.{one_items}
 use Rattle.level_pieces.proofs.NumberLaws.{number_none, with_none}
@@ -149,26 +146,6 @@ text_woven cover ps h =
     (in_order (length (level_items ps)) (entries ps) cover (entries_rise cover [] ps h) (entries_inside ps) (λ i. no_creations cover [] ps i h))
 
 -- ---- the columns don't cross
-
-at_one : (cover leads : List (List ℕ)) → IsOneCovered cover leads → is_at_one leads ≡ true
-at_one cover [] h = absurd h
-at_one cover (at ∷ []) h = refl
-at_one cover (at ∷ other ∷ leads) h = absurd h
-
-form_woven : (cover leads : List (List ℕ)) (place : Place) (f : Form) → IsFormInOneColumn cover leads f → unwoven_form (is_at_one leads) place f ≡ []
-form_woven cover leads place (Single e) h = ap (λ (b : Bool). place_if (not b) place) (at_one cover leads h.0)
-form_woven cover leads place (Coregion es) h = ap (λ (b : Bool). place_if (not b) place) (at_one cover leads h)
-form_woven cover leads place (Condition names shared) h = refl
-form_woven cover leads place (Inline head held) h = absurd h
-form_woven cover leads place (Refer r) h = refl
-form_woven cover leads place Stop h = refl
-
-each_woven : (cover : List (List ℕ)) (ps : List Piece) → AreInOneColumn cover ps → Each ps
-each_woven cover [] h = tt
-each_woven cover (p ∷ ps) h = (form_woven cover p.leads p.place p.form h.0, each_woven cover ps h.1)
-
-pub all_woven : (cover : List (List ℕ)) (ps : List Piece) → AreInOneColumn cover ps → AreAllWoven ps
-all_woven cover ps h = none_unwoven ps (each_woven cover ps h)
 
 no_operand : (cover c : List (List ℕ)) (k : ℕ) (p : Piece) (f : Form) → IsFormInOneColumn cover p.leads f → operand_of c k p f ≡ []
 no_operand cover c k p (Single e) h = refl

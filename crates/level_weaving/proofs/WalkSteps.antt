@@ -4,7 +4,7 @@ use Rattle.std.proofs.lemmas.List.{map-append, take_more}
 use Rattle.msc_meaning.specs.Bodies.{Body, WovenItem, bodies, items}
 use Rattle.msc_meaning.specs.Crossings.{ColumnsCross}
 use Rattle.msc_meaning.specs.Levels.{AreWovenItems, IsWovenItem, IsWovenLevel}
-use Rattle.body_levels.specs.Partners.{LacksPartner}
+use Rattle.msc_meaning.specs.Partners.{LacksPartner}
 use Rattle.level_weaving.specs.LonelyItems.{ItemLacksPartner, ItemsLackPartner, OneLacksPartner}
 use Rattle.msc_meaning.specs.Pieces.{Piece}
 use Rattle.msc_meaning.specs.Views.{body_view, item_view}

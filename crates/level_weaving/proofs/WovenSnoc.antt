@@ -4,7 +4,7 @@ use Rattle.msc_base.specs.declared.place.Place.{Place}
 use Rattle.msc_meaning.specs.Bodies.{Body, WovenItem, bodies, items}
 use Rattle.msc_meaning.specs.Crossings.{ColumnsCross}
 use Rattle.msc_meaning.specs.Levels.{AreWovenItems, IsWovenItem, IsWovenLevel, no_woven, woven_and}
-use Rattle.body_levels.specs.Partners.{LacksPartner}
+use Rattle.msc_meaning.specs.Partners.{LacksPartner}
 use Rattle.level_weaving.specs.LonelyItems.{ItemLacksPartner, ItemsLackPartner, OneLacksPartner}
 use Rattle.msc_meaning.specs.Pieces.{Piece}
 use Rattle.level_weaving.specs.Answers.{AreWovenLevels, ItemCrosses, ItemsCross, OneCrosses, OptionCrosses}

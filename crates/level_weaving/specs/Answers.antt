@@ -5,7 +5,7 @@ use Rattle.std.specs.Global.{Global}
 use Rattle.level_pieces.specs.Earliest.{earliest_of}
 use Rattle.level_pieces.specs.ItemParts.{refer_item}
 use Rattle.level_pieces.specs.PieceNumbers.{AreNumbered}
-use Rattle.level_pieces.specs.Unwoven.{AreAllWoven}
+use Rattle.level_pieces.specs.FormedPieces.{AreFormed}
 use Rattle.level_weaving.specs.declared.answers.Answer.{Answer}
 use Rattle.level_weaving.specs.declared.answers.Answer.TheVariants.{Woven, Crossed}
 use Rattle.level_weaving.specs.declared.answers.Gathered.{Gathered}
@@ -15,7 +15,7 @@ use Rattle.msc_meaning.specs.Bodies.{Body, Bodies, Coregion, Inline, WovenItem, 
 use Rattle.msc_meaning.specs.Crossings.{ColumnsCross}
 use Rattle.msc_meaning.specs.LevelItems.{cover_of}
 use Rattle.msc_meaning.specs.Levels.{AreWovenItems, IsWovenItem, IsWovenLevel}
-use Rattle.body_levels.specs.Partners.{LacksPartner}
+use Rattle.msc_meaning.specs.Partners.{LacksPartner}
 use Rattle.level_weaving.specs.LonelyItems.{ItemLacksPartner, ItemsLackPartner, OneLacksPartner}
 use Rattle.msc_meaning.specs.Pieces.{Piece, operands_of}
 use Rattle.msc_meaning.specs.Views.{body_view, item_view}
@@ -56,7 +56,7 @@ IsLevelAnswer cover ps answer = IsAnswer (λ b. IsWovenLevel cover ps (body_view
 
 abbrev pub AreLevels : List (List Piece) → Type 0
 AreLevels [] = ⊤
-AreLevels (ps ∷ pss) = (AreNumbered 0 ps × AreAllWoven ps) × AreLevels pss
+AreLevels (ps ∷ pss) = (AreNumbered 0 ps × AreFormed ps) × AreLevels pss
 
 abbrev pub AreWovenLevels : List (List ℕ) → List (List Piece) → List Body → Type 0
 AreWovenLevels cover [] [] = ⊤

@@ -3,8 +3,8 @@
 use Rattle.std.specs.Prelude.{◌⊎◌}
 use Rattle.msc_base.specs.declared.place.Place.{Place}
 use Rattle.msc_meaning.specs.Bodies.{WovenItems, no_items, item_and, WovenItem, Bodies, no_bodies, body_and}
-use Rattle.body_levels.specs.BodyLevels.{item_levels}
-use Rattle.body_levels.specs.Partners.{LacksPartner, LevelsLackPartner}
+use Rattle.msc_meaning.specs.BodyLevels.{item_levels}
+use Rattle.msc_meaning.specs.Partners.{LacksPartner, LevelsLackPartner}
 
 abbrev pub ItemLacksPartner : WovenItem → Place → Type 0
 ItemLacksPartner x = LevelsLackPartner (item_levels x)

@@ -6,7 +6,7 @@ ghost use Rattle.level_pieces.specs.ItemOperands.{AreOperands, IsWithin, operand
 ghost use Rattle.level_pieces.specs.ItemParts.{AreItems, AreParts, has_events};
 ghost use Rattle.level_pieces.specs.PieceNumbers.{AreNumbered};
 ghost use Rattle.level_pieces.specs.PieceViews.{parts_view, piece_view};
-ghost use Rattle.level_pieces.specs.Unwoven.{AreAllWoven};
+ghost use Rattle.level_pieces.specs.FormedPieces.{AreFormed};
 ghost use Rattle.level_weaving.specs.Answers.{AreItemsAnswer, AreLevels, AreLevelsAnswer, IsItemAnswer, IsLevelAnswer, joint_item_of};
 ghost use Rattle.level_weaving.specs.LevelNumbers.{numbers_to};
 ghost use Rattle.msc_base.specs.Lists.{AreDifferent};
@@ -176,7 +176,7 @@ fn whole_level<'a>(
     answer: Answer<Vec<Item>>,
 ) -> Result<Answer<Body>, NoMemory>
     requires numbered { AreNumbered 0 (map piece_view pieces.now) }
-    requires all_woven { AreAllWoven (map piece_view pieces.now) }
+    requires formed { AreFormed (map piece_view pieces.now) }
     requires items { map parts_view items.now ≡ items_of_level (map piece_view pieces.now) }
     requires order { IsWoven (length (items_of_level (map piece_view pieces.now))) (columns_of (entries (map piece_view pieces.now)) cover.now) order.now }
     requires answer { AreItemsAnswer cover.now (map parts_view items.now) order.now answer }
@@ -223,7 +223,7 @@ pub fn woven_level(
 ) -> Result<Answer<Body>, NoMemory>
     requires different { AreDifferent cover.now }
     requires numbered { AreNumbered 0 (map piece_view pieces.now) }
-    requires all_woven { AreAllWoven (map piece_view pieces.now) }
+    requires formed { AreFormed (map piece_view pieces.now) }
     ensures { IfOk result (IsLevelAnswer cover.now (map piece_view pieces.now)) }
 {
     let items = level_items(alloc, &*pieces)?;

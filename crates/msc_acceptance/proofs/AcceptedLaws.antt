@@ -7,12 +7,13 @@ use Rattle.chart_forms.specs.BuiltBodies.{is_built}
 use Rattle.chart_forms.proofs.TextSizes.{size_by_content}
 use Rattle.chart_forms.specs.ChartSizes.{content_size, size_of}
 use Rattle.chart_forms.specs.NotBuilt.{IsBuilt}
+use Rattle.chart_text.specs.WellFormed.{AreAllWellFormed, IsWellFormed}
 use Rattle.general_ordering.specs.EventNames.{Twice}
 use Rattle.level_pieces.proofs.ColumnLaws.{instances_differ}
 use Rattle.msc_acceptance.proofs.AcceptLaws.{free}
 use Rattle.msc_acceptance.proofs.ChartLaws.{IsBasic, is_basic, level_of, one_content, pieces_of}
 use Rattle.msc_acceptance.proofs.LimitLaws.{instances_few}
-use Rattle.msc_acceptance.proofs.WalkLaws.{in_one, one_built}
+use Rattle.msc_acceptance.proofs.WalkLaws.{in_one, one_built, one_formed}
 use Rattle.msc_acceptance.specs.Acceptance.{BreaksOf}
 use Rattle.msc_acceptance.specs.AcceptedCharts.{AreAcceptedCharts, IsAcceptedChart}
 use Rattle.msc_acceptance.specs.ChartFaults.{IsBodyOf, IsMisnamedAt}
@@ -49,6 +50,7 @@ covers cover ps b (woven order items paired) = refl
 
 -- what is known of a chart that keeps all rules
 record KeepsAll (c : Chart) : Type 0 where
+  formed : IsWellFormed c
   built : IsBuilt c
   named : (p : Place) → ChartNamesOther c p → ⊥
   few_instances : length (instances c) ≤ INSTANCES
@@ -75,7 +77,7 @@ module _ (built : BuiltChartsAreKnown) (known : WovenChartsAreKnown) where
       record {
         body = b.0;
         is = b.1;
-        built = subst (λ (names : List (List ℕ)). is_built names b.0 ≡ true) (sym cover) (built.built c p.held b.0 p.is keeps.built keeps.named on_level);
+        built = subst (λ (names : List (List ℕ)). is_built names b.0 ≡ true) (sym cover) (built.built c p.held b.0 p.is keeps.formed keeps.built keeps.named on_level);
         different = subst AreDifferent (sym cover) (instances_differ c (instances c) refl);
         whole = subst (λ (ds : List Decl). refinements ds ≡ []) (sym is.decls) (built.whole c keeps.built);
         pieces = pieces_of c p;
@@ -95,8 +97,9 @@ module _ (built : BuiltChartsAreKnown) (known : WovenChartsAreKnown) where
   entries_have (c ∷ charts) [] h ranked keep = elim h [ ]
   entries_have (c ∷ charts) (e ∷ table) (entry_and is others) ranked keep = (entry_has c e (keep c (inl refl)) is ranked.0, entries_have charts table others ranked.1 (λ d m. keep d (inr m)))
 
-  all_keep : (charts : List Chart) → AllKept (BreaksOf charts) all_groups → (c : Chart) → IsAmong charts c → KeepsAll c
-  all_keep charts kept c m = record {
+  all_keep : (charts : List Chart) → AreAllWellFormed charts → AllKept (BreaksOf charts) all_groups → (c : Chart) → IsAmong charts c → KeepsAll c
+  all_keep charts formed kept c m = record {
+    formed = one_formed charts c formed m;
     built = one_built charts c (λ p h. free charts kept NotBuilt p h) m;
     named = λ p h. free charts kept Undeclared p (in_one ChartNamesOther charts c p m h);
     few_instances = instances_few [] charts (omega arith) (λ p h. free charts kept Instances p h) c m;
@@ -105,8 +108,8 @@ module _ (built : BuiltChartsAreKnown) (known : WovenChartsAreKnown) where
   }
 
   -- of entries of charts that keep all rules
-  pub kept_have : (charts : List Chart) (table : Table) → AllKept (BreaksOf charts) all_groups → AreEntriesOf instances charts table → AreAllRanked table → AreAcceptedCharts table
-  kept_have charts table kept are ranked = entries_have charts table are ranked (all_keep charts kept)
+  pub kept_have : (charts : List Chart) (table : Table) → AreAllWellFormed charts → AllKept (BreaksOf charts) all_groups → AreEntriesOf instances charts table → AreAllRanked table → AreAcceptedCharts table
+  kept_have charts table formed kept are ranked = entries_have charts table are ranked (all_keep charts formed kept)
 
 -- a chart has one entry
 one_entry : (c : Chart) (e d : ChartEntry) → IsEntryOf (instances c) c e → IsEntryOf (instances c) c d → e ≡ d

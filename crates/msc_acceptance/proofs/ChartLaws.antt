@@ -3,25 +3,24 @@ use Rattle.std.proofs.Common.{◌≡◌, ℕ, List, Option, Some, None, inr, ref
 use Rattle.woven_laws.specs.BuiltCharts.{BuiltChartsAreKnown}
 use Rattle.chart_forms.specs.NotBuilt.{IsBuilt}
 use Rattle.event_order.specs.OrderLaws.{RanksRise}
-use Rattle.body_levels.specs.BodyLevels.{BodyLevel}
+use Rattle.msc_meaning.specs.BodyLevels.{BodyLevel}
 use Rattle.event_order.specs.Precedence.{IsCyclic}
 use Rattle.event_order.specs.RankedBodies.{CanBeRanked}
 use Rattle.general_ordering.specs.EventNames.{BreaksNameRule, EventNameRule}
 use Rattle.level_pieces.proofs.LeastLaws.{least_same}
 use Rattle.level_weaving.proofs.OneBody.{one_body}
-use Rattle.level_weaving.specs.WeaveFaults.{IsAloneIn, IsContentFault, IsContentWoven, IsLevelFault, IsWeaveFault, IsWovenTo}
-use Rattle.level_weaving.specs.declared.weaving.WeaveFault.{WeaveFault}
+use Rattle.level_weaving.specs.WeaveFaults.{IsAloneIn}
 use Rattle.level_weaving.specs.declared.weaving.WeaveFault.TheVariants as fault
 use Rattle.msc_acceptance.specs.ChartLevels.{AreLevelsOf}
 use Rattle.msc_acceptance.specs.ChartFaults.{ContentCrosses, CrossesAt, IsAloneAt, IsBodyOf, IsCyclicAt, IsMisnamedAt}
-use Rattle.msc_acceptance.specs.Deciding.{ContentRanked}
+use Rattle.msc_acceptance.specs.Deciding.{ContentRanked, IsWeaveFault, IsWovenTo}
 use Rattle.msc_base.specs.Places.{IsLeast}
 use Rattle.msc_base.specs.declared.place.Place.{Place}
 use Rattle.msc_instances.specs.Instances.{instances}
 use Rattle.msc_meaning.specs.Bodies.{Body}
 use Rattle.msc_meaning.specs.Crossings.{ColumnsCross}
 use Rattle.msc_meaning.specs.Levels.{IsWovenLevel}
-use Rattle.body_levels.specs.Partners.{LacksPartner}
+use Rattle.msc_meaning.specs.Partners.{LacksPartner}
 use Rattle.msc_meaning.specs.Pieces.{Piece, statements_pieces}
 use Rattle.msc_meaning.specs.Tables.{ChartEntry, Woven, Basic, HighLevel}
 use Rattle.msc_meaning.specs.WovenTables.{IsEntryOf, IsWovenContent}
@@ -63,26 +62,11 @@ level_of c p b h = subst (λ (x : Content). IsWovenContent (instances c) x (Basi
 
 -- ---- its faults
 
-level_fault : (c : Chart) (p : IsBasic c) (f : WeaveFault) → IsWeaveFault c f → IsLevelFault (instances c) (pieces_of c p) f
-level_fault c p f h = subst (λ (x : Content). IsContentFault (instances c) c.place x f) p.is h
-
-pub never_unwoven : BuiltChartsAreKnown → (c : Chart) (place : Place) → IsBuilt c → IsWeaveFault c (fault.NotWoven place) → ⊥
-never_unwoven known c place built h =
-    let p = is_basic known c built in
-    let g = level_fault c p (fault.NotWoven place) h in
-    known.all_woven c p.held p.is built place g.0
-
 crosses_at : (c : Chart) (p : IsBasic c) (q : Place) → ColumnsCross (instances c) (pieces_of c p) q → CrossesAt c q
 crosses_at c p q h = subst (λ (x : Content). ContentCrosses (instances c) x q) (sym p.is) h
 
 crosses_in : (c : Chart) (p : IsBasic c) (q : Place) → CrossesAt c q → ColumnsCross (instances c) (pieces_of c p) q
 crosses_in c p q h = subst (λ (x : Content). ContentCrosses (instances c) x q) p.is h
-
-pub crossed_of : BuiltChartsAreKnown → (c : Chart) (place : Place) → IsBuilt c → IsWeaveFault c (fault.Crossed place) → IsLeast (CrossesAt c) (Some place)
-crossed_of known c place built h =
-    let p = is_basic known c built in
-    let g = level_fault c p (fault.Crossed place) h in
-    least_same (ColumnsCross (instances c) (pieces_of c p)) (CrossesAt c) (Some place) (crosses_at c p) (crosses_in c p) g.1
 
 alone_at : (c : Chart) (p : IsBasic c) (q : Place) → IsAloneIn (instances c) (pieces_of c p) q → IsAloneAt c q
 alone_at c p q a = record { body = a.body; woven = subst (λ (x : Content). IsWovenContent (instances c) x (Basic a.body)) (sym p.is) a.woven; alone = a.alone }
@@ -90,40 +74,29 @@ alone_at c p q a = record { body = a.body; woven = subst (λ (x : Content). IsWo
 alone_in : (c : Chart) (p : IsBasic c) (q : Place) → IsAloneAt c q → IsAloneIn (instances c) (pieces_of c p) q
 alone_in c p q a = record { body = a.body; woven = level_of c p a.body a.woven; alone = a.alone }
 
-pub uncrossed_of : BuiltChartsAreKnown → (c : Chart) (place : Place) → IsBuilt c → IsWeaveFault c (fault.Unmatched place) → IsLeast (CrossesAt c) None
-uncrossed_of known c place built h =
-    let p = is_basic known c built in
-    let g = level_fault c p (fault.Unmatched place) h in
-    λ q x. g.1 q (crosses_in c p q x)
+pub crossed_of : (c : Chart) (place : Place) → IsWeaveFault c (fault.Crossed place) → IsLeast (CrossesAt c) (Some place)
+crossed_of c place h =
+    let p : IsBasic c = record { held = h.held; is = h.is } in
+    least_same (ColumnsCross (instances c) (pieces_of c p)) (CrossesAt c) (Some place) (crosses_at c p) (crosses_in c p) h.fault_is
 
-pub alone_of : BuiltChartsAreKnown → (c : Chart) (place : Place) → IsBuilt c → IsWeaveFault c (fault.Unmatched place) → IsLeast (IsAloneAt c) (Some place)
-alone_of known c place built h =
-    let p = is_basic known c built in
-    let g = level_fault c p (fault.Unmatched place) h in
-    least_same (IsAloneIn (instances c) (pieces_of c p)) (IsAloneAt c) (Some place) (alone_at c p) (alone_in c p) g.2
+pub uncrossed_of : (c : Chart) (place : Place) → IsWeaveFault c (fault.Unmatched place) → IsLeast (CrossesAt c) None
+uncrossed_of c place h = λ q x. h.fault_is.0 q (crosses_in c (record { held = h.held; is = h.is }) q x)
+
+pub alone_of : (c : Chart) (place : Place) → IsWeaveFault c (fault.Unmatched place) → IsLeast (IsAloneAt c) (Some place)
+alone_of c place h =
+    let p : IsBasic c = record { held = h.held; is = h.is } in
+    least_same (IsAloneIn (instances c) (pieces_of c p)) (IsAloneAt c) (Some place) (alone_at c p) (alone_in c p) h.fault_is.1
 
 -- ---- where it is woven
 
-content_woven : (names : List (List ℕ)) (x : Content) (b : Body) → IsContentWoven names x b → IsWovenContent names x (Basic b)
-content_woven names (chart.Basic held) b h = h.woven
-content_woven names (chart.HighLevel drawn) b h = absurd h
-
 pub woven_body : (c : Chart) (b : Body) → IsWovenTo c b → IsBodyOf c b
-woven_body c b h = content_woven (instances c) c.content b h
-
-content_uncrossed : (names : List (List ℕ)) (x : Content) (b : Body) → IsContentWoven names x b → (q : Place) → ContentCrosses names x q → ⊥
-content_uncrossed names (chart.Basic held) b h q g = h.uncrossed q g
-content_uncrossed names (chart.HighLevel drawn) b h q g = g
+woven_body c b h = subst (λ (x : Content). IsWovenContent (instances c) x (Basic b)) (sym h.is) h.woven.woven
 
 pub none_cross : (c : Chart) (b : Body) → IsWovenTo c b → IsLeast (CrossesAt c) None
-none_cross c b h = content_uncrossed (instances c) c.content b h
-
-content_matched : (names : List (List ℕ)) (x : Content) (b other : Body) → IsContentWoven names x b → IsWovenContent names x (Basic other) → (q : Place) → LacksPartner other q → ⊥
-content_matched names (chart.Basic held) b other h g q a = h.matched q (record { body = other; woven = g; alone = a })
-content_matched names (chart.HighLevel drawn) b other h g q a = absurd h
+none_cross c b h = λ q g. h.woven.uncrossed q (crosses_in c (record { held = h.held; is = h.is }) q g)
 
 pub none_alone : (c : Chart) (b : Body) → IsWovenTo c b → IsLeast (IsAloneAt c) None
-none_alone c b h q a = content_matched (instances c) c.content b a.body h a.woven q a.alone
+none_alone c b h = λ q a. h.woven.matched q (alone_in c (record { held = h.held; is = h.is }) q a)
 
 -- where the events of a chart can be ranked its order isn't cyclic
 pub never_cyclic : RanksRise → (c : Chart) (levels : List BodyLevel) (h : AreLevelsOf c levels) → CanBeRanked h.body → IsLeast (IsCyclicAt c) None

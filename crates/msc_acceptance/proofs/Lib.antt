@@ -9,4 +9,3 @@ pub mod AcceptedLaws
 pub mod ListLaws
 pub mod ChartLists
 pub mod SingleLaws
-mod DeclaringLaws

@@ -13,6 +13,7 @@ use Rattle.msc_tree.specs.Views.{chart_view}
 use Rattle.msc_tree.specs.declared.chart.RawChart.{RawChart}
 use Rattle.level_pieces.proofs.Walks.{drop_read}
 use Rattle.chart_forms.specs.ChartSizes.{size_of}
+use Rattle.chart_text.specs.WellFormed.{AreAllWellFormed, IsWellFormed}
 use Rattle.chart_forms.specs.NotBuilt.{IsBuilt, IsNotBuilt}
 use Rattle.msc_acceptance.specs.Deciding.{AreBuilt, earlier_of}
 use Rattle.msc_acceptance.specs.Rules.{InOne, IsFurther, PassesTotal, passes}
@@ -103,6 +104,14 @@ one_built charts c built m = λ p h. built p (in_one IsNotBuilt charts c p m h)
 
 pub chart_built : (list : List RawChart) (k : ℕ) (c : RawChart) → AreBuilt (map chart_view list) → k < length list → c ≡ get_or list k c → IsBuilt (chart_view c)
 chart_built list k c built low is = one_built (map chart_view list) (chart_view c) built (among_map list k c low is)
+
+pub one_formed : (charts : List Chart) (c : Chart) → AreAllWellFormed charts → IsAmong charts c → IsWellFormed c
+one_formed [] c h m = absurd m
+one_formed (d ∷ charts) c h (inl e) = subst IsWellFormed e h.0
+one_formed (d ∷ charts) c h (inr m) = one_formed charts c h.1 m
+
+pub chart_formed : (list : List RawChart) (k : ℕ) (c : RawChart) → AreAllWellFormed (map chart_view list) → k < length list → c ≡ get_or list k c → IsWellFormed (chart_view c)
+chart_formed list k c formed low is = one_formed (map chart_view list) (chart_view c) formed (among_map list k c low is)
 
 -- ---- the limit of charts
 

@@ -5,7 +5,7 @@ use Rattle.msc_tree.specs.Charts.{Chart, Content, Basic, HighLevel}
 use Rattle.msc_tree.specs.Statements.{statements}
 use Rattle.msc_meaning.specs.Bodies.{Body}
 use Rattle.msc_meaning.specs.Crossings.{ColumnsCross}
-use Rattle.body_levels.specs.Partners.{LacksPartner}
+use Rattle.msc_meaning.specs.Partners.{LacksPartner}
 use Rattle.msc_meaning.specs.Pieces.{statements_pieces}
 use Rattle.msc_meaning.specs.Tables as table
 use Rattle.msc_meaning.specs.WovenTables.{IsWovenContent}

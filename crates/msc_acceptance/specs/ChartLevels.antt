@@ -1,7 +1,7 @@
 -- Serves private contracts alone.
 -- The levels of what a chart is woven to.
 use Rattle.std.specs.Prelude.{◌≡◌, List}
-use Rattle.body_levels.specs.BodyLevels.{BodyLevel, body_levels}
+use Rattle.msc_meaning.specs.BodyLevels.{BodyLevel, body_levels}
 use Rattle.msc_acceptance.specs.ChartFaults.{IsBodyOf}
 use Rattle.msc_meaning.specs.Bodies.{Body}
 use Rattle.msc_tree.specs.Charts.{Chart}

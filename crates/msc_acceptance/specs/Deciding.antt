@@ -4,11 +4,15 @@ use Rattle.std.specs.Prelude.{◌≡◌, ⊤, List, [], ◌∷◌, ◌++◌, Opt
 use Rattle.msc_base.specs.Places.{IsLeast, earliest}
 use Rattle.msc_base.specs.declared.place.Place.{Place}
 use Rattle.msc_tree.specs.Charts.{Chart}
+use Rattle.msc_tree.specs.Charts as tree
+use Rattle.msc_tree.specs.Statements.{Statement, statements}
 use Rattle.msc_rules.specs.FirstFaults.{Keeps, IsFirst}
 use Rattle.msc_rules.specs.Rules.{number_of}
 use Rattle.msc_rules.specs.declared.rule.Rule.{Rule}
 use Rattle.msc_rules.specs.declared.rule.Rule.TheVariants.{NotBuilt, Charts, Instances, LoopBound, NamedTwice, Undeclared, Size, Total, NotShared, OperandsDiffer, ExcPlace, Crossed, Unmatched, UnknownEvent, EventNamedTwice, Cyclic}
 use Rattle.event_order.specs.RankedBodies.{CanBeRanked}
+use Rattle.msc_meaning.specs.Bodies.{Body}
+use Rattle.msc_meaning.specs.Pieces.{statements_pieces}
 use Rattle.msc_meaning.specs.Tables.{Basic, HighLevel, Table, Woven}
 use Rattle.msc_meaning.specs.Views.{entry_view, table_view}
 use Rattle.msc_meaning.specs.WovenTables.{AreEntriesOf, IsEntryOf}
@@ -21,6 +25,8 @@ use Rattle.chart_forms.specs.ChartSizes.{size_of}
 use Rattle.chart_forms.specs.LoopBounds.{HasHighBound}
 use Rattle.chart_forms.specs.NotBuilt.{IsNotBuilt}
 use Rattle.level_weaving.specs.Exceptions.{IsMisplaced}
+use Rattle.level_weaving.specs.WeaveFaults.{IsLevelFault, IsLevelWoven}
+use Rattle.level_weaving.specs.declared.weaving.WeaveFault.{WeaveFault}
 use Rattle.shared_parts.specs.PartRules.{ChartBreaksPartRule}
 use Rattle.shared_parts.specs.declared.faults.PartRule.TheVariants as part
 use Rattle.msc_rules.specs.declared.first_fault.Broken.{Broken}
@@ -139,6 +145,18 @@ ContentRanked (HighLevel drawn) = ⊤
 abbrev pub AreAllRanked : Table → Type 0
 AreAllRanked [] = ⊤
 AreAllRanked (c ∷ table) = ContentRanked c.content × AreAllRanked table
+
+-- the chart has these statements, and is woven to the body: no columns cross, and each message has both ends
+pub record IsWovenTo (chart : Chart) (body : Body) : Type 0 where
+  pub held : List Statement
+  pub is : chart.content ≡ tree.Basic held
+  pub woven : IsLevelWoven (instances chart) (statements_pieces (instances chart) 0 (statements held)) body
+
+-- it has these statements, and that is why they aren't woven
+pub record IsWeaveFault (chart : Chart) (fault : WeaveFault) : Type 0 where
+  pub held : List Statement
+  pub is : chart.content ≡ tree.Basic held
+  pub fault_is : IsLevelFault (instances chart) (statements_pieces (instances chart) 0 (statements held)) fault
 
 -- no columns cross, and no message lacks a partner
 abbrev pub IsWhole : BodyFaults → Type 0

@@ -6,4 +6,3 @@ pub mod Listing
 pub mod AcceptedCharts
 pub mod Deciding
 pub mod SingleItems
-pub mod Declaring

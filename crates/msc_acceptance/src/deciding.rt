@@ -3,6 +3,7 @@
 ghost use Rattle.std.specs.Prelude.{◌≡◌, IfOk, List, None, map};
 ghost use Rattle.chart_forms.specs.ChartSizes.{size_of};
 ghost use Rattle.chart_forms.specs.NotBuilt.{IsNotBuilt};
+ghost use Rattle.chart_text.specs.WellFormed.{AreAllWellFormed};
 ghost use Rattle.msc_rules.specs.FirstFaults.{IsBest};
 ghost use Rattle.msc_rules.specs.Rules.{number_of};
 ghost use Rattle.msc_acceptance.specs.Acceptance.{BreaksOf};
@@ -156,8 +157,9 @@ fn body_fault(faults: BodyFaults) -> Option<Broken<Rule>>
     broken_at(Rule::Cyclic, faults.cyclic)
 }
 
-/// The table of these charts, or their first fault.
+/// The table of these charts, whose text is well formed, or their first fault.
 pub fn decide(alloc: Global, charts: Vec<RawChart>) -> Result<Decision, NoMemory>
+    requires { AreAllWellFormed (map chart_view charts.items) }
     ensures { IfOk result (IsDecided (map chart_view charts.items)) }
 {
     let reading = read_charts(alloc, charts.as_slice())?;

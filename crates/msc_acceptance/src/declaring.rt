@@ -3,8 +3,7 @@
 ghost use Rattle.std.specs.Prelude.{◌≡◌, ◌++◌, ◌∷◌, [], IfOk, OnOk};
 ghost use Rattle.chart_text.specs.Gathering.{gathered};
 ghost use Rattle.chart_text.specs.PassageViews.{passage_view, text_view};
-ghost use Rattle.msc_acceptance.specs.Declaring.{declares, heading_decls};
-ghost use Rattle.msc_meaning.specs.WovenTables.{content_decls};
+ghost use Rattle.msc_meaning.specs.WovenTables.{chart_decls as decls_of, declares, heading_decls};
 ghost use Rattle.msc_tree.specs.Views.{chart_view, statement_view};
 
 use chart_text::{Passage, chart_text};
@@ -72,7 +71,7 @@ fn passages(alloc: Global, decls: &mut DeclList, text: &[Passage<'_>]) -> Result
 
 /// The declarations of a chart: those of its heads, and those of what it holds.
 pub fn chart_decls(alloc: Global, chart: &RawChart) -> Result<DeclList, NoMemory>
-    ensures { IfOk result (λ decls. decls ≡ (chart_view chart.now).decls ++ content_decls (chart_view chart.now).content) }
+    ensures { IfOk result (λ decls. decls ≡ decls_of (chart_view chart.now)) }
 {
     let text = chart_text(alloc, chart)?;
     let mut decls = Items::new(alloc);

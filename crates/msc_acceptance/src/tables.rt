@@ -1,29 +1,29 @@
 //! The table of charts, each woven, with the earliest places at which what they are woven to breaks a rule: for `deciding`.
 
 ghost use Rattle.std.specs.Prelude.{◌≡◌, IfOk, None, OnOk, Some, map};
-ghost use Rattle.body_levels.specs.LevelViews.{levels_view};
+ghost use Rattle.msc_meaning.specs.LevelViews.{levels_view};
 ghost use Rattle.chart_forms.specs.NotBuilt.{IsBuilt};
+ghost use Rattle.chart_text.specs.WellFormed.{AreAllWellFormed, IsWellFormed};
 ghost use Rattle.event_order.specs.RankedBodies.{CanBeRanked, HaveRanks};
-ghost use Rattle.level_weaving.specs.WeaveFaults.{IsWeaveFault, IsWovenTo};
 ghost use Rattle.msc_acceptance.specs.ChartFaults.{IsBodyOf, IsCyclicAt};
 ghost use Rattle.msc_acceptance.specs.ChartLevels.{AreLevelsOf};
-ghost use Rattle.msc_acceptance.specs.Deciding.{AreBuilt, AreFaultsOf, AreWoven, IsBarred, IsNextWoven, IsTakenIn, earlier_of};
+ghost use Rattle.msc_acceptance.specs.Deciding.{AreBuilt, AreFaultsOf, AreWoven, IsBarred, IsNextWoven, IsTakenIn, IsWeaveFault, IsWovenTo, earlier_of};
 ghost use Rattle.msc_base.specs.Places.{IsLeast};
 ghost use Rattle.msc_instances.specs.Instances.{instances};
 ghost use Rattle.msc_meaning.specs.Views.{body_view, entry_view};
 ghost use Rattle.msc_meaning.specs.WovenTables.{IsEntryOf};
-ghost use Rattle.msc_tree.specs.Views.{chart_view};
+ghost use Rattle.msc_tree.specs.Charts.{Basic};
+ghost use Rattle.msc_tree.specs.Views.{chart_view, statement_view};
 
 use crate::declaring::chart_decls;
 use crate::walks::earlier;
-use body_levels::{BodyLevel, body_levels};
 use event_order::is_cyclic;
 use event_order::laws::ranks_rise;
 use general_ordering::first_name_faults;
 use level_weaving::{WeaveFault, weave};
 use msc_base::{Names, NoMemory, Place};
-use msc_meaning::{Body, ChartEntry, EntryContent};
-use msc_tree::RawChart;
+use msc_meaning::{Body, BodyLevel, ChartEntry, EntryContent, body_levels};
+use msc_tree::{Content, RawChart, Statement};
 use std::alloc::Global;
 use woven_laws::laws::built_charts_are_known;
 
@@ -108,15 +108,12 @@ enum ChartResult {
     Barred(BodyFaults),
 }
 
-/// Where a chart, whose forms are built, can't be woven.
+/// Where a chart can't be woven, and that is why.
 fn barred_by(chart: &RawChart, fault: WeaveFault) -> Result<BodyFaults, NoMemory>
-    requires built { IsBuilt (chart_view chart.now) }
-    requires fault { IsWeaveFault (chart_view chart.now) fault }
+    requires { IsWeaveFault (chart_view chart.now) fault }
     ensures { IfOk result (IsBarred (chart_view chart.now)) }
 {
-    built_charts_are_known();
     match fault {
-        WeaveFault::NotWoven(place) => Ok(barring(Some(place), None)),
         WeaveFault::Crossed(place) => Ok(barring(Some(place), None)),
         WeaveFault::Unmatched(place) => Ok(barring(None, Some(place))),
         WeaveFault::NoMemory => Err(NoMemory),
@@ -160,24 +157,51 @@ fn faults_of(alloc: Global, chart: &RawChart, body: &Body) -> Result<BodyFaults,
     })
 }
 
+/// The entry of a chart, which is woven to that body, and where it breaks a rule.
+fn entry_result(alloc: Global, chart: &RawChart, body: Body) -> Result<ChartResult, NoMemory>
+    requires { IsWovenTo (chart_view chart.now) (body_view body) }
+    ensures { IfOk result (IsNextWoven (chart_view chart.now)) }
+{
+    let faults = faults_of(alloc, chart, &body)?;
+    let entry = entry_of(alloc, chart, body)?;
+    Ok(ChartResult::Entry(entry, faults))
+}
+
+/// What a chart, whose instances `names` are, is woven to by its statements.
+fn woven_statements(
+    alloc: Global,
+    chart: &RawChart,
+    names: &Names,
+    list: &[Statement],
+) -> Result<ChartResult, NoMemory>
+    requires content { (chart_view chart.now).content ≡ Basic (map statement_view list.now) }
+    requires formed { IsWellFormed (chart_view chart.now) }
+    requires names { names.now ≡ instances (chart_view chart.now) }
+    ensures { IfOk result (IsNextWoven (chart_view chart.now)) }
+{
+    match weave(alloc, names, list) {
+        Ok(body) => entry_result(alloc, chart, body),
+        Err(fault) => Ok(ChartResult::Barred(barred_by(chart, fault)?)),
+    }
+}
+
 /// What a chart, whose instances `names` are, is woven to.
 fn result_of(alloc: Global, chart: &RawChart, names: &Names) -> Result<ChartResult, NoMemory>
+    requires formed { IsWellFormed (chart_view chart.now) }
     requires built { IsBuilt (chart_view chart.now) }
     requires names { names.now ≡ instances (chart_view chart.now) }
     ensures { IfOk result (IsNextWoven (chart_view chart.now)) }
 {
-    match weave(alloc, chart, names) {
-        Ok(body) => {
-            let faults = faults_of(alloc, chart, &body)?;
-            let entry = entry_of(alloc, chart, body)?;
-            Ok(ChartResult::Entry(entry, faults))
-        }
-        Err(fault) => Ok(ChartResult::Barred(barred_by(chart, fault)?)),
+    built_charts_are_known();
+    match &chart.content {
+        Content::Events(list) => woven_statements(alloc, chart, names, list.as_slice()),
+        Content::Graph(_) => unreachable!(),
     }
 }
 
 /// The same; the chart is dropped.
 fn woven(alloc: Global, chart: RawChart, names: &Names) -> Result<ChartResult, NoMemory>
+    requires formed { IsWellFormed (chart_view chart) }
     requires built { IsBuilt (chart_view chart) }
     requires names { names.now ≡ instances (chart_view chart) }
     ensures { IfOk result (IsNextWoven (chart_view chart)) }
@@ -205,6 +229,7 @@ pub fn woven_charts(
     charts: Vec<RawChart>,
     lists: &[Names],
 ) -> Result<Weaving, NoMemory>
+    requires formed { AreAllWellFormed (map chart_view charts.items) }
     requires built { AreBuilt (map chart_view charts.items) }
     requires lists { lists.now ≡ map instances (map chart_view charts.items) }
     ensures { IfOk result (AreWoven (map chart_view charts.items)) }

@@ -1,5 +1,6 @@
 -- What a document whose text has been read is.
 use Rattle.std.proofs.Common.{◌≡◌, ℕ, List, subst, Result, Ok, Err, IfOk, Option}
+use Rattle.msc_base.specs.declared.limits.TheConstants.Limits.{NESTING}
 use Rattle.msc_base.specs.declared.memory.NoMemory.{NoMemory}
 use Rattle.msc_base.specs.declared.place.Place.{Place}
 use Rattle.outside.specs.Shelves.{Files}
@@ -11,9 +12,13 @@ use Rattle.msc_meaning.specs.Views.{table_view}
 use Rattle.msc_cmd.specs.declared.document.Document.{Document}
 use Rattle.msc_cmd.specs.declared.document.Document.TheVariants.{Charts, Refused}
 use Rattle.msc_cmd.specs.declared.document_text.DocumentText.{DocumentText}
+use Rattle.msc_cmd.specs.declared.document_text.DocumentText.TheVariants.{Read}
+use Rattle.msc_cmd.specs.declared.document_text.DocumentText.TheVariants as text
 use Rattle.msc_cmd.specs.DocumentTexts.{IsOnlyText, IsOnlyTextFault, IsTheText}
+use Rattle.msc_document.specs.FormedDocuments.{DocumentsAreWellFormed}
+use Rattle.msc_tree.specs.Views.{document_view}
 use Rattle.msc_cmd.specs.Documents.{HasDocumentFault, of_text, of_charts, IsOnlyDocument, IsOnlyFault, IsTheDocument, AcceptsAlone, RefusesAlone, ComesTo}
-use Rattle.msc_cmd.specs.Intakes.{IsTextOf, IsDocumentOf}
+use Rattle.msc_cmd.specs.Intakes.{IsFormedText, IsTextOf, IsDocumentOf}
 
 -- a text whose document is refused
 only_refused : (bytes : List ℕ) (tree : Tree) (broken : Rule) (place : Place) → IsOnlyText bytes tree → RefusesAlone tree broken place → IsOnlyFault bytes broken place
@@ -56,6 +61,11 @@ pub settled_read : (bytes : List ℕ) (tree : Tree) (r : Result Document NoMemor
 settled_read bytes tree (Ok (Charts charts)) h t = only_accepted bytes tree (table_view charts) t h
 settled_read bytes tree (Ok (Refused broken place)) h t = only_refused bytes tree broken place t h
 settled_read bytes tree (Err e) h t = tt
+
+-- the charts of a text that was taken are well formed
+pub formed_text : DocumentsAreWellFormed → (files : Option Files) (name : List ℕ) (text : DocumentText) → IsTextOf files name text → IsFormedText text
+formed_text law files name (Read document) t = law NESTING t.is.is.tokens (document_view document) t.is.is.reads
+formed_text law files name (text.Refused broken place) t = tt
 
 -- what a document that was taken is
 pub document_of : (files : Option Files) (name : List ℕ) (text : DocumentText) (r : Result Document NoMemory) → IsTextOf files name text → ((bytes : List ℕ) → IsTheText bytes text → IfOk r (IsTheDocument bytes)) → IfOk r (IsDocumentOf files name)

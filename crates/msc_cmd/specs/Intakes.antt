@@ -5,6 +5,9 @@ use Rattle.outside.specs.Shelves.{Files}
 use Rattle.msc_base.specs.declared.limits.TheConstants.Limits.{DOCUMENT_BYTES}
 use Rattle.msc_cmd.specs.declared.document.Document.{Document}
 use Rattle.msc_cmd.specs.declared.document_text.DocumentText.{DocumentText}
+use Rattle.msc_cmd.specs.declared.document_text.DocumentText.TheVariants.{Read, Refused}
+use Rattle.chart_text.specs.WellFormed.{AreAllWellFormed}
+use Rattle.msc_tree.specs.Views.{document_view}
 use Rattle.msc_cmd.specs.DocumentTexts.{IsTheText}
 use Rattle.msc_cmd.specs.Documents.{IsTheDocument}
 use Rattle.msc_cmd.specs.Reading.{HasRead}
@@ -45,6 +48,11 @@ pub record IsTextOf (files : Option Files) (name : List ℕ) (text : DocumentTex
   pub bytes : List ℕ
   pub held : IsHeld files name bytes
   pub is : IsTheText bytes text
+
+-- the charts of a document that was read are well formed
+abbrev pub IsFormedText : DocumentText → Type 0
+IsFormedText (Read document) = AreAllWellFormed (document_view document).charts
+IsFormedText (Refused broken place) = ⊤
 
 -- the entry of this name is this document, or has this fault; its bytes are told where the entries are
 pub record IsDocumentOf (files : Option Files) (name : List ℕ) (document : Document) : Type 0 where

@@ -1,12 +1,14 @@
 //! What a document comes to, and the chart of a name: for the commands, behind `document_text`.
 
 ghost use Rattle.std.specs.Prelude.{◌≡◌, IfOk, IfSome, List, option_copied, option_map, ℕ};
+ghost use Rattle.chart_text.specs.WellFormed.{AreAllWellFormed};
 ghost use Rattle.msc_acceptance.specs.AcceptedCharts.{IsAcceptedChart, AreAcceptedCharts};
 ghost use Rattle.msc_meaning.specs.Tables.{chart_at};
 ghost use Rattle.msc_meaning.specs.Views.{entry_view, table_view};
 ghost use Rattle.msc_tree.specs.Views.{document_view};
 ghost use Rattle.msc_cmd.specs.DocumentTexts.{IsTheText};
 ghost use Rattle.msc_cmd.specs.Documents.{ComesTo, IsTheDocument};
+ghost use Rattle.msc_cmd.specs.Intakes.{IsFormedText};
 
 use crate::document_text::DocumentText;
 use msc_acceptance::{Accepted, DocFault, accept};
@@ -27,6 +29,7 @@ pub enum Document {
 
 /// What a document that has been read comes to.
 fn come_to(alloc: Global, document: RawDocument) -> Result<Document, NoMemory>
+    requires { AreAllWellFormed (document_view document).charts }
     ensures { IfOk result (ComesTo (document_view document)) }
 {
     match accept(alloc, document) {
@@ -38,6 +41,7 @@ fn come_to(alloc: Global, document: RawDocument) -> Result<Document, NoMemory>
 
 /// What the document of this text is.
 pub fn settle(alloc: Global, text: DocumentText) -> Result<Document, NoMemory>
+    requires { IsFormedText text }
     ensures { (bytes : List ℕ) → IsTheText bytes text → IfOk result (IsTheDocument bytes) }
 {
     match text {

@@ -16,7 +16,8 @@ use Rattle.token_grammar.specs.Grammars.{Grammar, Inner, shut, inner, seq, or, r
 use Rattle.token_grammar.specs.Parts.{ending, lead, name, name_list}
 use Rattle.chart_text.specs.Texts.{Scope, Whole, Side, in_column, behind_all, behind_colon, Standing, Passage, a_head, inside, items_text, item_text, form_text, operands_text, operand_held, statement_held, statements_text, content_text, chart_text}
 use Rattle.chart_text.specs.Texts as text
-use Rattle.chart_text.specs.WellFormed.{is_at_one, takes, AreWellFormed, IsWellFormed, AreAllWellFormed}
+use Rattle.chart_text.proofs.StandingLaws.{each_behind}
+use Rattle.chart_text.specs.WellFormed.{is_at_one, is_well_formed, takes, AreWellFormed, IsWellFormed, AreAllWellFormed}
 use Rattle.msc_events.specs.Declarations.{decl, declaration, head, heading, declared_by}
 use Rattle.msc_events.specs.Events.{single, coregion, stop}
 use Rattle.msc_events.specs.Multis.{condition}
@@ -32,8 +33,7 @@ use Rattle.msc_document.specs.DocumentGrammar.{naming, reference, multi_of, even
 use Rattle.msc_document.proofs.Giving.{Gives, Each, Within, IsSome, IsOne, anything, weaker, read_gives, or_gives, seq_gives, behind_gives, placed_gives, each_gives, some_gives, opens_gives, several_gives, single_gives}
 
 formed_behind : (xs ys : List Passage) → AreWellFormed xs → AreWellFormed ys → AreWellFormed (xs ++ ys)
-formed_behind [] ys h k = k
-formed_behind (x ∷ xs) ys h k = (h.0, formed_behind xs ys h.1 k)
+formed_behind xs ys h k = each_behind (λ p. is_well_formed p ≡ true) xs ys h k
 
 -- ---- inline expressions, by what their operands hold
 

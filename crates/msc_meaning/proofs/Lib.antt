@@ -15,3 +15,4 @@ pub mod WorkedWalks
 pub mod WorkedColumns
 pub mod WorkedCall
 pub mod PairingLaws
+pub mod LevelLaws

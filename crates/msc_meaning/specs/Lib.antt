@@ -25,3 +25,6 @@ pub mod WorkedCharts
 pub mod WorkedLaws
 pub mod WorkedColumns
 pub mod WorkedCall
+pub mod BodyLevels
+pub mod ItemViews
+pub mod LevelViews

@@ -1,10 +1,11 @@
 -- The table that a document is woven to.
-use Rattle.std.specs.Prelude.{◌≡◌, ℕ, List, [], ◌∷◌, ◌++◌}
+use Rattle.std.specs.Prelude.{◌≡◌, ℕ, List, [], ◌∷◌}
+use Rattle.chart_text.specs.Gathering.{gathered}
+use Rattle.chart_text.specs.Texts.{Passage, a_head, a_statement, an_item, an_operand, chart_text}
 use Rattle.msc_tree.specs.declared.chart.Decl.{Decl}
 use Rattle.msc_tree.specs.Charts.{Chart, Content, Document}
 use Rattle.msc_tree.specs.Charts as chart
-use Rattle.msc_tree.specs.Statements.{Form, Condition, Stop, Items, no_items, item_and, Operand, InColumn, Outside, Operands, no_operands, operand_and, Statement, Column, Covered, Heading, Ended, Statements, no_statements, statement_and, statements, placed}
-use Rattle.msc_tree.specs.Statements as tree
+use Rattle.msc_tree.specs.Statements.{Statement, Column, Covered, Heading, Ended, statements}
 use Rattle.msc_meaning.specs.Levels.{IsWovenLevel}
 use Rattle.msc_meaning.specs.Pieces.{statements_pieces}
 use Rattle.msc_meaning.specs.Tables.{ChartEntry, Table, Woven, Basic, HighLevel}
@@ -16,48 +17,28 @@ IsWovenContent names (chart.HighLevel drawn) (HighLevel held) = drawn ≡ held
 IsWovenContent names (chart.Basic held) (HighLevel drawn) = ⊥
 IsWovenContent names (chart.HighLevel drawn) (Basic body) = ⊥
 
-abbrev mutual
-  pub statement_decls : Statement → List Decl
-  statement_decls (Column decl held) = decl ∷ items_decls held
-  statement_decls (Covered cover held) = items_decls held
-  statement_decls (Heading decl) = decl ∷ []
-  statement_decls (Ended name) = []
+-- what a statement declares by itself
+abbrev pub heading_decls : Statement → List Decl
+heading_decls (Column decl held) = decl ∷ []
+heading_decls (Covered cover held) = []
+heading_decls (Heading decl) = decl ∷ []
+heading_decls (Ended name) = []
 
-  pub statements_decls : Statements → List Decl
-  statements_decls no_statements = []
-  statements_decls (statement_and x xs) = statement_decls x ++ statements_decls xs
+-- what a passage of a text declares
+abbrev pub declares : Passage → List Decl
+declares (a_head decl) = decl ∷ []
+declares (a_statement depth scope x) = heading_decls x
+declares (an_item s place form) = []
+declares (an_operand s x) = []
 
-  pub items_decls : Items → List Decl
-  items_decls no_items = []
-  items_decls (item_and x xs) = item_decls x ++ items_decls xs
-
-  pub item_decls : tree.Item → List Decl
-  item_decls (placed place form) = form_decls form
-
-  pub form_decls : Form → List Decl
-  form_decls (tree.Inline head operands) = operands_decls operands
-  form_decls (tree.Single event) = []
-  form_decls (tree.Coregion held) = []
-  form_decls (Condition names shared) = []
-  form_decls (tree.Refer reference) = []
-  form_decls Stop = []
-
-  pub operands_decls : Operands → List Decl
-  operands_decls no_operands = []
-  operands_decls (operand_and x xs) = operand_decls x ++ operands_decls xs
-
-  pub operand_decls : Operand → List Decl
-  operand_decls (InColumn held) = items_decls held
-  operand_decls (Outside held) = statements_decls held
-
-abbrev pub content_decls : Content → List Decl
-content_decls (chart.Basic held) = statements_decls (statements held)
-content_decls (chart.HighLevel drawn) = []
+-- the declarations of a chart: those of its heads, and those of its statements at any depth
+abbrev pub chart_decls : Chart → List Decl
+chart_decls chart = gathered declares (chart_text chart)
 
 -- the entry of a chart of these instances
 pub record IsEntryOf (names : List (List ℕ)) (drawn : Chart) (entry : ChartEntry) : Type 0 where
   pub name : entry.name ≡ drawn.name
-  pub decls : entry.decls ≡ drawn.decls ++ content_decls drawn.content
+  pub decls : entry.decls ≡ chart_decls drawn
   pub content : IsWovenContent names drawn.content entry.content
 
 -- the entries of these charts, one after another

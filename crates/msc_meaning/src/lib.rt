@@ -5,8 +5,10 @@
 
 mod body;
 pub mod laws;
+mod level_list;
 pub mod worked;
 
 pub use body::{
     Body, ChartEntry, EntryContent, EventNode, EventNodeList, InlineItem, Item, ReferenceItem,
 };
+pub use level_list::{BodyLevel, body_levels};

@@ -1,21 +1,17 @@
 //! The levels of charts as they are woven, and what is refused.
+
+ghost use Rattle.chart_text.specs.WellFormed.{IsWellFormed};
+ghost use Rattle.msc_tree.specs.Views.{chart_view};
+
+use crate::charts::{chart_of, woven_to};
 use chart_text::chart_text;
-use level_weaving::{WeaveFault, first_misplaced, weave};
+use level_weaving::{WeaveFault, first_misplaced};
 use msc_base::{Name, Place};
-use msc_document::parse;
 use msc_instances::chart_names;
 use msc_meaning::{Body, EventNode, Item};
-use msc_tokens::lex_all;
 use msc_tree::RawChart;
 use std::alloc::{AllocError, Global};
 use std::test::Fail;
-
-/// The last chart of a document.
-fn chart_of(alloc: Global, text: &str) -> Option<RawChart> {
-    let list = lex_all(alloc, text.as_bytes()).ok()?;
-    let mut document = parse(alloc, &list).ok()?;
-    document.charts.pop()
-}
 
 /// The word and the place.
 fn at(alloc: Global, word: &str, place: Place) -> Result<String, AllocError> {
@@ -94,7 +90,9 @@ fn told(alloc: Global, body: &Body) -> Result<String, AllocError> {
 }
 
 /// What the chart is woven to, or why it isn't.
-fn woven(alloc: Global, chart: &RawChart) -> Result<String, AllocError> {
+fn woven(alloc: Global, chart: &RawChart) -> Result<String, AllocError>
+    requires { IsWellFormed (chart_view chart.now) }
+{
     let Ok(text) = chart_text(alloc, chart) else {
         return Err(AllocError);
     };
@@ -107,12 +105,12 @@ fn woven(alloc: Global, chart: &RawChart) -> Result<String, AllocError> {
     if let Some(place) = named.undeclared {
         return at(alloc, "undeclared", place);
     }
-    match weave(alloc, chart, &named.names) {
-        Ok(body) => told(alloc, &body),
-        Err(WeaveFault::NotWoven(place)) => at(alloc, "not woven", place),
-        Err(WeaveFault::Crossed(place)) => at(alloc, "crossed", place),
-        Err(WeaveFault::Unmatched(place)) => at(alloc, "unmatched", place),
-        Err(WeaveFault::NoMemory) => Err(AllocError),
+    match woven_to(alloc, chart, &named.names) {
+        Some(Ok(body)) => told(alloc, &body),
+        Some(Err(WeaveFault::Crossed(place))) => at(alloc, "crossed", place),
+        Some(Err(WeaveFault::Unmatched(place))) => at(alloc, "unmatched", place),
+        Some(Err(WeaveFault::NoMemory)) => Err(AllocError),
+        None => at(alloc, "a graph", chart.place),
     }
 }
 

@@ -17,18 +17,18 @@ use Rattle.msc_meaning.specs.Levels.{AreWovenItems, AreWovenOperands, IsWovenIte
 use Rattle.msc_meaning.specs.Pieces.{Piece, operands_of, statements_pieces}
 use Rattle.msc_instances.specs.Instances.{instances}
 use Rattle.msc_instances.specs.NameFaults.{ChartNamesOther}
-use Rattle.chart_text.specs.Gathering.{place_if}
-use Rattle.level_pieces.specs.Unwoven.{is_at_one}
-use Rattle.level_pieces.proofs.ItemLaws.{left_none, right_none}
+use Rattle.chart_text.specs.Texts.{behind}
+use Rattle.chart_text.specs.WellFormed.{IsWellFormed, is_well_formed_item, takes}
+use Rattle.level_pieces.proofs.PieceTexts.{parts_operands}
+use Rattle.level_pieces.specs.FormedPieces.{EachPiece}
 use Rattle.chart_forms.specs.BuiltBodies.{are_built, are_built_nodes, has_operands, have_built, is_built, is_built_item, is_plain}
-use Rattle.chart_forms.specs.NotBuilt.{IsBuilt, not_built_event, not_built_events, takes}
+use Rattle.chart_forms.specs.NotBuilt.{IsBuilt, not_built_event, not_built_events, not_built_item}
 use Rattle.woven_laws.specs.BuiltCharts.{BuiltChartsAreKnown}
-use Rattle.woven_laws.proofs.BuiltPieces.{IsBuiltPiece, neither, never, no_graph, none_within, not_not, of_built, pieces_woven, statements_built}
+use Rattle.woven_laws.proofs.BuiltPieces.{IsBuiltPiece, chart_pieces_built, left_none, never, no_graph, of_built, right_none}
 use Rattle.woven_laws.proofs.Declaring.{AreAmong, all_among}
-use Rattle.woven_laws.proofs.EachPiece.{Each, EachOfAll, level_each, operands_each, parts_each}
+use Rattle.woven_laws.proofs.EachPiece.{EachOfAll, level_each, parts_each}
 use Rattle.woven_laws.proofs.NamedPieces.{IsNamedPiece, chart_named, cover_among, of_are}
 use Rattle.woven_laws.proofs.Unrefined.{chart_whole}
-use Rattle.woven_laws.proofs.WalkedForms.{not_built_form, not_built_operands}
 
 both : (a b : Bool) → a ≡ true → b ≡ true → (a && b) ≡ true
 both a b h g = ap₂ (λ (x y : Bool). x && y) h g
@@ -79,41 +79,37 @@ lead_among : (names leads : List (List ℕ)) (at : List ℕ) → AreAmong names 
 lead_among names [] at h e = cc
 lead_among names (l ∷ leads) at h e = let same : l ≡ at = cc in subst (IsAmong names) same h.0
 
-plain_event : (b : Bool) (e : RawEvent) → not_built_event b e ≡ [] → is_plain e ≡ true
-plain_event b e h = (neither b (is_plain e) (never _ e.place h)).1
+plain_event : (e : RawEvent) → not_built_event e ≡ [] → is_plain e ≡ true
+plain_event e h = never (is_plain e) e.place h
 
 plain_nodes : (names : List (List ℕ)) (n : ℕ) (at : List ℕ) (es : List RawEvent) → IsAmong names at → not_built_events es ≡ [] → are_built_nodes names (nodes_from n at es) ≡ true
 plain_nodes names n at [] a h = refl
 plain_nodes names n at (e ∷ es) a h =
     both (list_any (bytes_eq at) names && is_plain e) (are_built_nodes names (nodes_from (suc n) at es))
-    (both (list_any (bytes_eq at) names) (is_plain e) (any_from_one names at a) (plain_event true e (left_none (not_built_event true e) (not_built_events es) h)))
-    (plain_nodes names (suc n) at es a (right_none (not_built_event true e) (not_built_events es) h))
+    (both (list_any (bytes_eq at) names) (is_plain e) (any_from_one names at a) (plain_event e (left_none (not_built_event e) (not_built_events es) h)))
+    (plain_nodes names (suc n) at es a (right_none (not_built_event e) (not_built_events es) h))
 
--- a piece of that form
-formed : (p : Piece) (f : Form) → p.form ≡ f → IsBuiltPiece p → not_built_form (is_at_one p.leads) p.place f ≡ []
-formed p f is h = subst (λ (x : Form). not_built_form (is_at_one p.leads) p.place x ≡ []) is h
-
-takes_all : (p : Piece) (head : InlineHead) (held : Operands) → p.form ≡ tree.Inline head held → IsBuiltPiece p → takes head.form held ≡ true
-takes_all p head held is h =
-    not_not (takes head.form held) (never (not (takes head.form held)) p.place (left_none (place_if (not (takes head.form held)) p.place) (not_built_operands (is_at_one p.leads) held) (formed p (tree.Inline head held) is h)))
+-- the passage of a piece of that form
+formed : (p : Piece) (f : Form) → p.form ≡ f → IsBuiltPiece p → (is_well_formed_item (behind p.leads) f ≡ true) × (not_built_item p.place f ≡ [])
+formed p f is h = subst (λ (x : Form). (is_well_formed_item (behind p.leads) x ≡ true) × (not_built_item p.place x ≡ [])) is h.0
 
 no_reference : (p : Piece) (r : Reference) → p.form ≡ tree.Refer r → IsBuiltPiece p → ⊥
-no_reference p r is h = let here = formed p (tree.Refer r) is h in cc
+no_reference p r is h = let here = (formed p (tree.Refer r) is h).1 in cc
 
 module _ (names : List (List ℕ)) where
   -- a piece is built, and stands at instances
   abbrev IsGood : Piece → Type 0
   IsGood p = IsBuiltPiece p × IsNamedPiece names p
 
-  zipped : (ps : List Piece) → Each IsBuiltPiece ps → Each (IsNamedPiece names) ps → Each IsGood ps
+  zipped : (ps : List Piece) → EachPiece IsBuiltPiece ps → EachPiece (IsNamedPiece names) ps → EachPiece IsGood ps
   zipped [] h g = tt
   zipped (p ∷ ps) h g = ((h.0, g.0), zipped ps h.1 g.1)
 
-  operands_good : (cover : List (List ℕ)) (k : ℕ) (ps : List Piece) → AreAmong names cover → Each IsGood ps → Each IsGood (operands_of cover k ps)
-  operands_good cover k ps c h = operands_each IsGood cover k ps (λ p g. zipped _ (of_built cover k p p.form g.0) (of_are names cover k p p.form c g.1 g.1.inside)) h
+  operands_good : (cover : List (List ℕ)) (k : ℕ) (ps : List Piece) → AreAmong names cover → EachPiece IsGood ps → EachPiece IsGood (operands_of cover k ps)
+  operands_good cover k ps c h = parts_operands IsGood cover k ps (λ p g. zipped _ (of_built cover k p g.0) (of_are names cover k p p.form c g.1 g.1.inside)) h
 
   mutual
-    body_built : {cover : List (List ℕ)} {ps : List Piece} (b : Body) → AreAmong names cover → Each IsGood ps → IsWovenLevel cover ps b → is_built names b ≡ true
+    body_built : {cover : List (List ℕ)} {ps : List Piece} (b : Body) → AreAmong names cover → EachPiece IsGood ps → IsWovenLevel cover ps b → is_built names b ≡ true
     body_built {ps = ps} _ c h (woven {held = held} o w p) = items_built (level_items ps) held c (level_each IsGood ps h) w
 
     items_built : {cover : List (List ℕ)} {order : List ℕ} (all : List (List Piece)) (xs : WovenItems) → AreAmong names cover → EachOfAll IsGood all → AreWovenItems cover all order xs → are_built names xs ≡ true
@@ -121,37 +117,33 @@ module _ (names : List (List ℕ)) where
     items_built all _ c h (woven_and {x = i} {parts = parts} {item = x} {held = xs} at w k) =
         both (is_built_item names x) (are_built names xs) (item_built x c (parts_each IsGood all i parts h at) w) (items_built all xs c h k)
 
-    item_built : {cover : List (List ℕ)} {parts : List Piece} (x : WovenItem) → AreAmong names cover → Each IsGood parts → IsWovenItem cover parts x → is_built_item names x ≡ true
+    item_built : {cover : List (List ℕ)} {parts : List Piece} (x : WovenItem) → AreAmong names cover → EachPiece IsGood parts → IsWovenItem cover parts x → is_built_item names x ≡ true
     item_built _ c h (an_event {p = p} {at = at} {e = e} is here) =
-        both (list_any (bytes_eq at) names) (is_plain e) (any_from_one names at (lead_among names p.leads at h.0.1.leads here)) (plain_event (is_at_one p.leads) e (formed p (tree.Single e) is h.0.0))
+        both (list_any (bytes_eq at) names) (is_plain e) (any_from_one names at (lead_among names p.leads at h.0.1.leads here)) (plain_event e (formed p (tree.Single e) is h.0.0).1)
     item_built _ c h (a_coregion {p = p} {at = at} {es = es} is here) =
-        plain_nodes names p.first at es (lead_among names p.leads at h.0.1.leads here) (right_none (place_if (not (is_at_one p.leads)) p.place) (not_built_events es) (formed p (tree.Coregion es) is h.0.0))
+        plain_nodes names p.first at es (lead_among names p.leads at h.0.1.leads here) (formed p (tree.Coregion es) is h.0.0).1
     item_built _ c h (an_inline {cover = cover} {p = p} {ps = ps} {head = head} {operands = operands} {held = held} is w) =
         both (has_operands head.form held) (have_built names held)
-        (same_operands head.form operands held (woven_number held w) (takes_all p head operands is h.0.0))
+        (same_operands head.form operands held (woven_number held w) (formed p (tree.Inline head operands) is h.0.0).0)
         (operands_built held (cover_among names cover p c h.0.1) h w)
     item_built _ c h (a_reference {p = p} {r = r} is) = absurd (no_reference p r is h.0.0)
 
-    operands_built : {cover : List (List ℕ)} {parts : List Piece} {k count : ℕ} (bs : Bodies) → AreAmong names cover → Each IsGood parts → AreWovenOperands cover parts k count bs → have_built names bs ≡ true
+    operands_built : {cover : List (List ℕ)} {parts : List Piece} {k count : ℕ} (bs : Bodies) → AreAmong names cover → EachPiece IsGood parts → AreWovenOperands cover parts k count bs → have_built names bs ≡ true
     operands_built _ c h (no_woven_operand) = refl
     operands_built _ c h (woven_operand_and {cover = cover} {parts = parts} {k = k} {body = b} {others = bs} w g) =
         both (is_built names b) (have_built names bs) (body_built b c (operands_good cover k parts c h) w) (operands_built bs c h g)
 
 -- ---- a chart
 
-chart_pieces : (c : Chart) (held : List Statement) → c.content ≡ Basic held → IsBuilt c → Each IsBuiltPiece (statements_pieces (instances c) 0 (statements held))
-chart_pieces c held is built = statements_built (instances c) 0 (statements held) (none_within c (Basic held) is built)
-
-chart_built : (c : Chart) (held : List Statement) (b : Body) → c.content ≡ Basic held → IsBuilt c → ((p : Place) → ChartNamesOther c p → ⊥)
+chart_built : (c : Chart) (held : List Statement) (b : Body) → c.content ≡ Basic held → IsWellFormed c → IsBuilt c → ((p : Place) → ChartNamesOther c p → ⊥)
     → IsWovenLevel (instances c) (statements_pieces (instances c) 0 (statements held)) b → is_built (instances c) b ≡ true
-chart_built c held b is built none w =
+chart_built c held b is formed built none w =
     let all = all_among (instances c) in
-    body_built (instances c) b all (zipped (instances c) (statements_pieces (instances c) 0 (statements held)) (chart_pieces c held is built) (chart_named c held (instances c) is none all)) w
+    body_built (instances c) b all (zipped (instances c) (statements_pieces (instances c) 0 (statements held)) (chart_pieces_built c held (instances c) is formed built) (chart_named c held (instances c) is none all)) w
 
 pub built_charts_are_known : BuiltChartsAreKnown
 built_charts_are_known = record {
   built = chart_built;
-  all_woven = λ c held is built. pieces_woven (statements_pieces (instances c) 0 (statements held)) (chart_pieces c held is built);
   whole = chart_whole;
   basic = no_graph;
 }

@@ -2,7 +2,6 @@ mod Regions
 mod ItemRegions
 mod OperandRegions
 pub mod Differing
-mod WalkedForms
 mod WalkedSizes
 mod WalkedNotes
 mod EachPiece

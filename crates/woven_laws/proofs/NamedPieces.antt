@@ -13,7 +13,8 @@ use Rattle.msc_instances.specs.NameFaults.{ChartNamesOther}
 use Rattle.msc_instances.specs.Notes.{Note, decl_notes, left_notes, shared_notes}
 use Rattle.chart_text.specs.Texts.{Scope, Whole, Within, behind_colon, covered_scope, own_scope}
 use Rattle.woven_laws.proofs.Declaring.{AreAmong, AreKnown, chart_known, declared_known, known_left, known_right, named_known}
-use Rattle.woven_laws.proofs.EachPiece.{Each, each_on}
+use Rattle.level_pieces.proofs.PieceTexts.{pieces_behind}
+use Rattle.level_pieces.specs.FormedPieces.{EachPiece}
 use Rattle.woven_laws.proofs.WalkedNotes.{chart_walked, content_notes, decls_notes, form_notes, items_notes, operand_notes, operands_notes, stated_notes, statements_notes}
 
 module _ (names : List (List ℕ)) where
@@ -115,38 +116,38 @@ module _ (names : List (List ℕ)) where
     pub leads : AreAmong names p.leads
     pub inside : IsNamedForm p.form
 
-  items_are : (column : Option (List ℕ)) (leads : List (List ℕ)) (n : ℕ) (xs : Items) → IsColumn column → AreAmong names leads → AreNamedItems xs → Each IsNamedPiece (items_pieces column leads n xs)
+  items_are : (column : Option (List ℕ)) (leads : List (List ℕ)) (n : ℕ) (xs : Items) → IsColumn column → AreAmong names leads → AreNamedItems xs → EachPiece IsNamedPiece (items_pieces column leads n xs)
   items_are column leads n no_items i l h = tt
   items_are column leads n (item_and (placed place f) xs) i l h = (record { column = i; leads = l; inside = h.0 }, items_are column leads (n + form_count f) xs i l h.1)
 
-  left_are : (n : ℕ) (ns : List (List ℕ)) (xs : Items) → IsLeft (Listed ns) xs → AreNamedItems xs → Each IsNamedPiece (items_pieces None ns n xs)
+  left_are : (n : ℕ) (ns : List (List ℕ)) (xs : Items) → IsLeft (Listed ns) xs → AreNamedItems xs → EachPiece IsNamedPiece (items_pieces None ns n xs)
   left_are n ns no_items l h = tt
   left_are n ns (item_and x xs) l h = items_are None ns n (item_and x xs) tt l h
 
-  statement_are : (cover : List (List ℕ)) (n : ℕ) (s : Statement) → AreAmong names cover → IsNamedStatement s → Each IsNamedPiece (statement_pieces cover n s)
+  statement_are : (cover : List (List ℕ)) (n : ℕ) (s : Statement) → AreAmong names cover → IsNamedStatement s → EachPiece IsNamedPiece (statement_pieces cover n s)
   statement_are cover n (Column decl held) c h = items_are (Some decl.name) (decl.name ∷ []) n held h.0 (h.0, tt) h.1
   statement_are cover n (Covered All held) c h = items_are None cover n held tt c h.1
   statement_are cover n (Covered (Listed ns) held) c h = left_are n ns held h.0 h.1
   statement_are cover n (Heading decl) c h = tt
   statement_are cover n (Ended name) c h = tt
 
-  statements_are : (cover : List (List ℕ)) (n : ℕ) (ss : Statements) → AreAmong names cover → AreNamedStatements ss → Each IsNamedPiece (statements_pieces cover n ss)
+  statements_are : (cover : List (List ℕ)) (n : ℕ) (ss : Statements) → AreAmong names cover → AreNamedStatements ss → EachPiece IsNamedPiece (statements_pieces cover n ss)
   statements_are cover n no_statements c h = tt
   statements_are cover n (statement_and s ss) c h =
-      each_on IsNamedPiece (statement_pieces cover n s) (statements_pieces cover (n + statement_count s) ss) (statement_are cover n s c h.0) (statements_are cover (n + statement_count s) ss c h.1)
+      pieces_behind IsNamedPiece (statement_pieces cover n s) (statements_pieces cover (n + statement_count s) ss) (statement_are cover n s c h.0) (statements_are cover (n + statement_count s) ss c h.1)
 
   -- ---- those of an operand
 
-  operand_are : (cover : List (List ℕ)) (p : Piece) (n : ℕ) (x : Operand) → AreAmong names cover → IsNamedPiece p → IsNamedOperand x → Each IsNamedPiece (operand_pieces cover p n x)
+  operand_are : (cover : List (List ℕ)) (p : Piece) (n : ℕ) (x : Operand) → AreAmong names cover → IsNamedPiece p → IsNamedOperand x → EachPiece IsNamedPiece (operand_pieces cover p n x)
   operand_are cover p n (InColumn held) c k h = items_are p.column p.leads n held k.column k.leads h
   operand_are cover p n (Outside held) c k h = statements_are cover n held c h
 
-  at_are : (cover : List (List ℕ)) (p : Piece) (n k : ℕ) (xs : Operands) → AreAmong names cover → IsNamedPiece p → AreNamedOperands xs → Each IsNamedPiece (operand_at cover p n k xs)
+  at_are : (cover : List (List ℕ)) (p : Piece) (n k : ℕ) (xs : Operands) → AreAmong names cover → IsNamedPiece p → AreNamedOperands xs → EachPiece IsNamedPiece (operand_at cover p n k xs)
   at_are cover p n k no_operands c known h = tt
   at_are cover p n zero (operand_and x xs) c known h = operand_are cover p n x c known h.0
   at_are cover p n (suc k) (operand_and x xs) c known h = at_are cover p (n + operand_count x) k xs c known h.1
 
-  pub of_are : (cover : List (List ℕ)) (k : ℕ) (p : Piece) (f : Form) → AreAmong names cover → IsNamedPiece p → IsNamedForm f → Each IsNamedPiece (operand_of cover k p f)
+  pub of_are : (cover : List (List ℕ)) (k : ℕ) (p : Piece) (f : Form) → AreAmong names cover → IsNamedPiece p → IsNamedForm f → EachPiece IsNamedPiece (operand_of cover k p f)
   of_are cover k p (Inline head held) c known h = at_are cover p p.first k held c known h
   of_are cover k p (Single e) c known h = tt
   of_are cover k p (Coregion es) c known h = tt
@@ -176,7 +177,7 @@ module _ (names : List (List ℕ)) where
 
 -- the pieces of a chart that names no others
 pub chart_named : (c : Chart) (held : List Statement) (cover : List (List ℕ)) → c.content ≡ Basic held → ((p : Place) → ChartNamesOther c p → ⊥) → AreAmong (instances c) cover
-    → Each (IsNamedPiece (instances c)) (statements_pieces cover 0 (statements held))
+    → EachPiece (IsNamedPiece (instances c)) (statements_pieces cover 0 (statements held))
 chart_named c held cover is none within =
     let notes = statements_notes true Whole (statements held) in
     let known : AreKnown (instances c) (decls_notes c.decls ++ notes) = subst (λ (x : Content). AreKnown (instances c) (content_notes c.decls x)) is (subst (λ (ns : List Note). AreKnown (instances c) ns) (chart_walked c) (chart_known c none)) in

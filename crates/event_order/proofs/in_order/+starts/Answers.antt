@@ -4,7 +4,7 @@ use Rattle.msc_base.specs.declared.label.Pair.{Pair}
 use Rattle.msc_meaning.specs.declared.body.Body as rust_body
 use Rattle.msc_meaning.specs.declared.body.Body.{out-Body}
 use Rattle.msc_meaning.specs.declared.body.Item as rust_item
-use Rattle.general_ordering.specs.ItemViews.{bodies_view, items_view}
+use Rattle.msc_meaning.specs.ItemViews.{bodies_view, items_view}
 use Rattle.general_ordering.proofs.ViewFacts.{body_is}
 use Rattle.event_order.specs.InOrder.{AreItemsInOrder, AreOperandsInOrder, IsBodyInOrder}
 use Rattle.event_order.proofs.InOrderSteps.{body_in_order, items_more, no_more_items, no_more_operands, operands_more}

@@ -1,5 +1,5 @@
 use Rattle.std.proofs.Common.{◌≤◌, drop, length}
-use Rattle.general_ordering.specs.ItemViews.{bodies_view, items_view}
+use Rattle.msc_meaning.specs.ItemViews.{bodies_view, items_view}
 use Rattle.event_order.specs.InOrder.{AreItemsInOrder, AreOperandsInOrder}
 use Rattle.event_order.proofs.in_order.+starts.Given as goal
 

@@ -8,7 +8,7 @@ use Rattle.msc_meaning.specs.Ties.{level_pairs}
 use Rattle.msc_meaning.specs.Views.{item_view}
 use Rattle.msc_meaning.specs.declared.body.Body.{out-Body}
 use Rattle.msc_meaning.specs.declared.body.Item as rust_item
-use Rattle.general_ordering.specs.ItemViews.{items_view}
+use Rattle.msc_meaning.specs.ItemViews.{items_view}
 use Rattle.event_order.specs.Precedence.{Precedes}
 use Rattle.event_order.specs.RankedBodies.{counted_within, is_exception}
 use Rattle.event_order.specs.Webs.{AreDrawn, IsPut}

@@ -1,7 +1,7 @@
 use Rattle.std.proofs.Common.{take}
 use Rattle.std.specs.BTreeMap.{get}
 use Rattle.std.specs.Ordering.{nat_cmp}
-use Rattle.general_ordering.specs.ItemViews.{bodies_view, items_view}
+use Rattle.msc_meaning.specs.ItemViews.{bodies_view, items_view}
 use Rattle.event_order.specs.Precedence.{PrecedesInOne}
 use Rattle.event_order.specs.RankedBodies.{operands_counted}
 use Rattle.event_order.specs.Webs.{AreDrawn}

@@ -1,5 +1,5 @@
 use Rattle.std.proofs.Common.{drop}
-use Rattle.body_levels.specs.LevelViews.{levels_view}
+use Rattle.msc_meaning.specs.LevelViews.{levels_view}
 use Rattle.event_order.specs.OwnOrders.{HaveOwnRanks, HaveRounds}
 use Rattle.event_order.proofs.ordering.have_own_round.Given as goal
 

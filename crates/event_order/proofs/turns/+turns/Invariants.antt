@@ -1,5 +1,5 @@
 use Rattle.std.proofs.Common.{take}
-use Rattle.general_ordering.specs.ItemViews.{bodies_view, items_view}
+use Rattle.msc_meaning.specs.ItemViews.{bodies_view, items_view}
 use Rattle.event_order.specs.RankedBodies.{items_within, operands_within}
 use Rattle.event_order.specs.Webs.{AreDrawn, Nothing}
 use Rattle.event_order.proofs.turns.+turns.Given as goal

@@ -1,7 +1,7 @@
 use Rattle.std.specs.List.{flat_map}
 use Rattle.std.proofs.Common.{rules, ◌≡◌, List, subst}
-use Rattle.body_levels.proofs.LevelLaws.{listed_least}
-use Rattle.body_levels.specs.LevelViews.{levels_view}
+use Rattle.msc_meaning.proofs.LevelLaws.{listed_least}
+use Rattle.msc_meaning.specs.LevelViews.{levels_view}
 use Rattle.general_ordering.specs.EventNames.{Twice, Unknown, level_faults}
 use Rattle.msc_base.specs.Lists.{IsAmong}
 use Rattle.msc_base.specs.Places.{IsLeast}

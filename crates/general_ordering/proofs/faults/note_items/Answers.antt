@@ -2,7 +2,7 @@ use Rattle.std.proofs.Common.{◌++◌, List}
 use Rattle.msc_base.specs.declared.place.Place.{Place}
 use Rattle.msc_meaning.specs.Bodies.{EventNode, events}
 use Rattle.general_ordering.specs.EventNames.{places_where}
-use Rattle.general_ordering.specs.ItemViews.{items_view}
+use Rattle.msc_meaning.specs.ItemViews.{items_view}
 use Rattle.general_ordering.specs.LevelNames.{is_named_twice, orders_unknown}
 use Rattle.general_ordering.proofs.Groups.{walk_step}
 use Rattle.general_ordering.proofs.Tests.{where_both}

@@ -1,7 +1,7 @@
 use Rattle.std.proofs.Common.{◌≡◌, ◌++◌, drop}
 use Rattle.msc_meaning.specs.Bodies.{events}
 use Rattle.general_ordering.specs.EventNames.{places_where}
-use Rattle.general_ordering.specs.ItemViews.{items_view}
+use Rattle.msc_meaning.specs.ItemViews.{items_view}
 use Rattle.general_ordering.specs.LevelNames.{is_named_twice, orders_unknown}
 use Rattle.general_ordering.proofs.faults.note_items.Given as goal
 

@@ -1,6 +1,6 @@
 use Rattle.std.specs.List.{flat_map}
 use Rattle.std.proofs.Common.{◌≡◌, ◌++◌, drop}
-use Rattle.body_levels.specs.LevelViews.{levels_view}
+use Rattle.msc_meaning.specs.LevelViews.{levels_view}
 use Rattle.general_ordering.specs.EventNames.{Twice, Unknown, level_faults}
 use Rattle.general_ordering.proofs.faults.note_levels.Given as goal
 

@@ -1,6 +1,6 @@
 use Rattle.std.proofs.Common.{rules, ◌≡◌, ◌<◌, ◌+◌, arith, length, refl}
 use Rattle.level_terms.specs.BodyLabels.{items_labels, operands_labels}
-use Rattle.general_ordering.specs.ItemViews.{bodies_view, items_view}
+use Rattle.msc_meaning.specs.ItemViews.{bodies_view, items_view}
 use Rattle.level_terms.proofs.AddedLabels.{body_added, item_added}
 use Rattle.level_terms.proofs.Dropped.{item_at}
 use Rattle.level_terms.proofs.labels.+labels.Goals as goal

@@ -1,7 +1,7 @@
 use Rattle.std.proofs.Common.{drop}
 use Rattle.level_terms.specs.BodyLabels.{items_labels, operands_labels}
 use Rattle.chart_forms.specs.BuiltBodies.{events_count, operands_count}
-use Rattle.general_ordering.specs.ItemViews.{items_view, bodies_view}
+use Rattle.msc_meaning.specs.ItemViews.{items_view, bodies_view}
 use Rattle.level_terms.proofs.AddedLabels.{IsAdding}
 use Rattle.level_terms.proofs.labels.+labels.Given as goal
 

@@ -9,7 +9,7 @@ use Rattle.msc_meaning.specs.declared.body.InlineItem.{out-InlineItem}
 use Rattle.msc_meaning.specs.declared.body.Body.{out-Body}
 use Rattle.msc_meaning.specs.declared.body.Item.TheViews.{the_lemmas}
 use Rattle.msc_meaning.specs.Views.{item_view}
-use Rattle.general_ordering.specs.ItemViews.{items_view, bodies_view}
+use Rattle.msc_meaning.specs.ItemViews.{items_view, bodies_view}
 use Rattle.level_terms.specs.LevelTerms.{item_term, level_term}
 use Rattle.event_order.specs.RankedBodies.{is_exception}
 use Rattle.level_terms.specs.MadeParts.{IsPart, IsTied}

@@ -1,6 +1,6 @@
 use Rattle.std.proofs.Common.{◌≡◌, ◌+◌, ◌≤◌, drop, length, []}
 use Rattle.chart_forms.specs.BuiltBodies.{events_count, operands_count}
-use Rattle.general_ordering.specs.ItemViews.{items_view, bodies_view}
+use Rattle.msc_meaning.specs.ItemViews.{items_view, bodies_view}
 use Rattle.level_terms.specs.LevelTerms.{operand_terms, parallel_term}
 use Rattle.level_terms.specs.MadeParts.{IsPart}
 use Rattle.level_terms.proofs.RunSteps.{IsRunOf}

@@ -8,7 +8,7 @@ use Rattle.column_order.specs.Answers.{IfWhole}
 use Rattle.column_order.specs.Weaving.{IsWoven}
 use Rattle.msc_meaning.specs.LevelItems.{Entry, columns_of, entries, level_items}
 use Rattle.level_pieces.specs.PieceNumbers.{AreNumbered}
-use Rattle.level_pieces.specs.Unwoven.{AreAllWoven}
+use Rattle.level_pieces.specs.FormedPieces.{AreFormed}
 use Rattle.msc_meaning.specs.Levels.{AreWovenItems, no_woven, operand_number}
 use Rattle.level_weaving.specs.LonelyItems.{ItemsLackPartner}
 use Rattle.msc_meaning.specs.Pieces.{Piece}
@@ -151,7 +151,7 @@ woven_level-woven_items-requires t c =
       (
         c.requires.different,
         (
-          subst (λ (l : List (List Piece)). AreItems l) (sym list) (level_parts ps c.requires.all_woven c.requires.numbered),
+          subst (λ (l : List (List Piece)). AreItems l) (sym list) (level_parts ps c.requires.formed c.requires.numbered),
           subst (λ (l : List ℕ). All (λ x. x < length c.as_slice-list.result.now) l) (sym c.as_slice-in-Whole.ensures.value)
               (all_low c.in-Whole.order.items (length c.as_slice-list.result.now) (λ x h. given.inside x h)),
         ),
@@ -168,7 +168,7 @@ woven_level-woven_items-requires-in-Stuck t c =
       (
         c.requires.different,
         (
-          subst (λ (l : List (List Piece)). AreItems l) (sym list) (level_parts ps c.requires.all_woven c.requires.numbered),
+          subst (λ (l : List (List Piece)). AreItems l) (sym list) (level_parts ps c.requires.formed c.requires.numbered),
           subst (λ (l : List ℕ). All (λ x. x < length c.as_slice-list.result.now) l) (sym order) (numbers_low (length c.as_slice-list.result.now)),
         ),
       ),
@@ -191,7 +191,7 @@ woven_levels-woven_level-requires t c =
     let one = level_at (map pieces_view lists) k (pieces_view c.pieces-item.result) c.requires.levels here in
     let low : pieces_size (pieces_view c.pieces-item.result) ≤ lists_size (map pieces_view lists) = one_size (map pieces_view lists) k (pieces_view c.pieces-item.result) here in (
       omega (arith, c.decreases, low, ap pieces_size ps),
-      (c.requires.different, (subst (λ (l : List Piece). AreNumbered 0 l) (sym ps) one.0, subst (λ (l : List Piece). AreAllWoven l) (sym ps) one.1)),
+      (c.requires.different, (subst (λ (l : List Piece). AreNumbered 0 l) (sym ps) one.0, subst (λ (l : List Piece). AreFormed l) (sym ps) one.1)),
     )
 
 pub woven_levels-loop-pieces-preserved : goal.woven_levels-loop-pieces-preserved

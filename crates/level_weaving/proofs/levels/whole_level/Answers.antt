@@ -9,7 +9,7 @@ use Rattle.msc_meaning.specs.Bodies.{Body, EventNode, WovenItems, items, level}
 use Rattle.msc_meaning.specs.LevelItems.{level_items}
 use Rattle.msc_meaning.specs.Levels.{IsWovenLevel}
 use Rattle.msc_meaning.specs.Pairing.{ArePairs}
-use Rattle.body_levels.specs.Partners.{LacksPartner}
+use Rattle.msc_meaning.specs.Partners.{LacksPartner}
 use Rattle.msc_meaning.specs.Pieces.{Piece}
 use Rattle.msc_meaning.specs.Views.{body_view, item_view}
 use Rattle.level_pieces.specs.Earliest.{earliest_of}
@@ -75,7 +75,7 @@ returns-in_ok-names-in-Woven c =
     (subst (λ a. AreItemsAnswer cover (map parts_view c.args.items.now) order a) c.in-Woven.is c.requires.answer) in
     let events : c.in_ok-events-in-Woven.events ≡ ordered_nodes (first_parts (level_items ps)) order =
     c.in_ok-events-in-Woven.ensures ∙ ap (λ (l : List (List Piece)). ordered_nodes (first_parts l) order) c.requires.items in
-    let all : AreItems (level_items ps) = level_parts ps c.requires.all_woven c.requires.numbered in
+    let all : AreItems (level_items ps) = level_parts ps c.requires.formed c.requires.numbered in
     let paired : ArePairs (ordered_nodes (first_parts (level_items ps)) order) c.in_ok-by_number-in-Woven.by_number =
     subst (λ (ns : List EventNode). ArePairs ns c.in_ok-by_number-in-Woven.by_number) (c.as_slice-in-Woven.ensures ∙ events) c.in_ok-by_number-in-Woven.ensures in
     let own : IsLeast (IsUnmatched (ordered_nodes (first_parts (level_items ps)) order)) c.in_ok-own-in-Woven.own =

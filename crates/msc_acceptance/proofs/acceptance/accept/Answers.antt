@@ -49,7 +49,7 @@ pub returns-in-Ok-Woven-clause-charts : goal.returns-in-Ok-Woven-clause-charts
 returns-in-Ok-Woven-clause-charts c =
     let decided : IsDecided (map chart_view c.args.raw.charts.items) (decision.Woven c.in-Ok-Woven.entries) = search rules in
     let made : c.of_entries.result ≡ c.in-Ok-Woven.entries.items = search rules in
-    subst (λ (es : List code.ChartEntry). AreAcceptedCharts (table_view es)) (sym made) (kept_have c.built_charts_are_known.ensures c.woven_charts_are_known.ensures (map chart_view c.args.raw.charts.items) (table_view c.in-Ok-Woven.entries.items) decided.0 decided.1 decided.2)
+    subst (λ (es : List code.ChartEntry). AreAcceptedCharts (table_view es)) (sym made) (kept_have c.built_charts_are_known.ensures c.woven_charts_are_known.ensures (map chart_view c.args.raw.charts.items) (table_view c.in-Ok-Woven.entries.items) c.requires decided.0 decided.1 decided.2)
 
 pub returns-in-Ok-Faulty-clause-none : goal.returns-in-Ok-Faulty-clause-none
 returns-in-Ok-Faulty-clause-none c =

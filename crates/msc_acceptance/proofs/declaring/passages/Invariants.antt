@@ -1,7 +1,7 @@
 use Rattle.std.proofs.Common.{◌≡◌, ◌++◌, drop}
 use Rattle.chart_text.specs.Gathering.{gathered}
 use Rattle.chart_text.specs.PassageViews.{text_view}
-use Rattle.msc_acceptance.specs.Declaring.{declares}
+use Rattle.msc_meaning.specs.WovenTables.{declares}
 use Rattle.msc_acceptance.proofs.declaring.passages.Given as goal
 
 abbrev pub invariant-loop-held : goal.invariant-loop-held

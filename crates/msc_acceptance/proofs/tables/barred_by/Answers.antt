@@ -1,14 +1,13 @@
 use Rattle.std.proofs.Common.{◌≡◌, Option, None, Some, subst, sym, ◌∙◌}
-use Rattle.level_weaving.specs.WeaveFaults.{IsWeaveFault}
 use Rattle.level_weaving.specs.declared.weaving.WeaveFault.{WeaveFault}
 use Rattle.msc_base.specs.Places.{IsLeast}
 use Rattle.msc_base.specs.declared.place.Place.{Place}
 use Rattle.msc_tree.specs.Charts.{Chart}
 use Rattle.msc_tree.specs.Views.{chart_view}
 use Rattle.msc_acceptance.specs.ChartFaults.{CrossesAt, IsAloneAt}
-use Rattle.msc_acceptance.specs.Deciding.{IsBarred}
+use Rattle.msc_acceptance.specs.Deciding.{IsBarred, IsWeaveFault}
 use Rattle.msc_acceptance.specs.declared.tables.BodyFaults.{BodyFaults}
-use Rattle.msc_acceptance.proofs.ChartLaws.{alone_of, crossed_of, never_unwoven, uncrossed_of}
+use Rattle.msc_acceptance.proofs.ChartLaws.{alone_of, crossed_of, uncrossed_of}
 use Rattle.msc_acceptance.proofs.tables.barred_by.Goals as goal
 
 some_none : (p : Place) → Some p ≡ None → ⊥
@@ -40,20 +39,15 @@ barred_alone c p f n e uncrossed least = (
   },
 )
 
-pub returns-in-NotWoven : goal.returns-in-NotWoven
-returns-in-NotWoven c =
-    let chart = chart_view c.args.chart.now in
-    absurd (never_unwoven c.built_charts_are_known.ensures chart c.in-NotWoven.place c.requires.built (subst (λ (f : WeaveFault). IsWeaveFault chart f) c.in-NotWoven.is c.requires.fault))
-
 pub returns-in-Crossed : goal.returns-in-Crossed
 returns-in-Crossed c =
     let chart = chart_view c.args.chart.now in
-    let fault : IsWeaveFault chart _ = subst (λ (f : WeaveFault). IsWeaveFault chart f) c.in-Crossed.is c.requires.fault in
-    barred_crossed chart c.in-Crossed.place c.barring-in-Crossed.result c.barring-in-Crossed.ensures.crossed (crossed_of c.built_charts_are_known.ensures chart c.in-Crossed.place c.requires.built fault)
+    let fault : IsWeaveFault chart _ = subst (λ (f : WeaveFault). IsWeaveFault chart f) c.in-Crossed.is c.requires in
+    barred_crossed chart c.in-Crossed.place c.barring-in-Crossed.result c.barring-in-Crossed.ensures.crossed (crossed_of chart c.in-Crossed.place fault)
 
 pub returns-in-Unmatched : goal.returns-in-Unmatched
 returns-in-Unmatched c =
     let chart = chart_view c.args.chart.now in
-    let fault : IsWeaveFault chart _ = subst (λ (f : WeaveFault). IsWeaveFault chart f) c.in-Unmatched.is c.requires.fault in
+    let fault : IsWeaveFault chart _ = subst (λ (f : WeaveFault). IsWeaveFault chart f) c.in-Unmatched.is c.requires in
     barred_alone chart c.in-Unmatched.place c.barring-in-Unmatched.result c.barring-in-Unmatched.ensures.crossed c.barring-in-Unmatched.ensures.alone
-    (uncrossed_of c.built_charts_are_known.ensures chart c.in-Unmatched.place c.requires.built fault) (alone_of c.built_charts_are_known.ensures chart c.in-Unmatched.place c.requires.built fault)
+    (uncrossed_of chart c.in-Unmatched.place fault) (alone_of chart c.in-Unmatched.place fault)

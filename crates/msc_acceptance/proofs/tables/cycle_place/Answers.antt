@@ -1,5 +1,5 @@
 use Rattle.std.proofs.Common.{subst, sym}
-use Rattle.body_levels.specs.LevelViews.{levels_view}
+use Rattle.msc_meaning.specs.LevelViews.{levels_view}
 use Rattle.event_order.specs.RankedBodies.{HaveRanks}
 use Rattle.msc_tree.specs.Views.{chart_view}
 use Rattle.msc_acceptance.proofs.ChartLaws.{is_cyclic_at, never_cyclic}

@@ -1,6 +1,6 @@
 use Rattle.std.proofs.Common.{rules, ◌≡◌, List, subst}
-use Rattle.body_levels.specs.BodyLevels.{BodyLevel, body_levels}
-use Rattle.body_levels.specs.LevelViews.{levels_view}
+use Rattle.msc_meaning.specs.BodyLevels.{BodyLevel, body_levels}
+use Rattle.msc_meaning.specs.LevelViews.{levels_view}
 use Rattle.event_order.specs.RankedBodies.{HaveRanks}
 use Rattle.general_ordering.specs.EventNames.{LevelsBreakNameRule, Twice, Unknown}
 use Rattle.msc_base.specs.Places.{IsLeast}

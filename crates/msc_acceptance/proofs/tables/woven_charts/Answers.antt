@@ -8,7 +8,7 @@ use Rattle.msc_acceptance.specs.Deciding.{AreAllRanked}
 use Rattle.msc_acceptance.proofs.ChartLists.{own_of}
 use Rattle.msc_acceptance.proofs.TableLaws.{AreWovenSoFar, faults_all, faults_start, made_all, woven_more}
 use Rattle.msc_acceptance.proofs.Taking.{all_taken, left_less, next_is, next_low, taken, taken_more}
-use Rattle.msc_acceptance.proofs.WalkLaws.{chart_built}
+use Rattle.msc_acceptance.proofs.WalkLaws.{chart_built, chart_formed}
 use Rattle.msc_acceptance.proofs.tables.woven_charts.Goals as goal
 
 pub loop-chart-init : goal.loop-chart-init
@@ -38,6 +38,13 @@ woven-requires-clause-names c =
     let split = taken c.loop-chart.yielded _ _ c.args.charts.items x c.in-Some.ensures.steps.0 c.loop-chart.invariant.split in
     own_of instances c.args.charts.items c.args.lists.now k c.loop-chart.number x c.index-lists-number.result c.index-lists-number.result c.requires.lists c.loop-chart.invariant.number
     (next_low c.loop-chart.yielded _ c.args.charts.items x split) (next_is c.loop-chart.yielded _ c.args.charts.items x split) c.index-lists-number.is
+
+pub woven-requires-clause-formed : goal.woven-requires-clause-formed
+woven-requires-clause-formed c =
+    let k = length c.loop-chart.yielded in
+    let x = c.in-Some.chart in
+    let split = taken c.loop-chart.yielded _ _ c.args.charts.items x c.in-Some.ensures.steps.0 c.loop-chart.invariant.split in
+    chart_formed c.args.charts.items k x c.requires.formed (next_low c.loop-chart.yielded _ c.args.charts.items x split) (next_is c.loop-chart.yielded _ c.args.charts.items x split)
 
 pub woven-requires-clause-built : goal.woven-requires-clause-built
 woven-requires-clause-built c =

@@ -3,8 +3,14 @@ use Rattle.msc_tree.specs.Views.{document_view}
 use Rattle.msc_cmd.specs.declared.document_text.DocumentText.{DocumentText}
 use Rattle.msc_cmd.specs.declared.document_text.DocumentText.TheVariants.{Read, Refused}
 use Rattle.msc_cmd.specs.DocumentTexts.{IsTheText}
+use Rattle.msc_cmd.specs.Intakes.{IsFormedText}
 use Rattle.msc_cmd.proofs.Settling.{only_faulty, settled_read}
 use Rattle.msc_cmd.proofs.document.settle.Goals as goal
+
+pub come_to-requires : goal.come_to-requires
+come_to-requires c =
+    let is : c.args.text ≡ Read c.in-Read.document = search rules in
+    subst (λ (t : DocumentText). IsFormedText t) is c.requires
 
 pub returns-in-Read : goal.returns-in-Read
 returns-in-Read c =

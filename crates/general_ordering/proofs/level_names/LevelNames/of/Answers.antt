@@ -1,5 +1,5 @@
 use Rattle.msc_meaning.specs.Bodies.{events}
-use Rattle.general_ordering.specs.ItemViews.{items_view}
+use Rattle.msc_meaning.specs.ItemViews.{items_view}
 use Rattle.general_ordering.specs.NamedEvents.{group_of}
 use Rattle.general_ordering.proofs.LowestFacts.{lowest_before, unknown_same}
 use Rattle.general_ordering.proofs.level_names.LevelNames.of.Goals as goal

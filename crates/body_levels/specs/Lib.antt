@@ -1,4 +1,0 @@
-pub mod BodyLevels
-pub mod ItemViews
-pub mod LevelViews
-pub mod Partners
