@@ -1,6 +1,7 @@
 -- Woven bodies have no more pairs than events and what these are ordered with on any level, where the numbers of their events differ, and
 -- no event has the name of an earlier one.
-use Rattle.std.specs.Prelude.{ℕ, List, [], ◌∷◌, ◌++◌, Option, None, Some, inl, inr}
+use Rattle.std.specs.Prelude.{ℕ, List, [], ◌∷◌, ◌++◌, Option, None, Some}
+use Rattle.std.proofs.Common.{inl, inr}
 use Rattle.msc_base.specs.Orders.{Among, first, later, Once}
 use Rattle.msc_meaning.specs.Bodies.{EventNode, Body, level, WovenItems, no_items, item_and, WovenItem, Single, Coregion, Inline, Refer, Bodies, no_bodies, body_and, events}
 use Rattle.msc_meaning.specs.Levels.{IsWovenLevel, woven, AreWovenItems, no_woven, woven_and, IsWovenItem, an_event, a_coregion, an_inline, a_reference, AreWovenOperands, no_woven_operand, woven_operand_and}

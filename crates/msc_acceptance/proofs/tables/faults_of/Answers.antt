@@ -11,7 +11,7 @@ use Rattle.msc_acceptance.proofs.tables.faults_of.Goals as goal
 
 pub cycle_place-requires : goal.cycle_place-requires
 cycle_place-requires c =
-    let are : levels_view c.as_slice.result.now ≡ body_levels (body_view c.args.body.now) = search rules in
+    let are : levels_view c.as_slice-levels.result.now ≡ body_levels (body_view c.args.body.now) = search rules in
     record { body = body_view c.args.body.now; woven = woven_body (chart_view c.args.chart.now) (body_view c.args.body.now) c.requires; are = are }
 
 pub returns-clause-least : goal.returns-clause-least
@@ -19,7 +19,7 @@ returns-clause-least c =
     let chart = chart_view c.args.chart.now in
     let body = body_view c.args.body.now in
     let woven = woven_body chart body c.requires in
-    let are : levels_view c.as_slice.result.now ≡ body_levels body = search rules in
+    let are : levels_view c.as_slice-levels.result.now ≡ body_levels body = search rules in
     record {
       crossed = none_cross chart body c.requires;
       alone = λ e. none_alone chart body c.requires;
@@ -30,5 +30,5 @@ returns-clause-least c =
 
 pub returns-clause-ranked : goal.returns-clause-ranked
 returns-clause-ranked c = λ none.
-    let are : levels_view c.as_slice.result.now ≡ body_levels (body_view c.args.body.now) = search rules in
+    let are : levels_view c.as_slice-levels.result.now ≡ body_levels (body_view c.args.body.now) = search rules in
     subst HaveRanks are (c.in_ok-cyclic.ensures.ranked none)
