@@ -20,7 +20,6 @@ use Rattle.msc_instances.specs.Instances.{instances}
 use Rattle.msc_meaning.specs.Bodies.{Body}
 use Rattle.msc_meaning.specs.Crossings.{ColumnsCross}
 use Rattle.msc_meaning.specs.Levels.{IsWovenLevel}
-use Rattle.msc_meaning.specs.Partners.{LacksPartner}
 use Rattle.msc_meaning.specs.Pieces.{Piece, statements_pieces}
 use Rattle.msc_meaning.specs.Tables.{ChartEntry, Woven, Basic, HighLevel}
 use Rattle.msc_meaning.specs.WovenTables.{IsEntryOf, IsWovenContent}

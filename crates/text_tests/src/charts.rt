@@ -29,11 +29,7 @@ pub fn chart_of(alloc: Global, text: &str) -> Option<RawChart>
 }
 
 /// What a chart, whose instances `names` are, is woven to, or why it isn't; nothing of a graph.
-pub fn woven_to(
-    alloc: Global,
-    chart: &RawChart,
-    names: &Names,
-) -> Option<Result<Body, WeaveFault>>
+pub fn woven_to(alloc: Global, chart: &RawChart, names: &Names) -> Option<Result<Body, WeaveFault>>
     requires formed { IsWellFormed (chart_view chart.now) }
     requires names { names.now ≡ instances (chart_view chart.now) }
 {

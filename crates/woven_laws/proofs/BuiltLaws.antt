@@ -1,5 +1,5 @@
 -- What the statements of a chart whose forms are built are woven to is built.
-use Rattle.std.proofs.Common.{◌≡◌, ℕ, zero, suc, Bool, true, ◌&&◌, not, List, [], ◌∷◌, Some, slice_get, refl, sym, subst, ap, ap₂, ◌∙◌, arith}
+use Rattle.std.proofs.Common.{◌≡◌, ℕ, zero, suc, Bool, true, ◌&&◌, List, [], ◌∷◌, Some, slice_get, refl, sym, subst, ap, ap₂, ◌∙◌, arith}
 use Rattle.std.specs.List.{list_any}
 use Rattle.std.specs.Str.{bytes_eq}
 use Rattle.msc_base.specs.Lists.{IsAmong}
@@ -9,7 +9,7 @@ use Rattle.msc_tree.specs.declared.event.RawEvent.{RawEvent}
 use Rattle.msc_tree.specs.declared.reference.InlineForm.{InlineForm}
 use Rattle.msc_tree.specs.declared.reference.InlineForm.TheVariants as inline
 use Rattle.msc_tree.specs.Charts.{Chart, Basic}
-use Rattle.msc_tree.specs.Statements.{Form, InlineHead, Operands, no_operands, operand_and, Reference, Statement, statements}
+use Rattle.msc_tree.specs.Statements.{Form, Operands, no_operands, operand_and, Reference, Statement, statements}
 use Rattle.msc_tree.specs.Statements as tree
 use Rattle.msc_meaning.specs.Bodies.{Body, WovenItems, WovenItem, Bodies, no_bodies, body_and}
 use Rattle.msc_meaning.specs.LevelItems.{level_items}

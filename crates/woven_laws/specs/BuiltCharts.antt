@@ -1,5 +1,5 @@
 -- What is known of the charts whose forms are built and that name no other instances, and of what they are woven to.
-use Rattle.std.specs.Prelude.{◌≡◌, ◌≤◌, ℕ, true, List, [], ◌++◌, map}
+use Rattle.std.specs.Prelude.{◌≡◌, ◌≤◌, ℕ, true, List, [], map}
 use Rattle.chart_forms.specs.BodySizes.{body_size}
 use Rattle.chart_forms.specs.BuiltBodies.{is_built}
 use Rattle.chart_forms.specs.ChartSizes.{content_size}

@@ -1,4 +1,4 @@
-use Rattle.std.proofs.Common.{◌≡◌, ◌∙◌, ap, map, sym}
+use Rattle.std.proofs.Common.{◌∙◌, ap, map, sym}
 use Rattle.msc_tree.specs.Charts.{Basic}
 use Rattle.msc_tree.specs.Views.{chart_view, content_view, statement_view}
 use Rattle.msc_acceptance.proofs.tables.result_of.Goals as goal
