@@ -70,9 +70,10 @@ def equal_runs(part):
 def functions(path):
     """The functions of a file: the line, the head with its contract, and the body."""
     text = open(path).read()
-    for head in re.finditer(r"^( *)(?:pub(?:\([a-z]+\))? )?fn \w+", text, re.M):
+    heads = list(re.finditer(r"^( *)(?:pub(?:\([a-z]+\))? )?fn \w+", text, re.M))
+    for head, behind in zip(heads, [later.start() for later in heads[1:]] + [len(text)]):
         indent = head[1]
-        body = re.compile(rf"^{indent}\{{\n(.*?)^{indent}\}}$|\{{\n(.*?)^{indent}\}}$", re.M | re.S).search(text, head.end())
+        body = re.compile(rf"^{indent}\{{\n(.*?)^{indent}\}}$|\{{\n(.*?)^{indent}\}}$", re.M | re.S).search(text, head.end(), behind)
         if body:
             yield text[:head.start()].count("\n") + 1, text[head.start():body.start()], body[1] or body[2] or ""
 

@@ -26,11 +26,12 @@ abbrev pub IsCountedIf : Option JudgeFault → LogState → ℕ → Type 0
 IsCountedIf None s n = IsCounted s n
 IsCountedIf (Some fault) s n = Unit {0}
 
--- what holds of each judge: its set serves its tables, and its log hasn't ended
+-- what holds of each judge: its set serves its tables, its log hasn't ended, and its reader numbers labels as the tables do
 pub record IsKept {S : Type 0} (serves : S → NetsValue → Type 0) (s : LogState) (v : NetsValue) (t : TrackValue S) (fault : Option JudgeFault) : Type 0 where
   pub serving : IfHeld (λ set. serves set v) t
   pub goes_on : s.finished ≡ false
   pub counted : IsCountedIf fault s t.events
+  pub labels : s.labels ≡ v.labels
 
 -- the reader has this fault of the log
 pub record IsFaulty (form : LogForm) (bytes : List ℕ) (fault : LogFault) (s : LogState) : Type 0 where

@@ -7,6 +7,7 @@ mod fault;
 mod judge;
 pub mod laws;
 mod log_judge;
+mod numbers;
 mod taking;
 mod term;
 

@@ -10,12 +10,14 @@ ghost use Rattle.chart_judge.specs.Judged.{IsJudged, IsJudgeFault, IsJudgeAnswer
 ghost use Rattle.chart_judge.specs.States.{Fed};
 
 use crate::JudgeFault;
+use crate::numbers::TableNumbers;
 use crate::taking::{feed_parts, finish_parts};
 use chart_term::Term;
 use event_log::{LogForm, LogReader};
 use msc_base::{NoMemory, Verdict};
 use std::alloc::Global;
 use std::marker::Model;
+use std::rc::Rc;
 use term_tables::Nets;
 use trace_judge::{Store, Track};
 
@@ -23,8 +25,8 @@ use trace_judge::{Store, Track};
 #[derive(Drop)]
 pub struct Judge<S: Store> {
     alloc: Global,
-    reader: LogReader,
-    nets: Nets,
+    reader: LogReader<TableNumbers>,
+    nets: Rc<Nets>,
     track: Track<S>,
     fault: Option<JudgeFault>,
 }
@@ -38,9 +40,9 @@ impl<S: Store> Model for Judge<S> {
 
     ghost coded = { Prim.hlevel (codes, coded_tree) };
 
-    ghost view = { λ j. record { reader = j.reader; nets = j.nets; track = j.track; fault = j.fault } };
+    ghost view = { λ j. record { reader = j.reader; nets = j.nets.value; track = j.track; fault = j.fault } };
 
-    ghost invariant = { λ j. IsKept S.serves j.reader j.nets j.track j.fault };
+    ghost invariant = { λ j. IsKept S.serves j.reader j.nets.value j.track j.fault };
 }
 
 impl<S: Store + Drop> Judge<S> {
@@ -58,8 +60,12 @@ impl<S: Store + Drop> Judge<S> {
         ensures fed { IfOk result (λ judge. Fed S.holds nets term form budget [] judge) }
         ensures fault { IfOk result (λ judge. judge.fault ≡ None) }
     {
-        let reader = LogReader::new(alloc, form)?;
         let track = Track::new(alloc, &nets, term, budget)?;
+        let nets = Rc::new(alloc, nets)?;
+        let numbers = TableNumbers {
+            nets: nets.clone()?,
+        };
+        let reader = LogReader::new(alloc, form, numbers)?;
         Ok(Judge {
             alloc,
             reader,

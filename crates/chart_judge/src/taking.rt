@@ -8,10 +8,12 @@ ghost use Rattle.chart_judge.specs.Judged.{IsJudgeFault};
 ghost use Rattle.chart_judge.specs.States.{IsBehind, TakesLog};
 ghost use Rattle.chart_judge.specs.Taking.{IsCounted, IsFollowing, TakesSome, TakesAll};
 ghost use Rattle.line_events.specs.declared.event.LineEvent.{LineEvent};
+ghost use Rattle.term_tables.specs.NetValues.{label_number};
 
 use crate::JudgeFault;
 use crate::fault::fault_of;
-use event_log::{LineEvent, LogReader};
+use crate::numbers::TableNumbers;
+use event_log::{LogReader, NumberedEvent};
 use msc_base::NoMemory;
 use term_tables::Nets;
 use trace_judge::{Store, Track};
@@ -20,31 +22,33 @@ use trace_judge::{Store, Track};
 fn take_event<S: Store + Drop>(
     nets: &Nets,
     track: &mut Track<S>,
-    event: LineEvent,
+    event: NumberedEvent,
 ) -> Result<(), NoMemory>
     requires serves { IfHeld (λ set. S.serves set nets.now) track.old }
     requires room { track.old.events < 18446744073709551615 }
+    requires number { event.number ≡ label_number nets.now.labels event.event.label }
     ensures serves { IfHeld (λ set. S.serves set nets.now) track.new }
     ensures count { OnOk result (track.new.events ≡ track.old.events + 1) }
     ensures fed { (x : Tree) (budget : ℕ) (events : List LineEvent) → Fed S.holds nets.now x budget events track.old
-        → OnOk result (Fed S.holds nets.now x budget (events ++ event ∷ []) track.new) }
+        → OnOk result (Fed S.holds nets.now x budget (events ++ event.event ∷ []) track.new) }
     ensures follows { (x : Tree) (budget : ℕ) → IsFollowing S.holds nets.now x budget track.old → IsFollowing S.holds nets.now x budget track.new }
 {
-    let number = nets.label(event.label.label());
-    track.take(nets, number, event.line)
+    track.take(nets, event.number, event.event.line)
 }
 
 /// Takes all events that the reader can hand out.
 pub(crate) fn take_waiting<S: Store + Drop>(
-    reader: &mut LogReader,
+    reader: &mut LogReader<TableNumbers>,
     nets: &Nets,
     track: &mut Track<S>,
 ) -> Result<(), NoMemory>
     requires serves { IfHeld (λ set. S.serves set nets.now) track.old }
     requires counted { IsCounted reader.old track.old.events }
+    requires labels { reader.old.labels ≡ nets.now.labels }
     ensures serves { IfHeld (λ set. S.serves set nets.now) track.new }
     ensures finished { reader.new.finished ≡ reader.old.finished }
     ensures counted { OnOk result (IsCounted reader.new track.new.events) }
+    ensures labels { reader.new.labels ≡ reader.old.labels }
     ensures all { (x : Tree) (form : LogForm) (budget : ℕ) (bytes : List ℕ) → TakesSome S.holds nets.now x form budget (not reader.old.finished) bytes reader.old track.old
         → OnOk result (TakesAll S.holds nets.now x form budget (not reader.old.finished) bytes reader.new track.new) }
     ensures follows { (x : Tree) (budget : ℕ) → IsFollowing S.holds nets.now x budget track.old → IsFollowing S.holds nets.now x budget track.new }
@@ -57,17 +61,19 @@ pub(crate) fn take_waiting<S: Store + Drop>(
 
 /// Feeds the reader, and takes all events that it can hand out then.
 pub(crate) fn feed_parts<S: Store + Drop>(
-    reader: &mut LogReader,
+    reader: &mut LogReader<TableNumbers>,
     nets: &Nets,
     track: &mut Track<S>,
     piece: &[u8],
 ) -> Result<(), JudgeFault>
     requires serves { IfHeld (λ set. S.serves set nets.now) track.old }
     requires counted { IsCounted reader.old track.old.events }
+    requires labels { reader.old.labels ≡ nets.now.labels }
     requires goes_on { reader.old.finished ≡ false }
     ensures serves { IfHeld (λ set. S.serves set nets.now) track.new }
     ensures goes_on { reader.new.finished ≡ false }
     ensures counted { OnOk result (IsCounted reader.new track.new.events) }
+    ensures labels { reader.new.labels ≡ reader.old.labels }
     ensures ok { (x : Tree) (form : LogForm) (budget : ℕ) (bytes : List ℕ) → TakesAll S.holds nets.now x form budget true bytes reader.old track.old
         → OnOk result (TakesAll S.holds nets.now x form budget true (bytes ++ piece.now) reader.new track.new) }
     ensures err { (x : Tree) (form : LogForm) (budget : ℕ) (bytes : List ℕ) → TakesAll S.holds nets.now x form budget true bytes reader.old track.old
@@ -85,12 +91,13 @@ pub(crate) fn feed_parts<S: Store + Drop>(
 
 /// Ends the log, and takes the events that are left.
 pub(crate) fn finish_parts<S: Store + Drop>(
-    reader: &mut LogReader,
+    reader: &mut LogReader<TableNumbers>,
     nets: &Nets,
     track: &mut Track<S>,
 ) -> Result<(), JudgeFault>
     requires serves { IfHeld (λ set. S.serves set nets.now) track.old }
     requires counted { IsCounted reader.old track.old.events }
+    requires labels { reader.old.labels ≡ nets.now.labels }
     requires goes_on { reader.old.finished ≡ false }
     ensures serves { IfHeld (λ set. S.serves set nets.now) track.new }
     ensures ok { (x : Tree) (form : LogForm) (budget : ℕ) (bytes : List ℕ) → TakesAll S.holds nets.now x form budget true bytes reader.old track.old

@@ -6,8 +6,9 @@ use Rattle.event_log.specs.Faults.{IsLogFault}
 use Rattle.event_log.specs.Lines.{cut_of, decided, last_line, lines_of}
 use Rattle.msc_base.specs.Only.{Never, Only}
 use Rattle.event_log.specs.Logs.{Stage, first_stage, HasLineFault, PassesLines, Reaches, limited, LogOf, HoldsEvent}
-use Rattle.event_log.specs.States.{LogState, HandsOut, TakesLine, RefusesLine, IsGoing, IsSettled, IsWanting, HoldsAt, Fed, IsFaultOf, IsAnswer}
+use Rattle.event_log.specs.States.{events_of, LogState, HandsOut, TakesLine, RefusesLine, IsGoing, IsSettled, IsWanting, HoldsAt, Fed, IsFaultOf, IsAnswer}
 use Rattle.line_events.specs.declared.event.LineEvent.{LineEvent}
+use Rattle.event_log.specs.declared.numbering.NumberedEvent.{NumberedEvent}
 use Rattle.event_log.specs.declared.event.LogFault.{LogFault}
 use Rattle.event_log.specs.declared.event.LogFault.TheVariants as fault
 use Rattle.event_log.specs.declared.event.LogForm.{LogForm}
@@ -324,22 +325,22 @@ front_fails form b piece prefix back n s (Err x) e h =
     subst (λ t. HoldsAt (Some x) false form t n s) (append_assoc b prefix back ∙ ap (λ (t : List ℕ). b ++ t) (sym e)) (holds_on form (b ++ prefix) back n x s h)
 
 -- what is held behind the answer, an event or none
-pub next_fed : (o : Option LineEvent) (s t : LogState) → s.waiting ≡ option_to_list o ++ t.waiting → t ≡ with_waiting s t.waiting → (form : LogForm) (b : List ℕ) (n : ℕ) → Fed form b n s
+pub next_fed : (o : Option NumberedEvent) (s t : LogState) → s.waiting ≡ events_of (option_to_list o) ++ t.waiting → t ≡ with_waiting s t.waiting → (form : LogForm) (b : List ℕ) (n : ℕ) → Fed form b n s
     → MatchOption o (Fed form b n t) (λ _. Fed form b (n + 1) t)
 next_fed None s t is same form b n h = let whole : t ≡ s = same ∙ ap (λ (w : List LineEvent). with_waiting s w) (sym is) in subst (λ u. Fed form b n u) (sym whole) h
-next_fed (Some e) s t is same form b n h = fed_next s t e is same form b n h
+next_fed (Some e) s t is same form b n h = fed_next s t e.event is same form b n h
 
-pub next_is : (o : Option LineEvent) (s t : LogState) → s.waiting ≡ option_to_list o ++ t.waiting → (form : LogForm) (b : List ℕ) (n : ℕ) → Fed form b n s
-    → IfSome o (λ e. Only (HoldsEvent form (not s.finished) b n) e)
+pub next_is : (o : Option NumberedEvent) (s t : LogState) → s.waiting ≡ events_of (option_to_list o) ++ t.waiting → (form : LogForm) (b : List ℕ) (n : ℕ) → Fed form b n s
+    → IfSome o (λ e. Only (HoldsEvent form (not s.finished) b n) e.event)
 next_is None s t is form b n h = tt
-next_is (Some e) s t is form b n h = fed_event s t.waiting e is form b n h
+next_is (Some e) s t is form b n h = fed_event s t.waiting e.event is form b n h
 
-empty_front : (w : List LineEvent) → w ≡ drop 1 w → w ≡ []
+empty_front : (w : List NumberedEvent) → w ≡ drop 1 w → w ≡ []
 empty_front [] h = refl
 empty_front (x ∷ w) h = absurd (omega (arith, ap length h))
 
 -- where no event was there, none waits
-pub nothing_waits : (o : Option LineEvent) (w v : List LineEvent) → o ≡ None → w ≡ option_to_list o ++ v → v ≡ drop 1 w → w ≡ []
+pub nothing_waits : (o : Option NumberedEvent) (w v : List NumberedEvent) → o ≡ None → w ≡ option_to_list o ++ v → v ≡ drop 1 w → w ≡ []
 nothing_waits None w v e is rest = empty_front w (is ∙ rest)
 nothing_waits (Some x) w v e is rest = cc
 

@@ -1,6 +1,7 @@
 pub mod Answers
 pub mod Cuts
 pub mod Feeding
+pub mod Numbers
 pub mod Objects
 pub mod Readings
 pub mod Remembering

@@ -2,8 +2,9 @@
 use Rattle.std.proofs.Common.{◌<◌, ◌≤◌, ◌+◌, ◌++◌, List, ℕ, [], ◌∷◌, length, arith}
 use Rattle.std.proofs.lemmas.List.Elements.{All-push}
 use Rattle.std.proofs.lemmas.List.Sums.{sum_by_push}
+use Rattle.msc_base.specs.declared.label.Label.{Label}
 use Rattle.event_log.specs.Meanings.{LineSays}
-use Rattle.event_log.specs.Memories.{SaysBehind, AreKnown, line_bytes}
+use Rattle.event_log.specs.Memories.{SaysBehind, IsKnown, AreKnown, line_bytes}
 use Rattle.event_log.specs.declared.event.LogForm.{LogForm}
 use Rattle.event_log.specs.declared.event.Version.{Version}
 use Rattle.event_log.specs.declared.line.Line.{Line}
@@ -17,10 +18,10 @@ says_behind form version number line (VersionLine stated) lt says k more = absur
 says_behind form version number line (Event label) lt says k more = (says.0, (λ first. absurd (omega (arith, first)), says.1.1))
 says_behind form version number line NoEvent lt says k more = (says.0, (λ first. absurd (omega (arith, first)), says.1.1))
 
--- lines of which each says what it is known to say stay so with one more, which has no more bytes than it has
-pub known_push : (form : LogForm) (version : Version) (lines : List KnownLine) (line : KnownLine) (bytes : ℕ) → AreKnown form version lines → SaysBehind form version line.bytes.items line.says
-    → line_bytes lines ≤ bytes → AreKnown form version (lines ++ line ∷ []) × (line_bytes (lines ++ line ∷ []) ≤ bytes + length line.bytes.items)
-known_push form version lines line bytes known says few = (
-  All-push (λ (l : KnownLine). SaysBehind form version l.bytes.items l.says) lines line known says,
+-- known lines stay so with one more, and have no more bytes than it has
+pub known_push : (labels : List Label) (form : LogForm) (version : Version) (lines : List KnownLine) (line : KnownLine) (bytes : ℕ) → AreKnown labels form version lines → IsKnown labels form version line
+    → line_bytes lines ≤ bytes → AreKnown labels form version (lines ++ line ∷ []) × (line_bytes (lines ++ line ∷ []) ≤ bytes + length line.bytes.items)
+known_push labels form version lines line bytes known is few = (
+  All-push (IsKnown labels form version) lines line known is,
   omega (arith, few, sum_by_push (λ (l : KnownLine). length l.bytes.items) lines line),
 )

@@ -1,10 +1,13 @@
 -- What a reader of a log holds.
-use Rattle.std.specs.Prelude.{◌≡◌, ◌<◌, ◌≤◌, ◌+◌, ℕ, Bool, true, false, not, List, [], ◌∷◌, ◌++◌, length, Option, Some, None, Result, Ok, Err, ◌↔◌, slice_get}
+use Rattle.std.specs.Prelude.{◌≡◌, ◌<◌, ◌≤◌, ◌+◌, ℕ, Bool, true, false, not, List, [], ◌∷◌, ◌++◌, All, length, map, Option, Some, None, Result, Ok, Err, ◌↔◌, slice_get}
 use Rattle.msc_base.specs.declared.limits.TheConstants.Limits.{LINE_BYTES, LOG_BYTES, LOG_EVENTS}
 use Rattle.event_log.specs.Lines.{cut_of, lines_of}
 use Rattle.event_log.specs.Logs.{Stage, first_stage, PassesLines, Reaches, LogOf, HoldsEvent}
 use Rattle.event_log.specs.Meanings.{LineSays}
+use Rattle.label_table.specs.Labels.{label_number}
 use Rattle.line_events.specs.declared.event.LineEvent.{LineEvent}
+use Rattle.event_log.specs.declared.numbering.NumberedEvent.{NumberedEvent}
+use Rattle.msc_base.specs.declared.label.Label.{Label}
 use Rattle.event_log.specs.declared.event.LogFault.{LogFault}
 use Rattle.event_log.specs.declared.event.LogFault.TheVariants as fault
 use Rattle.event_log.specs.declared.event.LogForm.{LogForm}
@@ -12,8 +15,18 @@ use Rattle.event_log.specs.declared.event.Version.{Version}
 use Rattle.event_log.specs.declared.line.Line.{Line}
 use Rattle.event_log.specs.declared.line.Line.TheVariants.{Blank, VersionLine, Event, NoEvent}
 
+-- the events without their numbers
+abbrev pub events_of : List NumberedEvent → List LineEvent
+events_of events = map (λ (e : NumberedEvent). e.event) events
+
+-- each has the number of its label
+abbrev pub AreNumbered : List Label → List NumberedEvent → Type 0
+AreNumbered labels events = All (λ (e : NumberedEvent). e.number ≡ label_number labels e.event.label) events
+
 pub record LogState : Type 0 where
   pub form : LogForm
+  -- the labels that have numbers
+  pub labels : List Label
   -- the log's version, as far as it has been read
   pub version : Version
   -- the number of the line that is being read
@@ -47,6 +60,7 @@ pub record StandsAt (t : Stage) (n : ℕ) (s : LogState) : Type 0 where
 abbrev pub next_line : LogState → Version → ℕ → List LineEvent → LogState
 next_line s version read waiting = record {
   form = s.form;
+  labels = s.labels;
   version = version;
   number = s.number + 1;
   count = s.count;

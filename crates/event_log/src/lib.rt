@@ -7,10 +7,12 @@ mod event;
 mod json_line;
 mod line;
 mod line_memory;
+mod numbering;
 mod object;
 mod reader;
 mod text_line;
 
 pub use event::{LogFault, LogForm, Version};
 pub use line_events::{LineEvent, SharedLabel};
+pub use numbering::{NumberedEvent, Numbering};
 pub use reader::LogReader;

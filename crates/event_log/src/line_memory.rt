@@ -2,48 +2,69 @@
 
 ghost use Rattle.std.specs.Prelude.{◌≡◌, ◌<◌, ◌≤◌, ◌+◌, ◌^◌, IfOk, IfSome, IsTrue, length};
 ghost use Rattle.event_log.specs.Meanings.{LineSays};
-ghost use Rattle.event_log.specs.Memories.{SaysBehind, AreKnown, line_bytes};
+ghost use Rattle.event_log.specs.Memories.{SaysBehind, IsNumberIn, line_bytes};
 ghost use Rattle.event_log.specs.declared.event.Version.TheVariants.{First};
-ghost use Rattle.event_log.specs.declared.line_memory.TheConstants.LineMemory.{LINES, BYTES};
+ghost use Rattle.event_log.specs.declared.line_memory.TheConstants.{MOST_LINES, MOST_BYTES};
 
 use crate::line::{Line, read_line};
-use crate::{LogForm, Version};
+use crate::{LogForm, Numbering, Version};
 use code_slots::CodeSlots;
 use msc_base::NoMemory;
 use std::alloc::Global;
 use std::hash::{FoldHasher, Hasher};
 use std::marker::Model;
 
-/// How lines are read: the form of their log, and its version.
-pub struct LineSort {
-    pub form: LogForm,
-    pub version: Version,
+/// The most lines that are remembered.
+const MOST_LINES: usize = 65_536;
+
+/// The most bytes of the lines that are remembered.
+const MOST_BYTES: usize = 8_388_608;
+
+/// What a line says, with the number of the label of its event.
+#[derive(Drop)]
+pub struct NumberedLine {
+    pub says: Line,
+    /// None where the label has none, and where the line is no event.
+    pub number: Option<u32>,
+}
+
+impl NumberedLine {
+    /// The same once more.
+    fn copy(&self) -> Result<NumberedLine, NoMemory>
+        ensures { IfOk result (λ line. line ≡ self.now) }
+    {
+        Ok(NumberedLine {
+            says: self.says.copy()?,
+            number: self.number,
+        })
+    }
 }
 
 /// A line that is remembered, with what it says.
 #[derive(Drop)]
 pub struct KnownLine {
     bytes: Vec<u8>,
-    says: Line,
+    meaning: NumberedLine,
 }
 
 impl KnownLine {
     /// The line with what it says.
-    fn new(alloc: Global, bytes: &[u8], says: &Line) -> Result<KnownLine, NoMemory>
+    fn new(alloc: Global, bytes: &[u8], meaning: &NumberedLine) -> Result<KnownLine, NoMemory>
         ensures bytes { IfOk result (λ line. line.bytes.items ≡ bytes.now) }
-        ensures says { IfOk result (λ line. line.says ≡ says.now) }
+        ensures meaning { IfOk result (λ line. line.meaning ≡ meaning.now) }
     {
         let bytes = Vec::from_slice(alloc, bytes)?;
-        let says = says.copy()?;
-        Ok(KnownLine { bytes, says })
+        let meaning = meaning.copy()?;
+        Ok(KnownLine { bytes, meaning })
     }
 }
 
-/// Lines of a log of one form and version, with what each says wherever it stands behind the first.
+/// Lines of a log of one form and version, with what each says wherever it stands behind the first, and the number of its label.
 ///
-/// A contract sees the form and the version alone, since a line says the same whether it is known or not.
+/// A contract sees the form, the version and the labels that have numbers, since a line says the same whether it is known or not.
 #[derive(Drop)]
-pub struct LineMemory {
+pub struct LineMemory<N: Numbering> {
+    numbering: N,
     form: LogForm,
     version: Version,
     /// In the order in which they came.
@@ -56,17 +77,16 @@ pub struct LineMemory {
     unknown: usize,
 }
 
-impl Model for LineMemory {
+impl<N: Numbering> Model for LineMemory<N> {
     ghost use Rattle.std.specs.Prelude.{◌≤◌, length};
-    ghost use Rattle.event_log.specs.Memories.{AreKnown, line_bytes};
-    ghost use Rattle.event_log.specs.declared.line_memory.LineSort.{LineSort};
-    ghost use Rattle.event_log.specs.declared.line_memory.TheConstants.LineMemory.{LINES, BYTES};
+    ghost use Rattle.event_log.specs.Memories.{LineSort, AreKnown, line_bytes};
+    ghost use Rattle.event_log.specs.declared.line_memory.TheConstants.{MOST_LINES, MOST_BYTES};
 
     ghost Value = { LineSort };
 
-    ghost view = { λ m. record { form = m.form; version = m.version } };
+    ghost view = { λ m. record { form = m.form; version = m.version; labels = N.labels m.numbering } };
 
-    ghost invariant = { λ m. AreKnown m.form m.version m.known.items × (length m.known.items ≤ LINES) × (line_bytes m.known.items ≤ m.bytes) × (m.bytes ≤ BYTES) };
+    ghost invariant = { λ m. AreKnown (N.labels m.numbering) m.form m.version m.known.items × (length m.known.items ≤ MOST_LINES) × (line_bytes m.known.items ≤ m.bytes) × (m.bytes ≤ MOST_BYTES) };
 }
 
 /// The code of a line: equal lines have the same, and others mostly different ones.
@@ -78,23 +98,19 @@ fn code_of(bytes: &[u8]) -> u32 {
 
 /// Whether there is room for one line more, of this length.
 fn has_room(lines: usize, bytes: usize, length: usize) -> bool
-    requires { bytes ≤ BYTES }
-    ensures { IsTrue result → (lines < LINES) × (bytes + length ≤ BYTES) }
+    requires { bytes ≤ MOST_BYTES }
+    ensures { IsTrue result → (lines < MOST_LINES) × (bytes + length ≤ MOST_BYTES) }
 {
-    lines < LineMemory::LINES && length <= LineMemory::BYTES - bytes
+    lines < MOST_LINES && length <= MOST_BYTES - bytes
 }
 
-impl LineMemory {
-    /// The most lines that are remembered.
-    const LINES: usize = 65_536;
-    /// The most bytes of the lines that are remembered.
-    const BYTES: usize = 8_388_608;
-
+impl<N: Numbering + Drop> LineMemory<N> {
     /// For a log of this form that has stated no version yet. It takes no memory.
-    pub fn new(alloc: Global, form: LogForm) -> LineMemory
-        ensures { result ≡ record { form = form; version = First } }
+    pub fn new(alloc: Global, form: LogForm, numbering: N) -> LineMemory<N>
+        ensures { result ≡ record { form = form; version = First; labels = N.labels numbering } }
     {
         LineMemory {
+            numbering,
             form,
             version: Version::First,
             known: Vec::new(alloc),
@@ -120,25 +136,54 @@ impl LineMemory {
     fn looks_up(&self, number: u64) -> bool
         ensures { IsTrue result → 1 < number }
     {
-        number > 1 && self.unknown < LineMemory::LINES
+        number > 1 && self.unknown < MOST_LINES
     }
 
     /// What the line with this code says behind the first, if it is known.
-    fn find(&self, code: u32, bytes: &[u8]) -> Option<&Line>
-        ensures { IfSome result (λ line. SaysBehind self.now.form self.now.version bytes.now line.now) }
+    fn find(&self, code: u32, bytes: &[u8]) -> Option<&NumberedLine>
+        ensures says { IfSome result (λ line. SaysBehind self.now.form self.now.version bytes.now line.now.says) }
+        ensures number { IfSome result (λ line. IsNumberIn self.now.labels line.now.says line.now.number) }
     {
         let index = self.slots.guess(code)?;
         let line = self.known.get(index as usize)?;
         if line.bytes.as_slice() == bytes {
-            Some(&line.says)
+            Some(&line.meaning)
         } else {
             None
         }
     }
 
+    /// The number of the label of a line's event.
+    fn number_of(&self, says: &Line) -> Option<u32>
+        ensures { IsNumberIn self.now.labels says.now result }
+    {
+        match says {
+            Line::Event(label) => self.numbering.number_of(label.label()),
+            Line::Blank | Line::VersionLine(_) | Line::NoEvent => None,
+        }
+    }
+
+    /// What the line of this number says, which isn't known.
+    fn read_anew(&self, alloc: Global, number: u64, bytes: &[u8]) -> Result<NumberedLine, NoMemory>
+        requires { length bytes.now < 2 ^ 63 }
+        ensures says { IfOk result (λ line. LineSays self.now.form self.now.version number bytes.now line.says) }
+        ensures number { IfOk result (λ line. IsNumberIn self.now.labels line.says line.number) }
+    {
+        let says = read_line(alloc, self.form, self.version, number, bytes)?;
+        let number = self.number_of(&says);
+        Ok(NumberedLine { says, number })
+    }
+
     /// Remembers what the line with this code says, if there is room, a slot and memory.
-    fn remember(&mut self, alloc: Global, code: u32, bytes: &[u8], line: &Line) -> Option<()>
-        requires { SaysBehind self.old.form self.old.version bytes.now line.now }
+    fn remember(
+        &mut self,
+        alloc: Global,
+        code: u32,
+        bytes: &[u8],
+        line: &NumberedLine,
+    ) -> Option<()>
+        requires says { SaysBehind self.old.form self.old.version bytes.now line.now.says }
+        requires number { IsNumberIn self.old.labels line.now.says line.now.number }
         ensures { self.new ≡ self.old }
     {
         if !has_room(self.known.len(), self.bytes, bytes.len()) {
@@ -156,13 +201,19 @@ impl LineMemory {
     }
 
     /// What the line of this number says.
-    pub fn read(&mut self, alloc: Global, number: u64, bytes: &[u8]) -> Result<Line, NoMemory>
+    pub fn read(
+        &mut self,
+        alloc: Global,
+        number: u64,
+        bytes: &[u8],
+    ) -> Result<NumberedLine, NoMemory>
         requires { length bytes.now < 2 ^ 63 }
-        ensures says { IfOk result (λ line. LineSays self.old.form self.old.version number bytes.now line) }
+        ensures says { IfOk result (λ line. LineSays self.old.form self.old.version number bytes.now line.says) }
+        ensures number { IfOk result (λ line. IsNumberIn self.old.labels line.says line.number) }
         ensures same { self.new ≡ self.old }
     {
         if !self.looks_up(number) {
-            return read_line(alloc, self.form, self.version, number, bytes);
+            return self.read_anew(alloc, number, bytes);
         }
         let code = code_of(bytes);
         if let Some(line) = self.find(code, bytes) {
@@ -170,7 +221,7 @@ impl LineMemory {
             self.unknown = 0;
             return Ok(known);
         }
-        let line = read_line(alloc, self.form, self.version, number, bytes)?;
+        let line = self.read_anew(alloc, number, bytes)?;
         if self.remember(alloc, code, bytes, &line).is_none() {
             self.unknown = self.unknown.saturating_add(1);
         }

@@ -4,28 +4,31 @@ ghost use Rattle.std.specs.Prelude.{◌≡◌, ◌<◌, ◌≤◌, ◌+◌, ◌+
 ghost use Rattle.event_log.specs.Faults.{IsLogFault};
 ghost use Rattle.event_log.specs.Logs.{HoldsEvent};
 ghost use Rattle.msc_base.specs.Only.{Never, Only};
-ghost use Rattle.event_log.specs.States.{LogState, IsGoing, HoldsAt, Fed, IsAnswer, fault_in, Takes, Refuses, TakesLine, RefusesLine, Grows, IsTooLong, counted, whole, next_line};
+ghost use Rattle.event_log.specs.Memories.{IsNumberIn};
+ghost use Rattle.event_log.specs.States.{LogState, events_of, AreNumbered, IsGoing, HoldsAt, Fed, IsAnswer, fault_in, Takes, Refuses, TakesLine, RefusesLine, Grows, IsTooLong, counted, whole, next_line};
 ghost use Rattle.line_events.specs.declared.event.LineEvent.{LineEvent};
 ghost use Rattle.event_log.specs.declared.event.LogFault.{LogFault};
 ghost use Rattle.event_log.specs.declared.event.LogForm.{LogForm};
 ghost use Rattle.event_log.specs.declared.line.Line.{Line};
+ghost use Rattle.label_table.specs.Labels.{label_number};
+ghost use Rattle.msc_base.specs.declared.label.Label.{Label};
 ghost use Rattle.msc_base.specs.declared.limits.TheConstants.Limits.{LINE_BYTES, LOG_BYTES, LOG_EVENTS};
 
 use crate::line::Line;
-use crate::line_memory::LineMemory;
-use crate::{LineEvent, LogFault, LogForm, SharedLabel, Version};
+use crate::line_memory::{LineMemory, NumberedLine};
+use crate::{LineEvent, LogFault, LogForm, NumberedEvent, Numbering, SharedLabel, Version};
 use memchr::memchr;
 use msc_base::{Limits, NoMemory};
 use std::alloc::Global;
 use std::collections::VecDeque;
 use std::marker::Model;
 
-/// Reads a log that it is fed in pieces.
+/// Reads a log that it is fed in pieces, and numbers its events' labels: the label of a line that is known is looked up no more.
 #[derive(Drop)]
-pub struct LogReader {
+pub struct LogReader<N: Numbering> {
     alloc: Global,
     /// What lines say, in a log of this form and version.
-    memory: LineMemory,
+    memory: LineMemory<N>,
     /// The number of the line that is being read.
     number: u64,
     /// How many bytes have been taken.
@@ -35,14 +38,14 @@ pub struct LogReader {
     /// The bytes of the line so far.
     line: Vec<u8>,
     /// The events that haven't been handed out.
-    waiting: VecDeque<LineEvent>,
+    waiting: VecDeque<NumberedEvent>,
     fault: Option<LogFault>,
     finished: bool,
 }
 
-impl Model for LogReader {
+impl<N: Numbering> Model for LogReader<N> {
     ghost use Rattle.std.specs.Prelude.{◌≤◌, ◌+◌, length};
-    ghost use Rattle.event_log.specs.States.{LogState};
+    ghost use Rattle.event_log.specs.States.{LogState, events_of, AreNumbered};
     ghost use Rattle.msc_base.specs.declared.limits.TheConstants.Limits.{LINE_BYTES, LOG_BYTES};
 
     ghost Value = { LogState };
@@ -50,22 +53,25 @@ impl Model for LogReader {
     ghost view = { λ r. record {
       form = r.memory.form;
       version = r.memory.version;
+      labels = r.memory.labels;
       number = r.number;
       count = r.count;
       read = r.read;
       line = r.line.items;
-      waiting = r.waiting.items;
+      waiting = events_of r.waiting.items;
       fault = r.fault;
       finished = r.finished;
     } };
 
-    ghost invariant = { λ r. (r.count ≤ LOG_BYTES) × (length r.line.items ≤ LINE_BYTES) × (r.number + length r.line.items ≤ r.count + 1) };
+    ghost invariant = { λ r. (r.count ≤ LOG_BYTES) × (length r.line.items ≤ LINE_BYTES) × (r.number + length r.line.items ≤ r.count + 1) × AreNumbered r.memory.labels r.waiting.items };
 }
 
 /// Appends the event. After want of memory the events are as they were.
-fn push(waiting: &mut VecDeque<LineEvent>, event: LineEvent) -> Result<(), NoMemory>
-    ensures ok { OnOk result (waiting.new.items ≡ waiting.old.items ++ event ∷ []) }
-    ensures err { OnErr result (waiting.new.items ≡ waiting.old.items) }
+fn push(waiting: &mut VecDeque<NumberedEvent>, event: NumberedEvent) -> Result<(), NoMemory>
+    ensures ok { OnOk result (events_of waiting.new.items ≡ events_of waiting.old.items ++ event.event ∷ []) }
+    ensures err { OnErr result (events_of waiting.new.items ≡ events_of waiting.old.items) }
+    ensures numbers { (labels : List Label) → AreNumbered labels waiting.old.items → event.number ≡ label_number labels event.event.label
+        → AreNumbered labels waiting.new.items }
 {
     waiting.push_back(event)?;
     Ok(())
@@ -88,9 +94,10 @@ fn add_bytes(line: &mut Vec<u8>, prefix: &[u8]) -> Result<(), NoMemory>
     Ok(())
 }
 
-impl LogReader {
-    /// A reader of a log of this form, to which nothing has been fed.
-    pub fn new(alloc: Global, form: LogForm) -> Result<LogReader, NoMemory>
+impl<N: Numbering + Drop> LogReader<N> {
+    /// A reader of a log of this form, to which nothing has been fed, with numbers for its events' labels.
+    pub fn new(alloc: Global, form: LogForm, numbering: N) -> Result<LogReader<N>, NoMemory>
+        ensures labels { IfOk result (λ reader. reader.labels ≡ N.labels numbering) }
         ensures fed { IfOk result (λ reader. Fed form [] 0 reader) }
         ensures open { IfOk result (λ reader. reader.finished ≡ false) }
         ensures fault { IfOk result (λ reader. reader.fault ≡ None) }
@@ -98,7 +105,7 @@ impl LogReader {
         let line = Vec::with_capacity(alloc, Limits::LINE_BYTES as usize)?;
         Ok(LogReader {
             alloc,
-            memory: LineMemory::new(alloc, form),
+            memory: LineMemory::new(alloc, form, numbering),
             number: 1,
             count: 0,
             read: 0,
@@ -119,8 +126,9 @@ impl LogReader {
     }
 
     /// Keeps the event and goes on to the next line. After a fault all is as it was.
-    fn keep(&mut self, label: SharedLabel) -> Result<(), LogFault>
-        requires { self.old.number ≤ self.old.count }
+    fn keep(&mut self, label: SharedLabel, number: Option<u32>) -> Result<(), LogFault>
+        requires behind { self.old.number ≤ self.old.count }
+        requires number { number ≡ label_number self.old.labels label }
         ensures ok { OnOk result (Takes self.old (Line.Event label) self.new) }
         ensures err { OnErr result (self.new ≡ self.old) }
         ensures fault { IfErr result (λ fault. IsLogFault fault → Refuses self.old (Line.Event label) fault) }
@@ -132,7 +140,7 @@ impl LogReader {
             label,
             line: self.number,
         };
-        push(&mut self.waiting, event)?;
+        push(&mut self.waiting, NumberedEvent { event, number })?;
         self.read += 1;
         self.line.clear();
         self.number += 1;
@@ -140,13 +148,15 @@ impl LogReader {
     }
 
     /// Takes a line that says this. After a fault all is as it was.
-    fn take_line(&mut self, line: Line) -> Result<(), LogFault>
-        requires { self.old.number ≤ self.old.count }
-        ensures ok { OnOk result (Takes self.old line self.new) }
+    fn take_line(&mut self, line: NumberedLine) -> Result<(), LogFault>
+        requires behind { self.old.number ≤ self.old.count }
+        requires number { IsNumberIn self.old.labels line.says line.number }
+        ensures ok { OnOk result (Takes self.old line.says self.new) }
         ensures err { OnErr result (self.new ≡ self.old) }
-        ensures fault { IfErr result (λ fault. IsLogFault fault → Refuses self.old line fault) }
+        ensures fault { IfErr result (λ fault. IsLogFault fault → Refuses self.old line.says fault) }
     {
-        match line {
+        let NumberedLine { says, number } = line;
+        match says {
             Line::Blank => {
                 self.pass_line();
                 Ok(())
@@ -157,7 +167,7 @@ impl LogReader {
                 Ok(())
             }
             Line::VersionLine(None) => Err(LogFault::Version(self.number)),
-            Line::Event(label) => self.keep(label),
+            Line::Event(label) => self.keep(label, number),
             Line::NoEvent => Err(LogFault::Syntax(self.number)),
         }
     }
@@ -228,6 +238,7 @@ impl LogReader {
         ensures count { OnOk result (self.new.count ≡ self.old.count + length line.now + 1) }
         ensures fault { self.new.fault ≡ self.old.fault }
         ensures finished { self.new.finished ≡ self.old.finished }
+        ensures labels { self.new.labels ≡ self.old.labels }
     {
         if line.len() > Limits::LINE_BYTES as usize {
             return Err(LogFault::LongLine(self.number));
@@ -246,6 +257,7 @@ impl LogReader {
         ensures count { OnOk result (self.new.count ≡ self.old.count + length prefix.now + 1) }
         ensures fault { self.new.fault ≡ self.old.fault }
         ensures finished { self.new.finished ≡ self.old.finished }
+        ensures labels { self.new.labels ≡ self.old.labels }
     {
         if self.line.is_empty() {
             return self.take_whole(prefix);
@@ -264,6 +276,7 @@ impl LogReader {
         ensures count { OnOk result (self.new.count ≡ self.old.count + length piece.now) }
         ensures fault { self.new.fault ≡ self.old.fault }
         ensures finished { self.new.finished ≡ self.old.finished }
+        ensures labels { self.new.labels ≡ self.old.labels }
     {
         let mut rest = piece;
         while let Some(end) = line_feed(rest) {
@@ -283,6 +296,7 @@ impl LogReader {
             → IfErr result (λ fault. HoldsAt (Some fault) false form (b ++ piece.now) n self.new) }
         ensures fault { self.new.fault ≡ self.old.fault }
         ensures finished { self.new.finished ≡ self.old.finished }
+        ensures labels { self.new.labels ≡ self.old.labels }
     {
         let room = (Limits::LOG_BYTES - self.count) as usize;
         if piece.len() <= room {
@@ -299,6 +313,7 @@ impl LogReader {
         requires { self.old.finished ≡ false }
         ensures fed { (form : LogForm) (b : List ℕ) (n : ℕ) → Fed form b n self.old → Fed form (b ++ piece.now) n self.new }
         ensures open { self.new.finished ≡ false }
+        ensures labels { self.new.labels ≡ self.old.labels }
         ensures fault { fault_in result ≡ self.new.fault }
         ensures again { IfSome self.old.fault (λ fault. (result ≡ Err fault) × (self.new ≡ self.old)) }
         ensures decided { (form : LogForm) (b : List ℕ) (n : ℕ) → Fed form b n self.old
@@ -332,6 +347,7 @@ impl LogReader {
             → OnOk result (HoldsAt None true form b n self.new) }
         ensures err { (form : LogForm) (b : List ℕ) (n : ℕ) → IsGoing form b n self.old
             → IfErr result (λ fault. HoldsAt (Some fault) true form b n self.new) }
+        ensures labels { self.new.labels ≡ self.old.labels }
     {
         if self.line.is_empty() {
             return Ok(());
@@ -344,6 +360,7 @@ impl LogReader {
         requires { self.old.finished ≡ false }
         ensures holds { (form : LogForm) (b : List ℕ) (n : ℕ) → Fed form b n self.old → HoldsAt result true form b n self.new }
         ensures again { IfSome self.old.fault (λ fault. result ≡ Some fault) }
+        ensures labels { self.new.labels ≡ self.old.labels }
     {
         if let Some(fault) = self.fault {
             return Some(fault);
@@ -359,6 +376,7 @@ impl LogReader {
         requires { self.old.finished ≡ false }
         ensures fed { (form : LogForm) (b : List ℕ) (n : ℕ) → Fed form b n self.old → Fed form b n self.new }
         ensures finished { self.new.finished ≡ true }
+        ensures labels { self.new.labels ≡ self.old.labels }
         ensures again { IfSome self.old.fault (λ fault. self.new.fault ≡ Some fault) }
     {
         let fault = self.whole_fault();
@@ -380,6 +398,7 @@ impl LogReader {
     pub fn finish(&mut self) -> Result<(), LogFault>
         ensures fed { (form : LogForm) (b : List ℕ) (n : ℕ) → Fed form b n self.old → Fed form b n self.new }
         ensures finished { self.new.finished ≡ true }
+        ensures labels { self.new.labels ≡ self.old.labels }
         ensures fault { fault_in result ≡ self.new.fault }
         ensures again { IfSome self.old.fault (λ fault. self.new.fault ≡ Some fault) }
         ensures unchanged { self.old.finished ≡ true → self.new ≡ self.old }
@@ -394,19 +413,21 @@ impl LogReader {
         self.answer()
     }
 
-    /// Hands out the next event. There is none exactly where the bytes so far hold no further whole event before the first fault; after
-    /// want of memory there may be fewer.
-    pub fn next_event(&mut self) -> Option<LineEvent>
+    /// Hands out the next event, with the number of its label. There is none exactly where the bytes so far hold no further whole event
+    /// before the first fault; after want of memory there may be fewer.
+    pub fn next_event(&mut self) -> Option<NumberedEvent>
         ensures fed { (form : LogForm) (b : List ℕ) (n : ℕ) → Fed form b n self.old
             → MatchOption result (Fed form b n self.new) (λ _. Fed form b (n + 1) self.new) }
         ensures event { (form : LogForm) (b : List ℕ) (n : ℕ) → Fed form b n self.old
-            → IfSome result (λ event. Only (HoldsEvent form (not self.old.finished) b n) event) }
+            → IfSome result (λ next. Only (HoldsEvent form (not self.old.finished) b n) next.event) }
+        ensures number { IfSome result (λ next. next.number ≡ label_number self.old.labels next.event.label) }
         ensures none { (form : LogForm) (b : List ℕ) (n : ℕ) → Fed form b n self.old → result ≡ None
             → self.old.fault ≢ Some LogFault.NoMemory → Never (HoldsEvent form (not self.old.finished) b n) }
         ensures fault { self.new.fault ≡ self.old.fault }
         ensures finished { self.new.finished ≡ self.old.finished }
+        ensures labels { self.new.labels ≡ self.old.labels }
         ensures last { result ≡ None → self.new ≡ self.old }
-        ensures waiting { self.old.waiting ≡ option_to_list result ++ self.new.waiting }
+        ensures waiting { self.old.waiting ≡ events_of (option_to_list result) ++ self.new.waiting }
     {
         self.waiting.pop_front()
     }

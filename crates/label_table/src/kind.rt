@@ -1,4 +1,4 @@
-//! Kinds as numbers, for `key` and `shortcut`.
+//! Kinds as numbers, for `code` and `key`.
 
 ghost use Rattle.std.specs.Prelude.{◌≡◌};
 ghost use Rattle.label_table.specs.Keys.{rank};

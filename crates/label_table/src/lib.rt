@@ -1,10 +1,10 @@
 //! Tables of labels: each label once, with the number under which terms name it.
 #![tactic(auto)]
 
+mod code;
 mod key;
 mod kind;
 pub mod laws;
-mod shortcut;
 mod table;
 mod texts;
 

@@ -3,9 +3,10 @@
 ghost use Rattle.std.specs.Prelude.{◌≡◌, ◌<◌, ◌↔◌, ◌++◌, ◌∷◌, [], Contains, length, slice_get, Some, IfSome, IfNone, IfOk, OnOk, OnErr, IsTrue};
 ghost use Rattle.label_table.specs.Labels.{label_number};
 
+use crate::code::code_of;
 use crate::key::{LabelKey, key_of, number_label};
-use crate::shortcut::{Shortcut, code_of};
 use crate::texts::TextNumbers;
+use code_slots::CodeSlots;
 use msc_base::{Label, NoMemory};
 use std::alloc::Global;
 use std::collections::BTreeMap;
@@ -17,7 +18,7 @@ pub struct LabelTable {
     alloc: Global,
     labels: Vec<Label>,
     /// Numbers of labels by their codes: right for most labels, but not for all.
-    shortcut: Shortcut,
+    shortcut: CodeSlots,
     /// The names and texts of the labels.
     texts: TextNumbers,
     /// The labels' numbers by their keys. After want of memory a key may have the number of another label.
@@ -44,7 +45,7 @@ impl LabelTable {
         LabelTable {
             alloc,
             labels: Vec::new(alloc),
-            shortcut: Shortcut::new(alloc),
+            shortcut: CodeSlots::new(alloc),
             texts: BTreeMap::new(alloc),
             keys: BTreeMap::new(alloc),
         }
@@ -110,7 +111,7 @@ impl LabelTable {
         ensures err { OnErr result (self.new ≡ self.old) }
     {
         let number = self.len();
-        self.shortcut.make_room(self.alloc, number)?;
+        self.shortcut.make_room(self.alloc, number as usize)?;
         let key = number_label(self.alloc, &mut self.texts, &label)?;
         self.keys.insert(key, number)?;
         let code = code_of(&label);

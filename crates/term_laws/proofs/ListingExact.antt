@@ -3,6 +3,7 @@ use Rattle.std.specs.Prelude.{ℕ, zero, suc, ◌≤◌, Bool, true, false, List
 use Rattle.std.proofs.Common.{ap, sym, arith, inl, inr}
 use Rattle.msc_base.specs.Patterns.{Mode, seq, par}
 use Rattle.hmsc_graph.specs.Graphs.{Spot, At, Goal, To, End, Any}
+use Rattle.hmsc_graph.specs.Walks.{Leads}
 use Rattle.msc_base.specs.Lists.{IsIn, IsAmong}
 use Rattle.hmsc_graph.proofs.Reaching.{reach_sound, reach_whole}
 use Rattle.chart_term.specs.NormalForms.{NetPermits, only, join_all, tie_of, loop_of, walk_of, allowed}
@@ -11,7 +12,7 @@ use Rattle.chart_term.specs.Terms.{TermEvent, ◌∪◌, Tree, Nil, Event, Join,
 use Rattle.term_laws.specs.Listing.{Taken, TakenParts, TakenRow, stay, tied, all_tied, joined, first_taken, behind_one, behind_part, turn_taken, gap_taken, gap_begun, behind_gap, behind_turned, behind_turn, may_begin, turned, all_turned, may_lead, walked, all_walked, node_walked, nodes_walked, listed, listed_parts, listed_all, listed_row, after_list, ListIsExact}
 use Rattle.chart_term.specs.Spreads.{touch}
 use Rattle.term_laws.specs.Permission.{permit, permits_of}
-use Rattle.term_laws.specs.Taking.{Stays, fewer, down, HasMore, Leads, IsAfter, after_event, after_choice, after_join, after_tied, after_loop, after_walk, IsAfterOne, first_one, later_one, IsAfterJoin, first_part, later_part, IsAfterRow, in_turn, in_gap, past_turn, past_gap}
+use Rattle.term_laws.specs.Taking.{Stays, fewer, down, HasMore, IsAfter, after_event, after_choice, after_join, after_tied, after_loop, after_walk, IsAfterOne, first_one, later_one, IsAfterJoin, first_part, later_part, IsAfterRow, in_turn, in_gap, past_turn, past_gap}
 use Rattle.term_laws.proofs.Ranking.{rank, ranks, row_rank, permit_rank}
 use Rattle.term_laws.proofs.TermSentences.{net_rank, kept_rank}
 use Rattle.term_laws.proofs.TidyTables.{nets_good}

@@ -4,6 +4,7 @@ use Rattle.std.proofs.Common.{ap, arith, inl, inr}
 use Rattle.std.proofs.lemmas.Bool.Decides.{nat_tests}
 use Rattle.msc_base.specs.Patterns.{Mode, seq, par, empty, join, bind}
 use Rattle.hmsc_graph.specs.Graphs.{Spot, At, Goal, To, End, Any}
+use Rattle.hmsc_graph.specs.Walks.{Leads}
 use Rattle.msc_base.specs.Lists.{IsIn}
 use Rattle.chart_term.specs.NormalForms.{NetPermits, only, join_all, loop_of, walk_of, allowed, tie_of}
 use Rattle.chart_term.specs.TermMeanings.{NetTerms, UpTo, HasPattern, has_nil, has_event, has_join, has_choice, holds_tie, holds_loop, holds_walk, HasParts, no_part, one_part, HasChoice, this_one, that_one, HasRow, gaps_end, gaps_turn, gaps_shut, gaps_more, walk_stop, walk_last, walk_step, PatternsOf, Leaves, terms_of}
@@ -16,7 +17,7 @@ use Rattle.chart_term.proofs.Sameness.{avoids, follows, avoids_left}
 use Rattle.chart_term.proofs.Walking.{IsExactNet, Walks, trail_from, walk_from}
 use Rattle.chart_term.specs.Spreads.{touch}
 use Rattle.term_laws.specs.Permission.{permit}
-use Rattle.term_laws.specs.Taking.{Stays, fewer, down, HasMore, Leads, IsAfter, after_event, after_choice, after_join, after_tied, after_loop, after_walk, IsAfterOne, first_one, later_one, IsAfterJoin, first_part, later_part, IsAfterRow, in_turn, in_gap, past_turn, past_gap}
+use Rattle.term_laws.specs.Taking.{Stays, fewer, down, HasMore, IsAfter, after_event, after_choice, after_join, after_tied, after_loop, after_walk, IsAfterOne, first_one, later_one, IsAfterJoin, first_part, later_part, IsAfterRow, in_turn, in_gap, past_turn, past_gap}
 use Rattle.term_laws.proofs.Permitting.{permit_law, only_fits, inside}
 use Rattle.term_laws.proofs.Ranking.{rank, ranks, row_rank}
 use Rattle.term_laws.proofs.TakingSound.{IsClosed, IsTurnOf, IsLower}

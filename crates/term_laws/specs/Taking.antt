@@ -1,7 +1,8 @@
 -- What is left of a term after an event (its residual), and whether a term may end.
 use Rattle.std.specs.Prelude.{ℕ, zero, suc, ◌-◌, Bool, true, false, List, [], ◌∷◌, ◌≡◌, Option, Some, None}
 use Rattle.msc_base.specs.Patterns.{Mode, seq, par}
-use Rattle.hmsc_graph.specs.Graphs.{Spot, At, Goal, To, End, Any, Net, WalkThrough, behind, arrives}
+use Rattle.hmsc_graph.specs.Graphs.{Spot, At, Goal, To, behind, arrives}
+use Rattle.hmsc_graph.specs.Walks.{Leads}
 use Rattle.msc_base.specs.Lists.{IsIn}
 use Rattle.chart_term.specs.NormalForms.{NetPermits, only, join_all, loop_of, walk_of, allowed, tie_of}
 use Rattle.chart_term.specs.TermMeanings.{NetTerms, aim}
@@ -32,12 +33,6 @@ HasMore true (Some zero) = ⊥
 HasMore true (Some (suc n)) = Unit {0}
 HasMore true None = Unit {0}
 HasMore false hi = Unit {0}
-
--- a walk leads there; any node is always reached
-abbrev pub Leads : Net → List ℕ → Spot → Goal → Type 0
-Leads g ks f Any = Unit {0}
-Leads g ks f End = WalkThrough g ks f End
-Leads g ks f (To m) = WalkThrough g ks f (To m)
 
 -- the event, and what is left
 mutual

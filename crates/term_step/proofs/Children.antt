@@ -4,6 +4,7 @@ use Rattle.std.specs.Prelude.{ℕ, zero, suc, Bool, true, false, List, [], ◌�
 use Rattle.std.proofs.Common.{ap, sym, ◌∙◌, subst, inl, inr}
 use Rattle.msc_base.specs.Patterns.{Mode, seq, par}
 use Rattle.hmsc_graph.specs.Graphs.{Spot, At, Goal, To, End, Any}
+use Rattle.hmsc_graph.specs.Walks.{Leads}
 use Rattle.hmsc_graph.proofs.Reaching.{reach_sound, reach_whole}
 use Rattle.chart_term.specs.NormalForms.{NetPermits, only, join_all, and_then, tie_of, loop_of, walk_of, allowed}
 use Rattle.chart_term.specs.TermPatterns.{instances_of, earlier}
@@ -12,7 +13,7 @@ use Rattle.term_step.specs.Children.{parts_left, RowLeft, turn_first, gap_first,
 use Rattle.term_laws.specs.Listing.{stay, may_begin, may_lead}
 use Rattle.chart_term.specs.Spreads.{touch}
 use Rattle.term_laws.specs.Permission.{permit}
-use Rattle.term_laws.specs.Taking.{Stays, fewer, down, HasMore, Leads, IsAfter, after_event, after_choice, after_join, after_tied, after_loop, after_walk, IsAfterOne, first_one, later_one, IsAfterJoin, first_part, later_part, IsAfterRow, in_turn, in_gap, past_turn, past_gap}
+use Rattle.term_laws.specs.Taking.{Stays, fewer, down, HasMore, IsAfter, after_event, after_choice, after_join, after_tied, after_loop, after_walk, IsAfterOne, first_one, later_one, IsAfterJoin, first_part, later_part, IsAfterRow, in_turn, in_gap, past_turn, past_gap}
 
 and_some : (o : Option Tree) (p : Option (List Tree)) (ys : List Tree) → and_then o p ≡ Some ys → (x : Tree) × (zs : List Tree) × (o ≡ Some x) × (p ≡ Some zs) × (x ∷ zs ≡ ys)
 and_some None p ys h = cc

@@ -1,5 +1,6 @@
 //! Logs of both forms in pieces, and what they say.
 use event_log::{LineEvent, LogFault, LogForm, LogReader};
+use label_table::LabelTable;
 use msc_base::{Far, Kind};
 use std::alloc::Global;
 use std::test::Fail;
@@ -105,12 +106,16 @@ fn add_event(alloc: Global, event: &LineEvent, said: &mut Vec<u8>) -> Result<(),
 }
 
 /// Adds the events that wait.
-fn add_events(alloc: Global, reader: &mut LogReader, said: &mut Vec<u8>) -> Result<(), Fail> {
+fn add_events(
+    alloc: Global,
+    reader: &mut LogReader<LabelTable>,
+    said: &mut Vec<u8>,
+) -> Result<(), Fail> {
     for _ in 0..100 {
-        let Some(event) = reader.next_event() else {
+        let Some(next) = reader.next_event() else {
             return Ok(());
         };
-        add_event(alloc, &event, said)?;
+        add_event(alloc, &next.event, said)?;
     }
     Ok(())
 }
@@ -118,7 +123,7 @@ fn add_events(alloc: Global, reader: &mut LogReader, said: &mut Vec<u8>) -> Resu
 /// Feeds the log byte by byte, or whole, ends it, and adds its events.
 fn feed_log(
     alloc: Global,
-    reader: &mut LogReader,
+    reader: &mut LogReader<LabelTable>,
     log: &str,
     whole: bool,
     said: &mut Vec<u8>,
@@ -143,7 +148,7 @@ fn feed_log(
 
 /// What the log says: its events, and `ok` or its fault.
 fn said_by(alloc: Global, form: LogForm, log: &str, whole: bool) -> Result<Vec<u8>, Fail> {
-    let mut reader = LogReader::new(alloc, form)?;
+    let mut reader = LogReader::new(alloc, form, LabelTable::new(alloc))?;
     let mut said = Vec::new(alloc);
     let end = feed_log(alloc, &mut reader, log, whole, &mut said)?;
     let words = match end {
@@ -193,13 +198,13 @@ fn long_lines(rt: HostRuntime) -> Result<(), Fail> {
     for form in [LogForm::Lines, LogForm::Json] {
         for cut in [0usize, 1, 4095, 4096] {
             let (front, back) = line.as_slice().split_at(cut.min(line.len()));
-            let mut reader = LogReader::new(alloc, form)?;
+            let mut reader = LogReader::new(alloc, form, LabelTable::new(alloc))?;
             assert!(rt; reader.feed(b"\n").is_ok());
             assert!(rt; reader.feed(front).is_ok());
             assert!(rt; reader.feed(back).is_ok(), "at {cut}");
             assert_eq!(rt; reader.feed(b" "), Err(LogFault::LongLine(2)), "at {cut}");
 
-            let mut reader = LogReader::new(alloc, form)?;
+            let mut reader = LogReader::new(alloc, form, LabelTable::new(alloc))?;
             assert!(rt; reader.feed(front).is_ok());
             assert!(rt; reader.feed(back).is_ok());
             assert!(rt; reader.feed(b"\n").is_ok(), "at {cut}");
@@ -213,7 +218,7 @@ fn long_lines(rt: HostRuntime) -> Result<(), Fail> {
 #[test]
 fn stays_refused(rt: HostRuntime) -> Result<(), Fail> {
     let alloc = rt.alloc();
-    let mut reader = LogReader::new(alloc, LogForm::Lines)?;
+    let mut reader = LogReader::new(alloc, LogForm::Lines, LabelTable::new(alloc))?;
     let bad = Err(LogFault::Syntax(2));
     assert_eq!(rt; reader.feed(b"i: action b;\nx\ni: action c;\n"), bad);
     assert!(rt; !reader.finished());

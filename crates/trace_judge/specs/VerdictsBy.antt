@@ -40,7 +40,7 @@ module _ (IsWithin IsAbove IsRun Begins : List Label → Type 0) where
   abbrev pub StaysWithin : List LineEvent → Type 0
   StaysWithin events = (prefix back : List LineEvent) → events ≡ prefix ++ back → IsWithin (labels_of prefix)
 
-  -- the first event after which no run begins so; before it the budget isn't passed
+  -- the first event after which no run begins so; before it the budget isn't passed, and behind it nothing is left, which weighs nothing
   pub record FailsAt (events : List LineEvent) (number line : ℕ) : Type 0 where
     pub ends : EndsAt IsRun Begins events number line
     pub within : StaysWithin ends.prefix

@@ -10,6 +10,7 @@ invariant-loop-event g l = record {
   serves : IfHeld (λ set. g.S.Store.serves set l.nets) l.track;
   counted : IsCounted l.reader l.track.events;
   finished : l.reader.finished ≡ l.fn.reader.finished;
+  labels : l.reader.labels ≡ l.fn.reader.labels;
   has : (x : Tree) (form : LogForm) (budget : ℕ) (b : List ℕ) → TakesSome g.S.Store.holds l.nets x form budget (not l.fn.reader.finished) b l.fn.reader l.fn.track → TakesSome g.S.Store.holds l.nets x form budget (not l.fn.reader.finished) b l.reader l.track;
   follows : (x : Tree) (budget : ℕ) → IsFollowing g.S.Store.holds l.nets x budget l.fn.track → IsFollowing g.S.Store.holds l.nets x budget l.track;
 }

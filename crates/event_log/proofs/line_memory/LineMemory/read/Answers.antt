@@ -1,25 +1,20 @@
-use Rattle.std.proofs.Common.{◌<◌, IfOk, rules, sym, subst}
+use Rattle.std.proofs.Common.{◌<◌, rules, sym, subst}
 use Rattle.event_log.specs.Meanings.{LineSays}
-use Rattle.event_log.specs.declared.line.Line.{Line}
-use Rattle.event_log.specs.declared.line_memory.LineSort.{LineSort}
+use Rattle.event_log.specs.Memories.{IsNumberIn}
+use Rattle.event_log.specs.declared.line_memory.NumberedLine.{NumberedLine}
 use Rattle.event_log.proofs.Remembering.{says_behind}
 use Rattle.event_log.proofs.line_memory.LineMemory.read.Goals as goal
 
-pub returns-then-not-looks_up-clause-says : goal.returns-then-not-looks_up-clause-says
-returns-then-not-looks_up-clause-says c =
-    subst (λ (s : LineSort). IfOk c.read_line.result (λ line. LineSays s.form s.version c.args.number c.args.bytes.now line)) c.self.view_is c.read_line.ensures
-
 -- a line that is looked up isn't the first
 pub returns-in-Some-clause-says : goal.returns-in-Some-clause-says
-returns-in-Some-clause-says c =
+returns-in-Some-clause-says g c =
     let behind : 1 < c.args.number = search rules in
-    subst (λ (m : Line). LineSays c.args.self.now.form c.args.self.now.version c.args.number c.args.bytes.now m) (sym c.in_ok-known.ensures) (c.in-Some.ensures c.args.number behind)
+    subst (λ (m : NumberedLine). LineSays c.args.self.now.form c.args.self.now.version c.args.number c.args.bytes.now m.says) (sym c.in_ok-known.ensures) (c.in-Some.ensures.says c.args.number behind)
 
-pub remember-requires : goal.remember-requires
-remember-requires c =
+pub returns-in-Some-clause-number : goal.returns-in-Some-clause-number
+returns-in-Some-clause-number g c = subst (λ (m : NumberedLine). IsNumberIn c.args.self.now.labels m.says m.number) (sym c.in_ok-known.ensures) c.in-Some.ensures.number
+
+pub remember-requires-clause-says : goal.remember-requires-clause-says
+remember-requires-clause-says g c =
     let behind : 1 < c.args.number = search rules in
-    says_behind c.args.self.now.form c.args.self.now.version c.args.number c.args.bytes.now c.in_ok-line.line behind
-    (subst (λ (s : LineSort). LineSays s.form s.version c.args.number c.args.bytes.now c.in_ok-line.line) c.self.view_is c.in_ok-line.ensures)
-
-pub returns-clause-says : goal.returns-clause-says
-returns-clause-says c = subst (λ (s : LineSort). LineSays s.form s.version c.args.number c.args.bytes.now c.in_ok-line.line) c.self.view_is c.in_ok-line.ensures
+    says_behind c.args.self.now.form c.args.self.now.version c.args.number c.args.bytes.now c.in_ok-line.line.says behind c.in_ok-line.ensures.says

@@ -4,52 +4,52 @@ use Rattle.event_log.proofs.Answers.{fed_again, fed_is, is_fed, holds_answer, ho
 use Rattle.event_log.proofs.reader.LogReader.feed.Goals as goal
 
 pub returns-in-Some-clause-fed : goal.returns-in-Some-clause-fed
-returns-in-Some-clause-fed c =
+returns-in-Some-clause-fed g c =
     let s = c.args.self.now in
     let x = c.in-Some.fault in
     let is : s.fault ≡ Some x = sym (ap (λ (t : LogState). t.fault) c.self.view_is) ∙ c.in-Some.is in
     λ form b n h. fed_is (Some x) false form (b ++ c.args.piece.now) n s is c.requires (fed_again x form b c.args.piece.now n s is c.requires h)
 
 pub returns-in-Some-clause-decided : goal.returns-in-Some-clause-decided
-returns-in-Some-clause-decided c =
+returns-in-Some-clause-decided g c =
     let s = c.args.self.now in
     let x = c.in-Some.fault in
     let is : s.fault ≡ Some x = sym (ap (λ (t : LogState). t.fault) c.self.view_is) ∙ c.in-Some.is in
     λ form b n h. holds_answer (Some x) false form (b ++ c.args.piece.now) n s (fed_again x form b c.args.piece.now n s is c.requires h)
 
 pub returns-in-Ok-clause-decided : goal.returns-in-Ok-clause-decided
-returns-in-Ok-clause-decided c =
+returns-in-Ok-clause-decided g c =
     let s = c.args.self.now in
     let none : c.self.inside.fault ≡ None = search rules in
     let is : s.fault ≡ None = sym (ap (λ (t : LogState). t.fault) c.self.view_is) ∙ none in
     λ form b n h. holds_answer None false form (b ++ c.args.piece.now) n c.feed_all.new.self (c.in-Ok.ensures.ok form b n (is_fed None false form b n s is c.requires h))
 
 pub returns-in-Err-clause-decided : goal.returns-in-Err-clause-decided
-returns-in-Err-clause-decided c =
+returns-in-Err-clause-decided g c =
     let s = c.args.self.now in
     let none : c.self.inside.fault ≡ None = search rules in
     let is : s.fault ≡ None = sym (ap (λ (t : LogState). t.fault) c.self.view_is) ∙ none in
     λ form b n h. holds_answer (Some c.in-Err.fault) false form (b ++ c.args.piece.now) n c.feed_all.new.self (c.in-Err.ensures.err form b n (is_fed None false form b n s is c.requires h))
 
 pub returns-in-Some-clause-lasts : goal.returns-in-Some-clause-lasts
-returns-in-Some-clause-lasts c =
+returns-in-Some-clause-lasts g c =
     let s = c.args.self.now in
     let x = c.in-Some.fault in
     let is : s.fault ≡ Some x = sym (ap (λ (t : LogState). t.fault) c.self.view_is) ∙ c.in-Some.is in
     λ form b n h more. holds_lasting x form (b ++ c.args.piece.now) more n s (fed_again x form b c.args.piece.now n s is c.requires h)
 
 pub returns-in-Err-clause-lasts : goal.returns-in-Err-clause-lasts
-returns-in-Err-clause-lasts c =
+returns-in-Err-clause-lasts g c =
     let s = c.args.self.now in
     let none : c.self.inside.fault ≡ None = search rules in
     let is : s.fault ≡ None = sym (ap (λ (t : LogState). t.fault) c.self.view_is) ∙ none in
     λ form b n h more. holds_lasting c.in-Err.fault form (b ++ c.args.piece.now) more n c.feed_all.new.self (c.in-Err.ensures.err form b n (is_fed None false form b n s is c.requires h))
 
 pub returns-in-Some-clause-stays : goal.returns-in-Some-clause-stays
-returns-in-Some-clause-stays c = λ form b n e h. event_stays form b c.args.piece.now n e h
+returns-in-Some-clause-stays g c = λ form b n e h. event_stays form b c.args.piece.now n e h
 
 pub returns-in-Ok-clause-stays : goal.returns-in-Ok-clause-stays
-returns-in-Ok-clause-stays c = λ form b n e h. event_stays form b c.args.piece.now n e h
+returns-in-Ok-clause-stays g c = λ form b n e h. event_stays form b c.args.piece.now n e h
 
 pub returns-in-Err-clause-stays : goal.returns-in-Err-clause-stays
-returns-in-Err-clause-stays c = λ form b n e h. event_stays form b c.args.piece.now n e h
+returns-in-Err-clause-stays g c = λ form b n e h. event_stays form b c.args.piece.now n e h

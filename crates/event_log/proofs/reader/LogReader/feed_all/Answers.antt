@@ -6,7 +6,7 @@ use Rattle.event_log.proofs.Answers.{split_there, front_fails, limit_reached}
 use Rattle.event_log.proofs.reader.LogReader.feed_all.Goals as goal
 
 pub returns-in_err-feed_within-clause-err : goal.returns-in_err-feed_within-clause-err
-returns-in_err-feed_within-clause-err c =
+returns-in_err-feed_within-clause-err g c =
     let piece = c.args.piece.now in
     let prefix = c.split_at.result.0.now in
     let back = c.split_at.result.1.now in
@@ -17,7 +17,7 @@ returns-in_err-feed_within-clause-err c =
     (front_fails form b piece prefix back n u c.feed_within-2.result cut (c.feed_within-2.ensures.err form b n h))
 
 pub returns-clause-err : goal.returns-clause-err
-returns-clause-err c =
+returns-clause-err g c =
     let piece = c.args.piece.now in
     let prefix = c.split_at.result.0.now in
     let back = c.split_at.result.1.now in

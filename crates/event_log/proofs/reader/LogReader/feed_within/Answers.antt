@@ -4,7 +4,7 @@ use Rattle.event_log.proofs.Feeding.{taken_line, taken_fails, taken_rest, rest_f
 use Rattle.event_log.proofs.reader.LogReader.feed_within.Goals as goal
 
 pub returns-in_err-take_ended-clause-err : goal.returns-in_err-take_ended-clause-err
-returns-in_err-take_ended-clause-err c =
+returns-in_err-take_ended-clause-err g c =
     let s = c.loop-end.self in
     let rest = c.loop-end.rest.now in
     let prefix = c.split_at.result.0.now in
@@ -17,7 +17,7 @@ returns-in_err-take_ended-clause-err c =
     (taken_fails c.args.self.now s c.take_ended.new.self c.args.piece.now rest prefix (drop 1 behind) c.take_ended.result c.loop-end.invariant.has cut c.take_ended.ensures.err form b n h)
 
 pub loop-end-preserved : goal.loop-end-preserved
-loop-end-preserved c =
+loop-end-preserved g c =
     let s = c.loop-end.self in
     let u = c.take_ended.new.self in
     let rest = c.loop-end.rest.now in
@@ -32,10 +32,11 @@ loop-end-preserved c =
       has = taken_line c.args.self.now s u c.args.piece.now rest prefix after c.take_ended.result c.in_ok-take_ended.field-0 c.in_ok-take_ended.was c.loop-end.invariant.has cut
           c.take_ended.ensures.ok count c.take_ended.ensures.fault c.take_ended.ensures.finished;
       room = omega (arith, count, c.loop-end.invariant.room, ap length cut, length-append prefix (10 ∷ after));
+      labels = c.take_ended.ensures.labels ∙ c.loop-end.invariant.labels;
     }
 
 pub returns-clause-ok : goal.returns-clause-ok
-returns-clause-ok c =
+returns-clause-ok g c =
     let s = c.loop-end.self in
     let rest = c.loop-end.rest.now in
     let free : All (λ b. b ≢ 10) rest = search rules in
@@ -43,7 +44,7 @@ returns-clause-ok c =
     (append_going s c.append.new.self rest c.append.result c.append.ensures.ok free c.loop-end.invariant.room)
 
 pub returns-clause-err : goal.returns-clause-err
-returns-clause-err c =
+returns-clause-err g c =
     let s = c.loop-end.self in
     let rest = c.loop-end.rest.now in
     let free : All (λ b. b ≢ 10) rest = search rules in

@@ -4,14 +4,14 @@ use Rattle.event_log.proofs.Feeding.{append_fails, going_grows, line_going, line
 use Rattle.event_log.proofs.reader.LogReader.take_ended.Goals as goal
 
 pub returns-in_err-append-clause-err : goal.returns-in_err-append-clause-err
-returns-in_err-append-clause-err c =
+returns-in_err-append-clause-err g c =
     let f = c.args.prefix.now in
     let is : c.from_residual.result ≡ Err c.in_err-append.field-0.0 = search rules in
     λ form b n more h. subst (λ r. IfErr r (λ x. HoldsAt (Some x) false form (b ++ (f ++ 10 ∷ more)) n c.append.new.self)) (c.in_err-append.was ∙ sym is)
     (append_fails c.args.self.now c.append.new.self f c.append.result c.append.ensures.err c.append.ensures.fault c.requires.free (omega arith) form b n (10 ∷ more) h)
 
 pub returns-clause-ok : goal.returns-clause-ok
-returns-clause-ok c =
+returns-clause-ok g c =
     let f = c.args.prefix.now in
     let grown : Grows c.args.self.now f c.append.new.self = search rules in
     let count : c.append.new.self.count ≡ c.args.self.now.count + length f = ap (λ (s : LogState). s.count) grown.is in
@@ -21,7 +21,7 @@ returns-clause-ok c =
     (line_going c.append.new.self c.end_line.new.self c.end_line.result c.end_line.ensures.ok (omega (arith, c.requires.room, count)) form (b ++ f) n going)
 
 pub returns-clause-err : goal.returns-clause-err
-returns-clause-err c =
+returns-clause-err g c =
     let f = c.args.prefix.now in
     let grown : Grows c.args.self.now f c.append.new.self = search rules in
     let count : c.append.new.self.count ≡ c.args.self.now.count + length f = ap (λ (s : LogState). s.count) grown.is in

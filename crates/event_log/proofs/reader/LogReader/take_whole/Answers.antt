@@ -6,7 +6,7 @@ use Rattle.event_log.proofs.WholeLines.{whole_going, whole_fails, whole_long}
 use Rattle.event_log.proofs.reader.LogReader.take_whole.Goals as goal
 
 pub returns-then-line-clause-err : goal.returns-then-line-clause-err
-returns-then-line-clause-err c =
+returns-then-line-clause-err g c =
     let s = c.args.self.now in
     let long : LINE_BYTES < length c.args.line.now = search rules in
     λ form b n more h.
@@ -14,11 +14,11 @@ returns-then-line-clause-err c =
     (whole_long s c.args.line.now c.requires.none long c.requires.free c.requires.room form b n more h)
 
 pub returns-clause-ok : goal.returns-clause-ok
-returns-clause-ok c =
+returns-clause-ok g c =
     let short : length c.args.line.now ≤ LINE_BYTES = search rules in
     whole_going c.args.self.now c.read_whole.new.self c.args.line.now c.read_whole.result c.requires.none short c.requires.free c.requires.room c.read_whole.ensures.ok
 
 pub returns-clause-err : goal.returns-clause-err
-returns-clause-err c =
+returns-clause-err g c =
     let short : length c.args.line.now ≤ LINE_BYTES = search rules in
     whole_fails c.args.self.now c.read_whole.new.self c.args.line.now c.read_whole.result c.requires.none short c.requires.free c.requires.room c.read_whole.ensures.err c.read_whole.ensures.fault

@@ -5,14 +5,14 @@ use Rattle.event_log.proofs.Answers.{is_fed}
 use Rattle.event_log.proofs.reader.LogReader.whole_fault.Goals as goal
 
 pub returns-in-Some-clause-holds : goal.returns-in-Some-clause-holds
-returns-in-Some-clause-holds c =
+returns-in-Some-clause-holds g c =
     let s = c.args.self.now in
     let x = c.in-Some.fault in
     let is : s.fault ≡ Some x = sym (ap (λ (t : LogState). t.fault) c.self.view_is) ∙ c.in-Some.is in
     λ form b n h. holds_end form b n x s (is_fed (Some x) false form b n s is c.requires h)
 
 pub returns-in-Ok-clause-holds : goal.returns-in-Ok-clause-holds
-returns-in-Ok-clause-holds c =
+returns-in-Ok-clause-holds g c =
     let s = c.args.self.now in
     let none : c.self.inside.fault ≡ None = search rules in
     let is : s.fault ≡ None = sym (ap (λ (t : LogState). t.fault) c.self.view_is) ∙ none in
