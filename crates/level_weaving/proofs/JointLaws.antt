@@ -7,7 +7,7 @@ use Rattle.msc_meaning.specs.Bodies.{Body, Bodies, no_bodies, bodies}
 use Rattle.msc_meaning.specs.Crossings.{ColumnsCross}
 use Rattle.msc_meaning.specs.LevelItems.{cover_of, is_item}
 use Rattle.msc_meaning.specs.Levels.{AreWovenOperands, IsWovenItem, an_inline, a_reference, no_woven_operand, operand_number, woven_operand_and}
-use Rattle.level_weaving.proofs.LonelyLevels.{operands_of, operands_on}
+use Rattle.level_weaving.proofs.LonelyLevels.{operands_lacking, operands_on}
 use Rattle.level_weaving.specs.LonelyItems.{ItemLacksPartner, OneLacksPartner}
 use Rattle.msc_meaning.specs.Pieces.{Piece, operand_at, operand_count, operand_of, operands_of}
 use Rattle.level_pieces.specs.Earliest.{earliest_of}
@@ -146,7 +146,7 @@ module _ (level : List (List ℕ)) (p : Piece) (ps : List Piece) (bs : Bodies) (
   lacks_by (Single e) no_events an_item h q = cc
   lacks_by (Coregion es) no_events an_item h q = cc
   lacks_by (Condition names shared) no_events an_item h q = cc
-  lacks_by (Inline head inner) no_events an_item h q = (operands_on q head.form bs, operands_of q head.form bs)
+  lacks_by (Inline head inner) no_events an_item h q = (operands_on q head.form bs, operands_lacking q head.form bs)
   lacks_by (Refer r) no_events an_item h q = (λ g. subst (λ (b : Bodies). OneLacksPartner b q) (none_woven h refl) g, λ g. absurd g)
   lacks_by Stop no_events an_item h q = cc
 

@@ -35,6 +35,6 @@ module _ (q : Place) where
   operands_on f (body_and b bs) (inl h) = some_left Lonely (levels_from (Some f) b) (operands_levels f bs) (operand_on f b h)
   operands_on f (body_and b bs) (inr h) = some_right Lonely (levels_from (Some f) b) (operands_levels f bs) (operands_on f bs h)
 
-  pub operands_of : (f : InlineForm) (bs : Bodies) → LevelsLackPartner (operands_levels f bs) q → OneLacksPartner bs q
-  operands_of f no_bodies h = absurd h
-  operands_of f (body_and b bs) h = elim (some_either Lonely (levels_from (Some f) b) (operands_levels f bs) h) [ inl l ↦ inl (operand_of f b l) | inr r ↦ inr (operands_of f bs r) ]
+  pub operands_lacking : (f : InlineForm) (bs : Bodies) → LevelsLackPartner (operands_levels f bs) q → OneLacksPartner bs q
+  operands_lacking f no_bodies h = absurd h
+  operands_lacking f (body_and b bs) h = elim (some_either Lonely (levels_from (Some f) b) (operands_levels f bs) h) [ inl l ↦ inl (operand_of f b l) | inr r ↦ inr (operands_lacking f bs r) ]
