@@ -107,7 +107,7 @@ chart_built list k c built low is = one_built (map chart_view list) (chart_view 
 
 pub one_formed : (charts : List Chart) (c : Chart) → AreAllWellFormed charts → IsAmong charts c → IsWellFormed c
 one_formed [] c h m = absurd m
-one_formed (d ∷ charts) c h (inl e) = subst IsWellFormed e h.0
+one_formed (d ∷ charts) c h (inl e) = subst IsWellFormed (sym e) h.0
 one_formed (d ∷ charts) c h (inr m) = one_formed charts c h.1 m
 
 pub chart_formed : (list : List RawChart) (k : ℕ) (c : RawChart) → AreAllWellFormed (map chart_view list) → k < length list → c ≡ get_or list k c → IsWellFormed (chart_view c)

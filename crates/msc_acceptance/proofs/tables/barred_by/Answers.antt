@@ -43,7 +43,7 @@ pub returns-in-Crossed : goal.returns-in-Crossed
 returns-in-Crossed c =
     let chart = chart_view c.args.chart.now in
     let fault : IsWeaveFault chart _ = subst (λ (f : WeaveFault). IsWeaveFault chart f) c.in-Crossed.is c.requires in
-    barred_crossed chart c.in-Crossed.place c.barring-in-Crossed.result c.barring-in-Crossed.ensures.crossed (crossed_of chart c.in-Crossed.place fault)
+    barred_crossed chart c.in-Crossed.place c.barring.result c.barring.ensures.crossed (crossed_of chart c.in-Crossed.place fault)
 
 pub returns-in-Unmatched : goal.returns-in-Unmatched
 returns-in-Unmatched c =
