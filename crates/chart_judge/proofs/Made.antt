@@ -7,7 +7,7 @@ use Rattle.msc_meaning.specs.Bodies as body
 use Rattle.msc_meaning.specs.Tables as table
 use Rattle.msc_meaning.specs.Views.{body_step, body_view, content_view, entry_view, inline_step, item_step}
 use Rattle.chart_term.specs.Terms.{Tree}
-use Rattle.chart_forms.specs.BuiltBodies.{HasTerm, event_count, is_built}
+use Rattle.chart_forms.specs.BuiltBodies.{CanHaveTerm, event_count, is_built}
 use Rattle.level_terms.specs.LevelTerms.{chart_tables, chart_term}
 use Rattle.term_tables.specs.NetValues.{NetsValue}
 use Rattle.msc_acceptance.specs.AcceptedCharts.{IsAcceptedChart}
@@ -38,7 +38,7 @@ module _ (chart : ChartEntry) (b : Body) (names : List (List ℕ)) (is : chart.c
     cover : names ≡ cover_of accepted.body
     cover = are ∙ sym (cover_is b) ∙ ap cover_of same
 
-    pub has_term : HasTerm names (body_view b)
+    pub has_term : CanHaveTerm names (body_view b)
     has_term =
         let within = few (entry_view chart) accepted in
         let count : event_count (body_view b) ≡ event_count accepted.body = ap event_count same in

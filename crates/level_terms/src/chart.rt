@@ -5,7 +5,7 @@ ghost use Rattle.msc_base.specs.declared.limits.TheConstants.Limits.{INSTANCES};
 ghost use Rattle.msc_base.specs.Lists.{AreDifferent};
 ghost use Rattle.msc_meaning.specs.Views.{body_view};
 ghost use Rattle.term_laws.specs.FullSoundness.{IsFullySound};
-ghost use Rattle.chart_forms.specs.BuiltBodies.{CanHaveTerm, IsTooLong, is_built};
+ghost use Rattle.chart_forms.specs.BuiltBodies.{CanHaveTerm};
 ghost use Rattle.level_terms.specs.LevelTerms.{chart_tables, chart_term};
 ghost use Rattle.level_terms.specs.MadeCharts.{IsChartMade};
 ghost use Rattle.event_order.specs.RankedBodies.{CanBeRanked};
@@ -33,7 +33,7 @@ pub struct ChartTerm {
 pub fn chart_of(alloc: Global, names: &[Name], body: &Body) -> Result<ChartTerm, NoMemory>
     requires different { AreDifferent names.now }
     requires few { length names.now ≤ INSTANCES }
-    requires made { HasTerm names.now (body_view body.now) }
+    requires made { CanHaveTerm names.now (body_view body.now) }
     ensures term { IfOk result (λ made. made.term ≡ chart_term names.now (body_view body.now)) }
     ensures nets { IfOk result (λ made. made.nets ≡ chart_tables (body_view body.now)) }
     ensures means { IfOk result (λ made. IsChartMade made.nets names.now made.term (body_view body.now)) }
