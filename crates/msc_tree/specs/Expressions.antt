@@ -26,7 +26,3 @@ mutual
 abbrev pub expressions : List Expression → Expressions
 expressions [] = none
 expressions (x ∷ xs) = more x (expressions xs)
-
-abbrev pub expression_list : Expressions → List Expression
-expression_list none = []
-expression_list (more x xs) = x ∷ expression_list xs

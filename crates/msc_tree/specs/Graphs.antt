@@ -41,7 +41,3 @@ graphs (x ∷ xs) = graph_and x (graphs xs)
 abbrev pub line_list : Lines → List Line
 line_list no_lines = []
 line_list (line_and x xs) = x ∷ line_list xs
-
-abbrev pub graph_list : Graphs → List Graph
-graph_list no_graphs = []
-graph_list (graph_and x xs) = x ∷ graph_list xs

@@ -78,11 +78,3 @@ statements (x ∷ xs) = statement_and x (statements xs)
 abbrev pub item_list : Items → List Item
 item_list no_items = []
 item_list (item_and x xs) = x ∷ item_list xs
-
-abbrev pub operand_list : Operands → List Operand
-operand_list no_operands = []
-operand_list (operand_and x xs) = x ∷ operand_list xs
-
-abbrev pub statement_list : Statements → List Statement
-statement_list no_statements = []
-statement_list (statement_and x xs) = x ∷ statement_list xs
