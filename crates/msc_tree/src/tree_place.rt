@@ -21,7 +21,7 @@ impl Model for TreePlace {
     ghost view = { λ p. record { byte = p.byte; line = p.line; column = p.column } };
 }
 
-/// The number in 32 bits; the text before a larger one would want more memory than there is.
+/// The number in 32 bits. Want of memory is the answer to a larger one: trees have no room for it, and a document has far fewer bytes.
 fn short(number: u64) -> Result<u32, NoMemory>
     ensures { IfOk result (λ short. short ≡ number) }
 {
