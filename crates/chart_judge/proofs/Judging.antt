@@ -12,7 +12,7 @@ use Rattle.term_sets.specs.contracts.pool.PoolStore.TheImpl.{holds-value}
 use Rattle.chart_judge.specs.States.{JudgeValue, Fed, IsGoing, Stands}
 use Rattle.chart_judge.specs.declared.fault.JudgeFault.{JudgeFault}
 use Rattle.msc_acceptance.specs.AcceptedCharts.{IsAcceptedChart}
-use Rattle.msc_meaning.specs.Tables.{ChartEntry}
+use Rattle.msc_meaning.specs.Tables.{ChartEntry, Table, chart_at}
 use Rattle.chart_judge.specs.ChartsTold.{VerdictsAreTold}
 use Rattle.chart_judge.specs.ChartTerms.{IsTermOf}
 use Rattle.chart_judge.specs.Judging.{HasCounted, IsJudging, IsVerdictOn}
@@ -37,33 +37,33 @@ counted v x form budget bytes judge fed faultless =
 
 -- ---- a judge of a chart
 
-pub judging : (chart : ChartEntry) (form : LogForm) (budget : ℕ) (v : NetsValue) (x : Tree) (judge : JudgeValue PoolValue) → IsAcceptedChart chart → IsTermOf chart v x → Fed holds-value.it v x form budget [] judge → judge.fault ≡ None
-    → IsJudging chart form budget [] judge
-judging chart form budget v x judge accepted made fed faultless = record {
-  accepted = accepted;
+pub judging : (table : Table) (name : List ℕ) (chart : ChartEntry) (form : LogForm) (budget : ℕ) (v : NetsValue) (x : Tree) (judge : JudgeValue PoolValue) → chart_at table name ≡ Some chart → IsAcceptedChart chart → IsTermOf chart v x → Fed holds-value.it v x form budget [] judge → judge.fault ≡ None
+    → IsJudging table name form budget [] judge
+judging table name chart form budget v x judge is accepted made fed faultless = record {
   tables = v;
   term = x;
-  made = made;
+  has = record { chart = chart; is = is; made = made };
+  accepted = accepted;
   fed = fed;
   faultless = faultless;
   counted = counted v x form budget [] judge fed faultless;
 }
 
 -- it takes a piece
-pub fed_more : {T : Type 0} (chart : ChartEntry) (form : LogForm) (budget : ℕ) (bytes piece : List ℕ) (old new : JudgeValue PoolValue) (result : Result T JudgeFault) → fault_in result ≡ new.fault
-    → ((v : NetsValue) (x : Tree) (form : LogForm) (budget : ℕ) (bytes : List ℕ) → Fed holds-value.it v x form budget bytes old → Fed holds-value.it v x form budget (bytes ++ piece) new) → IsJudging chart form budget bytes old
-    → OnOk result (IsJudging chart form budget (bytes ++ piece) new)
-fed_more chart form budget bytes piece old new (Ok t) fault goes j =
+pub fed_more : {T : Type 0} (table : Table) (name : List ℕ) (form : LogForm) (budget : ℕ) (bytes piece : List ℕ) (old new : JudgeValue PoolValue) (result : Result T JudgeFault) → fault_in result ≡ new.fault
+    → ((v : NetsValue) (x : Tree) (form : LogForm) (budget : ℕ) (bytes : List ℕ) → Fed holds-value.it v x form budget bytes old → Fed holds-value.it v x form budget (bytes ++ piece) new) → IsJudging table name form budget bytes old
+    → OnOk result (IsJudging table name form budget (bytes ++ piece) new)
+fed_more table name form budget bytes piece old new (Ok t) fault goes j =
     let fed = goes j.tables j.term form budget bytes j.fed in
     let faultless : new.fault ≡ None = sym fault in
-    record { accepted = j.accepted; tables = j.tables; term = j.term; made = j.made; fed = fed; faultless = faultless; counted = counted j.tables j.term form budget (bytes ++ piece) new fed faultless }
-fed_more chart form budget bytes piece old new (Err e) fault goes j = tt
+    record { tables = j.tables; term = j.term; has = j.has; accepted = j.accepted; fed = fed; faultless = faultless; counted = counted j.tables j.term form budget (bytes ++ piece) new fed faultless }
+fed_more table name form budget bytes piece old new (Err e) fault goes j = tt
 
 -- it ends
-pub told_verdict : VerdictsAreTold → {E : Type 0} (chart : ChartEntry) (form : LogForm) (budget : ℕ) (bytes : List ℕ) (judge : JudgeValue PoolValue) (result : Result Verdict E)
-    → ((v : NetsValue) (x : Tree) (form : LogForm) (budget : ℕ) (bytes : List ℕ) → Fed holds-value.it v x form budget bytes judge → IfOk result (IsJudged v x form budget bytes)) → IsJudging chart form budget bytes judge
-    → IfOk result (IsVerdictOn chart form budget bytes)
-told_verdict told chart form budget bytes judge (Ok verdict) ends j =
+pub told_verdict : VerdictsAreTold → {E : Type 0} (table : Table) (name : List ℕ) (form : LogForm) (budget : ℕ) (bytes : List ℕ) (judge : JudgeValue PoolValue) (result : Result Verdict E)
+    → ((v : NetsValue) (x : Tree) (form : LogForm) (budget : ℕ) (bytes : List ℕ) → Fed holds-value.it v x form budget bytes judge → IfOk result (IsJudged v x form budget bytes)) → IsJudging table name form budget bytes judge
+    → IfOk result (IsVerdictOn table name form budget bytes)
+told_verdict told table name form budget bytes judge (Ok verdict) ends j =
     let judged = ends j.tables j.term form budget bytes j.fed in
-    record { log = judged.log; is = λ table name is. told table name chart j.tables j.term budget judged.log.events verdict is j.accepted j.made judged.verdict_is }
-told_verdict told chart form budget bytes judge (Err e) ends j = tt
+    record { log = judged.log; is = told table name j.has.chart j.tables j.term budget judged.log.events verdict j.has.is j.accepted j.has.made judged.verdict_is }
+told_verdict told table name form budget bytes judge (Err e) ends j = tt

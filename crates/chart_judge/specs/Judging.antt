@@ -1,10 +1,10 @@
 -- What a judge of a chart was fed, and what it says of a log's bytes.
-use Rattle.std.specs.Prelude.{ℕ, ◌≡◌, ◌≤◌, false, List, length, None, Some}
+use Rattle.std.specs.Prelude.{ℕ, ◌≡◌, ◌≤◌, false, List, length, None}
 use Rattle.msc_base.specs.Only.{Only}
 use Rattle.msc_base.specs.declared.limits.TheConstants.Limits.{LOG_BYTES}
 use Rattle.msc_base.specs.declared.verdict.Verdict.{Verdict}
 use Rattle.msc_acceptance.specs.AcceptedCharts.{IsAcceptedChart}
-use Rattle.msc_meaning.specs.Tables.{ChartEntry, Table, chart_at}
+use Rattle.msc_meaning.specs.Tables.{Table}
 use Rattle.event_log.specs.States.{IsFaultOf}
 use Rattle.event_log.specs.declared.event.LogForm.{LogForm}
 use Rattle.chart_term.specs.Terms.{Tree}
@@ -12,25 +12,24 @@ use Rattle.term_tables.specs.NetValues.{NetsValue}
 use Rattle.term_sets.specs.contracts.pool.PoolStore.TheImpl.{holds-value}
 use Rattle.term_sets.specs.Memories.{PoolValue}
 use Rattle.chart_judge.specs.States.{JudgeValue, Fed}
-use Rattle.chart_judge.specs.ChartTerms.{IsTermOf}
-use Rattle.chart_judge.specs.ChartVerdicts.{IsChartVerdict}
+use Rattle.chart_judge.specs.ChartVerdicts.{HasTerm, IsChartVerdict}
 
 -- so many bytes were fed, and no more than a log may have
 pub record HasCounted (bytes : List ℕ) (judge : JudgeValue PoolValue) : Type 0 where
   pub count : judge.reader.count ≡ length bytes
   pub within : judge.reader.count ≤ LOG_BYTES
 
--- the judge was made for the chart, this form of log and this budget, has been fed these bytes, and met no fault
-pub record IsJudging (chart : ChartEntry) (form : LogForm) (budget : ℕ) (bytes : List ℕ) (judge : JudgeValue PoolValue) : Type 0 where
-  pub accepted : IsAcceptedChart chart
+-- the judge was made for the accepted chart of that name, this form of log and this budget, has been fed these bytes, and met no fault
+pub record IsJudging (table : Table) (name : List ℕ) (form : LogForm) (budget : ℕ) (bytes : List ℕ) (judge : JudgeValue PoolValue) : Type 0 where
   pub tables : NetsValue
   pub term : Tree
-  pub made : IsTermOf chart tables term
+  pub has : HasTerm table name tables term
+  pub accepted : IsAcceptedChart has.chart
   pub fed : Fed holds-value.it tables term form budget bytes judge
   pub faultless : judge.fault ≡ None
   pub counted : HasCounted bytes judge
 
--- the bytes are a log, and this is the one verdict on its events by the chart, in each table that has it, by the name that it has there
-pub record IsVerdictOn (chart : ChartEntry) (form : LogForm) (budget : ℕ) (bytes : List ℕ) (verdict : Verdict) : Type 0 where
+-- the bytes are a log, and this is the one verdict on its events by the chart of that name
+pub record IsVerdictOn (table : Table) (name : List ℕ) (form : LogForm) (budget : ℕ) (bytes : List ℕ) (verdict : Verdict) : Type 0 where
   pub log : IsFaultOf form false bytes None
-  pub is : (table : Table) (name : List ℕ) → chart_at table name ≡ Some chart → Only (IsChartVerdict table name budget log.events) verdict
+  pub is : Only (IsChartVerdict table name budget log.events) verdict

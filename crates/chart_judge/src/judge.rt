@@ -1,11 +1,11 @@
 //! The judge of a log by a chart, which is fed the log in pieces: what the command judges by.
 
-ghost use Rattle.std.specs.Prelude.{◌≡◌, ◌≤◌, ◌++◌, [], ℕ, List, false, IfOk, IfErr, IfSome, OnOk};
+ghost use Rattle.std.specs.Prelude.{◌≡◌, ◌≤◌, ◌++◌, [], ℕ, List, Some, false, IfOk, IfErr, IfSome, OnOk};
 ghost use Rattle.chart_judge.specs.Judging.{IsJudging, IsVerdictOn};
 ghost use Rattle.event_log.specs.declared.event.LogForm.{LogForm as Form};
 ghost use Rattle.msc_acceptance.specs.AcceptedCharts.{IsAcceptedChart};
 ghost use Rattle.msc_base.specs.declared.limits.TheConstants.Limits.{BUDGET_MOST};
-ghost use Rattle.msc_meaning.specs.Tables.{ChartEntry as Chart};
+ghost use Rattle.msc_meaning.specs.Tables.{Table, chart_at};
 ghost use Rattle.msc_meaning.specs.Views.{entry_view};
 ghost use Rattle.chart_judge.specs.Judged.{IsJudgeFault, fault_in};
 
@@ -40,7 +40,7 @@ impl Model for ChartJudge {
 
 impl ChartJudge {
     /// A judge of a log of this form by the chart, to which nothing has been fed. The weight of what may be left of the chart's
-    /// term after an event is the budget at most.
+    /// term after an event is the budget at most. What it says is the verdict by the chart in each table that has it, by its name there.
     pub fn new(
         alloc: Global,
         chart: &ChartEntry,
@@ -50,7 +50,7 @@ impl ChartJudge {
         requires accepted { IsAcceptedChart (entry_view chart.now) }
         requires least { 1 ≤ budget }
         requires most { budget ≤ BUDGET_MOST }
-        ensures { IfOk result (λ judge. IsJudging (entry_view chart.now) form budget [] judge) }
+        ensures { (table : Table) (name : List ℕ) → chart_at table name ≡ Some (entry_view chart.now) → IfOk result (λ judge. IsJudging table name form budget [] judge) }
     {
         charts_have_terms();
         let made = term_of(alloc, chart)?;
@@ -61,9 +61,9 @@ impl ChartJudge {
     /// Takes the next bytes of the log. It fails exactly where a fault of the log is decided within the bytes fed so far, or for
     /// want of memory, and from then on always with the same fault.
     pub fn feed(&mut self, piece: &[u8]) -> Result<(), JudgeFault>
-        ensures fed { (chart : Chart) (form : Form) (budget : ℕ) (bytes : List ℕ) → IsJudging chart form budget bytes self.old
-            → OnOk result (IsJudging chart form budget (bytes ++ piece.now) self.new) }
-        ensures refused { (chart : Chart) (form : Form) (budget : ℕ) (bytes : List ℕ) → IsJudging chart form budget bytes self.old
+        ensures fed { (table : Table) (name : List ℕ) (form : Form) (budget : ℕ) (bytes : List ℕ) → IsJudging table name form budget bytes self.old
+            → OnOk result (IsJudging table name form budget (bytes ++ piece.now) self.new) }
+        ensures refused { (table : Table) (name : List ℕ) (form : Form) (budget : ℕ) (bytes : List ℕ) → IsJudging table name form budget bytes self.old
             → (more : List ℕ) → IfErr result (IsJudgeFault form false ((bytes ++ piece.now) ++ more)) }
         ensures fault { fault_in result ≡ self.new.fault }
         ensures again { IfSome self.old.fault (λ fault. (result ≡ Err fault) × (self.new ≡ self.old)) }
@@ -74,9 +74,9 @@ impl ChartJudge {
     /// Ends the log, and gives the verdict on its events. It fails exactly where the whole log has a fault, or for want of memory;
     /// after a fault of `feed` with that.
     pub fn finish(self) -> Result<Verdict, JudgeFault>
-        ensures verdict { (chart : Chart) (form : Form) (budget : ℕ) (bytes : List ℕ) → IsJudging chart form budget bytes self
-            → IfOk result (IsVerdictOn chart form budget bytes) }
-        ensures fault { (chart : Chart) (form : Form) (budget : ℕ) (bytes : List ℕ) → IsJudging chart form budget bytes self
+        ensures verdict { (table : Table) (name : List ℕ) (form : Form) (budget : ℕ) (bytes : List ℕ) → IsJudging table name form budget bytes self
+            → IfOk result (IsVerdictOn table name form budget bytes) }
+        ensures fault { (table : Table) (name : List ℕ) (form : Form) (budget : ℕ) (bytes : List ℕ) → IsJudging table name form budget bytes self
             → IfErr result (IsJudgeFault form false bytes) }
         ensures again { IfSome self.fault (λ fault. result ≡ Err fault) }
     {

@@ -162,7 +162,7 @@ position_none (join m x y) h (inl p) = position_none x h.0 p
 position_none (join m x y) h (inr p) = position_none y h.1 p
 position_none (bind x q) h p = position_none x h p
 
--- the taken_out of a linear order is one of what is left
+-- the rest of a linear order is one of what is left
 linear_rest : (s : Shape) (p : Position s) (l : List (Position s)) → IsLinear (Before numbered s) (p ∷ l) → (k : List (Position (taken_out s p))) → map (keep s p) k ≡ l → IsLinear (Before numbered (taken_out s p)) k
 linear_rest s p l h k e = record {
   every = λ j. among_keep s p j k (in_rest j (h.every (keep s p j)));

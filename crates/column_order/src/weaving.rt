@@ -1,4 +1,4 @@
-//! Weaves columns to one list, by sorting the edges between neighbours. msc_instances weaves levels of a chart by it.
+//! Weaves columns to one list, by sorting the edges between neighbours. level_pieces weaves levels of a chart by it.
 
 ghost use Rattle.std.specs.Prelude.{◌≡◌, ◌^◌, Vec, ℕ, ◌<◌, ◌++◌, List, All, length, true, IfOk, OnOk};
 ghost use Rattle.msc_base.specs.Lists.{IsAmong};

@@ -15,7 +15,8 @@ use Rattle.msc_base.specs.declared.label.Kind.{Kind}
 use Rattle.msc_base.specs.declared.label.Kind.TheVariants.{Output, Input, OutputLost, InputFound, Action, TimerStart, TimerStop, Timeout, Create}
 use Rattle.msc_base.specs.declared.label.Far.{Far}
 use Rattle.msc_events.specs.LogEvents.{ReadsText}
-use Rattle.event_log.specs.Meanings.{IsBlankByte, SaysBy, LineSays}
+use Rattle.event_log.specs.Meanings.{SaysBy, LineSays}
+use Rattle.msc_tokens.specs.Spelling.{IsBlank}
 use Rattle.msc_base.specs.Only.{Never, Only}
 use Rattle.event_log.specs.Objects.{Spelled, Written, IsAllowed, all_members, HasMembers, IsVersionObject, Said, kind_of, IsEndBy, IsFarOf, IsSaid, IsEventObject}
 use Rattle.event_log.specs.declared.event.LogForm.TheVariants.{Json}
@@ -106,7 +107,7 @@ only_written P line d x utf8 r o = record {
 never_written : {A : Type 0} (P : Data → A → Type 0) (line : List ℕ) (d : Data) → read line ≡ Some d → Never (P d) → Never (Written P line)
 never_written P line d r n = λ y p. n y (subst (λ v. P v y) (some_same p.value d (sym p.reads ∙ r)) p.is)
 
-says_value : (version : Version) (number : ℕ) (line : List ℕ) (d : Data) (m : Line) → (All IsBlankByte line → ⊥) → IsUtf8 line → read line ≡ Some d
+says_value : (version : Version) (number : ℕ) (line : List ℕ) (d : Data) (m : Line) → (All IsBlank line → ⊥) → IsUtf8 line → read line ≡ Some d
     → SaysBy (IsVersionObject d) (IsEventObject version d) number m → LineSays Json version number line m
 says_value version number line d Blank full utf8 r h = absurd h
 says_value version number line d (VersionLine stated) full utf8 r h = (full, (h.0, only_written IsVersionObject line d stated utf8 r h.1))
@@ -114,7 +115,7 @@ says_value version number line d (Event label) full utf8 r h = (full, (λ first.
 says_value version number line d NoEvent full utf8 r h = (full, (λ first. never_written IsVersionObject line d r (h.0 first), never_written (IsEventObject version) line d r h.1))
 
 -- what the value says is what the line says
-pub says_written : (version : Version) (number : ℕ) (line : List ℕ) (d : Data) (answer : Result Line NoMemory) → (All IsBlankByte line → ⊥) → IsUtf8 line → read line ≡ Some d
+pub says_written : (version : Version) (number : ℕ) (line : List ℕ) (d : Data) (answer : Result Line NoMemory) → (All IsBlank line → ⊥) → IsUtf8 line → read line ≡ Some d
     → IfOk answer (λ m. SaysBy (IsVersionObject d) (IsEventObject version d) number m) → IfOk answer (λ m. LineSays Json version number line m)
 says_written version number line d (Ok m) full utf8 r h = says_value version number line d m full utf8 r h
 says_written version number line d (Err e) full utf8 r h = tt
@@ -126,5 +127,5 @@ no_value : (line : List ℕ) (d : Data) → (IsUtf8 line → read line ≡ None)
 no_value line d none utf8 r = some_none d (sym r ∙ none utf8)
 
 -- bytes that are no value say nothing
-pub says_unwritten : (version : Version) (number : ℕ) (line : List ℕ) → (All IsBlankByte line → ⊥) → (IsUtf8 line → read line ≡ None) → LineSays Json version number line NoEvent
+pub says_unwritten : (version : Version) (number : ℕ) (line : List ℕ) → (All IsBlank line → ⊥) → (IsUtf8 line → read line ≡ None) → LineSays Json version number line NoEvent
 says_unwritten version number line full none = (full, (λ first. λ y p. no_value line p.value none p.utf8 p.reads, λ y p. no_value line p.value none p.utf8 p.reads))

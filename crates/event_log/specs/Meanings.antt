@@ -3,7 +3,7 @@ use Rattle.std.specs.Prelude.{◌≡◌, ◌<◌, ◌≤◌, ◌⊎◌, ℕ, Lis
 use Rattle.std.specs.Str.{bytes_eq}
 use Rattle.msc_base.specs.declared.label.Label.{Label}
 use Rattle.msc_base.specs.Only.{Only, Never}
-use Rattle.msc_tokens.specs.Spelling.{Spells}
+use Rattle.msc_tokens.specs.Spelling.{IsBlank, Spells}
 use Rattle.msc_events.specs.LogEvents.{ReadsEvent}
 use Rattle.event_log.specs.Objects.{Spelled, Written, IsAllowed, IsVersionObject, IsEventObject}
 use Rattle.event_log.specs.declared.event.LogForm.{LogForm}
@@ -16,14 +16,10 @@ use Rattle.event_log.specs.declared.line.Line.TheVariants.{Blank, VersionLine, E
 abbrev pub IsDigit : ℕ → Type 0
 IsDigit b = (48 ≤ b) × (b ≤ 57)
 
--- a tab, a line feed, a carriage return or a space
-abbrev pub IsBlankByte : ℕ → Type 0
-IsBlankByte b = (b ≡ 9) ⊎ (b ≡ 10) ⊎ (b ≡ 13) ⊎ (b ≡ 32)
-
 -- the line passes: it has blanks alone, and in the text form also notes
 abbrev pub IsBlankLine : LogForm → List ℕ → Type 0
 IsBlankLine Lines line = Spells line []
-IsBlankLine Json line = All IsBlankByte line
+IsBlankLine Json line = All IsBlank line
 
 -- the version that these digits state, if it is one of the two
 abbrev pub version_of : List ℕ → Option Version

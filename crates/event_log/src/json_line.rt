@@ -6,7 +6,8 @@ ghost use Rattle.std.specs.BTreeMap.{keys};
 ghost use Rattle.serde_json.specs.View.{view};
 ghost use Rattle.serde_json.specs.Find.{get};
 ghost use Rattle.serde_json.specs.Read.{read};
-ghost use Rattle.event_log.specs.Meanings.{IsBlankByte, SaysBy, LineSays};
+ghost use Rattle.event_log.specs.Meanings.{SaysBy, LineSays};
+ghost use Rattle.msc_tokens.specs.Spelling.{IsBlank};
 ghost use Rattle.msc_base.specs.Only.{Never, Only};
 ghost use Rattle.event_log.specs.Objects.{IsVersionObject, IsEventObject, HasMembers, is_version_member, is_event_member, text_at, text_or_none, version_of_number};
 ghost use Rattle.event_log.specs.declared.event.LogForm.TheVariants.{Json};
@@ -20,14 +21,14 @@ use std::alloc::Global;
 
 /// Whether the byte is a blank of JSON.
 fn is_blank_byte(byte: u8) -> bool
-    ensures { IsTrue result ↔ IsBlankByte byte }
+    ensures { IsTrue result ↔ IsBlank byte }
 {
     matches!(byte, b'\t' | b'\n' | b'\r' | b' ')
 }
 
 /// Whether the line has blanks alone.
 fn is_blank(bytes: &[u8]) -> bool
-    ensures { IsTrue result ↔ All IsBlankByte bytes.now }
+    ensures { IsTrue result ↔ All IsBlank bytes.now }
 {
     bytes.iter().all(|byte| is_blank_byte(*byte))
 }

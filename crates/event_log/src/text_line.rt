@@ -84,7 +84,17 @@ pub fn tokens_of(alloc: Global, bytes: &[u8]) -> Result<Option<TokenList>, NoMem
 pub fn is_allowed(version: Version, kind: Kind) -> bool
     ensures { IsTrue result ↔ IsAllowed version kind }
 {
-    kind != Kind::Create || version == Version::Second
+    match kind {
+        Kind::Create => version == Version::Second,
+        Kind::Output
+        | Kind::Input
+        | Kind::OutputLost
+        | Kind::InputFound
+        | Kind::Action
+        | Kind::TimerStart
+        | Kind::TimerStop
+        | Kind::Timeout => true,
+    }
 }
 
 /// The event that the tokens are, in a log of this version.

@@ -1,5 +1,5 @@
 -- The pairs of a level by the positions of its events and by their numbers.
-use Rattle.std.proofs.Common.{◌≡◌, ◌⊎◌, inl, inr, ℕ, ◌<◌, ◌≤◌, ◌+◌, zero, suc, Bool, true, false, cond, ◌&&◌, List, [], ◌∷◌, Some, slice_get, get_or, length, nat_eq, map, take, refl, sym, subst, ap, ◌∙◌, arith}
+use Rattle.std.proofs.Common.{◌≡◌, ◌⊎◌, inl, inr, ℕ, ◌<◌, ◌≤◌, ◌+◌, zero, suc, Bool, true, false, cond, ◌&&◌, List, [], ◌∷◌, Some, slice_get, get_or, length, nat_eq, map, take, refl, sym, subst, ap, ap₂, if◌then◌else◌, ◌∙◌, arith}
 use Rattle.std.specs.List.{Contains, count_by}
 use Rattle.std.specs.List.Sorted.{IsNonDecreasingBy, IsPermutation}
 use Rattle.std.proofs.lemmas.Bool.{cases_eq, eq-eqb, ne_eqb}
@@ -139,25 +139,19 @@ in_test key n TimerStop t = refl
 in_test key n Timeout t = refl
 in_test key n Create t = refl
 
-step : (a b : Bool) (c d : ℕ) → a ≡ b → c ≡ d → cond a (suc c) c ≡ cond b 1 0 + d
-step true true c d h e = omega (arith, e)
-step false false c d h e = omega (arith, e)
-step true false c d h e = cc
-step false true c d h e = cc
-
 out_count : (key : Key) (ns : List EventNode) → count_key output_key key ns ≡ ends_of Out key ns
 out_count key [] = refl
 out_count key (n ∷ ns) =
     let test : EventNode → Bool = λ x. goes Out (way x) && pairing.is_key key (key_of x ∷ []) in
-    step (pairing.is_key key (output_key n)) (test n) (count_key output_key key ns) (count_by test ns) (out_test key n n.event.kind n.event.target) (out_count key ns)
-    ∙ sym (count_cons test n ns)
+    count_cons (λ (m : EventNode). pairing.is_key key (output_key m)) n ns
+    ∙ ap₂ (λ (b : Bool) (k : ℕ). (if b then 1 else 0) + k) (out_test key n n.event.kind n.event.target) (out_count key ns) ∙ sym (count_cons test n ns)
 
 in_count : (key : Key) (ns : List EventNode) → count_key input_key key ns ≡ ends_of In key ns
 in_count key [] = refl
 in_count key (n ∷ ns) =
     let test : EventNode → Bool = λ x. goes In (way x) && pairing.is_key key (key_of x ∷ []) in
-    step (pairing.is_key key (input_key n)) (test n) (count_key input_key key ns) (count_by test ns) (in_test key n n.event.kind n.event.target) (in_count key ns)
-    ∙ sym (count_cons test n ns)
+    count_cons (λ (m : EventNode). pairing.is_key key (input_key m)) n ns
+    ∙ ap₂ (λ (b : Bool) (k : ℕ). (if b then 1 else 0) + k) (in_test key n n.event.kind n.event.target) (in_count key ns) ∙ sym (count_cons test n ns)
 
 -- ---- pairs
 

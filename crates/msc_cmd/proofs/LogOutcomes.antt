@@ -2,7 +2,7 @@
 use Rattle.std.proofs.Common.{◌≡◌, ℕ, List, sym, ap, ◌∙◌, subst, Bool, false, Some, None}
 use Rattle.msc_base.specs.declared.verdict.Verdict.{Verdict}
 use Rattle.outside.specs.Shelves.{Files}
-use Rattle.msc_meaning.specs.Tables.{ChartEntry, Table, chart_at}
+use Rattle.msc_meaning.specs.Tables.{Table}
 use Rattle.event_log.specs.States.{IsFaultOf}
 use Rattle.line_events.specs.declared.event.LineEvent.{LineEvent}
 use Rattle.event_log.specs.declared.event.LogFault.{LogFault}
@@ -14,14 +14,14 @@ use Rattle.judge_report.specs.Texts.{fault_line, verdict_line}
 use Rattle.msc_cmd.specs.Outcomes.{LogOutcome, bad_log, judged, EntryOutcome, of_bytes, IsTheOne, status_of}
 
 -- a log without a fault
-pub judged_one : (form : LogForm) (budget : ℕ) (json : Bool) (table : Table) (name : List ℕ) (chart : ChartEntry) (bytes : List ℕ) (verdict : Verdict) (status : ℕ) (text : List ℕ) → chart_at table name ≡ Some chart
-    → IsVerdictOn chart form budget bytes verdict → status ≡ status_of verdict → text ≡ verdict_line json verdict → IsTheOne (LogOutcome form budget json table name bytes) status text
-judged_one form budget json table name chart bytes verdict status text at v s t = record { is = judged v.log.events verdict v.log.log (v.is table name at).holds s t; only = λ other others o. by other others o }
+pub judged_one : (form : LogForm) (budget : ℕ) (json : Bool) (table : Table) (name bytes : List ℕ) (verdict : Verdict) (status : ℕ) (text : List ℕ)
+    → IsVerdictOn table name form budget bytes verdict → status ≡ status_of verdict → text ≡ verdict_line json verdict → IsTheOne (LogOutcome form budget json table name bytes) status text
+judged_one form budget json table name bytes verdict status text v s t = record { is = judged v.log.events verdict v.log.log v.is.holds s t; only = λ other others o. by other others o }
   where
     by : (other : ℕ) (others : List ℕ) → LogOutcome form budget json table name bytes other others → (other ≡ status) × (others ≡ text)
     by other others (bad_log es fault l os ot) = let bad : Some fault ≡ None = (v.log.alone es (Some fault) l).1 in cc
     by other others (judged es w l x os ot) =
-        let same : w ≡ verdict = (v.is table name at).alone w (subst (λ (us : List LineEvent). IsChartVerdict table name budget us w) (v.log.alone es None l).0 x) in
+        let same : w ≡ verdict = v.is.alone w (subst (λ (us : List LineEvent). IsChartVerdict table name budget us w) (v.log.alone es None l).0 x) in
         (os ∙ ap status_of same ∙ sym s, ot ∙ ap (verdict_line json) same ∙ sym t)
 
 -- a log that has a fault

@@ -232,15 +232,15 @@ pub five_not_two : {E : Type 0} (r : Result Reply E) → IfOk r (λ x. x.status 
 five_not_two (Ok x) s = λ two. omega (arith, s, two)
 five_not_two (Err e) s = tt
 
-pub fault_told : {E : Type 0} (form : LogForm) (budget : ℕ) (json : Bool) (table : Table) (name : List ℕ) (chart : ChartEntry) (bytes : List ℕ) (fault : LogFault) (r : Result Reply E) → IfOk r (λ x. x.status ≡ 5) → IfOk r (λ x. x.text ≡ fault_line json (Log fault))
-    → IsJudged chart form budget bytes (Refused fault) → IfOk r (λ x. IsTheOne (LogOutcome form budget json table name bytes) x.status x.text)
-fault_told form budget json table name chart bytes fault (Ok x) s t is = faulty_one form budget json table name bytes fault x.status x.text is.1 s t
-fault_told form budget json table name chart bytes fault (Err e) s t is = tt
+pub fault_told : {E : Type 0} (form : LogForm) (budget : ℕ) (json : Bool) (table : Table) (name bytes : List ℕ) (fault : LogFault) (r : Result Reply E) → IfOk r (λ x. x.status ≡ 5) → IfOk r (λ x. x.text ≡ fault_line json (Log fault))
+    → IsJudged table name form budget bytes (Refused fault) → IfOk r (λ x. IsTheOne (LogOutcome form budget json table name bytes) x.status x.text)
+fault_told form budget json table name bytes fault (Ok x) s t is = faulty_one form budget json table name bytes fault x.status x.text is.1 s t
+fault_told form budget json table name bytes fault (Err e) s t is = tt
 
 -- a log that was judged has no want of memory for a fault
-pub told_log : (chart : ChartEntry) (form : LogForm) (budget : ℕ) (bytes : List ℕ) (judged : Judged) → IsJudged chart form budget bytes judged → IsToldLog judged
-told_log chart form budget bytes (log.Told verdict) h = tt
-told_log chart form budget bytes (Refused fault) h = h.0
+pub told_log : (table : Table) (name : List ℕ) (form : LogForm) (budget : ℕ) (bytes : List ℕ) (judged : Judged) → IsJudged table name form budget bytes judged → IsToldLog judged
+told_log table name form budget bytes (log.Told verdict) h = tt
+told_log table name form budget bytes (Refused fault) h = h.0
 
 -- ---- a document that was opened
 

@@ -6,7 +6,7 @@ ghost use Rattle.judge_report.specs.declared.fault.Fault.TheVariants.{LogRead};
 ghost use Rattle.judge_report.specs.Texts.{IsTold, fault_line};
 ghost use Rattle.msc_base.specs.declared.limits.TheConstants.Limits.{BUDGET_MOST};
 ghost use Rattle.msc_acceptance.specs.AcceptedCharts.{IsAcceptedChart};
-ghost use Rattle.msc_meaning.specs.Tables.{ChartEntry as Chart, Table, chart_at};
+ghost use Rattle.msc_meaning.specs.Tables.{Table, chart_at};
 ghost use Rattle.msc_meaning.specs.Views.{entry_view};
 ghost use Rattle.msc_cmd.specs.Failures.{FailedAt, CannotRead};
 ghost use Rattle.msc_cmd.specs.LogJudging.{IsJudged, IsToldLog};
@@ -69,7 +69,7 @@ fn answer_log(alloc: Global, judged: &Judged, json: bool) -> Result<Reply, NoMem
     requires { IsToldLog judged.now }
     ensures small { IfOk result (λ r. r.status < 7) }
     ensures not_two { IfOk result (λ r. r.status ≡ 2 → ⊥) }
-    ensures outcome { (table : Table) (name : List ℕ) (chart : Chart) (form : Form) (budget : ℕ) (bytes : List ℕ) → chart_at table name ≡ Some chart → IsJudged chart form budget bytes judged.now
+    ensures outcome { (table : Table) (name : List ℕ) (form : Form) (budget : ℕ) (bytes : List ℕ) → IsJudged table name form budget bytes judged.now
         → IfOk result (λ r. IsTheOne (LogOutcome form budget json table name bytes) r.status r.text) }
 {
     match judged {

@@ -6,7 +6,7 @@ ghost use Rattle.outside.specs.Shelves.{Files};
 ghost use Rattle.event_log.specs.declared.event.LogForm.{LogForm as Form};
 ghost use Rattle.msc_base.specs.declared.limits.TheConstants.Limits.{BUDGET_MOST};
 ghost use Rattle.msc_acceptance.specs.AcceptedCharts.{IsAcceptedChart};
-ghost use Rattle.msc_meaning.specs.Tables.{ChartEntry as Chart};
+ghost use Rattle.msc_meaning.specs.Tables.{Table, chart_at};
 ghost use Rattle.msc_meaning.specs.Views.{entry_view};
 ghost use Rattle.msc_cmd.specs.LogJudging.{IsJudgedLog, IsReadingLog, IsStep};
 
@@ -51,8 +51,8 @@ fn take_more<S: Shelf>(
     ensures begun { S.begun shelf.new ≡ S.begun shelf.old }
     ensures last { S.last shelf.new ≡ S.last shelf.old }
     ensures later { S.faults shelf.old ≤ S.faults shelf.new }
-    ensures step { (chart : Chart) (form : Form) (budget : ℕ) → IsReadingLog chart form budget (S.files shelf.old) name.now (S.rest shelf.old) judge.old
-        → IfOk result (IsStep chart form budget (S.files shelf.new) name.now (S.rest shelf.new) judge.old.reader.count judge.new) }
+    ensures step { (table : Table) (chart : List ℕ) (form : Form) (budget : ℕ) → IsReadingLog table chart form budget (S.files shelf.old) name.now (S.rest shelf.old) judge.old
+        → IfOk result (IsStep table chart form budget (S.files shelf.new) name.now (S.rest shelf.new) judge.old.reader.count judge.new) }
     ensures failed { IsErrOf result ReadFault.Failed → Rose (S.faults shelf.old) (S.faults shelf.new) }
     ensures broken { IsErrOf result ReadFault.Failed → S.broken shelf.new ≡ true }
 {
@@ -70,8 +70,8 @@ fn take_more<S: Shelf>(
 
 /// What the log that has been read comes to.
 fn ended(judge: ChartJudge) -> Result<Judged, ReadFault>
-    ensures log { (chart : Chart) (form : Form) (budget : ℕ) (files : Option Files) (name : List ℕ) → IsReadingLog chart form budget files name (Some []) judge
-        → IfOk result (IsJudgedLog chart form budget files name) }
+    ensures log { (table : Table) (chart : List ℕ) (form : Form) (budget : ℕ) (files : Option Files) (name : List ℕ) → IsReadingLog table chart form budget files name (Some []) judge
+        → IfOk result (IsJudgedLog table chart form budget files name) }
     ensures failed { IsErrOf result ReadFault.Failed → ⊥ }
 {
     match judge.finish() {
@@ -95,7 +95,7 @@ pub fn judge_entry<S: Shelf>(
     requires most { budget ≤ BUDGET_MOST }
     ensures files { S.files shelf.new ≡ S.files shelf.old }
     ensures later { S.faults shelf.old ≤ S.faults shelf.new }
-    ensures log { IfOk result (IsJudgedLog (entry_view chart.now) form budget (S.files shelf.old) name.now) }
+    ensures log { (table : Table) (of : List ℕ) → chart_at table of ≡ Some (entry_view chart.now) → IfOk result (IsJudgedLog table of form budget (S.files shelf.old) name.now) }
     ensures failed { IsErrOf result ReadFault.Failed → Rose (S.faults shelf.old) (S.faults shelf.new) }
     ensures broken { IsErrOf result ReadFault.Failed → S.broken shelf.new ≡ true }
     ensures last { IsErrOf result ReadFault.Failed → S.last shelf.new ≡ Some name.now }

@@ -3,7 +3,7 @@
 use Rattle.std.specs.Prelude.{◌≡◌, ℕ, List, ◌++◌, Option, codes}
 use Rattle.msc_base.specs.declared.label.Label.{Label}
 use Rattle.msc_base.specs.declared.label.Kind.{Kind}
-use Rattle.msc_base.specs.declared.label.Kind.TheVariants.{Action, Create}
+use Rattle.msc_base.specs.declared.label.Kind.TheVariants.{Output, Input, OutputLost, InputFound, Action, TimerStart, TimerStop, Timeout, Create}
 use Rattle.msc_tokens.specs.declared.token.Token.{Token}
 use Rattle.msc_tree.specs.Labels.{label_of, list_text}
 use Rattle.token_grammar.specs.Languages.{just, texts}
@@ -29,11 +29,20 @@ pub record ReadsEvent (tokens : List (List ℕ)) (label : Label) : Type 0 where
 abbrev pub plain_message : Grammar (List ℕ × Option (List (List ℕ)))
 plain_message = tail name parameters
 
+abbrev pub reads_message : List Token → List ℕ → Type 0
+reads_message tokens text = (parts : List ℕ × Option (List (List ℕ))) × plain_message.reads tokens parts × (text ≡ parts.0 ++ list_text parts.1)
+
 -- the tokens of an event's text, by its kind
 abbrev pub reads_text : Kind → List Token → List ℕ → Type 0
 reads_text Action tokens text = item.reads tokens text
 reads_text Create tokens text = name.reads tokens text
-reads_text _ tokens text = (parts : List ℕ × Option (List (List ℕ))) × plain_message.reads tokens parts × (text ≡ parts.0 ++ list_text parts.1)
+reads_text Output tokens text = reads_message tokens text
+reads_text Input tokens text = reads_message tokens text
+reads_text OutputLost tokens text = reads_message tokens text
+reads_text InputFound tokens text = reads_message tokens text
+reads_text TimerStart tokens text = reads_message tokens text
+reads_text TimerStop tokens text = reads_message tokens text
+reads_text Timeout tokens text = reads_message tokens text
 
 -- tokens with these bytes are the text of an event of this kind
 pub record ReadsText (kind : Kind) (tokens : List (List ℕ)) (text : List ℕ) : Type 0 where

@@ -3,7 +3,7 @@
 use Rattle.std.specs.Prelude.{ℕ, List, ◌++◌, Option, codes}
 use Rattle.msc_base.specs.declared.label.Label.{Label}
 use Rattle.msc_base.specs.declared.label.Kind.{Kind}
-use Rattle.msc_base.specs.declared.label.Kind.TheVariants.{Action, Create}
+use Rattle.msc_base.specs.declared.label.Kind.TheVariants.{Output, Input, OutputLost, InputFound, Action, TimerStart, TimerStop, Timeout, Create}
 use Rattle.msc_tokens.specs.declared.token.Token.{Token}
 use Rattle.msc_tree.specs.Labels.{label_of, list_text}
 use Rattle.token_grammar.specs.Languages.{Read, just, seq_at, map_at, tail_at, behind_at}
@@ -28,4 +28,10 @@ glued_message_at = map_at glued plain_message_at
 abbrev pub text_at : Kind → List Token → Read (List ℕ)
 text_at Action = item_at
 text_at Create = name_at
-text_at _ = glued_message_at
+text_at Output = glued_message_at
+text_at Input = glued_message_at
+text_at OutputLost = glued_message_at
+text_at InputFound = glued_message_at
+text_at TimerStart = glued_message_at
+text_at TimerStop = glued_message_at
+text_at Timeout = glued_message_at

@@ -37,7 +37,13 @@ fn text(alloc: Global, kind: Kind, tokens: &[Token]) -> Result<(Text, &[Token]),
     match kind {
         Kind::Action => item(alloc, tokens),
         Kind::Create => own_text(alloc, tokens),
-        _ => plain_message(alloc, tokens),
+        Kind::Output
+        | Kind::Input
+        | Kind::OutputLost
+        | Kind::InputFound
+        | Kind::TimerStart
+        | Kind::TimerStop
+        | Kind::Timeout => plain_message(alloc, tokens),
     }
 }
 

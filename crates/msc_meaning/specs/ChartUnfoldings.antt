@@ -1,5 +1,5 @@
 -- The unfoldings of levels, items, expressions, graphs and charts.
-use Rattle.std.specs.Prelude.{◌≡◌, ◌≤◌, ◌<◌, ⊤, ℕ, zero, suc, Bool, true, false, List, [], ◌∷◌, Option, Some, None}
+use Rattle.std.specs.Prelude.{◌≡◌, ◌≤◌, ◌<◌, ⊤, ℕ, zero, suc, Bool, true, false, List, [], ◌∷◌, Option, Some, None, map}
 use Rattle.msc_base.specs.declared.label.Far.{Far}
 use Rattle.msc_base.specs.declared.label.LabelRef.{LabelRef}
 use Rattle.msc_base.specs.declared.label.Pair.{Pair}
@@ -41,8 +41,7 @@ abbrev pub refining_under : (EventNode → Far) → List Match → Around
 refining_under far_of ms = record { gates = no_gates; far = inner_far far_of ms }
 
 abbrev pub label_names : List LabelRef → List (List ℕ)
-label_names [] = []
-label_names (l ∷ ls) = l.name ∷ label_names ls
+label_names ls = map (λ l. l.name) ls
 
 -- the events of a coregion, side by side
 pub data OfEvents (ends : List GateEnd) (around : Around) : List EventNode → Unfolding → Type 0 where

@@ -1,5 +1,6 @@
 -- Far ends: what goes down from a level to its items and their charts.
-use Rattle.std.specs.Prelude.{ℕ, List, [], ◌∷◌, Option, Some, None, ◌&&◌, if◌then◌else◌}
+use Rattle.std.specs.Prelude.{ℕ, List, [], ◌∷◌, Option, Some, None, ◌&&◌, option_map, option_and_then}
+use Rattle.std.specs.List.{find}
 use Rattle.std.specs.Option.{option_or, unwrap_or}
 use Rattle.std.specs.Str.{bytes_eq}
 use Rattle.msc_base.specs.declared.label.Far.{Far}
@@ -40,12 +41,10 @@ pub record Gates : Type 0 where
 
 -- the end of the called gate
 abbrev pub end_at : List GateEnd → List ℕ → List ℕ → Option GateEnd
-end_at [] name gate = None
-end_at (e ∷ es) name gate = if bytes_eq e.name name && bytes_eq e.gate gate then Some e else end_at es name gate
+end_at ends name gate = find (λ e. bytes_eq e.name name && bytes_eq e.gate gate) ends
 
 abbrev pub instance_at : Option GateEnd → Option (List ℕ)
-instance_at None = None
-instance_at (Some e) = Some e.at
+instance_at end = option_map (λ e. e.at) end
 
 -- the caller's instance: that of the event, or that of the inner events of the other gate
 abbrev pub caller_at : List GateEnd → Caller → Option (List ℕ)
@@ -54,8 +53,7 @@ caller_at ends (a_gate None gate) = None
 caller_at ends (a_gate (Some name) gate) = instance_at (end_at ends name gate)
 
 abbrev pub called_from : List GateEnd → List Call → List ℕ → List ℕ → Option (List ℕ)
-called_from ends [] name gate = None
-called_from ends (c ∷ cs) name gate = if is_call_of name gate c then caller_at ends c.by else called_from ends cs name gate
+called_from ends cs name gate = option_and_then (λ c. caller_at ends c.by) (find (is_call_of name gate) cs)
 
 -- the instance of the gate's caller, where it has one
 abbrev pub caller_of : Gates → Option (List ℕ) → List ℕ → Option (List ℕ)
@@ -69,8 +67,7 @@ abbrev pub gates_inside : Gates → Option (List ℕ) → GateMap → GateMap
 gates_inside a name outside g = option_or (caller_of a name g) (outside g)
 
 abbrev pub through : GateMap → Option (List ℕ) → Option (List ℕ)
-through outside None = None
-through outside (Some h) = outside h
+through outside h = option_and_then outside h
 
 -- in a reference's charts a gate with a caller leads to the caller's instance, one that is a gate of the level where that one leads,
 -- and any other nowhere

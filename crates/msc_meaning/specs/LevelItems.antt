@@ -1,5 +1,5 @@
 -- The items of a level, the columns that they stand in, and the instances that they cover.
-use Rattle.std.specs.Prelude.{ℕ, zero, suc, Bool, true, false, List, [], ◌∷◌, ◌++◌, Option, Some, None, if◌then◌else◌}
+use Rattle.std.specs.Prelude.{ℕ, zero, suc, Bool, true, false, List, [], ◌∷◌, ◌++◌, Option, Some, None, if◌then◌else◌, map, filter}
 use Rattle.std.specs.List.{list_any}
 use Rattle.std.specs.Str.{bytes_eq}
 use Rattle.msc_base.specs.declared.label.Kind.{Kind}
@@ -94,15 +94,13 @@ abbrev pub column_of : List Entry → List ℕ → List ℕ
 column_of es i = creations_of es i ++ entries_at es i
 
 abbrev pub columns_of : List Entry → List (List ℕ) → List (List ℕ)
-columns_of es [] = []
-columns_of es (i ∷ is) = column_of es i ∷ columns_of es is
+columns_of es is = map (column_of es) is
 
 -- ---- covers
 
 -- those of the level's instances that are among the names
 abbrev pub within : List (List ℕ) → List (List ℕ) → List (List ℕ)
-within [] names = []
-within (i ∷ is) names = if is_in names i then i ∷ within is names else within is names
+within is names = filter (is_in names) is
 
 abbrev pub shared_of : Form → Option Cover
 shared_of (tree.Inline head held) = head.shared

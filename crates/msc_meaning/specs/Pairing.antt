@@ -1,5 +1,6 @@
 -- Which input takes in what an output puts out: of each message with its pairing name, the k-th input takes the k-th output.
-use Rattle.std.specs.Prelude.{◌≡◌, ◌≤◌, ◌⊎◌, ⊤, ℕ, zero, suc, Bool, true, false, ◌&&◌, List, [], ◌∷◌, take, Option, Some, None, slice_get, if◌then◌else◌}
+use Rattle.std.specs.Prelude.{◌≡◌, ◌≤◌, ◌⊎◌, ⊤, ℕ, suc, Bool, true, false, ◌&&◌, List, [], ◌∷◌, take, Option, Some, None, slice_get}
+use Rattle.std.specs.List.{count_by}
 use Rattle.std.specs.Str.{bytes_eq}
 use Rattle.msc_base.specs.declared.label.Kind.{Kind}
 use Rattle.msc_base.specs.declared.label.Kind.TheVariants.{Output, Input}
@@ -39,8 +40,7 @@ is_key k (l ∷ ls) = bytes_eq k.sender l.sender && (bytes_eq k.receiver l.recei
 
 -- how many of the events have this key
 abbrev pub count_key : (EventNode → List Key) → Key → List EventNode → ℕ
-count_key key_of k [] = zero
-count_key key_of k (n ∷ ns) = if is_key k (key_of n) then suc (count_key key_of k ns) else count_key key_of k ns
+count_key key_of k ns = count_by (λ n. is_key k (key_of n)) ns
 
 -- among the events of a level the output and the input of these numbers have one key, and for some k each is the k-th of its direction
 pub record IsPaired (held : List EventNode) (p q : ℕ) : Type 0 where

@@ -1,6 +1,6 @@
 -- Decomposed instances: which event of a refining chart stands for which event of the instance, and what far ends change by it.
-use Rattle.std.specs.Prelude.{ℕ, zero, suc, Bool, true, false, List, [], ◌∷◌, ◌++◌, Option, Some, None, ◌&&◌, ◌==◌, if◌then◌else◌, slice_get}
-use Rattle.std.specs.List.{list_any}
+use Rattle.std.specs.Prelude.{ℕ, Bool, true, false, not, filter, List, [], ◌∷◌, ◌++◌, Option, Some, None, ◌&&◌, ◌==◌, if◌then◌else◌, slice_get, option_map, option_and_then}
+use Rattle.std.specs.List.{count_by, find, flat_map, list_any}
 use Rattle.std.specs.Str.{bytes_eq}
 use Rattle.msc_base.specs.declared.label.Far.{Far}
 use Rattle.msc_base.specs.declared.label.Far.TheVariants as far
@@ -30,15 +30,9 @@ same_way _ _ = false
 abbrev pub is_like : EventNode → EventNode → Bool
 is_like e d = same_way e.event.kind d.event.kind && bytes_eq (text_of e) (text_of d)
 
--- how many are like it
-abbrev pub count_like : EventNode → List EventNode → ℕ
-count_like e [] = zero
-count_like e (d ∷ ds) = if is_like e d then suc (count_like e ds) else count_like e ds
-
 -- those like it
 abbrev pub all_like : EventNode → List EventNode → List EventNode
-all_like e [] = []
-all_like e (d ∷ ds) = if is_like e d then d ∷ all_like e ds else all_like e ds
+all_like e ds = filter (is_like e) ds
 
 abbrev pub is_env : Target → Bool
 is_env (Env gate) = true
@@ -46,13 +40,11 @@ is_env _ = false
 
 -- the events of a refining chart that are written with the environment as their other end
 abbrev pub env_events : List EventNode → List EventNode
-env_events [] = []
-env_events (d ∷ ds) = if is_env d.event.target then d ∷ env_events ds else env_events ds
+env_events ds = filter (λ d. is_env d.event.target) ds
 
 -- the events of an instance
 abbrev pub events_at : List ℕ → List EventNode → List EventNode
-events_at i [] = []
-events_at i (e ∷ es) = if bytes_eq e.at i then e ∷ events_at i es else events_at i es
+events_at i es = filter (λ e. bytes_eq e.at i) es
 
 abbrev pub match_list : EventNode → Option EventNode → List Match
 match_list e None = []
@@ -61,7 +53,7 @@ match_list e (Some d) = record { event = e; inner = d } ∷ []
 -- of the events behind those that were before, each with the one that has as many like it before it
 abbrev pub matches_behind : List EventNode → List EventNode → List EventNode → List Match
 matches_behind inner before [] = []
-matches_behind inner before (e ∷ es) = match_list e (slice_get (all_like e inner) (count_like e before)) ++ matches_behind inner (before ++ e ∷ []) es
+matches_behind inner before (e ∷ es) = match_list e (slice_get (all_like e inner) (count_by (is_like e) before)) ++ matches_behind inner (before ++ e ∷ []) es
 
 -- of a direction and text the k-th event of the instance is matched with the k-th of the refining chart
 abbrev pub matches : List ℕ → WovenItems → WovenItems → List Match
@@ -79,8 +71,7 @@ refining_by i held (Some (level cover inner pairs)) = refining (level cover inne
 
 -- of each decomposed instance of a level
 abbrev pub refinings : Table → WovenItems → List Refinement → List Refining
-refinings table held [] = []
-refinings table held (r ∷ rs) = refining_by r.instance held (body_at table r.chart) ++ refinings table held rs
+refinings table held rs = flat_map (λ r. refining_by r.instance held (body_at table r.chart)) rs
 
 abbrev pub all_matches : List Refining → List Match
 all_matches [] = []
@@ -95,16 +86,10 @@ partner (p ∷ ps) n = if p.first == n then Some p.second else (if p.second == n
 
 -- the event that stands for the one of that number
 abbrev pub standing_for : List Match → ℕ → Option EventNode
-standing_for [] n = None
-standing_for (m ∷ ms) n = if m.event.number == n then Some m.inner else standing_for ms n
+standing_for ms n = option_map (λ m. m.inner) (find (λ m. m.event.number == n) ms)
 
 abbrev pub far_by : List Match → Option ℕ → Option Far
-far_by ms None = None
-far_by ms (Some n) = instance_of (standing_for ms n)
-  where
-    instance_of : Option EventNode → Option Far
-    instance_of None = None
-    instance_of (Some d) = Some (far.Instance d.at)
+far_by ms n = option_map (λ d. far.Instance d.at) (option_and_then (standing_for ms) n)
 
 -- where the partner of an event is matched, the far end is the instance of the event that stands for the partner
 abbrev pub refined_far : List Pair → List Match → ℕ → Option Far
@@ -112,8 +97,7 @@ refined_far pairs ms n = far_by ms (partner pairs n)
 
 -- an event that stands for another has that one's far end
 abbrev pub inner_far : (EventNode → Far) → List Match → ℕ → Option Far
-inner_far far_of [] d = None
-inner_far far_of (m ∷ ms) d = if m.inner.number == d then Some (far_of m.event) else inner_far far_of ms d
+inner_far far_of ms d = option_map (λ m. far_of m.event) (find (λ m. m.inner.number == d) ms)
 
 -- ---- what is left, and tags
 
@@ -121,10 +105,9 @@ abbrev pub is_decomposed : List Refinement → EventNode → Bool
 is_decomposed rs n = list_any (λ r. bytes_eq r.instance n.at) rs
 
 abbrev pub left_of : List Refinement → List EventNode → List EventNode
-left_of rs [] = []
-left_of rs (n ∷ ns) = if is_decomposed rs n then left_of rs ns else n ∷ left_of rs ns
+left_of rs ns = filter (λ n. not (is_decomposed rs n)) ns
 
--- the items without_decomposed the events of decomposed instances
+-- the items without the events of decomposed instances
 abbrev pub without_decomposed : List Refinement → WovenItems → WovenItems
 without_decomposed rs no_items = no_items
 without_decomposed rs (item_and (Single n) xs) = if is_decomposed rs n then without_decomposed rs xs else item_and (Single n) (without_decomposed rs xs)

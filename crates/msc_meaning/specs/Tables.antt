@@ -1,5 +1,6 @@
 -- The table of a document's charts.
-use Rattle.std.specs.Prelude.{ℕ, List, [], ◌∷◌, ◌++◌, Option, Some, None, if◌then◌else◌}
+use Rattle.std.specs.Prelude.{ℕ, List, [], ◌∷◌, Option, Some, None, if◌then◌else◌}
+use Rattle.std.specs.List.{find, flat_map}
 use Rattle.std.specs.Option.{option_or}
 use Rattle.std.specs.Str.{bytes_eq}
 use Rattle.msc_base.specs.NameTables.{with_name}
@@ -23,8 +24,7 @@ Table = List ChartEntry
 
 -- the chart of that name
 abbrev pub chart_at : Table → List ℕ → Option ChartEntry
-chart_at [] name = None
-chart_at (c ∷ cs) name = if bytes_eq c.name name then Some c else chart_at cs name
+chart_at table name = find (λ c. bytes_eq c.name name) table
 
 abbrev pub body_in : Option ChartEntry → Option Body
 body_in None = None
@@ -60,8 +60,7 @@ refinement name None = []
 refinement name (Some chart) = record { instance = name; chart = chart } ∷ []
 
 abbrev pub refinements_of : List Decl → List (List ℕ) → List Refinement
-refinements_of decls [] = []
-refinements_of decls (name ∷ names) = refinement name (refined_as decls name) ++ refinements_of decls names
+refinements_of decls names = flat_map (λ name. refinement name (refined_as decls name)) names
 
 -- the decomposed instances, in the order in which they are declared
 abbrev pub refinements : List Decl → List Refinement

@@ -1,5 +1,6 @@
 -- What ties the events of a level, and what becomes of their tags above it.
-use Rattle.std.specs.Prelude.{ℕ, Bool, true, false, List, [], ◌∷◌, ◌++◌, Option, Some, None, if◌then◌else◌}
+use Rattle.std.specs.Prelude.{ℕ, Bool, true, false, List, [], ◌∷◌, ◌++◌, Option, Some, None, if◌then◌else◌, map}
+use Rattle.std.specs.List.{flat_map}
 use Rattle.std.specs.Str.{bytes_eq}
 use Rattle.msc_base.specs.declared.label.Kind.{Kind}
 use Rattle.msc_base.specs.declared.label.Kind.TheVariants.{Input}
@@ -8,7 +9,7 @@ use Rattle.msc_unfolding.specs.Unfoldings.{Tag, Own, Via, On, Tie}
 use Rattle.msc_tree.specs.declared.reference.Join.{Join}
 use Rattle.msc_tree.specs.declared.reference.JoinEnd.{JoinEnd}
 use Rattle.msc_tree.specs.declared.reference.JoinEnd.TheVariants as join_end
-use Rattle.msc_meaning.specs.Bodies.{EventNode, WovenItems, no_items, item_and, WovenItem, Single, Coregion, Inline, Refer, events}
+use Rattle.msc_meaning.specs.Bodies.{EventNode, WovenItems, WovenItem, Single, Coregion, Inline, Refer, events, item_list}
 use Rattle.msc_meaning.specs.Calls.{Caller, an_event, a_gate, Call, is_called, passed_to}
 use Rattle.msc_meaning.specs.InnerEvents.{GateEnd}
 use Rattle.msc_meaning.specs.FarEnds.{end_at}
@@ -17,8 +18,7 @@ use Rattle.msc_meaning.specs.FarEnds.{end_at}
 
 -- events of the level, the first of each pair before the second
 abbrev pub own_ties : List Pair → List (Tag × Tag)
-own_ties [] = []
-own_ties (p ∷ ps) = (Own p.first, Own p.second) ∷ own_ties ps
+own_ties ps = map (λ p. (Own p.first, Own p.second)) ps
 
 abbrev pub is_labelled : Option (List ℕ) → List ℕ → Bool
 is_labelled None name = false
@@ -30,22 +30,18 @@ labelled [] name = []
 labelled (n ∷ ns) name = if is_labelled n.event.order.event_name name then n.number ∷ labelled ns name else labelled ns name
 
 abbrev pub each_after : ℕ → List ℕ → List Pair
-each_after x [] = []
-each_after x (e ∷ es) = record { first = x; second = e } ∷ each_after x es
+each_after x es = map (λ e. record { first = x; second = e }) es
 
 abbrev pub each_before : ℕ → List ℕ → List Pair
-each_before x [] = []
-each_before x (e ∷ es) = record { first = e; second = x } ∷ each_before x es
+each_before x es = map (λ e. record { first = e; second = x }) es
 
 -- the event x comes before the events of these names; named: the numbers of the events of a name
 abbrev pub before_pairs : (List ℕ → List ℕ) → ℕ → List (List ℕ) → List Pair
-before_pairs named x [] = []
-before_pairs named x (name ∷ names) = each_after x (named name) ++ before_pairs named x names
+before_pairs named x names = flat_map (λ name. each_after x (named name)) names
 
 -- the event x comes after them
 abbrev pub after_pairs : (List ℕ → List ℕ) → ℕ → List (List ℕ) → List Pair
-after_pairs named x [] = []
-after_pairs named x (name ∷ names) = each_before x (named name) ++ after_pairs named x names
+after_pairs named x names = flat_map (λ name. each_before x (named name)) names
 
 -- the general ordering of these events
 abbrev pub order_pairs : (List ℕ → List ℕ) → List EventNode → List Pair
@@ -62,13 +58,12 @@ in_order Input a b = (b, a)
 in_order _ a b = (a, b)
 
 -- an event that calls a gate, and the inner events of the gate
+abbrev pub event_tie : Call → Caller → List (Tag × Tag)
+event_tie c (an_event n) = in_order n.event.kind (Own n.number) (On c.name c.gate) ∷ []
+event_tie c (a_gate name gate) = []
+
 abbrev pub event_ties : List Call → List (Tag × Tag)
-event_ties [] = []
-event_ties (c ∷ cs) = tie_of c c.by ++ event_ties cs
-  where
-    tie_of : Call → Caller → List (Tag × Tag)
-    tie_of c (an_event n) = in_order n.event.kind (Own n.number) (On c.name c.gate) ∷ []
-    tie_of c (a_gate name gate) = []
+event_ties cs = flat_map (λ c. event_tie c c.by) cs
 
 abbrev pub tie_by : Option GateEnd → List ℕ → List ℕ → List ℕ → List ℕ → List (Tag × Tag)
 tie_by None own g name h = []
@@ -81,18 +76,16 @@ join_tie ends own g (join_end.Reference name h) = tie_by (end_at ends own g) own
 -- the inner events of two gates that a join of the reference ties
 abbrev pub joins_ties : List GateEnd → Option (List ℕ) → List Join → List (Tag × Tag)
 joins_ties ends None js = []
-joins_ties ends (Some own) [] = []
-joins_ties ends (Some own) (j ∷ js) = join_tie ends own j.gate j.to ++ joins_ties ends (Some own) js
+joins_ties ends (Some own) js = flat_map (λ j. join_tie ends own j.gate j.to) js
+
+abbrev pub item_joins_ties : List GateEnd → WovenItem → List (Tag × Tag)
+item_joins_ties ends (Single n) = []
+item_joins_ties ends (Coregion ns) = []
+item_joins_ties ends (Inline form part operands) = []
+item_joins_ties ends (Refer part) = joins_ties ends part.name part.joins
 
 abbrev pub items_joins_ties : List GateEnd → WovenItems → List (Tag × Tag)
-items_joins_ties ends no_items = []
-items_joins_ties ends (item_and x xs) = item_joins_ties x ++ items_joins_ties ends xs
-  where
-    item_joins_ties : WovenItem → List (Tag × Tag)
-    item_joins_ties (Single n) = []
-    item_joins_ties (Coregion ns) = []
-    item_joins_ties (Inline form part operands) = []
-    item_joins_ties (Refer part) = joins_ties ends part.name part.joins
+items_joins_ties ends held = flat_map (item_joins_ties ends) (item_list held)
 
 -- what ties the events of a level: its messages, its general ordering, its callers, and its joins
 abbrev pub ties : WovenItems → List Pair → List Call → List GateEnd → List (Tag × Tag)

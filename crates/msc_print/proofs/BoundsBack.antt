@@ -1,5 +1,5 @@
 -- The bounds of a loop that were read are written so that they read back.
-use Rattle.std.proofs.Common.{ℕ, ◌&&◌, ◌++◌, nat_lt, ◌≡◌, ◌∙◌, ◌≤◌, ◌<◌, true, List, [], ◌∷◌, length, refl, sym, ap, subst, inl, inr, Option, Some, None, MatchOption, arith, codes}
+use Rattle.std.proofs.Common.{◌+◌, ℕ, ◌&&◌, ◌++◌, nat_lt, ◌≡◌, ◌∙◌, ◌≤◌, ◌<◌, true, List, [], ◌∷◌, length, refl, sym, ap, subst, inl, inr, Option, Some, None, MatchOption, arith, codes}
 use Rattle.std.specs.Fmt.{decimal}
 use Rattle.std.specs.Char.{digit_value}
 use Rattle.std.specs.List.{list_all, list_any}
@@ -11,6 +11,7 @@ use Rattle.std.specs.Str.Parse.{AllDigits}
 use Rattle.std.proofs.lemmas.Bool.Decides.{nat_tests}
 use Rattle.std.proofs.lemmas.Str.Parse.{digit_from_value}
 use Rattle.std.proofs.lemmas.Fmt.{decimal_is_IsNumeral, length-decimal-le}
+use Rattle.msc_base.specs.declared.limits.TheConstants.Limits.{LOOP_BOUND, NAME_BYTES}
 use Rattle.msc_tokens.specs.declared.token.Token.{Token}
 use Rattle.token_grammar.specs.Classes.{is_digit, is_number, is_word}
 use Rattle.token_grammar.specs.Languages.{just, numbers}
@@ -22,7 +23,7 @@ use Rattle.msc_print.specs.ExpressionWords.{upper_word, bound_words}
 use Rattle.msc_print.proofs.Written.{Writes, writes_seq, writes_bytes, writes_behind}
 
 abbrev pub Small : ℕ → Type 0
-Small n = n ≤ 1000001
+Small n = n ≤ LOOP_BOUND + 1
 
 abbrev pub SmallUpper : Option ℕ → Type 0
 SmallUpper None = Unit {0}
@@ -131,10 +132,10 @@ digits_bytes (c ∷ cs) h = and_from (is_word_byte c) (list_all is_word_byte cs)
 digits_word : (ds : List ℕ) → 0 < length ds → AllDigits 10 ds → length ds ≤ 7 → is_word ds ≡ true
 digits_word [] some h short = absurd (omega arith)
 digits_word (c ∷ cs) some h short =
-    let few : nat_lt (length (c ∷ cs)) 256 ≡ true = grind (arith, nat_tests) in
+    let few : nat_lt (length (c ∷ cs)) (NAME_BYTES + 1) ≡ true = grind (arith, nat_tests) in
     let one : list_any is_letter_or_digit (c ∷ cs) ≡ true = rw (digit_letter c h.0) refl in
-    and_from (list_all is_word_byte (c ∷ cs)) (list_any is_letter_or_digit (c ∷ cs) && nat_lt (length (c ∷ cs)) 256) (digits_bytes (c ∷ cs) h)
-    (and_from (list_any is_letter_or_digit (c ∷ cs)) (nat_lt (length (c ∷ cs)) 256) one few)
+    and_from (list_all is_word_byte (c ∷ cs)) (list_any is_letter_or_digit (c ∷ cs) && nat_lt (length (c ∷ cs)) (NAME_BYTES + 1)) (digits_bytes (c ∷ cs) h)
+    (and_from (list_any is_letter_or_digit (c ∷ cs)) (nat_lt (length (c ∷ cs)) (NAME_BYTES + 1)) one few)
 
 decimal_word : (n : ℕ) → Small n → IsWord (decimal n)
 decimal_word n s =

@@ -1,9 +1,10 @@
 -- Texts of tokens in which `<` and `>` stand only round the bounds of a loop.
-use Rattle.std.proofs.Common.{ℕ, Bool, true, ◌≡◌, ◌∙◌, ◌++◌, ◌||◌, ◌&&◌, List, [], ◌∷◌, length, inl, inr, refl, sym, ap, subst, codes, arith, nat_lt}
+use Rattle.std.proofs.Common.{◌+◌, ℕ, Bool, true, ◌≡◌, ◌∙◌, ◌++◌, ◌||◌, ◌&&◌, List, [], ◌∷◌, length, inl, inr, refl, sym, ap, subst, codes, arith, nat_lt}
 use Rattle.std.proofs.lemmas.Bool.{and_parts, or_cases}
 use Rattle.std.proofs.lemmas.Bool.Decides.{nat_tests, Decides-by_and}
 use Rattle.std.proofs.lemmas.List.Folds.{Any-from_list_any}
 use Rattle.std.specs.List.{list_all, list_any}
+use Rattle.msc_base.specs.declared.limits.TheConstants.Limits.{NAME_BYTES}
 use Rattle.msc_base.specs.Names.{IsWord, IsWordByte, is_letter_or_digit, is_word_byte}
 use Rattle.msc_base.specs.Lists.{IsAmong}
 use Rattle.msc_tokens.specs.declared.token.Token.{Token}
@@ -72,10 +73,10 @@ tidy_texts _ (bounded l u rest lw uw h) =
 
 pub word_of : (w : List ℕ) → is_word w ≡ true → IsWord w
 word_of w h =
-    let p = and_parts (list_all is_word_byte w) (list_any is_letter_or_digit w && nat_lt (length w) 256) h in
-    let q = and_parts (list_any is_letter_or_digit w) (nat_lt (length w) 256) p.1 in
+    let p = and_parts (list_all is_word_byte w) (list_any is_letter_or_digit w && nat_lt (length w) (NAME_BYTES + 1)) h in
+    let q = and_parts (list_any is_letter_or_digit w) (nat_lt (length w) (NAME_BYTES + 1)) p.1 in
     let some = Any-from_list_any is_letter_or_digit w q.0 in
-    let few : nat_lt (length w) 256 ≡ true = q.1 in
+    let few : nat_lt (length w) (NAME_BYTES + 1) ≡ true = q.1 in
     record { bytes_are = (Decides-by_and is_word_byte IsWordByte (list_all is_word_byte) word_test refl (λ _ _. refl) w).0 p.0; has_one = (some.0, some.1, some.2, some.3, (letter_test (some.1)).0 some.4); short = grind (arith, nat_tests) }
 
 -- a text that stands alone

@@ -2,6 +2,7 @@
 use Rattle.std.proofs.Common.{◌≡◌, ◌<◌, ◌^◌, ◌||◌, Bool, true, false, cond, nat_lt, List, ℕ, length, ◌++◌, [], ◌∷◌, Option, Some, None, Result, Ok, Err, IfOk, IfErr, MatchResult, All, arith, sym, refl, ap, ◌∙◌, append-nil, subst, length-append, IfSome, ◌+◌}
 use Rattle.std.specs.Prelude.{fold}
 use Rattle.std.proofs.lemmas.List.Elements.{All-nil, All-cons}
+use Rattle.msc_base.specs.declared.limits.TheConstants.Limits.{NAME_BYTES}
 use Rattle.msc_base.specs.declared.place.Place.{Place}
 use Rattle.msc_tokens.specs.declared.token.Token.{Token}
 use Rattle.msc_tokens.specs.declared.token.TokenKind.TheVariants as kind
@@ -116,7 +117,7 @@ two_bytes b c h k = All-cons IsByte b (c ∷ []) h (one_byte c k)
 -- an open word may go on or end
 word_goes_on : (f : LexFault) (st : Place) (tx : List ℕ) (pl : Place) (tk : List Token) → IsFinal (stand mode.Word st tx pl tk) f → ⊥
 unfolding step
-word_goes_on f st tx pl tk h = go (has_letter tx) (nat_lt (length tx) 255) (h [] none_bytes) (h (97 ∷ []) (one_byte 97 (omega arith)))
+word_goes_on f st tx pl tk h = go (has_letter tx) (nat_lt (length tx) NAME_BYTES) (h [] none_bytes) (h (97 ∷ []) (one_byte 97 (omega arith)))
   where
     go : (b1 b2 : Bool) → cond b1 (Ok (listed (closed kind.Word (stand mode.Word st tx pl tk)))) (Err (fault.BadByte st)) ≡ Err f
         → answer (cond b2 (grown mode.Word (stand mode.Word st tx pl tk) 97) (in_mode mode.LongName (stand mode.Word st tx pl tk))) [] ≡ Err f → ⊥

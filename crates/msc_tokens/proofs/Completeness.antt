@@ -1,6 +1,7 @@
 -- What a text is, the machine answers.
-use Rattle.std.proofs.Common.{◌≡◌, ◌==◌, ◌≤◌, Bool, true, false, cond, List, ℕ, length, ◌++◌, [], ◌∷◌, Result, Ok, Err, Any, arith, sym, refl, ap, ap₂, ◌∙◌, append_assoc, append-nil, subst}
+use Rattle.std.proofs.Common.{◌+◌, ◌≡◌, ◌==◌, ◌≤◌, Bool, true, false, cond, List, ℕ, length, ◌++◌, [], ◌∷◌, Result, Ok, Err, Any, arith, sym, refl, ap, ap₂, ◌∙◌, append_assoc, append-nil, subst}
 use Rattle.std.proofs.lemmas.List.Elements.{All-head, All-tail}
+use Rattle.msc_base.specs.declared.limits.TheConstants.Limits.{NAME_BYTES}
 use Rattle.msc_base.specs.declared.place.Place.{Place}
 use Rattle.msc_base.specs.Names.{IsWord, IsWordByte, IsLetterOrDigit}
 use Rattle.msc_tokens.specs.declared.token.Token.{Token}
@@ -69,7 +70,7 @@ takes_word (c ∷ v) rest st tx pl tk h free = (
   pl,
   [],
   begins class.Word c (v ++ rest) st tx pl tk (class_is_word c (All-head IsWordByte c v h.bytes_are))
-      ∙ word_runs v rest pl (c ∷ []) (after_byte pl c) tk (All-tail IsWordByte c v h.bytes_are) (let short : length (c ∷ v) ≤ 255 = h.short in omega arith)
+      ∙ word_runs v rest pl (c ∷ []) (after_byte pl c) tk (All-tail IsWordByte c v h.bytes_are) (let short : length (c ∷ v) ≤ NAME_BYTES = h.short in omega arith)
       ∙ word_ends rest pl (c ∷ v) (past pl (c ∷ v)) tk ((letters_test (c ∷ v)).1 h.has_one) free,
 )
 
@@ -127,14 +128,14 @@ break_answer : (rest : List ℕ) (f : LexFault) (st : Place) (tx : List ℕ) (pl
     → answer (stand mode.Between st tx pl tk) rest ≡ Err f
 break_answer rest f st tx pl tk (long_word [] behind is all count f_is) = absurd (omega (arith, count))
 break_answer rest f st tx pl tk (long_word (c ∷ v) behind is all count f_is) =
-    let counted : length (c ∷ v) ≡ 256 = count in
+    let counted : length (c ∷ v) ≡ NAME_BYTES + 1 = count in
     ap (λ (bytes : List ℕ). answer (stand mode.Between st tx pl tk) bytes) is
     ∙ begins class.Word c (v ++ behind) st tx pl tk (class_is_word c (All-head IsWordByte c v all))
     ∙ long_runs v behind pl (c ∷ []) (after_byte pl c) tk (All-tail IsWordByte c v all) (omega arith) (omega arith)
     ∙ ap refused_as (sym f_is)
 break_answer rest f st tx pl tk (bad_word [] behind is all free some short none f_is) = absurd (omega (arith, some))
 break_answer rest f st tx pl tk (bad_word (c ∷ v) behind is all free some short none f_is) =
-    let counted : length (c ∷ v) ≤ 255 = short in
+    let counted : length (c ∷ v) ≤ NAME_BYTES = short in
     ap (λ (bytes : List ℕ). answer (stand mode.Between st tx pl tk) bytes) is
     ∙ begins class.Word c (v ++ behind) st tx pl tk (class_is_word c (All-head IsWordByte c v all))
     ∙ word_runs v behind pl (c ∷ []) (after_byte pl c) tk (All-tail IsWordByte c v all) (omega arith)

@@ -1,6 +1,7 @@
 -- Tokens that are taken out part by part.
 use Rattle.std.proofs.Common.{◌≡◌, ◌==◌, ◌∙◌, ◌++◌, Bool, true, false, cond, nat_lt, ℕ, List, [], ◌∷◌, length, Result, Ok, Err, IfOk, OnOk, refl, sym, ap, subst, append_assoc, append-nil}
 use Rattle.std.specs.Prelude.{fold}
+use Rattle.msc_base.specs.declared.limits.TheConstants.Limits.{NAME_BYTES}
 use Rattle.msc_base.specs.Names.{is_word_byte}
 use Rattle.msc_base.specs.declared.memory.NoMemory.{NoMemory}
 use Rattle.msc_tokens.specs.declared.token.Token.{Token}
@@ -44,7 +45,7 @@ module _ (front : List Token) where
   next_behind : (m : Mode) (s : State) (c : ℕ) → Same (next m (behind front s) c) (next m s c)
   next_behind mode.Between s c = begun_behind (class_of c) (behind front s) s c refl
   next_behind mode.Word s c =
-      both (is_word_byte c) _ _ _ _ (both (nat_lt (length s.text) 255) _ _ (grown mode.Word s c) (in_mode mode.LongName s) refl refl)
+      both (is_word_byte c) _ _ _ _ (both (nat_lt (length s.text) NAME_BYTES) _ _ (grown mode.Word s c) (in_mode mode.LongName s) refl refl)
       (both (has_letter s.text) _ _ (begun (closed kind.Word s) c) (in_mode mode.BadByte s) (begun_behind (class_of c) _ (closed kind.Word s) c (closed_behind kind.Word s)) refl)
   next_behind mode.Str s c = both (c == 39) _ _ (grown mode.Quote s c) _ refl (both (is_inside c) _ _ (grown mode.Str s c) (refused s) refl refl)
   next_behind mode.Quote s c = both (c == 39) _ _ (grown mode.Str s c) (begun (closed kind.Str s) c) refl (begun_behind (class_of c) _ (closed kind.Str s) c (closed_behind kind.Str s))

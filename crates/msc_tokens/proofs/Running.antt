@@ -1,6 +1,7 @@
 -- The machine takes a piece, and meets a fault.
 use Rattle.std.proofs.Common.{◌≡◌, ◌==◌, ◌<◌, ◌≤◌, ◌+◌, Bool, true, false, cond, nat_lt, List, ℕ, length, ◌++◌, [], ◌∷◌, Result, Ok, Err, All, arith, sym, refl, ap, ap₂, ◌∙◌, append_assoc, append-nil, subst, length-append, eqb-true, ltb-true}
 use Rattle.std.proofs.lemmas.List.Elements.{All-head, All-tail}
+use Rattle.msc_base.specs.declared.limits.TheConstants.Limits.{NAME_BYTES}
 use Rattle.msc_base.specs.declared.place.Place.{Place}
 use Rattle.msc_base.specs.Names.{IsWordByte, is_word_byte}
 use Rattle.msc_tokens.specs.declared.token.Token.{Token}
@@ -37,7 +38,7 @@ pub begins : (k : ByteClass) (c : ℕ) (bytes : List ℕ) (st : Place) (tx : Lis
 begins k c bytes st tx pl tk e = ap (λ (s : State). ended s.mode s) (begins_at k c bytes (stand mode.Between st tx pl tk) refl e)
 
 -- an open word takes the bytes of a word
-pub word_runs : (v rest : List ℕ) (st : Place) (tx : List ℕ) (pl : Place) (tk : List Token) → All IsWordByte v → length tx + length v ≤ 255
+pub word_runs : (v rest : List ℕ) (st : Place) (tx : List ℕ) (pl : Place) (tk : List Token) → All IsWordByte v → length tx + length v ≤ NAME_BYTES
     → answer (stand mode.Word st tx pl tk) (v ++ rest) ≡ answer (stand mode.Word st (tx ++ v) (past pl v) tk) rest
 word_runs v rest st tx pl tk h short = ap (λ (s : State). ended s.mode s) (runs_in_word v rest st tx pl tk h short)
 
@@ -57,18 +58,18 @@ word_fails [] st tx pl tk letter free =
 word_fails (c ∷ rest) st tx pl tk letter free =
     let s : State = stand mode.Word st tx pl tk in
     let word : is_word_byte c ≡ false = test_false (is_word_byte c) (IsWordByte c) (word_test c) free in
-    ap₂ (λ (b1 b3 : Bool). answer (cond b1 (cond (nat_lt (length tx) 255) (grown mode.Word s c) (in_mode mode.LongName s)) (cond b3 (begun (closed kind.Word s) c) (in_mode mode.BadByte s))) rest) word letter
+    ap₂ (λ (b1 b3 : Bool). answer (cond b1 (cond (nat_lt (length tx) NAME_BYTES) (grown mode.Word s c) (in_mode mode.LongName s)) (cond b3 (begun (closed kind.Word s) c) (in_mode mode.BadByte s))) rest) word letter
     ∙ bad_stays rest st tx pl tk
 
--- a word of 256 bytes
-pub long_runs : (v rest : List ℕ) (st : Place) (tx : List ℕ) (pl : Place) (tk : List Token) → All IsWordByte v → length tx ≤ 255 → 256 ≤ length tx + length v
+-- a word that is longer than a name may be
+pub long_runs : (v rest : List ℕ) (st : Place) (tx : List ℕ) (pl : Place) (tk : List Token) → All IsWordByte v → length tx ≤ NAME_BYTES → NAME_BYTES + 1 ≤ length tx + length v
     → answer (stand mode.Word st tx pl tk) (v ++ rest) ≡ Err (fault.LongName st)
 unfolding step
 long_runs [] rest st tx pl tk h short long = absurd (omega arith)
 long_runs (c ∷ v) rest st tx pl tk h short long =
-    let later : (more : List ℕ) (p : Place) → length more ≤ 255 → 256 ≤ length more + length v → answer (stand mode.Word st more p tk) (v ++ rest) ≡ Err (fault.LongName st) =
+    let later : (more : List ℕ) (p : Place) → length more ≤ NAME_BYTES → NAME_BYTES + 1 ≤ length more + length v → answer (stand mode.Word st more p tk) (v ++ rest) ≡ Err (fault.LongName st) =
     λ more p. long_runs v rest st more p tk (All-tail IsWordByte c v h) in
-    ap (λ (b1 : Bool). by_tests b1 (nat_lt (length tx) 255)) word ∙ go later (nat_lt (length tx) 255) refl
+    ap (λ (b1 : Bool). by_tests b1 (nat_lt (length tx) NAME_BYTES)) word ∙ go later (nat_lt (length tx) NAME_BYTES) refl
   where
     word : is_word_byte c ≡ true
     word = (word_test c).1 (All-head IsWordByte c v h)
@@ -77,10 +78,10 @@ long_runs (c ∷ v) rest st tx pl tk h short long =
     by_tests b1 b2 = answer (cond b1 (cond b2 (grown mode.Word (stand mode.Word st tx pl tk) c) (in_mode mode.LongName (stand mode.Word st tx pl tk)))
         (cond (has_letter tx) (begun (closed kind.Word (stand mode.Word st tx pl tk)) c) (in_mode mode.BadByte (stand mode.Word st tx pl tk)))) (v ++ rest)
 
-    go : ((more : List ℕ) (p : Place) → length more ≤ 255 → 256 ≤ length more + length v → answer (stand mode.Word st more p tk) (v ++ rest) ≡ Err (fault.LongName st))
-        → (b2 : Bool) → nat_lt (length tx) 255 ≡ b2 → by_tests true b2 ≡ Err (fault.LongName st)
+    go : ((more : List ℕ) (p : Place) → length more ≤ NAME_BYTES → NAME_BYTES + 1 ≤ length more + length v → answer (stand mode.Word st more p tk) (v ++ rest) ≡ Err (fault.LongName st))
+        → (b2 : Bool) → nat_lt (length tx) NAME_BYTES ≡ b2 → by_tests true b2 ≡ Err (fault.LongName st)
     go later true e =
-        let room : length tx < 255 = ltb-true (length tx) 255 e in
+        let room : length tx < NAME_BYTES = ltb-true (length tx) NAME_BYTES e in
         later (tx ++ c ∷ []) (after_byte pl c) (omega (arith, length-append tx (c ∷ []))) (omega (arith, length-append tx (c ∷ [])))
     go later false e = long_stays (v ++ rest) st tx pl tk
 

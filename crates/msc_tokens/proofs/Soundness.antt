@@ -2,6 +2,7 @@
 use Rattle.std.proofs.Common.{◌≡◌, ◌==◌, ◌<◌, ◌≤◌, Bool, true, false, cond, nat_lt, List, ℕ, length, ◌++◌, [], ◌∷◌, Result, Ok, Err, All, Any, arith, sym, refl, ap, ap₂, ◌∙◌, append_assoc, append-nil, subst, length-append, eqb-true, ltb-true, ltb-false}
 use Rattle.std.specs.Prelude.{fold}
 use Rattle.std.proofs.lemmas.List.Elements.{All-push, All-nil, All-cons}
+use Rattle.msc_base.specs.declared.limits.TheConstants.Limits.{NAME_BYTES}
 use Rattle.msc_base.specs.declared.place.Place.{Place}
 use Rattle.msc_base.specs.Names.{IsWordByte, IsLetterOrDigit, is_word_byte}
 use Rattle.msc_tokens.specs.declared.token.Token.{Token}
@@ -39,7 +40,7 @@ record IsKept (s : State) (pend : List ℕ) (at : Place) : Type 0 where
 -- what is known of the bytes that are open, which began at that place
 abbrev Open : Mode → State → List ℕ → Place → Type 0
 Open mode.Between s pend at = (pend ≡ []) × (s.place ≡ at)
-Open mode.Word s pend at = IsKept s pend at × All IsWordByte pend × (0 < length pend) × (length pend ≤ 255)
+Open mode.Word s pend at = IsKept s pend at × All IsWordByte pend × (0 < length pend) × (length pend ≤ NAME_BYTES)
 Open mode.Str s pend at = (ps : List StringPart) × IsKept s pend at × AreParts ps × (pend ≡ 39 ∷ held ps)
 Open mode.Quote s pend at = (ps : List StringPart) × IsKept s pend at × AreParts ps × (pend ≡ 39 ∷ (held ps ++ 39 ∷ []))
 Open mode.Slash s pend at = (s.start ≡ at) × (s.place ≡ past at pend) × (pend ≡ 47 ∷ [])
@@ -132,18 +133,18 @@ parts_more (Doubled ∷ ps) p h k = parts_more ps p h k
 -- a byte behind an open word
 known_in_word : (bytes : List ℕ) → Known bytes → (s : State) (c : ℕ) (pend : List ℕ) (at : Place) → Open mode.Word s pend at
     → Reads at s.tokens (pend ++ c ∷ bytes) (answer (next mode.Word s c) bytes)
-known_in_word bytes known s c pend at h = go (is_word_byte c) refl (nat_lt (length s.text) 255) refl (has_letter s.text) refl
+known_in_word bytes known s c pend at h = go (is_word_byte c) refl (nat_lt (length s.text) NAME_BYTES) refl (has_letter s.text) refl
   where
-    go : (b1 : Bool) → is_word_byte c ≡ b1 → (b2 : Bool) → nat_lt (length s.text) 255 ≡ b2 → (b3 : Bool) → has_letter s.text ≡ b3
+    go : (b1 : Bool) → is_word_byte c ≡ b1 → (b2 : Bool) → nat_lt (length s.text) NAME_BYTES ≡ b2 → (b3 : Bool) → has_letter s.text ≡ b3
         → Reads at s.tokens (pend ++ c ∷ bytes) (answer (cond b1 (cond b2 (grown mode.Word s c) (in_mode mode.LongName s)) (cond b3 (begun (closed kind.Word s) c) (in_mode mode.BadByte s))) bytes)
     go true e1 true e2 b3 e3 =
-        let short : length s.text < 255 = ltb-true (length s.text) 255 e2 in
+        let short : length s.text < NAME_BYTES = ltb-true (length s.text) NAME_BYTES e2 in
         let counts : length s.text ≡ length pend = ap length h.0.text_is in
         more_open at s.tokens pend c bytes (answer (grown mode.Word s c) bytes)
         (known mode.Word (grown mode.Word s c) (pend ++ c ∷ []) at refl
         (kept_more mode.Word s pend at c h.0, All-push IsWordByte pend c h.1 ((word_test c).0 e1), omega (arith, length-append pend (c ∷ [])), omega (arith, length-append pend (c ∷ []))))
     go true e1 false e2 b3 e3 =
-        let long : 255 ≤ length s.text = ltb-false (length s.text) 255 e2 in
+        let long : NAME_BYTES ≤ length s.text = ltb-false (length s.text) NAME_BYTES e2 in
         let counts : length s.text ≡ length pend = ap length h.0.text_is in
         more_open at s.tokens pend c bytes (answer (in_mode mode.LongName s) bytes)
         (known mode.LongName (in_mode mode.LongName s) (pend ++ c ∷ []) at refl

@@ -3,6 +3,7 @@ use Rattle.std.proofs.Common.{◌≡◌, ◌<◌, ◌≤◌, ◌+◌, Bool, true
 use Rattle.std.specs.Prelude.{fold}
 use Rattle.std.proofs.lemmas.List.Elements.{All-head, All-tail, All-nil, All-cons}
 use Rattle.std.proofs.lemmas.Bool.Decides.{Decides-ltb, nat_tests}
+use Rattle.msc_base.specs.declared.limits.TheConstants.Limits.{NAME_BYTES}
 use Rattle.msc_base.specs.declared.place.Place.{Place}
 use Rattle.msc_base.specs.Names.{IsWordByte, is_word_byte}
 use Rattle.msc_tokens.specs.declared.token.Token.{Token}
@@ -56,14 +57,14 @@ abbrev pub stand : Mode → Place → List ℕ → Place → List Token → Stat
 stand m start kept place tokens = record { mode = m; start = start; text = kept; place = place; tokens = tokens }
 
 -- an open word takes the bytes of a word
-pub word_runs : (v rest : List ℕ) (st : Place) (tx : List ℕ) (pl : Place) (tk : List Token) → All IsWordByte v → length tx + length v ≤ 255
+pub word_runs : (v rest : List ℕ) (st : Place) (tx : List ℕ) (pl : Place) (tk : List Token) → All IsWordByte v → length tx + length v ≤ NAME_BYTES
     → fold step (stand mode.Word st tx pl tk) (v ++ rest) ≡ fold step (stand mode.Word st (tx ++ v) (past pl v) tk) rest
 unfolding step
 word_runs [] rest st tx pl tk h short = ap (λ (bs : List ℕ). fold step (stand mode.Word st bs pl tk) rest) (sym (append-nil tx))
 word_runs (c ∷ v) rest st tx pl tk h short =
     let s : State = stand mode.Word st tx pl tk in
     let word : is_word_byte c ≡ true = (word_test c).1 (All-head IsWordByte c v h) in
-    let room : nat_lt (length tx) 255 ≡ true = (Decides-ltb (length tx) 255).1 (omega arith) in
+    let room : nat_lt (length tx) NAME_BYTES ≡ true = (Decides-ltb (length tx) NAME_BYTES).1 (omega arith) in
     ap₂ (λ (b1 b2 : Bool). fold step (cond b1 (cond b2 (grown mode.Word s c) (in_mode mode.LongName s)) (cond (has_letter tx) (begun (closed kind.Word s) c) (in_mode mode.BadByte s))) (v ++ rest)) word room
     ∙ word_runs v rest st (tx ++ c ∷ []) (after_byte pl c) tk (All-tail IsWordByte c v h) (omega (arith, length-append tx (c ∷ [])))
     ∙ ap (λ (bs : List ℕ). fold step (stand mode.Word st bs (past pl (c ∷ v)) tk) rest) (append_assoc tx (c ∷ []) v)
@@ -74,14 +75,14 @@ pub word_ends : (c : ℕ) (rest : List ℕ) (st : Place) (tx : List ℕ) (pl : P
 unfolding step
 word_ends c rest st tx pl tk letter free =
     let s : State = stand mode.Word st tx pl tk in
-    ap₂ (λ (b1 b3 : Bool). fold step (cond b1 (cond (nat_lt (length tx) 255) (grown mode.Word s c) (in_mode mode.LongName s)) (cond b3 (begun (closed kind.Word s) c) (in_mode mode.BadByte s))) rest) free letter
+    ap₂ (λ (b1 b3 : Bool). fold step (cond b1 (cond (nat_lt (length tx) NAME_BYTES) (grown mode.Word s c) (in_mode mode.LongName s)) (cond b3 (begun (closed kind.Word s) c) (in_mode mode.BadByte s))) rest) free letter
 
 -- where nothing is open a byte begins something
 pub begins : (k : ByteClass) (c : ℕ) (bytes : List ℕ) (s : State) → s.mode ≡ mode.Between → class_of c ≡ k → fold step s (c ∷ bytes) ≡ fold step (begun_as k s c) bytes
 unfolding step
 begins k c bytes s between is = ap (λ (m : Mode). fold step (next m s c) bytes) between ∙ ap (λ (d : ByteClass). fold step (begun_as d s c) bytes) is
 
-whole_word : (w : List ℕ) (c : ℕ) (rest : List ℕ) → All IsWordByte w → has_letter w ≡ true → length w ≤ 255 → is_word_byte c ≡ false → IsWhole kind.Word w (c ∷ rest)
+whole_word : (w : List ℕ) (c : ℕ) (rest : List ℕ) → All IsWordByte w → has_letter w ≡ true → length w ≤ NAME_BYTES → is_word_byte c ≡ false → IsWhole kind.Word w (c ∷ rest)
 whole_word [] c rest h letter short free = absurd cc
 whole_word (b ∷ v) c rest h letter short free = λ s between.
     begins class.Word b (v ++ c ∷ rest) s between (class_is_word b (All-head IsWordByte b v h))
@@ -110,14 +111,14 @@ byte_behind (b ∷ bs) longer = go (λ h. byte_behind bs h) (is_word_byte b) ref
     go behind true e longer = behind (omega (arith, longer))
     go behind false e longer = (b, bs, refl, e)
 
-first_word : (bs : List ℕ) → word_length bs < length bs → word_length bs ≤ 255 → has_letter (take (word_length bs) bs) ≡ true
+first_word : (bs : List ℕ) → word_length bs < length bs → word_length bs ≤ NAME_BYTES → has_letter (take (word_length bs) bs) ≡ true
     → IsWhole kind.Word (take (word_length bs) bs) (drop (word_length bs) bs)
 first_word bs longer short letter =
     let next = byte_behind bs longer in
     subst (λ (d : List ℕ). IsWhole kind.Word (take (word_length bs) bs) d) (sym next.2)
     (whole_word (take (word_length bs) bs) next.0 next.1 (word_bytes bs) letter (omega (arith, length-take (word_length bs) bs)) next.3)
 
-pub word_is_whole : (bs : List ℕ) (n : ℕ) (w behind : List ℕ) → n ≡ word_length bs → n < length bs → n ≤ 255 → w ≡ take n bs → behind ≡ drop n bs → has_letter w ≡ true
+pub word_is_whole : (bs : List ℕ) (n : ℕ) (w behind : List ℕ) → n ≡ word_length bs → n < length bs → n ≤ NAME_BYTES → w ≡ take n bs → behind ≡ drop n bs → has_letter w ≡ true
     → IsWhole kind.Word w behind
 word_is_whole bs n w behind e longer short front back letter =
     let before : w ≡ take (word_length bs) bs = front ∙ ap (λ (k : ℕ). take k bs) e in

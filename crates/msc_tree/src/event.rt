@@ -1,7 +1,7 @@
 //! Single events as they are written in a chart, with gates and orders, and which way a message goes.
 
 ghost use Rattle.std.specs.Prelude.{◌≡◌};
-ghost use Rattle.msc_tree.specs.Directions.{far_name, is_direction, way_by};
+ghost use Rattle.msc_tree.specs.Directions.{far_name, is_direction, to_instance, way_by};
 
 use crate::{BoxedName, BoxedOrder, Parameters, TreePlace};
 use msc_base::{Items, Kind, Name, Text};
@@ -24,7 +24,7 @@ pub enum Target {
 pub struct RawEvent {
     /// What it does.
     pub kind: Kind,
-    /// Where it stands, behind its event_name.
+    /// Where it stands, behind its name.
     pub place: TreePlace,
     /// The name of the message or timer, the action, or the name of the child.
     pub text: Text,
@@ -65,14 +65,30 @@ impl Direction {
     }
 }
 
+/// The direction, where the other end is an instance.
+fn to_instance(direction: Direction, target: &Target) -> Option<Direction>
+    ensures { result ≡ to_instance direction target.now }
+{
+    match target {
+        Target::Instance(_) => Some(direction),
+        Target::Nobody | Target::Env(_) | Target::Gate(_, _) => None,
+    }
+}
+
 /// The direction of an output to an instance and of an input from one, and none for other events.
 pub fn way_of(event: &RawEvent) -> Option<Direction>
     ensures { result ≡ way_by event.now.kind event.now.target }
 {
-    match (event.kind, &event.target) {
-        (Kind::Output, Target::Instance(_)) => Some(Direction::Out),
-        (Kind::Input, Target::Instance(_)) => Some(Direction::In),
-        _ => None,
+    match event.kind {
+        Kind::Output => to_instance(Direction::Out, &event.target),
+        Kind::Input => to_instance(Direction::In, &event.target),
+        Kind::OutputLost
+        | Kind::InputFound
+        | Kind::Action
+        | Kind::TimerStart
+        | Kind::TimerStop
+        | Kind::Timeout
+        | Kind::Create => None,
     }
 }
 

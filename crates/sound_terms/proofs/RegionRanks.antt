@@ -10,7 +10,7 @@ use Rattle.sound_terms.specs.Regions.{Region, Vertex, Sequence, Unordered, Regio
 use Rattle.sound_terms.specs.TermRanks.{Holds, inside_event, inside_join, inside_choice, inside_tie, inside_loop, inside_turn, inside_walk, HoldsOne, inside_this, inside_that, HoldsTurn, Ranks, ranks_nil, ranks_event, ranks_join, ranks_choice, ranks_tie, ranks_loop, ranks_walk, RanksParts, ranks_none, ranks_more, RanksEach, ranks_no_one, ranks_one}
 
 module _ (NE : ℕ → TermEvent → Type 0) (v : ℕ → ℕ) (f : ℕ → ℕ) where
-  -- each event of the term placed_at at its vertex
+  -- each event of the term is placed at its vertex
   abbrev IsPlacedAt : TermEvent → Region → Type 0
   IsPlacedAt e g = (is : List ℕ) × InRegion (v e.number) is g × Covers is e
 

@@ -1,5 +1,5 @@
 -- What the classes of a token tell of each other.
-use Rattle.std.proofs.Common.{ℕ, ◌≡◌, ◌∙◌, ◌&&◌, ◌||◌, Bool, true, false, not, nat_eq, nat_lt, List, [], ◌∷◌, length, refl, sym, ap, inl, inr, subst, arith, Any}
+use Rattle.std.proofs.Common.{◌+◌, ℕ, ◌≡◌, ◌∙◌, ◌&&◌, ◌||◌, Bool, true, false, not, nat_eq, nat_lt, List, [], ◌∷◌, length, refl, sym, ap, inl, inr, subst, arith, Any}
 use Rattle.std.specs.Bool.{Decides}
 use Rattle.std.specs.List.{list_any, list_all}
 use Rattle.std.specs.Str.{bytes_eq}
@@ -7,6 +7,7 @@ use Rattle.std.proofs.lemmas.Bool.{and_parts, not-true, or_cases, and_from}
 use Rattle.std.proofs.lemmas.Bool.Decides.{eqb_tells, Decides-and, Decides-or, Decides-not, Decides-by_and, Decides-ltb}
 use Rattle.std.proofs.lemmas.List.Folds.{Any-from_list_any, list_any-from_Any}
 use Rattle.std.proofs.lemmas.Slice.Eq.{bytes_eq-Decides}
+use Rattle.msc_base.specs.declared.limits.TheConstants.Limits.{NAME_BYTES}
 use Rattle.msc_base.specs.Names.{IsLetterOrDigit, IsWordByte, IsWord, IsReserved, IsName, reserved_to_decomposed, reserved_to_inst, reserved_to_out, reserved_to_when, is_letter_or_digit, is_word_byte}
 use Rattle.msc_base.specs.Lists.{IsAmong}
 use Rattle.msc_base.proofs.WordBytes.{letter_test, word_test}
@@ -38,7 +39,7 @@ name_string texts [] m = refl
 name_string texts (b ∷ bytes) m =
     let named = and_parts (is_name (b ∷ bytes)) (not (is_one_of texts (b ∷ bytes))) m in
     let word = and_parts (is_word (b ∷ bytes)) (not (is_reserved (b ∷ bytes))) named.0 in
-    let all = and_parts (list_all is_word_byte (b ∷ bytes)) (list_any is_letter_or_digit (b ∷ bytes) && nat_lt (length (b ∷ bytes)) 256) word.0 in
+    let all = and_parts (list_all is_word_byte (b ∷ bytes)) (list_any is_letter_or_digit (b ∷ bytes) && nat_lt (length (b ∷ bytes)) (NAME_BYTES + 1)) word.0 in
     not_at is_word_byte 39 b refl (and_parts (is_word_byte b) (list_all is_word_byte bytes) all.0).0
 
 number_string : (bytes : List ℕ) → is_number bytes ≡ true → is_string bytes ≡ false
@@ -115,9 +116,9 @@ reserved_decides bytes =
 
 word_decides : (bytes : List ℕ) → Decides (is_word bytes) (IsWord bytes)
 word_decides bytes =
-    let parts = Decides-and (list_all is_word_byte bytes) (list_any is_letter_or_digit bytes && nat_lt (length bytes) 256)
+    let parts = Decides-and (list_all is_word_byte bytes) (list_any is_letter_or_digit bytes && nat_lt (length bytes) (NAME_BYTES + 1))
     (Decides-by_and is_word_byte IsWordByte (list_all is_word_byte) word_test refl (λ _ _. refl) bytes)
-    (Decides-and (list_any is_letter_or_digit bytes) (nat_lt (length bytes) 256) (any_decides is_letter_or_digit IsLetterOrDigit letter_test bytes) (Decides-ltb (length bytes) 256)) in
+    (Decides-and (list_any is_letter_or_digit bytes) (nat_lt (length bytes) (NAME_BYTES + 1)) (any_decides is_letter_or_digit IsLetterOrDigit letter_test bytes) (Decides-ltb (length bytes) (NAME_BYTES + 1))) in
     (λ e. let h = parts.0 e in record { bytes_are = h.0; has_one = h.1.0; short = omega (arith, h.1.1) }, λ w. parts.1 (w.bytes_are, (w.has_one, omega (arith, w.short))))
 
 pub name_decides : (bytes : List ℕ) → Decides (is_name bytes) (IsName bytes)

@@ -11,8 +11,8 @@ pub returns-in_ok-text-in-Told-clause-outcome : goal.returns-in_ok-text-in-Told-
 returns-in_ok-text-in-Told-clause-outcome c =
     let is : c.args.judged.now ≡ Told c.in-Told.verdict = search rules in
     let text : c.in_ok-text-in-Told.text ≡ verdict_line c.args.json c.in-Told.verdict = search rules in
-    λ table name chart form budget bytes at h.
-    judged_one form budget c.args.json table name chart bytes c.in-Told.verdict _ _ at (subst (λ (j : Judged). IsJudged chart form budget bytes j) is h) c.status_for.ensures.status text
+    λ table name form budget bytes h.
+    judged_one form budget c.args.json table name bytes c.in-Told.verdict _ _ (subst (λ (j : Judged). IsJudged table name form budget bytes j) is h) c.status_for.ensures.status text
 
 pub returns-in-Refused-clause-small : goal.returns-in-Refused-clause-small
 returns-in-Refused-clause-small c = five_small _ c.make_reply.ensures.status
@@ -23,5 +23,5 @@ returns-in-Refused-clause-not_two c = five_not_two _ c.make_reply.ensures.status
 pub returns-in-Refused-clause-outcome : goal.returns-in-Refused-clause-outcome
 returns-in-Refused-clause-outcome c =
     let is : c.args.judged.now ≡ Refused c.in-Refused.fault = search rules in
-    λ table name chart form budget bytes at h.
-    fault_told form budget c.args.json table name chart bytes c.in-Refused.fault _ c.make_reply.ensures.status c.make_reply.ensures.text (subst (λ (j : Judged). IsJudged chart form budget bytes j) is h)
+    λ table name form budget bytes h.
+    fault_told form budget c.args.json table name bytes c.in-Refused.fault _ c.make_reply.ensures.status c.make_reply.ensures.text (subst (λ (j : Judged). IsJudged table name form budget bytes j) is h)

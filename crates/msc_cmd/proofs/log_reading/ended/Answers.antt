@@ -5,8 +5,8 @@ use Rattle.msc_cmd.proofs.LogTaking.{log_end}
 use Rattle.msc_cmd.proofs.log_reading.ended.Goals as goal
 
 pub returns-in-Ok-clause-log : goal.returns-in-Ok-clause-log
-returns-in-Ok-clause-log c = λ chart form budget files name h. log_end chart form budget files name c.args.judge (Told c.in-Ok.verdict) (λ bytes k. c.in-Ok.ensures.verdict chart form budget bytes k) h
+returns-in-Ok-clause-log c = λ table chart form budget files name h. log_end table chart form budget files name c.args.judge (Told c.in-Ok.verdict) (λ bytes k. c.in-Ok.ensures.verdict table chart form budget bytes k) h
 
 pub returns-in-Err-Log-clause-log : goal.returns-in-Err-Log-clause-log
-returns-in-Err-Log-clause-log c = λ chart form budget files name h.
-    log_end chart form budget files name c.args.judge (Refused c.in-Err-Log.fault) (λ bytes k. subst (IsJudgeFault form false bytes) c.in-Err-Log.field-0-is (c.in-Err-Log.ensures.fault chart form budget bytes k)) h
+returns-in-Err-Log-clause-log c = λ table chart form budget files name h.
+    log_end table chart form budget files name c.args.judge (Refused c.in-Err-Log.fault) (λ bytes k. subst (IsJudgeFault form false bytes) c.in-Err-Log.field-0-is (c.in-Err-Log.ensures.fault table chart form budget bytes k)) h

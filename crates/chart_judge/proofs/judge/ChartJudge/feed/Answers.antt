@@ -4,10 +4,10 @@ use Rattle.chart_judge.proofs.Judging.{fed_more}
 use Rattle.chart_judge.proofs.judge.ChartJudge.feed.Goals as goal
 
 pub returns-clause-fed : goal.returns-clause-fed
-returns-clause-fed c = λ chart form budget bytes j.
-    fed_more chart form budget bytes c.args.piece.now c.self.inside.judge c.feed.new.self c.feed.result c.feed.ensures.fault c.feed.ensures.fed (subst (IsJudging chart form budget bytes) (sym c.self.view_is) j)
+returns-clause-fed c = λ table name form budget bytes j.
+    fed_more table name form budget bytes c.args.piece.now c.self.inside.judge c.feed.new.self c.feed.result c.feed.ensures.fault c.feed.ensures.fed (subst (IsJudging table name form budget bytes) (sym c.self.view_is) j)
 
 pub returns-clause-refused : goal.returns-clause-refused
-returns-clause-refused c = λ chart form budget bytes j.
-    let held = subst (IsJudging chart form budget bytes) (sym c.self.view_is) j in
+returns-clause-refused c = λ table name form budget bytes j.
+    let held = subst (IsJudging table name form budget bytes) (sym c.self.view_is) j in
     c.feed.ensures.lasts held.tables held.term form budget bytes held.fed
