@@ -78,12 +78,8 @@ def of_page(page):
 def of_rules():
     """Where the table of docs/RULES.md isn't that of msc_rules, or a rule that is told has no document."""
     specs = open("crates/msc_rules/specs/Rules.antt").read()
-
-    def table(function, value):
-        return {name: found for name, found in re.findall(rf"^{function} \(?(\w+)(?: form\))? = {value}", specs, re.M)}
-    texts, numbers = table("rule_text", r'codes "([^"]*)"'), table("number_of", r"(\d+)")
-    groups = table("group_of", r"(\d+)")
-    wanted = {numbers[rule]: (groups[rule], texts[rule] + ("FORM" if texts[rule].endswith(", ") else "")) for rule in texts}
+    rows = re.findall(r'^row_of .* = row (\d+) (\d+) \(codes "([^"]*)"', specs, re.M)
+    wanted = {number: (group, text + ("FORM" if text.endswith(", ") else "")) for group, number, text in rows}
     page = open("docs/RULES.md").read()
     had = {number: (group, text) for group, number, text in re.findall(r"^\| (\d+) [^|]*\| (\d+) \| \[?`([^`]*)`", page, re.M)}
     for number in sorted({*wanted, *had}, key=int):

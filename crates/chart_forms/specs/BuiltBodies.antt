@@ -1,7 +1,8 @@
 -- Of which bodies terms are made, and how many events a body has.
-use Rattle.std.specs.List.{list_any}
-use Rattle.std.specs.Prelude.{ℕ, ◌+◌, ◌≤◌, ◌≡◌, Bool, true, false, List, [], ◌∷◌, Some, None, ◌&&◌, length}
+use Rattle.std.specs.List.{list_all, list_any}
+use Rattle.std.specs.Prelude.{ℕ, ◌+◌, ◌≤◌, ◌≡◌, Bool, true, false, List, [], Some, None, ◌&&◌, length}
 use Rattle.std.specs.Str.{bytes_eq}
+use Rattle.chart_forms.specs.BodyItems.{body_events, body_items}
 use Rattle.msc_base.specs.declared.label.Kind.{Kind}
 use Rattle.msc_base.specs.declared.label.Kind.TheVariants.{Output, Input, OutputLost, InputFound, Action, TimerStart, TimerStop, Timeout, Create}
 use Rattle.msc_tree.specs.declared.event.RawEvent.{RawEvent}
@@ -9,7 +10,7 @@ use Rattle.msc_tree.specs.declared.event.Target.{Target}
 use Rattle.msc_tree.specs.declared.event.Target.TheVariants.{Nobody, Env, Instance, Gate}
 use Rattle.msc_tree.specs.declared.reference.InlineForm.{InlineForm}
 use Rattle.msc_tree.specs.declared.reference.InlineForm.TheVariants as inline
-use Rattle.msc_meaning.specs.Bodies.{EventNode, Body, level, WovenItems, no_items, item_and, WovenItem, Single, Coregion, Inline, Refer, Bodies, no_bodies, body_and}
+use Rattle.msc_meaning.specs.Bodies.{EventNode, Body, level, WovenItems, WovenItem, Single, Coregion, Inline, Refer, Bodies, no_bodies, body_and}
 
 -- no creation
 abbrev pub creates_nobody : Kind → Bool
@@ -56,46 +57,30 @@ module _ (names : List (List ℕ)) where
   is_built_node n = list_any (bytes_eq n.at) names && is_plain n.event
 
   abbrev pub are_built_nodes : List EventNode → Bool
-  are_built_nodes [] = true
-  are_built_nodes (n ∷ ns) = is_built_node n && are_built_nodes ns
+  are_built_nodes = list_all is_built_node
 
-  -- the body has events of that kind, coregions of them, and inline expressions
-  abbrev mutual
-    pub is_built : Body → Bool
-    is_built (level cover held pairs) = are_built held
+  -- an item by itself: an event of that kind, a coregion of them, or an inline expression with such a number of operands
+  abbrev pub is_built_alone : WovenItem → Bool
+  is_built_alone (Single n) = is_built_node n
+  is_built_alone (Coregion ns) = are_built_nodes ns
+  is_built_alone (Inline form part operands) = has_operands form operands
+  is_built_alone (Refer part) = false
 
-    pub are_built : WovenItems → Bool
-    are_built no_items = true
-    are_built (item_and x xs) = is_built_item x && are_built xs
+  -- the items of a body are such, at any depth
+  abbrev pub is_built : Body → Bool
+  is_built b = list_all is_built_alone (body_items b)
 
-    pub is_built_item : WovenItem → Bool
-    is_built_item (Single n) = is_built_node n
-    is_built_item (Coregion ns) = are_built_nodes ns
-    is_built_item (Inline form part operands) = has_operands form operands && have_built operands
-    is_built_item (Refer part) = false
+-- how many events a body has, with those of its operands
+abbrev pub event_count : Body → ℕ
+event_count b = length (body_events b)
 
-    pub have_built : Bodies → Bool
-    have_built no_bodies = true
-    have_built (body_and b bs) = is_built b && have_built bs
+-- items count as the level that they make alone
+abbrev pub events_count : WovenItems → ℕ
+events_count xs = event_count (level [] xs [])
 
--- the events of a body, of its coregions and of its inline expressions
-abbrev mutual
-  pub event_count : Body → ℕ
-  event_count (level cover held pairs) = events_count held
-
-  pub events_count : WovenItems → ℕ
-  events_count no_items = 0
-  events_count (item_and x xs) = item_count x + events_count xs
-
-  pub item_count : WovenItem → ℕ
-  item_count (Single n) = 1
-  item_count (Coregion ns) = length ns
-  item_count (Inline form part operands) = operands_count operands
-  item_count (Refer part) = 0
-
-  pub operands_count : Bodies → ℕ
-  operands_count no_bodies = 0
-  operands_count (body_and b bs) = event_count b + operands_count bs
+abbrev pub operands_count : Bodies → ℕ
+operands_count no_bodies = 0
+operands_count (body_and b bs) = event_count b + operands_count bs
 
 -- a term is made of the body: it is built, and there are numbers for its events
 pub record CanHaveTerm (names : List (List ℕ)) (b : Body) : Type 0 where

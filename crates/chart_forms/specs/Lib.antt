@@ -1,4 +1,6 @@
+pub mod BodyItems
 pub mod BuiltBodies
+pub mod BodyParts
 pub mod NotBuilt
 pub mod LoopBounds
 pub mod ChartSizes

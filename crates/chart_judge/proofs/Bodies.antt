@@ -1,7 +1,9 @@
 -- The bodies of accepted charts: how many events they have.
 use Rattle.std.proofs.Common.{◌≤◌, arith}
-use Rattle.chart_forms.specs.BodySizes.{body_size, item_size, items_size, operands_size}
-use Rattle.chart_forms.specs.BuiltBodies.{event_count, events_count, item_count, operands_count}
+use Rattle.chart_forms.specs.BodySizes.{body_size}
+use Rattle.chart_forms.proofs.PartLaws.{count_and, item_size, items_size, operands_size, size_and}
+use Rattle.chart_forms.specs.BuiltBodies.{event_count, events_count, operands_count}
+use Rattle.chart_forms.specs.BodyParts.{item_count}
 use Rattle.msc_acceptance.specs.AcceptedCharts.{IsAcceptedChart}
 use Rattle.msc_meaning.specs.Bodies.{Body, level, WovenItems, no_items, item_and, WovenItem, Single, Coregion, Inline, Refer, Bodies, no_bodies, body_and}
 use Rattle.msc_meaning.specs.Tables.{ChartEntry}
@@ -13,7 +15,7 @@ mutual
 
   items_fit : (xs : WovenItems) → events_count xs ≤ items_size xs
   items_fit no_items = omega arith
-  items_fit (item_and x xs) = let one = item_fits x in let others = items_fit xs in omega (arith, one, others)
+  items_fit (item_and x xs) = let one = item_fits x in let others = items_fit xs in omega (arith, one, others, count_and x xs, size_and x xs)
 
   item_fits : (x : WovenItem) → item_count x ≤ item_size x
   item_fits (Single n) = omega arith

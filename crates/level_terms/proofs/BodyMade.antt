@@ -1,6 +1,7 @@
 -- What the term of a body means: by its parts.
-use Rattle.std.specs.Prelude.{ℕ, ◌+◌, true, false, List, [], ◌∷◌, ◌++◌, map, length}
-use Rattle.std.proofs.Common.{◌≡◌, inl, inr, arith}
+use Rattle.std.specs.Prelude.{ℕ, ◌+◌, true, false, List, [], ◌∷◌, ◌++◌, Some, map, length}
+use Rattle.std.proofs.Common.{◌≡◌, ◌∙◌, sym, ap, ap₂, subst, refl, inl, inr, arith}
+use Rattle.std.proofs.lemmas.List.{map-append}
 use Rattle.msc_base.specs.declared.label.Label.{Label}
 use Rattle.msc_base.specs.declared.label.Pair.{Pair}
 use Rattle.msc_base.specs.Orders.{Among, first, later}
@@ -13,21 +14,27 @@ use Rattle.term_laws.specs.ConstructorLaws.{NormalFormsKeepPatterns}
 use Rattle.term_meaning.specs.UnfoldingSets.{OnlyEmpty, OnlyEvent, AreJoined, AreTied, Either, AreSomeOften}
 use Rattle.msc_tree.specs.declared.reference.InlineForm.{InlineForm}
 use Rattle.msc_tree.specs.declared.reference.InlineForm.TheVariants as inline
-use Rattle.msc_meaning.specs.Bodies.{EventNode, InlinePart, Body, level, WovenItems, no_items, item_and, WovenItem, Single, Coregion, Inline, Refer, Bodies, no_bodies, body_and}
+use Rattle.msc_meaning.specs.Bodies.{EventNode, InlinePart, Body, level, WovenItems, no_items, item_and, WovenItem, Single, Coregion, Inline, Refer, Bodies, no_bodies, body_and, events, item_events}
+use Rattle.msc_meaning.specs.BodyLevels.{item_levels, items_levels, levels_from, operands_levels}
 use Rattle.msc_meaning.specs.EventLabels.{written_label}
 use Rattle.msc_meaning.specs.FarEnds.{Around, Gates, inside, happening}
 use Rattle.msc_meaning.specs.Tables.{Table}
 use Rattle.msc_meaning.specs.Ties.{passing, past_inline}
 use Rattle.msc_meaning.specs.ChartUnfoldings.{OfEvents, OfItem, OfItems, OfLevel, OfSome, OfAll, OfForm}
 use Rattle.level_terms.proofs.LabelFacts.{among_left}
-use Rattle.level_terms.specs.BodyLabels.{HasLabels, body_labels, items_labels, item_labels, operands_labels}
-use Rattle.chart_forms.specs.BuiltBodies.{is_built_node, are_built_nodes, is_built, are_built, is_built_item, have_built, event_count, events_count, item_count, operands_count}
+use Rattle.sound_terms.proofs.Ordering.{among_either}
+use Rattle.level_terms.specs.BodyLabels.{HasLabels, body_labels}
+use Rattle.level_terms.specs.PartLabels.{items_labels, item_labels, operands_labels}
+use Rattle.chart_forms.specs.BuiltBodies.{is_built_node, are_built_nodes, is_built, event_count, events_count, operands_count}
+use Rattle.chart_forms.specs.BodyItems.{levels_events}
+use Rattle.chart_forms.specs.BodyParts.{are_built, is_built_item, have_built, item_count}
+use Rattle.chart_forms.proofs.PartLaws.{count_and, events_split, nothing_behind, operand_events}
 use Rattle.level_terms.specs.LevelTerms.{one_of, placed, event_term, coregion_term, level_term, items_term, item_term, operand_terms, parallel_term, turns_of}
 use Rattle.event_order.specs.RankedBodies.{is_exception}
 use Rattle.level_terms.specs.MadeParts.{AreFit, IsMade}
 use Rattle.level_terms.proofs.PlainItems.{IsPlainItem, ArePlainItems, ArePlainNodes, FrontOf, IsFrontItem}
 use Rattle.level_terms.specs.ShownNumbers.{shows, shown_events, shown_item, shown_items}
-use Rattle.level_terms.proofs.BuiltFacts.{and_both}
+use Rattle.level_terms.proofs.BuiltFacts.{and_both, items_both}
 use Rattle.level_terms.proofs.EventMade.{event_made, node_is_plain}
 use Rattle.level_terms.proofs.LevelSets.{events_none, events_more, items_none, items_more, items_exception, item_single, item_coregion, item_inline, form_alt, some_last, some_more, form_opt, form_par, form_loop, form_crossed, all_none, all_more}
 use Rattle.level_terms.proofs.MadeRules.{AreAlternatives, nothing_made, sets_made, until_made, front_made, instead_made, level_made, inline_made, none_made, some_made, until_some, chosen_made}
@@ -58,6 +65,51 @@ has_first t l ls h = h.has l first
 pub has_others : (t : List Label) (l : Label) (ls : List Label) → HasLabels t (l ∷ ls) → HasLabels t ls
 has_others t l ls h = record { has = λ k i. h.has k (later i) }
 
+has_both : (t xs ys : List Label) → HasLabels t xs → HasLabels t ys → HasLabels t (xs ++ ys)
+has_both t xs ys f g = record { has = λ l h. elim (among_either xs ys l h) [ inl i ↦ f.has l i | inr j ↦ g.has l j ] }
+
+operands_all : (f : InlineForm) (bs : Bodies) → map written_label (levels_events (operands_levels f bs)) ≡ operands_labels bs
+operands_all f no_bodies = refl
+operands_all f (body_and b bs) =
+    ap (map written_label) (events_split (levels_from (Some f) b) (operands_levels f bs)) ∙ map-append written_label (levels_events (levels_from (Some f) b)) (levels_events (operands_levels f bs))
+    ∙ ap₂ (λ (k l : List Label). k ++ l) (ap (map written_label) (operand_events f b)) (operands_all f bs)
+
+item_all : (x : WovenItem) → map written_label (item_events x) ++ map written_label (levels_events (item_levels x)) ≡ item_labels x
+item_all (Single e) = refl
+item_all (Coregion es) = nothing_behind (map written_label es)
+item_all (Inline f part bs) = operands_all f bs
+item_all (Refer part) = refl
+
+-- an item and those behind it: their own labels, and those inside them
+module _ (t : List Label) (x : WovenItem) (xs : WovenItems) (h : HasLabels t (items_labels (item_and x xs))) where
+  abbrev own : List EventNode → List Label
+  own = map written_label
+
+  split : items_labels (item_and x xs) ≡ (own (item_events x) ++ own (events xs)) ++ (own (levels_events (item_levels x)) ++ own (levels_events (items_levels xs)))
+  split =
+      map-append written_label (item_events x ++ events xs) (levels_events (item_levels x ++ items_levels xs))
+      ∙ ap₂ (λ (k l : List Label). k ++ l) (map-append written_label (item_events x) (events xs))
+      (ap own (events_split (item_levels x) (items_levels xs)) ∙ map-append written_label (levels_events (item_levels x)) (levels_events (items_levels xs)))
+
+  all : HasLabels t ((own (item_events x) ++ own (events xs)) ++ (own (levels_events (item_levels x)) ++ own (levels_events (items_levels xs))))
+  all = subst (λ (ls : List Label). HasLabels t ls) split h
+
+  outer_all : HasLabels t (own (item_events x) ++ own (events xs))
+  outer_all = has_left t (own (item_events x) ++ own (events xs)) (own (levels_events (item_levels x)) ++ own (levels_events (items_levels xs))) all
+
+  inner_all : HasLabels t (own (levels_events (item_levels x)) ++ own (levels_events (items_levels xs)))
+  inner_all = has_right t (own (item_events x) ++ own (events xs)) (own (levels_events (item_levels x)) ++ own (levels_events (items_levels xs))) all
+
+  pub has_item : HasLabels t (item_labels x)
+  has_item =
+      subst (λ (ls : List Label). HasLabels t ls) (item_all x)
+      (has_both t (own (item_events x)) (own (levels_events (item_levels x))) (has_left t (own (item_events x)) (own (events xs)) outer_all) (has_left t (own (levels_events (item_levels x))) (own (levels_events (items_levels xs))) inner_all))
+
+  pub has_items : HasLabels t (items_labels xs)
+  has_items =
+      subst (λ (ls : List Label). HasLabels t ls) (sym (map-append written_label (events xs) (levels_events (items_levels xs))))
+      (has_both t (own (events xs)) (own (levels_events (items_levels xs))) (has_right t (own (item_events x)) (own (events xs)) outer_all) (has_right t (own (levels_events (item_levels x))) (own (levels_events (items_levels xs))) inner_all))
+
 -- ---- plain items
 
 module _ (v : NetsValue) (m : List (List ℕ)) where
@@ -73,7 +125,7 @@ module _ (v : NetsValue) (m : List (List ℕ)) where
 
   plain_items : (xs : WovenItems) → are_built m xs ≡ true → ArePlainItems xs
   plain_items no_items b = tt
-  plain_items (item_and x xs) b = let (i, j) = and_both (is_built_item m x) (are_built m xs) b in (plain_item x i, plain_items xs j)
+  plain_items (item_and x xs) b = let (i, j) = items_both m x xs b in (plain_item x i, plain_items xs j)
 
   -- an exception has one operand
   front_item : (x : WovenItem) → is_built_item m x ≡ true → IsFrontItem x
@@ -199,10 +251,10 @@ module _ (keep : NormalFormsKeepPatterns) (v : NetsValue) (m : List (List ℕ)) 
         until_made keep v m fit n n (n + 0) [] Nil (λ t g a. OfItems t g a no_items) (omega arith)
         (sets_made keep v m fit n n [] Nil (λ t g a. OnlyEmpty) (λ t g a. OfItems t g a no_items) (λ t g a u. items_none t g a u) (nothing_made keep v m fit n))
     items_are n (item_and x xs) b h =
-        let (i, j) = and_both (is_built_item m x) (are_built m xs) b in
-        until_made keep v m fit n (n + events_count xs + item_count x) (n + (item_count x + events_count xs)) (shown_items n (item_and x xs)) (items_term m v.labels n (item_and x xs)) (λ t g a. OfItems t g a (item_and x xs)) (omega arith)
+        let (i, j) = items_both m x xs b in
+        until_made keep v m fit n (n + events_count xs + item_count x) (n + events_count (item_and x xs)) (shown_items n (item_and x xs)) (items_term m v.labels n (item_and x xs)) (λ t g a. OfItems t g a (item_and x xs)) (omega (arith, count_and x xs))
         (item_placed n (n + events_count xs) (n + events_count xs + item_count x) (shown_item (n + events_count xs) x) (shown_items n xs) (item_term m v.labels (n + events_count xs) x) (items_term m v.labels n xs) xs
-        (items_are n xs j (has_right v.labels (item_labels x) (items_labels xs) h)) x (front_item v m x i) (item_is (n + events_count xs) x i (has_left v.labels (item_labels x) (items_labels xs) h)))
+        (items_are n xs j (has_items v.labels x xs h)) x (front_item v m x i) (item_is (n + events_count xs) x i (has_item v.labels x xs h)))
 
     item_is : (n : ℕ) (x : WovenItem) → is_built_item m x ≡ true → HasLabels v.labels (item_labels x) → IsMade v m n (n + item_count x) (shown_item n x) (item_term m v.labels n x) (λ t g a. FrontOf t g a x)
     item_is n (Single e) b h =

@@ -13,15 +13,17 @@ use Rattle.msc_tree.specs.declared.reference.InlineForm.TheVariants as inline
 use Rattle.msc_meaning.specs.Bodies.{EventNode, Body, level, WovenItems, no_items, item_and, WovenItem, Single, Coregion, Inline, Refer, Bodies, no_bodies, body_and}
 use Rattle.msc_meaning.specs.EventLabels.{written_label}
 use Rattle.msc_meaning.specs.Ties.{level_pairs}
-use Rattle.chart_forms.specs.BuiltBodies.{is_built_node, are_built_nodes, is_built, are_built, is_built_item, have_built, events_count, operands_count}
+use Rattle.chart_forms.specs.BuiltBodies.{is_built_node, are_built_nodes, is_built, events_count, operands_count}
+use Rattle.chart_forms.specs.BodyParts.{are_built, is_built_item, have_built}
 use Rattle.msc_meaning.specs.BodyLevels.{item_levels, items_levels, levels_from, operands_levels}
 use Rattle.msc_meaning.proofs.LevelLaws.{each_left, each_right}
 use Rattle.event_order.specs.RankedBodies.{is_exception, operands_within, CanBeRanked, HasLevelRank, HaveRanks}
-use Rattle.level_terms.specs.BodyLabels.{HasLabels, body_labels, items_labels, item_labels, operands_labels}
+use Rattle.level_terms.specs.BodyLabels.{HasLabels, body_labels}
+use Rattle.level_terms.specs.PartLabels.{items_labels, item_labels, operands_labels}
 use Rattle.level_terms.specs.LevelTerms.{one_of, event_term, coregion_term, level_term, items_term, item_term, operand_terms, parallel_term}
 use Rattle.level_terms.specs.ShownNumbers.{shows, shown_events, shown_item, shown_items}
-use Rattle.level_terms.proofs.BodyMade.{has_left, has_right, has_first, has_others, not_empty}
-use Rattle.level_terms.proofs.BuiltFacts.{and_both}
+use Rattle.level_terms.proofs.BodyMade.{has_item, has_items, has_left, has_right, has_first, has_others, not_empty}
+use Rattle.level_terms.proofs.BuiltFacts.{and_both, items_both}
 use Rattle.level_terms.proofs.NumberedEvents.{body_numbered, events_differ, first_number, item_numbered, items_differ, items_numbered, numbered_events, operands_differ, operands_numbered}
 use Rattle.level_terms.proofs.OrderedBodies.{AreOrdered, HaveOrdered, IsOrdered, IsOrderedItem, rank_in, ranked_ordered}
 use Rattle.level_terms.proofs.RisingTerms.{HaveRising, IsRising, chosen_rises, event_rises, front_rises, instead_rises, none_differ, nil_right, none_rise, nothing_rises, placed_rises, rises_wider, some_rise, tied_rises, turns_rise}
@@ -78,10 +80,10 @@ module _ (same_as : NormalFormsKeepPatterns) (keep : ConstructorsKeepSoundness) 
     items_rise : (r : ℕ → ℕ) (n : ℕ) (xs : WovenItems) → are_built m xs ≡ true → HasLabels v.labels (items_labels xs) → AreOrdered r m n xs → HaveRanks (items_levels xs) → Rises r (items_numbered n xs) (shown_items n xs) (items_term m v.labels n xs)
     items_rise r n no_items b h f loops = nothing_rises same_as keep v nets tidy m r
     items_rise r n (item_and x xs) b h f loops =
-        let (i, j) = and_both (is_built_item m x) (are_built m xs) b in
+        let (i, j) = items_both m x xs b in
         placed_rises same_as keep v nets tidy m r (item_numbered (n + events_count xs) x) (items_numbered n xs) (shown_item (n + events_count xs) x) (shown_items n xs) (item_term m v.labels (n + events_count xs) x) (items_term m v.labels n xs) (items_differ n x xs)
-        (item_rises r (n + events_count xs) x i (has_left v.labels (item_labels x) (items_labels xs) h) f.0 (each_left HasLevelRank (item_levels x) (items_levels xs) loops))
-        (items_rise r n xs j (has_right v.labels (item_labels x) (items_labels xs) h) f.2 (each_right HasLevelRank (item_levels x) (items_levels xs) loops)) (is_exception x) f.1
+        (item_rises r (n + events_count xs) x i (has_item v.labels x xs h) f.0 (each_left HasLevelRank (item_levels x) (items_levels xs) loops))
+        (items_rise r n xs j (has_items v.labels x xs h) f.2 (each_right HasLevelRank (item_levels x) (items_levels xs) loops)) (is_exception x) f.1
 
     item_rises : (r : ℕ → ℕ) (n : ℕ) (x : WovenItem) → is_built_item m x ≡ true → HasLabels v.labels (item_labels x) → IsOrderedItem r m n x → HaveRanks (item_levels x) → Rises r (item_numbered n x) (shown_item n x) (item_term m v.labels n x)
     item_rises r n (Single e) b h f loops = event_rises same_as keep v nets tidy m r n e b (has_first v.labels (written_label e) [] h)

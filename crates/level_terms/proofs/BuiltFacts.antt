@@ -15,9 +15,11 @@ use Rattle.msc_tree.specs.Labels.{far_of}
 use Rattle.msc_meaning.specs.declared.body.Body as rust_body
 use Rattle.msc_meaning.specs.declared.body.EventNode as rust_event
 use Rattle.msc_meaning.specs.declared.body.Item as rust_item
-use Rattle.msc_meaning.specs.Bodies.{EventNode, Body, WovenItem, Bodies}
+use Rattle.msc_meaning.specs.Bodies.{EventNode, Body, WovenItems, item_and, WovenItem, Bodies}
 use Rattle.msc_meaning.specs.Views.{body_view, item_view, node_view}
-use Rattle.chart_forms.specs.BuiltBodies.{creates_nobody, names_no_gate, is_plain, has_operands, is_built_node, are_built_nodes, is_built, are_built, is_built_item, have_built, event_count, events_count, item_count, operands_count}
+use Rattle.chart_forms.specs.BuiltBodies.{creates_nobody, names_no_gate, is_plain, has_operands, is_built_node, are_built_nodes, is_built, event_count, events_count, operands_count}
+use Rattle.chart_forms.specs.BodyParts.{are_built, is_built_item, have_built, item_count}
+use Rattle.chart_forms.proofs.PartLaws.{built_and, count_and}
 use Rattle.msc_meaning.specs.ItemViews.{inline_view, items_view, bodies_view}
 use Rattle.level_terms.proofs.PlainItems.{IsPlainFar}
 use Rattle.msc_meaning.specs.declared.body.Body.{out-Body}
@@ -30,6 +32,10 @@ use Rattle.general_ordering.proofs.ViewFacts.{body_is, inline_is, single_is, cor
 pub and_both : (a b : Bool) → (a && b) ≡ true → (a ≡ true) × (b ≡ true)
 and_both true b h = (refl, h)
 and_both false b h = absurd cc
+
+-- of an item and those behind it
+pub items_both : (names : List (List ℕ)) (x : WovenItem) (xs : WovenItems) → are_built names (item_and x xs) ≡ true → (is_built_item names x ≡ true) × (are_built names xs ≡ true)
+items_both names x xs h = and_both (is_built_item names x) (are_built names xs) (sym (built_and names x xs) ∙ h)
 
 -- ---- plain events
 
@@ -72,8 +78,8 @@ module _ (names : List (List ℕ)) where
   item_built [] i x e h = absurd cc
   item_built (y ∷ xs) zero x e h =
       let same : y ≡ x = cc in
-      subst (λ (z : rust_item.Item). is_built_item names (item_view z) ≡ true) same (and_both (is_built_item names (item_view y)) (are_built names (items_view xs)) h).0
-  item_built (y ∷ xs) (suc i) x e h = item_built xs i x e (and_both (is_built_item names (item_view y)) (are_built names (items_view xs)) h).1
+      subst (λ (z : rust_item.Item). is_built_item names (item_view z) ≡ true) same (items_both names (item_view y) (items_view xs) h).0
+  item_built (y ∷ xs) (suc i) x e h = item_built xs i x e (items_both names (item_view y) (items_view xs) h).1
 
   pub body_built : (bs : List rust_body.Body) (i : ℕ) (b : rust_body.Body) → slice_get bs i ≡ Some b → have_built names (bodies_view bs) ≡ true → is_built names (body_view b) ≡ true
   body_built [] i b e h = absurd cc
@@ -87,7 +93,7 @@ module _ (names : List (List ℕ)) where
 items_drop : (xs : List rust_item.Item) (i : ℕ) → events_count (items_view (drop i xs)) ≤ events_count (items_view xs)
 items_drop xs zero = omega arith
 items_drop [] (suc i) = omega arith
-items_drop (x ∷ xs) (suc i) = omega (arith, items_drop xs i)
+items_drop (x ∷ xs) (suc i) = omega (arith, count_and (item_view x) (items_view xs), items_drop xs i)
 
 bodies_drop : (bs : List rust_body.Body) (i : ℕ) → operands_count (bodies_view (drop i bs)) ≤ operands_count (bodies_view bs)
 bodies_drop bs zero = omega arith
@@ -97,7 +103,7 @@ bodies_drop (b ∷ bs) (suc i) = omega (arith, bodies_drop bs i)
 -- an item and what stands behind it
 pub items_left : (xs : List rust_item.Item) (i j : ℕ) (x : rust_item.Item) → slice_get xs i ≡ Some x → j ≡ i + 1
     → (events_count (items_view (drop i xs)) ≡ item_count (item_view x) + events_count (items_view (drop j xs))) × (events_count (items_view (drop i xs)) ≤ events_count (items_view xs))
-items_left xs i j x e f = (ap (λ (ys : List rust_item.Item). events_count (items_view ys)) (drop_less xs i j x e f), items_drop xs i)
+items_left xs i j x e f = (ap (λ (ys : List rust_item.Item). events_count (items_view ys)) (drop_less xs i j x e f) ∙ count_and (item_view x) (items_view (drop j xs)), items_drop xs i)
 
 pub bodies_left : (bs : List rust_body.Body) (i j : ℕ) (b : rust_body.Body) → slice_get bs i ≡ Some b → j ≡ i + 1
     → (operands_count (bodies_view (drop i bs)) ≡ event_count (body_view b) + operands_count (bodies_view (drop j bs))) × (operands_count (bodies_view (drop i bs)) ≤ operands_count (bodies_view bs))

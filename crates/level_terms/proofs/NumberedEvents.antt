@@ -6,7 +6,9 @@ use Rattle.msc_base.specs.declared.label.Pair.{Pair}
 use Rattle.msc_base.specs.Orders.{Among, first, later, Once}
 use Rattle.msc_tree.specs.declared.reference.InlineForm.TheVariants as inline
 use Rattle.msc_meaning.specs.Bodies.{EventNode, Body, level, WovenItems, no_items, item_and, WovenItem, Single, Coregion, Inline, Refer, Bodies, no_bodies, body_and}
-use Rattle.chart_forms.specs.BuiltBodies.{event_count, events_count, item_count, operands_count}
+use Rattle.chart_forms.specs.BuiltBodies.{event_count, events_count, operands_count}
+use Rattle.chart_forms.specs.BodyParts.{item_count}
+use Rattle.chart_forms.proofs.PartLaws.{count_and}
 use Rattle.event_order.specs.RankedBodies.{events_within, items_within, item_within, operands_within, with_number, as_one, counted_within, items_counted, item_counted, operands_counted}
 use Rattle.sound_terms.proofs.Ordering.{among_either, among_left, among_right, once_both}
 use Rattle.level_terms.specs.ShownNumbers.{shows, shown_events, shown_item, shown_items}
@@ -129,7 +131,7 @@ mutual
 
   items_numbering : (n : ℕ) (xs : WovenItems) → IsNumbering n (n + events_count xs) (items_numbered n xs)
   items_numbering n no_items = until_numbering n n (n + 0) [] (omega arith) (no_numbering n)
-  items_numbering n (item_and x xs) = until_numbering n (n + events_count xs + item_count x) (n + (item_count x + events_count xs)) (items_numbered n (item_and x xs)) (omega arith)
+  items_numbering n (item_and x xs) = until_numbering n (n + events_count xs + item_count x) (n + events_count (item_and x xs)) (items_numbered n (item_and x xs)) (omega (arith, count_and x xs))
       (both_numbering n (n + events_count xs) (n + events_count xs + item_count x) (item_numbered (n + events_count xs) x) (items_numbered n xs) (item_numbering (n + events_count xs) x) (items_numbering n xs))
 
   item_numbering : (n : ℕ) (x : WovenItem) → IsNumbering n (n + item_count x) (item_numbered n x)

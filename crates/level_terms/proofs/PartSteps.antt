@@ -19,7 +19,8 @@ use Rattle.msc_meaning.specs.declared.body.Item as rust_item
 use Rattle.msc_meaning.specs.Bodies.{EventNode, InlinePart, WovenItems, Inline, Bodies, level}
 use Rattle.msc_meaning.specs.EventLabels.{written_label}
 use Rattle.msc_meaning.specs.Views.{body_view, item_view, node_view}
-use Rattle.level_terms.specs.BodyLabels.{HasLabels, body_labels, item_labels, items_labels, operands_labels}
+use Rattle.level_terms.specs.BodyLabels.{HasLabels, body_labels}
+use Rattle.level_terms.specs.PartLabels.{item_labels, items_labels, operands_labels}
 use Rattle.chart_forms.specs.BuiltBodies.{operands_count}
 use Rattle.level_terms.specs.declared.made.Made.{Made}
 use Rattle.msc_meaning.specs.ItemViews.{items_view, bodies_view}
@@ -27,7 +28,7 @@ use Rattle.level_terms.specs.LevelTerms.{number_at, one_of, event_term, coregion
 use Rattle.level_terms.specs.MadeParts.{IsNothing, IsFront, IsInstead, IsPart, IsRepeated, IsTied}
 use Rattle.msc_meaning.specs.Ties.{level_pairs}
 use Rattle.level_terms.specs.ShownNumbers.{shows, shown_events, shown_items, tie_pairs}
-use Rattle.level_terms.proofs.BodyMade.{has_left, has_right}
+use Rattle.level_terms.proofs.BodyMade.{has_item, has_items, has_left, has_right}
 use Rattle.level_terms.proofs.Dropped.{drop_all, drop_less, none_left}
 
 one_is : (xs : List Tree) (x : Tree) → choice_of xs ≡ Some x → x ≡ one_of xs
@@ -164,8 +165,8 @@ module _ (t : List Label) where
   item_labelled [] i x e h = absurd cc
   item_labelled (y ∷ xs) zero x e h =
       let same : y ≡ x = cc in
-      subst (λ (z : rust_item.Item). HasLabels t (item_labels (item_view z))) same (has_left t (item_labels (item_view y)) (items_labels (items_view xs)) h)
-  item_labelled (y ∷ xs) (suc i) x e h = item_labelled xs i x e (has_right t (item_labels (item_view y)) (items_labels (items_view xs)) h)
+      subst (λ (z : rust_item.Item). HasLabels t (item_labels (item_view z))) same (has_item t (item_view y) (items_view xs) h)
+  item_labelled (y ∷ xs) (suc i) x e h = item_labelled xs i x e (has_items t (item_view y) (items_view xs) h)
 
   pub body_labelled : (bs : List rust_body.Body) (i : ℕ) (b : rust_body.Body) → slice_get bs i ≡ Some b → HasLabels t (operands_labels (bodies_view bs)) → HasLabels t (body_labels (body_view b))
   body_labelled [] i b e h = absurd cc

@@ -16,10 +16,11 @@ use Rattle.msc_meaning.specs.EventLabels.{written_label}
 use Rattle.msc_meaning.specs.Ties.{level_pairs}
 use Rattle.event_order.specs.RankedBodies.{is_exception}
 use Rattle.chart_forms.specs.BuiltBodies.{events_count, operands_count}
-use Rattle.level_terms.specs.BodyLabels.{HasLabels, body_labels, items_labels, item_labels, operands_labels}
+use Rattle.level_terms.specs.BodyLabels.{HasLabels, body_labels}
+use Rattle.level_terms.specs.PartLabels.{items_labels, item_labels, operands_labels}
 use Rattle.level_terms.specs.LevelTerms.{number_at, one_of, placed, leave_turn, turns_if, turns_of, event_term, coregion_term, level_term, items_term, item_term, operand_terms, parallel_term}
 use Rattle.level_terms.specs.ShownNumbers.{shown_items, tie_pairs}
-use Rattle.level_terms.proofs.BodyMade.{has_left, has_right, has_first, has_others}
+use Rattle.level_terms.proofs.BodyMade.{has_item, has_items, has_left, has_right, has_first, has_others}
 use Rattle.level_terms.proofs.Growing.{label_there}
 
 module _ (names : List (List ℕ)) (labels : List Label) where
@@ -74,7 +75,7 @@ module _ (names : List (List ℕ)) (labels : List Label) where
     items_placed : (n : ℕ) (xs : WovenItems) → HasLabels labels (items_labels xs) → P (items_term names labels n xs)
     items_placed n no_items h = tt
     items_placed n (item_and x xs) h =
-        front_placed (is_exception x) (item_term names labels (n + events_count xs) x) (items_term names labels n xs) (item_placed (n + events_count xs) x (has_left labels (item_labels x) (items_labels xs) h)) (items_placed n xs (has_right labels (item_labels x) (items_labels xs) h))
+        front_placed (is_exception x) (item_term names labels (n + events_count xs) x) (items_term names labels n xs) (item_placed (n + events_count xs) x (has_item labels x xs h)) (items_placed n xs (has_items labels x xs h))
 
     item_placed : (n : ℕ) (x : WovenItem) → HasLabels labels (item_labels x) → P (item_term names labels n x)
     item_placed n (Single e) h = event_placed n e h

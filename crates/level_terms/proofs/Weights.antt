@@ -14,10 +14,12 @@ use Rattle.msc_tree.specs.declared.reference.InlineForm.{InlineForm}
 use Rattle.msc_tree.specs.declared.reference.InlineForm.TheVariants as inline
 use Rattle.msc_meaning.specs.Bodies.{EventNode, Body, level, WovenItems, no_items, item_and, WovenItem, Single, Coregion, Inline, Refer, Bodies, no_bodies, body_and, events, item_events}
 use Rattle.msc_base.specs.declared.label.Label.{Label}
-use Rattle.chart_forms.specs.BuiltBodies.{has_operands, is_built, are_built, is_built_item, have_built, events_count, operands_count}
+use Rattle.chart_forms.specs.BuiltBodies.{has_operands, is_built, events_count, operands_count}
+use Rattle.chart_forms.specs.BodyParts.{are_built, is_built_item, have_built}
 use Rattle.msc_meaning.specs.Ties.{level_pairs}
 use Rattle.general_ordering.specs.OrderCounts.{order_count, orders_count}
-use Rattle.chart_forms.specs.BodySizes.{body_size, items_size, item_size, operands_size}
+use Rattle.chart_forms.specs.BodySizes.{body_size}
+use Rattle.chart_forms.proofs.PartLaws.{items_size, item_size, operands_size, size_and}
 use Rattle.msc_meaning.specs.BodyLevels.{BodyLevel, item_levels, items_levels, levels_from, operands_levels}
 use Rattle.msc_meaning.proofs.LevelLaws.{each_left, each_right}
 use Rattle.level_terms.specs.LevelLaws.{HasFewOwnPairs, HaveFewPairs}
@@ -26,7 +28,7 @@ use Rattle.event_order.specs.RankedBodies.{is_exception}
 use Rattle.level_terms.specs.ShownNumbers.{shows, shown_events, shown_item, shown_items, number_if, numbers_of, pairs_with, pairs_between, tie_pairs}
 use Rattle.level_terms.specs.EventNumbers.{numbers}
 use Rattle.level_terms.proofs.BodyMade.{not_empty}
-use Rattle.level_terms.proofs.BuiltFacts.{and_both}
+use Rattle.level_terms.proofs.BuiltFacts.{and_both, items_both}
 
 -- ---- lists of terms
 
@@ -309,11 +311,12 @@ module _ (weigh : ConstructorsWeigh) (names : List (List ℕ)) (labels : List La
     items_weigh : (n : ℕ) (xs : WovenItems) → are_built names xs ≡ true → HaveFewPairs (items_levels xs) → IsWithin (items_term names labels n xs) (room (events xs)) (items_size xs)
     items_weigh n no_items b f = (omega (arith, room_none), omega (arith, room_none))
     items_weigh n (item_and x xs) b f =
-        let (i, j) = and_both (is_built_item names x) (are_built names xs) b in
-        subst (λ k. IsWithin (items_term names labels n (item_and x xs)) k (item_size x + items_size xs)) (sym (room_both (item_events x) (events xs)))
+        let (i, j) = items_both names x xs b in
+        subst (λ s. IsWithin (items_term names labels n (item_and x xs)) (room (item_events x ++ events xs)) s) (sym (size_and x xs))
+        (subst (λ k. IsWithin (items_term names labels n (item_and x xs)) k (item_size x + items_size xs)) (sym (room_both (item_events x) (events xs)))
         (placed_weighs (is_exception x) (item_term names labels (n + events_count xs) x) (items_term names labels n xs) (room (item_events x)) (room (events xs)) (item_size x) (items_size xs)
         (item_weighs (n + events_count xs) x i (each_left Few (item_levels x) (items_levels xs) f)) (exception_weighs (n + events_count xs) x i (each_left Few (item_levels x) (items_levels xs) f))
-        (items_weigh n xs j (each_right Few (item_levels x) (items_levels xs) f)))
+        (items_weigh n xs j (each_right Few (item_levels x) (items_levels xs) f))))
 
     item_weighs : (n : ℕ) (x : WovenItem) → is_built_item names x ≡ true → HaveFewPairs (item_levels x) → weight (item_term names labels n x) + room (item_events x) ≤ item_size x
     item_weighs n (Single e) b f = omega (arith, room_one e)

@@ -1,5 +1,6 @@
 pub mod LabelTables
 pub mod BodyLabels
+pub mod PartLabels
 pub mod ShownNumbers
 pub mod LevelTerms
 pub mod BareTerms

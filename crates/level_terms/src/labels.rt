@@ -1,17 +1,20 @@
-//! The labels of the events of a body, each once, in the order of the body.
+//! The labels of the events of a body, each once, level by level.
 
 ghost use Rattle.std.specs.Prelude.{◌≡◌, ◌<◌, ◌≤◌, ◌+◌, length, map, IfOk, OnOk, OnErr};
+ghost use Rattle.chart_forms.specs.BodyItems.{levels_events};
+ghost use Rattle.chart_forms.specs.BuiltBodies.{event_count};
+ghost use Rattle.msc_meaning.specs.Bodies.{events, item_events};
+ghost use Rattle.msc_meaning.specs.BodyLevels.{level_events};
 ghost use Rattle.msc_meaning.specs.EventLabels.{written_label};
+ghost use Rattle.msc_meaning.specs.ItemViews.{items_view};
+ghost use Rattle.msc_meaning.specs.LevelViews.{level_view, levels_view};
 ghost use Rattle.msc_meaning.specs.Views.{body_view, item_view, node_view};
 ghost use Rattle.level_terms.specs.LabelTables.{with_label, with_labels};
-ghost use Rattle.level_terms.specs.BodyLabels.{item_labels, items_labels, operands_labels};
-ghost use Rattle.chart_forms.specs.BuiltBodies.{event_count, events_count, item_count, operands_count};
-ghost use Rattle.msc_meaning.specs.ItemViews.{bodies_view, items_view};
 ghost use Rattle.level_terms.specs.LevelTerms.{body_tables};
 ghost use Rattle.level_terms.specs.MadeParts.{IsGrown};
 
 use msc_base::{Label, NoMemory};
-use msc_meaning::{Body, EventNode, EventNodeList, Item};
+use msc_meaning::{Body, BodyLevel, EventNode, Item, body_levels};
 use msc_tree::label_of;
 use std::alloc::Global;
 use term_tables::Nets;
@@ -53,75 +56,71 @@ fn add_of_event(alloc: Global, nets: &mut Nets, node: &EventNode) -> Result<(), 
     Ok(())
 }
 
-/// Adds the labels of the events of a coregion.
-fn add_of_coregion(alloc: Global, nets: &mut Nets, nodes: &EventNodeList) -> Result<(), NoMemory>
+/// Adds the labels of events.
+fn add_of_events(alloc: Global, nets: &mut Nets, nodes: &[EventNode]) -> Result<(), NoMemory>
     requires { length nets.old.labels + length nodes.now ≤ 4294967295 }
     ensures added { OnOk result (nets.new ≡ record nets.old { labels = with_labels nets.old.labels (map written_label (map node_view nodes.now)) }) }
     ensures grown { IsGrown nets.old nets.new }
 {
-    for index in 0..nodes.len() {
-        add_of_event(alloc, nets, nodes.at(index))?;
+    for node in nodes {
+        add_of_event(alloc, nets, node)?;
     }
     Ok(())
 }
 
-/// Adds the labels of the events of the body, in their order, each where it is new. After want of memory some of them may be there.
-#[cycle(labels)]
+/// Adds those of an item's own events.
+fn add_of_item(alloc: Global, nets: &mut Nets, item: &Item) -> Result<(), NoMemory>
+    requires { length nets.old.labels + length (item_events (item_view item.now)) ≤ 4294967295 }
+    ensures added { OnOk result (nets.new ≡ record nets.old { labels = with_labels nets.old.labels (map written_label (item_events (item_view item.now))) }) }
+    ensures grown { IsGrown nets.old nets.new }
+{
+    match item {
+        Item::Single(node) => add_of_event(alloc, nets, node),
+        Item::Coregion(nodes) => add_of_events(alloc, nets, nodes.as_slice()),
+        Item::Inline(_) => Ok(()),
+        Item::Reference(_) => Ok(()),
+    }
+}
+
+/// Adds those of the events of a level with these items.
+fn add_of_items(alloc: Global, nets: &mut Nets, items: &[Item]) -> Result<(), NoMemory>
+    requires { length nets.old.labels + length (events (items_view items.now)) ≤ 4294967295 }
+    ensures added { OnOk result (nets.new ≡ record nets.old { labels = with_labels nets.old.labels (map written_label (events (items_view items.now))) }) }
+    ensures grown { IsGrown nets.old nets.new }
+{
+    for item in items {
+        add_of_item(alloc, nets, item)?;
+    }
+    Ok(())
+}
+
+/// Adds those of the events of a level.
+fn add_of_level(alloc: Global, nets: &mut Nets, level: BodyLevel<'_>) -> Result<(), NoMemory>
+    requires { length nets.old.labels + length (level_events (body_view level.body.now)) ≤ 4294967295 }
+    ensures added { OnOk result (nets.new ≡ record nets.old { labels = with_labels nets.old.labels (map written_label (level_events (level_view level.entry).body)) }) }
+    ensures grown { IsGrown nets.old nets.new }
+{
+    add_of_items(alloc, nets, level.body.items.as_slice())
+}
+
+/// Adds those of the events of levels.
+fn add_of_levels(alloc: Global, nets: &mut Nets, levels: &[BodyLevel<'_>]) -> Result<(), NoMemory>
+    requires { length nets.old.labels + length (levels_events (levels_view levels.now)) ≤ 4294967295 }
+    ensures added { OnOk result (nets.new ≡ record nets.old { labels = with_labels nets.old.labels (map written_label (levels_events (levels_view levels.now))) }) }
+    ensures grown { IsGrown nets.old nets.new }
+{
+    for level in levels {
+        add_of_level(alloc, nets, *level)?;
+    }
+    Ok(())
+}
+
+/// Adds the labels of the events of the body, level by level, each where it is new. After want of memory some of them may be there.
 pub fn add_labels(alloc: Global, nets: &mut Nets, body: &Body) -> Result<(), NoMemory>
     requires { length nets.old.labels + event_count (body_view body.now) ≤ 4294967295 }
     ensures added { OnOk result (nets.new ≡ body_tables nets.old (body_view body.now)) }
     ensures grown { IsGrown nets.old nets.new }
 {
-    add_of_items(alloc, nets, &body.items)?;
-    Ok(())
-}
-
-/// Adds those of the items.
-#[cycle(labels)]
-fn add_of_items(alloc: Global, nets: &mut Nets, items: &Vec<Item>) -> Result<(), NoMemory>
-    requires { length nets.old.labels + events_count (items_view items.now.items) ≤ 4294967295 }
-    ensures added { OnOk result (nets.new ≡ record nets.old { labels = with_labels nets.old.labels (items_labels (items_view items.now.items)) }) }
-    ensures grown { IsGrown nets.old nets.new }
-{
-    for index in 0..items.len() {
-        add_of_item(alloc, nets, &items[index])?;
-    }
-    Ok(())
-}
-
-/// Adds those of the item.
-#[cycle(labels)]
-fn add_of_item(alloc: Global, nets: &mut Nets, item: &Item) -> Result<(), NoMemory>
-    requires { length nets.old.labels + item_count (item_view item.now) ≤ 4294967295 }
-    ensures added { OnOk result (nets.new ≡ record nets.old { labels = with_labels nets.old.labels (item_labels (item_view item.now)) }) }
-    ensures grown { IsGrown nets.old nets.new }
-{
-    match item {
-        Item::Single(node) => {
-            add_of_event(alloc, nets, node)?;
-            Ok(())
-        }
-        Item::Coregion(nodes) => {
-            add_of_coregion(alloc, nets, nodes)?;
-            Ok(())
-        }
-        Item::Inline(inline) => {
-            add_of_operands(alloc, nets, &inline.operands)?;
-            Ok(())
-        }
-        Item::Reference(_) => Ok(()),
-    }
-}
-
-/// Adds those of the operands.
-#[cycle(labels)]
-fn add_of_operands(alloc: Global, nets: &mut Nets, operands: &Vec<Body>) -> Result<(), NoMemory>
-    requires { length nets.old.labels + operands_count (bodies_view operands.now.items) ≤ 4294967295 }
-    ensures added { OnOk result (nets.new ≡ record nets.old { labels = with_labels nets.old.labels (operands_labels (bodies_view operands.now.items)) }) }
-    ensures grown { IsGrown nets.old nets.new }
-{
-    for index in 0..operands.len() {
-        add_labels(alloc, nets, &operands[index])?;
-    }
-    Ok(())
+    let levels = body_levels(alloc, body)?;
+    add_of_levels(alloc, nets, levels.as_slice())
 }

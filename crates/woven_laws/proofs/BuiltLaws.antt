@@ -21,7 +21,9 @@ use Rattle.chart_text.specs.Texts.{behind}
 use Rattle.chart_text.specs.WellFormed.{IsWellFormed, is_well_formed_item, takes}
 use Rattle.level_pieces.proofs.PieceTexts.{parts_operands}
 use Rattle.level_pieces.specs.FormedPieces.{EachPiece}
-use Rattle.chart_forms.specs.BuiltBodies.{are_built, are_built_nodes, has_operands, have_built, is_built, is_built_item, is_plain}
+use Rattle.chart_forms.specs.BodyParts.{are_built, have_built, is_built_item}
+use Rattle.chart_forms.specs.BuiltBodies.{are_built_nodes, has_operands, is_built, is_plain}
+use Rattle.chart_forms.proofs.PartLaws.{built_and}
 use Rattle.chart_forms.specs.NotBuilt.{IsBuilt, not_built_event, not_built_events, not_built_item}
 use Rattle.woven_laws.specs.BuiltCharts.{BuiltChartsAreKnown}
 use Rattle.woven_laws.proofs.BuiltPieces.{IsBuiltPiece, chart_pieces_built, left_none, never, no_graph, of_built, right_none}
@@ -115,7 +117,7 @@ module _ (names : List (List ℕ)) where
     items_built : {cover : List (List ℕ)} {order : List ℕ} (all : List (List Piece)) (xs : WovenItems) → AreAmong names cover → EachOfAll IsGood all → AreWovenItems cover all order xs → are_built names xs ≡ true
     items_built all _ c h (no_woven) = refl
     items_built all _ c h (woven_and {x = i} {parts = parts} {item = x} {held = xs} at w k) =
-        both (is_built_item names x) (are_built names xs) (item_built x c (parts_each IsGood all i parts h at) w) (items_built all xs c h k)
+        built_and names x xs ∙ both (is_built_item names x) (are_built names xs) (item_built x c (parts_each IsGood all i parts h at) w) (items_built all xs c h k)
 
     item_built : {cover : List (List ℕ)} {parts : List Piece} (x : WovenItem) → AreAmong names cover → EachPiece IsGood parts → IsWovenItem cover parts x → is_built_item names x ≡ true
     item_built _ c h (an_event {p = p} {at = at} {e = e} is here) =

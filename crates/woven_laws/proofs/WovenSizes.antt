@@ -8,7 +8,8 @@ use Rattle.msc_meaning.specs.LevelItems.{cover_of, level_items}
 use Rattle.msc_meaning.specs.Levels.{AreWovenItems, AreWovenOperands, IsWovenItem, IsWovenLevel, a_coregion, a_reference, an_event, an_inline, no_woven, no_woven_operand, nodes_from, operand_number, woven, woven_and, woven_operand_and}
 use Rattle.msc_meaning.specs.Pieces.{Piece}
 use Rattle.woven_laws.specs.NumberLaws.{WovenNumbersDiffer}
-use Rattle.chart_forms.specs.BodySizes.{body_size, item_size, items_size, operands_size}
+use Rattle.chart_forms.specs.BodySizes.{body_size}
+use Rattle.chart_forms.proofs.PartLaws.{item_size, items_size, operands_size, size_and}
 use Rattle.chart_forms.specs.ChartSizes.{events_size}
 use Rattle.woven_laws.specs.BuiltCharts.{WovenChartsAreKnown}
 use Rattle.woven_laws.proofs.WalkedSizes.{content_walked, form_size}
@@ -29,7 +30,7 @@ mutual
   items_light all _ (woven_and {x = i} {order = order} {parts = parts} {item = x} {held = xs} at h k) =
       let here : item_size x ≤ pieces_size parts = item_light x h in
       let rest : items_size xs ≤ sizes_at all order = items_light all xs k in
-      omega (arith, here, rest, at_size_is all i parts at)
+      omega (arith, size_and x xs, here, rest, at_size_is all i parts at)
 
   item_light : {cover : List (List ℕ)} {parts : List Piece} (x : WovenItem) → IsWovenItem cover parts x → item_size x ≤ pieces_size parts
   item_light _ (an_event {p = p} {e = e} is here) = let size : form_size p.form ≡ form_size (tree.Single e) = ap form_size is in omega (arith, size)
