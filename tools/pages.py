@@ -156,7 +156,7 @@ def of_crates():
     text = open("docs/PROVED.md").read()
     for line in open("crates.txt"):
         crate = line.split(":")[0].split()[0] if ":" in line and not line.startswith("#") else "msc_unfolding"
-        if crate not in ("msc_unfolding", "msc_rows", "text_tests", "graph_tests", "calculus_tests", "command_tests") and not re.search(rf"^\| \[{crate}\]", text, re.M):
+        if crate not in ("msc_unfolding", "list_facts", "msc_rows", "text_tests", "graph_tests", "calculus_tests", "command_tests") and not re.search(rf"^\| \[{crate}\]", text, re.M):
             yield f"docs/PROVED.md: no row for {crate}"
 
 

@@ -7,10 +7,7 @@ use Rattle.chart_term.specs.TermRuns.{Runs, run_end, run_take, labels, IsLinearR
 use Rattle.chart_term.specs.Terms.{TermEvent}
 use Rattle.chart_term.proofs.Positions.{minimal_taken, taken_minimal}
 use Rattle.msc_base.specs.Orders.{Among, Once, Kept, IsLinear, first, later}
-
-pub among_each : {A B : Type 0} (f : A → B) {a : A} {l : List A} → Among a l → Among (f a) (map f l)
-among_each f first = first
-among_each f (later h) = later (among_each f h)
+use Rattle.list_facts.proofs.Orders.{stands_map}
 
 pub among_back : {A B : Type 0} (f : A → B) (l : List A) {b : B} → Among b (map f l) → (a : A) × (f a ≡ b) × Among a l
 among_back f [] h = elim h [ ]
@@ -128,7 +125,7 @@ among_keep s p k l h = let (j, e, i) = among_back (keep s p) l h in moved j k (k
 
 once_from : (s : Shape) (p : Position s) (l : List (Position (taken_out s p))) → Once (map (keep s p) l) → Once l
 once_from s p [] h = tt
-once_from s p (k ∷ l) (h, i) = (λ j. h (among_each (keep s p) j), once_from s p l i)
+once_from s p (k ∷ l) (h, i) = (λ j. h (stands_map (keep s p) j), once_from s p l i)
 
 once_into : (s : Shape) (p : Position s) (l : List (Position (taken_out s p))) → Once l → Once (map (keep s p) l)
 once_into s p [] h = tt
@@ -136,7 +133,7 @@ once_into s p (k ∷ l) (h, i) = (λ j. h (among_keep s p k l j), once_into s p 
 
 kept_from : (s : Shape) (p : Position s) (l : List (Position (taken_out s p))) → Kept (Before numbered s) (map (keep s p) l) → Kept (Before numbered (taken_out s p)) l
 kept_from s p [] h = tt
-kept_from s p (k ∷ l) (h, i) = (λ q j b. h (keep s p q) (among_each (keep s p) j) ((before_keep s p q k).to b), kept_from s p l i)
+kept_from s p (k ∷ l) (h, i) = (λ q j b. h (keep s p q) (stands_map (keep s p) j) ((before_keep s p q k).to b), kept_from s p l i)
 
 kept_into : (s : Shape) (p : Position s) (l : List (Position (taken_out s p))) → Kept (Before numbered (taken_out s p)) l → Kept (Before numbered s) (map (keep s p) l)
 kept_into s p [] h = tt
@@ -217,7 +214,7 @@ runs_arranged (run_take {s = s} {t = t} {e = e} {l = a} k r) = let (p, i, j, m) 
         gone l n = let (k, f, g) = among_back (keep s p) l n in keep_not s p k f
 
         every : (n : Position s) → Among n (p ∷ map (keep s p) l)
-        every n = elim (left_or s p n) [ inl f ↦ at_head n f | inr (k, f) ↦ later (moved (keep s p k) n f (among_each (keep s p) (h.every k))) ]
+        every n = elim (left_or s p n) [ inl f ↦ at_head n f | inr (k, f) ↦ later (moved (keep s p k) n f (stands_map (keep s p) (h.every k))) ]
           where
             at_head : (n : Position s) → n ≡ p → Among n (p ∷ map (keep s p) l)
             at_head n f = rw f first

@@ -4,6 +4,7 @@ use Rattle.std.proofs.Common.{ap, sym, ◌∙◌, arith, inl, inr}
 use Rattle.std.proofs.lemmas.Bool.{and_parts, or_parts}
 use Rattle.std.proofs.lemmas.Bool.Decides.{nat_tests}
 use Rattle.msc_base.specs.Patterns.{bind}
+use Rattle.list_facts.proofs.Bools.{or_twice, or_left_comm}
 use Rattle.chart_term.specs.NormalForms.{numbers, unless_pair, without_pair, with_pair, kept_pairs, bound_form, tie_of}
 use Rattle.chart_term.specs.TermMeanings.{NetTerms, HasPattern, holds_tie, ◌⊑◌}
 use Rattle.chart_term.specs.TermPatterns.{Shape, Occurs, pairs, Agree, InPairs, same, back, on, bind_none, bind_as}
@@ -13,15 +14,6 @@ use Rattle.chart_term.specs.Terms.{Tree, Tied, has}
 same_end : (a b m n : ℕ) (c d : ℕ) → ((a == c) && (b == d)) ≡ true → ((m == a) && (n == b)) ≡ ((m == c) && (n == d))
 same_end a b m n c d h = grind (arith, nat_tests)
 
-or_twice : (a b : Bool) → (a || b) ≡ (a || (a || b))
-or_twice true b = refl
-or_twice false b = refl
-
-or_turn : (a b c : Bool) → (a || (b || c)) ≡ (b || (a || c))
-or_turn true true c = refl
-or_turn true false c = refl
-or_turn false b c = refl
-
 without_says : (p : ℕ × ℕ) (q : List (ℕ × ℕ)) (m n : ℕ) → (((m == p.0) && (n == p.1)) || pairs (without_pair p q) m n) ≡ (((m == p.0) && (n == p.1)) || pairs q m n)
 without_says p [] m n = refl
 without_says p (r ∷ q) m n = go ((p.0 == r.0) && (p.1 == r.1)) refl (without_says p q m n)
@@ -29,7 +21,7 @@ without_says p (r ∷ q) m n = go ((p.0 == r.0) && (p.1 == r.1)) refl (without_s
     go : (t : Bool) → ((p.0 == r.0) && (p.1 == r.1)) ≡ t → (((m == p.0) && (n == p.1)) || pairs (without_pair p q) m n) ≡ (((m == p.0) && (n == p.1)) || pairs q m n)
         → (((m == p.0) && (n == p.1)) || pairs (unless_pair t r (without_pair p q)) m n) ≡ (((m == p.0) && (n == p.1)) || (((m == r.0) && (n == r.1)) || pairs q m n))
     go true e h = h ∙ (or_twice ((m == p.0) && (n == p.1)) (pairs q m n) ∙ ap (λ t. ((m == p.0) && (n == p.1)) || (t || pairs q m n)) (same_end p.0 p.1 m n r.0 r.1 e))
-    go false e h = or_turn ((m == p.0) && (n == p.1)) ((m == r.0) && (n == r.1)) (pairs (without_pair p q) m n) ∙ (ap (λ t. ((m == r.0) && (n == r.1)) || t) h ∙ or_turn ((m == r.0) && (n == r.1)) ((m == p.0) && (n == p.1)) (pairs q m n))
+    go false e h = or_left_comm ((m == p.0) && (n == p.1)) ((m == r.0) && (n == r.1)) (pairs (without_pair p q) m n) ∙ (ap (λ t. ((m == r.0) && (n == r.1)) || t) h ∙ or_left_comm ((m == r.0) && (n == r.1)) ((m == p.0) && (n == p.1)) (pairs q m n))
 
 -- a pair with an end that is not there says nothing of what is there
 not_there : (ns : List ℕ) (p : ℕ × ℕ) (m n : ℕ) → has ns m ≡ true → has ns n ≡ true → (has ns p.0 && has ns p.1) ≡ false → ((m == p.0) && (n == p.1)) ≡ false

@@ -3,6 +3,7 @@ use Rattle.std.proofs.Common.{inl, inr, ◌≡◌, ℕ, ◌+◌, ◌*◌, ◌<�
 use Rattle.std.specs.Ordering.{nat_cmp, ordering_then, ordering_index}
 use Rattle.std.specs.declared.cmp.Ordering.{Ordering}
 use Rattle.std.specs.declared.cmp.Ordering.TheVariants.{Less, Equal, Greater}
+use Rattle.std.proofs.lemmas.List.{drop_all}
 use Rattle.bit_sets.specs.Blocks.{set_cmp}
 use Rattle.term_facts.proofs.Listing.{got_is, is_equal, list_cmp, list_cmp-end, list_cmp-next, number_equal}
 use Rattle.chart_term.specs.Comparisons.{ComparesAs, ComparesParts}
@@ -63,14 +64,8 @@ by_list i ps qs = row_by_list (drop i ps) (drop i qs)
 next_part : (ps qs : List Part) (i : ℕ) (x y : Part) → i < length ps → i < length qs → slice_get ps i ≡ Some x → slice_get qs i ≡ Some y → rows_from i ps qs ≡ ordering_then (part_cmp x y) (rows_from (i + 1) ps qs)
 next_part ps qs i x y l m e f = sym (by_list i ps qs) ∙ list_cmp-next part_cmp ps qs i x y l m (got_is ps i x e) (got_is qs i y f) ∙ ap (ordering_then (part_cmp x y)) (by_list (i + 1) ps qs)
 
-all_gone : (ts : List Part) (n : ℕ) → length ts ≤ n → drop n ts ≡ []
-all_gone [] zero l = refl
-all_gone [] (suc n) l = refl
-all_gone (t ∷ ts) zero l = absurd (omega arith)
-all_gone (t ∷ ts) (suc n) l = all_gone ts n (omega (arith, l))
-
 none_from : (ps qs : List Part) (i : ℕ) → length ps ≤ i → length qs ≤ i → rows_from i ps qs ≡ Equal
-none_from ps qs i l m = ap₂ (λ (us vs : List Part). row_cmp (row_of us) (row_of vs)) (all_gone ps i l) (all_gone qs i m)
+none_from ps qs i l m = ap₂ (λ (us vs : List Part). row_cmp (row_of us) (row_of vs)) (drop_all i ps l) (drop_all i qs m)
 
 pub rows_end : (ps qs : List Part) (i : ℕ) → i ≤ length ps → i ≤ length qs → (length ps ≤ i) ⊎ (length qs ≤ i) → rows_from i ps qs ≡ nat_cmp (length ps) (length qs)
 rows_end ps qs i a b h = sym (by_list i ps qs) ∙ list_cmp-end part_cmp ps qs i a b h

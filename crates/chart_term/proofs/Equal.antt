@@ -1,19 +1,16 @@
 -- The test of equality is exact.
-use Rattle.std.specs.Prelude.{ℕ, Bool, true, false, List, [], ◌∷◌, ◌≡◌, Option, Some, None, ◌&&◌, ◌==◌, refl}
+use Rattle.std.specs.Prelude.{ℕ, true, List, [], ◌∷◌, ◌≡◌, Option, Some, None, ◌&&◌, ◌==◌, refl}
 use Rattle.std.proofs.Common.{ap, arith}
 use Rattle.std.proofs.lemmas.Bool.Decides.{nat_tests}
-use Rattle.std.proofs.lemmas.Bool.{and_from, and_parts}
+use Rattle.std.proofs.lemmas.Bool.{and_from, and_parts, eqb-true}
 use Rattle.msc_base.specs.Patterns.{Mode, seq, par}
 use Rattle.hmsc_graph.specs.Graphs.{Spot, Start, At, Goal, To, End, Any}
 use Rattle.chart_term.specs.Equality.{same_maybe, same_event, same_mode, same_spot, same_goal, same_numbers, same_pairs, same_tree, same_trees, same_row, SameTreeIsExact}
 use Rattle.chart_term.specs.Terms.{TermEvent, Tree, Nil, Event, Join, Choice, Tied, Loop, Walk, Trees, none, more, Row, ends, gap, turn}
 
-pub number_is : (m n : ℕ) → (m == n) ≡ true → m ≡ n
-number_is m n h = grind (arith, nat_tests)
-
 maybe_is : (a b : Option ℕ) → same_maybe a b ≡ true → a ≡ b
 maybe_is None None h = refl
-maybe_is (Some m) (Some n) h = ap Some (number_is m n h)
+maybe_is (Some m) (Some n) h = ap Some (eqb-true m n h)
 maybe_is None (Some n) h = cc
 maybe_is (Some m) None h = cc
 
@@ -25,12 +22,12 @@ mode_is par seq h = cc
 
 spot_is : (a b : Spot) → same_spot a b ≡ true → a ≡ b
 spot_is Start Start h = refl
-spot_is (At m) (At n) h = ap At (number_is m n h)
+spot_is (At m) (At n) h = ap At (eqb-true m n h)
 spot_is Start (At n) h = cc
 spot_is (At m) Start h = cc
 
 goal_is : (a b : Goal) → same_goal a b ≡ true → a ≡ b
-goal_is (To m) (To n) h = ap To (number_is m n h)
+goal_is (To m) (To n) h = ap To (eqb-true m n h)
 goal_is End End h = refl
 goal_is Any Any h = refl
 goal_is (To m) End h = cc
@@ -42,7 +39,7 @@ goal_is Any End h = cc
 
 numbers_are : (c d : List ℕ) → same_numbers c d ≡ true → c ≡ d
 numbers_are [] [] h = refl
-numbers_are (m ∷ c) (n ∷ d) h = let (p, q) = and_parts (m == n) (same_numbers c d) h in λ i. number_is m n p i ∷ numbers_are c d q i
+numbers_are (m ∷ c) (n ∷ d) h = let (p, q) = and_parts (m == n) (same_numbers c d) h in λ i. eqb-true m n p i ∷ numbers_are c d q i
 numbers_are [] (n ∷ d) h = cc
 numbers_are (m ∷ c) [] h = cc
 
@@ -51,7 +48,7 @@ pairs_are [] [] h = refl
 pairs_are (p ∷ q) (r ∷ s) h =
     let (a, b) = and_parts ((p.0 == r.0) && (p.1 == r.1)) (same_pairs q s) h in
     let (u, v) = and_parts (p.0 == r.0) (p.1 == r.1) a in
-    λ i. (number_is p.0 r.0 u i, number_is p.1 r.1 v i) ∷ pairs_are q s b i
+    λ i. (eqb-true p.0 r.0 u i, eqb-true p.1 r.1 v i) ∷ pairs_are q s b i
 pairs_are [] (n ∷ d) h = cc
 pairs_are (m ∷ c) [] h = cc
 
@@ -60,7 +57,7 @@ event_is e f h =
     let (a, b) = and_parts ((e.number == f.number) && (e.at == f.at)) (same_maybe e.also f.also && (e.label == f.label)) h in
     let (u, v) = and_parts (e.number == f.number) (e.at == f.at) a in
     let (x, y) = and_parts (same_maybe e.also f.also) (e.label == f.label) b in
-    λ i. record { number = number_is e.number f.number u i; at = number_is e.at f.at v i; also = maybe_is e.also f.also x i; label = number_is e.label f.label y i }
+    λ i. record { number = eqb-true e.number f.number u i; at = eqb-true e.at f.at v i; also = maybe_is e.also f.also x i; label = eqb-true e.label f.label y i }
 
 mutual
   -- terms that the test calls equal are equal
@@ -74,12 +71,12 @@ mutual
       let (a, b) = and_parts (same_tree x y && (lo == low)) (same_maybe hi high && same_row r s) h in
       let (u, v) = and_parts (same_tree x y) (lo == low) a in
       let (p, q) = and_parts (same_maybe hi high) (same_row r s) b in
-      λ i. Loop (tree_is x y u i) (number_is lo low v i) (maybe_is hi high p i) (row_is r s q i)
+      λ i. Loop (tree_is x y u i) (eqb-true lo low v i) (maybe_is hi high p i) (row_is r s q i)
   tree_is (Walk n f t c) (Walk m g u d) h =
       let (a, b) = and_parts ((n == m) && same_spot f g) (same_goal t u && same_numbers c d) h in
       let (x, y) = and_parts (n == m) (same_spot f g) a in
       let (p, q) = and_parts (same_goal t u) (same_numbers c d) b in
-      λ i. Walk (number_is n m x i) (spot_is f g y i) (goal_is t u p i) (numbers_are c d q i)
+      λ i. Walk (eqb-true n m x i) (spot_is f g y i) (goal_is t u p i) (numbers_are c d q i)
   tree_is x y h = cc
 
   trees_are : (xs ys : Trees) → same_trees xs ys ≡ true → xs ≡ ys

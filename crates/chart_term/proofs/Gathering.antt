@@ -1,11 +1,12 @@
 -- The facts of lists of parts, and of terms made of them.
-use Rattle.std.proofs.Common.{◌≡◌, ℕ, ◌+◌, ◌<◌, Bool, true, false, ◌||◌, ◌&&◌, not, List, [], ◌∷◌, ◌++◌, refl, ap, ap₂, subst, sym, ◌∙◌, arith, length, take, get_or, append_assoc, append-nil, min, max, nat_eq, Option, Some, None}
+use Rattle.std.proofs.Common.{◌≡◌, ℕ, ◌+◌, ◌<◌, Bool, false, ◌||◌, ◌&&◌, not, List, [], ◌∷◌, ◌++◌, refl, ap, ap₂, subst, sym, ◌∙◌, arith, length, take, get_or, append_assoc, append-nil, min, max, nat_eq, Option, Some, None}
 use Rattle.std.specs.List.{list_any}
 use Rattle.chart_term.specs.declared.term.RowPart.{RowPart}
 use Rattle.chart_term.specs.declared.term.RowPart.TheVariants as part
 use Rattle.chart_term.specs.Rows.{part_of, parts_of}
 use Rattle.std.proofs.lemmas.List.Folds.{list_any-append}
 use Rattle.bit_sets.specs.Blocks.{BlockValue}
+use Rattle.list_facts.proofs.Bools.{or_assoc, or_false, or_comm}
 use Rattle.term_facts.specs.declared.facts.Facts.{Facts}
 use Rattle.term_facts.specs.declared.facts.Span.{Span}
 use Rattle.chart_term.specs.Labels.{labels, labels_all, labels_row}
@@ -18,14 +19,6 @@ use Rattle.term_facts.proofs.Coding.{numbers_code-turned}
 use Rattle.term_facts.proofs.Members.{facts_added, span_of-append}
 use Rattle.chart_term.proofs.Turns.{parts_next}
 
-or_last : (a b c : Bool) → (a || (b || c)) ≡ ((a || b) || c)
-or_last true b c = refl
-or_last false b c = refl
-
-or_none : (b : Bool) → (b || false) ≡ b
-or_none true = refl
-or_none false = refl
-
 row_weight-append : (ps qs : List Part) → row_weight (row_of (ps ++ qs)) ≡ row_weight (row_of ps) + row_weight (row_of qs)
 row_weight-append [] qs = omega arith
 row_weight-append (Gap c ∷ ps) qs = omega (arith, row_weight-append ps qs)
@@ -34,7 +27,7 @@ row_weight-append (Turn x ∷ ps) qs = omega (arith, row_weight-append ps qs)
 row_walk-append : (ps qs : List Part) → row_walk (row_of (ps ++ qs)) ≡ (row_walk (row_of ps) || row_walk (row_of qs))
 row_walk-append [] qs = refl
 row_walk-append (Gap c ∷ ps) qs = row_walk-append ps qs
-row_walk-append (Turn x ∷ ps) qs = ap (λ b. holds_walk x || b) (row_walk-append ps qs) ∙ or_last (holds_walk x) (row_walk (row_of ps)) (row_walk (row_of qs))
+row_walk-append (Turn x ∷ ps) qs = ap (λ b. holds_walk x || b) (row_walk-append ps qs) ∙ sym (or_assoc (holds_walk x) (row_walk (row_of ps)) (row_walk (row_of qs)))
 
 row_instances-append : (ps qs : List Part) → instances_row (row_of (ps ++ qs)) ≡ instances_row (row_of ps) ++ instances_row (row_of qs)
 row_instances-append [] qs = refl
@@ -77,7 +70,7 @@ have_both ps qs f g h p q s =
 turn_facts : (x : Tree) (f : Facts) → HasFacts x f → RowHasFacts (row_of (Turn x ∷ [])) f
 turn_facts x f =
     moved (weight x) (row_weight (row_of (Turn x ∷ []))) (holds_walk x) (holds_walk x || false) (instances x) (instances x ++ []) (numbers x) (numbers x ++ []) (labels x) (labels x ++ []) f
-    (omega arith) (sym (or_none (holds_walk x))) (sym (append-nil (instances x))) (sym (append-nil (numbers x))) (sym (append-nil (labels x)))
+    (omega arith) (sym (or_false (holds_walk x))) (sym (append-nil (instances x))) (sym (append-nil (numbers x))) (sym (append-nil (labels x)))
 
 -- one more begun turn
 row_facts-turn : (ps : List Part) (x : Tree) (f g h : Facts) → RowHasFacts (row_of ps) f → HasFacts x g → Adds f g h → RowHasFacts (row_of (ps ++ Turn x ∷ [])) h
@@ -87,7 +80,7 @@ row_facts-turn ps x f g h p q s = have_both ps (Turn x ∷ []) f g h p (turn_fac
 row_facts-gap : (ps : List Part) (c : List ℕ) (f h : Facts) → RowHasFacts (row_of ps) f → h ≡ record f { weight = min (f.weight + 1) most_stored } → RowHasFacts (row_of (ps ++ Gap c ∷ [])) h
 row_facts-gap ps c f h p e = subst (RowHasFacts (row_of (ps ++ Gap c ∷ []))) (sym e) (record {
   weight = omega (arith, p.weight, row_weight-append ps (Gap c ∷ []));
-  trail = p.trail ∙ sym (row_walk-append ps (Gap c ∷ []) ∙ or_none (row_walk (row_of ps)));
+  trail = p.trail ∙ sym (row_walk-append ps (Gap c ∷ []) ∙ or_false (row_walk (row_of ps)));
   instances = λ n. p.instances n ∙ ap (λ l. has l n) (sym (row_instances-append ps (Gap c ∷ []) ∙ append-nil (instances_row (row_of ps))));
   span = p.span ∙ ap span_of (sym (row_numbers-append ps (Gap c ∷ []) ∙ append-nil (numbers_row (row_of ps))));
   labels = p.labels ∙ ap span_of (sym (row_labels-append ps (Gap c ∷ []) ∙ append-nil (labels_row (row_of ps))));
@@ -113,12 +106,6 @@ row_miss_is b ps f h =
     (ap₂ (λ m n. not m && not n) h.trail (any_same (has f.instances.instances) (has (instances_row (row_of ps))) b.instances h.instances))
     (ap (λ s. not (list_any (lies_in s) b.events)) h.span)
 
-or_turned : (a b : Bool) → (a || b) ≡ (b || a)
-or_turned true true = refl
-or_turned true false = refl
-or_turned false true = refl
-or_turned false false = refl
-
 wider_turned : (r s : Option Span) → wider r s ≡ wider s r
 wider_turned None None = refl
 wider_turned None (Some s) = refl
@@ -137,8 +124,8 @@ loop_facts x lo hi r f g h k p q s e =
     let both : AreFacts (row_weight r + weight x) (row_walk r || holds_walk x) (instances_row r ++ instances x) (numbers_row r ++ numbers x) (labels_row r ++ labels x) h = facts_added (row_weight r) (weight x) (row_walk r) (holds_walk x) (instances_row r) (instances x) (numbers_row r) (numbers x) (labels_row r) (labels x) f g h p q s in
     subst (HasFacts (Loop x lo hi r)) (sym e) (record {
       weight = omega (arith, both.weight);
-      trail = both.trail ∙ or_turned (row_walk r) (holds_walk x);
-      instances = λ n. both.instances n ∙ list_any-append (λ m. nat_eq m n) (instances_row r) (instances x) ∙ or_turned (has (instances_row r) n) (has (instances x) n) ∙ sym (list_any-append (λ m. nat_eq m n) (instances x) (instances_row r));
+      trail = both.trail ∙ or_comm (row_walk r) (holds_walk x);
+      instances = λ n. both.instances n ∙ list_any-append (λ m. nat_eq m n) (instances_row r) (instances x) ∙ or_comm (has (instances_row r) n) (has (instances x) n) ∙ sym (list_any-append (λ m. nat_eq m n) (instances x) (instances_row r));
       span = both.span ∙ span_turned (numbers_row r) (numbers x);
       labels = both.labels ∙ span_turned (labels_row r) (labels x);
       code = both.code ∙ numbers_code-turned (numbers_row r) (numbers x);

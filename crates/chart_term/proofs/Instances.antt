@@ -3,6 +3,7 @@ use Rattle.std.specs.Prelude.{ℕ, Bool, true, false, List, [], ◌∷◌, ◌++
 use Rattle.std.proofs.Common.{ap, sym, ◌∙◌, arith, cond, inl, inr}
 use Rattle.std.proofs.lemmas.Bool.Decides.{nat_tests}
 use Rattle.msc_base.specs.Patterns.{empty, one, join, bind}
+use Rattle.list_facts.proofs.Bools.{or_true, or_twice, or_left_comm, or_false}
 use Rattle.chart_term.specs.NormalForms.{only, cut}
 use Rattle.chart_term.specs.TermPatterns.{Shape, Avoids, instances_of, some_list, Both}
 use Rattle.chart_term.specs.Terms.{TermEvent, has, has_some, hits, ◌∪◌, add_member, add_at}
@@ -28,10 +29,6 @@ has_app (m ∷ a) b n = go (m == n) (has_app a b n)
 
 pub has_left : (a b : List ℕ) (n : ℕ) → has a n ≡ true → has (a ++ b) n ≡ true
 has_left a b n h = rw (has_app a b n, h)
-
-pub or_true : (b : Bool) → (b || true) ≡ true
-or_true true = refl
-or_true false = refl
 
 pub has_right : (a b : List ℕ) (n : ℕ) → has b n ≡ true → has (a ++ b) n ≡ true
 has_right a b n h = rw (has_app a b n, h) (or_true (has a n))
@@ -94,32 +91,19 @@ cut_avoids all c (bind x q) h = let p = cut_avoids all c x h in record { to = p.
 same_number : (n m k : ℕ) → (n == m) ≡ true → (n == k) ≡ (m == k)
 same_number n m k e = grind (arith, nat_tests)
 
-or_again : (a b : Bool) → (a || b) ≡ (a || (a || b))
-or_again true b = refl
-or_again false b = refl
-
-or_swap : (a b c : Bool) → (a || (b || c)) ≡ (b || (a || c))
-or_swap true true c = refl
-or_swap true false c = refl
-or_swap false b c = refl
-
-or_false : (a : Bool) → a ≡ (a || false)
-or_false true = refl
-or_false false = refl
-
 pub has_added : (n : ℕ) (ms : List ℕ) (k : ℕ) → has (add_member n ms) k ≡ ((n == k) || has ms k)
 has_added n [] k = refl
 has_added n (m ∷ ms) k = go (n == m) (ltb n m) refl (has_added n ms k)
   where
     go : (a b : Bool) → (n == m) ≡ a → has (add_member n ms) k ≡ ((n == k) || has ms k) → has (add_at a b n m ms (add_member n ms)) k ≡ ((n == k) || ((m == k) || has ms k))
-    go true b e h = or_again (m == k) (has ms k) ∙ ap (λ t. t || ((m == k) || has ms k)) (sym (same_number n m k e))
+    go true b e h = or_twice (m == k) (has ms k) ∙ ap (λ t. t || ((m == k) || has ms k)) (sym (same_number n m k e))
     go false true e h = refl
-    go false false e h = ap (λ t. (m == k) || t) h ∙ or_swap (m == k) (n == k) (has ms k)
+    go false false e h = ap (λ t. (m == k) || t) h ∙ or_left_comm (m == k) (n == k) (has ms k)
 
 -- the members of a union are those of both sets
 pub has_union : (a b : List ℕ) (n : ℕ) → has (a ∪ b) n ≡ (has a n || has b n)
-has_union a [] n = or_false (has a n)
-has_union a (m ∷ b) n = has_added m (a ∪ b) n ∙ (ap (λ t. (m == n) || t) (has_union a b n) ∙ or_swap (m == n) (has a n) (has b n))
+has_union a [] n = sym (or_false (has a n))
+has_union a (m ∷ b) n = has_added m (a ∪ b) n ∙ (ap (λ t. (m == n) || t) (has_union a b n) ∙ or_left_comm (m == n) (has a n) (has b n))
 
 -- two blocks of instances together
 some_app : (a b : List ℕ) (o : Option ℕ) → has_some (a ∪ b) o ≡ (has_some a o || has_some b o)

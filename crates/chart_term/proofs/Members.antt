@@ -1,2 +1,2 @@
 -- Members of sets, and facts of several terms together.
-pub use Rattle.term_facts.proofs.Members.{has-insert_each, span_of-append, facts_added, on_ok}
+pub use Rattle.term_facts.proofs.Members.{has-insert_each, span_of-append, facts_added}

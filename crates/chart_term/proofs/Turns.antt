@@ -2,6 +2,7 @@
 use Rattle.std.proofs.Common.{◌≡◌, ℕ, zero, suc, ◌+◌, ◌<◌, ◌≤◌, true, false, ◌||◌, List, [], ◌∷◌, ◌++◌, map, length, take, get_or, slice_get, Some, refl, ap, sym, ◌∙◌, arith, append_assoc, length-append}
 use Rattle.std.proofs.lemmas.List.{map-append, length-map, take_all}
 use Rattle.msc_base.specs.Patterns.{Mode, seq, par}
+use Rattle.list_facts.proofs.Reading.{take_step}
 use Rattle.chart_term.specs.NormalForms.{begun, flat, has_gap, join_of, open_part}
 use Rattle.chart_term.specs.PartLists.{AreTurns}
 use Rattle.chart_term.specs.Rows.{part_of, parts_of}
@@ -9,7 +10,7 @@ use Rattle.chart_term.specs.declared.term.RowPart.{RowPart}
 use Rattle.chart_term.specs.declared.term.RowPart.TheVariants as part
 use Rattle.chart_term.specs.Terms.{Tree, Nil, Join, trees, Part, Gap, Turn}
 use Rattle.chart_term.proofs.Flattening.{flat-next, taken_next}
-use Rattle.chart_term.proofs.Lists.{items-trees, take_step}
+use Rattle.chart_term.proofs.Lists.{items-trees}
 
 pub gap-append : (ps qs : List Part) → has_gap (ps ++ qs) ≡ (has_gap ps || has_gap qs)
 gap-append [] qs = refl

@@ -5,30 +5,13 @@ use Rattle.column_order.specs.Orders.{IsNext, IsWhole}
 use Rattle.column_order.specs.Weaving.{ColumnOrders, ColumnsOrder, restricted, IsWoven}
 use Rattle.column_order.specs.Counts.{EdgeLeads, Inside, has}
 use Rattle.std.proofs.lemmas.List.Elements.{All-cons}
+use Rattle.list_facts.proofs.Members.{among_left, among_right}
 use Rattle.column_order.specs.Columns.{from_to, neighbours, all_neighbours}
 use Rattle.column_order.specs.declared.edge.Edge.{Edge}
 use Rattle.column_order.proofs.Agree.{Follows, to_follows}
-use Rattle.column_order.proofs.Exchange.{MakesUp, has_left, has_right, has_either}
+use Rattle.column_order.proofs.Exchange.{MakesUp, has_either}
+use Rattle.column_order.proofs.Ends.{leads_left, leads_right, leads_either}
 use Rattle.column_order.proofs.Counting.{true_has, false_has}
-
-leads_left : (es fs : List Edge) (y x : ℕ) → EdgeLeads es y x → EdgeLeads (es ++ fs) y x
-leads_left [] fs y x l = absurd l
-leads_left (e ∷ es) fs y x (inl p) = inl p
-leads_left (e ∷ es) fs y x (inr l) = inr (leads_left es fs y x l)
-
-leads_right : (es fs : List Edge) (y x : ℕ) → EdgeLeads fs y x → EdgeLeads (es ++ fs) y x
-leads_right [] fs y x l = l
-leads_right (e ∷ es) fs y x l = inr (leads_right es fs y x l)
-
-leads_either : (es fs : List Edge) (y x : ℕ) → EdgeLeads (es ++ fs) y x → EdgeLeads es y x ⊎ EdgeLeads fs y x
-leads_either [] fs y x l = inr l
-leads_either (e ∷ es) fs y x (inl p) = inl (inl p)
-leads_either (e ∷ es) fs y x (inr l) = elim (leads_either es fs y x l) [ inl a ↦ inl (inr a) | inr b ↦ inr b ]
-
-before_has : (cs : List ℕ) (y x : ℕ) → ColumnOrders cs y x → IsAmong cs x
-before_has [] y x b = absurd b
-before_has (c ∷ cs) y x (inl p) = inr p.1
-before_has (c ∷ cs) y x (inr b) = inr (before_has cs y x b)
 
 from_within : (c : ℕ) (cs : List ℕ) (y x : ℕ) → EdgeLeads (from_to c cs) y x → ColumnOrders (c ∷ cs) y x
 from_within c [] y x l = absurd l
@@ -125,16 +108,16 @@ module _ (n : ℕ) (columns : List (List ℕ)) (column : List ℕ) (mine : IsAmo
   restrict prefix (x ∷ xs) past rest f is in_front later every = choose (has column x) refl
       (λ rs e. restrict (prefix ++ x ∷ []) xs (past ++ x ∷ []) rs f.1
       (is ∙ ap (λ (k : List ℕ). past ++ k) e ∙ sym (append_assoc past (x ∷ []) rs))
-      (λ y h. elim (snoc_has past x y h) [ inl l ↦ has_left prefix (x ∷ []) y (in_front y l) | inr q ↦ has_right prefix (x ∷ []) y (inl (sym q)) ])
+      (λ y h. elim (snoc_has past x y h) [ inl l ↦ among_left prefix (x ∷ []) y (in_front y l) | inr q ↦ among_right prefix (x ∷ []) y (inl (sym q)) ])
       (rest_after prefix past rs x f.0 (is ∙ ap (λ (k : List ℕ). past ++ k) e) (λ y h. later y (subst (λ (k : List ℕ). IsAmong k y) (sym e) h)))
       (λ y h. elim (every y (subst (λ (k : List ℕ). IsAmong k y) (sym e) (inr h))) [
-        | inl q ↦ absurd (rest_after prefix past rs x f.0 (is ∙ ap (λ (k : List ℕ). past ++ k) e) (λ z g. later z (subst (λ (k : List ℕ). IsAmong k z) (sym e) g)) y h (has_right prefix (x ∷ []) y (inl q)))
+        | inl q ↦ absurd (rest_after prefix past rs x f.0 (is ∙ ap (λ (k : List ℕ). past ++ k) e) (λ z g. later z (subst (λ (k : List ℕ). IsAmong k z) (sym e) g)) y h (among_right prefix (x ∷ []) y (inl q)))
         | inr t ↦ t
       ]))
       (λ lacks. restrict (prefix ++ x ∷ []) xs past rest f.1 is
-      (λ y h. has_left prefix (x ∷ []) y (in_front y h))
-      (λ y h g. elim (snoc_has prefix x y g) [ inl l ↦ later y h l | inr q ↦ lacks (subst (λ (k : List ℕ). IsAmong k x) (sym is) (has_right past rest x (subst (λ (z : ℕ). IsAmong rest z) (sym q) h))) ])
-      (λ y h. elim (every y h) [ inl q ↦ absurd (lacks (subst (λ (k : List ℕ). IsAmong k x) (sym is) (has_right past rest x (subst (λ (z : ℕ). IsAmong rest z) q h)))) | inr t ↦ t ]))
+      (λ y h. among_left prefix (x ∷ []) y (in_front y h))
+      (λ y h g. elim (snoc_has prefix x y g) [ inl l ↦ later y h l | inr q ↦ lacks (subst (λ (k : List ℕ). IsAmong k x) (sym is) (among_right past rest x (subst (λ (z : ℕ). IsAmong rest z) (sym q) h))) ])
+      (λ y h. elim (every y h) [ inl q ↦ absurd (lacks (subst (λ (k : List ℕ). IsAmong k x) (sym is) (among_right past rest x (subst (λ (z : ℕ). IsAmong rest z) q h)))) | inr t ↦ t ]))
     where
       choose : (b : Bool) → has column x ≡ b → ((rs : List ℕ) → rest ≡ x ∷ rs → restricted column xs ≡ rs) → ((IsAmong column x → ⊥) → restricted column xs ≡ rest) → (if b then x ∷ restricted column xs else restricted column xs) ≡ rest
       choose true e held lacking =
@@ -146,10 +129,10 @@ follows_different : (n : ℕ) (precedes : ℕ → ℕ → Type 0) (prefix xs : L
 follows_different n precedes prefix [] f = (tt, λ x h. absurd h)
 follows_different n precedes prefix (y ∷ ys) f =
     let r = follows_different n precedes (prefix ++ y ∷ []) ys f.1 in (
-      (λ h. (r.1 y h).1 (has_right prefix (y ∷ []) y (inl refl)), r.0),
+      (λ h. (r.1 y h).1 (among_right prefix (y ∷ []) y (inl refl)), r.0),
       λ x h. elim h [
         | inl e ↦ (subst (λ (z : ℕ). z < n) (sym e) f.0.due.inside, λ g. f.0.due.remains (subst (λ (z : ℕ). IsAmong prefix z) e g))
-        | inr t ↦ ((r.1 x t).0, λ g. (r.1 x t).1 (has_left prefix (y ∷ []) x g))
+        | inr t ↦ ((r.1 x t).0, λ g. (r.1 x t).1 (among_left prefix (y ∷ []) x g))
       ],
     )
 

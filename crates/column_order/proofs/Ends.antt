@@ -1,7 +1,9 @@
 -- Ends listed by class against ends counted.
 use Rattle.std.proofs.Common.{◌≡◌, ℕ, ◌<◌, ◌≤◌, ◌+◌, Option, None, length, sym, append_assoc, ap₂, drop, get_or, set, ◌⊎◌, inl, inr, List, [], ◌∷◌, ◌++◌, Some, slice_get, take, nat_eq, true, false, zero, suc, arith, refl, ap, ◌∙◌, subst, ◌↔◌}
+use Rattle.std.proofs.Math.Seq.{take-append_seam}
 use Rattle.std.proofs.lemmas.Bool.{cases_eq}
 use Rattle.std.proofs.lemmas.List.{get_or-set_same, get_or-set_other}
+use Rattle.list_facts.proofs.Reading.{get_behind}
 use Rattle.column_order.specs.declared.edge.Edge.{Edge}
 use Rattle.column_order.specs.Counts.{targets, EdgeLeads}
 use Rattle.column_order.specs.Pairing.{count, IsKth, IsPair, pair_with, pairs_behind, RiseTo, RiseFrom}
@@ -51,27 +53,20 @@ counted_at (e ∷ es) c k p (suc i) at before = elim (cases_eq e.from c) [
 pub counted_listed : (es : List Edge) (c k p : ℕ) → IsKth es c k p → slice_get (targets es c) k ≡ Some p
 counted_listed es c k p h = counted_at es c k p h.i h.at h.before
 
-leads_left : (es fs : List Edge) (y x : ℕ) → EdgeLeads es y x → EdgeLeads (es ++ fs) y x
+-- pairs of two lists of edges
+pub leads_left : (es fs : List Edge) (y x : ℕ) → EdgeLeads es y x → EdgeLeads (es ++ fs) y x
 leads_left [] fs y x l = absurd l
 leads_left (e ∷ es) fs y x (inl p) = inl p
 leads_left (e ∷ es) fs y x (inr l) = inr (leads_left es fs y x l)
 
-leads_right : (es fs : List Edge) (y x : ℕ) → EdgeLeads fs y x → EdgeLeads (es ++ fs) y x
+pub leads_right : (es fs : List Edge) (y x : ℕ) → EdgeLeads fs y x → EdgeLeads (es ++ fs) y x
 leads_right [] fs y x l = l
 leads_right (e ∷ es) fs y x l = inr (leads_right es fs y x l)
 
-leads_either : (es fs : List Edge) (y x : ℕ) → EdgeLeads (es ++ fs) y x → EdgeLeads es y x ⊎ EdgeLeads fs y x
+pub leads_either : (es fs : List Edge) (y x : ℕ) → EdgeLeads (es ++ fs) y x → EdgeLeads es y x ⊎ EdgeLeads fs y x
 leads_either [] fs y x l = inr l
 leads_either (e ∷ es) fs y x (inl p) = inl (inl p)
 leads_either (e ∷ es) fs y x (inr l) = elim (leads_either es fs y x l) [ inl a ↦ inl (inr a) | inr b ↦ inr b ]
-
-at_front : (prefix : List Edge) (e : Edge) (es : List Edge) → slice_get (prefix ++ e ∷ es) (length prefix) ≡ Some e
-at_front [] e es = refl
-at_front (d ∷ prefix) e es = at_front prefix e es
-
-take_front : (prefix es : List Edge) → take (length prefix) (prefix ++ es) ≡ prefix
-take_front [] es = refl
-take_front (d ∷ prefix) es = ap (λ (l : List Edge). d ∷ l) (take_front prefix es)
 
 with_there : (p q y x : ℕ) → EdgeLeads (pair_with p (Some q)) y x → (p ≡ y) × (q ≡ x)
 with_there p q y x (inl e) = e
@@ -93,7 +88,7 @@ paired prefix (e ∷ es) ins p q l = elim (leads_either (pair_with e.to (slice_g
         record {
           class = e.from;
           k = count e.from prefix;
-          output = record { i = length prefix; at = at_front prefix e es ∙ ap (λ (x : ℕ). let r : Edge = record { from = e.from; to = x } in Some r) both.0; before = ap (count e.from) (take_front prefix (e ∷ es)) };
+          output = record { i = length prefix; at = get_behind prefix e es ∙ ap (λ (x : ℕ). let r : Edge = record { from = e.from; to = x } in Some r) both.0; before = ap (count e.from) (take-append_seam prefix (e ∷ es)) };
           input = listed_counted ins e.from (count e.from prefix) q there;
         }
 

@@ -1,17 +1,9 @@
 -- Edges between neighbours ask for as much as the relation that they make up.
 use Rattle.std.proofs.Common.{ℕ, List, [], ◌∷◌, ◌++◌, ◌⊎◌, inl, inr, sym, subst, append-nil, append_assoc}
 use Rattle.msc_base.specs.Lists.{IsAmong}
+use Rattle.list_facts.proofs.Members.{among_left}
 use Rattle.column_order.specs.Orders.{IsDue, IsNext, IsWhole, IsStuckAt}
 use Rattle.column_order.proofs.Agree.{Follows, to_follows, from_follows}
-
-pub has_left : (xs ys : List ℕ) (x : ℕ) → IsAmong xs x → IsAmong (xs ++ ys) x
-has_left [] ys x h = absurd h
-has_left (y ∷ xs) ys x (inl e) = inl e
-has_left (y ∷ xs) ys x (inr h) = inr (has_left xs ys x h)
-
-pub has_right : (xs ys : List ℕ) (x : ℕ) → IsAmong ys x → IsAmong (xs ++ ys) x
-has_right [] ys x h = h
-has_right (y ∷ xs) ys x h = inr (has_right xs ys x h)
 
 pub has_either : (xs ys : List ℕ) (x : ℕ) → IsAmong (xs ++ ys) x → IsAmong xs x ⊎ IsAmong ys x
 has_either [] ys x h = inr h
@@ -45,8 +37,8 @@ module _ (n : ℕ) (near far : ℕ → ℕ → Type 0) (made : MakesUp near far)
 
   closed_snoc : (prefix : List ℕ) (x : ℕ) → Closed prefix → IsDue n far prefix x → Closed (prefix ++ x ∷ [])
   closed_snoc prefix x closed d y z h p = elim (has_either prefix (x ∷ []) z h) [
-    | inl l ↦ has_left prefix (x ∷ []) y (closed y z l p)
-    | inr r ↦ elim r [ inl e ↦ has_left prefix (x ∷ []) y (d.ready y (subst (λ (w : ℕ). far y w) e p)) | inr b ↦ absurd b ]
+    | inl l ↦ among_left prefix (x ∷ []) y (closed y z l p)
+    | inr r ↦ elim r [ inl e ↦ among_left prefix (x ∷ []) y (d.ready y (subst (λ (w : ℕ). far y w) e p)) | inr b ↦ absurd b ]
   ]
 
   pub follows_far : (prefix xs : List ℕ) → Closed prefix → Follows n near prefix xs → Follows n far prefix xs

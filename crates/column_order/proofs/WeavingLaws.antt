@@ -2,12 +2,13 @@
 use Rattle.std.proofs.Common.{◌≡◌, ℕ, ◌<◌, ◌≤◌, ◌+◌, ◌↔◌, inl, inr, zero, suc, List, [], ◌∷◌, ◌++◌, arith, refl, sym}
 use Rattle.std.proofs.lemmas.Bool.{cases_lt, cases_eq}
 use Rattle.msc_base.specs.Lists.{IsAmong}
+use Rattle.list_facts.proofs.Members.{among_left, among_right}
 use Rattle.column_order.specs.Orders.{IsNext}
 use Rattle.column_order.specs.Weaving.{ColumnOrders, ColumnsOrder}
 use Rattle.column_order.specs.Laws.{WovenIsOne, NeverWovenAndCrossed, CrossedIsOne, TextIsWoven, numbers_from}
 use Rattle.column_order.proofs.Agree.{Follows, from_follows, whole_same, whole_or_stuck, stuck_same}
 use Rattle.column_order.proofs.Columns.{woven, whole_of}
-use Rattle.column_order.proofs.Exchange.{has_left, has_right, has_either}
+use Rattle.column_order.proofs.Exchange.{has_either}
 
 pub woven_is_one : WovenIsOne
 woven_is_one n columns a b v w = whole_same n (ColumnsOrder columns) a b (whole_of n columns a v) (whole_of n columns b w)
@@ -27,8 +28,8 @@ front_more prefix k is y = (
     | inr r ↦ elim r [ inl e ↦ omega arith | inr b ↦ absurd b ]
   ]),
   λ low. elim (cases_lt y k) [
-    | inl lt ↦ has_left prefix (k ∷ []) y ((is y).1 lt)
-    | inr ge ↦ let e : y ≡ k = omega arith in has_right prefix (k ∷ []) y (inl e)
+    | inl lt ↦ among_left prefix (k ∷ []) y ((is y).1 lt)
+    | inr ge ↦ let e : y ≡ k = omega arith in among_right prefix (k ∷ []) y (inl e)
   ],
 )
 

@@ -1,10 +1,12 @@
 -- What a reader's answers say.
 use Rattle.std.proofs.Common.{Result, Ok, Err, IfErr, OnOk, OnErr, IfSome, MatchOption, ◌≡◌, ◌<◌, ◌≤◌, ◌+◌, ◌++◌, inl, inr, Bool, true, false, not, List, ℕ, length, [], ◌∷◌, arith, sym, refl, ap, ◌∙◌, subst, take, drop, append-nil, append_assoc, length-append, Option, Some, None, slice_get, zero, suc, option_to_list, ◌↔◌}
-use Rattle.std.proofs.lemmas.List.{take_all}
+use Rattle.std.proofs.lemmas.List.{take_all, nil_from_length}
+use Rattle.std.proofs.lemmas.Option.{slice_get_within}
 use Rattle.msc_base.specs.declared.limits.TheConstants.Limits.{LINE_BYTES, LOG_BYTES}
 use Rattle.event_log.specs.Faults.{IsLogFault}
 use Rattle.event_log.specs.Lines.{cut_of, decided, last_line, lines_of}
 use Rattle.msc_base.specs.Only.{Never, Only}
+use Rattle.list_facts.proofs.Reading.{get_behind}
 use Rattle.event_log.specs.Logs.{Stage, first_stage, HasLineFault, PassesLines, Reaches, limited, LogOf, HoldsEvent}
 use Rattle.event_log.specs.States.{events_of, LogState, HandsOut, TakesLine, RefusesLine, IsGoing, IsSettled, IsWanting, HoldsAt, Fed, IsFaultOf, IsAnswer}
 use Rattle.line_events.specs.declared.event.LineEvent.{LineEvent}
@@ -14,7 +16,7 @@ use Rattle.event_log.specs.declared.event.LogFault.TheVariants as fault
 use Rattle.event_log.specs.declared.event.LogForm.{LogForm}
 use Rattle.event_log.proofs.Cuts.{whole_line, lines_within, lines_beyond, lines_grow, take_front}
 use Rattle.event_log.proofs.Readings.{GoesOn, one_reading, reading_pass, reading_fault, reading_reaches, reach_stays, reached_first, reached_both, at_going_on}
-use Rattle.event_log.proofs.Feeding.{going_log, settled_wants, going_wants, holds_on, holds_end, going_lines, limited_within, limited_beyond, passed, refused, left_line}
+use Rattle.event_log.proofs.Feeding.{going_log, settled_wants, going_wants, holds_on, holds_end, going_lines, limited_within, limited_beyond, passed, refused, left_line, settled_at}
 
 -- a log has one list of events and one fault
 pub record SameLog (es ds : List LineEvent) (x y : Option LogFault) : Type 0 where
@@ -117,42 +119,16 @@ limit_reached form b piece prefix rest n s h e some full =
     lines_beyond true (text ++ rest) far ∙ ap (λ (t : List ℕ). decided true t) front_is ∙ sym (lines_within true text le) ∙ going_lines text short le in
     let limit : Some (fault.LogLimit s.number) ≡ limited (text ++ rest) h.stage None =
     ap (λ (k : ℕ). Some (fault.LogLimit k)) h.stands.number_is ∙ sym (limited_beyond (text ++ rest) h.stage far) in
-    subst (λ t. IsSettled form true t n (Some (fault.LogLimit s.number)) s) (sym is) (record {
-      form_is = h.form_is;
-      events = h.stage.events;
-      log = record {
-        stage = h.stage;
-        found = None;
-        reads = subst (λ ls. PassesLines form first_stage ls h.stage None) (sym lines) h.reads;
-        events_are = refl;
-        fault_is = limit;
-      };
-      hands = h.stands.events;
-    })
+    subst (λ t. IsSettled form true t n (Some (fault.LogLimit s.number)) s) (sym is) (settled_at form text (text ++ rest) true n s (Some (fault.LogLimit s.number)) None h (subst (λ ls. PassesLines form first_stage ls h.stage None) (sym lines) h.reads) limit)
 
 -- the text ends, and its last line has its end
 pub ends_empty : (form : LogForm) (b : List ℕ) (n : ℕ) (s : LogState) → IsGoing form b n s → length s.line ≡ 0 → IsSettled form false b n None s
 ends_empty form b n s h e =
     let le : length b ≤ LOG_BYTES = omega (arith, h.count_is, h.within) in
-    let tail : (cut_of b).tail ≡ [] = no_bytes (cut_of b).tail (omega (arith, e, ap length h.line_is)) in
+    let tail : (cut_of b).tail ≡ [] = nil_from_length (cut_of b).tail (omega (arith, e, ap length h.line_is)) in
     let lines : lines_of false b ≡ (cut_of b).ended =
     lines_within false b le ∙ ap (λ (t : List ℕ). (cut_of b).ended ++ last_line t) tail ∙ append-nil (cut_of b).ended in
-    record {
-      form_is = h.form_is;
-      events = h.stage.events;
-      log = record {
-        stage = h.stage;
-        found = None;
-        reads = subst (λ ls. PassesLines form first_stage ls h.stage None) (sym lines) h.reads;
-        events_are = refl;
-        fault_is = limited_within b h.stage None le;
-      };
-      hands = h.stands.events;
-    }
-  where
-    no_bytes : (t : List ℕ) → length t ≡ 0 → t ≡ []
-    no_bytes [] z = refl
-    no_bytes (y ∷ t) z = absurd (omega arith)
+    settled_at form b b false n s None None h (subst (λ ls. PassesLines form first_stage ls h.stage None) (sym lines) h.reads) (limited_within b h.stage None le)
 
 last_lines : (b : List ℕ) → length b ≤ LOG_BYTES → 0 < length (cut_of b).tail → lines_of false b ≡ (cut_of b).ended ++ (cut_of b).tail ∷ []
 last_lines b le some = lines_within false b le ∙ ap (λ (ls : List (List ℕ)). (cut_of b).ended ++ ls) (whole_line (cut_of b).tail some)
@@ -185,19 +161,7 @@ end_refused form b n s x h k some =
     let le : length b ≤ LOG_BYTES = omega (arith, h.count_is, h.within) in
     let short : length (cut_of b).tail ≤ LINE_BYTES = subst (λ (t : List ℕ). length t ≤ LINE_BYTES) h.line_is h.short in
     let found : HasLineFault form h.stage (cut_of b).tail x = refused form h.stage n s (cut_of b).tail x h.form_is h.stands h.line_is short k in
-    record {
-      form_is = h.form_is;
-      events = h.stage.events;
-      log = record {
-        stage = h.stage;
-        found = Some x;
-        reads = subst (λ ls. PassesLines form first_stage ls h.stage (Some x)) (sym (last_lines b le (omega (arith, some, ap length h.line_is))))
-            (reading_fault form first_stage (cut_of b).ended (cut_of b).tail h.stage x h.reads found);
-        events_are = refl;
-        fault_is = refl;
-      };
-      hands = h.stands.events;
-    }
+    settled_at form b b false n s (Some x) (Some x) h (subst (λ ls. PassesLines form first_stage ls h.stage (Some x)) (sym (last_lines b le (omega (arith, some, ap length h.line_is)))) (reading_fault form first_stage (cut_of b).ended (cut_of b).tail h.stage x h.reads found)) refl
 
 -- the text ends, and its last line isn't taken
 pub end_fails : {T : Type 0} (s u : LogState) (answer : Result T LogFault) → OnErr answer (u ≡ s) → IfErr answer (λ x. IsLogFault x → RefusesLine s x) → 0 < length s.line
@@ -262,15 +226,6 @@ holds_settled None true form b n s no_want h = h
 holds_settled (Some fault.NoMemory) finished form b n s no_want h = absurd (no_want refl)
 holds_settled (Some x) finished form b n s no_want h = h
 
-at_length : (es ds : List LineEvent) (e : LineEvent) → slice_get (es ++ e ∷ ds) (length es) ≡ Some e
-at_length [] ds e = refl
-at_length (x ∷ es) ds e = at_length es ds e
-
-below : (es : List LineEvent) (n : ℕ) (e : LineEvent) → slice_get es n ≡ Some e → n < length es
-below [] n e h = cc
-below (x ∷ es) zero e h = omega arith
-below (x ∷ es) (suc n) e h = omega (arith, below es n e h)
-
 same_at : (es ds : List LineEvent) (n : ℕ) (e d : LineEvent) → GoesOn es ds → slice_get es n ≡ Some e → slice_get ds n ≡ Some d → d ≡ e
 same_at es ds n e d g h k = let there : Some d ≡ Some e = sym k ∙ at_going_on es ds n e g h in cc
 
@@ -285,7 +240,7 @@ wants_event form g b n s v e h is = record {
   stage = h.stage;
   reaches = h.reaches;
   at = ap (λ (xs : List LineEvent). slice_get xs n) (h.hands.are ∙ ap (λ (xs : List LineEvent). h.hands.handed ++ xs) is)
-      ∙ ap (λ (k : ℕ). slice_get (h.hands.handed ++ e ∷ v) k) (sym h.hands.count) ∙ at_length h.hands.handed v e;
+      ∙ ap (λ (k : ℕ). slice_get (h.hands.handed ++ e ∷ v) k) (sym h.hands.count) ∙ get_behind h.hands.handed e v;
 }
 
 -- the event that is handed out is the next one
@@ -302,7 +257,7 @@ fed_none s is no_want form b n h =
     ap (λ (xs : List LineEvent). length xs) (sym r.log.events_are ∙ r.hands.are ∙ ap (λ (xs : List LineEvent). r.hands.handed ++ xs) is ∙ append-nil r.hands.handed) ∙ r.hands.count in
     λ e k.
     let on = reached_first form first_stage (lines_of (not s.finished) b) r.log.stage k.stage r.log.found r.log.reads k.reaches in
-    omega (arith, count, below r.log.stage.events n e (at_going_on k.stage.events r.log.stage.events n e on k.at))
+    omega (arith, count, slice_get_within r.log.stage.events n e (at_going_on k.stage.events r.log.stage.events n e on k.at))
 
 -- a fault that has been answered is answered again
 pub fed_again : (x : LogFault) (form : LogForm) (b p : List ℕ) (n : ℕ) (s : LogState) → s.fault ≡ Some x → s.finished ≡ false → Fed form b n s → HoldsAt (Some x) false form (b ++ p) n s

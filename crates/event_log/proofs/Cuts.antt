@@ -1,10 +1,11 @@
 -- How the lines of a text grow with it.
-use Rattle.std.proofs.Common.{◌≡◌, ◌≢◌, ◌<◌, ◌≤◌, ◌+◌, ◌++◌, Bool, true, false, List, ℕ, length, [], ◌∷◌, All, arith, sym, refl, ap, ◌∙◌, take, nat_eq, nat_le, subst, append-nil, append_assoc, length-append, inl, inr, ◌-◌, zero, suc}
+use Rattle.std.proofs.Common.{◌≡◌, ◌≢◌, ◌<◌, ◌≤◌, ◌+◌, ◌++◌, Bool, true, false, List, ℕ, length, [], ◌∷◌, All, arith, sym, refl, ap, ◌∙◌, take, nat_eq, nat_le, subst, append-nil, append_assoc, length-append, inl, inr, ◌-◌}
 use Rattle.std.proofs.lemmas.List.Elements.{All-tail}
 use Rattle.std.proofs.lemmas.Grind.{common_steps}
 use Rattle.std.proofs.lemmas.Bool.{cases_lt}
 use Rattle.std.proofs.lemmas.Bool.Decides.{nat_tests}
 use Rattle.msc_base.specs.declared.limits.TheConstants.Limits.{LINE_BYTES, LOG_BYTES}
+use Rattle.list_facts.proofs.Reading.{take_over}
 use Rattle.event_log.specs.Lines.{Cut, with_byte, with_bytes, nothing_cut, cut_of, last_line, long_line, decided_tail, decided, is_within, lines_of}
 
 not_ten : (b : ℕ) → b ≢ 10 → nat_eq b 10 ≡ false
@@ -133,13 +134,6 @@ lines_beyond g b lt = rw (beyond_is b lt) refl
 pub take_front : (n : ℕ) (b c : List ℕ) → n ≤ length b → take n (b ++ c) ≡ take n b
 take_front n b c le = grind (arith, common_steps)
 
-take_behind : (n : ℕ) (b c : List ℕ) → length b ≤ n → take n (b ++ c) ≡ b ++ take (n - length b) c
-take_behind n [] c le = ap (λ (k : ℕ). take k c) (omega arith)
-take_behind zero (x ∷ b) c le = absurd (omega arith)
-take_behind (suc n) (x ∷ b) c le =
-    let same : n - length b ≡ suc n - length (x ∷ b) = omega arith in
-    ap (λ (xs : List ℕ). x ∷ xs) (take_behind n b c (omega arith)) ∙ ap (λ (k : ℕ). x ∷ (b ++ take k c)) same
-
 -- the lines of a text that goes on grow to those of any text that begins with it
 pub lines_grow : (g : Bool) (b c : List ℕ) → LinesGrow (lines_of true b) (lines_of g (b ++ c))
 lines_grow g b c = elim (cases_lt LOG_BYTES (length b)) [
@@ -149,7 +143,7 @@ lines_grow g b c = elim (cases_lt LOG_BYTES (length b)) [
       ∙ sym (lines_beyond true b lt) ∙ sym (append-nil (lines_of true b)))
   | inr le ↦ elim (cases_lt LOG_BYTES (length (b ++ c))) [
     | inl far ↦ subst (λ ls. LinesGrow ls (lines_of g (b ++ c))) (sym (lines_within true b le))
-        (subst (λ ks. LinesGrow (decided true b) ks) (sym (lines_beyond g (b ++ c) far ∙ ap (λ (t : List ℕ). decided true t) (take_behind LOG_BYTES b c le)))
+        (subst (λ ks. LinesGrow (decided true b) ks) (sym (lines_beyond g (b ++ c) far ∙ ap (λ (t : List ℕ). decided true t) (take_over b c LOG_BYTES le)))
         (decided_grow true b (take (LOG_BYTES - length b) c)))
     | inr near ↦ subst (λ ls. LinesGrow ls (lines_of g (b ++ c))) (sym (lines_within true b le))
         (subst (λ ks. LinesGrow (decided true b) ks) (sym (lines_within g (b ++ c) near)) (decided_grow g b c))

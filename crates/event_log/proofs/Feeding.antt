@@ -98,23 +98,22 @@ going_first form s f v k r w l c = record {
 pub going_lines : (b : List ℕ) → length (cut_of b).tail ≤ LINE_BYTES → length b ≤ LOG_BYTES → lines_of true b ≡ (cut_of b).ended
 going_lines b short le = lines_within true b le ∙ ap (λ (ls : List (List ℕ)). (cut_of b).ended ++ ls) (short_line (cut_of b).tail short) ∙ append-nil (cut_of b).ended
 
+-- what the decided lines of a text tell at a state in which the log goes on
+pub settled_at : (form : LogForm) (b text : List ℕ) (g : Bool) (n : ℕ) (s : LogState) (x found : Option LogFault) (h : IsGoing form b n s)
+    → PassesLines form first_stage (lines_of g text) h.stage found → x ≡ limited text h.stage found → IsSettled form g text n x s
+settled_at form b text g n s x found h reads is = record {
+  form_is = h.form_is;
+  events = h.stage.events;
+  log = record { stage = h.stage; found = found; reads = reads; events_are = refl; fault_is = is };
+  hands = h.stands.events;
+}
+
 -- no fault is decided so far
 pub going_log : (form : LogForm) (b : List ℕ) (n : ℕ) (s : LogState) → IsGoing form b n s → IsSettled form true b n None s
 going_log form b n s h =
     let short : length (cut_of b).tail ≤ LINE_BYTES = subst (λ (t : List ℕ). length t ≤ LINE_BYTES) h.line_is h.short in
     let le : length b ≤ LOG_BYTES = omega (arith, h.count_is, h.within) in
-    record {
-      form_is = h.form_is;
-      events = h.stage.events;
-      log = record {
-        stage = h.stage;
-        found = None;
-        reads = subst (λ ls. PassesLines form first_stage ls h.stage None) (sym (going_lines b short le)) h.reads;
-        events_are = refl;
-        fault_is = limited_within b h.stage None le;
-      };
-      hands = h.stands.events;
-    }
+    settled_at form b b true n s None None h (subst (λ ls. PassesLines form first_stage ls h.stage None) (sym (going_lines b short le)) h.reads) (limited_within b h.stage None le)
 
 pub settled_wants : (form : LogForm) (g : Bool) (b : List ℕ) (n : ℕ) (x : Option LogFault) (s : LogState) → IsSettled form g b n x s → IsWanting form g b n s
 settled_wants form g b n x s h = record {
@@ -160,18 +159,7 @@ going_long form b f n s x h g free room =
     let is : lines_of true (b ++ f) ≡ (cut_of b).ended ++ line ∷ [] =
     lines_within true (b ++ f) le ∙ ap (λ (c : Cut). c.ended ++ decided_tail true c.tail) (cut_front b f free) ∙ ap (λ (ls : List (List ℕ)). (cut_of b).ended ++ ls) (too_long_line line long) in
     let found : HasLineFault form h.stage line x = too_long long (g.is ∙ ap (λ (k : ℕ). fault.LongLine k) h.stands.number_is) in
-    record {
-      form_is = h.form_is;
-      events = h.stage.events;
-      log = record {
-        stage = h.stage;
-        found = Some x;
-        reads = subst (λ ls. PassesLines form first_stage ls h.stage (Some x)) (sym is) (reading_fault form first_stage (cut_of b).ended line h.stage x h.reads found);
-        events_are = refl;
-        fault_is = refl;
-      };
-      hands = h.stands.events;
-    }
+    settled_at form b (b ++ f) true n s (Some x) (Some x) h (subst (λ ls. PassesLines form first_stage ls h.stage (Some x)) (sym is) (reading_fault form first_stage (cut_of b).ended line h.stage x h.reads found)) refl
 
 handed_more : (es : List LineEvent) (n : ℕ) (w : List LineEvent) (e : LineEvent) → HandsOut es n w → HandsOut (es ++ e ∷ []) n (w ++ e ∷ [])
 handed_more es n w e h = record { handed = h.handed; are = ap (λ (xs : List LineEvent). xs ++ e ∷ []) h.are ∙ append_assoc h.handed w (e ∷ []); count = h.count }
@@ -293,18 +281,7 @@ going_refused form b n s x h k lt =
     let is : lines_of true (b ++ 10 ∷ []) ≡ (cut_of b).ended ++ (cut_of b).tail ∷ [] =
     going_lines (b ++ 10 ∷ []) (omega (arith, ap (λ (c : Cut). length c.tail) cut)) le ∙ ap (λ (c : Cut). c.ended) cut in
     let found = refused form h.stage n (counted s) (cut_of b).tail x h.form_is (stands_counted h.stage n s h.stands) h.line_is short k in
-    record {
-      form_is = h.form_is;
-      events = h.stage.events;
-      log = record {
-        stage = h.stage;
-        found = Some x;
-        reads = subst (λ ls. PassesLines form first_stage ls h.stage (Some x)) (sym is) (reading_fault form first_stage (cut_of b).ended (cut_of b).tail h.stage x h.reads found);
-        events_are = refl;
-        fault_is = refl;
-      };
-      hands = h.stands.events;
-    }
+    settled_at form b (b ++ 10 ∷ []) true n s (Some x) (Some x) h (subst (λ ls. PassesLines form first_stage ls h.stage (Some x)) (sym is) (reading_fault form first_stage (cut_of b).ended (cut_of b).tail h.stage x h.reads found)) refl
 
 -- bytes of a line weren't taken
 pub append_fails : {T : Type 0} (s t : LogState) (f : List ℕ) (answer : Result T LogFault) → OnErr answer (t ≡ s) → IfErr answer (λ x. IsLogFault x → IsTooLong s f x) → All (λ y. y ≢ 10) f

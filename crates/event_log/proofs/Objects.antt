@@ -3,6 +3,7 @@ use Rattle.std.proofs.Common.{◌≡◌, ◌∙◌, ◌↔◌, ap, refl, sym, su
 use Rattle.std.specs.declared.alloc.Global.{Global}
 use Rattle.std.specs.List.{list_all}
 use Rattle.std.specs.Str.{bytes_eq}
+use Rattle.std.proofs.lemmas.Option.{same_Some, none-some}
 use Rattle.serde_json.specs.Data.{Data}
 use Rattle.serde_json.specs.Find.{as_object}
 use Rattle.serde_json.specs.Read.{read}
@@ -28,9 +29,6 @@ known_members : (p : List ℕ → Bool) (es : List (String Global × Value)) →
 known_members p [] = refl
 known_members p (e ∷ es) = ap (λ b. p (string_bytes e.0) && b) (known_members p es)
 
-some_same : {A : Type 0} (x y : A) → Some x ≡ Some y → x ≡ y
-some_same x y e = cc
-
 pub has_members : (p : List ℕ → Bool) (d : Data) (es : List (String Global × Value)) (r : Bool) → as_object d ≡ Some (members_view es) → r ≡ list_all (λ k. p (string_bytes k)) (map (λ e. e.0) es) → IsTrue r ↔ HasMembers p d
 has_members p d es r o e = (forth, back)
   where
@@ -38,10 +36,10 @@ has_members p d es r o e = (forth, back)
     forth t = record { members = members_view es; object = o; pass = known_members p es ∙ sym e ∙ t }
 
     back : HasMembers p d → IsTrue r
-    back h = e ∙ sym (known_members p es) ∙ ap (all_members p) (some_same (members_view es) h.members (sym o ∙ h.object)) ∙ h.pass
+    back h = e ∙ sym (known_members p es) ∙ ap (all_members p) (same_Some (members_view es) h.members (sym o ∙ h.object)) ∙ h.pass
 
 same_kind : (version : Version) (said : Said) (kind : Kind) (l : Label) → kind_of said.kind ≡ Some kind → IsSaid version said l → l.kind ≡ kind
-same_kind version said kind l k h = some_same l.kind kind (sym h.kind_is ∙ k)
+same_kind version said kind l k h = same_Some l.kind kind (sym h.kind_is ∙ k)
 
 text_said : (version : Version) (said : Said) (kind : Kind) (l : Label) → kind_of said.kind ≡ Some kind → IsSaid version said l → Spelled (ReadsText kind) said.text l.text
 text_said version said kind l k h = subst (λ j. Spelled (ReadsText j) said.text l.text) (same_kind version said kind l k h) h.text_is
@@ -101,11 +99,11 @@ only_said version said kind at text far k allowed name a t f = record {
 only_written : {A : Type 0} (P : Data → A → Type 0) (line : List ℕ) (d : Data) (x : A) → IsUtf8 line → read line ≡ Some d → Only (P d) x → Only (Written P line) x
 only_written P line d x utf8 r o = record {
   holds = record { utf8 = utf8; value = d; reads = r; is = o.holds };
-  alone = λ y p. o.alone y (subst (λ v. P v y) (some_same p.value d (sym p.reads ∙ r)) p.is);
+  alone = λ y p. o.alone y (subst (λ v. P v y) (same_Some p.value d (sym p.reads ∙ r)) p.is);
 }
 
 never_written : {A : Type 0} (P : Data → A → Type 0) (line : List ℕ) (d : Data) → read line ≡ Some d → Never (P d) → Never (Written P line)
-never_written P line d r n = λ y p. n y (subst (λ v. P v y) (some_same p.value d (sym p.reads ∙ r)) p.is)
+never_written P line d r n = λ y p. n y (subst (λ v. P v y) (same_Some p.value d (sym p.reads ∙ r)) p.is)
 
 says_value : (version : Version) (number : ℕ) (line : List ℕ) (d : Data) (m : Line) → (All IsBlank line → ⊥) → IsUtf8 line → read line ≡ Some d
     → SaysBy (IsVersionObject d) (IsEventObject version d) number m → LineSays Json version number line m
@@ -120,11 +118,8 @@ pub says_written : (version : Version) (number : ℕ) (line : List ℕ) (d : Dat
 says_written version number line d (Ok m) full utf8 r h = says_value version number line d m full utf8 r h
 says_written version number line d (Err e) full utf8 r h = tt
 
-some_none : (d : Data) → Some d ≡ None → ⊥
-some_none d same = cc
-
 no_value : (line : List ℕ) (d : Data) → (IsUtf8 line → read line ≡ None) → IsUtf8 line → read line ≡ Some d → ⊥
-no_value line d none utf8 r = some_none d (sym r ∙ none utf8)
+no_value line d none utf8 r = none-some d (sym (sym r ∙ none utf8))
 
 -- bytes that are no value say nothing
 pub says_unwritten : (version : Version) (number : ℕ) (line : List ℕ) → (All IsBlank line → ⊥) → (IsUtf8 line → read line ≡ None) → LineSays Json version number line NoEvent

@@ -1,7 +1,8 @@
 -- The reading of lines, one after another.
-use Rattle.std.proofs.Common.{◌≡◌, ◌<◌, ◌≤◌, ◌++◌, ◌⊎◌, inl, inr, List, ℕ, length, [], ◌∷◌, arith, sym, refl, ap, ◌∙◌, subst, append-nil, append_assoc, Option, Some, None, slice_get, zero, suc}
+use Rattle.std.proofs.Common.{◌≡◌, ◌<◌, ◌≤◌, ◌++◌, ◌⊎◌, inl, inr, List, ℕ, length, [], ◌∷◌, arith, sym, refl, ap, ◌∙◌, subst, append-nil, append_assoc, Option, Some, None, slice_get}
 use Rattle.msc_base.specs.declared.label.Label.{Label}
 use Rattle.msc_base.specs.declared.limits.TheConstants.Limits.{LINE_BYTES}
+use Rattle.list_facts.proofs.Reading.{get_left}
 use Rattle.event_log.specs.Meanings.{LineSays}
 use Rattle.event_log.specs.Logs.{Stage, After, BreaksLog, Passes, HasLineFault, too_long, of_meaning, PassesLines, Reaches}
 use Rattle.line_events.specs.declared.event.LineEvent.{LineEvent}
@@ -192,10 +193,5 @@ reached_both form s (l ∷ ls) t u (inr h) (inl g) = inr (subst (λ (v : Stage).
 reached_both form s (l ∷ ls) t u (inr h) (inr g) =
     reached_both form g.0 ls t u (subst (λ m. Reaches form m ls t) (one_pass form s l h.0 g.0 h.1 g.1) h.2) g.2
 
-at_front : (es ds : List LineEvent) (n : ℕ) (e : LineEvent) → slice_get es n ≡ Some e → slice_get (es ++ ds) n ≡ Some e
-at_front [] ds n e h = cc
-at_front (x ∷ es) ds zero e h = h
-at_front (x ∷ es) ds (suc n) e h = at_front es ds n e h
-
 pub at_going_on : (es ds : List LineEvent) (n : ℕ) (e : LineEvent) → GoesOn es ds → slice_get es n ≡ Some e → slice_get ds n ≡ Some e
-at_going_on es ds n e g h = ap (λ (xs : List LineEvent). slice_get xs n) g.are ∙ at_front es g.more n e h
+at_going_on es ds n e g h = ap (λ (xs : List LineEvent). slice_get xs n) g.are ∙ get_left es g.more n e h

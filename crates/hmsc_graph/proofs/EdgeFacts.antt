@@ -1,13 +1,13 @@
 -- Edges that lead the other way.
-use Rattle.std.proofs.Common.{ℕ, zero, suc, ◌+◌, ◌<◌, ◌≡◌, ◌↔◌, ◌⊎◌, inl, inr, List, [], ◌∷◌, ◌++◌, length, get_or, set, take, Bool, true, false, refl, sym, subst, arith, ap, ◌∙◌}
-use Rattle.std.proofs.Math.Seq.{take-append_seam}
+use Rattle.std.proofs.Common.{ℕ, zero, suc, ◌+◌, ◌<◌, ◌≡◌, ◌↔◌, ◌⊎◌, inl, inr, List, [], ◌∷◌, ◌++◌, length, get_or, set, Bool, true, false, refl, sym, subst, arith, ap, ◌∙◌}
 use Rattle.std.proofs.lemmas.Bool.{cases_eq, cases_lt, true≢false}
 use Rattle.std.proofs.lemmas.List.{get_or-set_same, get_or-set_other, length-set, length-replicate, get_or_past}
 use Rattle.hmsc_graph.specs.Graphs.{Net, Spot, Start, At, To, behind, End, arrives, WalkThrough, last, step}
 use Rattle.msc_base.specs.Lists.{IsIn}
+use Rattle.list_facts.proofs.Members.{among_left, among_snoc}
 use Rattle.hmsc_graph.specs.Reversals.{HasEdges, HasEnd, AreEdgesBack, IsStored, way_of}
 use Rattle.hmsc_graph.specs.Nets.{IsNet, size_of}
-use Rattle.hmsc_graph.proofs.MemberFacts.{in_left, in_pushed, pushed_in}
+use Rattle.hmsc_graph.proofs.MemberFacts.{pushed_in}
 
 pub edges_none : (back : List (List ℕ)) (node : ℕ) → HasEdges back node [] back
 edges_none back node = record {
@@ -40,19 +40,19 @@ edge_more was node next more is to old new e h below made = record {
 
     wider : (m n : ℕ) → IsIn m (get_or was n []) ⊎ ((m ≡ node) × IsIn n next) → IsIn m (get_or was n []) ⊎ ((m ≡ node) × IsIn n more)
     wider m n (inl h) = inl h
-    wider m n (inr p) = inr (p.0, subst (λ l. IsIn n l) (sym e) (in_left n next (to ∷ []) p.1))
+    wider m n (inr p) = inr (p.0, subst (λ l. IsIn n l) (sym e) (among_left next (to ∷ []) n p.1))
 
     same : (m n : ℕ) → n ≡ to → IsIn m (get_or (set is to new) n []) ↔ (IsIn m (get_or was n []) ⊎ ((m ≡ node) × IsIn n more))
     same m n at = (there, back)
       where
         there : IsIn m (get_or (set is to new) n []) → IsIn m (get_or was n []) ⊎ ((m ≡ node) × IsIn n more)
-        there i = elim (in_pushed m node (get_or is n []) (subst (λ l. IsIn m l) (new_is n at) i)) [
+        there i = elim (among_snoc (get_or is n []) node m (subst (λ l. IsIn m l) (new_is n at) i)) [
           | inl l ↦ wider m n ((h.edges m n).0 l)
           | inr x ↦ inr (x, subst (λ l. IsIn n l) (sym e) (pushed_in n to next at))
         ]
 
         from : IsIn m (get_or is n []) → IsIn m (get_or (set is to new) n [])
-        from i = subst (λ l. IsIn m l) (sym (new_is n at)) (in_left m (get_or is n []) (node ∷ []) i)
+        from i = subst (λ l. IsIn m l) (sym (new_is n at)) (among_left (get_or is n []) (node ∷ []) m i)
 
         back : IsIn m (get_or was n []) ⊎ ((m ≡ node) × IsIn n more) → IsIn m (get_or (set is to new) n [])
         back (inl l) = from ((h.edges m n).1 (inl l))
@@ -69,7 +69,7 @@ edge_more was node next more is to old new e h below made = record {
 
         narrower : IsIn m (get_or was n []) ⊎ ((m ≡ node) × IsIn n more) → IsIn m (get_or was n []) ⊎ ((m ≡ node) × IsIn n next)
         narrower (inl l) = inl l
-        narrower (inr p) = elim (in_pushed n to next (subst (λ l. IsIn n l) e p.1)) [ inl i ↦ inr (p.0, i) | inr at ↦ absurd (ne at) ]
+        narrower (inr p) = elim (among_snoc next to n (subst (λ l. IsIn n l) e p.1)) [ inl i ↦ inr (p.0, i) | inr at ↦ absurd (ne at) ]
 
         back : IsIn m (get_or was n []) ⊎ ((m ≡ node) × IsIn n more) → IsIn m (get_or (set is to new) n [])
         back p = subst (λ l. IsIn m l) (sym kept) ((h.edges m n).1 (narrower p))
@@ -148,13 +148,13 @@ module _ (next : List (List ℕ)) (ends : List Bool) (k : ℕ) (nodes : List ℕ
   before_with more is end m = (there, back)
     where
       there : IsIn m more → (m < k + 1) × HasEnd ends (get_or next m [])
-      there i = elim (in_pushed m k nodes (subst (λ l. IsIn m l) is i)) [
+      there i = elim (among_snoc nodes k m (subst (λ l. IsIn m l) is i)) [
         | inl l ↦ let p = (are m).0 l in (omega (arith, p.0), p.1)
         | inr e ↦ (omega arith, subst (λ (x : ℕ). HasEnd ends (get_or next x [])) (sym e) end)
       ]
 
       back : (m < k + 1) × HasEnd ends (get_or next m []) → IsIn m more
-      back p = subst (λ l. IsIn m l) (sym is) (elim (cases_eq m k) [ inl e ↦ pushed_in m k nodes e | inr ne ↦ in_left m nodes (k ∷ []) ((are m).1 (omega (arith, p.0), p.1)) ])
+      back p = subst (λ l. IsIn m l) (sym is) (elim (cases_eq m k) [ inl e ↦ pushed_in m k nodes e | inr ne ↦ among_left nodes (k ∷ []) m ((are m).1 (omega (arith, p.0), p.1)) ])
 
   pub before_without : (HasEnd ends (get_or next k []) → ⊥) → (m : ℕ) → IsIn m nodes ↔ ((m < k + 1) × HasEnd ends (get_or next m []))
   before_without none m = (
@@ -171,7 +171,7 @@ no_end ends h = h.1
 
 -- none is among one node more
 pub no_end_more : (ends : List Bool) (ns more : List ℕ) (x : ℕ) → more ≡ ns ++ x ∷ [] → (HasEnd ends ns → ⊥) → get_or ends x false ≡ false → HasEnd ends more → ⊥
-no_end_more ends ns more x is none shut h = elim (in_pushed h.0 x ns (subst (λ l. IsIn h.0 l) is h.1)) [
+no_end_more ends ns more x is none shut h = elim (among_snoc ns x h.0 (subst (λ l. IsIn h.0 l) is h.1)) [
   | inl i ↦ none (h.0, i, h.2)
   | inr e ↦ absurd (true≢false (sym h.2 ∙ ap (λ (k : ℕ). get_or ends k false) e ∙ shut))
 ]
@@ -191,13 +191,13 @@ module _ (g : Net) (k : ℕ) (nodes : List ℕ) (are : (m : ℕ) → IsIn m node
   ends_with more is end m = (there, back)
     where
       there : IsIn m more → (m < k + 1) × (arrives g End m ≡ true)
-      there i = elim (in_pushed m k nodes (subst (λ l. IsIn m l) is i)) [
+      there i = elim (among_snoc nodes k m (subst (λ l. IsIn m l) is i)) [
         | inl l ↦ let p = (are m).0 l in (omega (arith, p.0), p.1)
         | inr e ↦ (omega arith, subst (λ (x : ℕ). arrives g End x ≡ true) (sym e) end)
       ]
 
       back : (m < k + 1) × (arrives g End m ≡ true) → IsIn m more
-      back p = subst (λ l. IsIn m l) (sym is) (elim (cases_eq m k) [ inl e ↦ pushed_in m k nodes e | inr ne ↦ in_left m nodes (k ∷ []) ((are m).1 (omega (arith, p.0), p.1)) ])
+      back p = subst (λ l. IsIn m l) (sym is) (elim (cases_eq m k) [ inl e ↦ pushed_in m k nodes e | inr ne ↦ among_left nodes (k ∷ []) m ((are m).1 (omega (arith, p.0), p.1)) ])
 
   pub ends_without : arrives g End k ≡ false → (m : ℕ) → IsIn m nodes ↔ ((m < k + 1) × (arrives g End m ≡ true))
   ends_without inner m = (
@@ -207,7 +207,3 @@ module _ (g : Net) (k : ℕ) (nodes : List ℕ) (are : (m : ℕ) → IsIn m node
       | inr ne ↦ (are m).1 (omega (arith, p.0), p.1)
     ],
   )
-
--- a slice written back to its list
-pub written : (len : ℕ) (new after : List (List ℕ)) → len ≡ length new → take len (new ++ after) ≡ new
-written len new after e = ap (λ (k : ℕ). take k (new ++ after)) e ∙ take-append_seam new after

@@ -1,21 +1,21 @@
 -- Walks to `end` lines, forwards and backwards.
 use Rattle.std.proofs.Common.{ℕ, [], ◌∷◌, ◌++◌, get_or, ◌+◌, ◌<◌, ◌≡◌, ◌↔◌, ◌⊎◌, inl, inr, List, Bool, true, false, IsTrue, refl, sym, subst, arith, ◌∙◌, Option, Some, None, Result, Ok, Err, IfOk}
-use Rattle.std.proofs.lemmas.Bool.{true≢false, cases_lt}
+use Rattle.std.proofs.lemmas.Bool.{true≢false, cases_lt, eqb-true, eq-eqb}
 use Rattle.std.proofs.lemmas.List.{get_or_past}
 use Rattle.bit_sets.specs.NodeSets.{NodeSetValue}
 use Rattle.hmsc_graph.specs.Graphs.{Net, Spot, Start, At, Goal, To, End, Any, WalkThrough, last, step, arrives, behind}
 use Rattle.msc_base.specs.Lists.{IsIn}
+use Rattle.list_facts.proofs.Members.{among_snoc}
 use Rattle.hmsc_graph.specs.Nets.{IsNet, size_of}
 use Rattle.hmsc_graph.specs.Reversals.{AreBefore, AreEdgesBack, way_of}
 use Rattle.hmsc_graph.specs.Searches.{IsFirstLost, IsLost, LeadsOn, OneLeads}
 use Rattle.hmsc_graph.specs.Walks.{Leads, MayReach, IsEndless, IsFirstEndless}
 use Rattle.hmsc_graph.proofs.EdgeFacts.{behind_node}
-use Rattle.hmsc_graph.proofs.MemberFacts.{in_pushed}
 use Rattle.hmsc_graph.proofs.Reaching.{glue}
-use Rattle.hmsc_graph.proofs.SearchFacts.{behind_below, walk_below, number_same, same_number}
+use Rattle.hmsc_graph.proofs.SearchFacts.{behind_below, walk_below}
 
 pub to_end : (g : Net) (allowed : List ℕ) (s : Spot) (node : ℕ) → arrives g End node ≡ true → WalkThrough g allowed s (To node) → WalkThrough g allowed s End
-to_end g allowed s node is (last m i a) = last m i (subst (λ (n : ℕ). arrives g End n ≡ true) (sym (same_number m node a)) is)
+to_end g allowed s node is (last m i a) = last m i (subst (λ (n : ℕ). arrives g End n ≡ true) (sym (eqb-true m node a)) is)
 to_end g allowed s node is (step m i j w) = step m i j (to_end g allowed (At m) node is w)
 
 -- an `end` line is a node
@@ -39,36 +39,36 @@ module _ (g : Net) (starts : List ℕ) (back : List (List ℕ)) (net : IsNet g) 
 
   -- a walk the other way, from a node
   turned : (b m : ℕ) → WalkThrough (way_of starts back) all (At b) (To m) → WalkThrough g all (At m) (To b)
-  turned b m (last a i e) = subst (λ (x : ℕ). WalkThrough g all (At x) (To b)) (same_number a m e) (last b (there_next a b i) (number_same b b refl))
-  turned b m (step a i j w) = glue j (turned a m w) (last b (there_next a b i) (number_same b b refl))
+  turned b m (last a i e) = subst (λ (x : ℕ). WalkThrough g all (At x) (To b)) (eqb-true a m e) (last b (there_next a b i) (eq-eqb b b refl))
+  turned b m (step a i j w) = glue j (turned a m w) (last b (there_next a b i) (eq-eqb b b refl))
 
   -- a walk the other way, from the nodes before a goal
   pub turned_before : (t : Goal) → AreBefore g t starts → (m : ℕ) → WalkThrough (way_of starts back) all Start (To m) → WalkThrough g all (At m) t
-  turned_before t are m (last a i e) = let (n, j, there) = (are a).0 i in subst (λ (x : ℕ). WalkThrough g all (At x) t) (same_number a m e) (last n j there)
+  turned_before t are m (last a i e) = let (n, j, there) = (are a).0 i in subst (λ (x : ℕ). WalkThrough g all (At x) t) (eqb-true a m e) (last n j there)
   turned_before t are m (step a i j w) = let (n, k, there) = (are a).0 i in glue j (turned a m w) (last n k there)
 
   pub before_turned : (t : Goal) → AreBefore g t starts → (m : ℕ) → WalkThrough g all (At m) t → WalkThrough (way_of starts back) all Start (To m)
-  before_turned t are m (last n i a) = last m ((are m).1 (n, i, a)) (number_same m m refl)
-  before_turned t are m (step n i j w) = glue j (before_turned t are n w) (last m (back_next m n i) (number_same m m refl))
+  before_turned t are m (last n i a) = last m ((are m).1 (n, i, a)) (eq-eqb m m refl)
+  before_turned t are m (step n i j w) = glue j (before_turned t are n w) (last m (back_next m n i) (eq-eqb m m refl))
 
   -- what is reached the other way is an `end` line, or can reach one
   pub turned_end : ((m : ℕ) → IsIn m starts ↔ (arrives g End m ≡ true)) → (m : ℕ) → WalkThrough (way_of starts back) all Start (To m) → (arrives g End m ≡ true) ⊎ WalkThrough g all (At m) End
-  turned_end are m (last a i e) = inl (subst (λ (x : ℕ). arrives g End x ≡ true) (same_number a m e) ((are a).0 i))
+  turned_end are m (last a i e) = inl (subst (λ (x : ℕ). arrives g End x ≡ true) (eqb-true a m e) ((are a).0 i))
   turned_end are m (step a i j w) = inr (to_end g all (At m) a ((are a).0 i) (turned a m w))
 
   -- an `end` line is reached the other way, and what can reach one
   pub end_turned : ((m : ℕ) → IsIn m starts ↔ (arrives g End m ≡ true)) → (m : ℕ) → arrives g End m ≡ true → WalkThrough (way_of starts back) all Start (To m)
-  end_turned are m is = last m ((are m).1 is) (number_same m m refl)
+  end_turned are m is = last m ((are m).1 is) (eq-eqb m m refl)
 
   pub way_turned : ((m : ℕ) → IsIn m starts ↔ (arrives g End m ≡ true)) → ((n : ℕ) → n < size_of g → IsIn n all) → (m : ℕ) → WalkThrough g all (At m) End → WalkThrough (way_of starts back) all Start (To m)
-  way_turned are each m (last b i is) = step b ((are b).1 is) (each b (end_below g b is)) (last m (back_next m b i) (number_same m m refl))
-  way_turned are each m (step b i j w) = glue j (way_turned are each b w) (last m (back_next m b i) (number_same m m refl))
+  way_turned are each m (last b i is) = step b ((are b).1 is) (each b (end_below g b is)) (last m (back_next m b i) (eq-eqb m m refl))
+  way_turned are each m (step b i j w) = glue j (way_turned are each b w) (last m (back_next m b i) (eq-eqb m m refl))
 
 -- the nodes behind which a node comes next
 pub before_node : (g : Net) (back : List (List ℕ)) (node : ℕ) → IsNet g → AreEdgesBack g.next (size_of g) back → AreBefore g (To node) (get_or back node [])
 before_node g back node net edges m = (
-  (λ i. (node, ((edges m node).0 i).1, number_same node node refl)),
-  λ p. let here : IsIn node (behind g (At m)) = subst (λ (x : ℕ). IsIn x (behind g (At m))) (same_number p.0 node p.2) p.1 in (edges m node).1 (behind_node g m node net here, here),
+  (λ i. (node, ((edges m node).0 i).1, eq-eqb node node refl)),
+  λ p. let here : IsIn node (behind g (At m)) = subst (λ (x : ℕ). IsIn x (behind g (At m))) (eqb-true p.0 node p.2) p.1 in (edges m node).1 (behind_node g m node net here, here),
 )
 
 pub before_below : (g : Net) (t : Goal) (nodes : List ℕ) → IsNet g → AreBefore g t nodes → (m : ℕ) → IsIn m nodes → m < size_of g
@@ -174,7 +174,7 @@ walk_by_one g s t allowed leading net exact = (to, from)
 
 -- none leads among one node more
 pub no_lead_more : (g : Net) (ns more : List ℕ) (x : ℕ) (allowed leading : List ℕ) (t : Goal) → more ≡ ns ++ x ∷ [] → (OneLeads g ns allowed leading t → ⊥) → (LeadsOn g x allowed leading t → ⊥) → OneLeads g more allowed leading t → ⊥
-no_lead_more g ns more x allowed leading t is none shut h = elim (in_pushed h.0 x ns (subst (λ l. IsIn h.0 l) is h.1)) [
+no_lead_more g ns more x allowed leading t is none shut h = elim (among_snoc ns x h.0 (subst (λ l. IsIn h.0 l) is h.1)) [
   | inl i ↦ none (h.0, i, h.2)
   | inr e ↦ shut (subst (λ (m : ℕ). LeadsOn g m allowed leading t) e h.2)
 ]

@@ -21,6 +21,7 @@ use Rattle.hmsc_graph.specs.Labels.{has_name, with_line, with_label, number_in, 
 use Rattle.hmsc_graph.specs.Shapes.{HasLabel, IsUnknown, IsTwice, IsFaulty, IsFaultOf, IsGraphOf, AreNumbers, AreNext, line_number, named_by}
 use Rattle.msc_base.specs.Places.{IsBefore, IsLeast, IsNoLater, earliest, is_before}
 use Rattle.msc_base.proofs.PlaceFacts.{before_cases, before_or_at, no_later_through}
+use Rattle.list_facts.proofs.Reading.{get_behind, get_left}
 use Rattle.msc_rules.specs.Rules.{group_of, number_of}
 use Rattle.msc_rules.specs.declared.rule.Rule.TheVariants as rule
 use Rattle.msc_rules.proofs.TwoRules.{first_leads, second_leads}
@@ -86,15 +87,6 @@ module _ (lines : List ShapeLine) where
 
 -- an item behind a list
 module _ {X : Type 0} where
-  get_last : (xs : List X) (x : X) → slice_get (xs ++ x ∷ []) (length xs) ≡ Some x
-  get_last [] x = refl
-  get_last (y ∷ xs) x = get_last xs x
-
-  get_kept : (xs ys : List X) (i : ℕ) (z : X) → slice_get xs i ≡ Some z → slice_get (xs ++ ys) i ≡ Some z
-  get_kept [] ys i z h = cc
-  get_kept (x ∷ xs) ys zero z h = h
-  get_kept (x ∷ xs) ys (suc i) z h = get_kept xs ys i z h
-
   pub record IsLast (xs : List X) (x : X) (i : ℕ) (z : X) : Type 0 where
     pub at : i ≡ length xs
     pub is : x ≡ z
@@ -106,10 +98,10 @@ module _ {X : Type 0} where
   get_either (y ∷ xs) x (suc i) z h = elim (get_either xs x i z h) [ inl l ↦ inl l | inr r ↦ inr (record { at = omega (arith, r.at); is = r.is }) ]
 
 label_kept : (before after : List ShapeLine) (i : ℕ) (name : List ℕ) → HasLabel before i name → HasLabel (before ++ after) i name
-label_kept before after i name h = record { line = h.line; at = get_kept before after i h.line h.at; is = h.is }
+label_kept before after i name h = record { line = h.line; at = get_left before after i h.line h.at; is = h.is }
 
 label_last : (before : List ShapeLine) (line : ShapeLine) (name : List ℕ) → line.label ≡ name → HasLabel (before ++ line ∷ []) (length before) name
-label_last before line name e = record { line = line; at = get_last before line; is = e }
+label_last before line name e = record { line = line; at = get_behind before line []; is = e }
 
 pub record IsLastLabel (before : List ShapeLine) (line : ShapeLine) (i : ℕ) (name : List ℕ) : Type 0 where
   pub at : i ≡ length before
@@ -122,7 +114,7 @@ label_either before line i name h = elim (get_either before line i h.line h.at) 
 ]
 
 twice_kept : (before : List ShapeLine) (line : ShapeLine) (q : Place) → IsTwice before q → IsTwice (before ++ line ∷ []) q
-twice_kept before line q t = record { first = t.first; second = t.second; line = t.line; at = get_kept before (line ∷ []) t.second t.line t.at; here = t.here; before = t.before; again = label_kept before (line ∷ []) t.first t.line.label t.again }
+twice_kept before line q t = record { first = t.first; second = t.second; line = t.line; at = get_left before (line ∷ []) t.second t.line t.at; here = t.here; before = t.before; again = label_kept before (line ∷ []) t.first t.line.label t.again }
 
 -- a line whose label comes a second time comes so in the prefix, or it is the last
 pub record IsAgain (before : List ShapeLine) (line : ShapeLine) (q : Place) : Type 0 where
@@ -144,7 +136,7 @@ twice_either before line q t = elim (get_either before line t.second t.line t.at
     in_front low = elim (label_either before line t.first t.line.label t.again) [ inl h ↦ h | inr e ↦ absurd (omega (arith, low, e.at)) ]
 
 again_twice : (before : List ShapeLine) (line : ShapeLine) → (i : ℕ) → HasLabel before i line.label → IsTwice (before ++ line ∷ []) line.place
-again_twice before line i h = record { first = i; second = length before; line = line; at = get_last before line; here = refl; before = slice_get_within before i h.line h.at; again = label_kept before (line ∷ []) i line.label h }
+again_twice before line i h = record { first = i; second = length before; line = line; at = get_behind before line []; here = refl; before = slice_get_within before i h.line h.at; again = label_kept before (line ∷ []) i line.label h }
 
 -- what the labels of some lines say
 pub record AreLabels (before : List ShapeLine) (labels : Labels) : Type 0 where
@@ -233,6 +225,10 @@ are_labels lines labels e = subst (AreLabels lines) (sym e) (labels_folded [] li
       first = λ q t. let bad : None ≡ Some t.line = t.at in cc;
       same = λ h. refl;
     }
+
+-- the earliest line that names a label that isn't there
+pub first_unknown : (shape : Shape) (labels : Labels) (unknown : Option Place) → AreLabels shape.lines labels → unknown ≡ fold (with_label labels.table) None (named_by shape) → IsLeast (IsUnknown shape.lines (named_by shape)) unknown
+first_unknown shape labels unknown are is = subst (IsLeast (IsUnknown shape.lines (named_by shape))) (sym is) (earliest_unknown shape.lines labels.table are.members are.listed (named_by shape))
 
 -- the fault that is answered
 module _ (shape : Shape) (labels : Labels) (unknown : Option Place) (a : AreLabels shape.lines labels) (u : IsLeast (IsUnknown shape.lines (named_by shape)) unknown) where

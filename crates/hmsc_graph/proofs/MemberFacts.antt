@@ -1,31 +1,14 @@
 -- Members of lists of numbers.
-use Rattle.std.proofs.Common.{ℕ, zero, suc, ◌<◌, ◌≡◌, ◌⊎◌, inl, inr, List, [], ◌∷◌, ◌++◌, length, get_or, take, refl, arith}
+use Rattle.std.proofs.Common.{ℕ, zero, suc, ◌<◌, ◌≡◌, ◌⊎◌, inl, inr, List, [], ◌∷◌, ◌++◌, length, get_or, take, refl, arith, subst, sym}
 use Rattle.msc_base.specs.Lists.{IsIn}
-
-pub in_left : (m : ℕ) (xs ys : List ℕ) → IsIn m xs → IsIn m (xs ++ ys)
-in_left m [] ys h = absurd h
-in_left m (x ∷ xs) ys (inl e) = inl e
-in_left m (x ∷ xs) ys (inr r) = inr (in_left m xs ys r)
-
-pub in_right : (m : ℕ) (xs ys : List ℕ) → IsIn m ys → IsIn m (xs ++ ys)
-in_right m [] ys h = h
-in_right m (x ∷ xs) ys h = inr (in_right m xs ys h)
-
-pub in_either : (m : ℕ) (xs ys : List ℕ) → IsIn m (xs ++ ys) → IsIn m xs ⊎ IsIn m ys
-in_either m [] ys h = inr h
-in_either m (x ∷ xs) ys (inl e) = inl (inl e)
-in_either m (x ∷ xs) ys (inr r) = elim (in_either m xs ys r) [ inl l ↦ inl (inr l) | inr s ↦ inr s ]
+use Rattle.list_facts.proofs.Members.{among_right, among_snoc, among_left}
 
 pub in_one : (m x : ℕ) → IsIn m (x ∷ []) → m ≡ x
 in_one m x (inl e) = e
 in_one m x (inr r) = absurd r
 
--- one more at the end
-pub in_pushed : (m x : ℕ) (xs : List ℕ) → IsIn m (xs ++ x ∷ []) → IsIn m xs ⊎ (m ≡ x)
-in_pushed m x xs h = elim (in_either m xs (x ∷ []) h) [ inl l ↦ inl l | inr r ↦ inr (in_one m x r) ]
-
 pub pushed_in : (m x : ℕ) (xs : List ℕ) → m ≡ x → IsIn m (xs ++ x ∷ [])
-pushed_in m x xs e = in_right m xs (x ∷ []) (inl e)
+pushed_in m x xs e = among_right xs (x ∷ []) m (inl e)
 
 -- the number at an index
 pub in_at : (xs : List ℕ) (i : ℕ) → i < length xs → IsIn (get_or xs i 0) xs
@@ -52,3 +35,14 @@ pub taken_at : (xs : List ℕ) (i : ℕ) → i < length xs → IsIn (get_or xs i
 taken_at [] i h = absurd (omega arith)
 taken_at (x ∷ xs) zero h = inl refl
 taken_at (x ∷ xs) (suc i) h = inr (taken_at xs i (omega (arith, h)))
+
+-- the numbers of a list that was pushed to
+module _ (ns more : List ℕ) (x : ℕ) (is : more ≡ ns ++ x ∷ []) where
+  pub more_cases : (m : ℕ) → IsIn m more → IsIn m ns ⊎ (m ≡ x)
+  more_cases m i = among_snoc ns x m (subst (λ l. IsIn m l) is i)
+
+  pub more_keeps : (m : ℕ) → IsIn m ns → IsIn m more
+  more_keeps m i = subst (λ l. IsIn m l) (sym is) (among_left ns (x ∷ []) m i)
+
+  pub more_has : (m : ℕ) → m ≡ x → IsIn m more
+  more_has m e = subst (λ l. IsIn m l) (sym is) (pushed_in m x ns e)

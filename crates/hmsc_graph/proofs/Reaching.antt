@@ -1,16 +1,11 @@
 -- The test for a walk is exact.
 use Rattle.std.specs.List.{list_any}
-use Rattle.std.specs.Prelude.{ℕ, Bool, true, false, List, [], ◌∷◌, ◌≡◌, ◌||◌, ◌&&◌, ◌==◌, ◌⊎◌, refl}
-use Rattle.std.proofs.Common.{inl, inr, arith, ⊎_elim}
-use Rattle.std.proofs.lemmas.Bool.Decides.{nat_tests}
+use Rattle.std.specs.Prelude.{ℕ, Bool, true, false, List, [], ◌∷◌, ◌≡◌, ◌||◌, ◌⊎◌, refl}
+use Rattle.std.proofs.Common.{inl, inr, ⊎_elim}
+use Rattle.std.proofs.lemmas.Bool.{eqb-true, eq-eqb, or_cases, and_parts, and_from}
 use Rattle.hmsc_graph.specs.Graphs.{Spot, At, Goal, To, Net, behind, arrives, WalkThrough, last, step, reach, ReachIsExact}
 use Rattle.msc_base.specs.Lists.{IsIn}
-
-same_node : (m k : ℕ) → (m == k) ≡ true → m ≡ k
-same_node m k h = grind (arith, nat_tests)
-
-node_same : (m k : ℕ) → m ≡ k → (m == k) ≡ true
-node_same m k h = grind (arith, nat_tests)
+use Rattle.list_facts.proofs.Bools.{or_true}
 
 some_arrives : (g : Net) (t : Goal) (ms : List ℕ) → list_any (arrives g t) ms ≡ true → (m : ℕ) × IsIn m ms × (arrives g t m ≡ true)
 some_arrives g t [] h = cc
@@ -19,10 +14,6 @@ some_arrives g t (m ∷ ms) h = go (arrives g t m) refl (λ e. some_arrives g t 
     go : (b : Bool) → arrives g t m ≡ b → (arrives g t m ≡ false → (n : ℕ) × IsIn n ms × (arrives g t n ≡ true)) → (n : ℕ) × IsIn n (m ∷ ms) × (arrives g t n ≡ true)
     go true e f = (m, inl refl, e)
     go false e f = let r = f e in (r.0, inr r.1, r.2)
-
-or_true : (b : Bool) → (b || true) ≡ true
-or_true true = refl
-or_true false = refl
 
 arrives_some : (g : Net) (t : Goal) (ms : List ℕ) (m : ℕ) → IsIn m ms → arrives g t m ≡ true → list_any (arrives g t) ms ≡ true
 arrives_some g t (n ∷ ms) m (inl e) h = let h' : arrives g t n ≡ true = rw e at h in rw h'
@@ -36,7 +27,7 @@ more_allowed f (step m i j w) = step m i (f m j) (more_allowed f w)
 
 -- one walk and then another
 pub glue : {g : Net} {ks : List ℕ} {s : Spot} {t : Goal} {k : ℕ} → IsIn k ks → WalkThrough g ks s (To k) → WalkThrough g ks (At k) t → WalkThrough g ks s t
-glue {k = k} j (last m i a) w = step m i (rw (same_node m k a) j) (rw (same_node m k a) w)
+glue {k = k} j (last m i a) w = step m i (rw (eqb-true m k a) j) (rw (eqb-true m k a) w)
 glue j (step m i l u) w = step m i l (glue j u w)
 
 -- a walk passes k, or it does not
@@ -45,36 +36,24 @@ split k ks (last m i a) = inl (last m i a)
 split {g} k ks {s} {t} (step m i (inl e) w) = inr (via (split k ks w))
   where
     via : WalkThrough g ks (At m) t ⊎ (WalkThrough g ks (At m) (To k) × WalkThrough g ks (At k) t) → WalkThrough g ks s (To k) × WalkThrough g ks (At k) t
-    via (inl v) = (last m i (node_same m k e), rw e at v)
-    via (inr v) = (last m i (node_same m k e), v.1)
+    via (inl v) = (last m i (eq-eqb m k e), rw e at v)
+    via (inr v) = (last m i (eq-eqb m k e), v.1)
 split {g} k ks {s} {t} (step m i (inr j) w) = via (split k ks w)
   where
     via : WalkThrough g ks (At m) t ⊎ (WalkThrough g ks (At m) (To k) × WalkThrough g ks (At k) t) → WalkThrough g ks s t ⊎ (WalkThrough g ks s (To k) × WalkThrough g ks (At k) t)
     via (inl v) = inl (step m i j v)
     via (inr v) = inr (step m i j v.0, v.1)
 
-or_cases : (a b : Bool) → (a || b) ≡ true → (a ≡ true) ⊎ (b ≡ true)
-or_cases true b h = inl refl
-or_cases false b h = inr h
-
-and_cases : (a b : Bool) → (a && b) ≡ true → (a ≡ true) × (b ≡ true)
-and_cases true b h = (refl, h)
-and_cases false b h = cc
-
 or_from : (a b : Bool) → (a ≡ true) ⊎ (b ≡ true) → (a || b) ≡ true
 or_from true b h = refl
 or_from false b (inl h) = cc
 or_from false b (inr h) = h
 
-and_from : (a b : Bool) → a ≡ true → b ≡ true → (a && b) ≡ true
-and_from true b h k = k
-and_from false b h k = cc
-
 pub reach_sound : (g : Net) (ks : List ℕ) (s : Spot) (t : Goal) → reach g ks s t ≡ true → WalkThrough g ks s t
 reach_sound g [] s t h = let r = some_arrives g t (behind g s) h in last r.0 r.1 r.2
 reach_sound g (k ∷ ks) s t h =
     ⊎_elim (λ p. more_allowed (λ m j. inr j) (reach_sound g ks s t p))
-    (λ p. let q = and_cases _ _ p in glue (inl refl) (more_allowed (λ m j. inr j) (reach_sound g ks s (To k) q.0)) (more_allowed (λ m j. inr j) (reach_sound g ks (At k) t q.1)))
+    (λ p. let q = and_parts _ _ p in glue (inl refl) (more_allowed (λ m j. inr j) (reach_sound g ks s (To k) q.0)) (more_allowed (λ m j. inr j) (reach_sound g ks (At k) t q.1)))
     (or_cases _ _ h)
 
 reach_via : (g : Net) (k : ℕ) (ks : List ℕ) (s : Spot) (t : Goal)

@@ -1,14 +1,15 @@
 -- A search for the nodes that are reached.
 use Rattle.std.proofs.Common.{ℕ, zero, suc, ◌+◌, ◌<◌, ◌≡◌, ◌↔◌, ◌⊎◌, inl, inr, List, [], ◌∷◌, ◌++◌, length, Bool, true, false, ◌==◌, ◌||◌, refl, sym, subst, arith, ap, ◌∙◌, length-append}
-use Rattle.std.proofs.lemmas.Bool.{cases_eq, true≢false}
+use Rattle.std.proofs.lemmas.Bool.{cases_eq, true≢false, eqb-true, eq-eqb}
 use Rattle.std.proofs.lemmas.Bool.Decides.{nat_tests}
 use Rattle.std.specs.List.{list_any}
 use Rattle.hmsc_graph.specs.Graphs.{Net, Spot, Start, At, To, WalkThrough, last, step, behind}
 use Rattle.msc_base.specs.Lists.{IsIn}
 use Rattle.hmsc_graph.specs.Nets.{IsNet, size_of}
 use Rattle.bit_sets.specs.NodeSets.{NodeSetValue}
+use Rattle.list_facts.proofs.Members.{among_left, among_snoc}
 use Rattle.hmsc_graph.specs.Searches.{missing, HasEntered, IsSearch}
-use Rattle.hmsc_graph.proofs.MemberFacts.{in_left, in_pushed, pushed_in}
+use Rattle.hmsc_graph.proofs.MemberFacts.{pushed_in, more_cases, more_keeps, more_has}
 use Rattle.hmsc_graph.proofs.Reaching.{glue}
 
 -- the test for a member
@@ -88,22 +89,13 @@ entered_none r w = record {
 }
 
 module _ (ns more : List ℕ) (x : ℕ) (was : NodeSetValue) (waited : List ℕ) (r : NodeSetValue) (w : List ℕ) (is : more ≡ ns ++ x ∷ []) (h : HasEntered ns was waited r w) where
-  first : (m : ℕ) → IsIn m more → IsIn m ns ⊎ (m ≡ x)
-  first m i = in_pushed m x ns (subst (λ l. IsIn m l) is i)
-
-  earlier : (m : ℕ) → IsIn m ns → IsIn m more
-  earlier m i = subst (λ l. IsIn m l) (sym is) (in_left m ns (x ∷ []) i)
-
-  here : (m : ℕ) → m ≡ x → IsIn m more
-  here m e = subst (λ l. IsIn m l) (sym is) (pushed_in m x ns e)
-
   -- one more node that was reached before
   pub entered_known : IsIn x r.nodes → HasEntered more was waited r w
   entered_known known = record {
     size = h.size;
     kept = h.kept;
-    entered = λ m i. elim (first m i) [ inl l ↦ h.entered m l | inr e ↦ subst (λ (n : ℕ). IsIn n r.nodes) (sym e) known ];
-    only = λ m i. elim (h.only m i) [ inl l ↦ inl l | inr n ↦ inr (earlier m n) ];
+    entered = λ m i. elim (more_cases ns more x is m i) [ inl l ↦ h.entered m l | inr e ↦ subst (λ (n : ℕ). IsIn n r.nodes) (sym e) known ];
+    only = λ m i. elim (h.only m i) [ inl l ↦ inl l | inr n ↦ inr (more_keeps ns more x is m n) ];
     waiting = h.waiting;
     fresh = h.fresh;
     due = h.due;
@@ -118,10 +110,10 @@ module _ (ns more : List ℕ) (x : ℕ) (was : NodeSetValue) (waited : List ℕ)
     kept_on m i = (nodes m).1 (inl (h.kept m i))
 
     entered_on : (m : ℕ) → IsIn m more → IsIn m s.nodes
-    entered_on m i = elim (first m i) [ inl l ↦ (nodes m).1 (inl (h.entered m l)) | inr e ↦ (nodes m).1 (inr e) ]
+    entered_on m i = elim (more_cases ns more x is m i) [ inl l ↦ (nodes m).1 (inl (h.entered m l)) | inr e ↦ (nodes m).1 (inr e) ]
 
     only_on : (m : ℕ) → IsIn m s.nodes → IsIn m was.nodes ⊎ IsIn m more
-    only_on m i = elim ((nodes m).0 i) [ inl l ↦ elim (h.only m l) [ inl o ↦ inl o | inr n ↦ inr (earlier m n) ] | inr e ↦ inr (here m e) ]
+    only_on m i = elim ((nodes m).0 i) [ inl l ↦ elim (h.only m l) [ inl o ↦ inl o | inr n ↦ inr (more_keeps ns more x is m n) ] | inr e ↦ inr (more_has ns more x is m e) ]
 
     -- one more node that waits
     pub entered_waiting : (w' : List ℕ) → w' ≡ w ++ x ∷ [] → HasEntered more was waited s w'
@@ -132,7 +124,7 @@ module _ (ns more : List ℕ) (x : ℕ) (was : NodeSetValue) (waited : List ℕ)
       only = only_on;
       waiting = λ m i. kept_wait m (h.waiting m i);
       fresh = λ m i. elim ((nodes m).0 i) [ inl l ↦ elim (h.fresh m l) [ inl o ↦ inl o | inr n ↦ inr (kept_wait m n) ] | inr is_x ↦ inr (subst (λ l. IsIn m l) (sym e) (pushed_in m x w is_x)) ];
-      due = λ m i. elim (in_pushed m x w (subst (λ l. IsIn m l) e i)) [
+      due = λ m i. elim (among_snoc w x m (subst (λ l. IsIn m l) e i)) [
         | inl l ↦ elim (h.due m l) [ inl o ↦ inl o | inr p ↦ inr ((nodes m).1 (inl p)) ]
         | inr is_x ↦ inr ((nodes m).1 (inr is_x))
       ];
@@ -140,29 +132,23 @@ module _ (ns more : List ℕ) (x : ℕ) (was : NodeSetValue) (waited : List ℕ)
     }
       where
         kept_wait : (m : ℕ) → IsIn m w → IsIn m w'
-        kept_wait m i = subst (λ l. IsIn m l) (sym e) (in_left m w (x ∷ []) i)
+        kept_wait m i = subst (λ l. IsIn m l) (sym e) (among_left w (x ∷ []) m i)
 
 -- what comes next is a node
 pub behind_below : (g : Net) (s : Spot) (m : ℕ) → IsNet g → IsIn m (behind g s) → m < size_of g
 behind_below g Start m net i = net.starts_below m i
 behind_below g (At k) m net i = net.next_below k m i
 
-pub same_number : (m n : ℕ) → (m == n) ≡ true → m ≡ n
-same_number m n h = grind (arith, nat_tests)
-
-pub number_same : (m n : ℕ) → m ≡ n → (m == n) ≡ true
-number_same m n h = grind (arith, nat_tests)
-
 -- a walk leads to a node
 pub walk_below : (g : Net) (allowed : List ℕ) (s : Spot) (m : ℕ) → IsNet g → WalkThrough g allowed s (To m) → m < size_of g
-walk_below g allowed s m net (last n i a) = omega (arith, behind_below g s n net i, same_number n m a)
+walk_below g allowed s m net (last n i a) = omega (arith, behind_below g s n net i, eqb-true n m a)
 walk_below g allowed s m net (step n i j w) = walk_below g allowed (At n) m net w
 
 -- a search begins
 pub search_begun : (r s : NodeSetValue) (firsts waited w : List ℕ) → ((n : ℕ) → IsIn n r.nodes → ⊥) → waited ≡ [] → HasEntered firsts r waited s w
     → (g : Net) (allowed : List ℕ) (from : Spot) → behind g from ≡ firsts → IsSearch g allowed from s.nodes w
 search_begun r s firsts waited w none empty h g allowed from is = record {
-  sound = λ m i. elim (h.only m i) [ inl o ↦ absurd (none m o) | inr n ↦ last m (subst (λ l. IsIn m l) (sym is) n) (number_same m m refl) ];
+  sound = λ m i. elim (h.only m i) [ inl o ↦ absurd (none m o) | inr n ↦ last m (subst (λ l. IsIn m l) (sym is) n) (eq-eqb m m refl) ];
   begun = λ m i. h.entered m (subst (λ l. IsIn m l) is i);
   due = λ m i. elim (h.due m i) [ inl o ↦ absurd (subst (λ l. IsIn m l) empty o) | inr p ↦ p ];
   done = λ k i a. elim (h.fresh k i) [ inl o ↦ absurd (none k o) | inr n ↦ inl n ];
@@ -173,12 +159,12 @@ module _ (g : Net) (allowed : List ℕ) (from : Spot) (r : NodeSetValue) (w rest
   at_k = b.due k (subst (λ l. IsIn k l) (sym is) (pushed_in k k rest refl))
 
   still_due : (m : ℕ) → IsIn m rest → IsIn m r.nodes
-  still_due m o = b.due m (subst (λ l. IsIn m l) (sym is) (in_left m rest (k ∷ []) o))
+  still_due m o = b.due m (subst (λ l. IsIn m l) (sym is) (among_left rest (k ∷ []) m o))
 
   -- a search goes on at a node that waits and is allowed
   pub search_on : (s : NodeSetValue) (waits : List ℕ) → IsIn k allowed → HasEntered (behind g (At k)) r rest s waits → IsSearch g allowed from s.nodes waits
   search_on s waits al h = record {
-    sound = λ m i. elim (h.only m i) [ inl o ↦ b.sound m o | inr n ↦ glue al (b.sound k at_k) (last m n (number_same m m refl)) ];
+    sound = λ m i. elim (h.only m i) [ inl o ↦ b.sound m o | inr n ↦ glue al (b.sound k at_k) (last m n (eq-eqb m m refl)) ];
     begun = λ m i. h.kept m (b.begun m i);
     due = λ m i. elim (h.due m i) [ inl o ↦ h.kept m (still_due m o) | inr p ↦ p ];
     done = λ j i a. elim (h.fresh j i) [ inl o ↦ still j o a | inr n ↦ inl n ];
@@ -186,7 +172,7 @@ module _ (g : Net) (allowed : List ℕ) (from : Spot) (r : NodeSetValue) (w rest
     where
       still : (j : ℕ) → IsIn j r.nodes → IsIn j allowed → IsIn j waits ⊎ ((m : ℕ) → IsIn m (behind g (At j)) → IsIn m s.nodes)
       still j o a = elim (b.done j o a) [
-        | inl i ↦ elim (in_pushed j k rest (subst (λ l. IsIn j l) is i)) [
+        | inl i ↦ elim (among_snoc rest k j (subst (λ l. IsIn j l) is i)) [
           | inl n ↦ inl (h.waiting j n)
           | inr e ↦ inr (λ m n. h.entered m (subst (λ (x : ℕ). IsIn m (behind g (At x))) e n))
         ]
@@ -200,7 +186,7 @@ module _ (g : Net) (allowed : List ℕ) (from : Spot) (r : NodeSetValue) (w rest
     begun = b.begun;
     due = still_due;
     done = λ j i a. elim (b.done j i a) [
-      | inl n ↦ elim (in_pushed j k rest (subst (λ l. IsIn j l) is n)) [
+      | inl n ↦ elim (among_snoc rest k j (subst (λ l. IsIn j l) is n)) [
         | inl o ↦ inl o
         | inr e ↦ absurd (shut (subst (λ (x : ℕ). IsIn x allowed) e a))
       ]
@@ -214,7 +200,7 @@ module _ (g : Net) (allowed : List ℕ) (from : Spot) (r : NodeSetValue) (w rest
 
 -- where nothing waits each walk has been followed
 followed : (g : Net) (allowed : List ℕ) (from s : Spot) (reached : List ℕ) (m : ℕ) → IsSearch g allowed from reached [] → ((n : ℕ) → IsIn n (behind g s) → IsIn n reached) → WalkThrough g allowed s (To m) → IsIn m reached
-followed g allowed from s reached m b here (last n i a) = subst (λ (x : ℕ). IsIn x reached) (same_number n m a) (here n i)
+followed g allowed from s reached m b here (last n i a) = subst (λ (x : ℕ). IsIn x reached) (eqb-true n m a) (here n i)
 followed g allowed from s reached m b here (step n i j w) = followed g allowed from (At n) reached m b (λ x y. next (b.done n (here n i) j) x y) w
   where
     next : IsIn n [] ⊎ ((x : ℕ) → IsIn x (behind g (At n)) → IsIn x reached) → (x : ℕ) → IsIn x (behind g (At n)) → IsIn x reached

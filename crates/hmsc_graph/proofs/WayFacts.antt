@@ -2,7 +2,7 @@
 use Rattle.std.proofs.Common.{ℕ, zero, suc, ◌+◌, ◌<◌, ◌≤◌, ◌≡◌, ◌↔◌, ◌⊎◌, inl, inr, List, [], ◌∷◌, ◌++◌, length, map, true, false, Option, Some, None, slice_get, refl, sym, subst, arith, ap, ◌∙◌, length-append, reverse}
 use Rattle.std.proofs.lemmas.List.{append-nil, append_assoc, length-map, map-append, reverse-append}
 use Rattle.std.proofs.lemmas.Option.{slice_get_within}
-use Rattle.std.proofs.lemmas.Bool.{true≢false}
+use Rattle.std.proofs.lemmas.Bool.{true≢false, eqb-true, eq-eqb}
 use Rattle.bit_sets.specs.NodeSets.{NodeSetValue, HasNoNodes}
 use Rattle.hmsc_graph.specs.Graphs.{Net, Spot, At, Goal, To, WalkThrough, last, step, arrives, behind}
 use Rattle.hmsc_graph.specs.Nets.{IsNet, size_of}
@@ -10,9 +10,11 @@ use Rattle.hmsc_graph.specs.Searches.{missing}
 use Rattle.hmsc_graph.specs.Steps.{AreBack, AreSteps, HaveMet, IsBehind, IsEarlier, IsEndOfWay, IsSearched, LeadTo, nodes_of, steps_back}
 use Rattle.hmsc_graph.specs.Ways.{IsWay}
 use Rattle.hmsc_graph.specs.declared.ways.Step.{Step}
-use Rattle.hmsc_graph.proofs.MemberFacts.{in_left, in_right, in_pushed, pushed_in}
-use Rattle.hmsc_graph.proofs.SearchFacts.{behind_below, missing_added, number_same, same_number}
+use Rattle.hmsc_graph.proofs.MemberFacts.{pushed_in, more_cases, more_keeps, more_has}
+use Rattle.hmsc_graph.proofs.SearchFacts.{behind_below, missing_added}
 use Rattle.msc_base.specs.Lists.{IsIn}
+use Rattle.list_facts.proofs.Reading.{get_left}
+use Rattle.list_facts.proofs.Members.{among_left, among_right, among_snoc}
 
 -- a step to the node
 abbrev step_to : Option ℕ → ℕ → Step
@@ -31,24 +33,15 @@ met_none before met steps = record {
 }
 
 module _ (ns more : List ℕ) (x : ℕ) (before : Option ℕ) (was : NodeSetValue) (had : List Step) (r : NodeSetValue) (steps : List Step) (is : more ≡ ns ++ x ∷ []) (h : HaveMet ns before was had r steps) where
-  first : (m : ℕ) → IsIn m more → IsIn m ns ⊎ (m ≡ x)
-  first m i = in_pushed m x ns (subst (λ l. IsIn m l) is i)
-
-  earlier : (m : ℕ) → IsIn m ns → IsIn m more
-  earlier m i = subst (λ l. IsIn m l) (sym is) (in_left m ns (x ∷ []) i)
-
-  here : (m : ℕ) → m ≡ x → IsIn m more
-  here m e = subst (λ l. IsIn m l) (sym is) (pushed_in m x ns e)
-
   -- one more node that was met before
   pub met_known : IsIn x r.nodes → HaveMet more before was had r steps
   met_known known = record {
     fresh = h.fresh;
     size = h.size;
     steps = h.steps;
-    given = λ m i. earlier m (h.given m i);
+    given = λ m i. more_keeps ns more x is m (h.given m i);
     met = h.met;
-    all = λ m i. elim (first m i) [ inl l ↦ h.all m l | inr e ↦ subst (λ (n : ℕ). IsIn n r.nodes) (sym e) known ];
+    all = λ m i. elim (more_cases ns more x is m i) [ inl l ↦ h.all m l | inr e ↦ subst (λ (n : ℕ). IsIn n r.nodes) (sym e) known ];
     work = h.work;
   }
 
@@ -58,23 +51,17 @@ module _ (ns more : List ℕ) (x : ℕ) (before : Option ℕ) (was : NodeSetValu
     fresh = h.fresh ++ x ∷ [];
     size = size ∙ h.size;
     steps = e ∙ ap (λ l. l ++ step_to before x ∷ []) h.steps ∙ append_assoc had (map (step_to before) h.fresh) (step_to before x ∷ []) ∙ ap (λ l. had ++ l) (sym (map-append (step_to before) h.fresh (x ∷ [])));
-    given = λ m i. elim (in_pushed m x h.fresh i) [ inl l ↦ earlier m (h.given m l) | inr q ↦ here m q ];
+    given = λ m i. elim (among_snoc h.fresh x m i) [ inl l ↦ more_keeps ns more x is m (h.given m l) | inr q ↦ more_has ns more x is m q ];
     met = λ m. (
-      λ i. elim ((nodes m).0 i) [ inl l ↦ elim ((h.met m).0 l) [ inl o ↦ inl o | inr f ↦ inr (in_left m h.fresh (x ∷ []) f) ] | inr q ↦ inr (pushed_in m x h.fresh q) ],
-      λ i. elim i [ inl o ↦ (nodes m).1 (inl ((h.met m).1 (inl o))) | inr f ↦ elim (in_pushed m x h.fresh f) [ inl l ↦ (nodes m).1 (inl ((h.met m).1 (inr l))) | inr q ↦ (nodes m).1 (inr q) ] ],
+      λ i. elim ((nodes m).0 i) [ inl l ↦ elim ((h.met m).0 l) [ inl o ↦ inl o | inr f ↦ inr (among_left h.fresh (x ∷ []) m f) ] | inr q ↦ inr (pushed_in m x h.fresh q) ],
+      λ i. elim i [ inl o ↦ (nodes m).1 (inl ((h.met m).1 (inl o))) | inr f ↦ elim (among_snoc h.fresh x m f) [ inl l ↦ (nodes m).1 (inl ((h.met m).1 (inr l))) | inr q ↦ (nodes m).1 (inr q) ] ],
     );
-    all = λ m i. elim (first m i) [ inl l ↦ (nodes m).1 (inl (h.all m l)) | inr q ↦ (nodes m).1 (inr q) ];
+    all = λ m i. elim (more_cases ns more x is m i) [ inl l ↦ (nodes m).1 (inl (h.all m l)) | inr q ↦ (nodes m).1 (inr q) ];
     work = omega (arith, grown, h.work, length-append h.fresh (x ∷ []));
   }
     where
       grown : missing s.nodes s.size + 1 ≡ missing r.nodes r.size
       grown = ap (λ (k : ℕ). missing s.nodes k + 1) size ∙ missing_added r.nodes s.nodes x r.size nodes new below
-
--- the steps before are kept
-get_left : (xs ys : List Step) (i : ℕ) (x : Step) → slice_get xs i ≡ Some x → slice_get (xs ++ ys) i ≡ Some x
-get_left [] ys i x h = cc
-get_left (y ∷ xs) ys zero x h = h
-get_left (y ∷ xs) ys (suc i) x h = get_left xs ys i x h
 
 -- a step that was taken before, or one to a new node
 get_step : (before : Option ℕ) (had : List Step) (fresh : List ℕ) (i : ℕ) (x : Step) → slice_get (had ++ map (step_to before) fresh) i ≡ Some x → (slice_get had i ≡ Some x) ⊎ ((m : ℕ) × (length had ≤ i) × IsIn m fresh × (step_to before m ≡ x))
@@ -140,10 +127,10 @@ module _ (g : Net) (ks : List ℕ) (s : Spot) where
 
 module _ (nodes : List ℕ) (before : Option ℕ) (was : NodeSetValue) (had : List Step) (is : NodeSetValue) (have : List Step) (h : HaveMet nodes before was had is have) where
   still_there : (m : ℕ) → IsIn m (nodes_of had) → IsIn m (nodes_of have)
-  still_there m i = subst (λ l. IsIn m l) (sym (ap nodes_of h.steps ∙ nodes_split before had h.fresh)) (in_left m (nodes_of had) h.fresh i)
+  still_there m i = subst (λ l. IsIn m l) (sym (ap nodes_of h.steps ∙ nodes_split before had h.fresh)) (among_left (nodes_of had) h.fresh m i)
 
   fresh_there : (m : ℕ) → IsIn m h.fresh → IsIn m (nodes_of have)
-  fresh_there m i = subst (λ l. IsIn m l) (sym (ap nodes_of h.steps ∙ nodes_split before had h.fresh)) (in_right m (nodes_of had) h.fresh i)
+  fresh_there m i = subst (λ l. IsIn m l) (sym (ap nodes_of h.steps ∙ nodes_split before had h.fresh)) (among_right (nodes_of had) h.fresh m i)
 
   met_there : ((m : ℕ) → IsIn m was.nodes → IsIn m (nodes_of had)) → (m : ℕ) → IsIn m is.nodes → IsIn m (nodes_of have)
   met_there there m i = elim ((h.met m).0 i) [ inl o ↦ still_there m (there m o) | inr f ↦ fresh_there m f ]
@@ -223,12 +210,12 @@ searched_all g ks s met steps count over b m w = along s b.begun w
         b.followed p.0 p.1 (omega (arith, over, slice_get_within steps p.0 p.1 at)) at (subst (λ (x : ℕ). IsIn x ks) (sym same) may) k (subst (λ (x : ℕ). IsIn k (behind g (At x))) (sym same) j)
 
     along : (f : Spot) → ((n : ℕ) → IsIn n (behind g f) → IsIn n (nodes_of steps)) → WalkThrough g ks f (To m) → IsIn m (nodes_of steps)
-    along f next (last n i a) = subst (λ (x : ℕ). IsIn x (nodes_of steps)) (same_number n m a) (next n i)
+    along f next (last n i a) = subst (λ (x : ℕ). IsIn x (nodes_of steps)) (eqb-true n m a) (next n i)
     along f next (step n i j w) = along (At n) (there n (next n i) j) w
 
 -- a walk to a goal is one to a node that is there
 pub walk_to_node : (g : Net) (ks : List ℕ) (s : Spot) (t : Goal) → WalkThrough g ks s t → (m : ℕ) × WalkThrough g ks s (To m) × (arrives g t m ≡ true)
-walk_to_node g ks s t (last m i a) = (m, last m i (number_same m m refl), a)
+walk_to_node g ks s t (last m i a) = (m, last m i (eq-eqb m m refl), a)
 walk_to_node g ks s t (step m i j w) = let p = walk_to_node g ks (At m) t w in (p.0, step m i j p.1, p.2)
 
 pub no_walk : (g : Net) (ks : List ℕ) (s : Spot) (t : Goal) (steps : List Step) → ((m : ℕ) → WalkThrough g ks s (To m) → IsIn m (nodes_of steps)) → ((m : ℕ) → IsIn m (nodes_of steps) → arrives g t m ≡ false) → WalkThrough g ks s t → ⊥

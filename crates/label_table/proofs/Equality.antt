@@ -1,21 +1,15 @@
 -- The test of equality of labels is exact.
 use Rattle.std.specs.Prelude.{◌&&◌}
-use Rattle.std.proofs.Common.{◌≡◌, Bool, true, false, List, ℕ, refl, ap, subst}
+use Rattle.std.proofs.Common.{◌≡◌, true, List, ℕ, refl, ap, subst}
 use Rattle.std.proofs.lemmas.Slice.Eq.{bytes_eq-Decides}
 use Rattle.std.specs.Str.{bytes_eq}
+use Rattle.std.proofs.lemmas.Bool.{and_parts, and_from}
 use Rattle.msc_base.specs.declared.label.Far.{Far}
 use Rattle.msc_base.specs.declared.label.Far.TheVariants.{Nobody, Env, Instance}
 use Rattle.msc_base.specs.declared.label.Kind.{Kind}
 use Rattle.msc_base.specs.declared.label.Kind.TheVariants.{Output, Input, OutputLost, InputFound, Action, TimerStart, TimerStop, Timeout, Create}
 use Rattle.msc_base.specs.declared.label.Label.{Label}
 use Rattle.label_table.specs.Labels.{same_kind, same_far, same_label, SameLabelIsExact}
-
-and_both : (a b : Bool) → (a && b) ≡ true → (a ≡ true) × (b ≡ true)
-and_both true b h = (refl, h)
-and_both false b h = cc
-
-both_and : (a b : Bool) → a ≡ true → b ≡ true → (a && b) ≡ true
-both_and a b h k = rw (h, k)
 
 kind_is : (a b : Kind) → same_kind a b ≡ true → a ≡ b
 kind_is Output Output h = refl
@@ -59,16 +53,14 @@ parts_are at kind text far = λ i. record { at = at i; kind = kind i; text = tex
 
 label_is : (a b : Label) → same_label a b ≡ true → a ≡ b
 label_is a b h =
-    let halves = and_both (bytes_eq a.at b.at && same_kind a.kind b.kind) (bytes_eq a.text b.text && same_far a.far b.far) h in
-    let first = and_both (bytes_eq a.at b.at) (same_kind a.kind b.kind) halves.0 in
-    let second = and_both (bytes_eq a.text b.text) (same_far a.far b.far) halves.1 in
+    let halves = and_parts (bytes_eq a.at b.at && same_kind a.kind b.kind) (bytes_eq a.text b.text && same_far a.far b.far) h in
+    let first = and_parts (bytes_eq a.at b.at) (same_kind a.kind b.kind) halves.0 in
+    let second = and_parts (bytes_eq a.text b.text) (same_far a.far b.far) halves.1 in
     parts_are ((bytes_eq-Decides a.at b.at).0 first.0) (kind_is a.kind b.kind first.1) ((bytes_eq-Decides a.text b.text).0 second.0) (far_is a.far b.far second.1)
 
 pub label_self : (a : Label) → same_label a a ≡ true
 label_self a =
-    both_and (bytes_eq a.at a.at && same_kind a.kind a.kind) (bytes_eq a.text a.text && same_far a.far a.far)
-    (both_and (bytes_eq a.at a.at) (same_kind a.kind a.kind) (bytes_self a.at) (kind_self a.kind))
-    (both_and (bytes_eq a.text a.text) (same_far a.far a.far) (bytes_self a.text) (far_self a.far))
+    and_from (bytes_eq a.at a.at && same_kind a.kind a.kind) (bytes_eq a.text a.text && same_far a.far a.far) (and_from (bytes_eq a.at a.at) (same_kind a.kind a.kind) (bytes_self a.at) (kind_self a.kind)) (and_from (bytes_eq a.text a.text) (same_far a.far a.far) (bytes_self a.text) (far_self a.far))
 
 pub same_label_is_exact : SameLabelIsExact
 same_label_is_exact = record {

@@ -5,6 +5,7 @@ use Rattle.std.specs.Ordering.{ordering_then}
 use Rattle.std.specs.declared.cmp.Ordering.{Ordering}
 use Rattle.std.specs.declared.cmp.Ordering.TheVariants.{Less, Equal, Greater}
 use Rattle.std.proofs.lemmas.Map.Lookups.{exact_unsigned}
+use Rattle.std.proofs.lemmas.Option.{same_Some}
 use Rattle.msc_base.specs.declared.label.Far.{Far}
 use Rattle.msc_base.specs.declared.label.Far.TheVariants.{Nobody, Env, Instance}
 use Rattle.msc_base.specs.declared.label.Kind.{Kind}
@@ -46,11 +47,8 @@ unrank-rank Create = refl
 rank_is : (a b : Kind) → rank a ≡ rank b → a ≡ b
 rank_is a b h = sym (unrank-rank a) ∙ ap unrank h ∙ unrank-rank b
 
-pub some_is : (m n : ℕ) → Some m ≡ Some n → m ≡ n
-some_is m n h = cc
-
 number_is : (texts : TextNumbers) (text : List ℕ) (m n : ℕ) → IsNumbered texts text m → IsNumbered texts text n → m ≡ n
-number_is texts text m n h k = some_is m n (sym h ∙ k)
+number_is texts text m n h k = same_Some m n (sym h ∙ k)
 
 -- a far end has one key
 far_key_is : (texts : TextNumbers) (far : Far) (j k : FarKey) → IsFarKey texts far j → IsFarKey texts far k → j ≡ k

@@ -3,17 +3,11 @@ use Rattle.std.specs.Prelude.{not, nat_lt}
 use Rattle.std.proofs.Common.{◌≡◌, ℕ, suc, ◌+◌, Bool, true, false, cond, Option, Some, None, List, ◌∷◌, length, refl, sym, ap, ◌∙◌, arith}
 use Rattle.std.specs.List.{position, prefix_len}
 use Rattle.std.proofs.lemmas.Bool.Decides.{Decides-ltb}
-
-tests_agree : (a b : Bool) → (a ≡ true → b ≡ true) → (b ≡ true → a ≡ true) → a ≡ b
-tests_agree true b f g = sym (f refl)
-tests_agree false true f g = g refl
-tests_agree false false f g = refl
+use Rattle.list_facts.proofs.Bools.{tests_agree}
 
 less_later : (n m : ℕ) → nat_lt (1 + n) (suc m) ≡ nat_lt n m
 less_later n m =
-    tests_agree (nat_lt (1 + n) (suc m)) (nat_lt n m)
-    (λ e. let h = (Decides-ltb (1 + n) (suc m)).0 e in (Decides-ltb n m).1 (omega (arith, h)))
-    (λ e. let h = (Decides-ltb n m).0 e in (Decides-ltb (1 + n) (suc m)).1 (omega (arith, h)))
+    tests_agree (nat_lt (1 + n) (suc m)) (nat_lt n m) (λ e. let h = (Decides-ltb (1 + n) (suc m)).0 e in (Decides-ltb n m).1 (omega (arith, h))) (λ e. let h = (Decides-ltb n m).0 e in (Decides-ltb (1 + n) (suc m)).1 (omega (arith, h)))
 
 -- the place of an item, from the place in what follows the first
 abbrev pub later : Option ℕ → Option ℕ

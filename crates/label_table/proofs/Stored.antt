@@ -5,13 +5,13 @@ use Rattle.std.specs.BTreeMap.{Updates, get, is_at}
 use Rattle.std.specs.Map.{lookup}
 use Rattle.std.proofs.lemmas.Bool.{ltb-true, ltb-false}
 use Rattle.std.proofs.lemmas.List.{length_push, get_or_append_left, get_or_push}
-use Rattle.std.proofs.lemmas.Option.{slice_get-get_or, slice_get_within, get_or_from_slice_get}
+use Rattle.std.proofs.lemmas.Option.{slice_get-get_or, slice_get_within, get_or_from_slice_get, same_Some}
 use Rattle.msc_base.specs.declared.label.Label.{Label}
 use Rattle.label_table.specs.declared.key.LabelKey.{LabelKey}
 use Rattle.label_table.specs.Keys.{TextNumbers, AreTextNumbers, KeepsNumbers, IsKey}
 use Rattle.label_table.specs.Labels.{label_number}
 use Rattle.label_table.specs.Stores.{KeyNumbers, key_order, IsFound, AreStored}
-use Rattle.label_table.proofs.Keys.{key_is, label_is, key_kept, other_keys, some_is}
+use Rattle.label_table.proofs.Keys.{key_is, label_is, key_kept, other_keys}
 use Rattle.label_table.proofs.Numbering.{number_at, no_number, contains_at, place, some_none}
 
 module _ (texts : TextNumbers) (keys : KeyNumbers) (labels : List Label) where
@@ -20,7 +20,7 @@ module _ (texts : TextNumbers) (keys : KeyNumbers) (labels : List Label) where
   once stored l m n h k =
       let first = stored.found m l h in
       let second = stored.found n l k in
-      some_is m n (sym first.at ∙ ap (get key_order keys) (key_is texts l first.key second.key first.is second.is) ∙ second.at)
+      same_Some m n (sym first.at ∙ ap (get key_order keys) (key_is texts l first.key second.key first.is second.is) ∙ second.at)
 
   pub stored_number : AreStored texts keys labels → (l : Label) (n : ℕ) → slice_get labels n ≡ Some l → label_number labels l ≡ Some n
   stored_number stored l n h = number_at l labels n (λ m k. once stored l m n k h) h
@@ -38,7 +38,7 @@ module _ (texts : TextNumbers) (keys : KeyNumbers) (labels : List Label) where
 
   pub other_label : AreStored texts keys labels → (l : Label) (k : LabelKey) → IsKey texts l k → (n : ℕ) → get key_order keys k ≡ Some n → (slice_get labels n ≡ Some l → ⊥) → label_number labels l ≡ None
   other_label stored l k is n at apart =
-      no_number l labels (λ h. let (m, there) = place l labels h in apart (subst (λ i. slice_get labels i ≡ Some l) (some_is m n (sym (found_number stored l k is m there) ∙ at)) there))
+      no_number l labels (λ h. let (m, there) = place l labels h in apart (subst (λ i. slice_get labels i ≡ Some l) (same_Some m n (sym (found_number stored l k is m there) ∙ at)) there))
 
   -- the labels stay where each text keeps its number
   pub stored_texts : (new : TextNumbers) → KeepsNumbers texts new → AreTextNumbers new → AreStored texts keys labels → AreStored new keys labels

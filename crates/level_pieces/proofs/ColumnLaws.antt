@@ -24,44 +24,16 @@ use Rattle.msc_tree.specs.declared.event.Target.{Target}
 use Rattle.msc_tree.specs.declared.event.Target.TheVariants.{Nobody, Env, Instance, Gate}
 use Rattle.level_pieces.specs.ItemNumbers.{AreInside}
 use Rattle.level_pieces.specs.ItemEdges.{child_edges, created_edges, creation_edges, edge_of, item_edges, lead_edges, name_edge, own_edges}
-use Rattle.msc_base.proofs.NameFacts.{any_from_one, any_with_name, number_of_one}
+use Rattle.msc_base.proofs.NameFacts.{any_with_name, number_of_one}
+use Rattle.list_facts.proofs.Members.{at_among, one_index}
+use Rattle.list_facts.proofs.Tables.{different_with_name}
 use Rattle.level_pieces.proofs.Positions.{position_passes}
 
 -- ---- different names
 
-one_of_at : (names : List (List ℕ)) (k : ℕ) (x : List ℕ) → slice_get names k ≡ Some x → IsAmong names x
-one_of_at [] k x at = cc
-one_of_at (n ∷ names) zero x at = let e : x ≡ n = cc in inl e
-one_of_at (n ∷ names) (suc k) x at = inr (one_of_at names k x at)
-
--- each stands at one place
-one_place : (names : List (List ℕ)) (c k : ℕ) (x : List ℕ) → AreDifferent names → slice_get names c ≡ Some x → slice_get names k ≡ Some x → c ≡ k
-one_place [] c k x d a b = cc
-one_place (n ∷ names) zero zero x d a b = refl
-one_place (n ∷ names) zero (suc k) x d a b = let e : x ≡ n = cc in absurd (d.0 (subst (IsAmong names) e (one_of_at names k x b)))
-one_place (n ∷ names) (suc c) zero x d a b = let e : x ≡ n = cc in absurd (d.0 (subst (IsAmong names) e (one_of_at names c x a)))
-one_place (n ∷ names) (suc c) (suc k) x d a b = ap suc (one_place names c k x d.1 a b)
-
-none_snoc : (names : List (List ℕ)) (n m : List ℕ) → (n ≡ m → ⊥) → (IsAmong names m → ⊥) → IsAmong (names ++ n ∷ []) m → ⊥
-none_snoc [] n m ne lacks (inl e) = ne (sym e)
-none_snoc [] n m ne lacks (inr h) = h
-none_snoc (w ∷ ws) n m ne lacks (inl e) = lacks (inl e)
-none_snoc (w ∷ ws) n m ne lacks (inr h) = none_snoc ws n m ne (λ g. lacks (inr g)) h
-
-different_snoc : (names : List (List ℕ)) (n : List ℕ) → AreDifferent names → (IsAmong names n → ⊥) → AreDifferent (names ++ n ∷ [])
-different_snoc [] n d lacks = (λ h. h, tt)
-different_snoc (w ∷ ws) n d lacks = (none_snoc ws n w (λ e. lacks (inl e)) d.0, different_snoc ws n d.1 (λ h. lacks (inr h)))
-
-different_with : (names : List (List ℕ)) (n : List ℕ) → AreDifferent names → AreDifferent (with_name names n)
-different_with names n d = by (list_any (bytes_eq n) names) refl
-  where
-    by : (b : Bool) → list_any (bytes_eq n) names ≡ b → AreDifferent (cond b names (names ++ n ∷ []))
-    by true e = d
-    by false e = different_snoc names n d (λ h. true≢false (sym (any_from_one names n h) ∙ e))
-
 different_declared : (names : List (List ℕ)) (notes : List Note) → AreDifferent names → AreDifferent (with_declared names notes)
 different_declared names [] d = d
-different_declared names (Declared n ∷ notes) d = different_declared (with_name names n) notes (different_with names n d)
+different_declared names (Declared n ∷ notes) d = different_declared (with_name names n) notes (different_with_name names n d)
 different_declared names (Decomposed n p ∷ notes) d = different_declared names notes d
 different_declared names (Named n p s ∷ notes) d = different_declared names notes d
 
@@ -85,13 +57,13 @@ number_tells names k c n a d at is =
       | inr ne ↦
           ne_eqb c k ne ∙ sym (false_from_ne_true (bytes_eq a n) (λ t.
           let one : a ≡ n = (bytes_eq-Decides a n).0 t in
-          ne (one_place names c k n d (subst (λ (x : List ℕ). slice_get names c ≡ Some x) one place) at)))
+          ne (one_index names c k n d (subst (λ (x : List ℕ). slice_get names c ≡ Some x) one place) at)))
     ]
 
 none_tells : (names : List (List ℕ)) (k : ℕ) (n a : List ℕ) → slice_get names k ≡ Some n → position (bytes_eq a) names ≡ None → bytes_eq a n ≡ false
 none_tells names k n a at is = false_from_ne_true (bytes_eq a n) (λ t.
     let one : n ≡ a = sym ((bytes_eq-Decides a n).0 t) in
-    let some : is_some (position (bytes_eq a) names) ≡ true = number_of_one names a (subst (IsAmong names) one (one_of_at names k n at)) in
+    let some : is_some (position (bytes_eq a) names) ≡ true = number_of_one names a (subst (IsAmong names) one (at_among names k n at)) in
     true≢false (sym some ∙ ap is_some is))
 
 -- ---- the edges of one column

@@ -29,6 +29,15 @@ joined_column : (c d e f : Option (List ℕ)) → is_joined c d e f ≡ true →
 joined_column None d e f h is = cc
 joined_column (Some i) d e f h is = cc
 
+-- a part of an item has a name, and it and the others stand in columns
+pub parts_named : (q p : Piece) (qs rs : List Piece) → is_part_of p (q ∷ qs) ≡ true → HasMore q (rs ++ p ∷ [])
+parts_named q p qs [] is = λ none. joined_first p.column (name_of p.form) q.column (name_of q.form) is none
+parts_named q p qs (r ∷ rs) is = λ none. joined_first p.column (name_of p.form) q.column (name_of q.form) is none
+
+pub parts_in_columns : (q p : Piece) (qs rs : List Piece) → is_part_of p (q ∷ qs) ≡ true → AreInColumns rs → AreInColumns (rs ++ p ∷ [])
+parts_in_columns q p qs [] is k = (λ none. joined_column p.column (name_of p.form) q.column (name_of q.form) is none, tt)
+parts_in_columns q p qs (r ∷ rs) is k = (k.0, parts_in_columns q p qs rs is k.1)
+
 -- they are well formed, and their events are numbered below n
 abbrev IsGood : ℕ → List Piece → Type 0
 IsGood n [] = ⊥
@@ -48,15 +57,7 @@ all_later n m (x ∷ xs) le g = (good_later n m x le g.0, all_later n m xs le g.
 
 good_more : (n : ℕ) (x : List Piece) (p : Piece) → IsGood n x → n ≤ p.first → IsFormedPiece p → is_part_of p x ≡ true → IsGood (p.first + form_count p.form) (x ++ p ∷ [])
 good_more n [] p g le h is = absurd g
-good_more n (q ∷ qs) p g le h is = (g.0, named qs, pieces_behind IsFormedPiece (q ∷ qs) (p ∷ []) g.2 (h, tt), placed_on 0 n (p.first + form_count p.form) (q ∷ qs) (p ∷ []) g.3 (le, omega arith), columns qs g.4)
-  where
-    named : (rs : List Piece) → HasMore q (rs ++ p ∷ [])
-    named [] = λ none. joined_first p.column (name_of p.form) q.column (name_of q.form) is none
-    named (r ∷ rs) = λ none. joined_first p.column (name_of p.form) q.column (name_of q.form) is none
-
-    columns : (rs : List Piece) → AreInColumns rs → AreInColumns (rs ++ p ∷ [])
-    columns [] k = (λ none. joined_column p.column (name_of p.form) q.column (name_of q.form) is none, tt)
-    columns (r ∷ rs) k = (k.0, columns rs k.1)
+good_more n (q ∷ qs) p g le h is = (g.0, parts_named q p qs qs is, pieces_behind IsFormedPiece (q ∷ qs) (p ∷ []) g.2 (h, tt), placed_on 0 n (p.first + form_count p.form) (q ∷ qs) (p ∷ []) g.3 (le, omega arith), parts_in_columns q p qs qs is g.4)
 
 good_with : (n : ℕ) (xs : List (List Piece)) (p : Piece) → AllGood n xs → n ≤ p.first → IsFormedPiece p → is_item p.form ≡ true → AllGood (p.first + form_count p.form) (with_piece xs p)
 good_with n [] p g le h is = ((is, tt, (h, tt), (omega arith, omega arith), tt), tt)

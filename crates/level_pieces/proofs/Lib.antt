@@ -9,5 +9,6 @@ pub mod ViewFacts
 pub mod StepLaws
 pub mod ReadLaws
 pub mod OperandLaws
+pub mod NoOperands
 pub mod Sizes
 pub mod LeastLaws

@@ -9,6 +9,7 @@ use Rattle.std.proofs.lemmas.List.Folds.{position_or_len_push}
 use Rattle.std.proofs.lemmas.Option.{cond_some}
 use Rattle.msc_base.specs.NameTables.{with_name}
 use Rattle.msc_base.proofs.NameFacts.{number_of_one, with_new}
+use Rattle.list_facts.proofs.Reading.{get_behind}
 use Rattle.msc_meaning.specs.LevelItems.{is_joined, is_part_of, name_of, number_in, with_piece}
 use Rattle.msc_meaning.specs.Pieces.{Piece}
 use Rattle.level_pieces.specs.ItemNumbers.{IsKnown, IsNumbering, begins_named, is_named, joint_name, joint_of, named_in, with_part}
@@ -151,10 +152,6 @@ named_behind (x ∷ xs) y n h = by (begins_named x n) h (λ l. named_behind xs y
     by true l rest = absurd (omega (arith, l))
     by false l rest = omega (arith, rest (omega (arith, l)))
 
-at_last : (numbers : List ℕ) (k : ℕ) → slice_get (numbers ++ k ∷ []) (length numbers) ≡ Some k
-at_last [] k = refl
-at_last (n ∷ numbers) k = at_last numbers k
-
 at_kept : (numbers : List ℕ) (k i j : ℕ) → slice_get numbers i ≡ Some j → slice_get (numbers ++ k ∷ []) i ≡ Some j
 at_kept [] k i j h = cc
 at_kept (n ∷ numbers) k zero j h = h
@@ -197,7 +194,7 @@ module _ (xs : List (List Piece)) (p : Piece) (a : List ℕ) (names : List (List
           last true e =
               let here : named_in (xs ++ (p ∷ []) ∷ []) n ≡ length xs = named_behind xs (p ∷ []) n h ∙ ap (λ (b : Bool). length xs + cond b zero 1) (begins n ∙ e) ∙ omega arith in
               subst (λ (o : Option ℕ). IsKnown (xs ++ (p ∷ []) ∷ []) (numbers ++ length xs ∷ []) o n) (sym (found_last (bytes_eq n) names a is e))
-              (subst (λ (k : ℕ). slice_get (numbers ++ length xs ∷ []) k ≡ Some (named_in (xs ++ (p ∷ []) ∷ []) n)) long (at_last numbers (length xs) ∙ ap (λ (k : ℕ). Some k) (sym here)), omega (arith, here, length_snoc xs (p ∷ [])))
+              (subst (λ (k : ℕ). slice_get (numbers ++ length xs ∷ []) k ≡ Some (named_in (xs ++ (p ∷ []) ∷ []) n)) long (get_behind numbers (length xs) [] ∙ ap (λ (k : ℕ). Some k) (sym here)), omega (arith, here, length_snoc xs (p ∷ [])))
           last false e =
               subst (λ (o : Option ℕ). IsKnown (xs ++ (p ∷ []) ∷ []) (numbers ++ length xs ∷ []) o n) (sym (found_nowhere (bytes_eq n) names a is e))
               (named_behind xs (p ∷ []) n h ∙ ap (λ (b : Bool). length xs + cond b zero 1) (begins n ∙ e) ∙ omega (arith, length_snoc xs (p ∷ [])))
@@ -271,10 +268,6 @@ number_answer (Err x) k m h e = h
 pub on_ok : {A E P Q R S : Type 0} (result : Result A E) → OnOk result P → OnOk result Q → OnOk result R → (P → Q → R → S) → OnOk result S
 on_ok (Ok x) p q r f = f p q r
 on_ok (Err e) p q r f = p
-
-pub on_ok_one : {A E P S : Type 0} (result : Result A E) → OnOk result P → (P → S) → OnOk result S
-on_ok_one (Ok x) p f = f p
-on_ok_one (Err e) p f = p
 
 pub read_number : (numbers : List ℕ) (i x k : ℕ) → x ≡ get_or numbers i x → slice_get numbers i ≡ Some k → x ≡ k
 read_number [] i x k is at = cc

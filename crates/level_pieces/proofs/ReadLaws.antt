@@ -1,6 +1,7 @@
 -- Reading the operands of an item, one after another.
 use Rattle.std.proofs.Common.{◌≡◌, ℕ, ◌<◌, ◌≤◌, ◌+◌, zero, suc, List, [], ◌∷◌, ◌++◌, drop, take, get_or, length, map, refl, sym, subst, ap, ◌∙◌, arith}
-use Rattle.std.proofs.lemmas.List.{append-nil, length-map, map-append, take_more}
+use Rattle.std.proofs.lemmas.List.{append-nil, length-map, map-append, take_more, append_assoc}
+use Rattle.list_facts.proofs.Reading.{drop_read}
 use Rattle.msc_tree.specs.Statements.{Operand, Operands, operands}
 use Rattle.msc_tree.specs.Views.{operand_view}
 use Rattle.msc_tree.specs.declared.statement.RawOperand.{RawOperand}
@@ -13,7 +14,6 @@ use Rattle.level_pieces.specs.declared.pieces.Setting.{Setting}
 use Rattle.level_pieces.specs.declared.pieces.Setting.TheVariants as setting
 use Rattle.level_pieces.specs.declared.operands.PartRest.{PartRest}
 use Rattle.level_pieces.specs.declared.pieces.Piece as code
-use Rattle.level_pieces.proofs.Walks.{assoc, drop_read}
 
 -- ---- how many there are
 
@@ -64,7 +64,7 @@ within_at outer (q ∷ ps) (suc k) p h low is = within_at outer ps k p h.1 (omeg
 
 pub rests_snoc : (cover : List (List ℕ)) (k : ℕ) (rs : List PartRest) (r : PartRest) → rests_operand cover k (rs ++ r ∷ []) ≡ rests_operand cover k rs ++ rest_operand cover k r
 rests_snoc cover k [] r = append-nil (rest_operand cover k r)
-rests_snoc cover k (x ∷ rs) r = ap (λ (l : List Piece). rest_operand cover k x ++ l) (rests_snoc cover k rs r) ∙ assoc (rest_operand cover k x) (rests_operand cover k rs) (rest_operand cover k r)
+rests_snoc cover k (x ∷ rs) r = ap (λ (l : List Piece). rest_operand cover k x ++ l) (rests_snoc cover k rs r) ∙ sym (append_assoc (rest_operand cover k x) (rests_operand cover k rs) (rest_operand cover k r))
 
 -- one part more
 pub rests_step : (cover : List (List ℕ)) (k : ℕ) (parts : List code.Piece) (i : ℕ) (part : code.Piece) (old new : List PartRest) (r : PartRest) → i < length parts → part ≡ get_or parts i part → new ≡ old ++ r ∷ []
@@ -73,7 +73,7 @@ pub rests_step : (cover : List (List ℕ)) (k : ℕ) (parts : List code.Piece) (
 rests_step cover k parts i part old new r low is made own =
     let rest : List Piece = operands_of cover k (map piece_view (drop (i + 1) parts)) in
     ap (λ (l : List PartRest). rests_operand cover k l ++ rest) made ∙ ap (λ (l : List Piece). l ++ rest) (rests_snoc cover k old r)
-    ∙ sym (assoc (rests_operand cover k old) (rest_operand cover k r) rest)
+    ∙ append_assoc (rests_operand cover k old) (rest_operand cover k r) rest
     ∙ ap (λ (l : List Piece). rests_operand cover k old ++ (l ++ rest)) own
     ∙ ap (λ (l : List code.Piece). rests_operand cover k old ++ operands_of cover k (map piece_view l)) (sym (drop_read parts i part low is))
 
@@ -84,7 +84,7 @@ pub left_step : (cover : List (List ℕ)) (k : ℕ) (rests : List PartRest) (i :
 left_step cover k rests i rest old new r low is made own =
     let others : List Piece = rests_operand cover (suc k) (drop (i + 1) rests) in
     ap (λ (l : List PartRest). rests_operand cover k l ++ others) made ∙ ap (λ (l : List Piece). l ++ others) (rests_snoc cover k old r)
-    ∙ sym (assoc (rests_operand cover k old) (rest_operand cover k r) others)
+    ∙ append_assoc (rests_operand cover k old) (rest_operand cover k r) others
     ∙ ap (λ (l : List Piece). rests_operand cover k old ++ (l ++ others)) own
     ∙ ap (λ (l : List PartRest). rests_operand cover k old ++ rests_operand cover (suc k) l) (sym (drop_read rests i rest low is))
 
@@ -93,7 +93,7 @@ pub pieces_step : (cover : List (List ℕ)) (rests : List PartRest) (i : ℕ) (r
     → new ++ rests_operand cover 0 (drop (i + 1) rests) ≡ old ++ rests_operand cover 0 (drop i rests)
 pieces_step cover rests i rest old new low is made =
     let others : List Piece = rests_operand cover 0 (drop (i + 1) rests) in
-    ap (λ (l : List Piece). l ++ others) made ∙ sym (assoc old (rest_operand cover 0 rest) others)
+    ap (λ (l : List Piece). l ++ others) made ∙ append_assoc old (rest_operand cover 0 rest) others
     ∙ ap (λ (l : List PartRest). old ++ rests_operand cover 0 l) (sym (drop_read rests i rest low is))
 
 -- ---- all operands

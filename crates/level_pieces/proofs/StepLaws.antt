@@ -1,13 +1,13 @@
 -- Steps of walks: over the instances of a level, and over its pieces.
 use Rattle.std.proofs.Common.{◌≡◌, ◌<◌, ◌+◌, ℕ, Bool, true, false, cond, List, [], ◌∷◌, ◌++◌, drop, get_or, length, map, take, refl, sym, ap, ap₂, ◌∙◌}
-use Rattle.std.proofs.lemmas.List.{map-append, take_more}
+use Rattle.std.proofs.lemmas.List.{map-append, take_more, append_assoc}
+use Rattle.list_facts.proofs.Reading.{drop_read}
 use Rattle.msc_meaning.specs.LevelItems.{Entry, entries_behind, is_in, with_pieces, within}
 use Rattle.msc_meaning.specs.Pieces.{Piece}
 use Rattle.level_pieces.specs.ItemNumbers.{next_entries, with_next}
 use Rattle.level_pieces.specs.PieceViews.{piece_view}
 use Rattle.level_pieces.specs.declared.pieces.Piece as code
 use Rattle.level_pieces.proofs.ItemLaws.{entries_more, items_snoc}
-use Rattle.level_pieces.proofs.Walks.{assoc, drop_read}
 
 if_more : {A : Type 0} (b : Bool) (x : A) (rest : List A) → cond b (x ∷ []) [] ++ rest ≡ cond b (x ∷ rest) rest
 if_more true x rest = refl
@@ -18,7 +18,7 @@ pub within_step : (names level : List (List ℕ)) (k : ℕ) (name : List ℕ) (b
     → longer ++ within (drop (k + 1) level) names ≡ found ++ within (drop k level) names
 within_step names level k name b found longer low is test made =
     let rest : List (List ℕ) = within (drop (k + 1) level) names in
-    ap (λ (l : List (List ℕ)). l ++ rest) made ∙ sym (assoc found (cond b (name ∷ []) []) rest)
+    ap (λ (l : List (List ℕ)). l ++ rest) made ∙ append_assoc found (cond b (name ∷ []) []) rest
     ∙ ap (λ (l : List (List ℕ)). found ++ l) (if_more b name rest ∙ ap (λ (c : Bool). cond c (name ∷ rest) rest) test)
     ∙ ap (λ (l : List (List ℕ)). found ++ within l names) (sym (drop_read level k name low is))
 
@@ -41,6 +41,6 @@ parts_step pieces k item old new all low is made inv =
     let rest : List Piece = map piece_view (drop (k + 1) pieces) in
     let split : map piece_view (drop k pieces) ≡ p ∷ rest = ap (map piece_view) (drop_read pieces k item low is) in
     ap₂ (λ (l : List Entry) (ys : List (List Piece)). l ++ entries_behind ys rest) made (items_next pieces k item low is)
-    ∙ sym (assoc old (next_entries xs p) (entries_behind (with_next xs p) rest))
+    ∙ append_assoc old (next_entries xs p) (entries_behind (with_next xs p) rest)
     ∙ ap (λ (l : List Entry). old ++ l) (sym (entries_more xs p rest))
     ∙ ap (λ (qs : List Piece). old ++ entries_behind xs qs) (sym split) ∙ inv

@@ -3,6 +3,7 @@ use Rattle.std.specs.Prelude.{ℕ, ◌==◌, Bool, true, false, List, [], ◌∷
 use Rattle.std.proofs.Common.{◌≡◌, ◌⊎◌, refl, sym, ◌∙◌, subst, inl, inr}
 use Rattle.std.proofs.lemmas.Bool.Decides.{Decides-eqb}
 use Rattle.msc_base.specs.Orders.{Among, first, later, Once, Kept, IsLinear}
+use Rattle.sound_terms.proofs.Orders.{inl_of, inr_of, left_same, right_same, sides}
 use Rattle.sound_terms.specs.OrderLaws.{HasLinearOn}
 use Rattle.sound_terms.proofs.Mapped.{among_map, map_among}
 use Rattle.sound_terms.proofs.Ordering.{among_left, among_right, among_either, once_both, kept_both}
@@ -30,21 +31,6 @@ module _ {A D : Type 0} (f : A → D) (apart : (a b : A) → f a ≡ f b → a �
   }
 
 -- positions of the first kind, and behind them those of the second
-abbrev inl_of : {A B : Type 0} → A → A ⊎ B
-inl_of a = inl a
-
-abbrev inr_of : {A B : Type 0} → B → A ⊎ B
-inr_of b = inr b
-
-left_same : {A D : Type 0} (a c : A) → inl_of {B = D} a ≡ inl_of c → a ≡ c
-left_same a c e = cc
-
-right_same : {A D : Type 0} (b d : D) → inr_of {A = A} b ≡ inr_of d → b ≡ d
-right_same b d e = cc
-
-sides : {A D : Type 0} (a : A) (b : D) → inl_of {B = D} a ≡ inr_of {A = A} b → ⊥
-sides a b e = cc
-
 module _ {A D : Type 0} (X : A ⊎ D → A ⊎ D → Type 0) (In : A ⊎ D → Type 0) where
   abbrev Lefts : List A → List (A ⊎ D)
   Lefts l = map (inl_of {B = D}) l

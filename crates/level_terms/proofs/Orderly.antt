@@ -4,6 +4,7 @@ use Rattle.std.specs.Option.{unwrap_or}
 use Rattle.std.proofs.Common.{◌≡◌, refl, sym, subst, ap, inl, inr, arith}
 use Rattle.std.proofs.lemmas.Bool.Decides.{Decides-eqb}
 use Rattle.msc_base.specs.Patterns.{Mode, empty, one, join, bind}
+use Rattle.term_laws.proofs.Opening.{each_app}
 use Rattle.chart_term.specs.Facts.{holds_walk, any_walk, row_walk}
 use Rattle.chart_term.specs.NormalForms.{join_all, open_choice, open_choices, without, distinct, choice_form, choice_of, tie_of}
 use Rattle.chart_term.specs.Properties.{Each}
@@ -12,7 +13,7 @@ use Rattle.chart_term.specs.Terms.{Tree, Nil, Event, Join, Choice, Tied, Loop, W
 use Rattle.term_laws.specs.FullSoundness.{times}
 use Rattle.level_terms.specs.LevelTerms.{one_of}
 use Rattle.level_terms.specs.BareTerms.{IsBare, AreBare, IsUnbegun}
-use Rattle.level_terms.proofs.KeptParts.{IsByParts, both_have, choice_has, join_has, tie_has}
+use Rattle.level_terms.proofs.KeptParts.{IsByParts, choice_has, join_has, tie_has}
 
 abbrev pub counted : Bool → ℕ
 counted b = cond b 1 0
@@ -51,7 +52,7 @@ bare_by_parts = record {
 }
 
 pub bare_both : (xs ys : List Tree) → EachBare xs → EachBare ys → EachBare (xs ++ ys)
-bare_both xs ys h k = both_have IsBare bare_by_parts xs ys h k
+bare_both xs ys h k = each_app IsBare xs ys h k
 
 pub bare_join : (m : Mode) (xs : List Tree) → EachBare xs → IsBare (join_all m xs)
 bare_join m xs h = join_has IsBare bare_by_parts m xs h

@@ -6,6 +6,7 @@ use Rattle.std.proofs.lemmas.Option.{slice_get_within}
 use Rattle.msc_base.specs.declared.label.Pair.{Pair}
 use Rattle.msc_base.specs.Orders.{Among, first}
 use Rattle.msc_base.specs.Patterns.{Mode, seq}
+use Rattle.sound_terms.proofs.RangeFacts.{lacks_outside}
 use Rattle.chart_term.specs.NormalForms.{join_all, choice_of, is_nil, tie_of}
 use Rattle.chart_term.specs.Properties.{Each}
 use Rattle.chart_term.specs.Tables.{terms_over}
@@ -28,7 +29,7 @@ use Rattle.level_terms.specs.LevelTerms.{number_at, number_with, one_of, placed,
 use Rattle.level_terms.specs.ShownNumbers.{shows, tie_pairs}
 use Rattle.level_terms.proofs.BuiltFacts.{and_both, node_named}
 use Rattle.level_terms.proofs.Growing.{label_there, name_there}
-use Rattle.level_terms.proofs.KeptParts.{choice_has, join_has, lacks_by_parts, lacks_outside, outside_by_parts, tie_has}
+use Rattle.level_terms.proofs.KeptParts.{choice_has, join_has, lacks_by_parts, outside_by_parts, tie_has}
 use Rattle.level_terms.proofs.LevelRules.{no_trail}
 use Rattle.level_terms.proofs.MadeRules.{last_same}
 use Rattle.level_terms.proofs.NumberedEvents.{Numbered, DoDiffer, IsShownOf, as_into, numbered_as, one_shown, shown_left, shown_right}

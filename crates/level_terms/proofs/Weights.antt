@@ -6,9 +6,8 @@ use Rattle.std.proofs.lemmas.Bool.Decides.{Decides-eqb}
 use Rattle.msc_base.specs.declared.label.Pair.{Pair}
 use Rattle.msc_base.specs.Orders.{Among, first, later, Once}
 use Rattle.msc_base.specs.Patterns.{Mode, seq, par}
-use Rattle.chart_term.specs.Equality.{same_tree}
-use Rattle.chart_term.specs.NormalForms.{open_part, flat, join_of, join_all, open_choice, open_choices, unless_same, without, distinct, choice_form, tie_of, is_nil}
-use Rattle.chart_term.specs.Terms.{Tree, Nil, Event, Join, Choice, Tied, Loop, Walk, Trees, none, more, items, trees, weight, weights}
+use Rattle.chart_term.specs.NormalForms.{open_part, flat, join_of, join_all, open_choice, open_choices, distinct, choice_form, tie_of, is_nil}
+use Rattle.chart_term.specs.Terms.{Tree, Nil, Event, Join, Choice, Tied, Loop, Walk, more, items, trees, weight}
 use Rattle.sound_terms.specs.TableLaws.{ConstructorsWeigh, weight_all}
 use Rattle.msc_tree.specs.declared.reference.InlineForm.{InlineForm}
 use Rattle.msc_tree.specs.declared.reference.InlineForm.TheVariants as inline
@@ -16,6 +15,7 @@ use Rattle.msc_meaning.specs.Bodies.{EventNode, Body, level, WovenItems, no_item
 use Rattle.msc_base.specs.declared.label.Label.{Label}
 use Rattle.chart_forms.specs.BuiltBodies.{has_operands, is_built, events_count, operands_count}
 use Rattle.chart_forms.specs.BodyParts.{are_built, is_built_item, have_built}
+use Rattle.sound_terms.proofs.Weighing.{weight_app, weights_items, weights_trees, opened_weight, opened_weights, distinct_weight}
 use Rattle.msc_meaning.specs.Ties.{level_pairs}
 use Rattle.general_ordering.specs.OrderCounts.{order_count, orders_count}
 use Rattle.chart_forms.specs.BodySizes.{body_size}
@@ -31,18 +31,6 @@ use Rattle.level_terms.proofs.BodyMade.{not_empty}
 use Rattle.level_terms.proofs.BuiltFacts.{and_both, items_both}
 
 -- ---- lists of terms
-
-weight_both : (xs ys : List Tree) → weight_all (xs ++ ys) ≡ weight_all xs + weight_all ys
-weight_both [] ys = omega arith
-weight_both (x ∷ xs) ys = omega (arith, weight_both xs ys)
-
-weights_items : (xs : Trees) → weight_all (items xs) ≡ weights xs
-weights_items none = refl
-weights_items (more x xs) = ap (λ n. weight x + n) (weights_items xs)
-
-weights_trees : (xs : List Tree) → weights (trees xs) ≡ weight_all xs
-weights_trees [] = refl
-weights_trees (x ∷ xs) = ap (λ n. weight x + n) (weights_trees xs)
 
 items_trees : (xs : List Tree) → weight_all (items (trees xs)) ≡ weight_all xs
 items_trees xs = weights_items (trees xs) ∙ weights_trees xs
@@ -82,7 +70,7 @@ form_open seq (x ∷ y ∷ xs) = omega (arith, items_trees xs)
 form_open par (x ∷ y ∷ xs) = omega (arith, items_trees xs)
 
 flat_weight : (m : Mode) (x y : Tree) → weight_all (flat m (x ∷ y ∷ [])) ≤ weight x + weight_all (open_part m y)
-flat_weight m x y = omega (arith, weight_both (open_part m x) (open_part m y ++ []), weight_both (open_part m y) [], open_weight m x)
+flat_weight m x y = omega (arith, weight_app (open_part m x) (open_part m y ++ []), weight_app (open_part m y) [], open_weight m x)
 
 both_weight : (m : Mode) (x y : Tree) → weight (join_all m (x ∷ y ∷ [])) ≤ 1 + (weight x + weight_all (open_part m y))
 both_weight m x y = omega (arith, form_weight m (flat m (x ∷ y ∷ [])), flat_weight m x y)
@@ -91,31 +79,6 @@ both_open : (m : Mode) (x y : Tree) → weight_all (open_part m (join_all m (x �
 both_open m x y = omega (arith, form_open m (flat m (x ∷ y ∷ [])), flat_weight m x y)
 
 -- ---- choices
-
-choice_opened : (x : Tree) → weight_all (open_choice x) ≤ weight x
-choice_opened Nil = omega arith
-choice_opened (Event e) = omega arith
-choice_opened (Join m xs) = omega arith
-choice_opened (Choice xs) = omega (arith, weights_items xs)
-choice_opened (Tied x q) = omega arith
-choice_opened (Loop x lo hi r) = omega arith
-choice_opened (Walk n s t c) = omega arith
-
-choices_opened : (xs : List Tree) → weight_all (open_choices xs) ≤ weight_all xs
-choices_opened [] = omega arith
-choices_opened (x ∷ xs) = omega (arith, weight_both (open_choice x) (open_choices xs), choice_opened x, choices_opened xs)
-
-unless_weight : (b : Bool) (y : Tree) (ys : List Tree) → weight_all (unless_same b y ys) ≤ weight y + weight_all ys
-unless_weight true y ys = omega arith
-unless_weight false y ys = omega arith
-
-without_weight : (x : Tree) (ys : List Tree) → weight_all (without x ys) ≤ weight_all ys
-without_weight x [] = omega arith
-without_weight x (y ∷ ys) = omega (arith, unless_weight (same_tree x y) y (without x ys), without_weight x ys)
-
-distinct_weight : (xs : List Tree) → weight_all (distinct xs) ≤ weight_all xs
-distinct_weight [] = omega arith
-distinct_weight (x ∷ xs) = omega (arith, without_weight x (distinct xs), distinct_weight xs)
 
 chosen_weight : (zs : List Tree) → weight (unwrap_or (choice_form zs) Nil) ≤ 1 + weight_all zs
 chosen_weight [] = omega arith
@@ -127,19 +90,19 @@ one_weight xs = omega (arith, chosen_weight (distinct (open_choices xs)), distin
 
 chosen_opened : (zs : List Tree) (k : ℕ) → 1 ≤ k → weight_all zs ≤ k → weight_all (open_choice (unwrap_or (choice_form zs) Nil)) ≤ k
 chosen_opened [] k l h = omega arith
-chosen_opened (x ∷ []) k l h = omega (arith, choice_opened x)
+chosen_opened (x ∷ []) k l h = omega (arith, opened_weight x)
 chosen_opened (x ∷ y ∷ xs) k l h = omega (arith, items_trees xs)
 
 one_opened : (xs : List Tree) → (xs ≡ [] → ⊥) → weight_all (open_choice (one_of xs)) ≤ weight_all xs
 one_opened [] n = absurd (n refl)
-one_opened (x ∷ xs) n = chosen_opened (distinct (open_choices (x ∷ xs))) (weight_all (x ∷ xs)) (omega (arith, some_weight x)) (omega (arith, distinct_weight (open_choices (x ∷ xs)), choices_opened (x ∷ xs)))
+one_opened (x ∷ xs) n = chosen_opened (distinct (open_choices (x ∷ xs))) (weight_all (x ∷ xs)) (omega (arith, some_weight x)) (omega (arith, distinct_weight (open_choices (x ∷ xs)), opened_weights (x ∷ xs)))
 
 -- one term alone is itself
 alone_weight : (x : Tree) → weight (one_of (x ∷ [])) ≤ weight x
 alone_weight Nil = omega arith
 alone_weight (Event e) = omega arith
 alone_weight (Join m xs) = omega arith
-alone_weight (Choice xs) = omega (arith, one_weight (Choice xs ∷ []), weight_both (items xs) [], weights_items xs)
+alone_weight (Choice xs) = omega (arith, one_weight (Choice xs ∷ []), weight_app (items xs) [], weights_items xs)
 alone_weight (Tied x q) = omega arith
 alone_weight (Loop x lo hi r) = omega arith
 alone_weight (Walk n s t c) = omega arith
@@ -152,7 +115,7 @@ turns_weight lower upper x = by (leave_turn lower upper && not (is_nil (Some x))
     by false = omega arith
 
 two_weight : (x y : Tree) → weight (one_of (x ∷ y ∷ [])) ≤ 1 + (weight_all (open_choice x) + weight y)
-two_weight x y = omega (arith, one_weight (x ∷ y ∷ []), weight_both (open_choice x) (open_choice y ++ []), weight_both (open_choice y) [], choice_opened y)
+two_weight x y = omega (arith, one_weight (x ∷ y ∷ []), weight_app (open_choice x) (open_choice y ++ []), weight_app (open_choice y) [], opened_weight y)
 
 -- ---- pairs
 
@@ -321,11 +284,11 @@ module _ (weigh : ConstructorsWeigh) (names : List (List ℕ)) (labels : List La
     item_weighs : (n : ℕ) (x : WovenItem) → is_built_item names x ≡ true → HaveFewPairs (item_levels x) → weight (item_term names labels n x) + room (item_events x) ≤ item_size x
     item_weighs n (Single e) b f = omega (arith, room_one e)
     item_weighs n (Coregion es) b f = let (a, c) = coregion_weighs n es in omega (arith, a, room_is es)
-    item_weighs n (Inline inline.Alt part bs) b f = omega (arith, room_none, one_weight (operand_terms names labels n bs), choices_opened (operand_terms names labels n bs), operands_weigh inline.Alt n bs (and_both (has_operands inline.Alt bs) (have_built names bs) b).1 f)
+    item_weighs n (Inline inline.Alt part bs) b f = omega (arith, room_none, one_weight (operand_terms names labels n bs), opened_weights (operand_terms names labels n bs), operands_weigh inline.Alt n bs (and_both (has_operands inline.Alt bs) (have_built names bs) b).1 f)
     item_weighs n (Inline inline.Opt part no_bodies) b f = absurd cc
     item_weighs n (Inline inline.Opt part (body_and x bs)) b f =
         omega (arith, room_none, two_weight (one_of (operand_terms names labels n (body_and x bs))) Nil, one_opened (operand_terms names labels n (body_and x bs)) (some_operand n x bs), operands_weigh inline.Opt n (body_and x bs) (and_both (has_operands inline.Opt (body_and x bs)) (have_built names (body_and x bs)) b).1 f)
-    item_weighs n (Inline inline.Exc part bs) b f = omega (arith, room_none, one_weight (operand_terms names labels n bs), choices_opened (operand_terms names labels n bs), operands_weigh inline.Exc n bs (and_both (has_operands inline.Exc bs) (have_built names bs) b).1 f)
+    item_weighs n (Inline inline.Exc part bs) b f = omega (arith, room_none, one_weight (operand_terms names labels n bs), opened_weights (operand_terms names labels n bs), operands_weigh inline.Exc n bs (and_both (has_operands inline.Exc bs) (have_built names bs) b).1 f)
     item_weighs n (Inline inline.Par part bs) b f = let (a, c) = parallel_weighs inline.Par n bs b f in omega (arith, a, room_none)
     item_weighs n (Inline inline.Loop part no_bodies) b f = absurd cc
     item_weighs n (Inline inline.Loop part (body_and x no_bodies)) b f =
@@ -351,7 +314,7 @@ module _ (weigh : ConstructorsWeigh) (names : List (List ℕ)) (labels : List La
     operands_weigh form n no_bodies b f = omega arith
     operands_weigh form n (body_and x bs) b f =
         let (i, j) = and_both (is_built names x) (have_built names bs) b in
-        omega (arith, weight_both (operand_terms names labels n bs) (level_term names labels (n + operands_count bs) x ∷ []), level_weighs (Some form) (n + operands_count bs) x i (each_left Few (levels_from (Some form) x) (operands_levels form bs) f), operands_weigh form n bs j (each_right Few (levels_from (Some form) x) (operands_levels form bs) f))
+        omega (arith, weight_app (operand_terms names labels n bs) (level_term names labels (n + operands_count bs) x ∷ []), level_weighs (Some form) (n + operands_count bs) x i (each_left Few (levels_from (Some form) x) (operands_levels form bs) f), operands_weigh form n bs j (each_right Few (levels_from (Some form) x) (operands_levels form bs) f))
 
     parallel_weighs : (form : InlineForm) (n : ℕ) (bs : Bodies) → have_built names bs ≡ true → HaveFewPairs (operands_levels form bs) → (weight (parallel_term names labels n bs) ≤ 1 + operands_size bs) × (weight_all (open_part par (parallel_term names labels n bs)) ≤ operands_size bs)
     parallel_weighs form n no_bodies b f = (omega arith, omega arith)

@@ -1,6 +1,6 @@
 -- Events that no pair has are those without partner.
 use Rattle.std.proofs.Common.{◌≡◌, ◌⊎◌, ◌↔◌, ◌&&◌, inl, inr, ℕ, ◌<◌, ◌+◌, zero, suc, Bool, true, false, not, List, [], ◌∷◌, Option, Some, None, All, slice_get, slice_set, get_or, replicate, length, drop, map, refl, sym, subst, ap, ◌∙◌, arith}
-use Rattle.std.proofs.lemmas.Bool.{and_parts, true≢false}
+use Rattle.std.proofs.lemmas.Bool.{and_parts, true≢false, not-true, false_from_ne_true}
 use Rattle.std.proofs.lemmas.List.{length-set}
 use Rattle.std.proofs.lemmas.Option.{slice_get_within, slice_get-get_or}
 use Rattle.msc_base.specs.declared.place.Place.{Place}
@@ -8,6 +8,7 @@ use Rattle.column_order.specs.declared.edge.Edge.{Edge}
 use Rattle.column_order.specs.Counts.{EdgeLeads}
 use Rattle.msc_base.specs.Places.{IsLeast, earliest_if}
 use Rattle.msc_base.proofs.Narrowing.{Narrows, narrows_end, narrows_step}
+use Rattle.list_facts.proofs.Reading.{drop_read, drop_end}
 use Rattle.msc_tree.specs.declared.event.Direction.{Direction}
 use Rattle.level_weaving.specs.Alone.{AreTold, HasEnd, IsAlone, is_message}
 use Rattle.msc_meaning.specs.Bodies.{EventNode}
@@ -16,7 +17,6 @@ use Rattle.level_weaving.specs.Marks.{LeadsPairs}
 use Rattle.level_weaving.specs.Messages.{IsUnmatched, way}
 use Rattle.level_weaving.specs.declared.events.PlacedEvent as code
 use Rattle.level_pieces.proofs.LeastLaws.{least_same}
-use Rattle.level_pieces.proofs.Walks.{drop_end, drop_read}
 
 -- ---- telling which numbers pairs have
 
@@ -105,16 +105,12 @@ record IsAt (events : List EventNode) (told : List Bool) (place : Place) : Type 
   pub untold : get_or told number false ≡ false
   pub there : event.event.place ≡ place
 
-untold_is : (t : Bool) → not t ≡ true → t ≡ false
-untold_is true h = sym h
-untold_is false h = refl
-
 found : (events : List EventNode) (told : List Bool) (q : Place) → IsAlone events told q → IsAt events told q
 found [] told q h = absurd h
 found (e ∷ events) [] q h = absurd h
 found (e ∷ events) (t ∷ told) q (inl h) =
     let both = and_parts (is_message (way e)) (not t) h.1 in
-    record { number = zero; event = e; event_at = refl; message = both.0; untold = untold_is t both.1; there = h.0 }
+    record { number = zero; event = e; event_at = refl; message = both.0; untold = not-true t both.1; there = h.0 }
 found (e ∷ events) (t ∷ told) q (inr h) =
     let r = found events told q h in
     record { number = suc r.number; event = r.event; event_at = r.event_at; message = r.message; untold = r.untold; there = r.there }
@@ -166,13 +162,9 @@ alone_unmatched events pairs told leads are q h =
 is_message_so : (w : Option Direction) (b : Direction) → w ≡ Some b → is_message w ≡ true
 is_message_so w b e = ap is_message e
 
-false_or_true : (b : Bool) → (b ≡ true → ⊥) → b ≡ false
-false_or_true true n = absurd (n refl)
-false_or_true false n = refl
-
 pub unmatched_alone : (events : List EventNode) (pairs : List Edge) (told : List Bool) → LeadsPairs events pairs → AreTold pairs (length events) told → (q : Place) → IsUnmatched events q → IsAlone events told q
 unmatched_alone events pairs told leads are q u =
-    let untold : get_or told u.number false ≡ false = false_or_true (get_or told u.number false) (λ t.
+    let untold : get_or told u.number false ≡ false = false_from_ne_true (get_or told u.number false) (λ t.
     let e = end_of pairs u.number ((are.are u.number).0 t) in
     u.alone e.0 (elim e.1 [ inl l ↦ inl ((leads u.number e.0).0 l) | inr l ↦ inr ((leads e.0 u.number).0 l) ])) in
     subst (IsAlone events told) u.there (alone_at events told u.number u.event are.each u.event_at (is_message_so (way u.event) u.direction u.message) untold)

@@ -1,5 +1,5 @@
 -- Ranks among the elements that pass a test.
-use Rattle.std.proofs.Common.{◌≡◌, ℕ, ◌<◌, ◌+◌, inl, inr, List, [], ◌∷◌, ◌++◌, Some, slice_get, take, length, Bool, true, zero, suc, arith, refl, sym, ap, ◌∙◌, subst, if◌then◌else◌, zero-add}
+use Rattle.std.proofs.Common.{◌≡◌, ℕ, ◌<◌, ◌+◌, inl, inr, List, [], ◌∷◌, ◌++◌, Some, slice_get, take, Bool, true, zero, suc, arith, refl, sym, ap, ◌∙◌, subst, if◌then◌else◌, zero-add}
 use Rattle.std.specs.List.{count_by}
 use Rattle.std.proofs.lemmas.List.Sums.{sum_by-append}
 use Rattle.std.proofs.lemmas.Bool.{cases_order}
@@ -35,9 +35,3 @@ module _ {X : Type 0} (p : X → Bool) where
 
   pub count_snoc : (xs : List X) (x : X) → count_by p (xs ++ x ∷ []) ≡ count_by p xs + (if p x then 1 else 0)
   count_snoc xs x = sum_by-append (λ y. if p y then 1 else 0) xs (x ∷ []) ∙ ap (λ (n : ℕ). count_by p xs + n) (omega arith)
-
--- each place of a list has an element
-pub some_at : {X : Type 0} (xs : List X) (i : ℕ) → i < length xs → (x : X) × (slice_get xs i ≡ Some x)
-some_at [] i lt = absurd (omega arith)
-some_at (x ∷ xs) zero lt = (x, refl)
-some_at (x ∷ xs) (suc i) lt = some_at xs i (omega arith)

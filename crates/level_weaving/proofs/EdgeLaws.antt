@@ -2,6 +2,8 @@
 use Rattle.std.proofs.Common.{◌≡◌, ℕ, ◌<◌, ◌≤◌, ◌+◌, List, [], ◌∷◌, ◌++◌, Option, Some, None, slice_get, take, drop, Bool, true, false, zero, suc, arith, refl, sym, ap, ◌∙◌, subst, nat_eq, if◌then◌else◌, ◌&&◌, All, get_or}
 use Rattle.std.specs.List.{count_by}
 use Rattle.std.proofs.lemmas.Option.{slice_get-get_or}
+use Rattle.std.proofs.lemmas.List.{append_assoc}
+use Rattle.list_facts.proofs.Reading.{drop_get}
 use Rattle.column_order.specs.declared.edge.Edge.{Edge}
 use Rattle.column_order.specs.Pairing.{count, RiseTo}
 use Rattle.level_weaving.specs.declared.matching.Mark.{Mark}
@@ -10,7 +12,6 @@ use Rattle.msc_tree.specs.declared.event.Direction.TheVariants.{Out, In}
 use Rattle.msc_tree.specs.Directions.{is_direction}
 use Rattle.level_weaving.specs.Marks.{is_end, end_edges, edges_from}
 use Rattle.level_weaving.proofs.Counts.{count_cons}
-use Rattle.level_pieces.proofs.Walks.{assoc, drop_get}
 
 -- two directions are one where the test says so
 same_way : (a b : Direction) → is_direction a b ≡ true → b ≡ a
@@ -35,19 +36,24 @@ pub record IsEdge (direction : Direction) (n : ℕ) (marks : List (Option Mark))
   pub class : mark.class ≡ c
   pub rank : count c (take i edges) ≡ count_by (is_end c direction) (take place marks)
 
+-- an edge of the later marks, where the edges count the first mark as it counts
+later_edge : (direction : Direction) (n : ℕ) (m : Option Mark) (marks : List (Option Mark)) (edges more : List Edge) (i j c p : ℕ)
+    → count c (take j more) ≡ (if is_end c direction m then 1 else 0) + count c (take i edges) → IsEdge direction (suc n) marks edges i c p → IsEdge direction n (m ∷ marks) more j c p
+later_edge direction n m marks edges more i j c p counts r = record {
+  place = suc r.place;
+  mark = r.mark;
+  number = omega (arith, r.number);
+  at = r.at;
+  way = r.way;
+  class = r.class;
+  rank = omega (arith, counts, r.rank, count_cons (is_end c direction) m (take r.place marks));
+}
+
 -- a mark of the other direction, or none, counts nothing
 passed : (direction : Direction) (n : ℕ) (m : Option Mark) (marks : List (Option Mark)) (edges : List Edge) (i c p : ℕ) → is_end c direction m ≡ false → IsEdge direction (suc n) marks edges i c p → IsEdge direction n (m ∷ marks) edges i c p
 passed direction n m marks edges i c p f r =
     let none : ◌≡◌ {A = ℕ} (if is_end c direction m then 1 else 0) 0 = ap (λ (t : Bool). if t then 1 else 0) f in
-    record {
-      place = suc r.place;
-      mark = r.mark;
-      number = omega (arith, r.number);
-      at = r.at;
-      way = r.way;
-      class = r.class;
-      rank = omega (arith, none, r.rank, count_cons (is_end c direction) m (take r.place marks));
-    }
+    later_edge direction n m marks edges edges i i c p (omega (arith, none)) r
 
 pub edge_at : (direction : Direction) (n : ℕ) (marks : List (Option Mark)) (i c p : ℕ) → slice_get (edges_from direction n marks) i ≡ Some (record { from = c; to = p })
     → IsEdge direction n marks (edges_from direction n marks) i c p
@@ -72,18 +78,12 @@ edge_at direction n (Some m ∷ marks) i c p h = by (is_direction direction m.di
           rank = refl;
         }
     by true e rest (suc i) h =
-        let r = rest i h in
+        let edges = edges_from direction (suc n) marks in
+        let edge : Edge = record { from = m.class; to = n } in
         let test : is_end c direction (Some m) ≡ nat_eq m.class c = ap (λ (t : Bool). t && nat_eq m.class c) e in
         let one : ◌≡◌ {A = ℕ} (if is_end c direction (Some m) then 1 else 0) (if nat_eq m.class c then 1 else 0) = ap (λ (t : Bool). if t then 1 else 0) test in
-        record {
-          place = suc r.place;
-          mark = r.mark;
-          number = omega (arith, r.number);
-          at = r.at;
-          way = r.way;
-          class = r.class;
-          rank = omega (arith, one, r.rank, count_cons (is_end c direction) (Some m) (take r.place marks));
-        }
+        let counts : count c (take (suc i) (edge ∷ edges)) ≡ (if is_end c direction (Some m) then 1 else 0) + count c (take i edges) = omega (arith, one) in
+        later_edge direction n (Some m) marks edges (edge ∷ edges) i (suc i) c p counts (rest i h)
     by false e rest i h =
         let test : is_end c direction (Some m) ≡ false = ap (λ (t : Bool). t && nat_eq m.class c) e in
         passed direction n (Some m) marks (edges_from direction (suc n) marks) i c p test (rest i h)
@@ -147,9 +147,9 @@ pub edges_step : (direction : Direction) (marks : List (Option Mark)) (k : ℕ) 
     → longer ++ edges_from direction (k + 1) (drop (k + 1) marks) ≡ held ++ edges_from direction k (drop k marks)
 edges_step direction marks k m held longer is e =
     let n : k + 1 ≡ suc k = omega arith in
-    ap (λ l. l ++ edges_from direction (k + 1) (drop (k + 1) marks)) e ∙ sym (assoc held (end_edges direction k m) (edges_from direction (k + 1) (drop (k + 1) marks)))
+    ap (λ l. l ++ edges_from direction (k + 1) (drop (k + 1) marks)) e ∙ append_assoc held (end_edges direction k m) (edges_from direction (k + 1) (drop (k + 1) marks))
     ∙ ap (λ (j : ℕ). held ++ (end_edges direction k m ++ edges_from direction j (drop (k + 1) marks))) n
-    ∙ ap (λ ms. held ++ edges_from direction k ms) (sym (drop_get k marks m is))
+    ∙ ap (λ ms. held ++ edges_from direction k ms) (sym (drop_get marks k m is))
 
 rises_later : (n m : ℕ) (edges : List Edge) → n ≤ m → RiseTo m edges → RiseTo n edges
 rises_later n m [] le h = tt

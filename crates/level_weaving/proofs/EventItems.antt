@@ -1,12 +1,13 @@
 -- Items that are an event or a coregion.
-use Rattle.std.proofs.Common.{◌≡◌, ℕ, true, List, [], ◌∷◌, ◌++◌, None, refl, sym, ap, ◌∙◌}
+use Rattle.std.proofs.Common.{◌≡◌, ℕ, true, List, [], ◌∷◌, ◌++◌, refl, sym, ap, ◌∙◌}
 use Rattle.msc_base.specs.declared.place.Place.{Place}
+use Rattle.level_pieces.proofs.NoOperands.{no_operand, no_name}
 use Rattle.msc_tree.specs.Statements.{Form, Single, Coregion, Condition, Inline, Refer, Stop}
 use Rattle.msc_meaning.specs.Bodies.{WovenItem}
-use Rattle.msc_meaning.specs.LevelItems.{cover_of, name_of}
+use Rattle.msc_meaning.specs.LevelItems.{cover_of}
 use Rattle.msc_meaning.specs.Levels.{IsWovenItem, an_event, a_coregion, an_inline, a_reference}
 use Rattle.level_weaving.specs.LonelyItems.{ItemLacksPartner}
-use Rattle.msc_meaning.specs.Pieces.{Piece, operand_of}
+use Rattle.msc_meaning.specs.Pieces.{Piece}
 use Rattle.level_pieces.specs.ItemParts.{AreParts, has_events}
 use Rattle.chart_text.specs.Texts.{Side, behind}
 use Rattle.chart_text.specs.WellFormed.{is_at_one, is_well_formed_item}
@@ -24,22 +25,6 @@ at_one_form side Stop h is = cc
 -- it stands at one instance
 pub event_at_one : (p : Piece) (others : List Piece) → AreParts (p ∷ others) → has_events p.form ≡ true → is_at_one (behind p.leads) ≡ true
 event_at_one p others are is = at_one_form (behind p.leads) p.form are.2.0.0 is
-
-unnamed : (f : Form) → has_events f ≡ true → name_of f ≡ None
-unnamed (Single e) is = refl
-unnamed (Coregion es) is = refl
-unnamed (Condition names shared) is = cc
-unnamed (Inline head held) is = cc
-unnamed (Refer r) is = cc
-unnamed Stop is = cc
-
-no_operand : (c : List (List ℕ)) (k : ℕ) (p : Piece) (f : Form) → has_events f ≡ true → operand_of c k p f ≡ []
-no_operand c k p (Single e) is = refl
-no_operand c k p (Coregion es) is = refl
-no_operand c k p (Condition names shared) is = cc
-no_operand c k p (Inline head held) is = cc
-no_operand c k p (Refer r) is = cc
-no_operand c k p Stop is = cc
 
 event_uncrossed : (level : List (List ℕ)) (p : Piece) (q : Place) → has_events p.form ≡ true → ItemCrosses level (p ∷ []) q → ⊥
 event_uncrossed level p q is h = empty_uncrossed (ap (λ (l : List Piece). l ++ []) (no_operand (cover_of level p) h.0 p p.form is)) h.1
@@ -60,4 +45,4 @@ pub record IsEventItem (level : List (List ℕ)) (parts : List Piece) (item : Wo
 
 pub event_is : (level : List (List ℕ)) (p : Piece) (others : List Piece) (item : WovenItem) → AreParts (p ∷ others) → has_events p.form ≡ true → IsWovenItem level (p ∷ []) item → IsEventItem level (p ∷ others) item
 event_is level p [] item are is w = record { woven = w; uncrossed = λ q h. event_uncrossed level p q is h; matched = λ q h. event_matched p q refl is w h }
-event_is level p (r ∷ others) item are is w = absurd (are.1 (unnamed p.form is))
+event_is level p (r ∷ others) item are is w = absurd (are.1 (no_name p.form is))

@@ -1,17 +1,18 @@
 -- Items of several operands: what these are woven to, and where they cross.
-use Rattle.std.proofs.Common.{◌≡◌, ◌⊎◌, inl, inr, ℕ, ◌<◌, ◌≤◌, ◌+◌, zero, suc, true, false, List, [], ◌∷◌, ◌++◌, Option, Some, drop, take, length, slice_get, refl, sym, subst, ap, ap₂, ◌∙◌, arith}
+use Rattle.std.proofs.Common.{◌≡◌, ◌⊎◌, inl, inr, ℕ, ◌<◌, ◌≤◌, ◌+◌, zero, suc, true, false, List, [], ◌∷◌, Option, Some, drop, take, length, slice_get, refl, sym, subst, ap, ◌∙◌, arith}
 use Rattle.msc_base.specs.Places.{IsLeast}
 use Rattle.msc_base.specs.declared.place.Place.{Place}
-use Rattle.msc_tree.specs.Statements.{Form, Single, Coregion, Condition, Inline, Refer, Stop, Operands, no_operands, operand_and}
+use Rattle.level_pieces.proofs.NoOperands.{none_beyond}
+use Rattle.msc_tree.specs.Statements.{Form, Single, Coregion, Condition, Inline, Refer, Stop}
 use Rattle.msc_meaning.specs.Bodies.{Body, Bodies, no_bodies, bodies}
 use Rattle.msc_meaning.specs.Crossings.{ColumnsCross}
 use Rattle.msc_meaning.specs.LevelItems.{cover_of, is_item}
 use Rattle.msc_meaning.specs.Levels.{AreWovenOperands, IsWovenItem, an_inline, a_reference, no_woven_operand, operand_number, woven_operand_and}
 use Rattle.level_weaving.proofs.LonelyLevels.{operands_lacking, operands_on}
 use Rattle.level_weaving.specs.LonelyItems.{ItemLacksPartner, OneLacksPartner}
-use Rattle.msc_meaning.specs.Pieces.{Piece, operand_at, operand_count, operand_of, operands_of}
+use Rattle.msc_meaning.specs.Pieces.{Piece, operands_of}
 use Rattle.level_pieces.specs.Earliest.{earliest_of}
-use Rattle.level_pieces.specs.ItemOperands.{AreOperands, HaveAtMost, operand_lists, operands_in}
+use Rattle.level_pieces.specs.ItemOperands.{AreOperands, operand_lists, operands_in}
 use Rattle.level_pieces.specs.ItemParts.{AreParts, has_events}
 use Rattle.level_pieces.specs.PieceNumbers.{AreNumbered}
 use Rattle.level_pieces.specs.FormedPieces.{AreFormed}
@@ -21,24 +22,6 @@ use Rattle.level_weaving.specs.Answers.{AreLevels, AreWovenLevels, ItemCrosses, 
 use Rattle.level_weaving.proofs.LevelLaws.{empty_uncrossed}
 
 -- ---- operands that no part has
-
-none_at : (cover : List (List ℕ)) (p : Piece) (n k : ℕ) (xs : Operands) → operand_number xs ≤ k → operand_at cover p n k xs ≡ []
-none_at cover p n zero no_operands le = refl
-none_at cover p n (suc k) no_operands le = refl
-none_at cover p n zero (operand_and x xs) le = absurd (omega (arith, le))
-none_at cover p n (suc k) (operand_and x xs) le = none_at cover p (n + operand_count x) k xs (omega (arith, le))
-
-none_of : (cover : List (List ℕ)) (k : ℕ) (p : Piece) (f : Form) → operand_number (operands_in f) ≤ k → operand_of cover k p f ≡ []
-none_of cover k p (Single e) le = refl
-none_of cover k p (Coregion es) le = refl
-none_of cover k p (Condition names shared) le = refl
-none_of cover k p (Inline head held) le = none_at cover p p.first k held le
-none_of cover k p (Refer r) le = refl
-none_of cover k p Stop le = refl
-
-none_beyond : (cover : List (List ℕ)) (n k : ℕ) (parts : List Piece) → HaveAtMost n parts → n ≤ k → operands_of cover k parts ≡ []
-none_beyond cover n k [] h le = refl
-none_beyond cover n k (p ∷ ps) h le = ap₂ (λ (a b : List Piece). a ++ b) (none_of cover k p p.form (omega (arith, h.0, le))) (none_beyond cover n k ps h.1 le)
 
 -- ---- where the operands cross
 

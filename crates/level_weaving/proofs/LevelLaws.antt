@@ -1,6 +1,7 @@
 -- What a level is woven to, whose messages lack a partner, and where its columns cross.
 use Rattle.std.proofs.Common.{◌≡◌, ◌⊎◌, inl, inr, ℕ, ◌<◌, zero, suc, List, [], ◌∷◌, ◌++◌, Option, Some, None, All, slice_get, length, map, refl, sym, subst, ap, ap₂, ◌∙◌, arith}
 use Rattle.std.proofs.lemmas.Bool.{cases_order}
+use Rattle.std.proofs.lemmas.Option.{slice_get_within}
 use Rattle.column_order.specs.Weaving.{IsWoven, IsCrossedAt}
 use Rattle.column_order.proofs.WeavingLaws.{crossed_is_one, never_woven_and_crossed}
 use Rattle.msc_base.specs.Lists.{AreDifferent, IsAmong}
@@ -78,11 +79,6 @@ empty_uncrossed {c} e (crossed x p parts k at there) =
 empty_uncrossed {c} e (inside x k p parts at rest) =
     let at_none : slice_get (level_items []) x ≡ Some (p ∷ parts) = subst (λ (l : List Piece). slice_get (level_items l) x ≡ Some (p ∷ parts)) e at in cc
 
-low_at : {A : Type 0} (xs : List A) (i : ℕ) (x : A) → slice_get xs i ≡ Some x → i < length xs
-low_at [] i x at = cc
-low_at (y ∷ xs) zero x at = omega arith
-low_at (y ∷ xs) (suc i) x at = let low : i < length xs = low_at xs i x at in omega (arith, low)
-
 -- an item in which columns cross
 pub record HasCrossing (cover : List (List ℕ)) (all : List (List Piece)) (q : Place) : Type 0 where
   pub number : ℕ
@@ -150,7 +146,7 @@ module _ (cover : List (List ℕ)) (ps : List Piece) (order : List ℕ) (own_wov
   whole_on : (q : Place) → ColumnsCross cover ps q → ItemsCross cover (level_items ps) order q
   whole_on q h = elim (crossing_of cover ps q h) [
     | inl here ↦ absurd (never_woven_and_crossed (length (level_items ps)) (level_item.columns_of (entries ps) cover) order here.item own_woven here.crossing)
-    | inr in_item ↦ crossing_among cover (level_items ps) order q in_item (own_woven.every in_item.number (low_at (level_items ps) in_item.number in_item.parts in_item.at))
+    | inr in_item ↦ crossing_among cover (level_items ps) order q in_item (own_woven.every in_item.number (slice_get_within (level_items ps) in_item.number in_item.parts in_item.at))
   ]
 
   whole_of : (q : Place) → ItemsCross cover (level_items ps) order q → ColumnsCross cover ps q
@@ -227,7 +223,7 @@ module _ (cover : List (List ℕ)) (ps : List Piece) (x : ℕ) (p : Piece) (othe
         let same : p ≡ here.piece = cc in
         inr (ap (λ (z : Piece). z.place) same ∙ here.there)
     | inr in_item ↦
-        let low : in_item.number < length (level_items ps) = low_at (level_items ps) in_item.number in_item.parts in_item.at in
+        let low : in_item.number < length (level_items ps) = slice_get_within (level_items ps) in_item.number in_item.parts in_item.at in
         inl (crossing_among cover (level_items ps) (numbers_to n) q in_item (numbers_have n in_item.number (omega (arith, low, count))))
   ]
 

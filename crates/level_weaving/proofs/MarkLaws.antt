@@ -1,7 +1,7 @@
 -- What is so of the marks is so of their events.
 use Rattle.std.proofs.Common.{◌≡◌, ℕ, ◌<◌, ◌+◌, List, [], ◌∷◌, ◌++◌, map, Option, Some, None, slice_get, take, length, Bool, true, zero, suc, refl, sym, ap, ap₂, ◌∙◌, subst, if◌then◌else◌, ◌&&◌, get_or, Bor}
 use Rattle.std.specs.List.{position, count_by}
-use Rattle.std.proofs.lemmas.List.{take_more}
+use Rattle.std.proofs.lemmas.List.{take_more, map_push}
 use Rattle.std.proofs.lemmas.Option.{slice_get_within}
 use Rattle.level_weaving.specs.declared.events.PlacedEvent as code
 use Rattle.msc_meaning.specs.Bodies.{EventNode}
@@ -45,16 +45,12 @@ marks_snoc keys [] (n ∷ ms) e m h is = absurd h
 marks_snoc keys (k ∷ es) [] e m h is = absurd h
 marks_snoc keys (k ∷ es) (n ∷ ms) e m h is = (h.0, marks_snoc keys es ms e m h.1 is)
 
-map_snoc : {X Y : Type 0} (f : X → Y) (xs : List X) (x : X) → map f (xs ++ x ∷ []) ≡ map f xs ++ f x ∷ []
-map_snoc f [] x = refl
-map_snoc f (y ∷ xs) x = ap (λ ys. f y ∷ ys) (map_snoc f xs x)
-
 -- one more event, and the marks so far
 pub marks_more : (old new : List Key) (list : List code.PlacedEvent) (i : ℕ) (e : code.PlacedEvent) (ms after : List (Option Mark)) (m : Option Mark) → i < length list → e ≡ get_or list i e
     → KeepsNumbers old new → AreMarks old (map event_view (take i list)) ms → IsMark new (event_view e) m → after ≡ ms ++ m ∷ [] → AreMarks new (map event_view (take (i + 1) list)) after
 marks_more old new list i e ms after m lt at keeps h is same =
     let more : map event_view (take (i + 1) list) ≡ map event_view (take i list) ++ event_view e ∷ [] =
-    ap (map event_view) (take_more list i e lt ∙ ap (λ (x : code.PlacedEvent). take i list ++ x ∷ []) (sym at)) ∙ map_snoc event_view (take i list) e in
+    ap (map event_view) (take_more list i e lt ∙ ap (λ (x : code.PlacedEvent). take i list ++ x ∷ []) (sym at)) ∙ map_push event_view (take i list) e in
     subst (λ (xs : List (Option Mark)). AreMarks new (map event_view (take (i + 1) list)) xs) (sym same)
     (subst (λ (es : List EventNode). AreMarks new es (ms ++ m ∷ [])) (sym more)
     (marks_snoc new (map event_view (take i list)) ms (event_view e) m (marks_kept old new (map event_view (take i list)) ms keeps h) is))

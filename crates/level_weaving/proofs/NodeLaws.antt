@@ -1,8 +1,9 @@
 -- The numbers of the events of a level: they rise along its pieces, and differ in a woven list.
-use Rattle.std.proofs.Common.{◌≡◌, ◌⊎◌, inl, inr, ℕ, ◌<◌, ◌≤◌, ◌+◌, zero, suc, List, [], ◌∷◌, ◌++◌, Option, Some, None, slice_get, length, map, refl, sym, subst, ap, ◌∙◌, arith}
+use Rattle.std.proofs.Common.{◌≡◌, inl, inr, ℕ, ◌<◌, ◌≤◌, ◌+◌, zero, suc, List, [], ◌∷◌, ◌++◌, Option, Some, None, slice_get, length, map, refl, sym, subst, ap, ◌∙◌, arith}
 use Rattle.std.proofs.lemmas.Bool.{cases_order}
 use Rattle.std.proofs.lemmas.List.{map-append}
 use Rattle.msc_base.specs.Lists.{AreDifferent, IsAmong}
+use Rattle.list_facts.proofs.Members.{among_either}
 use Rattle.msc_tree.specs.declared.event.RawEvent.{RawEvent}
 use Rattle.msc_tree.specs.Statements.{Form, Single, Coregion, Condition, Inline, Refer, Stop}
 use Rattle.msc_meaning.specs.Bodies.{EventNode}
@@ -72,11 +73,6 @@ record IsNumberOf (qs : List Piece) (order : List ℕ) (k : ℕ) : Type 0 where
   pub at : slice_get qs item ≡ Some piece
   pub low : piece.first ≤ k
   pub high : k < piece.first + form_count piece.form
-
-among_either : {A : Type 0} (xs ys : List A) (k : A) → IsAmong (xs ++ ys) k → IsAmong xs k ⊎ IsAmong ys k
-among_either [] ys k h = inr h
-among_either (x ∷ xs) ys k (inl e) = inl (inl e)
-among_either (x ∷ xs) ys k (inr h) = elim (among_either xs ys k h) [ inl l ↦ inl (inr l) | inr r ↦ inr r ]
 
 number_of_item : (qs : List Piece) (order : List ℕ) (k : ℕ) → IsAmong (map number_of (ordered_nodes qs order)) k → IsNumberOf qs order k
 number_of_item qs [] k h = absurd h

@@ -1,5 +1,6 @@
 -- A level is woven to one body at most.
-use Rattle.std.proofs.Common.{◌≡◌, ℕ, suc, List, [], ◌∷◌, Some, slice_get, length, refl, sym, subst, ap, ap₂, ◌∙◌}
+use Rattle.std.proofs.Common.{◌≡◌, ℕ, suc, List, [], Some, slice_get, length, refl, sym, subst, ap, ap₂, ◌∙◌}
+use Rattle.list_facts.proofs.Joining.{same_head}
 use Rattle.column_order.specs.Weaving.{IsWoven}
 use Rattle.column_order.proofs.WeavingLaws.{woven_is_one}
 use Rattle.msc_tree.specs.Statements as tree
@@ -10,9 +11,6 @@ use Rattle.msc_meaning.specs.Pairing.{ArePairs}
 use Rattle.msc_meaning.specs.Pieces.{Piece, operands_of}
 use Rattle.msc_meaning.proofs.PairingLaws.{one_list}
 use Rattle.level_weaving.specs.Laws.{WovenBodyIsOne}
-
-first_part : (p q : Piece) (ps qs : List Piece) → p ∷ ps ≡ q ∷ qs → p ≡ q
-first_part p q ps qs e = cc
 
 same_form : (p q : Piece) (f g : tree.Form) → p ≡ q → p.form ≡ f → q.form ≡ g → f ≡ g
 same_form p q f g e a b = sym a ∙ ap (λ (x : Piece). x.form) e ∙ b
@@ -43,42 +41,42 @@ mutual
 
   one_item : {c d : List (List ℕ)} {ps qs : List Piece} {a b : WovenItem} → IsWovenItem c ps a → IsWovenItem d qs b → c ≡ d → ps ≡ qs → a ≡ b
   one_item (an_event {p = p} {at = x} {e = e} f l) (an_event {p = q} {at = y} {e = g} h m) ec ep =
-      let one : p ≡ q = first_part p q [] [] ep in
+      let one : p ≡ q = same_head p q [] [] ep in
       let forms : tree.Single e ≡ tree.Single g = same_form p q (tree.Single e) (tree.Single g) one f h in
       let event : e ≡ g = cc in
       let at : x ≡ y = same_lead p q x y one l m in
       λ i. Single (record { number = (one i).first; at = at i; event = event i })
   one_item (a_coregion {p = p} {at = x} {es = es} f l) (a_coregion {p = q} {at = y} {es = gs} h m) ec ep =
-      let one : p ≡ q = first_part p q [] [] ep in
+      let one : p ≡ q = same_head p q [] [] ep in
       let forms : tree.Coregion es ≡ tree.Coregion gs = same_form p q (tree.Coregion es) (tree.Coregion gs) one f h in
       let held : es ≡ gs = cc in
       let at : x ≡ y = same_lead p q x y one l m in
       λ i. Coregion (nodes_from (one i).first (at i) (held i))
   one_item (a_reference {p = p} {ps = ps} {r = r} f) (a_reference {p = q} {ps = qs} {r = s} h) ec ep =
-      let one : p ≡ q = first_part p q ps qs ep in
+      let one : p ≡ q = same_head p q ps qs ep in
       let forms : tree.Refer r ≡ tree.Refer s = same_form p q (tree.Refer r) (tree.Refer s) one f h in
       let held : r ≡ s = cc in
       λ i. Refer (record { name = (held i).name; expression = (held i).expression; joins = (held i).joins; cover = cover_of (ec i) (one i); place = (one i).place })
   one_item (an_inline {cover = c} {p = p} {ps = ps} {head = head} {operands = xs} f l) (an_inline {cover = d} {p = q} {ps = qs} {head = other} {operands = ys} h m) ec ep =
-      let one : p ≡ q = first_part p q ps qs ep in
+      let one : p ≡ q = same_head p q ps qs ep in
       let forms : tree.Inline head xs ≡ tree.Inline other ys = same_form p q (tree.Inline head xs) (tree.Inline other ys) one f h in
       let heads : head ≡ other = cc in
       let inner : xs ≡ ys = cc in
       let covers : cover_of c p ≡ cover_of d q = ap₂ (λ (w : List (List ℕ)) (z : Piece). cover_of w z) ec one in
       let held = one_operands l m covers ep refl (ap operand_number inner) in
       λ i. Inline (heads i).form (record { lower = (heads i).lower; upper = (heads i).upper; name = (heads i).name; cover = covers i; place = (one i).place }) (held i)
-  one_item (an_event {p = p} {e = e} f l) (a_coregion {p = q} {es = gs} h m) ec ep = let bad : tree.Single e ≡ tree.Coregion gs = same_form p q (tree.Single e) (tree.Coregion gs) (first_part p q [] [] ep) f h in cc
-  one_item (an_event {p = p} {e = e} f l) (an_inline {p = q} {ps = qs} {head = head} {operands = ys} h m) ec ep = let bad : tree.Single e ≡ tree.Inline head ys = same_form p q (tree.Single e) (tree.Inline head ys) (first_part p q [] qs ep) f h in cc
-  one_item (an_event {p = p} {e = e} f l) (a_reference {p = q} {ps = qs} {r = s} h) ec ep = let bad : tree.Single e ≡ tree.Refer s = same_form p q (tree.Single e) (tree.Refer s) (first_part p q [] qs ep) f h in cc
-  one_item (a_coregion {p = p} {es = es} f l) (an_event {p = q} {e = g} h m) ec ep = let bad : tree.Coregion es ≡ tree.Single g = same_form p q (tree.Coregion es) (tree.Single g) (first_part p q [] [] ep) f h in cc
-  one_item (a_coregion {p = p} {es = es} f l) (an_inline {p = q} {ps = qs} {head = head} {operands = ys} h m) ec ep = let bad : tree.Coregion es ≡ tree.Inline head ys = same_form p q (tree.Coregion es) (tree.Inline head ys) (first_part p q [] qs ep) f h in cc
-  one_item (a_coregion {p = p} {es = es} f l) (a_reference {p = q} {ps = qs} {r = s} h) ec ep = let bad : tree.Coregion es ≡ tree.Refer s = same_form p q (tree.Coregion es) (tree.Refer s) (first_part p q [] qs ep) f h in cc
-  one_item (an_inline {p = p} {ps = ps} {head = head} {operands = xs} f l) (an_event {p = q} {e = g} h m) ec ep = let bad : tree.Inline head xs ≡ tree.Single g = same_form p q (tree.Inline head xs) (tree.Single g) (first_part p q ps [] ep) f h in cc
-  one_item (an_inline {p = p} {ps = ps} {head = head} {operands = xs} f l) (a_coregion {p = q} {es = gs} h m) ec ep = let bad : tree.Inline head xs ≡ tree.Coregion gs = same_form p q (tree.Inline head xs) (tree.Coregion gs) (first_part p q ps [] ep) f h in cc
-  one_item (an_inline {p = p} {ps = ps} {head = head} {operands = xs} f l) (a_reference {p = q} {ps = qs} {r = s} h) ec ep = let bad : tree.Inline head xs ≡ tree.Refer s = same_form p q (tree.Inline head xs) (tree.Refer s) (first_part p q ps qs ep) f h in cc
-  one_item (a_reference {p = p} {ps = ps} {r = r} f) (an_event {p = q} {e = g} h m) ec ep = let bad : tree.Refer r ≡ tree.Single g = same_form p q (tree.Refer r) (tree.Single g) (first_part p q ps [] ep) f h in cc
-  one_item (a_reference {p = p} {ps = ps} {r = r} f) (a_coregion {p = q} {es = gs} h m) ec ep = let bad : tree.Refer r ≡ tree.Coregion gs = same_form p q (tree.Refer r) (tree.Coregion gs) (first_part p q ps [] ep) f h in cc
-  one_item (a_reference {p = p} {ps = ps} {r = r} f) (an_inline {p = q} {ps = qs} {head = head} {operands = ys} h m) ec ep = let bad : tree.Refer r ≡ tree.Inline head ys = same_form p q (tree.Refer r) (tree.Inline head ys) (first_part p q ps qs ep) f h in cc
+  one_item (an_event {p = p} {e = e} f l) (a_coregion {p = q} {es = gs} h m) ec ep = let bad : tree.Single e ≡ tree.Coregion gs = same_form p q (tree.Single e) (tree.Coregion gs) (same_head p q [] [] ep) f h in cc
+  one_item (an_event {p = p} {e = e} f l) (an_inline {p = q} {ps = qs} {head = head} {operands = ys} h m) ec ep = let bad : tree.Single e ≡ tree.Inline head ys = same_form p q (tree.Single e) (tree.Inline head ys) (same_head p q [] qs ep) f h in cc
+  one_item (an_event {p = p} {e = e} f l) (a_reference {p = q} {ps = qs} {r = s} h) ec ep = let bad : tree.Single e ≡ tree.Refer s = same_form p q (tree.Single e) (tree.Refer s) (same_head p q [] qs ep) f h in cc
+  one_item (a_coregion {p = p} {es = es} f l) (an_event {p = q} {e = g} h m) ec ep = let bad : tree.Coregion es ≡ tree.Single g = same_form p q (tree.Coregion es) (tree.Single g) (same_head p q [] [] ep) f h in cc
+  one_item (a_coregion {p = p} {es = es} f l) (an_inline {p = q} {ps = qs} {head = head} {operands = ys} h m) ec ep = let bad : tree.Coregion es ≡ tree.Inline head ys = same_form p q (tree.Coregion es) (tree.Inline head ys) (same_head p q [] qs ep) f h in cc
+  one_item (a_coregion {p = p} {es = es} f l) (a_reference {p = q} {ps = qs} {r = s} h) ec ep = let bad : tree.Coregion es ≡ tree.Refer s = same_form p q (tree.Coregion es) (tree.Refer s) (same_head p q [] qs ep) f h in cc
+  one_item (an_inline {p = p} {ps = ps} {head = head} {operands = xs} f l) (an_event {p = q} {e = g} h m) ec ep = let bad : tree.Inline head xs ≡ tree.Single g = same_form p q (tree.Inline head xs) (tree.Single g) (same_head p q ps [] ep) f h in cc
+  one_item (an_inline {p = p} {ps = ps} {head = head} {operands = xs} f l) (a_coregion {p = q} {es = gs} h m) ec ep = let bad : tree.Inline head xs ≡ tree.Coregion gs = same_form p q (tree.Inline head xs) (tree.Coregion gs) (same_head p q ps [] ep) f h in cc
+  one_item (an_inline {p = p} {ps = ps} {head = head} {operands = xs} f l) (a_reference {p = q} {ps = qs} {r = s} h) ec ep = let bad : tree.Inline head xs ≡ tree.Refer s = same_form p q (tree.Inline head xs) (tree.Refer s) (same_head p q ps qs ep) f h in cc
+  one_item (a_reference {p = p} {ps = ps} {r = r} f) (an_event {p = q} {e = g} h m) ec ep = let bad : tree.Refer r ≡ tree.Single g = same_form p q (tree.Refer r) (tree.Single g) (same_head p q ps [] ep) f h in cc
+  one_item (a_reference {p = p} {ps = ps} {r = r} f) (a_coregion {p = q} {es = gs} h m) ec ep = let bad : tree.Refer r ≡ tree.Coregion gs = same_form p q (tree.Refer r) (tree.Coregion gs) (same_head p q ps [] ep) f h in cc
+  one_item (a_reference {p = p} {ps = ps} {r = r} f) (an_inline {p = q} {ps = qs} {head = head} {operands = ys} h m) ec ep = let bad : tree.Refer r ≡ tree.Inline head ys = same_form p q (tree.Refer r) (tree.Inline head ys) (same_head p q ps qs ep) f h in cc
 
   one_operands : {c d : List (List ℕ)} {ps qs : List Piece} {k j n m : ℕ} {a b : Bodies} → AreWovenOperands c ps k n a → AreWovenOperands d qs j m b → c ≡ d → ps ≡ qs → k ≡ j → n ≡ m → a ≡ b
   one_operands no_woven_operand no_woven_operand ec ep ek en = refl

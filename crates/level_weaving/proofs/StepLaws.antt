@@ -1,12 +1,12 @@
 -- Steps of walks over a woven list.
 use Rattle.std.proofs.Common.{◌≡◌, ◌<◌, ◌+◌, ℕ, List, ◌++◌, Option, Some, drop, get_or, length, slice_get, sym, ap, ◌∙◌, Result, Ok, Err, IfOk, subst}
-use Rattle.std.proofs.lemmas.List.{get_or_default}
+use Rattle.std.proofs.lemmas.List.{get_or_default, append_assoc}
 use Rattle.msc_base.specs.declared.label.Pair.{Pair}
+use Rattle.list_facts.proofs.Reading.{drop_read}
 use Rattle.msc_meaning.specs.Bodies.{EventNode}
 use Rattle.msc_meaning.specs.Pairing.{ArePairs}
 use Rattle.msc_meaning.specs.Pieces.{Piece}
 use Rattle.level_weaving.specs.LevelNodes.{option_nodes, ordered_nodes, piece_nodes}
-use Rattle.level_pieces.proofs.Walks.{assoc, drop_read}
 
 -- one item more
 pub nodes_step : (ps : List Piece) (order : List ℕ) (k x : ℕ) (p : Piece) (held longer : List EventNode) → k < length order → x ≡ get_or order k 0 → slice_get ps x ≡ Some p → longer ≡ held ++ piece_nodes p
@@ -14,7 +14,7 @@ pub nodes_step : (ps : List Piece) (order : List ℕ) (k x : ℕ) (p : Piece) (h
 nodes_step ps order k x p held longer low is at made =
     let read : x ≡ get_or order k x = is ∙ get_or_default order k 0 x low in
     let rest : List EventNode = ordered_nodes ps (drop (k + 1) order) in
-    ap (λ (l : List EventNode). l ++ rest) made ∙ sym (assoc held (piece_nodes p) rest)
+    ap (λ (l : List EventNode). l ++ rest) made ∙ append_assoc held (piece_nodes p) rest
     ∙ ap (λ (o : Option Piece). held ++ (option_nodes o ++ rest)) (sym at)
     ∙ ap (λ (xs : List ℕ). held ++ ordered_nodes ps xs) (sym (drop_read order k x low read))
 

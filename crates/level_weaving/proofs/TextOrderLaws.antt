@@ -1,7 +1,7 @@
 -- A level whose items stand in one column each is woven in the order of its text.
 use Rattle.std.proofs.Common.{◌≡◌, inl, inr, ℕ, ◌<◌, ◌≤◌, ◌+◌, zero, suc, Bool, true, false, cond, List, [], ◌∷◌, ◌++◌, Option, Some, None, slice_get, length, map, refl, sym, subst, ap, ap₂, ◌∙◌, arith}
 use Rattle.std.specs.Bool.{⊤}
-use Rattle.std.proofs.lemmas.List.{append-nil, length-map, map-append}
+use Rattle.std.proofs.lemmas.List.{append-nil, length-map, map-append, append_assoc}
 use Rattle.column_order.specs.Laws.{AreInOrder, numbers_from}
 use Rattle.column_order.specs.Weaving.{ColumnOrders, IsCrossedAt, IsWoven}
 use Rattle.column_order.proofs.WeavingLaws.{never_woven_and_crossed, text_is_woven, woven_is_one}
@@ -25,7 +25,6 @@ use Rattle.level_pieces.proofs.ItemLaws.{entries_inside, length_snoc}
 use Rattle.level_weaving.proofs.LevelLaws.{empty_uncrossed}
 use Rattle.level_weaving.proofs.OneBody.{one_items}
 use Rattle.level_pieces.proofs.NumberLaws.{number_none, with_none}
-use Rattle.level_pieces.proofs.Walks.{assoc}
 
 -- ---- each item has one part
 
@@ -62,7 +61,7 @@ items_from cover xs (p ∷ ps) h = by (is_item p.form) (items_from cover (with_p
     by : (b : Bool) → with_pieces (with_piece xs p) ps ≡ with_piece xs p ++ map lone (kept ps) → with_pieces xs ps ≡ xs ++ map lone (kept ps)
         → with_pieces (cond b (with_piece xs p) xs) ps ≡ xs ++ map lone (cond b (p ∷ kept ps) (kept ps))
     by true one other =
-        one ∙ ap (λ (l : List (List Piece)). l ++ map lone (kept ps)) (with_none xs p (unjoined cover p h.0)) ∙ sym (assoc xs (lone p ∷ []) (map lone (kept ps)))
+        one ∙ ap (λ (l : List (List Piece)). l ++ map lone (kept ps)) (with_none xs p (unjoined cover p h.0)) ∙ append_assoc xs (lone p ∷ []) (map lone (kept ps))
     by false one other = other
 
 pub level_items_are : (cover : List (List ℕ)) (ps : List Piece) → AreInOneColumn cover ps → level_items ps ≡ map lone (kept ps)
@@ -249,7 +248,7 @@ lone_woven cover front [] h = no_woven
 lone_woven cover front (q ∷ qs) h =
     let moved : AreWovenItems cover (map lone (front ++ q ∷ qs)) (numbers_from (suc (length front)) (length qs)) (items (pieces_items qs)) =
     subst (λ (k : ℕ). AreWovenItems cover (map lone (front ++ q ∷ qs)) (numbers_from k (length qs)) (items (pieces_items qs))) (length_snoc front q)
-    (subst (λ (l : List Piece). AreWovenItems cover (map lone l) (numbers_from (length (front ++ q ∷ [])) (length qs)) (items (pieces_items qs))) (sym (assoc front (q ∷ []) qs))
+    (subst (λ (l : List Piece). AreWovenItems cover (map lone l) (numbers_from (length (front ++ q ∷ [])) (length qs)) (items (pieces_items qs))) (append_assoc front (q ∷ []) qs)
     (lone_woven cover (front ++ q ∷ []) qs h.1)) in
     subst (λ (l : List WovenItem). AreWovenItems cover (map lone (front ++ q ∷ qs)) (numbers_from (length front) (length (q ∷ qs))) (items (l ++ pieces_items qs))) (sym h.0.is)
     (woven_and (at_front front q qs) h.0.woven moved)
@@ -305,7 +304,7 @@ numbers_on n (suc a) b =
 
 events_on : (xs ys : List WovenItem) → events (items (xs ++ ys)) ≡ events (items xs) ++ events (items ys)
 events_on [] ys = refl
-events_on (x ∷ xs) ys = ap (λ (l : List EventNode). item_events x ++ l) (events_on xs ys) ∙ assoc (item_events x) (events (items xs)) (events (items ys))
+events_on (x ∷ xs) ys = ap (λ (l : List EventNode). item_events x ++ l) (events_on xs ys) ∙ sym (append_assoc (item_events x) (events (items xs)) (events (items ys)))
 
 nodes_numbers : (n : ℕ) (at : List ℕ) (es : List RawEvent) → map number_of (nodes_from n at es) ≡ numbers_from n (length es)
 nodes_numbers n at [] = refl

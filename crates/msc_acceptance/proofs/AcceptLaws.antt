@@ -13,12 +13,12 @@ use Rattle.msc_rules.proofs.FirstOnes.{first_fault, faultless, one_first_fault}
 use Rattle.std.proofs.lemmas.Bool.{cases_lt}
 use Rattle.std.proofs.lemmas.List.{length-map}
 use Rattle.msc_base.specs.declared.limits.TheConstants.Limits.{CHARTS}
+use Rattle.list_facts.proofs.Reading.{some_at}
 use Rattle.msc_meaning.specs.Tables.{Table}
 use Rattle.msc_meaning.specs.Views.{entry_view, table_view}
 use Rattle.msc_meaning.specs.declared.body.ChartEntry as code
 use Rattle.msc_meaning.specs.WovenTables.{AreEntriesOf, entry_and}
 use Rattle.msc_instances.specs.Instances.{instances}
-use Rattle.level_weaving.proofs.Counts.{some_at}
 use Rattle.msc_acceptance.specs.Acceptance.{Breaks, BreaksOf, HasFault, IsAccepted}
 use Rattle.msc_acceptance.specs.ChartFaults.{CrossesAt, IsAloneAt, IsCyclicAt}
 use Rattle.msc_acceptance.proofs.GroupLaws.{one_best}

@@ -2,9 +2,9 @@
 use Rattle.std.proofs.Common.{◌≡◌, ◌<◌, ◌+◌, ◌&&◌, ℕ, Bool, true, false, cond, is_some, List, Option, Some, None, drop, get_or, length, refl, sym, ap, ◌∙◌}
 use Rattle.std.specs.Option.{option_or}
 use Rattle.std.specs.Str.{bytes_eq}
+use Rattle.list_facts.proofs.Reading.{drop_read}
 use Rattle.msc_tree.specs.declared.chart.Decl.{Decl}
 use Rattle.msc_meaning.specs.Tables.{refined_as}
-use Rattle.level_pieces.proofs.Walks.{drop_read}
 
 here_by : (b : Bool) (r later : Option (List ℕ)) → (b && is_some r) ≡ true → r ≡ option_or (cond b r None) later
 here_by true (Some x) later h = refl

@@ -1,6 +1,7 @@
 -- Charts without inline expressions and references: no rule on parts is broken there.
-use Rattle.std.proofs.Common.{◌≡◌, inl, inr, ℕ, ◌+◌, Bool, true, false, cond, ◌&&◌, List, [], ◌∷◌, ◌++◌, Option, None, refl, ap, ◌∙◌, subst, map}
+use Rattle.std.proofs.Common.{◌≡◌, inl, inr, ℕ, ◌+◌, Bool, true, false, cond, List, [], ◌∷◌, ◌++◌, Option, None, refl, ap, ◌∙◌, subst, map}
 use Rattle.std.specs.Prelude.{⊤}
+use Rattle.std.proofs.lemmas.Bool.{and_parts, and_from}
 use Rattle.level_pieces.specs.ItemParts.{has_events}
 use Rattle.level_weaving.specs.Exceptions.{IsMisplaced, inner_exceptions, inner_item, outer_exceptions, outer_form, outer_pieces}
 use Rattle.chart_text.specs.Gathering.{gathered}
@@ -8,6 +9,7 @@ use Rattle.chart_text.specs.Texts.{Passage, Scope, Standing, Whole, a_head, a_st
 use Rattle.msc_base.specs.Lists.{IsAmong}
 use Rattle.msc_base.specs.Places.{IsLeast}
 use Rattle.msc_base.specs.declared.place.Place.{Place}
+use Rattle.list_facts.proofs.Joining.{both_nil}
 use Rattle.msc_instances.specs.Instances.{instances}
 use Rattle.msc_meaning.specs.LevelItems.{is_item, is_part_of, level_items, with_piece, with_pieces}
 use Rattle.msc_meaning.specs.Pieces.{Piece, form_count, items_pieces, statement_count, statement_pieces, statements_pieces}
@@ -18,18 +20,6 @@ use Rattle.shared_parts.specs.Noting.{AreAllJoined, ItemBreaks, OneHolds}
 use Rattle.shared_parts.specs.PartRules.{ChartBreaksPartRule, ContentBreaksPartRule}
 use Rattle.shared_parts.specs.declared.faults.PartRule.{PartRule}
 use Rattle.msc_acceptance.specs.SingleItems.{are_single, is_single, is_single_chart, is_single_passage}
-
-first_true : (a b : Bool) → (a && b) ≡ true → a ≡ true
-first_true true b h = refl
-first_true false b h = h
-
-second_true : (a b : Bool) → (a && b) ≡ true → b ≡ true
-second_true true b h = h
-second_true false b h = cc
-
-both_true : (a b : Bool) → a ≡ true → b ≡ true → (a && b) ≡ true
-both_true true b h g = g
-both_true false b h g = h
 
 -- ---- pieces
 
@@ -44,17 +34,17 @@ both_single (p ∷ ps) qs g h = (g.0, both_single ps qs g.1 h)
 
 single_left : (xs ys : List Passage) → are_single (xs ++ ys) ≡ true → are_single xs ≡ true
 single_left [] ys h = refl
-single_left (x ∷ xs) ys h = both_true (is_single_passage x) (are_single xs) (first_true (is_single_passage x) (are_single (xs ++ ys)) h) (single_left xs ys (second_true (is_single_passage x) (are_single (xs ++ ys)) h))
+single_left (x ∷ xs) ys h = and_from (is_single_passage x) (are_single xs) ((and_parts (is_single_passage x) (are_single (xs ++ ys)) h).0) (single_left xs ys ((and_parts (is_single_passage x) (are_single (xs ++ ys)) h).1))
 
 single_right : (xs ys : List Passage) → are_single (xs ++ ys) ≡ true → are_single ys ≡ true
 single_right [] ys h = h
-single_right (x ∷ xs) ys h = single_right xs ys (second_true (is_single_passage x) (are_single (xs ++ ys)) h)
+single_right (x ∷ xs) ys h = single_right xs ys ((and_parts (is_single_passage x) (are_single (xs ++ ys)) h).1)
 
 module _ (cover : List (List ℕ)) where
   items_single : (t : Standing) (column : Option (List ℕ)) (leads : List (List ℕ)) (n : ℕ) (xs : Items) → are_single (items_text t xs) ≡ true → AreSingle (items_pieces column leads n xs)
   items_single t column leads n no_items h = tt
   items_single t column leads n (item_and (placed place form) xs) h = (
-    first_true (is_single form) (are_single (form_text t form)) (single_left (an_item t place form ∷ form_text t form) (items_text t xs) h),
+    (and_parts (is_single form) (are_single (form_text t form)) (single_left (an_item t place form ∷ form_text t form) (items_text t xs) h)).0,
     items_single t column leads (n + form_count form) xs (single_right (an_item t place form ∷ form_text t form) (items_text t xs) h),
   )
 
@@ -143,9 +133,6 @@ content_placed names (HighLevel drawn) s = refl
 
 -- ---- inside operands
 
-both_none : (xs ys : List Place) → xs ≡ [] → ys ≡ [] → xs ++ ys ≡ []
-both_none xs ys a b = ap (λ l. l ++ ys) a ∙ b
-
 no_inner : (depth : ℕ) (place : Place) (form : Form) → is_single form ≡ true → inner_item depth place form ≡ []
 no_inner depth place (Single event) s = refl
 no_inner depth place (Coregion held) s = refl
@@ -163,10 +150,10 @@ passage_free (an_operand t x) s = refl
 text_free : (xs : List Passage) → are_single xs ≡ true → gathered inner_exceptions xs ≡ []
 text_free [] s = refl
 text_free (x ∷ xs) s =
-    both_none (inner_exceptions x) (gathered inner_exceptions xs) (passage_free x (first_true (is_single_passage x) (are_single xs) s)) (text_free xs (second_true (is_single_passage x) (are_single xs) s))
+    both_nil (inner_exceptions x) (gathered inner_exceptions xs) (passage_free x ((and_parts (is_single_passage x) (are_single xs) s).0)) (text_free xs ((and_parts (is_single_passage x) (are_single xs) s).1))
 
 -- no exception is misplaced
 pub exceptions_kept : (c : Chart) → is_single_chart c ≡ true → IsLeast (IsMisplaced c) None
 exceptions_kept c s = λ q b.
     subst (λ (l : List Place). IsAmong l q)
-    (both_none (gathered inner_exceptions (chart_text c)) (outer_exceptions (instances c) c.content) (text_free (chart_text c) s) (content_placed (instances c) c.content (content_single c s))) b
+    (both_nil (gathered inner_exceptions (chart_text c)) (outer_exceptions (instances c) c.content) (text_free (chart_text c) s) (content_placed (instances c) c.content (content_single c s))) b

@@ -8,10 +8,10 @@ use Rattle.msc_base.specs.declared.limits.TheConstants.Limits.{CHARTS, TOTAL_SIZ
 use Rattle.msc_base.specs.declared.place.Place.{Place}
 use Rattle.msc_base.proofs.PlaceFacts.{no_later_through}
 use Rattle.msc_base.proofs.Narrowing.{IsReached, Narrows, earliest_is, narrows_end, narrows_part, narrows_rest, narrows_step}
+use Rattle.list_facts.proofs.Reading.{drop_read, drop_end}
 use Rattle.msc_tree.specs.Charts.{Chart}
 use Rattle.msc_tree.specs.Views.{chart_view}
 use Rattle.msc_tree.specs.declared.chart.RawChart.{RawChart}
-use Rattle.level_pieces.proofs.Walks.{drop_read}
 use Rattle.chart_forms.specs.ChartSizes.{size_of}
 use Rattle.chart_text.specs.WellFormed.{AreAllWellFormed, IsWellFormed}
 use Rattle.chart_forms.specs.NotBuilt.{IsBuilt, IsNotBuilt}
@@ -20,12 +20,6 @@ use Rattle.msc_acceptance.specs.Rules.{InOne, IsFurther, PassesTotal, passes}
 
 pub split : (list : List RawChart) (k : ℕ) (c : RawChart) → k < length list → c ≡ get_or list k c → map chart_view (drop k list) ≡ chart_view c ∷ map chart_view (drop (k + 1) list)
 split list k c low is = ap (map chart_view) (drop_read list k c low is)
-
-drop_end : {A : Type 0} (list : List A) (i : ℕ) → (i < length list → ⊥) → drop i list ≡ []
-drop_end [] zero n = refl
-drop_end [] (suc i) n = refl
-drop_end (x ∷ list) zero n = absurd (n (omega arith))
-drop_end (x ∷ list) (suc i) n = drop_end list i (λ l. n (omega arith))
 
 pub ended : (list : List RawChart) (k : ℕ) → (k < length list → ⊥) → map chart_view (drop k list) ≡ []
 ended list k n = ap (map chart_view) (drop_end list k n)

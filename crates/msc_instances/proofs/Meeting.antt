@@ -11,29 +11,9 @@ use Rattle.msc_instances.specs.declared.again.PartKey.{PartKey}
 use Rattle.msc_instances.specs.contracts.again.PartKeyPartialEq.TheImpl.{eq-value}
 use Rattle.msc_instances.specs.Meetings.{HasName, HasPart, HasKey, Knows}
 use Rattle.msc_instances.specs.Parts.{NamedPart, Clashes, ExcludeEachOther}
-use Rattle.msc_base.proofs.NameFacts.{one_from_any}
+use Rattle.list_facts.proofs.Tables.{among_with_name}
 
 -- ---- one name more
-
-one_snoc : (names : List (List ℕ)) (m n : List ℕ) → IsAmong (names ++ m ∷ []) n → (n ≡ m) ⊎ IsAmong names n
-one_snoc [] m n (inl e) = inl e
-one_snoc [] m n (inr h) = absurd h
-one_snoc (w ∷ ws) m n (inl e) = inr (inl e)
-one_snoc (w ∷ ws) m n (inr h) = elim (one_snoc ws m n h) [ inl e ↦ inl e | inr r ↦ inr (inr r) ]
-
-snoc_one : (names : List (List ℕ)) (m n : List ℕ) → (n ≡ m) ⊎ IsAmong names n → IsAmong (names ++ m ∷ []) n
-snoc_one [] m n (inl e) = inl e
-snoc_one [] m n (inr h) = absurd h
-snoc_one (w ∷ ws) m n (inl e) = inr (snoc_one ws m n (inl e))
-snoc_one (w ∷ ws) m n (inr (inl e)) = inl e
-snoc_one (w ∷ ws) m n (inr (inr h)) = inr (snoc_one ws m n (inr h))
-
-one_with : (names : List (List ℕ)) (m n : List ℕ) → IsAmong (with_name names m) n ↔ ((n ≡ m) ⊎ IsAmong names n)
-one_with names m n = by (list_any (bytes_eq m) names) refl
-  where
-    by : (b : Bool) → list_any (bytes_eq m) names ≡ b → IsAmong (cond b names (names ++ m ∷ [])) n ↔ ((n ≡ m) ⊎ IsAmong names n)
-    by true e = (λ h. inr h, λ s. elim s [ inl is ↦ subst (IsAmong names) (sym is) (one_from_any names m e) | inr h ↦ h ])
-    by false e = (one_snoc names m n, snoc_one names m n)
 
 -- ---- one key more
 
@@ -93,12 +73,12 @@ pub knows_outside : (old new : Met) (before : List NamedPart) (part : NamedPart)
     → new.names ≡ with_name old.names name → new.outside ≡ with_name old.outside name → new.inside.keys ≡ old.inside.keys → Knows new (part ∷ before)
 knows_outside old new before part name k is none names outside inside = record {
   names = λ n. (
-    λ h. elim ((one_with old.names name n).0 (subst (λ (ns : List (List ℕ)). IsAmong ns n) names h)) [ inl e ↦ inl (is ∙ sym e) | inr r ↦ inr ((k.names n).0 r) ],
-    λ h. subst (λ (ns : List (List ℕ)). IsAmong ns n) (sym names) ((one_with old.names name n).1 (elim h [ inl e ↦ inl (sym e ∙ is) | inr r ↦ inr ((k.names n).1 r) ])),
+    λ h. elim ((among_with_name old.names name n).0 (subst (λ (ns : List (List ℕ)). IsAmong ns n) names h)) [ inl e ↦ inl (is ∙ sym e) | inr r ↦ inr ((k.names n).0 r) ],
+    λ h. subst (λ (ns : List (List ℕ)). IsAmong ns n) (sym names) ((among_with_name old.names name n).1 (elim h [ inl e ↦ inl (sym e ∙ is) | inr r ↦ inr ((k.names n).1 r) ])),
   );
   outside = λ n. (
-    λ h. elim ((one_with old.outside name n).0 (subst (λ (ns : List (List ℕ)). IsAmong ns n) outside h)) [ inl e ↦ inl (is ∙ sym e, none) | inr r ↦ inr ((k.outside n).0 r) ],
-    λ h. subst (λ (ns : List (List ℕ)). IsAmong ns n) (sym outside) ((one_with old.outside name n).1 (elim h [ inl e ↦ inl (sym e.0 ∙ is) | inr r ↦ inr ((k.outside n).1 r) ])),
+    λ h. elim ((among_with_name old.outside name n).0 (subst (λ (ns : List (List ℕ)). IsAmong ns n) outside h)) [ inl e ↦ inl (is ∙ sym e, none) | inr r ↦ inr ((k.outside n).0 r) ],
+    λ h. subst (λ (ns : List (List ℕ)). IsAmong ns n) (sym outside) ((among_with_name old.outside name n).1 (elim h [ inl e ↦ inl (sym e.0 ∙ is) | inr r ↦ inr ((k.outside n).1 r) ])),
   );
   inside = λ n c. (
     λ h. inr ((k.inside n c).0 (subst (λ (ks : List PartKey). HasKey ks n c) inside h)),
@@ -115,8 +95,8 @@ pub knows_inside : (old new : Met) (before : List NamedPart) (part : NamedPart) 
     → new.inside.keys ≡ cond (list_any (eq-value.it key) old.inside.keys) old.inside.keys (old.inside.keys ++ key ∷ []) → Knows new (part ∷ before)
 knows_inside old new before part name column key k is some key_name key_column names outside inside = record {
   names = λ n. (
-    λ h. elim ((one_with old.names name n).0 (subst (λ (ns : List (List ℕ)). IsAmong ns n) names h)) [ inl e ↦ inl (is ∙ sym e) | inr r ↦ inr ((k.names n).0 r) ],
-    λ h. subst (λ (ns : List (List ℕ)). IsAmong ns n) (sym names) ((one_with old.names name n).1 (elim h [ inl e ↦ inl (sym e ∙ is) | inr r ↦ inr ((k.names n).1 r) ])),
+    λ h. elim ((among_with_name old.names name n).0 (subst (λ (ns : List (List ℕ)). IsAmong ns n) names h)) [ inl e ↦ inl (is ∙ sym e) | inr r ↦ inr ((k.names n).0 r) ],
+    λ h. subst (λ (ns : List (List ℕ)). IsAmong ns n) (sym names) ((among_with_name old.names name n).1 (elim h [ inl e ↦ inl (sym e ∙ is) | inr r ↦ inr ((k.names n).1 r) ])),
   );
   outside = λ n. (
     λ h. inr ((k.outside n).0 (subst (λ (ns : List (List ℕ)). IsAmong ns n) outside h)),

@@ -1,9 +1,10 @@
 -- Steps of the walks that look for a name that stands again.
-use Rattle.std.proofs.Common.{◌≡◌, ◌⊎◌, inl, inr, ℕ, ◌<◌, ◌+◌, zero, suc, Bool, true, List, [], ◌∷◌, Option, Some, map, drop, get_or, length, arith, sym, refl, subst, ap, ◌∙◌}
+use Rattle.std.proofs.Common.{◌≡◌, ◌⊎◌, inl, inr, ℕ, ◌<◌, ◌+◌, suc, Bool, true, List, [], ◌∷◌, Option, Some, map, drop, get_or, length, arith, sym, refl, subst, ap, ◌∙◌}
 use Rattle.std.proofs.Math.Seq.{drop-cons}
 use Rattle.msc_base.specs.declared.place.Place.{Place}
 use Rattle.msc_base.specs.Places.{IsLeast, earliest_if}
 use Rattle.msc_base.proofs.Narrowing.{Narrows, IsReached, narrows_step, narrows_end, narrows_part}
+use Rattle.list_facts.proofs.Reading.{drop_read, drop_end}
 use Rattle.msc_instances.specs.declared.again.Met.{Met}
 use Rattle.msc_instances.specs.declared.parts.NamedPart.{NamedPart}
 use Rattle.msc_instances.specs.Meetings.{Knows}
@@ -28,18 +29,13 @@ onward_start so_far all met k = record {
   };
 }
 
-split : (list : List NamedPart) (i : ℕ) (item : NamedPart) → i < length list → item ≡ get_or list i item → drop i list ≡ item ∷ drop (i + 1) list
-split list i item low is =
-    let e : suc i ≡ i + 1 = omega arith in
-    drop-cons list i item low ∙ ap (λ (t : NamedPart). t ∷ drop (suc i) list) (sym is) ∙ ap (λ (n : ℕ). item ∷ drop n list) e
-
 pub onward_step : (so_far : Option Place) (all : List plain.NamedPart) (list : List NamedPart) (i : ℕ) (item : NamedPart) (met after : Met) (best next : Option Place) (b : Bool)
     → IsOnward so_far all (map part_view (drop i list)) met best → i < length list → item ≡ get_or list i item
     → ((before : List plain.NamedPart) → Knows met before → (b ≡ true → Clashes before (part_view item)) × (Clashes before (part_view item) → b ≡ true))
     → ((before : List plain.NamedPart) → Knows met before → Knows after (part_view item ∷ before))
     → next ≡ earliest_if b best item.place → IsOnward so_far all (map part_view (drop (i + 1) list)) after next
 onward_step so_far all list i item met after best next b k low is told kept made =
-    let rest : map part_view (drop i list) ≡ part_view item ∷ map part_view (drop (i + 1) list) = ap (map part_view) (split list i item low is) in
+    let rest : map part_view (drop i list) ≡ part_view item ∷ map part_view (drop (i + 1) list) = ap (map part_view) (drop_read list i item low is) in
     let now : Narrows (λ p. (so_far ≡ Some p) ⊎ NamesAgain [] all p) (NamesAgain k.before (part_view item ∷ map part_view (drop (i + 1) list))) best =
     subst (λ (ns : List plain.NamedPart). Narrows (λ p. (so_far ≡ Some p) ⊎ NamesAgain [] all p) (NamesAgain k.before ns) best) rest k.narrows in
     let t = told k.before k.knows in
@@ -60,18 +56,10 @@ pub levels_step : (all list : List (List plain.NamedPart)) (i : ℕ) (level : Li
     → Narrows (SomeNamesAgain all) (SomeNamesAgain (drop i list)) best → i < length list → level ≡ get_or list i level
     → IsLeast (λ p. (best ≡ Some p) ⊎ NamesAgain [] level p) next → Narrows (SomeNamesAgain all) (SomeNamesAgain (drop (i + 1) list)) next
 levels_step all list i level best next k low is least =
-    let e : suc i ≡ i + 1 = omega arith in
-    let rest : drop i list ≡ level ∷ drop (i + 1) list =
-    drop-cons list i level low ∙ ap (λ (t : List plain.NamedPart). t ∷ drop (suc i) list) (sym is) ∙ ap (λ (n : ℕ). level ∷ drop n list) e in
+    let rest : drop i list ≡ level ∷ drop (i + 1) list = drop_read list i level low is in
     let now : Narrows (SomeNamesAgain all) (SomeNamesAgain (level ∷ drop (i + 1) list)) best =
     subst (λ (ls : List (List plain.NamedPart)). Narrows (SomeNamesAgain all) (SomeNamesAgain ls) best) rest k in
     narrows_part (SomeNamesAgain all) (NamesAgain [] level) (SomeNamesAgain (drop (i + 1) list)) best next now least
-
-drop_end : {A : Type 0} (list : List A) (i : ℕ) → (i < length list → ⊥) → drop i list ≡ []
-drop_end [] zero n = refl
-drop_end [] (suc i) n = refl
-drop_end (x ∷ list) zero n = absurd (n (omega arith))
-drop_end (x ∷ list) (suc i) n = drop_end list i (λ l. n (omega arith))
 
 pub parts_end : (so_far : Option Place) (list : List NamedPart) (i : ℕ) (met : Met) (best : Option Place) → IsOnward so_far (map part_view list) (map part_view (drop i list)) met best → (i < length list → ⊥)
     → IsLeast (λ p. (so_far ≡ Some p) ⊎ NamesAgain [] (map part_view list) p) best

@@ -1,7 +1,8 @@
 -- What the lexer answers of the bytes that it was fed.
-use Rattle.std.proofs.Common.{◌≡◌, ◌<◌, ◌^◌, ◌||◌, Bool, true, false, cond, nat_lt, List, ℕ, length, ◌++◌, [], ◌∷◌, Option, Some, None, Result, Ok, Err, IfOk, IfErr, MatchResult, All, arith, sym, refl, ap, ◌∙◌, append-nil, subst, length-append, IfSome, ◌+◌}
+use Rattle.std.proofs.Common.{◌≡◌, ◌<◌, ◌^◌, Bool, true, false, cond, nat_lt, List, ℕ, length, ◌++◌, [], ◌∷◌, Option, Some, None, Result, Ok, Err, IfOk, IfErr, MatchResult, All, arith, sym, refl, ap, ◌∙◌, append-nil, subst, length-append, IfSome, ◌+◌}
 use Rattle.std.specs.Prelude.{fold}
 use Rattle.std.proofs.lemmas.List.Elements.{All-nil, All-cons}
+use Rattle.std.proofs.lemmas.Bool.{or_right}
 use Rattle.msc_base.specs.declared.limits.TheConstants.Limits.{NAME_BYTES}
 use Rattle.msc_base.specs.declared.place.Place.{Place}
 use Rattle.msc_tokens.specs.declared.token.Token.{Token}
@@ -68,12 +69,6 @@ fold_more s (x ∷ xs) ys = fold_more (step s x) xs ys
 answer_more : (bytes more : List ℕ) → answer first_state (bytes ++ more) ≡ answer (state_of bytes) more
 answer_more bytes more = ap (λ (s : State). ended s.mode s) (fold_more first_state bytes more)
 
-some_same : (f g : LexFault) (o : Option LexFault) → o ≡ Some f → o ≡ Some g → f ≡ g
-some_same f g o e d = cc
-
-none_some : (f : LexFault) (o : Option LexFault) → o ≡ None → o ≡ Some f → ⊥
-none_some f o e d = cc
-
 -- where a fault stands, no byte takes it away
 fault_stays : (m : Mode) (f : LexFault) (more : List ℕ) (st : Place) (tx : List ℕ) (pl : Place) (tk : List Token) → settled m st ≡ Some f
     → answer (stand m st tx pl tk) more ≡ Err f
@@ -90,13 +85,9 @@ fault_stays mode.Note f more st tx pl tk e = cc
 fault_stays mode.Star f more st tx pl tk e = cc
 fault_stays mode.Mark f more st tx pl tk e = cc
 
-or_true : (a b : Bool) → b ≡ true → (a || b) ≡ true
-or_true true b e = refl
-or_true false b e = e
-
 letter_more : (bs : List ℕ) → has_letter (bs ++ 97 ∷ []) ≡ true
 letter_more [] = refl
-letter_more (b ∷ bs) = or_true (is_letter_or_digit b) (has_letter (bs ++ 97 ∷ [])) (letter_more bs)
+letter_more (b ∷ bs) = or_right (is_letter_or_digit b) (has_letter (bs ++ 97 ∷ [])) (letter_more bs)
 
 -- the fault of all texts that go on from here
 abbrev IsFinal : State → LexFault → Type 0

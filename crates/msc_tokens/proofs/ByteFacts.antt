@@ -3,6 +3,7 @@ use Rattle.std.proofs.Common.{◌≡◌, ℕ, Bool, true, false, cond, ◌==◌,
 use Rattle.std.specs.Bool.{Decides}
 use Rattle.std.proofs.lemmas.Bool.Decides.{nat_tests}
 use Rattle.std.proofs.lemmas.List.Folds.{Any-from_list_any, list_any-from_Any}
+use Rattle.std.proofs.lemmas.Bool.{true≢false}
 use Rattle.msc_base.specs.Names.{IsLetterOrDigit, IsWordByte, is_letter_or_digit, is_word_byte}
 use Rattle.msc_tokens.specs.declared.byte_class.ByteClass.{ByteClass}
 use Rattle.msc_tokens.specs.declared.byte_class.ByteClass.TheVariants as class
@@ -33,11 +34,8 @@ pub test_false : (r : Bool) (P : Type 0) → Decides r P → (P → ⊥) → r �
 test_false true P d free = absurd (free (d.0 refl))
 test_false false P d free = refl
 
-true_false : true ≡ false → ⊥
-true_false e = cc
-
 pub not_when_false : (r : Bool) (P : Type 0) → Decides r P → r ≡ false → P → ⊥
-not_when_false r P d e h = true_false (sym (d.1 h) ∙ e)
+not_when_false r P d e h = true≢false (sym (d.1 h) ∙ e)
 
 abbrev Tells : ByteClass → Bool → Bool → Bool → Bool → Bool → Type 0
 Tells class.Blank b1 b2 b3 b4 b5 = b1 ≡ true

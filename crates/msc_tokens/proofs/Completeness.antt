@@ -1,6 +1,7 @@
 -- What a text is, the machine answers.
-use Rattle.std.proofs.Common.{◌+◌, ◌≡◌, ◌==◌, ◌≤◌, Bool, true, false, cond, List, ℕ, length, ◌++◌, [], ◌∷◌, Result, Ok, Err, Any, arith, sym, refl, ap, ap₂, ◌∙◌, append_assoc, append-nil, subst}
+use Rattle.std.proofs.Common.{◌+◌, ◌≡◌, ◌==◌, ◌≤◌, Bool, false, cond, List, ℕ, length, ◌++◌, [], ◌∷◌, Result, Ok, Err, Any, arith, sym, refl, ap, ap₂, ◌∙◌, append_assoc, append-nil, subst}
 use Rattle.std.proofs.lemmas.List.Elements.{All-head, All-tail}
+use Rattle.std.proofs.lemmas.Bool.{false≢true}
 use Rattle.msc_base.specs.declared.limits.TheConstants.Limits.{NAME_BYTES}
 use Rattle.msc_base.specs.declared.place.Place.{Place}
 use Rattle.msc_base.specs.Names.{IsWord, IsWordByte, IsLetterOrDigit}
@@ -48,13 +49,10 @@ slash_fails (c ∷ rest) st tx pl tk free =
     (test_false (c == 42) (c ≡ 42) (equal_test c 42) free)
     ∙ bad_stays rest pl (47 ∷ []) (after_byte pl 47) tk
 
-no_true : false ≡ true → ⊥
-no_true e = cc
-
 takes_note : (bs rest : List ℕ) (st : Place) (tx : List ℕ) (pl : Place) (tk : List Token) → IsNoted bs → Takes (Note bs) rest st tx pl tk
 takes_note bs rest st tx pl tk h =
     let inside : Place = past pl (47 ∷ 42 ∷ []) in
-    let more = note_runs bs (42 ∷ 47 ∷ rest) false pl (47 ∷ []) inside tk h (λ e. absurd (no_true e)) in (
+    let more = note_runs bs (42 ∷ 47 ∷ rest) false pl (47 ∷ []) inside tk h (λ e. absurd (false≢true e)) in (
       pl,
       47 ∷ [],
       slash_begins ((bs ++ 42 ∷ 47 ∷ []) ++ rest) st tx pl tk
@@ -156,7 +154,7 @@ break_answer rest f st tx pl tk (open_string ps is are f_is) =
     ∙ parts_run ps [] pl (39 ∷ []) (after_byte pl 39) tk are
     ∙ ap refused_as (sym f_is)
 break_answer rest f st tx pl tk (open_note bs is noted f_is) =
-    let more = note_runs bs [] false pl (47 ∷ []) (past pl (47 ∷ 42 ∷ [])) tk noted (λ e. absurd (no_true e)) in
+    let more = note_runs bs [] false pl (47 ∷ []) (past pl (47 ∷ 42 ∷ [])) tk noted (λ e. absurd (false≢true e)) in
     ap (λ (bytes : List ℕ). answer (stand mode.Between st tx pl tk) bytes) (is ∙ ap (λ (bytes : List ℕ). 47 ∷ 42 ∷ bytes) (sym (append-nil bs)))
     ∙ slash_begins (bs ++ []) st tx pl tk
     ∙ more.1
@@ -169,7 +167,7 @@ break_answer rest f st tx pl tk (bad_in_string ps b behind is are outside f_is) 
     ∙ string_breaks b behind pl (39 ∷ held ps) (past pl (39 ∷ held ps)) tk outside
     ∙ ap refused_as (sym f_is)
 break_answer rest f st tx pl tk (bad_in_note bs b behind is noted outside f_is) =
-    let more = note_runs bs (b ∷ behind) false pl (47 ∷ []) (past pl (47 ∷ 42 ∷ [])) tk noted (λ e. absurd (no_true e)) in
+    let more = note_runs bs (b ∷ behind) false pl (47 ∷ []) (past pl (47 ∷ 42 ∷ [])) tk noted (λ e. absurd (false≢true e)) in
     ap (λ (bytes : List ℕ). answer (stand mode.Between st tx pl tk) bytes) is
     ∙ slash_begins (bs ++ b ∷ behind) st tx pl tk
     ∙ more.1

@@ -1,37 +1,15 @@
 -- The columns in which the parts of an item stand, and names that are among them.
-use Rattle.std.proofs.Common.{◌≡◌, ◌↔◌, ◌⊎◌, inl, inr, ◌<◌, ◌≤◌, ◌+◌, ℕ, Bool, true, false, cond, Option, Some, Result, Ok, Err, OnOk, List, [], ◌∷◌, ◌++◌, drop, get_or, length, map, refl, sym, ap, subst, ◌∙◌, arith}
-use Rattle.std.specs.List.{list_any}
-use Rattle.std.specs.Str.{bytes_eq}
-use Rattle.msc_base.proofs.NameFacts.{one_from_any}
+use Rattle.std.proofs.Common.{◌≡◌, ◌↔◌, ◌⊎◌, inl, inr, ◌<◌, ◌≤◌, ◌+◌, ℕ, Option, Some, Result, Ok, Err, OnOk, List, [], ◌∷◌, drop, get_or, length, map, refl, sym, ap, subst, ◌∙◌, arith}
 use Rattle.msc_base.specs.Lists.{IsAmong}
 use Rattle.msc_base.specs.NameTables.{with_name}
+use Rattle.list_facts.proofs.Reading.{drop_read, drop_end}
+use Rattle.list_facts.proofs.Tables.{among_with_name}
 use Rattle.msc_meaning.specs.Pieces.{Piece}
 use Rattle.level_pieces.specs.PieceViews.{piece_view}
 use Rattle.level_pieces.specs.declared.pieces.Piece as code
-use Rattle.level_pieces.proofs.Walks.{drop_end, drop_read}
 use Rattle.shared_parts.specs.Sharing.{AllAmong, AllCover, OneCoversOthers, OneIsMissing, StandsOne}
 
 -- ---- one name more
-
-one_snoc : (names : List (List ℕ)) (m n : List ℕ) → IsAmong (names ++ m ∷ []) n → (n ≡ m) ⊎ IsAmong names n
-one_snoc [] m n (inl e) = inl e
-one_snoc [] m n (inr h) = absurd h
-one_snoc (w ∷ ws) m n (inl e) = inr (inl e)
-one_snoc (w ∷ ws) m n (inr h) = elim (one_snoc ws m n h) [ inl e ↦ inl e | inr r ↦ inr (inr r) ]
-
-snoc_one : (names : List (List ℕ)) (m n : List ℕ) → (n ≡ m) ⊎ IsAmong names n → IsAmong (names ++ m ∷ []) n
-snoc_one [] m n (inl e) = inl e
-snoc_one [] m n (inr h) = absurd h
-snoc_one (w ∷ ws) m n (inl e) = inr (snoc_one ws m n (inl e))
-snoc_one (w ∷ ws) m n (inr (inl e)) = inl e
-snoc_one (w ∷ ws) m n (inr (inr h)) = inr (snoc_one ws m n (inr h))
-
-one_with : (names : List (List ℕ)) (m n : List ℕ) → IsAmong (with_name names m) n ↔ ((n ≡ m) ⊎ IsAmong names n)
-one_with names m n = by (list_any (bytes_eq m) names) refl
-  where
-    by : (b : Bool) → list_any (bytes_eq m) names ≡ b → IsAmong (cond b names (names ++ m ∷ [])) n ↔ ((n ≡ m) ⊎ IsAmong names n)
-    by true e = (λ h. inr h, λ s. elim s [ inl is ↦ subst (IsAmong names) (sym is) (one_from_any names m e) | inr h ↦ h ])
-    by false e = (one_snoc names m n, snoc_one names m n)
 
 some_same : (a b : List ℕ) → Some a ≡ Some b → b ≡ a
 some_same a b e = cc
@@ -40,8 +18,8 @@ pub column_added : {A E : Type 0} (result : Result A E) (old new : List (List �
     → OnOk result ((i : List ℕ) → IsAmong new i ↔ (IsAmong old i ⊎ (column ≡ Some i)))
 column_added (Err e) old new bytes name column h read stands = h
 column_added (Ok a) old new bytes name column h read stands = λ i. (
-  λ g. elim ((one_with old bytes i).0 (subst (λ (l : List (List ℕ)). IsAmong l i) h g)) [ inl e ↦ inr (stands ∙ ap Some (sym read ∙ sym e)) | inr o ↦ inl o ],
-  λ g. subst (λ (l : List (List ℕ)). IsAmong l i) (sym h) ((one_with old bytes i).1 (elim g [ inl o ↦ inr o | inr e ↦ inl (some_same name i (sym stands ∙ e) ∙ sym read) ])),
+  λ g. elim ((among_with_name old bytes i).0 (subst (λ (l : List (List ℕ)). IsAmong l i) h g)) [ inl e ↦ inr (stands ∙ ap Some (sym read ∙ sym e)) | inr o ↦ inl o ],
+  λ g. subst (λ (l : List (List ℕ)). IsAmong l i) (sym h) ((among_with_name old bytes i).1 (elim g [ inl o ↦ inr o | inr e ↦ inl (some_same name i (sym stands ∙ e) ∙ sym read) ])),
 )
 
 -- ---- walks over the parts behind the first

@@ -1,13 +1,15 @@
 -- Where a level breaks a rule on parts: by its items, and by the levels of their operands.
-use Rattle.std.proofs.Common.{◌≡◌, ◌↔◌, ◌⊎◌, inl, inr, ◌<◌, ◌≤◌, ◌+◌, ℕ, zero, suc, Bool, true, false, cond, Option, None, Some, List, [], ◌∷◌, ◌++◌, length, slice_get, refl, sym, ap, ap₂, subst, ◌∙◌, arith}
+use Rattle.std.proofs.Common.{◌≡◌, ◌↔◌, inl, inr, ◌<◌, ◌+◌, ℕ, zero, suc, Bool, true, false, cond, None, Some, List, [], ◌∷◌, ◌++◌, length, slice_get, refl, sym, ap, ap₂, subst, ◌∙◌, arith}
+use Rattle.std.proofs.lemmas.Bool.{cases_lt}
 use Rattle.msc_base.specs.Lists.{IsAmong}
 use Rattle.msc_base.specs.declared.place.Place.{Place}
-use Rattle.msc_tree.specs.Statements.{Form, Single, Coregion, Condition, Inline, Refer, Stop, Operands, no_operands, operand_and}
-use Rattle.msc_meaning.specs.LevelItems.{cover_by, cover_of, is_item, is_joined, is_part_of, level_items, name_of, shared_of, with_piece, with_pieces}
-use Rattle.msc_meaning.specs.Levels.{operand_number}
-use Rattle.msc_meaning.specs.Pieces.{Piece, operand_at, operand_count, operand_of, operands_of}
-use Rattle.level_pieces.specs.ItemOperands.{AreOperands, HaveAtMost, operand_lists, operands_in}
-use Rattle.level_pieces.specs.ItemParts.{AreInColumns, HasMore, has_events}
+use Rattle.level_pieces.proofs.ItemLaws.{parts_named, parts_in_columns}
+use Rattle.level_pieces.proofs.NoOperands.{none_beyond, no_operand, no_name}
+use Rattle.msc_tree.specs.Statements.{Form, Single, Coregion, Condition, Inline, Refer, Stop}
+use Rattle.msc_meaning.specs.LevelItems.{cover_by, cover_of, is_item, is_part_of, level_items, shared_of, with_piece, with_pieces}
+use Rattle.msc_meaning.specs.Pieces.{Piece, operands_of}
+use Rattle.level_pieces.specs.ItemOperands.{AreOperands, operand_lists}
+use Rattle.level_pieces.specs.ItemParts.{has_events}
 use Rattle.shared_parts.specs.Noting.{AreAllJoined, AreJoined, AreNoted, BreaksAt, DiffersAt, ItemBreaks, OneHolds, PartsBreak, noted}
 use Rattle.shared_parts.specs.PartRules.{BreaksPartRule, here, inside, IsBroken, stands_first, IsUnshared, lacks_own, lacks_part, differs, unnamed}
 use Rattle.shared_parts.specs.declared.faults.PartRule.{PartRule}
@@ -43,24 +45,6 @@ none_breaks rule cover ps q none h = subst (λ (l : List Piece). OneHolds (ItemB
 
 -- ---- the operands of an item
 
-none_at : (cover : List (List ℕ)) (p : Piece) (n k : ℕ) (xs : Operands) → operand_number xs ≤ k → operand_at cover p n k xs ≡ []
-none_at cover p n zero no_operands le = refl
-none_at cover p n (suc k) no_operands le = refl
-none_at cover p n zero (operand_and x xs) le = absurd (omega (arith, le))
-none_at cover p n (suc k) (operand_and x xs) le = none_at cover p (n + operand_count x) k xs (omega (arith, le))
-
-none_of : (cover : List (List ℕ)) (k : ℕ) (p : Piece) (f : Form) → operand_number (operands_in f) ≤ k → operand_of cover k p f ≡ []
-none_of cover k p (Single e) le = refl
-none_of cover k p (Coregion es) le = refl
-none_of cover k p (Condition names shared) le = refl
-none_of cover k p (Inline head held) le = none_at cover p p.first k held le
-none_of cover k p (Refer r) le = refl
-none_of cover k p Stop le = refl
-
-none_beyond : (cover : List (List ℕ)) (n k : ℕ) (parts : List Piece) → HaveAtMost n parts → n ≤ k → operands_of cover k parts ≡ []
-none_beyond cover n k [] h le = refl
-none_beyond cover n k (p ∷ ps) h le = ap₂ (λ (a b : List Piece). a ++ b) (none_of cover k p p.form (omega (arith, h.0, le))) (none_beyond cover n k ps h.1 le)
-
 module _ (rule : PartRule) (cover : List (List ℕ)) (parts : List Piece) (q : Place) where
   some_list : (k n : ℕ) → OneHolds (BreaksPartRule rule cover) (operand_lists cover parts k n) q → (j : ℕ) × BreaksPartRule rule cover (operands_of cover j parts) q
   some_list k zero h = absurd h
@@ -72,16 +56,10 @@ module _ (rule : PartRule) (cover : List (List ℕ)) (parts : List Piece) (q : P
   one_list k (suc n) zero lt h = let z : k + 0 ≡ k = omega arith in inl (subst (λ (m : ℕ). BreaksPartRule rule cover (operands_of cover m parts) q) z h)
   one_list k (suc n) (suc j) lt h = let z : k + suc j ≡ suc k + j = omega arith in inr (one_list (suc k) n j (omega (arith, lt)) (subst (λ (m : ℕ). BreaksPartRule rule cover (operands_of cover m parts) q) z h))
 
-  below : (a b : ℕ) → (a < b) ⊎ (b ≤ a)
-  below zero zero = inr (omega arith)
-  below zero (suc b) = inl (omega arith)
-  below (suc a) zero = inr (omega arith)
-  below (suc a) (suc b) = elim (below a b) [ inl l ↦ inl (omega (arith, l)) | inr g ↦ inr (omega (arith, g)) ]
-
   pub operands_break : (lists : List (List Piece)) → AreOperands cover parts lists → OneHolds (BreaksPartRule rule cover) lists q ↔ ((k : ℕ) × BreaksPartRule rule cover (operands_of cover k parts) q)
   operands_break lists are = (
     λ h. some_list 0 (length lists) (subst (λ (l : List (List Piece)). OneHolds (BreaksPartRule rule cover) l q) are.are h),
-    λ h. elim (below h.0 (length lists)) [
+    λ h. elim (cases_lt h.0 (length lists)) [
       | inl low ↦ subst (λ (l : List (List Piece)). OneHolds (BreaksPartRule rule cover) l q) (sym are.are) (one_list 0 (length lists) h.0 low (let z : h.0 ≡ 0 + h.0 = omega arith in subst (λ (m : ℕ). BreaksPartRule rule cover (operands_of cover m parts) q) z h.1))
       | inr high ↦ absurd (none_breaks rule cover (operands_of cover h.0 parts) q (none_beyond cover (length lists) h.0 parts are.enough high) h.1)
     ],
@@ -89,28 +67,9 @@ module _ (rule : PartRule) (cover : List (List ℕ)) (parts : List Piece) (q : P
 
 -- ---- the items of a level have such parts
 
-joined_first : (c d e f : Option (List ℕ)) → is_joined c d e f ≡ true → f ≡ None → ⊥
-joined_first None d e f h is = cc
-joined_first (Some i) None e f h is = cc
-joined_first (Some i) (Some a) None f h is = cc
-joined_first (Some i) (Some a) (Some j) None h is = cc
-joined_first (Some i) (Some a) (Some j) (Some b) h is = cc
-
-joined_column : (c d e f : Option (List ℕ)) → is_joined c d e f ≡ true → c ≡ None → ⊥
-joined_column None d e f h is = cc
-joined_column (Some i) d e f h is = cc
-
 joined_more : (x : List Piece) (p : Piece) → AreJoined x → is_part_of p x ≡ true → AreJoined (x ++ p ∷ [])
 joined_more [] p g is = absurd g
-joined_more (q ∷ qs) p g is = (named qs, columns qs g.1)
-  where
-    named : (rs : List Piece) → HasMore q (rs ++ p ∷ [])
-    named [] = λ none. joined_first p.column (name_of p.form) q.column (name_of q.form) is none
-    named (r ∷ rs) = λ none. joined_first p.column (name_of p.form) q.column (name_of q.form) is none
-
-    columns : (rs : List Piece) → AreInColumns rs → AreInColumns (rs ++ p ∷ [])
-    columns [] k = (λ none. joined_column p.column (name_of p.form) q.column (name_of q.form) is none, tt)
-    columns (r ∷ rs) k = (k.0, columns rs k.1)
+joined_more (q ∷ qs) p g is = (parts_named q p qs qs is, parts_in_columns q p qs qs is g.1)
 
 joined_with : (xs : List (List Piece)) (p : Piece) → AreAllJoined xs → AreAllJoined (with_piece xs p)
 joined_with [] p g = ((tt, tt), tt)
@@ -138,22 +97,6 @@ joined_at (y ∷ xs) (suc x) parts g at = joined_at xs x parts g.1 at
 
 -- ---- events and coregions
 
-no_name : (f : Form) → has_events f ≡ true → name_of f ≡ None
-no_name (Single e) h = refl
-no_name (Coregion es) h = refl
-no_name (Condition names shared) h = cc
-no_name (Inline head held) h = cc
-no_name (Refer r) h = cc
-no_name Stop h = cc
-
-no_operands_of : (cover : List (List ℕ)) (k : ℕ) (p : Piece) (f : Form) → has_events f ≡ true → operand_of cover k p f ≡ []
-no_operands_of cover k p (Single e) h = refl
-no_operands_of cover k p (Coregion es) h = refl
-no_operands_of cover k p (Condition names shared) h = refl
-no_operands_of cover k p (Inline head held) h = cc
-no_operands_of cover k p (Refer r) h = refl
-no_operands_of cover k p Stop h = refl
-
 no_list : (f : Form) → has_events f ≡ true → shared_of f ≡ None
 no_list (Single e) h = refl
 no_list (Coregion es) h = refl
@@ -180,7 +123,7 @@ event_alone : (rule : PartRule) (level : List (List ℕ)) (p : Piece) (q : Place
 event_alone rule level p q h (inl (inl own)) = event_unbroken rule level p h own.0
 event_alone rule level p q h (inl (inr f)) = absurd f
 event_alone rule level p q h (inr inner) =
-    none_breaks rule (cover_of level p) (operands_of (cover_of level p) inner.0 (p ∷ [])) q (ap (λ (l : List Piece). l ++ []) (no_operands_of (cover_of level p) inner.0 p p.form h)) inner.1
+    none_breaks rule (cover_of level p) (operands_of (cover_of level p) inner.0 (p ∷ [])) q (ap (λ (l : List Piece). l ++ []) (no_operand (cover_of level p) inner.0 p p.form h)) inner.1
 
 -- an event or a coregion breaks no rule
 pub event_keeps : (rule : PartRule) (level : List (List ℕ)) (p : Piece) (ps : List Piece) (q : Place) → AreJoined (p ∷ ps) → has_events p.form ≡ true → ItemBreaks rule level (p ∷ ps) q → ⊥

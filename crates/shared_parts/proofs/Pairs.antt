@@ -1,8 +1,8 @@
 -- Two lists that agree pair by pair, and the walk that compares them.
 use Rattle.std.proofs.Common.{◌≡◌, ◌↔◌, ◌<◌, ◌≤◌, ◌+◌, ℕ, suc, IsTrue, true, false, List, [], ◌∷◌, drop, get_or, length, map, refl, sym, ap, ap₂, subst, ◌∙◌, arith}
 use Rattle.std.specs.Bool.{⊤}
+use Rattle.list_facts.proofs.Reading.{drop_read, drop_end}
 use Rattle.msc_tree.specs.declared.reference.Join.{Join}
-use Rattle.level_pieces.proofs.Walks.{drop_end, drop_read}
 use Rattle.shared_parts.specs.PartRules.{AreAlikeJoins}
 
 -- they are as long, and each two at one place agree

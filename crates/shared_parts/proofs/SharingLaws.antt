@@ -1,6 +1,6 @@
 -- Which parts of an item aren't shared, by what the parts have in common.
 use Rattle.std.proofs.Common.{◌≡◌, ◌↔◌, ◌⊎◌, inl, inr, ◌&&◌, ◌||◌, ℕ, Bool, IsTrue, true, false, not, Option, None, Some, List, [], ◌∷◌, refl, sym, ap, subst, ◌∙◌}
-use Rattle.std.proofs.lemmas.Bool.{or_cases, or_left, or_right, and_parts, true≢false}
+use Rattle.std.proofs.lemmas.Bool.{or_cases, or_left, or_right, and_parts, true≢false, not-true, not_from_false, false_from_ne_true, and_from}
 use Rattle.std.proofs.lemmas.Slice.Eq.{bytes_eq-Decides}
 use Rattle.std.specs.List.{list_any}
 use Rattle.std.specs.Str.{bytes_eq}
@@ -62,23 +62,6 @@ nameless : (name : Option (List ℕ)) → lacks_name name ≡ true → name ≡ 
 nameless None h = refl
 nameless (Some n) h = absurd (true≢false (sym h))
 
-not_true : (b : Bool) → not b ≡ true → b ≡ false
-not_true true h = absurd (true≢false (sym h))
-not_true false h = refl
-
-true_not : (b : Bool) → b ≡ false → not b ≡ true
-true_not true h = absurd (true≢false h)
-true_not false h = refl
-
-absent : (b : Bool) → (b ≡ true → ⊥) → b ≡ false
-absent true none = absurd (none refl)
-absent false none = refl
-
-both_true : (a b : Bool) → a ≡ true → b ≡ true → (a && b) ≡ true
-both_true true true e f = refl
-both_true true false e f = f
-both_true false b e f = e
-
 -- ---- a part
 
 module _ (level names : List (List ℕ)) (start : Piece) (others : List Piece) (s : Sharing) (covers : names ≡ cover_of level start) (is : IsSharing level names (start ∷ others) s) (p : Piece) (at : IsAmong (start ∷ others) p) where
@@ -99,7 +82,7 @@ module _ (level names : List (List ℕ)) (start : Piece) (others : List Piece) (
   own_unshared : (column : List ℕ) → p.column ≡ Some column → AllCover level names (start ∷ others) → not (list_any (bytes_eq column) s.names) ≡ true → IsUnshared level (start ∷ others) p
   own_unshared column stands all h =
       lacks_own column stands (λ own. true≢false (
-      sym (is.names_are column ∙ any_from_one names column (subst (λ (l : List (List ℕ)). IsAmong l column) (cover_at level names (start ∷ others) p all at) own)) ∙ not_true (list_any (bytes_eq column) s.names) h))
+      sym (is.names_are column ∙ any_from_one names column (subst (λ (l : List (List ℕ)). IsAmong l column) (cover_at level names (start ∷ others) p all at) own)) ∙ not-true (list_any (bytes_eq column) s.names) h))
 
   unnamed_unshared : (column : List ℕ) → p.column ≡ Some column → AllCover level names (start ∷ others) → (s.several && lacks_name (name_of p.form)) ≡ true → IsUnshared level (start ∷ others) p
   unnamed_unshared column stands all h =
@@ -126,8 +109,7 @@ module _ (level names : List (List ℕ)) (start : Piece) (others : List Piece) (
   fine all have (lacks_own col stands lacks) column is_column =
       let same : cover_of level p ≡ names = cover_at level names (start ∷ others) p all at in
       let one : col ≡ column = (let e : Some col ≡ Some column = sym stands ∙ is_column in cc) in
-      or_left (not (list_any (bytes_eq column) s.names)) (s.several && lacks_name (name_of p.form)) (true_not (list_any (bytes_eq column) s.names) (absent (list_any (bytes_eq column) s.names)
-      (λ t. lacks (subst (λ (l : List (List ℕ)). IsAmong l col) (sym same) (subst (IsAmong names) (sym one) (one_from_any names column (sym (is.names_are column) ∙ t)))))))
+      or_left (not (list_any (bytes_eq column) s.names)) (s.several && lacks_name (name_of p.form)) (not_from_false (list_any (bytes_eq column) s.names) (false_from_ne_true (list_any (bytes_eq column) s.names) (λ t. lacks (subst (λ (l : List (List ℕ)). IsAmong l col) (sym same) (subst (IsAmong names) (sym one) (one_from_any names column (sym (is.names_are column) ∙ t)))))))
   fine all have (lacks_part col other stands among none) column is_column =
       let same : cover_of level p ≡ names = cover_at level names (start ∷ others) p all at in
       absurd (none (subst (λ (l : List (List ℕ)). HasPart level other l (start ∷ others)) (sym same)
@@ -137,7 +119,7 @@ module _ (level names : List (List ℕ)) (start : Piece) (others : List Piece) (
   fine all have (unnamed col one other rest stands none several) column is_column =
       let same : names ≡ one ∷ other ∷ rest = sym (cover_at level names (start ∷ others) p all at) ∙ several in
       or_right (not (list_any (bytes_eq column) s.names)) (s.several && lacks_name (name_of p.form))
-      (both_true s.several (lacks_name (name_of p.form)) (is.several ∙ ap has_several same) (ap lacks_name none))
+      (and_from s.several (lacks_name (name_of p.form)) (is.several ∙ ap has_several same) (ap lacks_name none))
 
   tells_of : (b : Bool) → Tells b (OneCoversOthers level names (start ∷ others) ⊎ OneHasNoPart names (start ∷ others)) (AllCover level names (start ∷ others) × AllHaveParts names (start ∷ others))
       → IsUnshared level (start ∷ others) p → (column : List ℕ) → p.column ≡ Some column → (b || (not (list_any (bytes_eq column) s.names) || (s.several && lacks_name (name_of p.form)))) ≡ true

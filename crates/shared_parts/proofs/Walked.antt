@@ -1,11 +1,12 @@
 -- Walks that note places.
-use Rattle.std.proofs.Common.{◌≡◌, ◌↔◌, ◌⊎◌, inl, inr, ◌<◌, ◌≤◌, ◌+◌, ℕ, zero, suc, Bool, IsTrue, true, false, Option, Some, List, [], ◌∷◌, ◌++◌, drop, get_or, length, map, slice_get, not, Result, Ok, Err, OnOk, refl, sym, ap, subst, ◌∙◌, arith}
+use Rattle.std.proofs.Common.{◌≡◌, ◌↔◌, ◌⊎◌, inl, inr, ◌<◌, ◌≤◌, ◌+◌, ℕ, zero, suc, Bool, IsTrue, true, false, Option, Some, List, [], ◌∷◌, ◌++◌, drop, get_or, length, map, slice_get, not, refl, sym, ap, subst, ◌∙◌, arith}
 use Rattle.msc_base.specs.Lists.{IsAmong}
 use Rattle.msc_base.specs.Places.{IsLeast}
 use Rattle.msc_base.specs.declared.place.Place.{Place}
+use Rattle.list_facts.proofs.Reading.{drop_read, drop_end}
+use Rattle.list_facts.proofs.Members.{among_either}
 use Rattle.chart_text.specs.Gathering.{place_if}
 use Rattle.level_pieces.proofs.LeastLaws.{least_same}
-use Rattle.level_pieces.proofs.Walks.{drop_end, drop_read}
 use Rattle.shared_parts.specs.Noting.{AreNoted, OneHolds}
 
 -- what is noted, and what is left, is what there was, and all
@@ -40,11 +41,6 @@ module _ {X A : Type 0} (f : X → A) (Holds : A → Place → Type 0) (xs : Lis
 
 -- ---- single places
 
-among_on : {A : Type 0} (xs ys : List A) (x : A) → IsAmong (xs ++ ys) x → IsAmong xs x ⊎ IsAmong ys x
-among_on [] ys x h = inr h
-among_on (y ∷ xs) ys x (inl e) = inl (inl e)
-among_on (y ∷ xs) ys x (inr h) = elim (among_on xs ys x h) [ inl l ↦ inl (inr l) | inr r ↦ inr r ]
-
 on_among : {A : Type 0} (xs ys : List A) (x : A) → IsAmong xs x ⊎ IsAmong ys x → IsAmong (xs ++ ys) x
 on_among [] ys x (inl h) = absurd h
 on_among [] ys x (inr h) = h
@@ -55,11 +51,11 @@ on_among (y ∷ xs) ys x (inr h) = inr (on_among xs ys x (inr h))
 -- the place is noted where the test holds
 pub noted_if : (B : Type 0) (b : Bool) (place : Place) (old new : List Place) → (IsTrue b ↔ B) → new ≡ old ++ place_if b place → AreNoted (λ q. B × (place ≡ q)) old new
 noted_if B true place old new is made q = (
-  λ n. elim (among_on old (place ∷ []) q (subst (λ (l : List Place). IsAmong l q) made n)) [ inl o ↦ inl o | inr here ↦ elim here [ inl e ↦ inr (is.0 refl, sym e) | inr f ↦ absurd f ] ],
+  λ n. elim (among_either old (place ∷ []) q (subst (λ (l : List Place). IsAmong l q) made n)) [ inl o ↦ inl o | inr here ↦ elim here [ inl e ↦ inr (is.0 refl, sym e) | inr f ↦ absurd f ] ],
   λ h. subst (λ (l : List Place). IsAmong l q) (sym made) (on_among old (place ∷ []) q (elim h [ inl o ↦ inl o | inr b ↦ inr (inl (sym b.1)) ])),
 )
 noted_if B false place old new is made q = (
-  λ n. elim (among_on old [] q (subst (λ (l : List Place). IsAmong l q) made n)) [ inl o ↦ inl o | inr f ↦ absurd f ],
+  λ n. elim (among_either old [] q (subst (λ (l : List Place). IsAmong l q) made n)) [ inl o ↦ inl o | inr f ↦ absurd f ],
   λ h. subst (λ (l : List Place). IsAmong l q) (sym made) (on_among old [] q (elim h [ inl o ↦ inl o | inr b ↦ absurd (let e : false ≡ true = is.1 b.0 in cc) ])),
 )
 
@@ -124,7 +120,3 @@ not_tells false h = (λ t p. let e : false ≡ true = h.1 p in cc, λ n. refl)
 
 pub told : {P : Type 0} (b c : Bool) → b ≡ c → (IsTrue c ↔ P) → IsTrue b ↔ P
 told b c e h = (λ t. h.0 (sym e ∙ t), λ p. e ∙ h.1 p)
-
-pub on_ok : {A E : Type 0} (result : Result A E) (P Q : Type 0) → (P → Q) → OnOk result P → OnOk result Q
-on_ok (Ok a) P Q f h = f h
-on_ok (Err e) P Q f h = h

@@ -2,6 +2,7 @@
 use Rattle.std.specs.Prelude.{ℕ, suc, ◌+◌, ◌<◌, ◌≤◌, ◌==◌, ◌&&◌, nat_lt, Bool, true, false, List, [], ◌∷◌, ◌≡◌, length}
 use Rattle.std.proofs.Common.{inl, inr, refl, arith, ap}
 use Rattle.std.proofs.lemmas.Bool.Decides.{Decides-ltb}
+use Rattle.std.proofs.lemmas.Bool.{and_parts, and_from}
 use Rattle.hmsc_graph.specs.Graphs.{Spot, Start, At, Goal, To, End, Any}
 use Rattle.msc_base.specs.Lists.{IsIn}
 use Rattle.term_tables.specs.Fitting.{spot_fits, goal_fits, fits, fits_all, fits_row}
@@ -12,14 +13,6 @@ use Rattle.term_laws.specs.FullSoundness.{IsSpotOf, IsGoalOf, AreNumbersKnown, E
 use Rattle.term_laws.specs.Soundness.{IsKnown}
 use Rattle.sound_terms.specs.FormLaws.{FitsIsKnown}
 use Rattle.sound_terms.proofs.SoundTables.{is_counted}
-
-and_both : (a b : Bool) → (a && b) ≡ true → (a ≡ true) × (b ≡ true)
-and_both true b h = (refl, h)
-and_both false b h = absurd cc
-
-both_and : (a b : Bool) → a ≡ true → b ≡ true → (a && b) ≡ true
-both_and true b h k = k
-both_and false b h k = absurd cc
 
 counted_within : (i m : ℕ) (xs : List Tree) → IsIn m (count_from i xs) → (i ≤ m) × (m < i + length xs)
 counted_within i m [] h = absurd h
@@ -82,20 +75,20 @@ module _ (v : NetsValue) where
     to (Join m xs) h = to_all xs h
     to (Choice xs) h = to_all xs h
     to (Tied x q) h = (to x h, tt)
-    to (Loop x lo hi r) h = let (a, b) = and_both (fits v x) (fits_row v r) h in (to x a, tt, to_row r b)
+    to (Loop x lo hi r) h = let (a, b) = and_parts (fits v x) (fits_row v r) h in (to x a, tt, to_row r b)
     to (Walk n s t c) h =
-        let (a, b) = and_both (nat_lt n (net_count v.tables)) (spot_fits (length (nodes_of v.tables n)) s && goal_fits (length (nodes_of v.tables n)) t) h in
-        let (d, e) = and_both (spot_fits (length (nodes_of v.tables n)) s) (goal_fits (length (nodes_of v.tables n)) t) b in
+        let (a, b) = and_parts (nat_lt n (net_count v.tables)) (spot_fits (length (nodes_of v.tables n)) s && goal_fits (length (nodes_of v.tables n)) t) h in
+        let (d, e) = and_parts (spot_fits (length (nodes_of v.tables n)) s) (goal_fits (length (nodes_of v.tables n)) t) b in
         ((Decides-ltb n (net_count v.tables)).0 a, spot_to v.tables n s d, goal_to v.tables n t e)
 
     to_all : (xs : Trees) → fits_all v xs ≡ true → AllKnown xs
     to_all none h = tt
-    to_all (more x xs) h = let (a, b) = and_both (fits v x) (fits_all v xs) h in (to x a, to_all xs b)
+    to_all (more x xs) h = let (a, b) = and_parts (fits v x) (fits_all v xs) h in (to x a, to_all xs b)
 
     to_row : (r : Row) → fits_row v r ≡ true → RowKnown r
     to_row ends h = tt
     to_row (gap c r) h = to_row r h
-    to_row (turn x r) h = let (a, b) = and_both (fits v x) (fits_row v r) h in (to x a, to_row r b)
+    to_row (turn x r) h = let (a, b) = and_parts (fits v x) (fits_row v r) h in (to x a, to_row r b)
 
   mutual
     from : (x : Tree) → AreNumbersKnown (length v.labels) v.tables x → fits v x ≡ true
@@ -104,19 +97,18 @@ module _ (v : NetsValue) where
     from (Join m xs) h = from_all xs h
     from (Choice xs) h = from_all xs h
     from (Tied x q) h = from x h.0
-    from (Loop x lo hi r) h = both_and (fits v x) (fits_row v r) (from x h.0) (from_row r h.2)
+    from (Loop x lo hi r) h = and_from (fits v x) (fits_row v r) (from x h.0) (from_row r h.2)
     from (Walk n s t c) h =
-        both_and (nat_lt n (net_count v.tables)) (spot_fits (length (nodes_of v.tables n)) s && goal_fits (length (nodes_of v.tables n)) t) ((Decides-ltb n (net_count v.tables)).1 h.0)
-        (both_and (spot_fits (length (nodes_of v.tables n)) s) (goal_fits (length (nodes_of v.tables n)) t) (spot_from v.tables n s h.1) (goal_from v.tables n t h.2))
+        and_from (nat_lt n (net_count v.tables)) (spot_fits (length (nodes_of v.tables n)) s && goal_fits (length (nodes_of v.tables n)) t) ((Decides-ltb n (net_count v.tables)).1 h.0) (and_from (spot_fits (length (nodes_of v.tables n)) s) (goal_fits (length (nodes_of v.tables n)) t) (spot_from v.tables n s h.1) (goal_from v.tables n t h.2))
 
     from_all : (xs : Trees) → AllKnown xs → fits_all v xs ≡ true
     from_all none h = refl
-    from_all (more x xs) h = both_and (fits v x) (fits_all v xs) (from x h.0) (from_all xs h.1)
+    from_all (more x xs) h = and_from (fits v x) (fits_all v xs) (from x h.0) (from_all xs h.1)
 
     from_row : (r : Row) → RowKnown r → fits_row v r ≡ true
     from_row ends h = refl
     from_row (gap c r) h = from_row r h
-    from_row (turn x r) h = both_and (fits v x) (fits_row v r) (from x h.0) (from_row r h.1)
+    from_row (turn x r) h = and_from (fits v x) (fits_row v r) (from x h.0) (from_row r h.1)
 
 pub fits_is_known : FitsIsKnown
 fits_is_known = record { exact = λ v x. record { to = to v x; from = from v x } }

@@ -1,6 +1,8 @@
 -- The numbers of what the normalising constructors make.
 use Rattle.std.specs.Prelude.{ℕ, zero, suc, ◌==◌, ◌||◌, Bool, true, false, List, [], ◌∷◌, ◌++◌, ◌≡◌, Option, Some, None}
 use Rattle.std.proofs.Common.{ap, sym, ◌∙◌, refl}
+use Rattle.std.proofs.lemmas.List.{append-nil, append_assoc}
+use Rattle.std.proofs.lemmas.Option.{same_Some}
 use Rattle.msc_base.specs.Patterns.{Mode, seq, par}
 use Rattle.chart_term.specs.Equality.{same_tree}
 use Rattle.chart_term.specs.NormalForms.{only, open_part, flat, join_of, join_all, open_choice, open_choices, unless_same, without, distinct, choice_form, choice_of, bound_form, kept_pairs, numbers, numbers_all, numbers_row, cut_gaps, drop_nil, at_zero, only_turns, live, live_gap, drop_free, free_gap, is_nil, has_free, lower_of, thin, thin_gap, has_gap, begun, turns_form, tidy}
@@ -12,14 +14,6 @@ use Rattle.term_laws.specs.OneResidual.{AreOnce}
 use Rattle.term_laws.specs.Permission.{permit, permits_of}
 use Rattle.sound_terms.specs.NumberLaws.{list_numbers, IsPartList, part_none, part_keep, part_drop, NumbersAreKept}
 use Rattle.sound_terms.specs.TermRanks.{OnlyGaps, only_none, only_gap}
-
-app_nil : (a : List ℕ) → a ++ [] ≡ a
-app_nil [] = refl
-app_nil (n ∷ a) = ap (λ l. n ∷ l) (app_nil a)
-
-app_assoc : (a b c : List ℕ) → (a ++ b) ++ c ≡ a ++ (b ++ c)
-app_assoc [] b c = refl
-app_assoc (n ∷ a) b c = ap (λ l. n ∷ l) (app_assoc a b c)
 
 -- parts of lists
 part_self : (a : List ℕ) → IsPartList a a
@@ -68,7 +62,7 @@ part_once (part_drop k) (h, i) = part_once k i
 -- lists of terms
 list_app : (a b : List Tree) → list_numbers (a ++ b) ≡ list_numbers a ++ list_numbers b
 list_app [] b = refl
-list_app (x ∷ a) b = ap (λ l. numbers x ++ l) (list_app a b) ∙ sym (app_assoc (numbers x) (list_numbers a) (list_numbers b))
+list_app (x ∷ a) b = ap (λ l. numbers x ++ l) (list_app a b) ∙ sym (append_assoc (numbers x) (list_numbers a) (list_numbers b))
 
 of_items : (xs : Trees) → list_numbers (items xs) ≡ numbers_all xs
 of_items none = refl
@@ -82,12 +76,12 @@ opened : (m : Mode) (x : Tree) → list_numbers (open_part m x) ≡ numbers x
 opened m Nil = refl
 opened m (Event e) = refl
 opened seq (Join seq xs) = of_items xs
-opened seq (Join par xs) = app_nil (numbers_all xs)
-opened par (Join seq xs) = app_nil (numbers_all xs)
+opened seq (Join par xs) = append-nil (numbers_all xs)
+opened par (Join seq xs) = append-nil (numbers_all xs)
 opened par (Join par xs) = of_items xs
-opened m (Choice xs) = app_nil (numbers_all xs)
-opened m (Tied x q) = app_nil (numbers x)
-opened m (Loop x lo hi r) = app_nil (numbers x ++ numbers_row r)
+opened m (Choice xs) = append-nil (numbers_all xs)
+opened m (Tied x q) = append-nil (numbers x)
+opened m (Loop x lo hi r) = append-nil (numbers x ++ numbers_row r)
 opened m (Walk n s t c) = refl
 
 flattened : (m : Mode) (xs : List Tree) → list_numbers (flat m xs) ≡ list_numbers xs
@@ -96,7 +90,7 @@ flattened m (x ∷ xs) = list_app (open_part m x) (flat m xs) ∙ (ap (λ l. l +
 
 joined : (m : Mode) (xs : List Tree) → numbers (join_of m xs) ≡ list_numbers xs
 joined m [] = refl
-joined m (x ∷ []) = sym (app_nil (numbers x))
+joined m (x ∷ []) = sym (append-nil (numbers x))
 joined m (x ∷ y ∷ ys) = of_trees (x ∷ y ∷ ys)
 
 -- choices
@@ -104,9 +98,9 @@ open_one : (x : Tree) → list_numbers (open_choice x) ≡ numbers x
 open_one (Choice xs) = of_items xs
 open_one Nil = refl
 open_one (Event e) = refl
-open_one (Join m xs) = app_nil (numbers_all xs)
-open_one (Tied x q) = app_nil (numbers x)
-open_one (Loop x lo hi r) = app_nil (numbers x ++ numbers_row r)
+open_one (Join m xs) = append-nil (numbers_all xs)
+open_one (Tied x q) = append-nil (numbers x)
+open_one (Loop x lo hi r) = append-nil (numbers x ++ numbers_row r)
 open_one (Walk n s t c) = refl
 
 open_all : (xs : List Tree) → list_numbers (open_choices xs) ≡ list_numbers xs
@@ -125,13 +119,10 @@ distinct_part : (xs : List Tree) → IsPartList (list_numbers (distinct xs)) (li
 distinct_part [] = part_none
 distinct_part (x ∷ xs) = part_behind (numbers x) (part_on (list_numbers xs) (without_part x (distinct xs)) (distinct_part xs))
 
-some_is : (x y : Tree) → Some x ≡ Some y → x ≡ y
-some_is x y e = cc
-
 chosen : (xs : List Tree) (y : Tree) → choice_form xs ≡ Some y → numbers y ≡ list_numbers xs
 chosen [] y e = absurd cc
-chosen (x ∷ []) y e = ap numbers (sym (some_is x y e)) ∙ sym (app_nil (numbers x))
-chosen (x ∷ z ∷ xs) y e = ap numbers (sym (some_is (Choice (trees (x ∷ z ∷ xs))) y e)) ∙ of_trees (x ∷ z ∷ xs)
+chosen (x ∷ []) y e = ap numbers (sym (same_Some x y e)) ∙ sym (append-nil (numbers x))
+chosen (x ∷ z ∷ xs) y e = ap numbers (sym (same_Some (Choice (trees (x ∷ z ∷ xs))) y e)) ∙ of_trees (x ∷ z ∷ xs)
 
 choice_part : (xs : List Tree) (y : Tree) → choice_of xs ≡ Some y → IsPartList (numbers y) (list_numbers xs)
 choice_part xs y e = part_as (numbers y) (list_numbers (distinct (open_choices xs))) (list_numbers xs) (list_numbers (open_choices xs)) (chosen (distinct (open_choices xs)) y e) (sym (open_all xs)) (distinct_part (open_choices xs))
@@ -185,9 +176,9 @@ gaps_begun _ (only_gap {ps = ps} h) = gaps_begun ps h
 
 form_part : (b : Bool) (x : Tree) (lo : ℕ) (hi : Option ℕ) (ps : List Part) (y : Tree) → OnlyGaps ps → turns_form b x lo hi ps ≡ Some y → IsPartList (numbers y) (numbers x)
 form_part true x lo hi ps y h e =
-    part_as (numbers y) (numbers x) (numbers x) (numbers x) (ap numbers (sym (some_is (Loop x lo hi (row_of ps)) y e)) ∙ (ap (λ l. numbers x ++ l) (gaps_numbers ps h) ∙ app_nil (numbers x))) refl (part_self (numbers x))
+    part_as (numbers y) (numbers x) (numbers x) (numbers x) (ap numbers (sym (same_Some (Loop x lo hi (row_of ps)) y e)) ∙ (ap (λ l. numbers x ++ l) (gaps_numbers ps h) ∙ append-nil (numbers x))) refl (part_self (numbers x))
 form_part false x zero hi ps y h e =
-    part_as (numbers y) [] (numbers x) (numbers x) (ap numbers (sym (some_is (join_all seq (begun ps)) y e)) ∙ ap (λ (l : List Tree). numbers (join_all seq l)) (gaps_begun ps h)) refl (part_empty (numbers x))
+    part_as (numbers y) [] (numbers x) (numbers x) (ap numbers (sym (same_Some (join_all seq (begun ps)) y e)) ∙ ap (λ (l : List Tree). numbers (join_all seq l)) (gaps_begun ps h)) refl (part_empty (numbers x))
 form_part false x (suc lo) hi ps y h e = absurd cc
 
 loop_part : (w : Tables) (x : Tree) (lo : ℕ) (hi : Option ℕ) (y : Tree) → fresh_loop w x lo hi ≡ Some y → IsPartList (numbers y) (numbers x)

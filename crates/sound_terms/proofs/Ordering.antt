@@ -1,7 +1,7 @@
 -- Linear orders of any positions that can be listed, from ranks and from blocks.
 use Rattle.std.specs.Prelude.{ℕ, zero, suc, ◌+◌, ◌<◌, ◌≤◌, Bool, true, false, List, [], ◌∷◌, ◌++◌, ◌≡◌, ◌⊎◌, ltb}
 use Rattle.std.proofs.Common.{inl, inr, refl, arith}
-use Rattle.std.proofs.lemmas.Bool.{cases_lt}
+use Rattle.std.proofs.lemmas.Bool.{cases_lt, ltb-false}
 use Rattle.std.proofs.lemmas.Bool.Decides.{Decides-ltb}
 use Rattle.msc_base.specs.Orders.{Among, first, later, Once, Kept, IsLinear}
 use Rattle.sound_terms.specs.OrderLaws.{IsLinearOn, HasLinearOn}
@@ -94,15 +94,9 @@ module _ {P : Type 0} where
     above p q l le h _ first = le
     above p q l le h n (later i) = omega (arith, le, h n i)
 
-    clash : (b : Bool) → b ≡ false → b ≡ true → ⊥
-    clash b x y = cc
-
-    not_less : (m n : ℕ) → ltb m n ≡ false → n ≤ m
-    not_less m n f = elim (cases_lt m n) [ inl lt ↦ absurd (clash (ltb m n) f ((Decides-ltb m n).1 lt)) | inr le ↦ le ]
-
     rising_at : (p q : P) (l : List P) (b : Bool) → ltb (rank q) (rank p) ≡ b → ((n : P) → Among n l → rank q ≤ rank n) → AreRising l → AreRising (put p l) → AreRising (put_at b p q l (put p l))
     rising_at p q l true e h k more = (λ n i. below p q l ((Decides-ltb (rank q) (rank p)).0 e) h n (put_among p n l i), more)
-    rising_at p q l false e h k more = (λ n i. above p q l (not_less (rank q) (rank p) e) h n i, (h, k))
+    rising_at p q l false e h k more = (λ n i. above p q l (ltb-false (rank q) (rank p) e) h n i, (h, k))
 
     put_rising : (p : P) (l : List P) → AreRising l → AreRising (put p l)
     put_rising p [] h = (λ q i. elim i [ ], tt)

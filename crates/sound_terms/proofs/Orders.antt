@@ -27,19 +27,20 @@ module _ {E Q : Type 0} where
   every_position (join m x y) (inr p) = among_right (map inl (positions x)) (map inr (positions y)) (inr p) (among_map inr (every_position y p))
   every_position (bind x q) p = every_position x p
 
-abbrev inl_of : {A B : Type 0} → A → A ⊎ B
+-- the two sides of a sum
+abbrev pub inl_of : {A B : Type 0} → A → A ⊎ B
 inl_of a = inl a
 
-abbrev inr_of : {A B : Type 0} → B → A ⊎ B
+abbrev pub inr_of : {A B : Type 0} → B → A ⊎ B
 inr_of b = inr b
 
-left_same : {A D : Type 0} (a c : A) → inl_of {B = D} a ≡ inl_of c → a ≡ c
+pub left_same : {A D : Type 0} (a c : A) → inl_of {B = D} a ≡ inl_of c → a ≡ c
 left_same a c e = cc
 
-right_same : {A D : Type 0} (b d : D) → inr_of {A = A} b ≡ inr_of d → b ≡ d
+pub right_same : {A D : Type 0} (b d : D) → inr_of {A = A} b ≡ inr_of d → b ≡ d
 right_same b d e = cc
 
-sides : {A D : Type 0} (a : A) (b : D) → inl_of {B = D} a ≡ inr_of {A = A} b → ⊥
+pub sides : {A D : Type 0} (a : A) (b : D) → inl_of {B = D} a ≡ inr_of {A = A} b → ⊥
 sides a b e = cc
 
 moved : {A : Type 0} (c a : A) → c ≡ a → (l : List A) → Among c l → Among a l

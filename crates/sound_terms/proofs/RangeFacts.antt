@@ -55,7 +55,7 @@ module _ (lo hi j : ℕ) (beyond : IsBeyond lo hi j) where
 -- what a term lacks is outside its loops and nets
 module _ (NL : ℕ → ℕ → Type 0) (j : ℕ) where
   mutual
-    lacks_outside : (x : Tree) → Lacks NL j x → IsOutside NL j x
+    pub lacks_outside : (x : Tree) → Lacks NL j x → IsOutside NL j x
     lacks_outside Nil h = tt
     lacks_outside (Event e) h = tt
     lacks_outside (Join m xs) h = all_outside xs h

@@ -1,7 +1,8 @@
 -- An order that places the vertices of a region ranks the terms that the region draws.
-use Rattle.std.specs.Prelude.{ℕ, ◌<◌, Bool, true, false, List, [], ◌∷◌, ◌≡◌, Option, Some, None, ◌⊎◌, ◌==◌, ◌||◌}
+use Rattle.std.specs.Prelude.{ℕ, ◌<◌, true, false, List, [], ◌∷◌, ◌≡◌, Option, Some, None, ◌⊎◌, ◌==◌, ◌||◌}
 use Rattle.std.proofs.Common.{ap, sym, ◌∙◌, inl, inr, refl, arith}
 use Rattle.std.proofs.lemmas.Bool.Decides.{nat_tests}
+use Rattle.std.proofs.lemmas.Bool.{or_cases, false≢true}
 use Rattle.hmsc_graph.specs.Graphs.{Spot, Goal}
 use Rattle.msc_base.specs.Patterns.{Mode, seq, par}
 use Rattle.chart_term.specs.TermPatterns.{instances_of, some_list}
@@ -68,28 +69,21 @@ module _ (NE : ℕ → TermEvent → Type 0) (v : ℕ → ℕ) (f : ℕ → ℕ)
   same_of : (m n : ℕ) → (m == n) ≡ true → n ≡ m
   same_of m n h = grind (arith, nat_tests)
 
-  either_of : (a b : Bool) → (a || b) ≡ true → (a ≡ true) ⊎ (b ≡ true)
-  either_of true b h = inl refl
-  either_of false b h = inr h
-
-  no_true : false ≡ true → ⊥
-  no_true h = cc
-
   has_of : (h : TermEvent) (i : ℕ) → has (h.at ∷ some_list h.also) i ≡ true → Of i h
-  has_of h i k = elim (either_of (h.at == i) (has (some_list h.also) i) k) [ inl a ↦ inl (same_of h.at i a) | inr b ↦ second h.also b ]
+  has_of h i k = elim (or_cases (h.at == i) (has (some_list h.also) i) k) [ inl a ↦ inl (same_of h.at i a) | inr b ↦ second h.also b ]
     where
       second : (a : Option ℕ) → has (some_list a) i ≡ true → (i ≡ h.at) ⊎ (a ≡ Some i)
-      second None b = absurd (no_true b)
-      second (Some n) b = elim (either_of (n == i) false b) [ inl c ↦ inr (ap (λ z. Some z) (sym (same_of n i c))) | inr c ↦ absurd (no_true c) ]
+      second None b = absurd (false≢true b)
+      second (Some n) b = elim (or_cases (n == i) false b) [ inl c ↦ inr (ap (λ z. Some z) (sym (same_of n i c))) | inr c ↦ absurd (false≢true c) ]
 
   meeting : (e h : TermEvent) → hits (instances_of h) e ≡ true → (i : ℕ) × Of i e × Of i h
-  meeting e h k = elim (either_of (has (h.at ∷ some_list h.also) e.at || has_some (h.at ∷ some_list h.also) e.also) false k) [
-    | inl a ↦ elim (either_of (has (h.at ∷ some_list h.also) e.at) (has_some (h.at ∷ some_list h.also) e.also) a) [ inl b ↦ (e.at, inl refl, has_of h e.at b) | inr b ↦ second e.also (λ i p. inr p) b ]
-    | inr c ↦ absurd (no_true c)
+  meeting e h k = elim (or_cases (has (h.at ∷ some_list h.also) e.at || has_some (h.at ∷ some_list h.also) e.also) false k) [
+    | inl a ↦ elim (or_cases (has (h.at ∷ some_list h.also) e.at) (has_some (h.at ∷ some_list h.also) e.also) a) [ inl b ↦ (e.at, inl refl, has_of h e.at b) | inr b ↦ second e.also (λ i p. inr p) b ]
+    | inr c ↦ absurd (false≢true c)
   ]
     where
       second : (a : Option ℕ) → ((i : ℕ) → a ≡ Some i → Of i e) → has_some (h.at ∷ some_list h.also) a ≡ true → (i : ℕ) × Of i e × Of i h
-      second None g b = absurd (no_true b)
+      second None g b = absurd (false≢true b)
       second (Some n) g b = (n, g n refl, has_of h n b)
 
   abbrev rank : ℕ → ℕ

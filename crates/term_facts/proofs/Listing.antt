@@ -58,12 +58,6 @@ list_cmp-end c (x ∷ xs) [] (suc i) a b h = absurd (omega arith)
 list_cmp-end c (x ∷ xs) (y ∷ ys) (suc i) a b (inl h) = list_cmp-end c xs ys i (omega (arith, a)) (omega (arith, b)) (inl (omega (arith, h))) ∙ same_step (length xs) (length ys)
 list_cmp-end c (x ∷ xs) (y ∷ ys) (suc i) a b (inr h) = list_cmp-end c xs ys i (omega (arith, a)) (omega (arith, b)) (inr (omega (arith, h))) ∙ same_step (length xs) (length ys)
 
--- an item that is there, whatever the default
-pub get_or_any : {A : Type 0} (xs : List A) (i : ℕ) (d e : A) → i < length xs → get_or xs i d ≡ get_or xs i e
-get_or_any [] i d e lt = absurd (omega arith)
-get_or_any (x ∷ xs) zero d e lt = refl
-get_or_any (x ∷ xs) (suc i) d e lt = get_or_any xs i d e (omega (arith, lt))
-
 -- the first difference decides
 decides : (o r : Ordering) → not (nat_eq (ordering_index o) 1) ≡ true → o ≡ ordering_then o r
 decides Less r h = refl

@@ -1,9 +1,9 @@
 -- Members of sets, and facts of several terms together.
 use Rattle.std.proofs.Common.{◌≡◌, ℕ, ◌+◌, ◌%◌, ◌^◌, inl, inr, Bool, true, false, ◌||◌, nat_eq, List, [], ◌∷◌, ◌++◌, refl, ap, ap₂, sym, ◌∙◌, arith, min, max, Option, Some, None}
-use Rattle.std.specs.Prelude.{Result, Ok, Err, OnOk}
 use Rattle.std.proofs.lemmas.Bool.{eq-eqb, lt-ltb, le-ltb, ne_eqb, cases_order}
 use Rattle.std.proofs.lemmas.List.Folds.{list_any-append}
 use Rattle.bit_sets.specs.Blocks.{insert_rising, insert_each, is_among as has}
+use Rattle.list_facts.proofs.Bools.{or_assoc}
 use Rattle.term_facts.specs.declared.facts.Facts.{Facts}
 use Rattle.term_facts.specs.declared.facts.Span.{Span}
 use Rattle.term_facts.specs.NodeFacts.{AreFacts, Adds, wider, span_of}
@@ -22,10 +22,6 @@ or_moved false true c = refl
 or_moved false false true = refl
 or_moved false false false = refl
 
-or_apart : (a b c : Bool) → (a || (b || c)) ≡ ((a || b) || c)
-or_apart true b c = refl
-or_apart false b c = refl
-
 -- the members of a set with one more number
 has-insert : (xs : List ℕ) (x n : ℕ) → has (insert_rising xs x) n ≡ (has xs n || nat_eq x n)
 has-insert [] x n = or_none (nat_eq x n)
@@ -37,7 +33,7 @@ has-insert (y ∷ ys) x n =
     elim (cases_order x y) [
       | inl e ↦ rw (le-ltb x y (omega arith), eq-eqb x y e) (or_twice (nat_eq y n) (has ys n) ∙ ap (λ m. (nat_eq y n || has ys n) || nat_eq m n) (sym e))
       | inr (inl less) ↦ rw (lt-ltb x y less) (or_moved (nat_eq x n) (nat_eq y n) (has ys n))
-      | inr (inr later) ↦ rw (le-ltb x y (omega arith), ne_eqb x y (omega arith)) (ap (λ b. nat_eq y n || b) (has-insert ys x n) ∙ or_apart (nat_eq y n) (has ys n) (nat_eq x n))
+      | inr (inr later) ↦ rw (le-ltb x y (omega arith), ne_eqb x y (omega arith)) (ap (λ b. nat_eq y n || b) (has-insert ys x n) ∙ sym (or_assoc (nat_eq y n) (has ys n) (nat_eq x n)))
     ]
 
 or_end : (a b c : Bool) → ((a || b) || c) ≡ (a || (c || b))
@@ -71,11 +67,6 @@ span_apart (Some r) (Some s) (Some t) = λ i. Some (record { least = least_apart
 pub span_of-append : (ms ns : List ℕ) → span_of (ms ++ ns) ≡ wider (span_of ms) (span_of ns)
 span_of-append [] ns = refl
 span_of-append (m ∷ ms) ns = ap (λ s. wider (Some (record { least = m; greatest = m })) s) (span_of-append ms ns) ∙ span_apart (Some (record { least = m; greatest = m })) (span_of ms) (span_of ns)
-
--- what follows where the call was well
-pub on_ok : {A E P Q : Type 0} (r : Result A E) → (P → Q) → OnOk r P → OnOk r Q
-on_ok (Ok a) f h = f h
-on_ok (Err e) f h = h
 
 -- facts added are the facts of both
 pub facts_added : (v w : ℕ) (a b : Bool) (ps qs ms ns ks ls : List ℕ) (f g h : Facts) → AreFacts v a ps ms ks f → AreFacts w b qs ns ls g → Adds f g h → AreFacts (v + w) (a || b) (ps ++ qs) (ms ++ ns) (ks ++ ls) h

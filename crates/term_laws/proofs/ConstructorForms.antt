@@ -1,5 +1,7 @@
 -- The normalising constructors make tidy terms in normal form, and fail exactly where there is no pattern.
 use Rattle.std.specs.Prelude.{ℕ, Bool, true, false, List, [], ◌∷◌, ◌≡◌, Option, Some, None, refl}
+use Rattle.std.proofs.lemmas.Option.{none-some}
+use Rattle.std.proofs.Common.{sym}
 use Rattle.msc_base.specs.Patterns.{Mode}
 use Rattle.hmsc_graph.specs.Graphs.{Spot, Goal, To, End, Any, reach}
 use Rattle.chart_term.specs.NormalForms.{only, cut, join_all, choice_of, tie_of, loop_of, walk_form, walk_of, walk_cut, allowed, are_nil}
@@ -82,14 +84,10 @@ module _ (w : Tables) where
   trail_formed : (n : ℕ) (f : Spot) (t : Goal) (c : List ℕ) → IsKnown w n → IsSet c → MayHave (IsFormed w) (walk_of (permits_of w) n f t c)
   trail_formed n f t c l s = formed w (walk_of (permits_of w) n f t c) (cut_tidy n f t (cut ((permits_of w).spread n) c) l) (trail_normal (permits_of w) n f t c s)
 
--- they fail exactly where there is no pattern
-some_none : (y : Tree) → Some y ≡ None → ⊥
-some_none y q = cc
-
 fails_exactly : (w : Tables) → AreSoundTables w → (p : Shape → Type 0) (r : Option Tree) → MayHave (IsFormed w) r → HaveSame (PatternsOf (terms_over w) true r) p → Both (r ≡ None) ((s : Shape) → p s → ⊥)
 fails_exactly w h p None f e = record { to = λ q s a. (e.from s a).1; from = λ n. refl }
 fails_exactly w h p (Some y) f e = record {
-  to = λ q. absurd (some_none y q);
+  to = λ q. absurd (none-some y (sym q));
   from = λ n. let i = some_pattern w h.tidy h.normal y f.tidy f.normal in let j = e.to i.0 i.1 in absurd (n j.0 j.1);
 }
 

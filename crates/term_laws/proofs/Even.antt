@@ -14,11 +14,11 @@ use Rattle.chart_term.specs.Spreads.{touch}
 use Rattle.term_laws.specs.Permission.{permit, permit_row, permits_of}
 use Rattle.term_laws.specs.Soundness.{NeverGrows, IsOutside, AreTidyTables, AreTidy, IsTidyRow, NetLacks, IsKnown}
 use Rattle.term_laws.proofs.Keeping.{Kind, permit_keeps, at_some}
-use Rattle.term_laws.proofs.Living.{IsHeld, has_pattern}
+use Rattle.term_laws.proofs.Living.{has_pattern}
 use Rattle.term_laws.proofs.NormalTables.{live, kept_normal}
 use Rattle.term_laws.proofs.Permitting.{IsRegular, AreRegular, IsRegularRow}
 use Rattle.term_laws.proofs.Ranking.{permit_rank}
-use Rattle.term_laws.proofs.TakingSound.{IsTurnOf}
+use Rattle.term_laws.proofs.TakingSound.{IsTurnOf, IsHeld}
 use Rattle.term_laws.proofs.TermSentences.{net_rank, kept_rank}
 use Rattle.term_laws.proofs.TidyKept.{Tidy, AreExactNets, falls_of, permit_shows, permit_out, after_out, never_sub, never_cut, never_wide, never_some, never_after, up_low, up_down}
 use Rattle.term_laws.proofs.TidyTables.{nets_good}

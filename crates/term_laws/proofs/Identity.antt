@@ -49,7 +49,7 @@ pub join_same : (m : Mode) (xs : Trees) → Each (IsPartOf m) (items xs) → Are
 join_same m xs h t = ap (join_of m) (flat_same m (items xs) h) ∙ of_same m xs t
 
 -- choices
-alone_same : (x : Tree) → IsAlternative x → open_choice x ≡ x ∷ []
+pub alone_same : (x : Tree) → IsAlternative x → open_choice x ≡ x ∷ []
 alone_same Nil h = refl
 alone_same (Event e) h = refl
 alone_same (Join m xs) h = refl
@@ -62,11 +62,11 @@ choices_same : (xs : List Tree) → Each IsAlternative xs → open_choices xs �
 choices_same [] h = refl
 choices_same (x ∷ xs) h = λ i. alone_same x h.0 i ++ choices_same xs h.1 i
 
-without_same : (x : Tree) (ys : List Tree) → Each (λ y. same_tree x y ≡ false) ys → without x ys ≡ ys
+pub without_same : (x : Tree) (ys : List Tree) → Each (λ y. same_tree x y ≡ false) ys → without x ys ≡ ys
 without_same x [] h = refl
 without_same x (y ∷ ys) h = λ i. unless_same (h.0 i) y (without_same x ys h.1 i)
 
-distinct_same : (xs : List Tree) → AreDifferent xs → distinct xs ≡ xs
+pub distinct_same : (xs : List Tree) → AreDifferent xs → distinct xs ≡ xs
 distinct_same [] h = refl
 distinct_same (x ∷ xs) h = (λ i. x ∷ without x (distinct_same xs h.1 i)) ∙ ap (λ l. x ∷ l) (without_same x xs h.0)
 

@@ -1,10 +1,11 @@
 -- The lists of residual terms are exact.
-use Rattle.std.specs.Prelude.{ℕ, zero, suc, ◌≤◌, Bool, true, false, List, [], ◌∷◌, ◌++◌, ◌≡◌, ◌⊎◌, Option, Some, None, refl}
+use Rattle.std.specs.Prelude.{ℕ, zero, suc, ◌≤◌, Bool, true, false, List, [], ◌∷◌, ◌≡◌, Option, Some, None, refl}
 use Rattle.std.proofs.Common.{ap, sym, arith, inl, inr}
 use Rattle.msc_base.specs.Patterns.{Mode, seq, par}
 use Rattle.hmsc_graph.specs.Graphs.{Spot, At, Goal, To, End, Any}
 use Rattle.hmsc_graph.specs.Walks.{Leads}
 use Rattle.msc_base.specs.Lists.{IsIn, IsAmong}
+use Rattle.list_facts.proofs.Members.{among_either, among_left, among_right}
 use Rattle.hmsc_graph.proofs.Reaching.{reach_sound, reach_whole}
 use Rattle.chart_term.specs.NormalForms.{NetPermits, only, join_all, tie_of, loop_of, walk_of, allowed}
 use Rattle.chart_term.specs.TermPatterns.{instances_of, earlier}
@@ -16,21 +17,6 @@ use Rattle.term_laws.specs.Taking.{Stays, fewer, down, HasMore, IsAfter, after_e
 use Rattle.term_laws.proofs.Ranking.{rank, ranks, row_rank, permit_rank}
 use Rattle.term_laws.proofs.TermSentences.{net_rank, kept_rank}
 use Rattle.term_laws.proofs.TidyTables.{nets_good}
-
--- lists
-pub among_app : {A : Type 0} (t : A) (xs ys : List A) → IsAmong (xs ++ ys) t → IsAmong xs t ⊎ IsAmong ys t
-among_app t [] ys h = inr h
-among_app t (x ∷ xs) ys (inl e) = inl (inl e)
-among_app t (x ∷ xs) ys (inr h) = elim (among_app t xs ys h) [ inl i ↦ inl (inr i) | inr i ↦ inr i ]
-
-pub among_left : {A : Type 0} (t : A) (xs ys : List A) → IsAmong xs t → IsAmong (xs ++ ys) t
-among_left t [] ys h = absurd h
-among_left t (x ∷ xs) ys (inl e) = inl e
-among_left t (x ∷ xs) ys (inr h) = inr (among_left t xs ys h)
-
-pub among_right : {A : Type 0} (t : A) (xs ys : List A) → IsAmong ys t → IsAmong (xs ++ ys) t
-among_right t [] ys h = h
-among_right t (x ∷ xs) ys h = inr (among_right t xs ys h)
 
 module _ (k : NetPermits) where
   -- what is listed is left
@@ -154,7 +140,7 @@ module _ (k : NetPermits) where
 
     nodes_sound : (n : ℕ) (f : Spot) (u : Goal) (c ms : List ℕ) (t : Taken) → IsAmong (nodes_walked k g n f u c ms) t → IsAfter k (Walk n f u c) t.event t.term
     nodes_sound n f u c [] t h = absurd h
-    nodes_sound n f u c (m ∷ ms) t h = elim (among_app t (node_walked k g n f u c m (k.kept n m c)) (nodes_walked k g n f u c ms) h) [ inl i ↦ node_sound n f u c m (k.kept n m c) refl t i | inr i ↦ nodes_sound n f u c ms t i ]
+    nodes_sound n f u c (m ∷ ms) t h = elim (among_either (node_walked k g n f u c m (k.kept n m c)) (nodes_walked k g n f u c ms) t h) [ inl i ↦ node_sound n f u c m (k.kept n m c) refl t i | inr i ↦ nodes_sound n f u c ms t i ]
 
     mutual
       pub listed_sound : (x : Tree) (t : Taken) → IsAmong (listed k g x) t → IsAfter k x t.event t.term
@@ -170,20 +156,20 @@ module _ (k : NetPermits) where
       parts_sound : (m : Mode) (xs : Trees) (t : TakenParts) → IsAmong (listed_parts k g m xs) t → IsAfterJoin k m xs t.event t.parts_left
       parts_sound m none t h = absurd h
       parts_sound m (more x xs) t h =
-          elim (among_app t (first_taken (items xs) (listed k g x)) (behind_part k m x (listed_parts k g m xs)) h)
+          elim (among_either (first_taken (items xs) (listed k g x)) (behind_part k m x (listed_parts k g m xs)) t h)
           [ inl i ↦ first_sound m x xs (listed k g x) (listed_sound x) t i | inr i ↦ behind_sound m x xs (listed_parts k g m xs) (parts_sound m xs) t i ]
 
       all_sound : (xs : Trees) (t : Taken) → IsAmong (listed_all k g xs) t → IsAfterOne k xs t.event t.term
       all_sound none t h = absurd h
-      all_sound (more x xs) t h = elim (among_app t (listed k g x) (listed_all k g xs) h) [ inl i ↦ first_one (listed_sound x t i) | inr i ↦ later_one (all_sound xs t i) ]
+      all_sound (more x xs) t h = elim (among_either (listed k g x) (listed_all k g xs) t h) [ inl i ↦ first_one (listed_sound x t i) | inr i ↦ later_one (all_sound xs t i) ]
 
       row_sound : (x : Tree) (r : Row) (t : TakenRow) → IsAmong (listed_row k g x r) t → IsAfterRow k x t.begins (parts r) t.event t.row_left
       row_sound x ends t h = absurd h
       row_sound x (gap c r) t h =
-          elim (among_app t (gap_begun g (permit k (only c) x) c (parts r)) (behind_gap c (listed_row k g x r)) h)
+          elim (among_either (gap_begun g (permit k (only c) x) c (parts r)) (behind_gap c (listed_row k g x r)) t h)
           [ inl i ↦ begun_sound x c (parts r) (permit k (only c) x) refl t i | inr i ↦ past_gap_sound x c (parts r) (listed_row k g x r) (row_sound x r) t i ]
       row_sound x (turn y r) t h =
-          elim (among_app t (turn_taken (parts r) (listed k g y)) (behind_turn k y (listed_row k g x r)) h)
+          elim (among_either (turn_taken (parts r) (listed k g y)) (behind_turn k y (listed_row k g x r)) t h)
           [ inl i ↦ turn_sound x y (parts r) (listed k g y) (listed_sound y) t i | inr i ↦ past_turn_sound x y (parts r) (listed_row k g x r) (row_sound x r) t i ]
 
   pub list_sound : (n : ℕ) (x : Tree) (t : Taken) → IsAmong (after_list n k x) t → IsAfter k x t.event t.term
@@ -322,14 +308,14 @@ module _ (k : NetPermits) where
 
   nodes_in : (g : Tree → List Taken) (n : ℕ) (f : Spot) (t : Goal) (c : List ℕ) (s : Taken) (m : ℕ) (x : Tree) → k.kept n m c ≡ Some x → IsAmong (all_walked k n f t c m (g x)) s → (ms : List ℕ) → IsIn m ms → IsAmong (nodes_walked k g n f t c ms) s
   nodes_in g n f t c s m x d h [] i = absurd i
-  nodes_in g n f t c s m x d h (j ∷ ms) (inl e) = among_left s (node_walked k g n f t c j (k.kept n j c)) (nodes_walked k g n f t c ms) (at_node j e)
+  nodes_in g n f t c s m x d h (j ∷ ms) (inl e) = among_left (node_walked k g n f t c j (k.kept n j c)) (nodes_walked k g n f t c ms) s (at_node j e)
     where
       put : (r : Option Tree) → r ≡ Some x → IsAmong (node_walked k g n f t c m r) s
       put r q = rw q h
 
       at_node : (j : ℕ) → m ≡ j → IsAmong (node_walked k g n f t c j (k.kept n j c)) s
       at_node j e = rw (← e) (put (k.kept n m c) d)
-  nodes_in g n f t c s m x d h (j ∷ ms) (inr i) = among_right s (node_walked k g n f t c j (k.kept n j c)) (nodes_walked k g n f t c ms) (nodes_in g n f t c s m x d h ms i)
+  nodes_in g n f t c s m x d h (j ∷ ms) (inr i) = among_right (node_walked k g n f t c j (k.kept n j c)) (nodes_walked k g n f t c ms) s (nodes_in g n f t c s m x d h ms i)
 
   module _ (nr : ℕ → ℕ) (kept_rank : (n m : ℕ) (c : List ℕ) (x : Tree) → k.kept n m c ≡ Some x → rank nr x ≤ nr n) (known : (n m : ℕ) (d : List ℕ) (x : Tree) → k.kept n m d ≡ Some x → IsIn m (k.nodes n)) where
     module _ (d : ℕ) (g : Tree → List Taken) (ih : (x y : Tree) (e : TermEvent) → rank nr x ≤ d → IsAfter k x e y → IsAmong (g x) (record { event = e; term = y })) where
@@ -349,27 +335,26 @@ module _ (k : NetPermits) where
         parts_whole : (m : Mode) (xs : Trees) (ys : List Tree) (e : TermEvent) → ranks nr xs ≤ suc d → IsAfterJoin k m xs e ys → IsAmong (listed_parts k g m xs) (record { event = e; parts_left = ys })
         parts_whole m none ys e l a = elim a [ ]
         parts_whole m (more x xs) ys e l (first_part {y = y} a) =
-            among_left (record { event = e; parts_left = y ∷ items xs }) (first_taken (items xs) (listed k g x)) (behind_part k m x (listed_parts k g m xs)) (first_in (items xs) e y (listed k g x) (listed_whole x y e (omega arith) a))
+            among_left (first_taken (items xs) (listed k g x)) (behind_part k m x (listed_parts k g m xs)) (record { event = e; parts_left = y ∷ items xs }) (first_in (items xs) e y (listed k g x) (listed_whole x y e (omega arith) a))
         parts_whole m (more x xs) ys e l (later_part {x' = x'} {ys = zs} s a) =
-            among_right (record { event = e; parts_left = x' ∷ zs }) (first_taken (items xs) (listed k g x)) (behind_part k m x (listed_parts k g m xs)) (behind_in m x x' e zs (stay_is m e x x' s) (listed_parts k g m xs) (parts_whole m xs zs e (omega arith) a))
+            among_right (first_taken (items xs) (listed k g x)) (behind_part k m x (listed_parts k g m xs)) (record { event = e; parts_left = x' ∷ zs }) (behind_in m x x' e zs (stay_is m e x x' s) (listed_parts k g m xs) (parts_whole m xs zs e (omega arith) a))
 
         all_whole : (xs : Trees) (y : Tree) (e : TermEvent) → ranks nr xs ≤ suc d → IsAfterOne k xs e y → IsAmong (listed_all k g xs) (record { event = e; term = y })
         all_whole none y e l a = elim a [ ]
-        all_whole (more x xs) y e l (first_one a) = among_left (record { event = e; term = y }) (listed k g x) (listed_all k g xs) (listed_whole x y e (omega arith) a)
-        all_whole (more x xs) y e l (later_one a) = among_right (record { event = e; term = y }) (listed k g x) (listed_all k g xs) (all_whole xs y e (omega arith) a)
+        all_whole (more x xs) y e l (first_one a) = among_left (listed k g x) (listed_all k g xs) (record { event = e; term = y }) (listed_whole x y e (omega arith) a)
+        all_whole (more x xs) y e l (later_one a) = among_right (listed k g x) (listed_all k g xs) (record { event = e; term = y }) (all_whole xs y e (omega arith) a)
 
         row_whole : (x : Tree) (r : Row) (b : Bool) (qs : List Part) (e : TermEvent) → row_rank nr r ≤ suc d → rank nr x ≤ d → IsAfterRow k x b (parts r) e qs → IsAmong (listed_row k g x r) (record { begins = b; event = e; row_left = qs })
         row_whole x ends b qs e l i a = elim a [ ]
         row_whole x (gap c r) b qs e l i (in_gap {y = y} {z = z} p a) =
             let j = permit_rank k nr (only c) x y p in
-            among_left (record { begins = true; event = e; row_left = Gap (c ∪ (instances_of e).instances) ∷ Turn z ∷ Gap c ∷ parts r }) (gap_begun g (permit k (only c) x) c (parts r)) (behind_gap c (listed_row k g x r))
-            (begun_in g x y c (parts r) e z (permit k (only c) x) p (ih y z e (omega arith) a))
+            among_left (gap_begun g (permit k (only c) x) c (parts r)) (behind_gap c (listed_row k g x r)) (record { begins = true; event = e; row_left = Gap (c ∪ (instances_of e).instances) ∷ Turn z ∷ Gap c ∷ parts r }) (begun_in g x y c (parts r) e z (permit k (only c) x) p (ih y z e (omega arith) a))
         row_whole x (gap c r) b qs e l i (past_gap {qs = rs} a) =
-            among_right (record { begins = b; event = e; row_left = Gap (c ∪ (instances_of e).instances) ∷ rs }) (gap_begun g (permit k (only c) x) c (parts r)) (behind_gap c (listed_row k g x r)) (past_gap_in c b e rs (listed_row k g x r) (row_whole x r b rs e (omega arith) i a))
+            among_right (gap_begun g (permit k (only c) x) c (parts r)) (behind_gap c (listed_row k g x r)) (record { begins = b; event = e; row_left = Gap (c ∪ (instances_of e).instances) ∷ rs }) (past_gap_in c b e rs (listed_row k g x r) (row_whole x r b rs e (omega arith) i a))
         row_whole x (turn y r) b qs e l i (in_turn {z = z} a) =
-            among_left (record { begins = false; event = e; row_left = Turn z ∷ parts r }) (turn_taken (parts r) (listed k g y)) (behind_turn k y (listed_row k g x r)) (turn_in (parts r) e z (listed k g y) (listed_whole y z e (omega arith) a))
+            among_left (turn_taken (parts r) (listed k g y)) (behind_turn k y (listed_row k g x r)) (record { begins = false; event = e; row_left = Turn z ∷ parts r }) (turn_in (parts r) e z (listed k g y) (listed_whole y z e (omega arith) a))
         row_whole x (turn y r) b qs e l i (past_turn {z = z} {qs = rs} p a) =
-            among_right (record { begins = b; event = e; row_left = Turn z ∷ rs }) (turn_taken (parts r) (listed k g y)) (behind_turn k y (listed_row k g x r)) (past_turn_in y z b e rs p (listed_row k g x r) (row_whole x r b rs e (omega arith) i a))
+            among_right (turn_taken (parts r) (listed k g y)) (behind_turn k y (listed_row k g x r)) (record { begins = b; event = e; row_left = Turn z ∷ rs }) (past_turn_in y z b e rs p (listed_row k g x r) (row_whole x r b rs e (omega arith) i a))
 
     no_rank : (x : Tree) → rank nr x ≤ zero → ⊥
     no_rank Nil l = absurd (omega arith)

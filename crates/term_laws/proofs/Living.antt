@@ -1,5 +1,5 @@
 -- Terms in which every gap, choice and walk leaves something: each has a pattern.
-use Rattle.std.specs.Prelude.{ℕ, zero, suc, ◌≤◌, Bool, true, List, [], ◌∷◌, ◌≡◌, Option, Some, None, refl}
+use Rattle.std.specs.Prelude.{ℕ, zero, suc, ◌≤◌, true, List, [], ◌∷◌, ◌≡◌, Option, Some, None, refl}
 use Rattle.std.proofs.Common.{ap, arith, inl, inr}
 use Rattle.msc_base.specs.Patterns.{Mode, seq, empty, one, join, bind}
 use Rattle.hmsc_graph.specs.Graphs.{Spot, At, Goal, To, End, Any, WalkThrough, last, step}
@@ -15,20 +15,9 @@ use Rattle.chart_term.proofs.Walking.{IsExactNet, out_filter}
 use Rattle.term_laws.specs.Permission.{permit}
 use Rattle.term_laws.specs.Taking.{IsAfter}
 use Rattle.term_laws.proofs.Keeping.{Kind, AliveAt, AliveGaps, Leading, permit_keeps, after_keeps}
-use Rattle.term_laws.proofs.Permitting.{IsRegular, permit_law, only_fits}
+use Rattle.term_laws.proofs.Permitting.{permit_law, only_fits}
 use Rattle.term_laws.proofs.Ranking.{rank, ranks, row_rank}
-use Rattle.term_laws.proofs.TakingSound.{IsTurnOf}
-
--- what a set of terms is closed under, as far as patterns need it
-pub record IsHeld (k : NetPermits) (node : ℕ → ℕ → Tree) (o : Bool) (IsGood : Tree → Type 0) : Type 0 where
-  pub ok : (x : Tree) → IsGood x → IsRegular k node o x
-  pub joined : (m : Mode) (x : Tree) (xs : Trees) → IsGood (Join m (more x xs)) → IsGood x × IsGood (Join m xs)
-  pub chosen : (x : Tree) (xs : Trees) → IsGood (Choice (more x xs)) → IsGood x × IsGood (Choice xs)
-  pub tied : (x : Tree) (q : List (ℕ × ℕ)) → IsGood (Tied x q) → IsGood x
-  pub operand : (x : Tree) (lo : ℕ) (hi : Option ℕ) (r : Row) → IsGood (Loop x lo hi r) → IsGood x
-  pub begun : (x : Tree) (lo : ℕ) (hi : Option ℕ) (y : Tree) (r : Row) → IsGood (Loop x lo hi r) → IsTurnOf y (parts r) → IsGood y
-  pub permitted : (c : List ℕ) (x y : Tree) → IsGood x → permit k (only c) x ≡ Some y → IsGood y
-  pub kept : (n : ℕ) (f : Spot) (t : Goal) (c d : List ℕ) (m : ℕ) (x : Tree) → IsGood (Walk n f t c) → IsIn m (k.nodes n) → k.kept n m d ≡ Some x → IsGood x
+use Rattle.term_laws.proofs.TakingSound.{IsHeld, IsTurnOf}
 
 module _ (k : NetPermits) (NL : ℕ → Type 0) where
   abbrev pub Some_of : Trees → Type 0

@@ -3,10 +3,11 @@ use Rattle.std.specs.Prelude.{ℕ, Bool, true, false, List, [], ◌∷◌, ◌++
 use Rattle.std.specs.List.{list_any}
 use Rattle.std.specs.Option.{option_map}
 use Rattle.std.proofs.Common.{ap, ap₂, subst, ◌∙◌, sym, arith, cond}
-use Rattle.std.proofs.lemmas.Bool.{eq-eqb, eqb-true, and_parts, or_parts}
+use Rattle.std.proofs.lemmas.Bool.{eq-eqb, eqb-true, and_parts, or_parts, not-true}
 use Rattle.std.proofs.lemmas.Bool.Decides.{nat_tests}
 use Rattle.std.proofs.lemmas.List.Folds.{list_any-append}
 use Rattle.bit_sets.specs.Blocks.{BlockValue}
+use Rattle.list_facts.proofs.Bools.{or_true}
 use Rattle.term_facts.specs.declared.facts.Span.{Span}
 use Rattle.chart_term.specs.Facts.{holds_walk, any_walk, row_walk, instances, instances_all, instances_row, misses, row_misses, span_of, lies_in, wider as wider_span}
 use Rattle.chart_term.specs.NormalForms.{NetPermits, only, cut, join_all, and_then, or_skip, unless, choice_of, tie_of, cut_gaps, drop_nil, at_zero, live, has_free, drop_free, lower_of, thin, turns_end, turns_in, numbers, numbers_all, numbers_row}
@@ -16,7 +17,6 @@ use Rattle.chart_term.specs.Terms.{Block, TermEvent, has, has_some, hits, add_at
 use Rattle.term_laws.specs.Missed.{PermitOfMissed}
 use Rattle.term_laws.specs.Normality.{IsNormal, AreNormal, IsNormalRow}
 use Rattle.chart_term.specs.Spreads.{touch, touch_all, touch_row}
-use Rattle.chart_term.proofs.Instances.{or_true}
 use Rattle.term_laws.specs.Permission.{permit, permit_all, permit_some, permit_row, permits_of, wider, with_turn}
 use Rattle.term_laws.specs.Values.{block_of}
 use Rattle.term_laws.proofs.Identity.{join_same, choice_same, bound_same, turns_same}
@@ -147,10 +147,6 @@ module _ (k : NetPermits) (b : Block) where
 
 -- the test tells it
 
-not_true : (a : Bool) → not a ≡ true → a ≡ false
-not_true true h = cc
-not_true false h = refl
-
 apart_any : (ms ns : List ℕ) → list_any (has ns) ms ≡ false → IsApart ms ns
 apart_any [] ns h = tt
 apart_any (m ∷ ms) ns h = let (a, b) = or_parts (has ns m) (list_any (has ns) ms) h in (a, apart_any ms ns b)
@@ -192,7 +188,7 @@ pub permit-misses : (k : NetPermits) (b : BlockValue) (x : Tree) → IsNormal k 
 permit-misses k b x h m =
     let (prefix, last) = and_parts (not (holds_walk x) && not (list_any (has (instances x)) b.instances)) (not (list_any (lies_in (span_of (numbers x))) b.events)) m in
     let (walk, places) = and_parts (not (holds_walk x)) (not (list_any (has (instances x)) b.instances)) prefix in
-    missed_same k (block_of b) x h (not_true (holds_walk x) walk) (apart_any b.instances (instances x) (not_true (list_any (has (instances x)) b.instances) places)) (apart_lies b.events (numbers x) (not_true (list_any (lies_in (span_of (numbers x))) b.events) last))
+    missed_same k (block_of b) x h (not-true (holds_walk x) walk) (apart_any b.instances (instances x) (not-true (list_any (has (instances x)) b.instances) places)) (apart_lies b.events (numbers x) (not-true (list_any (lies_in (span_of (numbers x))) b.events) last))
 
 -- and gives each turn of a row that it misses back
 module _ (k : NetPermits) (b : Block) where
@@ -210,7 +206,7 @@ row-misses k b ps h m =
     let r : Row = row_of ps in
     let (prefix, last) = and_parts (not (row_walk r) && not (list_any (has (instances_row r)) b.instances)) (not (list_any (lies_in (span_of (numbers_row r))) b.events)) m in
     let (walk, places) = and_parts (not (row_walk r)) (not (list_any (has (instances_row r)) b.instances)) prefix in
-    turns_missed k (block_of b) ps h (not_true (row_walk r) walk) (apart_any b.instances (instances_row r) (not_true (list_any (has (instances_row r)) b.instances) places)) (apart_lies b.events (numbers_row r) (not_true (list_any (lies_in (span_of (numbers_row r))) b.events) last))
+    turns_missed k (block_of b) ps h (not-true (row_walk r) walk) (apart_any b.instances (instances_row r) (not-true (list_any (has (instances_row r)) b.instances) places)) (apart_lies b.events (numbers_row r) (not-true (list_any (lies_in (span_of (numbers_row r))) b.events) last))
 
 pub permit_of_missed : PermitOfMissed
 permit_of_missed = record { same = λ w b x h m. permit-misses (permits_of w) b x h m }

@@ -1,5 +1,6 @@
 -- Tables in normal form, and that every term in normal form has a pattern.
 use Rattle.std.specs.Prelude.{ℕ, ◌==◌, Bool, true, false, List, [], ◌∷◌, ◌≡◌, Option, Some, None, refl}
+use Rattle.term_laws.proofs.TakingSound.{IsHeld}
 use Rattle.hmsc_graph.specs.Graphs.{Spot, Goal, To, End, Any}
 use Rattle.chart_term.specs.NormalForms.{only, some_kept}
 use Rattle.chart_term.specs.Properties.{IsBelow, EachGap}
@@ -12,7 +13,7 @@ use Rattle.term_laws.specs.Permission.{permit, permit_nth, permits_of}
 use Rattle.term_laws.specs.Soundness.{AreTidyTables, IsTidyOver, NetLacks, IsKnown}
 use Rattle.term_laws.proofs.Agreeing.{same_normal}
 use Rattle.term_laws.proofs.Keeping.{AliveGaps, Leading, at_some}
-use Rattle.term_laws.proofs.Living.{IsHeld, Live, LiveAll, LiveRow, has_pattern}
+use Rattle.term_laws.proofs.Living.{Live, LiveAll, LiveRow, has_pattern}
 use Rattle.term_laws.proofs.Normalising.{permit_normal}
 use Rattle.term_laws.proofs.Ranking.{permit_rank}
 use Rattle.term_laws.proofs.TermSentences.{net_rank, kept_rank, kept_below, low_nth}
@@ -76,9 +77,7 @@ module _ (w : Tables) where
     live_row (turn x r) h = (live x h.0, live_row r h.1)
 
   tidy_held : AreTidyTables w → IsHeld (permits_of w) (node_of w) true (IsTidyOver w)
-  tidy_held h =
-      let c = closed (permits_of w) (node_of w) true (NetLacks w) (IsKnown w) (nets_good true w h) in
-      record { ok = c.ok; joined = c.joined; chosen = c.chosen; tied = c.tied; operand = c.operand; begun = c.begun; permitted = c.permitted; kept = c.kept }
+  tidy_held h = (closed (permits_of w) (node_of w) true (NetLacks w) (IsKnown w) (nets_good true w h)).held
 
   -- every tidy term in normal form has a pattern, walks under way included
   pub some_pattern : AreTidyTables w → AreNormalTables w → (x : Tree) → IsTidyOver w x → IsNormalOver w x → (s : Shape) × HasPattern (terms_over w) true x s

@@ -3,6 +3,7 @@ use Rattle.std.specs.Prelude.{ℕ, zero, suc, ◌<◌, Bool, true, false, ltb, L
 use Rattle.std.specs.Option.{option_map}
 use Rattle.std.proofs.Common.{ap, ◌∙◌, arith, cond}
 use Rattle.std.proofs.lemmas.Bool.Decides.{nat_tests}
+use Rattle.std.proofs.lemmas.Bool.{ltb-true, both_ways, or_parts, and_parts}
 use Rattle.msc_base.specs.Patterns.{Mode, seq, par}
 use Rattle.hmsc_graph.specs.Graphs.{Spot, At, Goal, To, End, Any, reach}
 use Rattle.chart_term.specs.Equality.{same_tree}
@@ -28,9 +29,6 @@ above_less n m (k ∷ c) l h = omega arith
 less_of : (n m : ℕ) → (n == m) ≡ false → ltb n m ≡ false → m < n
 less_of n m e h = grind (arith, nat_tests)
 
-less_is : (n m : ℕ) → ltb n m ≡ true → n < m
-less_is n m h = grind (arith, nat_tests)
-
 above_at : (m n k : ℕ) (ks r : List ℕ) (a b : Bool) → m < n → m < k → IsAbove m (add_at a b n k ks r)
 above_at m n k ks r true b l p = p
 above_at m n k ks r false true l p = l
@@ -46,7 +44,7 @@ add_set n (m ∷ c) h = go (n == m) (ltb n m) refl refl (add_set n c h.1)
   where
     go : (a b : Bool) → (n == m) ≡ a → ltb n m ≡ b → IsSet (add_member n c) → IsSet (add_at a b n m c (add_member n c))
     go true b e l r = h
-    go false true e l r = (less_is n m l, h)
+    go false true e l r = (ltb-true n m l, h)
     go false false e l r = (above_added m n c (less_of n m e l) h.0, r)
 
 pub union_set : (c d : List ℕ) → IsSet c → IsSet (c ∪ d)
@@ -93,7 +91,7 @@ gap_sub (sub_drop s) h = refl
 gap_sub (sub_turn s) h = gap_sub s h
 gap_sub (sub_over s) h = gap_sub s h
 
-each_gap_sub : (q : List ℕ → Type 0) {ps qs : List Part} → IsSubRow ps qs → EachGap q qs → EachGap q ps
+pub each_gap_sub : (q : List ℕ → Type 0) {ps qs : List Part} → IsSubRow ps qs → EachGap q qs → EachGap q ps
 each_gap_sub q sub_end e = tt
 each_gap_sub q (sub_gap h) e = (e.0, each_gap_sub q h e.1)
 each_gap_sub q (sub_drop h) e = each_gap_sub q h e.1
@@ -105,12 +103,9 @@ no_gap_left [] = refl
 no_gap_left (Gap c ∷ ps) = no_gap_left ps
 no_gap_left (Turn x ∷ ps) = no_gap_left ps
 
-not_true : (t : Bool) → t ≡ true → t ≡ false → ⊥
-not_true t h i = cc
-
 positive : (hi : Option ℕ) (ps : List Part) → has_gap (at_zero hi ps) ≡ true → IsPositive hi
 positive None ps h = tt
-positive (Some zero) ps h = not_true (has_gap (only_turns ps)) h (no_gap_left ps)
+positive (Some zero) ps h = both_ways (has_gap (only_turns ps)) (no_gap_left ps) h
 positive (Some (suc n)) ps h = tt
 
 put_not_nil : (x : Tree) (ps : List Part) → EachTurn IsNotNil ps → EachTurn IsNotNil (put_turn x ps)
@@ -171,10 +166,6 @@ two_less : (a b c : Bool) → (b ≡ false → c ≡ false) → (a || b) ≡ fal
 two_less true b c f h = h
 two_less false b c f h = f h
 
-second : (a b : Bool) → (a || b) ≡ false → b ≡ false
-second true b h = cc
-second false b h = h
-
 without_lacks : (p : ℕ × ℕ) (q : List (ℕ × ℕ)) → pairs (without_pair p q) p.0 p.1 ≡ false
 without_lacks p [] = refl
 without_lacks p (r ∷ q) = go ((p.0 == r.0) && (p.1 == r.1)) refl (without_lacks p q)
@@ -188,7 +179,7 @@ without_fewer p [] m n h = h
 without_fewer p (r ∷ q) m n h = go ((p.0 == r.0) && (p.1 == r.1)) h (without_fewer p q m n)
   where
     go : (t : Bool) → (((m == r.0) && (n == r.1)) || pairs q m n) ≡ false → (pairs q m n ≡ false → pairs (without_pair p q) m n ≡ false) → pairs (unless_pair t r (without_pair p q)) m n ≡ false
-    go true h f = f (second ((m == r.0) && (n == r.1)) (pairs q m n) h)
+    go true h f = f ((or_parts ((m == r.0) && (n == r.1)) (pairs q m n) h).1)
     go false h f = two_less ((m == r.0) && (n == r.1)) (pairs q m n) (pairs (without_pair p q) m n) f h
 
 without_once : (p : ℕ × ℕ) (q : List (ℕ × ℕ)) → ArePairsOnce q → ArePairsOnce (without_pair p q)
@@ -207,10 +198,6 @@ without_shown ns p (r ∷ q) h = go ((p.0 == r.0) && (p.1 == r.1)) (without_show
     go true i = i
     go false i = (h.0, h.1, i)
 
-both : (a b : Bool) → (a && b) ≡ true → (a ≡ true) × (b ≡ true)
-both true b h = (refl, h)
-both false b h = cc
-
 kept_once : (ns : List ℕ) (q : List (ℕ × ℕ)) → ArePairsOnce (kept_pairs ns q)
 kept_once ns [] = tt
 kept_once ns (p ∷ q) = go (has ns p.0 && has ns p.1) (kept_once ns q)
@@ -224,7 +211,7 @@ kept_shown ns [] = tt
 kept_shown ns (p ∷ q) = go (has ns p.0 && has ns p.1) refl (kept_shown ns q)
   where
     go : (t : Bool) → (has ns p.0 && has ns p.1) ≡ t → AreShown ns (kept_pairs ns q) → AreShown ns (with_pair t p (kept_pairs ns q))
-    go true e i = let (u, v) = both (has ns p.0) (has ns p.1) e in (u, v, without_shown ns p (kept_pairs ns q) i)
+    go true e i = let (u, v) = and_parts (has ns p.0) (has ns p.1) e in (u, v, without_shown ns p (kept_pairs ns q) i)
     go false e i = i
 
 -- Alternatives
@@ -302,7 +289,7 @@ module _ (k : NetPermits) where
 
   -- choices
 
-  opened_parts : (x : Tree) → IsNormal k x → Each IsAlternative (open_choice x)
+  pub opened_parts : (x : Tree) → IsNormal k x → Each IsAlternative (open_choice x)
   opened_parts (Choice xs) h = h.1
   opened_parts Nil h = (tt, tt)
   opened_parts (Event e) h = (tt, tt)
@@ -314,7 +301,7 @@ module _ (k : NetPermits) where
   choices_normal : (xs : List Tree) → Each (IsNormal k) xs → Each (IsNormal k) (open_choices xs)
   choices_normal xs h = each_choices (IsNormal k) (λ ys i. normal_out ys i.0) xs h
 
-  choices_parts : (xs : List Tree) → Each (IsNormal k) xs → Each IsAlternative (open_choices xs)
+  pub choices_parts : (xs : List Tree) → Each (IsNormal k) xs → Each IsAlternative (open_choices xs)
   choices_parts [] h = tt
   choices_parts (x ∷ xs) h = each_app IsAlternative (open_choice x) (open_choices xs) (opened_parts x h.0) (choices_parts xs h.1)
 

@@ -7,13 +7,6 @@ use Rattle.chart_term.specs.Terms.{has}
 pub number_not : (m n : ℕ) → (m == n) ≡ false → m ≢ n
 number_not m n h = λ e. grind (arith, nat_tests)
 
-pub number_self : (m n : ℕ) → m ≡ n → (m == n) ≡ true
-number_self m n e = grind (arith, nat_tests)
-
-pub or_false : (t u : Bool) → (t || u) ≡ false → t ≡ false
-or_false true u h = h
-or_false false u h = refl
-
 -- a number that two lists in one lack
 pub lacks_both : (a b : List ℕ) (n : ℕ) → has (a ++ b) n ≡ false → (has a n ≡ false) × (has b n ≡ false)
 lacks_both [] b n h = (refl, h)

@@ -3,15 +3,17 @@ use Rattle.std.specs.Prelude.{ℕ, suc, ◌+◌, ◌*◌, ◌≤◌, ◌==◌, �
 use Rattle.std.proofs.Common.{ap, sym, ◌∙◌, arith, inl, inr}
 use Rattle.std.proofs.Math.Nat.{suc-mul, mul-le-mul_right}
 use Rattle.std.proofs.lemmas.List.{map-append}
+use Rattle.std.proofs.lemmas.Bool.{eqb-true, eq-eqb, or_parts}
 use Rattle.msc_base.specs.Patterns.{Mode, seq, par}
 use Rattle.chart_term.specs.Equality.{same_tree}
 use Rattle.chart_term.specs.NormalForms.{NetPermits}
 use Rattle.chart_term.specs.Properties.{Each, Every, EveryOf, EveryRow}
 use Rattle.chart_term.specs.Tables.{Tables}
 use Rattle.chart_term.specs.Terms.{TermEvent, has, Tree, Nil, Event, Join, Choice, Tied, Loop, Walk, Trees, none, more, Row, ends, gap, turn, items, weight, weights}
-use Rattle.chart_term.proofs.Equal.{same_tree_is_exact, number_is}
+use Rattle.chart_term.proofs.Equal.{same_tree_is_exact}
 use Rattle.term_laws.specs.Listing.{residual_set, set_weight}
 use Rattle.msc_base.specs.Lists.{IsAmong}
+use Rattle.list_facts.proofs.Members.{among_left, among_right}
 use Rattle.term_laws.specs.Normality.{AreDifferent}
 use Rattle.term_laws.specs.OneResidual.{labels_of, labels_of_all, labels_of_row, AreOnce, HasNoGraph, IsStraight, AreStraight, IsUnbegun, HasStraightLoops, HaveStraightLoops, IsUnambiguous, OneResidual}
 use Rattle.term_laws.specs.Permission.{permits_of}
@@ -19,8 +21,7 @@ use Rattle.term_laws.specs.Residuals.{IsResidual, res_none, res_more}
 use Rattle.term_laws.proofs.Apart.{Apart, AllApart}
 use Rattle.term_laws.proofs.Single.{Single, SingleAll, SingleRow, after_single}
 use Rattle.term_laws.proofs.Everywhere.{after_every}
-use Rattle.term_laws.proofs.ListingExact.{among_left, among_right}
-use Rattle.term_laws.proofs.Numbers.{number_not, number_self, or_false, lacks_both}
+use Rattle.term_laws.proofs.Numbers.{number_not, lacks_both}
 use Rattle.term_laws.proofs.OneWay.{same_after}
 use Rattle.term_laws.proofs.OneWeight.{after_weight}
 use Rattle.term_laws.proofs.SetExact.{set_sound, different, alone}
@@ -45,7 +46,7 @@ once_apart (i ∷ a) b n h t = go (i == n) refl t (λ u. once_apart a b n h.1 u)
     lacks i n e p = rw e at p
 
     go : (u : Bool) → (i == n) ≡ u → (u || has a n) ≡ true → (has a n ≡ true → has b n ≡ false) → has b n ≡ false
-    go true e t f = lacks i n (number_is i n e) (lacks_both a b i h.0).1
+    go true e t f = lacks i n (eqb-true i n e) (lacks_both a b i h.0).1
     go false e t f = f t
 
 -- An unambiguous term is single
@@ -53,7 +54,7 @@ once_apart (i ∷ a) b n h t = go (i == n) refl t (λ u. once_apart a b n h.1 u)
 mutual
   lacks_of : (a : ℕ) (x : Tree) → HasNoGraph x → has (labels_of x) a ≡ false → Lacks a x
   lacks_of a Nil g h = tt
-  lacks_of a (Event e) g h = number_not e.label a (or_false (e.label == a) false h)
+  lacks_of a (Event e) g h = number_not e.label a ((or_parts (e.label == a) false h).0)
   lacks_of a (Join m xs) g h = lack_all_of a xs g h
   lacks_of a (Choice xs) g h = lack_all_of a xs g h
   lacks_of a (Tied x q) g h = lacks_of a x g h
@@ -197,24 +198,24 @@ mutual
   each_known es (Join m xs) g f = all_known es xs g f
   each_known es (Choice xs) g f = all_known es xs g f
   each_known es (Tied x q) g f = each_known es x g f
-  each_known es (Loop x lo hi r) g f = (each_known es x g.0 (λ e i. f e (among_left e (events_of x) (events_row r) i)), row_known es r g.1 (λ e i. f e (among_right e (events_of x) (events_row r) i)))
+  each_known es (Loop x lo hi r) g f = (each_known es x g.0 (λ e i. f e (among_left (events_of x) (events_row r) e i)), row_known es r g.1 (λ e i. f e (among_right (events_of x) (events_row r) e i)))
   each_known es (Walk n f t c) g h = absurd g
 
   all_known : (es : List TermEvent) (xs : Trees) → EveryOf (λ e. Unit {0}) (λ n. ⊥) xs → ((e : TermEvent) → IsAmong (events_all xs) e → IsAmong es e) → EveryOf (λ e. IsAmong es e) (λ n. ⊥) xs
   all_known es none g f = tt
-  all_known es (more x xs) g f = (each_known es x g.0 (λ e i. f e (among_left e (events_of x) (events_all xs) i)), all_known es xs g.1 (λ e i. f e (among_right e (events_of x) (events_all xs) i)))
+  all_known es (more x xs) g f = (each_known es x g.0 (λ e i. f e (among_left (events_of x) (events_all xs) e i)), all_known es xs g.1 (λ e i. f e (among_right (events_of x) (events_all xs) e i)))
 
   row_known : (es : List TermEvent) (r : Row) → EveryRow (λ e. Unit {0}) (λ n. ⊥) r → ((e : TermEvent) → IsAmong (events_row r) e → IsAmong es e) → EveryRow (λ e. IsAmong es e) (λ n. ⊥) r
   row_known es ends g f = tt
   row_known es (gap c r) g f = row_known es r g f
-  row_known es (turn x r) g f = (each_known es x g.0 (λ e i. f e (among_left e (events_of x) (events_row r) i)), row_known es r g.1 (λ e i. f e (among_right e (events_of x) (events_row r) i)))
+  row_known es (turn x r) g f = (each_known es x g.0 (λ e i. f e (among_left (events_of x) (events_row r) e i)), row_known es r g.1 (λ e i. f e (among_right (events_of x) (events_row r) e i)))
 
 has_label : (es : List TermEvent) (e : TermEvent) → IsAmong es e → has (labels es) e.label ≡ true
 has_label [] e h = absurd h
 has_label (f ∷ es) e (inl p) = go (ap (λ g. g.label) (sym p))
   where
     go : f.label ≡ e.label → ((f.label == e.label) || has (labels es) e.label) ≡ true
-    go q = rw q (rw (number_self e.label e.label refl) refl)
+    go q = rw q (rw (eq-eqb e.label e.label refl) refl)
 has_label (f ∷ es) e (inr i) = go (f.label == e.label) (has_label es e i)
   where
     go : (t : Bool) → has (labels es) e.label ≡ true → (t || has (labels es) e.label) ≡ true

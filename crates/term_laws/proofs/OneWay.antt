@@ -1,6 +1,7 @@
 -- In a single term an event leaves one term.
 use Rattle.std.specs.Prelude.{ℕ, Bool, List, [], ◌∷◌, ◌≡◌, ◌≢◌, ◌⊎◌, Option, Some, None, refl}
 use Rattle.std.proofs.Common.{ap, sym, ◌∙◌, inl, inr}
+use Rattle.std.proofs.lemmas.Option.{same_Some}
 use Rattle.msc_base.specs.Patterns.{Mode, seq, par}
 use Rattle.chart_term.specs.NormalForms.{NetPermits, only, join_all, tie_of, loop_of}
 use Rattle.chart_term.specs.Properties.{Each, EachTurn}
@@ -17,12 +18,9 @@ abbrev value : Tree → Option Tree → Tree
 value d None = d
 value d (Some x) = x
 
-some_is : (x y : Tree) → Some x ≡ Some y → x ≡ y
-some_is x y e = ap (value x) e
-
 -- the same answer
 some_same : (r s : Option Tree) (x y : Tree) → r ≡ s → r ≡ Some x → s ≡ Some y → x ≡ y
-some_same r s x y e p q = some_is x y (sym p ∙ (e ∙ q))
+some_same r s x y e p q = same_Some x y (sym p ∙ (e ∙ q))
 
 clash : (r s : Option Tree) (x : Tree) → r ≡ s → r ≡ None → s ≡ Some x → ⊥
 clash r s x e p q = cc

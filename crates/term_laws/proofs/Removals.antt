@@ -1,10 +1,8 @@
 -- Lists of numbers with members taken out: taking out one more from each, each list once, is taking out one more at the start.
 use Rattle.std.specs.Prelude.{ℕ, zero, suc, Bool, true, false, ◌&&◌, ◌||◌, List, [], ◌∷◌, ◌++◌, ◌≡◌, ◌==◌, refl}
 use Rattle.std.proofs.Common.{ap, sym, ◌∙◌, subst, append_assoc}
-use Rattle.std.proofs.lemmas.Bool.{and_parts}
+use Rattle.std.proofs.lemmas.Bool.{and_parts, eqb-true, eq-eqb}
 use Rattle.chart_term.specs.Equality.{same_numbers}
-use Rattle.chart_term.proofs.Equal.{number_is}
-use Rattle.term_laws.proofs.Numbers.{number_self}
 
 -- the lists with this number before
 abbrev pub with_first : ℕ → List (List ℕ) → List (List ℕ)
@@ -66,13 +64,13 @@ EachList P (x ∷ xs) = P x × EachList P xs
 
 same_is : (c d : List ℕ) → same_numbers c d ≡ true → c ≡ d
 same_is [] [] h = refl
-same_is (m ∷ c) (n ∷ d) h = let (p, q) = and_parts (m == n) (same_numbers c d) h in λ i. number_is m n p i ∷ same_is c d q i
+same_is (m ∷ c) (n ∷ d) h = let (p, q) = and_parts (m == n) (same_numbers c d) h in λ i. eqb-true m n p i ∷ same_is c d q i
 same_is [] (n ∷ d) h = cc
 same_is (m ∷ c) [] h = cc
 
 same_self : (c : List ℕ) → same_numbers c c ≡ true
 same_self [] = refl
-same_self (n ∷ c) = rw (number_self n n refl) (same_self c)
+same_self (n ∷ c) = rw (eq-eqb n n refl) (same_self c)
 
 -- leaving out
 without_app : (x : List ℕ) (a b : List (List ℕ)) → without_list x (a ++ b) ≡ without_list x a ++ without_list x b
@@ -146,7 +144,7 @@ with_app n (x ∷ a) b = ap (λ l. (n ∷ x) ∷ l) (with_app n a b)
 
 without_with : (n : ℕ) (x : List ℕ) (ys : List (List ℕ)) → without_list (n ∷ x) (with_first n ys) ≡ with_first n (without_list x ys)
 without_with n x [] = refl
-without_with n x (y ∷ ys) = go (n == n) (same_numbers x y) (number_self n n refl) (without_with n x ys)
+without_with n x (y ∷ ys) = go (n == n) (same_numbers x y) (eq-eqb n n refl) (without_with n x ys)
   where
     go : (t u : Bool) → t ≡ true → without_list (n ∷ x) (with_first n ys) ≡ with_first n (without_list x ys) → unless_list (t && u) (n ∷ y) (without_list (n ∷ x) (with_first n ys)) ≡ with_first n (unless_list u y (without_list x ys))
     go true true e h = h

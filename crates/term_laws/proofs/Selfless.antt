@@ -1,6 +1,7 @@
 -- In a sound term no number stands before itself, since each pattern has a linear order.
 use Rattle.std.specs.Prelude.{ℕ, ◌≤◌, ◌==◌, ◌&&◌, ◌||◌, ◌⊎◌, Bool, true, false, List, [], ◌∷◌, ◌≡◌, Option, refl}
 use Rattle.std.proofs.Common.{arith, inl, inr, sym, ◌∙◌}
+use Rattle.std.proofs.lemmas.Bool.{eqb-true}
 use Rattle.msc_base.specs.Patterns.{Mode, seq, empty, one, join, bind}
 use Rattle.chart_term.specs.NormalForms.{numbers}
 use Rattle.chart_term.specs.Properties.{Each, EachTurn}
@@ -11,7 +12,6 @@ use Rattle.chart_term.specs.TermRuns.{Runs, run_end, run_take}
 use Rattle.chart_term.specs.Terms.{TermEvent, Block, has, hits, Tree, Nil, Event, Join, Choice, Tied, Loop, Walk, Trees, none, more, Row, ends, gap, turn, items, Part, parts}
 use Rattle.chart_term.proofs.Arranging.{linear_run}
 use Rattle.chart_term.proofs.Sameness.{hits_earlier}
-use Rattle.chart_term.proofs.Equal.{number_is}
 use Rattle.term_laws.specs.FullSoundness.{EveryPartOf, EveryRowPart, times, HasOrders, HaveOperandsOrders}
 use Rattle.term_laws.specs.Normality.{AreShown, AreNormalTables, AreNormal, IsNormalRow, IsNormalOver}
 use Rattle.term_laws.specs.Permission.{permits_of}
@@ -70,7 +70,7 @@ stuck j q p {s = s} (run_end h) i = let e = over_times j s h in absurd (omega ar
 stuck j q p {s = s} (run_take {e = e} (take_bind {x' = t} a v) r) i = go (e.number == j) refl (λ u. stuck j q p r u)
   where
     go : (u : Bool) → (e.number == j) ≡ u → (1 ≤ times j t → ⊥) → ⊥
-    go true w f = self_clash q e.number j (number_is e.number j w) (sym (hits_earlier q e e) ∙ taken_hit (earlier q e) a v) p
+    go true w f = self_clash q e.number j (eqb-true e.number j w) (sym (hits_earlier q e e) ∙ taken_hit (earlier q e) a v) p
     go false w f = let k = taken_times j a w in f (omega arith)
 
 -- a number of a pair is one of the numbers
@@ -78,7 +78,7 @@ eq_or : (a b : ℕ) (t u : Bool) → (((a == b) && t) || u) ≡ true → ((a ≡
 eq_or a b t u h = go (a == b) refl h
   where
     go : (v : Bool) → (a == b) ≡ v → ((v && t) || u) ≡ true → ((a ≡ b) × (t ≡ true)) ⊎ (u ≡ true)
-    go true e h = two t h (number_is a b e)
+    go true e h = two t h (eqb-true a b e)
       where
         two : (t : Bool) → (t || u) ≡ true → a ≡ b → ((a ≡ b) × (t ≡ true)) ⊎ (u ≡ true)
         two true h e = inl (e, refl)

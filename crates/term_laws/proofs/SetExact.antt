@@ -1,21 +1,22 @@
 -- The computed set of residual terms is exact.
 use Rattle.std.specs.Prelude.{ℕ, ◌≤◌, Bool, true, false, List, [], ◌∷◌, ◌≡◌, ◌⊎◌, ◌==◌, refl}
 use Rattle.std.proofs.Common.{ap, sym, ◌∙◌, arith, inl, inr}
+use Rattle.std.proofs.lemmas.Bool.{eqb-true, eq-eqb}
 use Rattle.chart_term.specs.Equality.{same_tree}
 use Rattle.chart_term.specs.NormalForms.{NetPermits, unless_same, without, distinct}
 use Rattle.chart_term.specs.Properties.{Each}
 use Rattle.chart_term.specs.Tables.{Tables}
 use Rattle.chart_term.specs.Terms.{TermEvent, Tree}
-use Rattle.chart_term.proofs.Equal.{tree_is, number_is}
+use Rattle.chart_term.proofs.Equal.{tree_is}
 use Rattle.term_laws.specs.Listing.{Taken, after_list, labelled_one, labelled, all_after, next_set, residual_set, IsDeepEnough, AreDeepAlong, ResidualSetIsExact}
 use Rattle.msc_base.specs.Lists.{IsAmong}
+use Rattle.list_facts.proofs.Members.{among_either, among_left, among_right}
 use Rattle.term_laws.specs.Normality.{AreDifferent}
 use Rattle.term_laws.specs.Permission.{permits_of}
 use Rattle.term_laws.specs.Residuals.{IsResidual, res_none, res_more}
 use Rattle.term_laws.specs.Taking.{IsAfter}
-use Rattle.term_laws.proofs.ListingExact.{among_app, among_left, among_right, list_sound, list_whole}
+use Rattle.term_laws.proofs.ListingExact.{list_sound, list_whole}
 use Rattle.term_laws.proofs.Normalising.{are_different}
-use Rattle.term_laws.proofs.Numbers.{number_self}
 use Rattle.term_laws.proofs.TermSentences.{net_rank, kept_rank}
 use Rattle.term_laws.proofs.TidyTables.{nets_good}
 use Rattle.term_laws.proofs.Ranking.{rank}
@@ -30,7 +31,7 @@ without_from : (x y : Tree) (ys : List Tree) → IsAmong (without x ys) y → Is
 without_from x y [] h = h
 without_from x y (z ∷ ys) h = elim (unless_from (same_tree x z) z y (without x ys) h) [ inl e ↦ inl e | inr i ↦ inr (without_from x y ys i) ]
 
-distinct_from : (y : Tree) (xs : List Tree) → IsAmong (distinct xs) y → IsAmong xs y
+pub distinct_from : (y : Tree) (xs : List Tree) → IsAmong (distinct xs) y → IsAmong xs y
 distinct_from y [] h = h
 distinct_from y (x ∷ xs) (inl e) = inl e
 distinct_from y (x ∷ xs) (inr h) = inr (distinct_from y xs (without_from x y (distinct xs) h))
@@ -48,7 +49,7 @@ without_in x y [] h = absurd h
 without_in x y (z ∷ ys) (inl e) = unless_in (same_tree x z) x z y (without x ys) refl e
 without_in x y (z ∷ ys) (inr h) = elim (without_in x y ys h) [ inl e ↦ inl e | inr i ↦ inr (unless_later (same_tree x z) z y (without x ys) i) ]
 
-distinct_in : (y : Tree) (xs : List Tree) → IsAmong xs y → IsAmong (distinct xs) y
+pub distinct_in : (y : Tree) (xs : List Tree) → IsAmong xs y → IsAmong (distinct xs) y
 distinct_in y [] h = h
 distinct_in y (x ∷ xs) (inl e) = inl e
 distinct_in y (x ∷ xs) (inr h) = without_in x y (distinct xs) (distinct_in y xs h)
@@ -62,13 +63,13 @@ labelled_from a y (p ∷ ps) h = go (p.event.label == a) refl h (labelled_from a
     later r = (r.0, inr r.1, r.2, r.3)
 
     go : (b : Bool) → (p.event.label == a) ≡ b → IsAmong (labelled_one b p.term (labelled a ps)) y → (IsAmong (labelled a ps) y → (t : Taken) × IsAmong ps t × (t.event.label ≡ a) × (t.term ≡ y)) → (t : Taken) × IsAmong (p ∷ ps) t × (t.event.label ≡ a) × (t.term ≡ y)
-    go true e (inl q) f = (p, inl refl, number_is p.event.label a e, sym q)
+    go true e (inl q) f = (p, inl refl, eqb-true p.event.label a e, sym q)
     go true e (inr h) f = later (f h)
     go false e h f = later (f h)
 
 labelled_in : (a : ℕ) (t : Taken) (ps : List Taken) → IsAmong ps t → t.event.label ≡ a → IsAmong (labelled a ps) t.term
 labelled_in a t [] h e = absurd h
-labelled_in a t (p ∷ ps) (inl q) e = put (p.event.label == a) (number_self p.event.label a (ap (λ s. s.event.label) (sym q) ∙ e))
+labelled_in a t (p ∷ ps) (inl q) e = put (p.event.label == a) (eq-eqb p.event.label a (ap (λ s. s.event.label) (sym q) ∙ e))
   where
     put : (b : Bool) → b ≡ true → IsAmong (labelled_one b p.term (labelled a ps)) t.term
     put b s = rw s (inl (ap (λ s. s.term) q))
@@ -84,7 +85,7 @@ module _ (w : Tables) (n : ℕ) where
 
   after_from : (a : ℕ) (y : Tree) (xs : List Tree) → IsAmong (all_after n k a xs) y → (x : Tree) × IsAmong xs x × (t : Taken) × IsAmong (after_list n k x) t × (t.event.label ≡ a) × (t.term ≡ y)
   after_from a y [] h = absurd h
-  after_from a y (x ∷ xs) h = elim (among_app y (labelled a (after_list n k x)) (all_after n k a xs) h) [ inl i ↦ here (labelled_from a y (after_list n k x) i) | inr i ↦ later (after_from a y xs i) ]
+  after_from a y (x ∷ xs) h = elim (among_either (labelled a (after_list n k x)) (all_after n k a xs) y h) [ inl i ↦ here (labelled_from a y (after_list n k x) i) | inr i ↦ later (after_from a y xs i) ]
     where
       here : (t : Taken) × IsAmong (after_list n k x) t × (t.event.label ≡ a) × (t.term ≡ y) → (z : Tree) × IsAmong (x ∷ xs) z × (t : Taken) × IsAmong (after_list n k z) t × (t.event.label ≡ a) × (t.term ≡ y)
       here r = (x, inl refl, r.0, r.1, r.2, r.3)
@@ -94,11 +95,11 @@ module _ (w : Tables) (n : ℕ) where
 
   after_in : (a : ℕ) (x : Tree) (xs : List Tree) → IsAmong xs x → (t : Taken) → IsAmong (after_list n k x) t → t.event.label ≡ a → IsAmong (all_after n k a xs) t.term
   after_in a x [] h t i e = absurd h
-  after_in a x (z ∷ xs) (inl q) t i e = among_left t.term (labelled a (after_list n k z)) (all_after n k a xs) (labelled_in a t (after_list n k z) (moved z x (sym q) i) e)
+  after_in a x (z ∷ xs) (inl q) t i e = among_left (labelled a (after_list n k z)) (all_after n k a xs) t.term (labelled_in a t (after_list n k z) (moved z x (sym q) i) e)
     where
       moved : (z x : Tree) → z ≡ x → IsAmong (after_list n k x) t → IsAmong (after_list n k z) t
       moved z x q i = rw q i
-  after_in a x (z ∷ xs) (inr h) t i e = among_right t.term (labelled a (after_list n k z)) (all_after n k a xs) (after_in a x xs h t i e)
+  after_in a x (z ∷ xs) (inr h) t i e = among_right (labelled a (after_list n k z)) (all_after n k a xs) t.term (after_in a x xs h t i e)
 
   res_at : (a : ℕ) (x z : Tree) (l : List ℕ) (t : Taken) (y : Tree) → t.event.label ≡ a → t.term ≡ y → IsAfter k x t.event t.term → IsResidual k y l z → IsResidual k x (a ∷ l) z
   res_at a x z l t y q p h r = label_at t.event.label a q (res_more {z = z} h (from_term t.term y p r))

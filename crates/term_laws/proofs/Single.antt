@@ -3,16 +3,17 @@
 use Rattle.std.specs.Option.{option_map}
 use Rattle.std.specs.Prelude.{ℕ, zero, suc, ◌<◌, ◌==◌, Bool, true, false, List, [], ◌∷◌, ◌≡◌, ◌⊎◌, ◌||◌, Option, Some, None, refl}
 use Rattle.std.proofs.Common.{ap, ◌∙◌, inl, inr}
+use Rattle.std.proofs.lemmas.Bool.{eqb-true}
 use Rattle.msc_base.specs.Patterns.{Mode, seq, par}
+use Rattle.list_facts.proofs.Bools.{or_true}
 use Rattle.chart_term.specs.NormalForms.{NetPermits, only, cut, open_part, flat, join_of, join_all, and_then, or_skip, unless, open_choice, open_choices, distinct, choice_form, choice_of, bound_form, tie_of, kept_pairs, numbers, cut_gaps, drop_nil, at_zero, live, drop_free, has_free, lower_of, thin, has_gap, begun, turns_form, loop_of, turns_in}
 use Rattle.chart_term.specs.Properties.{Each, EachTurn, MayHave, Every, EveryOf}
 use Rattle.chart_term.specs.TermPatterns.{instances_of, earlier, some_list}
 use Rattle.chart_term.specs.Terms.{TermEvent, Block, has, has_some, hits, Tree, Nil, Event, Join, Choice, Tied, Loop, Walk, Trees, none, more, Row, ends, gap, turn, items, trees, Part, Gap, Turn, parts, row_of, weight, ◌∪◌}
-use Rattle.chart_term.proofs.Instances.{has_self, has_left, has_right, has_union, or_true, cut_into}
+use Rattle.chart_term.proofs.Instances.{has_self, has_left, has_right, has_union, cut_into}
 use Rattle.chart_term.proofs.Lists.{items-trees}
 use Rattle.chart_term.proofs.Looping.{IsSubRow, sub_end, sub_gap, sub_drop, sub_turn, sub_over, sub_nil, sub_zero, sub_live, sub_free}
 use Rattle.chart_term.specs.Spreads.{touch, touch_all}
-use Rattle.chart_term.proofs.Equal.{number_is}
 use Rattle.term_laws.specs.Permission.{permit, permit_all, permit_some, permit_row, with_turn}
 use Rattle.term_laws.specs.Taking.{Stays, fewer, down, IsAfter, after_event, after_choice, after_join, after_tied, after_loop, after_walk, IsAfterOne, first_one, later_one, IsAfterJoin, first_part, later_part, IsAfterRow, in_turn, in_gap, past_turn, past_gap}
 use Rattle.term_laws.proofs.Apart.{Apart, AllApart, Fewer, fewer_self, permit_fewer, after_fewer, Thins, thin_end, thin_keep, thin_skip, thins_self, apart_thins, flat_apart, choices_apart, distinct_thins}
@@ -178,7 +179,7 @@ module _ (m : ℕ) where
   settled_cut all (Turn x ∷ ps) h = settled_cut all ps h
 
   has_same : (c : List ℕ) (i n : ℕ) → (i == n) ≡ true → has c n ≡ true → has c i ≡ true
-  has_same c i n e h = let p : i ≡ n = number_is i n e in rw p h
+  has_same c i n e h = let p : i ≡ n = eqb-true i n e in rw p h
 
   hit_by : (c : List ℕ) (n at : ℕ) (o : Option ℕ) → has (at ∷ some_list o) n ≡ true → has c n ≡ true → ((has c at || has_some c o) || false) ≡ true
   hit_by c n at None h i = go (at == n) refl h

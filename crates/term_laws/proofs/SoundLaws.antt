@@ -1,6 +1,7 @@
 -- The laws of sound terms.
-use Rattle.std.specs.Prelude.{ℕ, true, false, List, [], ◌∷◌, ◌++◌, ◌≡◌, Option, Some, None, refl}
-use Rattle.std.proofs.Common.{ap, sym}
+use Rattle.std.specs.Prelude.{ℕ, true, false, List, [], ◌++◌, ◌≡◌, Option, Some, None, refl}
+use Rattle.std.proofs.Common.{sym}
+use Rattle.std.proofs.lemmas.List.{append-nil}
 use Rattle.chart_term.specs.Tables.{Tables, node_of, terms_over}
 use Rattle.chart_term.specs.TermMeanings.{HasPattern, Leaves, Avoiding, ◌⊑◌}
 use Rattle.chart_term.specs.TermPatterns.{Shape, Avoids, Both, back, HasNoEvent}
@@ -87,10 +88,6 @@ residual_sound : (w : Tables) {x y : Tree} {l : List ℕ} → IsResidual (permit
 residual_sound w res_none h = h
 residual_sound w (res_more {x = x} {y = y} {e = e} a r) h = residual_sound w r (after_sound_term w x y e h a)
 
-no_more : (l : List ℕ) → l ++ [] ≡ l
-no_more [] = refl
-no_more (n ∷ l) = ap (λ k. n ∷ k) (no_more l)
-
 runs_as : (s : Shape) (a b : List ℕ) → a ≡ b → Runs s a → Runs s b
 runs_as s a b e r = rw e at r
 
@@ -115,10 +112,10 @@ residuals_are_exact = record {
         let g = residual_sound w r.left h in
         let i = (may_end_is_exact.exact w r.term g.tables.tidy g.tidy).to r.ends in
         let m = runs_before (permits_of w) (node_of w) false (NetLacks w) (IsKnown w) (nets_good false w h.tables.tidy) (net_rank w) (kept_rank false w h.tables.tidy) r.left h.tidy i.pattern i.has [] (run_end i.empty) in
-        record { pattern = m.0; has = m.1; run = runs_linear (runs_as m.0 (l ++ []) l (no_more l) m.2) };
+        record { pattern = m.0; has = m.1; run = runs_linear (runs_as m.0 (l ++ []) l (append-nil l) m.2) };
     from = λ r.
         let i = residual_of (permits_of w) (node_of w) false (NetLacks w) (IsKnown w) (nets_good false w h.tables.tidy) (net_rank w) (kept_rank false w h.tables.tidy) l [] x h.tidy r.pattern r.has
-        (runs_as r.pattern l (l ++ []) (sym (no_more l)) (linear_run r.pattern l r.run)) in
+        (runs_as r.pattern l (l ++ []) (sym (append-nil l)) (linear_run r.pattern l r.run)) in
         let g = residual_sound w i.1 h in
         record { term = i.0; left = i.1; ends = (may_end_is_exact.exact w i.0 g.tables.tidy g.tidy).from (record { pattern = i.2; has = i.3; empty = run_stop i.2 i.4 }) };
   };

@@ -1,7 +1,7 @@
 -- What is left after an event are patterns from which the event was taken.
-use Rattle.std.specs.Prelude.{ℕ, zero, suc, ◌≤◌, Bool, true, false, List, [], ◌∷◌, ◌≡◌, Option, Some, None, ◌==◌, ◌⊎◌, refl}
+use Rattle.std.specs.Prelude.{ℕ, zero, suc, ◌≤◌, Bool, true, false, List, [], ◌∷◌, ◌≡◌, Option, Some, None, ◌⊎◌, refl}
 use Rattle.std.proofs.Common.{ap, arith, inl, inr}
-use Rattle.std.proofs.lemmas.Bool.Decides.{nat_tests}
+use Rattle.std.proofs.lemmas.Bool.{eqb-true}
 use Rattle.msc_base.specs.Patterns.{Mode, seq, par, empty, one, join, bind}
 use Rattle.hmsc_graph.specs.Graphs.{Spot, At, Goal, To}
 use Rattle.msc_base.specs.Lists.{IsIn}
@@ -29,20 +29,24 @@ abbrev pub IsLower : Bool → ℕ → ℕ → Type 0
 IsLower true n m = n ≡ suc m
 IsLower false n m = n ≡ m
 
+-- what a set of terms is closed under, as far as patterns need it
+pub record IsHeld (k : NetPermits) (node : ℕ → ℕ → Tree) (o : Bool) (IsGood : Tree → Type 0) : Type 0 where
+  pub ok : (x : Tree) → IsGood x → IsRegular k node o x
+  pub joined : (m : Mode) (x : Tree) (xs : Trees) → IsGood (Join m (more x xs)) → IsGood x × IsGood (Join m xs)
+  pub chosen : (x : Tree) (xs : Trees) → IsGood (Choice (more x xs)) → IsGood x × IsGood (Choice xs)
+  pub tied : (x : Tree) (q : List (ℕ × ℕ)) → IsGood (Tied x q) → IsGood x
+  pub operand : (x : Tree) (lo : ℕ) (hi : Option ℕ) (r : Row) → IsGood (Loop x lo hi r) → IsGood x
+  pub begun : (x : Tree) (lo : ℕ) (hi : Option ℕ) (y : Tree) (r : Row) → IsGood (Loop x lo hi r) → IsTurnOf y (parts r) → IsGood y
+  pub permitted : (c : List ℕ) (x y : Tree) → IsGood x → permit k (only c) x ≡ Some y → IsGood y
+  pub kept : (n : ℕ) (f : Spot) (t : Goal) (c d : List ℕ) (m : ℕ) (x : Tree) → IsGood (Walk n f t c) → IsIn m (k.nodes n) → k.kept n m d ≡ Some x → IsGood x
+
 module _ (k : NetPermits) (node : ℕ → ℕ → Tree) (o : Bool) where
   abbrev w : NetTerms
   w = terms_of k node
 
   -- what a set of sound terms is closed under
   pub record IsClosed (IsGood : Tree → Type 0) : Type 0 where
-    pub ok : (x : Tree) → IsGood x → IsRegular k node o x
-    pub joined : (m : Mode) (x : Tree) (xs : Trees) → IsGood (Join m (more x xs)) → IsGood x × IsGood (Join m xs)
-    pub chosen : (x : Tree) (xs : Trees) → IsGood (Choice (more x xs)) → IsGood x × IsGood (Choice xs)
-    pub tied : (x : Tree) (q : List (ℕ × ℕ)) → IsGood (Tied x q) → IsGood x
-    pub operand : (x : Tree) (lo : ℕ) (hi : Option ℕ) (r : Row) → IsGood (Loop x lo hi r) → IsGood x
-    pub begun : (x : Tree) (lo : ℕ) (hi : Option ℕ) (y : Tree) (r : Row) → IsGood (Loop x lo hi r) → IsTurnOf y (parts r) → IsGood y
-    pub permitted : (c : List ℕ) (x y : Tree) → IsGood x → permit k (only c) x ≡ Some y → IsGood y
-    pub kept : (n : ℕ) (f : Spot) (t : Goal) (c d : List ℕ) (m : ℕ) (x : Tree) → IsGood (Walk n f t c) → IsIn m (k.nodes n) → k.kept n m d ≡ Some x → IsGood x
+    pub held : IsHeld k node o IsGood
     pub known : (n m : ℕ) (d : List ℕ) (x : Tree) → k.kept n m d ≡ Some x → IsIn m (k.nodes n)
     pub fits : (x y : Tree) (q : List (ℕ × ℕ)) (e : TermEvent) → IsGood (Tied x q) → IsAfter k x e y → Leaves w o (earlier q e) y (permit k (earlier q e) y)
     pub shows : (x y z : Tree) (q : List (ℕ × ℕ)) (e : TermEvent) → IsGood (Tied x q) → IsAfter k x e y → permit k (earlier q e) y ≡ Some z → (j : ℕ) → InPairs j q → Shows w o z j
@@ -51,7 +55,7 @@ module _ (k : NetPermits) (node : ℕ → ℕ → Tree) (o : Bool) where
 
   module _ (IsGood : Tree → Type 0) (closed : IsClosed IsGood) where
     leaves : (x : Tree) → IsGood x → (c : List ℕ) → Leaves w o (only c) x (permit k (only c) x)
-    leaves x g c = permit_law k node o x (closed.ok x g) (only c) (only_fits k node o c x)
+    leaves x g c = permit_law k node o x (closed.held.ok x g) (only c) (only_fits k node o c x)
 
     -- a permitted part, seen from what it leaves
     seen : (x y : Tree) (c : List ℕ) → IsGood x → permit k (only c) x ≡ Some y → HasPattern w o y ⊑ Avoiding (only c) (HasPattern w o x)
@@ -94,13 +98,9 @@ module _ (k : NetPermits) (node : ℕ → ℕ → Tree) (o : Bool) where
     fewer_down true lo (Some i) e h = omega arith
     fewer_down false lo (Some i) e h = h
 
-    -- one walk, a node and another walk
-    same_node : (m i : ℕ) → (m == i) ≡ true → m ≡ i
-    same_node m i h = grind (arith, nat_tests)
-
     join_walks : (n m : ℕ) (f : Spot) (t : Goal) (c : List ℕ) (u s v : Shape) → Walks k node o n f (To m) c u → HasPattern w o (node n m) s → Avoids (only c) s → Walks k node o n (At m) t c v → (z : Shape) × Walks k node o n f t c z × (join seq u (join seq s v) ≈ z)
     join_walks n m f t c u s v (walk_stop h) a av r = absurd h
-    join_walks n m f t c u s v (walk_last i j p) a av r = let e = same_node i m p in (_, walk_step m (rw e at j) a av r, left)
+    join_walks n m f t c u s v (walk_last i j p) a av r = let e = eqb-true i m p in (_, walk_step m (rw e at j) a av r, left)
     join_walks n m f t c u s v (walk_step i j b bv q) a av r = let z = join_walks n m (At i) t c _ s v q a av r in (_, walk_step i j b bv z.1, on assoc (in_join same z.2))
 
     walk_avoids : (n : ℕ) (f : Spot) (t : Goal) (c d : List ℕ) (s : Shape) → Walks k node o n f t (c ∪ d) s → Avoids (only d) s
@@ -138,8 +138,8 @@ module _ (k : NetPermits) (node : ℕ → ℕ → Tree) (o : Bool) where
         → ((m : ℕ) → Rows w o x ps m ⊑ TakingRow b x (parts r) e m)
         → loop_of (λ c. permit k (only c) x) (touch k.spread x) x (down b lo) (fewer b hi) ps ≡ Some z → HasPattern w o z ⊑ Taking e (HasPattern w o (Loop x lo hi r))
     loop_sound x z b lo hi r e ps g u d hm h q s a =
-        let gx = closed.operand x lo hi r g in
-        let okx = closed.ok x gx in
+        let gx = closed.held.operand x lo hi r g in
+        let okx = closed.held.ok x gx in
         let T = rw q at (turns_to w o x (λ c. permit k (only c) x) (leaves x gx) (touch k.spread x)
         (λ c s a. (cut_avoids (touch k.spread x) c s (inside k node o x okx s a)).to) (λ c s a. (cut_avoids (touch k.spread x) c s (inside k node o x okx s a)).from)
         (down b lo) (fewer b hi) ps (fewer_down b lo hi hm u)) in
@@ -182,7 +182,7 @@ module _ (k : NetPermits) (node : ℕ → ℕ → Tree) (o : Bool) where
     good_turns : (x : Tree) (lo : ℕ) (hi : Option ℕ) (r : Row) → IsGood (Loop x lo hi r) → (ps : List Part) → ((y : Tree) → IsTurnOf y ps → IsTurnOf y (parts r)) → GoodTurns ps
     good_turns x lo hi r g [] f = tt
     good_turns x lo hi r g (Gap c ∷ ps) f = good_turns x lo hi r g ps f
-    good_turns x lo hi r g (Turn y ∷ ps) f = (closed.begun x lo hi y r g (f y (inl refl)), good_turns x lo hi r g ps (λ z i. f z (inr i)))
+    good_turns x lo hi r g (Turn y ∷ ps) f = (closed.held.begun x lo hi y r g (f y (inl refl)), good_turns x lo hi r g ps (λ z i. f z (inr i)))
 
     join_sound : (m : Mode) (xs : Trees) (ys : List Tree) (e : TermEvent) → HasParts w o m ys ⊑ Taking e (HasParts w o m (items xs)) → HasPattern w o (join_all m ys) ⊑ Taking e (HasPattern w o (Join m xs))
     join_sound m xs ys e f s a = let i = join_to w o m ys s a in let j = f i.0 i.1 in (j.0, (j.1.0, has_join j.1.1, j.1.2), on i.2 j.2)
@@ -214,25 +214,25 @@ module _ (k : NetPermits) (node : ℕ → ℕ → Tree) (o : Bool) where
       after_sound {e = e} (after_join {m = m} {xs = xs} {ys = ys} h) g = join_sound m xs ys e (parts_sound h g)
       after_sound {e = e} (after_tied {x = x} {y = y} {z = z} {q = q} h p) g =
           trans (HasPattern w o (tie_of z q)) (HasPattern w o (Tied z q)) (Taking e (HasPattern w o (Tied x q))) (bound_to w o z q (closed.shows x y z q e g h p))
-          (bound_sound x y z q e (closed.no_self x q e g) (rw p at ((closed.fits x y q e g h).sound)) (after_sound h (closed.tied x q g)))
+          (bound_sound x y z q e (closed.no_self x q e g) (rw p at ((closed.fits x y q e g h).sound)) (after_sound h (closed.held.tied x q g)))
       after_sound {e = e} (after_loop {x = x} {z = z} {lo = lo} {hi = hi} {r = r} b {ps = ps} h hm q) g =
-          loop_sound x z b lo hi r e ps g ((closed.ok (Loop x lo hi r) g).2) (closed.falls x b lo hi r e ps g h) hm
-          (row_sound h (closed.operand x lo hi r g) (good_turns x lo hi r g (parts r) (λ y i. i))) q
+          loop_sound x z b lo hi r e ps g ((closed.held.ok (Loop x lo hi r) g).2) (closed.falls x b lo hi r e ps g h) hm
+          (row_sound h (closed.held.operand x lo hi r g) (good_turns x lo hi r g (parts r) (λ y i. i))) q
       after_sound {e = e} (after_walk {n = n} {s = f} {t = t} {c = c} m {x = x} {y = y} {u = u} {v = v} p h p1 p2 q r) g =
-          trail_sound n f t c e m x y u v (closed.ok (Walk n f t c) g) (closed.known n m c x p) p (after_sound h (closed.kept n f t c c m x g (closed.known n m c x p) p)) q r
+          trail_sound n f t c e m x y u v (closed.held.ok (Walk n f t c) g) (closed.known n m c x p) p (after_sound h (closed.held.kept n f t c c m x g (closed.known n m c x p) p)) q r
 
       one_sound : {xs : Trees} {y : Tree} {e : TermEvent} → IsAfterOne k xs e y → IsGood (Choice xs) → HasPattern w o y ⊑ Taking e (HasChoice w o (items xs))
-      one_sound {y = y} {e = e} (first_one {x = x} {xs = xs} h) g = this_sound x y (items xs) e (after_sound h ((closed.chosen x xs g).0))
-      one_sound {y = y} {e = e} (later_one {x = x} {xs = xs} h) g = that_sound x y (items xs) e (one_sound h ((closed.chosen x xs g).1))
+      one_sound {y = y} {e = e} (first_one {x = x} {xs = xs} h) g = this_sound x y (items xs) e (after_sound h ((closed.held.chosen x xs g).0))
+      one_sound {y = y} {e = e} (later_one {x = x} {xs = xs} h) g = that_sound x y (items xs) e (one_sound h ((closed.held.chosen x xs g).1))
 
       parts_sound : {m : Mode} {xs : Trees} {ys : List Tree} {e : TermEvent} → IsAfterJoin k m xs e ys → IsGood (Join m xs) → HasParts w o m ys ⊑ Taking e (HasParts w o m (items xs))
-      parts_sound {e = e} (first_part {m = m} {x = x} {y = y} {xs = xs} h) g = first_sound m x y (items xs) e (after_sound h ((closed.joined m x xs g).0))
+      parts_sound {e = e} (first_part {m = m} {x = x} {y = y} {xs = xs} h) g = first_sound m x y (items xs) e (after_sound h ((closed.held.joined m x xs g).0))
       parts_sound {e = e} (later_part {m = m} {x = x} {x' = y} {xs = xs} {ys = ys} p h) g =
-          later_sound m x y (items xs) ys e (stays_sound m e x y ((closed.joined m x xs g).0) p) (parts_sound h ((closed.joined m x xs g).1))
+          later_sound m x y (items xs) ys e (stays_sound m e x y ((closed.held.joined m x xs g).0) p) (parts_sound h ((closed.held.joined m x xs g).1))
 
       row_sound : {x : Tree} {b : Bool} {ps qs : List Part} {e : TermEvent} → IsAfterRow k x b ps e qs → IsGood x → GoodTurns ps → (m : ℕ) → Rows w o x qs m ⊑ TakingRow b x ps e m
       row_sound {e = e} (in_turn {x = x} {y = y} {z = z} {ps = ps} h) g t = turn_begun x y z ps e (after_sound h t.0)
       row_sound {e = e} (in_gap {x = x} {y = y} {z = z} {c = c} {ps = ps} p h) g t =
-          new_turn x y z c (c ∪ (instances_of e).instances) ps e (seen x y c g p) (after_sound h (closed.permitted c x y g p)) (wide c e)
+          new_turn x y z c (c ∪ (instances_of e).instances) ps e (seen x y c g p) (after_sound h (closed.held.permitted c x y g p)) (wide c e)
       row_sound {e = e} (past_turn {x = x} {y = y} {z = z} {b = b} {ps = ps} {qs = qs} p h) g t = turn_passed b x y z ps qs e (seen y z (instances_of e).instances t.0 p) (row_sound h g t.1)
       row_sound {e = e} (past_gap {x = x} {c = c} {b = b} {ps = ps} {qs = qs} h) g t = gap_passed b x c (c ∪ (instances_of e).instances) ps qs e (wide c e) (row_sound h g t)

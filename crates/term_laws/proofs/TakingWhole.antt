@@ -51,7 +51,7 @@ module _ (k : NetPermits) (node : ℕ → ℕ → Tree) (o : Bool) where
       (permit_rank : (b : Block) (x y : Tree) → permit k b x ≡ Some y → rank nr y ≤ rank nr x)
       (kept_rank : (n m : ℕ) (c : List ℕ) (x : Tree) → k.kept n m c ≡ Some x → rank nr x ≤ nr n) where
     leaves : (x : Tree) → IsGood x → (c : List ℕ) → Leaves w o (only c) x (permit k (only c) x)
-    leaves x g c = permit_law k node o x (closed.ok x g) (only c) (only_fits k node o c x)
+    leaves x g c = permit_law k node o x (closed.held.ok x g) (only c) (only_fits k node o c x)
 
     -- the claim for all terms up to a rank
     abbrev Claim : ℕ → Type 0
@@ -67,17 +67,17 @@ module _ (k : NetPermits) (node : ℕ → ℕ → Tree) (o : Bool) where
     parts_whole : (n : ℕ) → Claim n → (m : Mode) (xs : Trees) → ranks nr xs ≤ n → IsGood (Join m xs) → (s : Shape) (e : TermEvent) (t : Shape) → HasParts w o m (items xs) s → Takes s e t → LeftParts m xs e t
     parts_whole n ih m none l g s e t no_part h = elim h [ ]
     parts_whole n ih m (more x xs) l g s e t (one_part {t = u} a r) (take_first h) =
-        let i = ih x (omega arith) (closed.joined m x xs g).0 _ e _ a h in
+        let i = ih x (omega arith) (closed.held.joined m x xs g).0 _ e _ a h in
         (i.0 ∷ items xs, first_part i.1, join m i.2 u, one_part i.3 r, in_join i.4 same)
     parts_whole n ih m (more x xs) l g s e t (one_part a r) (take_later p h) =
-        let i = stays_whole m x (closed.joined m x xs g).0 e _ a p in
-        let j = parts_whole n ih m xs (omega arith) (closed.joined m x xs g).1 _ e _ r h in
+        let i = stays_whole m x (closed.held.joined m x xs g).0 e _ a p in
+        let j = parts_whole n ih m xs (omega arith) (closed.held.joined m x xs g).1 _ e _ r h in
         (i.0 ∷ j.0, later_part i.1 j.1, join m i.2 j.2, one_part i.3 j.3, in_join i.4 j.4)
 
     one_whole : (n : ℕ) → Claim n → (xs : Trees) → ranks nr xs ≤ n → IsGood (Choice xs) → (s : Shape) (e : TermEvent) (t : Shape) → HasChoice w o (items xs) s → Takes s e t → LeftOne xs e t
     one_whole n ih none l g s e t a h = elim a [ ]
-    one_whole n ih (more x xs) l g s e t (this_one a) h = let i = ih x (omega arith) (closed.chosen x xs g).0 s e t a h in (i.0, first_one i.1, i.2, i.3, i.4)
-    one_whole n ih (more x xs) l g s e t (that_one a) h = let i = one_whole n ih xs (omega arith) (closed.chosen x xs g).1 s e t a h in (i.0, later_one i.1, i.2, i.3, i.4)
+    one_whole n ih (more x xs) l g s e t (this_one a) h = let i = ih x (omega arith) (closed.held.chosen x xs g).0 s e t a h in (i.0, first_one i.1, i.2, i.3, i.4)
+    one_whole n ih (more x xs) l g s e t (that_one a) h = let i = one_whole n ih xs (omega arith) (closed.held.chosen x xs g).1 s e t a h in (i.0, later_one i.1, i.2, i.3, i.4)
 
     -- rows: the claim for each begun turn
     abbrev Turned : List Part → Type 0
@@ -135,8 +135,8 @@ module _ (k : NetPermits) (node : ℕ → ℕ → Tree) (o : Bool) where
 
     loop_whole : (x : Tree) (lo : ℕ) (hi : Option ℕ) (r : Row) → IsGood (Loop x lo hi r) → (n : ℕ) (e : TermEvent) (t : Shape) → lo ≤ n → UpTo hi n → LeftRow x (parts r) n e t → Left (Loop x lo hi r) e t
     loop_whole x lo hi r g n e t l u (b, qs, m, h, c, s, a, q) =
-        let gx = closed.operand x lo hi r g in
-        let okx = closed.ok x gx in
+        let gx = closed.held.operand x lo hi r g in
+        let okx = closed.held.ok x gx in
         let i = turns_from w o x (λ c. permit k (only c) x) (leaves x gx) (touch k.spread x)
         (λ c s a. (cut_avoids (touch k.spread x) c s (inside k node o x okx s a)).to) (λ c s a. (cut_avoids (touch k.spread x) c s (inside k node o x okx s a)).from)
         (down b lo) (fewer b hi) qs (closed.falls x b lo hi r e qs g h) s (m, a, low_down b lo n m c l, high_down b hi n m c u) in
@@ -147,7 +147,7 @@ module _ (k : NetPermits) (node : ℕ → ℕ → Tree) (o : Bool) where
     turned n ih x lo hi r g ps ends e l f = tt
     turned n ih x lo hi r g ps (gap c q) e l f = turned n ih x lo hi r g (parts q) q refl (omega arith) (λ y i. f y (rw (← e) i))
     turned n ih x lo hi r g ps (turn y q) e l f = (
-      (closed.begun x lo hi y r g (f y (rw (← e) (inl refl))), λ s v t a h. ih y (omega arith) (closed.begun x lo hi y r g (f y (rw (← e) (inl refl)))) s v t a h),
+      (closed.held.begun x lo hi y r g (f y (rw (← e) (inl refl))), λ s v t a h. ih y (omega arith) (closed.held.begun x lo hi y r g (f y (rw (← e) (inl refl)))) s v t a h),
       turned n ih x lo hi r g (parts q) q refl (omega arith) (λ z i. f z (rw (← e) (inr i))),
     )
 
@@ -215,16 +215,16 @@ module _ (k : NetPermits) (node : ℕ → ℕ → Tree) (o : Bool) where
         let j = join_from w o m i.0 i.2 i.3 in
         (join_all m i.0, after_join i.1, j.0, j.1, on i.4 j.2)
     step n ih (Choice xs) l g s e t (has_choice a) h = let i = one_whole n ih xs (omega arith) g s e t a h in (i.0, after_choice i.1, i.2, i.3, i.4)
-    step n ih (Tied x q) l g s e t (holds_tie a) (take_bind h p) = bound_whole x q e _ g (avoids_left (earlier q e) h p) (ih x (omega arith) (closed.tied x q g) _ e _ a h)
+    step n ih (Tied x q) l g s e t (holds_tie a) (take_bind h p) = bound_whole x q e _ g (avoids_left (earlier q e) h p) (ih x (omega arith) (closed.held.tied x q g) _ e _ a h)
     step n ih (Loop x lo hi r) l g s e t (holds_loop i a low up) h =
-        let gx = closed.operand x lo hi r g in
+        let gx = closed.held.operand x lo hi r g in
         loop_whole x lo hi r g i e t low up
-        (rows_whole x gx (λ y c q s v t b u. let f = permit_rank (only c) x y q in ih y (omega arith) (closed.permitted c x y gx q) s v t b u)
+        (rows_whole x gx (λ y c q s v t b u. let f = permit_rank (only c) x y q in ih y (omega arith) (closed.held.permitted c x y gx q) s v t b u)
         (parts r) (turned n ih x lo hi r g (parts r) r refl (omega arith) (λ y j. j)) i s e t a h)
     step n ih (Walk m f t c) l g s e z (holds_walk a) h =
-        let fine = closed.ok (Walk m f t c) g in
+        let fine = closed.held.ok (Walk m f t c) g in
         trail_whole m f t c fine e z
-        (walks_whole m fine c (λ j x q kx s v u b p. let f' = kept_rank m j c x kx in ih x (omega arith) (closed.kept m f t c c j x g q kx) s v u b p) f t s e z a h)
+        (walks_whole m fine c (λ j x q kx s v u b p. let f' = kept_rank m j c x kx in ih x (omega arith) (closed.held.kept m f t c c j x g q kx) s v u b p) f t s e z a h)
 
     claim : (n : ℕ) → Claim n
     claim zero x l g s e t a h = absurd (no_rank x l)

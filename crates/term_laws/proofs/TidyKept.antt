@@ -5,12 +5,14 @@ use Rattle.std.proofs.lemmas.Bool.Decides.{nat_tests}
 use Rattle.msc_base.specs.Patterns.{Mode, empty, one, join, bind}
 use Rattle.hmsc_graph.specs.Graphs.{Spot, Goal}
 use Rattle.msc_base.specs.Lists.{IsIn}
+use Rattle.list_facts.proofs.Bools.{or_true}
+use Rattle.term_laws.proofs.Normalising.{each_gap_sub}
 use Rattle.chart_term.specs.NormalForms.{NetPermits, only, lower_of, cut_gaps, cut, numbers, numbers_row, numbers_all}
 use Rattle.chart_term.specs.Properties.{Each, EachTurn, MayHave, EveryRow, EveryOf, Every, EachGap}
 use Rattle.chart_term.specs.TermMeanings.{NetTerms, UpTo, HasPattern, has_nil, has_event, has_join, has_choice, holds_tie, holds_loop, holds_walk, HasParts, no_part, one_part, HasChoice, this_one, that_one, HasRow, gaps_end, gaps_turn, gaps_shut, gaps_more, HasWalk, walk_stop, walk_last, walk_step, terms_of}
 use Rattle.chart_term.specs.TermPatterns.{instances_of, earlier, Shape, Avoids, put_if, before_in, InPairs, Occurs}
 use Rattle.chart_term.specs.Terms.{TermEvent, Block, hits, has, Tree, Nil, Event, Join, Choice, Tied, Loop, Walk, Trees, none, more, Row, ends, gap, turn, items, trees, Part, Gap, Turn, parts, row_of, ◌∪◌}
-use Rattle.chart_term.proofs.Instances.{has_union, includes_avoids, or_true, cut_out, cut_into, has_self, has_left, has_right}
+use Rattle.chart_term.proofs.Instances.{has_union, includes_avoids, cut_out, cut_into, has_self, has_left, has_right}
 use Rattle.chart_term.proofs.Lists.{parts-row_of}
 use Rattle.chart_term.proofs.Looping.{Eases, Falls, IsSubRow, sub_end, sub_gap, sub_drop, sub_turn, sub_over}
 use Rattle.chart_term.proofs.Sameness.{hits_earlier}
@@ -55,16 +57,9 @@ wide_both c g d h n i = rw (has_union c d n) (go (has g n) refl (sym (has_union 
     go true e j = let p : has c n ≡ true = h n e in rw p refl
     go false e j = let p : has d n ≡ true = rw e at j in rw p (or_true (has c n))
 
-each_sub : (q : List ℕ → Type 0) {ps qs : List Part} → IsSubRow ps qs → EachGap q qs → EachGap q ps
-each_sub q sub_end e = tt
-each_sub q (sub_gap h) e = (e.0, each_sub q h e.1)
-each_sub q (sub_drop h) e = each_sub q h e.1
-each_sub q (sub_turn h) e = each_sub q h e
-each_sub q (sub_over h) e = each_sub q h e
-
 pub never_sub : {ps qs : List Part} → IsSubRow ps qs → NeverGrows qs → NeverGrows ps
 never_sub sub_end e = tt
-never_sub (sub_gap {c = c} h) e = (each_sub (Includes c) h e.0, never_sub h e.1)
+never_sub (sub_gap {c = c} h) e = (each_gap_sub (Includes c) h e.0, never_sub h e.1)
 never_sub (sub_drop h) e = never_sub h e.1
 never_sub (sub_turn h) e = never_sub h e
 never_sub (sub_over h) e = never_sub h e
@@ -530,14 +525,16 @@ module _ (k : NetPermits) (node : ℕ → ℕ → Tree) (o : Bool) (NL : ℕ →
 
     pub closed : IsClosed k node o Tidy
     closed = record {
-      ok = good_ok;
-      joined = λ m x xs h. (h.0, h.1);
-      chosen = λ x xs h. (h.0, h.1);
-      tied = λ x q h. h.0;
-      operand = λ x lo hi r h. h.0;
-      begun = λ x lo hi y r h i. begun_good y (parts r) (good_row_out r h.1) i;
-      permitted = λ c x y h e. at_some Tidy (permit k (only c) x) y e (permit_good (only c) x h);
-      kept = λ n f t c d m x h i e. nets.good n m d x h e;
+      held = record {
+        ok = good_ok;
+        joined = λ m x xs h. (h.0, h.1);
+        chosen = λ x xs h. (h.0, h.1);
+        tied = λ x q h. h.0;
+        operand = λ x lo hi r h. h.0;
+        begun = λ x lo hi y r h i. begun_good y (parts r) (good_row_out r h.1) i;
+        permitted = λ c x y h e. at_some Tidy (permit k (only c) x) y e (permit_good (only c) x h);
+        kept = λ n f t c d m x h i e. nets.good n m d x h e;
+      };
       known = nets.known;
       fits = λ x y q e h a. permit_law k node o y (good_ok y (after_good a h.0)) (earlier q e) (outs_fit (earlier q e) y (λ j p. outside_fits j y (after_out j a (h.1 j (earlier_pairs q e.number j p)))));
       shows = λ x y z q e h a p. after_shows x y z q e h.1 a p;

@@ -1,6 +1,7 @@
 -- How often a number stands in the patterns of a term, against the term's form.
 use Rattle.std.specs.Prelude.{ℕ, ◌≤◌, ◌==◌, ◌≢◌, ◌||◌, Bool, true, false, cond, List, ◌≡◌, ◌⊎◌, refl}
 use Rattle.std.proofs.Common.{inl, inr, arith}
+use Rattle.std.proofs.lemmas.Bool.{eqb-true, or_parts, both_ways}
 use Rattle.msc_base.specs.Patterns.{Mode, empty, one, join, bind}
 use Rattle.chart_term.specs.NormalForms.{numbers, numbers_all, numbers_row}
 use Rattle.chart_term.specs.Properties.{Each, EveryRow}
@@ -8,7 +9,6 @@ use Rattle.chart_term.specs.Tables.{Tables, net_count, node_of, terms_over}
 use Rattle.chart_term.specs.TermMeanings.{HasPattern, has_nil, has_event, has_join, has_choice, holds_tie, holds_loop, holds_walk, HasParts, no_part, one_part, HasChoice, this_one, that_one}
 use Rattle.chart_term.specs.TermPatterns.{Shape, InPairs}
 use Rattle.chart_term.specs.Terms.{TermEvent, has, Tree, Nil, Event, Join, Choice, Tied, Loop, Walk, Trees, none, more, Row, ends, gap, turn, items}
-use Rattle.chart_term.proofs.Equal.{number_is}
 use Rattle.term_laws.specs.FullSoundness.{times, EveryPart, EveryPartOf, EveryRowPart, AreTiesOnce}
 use Rattle.term_laws.specs.Normality.{AreNormalTables, IsNormalOver, AreNormal, IsNormalRow}
 use Rattle.term_laws.specs.Permission.{permits_of}
@@ -16,7 +16,7 @@ use Rattle.term_laws.specs.Soundness.{AreTidyTables, IsTidyOver, IsOutside, AreO
 use Rattle.term_laws.proofs.EveryPart.{part_map}
 use Rattle.term_laws.proofs.Even.{AllEven, RowEven, IsEvenOver, some_even}
 use Rattle.term_laws.proofs.Later.{tidy_below}
-use Rattle.term_laws.proofs.Numbers.{number_not, or_false, lacks_both, has_either}
+use Rattle.term_laws.proofs.Numbers.{number_not, lacks_both, has_either}
 use Rattle.term_laws.proofs.Once.{Once, OnceAll, OnceEach, OnceList, FreeAll, once_out, each_out}
 use Rattle.term_laws.proofs.TidyKept.{NoNumber, lacks_none}
 use Rattle.term_laws.proofs.TidyTables.{nets_good}
@@ -24,9 +24,6 @@ use Rattle.term_laws.proofs.TidyTables.{nets_good}
 -- the property of ties by the form of the term
 abbrev pub TiesOnce : (ℕ → ℕ → Type 0) → Tree → Type 0
 TiesOnce NL x = EveryPart (λ e. Unit {0}) (λ y q. (j : ℕ) → InPairs j q → Once NL j y) (λ y. Unit {0}) (λ n f t. Unit {0}) x
-
-not_both : (t : Bool) → t ≡ true → t ≡ false → ⊥
-not_both t p q = cc
 
 abbrev pub one_or_none : Bool → ℕ
 one_or_none t = cond t 1 0
@@ -40,7 +37,7 @@ none_times j empty h = refl
 none_times j (one e) h = go (e.number == j) refl
   where
     go : (t : Bool) → (e.number == j) ≡ t → one_or_none t ≡ 0
-    go true p = absurd (h (number_is e.number j p))
+    go true p = absurd (h (eqb-true e.number j p))
     go false p = refl
 none_times j (join m x y) h = let p = none_times j x h.0 in let q = none_times j y h.1 in omega arith
 none_times j (bind x q) h = none_times j x h
@@ -56,31 +53,31 @@ module _ (NL : ℕ → ℕ → Type 0) (j : ℕ) where
   -- a number that a term lacks is none of its numbers, and the other way round outside loops and nets
   mutual
     lacks_numbers : (x : Tree) → Lacks NL j x → has (numbers x) j ≡ true → ⊥
-    lacks_numbers Nil h i = not_both false i refl
+    lacks_numbers Nil h i = both_ways false refl i
     lacks_numbers (Event e) h i = go (e.number == j) refl i
       where
         go : (t : Bool) → (e.number == j) ≡ t → (t || false) ≡ true → ⊥
-        go true p i = h (number_is e.number j p)
-        go false p i = not_both false i refl
+        go true p i = h (eqb-true e.number j p)
+        go false p i = both_ways false refl i
     lacks_numbers (Join m xs) h i = lacks_all_numbers xs h i
     lacks_numbers (Choice xs) h i = lacks_all_numbers xs h i
     lacks_numbers (Tied x q) h i = lacks_numbers x h i
     lacks_numbers (Loop x lo hi r) h i = elim (has_either (numbers x) (numbers_row r) j i) [ inl p ↦ lacks_numbers x h.0 p | inr p ↦ lacks_row_numbers r h.1 p ]
-    lacks_numbers (Walk n f t c) h i = not_both false i refl
+    lacks_numbers (Walk n f t c) h i = both_ways false refl i
 
     lacks_all_numbers : (xs : Trees) → FreeAll NL j xs → has (numbers_all xs) j ≡ true → ⊥
-    lacks_all_numbers none h i = not_both false i refl
+    lacks_all_numbers none h i = both_ways false refl i
     lacks_all_numbers (more x xs) h i = elim (has_either (numbers x) (numbers_all xs) j i) [ inl p ↦ lacks_numbers x h.0 p | inr p ↦ lacks_all_numbers xs h.1 p ]
 
     lacks_row_numbers : (r : Row) → EveryRow (λ e. e.number ≢ j) (NL j) r → has (numbers_row r) j ≡ true → ⊥
-    lacks_row_numbers ends h i = not_both false i refl
+    lacks_row_numbers ends h i = both_ways false refl i
     lacks_row_numbers (gap c r) h i = lacks_row_numbers r h i
     lacks_row_numbers (turn x r) h i = elim (has_either (numbers x) (numbers_row r) j i) [ inl p ↦ lacks_numbers x h.0 p | inr p ↦ lacks_row_numbers r h.1 p ]
 
   mutual
     lacks_if : (x : Tree) → IsOutside NL j x → has (numbers x) j ≡ false → Lacks NL j x
     lacks_if Nil o h = tt
-    lacks_if (Event e) o h = number_not e.number j (or_false (e.number == j) false h)
+    lacks_if (Event e) o h = number_not e.number j ((or_parts (e.number == j) false h).0)
     lacks_if (Join m xs) o h = all_lacks_if xs o h
     lacks_if (Choice xs) o h = all_lacks_if xs o h
     lacks_if (Tied x q) o h = lacks_if x o h
@@ -137,16 +134,16 @@ module _ (w : Tables) (h : AreTidyTables w) (j : ℕ) where
     -- a pattern with the number
     mutual
       pub some_with : (x : Tree) → IsOutside (NetLacks w) j x → IsEvenOver w x → IsNormalOver w x → has (numbers x) j ≡ true → (s : Shape) × P x s × (1 ≤ times j s)
-      some_with Nil o t n i = absurd (not_both false i refl)
+      some_with Nil o t n i = absurd (both_ways false refl i)
       some_with (Event e) o t n i = (one e, has_event, event_times j e i)
       some_with (Join m xs) o t n i = let r = some_in m xs o t n.0 i in (r.0, has_join r.1, r.2)
       some_with (Choice xs) o t n i = let r = some_one xs o t n.0 i in (r.0, has_choice r.1, r.2)
       some_with (Tied x q) o t n i = let r = some_with x o t.0 n.0 i in (bind r.0 q, holds_tie r.1, r.2)
       some_with (Loop x lo hi r) o t n i = absurd (lacks_numbers (NetLacks w) j (Loop x lo hi r) o i)
-      some_with (Walk n f t c) o l m i = absurd (not_both false i refl)
+      some_with (Walk n f t c) o l m i = absurd (both_ways false refl i)
 
       some_in : (m : Mode) (xs : Trees) → AreOutside (NetLacks w) j xs → AllEven (NetLacks w) (IsKnown w) xs → AreNormal (permits_of w) xs → has (numbers_all xs) j ≡ true → (s : Shape) × Parts m xs s × (1 ≤ times j s)
-      some_in m none o t n i = absurd (not_both false i refl)
+      some_in m none o t n i = absurd (both_ways false refl i)
       some_in m (more x xs) o t n i =
           elim (has_either (numbers x) (numbers_all xs) j i) [
             | inl p ↦ let r = some_with x o.0 t.0 n.0 p in let u = some_parts m xs t.1 n.1 in (join m r.0 u.0, one_part r.1 u.1, omega (arith, r.2))
@@ -154,7 +151,7 @@ module _ (w : Tables) (h : AreTidyTables w) (j : ℕ) where
           ]
 
       some_one : (xs : Trees) → AreOutside (NetLacks w) j xs → AllEven (NetLacks w) (IsKnown w) xs → AreNormal (permits_of w) xs → has (numbers_all xs) j ≡ true → (s : Shape) × HasChoice (terms_over w) true (items xs) s × (1 ≤ times j s)
-      some_one none o t n i = absurd (not_both false i refl)
+      some_one none o t n i = absurd (both_ways false refl i)
       some_one (more x xs) o t n i =
           elim (has_either (numbers x) (numbers_all xs) j i) [
             | inl p ↦ let r = some_with x o.0 t.0 n.0 p in (r.0, this_one r.1, r.2)

@@ -1,6 +1,7 @@
 -- Lists of portions: one more at the end, over later tables, and what their join means.
-use Rattle.std.specs.Prelude.{ℕ, ◌≤◌, Bool, List, [], ◌∷◌, ◌++◌, ◌≡◌}
-use Rattle.std.proofs.Common.{ap, sym, refl, subst, arith, inl}
+use Rattle.std.specs.Prelude.{ℕ, ◌≤◌, Bool, List, [], ◌∷◌, ◌++◌}
+use Rattle.std.proofs.Common.{sym, subst, arith, inl}
+use Rattle.std.proofs.lemmas.List.{append-nil, append_assoc}
 use Rattle.msc_base.specs.Orders.{Once}
 use Rattle.msc_base.specs.Patterns.{Mode}
 use Rattle.msc_unfolding.specs.Unfoldings.{Unfolding}
@@ -19,21 +20,13 @@ use Rattle.term_meaning.specs.Portions.{Shown, IsPortion}
 use Rattle.term_meaning.proofs.Extended.{later_same, keeps_same, portion_later_still}
 use Rattle.term_meaning.proofs.PortionRules.{portion_no_part, portion_part, portion_join_all}
 
-shown_none : (sh : Shown) → sh ++ [] ≡ sh
-shown_none [] = refl
-shown_none (p ∷ sh) = ap (λ l. p ∷ l) (shown_none sh)
-
-shown_assoc : (a b c : Shown) → (a ++ b) ++ c ≡ a ++ (b ++ c)
-shown_assoc [] b c = refl
-shown_assoc (p ∷ a) b c = ap (λ l. p ∷ l) (shown_assoc a b c)
-
 module _ {Item : Type 0} (OfItem : Item → Bool → Unfolding → Type 0) where
   -- one step of a loop that goes forward
   pub portions_last : (v : NetsValue) (names : List (List ℕ)) (a b c : ℕ) (sh ti : Shown) (xs : List Tree) (x : Tree) (is : List Item) (i : Item)
       → ArePortions OfItem v names a b sh xs is → IsPortionFromNow v names b c ti x (OfItem i) → ArePortions OfItem v names a c (sh ++ ti) (xs ++ x ∷ []) (is ++ i ∷ [])
-  portions_last v names _ b c _ ti _ x _ i no_portion p = subst (λ (l : Shown). ArePortions OfItem v names b c l (x ∷ []) (i ∷ [])) (shown_none ti) (a_portion p no_portion)
+  portions_last v names _ b c _ ti _ x _ i no_portion p = subst (λ (l : Shown). ArePortions OfItem v names b c l (x ∷ []) (i ∷ [])) (append-nil ti) (a_portion p no_portion)
   portions_last v names a b c _ ti _ x _ i (a_portion {b = d} {sh = sh} {ti = ui} {x = y} {xs = ys} {i = j} {is = js} q r) p =
-      subst (λ (l : Shown). ArePortions OfItem v names a c l (y ∷ (ys ++ x ∷ [])) (j ∷ (js ++ i ∷ []))) (sym (shown_assoc sh ui ti)) (a_portion q (portions_last v names d b c ui ti ys x js i r p))
+      subst (λ (l : Shown). ArePortions OfItem v names a c l (y ∷ (ys ++ x ∷ [])) (j ∷ (js ++ i ∷ []))) (sym (append_assoc sh ui ti)) (a_portion q (portions_last v names d b c ui ti ys x js i r p))
 
   -- over later tables
   pub portions_later : LaterTablesAgree → (v later : NetsValue) (names others : List (List ℕ)) → IsLater v later → KeepsPlaces names others → AreTidyTables later.tables → (a b : ℕ) (sh : Shown) (xs : List Tree) (is : List Item)

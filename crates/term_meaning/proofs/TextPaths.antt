@@ -2,44 +2,31 @@
 use Rattle.std.specs.Prelude.{ℕ, zero, suc, ◌<◌, List, [], ◌∷◌, Some, ◌≡◌, map, length}
 use Rattle.std.specs.List.{slice_get}
 use Rattle.std.specs.Str.{bytes_eq}
-use Rattle.std.proofs.Common.{ap, sym, ◌∙◌, refl, inl, inr, arith, get_or, subst}
+use Rattle.std.proofs.Common.{ap, sym, ◌∙◌, inl, inr, arith, get_or, subst}
 use Rattle.std.proofs.lemmas.List.Quantifiers.{position-Some}
+use Rattle.std.proofs.lemmas.List.{length-map}
 use Rattle.msc_base.specs.declared.label.LabelRef.{LabelRef}
 use Rattle.msc_base.specs.Orders.{Among, first, later}
 use Rattle.hmsc_graph.specs.declared.shape.Shape.{Shape}
 use Rattle.hmsc_graph.specs.declared.shape.ShapeLine.{ShapeLine}
 use Rattle.hmsc_graph.specs.Graphs.{Net, Spot, Start, At, behind}
 use Rattle.msc_base.specs.Lists.{IsIn}
+use Rattle.list_facts.proofs.Joining.{same_head, same_tail}
+use Rattle.list_facts.proofs.Reading.{some_at}
 use Rattle.hmsc_graph.specs.Shapes.{line_number, AreNumbers, AreNext, IsGraphOf}
 use Rattle.term_meaning.specs.LineWalks.{IsPath, path_none, path_more}
 use Rattle.term_meaning.specs.ShapePaths.{IsNamedBy, IsLinePath, lines_none, lines_more, PathsAreOfText}
-
-module _ {X : Type 0} where
-  head_is : (x y : X) (xs ys : List X) → x ∷ xs ≡ y ∷ ys → x ≡ y
-  head_is x y xs ys h = cc
-
-  tail_is : (x y : X) (xs ys : List X) → x ∷ xs ≡ y ∷ ys → xs ≡ ys
-  tail_is x y xs ys h = cc
-
-  there_is : (xs : List X) (i : ℕ) → i < length xs → (x : X) × (slice_get xs i ≡ Some x)
-  there_is [] i h = absurd (omega (arith, h))
-  there_is (x ∷ xs) zero h = (x, refl)
-  there_is (x ∷ xs) (suc i) h = there_is xs i (omega (arith, h))
-
-map_length : {X Y : Type 0} (f : X → Y) (xs : List X) → length (map f xs) ≡ length xs
-map_length f [] = refl
-map_length f (x ∷ xs) = ap suc (map_length f xs)
 
 module _ (lines : List ShapeLine) where
   -- the numbers of labels are those of the lines that they name
   number_in : (labels : List LabelRef) (ns : List ℕ) (m : ℕ) (k : LabelRef) → AreNumbers lines labels ns → Among k labels → line_number lines k.name ≡ Some m → IsIn m ns
   number_in [] ns m k h a e = elim a [ ]
   number_in (l ∷ labels) [] m k h a e = absurd cc
-  number_in (l ∷ labels) (n ∷ ns) m _ h first e = inl (sym (numbers n m (head_is (Some n) (line_number lines l.name) (map (λ j. Some j) ns) (map (λ (j : LabelRef). line_number lines j.name) labels) h ∙ e)))
+  number_in (l ∷ labels) (n ∷ ns) m _ h first e = inl (sym (numbers n m (same_head (Some n) (line_number lines l.name) (map (λ j. Some j) ns) (map (λ (j : LabelRef). line_number lines j.name) labels) h ∙ e)))
     where
       numbers : (a b : ℕ) → Some a ≡ Some b → a ≡ b
       numbers a b e = cc
-  number_in (l ∷ labels) (n ∷ ns) m k h (later a) e = inr (number_in labels ns m k (tail_is (Some n) (line_number lines l.name) (map (λ j. Some j) ns) (map (λ (j : LabelRef). line_number lines j.name) labels) h) a e)
+  number_in (l ∷ labels) (n ∷ ns) m k h (later a) e = inr (number_in labels ns m k (same_tail (Some n) (line_number lines l.name) (map (λ j. Some j) ns) (map (λ (j : LabelRef). line_number lines j.name) labels) h) a e)
 
   named_in : (labels : List LabelRef) (ns : List ℕ) (m : ℕ) → AreNumbers lines labels ns → IsNamedBy lines labels m → IsIn m ns
   named_in labels ns m h i = number_in labels ns m i.label h i.among i.is
@@ -48,9 +35,9 @@ module _ (lines : List ShapeLine) where
   in_named labels [] m h i = absurd i
   in_named [] (n ∷ ns) m h i = absurd cc
   in_named (l ∷ labels) (n ∷ ns) m h (inl e) =
-      record { label = l; among = first; is = sym (head_is (Some n) (line_number lines l.name) (map (λ j. Some j) ns) (map (λ (j : LabelRef). line_number lines j.name) labels) h) ∙ ap Some (sym e) }
+      record { label = l; among = first; is = sym (same_head (Some n) (line_number lines l.name) (map (λ j. Some j) ns) (map (λ (j : LabelRef). line_number lines j.name) labels) h) ∙ ap Some (sym e) }
   in_named (l ∷ labels) (n ∷ ns) m h (inr i) =
-      let r = in_named labels ns m (tail_is (Some n) (line_number lines l.name) (map (λ j. Some j) ns) (map (λ (j : LabelRef). line_number lines j.name) labels) h) i in
+      let r = in_named labels ns m (same_tail (Some n) (line_number lines l.name) (map (λ j. Some j) ns) (map (λ (j : LabelRef). line_number lines j.name) labels) h) i in
       record { label = r.label; among = later r.among; is = r.is }
 
   -- the next lines of a line
@@ -61,10 +48,10 @@ module _ (lines : List ShapeLine) where
   next_of (l ∷ rest) (ns ∷ next) (suc k) line (h, i) e = next_of rest next k line i e
 
   line_of : (label : LabelRef) (m : ℕ) → line_number lines label.name ≡ Some m → (line : ShapeLine) × (slice_get lines m ≡ Some line)
-  line_of label m h = there_is lines m (within (position-Some (bytes_eq label.name) (map (λ (line : ShapeLine). line.label) lines) m [] h).0)
+  line_of label m h = some_at lines m (within (position-Some (bytes_eq label.name) (map (λ (line : ShapeLine). line.label) lines) m [] h).0)
     where
       within : m < length (map (λ (line : ShapeLine). line.label) lines) → m < length lines
-      within l = omega (arith, l, map_length (λ (line : ShapeLine). line.label) lines)
+      within l = omega (arith, l, length-map lines (λ (line : ShapeLine). line.label))
 
 module _ (shape : Shape) (g : Net) (h : IsGraphOf shape g) where
   to : (ms : List ℕ) (labels : List LabelRef) (f : Spot) → AreNumbers shape.lines labels (behind g f) → IsLinePath shape.lines labels ms → IsPath g f ms

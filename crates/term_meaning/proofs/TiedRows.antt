@@ -1,5 +1,5 @@
 -- Events in a row below a tie mean their one unfolding, and are sound in full where the pairs rise.
-use Rattle.std.specs.Prelude.{ℕ, suc, ◌==◌, ◌&&◌, ◌||◌, Bool, true, false, List, [], ◌∷◌, ◌≡◌, map}
+use Rattle.std.specs.Prelude.{ℕ, suc, ◌==◌, ◌&&◌, ◌||◌, Bool, false, List, [], ◌∷◌, ◌≡◌, map}
 use Rattle.std.proofs.Common.{ap, sym, ◌∙◌, refl, subst}
 use Rattle.msc_base.specs.declared.label.Label.{Label}
 use Rattle.msc_base.specs.Orders.{Once}
@@ -18,6 +18,7 @@ use Rattle.sound_terms.specs.RisingRows.{AreNumberedFrom, RisingRowsAreSound}
 use Rattle.std.proofs.lemmas.Option.{slice_get_within}
 use Rattle.chart_term.specs.Terms.{Nil}
 use Rattle.std.specs.Prelude.{length}
+use Rattle.list_facts.proofs.Bools.{or_false}
 use Rattle.term_laws.specs.Soundness.{AreTidyTables, NetLacks}
 use Rattle.sound_terms.proofs.RisingRows.{flat_events}
 use Rattle.term_meaning.specs.Meanings.{Mean, MeansUnfoldings}
@@ -44,10 +45,6 @@ tied_only t a u = record { to = λ h. to u h; from = λ e. subst (AreTied (λ x.
 -- the tags of an event are its own number
 abbrev pub own : ℕ → List Tag
 own n = Own n ∷ []
-
-or_false : (b : Bool) → (b || false) ≡ b
-or_false true = refl
-or_false false = refl
 
 own_joins : (q : List (ℕ × ℕ)) (m n : ℕ) → pairs q m n ≡ joins (own_pairs q) (own m) (own n)
 own_joins q m n = is q ∙ sym (or_false (is_pair (own_pairs q) (Own m) (Own n) || false) ∙ or_false (is_pair (own_pairs q) (Own m) (Own n)))

@@ -4,6 +4,7 @@ use Rattle.std.specs.Prelude.{ℕ, ◌<◌, ◌==◌, ◌&&◌, ◌||◌, not, B
 use Rattle.std.specs.Str.{bytes_eq}
 use Rattle.std.proofs.Common.{inl, inr, refl, arith}
 use Rattle.std.proofs.lemmas.Bool.Decides.{Decides-eqb}
+use Rattle.std.proofs.lemmas.Bool.{and_parts}
 use Rattle.label_table.specs.Labels.{same_label}
 use Rattle.label_table.proofs.Equality.{label_self, bytes_self}
 use Rattle.msc_base.specs.Orders.{Among, first, later, Once}
@@ -11,10 +12,6 @@ use Rattle.sound_terms.specs.RisingRows.{DoRise}
 use Rattle.term_meaning.specs.TiedRows.{AreRowOf, TiedRowsMean}
 use Rattle.term_meaning.specs.TwoMessages.{two_messages, their_pairs, their_tables, their_names, their_events, TwoMessagesMean}
 use Rattle.sound_terms.proofs.Places.{or_case, or_this, or_that}
-
-and_both : (a b : Bool) → (a && b) ≡ true → (a ≡ true) × (b ≡ true)
-and_both true b h = (refl, h)
-and_both false b h = absurd cc
 
 -- a test that nothing stands twice
 module _ {X : Type 0} (eq : X → X → Bool) (self : (x : X) → eq x x ≡ true) where
@@ -33,7 +30,7 @@ module _ {X : Type 0} (eq : X → X → Bool) (self : (x : X) → eq x x ≡ tru
   pub found_once : (xs : List X) → are_once xs ≡ true → Once xs
   found_once [] h = tt
   found_once (x ∷ xs) h =
-      let (a, b) = and_both (not (list_any (eq x) xs)) (are_once xs) h in
+      let (a, b) = and_parts (not (list_any (eq x) xs)) (are_once xs) h in
       (λ i. not_so (list_any (eq x) xs) a (among_found x xs i), found_once xs b)
 
 rises : DoRise their_pairs
@@ -43,7 +40,7 @@ rises m n h = elim (or_case ((m == 0) && (n == 1)) (((m == 2) && (n == 3)) || fa
 ]
   where
     pair : (m n k l : ℕ) → k < l → ((m == k) && (n == l)) ≡ true → m < n
-    pair m n k l lt h = let (a, b) = and_both (m == k) (n == l) h in let c = (Decides-eqb m k).0 a in let d = (Decides-eqb n l).0 b in omega (arith, lt, c, d)
+    pair m n k l lt h = let (a, b) = and_parts (m == k) (n == l) h in let c = (Decides-eqb m k).0 a in let d = (Decides-eqb n l).0 b in omega (arith, lt, c, d)
 
 their_term : AreRowOf their_tables their_names two_messages their_events
 their_term = record {

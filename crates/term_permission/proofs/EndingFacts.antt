@@ -1,17 +1,19 @@
 -- Whether a term may end, part by part.
 use Rattle.std.specs.Prelude.{ℕ, zero, suc, ◌+◌, ◌<◌, ◌≤◌, Bool, true, false, List, [], ◌∷◌, ◌++◌, ◌≡◌, ◌≢◌, ◌↔◌, ◌⊎◌, Option, Some, refl, length, take, slice_get, IsTrue, Result, Ok, Err, IfOk}
 use Rattle.std.proofs.Common.{◌∙◌, ap, sym, subst, arith, inl, inr}
+use Rattle.std.proofs.lemmas.Option.{slice_get_within}
 use Rattle.msc_base.specs.Patterns.{Mode, seq, par}
 use Rattle.hmsc_graph.specs.Graphs.{Net, Spot, Start, At, Goal, To, End, Any, WalkThrough, last, step, behind}
 use Rattle.msc_base.specs.Lists.{IsIn}
 use Rattle.hmsc_graph.specs.Nets.{IsNet, size_of}
 use Rattle.bit_sets.specs.NodeSets.{NodeSetValue, HasNoNodes}
+use Rattle.list_facts.proofs.Reading.{take_step}
 use Rattle.hmsc_graph.specs.Walks.{Leads}
 use Rattle.chart_term.specs.NormalForms.{has_gap}
 use Rattle.chart_term.specs.Tables.{Tables, net_of, node_of, terms_over}
 use Rattle.chart_term.specs.TermMeanings.{NetTerms, aim}
 use Rattle.chart_term.specs.Terms.{TermEvent, Tree, Nil, Event, Join, Choice, Tied, Loop, Walk, Trees, trees, items, Part, Gap, Turn, row_of}
-use Rattle.chart_term.proofs.Lists.{items-trees, parts-row_of, take_step}
+use Rattle.chart_term.proofs.Lists.{items-trees, parts-row_of}
 use Rattle.term_laws.proofs.Measures.{rank-seq, rank-par, rank-some, rank-tied, rank-loop}
 use Rattle.term_permission.proofs.Permits.{ready-seq, ready-par, ready-choice, ready-tied}
 use Rattle.term_permission.specs.Endings.{AreEnding, EndsAs, MayPartEnd}
@@ -77,11 +79,6 @@ module _ (w : NetTerms) where
   one_where (x ∷ xs) (end_this a) = (0, x, refl, a)
   one_where (x ∷ xs) (end_that h) = let (j, y, g, m) = one_where xs h in (suc j, y, g, m)
 
-  got_below : (xs : List Tree) (j : ℕ) (x : Tree) → slice_get xs j ≡ Some x → j < length xs
-  got_below [] j x g = cc
-  got_below (y ∷ xs) zero x g = omega arith
-  got_below (y ∷ xs) (suc j) x g = let l = got_below xs j x g in omega arith
-
   this_or : (j skip : ℕ) → (j ≡ skip) ⊎ (j ≢ skip)
   this_or j skip = grind arith
 
@@ -89,7 +86,7 @@ module _ (w : NetTerms) where
   all-but xs skip i x l e h = (
     λ m. all_each xs (λ j y g. elim (this_or j skip) [
       | inl q ↦ let same : Some x ≡ Some y = sym e ∙ (ap (slice_get xs) (sym q) ∙ g) in let is : x ≡ y = cc in subst (MayEnd w) is m
-      | inr n ↦ h j y (let b = got_below xs j y g in omega (arith, l)) n g
+      | inr n ↦ h j y (let b = slice_get_within xs j y g in omega (arith, l)) n g
     ]),
     λ a. all-at xs skip x e a,
   )
@@ -99,7 +96,7 @@ module _ (w : NetTerms) where
     λ m. one-at xs skip x e m,
     λ o. let (j, y, g, m) = one_where xs o in elim (this_or j skip) [
       | inl q ↦ let same : Some x ≡ Some y = sym e ∙ (ap (slice_get xs) (sym q) ∙ g) in let is : x ≡ y = cc in subst (MayEnd w) (sym is) m
-      | inr n ↦ absurd (h j y (let b = got_below xs j y g in omega (arith, l)) n g m)
+      | inr n ↦ absurd (h j y (let b = slice_get_within xs j y g in omega (arith, l)) n g m)
     ],
   )
 

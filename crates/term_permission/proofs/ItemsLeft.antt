@@ -9,11 +9,11 @@ use Rattle.chart_term.specs.Terms.{Block, Tree, Choice, Tied, trees, Part, Gap, 
 use Rattle.chart_term.proofs.Lists.{items-trees}
 use Rattle.chart_term.proofs.Turns.{begun-append}
 use Rattle.msc_base.specs.Patterns.{Mode}
+use Rattle.list_facts.proofs.Reading.{drop_suc}
 use Rattle.term_permission.specs.Lefts.{opened_left}
 use Rattle.term_permission.specs.Ready.{IsReady}
 use Rattle.term_permission.proofs.EndingFacts.{take_all}
 use Rattle.term_permission.proofs.Joins.{left-front}
-use Rattle.term_permission.proofs.PermitRows.{drop_next}
 use Rattle.term_laws.specs.Normality.{IsPartOf}
 use Rattle.term_laws.specs.Permission.{permit, permit_all, permit_some, permits_of}
 use Rattle.term_laws.proofs.Identity.{flat_same, choice_same, bound_same}
@@ -26,7 +26,7 @@ each-at T (Turn y ∷ ps) zero x g h = let e : y ≡ x = cc in subst T e h.0
 each-at T (Turn y ∷ ps) (suc i) x g h = each-at T ps i x g h.1
 
 next_drop : (ps : List Part) (i j : ℕ) (t : Part) → slice_get ps i ≡ Some t → i + 1 ≡ j → drop i ps ≡ t ∷ drop j ps
-next_drop ps i j t g e = drop_next ps i t g ∙ ap (λ n. t ∷ drop n ps) (sym (add-one i) ∙ e)
+next_drop ps i j t g e = drop_suc ps i t g ∙ ap (λ n. t ∷ drop n ps) (sym (add-one i) ∙ e)
 
 pub items-gap : (ps : List Part) (i j : ℕ) (c : List ℕ) → slice_get ps i ≡ Some (Gap c) → i + 1 ≡ j → begun (drop i ps) ≡ begun (drop j ps)
 items-gap ps i j c g e = ap begun (next_drop ps i j (Gap c) g e)

@@ -1,7 +1,7 @@
 -- What permission leaves of the parts of a join, opened part by part.
 use Rattle.std.specs.Option.{option_map}
 use Rattle.std.specs.Prelude.{ℕ, zero, suc, ◌+◌, Bool, true, false, List, [], ◌∷◌, ◌++◌, ◌≡◌, ◌||◌, Option, Some, None, refl, take, drop, slice_get, Result, Ok, Err, IfOk}
-use Rattle.std.proofs.Common.{ap, sym, ◌∙◌, subst, arith, append_assoc, append-nil}
+use Rattle.std.proofs.Common.{ap, sym, ◌∙◌, append_assoc}
 use Rattle.msc_base.specs.Patterns.{Mode, seq, par}
 use Rattle.chart_term.specs.NormalForms.{NetPermits, and_then, begun, flat, has_gap, open_part}
 use Rattle.chart_term.specs.Properties.{Each, EachTurn}
@@ -9,7 +9,8 @@ use Rattle.chart_term.specs.Rows.{part_of, parts_of}
 use Rattle.chart_term.specs.Terms.{Block, Tree, Nil, Join, trees, Part, Gap, Turn}
 use Rattle.chart_term.specs.declared.term.RowPart.{RowPart}
 use Rattle.std.proofs.lemmas.List.{map-append, take-map, drop-map}
-use Rattle.chart_term.proofs.Lists.{items-trees, take_step}
+use Rattle.list_facts.proofs.Reading.{take_step}
+use Rattle.chart_term.proofs.Lists.{items-trees}
 use Rattle.chart_term.proofs.Turns.{begun-append, gap-append}
 use Rattle.term_permission.specs.Lefts.{and_app, opened_left}
 use Rattle.term_laws.specs.Normality.{IsPartOf}

@@ -1,6 +1,7 @@
 pub mod RowRests
 pub mod Permits
 pub mod PermitRows
+mod Halves
 pub mod PermitLoops
 pub mod NodeTerms
 pub mod PassingFacts

@@ -1,12 +1,13 @@
 -- A search for the nodes that a walk reaches and can pass.
 use Rattle.std.specs.Prelude.{ℕ, ◌≡◌, ◌↔◌, ◌⊎◌, Bool, true, false, List, [], ◌∷◌, ◌++◌, Option, Some, None}
-use Rattle.std.proofs.Common.{inl, inr, refl, sym, ap, subst, ◌∙◌, arith, OnOk, Result, Ok, Err}
+use Rattle.std.proofs.Common.{inl, inr, refl, sym, ap, subst, ◌∙◌, arith}
 use Rattle.hmsc_graph.specs.Graphs.{Net, Spot, At, To, WalkThrough, behind}
 use Rattle.hmsc_graph.specs.Searches.{HasEntered}
 use Rattle.hmsc_graph.specs.declared.search.Traversal.{Traversal}
-use Rattle.hmsc_graph.proofs.MemberFacts.{in_pushed, pushed_in, in_left}
+use Rattle.hmsc_graph.proofs.MemberFacts.{pushed_in}
 use Rattle.hmsc_graph.proofs.SearchFacts.{search_on, search_past, search_ended}
 use Rattle.msc_base.specs.Lists.{IsIn}
+use Rattle.list_facts.proofs.Members.{among_left, among_snoc}
 use Rattle.chart_term.specs.NormalForms.{some_kept}
 use Rattle.chart_term.specs.Terms.{Tree}
 use Rattle.term_permission.specs.Passing.{ArePassable, IsPassing, HasVisited, HaveCommon}
@@ -63,7 +64,7 @@ module _ (g : Net) (node : ℕ) (left : Remnant) (was : Traversal) (had : Passab
         passes = h.passes;
         fills = h.fills;
         asked = λ m i. elim (h.asked m i) [
-          | inl n ↦ elim (in_pushed m node was.waiting.items n) [ inl o ↦ inl o | inr q ↦ inr (λ a. absurd (shut (subst (λ (k : ℕ). IsIn k allowed) q a))) ]
+          | inl n ↦ elim (among_snoc was.waiting.items node m n) [ inl o ↦ inl o | inr q ↦ inr (λ a. absurd (shut (subst (λ (k : ℕ). IsIn k allowed) q a))) ]
           | inr d ↦ inr d
         ];
       }
@@ -92,7 +93,7 @@ module _ (g : Net) (node : ℕ) (left : Remnant) (was : Traversal) (had : Passab
           fills = λ m i. elim ((full m).0 i) [ inl o ↦ let p = h.fills m o in ((passed m).1 (inl p.0), p.1) | inr p ↦ ((passed m).1 (inr p.0), ap (λ k. is_full (kept k)) p.0 ∙ p.1) ];
           asked = λ m i. elim (entered.fresh m i) [
             | inl o ↦ elim (h.asked m o) [
-              | inl n ↦ elim (in_pushed m node was.waiting.items n) [
+              | inl n ↦ elim (among_snoc was.waiting.items node m n) [
                 | inl l ↦ inl (entered.waiting m l)
                 | inr e ↦ inr (λ a. ((passed m).1 (inr e), λ f. (full m).1 (inr (e, ap (λ k. is_full (kept k)) (sym e) ∙ f))))
               ]
@@ -118,18 +119,13 @@ module _ (g : Net) (node : ℕ) (left : Remnant) (was : Traversal) (had : Passab
     -- one that leaves more
     pub visited_more : left ≡ remnant.More → has.full ≡ had.full ++ node ∷ [] → HasVisited g node left was had is has
     visited_more e new = visited_on (λ o h. full_kept o (says_more left o e h)) (λ o h m. (
-      λ i. elim (in_pushed m node had.full (subst (λ l. IsIn m l) new i)) [ inl l ↦ inl l | inr q ↦ inr (q, says_more left o e h) ],
-      λ p. subst (λ l. IsIn m l) (sym new) (elim p [ inl i ↦ in_left m had.full (node ∷ []) i | inr q ↦ pushed_in m node had.full q.0 ]),
+      λ i. elim (among_snoc had.full node m (subst (λ l. IsIn m l) new i)) [ inl l ↦ inl l | inr q ↦ inr (q, says_more left o e h) ],
+      λ p. subst (λ l. IsIn m l) (sym new) (elim p [ inl i ↦ among_left had.full (node ∷ []) m i | inr q ↦ pushed_in m node had.full q.0 ]),
     ))
 
 -- no member is in both lists so far
 pub no_common_more : (ns more set : List ℕ) (x : ℕ) → more ≡ ns ++ x ∷ [] → (HaveCommon ns set → ⊥) → (IsIn x set → ⊥) → HaveCommon more set → ⊥
-no_common_more ns more set x is none shut h = elim (in_pushed h.0 x ns (subst (λ l. IsIn h.0 l) is h.1)) [
+no_common_more ns more set x is none shut h = elim (among_snoc ns x h.0 (subst (λ l. IsIn h.0 l) is h.1)) [
   | inl i ↦ none (h.0, i, h.2)
   | inr e ↦ shut (subst (λ (m : ℕ). IsIn m set) e h.2)
 ]
-
--- what follows where there is memory
-pub on-ok : {A E : Type 0} → (P Q : Type 0) (r : Result A E) → (P → Q) → OnOk r P → OnOk r Q
-on-ok P Q (Ok a) f h = f h
-on-ok P Q (Err e) f h = tt

@@ -1,6 +1,7 @@
 -- The parts of a row, kept one after another from its end.
 use Rattle.std.specs.Prelude.{ℕ, zero, suc, ◌+◌, ◌<◌, ◌≤◌, false, List, [], ◌∷◌, ◌++◌, ◌≡◌, Option, Some, None, refl, length, take, drop, slice_get}
 use Rattle.std.proofs.Common.{ap, sym, ◌∙◌, add-one, arith, get_or}
+use Rattle.list_facts.proofs.Reading.{drop_suc}
 use Rattle.chart_term.specs.NormalForms.{begun, has_gap}
 use Rattle.chart_term.specs.Properties.{EachTurn}
 use Rattle.chart_term.specs.Rows.{part_of, parts_of}
@@ -13,12 +14,7 @@ use Rattle.term_permission.proofs.Joins.{each-first, each-second}
 use Rattle.term_laws.specs.Normality.{IsNormal, IsNotNil}
 use Rattle.term_laws.specs.Permission.{permits_of}
 use Rattle.term_laws.proofs.Identity.{put_same}
-use Rattle.term_laws.proofs.Measures.{rank_in, rank_all, rank_part, rank_row, rank-part}
-
-pub drop_next : {A : Type 0} → (xs : List A) (i : ℕ) (x : A) → slice_get xs i ≡ Some x → drop i xs ≡ x ∷ drop (suc i) xs
-drop_next [] i x p = cc
-drop_next (y ∷ ys) zero x p = let e : y ≡ x = cc in rw e
-drop_next (y ∷ ys) (suc i) x p = drop_next ys i x p
+use Rattle.term_laws.proofs.Measures.{rank_in, rank_all, rank_row, rank-part}
 
 module _ (p : List ℕ → Option Tree) (q : Tree → Option Tree) (hi : Option ℕ) (d : List ℕ) where
   pub keep-start : (ps : List Part) (n : ℕ) (r : RowRest) → length ps ≤ n → keep_parts p q hi d (drop n ps) r ≡ Some r
@@ -32,7 +28,7 @@ module _ (p : List ℕ → Option Tree) (q : Tree → Option Tree) (hi : Option 
 
   pub keep-more : (ps : List Part) (i j : ℕ) (t : Part) (r s : RowRest) → keep_parts p q hi d (drop j ps) r ≡ Some s → i + 1 ≡ j → slice_get ps i ≡ Some t → keep_parts p q hi d (drop i ps) r ≡ keep_part p q hi d t s
   keep-more ps i j t r s h e g =
-      ap (λ l. keep_parts p q hi d l r) (drop_next ps i t g) ∙ ap (keep_first p q hi d t) ((λ k. keep_parts p q hi d (drop ((sym (add-one i) ∙ e) k) ps) r) ∙ h)
+      ap (λ l. keep_parts p q hi d l r) (drop_suc ps i t g) ∙ ap (keep_first p q hi d t) ((λ k. keep_parts p q hi d (drop ((sym (add-one i) ∙ e) k) ps) r) ∙ h)
 
   none_below : (ps : List Part) (i : ℕ) (r : RowRest) → keep_parts p q hi d (drop i ps) r ≡ None → keep_parts p q hi d ps r ≡ None
   none_below [] zero r h = h

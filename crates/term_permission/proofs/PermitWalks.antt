@@ -2,7 +2,7 @@
 use Rattle.std.specs.Prelude.{ℕ, ◌+◌, ◌<◌, ◌≤◌, ◌==◌, Bool, true, false, List, [], ◌∷◌, ◌++◌, ◌≡◌, ◌↔◌, ◌⊎◌, ◌&&◌, Option, Some, None, refl, length, IsTrue, not}
 use Rattle.std.specs.List.{list_all}
 use Rattle.std.proofs.Common.{ap, sym, ◌∙◌, subst, arith, filter, inl, inr}
-use Rattle.std.proofs.lemmas.Bool.{and_from}
+use Rattle.std.proofs.lemmas.Bool.{and_from, eq-eqb, and_parts}
 use Rattle.hmsc_graph.specs.Graphs.{Net, Spot, At, Goal, To, End, Any, WalkThrough, last, step, reach}
 use Rattle.msc_base.specs.Lists.{IsIn}
 use Rattle.hmsc_graph.specs.Nets.{IsNet, size_of}
@@ -13,7 +13,7 @@ use Rattle.hmsc_graph.specs.declared.spot.Spot.TheVariants.{Start as StartSpot, 
 use Rattle.hmsc_graph.specs.declared.spot.Goal.TheVariants.{Node as NodeGoal, End as EndGoal, Any as AnyGoal}
 use Rattle.hmsc_graph.specs.Walks.{Leads}
 use Rattle.hmsc_graph.proofs.Reaching.{more_allowed, glue, reach_sound, reach_whole}
-use Rattle.hmsc_graph.proofs.SearchFacts.{due_below, walk_below, number_same}
+use Rattle.hmsc_graph.proofs.SearchFacts.{due_below, walk_below}
 use Rattle.chart_term.specs.NormalForms.{NetPermits, only, is_nil, some_kept, allowed, are_nil, walk_form, walk_cut}
 use Rattle.chart_term.specs.Tables.{Tables, net_count, net_of, nodes_of, node_of, count_from, choose}
 use Rattle.chart_term.specs.Terms.{Tree, Nil, Walk}
@@ -65,14 +65,6 @@ walk_lead g ks s (To m) h = h
 walk_lead g ks s End h = h
 walk_lead g ks s Any h = tt
 
-and_first : (a b : Bool) → (a && b) ≡ true → a ≡ true
-and_first true b h = refl
-and_first false b h = cc
-
-and_second : (a b : Bool) → (a && b) ≡ true → b ≡ true
-and_second true b h = h
-and_second false b h = cc
-
 all_false : (p : ℕ → Bool) (ms : List ℕ) (m : ℕ) → IsIn m ms → p m ≡ false → list_all p ms ≡ false
 all_false p [] m h e = absurd h
 all_false p (n ∷ ms) m (inl i) e = ap (λ t. t && list_all p ms) (ap p (sym i) ∙ e)
@@ -120,13 +112,13 @@ module _ (w : Tables) (n : ℕ) (c : List ℕ) (s : Spot) (ms ns : List ℕ) (ne
   walk_on m t i (last j k a) = last j k a
   walk_on m t i (step j k l u) =
       let p = (h.passes m).0 i in
-      let here : IsIn j ms = (h.passes j).1 (glue p.1 p.0 (last j k (number_same j j refl)), l) in
+      let here : IsIn j ms = (h.passes j).1 (glue p.1 p.0 (last j k (eq-eqb j j refl)), l) in
       step j k here (walk_on j t here u)
 
   walk_begun : (t : Goal) → WalkThrough g ks s t → WalkThrough g ms s t
   walk_begun t (last j k a) = last j k a
   walk_begun t (step j k l u) =
-      let here : IsIn j ms = (h.passes j).1 (last j k (number_same j j refl), l) in
+      let here : IsIn j ms = (h.passes j).1 (last j k (eq-eqb j j refl), l) in
       step j k here (walk_on j t here u)
 
   module _ (t : Goal) (a : IsAimed t) where
@@ -150,8 +142,8 @@ module _ (w : Tables) (n : ℕ) (c : List ℕ) (s : Spot) (ms ns : List ℕ) (ne
           all_true (λ j. is_nil ((permits_of w).kept n j c)) (filter (λ j. reach g ks s (To j) && reach g ks (At j) t) ks)
           (λ m i.
           let r = out_filter (λ j. reach g ks s (To j) && reach g ks (At j) t) ks m i in
-          let u : WalkThrough g ks s (To m) = reach_sound g ks s (To m) (and_first (reach g ks s (To m)) (reach g ks (At m) t) r.1) in
-          let v : WalkThrough g ks (At m) t = reach_sound g ks (At m) t (and_second (reach g ks s (To m)) (reach g ks (At m) t) r.1) in
+          let u : WalkThrough g ks s (To m) = reach_sound g ks s (To m) ((and_parts (reach g ks s (To m)) (reach g ks (At m) t) r.1).0) in
+          let v : WalkThrough g ks (At m) t = reach_sound g ks (At m) t ((and_parts (reach g ks s (To m)) (reach g ks (At m) t) r.1).1) in
           let here : IsIn m ms = (h.passes m).1 (u, r.0) in
           let below : m < size_of g = walk_below g ks s m net u in
           nil_or_full (kept_at m) (out_filter (λ j. some_kept ((permits_of w).kept n j c)) (nodes_of w n) m r.0).1

@@ -4,12 +4,13 @@ use Rattle.std.specs.List.{list_any}
 use Rattle.std.proofs.Common.{ap, ◌∙◌, append-nil, subst}
 use Rattle.bit_sets.specs.Blocks.{BlockValue}
 use Rattle.msc_base.specs.Patterns.{Mode, seq, par}
+use Rattle.list_facts.proofs.Reading.{take_step}
 use Rattle.chart_term.specs.Facts.{misses}
 use Rattle.chart_term.specs.NormalForms.{NetPermits, begun, or_skip}
 use Rattle.chart_term.specs.Properties.{Each, EachTurn}
 use Rattle.chart_term.specs.Tables.{Tables}
 use Rattle.chart_term.specs.Terms.{Block, TermEvent, Tree, Nil, Event, Join, Choice, Tied, trees, Part}
-use Rattle.chart_term.proofs.Lists.{items-trees, take_step}
+use Rattle.chart_term.proofs.Lists.{items-trees}
 use Rattle.term_laws.specs.Normality.{AreNormal, IsPartOf}
 use Rattle.term_laws.specs.Permission.{permit, permit_some, permits_of}
 use Rattle.term_permission.specs.Ready.{IsReady, AreWithin}

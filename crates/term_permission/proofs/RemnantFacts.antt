@@ -3,6 +3,7 @@ use Rattle.std.specs.Option.{option_map}
 use Rattle.std.specs.Prelude.{ℕ, ◌+◌, ◌≤◌, Bool, true, false, List, [], ◌∷◌, ◌++◌, ◌≡◌, ◌⊎◌, Option, Some, None, refl, not, length, take, drop, slice_get}
 use Rattle.std.proofs.Common.{ap, sym, ◌∙◌, subst, inl, inr, add-one, append-nil, arith}
 use Rattle.msc_base.specs.Patterns.{Mode, seq, par}
+use Rattle.list_facts.proofs.Reading.{drop_suc}
 use Rattle.chart_term.specs.Equality.{same_tree}
 use Rattle.chart_term.specs.NormalForms.{NetPermits, and_then, begun, choice_form, choice_of, bound_form, distinct, flat, has_gap, is_nil, kept_pairs, numbers, open_choice, open_choices, open_part, or_skip, put_turn, some_kept, tie_of, unless_same, without}
 use Rattle.chart_term.specs.Properties.{Each, EachTurn, MayHave}
@@ -24,7 +25,7 @@ use Rattle.term_permission.specs.Ready.{IsReady}
 use Rattle.term_permission.proofs.EndingFacts.{take_all}
 use Rattle.term_permission.proofs.Joins.{flat-append}
 use Rattle.term_permission.proofs.Permits.{some-more, some-skip}
-use Rattle.term_permission.proofs.PermitRows.{drop_next, keep-start, keep-more, keep-none, keep-kept, keep-lost, keep-whole}
+use Rattle.term_permission.proofs.PermitRows.{keep-start, keep-more, keep-none, keep-kept, keep-lost, keep-whole}
 
 -- Nil, and what isn't Nil
 pub full_not_nil : (x : Tree) → is_full (Some x) ≡ true → IsNotNil x
@@ -324,7 +325,7 @@ module _ (p : List ℕ → Option Tree) (q : Tree → Option Tree) (hi : Option 
 module _ (k : NetPermits) (b : Block) (m : Mode) where
   pub items_next : (ps : List Part) (i j : ℕ) (x : Tree) (r q : Remnant) → slice_get ps i ≡ Some (Turn x) → i + 1 ≡ j → MayHave (IsNormal k) (permit k b x) → RemnantSays r (permit k b x) → SaysParts q (opened_left k b m (begun (drop j ps))) → SaysParts (both r q) (opened_left k b m (begun (drop i ps)))
   items_next ps i j x r q g e n h f =
-      let split : drop i ps ≡ Turn x ∷ drop j ps = drop_next ps i (Turn x) g ∙ ap (λ n. Turn x ∷ drop n ps) (sym (add-one i) ∙ e) in
+      let split : drop i ps ≡ Turn x ∷ drop j ps = drop_suc ps i (Turn x) g ∙ ap (λ n. Turn x ∷ drop n ps) (sym (add-one i) ∙ e) in
       subst (λ l. SaysParts (both r q) (opened_left k b m (begun l))) (sym split)
       (subst (SaysParts (both r q)) (sym (left_first k b m x (begun (drop j ps)))) (says_both r q (option_map (open_part m) (permit k b x)) (opened_left k b m (begun (drop j ps))) (says_opened k m r (permit k b x) n h) f))
 

@@ -3,6 +3,9 @@ use Rattle.std.specs.List.{list_any, position_from}
 use Rattle.std.specs.Prelude.{ℕ, ◌+◌, ◌<◌, ◌≤◌, ◌==◌, Bool, true, false, List, [], ◌∷◌, ◌++◌, ◌≡◌, ◌||◌, ◌&&◌, Some, None, refl, length, take, drop, slice_get, filter}
 use Rattle.std.proofs.Common.{ap, ap₂, sym, ◌∙◌, arith, cond, subst}
 use Rattle.std.proofs.lemmas.Bool.Decides.{nat_tests}
+use Rattle.std.proofs.lemmas.List.{take_at, append_assoc, length-append}
+use Rattle.std.proofs.lemmas.List.Elements.{filter-append}
+use Rattle.std.proofs.lemmas.Bool.{or_parts}
 use Rattle.msc_base.specs.declared.label.Pair.{Pair}
 use Rattle.term_facts.specs.NodeFacts.{lies_in, numbers_in}
 use Rattle.term_facts.specs.declared.facts.Facts.{Facts}
@@ -59,13 +62,6 @@ drop_front {A} xs ys i e = ap (λ n. drop n (xs ++ ys)) e ∙ go xs
     go [] = refl
     go (z ∷ zs) = go zs
 
-take_front : {A : Type 0} (xs ys : List A) (i : ℕ) → i ≡ length xs → take i (xs ++ ys) ≡ xs
-take_front {A} xs ys i e = ap (λ n. take n (xs ++ ys)) e ∙ go xs
-  where
-    go : (zs : List A) → take (length zs) (zs ++ ys) ≡ zs
-    go [] = refl
-    go (z ∷ zs) = ap (λ l. z ∷ l) (go zs)
-
 pub get_front : {A : Type 0} (xs : List A) (y : A) (ys : List A) (i : ℕ) → i ≡ length xs → slice_get (xs ++ y ∷ ys) i ≡ Some y
 get_front {A} xs y ys i e = ap (slice_get (xs ++ y ∷ ys)) e ∙ go xs
   where
@@ -73,31 +69,11 @@ get_front {A} xs y ys i e = ap (slice_get (xs ++ y ∷ ys)) e ∙ go xs
     go [] = refl
     go (z ∷ zs) = go zs
 
-pub front_more : {A : Type 0} (xs ys zs : List A) → xs ++ (ys ++ zs) ≡ (xs ++ ys) ++ zs
-front_more [] ys zs = refl
-front_more (x ∷ xs) ys zs = ap (λ l. x ∷ l) (front_more xs ys zs)
-
-pub long_both : {A : Type 0} (xs ys : List A) → length (xs ++ ys) ≡ length xs + length ys
-long_both [] ys = omega arith
-long_both (x ∷ xs) ys = omega (arith, long_both xs ys)
-
-filter_both : {A : Type 0} (test : A → Bool) (xs ys : List A) → filter test (xs ++ ys) ≡ filter test xs ++ filter test ys
-filter_both test [] ys = refl
-filter_both test (x ∷ xs) ys = by_case (test x) (filter_both test xs ys)
-  where
-    by_case : (b : Bool) → filter test (xs ++ ys) ≡ filter test xs ++ filter test ys → cond b (x ∷ filter test (xs ++ ys)) (filter test (xs ++ ys)) ≡ cond b (x ∷ filter test xs) (filter test xs) ++ filter test ys
-    by_case true h = ap (λ l. x ∷ l) h
-    by_case false h = h
-
 keep_one : {A : Type 0} (b : Bool) (x : A) (xs : List A) → b ≡ true → cond b (x ∷ xs) xs ≡ x ∷ xs
 keep_one b x xs e = ap (λ c. cond c (x ∷ xs) xs) e
 
 drop_one : {A : Type 0} (b : Bool) (x : A) (xs : List A) → b ≡ false → cond b (x ∷ xs) xs ≡ xs
 drop_one b x xs e = ap (λ c. cond c (x ∷ xs) xs) e
-
-pub or_parts : (a b : Bool) → (a || b) ≡ false → (a ≡ false) × (b ≡ false)
-or_parts true b h = cc
-or_parts false b h = (refl, h)
 
 module _ (s : Span) (ns : List ℕ) where
   -- pairs without an end in the span are live
@@ -133,16 +109,16 @@ module _ (s : Span) (ns : List ℕ) where
 
     -- where the pair stands
     whole : kept ≡ (w.before ++ found.middle) ++ found.item ∷ found.behind
-    whole = w.are ∙ (ap (λ l. w.before ++ l) found.are ∙ front_more w.before found.middle (found.item ∷ found.behind))
+    whole = w.are ∙ (ap (λ l. w.before ++ l) found.are ∙ sym (append_assoc w.before found.middle (found.item ∷ found.behind)))
 
     here : at ≡ length (w.before ++ found.middle)
-    here = omega (arith, w.place, found.place, long_both w.before found.middle)
+    here = omega (arith, w.place, found.place, length-append w.before found.middle)
 
     pub goes_on : from ≤ at
     goes_on = omega (arith, found.place)
 
     pub is_within : at < length kept
-    is_within = let l = long_both (w.before ++ found.middle) (found.item ∷ found.behind) in let k = ap length whole in omega (arith, here, l, k)
+    is_within = let l = length-append (w.before ++ found.middle) (found.item ∷ found.behind) in let k = ap length whole in omega (arith, here, l, k)
 
     shown_all : AreShownBut s ns (found.middle ++ found.item ∷ found.behind)
     shown_all = subst (AreShownBut s ns) found.are w.shown
@@ -162,30 +138,30 @@ module _ (s : Span) (ns : List ℕ) where
     split : filter (has_ends ns) all ≡ (w.before ++ found.middle) ++ cond (has_ends ns found.item) (found.item ∷ filter (has_ends ns) found.behind) (filter (has_ends ns) found.behind)
     split =
         w.same
-        ∙ (ap (λ l. w.before ++ l) (ap (filter (has_ends ns)) found.are ∙ (filter_both (has_ends ns) found.middle (found.item ∷ found.behind) ∙ ap (λ l. l ++ cond (has_ends ns found.item) (found.item ∷ filter (has_ends ns) found.behind) (filter (has_ends ns) found.behind)) middle_live))
-        ∙ front_more w.before found.middle (cond (has_ends ns found.item) (found.item ∷ filter (has_ends ns) found.behind) (filter (has_ends ns) found.behind)))
+        ∙ (ap (λ l. w.before ++ l) (ap (filter (has_ends ns)) found.are ∙ (filter-append (has_ends ns) found.middle (found.item ∷ found.behind) ∙ ap (λ l. l ++ cond (has_ends ns found.item) (found.item ∷ filter (has_ends ns) found.behind) (filter (has_ends ns) found.behind)) middle_live))
+        ∙ sym (append_assoc w.before found.middle (cond (has_ends ns found.item) (found.item ∷ filter (has_ends ns) found.behind) (filter (has_ends ns) found.behind))))
 
     -- the pair that is found is live
     pub walk_keeps : (p : Pair) (after : ℕ) → slice_get kept at ≡ Some p → has_ends ns p ≡ true → after ≡ at + 1 → IsWalked all kept after
     walk_keeps p after e live_ n = record {
       before = (w.before ++ found.middle) ++ found.item ∷ [];
       behind = found.behind;
-      are = whole ∙ front_more (w.before ++ found.middle) (found.item ∷ []) found.behind;
-      place = omega (arith, n, here, long_both (w.before ++ found.middle) (found.item ∷ []));
+      are = whole ∙ sym (append_assoc (w.before ++ found.middle) (found.item ∷ []) found.behind);
+      place = omega (arith, n, here, length-append (w.before ++ found.middle) (found.item ∷ []));
       shown = tail_shown;
       same =
           split ∙ (ap (λ l. (w.before ++ found.middle) ++ l) (keep_one (has_ends ns found.item) found.item (filter (has_ends ns) found.behind) (ap (has_ends ns) (is_item p e) ∙ live_))
-          ∙ front_more (w.before ++ found.middle) (found.item ∷ []) (filter (has_ends ns) found.behind));
+          ∙ sym (append_assoc (w.before ++ found.middle) (found.item ∷ []) (filter (has_ends ns) found.behind)));
     }
 
     next_at : at + 1 ≡ length ((w.before ++ found.middle) ++ found.item ∷ [])
-    next_at = omega (arith, here, long_both (w.before ++ found.middle) (found.item ∷ []))
+    next_at = omega (arith, here, length-append (w.before ++ found.middle) (found.item ∷ []))
 
     -- it isn't, and is dropped
     without : take at kept ++ drop (at + 1) kept ≡ (w.before ++ found.middle) ++ found.behind
     without =
-        ap₂ (λ k l. k ++ l) (ap (take at) whole ∙ take_front (w.before ++ found.middle) (found.item ∷ found.behind) at here)
-        (ap (drop (at + 1)) (whole ∙ front_more (w.before ++ found.middle) (found.item ∷ []) found.behind) ∙ drop_front ((w.before ++ found.middle) ++ found.item ∷ []) found.behind (at + 1) next_at)
+        ap₂ (λ k l. k ++ l) (ap (take at) whole ∙ take_at (w.before ++ found.middle) (found.item ∷ found.behind) at (sym here))
+        (ap (drop (at + 1)) (whole ∙ sym (append_assoc (w.before ++ found.middle) (found.item ∷ []) found.behind)) ∙ drop_front ((w.before ++ found.middle) ++ found.item ∷ []) found.behind (at + 1) next_at)
 
     pub walk_drops : (p : Pair) (new : List Pair) → slice_get kept at ≡ Some p → has_ends ns p ≡ false → new ≡ take at kept ++ drop (at + 1) kept → IsWalked all new at
     walk_drops p new e dead n = record {
@@ -199,8 +175,8 @@ module _ (s : Span) (ns : List ℕ) where
 
     pub is_shorter : (new : List Pair) → new ≡ take at kept ++ drop (at + 1) kept → length new + 1 ≡ length kept
     is_shorter new n =
-        let k = ap length (n ∙ without) ∙ long_both (w.before ++ found.middle) found.behind in
-        let l = ap length whole ∙ long_both (w.before ++ found.middle) (found.item ∷ found.behind) in
+        let k = ap length (n ∙ without) ∙ length-append (w.before ++ found.middle) found.behind in
+        let l = ap length whole ∙ length-append (w.before ++ found.middle) (found.item ∷ found.behind) in
         omega (arith, k, l)
 
   -- at the end all are live

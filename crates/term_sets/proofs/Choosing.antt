@@ -3,15 +3,16 @@ use Rattle.std.specs.Prelude.{ℕ, zero, suc, ◌+◌, ◌<◌, ◌≤◌, ◌++
 use Rattle.std.proofs.Common.{ap, sym, ◌∙◌, subst, arith, inl, inr}
 use Rattle.std.proofs.lemmas.Bool.{cases_lt}
 use Rattle.std.proofs.lemmas.List.{take_all}
+use Rattle.std.proofs.lemmas.Option.{same_Some, slice_get_within}
 use Rattle.chart_term.specs.NormalForms.{begun}
 use Rattle.chart_term.specs.PartLists.{AreTurns}
 use Rattle.chart_term.specs.Properties.{Each}
 use Rattle.chart_term.specs.TermPatterns.{Both}
 use Rattle.chart_term.specs.Terms.{Part, Tree}
 use Rattle.msc_base.specs.Lists.{AreDifferent, IsAmong}
-use Rattle.chart_term.proofs.Lists.{take_step}
+use Rattle.list_facts.proofs.Reading.{take_step}
+use Rattle.list_facts.proofs.Members.{among_snoc, snoc_among, different_snoc, take_among}
 use Rattle.chart_term.proofs.Turns.{begun-length}
-use Rattle.term_sets.proofs.Members.{among_snoc, different_snoc, snoc_among, take_among}
 use Rattle.term_sets.specs.Subsets.{AreBits, HasLabelled, IsEvent, IsLabelled}
 
 -- which part stands before another
@@ -19,13 +20,10 @@ use Rattle.term_sets.specs.Subsets.{AreBits, HasLabelled, IsEvent, IsLabelled}
 pub none_before : (xs : List Tree) (x : Tree) → IsAmong (take 0 xs) x → ⊥
 none_before xs x h = h
 
-some_same : {x y : Tree} → Some x ≡ Some y → x ≡ y
-some_same e = cc
-
 pub other_before : (xs : List Tree) (i j : ℕ) (x y : Tree) (b : Bool) → slice_get xs i ≡ Some x → slice_get xs j ≡ Some y → (IsTrue b ↔ (x ≡ y)) → b ≡ false
     → ((z : Tree) → slice_get xs j ≡ Some z → IsAmong (take i xs) z → ⊥) → (z : Tree) → slice_get xs j ≡ Some z → IsAmong (take (i + 1) xs) z → ⊥
 other_before xs i j x y b p q same isnt f z r h = elim (take_among xs i x z p h) [
-  | inl e ↦ let bad : true ≡ false = sym (same.1 (sym e ∙ some_same (sym r ∙ q))) ∙ isnt in cc
+  | inl e ↦ let bad : true ≡ false = sym (same.1 (sym e ∙ same_Some _ _ (sym r ∙ q))) ∙ isnt in cc
   | inr l ↦ f z r l
 ]
 
@@ -65,12 +63,6 @@ pub record AreBitsTo (events : List Tree) (a i : ℕ) (bits : List ℕ) : Type 0
   pub below : (j : ℕ) → IsAmong bits j → j < i
   pub exact : (j : ℕ) → j < i → Both (IsAmong bits j) (HasLabelled events a j)
 
--- at an index of the events stands one of them
-there_or_past : (xs : List Tree) (i : ℕ) (x : Tree) → slice_get xs i ≡ Some x → i < length xs
-there_or_past [] i x e = cc
-there_or_past (y ∷ ys) zero x e = omega arith
-there_or_past (y ∷ ys) (suc i) x e = let l = there_or_past ys i x e in omega arith
-
 pub no_bits : (events : List Tree) (a : ℕ) → AreBitsTo events a 0 []
 no_bits events a = record { below = λ j h. absurd h; exact = λ j l. absurd (omega (arith, l)) }
 
@@ -95,14 +87,14 @@ same_bits events a i x bits b there test isnt h = record {
 }
   where
     none : (j : ℕ) → j ≡ i → HasLabelled events a j → ⊥
-    none j is q = let same : q.0 ≡ x = some_same (sym q.1 ∙ (ap (slice_get events) is ∙ there)) in let bad : true ≡ false = sym (test.1 (subst (IsLabelled a) same q.2)) ∙ isnt in cc
+    none j is q = let same : q.0 ≡ x = same_Some _ _ (sym q.1 ∙ (ap (slice_get events) is ∙ there)) in let bad : true ≡ false = sym (test.1 (subst (IsLabelled a) same q.2)) ∙ isnt in cc
 
 pub all_bits_of : (ps : List Part) (a i : ℕ) (bits : List ℕ) → AreTurns ps → length ps ≤ 64 → length ps ≤ i → i ≤ length ps → AreBitsTo (begun ps) a i bits → AreBits (begun ps) a bits
 all_bits_of ps a i bits t few l m h = record {
   below = λ j n. let b = h.below j n in omega arith;
   exact = λ j. record {
     to = λ n. (h.exact j (h.below j n)).to n;
-    from = λ q. (h.exact j (let b = there_or_past (begun ps) j q.0 q.1 in let e = begun-length ps t in omega arith)).from q;
+    from = λ q. (h.exact j (let b = slice_get_within (begun ps) j q.0 q.1 in let e = begun-length ps t in omega arith)).from q;
   };
 }
 

@@ -1,6 +1,6 @@
 -- Words that were found: more and more of them, each once.
 use Rattle.std.specs.HashSet.{contains}
-use Rattle.std.specs.Prelude.{ℕ, ◌+◌, ◌-◌, ◌*◌, ◌/◌, ◌%◌, ◌^◌, ◌<◌, ◌≤◌, ◌⊎◌, Bool, true, false, List, [], ◌∷◌, ◌++◌, ◌≡◌, Some, slice_get, slice_index_or, take, length, nat_eq, nat_le, not, refl}
+use Rattle.std.specs.Prelude.{ℕ, ◌+◌, ◌-◌, ◌*◌, ◌/◌, ◌%◌, ◌^◌, ◌<◌, ◌≤◌, ◌⊎◌, Bool, true, false, List, [], ◌∷◌, ◌++◌, ◌≡◌, Some, slice_get, slice_index_or, take, length, nat_eq, nat_le, refl}
 use Rattle.std.proofs.Common.{ap, sym, ◌∙◌, subst, arith, cond, inl, inr}
 use Rattle.std.proofs.lemmas.Bool.Decides.{nat_tests}
 use Rattle.std.proofs.lemmas.List.{take_all}
@@ -9,20 +9,12 @@ use Rattle.std.proofs.lemmas.Option.{slice_get-get_or}
 use native.Mathlib.Nat.{div-eq_of_lt}
 use Rattle.chart_term.specs.TermPatterns.{Both}
 use Rattle.msc_base.specs.Lists.{AreDifferent, IsAmong}
-use Rattle.term_sets.proofs.Members.{among_snoc, snoc_among, different_snoc, at_among, take_among, among_take, among_some}
+use Rattle.list_facts.proofs.Members.{among_snoc, snoc_among, different_snoc, at_among, take_among, among_take, among_first}
 use Rattle.term_sets.specs.Words.{AddsWord, AreWords, IsEachLeft, IsWordLeft, IsWithout, TakesEach}
 use Rattle.term_sets.specs.declared.words.Words.{Words}
 
 pub false_true : {A : Type 0} → false ≡ true → A
 false_true e = cc
-
-pub not_true : (b : Bool) → not b ≡ true → b ≡ false
-not_true true h = cc
-not_true false h = refl
-
-pub not_false : (b : Bool) → not b ≡ false → b ≡ true
-not_false true h = refl
-not_false false h = cc
 
 pub item_of : (xs : List ℕ) (i : ℕ) → i < length xs → slice_get xs i ≡ Some (slice_index_or xs i 0)
 item_of xs i l = slice_get-get_or xs i 0 l
@@ -128,7 +120,7 @@ left_of_bit w b l held = let within = bit_within w b l held in let same = one_sh
 
 -- the word without bits of a list
 without_some : (bits : List ℕ) (i w v : ℕ) → IsWithout (take i bits) w v → IsWithout bits w v
-without_some bits i w v h = record { bit = h.bit; among = among_some bits i h.bit h.among; held = h.held; left = h.left }
+without_some bits i w v h = record { bit = h.bit; among = among_first bits i h.bit h.among; held = h.held; left = h.left }
 
 module _ (bits : List ℕ) (i b w : ℕ) (at : slice_get bits i ≡ Some b) where
   without_on : (v : ℕ) → IsWithout (take i bits) w v → IsWithout (take (i + 1) bits) w v
@@ -214,7 +206,7 @@ takes_end bits i w old new l h = subst (λ (bs : List ℕ). TakesEach bs w old n
 
 -- words left of more and more words
 left_some : (bits words : List ℕ) (i v : ℕ) → IsWordLeft bits (take i words) v → IsWordLeft bits words v
-left_some bits words i v h = record { word = h.word; among = among_some words i h.word h.among; without = h.without }
+left_some bits words i v h = record { word = h.word; among = among_first words i h.word h.among; without = h.without }
 
 pub all_start : (bits : List ℕ) (old : Words) → AreWords old → old.list.items ≡ [] → IsEachLeft bits [] old old true
 all_start bits old h e = record {

@@ -3,6 +3,7 @@ use Rattle.std.specs.Prelude.{ℕ, ◌+◌, ◌*◌, ◌/◌, ◌^◌, ◌<◌, 
 use Rattle.std.proofs.Common.{ap, sym, ◌∙◌, subst, arith, inl, inr}
 use Rattle.std.proofs.Math.Nat.{pow-suc}
 use Rattle.std.proofs.lemmas.Bool.Decides.{nat_tests}
+use Rattle.std.proofs.lemmas.List.{nil_from_length}
 use Rattle.msc_base.specs.Lists.{AreDifferent, IsAmong}
 use Rattle.msc_base.specs.Patterns.{par}
 use Rattle.chart_term.specs.Facts.{most_stored}
@@ -83,12 +84,8 @@ none_held events words value b is h = (λ t. sym is ∙ ap (all_spelled events) 
     nothing [] e = refl
     nothing (w ∷ ws) e = absurd (subst (λ (l : List Tree). IsAmong l (spelled events w)) e (word_held events (w ∷ ws) w (inl refl)))
 
-no_words : (words : List ℕ) → length words ≡ 0 → words ≡ []
-no_words [] e = refl
-no_words (w ∷ ws) e = absurd (omega (arith, e))
-
 pub words_none : (words : List ℕ) (n : ℕ) (b : Bool) → n ≡ length words → b ≡ (n == 0) → IsTrue b ↔ (words ≡ [])
-words_none words n b long is = (λ t. no_words words (grind (arith, nat_tests, long, is, t)), λ e. let none : length words ≡ 0 = ap length e in grind (arith, nat_tests, long, is, none))
+words_none words n b long is = (λ t. nil_from_length words (grind (arith, nat_tests, long, is, t)), λ e. let none : length words ≡ 0 = ap length e in grind (arith, nat_tests, long, is, none))
 
 -- whether one of them may end
 module _ (v : NetsValue) (events : List Tree) (size : ℕ) (words : List ℕ) (value : List Tree) (s : AreSubsets events size words) (is : all_spelled events words ≡ value) where

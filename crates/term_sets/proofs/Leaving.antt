@@ -1,6 +1,7 @@
 -- What is left by the number of a label is left by the label.
 use Rattle.std.specs.Prelude.{ℕ, ◌≡◌, List, [], ◌∷◌, Some, length, slice_get}
 use Rattle.std.proofs.Common.{ap, sym, ◌∙◌, arith}
+use Rattle.std.proofs.lemmas.Option.{same_Some}
 use Rattle.msc_base.specs.declared.label.Label.{Label}
 use Rattle.chart_term.specs.Terms.{Tree}
 use Rattle.term_laws.specs.Permission.{permits_of}
@@ -11,14 +12,12 @@ use Rattle.term_successors.proofs.TermSets.{rising_different}
 use Rattle.term_sets.specs.Subsets.{AreAllTaken, IsTaken, IsTooMuch}
 
 module _ (v : NetsValue) (label : Label) (a : ℕ) (labelled : label_number v.labels label ≡ Some a) (terms : List Tree) where
-  some_same : {m n : ℕ} → Some m ≡ Some n → m ≡ n
-  some_same e = cc
 
   left_of_label : (y : Tree) → IsTaken (permits_of v.tables) a terms y → IsLeftOf v label terms y
   left_of_label y t = record { term = t.term; held = t.held; left = record { event = t.left.event; labelled = labelled ∙ ap Some (sym t.left.labelled); after = t.left.after } }
 
   taken_by_number : (y : Tree) → IsLeftOf v label terms y → IsTaken (permits_of v.tables) a terms y
-  taken_by_number y l = record { term = l.term; held = l.held; left = record { event = l.left.event; labelled = some_same (sym l.left.labelled ∙ labelled); after = l.left.after } }
+  taken_by_number y l = record { term = l.term; held = l.held; left = record { event = l.left.event; labelled = same_Some _ _ (sym l.left.labelled ∙ labelled); after = l.left.after } }
 
   pub label_leaves : (most : ℕ) (found : List Tree) → AreRising found → AreAllTaken (permits_of v.tables) a terms most found → AreAllLeft v label terms most found
   label_leaves most found rising t = record {

@@ -12,7 +12,6 @@ mod Sorting
 mod Stepping
 mod Terms
 mod Weighing
-mod Members
 mod Remembering
 mod Pooling
 mod Going

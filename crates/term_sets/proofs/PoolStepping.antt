@@ -6,7 +6,7 @@ use Rattle.msc_base.specs.Lists.{IsAmong}
 use Rattle.term_tables.specs.NetValues.{NetsValue, label_number}
 use Rattle.chart_term.specs.Terms.{Tree}
 use Rattle.term_laws.specs.Listing.{set_weight}
-use Rattle.term_sets.specs.Gathers.{JoinsAll}
+use Rattle.term_sets.specs.Gathers.{JoinsAll, IsGathered}
 use Rattle.trace_judge.specs.Logs.{AreResiduals}
 use Rattle.trace_judge.specs.Sets.{SetValue, IsSoundFor, IsServing, AreSuccessors, IsNextSet}
 use Rattle.term_successors.specs.Successors.{IsLeftOf, AreRising}
@@ -41,6 +41,13 @@ module _ (v : NetsValue) (a : Label) (old : SetValue) (set : List Tree) (serving
       from = λ l. (joins.exact y).from (inr (left_same v b a old.terms y (sym same) l));
     };
   }
+
+-- what was gathered of the terms that are held
+pub gathered_of : (v : NetsValue) (a : Label) (old : SetValue) (budget : ℕ) (set found : List Tree) (o : Option (List Tree)) → budget ≡ old.budget → set ≡ old.terms → o ≡ Some found
+    → IsGathered v a set budget o → IsGathered v a old.terms old.budget (Some found)
+gathered_of v a old budget set found o same terms is g =
+    subst (λ (b : ℕ). IsGathered v a old.terms b (Some found)) same
+    (subst (λ (ts : List Tree). IsGathered v a ts budget (Some found)) terms (subst (λ (q : Option (List Tree)). IsGathered v a set budget q) is g))
 
 -- a move that is remembered
 

@@ -1,7 +1,8 @@
 -- What a pool remembers stays true.
-use Rattle.std.specs.Prelude.{ℕ, ◌≡◌, ◌<◌, ◌⊎◌, Bool, List, [], ◌∷◌, ◌++◌, length, Option, Some, None, refl}
+use Rattle.std.specs.Prelude.{ℕ, ◌≡◌, ◌<◌, Bool, List, [], ◌∷◌, ◌++◌, length, Option, Some, None, refl}
 use Rattle.std.proofs.Common.{ap, sym, ◌∙◌, subst, arith, inl, inr}
 use Rattle.msc_base.specs.Lists.{IsAmong}
+use Rattle.list_facts.proofs.Members.{among_snoc}
 use Rattle.term_tables.specs.NetValues.{NetsValue}
 use Rattle.chart_term.specs.Terms.{Tree}
 use Rattle.trace_judge.specs.Sets.{AreSuccessors}
@@ -67,18 +68,12 @@ kept_serves v old new k p s h = record {
 
 -- a move that is noted
 
-among_last : (ms : List Move) (m p : Move) → IsAmong (ms ++ m ∷ []) p → IsAmong ms p ⊎ (p ≡ m)
-among_last [] m p (inl e) = inr e
-among_last [] m p (inr b) = absurd b
-among_last (n ∷ ms) m p (inl e) = inl (inl e)
-among_last (n ∷ ms) m p (inr h) = elim (among_last ms m p h) [ inl i ↦ inl (inr i) | inr e ↦ inr e ]
-
 module _ (v : NetsValue) (m : MemoryValue) (to : ℕ) (new : List Move) (known : (p : Move) → IsAmong m.moves p → IsMove v m.sets p) (fits : to < length m.sets) where
   same_moves : new ≡ m.moves → (p : Move) → IsAmong new p → IsMove v m.sets p
   same_moves e p q = known p (subst (λ (ms : List Move). IsAmong ms p) e q)
 
   one_more : (n : Move) → IsMove v m.sets n → new ≡ m.moves ++ n ∷ [] → (p : Move) → IsAmong new p → IsMove v m.sets p
-  one_more n h e p q = elim (among_last m.moves n p (subst (λ (ms : List Move). IsAmong ms p) e q)) [ inl i ↦ known p i | inr i ↦ subst (IsMove v m.sets) (sym i) h ]
+  one_more n h e p q = elim (among_snoc m.moves n p (subst (λ (ms : List Move). IsAmong ms p) e q)) [ inl i ↦ known p i | inr i ↦ subst (IsMove v m.sets) (sym i) h ]
 
   gained_moves : (held : Held) (label : Option ℕ) → IsThere m held → GainsFrom held label to m.moves new → AreNext v label (held_terms m held) (set_at m.sets to) → (p : Move) → IsAmong new p → IsMove v m.sets p
   gained_moves (Loose terms) label t g a = same_moves g

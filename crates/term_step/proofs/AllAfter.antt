@@ -7,6 +7,7 @@ use Rattle.chart_term.specs.Tables.{Tables}
 use Rattle.chart_term.specs.Terms.{Tree}
 use Rattle.term_laws.specs.Listing.{set_weight}
 use Rattle.msc_base.specs.declared.label.Label.{Label}
+use Rattle.list_facts.proofs.Members.{at_among, take_among, among_take, among_first}
 use Rattle.term_tables.specs.NetValues.{NetsValue, label_number}
 use Rattle.chart_term.specs.TermPatterns.{Both}
 use Rattle.term_laws.specs.Permission.{permits_of}
@@ -19,7 +20,6 @@ use Rattle.term_successors.proofs.TermSets.{each_from, rising_different}
 use Rattle.term_step.specs.Gatherings.{IsGathered, IsResultOf, IsTooMuch}
 use Rattle.term_step.specs.Searches.{Gathers, IsResult, IsTally}
 use Rattle.term_step.specs.declared.found.Found.{Found}
-use Rattle.term_successors.proofs.TermMembers.{among_some, among_take, at_among, take_among}
 
 each_member : (P : Tree → Type 0) (xs : List Tree) (x : Tree) → Each P xs → IsAmong xs x → P x
 each_member P [] x h i = absurd i
@@ -52,7 +52,7 @@ module _ (w : Tables) (a most : ℕ) (terms : List Tree) (i : ℕ) (x : Tree) (e
   pub gathered_over : Gathers w a [] x mid new false → IsTooMuch w a most terms new
   gathered_over h = record {
     tally = h.gains.tally;
-    each = λ z j. let r = each_on false h z j in record { term = r.term; held = among_some terms (i + 1) r.term r.held; result = r.result };
+    each = λ z j. let r = each_on false h z j in record { term = r.term; held = among_first terms (i + 1) r.term r.held; result = r.result };
     above = subst (λ (n : ℕ). n < set_weight new.terms.keys) (h.gains.most ∙ g.most_is) (h.bounded.beyond refl);
   }
 

@@ -4,6 +4,7 @@ use Rattle.std.specs.Prelude.{ℕ, zero, suc, ◌+◌, ◌<◌, false, List, [],
 use Rattle.std.proofs.Common.{ap, sym, ◌∙◌, add-one, append-nil, arith}
 use Rattle.bit_sets.specs.Blocks.{BlockValue}
 use Rattle.msc_base.specs.Patterns.{Mode, seq, par}
+use Rattle.list_facts.proofs.Reading.{drop_suc}
 use Rattle.chart_term.specs.NormalForms.{NetPermits, only, begun, flat, join_all, join_of, open_part, and_then, thin_gap}
 use Rattle.chart_term.specs.PartLists.{AreTurns}
 use Rattle.chart_term.specs.Properties.{Each, EachTurn}
@@ -25,7 +26,6 @@ use Rattle.term_step.specs.declared.ascent.Taken.{Taken}
 use Rattle.term_laws.proofs.Alike.{AgreeOn, permit-alike}
 use Rattle.term_laws.proofs.Identity.{put_same}
 use Rattle.term_permission.proofs.Joins.{begun-drop, begun-take, each-drop, each-listed, each-take, flat-append, flat-stays}
-use Rattle.term_permission.proofs.PermitRows.{drop_next}
 use Rattle.chart_term.specs.Spreads.{touch}
 
 -- parts side by side
@@ -108,7 +108,7 @@ module _ (w : Tables) (t : Taken) (taken : IsTaken t) where
 
 pub tail-more : (hi : Option ℕ) (ps : List Part) (i j : ℕ) (t : Part) (r s n : RowRest) → slice_get ps i ≡ Some t → i + 1 ≡ j → r ≡ tail_of hi (drop j ps) s → n ≡ part_before hi t r → n ≡ tail_of hi (drop i ps) s
 tail-more hi ps i j t r s n g e h f =
-    let next : drop i ps ≡ t ∷ drop j ps = drop_next ps i t g ∙ ap (λ l. t ∷ l) (ap (λ k. drop k ps) (sym (add-one i) ∙ e)) in
+    let next : drop i ps ≡ t ∷ drop j ps = drop_suc ps i t g ∙ ap (λ l. t ∷ l) (ap (λ k. drop k ps) (sym (add-one i) ∙ e)) in
     f ∙ (ap (part_before hi t) h ∙ sym (ap (λ l. tail_of hi l s) next))
 
 pub tail-start : (hi : Option ℕ) (ps : List Part) (s : RowRest) (n : ℕ) → n ≡ length ps → s ≡ tail_of hi (drop n ps) s

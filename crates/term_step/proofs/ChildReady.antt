@@ -1,6 +1,7 @@
 -- Children of a ready term are ready, and of a lower rank.
-use Rattle.std.specs.Prelude.{ℕ, zero, suc, ◌+◌, ◌<◌, ◌≤◌, List, [], ◌∷◌, ◌≡◌, Option, Some, None, refl, length, slice_get}
+use Rattle.std.specs.Prelude.{ℕ, zero, suc, ◌+◌, ◌<◌, ◌≤◌, List, ◌≡◌, Option, Some, None, refl, length, slice_get}
 use Rattle.std.proofs.Common.{ap, sym, ◌∙◌, subst, arith}
+use Rattle.std.proofs.lemmas.Option.{slice_get_within}
 use Rattle.chart_term.specs.NormalForms.{only}
 use Rattle.chart_term.specs.Properties.{MayHave}
 use Rattle.chart_term.specs.Tables.{Tables, nodes_of, node_of}
@@ -23,11 +24,6 @@ pub record IsGoodChild (w : Tables) (x : Tree) (i : ℕ) (y : Tree) : Type 0 whe
   pub within : i < child_count w x
   pub ready : IsReady w y
   pub rank : rank_in w y < rank_in w x
-
-at_within : {A : Type 0} → (xs : List A) (i : ℕ) (x : A) → slice_get xs i ≡ Some x → i < length xs
-at_within [] i x h = cc
-at_within (y ∷ ys) zero x h = omega arith
-at_within (y ∷ ys) (suc i) x h = omega (arith, at_within ys i x h)
 
 items_rank : (w : Tables) (xs : Trees) → rank_all w (items xs) ≡ ranks (net_rank w) xs
 items_rank w none = refl
@@ -70,9 +66,9 @@ module _ (w : Tables) (tables : AreReadyTables w) where
   child-good Nil i y h e = cc
   child-good (Event f) i y h e = cc
   child-good (Join m xs) i y h e =
-      record { within = at_within (items xs) i y e; ready = ready-at w (items xs) i y e (each_out w xs h.within h.normal.0); rank = omega (arith, rank-at w (items xs) i y e, items_rank w xs) }
+      record { within = slice_get_within (items xs) i y e; ready = ready-at w (items xs) i y e (each_out w xs h.within h.normal.0); rank = omega (arith, rank-at w (items xs) i y e, items_rank w xs) }
   child-good (Choice xs) i y h e =
-      record { within = at_within (items xs) i y e; ready = ready-at w (items xs) i y e (each_out w xs h.within h.normal.0); rank = omega (arith, rank-at w (items xs) i y e, items_rank w xs) }
+      record { within = slice_get_within (items xs) i y e; ready = ready-at w (items xs) i y e (each_out w xs h.within h.normal.0); rank = omega (arith, rank-at w (items xs) i y e, items_rank w xs) }
   child-good (Tied x q) zero y h e =
       let p : x ≡ y = cc in
       record { within = omega arith; ready = subst (λ (u : Tree). IsReady w u) p (record { within = h.within.0; normal = h.normal.0 }); rank = subst (λ (u : Tree). rank_in w u < rank_in w (Tied x q)) p (omega arith) }

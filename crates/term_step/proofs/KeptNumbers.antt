@@ -3,7 +3,9 @@ use Rattle.std.specs.Prelude.{ℕ, zero, suc, ◌+◌, ◌<◌, ◌==◌, Bool, 
 use Rattle.std.proofs.Common.{ap, sym, ◌∙◌, subst, arith, append-nil, add-one}
 use Rattle.std.proofs.lemmas.Bool.Decides.{nat_tests}
 use Rattle.std.proofs.lemmas.List.Folds.{list_any-append}
+use Rattle.std.proofs.lemmas.Bool.{both_ways}
 use Rattle.msc_base.specs.Patterns.{Mode, seq, par}
+use Rattle.list_facts.proofs.Reading.{some_at}
 use Rattle.term_facts.specs.NodeFacts.{lies_in, numbers_in}
 use Rattle.term_facts.specs.declared.facts.Facts.{Facts}
 use Rattle.term_facts.specs.declared.facts.Span.{Span}
@@ -24,9 +26,6 @@ use Rattle.term_step.specs.declared.ascent.Frame.{Frame}
 use Rattle.term_permission.proofs.Joins.{begun-drop, begun-take}
 use Rattle.term_permission.proofs.Retying.{range_there}
 
-apart : (b : Bool) → b ≡ true → b ≡ false → ⊥
-apart b u v = cc
-
 -- the span of both
 abbrev pub wide : Span → Span → Span
 wide s r = record { least = min s.least r.least; greatest = max s.greatest r.greatest }
@@ -36,14 +35,14 @@ first_beside s r t e n h = by_case (lies_in (Some s) n) refl
   where
     by_case : (b : Bool) → lies_in (Some s) n ≡ b → b ≡ false
     by_case false k = refl
-    by_case true k = absurd (apart (lies_in (Some t) n) (ap (λ u. lies_in (Some u) n) e ∙ lies_first (Some s) (Some r) n k) h)
+    by_case true k = absurd (both_ways (lies_in (Some t) n) h (ap (λ u. lies_in (Some u) n) e ∙ lies_first (Some s) (Some r) n k))
 
 pub second_there : (s r t : Span) → t ≡ wide s r → (n : ℕ) → lies_in (Some r) n ≡ true → lies_in (Some t) n ≡ true
 second_there s r t e n h = ap (λ u. lies_in (Some u) n) e ∙ lies_second (Some s) (Some r) n h
 
 -- all numbers of the term lie in the span
 pub none_beside : (x z : Tree) (f : Facts) (s r t : Span) → HasFacts x f → ((n : ℕ) → lies_in (numbers_in f.ranges) n ≡ true → lies_in (Some r) n ≡ true) → t ≡ wide s r → AreKept t x z
-none_beside x z f s r t h c e n i j = absurd (apart (lies_in (Some t) n) (second_there s r t e n (range_there x f r h c n i)) j)
+none_beside x z f s r t h c e n i j = absurd (both_ways (lies_in (Some t) n) j (second_there s r t e n (range_there x f r h c n i)))
 
 -- the parts of a row that were permitted
 pub parts_stay : (s : Span) (xs : List Tree) (o : Option (List Tree)) → o ≡ Some xs → AreKeptOf s xs o
@@ -57,7 +56,7 @@ parts_fail s xs o e ys h = cc
 
 pub parts_change : (ps : List Part) (f : Facts) (s r t : Span) (o : Option (List Tree)) → RowHasFacts (row_of ps) f → ((n : ℕ) → lies_in (numbers_in f.ranges) n ≡ true → lies_in (Some r) n ≡ true) → t ≡ wide s r → AreKeptOf t (begun ps) o
 parts_change ps f s r t o h c e ys k n i j =
-    absurd (apart (lies_in (Some t) n) (second_there s r t e n (c n (ap (λ u. lies_in u n) h.span ∙ lies_there (numbers_row (row_of ps)) n (ap (λ l. has l n) (turns-numbers ps) ∙ i)))) j)
+    absurd (both_ways (lies_in (Some t) n) j (second_there s r t e n (c n (ap (λ u. lies_in u n) h.span ∙ lies_there (numbers_row (row_of ps)) n (ap (λ l. has l n) (turns-numbers ps) ∙ i)))))
 
 -- numbers of lists of terms
 all_both : (xs ys : List Tree) (n : ℕ) → has (numbers_all (trees (xs ++ ys))) n ≡ (has (numbers_all (trees xs)) n || has (numbers_all (trees ys)) n)
@@ -133,15 +132,10 @@ join_at m s ps qs ks rs i x y z turns q front r e at kept n there beside =
     old : has (numbers_all (trees (begun ps))) n ≡ (has (numbers_all (trees (begun qs))) n || (has (numbers x) n || has (numbers_all (trees tail)) n))
     old = ap (λ l. has (numbers_all (trees l)) n) cuts ∙ (all_both (begun qs) (x ∷ tail) n ∙ ap (λ b. has (numbers_all (trees (begun qs))) n || b) (list_any-append (λ m. nat_eq m n) (numbers x) (numbers_all (trees tail))))
 
-there_is : {A : Type 0} (xs : List A) (i : ℕ) → i < length xs → (x : A) × (slice_get xs i ≡ Some x)
-there_is [] i h = absurd (omega arith)
-there_is (x ∷ xs) zero h = (x, refl)
-there_is (x ∷ xs) (suc i) h = there_is xs i (omega (arith, h))
-
 pub join_keeps : (m : Mode) (s : Span) (ps qs ks rs : List Part) (i : ℕ) (y z : Tree) → AreTurns ps → i < length ps → qs ≡ take i ps → ((n : ℕ) → has (numbers_all (trees (begun qs))) n ≡ true → lies_in (Some s) n ≡ false → has (numbers_all (trees (begun ks))) n ≡ true)
     → begun rs ≡ begun ks ++ (open_part m y ++ begun (drop (i + 1) ps)) → z ≡ join_of m (begun rs) → ((x : Tree) → slice_get (begun ps) i ≡ Some x → AreKept s x y) → AreKept s (Join m (trees (begun ps))) z
 join_keeps m s ps qs ks rs i y z turns l q front r e kept =
-    let (x, at) = there_is (begun ps) i (omega (arith, l, begun-length ps turns)) in
+    let (x, at) = some_at (begun ps) i (omega (arith, l, begun-length ps turns)) in
     join_at m s ps qs ks rs i x y z turns q front r e at (kept x at)
 
 -- the part of a join
@@ -155,7 +149,7 @@ each_kept s x (Some z) h = h z
 
 -- the event itself
 pub event_kept : (e : TermEvent) (s : Span) (z : Tree) → s ≡ record { least = e.number; greatest = e.number } → AreKept s (Event e) z
-event_kept e s z h n i j = absurd (apart (lies_in (Some s) n) (ap (λ u. lies_in (Some u) n) h ∙ itself (one (e.number == n) i)) j)
+event_kept e s z h n i j = absurd (both_ways (lies_in (Some s) n) j (ap (λ u. lies_in (Some u) n) h ∙ itself (one (e.number == n) i)))
   where
     one : (b : Bool) → (b || false) ≡ true → b ≡ true
     one true k = refl

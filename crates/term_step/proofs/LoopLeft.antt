@@ -2,6 +2,7 @@
 use Rattle.std.specs.Option.{option_map}
 use Rattle.std.specs.Prelude.{ℕ, zero, suc, ◌+◌, ◌<◌, Bool, true, false, List, [], ◌∷◌, ◌≡◌, ◌||◌, ◌&&◌, Option, Some, None, refl, length, take, drop, slice_get}
 use Rattle.std.proofs.Common.{ap, sym, ◌∙◌, add-one, arith, cond}
+use Rattle.std.proofs.lemmas.Option.{slice_get_within}
 use Rattle.chart_term.specs.NormalForms.{NetPermits, only, cut, is_nil, some_kept, loop_of}
 use Rattle.chart_term.specs.Properties.{EachGap}
 use Rattle.chart_term.specs.Spreads.{touch, spread_of}
@@ -166,11 +167,6 @@ module _ (w : Tables) (t : Taken) (taken : IsTaken t) (x : Tree) (lo : ℕ) (hi 
   abbrev sides : List ℕ → ℕ → ℕ → Option RowRest
   sides d n m = keep_parts (λ c. permit (permits_of w) (only c) x) (λ z. permit (permits_of w) (block_of t.at) z) (fewer (is_gap u) hi) d (take n ps) (turn_before y (tail_of (fewer (is_gap u) hi) (drop m ps) no_rest))
 
-  place_within : (qs : List Part) (j : ℕ) (v : Part) → slice_get qs j ≡ Some v → j < length qs
-  place_within [] j v h = cc
-  place_within (z ∷ qs) zero v h = omega arith
-  place_within (z ∷ qs) (suc j) v h = omega (arith, place_within qs j v h)
-
   shut_loop : may_begin (is_gap u) hi ≡ false → (o : Option RowLeft) → row_left (permits_of w) (event_of t.event) ps i y ≡ o → loop_left (permits_of w) x lo hi o ≡ None
   shut_loop h None e = refl
   shut_loop h (Some r) e =
@@ -188,7 +184,7 @@ module _ (w : Tables) (t : Taken) (taken : IsTaken t) (x : Tree) (lo : ℕ) (hi 
     narrowed = narrow ∙ cut_alike allof (touch (spread_of w) x) t.at.instances alike
 
     sides_are : sides d n m ≡ option_map (λ (s : RowLeft). rest_of (λ c. permit (permits_of w) (only c) x) (touch (permits_of w).spread x) (fewer (is_gap u) hi) s.row_parts) (row_left (permits_of w) (event_of t.event) ps i y)
-    sides_are = (λ j. sides d (sym counts.0 j) (sym counts.1 j)) ∙ row_kept w t taken x (fewer (is_gap u) hi) d narrowed ps i y ready.parts ready.normal.cuts ready.normal.leaves ready.normal.not_free (place_within ps i u there)
+    sides_are = (λ j. sides d (sym counts.0 j) (sym counts.1 j)) ∙ row_kept w t taken x (fewer (is_gap u) hi) d narrowed ps i y ready.parts ready.normal.cuts ready.normal.leaves ready.normal.not_free (slice_get_within ps i u there)
 
     none_left : (o : Option RowLeft) → option_map (λ (s : RowLeft). rest_of (λ c. permit (permits_of w) (only c) x) (touch (permits_of w).spread x) (fewer (is_gap u) hi) s.row_parts) o ≡ None → loop_left (permits_of w) x lo hi o ≡ None
     none_left None h = refl

@@ -2,7 +2,7 @@
 use Rattle.std.specs.Prelude.{ℕ, zero, suc, ◌+◌, ◌<◌, ◌≤◌, ◌⊎◌, Bool, true, false, List, [], ◌∷◌, ◌++◌, ◌≡◌, ◌||◌, ◌==◌, Option, Some, None, refl, length, slice_get}
 use Rattle.std.specs.Option.{option_map}
 use Rattle.std.proofs.Common.{ap, sym, ◌∙◌, subst, arith, inl, inr}
-use Rattle.std.proofs.lemmas.Bool.{or_parts}
+use Rattle.std.proofs.lemmas.Bool.{or_parts, or_left, or_right}
 use Rattle.std.proofs.lemmas.Bool.Decides.{nat_tests}
 use Rattle.std.proofs.lemmas.List.Folds.{list_any-append}
 use Rattle.hmsc_graph.specs.Graphs.{Spot, Goal}
@@ -77,19 +77,11 @@ module _ (c : List ℕ) where
   abbrev AllIn : List ℕ → Type 0
   AllIn ns = (n : ℕ) → has ns n ≡ true → has c n ≡ true
 
-  first_in : (s t : Bool) → s ≡ true → (s || t) ≡ true
-  first_in true t h = refl
-  first_in false t h = cc
-
-  second_in : (s t : Bool) → t ≡ true → (s || t) ≡ true
-  second_in true t h = refl
-  second_in false t h = h
-
   in_first : (ns ms : List ℕ) → AllIn (ns ++ ms) → AllIn ns
-  in_first ns ms h n p = h n (has_app ns ms n ∙ first_in (has ns n) (has ms n) p)
+  in_first ns ms h n p = h n (has_app ns ms n ∙ or_left (has ns n) (has ms n) p)
 
   in_second : (ns ms : List ℕ) → AllIn (ns ++ ms) → AllIn ms
-  in_second ns ms h n p = h n (has_app ns ms n ∙ second_in (has ns n) (has ms n) p)
+  in_second ns ms h n p = h n (has_app ns ms n ∙ or_right (has ns n) (has ms n) p)
 
   mutual
     within_tree : (x : Tree) → holds_walk x ≡ false → AllIn (instances x) → Every (IsAt c) (λ n. ⊥) x

@@ -1,6 +1,7 @@
 -- What is left of a whole term, from the frame at the path's end to its first.
-use Rattle.std.specs.Prelude.{ℕ, zero, suc, ◌+◌, ◌<◌, List, [], ◌∷◌, ◌++◌, ◌≡◌, Option, Some, None, refl, length, take, slice_get}
-use Rattle.std.proofs.Common.{ap, sym, ◌∙◌, subst, arith, get_or, inl, inr}
+use Rattle.std.specs.Prelude.{ℕ, zero, suc, ◌+◌, ◌<◌, List, [], ◌∷◌, ◌++◌, ◌≡◌, Option, Some, None, refl, take, slice_get}
+use Rattle.std.proofs.Common.{ap, sym, ◌∙◌, subst, inl, inr}
+use Rattle.list_facts.proofs.Reading.{take_step}
 use Rattle.chart_term.specs.NormalForms.{NetPermits}
 use Rattle.chart_term.specs.Properties.{MayHave}
 use Rattle.chart_term.specs.Tables.{Tables}
@@ -11,7 +12,6 @@ use Rattle.term_permission.specs.Ready.{IsReady, AreReadyTables}
 use Rattle.term_step.specs.Searches.{AreReadyFrames, child_count, put_some, put_all, IsPassed, IsResult}
 use Rattle.term_step.specs.declared.ascent.Frame.{Frame}
 use Rattle.term_step.proofs.Children.{in-child, from-child}
-use Rattle.chart_term.proofs.Lists.{take_step}
 use Rattle.term_step.proofs.PutReady.{put-ready}
 
 abbrev pub put_on : NetPermits → TermEvent → List Frame → Option Tree → Option Tree
@@ -40,12 +40,6 @@ module _ (k : NetPermits) (e : TermEvent) where
   rebuilt-none path i j f left whole g n h p =
       let here : take j path ≡ take i path ++ f ∷ [] = ap (λ m. take m path) (sym n) ∙ take_step path i f g in
       sym (h ∙ (ap (λ l. put_all k e l left) here ∙ (put-snoc (take i path) f left ∙ ap (put_on k e (take i path)) (sym p))))
-
--- a frame by its index
-pub frame-at : (fs : List Frame) (i : ℕ) (f : Frame) → i < length fs → f ≡ get_or fs i f → slice_get fs i ≡ Some f
-frame-at [] i f l h = absurd (omega arith)
-frame-at (g ∷ fs) zero f l h = ap Some (sym h)
-frame-at (g ∷ fs) (suc i) f l h = frame-at fs i f (omega arith) h
 
 pub frame-ready : (w : Tables) (fs : List Frame) (i : ℕ) (f : Frame) → AreReadyFrames w fs → slice_get fs i ≡ Some f → IsReady w f.parent × (f.index < child_count w f.parent)
 frame-ready w [] i f h g = cc
@@ -98,23 +92,6 @@ pub passed-none : (w : Tables) (a : ℕ) (fs : List Frame) (x : Tree) (p : ℕ) 
 passed-none w a fs x p y z c h r =
     let e : None ≡ Some z = ap (put_on (permits_of w) r.event fs) (sym (h y c r.event r.labelled r.left r.taken)) ∙ (sym (put-snoc (permits_of w) r.event fs (record { parent = x; index = p }) r.left) ∙ r.whole) in
     cc
-
--- the path and its last frame
-pub snoc-parts : (fs gs : List Frame) (f g : Frame) → fs ++ f ∷ [] ≡ gs ++ g ∷ [] → (fs ≡ gs) × (f ≡ g)
-snoc-parts [] [] f g e = (refl, cc)
-snoc-parts [] (h ∷ []) f g e = cc
-snoc-parts [] (h ∷ i ∷ gs) f g e = cc
-snoc-parts (h ∷ []) [] f g e = cc
-snoc-parts (h ∷ i ∷ fs) [] f g e = cc
-snoc-parts (h ∷ fs) (i ∷ gs) f g e =
-    let p : h ≡ i = cc in
-    let q : fs ++ f ∷ [] ≡ gs ++ g ∷ [] = cc in
-    let r = snoc-parts fs gs f g q in
-    ((λ j. p j ∷ r.0 j), r.1)
-
-pub no_snoc : (fs : List Frame) (f : Frame) → fs ++ f ∷ [] ≡ [] → ⊥
-no_snoc [] f e = cc
-no_snoc (g ∷ fs) f e = cc
 
 pub front-ready : (w : Tables) (fs : List Frame) (f : Frame) → AreReadyFrames w (fs ++ f ∷ []) → AreReadyFrames w fs × IsReady w f.parent × (f.index < child_count w f.parent)
 front-ready w [] f h = (tt, h.0, h.1)

@@ -1,8 +1,9 @@
 -- The search: what it finds is what is left, and all of it.
 use Rattle.std.specs.Prelude.{ℕ, ◌+◌, ◌<◌, ◌≤◌, ◌⊎◌, ◌↔◌, ◌||◌, not, IsTrue, Bool, true, false, List, [], ◌∷◌, ◌++◌, ◌≡◌, Option, Some, refl}
 use Rattle.std.proofs.Common.{ap, sym, ◌∙◌, subst, arith, inl, inr}
-use Rattle.std.proofs.lemmas.Bool.{true≢false}
-use Rattle.chart_term.specs.Properties.{Each, MayHave}
+use Rattle.std.proofs.lemmas.Bool.{true≢false, cases_lt}
+use Rattle.std.proofs.lemmas.List.{same_from_push}
+use Rattle.chart_term.specs.Properties.{MayHave}
 use Rattle.chart_term.specs.Tables.{Tables}
 use Rattle.chart_term.specs.Terms.{TermEvent, Tree, weight, Nil, Event, Join, Choice, Tied, Loop, Walk, has, ◌∪◌}
 use Rattle.chart_term.proofs.Instances.{has_union}
@@ -20,12 +21,13 @@ use Rattle.chart_term.specs.Facts.{instances}
 use Rattle.chart_term.specs.Views.{event_of}
 use Rattle.chart_term.specs.declared.event.Event.{Event as EventShown}
 use Rattle.bit_sets.specs.Blocks.{BlockValue}
+use Rattle.list_facts.proofs.Joining.{not_nil}
 use Rattle.term_step.specs.declared.ascent.Frame.{Frame}
 use Rattle.term_step.specs.declared.found.Found.{Found}
 use Rattle.term_step.proofs.Children.{in-child}
 use Rattle.term_successors.proofs.TermSets.{member_weight}
 use Rattle.term_step.proofs.ChildReady.{child-good}
-use Rattle.term_step.proofs.Rebuilding.{result-child, result-up, passed-none, snoc-parts, no_snoc, front-ready, frames-more}
+use Rattle.term_step.proofs.Rebuilding.{result-child, result-up, passed-none, front-ready, frames-more}
 use Rattle.term_step.specs.declared.descent.Step.{Step}
 
 -- terms that become more
@@ -183,9 +185,6 @@ module _ (w : Tables) (tables : AreReadyTables w) (a : ℕ) (root : Tree) where
       kept : IsSearched w a root new.terms.keys fs x i
       kept = more_found mid.terms.keys new.terms.keys own.gains.kept state.searched
 
-      cut_at : (p j : ℕ) → (p < j) ⊎ (j ≤ p)
-      cut_at p j = grind arith
-
       all_here : (z : Tree) → IsResult w a fs x z → IsAmong new.terms.keys z
       all_here z r = elim (event_or x) [
         | inl q ↦ own.whole yes q.0 q.1 z r
@@ -193,7 +192,7 @@ module _ (w : Tables) (tables : AreReadyTables w) (a : ℕ) (root : Tree) where
       ]
         where
           child_here : (z : Tree) → (p : ℕ) × (y : Tree) × (child (permits_of w) x p ≡ Some y) × IsResult w a (fs ++ record { parent = x; index = p } ∷ []) y z → IsAmong new.terms.keys z
-          child_here z (p, y, c, s) = elim (cut_at p i) [
+          child_here z (p, y, c, s) = elim (cases_lt p i) [
             | inl b ↦ place_searched kept p b y c z s
             | inr b ↦ absurd (passed-none w a fs x p y z c (passed p b) s)
           ]
@@ -203,7 +202,7 @@ module _ (w : Tables) (tables : AreReadyTables w) (a : ℕ) (root : Tree) where
         where
           root_all : fs ≡ [] → IsSearched w a root new.terms.keys fs x i → (z : Tree) → IsResult w a [] root z → IsAmong new.terms.keys z
           root_all e (at_root f q k) z r = all_here z (subst (λ (hs : List Frame). IsResult w a hs x z) (sym e) (subst (λ (y : Tree). IsResult w a [] y z) (sym q) r))
-          root_all e (below hs g f c u k) z r = absurd (no_snoc hs g (sym f ∙ e))
+          root_all e (below hs g f c u k) z r = absurd (not_nil hs g [] (sym f ∙ e))
 
       pub state-up : (gs : List Frame) (f : Frame) → fs ≡ gs ++ f ∷ [] → IsState w a root old new gs f.parent (f.index + 1)
       state-up gs f e = record { frames = ready.0; ready = ready.1; searched = one_more kept; gains = both; within = own.bounded.within yes }
@@ -212,7 +211,7 @@ module _ (w : Tables) (tables : AreReadyTables w) (a : ℕ) (root : Tree) where
           ready = front-ready w gs f (subst (λ (hs : List Frame). AreReadyFrames w hs) e state.frames)
 
           there : child (permits_of w) f.parent f.index ≡ Some x → AreSearched w a gs f.parent f.index new.terms.keys → AreSearched w a gs f.parent (f.index + 1) new.terms.keys
-          there c k p l u d z r = elim (cut_at p f.index) [
+          there c k p l u d z r = elim (cases_lt p f.index) [
             | inl b ↦ k p b u d z r
             | inr b ↦ all_here z (moved (omega arith) r)
           ]
@@ -228,8 +227,8 @@ module _ (w : Tables) (tables : AreReadyTables w) (a : ℕ) (root : Tree) where
           further (below hs g e c u k) n = below hs g e c u n
 
           one_more : IsSearched w a root new.terms.keys fs x i → IsSearched w a root new.terms.keys gs f.parent (f.index + 1)
-          one_more (at_root r q k) = absurd (no_snoc gs f (sym e ∙ r))
-          one_more (below hs g r c u k) = turned (snoc-parts hs gs g f (sym r ∙ e)) c u
+          one_more (at_root r q k) = absurd (not_nil gs f [] (sym e ∙ r))
+          one_more (below hs g r c u k) = turned (same_from_push hs gs g f (sym r ∙ e)) c u
             where
               turned : (hs ≡ gs) × (g ≡ f) → child (permits_of w) g.parent g.index ≡ Some x → IsSearched w a root new.terms.keys hs g.parent g.index → IsSearched w a root new.terms.keys gs f.parent (f.index + 1)
               turned (m, n) d v =

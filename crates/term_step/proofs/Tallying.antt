@@ -1,7 +1,7 @@
 -- The terms that were found: in their order, each once, with their weight.
 use Rattle.std.specs.BTreeSet.{contains}
 use Rattle.std.specs.Ordering.{is_eq}
-use Rattle.std.specs.Prelude.{◌+◌, ◌<◌, ◌≤◌, Bool, true, false, List, [], ◌∷◌, ◌≡◌, ◌⊎◌, refl, min, nat_le, not}
+use Rattle.std.specs.Prelude.{◌+◌, ◌<◌, ◌≤◌, Bool, true, false, List, [], ◌∷◌, ◌≡◌, ◌⊎◌, refl, min, nat_le}
 use Rattle.std.proofs.Common.{ap, sym, ◌∙◌, subst, arith, cond, inl, inr}
 use Rattle.std.proofs.lemmas.Bool.Decides.{nat_tests}
 use Rattle.chart_term.specs.Equality.{same_tree}
@@ -120,14 +120,6 @@ added-met old new t key h within e met puts rises heavy most = record {
 
     whole : set_weight new.terms.keys ≡ set_weight old.terms.keys
     whole = same_weight new.terms.keys old.terms.keys (rising_different new.terms.keys rises) (rising_different old.terms.keys h.rising) (λ z i. held z (was_or_is t key e old new puts z i)) (is_kept t key e old new puts)
-
-pub not-true : (b : Bool) → not b ≡ true → b ≡ false
-not-true true h = cc
-not-true false h = refl
-
-pub not-false : (b : Bool) → not b ≡ false → b ≡ true
-not-false true h = refl
-not-false false h = cc
 
 pub tally-none : (f : Found) → f.terms.keys ≡ [] → f.weight ≡ 0 → f.most < most_stored → IsTally f
 tally-none f h e l = record {

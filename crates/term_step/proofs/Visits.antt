@@ -116,7 +116,3 @@ module _ (w : Tables) where
   pub ranked-length : (n : ℕ) (fs : List Frame) (x : Tree) → AreRanked n fs x → 0 < rank_in w x → length fs < n
   ranked-length n [] x h l = omega arith
   ranked-length n (g ∷ fs) x h l = omega (arith, ranked-length (n - 1) fs x h.2 l, h.1)
-
-pub no-frames : (fs : List Frame) → length fs ≡ 0 → fs ≡ []
-no-frames [] h = refl
-no-frames (f ∷ fs) h = absurd (omega arith)

@@ -4,10 +4,10 @@ use Rattle.std.proofs.Common.{◌≡◌, ℕ, ◌+◌, Bool, true, false, ◌&&�
 use Rattle.std.proofs.lemmas.List.{take-append-drop}
 use Rattle.std.proofs.lemmas.Bool.{and_left}
 use Rattle.msc_base.specs.Patterns.{seq, par}
+use Rattle.list_facts.proofs.Reading.{take_step}
 use Rattle.chart_term.specs.NormalForms.{begun}
 use Rattle.chart_term.specs.PartLists.{AreTurns}
 use Rattle.chart_term.specs.Terms.{Tree, Join, Choice, trees, Part, Gap, Turn, row_of}
-use Rattle.chart_term.proofs.Lists.{take_step}
 use Rattle.term_tables.specs.Fitting.{fits, fits_all, fits_row, fits_part}
 use Rattle.term_tables.specs.NetValues.{NetsValue}
 use Rattle.term_tables.proofs.Nodes.{nodes-then, nodes-par, nodes-choice, nodes-tied, nodes-loop, nodes-part}

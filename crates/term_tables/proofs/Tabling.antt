@@ -1,6 +1,6 @@
 -- The tables of stored nets: what stands at a number, and one net more.
 use Rattle.std.specs.Prelude.{slice_get, Some, ◌==◌}
-use Rattle.std.proofs.Common.{◌≡◌, ℕ, zero, suc, ◌+◌, ◌<◌, List, [], ◌∷◌, ◌++◌, refl, ap, sym, ◌∙◌, arith, length, get_or}
+use Rattle.std.proofs.Common.{◌≡◌, ℕ, zero, suc, ◌+◌, ◌<◌, List, [], ◌∷◌, ◌++◌, refl, ap, sym, ◌∙◌, arith, length}
 use Rattle.std.proofs.lemmas.Bool.{eq-eqb, ne_eqb}
 use Rattle.hmsc_graph.specs.Nets.{size_of}
 use Rattle.term_tables.specs.declared.nets.StoredNet.{StoredNet}
@@ -36,12 +36,6 @@ pub sized_at : (es : List StoredNet) (i : ℕ) (e : StoredNet) → slice_get es 
 sized_at [] i e p h = cc
 sized_at (d ∷ es) zero e p h = let q : d ≡ e = cc in rw (← q) h.0
 sized_at (d ∷ es) (suc i) e p h = sized_at es i e p h.1
-
--- an item that was read by its index
-pub read_at : {A : Type 0} (xs : List A) (i : ℕ) (x : A) → i < length xs → x ≡ get_or xs i x → slice_get xs i ≡ Some x
-read_at [] i x h e = absurd (omega (arith, h))
-read_at (y ∷ ys) zero x h e = ap Some (sym e)
-read_at (y ∷ ys) (suc i) x h e = read_at ys i x (omega (arith, h)) e
 
 -- what is looked up by a net's number, where each net has it from its own entry and those of older nets
 module _ {A : Type 0} (look : Tables → ℕ → A) (own : NetEntry → Tables → A) (at_front : (e : NetEntry) (es : Tables) (n : ℕ) → look (e ∷ es) n ≡ choose (n == net_count es) (own e es) (look es n)) where

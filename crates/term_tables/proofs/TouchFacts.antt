@@ -1,10 +1,12 @@
 -- The instances that terms touch, gathered one term after another.
-use Rattle.std.specs.Prelude.{slice_get, Some, ◌==◌, Result, Ok, Err, OnOk}
+use Rattle.std.specs.Prelude.{slice_get, Some, ◌==◌}
 use Rattle.std.proofs.Common.{◌≡◌, ℕ, zero, suc, ◌+◌, ◌<◌, ◌≤◌, Bool, true, false, ◌||◌, List, [], ◌∷◌, ◌++◌, refl, ap, ap₂, subst, sym, ◌∙◌, arith, length, take, get_or, append_assoc, append-nil, inl, inr}
-use Rattle.std.proofs.lemmas.Bool.{eq-eqb, ne_eqb, cases_order}
+use Rattle.std.proofs.lemmas.Bool.{eq-eqb, ne_eqb, cases_order, or_parts}
 use Rattle.bit_sets.specs.Blocks.{insert_each}
 use Rattle.chart_term.specs.Facts.{holds_walk, any_walk, row_walk, instances, instances_all, instances_row}
 use Rattle.msc_base.specs.Patterns.{seq, par}
+use Rattle.list_facts.proofs.Reading.{take_step}
+use Rattle.list_facts.proofs.Bools.{or_false, or_assoc}
 use Rattle.chart_term.proofs.Turns.{parts_next}
 use Rattle.chart_term.specs.NormalForms.{begun}
 use Rattle.chart_term.specs.PartLists.{AreTurns}
@@ -14,7 +16,6 @@ use Rattle.chart_term.specs.Spreads.{touch, touch_all, touch_row, touch_part, to
 use Rattle.chart_term.specs.Tables.{choose}
 use Rattle.chart_term.specs.Terms.{has, Tree, Nil, Event, Join, Choice, Tied, Loop, Walk, Trees, none, more, Row, ends, gap, turn, trees, Part, Gap, Turn, row_of}
 use Rattle.chart_term.proofs.Instances.{has_app}
-use Rattle.chart_term.proofs.Lists.{take_step}
 use Rattle.chart_term.proofs.Members.{has-insert_each}
 use Rattle.term_tables.specs.declared.nets.StoredNet.{StoredNet}
 use Rattle.term_tables.specs.NetTables.{spread_at, tables_of}
@@ -22,31 +23,15 @@ use Rattle.term_tables.specs.Unions.{IsUnion}
 use Rattle.term_tables.proofs.Nodes.{nodes-then, nodes-par, nodes-choice, nodes-tied, nodes-loop, nodes-first, nodes-second, nodes-held}
 use Rattle.term_tables.proofs.Tabling.{tables_of-snoc, count_of}
 
-or_none : (b : Bool) → b ≡ (b || false)
-or_none true = refl
-or_none false = refl
-
-or_group : (a b c : Bool) → ((a || b) || c) ≡ (a || (b || c))
-or_group true b c = refl
-or_group false b c = refl
-
 pub union-none : (c : List ℕ) → IsUnion c [] c
-union-none c = record { same = λ n. or_none (has c n) }
+union-none c = record { same = λ n. sym (or_false (has c n)) }
 
 pub union-more : (old a b mid new : List ℕ) → IsUnion old a mid → IsUnion mid b new → IsUnion old (a ++ b) new
-union-more old a b mid new f g = record { same = λ n. g.same n ∙ ((λ i. f.same n i || has b n) ∙ (or_group (has old n) (has a n) (has b n) ∙ ap (λ t. has old n || t) (sym (has_app a b n)))) }
+union-more old a b mid new f g = record { same = λ n. g.same n ∙ ((λ i. f.same n i || has b n) ∙ (or_assoc (has old n) (has a n) (has b n) ∙ ap (λ t. has old n || t) (sym (has_app a b n)))) }
 
 -- a set is added whose members are these
 pub union-insert : (c a b d : List ℕ) → ((n : ℕ) → has a n ≡ has b n) → d ≡ insert_each c a → IsUnion c b d
 union-insert c a b d f e = record { same = λ n. ap (λ l. has l n) e ∙ has-insert_each c a n ∙ ap (λ t. has c n || t) (f n) }
-
-or_first : (a b : Bool) → (a || b) ≡ false → a ≡ false
-or_first true b h = cc
-or_first false b h = refl
-
-or_last : (a b : Bool) → (a || b) ≡ false → b ≡ false
-or_last true b h = cc
-or_last false b h = h
 
 module _ (k : ℕ → List ℕ) where
   -- a term without walks touches its own instances alone
@@ -57,17 +42,17 @@ module _ (k : ℕ → List ℕ) where
     touch-own (Join m xs) h = touch-own_all xs h
     touch-own (Choice xs) h = touch-own_all xs h
     touch-own (Tied x q) h = touch-own x h
-    touch-own (Loop x lo hi r) h = λ i. touch-own x (or_first (holds_walk x) (row_walk r) h) i ++ touch-own_row r (or_last (holds_walk x) (row_walk r) h) i
+    touch-own (Loop x lo hi r) h = λ i. touch-own x ((or_parts (holds_walk x) (row_walk r) h).0) i ++ touch-own_row r ((or_parts (holds_walk x) (row_walk r) h).1) i
     touch-own (Walk n s t c) h = cc
 
     touch-own_all : (xs : Trees) → any_walk xs ≡ false → instances_all xs ≡ touch_all k xs
     touch-own_all none h = refl
-    touch-own_all (more x xs) h = λ i. touch-own x (or_first (holds_walk x) (any_walk xs) h) i ++ touch-own_all xs (or_last (holds_walk x) (any_walk xs) h) i
+    touch-own_all (more x xs) h = λ i. touch-own x ((or_parts (holds_walk x) (any_walk xs) h).0) i ++ touch-own_all xs ((or_parts (holds_walk x) (any_walk xs) h).1) i
 
     touch-own_row : (r : Row) → row_walk r ≡ false → instances_row r ≡ touch_row k r
     touch-own_row ends h = refl
     touch-own_row (gap c r) h = touch-own_row r h
-    touch-own_row (turn x r) h = λ i. touch-own x (or_first (holds_walk x) (row_walk r) h) i ++ touch-own_row r (or_last (holds_walk x) (row_walk r) h) i
+    touch-own_row (turn x r) h = λ i. touch-own x ((or_parts (holds_walk x) (row_walk r) h).0) i ++ touch-own_row r ((or_parts (holds_walk x) (row_walk r) h).1) i
 
   pub union-own : (c a d : List ℕ) (x : Tree) → holds_walk x ≡ false → ((n : ℕ) → has a n ≡ has (instances x) n) → d ≡ insert_each c a → IsUnion c (touch k x) d
   union-own c a d x h f e = union-insert c a (touch k x) d (λ n. f n ∙ ap (λ l. has l n) (touch-own x h)) e
@@ -190,10 +175,5 @@ spreads-snoc es e f u i n =
     ∙ chosen (i == length es) e.spread.instances (spread_at es i) (touch_list (spread_of (tables_of es)) e.nodes) (spread_of (tables_of es) i) n (u.same n ∙ list_touch (spread_at es) (spread_of (tables_of es)) f e.nodes n) (f i n)
     ∙ ap (λ c. has (choose (i == c) (touch_list (spread_of (tables_of es)) e.nodes) (spread_of (tables_of es) i)) n) (sym (count_of es))
     ∙ ap (λ t. has (spread_of t i) n) (sym (tables_of-snoc es e))
-
--- what follows where the call was well
-pub on-map : {A E : Type 0} (P Q : Type 0) (r : Result A E) → (P → Q) → OnOk r P → OnOk r Q
-on-map P Q (Ok a) f h = f h
-on-map P Q (Err e) f h = h
 
 pub ruleset touching = (union-none, union-nil, seq-touches, par-touches, choice-touches, nodes-then, nodes-par, nodes-choice, nodes-tied, nodes-loop, nodes-first, nodes-second, nodes-held)

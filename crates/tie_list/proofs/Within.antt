@@ -1,7 +1,8 @@
 -- Facts on bounds of pairs.
-use Rattle.std.proofs.Common.{◌≡◌, ℕ, ◌==◌, ap₂, ◌≤◌, ◌||◌, ◌++◌, Bool, true, false, List, [], ◌∷◌, min, max, refl, arith}
+use Rattle.std.proofs.Common.{◌≡◌, ℕ, ◌==◌, ap₂, ◌≤◌, ◌||◌, ◌++◌, Bool, false, List, [], ◌∷◌, min, max, refl, arith}
 use Rattle.std.specs.List.{list_any}
 use Rattle.std.proofs.lemmas.Bool.Decides.{nat_tests}
+use Rattle.std.proofs.lemmas.Bool.{or_parts}
 use Rattle.msc_base.specs.declared.label.Pair.{Pair}
 use Rattle.tie_list.specs.declared.facts.Bounds.{Bounds}
 use Rattle.tie_list.specs.Facts.{IsWithin, AreWithin}
@@ -42,10 +43,6 @@ none_passes test (p ∷ ps) b f w = rw (f p w.0) (none_passes test ps b f w.1)
 
 outside : (least greatest low high n : ℕ) → overlap least greatest low high ≡ false → low ≤ n → n ≤ high → lies_in least greatest n ≡ false
 outside least greatest low high n h f g = grind (arith, nat_tests)
-
-or_parts : (a b : Bool) → (a || b) ≡ false → (a ≡ false) × (b ≡ false)
-or_parts true b h = cc
-or_parts false b h = (refl, h)
 
 -- bounds that lie apart from the numbers
 pub no_end_in : (least greatest : ℕ) (ps : List Pair) (b : Bounds) → (overlap least greatest b.least_first b.greatest_first || overlap least greatest b.least_second b.greatest_second) ≡ false → AreWithin ps b → list_any (has_end_in least greatest) ps ≡ false

@@ -2,6 +2,8 @@
 use Rattle.std.specs.Prelude.{ℕ, ◌+◌, ◌≡◌, ◌≤◌, ◌<◌, ◌⊎◌, true, false, List, [], ◌∷◌, ◌++◌, Option, Some, None, length, max, refl}
 use Rattle.std.proofs.Common.{ap, sym, ◌∙◌, subst, arith, inl, inr, append_assoc, length-append}
 use Rattle.std.proofs.lemmas.Bool.{cases_lt}
+use Rattle.std.proofs.lemmas.List.{append-nil}
+use Rattle.std.proofs.lemmas.Option.{none-some}
 use Rattle.msc_base.specs.declared.label.Label.{Label}
 use Rattle.msc_base.specs.declared.verdict.Verdict.{Verdict}
 use Rattle.msc_base.specs.declared.verdict.Verdict.TheVariants.{Conforms, Fails, Early, TooLarge}
@@ -9,6 +11,7 @@ use Rattle.term_tables.specs.NetValues.{NetsValue}
 use Rattle.chart_term.specs.Terms.{Tree, weight}
 use Rattle.term_laws.specs.Listing.{set_weight}
 use Rattle.msc_base.specs.Lists.{IsAmong}
+use Rattle.list_facts.proofs.Joining.{not_nil}
 use Rattle.line_events.specs.declared.event.LineEvent.{LineEvent}
 use Rattle.trace_judge.specs.Logs.{labels_of, AreResiduals, WeighsWithin, WeighsMore}
 use Rattle.trace_judge.specs.Sets.{SetValue, IsSoundFor, IsNextSet, PassBudget, HasEnding}
@@ -17,17 +20,13 @@ use Rattle.trace_judge.specs.Tracks.{TrackValue, IsGoing, IsSettled, Stands, Fed
 use Rattle.trace_judge.specs.Advances.{Advances, settled, risen}
 use Rattle.trace_judge.specs.declared.advance.Outcome.{Outcome}
 use Rattle.trace_judge.specs.declared.advance.Outcome.TheVariants.{Goes, Empties, Passes}
-use Rattle.trace_judge.proofs.Prefixes.{IsCutAt, whole, within, cut_at, ends_empty, map_more}
+use Rattle.trace_judge.proofs.Prefixes.{IsCutAt, whole, within, cut_at, map_more}
 use Rattle.trace_judge.proofs.SetLaws.{set_start, set_step, set_weighs}
 use Rattle.trace_judge.proofs.VerdictLaws.{front_left, not_both}
 
 nothing_in_front : (f : List LineEvent) (b : List LineEvent) → [] ≡ f ++ b → f ≡ []
 nothing_in_front [] b e = refl
 nothing_in_front (x ∷ f) b e = cc
-
-no_event : (f : List LineEvent) (e : LineEvent) (b : List LineEvent) → [] ≡ f ++ e ∷ b → ⊥
-no_event [] e b q = cc
-no_event (x ∷ f) e b q = cc
 
 module _ (v : NetsValue) (x : Tree) (budget : ℕ) where
   -- before the first event
@@ -106,7 +105,7 @@ module _ (v : NetsValue) (x : Tree) (budget : ℕ) where
         which = elim (cases_lt n m) [ inl l ↦ inr (omega arith) | inr l ↦ inl (omega arith) ]
 
         reach : IsReached v x budget events n → IsReached v x budget (events ++ e ∷ []) (max n m)
-        reach r = elim which [ inl p ↦ old p r | inr p ↦ by_front (events ++ e ∷ []) [] (sym (ends_empty (events ++ e ∷ []))) (record { within = w.within; set = w.set; are = w.are; is = p ∙ w.is }) ]
+        reach r = elim which [ inl p ↦ old p r | inr p ↦ by_front (events ++ e ∷ []) [] (sym (append-nil (events ++ e ∷ []))) (record { within = w.within; set = w.set; are = w.are; is = p ∙ w.is }) ]
           where
             old : max n m ≡ n → IsReached v x budget events n → IsReached v x budget (events ++ e ∷ []) (max n m)
             old p (by_front prefix back q u) = by_front prefix (back ++ e ∷ []) (ap (λ (l : List LineEvent). l ++ e ∷ []) q ∙ append_assoc prefix back (e ∷ [])) (record { within = u.within; set = u.set; are = u.are; is = p ∙ u.is })
@@ -143,8 +142,6 @@ module _ (v : NetsValue) (x : Tree) (budget : ℕ) where
   set_gone events set r e h = subst (λ (s : List Tree). IsAmong s h.term) e ((r.exact h.term).from h.left)
 
 module _ {S : Type 0} (holds : S → SetValue) (v : NetsValue) (x : Tree) (budget : ℕ) where
-  some_none : (s : S) → Some s ≡ None → ⊥
-  some_none s e = cc
 
   pub new_fed : (s : S) (t : TrackValue S) (n : ℕ) → IsSoundFor v x → holds s ≡ record { terms = x ∷ []; budget = budget; too_large = false } → weight x ≤ budget → n ≡ set_weight (holds s).terms
       → t ≡ record { set = Some s; events = 0; ended = None; largest = n } → Fed holds v x budget [] t
@@ -152,7 +149,7 @@ module _ {S : Type 0} (holds : S → SetValue) (v : NetsValue) (x : Tree) (budge
     sound = h;
     count = refl;
     stands = subst (IsGoing v x budget []) (sym q) (record { small = refl; budget_is = refl; are = set_start v x; some = λ z. cc; within = start_within v x budget l });
-    without = record { to = λ z. absurd (some_none s z); from = λ z. absurd (omega arith) };
+    without = record { to = λ z. absurd (none-some s (sym z)); from = λ z. absurd (omega arith) };
     largest = start_largest v x budget n l (let z : set_weight (holds s).terms ≡ set_weight (x ∷ []) = ap (λ (u : SetValue). set_weight u.terms) q in omega (arith, w));
   })
 
@@ -160,7 +157,7 @@ module _ {S : Type 0} (holds : S → SetValue) (v : NetsValue) (x : Tree) (budge
   new_large t h l e = subst (Fed holds v x budget []) (sym e) (record {
     sound = h;
     count = refl;
-    stands = record { prefix = []; back = []; are = refl; number_is = refl; within = λ f at b q. absurd (no_event f at b q); above = start_above v x budget l };
+    stands = record { prefix = []; back = []; are = refl; number_is = refl; within = λ f at b q. absurd (not_nil f at b (sym q)); above = start_above v x budget l };
     without = record { to = λ z. l; from = λ z. refl };
     largest = above_largest v x budget l;
   })
@@ -207,7 +204,7 @@ module _ {S : Type 0} (holds : S → SetValue) (v : NetsValue) (x : Tree) (budge
       sound = f.sound;
       count = counted old (old.events + 1) f refl;
       stands = stand outcome a;
-      without = record { to = λ z. absurd (some_none t z); from = λ l. absurd (some_none s (sym p ∙ f.without.from l)) };
+      without = record { to = λ z. absurd (none-some t (sym z)); from = λ l. absurd (none-some s (sym (sym p ∙ f.without.from l))) };
       largest = large outcome a;
     })
       where
@@ -232,7 +229,7 @@ module _ {S : Type 0} (holds : S → SetValue) (v : NetsValue) (x : Tree) (budge
         stand Passes h = record {
           prefix = events ++ e ∷ [];
           back = [];
-          are = sym (ends_empty (events ++ e ∷ []));
+          are = sym (append-nil (events ++ e ∷ []));
           number_is = counted old (old.events + 1) f refl;
           within = λ prefix at back z. before prefix at back (cut_at events e prefix (at ∷ back) z);
           above = passed h.why;
@@ -256,7 +253,7 @@ module _ {S : Type 0} (holds : S → SetValue) (v : NetsValue) (x : Tree) (budge
             let z : set_weight (holds t).terms ≡ 0 = ap set_weight h.1 in
             let y = set_weighs v x (labels_of (events ++ e ∷ [])) w.set (holds t).terms w.are (next_are (holds s) (holds t) g h.0) in
             omega (arith, w.is))
-        large Passes h = largest_lasts v x budget events e old.largest f.largest (λ m w. absurd (not_both v x budget (labels_of (events ++ e ∷ [])) (w.within (events ++ e ∷ []) [] (sym (ends_empty (events ++ e ∷ [])))) (stand Passes h).above))
+        large Passes h = largest_lasts v x budget events e old.largest f.largest (λ m w. absurd (not_both v x budget (labels_of (events ++ e ∷ [])) (w.within (events ++ e ∷ []) [] (sym (append-nil (events ++ e ∷ [])))) (stand Passes h).above))
 
   -- the verdict
   pub verdict_settled : (events : List LineEvent) (t : TrackValue S) (verdict : Verdict) → Fed holds v x budget events t → t.ended ≡ Some verdict → IsTermVerdict v x budget events verdict

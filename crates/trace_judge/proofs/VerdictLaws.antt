@@ -1,6 +1,7 @@
 -- The verdict by what is left of the term is the only one, and tells the runs of the term.
 use Rattle.std.specs.Prelude.{ℕ, ◌≡◌, ◌<◌, List, [], ◌∷◌, ◌++◌, length, refl}
 use Rattle.std.proofs.Common.{ap, sym, ◌∙◌, subst, arith, inl, append_assoc}
+use Rattle.std.proofs.lemmas.List.{append-nil}
 use Rattle.msc_base.specs.declared.label.Label.{Label}
 use Rattle.msc_base.specs.declared.verdict.Verdict.{Verdict}
 use Rattle.msc_base.specs.declared.verdict.Verdict.TheVariants.{Conforms, Fails, Early, TooLarge}
@@ -13,7 +14,7 @@ use Rattle.trace_judge.specs.Logs.{labels_of, IsLeft, AreResiduals, BeginsTermRu
 use Rattle.trace_judge.specs.Sets.{IsSoundFor}
 use Rattle.trace_judge.specs.Verdicts.{AreWithin, HasLeft, LeavesSome, LeavesEnding, FailsAt, PassesAt, IsTermVerdict, TellsRuns}
 use Rattle.trace_judge.specs.VerdictsBy.{EndsAt}
-use Rattle.trace_judge.proofs.Prefixes.{IsCutAt, whole, within, cut_at, AreOrdered, first, second, ordered, first_of_rest, ends_empty, map_more}
+use Rattle.trace_judge.proofs.Prefixes.{IsCutAt, whole, within, cut_at, AreOrdered, first, second, ordered, first_of_rest, map_more}
 use Rattle.trace_judge.proofs.Lefts.{left_last}
 use Rattle.trace_judge.proofs.RunLaws.{left_exact, ending_exact}
 use Rattle.trace_judge.proofs.SetLaws.{set_weighs}
@@ -27,7 +28,7 @@ module _ (v : NetsValue) (x : Tree) where
       record { term = l.term; left = l.left }
 
   pub front_left : (prefix rest : List LineEvent) → HasLeft v x (prefix ++ rest) → HasLeft v x prefix
-  front_left prefix [] h = subst (HasLeft v x) (ends_empty prefix) h
+  front_left prefix [] h = subst (HasLeft v x) (append-nil prefix) h
   front_left prefix (e ∷ rest) h = before_last prefix e (front_left (prefix ++ e ∷ []) rest (subst (HasLeft v x) (sym (append_assoc prefix (e ∷ []) rest)) h))
 
   -- what weighs something is something
@@ -59,7 +60,7 @@ module _ (v : NetsValue) (x : Tree) where
     only_fails {n} {k} {m} {l} a b = go (ordered a.prefix b.prefix (a.at ∷ a.back) (b.at ∷ b.back) (sym a.are ∙ b.are))
       where
         go : AreOrdered a.prefix b.prefix → (n ≡ m) × (k ≡ l)
-        go (first [] q) = fails_same a b (q ∙ ends_empty a.prefix)
+        go (first [] q) = fails_same a b (q ∙ append-nil a.prefix)
         go (first (y ∷ rest) q) = absurd (fails_later a b y rest q)
         go (second y rest q) = absurd (fails_later b a y rest q)
 
@@ -70,7 +71,7 @@ module _ (v : NetsValue) (x : Tree) where
     only_passes {n} {m} a b = go (ordered a.prefix b.prefix a.back b.back (sym a.are ∙ b.are))
       where
         go : AreOrdered a.prefix b.prefix → n ≡ m
-        go (first [] q) = let count : length b.prefix ≡ length a.prefix = ap (λ (f : List LineEvent). length f) (q ∙ ends_empty a.prefix) in omega (arith, a.number_is, b.number_is, count)
+        go (first [] q) = let count : length b.prefix ≡ length a.prefix = ap (λ (f : List LineEvent). length f) (q ∙ append-nil a.prefix) in omega (arith, a.number_is, b.number_is, count)
         go (first (y ∷ rest) q) = absurd (passes_later a b y rest q)
         go (second y rest q) = absurd (passes_later b a y rest q)
 

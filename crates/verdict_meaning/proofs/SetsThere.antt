@@ -1,11 +1,11 @@
 -- There is a set of residual terms after every list of labels.
-use Rattle.std.specs.Prelude.{ℕ, Bool, true, false, List, [], ◌∷◌, ◌++◌, Option, Some, None, ◌≡◌, ◌⊎◌}
+use Rattle.std.specs.Prelude.{ℕ, List, [], ◌∷◌, ◌++◌, Option, Some, None, ◌≡◌, ◌⊎◌}
 use Rattle.std.proofs.Common.{ap, sym, ◌∙◌, refl, subst, inl, inr}
 use Rattle.msc_base.specs.declared.label.Label.{Label}
 use Rattle.msc_base.specs.Lists.{IsAmong}
-use Rattle.chart_term.specs.Equality.{same_tree, SameTreeIsExact}
+use Rattle.term_laws.proofs.SetExact.{distinct_from, distinct_in}
 use Rattle.term_tables.specs.NetValues.{NetsValue, label_number}
-use Rattle.chart_term.specs.NormalForms.{NetPermits, unless_same, without, distinct}
+use Rattle.chart_term.specs.NormalForms.{NetPermits, distinct}
 use Rattle.chart_term.specs.TermPatterns.{Both}
 use Rattle.chart_term.specs.Terms.{TermEvent, Tree}
 use Rattle.term_laws.specs.Listing.{ListIsExact, ResidualSetIsExact, next_set}
@@ -18,38 +18,6 @@ use Rattle.term_laws.proofs.Normalising.{are_different}
 use Rattle.trace_judge.specs.Laws.{SetsGoOn}
 use Rattle.term_successors.specs.Successors.{IsLeftOf}
 use Rattle.verdict_meaning.specs.SetsThere.{HasResiduals, HasSuccessors, SetsAreThere}
-
-module _ (equal : SameTreeIsExact) where
-  unless_from : (t : Bool) (x y : Tree) (ys : List Tree) → IsAmong (unless_same t x ys) y → IsAmong (x ∷ ys) y
-  unless_from true x y ys h = inr h
-  unless_from false x y ys h = h
-
-  without_from : (x y : Tree) (ys : List Tree) → IsAmong (without x ys) y → IsAmong ys y
-  without_from x y [] h = h
-  without_from x y (z ∷ ys) h = elim (unless_from (same_tree x z) z y (without x ys) h) [ inl e ↦ inl e | inr i ↦ inr (without_from x y ys i) ]
-
-  distinct_from : (y : Tree) (xs : List Tree) → IsAmong (distinct xs) y → IsAmong xs y
-  distinct_from y [] h = h
-  distinct_from y (x ∷ xs) (inl e) = inl e
-  distinct_from y (x ∷ xs) (inr h) = inr (distinct_from y xs (without_from x y (distinct xs) h))
-
-  unless_in : (t : Bool) (x z y : Tree) (ys : List Tree) → same_tree x z ≡ t → y ≡ z → (y ≡ x) ⊎ IsAmong (unless_same t z ys) y
-  unless_in true x z y ys e q = inl (q ∙ sym (equal.sound x z e))
-  unless_in false x z y ys e q = inr (inl q)
-
-  unless_later : (t : Bool) (z y : Tree) (ys : List Tree) → IsAmong ys y → IsAmong (unless_same t z ys) y
-  unless_later true z y ys h = h
-  unless_later false z y ys h = inr h
-
-  without_in : (x y : Tree) (ys : List Tree) → IsAmong ys y → (y ≡ x) ⊎ IsAmong (without x ys) y
-  without_in x y [] h = absurd h
-  without_in x y (z ∷ ys) (inl e) = unless_in (same_tree x z) x z y (without x ys) refl e
-  without_in x y (z ∷ ys) (inr h) = elim (without_in x y ys h) [ inl e ↦ inl e | inr i ↦ inr (unless_later (same_tree x z) z y (without x ys) i) ]
-
-  distinct_in : (y : Tree) (xs : List Tree) → IsAmong xs y → IsAmong (distinct xs) y
-  distinct_in y [] h = h
-  distinct_in y (x ∷ xs) (inl e) = inl e
-  distinct_in y (x ∷ xs) (inr h) = without_in x y (distinct xs) (distinct_in y xs h)
 
 among_app : (y : Tree) (a b : List Tree) → IsAmong (a ++ b) y → IsAmong a y ⊎ IsAmong b y
 among_app y [] b h = inr h
@@ -75,7 +43,7 @@ one_made k x y a e q h = subst (λ b. IsResidual k x (b ∷ []) y) q (res_more h
 some_is : (m n : ℕ) → Some m ≡ Some n → m ≡ n
 some_is m n e = cc
 
-module _ (list : ListIsExact) (set : ResidualSetIsExact) (equal : SameTreeIsExact) (v : NetsValue) (tidy : AreTidyTables v.tables) (label : Label) where
+module _ (list : ListIsExact) (set : ResidualSetIsExact) (v : NetsValue) (tidy : AreTidyTables v.tables) (label : Label) where
   record OneNext (x : Tree) : Type 0 where
     pub next : List Tree
     pub exact : (y : Tree) → Both (IsAmong next y) (IsSuccessor v label x y)
@@ -125,7 +93,7 @@ module _ (list : ListIsExact) (set : ResidualSetIsExact) (equal : SameTreeIsExac
         next = distinct a.next;
         are = record {
           different = are_different a.next;
-          exact = λ y. record { to = λ h. (a.exact y).to (distinct_from equal y a.next h); from = λ l. distinct_in equal y a.next ((a.exact y).from l) };
+          exact = λ y. record { to = λ h. (a.exact y).to (distinct_from y a.next h); from = λ l. distinct_in y a.next ((a.exact y).from l) };
         };
       }
 
@@ -137,14 +105,14 @@ labels_none : (a : List Label) → a ++ [] ≡ a
 labels_none [] = refl
 labels_none (k ∷ a) = ap (λ x. k ∷ x) (labels_none a)
 
-pub sets_are_there : ListIsExact → ResidualSetIsExact → SameTreeIsExact → SetsGoOn → SetsAreThere
-sets_are_there list set equal go = record {
-  step = λ v label terms t. successors list set equal v t label terms;
+pub sets_are_there : ListIsExact → ResidualSetIsExact → SetsGoOn → SetsAreThere
+sets_are_there list set go = record {
+  step = λ v label terms t. successors list set v t label terms;
   sets = λ v x labels t. onward v x t [] labels (record { set = x ∷ []; are = go.start v x });
 }
   where
     onward : (v : NetsValue) (x : Tree) → AreTidyTables v.tables → (prefix rest : List Label) → HasResiduals v x prefix → HasResiduals v x (prefix ++ rest)
     onward v x t prefix [] h = subst (λ (l : List Label). HasResiduals v x l) (sym (labels_none prefix)) h
     onward v x t prefix (l ∷ rest) h =
-        let n = successors list set equal v t l h.set in
+        let n = successors list set v t l h.set in
         subst (λ (k : List Label). HasResiduals v x k) (labels_assoc prefix l rest) (onward v x t (prefix ++ l ∷ []) rest (record { set = n.next; are = go.step v x prefix l h.set n.next h.are n.are }))

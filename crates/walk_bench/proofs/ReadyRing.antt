@@ -1,7 +1,8 @@
 -- The tables of the ring and what is left of its walk are ready.
-use Rattle.std.specs.Prelude.{ℕ, Bool, List, [], ◌∷◌, ◌++◌, ◌≡◌, length, Some, None, slice_get}
+use Rattle.std.specs.Prelude.{ℕ, List, [], ◌∷◌, ◌++◌, ◌≡◌, length, Some, None, slice_get}
 use Rattle.std.proofs.Common.{◌∙◌, ap, sym, subst}
 use Rattle.msc_base.specs.declared.label.Label.{Label}
+use Rattle.list_facts.proofs.Members.{at_among}
 use Rattle.hmsc_graph.specs.Nets.{size_of}
 use Rattle.term_tables.specs.NetValues.{NetsValue}
 use Rattle.chart_term.specs.Properties.{Each}
@@ -13,7 +14,6 @@ use Rattle.hmsc_graph.specs.Graphs.{Spot, Goal}
 use Rattle.chart_term.specs.TermPatterns.{some_list}
 use Rattle.term_laws.specs.Placing.{HaveOnePlace}
 use Rattle.term_laws.proofs.Placed.{one_place_is_kept}
-use Rattle.term_successors.proofs.TermMembers.{at_among}
 use Rattle.term_successors.proofs.TermSets.{each_at, each_from}
 use Rattle.walk_bench.specs.Homes.{AreHome, first_alone, IsHome}
 use Rattle.term_permission.proofs.Permits.{ready-at}

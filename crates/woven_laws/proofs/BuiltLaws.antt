@@ -1,10 +1,12 @@
 -- What the statements of a chart whose forms are built are woven to is built.
-use Rattle.std.proofs.Common.{◌≡◌, ℕ, zero, suc, Bool, true, ◌&&◌, List, [], ◌∷◌, Some, slice_get, refl, sym, subst, ap, ap₂, ◌∙◌, arith}
+use Rattle.std.proofs.Common.{◌≡◌, ℕ, zero, suc, true, ◌&&◌, List, [], ◌∷◌, Some, slice_get, refl, sym, subst, ap, ◌∙◌, arith}
 use Rattle.std.specs.List.{list_any}
 use Rattle.std.specs.Str.{bytes_eq}
+use Rattle.std.proofs.lemmas.Bool.{and_from}
 use Rattle.msc_base.specs.Lists.{IsAmong}
 use Rattle.msc_base.specs.declared.place.Place.{Place}
 use Rattle.msc_base.proofs.NameFacts.{any_from_one}
+use Rattle.list_facts.proofs.Joining.{left_nil, right_nil}
 use Rattle.msc_tree.specs.declared.event.RawEvent.{RawEvent}
 use Rattle.msc_tree.specs.declared.reference.InlineForm.{InlineForm}
 use Rattle.msc_tree.specs.declared.reference.InlineForm.TheVariants as inline
@@ -26,14 +28,11 @@ use Rattle.chart_forms.specs.BuiltBodies.{are_built_nodes, has_operands, is_buil
 use Rattle.chart_forms.proofs.PartLaws.{built_and}
 use Rattle.chart_forms.specs.NotBuilt.{IsBuilt, not_built_event, not_built_events, not_built_item}
 use Rattle.woven_laws.specs.BuiltCharts.{BuiltChartsAreKnown}
-use Rattle.woven_laws.proofs.BuiltPieces.{IsBuiltPiece, chart_pieces_built, left_none, never, no_graph, of_built, right_none}
+use Rattle.woven_laws.proofs.BuiltPieces.{IsBuiltPiece, chart_pieces_built, never, no_graph, of_built}
 use Rattle.woven_laws.proofs.Declaring.{AreAmong, all_among}
 use Rattle.woven_laws.proofs.EachPiece.{EachOfAll, level_each, parts_each}
 use Rattle.woven_laws.proofs.NamedPieces.{IsNamedPiece, chart_named, cover_among, of_are}
 use Rattle.woven_laws.proofs.Unrefined.{chart_whole}
-
-both : (a b : Bool) → a ≡ true → b ≡ true → (a && b) ≡ true
-both a b h g = ap₂ (λ (x y : Bool). x && y) h g
 
 -- ---- as many operands as the form has
 
@@ -87,9 +86,7 @@ plain_event e h = never (is_plain e) e.place h
 plain_nodes : (names : List (List ℕ)) (n : ℕ) (at : List ℕ) (es : List RawEvent) → IsAmong names at → not_built_events es ≡ [] → are_built_nodes names (nodes_from n at es) ≡ true
 plain_nodes names n at [] a h = refl
 plain_nodes names n at (e ∷ es) a h =
-    both (list_any (bytes_eq at) names && is_plain e) (are_built_nodes names (nodes_from (suc n) at es))
-    (both (list_any (bytes_eq at) names) (is_plain e) (any_from_one names at a) (plain_event e (left_none (not_built_event e) (not_built_events es) h)))
-    (plain_nodes names (suc n) at es a (right_none (not_built_event e) (not_built_events es) h))
+    and_from (list_any (bytes_eq at) names && is_plain e) (are_built_nodes names (nodes_from (suc n) at es)) (and_from (list_any (bytes_eq at) names) (is_plain e) (any_from_one names at a) (plain_event e (left_nil (not_built_event e) (not_built_events es) h))) (plain_nodes names (suc n) at es a (right_nil (not_built_event e) (not_built_events es) h))
 
 -- the passage of a piece of that form
 formed : (p : Piece) (f : Form) → p.form ≡ f → IsBuiltPiece p → (is_well_formed_item (behind p.leads) f ≡ true) × (not_built_item p.place f ≡ [])
@@ -117,23 +114,21 @@ module _ (names : List (List ℕ)) where
     items_built : {cover : List (List ℕ)} {order : List ℕ} (all : List (List Piece)) (xs : WovenItems) → AreAmong names cover → EachOfAll IsGood all → AreWovenItems cover all order xs → are_built names xs ≡ true
     items_built all _ c h (no_woven) = refl
     items_built all _ c h (woven_and {x = i} {parts = parts} {item = x} {held = xs} at w k) =
-        built_and names x xs ∙ both (is_built_item names x) (are_built names xs) (item_built x c (parts_each IsGood all i parts h at) w) (items_built all xs c h k)
+        built_and names x xs ∙ and_from (is_built_item names x) (are_built names xs) (item_built x c (parts_each IsGood all i parts h at) w) (items_built all xs c h k)
 
     item_built : {cover : List (List ℕ)} {parts : List Piece} (x : WovenItem) → AreAmong names cover → EachPiece IsGood parts → IsWovenItem cover parts x → is_built_item names x ≡ true
     item_built _ c h (an_event {p = p} {at = at} {e = e} is here) =
-        both (list_any (bytes_eq at) names) (is_plain e) (any_from_one names at (lead_among names p.leads at h.0.1.leads here)) (plain_event e (formed p (tree.Single e) is h.0.0).1)
+        and_from (list_any (bytes_eq at) names) (is_plain e) (any_from_one names at (lead_among names p.leads at h.0.1.leads here)) (plain_event e (formed p (tree.Single e) is h.0.0).1)
     item_built _ c h (a_coregion {p = p} {at = at} {es = es} is here) =
         plain_nodes names p.first at es (lead_among names p.leads at h.0.1.leads here) (formed p (tree.Coregion es) is h.0.0).1
     item_built _ c h (an_inline {cover = cover} {p = p} {ps = ps} {head = head} {operands = operands} {held = held} is w) =
-        both (has_operands head.form held) (have_built names held)
-        (same_operands head.form operands held (woven_number held w) (formed p (tree.Inline head operands) is h.0.0).0)
-        (operands_built held (cover_among names cover p c h.0.1) h w)
+        and_from (has_operands head.form held) (have_built names held) (same_operands head.form operands held (woven_number held w) (formed p (tree.Inline head operands) is h.0.0).0) (operands_built held (cover_among names cover p c h.0.1) h w)
     item_built _ c h (a_reference {p = p} {r = r} is) = absurd (no_reference p r is h.0.0)
 
     operands_built : {cover : List (List ℕ)} {parts : List Piece} {k count : ℕ} (bs : Bodies) → AreAmong names cover → EachPiece IsGood parts → AreWovenOperands cover parts k count bs → have_built names bs ≡ true
     operands_built _ c h (no_woven_operand) = refl
     operands_built _ c h (woven_operand_and {cover = cover} {parts = parts} {k = k} {body = b} {others = bs} w g) =
-        both (is_built names b) (have_built names bs) (body_built b c (operands_good cover k parts c h) w) (operands_built bs c h g)
+        and_from (is_built names b) (have_built names bs) (body_built b c (operands_good cover k parts c h) w) (operands_built bs c h g)
 
 -- ---- a chart
 

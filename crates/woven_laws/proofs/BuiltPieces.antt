@@ -1,5 +1,5 @@
 -- The pieces of a chart whose text is well formed and whose forms are built: each is so, at any depth.
-use Rattle.std.proofs.Common.{◌≡◌, inl, ℕ, Bool, true, false, not, List, [], ◌∷◌, ◌++◌, refl, subst, map}
+use Rattle.std.proofs.Common.{◌≡◌, inl, ℕ, Bool, true, false, not, List, [], ◌∷◌, refl, subst, map}
 use Rattle.chart_forms.specs.NotBuilt.{IsBuilt, not_built, not_built_chart, not_built_graph}
 use Rattle.chart_text.proofs.StandingLaws.{IsMovable, each_right, formed_item}
 use Rattle.chart_text.specs.Gathering.{gathered, place_if}
@@ -9,6 +9,7 @@ use Rattle.level_pieces.proofs.PieceTexts.{operand_are, statements_are}
 use Rattle.level_pieces.specs.FormedPieces.{EachPiece, piece_text}
 use Rattle.msc_base.specs.Lists.{IsAmong}
 use Rattle.msc_base.specs.declared.place.Place.{Place}
+use Rattle.list_facts.proofs.Joining.{left_nil, right_nil}
 use Rattle.msc_meaning.specs.Pieces.{Piece, operand_of, statements_pieces}
 use Rattle.msc_tree.specs.Charts.{Basic, Chart, Content, HighLevel}
 use Rattle.msc_tree.specs.Graphs.{Graph}
@@ -16,24 +17,16 @@ use Rattle.msc_tree.specs.Statements.{Statement, statements}
 
 -- ---- what a built chart lacks
 
-pub left_none : {A : Type 0} (xs ys : List A) → xs ++ ys ≡ [] → xs ≡ []
-left_none [] ys h = refl
-left_none (x ∷ xs) ys h = cc
-
-pub right_none : {A : Type 0} (xs ys : List A) → xs ++ ys ≡ [] → ys ≡ []
-right_none [] ys h = h
-right_none (x ∷ xs) ys h = cc
-
 none_among : {A : Type 0} (xs : List A) → ((x : A) → IsAmong xs x → ⊥) → xs ≡ []
 none_among [] none = refl
 none_among (x ∷ xs) none = absurd (none x (inl refl))
 
 pub text_none : (chart : Chart) → IsBuilt chart → gathered not_built (chart_text chart) ≡ []
-text_none chart built = right_none (not_built_graph chart.place chart.content) (gathered not_built (chart_text chart)) (none_among (not_built_chart chart) built)
+text_none chart built = right_nil (not_built_graph chart.place chart.content) (gathered not_built (chart_text chart)) (none_among (not_built_chart chart) built)
 
 pub no_graph : (chart : Chart) (drawn : Graph) → chart.content ≡ HighLevel drawn → IsBuilt chart → ⊥
 no_graph chart drawn is built =
-    let none = left_none (not_built_graph chart.place chart.content) (gathered not_built (chart_text chart)) (none_among (not_built_chart chart) built) in
+    let none = left_nil (not_built_graph chart.place chart.content) (gathered not_built (chart_text chart)) (none_among (not_built_chart chart) built) in
     let drawn_none : not_built_graph chart.place (HighLevel drawn) ≡ [] = subst (λ (x : Content). not_built_graph chart.place x ≡ []) is none in cc
 
 -- ---- tests
@@ -64,7 +57,7 @@ of_built cover k p h = operand_are IsBuiltPassage built_movable cover k p h
 
 each_built : (text : List Passage) → AreWellFormed text → gathered not_built text ≡ [] → Each IsBuiltPassage text
 each_built [] h none = tt
-each_built (p ∷ text) h none = ((h.0, left_none (not_built p) (gathered not_built text) none), each_built text h.1 (right_none (not_built p) (gathered not_built text) none))
+each_built (p ∷ text) h none = ((h.0, left_nil (not_built p) (gathered not_built text) none), each_built text h.1 (right_nil (not_built p) (gathered not_built text) none))
 
 pub chart_pieces_built : (c : Chart) (held : List Statement) (cover : List (List ℕ)) → c.content ≡ Basic held → IsWellFormed c → IsBuilt c → EachPiece IsBuiltPiece (statements_pieces cover 0 (statements held))
 chart_pieces_built c held cover is formed built =

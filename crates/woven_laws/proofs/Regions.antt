@@ -1,6 +1,7 @@
 -- Which numbers the events of pieces have, and lists of numbers that differ and have a property.
 use Rattle.std.proofs.Common.{◌≡◌, ℕ, ◌≤◌, ◌<◌, ◌+◌, ◌⊎◌, inl, inr, List, [], ◌∷◌, ◌++◌, map, refl, sym, subst, ap, arith}
 use Rattle.msc_base.specs.Orders.{Among, first, later, Once}
+use Rattle.list_facts.proofs.Orders.{stands_either}
 use Rattle.msc_meaning.specs.Bodies.{EventNode}
 use Rattle.msc_meaning.specs.Pieces.{Piece, form_count}
 use Rattle.level_pieces.proofs.NumberedPieces.{ArePlaced}
@@ -71,21 +72,14 @@ among_case k j ks (later h) = inr h
 pub differ_more : (P : ℕ → Type 0) (j : ℕ) (ks : List ℕ) → P j → (Among j ks → ⊥) → Differ P ks → Differ P (j ∷ ks)
 differ_more P j ks here new d = record { within = λ k h. elim (among_case k j ks h) [ inl e ↦ subst P (sym e) here | inr i ↦ d.within k i ]; once = (new, d.once) }
 
-among_on : (k : ℕ) (ks js : List ℕ) → Among k (ks ++ js) → Among k ks ⊎ Among k js
-among_on k [] js h = inr h
-among_on k (i ∷ ks) js h = elim (among_case k i (ks ++ js) h) [
-  | inl e ↦ inl (subst (λ (x : ℕ). Among x (i ∷ ks)) (sym e) first)
-  | inr g ↦ elim (among_on k ks js g) [ inl a ↦ inl (later a) | inr b ↦ inr b ]
-]
-
 once_on : (ks js : List ℕ) → Once ks → Once js → ((k : ℕ) → Among k ks → Among k js → ⊥) → Once (ks ++ js)
 once_on [] js a b f = b
-once_on (i ∷ ks) js (n, a) b f = ((λ h. elim (among_on i ks js h) [ inl g ↦ n g | inr g ↦ f i first g ]), once_on ks js a b (λ k g h. f k (later g) h))
+once_on (i ∷ ks) js (n, a) b f = ((λ h. elim (stands_either ks js i h) [ inl g ↦ n g | inr g ↦ f i first g ]), once_on ks js a b (λ k g h. f k (later g) h))
 
 -- two lists of events whose numbers have properties that exclude each other
 pub differ_on : (P Q R : ℕ → Type 0) (ns ms : List EventNode) → Differ P (numbers ns) → Differ Q (numbers ms) → ((k : ℕ) → P k → R k) → ((k : ℕ) → Q k → R k) → ((k : ℕ) → P k → Q k → ⊥) → Differ R (numbers (ns ++ ms))
 differ_on P Q R ns ms a b f g apart = subst (Differ R) (sym (numbers_on ns ms)) (record {
-  within = λ k h. elim (among_on k (numbers ns) (numbers ms) h) [ inl i ↦ f k (a.within k i) | inr i ↦ g k (b.within k i) ];
+  within = λ k h. elim (stands_either (numbers ns) (numbers ms) k h) [ inl i ↦ f k (a.within k i) | inr i ↦ g k (b.within k i) ];
   once = once_on (numbers ns) (numbers ms) a.once b.once (λ k i j. apart k (a.within k i) (b.within k j));
 })
 

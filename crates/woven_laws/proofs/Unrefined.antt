@@ -6,12 +6,13 @@ use Rattle.chart_forms.specs.NotBuilt.{IsBuilt, not_built, not_built_by, not_bui
 use Rattle.chart_text.specs.Gathering.{gathered}
 use Rattle.chart_text.specs.Texts.{Passage, a_head, a_statement, an_item, an_operand, chart_text}
 use Rattle.msc_base.specs.declared.place.Place.{Place}
+use Rattle.list_facts.proofs.Joining.{left_nil, right_nil}
 use Rattle.msc_meaning.specs.Tables.{declared, refined_as, refinement, refinements, refinements_of}
 use Rattle.msc_meaning.specs.WovenTables.{chart_decls, declares, heading_decls}
 use Rattle.msc_tree.specs.declared.chart.Decl.{Decl}
 use Rattle.msc_tree.specs.Charts.{Chart}
 use Rattle.msc_tree.specs.Statements.{Statement, Column, Covered, Heading, Ended}
-use Rattle.woven_laws.proofs.BuiltPieces.{left_none, right_none, text_none}
+use Rattle.woven_laws.proofs.BuiltPieces.{text_none}
 
 abbrev Unrefined : List Decl → Type 0
 Unrefined [] = Unit {0}
@@ -40,7 +41,7 @@ passage_unrefined (an_operand s x) h = tt
 text_unrefined : (text : List Passage) → gathered not_built text ≡ [] → Unrefined (gathered declares text)
 text_unrefined [] h = tt
 text_unrefined (p ∷ text) h =
-    unrefined_on (declares p) (gathered declares text) (passage_unrefined p (left_none (not_built p) (gathered not_built text) h)) (text_unrefined text (right_none (not_built p) (gathered not_built text) h))
+    unrefined_on (declares p) (gathered declares text) (passage_unrefined p (left_nil (not_built p) (gathered not_built text) h)) (text_unrefined text (right_nil (not_built p) (gathered not_built text) h))
 
 passed_none : (b : Bool) (r later : Option (List ℕ)) → r ≡ None → later ≡ None → option_or (cond b r None) later ≡ None
 passed_none true r later e f = ap (λ (o : Option (List ℕ)). option_or o later) e ∙ f

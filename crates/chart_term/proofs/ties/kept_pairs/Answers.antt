@@ -1,11 +1,11 @@
 use Rattle.std.proofs.Common.{Bool, List, ◌≡◌, ◌&&◌, ◌∙◌, ap, refl, get_or}
 use Rattle.std.specs.BTreeSet.{contains}
+use Rattle.std.proofs.lemmas.List.{get_or_default}
 use Rattle.msc_base.specs.declared.label.Pair.{Pair}
 use Rattle.chart_term.specs.NormalForms.{numbers}
 use Rattle.chart_term.specs.Order.{pair_cmp}
 use Rattle.chart_term.specs.Views.{pair_of, pairs_of}
 use Rattle.chart_term.proofs.Binds.{pair_kept, pair_dropped, pair_seen}
-use Rattle.term_facts.proofs.Listing.{get_or_any}
 use Rattle.chart_term.proofs.ties.kept_pairs.Goals as goal
 use Rattle.chart_term.proofs.ties.kept_pairs.Goals.{then-occurs-new+in_ok-push, else-occurs-new}
 
@@ -14,7 +14,7 @@ loop-pair-preserved c =
     let none : Pair = record { first = 0; second = 0 } in
     let xs : List Pair = c.as_slice-pair-items.result.now in
     let x : Pair = get_or xs c.loop-pair.pair-index none in
-    let is : x ≡ get_or xs c.loop-pair.pair-index x = get_or_any xs c.loop-pair.pair-index none x c.loop-pair-test.true in
+    let is : x ≡ get_or xs c.loop-pair.pair-index x = get_or_default xs c.loop-pair.pair-index none x c.loop-pair-test.true in
     let keep : Bool = (c.has_number.result && c.has_number-in-loop-pair.result) && c.in_ok-new.new in
     record {
       kept = elim c.if-occurs-new.branch [

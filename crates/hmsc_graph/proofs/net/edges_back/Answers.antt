@@ -1,7 +1,8 @@
 use Rattle.std.proofs.Common.{◌≡◌, ◌<◌, ◌+◌, ◌++◌, ◌∙◌, [], List, ℕ, length, get_or, take, drop, arith, rules, sym, ap, subst}
+use Rattle.std.proofs.lemmas.List.{take_at}
 use Rattle.msc_base.specs.Lists.{IsIn}
 use Rattle.hmsc_graph.specs.Reversals.{AreEdgesBack, HasEdges}
-use Rattle.hmsc_graph.proofs.EdgeFacts.{get_default, edges_back_more, written}
+use Rattle.hmsc_graph.proofs.EdgeFacts.{get_default, edges_back_more}
 use Rattle.hmsc_graph.proofs.net.edges_back.Goals as goal
 
 pub add_edges-requires : goal.add_edges-requires
@@ -17,7 +18,7 @@ loop-node-preserved c =
     let len : c.loop-node.back.len ≡ length c.loop-node.back.items = search rules in
     let each : length c.add_edges.new.back ≡ length c.loop-node.back.items = c.in_ok-add_edges.ensures.each ∙ ap length c.deref_mut.ensures.value in
     let is : take c.loop-node.back.len (c.add_edges.new.back ++ drop (length c.add_edges.new.back) c.loop-node.back.items) ≡ c.add_edges.new.back =
-    written c.loop-node.back.len c.add_edges.new.back (drop (length c.add_edges.new.back) c.loop-node.back.items) (len ∙ sym each) in
+    take_at c.add_edges.new.back (drop (length c.add_edges.new.back) c.loop-node.back.items) c.loop-node.back.len (sym (len ∙ sym each)) in
     let has : HasEdges c.loop-node.back.items c.loop-node.node (get_or c.args.next.now c.loop-node.node []) c.add_edges.new.back =
     rw (← c.deref_mut.ensures.value, ← here) c.in_ok-add_edges.ensures in
     record {

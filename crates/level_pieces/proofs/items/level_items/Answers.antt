@@ -1,12 +1,12 @@
 use Rattle.std.proofs.Common.{arith, ◌++◌, ◌∙◌, [], List, ap, map, subst, sym, take}
 use Rattle.std.proofs.lemmas.List.{append-nil, take_all}
+use Rattle.list_facts.proofs.Reading.{drop_end}
 use Rattle.msc_meaning.specs.LevelItems.{Entry, entries, entries_behind, with_pieces}
 use Rattle.msc_meaning.specs.Pieces.{Piece}
 use Rattle.level_pieces.specs.ItemNumbers.{IsNumbering}
 use Rattle.level_pieces.specs.PieceViews.{part_view, piece_view}
 use Rattle.level_pieces.specs.declared.pieces.Part as code_part
 use Rattle.level_pieces.specs.declared.pieces.Piece as code
-use Rattle.level_pieces.proofs.Walks.{drop_end}
 use Rattle.level_pieces.proofs.StepLaws.{items_next, parts_step}
 use Rattle.level_pieces.proofs.items.level_items.Goals as goal
 

@@ -1,4 +1,5 @@
 use Rattle.std.proofs.Common.{◌≡◌, Option, None, Some, subst, sym, ◌∙◌}
+use Rattle.std.proofs.lemmas.Option.{none-some}
 use Rattle.level_weaving.specs.declared.weaving.WeaveFault.{WeaveFault}
 use Rattle.msc_base.specs.Places.{IsLeast}
 use Rattle.msc_base.specs.declared.place.Place.{Place}
@@ -10,32 +11,29 @@ use Rattle.msc_acceptance.specs.declared.tables.BodyFaults.{BodyFaults}
 use Rattle.msc_acceptance.proofs.ChartLaws.{alone_of, crossed_of, uncrossed_of}
 use Rattle.msc_acceptance.proofs.tables.barred_by.Goals as goal
 
-some_none : (p : Place) → Some p ≡ None → ⊥
-some_none p e = cc
-
 -- columns cross there
 barred_crossed : (c : Chart) (p : Place) (f : BodyFaults) → f.crossed ≡ Some p → IsLeast (CrossesAt c) (Some p) → IsBarred c f
 barred_crossed c p f e least = (
-  λ w. some_none p (sym e ∙ w.0),
+  λ w. none-some p (sym (sym e ∙ w.0)),
   record {
     crossed = subst (λ (o : Option Place). IsLeast (CrossesAt c) o) (sym e) least;
-    alone = λ n. absurd (some_none p (sym e ∙ n));
-    unknown = λ w. absurd (some_none p (sym e ∙ w.0));
-    twice = λ w. absurd (some_none p (sym e ∙ w.0));
-    cyclic = λ w. absurd (some_none p (sym e ∙ w.0));
+    alone = λ n. absurd (none-some p (sym (sym e ∙ n)));
+    unknown = λ w. absurd (none-some p (sym (sym e ∙ w.0)));
+    twice = λ w. absurd (none-some p (sym (sym e ∙ w.0)));
+    cyclic = λ w. absurd (none-some p (sym (sym e ∙ w.0)));
   },
 )
 
 -- a message lacks its partner there
 barred_alone : (c : Chart) (p : Place) (f : BodyFaults) → f.crossed ≡ None → f.alone ≡ Some p → IsLeast (CrossesAt c) None → IsLeast (IsAloneAt c) (Some p) → IsBarred c f
 barred_alone c p f n e uncrossed least = (
-  λ w. some_none p (sym e ∙ w.1),
+  λ w. none-some p (sym (sym e ∙ w.1)),
   record {
     crossed = subst (λ (o : Option Place). IsLeast (CrossesAt c) o) (sym n) uncrossed;
     alone = λ m. subst (λ (o : Option Place). IsLeast (IsAloneAt c) o) (sym e) least;
-    unknown = λ w. absurd (some_none p (sym e ∙ w.1));
-    twice = λ w. absurd (some_none p (sym e ∙ w.1));
-    cyclic = λ w. absurd (some_none p (sym e ∙ w.1));
+    unknown = λ w. absurd (none-some p (sym (sym e ∙ w.1)));
+    twice = λ w. absurd (none-some p (sym (sym e ∙ w.1)));
+    cyclic = λ w. absurd (none-some p (sym (sym e ∙ w.1)));
   },
 )
 

@@ -1,6 +1,7 @@
 use Rattle.std.proofs.Common.{◌≡◌, ◌<◌, ◌≤◌, ◌∷◌, ◌∙◌, ℕ, List, Vec, Some, ap, arith, length, map, refl, slice_get, subst, sym}
 use Rattle.std.specs.Global.{Global}
 use Rattle.std.proofs.lemmas.Option.{slice_get_read}
+use Rattle.std.proofs.lemmas.Result.{on_ok_weaker}
 use Rattle.msc_meaning.specs.LevelItems.{level_items}
 use Rattle.msc_meaning.specs.Pieces.{Piece}
 use Rattle.level_pieces.specs.ItemOperands.{AreOperands, operand_lists, pieces_view}
@@ -10,11 +11,10 @@ use Rattle.level_pieces.specs.declared.pieces.Piece as code
 use Rattle.level_pieces.proofs.ReadLaws.{columns_within}
 use Rattle.level_pieces.proofs.Sizes.{level_size, lists_size, lists_smaller, one_size, pieces_size}
 use Rattle.level_pieces.proofs.Walks.{map_at}
-use Rattle.shared_parts.specs.Noting.{AreAllJoined, AreNoted, ItemBreaks, OneHolds, noted}
+use Rattle.shared_parts.specs.Noting.{AreAllJoined, AreNoted, ItemBreaks, noted}
 use Rattle.shared_parts.specs.PartRules.{BreaksPartRule}
-use Rattle.shared_parts.specs.declared.faults.PartRule.{PartRule}
 use Rattle.shared_parts.proofs.LevelLaws.{event_keeps, item_noted, joined_at, level_joined, level_noted}
-use Rattle.shared_parts.proofs.Walked.{noted_none, on_ok, walked_all, walked_more}
+use Rattle.shared_parts.proofs.Walked.{noted_none, walked_all, walked_more}
 use Rattle.shared_parts.proofs.levels.+levels.Goals as goal
 
 -- ---- a level
@@ -30,9 +30,7 @@ pub note_level-returns : goal.note_level-returns
 note_level-returns t c =
     let ps : List Piece = map piece_view c.args.pieces.now in
     let list : map parts_view c.as_slice.result.now ≡ level_items ps = ap (map parts_view) c.as_slice.ensures.value ∙ c.in_ok-items.ensures.items in
-    on_ok c.note_items.result ((rule : PartRule) → AreNoted (OneHolds (ItemBreaks rule c.args.cover.now) (map parts_view c.as_slice.result.now)) (noted rule c.args.places.now) (noted rule c.note_items.new.places))
-    ((rule : PartRule) → AreNoted (BreaksPartRule rule c.args.cover.now ps) (noted rule c.args.places.now) (noted rule c.note_items.new.places))
-    (λ h rule. level_noted rule c.args.cover.now ps (map parts_view c.as_slice.result.now) (noted rule c.args.places.now) (noted rule c.note_items.new.places) list (h rule)) c.note_items.ensures
+    on_ok_weaker c.note_items.result (λ h rule. level_noted rule c.args.cover.now ps (map parts_view c.as_slice.result.now) (noted rule c.args.places.now) (noted rule c.note_items.new.places) list (h rule)) c.note_items.ensures
 
 -- ---- items
 
@@ -76,11 +74,8 @@ note_item-returns t c =
     let others : List Piece = map piece_view c.args.item.now.others.items in
     let cover : List (List ℕ) = c.in_ok-names.names.cover in
     let slice : map pieces_view c.as_slice.result.now ≡ map pieces_view c.in_ok-operands.operands.items = ap (map pieces_view) c.as_slice.ensures.value in
-    on_ok c.note_levels.result ((rule : PartRule) → AreNoted (OneHolds (BreaksPartRule rule cover) (map pieces_view c.as_slice.result.now)) (noted rule c.note_parts.new.places) (noted rule c.note_levels.new.places))
-    ((rule : PartRule) → AreNoted (ItemBreaks rule c.args.level.now (p ∷ others)) (noted rule c.args.places.now) (noted rule c.note_levels.new.places))
-    (λ h rule. item_noted rule c.args.level.now cover p others (map pieces_view c.as_slice.result.now) (noted rule c.args.places.now) (noted rule c.note_parts.new.places) (noted rule c.note_levels.new.places)
-    c.in_ok-names.ensures.cover (subst (λ (l : List (List Piece)). AreOperands cover (p ∷ others) l) (sym slice) c.in_ok-operands.ensures) (c.in_ok-note_parts.ensures rule) (h rule))
-    c.note_levels.ensures
+    on_ok_weaker c.note_levels.result (λ h rule. item_noted rule c.args.level.now cover p others (map pieces_view c.as_slice.result.now) (noted rule c.args.places.now) (noted rule c.note_parts.new.places) (noted rule c.note_levels.new.places)
+    c.in_ok-names.ensures.cover (subst (λ (l : List (List Piece)). AreOperands cover (p ∷ others) l) (sym slice) c.in_ok-operands.ensures) (c.in_ok-note_parts.ensures rule) (h rule)) c.note_levels.ensures
 
 pub note_item-returns-then-is_event : goal.note_item-returns-then-is_event
 note_item-returns-then-is_event t c = λ rule.

@@ -12,21 +12,20 @@ use Rattle.term_permission.specs.Remnants.{RemnantSays, is_full, SaysParts, Says
 use Rattle.term_permission.proofs.PassingFacts.{passing_ended, says_none}
 use Rattle.chart_term.specs.Spreads.{spread_of}
 use Rattle.term_laws.specs.Permission.{permit, permits_of, permit_some}
-use Rattle.term_permission.specs.Ready.{IsReady, AreReadyParts, IsReadyPart}
+use Rattle.term_permission.specs.Ready.{IsReady, IsReadyPart}
 use Rattle.term_permission.specs.RowRests.{RowRest, keep_parts, no_rest, keep_part}
 use Rattle.bit_sets.specs.Blocks.{BlockValue}
+use Rattle.term_permission.proofs.Halves.{first_lower, first_of_join, first_of_row, second_lower, second_of_join, second_of_row}
 use Rattle.term_laws.specs.Values.{block_of}
-use Rattle.term_permission.proofs.Joins.{second-fails, each-first, each-second, left-parts, turns-first, turns-second, ok-as}
+use Rattle.term_permission.proofs.Joins.{second-fails, left-parts, ok-as}
 use Rattle.term_permission.proofs.PermitLoops.{loop-left, loop-none, ready-loop, cut_alike}
 use Rattle.term_permission.proofs.PermitWalks.{node-below, passing-next, walk-lost, walk-passes, walk-empty, ready-walk}
 use Rattle.term_permission.proofs.NodeTerms.{node-is, sizes-are}
 use Rattle.term_laws.proofs.TermSentences.{net_rank}
-use Rattle.term_permission.proofs.PermitRows.{ready-part, ready-first, ready-second, item-at, normal-turns, ready-turns, rank-both, rank-filled, rank-turns-only}
+use Rattle.term_permission.proofs.PermitRows.{ready-part, item-at, normal-turns, ready-turns, rank-turns-only}
 use Rattle.term_permission.proofs.Permits.{ready-at, ready-choice, turns-are-ready, turns-are-open}
 use Rattle.term_laws.proofs.Measures.{rank_in, rank_row, rank-choice, rank-join, rank-loop, rank-at, rank-part}
 use Rattle.term_permission.proofs.MissedParts.{left-missed}
-use Rattle.term_laws.specs.Normality.{IsNotNil, IsPartOf}
-use Rattle.chart_term.specs.Properties.{EachTurn}
 use Rattle.term_permission.proofs.ItemsLeft.{each-at, items-gap, items-fail}
 use Rattle.chart_term.specs.Views.{pairs_of}
 use Rattle.chart_term.proofs.Turns.{begun-length}
@@ -45,21 +44,8 @@ ask_parts-returns-then-misses t c =
 
 pub ask_parts-ask_parts-requires : goal.ask_parts-ask_parts-requires
 ask_parts-ask_parts-requires t c =
-    let w = c.args.nets.now.tables in
-    let e = c.in-Fork.ensures.0 in
-    let r : rank_row w c.args.parts.now ≡ rank_row w c.in-Fork.first.now + rank_row w c.in-Fork.second.now = ap (rank_row w) e ∙ rank-both w c.in-Fork.first.now c.in-Fork.second.now in (
-      omega (arith, c.decreases, r, rank-filled w c.in-Fork.first.now c.in-Fork.ensures.1),
-      (
-        c.requires.tables,
-        (
-          turns-second c.in-Fork.first.now c.in-Fork.second.now (sym (ap has_gap e) ∙ c.requires.turns),
-          (
-            each-second (IsReady w) c.in-Fork.first.now c.in-Fork.second.now (subst (λ (ps : List Part). EachTurn (IsReady w) ps) e c.requires.ready),
-            each-second (IsPartOf (mode_of c.args.joint)) c.in-Fork.first.now c.in-Fork.second.now (subst (λ (ps : List Part). EachTurn (IsPartOf (mode_of c.args.joint)) ps) e c.requires.open),
-          ),
-        ),
-      ),
-    )
+    let low = second_lower c.args.nets.now.tables c.args.parts.now c.in-Fork.first.now c.in-Fork.second.now c.in-Fork.ensures.0 c.in-Fork.ensures.1 in
+    (omega (arith, c.decreases, low), (c.requires.tables, second_of_join c.args.nets.now.tables c.args.parts.now c.in-Fork.first.now c.in-Fork.second.now c.in-Fork.ensures.0 (mode_of c.args.joint) c.requires.turns c.requires.ready c.requires.open))
 
 pub ask_parts-returns-then-fails : goal.ask_parts-returns-then-fails
 ask_parts-returns-then-fails t c =
@@ -71,21 +57,8 @@ ask_parts-returns-then-fails t c =
 
 pub ask_parts-ask_parts-requires-in-Fork : goal.ask_parts-ask_parts-requires-in-Fork
 ask_parts-ask_parts-requires-in-Fork t c =
-    let w = c.args.nets.now.tables in
-    let e = c.in-Fork.ensures.0 in
-    let r : rank_row w c.args.parts.now ≡ rank_row w c.in-Fork.first.now + rank_row w c.in-Fork.second.now = ap (rank_row w) e ∙ rank-both w c.in-Fork.first.now c.in-Fork.second.now in (
-      omega (arith, c.decreases, r, rank-filled w c.in-Fork.second.now c.in-Fork.ensures.2),
-      (
-        c.requires.tables,
-        (
-          turns-first c.in-Fork.first.now c.in-Fork.second.now (sym (ap has_gap e) ∙ c.requires.turns),
-          (
-            each-first (IsReady w) c.in-Fork.first.now c.in-Fork.second.now (subst (λ (ps : List Part). EachTurn (IsReady w) ps) e c.requires.ready),
-            each-first (IsPartOf (mode_of c.args.joint)) c.in-Fork.first.now c.in-Fork.second.now (subst (λ (ps : List Part). EachTurn (IsPartOf (mode_of c.args.joint)) ps) e c.requires.open),
-          ),
-        ),
-      ),
-    )
+    let low = first_lower c.args.nets.now.tables c.args.parts.now c.in-Fork.first.now c.in-Fork.second.now c.in-Fork.ensures.0 c.in-Fork.ensures.2 in
+    (omega (arith, c.decreases, low), (c.requires.tables, first_of_join c.args.nets.now.tables c.args.parts.now c.in-Fork.first.now c.in-Fork.second.now c.in-Fork.ensures.0 (mode_of c.args.joint) c.requires.turns c.requires.ready c.requires.open))
 
 pub ask_items-loop-index-preserved-in-Gap : goal.ask_items-loop-index-preserved-in-Gap
 ask_items-loop-index-preserved-in-Gap t c =
@@ -174,39 +147,13 @@ ask_row-returns-then-misses t c =
 
 pub ask_row-ask_row-requires : goal.ask_row-ask_row-requires
 ask_row-ask_row-requires t c =
-    let w = c.args.nets.now.tables in
-    let e = c.in-Fork.ensures.0 in
-    let r : rank_row w c.args.parts.now ≡ rank_row w c.in-Fork.first.now + rank_row w c.in-Fork.second.now = ap (rank_row w) e ∙ rank-both w c.in-Fork.first.now c.in-Fork.second.now in (
-      omega (arith, c.decreases, r, rank-filled w c.in-Fork.first.now c.in-Fork.ensures.1),
-      (
-        c.requires.tables,
-        (
-          c.requires.body,
-          (
-            ready-second w c.in-Fork.first.now c.in-Fork.second.now (subst (λ (ps : List Part). AreReadyParts w ps) e c.requires.row),
-            each-second IsNotNil c.in-Fork.first.now c.in-Fork.second.now (subst (λ (ps : List Part). EachTurn IsNotNil ps) e c.requires.over),
-          ),
-        ),
-      ),
-    )
+    let low = second_lower c.args.nets.now.tables c.args.parts.now c.in-Fork.first.now c.in-Fork.second.now c.in-Fork.ensures.0 c.in-Fork.ensures.1 in
+    (omega (arith, c.decreases, low), (c.requires.tables, (c.requires.body, second_of_row c.args.nets.now.tables c.args.parts.now c.in-Fork.first.now c.in-Fork.second.now c.in-Fork.ensures.0 c.requires.row c.requires.over)))
 
 pub ask_row-ask_row-requires-in-Some : goal.ask_row-ask_row-requires-in-Some
 ask_row-ask_row-requires-in-Some t c =
-    let w = c.args.nets.now.tables in
-    let e = c.in-Fork.ensures.0 in
-    let r : rank_row w c.args.parts.now ≡ rank_row w c.in-Fork.first.now + rank_row w c.in-Fork.second.now = ap (rank_row w) e ∙ rank-both w c.in-Fork.first.now c.in-Fork.second.now in (
-      omega (arith, c.decreases, r, rank-filled w c.in-Fork.second.now c.in-Fork.ensures.2),
-      (
-        c.requires.tables,
-        (
-          c.requires.body,
-          (
-            ready-first w c.in-Fork.first.now c.in-Fork.second.now (subst (λ (ps : List Part). AreReadyParts w ps) e c.requires.row),
-            each-first IsNotNil c.in-Fork.first.now c.in-Fork.second.now (subst (λ (ps : List Part). EachTurn IsNotNil ps) e c.requires.over),
-          ),
-        ),
-      ),
-    )
+    let low = first_lower c.args.nets.now.tables c.args.parts.now c.in-Fork.first.now c.in-Fork.second.now c.in-Fork.ensures.0 c.in-Fork.ensures.2 in
+    (omega (arith, c.decreases, low), (c.requires.tables, (c.requires.body, first_of_row c.args.nets.now.tables c.args.parts.now c.in-Fork.first.now c.in-Fork.second.now c.in-Fork.ensures.0 c.requires.row c.requires.over)))
 
 pub ask_row_items-returns : goal.ask_row_items-returns
 ask_row_items-returns t c =

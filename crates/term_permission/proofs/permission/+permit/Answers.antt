@@ -5,25 +5,25 @@ use Rattle.chart_term.specs.Terms.{Tree, Choice, trees, Part, Turn}
 use Rattle.msc_base.specs.Patterns.{seq, par}
 use Rattle.term_permission.specs.Lefts.{left_of, mode_of, opened_left, ArePartsLeft}
 use Rattle.term_laws.specs.Permission.{permit, permits_of}
-use Rattle.term_permission.specs.Ready.{IsReady, AreReadyParts}
+use Rattle.term_permission.specs.Ready.{IsReady}
 use Rattle.term_permission.specs.RowRests.{RowRest, keep_parts, no_rest}
 use Rattle.bit_sets.specs.Blocks.{BlockValue}
 use Rattle.term_laws.specs.Values.{block_of}
-use Rattle.term_permission.proofs.Joins.{second-fails, each-first, each-second, left-parts, turns-both, turns-first, turns-second}
+use Rattle.term_permission.proofs.Joins.{second-fails, left-parts, turns-both, turns-first, turns-second}
 use Rattle.term_permission.proofs.PermitLoops.{loop-left, loop-none, ready-loop, if-kept, if-lost}
 use Rattle.term_permission.proofs.PermitWalks.{ready-walk}
-use Rattle.term_permission.proofs.PermitRows.{ready-part, ready-first, ready-second, item-at, keep-more, keep-none, keep-kept, keep-lost, keep-whole, normal-turns, ready-turns, rank-both, rank-filled, rank-turns-only}
+use Rattle.term_permission.proofs.PermitRows.{ready-part, item-at, keep-more, keep-none, keep-kept, keep-lost, keep-whole, normal-turns, ready-turns, rank-turns-only}
 use Rattle.term_permission.proofs.Permits.{ready-at, ready-choice, some-more, some-skip, turns-are-ready, turns-are-open}
 use Rattle.term_laws.proofs.Measures.{rank_in, rank_row, rank-choice, rank-join, rank-loop, rank-at, rank-part}
 use Rattle.term_permission.proofs.MissedParts.{left-missed}
-use Rattle.term_laws.specs.Normality.{IsNotNil, IsPartOf}
-use Rattle.chart_term.specs.Properties.{EachTurn}
+use Rattle.term_laws.specs.Normality.{IsPartOf}
 use Rattle.term_permission.proofs.permission.+permit.Goals.{permit_choice-in-Fails, permit_choice-in-Unchanged+in_ok-copy-in-Unchanged+in_ok-push-in-Unchanged, permit_choice-in-Changed+in_ok-push-in-Changed}
 use Rattle.term_permission.specs.declared.left.Left.{Left}
 use Rattle.term_permission.proofs.ItemsLeft.{each-at, items-gap, items-next, items-same, items-fail, choice-stays, choice-kept, tied-stays}
 use Rattle.chart_term.specs.Views.{pairs_of}
 use Rattle.std.proofs.lemmas.Bool.{or_parts}
-use Rattle.chart_term.proofs.Lists.{take_step}
+use Rattle.list_facts.proofs.Reading.{take_step}
+use Rattle.term_permission.proofs.Halves.{first_lower, first_of_join, first_of_row, second_lower, second_of_join, second_of_row}
 use Rattle.chart_term.proofs.Turns.{begun-length}
 use Rattle.term_laws.proofs.Missed.{row-misses}
 use Rattle.term_permission.proofs.Retying.{range_there, shown_by_span, tied_pairs}
@@ -90,39 +90,13 @@ permit_parts-returns-then-misses t c =
 
 pub permit_parts-permit_parts-requires : goal.permit_parts-permit_parts-requires
 permit_parts-permit_parts-requires t c =
-    let w = c.args.nets.now.tables in
-    let e = c.in-Fork.ensures.0 in
-    let r : rank_row w c.args.parts.now ≡ rank_row w c.in-Fork.first.now + rank_row w c.in-Fork.second.now = ap (rank_row w) e ∙ rank-both w c.in-Fork.first.now c.in-Fork.second.now in (
-      omega (arith, c.decreases, r, rank-filled w c.in-Fork.first.now c.in-Fork.ensures.1),
-      (
-        c.requires.tables,
-        (
-          turns-second c.in-Fork.first.now c.in-Fork.second.now (sym (ap has_gap e) ∙ c.requires.turns),
-          (
-            each-second (IsReady w) c.in-Fork.first.now c.in-Fork.second.now (subst (λ (ps : List Part). EachTurn (IsReady w) ps) e c.requires.ready),
-            each-second (IsPartOf (mode_of c.args.joint)) c.in-Fork.first.now c.in-Fork.second.now (subst (λ (ps : List Part). EachTurn (IsPartOf (mode_of c.args.joint)) ps) e c.requires.open),
-          ),
-        ),
-      ),
-    )
+    let low = second_lower c.args.nets.now.tables c.args.parts.now c.in-Fork.first.now c.in-Fork.second.now c.in-Fork.ensures.0 c.in-Fork.ensures.1 in
+    (omega (arith, c.decreases, low), (c.requires.tables, second_of_join c.args.nets.now.tables c.args.parts.now c.in-Fork.first.now c.in-Fork.second.now c.in-Fork.ensures.0 (mode_of c.args.joint) c.requires.turns c.requires.ready c.requires.open))
 
 pub permit_parts-permit_parts-requires-in-Fork : goal.permit_parts-permit_parts-requires-in-Fork
 permit_parts-permit_parts-requires-in-Fork t c =
-    let w = c.args.nets.now.tables in
-    let e = c.in-Fork.ensures.0 in
-    let r : rank_row w c.args.parts.now ≡ rank_row w c.in-Fork.first.now + rank_row w c.in-Fork.second.now = ap (rank_row w) e ∙ rank-both w c.in-Fork.first.now c.in-Fork.second.now in (
-      omega (arith, c.decreases, r, rank-filled w c.in-Fork.second.now c.in-Fork.ensures.2),
-      (
-        c.requires.tables,
-        (
-          turns-first c.in-Fork.first.now c.in-Fork.second.now (sym (ap has_gap e) ∙ c.requires.turns),
-          (
-            each-first (IsReady w) c.in-Fork.first.now c.in-Fork.second.now (subst (λ (ps : List Part). EachTurn (IsReady w) ps) e c.requires.ready),
-            each-first (IsPartOf (mode_of c.args.joint)) c.in-Fork.first.now c.in-Fork.second.now (subst (λ (ps : List Part). EachTurn (IsPartOf (mode_of c.args.joint)) ps) e c.requires.open),
-          ),
-        ),
-      ),
-    )
+    let low = first_lower c.args.nets.now.tables c.args.parts.now c.in-Fork.first.now c.in-Fork.second.now c.in-Fork.ensures.0 c.in-Fork.ensures.2 in
+    (omega (arith, c.decreases, low), (c.requires.tables, first_of_join c.args.nets.now.tables c.args.parts.now c.in-Fork.first.now c.in-Fork.second.now c.in-Fork.ensures.0 (mode_of c.args.joint) c.requires.turns c.requires.ready c.requires.open))
 
 pub permit_parts-both-requires-clause-first : goal.permit_parts-both-requires-clause-first
 permit_parts-both-requires-clause-first t c = turns-first c.in-Fork.first.now c.in-Fork.second.now (sym (ap has_gap c.in-Fork.ensures.0) ∙ c.requires.turns)
@@ -259,39 +233,13 @@ keep_parts-returns-then-misses t c =
 
 pub keep_parts-keep_parts-requires : goal.keep_parts-keep_parts-requires
 keep_parts-keep_parts-requires t c =
-    let w = c.args.nets.now.tables in
-    let e = c.in-Fork.ensures.0 in
-    let r : rank_row w c.args.parts.now ≡ rank_row w c.in-Fork.first.now + rank_row w c.in-Fork.second.now = ap (rank_row w) e ∙ rank-both w c.in-Fork.first.now c.in-Fork.second.now in (
-      omega (arith, c.decreases, r, rank-filled w c.in-Fork.first.now c.in-Fork.ensures.1),
-      (
-        c.requires.tables,
-        (
-          c.requires.body,
-          (
-            ready-second w c.in-Fork.first.now c.in-Fork.second.now (subst (λ (ps : List Part). AreReadyParts w ps) e c.requires.row),
-            each-second IsNotNil c.in-Fork.first.now c.in-Fork.second.now (subst (λ (ps : List Part). EachTurn IsNotNil ps) e c.requires.over),
-          ),
-        ),
-      ),
-    )
+    let low = second_lower c.args.nets.now.tables c.args.parts.now c.in-Fork.first.now c.in-Fork.second.now c.in-Fork.ensures.0 c.in-Fork.ensures.1 in
+    (omega (arith, c.decreases, low), (c.requires.tables, (c.requires.body, second_of_row c.args.nets.now.tables c.args.parts.now c.in-Fork.first.now c.in-Fork.second.now c.in-Fork.ensures.0 c.requires.row c.requires.over)))
 
 pub keep_parts-keep_parts-requires-in-Fork : goal.keep_parts-keep_parts-requires-in-Fork
 keep_parts-keep_parts-requires-in-Fork t c =
-    let w = c.args.nets.now.tables in
-    let e = c.in-Fork.ensures.0 in
-    let r : rank_row w c.args.parts.now ≡ rank_row w c.in-Fork.first.now + rank_row w c.in-Fork.second.now = ap (rank_row w) e ∙ rank-both w c.in-Fork.first.now c.in-Fork.second.now in (
-      omega (arith, c.decreases, r, rank-filled w c.in-Fork.second.now c.in-Fork.ensures.2),
-      (
-        c.requires.tables,
-        (
-          c.requires.body,
-          (
-            ready-first w c.in-Fork.first.now c.in-Fork.second.now (subst (λ (ps : List Part). AreReadyParts w ps) e c.requires.row),
-            each-first IsNotNil c.in-Fork.first.now c.in-Fork.second.now (subst (λ (ps : List Part). EachTurn IsNotNil ps) e c.requires.over),
-          ),
-        ),
-      ),
-    )
+    let low = first_lower c.args.nets.now.tables c.args.parts.now c.in-Fork.first.now c.in-Fork.second.now c.in-Fork.ensures.0 c.in-Fork.ensures.2 in
+    (omega (arith, c.decreases, low), (c.requires.tables, (c.requires.body, first_of_row c.args.nets.now.tables c.args.parts.now c.in-Fork.first.now c.in-Fork.second.now c.in-Fork.ensures.0 c.requires.row c.requires.over)))
 
 pub keep_parts-returns-then-not-branch : goal.keep_parts-returns-then-not-branch
 keep_parts-returns-then-not-branch t c =

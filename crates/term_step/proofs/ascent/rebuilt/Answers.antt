@@ -1,5 +1,6 @@
-use Rattle.std.proofs.Common.{rules, ◌≡◌, ◌∙◌, ◌-◌, sym, subst, ap₂, arith, List, Some, length, slice_get, take, drop}
+use Rattle.std.proofs.Common.{rules, ◌≡◌, ◌∙◌, ◌-◌, sym, subst, ap₂, arith, List, Some, length, slice_get, take, drop, refl}
 use Rattle.std.proofs.lemmas.List.{take_all}
+use Rattle.std.proofs.lemmas.Option.{slice_get_read}
 use Rattle.term_step.specs.declared.ascent.Frame.{Frame}
 use Rattle.chart_term.specs.Terms.{Tree, Event, Nil}
 use Rattle.chart_term.specs.Views.{event_of}
@@ -7,22 +8,22 @@ use Rattle.term_laws.specs.Permission.{permits_of}
 use Rattle.term_step.specs.Kept.{AreKept, top}
 use Rattle.term_step.specs.Searches.{put_all}
 use Rattle.term_step.proofs.KeptNumbers.{event_kept, kept_child, linked_at, top_at, top_none}
-use Rattle.term_step.proofs.Rebuilding.{frame-at, frame-ready, put-is-ready, rebuilt-more, rebuilt-none}
+use Rattle.term_step.proofs.Rebuilding.{frame-ready, put-is-ready, rebuilt-more, rebuilt-none}
 use Rattle.term_step.proofs.ascent.rebuilt.Goals as goal
 
 pub put-requires-clause-parent : goal.put-requires-clause-parent
 put-requires-clause-parent c =
-    let there : slice_get c.args.path.now.items (c.loop-index.index - 1) ≡ Some c.index-frame.result.now = frame-at c.args.path.now.items (c.loop-index.index - 1) c.index-frame.result.now (omega arith) c.index-frame.ensures in
+    let there : slice_get c.args.path.now.items (c.loop-index.index - 1) ≡ Some c.index-frame.result.now = slice_get_read c.args.path.now.items (length c.args.path.now.items) (c.loop-index.index - 1) c.index-frame.result.now refl (omega arith) c.index-frame.ensures in
     (frame-ready c.args.nets.now.tables c.args.path.now.items (c.loop-index.index - 1) c.index-frame.result.now c.requires.path there).0
 
 pub put-requires-clause-index : goal.put-requires-clause-index
 put-requires-clause-index c =
-    let there : slice_get c.args.path.now.items (c.loop-index.index - 1) ≡ Some c.index-frame.result.now = frame-at c.args.path.now.items (c.loop-index.index - 1) c.index-frame.result.now (omega arith) c.index-frame.ensures in
+    let there : slice_get c.args.path.now.items (c.loop-index.index - 1) ≡ Some c.index-frame.result.now = slice_get_read c.args.path.now.items (length c.args.path.now.items) (c.loop-index.index - 1) c.index-frame.result.now refl (omega arith) c.index-frame.ensures in
     (frame-ready c.args.nets.now.tables c.args.path.now.items (c.loop-index.index - 1) c.index-frame.result.now c.requires.path there).1
 
 pub put-requires-clause-kept : goal.put-requires-clause-kept
 put-requires-clause-kept c =
-    let there : slice_get c.args.path.now.items (c.loop-index.index - 1) ≡ Some c.index-frame.result.now = frame-at c.args.path.now.items (c.loop-index.index - 1) c.index-frame.result.now (omega arith) c.index-frame.ensures in
+    let there : slice_get c.args.path.now.items (c.loop-index.index - 1) ≡ Some c.index-frame.result.now = slice_get_read c.args.path.now.items (length c.args.path.now.items) (c.loop-index.index - 1) c.index-frame.result.now refl (omega arith) c.index-frame.ensures in
     kept_child (permits_of c.args.nets.now.tables) c.loop-index.gone c.index-frame.result.now.parent c.index-frame.result.now.index (top (drop c.loop-index.index c.args.path.now.items) (Event (event_of c.args.taken.now.event))) c.loop-index.left
     (linked_at (permits_of c.args.nets.now.tables) c.args.path.now.items (Event (event_of c.args.taken.now.event)) (c.loop-index.index - 1) c.loop-index.index c.index-frame.result.now c.requires.linked there (omega arith)) c.loop-index.invariant.kept
 
@@ -41,7 +42,7 @@ loop-index-init c =
 
 pub loop-index-preserved : goal.loop-index-preserved
 loop-index-preserved c =
-    let there : slice_get c.args.path.now.items (c.loop-index.index - 1) ≡ Some c.index-frame.result.now = frame-at c.args.path.now.items (c.loop-index.index - 1) c.index-frame.result.now (omega arith) c.index-frame.ensures in
+    let there : slice_get c.args.path.now.items (c.loop-index.index - 1) ≡ Some c.index-frame.result.now = slice_get_read c.args.path.now.items (length c.args.path.now.items) (c.loop-index.index - 1) c.index-frame.result.now refl (omega arith) c.index-frame.ensures in
     let r = (frame-ready c.args.nets.now.tables c.args.path.now.items (c.loop-index.index - 1) c.index-frame.result.now c.requires.path there) in
     record {
       within = omega arith;
@@ -56,6 +57,6 @@ loop-index-preserved c =
 
 pub returns-in-None-clause-left : goal.returns-in-None-clause-left
 returns-in-None-clause-left c =
-    let there : slice_get c.args.path.now.items (c.loop-index.index - 1) ≡ Some c.index-frame.result.now = frame-at c.args.path.now.items (c.loop-index.index - 1) c.index-frame.result.now (omega arith) c.index-frame.ensures in
+    let there : slice_get c.args.path.now.items (c.loop-index.index - 1) ≡ Some c.index-frame.result.now = slice_get_read c.args.path.now.items (length c.args.path.now.items) (c.loop-index.index - 1) c.index-frame.result.now refl (omega arith) c.index-frame.ensures in
     rebuilt-none (permits_of c.args.nets.now.tables) (event_of c.args.taken.now.event) c.args.path.now.items (c.loop-index.index - 1) c.loop-index.index c.index-frame.result.now c.loop-index.left (put_all (permits_of c.args.nets.now.tables) (event_of c.args.taken.now.event) c.args.path.now.items Nil) there
     (omega arith) c.loop-index.invariant.whole (sym c.in-None.is ∙ c.in_ok-term.ensures.whole)

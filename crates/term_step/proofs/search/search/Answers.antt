@@ -1,4 +1,5 @@
 use Rattle.std.proofs.Common.{◌≡◌, ℕ, [], List, refl, sym, ◌∙◌, subst, arith}
+use Rattle.std.proofs.lemmas.List.{nil_from_length}
 use Rattle.term_step.specs.Searches.{AreReadyFrames}
 use Rattle.term_step.specs.declared.ascent.Frame.{Frame}
 use Rattle.term_step.proofs.ChildReady.{child-good}
@@ -6,7 +7,7 @@ use Rattle.term_step.proofs.KeptNumbers.{linked_searched}
 use Rattle.term_step.proofs.Placed.{placed-down, placed-start, placed-up}
 use Rattle.term_step.proofs.Rebuilding.{front-ready}
 use Rattle.term_step.proofs.Searching.{state-start, state-down, state-cut, state-end, state-up, IsState}
-use Rattle.term_step.proofs.Visits.{visits-down, visits-up, ranked-down, ranked-up, ranked-length, no-frames}
+use Rattle.term_step.proofs.Visits.{visits-down, visits-up, ranked-down, ranked-up, ranked-length}
 use Rattle.term_laws.proofs.Measures.{rank_in}
 use Rattle.term_step.proofs.search.search.Goals as goal
 
@@ -52,7 +53,7 @@ pub returns-in-None-pop : goal.returns-in-None-pop
 returns-in-None-pop c =
     let w = c.args.nets.now.tables in
     let passed = rw c.in-None.is at c.in_ok-step.ensures in
-    state-end w c.requires.tables c.args.label c.args.term.now c.args.found.now c.search.found c.add_event.new.found c.search.path.items c.search.here c.search.next c.in_ok-all-in-None.all c.search.invariant.state c.in_ok-all-in-None.ensures.found passed c.if-not-all.false (no-frames c.search.path.items (sym c.search.path.ok.0 ∙ c.in-None-pop.ensures.cases.0))
+    state-end w c.requires.tables c.args.label c.args.term.now c.args.found.now c.search.found c.add_event.new.found c.search.path.items c.search.here c.search.next c.in_ok-all-in-None.all c.search.invariant.state c.in_ok-all-in-None.ensures.found passed c.if-not-all.false (nil_from_length c.search.path.items (sym c.search.path.ok.0 ∙ c.in-None-pop.ensures.cases.0))
 
 pub behind-next-requires-clause-term : goal.behind-next-requires-clause-term
 behind-next-requires-clause-term c =

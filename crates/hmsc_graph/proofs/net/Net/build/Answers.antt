@@ -1,10 +1,9 @@
 use Rattle.std.proofs.Common.{◌≡◌, ◌∙◌, None, [], fold, rules, subst, sym}
-use Rattle.msc_base.specs.Places.{IsLeast}
 use Rattle.hmsc_graph.specs.Graphs.{Net}
 use Rattle.hmsc_graph.specs.Labels.{with_line}
-use Rattle.hmsc_graph.specs.Shapes.{IsGraphOf, IsUnknown, named_by}
+use Rattle.hmsc_graph.specs.Shapes.{IsGraphOf}
 use Rattle.hmsc_graph.proofs.LabelFacts.{labels_of}
-use Rattle.hmsc_graph.proofs.FaultFacts.{AreLabels, are_labels, earliest_unknown, fault_is, no_fault, graph_is, only_graph}
+use Rattle.hmsc_graph.proofs.FaultFacts.{AreLabels, are_labels, first_unknown, fault_is, no_fault, graph_is, only_graph}
 use Rattle.hmsc_graph.proofs.net.Net.build.Goals as goal
 
 pub graph-requires-clause-table : goal.graph-requires-clause-table
@@ -18,8 +17,7 @@ returns-in-Some-clause-fault c =
     let labels = c.in_ok-labels.labels in
     let gathered : labels ≡ fold with_line (labels_of [] None) shape.lines = search rules in
     let are : AreLabels shape.lines labels = are_labels shape.lines labels gathered in
-    let first : IsLeast (IsUnknown shape.lines (named_by shape)) c.graph.new.unknown =
-    subst (IsLeast (IsUnknown shape.lines (named_by shape))) (sym c.in_ok-net.ensures.unknown) (earliest_unknown shape.lines labels.table are.members are.listed (named_by shape)) in
+    let first = first_unknown shape labels c.graph.new.unknown are c.in_ok-net.ensures.unknown in
     fault_is shape labels c.graph.new.unknown are first c.in-Some.fault (sym c.earlier_fault.ensures ∙ c.in-Some.is)
 
 pub returns-clause-ok : goal.returns-clause-ok
@@ -28,8 +26,7 @@ returns-clause-ok c =
     let labels = c.in_ok-labels.labels in
     let gathered : labels ≡ fold with_line (labels_of [] None) shape.lines = search rules in
     let are : AreLabels shape.lines labels = are_labels shape.lines labels gathered in
-    let first : IsLeast (IsUnknown shape.lines (named_by shape)) c.graph.new.unknown =
-    subst (IsLeast (IsUnknown shape.lines (named_by shape))) (sym c.in_ok-net.ensures.unknown) (earliest_unknown shape.lines labels.table are.members are.listed (named_by shape)) in
+    let first = first_unknown shape labels c.graph.new.unknown are c.in_ok-net.ensures.unknown in
     subst (λ (g : Net). IsGraphOf shape g) (sym c.in_ok-net.ensures.graph) (graph_is shape labels c.graph.new.unknown are first (sym c.earlier_fault.ensures ∙ c.in-None.is))
 
 pub returns-clause-faultless : goal.returns-clause-faultless
@@ -38,8 +35,7 @@ returns-clause-faultless c =
     let labels = c.in_ok-labels.labels in
     let gathered : labels ≡ fold with_line (labels_of [] None) shape.lines = search rules in
     let are : AreLabels shape.lines labels = are_labels shape.lines labels gathered in
-    let first : IsLeast (IsUnknown shape.lines (named_by shape)) c.graph.new.unknown =
-    subst (IsLeast (IsUnknown shape.lines (named_by shape))) (sym c.in_ok-net.ensures.unknown) (earliest_unknown shape.lines labels.table are.members are.listed (named_by shape)) in
+    let first = first_unknown shape labels c.graph.new.unknown are c.in_ok-net.ensures.unknown in
     no_fault shape labels c.graph.new.unknown are first (sym c.earlier_fault.ensures ∙ c.in-None.is)
 
 pub returns-clause-only : goal.returns-clause-only

@@ -1,6 +1,6 @@
 use Rattle.std.proofs.Common.{◌++◌, ◌∷◌, [], List, ap₂, sym, ◌∙◌}
+use Rattle.list_facts.proofs.Reading.{take_step}
 use Rattle.chart_term.specs.Terms.{Tree}
-use Rattle.chart_term.proofs.Lists.{take_step}
 use Rattle.term_sets.proofs.set_key.SetKey.of_list.Goals as goal
 
 pub loop-index-preserved : goal.loop-index-preserved

@@ -1,10 +1,11 @@
 use Rattle.std.specs.BTreeSet.{contains}
 use Rattle.std.proofs.Common.{◌≡◌, ◌+◌, ◌∙◌, ap, sym, refl, true, false, min, nat_le}
+use Rattle.std.proofs.lemmas.Bool.{not-true, not-false}
 use Rattle.chart_term.specs.Facts.{most_stored}
 use Rattle.chart_term.specs.Order.{tree_cmp}
 use Rattle.chart_term.specs.Terms.{weight}
 use Rattle.term_successors.proofs.TermSets.{rising_from}
-use Rattle.term_step.proofs.Tallying.{added-met, added-new, not-false, not-true}
+use Rattle.term_step.proofs.Tallying.{added-met, added-new}
 use Rattle.term_step.proofs.found.Found.add.Goals as goal
 
 pub returns : goal.returns
