@@ -3,7 +3,7 @@
 
 usage: depth.py PROGRAM
 
-PROGRAM is the built program of crates/residual_bench. Its charts have so many choices, each within the one before it; a choice adds
+PROGRAM is the built program of crates/term_bench. Its charts have so many choices, each within the one before it; a choice adds
 two to a term's depth, and has a tied message beside the choices within it: behind them, or for the works with -last in front of them,
 as exceptions stand. For the works with -tied the message stands behind those choices and the tie above both, so a choice adds three.
 The stack is what the shell's `ulimit -s` gives. For each work the most

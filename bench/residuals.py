@@ -3,7 +3,7 @@
 
 usage: residuals.py PROGRAM [WORK COUNT]..
 
-PROGRAM is the built program of crates/residual_bench (`rt run` there builds it in out/). Each size of a work is run three times, and
+PROGRAM is the built program of crates/term_bench (`rt run` there builds it in out/). Each size of a work is run three times, and
 the least time of a processor counts; behind it stands how much larger that is than at the size before, against the events. The
 works, with COUNT:
 

@@ -13,7 +13,7 @@ import os
 import re
 import sys
 
-TESTS = ("msc_rows", "text_tests", "graph_tests", "calculus_tests", "command_tests", "residual_bench", "walk_bench")
+TESTS = ("msc_rows", "text_tests", "graph_tests", "calculus_tests", "command_tests", "term_bench")
 WORD = re.compile(r"[A-Za-z_]\w*")
 CODE = re.compile(r"^ *pub (?:const )?(fn|struct|enum|trait|type|const) (\w+)")
 DEFINITION = re.compile(r"^ *(?:abbrev |unfoldable |opaque )*pub (?:abbrev |unfoldable |opaque )*(?:record |data )?(\w+) *(?:\(|\{|:)")

@@ -1,5 +1,6 @@
 -- Sample terms are made of sample terms, as the code of the tests makes them, and what is left of them after an event is one.
 use Rattle.std.specs.Prelude.{ℕ, ◌<◌, ◌==◌, ◌⊎◌, Bool, true, false, List, [], ◌∷◌, ◌++◌, ◌≡◌, Option, Some, None, MatchOption, length}
+use Rattle.std.specs.Option.{option_to_list}
 use Rattle.std.proofs.Common.{◌∙◌, ap, refl, sym, subst, arith, inl, inr}
 use Rattle.msc_base.specs.Lists.{IsAmong}
 use Rattle.msc_base.specs.Patterns.{Mode, seq, par}
@@ -64,6 +65,9 @@ ready_after w x y e tables h a = record {
 pub sample-event : (x : Tree) (e : TermEvent) → x ≡ Event e → IsPlaced places e → IsSample [] x
 sample-event x e q p = subst (IsSample []) (sym q) (record { ready = ready_is_kept.event [] e; placed = p })
 
+pub sample-nil : (x : Tree) → x ≡ Nil → IsSample [] x
+sample-nil x q = subst (IsSample []) (sym q) (record { ready = record { within = tt; normal = tt }; placed = tt })
+
 joined : (m : Mode) (x : Tree) (xs : List Tree) → x ≡ join_all m xs → Each (IsSample []) xs → IsSample [] x
 joined m x xs q h = subst (IsSample []) (sym q) (record {
   ready = ready_is_kept.join [] m xs (each_map (IsSample []) (IsReady []) (λ y i. i.ready) xs h);
@@ -117,8 +121,8 @@ sample_walk w n t o q h = may_sample w o h (subst (λ (p : Option Tree). MayHave
 
 -- lists and tables
 
-pub sample-two : (xs ys zs : List Tree) (x y : Tree) → xs ≡ [] → ys ≡ xs ++ x ∷ [] → zs ≡ ys ++ y ∷ [] → IsSample [] x → IsSample [] y → Each (IsSample []) zs
-sample-two xs ys zs x y e p q h g = subst (Each (IsSample [])) (sym (q ∙ ap (λ l. l ++ y ∷ []) (p ∙ ap (λ l. l ++ x ∷ []) e))) (h, (g, tt))
+pub two_samples : (xs : List Tree) (x y : Tree) → xs ≡ x ∷ y ∷ [] → IsSample [] x → IsSample [] y → Each (IsSample []) xs
+two_samples xs x y e h g = subst (Each (IsSample [])) (sym e) (h, (g, tt))
 
 pub sample_one : (w : Tables) (xs ys : List Tree) (x : Tree) → xs ≡ [] → ys ≡ xs ++ x ∷ [] → IsSample w x → Each (IsSample w) ys
 sample_one w xs ys x e p h = subst (Each (IsSample w)) (sym (p ∙ ap (λ l. l ++ x ∷ []) e)) (h, tt)
@@ -139,6 +143,30 @@ no_nets w q = subst AreSampleTables (sym q) (record { ready = tt; placed = tt })
 
 pub over_none : (w : Tables) (x : Tree) → w ≡ [] → IsSample [] x → IsSample w x
 over_none w x q h = subst (λ (v : Tables). IsSample v x) (sym q) h
+
+-- stacks of terms
+
+each_both : (xs ys : List Tree) → Each (IsSample []) xs → Each (IsSample []) ys → Each (IsSample []) (xs ++ ys)
+each_both [] ys h g = g
+each_both (x ∷ xs) ys h g = (h.0, each_both xs ys h.1 g)
+
+each_parts : (xs ys : List Tree) → Each (IsSample []) (xs ++ ys) → Each (IsSample []) xs × Each (IsSample []) ys
+each_parts [] ys h = (tt, h)
+each_parts (x ∷ xs) ys h = let rest = each_parts xs ys h.1 in ((h.0, rest.0), rest.1)
+
+pub none_stacked : (xs : List Tree) → xs ≡ [] → Each (IsSample []) xs
+none_stacked xs q = subst (Each (IsSample [])) (sym q) tt
+
+pub one_more : (xs ys : List Tree) (x : Tree) → ys ≡ xs ++ x ∷ [] → Each (IsSample []) xs → IsSample [] x → Each (IsSample []) ys
+one_more xs ys x q h g = subst (Each (IsSample [])) (sym q) (each_both xs (x ∷ []) h (g, tt))
+
+pub others_stacked : (xs ys : List Tree) (o : Option Tree) → xs ≡ ys ++ option_to_list o → Each (IsSample []) xs → Each (IsSample []) ys
+others_stacked xs ys o q h = (each_parts ys (option_to_list o) (subst (Each (IsSample [])) q h)).0
+
+pub last_stacked : (xs ys : List Tree) (o : Option Tree) (x : Tree) → xs ≡ ys ++ option_to_list o → o ≡ Some x → Each (IsSample []) xs → IsSample [] x
+last_stacked xs ys o x q e h =
+    let last : Each (IsSample []) (option_to_list o) = (each_parts ys (option_to_list o) (subst (Each (IsSample [])) q h)).1 in
+    (subst (λ (p : Option Tree). Each (IsSample []) (option_to_list p)) e last).0
 
 -- a step
 
@@ -191,6 +219,8 @@ pub ruleset alone = (no_nets, over_none, sample_one, tables_ready, all_ready, al
 
 pub ruleset over_no_nets = (new_ready, ready_over)
 
-pub ruleset samples = (sample-event)
+pub ruleset samples = (sample-event, sample-nil)
+
+pub ruleset stacks = (none_stacked, one_more, others_stacked, last_stacked)
 
 pub ruleset ring = (sample_ring, one_net, sample_one)

@@ -2,9 +2,9 @@
 #![tactic(auto)]
 
 #[cfg(test)]
-mod parts;
-#[cfg(test)]
 mod permission;
+#[cfg(test)]
+mod rows;
 #[cfg(test)]
 mod samples;
 #[cfg(test)]
@@ -13,3 +13,5 @@ mod steps;
 mod tables;
 #[cfg(test)]
 mod terms;
+#[cfg(test)]
+mod words;

@@ -1,11 +1,11 @@
 //! What permission leaves of a term, and when a term may end.
 ghost use Rattle.std.specs.Prelude.{◌<◌};
 
-use crate::samples::{message, ring_tables};
+use crate::samples::{MESSAGE, ring_tables};
+use crate::words::term_of;
 use bit_sets::Block;
 use chart_term::Term;
 use hmsc_graph::Goal;
-use msc_base::NoMemory;
 use std::alloc::Global;
 use std::test::Fail;
 use term_permission::{fresh_loop, fresh_walk, may_end, permit};
@@ -13,11 +13,11 @@ use term_tables::Nets;
 
 /// What permission by a block of that instance leaves of the message: whether it is the message itself.
 #[tactic(auto, using(crate::proofs::SampleTerms::over_no_nets))]
-fn leaves_it(alloc: Global, at: u32) -> Result<Option<bool>, NoMemory>
+fn leaves_it(alloc: Global, at: u32) -> Result<Option<bool>, Fail>
     requires { at < 1024 }
 {
     let nets = Nets::new(alloc);
-    let term = message(alloc)?;
+    let term = term_of(alloc, MESSAGE)?;
     let mut block = Block::empty(alloc);
     block.add_instance(at)?;
     match permit(alloc, &nets, &term, &block)? {
@@ -36,9 +36,9 @@ fn permission_of_a_message(rt: HostRuntime) -> Result<(), Fail> {
 
 /// A loop of messages before its first turn: whether it is empty, and whether it may end.
 #[tactic(auto, using(crate::proofs::SampleTerms::over_no_nets))]
-fn loop_is(alloc: Global, lower: u64, upper: Option<u64>) -> Result<(bool, bool), NoMemory> {
+fn loop_is(alloc: Global, lower: u64, upper: Option<u64>) -> Result<(bool, bool), Fail> {
     let nets = Nets::new(alloc);
-    let term = fresh_loop(alloc, &nets, message(alloc)?, lower, upper)?;
+    let term = fresh_loop(alloc, &nets, term_of(alloc, MESSAGE)?, lower, upper)?;
     let ends = may_end(alloc, &nets, &term)?;
     Ok((term.same(&Term::nil(alloc)?), ends))
 }

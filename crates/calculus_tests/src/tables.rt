@@ -2,71 +2,24 @@
 ghost use Rattle.std.specs.Prelude.{◌<◌, ◌≡◌, ◌+◌, [], IfOk};
 ghost use Rattle.chart_term.specs.Tables.{net_count};
 
-use crate::parts::{both, event, events, loop_shut};
+use crate::samples::{action, chain, event, two};
+use crate::terms::{begun_loop, loop_shut};
+use crate::words::term_of;
 use bit_sets::Block;
-use chart_term::{PartList, RowPart, Term, seq};
-use hmsc_graph::{Goal, Net, Shape, ShapeLine, ShapeLines, Spot};
-use msc_base::{Far, Kind, Label, LabelRef, LabelRefs, Name, NoMemory, Place, Text};
+use chart_term::Term;
+use hmsc_graph::{Goal, Spot};
+use msc_base::NoMemory;
 use std::alloc::Global;
 use std::test::Fail;
 use term_tables::Nets;
-
-/// A label at its place.
-fn reference(alloc: Global, name: &str) -> Result<LabelRef, Fail> {
-    Ok(LabelRef {
-        name: Name::from_bytes(alloc, name.as_bytes())?,
-        place: Place {
-            byte: 0,
-            line: 1,
-            column: 1,
-        },
-    })
-}
-
-/// A line of a graph, with one next line or an end.
-fn line(alloc: Global, name: &str, next: Option<&str>) -> Result<ShapeLine, Fail> {
-    let LabelRef { name, place } = reference(alloc, name)?;
-    let mut labels = LabelRefs::new(alloc);
-    if let Some(next) = next {
-        labels.push(reference(alloc, next)?)?;
-    }
-    Ok(ShapeLine {
-        label: name,
-        place,
-        ends: next.is_none(),
-        next: labels,
-    })
-}
-
-/// A graph of two nodes, one behind the other.
-fn chain(alloc: Global) -> Result<Net, Fail> {
-    let first = line(alloc, "L1", Some("L2"))?;
-    let second = line(alloc, "L2", None)?;
-    let mut starts = LabelRefs::new(alloc);
-    starts.push(reference(alloc, "L1")?)?;
-    let mut lines = ShapeLines::new(alloc);
-    lines.push(first)?;
-    lines.push(second)?;
-    Ok(Net::build(alloc, &Shape { starts, lines })?)
-}
-
-/// An action of the instance.
-fn action(alloc: Global, at: &str) -> Result<Label, Fail> {
-    Ok(Label {
-        at: Name::from_bytes(alloc, at.as_bytes())?,
-        kind: Kind::Action,
-        text: Text::from_bytes(alloc, b"'a'")?,
-        far: Far::Nobody,
-    })
-}
 
 /// Tables of the actions of `i` and of `j`.
 fn labelled(alloc: Global) -> Result<Nets, Fail>
     ensures { IfOk result (λ nets. nets.tables ≡ []) }
 {
     let mut nets = Nets::new(alloc);
-    nets.add_label(action(alloc, "i")?)?;
-    let second = action(alloc, "j")?;
+    nets.add_label(action(alloc, b"i", b"'a'")?)?;
+    let second = action(alloc, b"j", b"'a'")?;
     match nets.label(&second) {
         Some(_) => Err(Fail::from("two labels of one number")),
         None => {
@@ -83,7 +36,7 @@ fn add_chain(nets: &mut Nets, alloc: Global, first: Term, second: Term) -> Resul
     ensures count { IfOk result (λ number. net_count nets.new.tables ≡ number + 1) }
 {
     let net = chain(alloc)?;
-    let nodes = both(alloc, first, second)?;
+    let nodes = two(alloc, first, second)?;
     if net.size() != 2 {
         return Err(Fail::from("a chain of two lines has two nodes"));
     }
@@ -101,9 +54,9 @@ fn linked(alloc: Global) -> Result<Nets, Fail>
     ensures { IfOk result (λ nets. net_count nets.tables ≡ 2) }
 {
     let mut nets = labelled(alloc)?;
-    add_chain(&mut nets, alloc, event(alloc, 0, 5)?, Term::nil(alloc)?)?;
+    add_chain(&mut nets, alloc, event(alloc, 0, 0)?, Term::nil(alloc)?)?;
     let first = walk(alloc, 0, Spot::Start, Goal::End)?;
-    add_chain(&mut nets, alloc, first, event(alloc, 1, 7)?)?;
+    add_chain(&mut nets, alloc, first, event(alloc, 1, 1)?)?;
     Ok(nets)
 }
 
@@ -115,15 +68,15 @@ fn node_is(nets: &Nets, net: u32, node: u32, term: &Term) -> bool
 }
 
 /// Whether the term fits the tables of two graphs.
-fn fits(alloc: Global, term: Term) -> Result<bool, Fail> {
+fn fits(alloc: Global, term: &Term) -> Result<bool, Fail> {
     let nets = linked(alloc)?;
-    Ok(nets.fits(&term))
+    Ok(nets.fits(term))
 }
 
 /// The number of the label of the instance's action.
 fn number_of(alloc: Global, at: &str) -> Result<Option<u32>, Fail> {
     let nets = labelled(alloc)?;
-    let label = action(alloc, at)?;
+    let label = action(alloc, at.as_bytes(), b"'a'")?;
     Ok(nets.label(&label))
 }
 
@@ -137,21 +90,27 @@ fn labels_are_numbered_in_the_order_in_which_they_came(rt: HostRuntime) -> Resul
     Ok(())
 }
 
-/// Whether the node of the net in the two graphs has that term.
-fn has_node(alloc: Global, net: u32, node: u32, term: &Term) -> Result<bool, Fail>
+/// Whether the node of the net in the two graphs has the term that the words make.
+fn has_node(alloc: Global, net: u32, node: u32, words: &str) -> Result<bool, Fail>
     requires { net < 2 }
 {
     let nets = linked(alloc)?;
-    Ok(node_is(&nets, net, node, term))
+    Ok(node_is(&nets, net, node, &term_of(alloc, words)?))
+}
+
+/// Whether the first node of the second graph is the walk through the first.
+fn names_the_first(alloc: Global) -> Result<bool, Fail> {
+    let nets = linked(alloc)?;
+    Ok(node_is(&nets, 1, 0, &walk(alloc, 0, Spot::Start, Goal::End)?))
 }
 
 #[test]
 fn nodes_stand_under_their_numbers(rt: HostRuntime) -> Result<(), Fail> {
     let alloc = rt.alloc();
-    assert!(rt; has_node(alloc, 0, 0, &event(alloc, 0, 5)?)?);
-    assert!(rt; has_node(alloc, 0, 1, &Term::nil(alloc)?)?);
-    assert!(rt; has_node(alloc, 1, 0, &walk(alloc, 0, Spot::Start, Goal::End)?)?);
-    assert!(rt; has_node(alloc, 1, 1, &event(alloc, 1, 7)?)?);
+    assert!(rt; has_node(alloc, 0, 0, "0:a")?);
+    assert!(rt; has_node(alloc, 0, 1, "nil")?);
+    assert!(rt; names_the_first(alloc)?);
+    assert!(rt; has_node(alloc, 1, 1, "1:b")?);
     assert!(rt; linked(alloc)?.count() == 2);
     Ok(())
 }
@@ -167,36 +126,52 @@ fn is_spread(alloc: Global, net: u32, at: u32) -> Result<bool, Fail>
 #[test]
 fn spread_of_a_net_has_those_of_the_nets_that_it_names(rt: HostRuntime) -> Result<(), Fail> {
     let alloc = rt.alloc();
-    assert!(rt; is_spread(alloc, 0, 5)? && !is_spread(alloc, 0, 7)?);
-    assert!(rt; is_spread(alloc, 1, 5)? && is_spread(alloc, 1, 7)?);
-    assert!(rt; !is_spread(alloc, 1, 6)?);
+    assert!(rt; is_spread(alloc, 0, 0)? && !is_spread(alloc, 0, 1)?);
+    assert!(rt; is_spread(alloc, 1, 0)? && is_spread(alloc, 1, 1)?);
+    assert!(rt; !is_spread(alloc, 1, 2)?);
     Ok(())
 }
 
-/// A loop of an event, with a begun turn of another.
-fn begun_loop(alloc: Global, body: u32, turn: u32) -> Result<Term, NoMemory> {
-    let row = PartList::one(alloc, RowPart::Turn(event(alloc, turn, 0)?))?;
-    Term::loop_of(alloc, event(alloc, body, 0)?, 1, None, row)
+/// Whether the term that the words make fits.
+fn words_fit(alloc: Global, words: &str) -> Result<bool, Fail> {
+    let term = term_of(alloc, words)?;
+    fits(alloc, &term)
+}
+
+/// Whether a loop of that body fits, which has a gap.
+fn loop_fits(alloc: Global, body: &str) -> Result<bool, Fail> {
+    let term = loop_shut(alloc, term_of(alloc, body)?, 0)?;
+    fits(alloc, &term)
+}
+
+/// Whether a loop of that body fits, which has a begun turn.
+fn begun_loop_fits(alloc: Global, body: &str, turn: &str) -> Result<bool, Fail> {
+    let term = begun_loop(alloc, term_of(alloc, body)?, term_of(alloc, turn)?)?;
+    fits(alloc, &term)
 }
 
 #[test]
 fn numbers_beyond_the_tables_do_not_fit(rt: HostRuntime) -> Result<(), Fail> {
     let alloc = rt.alloc();
-    assert!(rt; fits(alloc, event(alloc, 1, 0)?)?);
-    assert!(rt; !fits(alloc, event(alloc, 2, 0)?)?);
-    assert!(rt; !fits(alloc, seq(alloc, events(alloc, 1, 2)?)?)?);
-    assert!(rt; !fits(alloc, loop_shut(alloc, event(alloc, 2, 0)?, 0)?)?);
-    assert!(rt; !fits(alloc, begun_loop(alloc, 1, 2)?)?);
+    assert!(rt; words_fit(alloc, "1:b")?);
+    assert!(rt; !words_fit(alloc, "2:c")? && !words_fit(alloc, "1:b 2:c seq")?);
+    assert!(rt; !loop_fits(alloc, "2:c")? && !begun_loop_fits(alloc, "1:b", "2:c")?);
     Ok(())
+}
+
+/// Whether a walk of the net fits.
+fn walk_fits(alloc: Global, net: u32, from: Spot, to: Goal) -> Result<bool, Fail> {
+    let term = walk(alloc, net, from, to)?;
+    fits(alloc, &term)
 }
 
 #[test]
 fn walks_beyond_the_nodes_do_not_fit(rt: HostRuntime) -> Result<(), Fail> {
     let alloc = rt.alloc();
-    assert!(rt; fits(alloc, walk(alloc, 1, Spot::Node(1), Goal::Node(1))?)?);
-    assert!(rt; fits(alloc, walk(alloc, 1, Spot::Start, Goal::Any)?)?);
-    assert!(rt; !fits(alloc, walk(alloc, 2, Spot::Start, Goal::Any)?)?);
-    assert!(rt; !fits(alloc, walk(alloc, 1, Spot::Node(2), Goal::End)?)?);
-    assert!(rt; !fits(alloc, walk(alloc, 1, Spot::Start, Goal::Node(2))?)?);
+    assert!(rt; walk_fits(alloc, 1, Spot::Node(1), Goal::Node(1))?);
+    assert!(rt; walk_fits(alloc, 1, Spot::Start, Goal::Any)?);
+    assert!(rt; !walk_fits(alloc, 2, Spot::Start, Goal::Any)?);
+    assert!(rt; !walk_fits(alloc, 1, Spot::Node(2), Goal::End)?);
+    assert!(rt; !walk_fits(alloc, 1, Spot::Start, Goal::Node(2))?);
     Ok(())
 }

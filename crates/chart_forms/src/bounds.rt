@@ -3,12 +3,12 @@
 ghost use Rattle.std.specs.Prelude.{◌≡◌, ◌++◌, IfOk, OnOk};
 ghost use Rattle.chart_forms.specs.LoopBounds.{has_high_bound as high_bound, high_bounds, high_item};
 ghost use Rattle.chart_text.specs.Gathering.{gathered};
-ghost use Rattle.chart_text.specs.PassageViews.{passage_view, text_view};
+ghost use Rattle.chart_text.specs.PassageViews.{text_view};
 ghost use Rattle.msc_base.specs.Lists.{IsAmong};
 ghost use Rattle.msc_base.specs.Places.{IsLeast};
 ghost use Rattle.msc_tree.specs.Views.{form_view};
 
-use chart_text::{Passage, earliest_place, note_if};
+use chart_text::{Passage, TextRule, earliest_place, note_if, note_text};
 use msc_base::{Items, Limits, NoMemory, Place};
 use msc_tree::{InlineForm, RawForm};
 use std::alloc::Global;
@@ -44,26 +44,20 @@ fn item(places: &mut Items<Place>, place: Place, form: &RawForm) -> Result<(), N
     }
 }
 
-/// Notes such a loop of a passage.
-fn passage(places: &mut Items<Place>, passage: Passage<'_>) -> Result<(), NoMemory>
-    ensures { OnOk result (places.new ≡ places.old ++ high_bounds (passage_view passage.entry)) }
-{
-    match passage {
-        Passage::Item(_, held) => item(places, held.place.get(), &held.form),
-        Passage::Head(_) => Ok(()),
-        Passage::Statement(_, _, _) => Ok(()),
-        Passage::Operand(_, _) => Ok(()),
-    }
-}
+/// The rule on bounds of loops.
+struct LoopBounds;
 
-/// Notes such loops of a text.
-fn passages(places: &mut Items<Place>, text: &[Passage<'_>]) -> Result<(), NoMemory>
-    ensures { OnOk result (places.new ≡ places.old ++ gathered high_bounds (text_view text.now)) }
-{
-    for held in text {
-        passage(places, *held)?;
+impl TextRule for LoopBounds {
+    ghost told = { high_bounds };
+
+    fn note(places: &mut Items<Place>, passage: Passage<'_>) -> Result<(), NoMemory> {
+        match passage {
+            Passage::Item(_, held) => item(places, held.place.get(), &held.form),
+            Passage::Head(_) => Ok(()),
+            Passage::Statement(_, _, _) => Ok(()),
+            Passage::Operand(_, _) => Ok(()),
+        }
     }
-    Ok(())
 }
 
 /// The earliest place in a text at which a loop stands with a bound above the limit.
@@ -71,6 +65,6 @@ pub fn first_high_bound(alloc: Global, text: &[Passage<'_>]) -> Result<Option<Pl
     ensures { IfOk result (IsLeast (IsAmong (gathered high_bounds (text_view text.now)))) }
 {
     let mut places = Items::new(alloc);
-    passages(&mut places, text)?;
+    note_text::<LoopBounds>(&mut places, text)?;
     Ok(earliest_place(places.as_slice()))
 }

@@ -2,14 +2,13 @@
 
 ghost use Rattle.std.specs.Prelude.{◌≡◌, ◌++◌, IfOk, OnOk};
 ghost use Rattle.chart_forms.specs.NotBuilt.{IsNotBuilt, not_built as what_not, not_built_chart, not_built_decl, not_built_event, not_built_events, not_built_graph, not_built_heading, not_built_item};
-ghost use Rattle.chart_text.specs.Gathering.{gathered};
-ghost use Rattle.chart_text.specs.PassageViews.{passage_view, text_view};
+ghost use Rattle.chart_text.specs.PassageViews.{text_view};
 ghost use Rattle.chart_text.specs.Texts.{chart_text as text_of};
 ghost use Rattle.msc_base.specs.Places.{IsLeast};
 ghost use Rattle.msc_tree.specs.Views.{chart_view, content_view, form_view, statement_view};
 
 use crate::plain::is_plain;
-use chart_text::{Passage, earliest_place, note_if};
+use chart_text::{Passage, TextRule, earliest_place, note_if, note_text};
 use msc_base::{Items, NoMemory, Place};
 use msc_tree::{Content, Decl, RawChart, RawEvent, RawForm, Statement};
 use std::alloc::Global;
@@ -68,26 +67,20 @@ fn heading(places: &mut Items<Place>, statement: &Statement) -> Result<(), NoMem
     }
 }
 
-/// Notes what of a passage isn't built.
-fn passage(places: &mut Items<Place>, passage: Passage<'_>) -> Result<(), NoMemory>
-    ensures { OnOk result (places.new ≡ places.old ++ what_not (passage_view passage.entry)) }
-{
-    match passage {
-        Passage::Head(held) => decl(places, held),
-        Passage::Statement(_, _, held) => heading(places, held),
-        Passage::Item(_, held) => item(places, held.place.get(), &held.form),
-        Passage::Operand(_, _) => Ok(()),
-    }
-}
+/// The rule that forms are built.
+struct BuiltForms;
 
-/// Notes what of a text isn't built.
-fn passages(places: &mut Items<Place>, text: &[Passage<'_>]) -> Result<(), NoMemory>
-    ensures { OnOk result (places.new ≡ places.old ++ gathered what_not (text_view text.now)) }
-{
-    for held in text {
-        passage(places, *held)?;
+impl TextRule for BuiltForms {
+    ghost told = { what_not };
+
+    fn note(places: &mut Items<Place>, passage: Passage<'_>) -> Result<(), NoMemory> {
+        match passage {
+            Passage::Head(held) => decl(places, held),
+            Passage::Statement(_, _, held) => heading(places, held),
+            Passage::Item(_, held) => item(places, held.place.get(), &held.form),
+            Passage::Operand(_, _) => Ok(()),
+        }
     }
-    Ok(())
 }
 
 /// Notes a chart, where it is a graph.
@@ -106,7 +99,7 @@ fn whole(places: &mut Items<Place>, chart: &RawChart, text: &[Passage<'_>]) -> R
     ensures { OnOk result (places.new ≡ places.old ++ not_built_chart (chart_view chart.now)) }
 {
     graph(places, chart.place, &chart.content)?;
-    passages(places, text)
+    note_text::<BuiltForms>(places, text)
 }
 
 /// The earliest place of a chart, whose text that is, at which a form stands that isn't built.

@@ -14,10 +14,7 @@ use msc_tree::{RawEvent, RawForm};
 fn sum_of(a: u64, b: u64) -> Result<u64, NoMemory>
     ensures { IfOk result (λ sum. sum ≡ a + b) }
 {
-    match a.checked_add(b) {
-        Some(sum) => Ok(sum),
-        None => Err(NoMemory),
-    }
+    a.checked_add(b).ok_or(NoMemory)
 }
 
 /// The size of an event.

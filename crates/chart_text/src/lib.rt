@@ -5,6 +5,6 @@ mod noting;
 mod passage;
 mod walk;
 
-pub use noting::{earliest_place, note_if};
+pub use noting::{TextRule, earliest_place, note_if, note_text};
 pub use passage::{Passage, Scope, Side, Standing};
 pub use walk::chart_text;

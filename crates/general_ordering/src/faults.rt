@@ -7,13 +7,13 @@ ghost use Rattle.msc_meaning.specs.LevelViews.{level_view, levels_view};
 ghost use Rattle.general_ordering.specs.EventNames.{LevelsBreakNameRule, Twice, Unknown, breaks, level_faults, places_where};
 ghost use Rattle.msc_meaning.specs.ItemViews.{items_view};
 ghost use Rattle.general_ordering.specs.LevelNames.{IsWhole, is_named_twice, orders_unknown};
-ghost use Rattle.msc_base.specs.Lists.{IsAmong};
 ghost use Rattle.msc_base.specs.Places.{IsLeast};
 ghost use Rattle.msc_meaning.specs.Bodies as plain;
 ghost use Rattle.msc_meaning.specs.Views.{body_view, item_view, node_view};
 
 use crate::level_names::LevelNames;
-use msc_base::{Items, NoMemory, Place, earlier_place};
+use chart_text::earliest_place;
+use msc_base::{Items, NoMemory, Place};
 use msc_meaning::{BodyLevel, EventNode, Item};
 use std::alloc::Global;
 
@@ -123,17 +123,6 @@ fn note_levels(
     Ok(())
 }
 
-/// The earliest of the places.
-fn earliest(places: &[Place]) -> Option<Place>
-    ensures { IsLeast (IsAmong places.now) result }
-{
-    let mut best = None;
-    for place in places {
-        best = earlier_place(best, *place);
-    }
-    best
-}
-
 /// The earliest places of events of the levels that break the rules on names. It fails only for want of memory.
 pub fn first_name_faults(alloc: Global, levels: &[BodyLevel<'_>]) -> Result<NameFaults, NoMemory>
     ensures unknown { IfOk result (λ faults. IsLeast (LevelsBreakNameRule Unknown (levels_view levels.now)) faults.unknown) }
@@ -145,7 +134,7 @@ pub fn first_name_faults(alloc: Global, levels: &[BodyLevel<'_>]) -> Result<Name
     };
     note_levels(alloc, &mut places, levels)?;
     Ok(NameFaults {
-        unknown: earliest(places.unknown.as_slice()),
-        twice: earliest(places.twice.as_slice()),
+        unknown: earliest_place(places.unknown.as_slice()),
+        twice: earliest_place(places.twice.as_slice()),
     })
 }

@@ -13,10 +13,7 @@ use std::slice;
 pub fn sum_of(a: u32, b: u32) -> Result<u32, NoMemory>
     ensures { IfOk result (λ sum. sum ≡ a + b) }
 {
-    match a.checked_add(b) {
-        Some(sum) => Ok(sum),
-        None => Err(NoMemory),
-    }
+    a.checked_add(b).ok_or(NoMemory)
 }
 
 /// The events of items.

@@ -5,6 +5,7 @@
 mod column_table;
 mod columns;
 mod counting;
+mod covering;
 mod covers;
 mod items;
 mod noting;
@@ -15,6 +16,7 @@ mod references;
 
 pub use columns::woven_order;
 pub use counting::sum_of;
+pub use covering::{is_event, item_cover, item_names};
 pub use covers::covered;
 pub use items::{LevelItems, copied_events_of, copied_reference, level_items};
 pub use noting::earlier_of;

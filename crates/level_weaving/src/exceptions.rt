@@ -1,8 +1,8 @@
 //! The earliest exception that stands where it may not: inside an operand, or not covering all instances.
 
 ghost use Rattle.std.specs.Prelude.{◌≡◌, ◌++◌, ◌&&◌, IfOk, OnOk, map, nat_eq, not};
-ghost use Rattle.chart_text.specs.Gathering.{gathered, place_if};
-ghost use Rattle.chart_text.specs.PassageViews.{passage_view, text_view};
+ghost use Rattle.chart_text.specs.Gathering.{place_if};
+ghost use Rattle.chart_text.specs.PassageViews.{text_view};
 ghost use Rattle.chart_text.specs.Texts.{chart_text as text_of};
 ghost use Rattle.level_weaving.specs.Exceptions.{IsMisplaced, covers_all as all_covered, inner_exceptions, inner_item, is_exception, misplaced, outer_exceptions, outer_piece, outer_pieces};
 ghost use Rattle.level_pieces.specs.PieceViews.{piece_view, setting_column, setting_leads};
@@ -12,7 +12,7 @@ ghost use Rattle.msc_meaning.specs.LevelItems.{cover_by};
 ghost use Rattle.msc_tree.specs.Statements.{statements as statement_tree};
 ghost use Rattle.msc_tree.specs.Views.{chart_view, content_view, form_view, statement_view};
 
-use chart_text::{Passage, earliest_place, note_if};
+use chart_text::{Passage, TextRule, earliest_place, note_if, note_text};
 use level_pieces::{Piece, Setting, chart_pieces, covered};
 use msc_base::{Items, Name, NameTable, Names, NoMemory, Place};
 use msc_tree::{Content, InlineForm, RawChart, RawForm, RawInline};
@@ -66,28 +66,22 @@ fn inner(
     }
 }
 
-/// Notes such an exception of a passage.
-fn passage(places: &mut Items<Place>, passage: Passage<'_>) -> Result<(), NoMemory>
-    ensures { OnOk result (places.new ≡ places.old ++ inner_exceptions (passage_view passage.entry)) }
-{
-    match passage {
-        Passage::Item(standing, held) => {
-            inner(places, standing.depth, held.place.get(), &held.form)
-        }
-        Passage::Head(_) => Ok(()),
-        Passage::Statement(_, _, _) => Ok(()),
-        Passage::Operand(_, _) => Ok(()),
-    }
-}
+/// The rule on exceptions inside operands.
+struct InnerExceptions;
 
-/// Notes such exceptions of a text.
-fn passages(places: &mut Items<Place>, text: &[Passage<'_>]) -> Result<(), NoMemory>
-    ensures { OnOk result (places.new ≡ places.old ++ gathered inner_exceptions (text_view text.now)) }
-{
-    for held in text {
-        passage(places, *held)?;
+impl TextRule for InnerExceptions {
+    ghost told = { inner_exceptions };
+
+    fn note(places: &mut Items<Place>, passage: Passage<'_>) -> Result<(), NoMemory> {
+        match passage {
+            Passage::Item(standing, held) => {
+                inner(places, standing.depth, held.place.get(), &held.form)
+            }
+            Passage::Head(_) => Ok(()),
+            Passage::Statement(_, _, _) => Ok(()),
+            Passage::Operand(_, _) => Ok(()),
+        }
     }
-    Ok(())
 }
 
 /// Notes an inline expression of the outermost level, where it is an exception that doesn't cover all instances.
@@ -174,7 +168,7 @@ fn whole(
     requires { text_view text.now ≡ text_of (chart_view chart.now) }
     ensures { OnOk result (places.new ≡ places.old ++ misplaced names.now (chart_view chart.now)) }
 {
-    passages(places, text)?;
+    note_text::<InnerExceptions>(places, text)?;
     content(alloc, places, names, &chart.content)
 }
 

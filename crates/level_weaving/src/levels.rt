@@ -2,7 +2,7 @@
 
 ghost use Rattle.std.specs.Prelude.{◌≡◌, ◌<◌, All, IfOk, List, Some, drop, false, length, map, take, true, ℕ};
 ghost use Rattle.column_order.specs.Weaving.{IsCrossedAt, IsWoven};
-ghost use Rattle.level_pieces.specs.ItemOperands.{AreOperands, IsWithin, operands_in, pieces_view};
+ghost use Rattle.level_pieces.specs.ItemOperands.{AreOperands, operands_in, pieces_view};
 ghost use Rattle.level_pieces.specs.ItemParts.{AreItems, AreParts, has_events};
 ghost use Rattle.level_pieces.specs.PieceNumbers.{AreNumbered};
 ghost use Rattle.level_pieces.specs.PieceViews.{parts_view, piece_view};
@@ -15,7 +15,6 @@ ghost use Rattle.msc_meaning.specs.LevelItems.{columns_of, cover_of, entries, is
 ghost use Rattle.msc_meaning.specs.Levels.{operand_number};
 ghost use Rattle.msc_meaning.specs.Pieces as plain;
 ghost use Rattle.msc_meaning.specs.Views.{body_view, item_view};
-ghost use Rattle.msc_tree.specs.Views.{form_view};
 
 use crate::alone::first_unmatched;
 use crate::answers::{Answer, Gathered, crossed_place, earlier_than};
@@ -24,24 +23,13 @@ use crate::matching::pairs_of;
 use crate::pairing::level_pairs;
 use column_order::{Sorted, text_order};
 use level_pieces::{
-    LevelItem, LevelNames, Piece, Setting, copied_events_of, copied_reference, covered, earlier_of,
+    LevelItem, Piece, copied_events_of, copied_reference, earlier_of, is_event, item_names,
     item_operands, level_items, operands_of_form, woven_order,
 };
-use msc_base::{Items, Names, NoMemory, PairList, copy_name, copy_names, number_of};
+use msc_base::{Names, NoMemory, PairList, copy_name, copy_names, number_of};
 use msc_meaning::{Body, InlineItem, Item};
 use msc_tree::RawForm;
 use std::alloc::Global;
-
-/// Whether a form is an event or a coregion.
-fn is_event(form: &RawForm) -> bool
-    ensures { result ≡ has_events (form_view form.now) }
-{
-    match form {
-        RawForm::Single(_) => true,
-        RawForm::Coregion(_) => true,
-        _ => false,
-    }
-}
 
 /// What an event or a coregion is woven to.
 fn event_answer(
@@ -55,39 +43,6 @@ fn event_answer(
 {
     let copied = copied_events_of(alloc, item.first)?;
     Ok(Answer::Woven(copied, None))
-}
-
-/// The instances that an item covers.
-fn item_cover(alloc: Global, level: &Names, piece: Piece<'_, '_>) -> Result<Names, NoMemory>
-    requires { has_events (piece_view piece).form ≡ false }
-    ensures { IfOk result (λ cover. cover ≡ cover_of level.now (piece_view piece.entry)) }
-{
-    match piece.form {
-        RawForm::Inline(held) => covered(alloc, level, piece.setting, &held.shared),
-        RawForm::Reference(held) => covered(alloc, level, piece.setting, &held.shared),
-        _ => covered(alloc, level, piece.setting, &None),
-    }
-}
-
-/// What the level behind whose `all` a piece stands covers, where it does.
-fn outer_names(alloc: Global, setting: Setting<'_, '_>) -> Result<Names, NoMemory>
-    ensures { IfOk result (λ outer. IsWithin outer setting.entry) }
-{
-    match setting {
-        Setting::Inside(names) => copy_names(alloc, names.as_slice()),
-        _ => Ok(Items::new(alloc)),
-    }
-}
-
-/// The names of the levels of an item's operands.
-fn item_names(alloc: Global, level: &Names, piece: Piece<'_, '_>) -> Result<LevelNames, NoMemory>
-    requires { has_events (piece_view piece).form ≡ false }
-    ensures cover { IfOk result (λ names. names.cover ≡ cover_of level.now (piece_view piece.entry)) }
-    ensures outer { IfOk result (λ names. IsWithin names.outer piece.entry.setting) }
-{
-    let cover = item_cover(alloc, level, piece)?;
-    let outer = outer_names(alloc, piece.setting)?;
-    Ok(LevelNames { cover, outer })
 }
 
 /// An inline expression of these operands, or a reference.

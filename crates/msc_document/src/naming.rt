@@ -2,25 +2,14 @@
 
 ghost use Rattle.std.specs.Prelude.{◌≡◌};
 ghost use Rattle.token_grammar.specs.Answers.{Gives};
-ghost use Rattle.msc_document.specs.DocumentReaders.{some_name_at, naming_at, closing_at};
+ghost use Rattle.msc_document.specs.DocumentReaders.{naming_at, closing_at};
 
 use msc_base::Name;
 use msc_events::{Orientation, shared_in};
 use msc_tokens::Token;
 use msc_tree::Cover;
 use std::alloc::Global;
-use token_grammar::{ReadFault, ending, own_name, starts_with_name, word};
-
-/// A name, where there is one.
-fn some_name(alloc: Global, tokens: &[Token]) -> Result<(Option<Name>, &[Token]), ReadFault>
-    ensures { Gives (λ x. (x.0, x.1.now)) result (some_name_at tokens.now) }
-{
-    if starts_with_name(tokens) {
-        let (name, rest) = own_name(alloc, tokens)?;
-        return Ok((Some(name), rest));
-    }
-    Ok((None, tokens))
-}
+use token_grammar::{ReadFault, ending, some_name, word};
 
 /// The name of an inline expression and, in a column, the list of those that share it, where there are any.
 pub fn naming(

@@ -59,40 +59,7 @@ fn take_heading<'a>(
     Ok(rest)
 }
 
-/// Reads a chart.
-fn take_chart<'a>(
-    alloc: Global,
-    tokens: &'a [Token],
-    levels: usize,
-    document: &mut RawDocument,
-) -> Result<&'a [Token], ReadFault>
-    ensures { IfOk result (λ rest. Continues levels tokens.now rest.now (document_view document.old) (document_view document.new)) }
-{
-    let (chart, rest) = chart(alloc, tokens, levels)?;
-    document.charts.push(chart)?;
-    Ok(rest)
-}
-
-/// Reads the charts that the tokens begin with.
-fn take_charts<'a>(
-    alloc: Global,
-    tokens: &'a [Token],
-    levels: usize,
-    document: &mut RawDocument,
-) -> Result<&'a [Token], ReadFault>
-    ensures { IfOk result (λ rest. Continues levels tokens.now rest.now (document_view document.old) (document_view document.new)) }
-{
-    let mut rest = tokens;
-    for _k in 0..tokens.len() {
-        if !starts_with(rest, "msc") {
-            break;
-        }
-        rest = take_chart(alloc, rest, levels, document)?;
-    }
-    Ok(rest)
-}
-
-/// Reads what the tokens go on with up to the document's end.
+/// Reads what the tokens go on with up to the document's end: the heading, where the document begins with one, and charts.
 fn take_part<'a>(
     alloc: Global,
     tokens: &'a [Token],
@@ -101,9 +68,16 @@ fn take_part<'a>(
 ) -> Result<&'a [Token], ReadFault>
     ensures { IfOk result (λ rest. Continues levels tokens.now rest.now (document_view document.old) (document_view document.new)) }
 {
-    let rest = take_heading(alloc, tokens, levels, document)?;
-    let behind = take_charts(alloc, rest, levels, document)?;
-    Ok(behind)
+    let mut rest = take_heading(alloc, tokens, levels, document)?;
+    for _k in 0..tokens.len() {
+        if !starts_with(rest, "msc") {
+            break;
+        }
+        let (chart, behind) = chart(alloc, rest, levels)?;
+        document.charts.push(chart)?;
+        rest = behind;
+    }
+    Ok(rest)
 }
 
 /// Reads charts that all the tokens are.

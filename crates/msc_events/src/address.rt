@@ -1,16 +1,18 @@
 //! The other end of an event, and its orders. Gates and orders stand in charts alone; `act` says where it reads.
 
-ghost use Rattle.std.specs.Prelude.{◌≡◌};
+ghost use Rattle.std.specs.Prelude.{◌≡◌, IfOk};
 ghost use Rattle.token_grammar.specs.Answers.{Gives};
-ghost use Rattle.msc_events.specs.Events.{named, no_orders};
-ghost use Rattle.msc_events.specs.EventReaders.{names_behind_at, own_orders_at, no_orders_at, orders_at, to_name_at, some_gate_at, via_at, to_env_at, some_name_at, to_lost_at, to_gate_at, lost_or_gate_at, apart_address_at, address_at};
+ghost use Rattle.msc_events.specs.Events.{address_of, named, no_orders};
+ghost use Rattle.msc_events.specs.EventReaders.{names_behind_at, own_orders_at, no_orders_at, orders_at, to_name_at, some_gate_at, via_at, to_env_at, to_lost_at, to_gate_at, lost_or_gate_at, apart_address_at, address_at};
 
 use crate::event_parts::{Address, Orders, Setting};
 use msc_base::{Items, Kind, Name, Names};
 use msc_tokens::Token;
 use msc_tree::{BoxedName, Target};
 use std::alloc::Global;
-use token_grammar::{ReadFault, ending, names, own_name, starts_with, starts_with_name, word};
+use token_grammar::{
+    ReadFault, ending, names, own_name, some_name, starts_with, starts_with_name, word,
+};
 
 /// The names behind this word, where it stands.
 fn names_behind<'a>(
@@ -71,6 +73,28 @@ pub fn orders(
     }
 }
 
+/// The orders behind an event's other end, and its end.
+fn addressed(
+    alloc: Global,
+    setting: Setting,
+    tokens: &[Token],
+    kind: Kind,
+    target: Target,
+) -> Result<(Address, &[Token]), ReadFault>
+    ensures orders { Gives (λ x. (x.0.orders, x.1.now)) result (orders_at setting tokens.now) }
+    ensures address { IfOk result (λ x. x.0 ≡ address_of kind target x.0.orders) }
+{
+    let (orders, rest) = orders(alloc, setting, tokens)?;
+    Ok((
+        Address {
+            kind,
+            target,
+            orders,
+        },
+        rest,
+    ))
+}
+
 /// An instance as other end.
 fn to_name(
     alloc: Global,
@@ -81,16 +105,7 @@ fn to_name(
     ensures { Gives (λ x. (x.0, x.1.now)) result (to_name_at setting kind tokens.now) }
 {
     let (name, rest) = own_name(alloc, tokens)?;
-    let (orders, rest) = orders(alloc, setting, rest)?;
-    let target = Target::Instance(name);
-    Ok((
-        Address {
-            kind,
-            target,
-            orders,
-        },
-        rest,
-    ))
+    addressed(alloc, setting, rest, kind, Target::Instance(name))
 }
 
 /// A gate behind `via`, where it is named.
@@ -130,27 +145,8 @@ fn to_env(
 {
     let (_env, rest) = word(tokens, "env")?;
     let (gate, rest) = via(alloc, setting, rest)?;
-    let (orders, rest) = orders(alloc, setting, rest)?;
     let target = Target::Env(BoxedName::of_some(alloc, gate)?);
-    Ok((
-        Address {
-            kind,
-            target,
-            orders,
-        },
-        rest,
-    ))
-}
-
-/// A name, where there is one.
-fn some_name(alloc: Global, tokens: &[Token]) -> Result<(Option<Name>, &[Token]), ReadFault>
-    ensures { Gives (λ x. (x.0, x.1.now)) result (some_name_at tokens.now) }
-{
-    if starts_with_name(tokens) {
-        let (name, rest) = own_name(alloc, tokens)?;
-        return Ok((Some(name), rest));
-    }
-    Ok((None, tokens))
+    addressed(alloc, setting, rest, kind, target)
 }
 
 /// The other end of a message that is lost or found.
@@ -175,16 +171,7 @@ fn to_lost<'a>(
 {
     let (_lost, rest) = word(tokens, lost)?;
     let (name, rest) = some_name(alloc, rest)?;
-    let (orders, rest) = orders(alloc, setting, rest)?;
-    let target = target_of(name);
-    Ok((
-        Address {
-            kind,
-            target,
-            orders,
-        },
-        rest,
-    ))
+    addressed(alloc, setting, rest, kind, target_of(name))
 }
 
 /// The gate of a reference or inline expression as other end (Z.120, clause 4.5).
@@ -195,16 +182,8 @@ fn to_gate(alloc: Global, tokens: &[Token], kind: Kind) -> Result<(Address, &[To
     let (name, rest) = own_name(alloc, rest)?;
     let (_via, rest) = word(rest, "via")?;
     let (gate, rest) = own_name(alloc, rest)?;
-    let (orders, rest) = orders(alloc, Setting::Chart, rest)?;
     let target = Target::Gate(BoxedName::of(alloc, name)?, BoxedName::of(alloc, gate)?);
-    Ok((
-        Address {
-            kind,
-            target,
-            orders,
-        },
-        rest,
-    ))
+    addressed(alloc, Setting::Chart, rest, kind, target)
 }
 
 /// No other end, or one that doesn't take part, or a gate.

@@ -2,19 +2,9 @@
 
 ghost use Rattle.std.specs.Prelude.{◌≡◌, IfOk};
 
-use crate::{BoxedName, RawEvent, Target};
+use crate::{RawEvent, Target};
 use msc_base::{Items, NoMemory, Text, Words, copy_name};
 use std::alloc::Global;
-
-/// A copy of the name, where there is one.
-fn copy_rare(alloc: Global, name: &Option<BoxedName>) -> Result<Option<BoxedName>, NoMemory>
-    ensures { IfOk result (λ copied. copied ≡ name.now) }
-{
-    match name {
-        Some(name) => Ok(Some(name.copy(alloc)?)),
-        None => Ok(None),
-    }
-}
 
 /// A copy of the texts.
 pub(crate) fn copy_words(alloc: Global, words: &[Text]) -> Result<Words, NoMemory>
@@ -37,7 +27,8 @@ fn copy_target(alloc: Global, target: &Target) -> Result<Target, NoMemory>
 {
     match target {
         Target::Nobody => Ok(Target::Nobody),
-        Target::Env(gate) => Ok(Target::Env(copy_rare(alloc, gate)?)),
+        Target::Env(None) => Ok(Target::Env(None)),
+        Target::Env(Some(gate)) => Ok(Target::Env(Some(gate.copy(alloc)?))),
         Target::Instance(name) => Ok(Target::Instance(name.copy(alloc)?)),
         Target::Gate(reference, gate) => {
             let reference = reference.copy(alloc)?;

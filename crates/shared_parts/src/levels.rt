@@ -2,30 +2,15 @@
 
 ghost use Rattle.std.specs.Prelude.{◌≡◌, OnOk, map};
 ghost use Rattle.level_pieces.specs.ItemOperands.{pieces_view};
-ghost use Rattle.level_pieces.specs.ItemParts.{has_events};
 ghost use Rattle.level_pieces.specs.PieceViews.{parts_view, piece_view};
-ghost use Rattle.msc_tree.specs.Views.{form_view};
 ghost use Rattle.shared_parts.specs.Noting.{AreAllJoined, AreJoined, AreNoted, ItemBreaks, OneHolds, noted};
 ghost use Rattle.shared_parts.specs.PartRules.{BreaksPartRule};
 ghost use Rattle.shared_parts.specs.declared.faults.PartRule.{PartRule};
 
-use crate::covering::item_names;
 use crate::noting::{PartPlaces, note_parts};
-use level_pieces::{LevelItem, Piece, item_operands, level_items};
+use level_pieces::{LevelItem, Piece, is_event, item_names, item_operands, level_items};
 use msc_base::{Names, NoMemory};
-use msc_tree::RawForm;
 use std::alloc::Global;
-
-/// Whether a form is an event or a coregion.
-fn is_event(form: &RawForm) -> bool
-    ensures { result ≡ has_events (form_view form.now) }
-{
-    match form {
-        RawForm::Single(_) => true,
-        RawForm::Coregion(_) => true,
-        _ => false,
-    }
-}
 
 /// Notes the parts that break the rules on a level that covers these instances, and inside it.
 #[cycle(levels)]

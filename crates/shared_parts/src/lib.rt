@@ -2,7 +2,6 @@
 #![tactic(auto)]
 
 mod alike;
-mod covering;
 mod expressions;
 mod faults;
 mod joins;

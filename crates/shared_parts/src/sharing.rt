@@ -9,8 +9,7 @@ ghost use Rattle.msc_meaning.specs.LevelItems.{cover_by, cover_of, name_of, shar
 ghost use Rattle.msc_tree.specs.Views.{form_view};
 ghost use Rattle.shared_parts.specs.Sharing.{AllAmong, AllCover, HaveSame, IsKnown, IsSharing, OneCoversOthers, OneIsMissing, StandsOne, Tells, has_several, is_unshared_in, lacks_name};
 
-use crate::covering::item_cover;
-use level_pieces::{LevelItem, Piece, Setting, covered};
+use level_pieces::{LevelItem, Piece, Setting, covered, item_cover};
 use msc_base::{Name, NameTable, Names, NoMemory};
 use msc_tree::{Cover, RawForm};
 use std::alloc::Global;

@@ -16,3 +16,5 @@ mod places;
 mod tokens;
 #[cfg(test)]
 mod weaving;
+#[cfg(test)]
+mod woven;

@@ -7,6 +7,7 @@ pub mod Exact
 pub mod Factors
 pub mod FirstNames
 pub mod Flats
+pub mod GivenNames
 pub mod Items
 pub mod LevelFree
 pub mod Levels

@@ -16,7 +16,9 @@ pub use fault::{ParseFault, form_of, refusal};
 pub use laws::one_word;
 pub use leads::{is_other_lead, starts_with_lead};
 pub use messages::{MessageParts, item, message, parameters};
-pub use parts::{ending, more_names, name_of, names, own_name, own_text, placed_lead, placed_name};
+pub use parts::{
+    ending, more_names, name_of, names, own_name, own_text, placed_lead, placed_name, some_name,
+};
 pub use readers::{
     ReadFault, either_word, name, name_or_string, number, starts_with, starts_with_either,
     starts_with_item, starts_with_name, string, word,

@@ -3,11 +3,12 @@
 ghost use Rattle.std.specs.Prelude.{◌≡◌, [], ◌∷◌, ◌++◌, length, IfOk};
 ghost use Rattle.msc_base.specs.Names.{IsName};
 ghost use Rattle.token_grammar.specs.Answers.{Gives};
-ghost use Rattle.token_grammar.specs.Languages.{names, word_at};
+ghost use Rattle.token_grammar.specs.Languages.{names, optional_at, word_at};
 ghost use Rattle.token_grammar.specs.PartReaders.{name_at, placed_name_at, lead_at, ending_at, comma_name_at, more_names_at, name_list_at};
+ghost use Rattle.token_grammar.specs.Parts.{kept};
 
 use crate::leads::is_other_token;
-use crate::readers::{ReadFault, name, starts_with, string, word};
+use crate::readers::{ReadFault, name, starts_with, starts_with_name, string, word};
 use msc_base::{Items, Name, NameRefused, Names, NoMemory, Place, Text};
 use msc_tokens::Token;
 use std::alloc::Global;
@@ -44,6 +45,17 @@ pub fn own_name(alloc: Global, tokens: &[Token]) -> Result<(Name, &[Token]), Rea
 {
     let (name, _token, rest) = taken_name(alloc, tokens)?;
     Ok((name, rest))
+}
+
+/// A name, if the tokens start with one, and those behind it.
+pub fn some_name(alloc: Global, tokens: &[Token]) -> Result<(Option<Name>, &[Token]), ReadFault>
+    ensures { Gives (λ x. (x.0, x.1.now)) result (optional_at names kept name_at tokens.now) }
+{
+    if starts_with_name(tokens) {
+        let (name, rest) = own_name(alloc, tokens)?;
+        return Ok((Some(name), rest));
+    }
+    Ok((None, tokens))
 }
 
 /// The first token, where it is a name, as a text of its own, and those behind it.

@@ -5,7 +5,7 @@ ghost use Rattle.std.specs.List.{list_all};
 ghost use Rattle.msc_base.specs.Names.{IsName};
 ghost use Rattle.token_grammar.specs.Answers.{Gives};
 ghost use Rattle.token_grammar.specs.Classes.{exactly, is_digit, is_name, is_string, is_number};
-ghost use Rattle.token_grammar.specs.Languages.{among, starts, just, names, strings, numbers, names_or_strings, word_at, bytes_at};
+ghost use Rattle.token_grammar.specs.Languages.{Set, among, starts, just, names, strings, numbers, names_or_strings, word_at, bytes_at};
 ghost use Rattle.token_grammar.specs.declared.readers.ReadFault.TheVariants.{NoMemory};
 
 use msc_base::NoMemory;
@@ -118,20 +118,44 @@ pub fn starts_with_item(tokens: &[Token]) -> bool
     }
 }
 
+/// Whether the tokens start with a string.
+fn starts_with_string(tokens: &[Token]) -> bool
+    ensures { result ≡ starts strings tokens.now }
+{
+    match tokens.split_first() {
+        Some((first, _)) => is_string_token(first),
+        None => false,
+    }
+}
+
+/// Whether the tokens start with a number.
+fn starts_with_number(tokens: &[Token]) -> bool
+    ensures { result ≡ starts numbers tokens.now }
+{
+    match tokens.split_first() {
+        Some((first, _)) => is_number_token(first),
+        None => false,
+    }
+}
+
+/// The first token and those behind it, if it is one that is wanted.
+fn first_if(tokens: &[Token], is_wanted: bool) -> Result<(&Token, &[Token]), ReadFault>
+    ensures { (wanted : Set) → is_wanted ≡ starts wanted tokens.now → Gives (λ x. (x.0.now, x.1.now)) result (word_at wanted tokens.now) }
+{
+    if !is_wanted {
+        return Err(ReadFault::Refused(tokens.len()));
+    }
+    match tokens.split_first() {
+        Some((first, rest)) => Ok((first, rest)),
+        None => Err(ReadFault::Refused(0)),
+    }
+}
+
 /// The first token, where it is this text, and those behind it.
 pub fn word<'a>(tokens: &'a [Token], text: &str) -> Result<(&'a Token, &'a [Token]), ReadFault>
     ensures { Gives (λ x. (x.0.now, x.1.now)) result (word_at (just text.now) tokens.now) }
 {
-    match tokens.split_first() {
-        Some((first, rest)) => {
-            if is_text(first, text) {
-                Ok((first, rest))
-            } else {
-                Err(ReadFault::Refused(tokens.len()))
-            }
-        }
-        None => Err(ReadFault::Refused(0)),
-    }
+    first_if(tokens, starts_with(tokens, text))
 }
 
 /// The first token, where it is one of these two texts, and those behind it.
@@ -142,16 +166,7 @@ pub fn either_word<'a>(
 ) -> Result<(&'a Token, &'a [Token]), ReadFault>
     ensures { Gives (λ x. (x.0.now, x.1.now)) result (word_at (exactly one.now ∷ exactly other.now ∷ []) tokens.now) }
 {
-    match tokens.split_first() {
-        Some((first, rest)) => {
-            if is_text(first, one) || is_text(first, other) {
-                Ok((first, rest))
-            } else {
-                Err(ReadFault::Refused(tokens.len()))
-            }
-        }
-        None => Err(ReadFault::Refused(0)),
-    }
+    first_if(tokens, starts_with_either(tokens, one, other))
 }
 
 /// The first token, where it is a name, and those behind it.
@@ -160,62 +175,26 @@ pub fn name(tokens: &[Token]) -> Result<(&Token, &[Token]), ReadFault>
     ensures token { Gives (λ x. (x.0.now, x.1.now)) result (word_at names tokens.now) }
     ensures name { IfOk result (λ x. IsName x.0.now.bytes) }
 {
-    match tokens.split_first() {
-        Some((first, rest)) => {
-            if is_name_token(first) {
-                Ok((first, rest))
-            } else {
-                Err(ReadFault::Refused(tokens.len()))
-            }
-        }
-        None => Err(ReadFault::Refused(0)),
-    }
+    first_if(tokens, starts_with_name(tokens))
 }
 
 /// The first token, where it is a name or a string, and those behind it.
 pub fn name_or_string(tokens: &[Token]) -> Result<(&Token, &[Token]), ReadFault>
     ensures { Gives (λ x. (x.0.now.bytes, x.1.now)) result (bytes_at names_or_strings tokens.now) }
 {
-    match tokens.split_first() {
-        Some((first, rest)) => {
-            if is_name_token(first) || is_string_token(first) {
-                Ok((first, rest))
-            } else {
-                Err(ReadFault::Refused(tokens.len()))
-            }
-        }
-        None => Err(ReadFault::Refused(0)),
-    }
+    first_if(tokens, starts_with_item(tokens))
 }
 
 /// The first token, where it is a string, and those behind it.
 pub fn string(tokens: &[Token]) -> Result<(&Token, &[Token]), ReadFault>
     ensures { Gives (λ x. (x.0.now.bytes, x.1.now)) result (bytes_at strings tokens.now) }
 {
-    match tokens.split_first() {
-        Some((first, rest)) => {
-            if is_string_token(first) {
-                Ok((first, rest))
-            } else {
-                Err(ReadFault::Refused(tokens.len()))
-            }
-        }
-        None => Err(ReadFault::Refused(0)),
-    }
+    first_if(tokens, starts_with_string(tokens))
 }
 
 /// The first token, where it is a number, and those behind it.
 pub fn number(tokens: &[Token]) -> Result<(&Token, &[Token]), ReadFault>
     ensures { Gives (λ x. (x.0.now.bytes, x.1.now)) result (bytes_at numbers tokens.now) }
 {
-    match tokens.split_first() {
-        Some((first, rest)) => {
-            if is_number_token(first) {
-                Ok((first, rest))
-            } else {
-                Err(ReadFault::Refused(tokens.len()))
-            }
-        }
-        None => Err(ReadFault::Refused(0)),
-    }
+    first_if(tokens, starts_with_number(tokens))
 }

@@ -1,6 +1,6 @@
-use Rattle.std.proofs.Common.{◌∙◌, sym}
-use Rattle.token_grammar.proofs.Classes.{name_decides}
+use Rattle.token_grammar.specs.Languages.{names}
+use Rattle.token_grammar.proofs.GivenNames.{given_name}
 use Rattle.token_grammar.proofs.readers.name.Goals as goal
 
-pub returns-then-is_name_token-clause-name : goal.returns-then-is_name_token-clause-name
-returns-then-is_name_token-clause-name c = (name_decides c.in-Some.first.now.bytes).0 (sym c.is_name_token.ensures ∙ c.if-is_name_token.true)
+pub returns-clause-name : goal.returns-clause-name
+returns-clause-name c = given_name (λ x. (x.0.now, x.1.now)) c.args.tokens.now c.first_if.result (c.first_if.ensures names c.starts_with_name.ensures)

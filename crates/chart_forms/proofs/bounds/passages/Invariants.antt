@@ -1,8 +1,0 @@
-use Rattle.std.proofs.Common.{◌≡◌, ◌++◌, drop}
-use Rattle.chart_forms.specs.LoopBounds.{high_bounds}
-use Rattle.chart_text.specs.Gathering.{gathered}
-use Rattle.chart_text.specs.PassageViews.{text_view}
-use Rattle.chart_forms.proofs.bounds.passages.Given as goal
-
-abbrev pub invariant-loop-held : goal.invariant-loop-held
-invariant-loop-held l = l.places ++ gathered high_bounds (text_view (drop l.held-index l.text)) ≡ l.initial.places ++ gathered high_bounds (text_view l.text)

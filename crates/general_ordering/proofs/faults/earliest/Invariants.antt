@@ -1,7 +1,0 @@
-use Rattle.std.proofs.Common.{drop}
-use Rattle.msc_base.specs.Lists.{IsAmong}
-use Rattle.msc_base.proofs.Narrowing.{Narrows}
-use Rattle.general_ordering.proofs.faults.earliest.Given as goal
-
-abbrev pub invariant-loop-place : goal.invariant-loop-place
-invariant-loop-place l = Narrows (IsAmong l.places) (IsAmong (drop l.place-index l.places)) l.best

@@ -1,6 +1,0 @@
-use Rattle.chart_term.specs.Properties.{Each}
-use Rattle.residual_bench.specs.Charts.{IsChart}
-use Rattle.residual_bench.proofs.charts.singles.Given as goal
-
-abbrev pub invariant-loop-number : goal.invariant-loop-number
-invariant-loop-number l = Each IsChart l.parts

@@ -1,5 +1,0 @@
-use Rattle.residual_bench.specs.Statements.{AreStatements}
-use Rattle.residual_bench.proofs.statements.events.Given as goal
-
-abbrev pub invariant-loop-number : goal.invariant-loop-number
-invariant-loop-number l = AreStatements l.count l.parts l.number

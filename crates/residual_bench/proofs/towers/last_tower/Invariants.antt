@@ -1,5 +1,0 @@
-use Rattle.residual_bench.specs.Charts.{IsChart}
-use Rattle.residual_bench.proofs.towers.last_tower.Given as goal
-
-abbrev pub invariant-loop : goal.invariant-loop
-invariant-loop l = IsChart l.inner

@@ -1,5 +1,0 @@
-use Rattle.residual_bench.proofs.Made.{chart_refusal}
-use Rattle.residual_bench.proofs.towers.refusal.Goals as goal
-
-pub returns : goal.returns
-returns c = chart_refusal _ c.in_ok-term.ensures

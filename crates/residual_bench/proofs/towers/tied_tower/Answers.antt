@@ -1,5 +1,0 @@
-use Rattle.residual_bench.proofs.TiedTowers.{tower_chart}
-use Rattle.residual_bench.proofs.towers.tied_tower.Goals as goal
-
-pub returns : goal.returns
-returns c = tower_chart _ _ c.loop-level.invariant

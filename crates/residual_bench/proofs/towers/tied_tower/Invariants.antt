@@ -1,6 +1,0 @@
-use Rattle.std.specs.Prelude.{◌≡◌}
-use Rattle.residual_bench.specs.Charts.{tied_tower}
-use Rattle.residual_bench.proofs.towers.tied_tower.Given as goal
-
-abbrev pub invariant-loop-level : goal.invariant-loop-level
-invariant-loop-level l = l.inner ≡ tied_tower l.level
