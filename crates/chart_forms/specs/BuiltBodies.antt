@@ -2,6 +2,7 @@
 use Rattle.std.specs.List.{list_all, list_any}
 use Rattle.std.specs.Prelude.{ℕ, ◌+◌, ◌≤◌, ◌≡◌, Bool, true, false, List, [], Some, None, ◌&&◌, length}
 use Rattle.std.specs.Str.{bytes_eq}
+use Rattle.msc_base.specs.Stored.{most_numbered}
 use Rattle.chart_forms.specs.BodyItems.{body_events, body_items}
 use Rattle.msc_base.specs.declared.label.Kind.{Kind}
 use Rattle.msc_base.specs.declared.label.Kind.TheVariants.{Output, Input, OutputLost, InputFound, Action, TimerStart, TimerStop, Timeout, Create}
@@ -85,4 +86,4 @@ operands_count (body_and b bs) = event_count b + operands_count bs
 -- a term is made of the body: it is built, and there are numbers for its events
 pub record CanHaveTerm (names : List (List ℕ)) (b : Body) : Type 0 where
   pub built : is_built names b ≡ true
-  pub room : event_count b ≤ 4294967295
+  pub room : event_count b ≤ most_numbered

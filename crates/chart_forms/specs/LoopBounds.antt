@@ -1,6 +1,7 @@
 -- The loops with a bound above the limit, at any depth of a chart's text.
 use Rattle.std.specs.Prelude.{ℕ, Bool, false, ◌||◌, List, [], Option, Some, None, nat_lt}
-use Rattle.chart_text.specs.Gathering.{gathered, place_if}
+use Rattle.std.specs.List.{flat_map}
+use Rattle.chart_text.specs.Gathering.{place_if}
 use Rattle.chart_text.specs.Texts.{Passage, a_head, a_statement, an_item, an_operand, chart_text}
 use Rattle.msc_base.specs.Lists.{IsAmong}
 use Rattle.msc_base.specs.declared.limits.TheConstants.Limits.{LOOP_BOUND}
@@ -43,4 +44,4 @@ high_bounds (an_operand s x) = []
 
 -- such a loop stands there
 abbrev pub HasHighBound : Chart → Place → Type 0
-HasHighBound chart p = IsAmong (gathered high_bounds (chart_text chart)) p
+HasHighBound chart p = IsAmong (flat_map high_bounds (chart_text chart)) p

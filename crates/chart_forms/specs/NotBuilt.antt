@@ -1,6 +1,7 @@
 -- The forms that aren't built yet, and where a chart has them: in its heads, in its statements at any depth, or as it is a graph.
 use Rattle.std.specs.Prelude.{not, List, [], ◌∷◌, ◌++◌, Option, Some, None, ℕ}
-use Rattle.chart_text.specs.Gathering.{gathered, place_if}
+use Rattle.std.specs.List.{flat_map}
+use Rattle.chart_text.specs.Gathering.{place_if}
 use Rattle.chart_text.specs.Texts.{Passage, a_head, a_statement, an_item, an_operand, chart_text}
 use Rattle.msc_base.specs.Lists.{IsAmong}
 use Rattle.msc_base.specs.declared.place.Place.{Place}
@@ -15,8 +16,7 @@ abbrev pub not_built_event : RawEvent → List Place
 not_built_event e = place_if (not (is_plain e)) e.place
 
 abbrev pub not_built_events : List RawEvent → List Place
-not_built_events [] = []
-not_built_events (e ∷ es) = not_built_event e ++ not_built_events es
+not_built_events es = flat_map not_built_event es
 
 -- a decomposition isn't built
 abbrev pub not_built_by : Option (List ℕ) → Place → List Place
@@ -55,7 +55,7 @@ not_built_graph place (Basic held) = []
 not_built_graph place (HighLevel drawn) = place ∷ []
 
 abbrev pub not_built_chart : Chart → List Place
-not_built_chart chart = not_built_graph chart.place chart.content ++ gathered not_built (chart_text chart)
+not_built_chart chart = not_built_graph chart.place chart.content ++ flat_map not_built (chart_text chart)
 
 -- such a form stands there
 abbrev pub IsNotBuilt : Chart → Place → Type 0

@@ -1,8 +1,8 @@
 //! The earliest loop with a bound above the limit, at any depth.
 
 ghost use Rattle.std.specs.Prelude.{◌≡◌, ◌++◌, IfOk, OnOk};
+ghost use Rattle.std.specs.List.{flat_map};
 ghost use Rattle.chart_forms.specs.LoopBounds.{has_high_bound as high_bound, high_bounds, high_item};
-ghost use Rattle.chart_text.specs.Gathering.{gathered};
 ghost use Rattle.chart_text.specs.PassageViews.{text_view};
 ghost use Rattle.msc_base.specs.Lists.{IsAmong};
 ghost use Rattle.msc_base.specs.Places.{IsLeast};
@@ -62,7 +62,7 @@ impl TextRule for LoopBounds {
 
 /// The earliest place in a text at which a loop stands with a bound above the limit.
 pub fn first_high_bound(alloc: Global, text: &[Passage<'_>]) -> Result<Option<Place>, NoMemory>
-    ensures { IfOk result (IsLeast (IsAmong (gathered high_bounds (text_view text.now)))) }
+    ensures { IfOk result (IsLeast (IsAmong (flat_map high_bounds (text_view text.now)))) }
 {
     let mut places = Items::new(alloc);
     note_text::<LoopBounds>(&mut places, text)?;

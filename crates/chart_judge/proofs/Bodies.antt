@@ -1,5 +1,6 @@
 -- The bodies of accepted charts: how many events they have.
 use Rattle.std.proofs.Common.{◌≤◌, arith}
+use Rattle.msc_base.specs.Stored.{most_numbered}
 use Rattle.chart_forms.specs.BodySizes.{body_size}
 use Rattle.chart_forms.proofs.PartLaws.{count_and, item_size, items_size, operands_size, size_and}
 use Rattle.chart_forms.specs.BuiltBodies.{event_count, events_count, operands_count}
@@ -28,5 +29,5 @@ mutual
   operands_fit (body_and b bs) = let one = events_fit b in let others = operands_fit bs in omega (arith, one, others)
 
 -- there are numbers for the events of an accepted chart
-pub few : (chart : ChartEntry) (accepted : IsAcceptedChart chart) → event_count accepted.body ≤ 4294967295
+pub few : (chart : ChartEntry) (accepted : IsAcceptedChart chart) → event_count accepted.body ≤ most_numbered
 few chart accepted = let small = accepted.small in let fit = events_fit accepted.body in omega (arith, small, fit)

@@ -1,6 +1,7 @@
 -- A log has few events.
 use Rattle.std.specs.Prelude.{ℕ, zero, suc, ◌≡◌, ◌≤◌, ◌<◌, Bool, List, [], ◌∷◌, ◌++◌, length, Some, None, slice_get}
 use Rattle.std.proofs.Common.{ap, arith, inl, inr, length-append}
+use Rattle.msc_base.specs.Stored.{most_stored}
 use Rattle.msc_base.specs.declared.limits.TheConstants.Limits.{LOG_EVENTS}
 use Rattle.event_log.specs.Lines.{lines_of}
 use Rattle.event_log.specs.Logs.{Stage, first_stage, After, Reaches, HoldsEvent}
@@ -27,7 +28,7 @@ at_below (x ∷ es) zero e h = omega arith
 at_below (x ∷ es) (suc n) e h = omega (arith, at_below es n e h)
 
 -- the number of an event of a log has 64 bits, and so has the next
-pub held_few : (form : LogForm) (g : Bool) (b : List ℕ) (n : ℕ) (e : LineEvent) → HoldsEvent form g b n e → n < 18446744073709551615
+pub held_few : (form : LogForm) (g : Bool) (b : List ℕ) (n : ℕ) (e : LineEvent) → HoldsEvent form g b n e → n < most_stored
 held_few form g b n e h =
     let l = reaches_few form first_stage h.stage (lines_of g b) h.reaches (omega arith) in
     omega (arith, at_below h.stage.events n e h.at, l)

@@ -1,6 +1,7 @@
 //! Hands each event of the reader to the track once, after each piece and at the end: for `log_judge` alone.
 
 ghost use Rattle.std.specs.Prelude.{◌≡◌, ◌<◌, ◌+◌, ◌++◌, ◌∷◌, [], ℕ, List, true, false, not, OnOk, IfErr};
+ghost use Rattle.msc_base.specs.Stored.{most_stored};
 ghost use Rattle.chart_term.specs.Terms.{Tree};
 ghost use Rattle.event_log.specs.declared.event.LogForm.{LogForm};
 ghost use Rattle.trace_judge.specs.Tracks.{Fed, IfHeld};
@@ -25,7 +26,7 @@ fn take_event<S: Store + Drop>(
     event: NumberedEvent,
 ) -> Result<(), NoMemory>
     requires serves { IfHeld (λ set. S.serves set nets.now) track.old }
-    requires room { track.old.events < 18446744073709551615 }
+    requires room { track.old.events < most_stored }
     requires number { event.number ≡ label_number nets.now.labels event.event.label }
     ensures serves { IfHeld (λ set. S.serves set nets.now) track.new }
     ensures count { OnOk result (track.new.events ≡ track.old.events + 1) }

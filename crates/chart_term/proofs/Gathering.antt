@@ -5,6 +5,7 @@ use Rattle.chart_term.specs.declared.term.RowPart.{RowPart}
 use Rattle.chart_term.specs.declared.term.RowPart.TheVariants as part
 use Rattle.chart_term.specs.Rows.{part_of, parts_of}
 use Rattle.std.proofs.lemmas.List.Folds.{list_any-append}
+use Rattle.msc_base.specs.Stored.{most_stored}
 use Rattle.bit_sets.specs.Blocks.{BlockValue}
 use Rattle.list_facts.proofs.Bools.{or_assoc, or_false, or_comm}
 use Rattle.term_facts.specs.declared.facts.Facts.{Facts}
@@ -12,7 +13,7 @@ use Rattle.term_facts.specs.declared.facts.Span.{Span}
 use Rattle.chart_term.specs.Labels.{labels, labels_all, labels_row}
 use Rattle.chart_term.specs.NormalForms.{begun, numbers, numbers_all, numbers_row}
 use Rattle.chart_term.specs.PartLists.{AreTurns}
-use Rattle.term_facts.specs.NodeFacts.{AreFacts, Adds, facts_miss, span_of, lies_in, most_stored, numbers_code, wider}
+use Rattle.term_facts.specs.NodeFacts.{AreFacts, Adds, facts_miss, span_of, lies_in, numbers_code, wider}
 use Rattle.chart_term.specs.Facts.{HasFacts, RowHasFacts, holds_walk, any_walk, row_walk, instances, instances_all, instances_row, misses, row_misses}
 use Rattle.chart_term.specs.Terms.{Tree, Loop, Row, trees, weight, weights, row_weight, Part, Gap, Turn, row_of, has}
 use Rattle.term_facts.proofs.Coding.{numbers_code-turned}

@@ -2,7 +2,7 @@
 use Rattle.std.specs.List.{list_any}
 use Rattle.std.specs.Prelude.{ℕ, Bool, true, false, List, [], ◌++◌, ◌||◌, ◌&&◌, not}
 use Rattle.bit_sets.specs.Blocks.{BlockValue}
-pub use Rattle.term_facts.specs.NodeFacts.{most_stored, span_of, lies_in, wider, AreFacts}
+pub use Rattle.term_facts.specs.NodeFacts.{span_of, lies_in, wider, AreFacts}
 use Rattle.term_facts.specs.declared.facts.Facts.{Facts}
 use Rattle.chart_term.specs.Labels.{labels, labels_row}
 use Rattle.chart_term.specs.NormalForms.{numbers, numbers_row}

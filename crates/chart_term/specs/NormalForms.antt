@@ -1,5 +1,5 @@
 -- The normalising constructors of terms.
-use Rattle.std.specs.List.{list_all}
+use Rattle.std.specs.List.{flat_map, list_all}
 use Rattle.std.specs.Prelude.{ℕ, zero, suc, Bool, true, false, List, [], ◌∷◌, ◌++◌, Option, Some, None, ◌||◌, ◌&&◌, filter, ◌==◌}
 use Rattle.msc_base.specs.Patterns.{Mode, seq, par}
 use Rattle.hmsc_graph.specs.Graphs.{Spot, At, Goal, To, End, Any, Net, reach}
@@ -32,8 +32,7 @@ open_part m (Walk n s t c) = Walk n s t c ∷ []
 
 -- the parts of all parts of a join: joins of its kind are opened, Nil is dropped
 abbrev pub flat : Mode → List Tree → List Tree
-flat m [] = []
-flat m (x ∷ xs) = open_part m x ++ flat m xs
+flat m xs = flat_map (open_part m) xs
 
 -- no part is Nil, one part is itself
 abbrev pub join_of : Mode → List Tree → Tree
@@ -68,8 +67,7 @@ open_choice x = x ∷ []
 
 -- the parts of all parts of a choice
 abbrev pub open_choices : List Tree → List Tree
-open_choices [] = []
-open_choices (x ∷ xs) = open_choice x ++ open_choices xs
+open_choices xs = flat_map open_choice xs
 
 -- the term is left out where the test says yes
 abbrev pub unless_same : Bool → Tree → List Tree → List Tree

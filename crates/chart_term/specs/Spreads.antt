@@ -1,5 +1,6 @@
 -- The instances of the events of a term and of its nets, and of the nets that these name.
 use Rattle.std.specs.Prelude.{ℕ, List, [], ◌∷◌, ◌++◌, ◌==◌}
+use Rattle.std.specs.List.{flat_map}
 use Rattle.chart_term.specs.Tables.{choose, net_count, Tables}
 use Rattle.chart_term.specs.TermPatterns.{instances_of}
 use Rattle.chart_term.specs.Terms.{Tree, Nil, Event, Join, Choice, Tied, Loop, Walk, Trees, none, more, Row, ends, gap, turn, Part, Gap, Turn}
@@ -31,8 +32,7 @@ touch_part k (Turn x) = touch k x
 
 -- those of several terms
 abbrev pub touch_list : (ℕ → List ℕ) → List Tree → List ℕ
-touch_list k [] = []
-touch_list k (x ∷ xs) = touch k x ++ touch_list k xs
+touch_list k xs = flat_map (touch k) xs
 
 -- the instances of a net: a node term names only older nets
 abbrev pub spread_of : Tables → ℕ → List ℕ

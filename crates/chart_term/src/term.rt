@@ -2,7 +2,8 @@
 
 ghost use Rattle.std.specs.Prelude.{◌≡◌, ◌<◌, ◌∷◌, ℕ, [], false, length, min, IfOk, Some, MatchOption};
 ghost use Rattle.std.specs.Option.{ForSome};
-ghost use Rattle.chart_term.specs.Facts.{HasFacts, holds_walk, instances, misses, most_stored};
+ghost use Rattle.msc_base.specs.Stored.{most_stored};
+ghost use Rattle.chart_term.specs.Facts.{HasFacts, holds_walk, instances, misses};
 ghost use Rattle.chart_term.specs.PartLists.{AreTurns, Lacks};
 ghost use Rattle.chart_term.specs.Terms.{Nil, Event as EventTree, Join, Choice, Loop, Walk, Tied, has, trees, row_of, weight};
 ghost use Rattle.msc_base.specs.Patterns.{seq, par};

@@ -3,11 +3,6 @@ use Rattle.std.specs.Prelude.{◌+◌, ℕ, Bool, if◌then◌else◌, List, [],
 use Rattle.msc_base.specs.declared.place.Place.{Place}
 use Rattle.chart_text.specs.Texts.{Passage}
 
--- what is told of each passage, one behind another
-abbrev pub gathered : {A : Type 0} → (Passage → List A) → List Passage → List A
-gathered f [] = []
-gathered f (x ∷ xs) = f x ++ gathered f xs
-
 -- the sum of what each passage counts
 abbrev pub summed : (Passage → ℕ) → List Passage → ℕ
 summed f [] = 0

@@ -1,7 +1,8 @@
 //! Noting places, and the earliest of them: for rules that go through a text.
 
 ghost use Rattle.std.specs.Prelude.{◌≡◌, ◌++◌, List, OnOk};
-ghost use Rattle.chart_text.specs.Gathering.{gathered, place_if};
+ghost use Rattle.std.specs.List.{flat_map};
+ghost use Rattle.chart_text.specs.Gathering.{place_if};
 ghost use Rattle.chart_text.specs.PassageViews.{passage_view, text_view};
 ghost use Rattle.chart_text.specs.Texts as plain;
 ghost use Rattle.msc_base.specs.Lists.{IsAmong};
@@ -35,7 +36,7 @@ pub fn note_text<R: TextRule>(
     places: &mut Items<Place>,
     text: &[Passage<'_>],
 ) -> Result<(), NoMemory>
-    ensures { OnOk result (places.new ≡ places.old ++ gathered R.told (text_view text.now)) }
+    ensures { OnOk result (places.new ≡ places.old ++ flat_map R.told (text_view text.now)) }
 {
     for passage in text {
         R::note(places, *passage)?;

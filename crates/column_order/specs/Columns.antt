@@ -1,5 +1,6 @@
 -- The edges between neighbours of columns, and columns that are given entry by entry.
-use Rattle.std.specs.Prelude.{Option, None, Some, ℕ, zero, suc, List, [], ◌∷◌, ◌++◌, Vec}
+use Rattle.std.specs.Prelude.{Option, None, Some, ℕ, zero, suc, List, [], ◌∷◌, Vec, map}
+use Rattle.std.specs.List.{flat_map}
 use Rattle.std.specs.Global.{Global}
 use Rattle.column_order.specs.declared.edge.Edge.{Edge}
 use Rattle.column_order.specs.Counts.{targets}
@@ -13,12 +14,10 @@ neighbours [] = []
 neighbours (c ∷ cs) = from_to c cs
 
 abbrev pub all_neighbours : List (List ℕ) → List Edge
-all_neighbours [] = []
-all_neighbours (column ∷ columns) = neighbours column ++ all_neighbours columns
+all_neighbours columns = flat_map neighbours columns
 
 abbrev pub items_of : List (Vec ℕ Global) → List (List ℕ)
-items_of [] = []
-items_of (v ∷ vs) = v.items ∷ items_of vs
+items_of vs = map (λ v. v.items) vs
 
 -- the edges to the items that are left, behind an earlier one
 abbrev pub onward : Option ℕ → List ℕ → List Edge

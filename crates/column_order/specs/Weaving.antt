@@ -1,6 +1,6 @@
 -- The woven list of a level. Its items are numbered in the order of their places; a column is the list of
 -- the items of one instance.
-use Rattle.std.specs.Prelude.{◌≡◌, ℕ, ◌<◌, List, [], ◌∷◌, ◌⊎◌, if◌then◌else◌}
+use Rattle.std.specs.Prelude.{◌≡◌, ℕ, ◌<◌, List, [], ◌∷◌, ◌⊎◌, filter}
 use Rattle.msc_base.specs.Lists.{AreDifferent, IsAmong}
 use Rattle.column_order.specs.Orders.{IsEarliestFirst, IsStuckAt}
 use Rattle.column_order.specs.Counts.{has}
@@ -17,8 +17,7 @@ ColumnsOrder (column ∷ columns) y x = ColumnOrders column y x ⊎ ColumnsOrder
 
 -- the items of the list that stand in the column
 abbrev pub restricted : List ℕ → List ℕ → List ℕ
-restricted column [] = []
-restricted column (x ∷ xs) = if has column x then x ∷ restricted column xs else restricted column xs
+restricted column xs = filter (has column) xs
 
 -- each item once, each column in its order, and at each position the earliest item whose predecessors in all its columns stand before
 pub record IsWoven (n : ℕ) (columns : List (List ℕ)) (woven : List ℕ) : Type 0 where

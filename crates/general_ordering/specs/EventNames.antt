@@ -1,6 +1,6 @@
 -- Where the names of events break a rule: an event is ordered with a name that no event of its level has, or has the name of an earlier one.
-use Rattle.std.specs.List.{list_any}
-use Rattle.std.specs.Prelude.{ℕ, Bool, true, false, ◌||◌, ◌&&◌, List, [], ◌∷◌, ◌++◌, Option, Some, None, nat_lt, if◌then◌else◌}
+use Rattle.std.specs.List.{flat_map, list_any}
+use Rattle.std.specs.Prelude.{ℕ, Bool, true, false, ◌||◌, ◌&&◌, List, [], ◌∷◌, Option, Some, None, nat_lt, if◌then◌else◌}
 use Rattle.msc_base.specs.Lists.{IsAmong}
 use Rattle.msc_base.specs.declared.place.Place.{Place}
 use Rattle.msc_meaning.specs.Bodies.{EventNode, Body}
@@ -18,8 +18,7 @@ is_none (n ∷ ns) = false
 
 -- one of the names has no event; named: the numbers of the events of a name
 abbrev pub names_none : (List ℕ → List ℕ) → List (List ℕ) → Bool
-names_none named [] = false
-names_none named (name ∷ names) = is_none (named name) || names_none named names
+names_none named names = list_any (λ name. is_none (named name)) names
 
 -- an event of that name has a lower number; events are numbered in the order of the text
 abbrev pub stands_before : List EventNode → List ℕ → ℕ → Bool
@@ -36,8 +35,7 @@ breaks Twice all n = is_named_before all n.event.order.event_name n.number
 
 -- the places of those of these events that pass a test
 abbrev pub places_where : (EventNode → Bool) → List EventNode → List Place
-places_where test [] = []
-places_where test (n ∷ ns) = (if test n then n.event.place ∷ [] else []) ++ places_where test ns
+places_where test ns = flat_map (λ n. (if test n then n.event.place ∷ [] else [])) ns
 
 -- the places of the events of a level that break the rule
 abbrev pub level_faults : EventNameRule → BodyLevel → List Place

@@ -6,6 +6,7 @@ use Rattle.std.specs.Map.{lookup}
 use Rattle.std.proofs.lemmas.Bool.{ltb-true, ltb-false}
 use Rattle.std.proofs.lemmas.List.{length_push, get_or_append_left, get_or_push}
 use Rattle.std.proofs.lemmas.Option.{slice_get-get_or, slice_get_within, get_or_from_slice_get, same_Some}
+use Rattle.msc_base.specs.Stored.{most_numbered}
 use Rattle.msc_base.specs.declared.label.Label.{Label}
 use Rattle.label_table.specs.declared.key.LabelKey.{LabelKey}
 use Rattle.label_table.specs.Keys.{TextNumbers, AreTextNumbers, KeepsNumbers, IsKey}
@@ -88,7 +89,7 @@ module _ (texts : TextNumbers) (keys : KeyNumbers) (labels : List Label) where
           let last : n ≡ length labels = omega (arith, within, longer, past) in
           inr (last, sym (get_or_push labels l m n (sym last)) ∙ there)
 
-  pub stored_push : (l : Label) (k : LabelKey) → IsKey texts l k → get key_order keys k ≡ Some (length labels) → length labels < 4294967295 → AreStored texts keys labels → AreStored texts keys (labels ++ l ∷ [])
+  pub stored_push : (l : Label) (k : LabelKey) → IsKey texts l k → get key_order keys k ≡ Some (length labels) → length labels < most_numbered → AreStored texts keys labels → AreStored texts keys (labels ++ l ∷ [])
   stored_push l k is at few stored = record {
     few = omega (arith, length_push labels l, few);
     numbers = stored.numbers;

@@ -2,6 +2,7 @@
 use Rattle.std.specs.Prelude.{ℕ, ◌≡◌, ◌≤◌, List, Some, length, slice_get}
 use Rattle.std.specs.BTreeMap.{BTreeMap, get}
 use Rattle.std.specs.declared.cmp.Ordering.{Ordering}
+use Rattle.msc_base.specs.Stored.{most_numbered}
 use Rattle.msc_base.specs.declared.label.Label.{Label}
 use Rattle.label_table.specs.Keys.{TextNumbers, AreTextNumbers, IsKey}
 use Rattle.label_table.specs.contracts.key.LabelKeyOrd.TheImpl as key_ord
@@ -23,6 +24,6 @@ pub record IsFound (texts : TextNumbers) (keys : KeyNumbers) (l : Label) (n : �
 
 -- there are as many labels as numbers of 32 bits, and each is found
 pub record AreStored (texts : TextNumbers) (keys : KeyNumbers) (labels : List Label) : Type 0 where
-  pub few : length labels ≤ 4294967295
+  pub few : length labels ≤ most_numbered
   pub numbers : AreTextNumbers texts
   pub found : (n : ℕ) (l : Label) → slice_get labels n ≡ Some l → IsFound texts keys l n

@@ -1,6 +1,7 @@
 //! The table of labels by number. term_tables holds one, and terms name labels by its numbers.
 
 ghost use Rattle.std.specs.Prelude.{◌≡◌, ◌<◌, ◌↔◌, ◌++◌, ◌∷◌, [], Contains, length, slice_get, Some, IfSome, IfNone, IfOk, OnOk, OnErr, IsTrue};
+ghost use Rattle.msc_base.specs.Stored.{most_numbered};
 ghost use Rattle.label_table.specs.Labels.{label_number};
 
 use crate::code::code_of;
@@ -104,7 +105,7 @@ impl LabelTable {
     /// Appends a label, and gives its number. After want of memory the table is as it was, and the
     /// label is dropped.
     pub fn add(&mut self, label: Label) -> Result<u32, NoMemory>
-        requires few { length self.old < 4294967295 }
+        requires few { length self.old < most_numbered }
         requires new { Contains self.old label → ⊥ }
         ensures number { IfOk result (λ number. number ≡ length self.old) }
         ensures ok { OnOk result (self.new ≡ self.old ++ label ∷ []) }

@@ -10,8 +10,8 @@ use Rattle.msc_meaning.specs.Pieces.{Piece, operand_of, operands_of}
 use Rattle.level_pieces.specs.ItemOperands.{AreAllWithin, HaveAtMost, IsWithin, operand_lists, operands_in, rest_operand, rests_operand}
 use Rattle.level_pieces.specs.ItemParts.{AreInColumns}
 use Rattle.level_pieces.specs.PieceViews.{piece_view, setting_column}
-use Rattle.level_pieces.specs.declared.pieces.Setting.{Setting}
-use Rattle.level_pieces.specs.declared.pieces.Setting.TheVariants as setting
+use Rattle.level_pieces.specs.declared.pieces.PieceSide.{PieceSide}
+use Rattle.level_pieces.specs.declared.pieces.PieceSide.TheVariants as setting
 use Rattle.level_pieces.specs.declared.operands.PartRest.{PartRest}
 use Rattle.level_pieces.specs.declared.pieces.Piece as code
 
@@ -50,7 +50,7 @@ pub columns_within : (outer : List (List ℕ)) (ps : List code.Piece) → AreInC
 columns_within outer [] h = tt
 columns_within outer (p ∷ ps) h = (by p.setting refl, columns_within outer ps h.1)
   where
-    by : (s : Setting) → p.setting ≡ s → IsWithin outer s
+    by : (s : PieceSide) → p.setting ≡ s → IsWithin outer s
     by (setting.InColumn name) e = tt
     by (setting.Behind names) e = tt
     by (setting.Inside names) e = absurd (h.0 (ap setting_column e))

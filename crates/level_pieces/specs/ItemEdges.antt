@@ -1,7 +1,7 @@
 -- Serves private contracts alone.
 -- Items as edges: each leads from the numbers of its columns to its own. A creation stands in the column of the child too, and first.
 use Rattle.std.specs.Prelude.{ℕ, List, [], ◌∷◌, ◌++◌, Option, Some, None, position, if◌then◌else◌}
-use Rattle.std.specs.List.{list_any}
+use Rattle.std.specs.List.{flat_map, list_any}
 use Rattle.std.specs.Str.{bytes_eq}
 use Rattle.column_order.specs.declared.edge.Edge.{Edge}
 use Rattle.msc_base.specs.NameTables.{with_name}
@@ -35,13 +35,11 @@ created_edges names _ item = []
 
 -- those of the creations
 abbrev pub creation_edges : List (List ℕ) → List Entry → List Edge
-creation_edges names [] = []
-creation_edges names (e ∷ es) = created_edges names e.piece.form e.item ++ creation_edges names es
+creation_edges names es = flat_map (λ e. created_edges names e.piece.form e.item) es
 
 -- those of the parts by themselves
 abbrev pub own_edges : List (List ℕ) → List Entry → List Edge
-own_edges names [] = []
-own_edges names (e ∷ es) = lead_edges names [] e.piece.leads e.item ++ own_edges names es
+own_edges names es = flat_map (λ e. lead_edges names [] e.piece.leads e.item) es
 
 -- creations first
 abbrev pub item_edges : List (List ℕ) → List Entry → List Edge

@@ -1,13 +1,14 @@
 -- The operands of an item: each is made of that of each of its parts.
-use Rattle.std.specs.Prelude.{◌≡◌, ◌≤◌, ⊤, ℕ, zero, suc, List, [], ◌∷◌, ◌++◌, length, map, Vec}
+use Rattle.std.specs.Prelude.{◌≡◌, ◌≤◌, ⊤, ℕ, zero, suc, List, [], ◌∷◌, length, map, Vec}
+use Rattle.std.specs.List.{flat_map}
 use Rattle.std.specs.Global.{Global}
 use Rattle.level_pieces.specs.PieceViews.{piece_view}
 use Rattle.level_pieces.specs.declared.operands.PartRest.{PartRest}
 use Rattle.level_pieces.specs.declared.pieces.LevelItem.{LevelItem}
 use Rattle.level_pieces.specs.declared.pieces.Piece as code
-use Rattle.level_pieces.specs.declared.pieces.Setting.{Setting}
-use Rattle.level_pieces.specs.declared.pieces.Setting.TheVariants as setting
-use Rattle.level_pieces.specs.declared.pieces.Setting.TheVariants.{Behind, Inside}
+use Rattle.level_pieces.specs.declared.pieces.PieceSide.{PieceSide}
+use Rattle.level_pieces.specs.declared.pieces.PieceSide.TheVariants as setting
+use Rattle.level_pieces.specs.declared.pieces.PieceSide.TheVariants.{Behind, Inside}
 use Rattle.msc_meaning.specs.Levels.{operand_number}
 use Rattle.msc_meaning.specs.Pieces.{Piece, operand_at, operands_of}
 use Rattle.msc_tree.specs.Statements.{Form, Inline, Operands, no_operands, operands}
@@ -20,7 +21,7 @@ operands_in _ = no_operands
 -- ---- parts behind `all`
 
 -- what stands behind `all` has these instances left of the colon
-abbrev pub IsWithin : List (List ℕ) → Setting → Type 0
+abbrev pub IsWithin : List (List ℕ) → PieceSide → Type 0
 IsWithin outer (Inside names) = names.now ≡ outer
 IsWithin outer (setting.InColumn name) = ⊤
 IsWithin outer (Behind names) = ⊤
@@ -39,8 +40,7 @@ abbrev pub rest_operand : List (List ℕ) → ℕ → PartRest → List Piece
 rest_operand cover k r = operand_at cover (piece_view r.piece) r.next k (operands (map operand_view r.operands.now))
 
 abbrev pub rests_operand : List (List ℕ) → ℕ → List PartRest → List Piece
-rests_operand cover k [] = []
-rests_operand cover k (r ∷ rs) = rest_operand cover k r ++ rests_operand cover k rs
+rests_operand cover k rs = flat_map (rest_operand cover k) rs
 
 -- ---- all operands
 

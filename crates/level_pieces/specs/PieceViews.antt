@@ -3,18 +3,18 @@ use Rattle.std.specs.Prelude.{ℕ, List, [], ◌∷◌, map, Option, Some, None}
 use Rattle.level_pieces.specs.declared.pieces.LevelItem.{LevelItem}
 use Rattle.level_pieces.specs.declared.pieces.Part.{Part}
 use Rattle.level_pieces.specs.declared.pieces.Piece.{Piece}
-use Rattle.level_pieces.specs.declared.pieces.Setting.{Setting}
-use Rattle.level_pieces.specs.declared.pieces.Setting.TheVariants.{InColumn, Behind, Inside}
+use Rattle.level_pieces.specs.declared.pieces.PieceSide.{PieceSide}
+use Rattle.level_pieces.specs.declared.pieces.PieceSide.TheVariants.{InColumn, Behind, Inside}
 use Rattle.msc_meaning.specs.LevelItems.{Entry}
 use Rattle.msc_meaning.specs.Pieces as plain
 use Rattle.msc_tree.specs.Views.{form_view}
 
-abbrev pub setting_column : Setting → Option (List ℕ)
+abbrev pub setting_column : PieceSide → Option (List ℕ)
 setting_column (InColumn name) = Some name.now
 setting_column (Behind names) = None
 setting_column (Inside names) = None
 
-abbrev pub setting_leads : Setting → List (List ℕ)
+abbrev pub setting_leads : PieceSide → List (List ℕ)
 setting_leads (InColumn name) = name.now ∷ []
 setting_leads (Behind names) = names.now
 setting_leads (Inside names) = names.now

@@ -12,7 +12,7 @@ ghost use Rattle.msc_base.specs.declared.label.Kind.TheVariants.{Create};
 ghost use Rattle.msc_tree.specs.Views.{form_view};
 
 use crate::column_table::ColumnTable;
-use crate::pieces::{Part, Setting};
+use crate::pieces::{Part, PieceSide};
 use column_order::{Edge, Sorted, weave_entries};
 use msc_base::{Kind, Name, NameTable, NoMemory, number_of};
 use msc_tree::{RawForm, Target};
@@ -65,15 +65,15 @@ fn push_item(
     alloc: Global,
     edges: &mut Vec<Edge>,
     table: &ColumnTable<'_>,
-    setting: Setting<'_, '_>,
+    setting: PieceSide<'_, '_>,
     item: u32,
 ) -> Result<(), NoMemory>
     ensures { OnOk result (edges.new.items ≡ edges.old.items ++ lead_edges table.now [] (setting_leads setting.entry) item) }
 {
     match setting {
-        Setting::InColumn(name) => push_edge(edges, table, name, item),
-        Setting::Behind(names) => push_leads(alloc, edges, table, names.as_slice(), item),
-        Setting::Inside(names) => push_leads(alloc, edges, table, names.as_slice(), item),
+        PieceSide::InColumn(name) => push_edge(edges, table, name, item),
+        PieceSide::Behind(names) => push_leads(alloc, edges, table, names.as_slice(), item),
+        PieceSide::Inside(names) => push_leads(alloc, edges, table, names.as_slice(), item),
     }
 }
 

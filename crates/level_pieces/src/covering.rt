@@ -10,7 +10,7 @@ ghost use Rattle.msc_tree.specs.Views.{form_view};
 
 use crate::covers::covered;
 use crate::operands::LevelNames;
-use crate::pieces::{Piece, Setting};
+use crate::pieces::{Piece, PieceSide};
 use msc_base::{Items, Names, NoMemory, copy_names};
 use msc_tree::RawForm;
 use std::alloc::Global;
@@ -38,11 +38,11 @@ pub fn item_cover(alloc: Global, level: &Names, piece: Piece<'_, '_>) -> Result<
 }
 
 /// What the level behind whose `all` a piece stands covers, where it does.
-fn outer_names(alloc: Global, setting: Setting<'_, '_>) -> Result<Names, NoMemory>
+fn outer_names(alloc: Global, setting: PieceSide<'_, '_>) -> Result<Names, NoMemory>
     ensures { IfOk result (λ outer. IsWithin outer setting.entry) }
 {
     match setting {
-        Setting::Inside(names) => copy_names(alloc, names.as_slice()),
+        PieceSide::Inside(names) => copy_names(alloc, names.as_slice()),
         _ => Ok(Items::new(alloc)),
     }
 }

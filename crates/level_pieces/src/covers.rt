@@ -4,7 +4,7 @@ ghost use Rattle.std.specs.Prelude.{◌≡◌, ◌++◌, ◌∷◌, [], IfOk, On
 ghost use Rattle.level_pieces.specs.PieceViews.{setting_column, setting_leads};
 ghost use Rattle.msc_meaning.specs.LevelItems.{cover_by, within};
 
-use crate::pieces::Setting;
+use crate::pieces::PieceSide;
 use msc_base::{Items, Name, NameTable, Names, NoMemory, copy_names};
 use msc_tree::Cover;
 use std::alloc::Global;
@@ -44,15 +44,15 @@ fn those_within(alloc: Global, level: &[Name], names: &[Name]) -> Result<Names, 
 pub fn covered(
     alloc: Global,
     level: &Names,
-    setting: Setting<'_, '_>,
+    setting: PieceSide<'_, '_>,
     shared: &Option<Cover>,
 ) -> Result<Names, NoMemory>
     ensures { IfOk result (λ cover. cover ≡ cover_by level.now (setting_leads setting.entry) (setting_column setting.entry) shared.now) }
 {
     let own = match setting {
-        Setting::Behind(names) => return those_within(alloc, level.as_slice(), names.as_slice()),
-        Setting::Inside(names) => return those_within(alloc, level.as_slice(), names.as_slice()),
-        Setting::InColumn(name) => name,
+        PieceSide::Behind(names) => return those_within(alloc, level.as_slice(), names.as_slice()),
+        PieceSide::Inside(names) => return those_within(alloc, level.as_slice(), names.as_slice()),
+        PieceSide::InColumn(name) => name,
     };
     match shared {
         None => only(alloc, own),

@@ -21,4 +21,4 @@ pub use covers::covered;
 pub use items::{LevelItems, copied_events_of, copied_reference, level_items};
 pub use noting::earlier_of;
 pub use operands::{LevelNames, item_operands, operands_of_form};
-pub use pieces::{LevelItem, Part, Piece, Setting, chart_pieces, lead_of};
+pub use pieces::{LevelItem, Part, Piece, PieceSide, chart_pieces, lead_of};

@@ -8,7 +8,7 @@ ghost use Rattle.msc_meaning.specs.LevelItems.{name_of, number_in, with_piece};
 ghost use Rattle.msc_meaning.specs.Pieces as plain;
 ghost use Rattle.msc_tree.specs.Views.{form_view};
 
-use crate::pieces::{LevelItem, Piece, Setting};
+use crate::pieces::{LevelItem, Piece, PieceSide};
 use msc_base::{Name, NameTable, NoMemory, number_of};
 use msc_tree::RawForm;
 use std::alloc::Global;
@@ -51,9 +51,9 @@ fn joint_name<'a, 'n>(piece: Piece<'a, 'n>) -> Option<&'a Name>
     ensures { option_copied result ≡ joint_name (piece_view piece.entry) }
 {
     match piece.setting {
-        Setting::InColumn(_) => name_of(piece.form),
-        Setting::Behind(_) => None,
-        Setting::Inside(_) => None,
+        PieceSide::InColumn(_) => name_of(piece.form),
+        PieceSide::Behind(_) => None,
+        PieceSide::Inside(_) => None,
     }
 }
 

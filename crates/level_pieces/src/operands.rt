@@ -7,7 +7,7 @@ ghost use Rattle.msc_meaning.specs.Pieces.{operand_of, operands_of};
 ghost use Rattle.msc_tree.specs.Statements.{operands as operand_tree};
 ghost use Rattle.msc_tree.specs.Views.{form_view, operand_view};
 
-use crate::pieces::{LevelItem, Piece, Setting, push_operand};
+use crate::pieces::{LevelItem, Piece, PieceSide, push_operand};
 use msc_base::{Names, NoMemory};
 use msc_tree::{RawForm, RawOperand};
 use std::alloc::Global;
@@ -51,15 +51,15 @@ pub struct LevelNames {
 }
 
 /// The same place, by these names.
-fn setting_within<'a, 'n>(setting: Setting<'a, '_>, names: &'n LevelNames) -> Setting<'a, 'n>
+fn setting_within<'a, 'n>(setting: PieceSide<'a, '_>, names: &'n LevelNames) -> PieceSide<'a, 'n>
     requires { IsWithin names.now.outer setting }
     ensures column { setting_column result ≡ setting_column setting.entry }
     ensures leads { setting_leads result ≡ setting_leads setting.entry }
 {
     match setting {
-        Setting::InColumn(name) => Setting::InColumn(name),
-        Setting::Behind(listed) => Setting::Behind(listed),
-        Setting::Inside(_) => Setting::Inside(&names.outer),
+        PieceSide::InColumn(name) => PieceSide::InColumn(name),
+        PieceSide::Behind(listed) => PieceSide::Behind(listed),
+        PieceSide::Inside(_) => PieceSide::Inside(&names.outer),
     }
 }
 

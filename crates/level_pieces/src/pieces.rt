@@ -14,7 +14,7 @@ use std::slice;
 
 /// Where a piece stands on its level.
 #[derive(Clone, Copy)]
-pub enum Setting<'a, 'n> {
+pub enum PieceSide<'a, 'n> {
     /// In the column of that instance.
     InColumn(&'a Name),
     /// Behind a colon, with these instances left of it.
@@ -27,7 +27,7 @@ pub enum Setting<'a, 'n> {
 #[derive(Clone, Copy)]
 pub struct Piece<'a, 'n> {
     /// Where it stands on the level.
-    pub setting: Setting<'a, 'n>,
+    pub setting: PieceSide<'a, 'n>,
     /// Where it stands in the text.
     pub place: Place,
     /// What it is.
@@ -67,27 +67,27 @@ pub fn lead_of<'a>(piece: Piece<'a, 'a>) -> Option<&'a Name>
     ensures { option_copied result ≡ slice_get (piece_view piece.entry).leads 0 }
 {
     match piece.setting {
-        Setting::InColumn(name) => Some(name),
-        Setting::Behind(names) => names.as_slice().first(),
-        Setting::Inside(names) => names.as_slice().first(),
+        PieceSide::InColumn(name) => Some(name),
+        PieceSide::Behind(names) => names.as_slice().first(),
+        PieceSide::Inside(names) => names.as_slice().first(),
     }
 }
 
 /// Where a piece behind a colon stands; `all` is what the level covers.
-fn behind<'a, 'n>(level: &'n Names, cover: &'a Cover) -> Setting<'a, 'n>
+fn behind<'a, 'n>(level: &'n Names, cover: &'a Cover) -> PieceSide<'a, 'n>
     ensures column { setting_column result ≡ None }
     ensures leads { setting_leads result ≡ covered level.now cover.now }
 {
     match cover {
-        Cover::All => Setting::Inside(level),
-        Cover::Listed(names) => Setting::Behind(names),
+        Cover::All => PieceSide::Inside(level),
+        Cover::Listed(names) => PieceSide::Behind(names),
     }
 }
 
 /// Adds the pieces of items, whose events are numbered from `first` on, and gives the number behind them.
 fn items<'a, 'n>(
     pieces: &mut Vec<Piece<'a, 'n>>,
-    setting: Setting<'a, 'n>,
+    setting: PieceSide<'a, 'n>,
     first: u32,
     list: &'a [RawItem],
 ) -> Result<u32, NoMemory>
@@ -123,7 +123,7 @@ fn statement<'a, 'n>(
         Statement::Column(decl, list) => {
             items(
                 pieces,
-                Setting::InColumn(&decl.decl().name),
+                PieceSide::InColumn(&decl.decl().name),
                 first,
                 list.as_slice(),
             )

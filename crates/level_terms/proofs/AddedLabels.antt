@@ -3,6 +3,7 @@ use Rattle.std.specs.List.{slice_get}
 use Rattle.std.specs.Prelude.{ℕ, ◌+◌, ◌≤◌, List, [], ◌∷◌, ◌++◌, Some, drop, length, map}
 use Rattle.std.proofs.Common.{◌≡◌, refl, sym, ◌∙◌, subst, ap, arith, length-append}
 use Rattle.std.proofs.lemmas.List.{map-append}
+use Rattle.msc_base.specs.Stored.{most_numbered}
 use Rattle.chart_forms.specs.BodyItems.{levels_events}
 use Rattle.msc_base.specs.declared.label.Label.{Label}
 use Rattle.term_tables.specs.NetValues.{NetsValue}
@@ -25,7 +26,7 @@ use Rattle.level_terms.proofs.Growing.{nets_on, nets_same}
 pub record IsAdding (v w : NetsValue) (whole left : List EventNode) : Type 0 where
   pub rest : with_labels w.labels (map written_label left) ≡ with_labels v.labels (map written_label whole)
   pub grown : IsGrown v w
-  pub room : length w.labels + length left ≤ 4294967295
+  pub room : length w.labels + length left ≤ most_numbered
 
 with_both : (t xs ys : List Label) → with_labels t (xs ++ ys) ≡ with_labels (with_labels t xs) ys
 with_both t [] ys = refl
@@ -52,10 +53,10 @@ added v w x whole es fs h e g = record {
     labels = ap (λ (y : NetsValue). y.labels) e
 
 -- there is room for them
-room_for : (v w : NetsValue) (whole es fs : List EventNode) → IsAdding v w whole (es ++ fs) → length w.labels + length es ≤ 4294967295
+room_for : (v w : NetsValue) (whole es fs : List EventNode) → IsAdding v w whole (es ++ fs) → length w.labels + length es ≤ most_numbered
 room_for v w whole es fs h = omega (arith, length-append es fs, h.room)
 
-pub adding_start : (v : NetsValue) (whole : List EventNode) → length v.labels + length whole ≤ 4294967295 → IsAdding v v whole whole
+pub adding_start : (v : NetsValue) (whole : List EventNode) → length v.labels + length whole ≤ most_numbered → IsAdding v v whole whole
 adding_start v whole l = record { rest = refl; grown = nets_same v; room = l }
 
 pub adding_end : (v w : NetsValue) (whole : List EventNode) → IsAdding v w whole [] → w ≡ record v { labels = with_labels v.labels (map written_label whole) }
@@ -68,7 +69,7 @@ module _ (u v : NetsValue) (whole : List EventNode) where
     event_next : IsAdding u v whole ((node_view n ∷ []) ++ map node_view (drop (i + 1) ns))
     event_next = subst (λ (ms : List rust_event.EventNode). IsAdding u v whole (map node_view ms)) (drop_less ns i (i + 1) n at refl) h
 
-    pub event_room : length v.labels + 1 ≤ 4294967295
+    pub event_room : length v.labels + 1 ≤ most_numbered
     event_room = room_for u v whole (node_view n ∷ []) (map node_view (drop (i + 1) ns)) event_next
 
     pub event_added : (w : NetsValue) → w ≡ record v { labels = with_label v.labels (written_label (node_view n)) } → IsGrown v w → IsAdding u w whole (map node_view (drop (i + 1) ns))
@@ -78,7 +79,7 @@ module _ (u v : NetsValue) (whole : List EventNode) where
     item_next : IsAdding u v whole (item_events (item_view x) ++ events (items_view (drop (i + 1) xs)))
     item_next = subst (λ (ys : List rust_item.Item). IsAdding u v whole (events (items_view ys))) (drop_less xs i (i + 1) x at refl) h
 
-    pub item_room : length v.labels + length (item_events (item_view x)) ≤ 4294967295
+    pub item_room : length v.labels + length (item_events (item_view x)) ≤ most_numbered
     item_room = room_for u v whole (item_events (item_view x)) (events (items_view (drop (i + 1) xs))) item_next
 
     pub item_added : (w : NetsValue) → w ≡ record v { labels = with_labels v.labels (map written_label (item_events (item_view x))) } → IsGrown v w → IsAdding u w whole (events (items_view (drop (i + 1) xs)))
@@ -88,7 +89,7 @@ module _ (u v : NetsValue) (whole : List EventNode) where
     level_next : IsAdding u v whole (level_events (level_view l).body ++ levels_events (levels_view (drop (i + 1) ls)))
     level_next = subst (λ (ks : List rust_level.BodyLevel). IsAdding u v whole (levels_events (levels_view ks))) (drop_less ls i (i + 1) l at refl) h
 
-    pub level_room : length v.labels + length (level_events (level_view l).body) ≤ 4294967295
+    pub level_room : length v.labels + length (level_events (level_view l).body) ≤ most_numbered
     level_room = room_for u v whole (level_events (level_view l).body) (levels_events (levels_view (drop (i + 1) ls))) level_next
 
     pub level_added : (w : NetsValue) → w ≡ record v { labels = with_labels v.labels (map written_label (level_events (level_view l).body)) } → IsGrown v w → IsAdding u w whole (levels_events (levels_view (drop (i + 1) ls)))

@@ -1,5 +1,5 @@
 -- What the functions that make the terms of levels say of what they make.
-use Rattle.std.specs.Prelude.{ℕ, Bool, ◌≡◌, List, [], ◌∷◌, Option, Some, ◌++◌}
+use Rattle.std.specs.Prelude.{ℕ, Bool, ◌≡◌, List, [], ◌∷◌, Option, Some, ◌++◌, map}
 use Rattle.msc_base.specs.declared.label.Pair.{Pair}
 use Rattle.msc_base.specs.Orders.{Once}
 use Rattle.msc_unfolding.specs.Unfoldings.{Own, Unfolding}
@@ -33,8 +33,7 @@ pub record IsGrown (v w : NetsValue) : Type 0 where
 
 -- the numbers of events in a term, each with the number that the event has in its chart
 abbrev pub own_shown : List Pair → Shown
-own_shown [] = []
-own_shown (p ∷ ps) = (p.first, Own p.second) ∷ own_shown ps
+own_shown ps = map (λ p. (p.first, Own p.second)) ps
 
 -- the term means these unfoldings, whatever stands around; its events have the numbers from lo on below hi
 pub record IsMade (v : NetsValue) (names : List (List ℕ)) (lo hi : ℕ) (shown : List Pair) (x : Tree) (U : Table → Gates → Around → Unfolding → Type 0) : Type 0 where

@@ -1,6 +1,7 @@
 -- The numbers of the events of a level in its term, and the pairs of numbers that its message pairs come to. The events of a body are
 -- numbered from the last to the first, here from n on.
-use Rattle.std.specs.Prelude.{ℕ, ◌+◌, ◌==◌, Bool, true, false, List, [], ◌∷◌, ◌++◌, length}
+use Rattle.std.specs.Prelude.{ℕ, ◌+◌, ◌==◌, Bool, true, false, List, [], ◌∷◌, ◌++◌, length, map}
+use Rattle.std.specs.List.{flat_map}
 use Rattle.msc_base.specs.declared.label.Pair.{Pair}
 use Rattle.msc_meaning.specs.Bodies.{EventNode, WovenItems, no_items, item_and, WovenItem, Single, Coregion, Inline, Refer}
 use Rattle.chart_forms.specs.BuiltBodies.{events_count}
@@ -37,15 +38,12 @@ numbers_of k (p ∷ ps) = number_if (p.second == k) p.first (numbers_of k ps)
 
 -- the number before each of those
 abbrev pub pairs_with : ℕ → List ℕ → List (ℕ × ℕ)
-pairs_with m [] = []
-pairs_with m (n ∷ ns) = (m, n) ∷ pairs_with m ns
+pairs_with m ns = map (λ n. (m, n)) ns
 
 -- each of these before each of those
 abbrev pub pairs_between : List ℕ → List ℕ → List (ℕ × ℕ)
-pairs_between [] ns = []
-pairs_between (m ∷ ms) ns = pairs_with m ns ++ pairs_between ms ns
+pairs_between ms ns = flat_map (λ m. pairs_with m ns) ms
 
 -- the pairs of a level in their order, each end by its number
 abbrev pub tie_pairs : List Pair → List Pair → List (ℕ × ℕ)
-tie_pairs shown [] = []
-tie_pairs shown (t ∷ ts) = pairs_between (numbers_of t.first shown) (numbers_of t.second shown) ++ tie_pairs shown ts
+tie_pairs shown ts = flat_map (λ t. pairs_between (numbers_of t.first shown) (numbers_of t.second shown)) ts

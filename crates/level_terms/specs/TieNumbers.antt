@@ -1,6 +1,7 @@
 -- Serves private contracts alone.
 -- The numbers of the events of a level in its term, found by the numbers that they have in their chart.
-use Rattle.std.specs.Prelude.{ℕ, ◌≡◌, ◌++◌, List, [], ◌∷◌, Option, Some, None}
+use Rattle.std.specs.Prelude.{ℕ, ◌≡◌, List, [], ◌∷◌, Option, Some, None}
+use Rattle.std.specs.List.{flat_map}
 use Rattle.msc_base.specs.declared.label.Pair.{Pair}
 use Rattle.level_terms.specs.ShownNumbers.{numbers_of}
 
@@ -20,5 +21,4 @@ found_pair None o = []
 
 -- the pairs of numbers of the pairs of events, as far as they are found
 abbrev pub found_pairs : (ℕ → Option ℕ) → List Pair → List (ℕ × ℕ)
-found_pairs number [] = []
-found_pairs number (t ∷ ts) = found_pair (number t.first) (number t.second) ++ found_pairs number ts
+found_pairs number ts = flat_map (λ t. found_pair (number t.first) (number t.second)) ts

@@ -1,6 +1,7 @@
 //! The terms of events and coregions: for `levels`.
 
 ghost use Rattle.std.specs.Prelude.{◌≡◌, ◌<◌, ◌≤◌, ◌+◌, ◌∷◌, [], true, length, IfOk, map};
+ghost use Rattle.msc_base.specs.Stored.{most_numbered};
 ghost use Rattle.msc_base.specs.declared.limits.TheConstants.Limits.{INSTANCES};
 ghost use Rattle.msc_meaning.specs.EventLabels.{written_label};
 ghost use Rattle.msc_meaning.specs.Views.{node_view};
@@ -31,7 +32,7 @@ pub(crate) fn event_of(
     requires few { length names.now ≤ INSTANCES }
     requires built { is_built_node names.now (node_view node.now) ≡ true }
     requires labelled { HasLabels nets.now.labels (written_label (node_view node.now) ∷ []) }
-    requires room { next < 4294967295 }
+    requires room { next < most_numbered }
     ensures next { IfOk result (λ made. made.next ≡ next + 1) }
     ensures part { IfOk result (λ made. IsPart (event_term names.now nets.now.labels next (node_view node.now)) (shows next node.now.number ∷ []) made) }
 {
@@ -62,7 +63,7 @@ pub(crate) fn coregion_of(
     requires few { length names.now ≤ INSTANCES }
     requires built { are_built_nodes names.now (map node_view nodes.now) ≡ true }
     requires labelled { HasLabels nets.now.labels (map written_label (map node_view nodes.now)) }
-    requires room { next + length nodes.now ≤ 4294967295 }
+    requires room { next + length nodes.now ≤ most_numbered }
     ensures next { IfOk result (λ made. made.next ≡ next + length nodes.now) }
     ensures part { IfOk result (λ made. IsPart (coregion_term names.now nets.now.labels next (map node_view nodes.now)) (shown_events next (map node_view nodes.now)) made) }
 {

@@ -1,6 +1,7 @@
 //! The labels of the events of a body, each once, level by level.
 
 ghost use Rattle.std.specs.Prelude.{◌≡◌, ◌<◌, ◌≤◌, ◌+◌, length, map, IfOk, OnOk, OnErr};
+ghost use Rattle.msc_base.specs.Stored.{most_numbered};
 ghost use Rattle.chart_forms.specs.BodyItems.{levels_events};
 ghost use Rattle.chart_forms.specs.BuiltBodies.{event_count};
 ghost use Rattle.msc_meaning.specs.Bodies.{events, item_events};
@@ -31,7 +32,7 @@ pub(crate) fn written_label(alloc: Global, node: &EventNode) -> Result<Label, No
 /// Adds a label where it is new. After want of memory the tables are as they were.
 #[tactic(auto, using(crate::proofs::LabelFacts::labelling))]
 fn add_label(alloc: Global, nets: &mut Nets, label: &Label) -> Result<(), NoMemory>
-    requires { length nets.old.labels < 4294967295 }
+    requires { length nets.old.labels < most_numbered }
     ensures ok { OnOk result (nets.new ≡ record nets.old { labels = with_label nets.old.labels label.now }) }
     ensures err { OnErr result (nets.new ≡ nets.old) }
 {
@@ -47,7 +48,7 @@ fn add_label(alloc: Global, nets: &mut Nets, label: &Label) -> Result<(), NoMemo
 
 /// Adds the label of an event where it is new.
 fn add_of_event(alloc: Global, nets: &mut Nets, node: &EventNode) -> Result<(), NoMemory>
-    requires { length nets.old.labels < 4294967295 }
+    requires { length nets.old.labels < most_numbered }
     ensures added { OnOk result (nets.new ≡ record nets.old { labels = with_label nets.old.labels (written_label (node_view node.now)) }) }
     ensures grown { IsGrown nets.old nets.new }
 {
@@ -58,7 +59,7 @@ fn add_of_event(alloc: Global, nets: &mut Nets, node: &EventNode) -> Result<(), 
 
 /// Adds the labels of events.
 fn add_of_events(alloc: Global, nets: &mut Nets, nodes: &[EventNode]) -> Result<(), NoMemory>
-    requires { length nets.old.labels + length nodes.now ≤ 4294967295 }
+    requires { length nets.old.labels + length nodes.now ≤ most_numbered }
     ensures added { OnOk result (nets.new ≡ record nets.old { labels = with_labels nets.old.labels (map written_label (map node_view nodes.now)) }) }
     ensures grown { IsGrown nets.old nets.new }
 {
@@ -70,7 +71,7 @@ fn add_of_events(alloc: Global, nets: &mut Nets, nodes: &[EventNode]) -> Result<
 
 /// Adds those of an item's own events.
 fn add_of_item(alloc: Global, nets: &mut Nets, item: &Item) -> Result<(), NoMemory>
-    requires { length nets.old.labels + length (item_events (item_view item.now)) ≤ 4294967295 }
+    requires { length nets.old.labels + length (item_events (item_view item.now)) ≤ most_numbered }
     ensures added { OnOk result (nets.new ≡ record nets.old { labels = with_labels nets.old.labels (map written_label (item_events (item_view item.now))) }) }
     ensures grown { IsGrown nets.old nets.new }
 {
@@ -84,7 +85,7 @@ fn add_of_item(alloc: Global, nets: &mut Nets, item: &Item) -> Result<(), NoMemo
 
 /// Adds those of the events of a level with these items.
 fn add_of_items(alloc: Global, nets: &mut Nets, items: &[Item]) -> Result<(), NoMemory>
-    requires { length nets.old.labels + length (events (items_view items.now)) ≤ 4294967295 }
+    requires { length nets.old.labels + length (events (items_view items.now)) ≤ most_numbered }
     ensures added { OnOk result (nets.new ≡ record nets.old { labels = with_labels nets.old.labels (map written_label (events (items_view items.now))) }) }
     ensures grown { IsGrown nets.old nets.new }
 {
@@ -96,7 +97,7 @@ fn add_of_items(alloc: Global, nets: &mut Nets, items: &[Item]) -> Result<(), No
 
 /// Adds those of the events of a level.
 fn add_of_level(alloc: Global, nets: &mut Nets, level: BodyLevel<'_>) -> Result<(), NoMemory>
-    requires { length nets.old.labels + length (level_events (body_view level.body.now)) ≤ 4294967295 }
+    requires { length nets.old.labels + length (level_events (body_view level.body.now)) ≤ most_numbered }
     ensures added { OnOk result (nets.new ≡ record nets.old { labels = with_labels nets.old.labels (map written_label (level_events (level_view level.entry).body)) }) }
     ensures grown { IsGrown nets.old nets.new }
 {
@@ -105,7 +106,7 @@ fn add_of_level(alloc: Global, nets: &mut Nets, level: BodyLevel<'_>) -> Result<
 
 /// Adds those of the events of levels.
 fn add_of_levels(alloc: Global, nets: &mut Nets, levels: &[BodyLevel<'_>]) -> Result<(), NoMemory>
-    requires { length nets.old.labels + length (levels_events (levels_view levels.now)) ≤ 4294967295 }
+    requires { length nets.old.labels + length (levels_events (levels_view levels.now)) ≤ most_numbered }
     ensures added { OnOk result (nets.new ≡ record nets.old { labels = with_labels nets.old.labels (map written_label (levels_events (levels_view levels.now))) }) }
     ensures grown { IsGrown nets.old nets.new }
 {
@@ -117,7 +118,7 @@ fn add_of_levels(alloc: Global, nets: &mut Nets, levels: &[BodyLevel<'_>]) -> Re
 
 /// Adds the labels of the events of the body, level by level, each where it is new. After want of memory some of them may be there.
 pub fn add_labels(alloc: Global, nets: &mut Nets, body: &Body) -> Result<(), NoMemory>
-    requires { length nets.old.labels + event_count (body_view body.now) ≤ 4294967295 }
+    requires { length nets.old.labels + event_count (body_view body.now) ≤ most_numbered }
     ensures added { OnOk result (nets.new ≡ body_tables nets.old (body_view body.now)) }
     ensures grown { IsGrown nets.old nets.new }
 {

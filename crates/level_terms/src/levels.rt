@@ -1,6 +1,7 @@
 //! The terms of levels, with their items and inline expressions.
 
 ghost use Rattle.std.specs.Prelude.{ℕ, ◌≡◌, ◌<◌, ◌≤◌, ◌+◌, true, length, IfOk, []};
+ghost use Rattle.msc_base.specs.Stored.{most_numbered};
 ghost use Rattle.msc_base.specs.declared.limits.TheConstants.Limits.{INSTANCES};
 ghost use Rattle.msc_meaning.specs.ChartUnfoldings.{OfLevel};
 ghost use Rattle.msc_meaning.specs.Views.{body_view, item_view};
@@ -44,7 +45,7 @@ pub fn level_of(
     requires few { length names.now ≤ INSTANCES }
     requires built { is_built names.now (body_view body.now) ≡ true }
     requires labelled { HasLabels nets.now.labels (body_labels (body_view body.now)) }
-    requires room { next + event_count (body_view body.now) ≤ 4294967295 }
+    requires room { next + event_count (body_view body.now) ≤ most_numbered }
     ensures next { IfOk result (λ made. made.next ≡ next + event_count (body_view body.now)) }
     ensures part { IfOk result (λ made. IsPart (level_term names.now nets.now.labels next (body_view body.now)) [] made) }
     ensures made { IfOk result (λ made. IsMade nets.now names.now next made.next made.shown made.term (λ t g a. OfLevel t a (body_view body.now))) }
@@ -68,7 +69,7 @@ fn tied_level(
     requires few { length names.now ≤ INSTANCES }
     requires built { is_built names.now (body_view body.now) ≡ true }
     requires labelled { HasLabels nets.now.labels (body_labels (body_view body.now)) }
-    requires room { next + event_count (body_view body.now) ≤ 4294967295 }
+    requires room { next + event_count (body_view body.now) ≤ most_numbered }
     ensures next { IfOk result (λ made. made.next ≡ next + event_count (body_view body.now)) }
     ensures part { IfOk result (λ made. IsPart (level_term names.now nets.now.labels next (body_view body.now)) [] made) }
 {
@@ -90,7 +91,7 @@ fn items_of(
     requires few { length names.now ≤ INSTANCES }
     requires built { are_built names.now (items_view items.now.items) ≡ true }
     requires labelled { HasLabels nets.now.labels (items_labels (items_view items.now.items)) }
-    requires room { next + events_count (items_view items.now.items) ≤ 4294967295 }
+    requires room { next + events_count (items_view items.now.items) ≤ most_numbered }
     ensures next { IfOk result (λ made. made.next ≡ next + events_count (items_view items.now.items)) }
     ensures part { IfOk result (λ made. IsPart (items_term names.now nets.now.labels next (items_view items.now.items)) (shown_items next (items_view items.now.items)) made) }
 {
@@ -117,7 +118,7 @@ fn item_of(
     requires few { length names.now ≤ INSTANCES }
     requires built { is_built_item names.now (item_view item.now) ≡ true }
     requires labelled { HasLabels nets.now.labels (item_labels (item_view item.now)) }
-    requires room { next + item_count (item_view item.now) ≤ 4294967295 }
+    requires room { next + item_count (item_view item.now) ≤ most_numbered }
     ensures next { IfOk result (λ made. made.next ≡ next + item_count (item_view item.now)) }
     ensures part { IfOk result (λ made. IsPart (item_term names.now nets.now.labels next (item_view item.now)) (shown_item next (item_view item.now)) made) }
 {
@@ -150,7 +151,7 @@ fn inline_of(
     requires few { length names.now ≤ INSTANCES }
     requires built { is_built_item names.now (inline_view inline.now) ≡ true }
     requires labelled { HasLabels nets.now.labels (item_labels (inline_view inline.now)) }
-    requires room { next + item_count (inline_view inline.now) ≤ 4294967295 }
+    requires room { next + item_count (inline_view inline.now) ≤ most_numbered }
     ensures next { IfOk result (λ made. made.next ≡ next + item_count (inline_view inline.now)) }
     ensures part { IfOk result (λ made. IsPart (item_term names.now nets.now.labels next (inline_view inline.now)) [] made) }
 {
@@ -194,7 +195,7 @@ fn some_of(
     requires few { length names.now ≤ INSTANCES }
     requires built { have_built names.now (bodies_view operands.now.items) ≡ true }
     requires labelled { HasLabels nets.now.labels (operands_labels (bodies_view operands.now.items)) }
-    requires room { next + operands_count (bodies_view operands.now.items) ≤ 4294967295 }
+    requires room { next + operands_count (bodies_view operands.now.items) ≤ most_numbered }
     ensures next { IfOk result (λ made. made.next ≡ next + operands_count (bodies_view operands.now.items)) }
     ensures part { IfOk result (λ made. IsPart (one_of (operand_terms names.now nets.now.labels next (bodies_view operands.now.items))) [] made) }
 {
@@ -229,7 +230,7 @@ fn all_of(
     requires few { length names.now ≤ INSTANCES }
     requires built { have_built names.now (bodies_view operands.now.items) ≡ true }
     requires labelled { HasLabels nets.now.labels (operands_labels (bodies_view operands.now.items)) }
-    requires room { next + operands_count (bodies_view operands.now.items) ≤ 4294967295 }
+    requires room { next + operands_count (bodies_view operands.now.items) ≤ most_numbered }
     ensures next { IfOk result (λ made. made.next ≡ next + operands_count (bodies_view operands.now.items)) }
     ensures part { IfOk result (λ made. IsPart (parallel_term names.now nets.now.labels next (bodies_view operands.now.items)) [] made) }
 {

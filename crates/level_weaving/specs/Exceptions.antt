@@ -1,6 +1,7 @@
 -- Where exceptions may not stand: inside an operand, and at the outermost level where they don't cover all instances.
-use Rattle.std.specs.Prelude.{◌&&◌, ℕ, Bool, true, false, not, List, [], ◌∷◌, ◌++◌, nat_eq}
-use Rattle.chart_text.specs.Gathering.{gathered, place_if}
+use Rattle.std.specs.Prelude.{◌&&◌, ℕ, Bool, true, false, not, List, [], ◌++◌, nat_eq}
+use Rattle.std.specs.List.{flat_map, list_all}
+use Rattle.chart_text.specs.Gathering.{place_if}
 use Rattle.chart_text.specs.Texts.{Passage, a_head, a_statement, an_item, an_operand, chart_text}
 use Rattle.msc_base.specs.Lists.{IsAmong}
 use Rattle.msc_base.specs.declared.place.Place.{Place}
@@ -36,8 +37,7 @@ inner_exceptions (an_operand s x) = []
 
 -- each of the names is covered
 abbrev pub covers_all : List (List ℕ) → List (List ℕ) → Bool
-covers_all [] cover = true
-covers_all (i ∷ names) cover = is_in cover i && covers_all names cover
+covers_all names cover = list_all (is_in cover) names
 
 abbrev pub outer_form : Bool → Place → Form → List Place
 outer_form all place (Inline head held) = place_if (is_exception head.form && not all) place
@@ -51,8 +51,7 @@ abbrev pub outer_piece : List (List ℕ) → Piece → List Place
 outer_piece names p = outer_form (covers_all names (cover_by names p.leads p.column (shared_of p.form))) p.place p.form
 
 abbrev pub outer_pieces : List (List ℕ) → List Piece → List Place
-outer_pieces names [] = []
-outer_pieces names (p ∷ ps) = outer_piece names p ++ outer_pieces names ps
+outer_pieces names ps = flat_map (outer_piece names) ps
 
 abbrev pub outer_exceptions : List (List ℕ) → Content → List Place
 outer_exceptions names (Basic held) = outer_pieces names (statements_pieces names 0 (statements held))
@@ -61,7 +60,7 @@ outer_exceptions names (HighLevel drawn) = []
 -- ---- both
 
 abbrev pub misplaced : List (List ℕ) → Chart → List Place
-misplaced names chart = gathered inner_exceptions (chart_text chart) ++ outer_exceptions names chart.content
+misplaced names chart = flat_map inner_exceptions (chart_text chart) ++ outer_exceptions names chart.content
 
 -- at that place of the chart an exception stands that may not
 abbrev pub IsMisplaced : Chart → Place → Type 0

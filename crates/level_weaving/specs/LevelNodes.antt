@@ -1,6 +1,7 @@
 -- Serves private contracts alone.
 -- The events of a level in the order of a woven list.
-use Rattle.std.specs.Prelude.{ℕ, List, [], ◌∷◌, ◌++◌, Option, Some, None, slice_get}
+use Rattle.std.specs.Prelude.{ℕ, List, [], ◌∷◌, Option, Some, None, slice_get}
+use Rattle.std.specs.List.{flat_map}
 use Rattle.msc_meaning.specs.Bodies.{EventNode}
 use Rattle.msc_meaning.specs.Levels.{nodes_from}
 use Rattle.msc_meaning.specs.Pieces.{Piece}
@@ -22,5 +23,4 @@ option_nodes (Some p) = piece_nodes p
 
 -- those of the items of these numbers, one after another
 abbrev pub ordered_nodes : List Piece → List ℕ → List EventNode
-ordered_nodes ps [] = []
-ordered_nodes ps (x ∷ order) = option_nodes (slice_get ps x) ++ ordered_nodes ps order
+ordered_nodes ps order = flat_map (λ x. option_nodes (slice_get ps x)) order

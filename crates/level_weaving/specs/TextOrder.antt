@@ -1,5 +1,6 @@
 -- Levels that are woven in the order of their text: each item stands in one column.
-use Rattle.std.specs.Prelude.{◌≡◌, ⊤, ℕ, false, List, [], ◌∷◌, ◌++◌, Option, Some, None, slice_get}
+use Rattle.std.specs.Prelude.{◌≡◌, ⊤, ℕ, false, List, [], ◌∷◌, Option, Some, None, slice_get}
+use Rattle.std.specs.List.{flat_map}
 use Rattle.msc_base.specs.Lists.{AreDifferent, IsAmong}
 use Rattle.msc_base.specs.declared.label.Pair.{Pair}
 use Rattle.msc_base.specs.declared.place.Place.{Place}
@@ -25,8 +26,7 @@ abbrev pub piece_items : Piece → List WovenItem
 piece_items p = form_items (slice_get p.leads 0) p.first p.form
 
 abbrev pub pieces_items : List Piece → List WovenItem
-pieces_items [] = []
-pieces_items (p ∷ ps) = piece_items p ++ pieces_items ps
+pieces_items ps = flat_map piece_items ps
 
 -- ---- one column each
 

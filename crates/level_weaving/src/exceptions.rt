@@ -13,7 +13,7 @@ ghost use Rattle.msc_tree.specs.Statements.{statements as statement_tree};
 ghost use Rattle.msc_tree.specs.Views.{chart_view, content_view, form_view, statement_view};
 
 use chart_text::{Passage, TextRule, earliest_place, note_if, note_text};
-use level_pieces::{Piece, Setting, chart_pieces, covered};
+use level_pieces::{Piece, PieceSide, chart_pieces, covered};
 use msc_base::{Items, Name, NameTable, Names, NoMemory, Place};
 use msc_tree::{Content, InlineForm, RawChart, RawForm, RawInline};
 use std::alloc::Global;
@@ -89,7 +89,7 @@ fn uncovering(
     alloc: Global,
     places: &mut Items<Place>,
     names: &Names,
-    setting: Setting<'_, '_>,
+    setting: PieceSide<'_, '_>,
     place: Place,
     inline: &RawInline,
 ) -> Result<(), NoMemory>

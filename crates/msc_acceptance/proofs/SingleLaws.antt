@@ -1,10 +1,10 @@
 -- Charts without inline expressions and references: no rule on parts is broken there.
 use Rattle.std.proofs.Common.{◌≡◌, inl, inr, ℕ, ◌+◌, Bool, true, false, cond, List, [], ◌∷◌, ◌++◌, Option, None, refl, ap, ◌∙◌, subst, map}
+use Rattle.std.specs.List.{flat_map}
 use Rattle.std.specs.Prelude.{⊤}
 use Rattle.std.proofs.lemmas.Bool.{and_parts, and_from}
 use Rattle.level_pieces.specs.ItemParts.{has_events}
 use Rattle.level_weaving.specs.Exceptions.{IsMisplaced, inner_exceptions, inner_item, outer_exceptions, outer_form, outer_pieces}
-use Rattle.chart_text.specs.Gathering.{gathered}
 use Rattle.chart_text.specs.Texts.{Passage, Scope, Standing, Whole, a_head, a_statement, an_item, an_operand, chart_text, content_text, form_text, items_text, statement_held, statements_text}
 use Rattle.msc_base.specs.Lists.{IsAmong}
 use Rattle.msc_base.specs.Places.{IsLeast}
@@ -147,13 +147,13 @@ passage_free (a_statement depth scope x) s = refl
 passage_free (an_item t place form) s = no_inner t.depth place form s
 passage_free (an_operand t x) s = refl
 
-text_free : (xs : List Passage) → are_single xs ≡ true → gathered inner_exceptions xs ≡ []
+text_free : (xs : List Passage) → are_single xs ≡ true → flat_map inner_exceptions xs ≡ []
 text_free [] s = refl
 text_free (x ∷ xs) s =
-    both_nil (inner_exceptions x) (gathered inner_exceptions xs) (passage_free x ((and_parts (is_single_passage x) (are_single xs) s).0)) (text_free xs ((and_parts (is_single_passage x) (are_single xs) s).1))
+    both_nil (inner_exceptions x) (flat_map inner_exceptions xs) (passage_free x ((and_parts (is_single_passage x) (are_single xs) s).0)) (text_free xs ((and_parts (is_single_passage x) (are_single xs) s).1))
 
 -- no exception is misplaced
 pub exceptions_kept : (c : Chart) → is_single_chart c ≡ true → IsLeast (IsMisplaced c) None
 exceptions_kept c s = λ q b.
     subst (λ (l : List Place). IsAmong l q)
-    (both_nil (gathered inner_exceptions (chart_text c)) (outer_exceptions (instances c) c.content) (text_free (chart_text c) s) (content_placed (instances c) c.content (content_single c s))) b
+    (both_nil (flat_map inner_exceptions (chart_text c)) (outer_exceptions (instances c) c.content) (text_free (chart_text c) s) (content_placed (instances c) c.content (content_single c s))) b

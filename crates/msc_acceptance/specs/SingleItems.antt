@@ -1,6 +1,7 @@
 -- Serves private contracts alone.
 -- Charts without inline expressions and references: no rule on parts is broken there.
-use Rattle.std.specs.Prelude.{Bool, true, false, ◌&&◌, List, [], ◌∷◌}
+use Rattle.std.specs.Prelude.{Bool, true, false, List}
+use Rattle.std.specs.List.{list_all}
 use Rattle.chart_text.specs.Texts.{Passage, a_head, a_statement, an_item, an_operand, chart_text}
 use Rattle.msc_tree.specs.Charts.{Chart}
 use Rattle.msc_tree.specs.Statements.{Form, Single, Coregion, Condition, Inline, Refer, Stop}
@@ -21,8 +22,7 @@ is_single_passage (an_item s place form) = is_single form
 is_single_passage (an_operand s x) = true
 
 abbrev pub are_single : List Passage → Bool
-are_single [] = true
-are_single (x ∷ xs) = is_single_passage x && are_single xs
+are_single xs = list_all is_single_passage xs
 
 abbrev pub is_single_chart : Chart → Bool
 is_single_chart chart = are_single (chart_text chart)

@@ -1,7 +1,7 @@
 //! The declarations of a chart in the order of the text, at any depth: for `tables`.
 
 ghost use Rattle.std.specs.Prelude.{◌≡◌, ◌++◌, ◌∷◌, [], IfOk, OnOk};
-ghost use Rattle.chart_text.specs.Gathering.{gathered};
+ghost use Rattle.std.specs.List.{flat_map};
 ghost use Rattle.chart_text.specs.PassageViews.{passage_view, text_view};
 ghost use Rattle.msc_meaning.specs.WovenTables.{chart_decls as decls_of, declares, heading_decls};
 ghost use Rattle.msc_tree.specs.Views.{chart_view, statement_view};
@@ -61,7 +61,7 @@ fn passage(alloc: Global, decls: &mut DeclList, passage: Passage<'_>) -> Result<
 
 /// Adds what a text declares.
 fn passages(alloc: Global, decls: &mut DeclList, text: &[Passage<'_>]) -> Result<(), NoMemory>
-    ensures { OnOk result (decls.new ≡ decls.old ++ gathered declares (text_view text.now)) }
+    ensures { OnOk result (decls.new ≡ decls.old ++ flat_map declares (text_view text.now)) }
 {
     for held in text {
         passage(alloc, decls, *held)?;

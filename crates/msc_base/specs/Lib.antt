@@ -6,3 +6,4 @@ pub mod Orders
 pub mod Patterns
 pub mod Places
 pub mod PatternRuns
+pub mod Stored

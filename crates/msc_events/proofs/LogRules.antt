@@ -7,7 +7,7 @@ use Rattle.token_grammar.proofs.Optionals.{none, behind_rule}
 use Rattle.token_grammar.proofs.PartRules.{name_rule, parameters_rule}
 use Rattle.msc_events.specs.LogEvents.{event, plain_message}
 use Rattle.msc_events.specs.LogReaders.{event_at, plain_message_at}
-use Rattle.msc_events.specs.declared.event_parts.Setting.TheVariants.{Log}
+use Rattle.msc_events.specs.declared.event_parts.Origin.TheVariants.{Log}
 use Rattle.msc_events.proofs.EventRules.{act_rule}
 
 pub event_rule : (n : ℕ) → Rule (λ m. event) n names none event_at

@@ -20,7 +20,7 @@ use Rattle.msc_events.specs.Events.{no_orders, orders, named, address_of, addres
 use Rattle.msc_events.specs.LogEvents.{event, plain_message}
 use Rattle.msc_events.specs.declared.event_parts.Orders.{Orders}
 use Rattle.msc_events.specs.declared.event_parts.Address.{Address}
-use Rattle.msc_events.specs.declared.event_parts.Setting.TheVariants.{Log}
+use Rattle.msc_events.specs.declared.event_parts.Origin.TheVariants.{Log}
 
 -- ---- the bytes decide
 

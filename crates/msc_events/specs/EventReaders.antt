@@ -13,8 +13,8 @@ use Rattle.token_grammar.specs.PartReaders.{name_at, mark_at, placed_at, ending_
 use Rattle.msc_events.specs.Events.{no_orders, named, address_of, event_of, plain, tagged}
 use Rattle.msc_events.specs.declared.event_parts.Orders.{Orders}
 use Rattle.msc_events.specs.declared.event_parts.Address.{Address}
-use Rattle.msc_events.specs.declared.event_parts.Setting.{Setting}
-use Rattle.msc_events.specs.declared.event_parts.Setting.TheVariants.{Chart, Log}
+use Rattle.msc_events.specs.declared.event_parts.Origin.{Origin}
+use Rattle.msc_events.specs.declared.event_parts.Origin.TheVariants.{Chart, Log}
 
 -- names behind this word, where it stands
 abbrev pub names_behind_at : List ℕ → List Token → Read (List (List ℕ))
@@ -26,13 +26,13 @@ own_orders_at = map_at (λ p. record { earlier_than = p.0; later_than = p.1.0 })
 abbrev pub no_orders_at : List Token → Read Orders
 no_orders_at = map_at (λ t. no_orders) ending_at
 
-abbrev pub orders_at : Setting → List Token → Read Orders
+abbrev pub orders_at : Origin → List Token → Read Orders
 orders_at Chart = own_orders_at
 orders_at Log = no_orders_at
 
 -- ---- acts
 
-abbrev pub to_name_at : Setting → Kind → List Token → Read Address
+abbrev pub to_name_at : Origin → Kind → List Token → Read Address
 to_name_at setting kind = map_at (λ p. address_of kind (Instance p.0) p.1) (seq_at name_at (orders_at setting))
 
 -- a gate behind "via", where it is named
@@ -42,18 +42,18 @@ some_gate_at = optional_at (just (codes "via")) kept (behind_at (just (codes "vi
 abbrev pub no_gate_at : List Token → Read (Option (List ℕ))
 no_gate_at ts = Ok (None, ts)
 
-abbrev pub via_at : Setting → List Token → Read (Option (List ℕ))
+abbrev pub via_at : Origin → List Token → Read (Option (List ℕ))
 via_at Chart = some_gate_at
 via_at Log = no_gate_at
 
-abbrev pub to_env_at : Setting → Kind → List Token → Read Address
+abbrev pub to_env_at : Origin → Kind → List Token → Read Address
 to_env_at setting kind = map_at (λ p. address_of kind (Env p.0) p.1) (behind_at (just (codes "env")) (seq_at (via_at setting) (orders_at setting)))
 
 -- a name, where there is one
 abbrev pub some_name_at : List Token → Read (Option (List ℕ))
 some_name_at = optional_at names kept name_at
 
-abbrev pub to_lost_at : Setting → List ℕ → Kind → List Token → Read Address
+abbrev pub to_lost_at : Origin → List ℕ → Kind → List Token → Read Address
 to_lost_at setting lost kind = map_at (λ p. address_of kind (named p.0) p.1) (behind_at (just lost) (seq_at some_name_at (orders_at setting)))
 
 abbrev pub to_gate_at : Kind → List Token → Read Address
@@ -63,43 +63,43 @@ abbrev pub lost_or_gate_at : List ℕ → Kind → Kind → List Token → Read 
 lost_or_gate_at lost kind lost_kind = either_at (just lost) (to_lost_at Chart lost lost_kind) (to_gate_at kind)
 
 -- another end that is no instance and not the environment
-abbrev pub apart_address_at : Setting → List ℕ → Kind → Kind → List Token → Read Address
+abbrev pub apart_address_at : Origin → List ℕ → Kind → Kind → List Token → Read Address
 apart_address_at Chart lost kind lost_kind = lost_or_gate_at lost kind lost_kind
 apart_address_at Log lost kind lost_kind = to_lost_at Log lost lost_kind
 
-abbrev pub address_at : Setting → List ℕ → Kind → Kind → List Token → Read Address
+abbrev pub address_at : Origin → List ℕ → Kind → Kind → List Token → Read Address
 address_at setting lost kind lost_kind =
     either_at names (to_name_at setting kind) (either_at (just (codes "env")) (to_env_at setting kind) (apart_address_at setting lost kind lost_kind))
 
-abbrev pub exchange_at : Setting → List ℕ → List ℕ → List ℕ → Kind → Kind → List Token → Read RawEvent
+abbrev pub exchange_at : Origin → List ℕ → List ℕ → List ℕ → Kind → Kind → List Token → Read RawEvent
 exchange_at setting way toward lost kind lost_kind =
     map_at (λ p. event_of p.0 p.1.0 p.1.1) (placed_at (just way) (seq_at message_at (behind_at (just toward) (address_at setting lost kind lost_kind))))
 
-abbrev pub output_at : Setting → List Token → Read RawEvent
+abbrev pub output_at : Origin → List Token → Read RawEvent
 output_at setting = exchange_at setting (codes "out") (codes "to") (codes "lost") Output OutputLost
 
-abbrev pub input_at : Setting → List Token → Read RawEvent
+abbrev pub input_at : Origin → List Token → Read RawEvent
 input_at setting = exchange_at setting (codes "in") (codes "from") (codes "found") Input InputFound
 
-abbrev pub action_at : Setting → List Token → Read RawEvent
+abbrev pub action_at : Origin → List Token → Read RawEvent
 action_at setting = map_at (λ p. event_of p.0 (plain p.1.0) (address_of Action Nobody p.1.1)) (placed_at (just (codes "action")) (seq_at item_at (orders_at setting)))
 
 -- a timer's name and list, and its orders
-abbrev pub timing_at : Setting → List Token → Read (Message × Orders)
+abbrev pub timing_at : Origin → List Token → Read (Message × Orders)
 timing_at setting = seq_at message_at (orders_at setting)
 
-abbrev pub timer_at : Setting → Set → Kind → List Token → Read RawEvent
+abbrev pub timer_at : Origin → Set → Kind → List Token → Read RawEvent
 timer_at setting words kind = map_at (λ p. event_of p.0 p.1.0 (address_of kind Nobody p.1.1)) (placed_at words (timing_at setting))
 
-abbrev pub creation_at : Setting → List Token → Read RawEvent
+abbrev pub creation_at : Origin → List Token → Read RawEvent
 creation_at setting = map_at (λ p. event_of p.0 (plain p.1.0) (address_of Create (Instance p.1.0) p.1.1)) (placed_at (just (codes "create")) (seq_at name_at (orders_at setting)))
 
 -- a timer's event, or a creation
-abbrev pub timers_at : Setting → List Token → Read RawEvent
+abbrev pub timers_at : Origin → List Token → Read RawEvent
 timers_at setting = either_at start_words (timer_at setting start_words TimerStart) (either_at stop_words (timer_at setting stop_words TimerStop)
     (either_at (just (codes "timeout")) (timer_at setting (just (codes "timeout")) Timeout) (creation_at setting)))
 
-abbrev pub act_at : Setting → List Token → Read RawEvent
+abbrev pub act_at : Origin → List Token → Read RawEvent
 act_at setting = either_at (just (codes "out")) (output_at setting) (either_at (just (codes "in")) (input_at setting) (either_at (just (codes "action")) (action_at setting) (timers_at setting)))
 
 -- ---- events

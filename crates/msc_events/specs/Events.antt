@@ -15,14 +15,14 @@ use Rattle.token_grammar.specs.Parts.{name, mark, ending, kept, all_or_none, pla
 use Rattle.token_grammar.specs.Messages.{Message, item, message, start_words, stop_words}
 use Rattle.msc_events.specs.declared.event_parts.Orders.{Orders}
 use Rattle.msc_events.specs.declared.event_parts.Address.{Address}
-use Rattle.msc_events.specs.declared.event_parts.Setting.{Setting}
-use Rattle.msc_events.specs.declared.event_parts.Setting.TheVariants.{Chart, Log}
+use Rattle.msc_events.specs.declared.event_parts.Origin.{Origin}
+use Rattle.msc_events.specs.declared.event_parts.Origin.TheVariants.{Chart, Log}
 
 abbrev pub no_orders : Orders
 no_orders = record { earlier_than = []; later_than = [] }
 
 -- in a chart [ "before" names ] [ "after" names ] end, in a log the end alone
-abbrev pub orders : Setting → Grammar Orders
+abbrev pub orders : Origin → Grammar Orders
 orders Chart = read_as (λ p. record { earlier_than = p.0; later_than = p.1.0 })
     (optional all_or_none (behind (just (codes "before")) name_list) (optional all_or_none (behind (just (codes "after")) name_list) ending))
 orders Log = read_as (λ t. no_orders) ending
@@ -37,23 +37,23 @@ abbrev pub address_of : Kind → Target → Orders → Address
 address_of kind target orders = record { kind = kind; target = target; orders = orders }
 
 -- in a chart [ "via" name ], in a log nothing, and the orders
-abbrev pub through : Setting → Grammar (Option (List ℕ) × Orders)
+abbrev pub through : Origin → Grammar (Option (List ℕ) × Orders)
 through Chart = optional kept (behind (just (codes "via")) name) (orders Chart)
 through Log = read_as (λ o. (None, o)) (orders Log)
 
-abbrev pub to_lost : Setting → List ℕ → Kind → Grammar Address
+abbrev pub to_lost : Origin → List ℕ → Kind → Grammar Address
 to_lost setting lost lost_kind = read_as (λ p. address_of lost_kind (named p.0) p.1) (behind (just lost) (optional kept name (orders setting)))
 
 abbrev pub to_gate : Kind → Grammar Address
 to_gate kind = read_as (λ p. address_of kind (Gate p.0 p.1.0) p.1.1) (behind (just (codes "reference")) (seq name (behind (just (codes "via")) (seq name (orders Chart)))))
 
 -- "lost" [ name ], and in a chart also "reference" name "via" name
-abbrev pub apart_address : Setting → List ℕ → Kind → Kind → Grammar Address
+abbrev pub apart_address : Origin → List ℕ → Kind → Kind → Grammar Address
 apart_address Chart lost kind lost_kind = or (to_lost Chart lost lost_kind) (to_gate kind)
 apart_address Log lost kind lost_kind = to_lost Log lost lost_kind
 
 -- name | "env" [ "via" name ] | "lost" [ name ] | "reference" name "via" name; an input has "found"
-abbrev pub address : Setting → List ℕ → Kind → Kind → Grammar Address
+abbrev pub address : Origin → List ℕ → Kind → Kind → Grammar Address
 address setting lost kind lost_kind =
     or (read_as (λ p. address_of kind (Instance p.0) p.1) (seq name (orders setting)))
     (or (read_as (λ p. address_of kind (Env p.0) p.1) (behind (just (codes "env")) (through setting)))
@@ -72,14 +72,14 @@ event_of place m a = record {
 }
 
 -- "out" message "to" address, and "in" message "from" address
-abbrev pub exchange : Setting → List ℕ → List ℕ → List ℕ → Kind → Kind → Grammar RawEvent
+abbrev pub exchange : Origin → List ℕ → List ℕ → List ℕ → Kind → Kind → Grammar RawEvent
 exchange setting way toward lost kind lost_kind =
     read_as (λ p. event_of p.0 p.1.0 p.1.1) (placed (just way) (message (behind (just toward) (address setting lost kind lost_kind))))
 
-abbrev pub output : Setting → Grammar RawEvent
+abbrev pub output : Origin → Grammar RawEvent
 output setting = exchange setting (codes "out") (codes "to") (codes "lost") Output OutputLost
 
-abbrev pub input : Setting → Grammar RawEvent
+abbrev pub input : Origin → Grammar RawEvent
 input setting = exchange setting (codes "in") (codes "from") (codes "found") Input InputFound
 
 -- a text alone
@@ -87,18 +87,18 @@ abbrev pub plain : List ℕ → Message
 plain text = (text, None, None)
 
 -- "action" ( string | name )
-abbrev pub action : Setting → Grammar RawEvent
+abbrev pub action : Origin → Grammar RawEvent
 action setting = read_as (λ p. event_of p.0 (plain p.1.0) (address_of Action Nobody p.1.1)) (placed (just (codes "action")) (seq item (orders setting)))
 
 -- a timer's word and a message
-abbrev pub timer : Setting → Set → Kind → Grammar RawEvent
+abbrev pub timer : Origin → Set → Kind → Grammar RawEvent
 timer setting words kind = read_as (λ p. event_of p.0 p.1.0 (address_of kind Nobody p.1.1)) (placed words (message (orders setting)))
 
 -- "create" name: the text and the other end are the child
-abbrev pub creation : Setting → Grammar RawEvent
+abbrev pub creation : Origin → Grammar RawEvent
 creation setting = read_as (λ p. event_of p.0 (plain p.1.0) (address_of Create (Instance p.1.0) p.1.1)) (placed (just (codes "create")) (seq name (orders setting)))
 
-abbrev pub act : Setting → Grammar RawEvent
+abbrev pub act : Origin → Grammar RawEvent
 act setting = or (output setting) (or (input setting) (or (action setting) (or (timer setting start_words TimerStart)
     (or (timer setting stop_words TimerStop) (or (timer setting (just (codes "timeout")) Timeout) (creation setting))))))
 

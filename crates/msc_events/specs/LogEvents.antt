@@ -11,7 +11,7 @@ use Rattle.token_grammar.specs.Grammars.{Grammar, seq, read_as, tail, behind}
 use Rattle.token_grammar.specs.Parts.{name}
 use Rattle.token_grammar.specs.Messages.{item, parameters}
 use Rattle.msc_events.specs.Events.{act}
-use Rattle.msc_events.specs.declared.event_parts.Setting.TheVariants.{Log}
+use Rattle.msc_events.specs.declared.event_parts.Origin.TheVariants.{Log}
 
 -- name ":" act end
 abbrev pub event : Grammar Label

@@ -9,7 +9,7 @@ use Rattle.msc_tree.specs.Labels.{label_of, list_text}
 use Rattle.token_grammar.specs.Languages.{Read, just, seq_at, map_at, tail_at, behind_at}
 use Rattle.token_grammar.specs.PartReaders.{name_at, item_at, parameters_at}
 use Rattle.msc_events.specs.EventReaders.{act_at}
-use Rattle.msc_events.specs.declared.event_parts.Setting.TheVariants.{Log}
+use Rattle.msc_events.specs.declared.event_parts.Origin.TheVariants.{Log}
 
 abbrev pub event_at : List Token → Read Label
 event_at = map_at (λ p. label_of p.0 p.1) (seq_at name_at (behind_at (just (codes ":")) (act_at Log)))

@@ -8,7 +8,7 @@ ghost use Rattle.msc_events.specs.Events.{address_of, event_of, plain};
 ghost use Rattle.msc_events.specs.EventReaders.{output_at, input_at, action_at, timing_at, creation_at, timers_at, act_at};
 
 use crate::address::{address, orders};
-use crate::event_parts::{Address, Orders, Setting};
+use crate::event_parts::{Address, Orders, Origin};
 use msc_base::{Kind, NoMemory, Place, Text};
 use msc_tokens::Token;
 use msc_tree::{BoxedOrder, GeneralOrder, Parameters, RawEvent, Target, TreePlace};
@@ -57,7 +57,7 @@ fn plain_parts(text: Text) -> MessageParts
 /// A message is sent (Z.120, clause 4.3).
 fn output(
     alloc: Global,
-    setting: Setting,
+    setting: Origin,
     tokens: &[Token],
 ) -> Result<(RawEvent, &[Token]), ReadFault>
     ensures { Gives (λ x. (x.0, x.1.now)) result (output_at setting tokens.now) }
@@ -73,7 +73,7 @@ fn output(
 /// A message is received (Z.120, clause 4.3).
 fn input(
     alloc: Global,
-    setting: Setting,
+    setting: Origin,
     tokens: &[Token],
 ) -> Result<(RawEvent, &[Token]), ReadFault>
     ensures { Gives (λ x. (x.0, x.1.now)) result (input_at setting tokens.now) }
@@ -89,7 +89,7 @@ fn input(
 /// A local action (Z.120, clause 4.9).
 fn action(
     alloc: Global,
-    setting: Setting,
+    setting: Origin,
     tokens: &[Token],
 ) -> Result<(RawEvent, &[Token]), ReadFault>
     ensures { Gives (λ x. (x.0, x.1.now)) result (action_at setting tokens.now) }
@@ -109,7 +109,7 @@ fn action(
 /// A timer and the orders of its event (Z.120, clause 4.8).
 fn timing(
     alloc: Global,
-    setting: Setting,
+    setting: Origin,
     tokens: &[Token],
 ) -> Result<(MessageParts, Orders, &[Token]), ReadFault>
     ensures { Gives (λ x. ((message_view x.0, x.1), x.2.now)) result (timing_at setting tokens.now) }
@@ -140,7 +140,7 @@ fn timed(
 /// An instance is created (Z.120, clause 4.10): the text and the other end are the child.
 fn creation(
     alloc: Global,
-    setting: Setting,
+    setting: Origin,
     tokens: &[Token],
 ) -> Result<(RawEvent, &[Token]), ReadFault>
     ensures { Gives (λ x. (x.0, x.1.now)) result (creation_at setting tokens.now) }
@@ -161,7 +161,7 @@ fn creation(
 /// A timer's event, or a creation.
 fn timers(
     alloc: Global,
-    setting: Setting,
+    setting: Origin,
     tokens: &[Token],
 ) -> Result<(RawEvent, &[Token]), ReadFault>
     ensures { Gives (λ x. (x.0, x.1.now)) result (timers_at setting tokens.now) }
@@ -190,7 +190,7 @@ fn timers(
 /// What an event does, with its orders and its end.
 pub fn act(
     alloc: Global,
-    setting: Setting,
+    setting: Origin,
     tokens: &[Token],
 ) -> Result<(RawEvent, &[Token]), ReadFault>
     ensures { Gives (λ x. (x.0, x.1.now)) result (act_at setting tokens.now) }

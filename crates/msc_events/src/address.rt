@@ -5,7 +5,7 @@ ghost use Rattle.token_grammar.specs.Answers.{Gives};
 ghost use Rattle.msc_events.specs.Events.{address_of, named, no_orders};
 ghost use Rattle.msc_events.specs.EventReaders.{names_behind_at, own_orders_at, no_orders_at, orders_at, to_name_at, some_gate_at, via_at, to_env_at, to_lost_at, to_gate_at, lost_or_gate_at, apart_address_at, address_at};
 
-use crate::event_parts::{Address, Orders, Setting};
+use crate::event_parts::{Address, Orders, Origin};
 use msc_base::{Items, Kind, Name, Names};
 use msc_tokens::Token;
 use msc_tree::{BoxedName, Target};
@@ -62,21 +62,21 @@ fn no_orders(alloc: Global, tokens: &[Token]) -> Result<(Orders, &[Token]), Read
 /// The orders of an event, and its end.
 pub fn orders(
     alloc: Global,
-    setting: Setting,
+    setting: Origin,
     tokens: &[Token],
 ) -> Result<(Orders, &[Token]), ReadFault>
     ensures { Gives (λ x. (x.0, x.1.now)) result (orders_at setting tokens.now) }
 {
     match setting {
-        Setting::Chart => own_orders(alloc, tokens),
-        Setting::Log => no_orders(alloc, tokens),
+        Origin::Chart => own_orders(alloc, tokens),
+        Origin::Log => no_orders(alloc, tokens),
     }
 }
 
 /// The orders behind an event's other end, and its end.
 fn addressed(
     alloc: Global,
-    setting: Setting,
+    setting: Origin,
     tokens: &[Token],
     kind: Kind,
     target: Target,
@@ -98,7 +98,7 @@ fn addressed(
 /// An instance as other end.
 fn to_name(
     alloc: Global,
-    setting: Setting,
+    setting: Origin,
     tokens: &[Token],
     kind: Kind,
 ) -> Result<(Address, &[Token]), ReadFault>
@@ -123,21 +123,21 @@ fn some_gate(alloc: Global, tokens: &[Token]) -> Result<(Option<Name>, &[Token])
 /// A gate behind `via`, where it is named. A log names none.
 fn via(
     alloc: Global,
-    setting: Setting,
+    setting: Origin,
     tokens: &[Token],
 ) -> Result<(Option<Name>, &[Token]), ReadFault>
     ensures { Gives (λ x. (x.0, x.1.now)) result (via_at setting tokens.now) }
 {
     match setting {
-        Setting::Chart => some_gate(alloc, tokens),
-        Setting::Log => Ok((None, tokens)),
+        Origin::Chart => some_gate(alloc, tokens),
+        Origin::Log => Ok((None, tokens)),
     }
 }
 
 /// The environment as other end, through a gate or none (Z.120, clause 4.5).
 fn to_env(
     alloc: Global,
-    setting: Setting,
+    setting: Origin,
     tokens: &[Token],
     kind: Kind,
 ) -> Result<(Address, &[Token]), ReadFault>
@@ -162,7 +162,7 @@ fn target_of(name: Option<Name>) -> Target
 /// No other end, or one that doesn't take part.
 fn to_lost<'a>(
     alloc: Global,
-    setting: Setting,
+    setting: Origin,
     tokens: &'a [Token],
     lost: &str,
     kind: Kind,
@@ -183,7 +183,7 @@ fn to_gate(alloc: Global, tokens: &[Token], kind: Kind) -> Result<(Address, &[To
     let (_via, rest) = word(rest, "via")?;
     let (gate, rest) = own_name(alloc, rest)?;
     let target = Target::Gate(BoxedName::of(alloc, name)?, BoxedName::of(alloc, gate)?);
-    addressed(alloc, Setting::Chart, rest, kind, target)
+    addressed(alloc, Origin::Chart, rest, kind, target)
 }
 
 /// No other end, or one that doesn't take part, or a gate.
@@ -197,7 +197,7 @@ fn lost_or_gate<'a>(
     ensures { Gives (λ x. (x.0, x.1.now)) result (lost_or_gate_at lost.now kind lost_kind tokens.now) }
 {
     if starts_with(tokens, lost) {
-        return to_lost(alloc, Setting::Chart, tokens, lost, lost_kind);
+        return to_lost(alloc, Origin::Chart, tokens, lost, lost_kind);
     }
     to_gate(alloc, tokens, kind)
 }
@@ -205,7 +205,7 @@ fn lost_or_gate<'a>(
 /// Another end that is no instance and not the environment. A log has no gates.
 fn apart_address<'a>(
     alloc: Global,
-    setting: Setting,
+    setting: Origin,
     tokens: &'a [Token],
     lost: &str,
     kind: Kind,
@@ -214,15 +214,15 @@ fn apart_address<'a>(
     ensures { Gives (λ x. (x.0, x.1.now)) result (apart_address_at setting lost.now kind lost_kind tokens.now) }
 {
     match setting {
-        Setting::Chart => lost_or_gate(alloc, tokens, lost, kind, lost_kind),
-        Setting::Log => to_lost(alloc, Setting::Log, tokens, lost, lost_kind),
+        Origin::Chart => lost_or_gate(alloc, tokens, lost, kind, lost_kind),
+        Origin::Log => to_lost(alloc, Origin::Log, tokens, lost, lost_kind),
     }
 }
 
 /// The other end of a message. The word says that it has none (Z.120, clause 4.3).
 pub fn address<'a>(
     alloc: Global,
-    setting: Setting,
+    setting: Origin,
     tokens: &'a [Token],
     lost: &str,
     kind: Kind,

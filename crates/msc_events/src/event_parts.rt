@@ -5,7 +5,7 @@ use msc_tree::Target;
 
 /// Where an event is written.
 #[derive(Clone, Copy, Debug, PartialEq, Eq)]
-pub enum Setting {
+pub enum Origin {
     /// In a chart, where it may have orders and gates.
     Chart,
     /// On a line of a log, where it has neither.

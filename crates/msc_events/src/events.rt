@@ -7,7 +7,7 @@ ghost use Rattle.msc_events.specs.Events.{tagged};
 ghost use Rattle.msc_events.specs.EventReaders.{label_at, some_label_at, single_at, single_words, timing_words, singles_at, coregion_end_at, coregion_at, stop_at};
 
 use crate::act::act;
-use crate::event_parts::Setting;
+use crate::event_parts::Origin;
 use msc_base::{Items, Name, NoMemory, Place};
 use msc_tokens::Token;
 use msc_tree::{RawEvent, RawEventList};
@@ -52,7 +52,7 @@ pub fn single(alloc: Global, tokens: &[Token]) -> Result<(RawEvent, &[Token]), R
     ensures { Gives (λ x. (x.0, x.1.now)) result (single_at tokens.now) }
 {
     let (event_name, rest) = some_label(alloc, tokens)?;
-    let (event, rest) = act(alloc, Setting::Chart, rest)?;
+    let (event, rest) = act(alloc, Origin::Chart, rest)?;
     let event = with_label(alloc, event_name, event)?;
     Ok((event, rest))
 }

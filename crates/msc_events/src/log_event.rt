@@ -9,7 +9,7 @@ ghost use Rattle.msc_events.specs.LogEvents.{event, ReadsEvent};
 ghost use Rattle.msc_events.specs.LogReaders.{event_at};
 
 use crate::act::act;
-use crate::event_parts::Setting;
+use crate::event_parts::Origin;
 use msc_base::{Label, Place};
 use msc_tokens::{Token, TokenList};
 use msc_tree::label_of;
@@ -22,7 +22,7 @@ fn event(alloc: Global, tokens: &[Token]) -> Result<(Label, &[Token]), ReadFault
 {
     let (at, rest) = own_name(alloc, tokens)?;
     let (_colon, rest) = word(rest, ":")?;
-    let (said, rest) = act(alloc, Setting::Log, rest)?;
+    let (said, rest) = act(alloc, Origin::Log, rest)?;
     let label = label_of(alloc, at, &said)?;
     Ok((label, rest))
 }

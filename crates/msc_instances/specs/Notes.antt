@@ -1,8 +1,8 @@
 -- What a basic chart writes of its instances, in the order of the text: which are declared, which are decomposed, and which are
 -- named where only certain instances may be. The instances of a chart are those of its heads, of its columns, of its
 -- statements `i: instance`, at any depth, and those that stand left of a colon at the outermost level (Z.120, clause 4.2).
-use Rattle.std.specs.Prelude.{ℕ, Bool, true, false, List, [], ◌∷◌, ◌++◌, map, nat_eq, Option, None, Some}
-use Rattle.chart_text.specs.Gathering.{gathered}
+use Rattle.std.specs.Prelude.{ℕ, Bool, true, false, List, [], ◌∷◌, map, nat_eq, Option, None, Some}
+use Rattle.std.specs.List.{flat_map}
 use Rattle.chart_text.specs.Texts.{Passage, a_head, a_statement, an_item, an_operand, Scope, chart_text}
 use Rattle.msc_base.specs.declared.label.Kind.{Kind}
 use Rattle.msc_base.specs.declared.label.Kind.TheVariants.{Output, Input, OutputLost, InputFound, Action, TimerStart, TimerStop, Timeout, Create}
@@ -61,8 +61,7 @@ abbrev pub event_notes : Scope → RawEvent → List Note
 event_notes scope event = address_notes scope event.place event.kind event.target
 
 abbrev pub events_notes : Scope → List RawEvent → List Note
-events_notes scope [] = []
-events_notes scope (e ∷ es) = event_notes scope e ++ events_notes scope es
+events_notes scope es = flat_map (event_notes scope) es
 
 -- ---- covers
 
@@ -114,4 +113,4 @@ used_notes (HighLevel drawn) notes = []
 
 -- of a whole chart
 abbrev pub chart_notes : Chart → List Note
-chart_notes chart = used_notes chart.content (gathered passage_notes (chart_text chart))
+chart_notes chart = used_notes chart.content (flat_map passage_notes (chart_text chart))

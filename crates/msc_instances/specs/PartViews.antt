@@ -1,11 +1,11 @@
 -- The plain parts that the parts of the code stand for.
 use Rattle.std.specs.Prelude.{ℕ, List, Option, Some, None}
-use Rattle.msc_instances.specs.declared.parts.Setting.{Setting}
-use Rattle.msc_instances.specs.declared.parts.Setting.TheVariants.{InColumn, Outside}
+use Rattle.msc_instances.specs.declared.parts.PartColumn.{PartColumn}
+use Rattle.msc_instances.specs.declared.parts.PartColumn.TheVariants.{InColumn, Outside}
 use Rattle.msc_instances.specs.declared.parts.NamedPart.{NamedPart}
 use Rattle.msc_instances.specs.Parts as plain
 
-abbrev pub column_view : Setting → Option (List ℕ)
+abbrev pub column_view : PartColumn → Option (List ℕ)
 column_view (InColumn name) = Some name.now
 column_view Outside = None
 

@@ -2,7 +2,7 @@
 -- they have. A level is the body of the chart, or one operand of an inline expression. In columns, parts of one name are one
 -- item, so one name may stand in several columns of a level; nothing joins two in one column, or one outside columns with another.
 use Rattle.std.specs.Prelude.{◌≡◌, ◌⊎◌, ⊤, ℕ, List, [], ◌∷◌, ◌++◌, Option, None, Some}
-use Rattle.chart_text.specs.Gathering.{gathered}
+use Rattle.std.specs.List.{flat_map}
 use Rattle.chart_text.specs.Texts.{Passage, a_head, a_statement, an_item, an_operand, chart_text, column_of}
 use Rattle.msc_base.specs.declared.place.Place.{Place}
 use Rattle.msc_tree.specs.Charts.{Chart, Content, Basic, HighLevel}
@@ -65,7 +65,7 @@ outermost_level (HighLevel held) = []
 
 -- all levels of a chart
 abbrev pub chart_levels : Chart → List (List NamedPart)
-chart_levels chart = outermost_level chart.content ++ gathered passage_levels (chart_text chart)
+chart_levels chart = outermost_level chart.content ++ flat_map passage_levels (chart_text chart)
 
 -- ---- the rule
 

@@ -6,7 +6,7 @@ ghost use Rattle.msc_instances.specs.Meetings.{Knows, HasName, HasPart};
 ghost use Rattle.msc_instances.specs.Parts as plain;
 ghost use Rattle.msc_instances.specs.PartViews.{part_view};
 
-use crate::{NamedPart, PartList, Setting};
+use crate::{NamedPart, PartColumn, PartList};
 use indexmap::IndexSet;
 use msc_base::{Name, NameTable, NoMemory, Place, earlier_if};
 use std::alloc::Global;
@@ -69,8 +69,8 @@ fn note(alloc: Global, met: &mut Met, part: NamedPart<'_>) -> Result<bool, NoMem
     ensures kept { (before : List plain.NamedPart) → Knows met.old before → OnOk result (Knows met.new (part_view part.entry ∷ before)) }
 {
     match part.setting {
-        Setting::Outside => note_outside(alloc, met, part.name),
-        Setting::InColumn(column) => note_inside(alloc, met, part.name, column),
+        PartColumn::Outside => note_outside(alloc, met, part.name),
+        PartColumn::InColumn(column) => note_inside(alloc, met, part.name, column),
     }
 }
 

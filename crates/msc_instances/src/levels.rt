@@ -1,7 +1,7 @@
 //! The named parts of a chart, level by level, by its text: for `naming`.
 
 ghost use Rattle.std.specs.Prelude.{◌≡◌, ◌++◌, IfOk, OnOk, map};
-ghost use Rattle.chart_text.specs.Gathering.{gathered};
+ghost use Rattle.std.specs.List.{flat_map};
 ghost use Rattle.chart_text.specs.PassageViews.{passage_view, side_view, text_view};
 ghost use Rattle.chart_text.specs.Texts.{chart_text as text_of, column_of};
 ghost use Rattle.msc_instances.specs.PartViews.{column_view};
@@ -9,7 +9,7 @@ ghost use Rattle.msc_instances.specs.Parts.{chart_levels, form_parts, items_part
 ghost use Rattle.msc_tree.specs.Statements.{items as item_tree, statements as statement_tree};
 ghost use Rattle.msc_tree.specs.Views.{chart_view, content_view, form_view, item_view, operand_view, statement_view};
 
-use crate::{NamedPart, PartList, Setting};
+use crate::{NamedPart, PartColumn, PartList};
 use chart_text::{Passage, Side};
 use msc_base::{Items, Name, NoMemory, Place};
 use msc_tree::{Content, RawChart, RawForm, RawItem, RawOperand, Statement};
@@ -19,7 +19,7 @@ use std::slice;
 /// Adds a part, where it has a name.
 fn named<'a>(
     level: &mut PartList<'a>,
-    setting: Setting<'a>,
+    setting: PartColumn<'a>,
     place: Place,
     name: &'a Option<Name>,
 ) -> Result<(), NoMemory>
@@ -38,7 +38,7 @@ fn named<'a>(
 /// Adds an item, where it has a name.
 fn form_part<'a>(
     level: &mut PartList<'a>,
-    setting: Setting<'a>,
+    setting: PartColumn<'a>,
     place: Place,
     form: &'a RawForm,
 ) -> Result<(), NoMemory>
@@ -57,7 +57,7 @@ fn form_part<'a>(
 /// Adds the items that have names.
 fn item_parts<'a>(
     level: &mut PartList<'a>,
-    setting: Setting<'a>,
+    setting: PartColumn<'a>,
     list: &'a [RawItem],
 ) -> Result<(), NoMemory>
     ensures { OnOk result (level.new ≡ level.old ++ items_parts (column_view setting.entry) (item_tree (map item_view list.now))) }
@@ -74,23 +74,27 @@ fn statement_part<'a>(level: &mut PartList<'a>, statement: &'a Statement) -> Res
 {
     match statement {
         Statement::Column(decl, list) => {
-            item_parts(level, Setting::InColumn(&decl.decl().name), list.as_slice())
+            item_parts(
+                level,
+                PartColumn::InColumn(&decl.decl().name),
+                list.as_slice(),
+            )
         }
-        Statement::One(_, held) => item_parts(level, Setting::Outside, slice::from_ref(held)),
-        Statement::Covered(_, list) => item_parts(level, Setting::Outside, list.as_slice()),
+        Statement::One(_, held) => item_parts(level, PartColumn::Outside, slice::from_ref(held)),
+        Statement::Covered(_, list) => item_parts(level, PartColumn::Outside, list.as_slice()),
         Statement::Heading(_) => Ok(()),
         Statement::Ended(_) => Ok(()),
     }
 }
 
 /// Where items stand, in the column of an instance or outside columns.
-fn setting_of<'a>(side: Side<'a>) -> Setting<'a>
+fn setting_of<'a>(side: Side<'a>) -> PartColumn<'a>
     ensures { column_view result ≡ column_of (side_view side.entry) }
 {
     match side {
-        Side::InColumn(name) => Setting::InColumn(name),
-        Side::Behind(_) => Setting::Outside,
-        Side::BehindAll(_) => Setting::Outside,
+        Side::InColumn(name) => PartColumn::InColumn(name),
+        Side::Behind(_) => PartColumn::Outside,
+        Side::BehindAll(_) => PartColumn::Outside,
     }
 }
 
@@ -107,7 +111,7 @@ fn statements<'a>(level: &mut PartList<'a>, list: &'a [Statement]) -> Result<(),
 /// Adds the items of an operand that have names.
 fn operand<'a>(
     level: &mut PartList<'a>,
-    setting: Setting<'a>,
+    setting: PartColumn<'a>,
     operand: &'a RawOperand,
 ) -> Result<(), NoMemory>
     ensures { OnOk result (level.new ≡ level.old ++ operand_parts (column_view setting.entry) (operand_view operand.now)) }
@@ -121,7 +125,7 @@ fn operand<'a>(
 /// The named parts of the level that an operand is.
 fn operand_level<'a>(
     alloc: Global,
-    setting: Setting<'a>,
+    setting: PartColumn<'a>,
     held: &'a RawOperand,
 ) -> Result<PartList<'a>, NoMemory>
     ensures { IfOk result (λ level. level ≡ operand_parts (column_view setting.entry) (operand_view held.now)) }
@@ -165,7 +169,7 @@ fn passages<'a>(
     levels: &mut Items<PartList<'a>>,
     text: &[Passage<'a>],
 ) -> Result<(), NoMemory>
-    ensures { OnOk result (levels.new ≡ levels.old ++ gathered passage_levels (text_view text.now)) }
+    ensures { OnOk result (levels.new ≡ levels.old ++ flat_map passage_levels (text_view text.now)) }
 {
     for held in text {
         passage(alloc, levels, *held)?;

@@ -11,5 +11,5 @@ mod walk;
 pub use levels::chart_levels;
 pub use naming::{ChartNames, chart_names};
 pub use notes::{Note, NoteList};
-pub use parts::{NamedPart, PartList, Setting};
+pub use parts::{NamedPart, PartColumn, PartList};
 pub use walk::chart_notes;

@@ -10,7 +10,7 @@ use std::marker::Model;
 
 /// Where a part of a level stands.
 #[derive(Clone, Copy)]
-pub enum Setting<'a> {
+pub enum PartColumn<'a> {
     /// In the column of that instance.
     InColumn(&'a Name),
     /// Outside columns.
@@ -23,7 +23,7 @@ pub struct NamedPart<'a> {
     /// Its name.
     pub name: &'a Name,
     /// Where it stands in its level.
-    pub setting: Setting<'a>,
+    pub setting: PartColumn<'a>,
     /// Its place.
     pub place: Place,
 }

@@ -1,7 +1,7 @@
 //! Goes through the text of a chart and notes what it writes of its instances: for `naming`. It judges nothing.
 
 ghost use Rattle.std.specs.Prelude.{◌≡◌, ◌++◌, IfOk, OnOk, map, [], nat_eq};
-ghost use Rattle.chart_text.specs.Gathering.{gathered};
+ghost use Rattle.std.specs.List.{flat_map};
 ghost use Rattle.chart_text.specs.PassageViews.{passage_view, scope_view, text_view};
 ghost use Rattle.chart_text.specs.Texts.{chart_text as text_of};
 ghost use Rattle.msc_instances.specs.Notes.{Declared, chart_notes, decl_notes, ended_notes, event_notes, events_notes, far_notes, item_notes, left_notes, named_notes, passage_notes, shared_notes, statement_notes, used_notes};
@@ -206,7 +206,7 @@ fn passage<'a>(notes: &mut NoteList<'a>, passage: Passage<'a>) -> Result<(), NoM
 
 /// Notes what a text writes of instances.
 fn passages<'a>(notes: &mut NoteList<'a>, text: &[Passage<'a>]) -> Result<(), NoMemory>
-    ensures { OnOk result (notes.new ≡ notes.old ++ gathered passage_notes (text_view text.now)) }
+    ensures { OnOk result (notes.new ≡ notes.old ++ flat_map passage_notes (text_view text.now)) }
 {
     for held in text {
         passage(notes, *held)?;
@@ -220,7 +220,7 @@ fn used<'a>(
     content: &Content,
     text: &[Passage<'a>],
 ) -> Result<(), NoMemory>
-    ensures { OnOk result (notes.new ≡ notes.old ++ used_notes (content_view content.now) (gathered passage_notes (text_view text.now))) }
+    ensures { OnOk result (notes.new ≡ notes.old ++ used_notes (content_view content.now) (flat_map passage_notes (text_view text.now))) }
 {
     match content {
         Content::Events(_) => passages(notes, text),

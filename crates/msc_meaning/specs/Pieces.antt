@@ -2,6 +2,7 @@
 -- level are numbered in the order of their places, for the weaving; its events have positions in the woven list, for the pairing; and
 -- each event has its number in the chart, in the order of the text at any depth.
 use Rattle.std.specs.Prelude.{ℕ, zero, suc, ◌+◌, List, [], ◌∷◌, ◌++◌, length, Option, Some, None}
+use Rattle.std.specs.List.{flat_map}
 use Rattle.msc_base.specs.declared.place.Place.{Place}
 use Rattle.msc_tree.specs.declared.chart.Cover.{Cover}
 use Rattle.msc_tree.specs.declared.chart.Cover.TheVariants.{All, Listed}
@@ -94,5 +95,4 @@ operand_of cover k p _ = []
 
 -- the k-th operand of an item is made of that of each of its parts
 abbrev pub operands_of : List (List ℕ) → ℕ → List Piece → List Piece
-operands_of cover k [] = []
-operands_of cover k (p ∷ ps) = operand_of cover k p p.form ++ operands_of cover k ps
+operands_of cover k ps = flat_map (λ p. operand_of cover k p p.form) ps

@@ -1,6 +1,6 @@
 -- Unfoldings as one draws them: the labels of the events from left to right, and which event is to stand before which. For the
 -- worked charts.
-use Rattle.std.specs.Prelude.{◌≡◌, ◌↔◌, ◌⊎◌, ℕ, ◌+◌, List, [], ◌∷◌, ◌++◌}
+use Rattle.std.specs.Prelude.{◌≡◌, ◌↔◌, ◌⊎◌, ℕ, ◌+◌, List, [], ◌∷◌, ◌++◌, map}
 use Rattle.std.proofs.Common.{inl, inr}
 use Rattle.msc_base.specs.declared.label.Label.{Label}
 use Rattle.msc_base.specs.Lists.{IsAmong}
@@ -30,12 +30,10 @@ positions (one e) = tt ∷ []
 positions (join m x y) = left (positions x) ++ right (positions y)
   where
     left : List (Position x) → List (Position x ⊎ Position y)
-    left [] = []
-    left (p ∷ l) = inl p ∷ left l
+    left l = map inl l
 
     right : List (Position y) → List (Position x ⊎ Position y)
-    right [] = []
-    right (p ∷ l) = inr p ∷ right l
+    right l = map inr l
 positions (bind x t) = positions x
 
 -- a drawing: the labels, and pairs of numbers of which the first event is to stand before the second
@@ -54,8 +52,7 @@ pub record AreShown (set : Unfolding → Type 0) (all : List Shown) : Type 0 whe
   pub every : (u : Unfolding) → set u → (s : Shown) × (IsAmong all s × IsShown s u)
 
 abbrev pub before_each : ℕ → List ℕ → List (ℕ × ℕ)
-before_each n [] = []
-before_each n (m ∷ ms) = (n, m) ∷ before_each n ms
+before_each n ms = map (λ m. (n, m)) ms
 
 -- each of the numbers before those behind it, as the events of one instance are
 abbrev pub in_order : List ℕ → List (ℕ × ℕ)

@@ -1,6 +1,6 @@
 -- The table that a document is woven to.
 use Rattle.std.specs.Prelude.{◌≡◌, ℕ, List, [], ◌∷◌}
-use Rattle.chart_text.specs.Gathering.{gathered}
+use Rattle.std.specs.List.{flat_map}
 use Rattle.chart_text.specs.Texts.{Passage, a_head, a_statement, an_item, an_operand, chart_text}
 use Rattle.msc_tree.specs.declared.chart.Decl.{Decl}
 use Rattle.msc_tree.specs.Charts.{Chart, Content, Document}
@@ -33,7 +33,7 @@ declares (an_operand s x) = []
 
 -- the declarations of a chart: those of its heads, and those of its statements at any depth
 abbrev pub chart_decls : Chart → List Decl
-chart_decls chart = gathered declares (chart_text chart)
+chart_decls chart = flat_map declares (chart_text chart)
 
 -- the entry of a chart of these instances
 pub record IsEntryOf (names : List (List ℕ)) (drawn : Chart) (entry : ChartEntry) : Type 0 where

@@ -21,7 +21,7 @@ use Rattle.msc_events.specs.Multis as multis
 use Rattle.msc_events.specs.Multis.{sharers, cover_of, shared, shared_in, condition, join, joins}
 use Rattle.msc_events.specs.declared.event_parts.Orders.{Orders}
 use Rattle.msc_events.specs.declared.event_parts.Address.{Address}
-use Rattle.msc_events.specs.declared.event_parts.Setting.TheVariants as setting
+use Rattle.msc_events.specs.declared.event_parts.Origin.TheVariants as setting
 use Rattle.msc_print.specs.Words.{Words, alone, name_words, names_behind, separated_words, if_any, end_words}
 use Rattle.msc_print.specs.EventWords.{act_words, coregion_words, event_words, message_words, pairing_words, parameter_words, tag_words, target_words}
 use Rattle.msc_print.specs.ExpressionWords.{enclosed}

@@ -1,5 +1,6 @@
 -- Lists of tokens, as their texts.
 use Rattle.std.specs.Prelude.{ℕ, Bool, true, false, List, [], ◌∷◌, ◌++◌, Option, Some, None, codes}
+use Rattle.std.specs.List.{flat_map}
 
 abbrev pub Words : Type 0
 Words = List (List ℕ)
@@ -10,8 +11,7 @@ alone text = text ∷ []
 
 -- one after another
 abbrev pub all_words : {A : Type 0} → (A → Words) → List A → Words
-all_words f [] = []
-all_words f (x ∷ xs) = f x ++ all_words f xs
+all_words f xs = flat_map f xs
 
 -- each with this text in front
 abbrev pub each_behind : {A : Type 0} → List ℕ → (A → Words) → List A → Words

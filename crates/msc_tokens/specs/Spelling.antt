@@ -1,5 +1,6 @@
 -- How a text is cut into tokens, and its first fault.
 use Rattle.std.specs.Prelude.{◌≡◌, ◌≢◌, ◌⊎◌, ◌<◌, ◌≤◌, ◌^◌, ◌+◌, ℕ, List, [], ◌∷◌, ◌++◌, length, All, Any}
+use Rattle.std.specs.List.{flat_map}
 use Rattle.msc_base.specs.declared.place.Place.{Place}
 use Rattle.msc_base.specs.declared.limits.TheConstants.Limits.{NAME_BYTES}
 use Rattle.msc_base.specs.Names.{IsWord, IsWordByte, IsLetterOrDigit}
@@ -77,8 +78,7 @@ text (OneMark b) = b ∷ []
 text (LongMark b c) = b ∷ c ∷ []
 
 abbrev pub bytes_of : List TextPiece → List ℕ
-bytes_of [] = []
-bytes_of (x ∷ xs) = text x ++ bytes_of xs
+bytes_of xs = flat_map text xs
 
 -- the token that a piece is, at its place
 abbrev pub token_of : Place → TextPiece → List Token

@@ -1,6 +1,6 @@
 -- The events of a chart's unfoldings, and what ties them.
-use Rattle.std.specs.Prelude.{ℕ, Bool, false, List, [], ◌∷◌, ◌++◌, Option, ◌||◌, ◌&&◌, ◌==◌}
-use Rattle.std.specs.List.{list_any}
+use Rattle.std.specs.Prelude.{ℕ, Bool, false, List, [], ◌∷◌, Option, ◌&&◌, ◌==◌}
+use Rattle.std.specs.List.{flat_map, list_any}
 use Rattle.std.specs.Str.{bytes_eq}
 use Rattle.std.specs.Option.{option_to_list}
 use Rattle.msc_base.specs.declared.label.Label.{Label}
@@ -34,17 +34,14 @@ is_same_tag (On z g) (On y h) = bytes_eq z y && bytes_eq g h
 is_same_tag _ _ = false
 
 abbrev pub is_pair : List (Tag × Tag) → Tag → Tag → Bool
-is_pair [] a b = false
-is_pair (p ∷ ps) a b = (is_same_tag a p.0 && is_same_tag b p.1) || is_pair ps a b
+is_pair ps a b = list_any (λ p. (is_same_tag a p.0 && is_same_tag b p.1)) ps
 
 -- a tag of the first and a tag of the second are a pair
 abbrev pub joins : List (Tag × Tag) → List Tag → List Tag → Bool
-joins ps [] bs = false
-joins ps (a ∷ as_) bs = list_any (is_pair ps a) bs || joins ps as_ bs
+joins ps as_ bs = list_any (λ a. list_any (is_pair ps a) bs) as_
 
 abbrev pub past_all : (Tag → List Tag) → List Tag → List Tag
-past_all f [] = []
-past_all f (a ∷ as_) = f a ++ past_all f as_
+past_all f as_ = flat_map f as_
 
 -- the instances of an event
 abbrev pub instances_of : Happening → List (List ℕ)
@@ -52,8 +49,7 @@ instances_of h = h.label.at ∷ option_to_list h.also
 
 -- they have an instance in common
 abbrev pub share : List (List ℕ) → List (List ℕ) → Bool
-share [] js = false
-share (i ∷ is) js = list_any (bytes_eq i) js || share is js
+share is js = list_any (λ i. list_any (bytes_eq i) js) is
 
 -- how unfoldings are read
 abbrev pub plain : Reading Happening Tie

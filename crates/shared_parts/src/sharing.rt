@@ -9,7 +9,7 @@ ghost use Rattle.msc_meaning.specs.LevelItems.{cover_by, cover_of, name_of, shar
 ghost use Rattle.msc_tree.specs.Views.{form_view};
 ghost use Rattle.shared_parts.specs.Sharing.{AllAmong, AllCover, HaveSame, IsKnown, IsSharing, OneCoversOthers, OneIsMissing, StandsOne, Tells, has_several, is_unshared_in, lacks_name};
 
-use level_pieces::{LevelItem, Piece, Setting, covered, item_cover};
+use level_pieces::{LevelItem, Piece, PieceSide, covered, item_cover};
 use msc_base::{Name, NameTable, Names, NoMemory};
 use msc_tree::{Cover, RawForm};
 use std::alloc::Global;
@@ -72,7 +72,7 @@ fn known_of<'a>(
     requires { (i : List ℕ) → list_any (bytes_eq i) names.now ≡ list_any (bytes_eq i) cover.now }
     ensures { IfOk result (IsKnown level.now cover.now) }
 {
-    let kept = covered(alloc, level, Setting::Inside(cover), &None)?;
+    let kept = covered(alloc, level, PieceSide::Inside(cover), &None)?;
     Ok(Known {
         names,
         is_all: same_names(level.as_slice(), cover.as_slice()),
@@ -130,7 +130,7 @@ fn is_seen_same(
     ensures { (level : List (List ℕ)) → IsKnown level cover.now known.now → IfOk result (λ same. IsTrue same → cover_of level (piece_view piece.entry) ≡ cover.now) }
 {
     match piece.setting {
-        Setting::InColumn(_) => covers_these(alloc, cover, known, list_of(piece.form)),
+        PieceSide::InColumn(_) => covers_these(alloc, cover, known, list_of(piece.form)),
         _ => Ok(false),
     }
 }
@@ -181,7 +181,7 @@ fn add_column(alloc: Global, columns: &mut NameTable, piece: Piece<'_, '_>) -> R
     ensures { OnOk result ((i : List ℕ) → IsAmong columns.new i ↔ (IsAmong columns.old i ⊎ (setting_column piece.entry.setting ≡ Some i))) }
 {
     match piece.setting {
-        Setting::InColumn(name) => columns.add(alloc, name.bytes()),
+        PieceSide::InColumn(name) => columns.add(alloc, name.bytes()),
         _ => Ok(()),
     }
 }
@@ -261,7 +261,7 @@ pub fn is_unshared(sharing: &Sharing, piece: Piece<'_, '_>) -> bool
     ensures { result ≡ is_unshared_in sharing.now.all_break sharing.now.several sharing.now.names (piece_view piece.entry).column (name_of (piece_view piece.entry).form) }
 {
     match piece.setting {
-        Setting::InColumn(name) => {
+        PieceSide::InColumn(name) => {
             sharing.all_break
                 || !sharing.names.has(name.bytes())
                 || (sharing.several && is_unnamed(piece.form))

@@ -1,5 +1,6 @@
 -- The numbers of what the normalising constructors make.
-use Rattle.std.specs.Prelude.{ℕ, ◌≡◌, ◌++◌, List, [], ◌∷◌, Option, Some}
+use Rattle.std.specs.Prelude.{ℕ, ◌≡◌, List, [], ◌∷◌, Option, Some}
+use Rattle.std.specs.List.{flat_map}
 use Rattle.msc_base.specs.Patterns.{Mode}
 use Rattle.chart_term.specs.NormalForms.{join_all, choice_of, tie_of, numbers}
 use Rattle.chart_term.specs.Tables.{Tables}
@@ -9,8 +10,7 @@ use Rattle.term_laws.specs.OneResidual.{AreOnce}
 
 -- the numbers of a list of terms
 abbrev pub list_numbers : List Tree → List ℕ
-list_numbers [] = []
-list_numbers (x ∷ xs) = numbers x ++ list_numbers xs
+list_numbers xs = flat_map numbers xs
 
 -- some of them, in their order
 pub data IsPartList : List ℕ → List ℕ → Type 0 where

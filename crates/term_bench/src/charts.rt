@@ -1,5 +1,6 @@
 //! The charts that are measured, but for those of `towers`, as terms over one table of labels.
 ghost use Rattle.std.specs.Prelude.{◌≡◌, ◌<◌, ◌+◌, [], ◌∷◌, length, IfOk, OnOk};
+ghost use Rattle.msc_base.specs.Stored.{most_numbered};
 ghost use Rattle.chart_term.specs.NormalForms.{tie_of};
 ghost use Rattle.chart_term.specs.Properties.{Each};
 ghost use Rattle.chart_term.specs.TermMeanings.{UpTo};
@@ -73,7 +74,7 @@ pub(crate) fn label(alloc: Global, number: u32) -> Result<Label, Fault> {
 
 /// Adds a label that the tables lack.
 pub(crate) fn add(nets: &mut Nets, label: Label) -> Result<(), Fault>
-    requires { length nets.old.labels < 4294967295 }
+    requires { length nets.old.labels < most_numbered }
     ensures tables { OnOk result (nets.new.tables ≡ nets.old.tables) }
     ensures labels { OnOk result (length nets.new.labels ≡ length nets.old.labels + 1) }
 {

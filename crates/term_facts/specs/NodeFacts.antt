@@ -1,14 +1,11 @@
 -- The facts that a node of a term stores beside its parts.
 use Rattle.std.specs.List.{list_any}
 use Rattle.std.specs.Prelude.{ℕ, ◌+◌, ◌*◌, ◌/◌, ◌%◌, ◌^◌, ◌≡◌, Bool, false, List, [], ◌∷◌, Option, Some, None, ◌||◌, ◌&&◌, ◌⊎◌, not, min, max, nat_le}
+use Rattle.msc_base.specs.Stored.{most_stored}
 use Rattle.bit_sets.specs.Blocks.{BlockValue, is_among, share}
 use Rattle.term_facts.specs.declared.facts.Facts.{Facts}
 use Rattle.term_facts.specs.declared.facts.Ranges.{Ranges}
 use Rattle.term_facts.specs.declared.facts.Span.{Span}
-
--- the largest number that is stored of a weight
-abbrev pub most_stored : ℕ
-most_stored = 18446744073709551615
 
 -- from the least to the greatest number of both
 abbrev pub wider : Option Span → Option Span → Option Span

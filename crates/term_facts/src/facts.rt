@@ -4,7 +4,8 @@ ghost use Rattle.std.specs.Prelude.{◌≡◌, ◌+◌, ◌<◌, ◌∷◌, ◌|
 ghost use Rattle.bit_sets.specs.Blocks.{is_among};
 ghost use Rattle.std.specs.List.{list_any};
 ghost use Rattle.std.specs.Option.{ForSome};
-ghost use Rattle.term_facts.specs.NodeFacts.{Adds, AreFacts, FactsPassed, FactsWithin, facts_may, facts_miss, labels_in, lies_in, most_stored, number_code, numbers_in, wider};
+ghost use Rattle.msc_base.specs.Stored.{most_stored};
+ghost use Rattle.term_facts.specs.NodeFacts.{Adds, AreFacts, FactsPassed, FactsWithin, facts_may, facts_miss, labels_in, lies_in, number_code, numbers_in, wider};
 
 use bit_sets::Block;
 use msc_base::{Limits, NoMemory};

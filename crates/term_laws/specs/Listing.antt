@@ -1,5 +1,6 @@
 -- The residual terms as lists: the functions of which the relations speak, and the weight of a set of residual terms.
 use Rattle.std.specs.Prelude.{ℕ, zero, suc, ◌+◌, Bool, true, false, List, [], ◌∷◌, ◌++◌, ◌≡◌, ◌==◌, Option, Some, None, ◌⊎◌, ◌≤◌}
+use Rattle.std.specs.List.{flat_map}
 use Rattle.msc_base.specs.Lists.{IsAmong}
 use Rattle.msc_base.specs.Patterns.{Mode, seq, par}
 use Rattle.hmsc_graph.specs.Graphs.{Spot, At, Goal, To, End, Any, reach}
@@ -142,8 +143,7 @@ node_walked k g n f t c m (Some x) = all_walked k n f t c m (g x)
 
 -- what is left of a walk through one of these nodes
 abbrev pub nodes_walked : NetPermits → (Tree → List Taken) → ℕ → Spot → Goal → List ℕ → List ℕ → List Taken
-nodes_walked k g n f t c [] = []
-nodes_walked k g n f t c (m ∷ ms) = node_walked k g n f t c m (k.kept n m c) ++ nodes_walked k g n f t c ms
+nodes_walked k g n f t c ms = flat_map (λ m. node_walked k g n f t c m (k.kept n m c)) ms
 
 -- what is left after any event; g gives it of permitted operands and node terms
 abbrev mutual
@@ -186,8 +186,7 @@ labelled a (p ∷ ps) = labelled_one (p.event.label == a) p.term (labelled a ps)
 
 -- what is left of all terms of a set
 abbrev pub all_after : ℕ → NetPermits → ℕ → List Tree → List Tree
-all_after n k a [] = []
-all_after n k a (x ∷ xs) = labelled a (after_list n k x) ++ all_after n k a xs
+all_after n k a xs = flat_map (λ x. labelled a (after_list n k x)) xs
 
 -- the set of residual terms after one more label: without repeats
 abbrev pub next_set : ℕ → NetPermits → ℕ → List Tree → List Tree

@@ -1,6 +1,7 @@
 -- What a function that makes terms says of a term: its patterns mean these unfoldings; its events have the numbers of an
 -- interval; these are the tags that are still to be seen of them.
-use Rattle.std.specs.Prelude.{ℕ, ◌≤◌, ◌==◌, ◌≡◌, ◌++◌, Bool, true, false, List, [], ◌∷◌}
+use Rattle.std.specs.Prelude.{ℕ, ◌≤◌, ◌==◌, ◌≡◌, Bool, true, false, List, [], ◌∷◌, map}
+use Rattle.std.specs.List.{flat_map}
 use Rattle.msc_base.specs.declared.label.Label.{Label}
 use Rattle.msc_unfolding.specs.Unfoldings.{Tag, Unfolding, is_pair}
 use Rattle.chart_term.specs.TermPatterns.{Shape, Occurs}
@@ -23,13 +24,11 @@ tags_in (p ∷ sh) n = put_tag (n == p.0) p.1 (tags_in sh n)
 
 -- the number with each of these tags
 abbrev pub shown_at : ℕ → List Tag → Shown
-shown_at n [] = []
-shown_at n (a ∷ l) = (n, a) ∷ shown_at n l
+shown_at n l = map (λ a. (n, a)) l
 
 -- what is shown above a tie
 abbrev pub past_shown : (Tag → List Tag) → Shown → Shown
-past_shown f [] = []
-past_shown f (p ∷ sh) = shown_at p.0 (f p.1) ++ past_shown f sh
+past_shown f sh = flat_map (λ p. shown_at p.0 (f p.1)) sh
 
 pub record IsPortion (labels : List Label) (names : List (List ℕ)) (lo hi : ℕ) (sh : Shown) (P : Shape → Type 0) (U : Unfolding → Type 0) : Type 0 where
   pub mean : Mean (IsSeen labels names (tags_in sh)) P U
@@ -48,5 +47,4 @@ pairs_at q k a [] = []
 pairs_at q k a (p ∷ ti) = add_pair (is_pair q a p.1) k p.0 (pairs_at q k a ti)
 
 abbrev pub shown_pairs : List (Tag × Tag) → Shown → Shown → List (ℕ × ℕ)
-shown_pairs q [] ti = []
-shown_pairs q (p ∷ sh) ti = pairs_at q p.0 p.1 ti ++ shown_pairs q sh ti
+shown_pairs q sh ti = flat_map (λ p. pairs_at q p.0 p.1 ti) sh

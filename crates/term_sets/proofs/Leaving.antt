@@ -12,7 +12,6 @@ use Rattle.term_successors.proofs.TermSets.{rising_different}
 use Rattle.term_sets.specs.Subsets.{AreAllTaken, IsTaken, IsTooMuch}
 
 module _ (v : NetsValue) (label : Label) (a : ℕ) (labelled : label_number v.labels label ≡ Some a) (terms : List Tree) where
-
   left_of_label : (y : Tree) → IsTaken (permits_of v.tables) a terms y → IsLeftOf v label terms y
   left_of_label y t = record { term = t.term; held = t.held; left = record { event = t.left.event; labelled = labelled ∙ ap Some (sym t.left.labelled); after = t.left.after } }
 

@@ -1,7 +1,7 @@
 //! Terms that are some of the same events side by side, each told by a word: for `term_set`.
 
 ghost use Rattle.std.specs.Prelude.{◌≡◌, ◌+◌, ◌^◌, ◌<◌, ◌≤◌, ◌↔◌, ◌∷◌, [], IfOk, IfSome, IsTrue, MatchOption, take, length, slice_get, Some, true, false};
-ghost use Rattle.chart_term.specs.Facts.{most_stored};
+ghost use Rattle.msc_base.specs.Stored.{most_stored};
 ghost use Rattle.chart_term.specs.NormalForms.{NetPermits, begun};
 ghost use Rattle.chart_term.specs.PartLists.{AreTurns};
 ghost use Rattle.chart_term.specs.Properties.{Each};

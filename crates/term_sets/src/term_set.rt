@@ -1,7 +1,7 @@
 //! A set of terms with its weight, and what an event leaves of it: for the stores.
 
 ghost use Rattle.std.specs.Prelude.{◌≡◌, ◌<◌, ◌↔◌, ◌∷◌, [], IfOk, IfSome, IsTrue, MatchOption, Some, true};
-ghost use Rattle.chart_term.specs.Facts.{most_stored};
+ghost use Rattle.msc_base.specs.Stored.{most_stored};
 ghost use Rattle.chart_term.specs.Properties.{Each};
 ghost use Rattle.chart_term.specs.Terms.{weight};
 ghost use Rattle.msc_base.specs.declared.label.Label.{Label as LabelValue};

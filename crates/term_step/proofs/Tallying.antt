@@ -4,8 +4,8 @@ use Rattle.std.specs.Ordering.{is_eq}
 use Rattle.std.specs.Prelude.{◌+◌, ◌<◌, ◌≤◌, Bool, true, false, List, [], ◌∷◌, ◌≡◌, ◌⊎◌, refl, min, nat_le}
 use Rattle.std.proofs.Common.{ap, sym, ◌∙◌, subst, arith, cond, inl, inr}
 use Rattle.std.proofs.lemmas.Bool.Decides.{nat_tests}
+use Rattle.msc_base.specs.Stored.{most_stored}
 use Rattle.chart_term.specs.Equality.{same_tree}
-use Rattle.chart_term.specs.Facts.{most_stored}
 use Rattle.chart_term.specs.Order.{tree_cmp}
 use Rattle.chart_term.specs.Terms.{Tree, weight}
 use Rattle.chart_term.proofs.Equal.{same_tree_is_exact}

@@ -1,9 +1,9 @@
 -- Serves private contracts alone.
 -- The search for the events that can be taken from a term, through its children.
 use Rattle.std.specs.Prelude.{ℕ, zero, suc, ◌<◌, ◌≤◌, Bool, true, false, List, [], ◌∷◌, ◌++◌, ◌≡◌, ◌⊎◌, Option, Some, None, length, min}
+use Rattle.msc_base.specs.Stored.{most_stored}
 use Rattle.hmsc_graph.specs.Nets.{size_of}
 use Rattle.chart_term.specs.Equality.{same_tree}
-use Rattle.chart_term.specs.Facts.{most_stored}
 use Rattle.chart_term.specs.NormalForms.{NetPermits}
 use Rattle.chart_term.specs.Order.{tree_cmp}
 use Rattle.chart_term.specs.Properties.{Each}

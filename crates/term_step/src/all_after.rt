@@ -1,7 +1,7 @@
 //! What is left of any of some terms after an event with a label, in one set. term_sets steps sets by it.
 
 ghost use Rattle.std.specs.Prelude.{◌≡◌, ◌<◌, [], true, false, Some, IfOk, IfSome, MatchOption};
-ghost use Rattle.chart_term.specs.Facts.{most_stored};
+ghost use Rattle.msc_base.specs.Stored.{most_stored};
 ghost use Rattle.chart_term.specs.Properties.{Each};
 ghost use Rattle.msc_base.specs.declared.label.Label.{Label as LabelValue};
 ghost use Rattle.term_step.specs.AllAfter.{AreAllLeft, AreTooMany};

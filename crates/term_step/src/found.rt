@@ -1,7 +1,7 @@
 //! The terms that a search found, each once, and their weight, above which the search ends: for `search`.
 
 ghost use Rattle.std.specs.Prelude.{◌≡◌, ◌<◌, ◌≤◌, [], IfOk};
-ghost use Rattle.chart_term.specs.Facts.{most_stored};
+ghost use Rattle.msc_base.specs.Stored.{most_stored};
 ghost use Rattle.term_laws.specs.Listing.{set_weight};
 ghost use Rattle.term_step.specs.Searches.{AddsOne, IsTally};
 

@@ -1,7 +1,7 @@
 -- The tables of labels and nets that are stored.
 use Rattle.std.specs.Prelude.{ℕ, zero, suc, ◌≡◌, ◌≤◌, List, [], ◌∷◌, length}
+use Rattle.msc_base.specs.Stored.{most_numbered}
 use Rattle.hmsc_graph.specs.Nets.{size_of}
-use Rattle.term_tables.specs.NetValues.{most_numbered}
 use Rattle.term_tables.specs.declared.nets.StoredNet.{StoredNet}
 use Rattle.chart_term.specs.Spreads.{spread_of}
 use Rattle.chart_term.specs.Tables.{NetEntry, Tables}

@@ -8,7 +8,3 @@ pub use Rattle.label_table.specs.Labels.{label_number}
 pub record NetsValue : Type 0 where
   pub labels : List Label
   pub tables : Tables
-
--- so many labels are numbered at most, and so many nets: numbers have 32 bits
-abbrev pub most_numbered : ℕ
-most_numbered = 4294967295

@@ -1,9 +1,10 @@
 //! The tables of labels and nets, where term_step and trace_judge look numbers up. A net names earlier ones alone.
 
 ghost use Rattle.std.specs.Prelude.{◌≡◌, ◌<◌, ℕ, ◌++◌, ◌∷◌, [], nat_lt, length, Contains, Some, slice_get, IfSome, IfNone, IfOk, OnOk, OnErr};
+ghost use Rattle.msc_base.specs.Stored.{most_numbered};
 ghost use Rattle.hmsc_graph.specs.Nets.{size_of};
 ghost use Rattle.hmsc_graph.specs.Spots.{goal_of, spot_of};
-ghost use Rattle.term_tables.specs.NetValues.{label_number, most_numbered};
+ghost use Rattle.term_tables.specs.NetValues.{label_number};
 ghost use Rattle.term_tables.specs.Fitting.{fits, goal_fits, spot_fits, walk_fits};
 ghost use Rattle.chart_term.specs.Spreads.{spread_of, touch};
 ghost use Rattle.chart_term.specs.Tables.{net_count, net_of, nodes_of, node_of};

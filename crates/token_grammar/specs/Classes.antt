@@ -1,6 +1,6 @@
 -- Classes of tokens: one text, the names, the strings, the numbers. A token's bytes decide its classes.
 use Rattle.std.specs.Prelude.{ℕ, Bool, true, false, not, ◌&&◌, ◌||◌, List, [], ◌∷◌, length, nat_eq, nat_lt, ◌+◌}
-use Rattle.std.specs.List.{list_any, list_all}
+use Rattle.std.specs.List.{list_all, list_any}
 use Rattle.std.specs.Str.{bytes_eq}
 use Rattle.msc_base.specs.declared.limits.TheConstants.Limits.{NAME_BYTES}
 use Rattle.msc_base.specs.Names.{is_letter_or_digit, is_word_byte, reserved_to_decomposed, reserved_to_inst, reserved_to_out, reserved_to_when}
@@ -13,8 +13,7 @@ is_digit b = nat_lt 47 b && nat_lt b 58
 
 -- one of these texts
 abbrev pub is_one_of : List (List ℕ) → List ℕ → Bool
-is_one_of [] bytes = false
-is_one_of (w ∷ ws) bytes = bytes_eq bytes w || is_one_of ws bytes
+is_one_of ws bytes = list_any (bytes_eq bytes) ws
 
 abbrev pub is_reserved : List ℕ → Bool
 is_reserved bytes = is_one_of reserved_to_decomposed bytes || (is_one_of reserved_to_inst bytes || (is_one_of reserved_to_out bytes || is_one_of reserved_to_when bytes))

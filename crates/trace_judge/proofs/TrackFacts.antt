@@ -142,7 +142,6 @@ module _ (v : NetsValue) (x : Tree) (budget : ℕ) where
   set_gone events set r e h = subst (λ (s : List Tree). IsAmong s h.term) e ((r.exact h.term).from h.left)
 
 module _ {S : Type 0} (holds : S → SetValue) (v : NetsValue) (x : Tree) (budget : ℕ) where
-
   pub new_fed : (s : S) (t : TrackValue S) (n : ℕ) → IsSoundFor v x → holds s ≡ record { terms = x ∷ []; budget = budget; too_large = false } → weight x ≤ budget → n ≡ set_weight (holds s).terms
       → t ≡ record { set = Some s; events = 0; ended = None; largest = n } → Fed holds v x budget [] t
   new_fed s t n h q l w e = subst (Fed holds v x budget []) (sym e) (record {

@@ -1,6 +1,7 @@
 //! Follows the events of one log to a verdict, whatever the store. It knows labels and lines, and no bytes.
 
 ghost use Rattle.std.specs.Prelude.{◌≡◌, ◌≤◌, ◌<◌, ◌+◌, ◌++◌, ◌∷◌, [], ℕ, List, IfOk, OnOk, OnErr, MatchOption, Some, None};
+ghost use Rattle.msc_base.specs.Stored.{most_stored};
 ghost use Rattle.msc_base.specs.declared.limits.TheConstants.Limits.{BUDGET_MOST};
 ghost use Rattle.term_tables.specs.NetValues.{NetsValue};
 ghost use Rattle.chart_term.specs.Terms.{Tree};
@@ -71,7 +72,7 @@ impl<S: Store + Drop> Track<S> {
 
     /// Notes what became of the set at the next event, which stands in this line.
     fn note(&mut self, outcome: Outcome, line: u64)
-        requires { self.old.events < 18446744073709551615 }
+        requires { self.old.events < most_stored }
         ensures { self.new ≡ record self.old { ended = settled outcome (self.old.events + 1) line; largest = risen outcome self.old.largest } }
     {
         match outcome {
@@ -94,7 +95,7 @@ impl<S: Store + Drop> Track<S> {
     fn follow(&mut self, nets: &Nets, number: Option<u32>, line: u64) -> Result<(), NoMemory>
         requires serves { IfHeld (λ set. S.serves set nets.now) self.old }
         requires number { IsNumber nets.now number }
-        requires room { self.old.events < 18446744073709551615 }
+        requires room { self.old.events < most_stored }
         ensures serves { IfHeld (λ set. S.serves set nets.now) self.new }
         ensures ok { OnOk result (Follows S.holds nets.now number line self.old.set self.old self.new) }
         ensures count { OnOk result (self.new.events ≡ self.old.events) }
@@ -114,7 +115,7 @@ impl<S: Store + Drop> Track<S> {
     fn follow_open(&mut self, nets: &Nets, number: Option<u32>, line: u64) -> Result<(), NoMemory>
         requires serves { IfHeld (λ set. S.serves set nets.now) self.old }
         requires number { IsNumber nets.now number }
-        requires room { self.old.events < 18446744073709551615 }
+        requires room { self.old.events < most_stored }
         ensures serves { IfHeld (λ set. S.serves set nets.now) self.new }
         ensures ok { OnOk result (FollowsOpen S.holds nets.now number line self.old.ended self.old self.new) }
         ensures count { OnOk result (self.new.events ≡ self.old.events) }
@@ -128,7 +129,7 @@ impl<S: Store + Drop> Track<S> {
 
     /// Counts the event.
     fn count(&mut self)
-        requires { self.old.events < 18446744073709551615 }
+        requires { self.old.events < most_stored }
         ensures { self.new ≡ record self.old { events = self.old.events + 1 } }
     {
         self.events += 1;
@@ -139,7 +140,7 @@ impl<S: Store + Drop> Track<S> {
     pub fn take(&mut self, nets: &Nets, number: Option<u32>, line: u64) -> Result<(), NoMemory>
         requires serves { IfHeld (λ set. S.serves set nets.now) self.old }
         requires number { IsNumber nets.now number }
-        requires room { self.old.events < 18446744073709551615 }
+        requires room { self.old.events < most_stored }
         ensures serves { IfHeld (λ set. S.serves set nets.now) self.new }
         ensures count { OnOk result (self.new.events ≡ self.old.events + 1) }
         ensures fed { (x : Tree) (budget : ℕ) (events : List LineEvent) → Fed S.holds nets.now x budget events self.old

@@ -1,8 +1,9 @@
 -- The pieces of a chart whose text is well formed and whose forms are built: each is so, at any depth.
 use Rattle.std.proofs.Common.{◌≡◌, inl, ℕ, Bool, true, false, not, List, [], ◌∷◌, refl, subst, map}
+use Rattle.std.specs.List.{flat_map}
 use Rattle.chart_forms.specs.NotBuilt.{IsBuilt, not_built, not_built_chart, not_built_graph}
 use Rattle.chart_text.proofs.StandingLaws.{IsMovable, each_right, formed_item}
-use Rattle.chart_text.specs.Gathering.{gathered, place_if}
+use Rattle.chart_text.specs.Gathering.{place_if}
 use Rattle.chart_text.specs.Texts.{Passage, Whole, a_head, chart_text, content_text}
 use Rattle.chart_text.specs.WellFormed.{AreWellFormed, Each, IsWellFormed, is_well_formed}
 use Rattle.level_pieces.proofs.PieceTexts.{operand_are, statements_are}
@@ -21,12 +22,12 @@ none_among : {A : Type 0} (xs : List A) → ((x : A) → IsAmong xs x → ⊥) �
 none_among [] none = refl
 none_among (x ∷ xs) none = absurd (none x (inl refl))
 
-pub text_none : (chart : Chart) → IsBuilt chart → gathered not_built (chart_text chart) ≡ []
-text_none chart built = right_nil (not_built_graph chart.place chart.content) (gathered not_built (chart_text chart)) (none_among (not_built_chart chart) built)
+pub text_none : (chart : Chart) → IsBuilt chart → flat_map not_built (chart_text chart) ≡ []
+text_none chart built = right_nil (not_built_graph chart.place chart.content) (flat_map not_built (chart_text chart)) (none_among (not_built_chart chart) built)
 
 pub no_graph : (chart : Chart) (drawn : Graph) → chart.content ≡ HighLevel drawn → IsBuilt chart → ⊥
 no_graph chart drawn is built =
-    let none = left_nil (not_built_graph chart.place chart.content) (gathered not_built (chart_text chart)) (none_among (not_built_chart chart) built) in
+    let none = left_nil (not_built_graph chart.place chart.content) (flat_map not_built (chart_text chart)) (none_among (not_built_chart chart) built) in
     let drawn_none : not_built_graph chart.place (HighLevel drawn) ≡ [] = subst (λ (x : Content). not_built_graph chart.place x ≡ []) is none in cc
 
 -- ---- tests
@@ -55,9 +56,9 @@ IsBuiltPiece p = Each IsBuiltPassage (piece_text p)
 pub of_built : (cover : List (List ℕ)) (k : ℕ) (p : Piece) → IsBuiltPiece p → EachPiece IsBuiltPiece (operand_of cover k p p.form)
 of_built cover k p h = operand_are IsBuiltPassage built_movable cover k p h
 
-each_built : (text : List Passage) → AreWellFormed text → gathered not_built text ≡ [] → Each IsBuiltPassage text
+each_built : (text : List Passage) → AreWellFormed text → flat_map not_built text ≡ [] → Each IsBuiltPassage text
 each_built [] h none = tt
-each_built (p ∷ text) h none = ((h.0, left_nil (not_built p) (gathered not_built text) none), each_built text h.1 (right_nil (not_built p) (gathered not_built text) none))
+each_built (p ∷ text) h none = ((h.0, left_nil (not_built p) (flat_map not_built text) none), each_built text h.1 (right_nil (not_built p) (flat_map not_built text) none))
 
 pub chart_pieces_built : (c : Chart) (held : List Statement) (cover : List (List ℕ)) → c.content ≡ Basic held → IsWellFormed c → IsBuilt c → EachPiece IsBuiltPiece (statements_pieces cover 0 (statements held))
 chart_pieces_built c held cover is formed built =

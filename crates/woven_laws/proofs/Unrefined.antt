@@ -1,9 +1,9 @@
 -- In a chart whose forms are built no instance is decomposed.
 use Rattle.std.proofs.Common.{◌≡◌, ℕ, Bool, true, false, cond, List, [], ◌∷◌, ◌++◌, Option, Some, None, refl, ap, ap₂, ◌∙◌}
+use Rattle.std.specs.List.{flat_map}
 use Rattle.std.specs.Option.{option_or}
 use Rattle.std.specs.Str.{bytes_eq}
 use Rattle.chart_forms.specs.NotBuilt.{IsBuilt, not_built, not_built_by, not_built_heading}
-use Rattle.chart_text.specs.Gathering.{gathered}
 use Rattle.chart_text.specs.Texts.{Passage, a_head, a_statement, an_item, an_operand, chart_text}
 use Rattle.msc_base.specs.declared.place.Place.{Place}
 use Rattle.list_facts.proofs.Joining.{left_nil, right_nil}
@@ -38,10 +38,10 @@ passage_unrefined (a_statement depth scope x) h = heading_unrefined x h
 passage_unrefined (an_item s place form) h = tt
 passage_unrefined (an_operand s x) h = tt
 
-text_unrefined : (text : List Passage) → gathered not_built text ≡ [] → Unrefined (gathered declares text)
+text_unrefined : (text : List Passage) → flat_map not_built text ≡ [] → Unrefined (flat_map declares text)
 text_unrefined [] h = tt
 text_unrefined (p ∷ text) h =
-    unrefined_on (declares p) (gathered declares text) (passage_unrefined p (left_nil (not_built p) (gathered not_built text) h)) (text_unrefined text (right_nil (not_built p) (gathered not_built text) h))
+    unrefined_on (declares p) (flat_map declares text) (passage_unrefined p (left_nil (not_built p) (flat_map not_built text) h)) (text_unrefined text (right_nil (not_built p) (flat_map not_built text) h))
 
 passed_none : (b : Bool) (r later : Option (List ℕ)) → r ≡ None → later ≡ None → option_or (cond b r None) later ≡ None
 passed_none true r later e f = ap (λ (o : Option (List ℕ)). option_or o later) e ∙ f

@@ -1,8 +1,8 @@
 -- What a text writes of its instances, level by level: the same as passage by passage.
 use Rattle.std.proofs.Common.{◌≡◌, ◌∙◌, Bool, true, false, List, [], ◌∷◌, ◌++◌, ℕ, suc, map, nat_eq, ap, ap₂, refl, append-nil, arith}
+use Rattle.std.proofs.lemmas.Grind.{flat_map-append}
+use Rattle.std.specs.List.{flat_map}
 use Rattle.std.proofs.lemmas.Bool.Decides.{Decides-eqb}
-use Rattle.chart_text.proofs.GatheringLaws.{gathered_append}
-use Rattle.chart_text.specs.Gathering.{gathered}
 use Rattle.chart_text.specs.Texts.{Standing, a_head, a_statement, an_item, an_operand, Scope, Whole, Within, behind_colon, content_text, covered_scope, form_text, inside, items_text, operand_held, operands_text, own_scope, statement_held, statements_text}
 use Rattle.msc_base.specs.declared.place.Place.{Place}
 use Rattle.msc_instances.specs.Notes.{Note, chart_notes, decl_notes, ended_notes, event_notes, events_notes, left_notes, passage_notes, shared_notes, statement_notes, used_notes}
@@ -60,12 +60,12 @@ deeper n = by (nat_eq (suc n) 0) refl
     by true e = let same = (Decides-eqb (suc n) 0).0 e in absurd (omega (arith, same))
     by false e = refl
 
-heads_walked : (ds : List Decl) → gathered passage_notes (map a_head ds) ≡ decls_notes ds
+heads_walked : (ds : List Decl) → flat_map passage_notes (map a_head ds) ≡ decls_notes ds
 heads_walked [] = refl
 heads_walked (d ∷ ds) = ap (λ t. decl_notes d ++ t) (heads_walked ds)
 
 mutual
-  form_walked : (s : Standing) (place : Place) (f : Form) → gathered passage_notes (an_item s place f ∷ form_text s f) ≡ form_notes s.scope (own_scope s.side) place f
+  form_walked : (s : Standing) (place : Place) (f : Form) → flat_map passage_notes (an_item s place f ∷ form_text s f) ≡ form_notes s.scope (own_scope s.side) place f
   form_walked s place (Single e) = append-nil (event_notes s.scope e)
   form_walked s place (Coregion es) = append-nil (events_notes s.scope es)
   form_walked s place (Condition names shared) = append-nil (shared_notes s.scope place shared)
@@ -73,35 +73,35 @@ mutual
   form_walked s place (Refer reference) = append-nil (shared_notes s.scope place reference.shared)
   form_walked s place Stop = refl
 
-  items_walked : (s : Standing) (xs : Items) → gathered passage_notes (items_text s xs) ≡ items_notes s.scope (own_scope s.side) xs
+  items_walked : (s : Standing) (xs : Items) → flat_map passage_notes (items_text s xs) ≡ items_notes s.scope (own_scope s.side) xs
   items_walked s no_items = refl
   items_walked s (item_and (placed place f) xs) =
-      gathered_append passage_notes (an_item s place f ∷ form_text s f) (items_text s xs) ∙ ap₂ (λ a b. a ++ b) (form_walked s place f) (items_walked s xs)
+      flat_map-append passage_notes (an_item s place f ∷ form_text s f) (items_text s xs) ∙ ap₂ (λ a b. a ++ b) (form_walked s place f) (items_walked s xs)
 
-  operands_walked : (s : Standing) (xs : Operands) → nat_eq s.depth 0 ≡ false → gathered passage_notes (operands_text s xs) ≡ operands_notes s.scope (own_scope s.side) xs
+  operands_walked : (s : Standing) (xs : Operands) → nat_eq s.depth 0 ≡ false → flat_map passage_notes (operands_text s xs) ≡ operands_notes s.scope (own_scope s.side) xs
   operands_walked s no_operands h = refl
   operands_walked s (operand_and x xs) h =
-      gathered_append passage_notes (an_operand s x ∷ operand_held s x) (operands_text s xs) ∙ ap₂ (λ a b. a ++ b) (operand_walked s x h) (operands_walked s xs h)
+      flat_map-append passage_notes (an_operand s x ∷ operand_held s x) (operands_text s xs) ∙ ap₂ (λ a b. a ++ b) (operand_walked s x h) (operands_walked s xs h)
 
-  operand_walked : (s : Standing) (x : Operand) → nat_eq s.depth 0 ≡ false → gathered passage_notes (operand_held s x) ≡ operand_notes s.scope (own_scope s.side) x
+  operand_walked : (s : Standing) (x : Operand) → nat_eq s.depth 0 ≡ false → flat_map passage_notes (operand_held s x) ≡ operand_notes s.scope (own_scope s.side) x
   operand_walked s (InColumn held) h = items_walked s held
   operand_walked s (Outside held) h = statements_walked s.depth s.scope held ∙ ap (λ b. statements_notes b s.scope held) h
 
-  statement_walked : (depth : ℕ) (scope : Scope) (x : Statement) → statement_notes (nat_eq depth 0) scope x ++ gathered passage_notes (statement_held depth scope x) ≡ stated_notes (nat_eq depth 0) scope x
+  statement_walked : (depth : ℕ) (scope : Scope) (x : Statement) → statement_notes (nat_eq depth 0) scope x ++ flat_map passage_notes (statement_held depth scope x) ≡ stated_notes (nat_eq depth 0) scope x
   statement_walked depth scope (Column decl held) = ap (λ t. decl_notes decl ++ t) (items_walked _ held)
   statement_walked depth scope (Covered cover held) = ap (λ t. left_notes (nat_eq depth 0) scope cover held ++ t) (items_walked _ held)
   statement_walked depth scope (Heading decl) = append-nil (decl_notes decl)
   statement_walked depth scope (Ended name) = append-nil (ended_notes (nat_eq depth 0) name)
 
-  statements_walked : (depth : ℕ) (scope : Scope) (xs : Statements) → gathered passage_notes (statements_text depth scope xs) ≡ statements_notes (nat_eq depth 0) scope xs
+  statements_walked : (depth : ℕ) (scope : Scope) (xs : Statements) → flat_map passage_notes (statements_text depth scope xs) ≡ statements_notes (nat_eq depth 0) scope xs
   statements_walked depth scope no_statements = refl
   statements_walked depth scope (statement_and x xs) =
-      gathered_append passage_notes (a_statement depth scope x ∷ statement_held depth scope x) (statements_text depth scope xs)
+      flat_map-append passage_notes (a_statement depth scope x ∷ statement_held depth scope x) (statements_text depth scope xs)
       ∙ ap₂ (λ a b. a ++ b) (statement_walked depth scope x) (statements_walked depth scope xs)
 
-content_walked : (ds : List Decl) (x : Content) → used_notes x (gathered passage_notes (map a_head ds ++ content_text x)) ≡ content_notes ds x
+content_walked : (ds : List Decl) (x : Content) → used_notes x (flat_map passage_notes (map a_head ds ++ content_text x)) ≡ content_notes ds x
 content_walked ds (Basic held) =
-    gathered_append passage_notes (map a_head ds) (statements_text 0 Whole (statements held)) ∙ ap₂ (λ a b. a ++ b) (heads_walked ds) (statements_walked 0 Whole (statements held))
+    flat_map-append passage_notes (map a_head ds) (statements_text 0 Whole (statements held)) ∙ ap₂ (λ a b. a ++ b) (heads_walked ds) (statements_walked 0 Whole (statements held))
 content_walked ds (HighLevel drawn) = refl
 
 pub chart_walked : (c : Chart) → chart_notes c ≡ content_notes c.decls c.content

@@ -1,5 +1,5 @@
 use Rattle.std.proofs.Common.{rules, ◌≡◌, ◌∙◌, ap}
-use Rattle.chart_text.specs.Gathering.{gathered}
+use Rattle.std.specs.List.{flat_map}
 use Rattle.chart_text.specs.PassageViews.{text_view}
 use Rattle.chart_text.specs.Texts.{chart_text}
 use Rattle.msc_meaning.specs.WovenTables.{declares}
@@ -8,6 +8,6 @@ use Rattle.msc_acceptance.proofs.declaring.chart_decls.Goals as goal
 
 pub returns : goal.returns
 returns c =
-    let told : c.passages.new.decls ≡ gathered declares (text_view c.as_slice.result.now) = search rules in
+    let told : c.passages.new.decls ≡ flat_map declares (text_view c.as_slice.result.now) = search rules in
     let text : text_view c.as_slice.result.now ≡ chart_text (chart_view c.args.chart.now) = search rules in
-    told ∙ ap (gathered declares) text
+    told ∙ ap (flat_map declares) text

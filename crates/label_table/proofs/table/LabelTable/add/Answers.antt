@@ -1,4 +1,5 @@
 use Rattle.std.proofs.Common.{◌≡◌, Some, sym, subst, ◌<◌, length, ap, ◌∙◌, Contains}
+use Rattle.msc_base.specs.Stored.{most_numbered}
 use Rattle.label_table.specs.Stores.{AreStored}
 use Rattle.label_table.proofs.Stored.{stored_texts, stored_unchanged, stored_keys, stored_push}
 use Rattle.label_table.proofs.table.LabelTable.add.Goals as goal
@@ -34,7 +35,7 @@ invariant_of-self-2 c =
     let lacks : Contains labels c.args.label → ⊥ = λ h. c.requires.new (subst (λ ls. Contains ls c.args.label) c.self.view_is h) in
     let stored = stored_texts c.self.inside.texts keys labels texts c.number_label.ensures.kept c.number_label.ensures.numbers c.self.invariant in
     let keyed = stored_keys texts keys labels c.insert.new.self c.args.label c.in_ok-key.key c.len-number.result c.in_ok-key.ensures.key c.in_ok-insert.ensures.updates lacks stored in
-    let few : length labels < 4294967295 = subst (λ ls. length ls < 4294967295) (sym c.self.view_is) c.requires.few in
+    let few : length labels < most_numbered = subst (λ ls. length ls < most_numbered) (sym c.self.view_is) c.requires.few in
     let last : c.len-number.result ≡ length labels = c.len-number.ensures ∙ sym (ap length c.self.view_is) in
     subst (AreStored texts c.insert.new.self) (sym c.in_ok-push.ensures.items)
     (stored_push texts c.insert.new.self labels c.args.label c.in_ok-key.key c.in_ok-key.ensures.key (c.in_ok-insert.ensures.updates.1 ∙ ap Some last) few keyed)

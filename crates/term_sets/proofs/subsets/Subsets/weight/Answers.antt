@@ -1,5 +1,5 @@
 use Rattle.std.proofs.Common.{ap₂, ◌∙◌, ℕ, ◌*◌, min, map, subst}
-use Rattle.chart_term.specs.Facts.{most_stored}
+use Rattle.msc_base.specs.Stored.{most_stored}
 use Rattle.term_sets.specs.Subsets.{side_by_side, spelled}
 use Rattle.term_successors.specs.Successors.{AreRising}
 use Rattle.term_sets.proofs.Ordering.{in_order_rises}

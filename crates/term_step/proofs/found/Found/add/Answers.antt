@@ -1,7 +1,7 @@
 use Rattle.std.specs.BTreeSet.{contains}
 use Rattle.std.proofs.Common.{◌≡◌, ◌+◌, ◌∙◌, ap, sym, refl, true, false, min, nat_le}
 use Rattle.std.proofs.lemmas.Bool.{not-true, not-false}
-use Rattle.chart_term.specs.Facts.{most_stored}
+use Rattle.msc_base.specs.Stored.{most_stored}
 use Rattle.chart_term.specs.Order.{tree_cmp}
 use Rattle.chart_term.specs.Terms.{weight}
 use Rattle.term_successors.proofs.TermSets.{rising_from}
