@@ -1,9 +1,8 @@
 -- Bodies of which terms are made: their events are plain, and so are those of their parts; and how many events their parts have.
 use Rattle.std.specs.List.{slice_get, list_any}
-use Rattle.std.specs.Prelude.{ℕ, zero, suc, ◌+◌, ◌≤◌, nat_lt, nat_eq, IfNone, Bool, true, false, ◌&&◌, List, [], ◌∷◌, Option, Some, None, map, drop, length}
+use Rattle.std.specs.Prelude.{ℕ, zero, suc, ◌+◌, ◌≤◌, Bool, true, false, ◌&&◌, List, [], ◌∷◌, Option, Some, None, map, drop, length}
 use Rattle.std.specs.Str.{bytes_eq}
 use Rattle.std.proofs.Common.{◌≡◌, ◌∙◌, sym, ap, refl, subst, arith, ◌⊎◌, inl, inr}
-use Rattle.std.proofs.lemmas.Bool.Decides.{Decides-eqb, Decides-ltb}
 use Rattle.msc_base.specs.declared.label.Kind.{Kind}
 use Rattle.msc_base.specs.declared.label.Kind.TheVariants.{Create}
 use Rattle.msc_tree.specs.declared.event.RawEvent.{RawEvent}
@@ -200,52 +199,3 @@ items_whole xs i l = ap (λ k. events_count (items_view (drop k xs))) (none_left
 
 pub bodies_whole : (bs : List rust_body.Body) (i : ℕ) → i ≤ 0 → operands_count (bodies_view (drop i bs)) ≡ operands_count (bodies_view bs)
 bodies_whole bs i l = ap (λ k. operands_count (bodies_view (drop k bs))) (none_left i l)
-
--- ---- the tests
-
-pub alt_test : (form : InlineForm) (bs : List rust_body.Body) (n : ℕ) → form ≡ inline.Alt → n ≡ length bs → nat_lt 0 n ≡ has_operands form (bodies_view bs)
-alt_test form bs n e l = ap (nat_lt 0) l ∙ some bs ∙ ap (λ (f : InlineForm). has_operands f (bodies_view bs)) (sym e)
-  where
-    some : (bs : List rust_body.Body) → nat_lt 0 (length bs) ≡ has_operands inline.Alt (bodies_view bs)
-    some [] = refl
-    some (b ∷ bs) = (Decides-ltb 0 (suc (length bs))).1 (omega arith)
-
-not_one : (k : ℕ) → nat_eq (suc (suc k)) 1 ≡ false
-not_one k = by (nat_eq (suc (suc k)) 1) refl
-  where
-    by : (b : Bool) → nat_eq (suc (suc k)) 1 ≡ b → b ≡ false
-    by true e = let same = (Decides-eqb (suc (suc k)) 1).0 e in absurd (omega (arith, same))
-    by false e = refl
-
-pub opt_test : (form : InlineForm) (bs : List rust_body.Body) (n : ℕ) → form ≡ inline.Opt → n ≡ length bs → nat_eq n 1 ≡ has_operands form (bodies_view bs)
-opt_test form bs n e l = ap (λ k. nat_eq k 1) l ∙ one bs ∙ ap (λ (f : InlineForm). has_operands f (bodies_view bs)) (sym e)
-  where
-    one : (bs : List rust_body.Body) → nat_eq (length bs) 1 ≡ has_operands inline.Opt (bodies_view bs)
-    one [] = refl
-    one (b ∷ []) = refl
-    one (b ∷ c ∷ bs) = not_one (length bs)
-
-pub exc_test : (form : InlineForm) (bs : List rust_body.Body) (n : ℕ) → form ≡ inline.Exc → n ≡ length bs → nat_eq n 1 ≡ has_operands form (bodies_view bs)
-exc_test form bs n e l = ap (λ k. nat_eq k 1) l ∙ one bs ∙ ap (λ (f : InlineForm). has_operands f (bodies_view bs)) (sym e)
-  where
-    one : (bs : List rust_body.Body) → nat_eq (length bs) 1 ≡ has_operands inline.Exc (bodies_view bs)
-    one [] = refl
-    one (b ∷ []) = refl
-    one (b ∷ c ∷ bs) = not_one (length bs)
-
-pub loop_test : (form : InlineForm) (bs : List rust_body.Body) (n : ℕ) → form ≡ inline.Loop → n ≡ length bs → nat_eq n 1 ≡ has_operands form (bodies_view bs)
-loop_test form bs n e l = ap (λ k. nat_eq k 1) l ∙ one bs ∙ ap (λ (f : InlineForm). has_operands f (bodies_view bs)) (sym e)
-  where
-    one : (bs : List rust_body.Body) → nat_eq (length bs) 1 ≡ has_operands inline.Loop (bodies_view bs)
-    one [] = refl
-    one (b ∷ []) = refl
-    one (b ∷ c ∷ bs) = not_one (length bs)
-
--- one more of the events, from the last to the first
-pub nodes_more : (names : List (List ℕ)) (nodes : List rust_event.EventNode) (i j : ℕ) (node : rust_event.EventNode) → slice_get nodes i ≡ Some node → j ≡ i + 1
-    → (is_built_node names (node_view node) && are_built_nodes names (map node_view (drop j nodes))) ≡ are_built_nodes names (map node_view (drop i nodes))
-nodes_more names nodes i j node e f = ap (λ (ns : List rust_event.EventNode). are_built_nodes names (map node_view ns)) (sym (drop_less nodes i j node e f))
-
-pub if_none : (o : Option ℕ) (P : Type 0) → P → IfNone o P
-if_none None P h = h
-if_none (Some n) P h = tt

@@ -1,6 +1,6 @@
 -- Where exceptions may not stand: inside an operand, and at the outermost level where they don't cover all instances.
-use Rattle.std.specs.Prelude.{◌&&◌, ℕ, Bool, true, false, not, List, [], ◌++◌, nat_eq}
-use Rattle.std.specs.List.{flat_map, list_all}
+use Rattle.std.specs.Prelude.{◌&&◌, ℕ, Bool, true, false, not, List, [], ◌∷◌, ◌++◌, nat_eq}
+use Rattle.std.specs.List.{flat_map}
 use Rattle.chart_text.specs.Gathering.{place_if}
 use Rattle.chart_text.specs.Texts.{Passage, a_head, a_statement, an_item, an_operand, chart_text}
 use Rattle.msc_base.specs.Lists.{IsAmong}
@@ -37,7 +37,8 @@ inner_exceptions (an_operand s x) = []
 
 -- each of the names is covered
 abbrev pub covers_all : List (List ℕ) → List (List ℕ) → Bool
-covers_all names cover = list_all (is_in cover) names
+covers_all [] cover = true
+covers_all (i ∷ names) cover = is_in cover i && covers_all names cover
 
 abbrev pub outer_form : Bool → Place → Form → List Place
 outer_form all place (Inline head held) = place_if (is_exception head.form && not all) place
@@ -51,7 +52,8 @@ abbrev pub outer_piece : List (List ℕ) → Piece → List Place
 outer_piece names p = outer_form (covers_all names (cover_by names p.leads p.column (shared_of p.form))) p.place p.form
 
 abbrev pub outer_pieces : List (List ℕ) → List Piece → List Place
-outer_pieces names ps = flat_map (outer_piece names) ps
+outer_pieces names [] = []
+outer_pieces names (p ∷ ps) = outer_piece names p ++ outer_pieces names ps
 
 abbrev pub outer_exceptions : List (List ℕ) → Content → List Place
 outer_exceptions names (Basic held) = outer_pieces names (statements_pieces names 0 (statements held))

@@ -1,5 +1,5 @@
 -- The chart of a name in a table of accepted charts.
-use Rattle.std.proofs.Common.{◌≡◌, ℕ, Bool, true, false, cond, List, [], ◌∷◌, Option, Some, None, IfSome, Bor, option_copied, option_map, subst, sym}
+use Rattle.std.proofs.Common.{◌≡◌, ℕ, Bool, true, false, cond, List, [], ◌∷◌, Option, Some, None, IfSome, Bor, option_copied, option_map, refl, subst, sym}
 use Rattle.std.proofs.lemmas.Slice.Eq.{bytes_eq-Decides}
 use Rattle.std.specs.Str.{bytes_eq}
 use Rattle.msc_acceptance.specs.AcceptedCharts.{IsAcceptedChart, AreAcceptedCharts}

@@ -142,7 +142,8 @@ pub(crate) fn tied_pair(
 ) -> Result<Term, NoMemory>
     ensures { IfOk result (λ term. term ≡ tie_of inner ((first, second) ∷ [])) }
 {
-    let pairs = PairList::one(alloc, Pair { first, second })?;
+    let mut pairs = PairList::new(alloc);
+    pairs.push(Pair { first, second })?;
     let term = tied(alloc, inner, pairs)?;
     Ok(term)
 }
