@@ -18,7 +18,7 @@ fn names_of_a_chart(rt: HostRuntime) -> Result<(), Fail> {
         ),
         (
             "msc A; instance i; opt begin X; opt end; endinstance; instance j; opt begin X; opt end; endinstance; endmsc;",
-            "{ | } { | } ",
+            "{ | } ",
         ),
         (
             "msc A; instance i; opt begin X; opt end; endinstance; instance i; opt begin X; opt end; endinstance; endmsc;",
