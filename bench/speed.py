@@ -20,6 +20,7 @@ them where none is named:
     choices       40 choices of one of two actions: 1,000 logs, each by a run of its own
     coregion      ten equal actions in a coregion: 1,000 logs, each by a run of its own
     document      4,000 charts of about 1,000 bytes, 4 MB together: check
+    sample        the sample of 100,000 turns and of 250,000, which the program makes itself
 """
 import os
 import random
@@ -121,7 +122,13 @@ def document(measure):
     measure("document", check.document(4_000), "", "check d", "accepted, charts 4000")
 
 
-WORKS = {work.__name__: work for work in (loop, ahead, answers, same, few, different, statements, alternatives, blocked, choices, coregion, document)}
+def sample(measure):
+    for turns, yes in ((100_000, 50_137), (250_000, 125_056)):
+        wanted = f"sample: turns {turns}, yes {yes}, no {turns - yes}, events {4 * turns}, largest weight 31, conforms"
+        measure("sample", "", "", f"sample {turns} 7", wanted)
+
+
+WORKS = {work.__name__: work for work in (loop, ahead, answers, same, few, different, statements, alternatives, blocked, choices, coregion, document, sample)}
 
 
 def main():

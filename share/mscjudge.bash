@@ -2,7 +2,7 @@
 _mscjudge() {
     local word=${COMP_WORDS[COMP_CWORD]} words=""
     if [ "$COMP_CWORD" -eq 1 ]; then
-        COMPREPLY=($(compgen -W "judge check list print" -- "$word"))
+        COMPREPLY=($(compgen -W "judge check list print sample" -- "$word"))
         return
     fi
     case ${COMP_WORDS[1]} in
@@ -10,6 +10,7 @@ _mscjudge() {
         check) [[ $word == -* ]] && words="--json" ;;
         list) [[ $word == -* ]] && words="--json" ;;
         print) [[ $word == -* ]] && words="" ;;
+        sample) [[ $word == -* ]] && words="" ;;
     esac
     if [ -n "$words" ]; then
         COMPREPLY=($(compgen -W "$words" -- "$word"))

@@ -3,6 +3,7 @@ complete -c mscjudge -f -n __fish_use_subcommand -a judge -d 'reads the files DO
 complete -c mscjudge -f -n __fish_use_subcommand -a check -d 'reads the file DOC, and says how many charts it has, or which rule it breaks first'
 complete -c mscjudge -f -n __fish_use_subcommand -a list -d 'lists the charts of the document, each with its kind and the number of its instances, or the instances of the chart CHART in the order of their first declaration'
 complete -c mscjudge -f -n __fish_use_subcommand -a print -d 'prints the document in its canonical form; it looks at no rule of charts'
+complete -c mscjudge -f -n __fish_use_subcommand -a sample -d 'judges a log of TURNS requests and answers, drawn from SEED, by a chart that the program has; it reads no file'
 complete -c mscjudge -n '__fish_seen_subcommand_from judge' -l budget -x -d 'how much may be left of the chart at once, 1 to 4000000; 1000000 without the option'
 complete -c mscjudge -n '__fish_seen_subcommand_from judge' -l json -d 'prints the answer as JSON'
 complete -c mscjudge -n '__fish_seen_subcommand_from judge' -l log-json -d 'the log has one JSON object a line'

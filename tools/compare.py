@@ -171,6 +171,7 @@ def compare_document(rng, both):
     """Whether the document was accepted, refused or not built."""
     charts, document, place = random_charts.document_of(rng)
     both.hold(d=document, l="")
+    both.compare("sample", str(rng.randrange(1, 300)), str(rng.randrange(2**31)))
     if not_built(both, place):
         return "not built"
     status, text = both.compare("check", "d")

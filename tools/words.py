@@ -156,7 +156,7 @@ def of_code(words):
     for name, body in re.findall(r'bare_command\(alloc, "(\w+)"\);(.*?)\n\}', code, re.S):
         takes = [(f"[{word}]" if kind == "optional" else word) for kind, word in re.findall(r'with_(wanted|optional)\(alloc, command, "(\w+)"', body)]
         had[name] = (takes, ["--" + word + (" N" if kind == "valued" else "") for kind, word in re.findall(r'with_(flag|valued)\(alloc, command, "([\w-]+)"', body)])
-    short = {"DOC": "document", "CHART": "chart", "LOG": "log", "[CHART]": "[chart]"}
+    short = {"DOC": "document", "CHART": "chart", "LOG": "log", "[CHART]": "[chart]", "TURNS": "turns", "SEED": "seed"}
     told = {command["name"]: ([short[name] for name in command["takes"]], command["options"]) for command in words["commands"]}
     if had != told:
         yield f"the commands by the code are {had}, and here {told}"
@@ -200,7 +200,7 @@ def of_program(words, program):
         if ran(example["words"].split()) != (0, example["prints"] + "\n"):
             yield "the example doesn't print what it is said to"
         for command in words["commands"]:
-            values = {"DOC": "a.msc", "CHART": "A", "LOG": "a.log"}
+            values = {"DOC": "a.msc", "CHART": "A", "LOG": "a.log", "TURNS": "2", "SEED": "7"}
             given = [command["name"], *(values[name.strip("[]")] for name in command["takes"])]
             for option in command["options"]:
                 if ran([*given, *option.replace(" N", " 5").split()])[0] == 2:

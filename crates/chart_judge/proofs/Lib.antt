@@ -4,5 +4,6 @@ pub mod Known
 pub mod Made
 pub mod Verdicts
 mod Few
+mod Largest
 mod Takings
 mod LogJudging

@@ -8,6 +8,7 @@ ghost use Rattle.msc_base.specs.declared.limits.TheConstants.Limits.{BUDGET_MOST
 ghost use Rattle.msc_meaning.specs.Tables.{Table, chart_at};
 ghost use Rattle.msc_meaning.specs.Views.{entry_view};
 ghost use Rattle.chart_judge.specs.Judged.{IsJudgeFault, fault_in};
+ghost use Rattle.chart_judge.specs.LargestWeights.{IsLargestOn};
 
 use crate::laws::{charts_have_terms, verdicts_are_told};
 use crate::term::term_of;
@@ -82,5 +83,15 @@ impl ChartJudge {
     {
         verdicts_are_told();
         self.judge.finish()
+    }
+
+    /// The largest weight of what is left of the chart's term after the events of all lines that have ended within the bytes fed,
+    /// from the moment before the first, as far as the budget isn't passed; 0 where the term alone is above it. After a fault it has
+    /// no meaning. It takes no memory.
+    pub fn largest(&self) -> u64
+        ensures { (table : Table) (name : List ℕ) (form : Form) (budget : ℕ) (bytes : List ℕ) → IsJudging table name form budget bytes self.now
+            → IsLargestOn table name form budget bytes result }
+    {
+        self.judge.largest()
     }
 }

@@ -1,9 +1,10 @@
 //! The laws of a chart's term and of the verdict by it. Each is the contract of a function that does nothing.
 
 ghost use Rattle.chart_judge.specs.ChartsTold.{ChartsHaveRuns, ChartsHaveTerms, VerdictsAreTold};
+ghost use Rattle.chart_judge.specs.LargestWeights.{LargestIsTold};
 
 use level_terms::laws::{chart_terms_mean, woven_bodies_have_few_pairs};
-use trace_judge::laws::verdicts_tell_runs;
+use trace_judge::laws::{sets_go_on, verdicts_tell_runs};
 
 /// A chart has one term, which means the chart's unfoldings, is sound, and weighs no more than the chart's size and the limit of sizes.
 pub fn charts_have_terms()
@@ -26,4 +27,12 @@ pub fn charts_have_runs()
     ensures { ChartsHaveRuns }
 {
     charts_have_terms();
+}
+
+/// Where a log conforms, the largest weight that its judge tells is that over all events of the log.
+pub fn largest_weights_are_told()
+    ensures { LargestIsTold }
+{
+    charts_have_terms();
+    sets_go_on();
 }

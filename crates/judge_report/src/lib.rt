@@ -1,4 +1,4 @@
-//! What is printed: verdicts, faults, lists of charts and instances, and how a text is written to a sink.
+//! What is printed: verdicts, samples, faults, lists of charts and instances, and how a text is written to a sink.
 //!
 //! `specs/` has each text in its bytes, plain and as JSON.
 #![tactic(auto)]
@@ -12,4 +12,4 @@ mod texts;
 pub use emitting::emit;
 pub use fault::{Fault, fault_text};
 pub use lists::{chart_list_text, instance_list_text};
-pub use texts::{accepted_text, verdict_text};
+pub use texts::{accepted_text, sample_text, verdict_text};

@@ -1,8 +1,9 @@
-//! What is told of verdicts and of accepted documents: for the commands `judge` and `check` of msc_cmd.
+//! What is told of verdicts, of samples and of accepted documents: for the commands `judge`, `sample` and `check` of msc_cmd.
 
-ghost use Rattle.std.specs.Prelude.{◌≡◌, IfOk, false};
+ghost use Rattle.std.specs.Prelude.{◌≡◌, ◌≤◌, ◌<◌, ◌*◌, ◌^◌, IfOk, false};
 ghost use Rattle.serde_json.specs.View.{view};
 ghost use Rattle.judge_report.specs.Objects.{accepted_data, verdict_data};
+ghost use Rattle.judge_report.specs.SampleTexts.{sample_line};
 ghost use Rattle.judge_report.specs.Texts.{accepted_line, verdict_line};
 
 use crate::lines::{line_of, line_of_value};
@@ -80,4 +81,19 @@ pub fn accepted_text(alloc: Global, charts: u32, json: bool) -> Result<Text, NoM
         let text = format!(in alloc; "accepted, charts {charts}")?;
         line_of(alloc, text.as_str())
     }
+}
+
+/// The line that tells of a sample whose log conforms: how many turns it has, how many of them are answered `yes`, and the largest
+/// weight of what was left of its chart.
+pub fn sample_text(alloc: Global, turns: u64, yes: u64, largest: u64) -> Result<Text, NoMemory>
+    requires answered { yes ≤ turns }
+    requires few { 4 * turns < 2 ^ 64 }
+    ensures { IfOk result (λ line. line ≡ sample_line turns yes largest) }
+{
+    let no = turns - yes;
+    let events = 4 * turns;
+    let text = format!(in alloc;
+        "sample: turns {turns}, yes {yes}, no {no}, events {events}, largest weight {largest}, conforms"
+    )?;
+    line_of(alloc, text.as_str())
 }

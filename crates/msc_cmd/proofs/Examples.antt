@@ -3,7 +3,7 @@ use Rattle.std.proofs.Common.{◌≡◌, refl, codes, true, false, [], ◌∷◌
 use Rattle.std.specs.Str.{is_utf8}
 use Rattle.clap.proofs.OnLiterals.{clap_on_literals}
 use Rattle.event_log.specs.declared.event.LogForm.TheVariants.{Lines, Json}
-use Rattle.msc_cmd.specs.declared.requests.Request.TheVariants.{Judge, Check, List, Print}
+use Rattle.msc_cmd.specs.declared.requests.Request.TheVariants.{Judge, Check, List, Print, Sample}
 use Rattle.msc_cmd.specs.Requests.{request_of}
 
 -- three words
@@ -147,7 +147,7 @@ no_words : request_of ([]) ≡ None
 unfolding clap_on_literals is_utf8
 no_words = refl
 
-other_command : request_of (codes "sample" ∷ codes "2" ∷ codes "7" ∷ []) ≡ None
+other_command : request_of (codes "samples" ∷ codes "2" ∷ codes "7" ∷ []) ≡ None
 unfolding clap_on_literals is_utf8
 other_command = refl
 
@@ -249,3 +249,79 @@ print_json = refl
 longer_command : request_of (codes "prints" ∷ codes "d" ∷ []) ≡ None
 unfolding clap_on_literals is_utf8
 longer_command = refl
+
+-- ---- sample
+
+sample : request_of (codes "sample" ∷ codes "2" ∷ codes "7" ∷ []) ≡ Some (Sample 2 7)
+unfolding clap_on_literals is_utf8
+sample = refl
+
+-- one to ten digits, 1 to 250,000 turns, and a seed of 0 to 2,147,483,647
+sample_least : request_of (codes "sample" ∷ codes "1" ∷ codes "0" ∷ []) ≡ Some (Sample 1 0)
+unfolding clap_on_literals is_utf8
+sample_least = refl
+
+sample_most : request_of (codes "sample" ∷ codes "250000" ∷ codes "2147483647" ∷ []) ≡ Some (Sample 250000 2147483647)
+unfolding clap_on_literals is_utf8
+sample_most = refl
+
+sample_zeros : request_of (codes "sample" ∷ codes "0000000002" ∷ codes "0000000007" ∷ []) ≡ Some (Sample 2 7)
+unfolding clap_on_literals is_utf8
+sample_zeros = refl
+
+sample_behind_dashes : request_of (codes "sample" ∷ codes "--" ∷ codes "2" ∷ codes "7" ∷ []) ≡ Some (Sample 2 7)
+unfolding clap_on_literals is_utf8
+sample_behind_dashes = refl
+
+sample_no_turns : request_of (codes "sample" ∷ codes "0" ∷ codes "7" ∷ []) ≡ None
+unfolding clap_on_literals is_utf8
+sample_no_turns = refl
+
+sample_many_turns : request_of (codes "sample" ∷ codes "250001" ∷ codes "7" ∷ []) ≡ None
+unfolding clap_on_literals is_utf8
+sample_many_turns = refl
+
+sample_large_seed : request_of (codes "sample" ∷ codes "2" ∷ codes "2147483648" ∷ []) ≡ None
+unfolding clap_on_literals is_utf8
+sample_large_seed = refl
+
+sample_long_turns : request_of (codes "sample" ∷ codes "00000000002" ∷ codes "7" ∷ []) ≡ None
+unfolding clap_on_literals is_utf8
+sample_long_turns = refl
+
+sample_long_seed : request_of (codes "sample" ∷ codes "2" ∷ codes "00000000007" ∷ []) ≡ None
+unfolding clap_on_literals is_utf8
+sample_long_seed = refl
+
+sample_empty : request_of (codes "sample" ∷ codes "2" ∷ [] ∷ []) ≡ None
+unfolding clap_on_literals is_utf8
+sample_empty = refl
+
+sample_signed : request_of (codes "sample" ∷ codes "+2" ∷ codes "7" ∷ []) ≡ None
+unfolding clap_on_literals is_utf8
+sample_signed = refl
+
+sample_word : request_of (codes "sample" ∷ codes "two" ∷ codes "7" ∷ []) ≡ None
+unfolding clap_on_literals is_utf8
+sample_word = refl
+
+sample_nothing : request_of (codes "sample" ∷ []) ≡ None
+unfolding clap_on_literals is_utf8
+sample_nothing = refl
+
+sample_one : request_of (codes "sample" ∷ codes "2" ∷ []) ≡ None
+unfolding clap_on_literals is_utf8
+sample_one = refl
+
+sample_three : request_of (codes "sample" ∷ codes "2" ∷ codes "7" ∷ codes "1" ∷ []) ≡ None
+unfolding clap_on_literals is_utf8
+sample_three = refl
+
+-- it has no options
+sample_json : request_of (codes "sample" ∷ codes "2" ∷ codes "7" ∷ codes "--json" ∷ []) ≡ None
+unfolding clap_on_literals is_utf8
+sample_json = refl
+
+sample_budget : request_of (codes "sample" ∷ codes "2" ∷ codes "7" ∷ codes "--budget" ∷ codes "5" ∷ []) ≡ None
+unfolding clap_on_literals is_utf8
+sample_budget = refl

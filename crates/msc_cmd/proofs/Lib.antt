@@ -1,12 +1,14 @@
-pub mod Budgets
+pub mod Bounds
 pub mod Examples
 pub mod Listings
 pub mod Named
 pub mod LogOutcomes
 pub mod LogTaking
-pub mod Numbers
+pub mod Digits
 pub mod Prints
 pub mod Replies
+pub mod SampleLogs
+pub mod SampleReplies
 pub mod Settling
 pub mod Taking
 pub mod TextFaults

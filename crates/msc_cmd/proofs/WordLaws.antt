@@ -16,7 +16,7 @@ use Rattle.clap.proofs.WalkLemmas.{first_value-rows}
 use Rattle.msc_cmd.specs.declared.requests.Request.{Request}
 use Rattle.msc_cmd.specs.declared.requests.WordFault.{WordFault}
 use Rattle.msc_cmd.specs.declared.requests.WordFault.TheVariants.{NoRequest, NoMemory}
-use Rattle.msc_cmd.specs.Requests.{Answers, HasNoRequest, IsFound, check_app, check_from, check_in, check_request, command_request, judge_app, judge_request, list_app, list_from, list_in, list_request, print_app, print_from, print_in, print_request, request_by, request_from, request_in, request_of, unless_fault}
+use Rattle.msc_cmd.specs.Requests.{Answers, HasNoRequest, IsFound, check_app, check_from, check_in, check_request, command_request, judge_app, judge_request, list_app, list_from, list_in, list_request, print_app, print_from, print_in, print_request, request_by, request_from, request_in, request_of, sample_app, sample_from, sample_in, sample_request, unless_fault}
 
 pub judge_simple : is_simple judge_app ≡ true
 unfolding clap_on_literals
@@ -49,6 +49,14 @@ print_simple = refl
 pub print_free : is_simple_and_free print_app ≡ true
 unfolding clap_on_literals
 print_free = refl
+
+pub sample_simple : is_simple sample_app ≡ true
+unfolding clap_on_literals
+sample_simple = refl
+
+pub sample_free : is_simple_and_free sample_app ≡ true
+unfolding clap_on_literals
+sample_free = refl
 
 -- without a fault the request is that of the matches
 fits : (kinds : Kinds) (request : Option Request) → kinds ≡ [] → unless_fault kinds request ≡ request
@@ -97,6 +105,9 @@ listed_firsts f d c j hd hc hj = rw (hd, hc, hj, first_value-rows f (codes "docu
 pub first_document : (f : Found) (d : Option (List ℕ)) → d ≡ first_value f (codes "document") → print_from d ≡ print_in (rows_of f)
 first_document f d hd = rw (hd, first_value-rows f (codes "document")) refl
 
+pub sampled_firsts : (f : Found) (t s : Option (List ℕ)) → t ≡ first_value f (codes "turns") → s ≡ first_value f (codes "seed") → sample_from t s ≡ sample_in (rows_of f)
+sampled_firsts f t s ht hs = rw (ht, hs, first_value-rows f (codes "turns"), first_value-rows f (codes "seed")) refl
+
 -- a word that is no UTF-8 fails the test
 pub not_utf8 : (bytes : List ℕ) → (IsUtf8 bytes → ⊥) → is_utf8 bytes ≡ false
 not_utf8 bytes none = by (is_utf8 bytes) refl
@@ -141,12 +152,16 @@ list_command command words e = rw e refl
 pub print_command : (command : List ℕ) (words : List (List ℕ)) → command ≡ codes "print" → command_request command words ≡ print_request words
 print_command command words e = rw e refl
 
+pub sample_command : (command : List ℕ) (words : List (List ℕ)) → command ≡ codes "sample" → command_request command words ≡ sample_request words
+sample_command command words e = rw e refl
+
 differs : (a b : List ℕ) → (a ≡ b → ⊥) → bytes_eq a b ≡ false
 differs a b other = false_from_ne_true (bytes_eq a b) (λ e. other ((bytes_eq-Decides a b).0 e))
 
-pub no_command : (command : List ℕ) (words : List (List ℕ)) → (command ≡ codes "judge" → ⊥) → (command ≡ codes "check" → ⊥) → (command ≡ codes "list" → ⊥) → (command ≡ codes "print" → ⊥)
+pub no_command : (command : List ℕ) (words : List (List ℕ)) → (command ≡ codes "judge" → ⊥) → (command ≡ codes "check" → ⊥) → (command ≡ codes "list" → ⊥) → (command ≡ codes "print" → ⊥) → (command ≡ codes "sample" → ⊥)
     → command_request command words ≡ None
-no_command command words j c l p = rw (differs command (codes "judge") j, differs command (codes "check") c, differs command (codes "list") l, differs command (codes "print") p) refl
+no_command command words j c l p s =
+    rw (differs command (codes "judge") j, differs command (codes "check") c, differs command (codes "list") l, differs command (codes "print") p, differs command (codes "sample") s) refl
 
 -- what is answered of the words behind a command is answered of all
 pub commanded : (command : List ℕ) (rest texts words : List (List ℕ)) (answer : Result Request WordFault) → words ≡ command ∷ rest → list_all is_utf8 rest ≡ true → texts ≡ rest

@@ -6,7 +6,7 @@ use Rattle.msc_meaning.specs.Tables.{ChartEntry, Table, chart_at}
 use Rattle.judge_report.specs.declared.fault.Fault.TheVariants.{DocumentRead, LogRead}
 use Rattle.judge_report.specs.Texts.{fault_line}
 use Rattle.msc_cmd.specs.declared.requests.Request.{Request}
-use Rattle.msc_cmd.specs.declared.requests.Request.TheVariants.{Judge, Check, Print}
+use Rattle.msc_cmd.specs.declared.requests.Request.TheVariants.{Judge, Check, Print, Sample}
 use Rattle.msc_cmd.specs.declared.requests.Request.TheVariants as requests
 use Rattle.msc_cmd.specs.Documents.{IsDocument}
 use Rattle.msc_cmd.specs.Requests.{request_of}
@@ -32,12 +32,13 @@ CannotRead json files before now broken last document name log text =
     CannotOpen json before now broken last document text
     ⊎ (FailedAt before now broken last log × (text ≡ fault_line json LogRead) × IfTold files (HasChart document name))
 
--- an entry of the request can't be read
+-- an entry of the request can't be read; a sample asks for none
 abbrev pub CannotServe : Request → Option Files → ℕ → ℕ → Bool → Option (List ℕ) → List ℕ → Type 0
 CannotServe (Judge document chart log budget json form) files before now broken last text = CannotRead json files before now broken last document chart log text
 CannotServe (Check document json) files before now broken last text = CannotOpen json before now broken last document text
 CannotServe (requests.List document chart json) files before now broken last text = CannotOpen json before now broken last document text
 CannotServe (Print document) files before now broken last text = CannotOpen false before now broken last document text
+CannotServe (Sample turns seed) files before now broken last text = ⊥
 
 -- the words are a request, and one of its entries can't be read
 pub record CannotJudge (words : List (List ℕ)) (files : Option Files) (before now : ℕ) (broken : Bool) (last : Option (List ℕ)) (text : List ℕ) : Type 0 where

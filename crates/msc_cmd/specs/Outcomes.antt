@@ -1,6 +1,7 @@
 -- What the command answers to its words and the entries of the shelf.
 use Rattle.std.specs.Prelude.{◌≡◌, ◌≤◌, ℕ, Bool, false, List, length, Option, Some, None}
 use Rattle.outside.specs.Shelves.{Files}
+use Rattle.msc_base.specs.declared.limits.TheConstants.Limits.{BUDGET_DEFAULT}
 use Rattle.msc_base.specs.declared.place.Place.{Place}
 use Rattle.msc_base.specs.declared.verdict.Verdict.{Verdict}
 use Rattle.msc_base.specs.declared.verdict.Verdict.TheVariants.{Conforms, Fails, Early, TooLarge}
@@ -12,17 +13,21 @@ use Rattle.msc_rules.specs.declared.rule.Rule.{Rule}
 use Rattle.line_events.specs.declared.event.LineEvent.{LineEvent}
 use Rattle.event_log.specs.declared.event.LogFault.{LogFault}
 use Rattle.event_log.specs.declared.event.LogForm.{LogForm}
+use Rattle.event_log.specs.declared.event.LogForm.TheVariants.{Lines}
 use Rattle.event_log.specs.Logs.{LogOf}
 use Rattle.chart_judge.specs.ChartVerdicts.{IsChartVerdict}
+use Rattle.chart_judge.specs.LargestWeights.{IsLargestWeight}
 use Rattle.judge_report.specs.declared.fault.Fault.TheVariants.{Document, NoChart, Log, Usage}
 use Rattle.judge_report.specs.Lists.{chart_list, instance_list}
+use Rattle.judge_report.specs.SampleTexts.{sample_line}
 use Rattle.judge_report.specs.Texts.{accepted_line, fault_line, verdict_line}
 use Rattle.msc_cmd.specs.declared.requests.Request.{Request}
-use Rattle.msc_cmd.specs.declared.requests.Request.TheVariants.{Judge, Check, Print}
+use Rattle.msc_cmd.specs.declared.requests.Request.TheVariants.{Judge, Check, Print, Sample}
 use Rattle.msc_cmd.specs.declared.requests.Request.TheVariants as requests
 use Rattle.msc_cmd.specs.DocumentTexts.{ReadsDocument, HasTextFault}
 use Rattle.msc_cmd.specs.Documents.{IsDocument, HasDocumentFault}
 use Rattle.msc_cmd.specs.Requests.{request_of, IsNoRequest}
+use Rattle.msc_cmd.specs.Samples.{sample_log, sample_name, sample_text, yes_count}
 
 abbrev pub status_of : Verdict → ℕ
 status_of (Conforms events) = 0
@@ -78,12 +83,25 @@ pub data PrintOutcome (files : Files) (document : List ℕ) (status : ℕ) (text
       → PrintOutcome files document status text
   printed : (bytes : List ℕ) (tree : Tree) → files document ≡ Some bytes → ReadsDocument bytes tree → status ≡ 0 → text ≡ canonical_text tree → PrintOutcome files document status text
 
+-- what the log of a sample gives for its chart: where it conforms the line of a sample, with the largest weight of what is left; else
+-- what it gives where it is judged
+pub data SampleLogOutcome (turns seed : ℕ) (table : Table) (status : ℕ) (text : List ℕ) : Type 0 where
+  conforming : (events : List LineEvent) (count largest : ℕ) → LogOf Lines false (sample_log turns seed) events None → IsChartVerdict table sample_name BUDGET_DEFAULT events (Conforms count)
+      → IsLargestWeight table sample_name events largest → status ≡ 0 → text ≡ sample_line turns (yes_count turns seed) largest → SampleLogOutcome turns seed table status text
+  otherwise : (status ≡ 0 → ⊥) → LogOutcome Lines BUDGET_DEFAULT false table sample_name (sample_log turns seed) status text → SampleLogOutcome turns seed table status text
+
+-- what a sample gives, whatever the entries are: the first fault of its document, or what its log gives for its chart
+pub data SampleOutcome (turns seed : ℕ) (status : ℕ) (text : List ℕ) : Type 0 where
+  unaccepted : (broken : Rule) (place : Place) → HasDocumentFault sample_text broken place → status ≡ 4 → text ≡ fault_line false (Document broken place) → SampleOutcome turns seed status text
+  of_sample : (table : Table) → IsDocument sample_text table → ChartOutcome false sample_name table (λ chart. SampleLogOutcome turns seed table) status text → SampleOutcome turns seed status text
+
 -- what a request gives for the entries
 abbrev pub RequestOutcome : Request → Files → ℕ → List ℕ → Type 0
 RequestOutcome (Judge document chart log budget json form) files = FilesOutcome form budget json files document chart log
 RequestOutcome (Check document json) files = DocumentOutcome json files document (CheckAnswer json)
 RequestOutcome (requests.List document chart json) files = DocumentOutcome json files document (ListAnswer json chart)
 RequestOutcome (Print document) files = PrintOutcome files document
+RequestOutcome (Sample turns seed) files = SampleOutcome turns seed
 
 -- what the words give for the entries: the status, and the text that is written
 pub data IsOutcome (words : List (List ℕ)) (files : Files) (status : ℕ) (text : List ℕ) : Type 0 where

@@ -65,7 +65,7 @@ fn status_for(verdict: &Verdict) -> u8
 }
 
 /// The reply for a log that has been judged.
-fn answer_log(alloc: Global, judged: &Judged, json: bool) -> Result<Reply, NoMemory>
+pub fn answer_log(alloc: Global, judged: &Judged, json: bool) -> Result<Reply, NoMemory>
     requires { IsToldLog judged.now }
     ensures small { IfOk result (λ r. r.status < 7) }
     ensures not_two { IfOk result (λ r. r.status ≡ 2 → ⊥) }

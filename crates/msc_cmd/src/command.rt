@@ -1,18 +1,20 @@
 //! The whole command, from words to a status: `run`, which the program mscjudge calls.
 
-ghost use Rattle.std.specs.Prelude.{◌≡◌, ◌<◌, ◌≤◌, ◌⊎◌, ◌++◌, ◌∷◌, [], List, ℕ, IfOk};
+ghost use Rattle.std.specs.Prelude.{◌≡◌, ◌<◌, ◌≤◌, ◌⊎◌, ◌++◌, ◌∷◌, [], List, ℕ, IfOk, Some};
 ghost use Rattle.std.specs.Io.KnownBytes.{Appends, Keeps};
 ghost use Rattle.outside.specs.Causes.{Rose};
-ghost use Rattle.msc_cmd.specs.Requests.{HasBudget, IsNoRequest};
+ghost use Rattle.msc_cmd.specs.Requests.{IsBounded, IsNoRequest, request_of as request_in_words};
 ghost use Rattle.judge_report.specs.Writing.{AppendsPart};
 ghost use Rattle.msc_cmd.specs.Outcomes.{IfTold, IsAnswer, IsOfOutcome, IsOutcome, IsStatus, IsTheOne, RequestOutcome};
 ghost use Rattle.msc_cmd.specs.Failures.{CannotJudge, CannotServe};
+ghost use Rattle.msc_cmd.specs.declared.requests.Request.TheVariants.{Sample};
 
 use crate::answer::{Reply, Style, judge_files, make_reply};
 use crate::checking::check_file;
 use crate::listing::list_file;
 use crate::printing::print_file;
 use crate::requests::{Request, WordFault, request_of};
+use crate::sampling::sample_reply;
 use judge_report::{Fault, emit};
 use msc_base::{NoMemory, Words};
 use outside::{Shelf, Sink};
@@ -20,11 +22,12 @@ use std::alloc::Global;
 
 /// The reply to a request.
 fn serve<S: Shelf>(alloc: Global, request: &Request, shelf: &mut S) -> Result<Reply, NoMemory>
-    requires { HasBudget request.now }
+    requires { IsBounded request.now }
     ensures small { IfOk result (λ r. r.status ≤ 7) }
     ensures not_two { IfOk result (λ r. r.status ≡ 2 → ⊥) }
     ensures outcome { IfOk result (λ r. r.status < 7 → IfTold (S.files shelf.old) (λ f. IsTheOne (RequestOutcome request.now f) r.status r.text)) }
     ensures failed { IfOk result (λ r. r.status ≡ 7 → CannotServe request.now (S.files shelf.old) (S.faults shelf.old) (S.faults shelf.new) (S.broken shelf.new) (S.last shelf.new) r.text) }
+    ensures sampled { (turns seed : ℕ) → request.now ≡ Sample turns seed → shelf.new ≡ shelf.old }
 {
     match request {
         Request::Judge {
@@ -49,6 +52,7 @@ fn serve<S: Shelf>(alloc: Global, request: &Request, shelf: &mut S) -> Result<Re
             json,
         } => list_file(alloc, document, chart, *json, shelf),
         Request::Print { document } => print_file(alloc, document, shelf),
+        Request::Sample { turns, seed } => sample_reply(alloc, *turns, *seed),
     }
 }
 
@@ -60,6 +64,7 @@ fn answer<S: Shelf>(alloc: Global, words: &Words, shelf: &mut S) -> Result<Reply
     ensures failed { IfOk result (λ r. r.status ≡ 7 → CannotJudge words.now (S.files shelf.old) (S.faults shelf.old) (S.faults shelf.new) (S.broken shelf.new) (S.last shelf.new) r.text) }
     ensures refused { IfOk result (λ r. IsNoRequest words.now → r.status ≡ 2) }
     ensures unchanged { IsNoRequest words.now → shelf.new ≡ shelf.old }
+    ensures sampled { (turns seed : ℕ) → request_in_words words.now ≡ Some (Sample turns seed) → shelf.new ≡ shelf.old }
 {
     match request_of(alloc, words) {
         Ok(request) => serve(alloc, &request, shelf),
@@ -72,7 +77,7 @@ fn answer<S: Shelf>(alloc: Global, words: &Words, shelf: &mut S) -> Result<Reply
 ///
 /// | Status | Meaning |
 /// |---|---|
-/// | 0 | the log conforms; the document is accepted, listed or printed |
+/// | 0 | the log conforms, also that of a sample; the document is accepted, listed or printed |
 /// | 1 | the log fails at an event |
 /// | 2 | the words are no request |
 /// | 3 | the log stops early |
@@ -112,6 +117,9 @@ pub fn run<S: Shelf, O: Sink>(alloc: Global, words: &Words, shelf: &mut S, out: 
     ensures request { result ≡ 2 → IsNoRequest words.now }
     ensures no_request { IsNoRequest words.now → (result ≡ 2) ⊎ (result ≡ 8) ⊎ (result ≡ 9) }
     ensures unchanged { IsNoRequest words.now → shelf.new ≡ shelf.old }
+
+    // Nor does a sample touch it.
+    ensures sampled { (turns seed : ℕ) → request_in_words words.now ≡ Some (Sample turns seed) → shelf.new ≡ shelf.old }
 {
     match answer(alloc, words, shelf) {
         Ok(reply) => match emit(out, &reply.text) {

@@ -1,4 +1,4 @@
-//! What the bytes of a document are as a text, before any rule on charts: for `reading` and `printing`.
+//! What the bytes of a document are as a text, before any rule on charts: for `reading`, `printing` and `sampling`.
 
 ghost use Rattle.std.specs.Prelude.{◌≡◌, ◌≤◌, ℕ, List, IfOk, IfSome, length};
 ghost use Rattle.msc_base.specs.declared.limits.TheConstants.Limits.{DOCUMENT_BYTES};
@@ -77,7 +77,7 @@ fn whole_text(alloc: Global, text: &[u8]) -> Result<DocumentText, NoMemory>
 }
 
 /// What a text is. Where it isn't read part by part, it is looked at as a whole.
-fn read_text(alloc: Global, text: &[u8]) -> Result<DocumentText, NoMemory>
+pub fn read_text(alloc: Global, text: &[u8]) -> Result<DocumentText, NoMemory>
     requires { length text.now ≤ DOCUMENT_BYTES }
     ensures { IfOk result (IsTheText text.now) }
 {

@@ -12,10 +12,13 @@ mod entry;
 mod intake;
 mod listing;
 mod log_reading;
+mod numbers;
 mod opening;
 mod printing;
 mod reading;
 mod requests;
+mod sample_log;
+mod sampling;
 
 pub use command::run;
 pub use requests::{Request, WordFault, request_of};

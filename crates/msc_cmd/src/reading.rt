@@ -1,4 +1,4 @@
-//! Reads a document from the shelf, up to its end or the limit: for all four commands.
+//! Reads a document from the shelf, up to its end or the limit: for all commands but `sample`.
 
 ghost use Rattle.std.specs.Prelude.{◌≡◌, ◌≤◌, ◌+◌, IfOk, OnOk, IsErrOf, IsTrue, Some, [], true};
 ghost use Rattle.outside.specs.Causes.{Rose};

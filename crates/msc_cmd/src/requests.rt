@@ -2,12 +2,14 @@
 
 ghost use Rattle.std.specs.Prelude.{◌≡◌, IfOk, IfNone, IfSome, IsErrOf, map, option_map, true, false};
 ghost use Rattle.std.specs.List.{list_all};
-ghost use Rattle.std.specs.Str.{all_ascii_digits, is_utf8};
+ghost use Rattle.std.specs.Str.{is_utf8};
 ghost use Rattle.clap.specs.Words.{app_of, found_of, is_simple, is_simple_and_free, rows_of, with_rule};
-ghost use Rattle.msc_cmd.specs.Requests.{Answers, HasNoRequest, IsFound, bare, budget_from, budget_in, check_app, check_from, check_in, check_request, command_request, flag, form_of, is_budget, is_short_number, is_true, judge_app, judge_request, list_app, list_from, list_in, list_request, optional, print_app, print_from, print_in, print_request, request_from, request_in, request_of as request_in_words, valued, wanted};
+ghost use Rattle.msc_cmd.specs.Requests.{Answers, HasNoRequest, IsFound, bare, budget_from, budget_in, check_app, check_from, check_in, check_request, command_request, flag, form_of, is_true, judge_app, judge_request, list_app, list_from, list_in, list_request, optional, print_app, print_from, print_in, print_request, request_from, request_in, request_of as request_in_words, sample_app, sample_from, sample_in, sample_request, seed_in, turns_in, valued, wanted};
 ghost use Rattle.msc_cmd.specs.declared.requests.Request.TheVariants.{Judge, List};
 ghost use Rattle.msc_cmd.specs.declared.requests.WordFault.TheVariants.{NoRequest};
 
+use crate::numbers::number_in;
+use crate::sample_log::{MOST_SEED, MOST_TURNS};
 use clap::error::ErrorKind;
 use clap::{Arg, ArgAction, ArgMatches, Command};
 use event_log::LogForm;
@@ -40,6 +42,11 @@ pub enum Request {
     /// Print this document in its canonical form.
     Print {
         document: Text,
+    },
+    /// Make a sample of so many turns from this seed, and judge it.
+    Sample {
+        turns: u64,
+        seed: u64,
     },
 }
 
@@ -149,6 +156,15 @@ fn print_command<'a>(alloc: Global) -> Result<Command<'a>, AllocError>
     with_wanted(alloc, command, "document")
 }
 
+/// What may stand behind `sample`.
+fn sample_command<'a>(alloc: Global) -> Result<Command<'a>, AllocError>
+    ensures { IfOk result (λ c. app_of c ≡ sample_app) }
+{
+    let command = bare_command(alloc, "sample");
+    let command = with_wanted(alloc, command, "turns")?;
+    with_wanted(alloc, command, "seed")
+}
+
 /// Whether an option without a value is given.
 fn is_given(text: Option<&str>) -> bool
     ensures { result ≡ is_true (option_map (λ s. s.now) text.entry) }
@@ -173,56 +189,14 @@ fn form_given(text: Option<&str>) -> LogForm
 /// How many digits a budget may have.
 const BUDGET_DIGITS: usize = 7;
 
-/// Whether each byte is a decimal digit.
-#[tactic(auto, using(crate::proofs::Numbers::more_digits, crate::proofs::Numbers::first_mark, crate::proofs::Numbers::all_digits))]
-fn are_digits(bytes: &[u8]) -> bool
-    ensures { result ≡ all_ascii_digits bytes.now }
-{
-    let mut rest = bytes;
-    while let Some((byte, others)) = rest.split_first() {
-        if !byte.is_ascii_digit() {
-            return false;
-        }
-        rest = others;
-    }
-    true
-}
-
-/// Whether the text is one to seven decimal digits.
-fn is_short_number(text: &str) -> bool
-    ensures { result ≡ is_short_number text.now }
-{
-    let digits = are_digits(text.as_bytes());
-    let length = text.len();
-    let some = 0 < length;
-    let short = length <= BUDGET_DIGITS;
-    digits & some & short
-}
-
-/// Whether it is a number from 1 to the greatest budget.
-fn is_budget(number: u64) -> bool
-    ensures { result ≡ is_budget number }
-{
-    number > 0 && number <= Limits::BUDGET_MOST
-}
+/// How many digits the numbers of a sample may have.
+const SAMPLE_DIGITS: usize = 10;
 
 /// The budget in a text.
 fn budget_in(text: &str) -> Option<u64>
     ensures { result ≡ budget_in text.now }
 {
-    if !is_short_number(text) {
-        return None;
-    }
-    match text.parse::<u64>() {
-        Ok(number) => {
-            if is_budget(number) {
-                Some(number)
-            } else {
-                None
-            }
-        }
-        Err(_) => None,
-    }
+    number_in(text, BUDGET_DIGITS, 1, Limits::BUDGET_MOST)
 }
 
 /// The budget that is asked for, or the one that stands where none is.
@@ -372,6 +346,25 @@ fn print_of_text(alloc: Global, document: Option<&str>) -> Result<Request, WordF
     }
 }
 
+/// The request for a sample, from what each argument was given.
+fn sample_of_texts(turns: Option<&str>, seed: Option<&str>) -> Result<Request, WordFault>
+    ensures { Answers (sample_from (option_map (λ s. s.now) turns.entry) (option_map (λ s. s.now) seed.entry)) result }
+{
+    let Some(turns) = turns else {
+        return Err(WordFault::NoRequest);
+    };
+    let Some(seed) = seed else {
+        return Err(WordFault::NoRequest);
+    };
+    let Some(turns) = number_in(turns, SAMPLE_DIGITS, 1, MOST_TURNS) else {
+        return Err(WordFault::NoRequest);
+    };
+    let Some(seed) = number_in(seed, SAMPLE_DIGITS, 0, MOST_SEED) else {
+        return Err(WordFault::NoRequest);
+    };
+    Ok(Request::Sample { turns, seed })
+}
+
 /// The request to judge in what `clap` found.
 fn request_of_matches(alloc: Global, matches: &ArgMatches) -> Result<Request, WordFault>
     ensures { Answers (request_in (rows_of (found_of matches.now))) result }
@@ -411,6 +404,13 @@ fn print_of_matches(alloc: Global, matches: &ArgMatches) -> Result<Request, Word
     ensures { Answers (print_in (rows_of (found_of matches.now))) result }
 {
     print_of_text(alloc, matches.get_str("document"))
+}
+
+/// The request for a sample in what `clap` found.
+fn sample_of_matches(matches: &ArgMatches) -> Result<Request, WordFault>
+    ensures { Answers (sample_in (rows_of (found_of matches.now))) result }
+{
+    sample_of_texts(matches.get_str("turns"), matches.get_str("seed"))
 }
 
 /// What `clap` finds in the words behind a command.
@@ -473,6 +473,17 @@ fn print_words(alloc: Global, words: &[&str]) -> Result<Request, WordFault>
     print_of_matches(alloc, &matches)
 }
 
+/// The request that the words behind `sample` make.
+fn sample_words(alloc: Global, words: &[&str]) -> Result<Request, WordFault>
+    ensures { Answers (sample_request (map (λ w. w.now) words.entry.now)) result }
+{
+    let Ok(command) = sample_command(alloc) else {
+        return Err(WordFault::NoMemory);
+    };
+    let matches = matches_in(command, words)?;
+    sample_of_matches(&matches)
+}
+
 /// The request that the words behind this command make.
 fn command_words(alloc: Global, command: &Text, words: &[&str]) -> Result<Request, WordFault>
     ensures { Answers (command_request command.now (map (λ w. w.now) words.entry.now)) result }
@@ -488,6 +499,9 @@ fn command_words(alloc: Global, command: &Text, words: &[&str]) -> Result<Reques
     }
     if is_text(command.bytes(), "print") {
         return print_words(alloc, words);
+    }
+    if is_text(command.bytes(), "sample") {
+        return sample_words(alloc, words);
     }
     Err(WordFault::NoRequest)
 }

@@ -1,7 +1,7 @@
 use Rattle.std.proofs.Common.{◌≡◌, codes, rules, subst, sym, Option, map}
 use Rattle.msc_cmd.specs.declared.requests.Request.{Request}
 use Rattle.msc_cmd.specs.Requests.{Answers}
-use Rattle.msc_cmd.proofs.WordLaws.{judge_command, check_command, list_command, print_command, no_command}
+use Rattle.msc_cmd.proofs.WordLaws.{judge_command, check_command, list_command, print_command, sample_command, no_command}
 use Rattle.msc_cmd.proofs.requests.command_words.Goals as goal
 
 pub returns-then-is_text : goal.returns-then-is_text
@@ -24,10 +24,16 @@ returns-then-is_text-4 c =
     let is : c.args.command.now ≡ codes "print" = search rules in
     subst (λ (o : Option Request). Answers o c.print_words.result) (sym (print_command c.args.command.now (map (λ w. w.now) c.args.words.now) is)) c.print_words.ensures
 
+pub returns-then-is_text-5 : goal.returns-then-is_text-5
+returns-then-is_text-5 c =
+    let is : c.args.command.now ≡ codes "sample" = search rules in
+    subst (λ (o : Option Request). Answers o c.sample_words.result) (sym (sample_command c.args.command.now (map (λ w. w.now) c.args.words.now) is)) c.sample_words.ensures
+
 pub returns : goal.returns
 returns c =
     let judge : c.args.command.now ≡ codes "judge" → ⊥ = search rules in
     let check : c.args.command.now ≡ codes "check" → ⊥ = search rules in
     let list : c.args.command.now ≡ codes "list" → ⊥ = search rules in
     let print : c.args.command.now ≡ codes "print" → ⊥ = search rules in
-    no_command c.args.command.now (map (λ w. w.now) c.args.words.now) judge check list print
+    let sample : c.args.command.now ≡ codes "sample" → ⊥ = search rules in
+    no_command c.args.command.now (map (λ w. w.now) c.args.words.now) judge check list print sample
