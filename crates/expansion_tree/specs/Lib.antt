@@ -1,0 +1,3 @@
+pub mod Expansions
+pub mod Numbered
+pub mod Views
