@@ -1,0 +1,4 @@
+pub mod Stops
+pub mod Ranks
+pub mod Precedence
+pub mod Webs
