@@ -1,0 +1,10 @@
+pub mod Dropped
+pub mod TieFacts
+pub mod Making
+pub mod Positions
+pub mod Numbers
+pub mod EventParts
+pub mod Measures
+pub mod Loops
+pub mod ChartParts
+pub mod WorkedExpansions
