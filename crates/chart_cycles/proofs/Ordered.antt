@@ -1,0 +1,137 @@
+-- Charts that are written in order, or have no references, and the first that isn't ordered.
+use Rattle.std.proofs.Common.{◌≡◌, ◌∙◌, ◌<◌, ◌≤◌, ◌+◌, inl, inr, ℕ, zero, suc, Bool, true, false, if◌then◌else◌, List, [], ◌∷◌, ◌++◌, Option, Some, None, refl, sym, subst, ap, get_or, length, map, take, arith}
+use Rattle.std.proofs.lemmas.List.{map-append, take_all, take_more}
+use Rattle.std.proofs.lemmas.Slice.Eq.{bytes_eq-Decides}
+use Rattle.std.specs.List.{slice_get}
+use Rattle.std.specs.Str.{bytes_eq}
+use Rattle.msc_base.specs.Lists.{AreDifferent, IsAmong}
+use Rattle.msc_meaning.specs.Bodies.{Body, level, WovenItems, no_items, item_and, WovenItem, Single, Coregion, Inline, Refer, Bodies, no_bodies, body_and}
+use Rattle.msc_meaning.specs.Tables.{Table, ChartEntry, Woven, Basic, HighLevel, chart_at}
+use Rattle.msc_meaning.specs.Views.{entry_view, table_view}
+use Rattle.msc_meaning.specs.declared.body.ChartEntry as rust
+use Rattle.expanded_charts.specs.PlainCharts.{IsPlainTable}
+use Rattle.expanded_charts.specs.Expanding.{expansion}
+use Rattle.expanded_charts.specs.Making.{no_ends}
+use Rattle.expanded_charts.specs.Numbering.{numbering_of}
+use Rattle.gate_ends.specs.FoundEnds.{AreAll, item_names, items_names, level_names, operands_names}
+use Rattle.written_order.specs.Rising.{IsRisingEntry, IsRisingTo, IsRisingWoven}
+use Rattle.written_order.specs.RisingLaws.{RisingChartsAreRanked}
+use Rattle.chart_cycles.specs.Cycles.{AreOrdered, IsCyclicIn, IsOrdered}
+use Rattle.chart_cycles.specs.Written.{AreWritten, HasNoReference, HaveNoReference, IsWritten, ItemHasNoReference, OperandsHaveNoReference, StandsAlone}
+
+-- ---- without references
+
+both_nil : {X : Type 0} (xs ys : List X) → xs ≡ [] → ys ≡ [] → xs ++ ys ≡ []
+both_nil xs ys e f = ap (λ z. z ++ ys) e ∙ f
+
+mutual
+  no_names : (b : Body) → HasNoReference b → level_names b ≡ []
+  no_names (level cover held pairs) h = no_item_names held h
+
+  no_item_names : (xs : WovenItems) → HaveNoReference xs → items_names xs ≡ []
+  no_item_names no_items h = refl
+  no_item_names (item_and x xs) h = both_nil (item_names x) (items_names xs) (no_name x h.0) (no_item_names xs h.1)
+
+  no_name : (x : WovenItem) → ItemHasNoReference x → item_names x ≡ []
+  no_name (Single k) h = refl
+  no_name (Coregion ks) h = refl
+  no_name (Inline form part operands) h = no_operand_names operands h
+  no_name (Refer part) h = absurd h
+
+  no_operand_names : (bs : Bodies) → OperandsHaveNoReference bs → operands_names bs ≡ []
+  no_operand_names no_bodies h = refl
+  no_operand_names (body_and b bs) h = both_nil (level_names b) (operands_names bs) (no_names b h.0) (no_operand_names bs h.1)
+
+alone_rises : (P : List ℕ → Type 0) (w : Woven) → StandsAlone w → IsWritten w → IsRisingWoven P w
+alone_rises P (Basic b) alone up = (up, subst (AreAll P) (sym (no_names b alone)) tt)
+alone_rises P (HighLevel drawn) alone up = tt
+
+chart_rises : (table : Table) (depth : ℕ) (name : List ℕ) (c : ChartEntry) → chart_at table name ≡ Some c → StandsAlone c.content → IsWritten c.content → IsRisingTo table depth name
+chart_rises table zero name c at alone up = tt
+chart_rises table (suc k) name c at alone up = subst (IsRisingEntry (IsRisingTo table k)) (sym at) (alone_rises (IsRisingTo table k) c.content alone up)
+
+pub alone_ordered : RisingChartsAreRanked → (table : Table) (depth : ℕ) (name : List ℕ) (c : ChartEntry) → IsPlainTable table → chart_at table name ≡ Some c → StandsAlone c.content → IsWritten c.content → IsOrdered table depth name
+alone_ordered law table depth name c plain at alone up = law.ranked table depth name (numbering_of (expansion no_ends table depth name)) plain (chart_rises table depth name c at alone up)
+
+-- ---- all written in order
+
+written_at : (charts : Table) (name : List ℕ) (c : ChartEntry) → AreWritten charts → chart_at charts name ≡ Some c → IsWritten c.content
+written_at [] name c h e = absurd cc
+written_at (d ∷ charts) name c h e = by (bytes_eq d.name name) e (written_at charts name c h.1)
+  where
+    by : (b : Bool) → (if b then Some d else chart_at charts name) ≡ Some c → (chart_at charts name ≡ Some c → IsWritten c.content) → IsWritten c.content
+    by true f behind = let same : d ≡ c = cc in subst (λ (x : ChartEntry). IsWritten x.content) same h.0
+    by false f behind = behind f
+
+all_of : (P : List ℕ → Type 0) → ((name : List ℕ) → P name) → (names : List (List ℕ)) → AreAll P names
+all_of P f [] = tt
+all_of P f (n ∷ names) = (f n, all_of P f names)
+
+woven_rises : (P : List ℕ → Type 0) → ((name : List ℕ) → P name) → (w : Woven) → IsWritten w → IsRisingWoven P w
+woven_rises P f (Basic b) up = (up, all_of P f (level_names b))
+woven_rises P f (HighLevel drawn) up = tt
+
+all_rise : (table : Table) → AreWritten table → (depth : ℕ) (name : List ℕ) → IsRisingTo table depth name
+all_rise table up zero name = tt
+all_rise table up (suc k) name = by (chart_at table name) (λ c at. written_at table name c up at) refl (all_rise table up k)
+  where
+    by : (o : Option ChartEntry) → ((c : ChartEntry) → chart_at table name ≡ Some c → IsWritten c.content) → chart_at table name ≡ o → ((other : List ℕ) → IsRisingTo table k other) → IsRisingEntry (IsRisingTo table k) o
+    by None f e below = tt
+    by (Some c) f e below = woven_rises (IsRisingTo table k) below c.content (f c e)
+
+pub written_ordered : RisingChartsAreRanked → (table : Table) (depth : ℕ) → IsPlainTable table → AreWritten table → (charts : List ChartEntry) → AreOrdered table depth charts
+written_ordered law table depth plain up [] = tt
+written_ordered law table depth plain up (c ∷ charts) = (law.ranked table depth c.name (numbering_of (expansion no_ends table depth c.name)) plain (all_rise table up depth c.name), written_ordered law table depth plain up charts)
+
+-- ---- chart by chart
+
+abbrev names_of : List rust.ChartEntry → List (List ℕ)
+names_of cs = map (λ (c : rust.ChartEntry). c.name) cs
+
+among_name : (cs : List rust.ChartEntry) (i : ℕ) (c : rust.ChartEntry) → slice_get cs i ≡ Some c → IsAmong (names_of cs) c.name
+among_name [] i c e = absurd cc
+among_name (d ∷ cs) zero c e = let same : c ≡ d = cc in inl (ap (λ (x : rust.ChartEntry). x.name) same)
+among_name (d ∷ cs) (suc i) c e = inr (among_name cs i c e)
+
+pub chart_there : (cs : List rust.ChartEntry) (i : ℕ) (c : rust.ChartEntry) → AreDifferent (names_of cs) → slice_get cs i ≡ Some c → chart_at (table_view cs) c.name ≡ Some (entry_view c)
+chart_there [] i c d e = absurd cc
+chart_there (b ∷ cs) zero c d e =
+    let same : b ≡ c = cc in
+    let here : bytes_eq b.name c.name ≡ true = (bytes_eq-Decides b.name c.name).1 (ap (λ (x : rust.ChartEntry). x.name) same) in
+    (rw here refl) ∙ ap (λ (x : rust.ChartEntry). Some (entry_view x)) same
+chart_there (b ∷ cs) (suc i) c d e = by (bytes_eq b.name c.name) refl (chart_there cs i c d.1 e)
+  where
+    by : (t : Bool) → bytes_eq b.name c.name ≡ t → chart_at (table_view cs) c.name ≡ Some (entry_view c) → chart_at (table_view (b ∷ cs)) c.name ≡ Some (entry_view c)
+    by true q f = absurd (d.0 (subst (IsAmong (names_of cs)) (sym ((bytes_eq-Decides b.name c.name).0 q)) (among_name cs i c e)))
+    by false q f = rw q f
+
+pub item_at : {X : Type 0} (xs : List X) (i : ℕ) (x : X) → i < length xs → x ≡ get_or xs i x → slice_get xs i ≡ Some x
+item_at [] i x l h = absurd (omega arith)
+item_at (y ∷ xs) zero x l h = ap Some (sym h)
+item_at (y ∷ xs) (suc i) x l h = item_at xs i x (omega (arith, l)) h
+
+ordered_snoc : (table : Table) (depth : ℕ) (cs : List ChartEntry) (c : ChartEntry) → AreOrdered table depth cs → IsOrdered table depth c.name → AreOrdered table depth (cs ++ c ∷ [])
+ordered_snoc table depth [] c h one = (one, tt)
+ordered_snoc table depth (b ∷ cs) c h one = (h.0, ordered_snoc table depth cs c h.1 one)
+
+pub ordered_more : (table : Table) (depth : ℕ) (cs : List rust.ChartEntry) (i : ℕ) (c : rust.ChartEntry) → i < length cs → c ≡ get_or cs i c → AreOrdered table depth (map entry_view (take i cs)) → IsOrdered table depth c.name → AreOrdered table depth (map entry_view (take (i + 1) cs))
+ordered_more table depth cs i c low is h one =
+    let more : map entry_view (take (i + 1) cs) ≡ map entry_view (take i cs) ++ entry_view c ∷ [] = ap (map entry_view) (take_more cs i c low ∙ ap (λ (y : rust.ChartEntry). take i cs ++ y ∷ []) (sym is)) ∙ map-append entry_view (take i cs) (c ∷ []) in
+    subst (AreOrdered table depth) (sym more) (ordered_snoc table depth (map entry_view (take i cs)) (entry_view c) h one)
+
+pub all_ordered : (table : Table) (depth : ℕ) (cs : List rust.ChartEntry) (i : ℕ) → length cs ≤ i → AreOrdered table depth (map entry_view (take i cs)) → AreOrdered table depth (map entry_view cs)
+all_ordered table depth cs i low h = subst (λ (l : List rust.ChartEntry). AreOrdered table depth (map entry_view l)) (take_all i cs low) h
+
+mapped_at : (cs : List rust.ChartEntry) (i : ℕ) (c : rust.ChartEntry) → slice_get cs i ≡ Some c → slice_get (map entry_view cs) i ≡ Some (entry_view c)
+mapped_at [] i c e = absurd cc
+mapped_at (b ∷ cs) zero c e = let same : b ≡ c = cc in ap (λ (x : rust.ChartEntry). Some (entry_view x)) same
+mapped_at (b ∷ cs) (suc i) c e = mapped_at cs i c e
+
+mapped_take : (cs : List rust.ChartEntry) (i : ℕ) → map entry_view (take i cs) ≡ take i (map entry_view cs)
+mapped_take [] zero = refl
+mapped_take [] (suc i) = refl
+mapped_take (b ∷ cs) zero = refl
+mapped_take (b ∷ cs) (suc i) = ap (λ l. entry_view b ∷ l) (mapped_take cs i)
+
+pub first_is : (table : Table) (depth : ℕ) (cs : List rust.ChartEntry) (i : ℕ) (c : rust.ChartEntry) → slice_get cs i ≡ Some c → (IsOrdered table depth c.name → ⊥) → AreOrdered table depth (map entry_view (take i cs)) → IsCyclicIn table depth (map entry_view cs) (Some i)
+first_is table depth cs i c at cyclic h = record { chart = entry_view c; is = mapped_at cs i c at; cyclic = cyclic; before = subst (AreOrdered table depth) (mapped_take cs i) h }

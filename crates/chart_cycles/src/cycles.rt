@@ -1,0 +1,126 @@
+//! The first chart whose order is cyclic. Where all charts are written in order nothing is expanded, nor is a chart without references
+//! that is.
+
+ghost use Rattle.std.specs.Prelude.{◌≡◌, true, false, IfOk, Some, map};
+ghost use Rattle.expanded_charts.specs.Making.{HasNames};
+ghost use Rattle.expanded_charts.specs.PlainCharts.{IsPlainTable};
+ghost use Rattle.msc_base.specs.Lists.{AreDifferent};
+ghost use Rattle.msc_meaning.specs.Tables.{chart_at};
+ghost use Rattle.msc_meaning.specs.Views.{content_view, entry_view, table_view};
+ghost use Rattle.chart_cycles.specs.Cycles.{IsCyclicIn, IsOrdered};
+ghost use Rattle.chart_cycles.specs.Written.{AreWritten, IsWritten, StandsAlone};
+
+use crate::alone::has_none;
+use expanded_charts::expansion_of;
+use expansion_order::is_cyclic;
+use msc_base::{NameTable, NoMemory};
+use msc_meaning::{ChartEntry, EntryContent};
+use std::alloc::Global;
+use written_order::is_rising;
+use written_order::laws::rising_charts_are_ranked;
+
+/// Whether the chart is written in order by itself.
+fn is_written(content: &EntryContent) -> bool
+    ensures { result ≡ true → IsWritten (content_view content.now) }
+{
+    match content {
+        EntryContent::Basic(body) => is_rising(body),
+        EntryContent::Graph(_) => true,
+    }
+}
+
+/// Whether each chart is written in order by itself.
+fn are_written(charts: &[ChartEntry]) -> bool
+    ensures { result ≡ true → AreWritten (map entry_view charts.now) }
+{
+    for chart in charts {
+        if !is_written(&chart.content) {
+            return false;
+        }
+    }
+    true
+}
+
+/// Whether no reference stands in the chart.
+fn stands_alone(content: &EntryContent) -> bool
+    ensures { result ≡ true → StandsAlone (content_view content.now) }
+{
+    match content {
+        EntryContent::Basic(body) => has_none(body),
+        EntryContent::Graph(_) => true,
+    }
+}
+
+/// Whether the chart has no references, and is written in order.
+fn is_alone(content: &EntryContent) -> bool
+    ensures alone { result ≡ true → StandsAlone (content_view content.now) }
+    ensures written { result ≡ true → IsWritten (content_view content.now) }
+{
+    stands_alone(content) && is_written(content)
+}
+
+/// Whether the order of the events of the chart's expansion is cyclic.
+fn is_cyclic_chart(
+    alloc: Global,
+    charts: &[ChartEntry],
+    names: &NameTable,
+    depth: u32,
+    name: &[u8],
+) -> Result<bool, NoMemory>
+    requires named { HasNames charts.now names.now }
+    requires plain { IsPlainTable (table_view charts.now) }
+    ensures cyclic { IfOk result (λ cyclic. cyclic ≡ true → IsOrdered (table_view charts.now) depth name.now → ⊥) }
+    ensures ordered { IfOk result (λ cyclic. cyclic ≡ false → IsOrdered (table_view charts.now) depth name.now) }
+{
+    let made = expansion_of(alloc, charts, names, depth, name)?;
+    let cyclic = is_cyclic(alloc, &made.expansion)?;
+    Ok(cyclic)
+}
+
+/// The same, without making the expansion of a chart without references that is written in order.
+fn is_cyclic_entry(
+    alloc: Global,
+    charts: &[ChartEntry],
+    names: &NameTable,
+    depth: u32,
+    chart: &ChartEntry,
+) -> Result<bool, NoMemory>
+    requires named { HasNames charts.now names.now }
+    requires plain { IsPlainTable (table_view charts.now) }
+    requires there { chart_at (table_view charts.now) chart.now.name ≡ Some (entry_view chart.now) }
+    ensures cyclic { IfOk result (λ cyclic. cyclic ≡ true → IsOrdered (table_view charts.now) depth chart.now.name → ⊥) }
+    ensures ordered { IfOk result (λ cyclic. cyclic ≡ false → IsOrdered (table_view charts.now) depth chart.now.name) }
+{
+    rising_charts_are_ranked();
+    if is_alone(&chart.content) {
+        return Ok(false);
+    }
+    let cyclic = is_cyclic_chart(alloc, charts, names, depth, chart.name.bytes())?;
+    Ok(cyclic)
+}
+
+/// The number of the first chart of a table the order of whose expansion is cyclic; none, where there is none. The names are those of
+/// the charts, in their order, and differ; references stand in each other less than so deep. It fails only for want of memory, for which it takes
+/// 2^32 events, or edges between them, of one expansion too. Where all charts are written in order nothing is expanded.
+pub fn first_cyclic(
+    alloc: Global,
+    charts: &[ChartEntry],
+    names: &NameTable,
+    depth: u32,
+) -> Result<Option<usize>, NoMemory>
+    requires named { HasNames charts.now names.now }
+    requires different { AreDifferent names.now }
+    requires plain { IsPlainTable (table_view charts.now) }
+    ensures { IfOk result (IsCyclicIn (table_view charts.now) depth (map entry_view charts.now)) }
+{
+    rising_charts_are_ranked();
+    if are_written(charts) {
+        return Ok(None);
+    }
+    for index in 0..charts.len() {
+        if is_cyclic_entry(alloc, charts, names, depth, &charts[index])? {
+            return Ok(Some(index));
+        }
+    }
+    Ok(None)
+}
