@@ -1,0 +1,10 @@
+pub mod Links
+pub mod LinkViews
+pub mod Summaries
+pub mod SummaryViews
+pub mod References
+pub mod Worked
+pub mod Rows
+pub mod Tables
+pub mod Ranks
+pub mod FaultPlaces
