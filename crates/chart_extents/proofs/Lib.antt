@@ -1,0 +1,5 @@
+pub mod CappedFacts
+pub mod Unique
+pub mod LimitFacts
+pub mod WorkedFacts
+pub mod SizedFacts

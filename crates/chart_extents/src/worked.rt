@@ -1,0 +1,13 @@
+//! What worked charts come to. Each is the contract of a function that does nothing.
+
+ghost use Rattle.chart_extents.specs.Worked.{ActionsAreSmall, UsesAddUp};
+
+/// A chart of one action has size 5 and nesting 3.
+pub fn an_action_comes_to_five()
+    ensures { ActionsAreSmall }
+{}
+
+/// A chart that refers twice to another comes to 5 and twice what that comes to.
+pub fn each_use_counts()
+    ensures { UsesAddUp }
+{}
