@@ -1,0 +1,4 @@
+pub mod Placing
+pub mod Creating
+pub mod Stopping
+pub mod Worked
