@@ -1,0 +1,5 @@
+mod Dropped
+pub mod Kept
+mod OneChoice
+mod ViewFacts
+mod TermSteps

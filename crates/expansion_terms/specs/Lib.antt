@@ -1,0 +1,4 @@
+pub mod Constructors
+pub mod ExpansionTerms
+pub mod Stored
+pub mod ExceptionRuns
