@@ -1,0 +1,154 @@
+-- The worked chart meets what the laws ask.
+use Rattle.std.specs.Prelude.{◌==◌, ◌&&◌, ◌||◌, ℕ, Bool, true, false, List, [], ◌∷◌, codes}
+use Rattle.std.proofs.Common.{◌≡◌, refl, sym, subst, arith}
+use Rattle.std.proofs.lemmas.Bool.Decides.{Decides-eqb}
+use Rattle.std.proofs.lemmas.Option.{same_Some}
+use Rattle.msc_base.specs.Orders.{Among, first, later}
+use Rattle.msc_tree.specs.Expressions.{Chart}
+use Rattle.msc_meaning.specs.Bodies.{Body, WovenItems}
+use Rattle.msc_meaning.specs.InnerEvents.{InnerEvent, here, in_chart, IsInner, own, inside, passed, IsInnerOfExpression, of_chart, IsInnerOf, of_inline, of_reference, no_ends, end_and}
+use Rattle.msc_meaning.specs.MeaningLaws.{HaveOneEnd}
+use Rattle.msc_meaning.specs.Tables.{Table}
+use Rattle.msc_meaning.specs.WorkedCharts as worked
+use Rattle.msc_meaning.specs.WorkedCharts.{g, h}
+use Rattle.msc_unfolding.specs.Unfoldings.{Tag, Own, On}
+use Rattle.msc_meaning.proofs.KnownEnds.{one_call}
+use Rattle.expanded_terms.specs.RisingPairs.{Rises, DoNumbersRise}
+use Rattle.expanded_terms.specs.RisingTexts.{PairRises}
+use Rattle.expanded_terms.specs.NamedEvents.{event_named}
+use Rattle.expanded_terms.specs.RankedCharts.{expanded}
+use Rattle.expanded_terms.specs.WorkedExpansion.{GateExpands, worked_names, worked_labels, worked_ends}
+use Rattle.expanded_terms.proofs.Ranking.{preceding, rising}
+
+gate_inner : {table : Table} {e : InnerEvent} → IsInner table worked.gate_body g e → e.node ≡ worked.gate_in
+gate_inner (own first e) = refl
+gate_inner (own (later a) e) = elim a [ ]
+gate_inner (inside (later a) c s) = elim a [ ]
+gate_inner (passed (later a) b e s) = elim a [ ]
+
+in_c : {e : InnerEvent} → IsInnerOfExpression worked.gate_through_levels (Chart (codes "C")) g e → e.node ≡ worked.gate_in
+in_c (of_chart {body = b} {e = f} first e s) = let P : Body → Type 0 = λ x. IsInner worked.gate_through_levels x g f in gate_inner (subst P (sym (same_Some worked.gate_body b e)) s)
+in_c (of_chart (later a) e s) = elim a [ ]
+
+in_b : {e : InnerEvent} → IsInner worked.gate_through_levels worked.passing_body h e → e.node ≡ worked.gate_in
+in_b (own a e) = elim a [ ]
+in_b (inside (later a) c s) = elim a [ ]
+in_b (passed first first e s) = in_c s
+in_b (passed first (later b) e s) = elim b [ ]
+in_b (passed (later a) b e s) = elim a [ ]
+
+in_r : {e : InnerEvent} → IsInnerOfExpression worked.gate_through_levels (Chart (codes "B")) h e → e.node ≡ worked.gate_in
+in_r (of_chart {body = b} {e = f} first e s) = let P : Body → Type 0 = λ x. IsInner worked.gate_through_levels x h f in in_b (subst P (sym (same_Some worked.passing_body b e)) s)
+in_r (of_chart (later a) e s) = elim a [ ]
+
+outer_inner : {e : InnerEvent} → IsInnerOf worked.gate_through_levels worked.outer_items (codes "R") h e → e.node ≡ worked.gate_in
+outer_inner (of_inline (later (later a)) e s) = elim a [ ]
+outer_inner (of_reference (later first) e s) = in_r s
+outer_inner (of_reference (later (later a)) e s) = elim a [ ]
+
+outer_end : IsInnerOf worked.gate_through_levels worked.outer_items (codes "R") h (in_chart (codes "B") (in_chart (codes "C") (here worked.gate_in)))
+outer_end = of_reference (later first) refl (of_chart first refl (passed first first refl (of_chart first refl (own first refl))))
+
+pub none_called : (table : Table) (held : WovenItems) → HaveOneEnd table held []
+none_called table held c a e f s t = elim a [ ]
+
+-- the first of the pair has the lower number
+pair_rises : (base : ℕ → ℕ) → base 0 ≡ 0 → base 1 ≡ 1 → DoNumbersRise 0 2 base [] ((0, 1) ∷ [])
+pair_rises base none one = record { rise = λ m n e. by m n (m == 0) (n == 1) refl refl e; outside = λ j p a. elim a [ ] }
+  where
+    at : (m n : ℕ) → m ≡ 0 → n ≡ 1 → Rises 0 2 base m n
+    at m n p q = subst (λ (x : ℕ). Rises 0 2 base x n) (sym p) (subst (λ (x : ℕ). Rises 0 2 base 0 x) (sym q) (record { first = (omega arith, omega arith); second = (omega arith, omega arith); rises = omega (arith, one, none) }))
+
+    by : (m n : ℕ) (a b : Bool) → (m == 0) ≡ a → (n == 1) ≡ b → ((a && b) || false) ≡ true → Rises 0 2 base m n
+    by m n true true p q e = at m n ((Decides-eqb m 0).0 p) ((Decides-eqb n 1).0 q)
+    by m n true false p q e = absurd cc
+    by m n false b p q e = absurd cc
+
+none_rises : {lo hi : ℕ} {base : ℕ → ℕ} {looped : List ℕ} → DoNumbersRise lo hi base looped []
+none_rises = record { rise = λ m n e. absurd cc; outside = λ j p a. elim p [ ] }
+
+-- the one pair of tags, of the output and of the gate
+pub the_pair : (P : Tag → Tag → Type 0) (a b s t : Tag) → P a b → Among {P = Tag × Tag} (s, t) ((a, b) ∷ []) → P s t
+the_pair P a b _ _ holds first = holds
+the_pair P a b s t holds (later i) = elim i [ ]
+
+pub not_there : (n : ℕ) (z g : List ℕ) → Among (Own n) (On z g ∷ []) → ⊥
+not_there n z g (later i) = elim i [ ]
+
+pub not_called : (n : ℕ) (z g : List ℕ) → Among (On z g) (Own n ∷ []) → ⊥
+not_called n z g (later i) = elim i [ ]
+
+none_there : (t : Tag) → Among t [] → ⊥
+none_there t i = elim i [ ]
+
+pub gate_expands : GateExpands
+gate_expands = record {
+  term = refl;
+  fit = record {
+    entry = _;
+    is = refl;
+    fit = (
+      record { there = end_and (in_chart (codes "B") (in_chart (codes "C") (here worked.gate_in))) outer_end no_ends; one = one_call worked.gate_through_levels worked.outer_items _ worked.gate_in (λ e s. outer_inner s) },
+      (
+        record { label = refl; at = refl; also = λ i e. absurd cc },
+        (
+          record {
+            entry = _;
+            is = refl;
+            fit = (
+              record { there = no_ends; one = none_called worked.gate_through_levels worked.passing_items },
+              (
+                record {
+                  entry = _;
+                  is = refl;
+                  fit = (record { there = no_ends; one = none_called worked.gate_through_levels _ }, (record { label = refl; at = refl; also = λ i e. absurd cc }, tt));
+                },
+                tt,
+              ),
+            );
+          },
+          tt,
+        ),
+      ),
+    );
+  };
+  ranked = (rising (λ n. n) _ refl, (tt, (λ no. preceding (λ n. n) _ _ refl), ((rising (λ n. n) _ refl, ((rising (λ n. n) _ refl, (tt, (λ no. preceding (λ n. n) _ _ refl), tt)), (λ no. preceding (λ n. n) _ _ refl), tt)), (λ no. preceding (λ n. n) _ _ refl), tt)));
+  texts = (
+    λ s t i. the_pair (λ (s t : Tag). PairRises (expanded (event_named worked_names worked_labels) worked_ends worked.gate_through_levels 2) [] worked.outer_items s t) (Own 0) (On (codes "R") h) s t
+        (record { order = ((λ a b. not_there 0 (codes "R") h a), (λ a b. not_called 0 (codes "R") h b), ((λ a b. elim a [ ]), (λ a b. not_there 0 (codes "R") h a), tt)); first = λ a. elim a [ ]; second = λ a. elim a [ ] }) i,
+    (tt, (((λ s t i. elim i [ ]), ((((λ s t i. elim i [ ]), (tt, tt))), tt)), tt)),
+  );
+  rises = (pair_rises _ refl refl, (tt, ((none_rises, ((none_rises, (tt, tt)), tt)), tt)));
+  placeable = record {
+    entry = _;
+    is = refl;
+    fit = (
+      record { there = end_and (in_chart (codes "B") (in_chart (codes "C") (here worked.gate_in))) outer_end no_ends; one = one_call worked.gate_through_levels worked.outer_items _ worked.gate_in (λ e s. outer_inner s) },
+      (
+        record { label = refl; child = refl },
+        (
+          record {
+            entry = _;
+            is = refl;
+            fit = (
+              record { there = no_ends; one = none_called worked.gate_through_levels worked.passing_items },
+              (
+                record {
+                  entry = _;
+                  is = refl;
+                  fit = (record { there = no_ends; one = none_called worked.gate_through_levels _ }, (record { label = refl; child = refl }, tt));
+                },
+                tt,
+              ),
+            );
+          },
+          tt,
+        ),
+      ),
+    );
+  };
+  few = (
+    record { numbers = (λ i. elim i [ ], tt); pairs = omega arith; calls = (λ i. elim i [ ], tt) },
+    (tt, ((record { numbers = tt; pairs = omega arith; calls = tt }, ((record { numbers = (λ i. elim i [ ], tt); pairs = omega arith; calls = tt }, (tt, tt)), tt)), tt)),
+  );
+}

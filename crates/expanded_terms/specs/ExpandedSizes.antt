@@ -1,0 +1,158 @@
+-- The expanded size of a chart, and that each level has few pairs: no more than its events, what these are ordered with, the open gates of
+-- its parts, and the products of its joins leave room for.
+use Rattle.std.specs.Prelude.{◌≡◌, ◌≤◌, ℕ, zero, suc, ◌+◌, List, [], ◌∷◌, Option, None, Some, length, true}
+use Rattle.msc_unfolding.specs.Unfoldings.{Tag, Own, Via, On, Happening}
+use Rattle.chart_term.specs.Terms.{Tree, weight}
+use Rattle.term_meaning.specs.Portions.{Shown}
+use Rattle.general_ordering.specs.OrderCounts.{order_count, orders_count}
+use Rattle.msc_tree.specs.Expressions.{Expression, Empty, Chart, Alt, Par, Seq, Opt, Expressions, none, more}
+use Rattle.msc_tree.specs.Expressions as expression
+use Rattle.msc_meaning.specs.Bodies.{EventNode, ReferencePart, Body, level, WovenItems, no_items, item_and, WovenItem, Single, Coregion, Inline, Refer, Bodies, no_bodies, body_and}
+use Rattle.msc_meaning.specs.Calls.{calls}
+use Rattle.msc_meaning.specs.FarEnds.{GateMap}
+use Rattle.msc_meaning.specs.InnerEvents.{GateEnd}
+use Rattle.msc_meaning.specs.Tables.{Table, ChartEntry, chart_at, Woven, Basic, HighLevel, Refinement, refinements}
+use Rattle.msc_meaning.specs.Ties.{ties}
+use Rattle.expanded_terms.specs.ExpandedTerms.{Charts, charts_to, expression_shown, level_shown, items_shown, operands_shown, expression_count, item_count, level_count}
+use Rattle.chart_forms.specs.BuiltBodies.{has_operands}
+use Rattle.expanded_terms.specs.TagNumbers.{tied_numbers}
+
+-- ---- sizes; size_of: of the chart of that name; product: what the joins of a level's reference add
+
+module _ (size_of : List ℕ → ℕ) (product : WovenItems → ReferencePart → ℕ) where
+  abbrev mutual
+    pub expression_size : Expression → ℕ
+    expression_size Empty = 1
+    expression_size (Chart name) = size_of name
+    expression_size (Alt parts) = 1 + expressions_size parts
+    expression_size (Par parts) = 1 + expressions_size parts
+    expression_size (Seq parts) = 1 + expressions_size parts
+    expression_size (Opt part) = 2 + expression_size part
+    expression_size (expression.Loop lower upper part) = 2 + expression_size part
+
+    pub expressions_size : Expressions → ℕ
+    expressions_size none = 0
+    expressions_size (more x xs) = expression_size x + expressions_size xs
+
+  abbrev mutual
+    pub level_size : Body → ℕ
+    level_size (level cover held pairs) = items_size held held
+
+    -- some of the items of a level, which is the first
+    pub items_size : WovenItems → WovenItems → ℕ
+    items_size whole no_items = 0
+    items_size whole (item_and x xs) = item_size whole x + items_size whole xs
+
+    pub item_size : WovenItems → WovenItem → ℕ
+    item_size whole (Single n) = 3 + order_count n.event
+    item_size whole (Coregion ns) = 1 + (length ns + length ns + length ns) + orders_count ns
+    item_size whole (Inline form part operands) = 2 + operands_size operands
+    item_size whole (Refer part) = 2 + expression_size part.expression + product whole part
+
+    pub operands_size : Bodies → ℕ
+    operands_size no_bodies = 0
+    operands_size (body_and b bs) = 1 + level_size b + operands_size bs
+
+  -- of a chart without refining charts
+  abbrev pub woven_size : List Refinement → Woven → ℕ
+  woven_size [] (Basic held) = 2 + level_size held
+  woven_size [] (HighLevel drawn) = 0
+  woven_size (r ∷ rs) content = 0
+
+  abbrev pub entry_size : Option ChartEntry → ℕ
+  entry_size None = 0
+  entry_size (Some entry) = woven_size (refinements entry.decls) entry.content
+
+-- product: by the depth of references
+abbrev pub size_to : (ℕ → WovenItems → ReferencePart → ℕ) → Table → ℕ → List ℕ → ℕ
+size_to product table zero name = 0
+size_to product table (suc k) name = entry_size (size_to product table k) (product k) (chart_at table name)
+
+-- ---- open gates
+
+abbrev pub gates_in : Tag → ℕ
+gates_in (Own n) = 0
+gates_in (Via g) = 1
+gates_in (On name g) = 0
+
+-- how many tags are gates that nothing is tied to yet
+abbrev pub open_gates : Shown → ℕ
+open_gates [] = 0
+open_gates (p ∷ sh) = gates_in p.1 + open_gates sh
+
+-- ---- room for pairs
+
+module _ (charts : Charts) (product : WovenItems → ReferencePart → ℕ) where
+  abbrev pub events_room : List EventNode → ℕ
+  events_room ns = length ns + length ns + orders_count ns
+
+  abbrev pub item_room : WovenItems → ℕ → WovenItem → ℕ
+  item_room whole n (Single e) = 2 + order_count e.event
+  item_room whole n (Coregion es) = events_room es
+  item_room whole n (Inline form part operands) = open_gates (operands_shown charts n operands)
+  item_room whole n (Refer part) = 1 + open_gates (expression_shown charts n part.expression) + product whole part
+
+  abbrev pub items_room : WovenItems → ℕ → WovenItems → ℕ
+  items_room whole n no_items = 0
+  items_room whole n (item_and x xs) = item_room whole n x + items_room whole (n + item_count charts x) xs
+
+-- so many pairs, and so many gates that stay open, have room
+pub record HaveRoom (pairs gates room : ℕ) : Type 0 where
+  pub some : 1 ≤ pairs → 1 + pairs + gates ≤ room
+  pub any : gates ≤ room
+
+-- HasFew: the chart of that name has few pairs, its events numbered from n on
+module _ (charts : Charts) (product : WovenItems → ReferencePart → ℕ) (ends_of : WovenItems → List GateEnd) (HasFew : List ℕ → ℕ → Type 0) where
+  abbrev mutual
+    pub HasFewInExpression : ℕ → Expression → Type 0
+    HasFewInExpression n Empty = Unit {0}
+    HasFewInExpression n (Chart name) = HasFew name n
+    HasFewInExpression n (Alt parts) = HaveFewInExpressions n parts
+    HasFewInExpression n (Par parts) = HaveFewInExpressions n parts
+    HasFewInExpression n (Seq parts) = HaveFewInExpressions n parts
+    HasFewInExpression n (Opt part) = HasFewInExpression n part
+    HasFewInExpression n (expression.Loop lower upper part) = HasFewInExpression n part
+
+    pub HaveFewInExpressions : ℕ → Expressions → Type 0
+    HaveFewInExpressions n none = Unit {0}
+    HaveFewInExpressions n (more x xs) = HasFewInExpression n x × HaveFewInExpressions (n + expression_count charts x) xs
+
+  abbrev mutual
+    pub HasFewPairs : ℕ → Body → Type 0
+    HasFewPairs n (level cover held pairs) =
+        HaveRoom (length (tied_numbers (items_shown charts (calls held) n held) (ties held pairs (calls held) (ends_of held)))) (open_gates (level_shown charts n (level cover held pairs))) (items_room charts product held n held)
+        × HaveFewPairs n held
+
+    pub HaveFewPairs : ℕ → WovenItems → Type 0
+    HaveFewPairs n no_items = Unit {0}
+    HaveFewPairs n (item_and x xs) = HasFewWithin n x × HaveFewPairs (n + item_count charts x) xs
+
+    pub HasFewWithin : ℕ → WovenItem → Type 0
+    HasFewWithin n (Single k) = Unit {0}
+    HasFewWithin n (Coregion ks) = Unit {0}
+    HasFewWithin n (Inline form part operands) = (has_operands form operands ≡ true) × EachHasFew n operands
+    HasFewWithin n (Refer part) = HasFewInExpression n part.expression
+
+    pub EachHasFew : ℕ → Bodies → Type 0
+    EachHasFew n no_bodies = Unit {0}
+    EachHasFew n (body_and b bs) = HasFewPairs n b × EachHasFew (n + level_count charts b) bs
+
+  abbrev pub HasFewInWoven : ℕ → List Refinement → Woven → Type 0
+  HasFewInWoven n [] (Basic held) = HasFewPairs n held
+  HasFewInWoven n [] (HighLevel drawn) = ⊥
+  HasFewInWoven n (r ∷ rs) content = ⊥
+
+  abbrev pub HasFewInEntry : ℕ → Option ChartEntry → Type 0
+  HasFewInEntry n None = ⊥
+  HasFewInEntry n (Some entry) = HasFewInWoven n (refinements entry.decls) entry.content
+
+module _ (event : ℕ → Happening → Tree) (product : ℕ → WovenItems → ReferencePart → ℕ) (ends_of : WovenItems → List GateEnd) (table : Table) where
+  abbrev pub HasFewTo : ℕ → List ℕ → ℕ → Type 0
+  HasFewTo zero name n = ⊥
+  HasFewTo (suc k) name n = HasFewInEntry (charts_to event ends_of table k) (product k) ends_of (HasFewTo k) n (chart_at table name)
+
+-- the term of a chart weighs no more than the chart's expanded size, where each level has few pairs
+pub record ExpandedTermsWeigh : Type 0 where
+  pub weighs : (event : ℕ → Happening → Tree) (product : ℕ → WovenItems → ReferencePart → ℕ) (ends_of : WovenItems → List GateEnd) (table : Table) (depth : ℕ) (name : List ℕ) (gates : GateMap) (n : ℕ)
+      → ((i : ℕ) (h : Happening) → weight (event i h) ≤ 1) → HasFewTo event product ends_of table depth name n
+      → weight ((charts_to event ends_of table depth).term name gates n) ≤ size_to product table depth name

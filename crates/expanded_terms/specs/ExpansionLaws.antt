@@ -1,0 +1,25 @@
+-- The terms of charts are those of their expansions.
+use Rattle.std.specs.Prelude.{◌≡◌, ◌+◌, ℕ, List}
+use Rattle.msc_unfolding.specs.Unfoldings.{Happening}
+use Rattle.chart_term.specs.Terms.{Tree}
+use Rattle.msc_meaning.specs.Bodies.{WovenItems}
+use Rattle.msc_meaning.specs.FarEnds.{GateMap}
+use Rattle.msc_meaning.specs.InnerEvents.{GateEnd}
+use Rattle.msc_meaning.specs.Tables.{Table}
+use Rattle.expanded_charts.specs.Expanding.{NumberedEvent, expand_charts}
+use Rattle.expansion_terms.specs.ExpansionTerms.{expansion_term}
+use Rattle.expanded_terms.specs.ExpandedTerms.{charts_to}
+
+-- by the term of an event with its number
+abbrev pub numbered_by : (ℕ → Happening → Tree) → NumberedEvent → Tree
+numbered_by event e = event e.number e.happening
+
+-- a chart's term is the term of its expansion, at any depth, wherever its gates lead; the same tags are still to be seen, and it takes as
+-- many numbers
+pub record ExpansionsHaveTerms : Type 0 where
+  pub term : (event : ℕ → Happening → Tree) (ends_of : WovenItems → List GateEnd) (table : Table) (depth : ℕ) (name : List ℕ) (gates : GateMap) (n : ℕ)
+      → expansion_term (numbered_by event) (expand_charts ends_of table depth name gates n).part ≡ (charts_to event ends_of table depth).term name gates n
+  pub shown : (event : ℕ → Happening → Tree) (ends_of : WovenItems → List GateEnd) (table : Table) (depth : ℕ) (name : List ℕ) (gates : GateMap) (n : ℕ)
+      → (expand_charts ends_of table depth name gates n).shown ≡ (charts_to event ends_of table depth).shown name n
+  pub next : (event : ℕ → Happening → Tree) (ends_of : WovenItems → List GateEnd) (table : Table) (depth : ℕ) (name : List ℕ) (gates : GateMap) (n : ℕ)
+      → (expand_charts ends_of table depth name gates n).next ≡ n + (charts_to event ends_of table depth).count name
