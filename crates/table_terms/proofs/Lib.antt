@@ -1,0 +1,6 @@
+mod Numbered
+mod StoredCharts
+mod Happenings
+mod WholeCharts
+mod TableLaws
+mod WorkedPremises

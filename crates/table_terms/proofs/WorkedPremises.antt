@@ -1,0 +1,69 @@
+-- A worked chart meets what the laws ask.
+use Rattle.std.specs.Prelude.{ℕ, suc, List, [], ◌∷◌, Some, None, codes}
+use Rattle.std.proofs.Common.{◌≡◌, refl, arith}
+use Rattle.msc_base.specs.Orders.{Among, first, later}
+use Rattle.msc_base.specs.declared.limits.TheConstants.Limits.{EXPANDED_NESTING}
+use Rattle.expansion_tree.specs.Expansions.{events_in}
+use Rattle.expansion_order.specs.declared.stops.Stop.{Stop}
+use Rattle.expansion_order.specs.Ranks.{CanBeRanked, DoPrecede}
+use Rattle.expanded_charts.specs.Expanding.{NumberedEvent}
+use Rattle.expanded_charts.specs.WorkedExpansions.{acting, twice, used_twice, using}
+use Rattle.expanded_terms.specs.FewPairs.{HasFewOwn}
+use Rattle.expanded_terms.specs.JoinProducts.{IsFewTo}
+use Rattle.msc_meaning.specs.Bodies.{no_items, item_and, Single, Refer}
+use Rattle.msc_meaning.specs.WorkedCharts.{i}
+use Rattle.msc_meaning.specs.WorkedParts.{action, node, somewhere}
+use Rattle.expanded_terms.specs.PlacedTerms.{child_of}
+use Rattle.msc_meaning.specs.Tables.{Basic}
+use Rattle.table_terms.specs.CompleteCharts.{IsCompleteTo}
+use Rattle.table_terms.specs.TableTerms.{chart_expansion, numbered_chart}
+use Rattle.table_terms.specs.WorkedPremises.{PremisesAreMet}
+
+nothing_among : {P : Type 0} {p : P} → Among p [] → ⊥
+nothing_among a = elim a [ ]
+
+none_behind : (rank : ℕ → ℕ) (ss : List Stop) → DoPrecede rank ss []
+none_behind rank ss s t a b e = absurd (nothing_among b)
+
+goes_before : DoPrecede (λ n. n) (record { column = 0; number = 0 } ∷ []) (record { column = 0; number = 1 } ∷ [])
+goes_before s t first first e = omega arith
+goes_before s t (later a) b e = absurd (nothing_among a)
+goes_before s t first (later b) e = absurd (nothing_among b)
+
+acting_complete : (depth : ℕ) → IsCompleteTo used_twice (suc depth) (codes "B")
+acting_complete depth = record { entry = record { name = codes "B"; decls = []; content = Basic acting }; is = refl; complete = (tt, tt) }
+
+has_complete : IsCompleteTo used_twice EXPANDED_NESTING (codes "Z")
+has_complete = record { entry = record { name = codes "Z"; decls = []; content = Basic using }; is = refl; complete = ((acting_complete 254, (acting_complete 254, tt)), tt) }
+
+acting_few : HasFewOwn (item_and (Single (node 0 i (action (codes "'x'")))) no_items) []
+acting_few = record { numbers = (λ a. nothing_among a, tt); pairs = omega arith; calls = tt }
+
+using_few : HasFewOwn (item_and (Refer (record { name = None; expression = twice; joins = []; cover = i ∷ []; place = somewhere })) no_items) []
+using_few = record { numbers = tt; pairs = omega arith; calls = tt }
+
+has_few : IsFewTo used_twice EXPANDED_NESTING (codes "Z")
+has_few = (using_few, (((acting_few, (tt, tt)), ((acting_few, (tt, tt)), tt)), tt))
+
+has_ranks : CanBeRanked (numbered_chart used_twice (codes "Z"))
+has_ranks = record { rank = λ n. n; ranked = (λ p a. absurd (nothing_among a), (((λ p a. absurd (nothing_among a), (tt, (λ e. none_behind (λ n. n) _), tt)), (λ e. goes_before), (((λ n. n), (λ p a. absurd (nothing_among a), (tt, (λ e. none_behind (λ n. n) _), tt))), (λ e. none_behind (λ n. n) _), tt)), (λ e. none_behind (λ n. n) _), tt)) }
+
+is_placed : (e : NumberedEvent) → Among e (events_in (chart_expansion used_twice (codes "Z"))) → e.happening.also ≡ child_of e.happening.label
+is_placed e first = refl
+is_placed e (later first) = refl
+is_placed e (later (later a)) = absurd (nothing_among a)
+
+is_apart : (e : NumberedEvent) → Among e (events_in (chart_expansion used_twice (codes "Z"))) → e.happening.also ≡ Some e.happening.label.at → ⊥
+is_apart e first q = absurd cc
+is_apart e (later first) q = absurd cc
+is_apart e (later (later a)) q = absurd (nothing_among a)
+
+pub premises_are_met : PremisesAreMet
+premises_are_met = record {
+  plain = ((refl, (tt, tt)), ((refl, (refl, tt)), tt));
+  complete = has_complete;
+  ranked = has_ranks;
+  few = has_few;
+  room = record { few = omega arith; apart = is_apart };
+  placed = is_placed;
+}

@@ -1,0 +1,4 @@
+pub mod TableTerms
+pub mod CompleteCharts
+pub mod TableLaws
+pub mod WorkedPremises

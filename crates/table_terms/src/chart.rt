@@ -1,0 +1,54 @@
+//! The term of a chart of a table, with its labels and instances.
+
+ghost use Rattle.std.specs.Prelude.{◌≡◌, IfOk};
+ghost use Rattle.msc_meaning.specs.Views.{table_view};
+ghost use Rattle.expanded_charts.specs.Making.{HasNames};
+ghost use Rattle.expanded_charts.specs.PlainCharts.{IsPlainTable};
+ghost use Rattle.table_terms.specs.TableTerms.{HasRoom, IsTermOf, chart_numbering, labelled};
+
+use chart_term::Term;
+use expanded_charts::{ExpandedChart, expansion_of};
+use expansion_terms::term_of;
+use label_table::LabelTable;
+use msc_base::{Limits, NameTable, NoMemory};
+use msc_meaning::ChartEntry;
+use std::alloc::Global;
+
+/// The term of a chart, and what its numbers are of.
+#[derive(Drop)]
+pub struct ChartTerm {
+    /// The term.
+    pub term: Term,
+    /// The names of its instances by their numbers.
+    pub names: NameTable,
+    /// Its labels by their numbers.
+    pub labels: LabelTable,
+}
+
+/// The term of the chart of that name in a table of plain charts, of which the names are given in their order. It fails only for want of
+/// memory.
+#[tactic(auto, using(crate::proofs::StoredCharts::chart_stored))]
+pub fn chart_of(
+    alloc: Global,
+    charts: &[ChartEntry],
+    names: &NameTable,
+    name: &[u8],
+) -> Result<ChartTerm, NoMemory>
+    requires named { HasNames charts.now names.now }
+    requires plain { IsPlainTable (table_view charts.now) }
+    requires room { HasRoom (table_view charts.now) name.now }
+    ensures term { IfOk result (λ made. IsTermOf (table_view charts.now) name.now (labelled made.labels) made.term) }
+    ensures names { IfOk result (λ made. made.names ≡ (chart_numbering (table_view charts.now) name.now).names) }
+{
+    let depth = Limits::EXPANDED_NESTING as u32;
+    let ExpandedChart {
+        expansion,
+        numbering,
+    } = expansion_of(alloc, charts, names, depth, name)?;
+    let term = term_of(alloc, &expansion)?;
+    Ok(ChartTerm {
+        term,
+        names: numbering.names,
+        labels: numbering.labels,
+    })
+}
