@@ -1,9 +1,11 @@
--- What each text that is read has beside its tree: an event and a coregion stand at one instance, and an inline expression has as many
--- operands as its form takes (Z.120, clauses 4.2 and 7.2).
-use Rattle.std.specs.Prelude.{◌≡◌, ⊤, Bool, true, false, nat_eq, length, List, [], ◌∷◌}
+-- What each text that is read has beside its tree: an event and a coregion stand at one instance, an inline expression has as many operands
+-- as its form takes, and what is put together in the expression of a reference has two parts at least (Z.120, clauses 4.2, 7.2 and 7.3).
+use Rattle.std.specs.Prelude.{◌≡◌, ◌&&◌, ⊤, Bool, true, false, nat_eq, length, List, [], ◌∷◌}
 use Rattle.msc_tree.specs.declared.reference.InlineForm.{InlineForm}
 use Rattle.msc_tree.specs.declared.reference.InlineForm.TheVariants.{Alt, Opt, Par, Loop, Exc}
 use Rattle.msc_tree.specs.Charts.{Chart}
+use Rattle.msc_tree.specs.Expressions.{Expression, Expressions, none, more}
+use Rattle.msc_tree.specs.Expressions as expression
 use Rattle.msc_tree.specs.Statements.{Form, Single, Coregion, Condition, Inline, Refer, Stop, Operands, no_operands, operand_and}
 use Rattle.chart_text.specs.Texts.{Side, in_column, behind, behind_all, Passage, a_head, a_statement, an_item, an_operand, chart_text}
 
@@ -29,12 +31,33 @@ takes Loop no_operands = false
 takes Loop (operand_and operand no_operands) = true
 takes Loop (operand_and operand (operand_and other others)) = false
 
+-- two at least
+abbrev pub are_several : Expressions → Bool
+are_several none = false
+are_several (more x none) = false
+are_several (more x (more y ys)) = true
+
+-- `alt`, `par` and `seq` have two parts at least, at any depth
+abbrev mutual
+  pub has_parts : Expression → Bool
+  has_parts expression.Empty = true
+  has_parts (expression.Chart name) = true
+  has_parts (expression.Alt parts) = are_several parts && have_parts parts
+  has_parts (expression.Par parts) = are_several parts && have_parts parts
+  has_parts (expression.Seq parts) = are_several parts && have_parts parts
+  has_parts (expression.Opt part) = has_parts part
+  has_parts (expression.Loop lower upper part) = has_parts part
+
+  pub have_parts : Expressions → Bool
+  have_parts none = true
+  have_parts (more x xs) = has_parts x && have_parts xs
+
 abbrev pub is_well_formed_item : Side → Form → Bool
 is_well_formed_item side (Single event) = is_at_one side
 is_well_formed_item side (Coregion events) = is_at_one side
 is_well_formed_item side (Inline head held) = takes head.form held
 is_well_formed_item side (Condition names shared) = true
-is_well_formed_item side (Refer reference) = true
+is_well_formed_item side (Refer reference) = has_parts reference.expression
 is_well_formed_item side Stop = true
 
 abbrev pub is_well_formed : Passage → Bool

@@ -1,21 +1,19 @@
 -- What is read of a text is well formed: its events and coregions stand at one instance, its inline expressions have as many operands as
--- their forms take.
+-- their forms take, what is put together in the expressions of its references has two parts at least.
 use Rattle.std.specs.Prelude.{⊤}
-use Rattle.std.proofs.Common.{ℕ, zero, suc, ◌≡◌, ◌++◌, true, List, [], ◌∷◌, Option, map, codes, refl}
+use Rattle.std.proofs.Common.{ℕ, zero, suc, ◌≡◌, ◌++◌, true, List, [], ◌∷◌, map, codes, refl}
 use Rattle.msc_base.specs.declared.place.Place.{Place}
-use Rattle.msc_tokens.specs.declared.token.Token.{Token}
-use Rattle.msc_tree.specs.declared.chart.Cover.TheVariants.{All, Listed}
+use Rattle.msc_tree.specs.declared.chart.Cover.TheVariants.{All}
 use Rattle.msc_tree.specs.declared.reference.InlineForm.{InlineForm}
 use Rattle.msc_tree.specs.declared.reference.InlineForm.TheVariants.{Alt, Opt, Par, Loop, Exc}
-use Rattle.msc_tree.specs.Charts.{Chart, Content, Document, Basic, HighLevel}
+use Rattle.msc_tree.specs.Charts.{Chart, Basic, HighLevel}
 use Rattle.msc_tree.specs.Expressions.{Expression}
 use Rattle.msc_tree.specs.Statements.{Item, Operand, Statement, InColumn, Outside, Column, Covered, Heading, Ended, items, operands, statements, Single, Coregion, Condition, Refer, Stop, Inline}
 use Rattle.msc_tree.specs.Statements as tree
 use Rattle.token_grammar.specs.Languages.{Set, just}
 use Rattle.token_grammar.specs.Grammars.{Grammar, Inner, shut, inner, seq, or, read_as, behind}
 use Rattle.token_grammar.specs.Parts.{ending, lead, name, name_list}
-use Rattle.chart_text.specs.Texts.{Scope, Whole, Side, in_column, behind_all, behind_colon, Standing, Passage, a_head, inside, items_text, item_text, form_text, operands_text, operand_held, statement_held, statements_text, content_text, chart_text}
-use Rattle.chart_text.specs.Texts as text
+use Rattle.chart_text.specs.Texts.{Scope, Whole, Side, Standing, Passage, a_head, inside, items_text, item_text, operands_text, operand_held, statement_held, statements_text, content_text}
 use Rattle.chart_text.proofs.StandingLaws.{each_behind}
 use Rattle.chart_text.specs.WellFormed.{is_at_one, is_well_formed, takes, AreWellFormed, IsWellFormed, AreAllWellFormed}
 use Rattle.msc_events.specs.Declarations.{decl, declaration, head, heading, declared_by}
@@ -23,14 +21,14 @@ use Rattle.msc_events.specs.Events.{single, coregion, stop}
 use Rattle.msc_events.specs.Multis.{condition}
 use Rattle.msc_events.specs.declared.orientation.Orientation.{Orientation}
 use Rattle.msc_events.specs.declared.orientation.Orientation.TheVariants as written
-use Rattle.msc_expression.specs.Bounds.{with_bounds}
 use Rattle.msc_expression.specs.ExpressionGrammar.{expression}
 use Rattle.msc_expression.specs.GraphGrammar.{chart_graph}
 use Rattle.msc_document.specs.Inlines as Inlines
 use Rattle.msc_document.specs.Inlines.{Naming, Tail, each, several, body, alt_tail, par_tail, opt_tail, exc_tail, loop_tail, taken_once, inline, inline_item, form}
 use Rattle.msc_document.specs.FormedDocuments.{DocumentsAreWellFormed}
-use Rattle.msc_document.specs.DocumentGrammar.{naming, reference, multi_of, event_of, column_operand, column_event, LedLine, happen, list, declare, finish, lead_statement, covered_of, some, outside_operand, outside_event, outside_multi, covered_in, covered, statement, content, chart, chart_of, perhaps, document, chart_end}
-use Rattle.msc_document.proofs.Giving.{Gives, Each, Within, IsSome, IsOne, anything, weaker, read_gives, or_gives, seq_gives, behind_gives, placed_gives, each_gives, some_gives, opens_gives, several_gives, single_gives}
+use Rattle.msc_document.specs.DocumentGrammar.{naming, multi_of, event_of, column_operand, column_event, LedLine, happen, list, declare, finish, lead_statement, some, outside_operand, outside_event, outside_multi, covered_in, covered, statement, content, chart, chart_of, perhaps, document, chart_end}
+use Rattle.msc_document.proofs.Giving.{Gives, Each, Within, IsSome, IsOne, anything, weaker, read_gives, or_gives, seq_gives, behind_gives, placed_gives, bounded_gives, each_gives, some_gives, opens_gives, several_gives, single_gives}
+use Rattle.msc_document.proofs.FormedExpressions.{HasParts, expression_formed, reference_formed}
 
 formed_behind : (xs ys : List Passage) → AreWellFormed xs → AreWellFormed ys → AreWellFormed (xs ++ ys)
 formed_behind xs ys h k = each_behind (λ p. is_well_formed p ≡ true) xs ys h k
@@ -94,11 +92,8 @@ module _ {A : Type 0} (f : A → Operand) (At : Side → Type 0) where
         (λ R r. weaker (body_of (single_gives (just (codes "exc")) r)) (λ p h. of_one Exc p.0 p.1 h)) P w)
 
     loop_formed : Gives (loop_tail H P) (IsTail Loop)
-    loop_formed = bounded (opens_gives (just (codes "begin")) (λ p. body H (Inlines.single (just (codes "loop")) p))
+    loop_formed = bounded_gives (opens_gives (just (codes "begin")) (λ p. body H (Inlines.single (just (codes "loop")) p))
         (λ R r. weaker (body_of (single_gives (just (codes "loop")) r)) (λ p h. of_one Loop p.0 p.1 h)) P w)
-      where
-        bounded : {B : Type 0} {R : Grammar B} {Q : B → Type 0} → Gives R Q → Gives (with_bounds R) (λ p. Q p.1)
-        bounded r = read_gives (λ p. (_, p.1)) (or_gives (read_gives (λ p. (_, p.1)) (weaker (seq_gives (anything _) r) (λ p h. h.1))) (read_gives (λ b. (_, b)) r))
 
     form_formed : (kind : InlineForm) (words : Set) {T : Grammar (Tail A)} → Gives T (IsTail kind) → Gives (form f kind words T) (IsFormedAt At)
     form_formed kind words t = read_gives (inline_item f kind) (weaker (placed_gives words t)
@@ -110,15 +105,15 @@ module _ {A : Type 0} (f : A → Operand) (At : Side → Type 0) where
 
   -- ---- items
 
-  multi_formed : (orientation : Orientation) (X : Grammar Expression) (P : Inner A) → Within P IsHeld → Gives (multi_of orientation f X P) (IsFormedAt At)
-  multi_formed orientation X P w = or_gives (read_gives (λ p. tree.placed p.0 (Condition p.1 p.2)) (weaker (anything (condition orientation)) (λ p h s at. (refl, tt))))
-      (or_gives (inline_formed (naming orientation) P w) (read_gives (λ p. tree.placed p.0 (Refer p.1)) (weaker (anything (reference orientation X)) (λ p h s at. (refl, tt)))))
+  multi_formed : (orientation : Orientation) (X : Grammar Expression) → Gives X HasParts → (P : Inner A) → Within P IsHeld → Gives (multi_of orientation f X P) (IsFormedAt At)
+  multi_formed orientation X x P w = or_gives (read_gives (λ p. tree.placed p.0 (Condition p.1 p.2)) (weaker (anything (condition orientation)) (λ p h s at. (refl, tt))))
+      (or_gives (inline_formed (naming orientation) P w) (read_gives (λ p. tree.placed p.0 (Refer p.1)) (weaker (reference_formed orientation x) (λ p h s at. (h, tt)))))
 
-  event_formed : ((side : Side) → At side → is_at_one side ≡ true) → (orientation : Orientation) (X : Grammar Expression) (P : Inner A) → Within P IsHeld
+  event_formed : ((side : Side) → At side → is_at_one side ≡ true) → (orientation : Orientation) (X : Grammar Expression) → Gives X HasParts → (P : Inner A) → Within P IsHeld
       → Gives (event_of orientation f X P) (IsFormedAt At)
-  event_formed one orientation X P w = or_gives (read_gives (λ e. tree.placed e.place (Single e)) (weaker (anything single) (λ e h s at. (one s.side at, tt))))
+  event_formed one orientation X x P w = or_gives (read_gives (λ e. tree.placed e.place (Single e)) (weaker (anything single) (λ e h s at. (one s.side at, tt))))
       (or_gives (read_gives (λ p. tree.placed p.0 (Coregion p.1)) (weaker (anything coregion) (λ p h s at. (one s.side at, tt))))
-      (or_gives (multi_formed orientation X P w) (read_gives (λ place. tree.placed place Stop) (weaker (anything stop) (λ p h s at. (refl, tt))))))
+      (or_gives (multi_formed orientation X x P w) (read_gives (λ place. tree.placed place Stop) (weaker (anything stop) (λ p h s at. (refl, tt))))))
 
 items_formed : (At : Side → Type 0) (held : List Item) (s : Standing) → At s.side → Each (IsFormedAt At) held → AreWellFormed (items_text s (items held))
 items_formed At [] s at h = tt
@@ -131,8 +126,8 @@ AtOne side = is_at_one side ≡ true
 
 column_formed : (n : ℕ) → Gives (column_event n) (IsFormedAt AtOne)
 unfolding column_event
-column_formed zero = event_formed column_operand AtOne (λ side h. h) written.Column (expression zero) shut tt
-column_formed (suc n) = event_formed column_operand AtOne (λ side h. h) written.Column (expression (suc n)) (inner (each (column_event n)))
+column_formed zero = event_formed column_operand AtOne (λ side h. h) written.Column (expression zero) (expression_formed zero) shut tt
+column_formed (suc n) = event_formed column_operand AtOne (λ side h. h) written.Column (expression (suc n)) (expression_formed (suc n)) (inner (each (column_event n)))
     (weaker (each_gives (column_formed n)) (λ held h s at. items_formed AtOne held s at h))
 
 -- ---- statements
@@ -153,8 +148,8 @@ module _ (X : Grammar Expression) (P : Inner (List Statement)) where
   behind_lead = or (behind (just (codes ":")) (or (read_as happen (some (outside_event X P))) (or (read_as declare declaration) (read_as (λ e. finish) (behind (just (codes "endinstance")) ending)))))
       (read_as (λ p. list p.0 p.1) (behind (just (codes ",")) (seq name_list (behind (just (codes ":")) (some (outside_multi X P))))))
 
-  covered_formed : Within P (Each IsFormedStatement) → Gives (covered_in X P) IsFormedStatement
-  covered_formed w = or_gives (read_gives (λ p. lead_statement p.0 p.1) (weaker (seq_gives (anything lead) lines) (λ p h. h.1 p.0)))
+  covered_formed : Gives X HasParts → Within P (Each IsFormedStatement) → Gives (covered_in X P) IsFormedStatement
+  covered_formed x w = or_gives (read_gives (λ p. lead_statement p.0 p.1) (weaker (seq_gives (anything lead) lines) (λ p h. h.1 p.0)))
       (read_gives (λ held. Covered All (items held)) (behind_gives (just (codes "all")) (behind_gives (just (codes ":"))
       (weaker (some_gives multis) (λ held h depth scope. items_formed Anywhere held _ tt h)))))
     where
@@ -163,10 +158,10 @@ module _ (X : Grammar Expression) (P : Inner (List Statement)) where
       inner_held At (inner R) v = weaker v (λ held h s at. statements_formed held s.depth s.scope h)
 
       events : Gives (outside_event X P) (IsFormedAt AtOne)
-      events = event_formed outside_operand AtOne (λ side h. h) written.Covered X P (inner_held AtOne P w)
+      events = event_formed outside_operand AtOne (λ side h. h) written.Covered X x P (inner_held AtOne P w)
 
       multis : Gives (outside_multi X P) (IsFormedAt Anywhere)
-      multis = multi_formed outside_operand Anywhere written.Covered X P (inner_held Anywhere P w)
+      multis = multi_formed outside_operand Anywhere written.Covered X x P (inner_held Anywhere P w)
 
       lines : Gives behind_lead (λ (line : LedLine). (at : List ℕ × Place) → IsFormedStatement (lead_statement at line))
       lines = or_gives (behind_gives (just (codes ":")) (or_gives (read_gives happen (weaker (some_gives events) (λ held h at depth scope. items_formed AtOne held _ refl h)))
@@ -176,8 +171,8 @@ module _ (X : Grammar Expression) (P : Inner (List Statement)) where
 
 statements_read : (n : ℕ) → Gives (covered n) IsFormedStatement
 unfolding covered
-statements_read zero = covered_formed (expression zero) shut tt
-statements_read (suc n) = covered_formed (expression (suc n)) (inner (each (covered n))) (each_gives (statements_read n))
+statements_read zero = covered_formed (expression zero) shut (expression_formed zero) tt
+statements_read (suc n) = covered_formed (expression (suc n)) (inner (each (covered n))) (expression_formed (suc n)) (each_gives (statements_read n))
 
 statement_formed : (n : ℕ) → Gives (statement n) IsFormedStatement
 statement_formed n = or_gives (read_gives (λ p. Column p.0 (items p.1.1.0)) (behind_gives (just (codes "instance"))

@@ -1,11 +1,12 @@
 -- What each value has that a grammar reads.
 use Rattle.std.specs.Prelude.{⊤}
-use Rattle.std.proofs.Common.{ℕ, ◌≡◌, inl, inr, Option, Some, None, List, [], ◌∷◌, subst, sym}
+use Rattle.std.proofs.Common.{ℕ, inl, inr, List, [], ◌∷◌, subst, sym}
 use Rattle.msc_tokens.specs.declared.token.Token.{Token}
-use Rattle.token_grammar.specs.Languages.{Set}
+use Rattle.token_grammar.specs.Languages.{Set, just}
 use Rattle.token_grammar.specs.Languages as rules
-use Rattle.token_grammar.specs.Grammars.{Grammar, Inner, shut, inner, inside, word, seq, or, read_as, chain, until, behind, opens}
-use Rattle.token_grammar.specs.Parts.{all_of, placed}
+use Rattle.token_grammar.specs.Grammars.{Grammar, Inner, shut, inner, inside, word, seq, or, read_as, until, behind, opens}
+use Rattle.token_grammar.specs.Parts.{all_of, placed, separated}
+use Rattle.msc_expression.specs.Bounds.{with_bounds}
 use Rattle.msc_document.specs.Inlines.{each, firsts, single, several, closing}
 use Rattle.msc_document.specs.DocumentGrammar.{some}
 
@@ -56,6 +57,10 @@ until_gives S r = record { gives = λ x p h. each_reads r h.0 p.0 h.3 }
 pub some_gives : {A : Type 0} {R : Grammar A} {P : A → Type 0} → Gives R P → Gives (some R) (Each P)
 some_gives {P = P} r = read_gives all_of (record { gives = λ x p h. (r.gives h.0 p.0 h.3, each_reads r h.1 p.1 h.4) })
 
+-- behind the bounds of a loop, where there are any
+pub bounded_gives : {A : Type 0} {R : Grammar A} {P : A → Type 0} → Gives R P → Gives (with_bounds R) (λ p. P p.1)
+bounded_gives r = read_gives (λ p. (_, p.1)) (or_gives (read_gives (λ p. (_, p.1)) (weaker (seq_gives (anything _) r) (λ p h. h.1))) (read_gives (λ b. (_, b)) r))
+
 -- ---- levels
 
 -- what stands one level deeper, where there is one
@@ -68,11 +73,14 @@ pub opens_gives : {A B : Type 0} {P : A → Type 0} {Q : B → Type 0} (s : Set)
 opens_gives s f g shut w = record { gives = λ x a h. absurd h }
 opens_gives s f g (inner R) w = record { gives = λ x a h. (g R w).gives h.1 a h.4 }
 
--- ---- operands
+-- ---- operands and parts
 
 abbrev pub IsSome : {A : Type 0} → List A → Type 0
 IsSome [] = ⊥
 IsSome (a ∷ as_) = ⊤
+
+pub separated_gives : {A : Type 0} {R : Grammar A} {P : A → Type 0} (text : List ℕ) → Gives R P → Gives (separated text R) (λ as_. Each P as_ × IsSome as_)
+separated_gives text r = read_gives all_of (record { gives = λ x p h. ((r.gives h.0 p.0 h.3, each_reads (behind_gives (just text) r) h.1 p.1 h.4), tt) })
 
 abbrev pub IsOne : {A : Type 0} → List A → Type 0
 IsOne [] = ⊥

@@ -6,6 +6,7 @@ pub mod Continued
 pub mod DocumentRules
 pub mod Firsts
 pub mod Formed
+pub mod FormedExpressions
 pub mod Giving
 pub mod Goings
 pub mod ItemForms
