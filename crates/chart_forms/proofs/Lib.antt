@@ -1,2 +1,1 @@
 pub mod TextSizes
-pub mod PartLaws

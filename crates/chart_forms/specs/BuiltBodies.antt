@@ -1,9 +1,7 @@
--- Of which bodies terms are made, and how many events a body has.
-use Rattle.std.specs.List.{list_all, list_any}
-use Rattle.std.specs.Prelude.{ℕ, ◌+◌, ◌≤◌, ◌≡◌, Bool, true, false, List, [], Some, None, ◌&&◌, length}
-use Rattle.std.specs.Str.{bytes_eq}
-use Rattle.msc_base.specs.Stored.{most_numbered}
-use Rattle.chart_forms.specs.BodyItems.{body_events, body_items}
+-- Of which bodies terms are made.
+use Rattle.std.specs.Prelude.{◌≡◌, ℕ, Bool, true, false, List, [], ◌∷◌, Some, None, ◌&&◌}
+use Rattle.chart_text.specs.WellFormed.{has_parts}
+use Rattle.msc_base.specs.Lists.{IsAmong}
 use Rattle.msc_base.specs.declared.label.Kind.{Kind}
 use Rattle.msc_base.specs.declared.label.Kind.TheVariants.{Output, Input, OutputLost, InputFound, Action, TimerStart, TimerStop, Timeout, Create}
 use Rattle.msc_tree.specs.declared.event.RawEvent.{RawEvent}
@@ -11,19 +9,7 @@ use Rattle.msc_tree.specs.declared.event.Target.{Target}
 use Rattle.msc_tree.specs.declared.event.Target.TheVariants.{Nobody, Env, Instance, Gate}
 use Rattle.msc_tree.specs.declared.reference.InlineForm.{InlineForm}
 use Rattle.msc_tree.specs.declared.reference.InlineForm.TheVariants as inline
-use Rattle.msc_meaning.specs.Bodies.{EventNode, Body, level, WovenItems, WovenItem, Single, Coregion, Inline, Refer, Bodies, no_bodies, body_and}
-
--- no creation
-abbrev pub creates_nobody : Kind → Bool
-creates_nobody Output = true
-creates_nobody Input = true
-creates_nobody OutputLost = true
-creates_nobody InputFound = true
-creates_nobody Action = true
-creates_nobody TimerStart = true
-creates_nobody TimerStop = true
-creates_nobody Timeout = true
-creates_nobody Create = false
+use Rattle.msc_meaning.specs.Bodies.{EventNode, Body, level, WovenItems, no_items, item_and, WovenItem, Single, Coregion, Inline, Refer, Bodies, no_bodies, body_and}
 
 -- no end at a gate
 abbrev pub names_no_gate : Target → Bool
@@ -33,9 +19,24 @@ names_no_gate (Env (Some gate)) = false
 names_no_gate (Instance name) = true
 names_no_gate (Gate name gate) = false
 
--- no creation, no end at a gate
+-- what is created is an instance, as it is in every text that is read
+abbrev pub creates_instance : Kind → Target → Bool
+creates_instance Create Nobody = false
+creates_instance Create (Env gate) = false
+creates_instance Create (Instance name) = true
+creates_instance Create (Gate name gate) = false
+creates_instance Output target = true
+creates_instance Input target = true
+creates_instance OutputLost target = true
+creates_instance InputFound target = true
+creates_instance Action target = true
+creates_instance TimerStart target = true
+creates_instance TimerStop target = true
+creates_instance Timeout target = true
+
+-- no end at a gate, and no creation of anything but an instance
 abbrev pub is_plain : RawEvent → Bool
-is_plain e = creates_nobody e.kind && names_no_gate e.target
+is_plain e = names_no_gate e.target && creates_instance e.kind e.target
 
 -- as many operands as the form has
 abbrev pub has_operands : InlineForm → Bodies → Bool
@@ -53,37 +54,36 @@ has_operands inline.Loop (body_and operand no_bodies) = true
 has_operands inline.Loop (body_and operand (body_and other others)) = false
 
 module _ (names : List (List ℕ)) where
-  -- a plain event at one of these instances
-  abbrev pub is_built_node : EventNode → Bool
-  is_built_node n = list_any (bytes_eq n.at) names && is_plain n.event
+  -- the other end is one of these instances, and not the one at which the event stands
+  pub record IsChild (at : List ℕ) (target : Target) : Type 0 where
+    pub child : List ℕ
+    pub is : target ≡ Instance child
+    pub among : IsAmong names child
+    pub other : child ≡ at → ⊥
 
-  abbrev pub are_built_nodes : List EventNode → Bool
-  are_built_nodes = list_all is_built_node
+  -- an event at one of these instances and at no gate; where it creates, another of them
+  abbrev pub IsBuiltNode : EventNode → Type 0
+  IsBuiltNode n = IsAmong names n.at × (names_no_gate n.event.target ≡ true) × (n.event.kind ≡ Create → IsChild n.at n.event.target)
 
-  -- an item by itself: an event of that kind, a coregion of them, or an inline expression with such a number of operands
-  abbrev pub is_built_alone : WovenItem → Bool
-  is_built_alone (Single n) = is_built_node n
-  is_built_alone (Coregion ns) = are_built_nodes ns
-  is_built_alone (Inline form part operands) = has_operands form operands
-  is_built_alone (Refer part) = false
+  abbrev pub AreBuiltNodes : List EventNode → Type 0
+  AreBuiltNodes [] = Unit {0}
+  AreBuiltNodes (n ∷ ns) = IsBuiltNode n × AreBuiltNodes ns
 
-  -- the items of a body are such, at any depth
-  abbrev pub is_built : Body → Bool
-  is_built b = list_all is_built_alone (body_items b)
+  -- such events, inline expressions with as many operands as their forms have, references without joins whose expressions have parts
+  abbrev mutual
+    pub IsBuiltBody : Body → Type 0
+    IsBuiltBody (level cover held pairs) = AreBuiltItems held
 
--- how many events a body has, with those of its operands
-abbrev pub event_count : Body → ℕ
-event_count b = length (body_events b)
+    pub AreBuiltItems : WovenItems → Type 0
+    AreBuiltItems no_items = Unit {0}
+    AreBuiltItems (item_and x xs) = IsBuiltItem x × AreBuiltItems xs
 
--- items count as the level that they make alone
-abbrev pub events_count : WovenItems → ℕ
-events_count xs = event_count (level [] xs [])
+    pub IsBuiltItem : WovenItem → Type 0
+    IsBuiltItem (Single n) = IsBuiltNode n
+    IsBuiltItem (Coregion ns) = AreBuiltNodes ns
+    IsBuiltItem (Inline form part operands) = (has_operands form operands ≡ true) × AreBuiltBodies operands
+    IsBuiltItem (Refer part) = (part.joins ≡ []) × (has_parts part.expression ≡ true)
 
-abbrev pub operands_count : Bodies → ℕ
-operands_count no_bodies = 0
-operands_count (body_and b bs) = event_count b + operands_count bs
-
--- a term is made of the body: it is built, and there are numbers for its events
-pub record CanHaveTerm (names : List (List ℕ)) (b : Body) : Type 0 where
-  pub built : is_built names b ≡ true
-  pub room : event_count b ≤ most_numbered
+    pub AreBuiltBodies : Bodies → Type 0
+    AreBuiltBodies no_bodies = Unit {0}
+    AreBuiltBodies (body_and b bs) = IsBuiltBody b × AreBuiltBodies bs

@@ -15,8 +15,8 @@ abbrev pub events_size : List RawEvent → ℕ
 events_size [] = 0
 events_size (e ∷ es) = event_size e + events_size es
 
--- an item by itself: a coregion counts 1 and its events, each part of an inline expression 2; conditions count nothing, and references,
--- which aren't built, aren't counted yet
+-- an item by itself: a coregion counts 1 and its events, each part of an inline expression 2; conditions count nothing, nor do references
+-- here, whose size is told with that of the charts that they name
 abbrev pub item_size : Form → ℕ
 item_size (Inline head held) = 2
 item_size (Single e) = event_size e

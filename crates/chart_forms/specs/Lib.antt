@@ -1,7 +1,6 @@
-pub mod BodyItems
+pub mod BodyEvents
 pub mod BuiltBodies
-pub mod BodyParts
 pub mod NotBuilt
 pub mod LoopBounds
 pub mod ChartSizes
-pub mod BodySizes
+pub mod TableSizes

@@ -9,6 +9,8 @@ use Rattle.msc_base.specs.declared.place.Place.{Place}
 use Rattle.msc_tree.specs.declared.reference.InlineForm.{InlineForm}
 use Rattle.msc_tree.specs.declared.reference.InlineForm.TheVariants as inline
 use Rattle.msc_tree.specs.Charts.{Chart}
+use Rattle.msc_tree.specs.Expressions.{Expression, Expressions, none, more}
+use Rattle.msc_tree.specs.Expressions as expression
 use Rattle.msc_tree.specs.Statements.{Form, Single, Coregion, Condition, Inline, Refer, Stop}
 
 abbrev is_high : ℕ → Bool
@@ -26,13 +28,28 @@ has_high_bound inline.Opt lower upper = false
 has_high_bound inline.Par lower upper = false
 has_high_bound inline.Exc lower upper = false
 
--- an item by itself; the bounds in the expressions of references aren't looked at, since references aren't built
+-- a loop of an expression, at any depth
+abbrev mutual
+  pub has_high_loop : Expression → Bool
+  has_high_loop expression.Empty = false
+  has_high_loop (expression.Chart name) = false
+  has_high_loop (expression.Alt parts) = have_high_loop parts
+  has_high_loop (expression.Par parts) = have_high_loop parts
+  has_high_loop (expression.Seq parts) = have_high_loop parts
+  has_high_loop (expression.Opt part) = has_high_loop part
+  has_high_loop (expression.Loop lower upper part) = has_high_bound inline.Loop lower upper || has_high_loop part
+
+  pub have_high_loop : Expressions → Bool
+  have_high_loop none = false
+  have_high_loop (more x xs) = has_high_loop x || have_high_loop xs
+
+-- an item by itself; that of a reference has the place of the reference
 abbrev pub high_item : Place → Form → List Place
 high_item place (Inline head held) = place_if (has_high_bound head.form head.lower head.upper) place
 high_item place (Single e) = []
 high_item place (Coregion es) = []
 high_item place (Condition names shared) = []
-high_item place (Refer reference) = []
+high_item place (Refer reference) = place_if (has_high_loop reference.expression) place
 high_item place Stop = []
 
 -- the places of such loops, by the passages of the text

@@ -1,16 +1,17 @@
 //! The earliest loop with a bound above the limit, at any depth.
 
-ghost use Rattle.std.specs.Prelude.{◌≡◌, ◌++◌, IfOk, OnOk};
+ghost use Rattle.std.specs.Prelude.{◌≡◌, ◌++◌, IfOk, OnOk, map};
 ghost use Rattle.std.specs.List.{flat_map};
-ghost use Rattle.chart_forms.specs.LoopBounds.{has_high_bound as high_bound, high_bounds, high_item};
+ghost use Rattle.chart_forms.specs.LoopBounds.{has_high_bound as high_bound, has_high_loop as high_loop, have_high_loop as high_loops, high_bounds, high_item};
 ghost use Rattle.chart_text.specs.PassageViews.{text_view};
 ghost use Rattle.msc_base.specs.Lists.{IsAmong};
 ghost use Rattle.msc_base.specs.Places.{IsLeast};
-ghost use Rattle.msc_tree.specs.Views.{form_view};
+ghost use Rattle.msc_tree.specs.Expressions.{expressions};
+ghost use Rattle.msc_tree.specs.Views.{expression_view, form_view};
 
 use chart_text::{Passage, TextRule, earliest_place, note_if, note_text};
 use msc_base::{Items, Limits, NoMemory, Place};
-use msc_tree::{InlineForm, RawForm};
+use msc_tree::{InlineForm, RawForm, RefExpr};
 use std::alloc::Global;
 
 /// Whether a bound of the loop, if it is one, is above the limit.
@@ -26,7 +27,38 @@ fn has_high_bound(form: InlineForm, lower: u64, upper: Option<u64>) -> bool
     }
 }
 
-/// Notes an item, where it is such a loop.
+/// Whether a bound of a loop of the expression is above the limit.
+#[cycle(expressions)]
+fn has_high_loop(expression: &RefExpr) -> bool
+    ensures { result ≡ high_loop (expression_view expression.now) }
+{
+    match expression {
+        RefExpr::Empty => false,
+        RefExpr::Chart(_) => false,
+        RefExpr::Alt(list) => have_high_loop(list.as_slice()),
+        RefExpr::Par(list) => have_high_loop(list.as_slice()),
+        RefExpr::Seq(list) => have_high_loop(list.as_slice()),
+        RefExpr::Opt(part) => has_high_loop(part),
+        RefExpr::Loop(lower, upper, part) => {
+            has_high_bound(InlineForm::Loop, *lower, *upper) || has_high_loop(part)
+        }
+    }
+}
+
+/// Whether one of the loops of these expressions has such a bound.
+#[cycle(expressions)]
+fn have_high_loop(list: &[RefExpr]) -> bool
+    ensures { result ≡ high_loops (expressions (map expression_view list.now)) }
+{
+    for part in list {
+        if has_high_loop(part) {
+            return true;
+        }
+    }
+    false
+}
+
+/// Notes an item, where it is such a loop, or a reference that has one.
 fn item(places: &mut Items<Place>, place: Place, form: &RawForm) -> Result<(), NoMemory>
     ensures { OnOk result (places.new ≡ places.old ++ high_item place (form_view form.now)) }
 {
@@ -39,7 +71,7 @@ fn item(places: &mut Items<Place>, place: Place, form: &RawForm) -> Result<(), N
         RawForm::Single(_) => Ok(()),
         RawForm::Condition(_, _) => Ok(()),
         RawForm::Coregion(_) => Ok(()),
-        RawForm::Reference(_) => Ok(()),
+        RawForm::Reference(held) => note_if(places, place, has_high_loop(&held.expr)),
         RawForm::Stop => Ok(()),
     }
 }

@@ -1,7 +1,7 @@
 //! The earliest form that isn't built yet, at any depth.
 
 ghost use Rattle.std.specs.Prelude.{◌≡◌, ◌++◌, IfOk, OnOk};
-ghost use Rattle.chart_forms.specs.NotBuilt.{IsNotBuilt, not_built as what_not, not_built_chart, not_built_decl, not_built_event, not_built_events, not_built_graph, not_built_heading, not_built_item};
+ghost use Rattle.chart_forms.specs.NotBuilt.{IsNotBuilt, not_built as what_not, not_built_chart, not_built_decl, not_built_event, not_built_events, not_built_graph, not_built_heading, not_built_item, not_built_joins};
 ghost use Rattle.chart_text.specs.PassageViews.{text_view};
 ghost use Rattle.chart_text.specs.Texts.{chart_text as text_of};
 ghost use Rattle.msc_base.specs.Places.{IsLeast};
@@ -10,7 +10,7 @@ ghost use Rattle.msc_tree.specs.Views.{chart_view, content_view, form_view, stat
 use crate::plain::is_plain;
 use chart_text::{Passage, TextRule, earliest_place, note_if, note_text};
 use msc_base::{Items, NoMemory, Place};
-use msc_tree::{Content, Decl, RawChart, RawEvent, RawForm, Statement};
+use msc_tree::{Content, Decl, Join, RawChart, RawEvent, RawForm, Statement};
 use std::alloc::Global;
 
 /// Notes an event, where it isn't built.
@@ -40,6 +40,17 @@ fn decl(places: &mut Items<Place>, decl: &Decl) -> Result<(), NoMemory>
     }
 }
 
+/// Notes a reference, where it joins gates.
+fn joins(places: &mut Items<Place>, place: Place, list: &[Join]) -> Result<(), NoMemory>
+    ensures { OnOk result (places.new ≡ places.old ++ not_built_joins list.now place) }
+{
+    if list.is_empty() {
+        Ok(())
+    } else {
+        places.push(place)
+    }
+}
+
 /// Notes what of an item by itself isn't built.
 fn item(places: &mut Items<Place>, place: Place, form: &RawForm) -> Result<(), NoMemory>
     ensures { OnOk result (places.new ≡ places.old ++ not_built_item place (form_view form.now)) }
@@ -49,8 +60,8 @@ fn item(places: &mut Items<Place>, place: Place, form: &RawForm) -> Result<(), N
         RawForm::Condition(_, _) => Ok(()),
         RawForm::Coregion(list) => events(places, list.as_slice()),
         RawForm::Inline(_) => Ok(()),
-        RawForm::Reference(_) => places.push(place),
-        RawForm::Stop => places.push(place),
+        RawForm::Reference(held) => joins(places, place, held.joins.as_slice()),
+        RawForm::Stop => Ok(()),
     }
 }
 

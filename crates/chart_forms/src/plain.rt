@@ -1,7 +1,7 @@
 //! Which events are built: for `not_built`.
 
 ghost use Rattle.std.specs.Prelude.{◌≡◌, ◌&&◌};
-ghost use Rattle.chart_forms.specs.BuiltBodies.{creates_nobody as makes_none, is_plain as plain_event, names_no_gate as no_gate};
+ghost use Rattle.chart_forms.specs.BuiltBodies.{creates_instance as makes_instance, is_plain as plain_event, names_no_gate as no_gate};
 
 use msc_base::Kind;
 use msc_tree::{RawEvent, Target};
@@ -13,11 +13,15 @@ fn both(one: bool, other: bool) -> bool
     one && other
 }
 
-/// Whether an event of that kind creates no instance.
-fn creates_nobody(kind: Kind) -> bool
-    ensures { result ≡ makes_none kind }
+/// Whether what an event of that kind with that other end creates, if it creates, is an instance.
+fn creates_instance(kind: Kind, target: &Target) -> bool
+    ensures { result ≡ makes_instance kind target.now }
 {
     match kind {
+        Kind::Create => match target {
+            Target::Instance(_) => true,
+            Target::Nobody | Target::Env(_) | Target::Gate(_, _) => false,
+        },
         Kind::Output
         | Kind::Input
         | Kind::OutputLost
@@ -26,7 +30,6 @@ fn creates_nobody(kind: Kind) -> bool
         | Kind::TimerStart
         | Kind::TimerStop
         | Kind::Timeout => true,
-        Kind::Create => false,
     }
 }
 
@@ -40,9 +43,12 @@ fn names_no_gate(target: &Target) -> bool
     }
 }
 
-/// Whether the event creates no instance and is at no gate. It takes no memory.
+/// Whether the event is at no gate, and creates nothing but an instance. It takes no memory.
 pub fn is_plain(event: &RawEvent) -> bool
     ensures { result ≡ plain_event event.now }
 {
-    both(creates_nobody(event.kind), names_no_gate(&event.target))
+    both(
+        names_no_gate(&event.target),
+        creates_instance(event.kind, &event.target),
+    )
 }

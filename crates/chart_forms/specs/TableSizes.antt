@@ -1,0 +1,63 @@
+-- The expanded size of a chart of a table, by what it and the charts that it names are woven to.
+use Rattle.std.specs.Prelude.{ℕ, zero, suc, ◌+◌, List, [], ◌∷◌, Option, None, Some, length}
+use Rattle.general_ordering.specs.OrderCounts.{order_count, orders_count}
+use Rattle.msc_tree.specs.Expressions.{Expression, Empty, Chart, Alt, Par, Seq, Opt, Expressions, none, more}
+use Rattle.msc_tree.specs.Expressions as expression
+use Rattle.msc_meaning.specs.Bodies.{ReferencePart, Body, level, WovenItems, no_items, item_and, WovenItem, Single, Coregion, Inline, Refer, Bodies, no_bodies, body_and}
+use Rattle.msc_meaning.specs.Tables.{Table, ChartEntry, chart_at, Woven, Basic, HighLevel, Refinement, refinements}
+
+-- size_of: of the chart of that name; product: what the joins of a level's reference add
+module _ (size_of : List ℕ → ℕ) (product : WovenItems → ReferencePart → ℕ) where
+  abbrev mutual
+    pub expression_size : Expression → ℕ
+    expression_size Empty = 1
+    expression_size (Chart name) = size_of name
+    expression_size (Alt parts) = 1 + expressions_size parts
+    expression_size (Par parts) = 1 + expressions_size parts
+    expression_size (Seq parts) = 1 + expressions_size parts
+    expression_size (Opt part) = 2 + expression_size part
+    expression_size (expression.Loop lower upper part) = 2 + expression_size part
+
+    pub expressions_size : Expressions → ℕ
+    expressions_size none = 0
+    expressions_size (more x xs) = expression_size x + expressions_size xs
+
+  abbrev mutual
+    pub level_size : Body → ℕ
+    level_size (level cover held pairs) = items_size held held
+
+    -- some of the items of a level, which is the first
+    pub items_size : WovenItems → WovenItems → ℕ
+    items_size whole no_items = 0
+    items_size whole (item_and x xs) = item_size whole x + items_size whole xs
+
+    -- 3 for an event and 1 for each that it is ordered with, 1 and its events for a coregion, 2 for an inline expression, and for a
+    -- reference 2 besides its expression
+    pub item_size : WovenItems → WovenItem → ℕ
+    item_size whole (Single n) = 3 + order_count n.event
+    item_size whole (Coregion ns) = 1 + (length ns + length ns + length ns) + orders_count ns
+    item_size whole (Inline form part operands) = 2 + operands_size operands
+    item_size whole (Refer part) = 2 + expression_size part.expression + product whole part
+
+    pub operands_size : Bodies → ℕ
+    operands_size no_bodies = 0
+    operands_size (body_and b bs) = 1 + level_size b + operands_size bs
+
+  -- of a chart without refining charts
+  abbrev pub woven_size : List Refinement → Woven → ℕ
+  woven_size [] (Basic held) = 2 + level_size held
+  woven_size [] (HighLevel drawn) = 0
+  woven_size (r ∷ rs) content = 0
+
+  abbrev pub entry_size : Option ChartEntry → ℕ
+  entry_size None = 0
+  entry_size (Some entry) = woven_size (refinements entry.decls) entry.content
+
+-- product: by the depth of references
+abbrev pub size_to : (ℕ → WovenItems → ReferencePart → ℕ) → Table → ℕ → List ℕ → ℕ
+size_to product table zero name = 0
+size_to product table (suc k) name = entry_size (size_to product table k) (product k) (chart_at table name)
+
+-- where no reference has joins
+abbrev pub no_product : ℕ → WovenItems → ReferencePart → ℕ
+no_product k whole part = 0
