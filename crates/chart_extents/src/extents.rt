@@ -66,7 +66,7 @@ fn sum_links(own: Extent, links: &[Link<'_>], names: &NameTable, values: &[Exten
 
 /// What charts of that rank come to, where those of lower ranks are known.
 fn add_rank(
-    charts: &[SizedChart<'_>],
+    charts: &[SizedChart<'_, '_>],
     names: &NameTable,
     ranks: &[usize],
     rank: usize,
@@ -92,7 +92,7 @@ fn add_rank(
 }
 
 /// The names of the charts.
-fn chart_names(alloc: Global, charts: &[SizedChart<'_>]) -> Result<NameTable, NoMemory>
+fn chart_names(alloc: Global, charts: &[SizedChart<'_, '_>]) -> Result<NameTable, NoMemory>
     requires { AreDifferent (names_of (map sized_view charts.now)) }
     ensures { IfOk result (λ names. names ≡ names_of (map sized_view charts.now)) }
 {
@@ -118,7 +118,7 @@ fn highest(ranks: &[usize]) -> usize
 /// fails only for want of memory.
 pub fn chart_extents(
     alloc: Global,
-    charts: &[SizedChart<'_>],
+    charts: &[SizedChart<'_, '_>],
     ranks: &[usize],
 ) -> Result<Vec<Extent>, NoMemory>
     requires ranks { AreRanks (summaries (map sized_view charts.now)) ranks.now }

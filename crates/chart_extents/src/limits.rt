@@ -44,7 +44,7 @@ fn is_above(sum: u64) -> bool
 }
 
 /// The earliest chart that is too deep.
-fn deep_chart(charts: &[SizedChart<'_>], values: &[Extent]) -> Option<Place>
+fn deep_chart(charts: &[SizedChart<'_, '_>], values: &[Extent]) -> Option<Place>
     requires kept { AreKept (map sized_view charts.now) values.now }
     requires different { AreDifferent (names_of (map sized_view charts.now)) }
     ensures { IsLeast (IsTooDeep (map sized_view charts.now)) result }
@@ -58,7 +58,7 @@ fn deep_chart(charts: &[SizedChart<'_>], values: &[Extent]) -> Option<Place>
 }
 
 /// The earliest chart that is too large.
-fn large_chart(charts: &[SizedChart<'_>], values: &[Extent]) -> Option<Place>
+fn large_chart(charts: &[SizedChart<'_, '_>], values: &[Extent]) -> Option<Place>
     requires kept { AreKept (map sized_view charts.now) values.now }
     requires different { AreDifferent (names_of (map sized_view charts.now)) }
     ensures { IsLeast (IsTooLarge (map sized_view charts.now)) result }
@@ -72,7 +72,7 @@ fn large_chart(charts: &[SizedChart<'_>], values: &[Extent]) -> Option<Place>
 }
 
 /// The chart at which the sum of the sizes passes its limit.
-fn large_total(charts: &[SizedChart<'_>], values: &[Extent]) -> Option<Place>
+fn large_total(charts: &[SizedChart<'_, '_>], values: &[Extent]) -> Option<Place>
     requires kept { AreKept (map sized_view charts.now) values.now }
     requires different { AreDifferent (names_of (map sized_view charts.now)) }
     ensures { IsLeast (AreTooLarge (map sized_view charts.now)) result }
@@ -90,7 +90,7 @@ fn large_total(charts: &[SizedChart<'_>], values: &[Extent]) -> Option<Place>
 }
 
 /// The earliest charts above the limits, by what each comes to.
-pub fn extent_places(charts: &[SizedChart<'_>], values: &[Extent]) -> ExtentPlaces
+pub fn extent_places(charts: &[SizedChart<'_, '_>], values: &[Extent]) -> ExtentPlaces
     requires kept { AreKept (map sized_view charts.now) values.now }
     requires different { AreDifferent (names_of (map sized_view charts.now)) }
     ensures deep { IsLeast (IsTooDeep (map sized_view charts.now)) result.deep }

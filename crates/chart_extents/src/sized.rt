@@ -16,9 +16,9 @@ use std::alloc::Global;
 
 /// A chart with what it comes to by itself.
 #[derive(Drop)]
-pub struct SizedChart<'a> {
+pub struct SizedChart<'a, 'b> {
     /// What rules on several charts ask of it.
-    pub summary: &'a ChartSummary<'a>,
+    pub summary: &'a ChartSummary<'b>,
     /// Where it stands.
     pub place: Place,
     /// What it comes to without the charts that it names.
@@ -26,11 +26,11 @@ pub struct SizedChart<'a> {
 }
 
 /// Charts of these summaries with what each comes to by itself. Each text is listed once, and dropped when its chart is done.
-pub fn sized_charts<'a>(
+pub fn sized_charts<'a, 'b>(
     alloc: Global,
     charts: &[RawChart],
-    summaries: &'a [ChartSummary<'a>],
-) -> Result<Vec<SizedChart<'a>>, NoMemory>
+    summaries: &'a [ChartSummary<'b>],
+) -> Result<Vec<SizedChart<'a, 'b>>, NoMemory>
     requires { map summary_view summaries.now ≡ map summary_of (map chart_view charts.now) }
     ensures { IfOk result (λ made. map sized_view made.items ≡ map sized_of (map chart_view charts.now)) }
 {
