@@ -1,5 +1,5 @@
--- Charts that are written in order, or have no references, and the first that isn't ordered.
-use Rattle.std.proofs.Common.{◌≡◌, ◌∙◌, ◌<◌, ◌≤◌, ◌+◌, inl, inr, ℕ, zero, suc, Bool, true, false, if◌then◌else◌, List, [], ◌∷◌, ◌++◌, Option, Some, None, refl, sym, subst, ap, get_or, length, map, take, arith}
+-- Charts that are written in order, or have no references, and what is told of each chart.
+use Rattle.std.proofs.Common.{◌≡◌, ◌∙◌, ◌<◌, ◌≤◌, ◌+◌, inl, inr, ℕ, zero, suc, Bool, true, false, if◌then◌else◌, List, [], ◌∷◌, ◌++◌, Option, Some, None, refl, sym, subst, ap, get_or, length, map, replicate, take, arith}
 use Rattle.std.proofs.lemmas.List.{map-append, take_all, take_more}
 use Rattle.std.proofs.lemmas.Slice.Eq.{bytes_eq-Decides}
 use Rattle.std.specs.List.{slice_get}
@@ -16,7 +16,7 @@ use Rattle.expanded_charts.specs.Numbering.{numbering_of}
 use Rattle.gate_ends.specs.FoundEnds.{AreAll, item_names, items_names, level_names, operands_names}
 use Rattle.written_order.specs.Rising.{IsRisingEntry, IsRisingTo, IsRisingWoven}
 use Rattle.written_order.specs.RisingLaws.{RisingChartsAreRanked}
-use Rattle.chart_cycles.specs.Cycles.{AreOrdered, IsCyclicIn, IsOrdered}
+use Rattle.chart_cycles.specs.Cycles.{AreOrdered, IsOrdered, TellCycles, TellsCycle}
 use Rattle.chart_cycles.specs.Written.{AreWritten, HasNoReference, HaveNoReference, IsWritten, ItemHasNoReference, OperandsHaveNoReference, StandsAlone}
 
 -- ---- without references
@@ -110,28 +110,27 @@ item_at [] i x l h = absurd (omega arith)
 item_at (y ∷ xs) zero x l h = ap Some (sym h)
 item_at (y ∷ xs) (suc i) x l h = item_at xs i x (omega (arith, l)) h
 
-ordered_snoc : (table : Table) (depth : ℕ) (cs : List ChartEntry) (c : ChartEntry) → AreOrdered table depth cs → IsOrdered table depth c.name → AreOrdered table depth (cs ++ c ∷ [])
-ordered_snoc table depth [] c h one = (one, tt)
-ordered_snoc table depth (b ∷ cs) c h one = (h.0, ordered_snoc table depth cs c h.1 one)
+-- ---- what is told of each chart
 
-pub ordered_more : (table : Table) (depth : ℕ) (cs : List rust.ChartEntry) (i : ℕ) (c : rust.ChartEntry) → i < length cs → c ≡ get_or cs i c → AreOrdered table depth (map entry_view (take i cs)) → IsOrdered table depth c.name → AreOrdered table depth (map entry_view (take (i + 1) cs))
-ordered_more table depth cs i c low is h one =
+told_snoc : (table : Table) (depth : ℕ) (cs : List ChartEntry) (told : List Bool) (c : ChartEntry) (b : Bool) → TellCycles table depth cs told → TellsCycle table depth c b → TellCycles table depth (cs ++ c ∷ []) (told ++ b ∷ [])
+told_snoc table depth [] [] c b h one = (one, tt)
+told_snoc table depth [] (a ∷ told) c b h one = absurd h
+told_snoc table depth (d ∷ cs) [] c b h one = absurd h
+told_snoc table depth (d ∷ cs) (a ∷ told) c b h one = (h.0, told_snoc table depth cs told c b h.1 one)
+
+pub tells : (table : Table) (depth : ℕ) (c : ChartEntry) (b : Bool) → (b ≡ true → IsOrdered table depth c.name → ⊥) → (b ≡ false → IsOrdered table depth c.name) → TellsCycle table depth c b
+tells table depth c true f g = f refl
+tells table depth c false f g = g refl
+
+pub told_more : (table : Table) (depth : ℕ) (cs : List rust.ChartEntry) (i : ℕ) (c : rust.ChartEntry) (told : List Bool) (b : Bool) → i < length cs → c ≡ get_or cs i c → TellCycles table depth (map entry_view (take i cs)) told
+    → (b ≡ true → IsOrdered table depth c.name → ⊥) → (b ≡ false → IsOrdered table depth c.name) → TellCycles table depth (map entry_view (take (i + 1) cs)) (told ++ b ∷ [])
+told_more table depth cs i c told b low is h f g =
     let more : map entry_view (take (i + 1) cs) ≡ map entry_view (take i cs) ++ entry_view c ∷ [] = ap (map entry_view) (take_more cs i c low ∙ ap (λ (y : rust.ChartEntry). take i cs ++ y ∷ []) (sym is)) ∙ map-append entry_view (take i cs) (c ∷ []) in
-    subst (AreOrdered table depth) (sym more) (ordered_snoc table depth (map entry_view (take i cs)) (entry_view c) h one)
+    subst (λ (l : List ChartEntry). TellCycles table depth l (told ++ b ∷ [])) (sym more) (told_snoc table depth (map entry_view (take i cs)) told (entry_view c) b h (tells table depth (entry_view c) b f g))
 
-pub all_ordered : (table : Table) (depth : ℕ) (cs : List rust.ChartEntry) (i : ℕ) → length cs ≤ i → AreOrdered table depth (map entry_view (take i cs)) → AreOrdered table depth (map entry_view cs)
-all_ordered table depth cs i low h = subst (λ (l : List rust.ChartEntry). AreOrdered table depth (map entry_view l)) (take_all i cs low) h
+pub all_told : (table : Table) (depth : ℕ) (cs : List rust.ChartEntry) (i : ℕ) (told : List Bool) → length cs ≤ i → TellCycles table depth (map entry_view (take i cs)) told → TellCycles table depth (map entry_view cs) told
+all_told table depth cs i told low h = subst (λ (l : List rust.ChartEntry). TellCycles table depth (map entry_view l) told) (take_all i cs low) h
 
-mapped_at : (cs : List rust.ChartEntry) (i : ℕ) (c : rust.ChartEntry) → slice_get cs i ≡ Some c → slice_get (map entry_view cs) i ≡ Some (entry_view c)
-mapped_at [] i c e = absurd cc
-mapped_at (b ∷ cs) zero c e = let same : b ≡ c = cc in ap (λ (x : rust.ChartEntry). Some (entry_view x)) same
-mapped_at (b ∷ cs) (suc i) c e = mapped_at cs i c e
-
-mapped_take : (cs : List rust.ChartEntry) (i : ℕ) → map entry_view (take i cs) ≡ take i (map entry_view cs)
-mapped_take [] zero = refl
-mapped_take [] (suc i) = refl
-mapped_take (b ∷ cs) zero = refl
-mapped_take (b ∷ cs) (suc i) = ap (λ l. entry_view b ∷ l) (mapped_take cs i)
-
-pub first_is : (table : Table) (depth : ℕ) (cs : List rust.ChartEntry) (i : ℕ) (c : rust.ChartEntry) → slice_get cs i ≡ Some c → (IsOrdered table depth c.name → ⊥) → AreOrdered table depth (map entry_view (take i cs)) → IsCyclicIn table depth (map entry_view cs) (Some i)
-first_is table depth cs i c at cyclic h = record { chart = entry_view c; is = mapped_at cs i c at; cyclic = cyclic; before = subst (AreOrdered table depth) (mapped_take cs i) h }
+pub none_told : (table : Table) (depth : ℕ) (cs : List rust.ChartEntry) → AreOrdered table depth (map entry_view cs) → TellCycles table depth (map entry_view cs) (replicate (length cs) false)
+none_told table depth [] h = tt
+none_told table depth (c ∷ cs) h = (h.0, none_told table depth cs h.1)

@@ -1,5 +1,5 @@
 -- Charts of a table whose events can happen in an order, with all charts that they name.
-use Rattle.std.specs.Prelude.{◌≡◌, ℕ, List, [], ◌∷◌, Option, None, Some, slice_get, take}
+use Rattle.std.specs.Prelude.{Bool, true, false, ℕ, List, [], ◌∷◌}
 use Rattle.msc_meaning.specs.Tables.{Table, ChartEntry}
 use Rattle.expansion_order.specs.Ranks.{CanBeRanked}
 use Rattle.expanded_charts.specs.Expanding.{expansion}
@@ -15,14 +15,14 @@ abbrev pub AreOrdered : Table → ℕ → List ChartEntry → Type 0
 AreOrdered table depth [] = Unit {0}
 AreOrdered table depth (c ∷ charts) = IsOrdered table depth c.name × AreOrdered table depth charts
 
--- the number of the first chart whose order is cyclic
-pub record IsFirstCyclic (table : Table) (depth : ℕ) (charts : List ChartEntry) (number : ℕ) : Type 0 where
-  pub chart : ChartEntry
-  pub is : slice_get charts number ≡ Some chart
-  pub cyclic : IsOrdered table depth chart.name → ⊥
-  pub before : AreOrdered table depth (take number charts)
+-- whether the chart's order is cyclic
+abbrev pub TellsCycle : Table → ℕ → ChartEntry → Bool → Type 0
+TellsCycle table depth c true = IsOrdered table depth c.name → ⊥
+TellsCycle table depth c false = IsOrdered table depth c.name
 
--- that, or none is
-abbrev pub IsCyclicIn : Table → ℕ → List ChartEntry → Option ℕ → Type 0
-IsCyclicIn table depth charts None = AreOrdered table depth charts
-IsCyclicIn table depth charts (Some number) = IsFirstCyclic table depth charts number
+-- for each of these charts
+abbrev pub TellCycles : Table → ℕ → List ChartEntry → List Bool → Type 0
+TellCycles table depth [] [] = Unit {0}
+TellCycles table depth [] (b ∷ told) = ⊥
+TellCycles table depth (c ∷ charts) [] = ⊥
+TellCycles table depth (c ∷ charts) (b ∷ told) = TellsCycle table depth c b × TellCycles table depth charts told

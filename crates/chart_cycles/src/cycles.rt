@@ -1,5 +1,4 @@
-//! The first chart whose order is cyclic. Where all charts are written in order nothing is expanded, nor is a chart without references
-//! that is.
+//! The charts whose order is cyclic. Where all charts are written in order nothing is expanded, nor is a chart without references that is.
 
 ghost use Rattle.std.specs.Prelude.{◌≡◌, true, false, IfOk, Some, map};
 ghost use Rattle.expanded_charts.specs.Making.{HasNames};
@@ -7,7 +6,7 @@ ghost use Rattle.expanded_charts.specs.PlainCharts.{IsPlainTable};
 ghost use Rattle.msc_base.specs.Lists.{AreDifferent};
 ghost use Rattle.msc_meaning.specs.Tables.{chart_at};
 ghost use Rattle.msc_meaning.specs.Views.{content_view, entry_view, table_view};
-ghost use Rattle.chart_cycles.specs.Cycles.{IsCyclicIn, IsOrdered};
+ghost use Rattle.chart_cycles.specs.Cycles.{IsOrdered, TellCycles};
 ghost use Rattle.chart_cycles.specs.Written.{AreWritten, IsWritten, StandsAlone};
 
 use crate::alone::has_none;
@@ -99,28 +98,29 @@ fn is_cyclic_entry(
     Ok(cyclic)
 }
 
-/// The number of the first chart of a table the order of whose expansion is cyclic; none, where there is none. The names are those of
-/// the charts, in their order, and differ; references stand in each other less than so deep. It fails only for want of memory, for which it takes
-/// 2^32 events, or edges between them, of one expansion too. Where all charts are written in order nothing is expanded.
-pub fn first_cyclic(
+/// For each chart of a table whether the order of its expansion is cyclic. The names are those of the charts, in their order, and differ;
+/// references stand in each other less than so deep. It fails only for want of memory, for which it takes 2^32 events, or edges between
+/// them, of one expansion too. Where all charts are written in order nothing is expanded.
+pub fn cyclic_charts(
     alloc: Global,
     charts: &[ChartEntry],
     names: &NameTable,
     depth: u32,
-) -> Result<Option<usize>, NoMemory>
+) -> Result<Vec<bool>, NoMemory>
     requires named { HasNames charts.now names.now }
     requires different { AreDifferent names.now }
     requires plain { IsPlainTable (table_view charts.now) }
-    ensures { IfOk result (IsCyclicIn (table_view charts.now) depth (map entry_view charts.now)) }
+    ensures { IfOk result (λ told. TellCycles (table_view charts.now) depth (map entry_view charts.now) told.items) }
 {
     rising_charts_are_ranked();
     if are_written(charts) {
-        return Ok(None);
+        let told = vec![in alloc; false; charts.len()]?;
+        return Ok(told);
     }
+    let mut told = Vec::new(alloc);
     for index in 0..charts.len() {
-        if is_cyclic_entry(alloc, charts, names, depth, &charts[index])? {
-            return Ok(Some(index));
-        }
+        let cyclic = is_cyclic_entry(alloc, charts, names, depth, &charts[index])?;
+        told.push(cyclic)?;
     }
-    Ok(None)
+    Ok(told)
 }

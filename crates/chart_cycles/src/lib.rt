@@ -1,7 +1,7 @@
-//! The first chart of a table whose events can't happen in any order, with all charts that it names.
+//! Which charts of a table have events that can't happen in any order, with all charts that they name.
 #![tactic(auto)]
 
 mod alone;
 mod cycles;
 
-pub use cycles::first_cyclic;
+pub use cycles::cyclic_charts;
