@@ -18,7 +18,7 @@ use Rattle.msc_tree.specs.Statements.{Statement, statements}
 
 -- ---- what a built chart lacks
 
-none_among : {A : Type 0} (xs : List A) → ((x : A) → IsAmong xs x → ⊥) → xs ≡ []
+pub none_among : {A : Type 0} (xs : List A) → ((x : A) → IsAmong xs x → ⊥) → xs ≡ []
 none_among [] none = refl
 none_among (x ∷ xs) none = absurd (none x (inl refl))
 

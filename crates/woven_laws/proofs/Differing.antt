@@ -8,7 +8,7 @@ use Rattle.msc_meaning.specs.Bodies.{EventNode, Body, WovenItems, WovenItem, Bod
 use Rattle.msc_meaning.specs.LevelItems.{level_items}
 use Rattle.msc_meaning.specs.Levels.{AreWovenItems, AreWovenOperands, IsWovenItem, IsWovenLevel, a_coregion, a_reference, an_event, an_inline, no_woven, no_woven_operand, nodes_from, woven, woven_and, woven_operand_and}
 use Rattle.msc_meaning.specs.Pieces.{Piece, form_count, operands_of, statements_count}
-use Rattle.event_order.specs.RankedBodies.{events_within, item_within, items_within, operands_within}
+use Rattle.chart_forms.specs.BodyEvents.{events_within, item_within, items_within, operands_within}
 use Rattle.level_pieces.proofs.NumberedPieces.{ArePlaced, statements_placed}
 use Rattle.woven_laws.specs.NumberLaws.{WovenNumbersDiffer}
 use Rattle.woven_laws.proofs.ItemRegions.{AreLevelItems, items_of_level}

@@ -3,11 +3,13 @@ mod ItemRegions
 mod OperandRegions
 pub mod Differing
 mod WalkedSizes
-mod WalkedNotes
 mod EachPiece
 mod PieceSizes
+mod LinkedSizes
+mod WovenNames
 mod BuiltPieces
 mod Declaring
+mod Creations
 mod NamedPieces
 mod Unrefined
 pub mod BuiltLaws

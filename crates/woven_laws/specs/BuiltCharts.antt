@@ -1,11 +1,16 @@
--- What is known of the charts whose forms are built and that name no other instances, and of what they are woven to.
-use Rattle.std.specs.Prelude.{◌≡◌, ◌≤◌, ℕ, true, List, [], map}
-use Rattle.chart_forms.specs.BodySizes.{body_size}
-use Rattle.chart_forms.specs.BuiltBodies.{is_built}
-use Rattle.chart_forms.specs.ChartSizes.{content_size}
+-- What is known of the charts whose forms are built, that name no other instances and create none that may not be, and of what any basic
+-- chart is woven to.
+use Rattle.std.specs.Prelude.{◌≡◌, ◌≤◌, ◌+◌, ℕ, List, [], ◌∷◌, map}
+use Rattle.chart_extents.specs.OwnExtents.{own_extent}
+use Rattle.chart_forms.specs.BodyEvents.{events_within}
+use Rattle.chart_forms.specs.BuiltBodies.{IsBuiltBody}
 use Rattle.chart_forms.specs.NotBuilt.{IsBuilt}
+use Rattle.chart_forms.specs.TableSizes.{level_size, no_product}
+use Rattle.chart_links.specs.Links.{Link, chart_links, depth_of, linked}
 use Rattle.chart_text.specs.WellFormed.{IsWellFormed}
-use Rattle.event_order.specs.RankedBodies.{events_within}
+use Rattle.creation_rules.specs.Creating.{ChartCreatesTwice}
+use Rattle.gate_ends.specs.FoundEnds.{level_names}
+use Rattle.msc_base.specs.Lists.{IsAmong}
 use Rattle.msc_base.specs.Orders.{Once}
 use Rattle.msc_base.specs.declared.place.Place.{Place}
 use Rattle.msc_instances.specs.Instances.{instances}
@@ -19,15 +24,31 @@ use Rattle.msc_tree.specs.Charts.{Basic, Chart, HighLevel}
 use Rattle.msc_tree.specs.Graphs.{Graph}
 use Rattle.msc_tree.specs.Statements.{Statement, statements}
 
--- of a chart whose forms are built: what its statements, where they are well formed and name no others, are woven to is built at its
--- instances; none of its instances is decomposed. A graph isn't built
+-- of a chart whose forms are built: what its statements, where they are well formed, name no others and create none that may not be, are
+-- woven to is built at its instances; none of its instances is decomposed. A graph isn't built
 pub record BuiltChartsAreKnown : Type 0 where
-  pub built : (c : Chart) (held : List Statement) (b : Body) → c.content ≡ Basic held → IsWellFormed c → IsBuilt c → ((p : Place) → ChartNamesOther c p → ⊥)
-      → IsWovenLevel (instances c) (statements_pieces (instances c) 0 (statements held)) b → is_built (instances c) b ≡ true
+  pub built : (c : Chart) (held : List Statement) (b : Body) → c.content ≡ Basic held → IsWellFormed c → IsBuilt c → ((p : Place) → ChartNamesOther c p → ⊥) → ((p : Place) → ChartCreatesTwice c p → ⊥)
+      → IsWovenLevel (instances c) (statements_pieces (instances c) 0 (statements held)) b → IsBuiltBody (instances c) b
   pub whole : (c : Chart) → IsBuilt c → refinements (chart_decls c) ≡ []
   pub basic : (c : Chart) (drawn : Graph) → c.content ≡ HighLevel drawn → IsBuilt c → ⊥
 
--- what statements are woven to is no larger than they, and the numbers of its events, at any depth, differ
+-- a link names the chart, below a level of its own chart and a reference
+pub record IsLinked (links : List Link) (name : List ℕ) : Type 0 where
+  pub link : Link
+  pub says : IsAmong links link
+  pub is : linked link ≡ name
+  pub deep : 3 ≤ depth_of link
+
+-- what the charts of links count together
+abbrev pub named_size : (List ℕ → ℕ) → List Link → ℕ
+named_size size_of [] = 0
+named_size size_of (link ∷ links) = size_of (linked link) + named_size size_of links
+
+-- what statements are woven to is no larger than they, whatever the charts count that are named; the numbers of its events, at any depth,
+-- differ; and the charts that it names are those of the text's links
 pub record WovenChartsAreKnown : Type 0 where
-  pub light : (names : List (List ℕ)) (held : List Statement) (b : Body) → IsWovenLevel names (statements_pieces names 0 (statements held)) b → body_size b ≤ content_size (Basic held)
+  pub light : (c : Chart) (held : List Statement) (b : Body) (size_of : List ℕ → ℕ) (k : ℕ) → c.content ≡ Basic held → IsWovenLevel (instances c) (statements_pieces (instances c) 0 (statements held)) b
+      → 2 + level_size size_of (no_product k) b ≤ (own_extent c).size + named_size size_of (chart_links c)
   pub once : (names : List (List ℕ)) (held : List Statement) (b : Body) → IsWovenLevel names (statements_pieces names 0 (statements held)) b → Once (map (λ (n : EventNode). n.number) (events_within b))
+  pub named : (c : Chart) (held : List Statement) (b : Body) → c.content ≡ Basic held → IsWovenLevel (instances c) (statements_pieces (instances c) 0 (statements held)) b
+      → (name : List ℕ) → IsAmong (level_names b) name → IsLinked (chart_links c) name

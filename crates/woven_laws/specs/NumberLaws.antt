@@ -5,7 +5,7 @@ use Rattle.msc_tree.specs.Statements.{Statements}
 use Rattle.msc_meaning.specs.Bodies.{EventNode, Body}
 use Rattle.msc_meaning.specs.Levels.{IsWovenLevel}
 use Rattle.msc_meaning.specs.Pieces.{statements_pieces}
-use Rattle.event_order.specs.RankedBodies.{events_within}
+use Rattle.chart_forms.specs.BodyEvents.{events_within}
 
 -- the numbers of the events of the body that a chart's statements are woven to, at any depth, differ
 abbrev pub WovenNumbersDiffer : Type 0

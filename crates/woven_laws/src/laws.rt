@@ -15,7 +15,8 @@ pub fn built_charts_are_known()
     ensures { BuiltChartsAreKnown }
 {}
 
-/// What a chart is woven to is no larger than its text, and its events have different numbers.
+/// What a chart is woven to is no larger than its text and the charts of its links, which are those that it names; its events have different
+/// numbers.
 #[tactic(auto, using(crate::proofs::WovenSizes::woven_charts_are_known))]
 pub fn woven_charts_are_known()
     ensures { WovenChartsAreKnown }
