@@ -18,7 +18,7 @@ use Rattle.msc_meaning.specs.InnerEvents.{GateEnd}
 use Rattle.msc_meaning.specs.Refinements.{Refining, refining, refinings, without_decomposed}
 use Rattle.msc_meaning.specs.Tables.{Table, ChartEntry, chart_at, Woven, Basic, HighLevel, Refinement, refinements}
 use Rattle.msc_meaning.specs.Ties.{ties}
-use Rattle.event_order.specs.RankedBodies.{is_exception}
+use Rattle.chart_forms.specs.BodyEvents.{is_exception}
 use Rattle.expansion_terms.proofs.Kept.{IsKept}
 use Rattle.expanded_terms.specs.ExpandedTerms.{Charts, charts_to, entry_term, one_of, placed, items_count, items_shown, refined_shown, events_term, expression_term, alternative_terms, each_term, level_term, items_term, item_term, operand_terms, parallel_term, refinings_term, woven_term, expression_count, item_count, level_count}
 use Rattle.expanded_terms.specs.FitBodies.{AreFitEvents, IsFitExpression, AreFitExpressions, IsFitLevel, AreFitItems, IsFitItem, AreFitOperands, AreFitRefinings, IsFitWoven, HasFitEntry, IsFitTo}

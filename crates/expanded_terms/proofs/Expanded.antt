@@ -26,7 +26,7 @@ use Rattle.msc_meaning.specs.InnerEvents.{GateEnd}
 use Rattle.msc_meaning.specs.Refinements.{Refining, refining, refinings, without_decomposed, past_refining, refining_tie}
 use Rattle.msc_meaning.specs.Tables.{Table, Woven, Basic, HighLevel, Refinement}
 use Rattle.msc_meaning.specs.Ties.{ties, past_inline, past_reference, passing}
-use Rattle.event_order.specs.RankedBodies.{is_exception}
+use Rattle.chart_forms.specs.BodyEvents.{is_exception}
 use Rattle.chart_forms.specs.BuiltBodies.{has_operands}
 use Rattle.msc_meaning.proofs.Deciding.{not_so}
 use Rattle.expanded_terms.specs.ExpandedTerms.{Charts, one_of, placed, turns_of, expression_count, expressions_count, level_count, items_count, item_count, operands_count, refinings_count, woven_count, event_shown, events_shown, expression_shown, expressions_shown, level_shown, items_shown, item_shown, operands_shown, refinings_shown, refined_shown, woven_shown, events_term, expression_term, alternative_terms, each_term, level_term, items_term, item_term, operand_terms, parallel_term, refinings_term, woven_term}

@@ -19,7 +19,7 @@ use Rattle.msc_meaning.specs.InnerEvents.{GateEnd}
 use Rattle.msc_meaning.specs.Refinements.{Refining, refining, refinings, without_decomposed, past_refining}
 use Rattle.msc_meaning.specs.Tables.{Table, ChartEntry, chart_at, Woven, Basic, HighLevel, Refinement, refinements}
 use Rattle.msc_meaning.specs.Ties.{ties, past_inline, past_reference}
-use Rattle.event_order.specs.RankedBodies.{is_exception}
+use Rattle.chart_forms.specs.BodyEvents.{is_exception}
 use Rattle.expansion_tree.specs.Expansions.{Expansion, Expansions, no_parts, part_and}
 use Rattle.expansion_tree.specs.Expansions as tree
 use Rattle.expanded_charts.specs.Expanding.{NumberedEvent, Expanded, ExpandedParts, nothing, in_row, aside, or_nothing, exception, turns, tied, tied_pairs, past, expand_events, expand, expand_all, expand_level, expand_items, expand_item, expand_operands, expand_refinings, expand_refined, expand_woven, expand_entry, expand_charts}

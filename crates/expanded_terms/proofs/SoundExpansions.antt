@@ -18,7 +18,7 @@ use Rattle.msc_meaning.specs.FarEnds.{GateMap, Around, Gates, gates_referred, in
 use Rattle.msc_meaning.specs.InnerEvents.{GateEnd}
 use Rattle.msc_meaning.specs.Tables.{Table}
 use Rattle.msc_meaning.specs.Ties.{ties}
-use Rattle.event_order.specs.RankedBodies.{is_exception}
+use Rattle.chart_forms.specs.BodyEvents.{is_exception}
 use Rattle.msc_meaning.proofs.Deciding.{not_so}
 use Rattle.expanded_terms.specs.ExpandedTerms.{Charts, one_of, placed, expression_count, expressions_count, level_count, items_count, item_count, operands_count, items_shown, events_term, expression_term, alternative_terms, each_term, level_term, items_term, item_term, operand_terms, parallel_term}
 use Rattle.expanded_terms.specs.FitBodies.{AreFitEvents, IsFitExpression, AreFitExpressions, IsFitLevel, AreFitItems, IsFitItem, AreFitOperands}

@@ -19,8 +19,9 @@ use Rattle.msc_meaning.specs.FarEnds.{GateMap, Around, Gates, gates_referred, in
 use Rattle.msc_meaning.specs.InnerEvents.{GateEnd}
 use Rattle.msc_meaning.specs.Tables.{Table, ChartEntry, chart_at, Woven, Basic, HighLevel, Refinement, refinements}
 use Rattle.msc_meaning.specs.Ties.{ties}
-use Rattle.expanded_terms.specs.ExpandedSizes.{expression_size, expressions_size, level_size, items_size, item_size, operands_size, woven_size, entry_size, size_to, open_gates, item_room, items_room, HaveRoom, HasFewInExpression, HaveFewInExpressions, HasFewPairs, HaveFewPairs, HasFewWithin, EachHasFew, HasFewInWoven, HasFewInEntry, HasFewTo, ExpandedTermsWeigh}
-use Rattle.event_order.specs.RankedBodies.{is_exception}
+use Rattle.chart_forms.specs.TableSizes.{expression_size, expressions_size, level_size, items_size, item_size, operands_size, woven_size, entry_size, size_to}
+use Rattle.expanded_terms.specs.ExpandedSizes.{open_gates, item_room, items_room, HaveRoom, HasFewInExpression, HaveFewInExpressions, HasFewPairs, HaveFewPairs, HasFewWithin, EachHasFew, HasFewInWoven, HasFewInEntry, HasFewTo, ExpandedTermsWeigh}
+use Rattle.chart_forms.specs.BodyEvents.{is_exception}
 use Rattle.msc_meaning.proofs.Deciding.{not_so}
 use Rattle.expanded_terms.specs.ExpandedTerms.{Charts, charts_to, entry_shown, entry_term, woven_shown, woven_term, one_of, placed, leave_turn, turns_if, turns_of, expression_shown, expressions_shown, level_shown, items_shown, operands_shown, events_term, expression_term, alternative_terms, each_term, level_term, items_term, item_term, operand_terms, parallel_term, item_count, level_count, expression_count}
 use Rattle.expanded_terms.specs.TagNumbers.{tied_numbers}

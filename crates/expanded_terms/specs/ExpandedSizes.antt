@@ -1,9 +1,10 @@
--- The expanded size of a chart, and that each level has few pairs: no more than its events, what these are ordered with, the open gates of
--- its parts, and the products of its joins leave room for.
+-- That each level has few pairs: no more than its events, what these are ordered with, the open gates of its parts, and the products of its
+-- joins leave room for. Then a chart's term weighs no more than the chart's expanded size.
 use Rattle.std.specs.Prelude.{◌≡◌, ◌≤◌, ℕ, zero, suc, ◌+◌, List, [], ◌∷◌, Option, None, Some, length, true}
 use Rattle.msc_unfolding.specs.Unfoldings.{Tag, Own, Via, On, Happening}
 use Rattle.chart_term.specs.Terms.{Tree, weight}
 use Rattle.term_meaning.specs.Portions.{Shown}
+use Rattle.chart_forms.specs.TableSizes.{size_to}
 use Rattle.general_ordering.specs.OrderCounts.{order_count, orders_count}
 use Rattle.msc_tree.specs.Expressions.{Expression, Empty, Chart, Alt, Par, Seq, Opt, Expressions, none, more}
 use Rattle.msc_tree.specs.Expressions as expression
@@ -16,57 +17,6 @@ use Rattle.msc_meaning.specs.Ties.{ties}
 use Rattle.expanded_terms.specs.ExpandedTerms.{Charts, charts_to, expression_shown, level_shown, items_shown, operands_shown, expression_count, item_count, level_count}
 use Rattle.chart_forms.specs.BuiltBodies.{has_operands}
 use Rattle.expanded_terms.specs.TagNumbers.{tied_numbers}
-
--- ---- sizes; size_of: of the chart of that name; product: what the joins of a level's reference add
-
-module _ (size_of : List ℕ → ℕ) (product : WovenItems → ReferencePart → ℕ) where
-  abbrev mutual
-    pub expression_size : Expression → ℕ
-    expression_size Empty = 1
-    expression_size (Chart name) = size_of name
-    expression_size (Alt parts) = 1 + expressions_size parts
-    expression_size (Par parts) = 1 + expressions_size parts
-    expression_size (Seq parts) = 1 + expressions_size parts
-    expression_size (Opt part) = 2 + expression_size part
-    expression_size (expression.Loop lower upper part) = 2 + expression_size part
-
-    pub expressions_size : Expressions → ℕ
-    expressions_size none = 0
-    expressions_size (more x xs) = expression_size x + expressions_size xs
-
-  abbrev mutual
-    pub level_size : Body → ℕ
-    level_size (level cover held pairs) = items_size held held
-
-    -- some of the items of a level, which is the first
-    pub items_size : WovenItems → WovenItems → ℕ
-    items_size whole no_items = 0
-    items_size whole (item_and x xs) = item_size whole x + items_size whole xs
-
-    pub item_size : WovenItems → WovenItem → ℕ
-    item_size whole (Single n) = 3 + order_count n.event
-    item_size whole (Coregion ns) = 1 + (length ns + length ns + length ns) + orders_count ns
-    item_size whole (Inline form part operands) = 2 + operands_size operands
-    item_size whole (Refer part) = 2 + expression_size part.expression + product whole part
-
-    pub operands_size : Bodies → ℕ
-    operands_size no_bodies = 0
-    operands_size (body_and b bs) = 1 + level_size b + operands_size bs
-
-  -- of a chart without refining charts
-  abbrev pub woven_size : List Refinement → Woven → ℕ
-  woven_size [] (Basic held) = 2 + level_size held
-  woven_size [] (HighLevel drawn) = 0
-  woven_size (r ∷ rs) content = 0
-
-  abbrev pub entry_size : Option ChartEntry → ℕ
-  entry_size None = 0
-  entry_size (Some entry) = woven_size (refinements entry.decls) entry.content
-
--- product: by the depth of references
-abbrev pub size_to : (ℕ → WovenItems → ReferencePart → ℕ) → Table → ℕ → List ℕ → ℕ
-size_to product table zero name = 0
-size_to product table (suc k) name = entry_size (size_to product table k) (product k) (chart_at table name)
 
 -- ---- open gates
 

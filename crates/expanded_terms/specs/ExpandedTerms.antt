@@ -18,7 +18,7 @@ use Rattle.msc_meaning.specs.InnerEvents.{GateEnd}
 use Rattle.msc_meaning.specs.Refinements.{Refining, refining, refinings, without_decomposed, past_refining}
 use Rattle.msc_meaning.specs.Tables.{Table, ChartEntry, chart_at, Woven, Basic, HighLevel, Refinement, refinements}
 use Rattle.msc_meaning.specs.Ties.{ties, past_inline, past_reference}
-use Rattle.event_order.specs.RankedBodies.{is_exception}
+use Rattle.chart_forms.specs.BodyEvents.{is_exception}
 pub use Rattle.expansion_terms.specs.Constructors.{one_of, placed, leave_turn, turns_if, turns_of}
 use Rattle.expanded_terms.specs.TagNumbers.{tied_numbers}
 

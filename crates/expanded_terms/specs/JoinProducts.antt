@@ -14,7 +14,7 @@ use Rattle.msc_meaning.specs.Calls.{calls}
 use Rattle.msc_meaning.specs.FarEnds.{GateMap}
 use Rattle.msc_meaning.specs.InnerEvents.{GateEnd}
 use Rattle.msc_meaning.specs.Tables.{Table, ChartEntry, chart_at, Woven, Basic, HighLevel, Refinement, refinements}
-use Rattle.expanded_terms.specs.ExpandedSizes.{size_to}
+use Rattle.chart_forms.specs.TableSizes.{size_to}
 use Rattle.expanded_terms.specs.ExpandedTerms.{Charts, charts_to, items_shown}
 use Rattle.expanded_terms.specs.FewPairs.{HasFewOwn}
 use Rattle.chart_forms.specs.BuiltBodies.{has_operands}

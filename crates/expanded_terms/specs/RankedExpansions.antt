@@ -16,7 +16,7 @@ use Rattle.msc_meaning.specs.ChartUnfoldings.{gates_of}
 use Rattle.msc_meaning.specs.FarEnds.{GateMap, Around, Gates, gates_referred, inside, happening}
 use Rattle.msc_meaning.specs.InnerEvents.{GateEnd}
 use Rattle.msc_meaning.specs.Ties.{ties}
-use Rattle.event_order.specs.RankedBodies.{is_exception}
+use Rattle.chart_forms.specs.BodyEvents.{is_exception}
 use Rattle.expanded_terms.specs.ExpandedTerms.{Charts, items_shown, expression_count, item_count, level_count}
 use Rattle.expanded_terms.specs.TagNumbers.{tied_numbers}
 

@@ -1,6 +1,6 @@
 mod Numbered
 mod StoredCharts
-mod Happenings
-mod WholeCharts
+pub mod Happenings
+pub mod WholeCharts
 mod TableLaws
 mod WorkedPremises

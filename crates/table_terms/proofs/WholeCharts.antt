@@ -36,7 +36,7 @@ no_calls : (ns : List EventNode) → AreAtNoGate ns → events_calls ns ≡ []
 no_calls [] h = refl
 no_calls (n ∷ ns) h = both_nil (event_calls n n.event.target) (events_calls ns) (no_call n n.event.target h.0) (no_calls ns h.1)
 
-none_called : (xs : WovenItems) → ArePlainItems xs → calls xs ≡ []
+pub none_called : (xs : WovenItems) → ArePlainItems xs → calls xs ≡ []
 none_called no_items h = refl
 none_called (item_and (Single n) xs) h = both_nil (event_calls n n.event.target) (calls xs) (no_call n n.event.target h.0) (none_called xs h.1)
 none_called (item_and (Coregion ns) xs) h = both_nil (events_calls ns) (calls xs) (no_calls ns h.0) (none_called xs h.1)

@@ -16,7 +16,7 @@ use Rattle.expansion_tree.specs.Expansions.{events_in}
 use Rattle.expanded_charts.specs.Expanding.{NumberedEvent}
 use Rattle.expanded_charts.specs.Making.{no_ends}
 use Rattle.expansion_order.specs.Ranks.{CanBeRanked}
-use Rattle.expanded_terms.specs.ExpandedSizes.{size_to}
+use Rattle.chart_forms.specs.TableSizes.{size_to}
 use Rattle.expanded_terms.specs.ExpandedTerms.{charts_to}
 use Rattle.expanded_terms.specs.JoinProducts.{IsFewTo, product_in}
 use Rattle.expanded_terms.specs.NamedEvents.{event_term}

@@ -68,6 +68,17 @@ impl Nets {
         }
     }
 
+    /// Tables of these labels, without nets. It takes no memory.
+    pub fn of_labels(alloc: Global, labels: LabelTable) -> Nets
+        ensures { result ≡ record { labels = labels; tables = [] } }
+    {
+        Nets {
+            alloc,
+            labels,
+            stored: Vec::new(alloc),
+        }
+    }
+
     /// Appends a label, and gives its number. After want of memory the tables are as they were, and
     /// the label is dropped.
     pub fn add_label(&mut self, label: Label) -> Result<u32, NoMemory>
