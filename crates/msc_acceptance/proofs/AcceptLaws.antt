@@ -8,7 +8,7 @@ use Rattle.msc_rules.specs.declared.rule.Rule.{Rule}
 use Rattle.msc_rules.specs.declared.rule.Rule.TheVariants.{Bytes, BadByte, OpenString, OpenNote, LongName, Syntax, Unsupported, TooDeep, Charts, Instances, Nodes, LoopBound, NamedTwice, Undeclared, MissingChart, Recursive, Uncovered, ExpandedNesting, Size, Total, NotShared, OperandsDiffer, ExcPlace, Crossed, Unmatched, NoGate, GateTwice, GateWays, GateSplit, GateOnLoop, DecompositionMismatch, SharedPart, Inside, LocalEvent, UnknownEvent, EventNamedTwice, Cyclic, UnknownLabel, LabelNamedTwice, Endless, NotBuilt, CreatePlace, CreateTwice, AfterStop}
 use Rattle.msc_rules.specs.Rules.{group_of, number_of}
 use Rattle.msc_rules.specs.declared.first_fault.Broken.{Broken}
-use Rattle.msc_rules.specs.FirstFaults.{IsBest, fault_of, IsInSome, AreGroups, IsFirst, IsFaultless, Keeps}
+use Rattle.msc_rules.specs.FirstFaults.{IsBest, IsInSome, AreGroups, IsFirst, IsFaultless, Keeps}
 use Rattle.msc_rules.proofs.FirstOnes.{first_fault, faultless, one_first_fault}
 use Rattle.std.proofs.lemmas.Bool.{cases_lt}
 use Rattle.std.proofs.lemmas.List.{length-map}
@@ -22,46 +22,54 @@ use Rattle.msc_instances.specs.Instances.{instances}
 use Rattle.msc_acceptance.specs.Acceptance.{Breaks, BreaksOf, HasFault, IsAccepted}
 use Rattle.msc_acceptance.specs.ChartFaults.{CrossesAt, IsAloneAt, IsCyclicAt}
 use Rattle.msc_acceptance.proofs.GroupLaws.{one_best}
-use Rattle.msc_acceptance.specs.Deciding.{AllKept, AreBuilt, IsFirstOf, body_groups, all_groups, text_groups, forms, limits, names, sizes, parts, columns, messages, event_names, cycles}
+use Rattle.msc_acceptance.specs.Deciding.{AllKept, AreBuilt, IsFirstOf, body_groups, all_groups, link_groups, table_groups, text_groups, forms, limits, names, references, sizes, parts, columns, messages, event_names, cycles}
 use Rattle.msc_acceptance.specs.Rules.{InOne}
 
 -- ---- numbers and groups
 
 -- what holds of the rules that are looked at holds of each that is in a group
-each_rule : (P : Rule → Type 0) → P NotBuilt → P Charts → P Instances → P LoopBound → P NamedTwice → P Undeclared → P Size → P Total → P NotShared → P OperandsDiffer → P ExcPlace → P Crossed → P Unmatched → P UnknownEvent → P EventNamedTwice → P Cyclic → (r : Rule) → IsInSome all_groups r → P r
-each_rule P p0 p1 p2 p3 p4 p5 p6 p7 p8 p9 p10 p11 p12 p13 p14 p15 r (inl (inl is)) = subst P (sym is) p0
-each_rule P p0 p1 p2 p3 p4 p5 p6 p7 p8 p9 p10 p11 p12 p13 p14 p15 r (inl (inr (n))) = absurd n
-each_rule P p0 p1 p2 p3 p4 p5 p6 p7 p8 p9 p10 p11 p12 p13 p14 p15 r (inr (inl (inl is))) = subst P (sym is) p1
-each_rule P p0 p1 p2 p3 p4 p5 p6 p7 p8 p9 p10 p11 p12 p13 p14 p15 r (inr (inl (inr (inl is)))) = subst P (sym is) p2
-each_rule P p0 p1 p2 p3 p4 p5 p6 p7 p8 p9 p10 p11 p12 p13 p14 p15 r (inr (inl (inr (inr (inl is))))) = subst P (sym is) p3
-each_rule P p0 p1 p2 p3 p4 p5 p6 p7 p8 p9 p10 p11 p12 p13 p14 p15 r (inr (inl (inr (inr (inr (n)))))) = absurd n
-each_rule P p0 p1 p2 p3 p4 p5 p6 p7 p8 p9 p10 p11 p12 p13 p14 p15 r (inr (inr (inl (inl is)))) = subst P (sym is) p4
-each_rule P p0 p1 p2 p3 p4 p5 p6 p7 p8 p9 p10 p11 p12 p13 p14 p15 r (inr (inr (inl (inr (inl is))))) = subst P (sym is) p5
-each_rule P p0 p1 p2 p3 p4 p5 p6 p7 p8 p9 p10 p11 p12 p13 p14 p15 r (inr (inr (inl (inr (inr (n)))))) = absurd n
-each_rule P p0 p1 p2 p3 p4 p5 p6 p7 p8 p9 p10 p11 p12 p13 p14 p15 r (inr (inr (inr (inl (inl is))))) = subst P (sym is) p6
-each_rule P p0 p1 p2 p3 p4 p5 p6 p7 p8 p9 p10 p11 p12 p13 p14 p15 r (inr (inr (inr (inl (inr (inl is)))))) = subst P (sym is) p7
-each_rule P p0 p1 p2 p3 p4 p5 p6 p7 p8 p9 p10 p11 p12 p13 p14 p15 r (inr (inr (inr (inl (inr (inr (n))))))) = absurd n
-each_rule P p0 p1 p2 p3 p4 p5 p6 p7 p8 p9 p10 p11 p12 p13 p14 p15 r (inr (inr (inr (inr (inl (inl is)))))) = subst P (sym is) p8
-each_rule P p0 p1 p2 p3 p4 p5 p6 p7 p8 p9 p10 p11 p12 p13 p14 p15 r (inr (inr (inr (inr (inl (inr (inl is))))))) = subst P (sym is) p9
-each_rule P p0 p1 p2 p3 p4 p5 p6 p7 p8 p9 p10 p11 p12 p13 p14 p15 r (inr (inr (inr (inr (inl (inr (inr (inl is)))))))) = subst P (sym is) p10
-each_rule P p0 p1 p2 p3 p4 p5 p6 p7 p8 p9 p10 p11 p12 p13 p14 p15 r (inr (inr (inr (inr (inl (inr (inr (inr (n))))))))) = absurd n
-each_rule P p0 p1 p2 p3 p4 p5 p6 p7 p8 p9 p10 p11 p12 p13 p14 p15 r (inr (inr (inr (inr (inr (inl (inl is))))))) = subst P (sym is) p11
-each_rule P p0 p1 p2 p3 p4 p5 p6 p7 p8 p9 p10 p11 p12 p13 p14 p15 r (inr (inr (inr (inr (inr (inl (inr (n)))))))) = absurd n
-each_rule P p0 p1 p2 p3 p4 p5 p6 p7 p8 p9 p10 p11 p12 p13 p14 p15 r (inr (inr (inr (inr (inr (inr (inl (inl is)))))))) = subst P (sym is) p12
-each_rule P p0 p1 p2 p3 p4 p5 p6 p7 p8 p9 p10 p11 p12 p13 p14 p15 r (inr (inr (inr (inr (inr (inr (inl (inr (n))))))))) = absurd n
-each_rule P p0 p1 p2 p3 p4 p5 p6 p7 p8 p9 p10 p11 p12 p13 p14 p15 r (inr (inr (inr (inr (inr (inr (inr (inl (inl is))))))))) = subst P (sym is) p13
-each_rule P p0 p1 p2 p3 p4 p5 p6 p7 p8 p9 p10 p11 p12 p13 p14 p15 r (inr (inr (inr (inr (inr (inr (inr (inl (inr (inl is)))))))))) = subst P (sym is) p14
-each_rule P p0 p1 p2 p3 p4 p5 p6 p7 p8 p9 p10 p11 p12 p13 p14 p15 r (inr (inr (inr (inr (inr (inr (inr (inl (inr (inr (n))))))))))) = absurd n
-each_rule P p0 p1 p2 p3 p4 p5 p6 p7 p8 p9 p10 p11 p12 p13 p14 p15 r (inr (inr (inr (inr (inr (inr (inr (inr (inl (inl is)))))))))) = subst P (sym is) p15
-each_rule P p0 p1 p2 p3 p4 p5 p6 p7 p8 p9 p10 p11 p12 p13 p14 p15 r (inr (inr (inr (inr (inr (inr (inr (inr (inl (inr (n))))))))))) = absurd n
-each_rule P p0 p1 p2 p3 p4 p5 p6 p7 p8 p9 p10 p11 p12 p13 p14 p15 r (inr (inr (inr (inr (inr (inr (inr (inr (inr (n)))))))))) = absurd n
+each_rule : (P : Rule → Type 0) → P NotBuilt → P Charts → P Instances → P LoopBound → P NamedTwice → P Undeclared → P MissingChart → P Recursive → P Uncovered → P ExpandedNesting → P Size → P Total → P NotShared → P OperandsDiffer → P ExcPlace → P CreatePlace → P CreateTwice → P AfterStop → P Crossed → P Unmatched → P UnknownEvent → P EventNamedTwice → P Cyclic → (r : Rule) → IsInSome all_groups r → P r
+each_rule P p0 p1 p2 p3 p4 p5 p6 p7 p8 p9 p10 p11 p12 p13 p14 p15 p16 p17 p18 p19 p20 p21 p22 r (inl (inl is)) = subst P (sym is) p0
+each_rule P p0 p1 p2 p3 p4 p5 p6 p7 p8 p9 p10 p11 p12 p13 p14 p15 p16 p17 p18 p19 p20 p21 p22 r (inl (inr (n))) = absurd n
+each_rule P p0 p1 p2 p3 p4 p5 p6 p7 p8 p9 p10 p11 p12 p13 p14 p15 p16 p17 p18 p19 p20 p21 p22 r (inr (inl (inl is))) = subst P (sym is) p1
+each_rule P p0 p1 p2 p3 p4 p5 p6 p7 p8 p9 p10 p11 p12 p13 p14 p15 p16 p17 p18 p19 p20 p21 p22 r (inr (inl (inr (inl is)))) = subst P (sym is) p2
+each_rule P p0 p1 p2 p3 p4 p5 p6 p7 p8 p9 p10 p11 p12 p13 p14 p15 p16 p17 p18 p19 p20 p21 p22 r (inr (inl (inr (inr (inl is))))) = subst P (sym is) p3
+each_rule P p0 p1 p2 p3 p4 p5 p6 p7 p8 p9 p10 p11 p12 p13 p14 p15 p16 p17 p18 p19 p20 p21 p22 r (inr (inl (inr (inr (inr (n)))))) = absurd n
+each_rule P p0 p1 p2 p3 p4 p5 p6 p7 p8 p9 p10 p11 p12 p13 p14 p15 p16 p17 p18 p19 p20 p21 p22 r (inr (inr (inl (inl is)))) = subst P (sym is) p4
+each_rule P p0 p1 p2 p3 p4 p5 p6 p7 p8 p9 p10 p11 p12 p13 p14 p15 p16 p17 p18 p19 p20 p21 p22 r (inr (inr (inl (inr (inl is))))) = subst P (sym is) p5
+each_rule P p0 p1 p2 p3 p4 p5 p6 p7 p8 p9 p10 p11 p12 p13 p14 p15 p16 p17 p18 p19 p20 p21 p22 r (inr (inr (inl (inr (inr (n)))))) = absurd n
+each_rule P p0 p1 p2 p3 p4 p5 p6 p7 p8 p9 p10 p11 p12 p13 p14 p15 p16 p17 p18 p19 p20 p21 p22 r (inr (inr (inr (inl (inl is))))) = subst P (sym is) p6
+each_rule P p0 p1 p2 p3 p4 p5 p6 p7 p8 p9 p10 p11 p12 p13 p14 p15 p16 p17 p18 p19 p20 p21 p22 r (inr (inr (inr (inl (inr (inl is)))))) = subst P (sym is) p7
+each_rule P p0 p1 p2 p3 p4 p5 p6 p7 p8 p9 p10 p11 p12 p13 p14 p15 p16 p17 p18 p19 p20 p21 p22 r (inr (inr (inr (inl (inr (inr (inl is))))))) = subst P (sym is) p8
+each_rule P p0 p1 p2 p3 p4 p5 p6 p7 p8 p9 p10 p11 p12 p13 p14 p15 p16 p17 p18 p19 p20 p21 p22 r (inr (inr (inr (inl (inr (inr (inr (n)))))))) = absurd n
+each_rule P p0 p1 p2 p3 p4 p5 p6 p7 p8 p9 p10 p11 p12 p13 p14 p15 p16 p17 p18 p19 p20 p21 p22 r (inr (inr (inr (inr (inl (inl is)))))) = subst P (sym is) p9
+each_rule P p0 p1 p2 p3 p4 p5 p6 p7 p8 p9 p10 p11 p12 p13 p14 p15 p16 p17 p18 p19 p20 p21 p22 r (inr (inr (inr (inr (inl (inr (inl is))))))) = subst P (sym is) p10
+each_rule P p0 p1 p2 p3 p4 p5 p6 p7 p8 p9 p10 p11 p12 p13 p14 p15 p16 p17 p18 p19 p20 p21 p22 r (inr (inr (inr (inr (inl (inr (inr (inl is)))))))) = subst P (sym is) p11
+each_rule P p0 p1 p2 p3 p4 p5 p6 p7 p8 p9 p10 p11 p12 p13 p14 p15 p16 p17 p18 p19 p20 p21 p22 r (inr (inr (inr (inr (inl (inr (inr (inr (n))))))))) = absurd n
+each_rule P p0 p1 p2 p3 p4 p5 p6 p7 p8 p9 p10 p11 p12 p13 p14 p15 p16 p17 p18 p19 p20 p21 p22 r (inr (inr (inr (inr (inr (inl (inl is))))))) = subst P (sym is) p12
+each_rule P p0 p1 p2 p3 p4 p5 p6 p7 p8 p9 p10 p11 p12 p13 p14 p15 p16 p17 p18 p19 p20 p21 p22 r (inr (inr (inr (inr (inr (inl (inr (inl is)))))))) = subst P (sym is) p13
+each_rule P p0 p1 p2 p3 p4 p5 p6 p7 p8 p9 p10 p11 p12 p13 p14 p15 p16 p17 p18 p19 p20 p21 p22 r (inr (inr (inr (inr (inr (inl (inr (inr (inl is))))))))) = subst P (sym is) p14
+each_rule P p0 p1 p2 p3 p4 p5 p6 p7 p8 p9 p10 p11 p12 p13 p14 p15 p16 p17 p18 p19 p20 p21 p22 r (inr (inr (inr (inr (inr (inl (inr (inr (inr (inl is)))))))))) = subst P (sym is) p15
+each_rule P p0 p1 p2 p3 p4 p5 p6 p7 p8 p9 p10 p11 p12 p13 p14 p15 p16 p17 p18 p19 p20 p21 p22 r (inr (inr (inr (inr (inr (inl (inr (inr (inr (inr (inl is))))))))))) = subst P (sym is) p16
+each_rule P p0 p1 p2 p3 p4 p5 p6 p7 p8 p9 p10 p11 p12 p13 p14 p15 p16 p17 p18 p19 p20 p21 p22 r (inr (inr (inr (inr (inr (inl (inr (inr (inr (inr (inr (inl is)))))))))))) = subst P (sym is) p17
+each_rule P p0 p1 p2 p3 p4 p5 p6 p7 p8 p9 p10 p11 p12 p13 p14 p15 p16 p17 p18 p19 p20 p21 p22 r (inr (inr (inr (inr (inr (inl (inr (inr (inr (inr (inr (inr (n))))))))))))) = absurd n
+each_rule P p0 p1 p2 p3 p4 p5 p6 p7 p8 p9 p10 p11 p12 p13 p14 p15 p16 p17 p18 p19 p20 p21 p22 r (inr (inr (inr (inr (inr (inr (inl (inl is)))))))) = subst P (sym is) p18
+each_rule P p0 p1 p2 p3 p4 p5 p6 p7 p8 p9 p10 p11 p12 p13 p14 p15 p16 p17 p18 p19 p20 p21 p22 r (inr (inr (inr (inr (inr (inr (inl (inr (n))))))))) = absurd n
+each_rule P p0 p1 p2 p3 p4 p5 p6 p7 p8 p9 p10 p11 p12 p13 p14 p15 p16 p17 p18 p19 p20 p21 p22 r (inr (inr (inr (inr (inr (inr (inr (inl (inl is))))))))) = subst P (sym is) p19
+each_rule P p0 p1 p2 p3 p4 p5 p6 p7 p8 p9 p10 p11 p12 p13 p14 p15 p16 p17 p18 p19 p20 p21 p22 r (inr (inr (inr (inr (inr (inr (inr (inl (inr (n)))))))))) = absurd n
+each_rule P p0 p1 p2 p3 p4 p5 p6 p7 p8 p9 p10 p11 p12 p13 p14 p15 p16 p17 p18 p19 p20 p21 p22 r (inr (inr (inr (inr (inr (inr (inr (inr (inl (inl is)))))))))) = subst P (sym is) p20
+each_rule P p0 p1 p2 p3 p4 p5 p6 p7 p8 p9 p10 p11 p12 p13 p14 p15 p16 p17 p18 p19 p20 p21 p22 r (inr (inr (inr (inr (inr (inr (inr (inr (inl (inr (inl is))))))))))) = subst P (sym is) p21
+each_rule P p0 p1 p2 p3 p4 p5 p6 p7 p8 p9 p10 p11 p12 p13 p14 p15 p16 p17 p18 p19 p20 p21 p22 r (inr (inr (inr (inr (inr (inr (inr (inr (inl (inr (inr (n)))))))))))) = absurd n
+each_rule P p0 p1 p2 p3 p4 p5 p6 p7 p8 p9 p10 p11 p12 p13 p14 p15 p16 p17 p18 p19 p20 p21 p22 r (inr (inr (inr (inr (inr (inr (inr (inr (inr (inl (inl is))))))))))) = subst P (sym is) p22
+each_rule P p0 p1 p2 p3 p4 p5 p6 p7 p8 p9 p10 p11 p12 p13 p14 p15 p16 p17 p18 p19 p20 p21 p22 r (inr (inr (inr (inr (inr (inr (inr (inr (inr (inl (inr (n)))))))))))) = absurd n
+each_rule P p0 p1 p2 p3 p4 p5 p6 p7 p8 p9 p10 p11 p12 p13 p14 p15 p16 p17 p18 p19 p20 p21 p22 r (inr (inr (inr (inr (inr (inr (inr (inr (inr (inr (n))))))))))) = absurd n
 
 decoded : ℕ → Rule
-decoded n = if nat_eq n 41 then NotBuilt else (if nat_eq n 9 then Charts else (if nat_eq n 10 then Instances else (if nat_eq n 12 then LoopBound else (if nat_eq n 13 then NamedTwice else (if nat_eq n 14 then Undeclared else (if nat_eq n 19 then Size else (if nat_eq n 20 then Total else (if nat_eq n 21 then NotShared else (if nat_eq n 22 then OperandsDiffer else (if nat_eq n 23 then ExcPlace else (if nat_eq n 24 then Crossed else (if nat_eq n 25 then Unmatched else (if nat_eq n 35 then UnknownEvent else (if nat_eq n 36 then EventNamedTwice else (Cyclic)))))))))))))))
+decoded n = if nat_eq n 41 then NotBuilt else (if nat_eq n 9 then Charts else (if nat_eq n 10 then Instances else (if nat_eq n 12 then LoopBound else (if nat_eq n 13 then NamedTwice else (if nat_eq n 14 then Undeclared else (if nat_eq n 15 then MissingChart else (if nat_eq n 16 then Recursive else (if nat_eq n 17 then Uncovered else (if nat_eq n 18 then ExpandedNesting else (if nat_eq n 19 then Size else (if nat_eq n 20 then Total else (if nat_eq n 21 then NotShared else (if nat_eq n 22 then OperandsDiffer else (if nat_eq n 23 then ExcPlace else (if nat_eq n 42 then CreatePlace else (if nat_eq n 43 then CreateTwice else (if nat_eq n 44 then AfterStop else (if nat_eq n 24 then Crossed else (if nat_eq n 25 then Unmatched else (if nat_eq n 35 then UnknownEvent else (if nat_eq n 36 then EventNamedTwice else (Cyclic))))))))))))))))))))))
 
 decodes : (r : Rule) → IsInSome all_groups r → decoded (number_of r) ≡ r
 unfolding decoded
-decodes = each_rule (λ r. decoded (number_of r) ≡ r) refl refl refl refl refl refl refl refl refl refl refl refl refl refl refl refl
+decodes = each_rule (λ r. decoded (number_of r) ≡ r) refl refl refl refl refl refl refl refl refl refl refl refl refl refl refl refl refl refl refl refl refl refl refl
 
 -- a rule that charts break is in one of the groups
 in_some : (charts : List Chart) (r : Rule) (p : Place) → BreaksOf charts r p → IsInSome all_groups r
@@ -79,17 +87,17 @@ in_some charts Nodes p b = absurd b
 in_some charts LoopBound p b = inr (inl (inr (inr (inl refl))))
 in_some charts NamedTwice p b = inr (inr (inl (inl refl)))
 in_some charts Undeclared p b = inr (inr (inl (inr (inl refl))))
-in_some charts MissingChart p b = absurd b
-in_some charts Recursive p b = absurd b
-in_some charts Uncovered p b = absurd b
-in_some charts ExpandedNesting p b = absurd b
-in_some charts Size p b = inr (inr (inr (inl (inl refl))))
-in_some charts Total p b = inr (inr (inr (inl (inr (inl refl)))))
-in_some charts NotShared p b = inr (inr (inr (inr (inl (inl refl)))))
-in_some charts OperandsDiffer p b = inr (inr (inr (inr (inl (inr (inl refl))))))
-in_some charts ExcPlace p b = inr (inr (inr (inr (inl (inr (inr (inl refl)))))))
-in_some charts Crossed p b = inr (inr (inr (inr (inr (inl (inl refl))))))
-in_some charts Unmatched p b = inr (inr (inr (inr (inr (inr (inl (inl refl)))))))
+in_some charts MissingChart p b = inr (inr (inr (inl (inl refl))))
+in_some charts Recursive p b = inr (inr (inr (inl (inr (inl refl)))))
+in_some charts Uncovered p b = inr (inr (inr (inl (inr (inr (inl refl))))))
+in_some charts ExpandedNesting p b = inr (inr (inr (inr (inl (inl refl)))))
+in_some charts Size p b = inr (inr (inr (inr (inl (inr (inl refl))))))
+in_some charts Total p b = inr (inr (inr (inr (inl (inr (inr (inl refl)))))))
+in_some charts NotShared p b = inr (inr (inr (inr (inr (inl (inl refl))))))
+in_some charts OperandsDiffer p b = inr (inr (inr (inr (inr (inl (inr (inl refl)))))))
+in_some charts ExcPlace p b = inr (inr (inr (inr (inr (inl (inr (inr (inl refl))))))))
+in_some charts Crossed p b = inr (inr (inr (inr (inr (inr (inl (inl refl)))))))
+in_some charts Unmatched p b = inr (inr (inr (inr (inr (inr (inr (inl (inl refl))))))))
 in_some charts NoGate p b = absurd b
 in_some charts GateTwice p b = absurd b
 in_some charts GateWays p b = absurd b
@@ -99,16 +107,16 @@ in_some charts DecompositionMismatch p b = absurd b
 in_some charts SharedPart p b = absurd b
 in_some charts Inside p b = absurd b
 in_some charts LocalEvent p b = absurd b
-in_some charts UnknownEvent p b = inr (inr (inr (inr (inr (inr (inr (inl (inl refl))))))))
-in_some charts EventNamedTwice p b = inr (inr (inr (inr (inr (inr (inr (inl (inr (inl refl)))))))))
-in_some charts Cyclic p b = inr (inr (inr (inr (inr (inr (inr (inr (inl (inl refl)))))))))
+in_some charts UnknownEvent p b = inr (inr (inr (inr (inr (inr (inr (inr (inl (inl refl)))))))))
+in_some charts EventNamedTwice p b = inr (inr (inr (inr (inr (inr (inr (inr (inl (inr (inl refl))))))))))
+in_some charts Cyclic p b = inr (inr (inr (inr (inr (inr (inr (inr (inr (inl (inl refl))))))))))
 in_some charts UnknownLabel p b = absurd b
 in_some charts LabelNamedTwice p b = absurd b
 in_some charts Endless p b = absurd b
 in_some charts NotBuilt p b = inl (inl refl)
-in_some charts CreatePlace p b = absurd b
-in_some charts CreateTwice p b = absurd b
-in_some charts AfterStop p b = absurd b
+in_some charts CreatePlace p b = inr (inr (inr (inr (inr (inl (inr (inr (inr (inl refl)))))))))
+in_some charts CreateTwice p b = inr (inr (inr (inr (inr (inl (inr (inr (inr (inr (inl refl))))))))))
+in_some charts AfterStop p b = inr (inr (inr (inr (inr (inl (inr (inr (inr (inr (inr (inl refl)))))))))))
 
 one_number : (charts : List Chart) (r s : Rule) (p q : Place) → BreaksOf charts r p → BreaksOf charts s q → number_of r ≡ number_of s → r ≡ s
 one_number charts r s p q a b e = sym (decodes r (in_some charts r p a)) ∙ ap decoded e ∙ decodes s (in_some charts s q b)
@@ -121,6 +129,12 @@ in_two a b r same h = elim h [ inl e ↦ ap group_of e | inr m ↦ in_one b r m 
 
 in_three : (a b c r : Rule) → group_of b ≡ group_of a → group_of c ≡ group_of b → IsAmong (a ∷ b ∷ c ∷ []) r → group_of r ≡ group_of a
 in_three a b c r same alike h = elim h [ inl e ↦ ap group_of e | inr m ↦ in_two b c r alike m ∙ same ]
+
+in_parts : (r : Rule) → IsAmong parts r → group_of r ≡ group_of NotShared
+in_parts r (inl e) = ap group_of e
+in_parts r (inr (inl e)) = ap group_of e
+in_parts r (inr (inr (inl e))) = ap group_of e
+in_parts r (inr (inr (inr m))) = in_three CreatePlace CreateTwice AfterStop r refl refl m
 
 low_cycles : (s : Rule) → IsInSome (cycles ∷ []) s → 14 ≤ group_of s
 low_cycles s h = elim h [ inl m ↦ omega (arith, in_one Cyclic s m) | inr n ↦ absurd n ]
@@ -135,19 +149,22 @@ low_columns : (s : Rule) → IsInSome (columns ∷ messages ∷ event_names ∷ 
 low_columns s h = elim h [ inl m ↦ omega (arith, in_one Crossed s m) | inr n ↦ omega (arith, low_messages s n) ]
 
 low_parts : (s : Rule) → IsInSome (parts ∷ columns ∷ messages ∷ event_names ∷ cycles ∷ []) s → 8 ≤ group_of s
-low_parts s h = elim h [ inl m ↦ omega (arith, in_three NotShared OperandsDiffer ExcPlace s refl refl m) | inr n ↦ omega (arith, low_columns s n) ]
+low_parts s h = elim h [ inl m ↦ omega (arith, in_parts s m) | inr n ↦ omega (arith, low_columns s n) ]
 
 low_sizes : (s : Rule) → IsInSome (sizes ∷ parts ∷ columns ∷ messages ∷ event_names ∷ cycles ∷ []) s → 7 ≤ group_of s
-low_sizes s h = elim h [ inl m ↦ omega (arith, in_two Size Total s refl m) | inr n ↦ omega (arith, low_parts s n) ]
+low_sizes s h = elim h [ inl m ↦ omega (arith, in_three ExpandedNesting Size Total s refl refl m) | inr n ↦ omega (arith, low_parts s n) ]
 
-low_names : (s : Rule) → IsInSome (names ∷ sizes ∷ parts ∷ columns ∷ messages ∷ event_names ∷ cycles ∷ []) s → 5 ≤ group_of s
-low_names s h = elim h [ inl m ↦ omega (arith, in_two NamedTwice Undeclared s refl m) | inr n ↦ omega (arith, low_sizes s n) ]
+low_references : (s : Rule) → IsInSome (references ∷ sizes ∷ parts ∷ columns ∷ messages ∷ event_names ∷ cycles ∷ []) s → 6 ≤ group_of s
+low_references s h = elim h [ inl m ↦ omega (arith, in_three MissingChart Recursive Uncovered s refl refl m) | inr n ↦ omega (arith, low_sizes s n) ]
 
-low_limits : (s : Rule) → IsInSome (limits ∷ names ∷ sizes ∷ parts ∷ columns ∷ messages ∷ event_names ∷ cycles ∷ []) s → 4 ≤ group_of s
+low_names : (s : Rule) → IsInSome (names ∷ references ∷ sizes ∷ parts ∷ columns ∷ messages ∷ event_names ∷ cycles ∷ []) s → 5 ≤ group_of s
+low_names s h = elim h [ inl m ↦ omega (arith, in_two NamedTwice Undeclared s refl m) | inr n ↦ omega (arith, low_references s n) ]
+
+low_limits : (s : Rule) → IsInSome (limits ∷ names ∷ references ∷ sizes ∷ parts ∷ columns ∷ messages ∷ event_names ∷ cycles ∷ []) s → 4 ≤ group_of s
 low_limits s h = elim h [ inl m ↦ omega (arith, in_three Charts Instances LoopBound s refl refl m) | inr n ↦ omega (arith, low_names s n) ]
 
 are_groups : AreGroups group_of all_groups
-are_groups = (λ r s m n. in_one NotBuilt r m ∙ sym (in_one NotBuilt s n), λ r s m n. omega (arith, in_one NotBuilt r m, low_limits s n), (λ r s m n. in_three Charts Instances LoopBound r refl refl m ∙ sym (in_three Charts Instances LoopBound s refl refl n), λ r s m n. omega (arith, in_three Charts Instances LoopBound r refl refl m, low_names s n), (λ r s m n. in_two NamedTwice Undeclared r refl m ∙ sym (in_two NamedTwice Undeclared s refl n), λ r s m n. omega (arith, in_two NamedTwice Undeclared r refl m, low_sizes s n), (λ r s m n. in_two Size Total r refl m ∙ sym (in_two Size Total s refl n), λ r s m n. omega (arith, in_two Size Total r refl m, low_parts s n), (λ r s m n. in_three NotShared OperandsDiffer ExcPlace r refl refl m ∙ sym (in_three NotShared OperandsDiffer ExcPlace s refl refl n), λ r s m n. omega (arith, in_three NotShared OperandsDiffer ExcPlace r refl refl m, low_columns s n), (λ r s m n. in_one Crossed r m ∙ sym (in_one Crossed s n), λ r s m n. omega (arith, in_one Crossed r m, low_messages s n), (λ r s m n. in_one Unmatched r m ∙ sym (in_one Unmatched s n), λ r s m n. omega (arith, in_one Unmatched r m, low_event_names s n), (λ r s m n. in_two UnknownEvent EventNamedTwice r refl m ∙ sym (in_two UnknownEvent EventNamedTwice s refl n), λ r s m n. omega (arith, in_two UnknownEvent EventNamedTwice r refl m, low_cycles s n), (λ r s m n. in_one Cyclic r m ∙ sym (in_one Cyclic s n), λ r s m n. absurd n, tt)))))))))
+are_groups = (λ r s m n. in_one NotBuilt r m ∙ sym (in_one NotBuilt s n), λ r s m n. omega (arith, in_one NotBuilt r m, low_limits s n), (λ r s m n. in_three Charts Instances LoopBound r refl refl m ∙ sym (in_three Charts Instances LoopBound s refl refl n), λ r s m n. omega (arith, in_three Charts Instances LoopBound r refl refl m, low_names s n), (λ r s m n. in_two NamedTwice Undeclared r refl m ∙ sym (in_two NamedTwice Undeclared s refl n), λ r s m n. omega (arith, in_two NamedTwice Undeclared r refl m, low_references s n), (λ r s m n. in_three MissingChart Recursive Uncovered r refl refl m ∙ sym (in_three MissingChart Recursive Uncovered s refl refl n), λ r s m n. omega (arith, in_three MissingChart Recursive Uncovered r refl refl m, low_sizes s n), (λ r s m n. in_three ExpandedNesting Size Total r refl refl m ∙ sym (in_three ExpandedNesting Size Total s refl refl n), λ r s m n. omega (arith, in_three ExpandedNesting Size Total r refl refl m, low_parts s n), (λ r s m n. in_parts r m ∙ sym (in_parts s n), λ r s m n. omega (arith, in_parts r m, low_columns s n), (λ r s m n. in_one Crossed r m ∙ sym (in_one Crossed s n), λ r s m n. omega (arith, in_one Crossed r m, low_messages s n), (λ r s m n. in_one Unmatched r m ∙ sym (in_one Unmatched s n), λ r s m n. omega (arith, in_one Unmatched r m, low_event_names s n), (λ r s m n. in_two UnknownEvent EventNamedTwice r refl m ∙ sym (in_two UnknownEvent EventNamedTwice s refl n), λ r s m n. omega (arith, in_two UnknownEvent EventNamedTwice r refl m, low_cycles s n), (λ r s m n. in_one Cyclic r m ∙ sym (in_one Cyclic s n), λ r s m n. absurd n, tt))))))))))
 
 -- ---- what charts come to
 
@@ -172,13 +189,33 @@ pub kept_both : (charts : List Chart) (groups others : List (List Rule)) → All
 kept_both charts [] others kept h = h
 kept_both charts (rules ∷ groups) others kept h = (kept.0, kept_both charts groups others kept.1 h)
 
--- where the first four groups are kept, the first fault of the text is that of its last group
-pub first_of_text : (charts : List Chart) (o : Option (Broken Rule)) → IsBest number_of (BreaksOf charts) forms None → IsBest number_of (BreaksOf charts) limits None → IsBest number_of (BreaksOf charts) names None
-    → IsBest number_of (BreaksOf charts) sizes None → IsBest number_of (BreaksOf charts) parts o → IsFirstOf charts text_groups o
-first_of_text charts None a b c d h = (a, (b, (c, (d, (h, tt)))))
-first_of_text charts (Some fault) a b c d h = inr (a, inr (b, inr (c, inr (d, inl h))))
+pub kept_left : (charts : List Chart) (groups others : List (List Rule)) → AllKept (BreaksOf charts) (groups ++ others) → AllKept (BreaksOf charts) groups
+kept_left charts [] others kept = tt
+kept_left charts (rules ∷ groups) others kept = (kept.0, kept_left charts groups others kept.1)
 
--- where columns don't cross and each message has its partner, the first fault of the bodies is one of names or a cycle
+pub kept_right : (charts : List Chart) (groups others : List (List Rule)) → AllKept (BreaksOf charts) (groups ++ others) → AllKept (BreaksOf charts) others
+kept_right charts [] others kept = kept
+kept_right charts (rules ∷ groups) others kept = kept_right charts groups others kept.1
+
+-- where all groups but the last are kept, the first fault of the text is that of its last group
+pub first_of_text : (charts : List Chart) (o : Option (Broken Rule)) → IsBest number_of (BreaksOf charts) forms None → IsBest number_of (BreaksOf charts) limits None → IsBest number_of (BreaksOf charts) names None
+    → IsFirstOf charts link_groups None → IsBest number_of (BreaksOf charts) parts o → IsFirstOf charts text_groups o
+first_of_text charts None a b c d h = (a, (b, (c, (d.0, (d.1.0, (h, tt))))))
+first_of_text charts (Some fault) a b c d h = inr (a, inr (b, inr (c, inr (d.0, inr (d.1.0, inl h)))))
+
+-- the first fault of links, where the groups before are kept
+pub first_link : (charts : List Chart) (fault : Broken Rule) → IsBest number_of (BreaksOf charts) forms None → IsBest number_of (BreaksOf charts) limits None → IsBest number_of (BreaksOf charts) names None
+    → IsFirstOf charts link_groups (Some fault) → IsFirstOf charts text_groups (Some fault)
+first_link charts fault a b c (inl h) = inr (a, inr (b, inr (c, inl h)))
+first_link charts fault a b c (inr (k, inl h)) = inr (a, inr (b, inr (c, inr (k, inl h))))
+first_link charts fault a b c (inr (k, inr n)) = absurd n.1
+
+-- of links: where references keep the rules, the first fault is one of sizes
+pub first_of_links : (charts : List Chart) (o : Option (Broken Rule)) → IsBest number_of (BreaksOf charts) references None → IsBest number_of (BreaksOf charts) sizes o → IsFirstOf charts link_groups o
+first_of_links charts None a h = (a, (h, tt))
+first_of_links charts (Some fault) a h = inr (a, inl h)
+
+-- where columns don't cross and each message has its partner, the first fault of the bodies is one of names
 pub columns_kept : (charts : List Chart) → IsLeast (InOne CrossesAt charts) None → Keeps (BreaksOf charts) columns
 columns_kept charts none = one_best charts Crossed None none
 
@@ -191,13 +228,17 @@ crossed_first charts p h = inl (one_best charts Crossed (Some p) h)
 pub alone_first : (charts : List Chart) (p : Place) → IsLeast (InOne CrossesAt charts) None → IsLeast (InOne IsAloneAt charts) (Some p) → IsFirstOf charts body_groups (Some (record { rule = Unmatched; place = p }))
 alone_first charts p none h = inr (columns_kept charts none, inl (one_best charts Unmatched (Some p) h))
 
-pub event_name_first : (charts : List Chart) (fault : Broken Rule) → IsLeast (InOne CrossesAt charts) None → IsLeast (InOne IsAloneAt charts) None → IsBest number_of (BreaksOf charts) event_names (Some fault) → IsFirstOf charts body_groups (Some fault)
-event_name_first charts fault none matched h = inr (columns_kept charts none, inr (messages_kept charts matched, inl h))
+pub event_name_first : (charts : List Chart) (o : Option (Broken Rule)) → IsLeast (InOne CrossesAt charts) None → IsLeast (InOne IsAloneAt charts) None → IsBest number_of (BreaksOf charts) event_names o → IsFirstOf charts body_groups o
+event_name_first charts None none matched h = (columns_kept charts none, (messages_kept charts matched, (h, tt)))
+event_name_first charts (Some fault) none matched h = inr (columns_kept charts none, inr (messages_kept charts matched, inl h))
 
-pub cycle_first : (charts : List Chart) (o : Option Place) → IsLeast (InOne CrossesAt charts) None → IsLeast (InOne IsAloneAt charts) None → IsBest number_of (BreaksOf charts) event_names None → IsLeast (InOne IsCyclicAt charts) o
-    → IsFirstOf charts body_groups (fault_of Cyclic o)
-cycle_first charts None none matched names h = (columns_kept charts none, (messages_kept charts matched, (names, (one_best charts Cyclic None h, tt))))
-cycle_first charts (Some p) none matched names h = inr (columns_kept charts none, inr (messages_kept charts matched, inr (names, inl (one_best charts Cyclic (Some p) h))))
+pub cycle_kept : (charts : List Chart) → IsLeast (IsCyclicAt charts) None → AllKept (BreaksOf charts) table_groups
+cycle_kept charts h = (one_best charts Cyclic None h, tt)
+
+pub cycle_first : (charts : List Chart) (fault : Broken Rule) → fault.rule ≡ Cyclic → IsLeast (IsCyclicAt charts) (Some fault.place) → IsFirst number_of (BreaksOf charts) table_groups fault
+cycle_first charts fault e h =
+    let same : record { rule = Cyclic; place = fault.place } ≡ fault = λ i. record { rule = sym e i; place = fault.place } in
+    subst (λ (f : Broken Rule). IsFirst number_of (BreaksOf charts) table_groups f) same (inl (one_best charts Cyclic (Some fault.place) h))
 
 -- ---- documents
 
@@ -226,8 +267,8 @@ entries_long [] (e ∷ table) h = elim h [ ]
 entries_long (c ∷ charts) [] h = elim h [ ]
 entries_long (c ∷ charts) (e ∷ table) (entry_and is others) = omega (arith, entries_long charts table others)
 
-pub few : (charts : List Chart) (entries : List code.ChartEntry) → AllKept (BreaksOf charts) all_groups → AreEntriesOf instances charts (table_view entries) → length entries ≤ CHARTS
-few charts entries kept are = elim (cases_lt CHARTS (length charts)) [
-  | inl lt ↦ let s = some_at charts CHARTS lt in absurd (free charts kept Charts s.0.place (ap (option_map (λ (c : Chart). c.place)) s.1))
+pub few : (charts : List Chart) (entries : List code.ChartEntry) → AllKept (BreaksOf charts) text_groups → AreEntriesOf instances charts (table_view entries) → length entries ≤ CHARTS
+few charts entries texts are = elim (cases_lt CHARTS (length charts)) [
+  | inl lt ↦ let s = some_at charts CHARTS lt in absurd (texts.1.0 Charts s.0.place (inl refl) (ap (option_map (λ (c : Chart). c.place)) s.1))
   | inr ge ↦ omega (arith, entries_long charts (table_view entries) are, length-map entries entry_view, ge)
 ]

@@ -1,19 +1,14 @@
 -- What charts whose forms are built are woven to.
-use Rattle.std.proofs.Common.{◌≡◌, ℕ, List, Option, Some, None, inr, refl, sym, subst, ap, ◌∙◌}
+use Rattle.std.proofs.Common.{◌≡◌, ℕ, List, Option, Some, None, refl, sym, subst, ap, ◌∙◌}
 use Rattle.woven_laws.specs.BuiltCharts.{BuiltChartsAreKnown}
 use Rattle.chart_forms.specs.NotBuilt.{IsBuilt}
-use Rattle.event_order.specs.OrderLaws.{RanksRise}
-use Rattle.msc_meaning.specs.BodyLevels.{BodyLevel}
-use Rattle.event_order.specs.Precedence.{IsCyclic}
-use Rattle.event_order.specs.RankedBodies.{CanBeRanked}
 use Rattle.general_ordering.specs.EventNames.{BreaksNameRule, EventNameRule}
 use Rattle.level_pieces.proofs.LeastLaws.{least_same}
 use Rattle.level_weaving.proofs.OneBody.{one_body}
 use Rattle.level_weaving.specs.WeaveFaults.{IsAloneIn}
 use Rattle.level_weaving.specs.declared.weaving.WeaveFault.TheVariants as fault
-use Rattle.msc_acceptance.specs.ChartLevels.{AreLevelsOf}
-use Rattle.msc_acceptance.specs.ChartFaults.{ContentCrosses, CrossesAt, IsAloneAt, IsBodyOf, IsCyclicAt, IsMisnamedAt}
-use Rattle.msc_acceptance.specs.Deciding.{ContentRanked, IsWeaveFault, IsWovenTo}
+use Rattle.msc_acceptance.specs.ChartFaults.{ContentCrosses, CrossesAt, IsAloneAt, IsBodyOf, IsMisnamedAt}
+use Rattle.msc_acceptance.specs.Deciding.{IsWeaveFault, IsWovenTo}
 use Rattle.msc_base.specs.Places.{IsLeast}
 use Rattle.msc_base.specs.declared.place.Place.{Place}
 use Rattle.msc_instances.specs.Instances.{instances}
@@ -21,8 +16,8 @@ use Rattle.msc_meaning.specs.Bodies.{Body}
 use Rattle.msc_meaning.specs.Crossings.{ColumnsCross}
 use Rattle.msc_meaning.specs.Levels.{IsWovenLevel}
 use Rattle.msc_meaning.specs.Pieces.{Piece, statements_pieces}
-use Rattle.msc_meaning.specs.Tables.{ChartEntry, Woven, Basic, HighLevel}
-use Rattle.msc_meaning.specs.WovenTables.{IsEntryOf, IsWovenContent}
+use Rattle.msc_meaning.specs.Tables.{Woven, Basic, HighLevel}
+use Rattle.msc_meaning.specs.WovenTables.{IsWovenContent}
 use Rattle.msc_tree.specs.Charts.{Chart, Content}
 use Rattle.msc_tree.specs.Charts as chart
 use Rattle.msc_tree.specs.Statements.{Statement, statements}
@@ -97,21 +92,8 @@ none_cross c b h = λ q g. h.woven.uncrossed q (crosses_in c (record { held = h.
 pub none_alone : (c : Chart) (b : Body) → IsWovenTo c b → IsLeast (IsAloneAt c) None
 none_alone c b h = λ q a. h.woven.matched q (alone_in c (record { held = h.held; is = h.is }) q a)
 
--- where the events of a chart can be ranked its order isn't cyclic
-pub never_cyclic : RanksRise → (c : Chart) (levels : List BodyLevel) (h : AreLevelsOf c levels) → CanBeRanked h.body → IsLeast (IsCyclicAt c) None
-never_cyclic law c levels h r = λ q g. law.apart h.body r (subst IsCyclic (same_body c g.body h.body g.woven h.woven) g.cyclic)
-
-pub is_cyclic_at : (c : Chart) (levels : List BodyLevel) (h : AreLevelsOf c levels) → IsCyclic h.body → IsLeast (IsCyclicAt c) (Some c.place)
-is_cyclic_at c levels h r = (record { body = h.body; woven = h.woven; cyclic = r; there = refl }, (λ q g. inr g.there))
-
 -- the events of a chart that break a rule on names are those of its body
 pub misnamed_least : (rule : EventNameRule) (c : Chart) (b : Body) (o : Option Place) → IsBodyOf c b → IsLeast (BreaksNameRule rule b) o → IsLeast (IsMisnamedAt rule c) o
 misnamed_least rule c b o h least =
     least_same (BreaksNameRule rule b) (IsMisnamedAt rule c) o (λ p m. record { body = b; woven = h; misnamed = m })
     (λ p g. subst (λ (x : Body). BreaksNameRule rule x p) (same_body c g.body b g.woven h) g.misnamed) least
-
-content_ranked : (names : List (List ℕ)) (x : Content) (b : Body) (w : Woven) → IsWovenContent names x (Basic b) → IsWovenContent names x w → CanBeRanked b → ContentRanked w
-content_ranked names x b w h g r = subst ContentRanked (one_content names x (Basic b) w h g) r
-
-pub ranked_content : (c : Chart) (b : Body) (e : ChartEntry) → IsBodyOf c b → IsEntryOf (instances c) c e → CanBeRanked b → ContentRanked e.content
-ranked_content c b e h is r = content_ranked (instances c) c.content b e.content h is.content r

@@ -9,3 +9,8 @@ pub mod AcceptedLaws
 pub mod ListLaws
 pub mod ChartLists
 pub mod SingleLaws
+pub mod LinkLaws
+pub mod CycleLaws
+pub mod PlainLaws
+pub mod ExtentLaws
+pub mod OneTable

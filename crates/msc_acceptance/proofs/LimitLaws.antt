@@ -7,12 +7,8 @@ use Rattle.std.proofs.lemmas.Bool.{or_right}
 use Rattle.msc_base.specs.Lists.{AreDifferent, IsAmong}
 use Rattle.msc_base.specs.NameTables.{with_name}
 use Rattle.msc_base.specs.declared.limits.TheConstants.Limits.{INSTANCES}
-use Rattle.msc_base.specs.declared.place.Place.{Place}
 use Rattle.msc_base.proofs.NameFacts.{any_folded, any_from_one, one_from_any}
-use Rattle.msc_tree.specs.Charts.{Chart}
-use Rattle.msc_instances.specs.Instances.{instances}
-use Rattle.level_pieces.proofs.ColumnLaws.{instances_differ}
-use Rattle.msc_acceptance.specs.Rules.{HasFurther, passes}
+use Rattle.msc_acceptance.specs.Rules.{passes}
 
 -- ---- different names among others are no more than these
 
@@ -37,7 +33,7 @@ without (n ∷ names) name (inr h) =
       kept = λ other among ne. elim among [ inl same ↦ inl same | inr r ↦ inr (w.kept other r ne) ];
     }
 
-no_more : (names others : List (List ℕ)) → AreDifferent names → ((name : List ℕ) → IsAmong names name → IsAmong others name) → length names ≤ length others
+pub no_more : (names others : List (List ℕ)) → AreDifferent names → ((name : List ℕ) → IsAmong names name → IsAmong others name) → length names ≤ length others
 no_more [] others d among = omega arith
 no_more (n ∷ names) others d among =
     let w = without others n (among n (inl refl)) in
@@ -46,10 +42,10 @@ no_more (n ∷ names) others d among =
 
 -- ---- instances
 
-folded : (seen names : List (List ℕ)) (m : List ℕ) → IsAmong names m → IsAmong (fold with_name seen names) m
+pub folded : (seen names : List (List ℕ)) (m : List ℕ) → IsAmong names m → IsAmong (fold with_name seen names) m
 folded seen names m h = one_from_any (fold with_name seen names) m (any_folded seen names m ∙ or_right (list_any (bytes_eq m) seen) (list_any (bytes_eq m) names) (any_from_one names m h))
 
-not_passed : (before now : ℕ) → before ≤ INSTANCES → (passes INSTANCES before now ≡ true → ⊥) → now ≤ INSTANCES
+pub not_passed : (before now : ℕ) → before ≤ INSTANCES → (passes INSTANCES before now ≡ true → ⊥) → now ≤ INSTANCES
 not_passed before now le none = by (nat_lt INSTANCES now) refl
   where
     by : (b : Bool) → nat_lt INSTANCES now ≡ b → now ≤ INSTANCES
@@ -57,16 +53,3 @@ not_passed before now le none = by (nat_lt INSTANCES now) refl
         let f : nat_lt INSTANCES before ≡ false = grind (arith, nat_tests) in
         absurd (none (ap (λ (c : Bool). not c && nat_lt INSTANCES now) f ∙ e))
     by false e = grind (arith, nat_tests)
-
--- a chart that passes no limit has no more instances than it allows
-pub instances_few : (seen : List (List ℕ)) (charts : List Chart) → length seen ≤ INSTANCES → ((p : Place) → HasFurther seen charts p → ⊥) → (c : Chart) → IsAmong charts c → length (instances c) ≤ INSTANCES
-instances_few seen [] le none c h = absurd h
-instances_few seen (d ∷ charts) le none c h =
-    let all = not_passed (length seen) (length (fold with_name seen (instances d))) le (λ e. none d.place (inl (refl, e))) in
-    elim h [
-      | inl same ↦
-          let one : length (instances d) ≤ INSTANCES =
-          let few = no_more (instances d) (fold with_name seen (instances d)) (instances_differ d (instances d) refl) (λ m g. folded seen (instances d) m g) in omega (arith, few, all) in
-          subst (λ (x : Chart). length (instances x) ≤ INSTANCES) (sym same) one
-      | inr r ↦ instances_few (fold with_name seen (instances d)) charts all (λ p g. none p (inr g)) c r
-    ]

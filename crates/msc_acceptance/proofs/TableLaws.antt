@@ -4,11 +4,14 @@ use Rattle.std.proofs.lemmas.List.{map-append, take_all, take_more}
 use Rattle.std.proofs.lemmas.Bool.{cases_lt}
 use Rattle.chart_forms.specs.LoopBounds.{HasHighBound}
 use Rattle.chart_forms.specs.NotBuilt.{IsNotBuilt}
+use Rattle.creation_rules.specs.Creating.{ChartCreatesTwice}
+use Rattle.creation_rules.specs.Placing.{ChartPlacesCreation}
+use Rattle.creation_rules.specs.Stopping.{ChartGoesOn}
 use Rattle.general_ordering.specs.EventNames.{Unknown, Twice}
 use Rattle.level_weaving.specs.Exceptions.{IsMisplaced}
 use Rattle.msc_acceptance.proofs.WalkLaws.{part_step, walk_end}
-use Rattle.msc_acceptance.specs.ChartFaults.{CrossesAt, IsAloneAt, IsCyclicAt, IsMisnamedAt}
-use Rattle.msc_acceptance.specs.Deciding.{AreAllRanked, AreEarlier, AreFaultsIn, AreFaultsOf, AreOwnPlaces, AreOwnTexts, ArePartPlaces, AreTextPlaces, ContentRanked, IsNextWoven, IsTakenIn, IsWhole, earlier_of}
+use Rattle.msc_acceptance.specs.ChartFaults.{CrossesAt, IsAloneAt, IsMisnamedAt}
+use Rattle.msc_acceptance.specs.Deciding.{AreEarlier, AreFaultsIn, AreFaultsOf, AreOwnPlaces, AreOwnTexts, ArePartPlaces, AreTextPlaces, IsNextWoven, IsTakenIn, IsWhole, earlier_of}
 use Rattle.msc_acceptance.specs.Rules.{InOne}
 use Rattle.msc_acceptance.specs.declared.parts.PartPlaces.{PartPlaces}
 use Rattle.msc_acceptance.specs.declared.reading.TextPlaces.{TextPlaces}
@@ -52,13 +55,19 @@ pub record AreTextsSoFar (list : List RawChart) (k : ℕ) (places : TextPlaces) 
   pub high_bound : LeastSoFar HasHighBound list k places.high_bound
   pub twice : LeastSoFar ChartNamesTwice list k places.twice
   pub undeclared : LeastSoFar ChartNamesOther list k places.undeclared
+  pub creation : LeastSoFar ChartPlacesCreation list k places.creation
+  pub child : LeastSoFar ChartCreatesTwice list k places.child
+  pub behind : LeastSoFar ChartGoesOn list k places.behind
 
-pub texts_start : (list : List RawChart) → AreTextsSoFar list 0 (record { not_built = None; high_bound = None; twice = None; undeclared = None })
+pub texts_start : (list : List RawChart) → AreTextsSoFar list 0 (record { not_built = None; high_bound = None; twice = None; undeclared = None; creation = None; child = None; behind = None })
 texts_start list = record {
   not_built = narrows_start (InOne IsNotBuilt (map chart_view list));
   high_bound = narrows_start (InOne HasHighBound (map chart_view list));
   twice = narrows_start (InOne ChartNamesTwice (map chart_view list));
   undeclared = narrows_start (InOne ChartNamesOther (map chart_view list));
+  creation = narrows_start (InOne ChartPlacesCreation (map chart_view list));
+  child = narrows_start (InOne ChartCreatesTwice (map chart_view list));
+  behind = narrows_start (InOne ChartGoesOn (map chart_view list));
 }
 
 -- the places of both
@@ -67,6 +76,9 @@ pub record AreEarlierTexts (a b c : TextPlaces) : Type 0 where
   pub high_bound : c.high_bound ≡ earlier_of a.high_bound b.high_bound
   pub twice : c.twice ≡ earlier_of a.twice b.twice
   pub undeclared : c.undeclared ≡ earlier_of a.undeclared b.undeclared
+  pub creation : c.creation ≡ earlier_of a.creation b.creation
+  pub child : c.child ≡ earlier_of a.child b.child
+  pub behind : c.behind ≡ earlier_of a.behind b.behind
 
 pub texts_more : (list : List RawChart) (k : ℕ) (c : RawChart) (best found next : TextPlaces) → k < length list → c ≡ get_or list k c → AreOwnTexts (chart_view c) found → AreEarlierTexts best found next
     → AreTextsSoFar list k best → AreTextsSoFar list (k + 1) next
@@ -75,6 +87,9 @@ texts_more list k c best found next low is own made h = record {
   high_bound = least_more HasHighBound list k c best.high_bound found.high_bound next.high_bound low is own.high_bound made.high_bound h.high_bound;
   twice = least_more ChartNamesTwice list k c best.twice found.twice next.twice low is own.twice made.twice h.twice;
   undeclared = least_more ChartNamesOther list k c best.undeclared found.undeclared next.undeclared low is own.undeclared made.undeclared h.undeclared;
+  creation = least_more ChartPlacesCreation list k c best.creation found.creation next.creation low is own.creation made.creation h.creation;
+  child = least_more ChartCreatesTwice list k c best.child found.child next.child low is own.child made.child h.child;
+  behind = least_more ChartGoesOn list k c best.behind found.behind next.behind low is own.behind made.behind h.behind;
 }
 
 pub texts_all : (list : List RawChart) (k : ℕ) (places : TextPlaces) → (k < length list → ⊥) → AreTextsSoFar list k places → AreTextPlaces (map chart_view list) places
@@ -83,6 +98,9 @@ texts_all list k places n h = record {
   high_bound = least_all HasHighBound list k places.high_bound n h.high_bound;
   twice = least_all ChartNamesTwice list k places.twice n h.twice;
   undeclared = least_all ChartNamesOther list k places.undeclared n h.undeclared;
+  creation = least_all ChartPlacesCreation list k places.creation n h.creation;
+  child = least_all ChartCreatesTwice list k places.child n h.child;
+  behind = least_all ChartGoesOn list k places.behind n h.behind;
 }
 
 -- ---- parts
@@ -144,7 +162,6 @@ pub record AreFaultsSoFar (list : List RawChart) (k : ℕ) (faults : BodyFaults)
   pub alone : faults.crossed ≡ None → LeastSoFar IsAloneAt list k faults.alone
   pub unknown : IsWhole faults → LeastSoFar (IsMisnamedAt Unknown) list k faults.unknown
   pub twice : IsWhole faults → LeastSoFar (IsMisnamedAt Twice) list k faults.twice
-  pub cyclic : IsWhole faults → LeastSoFar IsCyclicAt list k faults.cyclic
 
 -- no place so far
 pub record HasNone (faults : BodyFaults) : Type 0 where
@@ -152,7 +169,6 @@ pub record HasNone (faults : BodyFaults) : Type 0 where
   pub alone : faults.alone ≡ None
   pub unknown : faults.unknown ≡ None
   pub twice : faults.twice ≡ None
-  pub cyclic : faults.cyclic ≡ None
 
 pub faults_start : (list : List RawChart) (faults : BodyFaults) → HasNone faults → AreFaultsSoFar list 0 faults
 faults_start list faults none = record {
@@ -160,7 +176,6 @@ faults_start list faults none = record {
   alone = λ e. least_start IsAloneAt list faults.alone none.alone;
   unknown = λ w. least_start (IsMisnamedAt Unknown) list faults.unknown none.unknown;
   twice = λ w. least_start (IsMisnamedAt Twice) list faults.twice none.twice;
-  cyclic = λ w. least_start IsCyclicAt list faults.cyclic none.cyclic;
 }
 
 pub faults_more : (list : List RawChart) (k : ℕ) (c : RawChart) (best found next : BodyFaults) → k < length list → c ≡ get_or list k c → AreFaultsOf (chart_view c) found → AreEarlier best found next
@@ -173,8 +188,6 @@ faults_more list k c best found next low is own made h = record {
       least_more (IsMisnamedAt Unknown) list k c best.unknown found.unknown next.unknown low is (own.unknown both.1) made.unknown (h.unknown both.0);
   twice = λ w. let both = both_whole best found next made w in
       least_more (IsMisnamedAt Twice) list k c best.twice found.twice next.twice low is (own.twice both.1) made.twice (h.twice both.0);
-  cyclic = λ w. let both = both_whole best found next made w in
-      least_more IsCyclicAt list k c best.cyclic found.cyclic next.cyclic low is (own.cyclic both.1) made.cyclic (h.cyclic both.0);
 }
 
 pub faults_all : (list : List RawChart) (k : ℕ) (faults : BodyFaults) → (k < length list → ⊥) → AreFaultsSoFar list k faults → AreFaultsIn (map chart_view list) faults
@@ -183,7 +196,6 @@ faults_all list k faults n h = record {
   alone = λ e. least_all IsAloneAt list k faults.alone n (h.alone e);
   unknown = λ w. least_all (IsMisnamedAt Unknown) list k faults.unknown n (h.unknown w);
   twice = λ w. least_all (IsMisnamedAt Twice) list k faults.twice n (h.twice w);
-  cyclic = λ w. least_all IsCyclicAt list k faults.cyclic n (h.cyclic w);
 }
 
 -- ---- their entries
@@ -192,68 +204,47 @@ faults_all list k faults n h = record {
 abbrev pub MadeSoFar : List RawChart → BodyFaults → List code.ChartEntry → Type 0
 MadeSoFar charts faults entries = IsWhole faults → AreEntriesOf instances (map chart_view charts) (table_view entries)
 
--- where no order is cyclic either, the events of each can be ranked
-abbrev pub RankedSoFar : BodyFaults → List code.ChartEntry → Type 0
-RankedSoFar faults entries = IsWhole faults → faults.cyclic ≡ None → AreAllRanked (table_view entries)
-
-pub record AreMadeSoFar (charts : List RawChart) (faults : BodyFaults) (held : List code.ChartEntry) : Type 0 where
-  pub entries : MadeSoFar charts faults held
-  pub ranked : RankedSoFar faults held
-
 entries_snoc : (charts : List Chart) (table : Table) (c : Chart) (e : ChartEntry) → AreEntriesOf instances charts table → IsEntryOf (instances c) c e → AreEntriesOf instances (charts ++ c ∷ []) (table ++ e ∷ [])
 entries_snoc [] [] c e no_entries is = entry_and is no_entries
 entries_snoc [] (f ∷ table) c e h is = elim h [ ]
 entries_snoc (d ∷ charts) [] c e h is = elim h [ ]
 entries_snoc (d ∷ charts) (f ∷ table) c e (entry_and g h) is = entry_and g (entries_snoc charts table c e h is)
 
-ranked_snoc : (table : Table) (e : ChartEntry) → AreAllRanked table → ContentRanked e.content → AreAllRanked (table ++ e ∷ [])
-ranked_snoc [] e h r = (r, tt)
-ranked_snoc (f ∷ table) e h r = (h.0, ranked_snoc table e h.1 r)
-
 -- one entry more
 pub made_more : (list : List RawChart) (k : ℕ) (c : RawChart) (best found next : BodyFaults) (entries after : List code.ChartEntry) (e : code.ChartEntry) → k < length list → c ≡ get_or list k c
-    → AreEarlier best found next → AreMadeSoFar (take k list) best entries → IsEntryOf (instances (chart_view c)) (chart_view c) (entry_view e) → (found.cyclic ≡ None → ContentRanked (entry_view e).content) → after ≡ entries ++ e ∷ []
-    → AreMadeSoFar (take (k + 1) list) next after
-made_more list k c best found next entries after e low is earlier h entry ranked made =
+    → AreEarlier best found next → MadeSoFar (take k list) best entries → IsEntryOf (instances (chart_view c)) (chart_view c) (entry_view e) → after ≡ entries ++ e ∷ []
+    → MadeSoFar (take (k + 1) list) next after
+made_more list k c best found next entries after e low is earlier h entry made = λ w.
     let charts : map chart_view (take (k + 1) list) ≡ map chart_view (take k list) ++ chart_view c ∷ [] =
     ap (map chart_view) (take_more list k c low ∙ ap (λ (x : RawChart). take k list ++ x ∷ []) (sym is)) ∙ map-append chart_view (take k list) (c ∷ []) in
     let longer : table_view after ≡ table_view entries ++ entry_view e ∷ [] = ap table_view made ∙ map-append entry_view entries (e ∷ []) in
-    record {
-      entries = λ w.
-          subst (λ (cs : List Chart). AreEntriesOf instances cs (table_view after)) (sym charts)
-          (subst (λ (t : Table). AreEntriesOf instances (map chart_view (take k list) ++ chart_view c ∷ []) t) (sym longer)
-          (entries_snoc (map chart_view (take k list)) (table_view entries) (chart_view c) (entry_view e) (h.entries (both_whole best found next earlier w).0) entry));
-      ranked = λ w none.
-          let both = none_yet best.cyclic found.cyclic (sym earlier.cyclic ∙ none) in
-          subst AreAllRanked (sym longer) (ranked_snoc (table_view entries) (entry_view e) (h.ranked (both_whole best found next earlier w).0 both.0) (ranked both.1));
-    }
+    subst (λ (cs : List Chart). AreEntriesOf instances cs (table_view after)) (sym charts)
+    (subst (λ (t : Table). AreEntriesOf instances (map chart_view (take k list) ++ chart_view c ∷ []) t) (sym longer)
+    (entries_snoc (map chart_view (take k list)) (table_view entries) (chart_view c) (entry_view e) (h (both_whole best found next earlier w).0) entry))
 
 -- once a chart has no body nothing is owed
-pub made_none : (charts : List RawChart) (best found next : BodyFaults) (entries : List code.ChartEntry) → AreEarlier best found next → (IsWhole found → ⊥) → AreMadeSoFar charts next entries
-made_none charts best found next entries made barred = record {
-  entries = λ w. absurd (barred (both_whole best found next made w).1);
-  ranked = λ w none. absurd (barred (both_whole best found next made w).1);
-}
+pub made_none : (charts : List RawChart) (best found next : BodyFaults) (entries : List code.ChartEntry) → AreEarlier best found next → (IsWhole found → ⊥) → MadeSoFar charts next entries
+made_none charts best found next entries made barred = λ w. absurd (barred (both_whole best found next made w).1)
 
 -- what the charts so far are woven to
 pub record AreWovenSoFar (list : List RawChart) (k : ℕ) (weaving : Weaving) : Type 0 where
   pub faults : AreFaultsSoFar list k weaving.faults
-  pub made : AreMadeSoFar (take k list) weaving.faults weaving.entries.items
+  pub made : MadeSoFar (take k list) weaving.faults weaving.entries.items
 
 -- one chart further
 pub woven_more : (list : List RawChart) (k : ℕ) (c : RawChart) (result : ChartResult) (old new : Weaving) → k < length list → c ≡ get_or list k c → IsNextWoven (chart_view c) result → IsTakenIn old result new
     → AreWovenSoFar list k old → AreWovenSoFar list (k + 1) new
 woven_more list k c (one.Entry entry found) old new low is woven taken h = record {
   faults = faults_more list k c old.faults found new.faults low is woven.1 taken.0 h.faults;
-  made = made_more list k c old.faults found new.faults old.entries.items new.entries.items entry low is taken.0 h.made woven.0 woven.2 taken.1;
+  made = made_more list k c old.faults found new.faults old.entries.items new.entries.items entry low is taken.0 h.made woven.0 taken.1;
 }
 woven_more list k c (one.Barred found) old new low is woven taken h = record {
   faults = faults_more list k c old.faults found new.faults low is woven.1 taken h.faults;
   made = made_none (take (k + 1) list) old.faults found new.faults new.entries.items taken woven.0;
 }
 
-pub made_all : (list : List RawChart) (faults : BodyFaults) (entries : List code.ChartEntry) (k : ℕ) → (k < length list → ⊥) → AreMadeSoFar (take k list) faults entries → AreMadeSoFar list faults entries
-made_all list faults entries k n h = subst (λ (l : List RawChart). AreMadeSoFar l faults entries) (take_all k list (omega (arith, le))) h
+pub made_all : (list : List RawChart) (faults : BodyFaults) (entries : List code.ChartEntry) (k : ℕ) → (k < length list → ⊥) → MadeSoFar (take k list) faults entries → MadeSoFar list faults entries
+made_all list faults entries k n h = subst (λ (l : List RawChart). MadeSoFar l faults entries) (take_all k list (omega (arith, le))) h
   where
     le : length list ≤ k
     le = elim (cases_lt k (length list)) [ inl lt ↦ absurd (n lt) | inr ge ↦ ge ]

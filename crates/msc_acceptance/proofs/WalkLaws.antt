@@ -1,10 +1,9 @@
 -- Walks over charts that keep the earliest place so far.
-use Rattle.std.proofs.Common.{◌≡◌, ◌⊎◌, inl, inr, ℕ, ◌<◌, ◌≤◌, ◌+◌, zero, suc, Bool, true, false, nat_lt, List, [], ◌∷◌, Option, Some, None, slice_get, get_or, drop, length, map, option_map, not, ◌&&◌, refl, sym, subst, ap, ap₂, ◌∙◌, arith}
-use Rattle.std.proofs.lemmas.Bool.Decides.{nat_tests}
+use Rattle.std.proofs.Common.{◌≡◌, ◌⊎◌, inl, inr, ℕ, ◌<◌, ◌+◌, zero, suc, Bool, true, List, [], ◌∷◌, Option, Some, None, slice_get, get_or, drop, length, map, option_map, refl, sym, subst, ap, ◌∙◌, arith}
 use Rattle.std.proofs.lemmas.Option.{slice_get-map}
 use Rattle.msc_base.specs.Lists.{IsAmong}
 use Rattle.msc_base.specs.Places.{IsLeast, earliest_if}
-use Rattle.msc_base.specs.declared.limits.TheConstants.Limits.{CHARTS, TOTAL_SIZE}
+use Rattle.msc_base.specs.declared.limits.TheConstants.Limits.{CHARTS}
 use Rattle.msc_base.specs.declared.place.Place.{Place}
 use Rattle.msc_base.proofs.PlaceFacts.{no_later_through}
 use Rattle.msc_base.proofs.Narrowing.{IsReached, Narrows, earliest_is, narrows_end, narrows_part, narrows_rest, narrows_step}
@@ -12,11 +11,10 @@ use Rattle.list_facts.proofs.Reading.{drop_read, drop_end}
 use Rattle.msc_tree.specs.Charts.{Chart}
 use Rattle.msc_tree.specs.Views.{chart_view}
 use Rattle.msc_tree.specs.declared.chart.RawChart.{RawChart}
-use Rattle.chart_forms.specs.ChartSizes.{size_of}
 use Rattle.chart_text.specs.WellFormed.{AreAllWellFormed, IsWellFormed}
 use Rattle.chart_forms.specs.NotBuilt.{IsBuilt, IsNotBuilt}
 use Rattle.msc_acceptance.specs.Deciding.{AreBuilt, earlier_of}
-use Rattle.msc_acceptance.specs.Rules.{InOne, IsFurther, PassesTotal, passes}
+use Rattle.msc_acceptance.specs.Rules.{InOne, IsFurther}
 
 pub split : (list : List RawChart) (k : ℕ) (c : RawChart) → k < length list → c ≡ get_or list k c → map chart_view (drop k list) ≡ chart_view c ∷ map chart_view (drop (k + 1) list)
 split list k c low is = ap (map chart_view) (drop_read list k c low is)
@@ -118,33 +116,3 @@ pub further_none : (list : List RawChart) → slice_get list CHARTS ≡ None →
 further_none list at = λ q h.
     let there : option_map (λ (x : Chart). x.place) (slice_get (map chart_view list) CHARTS) ≡ None = ap (option_map (λ (x : Chart). x.place)) (slice_get-map chart_view list CHARTS ∙ ap (option_map chart_view) at) in
     cc
-
--- ---- sums
-
-none_passes : (sum : ℕ) (charts : List Chart) (q : Place) → TOTAL_SIZE < sum → PassesTotal sum charts q → ⊥
-none_passes sum [] q lt h = h
-none_passes sum (c ∷ charts) q lt (inl h) =
-    let t : nat_lt TOTAL_SIZE sum ≡ true = grind (arith, nat_tests) in
-    let f : passes TOTAL_SIZE sum (sum + size_of c) ≡ false = ap (λ (b : Bool). not b && nat_lt TOTAL_SIZE (sum + size_of c)) t in
-    cc
-none_passes sum (c ∷ charts) q lt (inr h) = none_passes (sum + size_of c) charts q (omega arith) h
-
-pub total_passed : (all : Place → Type 0) (list : List RawChart) (k : ℕ) (c : RawChart) (sum : ℕ) → k < length list → c ≡ get_or list k c → sum ≤ TOTAL_SIZE → TOTAL_SIZE < sum + size_of (chart_view c)
-    → Narrows all (PassesTotal sum (map chart_view (drop k list))) None → IsLeast all (Some c.place)
-total_passed all list k c sum low is le lt h =
-    let f : nat_lt TOTAL_SIZE sum ≡ false = grind (arith, nat_tests) in
-    let t : nat_lt TOTAL_SIZE (sum + size_of (chart_view c)) ≡ true = grind (arith, nat_tests) in
-    let passed : passes TOTAL_SIZE sum (sum + size_of (chart_view c)) ≡ true = ap₂ (λ (a b : Bool). not a && b) f t in
-    let step : Narrows all (PassesTotal (sum + size_of (chart_view c)) (map chart_view (drop (k + 1) list))) (Some c.place) =
-    walk_step all (PassesTotal sum) (PassesTotal (sum + size_of (chart_view c)) (map chart_view (drop (k + 1) list))) list k c (passes TOTAL_SIZE sum (sum + size_of (chart_view c))) None (Some c.place) low is (λ q g. g) (λ q g. g)
-    (ap (λ (b : Bool). earliest_if b None c.place) (sym passed)) h in
-    narrows_end all (PassesTotal (sum + size_of (chart_view c)) (map chart_view (drop (k + 1) list))) (Some c.place) step (λ q g. none_passes (sum + size_of (chart_view c)) (map chart_view (drop (k + 1) list)) q lt g)
-
-pub total_step : (all : Place → Type 0) (list : List RawChart) (k : ℕ) (c : RawChart) (sum : ℕ) → k < length list → c ≡ get_or list k c → sum + size_of (chart_view c) ≤ TOTAL_SIZE
-    → Narrows all (PassesTotal sum (map chart_view (drop k list))) None → Narrows all (PassesTotal (sum + size_of (chart_view c)) (map chart_view (drop (k + 1) list))) None
-total_step all list k c sum low is le h =
-    let f : nat_lt TOTAL_SIZE (sum + size_of (chart_view c)) ≡ false = grind (arith, nat_tests) in
-    let g : nat_lt TOTAL_SIZE sum ≡ false = grind (arith, nat_tests) in
-    let kept : passes TOTAL_SIZE sum (sum + size_of (chart_view c)) ≡ false = ap₂ (λ (a b : Bool). not a && b) g f in
-    walk_step all (PassesTotal sum) (PassesTotal (sum + size_of (chart_view c)) (map chart_view (drop (k + 1) list))) list k c (passes TOTAL_SIZE sum (sum + size_of (chart_view c))) None None low is (λ q x. x) (λ q x. x)
-    (ap (λ (b : Bool). earliest_if b None c.place) (sym kept)) h

@@ -1,13 +1,20 @@
 -- Which documents are accepted, as which table of charts, and the first rule that another document breaks.
-use Rattle.std.specs.Prelude.{◌⊎◌, [], List}
+use Rattle.std.specs.Prelude.{◌⊎◌, [], List, map}
 use Rattle.msc_base.specs.declared.place.Place.{Place}
 use Rattle.msc_tree.specs.Charts.{Chart, Document}
 use Rattle.msc_rules.specs.declared.rule.Rule.{Rule}
 use Rattle.msc_rules.specs.declared.rule.Rule.TheVariants.{Bytes, BadByte, OpenString, OpenNote, LongName, Syntax, Unsupported, TooDeep, Charts, Instances, Nodes, LoopBound, NamedTwice, Undeclared, MissingChart, Recursive, Uncovered, ExpandedNesting, Size, Total, NotShared, OperandsDiffer, ExcPlace, Crossed, Unmatched, NoGate, GateTwice, GateWays, GateSplit, GateOnLoop, DecompositionMismatch, SharedPart, Inside, LocalEvent, UnknownEvent, EventNamedTwice, Cyclic, UnknownLabel, LabelNamedTwice, Endless, CreatePlace, CreateTwice, AfterStop, NotBuilt}
 use Rattle.msc_rules.specs.FirstFaults.{IsFirstFault, IsFaultless}
 use Rattle.msc_rules.specs.Rules.{group_of, number_of}
+use Rattle.chart_extents.specs.ExtentRules.{AreTooLarge, IsTooDeep, IsTooLarge}
+use Rattle.chart_extents.specs.Extents.{sized_of}
 use Rattle.chart_forms.specs.LoopBounds.{HasHighBound}
 use Rattle.chart_forms.specs.NotBuilt.{IsNotBuilt}
+use Rattle.chart_links.specs.References.{LeavesUncovered, MissesChart, Recurs}
+use Rattle.chart_links.specs.Summaries.{summary_of}
+use Rattle.creation_rules.specs.Creating.{ChartCreatesTwice}
+use Rattle.creation_rules.specs.Placing.{ChartPlacesCreation}
+use Rattle.creation_rules.specs.Stopping.{ChartGoesOn}
 use Rattle.level_weaving.specs.Exceptions.{IsMisplaced}
 use Rattle.shared_parts.specs.PartRules.{ChartBreaksPartRule}
 use Rattle.shared_parts.specs.declared.faults.PartRule.TheVariants as part
@@ -17,7 +24,7 @@ use Rattle.msc_acceptance.specs.ChartFaults.{CrossesAt, IsAloneAt, IsCyclicAt, I
 use Rattle.general_ordering.specs.EventNames.{Unknown, Twice}
 use Rattle.msc_instances.specs.Instances.{instances}
 use Rattle.msc_instances.specs.NameFaults.{ChartNamesOther, ChartNamesTwice}
-use Rattle.msc_acceptance.specs.Rules.{InOne, IsFurther, HasFurther, IsNamedAgain, IsLarge, PassesTotal}
+use Rattle.msc_acceptance.specs.Rules.{InOne, IsFurther, HasFurther, IsNamedAgain}
 
 -- the charts break the rule at that place
 abbrev pub BreaksOf : List Chart → Rule → Place → Type 0
@@ -27,16 +34,23 @@ BreaksOf charts Instances place = HasFurther [] charts place
 BreaksOf charts LoopBound place = InOne HasHighBound charts place
 BreaksOf charts NamedTwice place = IsNamedAgain [] charts place ⊎ InOne ChartNamesTwice charts place
 BreaksOf charts Undeclared place = InOne ChartNamesOther charts place
-BreaksOf charts Size place = InOne IsLarge charts place
-BreaksOf charts Total place = PassesTotal 0 charts place
+BreaksOf charts MissingChart place = MissesChart (map summary_of charts) place
+BreaksOf charts Recursive place = Recurs (map summary_of charts) place
+BreaksOf charts Uncovered place = LeavesUncovered (map summary_of charts) place
+BreaksOf charts ExpandedNesting place = IsTooDeep (map sized_of charts) place
+BreaksOf charts Size place = IsTooLarge (map sized_of charts) place
+BreaksOf charts Total place = AreTooLarge (map sized_of charts) place
 BreaksOf charts NotShared place = InOne (ChartBreaksPartRule part.NotShared) charts place
 BreaksOf charts OperandsDiffer place = InOne (ChartBreaksPartRule part.OperandsDiffer) charts place
 BreaksOf charts ExcPlace place = InOne IsMisplaced charts place
+BreaksOf charts CreatePlace place = InOne ChartPlacesCreation charts place
+BreaksOf charts CreateTwice place = InOne ChartCreatesTwice charts place
+BreaksOf charts AfterStop place = InOne ChartGoesOn charts place
 BreaksOf charts Crossed place = InOne CrossesAt charts place
 BreaksOf charts Unmatched place = InOne IsAloneAt charts place
 BreaksOf charts UnknownEvent place = InOne (IsMisnamedAt Unknown) charts place
 BreaksOf charts EventNamedTwice place = InOne (IsMisnamedAt Twice) charts place
-BreaksOf charts Cyclic place = InOne IsCyclicAt charts place
+BreaksOf charts Cyclic place = IsCyclicAt charts place
 -- rules on bytes, tokens and the grammar, which the reader of a text decides
 BreaksOf charts Bytes place = ⊥
 BreaksOf charts BadByte place = ⊥
@@ -48,10 +62,6 @@ BreaksOf charts (Unsupported form) place = ⊥
 BreaksOf charts TooDeep place = ⊥
 -- rules on forms that aren't built
 BreaksOf charts Nodes place = ⊥
-BreaksOf charts MissingChart place = ⊥
-BreaksOf charts Recursive place = ⊥
-BreaksOf charts Uncovered place = ⊥
-BreaksOf charts ExpandedNesting place = ⊥
 BreaksOf charts NoGate place = ⊥
 BreaksOf charts GateTwice place = ⊥
 BreaksOf charts GateWays place = ⊥
@@ -64,9 +74,6 @@ BreaksOf charts LocalEvent place = ⊥
 BreaksOf charts UnknownLabel place = ⊥
 BreaksOf charts LabelNamedTwice place = ⊥
 BreaksOf charts Endless place = ⊥
-BreaksOf charts CreatePlace place = ⊥
-BreaksOf charts CreateTwice place = ⊥
-BreaksOf charts AfterStop place = ⊥
 
 -- the document breaks the rule at that place
 abbrev pub Breaks : Document → Rule → Place → Type 0

@@ -1,5 +1,8 @@
 -- Where the body of a chart breaks a rule: columns that cross, messages without partner, names of events, a cyclic order.
 use Rattle.std.specs.Prelude.{◌≡◌, ℕ, List}
+use Rattle.chart_cycles.specs.Cycles.{IsOrdered}
+use Rattle.msc_base.specs.Lists.{IsAmong}
+use Rattle.msc_base.specs.declared.limits.TheConstants.Limits.{EXPANDED_NESTING}
 use Rattle.msc_base.specs.declared.place.Place.{Place}
 use Rattle.msc_tree.specs.Charts.{Chart, Content, Basic, HighLevel}
 use Rattle.msc_tree.specs.Statements.{statements}
@@ -8,9 +11,8 @@ use Rattle.msc_meaning.specs.Crossings.{ColumnsCross}
 use Rattle.msc_meaning.specs.Partners.{LacksPartner}
 use Rattle.msc_meaning.specs.Pieces.{statements_pieces}
 use Rattle.msc_meaning.specs.Tables as table
-use Rattle.msc_meaning.specs.WovenTables.{IsWovenContent}
+use Rattle.msc_meaning.specs.WovenTables.{AreEntriesOf, IsWovenContent}
 use Rattle.general_ordering.specs.EventNames.{BreaksNameRule, EventNameRule}
-use Rattle.event_order.specs.Precedence.{IsCyclic}
 use Rattle.msc_instances.specs.Instances.{instances}
 
 -- the chart is a basic one, and its text is woven to that body
@@ -37,9 +39,11 @@ pub record IsMisnamedAt (rule : EventNameRule) (chart : Chart) (place : Place) :
   pub woven : IsBodyOf chart body
   pub misnamed : BreaksNameRule rule body place
 
--- the chart stands there, and the order of the events of what it is woven to is cyclic
-pub record IsCyclicAt (chart : Chart) (place : Place) : Type 0 where
-  pub body : Body
-  pub woven : IsBodyOf chart body
-  pub cyclic : IsCyclic body
+-- one of the charts stands there, and the events of its expansion, with those of the charts that it names, can't happen in any order
+pub record IsCyclicAt (charts : List Chart) (place : Place) : Type 0 where
+  pub table : table.Table
+  pub woven : AreEntriesOf instances charts table
+  pub chart : Chart
+  pub among : IsAmong charts chart
   pub there : chart.place ≡ place
+  pub cyclic : IsOrdered table EXPANDED_NESTING chart.name → ⊥

@@ -1,7 +1,9 @@
 -- Serves private contracts alone.
 -- What a document comes to: its table, or its first fault.
-use Rattle.std.specs.Prelude.{◌≡◌, ⊤, List, [], ◌∷◌, ◌++◌, Option, None, Some, map}
+use Rattle.std.specs.Prelude.{◌≡◌, ◌⊎◌, ⊤, Bool, true, List, [], ◌∷◌, ◌++◌, Option, None, Some, map}
+use Rattle.msc_base.specs.Lists.{IsAmong}
 use Rattle.msc_base.specs.Places.{IsLeast, earliest}
+use Rattle.msc_base.specs.declared.limits.TheConstants.Limits.{EXPANDED_NESTING}
 use Rattle.msc_base.specs.declared.place.Place.{Place}
 use Rattle.msc_tree.specs.Charts.{Chart}
 use Rattle.msc_tree.specs.Charts as tree
@@ -9,11 +11,10 @@ use Rattle.msc_tree.specs.Statements.{Statement, statements}
 use Rattle.msc_rules.specs.FirstFaults.{Keeps, IsFirst}
 use Rattle.msc_rules.specs.Rules.{number_of}
 use Rattle.msc_rules.specs.declared.rule.Rule.{Rule}
-use Rattle.msc_rules.specs.declared.rule.Rule.TheVariants.{NotBuilt, Charts, Instances, LoopBound, NamedTwice, Undeclared, Size, Total, NotShared, OperandsDiffer, ExcPlace, Crossed, Unmatched, UnknownEvent, EventNamedTwice, Cyclic}
-use Rattle.event_order.specs.RankedBodies.{CanBeRanked}
+use Rattle.msc_rules.specs.declared.rule.Rule.TheVariants.{NotBuilt, Charts, Instances, LoopBound, NamedTwice, Undeclared, MissingChart, Recursive, Uncovered, ExpandedNesting, Size, Total, NotShared, OperandsDiffer, ExcPlace, CreatePlace, CreateTwice, AfterStop, Crossed, Unmatched, UnknownEvent, EventNamedTwice, Cyclic}
 use Rattle.msc_meaning.specs.Bodies.{Body}
 use Rattle.msc_meaning.specs.Pieces.{statements_pieces}
-use Rattle.msc_meaning.specs.Tables.{Basic, HighLevel, Table, Woven}
+use Rattle.msc_meaning.specs.Tables.{Table}
 use Rattle.msc_meaning.specs.Views.{entry_view, table_view}
 use Rattle.msc_meaning.specs.WovenTables.{AreEntriesOf, IsEntryOf}
 use Rattle.msc_acceptance.specs.ChartFaults.{CrossesAt, IsAloneAt, IsCyclicAt, IsMisnamedAt}
@@ -21,9 +22,14 @@ use Rattle.general_ordering.specs.EventNames.{Unknown, Twice}
 use Rattle.msc_acceptance.specs.declared.tables.BodyFaults.{BodyFaults}
 use Rattle.msc_instances.specs.NameFaults.{ChartNamesOther, ChartNamesTwice}
 use Rattle.msc_instances.specs.Instances.{instances}
-use Rattle.chart_forms.specs.ChartSizes.{size_of}
+use Rattle.chart_cycles.specs.Cycles.{AreOrdered, TellCycles}
+use Rattle.chart_extents.specs.Extents.{IsExtentOf, Sized, sized_of}
+use Rattle.chart_extents.specs.declared.extent.Extent.{Extent}
 use Rattle.chart_forms.specs.LoopBounds.{HasHighBound}
 use Rattle.chart_forms.specs.NotBuilt.{IsNotBuilt}
+use Rattle.creation_rules.specs.Creating.{ChartCreatesTwice}
+use Rattle.creation_rules.specs.Placing.{ChartPlacesCreation}
+use Rattle.creation_rules.specs.Stopping.{ChartGoesOn}
 use Rattle.level_weaving.specs.Exceptions.{IsMisplaced}
 use Rattle.level_weaving.specs.WeaveFaults.{IsLevelFault, IsLevelWoven}
 use Rattle.level_weaving.specs.declared.weaving.WeaveFault.{WeaveFault}
@@ -53,11 +59,17 @@ limits = Charts ∷ Instances ∷ LoopBound ∷ []
 abbrev pub names : List Rule
 names = NamedTwice ∷ Undeclared ∷ []
 
+abbrev pub references : List Rule
+references = MissingChart ∷ Recursive ∷ Uncovered ∷ []
+
 abbrev pub sizes : List Rule
-sizes = Size ∷ Total ∷ []
+sizes = ExpandedNesting ∷ Size ∷ Total ∷ []
+
+abbrev pub creations : List Rule
+creations = CreatePlace ∷ CreateTwice ∷ AfterStop ∷ []
 
 abbrev pub parts : List Rule
-parts = NotShared ∷ OperandsDiffer ∷ ExcPlace ∷ []
+parts = NotShared ∷ OperandsDiffer ∷ ExcPlace ∷ creations
 
 abbrev pub columns : List Rule
 columns = Crossed ∷ []
@@ -73,14 +85,22 @@ cycles = Cyclic ∷ []
 
 -- the rules on the text
 abbrev pub text_groups : List (List Rule)
-text_groups = forms ∷ limits ∷ names ∷ sizes ∷ parts ∷ []
+text_groups = forms ∷ limits ∷ names ∷ references ∷ sizes ∷ parts ∷ []
 
--- the rules on what charts are woven to
+-- of these, the rules on what charts name
+abbrev pub link_groups : List (List Rule)
+link_groups = references ∷ sizes ∷ []
+
+-- the rules on what charts are woven to, one by one
 abbrev pub body_groups : List (List Rule)
-body_groups = columns ∷ messages ∷ event_names ∷ cycles ∷ []
+body_groups = columns ∷ messages ∷ event_names ∷ []
+
+-- and together
+abbrev pub table_groups : List (List Rule)
+table_groups = cycles ∷ []
 
 abbrev pub all_groups : List (List Rule)
-all_groups = text_groups ++ body_groups
+all_groups = text_groups ++ (body_groups ++ table_groups)
 
 abbrev pub AllKept : (Rule → Place → Type 0) → List (List Rule) → Type 0
 AllKept Breaks [] = ⊤
@@ -108,6 +128,9 @@ pub record AreOwnTexts (chart : Chart) (places : TextPlaces) : Type 0 where
   pub high_bound : IsLeast (HasHighBound chart) places.high_bound
   pub twice : IsLeast (ChartNamesTwice chart) places.twice
   pub undeclared : IsLeast (ChartNamesOther chart) places.undeclared
+  pub creation : IsLeast (ChartPlacesCreation chart) places.creation
+  pub child : IsLeast (ChartCreatesTwice chart) places.child
+  pub behind : IsLeast (ChartGoesOn chart) places.behind
 
 -- the earliest places at which one of the charts breaks them
 pub record AreTextPlaces (charts : List Chart) (places : TextPlaces) : Type 0 where
@@ -115,11 +138,14 @@ pub record AreTextPlaces (charts : List Chart) (places : TextPlaces) : Type 0 wh
   pub high_bound : IsLeast (InOne HasHighBound charts) places.high_bound
   pub twice : IsLeast (InOne ChartNamesTwice charts) places.twice
   pub undeclared : IsLeast (InOne ChartNamesOther charts) places.undeclared
+  pub creation : IsLeast (InOne ChartPlacesCreation charts) places.creation
+  pub child : IsLeast (InOne ChartCreatesTwice charts) places.child
+  pub behind : IsLeast (InOne ChartGoesOn charts) places.behind
 
 -- that is read of the charts
 pub record IsReading (charts : List Chart) (reading : Reading) : Type 0 where
   pub lists : reading.lists ≡ map instances charts
-  pub sizes : reading.sizes ≡ map size_of charts
+  pub stands : reading.stands ≡ map (λ (c : Chart). c.place) charts
   pub singles : reading.singles ≡ map is_single_chart charts
   pub places : AreTextPlaces charts reading.places
 
@@ -136,15 +162,6 @@ pub record ArePartPlaces (charts : List Chart) (places : PartPlaces) : Type 0 wh
   pub misplaced : IsLeast (InOne IsMisplaced charts) places.misplaced
 
 -- ---- the table
-
--- the events of each basic chart can happen in an order
-abbrev pub ContentRanked : Woven → Type 0
-ContentRanked (Basic body) = CanBeRanked body
-ContentRanked (HighLevel drawn) = ⊤
-
-abbrev pub AreAllRanked : Table → Type 0
-AreAllRanked [] = ⊤
-AreAllRanked (c ∷ table) = ContentRanked c.content × AreAllRanked table
 
 -- the chart has these statements, and is woven to the body: no columns cross, and each message has both ends
 pub record IsWovenTo (chart : Chart) (body : Body) : Type 0 where
@@ -169,7 +186,6 @@ pub record AreFaultsOf (chart : Chart) (faults : BodyFaults) : Type 0 where
   pub alone : faults.crossed ≡ None → IsLeast (IsAloneAt chart) faults.alone
   pub unknown : IsWhole faults → IsLeast (IsMisnamedAt Unknown chart) faults.unknown
   pub twice : IsWhole faults → IsLeast (IsMisnamedAt Twice chart) faults.twice
-  pub cyclic : IsWhole faults → IsLeast (IsCyclicAt chart) faults.cyclic
 
 -- it has no entry, and that is why
 abbrev pub IsBarred : Chart → BodyFaults → Type 0
@@ -178,7 +194,7 @@ IsBarred chart faults = (IsWhole faults → ⊥) × AreFaultsOf chart faults
 -- what one chart, whose forms are built, is woven to: its entry, with the places where this breaks a rule; or where it breaks a rule so that
 -- it has none
 abbrev pub IsNextWoven : Chart → ChartResult → Type 0
-IsNextWoven chart (one.Entry entry faults) = IsEntryOf (instances chart) chart (entry_view entry) × AreFaultsOf chart faults × (faults.cyclic ≡ None → ContentRanked (entry_view entry).content)
+IsNextWoven chart (one.Entry entry faults) = IsEntryOf (instances chart) chart (entry_view entry) × AreFaultsOf chart faults
 IsNextWoven chart (one.Barred faults) = IsBarred chart faults
 
 -- the earlier places of both
@@ -187,7 +203,6 @@ pub record AreEarlier (a b c : BodyFaults) : Type 0 where
   pub alone : c.alone ≡ earlier_of a.alone b.alone
   pub unknown : c.unknown ≡ earlier_of a.unknown b.unknown
   pub twice : c.twice ≡ earlier_of a.twice b.twice
-  pub cyclic : c.cyclic ≡ earlier_of a.cyclic b.cyclic
 
 -- what a chart is woven to is taken in
 abbrev pub IsTakenIn : Weaving → ChartResult → Weaving → Type 0
@@ -200,16 +215,39 @@ pub record AreFaultsIn (charts : List Chart) (faults : BodyFaults) : Type 0 wher
   pub alone : faults.crossed ≡ None → IsLeast (InOne IsAloneAt charts) faults.alone
   pub unknown : IsWhole faults → IsLeast (InOne (IsMisnamedAt Unknown) charts) faults.unknown
   pub twice : IsWhole faults → IsLeast (InOne (IsMisnamedAt Twice) charts) faults.twice
-  pub cyclic : IsWhole faults → IsLeast (InOne IsCyclicAt charts) faults.cyclic
 
--- what the charts are woven to: the earliest places at which they break a rule, and where each has a body their entries; where no order is
--- cyclic, the events of each can be ranked
+-- what the charts are woven to: the earliest places at which they break a rule, and where each has a body their entries
 pub record AreWoven (charts : List Chart) (made : Weaving) : Type 0 where
   pub faults : AreFaultsIn charts made.faults
   pub entries : IsWhole made.faults → AreEntriesOf instances charts (table_view made.entries.items)
-  pub ranked : IsWhole made.faults → made.faults.cyclic ≡ None → AreAllRanked (table_view made.entries.items)
 
--- these charts keep all rules, are these entries, and their events can be ranked; or they have this first fault
+-- ---- charts that name others
+
+-- each comes to so much
+abbrev pub HaveExtents : List Sized → Type 0
+HaveExtents charts = (chart : Sized) → IsAmong charts chart → (all : Extent) × IsExtentOf charts chart all
+
+-- the flag is set of a chart that stands there
+abbrev pub IsFlagged : List Place → List Bool → Place → Type 0
+IsFlagged [] flags place = ⊥
+IsFlagged (p ∷ stands) [] place = ⊥
+IsFlagged (p ∷ stands) (flag ∷ flags) place = ((p ≡ place) × (flag ≡ true)) ⊎ IsFlagged stands flags place
+
+-- of these charts the earliest whose order is cyclic stands there, or none is
+pub record TellsEarliest (table : Table) (stands : List Place) (place : Option Place) : Type 0 where
+  pub flags : List Bool
+  pub told : TellCycles table EXPANDED_NESTING table flags
+  pub least : IsLeast (IsFlagged stands flags) place
+
+-- the charts are these entries, whose events can happen in an order; or the order of one is cyclic
+abbrev pub IsSettled : List Chart → Table → Decision → Type 0
+IsSettled charts table (decision.Accepted accepted) = (table_view accepted ≡ table) × AreOrdered table EXPANDED_NESTING table × IsLeast (IsCyclicAt charts) None
+IsSettled charts table (decision.Faulty fault) = (fault.rule ≡ Cyclic) × IsLeast (IsCyclicAt charts) (Some fault.place)
+
+-- ---- the document
+
+-- of charts that keep all rules the entries, whose events can happen in an order, and what each chart comes to; or their first fault
 abbrev pub IsDecided : List Chart → Decision → Type 0
-IsDecided charts (decision.Woven entries) = AllKept (BreaksOf charts) all_groups × AreEntriesOf instances charts (table_view entries.items) × AreAllRanked (table_view entries.items)
+IsDecided charts (decision.Accepted accepted) =
+    AllKept (BreaksOf charts) all_groups × AreEntriesOf instances charts (table_view accepted) × AreOrdered (table_view accepted) EXPANDED_NESTING (table_view accepted) × HaveExtents (map sized_of charts)
 IsDecided charts (decision.Faulty fault) = IsFirst number_of (BreaksOf charts) all_groups fault

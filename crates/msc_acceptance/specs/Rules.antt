@@ -1,12 +1,11 @@
 -- The places at which the charts of a document break each rule.
-use Rattle.std.specs.Prelude.{◌≡◌, ◌+◌, ℕ, Bool, true, not, ◌&&◌, ◌⊎◌, nat_lt, List, [], ◌∷◌, fold, length, option_map, Some, slice_get}
+use Rattle.std.specs.Prelude.{◌≡◌, ℕ, Bool, true, not, ◌&&◌, ◌⊎◌, nat_lt, List, [], ◌∷◌, fold, length, option_map, Some, slice_get}
 use Rattle.std.specs.List.{list_any}
 use Rattle.std.specs.Str.{bytes_eq}
 use Rattle.msc_base.specs.NameTables.{with_name}
-use Rattle.msc_base.specs.declared.limits.TheConstants.Limits.{CHARTS, INSTANCES, EXPANDED_SIZE, TOTAL_SIZE}
+use Rattle.msc_base.specs.declared.limits.TheConstants.Limits.{CHARTS, INSTANCES}
 use Rattle.msc_base.specs.declared.place.Place.{Place}
 use Rattle.msc_tree.specs.Charts.{Chart}
-use Rattle.chart_forms.specs.ChartSizes.{size_of}
 use Rattle.msc_instances.specs.Instances.{instances}
 
 -- at that place it holds of one of the charts
@@ -36,14 +35,3 @@ HasFurther seen (c ∷ charts) place =
 abbrev pub IsNamedAgain : List (List ℕ) → List Chart → Place → Type 0
 IsNamedAgain seen [] place = ⊥
 IsNamedAgain seen (c ∷ charts) place = ((c.place ≡ place) × (list_any (bytes_eq c.name) seen ≡ true)) ⊎ IsNamedAgain (with_name seen c.name) charts place
-
--- ---- sizes
-
--- the chart stands there, and is above the limit
-abbrev pub IsLarge : Chart → Place → Type 0
-IsLarge c place = (c.place ≡ place) × (nat_lt EXPANDED_SIZE (size_of c) ≡ true)
-
--- the chart at which the sum of the sizes passes the limit stands there, behind charts of this sum
-abbrev pub PassesTotal : ℕ → List Chart → Place → Type 0
-PassesTotal sum [] place = ⊥
-PassesTotal sum (c ∷ charts) place = ((c.place ≡ place) × (passes TOTAL_SIZE sum (sum + size_of c) ≡ true)) ⊎ PassesTotal (sum + size_of c) charts place

@@ -9,7 +9,7 @@ ghost use Rattle.msc_meaning.specs.WovenTables.{IsTableOf};
 ghost use Rattle.msc_instances.specs.Instances.{instances};
 ghost use Rattle.msc_tree.specs.Views.{document_view};
 ghost use Rattle.msc_acceptance.specs.Acceptance.{HasFault, IsAccepted};
-ghost use Rattle.msc_acceptance.specs.AcceptedCharts.{AreAcceptedCharts};
+ghost use Rattle.msc_acceptance.specs.AcceptedCharts.{IsAcceptedTable};
 
 use crate::deciding::{Decision, decide};
 use crate::{Accepted, DocFault};
@@ -24,7 +24,7 @@ pub fn accept(alloc: Global, raw: RawDocument) -> Result<Accepted, DocFault>
     requires { AreAllWellFormed (document_view raw).charts }
     ensures ok { IfOk result (λ accepted. IsAccepted (document_view raw) (table_view accepted)) }
     ensures only { IfOk result (λ accepted. (other : Table) → IsTableOf instances (document_view raw) other → table_view accepted ≡ other) }
-    ensures charts { IfOk result (λ accepted. AreAcceptedCharts (table_view accepted)) }
+    ensures charts { IfOk result (λ accepted. IsAcceptedTable (table_view accepted)) }
     ensures faultless { IfOk result (λ accepted. (rule : Rule) (place : Place) → HasFault (document_view raw) rule place → ⊥) }
     ensures fault { (rule : Rule) (place : Place) → IsErrOf result (DocFault.Refused rule place) → HasFault (document_view raw) rule place }
     ensures only_fault { (rule : Rule) (place : Place) → IsErrOf result (DocFault.Refused rule place) → (other : Rule) (there : Place) → HasFault (document_view raw) other there → (other ≡ rule) × (there ≡ place) }
@@ -33,7 +33,7 @@ pub fn accept(alloc: Global, raw: RawDocument) -> Result<Accepted, DocFault>
     built_charts_are_known();
     woven_charts_are_known();
     match decide(alloc, raw.charts) {
-        Ok(Decision::Woven(entries)) => Ok(Accepted::of_entries(entries)),
+        Ok(Decision::Accepted(accepted)) => Ok(accepted),
         Ok(Decision::Faulty(fault)) => Err(DocFault::Refused {
             rule: fault.rule,
             place: fault.place,

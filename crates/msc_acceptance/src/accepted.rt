@@ -1,11 +1,12 @@
 //! The charts of an accepted document, in the order of the text and by name.
 
 ghost use Rattle.std.specs.Prelude.{◌≡◌, ◌≤◌, length, option_copied, option_map};
+ghost use Rattle.expanded_charts.specs.Making.{HasNames};
 ghost use Rattle.msc_base.specs.declared.limits.TheConstants.Limits.{CHARTS};
 ghost use Rattle.msc_meaning.specs.Tables.{chart_at};
 ghost use Rattle.msc_meaning.specs.Views.{entry_view, table_view};
 
-use msc_base::Place;
+use msc_base::{NameTable, Place};
 use msc_meaning::ChartEntry;
 use msc_rules::Rule;
 use std::marker::Model;
@@ -23,11 +24,13 @@ pub enum DocFault {
 #[derive(Drop)]
 pub struct Accepted {
     held: Vec<ChartEntry>,
+    names: NameTable,
 }
 
 impl Model for Accepted {
     ghost use Rattle.std.specs.Prelude.{◌≤◌, List, length};
     ghost use Rattle.msc_base.specs.declared.limits.TheConstants.Limits.{CHARTS};
+    ghost use Rattle.expanded_charts.specs.Making.{HasNames};
     ghost use Rattle.std.specs.Coded.{codes};
     ghost use Rattle.msc_meaning.specs.contracts.body.Item as item;
     ghost use Rattle.msc_tree.specs.contracts.expression.RefExpr as expression;
@@ -40,16 +43,17 @@ impl Model for Accepted {
 
     ghost view = { λ a. a.held.items };
 
-    ghost invariant = { λ a. length a.held.items ≤ CHARTS };
+    ghost invariant = { λ a. (length a.held.items ≤ CHARTS) × HasNames a.held.items a.names };
 }
 
 impl Accepted {
-    /// An accepted document of these charts.
-    pub(crate) fn of_entries(held: Vec<ChartEntry>) -> Accepted
-        requires { length held.items ≤ CHARTS }
+    /// An accepted document of these charts, which have these names.
+    pub(crate) fn of_entries(held: Vec<ChartEntry>, names: NameTable) -> Accepted
+        requires few { length held.items ≤ CHARTS }
+        requires named { HasNames held.items names }
         ensures { result ≡ held.items }
     {
-        Accepted { held }
+        Accepted { held, names }
     }
 
     /// The charts, in the order of the text.
@@ -57,6 +61,13 @@ impl Accepted {
         ensures { result.now ≡ self.now }
     {
         self.held.as_slice()
+    }
+
+    /// The names of the charts, in the order of the text.
+    pub fn names(&self) -> &NameTable
+        ensures { HasNames self.now result.now }
+    {
+        &self.names
     }
 
     /// How many charts there are. It takes no memory.

@@ -1,36 +1,38 @@
 //! The rules group by group, up to the first that is broken; else the table. For `acceptance` alone.
 
 ghost use Rattle.std.specs.Prelude.{◌≡◌, IfOk, List, None, map};
-ghost use Rattle.chart_forms.specs.ChartSizes.{size_of};
+ghost use Rattle.chart_extents.specs.Extents.{sized_of};
 ghost use Rattle.chart_forms.specs.NotBuilt.{IsNotBuilt};
 ghost use Rattle.chart_text.specs.WellFormed.{AreAllWellFormed};
 ghost use Rattle.msc_rules.specs.FirstFaults.{IsBest};
 ghost use Rattle.msc_rules.specs.Rules.{number_of};
 ghost use Rattle.msc_acceptance.specs.Acceptance.{BreaksOf};
-ghost use Rattle.msc_acceptance.specs.Deciding.{AreFaultsIn, AreTextPlaces, IsDecided, IsFirstOf, IsReading, IsWhole, body_groups, event_names, forms, limits, names, parts, sizes, text_groups};
+ghost use Rattle.msc_acceptance.specs.Deciding.{AreFaultsIn, AreTextPlaces, HaveExtents, IsDecided, IsFirstOf, IsReading, IsWhole, body_groups, creations, event_names, forms, limits, names, parts, text_groups};
 ghost use Rattle.msc_acceptance.specs.Rules.{InOne};
 ghost use Rattle.msc_base.specs.Places.{IsLeast};
 ghost use Rattle.msc_tree.specs.Charts.{Chart};
 ghost use Rattle.msc_tree.specs.Views.{chart_view};
 
+use crate::Accepted;
+use crate::cycles::settle;
 use crate::limits::{further_chart, further_instance};
+use crate::links::link_fault;
 use crate::names::second_chart;
 use crate::parts::part_places;
 use crate::reading::{Reading, TextPlaces, read_charts};
-use crate::sizes::{large_chart, large_total};
 use crate::tables::{BodyFaults, woven_charts};
 use crate::walks::earlier;
 use msc_base::{NoMemory, Place};
-use msc_meaning::ChartEntry;
 use msc_rules::{Broken, Rule, broken_at, earlier_fault};
 use msc_tree::RawChart;
 use std::alloc::Global;
+use woven_laws::laws::{built_charts_are_known, woven_charts_are_known};
 
 /// What a document comes to.
 #[derive(Drop)]
 pub enum Decision {
-    /// The entries of its charts.
-    Woven(Vec<ChartEntry>),
+    /// Its charts.
+    Accepted(Accepted),
     /// Its first fault.
     Faulty(Broken<Rule>),
 }
@@ -73,17 +75,17 @@ fn name_fault(
     Ok(earlier_fault(twice, other))
 }
 
-/// The first fault by sizes, which `listed` are.
-fn size_fault(charts: &[RawChart], listed: &[u64]) -> Option<Broken<Rule>>
-    requires { listed.now ≡ map size_of (map chart_view charts.now) }
-    ensures { IsBest number_of (BreaksOf (map chart_view charts.now)) sizes result }
+/// The first fault of creations and stops, by the places inside charts.
+fn creation_fault(places: TextPlaces) -> Option<Broken<Rule>>
+    ensures { (charts : List Chart) → AreTextPlaces charts places → IsBest number_of (BreaksOf charts) creations result }
 {
-    let one = broken_at(Rule::Size, large_chart(charts, listed));
-    let all = broken_at(Rule::Total, large_total(charts, listed));
-    earlier_fault(one, all)
+    let placed = broken_at(Rule::CreatePlace, places.creation);
+    let twice = broken_at(Rule::CreateTwice, places.child);
+    let after = broken_at(Rule::AfterStop, places.behind);
+    earlier_fault(earlier_fault(placed, twice), after)
 }
 
-/// The first fault of parts, by what is read of the charts.
+/// The first fault of parts, creations and stops, by what is read of the charts.
 fn part_fault(
     alloc: Global,
     charts: &[RawChart],
@@ -97,7 +99,11 @@ fn part_fault(
     let unshared = broken_at(Rule::NotShared, places.unshared);
     let differing = broken_at(Rule::OperandsDiffer, places.differing);
     let misplaced = broken_at(Rule::ExcPlace, places.misplaced);
-    Ok(earlier_fault(earlier_fault(unshared, differing), misplaced))
+    let others = creation_fault(reading.places);
+    Ok(earlier_fault(
+        earlier_fault(earlier_fault(unshared, differing), misplaced),
+        others,
+    ))
 }
 
 /// The first fault of the rules on the text, by what is read of the charts.
@@ -107,7 +113,8 @@ fn text_fault(
     reading: &Reading,
 ) -> Result<Option<Broken<Rule>>, NoMemory>
     requires { IsReading (map chart_view charts.now) reading.now }
-    ensures { IfOk result (IsFirstOf (map chart_view charts.now) text_groups) }
+    ensures first { IfOk result (IsFirstOf (map chart_view charts.now) text_groups) }
+    ensures extents { IfOk result (λ fault. fault ≡ None → HaveExtents (map sized_of (map chart_view charts.now))) }
 {
     if let Some(fault) = form_fault(reading.places.not_built) {
         return Ok(Some(fault));
@@ -118,7 +125,7 @@ fn text_fault(
     if let Some(fault) = name_fault(alloc, charts, reading.places)? {
         return Ok(Some(fault));
     }
-    if let Some(fault) = size_fault(charts, reading.sizes.as_slice()) {
+    if let Some(fault) = link_fault(alloc, charts, reading.lists.as_slice())? {
         return Ok(Some(fault));
     }
     part_fault(alloc, charts, reading)
@@ -134,10 +141,10 @@ fn event_name_fault(faults: BodyFaults) -> Option<Broken<Rule>>
     earlier_fault(unknown, twice)
 }
 
-/// The first fault of the rules on what the charts are woven to.
+/// The first fault of the rules on what each chart is woven to.
 fn body_fault(faults: BodyFaults) -> Option<Broken<Rule>>
     ensures first { (charts : List Chart) → AreFaultsIn charts faults → IsFirstOf charts body_groups result }
-    ensures whole { result ≡ None → IsWhole faults × (faults.cyclic ≡ None) }
+    ensures whole { result ≡ None → IsWhole faults }
 {
     if let Some(place) = faults.crossed {
         return Some(Broken {
@@ -151,10 +158,7 @@ fn body_fault(faults: BodyFaults) -> Option<Broken<Rule>>
             place,
         });
     }
-    if let Some(fault) = event_name_fault(faults) {
-        return Some(fault);
-    }
-    broken_at(Rule::Cyclic, faults.cyclic)
+    event_name_fault(faults)
 }
 
 /// The table of these charts, whose text is well formed, or their first fault.
@@ -162,13 +166,15 @@ pub fn decide(alloc: Global, charts: Vec<RawChart>) -> Result<Decision, NoMemory
     requires { AreAllWellFormed (map chart_view charts.items) }
     ensures { IfOk result (IsDecided (map chart_view charts.items)) }
 {
+    built_charts_are_known();
+    woven_charts_are_known();
     let reading = read_charts(alloc, charts.as_slice())?;
     if let Some(fault) = text_fault(alloc, charts.as_slice(), &reading)? {
         return Ok(Decision::Faulty(fault));
     }
     let made = woven_charts(alloc, charts, reading.lists.as_slice())?;
-    match body_fault(made.faults) {
-        Some(fault) => Ok(Decision::Faulty(fault)),
-        None => Ok(Decision::Woven(made.entries)),
+    if let Some(fault) = body_fault(made.faults) {
+        return Ok(Decision::Faulty(fault));
     }
+    settle(alloc, made.entries, reading.stands.as_slice())
 }

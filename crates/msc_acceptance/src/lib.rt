@@ -3,15 +3,16 @@
 
 mod acceptance;
 mod accepted;
+mod cycles;
 mod deciding;
 mod declaring;
 mod limits;
+mod links;
 mod listing;
 mod names;
 mod parts;
 mod reading;
 mod singles;
-mod sizes;
 mod tables;
 mod walks;
 

@@ -1,16 +1,17 @@
 //! What is read of one chart after another, by its text, which is listed once: for `deciding`.
 
 ghost use Rattle.std.specs.Prelude.{◌≡◌, IfOk, None, map};
-ghost use Rattle.chart_forms.specs.ChartSizes.{size_of};
 ghost use Rattle.msc_acceptance.specs.Deciding.{AreOwnTexts, AreTextPlaces, earlier_of};
 ghost use Rattle.msc_acceptance.specs.SingleItems.{is_single_chart};
 ghost use Rattle.msc_instances.specs.Instances.{instances};
+ghost use Rattle.msc_tree.specs.Charts.{Chart};
 ghost use Rattle.msc_tree.specs.Views.{chart_view};
 
 use crate::singles::holds_singles;
 use crate::walks::earlier;
-use chart_forms::{first_high_bound, first_not_built, size};
+use chart_forms::{first_high_bound, first_not_built};
 use chart_text::chart_text;
+use creation_rules::{behind_stop, created_twice, misplaced_creation};
 use msc_base::{Items, Names, NoMemory, Place};
 use msc_instances::chart_names;
 use msc_tree::RawChart;
@@ -27,13 +28,18 @@ pub struct TextPlaces {
     pub twice: Option<Place>,
     /// Of a name that may not stand there.
     pub undeclared: Option<Place>,
+    /// Of a creation or a stop that may not stand there.
+    pub creation: Option<Place>,
+    /// Of a creation of a child that may not be created.
+    pub child: Option<Place>,
+    /// Of an item behind the stop of its instance.
+    pub behind: Option<Place>,
 }
 
 /// What is read of one chart.
 #[derive(Drop)]
 struct ChartText {
     names: Names,
-    size: u64,
     single: bool,
     places: TextPlaces,
 }
@@ -43,8 +49,8 @@ struct ChartText {
 pub struct Reading {
     /// The instances of each.
     pub lists: Items<Names>,
-    /// The size of each.
-    pub sizes: Items<u64>,
+    /// Where each stands.
+    pub stands: Items<Place>,
     /// Whether each has neither inline expressions nor references.
     pub singles: Items<bool>,
     /// The earliest places at which they break rules.
@@ -57,19 +63,24 @@ fn earlier_places(places: TextPlaces, others: TextPlaces) -> TextPlaces
     ensures high_bound { result.high_bound ≡ earlier_of places.high_bound others.high_bound }
     ensures twice { result.twice ≡ earlier_of places.twice others.twice }
     ensures undeclared { result.undeclared ≡ earlier_of places.undeclared others.undeclared }
+    ensures creation { result.creation ≡ earlier_of places.creation others.creation }
+    ensures child { result.child ≡ earlier_of places.child others.child }
+    ensures behind { result.behind ≡ earlier_of places.behind others.behind }
 {
     TextPlaces {
         not_built: earlier(places.not_built, others.not_built),
         high_bound: earlier(places.high_bound, others.high_bound),
         twice: earlier(places.twice, others.twice),
         undeclared: earlier(places.undeclared, others.undeclared),
+        creation: earlier(places.creation, others.creation),
+        child: earlier(places.child, others.child),
+        behind: earlier(places.behind, others.behind),
     }
 }
 
 /// What is read of a chart.
 fn read_chart(alloc: Global, chart: &RawChart) -> Result<ChartText, NoMemory>
     ensures names { IfOk result (λ text. text.names ≡ instances (chart_view chart.now)) }
-    ensures size { IfOk result (λ text. text.size ≡ size_of (chart_view chart.now)) }
     ensures single { IfOk result (λ text. text.single ≡ is_single_chart (chart_view chart.now)) }
     ensures places { IfOk result (λ text. AreOwnTexts (chart_view chart.now) text.places) }
 {
@@ -77,16 +88,20 @@ fn read_chart(alloc: Global, chart: &RawChart) -> Result<ChartText, NoMemory>
     let not_built = first_not_built(alloc, chart, text.as_slice())?;
     let high_bound = first_high_bound(alloc, text.as_slice())?;
     let named = chart_names(alloc, chart, text.as_slice())?;
-    let size = size(text.as_slice())?;
+    let creation = misplaced_creation(alloc, chart, text.as_slice())?;
+    let child = created_twice(alloc, chart, text.as_slice())?;
+    let behind = behind_stop(alloc, chart, text.as_slice())?;
     Ok(ChartText {
         names: named.names,
-        size,
         single: holds_singles(text.as_slice()),
         places: TextPlaces {
             not_built,
             high_bound,
             twice: named.twice,
             undeclared: named.undeclared,
+            creation,
+            child,
+            behind,
         },
     })
 }
@@ -94,29 +109,32 @@ fn read_chart(alloc: Global, chart: &RawChart) -> Result<ChartText, NoMemory>
 /// What is read of the charts.
 pub fn read_charts(alloc: Global, charts: &[RawChart]) -> Result<Reading, NoMemory>
     ensures lists { IfOk result (λ reading. reading.lists ≡ map instances (map chart_view charts.now)) }
-    ensures sizes { IfOk result (λ reading. reading.sizes ≡ map size_of (map chart_view charts.now)) }
+    ensures stands { IfOk result (λ reading. reading.stands ≡ map (λ (c : Chart). c.place) (map chart_view charts.now)) }
     ensures singles { IfOk result (λ reading. reading.singles ≡ map is_single_chart (map chart_view charts.now)) }
     ensures places { IfOk result (λ reading. AreTextPlaces (map chart_view charts.now) reading.places) }
 {
     let mut lists = Items::new(alloc);
-    let mut sizes = Items::new(alloc);
+    let mut stands = Items::new(alloc);
     let mut singles = Items::new(alloc);
     let mut places = TextPlaces {
         not_built: None,
         high_bound: None,
         twice: None,
         undeclared: None,
+        creation: None,
+        child: None,
+        behind: None,
     };
     for chart in charts {
         let text = read_chart(alloc, chart)?;
         lists.push(text.names)?;
-        sizes.push(text.size)?;
+        stands.push(chart.place)?;
         singles.push(text.single)?;
         places = earlier_places(places, text.places);
     }
     Ok(Reading {
         lists,
-        sizes,
+        stands,
         singles,
         places,
     })

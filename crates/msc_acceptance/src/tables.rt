@@ -1,14 +1,10 @@
 //! The table of charts, each woven, with the earliest places at which what they are woven to breaks a rule: for `deciding`.
 
 ghost use Rattle.std.specs.Prelude.{◌≡◌, IfOk, None, OnOk, Some, map};
-ghost use Rattle.msc_meaning.specs.LevelViews.{levels_view};
 ghost use Rattle.chart_forms.specs.NotBuilt.{IsBuilt};
 ghost use Rattle.chart_text.specs.WellFormed.{AreAllWellFormed, IsWellFormed};
-ghost use Rattle.event_order.specs.RankedBodies.{CanBeRanked, HaveRanks};
-ghost use Rattle.msc_acceptance.specs.ChartFaults.{IsBodyOf, IsCyclicAt};
-ghost use Rattle.msc_acceptance.specs.ChartLevels.{AreLevelsOf};
+ghost use Rattle.msc_acceptance.specs.ChartFaults.{IsBodyOf};
 ghost use Rattle.msc_acceptance.specs.Deciding.{AreBuilt, AreFaultsOf, AreWoven, IsBarred, IsNextWoven, IsTakenIn, IsWeaveFault, IsWovenTo, earlier_of};
-ghost use Rattle.msc_base.specs.Places.{IsLeast};
 ghost use Rattle.msc_instances.specs.Instances.{instances};
 ghost use Rattle.msc_meaning.specs.Views.{body_view, entry_view};
 ghost use Rattle.msc_meaning.specs.WovenTables.{IsEntryOf};
@@ -17,12 +13,10 @@ ghost use Rattle.msc_tree.specs.Views.{chart_view, statement_view};
 
 use crate::declaring::chart_decls;
 use crate::walks::earlier;
-use event_order::is_cyclic;
-use event_order::laws::ranks_rise;
 use general_ordering::first_name_faults;
 use level_weaving::{WeaveFault, weave};
 use msc_base::{Names, NoMemory, Place};
-use msc_meaning::{Body, BodyLevel, ChartEntry, EntryContent, body_levels};
+use msc_meaning::{Body, ChartEntry, EntryContent, body_levels};
 use msc_tree::{Content, RawChart, Statement};
 use std::alloc::Global;
 use woven_laws::laws::built_charts_are_known;
@@ -47,8 +41,6 @@ pub struct BodyFaults {
     pub unknown: Option<Place>,
     /// Of an event that has the name of an earlier one of its level.
     pub twice: Option<Place>,
-    /// Of a chart whose order is cyclic.
-    pub cyclic: Option<Place>,
 }
 
 /// No faults, or crossed columns or an event without partner alone.
@@ -57,14 +49,12 @@ fn barring(crossed: Option<Place>, alone: Option<Place>) -> BodyFaults
     ensures alone { result.alone ≡ alone }
     ensures unknown { result.unknown ≡ None }
     ensures twice { result.twice ≡ None }
-    ensures cyclic { result.cyclic ≡ None }
 {
     BodyFaults {
         crossed,
         alone,
         unknown: None,
         twice: None,
-        cyclic: None,
     }
 }
 
@@ -74,14 +64,12 @@ fn earlier_faults(faults: BodyFaults, others: BodyFaults) -> BodyFaults
     ensures alone { result.alone ≡ earlier_of faults.alone others.alone }
     ensures unknown { result.unknown ≡ earlier_of faults.unknown others.unknown }
     ensures twice { result.twice ≡ earlier_of faults.twice others.twice }
-    ensures cyclic { result.cyclic ≡ earlier_of faults.cyclic others.cyclic }
 {
     BodyFaults {
         crossed: earlier(faults.crossed, others.crossed),
         alone: earlier(faults.alone, others.alone),
         unknown: earlier(faults.unknown, others.unknown),
         twice: earlier(faults.twice, others.twice),
-        cyclic: earlier(faults.cyclic, others.cyclic),
     }
 }
 
@@ -120,40 +108,19 @@ fn barred_by(chart: &RawChart, fault: WeaveFault) -> Result<BodyFaults, NoMemory
     }
 }
 
-/// The place of a chart, which is woven to a body of these levels, where its order is cyclic.
-fn cycle_place(
-    alloc: Global,
-    chart: &RawChart,
-    levels: &[BodyLevel<'_>],
-) -> Result<Option<Place>, NoMemory>
-    requires { AreLevelsOf (chart_view chart.now) (levels_view levels.now) }
-    ensures least { IfOk result (IsLeast (IsCyclicAt (chart_view chart.now))) }
-    ensures ranked { IfOk result (λ cyclic. cyclic ≡ None → HaveRanks (levels_view levels.now)) }
-{
-    ranks_rise();
-    if is_cyclic(alloc, levels)? {
-        Ok(Some(chart.place))
-    } else {
-        Ok(None)
-    }
-}
-
 /// Where a chart, which is woven to that body, breaks a rule.
 fn faults_of(alloc: Global, chart: &RawChart, body: &Body) -> Result<BodyFaults, NoMemory>
     requires { IsWovenTo (chart_view chart.now) (body_view body.now) }
-    ensures least { IfOk result (AreFaultsOf (chart_view chart.now)) }
-    ensures ranked { IfOk result (λ faults. faults.cyclic ≡ None → CanBeRanked (body_view body.now)) }
+    ensures { IfOk result (AreFaultsOf (chart_view chart.now)) }
 {
     let held = body_levels(alloc, body)?;
     let levels = held.as_slice();
     let names = first_name_faults(alloc, levels)?;
-    let cyclic = cycle_place(alloc, chart, levels)?;
     Ok(BodyFaults {
         crossed: None,
         alone: None,
         unknown: names.unknown,
         twice: names.twice,
-        cyclic,
     })
 }
 

@@ -1,21 +1,15 @@
-use Rattle.std.proofs.Common.{rules, ◌≡◌, List, map, sym, subst, ◌∙◌}
+use Rattle.std.proofs.Common.{rules, ◌≡◌, ◌++◌, map, subst, ◌∙◌}
 use Rattle.msc_tree.specs.Views.{chart_view, document_view}
-use Rattle.msc_acceptance.specs.Deciding.{IsDecided}
+use Rattle.msc_acceptance.specs.Deciding.{IsDecided, body_groups, table_groups, text_groups}
 use Rattle.msc_acceptance.specs.declared.deciding.Decision.TheVariants as decision
 use Rattle.msc_meaning.specs.Views.{table_view}
-use Rattle.msc_meaning.specs.declared.body.ChartEntry as code
 use Rattle.msc_acceptance.specs.Acceptance.{HasFault}
 use Rattle.msc_base.specs.declared.place.Place.{Place}
 use Rattle.msc_rules.specs.declared.rule.Rule.{Rule}
-use Rattle.msc_acceptance.specs.AcceptedCharts.{AreAcceptedCharts}
-use Rattle.msc_acceptance.proofs.AcceptedLaws.{one_table, kept_have}
-use Rattle.msc_acceptance.proofs.AcceptLaws.{accepted_faultless, few, has_fault, only_fault}
+use Rattle.msc_acceptance.proofs.AcceptLaws.{accepted, accepted_faultless, has_fault, kept_left, kept_right, only_fault}
+use Rattle.msc_acceptance.proofs.AcceptedLaws.{accepted_table}
+use Rattle.msc_acceptance.proofs.OneTable.{one_table}
 use Rattle.msc_acceptance.proofs.acceptance.accept.Goals as goal
-
-pub of_entries-requires : goal.of_entries-requires
-of_entries-requires c =
-    let decided : IsDecided (map chart_view c.args.raw.charts.items) (decision.Woven c.in-Ok-Woven.entries) = search rules in
-    few (map chart_view c.args.raw.charts.items) c.in-Ok-Woven.entries.items decided.0 decided.1
 
 pub returns-in-Ok-Faulty-clause-fault : goal.returns-in-Ok-Faulty-clause-fault
 returns-in-Ok-Faulty-clause-fault c =
@@ -38,18 +32,28 @@ returns-in-Ok-Faulty-clause-only_fault c =
     let o = only_fault d _ other c.in-Ok-Faulty.fault.place there own f in
     (o.0 ∙ r, o.1 ∙ p)
 
-pub returns-in-Ok-Woven-clause-only : goal.returns-in-Ok-Woven-clause-only
-returns-in-Ok-Woven-clause-only c =
-    let d = document_view c.args.raw in
-    let decided : IsDecided (map chart_view c.args.raw.charts.items) (decision.Woven c.in-Ok-Woven.entries) = search rules in
-    let made : c.of_entries.result ≡ c.in-Ok-Woven.entries.items = search rules in
-    λ other k. subst (λ (es : List code.ChartEntry). table_view es ≡ other) (sym made) (one_table d.charts (table_view c.in-Ok-Woven.entries.items) other decided.1 k)
+pub returns-in-Ok-Accepted-clause-ok : goal.returns-in-Ok-Accepted-clause-ok
+returns-in-Ok-Accepted-clause-ok c =
+    let decided : IsDecided (map chart_view c.args.raw.charts.items) (decision.Accepted c.in-Ok-Accepted.accepted) = search rules in
+    accepted (document_view c.args.raw) (table_view c.in-Ok-Accepted.accepted) decided.0 decided.1
 
-pub returns-in-Ok-Woven-clause-charts : goal.returns-in-Ok-Woven-clause-charts
-returns-in-Ok-Woven-clause-charts c =
-    let decided : IsDecided (map chart_view c.args.raw.charts.items) (decision.Woven c.in-Ok-Woven.entries) = search rules in
-    let made : c.of_entries.result ≡ c.in-Ok-Woven.entries.items = search rules in
-    subst (λ (es : List code.ChartEntry). AreAcceptedCharts (table_view es)) (sym made) (kept_have c.built_charts_are_known.ensures c.woven_charts_are_known.ensures (map chart_view c.args.raw.charts.items) (table_view c.in-Ok-Woven.entries.items) c.requires decided.0 decided.1 decided.2)
+pub returns-in-Ok-Accepted-clause-only : goal.returns-in-Ok-Accepted-clause-only
+returns-in-Ok-Accepted-clause-only c =
+    let decided : IsDecided (map chart_view c.args.raw.charts.items) (decision.Accepted c.in-Ok-Accepted.accepted) = search rules in
+    λ other k. one_table (map chart_view c.args.raw.charts.items) (table_view c.in-Ok-Accepted.accepted) other decided.1 k
+
+pub returns-in-Ok-Accepted-clause-charts : goal.returns-in-Ok-Accepted-clause-charts
+returns-in-Ok-Accepted-clause-charts c =
+    let charts = map chart_view c.args.raw.charts.items in
+    let decided : IsDecided charts (decision.Accepted c.in-Ok-Accepted.accepted) = search rules in
+    let texts = kept_left charts text_groups (body_groups ++ table_groups) decided.0 in
+    let bodies = kept_left charts body_groups table_groups (kept_right charts text_groups (body_groups ++ table_groups) decided.0) in
+    accepted_table c.built_charts_are_known.ensures c.woven_charts_are_known.ensures charts c.requires texts (table_view c.in-Ok-Accepted.accepted) decided.1 bodies decided.2 decided.3
+
+pub returns-in-Ok-Accepted-clause-faultless : goal.returns-in-Ok-Accepted-clause-faultless
+returns-in-Ok-Accepted-clause-faultless c =
+    let decided : IsDecided (map chart_view c.args.raw.charts.items) (decision.Accepted c.in-Ok-Accepted.accepted) = search rules in
+    accepted_faultless (document_view c.args.raw) (table_view c.in-Ok-Accepted.accepted) (accepted (document_view c.args.raw) (table_view c.in-Ok-Accepted.accepted) decided.0 decided.1)
 
 pub returns-in-Ok-Faulty-clause-none : goal.returns-in-Ok-Faulty-clause-none
 returns-in-Ok-Faulty-clause-none c =

@@ -1,44 +1,106 @@
-use Rattle.std.proofs.Common.{rules, ◌≡◌, List, None, Some, Option, map, subst}
+use Rattle.std.proofs.Common.{rules, ◌≡◌, ◌++◌, ℕ, List, [], ◌∷◌, None, Some, Option, Result, Ok, Err, IfOk, map, refl, sym, ap, subst}
+use Rattle.chart_cycles.specs.Cycles.{AreOrdered}
+use Rattle.chart_extents.specs.Extents.{sized_of}
+use Rattle.msc_base.specs.declared.limits.TheConstants.Limits.{EXPANDED_NESTING}
+use Rattle.msc_base.specs.declared.memory.NoMemory.{NoMemory}
+use Rattle.msc_base.specs.Lists.{AreDifferent}
+use Rattle.msc_instances.specs.Instances.{instances}
+use Rattle.msc_meaning.specs.Tables.{ChartEntry, Table}
+use Rattle.msc_meaning.specs.Views.{table_view}
+use Rattle.msc_meaning.specs.declared.body.ChartEntry as code
+use Rattle.msc_meaning.specs.WovenTables.{AreEntriesOf}
 use Rattle.msc_rules.specs.declared.first_fault.Broken.{Broken}
 use Rattle.msc_rules.specs.declared.rule.Rule.{Rule}
+use Rattle.msc_tree.specs.Charts.{Chart}
 use Rattle.msc_tree.specs.Views.{chart_view}
 use Rattle.msc_tree.specs.declared.chart.RawChart.{RawChart}
-use Rattle.msc_acceptance.specs.Deciding.{IsFirstOf, body_groups, text_groups}
-use Rattle.msc_acceptance.proofs.AcceptLaws.{built_of, first_left, first_right, kept_both}
+use Rattle.msc_acceptance.specs.Acceptance.{BreaksOf}
+use Rattle.msc_acceptance.specs.Deciding.{AllKept, HaveExtents, IsDecided, IsFirstOf, IsSettled, body_groups, table_groups, text_groups}
+use Rattle.msc_acceptance.specs.declared.deciding.Decision.{Decision}
+use Rattle.msc_acceptance.specs.declared.deciding.Decision.TheVariants as decision
+use Rattle.msc_acceptance.proofs.AcceptLaws.{built_of, cycle_first, cycle_kept, few, first_left, first_right, kept_both}
+use Rattle.msc_acceptance.proofs.AcceptedLaws.{are_accepted, differ, entry_names}
+use Rattle.msc_acceptance.proofs.PlainLaws.{table_plain}
 use Rattle.msc_acceptance.proofs.deciding.decide.Goals as goal
+
+settled : (charts : List Chart) (table : Table) (r : Result Decision NoMemory) → AllKept (BreaksOf charts) text_groups → AllKept (BreaksOf charts) body_groups → AreEntriesOf instances charts table → HaveExtents (map sized_of charts)
+    → IfOk r (IsSettled charts table) → IfOk r (IsDecided charts)
+settled charts table (Err e) texts bodies are extents h = tt
+settled charts table (Ok (decision.Accepted a)) texts bodies are extents h = (
+  kept_both charts text_groups (body_groups ++ table_groups) texts (kept_both charts body_groups table_groups bodies (cycle_kept charts h.2)),
+  subst (AreEntriesOf instances charts) (sym h.0) are,
+  subst (λ (t : Table). AreOrdered t EXPANDED_NESTING t) (sym h.0) h.1,
+  extents,
+)
+settled charts table (Ok (decision.Faulty f)) texts bodies are extents h = first_right charts text_groups (body_groups ++ table_groups) f texts (first_right charts body_groups table_groups f bodies (cycle_first charts f h.0 h.1))
+
+view_names : (entries : List code.ChartEntry) → AreDifferent (map (λ (e : ChartEntry). e.name) (table_view entries)) → AreDifferent (map (λ (e : code.ChartEntry). e.name) entries)
+view_names entries h = subst AreDifferent (same entries) h
+  where
+    same : (entries : List code.ChartEntry) → map (λ (e : ChartEntry). e.name) (table_view entries) ≡ map (λ (e : code.ChartEntry). e.name) entries
+    same [] = refl
+    same (e ∷ entries) = ap (λ (ns : List (List ℕ)). e.name ∷ ns) (same entries)
 
 pub returns-in-Some : goal.returns-in-Some
 returns-in-Some c =
     let charts = map chart_view c.args.charts.items in
-    let told : IsFirstOf charts text_groups c.in_ok-fault.field-0 = subst (λ (l : List RawChart). IsFirstOf (map chart_view l) text_groups c.in_ok-fault.field-0) c.as_slice-2.ensures.value c.in_ok-fault.ensures in
+    let told : IsFirstOf charts text_groups c.in_ok-fault.field-0 = subst (λ (l : List RawChart). IsFirstOf (map chart_view l) text_groups c.in_ok-fault.field-0) c.as_slice-2.ensures.value c.in_ok-fault.ensures.first in
     let e : c.in_ok-fault.field-0 ≡ Some c.in-Some.fault = search rules in
-    first_left charts text_groups body_groups c.in-Some.fault (subst (λ (o : Option (Broken Rule)). IsFirstOf charts text_groups o) e told)
+    first_left charts text_groups (body_groups ++ table_groups) c.in-Some.fault (subst (λ (o : Option (Broken Rule)). IsFirstOf charts text_groups o) e told)
 
 pub woven_charts-requires-clause-built : goal.woven_charts-requires-clause-built
 woven_charts-requires-clause-built c =
     let charts = map chart_view c.args.charts.items in
-    let told : IsFirstOf charts text_groups c.in_ok-fault.field-0 = subst (λ (l : List RawChart). IsFirstOf (map chart_view l) text_groups c.in_ok-fault.field-0) c.as_slice-2.ensures.value c.in_ok-fault.ensures in
+    let told : IsFirstOf charts text_groups c.in_ok-fault.field-0 = subst (λ (l : List RawChart). IsFirstOf (map chart_view l) text_groups c.in_ok-fault.field-0) c.as_slice-2.ensures.value c.in_ok-fault.ensures.first in
     let e : c.in_ok-fault.field-0 ≡ None = search rules in
     built_of charts (subst (λ (o : Option (Broken Rule)). IsFirstOf charts text_groups o) e told)
 
 pub returns-in-Some-body_fault : goal.returns-in-Some-body_fault
 returns-in-Some-body_fault c =
     let charts = map chart_view c.args.charts.items in
-    let told : IsFirstOf charts text_groups c.in_ok-fault.field-0 = subst (λ (l : List RawChart). IsFirstOf (map chart_view l) text_groups c.in_ok-fault.field-0) c.as_slice-2.ensures.value c.in_ok-fault.ensures in
+    let told : IsFirstOf charts text_groups c.in_ok-fault.field-0 = subst (λ (l : List RawChart). IsFirstOf (map chart_view l) text_groups c.in_ok-fault.field-0) c.as_slice-2.ensures.value c.in_ok-fault.ensures.first in
     let e : c.in_ok-fault.field-0 ≡ None = search rules in
     let f : c.body_fault.result ≡ Some c.in-Some-body_fault.fault = search rules in
-    first_right charts text_groups body_groups c.in-Some-body_fault.fault (subst (λ (o : Option (Broken Rule)). IsFirstOf charts text_groups o) e told)
-    (subst (λ (o : Option (Broken Rule)). IsFirstOf charts body_groups o) f (c.body_fault.ensures.first charts c.in_ok-made.ensures.faults))
+    first_right charts text_groups (body_groups ++ table_groups) c.in-Some-body_fault.fault (subst (λ (o : Option (Broken Rule)). IsFirstOf charts text_groups o) e told)
+    (first_left charts body_groups table_groups c.in-Some-body_fault.fault (subst (λ (o : Option (Broken Rule)). IsFirstOf charts body_groups o) f (c.body_fault.ensures.first charts c.in_ok-made.ensures.faults)))
+
+pub settle-requires-clause-few : goal.settle-requires-clause-few
+settle-requires-clause-few c =
+    let charts = map chart_view c.args.charts.items in
+    let told : IsFirstOf charts text_groups c.in_ok-fault.field-0 = subst (λ (l : List RawChart). IsFirstOf (map chart_view l) text_groups c.in_ok-fault.field-0) c.as_slice-2.ensures.value c.in_ok-fault.ensures.first in
+    let e : c.in_ok-fault.field-0 ≡ None = search rules in
+    let f : c.body_fault.result ≡ None = search rules in
+    few charts c.in_ok-made.made.entries.items (subst (λ (o : Option (Broken Rule)). IsFirstOf charts text_groups o) e told) (c.in_ok-made.ensures.entries (c.body_fault.ensures.whole f))
+
+pub settle-requires-clause-different : goal.settle-requires-clause-different
+settle-requires-clause-different c =
+    let charts = map chart_view c.args.charts.items in
+    let told : IsFirstOf charts text_groups c.in_ok-fault.field-0 = subst (λ (l : List RawChart). IsFirstOf (map chart_view l) text_groups c.in_ok-fault.field-0) c.as_slice-2.ensures.value c.in_ok-fault.ensures.first in
+    let e : c.in_ok-fault.field-0 ≡ None = search rules in
+    let f : c.body_fault.result ≡ None = search rules in
+    let texts = subst (λ (o : Option (Broken Rule)). IsFirstOf charts text_groups o) e told in
+    let are = c.in_ok-made.ensures.entries (c.body_fault.ensures.whole f) in
+    view_names c.in_ok-made.made.entries.items (subst AreDifferent (sym (entry_names charts (table_view c.in_ok-made.made.entries.items) are)) (differ c.built_charts_are_known.ensures c.woven_charts_are_known.ensures charts c.requires texts))
+
+pub settle-requires-clause-plain : goal.settle-requires-clause-plain
+settle-requires-clause-plain c =
+    let charts = map chart_view c.args.charts.items in
+    let told : IsFirstOf charts text_groups c.in_ok-fault.field-0 = subst (λ (l : List RawChart). IsFirstOf (map chart_view l) text_groups c.in_ok-fault.field-0) c.as_slice-2.ensures.value c.in_ok-fault.ensures.first in
+    let e : c.in_ok-fault.field-0 ≡ None = search rules in
+    let f : c.body_fault.result ≡ None = search rules in
+    let texts = subst (λ (o : Option (Broken Rule)). IsFirstOf charts text_groups o) e told in
+    let bodies = subst (λ (o : Option (Broken Rule)). IsFirstOf charts body_groups o) f (c.body_fault.ensures.first charts c.in_ok-made.ensures.faults) in
+    let are = c.in_ok-made.ensures.entries (c.body_fault.ensures.whole f) in
+    table_plain (table_view c.in_ok-made.made.entries.items) (are_accepted c.built_charts_are_known.ensures c.woven_charts_are_known.ensures charts c.requires texts bodies (table_view c.in_ok-made.made.entries.items) are)
 
 pub returns : goal.returns
 returns c =
     let charts = map chart_view c.args.charts.items in
-    let told : IsFirstOf charts text_groups c.in_ok-fault.field-0 = subst (λ (l : List RawChart). IsFirstOf (map chart_view l) text_groups c.in_ok-fault.field-0) c.as_slice-2.ensures.value c.in_ok-fault.ensures in
+    let told : IsFirstOf charts text_groups c.in_ok-fault.field-0 = subst (λ (l : List RawChart). IsFirstOf (map chart_view l) text_groups c.in_ok-fault.field-0) c.as_slice-2.ensures.value c.in_ok-fault.ensures.first in
     let e : c.in_ok-fault.field-0 ≡ None = search rules in
     let f : c.body_fault.result ≡ None = search rules in
-    let whole = c.body_fault.ensures.whole f in (
-      kept_both charts text_groups body_groups (subst (λ (o : Option (Broken Rule)). IsFirstOf charts text_groups o) e told)
-          (subst (λ (o : Option (Broken Rule)). IsFirstOf charts body_groups o) f (c.body_fault.ensures.first charts c.in_ok-made.ensures.faults)),
-      c.in_ok-made.ensures.entries whole.0,
-      c.in_ok-made.ensures.ranked whole.0 whole.1,
-    )
+    let texts = subst (λ (o : Option (Broken Rule)). IsFirstOf charts text_groups o) e told in
+    let bodies = subst (λ (o : Option (Broken Rule)). IsFirstOf charts body_groups o) f (c.body_fault.ensures.first charts c.in_ok-made.ensures.faults) in
+    let are = c.in_ok-made.ensures.entries (c.body_fault.ensures.whole f) in
+    let extents : HaveExtents (map sized_of charts) = subst (λ (l : List RawChart). HaveExtents (map sized_of (map chart_view l))) c.as_slice-2.ensures.value (c.in_ok-fault.ensures.extents e) in
+    settled charts (table_view c.in_ok-made.made.entries.items) c.settle.result texts bodies are extents (c.settle.ensures charts are (search rules))

@@ -20,7 +20,6 @@ barred_crossed c p f e least = (
     alone = λ n. absurd (none-some p (sym (sym e ∙ n)));
     unknown = λ w. absurd (none-some p (sym (sym e ∙ w.0)));
     twice = λ w. absurd (none-some p (sym (sym e ∙ w.0)));
-    cyclic = λ w. absurd (none-some p (sym (sym e ∙ w.0)));
   },
 )
 
@@ -33,7 +32,6 @@ barred_alone c p f n e uncrossed least = (
     alone = λ m. subst (λ (o : Option Place). IsLeast (IsAloneAt c) o) (sym e) least;
     unknown = λ w. absurd (none-some p (sym (sym e ∙ w.1)));
     twice = λ w. absurd (none-some p (sym (sym e ∙ w.1)));
-    cyclic = λ w. absurd (none-some p (sym (sym e ∙ w.1)));
   },
 )
 

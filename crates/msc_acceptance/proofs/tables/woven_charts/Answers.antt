@@ -4,7 +4,6 @@ use Rattle.msc_instances.specs.Instances.{instances}
 use Rattle.msc_meaning.specs.Views.{table_view}
 use Rattle.msc_meaning.specs.WovenTables.{AreEntriesOf, no_entries}
 use Rattle.msc_meaning.specs.declared.body.ChartEntry as code
-use Rattle.msc_acceptance.specs.Deciding.{AreAllRanked}
 use Rattle.msc_acceptance.proofs.ChartLists.{own_of}
 use Rattle.msc_acceptance.proofs.TableLaws.{AreWovenSoFar, faults_all, faults_start, made_all, woven_more}
 use Rattle.msc_acceptance.proofs.Taking.{all_taken, left_less, next_is, next_low, taken, taken_more}
@@ -22,12 +21,8 @@ loop-chart-init c = record {
       alone = c.barring.ensures.alone;
       unknown = c.barring.ensures.unknown;
       twice = c.barring.ensures.twice;
-      cyclic = c.barring.ensures.cyclic;
     });
-    made = record {
-      entries = λ w. subst (λ (xs : List code.ChartEntry). AreEntriesOf instances [] (table_view xs)) (sym c.new.ensures.items) no_entries;
-      ranked = λ w n. subst (λ (xs : List code.ChartEntry). AreAllRanked (table_view xs)) (sym c.new.ensures.items) tt;
-    };
+    made = λ w. subst (λ (xs : List code.ChartEntry). AreEntriesOf instances [] (table_view xs)) (sym c.new.ensures.items) no_entries;
   };
 }
 
@@ -78,6 +73,5 @@ returns c =
     let made = made_all c.args.charts.items at.made.faults at.made.entries.items (length at.yielded) ended at.invariant.woven.made in
     record {
       faults = faults_all c.args.charts.items (length at.yielded) at.made.faults ended at.invariant.woven.faults;
-      entries = made.entries;
-      ranked = made.ranked;
+      entries = made;
     }

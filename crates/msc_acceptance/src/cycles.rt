@@ -1,0 +1,87 @@
+//! The earliest chart whose order is cyclic, and what the entries of charts come to by it: for `deciding`.
+
+ghost use Rattle.std.specs.Prelude.{◌≡◌, ◌≤◌, IfOk, List, length, map};
+ghost use Rattle.expanded_charts.specs.Making.{HasNames};
+ghost use Rattle.expanded_charts.specs.PlainCharts.{IsPlainTable};
+ghost use Rattle.msc_acceptance.specs.Deciding.{IsFlagged, IsSettled, TellsEarliest};
+ghost use Rattle.msc_base.specs.Lists.{AreDifferent};
+ghost use Rattle.msc_base.specs.Places.{IsLeast};
+ghost use Rattle.msc_base.specs.declared.limits.TheConstants.Limits.{CHARTS};
+ghost use Rattle.msc_instances.specs.Instances.{instances};
+ghost use Rattle.msc_meaning.specs.Views.{table_view};
+ghost use Rattle.msc_meaning.specs.WovenTables.{AreEntriesOf};
+ghost use Rattle.msc_meaning.specs.declared.body.ChartEntry.{ChartEntry};
+ghost use Rattle.msc_tree.specs.Charts.{Chart};
+
+use crate::Accepted;
+use crate::deciding::Decision;
+use chart_cycles::cyclic_charts;
+use msc_base::{Limits, NameTable, NoMemory, Place, earlier_if};
+use msc_meaning::ChartEntry;
+use msc_rules::{Broken, Rule};
+use std::alloc::Global;
+
+/// The names of the charts, which differ.
+fn entry_names(alloc: Global, entries: &[ChartEntry]) -> Result<NameTable, NoMemory>
+    requires { AreDifferent (map (λ (c : ChartEntry). c.name) entries.now) }
+    ensures { IfOk result (HasNames entries.now) }
+{
+    let mut names = NameTable::new(alloc);
+    for entry in entries {
+        names.add(alloc, entry.name.bytes())?;
+    }
+    Ok(names)
+}
+
+/// The earliest of the places whose flag is set.
+fn earliest_flagged(stands: &[Place], flags: &[bool]) -> Option<Place>
+    ensures { IsLeast (IsFlagged stands.now flags.now) result }
+{
+    let mut best = None;
+    let mut number = 0;
+    for flag in flags {
+        if number < stands.len() {
+            best = earlier_if(best, stands[number], *flag);
+        }
+        number += 1;
+    }
+    best
+}
+
+/// The earliest place at which a chart stands whose order is cyclic.
+fn cycle_place(
+    alloc: Global,
+    entries: &[ChartEntry],
+    names: &NameTable,
+    stands: &[Place],
+) -> Result<Option<Place>, NoMemory>
+    requires named { HasNames entries.now names.now }
+    requires different { AreDifferent names.now }
+    requires plain { IsPlainTable (table_view entries.now) }
+    ensures { IfOk result (TellsEarliest (table_view entries.now) stands.now) }
+{
+    let depth = Limits::EXPANDED_NESTING as u32;
+    let flags = cyclic_charts(alloc, entries, names, depth)?;
+    Ok(earliest_flagged(stands, flags.as_slice()))
+}
+
+/// What entries of charts that stand there come to: they are accepted, or the order of one is cyclic.
+pub fn settle(
+    alloc: Global,
+    entries: Vec<ChartEntry>,
+    stands: &[Place],
+) -> Result<Decision, NoMemory>
+    requires few { length entries.items ≤ CHARTS }
+    requires different { AreDifferent (map (λ (c : ChartEntry). c.name) entries.items) }
+    requires plain { IsPlainTable (table_view entries.items) }
+    ensures { (charts : List Chart) → AreEntriesOf instances charts (table_view entries.items) → stands.now ≡ map (λ (c : Chart). c.place) charts → IfOk result (IsSettled charts (table_view entries.items)) }
+{
+    let names = entry_names(alloc, entries.as_slice())?;
+    match cycle_place(alloc, entries.as_slice(), &names, stands)? {
+        Some(place) => Ok(Decision::Faulty(Broken {
+            rule: Rule::Cyclic,
+            place,
+        })),
+        None => Ok(Decision::Accepted(Accepted::of_entries(entries, names))),
+    }
+}
