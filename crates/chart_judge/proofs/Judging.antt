@@ -5,16 +5,16 @@ use Rattle.event_log.specs.States.{LogState, HoldsAt, IsGoing as IsReading}
 use Rattle.event_log.specs.declared.event.LogFault.{LogFault}
 use Rattle.event_log.specs.declared.event.LogForm.{LogForm}
 use Rattle.chart_term.specs.Terms.{Tree}
+use Rattle.table_terms.specs.TableTerms.{IsTermOf}
 use Rattle.term_tables.specs.NetValues.{NetsValue}
 use Rattle.chart_judge.specs.Judged.{fault_in, IsJudged}
 use Rattle.term_sets.specs.Memories.{PoolValue}
 use Rattle.term_sets.specs.contracts.pool.PoolStore.TheImpl.{holds-value}
 use Rattle.chart_judge.specs.States.{JudgeValue, Fed, IsGoing, Stands}
 use Rattle.chart_judge.specs.declared.fault.JudgeFault.{JudgeFault}
-use Rattle.msc_acceptance.specs.AcceptedCharts.{IsAcceptedChart}
+use Rattle.msc_acceptance.specs.AcceptedCharts.{IsAcceptedTable}
 use Rattle.msc_meaning.specs.Tables.{ChartEntry, Table, chart_at}
 use Rattle.chart_judge.specs.ChartsTold.{VerdictsAreTold}
-use Rattle.chart_judge.specs.ChartTerms.{IsTermOf}
 use Rattle.chart_judge.specs.Judging.{HasCounted, IsJudging, IsVerdictOn}
 
 -- ---- how many bytes were fed
@@ -37,7 +37,7 @@ counted v x form budget bytes judge fed faultless =
 
 -- ---- a judge of a chart
 
-pub judging : (table : Table) (name : List ℕ) (chart : ChartEntry) (form : LogForm) (budget : ℕ) (v : NetsValue) (x : Tree) (judge : JudgeValue PoolValue) → chart_at table name ≡ Some chart → IsAcceptedChart chart → IsTermOf chart v x → Fed holds-value.it v x form budget [] judge → judge.fault ≡ None
+pub judging : (table : Table) (name : List ℕ) (chart : ChartEntry) (form : LogForm) (budget : ℕ) (v : NetsValue) (x : Tree) (judge : JudgeValue PoolValue) → chart_at table name ≡ Some chart → IsAcceptedTable table → IsTermOf table name v x → Fed holds-value.it v x form budget [] judge → judge.fault ≡ None
     → IsJudging table name form budget [] judge
 judging table name chart form budget v x judge is accepted made fed faultless = record {
   tables = v;

@@ -1,87 +1,99 @@
--- What is known of the term of a chart, by the laws of such terms.
-use Rattle.std.proofs.Common.{◌≡◌, ◌≤◌, ◌+◌, ℕ, List, [], Some, arith, refl, sym, ap, ◌∙◌, subst}
-use Rattle.std.proofs.lemmas.Option.{same_Some}
-use Rattle.msc_acceptance.specs.AcceptedCharts.{IsAcceptedChart}
-use Rattle.msc_acceptance.specs.Listing.{cover_of}
-use Rattle.msc_meaning.specs.Bodies.{Body}
-use Rattle.msc_meaning.specs.Meanings.{Finished, Begun}
-use Rattle.msc_meaning.specs.Tables.{ChartEntry, Table, chart_at, Woven, Basic, HighLevel}
+-- What is known of the term of a chart of an accepted table, by the laws of such terms.
+use Rattle.std.proofs.Common.{◌≡◌, ◌≤◌, ℕ, List, [], ◌∷◌, Some, arith, refl, sym, ◌∙◌}
+use Rattle.msc_base.specs.declared.limits.TheConstants.Limits.{EXPANDED_NESTING, EXPANDED_SIZE}
+use Rattle.chart_cycles.specs.Cycles.{AreOrdered, IsOrdered}
+use Rattle.chart_forms.specs.TableSizes.{no_product, size_to}
 use Rattle.chart_term.specs.Terms.{Tree, weight}
-use Rattle.chart_forms.specs.BodySizes.{body_size}
-use Rattle.level_terms.specs.LevelLaws.{ChartTermsMean, WovenHaveFew}
-use Rattle.level_terms.specs.LevelTerms.{chart_tables, chart_term}
+use Rattle.expanded_charts.specs.Making.{no_ends}
+use Rattle.expanded_charts.specs.PlainCharts.{IsPlainTable}
+use Rattle.expanded_terms.specs.ExpandedTerms.{charts_to}
+use Rattle.expanded_terms.specs.NamedEvents.{event_term}
+use Rattle.expansion_terms.specs.ExpansionTerms.{numbered_term}
+use Rattle.msc_acceptance.specs.AcceptedCharts.{EachChart, IsAcceptedTable, IsThereTo}
+use Rattle.msc_meaning.specs.Meanings.{Finished, Begun}
+use Rattle.msc_meaning.specs.Tables.{ChartEntry, Table, chart_at}
+use Rattle.table_terms.specs.CompleteCharts.{IsCompleteTo}
+use Rattle.table_terms.specs.TableLaws.{TableTermsAreLight, TableTermsArePlaced, TableTermsAreSound, TableTermsMean, expanded_size}
+use Rattle.table_terms.specs.TableTerms.{IsTermOf, chart_numbering, labelled, numbered_chart}
 use Rattle.term_meaning.specs.Meanings.{Means}
 use Rattle.term_tables.specs.NetValues.{NetsValue}
 use Rattle.trace_judge.specs.Laws.{VerdictsTellRuns}
 use Rattle.trace_judge.specs.Sets.{IsSoundFor}
-use Rattle.chart_judge.specs.ChartTerms.{IsTermOf}
-use Rattle.chart_judge.specs.ChartsTold.{ChartsHaveRuns, ChartsHaveTerms, VerdictsAreTold}
-use Rattle.chart_judge.proofs.Verdicts.{IsKnown, begins_empty, told}
 use Rattle.verdict_meaning.proofs.Labelled.{begun_there}
+use Rattle.chart_judge.specs.ChartsTold.{ChartsHaveRuns, ChartsHaveTerms, VerdictsAreTold}
+use Rattle.chart_judge.proofs.CompleteTables.{complete_to}
+use Rattle.chart_judge.proofs.ExpandedSizes.{same_size}
+use Rattle.chart_judge.proofs.FewTables.{few_to}
+use Rattle.msc_acceptance.proofs.PlainLaws.{table_plain}
+use Rattle.chart_judge.proofs.TableEntries.{name_has}
+use Rattle.chart_judge.proofs.TableRoom.{are_placed, has_room}
+use Rattle.chart_judge.proofs.Verdicts.{IsKnown, begins_empty, told}
 
-abbrev body_in : Woven → Body → Body
-body_in (Basic held) other = held
-body_in (HighLevel drawn) other = other
+one_term : (table : Table) (name : List ℕ) (v w : NetsValue) (x y : Tree) → IsTermOf table name v x → IsTermOf table name w y → (v ≡ w) × (x ≡ y)
+one_term table name v w x y a b = (a.nets ∙ sym b.nets, a.term ∙ sym b.term)
 
-pub same_body : (a b : Body) → Basic a ≡ Basic b → a ≡ b
-same_body a b e = ap (λ (w : Woven). body_in w a) e
+each_ordered : (table : Table) (depth : ℕ) (charts : List ChartEntry) → AreOrdered table depth charts → EachChart (λ c. IsOrdered table depth c.name) charts
+each_ordered table depth [] h = tt
+each_ordered table depth (c ∷ charts) h = (h.0, each_ordered table depth charts h.1)
 
-one_term : (chart : ChartEntry) (v w : NetsValue) (x y : Tree) → IsTermOf chart v x → IsTermOf chart w y → (v ≡ w) × (x ≡ y)
-one_term chart v w x y a b =
-    let same = same_body a.body b.body (sym a.is ∙ b.is) in
-    (a.tables ∙ ap chart_tables same ∙ sym b.tables, a.term ∙ ap (λ (d : Body). chart_term (cover_of d) d) same ∙ sym b.term)
+within : (a b c : ℕ) → a ≤ b → b ≡ c → a ≤ c
+within a b c h e = omega (arith, h, e)
 
-module _ (level_terms : ChartTermsMean) (chart : ChartEntry) (v : NetsValue) (x : Tree) (accepted : IsAcceptedChart chart) (made : IsTermOf chart v x) where
-  abbrev body : Body
-  body = accepted.body
+below : (a b c : ℕ) → a ≤ b → b ≤ c → a ≤ c
+below a b c h g = omega (arith, h, g)
 
-  abbrev names : List (List ℕ)
-  names = cover_of body
+module _ (table : Table) (name : List ℕ) (chart : ChartEntry) (is : chart_at table name ≡ Some chart) (accepted : IsAcceptedTable table) where
+  plain : IsPlainTable table
+  plain = table_plain table accepted.charts
 
-  -- the body is that of the chart
-  same : made.body ≡ body
-  same = same_body made.body body (sym made.is ∙ accepted.is)
+  there : IsThereTo table EXPANDED_NESTING name
+  there = name_has (IsThereTo table EXPANDED_NESTING) table name chart accepted.there is
 
-  tables : v ≡ chart_tables body
-  tables = made.tables ∙ ap chart_tables same
+  complete : IsCompleteTo table EXPANDED_NESTING name
+  complete = complete_to table accepted.charts EXPANDED_NESTING name there
 
-  term : x ≡ chart_term names body
-  term = made.term ∙ ap (λ (d : Body). chart_term (cover_of d) d) same
+  ordered : IsOrdered table EXPANDED_NESTING name
+  ordered = name_has (IsOrdered table EXPANDED_NESTING) table name chart (each_ordered table EXPANDED_NESTING table accepted.ordered) is
 
-  chart_means : (table : Table) (name : List ℕ) → chart_at table name ≡ Some chart → Means v names x (Finished table name) (Begun table name)
-  chart_means table name is =
-      let m = (level_terms.means names body accepted.different accepted.built).means table name chart is accepted.whole accepted.is in
-      subst (λ (u : NetsValue). Means u names x (Finished table name) (Begun table name)) (sym tables)
-      (subst (λ (y : Tree). Means (chart_tables body) names y (Finished table name) (Begun table name)) (sym term) m)
+  small : size_to no_product table EXPANDED_NESTING name ≤ EXPANDED_SIZE
+  small = name_has (λ n. size_to no_product table EXPANDED_NESTING n ≤ EXPANDED_SIZE) table name chart accepted.small is
 
-  chart_sound : IsSoundFor v x
-  chart_sound =
-      subst (λ (u : NetsValue). IsSoundFor u x) (sym tables)
-      (subst (λ (y : Tree). IsSoundFor (chart_tables body) y) (sym term) (record { full = level_terms.ranked names body accepted.built accepted.ranked; placed = level_terms.placed names body }))
+  module _ (v : NetsValue) (x : Tree) (made : IsTermOf table name v x) where
+    chart_means : TableTermsMean → Means v (chart_numbering table name).names x (Finished table name) (Begun table name)
+    chart_means laws = laws.means table name v x plain complete made
 
-  chart_weighs : WovenHaveFew → weight x ≤ 2 + body_size body
-  chart_weighs pairs =
-      let few = pairs names accepted.pieces body accepted.woven accepted.once accepted.named_once in
-      let light = level_terms.weighs names body accepted.built few in
-      let whole : weight x ≡ weight (chart_term names body) = ap weight term in
-      omega (arith, light, whole)
+    chart_sound : TableTermsAreSound → TableTermsArePlaced → IsSoundFor v x
+    chart_sound sound placed = record {
+      full = sound.sound table name v x plain made ordered;
+      placed = placed.placed table name v x plain complete made (are_placed table accepted name);
+    }
 
-pub have_terms : ChartTermsMean → WovenHaveFew → ChartsHaveTerms
-have_terms level_terms pairs = record {
+    chart_weighs : TableTermsAreLight → weight x ≤ size_to no_product table EXPANDED_NESTING name
+    chart_weighs laws =
+        within (weight x) (expanded_size table name) (size_to no_product table EXPANDED_NESTING name)
+        (laws.light table name v x made (few_to table accepted.charts EXPANDED_NESTING name there))
+        (same_size (charts_to (event_term (chart_numbering table name).names (chart_numbering table name).labels) no_ends table) table plain EXPANDED_NESTING name)
+
+    chart_light : TableTermsAreLight → weight x ≤ EXPANDED_SIZE
+    chart_light laws = below (weight x) (size_to no_product table EXPANDED_NESTING name) EXPANDED_SIZE (chart_weighs laws) small
+
+pub have_terms : TableTermsMean → TableTermsAreSound → TableTermsArePlaced → TableTermsAreLight → ChartsHaveTerms
+have_terms mean sound placed light = record {
   one = one_term;
-  means = λ table name chart v x is accepted made. chart_means level_terms chart v x accepted made table name is;
-  sound = λ chart v x accepted made. chart_sound level_terms chart v x accepted made;
-  weighs = λ chart v x accepted made. chart_weighs level_terms chart v x accepted made pairs;
-  light = λ chart v x accepted made. let weighs = chart_weighs level_terms chart v x accepted made pairs in let small = accepted.small in omega (arith, weighs, small);
+  room = λ table name chart is accepted. has_room table accepted name;
+  means = λ table name chart v x is accepted made. chart_means table name chart is accepted v x made mean;
+  sound = λ table name chart v x is accepted made. chart_sound table name chart is accepted v x made sound placed;
+  weighs = λ table name chart v x is accepted made. chart_weighs table name chart is accepted v x made light;
+  light = λ table name chart v x is accepted made. chart_light table name chart is accepted v x made light;
 }
 
-known : ChartsHaveTerms → (table : Table) (name : List ℕ) (chart : ChartEntry) (v : NetsValue) (x : Tree) → chart_at table name ≡ Some chart → IsAcceptedChart chart → IsTermOf chart v x → IsKnown table name v x
+known : ChartsHaveTerms → (table : Table) (name : List ℕ) (chart : ChartEntry) (v : NetsValue) (x : Tree) → chart_at table name ≡ Some chart → IsAcceptedTable table → IsTermOf table name v x → IsKnown table name v x
 known terms table name chart v x is accepted made = record {
   has = record { chart = chart; is = is; made = made };
-  one = λ w y has. terms.one chart w v y x (subst (λ (c : ChartEntry). IsTermOf c w y) (same_Some has.chart chart (sym has.is ∙ is)) has.made) made;
-  names = cover_of accepted.body;
+  one = λ w y has. terms.one table name w v y x has.made made;
+  names = (chart_numbering table name).names;
   means = terms.means table name chart v x is accepted made;
-  sound = terms.sound chart v x accepted made;
+  sound = terms.sound table name chart v x is accepted made;
 }
 
 pub verdicts_told : ChartsHaveTerms → VerdictsTellRuns → VerdictsAreTold
@@ -90,12 +102,18 @@ verdicts_told terms laws table name chart v x budget events verdict is accepted 
 -- ---- runs
 
 -- the chart has a term
-a_term : (chart : ChartEntry) (accepted : IsAcceptedChart chart) → IsTermOf chart (chart_tables accepted.body) (chart_term (cover_of accepted.body) accepted.body)
-a_term chart accepted = record { body = accepted.body; is = accepted.is; tables = refl; term = refl }
+the_tables : Table → List ℕ → NetsValue
+the_tables table name = labelled (chart_numbering table name).labels
 
-known_of : ChartsHaveTerms → (table : Table) (name : List ℕ) (chart : ChartEntry) → chart_at table name ≡ Some chart → (accepted : IsAcceptedChart chart)
-    → IsKnown table name (chart_tables accepted.body) (chart_term (cover_of accepted.body) accepted.body)
-known_of terms table name chart is accepted = known terms table name chart (chart_tables accepted.body) (chart_term (cover_of accepted.body) accepted.body) is accepted (a_term chart accepted)
+the_term : Table → List ℕ → Tree
+the_term table name = numbered_term (numbered_chart table name)
+
+a_term : (table : Table) (name : List ℕ) → IsTermOf table name (the_tables table name) (the_term table name)
+unfolding the_tables the_term
+a_term table name = record { term = refl; nets = refl }
+
+known_of : ChartsHaveTerms → (table : Table) (name : List ℕ) (chart : ChartEntry) → chart_at table name ≡ Some chart → IsAcceptedTable table → IsKnown table name (the_tables table name) (the_term table name)
+known_of terms table name chart is accepted = known terms table name chart (the_tables table name) (the_term table name) is accepted (a_term table name)
 
 pub have_runs : ChartsHaveTerms → ChartsHaveRuns
 have_runs terms = record {
@@ -103,6 +121,6 @@ have_runs terms = record {
       let k = known_of terms table name chart is accepted in
       let s = k.means.all_ones.all u b in
       let order = k.sound.full.term.ordered s.pattern s.is in
-      begun_there (chart_tables accepted.body).labels k.names s.pattern u s.stands [] [] order.run tt order.is;
-  empty = λ table name chart is accepted. begins_empty table name (chart_tables accepted.body) (chart_term (cover_of accepted.body) accepted.body) (known_of terms table name chart is accepted);
+      begun_there (the_tables table name).labels k.names s.pattern u s.stands [] [] order.run tt order.is;
+  empty = λ table name chart is accepted. begins_empty table name (the_tables table name) (the_term table name) (known_of terms table name chart is accepted);
 }

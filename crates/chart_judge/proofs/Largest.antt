@@ -1,11 +1,10 @@
 -- The largest weight of what is left of a chart's term, where a log conforms.
 use Rattle.std.proofs.Common.{◌≡◌, ◌≤◌, ℕ, true, false, if◌then◌else◌, List, [], ◌∷◌, ◌++◌, take, None, refl, sym, ap, ◌∙◌, subst, append_assoc, arith}
-use Rattle.std.proofs.lemmas.Option.{same_Some}
 use Rattle.msc_base.specs.declared.limits.TheConstants.Limits.{LOG_BYTES}
 use Rattle.msc_base.specs.declared.label.Label.{Label}
 use Rattle.msc_base.specs.declared.verdict.Verdict.TheVariants.{Conforms}
 use Rattle.line_events.specs.declared.event.LineEvent.{LineEvent}
-use Rattle.msc_meaning.specs.Tables.{ChartEntry, Table}
+use Rattle.msc_meaning.specs.Tables.{Table}
 use Rattle.event_log.specs.Lines.{Cut, with_byte, with_bytes, nothing_cut, cut_of, long_line, last_line, decided, is_within, lines_of}
 use Rattle.event_log.specs.Logs.{LogOf, PassesLines, first_stage}
 use Rattle.event_log.specs.States.{IsFaultOf}
@@ -17,7 +16,6 @@ use Rattle.trace_judge.specs.Logs.{labels_of, AreResiduals, WeighsWithin}
 use Rattle.trace_judge.specs.Verdicts.{AreWithin, Weighs, IsReached, by_front, by_none, IsLargest}
 use Rattle.term_sets.specs.Memories.{PoolValue}
 use Rattle.term_sets.specs.contracts.pool.PoolStore.TheImpl.{holds-value}
-use Rattle.chart_judge.specs.ChartTerms.{IsTermOf}
 use Rattle.chart_judge.specs.ChartVerdicts.{HasTerm, IsChartVerdict, IsWithinBudget}
 use Rattle.chart_judge.specs.ChartsTold.{ChartsHaveTerms}
 use Rattle.chart_judge.specs.Judged.{IsLargestOf}
@@ -60,8 +58,7 @@ module _ (terms : ChartsHaveTerms) (table : Table) (name : List ℕ) (v : NetsVa
   -- what holds of the chart's term holds of this one
   there : (P : NetsValue → Tree → Type 0) (w : NetsValue) (y : Tree) → HasTerm table name w y → P w y → P v x
   there P w y other p =
-      let chart : other.chart ≡ has.chart = same_Some other.chart has.chart (sym other.is ∙ has.is) in
-      let one = terms.one has.chart w v y x (subst (λ (c : ChartEntry). IsTermOf c w y) chart other.made) has.made in
+      let one = terms.one table name w v y x other.made has.made in
       subst (λ (z : Tree). P v z) one.1 (subst (λ (u : NetsValue). P u y) one.0 p)
 
   -- the budget holds of the term

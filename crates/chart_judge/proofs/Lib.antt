@@ -1,7 +1,12 @@
-pub mod Bodies
+pub mod TableEntries
+pub mod CompleteTables
+mod LevelPairs
+mod FewTables
+mod ExpandedEvents
+mod TableRoom
+mod ExpandedSizes
 pub mod Judging
 pub mod Known
-pub mod Made
 pub mod Verdicts
 mod Few
 mod Largest

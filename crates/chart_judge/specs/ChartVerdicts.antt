@@ -9,13 +9,13 @@ use Rattle.chart_term.specs.Terms.{Tree}
 use Rattle.term_tables.specs.NetValues.{NetsValue}
 use Rattle.trace_judge.specs.Logs.{WeighsWithin, WeighsMore}
 use Rattle.trace_judge.specs.VerdictsBy as by
-use Rattle.chart_judge.specs.ChartTerms.{IsTermOf}
+use Rattle.table_terms.specs.TableTerms.{IsTermOf}
 
 -- the chart of that name has this term, over these tables
 pub record HasTerm (table : Table) (name : List ℕ) (v : NetsValue) (x : Tree) : Type 0 where
   pub chart : ChartEntry
   pub is : chart_at table name ≡ Some chart
-  pub made : IsTermOf chart v x
+  pub made : IsTermOf table name v x
 
 -- what is left of the chart's term after these labels weighs no more than the budget
 pub record IsWithinBudget (table : Table) (name : List ℕ) (budget : ℕ) (labels : List Label) : Type 0 where

@@ -3,7 +3,7 @@ use Rattle.std.specs.Prelude.{ℕ, ◌≡◌, ◌≤◌, false, List, length, No
 use Rattle.msc_base.specs.Only.{Only}
 use Rattle.msc_base.specs.declared.limits.TheConstants.Limits.{LOG_BYTES}
 use Rattle.msc_base.specs.declared.verdict.Verdict.{Verdict}
-use Rattle.msc_acceptance.specs.AcceptedCharts.{IsAcceptedChart}
+use Rattle.msc_acceptance.specs.AcceptedCharts.{IsAcceptedTable}
 use Rattle.msc_meaning.specs.Tables.{Table}
 use Rattle.event_log.specs.States.{IsFaultOf}
 use Rattle.event_log.specs.declared.event.LogForm.{LogForm}
@@ -19,12 +19,12 @@ pub record HasCounted (bytes : List ℕ) (judge : JudgeValue PoolValue) : Type 0
   pub count : judge.reader.count ≡ length bytes
   pub within : judge.reader.count ≤ LOG_BYTES
 
--- the judge was made for the accepted chart of that name, this form of log and this budget, has been fed these bytes, and met no fault
+-- the judge was made for the chart of that name in an accepted table, this form of log and this budget, has been fed these bytes, and met no fault
 pub record IsJudging (table : Table) (name : List ℕ) (form : LogForm) (budget : ℕ) (bytes : List ℕ) (judge : JudgeValue PoolValue) : Type 0 where
   pub tables : NetsValue
   pub term : Tree
   pub has : HasTerm table name tables term
-  pub accepted : IsAcceptedChart has.chart
+  pub accepted : IsAcceptedTable table
   pub fed : Fed holds-value.it tables term form budget bytes judge
   pub faultless : judge.fault ≡ None
   pub counted : HasCounted bytes judge

@@ -1,4 +1,3 @@
-pub mod ChartTerms
 pub mod ChartVerdicts
 pub mod ChartsTold
 pub mod Judging

@@ -3,10 +3,10 @@
 ghost use Rattle.std.specs.Prelude.{◌≡◌, ◌≤◌, ◌++◌, [], ℕ, List, Some, false, IfOk, IfErr, IfSome, OnOk};
 ghost use Rattle.chart_judge.specs.Judging.{IsJudging, IsVerdictOn};
 ghost use Rattle.event_log.specs.declared.event.LogForm.{LogForm as Form};
-ghost use Rattle.msc_acceptance.specs.AcceptedCharts.{IsAcceptedChart};
+ghost use Rattle.msc_acceptance.specs.AcceptedCharts.{IsAcceptedTable};
 ghost use Rattle.msc_base.specs.declared.limits.TheConstants.Limits.{BUDGET_MOST};
-ghost use Rattle.msc_meaning.specs.Tables.{Table, chart_at};
-ghost use Rattle.msc_meaning.specs.Views.{entry_view};
+ghost use Rattle.msc_meaning.specs.Tables.{ChartEntry, Table, chart_at};
+ghost use Rattle.msc_meaning.specs.Views.{table_view};
 ghost use Rattle.chart_judge.specs.Judged.{IsJudgeFault, fault_in};
 ghost use Rattle.chart_judge.specs.LargestWeights.{IsLargestOn};
 
@@ -14,8 +14,8 @@ use crate::laws::{charts_have_terms, verdicts_are_told};
 use crate::term::term_of;
 use crate::{Judge, JudgeFault};
 use event_log::LogForm;
+use msc_acceptance::Accepted;
 use msc_base::{NoMemory, Verdict};
-use msc_meaning::ChartEntry;
 use std::alloc::Global;
 use std::marker::Model;
 use term_sets::Pool;
@@ -40,21 +40,23 @@ impl Model for ChartJudge {
 }
 
 impl ChartJudge {
-    /// A judge of a log of this form by the chart, to which nothing has been fed. The weight of what may be left of the chart's
-    /// term after an event is the budget at most. What it says is the verdict by the chart in each table that has it, by its name there.
+    /// A judge of a log of this form by the chart of that name, to which nothing has been fed. The weight of what may be left of the
+    /// chart's term after an event is the budget at most.
     pub fn new(
         alloc: Global,
-        chart: &ChartEntry,
+        accepted: &Accepted,
+        name: &[u8],
         form: LogForm,
         budget: u64,
     ) -> Result<ChartJudge, NoMemory>
-        requires accepted { IsAcceptedChart (entry_view chart.now) }
+        requires accepted { IsAcceptedTable (table_view accepted.now) }
+        requires there { (chart : ChartEntry) × (chart_at (table_view accepted.now) name.now ≡ Some chart) }
         requires least { 1 ≤ budget }
         requires most { budget ≤ BUDGET_MOST }
-        ensures { (table : Table) (name : List ℕ) → chart_at table name ≡ Some (entry_view chart.now) → IfOk result (λ judge. IsJudging table name form budget [] judge) }
+        ensures { IfOk result (λ judge. IsJudging (table_view accepted.now) name.now form budget [] judge) }
     {
         charts_have_terms();
-        let made = term_of(alloc, chart)?;
+        let made = term_of(alloc, accepted, name)?;
         let judge = Judge::new(alloc, made.nets, made.term, form, budget)?;
         Ok(ChartJudge { judge })
     }

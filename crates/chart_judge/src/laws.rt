@@ -3,15 +3,20 @@
 ghost use Rattle.chart_judge.specs.ChartsTold.{ChartsHaveRuns, ChartsHaveTerms, VerdictsAreTold};
 ghost use Rattle.chart_judge.specs.LargestWeights.{LargestIsTold};
 
-use level_terms::laws::{chart_terms_mean, woven_bodies_have_few_pairs};
+use table_terms::laws::{
+    table_terms_are_light, table_terms_are_placed, table_terms_are_sound, table_terms_mean,
+};
 use trace_judge::laws::{sets_go_on, verdicts_tell_runs};
 
-/// A chart has one term, which means the chart's unfoldings, is sound, and weighs no more than the chart's size and the limit of sizes.
+/// A chart of an accepted table has one term, for which there is room; it means the chart's unfoldings, is sound, and weighs no more than
+/// the chart's expanded size and the limit of sizes.
 pub fn charts_have_terms()
     ensures { ChartsHaveTerms }
 {
-    chart_terms_mean();
-    woven_bodies_have_few_pairs();
+    table_terms_mean();
+    table_terms_are_sound();
+    table_terms_are_placed();
+    table_terms_are_light();
 }
 
 /// The verdict by what is left of a chart's term is the verdict by the chart, and there is no other.
@@ -22,7 +27,7 @@ pub fn verdicts_are_told()
     verdicts_tell_runs();
 }
 
-/// Each unfolding of an accepted chart has a linear order, and a run of the chart begins with no label.
+/// Each unfolding of a chart of an accepted table has a linear order, and a run of the chart begins with no label.
 pub fn charts_have_runs()
     ensures { ChartsHaveRuns }
 {

@@ -1,4 +1,4 @@
-//! The judge of a log by a chart: the chart's term, made of its woven body, and a judge of a log by what is left of it.
+//! The judge of a log by a chart: the chart's term, made of its expansion, and a judge of a log by what is left of it.
 //!
 //! `specs/` says which term a chart has, what verdict a log has by a chart, and what a judge says of the bytes that it was fed.
 #![tactic(auto)]

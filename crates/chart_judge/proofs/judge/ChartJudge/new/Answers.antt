@@ -1,8 +1,19 @@
-use Rattle.msc_meaning.specs.Views.{entry_view}
+use Rattle.msc_meaning.specs.Views.{table_view}
 use Rattle.chart_judge.proofs.Judging.{judging}
+use Rattle.msc_acceptance.proofs.PlainLaws.{table_plain}
 use Rattle.chart_judge.proofs.judge.ChartJudge.new.Goals as goal
 
+pub term_of-requires-clause-plain : goal.term_of-requires-clause-plain
+term_of-requires-clause-plain c = table_plain (table_view c.args.accepted.now) c.requires.accepted.charts
+
+pub term_of-requires-clause-room : goal.term_of-requires-clause-room
+term_of-requires-clause-room c = c.charts_have_terms.ensures.room (table_view c.args.accepted.now) c.args.name.now c.requires.there.0 c.requires.there.1 c.requires.accepted
+
 pub returns : goal.returns
-returns c = λ table name is.
-    judging table name (entry_view c.args.chart.now) c.args.form c.args.budget c.in_ok-made.made.nets c.in_ok-made.made.term c.in_ok-judge.judge is c.requires.accepted
+returns c =
+    judging (table_view c.args.accepted.now) c.args.name.now c.requires.there.0 c.args.form c.args.budget c.in_ok-made.made.nets c.in_ok-made.made.term c.in_ok-judge.judge c.requires.there.1 c.requires.accepted
     c.in_ok-made.ensures c.in_ok-judge.ensures.fed c.in_ok-judge.ensures.fault
+
+pub new-requires-clause-sound : goal.new-requires-clause-sound
+new-requires-clause-sound c =
+    c.charts_have_terms.ensures.sound (table_view c.args.accepted.now) c.args.name.now c.requires.there.0 c.in_ok-made.made.nets c.in_ok-made.made.term c.requires.there.1 c.requires.accepted c.in_ok-made.ensures

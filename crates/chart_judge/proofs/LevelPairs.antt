@@ -1,14 +1,19 @@
 -- A level has no more message pairs than events, and is ordered by no more pairs than its events name.
-use Rattle.std.specs.Prelude.{ℕ, suc, ◌≤◌, List, [], ◌∷◌, ◌++◌, ◌+◌, length}
-use Rattle.std.proofs.Common.{◌≡◌, refl, subst, ap, inl, inr, arith}
+use Rattle.std.specs.Prelude.{ℕ, zero, suc, ◌≤◌, List, [], ◌∷◌, ◌++◌, ◌+◌, Some, length}
+use Rattle.std.specs.List.{slice_get}
+use Rattle.std.proofs.Common.{◌≡◌, refl, sym, subst, ap, inl, inr, arith}
 use Rattle.msc_base.specs.declared.label.Pair.{Pair}
 use Rattle.msc_base.specs.Orders.{Among, first, later}
 use Rattle.msc_meaning.specs.Bodies.{EventNode, WovenItems, events}
 use Rattle.msc_meaning.specs.Pairing.{ArePairs, DoRise, HasPair}
 use Rattle.msc_meaning.specs.Ties.{after_pairs, before_pairs, each_after, each_before, labelled, level_pairs, order_pairs}
 use Rattle.general_ordering.specs.OrderCounts.{orders_count}
-use Rattle.sound_terms.proofs.Places.{place_among}
-use Rattle.level_terms.specs.EventNumbers.{numbers}
+use Rattle.expanded_terms.specs.FewPairs.{node_numbers}
+
+place_among : (ns : List EventNode) (i : ℕ) (n : EventNode) → slice_get ns i ≡ Some n → Among n ns
+place_among [] i n h = cc
+place_among (m ∷ ns) zero n h = let e : m ≡ n = cc in subst (λ k. Among n (k ∷ ns)) (sym e) first
+place_among (m ∷ ns) (suc i) n h = later (place_among ns i n h)
 
 -- the numbers without one
 record IsWithout (k : ℕ) (ys : List ℕ) : Type 0 where
@@ -46,22 +51,22 @@ has_pair (p ∷ ps) _ first = inl (refl, refl)
 has_pair (q ∷ ps) p (later h) = inr (has_pair ps p h)
 has_pair [] p h = elim h [ ]
 
-among_numbers : (ns : List EventNode) (n : EventNode) → Among n ns → Among n.number (numbers ns)
+among_numbers : (ns : List EventNode) (n : EventNode) → Among n ns → Among n.number (node_numbers ns)
 among_numbers (n ∷ ns) _ first = first
 among_numbers (m ∷ ns) n (later h) = later (among_numbers ns n h)
 among_numbers [] n h = elim h [ ]
 
-length_numbers : (ns : List EventNode) → length (numbers ns) ≡ length ns
+length_numbers : (ns : List EventNode) → length (node_numbers ns) ≡ length ns
 length_numbers [] = refl
 length_numbers (n ∷ ns) = ap suc (length_numbers ns)
 
 pairs_are_few : (held : List EventNode) (pairs : List Pair) → ArePairs held pairs → length pairs ≤ length held
-pairs_are_few held ps h = let few = few_rising ps 0 (numbers held) h.rising (λ p i. output p i) in omega (arith, few, length_numbers held)
+pairs_are_few held ps h = let few = few_rising ps 0 (node_numbers held) h.rising (λ p i. output p i) in omega (arith, few, length_numbers held)
   where
-    output : (p : Pair) → Among p ps → Among p.first (numbers held)
+    output : (p : Pair) → Among p ps → Among p.first (node_numbers held)
     output p i =
         let paired = h.paired p.first p.second (has_pair ps p i) in
-        subst (λ k. Among k (numbers held)) paired.output_number (among_numbers held paired.output (place_among held paired.output_position paired.output paired.output_at))
+        subst (λ k. Among k (node_numbers held)) paired.output_number (among_numbers held paired.output (place_among held paired.output_position paired.output paired.output_at))
 
 -- ---- the general ordering
 

@@ -1,0 +1,227 @@
+-- The levels of the charts of an accepted table have no more pairs than events and what these are ordered with.
+use Rattle.std.specs.Prelude.{ℕ, zero, suc, List, [], ◌∷◌, ◌++◌, Option, None, Some, length}
+use Rattle.std.proofs.Common.{◌≡◌, refl, sym, subst, inl, inr, arith}
+use Rattle.chart_forms.specs.BodyEvents.{events_within, item_within, items_within, operands_within}
+use Rattle.chart_forms.specs.BuiltBodies.{AreBuiltBodies, AreBuiltItems, IsBuiltBody, IsBuiltItem}
+use Rattle.expanded_charts.specs.PlainCharts.{AreAtNoGate, ArePlainItems, IsAtNoGate}
+use Rattle.expanded_terms.specs.FewPairs.{HasFewOwn, event_tags, node_numbers, own_gates}
+use Rattle.expanded_terms.specs.JoinProducts.{AreFewExpressions, AreFewItems, AreFewOperands, IsFewEntry, IsFewExpression, IsFewItem, IsFewLevel, IsFewTo, IsFewWoven}
+use Rattle.gate_ends.specs.FoundEnds.{AreAll, item_names, items_names, level_names, operands_names}
+use Rattle.general_ordering.specs.EventNames.{LevelsBreakNameRule, Twice, breaks, places_where}
+use Rattle.general_ordering.proofs.NamesOnce.{names_once}
+use Rattle.msc_acceptance.specs.AcceptedCharts.{EachChart, IsAcceptedChart, IsThereTo, content_names}
+use Rattle.msc_acceptance.specs.Listing.{cover_of}
+use Rattle.msc_base.specs.Lists.{IsAmong}
+use Rattle.msc_base.specs.Orders.{Among, first, later, Once}
+use Rattle.msc_base.specs.declared.place.Place.{Place}
+use Rattle.msc_meaning.specs.Bodies.{EventNode, Body, level, WovenItems, no_items, item_and, WovenItem, Single, Coregion, Inline, Refer, Bodies, no_bodies, body_and, events}
+use Rattle.msc_meaning.specs.BodyLevels.{BodyLevel, EachLevel, body_levels, item_levels, items_levels, level_events, levels_from, operands_levels}
+use Rattle.msc_meaning.specs.Calls.{Call}
+use Rattle.msc_meaning.specs.FarEnds.{gate_tags}
+use Rattle.msc_meaning.specs.InnerEvents.{charts_in, charts_in_all}
+use Rattle.msc_meaning.specs.Levels.{IsWovenLevel, woven, AreWovenItems, no_woven, woven_and, IsWovenItem, an_event, a_coregion, an_inline, a_reference, AreWovenOperands, no_woven_operand, woven_operand_and}
+use Rattle.msc_meaning.specs.Pairing.{ArePairs}
+use Rattle.msc_meaning.specs.Pieces.{Piece}
+use Rattle.msc_meaning.specs.Tables.{ChartEntry, Table, Woven, Basic, Refinement, refinements}
+use Rattle.msc_meaning.proofs.LevelLaws.{each_both, each_left, each_right}
+use Rattle.msc_tree.specs.Expressions.{Expression, Empty, Chart, Alt, Par, Seq, Opt, Loop, Expressions, none, more}
+use Rattle.msc_tree.specs.declared.event.Target.{Target}
+use Rattle.msc_tree.specs.declared.event.Target.TheVariants.{Nobody, Env, Instance, Gate}
+use Rattle.msc_tree.specs.declared.reference.InlineForm.{InlineForm}
+use Rattle.table_terms.proofs.WholeCharts.{none_called}
+use Rattle.chart_judge.proofs.CompleteTables.{all_left, all_right}
+use Rattle.chart_judge.proofs.LevelPairs.{level_is_few}
+use Rattle.msc_acceptance.proofs.PlainLaws.{items_plain}
+use Rattle.chart_judge.proofs.TableEntries.{entry_has}
+
+-- ---- numbers that differ
+
+among_left : (ns ms : List EventNode) (k : ℕ) → Among k (node_numbers ns) → Among k (node_numbers (ns ++ ms))
+among_left (n ∷ ns) ms _ first = first
+among_left (n ∷ ns) ms k (later h) = later (among_left ns ms k h)
+among_left [] ms k h = elim h [ ]
+
+among_right : (ns ms : List EventNode) (k : ℕ) → Among k (node_numbers ms) → Among k (node_numbers (ns ++ ms))
+among_right [] ms k h = h
+among_right (n ∷ ns) ms k h = later (among_right ns ms k h)
+
+among_over : (ns cs bs : List EventNode) → ((k : ℕ) → Among k (node_numbers cs) → Among k (node_numbers bs)) → (k : ℕ) → Among k (node_numbers (ns ++ cs)) → Among k (node_numbers (ns ++ bs))
+among_over [] cs bs f k h = f k h
+among_over (n ∷ ns) cs bs f _ first = first
+among_over (n ∷ ns) cs bs f k (later h) = later (among_over ns cs bs f k h)
+
+once_over : (ns cs bs : List EventNode) → ((k : ℕ) → Among k (node_numbers cs) → Among k (node_numbers bs)) → (Once (node_numbers bs) → Once (node_numbers cs)) → Once (node_numbers (ns ++ bs)) → Once (node_numbers (ns ++ cs))
+once_over [] cs bs f g o = g o
+once_over (n ∷ ns) cs bs f g (o, h) = ((λ i. o (among_over ns cs bs f n.number i)), once_over ns cs bs f g h)
+
+once_left : (ns ms : List EventNode) → Once (node_numbers (ns ++ ms)) → Once (node_numbers ns)
+once_left [] ms o = tt
+once_left (n ∷ ns) ms (o, h) = ((λ i. o (among_left ns ms n.number i)), once_left ns ms h)
+
+once_right : (ns ms : List EventNode) → Once (node_numbers (ns ++ ms)) → Once (node_numbers ms)
+once_right [] ms o = o
+once_right (n ∷ ns) ms (o, h) = once_right ns ms h
+
+own_within : (xs : WovenItems) (k : ℕ) → Among k (node_numbers (events xs)) → Among k (node_numbers (items_within xs))
+own_within no_items k h = h
+own_within (item_and (Single n) xs) k h = among_over (n ∷ []) (events xs) (items_within xs) (λ j i. own_within xs j i) k h
+own_within (item_and (Coregion ns) xs) k h = among_over ns (events xs) (items_within xs) (λ j i. own_within xs j i) k h
+own_within (item_and (Inline form part operands) xs) k h = among_right (operands_within operands) (items_within xs) k (own_within xs k h)
+own_within (item_and (Refer part) xs) k h = own_within xs k h
+
+own_once : (xs : WovenItems) → Once (node_numbers (items_within xs)) → Once (node_numbers (events xs))
+own_once no_items o = o
+own_once (item_and (Single n) xs) o = once_over (n ∷ []) (events xs) (items_within xs) (λ j i. own_within xs j i) (λ h. own_once xs h) o
+own_once (item_and (Coregion ns) xs) o = once_over ns (events xs) (items_within xs) (λ j i. own_within xs j i) (λ h. own_once xs h) o
+own_once (item_and (Inline form part operands) xs) o = own_once xs (once_right (operands_within operands) (items_within xs) o)
+own_once (item_and (Refer part) xs) o = own_once xs o
+
+abbrev IsOnce : BodyLevel → Type 0
+IsOnce l = Once (node_numbers (level_events l.body))
+
+mutual
+  once_body : (f : Option InlineForm) (b : Body) → Once (node_numbers (events_within b)) → EachLevel IsOnce (levels_from f b)
+  once_body f (level cover held pairs) o = (own_once held o, once_items held o)
+
+  once_items : (xs : WovenItems) → Once (node_numbers (items_within xs)) → EachLevel IsOnce (items_levels xs)
+  once_items no_items o = tt
+  once_items (item_and x xs) o = each_both IsOnce (item_levels x) (items_levels xs) (once_item x (once_left (item_within x) (items_within xs) o)) (once_items xs (once_right (item_within x) (items_within xs) o))
+
+  once_item : (x : WovenItem) → Once (node_numbers (item_within x)) → EachLevel IsOnce (item_levels x)
+  once_item (Single n) o = tt
+  once_item (Coregion ns) o = tt
+  once_item (Inline form part operands) o = once_operands form operands o
+  once_item (Refer part) o = tt
+
+  once_operands : (f : InlineForm) (bs : Bodies) → Once (node_numbers (operands_within bs)) → EachLevel IsOnce (operands_levels f bs)
+  once_operands f no_bodies o = tt
+  once_operands f (body_and b bs) o =
+      each_both IsOnce (levels_from (Some f) b) (operands_levels f bs) (once_body (Some f) b (once_left (events_within b) (operands_within bs) o)) (once_operands f bs (once_right (events_within b) (operands_within bs) o))
+
+-- ---- the pairs of a level are those of its messages
+
+abbrev HasPairs : Body → Type 0
+HasPairs (level cover held pairs) = ArePairs (events held) pairs
+
+abbrev HasOwn : BodyLevel → Type 0
+HasOwn l = HasPairs l.body
+
+mutual
+  own_body : {cover : List (List ℕ)} {ps : List Piece} (f : Option InlineForm) (b : Body) → IsWovenLevel cover ps b → EachLevel HasOwn (levels_from f b)
+  own_body f _ (woven {held = held} o h p) = (p, own_items held h)
+
+  own_items : {cover : List (List ℕ)} {all : List (List Piece)} {order : List ℕ} (xs : WovenItems) → AreWovenItems cover all order xs → EachLevel HasOwn (items_levels xs)
+  own_items _ no_woven = tt
+  own_items _ (woven_and {item = x} {held = xs} at h k) = each_both HasOwn (item_levels x) (items_levels xs) (own_item x h) (own_items xs k)
+
+  own_item : {cover : List (List ℕ)} {ps : List Piece} (x : WovenItem) → IsWovenItem cover ps x → EachLevel HasOwn (item_levels x)
+  own_item _ (an_event e f) = tt
+  own_item _ (a_coregion e f) = tt
+  own_item _ (an_inline {head = head} {held = held} e h) = own_operands head.form held h
+  own_item _ (a_reference e) = tt
+
+  own_operands : {cover : List (List ℕ)} {ps : List Piece} {k n : ℕ} (f : InlineForm) (bs : Bodies) → AreWovenOperands cover ps k n bs → EachLevel HasOwn (operands_levels f bs)
+  own_operands f _ no_woven_operand = tt
+  own_operands f _ (woven_operand_and {body = b} {others = bs} h k) = each_both HasOwn (levels_from (Some f) b) (operands_levels f bs) (own_body (Some f) b h) (own_operands f bs k)
+
+-- ---- what each level has
+
+-- on a level no two events have one number, and no more than one has a name
+record IsNumbered (held : WovenItems) (pairs : _) : Type 0 where
+  once : Once (node_numbers (events held))
+  paired : ArePairs (events held) pairs
+  named : (p : Place) → IsAmong (places_where (breaks Twice (events held)) (events held)) p → ⊥
+
+abbrev IsNumberedBody : Body → Type 0
+IsNumberedBody (level cover held pairs) = IsNumbered held pairs
+
+abbrev IsNumberedLevel : BodyLevel → Type 0
+IsNumberedLevel l = IsNumberedBody l.body
+
+numbered_body : (b : Body) → HasPairs b → Once (node_numbers (level_events b)) → ((p : Place) → IsAmong (places_where (breaks Twice (level_events b)) (level_events b)) p → ⊥) → IsNumberedBody b
+numbered_body (level cover held pairs) h o f = record { once = o; paired = h; named = f }
+
+numbered_levels : (ls : List BodyLevel) → EachLevel HasOwn ls → EachLevel IsOnce ls → ((p : Place) → LevelsBreakNameRule Twice ls p → ⊥) → EachLevel IsNumberedLevel ls
+numbered_levels [] h o f = tt
+numbered_levels (l ∷ ls) h o f = (numbered_body l.body h.0 o.0 (λ p i. f p (inl i)), numbered_levels ls h.1 o.1 (λ p i. f p (inr i)))
+
+-- ---- no gates
+
+no_tags : (t : Target) → IsAtNoGate t → length (gate_tags t) ≡ 0
+no_tags Nobody h = refl
+no_tags (Env None) h = refl
+no_tags (Env (Some gate)) h = absurd h
+no_tags (Instance far) h = refl
+no_tags (Gate name gate) h = refl
+
+gates_both : (ns ms : List EventNode) → AreAtNoGate ns → own_gates ms ≡ 0 → own_gates (ns ++ ms) ≡ 0
+gates_both [] ms h e = e
+gates_both (n ∷ ns) ms h e = omega (arith, no_tags n.event.target h.0, gates_both ns ms h.1 e)
+
+no_gates_own : (xs : WovenItems) → ArePlainItems xs → own_gates (events xs) ≡ 0
+no_gates_own no_items h = refl
+no_gates_own (item_and (Single n) xs) h = omega (arith, no_tags n.event.target h.0, no_gates_own xs h.1)
+no_gates_own (item_and (Coregion ns) xs) h = gates_both ns (events xs) h.0 (no_gates_own xs h.1)
+no_gates_own (item_and (Inline form part operands) xs) h = no_gates_own xs h.1
+no_gates_own (item_and (Refer part) xs) h = no_gates_own xs h.1
+
+few_own : (held : WovenItems) (pairs : _) → IsNumbered held pairs → ArePlainItems held → HasFewOwn held pairs
+few_own held pairs h p = record {
+  numbers = h.once;
+  pairs = omega (arith, level_is_few held pairs h.paired (names_once (events held) h.once h.named), no_gates_own held p);
+  calls = subst (λ (cs : List Call). Once (event_tags cs)) (sym (none_called held p)) tt;
+}
+
+-- ---- a body with the charts that it names
+
+module _ (Is Few : List ℕ → Type 0) (known : (name : List ℕ) → Is name → Few name) where
+  mutual
+    expression_few : (e : Expression) → AreAll Is (charts_in e) → IsFewExpression Few e
+    expression_few Empty h = tt
+    expression_few (Chart name) h = known name h.0
+    expression_few (Alt parts) h = expressions_few parts h
+    expression_few (Par parts) h = expressions_few parts h
+    expression_few (Seq parts) h = expressions_few parts h
+    expression_few (Opt part) h = expression_few part h
+    expression_few (Loop lower upper part) h = expression_few part h
+
+    expressions_few : (xs : Expressions) → AreAll Is (charts_in_all xs) → AreFewExpressions Few xs
+    expressions_few none h = tt
+    expressions_few (more x xs) h = (expression_few x (all_left Is (charts_in x) (charts_in_all xs) h), expressions_few xs (all_right Is (charts_in x) (charts_in_all xs) h))
+
+  module _ (names : List (List ℕ)) where
+    mutual
+      level_few : (f : Option InlineForm) (b : Body) → IsBuiltBody names b → EachLevel IsNumberedLevel (levels_from f b) → AreAll Is (level_names b) → IsFewLevel Few b
+      level_few f (level cover held pairs) p o h = (few_own held pairs o.0 (items_plain names held p), items_few held p o.1 h)
+
+      items_few : (xs : WovenItems) → AreBuiltItems names xs → EachLevel IsNumberedLevel (items_levels xs) → AreAll Is (items_names xs) → AreFewItems Few xs
+      items_few no_items p o h = tt
+      items_few (item_and x xs) p o h = (
+        item_few x p.0 (each_left IsNumberedLevel (item_levels x) (items_levels xs) o) (all_left Is (item_names x) (items_names xs) h),
+        items_few xs p.1 (each_right IsNumberedLevel (item_levels x) (items_levels xs) o) (all_right Is (item_names x) (items_names xs) h),
+      )
+
+      item_few : (x : WovenItem) → IsBuiltItem names x → EachLevel IsNumberedLevel (item_levels x) → AreAll Is (item_names x) → IsFewItem Few x
+      item_few (Single n) p o h = tt
+      item_few (Coregion ns) p o h = tt
+      item_few (Inline form part operands) p o h = (p.0, operands_few form operands p.1 o h)
+      item_few (Refer part) p o h = expression_few part.expression h
+
+      operands_few : (f : InlineForm) (bs : Bodies) → AreBuiltBodies names bs → EachLevel IsNumberedLevel (operands_levels f bs) → AreAll Is (operands_names bs) → AreFewOperands Few bs
+      operands_few f no_bodies p o h = tt
+      operands_few f (body_and b bs) p o h = (
+        level_few (Some f) b p.0 (each_left IsNumberedLevel (levels_from (Some f) b) (operands_levels f bs) o) (all_left Is (level_names b) (operands_names bs) h),
+        operands_few f bs p.1 (each_right IsNumberedLevel (levels_from (Some f) b) (operands_levels f bs) o) (all_right Is (level_names b) (operands_names bs) h),
+      )
+
+  woven_few : (rs : List Refinement) (w : Woven) (b : Body) → rs ≡ [] → w ≡ Basic b → IsFewLevel Few b → IsFewWoven Few rs w
+  woven_few rs w b whole is h = subst (λ (rs : List Refinement). IsFewWoven Few rs w) (sym whole) (subst (λ (w : Woven). IsFewWoven Few [] w) (sym is) h)
+
+  pub chart_few : (c : ChartEntry) → IsAcceptedChart c → AreAll Is (content_names c.content) → IsFewWoven Few (refinements c.decls) c.content
+  chart_few c a h = woven_few (refinements c.decls) c.content a.body a.whole a.is
+      (level_few (cover_of a.body) None a.body a.built (numbered_levels (body_levels a.body) (own_body None a.body a.woven) (once_body None a.body a.once) a.named_once) (subst (λ (w : Woven). AreAll Is (content_names w)) a.is h))
+
+pub few_to : (table : Table) → EachChart IsAcceptedChart table → (depth : ℕ) (name : List ℕ) → IsThereTo table depth name → IsFewTo table depth name
+few_to table charts zero name h = absurd h
+few_to table charts (suc depth) name h = subst (λ (o : Option ChartEntry). IsFewEntry (IsFewTo table depth) o) (sym h.is)
+    (chart_few (IsThereTo table depth) (IsFewTo table depth) (few_to table charts depth) h.chart (entry_has IsAcceptedChart table name h.chart charts h.is) h.named)

@@ -1,7 +1,0 @@
-use Rattle.std.proofs.Common.{◌≡◌, ◌++◌, take}
-use Rattle.chart_term.specs.Views.{pairs_of}
-use Rattle.level_terms.specs.ShownNumbers.{numbers_of, pairs_with}
-use Rattle.level_terms.proofs.ties.add_with.Given as goal
-
-abbrev pub invariant-loop-index : goal.invariant-loop-index
-invariant-loop-index l = pairs_of l.list ≡ pairs_of l.fn.list ++ pairs_with l.first (numbers_of l.event (take l.index l.shown))

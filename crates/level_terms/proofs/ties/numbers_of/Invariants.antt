@@ -1,8 +1,0 @@
-use Rattle.std.proofs.Common.{◌≡◌, true, take}
-use Rattle.std.specs.BTreeMap.{get}
-use Rattle.std.specs.Ordering.{nat_cmp}
-use Rattle.level_terms.specs.TieNumbers.{AreNumbers}
-use Rattle.level_terms.proofs.ties.numbers_of.Given as goal
-
-abbrev pub invariant-loop-index : goal.invariant-loop-index
-invariant-loop-index l = l.apart ≡ true → AreNumbers (get nat_cmp l.by_event) (take l.index l.shown)
