@@ -1,7 +1,6 @@
 pub mod Bounds
 pub mod Examples
 pub mod Listings
-pub mod Named
 pub mod LogOutcomes
 pub mod LogTaking
 pub mod Digits

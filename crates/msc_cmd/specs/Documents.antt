@@ -1,11 +1,11 @@
 -- What the bytes of a document are: a table of charts, or the first rule that they break.
-use Rattle.std.specs.Prelude.{◌≡◌, ℕ, List}
+use Rattle.std.specs.Prelude.{◌≡◌, ℕ, List, Some}
 use Rattle.msc_base.specs.declared.place.Place.{Place}
 use Rattle.msc_tree.specs.Charts.{Document as Tree}
 use Rattle.msc_rules.specs.declared.rule.Rule.{Rule}
 use Rattle.msc_acceptance.specs.Acceptance.{HasFault, IsAccepted}
-use Rattle.msc_acceptance.specs.AcceptedCharts.{AreAcceptedCharts}
-use Rattle.msc_meaning.specs.Tables.{Table}
+use Rattle.msc_acceptance.specs.AcceptedCharts.{IsAcceptedTable}
+use Rattle.msc_meaning.specs.Tables.{ChartEntry, Table, chart_at}
 use Rattle.msc_meaning.specs.Views.{table_view}
 use Rattle.msc_cmd.specs.DocumentTexts.{ReadsDocument, HasTextFault}
 use Rattle.msc_cmd.specs.declared.document.Document.{Document}
@@ -27,7 +27,7 @@ pub record IsOnlyDocument (bytes : List ℕ) (table : Table) : Type 0 where
   pub is : IsDocument bytes table
   pub only : (other : Table) → IsDocument bytes other → other ≡ table
   pub faultless : (broken : Rule) (place : Place) → HasDocumentFault bytes broken place → ⊥
-  pub charts : AreAcceptedCharts table
+  pub charts : IsAcceptedTable table
 
 -- they break this rule first, at this place, and are no document
 pub record IsOnlyFault (bytes : List ℕ) (broken : Rule) (place : Place) : Type 0 where
@@ -46,7 +46,7 @@ pub record AcceptsAlone (tree : Tree) (table : Table) : Type 0 where
   pub is : IsAccepted tree table
   pub only : (other : Table) → IsAccepted tree other → other ≡ table
   pub faultless : (broken : Rule) (place : Place) → HasFault tree broken place → ⊥
-  pub charts : AreAcceptedCharts table
+  pub charts : IsAcceptedTable table
 
 -- it has this fault, no other, and is of no table
 pub record RefusesAlone (tree : Tree) (broken : Rule) (place : Place) : Type 0 where
@@ -57,3 +57,7 @@ pub record RefusesAlone (tree : Tree) (broken : Rule) (place : Place) : Type 0 w
 abbrev pub ComesTo : Tree → Document → Type 0
 ComesTo tree (Charts charts) = AcceptsAlone tree (table_view charts)
 ComesTo tree (Refused broken place) = RefusesAlone tree broken place
+
+-- the table has a chart of that name
+abbrev pub HasChartNamed : Table → List ℕ → Type 0
+HasChartNamed table name = (chart : ChartEntry) × (chart_at table name ≡ Some chart)

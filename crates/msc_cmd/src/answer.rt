@@ -1,25 +1,26 @@
 //! Replies, and the command `judge`: document, chart and log, one after another. `command` calls it.
 
-ghost use Rattle.std.specs.Prelude.{◌≡◌, ◌<◌, ◌≤◌, ℕ, List, IfOk, Some};
+ghost use Rattle.std.specs.Prelude.{◌≡◌, ◌<◌, ◌≤◌, ℕ, List, IfOk};
 ghost use Rattle.event_log.specs.declared.event.LogForm.{LogForm as Form};
 ghost use Rattle.judge_report.specs.declared.fault.Fault.TheVariants.{LogRead};
 ghost use Rattle.judge_report.specs.Texts.{IsTold, fault_line};
 ghost use Rattle.msc_base.specs.declared.limits.TheConstants.Limits.{BUDGET_MOST};
-ghost use Rattle.msc_acceptance.specs.AcceptedCharts.{IsAcceptedChart};
-ghost use Rattle.msc_meaning.specs.Tables.{Table, chart_at};
-ghost use Rattle.msc_meaning.specs.Views.{entry_view};
+ghost use Rattle.msc_acceptance.specs.AcceptedCharts.{IsAcceptedTable};
+ghost use Rattle.msc_meaning.specs.Tables.{Table};
+ghost use Rattle.msc_meaning.specs.Views.{table_view};
+ghost use Rattle.msc_cmd.specs.Documents.{HasChartNamed};
 ghost use Rattle.msc_cmd.specs.Failures.{FailedAt, CannotRead};
 ghost use Rattle.msc_cmd.specs.LogJudging.{IsJudged, IsToldLog};
 ghost use Rattle.msc_cmd.specs.Outcomes.{EntryOutcome, FilesOutcome, IfTold, IsTheOne, LogOutcome, status_of};
 
-use crate::document::chart_of;
+use crate::document::has_chart;
 use crate::entry::ReadFault;
 use crate::log_reading::{Judged, judge_entry};
 use crate::opening::{Opened, open_document};
 use event_log::LogForm;
 use judge_report::{Fault, fault_text, verdict_text};
+use msc_acceptance::Accepted;
 use msc_base::{NoMemory, Text, Verdict};
-use msc_meaning::ChartEntry;
 use outside::Shelf;
 use std::alloc::Global;
 
@@ -84,26 +85,27 @@ pub fn answer_log(alloc: Global, judged: &Judged, json: bool) -> Result<Reply, N
     }
 }
 
-/// The reply for the log of this name.
+/// The reply for the log of this name, judged by the chart of that.
 fn judge_log<S: Shelf>(
     alloc: Global,
-    chart: &ChartEntry,
+    accepted: &Accepted,
+    chart: &[u8],
     log: &Text,
     style: Style,
     shelf: &mut S,
 ) -> Result<Reply, NoMemory>
-    requires accepted { IsAcceptedChart (entry_view chart.now) }
+    requires accepted { IsAcceptedTable (table_view accepted.now) }
+    requires there { HasChartNamed (table_view accepted.now) chart.now }
     requires least { 1 ≤ style.budget }
     requires most { style.budget ≤ BUDGET_MOST }
     ensures later { S.faults shelf.old ≤ S.faults shelf.new }
     ensures small { IfOk result (λ r. r.status ≤ 7) }
     ensures not_two { IfOk result (λ r. r.status ≡ 2 → ⊥) }
-    ensures outcome { (table : Table) (name : List ℕ) → chart_at table name ≡ Some (entry_view chart.now)
-        → IfOk result (λ r. r.status < 7 → IfTold (S.files shelf.old) (λ f. IsTheOne (EntryOutcome style.form style.budget style.json f table name log.now) r.status r.text)) }
+    ensures outcome { IfOk result (λ r. r.status < 7 → IfTold (S.files shelf.old) (λ f. IsTheOne (EntryOutcome style.form style.budget style.json f (table_view accepted.now) chart.now log.now) r.status r.text)) }
     ensures failed { IfOk result (λ r. r.status ≡ 7 → FailedAt (S.faults shelf.old) (S.faults shelf.new) (S.broken shelf.new) (S.last shelf.new) log.now) }
     ensures text { IfOk result (λ r. r.status ≡ 7 → r.text ≡ fault_line style.json LogRead) }
 {
-    let judged = match judge_entry(alloc, shelf, chart, log, style.form, style.budget) {
+    let judged = match judge_entry(alloc, shelf, accepted, chart, log, style.form, style.budget) {
         Ok(judged) => judged,
         Err(ReadFault::Failed) => return make_reply(alloc, 7, &Fault::LogRead, style.json),
         Err(ReadFault::NoMemory) => return Err(NoMemory),
@@ -131,8 +133,8 @@ pub fn judge_files<S: Shelf>(
         Opened::Accepted(accepted) => accepted,
         Opened::Told(reply) => return Ok(reply),
     };
-    let Some(chart) = chart_of(&accepted, name.bytes()) else {
+    if !has_chart(&accepted, name.bytes()) {
         return make_reply(alloc, 4, &Fault::NoChart, style.json);
-    };
-    judge_log(alloc, chart, log, style, shelf)
+    }
+    judge_log(alloc, &accepted, name.bytes(), log, style, shelf)
 }

@@ -1,13 +1,12 @@
 //! What a document comes to, and the chart of a name: for the commands, behind `document_text`.
 
-ghost use Rattle.std.specs.Prelude.{◌≡◌, IfOk, IfSome, List, option_copied, option_map, ℕ};
+ghost use Rattle.std.specs.Prelude.{◌≡◌, IfOk, List, None, false, option_copied, option_map, true, ℕ};
 ghost use Rattle.chart_text.specs.WellFormed.{AreAllWellFormed};
-ghost use Rattle.msc_acceptance.specs.AcceptedCharts.{IsAcceptedChart, AreAcceptedCharts};
 ghost use Rattle.msc_meaning.specs.Tables.{chart_at};
 ghost use Rattle.msc_meaning.specs.Views.{entry_view, table_view};
 ghost use Rattle.msc_tree.specs.Views.{document_view};
 ghost use Rattle.msc_cmd.specs.DocumentTexts.{IsTheText};
-ghost use Rattle.msc_cmd.specs.Documents.{ComesTo, IsTheDocument};
+ghost use Rattle.msc_cmd.specs.Documents.{ComesTo, HasChartNamed, IsTheDocument};
 ghost use Rattle.msc_cmd.specs.Intakes.{IsFormedText};
 
 use crate::document_text::DocumentText;
@@ -52,9 +51,18 @@ pub fn settle(alloc: Global, text: DocumentText) -> Result<Document, NoMemory>
 
 /// The chart of the name, if there is one.
 pub fn chart_of<'a>(accepted: &'a Accepted, name: &[u8]) -> Option<&'a ChartEntry>
-    requires { AreAcceptedCharts (table_view accepted.now) }
-    ensures named { option_map entry_view (option_copied result) ≡ chart_at (table_view accepted.now) name.now }
-    ensures accepted { IfSome result (λ chart. IsAcceptedChart (entry_view chart.now)) }
+    ensures { option_map entry_view (option_copied result) ≡ chart_at (table_view accepted.now) name.now }
 {
     accepted.chart_named(name)
+}
+
+/// Whether there is a chart of the name.
+pub fn has_chart(accepted: &Accepted, name: &[u8]) -> bool
+    ensures there { result ≡ true → HasChartNamed (table_view accepted.now) name.now }
+    ensures lacks { result ≡ false → chart_at (table_view accepted.now) name.now ≡ None }
+{
+    match chart_of(accepted, name) {
+        Some(_) => true,
+        None => false,
+    }
 }

@@ -5,16 +5,17 @@ ghost use Rattle.outside.specs.Causes.{Rose};
 ghost use Rattle.outside.specs.Shelves.{Files};
 ghost use Rattle.event_log.specs.declared.event.LogForm.{LogForm as Form};
 ghost use Rattle.msc_base.specs.declared.limits.TheConstants.Limits.{BUDGET_MOST};
-ghost use Rattle.msc_acceptance.specs.AcceptedCharts.{IsAcceptedChart};
-ghost use Rattle.msc_meaning.specs.Tables.{Table, chart_at};
-ghost use Rattle.msc_meaning.specs.Views.{entry_view};
+ghost use Rattle.msc_acceptance.specs.AcceptedCharts.{IsAcceptedTable};
+ghost use Rattle.msc_meaning.specs.Tables.{Table};
+ghost use Rattle.msc_meaning.specs.Views.{table_view};
+ghost use Rattle.msc_cmd.specs.Documents.{HasChartNamed};
 ghost use Rattle.msc_cmd.specs.LogJudging.{IsJudgedLog, IsReadingLog, IsStep};
 
 use crate::entry::{PIECE_BYTES, ReadFault, read_piece, start_entry};
 use chart_judge::{ChartJudge, JudgeFault};
 use event_log::{LogFault, LogForm};
+use msc_acceptance::Accepted;
 use msc_base::{Text, Verdict};
-use msc_meaning::ChartEntry;
 use outside::Shelf;
 use std::alloc::Global;
 
@@ -81,27 +82,29 @@ fn ended(judge: ChartJudge) -> Result<Judged, ReadFault>
     }
 }
 
-/// Reads the log of this name to its end, or to the piece in which a fault is decided, and judges it by the chart.
+/// Reads the log of this name to its end, or to the piece in which a fault is decided, and judges it by the chart of that name.
 pub fn judge_entry<S: Shelf>(
     alloc: Global,
     shelf: &mut S,
-    chart: &ChartEntry,
+    accepted: &Accepted,
+    chart: &[u8],
     name: &Text,
     form: LogForm,
     budget: u64,
 ) -> Result<Judged, ReadFault>
-    requires accepted { IsAcceptedChart (entry_view chart.now) }
+    requires accepted { IsAcceptedTable (table_view accepted.now) }
+    requires there { HasChartNamed (table_view accepted.now) chart.now }
     requires least { 1 ≤ budget }
     requires most { budget ≤ BUDGET_MOST }
     ensures files { S.files shelf.new ≡ S.files shelf.old }
     ensures later { S.faults shelf.old ≤ S.faults shelf.new }
-    ensures log { (table : Table) (of : List ℕ) → chart_at table of ≡ Some (entry_view chart.now) → IfOk result (IsJudgedLog table of form budget (S.files shelf.old) name.now) }
+    ensures log { IfOk result (IsJudgedLog (table_view accepted.now) chart.now form budget (S.files shelf.old) name.now) }
     ensures failed { IsErrOf result ReadFault.Failed → Rose (S.faults shelf.old) (S.faults shelf.new) }
     ensures broken { IsErrOf result ReadFault.Failed → S.broken shelf.new ≡ true }
     ensures last { IsErrOf result ReadFault.Failed → S.last shelf.new ≡ Some name.now }
 {
     start_entry(alloc, shelf, name)?;
-    let mut judge = ChartJudge::new(alloc, chart, form, budget)?;
+    let mut judge = ChartJudge::new(alloc, accepted, chart, form, budget)?;
     loop {
         match take_more(shelf, name, &mut judge)? {
             Step::More => {}

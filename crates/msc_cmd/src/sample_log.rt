@@ -1,11 +1,12 @@
 //! The log of a sample, drawn turn by turn and judged as it comes: for `sampling`.
 
-ghost use Rattle.std.specs.Prelude.{◌≡◌, ◌≤◌, ◌<◌, ◌+◌, ℕ, [], IfOk, IfErr, OnOk, Some, false, if◌then◌else◌};
+ghost use Rattle.std.specs.Prelude.{◌≡◌, ◌≤◌, ◌<◌, ◌+◌, ℕ, [], IfOk, IfErr, OnOk, false, if◌then◌else◌};
 ghost use Rattle.event_log.specs.declared.event.LogForm.TheVariants.{Lines};
-ghost use Rattle.msc_acceptance.specs.AcceptedCharts.{IsAcceptedChart};
+ghost use Rattle.msc_acceptance.specs.AcceptedCharts.{IsAcceptedTable};
 ghost use Rattle.msc_base.specs.declared.limits.TheConstants.Limits.{BUDGET_DEFAULT};
-ghost use Rattle.msc_meaning.specs.Tables.{Table, chart_at};
-ghost use Rattle.msc_meaning.specs.Views.{entry_view};
+ghost use Rattle.msc_meaning.specs.Tables.{Table};
+ghost use Rattle.msc_meaning.specs.Views.{table_view};
+ghost use Rattle.msc_cmd.specs.Documents.{HasChartNamed};
 ghost use Rattle.chart_judge.specs.Judged.{IsJudgeFault};
 ghost use Rattle.chart_judge.specs.Judging.{IsJudging};
 ghost use Rattle.msc_cmd.specs.declared.sample_log.TheConstants.{MOST_SEED, MOST_TURNS};
@@ -14,8 +15,8 @@ ghost use Rattle.msc_cmd.specs.Sampling.{IsSampled};
 
 use chart_judge::{ChartJudge, JudgeFault};
 use event_log::{LogFault, LogForm};
+use msc_acceptance::Accepted;
 use msc_base::{Limits, NoMemory, Verdict};
-use msc_meaning::ChartEntry;
 use std::alloc::Global;
 
 /// The most turns that a sample may have: its log stays within the limits of logs.
@@ -117,16 +118,24 @@ fn told_turns(mut judge: ChartJudge, turns: u64, seed: u64) -> Result<Sampled, J
 /// What the log of so many turns comes to for the sample's chart.
 pub fn judge_turns(
     alloc: Global,
-    chart: &ChartEntry,
+    accepted: &Accepted,
     turns: u64,
     seed: u64,
 ) -> Result<Sampled, NoMemory>
-    requires accepted { IsAcceptedChart (entry_view chart.now) }
+    requires accepted { IsAcceptedTable (table_view accepted.now) }
+    requires there { HasChartNamed (table_view accepted.now) sample_name }
     requires few { turns ≤ MOST_TURNS }
     requires seed { seed ≤ MOST_SEED }
-    ensures { (table : Table) → chart_at table sample_name ≡ Some (entry_view chart.now) → IfOk result (IsSampled turns seed table) }
+    ensures { IfOk result (IsSampled turns seed (table_view accepted.now)) }
 {
-    let judge = ChartJudge::new(alloc, chart, LogForm::Lines, Limits::BUDGET_DEFAULT)?;
+    let name = "S".as_bytes();
+    let judge = ChartJudge::new(
+        alloc,
+        accepted,
+        name,
+        LogForm::Lines,
+        Limits::BUDGET_DEFAULT,
+    )?;
     match told_turns(judge, turns, seed) {
         Ok(sampled) => Ok(sampled),
         Err(JudgeFault::Log(fault)) => Ok(Sampled::Refused(fault)),

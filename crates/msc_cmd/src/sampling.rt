@@ -10,7 +10,7 @@ ghost use Rattle.msc_cmd.specs.Samples.{sample_name, sample_text};
 ghost use Rattle.msc_cmd.specs.Sampling.{CanBeTold, IsSampled, IsToldSample, does_conform};
 
 use crate::answer::{Reply, answer_log, make_reply};
-use crate::document::{Document, chart_of, settle};
+use crate::document::{Document, has_chart, settle};
 use crate::document_text::read_text;
 use crate::log_reading::Judged;
 use crate::sample_log::{Sampled, judge_turns};
@@ -107,9 +107,9 @@ pub fn sample_reply(alloc: Global, turns: u64, seed: u64) -> Result<Reply, NoMem
             return make_reply(alloc, 4, &Fault::Document { rule, place }, false);
         }
     };
-    let Some(chart) = chart_of(&accepted, "S".as_bytes()) else {
+    if !has_chart(&accepted, "S".as_bytes()) {
         return make_reply(alloc, 4, &Fault::NoChart, false);
-    };
-    let sampled = judge_turns(alloc, chart, turns, seed)?;
+    }
+    let sampled = judge_turns(alloc, &accepted, turns, seed)?;
     answer_sample(alloc, &sampled, turns)
 }

@@ -1,7 +1,6 @@
-use Rattle.std.proofs.Common.{ℕ, ◌≡◌, ◌≤◌, ◌+◌, ◌-◌, List, Some, true}
+use Rattle.std.proofs.Common.{◌≡◌, ◌≤◌, ◌+◌, ◌-◌, Some, true}
 use Rattle.msc_base.specs.declared.limits.TheConstants.Limits.{LOG_BYTES}
-use Rattle.msc_meaning.specs.Tables.{Table, chart_at}
-use Rattle.msc_meaning.specs.Views.{entry_view}
+use Rattle.msc_meaning.specs.Views.{table_view}
 use Rattle.msc_cmd.specs.LogJudging.{IsReadingLog}
 use Rattle.msc_cmd.proofs.log_reading.judge_entry.Given as goal
 
@@ -11,7 +10,7 @@ invariant-loop-judge g l = record {
   begun : g.S.Shelf.begun l.shelf ≡ true;
   last : g.S.Shelf.last l.shelf ≡ Some l.name;
   later : g.S.Shelf.faults l.fn.shelf ≤ g.S.Shelf.faults l.shelf;
-  reading : (table : Table) (chart : List ℕ) → chart_at table chart ≡ Some (entry_view l.chart) → IsReadingLog table chart l.fn.form l.fn.budget (g.S.Shelf.files l.shelf) l.name (g.S.Shelf.rest l.shelf) l.judge;
+  reading : IsReadingLog (table_view l.accepted) l.chart l.fn.form l.fn.budget (g.S.Shelf.files l.shelf) l.name (g.S.Shelf.rest l.shelf) l.judge;
 }
 
 abbrev pub decreases-loop-judge : goal.decreases-loop-judge
