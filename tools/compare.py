@@ -6,8 +6,8 @@ PROGRAM and MODEL are programs that take the words of mscjudge; either may be a 
 `judge.run.run(words, files)` takes words and a table of names and texts, all as bytes, and gives the status and what is printed. This
 is asked in the same process, so it is fast. With one folder as both, the documents alone are tried.
 
-Documents have charts of events of all kinds, coregions and inline expressions (up to three within each other, shared and not), in
-statements and in columns, with labels and general ordering; more than a third of them are faulty at one place. Logs are runs of their
+Documents have charts of events of all kinds, stops, coregions, references and inline expressions (up to three within each other, shared
+and not), in statements and in columns, with labels and general ordering; more than a third of them are faulty at one place. Logs are runs of their
 charts, beginnings of runs, and runs damaged at a random place, in text or JSON, and some are judged within the least budget that lets
 them pass, and within one less. What is a run is also known here without the model, so a model that errs there is found.
 
@@ -18,6 +18,7 @@ each answer came. It ends with status 1 where there is a difference.
 import argparse
 import collections
 import importlib
+import json
 import os
 import random
 import re
@@ -133,9 +134,14 @@ def log_of(rng, chart):
         rng.shuffle(run)
     form = rng.choice(["text", "text", "json"])
     lines = [event.line(form, rng) for event in run]
+    creates = any(event.kind == "create" for event in run)
+    version = rng.choice([2] * 18 + [1, None] if creates else [None] * 18 + [1, 2])
+    if version:
+        lines.insert(0, json.dumps({"log": version}) if form == "json" else f"log {version};")
     odd = rng.random() < 0.03
     if odd:
         lines.insert(rng.randint(0, len(lines)), "nonsense")
+    odd = odd or (creates and version != 2)
     return "\n".join(lines) + rng.choice(["\n", ""]), form == "json", damage >= 0.65 and not odd
 
 

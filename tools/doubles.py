@@ -6,8 +6,7 @@ Counted are
   least four have a letter);
 - bodies of functions that stand word for word in two functions, from three lines on;
 - recursive walks over the text of a chart, and over a woven body: cycles of functions in src/ and blocks of definitions in specs/.
-  What reads, prints, views, weaves a text, and what makes the term of a body or says the order of its events, goes over it by its
-  nature and isn't counted.
+  What reads, prints, views or weaves a text goes over it by its nature and isn't counted.
 
 Run it at the top. With --list it also prints where they stand. It ends with status 1 where a budget is passed, and takes some seconds.
 """
@@ -19,13 +18,11 @@ import sys
 LINES = 6
 # runs of equal lines; equal bodies; walks over texts and over bodies
 BUDGETS = {"src": 60, "specs": 2, "proofs": 40, "bodies": 0, "texts": 1, "woven": 1}
-# what goes over a text or a body by its nature: what reads, prints and views it; what weaves, and says what is woven; what makes terms;
-# and the order of a body's events, which goes along the items of each level, and ends at loops. A file, or one of its blocks by its first name
+# what goes over a text or a body by its nature: what reads, prints and views it; what weaves, and says what is woven. A file, or one of
+# its blocks by its first name
 READERS = ("msc_tree", "msc_events", "msc_expression", "msc_document", "msc_print", "text_tests")
 WEAVING = ("level_pieces/src/counting.rt", "level_weaving/src/levels.rt", "msc_meaning/specs/Pieces.antt", "msc_meaning/specs/Levels.antt",
-           "msc_meaning/specs/Views.antt", "msc_meaning/specs/ChartUnfoldings.antt", "level_terms/src/levels.rt", "level_terms/specs/LevelTerms.antt",
-           "event_order/src/in_order.rt", "event_order/src/levels.rt", "event_order/specs/Precedence.antt",
-           "event_order/specs/RankedBodies.antt:counted_within", "event_order/specs/RankedBodies.antt:IsRanked")
+           "msc_meaning/specs/Views.antt", "msc_meaning/specs/ChartUnfoldings.antt")
 TEXT_TYPES = r"\b(RawForm|RawItem|RawOperand|Statement)\b"
 BODY_TYPES = r"\b(Body|BodyItem|Item)\b"
 

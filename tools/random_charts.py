@@ -1,17 +1,19 @@
 """Random charts for compare.py: their texts, some of them faulty, and runs of them.
 
-A chart is made as a tree of levels first: a level is a body or an operand, and has events, coregions, conditions and inline
-expressions over some of its instances. From the tree come a run, by the meaning of the forms alone, and the text, in stretches of
-statements and of columns. So what a run is doesn't stand on how the text is read.
+A chart is made as a tree of levels first: a level is a body or an operand, and has events, coregions, conditions, inline expressions
+and references over some of its instances; a body has stops too, and a child is created in front of all that it does there. A reference
+has an expression over charts that were made before. From the tree come a run, by the meaning of the forms alone, and the text, in
+stretches of statements and of columns. So what a run is doesn't stand on how the text is read.
 """
 import copy
 import json
 import random
 
-KINDS = {"out": "out", "in": "in", "action": "action", "set": "start", "reset": "stop", "timeout": "timeout", "lost": "lost", "found": "found"}
+KINDS = {"out": "out", "in": "in", "action": "action", "set": "start", "reset": "stop", "timeout": "timeout", "lost": "lost", "found": "found", "create": "create"}
 DEPTH = 3
 BOUNDS = [(1, None), (1, None), (0, None), (0, 1), (1, 2), (2, 2), (2, None), (0, 0), (3, 1), (1, 1)]
 EVENTS = 14
+EXPANDED = 24
 
 
 class Event:
@@ -20,6 +22,7 @@ class Event:
     def __init__(self, at, kind, text, far=None, pairing=""):
         self.at, self.kind, self.text, self.far, self.pairing = at, kind, text, far, pairing
         self.cover, self.label, self.before, self.after = [at], None, [], []
+        self.instances = {at, text} if kind == "create" else {at}
 
     def words(self, in_chart):
         if self.kind in ("out", "in"):
@@ -52,9 +55,32 @@ class Condition:
         self.cover = cover
 
 
+class Stop:
+    def __init__(self, cover):
+        self.cover = cover
+
+
 class Inline:
     def __init__(self, form, cover, name, operands, bounds=None):
         self.form, self.cover, self.name, self.operands, self.bounds = form, cover, name, operands, bounds
+
+
+class Expression:
+    """The expression of a reference: `empty`, a chart, `alt`, `par` or `seq` of parts, `opt` of one, or `loop` of one with bounds."""
+
+    def __init__(self, form, parts=(), chart=None, bounds=None):
+        self.form, self.parts, self.chart, self.bounds = form, list(parts), chart, bounds
+
+    def charts(self):
+        if self.chart:
+            yield self.chart
+        for part in self.parts:
+            yield from part.charts()
+
+
+class Reference:
+    def __init__(self, cover, name, expression):
+        self.form, self.cover, self.name, self.expression, self.operands, self.bounds = "reference", cover, name, expression, [], None
 
 
 class Level:
@@ -79,13 +105,20 @@ class Level:
 class Maker:
     """Makes the levels of a chart."""
 
-    def __init__(self, rng, structural):
+    def __init__(self, rng, structural, instances, others):
         self.rng, self.left, self.structural, self.count = rng, EVENTS, structural, 0
+        self.instances, self.others, self.expanded, self.created = instances, others, 0, set()
 
     def level(self, cover, depth):
         rng, items, waiting = self.rng, [], []
         for _ in range(rng.randint(0, 6 if depth == 0 else 3)):
-            if rng.random() < 0.4 and depth < DEPTH:
+            reference = self.reference(cover) if self.others and rng.random() < 0.3 else None
+            creation = self.creation(cover, depth, items)
+            if creation:
+                items.append(creation)
+            if reference:
+                items.append(reference)
+            elif rng.random() < 0.4 and depth < DEPTH:
                 items.append(self.inline(cover, depth))
             elif rng.random() < 0.06:
                 items.append(Condition(rng.sample(cover, rng.randint(1, len(cover)))))
@@ -98,7 +131,38 @@ class Maker:
         self.coregions(level)
         if rng.random() < 0.3:
             self.order(level)
+        if depth == 0 or self.structural == "create placed":
+            self.stops(level)
         return level
+
+    def creation(self, cover, depth, items):
+        """A creation of a child of which nothing stands in front, now and then; where a rule is to be broken, also of another, or inside."""
+        rng, touched = self.rng, {i for item in items for i in instances_of(item)}
+        if rng.random() >= (0.1 if self.structural not in CREATING else 0.5) or (depth > 0 and self.structural != "create placed"):
+            return None
+        free = [i for i in cover if i not in touched and i not in self.created]
+        if self.structural in ("created twice", "late creation"):
+            free = cover
+        if not free:
+            return None
+        child = rng.choice(free)
+        creators = [i for i in cover if i != child] or (cover if self.structural == "created twice" else [])
+        if not creators:
+            return None
+        at = child if self.structural == "created twice" and rng.random() < 0.2 else rng.choice(creators)
+        self.left -= 1
+        self.created.add(child)
+        return Event(at, "create", child)
+
+    def stops(self, level):
+        """Puts stops behind what stands in columns, now and then; where a rule is to be broken, also in front of it."""
+        rng, breaks = self.rng, self.structural in ("event after stop", "create placed")
+        for i in level.cover:
+            if rng.random() >= (0.4 if breaks else 0.08):
+                continue
+            last = max((k + 1 for k, item in enumerate(level.items) if i in item.cover and not isinstance(item, Condition)), default=0)
+            first = 0 if self.structural == "event after stop" and rng.random() < 0.7 else last
+            level.items.insert(rng.randint(first, len(level.items)), Stop([i]))
 
     def event(self, cover, waiting):
         rng, self.left = self.rng, self.left - 1
@@ -127,12 +191,40 @@ class Maker:
         operands = [self.level(inner, depth + 1) for _ in range(rng.randint(1, 3) if form in ("alt", "par") else 1)]
         return Inline(form, inner, f"X{self.count}", operands, rng.choice(BOUNDS))
 
+    def reference(self, cover):
+        """A reference to charts that were made before, or none, where they have instances of the chart that the level doesn't cover."""
+        rng = self.rng
+        expression = self.expression(2)
+        expanded = {i for chart in expression.charts() for i in chart.expanded}
+        asked = [i for i in self.instances if i in expanded]
+        if not set(asked) <= set(cover) and not (self.structural == "uncovered instance" and rng.random() < 0.5):
+            return None
+        size = sum(chart.size for chart in expression.charts())
+        if self.expanded + size > EXPANDED:
+            return None
+        self.expanded += size
+        own = [i for i in cover if i in asked or rng.random() < 0.3] or [rng.choice(cover)]
+        if self.structural == "uncovered instance" and len(own) > 1:
+            own.remove(rng.choice(own))
+        self.count += 1
+        return Reference(rng.sample(own, len(own)), f"R{self.count}", expression)
+
+    def expression(self, depth):
+        rng = self.rng
+        form = rng.choice(["chart"] * 5 + ["empty"] + (["alt", "par", "seq", "opt", "loop"] if depth else []))
+        if form == "chart":
+            return Expression(form, chart=rng.choice(self.others))
+        parts = {"empty": 0, "opt": 1, "loop": 1}.get(form, rng.randint(2, 3))
+        return Expression(form, [self.expression(depth - 1) for _ in range(parts)], bounds=rng.choice(BOUNDS))
+
     def coregions(self, level):
         """Puts events of one instance that stand together into coregions, now and then."""
         joined = []
         for item in level.items:
             last = joined[-1] if joined else None
-            if isinstance(item, Event) and isinstance(last, (Event, Coregion)) and last.cover == item.cover and self.rng.random() < 0.35:
+            if self.structural != "create placed" and any(isinstance(one, Event) and one.kind == "create" for one in (item, last)):
+                joined.append(item)
+            elif isinstance(item, Event) and isinstance(last, (Event, Coregion)) and last.cover == item.cover and self.rng.random() < 0.35:
                 joined[-1] = Coregion((last.events if isinstance(last, Coregion) else [last]) + [item])
             elif isinstance(item, Event) and self.rng.random() < 0.03:
                 joined.append(Coregion([item]))
@@ -160,6 +252,16 @@ class Maker:
 
 # --- runs ---------------------------------------------------------------------------------------
 
+def instances_of(item):
+    """The instances that an item of a level orders."""
+    return item.instances if isinstance(item, Event) else [] if isinstance(item, (Condition, Stop)) else item.cover
+
+
+def in_columns(events, later):
+    """The pairs of events that stand in one column, each with one that stands behind it."""
+    return [(first, second) for first in events for second in later if first.instances & second.instances]
+
+
 def partners(level):
     """The pairs of a level, by the events: messages and general ordering."""
     sent, got, labels, pairs = {}, {}, {}, []
@@ -182,13 +284,13 @@ def unfolded(rng, level):
     """The events of one of the level's unfoldings, and its pairs."""
     events, pairs = [], list(partners(level))
     for item in level.items:
-        if isinstance(item, Condition):
+        if isinstance(item, (Condition, Stop)):
             continue
         ends = isinstance(item, Inline) and item.form == "exc"
         if ends and rng.random() < 0.6:
             continue
         inner, more = unfolded_item(rng, item)
-        pairs += more + [(first, second) for first in events for second in inner if first.at == second.at]
+        pairs += more + in_columns(events, inner)
         events += inner
         if ends:
             break
@@ -200,6 +302,8 @@ def unfolded_item(rng, item):
         return [item], []
     if isinstance(item, Coregion):
         return list(item.events), []
+    if isinstance(item, Reference):
+        return unfolded_expression(rng, item.expression)
     operands = item.operands
     if item.form == "loop":
         return turns_of(rng, item)
@@ -214,19 +318,48 @@ def unfolded_item(rng, item):
     return events, pairs
 
 
+def own_events(events, pairs):
+    """The events as events of their own, and their pairs."""
+    own = {id(event): copy.copy(event) for event in events}
+    return [own[id(event)] for event in events], [(own[id(first)], own[id(second)]) for first, second in pairs]
+
+
+def in_sequence(parts):
+    """The parts one after another, as far as they share instances."""
+    events, pairs = [], []
+    for inner, more in parts:
+        pairs = pairs + more + in_columns(events, inner)
+        events = events + inner
+    return events, pairs
+
+
+def turns_between(rng, bounds):
+    """How many turns a loop of these bounds takes."""
+    lower, upper = bounds
+    most = lower + 2 if upper is None else min(upper, lower + 2)
+    return rng.randint(lower, most) if lower <= most else 0
+
+
+def unfolded_expression(rng, expression):
+    """The events of one of the unfoldings of an expression, each use of a chart with events of its own."""
+    form, parts = expression.form, expression.parts
+    if form == "chart":
+        return own_events(*unfolded(rng, expression.chart.level))
+    if form == "alt":
+        return unfolded_expression(rng, rng.choice(parts))
+    if form == "loop":
+        return in_sequence([unfolded_expression(rng, parts[0]) for _ in range(turns_between(rng, expression.bounds))])
+    if form == "opt" and rng.random() < 0.3:
+        return [], []
+    each = [unfolded_expression(rng, part) for part in parts]
+    if form == "par":
+        return [event for events, _ in each for event in events], [pair for _, pairs in each for pair in pairs]
+    return in_sequence(each)
+
+
 def turns_of(rng, item):
     """The events of some turns of a loop, each turn with events of its own, and their pairs."""
-    lower, upper = item.bounds
-    most = lower + 2 if upper is None else min(upper, lower + 2)
-    events, pairs = [], []
-    for _ in range(rng.randint(lower, most) if lower <= most else 0):
-        inner, more = unfolded(rng, item.operands[0])
-        own = {id(event): copy.copy(event) for event in inner}
-        turn = [own[id(event)] for event in inner]
-        pairs += [(own[id(first)], own[id(second)]) for first, second in more]
-        pairs += [(first, second) for first in events for second in turn if first.at == second.at]
-        events += turn
-    return events, pairs
+    return in_sequence([own_events(*unfolded(rng, item.operands[0])) for _ in range(turns_between(rng, item.bounds))])
 
 
 def run_of(rng, level):
@@ -246,19 +379,19 @@ def run_of(rng, level):
 # --- texts --------------------------------------------------------------------------------------
 
 # what can be wrong in a text; for each a place of its own is drawn
-OF_PARTS = ["a part lacks", "another list", "no name", "not its own column", "another form", "other operands", "another bound", "parts exchanged"]
-FAULTS = ["unmatched message", "undeclared instance", "uncovered instance", "undeclared in a list", "named twice", "items exchanged", "loop bound", "unbuilt"]
-STRUCTURAL = ["exc placed", "event named twice", "unknown event", "cyclic order"]
-UNBUILT = ["out u to env via g", "in u from reference X1 via g", "reference unbuilt",
-           "create unbuilt", "stop", "concurrent; action x; \vout u to env via g; endconcurrent"]
+OF_PARTS = ["a part lacks", "another list", "no name", "not its own column", "another form", "other operands", "another bound", "another expression", "parts exchanged"]
+FAULTS = ["unmatched message", "undeclared instance", "uncovered instance", "undeclared in a list", "named twice", "items exchanged", "loop bound", "missing chart", "recursive reference", "unbuilt"]
+CREATING = ["create placed", "created twice", "late creation"]
+STRUCTURAL = ["exc placed", "event named twice", "unknown event", "cyclic order", "uncovered instance", "event after stop", *CREATING]
+UNBUILT = ["out u to env via g", "in u from reference X1 via g", "concurrent; action x; \vout u to env via g; endconcurrent"]
 MARK = "\v"
 
 
 class Writer:
     """Writes a chart. With a fault, the places where it can be are counted, and it is put into the one of the number `site`."""
 
-    def __init__(self, rng, instances, fault, site):
-        self.rng, self.instances, self.fault, self.site, self.sites = rng, instances, fault, site, 0
+    def __init__(self, rng, name, instances, fault, site):
+        self.rng, self.name, self.instances, self.fault, self.site, self.sites, self.written = rng, name, instances, fault, site, 0, {}
 
     def here(self, fault):
         """Whether the fault is to be at this place."""
@@ -267,7 +400,7 @@ class Writer:
         self.sites += 1
         return self.sites - 1 == self.site
 
-    def chart(self, name, level):
+    def chart(self, level):
         rng, lines = self.rng, []
         listed = [i for i in self.instances if rng.random() < 0.85]
         if listed:
@@ -283,15 +416,15 @@ class Writer:
             items = items[size:]
         if self.here("syntax"):
             lines.insert(rng.randint(0, len(lines)), rng.choice(["bad", "opt end;", "all: alt begin; opt end;"]))
-        return f"msc {name};\n" + rng.choice([" ", "\n"]).join(lines) + "\nendmsc;"
+        return f"msc {self.name};\n" + rng.choice([" ", "\n"]).join(lines) + "\nendmsc;"
 
     # an event, and its faults
     def event(self, event, cover):
         words, message = event.words(True), event.kind in ("out", "in")
         if message and event.far != "env" and self.here("unmatched message"):
             return None
-        if message and self.here("undeclared instance"):
-            words = "out u to nobody"
+        if (message or event.kind == "create") and self.here("undeclared instance"):
+            words = "out u to nobody" if message else "create nobody"
         outside = [i for i in self.instances if i not in cover]
         if outside and message and self.here("uncovered instance"):
             words = f"in u from {outside[0]}"
@@ -301,7 +434,9 @@ class Writer:
         return label + words + before + after + ";"
 
     def simple(self, item, cover):
-        """An event or a coregion."""
+        """An event, a coregion or a stop."""
+        if isinstance(item, Stop):
+            return "stop;"
         if isinstance(item, Event):
             return self.event(item, cover)
         inner = [words for words in (self.event(event, cover) for event in item.events) if words]
@@ -327,7 +462,7 @@ class Writer:
         rng, lines, last, names = self.rng, [], None, []
         items = self.interleaved(level.items) if rng.random() < 0.4 else level.items
         for item in items:
-            words = self.multi(item, level, names) if isinstance(item, (Inline, Condition)) else self.simple(item, level.cover)
+            words = self.multi(item, level, names) if isinstance(item, (Inline, Reference, Condition)) else self.simple(item, level.cover)
             if words is None:
                 continue
             cover = self.cover_of(item, level)
@@ -341,9 +476,9 @@ class Writer:
         return lines
 
     def cover_of(self, item, level):
-        whole = isinstance(item, (Inline, Condition)) and set(item.cover) == set(level.cover)
+        whole = isinstance(item, (Inline, Reference, Condition)) and set(item.cover) == set(level.cover)
         cover = "all" if whole and self.rng.random() < 0.5 else ",".join(item.cover)
-        if level.cover is not self.instances and cover != "all" and isinstance(item, (Inline, Condition)) and self.here("undeclared in a list"):
+        if level.cover is not self.instances and cover != "all" and isinstance(item, (Inline, Reference, Condition)) and self.here("undeclared in a list"):
             return cover + ",nobody"
         return cover
 
@@ -355,8 +490,30 @@ class Writer:
         if names and self.here("named twice"):
             name = " " + names[0]
         names.append(item.name)
+        if isinstance(item, Reference):
+            return self.referring(name, self.expression(item.expression), "")
         operands = [" ".join(self.statements(operand)) for operand in item.operands]
         return self.inline(item.form, self.bounds(item), name, operands)
+
+    def referring(self, name, expression, shared):
+        return f"reference{name + ':' if name else ''} {expression}{shared};"
+
+    def expression(self, held):
+        """The expression of a reference as it is written."""
+        if held.form == "chart":
+            if self.here("missing chart"):
+                return "nochart"
+            return self.name if self.here("recursive reference") else held.chart.name
+        if held.form == "empty":
+            return "empty"
+        parts = [self.part_of(part) for part in held.parts]
+        if held.form in ("opt", "loop"):
+            return f"{held.form} {self.bounds(held)}{parts[0]}"
+        return f" {held.form} ".join(parts)
+
+    def part_of(self, held):
+        words = self.expression(held)
+        return f"({words})" if len(held.parts) > 1 or self.rng.random() < 0.1 else words
 
     def bounds(self, item):
         """The bounds of a loop as they are written, with a blank behind them."""
@@ -391,12 +548,12 @@ class Writer:
         for item in level.items:
             if i not in item.cover:
                 continue
-            text = self.part(item, level, i, last) if isinstance(item, (Inline, Condition)) else self.simple(item, level.cover)
+            text = self.part(item, level, i, last) if isinstance(item, (Inline, Reference, Condition)) else self.simple(item, level.cover)
             if text is None:
                 continue
-            if isinstance(item, Inline) and len(item.cover) > 1:
+            if isinstance(item, (Inline, Reference)) and len(item.cover) > 1:
                 multis.append(len(words))
-            last = item.name if isinstance(item, Inline) else last
+            last = item.name if isinstance(item, (Inline, Reference)) else last
             words.append(text)
         for first, second in zip(multis, multis[1:]):
             if self.here("parts exchanged"):
@@ -418,6 +575,9 @@ class Writer:
             name = ""
         if last and self.here("named twice"):
             name = " " + last
+        if isinstance(item, Reference):
+            another = several and self.here("another expression")
+            return self.referring(name, "empty seq empty" if another else self.part_text(item), shared)
         form, operands = item.form, [" ".join(self.column(operand, i)) for operand in item.operands]
         if several and self.here("another form"):
             form = {"alt": "par", "par": "alt", "opt": "exc", "exc": "opt", "loop": "opt"}[form]
@@ -426,9 +586,15 @@ class Writer:
         bounds = "<7,9> " if several and form == "loop" and self.here("another bound") else self.bounds(item) if form == "loop" else ""
         return self.inline(form, bounds, name + shared, operands)
 
+    def part_text(self, item):
+        """The expression of a reference, written alike in each of its columns."""
+        if item not in self.written:
+            self.written[item] = self.expression(item.expression)
+        return self.written[item]
+
     def shared(self, item, level, i):
         rng, names = self.rng, self.rng.sample(item.cover, len(item.cover))
-        several = len(names) > 1 and isinstance(item, Inline)
+        several = len(names) > 1 and isinstance(item, (Inline, Reference))
         if self.here("undeclared in a list"):
             return f" shared {','.join([*names, 'nobody'])}"
         if several and self.here("another list"):
@@ -438,7 +604,7 @@ class Writer:
         if set(names) == set(level.cover) and rng.random() < 0.4:
             return " shared all"
         if names == [i] and rng.random() < 0.7:
-            return rng.choice(["", " shared"]) if isinstance(item, Inline) else ""
+            return rng.choice(["", " shared"]) if isinstance(item, (Inline, Reference)) else ""
         return f" shared {','.join(names)}"
 
 
@@ -452,20 +618,25 @@ def faults_in_turn(rng):
 class Chart:
     """A chart: its name, its outermost level, its text, and which fault was put into it, if one was."""
 
-    def __init__(self, rng, name, faulty):
+    def __init__(self, rng, name, faulty, others):
         self.name, self.fault, site = name, None, None
         instances = rng.sample(["i", "j", "k", "l"], rng.randint(1, 4))
         structural = rng.choice(STRUCTURAL) if faulty and rng.random() < 0.3 else None
-        self.level = Maker(rng, structural).level(instances, 0)
+        maker = Maker(rng, structural, instances, others)
+        self.level = maker.level(instances, 0)
+        self.size = EVENTS - maker.left + maker.expanded + 1
+        referred = [chart for level in self.level.levels() for item in level.items if isinstance(item, Reference) for chart in item.expression.charts()]
+        self.expanded = {*instances, *(i for chart in referred for i in chart.expanded)}
         seed = rng.random()
         for fault in faults_in_turn(rng) if faulty and not structural else []:
-            counting = Writer(random.Random(seed), instances, fault, None)
-            counting.chart(name, self.level)
+            counting = Writer(random.Random(seed), name, instances, fault, None)
+            counting.chart(self.level)
             if counting.sites:
                 self.fault, site = fault, rng.randrange(counting.sites)
                 break
-        self.text = Writer(random.Random(seed), instances, self.fault, site).chart(name, self.level)
-        self.fault = structural or self.fault
+        self.text = Writer(random.Random(seed), name, instances, self.fault, site).chart(self.level)
+        # what is said of a chart that refers to a faulty one is as doubtful
+        self.fault = structural or self.fault or next((chart.fault for chart in referred if chart.fault), None)
 
     def events(self):
         return [event for level in self.level.levels() for event in level.events()]
@@ -475,7 +646,11 @@ def document_of(rng):
     """Charts, the text of a document of them, and the place of what isn't built yet, as it is printed, if there is such a thing."""
     names = [rng.choice(["A", "B"]) if rng.random() < 0.1 else f"C{number}" for number in range(rng.randint(0, 4))]
     faulty = rng.randrange(len(names)) if names and rng.random() < 0.6 else None
-    charts = [Chart(rng, name, number == faulty) for number, name in enumerate(names)]
+    charts = []
+    for number, name in enumerate(names):
+        charts.append(Chart(rng, name, number == faulty, list(charts) if rng.random() < 0.8 else []))
+    if rng.random() < 0.5:
+        rng.shuffle(charts)
     text = "\n".join(chart.text for chart in charts)
     if rng.random() < 0.2:
         text = f"mscdocument X;\n{text}\nendmscdocument;"
