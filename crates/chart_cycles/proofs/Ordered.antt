@@ -9,11 +9,10 @@ use Rattle.msc_meaning.specs.Bodies.{Body, level, WovenItems, no_items, item_and
 use Rattle.msc_meaning.specs.Tables.{Table, ChartEntry, Woven, Basic, HighLevel, chart_at}
 use Rattle.msc_meaning.specs.Views.{entry_view, table_view}
 use Rattle.msc_meaning.specs.declared.body.ChartEntry as rust
-use Rattle.expanded_charts.specs.PlainCharts.{IsPlainTable}
+use Rattle.expanded_charts.specs.BasicCharts.{IsBasicTable}
 use Rattle.expanded_charts.specs.Expanding.{expansion}
-use Rattle.expanded_charts.specs.Making.{no_ends}
 use Rattle.expanded_charts.specs.Numbering.{numbering_of}
-use Rattle.gate_ends.specs.FoundEnds.{AreAll, item_names, items_names, level_names, operands_names}
+use Rattle.gate_ends.specs.FoundEnds.{AreAll, item_names, items_names, level_names, operands_names, table_ends}
 use Rattle.written_order.specs.Rising.{IsRisingEntry, IsRisingTo, IsRisingWoven}
 use Rattle.written_order.specs.RisingLaws.{RisingChartsAreRanked}
 use Rattle.chart_cycles.specs.Cycles.{AreOrdered, IsOrdered, TellCycles, TellsCycle}
@@ -50,8 +49,8 @@ chart_rises : (table : Table) (depth : ℕ) (name : List ℕ) (c : ChartEntry) �
 chart_rises table zero name c at alone up = tt
 chart_rises table (suc k) name c at alone up = subst (IsRisingEntry (IsRisingTo table k)) (sym at) (alone_rises (IsRisingTo table k) c.content alone up)
 
-pub alone_ordered : RisingChartsAreRanked → (table : Table) (depth : ℕ) (name : List ℕ) (c : ChartEntry) → IsPlainTable table → chart_at table name ≡ Some c → StandsAlone c.content → IsWritten c.content → IsOrdered table depth name
-alone_ordered law table depth name c plain at alone up = law.ranked table depth name (numbering_of (expansion no_ends table depth name)) plain (chart_rises table depth name c at alone up)
+pub alone_ordered : RisingChartsAreRanked → (table : Table) (depth : ℕ) (name : List ℕ) (c : ChartEntry) → IsBasicTable table → chart_at table name ≡ Some c → StandsAlone c.content → IsWritten c.content → IsOrdered table depth name
+alone_ordered law table depth name c basic at alone up = law.ranked (table_ends table) table depth name (numbering_of (expansion (table_ends table) table depth name)) basic (chart_rises table depth name c at alone up)
 
 -- ---- all written in order
 
@@ -79,9 +78,9 @@ all_rise table up (suc k) name = by (chart_at table name) (λ c at. written_at t
     by None f e below = tt
     by (Some c) f e below = woven_rises (IsRisingTo table k) below c.content (f c e)
 
-pub written_ordered : RisingChartsAreRanked → (table : Table) (depth : ℕ) → IsPlainTable table → AreWritten table → (charts : List ChartEntry) → AreOrdered table depth charts
-written_ordered law table depth plain up [] = tt
-written_ordered law table depth plain up (c ∷ charts) = (law.ranked table depth c.name (numbering_of (expansion no_ends table depth c.name)) plain (all_rise table up depth c.name), written_ordered law table depth plain up charts)
+pub written_ordered : RisingChartsAreRanked → (table : Table) (depth : ℕ) → IsBasicTable table → AreWritten table → (charts : List ChartEntry) → AreOrdered table depth charts
+written_ordered law table depth basic up [] = tt
+written_ordered law table depth basic up (c ∷ charts) = (law.ranked (table_ends table) table depth c.name (numbering_of (expansion (table_ends table) table depth c.name)) basic (all_rise table up depth c.name), written_ordered law table depth basic up charts)
 
 -- ---- chart by chart
 

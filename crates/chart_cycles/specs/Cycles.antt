@@ -3,12 +3,12 @@ use Rattle.std.specs.Prelude.{Bool, true, false, ℕ, List, [], ◌∷◌}
 use Rattle.msc_meaning.specs.Tables.{Table, ChartEntry}
 use Rattle.expansion_order.specs.Ranks.{CanBeRanked}
 use Rattle.expanded_charts.specs.Expanding.{expansion}
-use Rattle.expanded_charts.specs.Making.{no_ends}
 use Rattle.expanded_charts.specs.Numbering.{numbered_by, numbering_of}
+use Rattle.gate_ends.specs.FoundEnds.{table_ends}
 
 -- the events of the chart's expansion have ranks; the references of its charts stand in each other less than so deep
 abbrev pub IsOrdered : Table → ℕ → List ℕ → Type 0
-IsOrdered table depth name = CanBeRanked (numbered_by (numbering_of (expansion no_ends table depth name)) (expansion no_ends table depth name))
+IsOrdered table depth name = CanBeRanked (numbered_by (numbering_of (expansion (table_ends table) table depth name)) (expansion (table_ends table) table depth name))
 
 -- so it is of each of these charts
 abbrev pub AreOrdered : Table → ℕ → List ChartEntry → Type 0

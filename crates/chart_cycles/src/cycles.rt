@@ -1,8 +1,9 @@
 //! The charts whose order is cyclic. Where all charts are written in order nothing is expanded, nor is a chart without references that is.
 
 ghost use Rattle.std.specs.Prelude.{◌≡◌, true, false, IfOk, Some, map};
-ghost use Rattle.expanded_charts.specs.Making.{HasNames};
-ghost use Rattle.expanded_charts.specs.PlainCharts.{IsPlainTable};
+ghost use Rattle.expanded_charts.specs.BasicCharts.{IsBasicTable};
+ghost use Rattle.gate_ends.specs.LevelGates.{HasNames};
+ghost use Rattle.gate_tables.specs.ChartGates.{AreGatesOf};
 ghost use Rattle.msc_base.specs.Lists.{AreDifferent};
 ghost use Rattle.msc_meaning.specs.Tables.{chart_at};
 ghost use Rattle.msc_meaning.specs.Views.{content_view, entry_view, table_view};
@@ -12,6 +13,7 @@ ghost use Rattle.chart_cycles.specs.Written.{AreWritten, IsWritten, StandsAlone}
 use crate::alone::has_none;
 use expanded_charts::expansion_of;
 use expansion_order::is_cyclic;
+use gate_tables::GateTables;
 use msc_base::{NameTable, NoMemory};
 use msc_meaning::{ChartEntry, EntryContent};
 use std::alloc::Global;
@@ -63,15 +65,17 @@ fn is_cyclic_chart(
     alloc: Global,
     charts: &[ChartEntry],
     names: &NameTable,
+    gates: &GateTables,
     depth: u32,
     name: &[u8],
 ) -> Result<bool, NoMemory>
     requires named { HasNames charts.now names.now }
-    requires plain { IsPlainTable (table_view charts.now) }
+    requires basic { IsBasicTable (table_view charts.now) }
+    requires gates { AreGatesOf (table_view charts.now) gates.now }
     ensures cyclic { IfOk result (λ cyclic. cyclic ≡ true → IsOrdered (table_view charts.now) depth name.now → ⊥) }
     ensures ordered { IfOk result (λ cyclic. cyclic ≡ false → IsOrdered (table_view charts.now) depth name.now) }
 {
-    let made = expansion_of(alloc, charts, names, depth, name)?;
+    let made = expansion_of(alloc, charts, names, gates, depth, name)?;
     let cyclic = is_cyclic(alloc, &made.expansion)?;
     Ok(cyclic)
 }
@@ -81,11 +85,13 @@ fn is_cyclic_entry(
     alloc: Global,
     charts: &[ChartEntry],
     names: &NameTable,
+    gates: &GateTables,
     depth: u32,
     chart: &ChartEntry,
 ) -> Result<bool, NoMemory>
     requires named { HasNames charts.now names.now }
-    requires plain { IsPlainTable (table_view charts.now) }
+    requires basic { IsBasicTable (table_view charts.now) }
+    requires gates { AreGatesOf (table_view charts.now) gates.now }
     requires there { chart_at (table_view charts.now) chart.now.name ≡ Some (entry_view chart.now) }
     ensures cyclic { IfOk result (λ cyclic. cyclic ≡ true → IsOrdered (table_view charts.now) depth chart.now.name → ⊥) }
     ensures ordered { IfOk result (λ cyclic. cyclic ≡ false → IsOrdered (table_view charts.now) depth chart.now.name) }
@@ -94,22 +100,24 @@ fn is_cyclic_entry(
     if is_alone(&chart.content) {
         return Ok(false);
     }
-    let cyclic = is_cyclic_chart(alloc, charts, names, depth, chart.name.bytes())?;
+    let cyclic = is_cyclic_chart(alloc, charts, names, gates, depth, chart.name.bytes())?;
     Ok(cyclic)
 }
 
 /// For each chart of a table whether the order of its expansion is cyclic. The names are those of the charts, in their order, and differ;
-/// references stand in each other less than so deep. It fails only for want of memory, for which it takes 2^32 events, or edges between
-/// them, of one expansion too. Where all charts are written in order nothing is expanded.
+/// `gates` is what the charts say of their gates; references stand in each other less than so deep. It fails only for want of memory, for
+/// which it takes 2^32 events, or edges between them, of one expansion too. Where all charts are written in order nothing is expanded.
 pub fn cyclic_charts(
     alloc: Global,
     charts: &[ChartEntry],
     names: &NameTable,
+    gates: &GateTables,
     depth: u32,
 ) -> Result<Vec<bool>, NoMemory>
     requires named { HasNames charts.now names.now }
     requires different { AreDifferent names.now }
-    requires plain { IsPlainTable (table_view charts.now) }
+    requires basic { IsBasicTable (table_view charts.now) }
+    requires gates { AreGatesOf (table_view charts.now) gates.now }
     ensures { IfOk result (λ told. TellCycles (table_view charts.now) depth (map entry_view charts.now) told.items) }
 {
     rising_charts_are_ranked();
@@ -119,7 +127,7 @@ pub fn cyclic_charts(
     }
     let mut told = Vec::new(alloc);
     for index in 0..charts.len() {
-        let cyclic = is_cyclic_entry(alloc, charts, names, depth, &charts[index])?;
+        let cyclic = is_cyclic_entry(alloc, charts, names, gates, depth, &charts[index])?;
         told.push(cyclic)?;
     }
     Ok(told)

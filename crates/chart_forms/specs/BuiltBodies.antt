@@ -1,23 +1,27 @@
 -- Of which bodies terms are made.
-use Rattle.std.specs.Prelude.{◌≡◌, ℕ, Bool, true, false, List, [], ◌∷◌, Some, None, ◌&&◌}
+use Rattle.std.specs.Prelude.{◌≡◌, ℕ, Bool, true, false, List, [], ◌∷◌, Some, None}
+use Rattle.std.specs.List.{list_any}
 use Rattle.chart_text.specs.WellFormed.{has_parts}
 use Rattle.msc_base.specs.Lists.{IsAmong}
 use Rattle.msc_base.specs.declared.label.Kind.{Kind}
 use Rattle.msc_base.specs.declared.label.Kind.TheVariants.{Output, Input, OutputLost, InputFound, Action, TimerStart, TimerStop, Timeout, Create}
-use Rattle.msc_tree.specs.declared.event.RawEvent.{RawEvent}
 use Rattle.msc_tree.specs.declared.event.Target.{Target}
 use Rattle.msc_tree.specs.declared.event.Target.TheVariants.{Nobody, Env, Instance, Gate}
 use Rattle.msc_tree.specs.declared.reference.InlineForm.{InlineForm}
 use Rattle.msc_tree.specs.declared.reference.InlineForm.TheVariants as inline
+use Rattle.msc_tree.specs.declared.reference.Join.{Join}
+use Rattle.msc_tree.specs.declared.reference.JoinEnd.{JoinEnd}
+use Rattle.msc_tree.specs.declared.reference.JoinEnd.TheVariants as join_end
 use Rattle.msc_meaning.specs.Bodies.{EventNode, Body, level, WovenItems, no_items, item_and, WovenItem, Single, Coregion, Inline, Refer, Bodies, no_bodies, body_and}
 
--- no end at a gate
-abbrev pub names_no_gate : Target → Bool
-names_no_gate Nobody = true
-names_no_gate (Env None) = true
-names_no_gate (Env (Some gate)) = false
-names_no_gate (Instance name) = true
-names_no_gate (Gate name gate) = false
+-- a join that ties two gates; another hands a gate on to its level
+abbrev pub ties_gate : JoinEnd → Bool
+ties_gate (join_end.Env to) = false
+ties_gate (join_end.Reference name to) = true
+
+-- one of them does
+abbrev pub tie_gates : List Join → Bool
+tie_gates js = list_any (λ (j : Join). ties_gate j.to) js
 
 -- what is created is an instance, as it is in every text that is read
 abbrev pub creates_instance : Kind → Target → Bool
@@ -33,10 +37,6 @@ creates_instance Action target = true
 creates_instance TimerStart target = true
 creates_instance TimerStop target = true
 creates_instance Timeout target = true
-
--- no end at a gate, and no creation of anything but an instance
-abbrev pub is_plain : RawEvent → Bool
-is_plain e = names_no_gate e.target && creates_instance e.kind e.target
 
 -- as many operands as the form has
 abbrev pub has_operands : InlineForm → Bodies → Bool
@@ -61,15 +61,16 @@ module _ (names : List (List ℕ)) where
     pub among : IsAmong names child
     pub other : child ≡ at → ⊥
 
-  -- an event at one of these instances and at no gate; where it creates, another of them
+  -- an event at one of these instances; where it creates, another of them
   abbrev pub IsBuiltNode : EventNode → Type 0
-  IsBuiltNode n = IsAmong names n.at × (names_no_gate n.event.target ≡ true) × (n.event.kind ≡ Create → IsChild n.at n.event.target)
+  IsBuiltNode n = IsAmong names n.at × (n.event.kind ≡ Create → IsChild n.at n.event.target)
 
   abbrev pub AreBuiltNodes : List EventNode → Type 0
   AreBuiltNodes [] = Unit {0}
   AreBuiltNodes (n ∷ ns) = IsBuiltNode n × AreBuiltNodes ns
 
-  -- such events, inline expressions with as many operands as their forms have, references without joins whose expressions have parts
+  -- such events, inline expressions with as many operands as their forms have, references whose joins tie no two gates and whose
+  -- expressions have parts
   abbrev mutual
     pub IsBuiltBody : Body → Type 0
     IsBuiltBody (level cover held pairs) = AreBuiltItems held
@@ -82,7 +83,7 @@ module _ (names : List (List ℕ)) where
     IsBuiltItem (Single n) = IsBuiltNode n
     IsBuiltItem (Coregion ns) = AreBuiltNodes ns
     IsBuiltItem (Inline form part operands) = (has_operands form operands ≡ true) × AreBuiltBodies operands
-    IsBuiltItem (Refer part) = (part.joins ≡ []) × (has_parts part.expression ≡ true)
+    IsBuiltItem (Refer part) = (tie_gates part.joins ≡ false) × (has_parts part.expression ≡ true)
 
     pub AreBuiltBodies : Bodies → Type 0
     AreBuiltBodies no_bodies = Unit {0}

@@ -2,8 +2,8 @@
 #![tactic(auto)]
 
 mod bounds;
+mod creating;
 mod not_built;
-mod plain;
 mod sizes;
 
 pub use bounds::first_high_bound;

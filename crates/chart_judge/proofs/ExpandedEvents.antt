@@ -8,7 +8,7 @@ use Rattle.std.proofs.Common.{◌≡◌, ◌∙◌, refl, sym, ap, subst, if◌t
 use Rattle.std.proofs.lemmas.Bool.{or_left, or_right}
 use Rattle.chart_forms.specs.BuiltBodies.{AreBuiltBodies, AreBuiltItems, AreBuiltNodes, IsBuiltBody, IsBuiltItem, IsBuiltNode, IsChild}
 use Rattle.expanded_charts.specs.Expanding.{NumberedEvent}
-use Rattle.expanded_charts.specs.Making.{no_ends}
+use Rattle.gate_ends.specs.FoundEnds.{table_ends}
 use Rattle.expanded_terms.specs.PlacedTerms.{child_at, child_of}
 use Rattle.expanded_terms.specs.WholeCharts.{entry_happenings, events_happenings, expression_happenings, expressions_happenings, happenings_to, item_happenings, items_happenings, level_happenings, operands_happenings, woven_happenings}
 use Rattle.expansion_tree.specs.Expansions.{events_in}
@@ -34,8 +34,8 @@ use Rattle.msc_tree.specs.declared.event.Target.{Target}
 use Rattle.msc_tree.specs.declared.event.Target.TheVariants.{Instance}
 use Rattle.msc_unfolding.specs.Unfoldings.{Happening}
 use Rattle.table_terms.specs.TableTerms.{chart_expansion}
-use Rattle.table_terms.proofs.WholeCharts.{chart_seen}
-use Rattle.msc_acceptance.proofs.PlainLaws.{table_plain}
+use Rattle.table_terms.proofs.Happenings.{chart_seen}
+use Rattle.chart_judge.proofs.WholeTables.{all_basic}
 use Rattle.chart_judge.proofs.TableEntries.{entry_has}
 
 -- no far end is given from outside
@@ -44,7 +44,7 @@ IsFree a = (m : ℕ) → a.far m ≡ None
 
 -- ---- what each of the happenings has
 
-module _ (P : Happening → Type 0) where
+module _ (ends_of : WovenItems → List GateEnd) (P : Happening → Type 0) where
   abbrev Each : List Happening → Type 0
   Each [] = Unit {0}
   Each (h ∷ hs) = P h × Each hs
@@ -60,7 +60,7 @@ module _ (P : Happening → Type 0) where
 
   module _ (chart_happenings : List ℕ → GateMap → List Happening) (known : (name : List ℕ) (gates : GateMap) → Each (chart_happenings name gates)) where
     mutual
-      expression_each : (gates : GateMap) (e : Expression) → Each (expression_happenings no_ends chart_happenings gates e)
+      expression_each : (gates : GateMap) (e : Expression) → Each (expression_happenings ends_of chart_happenings gates e)
       expression_each gates Empty = tt
       expression_each gates (Chart name) = known name gates
       expression_each gates (Alt parts) = expressions_each gates parts
@@ -69,32 +69,32 @@ module _ (P : Happening → Type 0) where
       expression_each gates (Opt part) = expression_each gates part
       expression_each gates (expression.Loop lower upper part) = expression_each gates part
 
-      expressions_each : (gates : GateMap) (xs : Expressions) → Each (expressions_happenings no_ends chart_happenings gates xs)
+      expressions_each : (gates : GateMap) (xs : Expressions) → Each (expressions_happenings ends_of chart_happenings gates xs)
       expressions_each gates none = tt
-      expressions_each gates (more x xs) = each_both (expression_happenings no_ends chart_happenings gates x) (expressions_happenings no_ends chart_happenings gates xs) (expression_each gates x) (expressions_each gates xs)
+      expressions_each gates (more x xs) = each_both (expression_happenings ends_of chart_happenings gates x) (expressions_happenings ends_of chart_happenings gates xs) (expression_each gates x) (expressions_each gates xs)
 
     module _ (names : List (List ℕ)) (holds : (es : List GateEnd) (a : Around) (n : EventNode) → IsFree a → IsBuiltNode names n → P (happening es a n)) where
-      nodes_each : (es : List GateEnd) (a : Around) (ns : List EventNode) → IsFree a → AreBuiltNodes names ns → Each (events_happenings no_ends chart_happenings es a ns)
+      nodes_each : (es : List GateEnd) (a : Around) (ns : List EventNode) → IsFree a → AreBuiltNodes names ns → Each (events_happenings ends_of chart_happenings es a ns)
       nodes_each es a [] f h = tt
       nodes_each es a (n ∷ ns) f h = (holds es a n f h.0, nodes_each es a ns f h.1)
 
       mutual
-        level_each : (a : Around) (b : Body) → IsFree a → IsBuiltBody names b → Each (level_happenings no_ends chart_happenings a b)
-        level_each a (level cover held pairs) f h = items_each (gates_of held []) a held f h
+        level_each : (a : Around) (b : Body) → IsFree a → IsBuiltBody names b → Each (level_happenings ends_of chart_happenings a b)
+        level_each a (level cover held pairs) f h = items_each (gates_of held (ends_of held)) a held f h
 
-        items_each : (g : Gates) (a : Around) (xs : WovenItems) → IsFree a → AreBuiltItems names xs → Each (items_happenings no_ends chart_happenings g a xs)
+        items_each : (g : Gates) (a : Around) (xs : WovenItems) → IsFree a → AreBuiltItems names xs → Each (items_happenings ends_of chart_happenings g a xs)
         items_each g a no_items f h = tt
-        items_each g a (item_and x xs) f h = each_both (item_happenings no_ends chart_happenings g a x) (items_happenings no_ends chart_happenings g a xs) (item_each g a x f h.0) (items_each g a xs f h.1)
+        items_each g a (item_and x xs) f h = each_both (item_happenings ends_of chart_happenings g a x) (items_happenings ends_of chart_happenings g a xs) (item_each g a x f h.0) (items_each g a xs f h.1)
 
-        item_each : (g : Gates) (a : Around) (x : WovenItem) → IsFree a → IsBuiltItem names x → Each (item_happenings no_ends chart_happenings g a x)
+        item_each : (g : Gates) (a : Around) (x : WovenItem) → IsFree a → IsBuiltItem names x → Each (item_happenings ends_of chart_happenings g a x)
         item_each g a (Single n) f h = (holds g.ends a n f h, tt)
         item_each g a (Coregion ns) f h = nodes_each g.ends a ns f h
         item_each g a (Inline form part operands) f h = operands_each (inside g part.name a) operands f h.1
         item_each g a (Refer part) f h = expression_each (gates_referred g part.name part.joins a.gates) part.expression
 
-        operands_each : (a : Around) (bs : Bodies) → IsFree a → AreBuiltBodies names bs → Each (operands_happenings no_ends chart_happenings a bs)
+        operands_each : (a : Around) (bs : Bodies) → IsFree a → AreBuiltBodies names bs → Each (operands_happenings ends_of chart_happenings a bs)
         operands_each a no_bodies f h = tt
-        operands_each a (body_and b bs) f h = each_both (level_happenings no_ends chart_happenings a b) (operands_happenings no_ends chart_happenings a bs) (level_each a b f h.0) (operands_each a bs f h.1)
+        operands_each a (body_and b bs) f h = each_both (level_happenings ends_of chart_happenings a b) (operands_happenings ends_of chart_happenings a bs) (level_each a b f h.0) (operands_each a bs f h.1)
 
 -- ---- instances of a table
 
@@ -167,30 +167,30 @@ own_end es a n free child is = ap (λ (o : Option Far). unwrap_or o (written_far
 
 node_settled : (names others : List (List ℕ)) → ((m : List ℕ) → IsAmong names m → IsAmong others m) → (es : List GateEnd) (a : Around) (n : EventNode) → IsFree a → IsBuiltNode names n → IsSettled others (happening es a n)
 node_settled names others f es a n free h =
-    let s = second_is names n.at n.event.kind n.event.target (far_end es a n) h.2 (own_end es a n free) in
+    let s = second_is names n.at n.event.kind n.event.target (far_end es a n) h.1 (own_end es a n free) in
     record { at = f n.at h.0; child = s.is; second = λ k e. f k (s.among k e); apart = s.apart }
 
 module _ (table : Table) (charts : EachChart IsAcceptedChart table) where
   abbrev Settled : Happening → Type 0
   Settled = IsSettled (table_instances [] table)
 
-  entry_each : (chart_happenings : List ℕ → GateMap → List Happening) → ((name : List ℕ) (gates : GateMap) → Each Settled (chart_happenings name gates)) → (gates : GateMap) (rs : List Refinement) (w : Woven) (b : Body) → rs ≡ [] → w ≡ Basic b
-      → IsBuiltBody (cover_of b) b → ((m : List ℕ) → IsAmong (content_instances w) m → IsAmong (table_instances [] table) m) → Each Settled (woven_happenings no_ends chart_happenings table gates rs w)
+  entry_each : (chart_happenings : List ℕ → GateMap → List Happening) → ((name : List ℕ) (gates : GateMap) → Each (table_ends table) Settled (chart_happenings name gates)) → (gates : GateMap) (rs : List Refinement) (w : Woven) (b : Body) → rs ≡ [] → w ≡ Basic b
+      → IsBuiltBody (cover_of b) b → ((m : List ℕ) → IsAmong (content_instances w) m → IsAmong (table_instances [] table) m) → Each (table_ends table) Settled (woven_happenings (table_ends table) chart_happenings table gates rs w)
   entry_each chart_happenings known gates rs w b whole is built there =
-      subst (λ (rs : List Refinement). Each Settled (woven_happenings no_ends chart_happenings table gates rs w)) (sym whole)
-      (subst (λ (w : Woven). Each Settled (woven_happenings no_ends chart_happenings table gates [] w)) (sym is)
-      (level_each Settled chart_happenings known (cover_of b)
+      subst (λ (rs : List Refinement). Each (table_ends table) Settled (woven_happenings (table_ends table) chart_happenings table gates rs w)) (sym whole)
+      (subst (λ (w : Woven). Each (table_ends table) Settled (woven_happenings (table_ends table) chart_happenings table gates [] w)) (sym is)
+      (level_each (table_ends table) Settled chart_happenings known (cover_of b)
       (node_settled (cover_of b) (table_instances [] table) (subst (λ (w : Woven). (m : List ℕ) → IsAmong (content_instances w) m → IsAmong (table_instances [] table) m) is there)) (under gates) b (λ m. refl) built))
 
-  happenings_each : (depth : ℕ) (name : List ℕ) (gates : GateMap) → Each Settled (happenings_to table no_ends depth name gates)
+  happenings_each : (depth : ℕ) (name : List ℕ) (gates : GateMap) → Each (table_ends table) Settled (happenings_to table (table_ends table) depth name gates)
   happenings_each zero name gates = tt
   happenings_each (suc depth) name gates = by (happenings_each depth) (chart_at table name) refl
     where
-      by : ((name : List ℕ) (gates : GateMap) → Each Settled (happenings_to table no_ends depth name gates)) → (o : Option ChartEntry) → chart_at table name ≡ o → Each Settled (entry_happenings no_ends (happenings_to table no_ends depth) table gates o)
+      by : ((name : List ℕ) (gates : GateMap) → Each (table_ends table) Settled (happenings_to table (table_ends table) depth name gates)) → (o : Option ChartEntry) → chart_at table name ≡ o → Each (table_ends table) Settled (entry_happenings (table_ends table) (happenings_to table (table_ends table) depth) table gates o)
       by known None e = tt
       by known (Some c) e =
           let a = entry_has IsAcceptedChart table name c charts e in
-          entry_each (happenings_to table no_ends depth) known gates (refinements c.decls) c.content a.body a.whole a.is a.built (table_has table [] name c e)
+          entry_each (happenings_to table (table_ends table) depth) known gates (refinements c.decls) c.content a.body a.whole a.is a.built (table_has table [] name c e)
 
   happening_there : (es : List NumberedEvent) (e : NumberedEvent) → Among e es → Among e.happening (map (λ (e : NumberedEvent). e.happening) es)
   happening_there (d ∷ es) _ first = first
@@ -198,5 +198,5 @@ module _ (table : Table) (charts : EachChart IsAcceptedChart table) where
   happening_there [] e i = elim i [ ]
 
   pub events_settled : (name : List ℕ) (e : NumberedEvent) → Among e (events_in (chart_expansion table name)) → IsSettled (table_instances [] table) e.happening
-  events_settled name e i = of_each Settled (happenings_to table no_ends EXPANDED_NESTING name no_gates) e.happening (happenings_each EXPANDED_NESTING name no_gates)
-      (subst (λ (l : List Happening). Among e.happening l) (chart_seen table (table_plain table charts) EXPANDED_NESTING name no_gates 0) (happening_there (events_in (chart_expansion table name)) e i))
+  events_settled name e i = of_each (table_ends table) Settled (happenings_to table (table_ends table) EXPANDED_NESTING name no_gates) e.happening (happenings_each EXPANDED_NESTING name no_gates)
+      (subst (λ (l : List Happening). Among e.happening l) (chart_seen table (all_basic table charts) EXPANDED_NESTING name no_gates 0) (happening_there (events_in (chart_expansion table name)) e i))

@@ -3,21 +3,18 @@ use Rattle.std.specs.Prelude.{ℕ, zero, suc, List, [], ◌∷◌, ◌++◌, Opt
 use Rattle.std.proofs.Common.{◌≡◌, refl, sym, subst, inl, inr, arith}
 use Rattle.chart_forms.specs.BodyEvents.{events_within, item_within, items_within, operands_within}
 use Rattle.chart_forms.specs.BuiltBodies.{AreBuiltBodies, AreBuiltItems, IsBuiltBody, IsBuiltItem}
-use Rattle.expanded_charts.specs.PlainCharts.{AreAtNoGate, ArePlainItems, IsAtNoGate}
-use Rattle.expanded_terms.specs.FewPairs.{HasFewOwn, event_tags, node_numbers, own_gates}
+use Rattle.expanded_terms.specs.FewPairs.{HasFewOwn, node_numbers}
 use Rattle.expanded_terms.specs.JoinProducts.{AreFewExpressions, AreFewItems, AreFewOperands, IsFewEntry, IsFewExpression, IsFewItem, IsFewLevel, IsFewTo, IsFewWoven}
 use Rattle.gate_ends.specs.FoundEnds.{AreAll, item_names, items_names, level_names, operands_names}
 use Rattle.general_ordering.specs.EventNames.{LevelsBreakNameRule, Twice, breaks, places_where}
 use Rattle.general_ordering.proofs.NamesOnce.{names_once}
-use Rattle.msc_acceptance.specs.AcceptedCharts.{EachChart, IsAcceptedChart, IsThereTo, content_names}
+use Rattle.msc_acceptance.specs.AcceptedCharts.{EachChart, IsAcceptedChart, IsThereTo, content_levels, content_names}
 use Rattle.msc_acceptance.specs.Listing.{cover_of}
 use Rattle.msc_base.specs.Lists.{IsAmong}
 use Rattle.msc_base.specs.Orders.{Among, first, later, Once}
 use Rattle.msc_base.specs.declared.place.Place.{Place}
 use Rattle.msc_meaning.specs.Bodies.{EventNode, Body, level, WovenItems, no_items, item_and, WovenItem, Single, Coregion, Inline, Refer, Bodies, no_bodies, body_and, events}
 use Rattle.msc_meaning.specs.BodyLevels.{BodyLevel, EachLevel, body_levels, item_levels, items_levels, level_events, levels_from, operands_levels}
-use Rattle.msc_meaning.specs.Calls.{Call}
-use Rattle.msc_meaning.specs.FarEnds.{gate_tags}
 use Rattle.msc_meaning.specs.InnerEvents.{charts_in, charts_in_all}
 use Rattle.msc_meaning.specs.Levels.{IsWovenLevel, woven, AreWovenItems, no_woven, woven_and, IsWovenItem, an_event, a_coregion, an_inline, a_reference, AreWovenOperands, no_woven_operand, woven_operand_and}
 use Rattle.msc_meaning.specs.Pairing.{ArePairs}
@@ -25,13 +22,10 @@ use Rattle.msc_meaning.specs.Pieces.{Piece}
 use Rattle.msc_meaning.specs.Tables.{ChartEntry, Table, Woven, Basic, Refinement, refinements}
 use Rattle.msc_meaning.proofs.LevelLaws.{each_both, each_left, each_right}
 use Rattle.msc_tree.specs.Expressions.{Expression, Empty, Chart, Alt, Par, Seq, Opt, Loop, Expressions, none, more}
-use Rattle.msc_tree.specs.declared.event.Target.{Target}
-use Rattle.msc_tree.specs.declared.event.Target.TheVariants.{Nobody, Env, Instance, Gate}
 use Rattle.msc_tree.specs.declared.reference.InlineForm.{InlineForm}
-use Rattle.table_terms.proofs.WholeCharts.{none_called}
-use Rattle.chart_judge.proofs.CompleteTables.{all_left, all_right}
+use Rattle.gate_rules.specs.GateLaws.{HasGates}
+use Rattle.chart_judge.proofs.WholeTables.{IsGatedLevel, all_left, all_right}
 use Rattle.chart_judge.proofs.LevelPairs.{level_is_few}
-use Rattle.msc_acceptance.proofs.PlainLaws.{items_plain}
 use Rattle.chart_judge.proofs.TableEntries.{entry_has}
 
 -- ---- numbers that differ
@@ -145,36 +139,25 @@ numbered_levels : (ls : List BodyLevel) → EachLevel HasOwn ls → EachLevel Is
 numbered_levels [] h o f = tt
 numbered_levels (l ∷ ls) h o f = (numbered_body l.body h.0 o.0 (λ p i. f p (inl i)), numbered_levels ls h.1 o.1 (λ p i. f p (inr i)))
 
--- ---- no gates
+-- ---- gates
 
-no_tags : (t : Target) → IsAtNoGate t → length (gate_tags t) ≡ 0
-no_tags Nobody h = refl
-no_tags (Env None) h = refl
-no_tags (Env (Some gate)) h = absurd h
-no_tags (Instance far) h = refl
-no_tags (Gate name gate) h = refl
-
-gates_both : (ns ms : List EventNode) → AreAtNoGate ns → own_gates ms ≡ 0 → own_gates (ns ++ ms) ≡ 0
-gates_both [] ms h e = e
-gates_both (n ∷ ns) ms h e = omega (arith, no_tags n.event.target h.0, gates_both ns ms h.1 e)
-
-no_gates_own : (xs : WovenItems) → ArePlainItems xs → own_gates (events xs) ≡ 0
-no_gates_own no_items h = refl
-no_gates_own (item_and (Single n) xs) h = omega (arith, no_tags n.event.target h.0, no_gates_own xs h.1)
-no_gates_own (item_and (Coregion ns) xs) h = gates_both ns (events xs) h.0 (no_gates_own xs h.1)
-no_gates_own (item_and (Inline form part operands) xs) h = no_gates_own xs h.1
-no_gates_own (item_and (Refer part) xs) h = no_gates_own xs h.1
-
-few_own : (held : WovenItems) (pairs : _) → IsNumbered held pairs → ArePlainItems held → HasFewOwn held pairs
-few_own held pairs h p = record {
+few_own : (table : Table) (held : WovenItems) (pairs : _) → IsNumbered held pairs → HasGates table held → HasFewOwn held pairs
+few_own table held pairs h g = record {
   numbers = h.once;
-  pairs = omega (arith, level_is_few held pairs h.paired (names_once (events held) h.once h.named), no_gates_own held p);
-  calls = subst (λ (cs : List Call). Once (event_tags cs)) (sym (none_called held p)) tt;
+  pairs = level_is_few held pairs h.paired (names_once (events held) h.once h.named);
+  calls = g.once;
 }
 
 -- ---- a body with the charts that it names
 
-module _ (Is Few : List ℕ → Type 0) (known : (name : List ℕ) → Is name → Few name) where
+abbrev IsFewLevelOf : Table → BodyLevel → Type 0
+IsFewLevelOf table l = IsNumberedLevel l × IsGatedLevel table l
+
+both_levels : (table : Table) (ls : List BodyLevel) → EachLevel IsNumberedLevel ls → EachLevel (IsGatedLevel table) ls → EachLevel (IsFewLevelOf table) ls
+both_levels table [] h g = tt
+both_levels table (l ∷ ls) h g = ((h.0, g.0), both_levels table ls h.1 g.1)
+
+module _ (table : Table) (Is Few : List ℕ → Type 0) (known : (name : List ℕ) → Is name → Few name) where
   mutual
     expression_few : (e : Expression) → AreAll Is (charts_in e) → IsFewExpression Few e
     expression_few Empty h = tt
@@ -191,37 +174,37 @@ module _ (Is Few : List ℕ → Type 0) (known : (name : List ℕ) → Is name �
 
   module _ (names : List (List ℕ)) where
     mutual
-      level_few : (f : Option InlineForm) (b : Body) → IsBuiltBody names b → EachLevel IsNumberedLevel (levels_from f b) → AreAll Is (level_names b) → IsFewLevel Few b
-      level_few f (level cover held pairs) p o h = (few_own held pairs o.0 (items_plain names held p), items_few held p o.1 h)
+      level_few : (f : Option InlineForm) (b : Body) → IsBuiltBody names b → EachLevel (IsFewLevelOf table) (levels_from f b) → AreAll Is (level_names b) → IsFewLevel Few b
+      level_few f (level cover held pairs) p o h = (few_own table held pairs o.0.0 o.0.1, items_few held p o.1 h)
 
-      items_few : (xs : WovenItems) → AreBuiltItems names xs → EachLevel IsNumberedLevel (items_levels xs) → AreAll Is (items_names xs) → AreFewItems Few xs
+      items_few : (xs : WovenItems) → AreBuiltItems names xs → EachLevel (IsFewLevelOf table) (items_levels xs) → AreAll Is (items_names xs) → AreFewItems Few xs
       items_few no_items p o h = tt
       items_few (item_and x xs) p o h = (
-        item_few x p.0 (each_left IsNumberedLevel (item_levels x) (items_levels xs) o) (all_left Is (item_names x) (items_names xs) h),
-        items_few xs p.1 (each_right IsNumberedLevel (item_levels x) (items_levels xs) o) (all_right Is (item_names x) (items_names xs) h),
+        item_few x p.0 (each_left (IsFewLevelOf table) (item_levels x) (items_levels xs) o) (all_left Is (item_names x) (items_names xs) h),
+        items_few xs p.1 (each_right (IsFewLevelOf table) (item_levels x) (items_levels xs) o) (all_right Is (item_names x) (items_names xs) h),
       )
 
-      item_few : (x : WovenItem) → IsBuiltItem names x → EachLevel IsNumberedLevel (item_levels x) → AreAll Is (item_names x) → IsFewItem Few x
+      item_few : (x : WovenItem) → IsBuiltItem names x → EachLevel (IsFewLevelOf table) (item_levels x) → AreAll Is (item_names x) → IsFewItem Few x
       item_few (Single n) p o h = tt
       item_few (Coregion ns) p o h = tt
       item_few (Inline form part operands) p o h = (p.0, operands_few form operands p.1 o h)
       item_few (Refer part) p o h = expression_few part.expression h
 
-      operands_few : (f : InlineForm) (bs : Bodies) → AreBuiltBodies names bs → EachLevel IsNumberedLevel (operands_levels f bs) → AreAll Is (operands_names bs) → AreFewOperands Few bs
+      operands_few : (f : InlineForm) (bs : Bodies) → AreBuiltBodies names bs → EachLevel (IsFewLevelOf table) (operands_levels f bs) → AreAll Is (operands_names bs) → AreFewOperands Few bs
       operands_few f no_bodies p o h = tt
       operands_few f (body_and b bs) p o h = (
-        level_few (Some f) b p.0 (each_left IsNumberedLevel (levels_from (Some f) b) (operands_levels f bs) o) (all_left Is (level_names b) (operands_names bs) h),
-        operands_few f bs p.1 (each_right IsNumberedLevel (levels_from (Some f) b) (operands_levels f bs) o) (all_right Is (level_names b) (operands_names bs) h),
+        level_few (Some f) b p.0 (each_left (IsFewLevelOf table) (levels_from (Some f) b) (operands_levels f bs) o) (all_left Is (level_names b) (operands_names bs) h),
+        operands_few f bs p.1 (each_right (IsFewLevelOf table) (levels_from (Some f) b) (operands_levels f bs) o) (all_right Is (level_names b) (operands_names bs) h),
       )
 
   woven_few : (rs : List Refinement) (w : Woven) (b : Body) → rs ≡ [] → w ≡ Basic b → IsFewLevel Few b → IsFewWoven Few rs w
   woven_few rs w b whole is h = subst (λ (rs : List Refinement). IsFewWoven Few rs w) (sym whole) (subst (λ (w : Woven). IsFewWoven Few [] w) (sym is) h)
 
-  pub chart_few : (c : ChartEntry) → IsAcceptedChart c → AreAll Is (content_names c.content) → IsFewWoven Few (refinements c.decls) c.content
-  chart_few c a h = woven_few (refinements c.decls) c.content a.body a.whole a.is
-      (level_few (cover_of a.body) None a.body a.built (numbered_levels (body_levels a.body) (own_body None a.body a.woven) (once_body None a.body a.once) a.named_once) (subst (λ (w : Woven). AreAll Is (content_names w)) a.is h))
+  pub chart_few : (c : ChartEntry) → IsAcceptedChart c → EachLevel (IsGatedLevel table) (content_levels c.content) → AreAll Is (content_names c.content) → IsFewWoven Few (refinements c.decls) c.content
+  chart_few c a g h = woven_few (refinements c.decls) c.content a.body a.whole a.is
+      (level_few (cover_of a.body) None a.body a.built (both_levels table (body_levels a.body) (numbered_levels (body_levels a.body) (own_body None a.body a.woven) (once_body None a.body a.once) a.named_once) (subst (λ (w : Woven). EachLevel (IsGatedLevel table) (content_levels w)) a.is g)) (subst (λ (w : Woven). AreAll Is (content_names w)) a.is h))
 
-pub few_to : (table : Table) → EachChart IsAcceptedChart table → (depth : ℕ) (name : List ℕ) → IsThereTo table depth name → IsFewTo table depth name
-few_to table charts zero name h = absurd h
-few_to table charts (suc depth) name h = subst (λ (o : Option ChartEntry). IsFewEntry (IsFewTo table depth) o) (sym h.is)
-    (chart_few (IsThereTo table depth) (IsFewTo table depth) (few_to table charts depth) h.chart (entry_has IsAcceptedChart table name h.chart charts h.is) h.named)
+pub few_to : (table : Table) → EachChart IsAcceptedChart table → EachChart (λ c. EachLevel (IsGatedLevel table) (content_levels c.content)) table → (depth : ℕ) (name : List ℕ) → IsThereTo table depth name → IsFewTo table depth name
+few_to table charts gates zero name h = absurd h
+few_to table charts gates (suc depth) name h = subst (λ (o : Option ChartEntry). IsFewEntry (IsFewTo table depth) o) (sym h.is)
+    (chart_few table (IsThereTo table depth) (IsFewTo table depth) (few_to table charts gates depth) h.chart (entry_has IsAcceptedChart table name h.chart charts h.is) (entry_has (λ c. EachLevel (IsGatedLevel table) (content_levels c.content)) table name h.chart gates h.is) h.named)

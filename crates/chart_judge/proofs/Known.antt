@@ -4,15 +4,17 @@ use Rattle.msc_base.specs.declared.limits.TheConstants.Limits.{EXPANDED_NESTING,
 use Rattle.chart_cycles.specs.Cycles.{AreOrdered, IsOrdered}
 use Rattle.chart_forms.specs.TableSizes.{no_product, size_to}
 use Rattle.chart_term.specs.Terms.{Tree, weight}
-use Rattle.expanded_charts.specs.Making.{no_ends}
-use Rattle.expanded_charts.specs.PlainCharts.{IsPlainTable}
+use Rattle.expanded_charts.specs.BasicCharts.{IsBasicTable}
 use Rattle.expanded_terms.specs.ExpandedTerms.{charts_to}
 use Rattle.expanded_terms.specs.NamedEvents.{event_term}
 use Rattle.expansion_terms.specs.ExpansionTerms.{numbered_term}
 use Rattle.msc_acceptance.specs.AcceptedCharts.{EachChart, IsAcceptedTable, IsThereTo}
 use Rattle.msc_meaning.specs.Meanings.{Finished, Begun}
 use Rattle.msc_meaning.specs.Tables.{ChartEntry, Table, chart_at}
-use Rattle.table_terms.specs.CompleteCharts.{IsCompleteTo}
+use Rattle.expanded_terms.specs.GateTies.{IsQuietTable}
+use Rattle.expanded_terms.specs.WholeCharts.{IsWholeTo}
+use Rattle.gate_ends.specs.EndLaws.{EndsAreFound}
+use Rattle.gate_ends.specs.FoundEnds.{table_ends}
 use Rattle.table_terms.specs.TableLaws.{TableTermsAreLight, TableTermsArePlaced, TableTermsAreSound, TableTermsMean, expanded_size}
 use Rattle.table_terms.specs.TableTerms.{IsTermOf, chart_numbering, labelled, numbered_chart}
 use Rattle.term_meaning.specs.Meanings.{Means}
@@ -21,10 +23,9 @@ use Rattle.trace_judge.specs.Laws.{VerdictsTellRuns}
 use Rattle.trace_judge.specs.Sets.{IsSoundFor}
 use Rattle.verdict_meaning.proofs.Labelled.{begun_there}
 use Rattle.chart_judge.specs.ChartsTold.{ChartsHaveRuns, ChartsHaveTerms, VerdictsAreTold}
-use Rattle.chart_judge.proofs.CompleteTables.{complete_to}
+use Rattle.chart_judge.proofs.WholeTables.{all_basic, all_quiet, whole_to}
 use Rattle.chart_judge.proofs.ExpandedSizes.{same_size}
 use Rattle.chart_judge.proofs.FewTables.{few_to}
-use Rattle.msc_acceptance.proofs.PlainLaws.{table_plain}
 use Rattle.chart_judge.proofs.TableEntries.{name_has}
 use Rattle.chart_judge.proofs.TableRoom.{are_placed, has_room}
 use Rattle.chart_judge.proofs.Verdicts.{IsKnown, begins_empty, told}
@@ -43,14 +44,17 @@ below : (a b c : ℕ) → a ≤ b → b ≤ c → a ≤ c
 below a b c h g = omega (arith, h, g)
 
 module _ (table : Table) (name : List ℕ) (chart : ChartEntry) (is : chart_at table name ≡ Some chart) (accepted : IsAcceptedTable table) where
-  plain : IsPlainTable table
-  plain = table_plain table accepted.charts
+  basic : IsBasicTable table
+  basic = all_basic table accepted.charts
+
+  quiet : IsQuietTable table
+  quiet = all_quiet table accepted.charts accepted.gates accepted.there
 
   there : IsThereTo table EXPANDED_NESTING name
   there = name_has (IsThereTo table EXPANDED_NESTING) table name chart accepted.there is
 
-  complete : IsCompleteTo table EXPANDED_NESTING name
-  complete = complete_to table accepted.charts EXPANDED_NESTING name there
+  whole : EndsAreFound → IsWholeTo table (table_ends table) EXPANDED_NESTING name
+  whole law = whole_to law table accepted.charts accepted.gates accepted.there EXPANDED_NESTING name there
 
   ordered : IsOrdered table EXPANDED_NESTING name
   ordered = name_has (IsOrdered table EXPANDED_NESTING) table name chart (each_ordered table EXPANDED_NESTING table accepted.ordered) is
@@ -59,30 +63,30 @@ module _ (table : Table) (name : List ℕ) (chart : ChartEntry) (is : chart_at t
   small = name_has (λ n. size_to no_product table EXPANDED_NESTING n ≤ EXPANDED_SIZE) table name chart accepted.small is
 
   module _ (v : NetsValue) (x : Tree) (made : IsTermOf table name v x) where
-    chart_means : TableTermsMean → Means v (chart_numbering table name).names x (Finished table name) (Begun table name)
-    chart_means laws = laws.means table name v x plain complete made
+    chart_means : EndsAreFound → TableTermsMean → Means v (chart_numbering table name).names x (Finished table name) (Begun table name)
+    chart_means law laws = laws.means table name v x basic (whole law) made
 
-    chart_sound : TableTermsAreSound → TableTermsArePlaced → IsSoundFor v x
-    chart_sound sound placed = record {
-      full = sound.sound table name v x plain made ordered;
-      placed = placed.placed table name v x plain complete made (are_placed table accepted name);
+    chart_sound : EndsAreFound → TableTermsAreSound → TableTermsArePlaced → IsSoundFor v x
+    chart_sound law sound placed = record {
+      full = sound.sound table name v x basic quiet made ordered;
+      placed = placed.placed table name v x basic (whole law) made (are_placed table accepted name);
     }
 
     chart_weighs : TableTermsAreLight → weight x ≤ size_to no_product table EXPANDED_NESTING name
     chart_weighs laws =
         within (weight x) (expanded_size table name) (size_to no_product table EXPANDED_NESTING name)
-        (laws.light table name v x made (few_to table accepted.charts EXPANDED_NESTING name there))
-        (same_size (charts_to (event_term (chart_numbering table name).names (chart_numbering table name).labels) no_ends table) table plain EXPANDED_NESTING name)
+        (laws.light table name v x made (few_to table accepted.charts accepted.gates EXPANDED_NESTING name there))
+        (same_size (charts_to (event_term (chart_numbering table name).names (chart_numbering table name).labels) (table_ends table) table) table accepted.charts EXPANDED_NESTING name)
 
     chart_light : TableTermsAreLight → weight x ≤ EXPANDED_SIZE
     chart_light laws = below (weight x) (size_to no_product table EXPANDED_NESTING name) EXPANDED_SIZE (chart_weighs laws) small
 
-pub have_terms : TableTermsMean → TableTermsAreSound → TableTermsArePlaced → TableTermsAreLight → ChartsHaveTerms
-have_terms mean sound placed light = record {
+pub have_terms : EndsAreFound → TableTermsMean → TableTermsAreSound → TableTermsArePlaced → TableTermsAreLight → ChartsHaveTerms
+have_terms found mean sound placed light = record {
   one = one_term;
   room = λ table name chart is accepted. has_room table accepted name;
-  means = λ table name chart v x is accepted made. chart_means table name chart is accepted v x made mean;
-  sound = λ table name chart v x is accepted made. chart_sound table name chart is accepted v x made sound placed;
+  means = λ table name chart v x is accepted made. chart_means table name chart is accepted v x made found mean;
+  sound = λ table name chart v x is accepted made. chart_sound table name chart is accepted v x made found sound placed;
   weighs = λ table name chart v x is accepted made. chart_weighs table name chart is accepted v x made light;
   light = λ table name chart v x is accepted made. chart_light table name chart is accepted v x made light;
 }

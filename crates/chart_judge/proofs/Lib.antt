@@ -1,5 +1,5 @@
 pub mod TableEntries
-pub mod CompleteTables
+pub mod WholeTables
 mod LevelPairs
 mod FewTables
 mod ExpandedEvents

@@ -3,6 +3,7 @@
 ghost use Rattle.chart_judge.specs.ChartsTold.{ChartsHaveRuns, ChartsHaveTerms, VerdictsAreTold};
 ghost use Rattle.chart_judge.specs.LargestWeights.{LargestIsTold};
 
+use gate_ends::ends_are_found;
 use table_terms::laws::{
     table_terms_are_light, table_terms_are_placed, table_terms_are_sound, table_terms_mean,
 };
@@ -13,6 +14,7 @@ use trace_judge::laws::{sets_go_on, verdicts_tell_runs};
 pub fn charts_have_terms()
     ensures { ChartsHaveTerms }
 {
+    ends_are_found();
     table_terms_mean();
     table_terms_are_sound();
     table_terms_are_placed();

@@ -1,7 +1,7 @@
 //! The term of a chart, and the tables of its labels: for `judge`.
 
 ghost use Rattle.std.specs.Prelude.{◌≡◌, IfOk};
-ghost use Rattle.expanded_charts.specs.PlainCharts.{IsPlainTable};
+ghost use Rattle.expanded_charts.specs.BasicCharts.{IsBasicTable};
 ghost use Rattle.msc_meaning.specs.Views.{table_view};
 ghost use Rattle.table_terms.specs.TableTerms.{HasRoom, IsTermOf};
 
@@ -25,11 +25,17 @@ pub(crate) fn term_of(
     accepted: &Accepted,
     name: &[u8],
 ) -> Result<JudgedTerm, NoMemory>
-    requires plain { IsPlainTable (table_view accepted.now) }
+    requires basic { IsBasicTable (table_view accepted.now) }
     requires room { HasRoom (table_view accepted.now) name.now }
     ensures { IfOk result (λ made. IsTermOf (table_view accepted.now) name.now made.nets made.term) }
 {
-    let made = chart_of(alloc, accepted.as_slice(), accepted.names(), name)?;
+    let made = chart_of(
+        alloc,
+        accepted.as_slice(),
+        accepted.names(),
+        accepted.gates(),
+        name,
+    )?;
     let nets = Nets::of_labels(alloc, made.labels);
     Ok(JudgedTerm {
         nets,

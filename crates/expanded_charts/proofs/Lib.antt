@@ -1,10 +1,14 @@
 pub mod Dropped
-pub mod TieFacts
+pub mod ShownFacts
 pub mod Making
 pub mod Positions
 pub mod Numbers
 pub mod EventParts
 pub mod Measures
 pub mod Loops
+pub mod CallFacts
+pub mod GateTieFacts
+pub mod TieFacts
+pub mod GateNumberFacts
 pub mod ChartParts
 pub mod WorkedExpansions

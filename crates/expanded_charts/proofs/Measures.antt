@@ -1,7 +1,7 @@
 -- Why the recursion through a table ends: parts are smaller than what holds them, a chart's body is no larger than its table, and one
 -- reference deeper is less, however large the chart that is named.
 use Rattle.std.specs.List.{slice_get}
-use Rattle.std.specs.Prelude.{ℕ, zero, suc, ◌+◌, ◌*◌, ◌-◌, ◌<◌, ◌≤◌, Bool, true, false, List, [], ◌∷◌, Option, Some, map, if◌then◌else◌}
+use Rattle.std.specs.Prelude.{ℕ, zero, suc, ◌+◌, ◌*◌, ◌-◌, ◌<◌, ◌≤◌, Bool, true, false, List, [], ◌∷◌, Some, map, if◌then◌else◌}
 use Rattle.std.specs.Str.{bytes_eq}
 use Rattle.std.proofs.Common.{◌≡◌, refl, sym, subst, ap, arith}
 use Rattle.msc_tree.specs.declared.expression.RefExpr.{RefExpr}
@@ -104,7 +104,3 @@ deeper table (suc k) b n l =
     let less = times_more k (1 + 4 * table_size table) (4 * body_size b) (omega (arith, l)) in
     let same : suc k - 1 ≡ k = omega arith in
     subst (λ (j : ℕ). measure table j (4 * body_size b) < measure table (suc k) 0) (sym same) (omega (arith, less))
-
-pub one_less : (d : ℕ) → (d ≡ 0 → ⊥) → d ≡ suc (d - 1)
-one_less zero n = absurd (n refl)
-one_less (suc k) n = omega arith

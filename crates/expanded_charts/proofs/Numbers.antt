@@ -15,7 +15,7 @@ use Rattle.msc_base.specs.declared.label.Label.{Label}
 use Rattle.expansion_tree.specs.declared.tree.ExpandedEvent.{ExpandedEvent}
 use Rattle.expanded_charts.specs.Expanding.{NumberedEvent}
 use Rattle.expanded_charts.specs.Making.{Extends, IsNumbered, IsSecond}
-use Rattle.expanded_charts.specs.Numbering.{at_instances, event_by, with_event, with_label, with_second}
+use Rattle.expanded_charts.specs.Numbering.{at_instances, with_event, with_label, with_second}
 use Rattle.expanded_charts.specs.declared.numbering.Numbering.{Numbering}
 use Rattle.expanded_charts.proofs.Positions.{found_any, none_any, position_last, position_left}
 

@@ -1,4 +1,5 @@
--- The pairs of numbers of a level: by tags they are those by numbers of events, and these are found by numbers.
+-- The pairs of numbers of a level: those by tags are pairs of numbers of events and of gates, and the numbers of events are found by
+-- their numbers in their chart.
 use Rattle.std.specs.List.{slice_get}
 use Rattle.std.specs.Ordering.{is_eq, nat_cmp}
 use Rattle.std.specs.declared.cmp.Ordering.TheVariants.{Less, Equal, Greater}
@@ -6,29 +7,87 @@ use Rattle.std.specs.Prelude.{ℕ, ◌+◌, ◌==◌, nat_lt, cond, Bool, true, 
 use Rattle.std.proofs.Common.{◌≡◌, refl, sym, ◌∙◌, ap, subst, arith}
 use Rattle.std.proofs.lemmas.Bool.Decides.{Decides-eqb, Decides-ltb}
 use Rattle.msc_base.specs.declared.label.Pair.{Pair}
-use Rattle.msc_unfolding.specs.Unfoldings.{Tag, Own, is_same_tag}
+use Rattle.msc_unfolding.specs.Unfoldings.{Tag, Own, Via, On, is_same_tag}
 use Rattle.msc_meaning.specs.Ties.{own_ties}
 use Rattle.expanded_charts.specs.Expanding.{Shown, numbers_with, pairs_between, tied_pairs}
-use Rattle.expanded_charts.specs.Making.{own_shown}
-use Rattle.expanded_charts.specs.TieNumbers.{AreNumbers, listed, found_pair, found_pairs, number_if, numbers_of, pairs_with, tie_pairs}
+use Rattle.expanded_charts.specs.ShownGates.{gates_in, own_numbers}
+use Rattle.expanded_charts.specs.TieNumbers.{AreNumbers, listed, found_pair, found_pairs, gate_pairs, number_if, numbers_at, numbers_of, tie_pairs}
 use Rattle.expanded_charts.proofs.Dropped.{take_step}
+
+-- ---- lists
+
+app_nil : {X : Type 0} (a : List X) → a ++ [] ≡ a
+app_nil [] = refl
+app_nil (x ∷ a) = ap (λ l. x ∷ l) (app_nil a)
+
+app_assoc : {X : Type 0} (a b c : List X) → (a ++ b) ++ c ≡ a ++ (b ++ c)
+app_assoc [] b c = refl
+app_assoc (x ∷ a) b c = ap (λ l. x ∷ l) (app_assoc a b c)
 
 -- ---- by tags
 
-if_kept : (b : Bool) (m : ℕ) (a : Tag) (l : Shown) → map (λ (p : ℕ × Tag). p.0) (cond b ((m, a) ∷ l) l) ≡ number_if b m (map (λ (p : ℕ × Tag). p.0) l)
-if_kept true m a l = refl
-if_kept false m a l = refl
+if_kept : (b : Bool) (p : ℕ × Tag) (l : Shown) → map (λ (q : ℕ × Tag). q.0) (cond b (p ∷ l) l) ≡ number_if b p.0 (map (λ (q : ℕ × Tag). q.0) l)
+if_kept true p l = refl
+if_kept false p l = refl
 
-numbers_by_tag : (k : ℕ) (ps : List Pair) → numbers_with (Own k) (own_shown ps) ≡ numbers_of k ps
-numbers_by_tag k [] = refl
-numbers_by_tag k (p ∷ ps) = if_kept (p.second == k) p.first (Own p.second) (filter (λ (q : ℕ × Tag). is_same_tag q.1 (Own k)) (own_shown ps)) ∙ ap (number_if (p.second == k) p.first) (numbers_by_tag k ps)
+pub number_with : (a : Tag) (p : ℕ × Tag) (sh : Shown) → numbers_with a (p ∷ sh) ≡ number_if (is_same_tag p.1 a) p.0 (numbers_with a sh)
+number_with a p sh = if_kept (is_same_tag p.1 a) p (filter (λ (q : ℕ × Tag). is_same_tag q.1 a) sh)
 
-pub pairs_by_tag : (shown ts : List Pair) → tied_pairs (own_shown shown) (own_ties ts) ≡ tie_pairs shown ts
-pairs_by_tag shown [] = refl
-pairs_by_tag shown (t ∷ ts) =
-    ap (λ ms. pairs_between ms (numbers_with (Own t.second) (own_shown shown)) ++ tied_pairs (own_shown shown) (own_ties ts)) (numbers_by_tag t.first shown)
-    ∙ (ap (λ ns. pairs_between (numbers_of t.first shown) ns ++ tied_pairs (own_shown shown) (own_ties ts)) (numbers_by_tag t.second shown)
-    ∙ ap (λ l. pairs_between (numbers_of t.first shown) (numbers_of t.second shown) ++ l) (pairs_by_tag shown ts))
+own_with : (k m : ℕ) (a : Tag) (sh : Shown) → numbers_of k (own_numbers sh) ≡ numbers_with (Own k) sh → numbers_of k (own_numbers ((m, a) ∷ sh)) ≡ number_if (is_same_tag a (Own k)) m (numbers_with (Own k) sh)
+own_with k m (Own n) sh h = ap (number_if (n == k) m) h
+own_with k m (Via g) sh h = h
+own_with k m (On y g) sh h = h
+
+own_is : (k : ℕ) (sh : Shown) → numbers_of k (own_numbers sh) ≡ numbers_with (Own k) sh
+own_is k [] = refl
+own_is k (p ∷ sh) = own_with k p.0 p.1 sh (own_is k sh) ∙ sym (number_with (Own k) p sh)
+
+via_with : (g : List ℕ) (m : ℕ) (a : Tag) (sh : Shown) → numbers_with (Via g) (gates_in sh) ≡ numbers_with (Via g) sh → numbers_with (Via g) (gates_in ((m, a) ∷ sh)) ≡ number_if (is_same_tag a (Via g)) m (numbers_with (Via g) sh)
+via_with g m (Own n) sh h = h
+via_with g m (Via f) sh h = number_with (Via g) (m, Via f) (gates_in sh) ∙ ap (number_if (is_same_tag (Via f) (Via g)) m) h
+via_with g m (On y f) sh h = number_with (Via g) (m, On y f) (gates_in sh) ∙ h
+
+via_is : (g : List ℕ) (sh : Shown) → numbers_with (Via g) (gates_in sh) ≡ numbers_with (Via g) sh
+via_is g [] = refl
+via_is g (p ∷ sh) = via_with g p.0 p.1 sh (via_is g sh) ∙ sym (number_with (Via g) p sh)
+
+on_with : (z g : List ℕ) (m : ℕ) (a : Tag) (sh : Shown) → numbers_with (On z g) (gates_in sh) ≡ numbers_with (On z g) sh → numbers_with (On z g) (gates_in ((m, a) ∷ sh)) ≡ number_if (is_same_tag a (On z g)) m (numbers_with (On z g) sh)
+on_with z g m (Own n) sh h = h
+on_with z g m (Via f) sh h = number_with (On z g) (m, Via f) (gates_in sh) ∙ h
+on_with z g m (On y f) sh h = number_with (On z g) (m, On y f) (gates_in sh) ∙ ap (number_if (is_same_tag (On y f) (On z g)) m) h
+
+on_is : (z g : List ℕ) (sh : Shown) → numbers_with (On z g) (gates_in sh) ≡ numbers_with (On z g) sh
+on_is z g [] = refl
+on_is z g (p ∷ sh) = on_with z g p.0 p.1 sh (on_is z g sh) ∙ sym (number_with (On z g) p sh)
+
+numbers_are : (a : Tag) (sh : Shown) → numbers_at (own_numbers sh) (gates_in sh) a ≡ numbers_with a sh
+numbers_are (Own k) sh = own_is k sh
+numbers_are (Via g) sh = via_is g sh
+numbers_are (On z g) sh = on_is z g sh
+
+pairs_are : (sh : Shown) (ts : List (Tag × Tag)) → gate_pairs (own_numbers sh) (gates_in sh) ts ≡ tied_pairs sh ts
+pairs_are sh [] = refl
+pairs_are sh (t ∷ ts) =
+    let rest = gate_pairs (own_numbers sh) (gates_in sh) ts in
+    ap (λ ms. pairs_between ms (numbers_at (own_numbers sh) (gates_in sh) t.1) ++ rest) (numbers_are t.0 sh)
+    ∙ (ap (λ ns. pairs_between (numbers_with t.0 sh) ns ++ rest) (numbers_are t.1 sh) ∙ ap (λ l. pairs_between (numbers_with t.0 sh) (numbers_with t.1 sh) ++ l) (pairs_are sh ts))
+
+own_pairs : (own : List Pair) (gates : Shown) (ts : List Pair) → tie_pairs own ts ≡ gate_pairs own gates (own_ties ts)
+own_pairs own gates [] = refl
+own_pairs own gates (t ∷ ts) = ap (λ l. pairs_between (numbers_of t.first own) (numbers_of t.second own) ++ l) (own_pairs own gates ts)
+
+pub gate_pairs_both : (own : List Pair) (gates : Shown) (ts us : List (Tag × Tag)) → gate_pairs own gates (ts ++ us) ≡ gate_pairs own gates ts ++ gate_pairs own gates us
+gate_pairs_both own gates [] us = refl
+gate_pairs_both own gates (t ∷ ts) us =
+    let here = pairs_between (numbers_at own gates t.0) (numbers_at own gates t.1) in
+    ap (λ l. here ++ l) (gate_pairs_both own gates ts us) ∙ sym (app_assoc here (gate_pairs own gates ts) (gate_pairs own gates us))
+
+-- the pairs of events and the ties at gates of a level, by what is shown of both kinds
+pub level_pairs_are : (own : List Pair) (gates : Shown) (pairs : List Pair) (ties : List (Tag × Tag)) (sh : Shown) → own ≡ own_numbers sh → gates ≡ gates_in sh
+    → tie_pairs own pairs ++ gate_pairs own gates ties ≡ tied_pairs sh (own_ties pairs ++ ties)
+level_pairs_are own gates pairs ties sh e f =
+    ap (λ l. l ++ gate_pairs own gates ties) (own_pairs own gates pairs) ∙ (sym (gate_pairs_both own gates (own_ties pairs) ties)
+    ∙ (ap (λ (ps : List Pair). gate_pairs ps gates (own_ties pairs ++ ties)) e ∙ (ap (λ (g : Shown). gate_pairs (own_numbers sh) g (own_ties pairs ++ ties)) f ∙ pairs_are sh (own_ties pairs ++ ties))))
 
 -- ---- found by numbers
 
@@ -43,9 +102,6 @@ found_are number shown (t ∷ ts) h =
     ap (λ l. l ++ found_pairs number ts) (pair_is (number t.first) (number t.second)
     ∙ (ap (λ l. pairs_between l (listed (number t.second))) (h.found t.first) ∙ ap (λ l. pairs_between (numbers_of t.first shown) l) (h.found t.second)))
     ∙ ap (λ l. pairs_between (numbers_of t.first shown) (numbers_of t.second shown) ++ l) (found_are number shown ts h)
-
-pub no_numbers : (number : ℕ → Option ℕ) → ((k : ℕ) → number k ≡ None) → AreNumbers number []
-no_numbers number h = record { found = λ k. ap listed (h k) }
 
 is_equal : (k q : ℕ) → is_eq (nat_cmp k q) ≡ true → k ≡ q
 is_equal k q h = (Decides-eqb k q).0 (by (nat_lt k q) (k == q) h)
@@ -62,14 +118,6 @@ unequal k q e = cases (nat_lt k q) (k == q) refl refl e
     cases b false f g h = refl
     cases false true f g h = absurd cc
     cases true true f g h = let less = (Decides-ltb k q).0 f in let same = (Decides-eqb k q).0 g in absurd (omega (arith, less, same))
-
-app_nil : {X : Type 0} (a : List X) → a ++ [] ≡ a
-app_nil [] = refl
-app_nil (x ∷ a) = ap (λ l. x ∷ l) (app_nil a)
-
-app_assoc : {X : Type 0} (a b c : List X) → (a ++ b) ++ c ≡ a ++ (b ++ c)
-app_assoc [] b c = refl
-app_assoc (x ∷ a) b c = ap (λ l. x ∷ l) (app_assoc a b c)
 
 if_both : (b : Bool) (m : ℕ) (ms ns : List ℕ) → number_if b m (ms ++ ns) ≡ number_if b m ms ++ ns
 if_both true m ms ns = refl
@@ -107,39 +155,9 @@ found_more number ts i t old new at h e =
 
 -- ---- sought among all
 
-with_both : (k : ℕ) (ms ns : List ℕ) → pairs_with k (ms ++ ns) ≡ pairs_with k ms ++ pairs_with k ns
-with_both k [] ns = refl
-with_both k (m ∷ ms) ns = ap (λ l. record { first = k; second = m } ∷ l) (with_both k ms ns)
-
-between_both : (ms ls ns : List ℕ) → pairs_between (ms ++ ls) ns ≡ pairs_between ms ns ++ pairs_between ls ns
-between_both [] ls ns = refl
-between_both (m ∷ ms) ls ns = ap (λ l. pairs_with m ns ++ l) (between_both ms ls ns) ∙ sym (app_assoc (pairs_with m ns) (pairs_between ms ns) (pairs_between ls ns))
-
 module _ (k : ℕ) (shown : List Pair) (i : ℕ) (p : Pair) (at : slice_get shown i ≡ Some p) where
-  numbers_step : (b : Bool) → (p.second == k) ≡ b → numbers_of k (take (i + 1) shown) ≡ numbers_of k (take i shown) ++ number_if b p.first []
-  numbers_step b e = ap (numbers_of k) (take_step shown i p at) ∙ (numbers_last k (take i shown) p ∙ ap (λ c. numbers_of k (take i shown) ++ number_if c p.first []) e)
-
-  pub with_yes : (a : ℕ) (old list new : List Pair) → (p.second == k) ≡ true → list ≡ old ++ pairs_with a (numbers_of k (take i shown)) → new ≡ list ++ record { first = a; second = p.first } ∷ []
-      → new ≡ old ++ pairs_with a (numbers_of k (take (i + 1) shown))
-  with_yes a old list new e h n =
-      n ∙ (ap (λ z. z ++ record { first = a; second = p.first } ∷ []) h
-      ∙ (app_assoc old (pairs_with a (numbers_of k (take i shown))) (record { first = a; second = p.first } ∷ [])
-      ∙ ap (λ z. old ++ z) (sym (ap (pairs_with a) (numbers_step true e) ∙ with_both a (numbers_of k (take i shown)) (p.first ∷ [])))))
-
-  pub with_no : (a : ℕ) (old list : List Pair) → (p.second == k) ≡ false → list ≡ old ++ pairs_with a (numbers_of k (take i shown))
-      → list ≡ old ++ pairs_with a (numbers_of k (take (i + 1) shown))
-  with_no a old list e h = h ∙ ap (λ z. old ++ pairs_with a z) (sym (numbers_step false e ∙ app_nil (numbers_of k (take i shown))))
-
-  pub between_yes : (ns : List ℕ) (old list new : List Pair) → (p.second == k) ≡ true → list ≡ old ++ pairs_between (numbers_of k (take i shown)) ns → new ≡ list ++ pairs_with p.first ns
-      → new ≡ old ++ pairs_between (numbers_of k (take (i + 1) shown)) ns
-  between_yes ns old list new e h n =
-      n ∙ (ap (λ z. z ++ pairs_with p.first ns) h
-      ∙ (app_assoc (old) (pairs_between (numbers_of k (take i shown)) ns) (pairs_with p.first ns)
-      ∙ ap (λ z. old ++ z) (sym (ap (λ ms. pairs_between ms ns) (numbers_step true e) ∙ (between_both (numbers_of k (take i shown)) (p.first ∷ []) ns ∙ ap (λ z. pairs_between (numbers_of k (take i shown)) ns ++ z) (app_nil (pairs_with p.first ns)))))))
-
-  pub between_no : (ns : List ℕ) (old list : List Pair) → (p.second == k) ≡ false → list ≡ old ++ pairs_between (numbers_of k (take i shown)) ns
-      → list ≡ old ++ pairs_between (numbers_of k (take (i + 1) shown)) ns
-  between_no ns old list e h = h ∙ ap (λ z. old ++ pairs_between z ns) (sym (numbers_step false e ∙ app_nil (numbers_of k (take i shown))))
+  pub sought_step : (b : Bool) → (p.second == k) ≡ b → numbers_of k (take (i + 1) shown) ≡ numbers_of k (take i shown) ++ number_if b p.first []
+  sought_step b e = ap (numbers_of k) (take_step shown i p at) ∙ (numbers_last k (take i shown) p ∙ ap (λ c. numbers_of k (take i shown) ++ number_if c p.first []) e)
 
 ties_last : (shown ts : List Pair) (t : Pair) → tie_pairs shown (ts ++ t ∷ []) ≡ tie_pairs shown ts ++ pairs_between (numbers_of t.first shown) (numbers_of t.second shown)
 ties_last shown [] t = app_nil (pairs_between (numbers_of t.first shown) (numbers_of t.second shown))

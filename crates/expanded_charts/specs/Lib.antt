@@ -1,6 +1,12 @@
 pub mod Expanding
 pub mod Numbering
-pub mod PlainCharts
+pub mod BasicCharts
+pub mod HeldGates
+pub mod GateWays
+pub mod ShownGates
+pub mod Above
 pub mod Making
+pub mod GateTies
 pub mod TieNumbers
+pub mod GateNumbers
 pub mod WorkedExpansions

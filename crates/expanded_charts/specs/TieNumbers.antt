@@ -3,7 +3,8 @@
 use Rattle.std.specs.Prelude.{ℕ, ◌≡◌, ◌==◌, Bool, true, false, List, [], ◌∷◌, Option, Some, None, map}
 use Rattle.std.specs.List.{flat_map}
 use Rattle.msc_base.specs.declared.label.Pair.{Pair}
-use Rattle.expanded_charts.specs.Expanding.{pairs_between}
+use Rattle.msc_unfolding.specs.Unfoldings.{Tag, Own, Via, On}
+use Rattle.expanded_charts.specs.Expanding.{Shown, numbers_with, pairs_between}
 
 abbrev pub number_if : Bool → ℕ → List ℕ → List ℕ
 number_if true m ms = m ∷ ms
@@ -38,3 +39,14 @@ found_pair None o = []
 -- the pairs of numbers of the pairs of events, as far as they are found
 abbrev pub found_pairs : (ℕ → Option ℕ) → List Pair → List Pair
 found_pairs number ts = flat_map (λ t. found_pair (number t.first) (number t.second)) ts
+
+-- ---- ties at gates
+
+-- the numbers that are shown of a tag: own: of events; gates: of gates
+abbrev pub numbers_at : List Pair → Shown → Tag → List ℕ
+numbers_at own gates (Own k) = numbers_of k own
+numbers_at own gates (Via g) = numbers_with (Via g) gates
+numbers_at own gates (On y g) = numbers_with (On y g) gates
+
+abbrev pub gate_pairs : List Pair → Shown → List (Tag × Tag) → List Pair
+gate_pairs own gates ts = flat_map (λ t. pairs_between (numbers_at own gates t.0) (numbers_at own gates t.1)) ts

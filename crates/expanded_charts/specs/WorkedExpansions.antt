@@ -3,8 +3,7 @@
 --   msc Z; inst i; i: reference B seq loop <1,2> B; endmsc;
 use Rattle.std.specs.Prelude.{◌≡◌, ℕ, List, [], ◌∷◌, None, Some, codes}
 use Rattle.msc_base.specs.declared.label.Kind.TheVariants.{Input}
-use Rattle.msc_base.specs.declared.label.Label.{Label}
-use Rattle.msc_unfolding.specs.Unfoldings.{Own, Via, Happening}
+use Rattle.msc_unfolding.specs.Unfoldings.{Own, Via}
 use Rattle.msc_tree.specs.Expressions.{Expression, Chart, Loop, Seq, more, none}
 use Rattle.msc_meaning.specs.Bodies.{Body, level, WovenItems, no_items, item_and, Single, Refer}
 use Rattle.msc_meaning.specs.Calls.{Call, calls}
@@ -12,9 +11,12 @@ use Rattle.msc_meaning.specs.InnerEvents.{GateEnd}
 use Rattle.msc_meaning.specs.Tables.{Table, Basic}
 use Rattle.msc_meaning.specs.WorkedCharts.{i, k, m, gate_through_levels}
 use Rattle.msc_meaning.specs.WorkedParts.{action, done, node, pair, received, sent, somewhere}
-use Rattle.expansion_tree.specs.Expansions.{Expansion, Event, InRow, Tied, Turns, Expansions, expansions}
+use Rattle.expansion_tree.specs.Expansions.{Expansion, Event, InRow, Tied, Turns, expansions}
 use Rattle.expanded_charts.specs.Expanding.{NumberedEvent, expansion}
-use Rattle.expanded_charts.specs.Making.{no_ends}
+
+-- no gate of a level is called
+abbrev pub no_ends : WovenItems → List GateEnd
+no_ends held = []
 
 abbrev pub acting : Body
 acting = level (i ∷ []) (item_and (Single (node 0 i (action (codes "'x'")))) no_items) []

@@ -3,62 +3,54 @@
 ghost use Rattle.std.specs.Option.{option_copied};
 ghost use Rattle.std.specs.Prelude.{◌≡◌, [], List, ℕ, IfOk, map, option_map};
 ghost use Rattle.expansion_tree.specs.Views.{expansion_view};
+ghost use Rattle.gate_ends.specs.FoundEnds.{table_ends};
+ghost use Rattle.gate_ends.specs.LevelGates.{HasNames};
+ghost use Rattle.gate_tables.specs.ChartGates.{AreGatesOf};
 ghost use Rattle.msc_meaning.specs.ItemViews.{bodies_view, inline_view, items_view};
 ghost use Rattle.msc_meaning.specs.Tables.{chart_at};
-ghost use Rattle.msc_meaning.specs.Views.{body_view, entry_view, item_view, table_view};
+ghost use Rattle.msc_meaning.specs.Views.{body_view, entry_view, item_view, reference_view, table_view};
 ghost use Rattle.msc_tree.specs.Expressions.{expressions};
 ghost use Rattle.msc_tree.specs.Views.{expression_view};
+ghost use Rattle.expanded_charts.specs.BasicCharts.{IsBasicTable};
 ghost use Rattle.expanded_charts.specs.Expanding.{expansion};
-ghost use Rattle.expanded_charts.specs.Making.{AreMade, HasNames, IsMade, chart_part, expression_part, expressions_parts, item_part, items_parts, level_part, no_ends, operands_parts};
+ghost use Rattle.expanded_charts.specs.GateWays.{ways_view};
+ghost use Rattle.expanded_charts.specs.Making.{AreMade, IsMade, chart_part, expression_part, expressions_parts, item_part, items_parts, level_part, operands_parts};
 ghost use Rattle.expanded_charts.specs.Numbering.{numbered_by, numbering_of};
-ghost use Rattle.expanded_charts.specs.PlainCharts.{ArePlainBodies, ArePlainItems, IsPlainBody, IsPlainItem, IsPlainTable};
 
+use crate::above::{Above, past_made};
+use crate::chart_table::{ChartTable, called_gates, chart_named};
 use crate::events::{event_of, events_of};
+use crate::gate_ties::gate_ties;
+use crate::joins::JoinTable;
 use crate::made::{Made, MadeParts};
 use crate::numbering::Numbering;
 use crate::parts::{add, aside, in_row, no_parts, of_form, one_of, or_nothing, turns};
 use crate::ties::level_tied;
+use crate::ways::{Level, Ways};
 use expansion_tree::Expansion;
+use gate_tables::GateTables;
 use general_ordering::level_pairs_of;
 use label_table::LabelTable;
 use msc_base::{NameTable, NoMemory};
-use msc_meaning::{Body, ChartEntry, EntryContent, InlineItem, Item};
+use msc_meaning::{Body, ChartEntry, EntryContent, InlineItem, Item, ReferenceItem};
 use msc_tree::RefExpr;
 use std::alloc::Global;
 
-/// A table of charts, with the numbers of their names.
-#[derive(Clone, Copy)]
-struct ChartTable<'a> {
-    charts: &'a [ChartEntry],
-    names: &'a NameTable,
-}
-
-/// The chart of that name.
-fn chart_named<'a>(table: ChartTable<'a>, name: &[u8]) -> Option<&'a ChartEntry>
-    requires { HasNames table.charts.now table.names.now }
-    ensures { option_map entry_view (option_copied result) ≡ chart_at (table_view table.entry.charts.now) name.now }
-{
-    let number = table.names.number_of(name)?;
-    if number < table.charts.len() {
-        return Some(&table.charts[number]);
-    }
-    None
-}
-
 /// The chart of that name, whose references stand in each other less than so deep. It fails only for want of memory.
 #[cycle(charts)]
-fn chart_of(
+fn chart_of<'a>(
     alloc: Global,
-    table: ChartTable<'_>,
+    table: ChartTable<'a>,
     numbering: &mut Numbering,
     depth: u32,
     next: u32,
+    ways: &Ways<'a>,
     name: &[u8],
-) -> Result<Made, NoMemory>
+) -> Result<Made<'a>, NoMemory>
     requires named { HasNames table.charts.now table.names.now }
-    requires table { IsPlainTable (table_view table.charts.now) }
-    ensures made { IfOk result (IsMade numbering.old numbering.new (chart_part (table_view table.entry.charts.now) depth next name.now)) }
-    ensures none { IfOk result (λ made. made.shown ≡ []) }
+    requires basic { IsBasicTable (table_view table.charts.now) }
+    requires gates { AreGatesOf (table_view table.charts.now) table.gates.now }
+    ensures { IfOk result (IsMade numbering.old numbering.new (chart_part (table_view table.entry.charts.now) depth (ways_view ways.now) next name.now)) }
 {
     if depth == 0 {
         return Ok(in_row(no_parts(alloc, next)));
@@ -67,53 +59,69 @@ fn chart_of(
         None => Ok(in_row(no_parts(alloc, next))),
         Some(chart) => match &chart.content {
             EntryContent::Basic(body) => {
-                level_of(alloc, table, numbering, depth - 1, next, body)
+                level_of(alloc, table, numbering, depth - 1, next, ways, body)
             }
             EntryContent::Graph(_) => unreachable!(),
         },
     }
 }
 
-/// A level: its items, tied by its messages and its general ordering.
+/// A level whose gates lead there: its items, tied by its messages and its general ordering, and at its called gates.
 #[cycle(charts)]
-fn level_of(
+fn level_of<'a>(
     alloc: Global,
-    table: ChartTable<'_>,
+    table: ChartTable<'a>,
     numbering: &mut Numbering,
     depth: u32,
     next: u32,
-    body: &Body,
-) -> Result<Made, NoMemory>
+    ways: &Ways<'a>,
+    body: &'a Body,
+) -> Result<Made<'a>, NoMemory>
     requires named { HasNames table.charts.now table.names.now }
-    requires table { IsPlainTable (table_view table.charts.now) }
-    requires plain { IsPlainBody (body_view body.now) }
-    ensures made { IfOk result (IsMade numbering.old numbering.new (level_part (table_view table.entry.charts.now) depth next (body_view body.now))) }
-    ensures none { IfOk result (λ made. made.shown ≡ []) }
+    requires basic { IsBasicTable (table_view table.charts.now) }
+    requires gates { AreGatesOf (table_view table.charts.now) table.gates.now }
+    ensures { IfOk result (IsMade numbering.old numbering.new (level_part (table_view table.entry.charts.now) depth (ways_view ways.now) next (body_view body.now))) }
 {
-    let parts = items_of(alloc, table, numbering, depth, next, body.items.as_slice())?;
+    let called = called_gates(alloc, table, body)?;
+    let level = Level {
+        called: &called,
+        ways,
+    };
+    let parts = items_of(
+        alloc,
+        table,
+        numbering,
+        depth,
+        next,
+        level,
+        body.items.as_slice(),
+    )?;
     let pairs = level_pairs_of(alloc, body.items.as_slice(), body.pairs.as_slice())?;
-    let made = level_tied(alloc, &pairs, in_row(parts))?;
+    let ties = gate_ties(alloc, &called, body.items.as_slice())?;
+    let made = level_tied(alloc, &pairs, ties.as_slice(), in_row(parts))?;
+    let made = past_made(alloc, Above::Level, made)?;
     Ok(made)
 }
 
 /// The items of a level.
 #[cycle(charts)]
-fn items_of(
+fn items_of<'a>(
     alloc: Global,
-    table: ChartTable<'_>,
+    table: ChartTable<'a>,
     numbering: &mut Numbering,
     depth: u32,
     next: u32,
-    items: &[Item],
-) -> Result<MadeParts, NoMemory>
+    level: Level<'_, 'a>,
+    items: &'a [Item],
+) -> Result<MadeParts<'a>, NoMemory>
     requires named { HasNames table.charts.now table.names.now }
-    requires table { IsPlainTable (table_view table.charts.now) }
-    requires plain { ArePlainItems (items_view items.now) }
-    ensures { IfOk result (AreMade numbering.old numbering.new (items_parts (table_view table.entry.charts.now) depth next (items_view items.now))) }
+    requires basic { IsBasicTable (table_view table.charts.now) }
+    requires gates { AreGatesOf (table_view table.charts.now) table.gates.now }
+    ensures { IfOk result (AreMade numbering.old numbering.new (items_parts (table_view table.entry.charts.now) depth level.entry.called.now (ways_view level.entry.ways.now) next (items_view items.now))) }
 {
     let mut parts = no_parts(alloc, next);
     for item in items {
-        let made = item_of(alloc, table, numbering, depth, parts.next, item)?;
+        let made = item_of(alloc, table, numbering, depth, parts.next, level, item)?;
         add(&mut parts, made)?;
     }
     Ok(parts)
@@ -121,124 +129,178 @@ fn items_of(
 
 /// An item.
 #[cycle(charts)]
-fn item_of(
+fn item_of<'a>(
     alloc: Global,
-    table: ChartTable<'_>,
+    table: ChartTable<'a>,
     numbering: &mut Numbering,
     depth: u32,
     next: u32,
-    item: &Item,
-) -> Result<Made, NoMemory>
+    level: Level<'_, 'a>,
+    item: &'a Item,
+) -> Result<Made<'a>, NoMemory>
     requires named { HasNames table.charts.now table.names.now }
-    requires table { IsPlainTable (table_view table.charts.now) }
-    requires plain { IsPlainItem (item_view item.now) }
-    ensures { IfOk result (IsMade numbering.old numbering.new (item_part (table_view table.entry.charts.now) depth next (item_view item.now))) }
+    requires basic { IsBasicTable (table_view table.charts.now) }
+    requires gates { AreGatesOf (table_view table.charts.now) table.gates.now }
+    ensures { IfOk result (IsMade numbering.old numbering.new (item_part (table_view table.entry.charts.now) depth level.entry.called.now (ways_view level.entry.ways.now) next (item_view item.now))) }
 {
     match item {
         Item::Single(node) => {
-            let made = event_of(alloc, numbering, next, node)?;
+            let made = event_of(alloc, numbering, next, level, node)?;
             Ok(made)
         }
         Item::Coregion(nodes) => {
-            let parts = events_of(alloc, numbering, next, nodes.as_slice())?;
+            let parts = events_of(alloc, numbering, next, level, nodes.as_slice())?;
             Ok(aside(parts))
         }
         Item::Inline(inline) => {
-            let made = inline_of(alloc, table, numbering, depth, next, inline)?;
+            let made = inline_of(alloc, table, numbering, depth, next, level, inline)?;
             Ok(made)
         }
         Item::Reference(reference) => {
-            let made = expression_of(alloc, table, numbering, depth, next, &reference.expr)?;
+            let made = reference_of(alloc, table, numbering, depth, next, level, reference)?;
             Ok(made)
         }
     }
 }
 
-/// An inline expression.
+/// An inline expression: above it a gate that is called is one of its own.
 #[cycle(charts)]
-fn inline_of(
+fn inline_of<'a>(
     alloc: Global,
-    table: ChartTable<'_>,
+    table: ChartTable<'a>,
     numbering: &mut Numbering,
     depth: u32,
     next: u32,
-    inline: &InlineItem,
-) -> Result<Made, NoMemory>
+    level: Level<'_, 'a>,
+    inline: &'a InlineItem,
+) -> Result<Made<'a>, NoMemory>
     requires named { HasNames table.charts.now table.names.now }
-    requires table { IsPlainTable (table_view table.charts.now) }
-    requires plain { IsPlainItem (inline_view inline.now) }
-    ensures { IfOk result (IsMade numbering.old numbering.new (item_part (table_view table.entry.charts.now) depth next (inline_view inline.now))) }
+    requires basic { IsBasicTable (table_view table.charts.now) }
+    requires gates { AreGatesOf (table_view table.charts.now) table.gates.now }
+    ensures { IfOk result (IsMade numbering.old numbering.new (item_part (table_view table.entry.charts.now) depth level.entry.called.now (ways_view level.entry.ways.now) next (inline_view inline.now))) }
 {
+    let name = inline.name.as_ref();
+    let ways = level.ways.inside(alloc, level.called, name)?;
     let operands = inline.operands.as_slice();
-    let parts = operands_of(alloc, table, numbering, depth, next, operands)?;
+    let parts = operands_of(alloc, table, numbering, depth, next, &ways, operands)?;
     let made = of_form(alloc, next, inline.form, inline.lower, inline.upper, parts)?;
+    let made = past_made(alloc, Above::Inline(level.called, name), made)?;
     Ok(made)
 }
 
-/// The operands of an inline expression.
+/// The operands of an inline expression, whose gates lead there.
 #[cycle(charts)]
-fn operands_of(
+fn operands_of<'a>(
     alloc: Global,
-    table: ChartTable<'_>,
+    table: ChartTable<'a>,
     numbering: &mut Numbering,
     depth: u32,
     next: u32,
-    operands: &[Body],
-) -> Result<MadeParts, NoMemory>
+    ways: &Ways<'a>,
+    operands: &'a [Body],
+) -> Result<MadeParts<'a>, NoMemory>
     requires named { HasNames table.charts.now table.names.now }
-    requires table { IsPlainTable (table_view table.charts.now) }
-    requires plain { ArePlainBodies (bodies_view operands.now) }
-    ensures made { IfOk result (AreMade numbering.old numbering.new (operands_parts (table_view table.entry.charts.now) depth next (bodies_view operands.now))) }
-    ensures none { IfOk result (λ parts. parts.shown ≡ []) }
+    requires basic { IsBasicTable (table_view table.charts.now) }
+    requires gates { AreGatesOf (table_view table.charts.now) table.gates.now }
+    ensures { IfOk result (AreMade numbering.old numbering.new (operands_parts (table_view table.entry.charts.now) depth (ways_view ways.now) next (bodies_view operands.now))) }
 {
     let mut parts = no_parts(alloc, next);
     for operand in operands {
-        let made = level_of(alloc, table, numbering, depth, parts.next, operand)?;
+        let made = level_of(alloc, table, numbering, depth, parts.next, ways, operand)?;
         add(&mut parts, made)?;
     }
     Ok(parts)
 }
 
-/// An expression of a reference.
+/// A reference: above it a gate that is called is one of its own, and one that a join passes on a gate of the level.
 #[cycle(charts)]
-fn expression_of(
+fn reference_of<'a>(
     alloc: Global,
-    table: ChartTable<'_>,
+    table: ChartTable<'a>,
     numbering: &mut Numbering,
     depth: u32,
     next: u32,
-    expression: &RefExpr,
-) -> Result<Made, NoMemory>
+    level: Level<'_, 'a>,
+    reference: &'a ReferenceItem,
+) -> Result<Made<'a>, NoMemory>
     requires named { HasNames table.charts.now table.names.now }
-    requires table { IsPlainTable (table_view table.charts.now) }
-    ensures made { IfOk result (IsMade numbering.old numbering.new (expression_part (table_view table.entry.charts.now) depth next (expression_view expression.now))) }
-    ensures none { IfOk result (λ made. made.shown ≡ []) }
+    requires basic { IsBasicTable (table_view table.charts.now) }
+    requires gates { AreGatesOf (table_view table.charts.now) table.gates.now }
+    ensures { IfOk result (IsMade numbering.old numbering.new (item_part (table_view table.entry.charts.now) depth level.entry.called.now (ways_view level.entry.ways.now) next (reference_view reference.now))) }
+{
+    let name = reference.name.as_ref();
+    let joins = JoinTable::of(alloc, reference.joins.as_slice())?;
+    let ways = level.ways.referred(alloc, level.called, name, &joins)?;
+    let made = expression_of(alloc, table, numbering, depth, next, &ways, &reference.expr)?;
+    let made = past_made(alloc, Above::Reference(level.called, name, &joins), made)?;
+    Ok(made)
+}
+
+/// An expression of a reference, the gates of whose charts lead there.
+#[cycle(charts)]
+fn expression_of<'a>(
+    alloc: Global,
+    table: ChartTable<'a>,
+    numbering: &mut Numbering,
+    depth: u32,
+    next: u32,
+    ways: &Ways<'a>,
+    expression: &RefExpr,
+) -> Result<Made<'a>, NoMemory>
+    requires named { HasNames table.charts.now table.names.now }
+    requires basic { IsBasicTable (table_view table.charts.now) }
+    requires gates { AreGatesOf (table_view table.charts.now) table.gates.now }
+    ensures { IfOk result (IsMade numbering.old numbering.new (expression_part (table_view table.entry.charts.now) depth (ways_view ways.now) next (expression_view expression.now))) }
 {
     match expression {
         RefExpr::Empty => Ok(in_row(no_parts(alloc, next))),
         RefExpr::Chart(name) => {
-            let made = chart_of(alloc, table, numbering, depth, next, name.bytes())?;
+            let made = chart_of(alloc, table, numbering, depth, next, ways, name.bytes())?;
             Ok(made)
         }
         RefExpr::Alt(parts) => {
-            let parts = expressions_of(alloc, table, numbering, depth, next, parts.as_slice())?;
+            let parts = expressions_of(
+                alloc,
+                table,
+                numbering,
+                depth,
+                next,
+                ways,
+                parts.as_slice(),
+            )?;
             Ok(one_of(parts))
         }
         RefExpr::Par(parts) => {
-            let parts = expressions_of(alloc, table, numbering, depth, next, parts.as_slice())?;
+            let parts = expressions_of(
+                alloc,
+                table,
+                numbering,
+                depth,
+                next,
+                ways,
+                parts.as_slice(),
+            )?;
             Ok(aside(parts))
         }
         RefExpr::Seq(parts) => {
-            let parts = expressions_of(alloc, table, numbering, depth, next, parts.as_slice())?;
+            let parts = expressions_of(
+                alloc,
+                table,
+                numbering,
+                depth,
+                next,
+                ways,
+                parts.as_slice(),
+            )?;
             Ok(in_row(parts))
         }
         RefExpr::Opt(part) => {
-            let made = expression_of(alloc, table, numbering, depth, next, part)?;
+            let made = expression_of(alloc, table, numbering, depth, next, ways, part)?;
             let made = or_nothing(alloc, made)?;
             Ok(made)
         }
         RefExpr::Loop(lower, upper, part) => {
-            let made = expression_of(alloc, table, numbering, depth, next, part)?;
+            let made = expression_of(alloc, table, numbering, depth, next, ways, part)?;
             let made = turns(alloc, next, *lower, *upper, made)?;
             Ok(made)
         }
@@ -247,22 +309,23 @@ fn expression_of(
 
 /// The parts of an expression.
 #[cycle(charts)]
-fn expressions_of(
+fn expressions_of<'a>(
     alloc: Global,
-    table: ChartTable<'_>,
+    table: ChartTable<'a>,
     numbering: &mut Numbering,
     depth: u32,
     next: u32,
+    ways: &Ways<'a>,
     operands: &[RefExpr],
-) -> Result<MadeParts, NoMemory>
+) -> Result<MadeParts<'a>, NoMemory>
     requires named { HasNames table.charts.now table.names.now }
-    requires table { IsPlainTable (table_view table.charts.now) }
-    ensures made { IfOk result (AreMade numbering.old numbering.new (expressions_parts (table_view table.entry.charts.now) depth next (expressions (map expression_view operands.now)))) }
-    ensures none { IfOk result (λ parts. parts.shown ≡ []) }
+    requires basic { IsBasicTable (table_view table.charts.now) }
+    requires gates { AreGatesOf (table_view table.charts.now) table.gates.now }
+    ensures { IfOk result (AreMade numbering.old numbering.new (expressions_parts (table_view table.entry.charts.now) depth (ways_view ways.now) next (expressions (map expression_view operands.now)))) }
 {
     let mut parts = no_parts(alloc, next);
     for expression in operands {
-        let made = expression_of(alloc, table, numbering, depth, parts.next, expression)?;
+        let made = expression_of(alloc, table, numbering, depth, parts.next, ways, expression)?;
         add(&mut parts, made)?;
     }
     Ok(parts)
@@ -277,26 +340,33 @@ pub struct ExpandedChart {
     pub numbering: Numbering,
 }
 
-/// The expansion of the chart of that name in a table, of whose charts the names are given in their order, and whose references stand in
-/// each other less than so deep. It fails only for want of memory, for which it takes 2^32 events too.
+/// The expansion of the chart of that name in a table, of whose charts the names are given in their order, with what they say of their
+/// gates, and whose references stand in each other less than so deep. It fails only for want of memory, for which it takes 2^32 events
+/// too.
 pub fn expansion_of(
     alloc: Global,
     charts: &[ChartEntry],
     names: &NameTable,
+    gates: &GateTables,
     depth: u32,
     name: &[u8],
 ) -> Result<ExpandedChart, NoMemory>
     requires named { HasNames charts.now names.now }
-    requires plain { IsPlainTable (table_view charts.now) }
-    ensures numbering { IfOk result (λ made. made.numbering ≡ numbering_of (expansion no_ends (table_view charts.now) depth name.now)) }
-    ensures expansion { IfOk result (λ made. expansion_view made.expansion ≡ numbered_by (numbering_of (expansion no_ends (table_view charts.now) depth name.now)) (expansion no_ends (table_view charts.now) depth name.now)) }
+    requires basic { IsBasicTable (table_view charts.now) }
+    requires gates { AreGatesOf (table_view charts.now) gates.now }
+    ensures numbering { IfOk result (λ made. made.numbering ≡ numbering_of (expansion (table_ends (table_view charts.now)) (table_view charts.now) depth name.now)) }
+    ensures expansion { IfOk result (λ made. expansion_view made.expansion ≡ numbered_by (numbering_of (expansion (table_ends (table_view charts.now)) (table_view charts.now) depth name.now)) (expansion (table_ends (table_view charts.now)) (table_view charts.now) depth name.now)) }
 {
     let mut numbering = Numbering {
         names: NameTable::new(alloc),
         labels: LabelTable::new(alloc),
     };
-    let table = ChartTable { charts, names };
-    let made = chart_of(alloc, table, &mut numbering, depth, 0, name)?;
+    let table = ChartTable {
+        charts,
+        names,
+        gates,
+    };
+    let made = chart_of(alloc, table, &mut numbering, depth, 0, &Ways::Nowhere, name)?;
     Ok(ExpandedChart {
         expansion: made.part,
         numbering,

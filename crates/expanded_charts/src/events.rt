@@ -1,21 +1,26 @@
 //! Events and coregions: for `charts`.
 
 ghost use Rattle.std.specs.Option.{option_copied};
-ghost use Rattle.std.specs.Prelude.{◌≡◌, ℕ, [], IfOk, OnOk, map};
+ghost use Rattle.std.specs.Prelude.{◌≡◌, ℕ, IfOk, OnOk, map};
 ghost use Rattle.msc_meaning.specs.EventLabels.{written_label};
-ghost use Rattle.msc_meaning.specs.FarEnds.{child_by, happening};
+ghost use Rattle.msc_meaning.specs.ChartUnfoldings.{under};
+ghost use Rattle.msc_meaning.specs.FarEnds.{child_by, gate_tags, happening, instance_or_env as far_or_env, written_far};
 ghost use Rattle.msc_meaning.specs.Tables.{Table};
 ghost use Rattle.msc_meaning.specs.Views.{node_view};
-ghost use Rattle.expanded_charts.specs.Expanding.{event};
-ghost use Rattle.expanded_charts.specs.Making.{AreMade, IsMade, IsNumbered, IsSecond, events_parts, here};
+ghost use Rattle.msc_tree.specs.Labels.{far_of};
+ghost use Rattle.msc_unfolding.specs.Unfoldings.{Tag};
+ghost use Rattle.expanded_charts.specs.GateWays.{ways_view};
+ghost use Rattle.expanded_charts.specs.Making.{AreMade, IsMade, IsNumbered, IsSecond, event_part, events_parts};
 ghost use Rattle.expanded_charts.specs.Numbering.{at_instances, with_second};
-ghost use Rattle.expanded_charts.specs.PlainCharts.{AreAtNoGate, IsAtNoGate};
+ghost use Rattle.expanded_charts.specs.ShownGates.{gates_view};
 
 use crate::made::{Made, MadeParts};
 use crate::numbering::{Numbering, number_label, number_name};
 use crate::parts::{add, no_parts};
+use crate::shown::{GateTag, ShownGate};
+use crate::ways::{Level, leads_to};
 use expansion_tree::{ExpandedEvent, Expansion};
-use msc_base::{Kind, Label, Name, NameTable, NoMemory, Pair, PairList};
+use msc_base::{Far, Kind, Label, Name, NameTable, NoMemory, Pair, PairList};
 use msc_meaning::EventNode;
 use msc_tree::{Target, label_of};
 use std::alloc::Global;
@@ -97,62 +102,143 @@ fn event_at(number: u32, label: u32, at: u32, also: Option<u32>) -> ExpandedEven
     }
 }
 
+/// The instance as a far end, or the environment.
+fn instance_or_env(alloc: Global, name: Option<&Name>) -> Result<Far, NoMemory>
+    ensures { IfOk result (λ far. far ≡ far_or_env (option_copied name.entry)) }
+{
+    match name {
+        None => Ok(Far::Env),
+        Some(name) => {
+            let name = name.copy(alloc)?;
+            Ok(Far::Instance(name))
+        }
+    }
+}
+
+/// The far end that an event names: of a gate of its level where that leads to, of a called gate the instance of its inner events, and
+/// otherwise what is written.
+fn far_at<'a>(
+    alloc: Global,
+    level: Level<'_, 'a>,
+    target: &'a Target,
+    written: Far,
+) -> Result<Far, NoMemory>
+    requires { written ≡ far_of target.now }
+    ensures { IfOk result (λ far. far ≡ written_far level.entry.called.now.ends (ways_view level.entry.ways.now) target.now) }
+{
+    match target {
+        Target::Env(Some(gate)) => {
+            let far = instance_or_env(alloc, leads_to(level.ways, gate.name().bytes()))?;
+            Ok(far)
+        }
+        Target::Gate(name, gate) => {
+            let inner = level
+                .called
+                .instance_at(name.name().bytes(), gate.name().bytes());
+            let far = instance_or_env(alloc, inner)?;
+            Ok(far)
+        }
+        Target::Env(None) => Ok(written),
+        Target::Nobody => Ok(written),
+        Target::Instance(_) => Ok(written),
+    }
+}
+
+/// The label of an event.
+fn label_at<'a>(alloc: Global, level: Level<'_, 'a>, node: &'a EventNode) -> Result<Label, NoMemory>
+    ensures { IfOk result (λ label. label ≡ (happening level.entry.called.now.ends (under (ways_view level.entry.ways.now)) (node_view node.now)).label) }
+{
+    let Label {
+        at,
+        kind,
+        text,
+        far,
+    } = label_written(alloc, node)?;
+    let far = far_at(alloc, level, &node.event.target, far)?;
+    Ok(Label {
+        at,
+        kind,
+        text,
+        far,
+    })
+}
+
 /// An event, with the number of its instances and its label, which have one from then on.
-fn numbered(
+fn numbered<'a>(
     alloc: Global,
     numbering: &mut Numbering,
     number: u32,
-    node: &EventNode,
+    level: Level<'_, 'a>,
+    node: &'a EventNode,
 ) -> Result<ExpandedEvent, NoMemory>
-    requires { IsAtNoGate node.now.event.target }
-    ensures { IfOk result (IsNumbered numbering.old numbering.new (record { number = number; happening = happening [] here (node_view node.now) })) }
+    ensures { IfOk result (IsNumbered numbering.old numbering.new (record { number = number; happening = happening level.entry.called.now.ends (under (ways_view level.entry.ways.now)) (node_view node.now) })) }
 {
-    let label = label_written(alloc, node)?;
+    let label = label_at(alloc, level, node)?;
     let at = number_name(alloc, &mut numbering.names, &node.at)?;
     let also = number_second(alloc, &mut numbering.names, created(node))?;
     let label = number_label(&mut numbering.labels, label)?;
     Ok(event_at(number, label, at, also))
 }
 
-/// An event as a part of an expansion. It fails only for want of memory, for which it takes 2^32 events too.
-pub(crate) fn event_of(
+/// The gate of its level that an event shows under this number.
+fn gates_at<'a>(
+    alloc: Global,
+    number: u32,
+    target: &'a Target,
+) -> Result<Vec<ShownGate<'a>>, NoMemory>
+    ensures { IfOk result (λ gates. gates_view gates.items ≡ map (λ (a : Tag). (number, a)) (gate_tags target.now)) }
+{
+    let mut gates = Vec::new(alloc);
+    if let Target::Env(Some(gate)) = target {
+        gates.push(ShownGate {
+            number,
+            tag: GateTag::Via(gate.name()),
+        })?;
+    }
+    Ok(gates)
+}
+
+/// An event of a level as a part of an expansion. It fails only for want of memory, for which it takes 2^32 events too.
+pub(crate) fn event_of<'a>(
     alloc: Global,
     numbering: &mut Numbering,
     next: u32,
-    node: &EventNode,
-) -> Result<Made, NoMemory>
-    requires { IsAtNoGate node.now.event.target }
-    ensures { IfOk result (IsMade numbering.old numbering.new (event next (happening [] here (node_view node.now)))) }
+    level: Level<'_, 'a>,
+    node: &'a EventNode,
+) -> Result<Made<'a>, NoMemory>
+    ensures { IfOk result (IsMade numbering.old numbering.new (event_part level.entry.called.now (ways_view level.entry.ways.now) next (node_view node.now))) }
 {
     if next == u32::MAX {
         return Err(NoMemory);
     }
-    let event = numbered(alloc, numbering, next, node)?;
-    let mut shown = PairList::new(alloc);
-    shown.push(Pair {
+    let event = numbered(alloc, numbering, next, level, node)?;
+    let mut own = PairList::new(alloc);
+    own.push(Pair {
         first: next,
         second: node.number,
     })?;
+    let gates = gates_at(alloc, next, &node.event.target)?;
     Ok(Made {
         part: Expansion::Event(event),
-        shown,
+        own,
+        gates,
         next: next + 1,
     })
 }
 
 /// The events of a coregion.
-pub(crate) fn events_of(
+pub(crate) fn events_of<'a>(
     alloc: Global,
     numbering: &mut Numbering,
     next: u32,
-    nodes: &[EventNode],
-) -> Result<MadeParts, NoMemory>
-    requires { AreAtNoGate (map node_view nodes.now) }
-    ensures { IfOk result (λ parts. (table : Table) (depth : ℕ) → AreMade numbering.old numbering.new (events_parts table depth next (map node_view nodes.now)) parts) }
+    level: Level<'_, 'a>,
+    nodes: &'a [EventNode],
+) -> Result<MadeParts<'a>, NoMemory>
+    ensures { IfOk result (λ parts. (table : Table) (depth : ℕ) → AreMade numbering.old numbering.new (events_parts table depth level.entry.called.now (ways_view level.entry.ways.now) next (map node_view nodes.now)) parts) }
 {
     let mut parts = no_parts(alloc, next);
     for node in nodes {
-        let made = event_of(alloc, numbering, parts.next, node)?;
+        let made = event_of(alloc, numbering, parts.next, level, node)?;
         add(&mut parts, made)?;
     }
     Ok(parts)

@@ -7,19 +7,20 @@ ghost use Rattle.expanded_charts.specs.Making.{AreMade, IsAdded, IsChanged, IsMa
 ghost use Rattle.expanded_charts.specs.declared.numbering.Numbering.{Numbering};
 
 use crate::made::{Made, MadeParts};
+use crate::shown::ShownGate;
 use expansion_tree::Expansion;
 use msc_base::{NoMemory, Pair, PairList};
 use msc_tree::InlineForm;
 use std::alloc::Global;
 
 /// No parts.
-pub(crate) fn no_parts(alloc: Global, next: u32) -> MadeParts
-    ensures made { (s : Numbering) → AreMade s s (nothing next) result }
-    ensures none { result.shown ≡ [] }
+pub(crate) fn no_parts<'a>(alloc: Global, next: u32) -> MadeParts<'a>
+    ensures { (s : Numbering) → AreMade s s (nothing next) result }
 {
     MadeParts {
         parts: Vec::new(alloc),
-        shown: PairList::new(alloc),
+        own: PairList::new(alloc),
+        gates: Vec::new(alloc),
         next,
     }
 }
@@ -34,118 +35,162 @@ fn append(list: &mut PairList, others: &[Pair]) -> Result<(), NoMemory>
     Ok(())
 }
 
-/// Adds a part behind the others.
-pub(crate) fn add(parts: &mut MadeParts, made: Made) -> Result<(), NoMemory>
-    ensures added { OnOk result (IsAdded parts.old made parts.new) }
-    ensures none { OnOk result (parts.old.shown ≡ [] → made.shown ≡ [] → parts.new.shown ≡ []) }
+/// Appends what is shown at gates.
+fn append_gates<'a>(list: &mut Vec<ShownGate<'a>>, others: &[ShownGate<'a>]) -> Result<(), NoMemory>
+    ensures { OnOk result (list.new.items ≡ list.old.items ++ others.now) }
 {
-    let Made { part, shown, next } = made;
-    append(&mut parts.shown, shown.as_slice())?;
+    for shown in others {
+        list.push(*shown)?;
+    }
+    Ok(())
+}
+
+/// Adds a part behind the others.
+pub(crate) fn add<'a>(parts: &mut MadeParts<'a>, made: Made<'a>) -> Result<(), NoMemory>
+    ensures { OnOk result (IsAdded parts.old made.entry parts.new) }
+{
+    let Made {
+        part,
+        own,
+        gates,
+        next,
+    } = made;
+    append(&mut parts.own, own.as_slice())?;
+    append_gates(&mut parts.gates, gates.as_slice())?;
     parts.parts.push(part)?;
     parts.next = next;
     Ok(())
 }
 
 /// The parts in weak sequence.
-pub(crate) fn in_row(parts: MadeParts) -> Made
-    ensures made { IsMadeOf plain_row parts result }
-    ensures shown { result.shown ≡ parts.shown }
+pub(crate) fn in_row<'a>(parts: MadeParts<'a>) -> Made<'a>
+    ensures { IsMadeOf plain_row parts.entry result }
 {
-    let MadeParts { parts, shown, next } = parts;
+    let MadeParts {
+        parts,
+        own,
+        gates,
+        next,
+    } = parts;
     Made {
         part: Expansion::InRow(parts),
-        shown,
+        own,
+        gates,
         next,
     }
 }
 
 /// The parts side by side.
-pub(crate) fn aside(parts: MadeParts) -> Made
-    ensures made { IsMadeOf plain_aside parts result }
-    ensures shown { result.shown ≡ parts.shown }
+pub(crate) fn aside<'a>(parts: MadeParts<'a>) -> Made<'a>
+    ensures { IsMadeOf plain_aside parts.entry result }
 {
-    let MadeParts { parts, shown, next } = parts;
+    let MadeParts {
+        parts,
+        own,
+        gates,
+        next,
+    } = parts;
     Made {
         part: Expansion::Aside(parts),
-        shown,
+        own,
+        gates,
         next,
     }
 }
 
 /// One of the parts.
-pub(crate) fn one_of(parts: MadeParts) -> Made
-    ensures made { IsMadeOf plain_choice parts result }
-    ensures shown { result.shown ≡ parts.shown }
+pub(crate) fn one_of<'a>(parts: MadeParts<'a>) -> Made<'a>
+    ensures { IsMadeOf plain_choice parts.entry result }
 {
-    let MadeParts { parts, shown, next } = parts;
+    let MadeParts {
+        parts,
+        own,
+        gates,
+        next,
+    } = parts;
     Made {
         part: Expansion::OneOf(parts),
-        shown,
+        own,
+        gates,
         next,
     }
 }
 
 /// The part, or nothing.
-pub(crate) fn or_nothing(alloc: Global, made: Made) -> Result<Made, NoMemory>
-    ensures made { IfOk result (λ new. IsChanged plain_option made new) }
-    ensures shown { IfOk result (λ new. new.shown ≡ made.shown) }
+pub(crate) fn or_nothing<'a>(alloc: Global, made: Made<'a>) -> Result<Made<'a>, NoMemory>
+    ensures { IfOk result (λ new. IsChanged plain_option made.entry new) }
 {
-    let Made { part, shown, next } = made;
+    let Made {
+        part,
+        own,
+        gates,
+        next,
+    } = made;
     let mut parts = Vec::new(alloc);
     parts.push(part)?;
     parts.push(Expansion::InRow(Vec::new(alloc)))?;
     Ok(Made {
         part: Expansion::OneOf(parts),
-        shown,
+        own,
+        gates,
         next,
     })
 }
 
 /// The part in place of what stands behind it.
-pub(crate) fn exception(alloc: Global, made: Made) -> Result<Made, NoMemory>
-    ensures made { IfOk result (λ new. IsChanged plain_exception made new) }
-    ensures shown { IfOk result (λ new. new.shown ≡ made.shown) }
+pub(crate) fn exception<'a>(alloc: Global, made: Made<'a>) -> Result<Made<'a>, NoMemory>
+    ensures { IfOk result (λ new. IsChanged plain_exception made.entry new) }
 {
-    let Made { part, shown, next } = made;
+    let Made {
+        part,
+        own,
+        gates,
+        next,
+    } = made;
     let part = Box::new(alloc, part)?;
     Ok(Made {
         part: Expansion::Exception(part),
-        shown,
+        own,
+        gates,
         next,
     })
 }
 
 /// The part as often as the bounds say; its events are numbered from that number on.
-pub(crate) fn turns(
+pub(crate) fn turns<'a>(
     alloc: Global,
     first: u32,
     lower: u64,
     upper: Option<u64>,
-    made: Made,
-) -> Result<Made, NoMemory>
-    ensures made { IfOk result (λ new. IsChanged (plain_turns first lower upper) made new) }
-    ensures shown { IfOk result (λ new. new.shown ≡ made.shown) }
+    made: Made<'a>,
+) -> Result<Made<'a>, NoMemory>
+    ensures { IfOk result (λ new. IsChanged (plain_turns first lower upper) made.entry new) }
 {
-    let Made { part, shown, next } = made;
+    let Made {
+        part,
+        own,
+        gates,
+        next,
+    } = made;
     let part = Box::new(alloc, part)?;
     Ok(Made {
         part: Expansion::Turns(first, lower, upper, part),
-        shown,
+        own,
+        gates,
         next,
     })
 }
 
 /// An inline expression of these operands; their events are numbered from that number on.
-pub(crate) fn of_form(
+pub(crate) fn of_form<'a>(
     alloc: Global,
     first: u32,
     form: InlineForm,
     lower: u64,
     upper: Option<u64>,
-    operands: MadeParts,
-) -> Result<Made, NoMemory>
-    ensures made { IfOk result (λ made. (part : InlinePart) → part.lower ≡ lower → part.upper ≡ upper → IsMadeOf (inline_by form part first) operands made) }
-    ensures shown { IfOk result (λ made. made.shown ≡ operands.shown) }
+    operands: MadeParts<'a>,
+) -> Result<Made<'a>, NoMemory>
+    ensures { IfOk result (λ made. (part : InlinePart) → part.lower ≡ lower → part.upper ≡ upper → IsMadeOf (inline_by form part first) operands.entry made) }
 {
     match form {
         InlineForm::Alt => Ok(one_of(operands)),

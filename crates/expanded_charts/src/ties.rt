@@ -2,54 +2,25 @@
 
 ghost use Rattle.std.specs.BTreeMap.{get};
 ghost use Rattle.std.specs.Ordering.{nat_cmp};
-ghost use Rattle.std.specs.Prelude.{◌≡◌, ◌++◌, ◌==◌, [], true, IfOk, OnOk};
+ghost use Rattle.std.specs.Prelude.{◌≡◌, ◌++◌, ◌∷◌, true, [], IfOk, OnOk};
 ghost use Rattle.msc_meaning.specs.Ties.{own_ties};
-ghost use Rattle.msc_unfolding.specs.Unfoldings.{past_level};
-ghost use Rattle.expanded_charts.specs.Expanding.{pairs_between, past, tied};
+ghost use Rattle.expanded_charts.specs.Expanding.{Shown, pairs_between, tied};
+ghost use Rattle.expanded_charts.specs.GateNumbers.{HasNumbers};
+ghost use Rattle.expanded_charts.specs.GateTies.{end_view, tie_view, ties_view};
 ghost use Rattle.expanded_charts.specs.Making.{IsChanged};
-ghost use Rattle.expanded_charts.specs.TieNumbers.{AreNumbers, found_pair, found_pairs, numbers_of, pairs_with, tie_pairs};
+ghost use Rattle.expanded_charts.specs.ShownGates.{gates_view};
+ghost use Rattle.expanded_charts.specs.TieNumbers.{AreNumbers, found_pair, found_pairs, gate_pairs, listed, numbers_at, numbers_of, tie_pairs};
 
+use crate::gate_numbers::{
+    GateNumbers, gate_numbers, list_of, numbers_on, push_between, sought_numbers,
+};
+use crate::gate_ties::{GateTie, TieEnd};
 use crate::made::Made;
+use crate::shown::ShownGate;
 use expansion_tree::Expansion;
-use msc_base::{NoMemory, Pair, PairList};
+use msc_base::{NoMemory, NumberList, Pair, PairList};
 use std::alloc::Global;
 use std::collections::BTreeMap;
-
-/// Whether the number is shown of that event.
-fn is_of(pair: &Pair, event: u32) -> bool
-    ensures { result ≡ (pair.now.second == event) }
-{
-    pair.second == event
-}
-
-/// Appends the number with each that is shown of the event.
-fn add_with(list: &mut PairList, first: u32, event: u32, shown: &PairList) -> Result<(), NoMemory>
-    ensures { OnOk result (list.new ≡ list.old ++ pairs_with first (numbers_of event shown.now)) }
-{
-    for index in 0..shown.len() {
-        let pair = *shown.at(index);
-        if is_of(&pair, event) {
-            list.push(Pair {
-                first,
-                second: pair.first,
-            })?;
-        }
-    }
-    Ok(())
-}
-
-/// Appends each number that is shown of the pair's first event with each of its second.
-fn add_between(list: &mut PairList, tie: Pair, shown: &PairList) -> Result<(), NoMemory>
-    ensures { OnOk result (list.new ≡ list.old ++ pairs_between (numbers_of tie.first shown.now) (numbers_of tie.second shown.now)) }
-{
-    for index in 0..shown.len() {
-        let pair = *shown.at(index);
-        if is_of(&pair, tie.first) {
-            add_with(list, pair.first, tie.second, shown)?;
-        }
-    }
-    Ok(())
-}
 
 /// The pairs of numbers that these pairs of events come to, each sought among all numbers that are shown.
 fn sought_pairs(alloc: Global, ties: &PairList, shown: &PairList) -> Result<PairList, NoMemory>
@@ -57,7 +28,10 @@ fn sought_pairs(alloc: Global, ties: &PairList, shown: &PairList) -> Result<Pair
 {
     let mut list = PairList::new(alloc);
     for index in 0..ties.len() {
-        add_between(&mut list, *ties.at(index), shown)?;
+        let tie = *ties.at(index);
+        let firsts = sought_numbers(alloc, shown, tie.first)?;
+        let seconds = sought_numbers(alloc, shown, tie.second)?;
+        push_between(&mut list, firsts.as_slice(), seconds.as_slice())?;
     }
     Ok(list)
 }
@@ -123,10 +97,15 @@ fn found_pairs_of(
 }
 
 /// The pairs of numbers that these pairs of events come to: where no event is shown twice, each is found by its number in the chart.
-fn tied_numbers(alloc: Global, ties: &PairList, shown: &PairList) -> Result<PairList, NoMemory>
+fn event_pairs(
+    alloc: Global,
+    ties: &PairList,
+    shown: &PairList,
+    numbers: &Numbers,
+) -> Result<PairList, NoMemory>
+    requires { numbers.now.apart ≡ true → AreNumbers (get nat_cmp numbers.now.by_event) shown.now }
     ensures { IfOk result (λ list. list ≡ tie_pairs shown.now ties.now) }
 {
-    let numbers = numbers_of(alloc, shown)?;
     if numbers.apart {
         let list = found_pairs_of(alloc, ties, &numbers.by_event)?;
         return Ok(list);
@@ -135,16 +114,137 @@ fn tied_numbers(alloc: Global, ties: &PairList, shown: &PairList) -> Result<Pair
     Ok(list)
 }
 
-/// The part tied by these pairs of events of its level, above which the events of the level aren't seen.
-pub(crate) fn level_tied(alloc: Global, pairs: &PairList, inner: Made) -> Result<Made, NoMemory>
-    ensures tied { IfOk result (λ made. IsChanged (λ e. past past_level (tied (own_ties pairs.now) e)) inner made) }
-    ensures none { IfOk result (λ made. made.shown ≡ []) }
+/// The list of the number, where there is one.
+fn one_or_none(alloc: Global, number: Option<u32>) -> Result<NumberList, NoMemory>
+    ensures { IfOk result (λ list. list ≡ listed number) }
 {
-    let numbers = tied_numbers(alloc, pairs, &inner.shown)?;
-    let part = Box::new(alloc, inner.part)?;
+    match number {
+        None => Ok(NumberList::new(alloc)),
+        Some(number) => {
+            let list = NumberList::one(alloc, number)?;
+            Ok(list)
+        }
+    }
+}
+
+/// The numbers that are shown of the event.
+fn event_numbers(
+    alloc: Global,
+    shown: &PairList,
+    numbers: &Numbers,
+    event: u32,
+) -> Result<NumberList, NoMemory>
+    requires { numbers.now.apart ≡ true → AreNumbers (get nat_cmp numbers.now.by_event) shown.now }
+    ensures { IfOk result (λ list. list ≡ numbers_of event shown.now) }
+{
+    if numbers.apart {
+        let list = one_or_none(alloc, numbers.by_event.get(&event).copied())?;
+        return Ok(list);
+    }
+    let list = sought_numbers(alloc, shown, event)?;
+    Ok(list)
+}
+
+/// The numbers that are shown of an end of a tie.
+fn end_numbers<'a>(
+    alloc: Global,
+    shown: &PairList,
+    numbers: &Numbers,
+    gates: &GateNumbers<'a>,
+    end: TieEnd<'a>,
+) -> Result<NumberList, NoMemory>
+    requires { numbers.now.apart ≡ true → AreNumbers (get nat_cmp numbers.now.by_event) shown.now }
+    ensures { IfOk result (λ list. (seen : Shown) → HasNumbers gates.now seen → list ≡ numbers_at shown.now seen (end_view end.entry)) }
+{
+    match end {
+        TieEnd::Event(event) => {
+            let list = event_numbers(alloc, shown, numbers, event)?;
+            Ok(list)
+        }
+        TieEnd::Gate(name, gate) => {
+            let list = list_of(alloc, numbers_on(gates, name, gate))?;
+            Ok(list)
+        }
+    }
+}
+
+/// Appends the pairs of numbers that a tie comes to.
+fn push_tie<'a>(
+    alloc: Global,
+    list: &mut PairList,
+    shown: &PairList,
+    numbers: &Numbers,
+    gates: &GateNumbers<'a>,
+    tie: GateTie<'a>,
+) -> Result<(), NoMemory>
+    requires { numbers.now.apart ≡ true → AreNumbers (get nat_cmp numbers.now.by_event) shown.now }
+    ensures { OnOk result ((seen : Shown) → HasNumbers gates.now seen → list.new ≡ list.old ++ gate_pairs shown.now seen (tie_view tie.entry ∷ [])) }
+{
+    let firsts = end_numbers(alloc, shown, numbers, gates, tie.first)?;
+    let seconds = end_numbers(alloc, shown, numbers, gates, tie.second)?;
+    push_between(list, firsts.as_slice(), seconds.as_slice())?;
+    Ok(())
+}
+
+/// Appends the pairs of numbers that ties at gates come to.
+fn push_ties<'a>(
+    alloc: Global,
+    list: &mut PairList,
+    shown: &PairList,
+    numbers: &Numbers,
+    gates: &GateNumbers<'a>,
+    ties: &[GateTie<'a>],
+) -> Result<(), NoMemory>
+    requires { numbers.now.apart ≡ true → AreNumbers (get nat_cmp numbers.now.by_event) shown.now }
+    ensures { OnOk result ((seen : Shown) → HasNumbers gates.now seen → list.new ≡ list.old ++ gate_pairs shown.now seen (ties_view ties.now)) }
+{
+    for tie in ties {
+        push_tie(alloc, list, shown, numbers, gates, *tie)?;
+    }
+    Ok(())
+}
+
+/// The pairs of numbers that these pairs of events and these ties at gates come to.
+fn tied_numbers<'a>(
+    alloc: Global,
+    pairs: &PairList,
+    ties: &[GateTie<'a>],
+    shown: &PairList,
+    gates: &[ShownGate<'a>],
+) -> Result<PairList, NoMemory>
+    ensures { IfOk result (λ list. list ≡ tie_pairs shown.now pairs.now ++ gate_pairs shown.now (gates_view gates.now) (ties_view ties.now)) }
+{
+    let numbers = numbers_of(alloc, shown)?;
+    let mut list = event_pairs(alloc, pairs, shown, &numbers)?;
+    if ties.is_empty() {
+        return Ok(list);
+    }
+    let gates = gate_numbers(alloc, gates)?;
+    push_ties(alloc, &mut list, shown, &numbers, &gates, ties)?;
+    Ok(list)
+}
+
+/// The part tied by these pairs of events of its level, and by these ties at gates.
+pub(crate) fn level_tied<'a>(
+    alloc: Global,
+    pairs: &PairList,
+    ties: &[GateTie<'a>],
+    inner: Made<'a>,
+) -> Result<Made<'a>, NoMemory>
+    ensures { IfOk result (λ made. IsChanged (λ e. tied (own_ties pairs.now ++ ties_view ties.now) e) inner.entry made) }
+{
+    let Made {
+        part,
+        own,
+        gates,
+        next,
+    } = inner;
+    let numbers = tied_numbers(alloc, pairs, ties, &own, gates.as_slice())?;
+    let part = Box::new(alloc, part)?;
     Ok(Made {
         part: Expansion::Tied(part, numbers),
-        shown: PairList::new(alloc),
-        next: inner.next,
+        own,
+        gates,
+        next,
     })
 }

@@ -21,7 +21,8 @@ use Rattle.msc_meaning.specs.InnerEvents.{GateEnd}
 use Rattle.msc_meaning.specs.Ties.{level_pairs, own_ties, in_order, event_ties, items_joins_ties, ties, called_tag, past_inline, via_list, past_reference}
 use Rattle.expanded_terms.specs.ExpandedSizes.{gates_in, open_gates, item_room, items_room, HaveRoom}
 use Rattle.expanded_terms.specs.ExpandedTerms.{Charts, event_shown, events_shown, expression_shown, operands_shown, item_shown, items_shown, item_count}
-use Rattle.expanded_terms.specs.FewPairs.{node_numbers, own_gates, tag_by, event_tags, item_product, products, HasFewOwn, FewPairsHaveRoom}
+use Rattle.gate_ends.specs.LevelGates.{event_tags, tag_by}
+use Rattle.expanded_terms.specs.FewPairs.{node_numbers, own_gates, item_product, products, HasFewOwn, FewPairsHaveRoom}
 use Rattle.expanded_terms.specs.TagNumbers.{number_if, numbers_with, pairs_with, pairs_between, tied_numbers}
 
 -- ---- numbers of a tag

@@ -18,7 +18,7 @@ mod FreshLoops
 mod SoundRules
 mod RankedTerms
 mod TiesWithin
-pub mod PlainTies
+pub mod GateTies
 mod SoundExpansions
 mod SoundCharts
 pub mod RankedChartTerms

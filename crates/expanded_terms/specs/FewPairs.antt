@@ -7,7 +7,8 @@ use Rattle.msc_base.specs.Orders.{Once}
 use Rattle.msc_unfolding.specs.Unfoldings.{Tag, On}
 use Rattle.general_ordering.specs.OrderCounts.{orders_count}
 use Rattle.msc_meaning.specs.Bodies.{EventNode, ReferencePart, level, WovenItems, no_items, item_and, WovenItem, Single, Coregion, Inline, Refer, events}
-use Rattle.msc_meaning.specs.Calls.{Caller, an_event, a_gate, Call, calls}
+use Rattle.gate_ends.specs.LevelGates.{event_tags}
+use Rattle.msc_meaning.specs.Calls.{calls}
 use Rattle.msc_meaning.specs.FarEnds.{gate_tags}
 use Rattle.msc_meaning.specs.InnerEvents.{GateEnd}
 use Rattle.msc_meaning.specs.Ties.{level_pairs, items_joins_ties, ties}
@@ -22,14 +23,6 @@ node_numbers ns = map (λ (n : EventNode). n.number) ns
 abbrev pub own_gates : List EventNode → ℕ
 own_gates [] = 0
 own_gates (n ∷ ns) = length (gate_tags n.event.target) + own_gates ns
-
--- the gate, where an event calls it
-abbrev pub tag_by : Call → Caller → List Tag
-tag_by c (an_event n) = On c.name c.gate ∷ []
-tag_by c (a_gate name gate) = []
-
-abbrev pub event_tags : List Call → List Tag
-event_tags cs = flat_map (λ c. tag_by c c.by) cs
 
 -- the products of the joins of these items of a level, which is the first
 module _ (product : WovenItems → ReferencePart → ℕ) where

@@ -20,6 +20,7 @@ pub mod RisingPairs
 pub mod PlacedTerms
 pub mod ExpandedSizes
 pub mod FewPairs
+pub mod GateTies
 pub mod JoinProducts
 pub mod WholeCharts
 pub mod NormalTerms

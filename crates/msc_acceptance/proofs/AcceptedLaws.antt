@@ -18,17 +18,20 @@ use Rattle.chart_links.specs.References.{IsCalled}
 use Rattle.chart_links.specs.Summaries.{summary_of}
 use Rattle.chart_text.specs.WellFormed.{AreAllWellFormed, IsWellFormed}
 use Rattle.creation_rules.specs.Creating.{ChartCreatesTwice}
-use Rattle.gate_ends.specs.FoundEnds.{AreAll}
+use Rattle.expanded_charts.specs.BasicCharts.{IsBasicTable, IsBasicWoven}
+use Rattle.gate_ends.specs.FoundEnds.{AreAll, GoesTo}
+use Rattle.gate_rules.specs.GateLaws.{LevelsHaveGates}
 use Rattle.general_ordering.specs.EventNames.{Twice}
 use Rattle.msc_acceptance.proofs.ChartLaws.{IsBasic, is_basic, level_of, pieces_of}
 use Rattle.msc_acceptance.proofs.ExtentLaws.{adds_size, among_sized, called_chart, link_called, nests_from, nests_link, within_nesting, within_size}
+use Rattle.msc_acceptance.proofs.HeldGates.{gates_held, there_goes}
 use Rattle.msc_acceptance.proofs.LimitLaws.{not_passed}
 use Rattle.msc_acceptance.proofs.LinkLaws.{sized_names}
 use Rattle.msc_acceptance.proofs.WalkLaws.{in_one, one_built, one_formed}
 use Rattle.msc_acceptance.specs.Acceptance.{BreaksOf}
 use Rattle.msc_acceptance.specs.AcceptedCharts.{EachChart, IsAcceptedChart, IsAcceptedTable, IsThereTo, content_names, table_instances}
 use Rattle.msc_acceptance.specs.ChartFaults.{IsBodyOf, IsMisnamedAt}
-use Rattle.msc_acceptance.specs.Deciding.{AllKept, HaveExtents, body_groups, names, text_groups}
+use Rattle.msc_acceptance.specs.Deciding.{AllKept, HaveExtents, names, table_groups, text_groups}
 use Rattle.msc_acceptance.specs.Listing.{content_instances, cover_of}
 use Rattle.msc_acceptance.specs.Rules.{HasFurther, IsNamedAgain}
 use Rattle.msc_base.proofs.NameFacts.{any_from_one, any_with_name, one_from_any}
@@ -186,6 +189,18 @@ entry_there (x ∷ charts) (e ∷ table) (entry_and is others) d c (inr m) =
     by true q f = absurd (d.0 (subst (IsAmong (chart_names charts)) (sym (sym is.name ∙ (bytes_eq-Decides e.name c.name).0 q)) (among_names charts c m)))
     by false q f = rw q f
 
+-- ---- basic charts
+
+abbrev IsBasicEntry : ChartEntry → Type 0
+IsBasicEntry e = (refinements e.decls ≡ []) × IsBasicWoven e.content
+
+basic_content : (w : Woven) (b : Body) → w ≡ Basic b → IsBasicWoven w
+basic_content w b e = subst IsBasicWoven (sym e) tt
+
+basic_of : (table : Table) → EachChart IsBasicEntry table → IsBasicTable table
+basic_of [] h = tt
+basic_of (e ∷ table) h = (h.0, basic_of table h.1)
+
 -- ---- instances
 
 pub instances_within : (seen : List (List ℕ)) (charts : List Chart) (table : Table) → AreEntriesOf instances charts table → ((c : Chart) (e : ChartEntry) → IsAmong charts c → IsEntryOf (instances c) c e → content_instances e.content ≡ instances c)
@@ -204,17 +219,21 @@ module _ (built : BuiltChartsAreKnown) (known : WovenChartsAreKnown) (charts : L
   own_built : (c : Chart) → IsAmong charts c → IsBuilt c
   own_built c m = one_built charts c (λ p h. texts.0 NotBuilt p (inl refl) h) m
 
+  -- none is a high-level chart, and none of their instances is decomposed
+  pub are_basic : (table : Table) → AreEntriesOf instances charts table → IsBasicTable table
+  are_basic table are = basic_of table (each_entry IsBasicEntry charts table are (λ c e m is. (entry_whole built c e (own_built c m) is, basic_content e.content (entry_body built c e (own_built c m) is).body (entry_body built c e (own_built c m) is).is)))
+
   pub differ : AreDifferent (chart_names charts)
   differ = names_differ [] charts (λ p h. texts.1.1.0 NamedTwice p (inl refl) (inl h))
 
-  module _ (bodies : AllKept (BreaksOf charts) body_groups) where
+  module _ (together : AllKept (BreaksOf charts) table_groups) where
     keeps_own : (c : Chart) → IsAmong charts c → KeepsOwn c
     keeps_own c m = record {
       formed = one_formed charts c formed m;
       built = own_built c m;
       named = λ p h. texts.1.1.0 Undeclared p (inr (inl refl)) (in_one ChartNamesOther charts c p m h);
       created = λ p h. texts.1.1.1.1.1.0 CreateTwice p (inr (inr (inr (inr (inl refl))))) (in_one ChartCreatesTwice charts c p m h);
-      named_once = λ p h. bodies.1.1.0 EventNamedTwice p (inr (inl refl)) (in_one (IsMisnamedAt Twice) charts c p m h);
+      named_once = λ p h. together.1.0 EventNamedTwice p (inr (inl refl)) (in_one (IsMisnamedAt Twice) charts c p m h);
     }
 
     pub are_accepted : (table : Table) → AreEntriesOf instances charts table → EachChart IsAcceptedChart table
@@ -261,30 +280,43 @@ module _ (built : BuiltChartsAreKnown) (known : WovenChartsAreKnown) (charts : L
             let (d, j, name, sum) = called_chart charts l e (called c m l k) has in
             subst (λ (n : List ℕ). size_to no_product table depth n ≤ e.size) name (below d e j sum)
 
-    pub accepted_table : AllKept (BreaksOf charts) body_groups → AreOrdered table EXPANDED_NESTING table → HaveExtents (map sized_of charts) → IsAcceptedTable table
-    accepted_table bodies ordered extents = record {
-      charts = are_accepted bodies table are;
+    by_name : (P : List ℕ → Type 0) (c : Chart) (e : ChartEntry) → IsEntryOf (instances c) c e → P c.name → P e.name
+    by_name P c e is h = subst P (sym is.name) h
+
+    reached : HaveExtents (map sized_of charts) → (c : Chart) → IsAmong charts c → IsThereTo table EXPANDED_NESTING c.name
+    reached extents c m =
+        let (all, is) = extents (sized_of c) (among_sized charts c m) in
+        there_to EXPANDED_NESTING c all m is (within_nesting charts (λ q h. texts.1.1.1.1.0 ExpandedNesting q (inl refl) h) c all m is)
+
+    pub all_there : HaveExtents (map sized_of charts) → EachChart (λ (e : ChartEntry). IsThereTo table EXPANDED_NESTING e.name) table
+    all_there extents = each_entry (λ (e : ChartEntry). IsThereTo table EXPANDED_NESTING e.name) charts table are (λ c e m is. by_name (λ n. IsThereTo table EXPANDED_NESTING n) c e is (reached extents c m))
+
+    -- so is each that a chart names
+    linked_goes : HaveExtents (map sized_of charts) → (c : Chart) → IsAmong charts c → (n : List ℕ) → IsLinked (chart_links c) n → GoesTo table EXPANDED_NESTING n
+    linked_goes extents c m n linked_by =
+        let (all, is) = extents (sized_of c) (among_sized charts c m) in
+        let (e, has, deep) = nests_link (map sized_of charts) (own_extent c) (chart_links c) all is linked_by.link linked_by.says in
+        let (d, k, name, sum) = called_chart charts linked_by.link e (called c m linked_by.link linked_by.says) has in
+        there_goes table EXPANDED_NESTING n (subst (IsThereTo table EXPANDED_NESTING) (name ∙ linked_by.is) (reached extents d k))
+
+    names_go : HaveExtents (map sized_of charts) → EachChart (λ (e : ChartEntry). AreAll (GoesTo table EXPANDED_NESTING) (content_names e.content)) table
+    names_go extents = each_entry (λ (e : ChartEntry). AreAll (GoesTo table EXPANDED_NESTING) (content_names e.content)) charts table are
+        (λ c e m is. all_of (GoesTo table EXPANDED_NESTING) (content_names e.content) (λ n k. linked_goes extents c m n (entry_links built known c e (own_built c m) is n k)))
+
+    pub accepted_table : LevelsHaveGates → AllKept (BreaksOf charts) table_groups → AreOrdered table EXPANDED_NESTING table → HaveExtents (map sized_of charts) → IsAcceptedTable table
+    accepted_table law together ordered extents = record {
+      charts = are_accepted together table are;
       different = subst AreDifferent (sym (entry_names charts table are)) differ;
       few_instances = instances_within [] charts table are (λ c e m is. entry_covers built c e (own_built c m) is) (omega arith) (λ p h. texts.1.0 Instances p (inr (inl refl)) h);
-      there = each_entry (λ (e : ChartEntry). IsThereTo table EXPANDED_NESTING e.name) charts table are (λ c e m is. by_name (λ n. IsThereTo table EXPANDED_NESTING n) c e is (reached c m));
+      there = all_there extents;
+      gates = gates_held charts table are together law (names_go extents);
       small = each_entry (λ (e : ChartEntry). size_to no_product table EXPANDED_NESTING e.name ≤ EXPANDED_SIZE) charts table are (λ c e m is. by_name (λ n. size_to no_product table EXPANDED_NESTING n ≤ EXPANDED_SIZE) c e is (light c m));
       ordered = ordered;
     }
       where
-        by_name : (P : List ℕ → Type 0) (c : Chart) (e : ChartEntry) → IsEntryOf (instances c) c e → P c.name → P e.name
-        by_name P c e is h = subst P (sym is.name) h
-
-        extent_of : (c : Chart) → IsAmong charts c → (all : Extent) × IsExtentOf (map sized_of charts) (sized_of c) all
-        extent_of c m = extents (sized_of c) (among_sized charts c m)
-
-        reached : (c : Chart) → IsAmong charts c → IsThereTo table EXPANDED_NESTING c.name
-        reached c m =
-            let (all, is) = extent_of c m in
-            there_to EXPANDED_NESTING c all m is (within_nesting charts (λ q h. texts.1.1.1.1.0 ExpandedNesting q (inl refl) h) c all m is)
-
         light : (c : Chart) → IsAmong charts c → size_to no_product table EXPANDED_NESTING c.name ≤ EXPANDED_SIZE
         light c m =
-            let (all, is) = extent_of c m in
+            let (all, is) = extents (sized_of c) (among_sized charts c m) in
             let small = small_to EXPANDED_NESTING c all m is in
             let within = within_size charts (λ q h. texts.1.1.1.1.0 Size q (inr (inl refl)) h) c all m is in
             omega (arith, small, within)

@@ -11,6 +11,7 @@ pub mod ChartLists
 pub mod SingleLaws
 pub mod LinkLaws
 pub mod CycleLaws
-pub mod PlainLaws
+pub mod GatePlaces
+pub mod HeldGates
 pub mod ExtentLaws
 pub mod OneTable

@@ -20,7 +20,8 @@ use Rattle.shared_parts.specs.PartRules.{ChartBreaksPartRule}
 use Rattle.shared_parts.specs.declared.faults.PartRule.TheVariants as part
 use Rattle.msc_meaning.specs.Tables.{Table}
 use Rattle.msc_meaning.specs.WovenTables.{IsTableOf}
-use Rattle.msc_acceptance.specs.ChartFaults.{CrossesAt, IsAloneAt, IsCyclicAt, IsMisnamedAt}
+use Rattle.msc_acceptance.specs.ChartFaults.{BreaksGatesAt, CrossesAt, IsAloneAt, IsCyclicAt, IsMisnamedAt}
+use Rattle.gate_rules.specs.declared.faults.GateRule.TheVariants as gate
 use Rattle.general_ordering.specs.EventNames.{Unknown, Twice}
 use Rattle.msc_instances.specs.Instances.{instances}
 use Rattle.msc_instances.specs.NameFaults.{ChartNamesOther, ChartNamesTwice}
@@ -48,6 +49,11 @@ BreaksOf charts CreateTwice place = InOne ChartCreatesTwice charts place
 BreaksOf charts AfterStop place = InOne ChartGoesOn charts place
 BreaksOf charts Crossed place = InOne CrossesAt charts place
 BreaksOf charts Unmatched place = InOne IsAloneAt charts place
+BreaksOf charts NoGate place = BreaksGatesAt gate.NoGate charts place
+BreaksOf charts GateTwice place = BreaksGatesAt gate.GateTwice charts place
+BreaksOf charts GateWays place = BreaksGatesAt gate.GateWays charts place
+BreaksOf charts GateSplit place = BreaksGatesAt gate.GateSplit charts place
+BreaksOf charts GateOnLoop place = BreaksGatesAt gate.GateOnLoop charts place
 BreaksOf charts UnknownEvent place = InOne (IsMisnamedAt Unknown) charts place
 BreaksOf charts EventNamedTwice place = InOne (IsMisnamedAt Twice) charts place
 BreaksOf charts Cyclic place = IsCyclicAt charts place
@@ -62,11 +68,6 @@ BreaksOf charts (Unsupported form) place = ⊥
 BreaksOf charts TooDeep place = ⊥
 -- rules on forms that aren't built
 BreaksOf charts Nodes place = ⊥
-BreaksOf charts NoGate place = ⊥
-BreaksOf charts GateTwice place = ⊥
-BreaksOf charts GateWays place = ⊥
-BreaksOf charts GateSplit place = ⊥
-BreaksOf charts GateOnLoop place = ⊥
 BreaksOf charts DecompositionMismatch place = ⊥
 BreaksOf charts SharedPart place = ⊥
 BreaksOf charts Inside place = ⊥

@@ -5,6 +5,8 @@ use Rattle.chart_forms.specs.BodyEvents.{events_within}
 use Rattle.chart_forms.specs.BuiltBodies.{IsBuiltBody}
 use Rattle.chart_forms.specs.TableSizes.{no_product, size_to}
 use Rattle.gate_ends.specs.FoundEnds.{AreAll, level_names}
+use Rattle.gate_ends.specs.LevelGates.{items_in}
+use Rattle.gate_rules.specs.GateLaws.{HasGates}
 use Rattle.general_ordering.specs.EventNames.{BreaksNameRule, Twice}
 use Rattle.msc_base.specs.Lists.{AreDifferent}
 use Rattle.msc_base.specs.NameTables.{with_name}
@@ -12,6 +14,7 @@ use Rattle.msc_base.specs.Orders.{Once}
 use Rattle.msc_base.specs.declared.limits.TheConstants.Limits.{EXPANDED_NESTING, EXPANDED_SIZE, INSTANCES}
 use Rattle.msc_base.specs.declared.place.Place.{Place}
 use Rattle.msc_meaning.specs.Bodies.{Body, EventNode}
+use Rattle.msc_meaning.specs.BodyLevels.{BodyLevel, EachLevel, body_levels}
 use Rattle.msc_meaning.specs.Levels.{IsWovenLevel}
 use Rattle.msc_meaning.specs.Pieces.{Piece}
 use Rattle.msc_meaning.specs.Tables.{ChartEntry, Table, Woven, Basic, HighLevel, chart_at, refinements}
@@ -60,12 +63,18 @@ abbrev pub table_instances : List (List ℕ) → Table → List (List ℕ)
 table_instances seen [] = seen
 table_instances seen (c ∷ table) = table_instances (fold with_name seen (content_instances c.content)) table
 
--- the charts are accepted one by one and have different names; each chart that is named is there, and each expansion has an order and is
--- within the limits
+-- the levels of a chart
+abbrev pub content_levels : Woven → List BodyLevel
+content_levels (Basic body) = body_levels body
+content_levels (HighLevel drawn) = []
+
+-- the charts are accepted one by one and have different names; each chart that is named is there, the called gates of each level have one
+-- end, and each expansion has an order and is within the limits
 pub record IsAcceptedTable (table : Table) : Type 0 where
   pub charts : EachChart IsAcceptedChart table
   pub different : AreDifferent (map (λ (c : ChartEntry). c.name) table)
   pub few_instances : length (table_instances [] table) ≤ INSTANCES
   pub there : EachChart (λ c. IsThereTo table EXPANDED_NESTING c.name) table
+  pub gates : EachChart (λ c. EachLevel (λ l. HasGates table (items_in l.body)) (content_levels c.content)) table
   pub small : EachChart (λ c. size_to no_product table EXPANDED_NESTING c.name ≤ EXPANDED_SIZE) table
   pub ordered : AreOrdered table EXPANDED_NESTING table

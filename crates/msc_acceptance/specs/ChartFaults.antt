@@ -1,4 +1,4 @@
--- Where the body of a chart breaks a rule: columns that cross, messages without partner, names of events, a cyclic order.
+-- Where what charts are woven to breaks a rule: columns that cross, messages without partner, gates, names of events, a cyclic order.
 use Rattle.std.specs.Prelude.{◌≡◌, ℕ, List}
 use Rattle.chart_cycles.specs.Cycles.{IsOrdered}
 use Rattle.msc_base.specs.Lists.{IsAmong}
@@ -12,6 +12,8 @@ use Rattle.msc_meaning.specs.Partners.{LacksPartner}
 use Rattle.msc_meaning.specs.Pieces.{statements_pieces}
 use Rattle.msc_meaning.specs.Tables as table
 use Rattle.msc_meaning.specs.WovenTables.{AreEntriesOf, IsWovenContent}
+use Rattle.gate_rules.specs.GateRules.{BreaksGateRule}
+use Rattle.gate_rules.specs.declared.faults.GateRule.{GateRule}
 use Rattle.general_ordering.specs.EventNames.{BreaksNameRule, EventNameRule}
 use Rattle.msc_instances.specs.Instances.{instances}
 
@@ -38,6 +40,12 @@ pub record IsMisnamedAt (rule : EventNameRule) (chart : Chart) (place : Place) :
   pub body : Body
   pub woven : IsBodyOf chart body
   pub misnamed : BreaksNameRule rule body place
+
+-- at that place what the charts are woven to breaks a rule on gates
+pub record BreaksGatesAt (rule : GateRule) (charts : List Chart) (place : Place) : Type 0 where
+  pub table : table.Table
+  pub woven : AreEntriesOf instances charts table
+  pub breaks : BreaksGateRule table rule place
 
 -- one of the charts stands there, and the events of its expansion, with those of the charts that it names, can't happen in any order
 pub record IsCyclicAt (charts : List Chart) (place : Place) : Type 0 where

@@ -11,13 +11,16 @@ use Rattle.msc_tree.specs.Statements.{Statement, statements}
 use Rattle.msc_rules.specs.FirstFaults.{Keeps, IsFirst}
 use Rattle.msc_rules.specs.Rules.{number_of}
 use Rattle.msc_rules.specs.declared.rule.Rule.{Rule}
-use Rattle.msc_rules.specs.declared.rule.Rule.TheVariants.{NotBuilt, Charts, Instances, LoopBound, NamedTwice, Undeclared, MissingChart, Recursive, Uncovered, ExpandedNesting, Size, Total, NotShared, OperandsDiffer, ExcPlace, CreatePlace, CreateTwice, AfterStop, Crossed, Unmatched, UnknownEvent, EventNamedTwice, Cyclic}
+use Rattle.msc_rules.specs.declared.rule.Rule.TheVariants.{NotBuilt, Charts, Instances, LoopBound, NamedTwice, Undeclared, MissingChart, Recursive, Uncovered, ExpandedNesting, Size, Total, NotShared, OperandsDiffer, ExcPlace, CreatePlace, CreateTwice, AfterStop, Crossed, Unmatched, NoGate, GateTwice, GateWays, GateSplit, GateOnLoop, UnknownEvent, EventNamedTwice, Cyclic}
 use Rattle.msc_meaning.specs.Bodies.{Body}
 use Rattle.msc_meaning.specs.Pieces.{statements_pieces}
 use Rattle.msc_meaning.specs.Tables.{Table}
 use Rattle.msc_meaning.specs.Views.{entry_view, table_view}
 use Rattle.msc_meaning.specs.WovenTables.{AreEntriesOf, IsEntryOf}
 use Rattle.msc_acceptance.specs.ChartFaults.{CrossesAt, IsAloneAt, IsCyclicAt, IsMisnamedAt}
+use Rattle.gate_rules.specs.GateRules.{BreaksGateRule}
+use Rattle.gate_rules.specs.declared.faults.GatePlaces.{GatePlaces}
+use Rattle.gate_rules.specs.declared.faults.GateRule.TheVariants as gate
 use Rattle.general_ordering.specs.EventNames.{Unknown, Twice}
 use Rattle.msc_acceptance.specs.declared.tables.BodyFaults.{BodyFaults}
 use Rattle.msc_instances.specs.NameFaults.{ChartNamesOther, ChartNamesTwice}
@@ -77,6 +80,9 @@ columns = Crossed ∷ []
 abbrev pub messages : List Rule
 messages = Unmatched ∷ []
 
+abbrev pub gates : List Rule
+gates = NoGate ∷ GateTwice ∷ GateWays ∷ GateSplit ∷ GateOnLoop ∷ []
+
 abbrev pub event_names : List Rule
 event_names = UnknownEvent ∷ EventNamedTwice ∷ []
 
@@ -93,11 +99,15 @@ link_groups = references ∷ sizes ∷ []
 
 -- the rules on what charts are woven to, one by one
 abbrev pub body_groups : List (List Rule)
-body_groups = columns ∷ messages ∷ event_names ∷ []
+body_groups = columns ∷ messages ∷ []
 
--- and together
+-- and together: up to the names of events
+abbrev pub gate_groups : List (List Rule)
+gate_groups = gates ∷ event_names ∷ []
+
+-- and the order
 abbrev pub table_groups : List (List Rule)
-table_groups = cycles ∷ []
+table_groups = gate_groups ++ (cycles ∷ [])
 
 abbrev pub all_groups : List (List Rule)
 all_groups = text_groups ++ (body_groups ++ table_groups)
@@ -239,10 +249,18 @@ pub record TellsEarliest (table : Table) (stands : List Place) (place : Option P
   pub told : TellCycles table EXPANDED_NESTING table flags
   pub least : IsLeast (IsFlagged stands flags) place
 
--- the charts are these entries, whose events can happen in an order; or the order of one is cyclic
+-- the earliest places at which the charts of the table break the rules on gates
+pub record AreGatePlaces (table : Table) (places : GatePlaces) : Type 0 where
+  pub no_gate : IsLeast (BreaksGateRule table gate.NoGate) places.no_gate
+  pub twice : IsLeast (BreaksGateRule table gate.GateTwice) places.twice
+  pub ways : IsLeast (BreaksGateRule table gate.GateWays) places.ways
+  pub split : IsLeast (BreaksGateRule table gate.GateSplit) places.split
+  pub on_loop : IsLeast (BreaksGateRule table gate.GateOnLoop) places.on_loop
+
+-- the charts are these entries, which keep the rules on them together; or their first fault by these
 abbrev pub IsSettled : List Chart → Table → Decision → Type 0
-IsSettled charts table (decision.Accepted accepted) = (table_view accepted ≡ table) × AreOrdered table EXPANDED_NESTING table × IsLeast (IsCyclicAt charts) None
-IsSettled charts table (decision.Faulty fault) = (fault.rule ≡ Cyclic) × IsLeast (IsCyclicAt charts) (Some fault.place)
+IsSettled charts table (decision.Accepted accepted) = (table_view accepted ≡ table) × AreOrdered table EXPANDED_NESTING table × AllKept (BreaksOf charts) table_groups
+IsSettled charts table (decision.Faulty fault) = IsFirst number_of (BreaksOf charts) table_groups fault
 
 -- ---- the document
 

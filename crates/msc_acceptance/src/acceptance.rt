@@ -13,6 +13,7 @@ ghost use Rattle.msc_acceptance.specs.AcceptedCharts.{IsAcceptedTable};
 
 use crate::deciding::{Decision, decide};
 use crate::{Accepted, DocFault};
+use gate_rules::laws::levels_have_gates;
 use msc_base::{NoMemory, Place};
 use msc_tree::RawDocument;
 use std::alloc::Global;
@@ -32,6 +33,7 @@ pub fn accept(alloc: Global, raw: RawDocument) -> Result<Accepted, DocFault>
 {
     built_charts_are_known();
     woven_charts_are_known();
+    levels_have_gates();
     match decide(alloc, raw.charts) {
         Ok(Decision::Accepted(accepted)) => Ok(accepted),
         Ok(Decision::Faulty(fault)) => Err(DocFault::Refused {

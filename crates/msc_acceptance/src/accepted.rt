@@ -1,11 +1,13 @@
 //! The charts of an accepted document, in the order of the text and by name.
 
 ghost use Rattle.std.specs.Prelude.{◌≡◌, ◌≤◌, length, option_copied, option_map};
-ghost use Rattle.expanded_charts.specs.Making.{HasNames};
+ghost use Rattle.gate_ends.specs.LevelGates.{HasNames};
+ghost use Rattle.gate_tables.specs.ChartGates.{AreGatesOf};
 ghost use Rattle.msc_base.specs.declared.limits.TheConstants.Limits.{CHARTS};
 ghost use Rattle.msc_meaning.specs.Tables.{chart_at};
 ghost use Rattle.msc_meaning.specs.Views.{entry_view, table_view};
 
+use gate_tables::GateTables;
 use msc_base::{NameTable, Place};
 use msc_meaning::ChartEntry;
 use msc_rules::Rule;
@@ -25,12 +27,15 @@ pub enum DocFault {
 pub struct Accepted {
     held: Vec<ChartEntry>,
     names: NameTable,
+    gates: GateTables,
 }
 
 impl Model for Accepted {
     ghost use Rattle.std.specs.Prelude.{◌≤◌, List, length};
     ghost use Rattle.msc_base.specs.declared.limits.TheConstants.Limits.{CHARTS};
-    ghost use Rattle.expanded_charts.specs.Making.{HasNames};
+    ghost use Rattle.gate_ends.specs.LevelGates.{HasNames};
+    ghost use Rattle.gate_tables.specs.ChartGates.{AreGatesOf};
+    ghost use Rattle.msc_meaning.specs.Views.{table_view};
     ghost use Rattle.std.specs.Coded.{codes};
     ghost use Rattle.msc_meaning.specs.contracts.body.Item as item;
     ghost use Rattle.msc_tree.specs.contracts.expression.RefExpr as expression;
@@ -43,17 +48,18 @@ impl Model for Accepted {
 
     ghost view = { λ a. a.held.items };
 
-    ghost invariant = { λ a. (length a.held.items ≤ CHARTS) × HasNames a.held.items a.names };
+    ghost invariant = { λ a. (length a.held.items ≤ CHARTS) × HasNames a.held.items a.names × AreGatesOf (table_view a.held.items) a.gates };
 }
 
 impl Accepted {
-    /// An accepted document of these charts, which have these names.
-    pub(crate) fn of_entries(held: Vec<ChartEntry>, names: NameTable) -> Accepted
+    /// An accepted document of these charts, which have these names, and say this of their gates.
+    pub(crate) fn of_entries(held: Vec<ChartEntry>, names: NameTable, gates: GateTables) -> Accepted
         requires few { length held.items ≤ CHARTS }
         requires named { HasNames held.items names }
+        requires gates { AreGatesOf (table_view held.items) gates }
         ensures { result ≡ held.items }
     {
-        Accepted { held, names }
+        Accepted { held, names, gates }
     }
 
     /// The charts, in the order of the text.
@@ -68,6 +74,13 @@ impl Accepted {
         ensures { HasNames self.now result.now }
     {
         &self.names
+    }
+
+    /// What the charts say of their gates.
+    pub fn gates(&self) -> &GateTables
+        ensures { AreGatesOf (table_view self.now) result.now }
+    {
+        &self.gates
     }
 
     /// How many charts there are. It takes no memory.

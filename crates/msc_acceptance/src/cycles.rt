@@ -1,12 +1,14 @@
-//! The earliest chart whose order is cyclic, and what the entries of charts come to by it: for `deciding`.
+//! The earliest chart whose order is cyclic, and what the entries of charts come to together: for `deciding`.
 
 ghost use Rattle.std.specs.Prelude.{◌≡◌, ◌≤◌, IfOk, List, length, map};
-ghost use Rattle.expanded_charts.specs.Making.{HasNames};
-ghost use Rattle.expanded_charts.specs.PlainCharts.{IsPlainTable};
-ghost use Rattle.msc_acceptance.specs.Deciding.{IsFlagged, IsSettled, TellsEarliest};
+ghost use Rattle.expanded_charts.specs.BasicCharts.{IsBasicTable};
+ghost use Rattle.gate_ends.specs.FoundEnds.{AreAll, GoesTo};
+ghost use Rattle.gate_ends.specs.LevelGates.{HasNames};
+ghost use Rattle.gate_tables.specs.ChartGates.{AreGatesOf};
+ghost use Rattle.msc_acceptance.specs.Deciding.{AreFaultsIn, IsFlagged, IsSettled, IsWhole, TellsEarliest};
 ghost use Rattle.msc_base.specs.Lists.{AreDifferent};
 ghost use Rattle.msc_base.specs.Places.{IsLeast};
-ghost use Rattle.msc_base.specs.declared.limits.TheConstants.Limits.{CHARTS};
+ghost use Rattle.msc_base.specs.declared.limits.TheConstants.Limits.{CHARTS, EXPANDED_NESTING};
 ghost use Rattle.msc_instances.specs.Instances.{instances};
 ghost use Rattle.msc_meaning.specs.Views.{table_view};
 ghost use Rattle.msc_meaning.specs.WovenTables.{AreEntriesOf};
@@ -15,7 +17,10 @@ ghost use Rattle.msc_tree.specs.Charts.{Chart};
 
 use crate::Accepted;
 use crate::deciding::Decision;
+use crate::gates::table_fault;
+use crate::tables::BodyFaults;
 use chart_cycles::cyclic_charts;
+use gate_tables::{GateTables, gate_tables};
 use msc_base::{Limits, NameTable, NoMemory, Place, earlier_if};
 use msc_meaning::ChartEntry;
 use msc_rules::{Broken, Rule};
@@ -53,35 +58,44 @@ fn cycle_place(
     alloc: Global,
     entries: &[ChartEntry],
     names: &NameTable,
+    gates: &GateTables,
     stands: &[Place],
 ) -> Result<Option<Place>, NoMemory>
     requires named { HasNames entries.now names.now }
     requires different { AreDifferent names.now }
-    requires plain { IsPlainTable (table_view entries.now) }
+    requires basic { IsBasicTable (table_view entries.now) }
+    requires gates { AreGatesOf (table_view entries.now) gates.now }
     ensures { IfOk result (TellsEarliest (table_view entries.now) stands.now) }
 {
     let depth = Limits::EXPANDED_NESTING as u32;
-    let flags = cyclic_charts(alloc, entries, names, depth)?;
+    let flags = cyclic_charts(alloc, entries, names, gates, depth)?;
     Ok(earliest_flagged(stands, flags.as_slice()))
 }
 
-/// What entries of charts that stand there come to: they are accepted, or the order of one is cyclic.
+/// What entries of charts that stand there, and whose own faults these are, come to: they are accepted, or break a rule together.
 pub fn settle(
     alloc: Global,
     entries: Vec<ChartEntry>,
+    faults: BodyFaults,
     stands: &[Place],
 ) -> Result<Decision, NoMemory>
     requires few { length entries.items ≤ CHARTS }
     requires different { AreDifferent (map (λ (c : ChartEntry). c.name) entries.items) }
-    requires plain { IsPlainTable (table_view entries.items) }
-    ensures { (charts : List Chart) → AreEntriesOf instances charts (table_view entries.items) → stands.now ≡ map (λ (c : Chart). c.place) charts → IfOk result (IsSettled charts (table_view entries.items)) }
+    requires basic { IsBasicTable (table_view entries.items) }
+    requires deep { AreAll (GoesTo (table_view entries.items) EXPANDED_NESTING) (map (λ (c : ChartEntry). c.name) entries.items) }
+    requires whole { IsWhole faults }
+    ensures { (charts : List Chart) → AreEntriesOf instances charts (table_view entries.items) → AreFaultsIn charts faults → stands.now ≡ map (λ (c : Chart). c.place) charts → IfOk result (IsSettled charts (table_view entries.items)) }
 {
     let names = entry_names(alloc, entries.as_slice())?;
-    match cycle_place(alloc, entries.as_slice(), &names, stands)? {
+    let gates = gate_tables(alloc, entries.as_slice(), &names)?;
+    if let Some(fault) = table_fault(alloc, entries.as_slice(), &names, &gates, faults)? {
+        return Ok(Decision::Faulty(fault));
+    }
+    match cycle_place(alloc, entries.as_slice(), &names, &gates, stands)? {
         Some(place) => Ok(Decision::Faulty(Broken {
             rule: Rule::Cyclic,
             place,
         })),
-        None => Ok(Decision::Accepted(Accepted::of_entries(entries, names))),
+        None => Ok(Decision::Accepted(Accepted::of_entries(entries, names, gates))),
     }
 }

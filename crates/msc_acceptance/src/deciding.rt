@@ -7,7 +7,7 @@ ghost use Rattle.chart_text.specs.WellFormed.{AreAllWellFormed};
 ghost use Rattle.msc_rules.specs.FirstFaults.{IsBest};
 ghost use Rattle.msc_rules.specs.Rules.{number_of};
 ghost use Rattle.msc_acceptance.specs.Acceptance.{BreaksOf};
-ghost use Rattle.msc_acceptance.specs.Deciding.{AreFaultsIn, AreTextPlaces, HaveExtents, IsDecided, IsFirstOf, IsReading, IsWhole, body_groups, creations, event_names, forms, limits, names, parts, text_groups};
+ghost use Rattle.msc_acceptance.specs.Deciding.{AreFaultsIn, AreTextPlaces, HaveExtents, IsDecided, IsFirstOf, IsReading, IsWhole, body_groups, creations, forms, limits, names, parts, text_groups};
 ghost use Rattle.msc_acceptance.specs.Rules.{InOne};
 ghost use Rattle.msc_base.specs.Places.{IsLeast};
 ghost use Rattle.msc_tree.specs.Charts.{Chart};
@@ -131,16 +131,6 @@ fn text_fault(
     part_fault(alloc, charts, reading)
 }
 
-/// The first fault of the names of events.
-fn event_name_fault(faults: BodyFaults) -> Option<Broken<Rule>>
-    requires whole { IsWhole faults }
-    ensures { (charts : List Chart) → AreFaultsIn charts faults → IsBest number_of (BreaksOf charts) event_names result }
-{
-    let unknown = broken_at(Rule::UnknownEvent, faults.unknown);
-    let twice = broken_at(Rule::EventNamedTwice, faults.twice);
-    earlier_fault(unknown, twice)
-}
-
 /// The first fault of the rules on what each chart is woven to.
 fn body_fault(faults: BodyFaults) -> Option<Broken<Rule>>
     ensures first { (charts : List Chart) → AreFaultsIn charts faults → IsFirstOf charts body_groups result }
@@ -158,7 +148,7 @@ fn body_fault(faults: BodyFaults) -> Option<Broken<Rule>>
             place,
         });
     }
-    event_name_fault(faults)
+    None
 }
 
 /// The table of these charts, whose text is well formed, or their first fault.
@@ -176,5 +166,5 @@ pub fn decide(alloc: Global, charts: Vec<RawChart>) -> Result<Decision, NoMemory
     if let Some(fault) = body_fault(made.faults) {
         return Ok(Decision::Faulty(fault));
     }
-    settle(alloc, made.entries, reading.stands.as_slice())
+    settle(alloc, made.entries, made.faults, reading.stands.as_slice())
 }

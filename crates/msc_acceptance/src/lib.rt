@@ -6,6 +6,7 @@ mod accepted;
 mod cycles;
 mod deciding;
 mod declaring;
+mod gates;
 mod limits;
 mod links;
 mod listing;

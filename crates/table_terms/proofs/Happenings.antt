@@ -1,6 +1,6 @@
--- The events of a chart's expansion are those of its charts, construct by construct.
-use Rattle.std.specs.Prelude.{ℕ, suc, List, [], ◌∷◌, ◌++◌, map}
-use Rattle.std.proofs.Common.{◌≡◌, refl, ◌∙◌, ap, ap₂, append-nil}
+-- The events of a chart's expansion are its happenings, construct by construct.
+use Rattle.std.specs.Prelude.{ℕ, zero, suc, List, [], ◌∷◌, ◌++◌, Option, None, Some, map}
+use Rattle.std.proofs.Common.{◌≡◌, refl, ◌∙◌, sym, subst, ap, ap₂, append-nil}
 use Rattle.std.proofs.lemmas.List.{map-append}
 use Rattle.msc_unfolding.specs.Unfoldings.{Happening}
 use Rattle.msc_tree.specs.declared.reference.InlineForm.{InlineForm}
@@ -11,11 +11,14 @@ use Rattle.msc_meaning.specs.Bodies.{EventNode, InlinePart, Body, level, WovenIt
 use Rattle.msc_meaning.specs.ChartUnfoldings.{gates_of, under}
 use Rattle.msc_meaning.specs.FarEnds.{GateMap, Around, Gates, gates_referred, inside, happening}
 use Rattle.msc_meaning.specs.InnerEvents.{GateEnd}
-use Rattle.msc_meaning.specs.Tables.{Table, Woven, Basic, HighLevel}
+use Rattle.msc_meaning.specs.Tables.{Table, ChartEntry, chart_at, Woven, Basic, HighLevel, Refinement, refinements}
 use Rattle.expansion_tree.specs.Expansions.{all_events_in, events_in}
 use Rattle.expanded_charts.specs.Expanding as tree
 use Rattle.expanded_charts.specs.Expanding.{NumberedEvent, Expanded, ExpandedParts, expand_events, expand, expand_all, expand_level, expand_items, expand_item, expand_operands, expand_refinings, expand_woven, expand_entry, expand_charts}
-use Rattle.expanded_terms.specs.WholeCharts.{events_happenings, expression_happenings, expressions_happenings, level_happenings, items_happenings, item_happenings, operands_happenings, woven_happenings}
+use Rattle.expanded_terms.specs.WholeCharts.{events_happenings, expression_happenings, expressions_happenings, level_happenings, items_happenings, item_happenings, operands_happenings, entry_happenings, happenings_to, woven_happenings}
+use Rattle.expanded_charts.specs.BasicCharts.{IsBasicTable}
+use Rattle.expanded_charts.proofs.ChartParts.{basic_entry}
+use Rattle.gate_ends.specs.FoundEnds.{table_ends}
 
 abbrev happenings : List NumberedEvent → List Happening
 happenings es = map (λ (e : NumberedEvent). e.happening) es
@@ -83,3 +86,16 @@ module _ (ends_of : WovenItems → List GateEnd) (chart : tree.Charts) (of_chart
   pub woven_seen : (table : Table) (gates : GateMap) (n : ℕ) (content : Woven) → seen (expand_woven chart ends_of table gates n [] content) ≡ woven_happenings ends_of of_chart table gates [] content
   woven_seen table gates n (Basic held) = level_seen (under gates) n held
   woven_seen table gates n (HighLevel drawn) = refl
+
+-- ---- charts of a table
+
+pub chart_seen : (table : Table) → IsBasicTable table → (depth : ℕ) (name : List ℕ) (gates : GateMap) (n : ℕ) → seen (expand_charts (table_ends table) table depth name gates n) ≡ happenings_to table (table_ends table) depth name gates
+chart_seen table p zero name gates n = refl
+chart_seen table p (suc depth) name gates n = entry (chart_seen table p depth) (chart_at table name) (λ c e. (basic_entry table name c p e).0)
+  where
+    entry : ((name : List ℕ) (gates : GateMap) (n : ℕ) → seen (expand_charts (table_ends table) table depth name gates n) ≡ happenings_to table (table_ends table) depth name gates)
+        → (o : Option ChartEntry) → ((c : ChartEntry) → o ≡ Some c → refinements c.decls ≡ [])
+        → seen (expand_entry (table_ends table) table (expand_charts (table_ends table) table depth) gates n o) ≡ entry_happenings (table_ends table) (happenings_to table (table_ends table) depth) table gates o
+    entry known None f = refl
+    entry known (Some c) f = subst (λ (rs : List Refinement). seen (expand_woven (expand_charts (table_ends table) table depth) (table_ends table) table gates n rs c.content) ≡ woven_happenings (table_ends table) (happenings_to table (table_ends table) depth) table gates rs c.content) (sym (f c refl))
+        (woven_seen (table_ends table) (expand_charts (table_ends table) table depth) (happenings_to table (table_ends table) depth) known table gates n c.content)

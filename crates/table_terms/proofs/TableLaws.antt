@@ -17,16 +17,17 @@ use Rattle.term_meaning.specs.Meanings.{Means}
 use Rattle.term_tables.specs.NetValues.{NetsValue}
 use Rattle.msc_meaning.specs.FarEnds.{no_gates}
 use Rattle.msc_meaning.specs.Meanings.{Finished, Begun}
-use Rattle.msc_meaning.specs.Tables.{Table}
+use Rattle.msc_meaning.specs.Tables.{Table, ChartEntry, refinements}
 use Rattle.expansion_tree.specs.Expansions.{events_in, map_events}
 use Rattle.expansion_tree.specs.Numbered as numbered
 use Rattle.expansion_tree.specs.declared.tree.ExpandedEvent.{ExpandedEvent}
 use Rattle.expansion_order.specs.Ranks.{CanBeRanked}
 use Rattle.expansion_terms.specs.ExpansionTerms.{numbered_term}
 use Rattle.expanded_charts.specs.Expanding.{NumberedEvent}
-use Rattle.expanded_charts.specs.Making.{no_ends}
+use Rattle.gate_ends.specs.EndLaws.{EndsAreFound}
+use Rattle.gate_ends.specs.FoundEnds.{table_ends}
 use Rattle.expanded_charts.specs.Numbering.{at_instances, at_two, event_by, instance_number, number_of_label}
-use Rattle.expanded_charts.specs.PlainCharts.{IsPlainTable}
+use Rattle.expanded_charts.specs.BasicCharts.{IsBasicTable, IsBasicWoven}
 use Rattle.expanded_charts.specs.declared.numbering.Numbering.{Numbering}
 use Rattle.expanded_terms.specs.ExpandedLaws.{ExpandedTermsMean}
 use Rattle.expanded_terms.specs.ExpandedTerms.{charts_to}
@@ -39,13 +40,14 @@ use Rattle.expanded_terms.specs.NormalTerms.{ExpandedTermsAreNormal}
 use Rattle.expanded_terms.specs.PlacedTerms.{ExpandedTermsPlaced, IsPlaceable, child_of}
 use Rattle.expanded_terms.specs.RankedTerms.{RankedChartsAreSound, numbered_event, numbered_expansion}
 use Rattle.expanded_terms.specs.WholeCharts.{WholeChartsAreFit, happenings_to}
-use Rattle.expanded_terms.proofs.PlainTies.{outside_ties, plain_ties_free}
+use Rattle.expanded_terms.specs.GateTies.{IsQuietTable}
+use Rattle.expanded_terms.specs.WholeCharts.{IsWholeTo}
+use Rattle.expanded_terms.proofs.GateTies.{gate_ties_free, outside_ties}
 use Rattle.expanded_terms.proofs.RankedChartTerms.{mapped_term}
-use Rattle.table_terms.specs.CompleteCharts.{IsCompleteTo}
 use Rattle.table_terms.specs.TableLaws.{TableTermsAreLight, TableTermsArePlaced, TableTermsAreSound, TableTermsMean, expanded_size}
 use Rattle.table_terms.specs.TableTerms.{IsTermOf, chart_expansion, chart_numbering, numbered_chart, labelled}
 use Rattle.table_terms.proofs.Numbered.{AreNamedOnce, Has, events_once, have_events, label_found, name_found}
-use Rattle.table_terms.proofs.WholeCharts.{chart_seen, complete_whole}
+use Rattle.table_terms.proofs.Happenings.{chart_seen}
 
 -- ---- events by a numbering are events by its names and labels
 
@@ -63,7 +65,7 @@ at_same s n l i (Some j) = two_same (nat_lt (instance_number s j) i) n l i (inst
 event_same : (s : Numbering) (e : NumberedEvent) → event_by s e ≡ numbered_event s.names s.labels e
 event_same s e = at_same s e.number (number_of_label s e.happening.label) (instance_number s e.happening.label.at) e.happening.also
 
-chart_same : (table : Table) (name : List ℕ) → numbered_chart table name ≡ numbered_expansion (chart_numbering table name).names (chart_numbering table name).labels table no_ends EXPANDED_NESTING name
+chart_same : (table : Table) (name : List ℕ) → numbered_chart table name ≡ numbered_expansion (chart_numbering table name).names (chart_numbering table name).labels table (table_ends table) EXPANDED_NESTING name
 chart_same table name = ap (λ (f : NumberedEvent → ExpandedEvent). map_events f (chart_expansion table name)) (fun_ext (event_same (chart_numbering table name)))
 
 two_kept : (b : Bool) (n l i j : ℕ) → (event_at_two b n l i j).number ≡ n
@@ -111,46 +113,51 @@ module _ (table : Table) (name : List ℕ) where
   the_labels = (chart_numbering table name).labels
 
   abbrev the_term : Tree
-  the_term = (charts_to (by_names.event_term the_names the_labels) no_ends table EXPANDED_NESTING).term name no_gates 0
+  the_term = (charts_to (by_names.event_term the_names the_labels) (table_ends table) table EXPANDED_NESTING).term name no_gates 0
 
-  happening_named : IsPlainTable table → (h : Happening) → Among h (happenings_to table no_ends EXPANDED_NESTING name no_gates) → IsNameable the_names the_labels h
+  happening_named : IsBasicTable table → (h : Happening) → Among h (happenings_to table (table_ends table) EXPANDED_NESTING name no_gates) → IsNameable the_names the_labels h
   happening_named p h i = by (of_happening (events_in (chart_expansion table name)) h (subst (λ (l : List Happening). Among h l) (sym (chart_seen table p EXPANDED_NESTING name no_gates 0)) i))
     where
       by : (e : NumberedEvent) × Among e (events_in (chart_expansion table name)) × (e.happening ≡ h) → IsNameable the_names the_labels h
       by (e, j, q) = subst (λ (h : Happening). IsNameable the_names the_labels h) q (chart_nameable table name e j)
 
-  chart_fit : WholeChartsAreFit → IsPlainTable table → IsCompleteTo table EXPANDED_NESTING name → IsFitTo table no_ends (IsNameable the_names the_labels) EXPANDED_NESTING name no_gates
-  chart_fit fit p c = fit.nameable the_names the_labels table no_ends EXPANDED_NESTING name no_gates (complete_whole table p EXPANDED_NESTING name c) (happening_named p)
+  chart_fit : WholeChartsAreFit → IsBasicTable table → IsWholeTo table (table_ends table) EXPANDED_NESTING name → IsFitTo table (table_ends table) (IsNameable the_names the_labels) EXPANDED_NESTING name no_gates
+  chart_fit fit p c = fit.nameable the_names the_labels table (table_ends table) EXPANDED_NESTING name no_gates c (happening_named p)
 
   term_is : ExpansionsHaveTerms → (v : NetsValue) (x : Tree) → IsTermOf table name v x → x ≡ the_term
-  term_is have v x h = h.term ∙ ap numbered_term (chart_same table name) ∙ mapped_term (numbered_event the_names the_labels) (chart_expansion table name) ∙ have.term (by_names.event_term the_names the_labels) no_ends table EXPANDED_NESTING name no_gates 0
+  term_is have v x h = h.term ∙ ap numbered_term (chart_same table name) ∙ mapped_term (numbered_event the_names the_labels) (chart_expansion table name) ∙ have.term (by_names.event_term the_names the_labels) (table_ends table) table EXPANDED_NESTING name no_gates 0
+
+basic_among : (table : Table) (c : ChartEntry) → IsBasicTable table → Among c table → (refinements c.decls ≡ []) × IsBasicWoven c.content
+basic_among (d ∷ table) _ h first = h.0
+basic_among (d ∷ table) c h (later i) = basic_among table c h.1 i
+basic_among [] c h i = elim i [ ]
 
 pub table_terms_mean : ExpandedTermsMean → ExpandedTermsAreNormal → ExpansionsHaveTerms → WholeChartsAreFit → TableTermsMean
 table_terms_mean mean norm have fit = record {
   means = λ table name v x p c h. subst (λ (v : NetsValue). Means v (the_names table name) x (Finished table name) (Begun table name)) (sym h.nets)
       (subst (λ (x : Tree). Means (labelled (the_labels table name)) (the_names table name) x (Finished table name) (Begun table name)) (sym (term_is table name have v x h))
-      (mean.means (labelled (the_labels table name)) (the_names table name) table no_ends EXPANDED_NESTING name (named_once table name).names (named_once table name).labels tt (chart_fit table name fit p c)));
+      (mean.means (labelled (the_labels table name)) (the_names table name) table (table_ends table) EXPANDED_NESTING name (named_once table name).names (named_once table name).labels tt (chart_fit table name fit p c)));
   normal = λ permits table name v x p c h. subst (λ (x : Tree). IsNormal permits x) (sym (term_is table name have v x h))
-      (norm.normal permits (the_names table name) (the_labels table name) table no_ends EXPANDED_NESTING name no_gates 0 (chart_fit table name fit p c));
+      (norm.normal permits (the_names table name) (the_labels table name) table (table_ends table) EXPANDED_NESTING name no_gates 0 (chart_fit table name fit p c));
 }
 
-pub table_terms_are_sound : RankedChartsAreSound → ExpansionsHaveTerms → TableTermsAreSound
-table_terms_are_sound ranked have = record {
-  sound = λ table name v x p h can. subst (λ (v : NetsValue). IsFullySound (length v.labels) v.tables x) (sym h.nets)
+pub table_terms_are_sound : EndsAreFound → RankedChartsAreSound → ExpansionsHaveTerms → TableTermsAreSound
+table_terms_are_sound law ranked have = record {
+  sound = λ table name v x p quiet h can. subst (λ (v : NetsValue). IsFullySound (length v.labels) v.tables x) (sym h.nets)
       (subst (λ (x : Tree). IsFullySound (length (the_labels table name)) [] x) (sym (term_is table name have v x h))
-      (ranked.sound (labelled (the_labels table name)) (the_names table name) table no_ends EXPANDED_NESTING name tt (chart_nameable table name)
-      (outside_ties (numbered_event (the_names table name) (the_labels table name)) (number_kept (the_names table name) (the_labels table name)) (chart_expansion table name) (plain_ties_free no_ends table p EXPANDED_NESTING name no_gates 0))
+      (ranked.sound (labelled (the_labels table name)) (the_names table name) table (table_ends table) EXPANDED_NESTING name tt (chart_nameable table name)
+      (outside_ties (numbered_event (the_names table name) (the_labels table name)) (number_kept (the_names table name) (the_labels table name)) (chart_expansion table name) (gate_ties_free law table (table_ends table) (λ c i. (basic_among table c p i).0) quiet EXPANDED_NESTING name no_gates 0))
       (subst (λ (y : numbered.Expansion). CanBeRanked y) (chart_same table name) can)));
 }
 
 pub table_terms_are_light : ChartsAreLight → ExpansionsHaveTerms → TableTermsAreLight
 table_terms_are_light light have = record {
   light = λ table name v x h few. subst (λ (x : Tree). weight x ≤ expanded_size table name) (sym (term_is table name have v x h))
-      (light.light (by_names.event_term (the_names table name) (the_labels table name)) no_ends table EXPANDED_NESTING name no_gates 0 (λ i k. omega arith) few);
+      (light.light (by_names.event_term (the_names table name) (the_labels table name)) (table_ends table) table EXPANDED_NESTING name no_gates 0 (λ i k. omega arith) few);
 }
 
-chart_placeable : (table : Table) (name : List ℕ) → IsPlainTable table → ((e : NumberedEvent) → Among e (events_in (chart_expansion table name)) → e.happening.also ≡ child_of e.happening.label)
-    → (h : Happening) → Among h (happenings_to table no_ends EXPANDED_NESTING name no_gates) → IsPlaceable (the_names table name) (the_labels table name) h
+chart_placeable : (table : Table) (name : List ℕ) → IsBasicTable table → ((e : NumberedEvent) → Among e (events_in (chart_expansion table name)) → e.happening.also ≡ child_of e.happening.label)
+    → (h : Happening) → Among h (happenings_to table (table_ends table) EXPANDED_NESTING name no_gates) → IsPlaceable (the_names table name) (the_labels table name) h
 chart_placeable table name p f h i = by (of_happening (events_in (chart_expansion table name)) h (subst (λ (l : List Happening). Among h l) (sym (chart_seen table p EXPANDED_NESTING name no_gates 0)) i))
   where
     by : (e : NumberedEvent) × Among e (events_in (chart_expansion table name)) × (e.happening ≡ h) → IsPlaceable (the_names table name) (the_labels table name) h
@@ -160,6 +167,6 @@ pub table_terms_are_placed : ExpandedTermsPlaced → ExpansionsHaveTerms → Who
 table_terms_are_placed placed have fit = record {
   placed = λ table name v x p c h f. subst (λ (v : NetsValue). HaveOnePlace v.tables x) (sym h.nets)
       (subst (λ (x : Tree). HaveOnePlace [] x) (sym (term_is table name have v x h))
-      (placed.placed (the_names table name) (the_labels table name) table no_ends EXPANDED_NESTING name
-      (fit.placeable (the_names table name) (the_labels table name) table no_ends EXPANDED_NESTING name no_gates (complete_whole table p EXPANDED_NESTING name c) (chart_placeable table name p f))));
+      (placed.placed (the_names table name) (the_labels table name) table (table_ends table) EXPANDED_NESTING name
+      (fit.placeable (the_names table name) (the_labels table name) table (table_ends table) EXPANDED_NESTING name no_gates c (chart_placeable table name p f))));
 }

@@ -1,6 +1,6 @@
 -- A worked chart meets what the laws ask.
 use Rattle.std.specs.Prelude.{ℕ, suc, List, [], ◌∷◌, Some, None, codes}
-use Rattle.std.proofs.Common.{◌≡◌, refl, arith}
+use Rattle.std.proofs.Common.{◌≡◌, refl, sym, subst, arith}
 use Rattle.msc_base.specs.Orders.{Among, first, later}
 use Rattle.msc_base.specs.declared.limits.TheConstants.Limits.{EXPANDED_NESTING}
 use Rattle.expansion_tree.specs.Expansions.{events_in}
@@ -9,13 +9,19 @@ use Rattle.expansion_order.specs.Ranks.{CanBeRanked, DoPrecede}
 use Rattle.expanded_charts.specs.Expanding.{NumberedEvent}
 use Rattle.expanded_charts.specs.WorkedExpansions.{acting, twice, used_twice, using}
 use Rattle.expanded_terms.specs.FewPairs.{HasFewOwn}
+use Rattle.expanded_terms.specs.FitBodies.{AreEndsOf}
+use Rattle.expanded_terms.specs.GateTies.{IsQuietTable}
 use Rattle.expanded_terms.specs.JoinProducts.{IsFewTo}
-use Rattle.msc_meaning.specs.Bodies.{no_items, item_and, Single, Refer}
+use Rattle.expanded_terms.specs.WholeCharts.{IsWholeTo}
+use Rattle.gate_ends.specs.FoundEnds.{called_ends, chart_gates, table_ends}
+use Rattle.msc_meaning.specs.Bodies.{WovenItems, no_items, item_and, Single, Refer}
+use Rattle.msc_meaning.specs.Calls.{Call, calls}
+use Rattle.msc_meaning.specs.InnerEvents.{AreEnds, no_ends}
+use Rattle.msc_meaning.specs.MeaningLaws.{HaveOneEnd}
 use Rattle.msc_meaning.specs.WorkedCharts.{i}
 use Rattle.msc_meaning.specs.WorkedParts.{action, node, somewhere}
 use Rattle.expanded_terms.specs.PlacedTerms.{child_of}
 use Rattle.msc_meaning.specs.Tables.{Basic}
-use Rattle.table_terms.specs.CompleteCharts.{IsCompleteTo}
 use Rattle.table_terms.specs.TableTerms.{chart_expansion, numbered_chart}
 use Rattle.table_terms.specs.WorkedPremises.{PremisesAreMet}
 
@@ -30,11 +36,25 @@ goes_before s t first first e = omega arith
 goes_before s t (later a) b e = absurd (nothing_among a)
 goes_before s t first (later b) e = absurd (nothing_among b)
 
-acting_complete : (depth : ℕ) → IsCompleteTo used_twice (suc depth) (codes "B")
-acting_complete depth = record { entry = record { name = codes "B"; decls = []; content = Basic acting }; is = refl; complete = (tt, tt) }
+ends_of : (held : WovenItems) → calls held ≡ [] → AreEndsOf used_twice (table_ends used_twice) held
+ends_of held e = record {
+  there = subst (λ (cs : List Call). AreEnds used_twice held cs (called_ends (chart_gates used_twice) held cs)) (sym e) no_ends;
+  one = subst (λ (cs : List Call). HaveOneEnd used_twice held cs) (sym e) (λ c a. absurd (nothing_among a));
+}
 
-has_complete : IsCompleteTo used_twice EXPANDED_NESTING (codes "Z")
-has_complete = record { entry = record { name = codes "Z"; decls = []; content = Basic using }; is = refl; complete = ((acting_complete 254, (acting_complete 254, tt)), tt) }
+acting_whole : (depth : ℕ) → IsWholeTo used_twice (table_ends used_twice) (suc depth) (codes "B")
+acting_whole depth = record { entry = record { name = codes "B"; decls = []; content = Basic acting }; is = refl; whole = (ends_of (item_and (Single (node 0 i (action (codes "'x'")))) no_items) refl, (tt, tt)) }
+
+abbrev using_items : WovenItems
+using_items = item_and (Refer (record { name = None; expression = twice; joins = []; cover = i ∷ []; place = somewhere })) no_items
+
+has_whole : IsWholeTo used_twice (table_ends used_twice) EXPANDED_NESTING (codes "Z")
+has_whole = record { entry = record { name = codes "Z"; decls = []; content = Basic using }; is = refl; whole = (ends_of using_items refl, ((acting_whole 254, (acting_whole 254, tt)), tt)) }
+
+is_quiet : IsQuietTable used_twice
+is_quiet _ first = record { deep = tt; quiet = (λ c a. absurd (nothing_among a), tt) }
+is_quiet _ (later first) = record { deep = (tt, (tt, tt)); quiet = (λ c a. absurd (nothing_among a), tt) }
+is_quiet c (later (later a)) = absurd (nothing_among a)
 
 acting_few : HasFewOwn (item_and (Single (node 0 i (action (codes "'x'")))) no_items) []
 acting_few = record { numbers = (λ a. nothing_among a, tt); pairs = omega arith; calls = tt }
@@ -60,8 +80,9 @@ is_apart e (later (later a)) q = absurd (nothing_among a)
 
 pub premises_are_met : PremisesAreMet
 premises_are_met = record {
-  plain = ((refl, (tt, tt)), ((refl, (refl, tt)), tt));
-  complete = has_complete;
+  basic = ((refl, tt), ((refl, tt), tt));
+  whole = has_whole;
+  quiet = is_quiet;
   ranked = has_ranks;
   few = has_few;
   room = record { few = omega arith; apart = is_apart };

@@ -1,4 +1,3 @@
 pub mod TableTerms
-pub mod CompleteCharts
 pub mod TableLaws
 pub mod WorkedPremises

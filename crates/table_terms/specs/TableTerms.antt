@@ -9,14 +9,14 @@ use Rattle.msc_meaning.specs.Tables.{Table}
 use Rattle.expansion_tree.specs.Expansions.{Expansion, events_in}
 use Rattle.expansion_tree.specs.Numbered as numbered
 use Rattle.expanded_charts.specs.Expanding.{NumberedEvent, expansion}
-use Rattle.expanded_charts.specs.Making.{no_ends}
+use Rattle.gate_ends.specs.FoundEnds.{table_ends}
 use Rattle.expanded_charts.specs.Numbering.{numbered_by, numbering_of}
 use Rattle.expanded_charts.specs.declared.numbering.Numbering.{Numbering}
 use Rattle.expansion_terms.specs.ExpansionTerms.{numbered_term}
 
 -- the expansion of the chart of that name, whose references stand in each other no deeper than the limit
 abbrev pub chart_expansion : Table → List ℕ → Expansion NumberedEvent
-chart_expansion table name = expansion no_ends table EXPANDED_NESTING name
+chart_expansion table name = expansion (table_ends table) table EXPANDED_NESTING name
 
 -- its instances and labels
 abbrev pub chart_numbering : Table → List ℕ → Numbering

@@ -2,13 +2,15 @@
 
 ghost use Rattle.std.specs.Prelude.{◌≡◌, IfOk};
 ghost use Rattle.msc_meaning.specs.Views.{table_view};
-ghost use Rattle.expanded_charts.specs.Making.{HasNames};
-ghost use Rattle.expanded_charts.specs.PlainCharts.{IsPlainTable};
+ghost use Rattle.expanded_charts.specs.BasicCharts.{IsBasicTable};
+ghost use Rattle.gate_ends.specs.LevelGates.{HasNames};
+ghost use Rattle.gate_tables.specs.ChartGates.{AreGatesOf};
 ghost use Rattle.table_terms.specs.TableTerms.{HasRoom, IsTermOf, chart_numbering, labelled};
 
 use chart_term::Term;
 use expanded_charts::{ExpandedChart, expansion_of};
 use expansion_terms::term_of;
+use gate_tables::GateTables;
 use label_table::LabelTable;
 use msc_base::{Limits, NameTable, NoMemory};
 use msc_meaning::ChartEntry;
@@ -25,17 +27,19 @@ pub struct ChartTerm {
     pub labels: LabelTable,
 }
 
-/// The term of the chart of that name in a table of plain charts, of which the names are given in their order. It fails only for want of
-/// memory.
+/// The term of the chart of that name in a table of basic charts, of which the names are given in their order, and what they say of their
+/// gates. It fails only for want of memory.
 #[tactic(auto, using(crate::proofs::StoredCharts::chart_stored))]
 pub fn chart_of(
     alloc: Global,
     charts: &[ChartEntry],
     names: &NameTable,
+    gates: &GateTables,
     name: &[u8],
 ) -> Result<ChartTerm, NoMemory>
     requires named { HasNames charts.now names.now }
-    requires plain { IsPlainTable (table_view charts.now) }
+    requires basic { IsBasicTable (table_view charts.now) }
+    requires gates { AreGatesOf (table_view charts.now) gates.now }
     requires room { HasRoom (table_view charts.now) name.now }
     ensures term { IfOk result (λ made. IsTermOf (table_view charts.now) name.now (labelled made.labels) made.term) }
     ensures names { IfOk result (λ made. made.names ≡ (chart_numbering (table_view charts.now) name.now).names) }
@@ -44,7 +48,7 @@ pub fn chart_of(
     let ExpandedChart {
         expansion,
         numbering,
-    } = expansion_of(alloc, charts, names, depth, name)?;
+    } = expansion_of(alloc, charts, names, gates, depth, name)?;
     let term = term_of(alloc, &expansion)?;
     Ok(ChartTerm {
         term,

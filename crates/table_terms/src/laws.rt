@@ -7,8 +7,9 @@ use expanded_terms::{
     charts_are_light, expanded_terms_are_normal, expanded_terms_are_placed, expanded_terms_mean,
     expansions_have_terms, ranked_charts_are_sound, whole_charts_are_fit,
 };
+use gate_ends::ends_are_found;
 
-/// The term of a complete chart means the chart, and is in normal form.
+/// The term of a whole chart means the chart, and is in normal form.
 #[tactic(auto, using(crate::proofs::TableLaws::table_terms_mean))]
 pub fn table_terms_mean()
     ensures { TableTermsMean }
@@ -24,6 +25,7 @@ pub fn table_terms_mean()
 pub fn table_terms_are_sound()
     ensures { TableTermsAreSound }
 {
+    ends_are_found();
     ranked_charts_are_sound();
     expansions_have_terms();
 }

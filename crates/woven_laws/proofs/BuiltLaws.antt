@@ -14,7 +14,6 @@ use Rattle.msc_tree.specs.declared.event.Target.TheVariants.{Nobody, Env, Instan
 use Rattle.msc_tree.specs.Directions.{far_name}
 use Rattle.msc_tree.specs.declared.reference.InlineForm.{InlineForm}
 use Rattle.msc_tree.specs.declared.reference.InlineForm.TheVariants as inline
-use Rattle.msc_tree.specs.declared.reference.Join.{Join}
 use Rattle.msc_tree.specs.Charts.{Chart, Basic}
 use Rattle.msc_tree.specs.Statements.{Form, Operands, no_operands, operand_and, Statement, statements}
 use Rattle.msc_tree.specs.Statements as tree
@@ -25,12 +24,13 @@ use Rattle.msc_meaning.specs.Pieces.{Piece, operands_of, statements_pieces}
 use Rattle.msc_instances.specs.Instances.{instances}
 use Rattle.msc_instances.specs.NameFaults.{ChartNamesOther}
 use Rattle.msc_instances.specs.Notes.{address_notes, event_notes, events_notes, far_notes}
+use Rattle.chart_text.specs.Gathering.{place_if}
 use Rattle.chart_text.specs.Texts.{Scope, Side, Standing, an_item, behind, behind_all, in_column, own_scope}
 use Rattle.chart_text.specs.WellFormed.{IsWellFormed, is_at_one, is_well_formed_item, takes}
 use Rattle.level_pieces.proofs.PieceTexts.{parts_operands}
 use Rattle.level_pieces.specs.FormedPieces.{EachPiece}
-use Rattle.chart_forms.specs.BuiltBodies.{AreBuiltBodies, AreBuiltItems, AreBuiltNodes, IsBuiltBody, IsBuiltItem, IsBuiltNode, IsChild, creates_instance, has_operands, is_plain, names_no_gate}
-use Rattle.chart_forms.specs.NotBuilt.{IsBuilt, not_built_event, not_built_events, not_built_item, not_built_joins}
+use Rattle.chart_forms.specs.BuiltBodies.{AreBuiltBodies, AreBuiltItems, AreBuiltNodes, IsBuiltBody, IsBuiltItem, IsBuiltNode, IsChild, creates_instance, has_operands, tie_gates}
+use Rattle.chart_forms.specs.NotBuilt.{IsBuilt, not_built_event, not_built_events, not_built_item}
 use Rattle.creation_rules.specs.Creating.{ChartCreatesTwice, is_creator}
 use Rattle.creation_rules.specs.Placing.{is_creation}
 use Rattle.woven_laws.specs.BuiltCharts.{BuiltChartsAreKnown}
@@ -91,12 +91,8 @@ never_first : (ns : List (List ℕ)) (at child : List ℕ) → slice_get ns 0 �
 never_first [] at child here none same = cc
 never_first (n ∷ ns) at child here none same = let there : list_any (bytes_eq child) (n ∷ ns) ≡ true = any_from_one (n ∷ ns) child (inl (let is : n ≡ at = cc in same ∙ sym is)) in cc
 
-plain_event : (e : RawEvent) → not_built_event e ≡ [] → is_plain e ≡ true
-plain_event e h = never (is_plain e) e.place h
-
-both_true : (a b : Bool) → (a && b) ≡ true → (a ≡ true) × (b ≡ true)
-both_true true b e = (refl, e)
-both_true false b e = cc
+creates : (e : RawEvent) → not_built_event e ≡ [] → creates_instance e.kind e.target ≡ true
+creates e h = never (creates_instance e.kind e.target) e.place h
 
 -- the event's own instance isn't what it creates
 never_own : (side : Side) (leads : List (List ℕ)) (at child : List ℕ) → is_at_one side ≡ true → AreLeads side leads → slice_get leads 0 ≡ Some at → is_creator (own_scope side) child ≡ false → child ≡ at → ⊥
@@ -119,8 +115,7 @@ module _ (names leads : List (List ℕ)) (s : Standing) (at : List ℕ) (one : i
 
   node_built : (n : ℕ) (e : RawEvent) → not_built_event e ≡ [] → AreKnown names (event_notes s.scope e) → IsApartEvent s.side e → IsBuiltNode names (record { number = n; at = at; event = e })
   node_built n e none known apart =
-      let (gate, is) = both_true (names_no_gate e.target) (creates_instance e.kind e.target) (plain_event e none) in
-      (lead_among names leads at among here, gate, λ creates. child_known e.kind e.place e.target creates is known apart)
+      (lead_among names leads at among here, λ is. child_known e.kind e.place e.target is (creates e none) known apart)
 
   nodes_built : (n : ℕ) (es : List RawEvent) → not_built_events es ≡ [] → AreKnown names (events_notes s.scope es) → AreApartEvents s.side es → AreBuiltNodes names (nodes_from n at es)
   nodes_built n [] none known apart = tt
@@ -131,9 +126,9 @@ module _ (names leads : List (List ℕ)) (s : Standing) (at : List ℕ) (one : i
         nodes_built (suc n) es (right_nil (not_built_event e) (not_built_events es) none) (known_right names own others known) apart.1,
       )
 
-no_joins : (js : List Join) (place : Place) → not_built_joins js place ≡ [] → js ≡ []
-no_joins [] place h = refl
-no_joins (j ∷ js) place h = cc
+untied : (b : Bool) (place : Place) → place_if b place ≡ [] → b ≡ false
+untied true place h = cc
+untied false place h = refl
 
 -- the passage of a piece of that form
 formed : (p : Piece) (f : Form) → p.form ≡ f → IsBuiltPiece p → (is_well_formed_item (behind p.leads) f ≡ true) × (not_built_item p.place f ≡ [])
@@ -174,7 +169,7 @@ module _ (names : List (List ℕ)) where
         (same_operands head.form operands held (woven_number held w) (formed p (tree.Inline head operands) is h.0.0).0, operands_built held (cover_among names cover p c h.0.1) h w)
     item_built _ c h (a_reference {p = p} {r = r} is) =
         let here = formed p (tree.Refer r) is h.0.0 in
-        (no_joins r.joins p.place here.1, here.0)
+        (untied (tie_gates r.joins) p.place here.1, here.0)
 
     operands_built : {cover : List (List ℕ)} {parts : List Piece} {k count : ℕ} (bs : Bodies) → AreAmong names cover → EachPiece IsGood parts → AreWovenOperands cover parts k count bs → AreBuiltBodies names bs
     operands_built _ c h (no_woven_operand) = tt

@@ -9,9 +9,11 @@ use Rattle.msc_tree.specs.declared.reference.InlineForm.{InlineForm}
 use Rattle.msc_tree.specs.declared.reference.InlineForm.TheVariants as inline
 use Rattle.msc_tree.specs.Expressions.{Expression, Empty, Chart, Alt, Par, Seq, Opt, Loop, Expressions, none, more}
 use Rattle.msc_meaning.specs.Bodies.{EventNode, InlinePart, ReferencePart, Body, level, WovenItems, no_items, item_and, WovenItem, Single, Coregion, Inline, Refer, Bodies, no_bodies, body_and, events, item_events}
-use Rattle.msc_meaning.specs.FarEnds.{gate_tags, happening}
-use Rattle.msc_meaning.specs.Tables.{Table, ChartEntry, Woven, Basic, HighLevel, chart_at, refinements}
-use Rattle.msc_meaning.specs.Ties.{after_pairs, before_pairs, labelled, level_pairs, order_pairs, own_ties, past_inline, past_reference}
+use Rattle.msc_meaning.specs.Calls.{Call, calls, event_calls, events_calls, joins_calls}
+use Rattle.msc_meaning.specs.ChartUnfoldings.{gates_of, under}
+use Rattle.msc_meaning.specs.FarEnds.{GateMap, no_gates, Around, Gates, gate_tags, gates_referred, inside, happening}
+use Rattle.msc_meaning.specs.Tables.{Table, ChartEntry, Woven, Basic, HighLevel, Refinement, chart_at, refinements}
+use Rattle.msc_meaning.specs.Ties.{after_pairs, before_pairs, event_ties, items_joins_ties, joins_ties, labelled, level_pairs, order_pairs, own_ties, past_inline, past_reference, ties}
 use Rattle.expansion_tree.specs.Expansions.{Expansion, Event, InRow, Aside, OneOf, Exception, Turns, Tied, Expansions, no_parts, part_and, is_exception, map_all_events, map_events}
 use Rattle.expansion_tree.specs.Numbered as numbered
 use Rattle.expansion_tree.specs.declared.tree.ExpandedEvent.{ExpandedEvent}
@@ -19,16 +21,17 @@ use Rattle.expansion_order.specs.Ranks.{AreRanked, AreRankedInRow, CanBeRanked, 
 use Rattle.expansion_order.specs.Stops.{all_counted, all_stops, counted, event_stops, numbered, stops}
 use Rattle.expansion_order.specs.declared.stops.Stop.{Stop}
 use Rattle.expansion_order.proofs.Drawn.{among_either}
-use Rattle.expanded_charts.specs.Expanding.{Expanded, ExpandedParts, NumberedEvent, Shown, aside, event, exception, in_row, inline_by, nothing, numbers_with, one_of, or_nothing, pairs_between, past, past_shown, put, tied, tied_pairs, turns}
-use Rattle.expanded_charts.specs.Making.{chart_part, events_parts, expression_part, expressions_parts, here, item_part, items_parts, level_part, no_ends, operands_parts}
+use Rattle.expanded_charts.specs.Expanding.{Expanded, ExpandedParts, NumberedEvent, Shown, Charts, expand, expand_all, expand_charts, expand_entry, expand_events, expand_item, expand_items, expand_level, expand_operands, expand_woven, aside, event, exception, in_row, inline_by, nothing, numbers_with, one_of, or_nothing, pairs_between, past, past_shown, put, tied, tied_pairs, turns}
 use Rattle.expanded_charts.specs.Numbering.{at_instances, at_two, event_by, instance_number, number_of_label, numbered_by}
-use Rattle.expanded_charts.specs.PlainCharts.{AreAtNoGate, ArePlainBodies, ArePlainItems, IsAtNoGate, IsPlainBody, IsPlainItem, IsPlainTable, IsPlainWoven}
+use Rattle.expanded_charts.specs.BasicCharts.{IsBasicTable, IsBasicWoven}
 use Rattle.expanded_charts.specs.declared.numbering.Numbering.{Numbering}
-use Rattle.expanded_charts.proofs.ChartParts.{chart_level, inline_is, level_is, no_chart, plain_entry, reference_is}
-use Rattle.expanded_charts.proofs.EventParts.{no_tags}
+use Rattle.expanded_charts.proofs.ChartParts.{basic_entry}
 use Rattle.gate_ends.specs.FoundEnds.{AreAll, items_names, item_names, level_names, operands_names}
-use Rattle.msc_meaning.specs.InnerEvents.{charts_in, charts_in_all}
-use Rattle.written_order.specs.Rising.{AreRisingBodies, AreRisingItems, IsFree, IsRisingBody, IsRisingEntry, IsRisingItem, IsRisingLevel, IsRisingTo, IsRisingWoven, RiseTo}
+use Rattle.msc_meaning.specs.InnerEvents.{GateEnd, charts_in, charts_in_all}
+use Rattle.msc_tree.specs.declared.event.Target.{Target}
+use Rattle.msc_tree.specs.declared.event.Target.TheVariants.{Nobody, Env, Instance, Gate}
+use Rattle.msc_tree.specs.declared.reference.Join.{Join}
+use Rattle.written_order.specs.Rising.{AreRisingBodies, AreRisingItems, IsAtNoGate, IsFree, IsRisingBody, IsRisingEntry, IsRisingItem, IsRisingLevel, IsRisingTo, IsRisingWoven, RiseTo}
 use Rattle.written_order.specs.RisingLaws.{RisingChartsAreRanked}
 
 all_left : (P : List ℕ → Type 0) (xs ys : List (List ℕ)) → AreAll P (xs ++ ys) → AreAll P xs
@@ -250,9 +253,53 @@ split : (low hi : ℕ) (ks ls : List EventNode) → RiseTo low (ks ++ ls) hi →
 split low hi [] ls h = (low, omega arith, h)
 split low hi (k ∷ ks) ls h = let r = split (suc k.number) hi ks ls h.1 in (r.0, (h.0, r.1), r.2)
 
+-- ---- no gate is called
+
+both_nil : {X : Type 0} (xs ys : List X) → xs ≡ [] → ys ≡ [] → xs ++ ys ≡ []
+both_nil xs ys e f = ap (λ z. z ++ ys) e ∙ f
+
+no_tags : (t : Target) → IsAtNoGate t → gate_tags t ≡ []
+no_tags Nobody h = refl
+no_tags (Env None) h = refl
+no_tags (Env (Some gate)) h = absurd h
+no_tags (Instance name) h = refl
+no_tags (Gate name gate) h = absurd h
+
+no_call : (n : EventNode) (t : Target) → IsAtNoGate t → event_calls n t ≡ []
+no_call n Nobody h = refl
+no_call n (Env gate) h = refl
+no_call n (Instance name) h = refl
+no_call n (Gate name gate) h = absurd h
+
+no_calls : (low hi : ℕ) (ns : List EventNode) → RiseTo low ns hi → events_calls ns ≡ []
+no_calls low hi [] h = refl
+no_calls low hi (n ∷ ns) h = both_nil (event_calls n n.event.target) (events_calls ns) (no_call n n.event.target h.0.1.2) (no_calls (suc n.number) hi ns h.1)
+
+no_joined : (ends : List GateEnd) (name : Option (List ℕ)) → joins_ties ends name [] ≡ []
+no_joined ends None = refl
+no_joined ends (Some own) = refl
+
+none_called : (low hi : ℕ) (xs : WovenItems) → RiseTo low (events xs) hi → AreRisingItems xs → calls xs ≡ []
+none_called low hi no_items h up = refl
+none_called low hi (item_and (Single n) xs) h up = both_nil (event_calls n n.event.target) (calls xs) (no_call n n.event.target h.0.1.2) (none_called (suc n.number) hi xs h.1 up.1)
+none_called low hi (item_and (Coregion ns) xs) h up = let r = split low hi ns (events xs) h in both_nil (events_calls ns) (calls xs) (no_calls low r.0 ns r.1) (none_called r.0 hi xs r.2 up.1)
+none_called low hi (item_and (Inline form part bs) xs) h up = none_called low hi xs h up.1
+none_called low hi (item_and (Refer part) xs) h up = both_nil (joins_calls part.name part.joins) (calls xs) (ap (joins_calls part.name) up.0) (none_called low hi xs h up.1)
+
+none_joined : (ends : List GateEnd) (xs : WovenItems) → AreRisingItems xs → items_joins_ties ends xs ≡ []
+none_joined ends no_items up = refl
+none_joined ends (item_and (Single n) xs) up = none_joined ends xs up.1
+none_joined ends (item_and (Coregion ns) xs) up = none_joined ends xs up.1
+none_joined ends (item_and (Inline form part bs) xs) up = none_joined ends xs up.1
+none_joined ends (item_and (Refer part) xs) up = both_nil (joins_ties ends part.name part.joins) (items_joins_ties ends xs) (ap (joins_ties ends part.name) up.0 ∙ no_joined ends part.name) (none_joined ends xs up.1)
+
+ties_are : (hi : ℕ) (xs : WovenItems) (pairs : List Pair) (ends : List GateEnd) → RiseTo 0 (events xs) hi → AreRisingItems xs → ties xs pairs (calls xs) ends ≡ own_ties (level_pairs xs pairs)
+ties_are hi xs pairs ends h up =
+    ap (λ l. own_ties (level_pairs xs pairs) ++ l) (both_nil (event_ties (calls xs)) (items_joins_ties ends xs) (ap event_ties (none_called 0 hi xs h up)) (none_joined ends xs up)) ∙ append-nil (own_ties (level_pairs xs pairs))
+
 -- ---- charts
 
-module _ (s : Numbering) (table : Table) (depth : ℕ) where
+module _ (s : Numbering) where
   -- it rises, and shows nothing
   record IsAlone (n : ℕ) (e : Expanded) : Type 0 where
     rise : Rises s n e
@@ -277,18 +324,13 @@ module _ (s : Numbering) (table : Table) (depth : ℕ) where
   showing_both : (n low mid hi : ℕ) (e : Expanded) (ps : ExpandedParts) → IsShowing n low mid e → AreShowing e.next mid hi ps → AreShowing n low hi (put e ps)
   showing_both n low mid hi e ps f g = record { rise = both_rise s n e ps f.rise g.rise; shown = shown_both n low e.next mid ps.next hi e.shown ps.shown f.shown g.shown }
 
-  event_shows : (n low mid : ℕ) (k : EventNode) → IsAtNoGate k.event.target → RiseTo low (k ∷ []) mid → IsShowing n low mid (event n (happening [] here k))
-  event_shows n low mid k at h =
-      let within = numbered_at s n (number_of_label s (happening [] here k).label) (instance_number s (happening [] here k).label.at) (option_map (instance_number s) (happening [] here k).also) (suc n) (omega arith) in
+  event_shows : (es : List GateEnd) (a : Around) (n low mid : ℕ) (k : EventNode) → RiseTo low (k ∷ []) mid → IsShowing n low mid (event n (happening es a k))
+  event_shows es a n low mid k h =
+      let within = numbered_at s n (number_of_label s (happening es a k).label) (instance_number s (happening es a k).label.at) (option_map (instance_number s) (happening es a k).also) (suc n) (omega arith) in
       record {
         rise = record { order = omega arith; within = within; counted_within = within; ranked = tt };
-        shown = subst (λ (l : List Tag). ShownTo n low (map (λ a. (n, a)) (Own k.number ∷ l)) (suc n) mid) (sym (no_tags k.event.target at)) ((omega arith, h.0.0), (omega arith, h.1));
+        shown = subst (λ (l : List Tag). ShownTo n low (map (λ a. (n, a)) (Own k.number ∷ l)) (suc n) mid) (sym (no_tags k.event.target h.0.1.2)) ((omega arith, h.0.0), (omega arith, h.1));
       }
-
-  events_show : (n low hi : ℕ) (ks : List EventNode) → AreAtNoGate ks → RiseTo low ks hi → AreShowing n low hi (events_parts table depth n ks)
-  events_show n low hi [] at h = record { rise = none_rise s n; shown = (omega arith, h) }
-  events_show n low hi (k ∷ ks) at h =
-      showing_both n low (suc k.number) hi (event n (happening [] here k)) (events_parts table depth (suc n) ks) (event_shows n low (suc k.number) k at.0 (h.0, omega arith)) (events_show (suc n) (suc k.number) hi ks at.1 h.1)
 
   form_shows : (form : InlineForm) (part : InlinePart) (n : ℕ) (ps : ExpandedParts) → (inline_by form part n ps).shown ≡ ps.shown
   form_shows inline.Alt part n ps = refl
@@ -303,90 +345,88 @@ module _ (s : Numbering) (table : Table) (depth : ℕ) where
   raised : (n low mid : ℕ) (e : Expanded) → low ≤ mid → IsAlone n e → IsShowing n low mid e
   raised n low mid e h r = record { rise = r.rise; shown = subst (λ (sh : Shown). ShownTo n low sh e.next mid) (sym r.none) (r.rise.order, h) }
 
-  module _ (P : List ℕ → Type 0) (charts_rise : (name : List ℕ) → P name → (n : ℕ) → IsAlone n (chart_part table depth n name)) where
-    mutual
-      expression_alone : (n : ℕ) (x : Expression) → AreAll P (charts_in x) → IsAlone n (expression_part table depth n x)
-      expression_alone n Empty h = record { rise = row_rises s n (nothing n) (none_rise s n); none = refl }
-      expression_alone n (Chart name) h = charts_rise name h.0 n
-      expression_alone n (Alt xs) h = let r = expressions_alone n xs h in record { rise = choice_rises s n (expressions_parts table depth n xs) r.rise; none = r.none }
-      expression_alone n (Par xs) h = let r = expressions_alone n xs h in record { rise = aside_rises s n (expressions_parts table depth n xs) r.rise; none = r.none }
-      expression_alone n (Seq xs) h = let r = expressions_alone n xs h in record { rise = row_rises s n (expressions_parts table depth n xs) r.rise; none = r.none }
-      expression_alone n (Opt x) h = let r = expression_alone n x h in record { rise = option_rises s n (expression_part table depth n x) r.rise; none = r.none }
-      expression_alone n (Loop lo up x) h = let r = expression_alone n x h in record { rise = turns_rise s n lo up (expression_part table depth n x) r.rise; none = r.none }
-
-      expressions_alone : (n : ℕ) (xs : Expressions) → AreAll P (charts_in_all xs) → AreAlone n (expressions_parts table depth n xs)
-      expressions_alone n none h = record { rise = none_rise s n; none = refl }
-      expressions_alone n (more x xs) h =
-          alone_both n (expression_part table depth n x) (expressions_parts table depth (expression_part table depth n x).next xs) (expression_alone n x (all_left P (charts_in x) (charts_in_all xs) h))
-          (expressions_alone (expression_part table depth n x).next xs (all_right P (charts_in x) (charts_in_all xs) h))
+  module _ (ends_of : WovenItems → List GateEnd) (chart : Charts) (P : List ℕ → Type 0) (charts_rise : (name : List ℕ) → P name → (gates : GateMap) (n : ℕ) → IsAlone n (chart name gates n)) where
+    events_show : (es : List GateEnd) (a : Around) (n low hi : ℕ) (ks : List EventNode) → RiseTo low ks hi → AreShowing n low hi (expand_events chart ends_of es a n ks)
+    events_show es a n low hi [] h = record { rise = none_rise s n; shown = (omega arith, h) }
+    events_show es a n low hi (k ∷ ks) h =
+        showing_both n low (suc k.number) hi (event n (happening es a k)) (expand_events chart ends_of es a (suc n) ks) (event_shows es a n low (suc k.number) k (h.0, omega arith)) (events_show es a (suc n) (suc k.number) hi ks h.1)
 
     mutual
-      level_alone : (n : ℕ) (b : Body) → IsPlainBody b → IsRisingBody b → AreAll P (level_names b) → IsAlone n (level_part table depth n b)
-      level_alone n (level cover held pairs) plain up named =
-          let inside = items_show n 0 up.0.end held plain up.0.rise up.1 named in
-          let parts = items_parts table depth n held in
+      expression_alone : (gates : GateMap) (n : ℕ) (x : Expression) → AreAll P (charts_in x) → IsAlone n (expand chart ends_of gates n x)
+      expression_alone gates n Empty h = record { rise = row_rises s n (nothing n) (none_rise s n); none = refl }
+      expression_alone gates n (Chart name) h = charts_rise name h.0 gates n
+      expression_alone gates n (Alt xs) h = let r = expressions_alone gates n xs h in record { rise = choice_rises s n (expand_all chart ends_of gates n xs) r.rise; none = r.none }
+      expression_alone gates n (Par xs) h = let r = expressions_alone gates n xs h in record { rise = aside_rises s n (expand_all chart ends_of gates n xs) r.rise; none = r.none }
+      expression_alone gates n (Seq xs) h = let r = expressions_alone gates n xs h in record { rise = row_rises s n (expand_all chart ends_of gates n xs) r.rise; none = r.none }
+      expression_alone gates n (Opt x) h = let r = expression_alone gates n x h in record { rise = option_rises s n (expand chart ends_of gates n x) r.rise; none = r.none }
+      expression_alone gates n (Loop lo up x) h = let r = expression_alone gates n x h in record { rise = turns_rise s n lo up (expand chart ends_of gates n x) r.rise; none = r.none }
+
+      expressions_alone : (gates : GateMap) (n : ℕ) (xs : Expressions) → AreAll P (charts_in_all xs) → AreAlone n (expand_all chart ends_of gates n xs)
+      expressions_alone gates n none h = record { rise = none_rise s n; none = refl }
+      expressions_alone gates n (more x xs) h =
+          alone_both n (expand chart ends_of gates n x) (expand_all chart ends_of gates (expand chart ends_of gates n x).next xs) (expression_alone gates n x (all_left P (charts_in x) (charts_in_all xs) h))
+          (expressions_alone gates (expand chart ends_of gates n x).next xs (all_right P (charts_in x) (charts_in_all xs) h))
+
+    mutual
+      level_alone : (a : Around) (n : ℕ) (b : Body) → IsRisingBody b → AreAll P (level_names b) → IsAlone n (expand_level chart ends_of a n b)
+      level_alone a n (level cover held pairs) up named =
+          let parts = expand_items chart ends_of (gates_of held (ends_of held)) a n held in
+          let inside = items_show (gates_of held (ends_of held)) a n 0 up.0.end held up.0.rise up.1 named in
           let sent : (q : Pair) → Among q (level_pairs held pairs) → q.first < q.second = λ q i. up.0.sent q (subst (Among q) (level_pairs_are held pairs up.0.end up.0.rise) i) in
           let row = row_rises s n parts inside.rise in
-          subst (IsAlone n) (sym (level_is table depth n cover held pairs plain)) (record {
+          subst (λ ts. IsAlone n (past past_level (tied ts (in_row parts)))) (sym (ties_are up.0.end held pairs (ends_of held) up.0.rise up.1)) (record {
             rise = record { order = row.order; within = row.within; counted_within = row.counted_within; ranked = (ties_rise n 0 parts.next up.0.end parts.shown inside.shown (level_pairs held pairs) sent, row.ranked) };
             none = none_above n 0 parts.next up.0.end parts.shown inside.shown;
           })
 
-      items_show : (n low hi : ℕ) (xs : WovenItems) → ArePlainItems xs → RiseTo low (events xs) hi → AreRisingItems xs → AreAll P (items_names xs) → AreShowing n low hi (items_parts table depth n xs)
-      items_show n low hi no_items plain h up named = record { rise = none_rise s n; shown = (omega arith, h) }
-      items_show n low hi (item_and x xs) plain h up named =
+      items_show : (g : Gates) (a : Around) (n low hi : ℕ) (xs : WovenItems) → RiseTo low (events xs) hi → AreRisingItems xs → AreAll P (items_names xs) → AreShowing n low hi (expand_items chart ends_of g a n xs)
+      items_show g a n low hi no_items h up named = record { rise = none_rise s n; shown = (omega arith, h) }
+      items_show g a n low hi (item_and x xs) h up named =
           let r = split low hi (item_events x) (events xs) h in
-          let e = item_part table depth n x in
-          showing_both n low r.0 hi e (items_parts table depth e.next xs) (item_shows n low r.0 x plain.0 r.1 up.0 (all_left P (item_names x) (items_names xs) named))
-          (items_show e.next r.0 hi xs plain.1 r.2 up.1 (all_right P (item_names x) (items_names xs) named))
+          let e = expand_item chart ends_of g a n x in
+          showing_both n low r.0 hi e (expand_items chart ends_of g a e.next xs) (item_shows g a n low r.0 x r.1 up.0 (all_left P (item_names x) (items_names xs) named))
+          (items_show g a e.next r.0 hi xs r.2 up.1 (all_right P (item_names x) (items_names xs) named))
 
-      item_shows : (n low mid : ℕ) (x : WovenItem) → IsPlainItem x → RiseTo low (item_events x) mid → IsRisingItem x → AreAll P (item_names x) → IsShowing n low mid (item_part table depth n x)
-      item_shows n low mid (Single k) plain h up named = event_shows n low mid k plain h
-      item_shows n low mid (Coregion ks) plain h up named = let r = events_show n low mid ks plain h in record { rise = aside_rises s n (events_parts table depth n ks) r.rise; shown = r.shown }
-      item_shows n low mid (Inline form part operands) plain h up named =
-          let r = operands_alone n operands plain up named in
-          let ps = operands_parts table depth n operands in
-          let inside : IsAlone n (inline_by form part n ps) = record { rise = form_rises s form part n ps r.rise; none = form_shows form part n ps ∙ r.none } in
-          raised n low mid (item_part table depth n (Inline form part operands)) h
-          (subst (IsAlone n) (sym (inline_is table depth n form part operands)) (none_past (past_inline [] part.name) n (inline_by form part n ps) inside))
-      item_shows n low mid (Refer part) plain h up named =
-          raised n low mid (item_part table depth n (Refer part)) h
-          (subst (IsAlone n) (sym (reference_is table depth n part plain)) (none_past (past_reference [] part.name part.joins) n (expression_part table depth n part.expression) (expression_alone n part.expression named)))
+      item_shows : (g : Gates) (a : Around) (n low mid : ℕ) (x : WovenItem) → RiseTo low (item_events x) mid → IsRisingItem x → AreAll P (item_names x) → IsShowing n low mid (expand_item chart ends_of g a n x)
+      item_shows g a n low mid (Single k) h up named = event_shows g.ends a n low mid k h
+      item_shows g a n low mid (Coregion ks) h up named = let r = events_show g.ends a n low mid ks h in record { rise = aside_rises s n (expand_events chart ends_of g.ends a n ks) r.rise; shown = r.shown }
+      item_shows g a n low mid (Inline form part operands) h up named =
+          let ps = expand_operands chart ends_of (inside g part.name a) n operands in
+          let r = operands_alone (inside g part.name a) n operands up named in
+          let within : IsAlone n (inline_by form part n ps) = record { rise = form_rises s form part n ps r.rise; none = form_shows form part n ps ∙ r.none } in
+          raised n low mid (past (past_inline g.calls part.name) (inline_by form part n ps)) h (none_past (past_inline g.calls part.name) n (inline_by form part n ps) within)
+      item_shows g a n low mid (Refer part) h up named =
+          let e = expand chart ends_of (gates_referred g part.name part.joins a.gates) n part.expression in
+          raised n low mid (past (past_reference g.calls part.name part.joins) e) h (none_past (past_reference g.calls part.name part.joins) n e (expression_alone (gates_referred g part.name part.joins a.gates) n part.expression named))
 
-      operands_alone : (n : ℕ) (bs : Bodies) → ArePlainBodies bs → AreRisingBodies bs → AreAll P (operands_names bs) → AreAlone n (operands_parts table depth n bs)
-      operands_alone n no_bodies plain up named = record { rise = none_rise s n; none = refl }
-      operands_alone n (body_and b bs) plain up named =
-          let e = level_part table depth n b in
-          alone_both n e (operands_parts table depth e.next bs) (level_alone n b plain.0 up.0 (all_left P (level_names b) (operands_names bs) named)) (operands_alone e.next bs plain.1 up.1 (all_right P (level_names b) (operands_names bs) named))
+      operands_alone : (a : Around) (n : ℕ) (bs : Bodies) → AreRisingBodies bs → AreAll P (operands_names bs) → AreAlone n (expand_operands chart ends_of a n bs)
+      operands_alone a n no_bodies up named = record { rise = none_rise s n; none = refl }
+      operands_alone a n (body_and b bs) up named =
+          let e = expand_level chart ends_of a n b in
+          alone_both n e (expand_operands chart ends_of a e.next bs) (level_alone a n b up.0 (all_left P (level_names b) (operands_names bs) named)) (operands_alone a e.next bs up.1 (all_right P (level_names b) (operands_names bs) named))
 
 -- ---- up by the depth of references
 
-nothing_alone : (s : Numbering) (table : Table) (depth n : ℕ) → IsAlone s table depth n (in_row (nothing n))
-nothing_alone s table depth n = record { rise = row_rises s n (nothing n) (none_rise s n); none = refl }
+nothing_alone : (s : Numbering) (n : ℕ) → IsAlone s n (in_row (nothing n))
+nothing_alone s n = record { rise = row_rises s n (nothing n) (none_rise s n); none = refl }
 
-woven_alone : (s : Numbering) (table : Table) (k : ℕ) (n : ℕ) (w : Woven) (b : Body) → w ≡ Basic b → (P : List ℕ → Type 0) → ((name : List ℕ) → P name → (m : ℕ) → IsAlone s table k m (chart_part table k m name)) → IsPlainWoven w → IsRisingWoven P w
-    → IsAlone s table k n (level_part table k n b)
-woven_alone s table k n w b is P below plain up = let p = subst IsPlainWoven is plain in let u = subst (IsRisingWoven P) is up in level_alone s table k P below n b p u.0 u.1
+module _ (s : Numbering) (ends_of : WovenItems → List GateEnd) (table : Table) (basic : IsBasicTable table) where
+  abbrev IsAloneTo : ℕ → List ℕ → Type 0
+  IsAloneTo k name = (gates : GateMap) (n : ℕ) → IsAlone s n (expand_charts ends_of table k name gates n)
 
-abbrev AllBelow : Numbering → Table → ℕ → Type 0
-AllBelow s table k = (other : List ℕ) → IsRisingTo table k other → (m : ℕ) → IsAlone s table k m (chart_part table k m other)
+  chart_alone : (depth : ℕ) (name : List ℕ) → IsRisingTo table depth name → IsAloneTo depth name
+  chart_alone zero name up gates n = nothing_alone s n
+  chart_alone (suc k) name up gates n = by (chart_at table name) (λ c at. (basic_entry table name c basic at).0) up (chart_alone k)
+    where
+      content : (w : Woven) → IsRisingWoven (IsRisingTo table k) w → ((other : List ℕ) → IsRisingTo table k other → IsAloneTo k other) → IsAlone s n (expand_woven (expand_charts ends_of table k) ends_of table gates n [] w)
+      content (Basic b) rise below = level_alone s ends_of (expand_charts ends_of table k) (IsRisingTo table k) below (under gates) n b rise.0 rise.1
+      content (HighLevel drawn) rise below = nothing_alone s n
 
-chart_alone : (s : Numbering) (table : Table) → IsPlainTable table → (depth : ℕ) (name : List ℕ) → IsRisingTo table depth name → (n : ℕ) → IsAlone s table depth n (chart_part table depth n name)
-chart_alone s table plain zero name up n = nothing_alone s table zero n
-chart_alone s table plain (suc k) name up n = by (chart_at table name) refl up (chart_alone s table plain k)
-  where
-    entry : (c : ChartEntry) → chart_at table name ≡ Some c → IsRisingWoven (IsRisingTo table k) c.content → (w : Woven) → c.content ≡ w → AllBelow s table k → IsAlone s table (suc k) n (chart_part table (suc k) n name)
-    entry c at rise (Basic b) is below =
-        let found = plain_entry table name c plain at in
-        let less : suc k - 1 ≡ k = omega arith in
-        let same = chart_level table n name (suc k) c b (λ e. absurd cc) at found.0 is ∙ ap (λ d. level_part table d n b) less in
-        let inner = woven_alone s table k n c.content b is (IsRisingTo table k) below found.1 rise in
-        record { rise = subst (Rises s n) (sym same) inner.rise; none = ap (λ (e : Expanded). e.shown) same ∙ inner.none }
-    entry c at rise (HighLevel drawn) is below = absurd (subst IsPlainWoven is (plain_entry table name c plain at).1)
-
-    by : (o : Option ChartEntry) → chart_at table name ≡ o → IsRisingEntry (IsRisingTo table k) o → AllBelow s table k → IsAlone s table (suc k) n (chart_part table (suc k) n name)
-    by None at rise below = subst (IsAlone s table (suc k) n) (sym (no_chart table n name (suc k) (λ e. absurd cc) at)) (nothing_alone s table (suc k) n)
-    by (Some c) at rise below = entry c at rise c.content refl below
+      by : (o : Option ChartEntry) → ((c : ChartEntry) → o ≡ Some c → refinements c.decls ≡ []) → IsRisingEntry (IsRisingTo table k) o → ((other : List ℕ) → IsRisingTo table k other → IsAloneTo k other)
+          → IsAlone s n (expand_entry ends_of table (expand_charts ends_of table k) gates n o)
+      by None whole rise below = nothing_alone s n
+      by (Some c) whole rise below =
+          subst (λ (rs : List Refinement). IsAlone s n (expand_woven (expand_charts ends_of table k) ends_of table gates n rs c.content)) (sym (whole c refl)) (content c.content rise below)
 
 pub rising_charts_are_ranked : RisingChartsAreRanked
-rising_charts_are_ranked = record { ranked = λ table depth name s plain up. record { rank = λ k. k; ranked = (chart_alone s table plain depth name up 0).rise.ranked } }
+rising_charts_are_ranked = record { ranked = λ ends_of table depth name s basic up. record { rank = λ k. k; ranked = (chart_alone s ends_of table basic depth name up no_gates 0).rise.ranked } }

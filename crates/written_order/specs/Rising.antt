@@ -1,16 +1,26 @@
 -- Charts whose text has the events in an order in which they can happen: on each level the numbers of its events rise, and so do its
--- message pairs, and no event is ordered with others by their names.
+-- message pairs, no event is ordered with others by their names, and no gate ties events of two levels.
 use Rattle.std.specs.Prelude.{◌≡◌, ◌<◌, ◌≤◌, ℕ, zero, suc, List, [], ◌∷◌, Option, None, Some}
 use Rattle.msc_base.specs.declared.label.Pair.{Pair}
 use Rattle.msc_base.specs.Orders.{Among}
+use Rattle.msc_tree.specs.declared.event.Target.{Target}
+use Rattle.msc_tree.specs.declared.event.Target.TheVariants.{Nobody, Env, Instance, Gate}
 use Rattle.msc_meaning.specs.Bodies.{EventNode, Body, level, WovenItems, no_items, item_and, WovenItem, Single, Coregion, Inline, Refer, Bodies, no_bodies, body_and, events}
 use Rattle.msc_meaning.specs.Tables.{Table, Woven, Basic, HighLevel, ChartEntry, chart_at}
 use Rattle.gate_ends.specs.FoundEnds.{AreAll, level_names}
 
-abbrev pub IsFree : EventNode → Type 0
-IsFree k = (k.event.order.earlier_than ≡ []) × (k.event.order.later_than ≡ [])
+-- the other end is no gate
+abbrev pub IsAtNoGate : Target → Type 0
+IsAtNoGate Nobody = Unit {0}
+IsAtNoGate (Env None) = Unit {0}
+IsAtNoGate (Env (Some gate)) = ⊥
+IsAtNoGate (Instance name) = Unit {0}
+IsAtNoGate (Gate name gate) = ⊥
 
--- the events have rising numbers, from the first bound on and below the second, and none is ordered with others by their names
+abbrev pub IsFree : EventNode → Type 0
+IsFree k = (k.event.order.earlier_than ≡ []) × (k.event.order.later_than ≡ []) × IsAtNoGate k.event.target
+
+-- the events have rising numbers, from the first bound on and below the second, and none is ordered with others by their names, or at a gate
 abbrev pub RiseTo : ℕ → List EventNode → ℕ → Type 0
 RiseTo low [] high = low ≤ high
 RiseTo low (k ∷ ks) high = ((low ≤ k.number) × IsFree k) × RiseTo (suc k.number) ks high
@@ -20,7 +30,7 @@ pub record IsRisingLevel (held : WovenItems) (pairs : List Pair) : Type 0 where
   pub rise : RiseTo 0 (events held) end
   pub sent : (p : Pair) → Among p pairs → p.first < p.second
 
--- so it is on each level of the body
+-- so it is on each level of the body, and no reference joins its gates
 abbrev mutual
   pub IsRisingBody : Body → Type 0
   IsRisingBody (level cover held pairs) = IsRisingLevel held pairs × AreRisingItems held
@@ -33,7 +43,7 @@ abbrev mutual
   IsRisingItem (Single k) = Unit {0}
   IsRisingItem (Coregion ks) = Unit {0}
   IsRisingItem (Inline form part operands) = AreRisingBodies operands
-  IsRisingItem (Refer part) = Unit {0}
+  IsRisingItem (Refer part) = part.joins ≡ []
 
   pub AreRisingBodies : Bodies → Type 0
   AreRisingBodies no_bodies = Unit {0}

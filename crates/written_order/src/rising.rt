@@ -4,10 +4,11 @@ ghost use Rattle.std.specs.Prelude.{◌≡◌, ◌<◌, ◌∷◌, [], All, IfSo
 ghost use Rattle.msc_meaning.specs.Bodies.{events, item_events};
 ghost use Rattle.msc_meaning.specs.ItemViews.{bodies_view, inline_view, items_view};
 ghost use Rattle.msc_meaning.specs.Views.{body_view, item_view, node_view};
-ghost use Rattle.written_order.specs.Rising.{AreRisingBodies, AreRisingItems, IsFree, IsRisingBody, IsRisingItem, RiseTo};
+ghost use Rattle.written_order.specs.Rising.{AreRisingBodies, AreRisingItems, IsAtNoGate, IsFree, IsRisingBody, IsRisingItem, RiseTo};
 
 use msc_base::{Name, Pair};
 use msc_meaning::{Body, EventNode, InlineItem, Item};
+use msc_tree::{Join, Target};
 
 /// Whether the first event of each pair has the lower number.
 fn do_rise(pairs: &[Pair]) -> bool
@@ -28,14 +29,36 @@ fn is_empty(names: &[Name]) -> bool
     names.is_empty()
 }
 
+/// Whether the other end of an event is no gate.
+fn is_at_no_gate(target: &Target) -> bool
+    ensures { result ≡ true → IsAtNoGate target.now }
+{
+    match target {
+        Target::Nobody => true,
+        Target::Env(None) => true,
+        Target::Env(Some(_)) => false,
+        Target::Instance(_) => true,
+        Target::Gate(_, _) => false,
+    }
+}
+
 /// Whether the event is ordered with no others by their names.
-fn is_free(node: &EventNode) -> bool
-    ensures { result ≡ true → IsFree (node_view node.now) }
+fn is_unordered(node: &EventNode) -> bool
+    ensures earlier { result ≡ true → node.now.event.order.earlier_than ≡ [] }
+    ensures later { result ≡ true → node.now.event.order.later_than ≡ [] }
 {
     is_empty(node.event.order.earlier_than()) && is_empty(node.event.order.later_than())
 }
 
-/// The number behind that of the event, where this is no lower than the bound, and the event is ordered with no others by their names.
+/// Whether the event is ordered with no others by their names, and at no gate.
+fn is_free(node: &EventNode) -> bool
+    ensures { result ≡ true → IsFree (node_view node.now) }
+{
+    is_unordered(node) && is_at_no_gate(&node.event.target)
+}
+
+/// The number behind that of the event, where this is no lower than the bound, and the event is ordered with no others by their names, and
+/// at no gate.
 fn behind_event(low: u64, node: &EventNode) -> Option<u64>
     ensures { IfSome result (λ high. RiseTo low (node_view node.now ∷ []) high) }
 {
@@ -81,8 +104,16 @@ fn behind_items(items: &[Item]) -> Option<u64>
     Some(high)
 }
 
+/// Whether there are no joins.
+fn joins_none(joins: &[Join]) -> bool
+    ensures { result ≡ true → joins.now ≡ [] }
+{
+    joins.is_empty()
+}
+
 /// Whether the text of the body has the events in an order in which they can happen: on each level their numbers rise, and so do those
-/// of each message, and none is ordered with others by their names. It takes no memory; the time grows with the body.
+/// of each message, none is ordered with others by their names, and none is at a gate, nor does a reference join its gates. It takes no
+/// memory; the time grows with the body.
 #[cycle(rising)]
 pub fn is_rising(body: &Body) -> bool
     ensures { result ≡ true → IsRisingBody (body_view body.now) }
@@ -118,7 +149,7 @@ fn is_rising_item(item: &Item) -> bool
         Item::Inline(inline) => is_rising_inline(inline),
         Item::Single(_) => true,
         Item::Coregion(_) => true,
-        Item::Reference(_) => true,
+        Item::Reference(held) => joins_none(held.joins.as_slice()),
     }
 }
 

@@ -1,8 +1,9 @@
-use Rattle.std.proofs.Common.{◌≡◌, ◌+◌, ◌*◌, [], map, take}
+use Rattle.std.proofs.Common.{◌+◌, ◌*◌, map, take}
 use Rattle.msc_tree.specs.Expressions.{expressions}
 use Rattle.msc_tree.specs.Views.{expression_view}
 use Rattle.msc_meaning.specs.ItemViews.{bodies_view, inline_view, items_view}
-use Rattle.msc_meaning.specs.Views.{body_view, item_view, table_view}
+use Rattle.msc_meaning.specs.Views.{body_view, item_view, reference_view, table_view}
+use Rattle.expanded_charts.specs.GateWays.{ways_view}
 use Rattle.expanded_charts.specs.Making.{AreMade, expressions_parts, items_parts, operands_parts}
 use Rattle.expanded_charts.proofs.Measures.{body_size, expression_size, expressions_size, item_size, items_size, measure, operands_size}
 use Rattle.expanded_charts.proofs.charts.+charts.Given as goal
@@ -22,6 +23,9 @@ decreases-item_of l = measure (table_view l.table.charts.now) l.depth (4 * item_
 abbrev pub decreases-inline_of : goal.decreases-inline_of
 decreases-inline_of l = measure (table_view l.table.charts.now) l.depth (4 * item_size (inline_view l.inline.now))
 
+abbrev pub decreases-reference_of : goal.decreases-reference_of
+decreases-reference_of l = measure (table_view l.table.charts.now) l.depth (4 * item_size (reference_view l.reference.now))
+
 abbrev pub decreases-operands_of : goal.decreases-operands_of
 decreases-operands_of l = measure (table_view l.table.charts.now) l.depth (4 * operands_size (bodies_view l.operands.now) + 2)
 
@@ -32,10 +36,10 @@ abbrev pub decreases-expressions_of : goal.decreases-expressions_of
 decreases-expressions_of l = measure (table_view l.table.charts.now) l.depth (4 * expressions_size (expressions (map expression_view l.operands.now)) + 2)
 
 abbrev pub invariant-items_of-loop-item : goal.invariant-items_of-loop-item
-invariant-items_of-loop-item l = AreMade l.initial.numbering l.numbering (items_parts (table_view l.table.charts.now) l.depth l.next (items_view (take l.item-index l.items))) l.parts
+invariant-items_of-loop-item l = AreMade l.initial.numbering l.numbering (items_parts (table_view l.table.charts.now) l.depth l.level.called.now (ways_view l.level.ways.now) l.next (items_view (take l.item-index l.items))) l.parts
 
 abbrev pub invariant-operands_of-loop-operand : goal.invariant-operands_of-loop-operand
-invariant-operands_of-loop-operand l = record { made : AreMade l.initial.numbering l.numbering (operands_parts (table_view l.table.charts.now) l.depth l.next (bodies_view (take l.operand-index l.operands))) l.parts; none : l.parts.shown ≡ [] }
+invariant-operands_of-loop-operand l = AreMade l.initial.numbering l.numbering (operands_parts (table_view l.table.charts.now) l.depth (ways_view l.ways) l.next (bodies_view (take l.operand-index l.operands))) l.parts
 
 abbrev pub invariant-expressions_of-loop-expression : goal.invariant-expressions_of-loop-expression
-invariant-expressions_of-loop-expression l = record { made : AreMade l.initial.numbering l.numbering (expressions_parts (table_view l.table.charts.now) l.depth l.next (expressions (map expression_view (take l.expression-index l.operands)))) l.parts; none : l.parts.shown ≡ [] }
+invariant-expressions_of-loop-expression l = AreMade l.initial.numbering l.numbering (expressions_parts (table_view l.table.charts.now) l.depth (ways_view l.ways) l.next (expressions (map expression_view (take l.expression-index l.operands)))) l.parts

@@ -1,4 +1,4 @@
-use Rattle.std.proofs.Common.{◌≡◌, ◌∙◌, [], ℕ, List, Option, Some, sym, subst, ap}
+use Rattle.std.proofs.Common.{◌≡◌, ◌∙◌, ℕ, List, Option, Some, sym, subst, ap}
 use Rattle.std.specs.List.{position}
 use Rattle.std.specs.Option.{option_copied}
 use Rattle.std.specs.Str.{bytes_eq}
@@ -6,22 +6,23 @@ use Rattle.label_table.specs.Labels.{label_number}
 use Rattle.msc_base.specs.NameTables.{with_name}
 use Rattle.msc_base.specs.declared.label.Label.{Label}
 use Rattle.msc_unfolding.specs.Unfoldings.{Happening}
+use Rattle.msc_meaning.specs.ChartUnfoldings.{under}
 use Rattle.msc_meaning.specs.FarEnds.{happening}
 use Rattle.msc_meaning.specs.Views.{node_view}
 use Rattle.expanded_charts.specs.Expanding.{NumberedEvent}
-use Rattle.expanded_charts.specs.Making.{IsNumbered, IsSecond, here}
+use Rattle.expanded_charts.specs.GateWays.{ways_view}
+use Rattle.expanded_charts.specs.Making.{IsNumbered, IsSecond}
 use Rattle.expanded_charts.specs.Numbering.{with_event, with_label, with_second}
 use Rattle.expanded_charts.specs.declared.numbering.Numbering.{Numbering}
-use Rattle.expanded_charts.proofs.EventParts.{plain_label}
 use Rattle.expanded_charts.proofs.Numbers.{is_numbered}
 use Rattle.expanded_charts.proofs.events.numbered.Goals as goal
 
 pub returns : goal.returns
 returns c =
-    let h : Happening = happening [] here (node_view c.args.node.now) in
+    let h : Happening = happening c.args.level.called.now.ends (under (ways_view c.args.level.ways.now)) (node_view c.args.node.now) in
     let e : NumberedEvent = record { number = c.args.number; happening = h } in
     let old : Numbering = c.args.numbering.now in
-    let said : c.in_ok-label.label ≡ h.label = c.in_ok-label.ensures ∙ sym (plain_label (node_view c.args.node.now) c.requires) in
+    let said : c.in_ok-label.label ≡ h.label = c.in_ok-label.ensures in
     let first : c.number_name.new.names ≡ with_name old.names h.label.at = c.in_ok-at.ensures.names in
     let child : option_copied c.created.result ≡ h.also = c.created.ensures in
     let names : c.number_second.new.names ≡ with_second (with_name old.names h.label.at) h.also = c.in_ok-also.ensures.names ∙ (ap (with_second c.number_name.new.names) child ∙ ap (λ (l : List (List ℕ)). with_second l h.also) first) in

@@ -1,4 +1,4 @@
-use Rattle.std.proofs.Common.{rules, ◌≡◌, ◌∙◌, Some, None, sym, ap, length, List}
+use Rattle.std.proofs.Common.{rules, ◌≡◌, ◌∙◌, Some, None, sym, ap, List}
 use Rattle.label_table.specs.Labels.{label_number}
 use Rattle.msc_base.specs.declared.label.Label.{Label}
 use Rattle.expanded_charts.proofs.Numbers.{label_last, label_new, label_old}

@@ -3,7 +3,7 @@ use Rattle.msc_base.specs.Places.{IsLeast}
 use Rattle.msc_base.specs.declared.place.Place.{Place}
 use Rattle.msc_acceptance.specs.ChartFaults.{CrossesAt, IsAloneAt}
 use Rattle.msc_acceptance.specs.Rules.{InOne}
-use Rattle.msc_acceptance.proofs.AcceptLaws.{alone_first, crossed_first, event_name_first}
+use Rattle.msc_acceptance.proofs.AcceptLaws.{alone_first, bodies_kept, crossed_first}
 use Rattle.msc_acceptance.proofs.deciding.body_fault.Goals as goal
 
 pub returns-in-Some-clause-first : goal.returns-in-Some-clause-first
@@ -21,5 +21,4 @@ pub returns-clause-first : goal.returns-clause-first
 returns-clause-first c = λ charts h.
     let e : c.args.faults.crossed ≡ None = search rules in
     let f : c.args.faults.alone ≡ None = search rules in
-    event_name_first charts c.event_name_fault.result (subst (λ (o : Option Place). IsLeast (InOne CrossesAt charts) o) e h.crossed) (subst (λ (o : Option Place). IsLeast (InOne IsAloneAt charts) o) f (h.alone e))
-    (c.event_name_fault.ensures charts h)
+    bodies_kept charts (subst (λ (o : Option Place). IsLeast (InOne CrossesAt charts) o) e h.crossed) (subst (λ (o : Option Place). IsLeast (InOne IsAloneAt charts) o) f (h.alone e))

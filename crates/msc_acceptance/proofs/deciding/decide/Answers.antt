@@ -18,21 +18,21 @@ use Rattle.msc_acceptance.specs.Acceptance.{BreaksOf}
 use Rattle.msc_acceptance.specs.Deciding.{AllKept, HaveExtents, IsDecided, IsFirstOf, IsSettled, body_groups, table_groups, text_groups}
 use Rattle.msc_acceptance.specs.declared.deciding.Decision.{Decision}
 use Rattle.msc_acceptance.specs.declared.deciding.Decision.TheVariants as decision
-use Rattle.msc_acceptance.proofs.AcceptLaws.{built_of, cycle_first, cycle_kept, few, first_left, first_right, kept_both}
-use Rattle.msc_acceptance.proofs.AcceptedLaws.{are_accepted, differ, entry_names}
-use Rattle.msc_acceptance.proofs.PlainLaws.{table_plain}
+use Rattle.msc_acceptance.proofs.AcceptLaws.{built_of, few, first_left, first_right, kept_both}
+use Rattle.msc_acceptance.proofs.AcceptedLaws.{all_there, are_basic, differ, entry_names}
+use Rattle.msc_acceptance.proofs.HeldGates.{all_go}
 use Rattle.msc_acceptance.proofs.deciding.decide.Goals as goal
 
 settled : (charts : List Chart) (table : Table) (r : Result Decision NoMemory) → AllKept (BreaksOf charts) text_groups → AllKept (BreaksOf charts) body_groups → AreEntriesOf instances charts table → HaveExtents (map sized_of charts)
     → IfOk r (IsSettled charts table) → IfOk r (IsDecided charts)
 settled charts table (Err e) texts bodies are extents h = tt
 settled charts table (Ok (decision.Accepted a)) texts bodies are extents h = (
-  kept_both charts text_groups (body_groups ++ table_groups) texts (kept_both charts body_groups table_groups bodies (cycle_kept charts h.2)),
+  kept_both charts text_groups (body_groups ++ table_groups) texts (kept_both charts body_groups table_groups bodies h.2),
   subst (AreEntriesOf instances charts) (sym h.0) are,
   subst (λ (t : Table). AreOrdered t EXPANDED_NESTING t) (sym h.0) h.1,
   extents,
 )
-settled charts table (Ok (decision.Faulty f)) texts bodies are extents h = first_right charts text_groups (body_groups ++ table_groups) f texts (first_right charts body_groups table_groups f bodies (cycle_first charts f h.0 h.1))
+settled charts table (Ok (decision.Faulty f)) texts bodies are extents h = first_right charts text_groups (body_groups ++ table_groups) f texts (first_right charts body_groups table_groups f bodies h)
 
 view_names : (entries : List code.ChartEntry) → AreDifferent (map (λ (e : ChartEntry). e.name) (table_view entries)) → AreDifferent (map (λ (e : code.ChartEntry). e.name) entries)
 view_names entries h = subst AreDifferent (same entries) h
@@ -82,16 +82,31 @@ settle-requires-clause-different c =
     let are = c.in_ok-made.ensures.entries (c.body_fault.ensures.whole f) in
     view_names c.in_ok-made.made.entries.items (subst AreDifferent (sym (entry_names charts (table_view c.in_ok-made.made.entries.items) are)) (differ c.built_charts_are_known.ensures c.woven_charts_are_known.ensures charts c.requires texts))
 
-pub settle-requires-clause-plain : goal.settle-requires-clause-plain
-settle-requires-clause-plain c =
+pub settle-requires-clause-basic : goal.settle-requires-clause-basic
+settle-requires-clause-basic c =
     let charts = map chart_view c.args.charts.items in
     let told : IsFirstOf charts text_groups c.in_ok-fault.field-0 = subst (λ (l : List RawChart). IsFirstOf (map chart_view l) text_groups c.in_ok-fault.field-0) c.as_slice-2.ensures.value c.in_ok-fault.ensures.first in
     let e : c.in_ok-fault.field-0 ≡ None = search rules in
     let f : c.body_fault.result ≡ None = search rules in
     let texts = subst (λ (o : Option (Broken Rule)). IsFirstOf charts text_groups o) e told in
-    let bodies = subst (λ (o : Option (Broken Rule)). IsFirstOf charts body_groups o) f (c.body_fault.ensures.first charts c.in_ok-made.ensures.faults) in
+    are_basic c.built_charts_are_known.ensures c.woven_charts_are_known.ensures charts c.requires texts (table_view c.in_ok-made.made.entries.items) (c.in_ok-made.ensures.entries (c.body_fault.ensures.whole f))
+
+pub settle-requires-clause-deep : goal.settle-requires-clause-deep
+settle-requires-clause-deep c =
+    let charts = map chart_view c.args.charts.items in
+    let told : IsFirstOf charts text_groups c.in_ok-fault.field-0 = subst (λ (l : List RawChart). IsFirstOf (map chart_view l) text_groups c.in_ok-fault.field-0) c.as_slice-2.ensures.value c.in_ok-fault.ensures.first in
+    let e : c.in_ok-fault.field-0 ≡ None = search rules in
+    let f : c.body_fault.result ≡ None = search rules in
+    let texts = subst (λ (o : Option (Broken Rule)). IsFirstOf charts text_groups o) e told in
+    let table = table_view c.in_ok-made.made.entries.items in
     let are = c.in_ok-made.ensures.entries (c.body_fault.ensures.whole f) in
-    table_plain (table_view c.in_ok-made.made.entries.items) (are_accepted c.built_charts_are_known.ensures c.woven_charts_are_known.ensures charts c.requires texts bodies (table_view c.in_ok-made.made.entries.items) are)
+    let extents : HaveExtents (map sized_of charts) = subst (λ (l : List RawChart). HaveExtents (map sized_of (map chart_view l))) c.as_slice-2.ensures.value (c.in_ok-fault.ensures.extents e) in
+    all_go table c.in_ok-made.made.entries.items (all_there c.built_charts_are_known.ensures c.woven_charts_are_known.ensures charts c.requires texts table are extents)
+
+pub settle-requires-clause-whole : goal.settle-requires-clause-whole
+settle-requires-clause-whole c =
+    let f : c.body_fault.result ≡ None = search rules in
+    c.body_fault.ensures.whole f
 
 pub returns : goal.returns
 returns c =
@@ -103,4 +118,4 @@ returns c =
     let bodies = subst (λ (o : Option (Broken Rule)). IsFirstOf charts body_groups o) f (c.body_fault.ensures.first charts c.in_ok-made.ensures.faults) in
     let are = c.in_ok-made.ensures.entries (c.body_fault.ensures.whole f) in
     let extents : HaveExtents (map sized_of charts) = subst (λ (l : List RawChart). HaveExtents (map sized_of (map chart_view l))) c.as_slice-2.ensures.value (c.in_ok-fault.ensures.extents e) in
-    settled charts (table_view c.in_ok-made.made.entries.items) c.settle.result texts bodies are extents (c.settle.ensures charts are (search rules))
+    settled charts (table_view c.in_ok-made.made.entries.items) c.settle.result texts bodies are extents (c.settle.ensures charts are c.in_ok-made.ensures.faults (search rules))

@@ -1,0 +1,150 @@
+-- The charts of an accepted table are whole: the called gates of their levels have one end, and they have as many operands as their forms
+-- take, parts of alternatives, and named charts that are there.
+use Rattle.std.specs.Prelude.{ℕ, zero, suc, true, List, [], ◌∷◌, ◌++◌, Option, None, Some}
+use Rattle.std.proofs.Common.{◌≡◌, sym, subst}
+use Rattle.chart_forms.specs.BuiltBodies.{AreBuiltBodies, AreBuiltItems, IsBuiltBody, IsBuiltItem}
+use Rattle.chart_text.specs.WellFormed.{are_several, has_parts, have_parts}
+use Rattle.expanded_charts.specs.BasicCharts.{IsBasicTable, IsBasicWoven}
+use Rattle.expanded_terms.specs.FitBodies.{AreEndsOf, HasParts}
+use Rattle.expanded_terms.specs.GateTies.{IsQuietLevel, IsQuietTable, IsQuietWoven}
+use Rattle.expanded_terms.specs.WholeCharts.{AreWholeExpressions, AreWholeItems, AreWholeOperands, IsWholeExpression, IsWholeItem, IsWholeLevel, IsWholeTo, IsWholeWoven}
+use Rattle.gate_ends.specs.EndLaws.{EndsAreFound}
+use Rattle.gate_ends.specs.FoundEnds.{AreAll, GoesTo, item_names, items_names, level_names, operands_names, table_ends}
+use Rattle.gate_ends.specs.LevelGates.{items_in}
+use Rattle.gate_rules.specs.GateLaws.{HasGates}
+use Rattle.msc_acceptance.proofs.HeldGates.{there_goes}
+use Rattle.msc_acceptance.specs.AcceptedCharts.{EachChart, IsAcceptedChart, IsThereTo, content_levels, content_names}
+use Rattle.msc_acceptance.specs.Listing.{cover_of}
+use Rattle.msc_meaning.specs.Bodies.{Body, level, WovenItems, no_items, item_and, WovenItem, Single, Coregion, Inline, Refer, Bodies, no_bodies, body_and}
+use Rattle.msc_base.specs.Orders.{Among, first, later}
+use Rattle.msc_base.specs.declared.limits.TheConstants.Limits.{EXPANDED_NESTING}
+use Rattle.msc_meaning.proofs.LevelLaws.{each_left, each_right}
+use Rattle.msc_meaning.specs.BodyLevels.{BodyLevel, EachLevel, body_levels, item_levels, items_levels, levels_from, operands_levels}
+use Rattle.msc_meaning.specs.InnerEvents.{charts_in, charts_in_all}
+use Rattle.msc_tree.specs.declared.reference.InlineForm.{InlineForm}
+use Rattle.msc_meaning.specs.Tables.{ChartEntry, Table, Woven, Basic, Refinement, refinements}
+use Rattle.msc_tree.specs.Expressions.{Expression, Empty, Chart, Alt, Par, Seq, Opt, Loop, Expressions, none, more}
+use Rattle.std.proofs.lemmas.Bool.{and_parts}
+use Rattle.chart_judge.proofs.TableEntries.{entry_has, name_has}
+
+-- ---- names of two lists
+
+module _ (P : List ℕ → Type 0) where
+  pub all_left : (xs ys : List (List ℕ)) → AreAll P (xs ++ ys) → AreAll P xs
+  all_left [] ys h = tt
+  all_left (x ∷ xs) ys h = (h.0, all_left xs ys h.1)
+
+  pub all_right : (xs ys : List (List ℕ)) → AreAll P (xs ++ ys) → AreAll P ys
+  all_right [] ys h = h
+  all_right (x ∷ xs) ys h = all_right xs ys h.1
+
+-- ---- gates
+
+module _ (table : Table) where
+  abbrev pub IsGatedLevel : BodyLevel → Type 0
+  IsGatedLevel l = HasGates table (items_in l.body)
+
+  gated_ends : EndsAreFound → (held : WovenItems) → AreAll (GoesTo table EXPANDED_NESTING) (items_names held) → HasGates table held → AreEndsOf table (table_ends table) held
+  gated_ends law held deep h = record { there = law.ends table EXPANDED_NESTING held deep h.there; one = h.one }
+
+-- ---- a body, where each chart that it names is there, and so whole
+
+some_parts : (xs : Expressions) → are_several xs ≡ true → HasParts xs
+some_parts none e = absurd cc
+some_parts (more x xs) e = tt
+
+module _ (P Q : List ℕ → Type 0) (f : (name : List ℕ) → P name → Q name) where
+  all_turned : (names : List (List ℕ)) → AreAll P names → AreAll Q names
+  all_turned [] h = tt
+  all_turned (n ∷ names) h = (f n h.0, all_turned names h.1)
+
+module _ (law : EndsAreFound) (table : Table) (Is : List ℕ → Type 0) (Whole : List ℕ → Type 0) (known : (name : List ℕ) → Is name → Whole name) (deep : (name : List ℕ) → Is name → GoesTo table EXPANDED_NESTING name) where
+  mutual
+    expression_whole : (e : Expression) → has_parts e ≡ true → AreAll Is (charts_in e) → IsWholeExpression table (table_ends table) Whole e
+    expression_whole Empty p h = tt
+    expression_whole (Chart name) p h = known name h.0
+    expression_whole (Alt parts) p h = let (some, each) = and_parts (are_several parts) (have_parts parts) p in (some_parts parts some, expressions_whole parts each h)
+    expression_whole (Par parts) p h = let (some, each) = and_parts (are_several parts) (have_parts parts) p in expressions_whole parts each h
+    expression_whole (Seq parts) p h = let (some, each) = and_parts (are_several parts) (have_parts parts) p in expressions_whole parts each h
+    expression_whole (Opt part) p h = expression_whole part p h
+    expression_whole (Loop lower upper part) p h = expression_whole part p h
+
+    expressions_whole : (xs : Expressions) → have_parts xs ≡ true → AreAll Is (charts_in_all xs) → AreWholeExpressions table (table_ends table) Whole xs
+    expressions_whole none p h = tt
+    expressions_whole (more x xs) p h =
+        let (one, others) = and_parts (has_parts x) (have_parts xs) p in
+        (expression_whole x one (all_left Is (charts_in x) (charts_in_all xs) h), expressions_whole xs others (all_right Is (charts_in x) (charts_in_all xs) h))
+
+  module _ (names : List (List ℕ)) where
+    mutual
+      level_whole : (f : Option InlineForm) (b : Body) → IsBuiltBody names b → EachLevel (IsGatedLevel table) (levels_from f b) → AreAll Is (level_names b) → IsWholeLevel table (table_ends table) Whole b
+      level_whole f (level cover held pairs) p g h = (gated_ends table law held (all_turned Is (GoesTo table EXPANDED_NESTING) deep (items_names held) h) g.0, items_whole held p g.1 h)
+
+      items_whole : (xs : WovenItems) → AreBuiltItems names xs → EachLevel (IsGatedLevel table) (items_levels xs) → AreAll Is (items_names xs) → AreWholeItems table (table_ends table) Whole xs
+      items_whole no_items p g h = tt
+      items_whole (item_and x xs) p g h = (
+        item_whole x p.0 (each_left (IsGatedLevel table) (item_levels x) (items_levels xs) g) (all_left Is (item_names x) (items_names xs) h),
+        items_whole xs p.1 (each_right (IsGatedLevel table) (item_levels x) (items_levels xs) g) (all_right Is (item_names x) (items_names xs) h),
+      )
+
+      item_whole : (x : WovenItem) → IsBuiltItem names x → EachLevel (IsGatedLevel table) (item_levels x) → AreAll Is (item_names x) → IsWholeItem table (table_ends table) Whole x
+      item_whole (Single n) p g h = tt
+      item_whole (Coregion ns) p g h = tt
+      item_whole (Inline form part operands) p g h = (p.0, operands_whole form operands p.1 g h)
+      item_whole (Refer part) p g h = expression_whole part.expression p.1 h
+
+      operands_whole : (f : InlineForm) (bs : Bodies) → AreBuiltBodies names bs → EachLevel (IsGatedLevel table) (operands_levels f bs) → AreAll Is (operands_names bs) → AreWholeOperands table (table_ends table) Whole bs
+      operands_whole f no_bodies p g h = tt
+      operands_whole f (body_and b bs) p g h = (
+        level_whole (Some f) b p.0 (each_left (IsGatedLevel table) (levels_from (Some f) b) (operands_levels f bs) g) (all_left Is (level_names b) (operands_names bs) h),
+        operands_whole f bs p.1 (each_right (IsGatedLevel table) (levels_from (Some f) b) (operands_levels f bs) g) (all_right Is (level_names b) (operands_names bs) h),
+      )
+
+  woven_whole : (rs : List Refinement) (w : Woven) (b : Body) → rs ≡ [] → w ≡ Basic b → IsBuiltBody (cover_of b) b → EachLevel (IsGatedLevel table) (content_levels w) → AreAll Is (content_names w) → IsWholeWoven table (table_ends table) Whole rs w
+  woven_whole rs w b whole is built g h =
+      subst (λ (rs : List Refinement). IsWholeWoven table (table_ends table) Whole rs w) (sym whole)
+      (subst (λ (w : Woven). IsWholeWoven table (table_ends table) Whole [] w) (sym is)
+      (level_whole (cover_of b) None b built (subst (λ (w : Woven). EachLevel (IsGatedLevel table) (content_levels w)) is g) (subst (λ (w : Woven). AreAll Is (content_names w)) is h)))
+
+-- each chart that is there goes no deeper than the limit
+pub goes_deep : (table : Table) → EachChart (λ c. IsThereTo table EXPANDED_NESTING c.name) table → (depth : ℕ) (name : List ℕ) → IsThereTo table depth name → GoesTo table EXPANDED_NESTING name
+goes_deep table there zero name h = absurd h
+goes_deep table there (suc depth) name h = there_goes table EXPANDED_NESTING name (name_has (IsThereTo table EXPANDED_NESTING) table name h.chart there h.is)
+
+pub whole_to : EndsAreFound → (table : Table) → EachChart IsAcceptedChart table → EachChart (λ c. EachLevel (IsGatedLevel table) (content_levels c.content)) table → EachChart (λ c. IsThereTo table EXPANDED_NESTING c.name) table
+    → (depth : ℕ) (name : List ℕ) → IsThereTo table depth name → IsWholeTo table (table_ends table) depth name
+whole_to law table charts gates there zero name h = absurd h
+whole_to law table charts gates there (suc depth) name h =
+    let a = entry_has IsAcceptedChart table name h.chart charts h.is in
+    record {
+      entry = h.chart;
+      is = h.is;
+      whole = woven_whole law table (IsThereTo table depth) (IsWholeTo table (table_ends table) depth) (whole_to law table charts gates there depth) (goes_deep table there depth) (refinements h.chart.decls) h.chart.content a.body a.whole a.is a.built
+          (entry_has (λ c. EachLevel (IsGatedLevel table) (content_levels c.content)) table name h.chart gates h.is) h.named;
+    }
+
+-- no inner event of a called gate stands in a loop
+quiet_levels : (table : Table) (ls : List BodyLevel) → EachLevel (IsGatedLevel table) ls → EachLevel (IsQuietLevel table) ls
+quiet_levels table [] h = tt
+quiet_levels table (l ∷ ls) h = (h.0.outside, quiet_levels table ls h.1)
+
+quiet_woven : (table : Table) (w : Woven) (b : Body) → w ≡ Basic b → EachLevel (IsGatedLevel table) (content_levels w) → IsQuietWoven table w
+quiet_woven table w b is g = subst (λ (w : Woven). IsQuietWoven table w) (sym is) (quiet_levels table (body_levels b) (subst (λ (w : Woven). EachLevel (IsGatedLevel table) (content_levels w)) is g))
+
+of_each : (P : ChartEntry → Type 0) (table : Table) → EachChart P table → (c : ChartEntry) → Among c table → P c
+of_each P (d ∷ table) h _ first = h.0
+of_each P (d ∷ table) h c (later i) = of_each P table h.1 c i
+of_each P [] h c i = elim i [ ]
+
+pub all_quiet : (table : Table) → EachChart IsAcceptedChart table → EachChart (λ c. EachLevel (IsGatedLevel table) (content_levels c.content)) table → EachChart (λ c. IsThereTo table EXPANDED_NESTING c.name) table → IsQuietTable table
+all_quiet table charts gates there c i =
+    let a = of_each IsAcceptedChart table charts c i in
+    record {
+      deep = there_goes table EXPANDED_NESTING c.name (of_each (λ c. IsThereTo table EXPANDED_NESTING c.name) table there c i);
+      quiet = quiet_woven table c.content a.body a.is (of_each (λ c. EachLevel (IsGatedLevel table) (content_levels c.content)) table gates c i);
+    }
+
+-- none is a high-level chart, and none of their instances is decomposed
+pub all_basic : (table : Table) → EachChart IsAcceptedChart table → IsBasicTable table
+all_basic [] h = tt
+all_basic (c ∷ table) h = ((h.0.whole, subst IsBasicWoven (sym h.0.is) tt), all_basic table h.1)

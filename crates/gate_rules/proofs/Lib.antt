@@ -1,0 +1,13 @@
+mod Walks
+mod GateNames
+mod UseLaws
+mod BeforeFacts
+mod ClaimLaws
+mod FactLaws
+mod JudgingLaws
+mod RejoinLaws
+mod NotedLaws
+mod TakenLaws
+mod TwiceLaws
+mod CallLaws
+mod HeldLaws

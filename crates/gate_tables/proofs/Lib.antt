@@ -1,0 +1,8 @@
+mod KnownLaws
+mod MapSteps
+mod CalledEnds
+mod ChartTables
+mod FactLaws
+mod KeptSteps
+mod NamedSteps
+mod ViewFacts

@@ -1,0 +1,10 @@
+pub mod GateFacts
+pub mod FactViews
+pub mod Together
+pub mod FactMaps
+pub mod KeptMaps
+pub mod KnownFacts
+pub mod ChartGates
+pub mod ChartTables
+pub mod NamedMaps
+pub mod CalledEnds
