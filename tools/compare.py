@@ -7,9 +7,10 @@ PROGRAM and MODEL are programs that take the words of mscjudge; either may be a 
 is asked in the same process, so it is fast. With one folder as both, the documents alone are tried.
 
 Documents have charts of events of all kinds, stops, coregions, references and inline expressions (up to three within each other, shared
-and not), in statements and in columns, with labels and general ordering; more than a third of them are faulty at one place. Logs are runs of their
-charts, beginnings of runs, and runs damaged at a random place, in text or JSON, and some are judged within the least budget that lets
-them pass, and within one less. What is a run is also known here without the model, so a model that errs there is found.
+and not), with gates that are called, joined and left open, in statements and in columns, with labels and general ordering; more than a
+third of them are faulty at one place. Logs are runs of their charts, beginnings of runs, and runs damaged at a random place, in text or
+JSON, and some are judged within the least budget that lets them pass, and within one less. What is a run is also known here without the
+model, so a model that errs there is found.
 
 A document that the program refuses as not built yet is to have such a form, at that place; no more is asked of it. Each difference is
 printed with what it takes to see it again: document K of a seed is made alone by `--first K --documents 1`. At the end stands how often

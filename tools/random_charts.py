@@ -4,6 +4,9 @@ A chart is made as a tree of levels first: a level is a body or an operand, and 
 and references over some of its instances; a body has stops too, and a child is created in front of all that it does there. A reference
 has an expression over charts that were made before. From the tree come a run, by the meaning of the forms alone, and the text, in
 stretches of statements and of columns. So what a run is doesn't stand on how the text is read.
+
+Events may stand at gates, each gate of a chart with one event. Where one run has one event at most at a gate of an inline expression or
+reference, and none in a loop, an event of the level may call it; references join gates to others of their chart.
 """
 import copy
 import json
@@ -22,18 +25,27 @@ class Event:
     def __init__(self, at, kind, text, far=None, pairing=""):
         self.at, self.kind, self.text, self.far, self.pairing = at, kind, text, far, pairing
         self.cover, self.label, self.before, self.after = [at], None, [], []
+        # the gate that it is written at; the one at which it stands now, in a run; and which item and gate it calls
+        self.gate, self.open, self.callee = None, None, None
         self.instances = {at, text} if kind == "create" else {at}
 
     def words(self, in_chart):
         if self.kind in ("out", "in"):
             name, mark, values = self.text.partition("(")
             pairing = f",{self.pairing}" if in_chart and self.pairing else ""
-            return f"{self.kind} {name}{pairing}{mark}{values} {'to' if self.kind == 'out' else 'from'} {self.far}"
+            end = self.end() if in_chart else self.far
+            return f"{self.kind} {name}{pairing}{mark}{values} {'to' if self.kind == 'out' else 'from'} {end}"
         if self.kind == "lost":
             return f"out {self.text} to lost {self.far}"
         if self.kind == "found":
             return f"in {self.text} from found"
         return f"{self.kind} {self.text}"
+
+    def end(self):
+        """The other end as a chart has it."""
+        if self.callee:
+            return f"reference {self.callee[0].name} via {self.callee[1]}"
+        return f"env via {self.gate}" if self.gate else self.far
 
     def line(self, form, rng):
         """A line of a log."""
@@ -63,6 +75,7 @@ class Stop:
 class Inline:
     def __init__(self, form, cover, name, operands, bounds=None):
         self.form, self.cover, self.name, self.operands, self.bounds = form, cover, name, operands, bounds
+        self.callers, self.joins = {}, {}
 
 
 class Expression:
@@ -81,6 +94,7 @@ class Expression:
 class Reference:
     def __init__(self, cover, name, expression):
         self.form, self.cover, self.name, self.expression, self.operands, self.bounds = "reference", cover, name, expression, [], None
+        self.callers, self.joins = {}, {}
 
 
 class Level:
@@ -100,6 +114,64 @@ class Level:
                 yield from operand.levels()
 
 
+# --- gates --------------------------------------------------------------------------------------
+
+class Inner:
+    """The events at a gate inside: all of them, how many one run has at most, and whether one stands in a loop."""
+
+    def __init__(self, events, most, looped):
+        self.events, self.most, self.looped = events, most, looped
+
+    def fits(self):
+        """Whether one event may call it."""
+        return self.most == 1 and not self.looped and len({(event.at, event.kind, event.text) for event in self.events}) == 1
+
+
+def gathered(parts, apart=False):
+    """The inner events of parts, by their gates; apart where one of them happens alone."""
+    found = {}
+    for part in parts:
+        for gate, inner in part.items():
+            old = found.get(gate, Inner([], 0, False))
+            most = max(old.most, inner.most) if apart else old.most + inner.most
+            found[gate] = Inner(old.events + inner.events, most, old.looped or inner.looped)
+    return found
+
+
+def in_loop(inner):
+    return {gate: Inner(one.events, one.most, True) for gate, one in inner.items()}
+
+
+def gates_of_expression(expression):
+    if expression.form == "chart":
+        return gates_of_level(expression.chart.level)
+    inner = gathered([gates_of_expression(part) for part in expression.parts], expression.form == "alt")
+    return in_loop(inner) if expression.form == "loop" else inner
+
+
+def gates_inside(item):
+    """The inner events of an inline expression or reference."""
+    if isinstance(item, Reference):
+        return gates_of_expression(item.expression)
+    inner = gathered([gates_of_level(operand) for operand in item.operands], item.form == "alt")
+    return in_loop(inner) if item.form == "loop" else inner
+
+
+def gates_of_item(item):
+    """What an item has at the gates of what is around it."""
+    if isinstance(item, Event):
+        return {item.gate: Inner([item], 1, False)} if item.gate else {}
+    if isinstance(item, Coregion):
+        return gathered([gates_of_item(event) for event in item.events])
+    if not isinstance(item, (Inline, Reference)):
+        return {}
+    return gathered([{item.joins.get(gate, gate): inner} for gate, inner in gates_inside(item).items() if gate not in item.callers])
+
+
+def gates_of_level(level):
+    return gathered([gates_of_item(item) for item in level.items])
+
+
 # --- making -------------------------------------------------------------------------------------
 
 class Maker:
@@ -108,6 +180,7 @@ class Maker:
     def __init__(self, rng, structural, instances, others):
         self.rng, self.left, self.structural, self.count = rng, EVENTS, structural, 0
         self.instances, self.others, self.expanded, self.created = instances, others, 0, set()
+        self.gates = 0
 
     def level(self, cover, depth):
         rng, items, waiting = self.rng, [], []
@@ -128,6 +201,7 @@ class Maker:
                 items.append(waiting.pop(rng.randrange(len(waiting))))
         rng.shuffle(waiting)
         level = Level(cover, items + waiting)
+        self.callers(level)
         self.coregions(level)
         if rng.random() < 0.3:
             self.order(level)
@@ -167,17 +241,53 @@ class Maker:
     def event(self, cover, waiting):
         rng, self.left = self.rng, self.left - 1
         at, far = rng.choice(cover), rng.choice(cover)
-        kind = rng.choice(["message"] * 5 + ["action"] * 3 + ["set", "reset", "timeout", "lost", "found", "out to env", "in from env"])
+        crossing = ["out to env", "in from env"] * (5 if self.structural in GATES else 1)
+        kind = rng.choice(["message"] * 5 + ["action"] * 3 + ["set", "reset", "timeout", "lost", "found"] + crossing)
         if kind == "message":
             text, pairing = rng.choice(["a", "b", "a(x)", "a('y z')"]), rng.choice(["", "", "", "1", "2"])
             self.left -= 1
             waiting.append(Event(far, "in", text, at, pairing))
             return Event(at, "out", text, far, pairing)
         if kind in ("out to env", "in from env"):
-            return Event(at, kind.split()[0], "e", "env")
+            event = Event(at, kind.split()[0], "e", "env")
+            event.gate = event.open = self.gate() if rng.random() < (0.8 if self.structural in GATES else 0.4) else None
+            return event
         if kind in ("lost", "found"):
             return Event(at, kind, "m", rng.choice("ijkl") if kind == "lost" else None)
         return Event(at, kind, rng.choice("xy"))
+
+    def gate(self):
+        """A gate that the chart doesn't have yet; where a rule is to be broken, also one that it has."""
+        if self.gates and self.structural in ("gate used twice", "gate on two instances") and self.rng.random() < 0.5:
+            return f"g{self.rng.randint(1, self.gates)}"
+        self.gates += 1
+        return f"g{self.gates}"
+
+    def callers(self, level):
+        """Lets events of the level call gates that one event may call; where a rule is to be broken, also others."""
+        rng, broken = self.rng, self.structural if self.structural in GATES else None
+        for item in [item for item in level.items if isinstance(item, (Inline, Reference))]:
+            inside = gates_inside(item)
+            if broken == "no gate" and rng.random() < 0.3:
+                self.call(level, item, rng.choice(["g9", "h"]), Event(rng.choice(level.cover), "out", "e", rng.choice(level.cover)))
+            for gate, inner in inside.items():
+                if gate in item.joins or not (inner.fits() or broken) or rng.random() < 0.3:
+                    continue
+                held = inner.events[0]
+                kind = "in" if held.kind == "out" else "out"
+                if broken == "gate ways differ" and rng.random() < 0.5:
+                    kind = held.kind
+                text = "f" if broken == "gate ways differ" and rng.random() < 0.3 else held.text
+                for _ in range(2 if broken == "gate used twice" and rng.random() < 0.5 else 1):
+                    self.call(level, item, gate, Event(rng.choice(level.cover), kind, text, held.at))
+
+    def call(self, level, item, gate, event):
+        """Puts the caller in front of the item, if it goes out, else behind it; now and then elsewhere."""
+        rng, at, self.left = self.rng, level.items.index(item), self.left - 1
+        event.callee = (item, gate)
+        item.callers[gate] = event
+        first, last = (0, at) if event.kind == "out" else (at + 1, len(level.items))
+        level.items.insert(rng.randint(first, last) if rng.random() < 0.9 else rng.randint(0, len(level.items)), event)
 
     def inline(self, cover, depth):
         rng = self.rng
@@ -207,7 +317,11 @@ class Maker:
         if self.structural == "uncovered instance" and len(own) > 1:
             own.remove(rng.choice(own))
         self.count += 1
-        return Reference(rng.sample(own, len(own)), f"R{self.count}", expression)
+        reference = Reference(rng.sample(own, len(own)), f"R{self.count}", expression)
+        reference.joins = {gate: self.gate() for gate in gates_of_expression(expression) if rng.random() < 0.25}
+        if self.structural == "no gate" and rng.random() < 0.2:
+            reference.joins["h"] = self.gate()
+        return reference
 
     def expression(self, depth):
         rng = self.rng
@@ -266,7 +380,9 @@ def partners(level):
     """The pairs of a level, by the events: messages and general ordering."""
     sent, got, labels, pairs = {}, {}, {}, []
     for event in level.events():
-        if event.kind == "out" and event.far != "env":
+        if event.callee:
+            pass
+        elif event.kind == "out" and event.far != "env":
             sent.setdefault((event.at, event.far, event.text, event.pairing), []).append(event)
         elif event.kind == "in" and event.far != "env":
             got.setdefault((event.far, event.at, event.text, event.pairing), []).append(event)
@@ -290,11 +406,24 @@ def unfolded(rng, level):
         if ends and rng.random() < 0.6:
             continue
         inner, more = unfolded_item(rng, item)
+        if isinstance(item, (Inline, Reference)):
+            inner, more = past_gates(item, *own_events(inner, more))
         pairs += more + in_columns(events, inner)
         events += inner
         if ends:
             break
     return events, [(first, second) for first, second in pairs if first in events and second in events]
+
+
+def past_gates(item, events, pairs):
+    """What an item's events are around it: those at a called gate have the caller at their other end, and others may be joined."""
+    for event in events:
+        caller = item.callers.get(event.open)
+        if caller:
+            event.far = caller.at
+            pairs = pairs + [(caller, event) if caller.kind == "out" else (event, caller)]
+        event.open = None if caller else item.joins.get(event.open, event.open)
+    return events, pairs
 
 
 def unfolded_item(rng, item):
@@ -382,8 +511,9 @@ def run_of(rng, level):
 OF_PARTS = ["a part lacks", "another list", "no name", "not its own column", "another form", "other operands", "another bound", "another expression", "parts exchanged"]
 FAULTS = ["unmatched message", "undeclared instance", "uncovered instance", "undeclared in a list", "named twice", "items exchanged", "loop bound", "missing chart", "recursive reference", "unbuilt"]
 CREATING = ["create placed", "created twice", "late creation"]
-STRUCTURAL = ["exc placed", "event named twice", "unknown event", "cyclic order", "uncovered instance", "event after stop", *CREATING]
-UNBUILT = ["out u to env via g", "in u from reference X1 via g", "concurrent; action x; \vout u to env via g; endconcurrent"]
+GATES = ["no gate", "gate used twice", "gate ways differ", "gate on two instances", "gate on a loop"]
+STRUCTURAL = ["exc placed", "event named twice", "unknown event", "cyclic order", "uncovered instance", "event after stop", *CREATING, *GATES, *GATES]
+UNBUILT = ["reference empty via g to reference X1 via h", "reference X9: empty via g to env via f, g to reference X1 via h"]
 MARK = "\v"
 
 
@@ -421,7 +551,7 @@ class Writer:
     # an event, and its faults
     def event(self, event, cover):
         words, message = event.words(True), event.kind in ("out", "in")
-        if message and event.far != "env" and self.here("unmatched message"):
+        if message and event.far != "env" and not event.callee and self.here("unmatched message"):
             return None
         if (message or event.kind == "create") and self.here("undeclared instance"):
             words = "out u to nobody" if message else "create nobody"
@@ -486,17 +616,21 @@ class Writer:
         """An inline expression or a condition as a statement."""
         if isinstance(item, Condition):
             return "condition c;"
-        name = " " + item.name if self.fault == "named twice" or self.rng.random() < 0.3 else ""
+        name = " " + item.name if self.fault == "named twice" or item.callers or self.rng.random() < 0.3 else ""
         if names and self.here("named twice"):
             name = " " + names[0]
         names.append(item.name)
         if isinstance(item, Reference):
-            return self.referring(name, self.expression(item.expression), "")
+            return self.referring(name, self.expression(item.expression) + self.joins(item), "")
         operands = [" ".join(self.statements(operand)) for operand in item.operands]
         return self.inline(item.form, self.bounds(item), name, operands)
 
     def referring(self, name, expression, shared):
         return f"reference{name + ':' if name else ''} {expression}{shared};"
+
+    def joins(self, item):
+        """The joins of a reference as they are written."""
+        return " via " + ", ".join(f"{gate} to env via {outer}" for gate, outer in item.joins.items()) if item.joins else ""
 
     def expression(self, held):
         """The expression of a reference as it is written."""
@@ -570,14 +704,14 @@ class Writer:
         several = len(item.cover) > 1
         if several and self.here("a part lacks"):
             return None
-        name = " " + item.name if several or self.fault == "named twice" or self.rng.random() < 0.4 else ""
+        name = " " + item.name if several or self.fault == "named twice" or item.callers or self.rng.random() < 0.4 else ""
         if several and self.here("no name"):
             name = ""
         if last and self.here("named twice"):
             name = " " + last
         if isinstance(item, Reference):
             another = several and self.here("another expression")
-            return self.referring(name, "empty seq empty" if another else self.part_text(item), shared)
+            return self.referring(name, "empty seq empty" if another else self.part_text(item) + self.joins(item), shared)
         form, operands = item.form, [" ".join(self.column(operand, i)) for operand in item.operands]
         if several and self.here("another form"):
             form = {"alt": "par", "par": "alt", "opt": "exc", "exc": "opt", "loop": "opt"}[form]
