@@ -1,6 +1,6 @@
 -- What charts come to with the charts that they name: their expanded size and their expanded nesting. Where no chart leads back to itself
 -- and no two have one name, each has one of either.
-use Rattle.std.specs.Prelude.{◌≡◌, ◌+◌, ℕ, max, List, [], ◌∷◌, map}
+use Rattle.std.specs.Prelude.{◌≡◌, ◌+◌, ℕ, suc, max, List, [], ◌∷◌, map, slice_index_or}
 use Rattle.chart_extents.specs.OwnExtents.{own_extent}
 use Rattle.chart_extents.specs.declared.extent.Extent.{Extent}
 use Rattle.chart_links.specs.Links.{Link, depth_of, linked}
@@ -16,8 +16,20 @@ pub record Sized : Type 0 where
   pub place : Place
   pub own : Extent
 
-abbrev pub sized_of : Chart → Sized
-sized_of chart = record { summary = summary_of chart; place = chart.place; own = own_extent chart }
+-- an extent with what joins between two gates add
+abbrev pub with_joins : Extent → ℕ → Extent
+with_joins own joined = record { size = own.size + joined; nesting = own.nesting }
+
+abbrev pub sized_of : Chart → ℕ → Sized
+sized_of chart joined = record { summary = summary_of chart; place = chart.place; own = with_joins (own_extent chart) joined }
+
+-- these charts, from that number on, each with what its joins add: what the list says at its number, and nothing behind the end of the list
+abbrev pub sized_from : List ℕ → ℕ → List Chart → List Sized
+sized_from joined i [] = []
+sized_from joined i (c ∷ cs) = sized_of c (slice_index_or joined i 0) ∷ sized_from joined (suc i) cs
+
+abbrev pub sized_charts : List Chart → List ℕ → List Sized
+sized_charts charts joined = sized_from joined 0 charts
 
 abbrev pub summaries : List Sized → List Summary
 summaries charts = map (λ (c : Sized). c.summary) charts

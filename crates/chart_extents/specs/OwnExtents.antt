@@ -1,4 +1,5 @@
--- What a chart comes to by itself, by its text: its size and its nesting, without those of the charts that it names.
+-- What a chart comes to by itself, by its text: its size and its nesting, without those of the charts that it names, and without what joins
+-- between two gates add.
 use Rattle.std.specs.Prelude.{ℕ, ◌+◌, max, List, [], ◌∷◌}
 use Rattle.chart_extents.specs.declared.extent.Extent.{Extent}
 use Rattle.chart_forms.specs.ChartSizes.{size_of}
@@ -26,7 +27,7 @@ abbrev mutual
   parts_size expression.none = 0
   parts_size (expression.more x xs) = expression_size x + parts_size xs
 
--- a reference counts 2 and its expression; its joins count nothing yet
+-- a reference counts 2 and its expression; what its joins add is told apart
 abbrev pub reference_size : Form → ℕ
 reference_size (Refer reference) = 2 + expression_size reference.expression
 reference_size (Single event) = 0

@@ -22,11 +22,11 @@ of_form name form = record {
 
 -- the form is `action 'x'`
 abbrev pub of_action : List ℕ → Sized
-of_action name = sized_of (of_form name (Single (action (codes "'x'"))))
+of_action name = sized_of (of_form name (Single (action (codes "'x'")))) 0
 
 -- the form is `reference NAMED seq NAMED`
 abbrev pub twice : List ℕ → List ℕ → Sized
-twice name named = sized_of (of_form name (Refer (record { name = None; expression = expression.Seq (expression.more (expression.Chart named) (expression.more (expression.Chart named) expression.none)); joins = []; shared = None })))
+twice name named = sized_of (of_form name (Refer (record { name = None; expression = expression.Seq (expression.more (expression.Chart named) (expression.more (expression.Chart named) expression.none)); joins = []; shared = None }))) 0
 
 abbrev pub ActionsAreSmall : Type 0
 ActionsAreSmall = (charts : List Sized) (name : List ℕ) → IsExtentOf charts (of_action name) (record { size = 5; nesting = 3 })

@@ -1,6 +1,7 @@
 //! What a chart comes to by itself, by its text.
 
 ghost use Rattle.std.specs.Prelude.{◌≡◌, ◌+◌, IfOk, map, max};
+ghost use Rattle.chart_extents.specs.Extents.{with_joins as with_joined};
 ghost use Rattle.chart_extents.specs.OwnExtents.{deepest, expression_nesting, expression_size, form_nesting, own_extent, parts_nesting, parts_size, passage_nesting, passage_size, reference_size};
 ghost use Rattle.chart_text.specs.Gathering.{summed};
 ghost use Rattle.chart_text.specs.PassageViews.{passage_view, text_view};
@@ -157,7 +158,17 @@ fn text_nesting(text: &[Passage<'_>]) -> Result<u64, NoMemory>
     Ok(most)
 }
 
-/// What a chart of that text comes to without the charts that it names.
+/// An extent with what joins between two gates add.
+pub(crate) fn with_joins(own: Extent, joined: u64) -> Result<Extent, NoMemory>
+    ensures { IfOk result (λ all. all ≡ with_joined own joined) }
+{
+    Ok(Extent {
+        size: sum_of(own.size, joined)?,
+        nesting: own.nesting,
+    })
+}
+
+/// What a chart of that text comes to without the charts that it names and what joins between two gates add.
 pub fn own_extent(chart: &RawChart, text: &[Passage<'_>]) -> Result<Extent, NoMemory>
     requires { text_view text.now ≡ text_of (chart_view chart.now) }
     ensures { IfOk result (λ own. own ≡ own_extent (chart_view chart.now)) }

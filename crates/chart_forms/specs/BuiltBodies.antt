@@ -1,6 +1,5 @@
 -- Of which bodies terms are made.
 use Rattle.std.specs.Prelude.{◌≡◌, ℕ, Bool, true, false, List, [], ◌∷◌, Some, None}
-use Rattle.std.specs.List.{list_any}
 use Rattle.chart_text.specs.WellFormed.{has_parts}
 use Rattle.msc_base.specs.Lists.{IsAmong}
 use Rattle.msc_base.specs.declared.label.Kind.{Kind}
@@ -9,19 +8,7 @@ use Rattle.msc_tree.specs.declared.event.Target.{Target}
 use Rattle.msc_tree.specs.declared.event.Target.TheVariants.{Nobody, Env, Instance, Gate}
 use Rattle.msc_tree.specs.declared.reference.InlineForm.{InlineForm}
 use Rattle.msc_tree.specs.declared.reference.InlineForm.TheVariants as inline
-use Rattle.msc_tree.specs.declared.reference.Join.{Join}
-use Rattle.msc_tree.specs.declared.reference.JoinEnd.{JoinEnd}
-use Rattle.msc_tree.specs.declared.reference.JoinEnd.TheVariants as join_end
 use Rattle.msc_meaning.specs.Bodies.{EventNode, Body, level, WovenItems, no_items, item_and, WovenItem, Single, Coregion, Inline, Refer, Bodies, no_bodies, body_and}
-
--- a join that ties two gates; another hands a gate on to its level
-abbrev pub ties_gate : JoinEnd → Bool
-ties_gate (join_end.Env to) = false
-ties_gate (join_end.Reference name to) = true
-
--- one of them does
-abbrev pub tie_gates : List Join → Bool
-tie_gates js = list_any (λ (j : Join). ties_gate j.to) js
 
 -- what is created is an instance, as it is in every text that is read
 abbrev pub creates_instance : Kind → Target → Bool
@@ -69,8 +56,7 @@ module _ (names : List (List ℕ)) where
   AreBuiltNodes [] = Unit {0}
   AreBuiltNodes (n ∷ ns) = IsBuiltNode n × AreBuiltNodes ns
 
-  -- such events, inline expressions with as many operands as their forms have, references whose joins tie no two gates and whose
-  -- expressions have parts
+  -- such events, inline expressions with as many operands as their forms have, references whose expressions have parts
   abbrev mutual
     pub IsBuiltBody : Body → Type 0
     IsBuiltBody (level cover held pairs) = AreBuiltItems held
@@ -83,7 +69,7 @@ module _ (names : List (List ℕ)) where
     IsBuiltItem (Single n) = IsBuiltNode n
     IsBuiltItem (Coregion ns) = AreBuiltNodes ns
     IsBuiltItem (Inline form part operands) = (has_operands form operands ≡ true) × AreBuiltBodies operands
-    IsBuiltItem (Refer part) = (tie_gates part.joins ≡ false) × (has_parts part.expression ≡ true)
+    IsBuiltItem (Refer part) = has_parts part.expression ≡ true
 
     pub AreBuiltBodies : Bodies → Type 0
     AreBuiltBodies no_bodies = Unit {0}

@@ -1,6 +1,7 @@
 pub mod BodyEvents
 pub mod BuiltBodies
 pub mod NotBuilt
+pub mod TiedTexts
 pub mod LoopBounds
 pub mod ChartSizes
 pub mod TableSizes

@@ -9,7 +9,7 @@ use Rattle.msc_tree.specs.declared.chart.Decl.{Decl}
 use Rattle.msc_tree.specs.declared.event.RawEvent.{RawEvent}
 use Rattle.msc_tree.specs.Charts.{Chart, Content, Basic, HighLevel}
 use Rattle.msc_tree.specs.Statements.{Form, Single, Coregion, Condition, Inline, Refer, Stop, Statement, Column, Covered, Heading, Ended}
-use Rattle.chart_forms.specs.BuiltBodies.{creates_instance, tie_gates}
+use Rattle.chart_forms.specs.BuiltBodies.{creates_instance}
 
 -- a creation of no instance isn't built
 abbrev pub not_built_event : RawEvent → List Place
@@ -26,13 +26,13 @@ not_built_by (Some chart) place = place ∷ []
 abbrev pub not_built_decl : Decl → List Place
 not_built_decl d = not_built_by d.refined d.place
 
--- of an item by itself: references whose joins tie gates of two aren't built
+-- of an item by itself
 abbrev pub not_built_item : Place → Form → List Place
 not_built_item place (Inline head held) = []
 not_built_item place (Single e) = not_built_event e
 not_built_item place (Coregion events) = not_built_events events
 not_built_item place (Condition names shared) = []
-not_built_item place (Refer reference) = place_if (tie_gates reference.joins) place
+not_built_item place (Refer reference) = []
 not_built_item place Stop = []
 
 -- of what a statement declares

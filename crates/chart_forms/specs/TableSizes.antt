@@ -1,6 +1,9 @@
 -- The expanded size of a chart of a table, by what it and the charts that it names are woven to.
 use Rattle.std.specs.Prelude.{ℕ, zero, suc, ◌+◌, List, [], ◌∷◌, Option, None, Some, length}
+use Rattle.gate_ends.specs.FoundEnds.{inner_to}
+use Rattle.gate_ends.specs.JoinCounts.{reference_count}
 use Rattle.general_ordering.specs.OrderCounts.{order_count, orders_count}
+use Rattle.msc_base.specs.declared.limits.TheConstants.Limits.{EXPANDED_NESTING}
 use Rattle.msc_tree.specs.Expressions.{Expression, Empty, Chart, Alt, Par, Seq, Opt, Expressions, none, more}
 use Rattle.msc_tree.specs.Expressions as expression
 use Rattle.msc_meaning.specs.Bodies.{ReferencePart, Body, level, WovenItems, no_items, item_and, WovenItem, Single, Coregion, Inline, Refer, Bodies, no_bodies, body_and}
@@ -58,6 +61,6 @@ abbrev pub size_to : (ℕ → WovenItems → ReferencePart → ℕ) → Table �
 size_to product table zero name = 0
 size_to product table (suc k) name = entry_size (size_to product table k) (product k) (chart_at table name)
 
--- where no reference has joins
-abbrev pub no_product : ℕ → WovenItems → ReferencePart → ℕ
-no_product k whole part = 0
+-- joins between two gates add the pairs of their inner events, counted in the table
+abbrev pub counted_size : Table → List ℕ → ℕ
+counted_size table name = size_to (λ k. reference_count (inner_to table k)) table EXPANDED_NESTING name

@@ -5,7 +5,9 @@ mod bounds;
 mod creating;
 mod not_built;
 mod sizes;
+mod ties;
 
 pub use bounds::first_high_bound;
 pub use not_built::first_not_built;
 pub use sizes::size;
+pub use ties::{tie_gates, ties_gates};

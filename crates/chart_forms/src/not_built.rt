@@ -2,7 +2,6 @@
 
 ghost use Rattle.std.specs.Prelude.{◌≡◌, ◌++◌, IfOk, OnOk};
 ghost use Rattle.chart_forms.specs.NotBuilt.{IsNotBuilt, not_built as what_not, not_built_chart, not_built_decl, not_built_event, not_built_events, not_built_graph, not_built_heading, not_built_item};
-ghost use Rattle.chart_forms.specs.BuiltBodies.{tie_gates as any_ties, ties_gate as does_tie};
 ghost use Rattle.chart_text.specs.PassageViews.{text_view};
 ghost use Rattle.chart_text.specs.Texts.{chart_text as text_of};
 ghost use Rattle.msc_base.specs.Places.{IsLeast};
@@ -11,7 +10,7 @@ ghost use Rattle.msc_tree.specs.Views.{chart_view, content_view, form_view, stat
 use crate::creating::creates_instance;
 use chart_text::{Passage, TextRule, earliest_place, note_if, note_text};
 use msc_base::{Items, NoMemory, Place};
-use msc_tree::{Content, Decl, Join, JoinEnd, RawChart, RawEvent, RawForm, Statement};
+use msc_tree::{Content, Decl, RawChart, RawEvent, RawForm, Statement};
 use std::alloc::Global;
 
 /// Notes an event, where it isn't built.
@@ -45,28 +44,6 @@ fn decl(places: &mut Items<Place>, decl: &Decl) -> Result<(), NoMemory>
     }
 }
 
-/// Whether a join ties two gates.
-fn ties_gate(end: &JoinEnd) -> bool
-    ensures { result ≡ does_tie end.now }
-{
-    match end {
-        JoinEnd::Env(_) => false,
-        JoinEnd::Reference(_, _) => true,
-    }
-}
-
-/// Whether one of the joins does.
-fn tie_gates(joins: &[Join]) -> bool
-    ensures { result ≡ any_ties joins.now }
-{
-    for join in joins {
-        if ties_gate(&join.to) {
-            return true;
-        }
-    }
-    false
-}
-
 /// Notes what of an item by itself isn't built.
 fn item(places: &mut Items<Place>, place: Place, form: &RawForm) -> Result<(), NoMemory>
     ensures { OnOk result (places.new ≡ places.old ++ not_built_item place (form_view form.now)) }
@@ -76,7 +53,7 @@ fn item(places: &mut Items<Place>, place: Place, form: &RawForm) -> Result<(), N
         RawForm::Condition(_, _) => Ok(()),
         RawForm::Coregion(list) => events(places, list.as_slice()),
         RawForm::Inline(_) => Ok(()),
-        RawForm::Reference(held) => note_if(places, place, tie_gates(held.joins.as_slice())),
+        RawForm::Reference(_) => Ok(()),
         RawForm::Stop => Ok(()),
     }
 }

@@ -2,11 +2,9 @@
 use Rattle.std.proofs.Common.{◌≡◌, ◌≤◌, ℕ, List, [], ◌∷◌, Some, arith, refl, sym, ◌∙◌}
 use Rattle.msc_base.specs.declared.limits.TheConstants.Limits.{EXPANDED_NESTING, EXPANDED_SIZE}
 use Rattle.chart_cycles.specs.Cycles.{AreOrdered, IsOrdered}
-use Rattle.chart_forms.specs.TableSizes.{no_product, size_to}
+use Rattle.chart_forms.specs.TableSizes.{counted_size}
 use Rattle.chart_term.specs.Terms.{Tree, weight}
 use Rattle.expanded_charts.specs.BasicCharts.{IsBasicTable}
-use Rattle.expanded_terms.specs.ExpandedTerms.{charts_to}
-use Rattle.expanded_terms.specs.NamedEvents.{event_term}
 use Rattle.expansion_terms.specs.ExpansionTerms.{numbered_term}
 use Rattle.msc_acceptance.specs.AcceptedCharts.{EachChart, IsAcceptedTable, IsThereTo}
 use Rattle.msc_meaning.specs.Meanings.{Finished, Begun}
@@ -15,7 +13,7 @@ use Rattle.expanded_terms.specs.GateTies.{IsQuietTable}
 use Rattle.expanded_terms.specs.WholeCharts.{IsWholeTo}
 use Rattle.gate_ends.specs.EndLaws.{EndsAreFound}
 use Rattle.gate_ends.specs.FoundEnds.{table_ends}
-use Rattle.table_terms.specs.TableLaws.{TableTermsAreLight, TableTermsArePlaced, TableTermsAreSound, TableTermsMean, expanded_size}
+use Rattle.table_terms.specs.TableLaws.{TableTermsAreLight, TableTermsArePlaced, TableTermsAreSound, TableTermsMean}
 use Rattle.table_terms.specs.TableTerms.{IsTermOf, chart_numbering, labelled, numbered_chart}
 use Rattle.term_meaning.specs.Meanings.{Means}
 use Rattle.term_tables.specs.NetValues.{NetsValue}
@@ -24,7 +22,6 @@ use Rattle.trace_judge.specs.Sets.{IsSoundFor}
 use Rattle.verdict_meaning.proofs.Labelled.{begun_there}
 use Rattle.chart_judge.specs.ChartsTold.{ChartsHaveRuns, ChartsHaveTerms, VerdictsAreTold}
 use Rattle.chart_judge.proofs.WholeTables.{all_basic, all_quiet, whole_to}
-use Rattle.chart_judge.proofs.ExpandedSizes.{same_size}
 use Rattle.chart_judge.proofs.FewTables.{few_to}
 use Rattle.chart_judge.proofs.TableEntries.{name_has}
 use Rattle.chart_judge.proofs.TableRoom.{are_placed, has_room}
@@ -36,9 +33,6 @@ one_term table name v w x y a b = (a.nets ∙ sym b.nets, a.term ∙ sym b.term)
 each_ordered : (table : Table) (depth : ℕ) (charts : List ChartEntry) → AreOrdered table depth charts → EachChart (λ c. IsOrdered table depth c.name) charts
 each_ordered table depth [] h = tt
 each_ordered table depth (c ∷ charts) h = (h.0, each_ordered table depth charts h.1)
-
-within : (a b c : ℕ) → a ≤ b → b ≡ c → a ≤ c
-within a b c h e = omega (arith, h, e)
 
 below : (a b c : ℕ) → a ≤ b → b ≤ c → a ≤ c
 below a b c h g = omega (arith, h, g)
@@ -59,8 +53,8 @@ module _ (table : Table) (name : List ℕ) (chart : ChartEntry) (is : chart_at t
   ordered : IsOrdered table EXPANDED_NESTING name
   ordered = name_has (IsOrdered table EXPANDED_NESTING) table name chart (each_ordered table EXPANDED_NESTING table accepted.ordered) is
 
-  small : size_to no_product table EXPANDED_NESTING name ≤ EXPANDED_SIZE
-  small = name_has (λ n. size_to no_product table EXPANDED_NESTING n ≤ EXPANDED_SIZE) table name chart accepted.small is
+  small : counted_size table name ≤ EXPANDED_SIZE
+  small = name_has (λ n. counted_size table n ≤ EXPANDED_SIZE) table name chart accepted.small is
 
   module _ (v : NetsValue) (x : Tree) (made : IsTermOf table name v x) where
     chart_means : EndsAreFound → TableTermsMean → Means v (chart_numbering table name).names x (Finished table name) (Begun table name)
@@ -72,14 +66,11 @@ module _ (table : Table) (name : List ℕ) (chart : ChartEntry) (is : chart_at t
       placed = placed.placed table name v x basic (whole law) made (are_placed table accepted name);
     }
 
-    chart_weighs : TableTermsAreLight → weight x ≤ size_to no_product table EXPANDED_NESTING name
-    chart_weighs laws =
-        within (weight x) (expanded_size table name) (size_to no_product table EXPANDED_NESTING name)
-        (laws.light table name v x made (few_to table accepted.charts accepted.gates EXPANDED_NESTING name there))
-        (same_size (charts_to (event_term (chart_numbering table name).names (chart_numbering table name).labels) (table_ends table) table) table accepted.charts EXPANDED_NESTING name)
+    chart_weighs : TableTermsAreLight → weight x ≤ counted_size table name
+    chart_weighs laws = laws.light table name v x made (few_to table accepted.charts accepted.gates EXPANDED_NESTING name there)
 
     chart_light : TableTermsAreLight → weight x ≤ EXPANDED_SIZE
-    chart_light laws = below (weight x) (size_to no_product table EXPANDED_NESTING name) EXPANDED_SIZE (chart_weighs laws) small
+    chart_light laws = below (weight x) (counted_size table name) EXPANDED_SIZE (chart_weighs laws) small
 
 pub have_terms : EndsAreFound → TableTermsMean → TableTermsAreSound → TableTermsArePlaced → TableTermsAreLight → ChartsHaveTerms
 have_terms found mean sound placed light = record {

@@ -4,7 +4,6 @@ mod LevelPairs
 mod FewTables
 mod ExpandedEvents
 mod TableRoom
-mod ExpandedSizes
 pub mod Judging
 pub mod Known
 pub mod Verdicts

@@ -91,7 +91,7 @@ module _ (law : EndsAreFound) (table : Table) (Is : List ℕ → Type 0) (Whole 
       item_whole (Single n) p g h = tt
       item_whole (Coregion ns) p g h = tt
       item_whole (Inline form part operands) p g h = (p.0, operands_whole form operands p.1 g h)
-      item_whole (Refer part) p g h = expression_whole part.expression p.1 h
+      item_whole (Refer part) p g h = expression_whole part.expression p h
 
       operands_whole : (f : InlineForm) (bs : Bodies) → AreBuiltBodies names bs → EachLevel (IsGatedLevel table) (operands_levels f bs) → AreAll Is (operands_names bs) → AreWholeOperands table (table_ends table) Whole bs
       operands_whole f no_bodies p g h = tt

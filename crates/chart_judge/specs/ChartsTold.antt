@@ -2,7 +2,7 @@
 use Rattle.std.specs.Prelude.{◌≡◌, ◌≤◌, ℕ, List, [], Some}
 use Rattle.msc_base.specs.Only.{Only}
 use Rattle.msc_base.specs.declared.label.Label.{Label}
-use Rattle.msc_base.specs.declared.limits.TheConstants.Limits.{EXPANDED_NESTING, EXPANDED_SIZE}
+use Rattle.msc_base.specs.declared.limits.TheConstants.Limits.{EXPANDED_SIZE}
 use Rattle.msc_base.specs.declared.verdict.Verdict.{Verdict}
 use Rattle.line_events.specs.declared.event.LineEvent.{LineEvent}
 use Rattle.msc_acceptance.specs.AcceptedCharts.{IsAcceptedTable}
@@ -11,7 +11,7 @@ use Rattle.msc_unfolding.specs.Unfoldings.{Unfolding}
 use Rattle.msc_meaning.specs.Meanings.{Begins, Begun, Finished}
 use Rattle.msc_meaning.specs.Tables.{ChartEntry, Table, chart_at}
 use Rattle.chart_term.specs.Terms.{Tree, weight}
-use Rattle.chart_forms.specs.TableSizes.{no_product, size_to}
+use Rattle.chart_forms.specs.TableSizes.{counted_size}
 use Rattle.table_terms.specs.TableTerms.{HasRoom, IsTermOf, chart_numbering}
 use Rattle.term_meaning.specs.Meanings.{Means}
 use Rattle.term_tables.specs.NetValues.{NetsValue}
@@ -33,7 +33,7 @@ pub record ChartsHaveTerms : Type 0 where
       → Means v (chart_numbering table name).names x (Finished table name) (Begun table name)
   pub sound : (table : Table) (name : List ℕ) (chart : ChartEntry) (v : NetsValue) (x : Tree) → chart_at table name ≡ Some chart → IsAcceptedTable table → IsTermOf table name v x → IsSoundFor v x
   pub weighs : (table : Table) (name : List ℕ) (chart : ChartEntry) (v : NetsValue) (x : Tree) → chart_at table name ≡ Some chart → IsAcceptedTable table → IsTermOf table name v x
-      → weight x ≤ size_to no_product table EXPANDED_NESTING name
+      → weight x ≤ counted_size table name
   pub light : (table : Table) (name : List ℕ) (chart : ChartEntry) (v : NetsValue) (x : Tree) → chart_at table name ≡ Some chart → IsAcceptedTable table → IsTermOf table name v x → weight x ≤ EXPANDED_SIZE
 
 -- each unfolding of such a chart has a linear order, and a run of the chart begins with no label

@@ -42,14 +42,13 @@ pub(crate) fn called_gates<'a>(
     table: ChartTable<'a>,
     body: &'a Body,
 ) -> Result<CalledGates<'a>, NoMemory>
-    requires named { HasNames table.charts.now table.names.now }
-    requires gates { AreGatesOf (table_view table.charts.now) table.gates.now }
+    requires { AreGatesOf (table_view table.charts.now) table.gates.now }
     ensures { IfOk result (λ called. called ≡ gates_of (items_in (body_view body.now)) (ends_in (table_view table.entry.charts.now) (items_in (body_view body.now)))) }
 {
     if !items_call_gate(body.items.as_slice()) {
         return Ok(CalledGates::none());
     }
-    let gates = level_gates(alloc, table.charts, table.names, table.gates, body)?;
+    let gates = level_gates(alloc, table.gates, body)?;
     let called = CalledGates::of(alloc, gates)?;
     Ok(called)
 }

@@ -70,7 +70,7 @@ often t sh = length (numbers_with t sh)
 often_more : (t : Tag) (p : ℕ × Tag) (sh : Shown) → often t (p ∷ sh) ≡ length (number_if (is_same_tag p.1 t) 0 []) + often t sh
 often_more t p sh = if_length (is_same_tag p.1 t) p.0 (numbers_with t sh)
 
-often_both : (t : Tag) (a b : Shown) → often t (a ++ b) ≡ often t a + often t b
+pub often_both : (t : Tag) (a b : Shown) → often t (a ++ b) ≡ often t a + often t b
 often_both t [] b = omega arith
 often_both t (p ∷ a) b = omega (arith, often_more t p (a ++ b), often_more t p a, often_both t a b)
 

@@ -32,6 +32,7 @@ mod PlacedTerms
 mod TermWeights
 mod FewPairs
 mod ShownAnywhere
+mod JoinCounts
 mod LightCharts
 mod WholeCharts
 mod NormalTerms

@@ -1,12 +1,15 @@
--- The term of a chart weighs no more than the chart's expanded size: its joins come to no more than their products, and its levels have
--- few pairs.
+-- The term of a chart weighs no more than the chart's expanded size, by tags and as it is counted in the table: its joins come to no more
+-- than their products, and its levels have few pairs.
 use Rattle.std.specs.Prelude.{ℕ, zero, suc, ◌+◌, ◌*◌, ◌≤◌, List, [], ◌∷◌, Option, None, Some, length}
 use Rattle.std.proofs.Common.{◌≡◌, refl, sym, ◌∙◌, ap, arith}
 use Rattle.std.proofs.Math.Nat.{suc-mul, mul_comm}
 use Rattle.msc_base.specs.declared.label.Kind.{Kind}
 use Rattle.msc_base.specs.declared.label.Kind.TheVariants as kind
 use Rattle.msc_unfolding.specs.Unfoldings.{Tag, On, is_same_tag, Happening}
-use Rattle.chart_term.specs.Terms.{Tree}
+use Rattle.chart_term.specs.Terms.{Tree, weight}
+use Rattle.chart_forms.specs.TableSizes.{size_to}
+use Rattle.gate_ends.specs.FoundEnds.{inner_to}
+use Rattle.gate_ends.specs.JoinCounts.{reference_count}
 use Rattle.sound_terms.specs.TableLaws.{ConstructorsWeigh}
 use Rattle.term_meaning.specs.Portions.{Shown}
 use Rattle.msc_tree.specs.declared.reference.Join.{Join}
@@ -16,7 +19,7 @@ use Rattle.msc_tree.specs.Expressions.{Expression, Empty, Chart, Alt, Par, Seq, 
 use Rattle.msc_tree.specs.Expressions as expression
 use Rattle.msc_meaning.specs.Bodies.{Body, level, WovenItems, no_items, item_and, WovenItem, Single, Coregion, Inline, Refer, Bodies, no_bodies, body_and}
 use Rattle.msc_meaning.specs.Calls.{calls}
-use Rattle.msc_meaning.specs.FarEnds.{end_at}
+use Rattle.msc_meaning.specs.FarEnds.{GateMap, end_at}
 use Rattle.msc_meaning.specs.InnerEvents.{GateEnd}
 use Rattle.msc_meaning.specs.Tables.{Table, ChartEntry, chart_at, Woven, Basic, HighLevel, Refinement, refinements}
 use Rattle.msc_meaning.specs.Ties.{in_order, tie_by, join_tie, joins_ties, items_joins_ties}
@@ -27,6 +30,7 @@ use Rattle.expanded_terms.specs.JoinProducts.{often, join_product, joins_product
 use Rattle.expanded_terms.specs.LevelOrder.{tags}
 use Rattle.expanded_terms.specs.TagNumbers.{number_if, numbers_with, pairs_with, pairs_between, tied_numbers}
 use Rattle.expanded_terms.proofs.FewPairs.{length_app, with_length, tied_both, if_length, few_pairs_have_room}
+use Rattle.expanded_terms.proofs.JoinCounts.{charts_counted}
 use Rattle.expanded_terms.proofs.ShownAnywhere.{items_same, charts_same}
 use Rattle.expanded_terms.proofs.TermWeights.{expanded_terms_weigh}
 
@@ -145,8 +149,17 @@ charts_few event ends_of table zero name n h = h
 charts_few event ends_of table (suc k) name n h =
     entry_few (charts_to event ends_of table k) (charts_same event ends_of table k) ends_of (IsFewTo table k) (HasFewTo event (λ j. product_in (charts_to event ends_of table j)) ends_of table k) (charts_few event ends_of table k) n (chart_at table name) h
 
+charts_weigh : ConstructorsWeigh → (event : ℕ → Happening → Tree) (ends_of : WovenItems → List GateEnd) (table : Table) (depth : ℕ) (name : List ℕ) (gates : GateMap) (n : ℕ) → ((i : ℕ) (h : Happening) → weight (event i h) ≤ 1) → IsFewTo table depth name
+    → weight ((charts_to event ends_of table depth).term name gates n) ≤ size_to (λ k. product_in (charts_to event ends_of table k)) table depth name
+charts_weigh weigh event ends_of table depth name gates n one few = (expanded_terms_weigh weigh).weighs event (λ k. product_in (charts_to event ends_of table k)) ends_of table depth name gates n one (charts_few event ends_of table depth name n few)
+
+below : (a b c : ℕ) → a ≤ b → b ≤ c → a ≤ c
+below a b c l m = omega (arith, l, m)
+
 pub charts_are_light : ConstructorsWeigh → ChartsAreLight
 charts_are_light weigh = record {
-  light = λ event ends_of table depth name gates n one few.
-      (expanded_terms_weigh weigh).weighs event (λ k. product_in (charts_to event ends_of table k)) ends_of table depth name gates n one (charts_few event ends_of table depth name n few);
+  light = charts_weigh weigh;
+  counted = λ event ends_of table depth name gates n one few.
+      below (weight ((charts_to event ends_of table depth).term name gates n)) (size_to (λ k. product_in (charts_to event ends_of table k)) table depth name) (size_to (λ k. reference_count (inner_to table k)) table depth name)
+      (charts_weigh weigh event ends_of table depth name gates n one few) (charts_counted event ends_of table depth name few);
 }

@@ -15,6 +15,8 @@ use Rattle.msc_meaning.specs.FarEnds.{GateMap}
 use Rattle.msc_meaning.specs.InnerEvents.{GateEnd}
 use Rattle.msc_meaning.specs.Tables.{Table, ChartEntry, chart_at, Woven, Basic, HighLevel, Refinement, refinements}
 use Rattle.chart_forms.specs.TableSizes.{size_to}
+use Rattle.gate_ends.specs.FoundEnds.{inner_to}
+use Rattle.gate_ends.specs.JoinCounts.{reference_count}
 use Rattle.expanded_terms.specs.ExpandedTerms.{Charts, charts_to, items_shown}
 use Rattle.expanded_terms.specs.FewPairs.{HasFewOwn}
 use Rattle.chart_forms.specs.BuiltBodies.{has_operands}
@@ -84,8 +86,11 @@ abbrev pub IsFewTo : Table → ℕ → List ℕ → Type 0
 IsFewTo table zero name = ⊥
 IsFewTo table (suc k) name = IsFewEntry (IsFewTo table k) (chart_at table name)
 
--- then its term weighs no more than its expanded size
+-- then its term weighs no more than its expanded size, and so no more than with the inner events of gates counted in the table
 pub record ChartsAreLight : Type 0 where
   pub light : (event : ℕ → Happening → Tree) (ends_of : WovenItems → List GateEnd) (table : Table) (depth : ℕ) (name : List ℕ) (gates : GateMap) (n : ℕ)
       → ((i : ℕ) (h : Happening) → weight (event i h) ≤ 1) → IsFewTo table depth name
       → weight ((charts_to event ends_of table depth).term name gates n) ≤ size_to (λ k. product_in (charts_to event ends_of table k)) table depth name
+  pub counted : (event : ℕ → Happening → Tree) (ends_of : WovenItems → List GateEnd) (table : Table) (depth : ℕ) (name : List ℕ) (gates : GateMap) (n : ℕ)
+      → ((i : ℕ) (h : Happening) → weight (event i h) ≤ 1) → IsFewTo table depth name
+      → weight ((charts_to event ends_of table depth).term name gates n) ≤ size_to (λ k. reference_count (inner_to table k)) table depth name

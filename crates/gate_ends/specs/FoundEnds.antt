@@ -1,6 +1,6 @@
 -- The inner events of each gate, through operands, references and joins, and through the charts of a table as deep as references stand in
 -- each other; and by them the ends of the called gates of a level.
-use Rattle.std.specs.Prelude.{ℕ, zero, suc, ◌+◌, max, Bool, true, false, List, [], ◌∷◌, ◌++◌, Option, None, Some}
+use Rattle.std.specs.Prelude.{ℕ, zero, suc, ◌+◌, max, Bool, true, false, List, [], ◌∷◌, ◌++◌, Option, None, Some, length}
 use Rattle.std.specs.List.{flat_map}
 use Rattle.std.specs.Str.{bytes_eq}
 use Rattle.msc_base.specs.declared.limits.TheConstants.Limits.{EXPANDED_NESTING}
@@ -87,6 +87,10 @@ most (an_event e) = 1
 most (both a b) = most a + most b
 most (either a b) = max (most a) (most b)
 most (in_loop a) = most a
+
+-- how many there are
+abbrev pub event_count : GateEvents → ℕ
+event_count a = length (listed a)
 
 -- seen from another chart
 abbrev pub seen_in : List ℕ → GateEvents → GateEvents

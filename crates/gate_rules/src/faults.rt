@@ -62,8 +62,7 @@ fn note_caller(
     facts: &LevelFacts,
     caller: Caller<'_>,
 ) -> Result<(), NoMemory>
-    requires named { HasNames table.charts.now table.names.now }
-    requires gates { AreGatesOf (table_view table.charts.now) table.gates.now }
+    requires { AreGatesOf (table_view table.charts.now) table.gates.now }
     ensures { OnOk result ((held : WovenItems) → AreFactsOf (table_view table.entry.charts.now) held facts.now → IsNoted (λ r. place_if (breaks (table_view table.entry.charts.now) held r (caller_view caller.entry)) (place_of (caller_view caller.entry))) noted.old noted.new) }
 {
     let broken = broken_by(alloc, table, facts, caller)?;
@@ -78,8 +77,7 @@ fn note_each(
     facts: &LevelFacts,
     callers: &[Caller<'_>],
 ) -> Result<(), NoMemory>
-    requires named { HasNames table.charts.now table.names.now }
-    requires gates { AreGatesOf (table_view table.charts.now) table.gates.now }
+    requires { AreGatesOf (table_view table.charts.now) table.gates.now }
     ensures { OnOk result ((held : WovenItems) → AreFactsOf (table_view table.entry.charts.now) held facts.now → IsNoted (λ r. broken_at (table_view table.entry.charts.now) held r (callers_view callers.now)) noted.old noted.new) }
 {
     for caller in callers {
@@ -96,7 +94,6 @@ fn note_callers(
     body: &Body,
     callers: &[Caller<'_>],
 ) -> Result<(), NoMemory>
-    requires named { HasNames table.charts.now table.names.now }
     requires gates { AreGatesOf (table_view table.charts.now) table.gates.now }
     requires callers { callers_view callers.now ≡ callers_in (items_in (body_view body.now)) }
     ensures { OnOk result (IsNoted (λ r. broken_at (table_view table.entry.charts.now) (items_in (body_view body.now)) r (callers_in (items_in (body_view body.now)))) noted.old noted.new) }
@@ -104,7 +101,7 @@ fn note_callers(
     if callers.is_empty() {
         return Ok(());
     }
-    let facts = level_facts(alloc, table.charts, table.names, table.gates, body)?;
+    let facts = level_facts(alloc, table.gates, body)?;
     note_each(alloc, noted, table, &facts, callers)
 }
 
@@ -115,8 +112,7 @@ fn note_level(
     table: ChartTable<'_>,
     body: &Body,
 ) -> Result<(), NoMemory>
-    requires named { HasNames table.charts.now table.names.now }
-    requires gates { AreGatesOf (table_view table.charts.now) table.gates.now }
+    requires { AreGatesOf (table_view table.charts.now) table.gates.now }
     ensures { OnOk result (IsNoted (λ r. level_places (table_view table.entry.charts.now) r (body_view body.now)) noted.old noted.new) }
 {
     let mut callers = callers_of(alloc, body.items.as_slice())?;
@@ -132,8 +128,7 @@ fn note_levels(
     table: ChartTable<'_>,
     levels: &[BodyLevel<'_>],
 ) -> Result<(), NoMemory>
-    requires named { HasNames table.charts.now table.names.now }
-    requires gates { AreGatesOf (table_view table.charts.now) table.gates.now }
+    requires { AreGatesOf (table_view table.charts.now) table.gates.now }
     ensures { OnOk result (IsNoted (λ r. levels_places (table_view table.entry.charts.now) r (levels_view levels.now)) noted.old noted.new) }
 {
     for level in levels {
@@ -149,8 +144,7 @@ fn note_content(
     table: ChartTable<'_>,
     content: &EntryContent,
 ) -> Result<(), NoMemory>
-    requires named { HasNames table.charts.now table.names.now }
-    requires gates { AreGatesOf (table_view table.charts.now) table.gates.now }
+    requires { AreGatesOf (table_view table.charts.now) table.gates.now }
     ensures { OnOk result (IsNoted (λ r. content_places (table_view table.entry.charts.now) r (content_view content.now)) noted.old noted.new) }
 {
     match content {
@@ -169,8 +163,7 @@ fn note_charts(
     table: ChartTable<'_>,
     charts: &[ChartEntry],
 ) -> Result<(), NoMemory>
-    requires named { HasNames table.charts.now table.names.now }
-    requires gates { AreGatesOf (table_view table.charts.now) table.gates.now }
+    requires { AreGatesOf (table_view table.charts.now) table.gates.now }
     ensures { OnOk result (IsNoted (λ r. table_places (table_view table.entry.charts.now) r (table_view charts.now)) noted.old noted.new) }
 {
     for chart in charts {
@@ -195,11 +188,7 @@ pub fn gate_places(
     ensures split { IfOk result (λ places. IsLeast (BreaksGateRule (table_view charts.now) GateSplit) places.split) }
     ensures on_loop { IfOk result (λ places. IsLeast (BreaksGateRule (table_view charts.now) GateOnLoop) places.on_loop) }
 {
-    let table = ChartTable {
-        charts,
-        names,
-        gates,
-    };
+    let table = ChartTable { charts, gates };
     let mut noted = Noted::new(alloc);
     note_charts(alloc, &mut noted, table, charts)?;
     Ok(noted.earliest())

@@ -1,7 +1,6 @@
 //! Which rules a caller breaks: for `faults`.
 
 ghost use Rattle.std.specs.Prelude.{◌≡◌, ◌||◌, IfOk, option_map, option_copied};
-ghost use Rattle.gate_ends.specs.LevelGates.{HasNames};
 ghost use Rattle.gate_rules.specs.Callers.{caller_view};
 ghost use Rattle.gate_rules.specs.GateRules.{breaks, joins_nameless, lacks_own};
 ghost use Rattle.gate_rules.specs.Judging.{is_broken};
@@ -14,7 +13,7 @@ ghost use Rattle.msc_meaning.specs.Views.{table_view};
 use crate::caller::Caller;
 use crate::known::{Ends, ends_of};
 use gate_tables::{GateTables, LevelFacts, expression_facts};
-use msc_base::{Name, NameTable, NoMemory};
+use msc_base::{Name, NoMemory};
 use msc_meaning::ChartEntry;
 use msc_tree::JoinEnd;
 use std::alloc::Global;
@@ -23,7 +22,6 @@ use std::alloc::Global;
 #[derive(Clone, Copy)]
 pub(crate) struct ChartTable<'a> {
     pub(crate) charts: &'a [ChartEntry],
-    pub(crate) names: &'a NameTable,
     pub(crate) gates: &'a GateTables,
 }
 
@@ -59,21 +57,13 @@ fn joins_nameless(name: &Option<Name>, to: &JoinEnd) -> bool
 
 /// Whether the gate of a join has no inner event, or its reference has no name by which it calls.
 fn lacks_own(alloc: Global, table: ChartTable<'_>, caller: Caller<'_>) -> Result<bool, NoMemory>
-    requires named { HasNames table.charts.now table.names.now }
-    requires gates { AreGatesOf (table_view table.charts.now) table.gates.now }
+    requires { AreGatesOf (table_view table.charts.now) table.gates.now }
     ensures { IfOk result (λ lacks. lacks ≡ lacks_own (table_view table.entry.charts.now) (caller_view caller.entry)) }
 {
     match caller {
         Caller::Event(_, _) => Ok(false),
         Caller::Join(reference, join) => {
-            let facts = expression_facts(
-                alloc,
-                table.charts,
-                table.names,
-                table.gates,
-                &reference.expr,
-                join.gate.bytes(),
-            )?;
+            let facts = expression_facts(alloc, table.gates, &reference.expr, join.gate.bytes())?;
             Ok(either(facts.is_none(), joins_nameless(&reference.name, &join.to)))
         }
     }
@@ -96,8 +86,7 @@ pub(crate) fn broken_by(
     facts: &LevelFacts,
     caller: Caller<'_>,
 ) -> Result<Broken, NoMemory>
-    requires named { HasNames table.charts.now table.names.now }
-    requires gates { AreGatesOf (table_view table.charts.now) table.gates.now }
+    requires { AreGatesOf (table_view table.charts.now) table.gates.now }
     ensures { IfOk result (λ broken. (held : WovenItems) → AreFactsOf (table_view table.entry.charts.now) held facts.now → (r : GateRule) → is_broken broken r ≡ breaks (table_view table.entry.charts.now) held r (caller_view caller.entry)) }
 {
     let ends = ends_of(facts, caller);

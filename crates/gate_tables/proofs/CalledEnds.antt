@@ -10,9 +10,9 @@ use Rattle.msc_meaning.specs.Calls.{Call, calls, is_call_of}
 use Rattle.msc_meaning.specs.FarEnds.{end_at}
 use Rattle.msc_meaning.specs.InnerEvents.{GateEnd, InnerEvent, charts_in}
 use Rattle.msc_meaning.specs.Tables.{Table}
-use Rattle.gate_ends.specs.FoundEnds.{AreAll, GateEvents, called_ends, chart_gates, expression_inner, first_end, inner_of, items_names, listed, table_ends}
+use Rattle.gate_ends.specs.FoundEnds.{AreAll, GateEvents, called_ends, ends_to, expression_inner, first_end, inner_of, inner_to, items_names, listed}
 use Rattle.gate_tables.specs.CalledEnds.{end_list, end_of, ends_by}
-use Rattle.gate_tables.specs.ChartGates.{AreGatesOf}
+use Rattle.gate_tables.specs.ChartGates.{AreGatesTo}
 use Rattle.gate_tables.specs.GateFacts.{Facts, facts_by, facts_of}
 use Rattle.gate_tables.specs.KeptMaps.{kept_of}
 use Rattle.gate_tables.specs.KnownFacts.{expression_known, known_of}
@@ -68,18 +68,20 @@ all_of P [] h = tt
 all_of P (n ∷ ns) h = (h n, all_of P ns h)
 
 -- what is known of the named items of a level is the facts of their inner events
-pub items_known : (table : Table) (gates : GateTables) (held : WovenItems) (name gate : List ℕ) → AreGatesOf table gates → known_of (kept_of gates.charts) held name gate ≡ facts_of (inner_of (chart_gates table) held name gate)
-items_known table gates held name gate are = of_items_is (kept_of gates.charts) (chart_gates table) held name gate (all_of (IsKnown (kept_of gates.charts) (chart_gates table)) (items_names held) (λ n g. are.found n g))
+pub items_known : (table : Table) (depth : ℕ) (gates : GateTables) (held : WovenItems) (name gate : List ℕ) → AreGatesTo table depth gates → known_of (kept_of gates.charts) held name gate ≡ facts_of (inner_of (inner_to table depth) held name gate)
+items_known table depth gates held name gate are =
+    of_items_is (kept_of gates.charts) (inner_to table depth) held name gate (all_of (IsKnown (kept_of gates.charts) (inner_to table depth)) (items_names held) (λ n g. are.found n g))
 
-pub level_ends : (table : Table) (gates : GateTables) (held : WovenItems) → AreGatesOf table gates → ends_by (known_of (kept_of gates.charts) held) (calls held) ≡ table_ends table held
-level_ends table gates held are =
-    ends_same (known_of (kept_of gates.charts) held) (λ name gate. facts_of (inner_of (chart_gates table) held name gate)) (calls held) (λ name gate. items_known table gates held name gate are)
-    ∙ ends_listed (chart_gates table) held (calls held)
+pub level_ends : (table : Table) (depth : ℕ) (gates : GateTables) (held : WovenItems) → AreGatesTo table depth gates → ends_by (known_of (kept_of gates.charts) held) (calls held) ≡ ends_to table depth held
+level_ends table depth gates held are =
+    ends_same (known_of (kept_of gates.charts) held) (λ name gate. facts_of (inner_of (inner_to table depth) held name gate)) (calls held) (λ name gate. items_known table depth gates held name gate are)
+    ∙ ends_listed (inner_to table depth) held (calls held)
 
 pub mapped_twice : {A B C : Type 0} (f : B → C) (g : A → B) (o : Option A) → option_map (λ (x : A). f (g x)) o ≡ option_map f (option_map g o)
 mapped_twice f g None = refl
 mapped_twice f g (Some x) = refl
 
 -- and of an expression
-pub charts_known : (table : Table) (gates : GateTables) (e : Expression) (gate : List ℕ) → AreGatesOf table gates → expression_known (kept_of gates.charts) e gate ≡ facts_of (expression_inner (chart_gates table) e gate)
-charts_known table gates e gate are = expression_is (kept_of gates.charts) (chart_gates table) e gate (all_of (IsKnown (kept_of gates.charts) (chart_gates table)) (charts_in e) (λ n g. are.found n g))
+pub charts_known : (table : Table) (depth : ℕ) (gates : GateTables) (e : Expression) (gate : List ℕ) → AreGatesTo table depth gates → expression_known (kept_of gates.charts) e gate ≡ facts_of (expression_inner (inner_to table depth) e gate)
+charts_known table depth gates e gate are =
+    expression_is (kept_of gates.charts) (inner_to table depth) e gate (all_of (IsKnown (kept_of gates.charts) (inner_to table depth)) (charts_in e) (λ n g. are.found n g))

@@ -10,12 +10,11 @@ use Rattle.std.proofs.lemmas.Option.{cond_some, slice_get-map, slice_get_past}
 use Rattle.std.proofs.lemmas.Slice.Eq.{bytes_eq-Decides}
 use Rattle.indexmap.specs.IndexMap.{get_by}
 use Rattle.list_facts.proofs.Bools.{or_true}
-use Rattle.msc_base.specs.declared.limits.TheConstants.Limits.{EXPANDED_NESTING}
 use Rattle.msc_meaning.specs.Bodies.{Body}
 use Rattle.msc_meaning.specs.Tables.{Table, body_at, body_in, chart_at}
 use Rattle.msc_meaning.specs.Views.{entry_view, table_view}
 use Rattle.msc_meaning.specs.declared.body.ChartEntry as rust
-use Rattle.gate_ends.specs.FoundEnds.{AreAll, GoesTo, body_inner, body_names, chart_gates, inner_to, level_inner, level_names}
+use Rattle.gate_ends.specs.FoundEnds.{AreAll, GoesTo, body_inner, body_names, inner_to, level_inner, level_names}
 use Rattle.gate_ends.proofs.FoundEnds.{all_weaker, same_to}
 use Rattle.gate_tables.specs.ChartTables.{AreSomeOf, Grows, HasFacts}
 use Rattle.gate_tables.specs.GateFacts.{Facts, facts_of}
@@ -91,39 +90,39 @@ no_chart_at_depth table (suc n) name g is = ap (λ (o : Option Body). facts_of (
 
 -- ---- some charts of a table
 
-pub stays : (table : Table) (known : KeptMaps) → AreSomeOf table known → Grows table known known
-stays table known right = record { right = right; kept = λ n h. h }
+pub stays : (table : Table) (depth : ℕ) (known : KeptMaps) → AreSomeOf table depth known → Grows table depth known known
+stays table depth known right = record { right = right; kept = λ n h. h }
 
-pub grows_on : (table : Table) (old mid new : KeptMaps) → Grows table old mid → Grows table mid new → Grows table old new
-grows_on table old mid new first behind = record { right = behind.right; kept = λ n h. behind.kept n (first.kept n h) }
+pub grows_on : (table : Table) (depth : ℕ) (old mid new : KeptMaps) → Grows table depth old mid → Grows table depth mid new → Grows table depth old new
+grows_on table depth old mid new first behind = record { right = behind.right; kept = λ n h. behind.kept n (first.kept n h) }
 
-module _ (table : Table) (known new : KeptMaps) (name : List ℕ) (of : List ℕ → Option Facts) (right : AreSomeOf table known)
+module _ (table : Table) (depth : ℕ) (known new : KeptMaps) (name : List ℕ) (of : List ℕ → Option Facts) (right : AreSomeOf table depth known)
     (at : (n g : List ℕ) → kept_of new n g ≡ (if bytes_eq name n then of g else kept_of known n g)) (has : (n : List ℕ) → has_name new n ≡ (bytes_eq name n || has_name known n)) where
   pub added : HasFacts new name
   added = has name ∙ ap (λ (b : Bool). b || has_name known name) (itself name)
 
-  pub grown : ((g : List ℕ) → of g ≡ facts_of (chart_gates table name g)) → Grows table known new
+  pub grown : ((g : List ℕ) → of g ≡ facts_of (inner_to table depth name g)) → Grows table depth known new
   grown is = record {
     right = record { right = λ n g h. by n g (bytes_eq name n) refl (at n g) (has n) h };
     kept = λ n h. has n ∙ ap (λ (b : Bool). bytes_eq name n || b) h ∙ or_true (bytes_eq name n);
   }
     where
-      by : (n g : List ℕ) (b : Bool) → bytes_eq name n ≡ b → kept_of new n g ≡ (if b then of g else kept_of known n g) → has_name new n ≡ (b || has_name known n) → HasFacts new n → kept_of new n g ≡ facts_of (chart_gates table n g)
-      by n g true e a q h = a ∙ is g ∙ ap (λ (m : List ℕ). facts_of (chart_gates table m g)) ((bytes_eq-Decides name n).0 e)
+      by : (n g : List ℕ) (b : Bool) → bytes_eq name n ≡ b → kept_of new n g ≡ (if b then of g else kept_of known n g) → has_name new n ≡ (b || has_name known n) → HasFacts new n → kept_of new n g ≡ facts_of (inner_to table depth n g)
+      by n g true e a q h = a ∙ is g ∙ ap (λ (m : List ℕ). facts_of (inner_to table depth m g)) ((bytes_eq-Decides name n).0 e)
       by n g false e a q h = a ∙ right.right n g (sym q ∙ h)
 
 -- one without a body has no gates
-pub no_body : (table : Table) (known new : KeptMaps) (name : List ℕ) (of : List ℕ → Option Facts) → AreSomeOf table known → ((g : List ℕ) → of g ≡ None) → body_at table name ≡ None
-    → ((n g : List ℕ) → kept_of new n g ≡ (if bytes_eq name n then of g else kept_of known n g)) → ((n : List ℕ) → has_name new n ≡ (bytes_eq name n || has_name known n)) → Grows table known new
-no_body table known new name of right none is at has = grown table known new name of right at has (λ g. none g ∙ sym (no_chart_at_depth table EXPANDED_NESTING name g is))
+pub no_body : (table : Table) (depth : ℕ) (known new : KeptMaps) (name : List ℕ) (of : List ℕ → Option Facts) → AreSomeOf table depth known → ((g : List ℕ) → of g ≡ None) → body_at table name ≡ None
+    → ((n g : List ℕ) → kept_of new n g ≡ (if bytes_eq name n then of g else kept_of known n g)) → ((n : List ℕ) → has_name new n ≡ (bytes_eq name n || has_name known n)) → Grows table depth known new
+no_body table depth known new name of right none is at has = grown table depth known new name of right at has (λ g. none g ∙ sym (no_chart_at_depth table depth name g is))
 
 -- one with a body, whose charts are known
-pub with_body : (table : Table) (k : ℕ) (known new : KeptMaps) (name : List ℕ) (b : Body) (of : List ℕ → Option Facts) → AreSomeOf table known → body_at table name ≡ Some b → k < EXPANDED_NESTING → AreAll (GoesTo table k) (level_names b)
+pub with_body : (table : Table) (depth k : ℕ) (known new : KeptMaps) (name : List ℕ) (b : Body) (of : List ℕ → Option Facts) → AreSomeOf table depth known → body_at table name ≡ Some b → k < depth → AreAll (GoesTo table k) (level_names b)
     → AreAll (HasFacts known) (level_names b) → ((g : List ℕ) → of g ≡ level_known (kept_of known) b g)
-    → ((n g : List ℕ) → kept_of new n g ≡ (if bytes_eq name n then of g else kept_of known n g)) → ((n : List ℕ) → has_name new n ≡ (bytes_eq name n || has_name known n)) → Grows table known new
-with_body table k known new name b of right is low deep all made at has =
-    let charts = all_weaker (HasFacts known) (IsKnown (kept_of known) (chart_gates table)) (level_names b) (λ n h g. right.right n g h) all in
-    grown table known new name of right at has (λ g. made g ∙ level_is (kept_of known) (chart_gates table) b g charts ∙ sym (chart_at_depth table k EXPANDED_NESTING name g b is low deep))
+    → ((n g : List ℕ) → kept_of new n g ≡ (if bytes_eq name n then of g else kept_of known n g)) → ((n : List ℕ) → has_name new n ≡ (bytes_eq name n || has_name known n)) → Grows table depth known new
+with_body table depth k known new name b of right is low deep all made at has =
+    let charts = all_weaker (HasFacts known) (IsKnown (kept_of known) (inner_to table depth)) (level_names b) (λ n h g. right.right n g h) all in
+    grown table depth known new name of right at has (λ g. made g ∙ level_is (kept_of known) (inner_to table depth) b g charts ∙ sym (chart_at_depth table k depth name g b is low deep))
 
 -- ---- names gone through
 
@@ -161,12 +160,12 @@ not_there known (c ∷ cs) name all h = by (bytes_eq c.name name) refl (not_ther
     by true e more = let here = ap (has_name known) (sym ((bytes_eq-Decides c.name name).0 e)) ∙ all.0 in absurd cc
     by false e more = more
 
-pub all_found : (cs : List rust.ChartEntry) (known : KeptMaps) → AreSomeOf (table_view cs) known → AreAll (HasFacts known) (chart_names cs) → (name g : List ℕ) → kept_of known name g ≡ facts_of (chart_gates (table_view cs) name g)
-all_found cs known right all name g = by (has_name known name) refl
+pub all_found : (cs : List rust.ChartEntry) (depth : ℕ) (known : KeptMaps) → AreSomeOf (table_view cs) depth known → AreAll (HasFacts known) (chart_names cs) → (name g : List ℕ) → kept_of known name g ≡ facts_of (inner_to (table_view cs) depth name g)
+all_found cs depth known right all name g = by (has_name known name) refl
   where
-    by : (b : Bool) → has_name known name ≡ b → kept_of known name g ≡ facts_of (chart_gates (table_view cs) name g)
+    by : (b : Bool) → has_name known name ≡ b → kept_of known name g ≡ facts_of (inner_to (table_view cs) depth name g)
     by true h = right.right name g h
-    by false h = no_facts known name g h ∙ sym (no_chart_at_depth (table_view cs) EXPANDED_NESTING name g (ap body_in (not_there known cs name all h)))
+    by false h = no_facts known name g h ∙ sym (no_chart_at_depth (table_view cs) depth name g (ap body_in (not_there known cs name all h)))
 
 -- charts gone through
 
@@ -182,5 +181,11 @@ chart_one P [] i c low is all = absurd (omega arith)
 chart_one P (d ∷ cs) zero c low is all = subst (λ (e : rust.ChartEntry). P e.name) (sym is) all.0
 chart_one P (d ∷ cs) (suc i) c low is all = chart_one P cs i c (omega arith) is all.1
 
-pub all_stay : (table : Table) (old new : KeptMaps) (ns : List (List ℕ)) → Grows table old new → AreAll (HasFacts old) ns → AreAll (HasFacts new) ns
-all_stay table old new ns grows all = all_weaker (HasFacts old) (HasFacts new) ns grows.kept all
+-- the chart of a number
+pub chart_numbered : (P : List ℕ → Type 0) (cs : List rust.ChartEntry) (i : ℕ) (c : rust.ChartEntry) → Some c ≡ slice_get cs i → AreAll P (chart_names cs) → P c.name
+chart_numbered P [] i c is all = absurd cc
+chart_numbered P (d ∷ cs) zero c is all = let same : d ≡ c = cc in subst (λ (e : rust.ChartEntry). P e.name) same all.0
+chart_numbered P (d ∷ cs) (suc i) c is all = chart_numbered P cs i c is all.1
+
+pub all_stay : (table : Table) (depth : ℕ) (old new : KeptMaps) (ns : List (List ℕ)) → Grows table depth old new → AreAll (HasFacts old) ns → AreAll (HasFacts new) ns
+all_stay table depth old new ns grows all = all_weaker (HasFacts old) (HasFacts new) ns grows.kept all

@@ -1,17 +1,17 @@
 -- The facts of events put together are those of the parts put together.
-use Rattle.std.specs.Prelude.{◌≡◌, ◌≤◌, ◌+◌, ℕ, max, Bool, true, false, not, nat_lt, ◌&&◌, ◌||◌, List, [], ◌∷◌, ◌++◌, Option, None, Some, map}
+use Rattle.std.specs.Prelude.{◌≡◌, ◌≤◌, ◌+◌, ℕ, min, max, Bool, true, false, not, nat_lt, ◌&&◌, ◌||◌, List, [], ◌∷◌, ◌++◌, length, Option, None, Some, map}
 use Rattle.std.specs.List.{list_all, list_any}
 use Rattle.std.specs.Str.{bytes_eq}
 use Rattle.std.proofs.Common.{◌∙◌, refl, sym, ap, arith}
 use Rattle.std.proofs.lemmas.Bool.Decides.{nat_tests}
-use Rattle.std.proofs.lemmas.List.{map-append}
+use Rattle.std.proofs.lemmas.List.{length-append, length-map, map-append}
 use Rattle.std.proofs.lemmas.Slice.Eq.{bytes_eq-Decides}
 use Rattle.list_facts.proofs.Bools.{or_assoc, or_false, or_true}
 use Rattle.msc_meaning.specs.Bodies.{EventNode}
 use Rattle.msc_meaning.specs.InnerEvents.{InnerEvent, in_chart}
 use Rattle.gate_ends.specs.FoundEnds.{GateEvents, no_event, an_event, both, either, in_loop, listed, looped, most, seen_in, these_if, unless}
 use Rattle.gate_ends.proofs.FoundEnds.{listed_seen}
-use Rattle.gate_tables.specs.GateFacts.{Facts, all_inputs, all_outputs, facts_by, facts_of, has_other_text, is_among_events, is_elsewhere, is_input, is_output}
+use Rattle.gate_tables.specs.GateFacts.{Facts, all_inputs, all_outputs, facts_by, facts_of, has_other_text, is_among_events, is_elsewhere, is_input, is_output, most_counted}
 use Rattle.gate_tables.specs.Together.{event_facts, facts_if, facts_unless, in_loop_facts, together}
 use Rattle.gate_tables.proofs.MapSteps.{itself}
 
@@ -70,6 +70,7 @@ facts_from (e ∷ es) l s = Some (record {
   apart = is_elsewhere e.node.at (e ∷ es);
   looped = l;
   several = s;
+  count = min (length (e ∷ es)) most_counted;
 })
 
 by_listed : (a : GateEvents) (es : List InnerEvent) → facts_by a es ≡ facts_from es (is_among_events (looped a)) (nat_lt 1 (most a))
@@ -108,13 +109,21 @@ nil_right : (a : List InnerEvent) → a ++ [] ≡ a
 nil_right [] = refl
 nil_right (e ∷ a) = ap (λ (l : List InnerEvent). e ∷ l) (nil_right a)
 
-abbrev fields : InnerEvent → Bool → Bool → Bool → Bool → Bool → Bool → Facts
-fields e i o d a l s = record { at = e.node.at; kind = e.node.event.kind; text = e.node.event.text; inputs = i; outputs = o; differ = d; apart = a; looped = l; several = s }
+-- both are counted no further than each
+counted_all : (m n most : ℕ) → min (m + n) most ≡ min (min m most + min n most) most
+counted_all m n most = omega arith
 
-with_same : (e : InnerEvent) (l : Bool) {i j o p d f a b s t : Bool} → i ≡ j → o ≡ p → d ≡ f → a ≡ b → s ≡ t → Some (fields e i o d a l s) ≡ Some (fields e j p f b l t)
-with_same e l {i} {j} {o} {p} {d} {f} {a} {b} {s} {t} q1 q2 q3 q4 q5 =
-    ap (λ (x : Bool). Some (fields e x o d a l s)) q1 ∙ ap (λ (x : Bool). Some (fields e j x d a l s)) q2 ∙ ap (λ (x : Bool). Some (fields e j p x a l s)) q3
-    ∙ ap (λ (x : Bool). Some (fields e j p f x l s)) q4 ∙ ap (λ (x : Bool). Some (fields e j p f b l x)) q5
+count_append : (x y : List InnerEvent) → min (length (x ++ y)) most_counted ≡ min (min (length x) most_counted + min (length y) most_counted) most_counted
+count_append x y = ap (λ (n : ℕ). min n most_counted) (length-append x y) ∙ counted_all (length x) (length y) most_counted
+
+abbrev fields : InnerEvent → Bool → Bool → Bool → Bool → Bool → Bool → ℕ → Facts
+fields e i o d a l s n =
+    record { at = e.node.at; kind = e.node.event.kind; text = e.node.event.text; inputs = i; outputs = o; differ = d; apart = a; looped = l; several = s; count = n }
+
+with_same : (e : InnerEvent) (l : Bool) {i j o p d f a b s t : Bool} {m n : ℕ} → i ≡ j → o ≡ p → d ≡ f → a ≡ b → s ≡ t → m ≡ n → Some (fields e i o d a l s m) ≡ Some (fields e j p f b l t n)
+with_same e l {i} {j} {o} {p} {d} {f} {a} {b} {s} {t} {m} {n} q1 q2 q3 q4 q5 q6 =
+    ap (λ (x : Bool). Some (fields e x o d a l s m)) q1 ∙ ap (λ (x : Bool). Some (fields e j x d a l s m)) q2 ∙ ap (λ (x : Bool). Some (fields e j p x a l s m)) q3
+    ∙ ap (λ (x : Bool). Some (fields e j p f x l s m)) q4 ∙ ap (λ (x : Bool). Some (fields e j p f b l x m)) q5 ∙ ap (λ (k : ℕ). Some (fields e j p f b l t k)) q6
 
 -- of two lists in a row
 of_both : (b l m s t : Bool) (x y : List InnerEvent) → (x ≡ [] → l ≡ false) → (y ≡ [] → m ≡ false) → (u : Bool) → (x ≡ [] → u ≡ t) → (y ≡ [] → u ≡ s)
@@ -127,6 +136,7 @@ of_both b l m s t (e ∷ es) [] no_l no_m u none_x none_y some =
 of_both b l m s t (e ∷ es) (f ∷ fs) no_l no_m u none_x none_y some =
     with_same e (l || m) (all_append (λ (d : InnerEvent). is_input d.node.event.kind) (e ∷ es) (f ∷ fs)) (all_append (λ (d : InnerEvent). is_output d.node.event.kind) (e ∷ es) (f ∷ fs))
     (other_append (λ (d : InnerEvent). d.node.event.text) e.node.event.text (e ∷ es) f fs) (other_append (λ (d : InnerEvent). d.node.at) e.node.at (e ∷ es) f fs) (some e f es fs refl refl)
+    (count_append (e ∷ es) (f ∷ fs))
 
 -- ---- several
 
@@ -176,7 +186,7 @@ not_other : (g : List ℕ) → (not (bytes_eq g g) || false) ≡ false
 not_other g = ap (λ (b : Bool). not b || false) (itself g)
 
 pub facts_event : (e : InnerEvent) → facts_of (an_event e) ≡ Some (event_facts e.node)
-facts_event e = with_same e false (and_true (is_input e.node.event.kind)) (and_true (is_output e.node.event.kind)) (not_other e.node.event.text) (not_other e.node.at) refl
+facts_event e = with_same e false (and_true (is_input e.node.event.kind)) (and_true (is_output e.node.event.kind)) (not_other e.node.event.text) (not_other e.node.at) refl refl
 
 pub facts_these : (b : Bool) (a : GateEvents) → facts_of (these_if b a) ≡ facts_if b (facts_of a)
 facts_these true a = refl
@@ -220,6 +230,7 @@ from_mapped name [] l s = refl
 from_mapped name (e ∷ es) l s =
     with_same e l (all_mapped name (λ (n : EventNode). is_input n.event.kind) (e ∷ es)) (all_mapped name (λ (n : EventNode). is_output n.event.kind) (e ∷ es))
     (any_mapped name (λ (n : EventNode). not (bytes_eq n.event.text e.node.event.text)) (e ∷ es)) (any_mapped name (λ (n : EventNode). not (bytes_eq n.at e.node.at)) (e ∷ es)) refl
+    (ap (λ (n : ℕ). min n most_counted) (length-map (e ∷ es) (in_chart name)))
 
 pub facts_seen : (name : List ℕ) (a : GateEvents) → facts_of (seen_in name a) ≡ facts_of a
 facts_seen name a =

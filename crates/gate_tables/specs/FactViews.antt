@@ -4,7 +4,7 @@ use Rattle.gate_tables.specs.declared.facts.GateFacts.{GateFacts}
 use Rattle.gate_tables.specs.declared.facts.SeenFacts.{SeenFacts}
 
 abbrev pub facts_view : GateFacts → Facts
-facts_view f = record { at = f.at; kind = f.kind; text = f.text; inputs = f.inputs; outputs = f.outputs; differ = f.differ; apart = f.apart; looped = f.looped; several = f.several }
+facts_view f = record { at = f.at; kind = f.kind; text = f.text; inputs = f.inputs; outputs = f.outputs; differ = f.differ; apart = f.apart; looped = f.looped; several = f.several; count = f.count }
 
 abbrev pub seen_view : SeenFacts → Facts
-seen_view f = record { at = f.at.now; kind = f.kind; text = f.text.now; inputs = f.inputs; outputs = f.outputs; differ = f.differ; apart = f.apart; looped = f.looped; several = f.several }
+seen_view f = record { at = f.at.now; kind = f.kind; text = f.text.now; inputs = f.inputs; outputs = f.outputs; differ = f.differ; apart = f.apart; looped = f.looped; several = f.several; count = f.count }

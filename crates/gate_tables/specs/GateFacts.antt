@@ -1,5 +1,5 @@
 -- What rules ask of the inner events of a gate.
-use Rattle.std.specs.Prelude.{ℕ, Bool, true, false, not, nat_lt, List, [], ◌∷◌, Option, None, Some}
+use Rattle.std.specs.Prelude.{ℕ, min, Bool, true, false, not, nat_lt, List, [], ◌∷◌, length, Option, None, Some}
 use Rattle.std.specs.List.{list_all, list_any}
 use Rattle.std.specs.Str.{bytes_eq}
 use Rattle.msc_base.specs.declared.label.Kind.{Kind}
@@ -33,6 +33,10 @@ abbrev pub is_among_events : List InnerEvent → Bool
 is_among_events [] = false
 is_among_events (e ∷ es) = true
 
+-- how far inner events are counted: one more than the limit of the sum of all sizes (`TOTAL_SIZE` of msc_base)
+abbrev pub most_counted : ℕ
+most_counted = 2000001
+
 -- the first of them, and what they have
 pub record Facts : Type 0 where
   pub at : List ℕ
@@ -48,6 +52,8 @@ pub record Facts : Type 0 where
   pub looped : Bool
   -- one branch has two of them
   pub several : Bool
+  -- how many there are, as far as they are counted
+  pub count : ℕ
 
 abbrev pub all_inputs : List InnerEvent → Bool
 all_inputs es = list_all (λ (e : InnerEvent). is_input e.node.event.kind) es
@@ -73,6 +79,7 @@ facts_by a (e ∷ es) = Some (record {
   apart = is_elsewhere e.node.at (e ∷ es);
   looped = is_among_events (looped a);
   several = nat_lt 1 (most a);
+  count = min (length (e ∷ es)) most_counted;
 })
 
 -- of a gate that has an inner event

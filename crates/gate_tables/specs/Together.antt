@@ -1,9 +1,9 @@
 -- Serves private contracts alone.
 -- Facts of inner events put together, as the events are.
-use Rattle.std.specs.Prelude.{Bool, true, false, not, ◌&&◌, ◌||◌, Option, None, Some}
+use Rattle.std.specs.Prelude.{◌+◌, min, Bool, true, false, not, ◌&&◌, ◌||◌, Option, None, Some}
 use Rattle.std.specs.Str.{bytes_eq}
 use Rattle.msc_meaning.specs.Bodies.{EventNode}
-use Rattle.gate_tables.specs.GateFacts.{Facts, is_input, is_output}
+use Rattle.gate_tables.specs.GateFacts.{Facts, is_input, is_output, most_counted}
 
 -- of an event by itself
 abbrev pub event_facts : EventNode → Facts
@@ -17,6 +17,7 @@ event_facts n = record {
   apart = false;
   looped = false;
   several = false;
+  count = 1;
 }
 
 -- of these events and those behind them: one branch has both, or a branch has the one or the other
@@ -31,6 +32,7 @@ joined_facts both x y = record {
   apart = x.apart || y.apart || not (bytes_eq y.at x.at);
   looped = x.looped || y.looped;
   several = both || x.several || y.several;
+  count = min (x.count + y.count) most_counted;
 }
 
 abbrev pub together : Bool → Option Facts → Option Facts → Option Facts

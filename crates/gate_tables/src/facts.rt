@@ -1,15 +1,20 @@
 //! What rules ask of the inner events of a gate.
 
-ghost use Rattle.std.specs.Prelude.{◌≡◌, ◌&&◌, ◌||◌, not, IfOk};
+ghost use Rattle.std.specs.Prelude.{◌≡◌, ◌+◌, ◌&&◌, ◌||◌, min, not, IfOk};
 ghost use Rattle.std.specs.Str.{bytes_eq};
 ghost use Rattle.gate_tables.specs.FactViews.{facts_view, seen_view};
-ghost use Rattle.gate_tables.specs.GateFacts.{is_input, is_output};
+ghost use Rattle.gate_tables.specs.GateFacts.{is_input, is_output, most_counted};
 ghost use Rattle.gate_tables.specs.Together.{event_facts, joined_facts, looped_facts};
 ghost use Rattle.msc_meaning.specs.Views.{node_view};
 
-use msc_base::{Kind, Name, NoMemory, Text};
+use msc_base::{Kind, Limits, Name, NoMemory, Text};
 use msc_meaning::EventNode;
 use std::alloc::Global;
+
+/// How far inner events are counted: one more than the sum of all sizes may be.
+const MOST_COUNTED: u32 = 2_000_001;
+
+const _: () = prove!(MOST_COUNTED as u64 == Limits::TOTAL_SIZE + 1);
 
 /// What is known of the inner events of a gate, of which there is one at least.
 #[derive(Drop)]
@@ -32,6 +37,8 @@ pub struct GateFacts {
     pub looped: bool,
     /// One branch has two of them.
     pub several: bool,
+    /// How many there are; where it is 2,000,001, above the limit of all sizes, there may be more.
+    pub count: u32,
 }
 
 /// The same, with the instance and the text of the first where they stand.
@@ -46,6 +53,7 @@ pub struct SeenFacts<'a> {
     pub apart: bool,
     pub looped: bool,
     pub several: bool,
+    pub count: u32,
 }
 
 impl GateFacts {
@@ -63,6 +71,7 @@ impl GateFacts {
             apart: self.apart,
             looped: self.looped,
             several: self.several,
+            count: self.count,
         }
     }
 }
@@ -109,6 +118,13 @@ fn any_of_three(first: bool, second: bool, third: bool) -> bool
     first || second || third
 }
 
+/// How many these and those are, as far as they are counted.
+fn all_counted(these: u32, those: u32) -> u32
+    ensures { result ≡ min (these + those) most_counted }
+{
+    these.saturating_add(those).min(MOST_COUNTED)
+}
+
 impl<'a> SeenFacts<'a> {
     /// The facts of an event by itself. It takes no memory.
     pub fn of_event(node: &'a EventNode) -> SeenFacts<'a>
@@ -125,6 +141,7 @@ impl<'a> SeenFacts<'a> {
             apart: false,
             looped: false,
             several: false,
+            count: 1,
         }
     }
 
@@ -145,6 +162,7 @@ impl<'a> SeenFacts<'a> {
             apart: any_of_three(self.apart, others.apart, elsewhere),
             looped: any_of(self.looped, others.looped),
             several: any_of_three(both, self.several, others.several),
+            count: all_counted(self.count, others.count),
         }
     }
 
@@ -174,6 +192,7 @@ impl<'a> SeenFacts<'a> {
             apart: self.apart,
             looped: self.looped,
             several: self.several,
+            count: self.count,
         })
     }
 }

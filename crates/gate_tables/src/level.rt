@@ -1,28 +1,31 @@
 //! The called gates of a level.
 
 ghost use Rattle.std.specs.Option.{option_copied};
-ghost use Rattle.std.specs.Prelude.{◌≡◌, IfOk, None, Some, option_map};
-ghost use Rattle.gate_ends.specs.LevelGates.{HasNames, items_in, level_gates as gates_of_level};
+ghost use Rattle.std.specs.Prelude.{◌≡◌, ℕ, IfOk, None, Some, option_map};
 ghost use Rattle.gate_ends.specs.CallViews.{caller_view};
+ghost use Rattle.gate_ends.specs.FoundEnds.{ends_to};
+ghost use Rattle.gate_ends.specs.LevelGates.{items_in};
 ghost use Rattle.gate_tables.specs.CalledEnds.{end_of, ends_by};
-ghost use Rattle.gate_tables.specs.ChartGates.{AreGatesOf};
+ghost use Rattle.gate_tables.specs.ChartGates.{AreGatesTo};
 ghost use Rattle.gate_tables.specs.FactViews.{seen_view};
 ghost use Rattle.gate_tables.specs.KeptMaps.{kept_of};
 ghost use Rattle.gate_tables.specs.KnownFacts.{known_of};
 ghost use Rattle.gate_tables.specs.NamedMaps.{named_gate};
 ghost use Rattle.msc_meaning.specs.Calls.{is_called};
+ghost use Rattle.msc_meaning.specs.ChartUnfoldings.{gates_of};
 ghost use Rattle.msc_meaning.specs.FarEnds.{caller_at, caller_of, end_at, instance_at};
 ghost use Rattle.msc_meaning.specs.InnerEvents.{GateEnd};
 ghost use Rattle.msc_meaning.specs.ItemViews.{items_view};
-ghost use Rattle.msc_meaning.specs.Views.{body_view, table_view};
+ghost use Rattle.msc_meaning.specs.Tables.{Table};
+ghost use Rattle.msc_meaning.specs.Views.{body_view};
 
 use crate::facts::SeenFacts;
 use crate::kept::KeptMaps;
 use crate::named::{NamedFacts, named_facts};
 use crate::tables::GateTables;
 use gate_ends::{Caller, LevelCalls};
-use msc_base::{Kind, Name, NameTable, NoMemory};
-use msc_meaning::{Body, ChartEntry, Item};
+use msc_base::{Kind, Name, NoMemory};
+use msc_meaning::{Body, Item};
 use std::alloc::Global;
 use std::marker::Model;
 
@@ -120,17 +123,13 @@ fn facts_if_called<'a>(
     named_facts(alloc, known, items)
 }
 
-/// What a level of a chart of the table says of gates, by what the charts of the table say. It fails only for want of memory.
+/// What a level of a chart says of gates, by what the charts of its table say. It fails only for want of memory.
 pub fn level_gates<'a>(
     alloc: Global,
-    charts: &[ChartEntry],
-    names: &NameTable,
     gates: &'a GateTables,
     body: &'a Body,
 ) -> Result<LevelGates<'a>, NoMemory>
-    requires named { HasNames charts.now names.now }
-    requires gates { AreGatesOf (table_view charts.now) gates.now }
-    ensures { IfOk result (λ level. level ≡ gates_of_level (table_view charts.now) (items_in (body_view body.now))) }
+    ensures { IfOk result (λ level. (table : Table) (depth : ℕ) → AreGatesTo table depth gates.now → level ≡ gates_of (items_in (body_view body.now)) (ends_to table depth (items_in (body_view body.now)))) }
 {
     let items = body.items.as_slice();
     let calls = LevelCalls::of(alloc, items)?;

@@ -4,20 +4,18 @@ ghost use Rattle.std.specs.Option.{option_copied};
 ghost use Rattle.std.specs.Prelude.{◌≡◌, ◌+◌, ◌<◌, ◌≤◌, ℕ, List, IfOk, OnOk, Some, option_map, slice_get, true};
 ghost use Rattle.gate_ends.specs.FoundEnds.{AreAll, GoesTo, level_names};
 ghost use Rattle.gate_ends.specs.LevelGates.{HasNames};
-ghost use Rattle.gate_tables.specs.ChartGates.{AreGatesOf};
+ghost use Rattle.gate_tables.specs.ChartGates.{AreGatesTo};
 ghost use Rattle.gate_tables.specs.ChartTables.{AreSomeOf, Grows, HasFacts};
 ghost use Rattle.gate_tables.specs.KeptMaps.{kept_gate, kept_of};
 ghost use Rattle.gate_tables.specs.KnownFacts.{level_known};
 ghost use Rattle.gate_ends.specs.NameViews.{names_view};
-ghost use Rattle.msc_base.specs.declared.limits.TheConstants.Limits.{EXPANDED_NESTING};
-ghost use Rattle.msc_base.specs.Lists.{AreDifferent};
 ghost use Rattle.msc_meaning.specs.Tables.{body_at, chart_at};
 ghost use Rattle.msc_meaning.specs.Views.{body_view, entry_view, table_view};
 
 use crate::kept::{KeptMap, KeptMaps};
 use crate::levels::level_seen;
 use gate_ends::chart_names;
-use msc_base::{Limits, Name, NameTable, NoMemory};
+use msc_base::{Name, NameTable, NoMemory};
 use msc_meaning::{Body, ChartEntry, EntryContent};
 use std::alloc::Global;
 
@@ -27,11 +25,12 @@ pub struct GateTables {
     pub(crate) charts: KeptMaps,
 }
 
-/// A table of charts, with the numbers of their names.
+/// A table of charts, with the numbers of their names, where references stand in each other less than so deep.
 #[derive(Clone, Copy)]
 struct ChartTable<'a> {
     charts: &'a [ChartEntry],
     names: &'a NameTable,
+    depth: u32,
 }
 
 /// The chart of that number, where there is one.
@@ -80,10 +79,10 @@ fn add_chart(
     known: &mut KeptMaps,
 ) -> Result<(), NoMemory>
     requires named { HasNames table.charts.now table.names.now }
-    requires low { depth ≤ EXPANDED_NESTING }
+    requires low { depth ≤ table.depth }
     requires deep { GoesTo (table_view table.charts.now) depth name.now }
-    requires known { AreSomeOf (table_view table.charts.now) known.old }
-    ensures grows { OnOk result (Grows (table_view table.entry.charts.now) known.old known.new) }
+    requires known { AreSomeOf (table_view table.charts.now) table.depth known.old }
+    ensures grows { OnOk result (Grows (table_view table.entry.charts.now) table.entry.depth known.old known.new) }
     ensures has { OnOk result (HasFacts known.new name.now) }
 {
     if known.has(name) {
@@ -106,11 +105,11 @@ fn add_body(
     known: &mut KeptMaps,
 ) -> Result<(), NoMemory>
     requires named { HasNames table.charts.now table.names.now }
-    requires low { depth < EXPANDED_NESTING }
+    requires low { depth < table.depth }
     requires at { body_at (table_view table.charts.now) name.now ≡ Some (body_view body.now) }
     requires deep { AreAll (GoesTo (table_view table.charts.now) depth) (level_names (body_view body.now)) }
-    requires known { AreSomeOf (table_view table.charts.now) known.old }
-    ensures grows { OnOk result (Grows (table_view table.entry.charts.now) known.old known.new) }
+    requires known { AreSomeOf (table_view table.charts.now) table.depth known.old }
+    ensures grows { OnOk result (Grows (table_view table.entry.charts.now) table.entry.depth known.old known.new) }
     ensures has { OnOk result (HasFacts known.new name.now) }
 {
     let names = chart_names(alloc, body)?;
@@ -129,10 +128,10 @@ fn add_charts(
     known: &mut KeptMaps,
 ) -> Result<(), NoMemory>
     requires named { HasNames table.charts.now table.names.now }
-    requires low { depth < EXPANDED_NESTING }
+    requires low { depth < table.depth }
     requires deep { AreAll (GoesTo (table_view table.charts.now) depth) (names_view names.now) }
-    requires known { AreSomeOf (table_view table.charts.now) known.old }
-    ensures grows { OnOk result (Grows (table_view table.entry.charts.now) known.old known.new) }
+    requires known { AreSomeOf (table_view table.charts.now) table.depth known.old }
+    ensures grows { OnOk result (Grows (table_view table.entry.charts.now) table.entry.depth known.old known.new) }
     ensures has { OnOk result (AreAll (HasFacts known.new) (names_view names.now)) }
 {
     for name in names {
@@ -141,21 +140,64 @@ fn add_charts(
     Ok(())
 }
 
-/// What the charts of a table, of which the names are given in their order and differ, say of their gates, where references stand in
-/// each other less than so deep as the limit says. It fails only for want of memory.
+/// Adds the chart of that number, where there is one, and those that it refers to.
+fn add_number(
+    alloc: Global,
+    table: ChartTable<'_>,
+    number: usize,
+    known: &mut KeptMaps,
+) -> Result<(), NoMemory>
+    requires named { HasNames table.charts.now table.names.now }
+    requires deep { AreAll (GoesTo (table_view table.charts.now) table.depth) table.names.now }
+    requires known { AreSomeOf (table_view table.charts.now) table.depth known.old }
+    ensures { OnOk result (Grows (table_view table.entry.charts.now) table.entry.depth known.old known.new) }
+{
+    match chart_of(table.charts, number) {
+        Some(chart) => add_chart(alloc, table, table.depth, chart.name.bytes(), known),
+        None => Ok(()),
+    }
+}
+
+/// Adds the charts of these numbers, and those that they refer to.
+fn add_numbers(
+    alloc: Global,
+    table: ChartTable<'_>,
+    numbers: &[usize],
+    known: &mut KeptMaps,
+) -> Result<(), NoMemory>
+    requires named { HasNames table.charts.now table.names.now }
+    requires deep { AreAll (GoesTo (table_view table.charts.now) table.depth) table.names.now }
+    requires known { AreSomeOf (table_view table.charts.now) table.depth known.old }
+    ensures { OnOk result (AreSomeOf (table_view table.entry.charts.now) table.entry.depth known.new) }
+{
+    for number in numbers {
+        add_number(alloc, table, *number, known)?;
+    }
+    Ok(())
+}
+
+/// What the charts of a table, of which the names are given in their order, say of their gates, where references stand in each other less
+/// than so deep. The charts of the first numbers are worked out before the others, in that order; numbers that no chart has are passed
+/// over. Where each chart stands there behind those that it names, the recursion goes one chart deep, else as deep as references stand in
+/// each other. It fails only for want of memory.
 pub fn gate_tables(
     alloc: Global,
     charts: &[ChartEntry],
     names: &NameTable,
+    depth: u32,
+    first: &[usize],
 ) -> Result<GateTables, NoMemory>
     requires named { HasNames charts.now names.now }
-    requires different { AreDifferent names.now }
-    requires deep { AreAll (GoesTo (table_view charts.now) EXPANDED_NESTING) names.now }
-    ensures { IfOk result (λ gates. AreGatesOf (table_view charts.now) gates) }
+    requires deep { AreAll (GoesTo (table_view charts.now) depth) names.now }
+    ensures { IfOk result (λ gates. AreGatesTo (table_view charts.now) depth gates) }
 {
-    let table = ChartTable { charts, names };
-    let depth = Limits::EXPANDED_NESTING as u32;
+    let table = ChartTable {
+        charts,
+        names,
+        depth,
+    };
     let mut known = KeptMaps::new(alloc);
+    add_numbers(alloc, table, first, &mut known)?;
     for chart in charts {
         add_chart(alloc, table, depth, chart.name.bytes(), &mut known)?;
     }

@@ -18,7 +18,8 @@ use Rattle.level_pieces.specs.PieceNumbers.{AreNumbered}
 use Rattle.level_pieces.specs.FormedPieces.{AreFormed}
 use Rattle.level_pieces.proofs.LeastLaws.{least_of, least_same}
 use Rattle.level_pieces.proofs.OperandLaws.{operands_numbered, operands_formed}
-use Rattle.level_weaving.specs.Answers.{AreLevels, AreWovenLevels, ItemCrosses, OneCrosses, joint_item_of}
+use Rattle.level_weaving.specs.Answers.{AreLevels, AreWovenLevels, ItemCrosses, OneCrosses}
+use Rattle.level_weaving.specs.JointItems.{joint_item_of}
 use Rattle.level_weaving.proofs.LevelLaws.{empty_uncrossed}
 
 -- ---- operands that no part has
@@ -88,7 +89,7 @@ item_least level cover p ps lists n a b are is f g =
 
 -- ---- what the operands are woven to
 
-take_lists : (cover : List (List ℕ)) (parts : List Piece) (k n m : ℕ) → n ≤ m → take n (operand_lists cover parts k m) ≡ operand_lists cover parts k n
+pub take_lists : (cover : List (List ℕ)) (parts : List Piece) (k n m : ℕ) → n ≤ m → take n (operand_lists cover parts k m) ≡ operand_lists cover parts k n
 take_lists cover parts k zero zero le = refl
 take_lists cover parts k zero (suc m) le = refl
 take_lists cover parts k (suc n) zero le = absurd (omega (arith, le))

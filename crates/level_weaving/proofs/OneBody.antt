@@ -39,7 +39,7 @@ mutual
       let parts : ps ≡ qs = cc (moved, there) in
       ap₂ (λ (i : WovenItem) (l : WovenItems). item_and i l) (one_item is are ec parts) (one_items rest others ec ea more)
 
-  one_item : {c d : List (List ℕ)} {ps qs : List Piece} {a b : WovenItem} → IsWovenItem c ps a → IsWovenItem d qs b → c ≡ d → ps ≡ qs → a ≡ b
+  pub one_item : {c d : List (List ℕ)} {ps qs : List Piece} {a b : WovenItem} → IsWovenItem c ps a → IsWovenItem d qs b → c ≡ d → ps ≡ qs → a ≡ b
   one_item (an_event {p = p} {at = x} {e = e} f l) (an_event {p = q} {at = y} {e = g} h m) ec ep =
       let one : p ≡ q = same_head p q [] [] ep in
       let forms : tree.Single e ≡ tree.Single g = same_form p q (tree.Single e) (tree.Single g) one f h in

@@ -3,7 +3,6 @@
 use Rattle.std.specs.Prelude.{◌≡◌, ◌⊎◌, ⊤, ℕ, List, [], ◌∷◌, ◌++◌, map, Option, Some, None, slice_get, Vec}
 use Rattle.std.specs.Global.{Global}
 use Rattle.level_pieces.specs.Earliest.{earliest_of}
-use Rattle.level_pieces.specs.ItemParts.{refer_item}
 use Rattle.level_pieces.specs.PieceNumbers.{AreNumbered}
 use Rattle.level_pieces.specs.FormedPieces.{AreFormed}
 use Rattle.level_weaving.specs.declared.answers.Answer.{Answer}
@@ -11,7 +10,7 @@ use Rattle.level_weaving.specs.declared.answers.Answer.TheVariants.{Woven, Cross
 use Rattle.level_weaving.specs.declared.answers.Gathered.{Gathered}
 use Rattle.msc_base.specs.Places.{IsLeast, earliest}
 use Rattle.msc_base.specs.declared.place.Place.{Place}
-use Rattle.msc_meaning.specs.Bodies.{Body, Bodies, Coregion, Inline, WovenItem, bodies, items}
+use Rattle.msc_meaning.specs.Bodies.{Body, bodies, items}
 use Rattle.msc_meaning.specs.Crossings.{ColumnsCross}
 use Rattle.msc_meaning.specs.LevelItems.{cover_of}
 use Rattle.msc_meaning.specs.Levels.{AreWovenItems, IsWovenItem, IsWovenLevel}
@@ -21,8 +20,6 @@ use Rattle.msc_meaning.specs.Pieces.{Piece, operands_of}
 use Rattle.msc_meaning.specs.Views.{body_view, item_view}
 use Rattle.msc_meaning.specs.declared.body.Body as code_body
 use Rattle.msc_meaning.specs.declared.body.Item as code_item
-use Rattle.msc_tree.specs.Statements.{Form, Refer}
-use Rattle.msc_tree.specs.Statements as tree
 
 -- ---- answers
 
@@ -81,12 +78,6 @@ ItemCrosses level (p ∷ ps) q = (k : ℕ) × ColumnsCross (cover_of level p) (o
 
 abbrev pub IsItemAnswer : List (List ℕ) → List Piece → Answer code_item.Item → Type 0
 IsItemAnswer level parts answer = IsAnswer (λ i. IsWovenItem level parts (item_view i)) (λ i. ItemLacksPartner (item_view i)) (ItemCrosses level parts) answer
-
--- the item that begins with that piece, an inline expression or a reference, with these operands
-abbrev pub joint_item_of : List (List ℕ) → Place → Form → Bodies → WovenItem
-joint_item_of cover place (tree.Inline head held) operands = Inline head.form (record { lower = head.lower; upper = head.upper; name = head.name; cover = cover; place = place }) operands
-joint_item_of cover place (Refer r) operands = refer_item cover place r
-joint_item_of cover place _ operands = Coregion []
 
 -- ---- items of a level
 

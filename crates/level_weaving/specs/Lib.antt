@@ -9,5 +9,6 @@ pub mod Laws
 pub mod TextOrder
 pub mod EventViews
 pub mod LonelyItems
+pub mod JointItems
 pub mod Answers
 pub mod LevelNumbers

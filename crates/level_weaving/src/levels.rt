@@ -7,7 +7,8 @@ ghost use Rattle.level_pieces.specs.ItemParts.{AreItems, AreParts, has_events};
 ghost use Rattle.level_pieces.specs.PieceNumbers.{AreNumbered};
 ghost use Rattle.level_pieces.specs.PieceViews.{parts_view, piece_view};
 ghost use Rattle.level_pieces.specs.FormedPieces.{AreFormed};
-ghost use Rattle.level_weaving.specs.Answers.{AreItemsAnswer, AreLevels, AreLevelsAnswer, IsItemAnswer, IsLevelAnswer, joint_item_of};
+ghost use Rattle.level_weaving.specs.Answers.{AreItemsAnswer, AreLevels, AreLevelsAnswer, IsItemAnswer, IsLevelAnswer};
+ghost use Rattle.level_weaving.specs.JointItems.{joint_item_of};
 ghost use Rattle.level_weaving.specs.LevelNumbers.{numbers_to};
 ghost use Rattle.msc_base.specs.Lists.{AreDifferent};
 ghost use Rattle.msc_meaning.specs.Bodies.{bodies as body_list, items as item_list, level as plain_level};
@@ -45,8 +46,9 @@ fn event_answer(
     Ok(Answer::Woven(copied, None))
 }
 
-/// An inline expression of these operands, or a reference.
-fn joint_item(
+/// The item that begins with the piece and covers these instances: an inline expression of these operands, or a reference, which has
+/// none.
+pub fn joint_item(
     alloc: Global,
     cover: &Names,
     piece: Piece<'_, '_>,

@@ -14,4 +14,5 @@ mod weaving;
 
 pub use events::PlacedEvent;
 pub use exceptions::first_misplaced;
+pub use levels::joint_item;
 pub use weaving::{WeaveFault, weave};

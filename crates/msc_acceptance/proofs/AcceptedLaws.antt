@@ -1,32 +1,36 @@
 -- What the charts of an accepted document have, one by one and together.
-use Rattle.std.proofs.Common.{◌≡◌, ◌≤◌, ◌+◌, ◌||◌, length, map, fold, arith, inl, inr, ℕ, zero, suc, Bool, true, false, List, [], ◌∷◌, Some, Option, refl, sym, subst, ap, ap₂, ◌∙◌}
+use Rattle.std.proofs.Common.{◌≡◌, ◌≤◌, ◌+◌, ◌||◌, length, map, fold, arith, inl, inr, ℕ, zero, suc, Bool, true, false, List, [], ◌∷◌, Some, Option, slice_get, slice_index_or, refl, sym, subst, ap, ap₂, ◌∙◌}
 use Rattle.std.specs.List.{list_any}
 use Rattle.std.specs.Str.{bytes_eq}
 use Rattle.std.proofs.lemmas.Bool.{or_right}
 use Rattle.std.proofs.lemmas.Slice.Eq.{bytes_eq-Decides}
 use Rattle.woven_laws.specs.BuiltCharts.{BuiltChartsAreKnown, IsLinked, WovenChartsAreKnown, named_size}
+use Rattle.woven_laws.specs.JoinSums.{level_joins}
 use Rattle.chart_cycles.specs.Cycles.{AreOrdered}
-use Rattle.chart_extents.specs.Capped.{names_of}
-use Rattle.chart_extents.specs.Extents.{HasExtent, IsExtentOf, sized_of}
+use Rattle.chart_extents.specs.ExtentRules.{IsTooDeep}
+use Rattle.chart_extents.specs.Extents.{HasExtent, IsExtentOf, Sized, sized_charts}
 use Rattle.chart_extents.specs.OwnExtents.{own_extent}
 use Rattle.chart_extents.specs.declared.extent.Extent.{Extent}
 use Rattle.chart_forms.specs.BuiltBodies.{IsBuiltBody}
 use Rattle.chart_forms.specs.NotBuilt.{IsBuilt}
-use Rattle.chart_forms.specs.TableSizes.{entry_size, no_product, size_to, woven_size}
+use Rattle.chart_forms.specs.TableSizes.{counted_size, entry_size, size_to, woven_size}
 use Rattle.chart_links.specs.Links.{Link, chart_links, linked}
 use Rattle.chart_links.specs.References.{IsCalled}
 use Rattle.chart_links.specs.Summaries.{summary_of}
 use Rattle.chart_text.specs.WellFormed.{AreAllWellFormed, IsWellFormed}
 use Rattle.creation_rules.specs.Creating.{ChartCreatesTwice}
 use Rattle.expanded_charts.specs.BasicCharts.{IsBasicTable, IsBasicWoven}
-use Rattle.gate_ends.specs.FoundEnds.{AreAll, GoesTo}
+use Rattle.gate_ends.specs.FoundEnds.{AreAll, GoesTo, inner_to}
+use Rattle.gate_ends.specs.JoinCounts.{reference_count}
 use Rattle.gate_rules.specs.GateLaws.{LevelsHaveGates}
 use Rattle.general_ordering.specs.EventNames.{Twice}
 use Rattle.msc_acceptance.proofs.ChartLaws.{IsBasic, is_basic, level_of, pieces_of}
-use Rattle.msc_acceptance.proofs.ExtentLaws.{adds_size, among_sized, called_chart, link_called, nests_from, nests_link, within_nesting, within_size}
+use Rattle.join_sizes.specs.JoinSizes.{AreJoinSizes}
+use Rattle.join_sizes.specs.JoinSizeLaws.{JoinSizesAreKnown}
+use Rattle.list_facts.proofs.Members.{at_among}
+use Rattle.msc_acceptance.proofs.ExtentLaws.{adds_size, among_sized, called_chart, link_called, nests_from, nests_link, own_within, sized_at, within_nesting, within_size}
 use Rattle.msc_acceptance.proofs.HeldGates.{gates_held, there_goes}
 use Rattle.msc_acceptance.proofs.LimitLaws.{not_passed}
-use Rattle.msc_acceptance.proofs.LinkLaws.{sized_names}
 use Rattle.msc_acceptance.proofs.WalkLaws.{in_one, one_built, one_formed}
 use Rattle.msc_acceptance.specs.Acceptance.{BreaksOf}
 use Rattle.msc_acceptance.specs.AcceptedCharts.{EachChart, IsAcceptedChart, IsAcceptedTable, IsThereTo, content_names, table_instances}
@@ -34,6 +38,7 @@ use Rattle.msc_acceptance.specs.ChartFaults.{IsBodyOf, IsMisnamedAt}
 use Rattle.msc_acceptance.specs.Deciding.{AllKept, HaveExtents, names, table_groups, text_groups}
 use Rattle.msc_acceptance.specs.Listing.{content_instances, cover_of}
 use Rattle.msc_acceptance.specs.Rules.{HasFurther, IsNamedAgain}
+use Rattle.msc_acceptance.specs.SizedCharts.{OfSizes}
 use Rattle.msc_base.proofs.NameFacts.{any_from_one, any_with_name, one_from_any}
 use Rattle.msc_base.specs.Lists.{AreDifferent, IsAmong}
 use Rattle.msc_base.specs.NameTables.{with_name}
@@ -41,7 +46,7 @@ use Rattle.msc_base.specs.declared.limits.TheConstants.Limits.{EXPANDED_NESTING,
 use Rattle.msc_base.specs.declared.place.Place.{Place}
 use Rattle.msc_instances.specs.Instances.{instances}
 use Rattle.msc_instances.specs.NameFaults.{ChartNamesOther}
-use Rattle.msc_meaning.specs.Bodies.{Body}
+use Rattle.msc_meaning.specs.Bodies.{Body, ReferencePart, WovenItems}
 use Rattle.msc_meaning.specs.Levels.{IsWovenLevel, woven}
 use Rattle.msc_meaning.specs.Pieces.{Piece}
 use Rattle.msc_meaning.specs.Tables.{ChartEntry, Table, Woven, Basic, HighLevel, Refinement, chart_at, refinements}
@@ -112,13 +117,14 @@ module _ (built : BuiltChartsAreKnown) where
           named_once = λ q m. keeps.named_once q (record { body = b.body; woven = b.woven_to; misnamed = m });
         }
 
-    -- what it is woven to is no larger than its text comes to, whatever the charts count that are named
-    entry_light : (c : Chart) (e : ChartEntry) → IsBuilt c → IsEntryOf (instances c) c e → (size_of : List ℕ → ℕ) (k : ℕ) → woven_size size_of (no_product k) (refinements e.decls) e.content ≤ (own_extent c).size + named_size size_of (chart_links c)
-    entry_light c e keeps is size_of k =
+    -- what it is woven to is no larger than its text comes to with what joins add, whatever the charts count that are named
+    entry_light : (c : Chart) (e : ChartEntry) (keeps : IsBuilt c) (is : IsEntryOf (instances c) c e) (size_of : List ℕ → ℕ) (product : WovenItems → ReferencePart → ℕ)
+        → woven_size size_of product (refinements e.decls) e.content ≤ (own_extent c).size + level_joins product (entry_body c e keeps is).body + named_size size_of (chart_links c)
+    entry_light c e keeps is size_of product =
         let b = entry_body c e keeps is in
-        let light = known.light c b.basic.held b.body size_of k b.basic.is b.on_level in
-        subst (λ (rs : List Refinement). woven_size size_of (no_product k) rs e.content ≤ (own_extent c).size + named_size size_of (chart_links c)) (sym (entry_whole c e keeps is))
-        (subst (λ (w : Woven). woven_size size_of (no_product k) [] w ≤ (own_extent c).size + named_size size_of (chart_links c)) (sym b.is) light)
+        let light = known.light c b.basic.held b.body size_of product b.basic.is b.on_level in
+        subst (λ (rs : List Refinement). woven_size size_of product rs e.content ≤ (own_extent c).size + level_joins product b.body + named_size size_of (chart_links c)) (sym (entry_whole c e keeps is))
+        (subst (λ (w : Woven). woven_size size_of product [] w ≤ (own_extent c).size + level_joins product b.body + named_size size_of (chart_links c)) (sym b.is) light)
 
     -- what it names its text links
     entry_links : (c : Chart) (e : ChartEntry) → IsBuilt c → IsEntryOf (instances c) c e → (name : List ℕ) → IsAmong (content_names e.content) name → IsLinked (chart_links c) name
@@ -148,8 +154,8 @@ names_differ seen (c ∷ charts) none =
     (λ m. named_apart (with_name seen c.name) charts (λ p h. none p (inr h)) c.name m (with_itself seen c.name), names_differ (with_name seen c.name) charts (λ p h. none p (inr h)))
 
 -- charts whose names keep the rules have different names
-pub sized_apart : (charts : List Chart) → Keeps (BreaksOf charts) names → AreDifferent (names_of (map sized_of charts))
-sized_apart charts kept = subst AreDifferent (sym (sized_names charts)) (names_differ [] charts (λ p h. kept NamedTwice p (inl refl) (inl h)))
+pub kept_apart : (charts : List Chart) → Keeps (BreaksOf charts) names → AreDifferent (chart_names charts)
+kept_apart charts kept = names_differ [] charts (λ p h. kept NamedTwice p (inl refl) (inl h))
 
 pub entry_names : (charts : List Chart) (table : Table) → AreEntriesOf instances charts table → map (λ (e : ChartEntry). e.name) table ≡ chart_names charts
 entry_names [] [] h = refl
@@ -164,29 +170,31 @@ each_entry P some [] h f = tt
 each_entry P [] (e ∷ entries) h f = elim h [ ]
 each_entry P (c ∷ some) (e ∷ entries) (entry_and is others) f = (f c e (inl refl) is, each_entry P some entries others (λ d g m i. f d g (inr m) i))
 
--- the entry of a chart, by its name
-record IsThere (table : Table) (c : Chart) : Type 0 where
+-- the entry of a chart, by its name and by its number
+record IsThere (table : Table) (i : ℕ) (c : Chart) : Type 0 where
   entry : ChartEntry
   at : chart_at table c.name ≡ Some entry
+  stands : slice_get table i ≡ Some entry
   is : IsEntryOf (instances c) c entry
 
-among_names : (charts : List Chart) (c : Chart) → IsAmong charts c → IsAmong (chart_names charts) c.name
-among_names [] c m = m
-among_names (d ∷ charts) c (inl e) = inl (ap (λ (x : Chart). x.name) e)
-among_names (d ∷ charts) c (inr m) = inr (among_names charts c m)
+index_names : (charts : List Chart) (i : ℕ) (c : Chart) → slice_get charts i ≡ Some c → IsAmong (chart_names charts) c.name
+index_names [] i c at = cc
+index_names (d ∷ charts) zero c at = let same : d ≡ c = cc in inl (ap (λ (x : Chart). x.name) (sym same))
+index_names (d ∷ charts) (suc i) c at = inr (index_names charts i c at)
 
-entry_there : (charts : List Chart) (table : Table) → AreEntriesOf instances charts table → AreDifferent (chart_names charts) → (c : Chart) → IsAmong charts c → IsThere table c
-entry_there [] table h d c m = absurd m
-entry_there (x ∷ charts) [] h d c m = elim h [ ]
-entry_there (x ∷ charts) (e ∷ table) (entry_and is others) d c (inl same) =
-    let here : bytes_eq e.name c.name ≡ true = (bytes_eq-Decides e.name c.name).1 (is.name ∙ ap (λ (y : Chart). y.name) (sym same)) in
-    record { entry = e; at = rw here refl; is = subst (λ (y : Chart). IsEntryOf (instances y) y e) (sym same) is }
-entry_there (x ∷ charts) (e ∷ table) (entry_and is others) d c (inr m) =
-    let behind = entry_there charts table others d.1 c m in
-    record { entry = behind.entry; at = by (bytes_eq e.name c.name) refl behind.at; is = behind.is }
+entry_there : (charts : List Chart) (table : Table) → AreEntriesOf instances charts table → AreDifferent (chart_names charts) → (i : ℕ) (c : Chart) → slice_get charts i ≡ Some c → IsThere table i c
+entry_there [] table h d i c at = cc
+entry_there (x ∷ charts) [] h d i c at = elim h [ ]
+entry_there (x ∷ charts) (e ∷ table) (entry_and is others) d zero c at =
+    let same : x ≡ c = cc in
+    let here : bytes_eq e.name c.name ≡ true = (bytes_eq-Decides e.name c.name).1 (is.name ∙ ap (λ (y : Chart). y.name) same) in
+    record { entry = e; at = rw here refl; stands = refl; is = subst (λ (y : Chart). IsEntryOf (instances y) y e) same is }
+entry_there (x ∷ charts) (e ∷ table) (entry_and is others) d (suc i) c at =
+    let behind = entry_there charts table others d.1 i c at in
+    record { entry = behind.entry; at = by (bytes_eq e.name c.name) refl behind.at; stands = behind.stands; is = behind.is }
   where
     by : (b : Bool) → bytes_eq e.name c.name ≡ b → {o : Option ChartEntry} → chart_at table c.name ≡ o → chart_at (e ∷ table) c.name ≡ o
-    by true q f = absurd (d.0 (subst (IsAmong (chart_names charts)) (sym (sym is.name ∙ (bytes_eq-Decides e.name c.name).0 q)) (among_names charts c m)))
+    by true q f = absurd (d.0 (subst (IsAmong (chart_names charts)) (sym (sym is.name ∙ (bytes_eq-Decides e.name c.name).0 q)) (index_names charts i c at)))
     by false q f = rw q f
 
 -- ---- basic charts
@@ -240,8 +248,8 @@ module _ (built : BuiltChartsAreKnown) (known : WovenChartsAreKnown) (charts : L
     are_accepted table are = each_entry IsAcceptedChart charts table are (λ c e m is. entry_has built known c e (keeps_own c m) is)
 
   module _ (table : Table) (are : AreEntriesOf instances charts table) where
-    there : (c : Chart) → IsAmong charts c → IsThere table c
-    there c m = entry_there charts table are differ c m
+    there : (i : ℕ) (c : Chart) → slice_get charts i ≡ Some c → IsThere table i c
+    there i c at = entry_there charts table are differ i c at
 
     called : (c : Chart) → IsAmong charts c → (l : Link) → IsAmong (chart_links c) l → IsCalled (map summary_of charts) (linked l)
     called c m l k = link_called charts (λ q h. texts.1.1.1.0 MissingChart q (inl refl) h) c m l k
@@ -251,72 +259,100 @@ module _ (built : BuiltChartsAreKnown) (known : WovenChartsAreKnown) (charts : L
     all_of P [] f = tt
     all_of P (n ∷ names) f = (f n (inl refl), all_of P names (λ m h. f m (inr h)))
 
-    there_to : (depth : ℕ) (c : Chart) (all : Extent) → IsAmong charts c → IsExtentOf (map sized_of charts) (sized_of c) all → all.nesting ≤ depth → IsThereTo table depth c.name
-    there_to zero c all m is low = let up = nests_from (map sized_of charts) (own_extent c) (chart_links c) all is in absurd (omega (arith, up, low))
-    there_to (suc depth) c all m is low =
-        let t = there c m in
-        record { chart = t.entry; is = t.at; named = all_of (IsThereTo table depth) (content_names t.entry.content) (λ n k. one (there_to depth) n (entry_links built known c t.entry (own_built c m) t.is n k)) }
-      where
-        one : ((d : Chart) (e : Extent) → IsAmong charts d → IsExtentOf (map sized_of charts) (sized_of d) e → e.nesting ≤ depth → IsThereTo table depth d.name) → (n : List ℕ) → IsLinked (chart_links c) n → IsThereTo table depth n
-        one below n linked_by =
-            let (e, has, deep) = nests_link (map sized_of charts) (own_extent c) (chart_links c) all is linked_by.link linked_by.says in
-            let (d, k, name, sum) = called_chart charts linked_by.link e (called c m linked_by.link linked_by.says) has in
-            subst (IsThereTo table depth) (name ∙ linked_by.is) (below d e k sum (omega (arith, deep, low, linked_by.deep)))
-
-    -- and is no larger than its text comes to
-    small_to : (depth : ℕ) (c : Chart) (all : Extent) → IsAmong charts c → IsExtentOf (map sized_of charts) (sized_of c) all → size_to no_product table depth c.name ≤ all.size
-    small_to zero c all m is = omega arith
-    small_to (suc depth) c all m is =
-        let t = there c m in
-        let light = entry_light built known c t.entry (own_built c m) t.is (size_to no_product table depth) depth in
-        let sum = adds_size (map sized_of charts) (size_to no_product table depth) (own_extent c) (chart_links c) all (one (small_to depth)) is in
-        let same : size_to no_product table (suc depth) c.name ≡ woven_size (size_to no_product table depth) (no_product depth) (refinements t.entry.decls) t.entry.content =
-        ap (entry_size (size_to no_product table depth) (no_product depth)) t.at in
-        omega (arith, light, sum, same)
-      where
-        one : ((d : Chart) (e : Extent) → IsAmong charts d → IsExtentOf (map sized_of charts) (sized_of d) e → size_to no_product table depth d.name ≤ e.size)
-            → (l : Link) (e : Extent) → IsAmong (chart_links c) l → HasExtent (map sized_of charts) (linked l) e → size_to no_product table depth (linked l) ≤ e.size
-        one below l e k has =
-            let (d, j, name, sum) = called_chart charts l e (called c m l k) has in
-            subst (λ (n : List ℕ). size_to no_product table depth n ≤ e.size) name (below d e j sum)
+    index_of : (some : List Chart) (c : Chart) → IsAmong some c → (i : ℕ) × (slice_get some i ≡ Some c)
+    index_of [] c m = absurd m
+    index_of (d ∷ some) c (inl e) = (0, ap Some (sym e))
+    index_of (d ∷ some) c (inr m) = let (i, at) = index_of some c m in (suc i, at)
 
     by_name : (P : List ℕ → Type 0) (c : Chart) (e : ChartEntry) → IsEntryOf (instances c) c e → P c.name → P e.name
     by_name P c e is h = subst P (sym is.name) h
 
-    reached : HaveExtents (map sized_of charts) → (c : Chart) → IsAmong charts c → IsThereTo table EXPANDED_NESTING c.name
-    reached extents c m =
-        let (all, is) = extents (sized_of c) (among_sized charts c m) in
-        there_to EXPANDED_NESTING c all m is (within_nesting charts (λ q h. texts.1.1.1.1.0 ExpandedNesting q (inl refl) h) c all m is)
+    module _ (joined : List ℕ) where
+      abbrev all : List Sized
+      all = sized_charts charts joined
 
-    pub all_there : HaveExtents (map sized_of charts) → EachChart (λ (e : ChartEntry). IsThereTo table EXPANDED_NESTING e.name) table
-    all_there extents = each_entry (λ (e : ChartEntry). IsThereTo table EXPANDED_NESTING e.name) charts table are (λ c e m is. by_name (λ n. IsThereTo table EXPANDED_NESTING n) c e is (reached extents c m))
+      there_to : (depth : ℕ) (i : ℕ) (c : Chart) (e : Extent) → slice_get charts i ≡ Some c → IsExtentOf all (sized_at joined i c) e → e.nesting ≤ depth → IsThereTo table depth c.name
+      there_to zero i c e at is low = let up = nests_from all (sized_at joined i c).own (chart_links c) e is in absurd (omega (arith, up, low))
+      there_to (suc depth) i c e at is low =
+          let t = there i c at in
+          let m = at_among charts i c at in
+          record { chart = t.entry; is = t.at; named = all_of (IsThereTo table depth) (content_names t.entry.content) (λ n k. one (there_to depth) n (entry_links built known c t.entry (own_built c m) t.is n k)) }
+        where
+          one : ((j : ℕ) (d : Chart) (x : Extent) → slice_get charts j ≡ Some d → IsExtentOf all (sized_at joined j d) x → x.nesting ≤ depth → IsThereTo table depth d.name) → (n : List ℕ) → IsLinked (chart_links c) n → IsThereTo table depth n
+          one below n linked_by =
+              let (x, has, deep) = nests_link all (sized_at joined i c).own (chart_links c) e is linked_by.link linked_by.says in
+              let h = called_chart charts joined linked_by.link x (called c (at_among charts i c at) linked_by.link linked_by.says) has in
+              subst (IsThereTo table depth) (h.named ∙ linked_by.is) (below h.i h.c x h.at h.comes (omega (arith, deep, low, linked_by.deep)))
 
-    -- so is each that a chart names
-    linked_goes : HaveExtents (map sized_of charts) → (c : Chart) → IsAmong charts c → (n : List ℕ) → IsLinked (chart_links c) n → GoesTo table EXPANDED_NESTING n
-    linked_goes extents c m n linked_by =
-        let (all, is) = extents (sized_of c) (among_sized charts c m) in
-        let (e, has, deep) = nests_link (map sized_of charts) (own_extent c) (chart_links c) all is linked_by.link linked_by.says in
-        let (d, k, name, sum) = called_chart charts linked_by.link e (called c m linked_by.link linked_by.says) has in
-        there_goes table EXPANDED_NESTING n (subst (IsThereTo table EXPANDED_NESTING) (name ∙ linked_by.is) (reached extents d k))
+      reached : HaveExtents all → ((q : Place) → IsTooDeep all q → ⊥) → (c : Chart) → IsAmong charts c → IsThereTo table EXPANDED_NESTING c.name
+      reached extents none c m =
+          let (i, at) = index_of charts c m in
+          let among = among_sized charts joined i c at in
+          let (e, is) = extents (sized_at joined i c) among in
+          there_to EXPANDED_NESTING i c e at is (within_nesting charts joined none (sized_at joined i c) e among is)
 
-    names_go : HaveExtents (map sized_of charts) → EachChart (λ (e : ChartEntry). AreAll (GoesTo table EXPANDED_NESTING) (content_names e.content)) table
-    names_go extents = each_entry (λ (e : ChartEntry). AreAll (GoesTo table EXPANDED_NESTING) (content_names e.content)) charts table are
-        (λ c e m is. all_of (GoesTo table EXPANDED_NESTING) (content_names e.content) (λ n k. linked_goes extents c m n (entry_links built known c e (own_built c m) is n k)))
+      -- so is each that a chart names
+      linked_goes : HaveExtents all → ((q : Place) → IsTooDeep all q → ⊥) → (c : Chart) → IsAmong charts c → (n : List ℕ) → IsLinked (chart_links c) n → GoesTo table EXPANDED_NESTING n
+      linked_goes extents none c m n linked_by =
+          let (i, at) = index_of charts c m in
+          let (e, is) = extents (sized_at joined i c) (among_sized charts joined i c at) in
+          let (x, has, deep) = nests_link all (sized_at joined i c).own (chart_links c) e is linked_by.link linked_by.says in
+          let h = called_chart charts joined linked_by.link x (called c m linked_by.link linked_by.says) has in
+          there_goes table EXPANDED_NESTING n (subst (IsThereTo table EXPANDED_NESTING) (h.named ∙ linked_by.is) (reached extents none h.c (at_among charts h.i h.c h.at)))
 
-    pub accepted_table : LevelsHaveGates → AllKept (BreaksOf charts) table_groups → AreOrdered table EXPANDED_NESTING table → HaveExtents (map sized_of charts) → IsAcceptedTable table
-    accepted_table law together ordered extents = record {
+      -- and is no larger than its text comes to
+      module _ (law : JoinSizesAreKnown) (sizes : AreJoinSizes charts joined) where
+        abbrev size_by : ℕ → List ℕ → ℕ
+        size_by depth name = size_to (λ k. reference_count (inner_to table k)) table depth name
+
+        small_to : (depth : ℕ) (i : ℕ) (c : Chart) (e : Extent) → slice_get charts i ≡ Some c → IsExtentOf all (sized_at joined i c) e → e.size ≤ EXPANDED_SIZE → size_by depth c.name ≤ e.size
+        small_to zero i c e at is low = omega arith
+        small_to (suc depth) i c e at is low =
+            let t = there i c at in
+            let keeps = own_built c (at_among charts i c at) in
+            let b = entry_body built c t.entry keeps t.is in
+            let product = reference_count (inner_to table depth) in
+            let light = entry_light built known c t.entry keeps t.is (size_by depth) product in
+            let sum = adds_size all (size_by depth) (sized_at joined i c).own (chart_links c) e (one (small_to depth)) is in
+            let own = own_within all (sized_at joined i c) e is in
+            let joins : level_joins product b.body ≤ slice_index_or joined i 0 = law.enough charts table joined i c t.entry b.body depth sizes are at t.stands b.is (omega (arith, own, low)) in
+            let same : size_by (suc depth) c.name ≡ woven_size (size_by depth) product (refinements t.entry.decls) t.entry.content = ap (entry_size (size_by depth) product) t.at in
+            omega (arith, light, sum, same, joins)
+          where
+            one : ((j : ℕ) (d : Chart) (x : Extent) → slice_get charts j ≡ Some d → IsExtentOf all (sized_at joined j d) x → x.size ≤ EXPANDED_SIZE → size_by depth d.name ≤ x.size)
+                → (l : Link) (x : Extent) → IsAmong (chart_links c) l → HasExtent all (linked l) x → x.size ≤ e.size → size_by depth (linked l) ≤ x.size
+            one below l x k has within =
+                let h = called_chart charts joined l x (called c (at_among charts i c at) l k) has in
+                subst (λ (n : List ℕ). size_by depth n ≤ x.size) h.named (below h.i h.c x h.at h.comes (omega (arith, within, low)))
+
+    -- ---- by the sizes that the document has
+
+    none_deep : (h : OfSizes charts HaveExtents) → (q : Place) → IsTooDeep (sized_charts charts h.joined) q → ⊥
+    none_deep h q deep = texts.1.1.1.1.0 ExpandedNesting q (inl refl) (record { joined = h.joined; are = h.are; holds = deep })
+
+    pub all_there : OfSizes charts HaveExtents → EachChart (λ (e : ChartEntry). IsThereTo table EXPANDED_NESTING e.name) table
+    all_there h = each_entry (λ (e : ChartEntry). IsThereTo table EXPANDED_NESTING e.name) charts table are (λ c e m is. by_name (λ n. IsThereTo table EXPANDED_NESTING n) c e is (reached h.joined h.holds (none_deep h) c m))
+
+    names_go : OfSizes charts HaveExtents → EachChart (λ (e : ChartEntry). AreAll (GoesTo table EXPANDED_NESTING) (content_names e.content)) table
+    names_go h = each_entry (λ (e : ChartEntry). AreAll (GoesTo table EXPANDED_NESTING) (content_names e.content)) charts table are
+        (λ c e m is. all_of (GoesTo table EXPANDED_NESTING) (content_names e.content) (λ n k. linked_goes h.joined h.holds (none_deep h) c m n (entry_links built known c e (own_built c m) is n k)))
+
+    pub accepted_table : LevelsHaveGates → JoinSizesAreKnown → AllKept (BreaksOf charts) table_groups → AreOrdered table EXPANDED_NESTING table → OfSizes charts HaveExtents → IsAcceptedTable table
+    accepted_table law sizes together ordered h = record {
       charts = are_accepted together table are;
       different = subst AreDifferent (sym (entry_names charts table are)) differ;
       few_instances = instances_within [] charts table are (λ c e m is. entry_covers built c e (own_built c m) is) (omega arith) (λ p h. texts.1.0 Instances p (inr (inl refl)) h);
-      there = all_there extents;
-      gates = gates_held charts table are together law (names_go extents);
-      small = each_entry (λ (e : ChartEntry). size_to no_product table EXPANDED_NESTING e.name ≤ EXPANDED_SIZE) charts table are (λ c e m is. by_name (λ n. size_to no_product table EXPANDED_NESTING n ≤ EXPANDED_SIZE) c e is (light c m));
+      there = all_there h;
+      gates = gates_held charts table are together law (names_go h);
+      small = each_entry (λ (e : ChartEntry). counted_size table e.name ≤ EXPANDED_SIZE) charts table are (λ c e m is. by_name (λ n. counted_size table n ≤ EXPANDED_SIZE) c e is (light c m));
       ordered = ordered;
     }
       where
-        light : (c : Chart) → IsAmong charts c → size_to no_product table EXPANDED_NESTING c.name ≤ EXPANDED_SIZE
+        light : (c : Chart) → IsAmong charts c → counted_size table c.name ≤ EXPANDED_SIZE
         light c m =
-            let (all, is) = extents (sized_of c) (among_sized charts c m) in
-            let small = small_to EXPANDED_NESTING c all m is in
-            let within = within_size charts (λ q h. texts.1.1.1.1.0 Size q (inr (inl refl)) h) c all m is in
+            let (i, at) = index_of charts c m in
+            let among = among_sized charts h.joined i c at in
+            let (e, is) = h.holds (sized_at h.joined i c) among in
+            let within = within_size charts h.joined (λ q large. texts.1.1.1.1.0 Size q (inr (inl refl)) (record { joined = h.joined; are = h.are; holds = large })) (sized_at h.joined i c) e among is in
+            let small : counted_size table c.name ≤ e.size = small_to h.joined sizes h.are EXPANDED_NESTING i c e at is within in
             omega (arith, small, within)

@@ -1,11 +1,11 @@
 -- What the expansions of charts come to: each chart that one names is there, less deep than so, and what a chart is woven to, with all that it
 -- names, is no larger than its text comes to.
-use Rattle.std.proofs.Common.{◌≡◌, ◌≤◌, ◌<◌, ◌+◌, ◌⊎◌, inl, inr, ℕ, Bool, true, false, List, [], ◌∷◌, map, refl, sym, subst, ap, ◌∙◌, arith}
+use Rattle.std.proofs.Common.{◌≡◌, ◌≤◌, ◌<◌, ◌+◌, ◌⊎◌, inl, inr, ℕ, zero, suc, Bool, true, false, List, [], ◌∷◌, Some, map, slice_get, slice_index_or, refl, sym, subst, ap, ap₂, ◌∙◌, arith}
 use Rattle.std.specs.Str.{bytes_eq}
 use Rattle.std.proofs.lemmas.Slice.Eq.{bytes_eq-Decides}
 use Rattle.std.proofs.lemmas.Bool.{cases_lt}
 use Rattle.chart_extents.specs.ExtentRules.{ComesTo, IsTooDeep, IsTooLarge, OneComesTo}
-use Rattle.chart_extents.specs.Extents.{AddsUp, HasExtent, IsExtentOf, Sized, link_and, no_link, of_chart, of_none, sized_of, with_named}
+use Rattle.chart_extents.specs.Extents.{AddsUp, HasExtent, IsExtentOf, Sized, link_and, no_link, of_chart, of_none, sized_charts, sized_from, sized_of, with_named}
 use Rattle.chart_extents.specs.declared.extent.Extent.{Extent}
 use Rattle.chart_links.specs.Links.{Link, chart_links, depth_of, linked, place_of}
 use Rattle.chart_links.specs.References.{AtLink, AtLinks, IsCalled, LinkMisses, MissesChart}
@@ -32,13 +32,22 @@ nests_link all start (k ∷ links) end (link_and {named = e} h s) l (inl same) =
     (e, subst (λ (x : Link). HasExtent all (linked x) e) (sym same) h, subst (λ (x : Link). depth_of x + e.nesting ≤ end.nesting) (sym same) deep)
 nests_link all start (k ∷ links) end (link_and {named = e} h s) l (inr m) = nests_link all (with_named start (depth_of k) e) links end s l m
 
-pub adds_size : (all : List Sized) (size_of : List ℕ → ℕ) (start : Extent) (links : List Link) (end : Extent) → ((l : Link) (e : Extent) → IsAmong links l → HasExtent all (linked l) e → size_of (linked l) ≤ e.size) → AddsUp all start links end
+sizes_from : (all : List Sized) (start : Extent) (links : List Link) (end : Extent) → AddsUp all start links end → start.size ≤ end.size
+sizes_from all start [] end no_link = omega arith
+sizes_from all start (l ∷ links) end (link_and {named = e} h s) = let more = sizes_from all (with_named start (depth_of l) e) links end s in omega (arith, more)
+
+-- what each link names is no larger than the whole
+pub adds_size : (all : List Sized) (size_of : List ℕ → ℕ) (start : Extent) (links : List Link) (end : Extent) → ((l : Link) (e : Extent) → IsAmong links l → HasExtent all (linked l) e → e.size ≤ end.size → size_of (linked l) ≤ e.size) → AddsUp all start links end
     → start.size + named_size size_of links ≤ end.size
 adds_size all size_of start [] end f no_link = omega arith
 adds_size all size_of start (l ∷ links) end f (link_and {named = e} h s) =
-    let one = f l e (inl refl) h in
-    let more = adds_size all size_of (with_named start (depth_of l) e) links end (λ k d m g. f k d (inr m) g) s in
+    let up = sizes_from all (with_named start (depth_of l) e) links end s in
+    let one = f l e (inl refl) h (omega (arith, up)) in
+    let more = adds_size all size_of (with_named start (depth_of l) e) links end (λ k d m g low. f k d (inr m) g low) s in
     omega (arith, one, more)
+
+pub own_within : (all : List Sized) (chart : Sized) (e : Extent) → IsExtentOf all chart e → chart.own.size ≤ e.size
+own_within all chart e is = sizes_from all chart.own chart.summary.links e is
 
 -- ---- names that charts have
 
@@ -70,15 +79,36 @@ among_summaries [] c m = m
 among_summaries (d ∷ charts) c (inl e) = inl (ap summary_of e)
 among_summaries (d ∷ charts) c (inr m) = inr (among_summaries charts c m)
 
-pub among_sized : (charts : List Chart) (c : Chart) → IsAmong charts c → IsAmong (map sized_of charts) (sized_of c)
-among_sized [] c m = m
-among_sized (d ∷ charts) c (inl e) = inl (ap sized_of e)
-among_sized (d ∷ charts) c (inr m) = inr (among_sized charts c m)
+-- a chart with what its joins add
+abbrev pub sized_at : List ℕ → ℕ → Chart → Sized
+sized_at joined i c = sized_of c (slice_index_or joined i 0)
 
-pub from_sized : (charts : List Chart) (s : Sized) → IsAmong (map sized_of charts) s → (c : Chart) × IsAmong charts c × (s ≡ sized_of c)
-from_sized [] s m = absurd m
-from_sized (c ∷ charts) s (inl e) = (c, inl refl, e)
-from_sized (c ∷ charts) s (inr m) = let (d, k, e) = from_sized charts s m in (d, inr k, e)
+-- of which chart it is
+record IsSized (joined : List ℕ) (charts : List Chart) (s : Sized) (first : ℕ) : Type 0 where
+  c : Chart
+  i : ℕ
+  k : ℕ
+  at : slice_get charts i ≡ Some c
+  sum : k ≡ first + i
+  is : s ≡ sized_at joined k c
+
+among_from : (joined : List ℕ) (first : ℕ) (charts : List Chart) (i k : ℕ) (c : Chart) → k ≡ first + i → slice_get charts i ≡ Some c → IsAmong (sized_from joined first charts) (sized_at joined k c)
+among_from joined first [] i k c sum at = cc
+among_from joined first (d ∷ charts) zero k c sum at =
+    let same : d ≡ c = cc in
+    let first_is : k ≡ first = omega (arith, sum) in
+    inl (ap₂ (λ (n : ℕ) (x : Chart). sized_at joined n x) first_is (sym same))
+among_from joined first (d ∷ charts) (suc i) k c sum at = inr (among_from joined (suc first) charts i k c (omega (arith, sum)) at)
+
+pub among_sized : (charts : List Chart) (joined : List ℕ) (i : ℕ) (c : Chart) → slice_get charts i ≡ Some c → IsAmong (sized_charts charts joined) (sized_at joined i c)
+among_sized charts joined i c at = among_from joined 0 charts i i c (omega arith) at
+
+sized_from_one : (joined : List ℕ) (first : ℕ) (charts : List Chart) (s : Sized) → IsAmong (sized_from joined first charts) s → IsSized joined charts s first
+sized_from_one joined first [] s m = absurd m
+sized_from_one joined first (c ∷ charts) s (inl e) = record { c = c; i = 0; k = first; at = refl; sum = omega arith; is = e }
+sized_from_one joined first (c ∷ charts) s (inr m) =
+    let h = sized_from_one joined (suc first) charts s m in
+    record { c = h.c; i = suc h.i; k = h.k; at = h.at; sum = omega (arith, h.sum); is = h.is }
 
 -- where no link misses its chart, each is called by one
 pub link_called : (charts : List Chart) → ((q : Place) → MissesChart (map summary_of charts) q → ⊥) → (c : Chart) → IsAmong charts c → (l : Link) → IsAmong (chart_links c) l → IsCalled (map summary_of charts) (linked l)
@@ -89,31 +119,40 @@ link_called charts none c m l k = elim (called_or_not (map summary_of charts) (l
 
 -- ---- limits
 
-module _ (charts : List Chart) where
+module _ (charts : List Chart) (joined : List ℕ) where
   abbrev all_sized : List Sized
-  all_sized = map sized_of charts
+  all_sized = sized_charts charts joined
 
-  one_comes : (Test : Extent → Type 0) (some : List Chart) (c : Chart) (e : Extent) → IsAmong some c → IsExtentOf all_sized (sized_of c) e → Test e → OneComesTo Test all_sized (map sized_of some) c.place
-  one_comes Test [] c e m is t = m
-  one_comes Test (d ∷ some) c e (inl same) is t =
-      inl (ap (λ (x : Chart). x.place) (sym same), subst (λ (x : Chart). ComesTo all_sized (sized_of x) Test) same (record { all = e; is = is; passes = t }))
-  one_comes Test (d ∷ some) c e (inr m) is t = inr (one_comes Test some c e m is t)
+  one_comes : (Test : Extent → Type 0) (some : List Sized) (s : Sized) (e : Extent) → IsAmong some s → IsExtentOf all_sized s e → Test e → OneComesTo Test all_sized some s.place
+  one_comes Test [] s e m is t = m
+  one_comes Test (d ∷ some) s e (inl same) is t =
+      inl (ap (λ (x : Sized). x.place) (sym same), subst (λ (x : Sized). ComesTo all_sized x Test) same (record { all = e; is = is; passes = t }))
+  one_comes Test (d ∷ some) s e (inr m) is t = inr (one_comes Test some s e m is t)
 
-  pub within_nesting : ((q : Place) → IsTooDeep all_sized q → ⊥) → (c : Chart) (e : Extent) → IsAmong charts c → IsExtentOf all_sized (sized_of c) e → e.nesting ≤ EXPANDED_NESTING
-  within_nesting none c e m is = elim (cases_lt EXPANDED_NESTING e.nesting) [
-    | inl lt ↦ absurd (none c.place (one_comes (λ (x : Extent). EXPANDED_NESTING < x.nesting) charts c e m is lt))
+  pub within_nesting : ((q : Place) → IsTooDeep all_sized q → ⊥) → (s : Sized) (e : Extent) → IsAmong all_sized s → IsExtentOf all_sized s e → e.nesting ≤ EXPANDED_NESTING
+  within_nesting none s e m is = elim (cases_lt EXPANDED_NESTING e.nesting) [
+    | inl lt ↦ absurd (none s.place (one_comes (λ (x : Extent). EXPANDED_NESTING < x.nesting) all_sized s e m is lt))
     | inr ge ↦ ge
   ]
 
-  pub within_size : ((q : Place) → IsTooLarge all_sized q → ⊥) → (c : Chart) (e : Extent) → IsAmong charts c → IsExtentOf all_sized (sized_of c) e → e.size ≤ EXPANDED_SIZE
-  within_size none c e m is = elim (cases_lt EXPANDED_SIZE e.size) [
-    | inl lt ↦ absurd (none c.place (one_comes (λ (x : Extent). EXPANDED_SIZE < x.size) charts c e m is lt))
+  pub within_size : ((q : Place) → IsTooLarge all_sized q → ⊥) → (s : Sized) (e : Extent) → IsAmong all_sized s → IsExtentOf all_sized s e → e.size ≤ EXPANDED_SIZE
+  within_size none s e m is = elim (cases_lt EXPANDED_SIZE e.size) [
+    | inl lt ↦ absurd (none s.place (one_comes (λ (x : Extent). EXPANDED_SIZE < x.size) all_sized s e m is lt))
     | inr ge ↦ ge
   ]
 
   -- what a link names is one of the charts
-  pub called_chart : (l : Link) (e : Extent) → IsCalled (map summary_of charts) (linked l) → HasExtent all_sized (linked l) e → (d : Chart) × IsAmong charts d × (d.name ≡ linked l) × IsExtentOf all_sized (sized_of d) e
-  called_chart l e called (of_none lacks is) = absurd (lacks (subst (λ (s : List Summary). IsCalled s (linked l)) (sym (sized_summaries charts)) called))
+  pub record IsCalledChart (name : List ℕ) (e : Extent) : Type 0 where
+    pub c : Chart
+    pub i : ℕ
+    pub at : slice_get charts i ≡ Some c
+    pub named : c.name ≡ name
+    pub comes : IsExtentOf all_sized (sized_at joined i c) e
+
+  pub called_chart : (l : Link) (e : Extent) → IsCalled (map summary_of charts) (linked l) → HasExtent all_sized (linked l) e → IsCalledChart (linked l) e
+  called_chart l e called (of_none lacks is) = absurd (lacks (subst (λ (s : List Summary). IsCalled s (linked l)) (sym (sized_summaries charts joined)) called))
   called_chart l e called (of_chart s m name sum) =
-      let (d, k, same) = from_sized charts s m in
-      (d, k, ap (λ (x : Sized). x.summary.name) (sym same) ∙ name, subst (λ (x : Sized). IsExtentOf all_sized x e) same sum)
+      let h = sized_from_one joined 0 charts s m in
+      let index : h.k ≡ h.i = omega (arith, h.sum) in
+      let same : s ≡ sized_at joined h.i h.c = h.is ∙ ap (λ (n : ℕ). sized_at joined n h.c) index in
+      record { c = h.c; i = h.i; at = h.at; named = ap (λ (x : Sized). x.summary.name) (sym same) ∙ name; comes = subst (λ (x : Sized). IsExtentOf all_sized x e) same sum }

@@ -1,5 +1,5 @@
 -- The levels of charts that keep the rules on gates have one end of each called gate.
-use Rattle.std.proofs.Common.{◌≡◌, inl, inr, ℕ, zero, suc, List, [], ◌∷◌, Some, map, refl, sym, ap, ap₂, subst}
+use Rattle.std.proofs.Common.{◌≡◌, inl, inr, ℕ, zero, suc, List, [], ◌∷◌, Some, map, refl, sym, ap, subst}
 use Rattle.gate_ends.specs.FoundEnds.{AreAll, GoesTo, body_names}
 use Rattle.gate_ends.specs.LevelGates.{items_in}
 use Rattle.gate_rules.specs.GateLaws.{HasGates, LevelsHaveGates}
@@ -17,7 +17,7 @@ use Rattle.msc_instances.specs.Instances.{instances}
 use Rattle.msc_meaning.specs.Views.{table_view}
 use Rattle.msc_meaning.specs.declared.body.ChartEntry as code
 use Rattle.msc_meaning.specs.BodyLevels.{EachLevel}
-use Rattle.msc_meaning.specs.Tables.{ChartEntry, Table, Woven, Basic, HighLevel, body_at, body_in, chart_at}
+use Rattle.msc_meaning.specs.Tables.{ChartEntry, Table, Woven, Basic, HighLevel, body_in}
 use Rattle.msc_meaning.specs.WovenTables.{AreEntriesOf}
 use Rattle.msc_rules.specs.declared.rule.Rule.TheVariants.{GateOnLoop, GateSplit, GateTwice, GateWays, NoGate}
 use Rattle.msc_tree.specs.Charts.{Chart}

@@ -1,13 +1,20 @@
 -- What charts name: nothing where they have no links, and what they come to where each extent is kept.
-use Rattle.std.proofs.Common.{◌≡◌, inl, inr, Result, Ok, Err, IfOk, None, ℕ, zero, suc, List, [], ◌∷◌, Some, Option, length, map, replicate, slice_get, refl, sym, subst, ap, ◌∙◌}
+use Rattle.std.specs.List.{list_any}
+use Rattle.std.proofs.Common.{◌≡◌, ◌||◌, Bool, inl, inr, Result, Ok, Err, IfOk, None, ℕ, zero, suc, List, [], ◌∷◌, Some, Option, length, map, replicate, slice_get, refl, sym, subst, ap, ◌∙◌}
 use Rattle.chart_extents.specs.Capped.{AreKept, names_of}
-use Rattle.chart_extents.specs.Extents.{Sized, sized_of, summaries}
+use Rattle.chart_extents.specs.Extents.{Sized, sized_charts, sized_from, summaries}
 use Rattle.chart_extents.specs.declared.extent.Extent.{Extent}
+use Rattle.chart_forms.specs.TiedTexts.{are_tied, is_tied_text}
 use Rattle.chart_links.specs.Links.{Link}
 use Rattle.chart_links.specs.Ranks.{AreRanks}
 use Rattle.chart_links.specs.References.{AtLink, AtLinks, LinkMisses, LinkRecurs, LinkUncovers}
 use Rattle.chart_links.specs.Summaries.{Summary, summary_of}
+use Rattle.chart_text.specs.Texts.{chart_text}
+use Rattle.join_sizes.specs.JoinSizes.{AreJoinSizes}
+use Rattle.join_sizes.specs.JoinSizeLaws.{JoinSizesAreKnown}
+use Rattle.level_pieces.proofs.LeastLaws.{least_same}
 use Rattle.msc_base.specs.Lists.{IsAmong}
+use Rattle.msc_base.specs.Places.{IsLeast}
 use Rattle.msc_base.specs.declared.memory.NoMemory.{NoMemory}
 use Rattle.msc_base.specs.declared.place.Place.{Place}
 use Rattle.msc_rules.specs.FirstFaults.{IsBest}
@@ -18,6 +25,7 @@ use Rattle.msc_tree.specs.Charts.{Chart}
 use Rattle.msc_acceptance.specs.Acceptance.{BreaksOf}
 use Rattle.msc_acceptance.specs.Deciding.{HaveExtents, IsFirstOf, link_groups, references, sizes}
 use Rattle.msc_acceptance.specs.Linkless.{AreLinkless}
+use Rattle.msc_acceptance.specs.SizedCharts.{OfSizes}
 use Rattle.msc_acceptance.proofs.AcceptLaws.{first_of_links}
 
 -- ---- charts without links
@@ -54,13 +62,37 @@ have_extents charts values kept chart among =
     let (i, at) = at_index charts chart among in
     let one = kept.each i chart at in (one.all, one.is)
 
-pub sized_summaries : (charts : List Chart) → summaries (map sized_of charts) ≡ map summary_of charts
-sized_summaries [] = refl
-sized_summaries (c ∷ charts) = ap (λ (l : List Summary). summary_of c ∷ l) (sized_summaries charts)
+summaries_from : (joined : List ℕ) (i : ℕ) (charts : List Chart) → summaries (sized_from joined i charts) ≡ map summary_of charts
+summaries_from joined i [] = refl
+summaries_from joined i (c ∷ charts) = ap (λ (l : List Summary). summary_of c ∷ l) (summaries_from joined (suc i) charts)
 
-pub sized_names : (charts : List Chart) → names_of (map sized_of charts) ≡ map (λ (c : Chart). c.name) charts
-sized_names [] = refl
-sized_names (c ∷ charts) = ap (λ (l : List (List ℕ)). c.name ∷ l) (sized_names charts)
+pub sized_summaries : (charts : List Chart) (joined : List ℕ) → summaries (sized_charts charts joined) ≡ map summary_of charts
+sized_summaries charts joined = summaries_from joined 0 charts
+
+names_from : (joined : List ℕ) (i : ℕ) (charts : List Chart) → names_of (sized_from joined i charts) ≡ map (λ (c : Chart). c.name) charts
+names_from joined i [] = refl
+names_from joined i (c ∷ charts) = ap (λ (l : List (List ℕ)). c.name ∷ l) (names_from joined (suc i) charts)
+
+pub sized_names : (charts : List Chart) (joined : List ℕ) → names_of (sized_charts charts joined) ≡ map (λ (c : Chart). c.name) charts
+sized_names charts joined = names_from joined 0 charts
+
+-- what holds of charts with what their joins add holds of no others
+module _ (law : JoinSizesAreKnown) (charts : List Chart) (joined : List ℕ) (are : AreJoinSizes charts joined) (Holds : List Sized → Place → Type 0) where
+  of_sizes : (q : Place) → Holds (sized_charts charts joined) q → OfSizes charts (λ sized. Holds sized q)
+  of_sizes q h = record { joined = joined; are = are; holds = h }
+
+  from_sizes : (q : Place) → OfSizes charts (λ sized. Holds sized q) → Holds (sized_charts charts joined) q
+  from_sizes q h = subst (λ (l : List ℕ). Holds (sized_charts charts l) q) (law.one charts h.joined joined h.are are) h.holds
+
+  pub least_of_sizes : (o : Option Place) → IsLeast (Holds (sized_charts charts joined)) o → IsLeast (λ q. OfSizes charts (λ sized. Holds sized q)) o
+  least_of_sizes o h = least_same (Holds (sized_charts charts joined)) (λ q. OfSizes charts (λ sized. Holds sized q)) o of_sizes from_sizes h
+
+any_mapped : (charts : List Chart) → list_any (λ b. b) (map (λ (c : Chart). is_tied_text (chart_text c)) charts) ≡ are_tied charts
+any_mapped [] = refl
+any_mapped (c ∷ charts) = ap (λ (b : Bool). is_tied_text (chart_text c) || b) (any_mapped charts)
+
+pub any_tied : (charts : List Chart) (list : List Bool) → list ≡ map (λ (c : Chart). is_tied_text (chart_text c)) charts → list_any (λ b. b) list ≡ are_tied charts
+any_tied charts list is = ap (list_any (λ b. b)) is ∙ any_mapped charts
 
 -- ---- groups of rules
 

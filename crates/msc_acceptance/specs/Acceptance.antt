@@ -7,7 +7,6 @@ use Rattle.msc_rules.specs.declared.rule.Rule.TheVariants.{Bytes, BadByte, OpenS
 use Rattle.msc_rules.specs.FirstFaults.{IsFirstFault, IsFaultless}
 use Rattle.msc_rules.specs.Rules.{group_of, number_of}
 use Rattle.chart_extents.specs.ExtentRules.{AreTooLarge, IsTooDeep, IsTooLarge}
-use Rattle.chart_extents.specs.Extents.{sized_of}
 use Rattle.chart_forms.specs.LoopBounds.{HasHighBound}
 use Rattle.chart_forms.specs.NotBuilt.{IsNotBuilt}
 use Rattle.chart_links.specs.References.{LeavesUncovered, MissesChart, Recurs}
@@ -26,6 +25,7 @@ use Rattle.general_ordering.specs.EventNames.{Unknown, Twice}
 use Rattle.msc_instances.specs.Instances.{instances}
 use Rattle.msc_instances.specs.NameFaults.{ChartNamesOther, ChartNamesTwice}
 use Rattle.msc_acceptance.specs.Rules.{InOne, IsFurther, HasFurther, IsNamedAgain}
+use Rattle.msc_acceptance.specs.SizedCharts.{OfSizes}
 
 -- the charts break the rule at that place
 abbrev pub BreaksOf : List Chart → Rule → Place → Type 0
@@ -38,9 +38,9 @@ BreaksOf charts Undeclared place = InOne ChartNamesOther charts place
 BreaksOf charts MissingChart place = MissesChart (map summary_of charts) place
 BreaksOf charts Recursive place = Recurs (map summary_of charts) place
 BreaksOf charts Uncovered place = LeavesUncovered (map summary_of charts) place
-BreaksOf charts ExpandedNesting place = IsTooDeep (map sized_of charts) place
-BreaksOf charts Size place = IsTooLarge (map sized_of charts) place
-BreaksOf charts Total place = AreTooLarge (map sized_of charts) place
+BreaksOf charts ExpandedNesting place = OfSizes charts (λ sized. IsTooDeep sized place)
+BreaksOf charts Size place = OfSizes charts (λ sized. IsTooLarge sized place)
+BreaksOf charts Total place = OfSizes charts (λ sized. AreTooLarge sized place)
 BreaksOf charts NotShared place = InOne (ChartBreaksPartRule part.NotShared) charts place
 BreaksOf charts OperandsDiffer place = InOne (ChartBreaksPartRule part.OperandsDiffer) charts place
 BreaksOf charts ExcPlace place = InOne IsMisplaced charts place

@@ -3,7 +3,7 @@ use Rattle.std.specs.Prelude.{◌≡◌, ◌≤◌, ⊤, ℕ, zero, suc, List, [
 use Rattle.chart_cycles.specs.Cycles.{AreOrdered}
 use Rattle.chart_forms.specs.BodyEvents.{events_within}
 use Rattle.chart_forms.specs.BuiltBodies.{IsBuiltBody}
-use Rattle.chart_forms.specs.TableSizes.{no_product, size_to}
+use Rattle.chart_forms.specs.TableSizes.{counted_size}
 use Rattle.gate_ends.specs.FoundEnds.{AreAll, level_names}
 use Rattle.gate_ends.specs.LevelGates.{items_in}
 use Rattle.gate_rules.specs.GateLaws.{HasGates}
@@ -76,5 +76,5 @@ pub record IsAcceptedTable (table : Table) : Type 0 where
   pub few_instances : length (table_instances [] table) ≤ INSTANCES
   pub there : EachChart (λ c. IsThereTo table EXPANDED_NESTING c.name) table
   pub gates : EachChart (λ c. EachLevel (λ l. HasGates table (items_in l.body)) (content_levels c.content)) table
-  pub small : EachChart (λ c. size_to no_product table EXPANDED_NESTING c.name ≤ EXPANDED_SIZE) table
+  pub small : EachChart (λ c. counted_size table c.name ≤ EXPANDED_SIZE) table
   pub ordered : AreOrdered table EXPANDED_NESTING table

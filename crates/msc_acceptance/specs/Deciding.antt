@@ -17,7 +17,7 @@ use Rattle.msc_meaning.specs.Pieces.{statements_pieces}
 use Rattle.msc_meaning.specs.Tables.{Table}
 use Rattle.msc_meaning.specs.Views.{entry_view, table_view}
 use Rattle.msc_meaning.specs.WovenTables.{AreEntriesOf, IsEntryOf}
-use Rattle.msc_acceptance.specs.ChartFaults.{CrossesAt, IsAloneAt, IsCyclicAt, IsMisnamedAt}
+use Rattle.msc_acceptance.specs.ChartFaults.{CrossesAt, IsAloneAt, IsMisnamedAt}
 use Rattle.gate_rules.specs.GateRules.{BreaksGateRule}
 use Rattle.gate_rules.specs.declared.faults.GatePlaces.{GatePlaces}
 use Rattle.gate_rules.specs.declared.faults.GateRule.TheVariants as gate
@@ -26,10 +26,12 @@ use Rattle.msc_acceptance.specs.declared.tables.BodyFaults.{BodyFaults}
 use Rattle.msc_instances.specs.NameFaults.{ChartNamesOther, ChartNamesTwice}
 use Rattle.msc_instances.specs.Instances.{instances}
 use Rattle.chart_cycles.specs.Cycles.{AreOrdered, TellCycles}
-use Rattle.chart_extents.specs.Extents.{IsExtentOf, Sized, sized_of}
+use Rattle.chart_extents.specs.Extents.{IsExtentOf, Sized}
 use Rattle.chart_extents.specs.declared.extent.Extent.{Extent}
 use Rattle.chart_forms.specs.LoopBounds.{HasHighBound}
 use Rattle.chart_forms.specs.NotBuilt.{IsNotBuilt}
+use Rattle.chart_forms.specs.TiedTexts.{is_tied_text}
+use Rattle.chart_text.specs.Texts.{chart_text}
 use Rattle.creation_rules.specs.Creating.{ChartCreatesTwice}
 use Rattle.creation_rules.specs.Placing.{ChartPlacesCreation}
 use Rattle.creation_rules.specs.Stopping.{ChartGoesOn}
@@ -50,6 +52,7 @@ use Rattle.msc_acceptance.specs.declared.reading.TextPlaces.{TextPlaces}
 use Rattle.msc_acceptance.specs.SingleItems.{is_single_chart}
 use Rattle.msc_acceptance.specs.Acceptance.{BreaksOf}
 use Rattle.msc_acceptance.specs.Rules.{InOne}
+use Rattle.msc_acceptance.specs.SizedCharts.{OfSizes}
 
 -- ---- groups of rules
 
@@ -157,6 +160,7 @@ pub record IsReading (charts : List Chart) (reading : Reading) : Type 0 where
   pub lists : reading.lists ≡ map instances charts
   pub stands : reading.stands ≡ map (λ (c : Chart). c.place) charts
   pub singles : reading.singles ≡ map is_single_chart charts
+  pub tied : reading.tied ≡ map (λ (c : Chart). is_tied_text (chart_text c)) charts
   pub places : AreTextPlaces charts reading.places
 
 -- the earliest places at which a chart breaks the rules on parts
@@ -267,5 +271,5 @@ IsSettled charts table (decision.Faulty fault) = IsFirst number_of (BreaksOf cha
 -- of charts that keep all rules the entries, whose events can happen in an order, and what each chart comes to; or their first fault
 abbrev pub IsDecided : List Chart → Decision → Type 0
 IsDecided charts (decision.Accepted accepted) =
-    AllKept (BreaksOf charts) all_groups × AreEntriesOf instances charts (table_view accepted) × AreOrdered (table_view accepted) EXPANDED_NESTING (table_view accepted) × HaveExtents (map sized_of charts)
+    AllKept (BreaksOf charts) all_groups × AreEntriesOf instances charts (table_view accepted) × AreOrdered (table_view accepted) EXPANDED_NESTING (table_view accepted) × OfSizes charts HaveExtents
 IsDecided charts (decision.Faulty fault) = IsFirst number_of (BreaksOf charts) all_groups fault

@@ -1,8 +1,10 @@
 pub mod ChartFaults
 pub mod Rules
+pub mod SizedCharts
 pub mod Acceptance
 pub mod Listing
 pub mod AcceptedCharts
 pub mod Deciding
 pub mod SingleItems
 pub mod Linkless
+pub mod ReadCharts

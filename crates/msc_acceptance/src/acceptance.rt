@@ -14,6 +14,7 @@ ghost use Rattle.msc_acceptance.specs.AcceptedCharts.{IsAcceptedTable};
 use crate::deciding::{Decision, decide};
 use crate::{Accepted, DocFault};
 use gate_rules::laws::levels_have_gates;
+use join_sizes::laws::join_sizes_are_known;
 use msc_base::{NoMemory, Place};
 use msc_tree::RawDocument;
 use std::alloc::Global;
@@ -34,6 +35,7 @@ pub fn accept(alloc: Global, raw: RawDocument) -> Result<Accepted, DocFault>
     built_charts_are_known();
     woven_charts_are_known();
     levels_have_gates();
+    join_sizes_are_known();
     match decide(alloc, raw.charts) {
         Ok(Decision::Accepted(accepted)) => Ok(accepted),
         Ok(Decision::Faulty(fault)) => Err(DocFault::Refused {

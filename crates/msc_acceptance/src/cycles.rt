@@ -87,7 +87,8 @@ pub fn settle(
     ensures { (charts : List Chart) → AreEntriesOf instances charts (table_view entries.items) → AreFaultsIn charts faults → stands.now ≡ map (λ (c : Chart). c.place) charts → IfOk result (IsSettled charts (table_view entries.items)) }
 {
     let names = entry_names(alloc, entries.as_slice())?;
-    let gates = gate_tables(alloc, entries.as_slice(), &names)?;
+    let depth = Limits::EXPANDED_NESTING as u32;
+    let gates = gate_tables(alloc, entries.as_slice(), &names, depth, &[])?;
     if let Some(fault) = table_fault(alloc, entries.as_slice(), &names, &gates, faults)? {
         return Ok(Decision::Faulty(fault));
     }

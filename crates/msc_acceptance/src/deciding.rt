@@ -1,7 +1,6 @@
 //! The rules group by group, up to the first that is broken; else the table. For `acceptance` alone.
 
 ghost use Rattle.std.specs.Prelude.{◌≡◌, IfOk, List, None, map};
-ghost use Rattle.chart_extents.specs.Extents.{sized_of};
 ghost use Rattle.chart_forms.specs.NotBuilt.{IsNotBuilt};
 ghost use Rattle.chart_text.specs.WellFormed.{AreAllWellFormed};
 ghost use Rattle.msc_rules.specs.FirstFaults.{IsBest};
@@ -9,6 +8,7 @@ ghost use Rattle.msc_rules.specs.Rules.{number_of};
 ghost use Rattle.msc_acceptance.specs.Acceptance.{BreaksOf};
 ghost use Rattle.msc_acceptance.specs.Deciding.{AreFaultsIn, AreTextPlaces, HaveExtents, IsDecided, IsFirstOf, IsReading, IsWhole, body_groups, creations, forms, limits, names, parts, text_groups};
 ghost use Rattle.msc_acceptance.specs.Rules.{InOne};
+ghost use Rattle.msc_acceptance.specs.SizedCharts.{OfSizes};
 ghost use Rattle.msc_base.specs.Places.{IsLeast};
 ghost use Rattle.msc_tree.specs.Charts.{Chart};
 ghost use Rattle.msc_tree.specs.Views.{chart_view};
@@ -16,7 +16,7 @@ ghost use Rattle.msc_tree.specs.Views.{chart_view};
 use crate::Accepted;
 use crate::cycles::settle;
 use crate::limits::{further_chart, further_instance};
-use crate::links::link_fault;
+use crate::links::{ReadCharts, link_fault};
 use crate::names::second_chart;
 use crate::parts::part_places;
 use crate::reading::{Reading, TextPlaces, read_charts};
@@ -112,9 +112,10 @@ fn text_fault(
     charts: &[RawChart],
     reading: &Reading,
 ) -> Result<Option<Broken<Rule>>, NoMemory>
-    requires { IsReading (map chart_view charts.now) reading.now }
+    requires formed { AreAllWellFormed (map chart_view charts.now) }
+    requires reading { IsReading (map chart_view charts.now) reading.now }
     ensures first { IfOk result (IsFirstOf (map chart_view charts.now) text_groups) }
-    ensures extents { IfOk result (λ fault. fault ≡ None → HaveExtents (map sized_of (map chart_view charts.now))) }
+    ensures extents { IfOk result (λ fault. fault ≡ None → OfSizes (map chart_view charts.now) HaveExtents) }
 {
     if let Some(fault) = form_fault(reading.places.not_built) {
         return Ok(Some(fault));
@@ -125,7 +126,12 @@ fn text_fault(
     if let Some(fault) = name_fault(alloc, charts, reading.places)? {
         return Ok(Some(fault));
     }
-    if let Some(fault) = link_fault(alloc, charts, reading.lists.as_slice())? {
+    let read = ReadCharts {
+        charts,
+        lists: reading.lists.as_slice(),
+        tied: reading.tied.as_slice(),
+    };
+    if let Some(fault) = link_fault(alloc, read)? {
         return Ok(Some(fault));
     }
     part_fault(alloc, charts, reading)

@@ -1,6 +1,8 @@
 //! What is read of one chart after another, by its text, which is listed once: for `deciding`.
 
 ghost use Rattle.std.specs.Prelude.{◌≡◌, IfOk, None, map};
+ghost use Rattle.chart_forms.specs.TiedTexts.{is_tied_text};
+ghost use Rattle.chart_text.specs.Texts.{chart_text as text_of};
 ghost use Rattle.msc_acceptance.specs.Deciding.{AreOwnTexts, AreTextPlaces, earlier_of};
 ghost use Rattle.msc_acceptance.specs.SingleItems.{is_single_chart};
 ghost use Rattle.msc_instances.specs.Instances.{instances};
@@ -9,7 +11,7 @@ ghost use Rattle.msc_tree.specs.Views.{chart_view};
 
 use crate::singles::holds_singles;
 use crate::walks::earlier;
-use chart_forms::{first_high_bound, first_not_built};
+use chart_forms::{first_high_bound, first_not_built, ties_gates};
 use chart_text::chart_text;
 use creation_rules::{behind_stop, created_twice, misplaced_creation};
 use msc_base::{Items, Names, NoMemory, Place};
@@ -41,6 +43,7 @@ pub struct TextPlaces {
 struct ChartText {
     names: Names,
     single: bool,
+    tied: bool,
     places: TextPlaces,
 }
 
@@ -53,6 +56,8 @@ pub struct Reading {
     pub stands: Items<Place>,
     /// Whether each has neither inline expressions nor references.
     pub singles: Items<bool>,
+    /// Whether a join of each ties two gates.
+    pub tied: Items<bool>,
     /// The earliest places at which they break rules.
     pub places: TextPlaces,
 }
@@ -82,6 +87,7 @@ fn earlier_places(places: TextPlaces, others: TextPlaces) -> TextPlaces
 fn read_chart(alloc: Global, chart: &RawChart) -> Result<ChartText, NoMemory>
     ensures names { IfOk result (λ text. text.names ≡ instances (chart_view chart.now)) }
     ensures single { IfOk result (λ text. text.single ≡ is_single_chart (chart_view chart.now)) }
+    ensures tied { IfOk result (λ text. text.tied ≡ is_tied_text (text_of (chart_view chart.now))) }
     ensures places { IfOk result (λ text. AreOwnTexts (chart_view chart.now) text.places) }
 {
     let text = chart_text(alloc, chart)?;
@@ -94,6 +100,7 @@ fn read_chart(alloc: Global, chart: &RawChart) -> Result<ChartText, NoMemory>
     Ok(ChartText {
         names: named.names,
         single: holds_singles(text.as_slice()),
+        tied: ties_gates(text.as_slice()),
         places: TextPlaces {
             not_built,
             high_bound,
@@ -111,11 +118,13 @@ pub fn read_charts(alloc: Global, charts: &[RawChart]) -> Result<Reading, NoMemo
     ensures lists { IfOk result (λ reading. reading.lists ≡ map instances (map chart_view charts.now)) }
     ensures stands { IfOk result (λ reading. reading.stands ≡ map (λ (c : Chart). c.place) (map chart_view charts.now)) }
     ensures singles { IfOk result (λ reading. reading.singles ≡ map is_single_chart (map chart_view charts.now)) }
+    ensures tied { IfOk result (λ reading. reading.tied ≡ map (λ (c : Chart). is_tied_text (text_of c)) (map chart_view charts.now)) }
     ensures places { IfOk result (λ reading. AreTextPlaces (map chart_view charts.now) reading.places) }
 {
     let mut lists = Items::new(alloc);
     let mut stands = Items::new(alloc);
     let mut singles = Items::new(alloc);
+    let mut tied = Items::new(alloc);
     let mut places = TextPlaces {
         not_built: None,
         high_bound: None,
@@ -130,12 +139,14 @@ pub fn read_charts(alloc: Global, charts: &[RawChart]) -> Result<Reading, NoMemo
         lists.push(text.names)?;
         stands.push(chart.place)?;
         singles.push(text.single)?;
+        tied.push(text.tied)?;
         places = earlier_places(places, text.places);
     }
     Ok(Reading {
         lists,
         stands,
         singles,
+        tied,
         places,
     })
 }

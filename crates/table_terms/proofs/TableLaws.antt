@@ -9,6 +9,7 @@ use Rattle.msc_base.specs.declared.label.Label.{Label}
 use Rattle.msc_base.specs.declared.limits.TheConstants.Limits.{EXPANDED_NESTING}
 use Rattle.msc_base.specs.Orders.{Among, first, later}
 use Rattle.msc_unfolding.specs.Unfoldings.{Happening}
+use Rattle.chart_forms.specs.TableSizes.{counted_size}
 use Rattle.chart_term.specs.Terms.{TermEvent, Tree, weight}
 use Rattle.term_laws.specs.FullSoundness.{IsFullySound}
 use Rattle.term_laws.specs.Normality.{IsNormal}
@@ -44,7 +45,7 @@ use Rattle.expanded_terms.specs.GateTies.{IsQuietTable}
 use Rattle.expanded_terms.specs.WholeCharts.{IsWholeTo}
 use Rattle.expanded_terms.proofs.GateTies.{gate_ties_free, outside_ties}
 use Rattle.expanded_terms.proofs.RankedChartTerms.{mapped_term}
-use Rattle.table_terms.specs.TableLaws.{TableTermsAreLight, TableTermsArePlaced, TableTermsAreSound, TableTermsMean, expanded_size}
+use Rattle.table_terms.specs.TableLaws.{TableTermsAreLight, TableTermsArePlaced, TableTermsAreSound, TableTermsMean}
 use Rattle.table_terms.specs.TableTerms.{IsTermOf, chart_expansion, chart_numbering, numbered_chart, labelled}
 use Rattle.table_terms.proofs.Numbered.{AreNamedOnce, Has, events_once, have_events, label_found, name_found}
 use Rattle.table_terms.proofs.Happenings.{chart_seen}
@@ -152,8 +153,8 @@ table_terms_are_sound law ranked have = record {
 
 pub table_terms_are_light : ChartsAreLight → ExpansionsHaveTerms → TableTermsAreLight
 table_terms_are_light light have = record {
-  light = λ table name v x h few. subst (λ (x : Tree). weight x ≤ expanded_size table name) (sym (term_is table name have v x h))
-      (light.light (by_names.event_term (the_names table name) (the_labels table name)) (table_ends table) table EXPANDED_NESTING name no_gates 0 (λ i k. omega arith) few);
+  light = λ table name v x h few. subst (λ (x : Tree). weight x ≤ counted_size table name) (sym (term_is table name have v x h))
+      (light.counted (by_names.event_term (the_names table name) (the_labels table name)) (table_ends table) table EXPANDED_NESTING name no_gates 0 (λ i k. omega arith) few);
 }
 
 chart_placeable : (table : Table) (name : List ℕ) → IsBasicTable table → ((e : NumberedEvent) → Among e (events_in (chart_expansion table name)) → e.happening.also ≡ child_of e.happening.label)

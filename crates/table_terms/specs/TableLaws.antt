@@ -16,18 +16,12 @@ use Rattle.expansion_tree.specs.Expansions.{events_in}
 use Rattle.expanded_charts.specs.Expanding.{NumberedEvent}
 use Rattle.gate_ends.specs.FoundEnds.{table_ends}
 use Rattle.expansion_order.specs.Ranks.{CanBeRanked}
-use Rattle.chart_forms.specs.TableSizes.{size_to}
-use Rattle.expanded_terms.specs.ExpandedTerms.{charts_to}
-use Rattle.expanded_terms.specs.JoinProducts.{IsFewTo, product_in}
-use Rattle.expanded_terms.specs.NamedEvents.{event_term}
+use Rattle.chart_forms.specs.TableSizes.{counted_size}
+use Rattle.expanded_terms.specs.JoinProducts.{IsFewTo}
 use Rattle.expanded_terms.specs.PlacedTerms.{child_of}
 use Rattle.expanded_terms.specs.GateTies.{IsQuietTable}
 use Rattle.expanded_terms.specs.WholeCharts.{IsWholeTo}
 use Rattle.table_terms.specs.TableTerms.{IsTermOf, chart_expansion, chart_numbering, numbered_chart}
-
--- the size of a chart with all that it names
-abbrev pub expanded_size : Table → List ℕ → ℕ
-expanded_size table name = size_to (λ k. product_in (charts_to (event_term (chart_numbering table name).names (chart_numbering table name).labels) (table_ends table) table k)) table EXPANDED_NESTING name
 
 -- the term of a whole chart of a table of basic charts, with the names of its instances, means the chart, and is in normal form
 pub record TableTermsMean : Type 0 where
@@ -42,7 +36,7 @@ pub record TableTermsAreSound : Type 0 where
 
 -- it weighs no more than the chart's expanded size, where each level has few pairs of its own
 pub record TableTermsAreLight : Type 0 where
-  pub light : (table : Table) (name : List ℕ) (v : NetsValue) (x : Tree) → IsTermOf table name v x → IsFewTo table EXPANDED_NESTING name → weight x ≤ expanded_size table name
+  pub light : (table : Table) (name : List ℕ) (v : NetsValue) (x : Tree) → IsTermOf table name v x → IsFewTo table EXPANDED_NESTING name → weight x ≤ counted_size table name
 
 -- its events of one label have the same instances, where the second instance of each is the one that its label gives
 pub record TableTermsArePlaced : Type 0 where

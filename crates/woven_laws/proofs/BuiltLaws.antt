@@ -1,5 +1,5 @@
 -- What the statements of a chart whose forms are built are woven to is built.
-use Rattle.std.proofs.Common.{◌≡◌, ◌&&◌, inl, ℕ, zero, suc, Bool, true, false, List, [], ◌∷◌, Some, slice_get, refl, sym, subst, ap, ◌∙◌, arith}
+use Rattle.std.proofs.Common.{◌≡◌, inl, ℕ, zero, suc, true, false, List, [], ◌∷◌, Some, slice_get, refl, sym, subst, ap, ◌∙◌, arith}
 use Rattle.std.specs.List.{list_any}
 use Rattle.std.specs.Str.{bytes_eq}
 use Rattle.msc_base.specs.Lists.{IsAmong}
@@ -24,12 +24,11 @@ use Rattle.msc_meaning.specs.Pieces.{Piece, operands_of, statements_pieces}
 use Rattle.msc_instances.specs.Instances.{instances}
 use Rattle.msc_instances.specs.NameFaults.{ChartNamesOther}
 use Rattle.msc_instances.specs.Notes.{address_notes, event_notes, events_notes, far_notes}
-use Rattle.chart_text.specs.Gathering.{place_if}
 use Rattle.chart_text.specs.Texts.{Scope, Side, Standing, an_item, behind, behind_all, in_column, own_scope}
 use Rattle.chart_text.specs.WellFormed.{IsWellFormed, is_at_one, is_well_formed_item, takes}
 use Rattle.level_pieces.proofs.PieceTexts.{parts_operands}
 use Rattle.level_pieces.specs.FormedPieces.{EachPiece}
-use Rattle.chart_forms.specs.BuiltBodies.{AreBuiltBodies, AreBuiltItems, AreBuiltNodes, IsBuiltBody, IsBuiltItem, IsBuiltNode, IsChild, creates_instance, has_operands, tie_gates}
+use Rattle.chart_forms.specs.BuiltBodies.{AreBuiltBodies, AreBuiltItems, AreBuiltNodes, IsBuiltBody, IsBuiltItem, IsBuiltNode, IsChild, creates_instance, has_operands}
 use Rattle.chart_forms.specs.NotBuilt.{IsBuilt, not_built_event, not_built_events, not_built_item}
 use Rattle.creation_rules.specs.Creating.{ChartCreatesTwice, is_creator}
 use Rattle.creation_rules.specs.Placing.{is_creation}
@@ -126,10 +125,6 @@ module _ (names leads : List (List ℕ)) (s : Standing) (at : List ℕ) (one : i
         nodes_built (suc n) es (right_nil (not_built_event e) (not_built_events es) none) (known_right names own others known) apart.1,
       )
 
-untied : (b : Bool) (place : Place) → place_if b place ≡ [] → b ≡ false
-untied true place h = cc
-untied false place h = refl
-
 -- the passage of a piece of that form
 formed : (p : Piece) (f : Form) → p.form ≡ f → IsBuiltPiece p → (is_well_formed_item (behind p.leads) f ≡ true) × (not_built_item p.place f ≡ [])
 formed p f is h = subst (λ (x : Form). (is_well_formed_item (behind p.leads) x ≡ true) × (not_built_item p.place x ≡ [])) is h.0
@@ -167,9 +162,7 @@ module _ (names : List (List ℕ)) where
         nodes_built names p.leads h.0.1.standing at one h.0.1.are here h.0.1.leads p.first es (formed p (tree.Coregion es) is h.0.0).1 known apart
     item_built _ c h (an_inline {cover = cover} {p = p} {ps = ps} {head = head} {operands = operands} {held = held} is w) =
         (same_operands head.form operands held (woven_number held w) (formed p (tree.Inline head operands) is h.0.0).0, operands_built held (cover_among names cover p c h.0.1) h w)
-    item_built _ c h (a_reference {p = p} {r = r} is) =
-        let here = formed p (tree.Refer r) is h.0.0 in
-        (untied (tie_gates r.joins) p.place here.1, here.0)
+    item_built _ c h (a_reference {p = p} {r = r} is) = (formed p (tree.Refer r) is h.0.0).0
 
     operands_built : {cover : List (List ℕ)} {parts : List Piece} {k count : ℕ} (bs : Bodies) → AreAmong names cover → EachPiece IsGood parts → AreWovenOperands cover parts k count bs → AreBuiltBodies names bs
     operands_built _ c h (no_woven_operand) = tt

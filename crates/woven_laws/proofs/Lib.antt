@@ -4,9 +4,12 @@ mod OperandRegions
 pub mod Differing
 mod WalkedSizes
 mod EachPiece
+mod OrderSums
+mod PieceSums
 mod PieceSizes
 mod LinkedSizes
 mod WovenNames
+mod Untied
 mod BuiltPieces
 mod Declaring
 mod Creations
@@ -14,3 +17,6 @@ mod NamedPieces
 mod Unrefined
 pub mod BuiltLaws
 pub mod WovenSizes
+pub mod EventCounts
+mod GatheredCounts
+pub mod GatheredJoins

@@ -4,12 +4,13 @@ use Rattle.std.specs.List.{flat_map}
 use Rattle.chart_extents.specs.OwnExtents.{own_extent}
 use Rattle.chart_extents.specs.OwnExtents as extent
 use Rattle.chart_forms.specs.ChartSizes.{passage_size}
-use Rattle.chart_forms.specs.TableSizes.{expression_size, expressions_size, no_product}
+use Rattle.chart_forms.specs.TableSizes.{expression_size, expressions_size}
 use Rattle.chart_links.specs.Links.{Link, chart_links, expression_links, passage_links, parts_links, used_links}
 use Rattle.chart_text.proofs.GatheringLaws.{summed_append}
 use Rattle.chart_text.specs.Gathering.{summed}
 use Rattle.chart_text.specs.Texts.{Passage, Scope, a_head, a_statement, an_item, an_operand, chart_text, content_text, covered_scope, own_scope}
 use Rattle.msc_base.specs.declared.place.Place.{Place}
+use Rattle.msc_meaning.specs.Bodies.{ReferencePart, WovenItems}
 use Rattle.msc_tree.specs.Charts.{Basic, Chart, Content}
 use Rattle.msc_tree.specs.Expressions.{Expression, Empty, Alt, Par, Seq, Opt, Loop, Expressions, none, more}
 use Rattle.msc_tree.specs.Expressions as expression
@@ -17,14 +18,14 @@ use Rattle.msc_tree.specs.Statements.{Single, Coregion, Condition, Inline, Refer
 use Rattle.woven_laws.specs.BuiltCharts.{named_size}
 use Rattle.woven_laws.proofs.WalkedSizes.{passage_count}
 
-module _ (size_of : List ℕ → ℕ) (k : ℕ) where
+module _ (size_of : List ℕ → ℕ) (product : WovenItems → ReferencePart → ℕ) where
   named_on : (xs ys : List Link) → named_size size_of (xs ++ ys) ≡ named_size size_of xs + named_size size_of ys
   named_on [] ys = omega arith
   named_on (x ∷ xs) ys = omega (arith, named_on xs ys)
 
   -- what the expression of a reference counts
   abbrev pub count : Expression → ℕ
-  count e = expression_size size_of (no_product k) e
+  count e = expression_size size_of product e
 
   mutual
     expression_counts : (place : Place) (scope : Scope) (depth : ℕ) (e : Expression) → count e ≡ extent.expression_size e + named_size size_of (expression_links place scope depth e)
@@ -36,7 +37,7 @@ module _ (size_of : List ℕ → ℕ) (k : ℕ) where
     expression_counts place scope depth (Opt part) = omega (arith, expression_counts place scope (depth + 1) part)
     expression_counts place scope depth (Loop lower upper part) = omega (arith, expression_counts place scope (depth + 1) part)
 
-    parts_count : (place : Place) (scope : Scope) (depth : ℕ) (xs : Expressions) → expressions_size size_of (no_product k) xs ≡ extent.parts_size xs + named_size size_of (parts_links place scope depth xs)
+    parts_count : (place : Place) (scope : Scope) (depth : ℕ) (xs : Expressions) → expressions_size size_of product xs ≡ extent.parts_size xs + named_size size_of (parts_links place scope depth xs)
     parts_count place scope depth none = refl
     parts_count place scope depth (more x xs) =
         let on : named_size size_of (expression_links place scope depth x ++ parts_links place scope depth xs) ≡ named_size size_of (expression_links place scope depth x) + named_size size_of (parts_links place scope depth xs)

@@ -1,22 +1,22 @@
 -- What pieces count, as a chart's text does: the operands of an item, and the items of a level, together count no more.
-use Rattle.std.proofs.Common.{◌≡◌, ℕ, ◌≤◌, ◌+◌, zero, suc, Bool, true, false, cond, List, [], ◌∷◌, ◌++◌, Option, Some, None, slice_get, inl, inr, refl, ap, arith}
-use Rattle.msc_base.specs.Lists.{AreDifferent, IsAmong}
+use Rattle.std.proofs.Common.{◌≡◌, ℕ, ◌≤◌, ◌+◌, zero, suc, List, [], ◌∷◌, ◌++◌, Option, Some, None, map, slice_get, refl, ap, arith}
+use Rattle.msc_base.specs.Lists.{AreDifferent}
 use Rattle.msc_tree.specs.Expressions.{Expression}
 use Rattle.msc_tree.specs.Statements.{Form, Single, Coregion, Condition, Inline, Refer, Stop, placed, Items, no_items, item_and, InlineHead, Operand, InColumn, Outside, Operands, no_operands, operand_and, Statement, Column, Covered, Heading, Ended, Statements, no_statements, statement_and}
-use Rattle.msc_meaning.specs.LevelItems.{is_item, is_part_of, level_items, with_piece, with_pieces}
+use Rattle.msc_meaning.specs.LevelItems.{level_items}
 use Rattle.msc_meaning.specs.Levels.{operand_number}
 use Rattle.msc_meaning.specs.Pieces.{Piece, covered, form_count, items_pieces, operand_at, operand_count, operand_of, operand_pieces, operands_of, statement_count, statement_pieces, statements_pieces}
+use Rattle.woven_laws.proofs.OrderSums.{different_sum, mapped_at, number_at, order_sum}
+use Rattle.woven_laws.proofs.PieceSums.{items_low, lists_are, lists_sum, pieces_sum, sum_on}
 use Rattle.woven_laws.proofs.WalkedSizes.{form_size, items_size, operand_size, operands_size, statement_size, statements_size}
 
 -- what the expression of a reference counts
 module _ (count : Expression → ℕ) where
   abbrev pub pieces_size : List Piece → ℕ
-  pieces_size [] = 0
-  pieces_size (p ∷ ps) = form_size count p.form + pieces_size ps
+  pieces_size ps = pieces_sum (form_size count) ps
 
   size_on : (ps qs : List Piece) → pieces_size (ps ++ qs) ≡ pieces_size ps + pieces_size qs
-  size_on [] qs = omega arith
-  size_on (p ∷ ps) qs = omega (arith, size_on ps qs)
+  size_on ps qs = sum_on (form_size count) ps qs
 
   -- ---- pieces of the text
 
@@ -129,67 +129,18 @@ module _ (count : Expression → ℕ) where
   -- ---- the items of a level together
 
   abbrev pub lists_size : List (List Piece) → ℕ
-  lists_size [] = 0
-  lists_size (x ∷ xs) = pieces_size x + lists_size xs
-
-  with_size : (xs : List (List Piece)) (p : Piece) → lists_size (with_piece xs p) ≡ lists_size xs + form_size count p.form
-  with_size [] p = omega arith
-  with_size (x ∷ xs) p = by (is_part_of p x) (with_size xs p)
-    where
-      by : (b : Bool) → lists_size (with_piece xs p) ≡ lists_size xs + form_size count p.form → lists_size (cond b ((x ++ p ∷ []) ∷ xs) (x ∷ with_piece xs p)) ≡ pieces_size x + lists_size xs + form_size count p.form
-      by true rest = let on : pieces_size (x ++ p ∷ []) ≡ pieces_size x + pieces_size (p ∷ []) = size_on x (p ∷ []) in omega (arith, on)
-      by false rest = omega (arith, rest)
-
-  from_size : (xs : List (List Piece)) (ps : List Piece) → lists_size (with_pieces xs ps) ≤ lists_size xs + pieces_size ps
-  from_size xs [] = omega arith
-  from_size xs (p ∷ ps) = by (is_item p.form) (from_size (with_piece xs p) ps) (from_size xs ps)
-    where
-      by : (b : Bool) → lists_size (with_pieces (with_piece xs p) ps) ≤ lists_size (with_piece xs p) + pieces_size ps → lists_size (with_pieces xs ps) ≤ lists_size xs + pieces_size ps
-          → lists_size (with_pieces (cond b (with_piece xs p) xs) ps) ≤ lists_size xs + (form_size count p.form + pieces_size ps)
-      by true one other = omega (arith, one, with_size xs p)
-      by false one other = omega (arith, other)
+  lists_size xs = lists_sum (form_size count) xs
 
   pub level_low : (ps : List Piece) → lists_size (level_items ps) ≤ pieces_size ps
-  level_low ps = let low : lists_size (with_pieces [] ps) ≤ 0 + pieces_size ps = from_size [] ps in omega (arith, low)
+  level_low ps = items_low (form_size count) ps
 
   -- ---- different ones of several lists are together no larger than all
 
-  abbrev pub size_at : List (List Piece) → ℕ → ℕ
-  size_at [] x = 0
-  size_at (ps ∷ xs) zero = pieces_size ps
-  size_at (ps ∷ xs) (suc x) = size_at xs x
-
   abbrev pub sizes_at : List (List Piece) → List ℕ → ℕ
-  sizes_at xs [] = 0
-  sizes_at xs (x ∷ order) = size_at xs x + sizes_at xs order
-
-  -- the lists, that one emptied
-  abbrev emptied : List (List Piece) → ℕ → List (List Piece)
-  emptied [] x = []
-  emptied (ps ∷ xs) zero = [] ∷ xs
-  emptied (ps ∷ xs) (suc x) = ps ∷ emptied xs x
-
-  emptied_size : (xs : List (List Piece)) (x : ℕ) → size_at xs x + lists_size (emptied xs x) ≡ lists_size xs
-  emptied_size [] x = refl
-  emptied_size (ps ∷ xs) zero = omega arith
-  emptied_size (ps ∷ xs) (suc x) = omega (arith, emptied_size xs x)
-
-  other_size : (xs : List (List Piece)) (x y : ℕ) → (x ≡ y → ⊥) → size_at (emptied xs x) y ≡ size_at xs y
-  other_size [] x y d = refl
-  other_size (ps ∷ xs) zero zero d = absurd (d refl)
-  other_size (ps ∷ xs) zero (suc y) d = refl
-  other_size (ps ∷ xs) (suc x) zero d = refl
-  other_size (ps ∷ xs) (suc x) (suc y) d = other_size xs x y (λ e. d (ap suc e))
-
-  others_size : (xs : List (List Piece)) (x : ℕ) (order : List ℕ) → (IsAmong order x → ⊥) → sizes_at (emptied xs x) order ≡ sizes_at xs order
-  others_size xs x [] d = refl
-  others_size xs x (y ∷ order) d = omega (arith, other_size xs x y (λ e. d (inl e)), others_size xs x order (λ m. d (inr m)))
+  sizes_at xs order = order_sum (map pieces_size xs) order
 
   pub different_size : (xs : List (List Piece)) (order : List ℕ) → AreDifferent order → sizes_at xs order ≤ lists_size xs
-  different_size xs [] d = omega arith
-  different_size xs (x ∷ order) d = omega (arith, different_size (emptied xs x) order d.1, others_size xs x order d.0, emptied_size xs x)
+  different_size xs order d = omega (arith, different_sum (map pieces_size xs) order d, lists_are (form_size count) xs)
 
-  pub at_size_is : (xs : List (List Piece)) (x : ℕ) (ps : List Piece) → slice_get xs x ≡ Some ps → size_at xs x ≡ pieces_size ps
-  at_size_is [] x ps at = cc
-  at_size_is (y ∷ xs) zero ps at = let same : y ≡ ps = cc in ap pieces_size same
-  at_size_is (y ∷ xs) (suc x) ps at = at_size_is xs x ps at
+  pub at_size_is : (xs : List (List Piece)) (x : ℕ) (ps : List Piece) → slice_get xs x ≡ Some ps → number_at (map pieces_size xs) x ≡ pieces_size ps
+  at_size_is xs x ps at = mapped_at pieces_size xs x ps at

@@ -1,4 +1,4 @@
--- The charts that a woven body names are those of the links of its text.
+-- The charts that a body names, as it is woven and as it is gathered, are those of the links of its text.
 use Rattle.std.proofs.Common.{◌≡◌, ℕ, ◌≤◌, ◌+◌, inl, inr, List, [], ◌∷◌, map, refl, sym, subst, arith}
 use Rattle.std.specs.List.{flat_map}
 use Rattle.chart_links.specs.Links.{Link, Refers, chart_links, depth_of, expression_links, linked, passage_links, parts_links, used_links}
@@ -6,6 +6,8 @@ use Rattle.chart_text.proofs.StandingLaws.{IsMovable, each_right}
 use Rattle.chart_text.specs.Texts.{Passage, Scope, Whole, a_head, a_statement, an_item, an_operand, chart_text, content_text, covered_scope, own_scope}
 use Rattle.chart_text.specs.WellFormed.{Each}
 use Rattle.gate_ends.specs.FoundEnds.{item_names, items_names, level_names, operands_names}
+use Rattle.level_gathering.specs.Gathered.{AreGatheredItems, AreGatheredOperands, IsGatheredItem, IsGatheredLevel, as_woven, gathered, gathered_and, gathered_operand_and, no_gathered_operand, none_gathered}
+use Rattle.level_gathering.specs.Gathered as gathering
 use Rattle.level_pieces.proofs.PieceTexts.{operand_are, parts_operands, statements_are}
 use Rattle.level_pieces.specs.FormedPieces.{EachPiece, piece_text}
 use Rattle.list_facts.proofs.Members.{among_either, among_left, among_right}
@@ -20,7 +22,7 @@ use Rattle.msc_meaning.specs.Pieces.{Piece, operands_of, statements_pieces}
 use Rattle.msc_tree.specs.Charts.{Basic, Chart, Content}
 use Rattle.msc_tree.specs.Expressions.{Expression, Empty, Alt, Par, Seq, Opt, Loop, Expressions, none, more}
 use Rattle.msc_tree.specs.Expressions as expression
-use Rattle.msc_tree.specs.Statements.{Form, Single, Coregion, Condition, Inline, Refer, Stop, Statement, statements}
+use Rattle.msc_tree.specs.Statements.{Form, Single, Coregion, Condition, Inline, Refer, Stop, Reference, Statement, statements}
 use Rattle.woven_laws.specs.BuiltCharts.{IsLinked}
 use Rattle.woven_laws.proofs.EachPiece.{EachOfAll, level_each, parts_each}
 
@@ -146,12 +148,49 @@ module _ (links : List Link) where
           | inr others ↦ held_linked bs h g name others
         ]
 
+  -- ---- as it is gathered
+
+  mutual
+    gathered_linked : {cover : List (List ℕ)} {ps : List Piece} {references : List (List Reference)} (b : Body) → EachPiece IsLinkedPiece ps → IsGatheredLevel cover ps b references → (name : List ℕ) → IsAmong (level_names b) name → IsLinked links name
+    gathered_linked {ps = ps} _ h (gathered {held = held} k) name a = all_linked held (level_each IsLinkedPiece ps h) k name a
+
+    all_linked : {cover : List (List ℕ)} {all : List (List Piece)} {inner : List (List Reference)} (xs : WovenItems) → EachOfAll IsLinkedPiece all → AreGatheredItems cover all xs inner → (name : List ℕ) → IsAmong (items_names xs) name → IsLinked links name
+    all_linked _ h (none_gathered) name a = absurd a
+    all_linked _ h (gathered_and {item = x} {held = xs} k rest) name a =
+        elim (among_either (item_names x) (items_names xs) name a) [
+          | inl own ↦ one_linked x h.0 k name own
+          | inr others ↦ all_linked xs h.1 rest name others
+        ]
+
+    one_linked : {cover : List (List ℕ)} {parts : List Piece} {own : List (List Reference)} (x : WovenItem) → EachPiece IsLinkedPiece parts → IsGatheredItem cover parts x own → (name : List ℕ) → IsAmong (item_names x) name → IsLinked links name
+    one_linked x h (as_woven plain w) name a = item_linked x h w name a
+    one_linked _ h (gathering.an_inline {held = held} is k) name a = inner_linked held h k name a
+
+    inner_linked : {cover : List (List ℕ)} {parts : List Piece} {k count : ℕ} {inner : List (List Reference)} (bs : Bodies) → EachPiece IsLinkedPiece parts → AreGatheredOperands cover parts k count bs inner → (name : List ℕ) → IsAmong (operands_names bs) name → IsLinked links name
+    inner_linked _ h (no_gathered_operand) name a = absurd a
+    inner_linked _ h (gathered_operand_and {cover = cover} {parts = parts} {k = k} {body = b} {others = bs} w g) name a =
+        elim (among_either (level_names b) (operands_names bs) name a) [
+          | inl own ↦ gathered_linked b (operands_linked cover k parts h) w name own
+          | inr others ↦ inner_linked bs h g name others
+        ]
+
 -- ---- a chart
+
+-- the pieces of a chart's text
+chart_pieces : (c : Chart) (held : List Statement) → c.content ≡ Basic held → EachPiece (IsLinkedPiece (flat_map passage_links (chart_text c))) (statements_pieces (instances c) 0 (statements held))
+chart_pieces c held is =
+    let links = flat_map passage_links (chart_text c) in
+    let text = each_right (IsLinkedPassage links) (map a_head c.decls) (content_text c.content) (each_linked links (chart_text c) (λ link h. h)) in
+    statements_are (IsLinkedPassage links) (linked_movable links) 0 Whole (instances c) 0 (statements held) (subst (λ (x : Content). Each (IsLinkedPassage links) (content_text x)) is text)
 
 pub chart_linked : (c : Chart) (held : List Statement) (b : Body) → c.content ≡ Basic held → IsWovenLevel (instances c) (statements_pieces (instances c) 0 (statements held)) b
     → (name : List ℕ) → IsAmong (level_names b) name → IsLinked (chart_links c) name
 chart_linked c held b is w name a =
     let links = flat_map passage_links (chart_text c) in
-    let text = each_right (IsLinkedPassage links) (map a_head c.decls) (content_text c.content) (each_linked links (chart_text c) (λ link h. h)) in
-    let pieces = statements_are (IsLinkedPassage links) (linked_movable links) 0 Whole (instances c) 0 (statements held) (subst (λ (x : Content). Each (IsLinkedPassage links) (content_text x)) is text) in
-    subst (λ (x : Content). IsLinked (used_links x links) name) (sym is) (body_linked links b pieces w name a)
+    subst (λ (x : Content). IsLinked (used_links x links) name) (sym is) (body_linked links b (chart_pieces c held is) w name a)
+
+pub chart_gathered : (c : Chart) (held : List Statement) (b : Body) (references : List (List Reference)) → c.content ≡ Basic held → IsGatheredLevel (instances c) (statements_pieces (instances c) 0 (statements held)) b references
+    → (name : List ℕ) → IsAmong (level_names b) name → IsLinked (chart_links c) name
+chart_gathered c held b references is w name a =
+    let links = flat_map passage_links (chart_text c) in
+    subst (λ (x : Content). IsLinked (used_links x links) name) (sym is) (gathered_linked links b (chart_pieces c held is) w name a)

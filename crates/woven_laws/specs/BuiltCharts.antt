@@ -5,7 +5,7 @@ use Rattle.chart_extents.specs.OwnExtents.{own_extent}
 use Rattle.chart_forms.specs.BodyEvents.{events_within}
 use Rattle.chart_forms.specs.BuiltBodies.{IsBuiltBody}
 use Rattle.chart_forms.specs.NotBuilt.{IsBuilt}
-use Rattle.chart_forms.specs.TableSizes.{level_size, no_product}
+use Rattle.chart_forms.specs.TableSizes.{level_size}
 use Rattle.chart_links.specs.Links.{Link, chart_links, depth_of, linked}
 use Rattle.chart_text.specs.WellFormed.{IsWellFormed}
 use Rattle.creation_rules.specs.Creating.{ChartCreatesTwice}
@@ -15,7 +15,7 @@ use Rattle.msc_base.specs.Orders.{Once}
 use Rattle.msc_base.specs.declared.place.Place.{Place}
 use Rattle.msc_instances.specs.Instances.{instances}
 use Rattle.msc_instances.specs.NameFaults.{ChartNamesOther}
-use Rattle.msc_meaning.specs.Bodies.{Body, EventNode}
+use Rattle.msc_meaning.specs.Bodies.{Body, EventNode, ReferencePart, WovenItems}
 use Rattle.msc_meaning.specs.Levels.{IsWovenLevel}
 use Rattle.msc_meaning.specs.Pieces.{statements_pieces}
 use Rattle.msc_meaning.specs.Tables.{refinements}
@@ -23,6 +23,7 @@ use Rattle.msc_meaning.specs.WovenTables.{chart_decls}
 use Rattle.msc_tree.specs.Charts.{Basic, Chart, HighLevel}
 use Rattle.msc_tree.specs.Graphs.{Graph}
 use Rattle.msc_tree.specs.Statements.{Statement, statements}
+use Rattle.woven_laws.specs.JoinSums.{level_joins}
 
 -- of a chart whose forms are built: what its statements, where they are well formed, name no others and create none that may not be, are
 -- woven to is built at its instances; none of its instances is decomposed. A graph isn't built
@@ -44,11 +45,11 @@ abbrev pub named_size : (List ℕ → ℕ) → List Link → ℕ
 named_size size_of [] = 0
 named_size size_of (link ∷ links) = size_of (linked link) + named_size size_of links
 
--- what statements are woven to is no larger than they, whatever the charts count that are named; the numbers of its events, at any depth,
--- differ; and the charts that it names are those of the text's links
+-- what statements are woven to is no larger than they with what joins add, whatever the charts count that are named; the numbers of its
+-- events, at any depth, differ; and the charts that it names are those of the text's links
 pub record WovenChartsAreKnown : Type 0 where
-  pub light : (c : Chart) (held : List Statement) (b : Body) (size_of : List ℕ → ℕ) (k : ℕ) → c.content ≡ Basic held → IsWovenLevel (instances c) (statements_pieces (instances c) 0 (statements held)) b
-      → 2 + level_size size_of (no_product k) b ≤ (own_extent c).size + named_size size_of (chart_links c)
+  pub light : (c : Chart) (held : List Statement) (b : Body) (size_of : List ℕ → ℕ) (product : WovenItems → ReferencePart → ℕ) → c.content ≡ Basic held → IsWovenLevel (instances c) (statements_pieces (instances c) 0 (statements held)) b
+      → 2 + level_size size_of product b ≤ (own_extent c).size + level_joins product b + named_size size_of (chart_links c)
   pub once : (names : List (List ℕ)) (held : List Statement) (b : Body) → IsWovenLevel names (statements_pieces names 0 (statements held)) b → Once (map (λ (n : EventNode). n.number) (events_within b))
   pub named : (c : Chart) (held : List Statement) (b : Body) → c.content ≡ Basic held → IsWovenLevel (instances c) (statements_pieces (instances c) 0 (statements held)) b
       → (name : List ℕ) → IsAmong (level_names b) name → IsLinked (chart_links c) name

@@ -1,2 +1,4 @@
 pub mod NumberLaws
+pub mod JoinSums
 pub mod BuiltCharts
+pub mod JoinedCharts

@@ -1,6 +1,7 @@
 //! The laws of what charts are woven to. Each is the contract of a function that does nothing.
 
 ghost use Rattle.woven_laws.specs.BuiltCharts.{BuiltChartsAreKnown, WovenChartsAreKnown};
+ghost use Rattle.woven_laws.specs.JoinedCharts.{GatheredChartsAreKnown};
 ghost use Rattle.woven_laws.specs.NumberLaws.{WovenNumbersDiffer};
 
 /// The events of the body that a chart is woven to have different numbers, at any depth.
@@ -23,3 +24,10 @@ pub fn woven_charts_are_known()
 {
     woven_numbers_differ();
 }
+
+/// A level as it is woven has no more inner events of a gate than as it is gathered, and its joins add no more to the size of its chart; what
+/// a chart is gathered to names the charts of its links.
+#[tactic(auto, using(crate::proofs::GatheredJoins::gathered_charts_are_known))]
+pub fn gathered_charts_are_known()
+    ensures { GatheredChartsAreKnown }
+{}

@@ -1,5 +1,6 @@
 use Rattle.std.proofs.Common.{rules, ◌≡◌, ◌∙◌, [], ap, sym}
 use Rattle.gate_ends.specs.LevelGates.{items_in}
+use Rattle.msc_base.specs.declared.limits.TheConstants.Limits.{EXPANDED_NESTING}
 use Rattle.msc_meaning.specs.Calls.{calls}
 use Rattle.msc_meaning.specs.ItemViews.{items_view}
 use Rattle.msc_meaning.specs.Views.{body_view, table_view}
@@ -16,4 +17,6 @@ returns-then-not-items_call_gate c =
     c.none.ensures ∙ (none_called (table_view c.args.table.charts.now) (items_in (body_view c.args.body.now)) (ap calls held ∙ none) ∙ gates_are (table_view c.args.table.charts.now) (items_in (body_view c.args.body.now)))
 
 pub returns : goal.returns
-returns c = c.in_ok-called.ensures ∙ (c.in_ok-gates.ensures ∙ gates_are (table_view c.args.table.charts.now) (items_in (body_view c.args.body.now)))
+returns c =
+    c.in_ok-called.ensures
+    ∙ (c.in_ok-gates.ensures (table_view c.args.table.charts.now) EXPANDED_NESTING c.requires ∙ gates_are (table_view c.args.table.charts.now) (items_in (body_view c.args.body.now)))

@@ -16,6 +16,6 @@ decreases-add_charts l = 3 * l.depth + 1
 
 abbrev pub invariant-add_charts-loop-name : goal.invariant-add_charts-loop-name
 invariant-add_charts-loop-name l = record {
-  grows : Grows (table_view l.table.charts.now) l.initial.known l.known;
+  grows : Grows (table_view l.table.charts.now) l.table.depth l.initial.known l.known;
   has : AreAll (HasFacts l.known) (names_view (take l.name-index l.names));
 }

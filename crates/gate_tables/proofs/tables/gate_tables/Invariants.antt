@@ -7,6 +7,6 @@ use Rattle.gate_tables.proofs.tables.gate_tables.Given as goal
 
 abbrev pub invariant-loop-chart : goal.invariant-loop-chart
 invariant-loop-chart l = record {
-  right : AreSomeOf (table_view l.charts) l.known;
+  right : AreSomeOf (table_view l.charts) l.depth l.known;
   has : AreAll (HasFacts l.known) (chart_names (take l.chart-index l.charts));
 }

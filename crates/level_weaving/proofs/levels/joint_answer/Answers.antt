@@ -9,7 +9,8 @@ use Rattle.msc_meaning.specs.Pieces.{Piece}
 use Rattle.msc_meaning.specs.Views.{body_view, item_view}
 use Rattle.level_pieces.specs.ItemOperands.{operands_in}
 use Rattle.level_pieces.specs.PieceViews.{piece_view}
-use Rattle.level_weaving.specs.Answers.{AreLevelsAnswer, AreWovenLevels, ItemCrosses, OneCrosses, crossed_at, joint_item_of}
+use Rattle.level_weaving.specs.Answers.{AreLevelsAnswer, AreWovenLevels, ItemCrosses, OneCrosses, crossed_at}
+use Rattle.level_weaving.specs.JointItems.{joint_item_of}
 use Rattle.level_weaving.specs.declared.answers.Answer.TheVariants as answer
 use Rattle.level_weaving.proofs.JointLaws.{item_least, joint_lacks, joint_woven, own_operands}
 use Rattle.level_weaving.proofs.LevelLaws.{answer_least}

@@ -48,7 +48,7 @@ returns-in-Ok-Accepted-clause-charts c =
     let decided : IsDecided charts (decision.Accepted c.in-Ok-Accepted.accepted) = search rules in
     let texts = kept_left charts text_groups (body_groups ++ table_groups) decided.0 in
     let together = kept_right charts body_groups table_groups (kept_right charts text_groups (body_groups ++ table_groups) decided.0) in
-    accepted_table c.built_charts_are_known.ensures c.woven_charts_are_known.ensures charts c.requires texts (table_view c.in-Ok-Accepted.accepted) decided.1 c.levels_have_gates.ensures together decided.2 decided.3
+    accepted_table c.built_charts_are_known.ensures c.woven_charts_are_known.ensures charts c.requires texts (table_view c.in-Ok-Accepted.accepted) decided.1 c.levels_have_gates.ensures c.join_sizes_are_known.ensures together decided.2 decided.3
 
 pub returns-in-Ok-Accepted-clause-faultless : goal.returns-in-Ok-Accepted-clause-faultless
 returns-in-Ok-Accepted-clause-faultless c =

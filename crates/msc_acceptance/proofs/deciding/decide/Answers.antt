@@ -1,6 +1,5 @@
 use Rattle.std.proofs.Common.{rules, ◌≡◌, ◌++◌, ℕ, List, [], ◌∷◌, None, Some, Option, Result, Ok, Err, IfOk, map, refl, sym, ap, subst}
 use Rattle.chart_cycles.specs.Cycles.{AreOrdered}
-use Rattle.chart_extents.specs.Extents.{sized_of}
 use Rattle.msc_base.specs.declared.limits.TheConstants.Limits.{EXPANDED_NESTING}
 use Rattle.msc_base.specs.declared.memory.NoMemory.{NoMemory}
 use Rattle.msc_base.specs.Lists.{AreDifferent}
@@ -16,6 +15,7 @@ use Rattle.msc_tree.specs.Views.{chart_view}
 use Rattle.msc_tree.specs.declared.chart.RawChart.{RawChart}
 use Rattle.msc_acceptance.specs.Acceptance.{BreaksOf}
 use Rattle.msc_acceptance.specs.Deciding.{AllKept, HaveExtents, IsDecided, IsFirstOf, IsSettled, body_groups, table_groups, text_groups}
+use Rattle.msc_acceptance.specs.SizedCharts.{OfSizes}
 use Rattle.msc_acceptance.specs.declared.deciding.Decision.{Decision}
 use Rattle.msc_acceptance.specs.declared.deciding.Decision.TheVariants as decision
 use Rattle.msc_acceptance.proofs.AcceptLaws.{built_of, few, first_left, first_right, kept_both}
@@ -23,7 +23,7 @@ use Rattle.msc_acceptance.proofs.AcceptedLaws.{all_there, are_basic, differ, ent
 use Rattle.msc_acceptance.proofs.HeldGates.{all_go}
 use Rattle.msc_acceptance.proofs.deciding.decide.Goals as goal
 
-settled : (charts : List Chart) (table : Table) (r : Result Decision NoMemory) → AllKept (BreaksOf charts) text_groups → AllKept (BreaksOf charts) body_groups → AreEntriesOf instances charts table → HaveExtents (map sized_of charts)
+settled : (charts : List Chart) (table : Table) (r : Result Decision NoMemory) → AllKept (BreaksOf charts) text_groups → AllKept (BreaksOf charts) body_groups → AreEntriesOf instances charts table → OfSizes charts HaveExtents
     → IfOk r (IsSettled charts table) → IfOk r (IsDecided charts)
 settled charts table (Err e) texts bodies are extents h = tt
 settled charts table (Ok (decision.Accepted a)) texts bodies are extents h = (
@@ -100,7 +100,7 @@ settle-requires-clause-deep c =
     let texts = subst (λ (o : Option (Broken Rule)). IsFirstOf charts text_groups o) e told in
     let table = table_view c.in_ok-made.made.entries.items in
     let are = c.in_ok-made.ensures.entries (c.body_fault.ensures.whole f) in
-    let extents : HaveExtents (map sized_of charts) = subst (λ (l : List RawChart). HaveExtents (map sized_of (map chart_view l))) c.as_slice-2.ensures.value (c.in_ok-fault.ensures.extents e) in
+    let extents : OfSizes charts HaveExtents = subst (λ (l : List RawChart). OfSizes (map chart_view l) HaveExtents) c.as_slice-2.ensures.value (c.in_ok-fault.ensures.extents e) in
     all_go table c.in_ok-made.made.entries.items (all_there c.built_charts_are_known.ensures c.woven_charts_are_known.ensures charts c.requires texts table are extents)
 
 pub settle-requires-clause-whole : goal.settle-requires-clause-whole
@@ -117,5 +117,5 @@ returns c =
     let texts = subst (λ (o : Option (Broken Rule)). IsFirstOf charts text_groups o) e told in
     let bodies = subst (λ (o : Option (Broken Rule)). IsFirstOf charts body_groups o) f (c.body_fault.ensures.first charts c.in_ok-made.ensures.faults) in
     let are = c.in_ok-made.ensures.entries (c.body_fault.ensures.whole f) in
-    let extents : HaveExtents (map sized_of charts) = subst (λ (l : List RawChart). HaveExtents (map sized_of (map chart_view l))) c.as_slice-2.ensures.value (c.in_ok-fault.ensures.extents e) in
+    let extents : OfSizes charts HaveExtents = subst (λ (l : List RawChart). OfSizes (map chart_view l) HaveExtents) c.as_slice-2.ensures.value (c.in_ok-fault.ensures.extents e) in
     settled charts (table_view c.in_ok-made.made.entries.items) c.settle.result texts bodies are extents (c.settle.ensures charts are c.in_ok-made.ensures.faults (search rules))

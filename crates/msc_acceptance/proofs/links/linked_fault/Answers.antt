@@ -1,5 +1,4 @@
 use Rattle.std.proofs.Common.{rules, ◌≡◌, None, Some, Option, List, inl, inr, map, refl, subst}
-use Rattle.chart_extents.specs.Extents.{sized_of}
 use Rattle.chart_links.specs.References.{LeavesUncovered, MissesChart, Recurs}
 use Rattle.chart_links.specs.Summaries.{Summary}
 use Rattle.msc_base.specs.Places.{IsLeast}
@@ -10,6 +9,7 @@ use Rattle.msc_rules.specs.declared.rule.Rule.{Rule}
 use Rattle.msc_rules.specs.declared.rule.Rule.TheVariants.{Recursive}
 use Rattle.msc_tree.specs.Views.{chart_view}
 use Rattle.msc_acceptance.specs.Acceptance.{BreaksOf}
+use Rattle.msc_acceptance.specs.SizedCharts.{OfSizes}
 use Rattle.msc_acceptance.specs.Deciding.{HaveExtents, references}
 use Rattle.msc_acceptance.proofs.AcceptLaws.{none_of}
 use Rattle.msc_acceptance.proofs.LinkLaws.{always, both_groups}
@@ -17,7 +17,7 @@ use Rattle.msc_acceptance.proofs.links.linked_fault.Goals as goal
 
 pub returns-in-Some-clause-first : goal.returns-in-Some-clause-first
 returns-in-Some-clause-first c =
-    let charts = map chart_view c.args.charts.now in
+    let charts = map chart_view c.args.read.charts.now in
     let p = c.in_ok-places.places in
     let found = c.in_ok-places.ensures in
     let best : IsBest number_of (BreaksOf charts) references c.reference_fault.result =
@@ -28,7 +28,7 @@ returns-in-Some-clause-first c =
 
 pub chart_ranks-requires-clause-acyclic : goal.chart_ranks-requires-clause-acyclic
 chart_ranks-requires-clause-acyclic c =
-    let charts = map chart_view c.args.charts.now in
+    let charts = map chart_view c.args.read.charts.now in
     let p = c.in_ok-places.places in
     let found = c.in_ok-places.ensures in
     let best : IsBest number_of (BreaksOf charts) references c.reference_fault.result =
@@ -40,7 +40,7 @@ chart_ranks-requires-clause-acyclic c =
 
 pub returns-clause-first : goal.returns-clause-first
 returns-clause-first c =
-    let charts = map chart_view c.args.charts.now in
+    let charts = map chart_view c.args.read.charts.now in
     let p = c.in_ok-places.places in
     let found = c.in_ok-places.ensures in
     let best : IsBest number_of (BreaksOf charts) references c.reference_fault.result =
@@ -50,4 +50,4 @@ returns-clause-first c =
     both_groups charts c.ranked_fault.result (none_of charts references c.reference_fault.result e best) c.ranked_fault.ensures.best
 
 pub returns-clause-extents : goal.returns-clause-extents
-returns-clause-extents c = always (HaveExtents (map sized_of (map chart_view c.args.charts.now))) c.ranked_fault.result (λ fault. fault ≡ None) c.ranked_fault.ensures.extents
+returns-clause-extents c = always (OfSizes (map chart_view c.args.read.charts.now) HaveExtents) c.ranked_fault.result (λ fault. fault ≡ None) c.ranked_fault.ensures.extents

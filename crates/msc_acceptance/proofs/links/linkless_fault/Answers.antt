@@ -1,9 +1,9 @@
 use Rattle.std.proofs.Common.{rules, ◌≡◌, ℕ, None, List, length, map, replicate, sym, subst, ◌∙◌}
 use Rattle.std.proofs.lemmas.List.{length-map}
-use Rattle.chart_extents.specs.Extents.{sized_of}
 use Rattle.chart_links.specs.Ranks.{AreRanks}
 use Rattle.chart_links.specs.SummaryViews.{summary_view}
 use Rattle.msc_tree.specs.Views.{chart_view}
+use Rattle.msc_acceptance.specs.SizedCharts.{OfSizes}
 use Rattle.msc_acceptance.specs.Deciding.{HaveExtents}
 use Rattle.msc_acceptance.specs.Linkless.{AreLinkless}
 use Rattle.msc_acceptance.proofs.LinkLaws.{always, both_groups, linkless_kept, no_ranks}
@@ -16,8 +16,8 @@ ranked_fault-requires-clause-ranks c =
 
 pub returns-clause-first : goal.returns-clause-first
 returns-clause-first c =
-    let charts = map chart_view c.args.charts.now in
+    let charts = map chart_view c.args.read.charts.now in
     both_groups charts c.ranked_fault.result (linkless_kept charts (subst AreLinkless c.requires.summaries c.requires.linkless)) c.ranked_fault.ensures.best
 
 pub returns-clause-extents : goal.returns-clause-extents
-returns-clause-extents c = always (HaveExtents (map sized_of (map chart_view c.args.charts.now))) c.ranked_fault.result (λ fault. fault ≡ None) c.ranked_fault.ensures.extents
+returns-clause-extents c = always (OfSizes (map chart_view c.args.read.charts.now) HaveExtents) c.ranked_fault.result (λ fault. fault ≡ None) c.ranked_fault.ensures.extents

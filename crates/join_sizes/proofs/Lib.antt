@@ -1,0 +1,3 @@
+mod Counts
+mod RankedCharts
+pub mod JoinSizeLaws

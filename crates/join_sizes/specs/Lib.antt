@@ -1,0 +1,4 @@
+pub mod JoinSizes
+pub mod JoinSizeLaws
+pub mod Counted
+pub mod Named

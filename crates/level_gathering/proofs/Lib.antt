@@ -1,0 +1,4 @@
+pub mod NotingSteps
+pub mod OneTable
+pub mod ChartSteps
+pub mod LevelCounts
