@@ -6,7 +6,8 @@ has an expression over charts that were made before. From the tree come a run, b
 stretches of statements and of columns. So what a run is doesn't stand on how the text is read.
 
 Events may stand at gates, each gate of a chart with one event. Where one run has one event at most at a gate of an inline expression or
-reference, and none in a loop, an event of the level may call it; references join gates to others of their chart.
+reference, and none in a loop, an event of the level may call it, or a join tie it with one of another; references join gates to others of
+their chart.
 """
 import copy
 import json
@@ -25,8 +26,8 @@ class Event:
     def __init__(self, at, kind, text, far=None, pairing=""):
         self.at, self.kind, self.text, self.far, self.pairing = at, kind, text, far, pairing
         self.cover, self.label, self.before, self.after = [at], None, [], []
-        # the gate that it is written at; the one at which it stands now, in a run; and which item and gate it calls
-        self.gate, self.open, self.callee = None, None, None
+        # the gate that it is written at; the one at which it stands now, in a run; the join that ties it there; and which item and gate it calls
+        self.gate, self.open, self.tie, self.callee = None, None, None, None
         self.instances = {at, text} if kind == "create" else {at}
 
     def words(self, in_chart):
@@ -75,7 +76,7 @@ class Stop:
 class Inline:
     def __init__(self, form, cover, name, operands, bounds=None):
         self.form, self.cover, self.name, self.operands, self.bounds = form, cover, name, operands, bounds
-        self.callers, self.joins = {}, {}
+        self.callers, self.joins, self.ties = {}, {}, {}
 
 
 class Expression:
@@ -94,7 +95,14 @@ class Expression:
 class Reference:
     def __init__(self, cover, name, expression):
         self.form, self.cover, self.name, self.expression, self.operands, self.bounds = "reference", cover, name, expression, [], None
-        self.callers, self.joins = {}, {}
+        self.callers, self.joins, self.ties = {}, {}, {}
+
+
+class Tied:
+    """What stands in the place of a gate's caller where a join ties it with another: the instance of the other's events, and the join."""
+
+    def __init__(self, at, join):
+        self.at, self.join = at, join
 
 
 class Level:
@@ -180,12 +188,13 @@ class Maker:
     def __init__(self, rng, structural, instances, others):
         self.rng, self.left, self.structural, self.count = rng, EVENTS, structural, 0
         self.instances, self.others, self.expanded, self.created = instances, others, 0, set()
-        self.gates = 0
+        # charts with many events at gates refer to others with many
+        self.gates, self.gated = 0, structural in GATES or rng.random() < (0.8 if any(chart.gated for chart in others) else 0.3)
 
     def level(self, cover, depth):
         rng, items, waiting = self.rng, [], []
         for _ in range(rng.randint(0, 6 if depth == 0 else 3)):
-            reference = self.reference(cover) if self.others and rng.random() < 0.3 else None
+            reference = self.reference(cover) if self.others and rng.random() < (0.5 if self.gated else 0.3) else None
             creation = self.creation(cover, depth, items)
             if creation:
                 items.append(creation)
@@ -201,6 +210,7 @@ class Maker:
                 items.append(waiting.pop(rng.randrange(len(waiting))))
         rng.shuffle(waiting)
         level = Level(cover, items + waiting)
+        self.ties(level)
         self.callers(level)
         self.coregions(level)
         if rng.random() < 0.3:
@@ -241,7 +251,7 @@ class Maker:
     def event(self, cover, waiting):
         rng, self.left = self.rng, self.left - 1
         at, far = rng.choice(cover), rng.choice(cover)
-        crossing = ["out to env", "in from env"] * (5 if self.structural in GATES else 1)
+        crossing = ["out to env", "in from env"] * (5 if self.gated else 1)
         kind = rng.choice(["message"] * 5 + ["action"] * 3 + ["set", "reset", "timeout", "lost", "found"] + crossing)
         if kind == "message":
             text, pairing = rng.choice(["a", "b", "a(x)", "a('y z')"]), rng.choice(["", "", "", "1", "2"])
@@ -250,7 +260,7 @@ class Maker:
             return Event(at, "out", text, far, pairing)
         if kind in ("out to env", "in from env"):
             event = Event(at, kind.split()[0], "e", "env")
-            event.gate = event.open = self.gate() if rng.random() < (0.8 if self.structural in GATES else 0.4) else None
+            event.gate = event.open = self.gate() if rng.random() < (0.8 if self.gated else 0.4) else None
             return event
         if kind in ("lost", "found"):
             return Event(at, kind, "m", rng.choice("ijkl") if kind == "lost" else None)
@@ -271,7 +281,7 @@ class Maker:
             if broken == "no gate" and rng.random() < 0.3:
                 self.call(level, item, rng.choice(["g9", "h"]), Event(rng.choice(level.cover), "out", "e", rng.choice(level.cover)))
             for gate, inner in inside.items():
-                if gate in item.joins or not (inner.fits() or broken) or rng.random() < 0.3:
+                if gate in item.joins or gate in item.ties or (gate in item.callers and broken != "gate used twice") or not (inner.fits() or broken) or rng.random() < 0.3:
                     continue
                 held = inner.events[0]
                 kind = "in" if held.kind == "out" else "out"
@@ -280,6 +290,34 @@ class Maker:
                 text = "f" if broken == "gate ways differ" and rng.random() < 0.3 else held.text
                 for _ in range(2 if broken == "gate used twice" and rng.random() < 0.5 else 1):
                     self.call(level, item, gate, Event(rng.choice(level.cover), kind, text, held.at))
+
+    def ties(self, level):
+        """Joins gates of references with gates of others of the level that go the other way; where a rule is to be broken, also others."""
+        rng, broken = self.rng, self.structural if self.structural in GATES else None
+        items = [item for item in level.items if isinstance(item, (Inline, Reference))]
+        for item in [item for item in items if isinstance(item, Reference)]:
+            for gate, inner in gates_inside(item).items():
+                for other in rng.sample(items, len(items)):
+                    for far, outer in gates_inside(other).items():
+                        if rng.random() < 0.8 and self.may_tie(item, gate, inner, other, far, outer, broken):
+                            self.tie(item, gate, inner, other, far, outer)
+            if broken == "no gate" and items and rng.random() < 0.2:
+                item.ties[rng.choice(["g1", "h"])] = (rng.choice(items), rng.choice(["g2", "h"]))
+
+    def may_tie(self, item, gate, inner, other, far, outer, broken):
+        taken = gate in item.callers or gate in item.joins or gate in item.ties or far in other.callers or far in other.joins or far in other.ties
+        if item is other or (taken and broken != "gate used twice"):
+            return False
+        if broken and self.rng.random() < 0.5:
+            return True
+        return inner.fits() and outer.fits() and inner.events[0].kind != outer.events[0].kind and inner.events[0].text == outer.events[0].text
+
+    def tie(self, item, gate, inner, other, far, outer):
+        item.ties[gate] = (other, far)
+        join = (item, gate)
+        other.callers[far] = Tied(inner.events[0].at, join)
+        if self.structural != "no gate" or self.rng.random() < 0.5:
+            item.callers[gate] = Tied(outer.events[0].at, join)
 
     def call(self, level, item, gate, event):
         """Puts the caller in front of the item, if it goes out, else behind it; now and then elsewhere."""
@@ -412,14 +450,25 @@ def unfolded(rng, level):
         events += inner
         if ends:
             break
+    pairs += tied(events)
     return events, [(first, second) for first, second in pairs if first in events and second in events]
+
+
+def tied(events):
+    """The pairs of a level's joins: what goes out at the one gate before what comes in at the other. Above the level they aren't seen."""
+    pairs = [(first, second) for first in events for second in events if first.tie and first.tie == second.tie and (first.kind, second.kind) == ("out", "in")]
+    for event in events:
+        event.tie = None
+    return pairs
 
 
 def past_gates(item, events, pairs):
     """What an item's events are around it: those at a called gate have the caller at their other end, and others may be joined."""
     for event in events:
         caller = item.callers.get(event.open)
-        if caller:
+        if isinstance(caller, Tied):
+            event.far, event.tie = caller.at, caller.join
+        elif caller:
             event.far = caller.at
             pairs = pairs + [(caller, event) if caller.kind == "out" else (event, caller)]
         event.open = None if caller else item.joins.get(event.open, event.open)
@@ -513,7 +562,6 @@ FAULTS = ["unmatched message", "undeclared instance", "uncovered instance", "und
 CREATING = ["create placed", "created twice", "late creation"]
 GATES = ["no gate", "gate used twice", "gate ways differ", "gate on two instances", "gate on a loop"]
 STRUCTURAL = ["exc placed", "event named twice", "unknown event", "cyclic order", "uncovered instance", "event after stop", *CREATING, *GATES, *GATES]
-UNBUILT = ["reference empty via g to reference X1 via h", "reference X9: empty via g to env via f, g to reference X1 via h"]
 MARK = "\v"
 
 
@@ -538,6 +586,8 @@ class Writer:
         for i in self.instances:
             if i not in listed:
                 lines.append(f"{i}: instance;" if rng.random() < 0.5 else f"instance {i}; endinstance;")
+        if self.here("unbuilt"):
+            lines.append(f"inst z {MARK}decomposed as {self.name};")
         items = list(level.items)
         while items:
             size = rng.randint(1, len(items)) if rng.random() < 0.4 else len(items)
@@ -572,13 +622,6 @@ class Writer:
         inner = [words for words in (self.event(event, cover) for event in item.events) if words]
         return "concurrent; " + " ".join([*inner, "endconcurrent;"])
 
-    def more(self):
-        """What isn't built yet, at the place of the fault."""
-        if not self.here("unbuilt"):
-            return []
-        form = self.rng.choice(UNBUILT)
-        return [(form if MARK in form else MARK + form) + ";"]
-
     # statements
     def interleaved(self, items):
         """The items with those of each instance in their order."""
@@ -601,8 +644,6 @@ class Writer:
             else:
                 lines.append(f"{cover}: {words}")
             last = cover
-        for words in self.more():
-            lines.append(f"{rng.choice(level.cover)}: {words}")
         return lines
 
     def cover_of(self, item, level):
@@ -630,7 +671,8 @@ class Writer:
 
     def joins(self, item):
         """The joins of a reference as they are written."""
-        return " via " + ", ".join(f"{gate} to env via {outer}" for gate, outer in item.joins.items()) if item.joins else ""
+        joins = [f"{gate} to env via {outer}" for gate, outer in item.joins.items()] + [f"{gate} to reference {other.name} via {far}" for gate, (other, far) in item.ties.items()]
+        return " via " + ", ".join(joins) if joins else ""
 
     def expression(self, held):
         """The expression of a reference as it is written."""
@@ -694,7 +736,7 @@ class Writer:
                 words[first], words[second] = words[second], words[first]
         if len(words) > 1 and self.here("items exchanged"):
             words[0], words[-1] = words[-1], words[0]
-        return words + self.more()
+        return words
 
     def part(self, item, level, i, last):
         """The part of an inline expression or a condition in a column; `last` is the name of the inline expression before it there."""
@@ -757,6 +799,7 @@ class Chart:
         instances = rng.sample(["i", "j", "k", "l"], rng.randint(1, 4))
         structural = rng.choice(STRUCTURAL) if faulty and rng.random() < 0.3 else None
         maker = Maker(rng, structural, instances, others)
+        self.gated = maker.gated
         self.level = maker.level(instances, 0)
         self.size = EVENTS - maker.left + maker.expanded + 1
         referred = [chart for level in self.level.levels() for item in level.items if isinstance(item, Reference) for chart in item.expression.charts()]
