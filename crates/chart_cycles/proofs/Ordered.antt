@@ -9,14 +9,13 @@ use Rattle.msc_meaning.specs.Bodies.{Body, level, WovenItems, no_items, item_and
 use Rattle.msc_meaning.specs.Tables.{Table, ChartEntry, Woven, Basic, HighLevel, chart_at}
 use Rattle.msc_meaning.specs.Views.{entry_view, table_view}
 use Rattle.msc_meaning.specs.declared.body.ChartEntry as rust
-use Rattle.expanded_charts.specs.BasicCharts.{IsBasicTable}
 use Rattle.expanded_charts.specs.Expanding.{expansion}
 use Rattle.expanded_charts.specs.Numbering.{numbering_of}
 use Rattle.gate_ends.specs.FoundEnds.{AreAll, item_names, items_names, level_names, operands_names, table_ends}
 use Rattle.written_order.specs.Rising.{IsRisingEntry, IsRisingTo, IsRisingWoven}
 use Rattle.written_order.specs.RisingLaws.{RisingChartsAreRanked}
 use Rattle.chart_cycles.specs.Cycles.{AreOrdered, IsOrdered, TellCycles, TellsCycle}
-use Rattle.chart_cycles.specs.Written.{AreWritten, HasNoReference, HaveNoReference, IsWritten, ItemHasNoReference, OperandsHaveNoReference, StandsAlone}
+use Rattle.chart_cycles.specs.Written.{AreWritten, HasNoReference, HaveNoReference, IsWritten, IsWrittenChart, ItemHasNoReference, OperandsHaveNoReference, StandsAlone}
 
 -- ---- without references
 
@@ -45,21 +44,21 @@ alone_rises : (P : List ℕ → Type 0) (w : Woven) → StandsAlone w → IsWrit
 alone_rises P (Basic b) alone up = (up, subst (AreAll P) (sym (no_names b alone)) tt)
 alone_rises P (HighLevel drawn) alone up = tt
 
-chart_rises : (table : Table) (depth : ℕ) (name : List ℕ) (c : ChartEntry) → chart_at table name ≡ Some c → StandsAlone c.content → IsWritten c.content → IsRisingTo table depth name
+chart_rises : (table : Table) (depth : ℕ) (name : List ℕ) (c : ChartEntry) → chart_at table name ≡ Some c → StandsAlone c.content → IsWrittenChart c → IsRisingTo table depth name
 chart_rises table zero name c at alone up = tt
-chart_rises table (suc k) name c at alone up = subst (IsRisingEntry (IsRisingTo table k)) (sym at) (alone_rises (IsRisingTo table k) c.content alone up)
+chart_rises table (suc k) name c at alone up = subst (IsRisingEntry (IsRisingTo table k)) (sym at) (up.0, alone_rises (IsRisingTo table k) c.content alone up.1)
 
-pub alone_ordered : RisingChartsAreRanked → (table : Table) (depth : ℕ) (name : List ℕ) (c : ChartEntry) → IsBasicTable table → chart_at table name ≡ Some c → StandsAlone c.content → IsWritten c.content → IsOrdered table depth name
-alone_ordered law table depth name c basic at alone up = law.ranked (table_ends table) table depth name (numbering_of (expansion (table_ends table) table depth name)) basic (chart_rises table depth name c at alone up)
+pub alone_ordered : RisingChartsAreRanked → (table : Table) (depth : ℕ) (name : List ℕ) (c : ChartEntry) → chart_at table name ≡ Some c → StandsAlone c.content → IsWrittenChart c → IsOrdered table depth name
+alone_ordered law table depth name c at alone up = law.ranked (table_ends table) table depth name (numbering_of (expansion (table_ends table) table depth name)) (chart_rises table depth name c at alone up)
 
 -- ---- all written in order
 
-written_at : (charts : Table) (name : List ℕ) (c : ChartEntry) → AreWritten charts → chart_at charts name ≡ Some c → IsWritten c.content
+written_at : (charts : Table) (name : List ℕ) (c : ChartEntry) → AreWritten charts → chart_at charts name ≡ Some c → IsWrittenChart c
 written_at [] name c h e = absurd cc
 written_at (d ∷ charts) name c h e = by (bytes_eq d.name name) e (written_at charts name c h.1)
   where
-    by : (b : Bool) → (if b then Some d else chart_at charts name) ≡ Some c → (chart_at charts name ≡ Some c → IsWritten c.content) → IsWritten c.content
-    by true f behind = let same : d ≡ c = cc in subst (λ (x : ChartEntry). IsWritten x.content) same h.0
+    by : (b : Bool) → (if b then Some d else chart_at charts name) ≡ Some c → (chart_at charts name ≡ Some c → IsWrittenChart c) → IsWrittenChart c
+    by true f behind = let same : d ≡ c = cc in subst (λ (x : ChartEntry). IsWrittenChart x) same h.0
     by false f behind = behind f
 
 all_of : (P : List ℕ → Type 0) → ((name : List ℕ) → P name) → (names : List (List ℕ)) → AreAll P names
@@ -74,13 +73,13 @@ all_rise : (table : Table) → AreWritten table → (depth : ℕ) (name : List �
 all_rise table up zero name = tt
 all_rise table up (suc k) name = by (chart_at table name) (λ c at. written_at table name c up at) refl (all_rise table up k)
   where
-    by : (o : Option ChartEntry) → ((c : ChartEntry) → chart_at table name ≡ Some c → IsWritten c.content) → chart_at table name ≡ o → ((other : List ℕ) → IsRisingTo table k other) → IsRisingEntry (IsRisingTo table k) o
+    by : (o : Option ChartEntry) → ((c : ChartEntry) → chart_at table name ≡ Some c → IsWrittenChart c) → chart_at table name ≡ o → ((other : List ℕ) → IsRisingTo table k other) → IsRisingEntry (IsRisingTo table k) o
     by None f e below = tt
-    by (Some c) f e below = woven_rises (IsRisingTo table k) below c.content (f c e)
+    by (Some c) f e below = let written = f c e in (written.0, woven_rises (IsRisingTo table k) below c.content written.1)
 
-pub written_ordered : RisingChartsAreRanked → (table : Table) (depth : ℕ) → IsBasicTable table → AreWritten table → (charts : List ChartEntry) → AreOrdered table depth charts
-written_ordered law table depth basic up [] = tt
-written_ordered law table depth basic up (c ∷ charts) = (law.ranked (table_ends table) table depth c.name (numbering_of (expansion (table_ends table) table depth c.name)) basic (all_rise table up depth c.name), written_ordered law table depth basic up charts)
+pub written_ordered : RisingChartsAreRanked → (table : Table) (depth : ℕ) → AreWritten table → (charts : List ChartEntry) → AreOrdered table depth charts
+written_ordered law table depth up [] = tt
+written_ordered law table depth up (c ∷ charts) = (law.ranked (table_ends table) table depth c.name (numbering_of (expansion (table_ends table) table depth c.name)) (all_rise table up depth c.name), written_ordered law table depth up charts)
 
 -- ---- chart by chart
 

@@ -1,18 +1,22 @@
 -- Serves private contracts alone.
 -- Charts that needn't be expanded.
-use Rattle.std.specs.Prelude.{List, [], ◌∷◌}
+use Rattle.std.specs.Prelude.{◌≡◌, List, [], ◌∷◌}
 use Rattle.msc_meaning.specs.Bodies.{Body, level, WovenItems, no_items, item_and, WovenItem, Single, Coregion, Inline, Refer, Bodies, no_bodies, body_and}
-use Rattle.msc_meaning.specs.Tables.{ChartEntry, Woven, Basic, HighLevel}
+use Rattle.msc_meaning.specs.Tables.{ChartEntry, Woven, Basic, HighLevel, refinements}
 use Rattle.written_order.specs.Rising.{IsRisingBody}
 
 abbrev pub IsWritten : Woven → Type 0
 IsWritten (Basic b) = IsRisingBody b
 IsWritten (HighLevel drawn) = Unit {0}
 
--- each chart is written in order by itself
+-- a chart without decomposed instances that is written in order by itself
+abbrev pub IsWrittenChart : ChartEntry → Type 0
+IsWrittenChart c = (refinements c.decls ≡ []) × IsWritten c.content
+
+-- each of them is
 abbrev pub AreWritten : List ChartEntry → Type 0
 AreWritten [] = Unit {0}
-AreWritten (c ∷ charts) = IsWritten c.content × AreWritten charts
+AreWritten (c ∷ charts) = IsWrittenChart c × AreWritten charts
 
 -- no reference stands in it
 abbrev mutual

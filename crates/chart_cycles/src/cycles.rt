@@ -8,7 +8,7 @@ ghost use Rattle.msc_base.specs.Lists.{AreDifferent};
 ghost use Rattle.msc_meaning.specs.Tables.{chart_at};
 ghost use Rattle.msc_meaning.specs.Views.{content_view, entry_view, table_view};
 ghost use Rattle.chart_cycles.specs.Cycles.{IsOrdered, TellCycles};
-ghost use Rattle.chart_cycles.specs.Written.{AreWritten, IsWritten, StandsAlone};
+ghost use Rattle.chart_cycles.specs.Written.{AreWritten, IsWritten, IsWrittenChart, StandsAlone};
 
 use crate::alone::has_none;
 use expanded_charts::expansion_of;
@@ -16,12 +16,13 @@ use expansion_order::is_cyclic;
 use gate_tables::GateTables;
 use msc_base::{NameTable, NoMemory};
 use msc_meaning::{ChartEntry, EntryContent};
+use refined_events::are_refined;
 use std::alloc::Global;
 use written_order::is_rising;
 use written_order::laws::rising_charts_are_ranked;
 
-/// Whether the chart is written in order by itself.
-fn is_written(content: &EntryContent) -> bool
+/// Whether what the chart is has its events in order.
+fn holds_order(content: &EntryContent) -> bool
     ensures { result ≡ true → IsWritten (content_view content.now) }
 {
     match content {
@@ -30,12 +31,19 @@ fn is_written(content: &EntryContent) -> bool
     }
 }
 
+/// Whether the chart has no decomposed instances, and is written in order by itself.
+fn is_written(chart: &ChartEntry) -> bool
+    ensures { result ≡ true → IsWrittenChart (entry_view chart.now) }
+{
+    !are_refined(chart.decls.as_slice()) && holds_order(&chart.content)
+}
+
 /// Whether each chart is written in order by itself.
 fn are_written(charts: &[ChartEntry]) -> bool
     ensures { result ≡ true → AreWritten (map entry_view charts.now) }
 {
     for chart in charts {
-        if !is_written(&chart.content) {
+        if !is_written(chart) {
             return false;
         }
     }
@@ -52,12 +60,12 @@ fn stands_alone(content: &EntryContent) -> bool
     }
 }
 
-/// Whether the chart has no references, and is written in order.
-fn is_alone(content: &EntryContent) -> bool
-    ensures alone { result ≡ true → StandsAlone (content_view content.now) }
-    ensures written { result ≡ true → IsWritten (content_view content.now) }
+/// Whether the chart names no other, and is written in order.
+fn is_alone(chart: &ChartEntry) -> bool
+    ensures alone { result ≡ true → StandsAlone (content_view chart.now.content) }
+    ensures written { result ≡ true → IsWrittenChart (entry_view chart.now) }
 {
-    stands_alone(content) && is_written(content)
+    stands_alone(&chart.content) && is_written(chart)
 }
 
 /// Whether the order of the events of the chart's expansion is cyclic.
@@ -97,7 +105,7 @@ fn is_cyclic_entry(
     ensures ordered { IfOk result (λ cyclic. cyclic ≡ false → IsOrdered (table_view charts.now) depth chart.now.name) }
 {
     rising_charts_are_ranked();
-    if is_alone(&chart.content) {
+    if is_alone(chart) {
         return Ok(false);
     }
     let cyclic = is_cyclic_chart(alloc, charts, names, gates, depth, chart.name.bytes())?;

@@ -1,14 +1,13 @@
--- The forms that aren't built yet, and where a chart has them: in its heads, in its statements at any depth, or as it is a graph.
-use Rattle.std.specs.Prelude.{not, List, [], ◌∷◌, ◌++◌, Option, Some, None, ℕ}
+-- The forms that aren't built yet, and where a chart has them: in its statements at any depth, or as it is a graph.
+use Rattle.std.specs.Prelude.{not, List, [], ◌∷◌, ◌++◌}
 use Rattle.std.specs.List.{flat_map}
 use Rattle.chart_text.specs.Gathering.{place_if}
 use Rattle.chart_text.specs.Texts.{Passage, a_head, a_statement, an_item, an_operand, chart_text}
 use Rattle.msc_base.specs.Lists.{IsAmong}
 use Rattle.msc_base.specs.declared.place.Place.{Place}
-use Rattle.msc_tree.specs.declared.chart.Decl.{Decl}
 use Rattle.msc_tree.specs.declared.event.RawEvent.{RawEvent}
 use Rattle.msc_tree.specs.Charts.{Chart, Content, Basic, HighLevel}
-use Rattle.msc_tree.specs.Statements.{Form, Single, Coregion, Condition, Inline, Refer, Stop, Statement, Column, Covered, Heading, Ended}
+use Rattle.msc_tree.specs.Statements.{Form, Single, Coregion, Condition, Inline, Refer, Stop}
 use Rattle.chart_forms.specs.BuiltBodies.{creates_instance}
 
 -- a creation of no instance isn't built
@@ -17,14 +16,6 @@ not_built_event e = place_if (not (creates_instance e.kind e.target)) e.place
 
 abbrev pub not_built_events : List RawEvent → List Place
 not_built_events es = flat_map not_built_event es
-
--- a decomposition isn't built
-abbrev pub not_built_by : Option (List ℕ) → Place → List Place
-not_built_by None place = []
-not_built_by (Some chart) place = place ∷ []
-
-abbrev pub not_built_decl : Decl → List Place
-not_built_decl d = not_built_by d.refined d.place
 
 -- of an item by itself
 abbrev pub not_built_item : Place → Form → List Place
@@ -35,17 +26,10 @@ not_built_item place (Condition names shared) = []
 not_built_item place (Refer reference) = []
 not_built_item place Stop = []
 
--- of what a statement declares
-abbrev pub not_built_heading : Statement → List Place
-not_built_heading (Column decl held) = not_built_decl decl
-not_built_heading (Covered cover held) = []
-not_built_heading (Heading decl) = not_built_decl decl
-not_built_heading (Ended name) = []
-
 -- of a passage of the text
 abbrev pub not_built : Passage → List Place
-not_built (a_head decl) = not_built_decl decl
-not_built (a_statement depth scope x) = not_built_heading x
+not_built (a_head decl) = []
+not_built (a_statement depth scope x) = []
 not_built (an_item s place form) = not_built_item place form
 not_built (an_operand s x) = []
 

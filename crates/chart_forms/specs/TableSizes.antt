@@ -7,7 +7,7 @@ use Rattle.msc_base.specs.declared.limits.TheConstants.Limits.{EXPANDED_NESTING}
 use Rattle.msc_tree.specs.Expressions.{Expression, Empty, Chart, Alt, Par, Seq, Opt, Expressions, none, more}
 use Rattle.msc_tree.specs.Expressions as expression
 use Rattle.msc_meaning.specs.Bodies.{ReferencePart, Body, level, WovenItems, no_items, item_and, WovenItem, Single, Coregion, Inline, Refer, Bodies, no_bodies, body_and}
-use Rattle.msc_meaning.specs.Tables.{Table, ChartEntry, chart_at, Woven, Basic, HighLevel, Refinement, refinements}
+use Rattle.msc_meaning.specs.Tables.{Table, ChartEntry, chart_at, body_at, Woven, Basic, HighLevel, Refinement, refinements}
 
 -- size_of: of the chart of that name; product: what the joins of a level's reference add
 module _ (size_of : List ℕ → ℕ) (product : WovenItems → ReferencePart → ℕ) where
@@ -46,20 +46,30 @@ module _ (size_of : List ℕ → ℕ) (product : WovenItems → ReferencePart �
     operands_size no_bodies = 0
     operands_size (body_and b bs) = 1 + level_size b + operands_size bs
 
-  -- of a chart without refining charts
-  abbrev pub woven_size : List Refinement → Woven → ℕ
-  woven_size [] (Basic held) = 2 + level_size held
-  woven_size [] (HighLevel drawn) = 0
-  woven_size (r ∷ rs) content = 0
+  -- of a chart by itself, where it is there
+  abbrev pub body_size : Option Body → ℕ
+  body_size None = 0
+  body_size (Some b) = 2 + level_size b
 
-  abbrev pub entry_size : Option ChartEntry → ℕ
-  entry_size None = 0
-  entry_size (Some entry) = woven_size (refinements entry.decls) entry.content
+  -- of the charts that refine instances; they have no refining charts themselves
+  abbrev pub refined_size : Table → List Refinement → ℕ
+  refined_size table [] = 0
+  refined_size table (r ∷ rs) = body_size (body_at table r.chart) + refined_size table rs
+
+  -- of a chart with those that refine its instances
+  abbrev pub woven_size : Table → List Refinement → Woven → ℕ
+  woven_size table [] (Basic held) = 2 + level_size held
+  woven_size table (r ∷ rs) (Basic held) = 2 + level_size held + refined_size table (r ∷ rs)
+  woven_size table rs (HighLevel drawn) = 0
+
+  abbrev pub entry_size : Table → Option ChartEntry → ℕ
+  entry_size table None = 0
+  entry_size table (Some entry) = woven_size table (refinements entry.decls) entry.content
 
 -- product: by the depth of references
 abbrev pub size_to : (ℕ → WovenItems → ReferencePart → ℕ) → Table → ℕ → List ℕ → ℕ
 size_to product table zero name = 0
-size_to product table (suc k) name = entry_size (size_to product table k) (product k) (chart_at table name)
+size_to product table (suc k) name = entry_size (size_to product table k) (product k) table (chart_at table name)
 
 -- joins between two gates add the pairs of their inner events, counted in the table
 abbrev pub counted_size : Table → List ℕ → ℕ

@@ -1,16 +1,16 @@
 //! The earliest form that isn't built yet, at any depth.
 
 ghost use Rattle.std.specs.Prelude.{◌≡◌, ◌++◌, IfOk, OnOk};
-ghost use Rattle.chart_forms.specs.NotBuilt.{IsNotBuilt, not_built as what_not, not_built_chart, not_built_decl, not_built_event, not_built_events, not_built_graph, not_built_heading, not_built_item};
+ghost use Rattle.chart_forms.specs.NotBuilt.{IsNotBuilt, not_built as what_not, not_built_chart, not_built_event, not_built_events, not_built_graph, not_built_item};
 ghost use Rattle.chart_text.specs.PassageViews.{text_view};
 ghost use Rattle.chart_text.specs.Texts.{chart_text as text_of};
 ghost use Rattle.msc_base.specs.Places.{IsLeast};
-ghost use Rattle.msc_tree.specs.Views.{chart_view, content_view, form_view, statement_view};
+ghost use Rattle.msc_tree.specs.Views.{chart_view, content_view, form_view};
 
 use crate::creating::creates_instance;
 use chart_text::{Passage, TextRule, earliest_place, note_if, note_text};
 use msc_base::{Items, NoMemory, Place};
-use msc_tree::{Content, Decl, RawChart, RawEvent, RawForm, Statement};
+use msc_tree::{Content, RawChart, RawEvent, RawForm};
 use std::alloc::Global;
 
 /// Notes an event, where it isn't built.
@@ -34,16 +34,6 @@ fn events(places: &mut Items<Place>, list: &[RawEvent]) -> Result<(), NoMemory>
     Ok(())
 }
 
-/// Notes a declaration, where its instance is decomposed.
-fn decl(places: &mut Items<Place>, decl: &Decl) -> Result<(), NoMemory>
-    ensures { OnOk result (places.new ≡ places.old ++ not_built_decl decl.now) }
-{
-    match &decl.refined {
-        Some(_) => places.push(decl.place),
-        None => Ok(()),
-    }
-}
-
 /// Notes what of an item by itself isn't built.
 fn item(places: &mut Items<Place>, place: Place, form: &RawForm) -> Result<(), NoMemory>
     ensures { OnOk result (places.new ≡ places.old ++ not_built_item place (form_view form.now)) }
@@ -58,19 +48,6 @@ fn item(places: &mut Items<Place>, place: Place, form: &RawForm) -> Result<(), N
     }
 }
 
-/// Notes what a statement declares, where it isn't built.
-fn heading(places: &mut Items<Place>, statement: &Statement) -> Result<(), NoMemory>
-    ensures { OnOk result (places.new ≡ places.old ++ not_built_heading (statement_view statement.now)) }
-{
-    match statement {
-        Statement::Column(held, _) => decl(places, held.decl()),
-        Statement::Heading(held) => decl(places, held.decl()),
-        Statement::One(_, _) => Ok(()),
-        Statement::Covered(_, _) => Ok(()),
-        Statement::Ended(_) => Ok(()),
-    }
-}
-
 /// The rule that forms are built.
 struct BuiltForms;
 
@@ -79,9 +56,9 @@ impl TextRule for BuiltForms {
 
     fn note(places: &mut Items<Place>, passage: Passage<'_>) -> Result<(), NoMemory> {
         match passage {
-            Passage::Head(held) => decl(places, held),
-            Passage::Statement(_, _, held) => heading(places, held),
             Passage::Item(_, held) => item(places, held.place.get(), &held.form),
+            Passage::Head(_) => Ok(()),
+            Passage::Statement(_, _, _) => Ok(()),
             Passage::Operand(_, _) => Ok(()),
         }
     }

@@ -1,14 +1,14 @@
 -- The levels of the charts of an accepted table have no more pairs than events and what these are ordered with.
-use Rattle.std.specs.Prelude.{ℕ, zero, suc, List, [], ◌∷◌, ◌++◌, Option, None, Some, length}
-use Rattle.std.proofs.Common.{◌≡◌, refl, sym, subst, inl, inr, arith}
+use Rattle.std.specs.Prelude.{ℕ, zero, suc, List, [], ◌∷◌, ◌++◌, Option, None, Some}
+use Rattle.std.proofs.Common.{sym, subst, inl, inr}
 use Rattle.chart_forms.specs.BodyEvents.{events_within, item_within, items_within, operands_within}
 use Rattle.chart_forms.specs.BuiltBodies.{AreBuiltBodies, AreBuiltItems, IsBuiltBody, IsBuiltItem}
 use Rattle.expanded_terms.specs.FewPairs.{HasFewOwn, node_numbers}
-use Rattle.expanded_terms.specs.JoinProducts.{AreFewExpressions, AreFewItems, AreFewOperands, IsFewEntry, IsFewExpression, IsFewItem, IsFewLevel, IsFewTo, IsFewWoven}
+use Rattle.expanded_terms.specs.JoinProducts.{AreFewExpressions, AreFewItems, AreFewOperands, AreFewRefined, IsFewBody, IsFewEntry, IsFewExpression, IsFewItem, IsFewLevel, IsFewTo, IsFewWoven}
 use Rattle.gate_ends.specs.FoundEnds.{AreAll, item_names, items_names, level_names, operands_names}
 use Rattle.general_ordering.specs.EventNames.{LevelsBreakNameRule, Twice, breaks, places_where}
 use Rattle.general_ordering.proofs.NamesOnce.{names_once}
-use Rattle.msc_acceptance.specs.AcceptedCharts.{EachChart, IsAcceptedChart, IsThereTo, content_levels, content_names}
+use Rattle.msc_acceptance.specs.AcceptedCharts.{EachChart, IsAcceptedChart, IsThereTo, content_levels}
 use Rattle.msc_acceptance.specs.Listing.{cover_of}
 use Rattle.msc_base.specs.Lists.{IsAmong}
 use Rattle.msc_base.specs.Orders.{Among, first, later, Once}
@@ -19,14 +19,13 @@ use Rattle.msc_meaning.specs.InnerEvents.{charts_in, charts_in_all}
 use Rattle.msc_meaning.specs.Levels.{IsWovenLevel, woven, AreWovenItems, no_woven, woven_and, IsWovenItem, an_event, a_coregion, an_inline, a_reference, AreWovenOperands, no_woven_operand, woven_operand_and}
 use Rattle.msc_meaning.specs.Pairing.{ArePairs}
 use Rattle.msc_meaning.specs.Pieces.{Piece}
-use Rattle.msc_meaning.specs.Tables.{ChartEntry, Table, Woven, Basic, Refinement, refinements}
+use Rattle.msc_meaning.specs.Tables.{ChartEntry, Table, Basic, Refinement, refinements}
 use Rattle.msc_meaning.proofs.LevelLaws.{each_both, each_left, each_right}
 use Rattle.msc_tree.specs.Expressions.{Expression, Empty, Chart, Alt, Par, Seq, Opt, Loop, Expressions, none, more}
 use Rattle.msc_tree.specs.declared.reference.InlineForm.{InlineForm}
 use Rattle.gate_rules.specs.GateLaws.{HasGates}
-use Rattle.chart_judge.proofs.WholeTables.{IsGatedLevel, all_left, all_right}
+use Rattle.chart_judge.proofs.NamedBodies.{HasBody, IsGatedLevel, all_left, all_right, has_body, refining_names, there_body}
 use Rattle.chart_judge.proofs.LevelPairs.{level_is_few}
-use Rattle.chart_judge.proofs.TableEntries.{entry_has}
 
 -- ---- numbers that differ
 
@@ -157,7 +156,7 @@ both_levels : (table : Table) (ls : List BodyLevel) → EachLevel IsNumberedLeve
 both_levels table [] h g = tt
 both_levels table (l ∷ ls) h g = ((h.0, g.0), both_levels table ls h.1 g.1)
 
-module _ (table : Table) (Is Few : List ℕ → Type 0) (known : (name : List ℕ) → Is name → Few name) where
+module _ (table : Table) (Is Few : List ℕ → Type 0) (known : (name : List ℕ) → Is name → Few name) (bodies : (name : List ℕ) → Is name → HasBody table Is name) where
   mutual
     expression_few : (e : Expression) → AreAll Is (charts_in e) → IsFewExpression Few e
     expression_few Empty h = tt
@@ -197,14 +196,25 @@ module _ (table : Table) (Is Few : List ℕ → Type 0) (known : (name : List �
         operands_few f bs p.1 (each_right (IsFewLevelOf table) (levels_from (Some f) b) (operands_levels f bs) o) (all_right Is (level_names b) (operands_names bs) h),
       )
 
-  woven_few : (rs : List Refinement) (w : Woven) (b : Body) → rs ≡ [] → w ≡ Basic b → IsFewLevel Few b → IsFewWoven Few rs w
-  woven_few rs w b whole is h = subst (λ (rs : List Refinement). IsFewWoven Few rs w) (sym whole) (subst (λ (w : Woven). IsFewWoven Few [] w) (sym is) h)
+  body_few : (name : List ℕ) (b : HasBody table Is name) → IsFewLevel Few b.accepted.body
+  body_few name b =
+      let a = b.accepted in
+      let numbered = numbered_levels (body_levels a.body) (own_body None a.body a.woven) (once_body None a.body a.once) a.named_once in
+      level_few (cover_of a.body) None a.body a.built (both_levels table (body_levels a.body) numbered b.gated) b.named
 
-  pub chart_few : (c : ChartEntry) → IsAcceptedChart c → EachLevel (IsGatedLevel table) (content_levels c.content) → AreAll Is (content_names c.content) → IsFewWoven Few (refinements c.decls) c.content
-  chart_few c a g h = woven_few (refinements c.decls) c.content a.body a.whole a.is
-      (level_few (cover_of a.body) None a.body a.built (both_levels table (body_levels a.body) (numbered_levels (body_levels a.body) (own_body None a.body a.woven) (once_body None a.body a.once) a.named_once) (subst (λ (w : Woven). EachLevel (IsGatedLevel table) (content_levels w)) a.is g)) (subst (λ (w : Woven). AreAll Is (content_names w)) a.is h))
+  refined_few : (rs : List Refinement) → AreAll Is (refining_names rs) → AreFewRefined Few table rs
+  refined_few [] h = tt
+  refined_few (r ∷ rs) h = let b = bodies r.chart h.0 in (subst (IsFewBody Few) (sym b.at) (body_few r.chart b), refined_few rs h.1)
+
+  woven_few : (rs : List Refinement) (b : Body) → IsFewLevel Few b → AreFewRefined Few table rs → IsFewWoven Few table rs (Basic b)
+  woven_few [] b h g = h
+  woven_few (r ∷ rs) b h g = (h, g)
+
+  chart_few : (name : List ℕ) (b : HasBody table Is name) → IsFewWoven Few table (refinements b.chart.decls) b.chart.content
+  chart_few name b = subst (IsFewWoven Few table (refinements b.chart.decls)) (sym b.accepted.is) (woven_few (refinements b.chart.decls) b.accepted.body (body_few name b) (refined_few (refinements b.chart.decls) b.refining))
 
 pub few_to : (table : Table) → EachChart IsAcceptedChart table → EachChart (λ c. EachLevel (IsGatedLevel table) (content_levels c.content)) table → (depth : ℕ) (name : List ℕ) → IsThereTo table depth name → IsFewTo table depth name
 few_to table charts gates zero name h = absurd h
-few_to table charts gates (suc depth) name h = subst (λ (o : Option ChartEntry). IsFewEntry (IsFewTo table depth) o) (sym h.is)
-    (chart_few table (IsThereTo table depth) (IsFewTo table depth) (few_to table charts gates depth) h.chart (entry_has IsAcceptedChart table name h.chart charts h.is) (entry_has (λ c. EachLevel (IsGatedLevel table) (content_levels c.content)) table name h.chart gates h.is) h.named)
+few_to table charts gates (suc depth) name h =
+    let b = has_body table charts gates (IsThereTo table depth) name h in
+    subst (λ (o : Option ChartEntry). IsFewEntry (IsFewTo table depth) table o) (sym b.is) (chart_few table (IsThereTo table depth) (IsFewTo table depth) (few_to table charts gates depth) (there_body table charts gates depth) name b)

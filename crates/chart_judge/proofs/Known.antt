@@ -4,7 +4,6 @@ use Rattle.msc_base.specs.declared.limits.TheConstants.Limits.{EXPANDED_NESTING,
 use Rattle.chart_cycles.specs.Cycles.{AreOrdered, IsOrdered}
 use Rattle.chart_forms.specs.TableSizes.{counted_size}
 use Rattle.chart_term.specs.Terms.{Tree, weight}
-use Rattle.expanded_charts.specs.BasicCharts.{IsBasicTable}
 use Rattle.expansion_terms.specs.ExpansionTerms.{numbered_term}
 use Rattle.msc_acceptance.specs.AcceptedCharts.{EachChart, IsAcceptedTable, IsThereTo}
 use Rattle.msc_meaning.specs.Meanings.{Finished, Begun}
@@ -21,7 +20,7 @@ use Rattle.trace_judge.specs.Laws.{VerdictsTellRuns}
 use Rattle.trace_judge.specs.Sets.{IsSoundFor}
 use Rattle.verdict_meaning.proofs.Labelled.{begun_there}
 use Rattle.chart_judge.specs.ChartsTold.{ChartsHaveRuns, ChartsHaveTerms, VerdictsAreTold}
-use Rattle.chart_judge.proofs.WholeTables.{all_basic, all_quiet, whole_to}
+use Rattle.chart_judge.proofs.WholeTables.{all_quiet, whole_to}
 use Rattle.chart_judge.proofs.FewTables.{few_to}
 use Rattle.chart_judge.proofs.TableEntries.{name_has}
 use Rattle.chart_judge.proofs.TableRoom.{are_placed, has_room}
@@ -38,9 +37,6 @@ below : (a b c : ℕ) → a ≤ b → b ≤ c → a ≤ c
 below a b c h g = omega (arith, h, g)
 
 module _ (table : Table) (name : List ℕ) (chart : ChartEntry) (is : chart_at table name ≡ Some chart) (accepted : IsAcceptedTable table) where
-  basic : IsBasicTable table
-  basic = all_basic table accepted.charts
-
   quiet : IsQuietTable table
   quiet = all_quiet table accepted.charts accepted.gates accepted.there
 
@@ -58,12 +54,12 @@ module _ (table : Table) (name : List ℕ) (chart : ChartEntry) (is : chart_at t
 
   module _ (v : NetsValue) (x : Tree) (made : IsTermOf table name v x) where
     chart_means : EndsAreFound → TableTermsMean → Means v (chart_numbering table name).names x (Finished table name) (Begun table name)
-    chart_means law laws = laws.means table name v x basic (whole law) made
+    chart_means law laws = laws.means table name v x (whole law) made
 
     chart_sound : EndsAreFound → TableTermsAreSound → TableTermsArePlaced → IsSoundFor v x
     chart_sound law sound placed = record {
-      full = sound.sound table name v x basic quiet made ordered;
-      placed = placed.placed table name v x basic (whole law) made (are_placed table accepted name);
+      full = sound.sound table name v x quiet made ordered;
+      placed = placed.placed table name v x (whole law) made (are_placed table accepted name);
     }
 
     chart_weighs : TableTermsAreLight → weight x ≤ counted_size table name

@@ -15,7 +15,7 @@ use Rattle.msc_meaning.specs.FarEnds.{gate_tags}
 use Rattle.msc_tree.specs.declared.event.Target.{Target}
 use Rattle.msc_tree.specs.declared.event.Target.TheVariants.{Nobody, Env, Instance, Gate}
 
-place_among : (ns : List EventNode) (i : ℕ) (n : EventNode) → slice_get ns i ≡ Some n → Among n ns
+pub place_among : (ns : List EventNode) (i : ℕ) (n : EventNode) → slice_get ns i ≡ Some n → Among n ns
 place_among [] i n h = cc
 place_among (m ∷ ns) zero n h = let e : m ≡ n = cc in subst (λ k. Among n (k ∷ ns)) (sym e) first
 place_among (m ∷ ns) (suc i) n h = later (place_among ns i n h)
@@ -51,7 +51,7 @@ few_rising (p ∷ ps) n ys (l, h) f =
     let few = few_rising ps (suc p.first) w.rest h (λ q i. w.keeps q.first (f q (later i)) (λ e. let above = rises_above (suc p.first) ps q h i in let clash : ⊥ = omega (arith, above, e) in clash)) in
     omega (arith, few, w.less)
 
-has_pair : (ps : List Pair) (p : Pair) → Among p ps → HasPair ps p.first p.second
+pub has_pair : (ps : List Pair) (p : Pair) → Among p ps → HasPair ps p.first p.second
 has_pair (p ∷ ps) _ first = inl (refl, refl)
 has_pair (q ∷ ps) p (later h) = inr (has_pair ps p h)
 has_pair [] p h = elim h [ ]

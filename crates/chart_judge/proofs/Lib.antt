@@ -1,4 +1,6 @@
 pub mod TableEntries
+mod NamedBodies
+mod FreeEnds
 pub mod WholeTables
 mod LevelPairs
 mod FewTables

@@ -1,19 +1,18 @@
 -- The charts of an accepted table are whole: the called gates of their levels have one end, and they have as many operands as their forms
 -- take, parts of alternatives, and named charts that are there.
-use Rattle.std.specs.Prelude.{ℕ, zero, suc, true, List, [], ◌∷◌, ◌++◌, Option, None, Some}
+use Rattle.std.specs.Prelude.{ℕ, zero, suc, Bool, true, false, List, [], ◌∷◌, ◌++◌, Option, None, Some, if◌then◌else◌}
 use Rattle.std.proofs.Common.{◌≡◌, sym, subst}
 use Rattle.chart_forms.specs.BuiltBodies.{AreBuiltBodies, AreBuiltItems, IsBuiltBody, IsBuiltItem}
 use Rattle.chart_text.specs.WellFormed.{are_several, has_parts, have_parts}
 use Rattle.expanded_charts.specs.BasicCharts.{IsBasicTable, IsBasicWoven}
 use Rattle.expanded_terms.specs.FitBodies.{AreEndsOf, HasParts}
 use Rattle.expanded_terms.specs.GateTies.{IsQuietLevel, IsQuietTable, IsQuietWoven}
-use Rattle.expanded_terms.specs.WholeCharts.{AreWholeExpressions, AreWholeItems, AreWholeOperands, IsWholeExpression, IsWholeItem, IsWholeLevel, IsWholeTo, IsWholeWoven}
+use Rattle.expanded_terms.specs.WholeCharts.{AreWholeExpressions, AreWholeItems, AreWholeOperands, AreWholeRefinings, IsWholeExpression, IsWholeItem, IsWholeLevel, IsWholeTo, IsWholeWoven}
 use Rattle.gate_ends.specs.EndLaws.{EndsAreFound}
 use Rattle.gate_ends.specs.FoundEnds.{AreAll, GoesTo, item_names, items_names, level_names, operands_names, table_ends}
-use Rattle.gate_ends.specs.LevelGates.{items_in}
 use Rattle.gate_rules.specs.GateLaws.{HasGates}
 use Rattle.msc_acceptance.proofs.HeldGates.{there_goes}
-use Rattle.msc_acceptance.specs.AcceptedCharts.{EachChart, IsAcceptedChart, IsThereTo, content_levels, content_names}
+use Rattle.msc_acceptance.specs.AcceptedCharts.{EachChart, IsAcceptedChart, IsThereTo, content_levels}
 use Rattle.msc_acceptance.specs.Listing.{cover_of}
 use Rattle.msc_meaning.specs.Bodies.{Body, level, WovenItems, no_items, item_and, WovenItem, Single, Coregion, Inline, Refer, Bodies, no_bodies, body_and}
 use Rattle.msc_base.specs.Orders.{Among, first, later}
@@ -22,28 +21,16 @@ use Rattle.msc_meaning.proofs.LevelLaws.{each_left, each_right}
 use Rattle.msc_meaning.specs.BodyLevels.{BodyLevel, EachLevel, body_levels, item_levels, items_levels, levels_from, operands_levels}
 use Rattle.msc_meaning.specs.InnerEvents.{charts_in, charts_in_all}
 use Rattle.msc_tree.specs.declared.reference.InlineForm.{InlineForm}
-use Rattle.msc_meaning.specs.Tables.{ChartEntry, Table, Woven, Basic, Refinement, refinements}
+use Rattle.msc_meaning.specs.Refinements.{Refining, refining_by, refinings, is_decomposed, without_decomposed}
+use Rattle.msc_meaning.specs.Tables.{ChartEntry, Table, body_at, Woven, Basic, Refinement, refinements}
 use Rattle.msc_tree.specs.Expressions.{Expression, Empty, Chart, Alt, Par, Seq, Opt, Loop, Expressions, none, more}
 use Rattle.std.proofs.lemmas.Bool.{and_parts}
-use Rattle.chart_judge.proofs.TableEntries.{entry_has, name_has}
-
--- ---- names of two lists
-
-module _ (P : List ℕ → Type 0) where
-  pub all_left : (xs ys : List (List ℕ)) → AreAll P (xs ++ ys) → AreAll P xs
-  all_left [] ys h = tt
-  all_left (x ∷ xs) ys h = (h.0, all_left xs ys h.1)
-
-  pub all_right : (xs ys : List (List ℕ)) → AreAll P (xs ++ ys) → AreAll P ys
-  all_right [] ys h = h
-  all_right (x ∷ xs) ys h = all_right xs ys h.1
+use Rattle.chart_judge.proofs.NamedBodies.{HasBody, IsGatedLevel, all_left, all_right, all_turned, has_body, refining_names, there_body}
+use Rattle.chart_judge.proofs.TableEntries.{name_has}
 
 -- ---- gates
 
 module _ (table : Table) where
-  abbrev pub IsGatedLevel : BodyLevel → Type 0
-  IsGatedLevel l = HasGates table (items_in l.body)
-
   gated_ends : EndsAreFound → (held : WovenItems) → AreAll (GoesTo table EXPANDED_NESTING) (items_names held) → HasGates table held → AreEndsOf table (table_ends table) held
   gated_ends law held deep h = record { there = law.ends table EXPANDED_NESTING held deep h.there; one = h.one }
 
@@ -53,10 +40,10 @@ some_parts : (xs : Expressions) → are_several xs ≡ true → HasParts xs
 some_parts none e = absurd cc
 some_parts (more x xs) e = tt
 
-module _ (P Q : List ℕ → Type 0) (f : (name : List ℕ) → P name → Q name) where
-  all_turned : (names : List (List ℕ)) → AreAll P names → AreAll Q names
-  all_turned [] h = tt
-  all_turned (n ∷ names) h = (f n h.0, all_turned names h.1)
+-- the body of a chart, where it is there
+abbrev IsWholeBody : Table → (List ℕ → Type 0) → Option Body → Type 0
+IsWholeBody table Whole None = Unit {0}
+IsWholeBody table Whole (Some b) = IsWholeLevel table (table_ends table) Whole b
 
 module _ (law : EndsAreFound) (table : Table) (Is : List ℕ → Type 0) (Whole : List ℕ → Type 0) (known : (name : List ℕ) → Is name → Whole name) (deep : (name : List ℕ) → Is name → GoesTo table EXPANDED_NESTING name) where
   mutual
@@ -100,11 +87,39 @@ module _ (law : EndsAreFound) (table : Table) (Is : List ℕ → Type 0) (Whole 
         operands_whole f bs p.1 (each_right (IsGatedLevel table) (levels_from (Some f) b) (operands_levels f bs) g) (all_right Is (level_names b) (operands_names bs) h),
       )
 
-  woven_whole : (rs : List Refinement) (w : Woven) (b : Body) → rs ≡ [] → w ≡ Basic b → IsBuiltBody (cover_of b) b → EachLevel (IsGatedLevel table) (content_levels w) → AreAll Is (content_names w) → IsWholeWoven table (table_ends table) Whole rs w
-  woven_whole rs w b whole is built g h =
-      subst (λ (rs : List Refinement). IsWholeWoven table (table_ends table) Whole rs w) (sym whole)
-      (subst (λ (w : Woven). IsWholeWoven table (table_ends table) Whole [] w) (sym is)
-      (level_whole (cover_of b) None b built (subst (λ (w : Woven). EachLevel (IsGatedLevel table) (content_levels w)) is g) (subst (λ (w : Woven). AreAll Is (content_names w)) is h)))
+  body_whole : (name : List ℕ) (b : HasBody table Is name) → IsWholeLevel table (table_ends table) Whole b.accepted.body
+  body_whole name b = level_whole (cover_of b.accepted.body) None b.accepted.body b.accepted.built b.gated b.named
+
+  -- what is left of whole items without those of decomposed instances
+  left_whole : (rs : List Refinement) (xs : WovenItems) → AreWholeItems table (table_ends table) Whole xs → AreWholeItems table (table_ends table) Whole (without_decomposed rs xs)
+  left_whole rs no_items h = tt
+  left_whole rs (item_and (Single n) xs) h = by (is_decomposed rs n) (left_whole rs xs h.1)
+    where
+      by : (t : Bool) → AreWholeItems table (table_ends table) Whole (without_decomposed rs xs) → AreWholeItems table (table_ends table) Whole (if t then without_decomposed rs xs else item_and (Single n) (without_decomposed rs xs))
+      by true g = g
+      by false g = (tt, g)
+  left_whole rs (item_and (Coregion ns) xs) h = (tt, left_whole rs xs h.1)
+  left_whole rs (item_and (Inline form part operands) xs) h = (h.0, left_whole rs xs h.1)
+  left_whole rs (item_and (Refer part) xs) h = (h.0, left_whole rs xs h.1)
+
+  refining_whole : (i : List ℕ) (held : WovenItems) (o : Option Body) (others : List Refining) → IsWholeBody table Whole o → AreWholeRefinings table (table_ends table) Whole others
+      → AreWholeRefinings table (table_ends table) Whole (refining_by i held o ++ others)
+  refining_whole i held None others h g = g
+  refining_whole i held (Some (level cover inner pairs)) others h g = (h, g)
+
+  module _ (bodies : (name : List ℕ) → Is name → HasBody table Is name) where
+    refinings_whole : (held : WovenItems) (rs : List Refinement) → AreAll Is (refining_names rs) → AreWholeRefinings table (table_ends table) Whole (refinings table held rs)
+    refinings_whole held [] h = tt
+    refinings_whole held (r ∷ rs) h =
+        let b = bodies r.chart h.0 in
+        refining_whole r.instance held (body_at table r.chart) (refinings table held rs) (subst (IsWholeBody table Whole) (sym b.at) (body_whole r.chart b)) (refinings_whole held rs h.1)
+
+    woven_whole : (rs : List Refinement) (b : Body) → IsWholeLevel table (table_ends table) Whole b → AreAll Is (refining_names rs) → IsWholeWoven table (table_ends table) Whole rs (Basic b)
+    woven_whole [] b h g = h
+    woven_whole (r ∷ rs) (level cover held pairs) h g = (h.0, left_whole (r ∷ rs) held h.1, refinings_whole held (r ∷ rs) g)
+
+    chart_whole : (name : List ℕ) (b : HasBody table Is name) → IsWholeWoven table (table_ends table) Whole (refinements b.chart.decls) b.chart.content
+    chart_whole name b = subst (IsWholeWoven table (table_ends table) Whole (refinements b.chart.decls)) (sym b.accepted.is) (woven_whole (refinements b.chart.decls) b.accepted.body (body_whole name b) b.refining)
 
 -- each chart that is there goes no deeper than the limit
 pub goes_deep : (table : Table) → EachChart (λ c. IsThereTo table EXPANDED_NESTING c.name) table → (depth : ℕ) (name : List ℕ) → IsThereTo table depth name → GoesTo table EXPANDED_NESTING name
@@ -115,12 +130,11 @@ pub whole_to : EndsAreFound → (table : Table) → EachChart IsAcceptedChart ta
     → (depth : ℕ) (name : List ℕ) → IsThereTo table depth name → IsWholeTo table (table_ends table) depth name
 whole_to law table charts gates there zero name h = absurd h
 whole_to law table charts gates there (suc depth) name h =
-    let a = entry_has IsAcceptedChart table name h.chart charts h.is in
+    let b = has_body table charts gates (IsThereTo table depth) name h in
     record {
-      entry = h.chart;
-      is = h.is;
-      whole = woven_whole law table (IsThereTo table depth) (IsWholeTo table (table_ends table) depth) (whole_to law table charts gates there depth) (goes_deep table there depth) (refinements h.chart.decls) h.chart.content a.body a.whole a.is a.built
-          (entry_has (λ c. EachLevel (IsGatedLevel table) (content_levels c.content)) table name h.chart gates h.is) h.named;
+      entry = b.chart;
+      is = b.is;
+      whole = chart_whole law table (IsThereTo table depth) (IsWholeTo table (table_ends table) depth) (whole_to law table charts gates there depth) (goes_deep table there depth) (there_body table charts gates depth) name b;
     }
 
 -- no inner event of a called gate stands in a loop
@@ -144,7 +158,7 @@ all_quiet table charts gates there c i =
       quiet = quiet_woven table c.content a.body a.is (of_each (λ c. EachLevel (IsGatedLevel table) (content_levels c.content)) table gates c i);
     }
 
--- none is a high-level chart, and none of their instances is decomposed
+-- none is a high-level chart
 pub all_basic : (table : Table) → EachChart IsAcceptedChart table → IsBasicTable table
 all_basic [] h = tt
-all_basic (c ∷ table) h = ((h.0.whole, subst IsBasicWoven (sym h.0.is) tt), all_basic table h.1)
+all_basic (c ∷ table) h = (subst IsBasicWoven (sym h.0.is) tt, all_basic table h.1)

@@ -5,3 +5,4 @@ pub mod FaultFacts
 pub mod RankFacts
 pub mod WorkedFacts
 pub mod SummaryFacts
+pub mod SetFacts

@@ -243,6 +243,7 @@ module _ (charts : List Summary) where
       known_are = known_are;
       leads = leads_is;
       expands = λ a i u n from to. (expands_to a i u n from to, expands_from a i u n from to);
+      numbered = λ u n h. let g = (gathered.has u n).0 h in let o = own_at names known charts g.middle n ((own_are g.middle n).0 g.has) in (o.instance, o.to);
       through = λ u v w a b. (closure.has u w).1 (joined ((closure.has u v).0 a) ((closure.has v w).0 b));
       reach_len = len;
       expanded_len = gathered.len ∙ len;

@@ -6,5 +6,6 @@ pub mod References
 pub mod Worked
 pub mod Rows
 pub mod Tables
+pub mod Sets
 pub mod Ranks
 pub mod FaultPlaces

@@ -32,6 +32,12 @@ pub data IsExpanded (charts : List Summary) : List ℕ → List ℕ → Type 0 w
   own : {name instance : List ℕ} (chart : Summary) → IsAmong charts chart → chart.name ≡ name → IsOwn chart instance → IsExpanded charts name instance
   of_named : {name next instance : List ℕ} → Names charts name next → IsExpanded charts next instance → IsExpanded charts name instance
 
+-- both charts have an expanded instance
+pub record HaveCommon (charts : List Summary) (a b : List ℕ) : Type 0 where
+  pub instance : List ℕ
+  pub first : IsExpanded charts a instance
+  pub second : IsExpanded charts b instance
+
 -- the instance is covered
 abbrev pub Covers : Scope → List ℕ → Type 0
 Covers Whole instance = Unit {0}

@@ -60,6 +60,7 @@ pub record AreTables (charts : List Summary) (names known : List (List ℕ)) (re
   pub known_are : HasInstances charts known
   pub leads : (a b : List ℕ) (u v : ℕ) → IsNumber names a u → IsNumber names b v → RowHas reach u v ↔ Leads charts a b
   pub expands : (a i : List ℕ) (u n : ℕ) → IsNumber names a u → IsNumber known i n → RowHas expanded u n ↔ IsExpanded charts a i
+  pub numbered : (u n : ℕ) → RowHas expanded u n → (i : List ℕ) × IsNumber known i n
   pub through : (u v w : ℕ) → RowHas reach u v → RowHas reach v w → RowHas reach u w
   pub reach_len : length reach ≡ length names
   pub expanded_len : length expanded ≡ length names

@@ -7,13 +7,16 @@ mod link;
 mod linking;
 mod ranks;
 mod rows;
+mod sets;
 mod summary;
 mod tables;
 pub mod worked;
 
+pub use bit_row::BitRow;
 pub use faults::{ReferencePlaces, reference_places};
 pub use link::{Link, LinkList};
 pub use linking::chart_links;
 pub use ranks::chart_ranks;
+pub use rows::empty_rows;
 pub use summary::{ChartSummary, chart_summaries, chart_summary};
 pub use tables::{LinkTables, link_tables};

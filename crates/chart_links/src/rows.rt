@@ -29,7 +29,7 @@ pub(crate) fn identity_rows(alloc: Global, count: usize) -> Result<Vec<BitRow>, 
 }
 
 /// So many rows without numbers.
-pub(crate) fn empty_rows(alloc: Global, count: usize) -> Result<Vec<BitRow>, NoMemory>
+pub fn empty_rows(alloc: Global, count: usize) -> Result<Vec<BitRow>, NoMemory>
     ensures { IfOk result (λ rows. AreEmpty count rows.items) }
 {
     let mut rows = Vec::new(alloc);

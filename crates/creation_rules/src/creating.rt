@@ -182,8 +182,12 @@ fn passages(
     Ok(())
 }
 
-/// The instances of a chart, whose text that is, that are decomposed.
-fn decomposed(alloc: Global, chart: &RawChart, text: &[Passage<'_>]) -> Result<NameTable, NoMemory>
+/// The instances of a chart, whose text that is, that are decomposed. It fails only for want of memory.
+pub fn decomposed(
+    alloc: Global,
+    chart: &RawChart,
+    text: &[Passage<'_>],
+) -> Result<NameTable, NoMemory>
     requires { text_view text.now ≡ text_of (chart_view chart.now) }
     ensures { IfOk result (λ table. table ≡ decomposed (chart_view chart.now)) }
 {

@@ -6,6 +6,6 @@ mod placing;
 mod stopping;
 pub mod worked;
 
-pub use creating::created_twice;
+pub use creating::{created_twice, decomposed};
 pub use placing::misplaced_creation;
 pub use stopping::behind_stop;

@@ -1,47 +1,56 @@
 -- Basic charts and expressions as parts.
-use Rattle.std.proofs.Common.{◌≡◌, ◌∙◌, ◌-◌, ℕ, zero, suc, Bool, true, false, List, [], ◌∷◌, ◌++◌, Option, Some, None, refl, sym, subst, ap, map, arith, if◌then◌else◌}
+use Rattle.std.proofs.Common.{◌≡◌, ◌∙◌, ◌-◌, ◌+◌, ◌<◌, ℕ, zero, suc, Bool, true, false, List, [], ◌∷◌, ◌++◌, Option, Some, None, refl, sym, subst, ap, map, arith, if◌then◌else◌, get_or, length, take}
+use Rattle.std.proofs.lemmas.List.{map-append, take_more}
 use Rattle.std.specs.Global.{Global}
 use Rattle.std.specs.Str.{bytes_eq}
 use Rattle.std.specs.declared.vec.Vec.{Vec}
+use Rattle.msc_base.specs.declared.label.Far.{Far}
 use Rattle.msc_base.specs.declared.label.Label.{Label}
 use Rattle.msc_base.specs.declared.label.Pair.{Pair}
-use Rattle.msc_unfolding.specs.Unfoldings.{past_level}
+use Rattle.msc_unfolding.specs.Unfoldings.{Tag, past_level}
 use Rattle.msc_tree.specs.Expressions.{Expression, expressions}
 use Rattle.msc_tree.specs.Expressions as expression
 use Rattle.msc_tree.specs.Views.{expression_step, expression_view}
 use Rattle.msc_tree.specs.declared.expression.RefExpr.{RefExpr, fold-roll-RefExpr}
 use Rattle.msc_tree.specs.declared.expression.RefExpr.TheOpen.{RefExpr-F}
 use Rattle.msc_tree.specs.declared.expression.RefExpr.TheVariants as raw
-use Rattle.msc_meaning.specs.Bodies.{Body, level, WovenItems}
+use Rattle.msc_meaning.specs.Bodies.{EventNode, Body, level, WovenItems}
 use Rattle.msc_meaning.specs.Calls.{calls}
-use Rattle.msc_meaning.specs.ChartUnfoldings.{gates_of}
-use Rattle.msc_meaning.specs.FarEnds.{GateMap, no_gates}
+use Rattle.msc_meaning.specs.ChartUnfoldings.{gates_of, refined_under, under}
+use Rattle.msc_meaning.specs.FarEnds.{Around, GateMap, Gates, far_end, no_gates}
 use Rattle.msc_meaning.specs.InnerEvents.{GateEnd}
+use Rattle.msc_meaning.specs.Refinements.{Refining, refining, refinings}
 use Rattle.msc_meaning.specs.Tables.{Table, ChartEntry, chart_at, Woven, Basic, Refinement, refinements}
 use Rattle.msc_meaning.specs.Ties.{event_ties, items_joins_ties, level_pairs, own_ties}
 use Rattle.gate_ends.specs.FoundEnds.{table_ends}
 use Rattle.expansion_tree.specs.Expansions.{events_in}
 use Rattle.expansion_tree.specs.Views.{expansion_view}
 use Rattle.expanded_charts.specs.BasicCharts.{IsBasicTable, IsBasicWoven}
-use Rattle.expanded_charts.specs.Expanding.{expand_woven, expansion, in_row, nothing, past, tied}
+use Rattle.expanded_charts.specs.Expanding.{Expanded, ExpandedParts, aside, expand_woven, expansion, in_row, nothing, past, put, tied}
 use Rattle.expanded_charts.specs.GateWays.{way_step, ways_step, ways_view}
-use Rattle.expanded_charts.specs.Making.{IsMade, chart_part, charts, ends_in, items_parts, level_part}
+use Rattle.expanded_charts.specs.Making.{AreMade, IsAdded, IsMade, add, chart_part, charts, ends_in, items_parts, level_part}
+use Rattle.expanded_charts.specs.RefinedMaking.{beside_parts, left_parts, refined_part, refining_part, refinings_parts, tied_part, woven_part}
+use Rattle.expanded_charts.specs.RefiningViews.{refining_view, refinings_view}
 use Rattle.expanded_charts.specs.Numbering.{numbered_by, numbering_of, with_events}
 use Rattle.expanded_charts.specs.declared.made.Made.{Made}
+use Rattle.expanded_charts.specs.declared.made.MadeParts.{MadeParts}
 use Rattle.expanded_charts.specs.declared.numbering.Numbering.{Numbering}
+use Rattle.expanded_charts.specs.declared.refining.Refining as rust_refining
 use Rattle.expanded_charts.specs.declared.ways.Ways.{fold-roll-Ways}
 use Rattle.expanded_charts.specs.declared.ways.Ways.TheOpen.{Ways-F}
 use Rattle.expanded_charts.specs.declared.ways.Ways.TheVariants as raw_ways
+use Rattle.expanded_charts.proofs.EventParts.{one_more, put_add}
+use Rattle.expanded_charts.proofs.Loops.{one_more as part_more}
 use Rattle.expanded_charts.proofs.Making.{extends_self}
 
 -- ---- charts
 
-pub basic_entry : (table : Table) (name : List ℕ) (c : ChartEntry) → IsBasicTable table → chart_at table name ≡ Some c → (refinements c.decls ≡ []) × IsBasicWoven c.content
+pub basic_entry : (table : Table) (name : List ℕ) (c : ChartEntry) → IsBasicTable table → chart_at table name ≡ Some c → IsBasicWoven c.content
 basic_entry [] name c h e = absurd cc
 basic_entry (d ∷ table) name c h e = by (bytes_eq d.name name) e (basic_entry table name c h.1)
   where
-    by : (b : Bool) → (if b then Some d else chart_at table name) ≡ Some c → (chart_at table name ≡ Some c → (refinements c.decls ≡ []) × IsBasicWoven c.content) → (refinements c.decls ≡ []) × IsBasicWoven c.content
-    by true f behind = let same : d ≡ c = cc in subst (λ (x : ChartEntry). (refinements x.decls ≡ []) × IsBasicWoven x.content) same h.0
+    by : (b : Bool) → (if b then Some d else chart_at table name) ≡ Some c → (chart_at table name ≡ Some c → IsBasicWoven c.content) → IsBasicWoven c.content
+    by true f behind = let same : d ≡ c = cc in subst (λ (x : ChartEntry). IsBasicWoven x.content) same h.0
     by false f behind = behind f
 
 module _ (table : Table) (gates : GateMap) (n : ℕ) (name : List ℕ) where
@@ -52,14 +61,19 @@ module _ (table : Table) (gates : GateMap) (n : ℕ) (name : List ℕ) where
   no_chart zero some none = absurd (some refl)
   no_chart (suc k) some none = rw none refl
 
-  woven_level : (k : ℕ) (rs : List Refinement) (w : Woven) (b : Body) → rs ≡ [] → w ≡ Basic b → expand_woven (charts table k) (ends_in table) table gates n rs w ≡ level_part table k gates n b
-  woven_level k rs w b none is = ap (λ r. expand_woven (charts table k) (ends_in table) table gates n r w) none ∙ ap (λ x. expand_woven (charts table k) (ends_in table) table gates n [] x) is
-
-  pub chart_level : (depth : ℕ) (c : ChartEntry) (b : Body) → (depth ≡ 0 → ⊥) → chart_at table name ≡ Some c → refinements c.decls ≡ [] → c.content ≡ Basic b → chart_part table depth gates n name ≡ level_part table (depth - 1) gates n b
-  chart_level zero c b some at none is = absurd (some refl)
-  chart_level (suc k) c b some at none is =
+  pub chart_woven : (depth : ℕ) (c : ChartEntry) (b : Body) → (depth ≡ 0 → ⊥) → chart_at table name ≡ Some c → c.content ≡ Basic b → chart_part table depth gates n name ≡ woven_part table (depth - 1) gates n (refinements c.decls) b
+  chart_woven zero c b some at is = absurd (some refl)
+  chart_woven (suc k) c b some at is =
       let less : suc k - 1 ≡ k = omega arith in
-      (rw at (woven_level k (refinements c.decls) c.content b none is)) ∙ ap (λ d. level_part table d gates n b) (sym less)
+      (rw at (ap (λ (w : Woven). expand_woven (charts table k) (ends_in table) table gates n (refinements c.decls) w) is)) ∙ ap (λ d. woven_part table d gates n (refinements c.decls) b) (sym less)
+
+-- without decomposed instances a chart is its level
+pub woven_level : (table : Table) (depth : ℕ) (gates : GateMap) (n : ℕ) (rs : List Refinement) (b : Body) → rs ≡ [] → woven_part table depth gates n rs b ≡ level_part table depth (under gates) n b
+woven_level table depth gates n rs b none = ap (λ (l : List Refinement). woven_part table depth gates n l b) none
+
+pub woven_refined : (table : Table) (depth : ℕ) (gates : GateMap) (n : ℕ) (rs : List Refinement) (b : Body) → (rs ≡ [] → ⊥) → woven_part table depth gates n rs b ≡ refined_part table depth gates n rs b
+woven_refined table depth gates n [] b some = absurd (some refl)
+woven_refined table depth gates n (r ∷ rs) (level cover held pairs) some = refl
 
 pub nowhere_is : ways_view raw_ways.Nowhere ≡ no_gates
 nowhere_is = ap ways_view (sym raw_ways.rolls-Nowhere) ∙ fold-roll-Ways GateMap GateMap ways_step way_step Ways-F.Nowhere
@@ -83,9 +97,58 @@ module _ (table : Table) (depth : ℕ) (name : List ℕ) (empty new : Numbering)
 
 -- ---- levels
 
-pub level_is : (table : Table) (depth : ℕ) (gates : GateMap) (n : ℕ) (cover : List (List ℕ)) (held : WovenItems) (pairs : List Pair) → level_part table depth gates n (level cover held pairs)
-    ≡ past past_level (tied (own_ties (level_pairs held pairs) ++ (event_ties (calls held) ++ items_joins_ties (ends_in table held) held)) (in_row (items_parts table depth (gates_of held (ends_in table held)) gates n held)))
-level_is table depth gates n cover held pairs = refl
+pub level_is : (table : Table) (depth : ℕ) (around : Around) (n : ℕ) (b : Body) → level_part table depth around n b ≡ past past_level (tied_part table depth around n b)
+level_is table depth around n (level cover held pairs) = refl
+
+pub tied_is : (table : Table) (depth : ℕ) (around : Around) (n : ℕ) (cover : List (List ℕ)) (held : WovenItems) (pairs : List Pair) → tied_part table depth around n (level cover held pairs)
+    ≡ tied (own_ties (level_pairs held pairs) ++ (event_ties (calls held) ++ items_joins_ties (ends_in table held) held)) (in_row (items_parts table depth (gates_of held (ends_in table held)) around n held))
+tied_is table depth around n cover held pairs = refl
+
+-- ---- refined charts
+
+module _ (table : Table) (depth n : ℕ) (rs : List Refinement) where
+  -- a refined chart, by what the code has of it
+  abbrev pub refined_form : List Pair → List (Tag × Tag) → Gates → Around → WovenItems → List Refining → Expanded
+  refined_form ps ts called around held refined = past past_level (tied (own_ties ps ++ ts) (aside (beside_parts table depth called around n rs held refined)))
+
+  pub refined_is : (gates : GateMap) (cover : List (List ℕ)) (held : WovenItems) (pairs : List Pair) → refined_part table depth gates n rs (level cover held pairs)
+      ≡ refined_form (level_pairs held pairs) (event_ties (calls held) ++ items_joins_ties (ends_in table held) held) (gates_of held (ends_in table held)) (refined_under gates pairs (refinings table held rs)) held (refinings table held rs)
+  refined_is gates cover held pairs = refl
+
+  pub same_form : (ps qs : List Pair) (ts us : List (Tag × Tag)) (c d : Gates) (a b : Around) (held : WovenItems) (fs gs : List Refining) → ps ≡ qs → ts ≡ us → c ≡ d → a ≡ b → fs ≡ gs
+      → refined_form ps ts c a held fs ≡ refined_form qs us d b held gs
+  same_form ps qs ts us c d a b held fs gs e f g h k =
+      ap (λ (l : List Pair). refined_form l ts c a held fs) e ∙ (ap (λ (l : List (Tag × Tag)). refined_form qs l c a held fs) f
+      ∙ (ap (λ (l : Gates). refined_form qs us l a held fs) g ∙ (ap (λ (l : Around). refined_form qs us d l held fs) h ∙ ap (λ (l : List Refining). refined_form qs us d b held l) k)))
+
+module _ (table : Table) (depth : ℕ) (far_of : EventNode → Far) where
+  refinings_snoc : (n : ℕ) (rs : List Refining) (r : Refining) → refinings_parts table depth far_of n (rs ++ r ∷ []) ≡ add (refinings_parts table depth far_of n rs) (refining_part table depth far_of (refinings_parts table depth far_of n rs).next r)
+  refinings_snoc n [] (refining (level cover held pairs) ms) = one_more n (refining_part table depth far_of n (refining (level cover held pairs) ms))
+  refinings_snoc n (refining (level cover held pairs) ms ∷ rs) r =
+      let first = refining_part table depth far_of n (refining (level cover held pairs) ms) in
+      ap (put first) (refinings_snoc first.next rs r) ∙ put_add first (refinings_parts table depth far_of first.next rs) (refining_part table depth far_of (refinings_parts table depth far_of first.next rs).next r)
+
+-- a refining chart behind what is left and those before it
+module _ (table : Table) (depth : ℕ) (called : Gates) (around : Around) (n : ℕ) (rs : List Refinement) (held : WovenItems) where
+  pub beside_none : (old new : Numbering) (was parts : MadeParts) (made : Made) → AreMade old old (nothing n) was → IsMade old new (in_row (left_parts table depth called around n rs held)) made → IsAdded was made parts
+      → AreMade old new (beside_parts table depth called around n rs held []) parts
+  beside_none old new was parts made h one added =
+      let e = in_row (left_parts table depth called around n rs held) in
+      subst (λ (ps : ExpandedParts). AreMade old new ps parts) (sym (one_more n e)) (added old old new (nothing n) e h one)
+
+  pub beside_more : (old mid new : Numbering) (xs : List rust_refining.Refining) (i : ℕ) (x : rust_refining.Refining) (was parts : MadeParts) (made : Made) → i < length xs → x ≡ get_or xs i x
+      → AreMade old mid (beside_parts table depth called around n rs held (refinings_view (take i xs))) was → IsMade mid new (refining_part table depth (far_end called.ends around) was.next (refining_view x)) made → IsAdded was made parts
+      → AreMade old new (beside_parts table depth called around n rs held (refinings_view (take (i + 1) xs))) parts
+  beside_more old mid new xs i x was parts made low is h one added =
+      let left = in_row (left_parts table depth called around n rs held) in
+      let far_of = far_end called.ends around in
+      let before = refinings_view (take i xs) in
+      let listed : refinings_view (take (i + 1) xs) ≡ before ++ refining_view x ∷ [] = ap refinings_view (take_more xs i x low ∙ ap (λ (y : rust_refining.Refining). take i xs ++ y ∷ []) (sym is)) ∙ map-append refining_view (take i xs) (x ∷ []) in
+      let whole : put left (refinings_parts table depth far_of left.next (before ++ refining_view x ∷ [])) ≡ add (beside_parts table depth called around n rs held before) (refining_part table depth far_of (beside_parts table depth called around n rs held before).next (refining_view x)) =
+      ap (put left) (refinings_snoc table depth far_of left.next before (refining_view x)) ∙ put_add left (refinings_parts table depth far_of left.next before) (refining_part table depth far_of (refinings_parts table depth far_of left.next before).next (refining_view x)) in
+      subst (λ (l : List Refining). AreMade old new (beside_parts table depth called around n rs held l) parts) (sym listed)
+      (subst (λ (ps : ExpandedParts). AreMade old new ps parts) (sym whole)
+      (part_more old mid new (beside_parts table depth called around n rs held before) (λ m. refining_part table depth far_of m (refining_view x)) was made parts h one added))
 
 -- ---- expressions
 

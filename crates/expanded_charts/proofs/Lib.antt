@@ -12,3 +12,6 @@ pub mod TieFacts
 pub mod GateNumberFacts
 pub mod ChartParts
 pub mod WorkedExpansions
+pub mod FarFacts
+pub mod RefinementFacts
+pub mod LeftParts

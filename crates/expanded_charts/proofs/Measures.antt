@@ -58,7 +58,7 @@ table_size (c ∷ table) = woven_size c.content + table_size table
 
 -- deeper in the references, and at one depth larger
 abbrev pub measure : Table → ℕ → ℕ → ℕ
-measure table depth size = depth * (1 + 4 * table_size table) + size
+measure table depth size = depth * (10 + 8 * table_size table) + size
 
 -- ---- parts
 
@@ -97,10 +97,10 @@ body_fits (c ∷ table) name b e = by (bytes_eq c.name name) e (λ f. body_fits 
 times_more : (k m s : ℕ) → s < m → k * m + s < suc k * m
 times_more k m s l = omega (arith, l)
 
--- one reference deeper
-pub deeper : (table : Table) (d : ℕ) (b : Body) → (d ≡ 0 → ⊥) → body_size b ≤ table_size table → measure table (d - 1) (4 * body_size b) < measure table d 0
+-- one reference deeper: a body of the table, with all that refines it
+pub deeper : (table : Table) (d : ℕ) (b : Body) → (d ≡ 0 → ⊥) → body_size b ≤ table_size table → measure table (d - 1) (4 * table_size table + 4 * body_size b + 9) < measure table d 0
 deeper table zero b n l = absurd (n refl)
 deeper table (suc k) b n l =
-    let less = times_more k (1 + 4 * table_size table) (4 * body_size b) (omega (arith, l)) in
+    let less = times_more k (10 + 8 * table_size table) (4 * table_size table + 4 * body_size b + 9) (omega (arith, l)) in
     let same : suc k - 1 ≡ k = omega arith in
-    subst (λ (j : ℕ). measure table j (4 * body_size b) < measure table (suc k) 0) (sym same) (omega (arith, less))
+    subst (λ (j : ℕ). measure table j (4 * table_size table + 4 * body_size b + 9) < measure table (suc k) 0) (sym same) (omega (arith, less))

@@ -50,7 +50,7 @@ module _ {X : Type 0} (p : X → Bool) where
 
 -- ---- the chart of a name
 
-turned : (a b : List ℕ) → bytes_eq a b ≡ bytes_eq b a
+pub turned : (a b : List ℕ) → bytes_eq a b ≡ bytes_eq b a
 turned a b = tests_agree (bytes_eq a b) (bytes_eq b a) (λ e. (bytes_eq-Decides b a).1 (sym ((bytes_eq-Decides a b).0 e))) (λ e. (bytes_eq-Decides a b).1 (sym ((bytes_eq-Decides b a).0 e)))
 
 abbrev pub chart_names : List rust.ChartEntry → List (List ℕ)

@@ -103,7 +103,7 @@ found_are number shown (t ∷ ts) h =
     ∙ (ap (λ l. pairs_between l (listed (number t.second))) (h.found t.first) ∙ ap (λ l. pairs_between (numbers_of t.first shown) l) (h.found t.second)))
     ∙ ap (λ l. pairs_between (numbers_of t.first shown) (numbers_of t.second shown) ++ l) (found_are number shown ts h)
 
-is_equal : (k q : ℕ) → is_eq (nat_cmp k q) ≡ true → k ≡ q
+pub is_equal : (k q : ℕ) → is_eq (nat_cmp k q) ≡ true → k ≡ q
 is_equal k q h = (Decides-eqb k q).0 (by (nat_lt k q) (k == q) h)
   where
     by : (b c : Bool) → is_eq (cond b Less (cond c Equal Greater)) ≡ true → c ≡ true
@@ -111,7 +111,7 @@ is_equal k q h = (Decides-eqb k q).0 (by (nat_lt k q) (k == q) h)
     by false true h = refl
     by false false h = absurd cc
 
-unequal : (k q : ℕ) → is_eq (nat_cmp k q) ≡ false → (k == q) ≡ false
+pub unequal : (k q : ℕ) → is_eq (nat_cmp k q) ≡ false → (k == q) ≡ false
 unequal k q e = cases (nat_lt k q) (k == q) refl refl e
   where
     cases : (b c : Bool) → nat_lt k q ≡ b → (k == q) ≡ c → is_eq (cond b Less (cond c Equal Greater)) ≡ false → c ≡ false

@@ -5,8 +5,7 @@ use Rattle.std.specs.Str.{bytes_eq}
 use Rattle.msc_base.specs.declared.label.Label.{Label}
 use Rattle.msc_tree.specs.Expressions.{Expression, Expressions}
 use Rattle.msc_meaning.specs.Bodies.{EventNode, Body, WovenItems, WovenItem, Bodies}
-use Rattle.msc_meaning.specs.ChartUnfoldings.{under}
-use Rattle.msc_meaning.specs.FarEnds.{GateMap, Gates, happening}
+use Rattle.msc_meaning.specs.FarEnds.{Around, GateMap, Gates, happening}
 use Rattle.msc_meaning.specs.InnerEvents.{GateEnd}
 use Rattle.msc_meaning.specs.Tables.{Table}
 use Rattle.gate_ends.specs.FoundEnds.{table_ends}
@@ -78,11 +77,12 @@ IsMadeOf f parts made = (old new : Numbering) (ps : ExpandedParts) → AreMade o
 abbrev pub IsChanged : (Expanded → Expanded) → Made → Made → Type 0
 IsChanged f was made = (old new : Numbering) (e : Expanded) → IsMade old new e was → IsMade old new (f e) made
 
--- ---- parts of charts of this table, whose references stand in each other less than so deep; gates: where those of the level lead to
+-- ---- parts of charts of this table, whose references stand in each other less than so deep; gates: where those of a chart lead to;
+-- around: what a level is given
 
 -- an event of a level with these called gates
-abbrev pub event_part : Gates → GateMap → ℕ → EventNode → Expanded
-event_part level gates n k = event n (happening level.ends (under gates) k)
+abbrev pub event_part : Gates → Around → ℕ → EventNode → Expanded
+event_part level around n k = event n (happening level.ends around k)
 
 module _ (table : Table) (depth : ℕ) where
   abbrev pub charts : Charts
@@ -91,17 +91,17 @@ module _ (table : Table) (depth : ℕ) where
   abbrev pub chart_part : GateMap → ℕ → List ℕ → Expanded
   chart_part gates n name = charts name gates n
 
-  abbrev pub level_part : GateMap → ℕ → Body → Expanded
-  level_part gates n b = expand_level charts (ends_in table) (under gates) n b
+  abbrev pub level_part : Around → ℕ → Body → Expanded
+  level_part around n b = expand_level charts (ends_in table) around n b
 
-  abbrev pub items_parts : Gates → GateMap → ℕ → WovenItems → ExpandedParts
-  items_parts level gates n xs = expand_items charts (ends_in table) level (under gates) n xs
+  abbrev pub items_parts : Gates → Around → ℕ → WovenItems → ExpandedParts
+  items_parts level around n xs = expand_items charts (ends_in table) level around n xs
 
-  abbrev pub item_part : Gates → GateMap → ℕ → WovenItem → Expanded
-  item_part level gates n x = expand_item charts (ends_in table) level (under gates) n x
+  abbrev pub item_part : Gates → Around → ℕ → WovenItem → Expanded
+  item_part level around n x = expand_item charts (ends_in table) level around n x
 
-  abbrev pub operands_parts : GateMap → ℕ → Bodies → ExpandedParts
-  operands_parts gates n bs = expand_operands charts (ends_in table) (under gates) n bs
+  abbrev pub operands_parts : Around → ℕ → Bodies → ExpandedParts
+  operands_parts around n bs = expand_operands charts (ends_in table) around n bs
 
   abbrev pub expression_part : GateMap → ℕ → Expression → Expanded
   expression_part gates n x = expand charts (ends_in table) gates n x
@@ -109,5 +109,5 @@ module _ (table : Table) (depth : ℕ) where
   abbrev pub expressions_parts : GateMap → ℕ → Expressions → ExpandedParts
   expressions_parts gates n xs = expand_all charts (ends_in table) gates n xs
 
-  abbrev pub events_parts : Gates → GateMap → ℕ → List EventNode → ExpandedParts
-  events_parts level gates n ks = expand_events charts (ends_in table) level.ends (under gates) n ks
+  abbrev pub events_parts : Gates → Around → ℕ → List EventNode → ExpandedParts
+  events_parts level around n ks = expand_events charts (ends_in table) level.ends around n ks

@@ -1,39 +1,49 @@
 //! Expansions of charts, with their levels and the charts that they name: one recursion through the text and the table.
 
 ghost use Rattle.std.specs.Option.{option_copied};
-ghost use Rattle.std.specs.Prelude.{◌≡◌, [], List, ℕ, IfOk, map, option_map};
+ghost use Rattle.std.specs.Prelude.{◌≡◌, [], List, ℕ, IfOk, OnOk, map, option_map};
 ghost use Rattle.expansion_tree.specs.Views.{expansion_view};
 ghost use Rattle.gate_ends.specs.FoundEnds.{table_ends};
 ghost use Rattle.gate_ends.specs.LevelGates.{HasNames};
 ghost use Rattle.gate_tables.specs.ChartGates.{AreGatesOf};
 ghost use Rattle.msc_meaning.specs.ItemViews.{bodies_view, inline_view, items_view};
-ghost use Rattle.msc_meaning.specs.Tables.{chart_at};
+ghost use Rattle.msc_meaning.specs.FarEnds.{far_end};
+ghost use Rattle.msc_meaning.specs.Refinements.{refinings};
+ghost use Rattle.msc_meaning.specs.Tables.{chart_at, refinements};
 ghost use Rattle.msc_meaning.specs.Views.{body_view, entry_view, item_view, reference_view, table_view};
 ghost use Rattle.msc_tree.specs.Expressions.{expressions};
 ghost use Rattle.msc_tree.specs.Views.{expression_view};
 ghost use Rattle.expanded_charts.specs.BasicCharts.{IsBasicTable};
 ghost use Rattle.expanded_charts.specs.Expanding.{expansion};
 ghost use Rattle.expanded_charts.specs.GateWays.{ways_view};
+ghost use Rattle.expanded_charts.specs.Givens.{around_view};
 ghost use Rattle.expanded_charts.specs.Making.{AreMade, IsMade, chart_part, expression_part, expressions_parts, item_part, items_parts, level_part, operands_parts};
 ghost use Rattle.expanded_charts.specs.Numbering.{numbered_by, numbering_of};
+ghost use Rattle.expanded_charts.specs.RefinedMaking.{AddsItems, beside_parts, left_parts, refined_part, refining_part, tied_part, woven_part};
+ghost use Rattle.expanded_charts.specs.RefiningViews.{left_item, refining_view, refinings_view};
 
 use crate::above::{Above, past_made};
 use crate::chart_table::{ChartTable, called_gates, chart_named};
-use crate::events::{event_of, events_of};
+use crate::decomposed::Decomposed;
+use crate::events::{event_of, events_left, events_of};
+use crate::far_ends::FarEnds;
 use crate::gate_ties::gate_ties;
 use crate::joins::JoinTable;
 use crate::made::{Made, MadeParts};
 use crate::numbering::Numbering;
 use crate::parts::{add, aside, in_row, no_parts, of_form, one_of, or_nothing, turns};
+use crate::past_refining::past_refined;
+use crate::refined_far::{inner_ends, refined_ends};
+use crate::refining::{Refining, refinings_of};
 use crate::ties::level_tied;
-use crate::ways::{Level, Ways};
+use crate::ways::{Given, Level, Ways};
 use expansion_tree::Expansion;
 use gate_tables::GateTables;
 use general_ordering::level_pairs_of;
 use label_table::LabelTable;
 use msc_base::{NameTable, NoMemory};
 use msc_meaning::{Body, ChartEntry, EntryContent, InlineItem, Item, ReferenceItem};
-use msc_tree::RefExpr;
+use msc_tree::{Decl, RefExpr};
 use std::alloc::Global;
 
 /// The chart of that name, whose references stand in each other less than so deep. It fails only for want of memory.
@@ -59,33 +69,244 @@ fn chart_of<'a>(
         None => Ok(in_row(no_parts(alloc, next))),
         Some(chart) => match &chart.content {
             EntryContent::Basic(body) => {
-                level_of(alloc, table, numbering, depth - 1, next, ways, body)
+                let decls = chart.decls.as_slice();
+                woven_of(alloc, table, numbering, depth - 1, next, ways, decls, body)
             }
             EntryContent::Graph(_) => unreachable!(),
         },
     }
 }
 
-/// A level whose gates lead there: its items, tied by its messages and its general ordering, and at its called gates.
+/// A basic chart with these declarations, whose gates lead there.
 #[cycle(charts)]
-fn level_of<'a>(
+fn woven_of<'a>(
     alloc: Global,
     table: ChartTable<'a>,
     numbering: &mut Numbering,
     depth: u32,
     next: u32,
     ways: &Ways<'a>,
+    decls: &'a [Decl],
     body: &'a Body,
 ) -> Result<Made<'a>, NoMemory>
     requires named { HasNames table.charts.now table.names.now }
     requires basic { IsBasicTable (table_view table.charts.now) }
     requires gates { AreGatesOf (table_view table.charts.now) table.gates.now }
-    ensures { IfOk result (IsMade numbering.old numbering.new (level_part (table_view table.entry.charts.now) depth (ways_view ways.now) next (body_view body.now))) }
+    ensures { IfOk result (IsMade numbering.old numbering.new (woven_part (table_view table.entry.charts.now) depth (ways_view ways.now) next (refinements decls.now) (body_view body.now))) }
+{
+    let decomposed = Decomposed::of(alloc, decls)?;
+    if decomposed.is_empty() {
+        let far = FarEnds::Written;
+        let given = Given { ways, far: &far };
+        let made = level_of(alloc, table, numbering, depth, next, given, body)?;
+        return Ok(made);
+    }
+    let made = refined_of(
+        alloc,
+        table,
+        numbering,
+        depth,
+        next,
+        ways,
+        &decomposed,
+        body,
+    )?;
+    Ok(made)
+}
+
+/// A chart with decomposed instances: what is left of its level beside the refining charts, tied by what ties the level.
+#[cycle(charts)]
+fn refined_of<'a>(
+    alloc: Global,
+    table: ChartTable<'a>,
+    numbering: &mut Numbering,
+    depth: u32,
+    next: u32,
+    ways: &Ways<'a>,
+    decomposed: &Decomposed<'a>,
+    body: &'a Body,
+) -> Result<Made<'a>, NoMemory>
+    requires named { HasNames table.charts.now table.names.now }
+    requires basic { IsBasicTable (table_view table.charts.now) }
+    requires gates { AreGatesOf (table_view table.charts.now) table.gates.now }
+    ensures { IfOk result (IsMade numbering.old numbering.new (refined_part (table_view table.entry.charts.now) depth (ways_view ways.now) next decomposed.now (body_view body.now))) }
+{
+    let items = body.items.as_slice();
+    let refined = refinings_of(alloc, table, items, decomposed.list())?;
+    let called = called_gates(alloc, table, body)?;
+    let far = refined_ends(alloc, body.pairs.as_slice(), refined.as_slice())?;
+    let level = Level {
+        called: &called,
+        given: Given { ways, far: &far },
+    };
+    let parts = beside_of(
+        alloc,
+        table,
+        numbering,
+        depth,
+        next,
+        level,
+        decomposed,
+        items,
+        refined.as_slice(),
+    )?;
+    let pairs = level_pairs_of(alloc, items, body.pairs.as_slice())?;
+    let ties = gate_ties(alloc, &called, items)?;
+    let made = level_tied(alloc, &pairs, ties.as_slice(), aside(parts))?;
+    let made = past_made(alloc, Above::Level, made)?;
+    Ok(made)
+}
+
+/// What is left of the items of a level without decomposed instances, and the charts that refine these.
+#[cycle(charts)]
+fn beside_of<'a>(
+    alloc: Global,
+    table: ChartTable<'a>,
+    numbering: &mut Numbering,
+    depth: u32,
+    next: u32,
+    level: Level<'_, 'a>,
+    decomposed: &Decomposed<'a>,
+    items: &'a [Item],
+    refined: &[Refining<'a>],
+) -> Result<MadeParts<'a>, NoMemory>
+    requires named { HasNames table.charts.now table.names.now }
+    requires basic { IsBasicTable (table_view table.charts.now) }
+    requires gates { AreGatesOf (table_view table.charts.now) table.gates.now }
+    requires refined { refinings_view refined.now ≡ refinings (table_view table.charts.now) (items_view items.now) decomposed.now }
+    ensures { IfOk result (AreMade numbering.old numbering.new (beside_parts (table_view table.entry.charts.now) depth level.entry.called.now (around_view level.entry.given) next decomposed.now (items_view items.now) (refinings_view refined.now))) }
+{
+    let left = left_of(
+        alloc, table, numbering, depth, next, level, decomposed, items,
+    )?;
+    let mut parts = no_parts(alloc, next);
+    add(&mut parts, in_row(left))?;
+    for refining in refined {
+        let made = refining_of(alloc, table, numbering, depth, parts.next, level, refining)?;
+        add(&mut parts, made)?;
+    }
+    Ok(parts)
+}
+
+/// A chart that refines an instance of that level: its level, above which its matched events have the numbers of those of the instance.
+#[cycle(charts)]
+fn refining_of<'a>(
+    alloc: Global,
+    table: ChartTable<'a>,
+    numbering: &mut Numbering,
+    depth: u32,
+    next: u32,
+    level: Level<'_, 'a>,
+    refining: &Refining<'a>,
+) -> Result<Made<'a>, NoMemory>
+    requires named { HasNames table.charts.now table.names.now }
+    requires basic { IsBasicTable (table_view table.charts.now) }
+    requires gates { AreGatesOf (table_view table.charts.now) table.gates.now }
+    ensures { IfOk result (IsMade numbering.old numbering.new (refining_part (table_view table.entry.charts.now) depth (far_end level.entry.called.now.ends (around_view level.entry.given)) next (refining_view refining.now))) }
+{
+    let matches = refining.matches.as_slice();
+    let far = inner_ends(alloc, level, matches)?;
+    let ways = Ways::Nowhere;
+    let given = Given {
+        ways: &ways,
+        far: &far,
+    };
+    let made = tied_of(alloc, table, numbering, depth, next, given, refining.body)?;
+    let made = past_refined(alloc, matches, made)?;
+    Ok(made)
+}
+
+/// What is left of the items of a level without decomposed instances.
+#[cycle(charts)]
+fn left_of<'a>(
+    alloc: Global,
+    table: ChartTable<'a>,
+    numbering: &mut Numbering,
+    depth: u32,
+    next: u32,
+    level: Level<'_, 'a>,
+    decomposed: &Decomposed<'a>,
+    items: &'a [Item],
+) -> Result<MadeParts<'a>, NoMemory>
+    requires named { HasNames table.charts.now table.names.now }
+    requires basic { IsBasicTable (table_view table.charts.now) }
+    requires gates { AreGatesOf (table_view table.charts.now) table.gates.now }
+    ensures { IfOk result (AreMade numbering.old numbering.new (left_parts (table_view table.entry.charts.now) depth level.entry.called.now (around_view level.entry.given) next decomposed.now (items_view items.now))) }
+{
+    let mut parts = no_parts(alloc, next);
+    for item in items {
+        add_left(
+            alloc, table, numbering, depth, level, decomposed, &mut parts, item,
+        )?;
+    }
+    Ok(parts)
+}
+
+/// Adds what is left of an item.
+#[cycle(charts)]
+fn add_left<'a>(
+    alloc: Global,
+    table: ChartTable<'a>,
+    numbering: &mut Numbering,
+    depth: u32,
+    level: Level<'_, 'a>,
+    decomposed: &Decomposed<'a>,
+    parts: &mut MadeParts<'a>,
+    item: &'a Item,
+) -> Result<(), NoMemory>
+    requires named { HasNames table.charts.now table.names.now }
+    requires basic { IsBasicTable (table_view table.charts.now) }
+    requires gates { AreGatesOf (table_view table.charts.now) table.gates.now }
+    ensures { OnOk result (AddsItems (table_view table.entry.charts.now) depth level.entry.called.now (around_view level.entry.given) numbering.old numbering.new (left_item decomposed.now (item_view item.now)) parts.old parts.new) }
+{
+    match item {
+        Item::Single(node) => {
+            if decomposed.has(node) {
+                return Ok(());
+            }
+            let made = event_of(alloc, numbering, parts.next, level, node)?;
+            add(parts, made)?;
+            Ok(())
+        }
+        Item::Coregion(nodes) => {
+            let nodes = nodes.as_slice();
+            let events = events_left(alloc, numbering, parts.next, level, decomposed, nodes)?;
+            add(parts, aside(events))?;
+            Ok(())
+        }
+        Item::Inline(_) => {
+            let made = item_of(alloc, table, numbering, depth, parts.next, level, item)?;
+            add(parts, made)?;
+            Ok(())
+        }
+        Item::Reference(_) => {
+            let made = item_of(alloc, table, numbering, depth, parts.next, level, item)?;
+            add(parts, made)?;
+            Ok(())
+        }
+    }
+}
+
+/// A level: its items, tied by its messages and its general ordering, and at its called gates, with all that its events show.
+#[cycle(charts)]
+fn tied_of<'a>(
+    alloc: Global,
+    table: ChartTable<'a>,
+    numbering: &mut Numbering,
+    depth: u32,
+    next: u32,
+    given: Given<'_, 'a>,
+    body: &'a Body,
+) -> Result<Made<'a>, NoMemory>
+    requires named { HasNames table.charts.now table.names.now }
+    requires basic { IsBasicTable (table_view table.charts.now) }
+    requires gates { AreGatesOf (table_view table.charts.now) table.gates.now }
+    ensures { IfOk result (IsMade numbering.old numbering.new (tied_part (table_view table.entry.charts.now) depth (around_view given.entry) next (body_view body.now))) }
 {
     let called = called_gates(alloc, table, body)?;
     let level = Level {
         called: &called,
-        ways,
+        given,
     };
     let parts = items_of(
         alloc,
@@ -99,6 +320,26 @@ fn level_of<'a>(
     let pairs = level_pairs_of(alloc, body.items.as_slice(), body.pairs.as_slice())?;
     let ties = gate_ties(alloc, &called, body.items.as_slice())?;
     let made = level_tied(alloc, &pairs, ties.as_slice(), in_row(parts))?;
+    Ok(made)
+}
+
+/// A level, above which its own numbers are gone.
+#[cycle(charts)]
+fn level_of<'a>(
+    alloc: Global,
+    table: ChartTable<'a>,
+    numbering: &mut Numbering,
+    depth: u32,
+    next: u32,
+    given: Given<'_, 'a>,
+    body: &'a Body,
+) -> Result<Made<'a>, NoMemory>
+    requires named { HasNames table.charts.now table.names.now }
+    requires basic { IsBasicTable (table_view table.charts.now) }
+    requires gates { AreGatesOf (table_view table.charts.now) table.gates.now }
+    ensures { IfOk result (IsMade numbering.old numbering.new (level_part (table_view table.entry.charts.now) depth (around_view given.entry) next (body_view body.now))) }
+{
+    let made = tied_of(alloc, table, numbering, depth, next, given, body)?;
     let made = past_made(alloc, Above::Level, made)?;
     Ok(made)
 }
@@ -117,7 +358,7 @@ fn items_of<'a>(
     requires named { HasNames table.charts.now table.names.now }
     requires basic { IsBasicTable (table_view table.charts.now) }
     requires gates { AreGatesOf (table_view table.charts.now) table.gates.now }
-    ensures { IfOk result (AreMade numbering.old numbering.new (items_parts (table_view table.entry.charts.now) depth level.entry.called.now (ways_view level.entry.ways.now) next (items_view items.now))) }
+    ensures { IfOk result (AreMade numbering.old numbering.new (items_parts (table_view table.entry.charts.now) depth level.entry.called.now (around_view level.entry.given) next (items_view items.now))) }
 {
     let mut parts = no_parts(alloc, next);
     for item in items {
@@ -141,7 +382,7 @@ fn item_of<'a>(
     requires named { HasNames table.charts.now table.names.now }
     requires basic { IsBasicTable (table_view table.charts.now) }
     requires gates { AreGatesOf (table_view table.charts.now) table.gates.now }
-    ensures { IfOk result (IsMade numbering.old numbering.new (item_part (table_view table.entry.charts.now) depth level.entry.called.now (ways_view level.entry.ways.now) next (item_view item.now))) }
+    ensures { IfOk result (IsMade numbering.old numbering.new (item_part (table_view table.entry.charts.now) depth level.entry.called.now (around_view level.entry.given) next (item_view item.now))) }
 {
     match item {
         Item::Single(node) => {
@@ -177,12 +418,16 @@ fn inline_of<'a>(
     requires named { HasNames table.charts.now table.names.now }
     requires basic { IsBasicTable (table_view table.charts.now) }
     requires gates { AreGatesOf (table_view table.charts.now) table.gates.now }
-    ensures { IfOk result (IsMade numbering.old numbering.new (item_part (table_view table.entry.charts.now) depth level.entry.called.now (ways_view level.entry.ways.now) next (inline_view inline.now))) }
+    ensures { IfOk result (IsMade numbering.old numbering.new (item_part (table_view table.entry.charts.now) depth level.entry.called.now (around_view level.entry.given) next (inline_view inline.now))) }
 {
     let name = inline.name.as_ref();
-    let ways = level.ways.inside(alloc, level.called, name)?;
+    let ways = level.given.ways.inside(alloc, level.called, name)?;
+    let given = Given {
+        ways: &ways,
+        far: level.given.far,
+    };
     let operands = inline.operands.as_slice();
-    let parts = operands_of(alloc, table, numbering, depth, next, &ways, operands)?;
+    let parts = operands_of(alloc, table, numbering, depth, next, given, operands)?;
     let made = of_form(alloc, next, inline.form, inline.lower, inline.upper, parts)?;
     let made = past_made(alloc, Above::Inline(level.called, name), made)?;
     Ok(made)
@@ -196,17 +441,17 @@ fn operands_of<'a>(
     numbering: &mut Numbering,
     depth: u32,
     next: u32,
-    ways: &Ways<'a>,
+    given: Given<'_, 'a>,
     operands: &'a [Body],
 ) -> Result<MadeParts<'a>, NoMemory>
     requires named { HasNames table.charts.now table.names.now }
     requires basic { IsBasicTable (table_view table.charts.now) }
     requires gates { AreGatesOf (table_view table.charts.now) table.gates.now }
-    ensures { IfOk result (AreMade numbering.old numbering.new (operands_parts (table_view table.entry.charts.now) depth (ways_view ways.now) next (bodies_view operands.now))) }
+    ensures { IfOk result (AreMade numbering.old numbering.new (operands_parts (table_view table.entry.charts.now) depth (around_view given.entry) next (bodies_view operands.now))) }
 {
     let mut parts = no_parts(alloc, next);
     for operand in operands {
-        let made = level_of(alloc, table, numbering, depth, parts.next, ways, operand)?;
+        let made = level_of(alloc, table, numbering, depth, parts.next, given, operand)?;
         add(&mut parts, made)?;
     }
     Ok(parts)
@@ -226,11 +471,14 @@ fn reference_of<'a>(
     requires named { HasNames table.charts.now table.names.now }
     requires basic { IsBasicTable (table_view table.charts.now) }
     requires gates { AreGatesOf (table_view table.charts.now) table.gates.now }
-    ensures { IfOk result (IsMade numbering.old numbering.new (item_part (table_view table.entry.charts.now) depth level.entry.called.now (ways_view level.entry.ways.now) next (reference_view reference.now))) }
+    ensures { IfOk result (IsMade numbering.old numbering.new (item_part (table_view table.entry.charts.now) depth level.entry.called.now (around_view level.entry.given) next (reference_view reference.now))) }
 {
     let name = reference.name.as_ref();
     let joins = JoinTable::of(alloc, reference.joins.as_slice())?;
-    let ways = level.ways.referred(alloc, level.called, name, &joins)?;
+    let ways = level
+        .given
+        .ways
+        .referred(alloc, level.called, name, &joins)?;
     let made = expression_of(alloc, table, numbering, depth, next, &ways, &reference.expr)?;
     let made = past_made(alloc, Above::Reference(level.called, name, &joins), made)?;
     Ok(made)

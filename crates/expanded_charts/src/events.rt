@@ -1,19 +1,24 @@
 //! Events and coregions: for `charts`.
 
 ghost use Rattle.std.specs.Option.{option_copied};
-ghost use Rattle.std.specs.Prelude.{◌≡◌, ℕ, IfOk, OnOk, map};
+ghost use Rattle.std.specs.Prelude.{◌≡◌, ◌∷◌, [], ℕ, IfOk, OnOk, map, option_map};
 ghost use Rattle.msc_meaning.specs.EventLabels.{written_label};
-ghost use Rattle.msc_meaning.specs.ChartUnfoldings.{under};
-ghost use Rattle.msc_meaning.specs.FarEnds.{child_by, gate_tags, happening, instance_or_env as far_or_env, written_far};
+ghost use Rattle.msc_meaning.specs.FarEnds.{child_by, far_end, gate_tags, happening, instance_or_env as far_or_env, written_far};
+ghost use Rattle.msc_meaning.specs.Refinements.{left_of};
 ghost use Rattle.msc_meaning.specs.Tables.{Table};
 ghost use Rattle.msc_meaning.specs.Views.{node_view};
 ghost use Rattle.msc_tree.specs.Labels.{far_of};
 ghost use Rattle.msc_unfolding.specs.Unfoldings.{Tag};
+ghost use Rattle.expanded_charts.specs.FarEndViews.{far_ends_view, far_view};
 ghost use Rattle.expanded_charts.specs.GateWays.{ways_view};
+ghost use Rattle.expanded_charts.specs.Givens.{around_view};
 ghost use Rattle.expanded_charts.specs.Making.{AreMade, IsMade, IsNumbered, IsSecond, event_part, events_parts};
 ghost use Rattle.expanded_charts.specs.Numbering.{at_instances, with_second};
+ghost use Rattle.expanded_charts.specs.RefinedMaking.{AddsEvents};
 ghost use Rattle.expanded_charts.specs.ShownGates.{gates_view};
 
+use crate::decomposed::Decomposed;
+use crate::far_ends::{changed_far, owned_far};
 use crate::made::{Made, MadeParts};
 use crate::numbering::{Numbering, number_label, number_name};
 use crate::parts::{add, no_parts};
@@ -117,18 +122,18 @@ fn instance_or_env(alloc: Global, name: Option<&Name>) -> Result<Far, NoMemory>
 
 /// The far end that an event names: of a gate of its level where that leads to, of a called gate the instance of its inner events, and
 /// otherwise what is written.
-fn far_at<'a>(
+fn named_far<'a>(
     alloc: Global,
     level: Level<'_, 'a>,
     target: &'a Target,
     written: Far,
 ) -> Result<Far, NoMemory>
     requires { written ≡ far_of target.now }
-    ensures { IfOk result (λ far. far ≡ written_far level.entry.called.now.ends (ways_view level.entry.ways.now) target.now) }
+    ensures { IfOk result (λ far. far ≡ written_far level.entry.called.now.ends (ways_view level.entry.given.ways.now) target.now) }
 {
     match target {
         Target::Env(Some(gate)) => {
-            let far = instance_or_env(alloc, leads_to(level.ways, gate.name().bytes()))?;
+            let far = instance_or_env(alloc, leads_to(level.given.ways, gate.name().bytes()))?;
             Ok(far)
         }
         Target::Gate(name, gate) => {
@@ -144,9 +149,31 @@ fn far_at<'a>(
     }
 }
 
+/// The far end of an event: the one that decomposition gives to it, or the one that it names.
+fn far_at<'a>(
+    alloc: Global,
+    level: Level<'_, 'a>,
+    node: &'a EventNode,
+    written: Far,
+) -> Result<Far, NoMemory>
+    requires { written ≡ far_of node.now.event.target }
+    ensures { IfOk result (λ far. far ≡ far_end level.entry.called.now.ends (around_view level.entry.given) (node_view node.now)) }
+{
+    match changed_far(level.given.far, node.number) {
+        Some(far) => {
+            let far = owned_far(alloc, far)?;
+            Ok(far)
+        }
+        None => {
+            let far = named_far(alloc, level, &node.event.target, written)?;
+            Ok(far)
+        }
+    }
+}
+
 /// The label of an event.
 fn label_at<'a>(alloc: Global, level: Level<'_, 'a>, node: &'a EventNode) -> Result<Label, NoMemory>
-    ensures { IfOk result (λ label. label ≡ (happening level.entry.called.now.ends (under (ways_view level.entry.ways.now)) (node_view node.now)).label) }
+    ensures { IfOk result (λ label. label ≡ (happening level.entry.called.now.ends (around_view level.entry.given) (node_view node.now)).label) }
 {
     let Label {
         at,
@@ -154,7 +181,7 @@ fn label_at<'a>(alloc: Global, level: Level<'_, 'a>, node: &'a EventNode) -> Res
         text,
         far,
     } = label_written(alloc, node)?;
-    let far = far_at(alloc, level, &node.event.target, far)?;
+    let far = far_at(alloc, level, node, far)?;
     Ok(Label {
         at,
         kind,
@@ -171,7 +198,7 @@ fn numbered<'a>(
     level: Level<'_, 'a>,
     node: &'a EventNode,
 ) -> Result<ExpandedEvent, NoMemory>
-    ensures { IfOk result (IsNumbered numbering.old numbering.new (record { number = number; happening = happening level.entry.called.now.ends (under (ways_view level.entry.ways.now)) (node_view node.now) })) }
+    ensures { IfOk result (IsNumbered numbering.old numbering.new (record { number = number; happening = happening level.entry.called.now.ends (around_view level.entry.given) (node_view node.now) })) }
 {
     let label = label_at(alloc, level, node)?;
     let at = number_name(alloc, &mut numbering.names, &node.at)?;
@@ -206,7 +233,7 @@ pub(crate) fn event_of<'a>(
     level: Level<'_, 'a>,
     node: &'a EventNode,
 ) -> Result<Made<'a>, NoMemory>
-    ensures { IfOk result (IsMade numbering.old numbering.new (event_part level.entry.called.now (ways_view level.entry.ways.now) next (node_view node.now))) }
+    ensures { IfOk result (IsMade numbering.old numbering.new (event_part level.entry.called.now (around_view level.entry.given) next (node_view node.now))) }
 {
     if next == u32::MAX {
         return Err(NoMemory);
@@ -234,12 +261,49 @@ pub(crate) fn events_of<'a>(
     level: Level<'_, 'a>,
     nodes: &'a [EventNode],
 ) -> Result<MadeParts<'a>, NoMemory>
-    ensures { IfOk result (λ parts. (table : Table) (depth : ℕ) → AreMade numbering.old numbering.new (events_parts table depth level.entry.called.now (ways_view level.entry.ways.now) next (map node_view nodes.now)) parts) }
+    ensures { IfOk result (λ parts. (table : Table) (depth : ℕ) → AreMade numbering.old numbering.new (events_parts table depth level.entry.called.now (around_view level.entry.given) next (map node_view nodes.now)) parts) }
 {
     let mut parts = no_parts(alloc, next);
     for node in nodes {
         let made = event_of(alloc, numbering, parts.next, level, node)?;
         add(&mut parts, made)?;
+    }
+    Ok(parts)
+}
+
+/// Adds the event, where it isn't one of a decomposed instance.
+fn add_left<'a>(
+    alloc: Global,
+    numbering: &mut Numbering,
+    level: Level<'_, 'a>,
+    decomposed: &Decomposed<'a>,
+    parts: &mut MadeParts<'a>,
+    node: &'a EventNode,
+) -> Result<(), NoMemory>
+    ensures { OnOk result (AddsEvents level.entry.called.now (around_view level.entry.given) numbering.old numbering.new (left_of decomposed.now (node_view node.now ∷ [])) parts.old parts.new) }
+{
+    if decomposed.has(node) {
+        return Ok(());
+    }
+    let made = event_of(alloc, numbering, parts.next, level, node)?;
+    add(parts, made)?;
+    Ok(())
+}
+
+/// What is left of the events of a coregion without those of decomposed instances.
+pub(crate) fn events_left<'a>(
+    alloc: Global,
+    numbering: &mut Numbering,
+    next: u32,
+    level: Level<'_, 'a>,
+    decomposed: &Decomposed<'a>,
+    nodes: &'a [EventNode],
+) -> Result<MadeParts<'a>, NoMemory>
+    ensures { IfOk result (λ parts. (table : Table) (depth : ℕ) → AreMade numbering.old numbering.new (events_parts table depth level.entry.called.now (around_view level.entry.given) next (left_of decomposed.now (map node_view nodes.now))) parts) }
+{
+    let mut parts = no_parts(alloc, next);
+    for node in nodes {
+        add_left(alloc, numbering, level, decomposed, &mut parts, node)?;
     }
     Ok(parts)
 }

@@ -6,6 +6,7 @@ ghost use Rattle.expanded_charts.specs.GateWays.{ways_view};
 ghost use Rattle.msc_meaning.specs.FarEnds.{gates_inside, gates_referred, no_gates};
 
 use crate::called::CalledGates;
+use crate::far_ends::FarEnds;
 use crate::joins::JoinTable;
 use msc_base::{Name, NoMemory};
 use std::alloc::Global;
@@ -35,13 +36,22 @@ pub(crate) struct Way<'a> {
     outside: Ways<'a>,
 }
 
+/// What a level is given from around it.
+#[derive(Clone, Copy)]
+pub(crate) struct Given<'b, 'a> {
+    /// Where its own gates lead to.
+    pub(crate) ways: &'b Ways<'a>,
+    /// The far ends that decomposition gives to its events.
+    pub(crate) far: &'b FarEnds<'a>,
+}
+
 /// What the items of a level are given.
 #[derive(Clone, Copy)]
 pub(crate) struct Level<'b, 'a> {
     /// What it says of the gates of its references and inline expressions.
     pub(crate) called: &'b CalledGates<'a>,
-    /// Where its own gates lead to.
-    pub(crate) ways: &'b Ways<'a>,
+    /// What it is given from around it.
+    pub(crate) given: Given<'b, 'a>,
 }
 
 impl<'a> Ways<'a> {

@@ -1,7 +1,8 @@
 -- Why a level has few pairs.
-use Rattle.std.specs.Prelude.{ℕ, zero, suc, ◌+◌, ◌≤◌, ◌==◌, Bool, true, false, ◌&&◌, List, [], ◌∷◌, ◌++◌, Option, None, Some, length}
+use Rattle.std.specs.Prelude.{ℕ, zero, suc, ◌+◌, ◌*◌, ◌≤◌, ◌==◌, Bool, true, false, ◌&&◌, List, [], ◌∷◌, ◌++◌, Option, None, Some, length}
 use Rattle.std.specs.Str.{bytes_eq}
 use Rattle.std.proofs.Common.{◌≡◌, refl, sym, ◌∙◌, subst, ap, arith}
+use Rattle.std.proofs.Math.Nat.{suc-mul}
 use Rattle.std.proofs.lemmas.Bool.Decides.{Decides-eqb}
 use Rattle.std.proofs.lemmas.Slice.Eq.{bytes_eq-Decides}
 use Rattle.msc_base.specs.declared.label.Kind.{Kind}
@@ -27,15 +28,15 @@ use Rattle.expanded_terms.specs.TagNumbers.{number_if, numbers_with, pairs_with,
 
 -- ---- numbers of a tag
 
-tally : ℕ → List ℕ → ℕ
+pub tally : ℕ → List ℕ → ℕ
 tally k [] = 0
 tally k (l ∷ ls) = length (number_if (l == k) 0 []) + tally k ls
 
-tally_cons : (k l : ℕ) (ls : List ℕ) → tally k (l ∷ ls) ≡ length (number_if (l == k) 0 []) + tally k ls
+pub tally_cons : (k l : ℕ) (ls : List ℕ) → tally k (l ∷ ls) ≡ length (number_if (l == k) 0 []) + tally k ls
 unfolding tally
 tally_cons k l ls = refl
 
-tally_none : (k : ℕ) → tally k [] ≡ 0
+pub tally_none : (k : ℕ) → tally k [] ≡ 0
 unfolding tally
 tally_none k = refl
 
@@ -51,7 +52,7 @@ tally_absent k (l ∷ ks) n = by (l == k) refl (tally_absent k ks (λ i. n (late
     by true e rest = absurd (n (subst (λ j. Among k (j ∷ ks)) (sym ((Decides-eqb l k).0 e)) first))
     by false e rest = omega (arith, tally_cons k l ks, ap (λ b. length (number_if b 0 [])) e, rest)
 
-tally_once : (k : ℕ) (ks : List ℕ) → Once ks → tally k ks ≤ 1
+pub tally_once : (k : ℕ) (ks : List ℕ) → Once ks → tally k ks ≤ 1
 tally_once k [] o = omega (arith, tally_none k)
 tally_once k (l ∷ ks) (n, o) = by (l == k) refl (tally_once k ks o)
   where
@@ -137,7 +138,7 @@ item_tally charts cs k n (Coregion es) = events_tally charts k n es
 item_tally charts cs k n (Inline form part operands) = omega (arith, past_no_own k (past_inline cs part.name) (inline_no_own cs part.name) (operands_shown charts n operands), tally_none k)
 item_tally charts cs k n (Refer part) = omega (arith, past_no_own k (past_reference cs part.name part.joins) (reference_no_own cs part.name part.joins) (expression_shown charts n part.expression), tally_none k)
 
-items_tally : (charts : Charts) (cs : List Call) (k n : ℕ) (xs : WovenItems) → often (Own k) (items_shown charts cs n xs) ≡ tally k (node_numbers (events xs))
+pub items_tally : (charts : Charts) (cs : List Call) (k n : ℕ) (xs : WovenItems) → often (Own k) (items_shown charts cs n xs) ≡ tally k (node_numbers (events xs))
 items_tally charts cs k n no_items = omega (arith, tally_none k)
 items_tally charts cs k n (item_and x xs) =
     let split = ap (tally k) (numbers_app (item_events x) (events xs)) in
@@ -149,9 +150,16 @@ pub length_app : (q r : List (ℕ × ℕ)) → length (q ++ r) ≡ length q + le
 length_app [] r = omega arith
 length_app (p ∷ q) r = omega (arith, length_app q r)
 
-pub with_length : (m : ℕ) (ns : List ℕ) → length (pairs_with m ns) ≡ length ns
+with_length : (m : ℕ) (ns : List ℕ) → length (pairs_with m ns) ≡ length ns
 with_length m [] = refl
 with_length m (n ∷ ns) = ap suc (with_length m ns)
+
+mul_zero : (b : ℕ) → 0 * b ≡ 0
+mul_zero b = omega arith
+
+pub between_length : (ms ns : List ℕ) → length (pairs_between ms ns) ≡ length ms * length ns
+between_length [] ns = sym (mul_zero (length ns))
+between_length (m ∷ ms) ns = omega (arith, length_app (pairs_with m ns) (pairs_between ms ns), with_length m ns, between_length ms ns, suc-mul (length ms) (length ns))
 
 first_one : (ms ns : List ℕ) → length ms ≤ 1 → length (pairs_between ms ns) ≤ length ns
 first_one [] ns l = omega arith
@@ -414,7 +422,7 @@ none_joined ends (item_and (Coregion (n ∷ ns)) xs) e = absurd (omega (arith, e
 none_joined ends (item_and (Inline form part operands) xs) e = none_joined ends xs (omega (arith, e))
 none_joined ends (item_and (Refer part) xs) e = absurd (omega (arith, e))
 
-level_open : (sh : Shown) → open_gates (past_shown past_level sh) ≡ open_gates sh
+pub level_open : (sh : Shown) → open_gates (past_shown past_level sh) ≡ open_gates sh
 level_open [] = refl
 level_open ((n, Own k) ∷ sh) = omega (arith, level_open sh)
 level_open ((n, Via g) ∷ sh) = omega (arith, level_open sh)

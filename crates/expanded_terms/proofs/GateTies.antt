@@ -1,20 +1,18 @@
 -- In an expansion no tie is of events in loops where no inner event of a called gate stands in a loop, construct by construct: the tags that
 -- are still to be seen above a part are of gates that have inner events in it, and those of events in loops of gates that have such there.
-use Rattle.std.specs.Prelude.{ℕ, zero, suc, ◌+◌, ◌≤◌, ◌<◌, Bool, true, false, ◌&&◌, filter, if◌then◌else◌, List, [], ◌∷◌, ◌++◌, Option, None, Some, map}
-use Rattle.std.specs.List.{flat_map, list_any}
+use Rattle.std.specs.Prelude.{ℕ, zero, suc, ◌==◌, Bool, true, false, not, cond, if◌then◌else◌, List, [], ◌∷◌, ◌++◌, Option, None, Some}
+use Rattle.std.specs.List.{list_any}
 use Rattle.std.specs.Str.{bytes_eq}
 use Rattle.std.proofs.Common.{◌≡◌, ◌∙◌, ◌⊎◌, inl, inr, refl, sym, ap, ap₂, subst, arith}
 use Rattle.std.proofs.lemmas.Bool.{and_parts}
-use Rattle.std.proofs.lemmas.List.{map-append}
 use Rattle.std.proofs.lemmas.Slice.Eq.{bytes_eq-Decides}
+use Rattle.msc_base.specs.declared.label.Far.{Far}
 use Rattle.msc_base.specs.declared.label.Kind.{Kind}
 use Rattle.msc_base.specs.declared.label.Kind.TheVariants as kind
 use Rattle.msc_base.specs.declared.label.Pair.{Pair}
 use Rattle.msc_base.specs.declared.limits.TheConstants.Limits.{EXPANDED_NESTING}
 use Rattle.msc_base.specs.Orders.{Among, first, later}
-use Rattle.msc_unfolding.specs.Unfoldings.{Tag, Own, Via, On, Happening, is_same_tag, past_level}
-use Rattle.msc_tree.specs.declared.event.Target.{Target}
-use Rattle.msc_tree.specs.declared.event.Target.TheVariants.{Nobody, Env, Instance, Gate}
+use Rattle.msc_unfolding.specs.Unfoldings.{Tag, Own, Via, On, past_level}
 use Rattle.msc_tree.specs.declared.reference.InlineForm.{InlineForm}
 use Rattle.msc_tree.specs.declared.reference.InlineForm.TheVariants as inline
 use Rattle.msc_tree.specs.declared.reference.Join.{Join}
@@ -23,347 +21,31 @@ use Rattle.msc_tree.specs.declared.reference.JoinEnd.TheVariants as join_end
 use Rattle.msc_tree.specs.Expressions.{Expression, Empty, Chart, Alt, Par, Seq, Opt, Expressions, none, more}
 use Rattle.msc_tree.specs.Expressions as expression
 use Rattle.msc_meaning.specs.Bodies.{EventNode, InlinePart, ReferencePart, Body, level, WovenItems, no_items, item_and, WovenItem, Single, Coregion, Inline, Refer, Bodies, no_bodies, body_and, item_list}
-use Rattle.msc_meaning.specs.BodyLevels.{BodyLevel, EachLevel, body_levels, item_levels, items_levels, levels_from, operands_levels}
+use Rattle.msc_meaning.specs.BodyLevels.{BodyLevel, EachLevel, item_levels, items_levels, levels_from, operands_levels}
 use Rattle.msc_meaning.specs.Calls.{Call, Caller, an_event, a_gate, calls, is_call_of, is_called, passed_to}
-use Rattle.msc_meaning.specs.ChartUnfoldings.{gates_of, under}
-use Rattle.msc_meaning.specs.FarEnds.{GateMap, Around, Gates, end_at, gate_tags, gates_referred, inside, happening}
-use Rattle.msc_meaning.specs.InnerEvents.{GateEnd, InnerEvent, here, in_chart}
+use Rattle.msc_meaning.specs.ChartUnfoldings.{gates_of, under, refined_under, refining_under}
+use Rattle.msc_meaning.specs.FarEnds.{GateMap, Around, end_at, gates_referred, inside, far_end, happening}
+use Rattle.msc_meaning.specs.InnerEvents.{GateEnd, InnerEvent, in_chart}
+use Rattle.msc_meaning.specs.Refinements.{Match, Refining, refining, refining_by, refinings, is_decomposed, left_of, without_decomposed, stands_for, past_refining}
 use Rattle.msc_meaning.specs.Tables.{Table, ChartEntry, body_at, body_in, chart_at, Woven, Basic, HighLevel, Refinement, refinements}
-use Rattle.msc_meaning.specs.Ties.{event_tie, event_ties, in_order, item_joins_ties, items_joins_ties, join_tie, joins_ties, level_pairs, own_ties, called_tag, past_inline, past_reference, tie_by, ties, via_list}
-use Rattle.expansion_tree.specs.Expansions.{Expansion, Expansions, Event, InRow, Aside, OneOf, Exception, Turns, Tied, no_parts, part_and, all_events_in, events_in, map_events, map_all_events}
+use Rattle.msc_meaning.specs.Ties.{event_tie, event_ties, in_order, item_joins_ties, items_joins_ties, join_tie, joins_ties, level_pairs, own_ties, past_inline, past_reference, tie_by, ties, via_list}
+use Rattle.expansion_tree.specs.Expansions.{Expansion, Expansions, Event, InRow, Aside, OneOf, Exception, Turns, Tied, no_parts, part_and, map_events, map_all_events}
 use Rattle.expansion_tree.specs.declared.tree.ExpandedEvent.{ExpandedEvent}
 use Rattle.expanded_charts.specs.Expanding as tree
-use Rattle.expanded_charts.specs.Expanding.{NumberedEvent, Expanded, ExpandedParts, Shown, nothing, or_nothing, in_row, aside, exception, turns, tied, past, past_shown, numbers_with, pairs_between, expand_events, expand, expand_all, expand_level, expand_items, expand_item, expand_operands, expand_woven, expand_entry, expand_charts}
+use Rattle.expanded_charts.specs.Expanding.{NumberedEvent, Expanded, ExpandedParts, Shown, nothing, or_nothing, in_row, aside, exception, turns, tied, past, past_shown, numbers_with, pairs_between, expand_events, expand, expand_all, expand_level, expand_items, expand_item, expand_operands, expand_refinings, expand_refined, expand_woven, expand_entry, expand_charts}
 use Rattle.gate_ends.specs.EndLaws.{EndsAreFound}
-use Rattle.gate_ends.specs.FoundEnds.{GateEvents, no_event, an_event as one_event, both, either, in_loop, listed, looped, seen_in, is_gate, is_name, these_if, unless, event_inner, events_inner, beside, operand_beside, turned, expression_inner, choice_inner, parts_inner, joined_inner, joins_inner, level_inner, items_inner, item_inner, inline_inner, operands_inner, inner_of_item, inner_of, body_inner, inner_to, chart_gates, GoesTo}
+use Rattle.gate_ends.specs.FoundEnds.{GateEvents, no_event, an_event as one_event, both, either, in_loop, listed, looped, seen_in, is_name, these_if, unless, event_inner, events_inner, beside, operand_beside, expression_inner, choice_inner, parts_inner, joined_inner, joins_inner, level_inner, items_inner, item_inner, inline_inner, operands_inner, inner_of_item, inner_of, body_inner, inner_to, chart_gates, GoesTo}
 use Rattle.gate_ends.specs.LevelGates.{items_in}
-use Rattle.sound_terms.proofs.Mapped.{map_among}
-use Rattle.sound_terms.proofs.Ordering.{among_left, among_right}
-use Rattle.expanded_terms.specs.ExpansionNumbers.{numbers_of_events}
-use Rattle.expanded_terms.specs.GateTies.{HasQuietGates, IsQuietChart, IsQuietLevel, IsQuietTable, IsQuietWoven}
+use Rattle.expanded_terms.specs.GateTies.{IsQuietChart, IsQuietLevel, IsQuietTable, IsQuietWoven}
 use Rattle.expanded_terms.specs.RankedTerms.{EachTie, EachTies, IsOutsideLoops, looped_in, all_looped_in}
-use Rattle.expanded_terms.proofs.LevelOrder.{same_tag}
+use Rattle.expanded_terms.proofs.FreeParts.{IsFree, IsFreeOf, in_loops, all_in_loops, none_free, row_free, aside_free, one_free, exception_free, tied_free, put_free, option_free, wider, all_wider, past_free, HasSome, InGate, InLoop, OnLevel, some_left, some_right, some_both, level_in, loop_in, Shut, AreShut, Open, shut_in, all_in, turned_shut, event_free, IsOnLevel, one_case, called_case, via_case, each_left, each_right}
 use Rattle.expanded_terms.proofs.RankedChartTerms.{mapped_numbers}
-use Rattle.expanded_terms.proofs.TiesWithin.{split_among, flat_among, between_both}
+use Rattle.expanded_terms.proofs.TiesWithin.{split_among, flat_among}
 
--- ---- events in loops
-
-abbrev mutual
-  -- the numbers of the events in loops
-  pub in_loops : Expansion NumberedEvent → List ℕ
-  in_loops (Event e) = []
-  in_loops (InRow xs) = all_in_loops xs
-  in_loops (Aside xs) = all_in_loops xs
-  in_loops (OneOf xs) = all_in_loops xs
-  in_loops (Exception x) = in_loops x
-  in_loops (Turns n lower upper x) = numbers_of_events x
-  in_loops (Tied x ps) = in_loops x
-
-  pub all_in_loops : Expansions NumberedEvent → List ℕ
-  all_in_loops no_parts = []
-  all_in_loops (part_and x xs) = in_loops x ++ all_in_loops xs
-
-abbrev pub IsFreeOf : Expansion NumberedEvent → ℕ → Type 0
-IsFreeOf x j = Among j (in_loops x) → ⊥
-
-abbrev all_numbers : Expansions NumberedEvent → List ℕ
-all_numbers xs = map (λ (e : NumberedEvent). e.number) (all_events_in xs)
-
-abbrev IsBetween : ℕ → ℕ → ℕ → Type 0
-IsBetween n m j = (n ≤ j) × (j < m)
-
-kept_among : (f : (ℕ × Tag) → Bool) (l : List (ℕ × Tag)) (p : ℕ × Tag) → Among p (filter f l) → Among p l × (f p ≡ true)
-kept_among f [] p h = elim h [ ]
-kept_among f (q ∷ l) p h = by (f q) refl h (kept_among f l p)
-  where
-    one : (q p : ℕ × Tag) (k : List (ℕ × Tag)) → f q ≡ true → Among p (q ∷ k) → (Among p k → Among p l × (f p ≡ true)) → Among p (q ∷ l) × (f p ≡ true)
-    one q _ k e first g = (first, e)
-    one q p k e (later i) g = let (j, d) = g i in (later j, d)
-
-    by : (b : Bool) → f q ≡ b → Among p (if b then q ∷ filter f l else filter f l) → (Among p (filter f l) → Among p l × (f p ≡ true)) → Among p (q ∷ l) × (f p ≡ true)
-    by true e i g = one q p (filter f l) e i g
-    by false e i g = let (j, d) = g i in (later j, d)
-
--- a number that has the tag shows it
-with_tag : (a : Tag) (sh : Shown) (j : ℕ) → Among j (numbers_with a sh) → Among (j, a) sh
-with_tag a sh j h =
-    let (p, e, i) = map_among (λ (p : ℕ × Tag). p.0) (filter (λ p. is_same_tag p.1 a) sh) h in
-    let (k, s) = kept_among (λ p. is_same_tag p.1 a) sh p i in
-    subst (λ (m : ℕ). Among (m, a) sh) e (subst (λ (b : Tag). Among (p.0, b) sh) (same_tag p.1 a s) k)
-
--- Seen: the tags that may be seen; Looped: those that may be seen of an event in a loop
-record IsFree (Seen Looped : Tag → Type 0) (n : ℕ) (e : Expanded) : Type 0 where
-  ties : EachTie IsFreeOf e.part
-  order : n ≤ e.next
-  numbers : (j : ℕ) → Among j (numbers_of_events e.part) → IsBetween n e.next j
-  inner : (j : ℕ) → Among j (in_loops e.part) → IsBetween n e.next j
-  shown : (p : ℕ × Tag) → Among p e.shown → IsBetween n e.next p.0
-  seen : (p : ℕ × Tag) → Among p e.shown → Seen p.1
-  loop : (p : ℕ × Tag) → Among p e.shown → Among p.0 (in_loops e.part) → Looped p.1
-
-record AreFree (Seen Looped : Tag → Type 0) (n : ℕ) (l : ExpandedParts) : Type 0 where
-  ties : EachTies IsFreeOf l.parts
-  order : n ≤ l.next
-  numbers : (j : ℕ) → Among j (all_numbers l.parts) → IsBetween n l.next j
-  inner : (j : ℕ) → Among j (all_in_loops l.parts) → IsBetween n l.next j
-  shown : (p : ℕ × Tag) → Among p l.shown → IsBetween n l.next p.0
-  seen : (p : ℕ × Tag) → Among p l.shown → Seen p.1
-  loop : (p : ℕ × Tag) → Among p l.shown → Among p.0 (all_in_loops l.parts) → Looped p.1
-
-abbrev Implies : (Tag → Type 0) → (Tag → Type 0) → Type 0
-Implies P Q = (t : Tag) → P t → Q t
-
-module _ (S L : Tag → Type 0) where
-  none_free : (n : ℕ) → AreFree S L n (nothing n)
-  none_free n = record { ties = tt; order = omega arith; numbers = λ j h. elim h [ ]; inner = λ j h. elim h [ ]; shown = λ p h. elim h [ ]; seen = λ p h. elim h [ ]; loop = λ p h. elim h [ ] }
-
-  row_free : (n : ℕ) (l : ExpandedParts) → AreFree S L n l → IsFree S L n (in_row l)
-  row_free n l h = record { ties = h.ties; order = h.order; numbers = h.numbers; inner = h.inner; shown = h.shown; seen = h.seen; loop = h.loop }
-
-  aside_free : (n : ℕ) (l : ExpandedParts) → AreFree S L n l → IsFree S L n (aside l)
-  aside_free n l h = record { ties = h.ties; order = h.order; numbers = h.numbers; inner = h.inner; shown = h.shown; seen = h.seen; loop = h.loop }
-
-  one_free : (n : ℕ) (l : ExpandedParts) → AreFree S L n l → IsFree S L n (tree.one_of l)
-  one_free n l h = record { ties = h.ties; order = h.order; numbers = h.numbers; inner = h.inner; shown = h.shown; seen = h.seen; loop = h.loop }
-
-  exception_free : (n : ℕ) (e : Expanded) → IsFree S L n e → IsFree S L n (exception e)
-  exception_free n e h = record { ties = h.ties; order = h.order; numbers = h.numbers; inner = h.inner; shown = h.shown; seen = h.seen; loop = h.loop }
-
-  -- all that is seen of a loop is seen of events in a loop
-  turns_free : (M : Tag → Type 0) → Implies S M → (n lower : ℕ) (upper : Option ℕ) (e : Expanded) → IsFree S L n e → IsFree S M n (turns n lower upper e)
-  turns_free M up n lower upper e h = record { ties = h.ties; order = h.order; numbers = h.numbers; inner = h.numbers; shown = h.shown; seen = h.seen; loop = λ p i k. up p.1 (h.seen p i) }
-
-  tied_free : (n : ℕ) (ts : List (Tag × Tag)) (e : Expanded) → ((t : Tag × Tag) → Among t ts → (L t.0 → ⊥) × (L t.1 → ⊥)) → IsFree S L n e → IsFree S L n (tied ts e)
-  tied_free n ts e out h = record { ties = ((λ p i. pair p (flat_among (λ t. pairs_between (numbers_with t.0 e.shown) (numbers_with t.1 e.shown)) ts p i)), h.ties); order = h.order; numbers = h.numbers; inner = h.inner; shown = h.shown; seen = h.seen; loop = h.loop }
-    where
-      one : (a : Tag) (j : ℕ) → (L a → ⊥) → Among j (numbers_with a e.shown) → IsFreeOf e.part j
-      one a j out i k = out (h.loop (j, a) (with_tag a e.shown j i) k)
-
-      pair : (p : Pair) → (t : Tag × Tag) × Among t ts × Among p (pairs_between (numbers_with t.0 e.shown) (numbers_with t.1 e.shown)) → IsFreeOf e.part p.first × IsFreeOf e.part p.second
-      pair p (t, i, k) = let (a, b) = between_both (numbers_with t.0 e.shown) (numbers_with t.1 e.shown) p k in let (u, v) = out t i in (one t.0 p.first u a, one t.1 p.second v b)
-
-  put_free : (n : ℕ) (e : Expanded) (l : ExpandedParts) → IsFree S L n e → AreFree S L e.next l → AreFree S L n (tree.put e l)
-  put_free n e l h i = record {
-    ties = (h.ties, i.ties);
-    order = let a = h.order in let b = i.order in omega (arith, a, b);
-    numbers = λ j k. elim (split_among (numbers_of_events e.part) (all_numbers l.parts) j (subst (λ (ns : List ℕ). Among j ns) (map-append (λ (e : NumberedEvent). e.number) (events_in e.part) (all_events_in l.parts)) k)) [ inl a ↦ low j (h.numbers j a) | inr a ↦ high j (i.numbers j a) ];
-    inner = λ j k. elim (split_among (in_loops e.part) (all_in_loops l.parts) j k) [ inl a ↦ low j (h.inner j a) | inr a ↦ high j (i.inner j a) ];
-    shown = λ p k. elim (split_among e.shown l.shown p k) [ inl a ↦ low p.0 (h.shown p a) | inr a ↦ high p.0 (i.shown p a) ];
-    seen = λ p k. elim (split_among e.shown l.shown p k) [ inl a ↦ h.seen p a | inr a ↦ i.seen p a ];
-    loop = λ p k m. elim (split_among e.shown l.shown p k) [
-      | inl a ↦ elim (split_among (in_loops e.part) (all_in_loops l.parts) p.0 m) [ inl b ↦ h.loop p a b | inr b ↦ absurd (apart p.0 (h.shown p a) (i.inner p.0 b)) ]
-      | inr a ↦ elim (split_among (in_loops e.part) (all_in_loops l.parts) p.0 m) [ inl b ↦ absurd (apart p.0 (h.inner p.0 b) (i.shown p a)) | inr b ↦ i.loop p a b ]
-    ];
-  }
-    where
-      low : (j : ℕ) → IsBetween n e.next j → IsBetween n l.next j
-      low j (a, b) = let o = i.order in (a, omega (arith, b, o))
-
-      high : (j : ℕ) → IsBetween e.next l.next j → IsBetween n l.next j
-      high j (a, b) = let o = h.order in (omega (arith, a, o), b)
-
-      apart : (j : ℕ) → IsBetween n e.next j → IsBetween e.next l.next j → ⊥
-      apart j (a, b) (c, d) = omega (arith, b, c)
-
-  abbrev empty_part : ℕ → ExpandedParts
-  empty_part n = record { parts = part_and (InRow no_parts) no_parts; shown = []; next = n }
-
-  option_free : (n : ℕ) (e : Expanded) → IsFree S L n e → IsFree S L n (or_nothing e)
-  option_free n e h = by (put_free n e (empty_part e.next) h (record { ties = (tt, tt); order = omega arith; numbers = λ j i. elim i [ ]; inner = λ j i. elim i [ ]; shown = λ p i. elim i [ ]; seen = λ p i. elim i [ ]; loop = λ p i. elim i [ ] }))
-    where
-      by : AreFree S L n (tree.put e (empty_part e.next)) → IsFree S L n (or_nothing e)
-      by q = record { ties = q.ties; order = h.order; numbers = q.numbers; inner = q.inner; shown = h.shown; seen = h.seen; loop = λ p i. q.loop p (among_left e.shown [] p i) }
-
--- more may be seen
-module _ (S L T M : Tag → Type 0) (up : Implies S T) (over : Implies L M) where
-  wider : (n : ℕ) (e : Expanded) → IsFree S L n e → IsFree T M n e
-  wider n e h = record { ties = h.ties; order = h.order; numbers = h.numbers; inner = h.inner; shown = h.shown; seen = λ p i. up p.1 (h.seen p i); loop = λ p i k. over p.1 (h.loop p i k) }
-
-  all_wider : (n : ℕ) (l : ExpandedParts) → AreFree S L n l → AreFree T M n l
-  all_wider n l h = record { ties = h.ties; order = h.order; numbers = h.numbers; inner = h.inner; shown = h.shown; seen = λ p i. up p.1 (h.seen p i); loop = λ p i k. over p.1 (h.loop p i k) }
-
--- tags change
-module _ (S L T M : Tag → Type 0) (f : Tag → List Tag) (up : (t : Tag) → S t → (a : Tag) → Among a (f t) → T a) (over : (t : Tag) → L t → (a : Tag) → Among a (f t) → M a) where
-  past_free : (n : ℕ) (e : Expanded) → IsFree S L n e → IsFree T M n (past f e)
-  past_free n e h = record {
-    ties = h.ties;
-    order = h.order;
-    numbers = h.numbers;
-    inner = h.inner;
-    shown = λ p i. at p (flat_among (λ p. map (λ a. (p.0, a)) (f p.1)) e.shown p i) (λ r j a k. h.shown r j);
-    seen = λ p i. tag p (flat_among (λ p. map (λ a. (p.0, a)) (f p.1)) e.shown p i) (λ r j a k. up r.1 (h.seen r j) a k);
-    loop = λ p i m. looped_tag p m (flat_among (λ p. map (λ a. (p.0, a)) (f p.1)) e.shown p i);
-  }
-    where
-      at : (p : ℕ × Tag) → ((r : ℕ × Tag) × Among r e.shown × Among p (map (λ a. (r.0, a)) (f r.1))) → ((r : ℕ × Tag) → Among r e.shown → (a : Tag) → Among a (f r.1) → IsBetween n e.next r.0) → IsBetween n e.next p.0
-      at p (r, j, k) g = let (a, q, l) = map_among (λ (a : Tag). (r.0, a)) (f r.1) k in subst (λ (p : ℕ × Tag). IsBetween n e.next p.0) q (g r j a l)
-
-      tag : (p : ℕ × Tag) → ((r : ℕ × Tag) × Among r e.shown × Among p (map (λ a. (r.0, a)) (f r.1))) → ((r : ℕ × Tag) → Among r e.shown → (a : Tag) → Among a (f r.1) → T a) → T p.1
-      tag p (r, j, k) g = let (a, q, l) = map_among (λ (a : Tag). (r.0, a)) (f r.1) k in subst (λ (p : ℕ × Tag). T p.1) q (g r j a l)
-
-      looped_tag : (p : ℕ × Tag) → Among p.0 (in_loops e.part) → ((r : ℕ × Tag) × Among r e.shown × Among p (map (λ a. (r.0, a)) (f r.1))) → M p.1
-      looped_tag p m (r, j, k) =
-          let (a, q, l) = map_among (λ (a : Tag). (r.0, a)) (f r.1) k in
-          let n : Among r.0 (in_loops e.part) = subst (λ (i : ℕ). Among i (in_loops e.part)) (sym (ap (λ (p : ℕ × Tag). p.0) q)) m in
-          subst (λ (p : ℕ × Tag). M p.1) q (over r.1 (h.loop r j n) a l)
-
--- ---- tags of gates with inner events
-
-abbrev HasSome : List InnerEvent → Type 0
-HasSome es = (e : InnerEvent) × Among e es
-
--- of a gate that the part has
-abbrev InGate : (List ℕ → GateEvents) → Tag → Type 0
-InGate F (Own n) = ⊥
-InGate F (Via g) = HasSome (listed (F g))
-InGate F (On z g) = ⊥
-
--- that it has in a loop
-abbrev InLoop : (List ℕ → GateEvents) → Tag → Type 0
-InLoop F (Own n) = ⊥
-InLoop F (Via g) = HasSome (looped (F g))
-InLoop F (On z g) = ⊥
-
--- the same with those of the level itself
-abbrev OnLevel : (List ℕ → GateEvents) → Tag → Type 0
-OnLevel F (Own n) = Unit {0}
-OnLevel F (Via g) = HasSome (listed (F g))
-OnLevel F (On z g) = Unit {0}
-
-some_left : (a b : List InnerEvent) → HasSome a → HasSome (a ++ b)
-some_left a b (e, i) = (e, among_left a b e i)
-
-some_right : (a b : List InnerEvent) → HasSome b → HasSome (a ++ b)
-some_right a b (e, i) = (e, among_right a b e i)
-
-split_some : (a b : List InnerEvent) → HasSome (a ++ b) → HasSome a ⊎ HasSome b
-split_some a b (e, i) = elim (split_among a b e i) [ inl k ↦ inl (e, k) | inr k ↦ inr (e, k) ]
-
-module _ (F G : List ℕ → GateEvents) where
-  gate_in : ((g : List ℕ) → HasSome (listed (F g)) → HasSome (listed (G g))) → Implies (InGate F) (InGate G)
-  gate_in f (Own n) h = h
-  gate_in f (Via g) h = f g h
-  gate_in f (On z g) h = h
-
-  level_in : ((g : List ℕ) → HasSome (listed (F g)) → HasSome (listed (G g))) → Implies (OnLevel F) (OnLevel G)
-  level_in f (Own n) h = h
-  level_in f (Via g) h = f g h
-  level_in f (On z g) h = h
-
-  loop_in : ((g : List ℕ) → HasSome (looped (F g)) → HasSome (looped (G g))) → Implies (InLoop F) (InLoop G)
-  loop_in f (Own n) h = h
-  loop_in f (Via g) h = f g h
-  loop_in f (On z g) h = h
-
-abbrev Shut : (List ℕ → GateEvents) → ℕ → Expanded → Type 0
-Shut F n e = IsFree (InGate F) (InLoop F) n e
-
-abbrev AreShut : (List ℕ → GateEvents) → ℕ → ExpandedParts → Type 0
-AreShut F n l = AreFree (InGate F) (InLoop F) n l
-
-abbrev Open : (List ℕ → GateEvents) → ℕ → ExpandedParts → Type 0
-Open F n l = AreFree (OnLevel F) (InLoop F) n l
-
-shut_in : (F G : List ℕ → GateEvents) → ((g : List ℕ) → HasSome (listed (F g)) → HasSome (listed (G g))) → ((g : List ℕ) → HasSome (looped (F g)) → HasSome (looped (G g))) → (n : ℕ) (e : Expanded) → Shut F n e → Shut G n e
-shut_in F G f l n e h = wider (InGate F) (InLoop F) (InGate G) (InLoop G) (gate_in F G f) (loop_in F G l) n e h
-
-all_in : (F G : List ℕ → GateEvents) → ((g : List ℕ) → HasSome (listed (F g)) → HasSome (listed (G g))) → ((g : List ℕ) → HasSome (looped (F g)) → HasSome (looped (G g))) → (n : ℕ) (l : ExpandedParts) → AreShut F n l → AreShut G n l
-all_in F G f l n e h = all_wider (InGate F) (InLoop F) (InGate G) (InLoop G) (gate_in F G f) (loop_in F G l) n e h
-
-turned_shut : (F : List ℕ → GateEvents) (n lower : ℕ) (upper : Option ℕ) (e : Expanded) → Shut F n e → Shut (λ g. in_loop (F g)) n (turns n lower upper e)
-turned_shut F n lower upper e h =
-    wider (InGate F) (InLoop (λ g. in_loop (F g))) (InGate (λ g. in_loop (F g))) (InLoop (λ g. in_loop (F g))) (gate_in F (λ g. in_loop (F g)) (λ g i. i)) (λ t i. i) n (turns n lower upper e)
-    (turns_free (InGate F) (InLoop F) (InLoop (λ g. in_loop (F g))) up n lower upper e h)
-  where
-    up : Implies (InGate F) (InLoop (λ g. in_loop (F g)))
-    up (Own n) h = h
-    up (Via g) h = h
-    up (On z g) h = h
-
--- ---- events
-
-some_here : (b : Bool) (n : EventNode) → b ≡ true → HasSome (listed (these_if b (one_event (here n))))
-some_here true n e = (here n, first)
-some_here false n e = absurd cc
-
-abbrev tagged : ℕ → Tag → ℕ × Tag
-tagged n a = (n, a)
-
-gate_tag : (m : ℕ) (k : EventNode) (t : Target) → k.event.target ≡ t → (a : Tag) → Among a (Own m ∷ gate_tags t) → OnLevel (event_inner k) a
-gate_tag m k Nobody e a i = single a i
-  where
-    single : (a : Tag) → Among a (Own m ∷ []) → OnLevel (event_inner k) a
-    single _ first = tt
-    single a (later i) = elim i [ ]
-gate_tag m k (Env None) e a i = single a i
-  where
-    single : (a : Tag) → Among a (Own m ∷ []) → OnLevel (event_inner k) a
-    single _ first = tt
-    single a (later i) = elim i [ ]
-gate_tag m k (Env (Some g)) e a i = two a i
-  where
-    gate : HasSome (listed (event_inner k g))
-    gate = some_here (is_gate k.event.target g) k (subst (λ (t : Target). is_gate t g ≡ true) (sym e) ((bytes_eq-Decides g g).1 refl))
-
-    two : (a : Tag) → Among a (Own m ∷ Via g ∷ []) → OnLevel (event_inner k) a
-    two _ first = tt
-    two _ (later first) = gate
-    two a (later (later i)) = elim i [ ]
-gate_tag m k (Instance name) e a i = single a i
-  where
-    single : (a : Tag) → Among a (Own m ∷ []) → OnLevel (event_inner k) a
-    single _ first = tt
-    single a (later i) = elim i [ ]
-gate_tag m k (Gate name g) e a i = single a i
-  where
-    single : (a : Tag) → Among a (Own m ∷ []) → OnLevel (event_inner k) a
-    single _ first = tt
-    single a (later i) = elim i [ ]
-
-event_free : (es : List GateEnd) (around : Around) (n : ℕ) (k : EventNode) → IsFree (OnLevel (event_inner k)) (InLoop (event_inner k)) n (tree.event n (happening es around k))
-event_free es around n k = record {
-  ties = tt;
-  order = omega arith;
-  numbers = λ j i. only n j i;
-  inner = λ j i. elim i [ ];
-  shown = λ p i. let (a, e, l) = map_among (tagged n) (Own k.number ∷ gate_tags k.event.target) i in subst (λ (p : ℕ × Tag). IsBetween n (suc n) p.0) e (omega arith, omega arith);
-  seen = λ p i. let (a, e, l) = map_among (tagged n) (Own k.number ∷ gate_tags k.event.target) i in subst (λ (p : ℕ × Tag). OnLevel (event_inner k) p.1) e (gate_tag k.number k k.event.target refl a l);
-  loop = λ p i l. elim l [ ];
-}
-  where
-    only : (n j : ℕ) → Among j (n ∷ []) → IsBetween n (suc n) j
-    only n _ first = (omega arith, omega arith)
-    only n j (later i) = elim i [ ]
-
--- ---- tags
-
-abbrev IsOnLevel : Tag → Type 0
-IsOnLevel (Own n) = Unit {0}
-IsOnLevel (Via g) = ⊥
-IsOnLevel (On z g) = Unit {0}
-
-one_case : (P : Tag → Type 0) (t a : Tag) → P t → Among a (t ∷ []) → P a
-one_case P t _ p first = p
-one_case P t a p (later i) = elim i [ ]
-
-called_case : (P : Tag → Type 0) (b : Bool) (o : Option (List ℕ)) (g : List ℕ) (others : List Tag) → ((own : List ℕ) → b ≡ true → o ≡ Some own → P (On own g)) → ((a : Tag) → (o ≡ None) ⊎ (b ≡ false) → Among a others → P a)
-    → (a : Tag) → Among a (called_tag b o g others) → P a
-called_case P true (Some own) g others f k a i = one_case P (On own g) a (f own refl refl) i
-called_case P true None g others f k a i = k a (inl refl) i
-called_case P false o g others f k a i = k a (inr refl) i
-
-via_case : (P : Tag → Type 0) (o : Option (List ℕ)) (a : Tag) → ((to : List ℕ) → o ≡ Some to → P (Via to)) → Among a (via_list o) → P a
-via_case P None a f i = elim i [ ]
-via_case P (Some to) a f i = one_case P (Via to) a (f to refl) i
-
-module _ (P : BodyLevel → Type 0) where
-  each_left : (xs ys : List BodyLevel) → EachLevel P (xs ++ ys) → EachLevel P xs
-  each_left [] ys h = tt
-  each_left (x ∷ xs) ys h = (h.0, each_left xs ys h.1)
-
-  each_right : (xs ys : List BodyLevel) → EachLevel P (xs ++ ys) → EachLevel P ys
-  each_right [] ys h = h
-  each_right (x ∷ xs) ys h = each_right xs ys h.1
+-- the body of each refining chart
+abbrev AreEachRefining : (BodyLevel → Type 0) → List Refining → Type 0
+AreEachRefining P [] = Unit {0}
+AreEachRefining P (refining held ms ∷ rs) = EachLevel P (levels_from None held) × AreEachRefining P rs
 
 -- ---- constructs; the events of each named chart's gates are known
 
@@ -697,10 +379,128 @@ module _ (ends_of : WovenItems → List GateEnd) (chart : tree.Charts) (found : 
         (λ g h. some_is (looped (operands_inner found form (body_and b bs) g)) (looped (level_inner found b g) ++ looped (operands_inner found form bs g)) (operands_loop form (level_inner found b g) (operands_inner found form bs g)) (some_right (looped (level_inner found b g)) (looped (operands_inner found form bs g)) h))
         (expand_level chart ends_of a n b).next (expand_operands chart ends_of a (expand_level chart ends_of a n b).next bs) (operands_free a (expand_level chart ends_of a n b).next form bs (each_right IsQuiet (levels_from (Some form) b) (operands_levels form bs) q)))
 
--- ---- charts
+  -- ---- refining charts, and what they leave of a body
 
-some_both : (a b c d : List InnerEvent) → (HasSome a → HasSome c) → (HasSome b → HasSome d) → HasSome (a ++ b) → HasSome (c ++ d)
-some_both a b c d f g h = elim (split_some a b h) [ inl k ↦ some_left c d (f k) | inr k ↦ some_right c d (g k) ]
+  module _ (Of : GateEvents → List InnerEvent) (beside_of : (x : WovenItem) (a b : GateEvents) → Of (beside x a b) ≡ Of a ++ Of b) where
+    both_held : (x : WovenItem) (a b c d : GateEvents) → (HasSome (Of a) → HasSome (Of c)) → (HasSome (Of b) → HasSome (Of d)) → HasSome (Of (beside x a b)) → HasSome (Of (beside x c d))
+    both_held x a b c d f h i = some_is (Of (beside x c d)) (Of c ++ Of d) (beside_of x c d) (some_both (Of a) (Of b) (Of c) (Of d) f h (some_is (Of a ++ Of b) (Of (beside x a b)) (sym (beside_of x a b)) i))
+
+    held_behind : (x : WovenItem) (c d : GateEvents) → HasSome (Of d) → HasSome (Of (beside x c d))
+    held_behind x c d h = some_is (Of (beside x c d)) (Of c ++ Of d) (beside_of x c d) (some_right (Of c) (Of d) h)
+
+    -- the gates of what is left are those of the whole
+    module _ (rs : List Refinement) (g : List ℕ) where
+      events_held : (ks : List EventNode) → HasSome (Of (events_inner (left_of rs ks) g)) → HasSome (Of (events_inner ks g))
+      events_held [] h = h
+      events_held (k ∷ ks) h = by (is_decomposed rs k) h (events_held ks)
+        where
+          by : (b : Bool) → HasSome (Of (events_inner (cond (not b) (k ∷ left_of rs ks) (left_of rs ks)) g)) → (HasSome (Of (events_inner (left_of rs ks) g)) → HasSome (Of (events_inner ks g))) → HasSome (Of (events_inner (k ∷ ks) g))
+          by true h f = held_behind (Single k) (event_inner k g) (events_inner ks g) (f h)
+          by false h f = both_held (Single k) (event_inner k g) (events_inner (left_of rs ks) g) (event_inner k g) (events_inner ks g) (λ i. i) f h
+
+      items_held : (called : List Call) (xs : WovenItems) → HasSome (Of (items_inner found called (without_decomposed rs xs) g)) → HasSome (Of (items_inner found called xs g))
+      items_held called no_items h = h
+      items_held called (item_and (Single k) xs) h = by (is_decomposed rs k) h (items_held called xs)
+        where
+          by : (b : Bool) → HasSome (Of (items_inner found called (if b then without_decomposed rs xs else item_and (Single k) (without_decomposed rs xs)) g))
+              → (HasSome (Of (items_inner found called (without_decomposed rs xs) g)) → HasSome (Of (items_inner found called xs g))) → HasSome (Of (items_inner found called (item_and (Single k) xs) g))
+          by true h f = held_behind (Single k) (event_inner k g) (items_inner found called xs g) (f h)
+          by false h f = both_held (Single k) (event_inner k g) (items_inner found called (without_decomposed rs xs) g) (event_inner k g) (items_inner found called xs g) (λ i. i) f h
+      items_held called (item_and (Coregion ks) xs) h = both_held (Coregion ks) (events_inner (left_of rs ks) g) (items_inner found called (without_decomposed rs xs) g) (events_inner ks g) (items_inner found called xs g) (events_held ks) (items_held called xs) h
+      items_held called (item_and (Inline form part bs) xs) h =
+          let x = Inline form part bs in both_held x (item_inner found called x g) (items_inner found called (without_decomposed rs xs) g) (item_inner found called x g) (items_inner found called xs g) (λ i. i) (items_held called xs) h
+      items_held called (item_and (Refer part) xs) h =
+          let x = Refer part in both_held x (item_inner found called x g) (items_inner found called (without_decomposed rs xs) g) (item_inner found called x g) (items_inner found called xs g) (λ i. i) (items_held called xs) h
+
+  module _ (rs : List Refinement) where
+    called_held : (z g : List ℕ) (xs : WovenItems) → HasSome (looped (inner_of found (without_decomposed rs xs) z g)) → HasSome (looped (inner_of found xs z g))
+    called_held z g no_items h = h
+    called_held z g (item_and (Single k) xs) h = by (is_decomposed rs k) h (called_held z g xs)
+      where
+        by : (b : Bool) → HasSome (looped (inner_of found (if b then without_decomposed rs xs else item_and (Single k) (without_decomposed rs xs)) z g))
+            → (HasSome (looped (inner_of found (without_decomposed rs xs) z g)) → HasSome (looped (inner_of found xs z g))) → HasSome (looped (inner_of found xs z g))
+        by true h f = f h
+        by false h f = f h
+    called_held z g (item_and (Coregion ks) xs) h = called_held z g xs h
+    called_held z g (item_and (Inline form part bs) xs) h =
+        let own = looped (inner_of_item found (Inline form part bs) z g) in
+        some_both own (looped (inner_of found (without_decomposed rs xs) z g)) own (looped (inner_of found xs z g)) (λ i. i) (called_held z g xs) h
+    called_held z g (item_and (Refer part) xs) h =
+        let own = looped (inner_of_item found (Refer part) z g) in
+        some_both own (looped (inner_of found (without_decomposed rs xs) z g)) own (looped (inner_of found xs z g)) (λ i. i) (called_held z g xs) h
+
+    levels_left : (xs : WovenItems) → items_levels (without_decomposed rs xs) ≡ items_levels xs
+    levels_left no_items = refl
+    levels_left (item_and (Single k) xs) = by (is_decomposed rs k) (levels_left xs)
+      where
+        by : (b : Bool) → items_levels (without_decomposed rs xs) ≡ items_levels xs → items_levels (if b then without_decomposed rs xs else item_and (Single k) (without_decomposed rs xs)) ≡ items_levels xs
+        by true e = e
+        by false e = e
+    levels_left (item_and (Coregion ks) xs) = levels_left xs
+    levels_left (item_and (Inline form part bs) xs) = ap (λ l. operands_levels form bs ++ l) (levels_left xs)
+    levels_left (item_and (Refer part) xs) = levels_left xs
+
+  -- above a refining chart all tags are the level's own
+  stands_seen : (F : List ℕ → GateEvents) (ms : List Match) (d : ℕ) (a : Tag) → Among a (stands_for ms d) → OnLevel F a
+  stands_seen F [] d a i = elim i [ ]
+  stands_seen F (m ∷ ms) d a i = by (m.inner.number == d) i (stands_seen F ms d a)
+    where
+      by : (b : Bool) → Among a (if b then Own m.event.number ∷ [] else stands_for ms d) → (Among a (stands_for ms d) → OnLevel F a) → OnLevel F a
+      by true i f = one_case (OnLevel F) (Own m.event.number) a tt i
+      by false i f = f i
+
+  module _ (F G : List ℕ → GateEvents) (ms : List Match) where
+    refining_seen : (t : Tag) → OnLevel G t → (a : Tag) → Among a (past_refining ms t) → OnLevel F a
+    refining_seen (Own d) h a i = stands_seen F ms d a i
+    refining_seen (Via g) h a i = elim i [ ]
+    refining_seen (On z g) h a i = elim i [ ]
+
+    refining_loop : (t : Tag) → InLoop G t → (a : Tag) → Among a (past_refining ms t) → InLoop F a
+    refining_loop (Own d) h a i = absurd h
+    refining_loop (Via g) h a i = elim i [ ]
+    refining_loop (On z g) h a i = elim i [ ]
+
+  -- some items of a level, or all, tied as the level
+  module _ (held : WovenItems) (pairs : List Pair) where
+    abbrev gates_held : List ℕ → GateEvents
+    gates_held = items_inner found (calls held) held
+
+    abbrev all_ties : List (Tag × Tag)
+    all_ties = ties held pairs (calls held) (ends_of held)
+
+    whole_tied : (n : ℕ) (e : Expanded) → IsFree (OnLevel gates_held) (InLoop gates_held) n e → IsFree (OnLevel gates_held) (InLoop gates_held) n (tied all_ties e)
+    whole_tied n e h = tied_free (OnLevel gates_held) (InLoop gates_held) n all_ties e (λ t i. let (u, v) = level_tied held pairs (ends_of held) t i in (no_loop gates_held t.0 u, no_loop gates_held t.1 v)) h
+
+    left_free : (rs : List Refinement) (a : Around) (n : ℕ) → EachLevel IsQuiet (levels_from None (level [] held pairs)) → IsFree (OnLevel gates_held) (InLoop gates_held) n (in_row (expand_items chart ends_of (gates_of held (ends_of held)) a n (without_decomposed rs held)))
+    left_free rs a n q =
+        let left = without_decomposed rs held in
+        let F : List ℕ → GateEvents = items_inner found (calls held) left in
+        wider (OnLevel F) (InLoop F) (OnLevel gates_held) (InLoop gates_held) (level_in F gates_held (λ g. items_held listed item_gate rs g (calls held) held)) (loop_in F gates_held (λ g. items_held looped item_loop rs g (calls held) held))
+        n (in_row (expand_items chart ends_of (gates_of held (ends_of held)) a n left)) (row_free (OnLevel F) (InLoop F) n (expand_items chart ends_of (gates_of held (ends_of held)) a n left)
+        (items_free held q.0 a n left (λ z g. called_held rs z g held) (subst (λ (ls : List BodyLevel). EachLevel IsQuiet ls) (sym (levels_left rs held)) q.1)))
+
+  refinings_free : (F : List ℕ → GateEvents) (far_of : EventNode → Far) (n : ℕ) (rs : List Refining) → AreEachRefining IsQuiet rs → Open F n (expand_refinings chart ends_of far_of n rs)
+  refinings_free F far_of n [] q = none_free (OnLevel F) (InLoop F) n
+  refinings_free F far_of n (refining (level cover held pairs) ms ∷ rs) (q, qs) =
+      let G : List ℕ → GateEvents = items_inner found (calls held) held in
+      let row = in_row (expand_items chart ends_of (gates_of held (ends_of held)) (refining_under far_of ms) n held) in
+      let whole = tied (ties held pairs (calls held) (ends_of held)) row in
+      put_free (OnLevel F) (InLoop F) n (past (past_refining ms) whole) (expand_refinings chart ends_of far_of row.next rs)
+      (past_free (OnLevel G) (InLoop G) (OnLevel F) (InLoop F) (past_refining ms) (refining_seen F G ms) (refining_loop F G ms) n whole
+      (whole_tied held pairs n row (row_free (OnLevel G) (InLoop G) n (expand_items chart ends_of (gates_of held (ends_of held)) (refining_under far_of ms) n held) (items_free held q.0 (refining_under far_of ms) n held (λ z g h. h) q.1))))
+      (refinings_free F far_of row.next rs qs)
+
+  refined_free : (a : Around) (n : ℕ) (cover : List (List ℕ)) (held : WovenItems) (pairs : List Pair) (rs : List Refinement) (refined : List Refining) → EachLevel IsQuiet (levels_from None (level cover held pairs)) → AreEachRefining IsQuiet refined
+      → Shut (level_inner found (level cover held pairs)) n (expand_refined chart ends_of a n held pairs rs refined)
+  refined_free a n cover held pairs rs refined q qs =
+      let F : List ℕ → GateEvents = items_inner found (calls held) held in
+      let row = in_row (expand_items chart ends_of (gates_of held (ends_of held)) a n (without_decomposed rs held)) in
+      let parts = tree.put row (expand_refinings chart ends_of (far_end (ends_of held) a) row.next refined) in
+      past_free (OnLevel F) (InLoop F) (InGate F) (InLoop F) past_level (level_seen F) (level_loop F) n (tied (ties held pairs (calls held) (ends_of held)) (aside parts))
+      (whole_tied held pairs n (aside parts) (aside_free (OnLevel F) (InLoop F) n parts
+      (put_free (OnLevel F) (InLoop F) n row (expand_refinings chart ends_of (far_end (ends_of held) a) row.next refined) (left_free held pairs rs a n q) (refinings_free F (far_end (ends_of held) a) row.next refined qs))))
+
+-- ---- charts
 
 some_seen : (name : List ℕ) (a : GateEvents) → HasSome (listed a) → HasSome (listed (seen_in name a))
 some_seen name no_event h = h
@@ -734,20 +534,42 @@ module _ (law : EndsAreFound) (table : Table) where
       body_in_content : Woven → Option Body
       body_in_content w = body_in (Some (record { name = c.name; decls = c.decls; content = w }))
 
-  module _ (ends_of : WovenItems → List GateEnd) (whole : (c : ChartEntry) → Among c table → refinements c.decls ≡ []) (quiet : IsQuietTable table) where
+  module _ (ends_of : WovenItems → List GateEnd) (quiet : IsQuietTable table) where
     nothing_free : (F : List ℕ → GateEvents) (n : ℕ) → Shut F n (in_row (nothing n))
     nothing_free F n = row_free (InGate F) (InLoop F) n (nothing n) (none_free (InGate F) (InLoop F) n)
 
-    woven_free : (depth : ℕ) (name : List ℕ) (gates : GateMap) (n : ℕ) (known : (name : List ℕ) (gates : GateMap) (n : ℕ) → Shut (chart_gates table name) n (expand_charts ends_of table depth name gates n)) (c : ChartEntry) (w : Woven)
-        → chart_at table name ≡ Some c → c.content ≡ w → GoesTo table EXPANDED_NESTING name → IsQuietWoven table w → Shut (chart_gates table name) n (expand_woven (expand_charts ends_of table depth) ends_of table gates n [] w)
-    woven_free depth name gates n known c (Basic b) at is deep q =
-        let same : (g : List ℕ) → chart_gates table name g ≡ seen_in name (level_inner (chart_gates table) b g) = λ g. opened EXPANDED_NESTING name c b g at is deep in
-        shut_in (level_inner (chart_gates table) b) (chart_gates table name)
-        (λ g h. subst (λ (a : GateEvents). HasSome (listed a)) (sym (same g)) (some_seen name (level_inner (chart_gates table) b g) h))
-        (λ g h. subst (λ (a : GateEvents). HasSome (looped a)) (sym (same g)) (looped_seen name (level_inner (chart_gates table) b g) h))
-        n (expand_level (expand_charts ends_of table depth) ends_of (under gates) n b)
-        (level_free ends_of (expand_charts ends_of table depth) (chart_gates table) known (under gates) n None b q)
-    woven_free depth name gates n known c (HighLevel drawn) at is deep q = absurd q
+    refined_quiet : (held : WovenItems) (rs : List Refinement) → AreEachRefining (IsQuietLevel table) (refinings table held rs)
+    refined_quiet held [] = tt
+    refined_quiet held (r ∷ rs) = entry (chart_at table r.chart) (λ c e. quiet c (entry_among table r.chart c e).0) (refined_quiet held rs)
+      where
+        content : (c : ChartEntry) (w : Woven) → IsQuietWoven table w → AreEachRefining (IsQuietLevel table) (refinings table held rs)
+            → AreEachRefining (IsQuietLevel table) (refining_by r.instance held (body_in (Some (record { name = c.name; decls = c.decls; content = w }))) ++ refinings table held rs)
+        content c (Basic (level cover inner pairs)) q qs = (q, qs)
+        content c (HighLevel drawn) q qs = absurd q
+
+        entry : (o : Option ChartEntry) → ((c : ChartEntry) → o ≡ Some c → IsQuietChart table c) → AreEachRefining (IsQuietLevel table) (refinings table held rs) → AreEachRefining (IsQuietLevel table) (refining_by r.instance held (body_in o) ++ refinings table held rs)
+        entry None f qs = qs
+        entry (Some c) f qs = content c c.content (f c refl).quiet qs
+
+    module _ (depth : ℕ) (name : List ℕ) (gates : GateMap) (n : ℕ) (known : (name : List ℕ) (gates : GateMap) (n : ℕ) → Shut (chart_gates table name) n (expand_charts ends_of table depth name gates n)) where
+      -- what a body shows the chart shows
+      body_shut : (c : ChartEntry) (b : Body) → chart_at table name ≡ Some c → c.content ≡ Basic b → GoesTo table EXPANDED_NESTING name → (e : Expanded) → Shut (level_inner (chart_gates table) b) n e → Shut (chart_gates table name) n e
+      body_shut c b at is deep e h =
+          let same : (g : List ℕ) → chart_gates table name g ≡ seen_in name (level_inner (chart_gates table) b g) = λ g. opened EXPANDED_NESTING name c b g at is deep in
+          shut_in (level_inner (chart_gates table) b) (chart_gates table name)
+          (λ g h. subst (λ (a : GateEvents). HasSome (listed a)) (sym (same g)) (some_seen name (level_inner (chart_gates table) b g) h))
+          (λ g h. subst (λ (a : GateEvents). HasSome (looped a)) (sym (same g)) (looped_seen name (level_inner (chart_gates table) b g) h)) n e h
+
+      woven_free : (c : ChartEntry) (rs : List Refinement) (w : Woven) → chart_at table name ≡ Some c → c.content ≡ w → GoesTo table EXPANDED_NESTING name → IsQuietWoven table w
+          → Shut (chart_gates table name) n (expand_woven (expand_charts ends_of table depth) ends_of table gates n rs w)
+      woven_free c [] (Basic b) at is deep q =
+          body_shut c b at is deep (expand_level (expand_charts ends_of table depth) ends_of (under gates) n b) (level_free ends_of (expand_charts ends_of table depth) (chart_gates table) known (under gates) n None b q)
+      woven_free c (r ∷ rs) (Basic (level cover held pairs)) at is deep q =
+          let refined = refinings table held (r ∷ rs) in
+          body_shut c (level cover held pairs) at is deep (expand_refined (expand_charts ends_of table depth) ends_of (refined_under gates pairs refined) n held pairs (r ∷ rs) refined)
+          (refined_free ends_of (expand_charts ends_of table depth) (chart_gates table) known (refined_under gates pairs refined) n cover held pairs (r ∷ rs) refined q (refined_quiet held (r ∷ rs)))
+      woven_free c [] (HighLevel drawn) at is deep q = absurd q
+      woven_free c (r ∷ rs) (HighLevel drawn) at is deep q = absurd q
 
     charts_free : (depth : ℕ) (name : List ℕ) (gates : GateMap) (n : ℕ) → Shut (chart_gates table name) n (expand_charts ends_of table depth name gates n)
     charts_free zero name gates n = nothing_free (chart_gates table name) n
@@ -759,8 +581,7 @@ module _ (law : EndsAreFound) (table : Table) where
         entry known (Some c) f =
             let (at, there) = f c refl in
             let is = quiet c there.0 in
-            subst (λ (rs : List Refinement). Shut (chart_gates table name) n (expand_woven (expand_charts ends_of table depth) ends_of table gates n rs c.content)) (sym (whole c there.0))
-            (woven_free depth name gates n known c c.content at refl (subst (GoesTo table EXPANDED_NESTING) there.1 is.deep) is.quiet)
+            woven_free depth name gates n known c (refinements c.decls) c.content at refl (subst (GoesTo table EXPANDED_NESTING) there.1 is.deep) is.quiet
 
     pub gate_ties_free : (depth : ℕ) (name : List ℕ) (gates : GateMap) (n : ℕ) → EachTie IsFreeOf (expand_charts ends_of table depth name gates n).part
     gate_ties_free depth name gates n = (charts_free depth name gates n).ties

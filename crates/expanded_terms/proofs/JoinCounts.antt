@@ -1,5 +1,6 @@
--- Where no instance is decomposed, no more numbers have the tag of a gate than the gate has inner events. So the joins of a reference come
--- to no more by tags than by inner events that are counted in the table, and neither does the size of a chart.
+-- No more numbers have the tag of a gate than the gate has inner events, which are those of the whole body where instances are decomposed.
+-- So the joins of a reference come to no more by tags than by inner events that are counted in the table, and neither does the size of a
+-- chart.
 use Rattle.std.specs.Prelude.{ℕ, zero, suc, ◌+◌, ◌≤◌, Bool, true, false, ◌&&◌, List, [], ◌∷◌, ◌++◌, Option, None, Some, length}
 use Rattle.std.specs.Str.{bytes_eq}
 use Rattle.std.proofs.Common.{◌≡◌, refl, sym, ◌∙◌, ap, subst, arith, length-append}
@@ -21,16 +22,20 @@ use Rattle.msc_meaning.specs.Bodies.{EventNode, ReferencePart, Body, level, Wove
 use Rattle.msc_meaning.specs.Calls.{Call, calls, is_called, passed_to}
 use Rattle.msc_meaning.specs.FarEnds.{gate_tags}
 use Rattle.msc_meaning.specs.InnerEvents.{GateEnd, here}
-use Rattle.msc_meaning.specs.Tables.{Table, ChartEntry, chart_at, body_in, Woven, Basic, HighLevel, Refinement, refinements}
+use Rattle.msc_meaning.specs.Tables.{Table, ChartEntry, chart_at, body_at, body_in, Woven, Basic, HighLevel, Refinement, refinements}
 use Rattle.msc_meaning.specs.Ties.{called_tag, past_inline, via_list, past_reference}
 use Rattle.gate_ends.specs.FoundEnds.{GateEvents, no_event, an_event, both, either, in_loop, listed, event_count, seen_in, is_gate, is_name, these_if, unless, beside, operand_beside, turned, event_inner, events_inner, expression_inner, choice_inner, parts_inner}
 use Rattle.gate_ends.specs.FoundEnds.{joined_inner, joins_inner, level_inner, items_inner, item_inner, operands_inner, inline_inner, inner_of_item, inner_of, body_inner, inner_to}
 use Rattle.gate_ends.specs.JoinCounts.{join_count, joins_count, reference_count}
-use Rattle.chart_forms.specs.TableSizes.{expression_size, expressions_size, level_size, items_size, item_size, operands_size, woven_size, entry_size, size_to}
-use Rattle.expanded_terms.specs.ExpandedTerms.{Charts, charts_to, entry_shown, event_shown, events_shown, expression_shown, expressions_shown, level_shown, items_shown, item_shown, operands_shown, woven_shown, expression_count, item_count, level_count}
-use Rattle.expanded_terms.specs.JoinProducts.{often, join_product, joins_product, product_in, IsFewExpression, AreFewExpressions, IsFewLevel, AreFewItems, IsFewItem, AreFewOperands, IsFewWoven, IsFewEntry, IsFewTo}
+use Rattle.chart_forms.specs.TableSizes.{expression_size, expressions_size, level_size, items_size, item_size, operands_size, body_size, refined_size, woven_size, entry_size, size_to}
+use Rattle.expanded_terms.specs.ExpandedTerms.{Charts, charts_to, entry_shown, event_shown, events_shown, expression_shown, expressions_shown, level_shown, items_shown, item_shown, operands_shown, refined_shown, woven_shown, expression_count, item_count, level_count}
+use Rattle.expanded_terms.specs.JoinProducts.{often, join_product, joins_product, product_in, IsFewExpression, AreFewExpressions, IsFewLevel, AreFewItems, IsFewItem, AreFewOperands, IsFewBody, AreFewRefined, IsFewWoven, IsFewEntry, IsFewTo}
+use Rattle.expanded_terms.specs.LevelOrder.{tags}
 use Rattle.expanded_terms.specs.TagNumbers.{number_if}
+use Rattle.expanded_terms.proofs.DecomposedOnce.{DecomposeOnce, decompose_once}
 use Rattle.expanded_terms.proofs.FewPairs.{often_both}
+use Rattle.expanded_terms.proofs.RefinedCounts.{only_if, only_both, refined_often}
+use Rattle.expanded_terms.proofs.ShownAnywhere.{charts_same}
 
 -- ---- inner events, counted
 
@@ -162,10 +167,6 @@ module _ (name g : List ℕ) where
 
 -- ---- gates that joins hand on
 
-abbrev only_if : Bool → ℕ → ℕ
-only_if true n = n
-only_if false n = 0
-
 -- how many numbers come to that gate of the level by the join
 abbrev passed_by : JoinEnd → List ℕ → List ℕ → Shown → ℕ
 passed_by (join_end.Env to) gate g sh = only_if (bytes_eq to g) (often (Via gate) sh)
@@ -174,10 +175,6 @@ passed_by (join_end.Reference name to) gate g sh = 0
 abbrev passed : List Join → List ℕ → Shown → ℕ
 passed [] g sh = 0
 passed (j ∷ js) g sh = passed_by j.to j.gate g sh + passed js g sh
-
-only_both : (b : Bool) (m n : ℕ) → only_if b (m + n) ≡ only_if b m + only_if b n
-only_both true m n = omega arith
-only_both false m n = omega arith
 
 by_both : (to : JoinEnd) (gate g : List ℕ) (a b : Shown) → passed_by to gate g (a ++ b) ≡ passed_by to gate g a + passed_by to gate g b
 by_both (join_end.Env to) gate g a b = ap (only_if (bytes_eq to g)) (often_both (Via gate) a b) ∙ only_both (bytes_eq to g) (often (Via gate) a) (often (Via gate) b)
@@ -344,19 +341,28 @@ module _ (charts : Charts) (chart_inner : List ℕ → List ℕ → GateEvents) 
 
   -- ---- charts
 
-  woven_via : (table : Table) (name g : List ℕ) (n : ℕ) (c : ChartEntry) (rs : List Refinement) (w : Woven) → IsFewWoven Few rs w
-      → often (Via g) (woven_shown charts table n rs w) ≤ event_count (body_inner chart_inner name (body_in (Some (record { name = c.name; decls = c.decls; content = w }))) g)
-  woven_via table name g n c [] (Basic b) h = omega (arith, seen_count name (level_inner chart_inner b g), level_via g n b h)
-  woven_via table name g n c [] (HighLevel drawn) h = absurd h
-  woven_via table name g n c (r ∷ rs) w h = absurd h
+  module _ (same : (name : List ℕ) (n m : ℕ) → tags (charts.shown name n) ≡ tags (charts.shown name m)) (table : Table) where
+    woven_via : (name g : List ℕ) (n : ℕ) (c : ChartEntry) (rs : List Refinement) (w : Woven) → DecomposeOnce rs → IsFewWoven Few table rs w
+        → often (Via g) (woven_shown charts table n rs w) ≤ event_count (body_inner chart_inner name (body_in (Some (record { name = c.name; decls = c.decls; content = w }))) g)
+    woven_via name g n c [] (Basic b) once h = omega (arith, seen_count name (level_inner chart_inner b g), level_via g n b h)
+    woven_via name g n c [] (HighLevel drawn) once h = absurd h
+    woven_via name g n c (r ∷ rs) (Basic (level cover held pairs)) once ((h, i), few) =
+        omega (
+          arith,
+          seen_count name (items_inner chart_inner (calls held) held g),
+          past_most (Via g) (Via g) past_level (level_past g) (refined_shown charts table n (r ∷ rs) held),
+          refined_often charts same Few table n (r ∷ rs) once held few (Via g),
+          items_via g (calls held) n held i,
+        )
+    woven_via name g n c (r ∷ rs) (HighLevel drawn) once h = absurd h
 
-  entry_via : (table : Table) (name g : List ℕ) (n : ℕ) (o : Option ChartEntry) → IsFewEntry Few o → often (Via g) (entry_shown charts table n o) ≤ event_count (body_inner chart_inner name (body_in o) g)
-  entry_via table name g n None h = absurd h
-  entry_via table name g n (Some c) h = woven_via table name g n c (refinements c.decls) c.content h
+    entry_via : (name g : List ℕ) (n : ℕ) (o : Option ChartEntry) → IsFewEntry Few table o → often (Via g) (entry_shown charts table n o) ≤ event_count (body_inner chart_inner name (body_in o) g)
+    entry_via name g n None h = absurd h
+    entry_via name g n (Some c) h = woven_via name g n c (refinements c.decls) c.content (decompose_once c.decls) h
 
 charts_via : (event : ℕ → Happening → Tree) (ends_of : WovenItems → List GateEnd) (table : Table) (k : ℕ) (name : List ℕ) (n : ℕ) (g : List ℕ) → IsFewTo table k name → often (Via g) ((charts_to event ends_of table k).shown name n) ≤ event_count (inner_to table k name g)
 charts_via event ends_of table zero name n g h = absurd h
-charts_via event ends_of table (suc k) name n g h = entry_via (charts_to event ends_of table k) (inner_to table k) (IsFewTo table k) (charts_via event ends_of table k) table name g n (chart_at table name) h
+charts_via event ends_of table (suc k) name n g h = entry_via (charts_to event ends_of table k) (inner_to table k) (IsFewTo table k) (charts_via event ends_of table k) (charts_same event ends_of table k) table name g n (chart_at table name) h
 
 -- ---- sizes, where joins add no more
 
@@ -393,14 +399,23 @@ module _ (size_of other_of : List ℕ → ℕ) (product other : WovenItems → R
     operands_smaller no_bodies h = omega arith
     operands_smaller (body_and b bs) (h, i) = omega (arith, level_smaller b h, operands_smaller bs i)
 
-  woven_smaller : (rs : List Refinement) (w : Woven) → IsFewWoven Few rs w → woven_size size_of product rs w ≤ woven_size other_of other rs w
-  woven_smaller [] (Basic b) h = omega (arith, level_smaller b h)
-  woven_smaller [] (HighLevel drawn) h = absurd h
-  woven_smaller (r ∷ rs) w h = absurd h
+  body_smaller : (o : Option Body) → IsFewBody Few o → body_size size_of product o ≤ body_size other_of other o
+  body_smaller None h = omega arith
+  body_smaller (Some b) h = omega (arith, level_smaller b h)
 
-  entry_smaller : (o : Option ChartEntry) → IsFewEntry Few o → entry_size size_of product o ≤ entry_size other_of other o
-  entry_smaller None h = absurd h
-  entry_smaller (Some c) h = woven_smaller (refinements c.decls) c.content h
+  refined_smaller : (table : Table) (rs : List Refinement) → AreFewRefined Few table rs → refined_size size_of product table rs ≤ refined_size other_of other table rs
+  refined_smaller table [] h = omega arith
+  refined_smaller table (r ∷ rs) (h, i) = omega (arith, body_smaller (body_at table r.chart) h, refined_smaller table rs i)
+
+  woven_smaller : (table : Table) (rs : List Refinement) (w : Woven) → IsFewWoven Few table rs w → woven_size size_of product table rs w ≤ woven_size other_of other table rs w
+  woven_smaller table [] (Basic b) h = omega (arith, level_smaller b h)
+  woven_smaller table [] (HighLevel drawn) h = absurd h
+  woven_smaller table (r ∷ rs) (Basic b) (h, i) = omega (arith, level_smaller b h, refined_smaller table (r ∷ rs) i)
+  woven_smaller table (r ∷ rs) (HighLevel drawn) h = absurd h
+
+  entry_smaller : (table : Table) (o : Option ChartEntry) → IsFewEntry Few table o → entry_size size_of product table o ≤ entry_size other_of other table o
+  entry_smaller table None h = absurd h
+  entry_smaller table (Some c) h = woven_smaller table (refinements c.decls) c.content h
 
 pub charts_counted : (event : ℕ → Happening → Tree) (ends_of : WovenItems → List GateEnd) (table : Table) (k : ℕ) (name : List ℕ) → IsFewTo table k name
     → size_to (λ j. product_in (charts_to event ends_of table j)) table k name ≤ size_to (λ j. reference_count (inner_to table j)) table k name
@@ -409,4 +424,4 @@ charts_counted event ends_of table (suc k) name h =
     entry_smaller (size_to (λ j. product_in (charts_to event ends_of table j)) table k) (size_to (λ j. reference_count (inner_to table j)) table k) (product_in (charts_to event ends_of table k)) (reference_count (inner_to table k)) (IsFewTo table k)
     (charts_counted event ends_of table k)
     (λ whole part few. product_counted (charts_to event ends_of table k) (inner_to table k) (IsFewTo table k) (charts_via event ends_of table k) whole few part)
-    (chart_at table name) h
+    table (chart_at table name) h

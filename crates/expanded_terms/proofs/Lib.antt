@@ -18,6 +18,7 @@ mod FreshLoops
 mod SoundRules
 mod RankedTerms
 mod TiesWithin
+mod FreeParts
 pub mod GateTies
 mod SoundExpansions
 mod SoundCharts
@@ -32,6 +33,8 @@ mod PlacedTerms
 mod TermWeights
 mod FewPairs
 mod ShownAnywhere
+mod DecomposedOnce
+mod RefinedCounts
 mod JoinCounts
 mod LightCharts
 mod WholeCharts

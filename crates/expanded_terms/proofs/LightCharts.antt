@@ -1,11 +1,11 @@
 -- The term of a chart weighs no more than the chart's expanded size, by tags and as it is counted in the table: its joins come to no more
 -- than their products, and its levels have few pairs.
-use Rattle.std.specs.Prelude.{ℕ, zero, suc, ◌+◌, ◌*◌, ◌≤◌, List, [], ◌∷◌, Option, None, Some, length}
+use Rattle.std.specs.Prelude.{ℕ, zero, suc, ◌+◌, ◌*◌, ◌≤◌, Bool, true, false, List, [], ◌∷◌, ◌++◌, Option, None, Some, length, if◌then◌else◌}
 use Rattle.std.proofs.Common.{◌≡◌, refl, sym, ◌∙◌, ap, arith}
-use Rattle.std.proofs.Math.Nat.{suc-mul, mul_comm}
+use Rattle.std.proofs.Math.Nat.{mul_comm}
 use Rattle.msc_base.specs.declared.label.Kind.{Kind}
 use Rattle.msc_base.specs.declared.label.Kind.TheVariants as kind
-use Rattle.msc_unfolding.specs.Unfoldings.{Tag, On, is_same_tag, Happening}
+use Rattle.msc_unfolding.specs.Unfoldings.{Tag, On, Happening}
 use Rattle.chart_term.specs.Terms.{Tree, weight}
 use Rattle.chart_forms.specs.TableSizes.{size_to}
 use Rattle.gate_ends.specs.FoundEnds.{inner_to}
@@ -21,27 +21,23 @@ use Rattle.msc_meaning.specs.Bodies.{Body, level, WovenItems, no_items, item_and
 use Rattle.msc_meaning.specs.Calls.{calls}
 use Rattle.msc_meaning.specs.FarEnds.{GateMap, end_at}
 use Rattle.msc_meaning.specs.InnerEvents.{GateEnd}
-use Rattle.msc_meaning.specs.Tables.{Table, ChartEntry, chart_at, Woven, Basic, HighLevel, Refinement, refinements}
-use Rattle.msc_meaning.specs.Ties.{in_order, tie_by, join_tie, joins_ties, items_joins_ties}
-use Rattle.expanded_terms.specs.ExpandedSizes.{HasFewInExpression, HaveFewInExpressions, HasFewPairs, HaveFewPairs, HasFewWithin, EachHasFew, HasFewInWoven, HasFewInEntry, HasFewTo}
-use Rattle.expanded_terms.specs.ExpandedTerms.{Charts, charts_to, items_shown, expression_count, item_count, level_count}
+use Rattle.msc_meaning.specs.Refinements.{refining_by, refinings, is_decomposed, without_decomposed}
+use Rattle.msc_meaning.specs.Tables.{Table, ChartEntry, chart_at, body_at, Woven, Basic, HighLevel, Refinement, refinements}
+use Rattle.msc_meaning.specs.Ties.{in_order, tie_by, join_tie, joins_ties, items_joins_ties, ties}
+use Rattle.expanded_terms.specs.ExpandedSizes.{HasFewInExpression, HaveFewInExpressions, HasFewPairs, HaveFewPairs, HasFewWithin, EachHasFew, HaveFewInRefinings, HasFewInWoven, HasFewInEntry, HasFewTo}
+use Rattle.expanded_terms.specs.ExpandedTerms.{Charts, charts_to, items_shown, expression_count, items_count, item_count, level_count}
 use Rattle.expanded_terms.specs.FewPairs.{products}
-use Rattle.expanded_terms.specs.JoinProducts.{often, join_product, joins_product, product_in, IsFewExpression, AreFewExpressions, IsFewLevel, AreFewItems, IsFewItem, AreFewOperands, IsFewWoven, IsFewEntry, IsFewTo, ChartsAreLight}
+use Rattle.expanded_terms.specs.JoinProducts.{often, join_product, joins_product, product_in, IsFewExpression, AreFewExpressions, IsFewLevel, AreFewItems, IsFewItem, AreFewOperands, IsFewBody, AreFewRefined, IsFewWoven, IsFewEntry, IsFewTo, ChartsAreLight}
 use Rattle.expanded_terms.specs.LevelOrder.{tags}
-use Rattle.expanded_terms.specs.TagNumbers.{number_if, numbers_with, pairs_with, pairs_between, tied_numbers}
-use Rattle.expanded_terms.proofs.FewPairs.{length_app, with_length, tied_both, if_length, few_pairs_have_room}
+use Rattle.expanded_terms.specs.TagNumbers.{numbers_with, pairs_between, tied_numbers}
+use Rattle.expanded_terms.proofs.FewPairs.{length_app, between_length, tied_both, few_pairs_have_room}
+use Rattle.expanded_terms.proofs.DecomposedOnce.{DecomposeOnce, decompose_once}
 use Rattle.expanded_terms.proofs.JoinCounts.{charts_counted}
+use Rattle.expanded_terms.proofs.RefinedCounts.{is_one, total, often_total, refined_room}
 use Rattle.expanded_terms.proofs.ShownAnywhere.{items_same, charts_same}
 use Rattle.expanded_terms.proofs.TermWeights.{expanded_terms_weigh}
 
 -- ---- products
-
-mul_zero : (b : ℕ) → 0 * b ≡ 0
-mul_zero b = omega arith
-
-between_length : (ms ns : List ℕ) → length (pairs_between ms ns) ≡ length ms * length ns
-between_length [] ns = sym (mul_zero (length ns))
-between_length (m ∷ ms) ns = omega (arith, length_app (pairs_with m ns) (pairs_between ms ns), with_length m ns, between_length ms ns, suc-mul (length ms) (length ns))
 
 module _ (sh : Shown) where
   tied_one : (a b : Tag) → length (tied_numbers sh ((a, b) ∷ [])) ≡ often a sh * often b sh
@@ -71,17 +67,8 @@ module _ (sh : Shown) where
   joins_most ends (Some own) [] = omega arith
   joins_most ends (Some own) (j ∷ js) = omega (arith, tied_both sh (join_tie ends own j.gate j.to) (joins_ties ends (Some own) js), join_most ends own j.gate j.to, joins_most ends (Some own) js)
 
--- how many of the tags are this one
-abbrev count : Tag → List Tag → ℕ
-count t [] = 0
-count t (a ∷ ts) = length (number_if (is_same_tag a t) 0 []) + count t ts
-
-often_count : (t : Tag) (sh : Shown) → often t sh ≡ count t (tags sh)
-often_count t [] = refl
-often_count t (p ∷ sh) = omega (arith, if_length (is_same_tag p.1 t) p.0 (numbers_with t sh), often_count t sh)
-
 often_same : (t : Tag) (a b : Shown) → tags a ≡ tags b → often t a ≡ often t b
-often_same t a b e = often_count t a ∙ (ap (count t) e ∙ sym (often_count t b))
+often_same t a b e = often_total t a ∙ (ap (total (is_one t)) e ∙ sym (often_total t b))
 
 join_same : (a b : Shown) → tags a ≡ tags b → (own g : List ℕ) (to : JoinEnd) → join_product a own g to ≡ join_product b own g to
 join_same a b e own g (join_end.Env h) = refl
@@ -135,19 +122,46 @@ module _ (charts : Charts) (same : (name : List ℕ) (n m : ℕ) → tags (chart
       operands_few n no_bodies h = tt
       operands_few n (body_and b bs) (h, i) = (level_few n b h, operands_few (n + level_count charts b) bs i)
 
-    woven_few : (n : ℕ) (rs : List Refinement) (content : Woven) → IsFewWoven Few rs content → HasFewInWoven charts (product_in charts) ends_of HasFew n rs content
-    woven_few n [] (Basic held) h = level_few n held h
-    woven_few n [] (HighLevel drawn) h = h
-    woven_few n (r ∷ rs) content h = h
+    -- refining charts, and what they leave of the body
+    refinings_few : (table : Table) (held : WovenItems) (n : ℕ) (rs : List Refinement) → AreFewRefined Few table rs → HaveFewInRefinings charts (product_in charts) ends_of HasFew n (refinings table held rs)
+    refinings_few table held n [] h = tt
+    refinings_few table held n (r ∷ rs) (h, i) = by (body_at table r.chart) h (λ m. refinings_few table held m rs i)
+      where
+        by : (o : Option Body) → IsFewBody Few o → ((m : ℕ) → HaveFewInRefinings charts (product_in charts) ends_of HasFew m (refinings table held rs)) → HaveFewInRefinings charts (product_in charts) ends_of HasFew n (refining_by r.instance held o ++ refinings table held rs)
+        by None h others = others n
+        by (Some (level cover inner pairs)) h others = (level_few n (level cover inner pairs) h, others (n + items_count charts inner))
 
-    entry_few : (n : ℕ) (o : Option ChartEntry) → IsFewEntry Few o → HasFewInEntry charts (product_in charts) ends_of HasFew n o
-    entry_few n None h = h
-    entry_few n (Some entry) h = woven_few n (refinements entry.decls) entry.content h
+    left_few : (rs : List Refinement) (xs : WovenItems) → AreFewItems Few xs → AreFewItems Few (without_decomposed rs xs)
+    left_few rs no_items h = tt
+    left_few rs (item_and (Single k) xs) (h, i) = by (is_decomposed rs k) (left_few rs xs i)
+      where
+        by : (b : Bool) → AreFewItems Few (without_decomposed rs xs) → AreFewItems Few (if b then without_decomposed rs xs else item_and (Single k) (without_decomposed rs xs))
+        by true few = few
+        by false few = (tt, few)
+    left_few rs (item_and (Coregion ks) xs) (h, i) = (tt, left_few rs xs i)
+    left_few rs (item_and (Inline form part operands) xs) (h, i) = (h, left_few rs xs i)
+    left_few rs (item_and (Refer part) xs) (h, i) = (h, left_few rs xs i)
+
+    woven_few : (table : Table) (n : ℕ) (rs : List Refinement) (content : Woven) → DecomposeOnce rs → IsFewWoven Few table rs content → HasFewInWoven charts (product_in charts) ends_of HasFew table n rs content
+    woven_few table n [] (Basic held) once h = level_few n held h
+    woven_few table n [] (HighLevel drawn) once h = h
+    woven_few table n (r ∷ rs) (Basic (level cover held pairs)) once ((h, i), few) =
+        let left = without_decomposed (r ∷ rs) held in
+        let room = few_pairs_have_room.room charts (product_in charts) ends_of n cover held pairs h (items_most (ends_of held) held n held) in (
+          refined_room charts same Few table n (r ∷ rs) once held few (product_in charts) (ties held pairs (calls held) (ends_of held)) room,
+          items_few n left (left_few (r ∷ rs) held i),
+          refinings_few table held (n + items_count charts left) (r ∷ rs) few,
+        )
+    woven_few table n (r ∷ rs) (HighLevel drawn) once h = h
+
+    entry_few : (table : Table) (n : ℕ) (o : Option ChartEntry) → IsFewEntry Few table o → HasFewInEntry charts (product_in charts) ends_of HasFew table n o
+    entry_few table n None h = h
+    entry_few table n (Some entry) h = woven_few table n (refinements entry.decls) entry.content (decompose_once entry.decls) h
 
 charts_few : (event : ℕ → Happening → Tree) (ends_of : WovenItems → List GateEnd) (table : Table) (k : ℕ) (name : List ℕ) (n : ℕ) → IsFewTo table k name → HasFewTo event (λ j. product_in (charts_to event ends_of table j)) ends_of table k name n
 charts_few event ends_of table zero name n h = h
 charts_few event ends_of table (suc k) name n h =
-    entry_few (charts_to event ends_of table k) (charts_same event ends_of table k) ends_of (IsFewTo table k) (HasFewTo event (λ j. product_in (charts_to event ends_of table j)) ends_of table k) (charts_few event ends_of table k) n (chart_at table name) h
+    entry_few (charts_to event ends_of table k) (charts_same event ends_of table k) ends_of (IsFewTo table k) (HasFewTo event (λ j. product_in (charts_to event ends_of table j)) ends_of table k) (charts_few event ends_of table k) table n (chart_at table name) h
 
 charts_weigh : ConstructorsWeigh → (event : ℕ → Happening → Tree) (ends_of : WovenItems → List GateEnd) (table : Table) (depth : ℕ) (name : List ℕ) (gates : GateMap) (n : ℕ) → ((i : ℕ) (h : Happening) → weight (event i h) ≤ 1) → IsFewTo table depth name
     → weight ((charts_to event ends_of table depth).term name gates n) ≤ size_to (λ k. product_in (charts_to event ends_of table k)) table depth name

@@ -1,29 +1,32 @@
 -- The weight of the term of an expansion.
-use Rattle.std.specs.Prelude.{ℕ, zero, suc, ◌+◌, ◌≤◌, Bool, true, false, not, ◌&&◌, List, [], ◌∷◌, ◌++◌, Option, None, Some, length}
+use Rattle.std.specs.Prelude.{ℕ, zero, suc, ◌+◌, ◌≤◌, Bool, true, false, not, ◌&&◌, cond, List, [], ◌∷◌, ◌++◌, Option, None, Some, length, if◌then◌else◌}
 use Rattle.std.specs.Option.{unwrap_or}
 use Rattle.std.proofs.Common.{◌≡◌, refl, ◌∙◌, ap, arith}
 use Rattle.msc_base.specs.Patterns.{Mode, seq, par}
+use Rattle.msc_base.specs.declared.label.Far.{Far}
 use Rattle.msc_unfolding.specs.Unfoldings.{Happening}
 use Rattle.chart_term.specs.Equality.{same_tree}
 use Rattle.chart_term.specs.NormalForms.{open_part, flat, join_of, join_all, open_choice, open_choices, unless_same, without, distinct, choice_form, tie_of, is_nil}
 use Rattle.chart_term.specs.Terms.{Tree, Nil, Event, Join, Choice, Tied, Loop, Walk, Trees, none, more, items, trees, weight, weights}
 use Rattle.sound_terms.specs.TableLaws.{ConstructorsWeigh, weight_all}
 use Rattle.term_meaning.specs.Portions.{Shown}
+use Rattle.general_ordering.specs.OrderCounts.{order_count, orders_count}
 use Rattle.msc_tree.specs.declared.reference.InlineForm.TheVariants as inline
 use Rattle.msc_tree.specs.Expressions.{Expression, Empty, Chart, Alt, Par, Seq, Opt, Expressions}
 use Rattle.msc_tree.specs.Expressions as expression
-use Rattle.msc_meaning.specs.Bodies.{EventNode, ReferencePart, Body, level, WovenItems, no_items, item_and, WovenItem, Single, Coregion, Inline, Refer, Bodies, no_bodies, body_and}
+use Rattle.msc_meaning.specs.Bodies.{EventNode, ReferencePart, Body, level, WovenItems, no_items, item_and, WovenItem, Single, Coregion, Inline, Refer, Bodies, no_bodies, body_and, events}
 use Rattle.msc_meaning.specs.Calls.{calls}
-use Rattle.msc_meaning.specs.ChartUnfoldings.{gates_of, under}
-use Rattle.msc_meaning.specs.FarEnds.{GateMap, Around, Gates, gates_referred, inside, happening}
+use Rattle.msc_meaning.specs.ChartUnfoldings.{gates_of, under, refined_under, refining_under}
+use Rattle.msc_meaning.specs.FarEnds.{GateMap, Around, Gates, gates_referred, inside, far_end, happening}
 use Rattle.msc_meaning.specs.InnerEvents.{GateEnd}
-use Rattle.msc_meaning.specs.Tables.{Table, ChartEntry, chart_at, Woven, Basic, HighLevel, Refinement, refinements}
+use Rattle.msc_meaning.specs.Refinements.{Refining, refining, refining_by, refinings, is_decomposed, left_of, without_decomposed}
+use Rattle.msc_meaning.specs.Tables.{Table, ChartEntry, chart_at, body_at, Woven, Basic, HighLevel, Refinement, refinements}
 use Rattle.msc_meaning.specs.Ties.{ties}
-use Rattle.chart_forms.specs.TableSizes.{expression_size, expressions_size, level_size, items_size, item_size, operands_size, woven_size, entry_size, size_to}
-use Rattle.expanded_terms.specs.ExpandedSizes.{open_gates, item_room, items_room, HaveRoom, HasFewInExpression, HaveFewInExpressions, HasFewPairs, HaveFewPairs, HasFewWithin, EachHasFew, HasFewInWoven, HasFewInEntry, HasFewTo, ExpandedTermsWeigh}
+use Rattle.chart_forms.specs.TableSizes.{expression_size, expressions_size, level_size, items_size, item_size, operands_size, body_size, refined_size, woven_size, entry_size, size_to}
+use Rattle.expanded_terms.specs.ExpandedSizes.{open_gates, item_room, items_room, decomposed_room, HaveRoom, HasFewInExpression, HaveFewInExpressions, HasFewPairs, HaveFewPairs, HasFewWithin, EachHasFew, HaveFewInRefinings, HasFewInWoven, HasFewInEntry, HasFewTo, ExpandedTermsWeigh}
 use Rattle.chart_forms.specs.BodyEvents.{is_exception}
 use Rattle.msc_meaning.proofs.Deciding.{not_so}
-use Rattle.expanded_terms.specs.ExpandedTerms.{Charts, charts_to, entry_shown, entry_term, woven_shown, woven_term, one_of, placed, leave_turn, turns_if, turns_of, expression_shown, expressions_shown, level_shown, items_shown, operands_shown, events_term, expression_term, alternative_terms, each_term, level_term, items_term, item_term, operand_terms, parallel_term, item_count, level_count, expression_count}
+use Rattle.expanded_terms.specs.ExpandedTerms.{Charts, charts_to, entry_shown, entry_term, woven_shown, woven_term, one_of, placed, leave_turn, turns_if, turns_of, expression_shown, expressions_shown, level_shown, items_shown, operands_shown, events_term, expression_term, alternative_terms, each_term, level_term, items_term, item_term, operand_terms, parallel_term, refinings_term, refined_shown, items_count, item_count, level_count, expression_count}
 use Rattle.expanded_terms.specs.TagNumbers.{tied_numbers}
 
 -- ---- lists of terms
@@ -163,6 +166,50 @@ tied_weighs : ConstructorsWeigh → (x : Tree) (q : List (ℕ × ℕ)) (o d s : 
 tied_weighs weigh x [] o d s h l = omega (arith, h, l.any)
 tied_weighs weigh x (p ∷ q) o d s h l = let more = l.some (omega arith) in omega (arith, h, more, weigh.tied x (p ∷ q))
 
+-- ---- what is left of a body beside its refining charts
+
+abbrev events_size : List EventNode → ℕ
+events_size ns = length ns + length ns + length ns + orders_count ns
+
+left_events : (rs : List Refinement) (ns : List EventNode) → events_size (left_of rs ns) + decomposed_room rs ns ≡ events_size ns
+left_events rs [] = omega arith
+left_events rs (n ∷ ns) = by (is_decomposed rs n) (left_events rs ns)
+  where
+    by : (b : Bool) → events_size (left_of rs ns) + decomposed_room rs ns ≡ events_size ns
+        → events_size (cond (not b) (n ∷ left_of rs ns) (left_of rs ns)) + ((if b then 3 + order_count n.event else 0) + decomposed_room rs ns) ≡ events_size (n ∷ ns)
+    by true e = omega (arith, e)
+    by false e = omega (arith, e)
+
+pub room_both : (rs : List Refinement) (ns ms : List EventNode) → decomposed_room rs (ns ++ ms) ≡ decomposed_room rs ns + decomposed_room rs ms
+room_both rs [] ms = omega arith
+room_both rs (n ∷ ns) ms = omega (arith, room_both rs ns ms)
+
+module _ (size_of : List ℕ → ℕ) (product : WovenItems → ReferencePart → ℕ) where
+  left_size : (rs : List Refinement) (whole xs : WovenItems) → items_size size_of product whole (without_decomposed rs xs) + decomposed_room rs (events xs) ≡ items_size size_of product whole xs
+  left_size rs whole no_items = omega arith
+  left_size rs whole (item_and (Single n) xs) = by (is_decomposed rs n) (left_size rs whole xs)
+    where
+      by : (b : Bool) → items_size size_of product whole (without_decomposed rs xs) + decomposed_room rs (events xs) ≡ items_size size_of product whole xs
+          → items_size size_of product whole (if b then without_decomposed rs xs else item_and (Single n) (without_decomposed rs xs)) + ((if b then 3 + order_count n.event else 0) + decomposed_room rs (events xs)) ≡ items_size size_of product whole (item_and (Single n) xs)
+      by true e = omega (arith, e)
+      by false e = omega (arith, e)
+  left_size rs whole (item_and (Coregion ns) xs) = omega (arith, left_events rs ns, room_both rs ns (events xs), left_size rs whole xs)
+  left_size rs whole (item_and (Inline form part operands) xs) = omega (arith, left_size rs whole xs)
+  left_size rs whole (item_and (Refer part) xs) = omega (arith, left_size rs whole xs)
+
+  abbrev refinings_size : List Refining → ℕ
+  refinings_size [] = 0
+  refinings_size (refining held ms ∷ rs) = 2 + level_size size_of product held + refinings_size rs
+
+  refined_sizes : (table : Table) (held : WovenItems) (rs : List Refinement) → refinings_size (refinings table held rs) ≡ refined_size size_of product table rs
+  refined_sizes table held [] = refl
+  refined_sizes table held (r ∷ rs) = by (body_at table r.chart) (refined_sizes table held rs)
+    where
+      by : (o : Option Body) → refinings_size (refinings table held rs) ≡ refined_size size_of product table rs
+          → refinings_size (refining_by r.instance held o ++ refinings table held rs) ≡ body_size size_of product o + refined_size size_of product table rs
+      by None e = omega (arith, e)
+      by (Some (level cover inner pairs)) e = omega (arith, e)
+
 -- what items weigh with what stands behind them: alone, and opened
 abbrev IsWithin : Mode → Tree → ℕ → ℕ → Type 0
 IsWithin m x e s = (weight x + e ≤ 1 + s) × (weight_all (open_part m x) + e ≤ s)
@@ -284,14 +331,35 @@ module _ (weigh : ConstructorsWeigh) (charts : Charts) (size_of : List ℕ → �
         let o = open_both (level_shown charts n b) (operands_shown charts (n + level_count charts b) bs) in
         (omega (arith, w.0, o), omega (arith, w.1, o))
 
-  woven_weighs : (table : Table) (gates : GateMap) (n : ℕ) (rs : List Refinement) (content : Woven) → HasFewInWoven charts product ends_of HasFew n rs content
-      → weight (woven_term charts event ends_of table gates n rs content) + open_gates (woven_shown charts table n rs content) ≤ woven_size size_of product rs content
+  -- refining charts leave no gates open
+  refinings_weigh : (far_of : EventNode → Far) (n : ℕ) (rs : List Refining) → HaveFewInRefinings charts product ends_of HasFew n rs → IsWithin par (refinings_term charts event ends_of far_of n rs) 0 (refinings_size size_of product rs)
+  refinings_weigh far_of n [] f = (omega arith, omega arith)
+  refinings_weigh far_of n (refining (level cover held pairs) ms ∷ rs) (f, i) =
+      let l = level_weighs (refining_under far_of ms) n (level cover held pairs) f in
+      let w = joined_weighs par (level_term charts event ends_of (refining_under far_of ms) n (level cover held pairs)) (refinings_term charts event ends_of far_of (n + items_count charts held) rs) 0 0 (2 + level_size size_of product (level cover held pairs)) (refinings_size size_of product rs)
+      (omega (arith, l)) (refinings_weigh far_of (n + items_count charts held) rs i) in
+      (omega (arith, w.0), omega (arith, w.1))
+
+  woven_weighs : (table : Table) (gates : GateMap) (n : ℕ) (rs : List Refinement) (content : Woven) → HasFewInWoven charts product ends_of HasFew table n rs content
+      → weight (woven_term charts event ends_of table gates n rs content) + open_gates (woven_shown charts table n rs content) ≤ woven_size size_of product table rs content
   woven_weighs table gates n [] (Basic held) f = omega (arith, level_weighs (under gates) n held f)
   woven_weighs table gates n [] (HighLevel drawn) f = absurd f
-  woven_weighs table gates n (r ∷ rs) (Basic held) f = absurd f
+  woven_weighs table gates n (r ∷ rs) (Basic (level cover held pairs)) (room, f, i) =
+      let left = without_decomposed (r ∷ rs) held in
+      let around = refined_under gates pairs (refinings table held (r ∷ rs)) in
+      let left_term = items_term charts event ends_of (gates_of held (ends_of held)) around n left in
+      let others = refinings_term charts event ends_of (far_end (ends_of held) around) (n + items_count charts left) (refinings table held (r ∷ rs)) in
+      let both = joined_weighs par left_term others (items_room charts product held n left) 0 (1 + items_size size_of product held left) (refinings_size size_of product (refinings table held (r ∷ rs)))
+      (items_weigh held (gates_of held (ends_of held)) around n left f).0 (refinings_weigh (far_end (ends_of held) around) (n + items_count charts left) (refinings table held (r ∷ rs)) i) in
+      let sizes = refined_sizes size_of product table held (r ∷ rs) in
+      let tied = tied_weighs weigh (join_all par (left_term ∷ others ∷ [])) (tied_numbers (refined_shown charts table n (r ∷ rs) held) (ties held pairs (calls held) (ends_of held)))
+      (open_gates (woven_shown charts table n (r ∷ rs) (Basic (level cover held pairs)))) (items_room charts product held n left + decomposed_room (r ∷ rs) (events held)) (1 + items_size size_of product held held + refinings_size size_of product (refinings table held (r ∷ rs)))
+      (omega (arith, both.0, left_size size_of product (r ∷ rs) held held)) room in
+      omega (arith, tied, sizes)
   woven_weighs table gates n (r ∷ rs) (HighLevel drawn) f = absurd f
 
-  entry_weighs : (table : Table) (gates : GateMap) (n : ℕ) (o : Option ChartEntry) → HasFewInEntry charts product ends_of HasFew n o → weight (entry_term event ends_of table charts gates n o) + open_gates (entry_shown charts table n o) ≤ entry_size size_of product o
+  entry_weighs : (table : Table) (gates : GateMap) (n : ℕ) (o : Option ChartEntry) → HasFewInEntry charts product ends_of HasFew table n o
+      → weight (entry_term event ends_of table charts gates n o) + open_gates (entry_shown charts table n o) ≤ entry_size size_of product table o
   entry_weighs table gates n None f = absurd f
   entry_weighs table gates n (Some entry) f = woven_weighs table gates n (refinements entry.decls) entry.content f
 

@@ -18,6 +18,7 @@ use Rattle.msc_meaning.proofs.Deciding.{not_so}
 use Rattle.msc_meaning.proofs.KnownEnds.{one_call, two_calls}
 use Rattle.expanded_terms.specs.RisingTexts.{PairRises}
 use Rattle.expanded_terms.specs.FitBodies.{IsFitTo, AreEndsOf}
+use Rattle.expanded_terms.specs.JoinProducts.{IsFewTo}
 use Rattle.expanded_terms.specs.NamedEvents.{event_named}
 use Rattle.expanded_terms.specs.RankedCharts.{expanded}
 use Rattle.expanded_terms.specs.WorkedPremises.{MeetsAll, RisesAndIsFew, PremisesAreMet}
@@ -353,6 +354,31 @@ inline_rises = record {
   );
 }
 
+abbrev IsNone : ℕ → List ℕ → Type 0
+IsNone m [] = Unit {0}
+IsNone m (n ∷ ns) = (m ≡ n → ⊥) × IsNone m ns
+
+apart_from : (m : ℕ) (ns : List ℕ) → IsNone m ns → Among m ns → ⊥
+apart_from m [] h i = elim i [ ]
+apart_from m (n ∷ ns) (h, hs) i = one m n ns h (apart_from m ns hs) i
+  where
+    one : (m n : ℕ) (ns : List ℕ) → (m ≡ n → ⊥) → (Among m ns → ⊥) → Among m (n ∷ ns) → ⊥
+    one m _ ns h f first = h refl
+    one m n ns h f (later i) = f i
+
+-- the body, and that of its refining chart
+decomposed_few : IsFewTo worked.refined 1 (codes "A")
+decomposed_few = (
+  (record { numbers = (λ i. apart_from 0 (1 ∷ []) ((λ e. omega (arith, e)), tt) i, (λ i. elim i [ ], tt)); pairs = omega arith; calls = tt }, (tt, (tt, tt))),
+  (
+    (
+      record { numbers = (λ i. apart_from 0 (1 ∷ 2 ∷ []) ((λ e. omega (arith, e)), ((λ e. omega (arith, e)), tt)) i, (λ i. apart_from 1 (2 ∷ []) ((λ e. omega (arith, e)), tt) i, (λ i. elim i [ ], tt))); pairs = omega arith; calls = tt },
+      (tt, (tt, (tt, tt))),
+    ),
+    tt,
+  ),
+)
+
 pub premises_are_met : PremisesAreMet
 premises_are_met = record {
   joined = joined_meets;
@@ -360,4 +386,5 @@ premises_are_met = record {
   inline = inline_meets;
   inline_rises = inline_rises;
   decomposed = decomposed_meets;
+  decomposed_few = decomposed_few;
 }

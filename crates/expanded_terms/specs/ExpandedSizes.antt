@@ -1,6 +1,6 @@
 -- That each level has few pairs: no more than its events, what these are ordered with, the open gates of its parts, and the products of its
 -- joins leave room for. Then a chart's term weighs no more than the chart's expanded size.
-use Rattle.std.specs.Prelude.{◌≡◌, ◌≤◌, ℕ, zero, suc, ◌+◌, List, [], ◌∷◌, Option, None, Some, length, true}
+use Rattle.std.specs.Prelude.{◌≡◌, ◌≤◌, ℕ, zero, suc, ◌+◌, List, [], ◌∷◌, Option, None, Some, length, true, if◌then◌else◌}
 use Rattle.msc_unfolding.specs.Unfoldings.{Tag, Own, Via, On, Happening}
 use Rattle.chart_term.specs.Terms.{Tree, weight}
 use Rattle.term_meaning.specs.Portions.{Shown}
@@ -8,13 +8,14 @@ use Rattle.chart_forms.specs.TableSizes.{size_to}
 use Rattle.general_ordering.specs.OrderCounts.{order_count, orders_count}
 use Rattle.msc_tree.specs.Expressions.{Expression, Empty, Chart, Alt, Par, Seq, Opt, Expressions, none, more}
 use Rattle.msc_tree.specs.Expressions as expression
-use Rattle.msc_meaning.specs.Bodies.{EventNode, ReferencePart, Body, level, WovenItems, no_items, item_and, WovenItem, Single, Coregion, Inline, Refer, Bodies, no_bodies, body_and}
+use Rattle.msc_meaning.specs.Bodies.{EventNode, ReferencePart, Body, level, WovenItems, no_items, item_and, WovenItem, Single, Coregion, Inline, Refer, Bodies, no_bodies, body_and, events}
 use Rattle.msc_meaning.specs.Calls.{calls}
 use Rattle.msc_meaning.specs.FarEnds.{GateMap}
 use Rattle.msc_meaning.specs.InnerEvents.{GateEnd}
+use Rattle.msc_meaning.specs.Refinements.{Refining, refining, refinings, is_decomposed, without_decomposed}
 use Rattle.msc_meaning.specs.Tables.{Table, ChartEntry, chart_at, Woven, Basic, HighLevel, Refinement, refinements}
 use Rattle.msc_meaning.specs.Ties.{ties}
-use Rattle.expanded_terms.specs.ExpandedTerms.{Charts, charts_to, expression_shown, level_shown, items_shown, operands_shown, expression_count, item_count, level_count}
+use Rattle.expanded_terms.specs.ExpandedTerms.{Charts, charts_to, expression_shown, level_shown, items_shown, operands_shown, refined_shown, woven_shown, expression_count, items_count, item_count, level_count}
 use Rattle.chart_forms.specs.BuiltBodies.{has_operands}
 use Rattle.expanded_terms.specs.TagNumbers.{tied_numbers}
 
@@ -45,6 +46,11 @@ module _ (charts : Charts) (product : WovenItems → ReferencePart → ℕ) wher
   abbrev pub items_room : WovenItems → ℕ → WovenItems → ℕ
   items_room whole n no_items = 0
   items_room whole n (item_and x xs) = item_room whole n x + items_room whole (n + item_count charts x) xs
+
+-- for each event of a decomposed instance what it counts in the size, as it isn't in the term
+abbrev pub decomposed_room : List Refinement → List EventNode → ℕ
+decomposed_room rs [] = 0
+decomposed_room rs (e ∷ es) = (if is_decomposed rs e then 3 + order_count e.event else 0) + decomposed_room rs es
 
 -- so many pairs, and so many gates that stay open, have room
 pub record HaveRoom (pairs gates room : ℕ) : Type 0 where
@@ -87,19 +93,29 @@ module _ (charts : Charts) (product : WovenItems → ReferencePart → ℕ) (end
     EachHasFew n no_bodies = Unit {0}
     EachHasFew n (body_and b bs) = HasFewPairs n b × EachHasFew (n + level_count charts b) bs
 
-  abbrev pub HasFewInWoven : ℕ → List Refinement → Woven → Type 0
-  HasFewInWoven n [] (Basic held) = HasFewPairs n held
-  HasFewInWoven n [] (HighLevel drawn) = ⊥
-  HasFewInWoven n (r ∷ rs) content = ⊥
+  -- each refining chart is a level by itself
+  abbrev pub HaveFewInRefinings : ℕ → List Refining → Type 0
+  HaveFewInRefinings n [] = Unit {0}
+  HaveFewInRefinings n (refining (level cover held pairs) ms ∷ rs) = HasFewPairs n (level cover held pairs) × HaveFewInRefinings (n + items_count charts held) rs
 
-  abbrev pub HasFewInEntry : ℕ → Option ChartEntry → Type 0
-  HasFewInEntry n None = ⊥
-  HasFewInEntry n (Some entry) = HasFewInWoven n (refinements entry.decls) entry.content
+  -- the pairs of a whole body have the room of what is left of it, and of the events that it leaves to its refining charts
+  abbrev pub HasFewInWoven : Table → ℕ → List Refinement → Woven → Type 0
+  HasFewInWoven table n [] (Basic held) = HasFewPairs n held
+  HasFewInWoven table n (r ∷ rs) (Basic (level cover held pairs)) =
+      HaveRoom (length (tied_numbers (refined_shown charts table n (r ∷ rs) held) (ties held pairs (calls held) (ends_of held)))) (open_gates (woven_shown charts table n (r ∷ rs) (Basic (level cover held pairs))))
+      (items_room charts product held n (without_decomposed (r ∷ rs) held) + decomposed_room (r ∷ rs) (events held))
+      × HaveFewPairs n (without_decomposed (r ∷ rs) held)
+      × HaveFewInRefinings (n + items_count charts (without_decomposed (r ∷ rs) held)) (refinings table held (r ∷ rs))
+  HasFewInWoven table n rs (HighLevel drawn) = ⊥
+
+  abbrev pub HasFewInEntry : Table → ℕ → Option ChartEntry → Type 0
+  HasFewInEntry table n None = ⊥
+  HasFewInEntry table n (Some entry) = HasFewInWoven table n (refinements entry.decls) entry.content
 
 module _ (event : ℕ → Happening → Tree) (product : ℕ → WovenItems → ReferencePart → ℕ) (ends_of : WovenItems → List GateEnd) (table : Table) where
   abbrev pub HasFewTo : ℕ → List ℕ → ℕ → Type 0
   HasFewTo zero name n = ⊥
-  HasFewTo (suc k) name n = HasFewInEntry (charts_to event ends_of table k) (product k) ends_of (HasFewTo k) n (chart_at table name)
+  HasFewTo (suc k) name n = HasFewInEntry (charts_to event ends_of table k) (product k) ends_of (HasFewTo k) table n (chart_at table name)
 
 -- the term of a chart weighs no more than the chart's expanded size, where each level has few pairs
 pub record ExpandedTermsWeigh : Type 0 where

@@ -13,7 +13,7 @@ use Rattle.msc_meaning.specs.Bodies.{ReferencePart, Body, level, WovenItems, no_
 use Rattle.msc_meaning.specs.Calls.{calls}
 use Rattle.msc_meaning.specs.FarEnds.{GateMap}
 use Rattle.msc_meaning.specs.InnerEvents.{GateEnd}
-use Rattle.msc_meaning.specs.Tables.{Table, ChartEntry, chart_at, Woven, Basic, HighLevel, Refinement, refinements}
+use Rattle.msc_meaning.specs.Tables.{Table, ChartEntry, chart_at, body_at, Woven, Basic, HighLevel, Refinement, refinements}
 use Rattle.chart_forms.specs.TableSizes.{size_to}
 use Rattle.gate_ends.specs.FoundEnds.{inner_to}
 use Rattle.gate_ends.specs.JoinCounts.{reference_count}
@@ -73,18 +73,27 @@ module _ (Few : List ℕ → Type 0) where
     AreFewOperands no_bodies = Unit {0}
     AreFewOperands (body_and b bs) = IsFewLevel b × AreFewOperands bs
 
-  abbrev pub IsFewWoven : List Refinement → Woven → Type 0
-  IsFewWoven [] (Basic held) = IsFewLevel held
-  IsFewWoven [] (HighLevel drawn) = ⊥
-  IsFewWoven (r ∷ rs) content = ⊥
+  -- the body of a refining chart, where it is there
+  abbrev pub IsFewBody : Option Body → Type 0
+  IsFewBody None = Unit {0}
+  IsFewBody (Some held) = IsFewLevel held
 
-  abbrev pub IsFewEntry : Option ChartEntry → Type 0
-  IsFewEntry None = ⊥
-  IsFewEntry (Some entry) = IsFewWoven (refinements entry.decls) entry.content
+  abbrev pub AreFewRefined : Table → List Refinement → Type 0
+  AreFewRefined table [] = Unit {0}
+  AreFewRefined table (r ∷ rs) = IsFewBody (body_at table r.chart) × AreFewRefined table rs
+
+  abbrev pub IsFewWoven : Table → List Refinement → Woven → Type 0
+  IsFewWoven table [] (Basic held) = IsFewLevel held
+  IsFewWoven table (r ∷ rs) (Basic held) = IsFewLevel held × AreFewRefined table (r ∷ rs)
+  IsFewWoven table rs (HighLevel drawn) = ⊥
+
+  abbrev pub IsFewEntry : Table → Option ChartEntry → Type 0
+  IsFewEntry table None = ⊥
+  IsFewEntry table (Some entry) = IsFewWoven table (refinements entry.decls) entry.content
 
 abbrev pub IsFewTo : Table → ℕ → List ℕ → Type 0
 IsFewTo table zero name = ⊥
-IsFewTo table (suc k) name = IsFewEntry (IsFewTo table k) (chart_at table name)
+IsFewTo table (suc k) name = IsFewEntry (IsFewTo table k) table (chart_at table name)
 
 -- then its term weighs no more than its expanded size, and so no more than with the inner events of gates counted in the table
 pub record ChartsAreLight : Type 0 where

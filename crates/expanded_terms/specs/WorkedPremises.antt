@@ -24,7 +24,7 @@ pub record MeetsAll (names : List (List ℕ)) (labels : List Label) (ends_of : W
   pub placeable : IsFitTo table ends_of (IsPlaceable names labels) depth (codes "A") no_gates
   pub ranked : IsRankedTo (event_named names labels) ends_of table depth rank (codes "A") no_gates 0
 
--- and what is asked without refining charts: its pairs rise, by the text, and are few
+-- and, without refining charts, that its pairs rise, by the text, and are few
 pub record RisesAndIsFew (names : List (List ℕ)) (labels : List Label) (ends_of : WovenItems → List GateEnd) (table : Table) (depth : ℕ) : Type 0 where
   pub texts : ChartRisesTo (event_named names labels) ends_of table depth (codes "A")
   pub few : IsFewTo table depth (codes "A")
@@ -35,3 +35,4 @@ pub record PremisesAreMet : Type 0 where
   pub inline : MeetsAll (i ∷ k ∷ []) (sent i m k ∷ received k m i ∷ done k x ∷ []) inline_ends gate_of_inline 1 (λ n. n)
   pub inline_rises : RisesAndIsFew (i ∷ k ∷ []) (sent i m k ∷ received k m i ∷ done k x ∷ []) inline_ends gate_of_inline 1
   pub decomposed : MeetsAll (j ∷ d ∷ e ∷ []) (sent j m d ∷ sent e n d ∷ received d n e ∷ received d m j ∷ []) no_ends refined 1 (λ n. n)
+  pub decomposed_few : IsFewTo refined 1 (codes "A")

@@ -1,10 +1,10 @@
 -- What the charts of an accepted document have, one by one and together.
-use Rattle.std.proofs.Common.{◌≡◌, ◌≤◌, ◌+◌, ◌||◌, length, map, fold, arith, inl, inr, ℕ, zero, suc, Bool, true, false, List, [], ◌∷◌, Some, Option, slice_get, slice_index_or, refl, sym, subst, ap, ap₂, ◌∙◌}
+use Rattle.std.proofs.Common.{◌≡◌, ◌≤◌, ◌+◌, ◌++◌, ◌⊎◌, ◌||◌, length, map, fold, arith, inl, inr, ℕ, zero, suc, Bool, true, false, List, [], ◌∷◌, Some, Option, slice_get, slice_index_or, refl, sym, subst, ap, ap₂, ◌∙◌}
 use Rattle.std.specs.List.{list_any}
 use Rattle.std.specs.Str.{bytes_eq}
 use Rattle.std.proofs.lemmas.Bool.{or_right}
 use Rattle.std.proofs.lemmas.Slice.Eq.{bytes_eq-Decides}
-use Rattle.woven_laws.specs.BuiltCharts.{BuiltChartsAreKnown, IsLinked, WovenChartsAreKnown, named_size}
+use Rattle.woven_laws.specs.BuiltCharts.{BuiltChartsAreKnown, IsLinked, WovenChartsAreKnown, link_size, named_size, refinements_size}
 use Rattle.woven_laws.specs.JoinSums.{level_joins}
 use Rattle.chart_cycles.specs.Cycles.{AreOrdered}
 use Rattle.chart_extents.specs.ExtentRules.{IsTooDeep}
@@ -13,8 +13,8 @@ use Rattle.chart_extents.specs.OwnExtents.{own_extent}
 use Rattle.chart_extents.specs.declared.extent.Extent.{Extent}
 use Rattle.chart_forms.specs.BuiltBodies.{IsBuiltBody}
 use Rattle.chart_forms.specs.NotBuilt.{IsBuilt}
-use Rattle.chart_forms.specs.TableSizes.{counted_size, entry_size, size_to, woven_size}
-use Rattle.chart_links.specs.Links.{Link, chart_links, linked}
+use Rattle.chart_forms.specs.TableSizes.{body_size, counted_size, entry_size, level_size, refined_size, size_to, woven_size}
+use Rattle.chart_links.specs.Links.{Link, Refers, Refines, chart_links, linked}
 use Rattle.chart_links.specs.References.{IsCalled}
 use Rattle.chart_links.specs.Summaries.{summary_of}
 use Rattle.chart_text.specs.WellFormed.{AreAllWellFormed, IsWellFormed}
@@ -33,7 +33,7 @@ use Rattle.msc_acceptance.proofs.HeldGates.{gates_held, there_goes}
 use Rattle.msc_acceptance.proofs.LimitLaws.{not_passed}
 use Rattle.msc_acceptance.proofs.WalkLaws.{in_one, one_built, one_formed}
 use Rattle.msc_acceptance.specs.Acceptance.{BreaksOf}
-use Rattle.msc_acceptance.specs.AcceptedCharts.{EachChart, IsAcceptedChart, IsAcceptedTable, IsThereTo, content_names, table_instances}
+use Rattle.msc_acceptance.specs.AcceptedCharts.{EachChart, IsAcceptedChart, IsAcceptedTable, IsThereTo, content_names, named_charts, table_instances}
 use Rattle.msc_acceptance.specs.ChartFaults.{IsBodyOf, IsMisnamedAt}
 use Rattle.msc_acceptance.specs.Deciding.{AllKept, HaveExtents, names, table_groups, text_groups}
 use Rattle.msc_acceptance.specs.Listing.{content_instances, cover_of}
@@ -49,7 +49,7 @@ use Rattle.msc_instances.specs.NameFaults.{ChartNamesOther}
 use Rattle.msc_meaning.specs.Bodies.{Body, ReferencePart, WovenItems}
 use Rattle.msc_meaning.specs.Levels.{IsWovenLevel, woven}
 use Rattle.msc_meaning.specs.Pieces.{Piece}
-use Rattle.msc_meaning.specs.Tables.{ChartEntry, Table, Woven, Basic, HighLevel, Refinement, chart_at, refinements}
+use Rattle.msc_meaning.specs.Tables.{ChartEntry, Table, Woven, Basic, HighLevel, Refinement, body_at, body_in, chart_at, refinements}
 use Rattle.msc_meaning.specs.WovenTables.{AreEntriesOf, entry_and, IsEntryOf, IsWovenContent}
 use Rattle.msc_rules.specs.FirstFaults.{Keeps}
 use Rattle.msc_rules.specs.declared.rule.Rule.TheVariants.{CreateTwice, EventNamedTwice, ExpandedNesting, Instances, MissingChart, NamedTwice, NotBuilt, Size, Undeclared}
@@ -58,6 +58,11 @@ use Rattle.msc_tree.specs.Charts as chart
 use Rattle.msc_tree.specs.declared.chart.Decl.{Decl}
 
 -- ---- one chart
+
+among_either : (xs ys : List (List ℕ)) (n : List ℕ) → IsAmong (xs ++ ys) n → IsAmong xs n ⊎ IsAmong ys n
+among_either [] ys n h = inr h
+among_either (x ∷ xs) ys n (inl e) = inl (inl e)
+among_either (x ∷ xs) ys n (inr h) = elim (among_either xs ys n h) [ inl k ↦ inl (inr k) | inr k ↦ inr k ]
 
 content_body : (c : Chart) (p : IsBasic c) (w : Woven) → IsWovenContent (instances c) c.content w → (b : Body) × (w ≡ Basic b)
 content_body c p w h = by w (subst (λ (x : chart.Content). IsWovenContent (instances c) x w) p.is h)
@@ -98,9 +103,6 @@ module _ (built : BuiltChartsAreKnown) where
   entry_covers c e keeps is =
       let b = entry_body c e keeps is in ap content_instances b.is ∙ covers (instances c) (pieces_of c b.basic) b.body b.on_level
 
-  pub entry_whole : (c : Chart) (e : ChartEntry) → IsBuilt c → IsEntryOf (instances c) c e → refinements e.decls ≡ []
-  entry_whole c e keeps is = subst (λ (ds : List Decl). refinements ds ≡ []) (sym is.decls) (built.whole c keeps)
-
   module _ (known : WovenChartsAreKnown) where
     entry_has : (c : Chart) (e : ChartEntry) → KeepsOwn c → IsEntryOf (instances c) c e → IsAcceptedChart e
     entry_has c e keeps is =
@@ -110,27 +112,40 @@ module _ (built : BuiltChartsAreKnown) where
           body = b.body;
           is = b.is;
           built = subst (λ (names : List (List ℕ)). IsBuiltBody names b.body) (sym cover) (built.built c b.basic.held b.body b.basic.is keeps.formed keeps.built keeps.named keeps.created b.on_level);
-          whole = entry_whole c e keeps.built is;
           pieces = pieces_of c b.basic;
           woven = subst (λ (names : List (List ℕ)). IsWovenLevel names (pieces_of c b.basic) b.body) (sym cover) b.on_level;
           once = known.once (instances c) b.basic.held b.body b.on_level;
           named_once = λ q m. keeps.named_once q (record { body = b.body; woven = b.woven_to; misnamed = m });
         }
 
-    -- what it is woven to is no larger than its text comes to with what joins add, whatever the charts count that are named
-    entry_light : (c : Chart) (e : ChartEntry) (keeps : IsBuilt c) (is : IsEntryOf (instances c) c e) (size_of : List ℕ → ℕ) (product : WovenItems → ReferencePart → ℕ)
-        → woven_size size_of product (refinements e.decls) e.content ≤ (own_extent c).size + level_joins product (entry_body c e keeps is).body + named_size size_of (chart_links c)
-    entry_light c e keeps is size_of product =
+    -- what it is woven to, with the charts that refine its instances, is no larger than its text comes to with what joins add, whatever the
+    -- charts count that are named
+    entry_light : (c : Chart) (e : ChartEntry) (keeps : IsBuilt c) (is : IsEntryOf (instances c) c e) (size_of refining : List ℕ → ℕ) (product : WovenItems → ReferencePart → ℕ)
+        → 2 + level_size size_of product (entry_body c e keeps is).body + refinements_size refining (refinements e.decls) ≤ (own_extent c).size + level_joins product (entry_body c e keeps is).body + named_size size_of refining (chart_links c)
+    entry_light c e keeps is size_of refining product =
         let b = entry_body c e keeps is in
-        let light = known.light c b.basic.held b.body size_of product b.basic.is b.on_level in
-        subst (λ (rs : List Refinement). woven_size size_of product rs e.content ≤ (own_extent c).size + level_joins product b.body + named_size size_of (chart_links c)) (sym (entry_whole c e keeps is))
-        (subst (λ (w : Woven). woven_size size_of product [] w ≤ (own_extent c).size + level_joins product b.body + named_size size_of (chart_links c)) (sym b.is) light)
+        subst (λ (ds : List Decl). 2 + level_size size_of product b.body + refinements_size refining (refinements ds) ≤ (own_extent c).size + level_joins product b.body + named_size size_of refining (chart_links c)) (sym is.decls)
+        (known.light c b.basic.held b.body size_of refining product b.basic.is b.on_level)
 
     -- what it names its text links
     entry_links : (c : Chart) (e : ChartEntry) → IsBuilt c → IsEntryOf (instances c) c e → (name : List ℕ) → IsAmong (content_names e.content) name → IsLinked (chart_links c) name
     entry_links c e keeps is name m =
         let b = entry_body c e keeps is in
         known.named c b.basic.held b.body b.basic.is b.on_level name (subst (λ (w : Woven). IsAmong (content_names w) name) b.is m)
+
+    -- and the charts that refine its instances
+    refined_links : (c : Chart) (e : ChartEntry) → IsBuilt c → IsEntryOf (instances c) c e → (rs : List Refinement) → ((r : Refinement) → IsAmong rs r → IsAmong (refinements e.decls) r) → (name : List ℕ) → IsAmong (map (λ (r : Refinement). r.chart) rs) name → IsLinked (chart_links c) name
+    refined_links c e keeps is [] f name m = absurd m
+    refined_links c e keeps is (r ∷ rs) f name (inl same) =
+        let b = entry_body c e keeps is in
+        subst (IsLinked (chart_links c)) (sym same) (known.refined c b.basic.held b.basic.is r (subst (λ (ds : List Decl). IsAmong (refinements ds) r) is.decls (f r (inl refl))))
+    refined_links c e keeps is (r ∷ rs) f name (inr m) = refined_links c e keeps is rs (λ q k. f q (inr k)) name m
+
+    named_links : (c : Chart) (e : ChartEntry) → IsBuilt c → IsEntryOf (instances c) c e → (name : List ℕ) → IsAmong (named_charts e) name → IsLinked (chart_links c) name
+    named_links c e keeps is name m = elim (among_either (content_names e.content) (map (λ (r : Refinement). r.chart) (refinements e.decls)) name m) [
+      | inl own ↦ entry_links c e keeps is name own
+      | inr others ↦ refined_links c e keeps is (refinements e.decls) (λ r k. k) name others
+    ]
 
 -- ---- the names of charts
 
@@ -200,7 +215,7 @@ entry_there (x ∷ charts) (e ∷ table) (entry_and is others) d (suc i) c at =
 -- ---- basic charts
 
 abbrev IsBasicEntry : ChartEntry → Type 0
-IsBasicEntry e = (refinements e.decls ≡ []) × IsBasicWoven e.content
+IsBasicEntry e = IsBasicWoven e.content
 
 basic_content : (w : Woven) (b : Body) → w ≡ Basic b → IsBasicWoven w
 basic_content w b e = subst IsBasicWoven (sym e) tt
@@ -227,9 +242,9 @@ module _ (built : BuiltChartsAreKnown) (known : WovenChartsAreKnown) (charts : L
   own_built : (c : Chart) → IsAmong charts c → IsBuilt c
   own_built c m = one_built charts c (λ p h. texts.0 NotBuilt p (inl refl) h) m
 
-  -- none is a high-level chart, and none of their instances is decomposed
+  -- none is a high-level chart
   pub are_basic : (table : Table) → AreEntriesOf instances charts table → IsBasicTable table
-  are_basic table are = basic_of table (each_entry IsBasicEntry charts table are (λ c e m is. (entry_whole built c e (own_built c m) is, basic_content e.content (entry_body built c e (own_built c m) is).body (entry_body built c e (own_built c m) is).is)))
+  are_basic table are = basic_of table (each_entry IsBasicEntry charts table are (λ c e m is. basic_content e.content (entry_body built c e (own_built c m) is).body (entry_body built c e (own_built c m) is).is))
 
   pub differ : AreDifferent (chart_names charts)
   differ = names_differ [] charts (λ p h. texts.1.1.0 NamedTwice p (inl refl) (inl h))
@@ -241,7 +256,7 @@ module _ (built : BuiltChartsAreKnown) (known : WovenChartsAreKnown) (charts : L
       built = own_built c m;
       named = λ p h. texts.1.1.0 Undeclared p (inr (inl refl)) (in_one ChartNamesOther charts c p m h);
       created = λ p h. texts.1.1.1.1.1.0 CreateTwice p (inr (inr (inr (inr (inl refl))))) (in_one ChartCreatesTwice charts c p m h);
-      named_once = λ p h. together.1.0 EventNamedTwice p (inr (inl refl)) (in_one (IsMisnamedAt Twice) charts c p m h);
+      named_once = λ p h. together.1.1.0 EventNamedTwice p (inr (inl refl)) (in_one (IsMisnamedAt Twice) charts c p m h);
     }
 
     pub are_accepted : (table : Table) → AreEntriesOf instances charts table → EachChart IsAcceptedChart table
@@ -276,7 +291,7 @@ module _ (built : BuiltChartsAreKnown) (known : WovenChartsAreKnown) (charts : L
       there_to (suc depth) i c e at is low =
           let t = there i c at in
           let m = at_among charts i c at in
-          record { chart = t.entry; is = t.at; named = all_of (IsThereTo table depth) (content_names t.entry.content) (λ n k. one (there_to depth) n (entry_links built known c t.entry (own_built c m) t.is n k)) }
+          record { chart = t.entry; is = t.at; named = all_of (IsThereTo table depth) (named_charts t.entry) (λ n k. one (there_to depth) n (named_links built known c t.entry (own_built c m) t.is n k)) }
         where
           one : ((j : ℕ) (d : Chart) (x : Extent) → slice_get charts j ≡ Some d → IsExtentOf all (sized_at joined j d) x → x.nesting ≤ depth → IsThereTo table depth d.name) → (n : List ℕ) → IsLinked (chart_links c) n → IsThereTo table depth n
           one below n linked_by =
@@ -305,25 +320,70 @@ module _ (built : BuiltChartsAreKnown) (known : WovenChartsAreKnown) (charts : L
         abbrev size_by : ℕ → List ℕ → ℕ
         size_by depth name = size_to (λ k. reference_count (inner_to table k)) table depth name
 
+        -- a chart that refines an instance counts its own level
+        abbrev body_by : ℕ → List ℕ → ℕ
+        body_by depth name = body_size (size_by depth) (reference_count (inner_to table depth)) (body_at table name)
+
+        refined_by : (depth : ℕ) (rs : List Refinement) → refined_size (size_by depth) (reference_count (inner_to table depth)) table rs ≡ refinements_size (body_by depth) rs
+        refined_by depth [] = refl
+        refined_by depth (r ∷ rs) = omega (arith, refined_by depth rs)
+
+        -- the size of what a chart is woven to
+        basic_by : (depth : ℕ) (rs : List Refinement) (b : Body)
+            → woven_size (size_by depth) (reference_count (inner_to table depth)) table rs (Basic b) ≤ 2 + level_size (size_by depth) (reference_count (inner_to table depth)) b + refinements_size (body_by depth) rs
+        basic_by depth [] b = omega arith
+        basic_by depth (r ∷ rs) b = omega (arith, refined_by depth (r ∷ rs))
+
+        woven_by : (depth : ℕ) (rs : List Refinement) (w : Woven) (b : Body) → w ≡ Basic b
+            → woven_size (size_by depth) (reference_count (inner_to table depth)) table rs w ≤ 2 + level_size (size_by depth) (reference_count (inner_to table depth)) b + refinements_size (body_by depth) rs
+        woven_by depth rs w b is =
+            subst (λ (v : Woven). woven_size (size_by depth) (reference_count (inner_to table depth)) table rs v ≤ 2 + level_size (size_by depth) (reference_count (inner_to table depth)) b + refinements_size (body_by depth) rs) (sym is) (basic_by depth rs b)
+
+        -- of each chart whose text comes to so much
+        abbrev CountsWithin : (List ℕ → ℕ) → Type 0
+        CountsWithin count = (j : ℕ) (d : Chart) (x : Extent) → slice_get charts j ≡ Some d → IsExtentOf all (sized_at joined j d) x → x.size ≤ EXPANDED_SIZE → count d.name ≤ x.size
+
+        of_link : (size_of refining : List ℕ → ℕ) → CountsWithin size_of → CountsWithin refining → (i : ℕ) (c : Chart) (e : Extent) → slice_get charts i ≡ Some c → e.size ≤ EXPANDED_SIZE
+            → (l : Link) (x : Extent) → IsAmong (chart_links c) l → HasExtent all (linked l) x → x.size ≤ e.size → link_size size_of refining l ≤ x.size
+        of_link size_of refining small others i c e at low (Refers name place scope deep) x k has within =
+            let h = called_chart charts joined (Refers name place scope deep) x (called c (at_among charts i c at) (Refers name place scope deep) k) has in
+            subst (λ (n : List ℕ). size_of n ≤ x.size) h.named (small h.i h.c x h.at h.comes (omega (arith, within, low)))
+        of_link size_of refining small others i c e at low (Refines instance name place) x k has within =
+            let h = called_chart charts joined (Refines instance name place) x (called c (at_among charts i c at) (Refines instance name place) k) has in
+            subst (λ (n : List ℕ). refining n ≤ x.size) h.named (others h.i h.c x h.at h.comes (omega (arith, within, low)))
+
+        -- its level, with the charts that refine instances
+        summed : (depth : ℕ) (refining : List ℕ → ℕ) → CountsWithin (size_by depth) → CountsWithin refining → (i : ℕ) (c : Chart) (e : Extent) (at : slice_get charts i ≡ Some c) → IsExtentOf all (sized_at joined i c) e → e.size ≤ EXPANDED_SIZE → (t : IsThere table i c)
+            → 2 + level_size (size_by depth) (reference_count (inner_to table depth)) (entry_body built c t.entry (own_built c (at_among charts i c at)) t.is).body + refinements_size refining (refinements t.entry.decls) ≤ e.size
+        summed depth refining small others i c e at is low t =
+            let keeps = own_built c (at_among charts i c at) in
+            let b = entry_body built c t.entry keeps t.is in
+            let product = reference_count (inner_to table depth) in
+            let light = entry_light built known c t.entry keeps t.is (size_by depth) refining product in
+            let sum = adds_size all (size_by depth) refining (sized_at joined i c).own (chart_links c) e (of_link (size_by depth) refining small others i c e at low) is in
+            let own = own_within all (sized_at joined i c) e is in
+            let joins : level_joins product b.body ≤ slice_index_or joined i 0 = law.enough charts table joined i c t.entry b.body depth sizes are at t.stands b.is (omega (arith, own, low)) in
+            omega (arith, light, sum, joins)
+
+        content_in : (e : ChartEntry) (b : Body) → e.content ≡ Basic b → body_in (Some e) ≡ Some b
+        content_in e b is = ap (λ (w : Woven). body_in (Some (record { name = e.name; decls = e.decls; content = w }))) is
+
+        bodies_small : (depth : ℕ) → CountsWithin (size_by depth) → CountsWithin (body_by depth)
+        bodies_small depth small j d x at is low =
+            let t = there j d at in
+            let b = entry_body built d t.entry (own_built d (at_among charts j d at)) t.is in
+            let sum = summed depth (λ n. 0) small (λ k c y h g f. omega arith) j d x at is low t in
+            let same : body_by depth d.name ≡ 2 + level_size (size_by depth) (reference_count (inner_to table depth)) b.body = ap (body_size (size_by depth) (reference_count (inner_to table depth))) (ap body_in t.at ∙ content_in t.entry b.body b.is) in
+            omega (arith, sum, same)
+
         small_to : (depth : ℕ) (i : ℕ) (c : Chart) (e : Extent) → slice_get charts i ≡ Some c → IsExtentOf all (sized_at joined i c) e → e.size ≤ EXPANDED_SIZE → size_by depth c.name ≤ e.size
         small_to zero i c e at is low = omega arith
         small_to (suc depth) i c e at is low =
             let t = there i c at in
-            let keeps = own_built c (at_among charts i c at) in
-            let b = entry_body built c t.entry keeps t.is in
-            let product = reference_count (inner_to table depth) in
-            let light = entry_light built known c t.entry keeps t.is (size_by depth) product in
-            let sum = adds_size all (size_by depth) (sized_at joined i c).own (chart_links c) e (one (small_to depth)) is in
-            let own = own_within all (sized_at joined i c) e is in
-            let joins : level_joins product b.body ≤ slice_index_or joined i 0 = law.enough charts table joined i c t.entry b.body depth sizes are at t.stands b.is (omega (arith, own, low)) in
-            let same : size_by (suc depth) c.name ≡ woven_size (size_by depth) product (refinements t.entry.decls) t.entry.content = ap (entry_size (size_by depth) product) t.at in
-            omega (arith, light, sum, same, joins)
-          where
-            one : ((j : ℕ) (d : Chart) (x : Extent) → slice_get charts j ≡ Some d → IsExtentOf all (sized_at joined j d) x → x.size ≤ EXPANDED_SIZE → size_by depth d.name ≤ x.size)
-                → (l : Link) (x : Extent) → IsAmong (chart_links c) l → HasExtent all (linked l) x → x.size ≤ e.size → size_by depth (linked l) ≤ x.size
-            one below l x k has within =
-                let h = called_chart charts joined l x (called c (at_among charts i c at) l k) has in
-                subst (λ (n : List ℕ). size_by depth n ≤ x.size) h.named (below h.i h.c x h.at h.comes (omega (arith, within, low)))
+            let b = entry_body built c t.entry (own_built c (at_among charts i c at)) t.is in
+            let sum = summed depth (body_by depth) (small_to depth) (bodies_small depth (small_to depth)) i c e at is low t in
+            let same : size_by (suc depth) c.name ≡ woven_size (size_by depth) (reference_count (inner_to table depth)) table (refinements t.entry.decls) t.entry.content = ap (entry_size (size_by depth) (reference_count (inner_to table depth)) table) t.at in
+            omega (arith, sum, same, woven_by depth (refinements t.entry.decls) t.entry.content b.body b.is)
 
     -- ---- by the sizes that the document has
 

@@ -14,7 +14,7 @@ use Rattle.msc_base.specs.Lists.{IsAmong}
 use Rattle.msc_base.specs.declared.limits.TheConstants.Limits.{EXPANDED_NESTING, EXPANDED_SIZE}
 use Rattle.msc_base.specs.declared.place.Place.{Place}
 use Rattle.msc_tree.specs.Charts.{Chart}
-use Rattle.woven_laws.specs.BuiltCharts.{named_size}
+use Rattle.woven_laws.specs.BuiltCharts.{link_size, named_size}
 use Rattle.msc_acceptance.proofs.LinkLaws.{sized_summaries}
 
 -- ---- links and extents
@@ -37,13 +37,14 @@ sizes_from all start [] end no_link = omega arith
 sizes_from all start (l ∷ links) end (link_and {named = e} h s) = let more = sizes_from all (with_named start (depth_of l) e) links end s in omega (arith, more)
 
 -- what each link names is no larger than the whole
-pub adds_size : (all : List Sized) (size_of : List ℕ → ℕ) (start : Extent) (links : List Link) (end : Extent) → ((l : Link) (e : Extent) → IsAmong links l → HasExtent all (linked l) e → e.size ≤ end.size → size_of (linked l) ≤ e.size) → AddsUp all start links end
-    → start.size + named_size size_of links ≤ end.size
-adds_size all size_of start [] end f no_link = omega arith
-adds_size all size_of start (l ∷ links) end f (link_and {named = e} h s) =
+pub adds_size : (all : List Sized) (size_of refining : List ℕ → ℕ) (start : Extent) (links : List Link) (end : Extent)
+    → ((l : Link) (e : Extent) → IsAmong links l → HasExtent all (linked l) e → e.size ≤ end.size → link_size size_of refining l ≤ e.size) → AddsUp all start links end
+    → start.size + named_size size_of refining links ≤ end.size
+adds_size all size_of refining start [] end f no_link = omega arith
+adds_size all size_of refining start (l ∷ links) end f (link_and {named = e} h s) =
     let up = sizes_from all (with_named start (depth_of l) e) links end s in
     let one = f l e (inl refl) h (omega (arith, up)) in
-    let more = adds_size all size_of (with_named start (depth_of l) e) links end (λ k d m g low. f k d (inr m) g low) s in
+    let more = adds_size all size_of refining (with_named start (depth_of l) e) links end (λ k d m g low. f k d (inr m) g low) s in
     omega (arith, one, more)
 
 pub own_within : (all : List Sized) (chart : Sized) (e : Extent) → IsExtentOf all chart e → chart.own.size ≤ e.size

@@ -20,10 +20,13 @@ pub three_best : (charts : List Chart) (r s t : Rule) (a b c : Option Place) →
     → IsBest number_of (BreaksOf charts) (r ∷ s ∷ t ∷ []) (earlier_of number_of (earlier_of number_of (fault_of r a) (fault_of s b)) (fault_of t c))
 three_best charts r s t a b c h k l = best_with number_of (BreaksOf charts) (r ∷ s ∷ []) t (earlier_of number_of (fault_of r a) (fault_of s b)) c (two_best charts r s a b h k) l
 
+pub four_best : (charts : List Chart) (r s t u : Rule) (a b c d : Option Place) → IsLeast (BreaksOf charts r) a → IsLeast (BreaksOf charts s) b → IsLeast (BreaksOf charts t) c → IsLeast (BreaksOf charts u) d
+    → IsBest number_of (BreaksOf charts) (r ∷ s ∷ t ∷ u ∷ []) (earlier_of number_of (earlier_of number_of (earlier_of number_of (fault_of r a) (fault_of s b)) (fault_of t c)) (fault_of u d))
+four_best charts r s t u a b c d h k l m = best_with number_of (BreaksOf charts) (r ∷ s ∷ t ∷ []) u (earlier_of number_of (earlier_of number_of (fault_of r a) (fault_of s b)) (fault_of t c)) d (three_best charts r s t a b c h k l) m
+
 pub five_best : (charts : List Chart) (r s t u v : Rule) (a b c d e : Option Place) → IsLeast (BreaksOf charts r) a → IsLeast (BreaksOf charts s) b → IsLeast (BreaksOf charts t) c → IsLeast (BreaksOf charts u) d → IsLeast (BreaksOf charts v) e
     → IsBest number_of (BreaksOf charts) (r ∷ s ∷ t ∷ u ∷ v ∷ [])
     (earlier_of number_of (earlier_of number_of (earlier_of number_of (earlier_of number_of (fault_of r a) (fault_of s b)) (fault_of t c)) (fault_of u d)) (fault_of v e))
 five_best charts r s t u v a b c d e h k l m n =
-    let three = earlier_of number_of (earlier_of number_of (fault_of r a) (fault_of s b)) (fault_of t c) in
-    let four = best_with number_of (BreaksOf charts) (r ∷ s ∷ t ∷ []) u three d (three_best charts r s t a b c h k l) m in
-    best_with number_of (BreaksOf charts) (r ∷ s ∷ t ∷ u ∷ []) v (earlier_of number_of three (fault_of u d)) e four n
+    let four = earlier_of number_of (earlier_of number_of (earlier_of number_of (fault_of r a) (fault_of s b)) (fault_of t c)) (fault_of u d) in
+    best_with number_of (BreaksOf charts) (r ∷ s ∷ t ∷ u ∷ []) v four e (four_best charts r s t u a b c d h k l m) n

@@ -1,5 +1,5 @@
 -- The levels of charts that keep the rules on gates have one end of each called gate.
-use Rattle.std.proofs.Common.{◌≡◌, inl, inr, ℕ, zero, suc, List, [], ◌∷◌, Some, map, refl, sym, ap, subst}
+use Rattle.std.proofs.Common.{◌≡◌, inl, inr, ℕ, zero, suc, List, [], ◌∷◌, ◌++◌, Some, map, refl, sym, ap, subst}
 use Rattle.gate_ends.specs.FoundEnds.{AreAll, GoesTo, body_names}
 use Rattle.gate_ends.specs.LevelGates.{items_in}
 use Rattle.gate_rules.specs.GateLaws.{HasGates, LevelsHaveGates}
@@ -17,7 +17,7 @@ use Rattle.msc_instances.specs.Instances.{instances}
 use Rattle.msc_meaning.specs.Views.{table_view}
 use Rattle.msc_meaning.specs.declared.body.ChartEntry as code
 use Rattle.msc_meaning.specs.BodyLevels.{EachLevel}
-use Rattle.msc_meaning.specs.Tables.{ChartEntry, Table, Woven, Basic, HighLevel, body_in}
+use Rattle.msc_meaning.specs.Tables.{ChartEntry, Table, Woven, Basic, HighLevel, Refinement, body_in, refinements}
 use Rattle.msc_meaning.specs.WovenTables.{AreEntriesOf}
 use Rattle.msc_rules.specs.declared.rule.Rule.TheVariants.{GateOnLoop, GateSplit, GateTwice, GateWays, NoGate}
 use Rattle.msc_tree.specs.Charts.{Chart}
@@ -29,6 +29,10 @@ module _ (P Q : List ℕ → Type 0) (f : (name : List ℕ) → P name → Q nam
   all_turned [] h = tt
   all_turned (n ∷ names) h = (f n h.0, all_turned names h.1)
 
+pub all_left : (P : List ℕ → Type 0) (xs ys : List (List ℕ)) → AreAll P (xs ++ ys) → AreAll P xs
+all_left P [] ys h = tt
+all_left P (x ∷ xs) ys h = (h.0, all_left P xs ys h.1)
+
 -- the names of the body of a chart are those of its content
 named_body : (P : List ℕ → Type 0) (c : ChartEntry) (w : Woven) → c.content ≡ w → AreAll P (content_names w) → AreAll P (body_names (body_in (Some c)))
 named_body P c (Basic b) e h = subst (λ (v : Woven). AreAll P (body_names (body_in (Some (record { name = c.name; decls = c.decls; content = v }))))) (sym e) h
@@ -38,7 +42,7 @@ pub there_goes : (table : Table) (depth : ℕ) (name : List ℕ) → IsThereTo t
 there_goes table zero name h = h
 there_goes table (suc depth) name h =
     subst (λ o. AreAll (GoesTo table depth) (body_names o)) (sym (ap body_in h.is))
-    (named_body (GoesTo table depth) h.chart h.chart.content refl (all_turned (IsThereTo table depth) (GoesTo table depth) (there_goes table depth) (content_names h.chart.content) h.named))
+    (named_body (GoesTo table depth) h.chart h.chart.content refl (all_turned (IsThereTo table depth) (GoesTo table depth) (there_goes table depth) (content_names h.chart.content) (all_left (IsThereTo table depth) (content_names h.chart.content) (map (λ (r : Refinement). r.chart) (refinements h.chart.decls)) h.named)))
 
 of_each : (P : ChartEntry → Type 0) (table : Table) → EachChart P table → (c : ChartEntry) → Among c table → P c
 of_each P (d ∷ table) h _ first = h.0

@@ -12,6 +12,7 @@ pub mod SingleLaws
 pub mod LinkLaws
 pub mod CycleLaws
 pub mod GatePlaces
+pub mod RefinementPlaces
 pub mod HeldGates
 pub mod ExtentLaws
 pub mod OneTable

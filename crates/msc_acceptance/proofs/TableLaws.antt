@@ -7,6 +7,7 @@ use Rattle.chart_forms.specs.NotBuilt.{IsNotBuilt}
 use Rattle.creation_rules.specs.Creating.{ChartCreatesTwice}
 use Rattle.creation_rules.specs.Placing.{ChartPlacesCreation}
 use Rattle.creation_rules.specs.Stopping.{ChartGoesOn}
+use Rattle.refinement_rules.specs.Coregions.{HasLocalCoregion}
 use Rattle.general_ordering.specs.EventNames.{Unknown, Twice}
 use Rattle.level_weaving.specs.Exceptions.{IsMisplaced}
 use Rattle.msc_acceptance.proofs.WalkLaws.{part_step, walk_end}
@@ -58,8 +59,9 @@ pub record AreTextsSoFar (list : List RawChart) (k : ℕ) (places : TextPlaces) 
   pub creation : LeastSoFar ChartPlacesCreation list k places.creation
   pub child : LeastSoFar ChartCreatesTwice list k places.child
   pub behind : LeastSoFar ChartGoesOn list k places.behind
+  pub coregion : LeastSoFar HasLocalCoregion list k places.coregion
 
-pub texts_start : (list : List RawChart) → AreTextsSoFar list 0 (record { not_built = None; high_bound = None; twice = None; undeclared = None; creation = None; child = None; behind = None })
+pub texts_start : (list : List RawChart) → AreTextsSoFar list 0 (record { not_built = None; high_bound = None; twice = None; undeclared = None; creation = None; child = None; behind = None; coregion = None })
 texts_start list = record {
   not_built = narrows_start (InOne IsNotBuilt (map chart_view list));
   high_bound = narrows_start (InOne HasHighBound (map chart_view list));
@@ -68,6 +70,7 @@ texts_start list = record {
   creation = narrows_start (InOne ChartPlacesCreation (map chart_view list));
   child = narrows_start (InOne ChartCreatesTwice (map chart_view list));
   behind = narrows_start (InOne ChartGoesOn (map chart_view list));
+  coregion = narrows_start (InOne HasLocalCoregion (map chart_view list));
 }
 
 -- the places of both
@@ -79,6 +82,7 @@ pub record AreEarlierTexts (a b c : TextPlaces) : Type 0 where
   pub creation : c.creation ≡ earlier_of a.creation b.creation
   pub child : c.child ≡ earlier_of a.child b.child
   pub behind : c.behind ≡ earlier_of a.behind b.behind
+  pub coregion : c.coregion ≡ earlier_of a.coregion b.coregion
 
 pub texts_more : (list : List RawChart) (k : ℕ) (c : RawChart) (best found next : TextPlaces) → k < length list → c ≡ get_or list k c → AreOwnTexts (chart_view c) found → AreEarlierTexts best found next
     → AreTextsSoFar list k best → AreTextsSoFar list (k + 1) next
@@ -90,6 +94,7 @@ texts_more list k c best found next low is own made h = record {
   creation = least_more ChartPlacesCreation list k c best.creation found.creation next.creation low is own.creation made.creation h.creation;
   child = least_more ChartCreatesTwice list k c best.child found.child next.child low is own.child made.child h.child;
   behind = least_more ChartGoesOn list k c best.behind found.behind next.behind low is own.behind made.behind h.behind;
+  coregion = least_more HasLocalCoregion list k c best.coregion found.coregion next.coregion low is own.coregion made.coregion h.coregion;
 }
 
 pub texts_all : (list : List RawChart) (k : ℕ) (places : TextPlaces) → (k < length list → ⊥) → AreTextsSoFar list k places → AreTextPlaces (map chart_view list) places
@@ -101,6 +106,7 @@ texts_all list k places n h = record {
   creation = least_all ChartPlacesCreation list k places.creation n h.creation;
   child = least_all ChartCreatesTwice list k places.child n h.child;
   behind = least_all ChartGoesOn list k places.behind n h.behind;
+  coregion = least_all HasLocalCoregion list k places.coregion n h.coregion;
 }
 
 -- ---- parts

@@ -19,9 +19,11 @@ use Rattle.shared_parts.specs.PartRules.{ChartBreaksPartRule}
 use Rattle.shared_parts.specs.declared.faults.PartRule.TheVariants as part
 use Rattle.msc_meaning.specs.Tables.{Table}
 use Rattle.msc_meaning.specs.WovenTables.{IsTableOf}
-use Rattle.msc_acceptance.specs.ChartFaults.{BreaksGatesAt, CrossesAt, IsAloneAt, IsCyclicAt, IsMisnamedAt}
+use Rattle.msc_acceptance.specs.ChartFaults.{BreaksGatesAt, BreaksRefinementAt, CrossesAt, IsAloneAt, IsCyclicAt, IsMisnamedAt}
 use Rattle.gate_rules.specs.declared.faults.GateRule.TheVariants as gate
 use Rattle.general_ordering.specs.EventNames.{Unknown, Twice}
+use Rattle.refinement_rules.specs.Coregions.{HasLocalCoregion}
+use Rattle.refinement_rules.specs.declared.faults.RefinementRule.TheVariants as refinement
 use Rattle.msc_instances.specs.Instances.{instances}
 use Rattle.msc_instances.specs.NameFaults.{ChartNamesOther, ChartNamesTwice}
 use Rattle.msc_acceptance.specs.Rules.{InOne, IsFurther, HasFurther, IsNamedAgain}
@@ -54,6 +56,10 @@ BreaksOf charts GateTwice place = BreaksGatesAt gate.GateTwice charts place
 BreaksOf charts GateWays place = BreaksGatesAt gate.GateWays charts place
 BreaksOf charts GateSplit place = BreaksGatesAt gate.GateSplit charts place
 BreaksOf charts GateOnLoop place = BreaksGatesAt gate.GateOnLoop charts place
+BreaksOf charts DecompositionMismatch place = BreaksRefinementAt refinement.DecompositionMismatch charts place
+BreaksOf charts SharedPart place = BreaksRefinementAt refinement.SharedPart charts place
+BreaksOf charts Inside place = BreaksRefinementAt refinement.Inside charts place
+BreaksOf charts LocalEvent place = InOne HasLocalCoregion charts place ⊎ BreaksRefinementAt refinement.LocalEvent charts place
 BreaksOf charts UnknownEvent place = InOne (IsMisnamedAt Unknown) charts place
 BreaksOf charts EventNamedTwice place = InOne (IsMisnamedAt Twice) charts place
 BreaksOf charts Cyclic place = IsCyclicAt charts place
@@ -68,10 +74,6 @@ BreaksOf charts (Unsupported form) place = ⊥
 BreaksOf charts TooDeep place = ⊥
 -- rules on forms that aren't built
 BreaksOf charts Nodes place = ⊥
-BreaksOf charts DecompositionMismatch place = ⊥
-BreaksOf charts SharedPart place = ⊥
-BreaksOf charts Inside place = ⊥
-BreaksOf charts LocalEvent place = ⊥
 BreaksOf charts UnknownLabel place = ⊥
 BreaksOf charts LabelNamedTwice place = ⊥
 BreaksOf charts Endless place = ⊥

@@ -1,5 +1,5 @@
 -- What the charts of an accepted document have as long as not all forms are built.
-use Rattle.std.specs.Prelude.{◌≡◌, ◌≤◌, ⊤, ℕ, zero, suc, List, [], ◌∷◌, Some, fold, length, map}
+use Rattle.std.specs.Prelude.{◌≡◌, ◌≤◌, ⊤, ℕ, zero, suc, List, [], ◌∷◌, ◌++◌, Some, fold, length, map}
 use Rattle.chart_cycles.specs.Cycles.{AreOrdered}
 use Rattle.chart_forms.specs.BodyEvents.{events_within}
 use Rattle.chart_forms.specs.BuiltBodies.{IsBuiltBody}
@@ -17,7 +17,7 @@ use Rattle.msc_meaning.specs.Bodies.{Body, EventNode}
 use Rattle.msc_meaning.specs.BodyLevels.{BodyLevel, EachLevel, body_levels}
 use Rattle.msc_meaning.specs.Levels.{IsWovenLevel}
 use Rattle.msc_meaning.specs.Pieces.{Piece}
-use Rattle.msc_meaning.specs.Tables.{ChartEntry, Table, Woven, Basic, HighLevel, chart_at, refinements}
+use Rattle.msc_meaning.specs.Tables.{ChartEntry, Table, Woven, Basic, HighLevel, Refinement, chart_at, refinements}
 use Rattle.msc_acceptance.specs.Listing.{content_instances, cover_of}
 
 -- ---- one chart
@@ -27,8 +27,6 @@ pub record IsAcceptedChart (c : ChartEntry) : Type 0 where
   pub body : Body
   pub is : c.content ≡ Basic body
   pub built : IsBuiltBody (cover_of body) body
-  -- none of its instances is decomposed
-  pub whole : refinements c.decls ≡ []
   -- it is what a level is woven to
   pub pieces : List Piece
   pub woven : IsWovenLevel (cover_of body) pieces body
@@ -42,16 +40,20 @@ abbrev pub EachChart : (ChartEntry → Type 0) → Table → Type 0
 EachChart P [] = ⊤
 EachChart P (c ∷ table) = P c × EachChart P table
 
--- the charts that a chart names
+-- the charts that a chart references
 abbrev pub content_names : Woven → List (List ℕ)
 content_names (Basic body) = level_names body
 content_names (HighLevel drawn) = []
+
+-- and those that refine its instances
+abbrev pub named_charts : ChartEntry → List (List ℕ)
+named_charts c = content_names c.content ++ map (λ (r : Refinement). r.chart) (refinements c.decls)
 
 -- the chart of that name is there, and so are those that it names
 pub record HasNamed (table : Table) (IsThere : List ℕ → Type 0) (name : List ℕ) : Type 0 where
   pub chart : ChartEntry
   pub is : chart_at table name ≡ Some chart
-  pub named : AreAll IsThere (content_names chart.content)
+  pub named : AreAll IsThere (named_charts chart)
 
 -- they stand in each other less than so deep
 abbrev pub IsThereTo : Table → ℕ → List ℕ → Type 0

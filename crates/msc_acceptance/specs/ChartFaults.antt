@@ -1,5 +1,6 @@
--- Where what charts are woven to breaks a rule: columns that cross, messages without partner, gates, names of events, a cyclic order.
-use Rattle.std.specs.Prelude.{◌≡◌, ℕ, List}
+-- Where what charts are woven to breaks a rule: columns that cross, messages without partner, gates, decomposed instances, names of events,
+-- a cyclic order.
+use Rattle.std.specs.Prelude.{◌≡◌, ℕ, List, map}
 use Rattle.chart_cycles.specs.Cycles.{IsOrdered}
 use Rattle.msc_base.specs.Lists.{IsAmong}
 use Rattle.msc_base.specs.declared.limits.TheConstants.Limits.{EXPANDED_NESTING}
@@ -12,10 +13,13 @@ use Rattle.msc_meaning.specs.Partners.{LacksPartner}
 use Rattle.msc_meaning.specs.Pieces.{statements_pieces}
 use Rattle.msc_meaning.specs.Tables as table
 use Rattle.msc_meaning.specs.WovenTables.{AreEntriesOf, IsWovenContent}
+use Rattle.chart_links.specs.Summaries.{summary_of}
 use Rattle.gate_rules.specs.GateRules.{BreaksGateRule}
 use Rattle.gate_rules.specs.declared.faults.GateRule.{GateRule}
 use Rattle.general_ordering.specs.EventNames.{BreaksNameRule, EventNameRule}
 use Rattle.msc_instances.specs.Instances.{instances}
+use Rattle.refinement_rules.specs.RefinementRules.{BreaksRefinementRule}
+use Rattle.refinement_rules.specs.declared.faults.RefinementRule.{RefinementRule}
 
 -- the chart is a basic one, and its text is woven to that body
 abbrev pub IsBodyOf : Chart → Body → Type 0
@@ -46,6 +50,12 @@ pub record BreaksGatesAt (rule : GateRule) (charts : List Chart) (place : Place)
   pub table : table.Table
   pub woven : AreEntriesOf instances charts table
   pub breaks : BreaksGateRule table rule place
+
+-- at that place what the charts are woven to breaks a rule on decomposed instances
+pub record BreaksRefinementAt (rule : RefinementRule) (charts : List Chart) (place : Place) : Type 0 where
+  pub table : table.Table
+  pub woven : AreEntriesOf instances charts table
+  pub breaks : BreaksRefinementRule (map summary_of charts) table rule place
 
 -- one of the charts stands there, and the events of its expansion, with those of the charts that it names, can't happen in any order
 pub record IsCyclicAt (charts : List Chart) (place : Place) : Type 0 where

@@ -11,7 +11,7 @@ use Rattle.msc_tree.specs.Statements.{Statement, statements}
 use Rattle.msc_rules.specs.FirstFaults.{Keeps, IsFirst}
 use Rattle.msc_rules.specs.Rules.{number_of}
 use Rattle.msc_rules.specs.declared.rule.Rule.{Rule}
-use Rattle.msc_rules.specs.declared.rule.Rule.TheVariants.{NotBuilt, Charts, Instances, LoopBound, NamedTwice, Undeclared, MissingChart, Recursive, Uncovered, ExpandedNesting, Size, Total, NotShared, OperandsDiffer, ExcPlace, CreatePlace, CreateTwice, AfterStop, Crossed, Unmatched, NoGate, GateTwice, GateWays, GateSplit, GateOnLoop, UnknownEvent, EventNamedTwice, Cyclic}
+use Rattle.msc_rules.specs.declared.rule.Rule.TheVariants.{NotBuilt, Charts, Instances, LoopBound, NamedTwice, Undeclared, MissingChart, Recursive, Uncovered, ExpandedNesting, Size, Total, NotShared, OperandsDiffer, ExcPlace, CreatePlace, CreateTwice, AfterStop, Crossed, Unmatched, NoGate, GateTwice, GateWays, GateSplit, GateOnLoop, DecompositionMismatch, SharedPart, Inside, LocalEvent, UnknownEvent, EventNamedTwice, Cyclic}
 use Rattle.msc_meaning.specs.Bodies.{Body}
 use Rattle.msc_meaning.specs.Pieces.{statements_pieces}
 use Rattle.msc_meaning.specs.Tables.{Table}
@@ -51,7 +51,9 @@ use Rattle.msc_acceptance.specs.declared.reading.Reading.{Reading}
 use Rattle.msc_acceptance.specs.declared.reading.TextPlaces.{TextPlaces}
 use Rattle.msc_acceptance.specs.SingleItems.{is_single_chart}
 use Rattle.msc_acceptance.specs.Acceptance.{BreaksOf}
+use Rattle.msc_acceptance.specs.RefinedTexts.{is_refined_chart}
 use Rattle.msc_acceptance.specs.Rules.{InOne}
+use Rattle.refinement_rules.specs.Coregions.{HasLocalCoregion}
 use Rattle.msc_acceptance.specs.SizedCharts.{OfSizes}
 
 -- ---- groups of rules
@@ -86,6 +88,9 @@ messages = Unmatched ∷ []
 abbrev pub gates : List Rule
 gates = NoGate ∷ GateTwice ∷ GateWays ∷ GateSplit ∷ GateOnLoop ∷ []
 
+abbrev pub decompositions : List Rule
+decompositions = DecompositionMismatch ∷ SharedPart ∷ Inside ∷ LocalEvent ∷ []
+
 abbrev pub event_names : List Rule
 event_names = UnknownEvent ∷ EventNamedTwice ∷ []
 
@@ -106,7 +111,7 @@ body_groups = columns ∷ messages ∷ []
 
 -- and together: up to the names of events
 abbrev pub gate_groups : List (List Rule)
-gate_groups = gates ∷ event_names ∷ []
+gate_groups = gates ∷ decompositions ∷ event_names ∷ []
 
 -- and the order
 abbrev pub table_groups : List (List Rule)
@@ -144,6 +149,7 @@ pub record AreOwnTexts (chart : Chart) (places : TextPlaces) : Type 0 where
   pub creation : IsLeast (ChartPlacesCreation chart) places.creation
   pub child : IsLeast (ChartCreatesTwice chart) places.child
   pub behind : IsLeast (ChartGoesOn chart) places.behind
+  pub coregion : IsLeast (HasLocalCoregion chart) places.coregion
 
 -- the earliest places at which one of the charts breaks them
 pub record AreTextPlaces (charts : List Chart) (places : TextPlaces) : Type 0 where
@@ -154,6 +160,7 @@ pub record AreTextPlaces (charts : List Chart) (places : TextPlaces) : Type 0 wh
   pub creation : IsLeast (InOne ChartPlacesCreation charts) places.creation
   pub child : IsLeast (InOne ChartCreatesTwice charts) places.child
   pub behind : IsLeast (InOne ChartGoesOn charts) places.behind
+  pub coregion : IsLeast (InOne HasLocalCoregion charts) places.coregion
 
 -- that is read of the charts
 pub record IsReading (charts : List Chart) (reading : Reading) : Type 0 where
@@ -161,6 +168,7 @@ pub record IsReading (charts : List Chart) (reading : Reading) : Type 0 where
   pub stands : reading.stands ≡ map (λ (c : Chart). c.place) charts
   pub singles : reading.singles ≡ map is_single_chart charts
   pub tied : reading.tied ≡ map (λ (c : Chart). is_tied_text (chart_text c)) charts
+  pub refined : reading.refined ≡ map is_refined_chart charts
   pub places : AreTextPlaces charts reading.places
 
 -- the earliest places at which a chart breaks the rules on parts

@@ -7,4 +7,5 @@ pub mod AcceptedCharts
 pub mod Deciding
 pub mod SingleItems
 pub mod Linkless
+pub mod RefinedTexts
 pub mod ReadCharts

@@ -6,6 +6,7 @@ ghost use Rattle.gate_ends.specs.FoundEnds.{AreAll, GoesTo};
 ghost use Rattle.gate_ends.specs.LevelGates.{HasNames};
 ghost use Rattle.gate_tables.specs.ChartGates.{AreGatesOf};
 ghost use Rattle.msc_acceptance.specs.Deciding.{AreFaultsIn, IsFlagged, IsSettled, IsWhole, TellsEarliest};
+ghost use Rattle.msc_acceptance.specs.RefinedTexts.{AreKnownRefinements};
 ghost use Rattle.msc_base.specs.Lists.{AreDifferent};
 ghost use Rattle.msc_base.specs.Places.{IsLeast};
 ghost use Rattle.msc_base.specs.declared.limits.TheConstants.Limits.{CHARTS, EXPANDED_NESTING};
@@ -18,6 +19,7 @@ ghost use Rattle.msc_tree.specs.Charts.{Chart};
 use crate::Accepted;
 use crate::deciding::Decision;
 use crate::gates::table_fault;
+use crate::refinements::KnownRefinements;
 use crate::tables::BodyFaults;
 use chart_cycles::cyclic_charts;
 use gate_tables::{GateTables, gate_tables};
@@ -72,10 +74,12 @@ fn cycle_place(
     Ok(earliest_flagged(stands, flags.as_slice()))
 }
 
-/// What entries of charts that stand there, and whose own faults these are, come to: they are accepted, or break a rule together.
+/// What entries of charts that stand there, of whose decomposed instances that is known, and whose own faults these are, come to: they are
+/// accepted, or break a rule together.
 pub fn settle(
     alloc: Global,
     entries: Vec<ChartEntry>,
+    known: KnownRefinements<'_>,
     faults: BodyFaults,
     stands: &[Place],
 ) -> Result<Decision, NoMemory>
@@ -84,12 +88,12 @@ pub fn settle(
     requires basic { IsBasicTable (table_view entries.items) }
     requires deep { AreAll (GoesTo (table_view entries.items) EXPANDED_NESTING) (map (λ (c : ChartEntry). c.name) entries.items) }
     requires whole { IsWhole faults }
-    ensures { (charts : List Chart) → AreEntriesOf instances charts (table_view entries.items) → AreFaultsIn charts faults → stands.now ≡ map (λ (c : Chart). c.place) charts → IfOk result (IsSettled charts (table_view entries.items)) }
+    ensures { (charts : List Chart) → AreEntriesOf instances charts (table_view entries.items) → AreKnownRefinements charts known.entry → AreFaultsIn charts faults → stands.now ≡ map (λ (c : Chart). c.place) charts → IfOk result (IsSettled charts (table_view entries.items)) }
 {
     let names = entry_names(alloc, entries.as_slice())?;
     let depth = Limits::EXPANDED_NESTING as u32;
     let gates = gate_tables(alloc, entries.as_slice(), &names, depth, &[])?;
-    if let Some(fault) = table_fault(alloc, entries.as_slice(), &names, &gates, faults)? {
+    if let Some(fault) = table_fault(alloc, entries.as_slice(), &names, &gates, known, faults)? {
         return Ok(Decision::Faulty(fault));
     }
     match cycle_place(alloc, entries.as_slice(), &names, &gates, stands)? {

@@ -20,6 +20,7 @@ use crate::links::{ReadCharts, link_fault};
 use crate::names::second_chart;
 use crate::parts::part_places;
 use crate::reading::{Reading, TextPlaces, read_charts};
+use crate::refinements::{KnownRefinements, known_links};
 use crate::tables::{BodyFaults, woven_charts};
 use crate::walks::earlier;
 use msc_base::{NoMemory, Place};
@@ -168,9 +169,20 @@ pub fn decide(alloc: Global, charts: Vec<RawChart>) -> Result<Decision, NoMemory
     if let Some(fault) = text_fault(alloc, charts.as_slice(), &reading)? {
         return Ok(Decision::Faulty(fault));
     }
+    let links = known_links(
+        alloc,
+        charts.as_slice(),
+        reading.lists.as_slice(),
+        reading.refined.as_slice(),
+    )?;
+    let known = KnownRefinements {
+        links: links.as_ref(),
+        coregion: reading.places.coregion,
+    };
     let made = woven_charts(alloc, charts, reading.lists.as_slice())?;
     if let Some(fault) = body_fault(made.faults) {
         return Ok(Decision::Faulty(fault));
     }
-    settle(alloc, made.entries, made.faults, reading.stands.as_slice())
+    let stands = reading.stands.as_slice();
+    settle(alloc, made.entries, known, made.faults, stands)
 }

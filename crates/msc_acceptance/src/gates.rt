@@ -1,10 +1,11 @@
-//! The first fault of gates, and of the names of events, by what all charts are woven to: for `cycles`.
+//! The first fault of gates, of decomposed instances, and of the names of events, by what all charts are woven to: for `cycles`.
 
 ghost use Rattle.std.specs.Prelude.{◌≡◌, IfOk, List};
 ghost use Rattle.gate_ends.specs.LevelGates.{HasNames};
 ghost use Rattle.gate_tables.specs.ChartGates.{AreGatesOf};
 ghost use Rattle.msc_acceptance.specs.Acceptance.{BreaksOf};
 ghost use Rattle.msc_acceptance.specs.Deciding.{AreFaultsIn, AreGatePlaces, IsFirstOf, IsWhole, event_names, gate_groups, gates};
+ghost use Rattle.msc_acceptance.specs.RefinedTexts.{AreKnownRefinements};
 ghost use Rattle.msc_instances.specs.Instances.{instances};
 ghost use Rattle.msc_meaning.specs.Tables.{Table};
 ghost use Rattle.msc_meaning.specs.Views.{table_view};
@@ -13,6 +14,7 @@ ghost use Rattle.msc_rules.specs.FirstFaults.{IsBest};
 ghost use Rattle.msc_rules.specs.Rules.{number_of};
 ghost use Rattle.msc_tree.specs.Charts.{Chart};
 
+use crate::refinements::{KnownRefinements, refinement_fault};
 use crate::tables::BodyFaults;
 use gate_rules::{GatePlaces, gate_places};
 use gate_tables::GateTables;
@@ -59,21 +61,25 @@ fn places_of(
     Ok(places)
 }
 
-/// The first fault of gates, and then of the names of events, of charts of these entries.
+/// The first fault of gates, then of decomposed instances, and then of the names of events, of charts of these entries.
 pub fn table_fault(
     alloc: Global,
     entries: &[ChartEntry],
     names: &NameTable,
     gates: &GateTables,
+    known: KnownRefinements<'_>,
     faults: BodyFaults,
 ) -> Result<Option<Broken<Rule>>, NoMemory>
     requires named { HasNames entries.now names.now }
     requires gates { AreGatesOf (table_view entries.now) gates.now }
     requires whole { IsWhole faults }
-    ensures { IfOk result (λ fault. (charts : List Chart) → AreEntriesOf instances charts (table_view entries.now) → AreFaultsIn charts faults → IsFirstOf charts gate_groups fault) }
+    ensures { IfOk result (λ fault. (charts : List Chart) → AreEntriesOf instances charts (table_view entries.now) → AreKnownRefinements charts known.entry → AreFaultsIn charts faults → IsFirstOf charts gate_groups fault) }
 {
     let places = places_of(alloc, entries, names, gates)?;
     if let Some(fault) = gate_fault(places) {
+        return Ok(Some(fault));
+    }
+    if let Some(fault) = refinement_fault(alloc, entries, names, known)? {
         return Ok(Some(fault));
     }
     Ok(event_name_fault(faults))

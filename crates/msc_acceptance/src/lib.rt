@@ -13,6 +13,7 @@ mod listing;
 mod names;
 mod parts;
 mod reading;
+mod refinements;
 mod singles;
 mod tables;
 mod walks;

@@ -58,7 +58,7 @@ fn size_fault(places: ExtentPlaces) -> Option<Broken<Rule>>
 }
 
 /// Whether one is so.
-fn any_of(list: &[bool]) -> bool
+pub fn any_of(list: &[bool]) -> bool
     ensures { result ≡ list_any (λ b. b) list.now }
 {
     for one in list {

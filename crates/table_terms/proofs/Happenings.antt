@@ -1,6 +1,6 @@
 -- The events of a chart's expansion are its happenings, construct by construct.
 use Rattle.std.specs.Prelude.{ℕ, zero, suc, List, [], ◌∷◌, ◌++◌, Option, None, Some, map}
-use Rattle.std.proofs.Common.{◌≡◌, refl, ◌∙◌, sym, subst, ap, ap₂, append-nil}
+use Rattle.std.proofs.Common.{◌≡◌, refl, ◌∙◌, ap, ap₂, append-nil}
 use Rattle.std.proofs.lemmas.List.{map-append}
 use Rattle.msc_unfolding.specs.Unfoldings.{Happening}
 use Rattle.msc_tree.specs.declared.reference.InlineForm.{InlineForm}
@@ -8,16 +8,18 @@ use Rattle.msc_tree.specs.declared.reference.InlineForm.TheVariants as inline
 use Rattle.msc_tree.specs.Expressions.{Expression, Empty, Chart, Alt, Par, Seq, Opt, Expressions, none, more}
 use Rattle.msc_tree.specs.Expressions as expression
 use Rattle.msc_meaning.specs.Bodies.{EventNode, InlinePart, Body, level, WovenItems, no_items, item_and, WovenItem, Single, Coregion, Inline, Refer, Bodies, no_bodies, body_and}
-use Rattle.msc_meaning.specs.ChartUnfoldings.{gates_of, under}
-use Rattle.msc_meaning.specs.FarEnds.{GateMap, Around, Gates, gates_referred, inside, happening}
+use Rattle.msc_base.specs.declared.label.Far.{Far}
+use Rattle.msc_meaning.specs.Calls.{calls}
+use Rattle.msc_meaning.specs.ChartUnfoldings.{gates_of, refined_under, refining_under, under}
+use Rattle.msc_meaning.specs.FarEnds.{GateMap, Around, Gates, far_end, gates_referred, inside, happening}
 use Rattle.msc_meaning.specs.InnerEvents.{GateEnd}
+use Rattle.msc_meaning.specs.Refinements.{Refining, refining, refinings, past_refining, without_decomposed}
+use Rattle.msc_meaning.specs.Ties.{ties}
 use Rattle.msc_meaning.specs.Tables.{Table, ChartEntry, chart_at, Woven, Basic, HighLevel, Refinement, refinements}
 use Rattle.expansion_tree.specs.Expansions.{all_events_in, events_in}
 use Rattle.expanded_charts.specs.Expanding as tree
 use Rattle.expanded_charts.specs.Expanding.{NumberedEvent, Expanded, ExpandedParts, expand_events, expand, expand_all, expand_level, expand_items, expand_item, expand_operands, expand_refinings, expand_woven, expand_entry, expand_charts}
-use Rattle.expanded_terms.specs.WholeCharts.{events_happenings, expression_happenings, expressions_happenings, level_happenings, items_happenings, item_happenings, operands_happenings, entry_happenings, happenings_to, woven_happenings}
-use Rattle.expanded_charts.specs.BasicCharts.{IsBasicTable}
-use Rattle.expanded_charts.proofs.ChartParts.{basic_entry}
+use Rattle.expanded_terms.specs.WholeCharts.{events_happenings, expression_happenings, expressions_happenings, level_happenings, items_happenings, item_happenings, operands_happenings, refinings_happenings, entry_happenings, happenings_to, woven_happenings}
 use Rattle.gate_ends.specs.FoundEnds.{table_ends}
 
 abbrev happenings : List NumberedEvent → List Happening
@@ -82,20 +84,31 @@ module _ (ends_of : WovenItems → List GateEnd) (chart : tree.Charts) (of_chart
     operands_seen a n (body_and b bs) = put_seen (expand_level chart ends_of a n b) (expand_operands chart ends_of a (expand_level chart ends_of a n b).next bs) (level_happenings ends_of of_chart a b) (operands_happenings ends_of of_chart a bs)
         (level_seen a n b) (operands_seen a (expand_level chart ends_of a n b).next bs)
 
-  -- of a chart without decomposed instances
-  pub woven_seen : (table : Table) (gates : GateMap) (n : ℕ) (content : Woven) → seen (expand_woven chart ends_of table gates n [] content) ≡ woven_happenings ends_of of_chart table gates [] content
-  woven_seen table gates n (Basic held) = level_seen (under gates) n held
-  woven_seen table gates n (HighLevel drawn) = refl
+  refinings_seen : (far_of : EventNode → Far) (n : ℕ) (rs : List Refining) → all_seen (expand_refinings chart ends_of far_of n rs) ≡ refinings_happenings ends_of of_chart far_of rs
+  refinings_seen far_of n [] = refl
+  refinings_seen far_of n (refining (level cover held pairs) ms ∷ rs) =
+      let inner = tree.past (past_refining ms) (tree.tied (ties held pairs (calls held) (ends_of held)) (tree.in_row (expand_items chart ends_of (gates_of held (ends_of held)) (refining_under far_of ms) n held))) in
+      put_seen inner (expand_refinings chart ends_of far_of inner.next rs) (items_happenings ends_of of_chart (gates_of held (ends_of held)) (refining_under far_of ms) held) (refinings_happenings ends_of of_chart far_of rs)
+      (items_seen (gates_of held (ends_of held)) (refining_under far_of ms) n held) (refinings_seen far_of inner.next rs)
+
+  pub woven_seen : (table : Table) (gates : GateMap) (n : ℕ) (rs : List Refinement) (content : Woven) → seen (expand_woven chart ends_of table gates n rs content) ≡ woven_happenings ends_of of_chart table gates rs content
+  woven_seen table gates n [] (Basic held) = level_seen (under gates) n held
+  woven_seen table gates n (r ∷ rs) (Basic (level cover held pairs)) =
+      let around = refined_under gates pairs (refinings table held (r ∷ rs)) in
+      let rest = tree.in_row (expand_items chart ends_of (gates_of held (ends_of held)) around n (without_decomposed (r ∷ rs) held)) in
+      put_seen rest (expand_refinings chart ends_of (far_end (ends_of held) around) rest.next (refinings table held (r ∷ rs)))
+      (items_happenings ends_of of_chart (gates_of held (ends_of held)) around (without_decomposed (r ∷ rs) held)) (refinings_happenings ends_of of_chart (far_end (ends_of held) around) (refinings table held (r ∷ rs)))
+      (items_seen (gates_of held (ends_of held)) around n (without_decomposed (r ∷ rs) held)) (refinings_seen (far_end (ends_of held) around) rest.next (refinings table held (r ∷ rs)))
+  woven_seen table gates n [] (HighLevel drawn) = refl
+  woven_seen table gates n (r ∷ rs) (HighLevel drawn) = refl
 
 -- ---- charts of a table
 
-pub chart_seen : (table : Table) → IsBasicTable table → (depth : ℕ) (name : List ℕ) (gates : GateMap) (n : ℕ) → seen (expand_charts (table_ends table) table depth name gates n) ≡ happenings_to table (table_ends table) depth name gates
-chart_seen table p zero name gates n = refl
-chart_seen table p (suc depth) name gates n = entry (chart_seen table p depth) (chart_at table name) (λ c e. (basic_entry table name c p e).0)
+pub chart_seen : (table : Table) (depth : ℕ) (name : List ℕ) (gates : GateMap) (n : ℕ) → seen (expand_charts (table_ends table) table depth name gates n) ≡ happenings_to table (table_ends table) depth name gates
+chart_seen table zero name gates n = refl
+chart_seen table (suc depth) name gates n = entry (chart_seen table depth) (chart_at table name)
   where
     entry : ((name : List ℕ) (gates : GateMap) (n : ℕ) → seen (expand_charts (table_ends table) table depth name gates n) ≡ happenings_to table (table_ends table) depth name gates)
-        → (o : Option ChartEntry) → ((c : ChartEntry) → o ≡ Some c → refinements c.decls ≡ [])
-        → seen (expand_entry (table_ends table) table (expand_charts (table_ends table) table depth) gates n o) ≡ entry_happenings (table_ends table) (happenings_to table (table_ends table) depth) table gates o
-    entry known None f = refl
-    entry known (Some c) f = subst (λ (rs : List Refinement). seen (expand_woven (expand_charts (table_ends table) table depth) (table_ends table) table gates n rs c.content) ≡ woven_happenings (table_ends table) (happenings_to table (table_ends table) depth) table gates rs c.content) (sym (f c refl))
-        (woven_seen (table_ends table) (expand_charts (table_ends table) table depth) (happenings_to table (table_ends table) depth) known table gates n c.content)
+        → (o : Option ChartEntry) → seen (expand_entry (table_ends table) table (expand_charts (table_ends table) table depth) gates n o) ≡ entry_happenings (table_ends table) (happenings_to table (table_ends table) depth) table gates o
+    entry known None = refl
+    entry known (Some c) = woven_seen (table_ends table) (expand_charts (table_ends table) table depth) (happenings_to table (table_ends table) depth) known table gates n (refinements c.decls) c.content

@@ -18,7 +18,7 @@ use Rattle.term_meaning.specs.Meanings.{Means}
 use Rattle.term_tables.specs.NetValues.{NetsValue}
 use Rattle.msc_meaning.specs.FarEnds.{no_gates}
 use Rattle.msc_meaning.specs.Meanings.{Finished, Begun}
-use Rattle.msc_meaning.specs.Tables.{Table, ChartEntry, refinements}
+use Rattle.msc_meaning.specs.Tables.{Table}
 use Rattle.expansion_tree.specs.Expansions.{events_in, map_events}
 use Rattle.expansion_tree.specs.Numbered as numbered
 use Rattle.expansion_tree.specs.declared.tree.ExpandedEvent.{ExpandedEvent}
@@ -28,7 +28,6 @@ use Rattle.expanded_charts.specs.Expanding.{NumberedEvent}
 use Rattle.gate_ends.specs.EndLaws.{EndsAreFound}
 use Rattle.gate_ends.specs.FoundEnds.{table_ends}
 use Rattle.expanded_charts.specs.Numbering.{at_instances, at_two, event_by, instance_number, number_of_label}
-use Rattle.expanded_charts.specs.BasicCharts.{IsBasicTable, IsBasicWoven}
 use Rattle.expanded_charts.specs.declared.numbering.Numbering.{Numbering}
 use Rattle.expanded_terms.specs.ExpandedLaws.{ExpandedTermsMean}
 use Rattle.expanded_terms.specs.ExpandedTerms.{charts_to}
@@ -41,7 +40,6 @@ use Rattle.expanded_terms.specs.NormalTerms.{ExpandedTermsAreNormal}
 use Rattle.expanded_terms.specs.PlacedTerms.{ExpandedTermsPlaced, IsPlaceable, child_of}
 use Rattle.expanded_terms.specs.RankedTerms.{RankedChartsAreSound, numbered_event, numbered_expansion}
 use Rattle.expanded_terms.specs.WholeCharts.{WholeChartsAreFit, happenings_to}
-use Rattle.expanded_terms.specs.GateTies.{IsQuietTable}
 use Rattle.expanded_terms.specs.WholeCharts.{IsWholeTo}
 use Rattle.expanded_terms.proofs.GateTies.{gate_ties_free, outside_ties}
 use Rattle.expanded_terms.proofs.RankedChartTerms.{mapped_term}
@@ -116,38 +114,33 @@ module _ (table : Table) (name : List ℕ) where
   abbrev the_term : Tree
   the_term = (charts_to (by_names.event_term the_names the_labels) (table_ends table) table EXPANDED_NESTING).term name no_gates 0
 
-  happening_named : IsBasicTable table → (h : Happening) → Among h (happenings_to table (table_ends table) EXPANDED_NESTING name no_gates) → IsNameable the_names the_labels h
-  happening_named p h i = by (of_happening (events_in (chart_expansion table name)) h (subst (λ (l : List Happening). Among h l) (sym (chart_seen table p EXPANDED_NESTING name no_gates 0)) i))
+  happening_named : (h : Happening) → Among h (happenings_to table (table_ends table) EXPANDED_NESTING name no_gates) → IsNameable the_names the_labels h
+  happening_named h i = by (of_happening (events_in (chart_expansion table name)) h (subst (λ (l : List Happening). Among h l) (sym (chart_seen table EXPANDED_NESTING name no_gates 0)) i))
     where
       by : (e : NumberedEvent) × Among e (events_in (chart_expansion table name)) × (e.happening ≡ h) → IsNameable the_names the_labels h
       by (e, j, q) = subst (λ (h : Happening). IsNameable the_names the_labels h) q (chart_nameable table name e j)
 
-  chart_fit : WholeChartsAreFit → IsBasicTable table → IsWholeTo table (table_ends table) EXPANDED_NESTING name → IsFitTo table (table_ends table) (IsNameable the_names the_labels) EXPANDED_NESTING name no_gates
-  chart_fit fit p c = fit.nameable the_names the_labels table (table_ends table) EXPANDED_NESTING name no_gates c (happening_named p)
+  chart_fit : WholeChartsAreFit → IsWholeTo table (table_ends table) EXPANDED_NESTING name → IsFitTo table (table_ends table) (IsNameable the_names the_labels) EXPANDED_NESTING name no_gates
+  chart_fit fit c = fit.nameable the_names the_labels table (table_ends table) EXPANDED_NESTING name no_gates c happening_named
 
   term_is : ExpansionsHaveTerms → (v : NetsValue) (x : Tree) → IsTermOf table name v x → x ≡ the_term
   term_is have v x h = h.term ∙ ap numbered_term (chart_same table name) ∙ mapped_term (numbered_event the_names the_labels) (chart_expansion table name) ∙ have.term (by_names.event_term the_names the_labels) (table_ends table) table EXPANDED_NESTING name no_gates 0
 
-basic_among : (table : Table) (c : ChartEntry) → IsBasicTable table → Among c table → (refinements c.decls ≡ []) × IsBasicWoven c.content
-basic_among (d ∷ table) _ h first = h.0
-basic_among (d ∷ table) c h (later i) = basic_among table c h.1 i
-basic_among [] c h i = elim i [ ]
-
 pub table_terms_mean : ExpandedTermsMean → ExpandedTermsAreNormal → ExpansionsHaveTerms → WholeChartsAreFit → TableTermsMean
 table_terms_mean mean norm have fit = record {
-  means = λ table name v x p c h. subst (λ (v : NetsValue). Means v (the_names table name) x (Finished table name) (Begun table name)) (sym h.nets)
+  means = λ table name v x c h. subst (λ (v : NetsValue). Means v (the_names table name) x (Finished table name) (Begun table name)) (sym h.nets)
       (subst (λ (x : Tree). Means (labelled (the_labels table name)) (the_names table name) x (Finished table name) (Begun table name)) (sym (term_is table name have v x h))
-      (mean.means (labelled (the_labels table name)) (the_names table name) table (table_ends table) EXPANDED_NESTING name (named_once table name).names (named_once table name).labels tt (chart_fit table name fit p c)));
-  normal = λ permits table name v x p c h. subst (λ (x : Tree). IsNormal permits x) (sym (term_is table name have v x h))
-      (norm.normal permits (the_names table name) (the_labels table name) table (table_ends table) EXPANDED_NESTING name no_gates 0 (chart_fit table name fit p c));
+      (mean.means (labelled (the_labels table name)) (the_names table name) table (table_ends table) EXPANDED_NESTING name (named_once table name).names (named_once table name).labels tt (chart_fit table name fit c)));
+  normal = λ permits table name v x c h. subst (λ (x : Tree). IsNormal permits x) (sym (term_is table name have v x h))
+      (norm.normal permits (the_names table name) (the_labels table name) table (table_ends table) EXPANDED_NESTING name no_gates 0 (chart_fit table name fit c));
 }
 
 pub table_terms_are_sound : EndsAreFound → RankedChartsAreSound → ExpansionsHaveTerms → TableTermsAreSound
 table_terms_are_sound law ranked have = record {
-  sound = λ table name v x p quiet h can. subst (λ (v : NetsValue). IsFullySound (length v.labels) v.tables x) (sym h.nets)
+  sound = λ table name v x quiet h can. subst (λ (v : NetsValue). IsFullySound (length v.labels) v.tables x) (sym h.nets)
       (subst (λ (x : Tree). IsFullySound (length (the_labels table name)) [] x) (sym (term_is table name have v x h))
       (ranked.sound (labelled (the_labels table name)) (the_names table name) table (table_ends table) EXPANDED_NESTING name tt (chart_nameable table name)
-      (outside_ties (numbered_event (the_names table name) (the_labels table name)) (number_kept (the_names table name) (the_labels table name)) (chart_expansion table name) (gate_ties_free law table (table_ends table) (λ c i. (basic_among table c p i).0) quiet EXPANDED_NESTING name no_gates 0))
+      (outside_ties (numbered_event (the_names table name) (the_labels table name)) (number_kept (the_names table name) (the_labels table name)) (chart_expansion table name) (gate_ties_free law table (table_ends table) quiet EXPANDED_NESTING name no_gates 0))
       (subst (λ (y : numbered.Expansion). CanBeRanked y) (chart_same table name) can)));
 }
 
@@ -157,17 +150,17 @@ table_terms_are_light light have = record {
       (light.counted (by_names.event_term (the_names table name) (the_labels table name)) (table_ends table) table EXPANDED_NESTING name no_gates 0 (λ i k. omega arith) few);
 }
 
-chart_placeable : (table : Table) (name : List ℕ) → IsBasicTable table → ((e : NumberedEvent) → Among e (events_in (chart_expansion table name)) → e.happening.also ≡ child_of e.happening.label)
+chart_placeable : (table : Table) (name : List ℕ) → ((e : NumberedEvent) → Among e (events_in (chart_expansion table name)) → e.happening.also ≡ child_of e.happening.label)
     → (h : Happening) → Among h (happenings_to table (table_ends table) EXPANDED_NESTING name no_gates) → IsPlaceable (the_names table name) (the_labels table name) h
-chart_placeable table name p f h i = by (of_happening (events_in (chart_expansion table name)) h (subst (λ (l : List Happening). Among h l) (sym (chart_seen table p EXPANDED_NESTING name no_gates 0)) i))
+chart_placeable table name f h i = by (of_happening (events_in (chart_expansion table name)) h (subst (λ (l : List Happening). Among h l) (sym (chart_seen table EXPANDED_NESTING name no_gates 0)) i))
   where
     by : (e : NumberedEvent) × Among e (events_in (chart_expansion table name)) × (e.happening ≡ h) → IsPlaceable (the_names table name) (the_labels table name) h
     by (e, j, q) = subst (λ (h : Happening). IsPlaceable (the_names table name) (the_labels table name) h) q (record { label = (chart_nameable table name e j).label; child = f e j })
 
 pub table_terms_are_placed : ExpandedTermsPlaced → ExpansionsHaveTerms → WholeChartsAreFit → TableTermsArePlaced
 table_terms_are_placed placed have fit = record {
-  placed = λ table name v x p c h f. subst (λ (v : NetsValue). HaveOnePlace v.tables x) (sym h.nets)
+  placed = λ table name v x c h f. subst (λ (v : NetsValue). HaveOnePlace v.tables x) (sym h.nets)
       (subst (λ (x : Tree). HaveOnePlace [] x) (sym (term_is table name have v x h))
       (placed.placed (the_names table name) (the_labels table name) table (table_ends table) EXPANDED_NESTING name
-      (fit.placeable (the_names table name) (the_labels table name) table (table_ends table) EXPANDED_NESTING name no_gates c (chart_placeable table name p f))));
+      (fit.placeable (the_names table name) (the_labels table name) table (table_ends table) EXPANDED_NESTING name no_gates c (chart_placeable table name f))));
 }

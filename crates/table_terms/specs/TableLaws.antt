@@ -11,7 +11,6 @@ use Rattle.term_meaning.specs.Meanings.{Means}
 use Rattle.term_tables.specs.NetValues.{NetsValue}
 use Rattle.msc_meaning.specs.Meanings.{Finished, Begun}
 use Rattle.msc_meaning.specs.Tables.{Table}
-use Rattle.expanded_charts.specs.BasicCharts.{IsBasicTable}
 use Rattle.expansion_tree.specs.Expansions.{events_in}
 use Rattle.expanded_charts.specs.Expanding.{NumberedEvent}
 use Rattle.gate_ends.specs.FoundEnds.{table_ends}
@@ -23,16 +22,16 @@ use Rattle.expanded_terms.specs.GateTies.{IsQuietTable}
 use Rattle.expanded_terms.specs.WholeCharts.{IsWholeTo}
 use Rattle.table_terms.specs.TableTerms.{IsTermOf, chart_expansion, chart_numbering, numbered_chart}
 
--- the term of a whole chart of a table of basic charts, with the names of its instances, means the chart, and is in normal form
+-- the term of a whole chart of a table, with the names of its instances, means the chart, and is in normal form
 pub record TableTermsMean : Type 0 where
-  pub means : (table : Table) (name : List ℕ) (v : NetsValue) (x : Tree) → IsBasicTable table → IsWholeTo table (table_ends table) EXPANDED_NESTING name → IsTermOf table name v x
+  pub means : (table : Table) (name : List ℕ) (v : NetsValue) (x : Tree) → IsWholeTo table (table_ends table) EXPANDED_NESTING name → IsTermOf table name v x
       → Means v (chart_numbering table name).names x (Finished table name) (Begun table name)
-  pub normal : (permits : NetPermits) (table : Table) (name : List ℕ) (v : NetsValue) (x : Tree) → IsBasicTable table → IsWholeTo table (table_ends table) EXPANDED_NESTING name → IsTermOf table name v x → IsNormal permits x
+  pub normal : (permits : NetPermits) (table : Table) (name : List ℕ) (v : NetsValue) (x : Tree) → IsWholeTo table (table_ends table) EXPANDED_NESTING name → IsTermOf table name v x → IsNormal permits x
 
--- the term of a chart of a table of basic charts, in which no inner event of a called gate stands in a loop, is sound in full where its
+-- the term of a chart of a table in which no inner event of a called gate stands in a loop, is sound in full where its
 -- expansion can be ranked
 pub record TableTermsAreSound : Type 0 where
-  pub sound : (table : Table) (name : List ℕ) (v : NetsValue) (x : Tree) → IsBasicTable table → IsQuietTable table → IsTermOf table name v x → CanBeRanked (numbered_chart table name) → IsFullySound (length v.labels) v.tables x
+  pub sound : (table : Table) (name : List ℕ) (v : NetsValue) (x : Tree) → IsQuietTable table → IsTermOf table name v x → CanBeRanked (numbered_chart table name) → IsFullySound (length v.labels) v.tables x
 
 -- it weighs no more than the chart's expanded size, where each level has few pairs of its own
 pub record TableTermsAreLight : Type 0 where
@@ -40,6 +39,6 @@ pub record TableTermsAreLight : Type 0 where
 
 -- its events of one label have the same instances, where the second instance of each is the one that its label gives
 pub record TableTermsArePlaced : Type 0 where
-  pub placed : (table : Table) (name : List ℕ) (v : NetsValue) (x : Tree) → IsBasicTable table → IsWholeTo table (table_ends table) EXPANDED_NESTING name → IsTermOf table name v x
+  pub placed : (table : Table) (name : List ℕ) (v : NetsValue) (x : Tree) → IsWholeTo table (table_ends table) EXPANDED_NESTING name → IsTermOf table name v x
       → ((e : NumberedEvent) → Among e (events_in (chart_expansion table name)) → e.happening.also ≡ child_of e.happening.label)
       → HaveOnePlace v.tables x

@@ -4,7 +4,6 @@ use Rattle.msc_base.specs.Orders.{Among}
 use Rattle.msc_base.specs.declared.limits.TheConstants.Limits.{EXPANDED_NESTING}
 use Rattle.expansion_tree.specs.Expansions.{events_in}
 use Rattle.expanded_charts.specs.Expanding.{NumberedEvent}
-use Rattle.expanded_charts.specs.BasicCharts.{IsBasicTable}
 use Rattle.expanded_charts.specs.WorkedExpansions.{used_twice}
 use Rattle.expansion_order.specs.Ranks.{CanBeRanked}
 use Rattle.expanded_terms.specs.GateTies.{IsQuietTable}
@@ -15,7 +14,6 @@ use Rattle.gate_ends.specs.FoundEnds.{table_ends}
 use Rattle.table_terms.specs.TableTerms.{HasRoom, chart_expansion, numbered_chart}
 
 pub record PremisesAreMet : Type 0 where
-  pub basic : IsBasicTable used_twice
   pub whole : IsWholeTo used_twice (table_ends used_twice) EXPANDED_NESTING (codes "Z")
   pub quiet : IsQuietTable used_twice
   pub ranked : CanBeRanked (numbered_chart used_twice (codes "Z"))

@@ -38,7 +38,6 @@ use Rattle.woven_laws.proofs.Creations.{AreApartEvents, IsApartEvent}
 use Rattle.woven_laws.proofs.Declaring.{AreAmong, AreKnown, all_among, known_left, known_right}
 use Rattle.woven_laws.proofs.EachPiece.{EachOfAll, level_each, parts_each}
 use Rattle.woven_laws.proofs.NamedPieces.{AreLeads, IsNamed, IsNamedPiece, chart_named, cover_among, of_are}
-use Rattle.woven_laws.proofs.Unrefined.{chart_whole}
 
 -- ---- as many operands as the form has
 
@@ -179,6 +178,5 @@ chart_built c held b is formed built none apart w =
 pub built_charts_are_known : BuiltChartsAreKnown
 built_charts_are_known = record {
   built = chart_built;
-  whole = chart_whole;
   basic = no_graph;
 }

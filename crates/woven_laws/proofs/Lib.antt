@@ -7,6 +7,8 @@ mod EachPiece
 mod OrderSums
 mod PieceSums
 mod PieceSizes
+mod DeclSizes
+mod Refined
 mod LinkedSizes
 mod WovenNames
 mod Untied
@@ -14,7 +16,6 @@ mod BuiltPieces
 mod Declaring
 mod Creations
 mod NamedPieces
-mod Unrefined
 pub mod BuiltLaws
 pub mod WovenSizes
 pub mod EventCounts

@@ -15,7 +15,11 @@ use Rattle.msc_meaning.specs.LevelItems.{cover_of, level_items}
 use Rattle.msc_meaning.specs.Levels.{AreWovenItems, AreWovenOperands, IsWovenItem, IsWovenLevel, a_coregion, a_reference, an_event, an_inline, no_woven, no_woven_operand, nodes_from, operand_number, woven, woven_and, woven_operand_and}
 use Rattle.msc_meaning.specs.Pieces.{Piece, statements_pieces}
 use Rattle.woven_laws.specs.NumberLaws.{WovenNumbersDiffer}
-use Rattle.woven_laws.specs.BuiltCharts.{WovenChartsAreKnown, named_size}
+use Rattle.woven_laws.specs.BuiltCharts.{WovenChartsAreKnown, named_size, refinements_size}
+use Rattle.woven_laws.proofs.DeclSizes.{refinements_within}
+use Rattle.woven_laws.proofs.Refined.{chart_refined}
+use Rattle.msc_meaning.specs.Tables.{refinements}
+use Rattle.msc_meaning.specs.WovenTables.{chart_decls}
 use Rattle.woven_laws.specs.JoinSums.{item_joins, items_joins, level_joins, operands_joins}
 use Rattle.woven_laws.proofs.LinkedSizes.{chart_low, count}
 use Rattle.woven_laws.proofs.PieceSizes.{at_size_is, different_size, inline_parts, level_low, lists_size, parts_size, pieces_size, sizes_at, statements_are}
@@ -68,16 +72,17 @@ module _ (size_of : List ℕ → ℕ) (product : WovenItems → ReferencePart �
         let rest : operands_size size_of product bs ≤ n + parts_size (count size_of product) cover parts (suc j) n + operands_joins product bs = operands_light bs g in
         omega (arith, here, rest)
 
-chart_light : (c : Chart) (held : List Statement) (b : Body) (size_of : List ℕ → ℕ) (product : WovenItems → ReferencePart → ℕ) → c.content ≡ Basic held → IsWovenLevel (instances c) (statements_pieces (instances c) 0 (statements held)) b
-    → 2 + level_size size_of product b ≤ (own_extent c).size + level_joins product b + named_size size_of (chart_links c)
-chart_light c held b size_of product is h =
+chart_light : (c : Chart) (held : List Statement) (b : Body) (size_of refining : List ℕ → ℕ) (product : WovenItems → ReferencePart → ℕ) → c.content ≡ Basic held → IsWovenLevel (instances c) (statements_pieces (instances c) 0 (statements held)) b
+    → 2 + level_size size_of product b + refinements_size refining (refinements (chart_decls c)) ≤ (own_extent c).size + level_joins product b + named_size size_of refining (chart_links c)
+chart_light c held b size_of refining product is h =
     let low = body_light size_of product b h in
     let walked = statements_walked (count size_of product) 0 Whole (statements held) in
-    omega (arith, low, statements_are (count size_of product) (instances c) 0 (statements held), walked, chart_low size_of product c held is)
+    omega (arith, low, statements_are (count size_of product) (instances c) 0 (statements held), walked, chart_low size_of refining product c held is, refinements_within refining (chart_decls c))
 
 pub woven_charts_are_known : WovenNumbersDiffer → WovenChartsAreKnown
 woven_charts_are_known numbers = record {
   light = chart_light;
   once = λ names held b h. numbers names 0 (statements held) b h;
   named = chart_linked;
+  refined = chart_refined;
 }

@@ -23,9 +23,7 @@ use Rattle.expansion_order.specs.declared.stops.Stop.{Stop}
 use Rattle.expansion_order.proofs.Drawn.{among_either}
 use Rattle.expanded_charts.specs.Expanding.{Expanded, ExpandedParts, NumberedEvent, Shown, Charts, expand, expand_all, expand_charts, expand_entry, expand_events, expand_item, expand_items, expand_level, expand_operands, expand_woven, aside, event, exception, in_row, inline_by, nothing, numbers_with, one_of, or_nothing, pairs_between, past, past_shown, put, tied, tied_pairs, turns}
 use Rattle.expanded_charts.specs.Numbering.{at_instances, at_two, event_by, instance_number, number_of_label, numbered_by}
-use Rattle.expanded_charts.specs.BasicCharts.{IsBasicTable, IsBasicWoven}
 use Rattle.expanded_charts.specs.declared.numbering.Numbering.{Numbering}
-use Rattle.expanded_charts.proofs.ChartParts.{basic_entry}
 use Rattle.gate_ends.specs.FoundEnds.{AreAll, items_names, item_names, level_names, operands_names}
 use Rattle.msc_meaning.specs.InnerEvents.{GateEnd, charts_in, charts_in_all}
 use Rattle.msc_tree.specs.declared.event.Target.{Target}
@@ -410,23 +408,23 @@ module _ (s : Numbering) where
 nothing_alone : (s : Numbering) (n : ℕ) → IsAlone s n (in_row (nothing n))
 nothing_alone s n = record { rise = row_rises s n (nothing n) (none_rise s n); none = refl }
 
-module _ (s : Numbering) (ends_of : WovenItems → List GateEnd) (table : Table) (basic : IsBasicTable table) where
+module _ (s : Numbering) (ends_of : WovenItems → List GateEnd) (table : Table) where
   abbrev IsAloneTo : ℕ → List ℕ → Type 0
   IsAloneTo k name = (gates : GateMap) (n : ℕ) → IsAlone s n (expand_charts ends_of table k name gates n)
 
   chart_alone : (depth : ℕ) (name : List ℕ) → IsRisingTo table depth name → IsAloneTo depth name
   chart_alone zero name up gates n = nothing_alone s n
-  chart_alone (suc k) name up gates n = by (chart_at table name) (λ c at. (basic_entry table name c basic at).0) up (chart_alone k)
+  chart_alone (suc k) name up gates n = by (chart_at table name) up (chart_alone k)
     where
       content : (w : Woven) → IsRisingWoven (IsRisingTo table k) w → ((other : List ℕ) → IsRisingTo table k other → IsAloneTo k other) → IsAlone s n (expand_woven (expand_charts ends_of table k) ends_of table gates n [] w)
       content (Basic b) rise below = level_alone s ends_of (expand_charts ends_of table k) (IsRisingTo table k) below (under gates) n b rise.0 rise.1
       content (HighLevel drawn) rise below = nothing_alone s n
 
-      by : (o : Option ChartEntry) → ((c : ChartEntry) → o ≡ Some c → refinements c.decls ≡ []) → IsRisingEntry (IsRisingTo table k) o → ((other : List ℕ) → IsRisingTo table k other → IsAloneTo k other)
+      by : (o : Option ChartEntry) → IsRisingEntry (IsRisingTo table k) o → ((other : List ℕ) → IsRisingTo table k other → IsAloneTo k other)
           → IsAlone s n (expand_entry ends_of table (expand_charts ends_of table k) gates n o)
-      by None whole rise below = nothing_alone s n
-      by (Some c) whole rise below =
-          subst (λ (rs : List Refinement). IsAlone s n (expand_woven (expand_charts ends_of table k) ends_of table gates n rs c.content)) (sym (whole c refl)) (content c.content rise below)
+      by None rise below = nothing_alone s n
+      by (Some c) rise below =
+          subst (λ (rs : List Refinement). IsAlone s n (expand_woven (expand_charts ends_of table k) ends_of table gates n rs c.content)) (sym rise.0) (content c.content rise.1 below)
 
 pub rising_charts_are_ranked : RisingChartsAreRanked
-rising_charts_are_ranked = record { ranked = λ ends_of table depth name s basic up. record { rank = λ k. k; ranked = (chart_alone s ends_of table basic depth name up no_gates 0).rise.ranked } }
+rising_charts_are_ranked = record { ranked = λ ends_of table depth name s up. record { rank = λ k. k; ranked = (chart_alone s ends_of table depth name up no_gates 0).rise.ranked } }

@@ -1,12 +1,12 @@
 -- Charts whose text has the events in an order in which they can happen: on each level the numbers of its events rise, and so do its
--- message pairs, no event is ordered with others by their names, and no gate ties events of two levels.
+-- message pairs, no event is ordered with others by their names, no gate ties events of two levels, and no instance is decomposed.
 use Rattle.std.specs.Prelude.{◌≡◌, ◌<◌, ◌≤◌, ℕ, zero, suc, List, [], ◌∷◌, Option, None, Some}
 use Rattle.msc_base.specs.declared.label.Pair.{Pair}
 use Rattle.msc_base.specs.Orders.{Among}
 use Rattle.msc_tree.specs.declared.event.Target.{Target}
 use Rattle.msc_tree.specs.declared.event.Target.TheVariants.{Nobody, Env, Instance, Gate}
 use Rattle.msc_meaning.specs.Bodies.{EventNode, Body, level, WovenItems, no_items, item_and, WovenItem, Single, Coregion, Inline, Refer, Bodies, no_bodies, body_and, events}
-use Rattle.msc_meaning.specs.Tables.{Table, Woven, Basic, HighLevel, ChartEntry, chart_at}
+use Rattle.msc_meaning.specs.Tables.{Table, Woven, Basic, HighLevel, ChartEntry, chart_at, refinements}
 use Rattle.gate_ends.specs.FoundEnds.{AreAll, level_names}
 
 -- the other end is no gate
@@ -55,9 +55,9 @@ IsRisingWoven Rising (HighLevel drawn) = Unit {0}
 
 abbrev pub IsRisingEntry : (List ℕ → Type 0) → Option ChartEntry → Type 0
 IsRisingEntry Rising None = Unit {0}
-IsRisingEntry Rising (Some c) = IsRisingWoven Rising c.content
+IsRisingEntry Rising (Some c) = (refinements c.decls ≡ []) × IsRisingWoven Rising c.content
 
--- and in each chart that it names, as deep as references go
+-- no instance is decomposed, and so it is in each chart that it names, as deep as references go
 abbrev pub IsRisingTo : Table → ℕ → List ℕ → Type 0
 IsRisingTo table zero name = Unit {0}
 IsRisingTo table (suc depth) name = IsRisingEntry (IsRisingTo table depth) (chart_at table name)

@@ -14,7 +14,7 @@ returns-then-are_written c =
     let table = table_view c.args.charts.now in
     let made : c.in_ok-told.told.items ≡ replicate (length c.args.charts.now) false = search rules in
     subst (λ (told : List Bool). TellCycles table c.args.depth (map entry_view c.args.charts.now) told) (sym made)
-    (none_told table c.args.depth c.args.charts.now (written_ordered c.rising_charts_are_ranked.ensures table c.args.depth c.requires.basic (c.are_written.ensures c.if-are_written.true) (map entry_view c.args.charts.now)))
+    (none_told table c.args.depth c.args.charts.now (written_ordered c.rising_charts_are_ranked.ensures table c.args.depth (c.are_written.ensures c.if-are_written.true) (map entry_view c.args.charts.now)))
 
 pub loop-index-preserved : goal.loop-index-preserved
 loop-index-preserved c =

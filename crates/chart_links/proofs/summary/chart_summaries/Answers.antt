@@ -1,4 +1,4 @@
-use Rattle.std.proofs.Common.{◌≡◌, ◌+◌, ℕ, List, get_or, map, ap, ◌∙◌}
+use Rattle.std.proofs.Common.{◌+◌, ℕ, get_or, map, ap, ◌∙◌}
 use Rattle.chart_links.specs.Summaries.{summary_of}
 use Rattle.chart_links.proofs.SummaryFacts.{own_names, summary_more}
 use Rattle.msc_tree.specs.Views.{chart_view}

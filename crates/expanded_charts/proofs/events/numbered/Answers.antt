@@ -6,11 +6,10 @@ use Rattle.label_table.specs.Labels.{label_number}
 use Rattle.msc_base.specs.NameTables.{with_name}
 use Rattle.msc_base.specs.declared.label.Label.{Label}
 use Rattle.msc_unfolding.specs.Unfoldings.{Happening}
-use Rattle.msc_meaning.specs.ChartUnfoldings.{under}
 use Rattle.msc_meaning.specs.FarEnds.{happening}
 use Rattle.msc_meaning.specs.Views.{node_view}
 use Rattle.expanded_charts.specs.Expanding.{NumberedEvent}
-use Rattle.expanded_charts.specs.GateWays.{ways_view}
+use Rattle.expanded_charts.specs.Givens.{around_view}
 use Rattle.expanded_charts.specs.Making.{IsNumbered, IsSecond}
 use Rattle.expanded_charts.specs.Numbering.{with_event, with_label, with_second}
 use Rattle.expanded_charts.specs.declared.numbering.Numbering.{Numbering}
@@ -19,7 +18,7 @@ use Rattle.expanded_charts.proofs.events.numbered.Goals as goal
 
 pub returns : goal.returns
 returns c =
-    let h : Happening = happening c.args.level.called.now.ends (under (ways_view c.args.level.ways.now)) (node_view c.args.node.now) in
+    let h : Happening = happening c.args.level.called.now.ends (around_view c.args.level.given) (node_view c.args.node.now) in
     let e : NumberedEvent = record { number = c.args.number; happening = h } in
     let old : Numbering = c.args.numbering.now in
     let said : c.in_ok-label.label ≡ h.label = c.in_ok-label.ensures in

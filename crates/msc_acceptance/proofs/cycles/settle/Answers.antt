@@ -12,13 +12,15 @@ use Rattle.msc_rules.specs.declared.rule.Rule.{Rule}
 use Rattle.msc_tree.specs.Charts.{Chart}
 use Rattle.msc_acceptance.specs.ChartFaults.{IsCyclicAt}
 use Rattle.msc_acceptance.specs.Deciding.{AreFaultsIn, IsFirstOf, TellsEarliest, cycles, gate_groups}
+use Rattle.msc_acceptance.specs.RefinedTexts.{AreKnownRefinements}
+use Rattle.msc_acceptance.specs.declared.refinements.KnownRefinements.{KnownRefinements}
 use Rattle.msc_acceptance.specs.declared.tables.BodyFaults.{BodyFaults}
 use Rattle.msc_acceptance.proofs.AcceptLaws.{cycle_first, cycle_kept, first_left}
 use Rattle.msc_acceptance.proofs.CycleLaws.{cyclic_least, ordered_where_none}
 use Rattle.msc_acceptance.proofs.cycles.settle.Goals as goal
 
-abbrev TellsFault : List ChartEntry → BodyFaults → Option (Broken Rule) → Type 0
-TellsFault entries faults fault = (charts : List Chart) → AreEntriesOf instances charts (table_view entries) → AreFaultsIn charts faults → IsFirstOf charts gate_groups fault
+abbrev TellsFault : List ChartEntry → KnownRefinements → BodyFaults → Option (Broken Rule) → Type 0
+TellsFault entries known faults fault = (charts : List Chart) → AreEntriesOf instances charts (table_view entries) → AreKnownRefinements charts known → AreFaultsIn charts faults → IsFirstOf charts gate_groups fault
 
 abbrev names_in : List ChartEntry → List (List ℕ)
 names_in entries = map (λ (e : ChartEntry). e.name) entries
@@ -32,28 +34,28 @@ gate_tables-requires-clause-deep c =
     subst (λ (ns : List (List ℕ)). AreAll (GoesTo (table_view c.as_slice-2.result.now) EXPANDED_NESTING) ns) (sym names) deep
 
 pub returns-in-Some : goal.returns-in-Some
-returns-in-Some c = λ charts are own stands.
+returns-in-Some c = λ charts are known own stands.
     let some : c.in_ok-fault.field-0 ≡ Some c.in-Some.fault = search rules in
-    let told = subst (λ (es : List ChartEntry). TellsFault es c.args.faults c.in_ok-fault.field-0) c.as_slice-3.ensures.value c.in_ok-fault.ensures in
-    first_left charts gate_groups (cycles ∷ []) c.in-Some.fault (subst (λ (o : Option (Broken Rule)). IsFirstOf charts gate_groups o) some (told charts are own))
+    let told = subst (λ (es : List ChartEntry). TellsFault es c.args.known c.args.faults c.in_ok-fault.field-0) c.as_slice-3.ensures.value c.in_ok-fault.ensures in
+    first_left charts gate_groups (cycles ∷ []) c.in-Some.fault (subst (λ (o : Option (Broken Rule)). IsFirstOf charts gate_groups o) some (told charts are known own))
 
 pub returns-in-Some-2 : goal.returns-in-Some-2
-returns-in-Some-2 c = λ charts are own stands.
+returns-in-Some-2 c = λ charts are known own stands.
     let none : c.in_ok-fault.field-0 ≡ None = search rules in
     let some : c.in_ok-place.field-0 ≡ Some c.in-Some-2.place = search rules in
     let table = table_view c.args.entries.items in
-    let told = subst (λ (es : List ChartEntry). TellsFault es c.args.faults c.in_ok-fault.field-0) c.as_slice-3.ensures.value c.in_ok-fault.ensures in
-    let kept = subst (λ (o : Option (Broken Rule)). IsFirstOf charts gate_groups o) none (told charts are own) in
+    let told = subst (λ (es : List ChartEntry). TellsFault es c.args.known c.args.faults c.in_ok-fault.field-0) c.as_slice-3.ensures.value c.in_ok-fault.ensures in
+    let kept = subst (λ (o : Option (Broken Rule)). IsFirstOf charts gate_groups o) none (told charts are known own) in
     let cycle = subst (λ (es : List ChartEntry). TellsEarliest (table_view es) c.args.stands.now c.in_ok-place.field-0) c.as_slice-4.ensures.value c.in_ok-place.ensures in
     cycle_first charts c.in-Some-2.place kept (subst (λ (o : Option Place). IsLeast (IsCyclicAt charts) o) some (cyclic_least charts table are c.args.stands.now stands c.in_ok-place.field-0 cycle))
 
 pub returns-in-None : goal.returns-in-None
-returns-in-None c = λ charts are own stands.
+returns-in-None c = λ charts are known own stands.
     let none : c.in_ok-fault.field-0 ≡ None = search rules in
     let no : c.in_ok-place.field-0 ≡ None = search rules in
     let table = table_view c.args.entries.items in
-    let told = subst (λ (es : List ChartEntry). TellsFault es c.args.faults c.in_ok-fault.field-0) c.as_slice-3.ensures.value c.in_ok-fault.ensures in
-    let kept = subst (λ (o : Option (Broken Rule)). IsFirstOf charts gate_groups o) none (told charts are own) in
+    let told = subst (λ (es : List ChartEntry). TellsFault es c.args.known c.args.faults c.in_ok-fault.field-0) c.as_slice-3.ensures.value c.in_ok-fault.ensures in
+    let kept = subst (λ (o : Option (Broken Rule)). IsFirstOf charts gate_groups o) none (told charts are known own) in
     let cycle = subst (λ (es : List ChartEntry). TellsEarliest (table_view es) c.args.stands.now c.in_ok-place.field-0) c.as_slice-4.ensures.value c.in_ok-place.ensures in
     let least = cyclic_least charts table are c.args.stands.now stands c.in_ok-place.field-0 cycle in
     let ordered = ordered_where_none charts table are c.args.stands.now stands c.in_ok-place.field-0 cycle no in

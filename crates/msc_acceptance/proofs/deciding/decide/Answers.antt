@@ -1,5 +1,8 @@
 use Rattle.std.proofs.Common.{rules, ◌≡◌, ◌++◌, ℕ, List, [], ◌∷◌, None, Some, Option, Result, Ok, Err, IfOk, map, refl, sym, ap, subst}
+use Rattle.std.specs.Borrow.{Bor}
+use Rattle.std.specs.Option.{option_copied}
 use Rattle.chart_cycles.specs.Cycles.{AreOrdered}
+use Rattle.chart_links.specs.declared.tables.LinkTables.{LinkTables}
 use Rattle.msc_base.specs.declared.limits.TheConstants.Limits.{EXPANDED_NESTING}
 use Rattle.msc_base.specs.declared.memory.NoMemory.{NoMemory}
 use Rattle.msc_base.specs.Lists.{AreDifferent}
@@ -14,13 +17,15 @@ use Rattle.msc_tree.specs.Charts.{Chart}
 use Rattle.msc_tree.specs.Views.{chart_view}
 use Rattle.msc_tree.specs.declared.chart.RawChart.{RawChart}
 use Rattle.msc_acceptance.specs.Acceptance.{BreaksOf}
-use Rattle.msc_acceptance.specs.Deciding.{AllKept, HaveExtents, IsDecided, IsFirstOf, IsSettled, body_groups, table_groups, text_groups}
+use Rattle.msc_acceptance.specs.Deciding.{AllKept, AreTextPlaces, HaveExtents, IsDecided, IsFirstOf, IsSettled, body_groups, table_groups, text_groups}
+use Rattle.msc_acceptance.specs.RefinedTexts.{AreKnownLinks, AreKnownRefinements, AreLinksOf}
 use Rattle.msc_acceptance.specs.SizedCharts.{OfSizes}
 use Rattle.msc_acceptance.specs.declared.deciding.Decision.{Decision}
 use Rattle.msc_acceptance.specs.declared.deciding.Decision.TheVariants as decision
 use Rattle.msc_acceptance.proofs.AcceptLaws.{built_of, few, first_left, first_right, kept_both}
 use Rattle.msc_acceptance.proofs.AcceptedLaws.{all_there, are_basic, differ, entry_names}
 use Rattle.msc_acceptance.proofs.HeldGates.{all_go}
+use Rattle.msc_acceptance.proofs.RefinementPlaces.{known_lent, view_names}
 use Rattle.msc_acceptance.proofs.deciding.decide.Goals as goal
 
 settled : (charts : List Chart) (table : Table) (r : Result Decision NoMemory) → AllKept (BreaksOf charts) text_groups → AllKept (BreaksOf charts) body_groups → AreEntriesOf instances charts table → OfSizes charts HaveExtents
@@ -34,12 +39,8 @@ settled charts table (Ok (decision.Accepted a)) texts bodies are extents h = (
 )
 settled charts table (Ok (decision.Faulty f)) texts bodies are extents h = first_right charts text_groups (body_groups ++ table_groups) f texts (first_right charts body_groups table_groups f bodies h)
 
-view_names : (entries : List code.ChartEntry) → AreDifferent (map (λ (e : ChartEntry). e.name) (table_view entries)) → AreDifferent (map (λ (e : code.ChartEntry). e.name) entries)
-view_names entries h = subst AreDifferent (same entries) h
-  where
-    same : (entries : List code.ChartEntry) → map (λ (e : ChartEntry). e.name) (table_view entries) ≡ map (λ (e : code.ChartEntry). e.name) entries
-    same [] = refl
-    same (e ∷ entries) = ap (λ (ns : List (List ℕ)). e.name ∷ ns) (same entries)
+lent_links : (charts : List Chart) (o : Option (Bor LinkTables)) (held : Option LinkTables) → option_copied o ≡ held → AreLinksOf charts held → AreKnownLinks charts o
+lent_links charts o held e h = known_lent charts o (subst (AreLinksOf charts) (sym e) h)
 
 pub returns-in-Some : goal.returns-in-Some
 returns-in-Some c =
@@ -80,7 +81,7 @@ settle-requires-clause-different c =
     let f : c.body_fault.result ≡ None = search rules in
     let texts = subst (λ (o : Option (Broken Rule)). IsFirstOf charts text_groups o) e told in
     let are = c.in_ok-made.ensures.entries (c.body_fault.ensures.whole f) in
-    view_names c.in_ok-made.made.entries.items (subst AreDifferent (sym (entry_names charts (table_view c.in_ok-made.made.entries.items) are)) (differ c.built_charts_are_known.ensures c.woven_charts_are_known.ensures charts c.requires texts))
+    subst AreDifferent (view_names c.in_ok-made.made.entries.items) (subst AreDifferent (sym (entry_names charts (table_view c.in_ok-made.made.entries.items) are)) (differ c.built_charts_are_known.ensures c.woven_charts_are_known.ensures charts c.requires texts))
 
 pub settle-requires-clause-basic : goal.settle-requires-clause-basic
 settle-requires-clause-basic c =
@@ -118,4 +119,8 @@ returns c =
     let bodies = subst (λ (o : Option (Broken Rule)). IsFirstOf charts body_groups o) f (c.body_fault.ensures.first charts c.in_ok-made.ensures.faults) in
     let are = c.in_ok-made.ensures.entries (c.body_fault.ensures.whole f) in
     let extents : OfSizes charts HaveExtents = subst (λ (l : List RawChart). OfSizes (map chart_view l) HaveExtents) c.as_slice-2.ensures.value (c.in_ok-fault.ensures.extents e) in
-    settled charts (table_view c.in_ok-made.made.entries.items) c.settle.result texts bodies are extents (c.settle.ensures charts are c.in_ok-made.ensures.faults (search rules))
+    let places : AreTextPlaces charts c.in_ok-reading.reading.places = subst (λ (l : List RawChart). AreTextPlaces (map chart_view l) c.in_ok-reading.reading.places) c.as_slice.ensures.value c.in_ok-reading.ensures.places in
+    let links = subst (λ (l : List RawChart). AreLinksOf (map chart_view l) c.in_ok-links.links) c.as_slice-3.ensures.value c.in_ok-links.ensures in
+    let known : AreKnownRefinements charts (record { links = c.as_ref.result; coregion = c.in_ok-reading.reading.places.coregion }) =
+    record { links = lent_links charts c.as_ref.result c.in_ok-links.links c.as_ref.ensures.value links; coregion = places.coregion } in
+    settled charts (table_view c.in_ok-made.made.entries.items) c.settle.result texts bodies are extents (c.settle.ensures charts are known c.in_ok-made.ensures.faults (search rules))

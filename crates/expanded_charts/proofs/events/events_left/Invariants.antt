@@ -1,0 +1,10 @@
+use Rattle.std.proofs.Common.{ℕ, map, take}
+use Rattle.msc_meaning.specs.Refinements.{left_of}
+use Rattle.msc_meaning.specs.Tables.{Table}
+use Rattle.msc_meaning.specs.Views.{node_view}
+use Rattle.expanded_charts.specs.Givens.{around_view}
+use Rattle.expanded_charts.specs.Making.{AreMade, events_parts}
+use Rattle.expanded_charts.proofs.events.events_left.Given as goal
+
+abbrev pub invariant-loop-node : goal.invariant-loop-node
+invariant-loop-node l = (table : Table) (depth : ℕ) → AreMade l.fn.numbering l.numbering (events_parts table depth l.level.called.now (around_view l.level.given) l.next (left_of l.decomposed (map node_view (take l.node-index l.nodes)))) l.parts

@@ -1,0 +1,4 @@
+pub mod Mismatches
+pub mod MatchViews
+pub mod Keys
+pub mod Sorted

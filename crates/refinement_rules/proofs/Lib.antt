@@ -1,0 +1,13 @@
+pub mod Walked
+pub mod DeclFacts
+pub mod Semantics
+pub mod TableSense
+pub mod TakenFacts
+pub mod ChartPositions
+pub mod SetSteps
+pub mod ItemFacts
+pub mod BodyFacts
+pub mod TableFacts
+pub mod InsideFacts
+pub mod CoregionFacts
+pub mod WorkedFacts
