@@ -12,9 +12,8 @@ third of them are faulty at one place. Logs are runs of their charts, beginnings
 JSON, and some are judged within the least budget that lets them pass, and within one less. What is a run is also known here without the
 model, so a model that errs there is found.
 
-A document that the program refuses as not built yet is to have such a form, at that place; no more is asked of it. Each difference is
-printed with what it takes to see it again: document K of a seed is made alone by `--first K --documents 1`. At the end stands how often
-each answer came. It ends with status 1 where there is a difference.
+Each difference is printed with what it takes to see it again: document K of a seed is made alone by `--first K --documents 1`. At the
+end stands how often each answer came. It ends with status 1 where there is a difference.
 """
 import argparse
 import collections
@@ -106,16 +105,6 @@ def verdict_of(text):
     return re.sub(r" at .*?: |[0-9]+", " ", text.split("\n")[0]).strip()
 
 
-def not_built(both, place):
-    """Whether the program refuses the document as not built yet; it may do so at this place alone."""
-    answer = both.program.answer(["check", "d"])
-    if "not built yet" not in answer[1]:
-        return False
-    if answer != (4, f"document refused at {place}: not built yet\n"):
-        both.differ(("check", "d"), ("the program", answer), ("what isn't built stands at", place))
-    return True
-
-
 def log_of(rng, chart):
     """A log, whether it is in JSON, and whether it is a run of the chart as it was made."""
     run, events = random_charts.run_of(rng, chart.level), chart.events()
@@ -175,12 +164,10 @@ def compare_log(rng, both, chart):
 
 
 def compare_document(rng, both):
-    """Whether the document was accepted, refused or not built."""
-    charts, document, place = random_charts.document_of(rng)
+    """Whether the document was accepted or refused."""
+    charts, document = random_charts.document_of(rng)
     both.hold(d=document, l="")
     both.compare("sample", str(rng.randrange(1, 300)), str(rng.randrange(2**31)))
-    if not_built(both, place):
-        return "not built"
     status, text = both.compare("check", "d")
     for words in (["check", "d", "--json"], ["list", "d"], ["list", "d", "--json"], ["print", "d"]):
         both.compare(*words)
@@ -204,7 +191,7 @@ def main():
     given = words.parse_args()
     if os.path.isdir(given.program) and given.program != given.model:
         words.error("one of the two has to be a program: a process holds one package judge")
-    found = {"accepted": 0, "refused": 0, "not built": 0}
+    found = {"accepted": 0, "refused": 0}
     with tempfile.TemporaryDirectory(prefix="compare-") as room:
         both = Comparing(asked(given.program, room), asked(given.model, room))
         for both.number in range(given.first, given.first + given.documents):

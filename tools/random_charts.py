@@ -558,11 +558,10 @@ def run_of(rng, level):
 
 # what can be wrong in a text; for each a place of its own is drawn
 OF_PARTS = ["a part lacks", "another list", "no name", "not its own column", "another form", "other operands", "another bound", "another expression", "parts exchanged"]
-FAULTS = ["unmatched message", "undeclared instance", "uncovered instance", "undeclared in a list", "named twice", "items exchanged", "loop bound", "missing chart", "recursive reference", "unbuilt"]
+FAULTS = ["unmatched message", "undeclared instance", "uncovered instance", "undeclared in a list", "named twice", "items exchanged", "loop bound", "missing chart", "recursive reference", "refined by itself"]
 CREATING = ["create placed", "created twice", "late creation"]
 GATES = ["no gate", "gate used twice", "gate ways differ", "gate on two instances", "gate on a loop"]
 STRUCTURAL = ["exc placed", "event named twice", "unknown event", "cyclic order", "uncovered instance", "event after stop", *CREATING, *GATES, *GATES]
-MARK = "\v"
 
 
 class Writer:
@@ -586,8 +585,8 @@ class Writer:
         for i in self.instances:
             if i not in listed:
                 lines.append(f"{i}: instance;" if rng.random() < 0.5 else f"instance {i}; endinstance;")
-        if self.here("unbuilt"):
-            lines.append(f"inst z {MARK}decomposed as {self.name};")
+        if self.here("refined by itself"):
+            lines.append(f"inst z decomposed as {self.name};")
         items = list(level.items)
         while items:
             size = rng.randint(1, len(items)) if rng.random() < 0.4 else len(items)
@@ -820,7 +819,7 @@ class Chart:
 
 
 def document_of(rng):
-    """Charts, the text of a document of them, and the place of what isn't built yet, as it is printed, if there is such a thing."""
+    """Charts, and the text of a document of them."""
     names = [rng.choice(["A", "B"]) if rng.random() < 0.1 else f"C{number}" for number in range(rng.randint(0, 4))]
     faulty = rng.randrange(len(names)) if names and rng.random() < 0.6 else None
     charts = []
@@ -831,5 +830,4 @@ def document_of(rng):
     text = "\n".join(chart.text for chart in charts)
     if rng.random() < 0.2:
         text = f"mscdocument X;\n{text}\nendmscdocument;"
-    front, mark, back = text.partition(MARK)
-    return charts, front + back, f"{front.count(chr(10)) + 1}:{len(front) - front.rfind(chr(10))}" if mark else None
+    return charts, text
