@@ -3,3 +3,4 @@ pub mod Unique
 pub mod LimitFacts
 pub mod WorkedFacts
 pub mod SizedFacts
+pub mod OwnLevels

@@ -5,9 +5,13 @@ use Rattle.chart_extents.specs.declared.extent.Extent.{Extent}
 use Rattle.chart_forms.specs.ChartSizes.{size_of}
 use Rattle.chart_text.specs.Gathering.{summed}
 use Rattle.chart_text.specs.Texts.{Passage, a_head, a_statement, an_item, an_operand, chart_text}
-use Rattle.msc_tree.specs.Charts.{Chart}
+use Rattle.graph_text.specs.GraphGathering.{deepest_part, summed_parts}
+use Rattle.graph_text.specs.GraphTexts.{GraphPart, a_graph, a_line, graph_parts, graph_text}
+use Rattle.msc_tree.specs.Charts.{Chart, Content, Basic, HighLevel}
 use Rattle.msc_tree.specs.Expressions.{Expression, Expressions}
 use Rattle.msc_tree.specs.Expressions as expression
+use Rattle.msc_tree.specs.Graphs.{Node}
+use Rattle.msc_tree.specs.Graphs as graph
 use Rattle.msc_tree.specs.Statements.{Form, Single, Coregion, Condition, Inline, Refer, Stop}
 
 -- ---- sizes
@@ -41,6 +45,19 @@ passage_size (a_head decl) = 0
 passage_size (a_statement depth scope x) = 0
 passage_size (an_item s place form) = reference_size form
 passage_size (an_operand s x) = 0
+
+-- a node counts its expression besides what chart_forms counts
+abbrev pub node_size : Node → ℕ
+node_size (graph.Refer e) = expression_size e
+node_size graph.Ends = 0
+node_size graph.Connect = 0
+node_size (graph.Condition names) = 0
+node_size (graph.Frames held) = 0
+
+-- a part of a graph by itself
+abbrev pub part_size : GraphPart → ℕ
+part_size (a_graph depth drawn) = 0
+part_size (a_line depth place node) = node_size node
 
 -- ---- nesting
 
@@ -79,8 +96,29 @@ abbrev pub deepest : List Passage → ℕ
 deepest [] = 0
 deepest (p ∷ ps) = max (passage_nesting p) (deepest ps)
 
+-- a node: frames are two levels above their graphs
+abbrev pub node_nesting : Node → ℕ
+node_nesting graph.Ends = 0
+node_nesting graph.Connect = 0
+node_nesting (graph.Condition names) = 0
+node_nesting (graph.Refer e) = expression_nesting e
+node_nesting (graph.Frames held) = 2
+
+-- a part of a graph: a graph or a frame is two levels
+abbrev pub part_nesting : GraphPart → ℕ
+part_nesting (a_graph depth drawn) = depth + 2
+part_nesting (a_line depth place node) = depth + node_nesting node
+
 -- ---- charts
 
--- a chart counts 2 and is two levels
+-- what a chart holds, whose text that is: a basic chart is two levels, and so is a graph
+abbrev pub content_nesting : Content → List Passage → ℕ
+content_nesting (Basic held) text = 2 + deepest text
+content_nesting (HighLevel drawn) text = deepest_part part_nesting (graph_parts 0 drawn)
+
+-- with the expressions of references and of nodes
+abbrev pub own_size : Chart → ℕ
+own_size chart = size_of chart + summed passage_size (chart_text chart) + summed_parts part_size (graph_text chart.content)
+
 abbrev pub own_extent : Chart → Extent
-own_extent chart = record { size = size_of chart + summed passage_size (chart_text chart); nesting = 2 + deepest (chart_text chart) }
+own_extent chart = record { size = own_size chart; nesting = content_nesting chart.content (chart_text chart) }

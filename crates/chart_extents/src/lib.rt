@@ -5,6 +5,7 @@ mod extent;
 mod extents;
 mod limits;
 mod own;
+mod own_graphs;
 mod sized;
 pub mod worked;
 

@@ -2,21 +2,26 @@
 
 ghost use Rattle.std.specs.Prelude.{◌≡◌, ◌+◌, IfOk, map, max};
 ghost use Rattle.chart_extents.specs.Extents.{with_joins as with_joined};
-ghost use Rattle.chart_extents.specs.OwnExtents.{deepest, expression_nesting, expression_size, form_nesting, own_extent, parts_nesting, parts_size, passage_nesting, passage_size, reference_size};
+ghost use Rattle.chart_extents.specs.OwnExtents.{content_nesting, deepest, expression_nesting, expression_size, form_nesting, own_extent, own_size as size_by_text, parts_nesting, parts_size, passage_nesting, passage_size, reference_size};
 ghost use Rattle.chart_text.specs.Gathering.{summed};
 ghost use Rattle.chart_text.specs.PassageViews.{passage_view, text_view};
 ghost use Rattle.chart_text.specs.Texts.{chart_text as text_of};
+ghost use Rattle.graph_text.specs.GraphPartViews.{parts_view};
+ghost use Rattle.graph_text.specs.GraphTexts.{graph_text as drawn_of};
 ghost use Rattle.msc_tree.specs.Expressions.{expressions};
-ghost use Rattle.msc_tree.specs.Views.{chart_view, expression_view, form_view};
+ghost use Rattle.msc_tree.specs.Views.{chart_view, content_view, expression_view, form_view};
 
 use crate::Extent;
+use crate::own_graphs::{parts_nesting as nesting_of_parts, parts_size as size_of_parts};
 use chart_forms::size;
 use chart_text::Passage;
+use graph_text::{GraphPart, graph_text};
 use msc_base::NoMemory;
-use msc_tree::{RawChart, RawForm, RefExpr};
+use msc_tree::{Content, RawChart, RawForm, RefExpr};
+use std::alloc::Global;
 
 /// The sum; a larger one than 64 bits hold would want more memory than there is.
-fn sum_of(a: u64, b: u64) -> Result<u64, NoMemory>
+pub(crate) fn sum_of(a: u64, b: u64) -> Result<u64, NoMemory>
     ensures { IfOk result (λ sum. sum ≡ a + b) }
 {
     a.checked_add(b).ok_or(NoMemory)
@@ -24,7 +29,7 @@ fn sum_of(a: u64, b: u64) -> Result<u64, NoMemory>
 
 /// What an expression counts by itself.
 #[cycle(sizes)]
-fn expression_size(expression: &RefExpr) -> Result<u64, NoMemory>
+pub(crate) fn expression_size(expression: &RefExpr) -> Result<u64, NoMemory>
     ensures { IfOk result (λ size. size ≡ expression_size (expression_view expression.now)) }
 {
     match expression {
@@ -52,7 +57,7 @@ fn parts_size(list: &[RefExpr]) -> Result<u64, NoMemory>
 
 /// How deep an expression is by itself.
 #[cycle(nestings)]
-fn expression_nesting(expression: &RefExpr) -> Result<u64, NoMemory>
+pub(crate) fn expression_nesting(expression: &RefExpr) -> Result<u64, NoMemory>
     ensures { IfOk result (λ nesting. nesting ≡ expression_nesting (expression_view expression.now)) }
 {
     match expression {
@@ -168,16 +173,53 @@ pub(crate) fn with_joins(own: Extent, joined: u64) -> Result<Extent, NoMemory>
     })
 }
 
+/// How deep a basic chart of that text is.
+fn chart_nesting(text: &[Passage<'_>]) -> Result<u64, NoMemory>
+    ensures { IfOk result (λ nesting. nesting ≡ 2 + deepest (text_view text.now)) }
+{
+    let nesting = text_nesting(text)?;
+    sum_of(2, nesting)
+}
+
+/// How deep a chart of that text is, with these parts of its graph.
+fn own_nesting(
+    content: &Content,
+    text: &[Passage<'_>],
+    parts: &[GraphPart<'_>],
+) -> Result<u64, NoMemory>
+    requires { parts_view parts.now ≡ drawn_of (content_view content.now) }
+    ensures { IfOk result (λ nesting. nesting ≡ content_nesting (content_view content.now) (text_view text.now)) }
+{
+    match content {
+        Content::Events(_) => chart_nesting(text),
+        Content::Graph(_) => nesting_of_parts(parts),
+    }
+}
+
+/// How large a chart of that text is, with these parts of its graph.
+fn own_size(
+    chart: &RawChart,
+    text: &[Passage<'_>],
+    parts: &[GraphPart<'_>],
+) -> Result<u64, NoMemory>
+    requires text { text_view text.now ≡ text_of (chart_view chart.now) }
+    requires parts { parts_view parts.now ≡ drawn_of (content_view chart.now.content) }
+    ensures { IfOk result (λ size. size ≡ size_by_text (chart_view chart.now)) }
+{
+    let items = size(&chart.content, text, parts)?;
+    let references = references_size(text)?;
+    let nodes = size_of_parts(parts)?;
+    sum_of(sum_of(items, references)?, nodes)
+}
+
 /// What a chart of that text comes to without the charts that it names and what joins between two gates add.
-pub fn own_extent(chart: &RawChart, text: &[Passage<'_>]) -> Result<Extent, NoMemory>
+pub fn own_extent(alloc: Global, chart: &RawChart, text: &[Passage<'_>]) -> Result<Extent, NoMemory>
     requires { text_view text.now ≡ text_of (chart_view chart.now) }
     ensures { IfOk result (λ own. own ≡ own_extent (chart_view chart.now)) }
 {
-    let items = size(text)?;
-    let references = references_size(text)?;
-    let nesting = text_nesting(text)?;
+    let parts = graph_text(alloc, &chart.content)?;
     Ok(Extent {
-        size: sum_of(items, references)?,
-        nesting: sum_of(2, nesting)?,
+        size: own_size(chart, text, parts.as_slice())?,
+        nesting: own_nesting(&chart.content, text, parts.as_slice())?,
     })
 }

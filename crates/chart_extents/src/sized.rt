@@ -41,6 +41,7 @@ fn joined_at(joined: &[u64], number: usize) -> u64
 
 /// The chart of that text and summary, with what its joins add.
 fn sized_chart<'a, 'b>(
+    alloc: Global,
     chart: &RawChart,
     text: &[Passage<'_>],
     summary: &'a ChartSummary<'b>,
@@ -50,7 +51,7 @@ fn sized_chart<'a, 'b>(
     requires summary { summary_view summary.now ≡ summary_of (chart_view chart.now) }
     ensures { IfOk result (λ made. sized_view made ≡ sized_of (chart_view chart.now) joined) }
 {
-    let own = own_extent(chart, text)?;
+    let own = own_extent(alloc, chart, text)?;
     Ok(SizedChart {
         summary,
         place: chart.place,
@@ -74,7 +75,7 @@ pub fn sized_charts<'a, 'b>(
     for chart in charts {
         let text = chart_text(alloc, chart)?;
         let more = joined_at(joined, number);
-        let sized = sized_chart(chart, text.as_slice(), &summaries[number], more)?;
+        let sized = sized_chart(alloc, chart, text.as_slice(), &summaries[number], more)?;
         made.push(sized)?;
         number += 1;
     }

@@ -1,10 +1,14 @@
 -- The expanded size of a chart, by its text.
 use Rattle.std.specs.Prelude.{ℕ, ◌+◌, List, [], ◌∷◌}
 use Rattle.chart_text.specs.Gathering.{summed}
-use Rattle.chart_text.specs.Texts.{Passage, a_head, a_statement, an_item, an_operand, chart_text, content_text}
+use Rattle.chart_text.specs.Texts.{Passage, a_head, a_statement, an_item, an_operand, chart_text}
 use Rattle.general_ordering.specs.OrderCounts.{order_count}
+use Rattle.graph_text.specs.GraphGathering.{summed_parts}
+use Rattle.graph_text.specs.GraphTexts.{GraphPart, a_graph, a_line, graph_parts}
 use Rattle.msc_tree.specs.declared.event.RawEvent.{RawEvent}
-use Rattle.msc_tree.specs.Charts.{Chart, Content}
+use Rattle.msc_tree.specs.Charts.{Chart, Content, Basic, HighLevel}
+use Rattle.msc_tree.specs.Graphs.{Node}
+use Rattle.msc_tree.specs.Graphs as graph
 use Rattle.msc_tree.specs.Statements.{Form, Single, Coregion, Condition, Inline, Refer, Stop}
 
 -- an event counts 3, and 1 for each name of the events that it is to come before or after
@@ -32,10 +36,24 @@ passage_size (a_statement depth scope x) = 0
 passage_size (an_item s place form) = item_size form
 passage_size (an_operand s x) = 1
 
--- what a chart holds
-abbrev pub content_size : Content → ℕ
-content_size content = summed passage_size (content_text content)
+-- a node by itself: frames count 1; an expression counts nothing here, as a reference
+abbrev pub node_size : Node → ℕ
+node_size graph.Ends = 0
+node_size graph.Connect = 0
+node_size (graph.Condition names) = 0
+node_size (graph.Refer e) = 0
+node_size (graph.Frames held) = 1
 
--- the size of a chart: 2, and its text
+-- a part of a graph: a graph or a frame counts 2, a line 2 and its node
+abbrev pub part_size : GraphPart → ℕ
+part_size (a_graph depth drawn) = 2
+part_size (a_line depth place node) = 2 + node_size node
+
+-- what a chart holds, whose text that is: a basic chart counts 2 and its text, a graph its parts
+abbrev pub content_size : Content → List Passage → ℕ
+content_size (Basic held) text = 2 + summed passage_size text
+content_size (HighLevel drawn) text = summed_parts part_size (graph_parts 0 drawn)
+
+-- the size of a chart
 abbrev pub size_of : Chart → ℕ
-size_of chart = 2 + summed passage_size (chart_text chart)
+size_of chart = content_size chart.content (chart_text chart)

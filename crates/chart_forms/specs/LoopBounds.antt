@@ -1,8 +1,9 @@
--- The loops with a bound above the limit, at any depth of a chart's text.
-use Rattle.std.specs.Prelude.{ℕ, Bool, false, ◌||◌, List, [], Option, Some, None, nat_lt}
+-- The loops with a bound above the limit, at any depth of a chart's text, and in the expressions of its nodes.
+use Rattle.std.specs.Prelude.{ℕ, Bool, false, ◌||◌, List, [], ◌++◌, Option, Some, None, nat_lt}
 use Rattle.std.specs.List.{flat_map}
 use Rattle.chart_text.specs.Gathering.{place_if}
 use Rattle.chart_text.specs.Texts.{Passage, a_head, a_statement, an_item, an_operand, chart_text}
+use Rattle.graph_text.specs.GraphTexts.{GraphPart, a_graph, a_line, graph_text}
 use Rattle.msc_base.specs.Lists.{IsAmong}
 use Rattle.msc_base.specs.declared.limits.TheConstants.Limits.{LOOP_BOUND}
 use Rattle.msc_base.specs.declared.place.Place.{Place}
@@ -11,6 +12,8 @@ use Rattle.msc_tree.specs.declared.reference.InlineForm.TheVariants as inline
 use Rattle.msc_tree.specs.Charts.{Chart}
 use Rattle.msc_tree.specs.Expressions.{Expression, Expressions, none, more}
 use Rattle.msc_tree.specs.Expressions as expression
+use Rattle.msc_tree.specs.Graphs.{Node}
+use Rattle.msc_tree.specs.Graphs as graph
 use Rattle.msc_tree.specs.Statements.{Form, Single, Coregion, Condition, Inline, Refer, Stop}
 
 abbrev is_high : ℕ → Bool
@@ -59,6 +62,23 @@ high_bounds (a_statement depth scope x) = []
 high_bounds (an_item s place form) = high_item place form
 high_bounds (an_operand s x) = []
 
+-- a node; its expression has the place of its line
+abbrev pub high_node : Place → Node → List Place
+high_node place (graph.Refer e) = place_if (has_high_loop e) place
+high_node place graph.Ends = []
+high_node place graph.Connect = []
+high_node place (graph.Condition names) = []
+high_node place (graph.Frames held) = []
+
+-- a part of a graph by itself
+abbrev pub high_part : GraphPart → List Place
+high_part (a_graph depth drawn) = []
+high_part (a_line depth place node) = high_node place node
+
+-- the places of a chart
+abbrev pub high_chart : Chart → List Place
+high_chart chart = flat_map high_bounds (chart_text chart) ++ flat_map high_part (graph_text chart.content)
+
 -- such a loop stands there
 abbrev pub HasHighBound : Chart → Place → Type 0
-HasHighBound chart p = IsAmong (flat_map high_bounds (chart_text chart)) p
+HasHighBound chart p = IsAmong (high_chart chart) p

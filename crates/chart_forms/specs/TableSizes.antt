@@ -6,6 +6,8 @@ use Rattle.general_ordering.specs.OrderCounts.{order_count, orders_count}
 use Rattle.msc_base.specs.declared.limits.TheConstants.Limits.{EXPANDED_NESTING}
 use Rattle.msc_tree.specs.Expressions.{Expression, Empty, Chart, Alt, Par, Seq, Opt, Expressions, none, more}
 use Rattle.msc_tree.specs.Expressions as expression
+use Rattle.msc_tree.specs.Graphs.{Graph, Lines, Line, Node, Graphs}
+use Rattle.msc_tree.specs.Graphs as graph
 use Rattle.msc_meaning.specs.Bodies.{ReferencePart, Body, level, WovenItems, no_items, item_and, WovenItem, Single, Coregion, Inline, Refer, Bodies, no_bodies, body_and}
 use Rattle.msc_meaning.specs.Tables.{Table, ChartEntry, chart_at, body_at, Woven, Basic, HighLevel, Refinement, refinements}
 
@@ -46,6 +48,30 @@ module _ (size_of : List ℕ → ℕ) (product : WovenItems → ReferencePart �
     operands_size no_bodies = 0
     operands_size (body_and b bs) = 1 + level_size b + operands_size bs
 
+  abbrev mutual
+    -- a graph counts 2 and its lines, a line 2 and its node
+    pub graph_size : Graph → ℕ
+    graph_size (graph.graph starts held) = 2 + lines_size held
+
+    pub lines_size : Lines → ℕ
+    lines_size graph.no_lines = 0
+    lines_size (graph.line_and x xs) = line_size x + lines_size xs
+
+    pub line_size : Line → ℕ
+    line_size (graph.line label place node next) = 2 + node_size node
+
+    -- frames count 1 and their graphs
+    pub node_size : Node → ℕ
+    node_size graph.Ends = 0
+    node_size graph.Connect = 0
+    node_size (graph.Condition names) = 0
+    node_size (graph.Refer e) = expression_size e
+    node_size (graph.Frames held) = 1 + graphs_size held
+
+    pub graphs_size : Graphs → ℕ
+    graphs_size graph.no_graphs = 0
+    graphs_size (graph.graph_and x xs) = graph_size x + graphs_size xs
+
   -- of a chart by itself, where it is there
   abbrev pub body_size : Option Body → ℕ
   body_size None = 0
@@ -60,7 +86,7 @@ module _ (size_of : List ℕ → ℕ) (product : WovenItems → ReferencePart �
   abbrev pub woven_size : Table → List Refinement → Woven → ℕ
   woven_size table [] (Basic held) = 2 + level_size held
   woven_size table (r ∷ rs) (Basic held) = 2 + level_size held + refined_size table (r ∷ rs)
-  woven_size table rs (HighLevel drawn) = 0
+  woven_size table rs (HighLevel drawn) = graph_size drawn
 
   abbrev pub entry_size : Table → Option ChartEntry → ℕ
   entry_size table None = 0

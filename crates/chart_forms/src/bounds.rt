@@ -1,17 +1,18 @@
-//! The earliest loop with a bound above the limit, at any depth.
+//! The earliest loop with a bound above the limit, at any depth, and in the expressions of nodes.
 
 ghost use Rattle.std.specs.Prelude.{◌≡◌, ◌++◌, IfOk, OnOk, map};
-ghost use Rattle.std.specs.List.{flat_map};
-ghost use Rattle.chart_forms.specs.LoopBounds.{has_high_bound as high_bound, has_high_loop as high_loop, have_high_loop as high_loops, high_bounds, high_item};
+ghost use Rattle.chart_forms.specs.LoopBounds.{HasHighBound, has_high_bound as high_bound, has_high_loop as high_loop, have_high_loop as high_loops, high_bounds, high_chart, high_item};
 ghost use Rattle.chart_text.specs.PassageViews.{text_view};
-ghost use Rattle.msc_base.specs.Lists.{IsAmong};
+ghost use Rattle.chart_text.specs.Texts.{chart_text as text_of};
 ghost use Rattle.msc_base.specs.Places.{IsLeast};
 ghost use Rattle.msc_tree.specs.Expressions.{expressions};
-ghost use Rattle.msc_tree.specs.Views.{expression_view, form_view};
+ghost use Rattle.msc_tree.specs.Views.{chart_view, expression_view, form_view};
 
+use crate::graph_bounds::GraphBounds;
 use chart_text::{Passage, TextRule, earliest_place, note_if, note_text};
+use graph_text::{graph_text, note_graph};
 use msc_base::{Items, Limits, NoMemory, Place};
-use msc_tree::{InlineForm, RawForm, RefExpr};
+use msc_tree::{InlineForm, RawChart, RawForm, RefExpr};
 use std::alloc::Global;
 
 /// Whether a bound of the loop, if it is one, is above the limit.
@@ -29,7 +30,7 @@ fn has_high_bound(form: InlineForm, lower: u64, upper: Option<u64>) -> bool
 
 /// Whether a bound of a loop of the expression is above the limit.
 #[cycle(expressions)]
-fn has_high_loop(expression: &RefExpr) -> bool
+pub(crate) fn has_high_loop(expression: &RefExpr) -> bool
     ensures { result ≡ high_loop (expression_view expression.now) }
 {
     match expression {
@@ -92,11 +93,31 @@ impl TextRule for LoopBounds {
     }
 }
 
-/// The earliest place in a text at which a loop stands with a bound above the limit.
-pub fn first_high_bound(alloc: Global, text: &[Passage<'_>]) -> Result<Option<Place>, NoMemory>
-    ensures { IfOk result (IsLeast (IsAmong (flat_map high_bounds (text_view text.now)))) }
+/// Notes the loops of a chart, whose text that is, with such a bound.
+fn whole(
+    alloc: Global,
+    places: &mut Items<Place>,
+    chart: &RawChart,
+    text: &[Passage<'_>],
+) -> Result<(), NoMemory>
+    requires { text_view text.now ≡ text_of (chart_view chart.now) }
+    ensures { OnOk result (places.new ≡ places.old ++ high_chart (chart_view chart.now)) }
+{
+    let parts = graph_text(alloc, &chart.content)?;
+    note_text::<LoopBounds>(places, text)?;
+    note_graph::<GraphBounds>(places, parts.as_slice())
+}
+
+/// The earliest place of a chart, whose text that is, at which a loop stands with a bound above the limit.
+pub fn first_high_bound(
+    alloc: Global,
+    chart: &RawChart,
+    text: &[Passage<'_>],
+) -> Result<Option<Place>, NoMemory>
+    requires { text_view text.now ≡ text_of (chart_view chart.now) }
+    ensures { IfOk result (IsLeast (HasHighBound (chart_view chart.now))) }
 {
     let mut places = Items::new(alloc);
-    note_text::<LoopBounds>(&mut places, text)?;
+    whole(alloc, &mut places, chart, text)?;
     Ok(earliest_place(places.as_slice()))
 }

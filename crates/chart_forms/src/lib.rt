@@ -3,6 +3,8 @@
 
 mod bounds;
 mod creating;
+mod graph_bounds;
+mod graph_sizes;
 mod not_built;
 mod sizes;
 mod ties;

@@ -1,17 +1,21 @@
-//! The size of a chart: what its events, coregions and inline expressions come to, at any depth.
+//! The size of a chart: what its events, coregions and inline expressions, or the lines of its graph come to, at any depth.
 
 ghost use Rattle.std.specs.Prelude.{◌≡◌, ◌+◌, IfOk};
-ghost use Rattle.chart_forms.specs.ChartSizes.{event_size, events_size, item_size, passage_size};
+ghost use Rattle.chart_forms.specs.ChartSizes.{content_size, event_size, events_size, item_size, passage_size};
 ghost use Rattle.chart_text.specs.Gathering.{summed};
 ghost use Rattle.chart_text.specs.PassageViews.{passage_view, text_view};
-ghost use Rattle.msc_tree.specs.Views.{form_view};
+ghost use Rattle.graph_text.specs.GraphPartViews.{parts_view};
+ghost use Rattle.graph_text.specs.GraphTexts.{graph_text as drawn_of};
+ghost use Rattle.msc_tree.specs.Views.{content_view, form_view};
 
+use crate::graph_sizes::parts_size;
 use chart_text::Passage;
+use graph_text::GraphPart;
 use msc_base::NoMemory;
-use msc_tree::{RawEvent, RawForm};
+use msc_tree::{Content, RawEvent, RawForm};
 
 /// The sum; a larger one than 64 bits hold would want more memory than there is.
-fn sum_of(a: u64, b: u64) -> Result<u64, NoMemory>
+pub(crate) fn sum_of(a: u64, b: u64) -> Result<u64, NoMemory>
     ensures { IfOk result (λ sum. sum ≡ a + b) }
 {
     a.checked_add(b).ok_or(NoMemory)
@@ -86,10 +90,25 @@ fn passages_size(text: &[Passage<'_>]) -> Result<u64, NoMemory>
     Ok(total)
 }
 
-/// The size of a chart of this text.
-pub fn size(text: &[Passage<'_>]) -> Result<u64, NoMemory>
+/// The size of a basic chart of this text.
+fn text_size(text: &[Passage<'_>]) -> Result<u64, NoMemory>
     ensures { IfOk result (λ size. size ≡ 2 + summed passage_size (text_view text.now)) }
 {
     let held = passages_size(text)?;
     sum_of(2, held)
+}
+
+/// The size of a chart of this text, with these parts of its graph.
+pub fn size(
+    content: &Content,
+    text: &[Passage<'_>],
+    parts: &[GraphPart<'_>],
+) -> Result<u64, NoMemory>
+    requires { parts_view parts.now ≡ drawn_of (content_view content.now) }
+    ensures { IfOk result (λ size. size ≡ content_size (content_view content.now) (text_view text.now)) }
+{
+    match content {
+        Content::Events(_) => text_size(text),
+        Content::Graph(_) => parts_size(parts),
+    }
 }

@@ -3,9 +3,9 @@ use Rattle.std.proofs.Common.{◌≡◌, ◌⊎◌, inl, inr, ℕ, List, [], ◌
 use Rattle.msc_base.specs.Lists.{IsAmong}
 use Rattle.msc_base.specs.declared.place.Place.{Place}
 use Rattle.chart_links.specs.Links.{Link}
-use Rattle.chart_links.specs.References.{IsExpanded, Leads, LeavesUncovered, MissesChart, Recurs, own, of_named, onward, there}
+use Rattle.chart_links.specs.References.{IsCalled, IsExpanded, Leads, LeavesUncovered, MissesChart, Recurs, own, of_named, onward, there}
 use Rattle.chart_links.specs.Summaries.{IsOwn, Summary}
-use Rattle.chart_links.specs.Worked.{CoversAll, LeavesOneOut, NamesItself, plain_chart, self_caller, whole_caller}
+use Rattle.chart_links.specs.Worked.{CoversAll, LeavesOneOut, NamesItself, NodesName, graph_caller, plain_chart, self_caller, whole_caller}
 
 first_byte : List ℕ → ℕ
 first_byte [] = 0
@@ -72,3 +72,11 @@ self_expanded n i (of_named {next = m} names rest) = self_expanded m i rest
 
 pub itself_named : NamesItself
 itself_named = (inl (inl (refl, there)), λ i x. self_expanded (codes "A") i x)
+
+-- no chart but G
+not_there : IsCalled (graph_caller ∷ []) (codes "A") → ⊥
+unfolding first_byte
+not_there r = elim r.among [ inl e ↦ let b : 71 ≡ 65 = sym (ap (λ (s : Summary). first_byte s.name) e) ∙ ap first_byte r.called in absurd (omega (arith, b)) | inr n ↦ n ]
+
+pub nodes_name : NodesName
+nodes_name = (refl, inl (inl (refl, not_there)), inl (inr (inr (inl (refl, there)))))

@@ -1,17 +1,21 @@
--- What the text of a basic chart says of charts, in its order: which its references name, and by which its instances are decomposed
--- (Z.120, clauses 4.2 and 7.3).
+-- What the text of a chart says of charts, in its order: which its references or the nodes of its graph name, and by which its instances
+-- are decomposed (Z.120, clauses 4.2, 7.3 and 7.5).
 use Rattle.std.specs.Prelude.{◌≡◌, ◌⊎◌, ◌+◌, ℕ, List, [], ◌∷◌, ◌++◌, Option, None, Some}
 use Rattle.std.specs.List.{flat_map}
-use Rattle.chart_text.specs.Texts.{Standing, Passage, a_head, a_statement, an_item, an_operand, Scope, chart_text, covered_scope, own_scope}
+use Rattle.chart_text.specs.Texts.{Standing, Passage, a_head, a_statement, an_item, an_operand, Scope, Whole, chart_text, covered_scope, own_scope}
+use Rattle.graph_text.specs.GraphTexts.{GraphPart, a_graph, a_line, graph_parts}
 use Rattle.msc_base.specs.declared.place.Place.{Place}
 use Rattle.msc_tree.specs.declared.chart.Decl.{Decl}
 use Rattle.msc_tree.specs.Charts.{Chart, Content, Basic, HighLevel}
 use Rattle.msc_tree.specs.Expressions.{Expression, Expressions}
 use Rattle.msc_tree.specs.Expressions as expression
+use Rattle.msc_tree.specs.Graphs.{Node}
+use Rattle.msc_tree.specs.Graphs as graph
 use Rattle.msc_tree.specs.Statements.{Form, Single, Coregion, Condition, Inline, Refer, Stop, Statement, Column, Covered, Heading, Ended}
 
 pub data Link : Type 0 where
-  -- a reference at that place, which covers these instances, names the chart, so deep in the nesting of its own
+  -- a reference at that place, which covers these instances, or a node at the place of its line names the chart, so deep in the nesting of
+  -- its own
   Refers : List ℕ → Place → Scope → ℕ → Link
   -- the first name is an instance, which the chart of the second refines, as is said at that place
   Refines : List ℕ → List ℕ → Place → Link
@@ -62,6 +66,21 @@ item_links s place (Condition names shared) = []
 item_links s place (Inline head held) = []
 item_links s place Stop = []
 
+-- ---- nodes
+
+-- an expression has the place of its line; a graph has no instances that it could leave out
+abbrev pub node_links : Place → ℕ → Node → List Link
+node_links place depth (graph.Refer e) = expression_links place Whole depth e
+node_links place depth graph.Ends = []
+node_links place depth graph.Connect = []
+node_links place depth (graph.Condition names) = []
+node_links place depth (graph.Frames held) = []
+
+-- a part of a graph by itself
+abbrev pub part_links : GraphPart → List Link
+part_links (a_graph depth drawn) = []
+part_links (a_line depth place node) = node_links place depth node
+
 -- ---- decompositions
 
 abbrev pub refined_links : List ℕ → Place → Option (List ℕ) → List Link
@@ -86,10 +105,10 @@ passage_links (a_statement depth scope x) = statement_links x
 passage_links (an_item s place form) = item_links s place form
 passage_links (an_operand s x) = []
 
--- the heads of a high-level chart have no use; its nodes aren't looked at yet
+-- of the text of a basic chart, or of a graph: the heads of a high-level chart have no use
 abbrev pub used_links : Content → List Link → List Link
 used_links (Basic held) links = links
-used_links (HighLevel drawn) links = []
+used_links (HighLevel drawn) links = flat_map part_links (graph_parts 0 drawn)
 
 -- of a whole chart
 abbrev pub chart_links : Chart → List Link

@@ -3,6 +3,7 @@
 
 mod bit_row;
 mod faults;
+mod graph_links;
 mod link;
 mod linking;
 mod ranks;

@@ -5,11 +5,15 @@ ghost use Rattle.std.specs.List.{flat_map};
 ghost use Rattle.chart_links.specs.Links.{chart_links, decl_links, expression_links, item_links, parts_links, passage_links, statement_links, used_links};
 ghost use Rattle.chart_text.specs.PassageViews.{passage_view, scope_view, standing_view, text_view};
 ghost use Rattle.chart_text.specs.Texts.{chart_text as text_of, covered_scope};
+ghost use Rattle.graph_text.specs.GraphPartViews.{parts_view};
+ghost use Rattle.graph_text.specs.GraphTexts.{graph_text as drawn_of};
 ghost use Rattle.msc_tree.specs.Expressions.{expressions};
 ghost use Rattle.msc_tree.specs.Views.{chart_view, content_view, expression_view, form_view, statement_view};
 
+use crate::graph_links::parts_of_graph;
 use crate::{Link, LinkList};
 use chart_text::{Passage, Scope, Standing};
+use graph_text::{GraphPart, graph_text};
 use msc_base::{NoMemory, Place};
 use msc_tree::{Content, Cover, Decl, RawChart, RawForm, RefExpr, Statement};
 use std::alloc::Global;
@@ -40,7 +44,7 @@ fn deeper(depth: u32, levels: u32) -> Result<u32, NoMemory>
 
 /// Lists the charts that an expression names.
 #[cycle(expressions)]
-fn expression<'a>(
+pub(crate) fn expression<'a>(
     links: &mut LinkList<'a>,
     place: Place,
     scope: Scope<'a>,
@@ -145,30 +149,33 @@ fn passages<'a>(links: &mut LinkList<'a>, text: &[Passage<'a>]) -> Result<(), No
     Ok(())
 }
 
-/// Lists the charts that the text of a chart names, where it is a basic chart.
+/// Lists the charts that a chart of that text and these parts names.
 fn used<'a>(
     links: &mut LinkList<'a>,
     content: &Content,
     text: &[Passage<'a>],
+    parts: &[GraphPart<'a>],
 ) -> Result<(), NoMemory>
+    requires { parts_view parts.now ≡ drawn_of (content_view content.now) }
     ensures { OnOk result (links.new ≡ links.old ++ used_links (content_view content.now) (flat_map passage_links (text_view text.now))) }
 {
     match content {
         Content::Events(_) => passages(links, text),
-        Content::Graph(_) => Ok(()),
+        Content::Graph(_) => parts_of_graph(links, parts),
     }
 }
 
-/// What a chart, whose text that is, says of charts, in the order of the text. A high-level chart says nothing yet.
+/// What a chart, whose text that is, says of charts, in the order of the text.
 pub fn chart_links<'a>(
     alloc: Global,
-    chart: &RawChart,
+    chart: &'a RawChart,
     text: &[Passage<'a>],
 ) -> Result<LinkList<'a>, NoMemory>
     requires { text_view text.now ≡ text_of (chart_view chart.now) }
     ensures { IfOk result (λ links. links ≡ chart_links (chart_view chart.now)) }
 {
+    let parts = graph_text(alloc, &chart.content)?;
     let mut links = LinkList::new(alloc);
-    used(&mut links, &chart.content, text)?;
+    used(&mut links, &chart.content, text, parts.as_slice())?;
     Ok(links)
 }

@@ -11,6 +11,7 @@ use Rattle.chart_extents.specs.ExtentRules.{IsTooDeep}
 use Rattle.chart_extents.specs.Extents.{HasExtent, IsExtentOf, Sized, sized_charts}
 use Rattle.chart_extents.specs.OwnExtents.{own_extent}
 use Rattle.chart_extents.specs.declared.extent.Extent.{Extent}
+use Rattle.chart_extents.proofs.OwnLevels.{two_levels}
 use Rattle.chart_forms.specs.BuiltBodies.{IsBuiltBody}
 use Rattle.chart_forms.specs.NotBuilt.{IsBuilt}
 use Rattle.chart_forms.specs.TableSizes.{body_size, counted_size, entry_size, level_size, refined_size, size_to, woven_size}
@@ -287,7 +288,7 @@ module _ (built : BuiltChartsAreKnown) (known : WovenChartsAreKnown) (charts : L
       all = sized_charts charts joined
 
       there_to : (depth : ℕ) (i : ℕ) (c : Chart) (e : Extent) → slice_get charts i ≡ Some c → IsExtentOf all (sized_at joined i c) e → e.nesting ≤ depth → IsThereTo table depth c.name
-      there_to zero i c e at is low = let up = nests_from all (sized_at joined i c).own (chart_links c) e is in absurd (omega (arith, up, low))
+      there_to zero i c e at is low = let up = nests_from all (sized_at joined i c).own (chart_links c) e is in absurd (omega (arith, up, low, two_levels c))
       there_to (suc depth) i c e at is low =
           let t = there i c at in
           let m = at_among charts i c at in

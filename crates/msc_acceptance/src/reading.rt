@@ -103,7 +103,7 @@ fn read_chart(alloc: Global, chart: &RawChart) -> Result<ChartText, NoMemory>
 {
     let text = chart_text(alloc, chart)?;
     let not_built = first_not_built(alloc, chart, text.as_slice())?;
-    let high_bound = first_high_bound(alloc, text.as_slice())?;
+    let high_bound = first_high_bound(alloc, chart, text.as_slice())?;
     let named = chart_names(alloc, chart, text.as_slice())?;
     let creation = misplaced_creation(alloc, chart, text.as_slice())?;
     let child = created_twice(alloc, chart, text.as_slice())?;

@@ -10,6 +10,7 @@ mod PieceSizes
 mod DeclSizes
 mod Refined
 mod LinkedSizes
+mod GraphSizes
 mod WovenNames
 mod Untied
 mod BuiltPieces

@@ -4,7 +4,7 @@ use Rattle.std.proofs.Common.{◌≡◌, ℕ, ◌≤◌, ◌+◌, Option, None, 
 use Rattle.std.specs.List.{flat_map}
 use Rattle.chart_extents.specs.OwnExtents.{own_extent}
 use Rattle.chart_extents.specs.OwnExtents as extent
-use Rattle.chart_forms.specs.ChartSizes.{passage_size}
+use Rattle.chart_forms.specs.ChartSizes.{content_size, passage_size}
 use Rattle.chart_forms.specs.TableSizes.{expression_size, expressions_size}
 use Rattle.chart_links.specs.Links.{Link, chart_links, decl_links, expression_links, passage_links, parts_links, refined_links, used_links}
 use Rattle.chart_text.proofs.GatheringLaws.{summed_append}
@@ -27,12 +27,12 @@ abbrev pub count : (List ℕ → ℕ) → (WovenItems → ReferencePart → ℕ)
 count size_of product e = expression_size size_of product e
 
 module _ (size_of refining : List ℕ → ℕ) (product : WovenItems → ReferencePart → ℕ) where
-  named_on : (xs ys : List Link) → named_size size_of refining (xs ++ ys) ≡ named_size size_of refining xs + named_size size_of refining ys
+  pub named_on : (xs ys : List Link) → named_size size_of refining (xs ++ ys) ≡ named_size size_of refining xs + named_size size_of refining ys
   named_on [] ys = omega arith
   named_on (x ∷ xs) ys = omega (arith, named_on xs ys)
 
   mutual
-    expression_counts : (place : Place) (scope : Scope) (depth : ℕ) (e : Expression) → count size_of product e ≡ extent.expression_size e + named_size size_of refining (expression_links place scope depth e)
+    pub expression_counts : (place : Place) (scope : Scope) (depth : ℕ) (e : Expression) → count size_of product e ≡ extent.expression_size e + named_size size_of refining (expression_links place scope depth e)
     expression_counts place scope depth Empty = refl
     expression_counts place scope depth (expression.Chart name) = omega arith
     expression_counts place scope depth (Alt parts) = omega (arith, parts_count place scope (depth + 1) parts)
@@ -84,4 +84,5 @@ module _ (size_of refining : List ℕ → ℕ) (product : WovenItems → Referen
       let on = summed_append (passage_count (count size_of product)) (map a_head c.decls) (content_text c.content) in
       let same : summed (passage_count (count size_of product)) (content_text c.content) ≡ summed (passage_count (count size_of product)) (content_text (Basic held)) = ap (λ (x : Content). summed (passage_count (count size_of product)) (content_text x)) is in
       let low : summed (passage_count (count size_of product)) (chart_text c) + decls_size refining (chart_decls c) ≤ summed passage_size (chart_text c) + summed extent.passage_size (chart_text c) + named_size size_of refining (flat_map passage_links (chart_text c)) = text_low (chart_text c) in
-      omega (arith, named, on, same, low)
+      let own : content_size c.content (chart_text c) ≡ 2 + summed passage_size (chart_text c) = ap (λ (x : Content). content_size x (chart_text c)) is in
+      omega (arith, named, on, same, low, own)

@@ -21,6 +21,7 @@ use Rattle.woven_laws.proofs.Refined.{chart_refined}
 use Rattle.msc_meaning.specs.Tables.{refinements}
 use Rattle.msc_meaning.specs.WovenTables.{chart_decls}
 use Rattle.woven_laws.specs.JoinSums.{item_joins, items_joins, level_joins, operands_joins}
+use Rattle.woven_laws.proofs.GraphSizes.{graph_light}
 use Rattle.woven_laws.proofs.LinkedSizes.{chart_low, count}
 use Rattle.woven_laws.proofs.PieceSizes.{at_size_is, different_size, inline_parts, level_low, lists_size, parts_size, pieces_size, sizes_at, statements_are}
 use Rattle.woven_laws.proofs.WalkedSizes.{form_size, statements_walked}
@@ -82,6 +83,7 @@ chart_light c held b size_of refining product is h =
 pub woven_charts_are_known : WovenNumbersDiffer → WovenChartsAreKnown
 woven_charts_are_known numbers = record {
   light = chart_light;
+  drawn = λ c drawn size_of refining product is. graph_light size_of refining product c drawn is;
   once = λ names held b h. numbers names 0 (statements held) b h;
   named = chart_linked;
   refined = chart_refined;

@@ -5,7 +5,7 @@ use Rattle.chart_extents.specs.OwnExtents.{own_extent}
 use Rattle.chart_forms.specs.BodyEvents.{events_within}
 use Rattle.chart_forms.specs.BuiltBodies.{IsBuiltBody}
 use Rattle.chart_forms.specs.NotBuilt.{IsBuilt}
-use Rattle.chart_forms.specs.TableSizes.{level_size}
+use Rattle.chart_forms.specs.TableSizes.{graph_size, level_size}
 use Rattle.chart_links.specs.Links.{Link, Refers, Refines, chart_links, depth_of, linked}
 use Rattle.chart_text.specs.WellFormed.{IsWellFormed}
 use Rattle.creation_rules.specs.Creating.{ChartCreatesTwice}
@@ -55,11 +55,12 @@ refinements_size refining [] = 0
 refinements_size refining (r ∷ rs) = refining r.chart + refinements_size refining rs
 
 -- what statements are woven to, with the charts that refine instances, is no larger than they with what joins add, whatever the charts count
--- that are named; the numbers of its events, at any depth, differ; and the charts that it names, and those that refine instances, are those
--- of the text's links
+-- that are named, and a graph is no larger than its text; the numbers of the events of statements, at any depth, differ; and the charts that
+-- they name, and those that refine instances, are those of the text's links
 pub record WovenChartsAreKnown : Type 0 where
   pub light : (c : Chart) (held : List Statement) (b : Body) (size_of refining : List ℕ → ℕ) (product : WovenItems → ReferencePart → ℕ) → c.content ≡ Basic held → IsWovenLevel (instances c) (statements_pieces (instances c) 0 (statements held)) b
       → 2 + level_size size_of product b + refinements_size refining (refinements (chart_decls c)) ≤ (own_extent c).size + level_joins product b + named_size size_of refining (chart_links c)
+  pub drawn : (c : Chart) (drawn : Graph) (size_of refining : List ℕ → ℕ) (product : WovenItems → ReferencePart → ℕ) → c.content ≡ HighLevel drawn → graph_size size_of product drawn ≤ (own_extent c).size + named_size size_of refining (chart_links c)
   pub once : (names : List (List ℕ)) (held : List Statement) (b : Body) → IsWovenLevel names (statements_pieces names 0 (statements held)) b → Once (map (λ (n : EventNode). n.number) (events_within b))
   pub named : (c : Chart) (held : List Statement) (b : Body) → c.content ≡ Basic held → IsWovenLevel (instances c) (statements_pieces (instances c) 0 (statements held)) b
       → (name : List ℕ) → IsAmong (level_names b) name → IsLinked (chart_links c) name

@@ -1,0 +1,3 @@
+pub mod GraphTexts
+pub mod GraphGathering
+pub mod GraphPartViews
