@@ -1,0 +1,9 @@
+use Rattle.std.proofs.Common.{subst}
+use Rattle.hmsc_graph.specs.Shapes.{IsFaultOf}
+use Rattle.msc_rules.specs.declared.rule.Rule.TheVariants.{LabelNamedTwice}
+use Rattle.graph_rules.proofs.GraphFacts.{no_fault}
+use Rattle.graph_rules.proofs.ends.net_of.Goals as goal
+
+pub unreachable-requires-in-Err-TwiceLabel : goal.unreachable-requires-in-Err-TwiceLabel
+unreachable-requires-in-Err-TwiceLabel c =
+    no_fault c.args.shape.now c.requires.labelled LabelNamedTwice c.in-Err-TwiceLabel.field-0-0 (subst (IsFaultOf c.args.shape.now) c.in-Err-TwiceLabel.field-0-is c.in-Err-TwiceLabel.ensures.fault).broken

@@ -1,0 +1,3 @@
+pub mod GraphRules
+pub mod GraphViews
+pub mod StuckLines

@@ -1,0 +1,2 @@
+pub mod ShapeViews
+pub mod NetFacts

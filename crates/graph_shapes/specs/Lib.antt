@@ -1,0 +1,3 @@
+pub mod GraphShapes
+pub mod GraphNets
+pub mod GraphLists
