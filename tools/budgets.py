@@ -9,9 +9,7 @@ import os
 import re
 import sys
 
-FUNCTIONS, LINES, CHAIN, EDITS, ALL_EDITS, TESTS = 100, 800, 13, 8, 90, 40
-# one recursion, with what its levels are given
-LARGE = {"expanded_charts": 140}
+FUNCTIONS, LINES, CHAIN, EDITS, ALL_EDITS, TESTS = 100, 800, 14, 8, 90, 40
 PROGRAM = "mscjudge"
 TEST_CRATES = ("text_tests", "graph_tests", "calculus_tests", "command_tests", "term_bench")
 
@@ -69,7 +67,7 @@ def of_crate(crate, libraries):
     functions = sum(len(re.findall(r"^\s*(?:pub(?:\([a-z]+\))? )?fn ", text, re.M)) for text in code)
     tests = sum(text.count("#[test]") for text in code)
     edits = len(glob.glob(f"crates/{crate}/must-fail/*.edit"))
-    if functions > LARGE.get(crate, FUNCTIONS):
+    if functions > FUNCTIONS:
         yield f"{crate}: {functions} functions"
     if tests > (TESTS if crate in TEST_CRATES else 0):
         yield f"{crate}: {tests} tests"

@@ -27,18 +27,19 @@ use Rattle.expansion_tree.specs.Expansions.{events_in}
 use Rattle.expansion_tree.specs.Views.{expansion_view}
 use Rattle.expanded_charts.specs.BasicCharts.{IsBasicTable, IsBasicWoven}
 use Rattle.expanded_charts.specs.Expanding.{Expanded, ExpandedParts, aside, expand_woven, expansion, in_row, nothing, past, put, tied}
-use Rattle.expanded_charts.specs.GateWays.{way_step, ways_step, ways_view}
-use Rattle.expanded_charts.specs.Making.{AreMade, IsAdded, IsMade, add, chart_part, charts, ends_in, items_parts, level_part}
+use Rattle.level_surroundings.specs.GateWays.{way_step, ways_step, ways_view}
+use Rattle.expanded_charts.specs.Making.{AreMade, IsAdded, IsMade, add, chart_part, charts, items_parts, level_part}
+use Rattle.level_surroundings.specs.TableEnds.{ends_in}
 use Rattle.expanded_charts.specs.RefinedMaking.{beside_parts, left_parts, refined_part, refining_part, refinings_parts, tied_part, woven_part}
-use Rattle.expanded_charts.specs.RefiningViews.{refining_view, refinings_view}
+use Rattle.level_surroundings.specs.RefiningViews.{refining_view, refinings_view}
 use Rattle.expanded_charts.specs.Numbering.{numbered_by, numbering_of, with_events}
 use Rattle.expanded_charts.specs.declared.made.Made.{Made}
 use Rattle.expanded_charts.specs.declared.made.MadeParts.{MadeParts}
 use Rattle.expanded_charts.specs.declared.numbering.Numbering.{Numbering}
-use Rattle.expanded_charts.specs.declared.refining.Refining as rust_refining
-use Rattle.expanded_charts.specs.declared.ways.Ways.{fold-roll-Ways}
-use Rattle.expanded_charts.specs.declared.ways.Ways.TheOpen.{Ways-F}
-use Rattle.expanded_charts.specs.declared.ways.Ways.TheVariants as raw_ways
+use Rattle.level_surroundings.specs.declared.refining.Refining as rust_refining
+use Rattle.level_surroundings.specs.declared.ways.Ways.{fold-roll-Ways}
+use Rattle.level_surroundings.specs.declared.ways.Ways.TheOpen.{Ways-F}
+use Rattle.level_surroundings.specs.declared.ways.Ways.TheVariants as raw_ways
 use Rattle.expanded_charts.proofs.EventParts.{one_more, put_add}
 use Rattle.expanded_charts.proofs.Loops.{one_more as part_more}
 use Rattle.expanded_charts.proofs.Making.{extends_self}

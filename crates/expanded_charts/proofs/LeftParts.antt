@@ -15,12 +15,12 @@ use Rattle.expansion_tree.specs.Views.{expansion_view}
 use Rattle.expanded_charts.specs.Expanding.{ExpandedParts, Shown, past, past_shown}
 use Rattle.expanded_charts.specs.Making.{AreMade, IsAdded, IsChanged, IsMade, event_part, events_parts, item_part, items_parts}
 use Rattle.expanded_charts.specs.RefinedMaking.{AddsEvents, AddsItems}
-use Rattle.expanded_charts.specs.RefiningViews.{left_item, numbers_past, own_tags, pair_past, unless}
+use Rattle.expanded_charts.specs.LeftItems.{left_item, numbers_past, own_tags, pair_past, unless}
 use Rattle.expanded_charts.specs.ShownGates.{gates_in, gates_view, own_numbers}
 use Rattle.expanded_charts.specs.declared.made.Made.{Made}
 use Rattle.expanded_charts.specs.declared.made.MadeParts.{MadeParts}
 use Rattle.expanded_charts.specs.declared.numbering.Numbering.{Numbering}
-use Rattle.expanded_charts.proofs.Dropped.{take_step}
+use Rattle.level_surroundings.proofs.Dropped.{take_step}
 use Rattle.expanded_charts.proofs.EventParts.{events_snoc, items_snoc}
 use Rattle.expanded_charts.proofs.Loops.{one_more}
 use Rattle.expanded_charts.proofs.ShownFacts.{gates_both, own_both}

@@ -1,4 +1,3 @@
-pub mod Dropped
 pub mod ShownFacts
 pub mod Making
 pub mod Positions
@@ -6,12 +5,11 @@ pub mod Numbers
 pub mod EventParts
 pub mod Measures
 pub mod Loops
-pub mod CallFacts
 pub mod GateTieFacts
 pub mod TieFacts
 pub mod GateNumberFacts
 pub mod ChartParts
 pub mod WorkedExpansions
-pub mod FarFacts
-pub mod RefinementFacts
+pub mod StandingFacts
+pub mod RefiningFits
 pub mod LeftParts

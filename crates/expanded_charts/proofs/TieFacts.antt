@@ -2,17 +2,17 @@
 -- their numbers in their chart.
 use Rattle.std.specs.List.{slice_get}
 use Rattle.std.specs.Ordering.{is_eq, nat_cmp}
-use Rattle.std.specs.declared.cmp.Ordering.TheVariants.{Less, Equal, Greater}
-use Rattle.std.specs.Prelude.{ℕ, ◌+◌, ◌==◌, nat_lt, cond, Bool, true, false, List, [], ◌∷◌, ◌++◌, Option, Some, None, filter, map, take}
+use Rattle.std.specs.Prelude.{ℕ, ◌+◌, ◌==◌, cond, Bool, true, false, List, [], ◌∷◌, ◌++◌, Option, Some, None, filter, map, take}
 use Rattle.std.proofs.Common.{◌≡◌, refl, sym, ◌∙◌, ap, subst, arith}
-use Rattle.std.proofs.lemmas.Bool.Decides.{Decides-eqb, Decides-ltb}
+use Rattle.std.proofs.lemmas.Bool.Decides.{Decides-eqb}
 use Rattle.msc_base.specs.declared.label.Pair.{Pair}
 use Rattle.msc_unfolding.specs.Unfoldings.{Tag, Own, Via, On, is_same_tag}
 use Rattle.msc_meaning.specs.Ties.{own_ties}
 use Rattle.expanded_charts.specs.Expanding.{Shown, numbers_with, pairs_between, tied_pairs}
 use Rattle.expanded_charts.specs.ShownGates.{gates_in, own_numbers}
 use Rattle.expanded_charts.specs.TieNumbers.{AreNumbers, listed, found_pair, found_pairs, gate_pairs, number_if, numbers_at, numbers_of, tie_pairs}
-use Rattle.expanded_charts.proofs.Dropped.{take_step}
+use Rattle.level_surroundings.proofs.Dropped.{take_step}
+use Rattle.level_surroundings.proofs.KeyFacts.{is_equal, unequal}
 
 -- ---- lists
 
@@ -102,22 +102,6 @@ found_are number shown (t ∷ ts) h =
     ap (λ l. l ++ found_pairs number ts) (pair_is (number t.first) (number t.second)
     ∙ (ap (λ l. pairs_between l (listed (number t.second))) (h.found t.first) ∙ ap (λ l. pairs_between (numbers_of t.first shown) l) (h.found t.second)))
     ∙ ap (λ l. pairs_between (numbers_of t.first shown) (numbers_of t.second shown) ++ l) (found_are number shown ts h)
-
-pub is_equal : (k q : ℕ) → is_eq (nat_cmp k q) ≡ true → k ≡ q
-is_equal k q h = (Decides-eqb k q).0 (by (nat_lt k q) (k == q) h)
-  where
-    by : (b c : Bool) → is_eq (cond b Less (cond c Equal Greater)) ≡ true → c ≡ true
-    by true c h = absurd cc
-    by false true h = refl
-    by false false h = absurd cc
-
-pub unequal : (k q : ℕ) → is_eq (nat_cmp k q) ≡ false → (k == q) ≡ false
-unequal k q e = cases (nat_lt k q) (k == q) refl refl e
-  where
-    cases : (b c : Bool) → nat_lt k q ≡ b → (k == q) ≡ c → is_eq (cond b Less (cond c Equal Greater)) ≡ false → c ≡ false
-    cases b false f g h = refl
-    cases false true f g h = absurd cc
-    cases true true f g h = let less = (Decides-ltb k q).0 f in let same = (Decides-eqb k q).0 g in absurd (omega (arith, less, same))
 
 if_both : (b : Bool) (m : ℕ) (ms ns : List ℕ) → number_if b m (ms ++ ns) ≡ number_if b m ms ++ ns
 if_both true m ms ns = refl

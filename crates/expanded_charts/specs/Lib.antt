@@ -1,15 +1,10 @@
 pub mod Expanding
 pub mod Numbering
 pub mod BasicCharts
-pub mod HeldGates
-pub mod GateWays
-pub mod FarEndViews
-pub mod Givens
 pub mod ShownGates
 pub mod Above
 pub mod Making
-pub mod DecomposedInstances
-pub mod RefiningViews
+pub mod LeftItems
 pub mod RefinedMaking
 pub mod GateTies
 pub mod TieNumbers

@@ -6,9 +6,7 @@ use Rattle.msc_base.specs.declared.label.Label.{Label}
 use Rattle.msc_tree.specs.Expressions.{Expression, Expressions}
 use Rattle.msc_meaning.specs.Bodies.{EventNode, Body, WovenItems, WovenItem, Bodies}
 use Rattle.msc_meaning.specs.FarEnds.{Around, GateMap, Gates, happening}
-use Rattle.msc_meaning.specs.InnerEvents.{GateEnd}
 use Rattle.msc_meaning.specs.Tables.{Table}
-use Rattle.gate_ends.specs.FoundEnds.{table_ends}
 use Rattle.expansion_tree.specs.Expansions.{Expansion, Expansions, no_parts, part_and, all_events_in, events_in, map_all_events, map_events}
 use Rattle.expansion_tree.specs.Views.{expansion_view, expansions_view}
 use Rattle.expanded_charts.specs.Expanding.{Charts, Expanded, ExpandedParts, NumberedEvent, event, expand, expand_all, expand_charts, expand_events, expand_item, expand_items, expand_level, expand_operands}
@@ -16,12 +14,9 @@ use Rattle.expanded_charts.specs.Numbering.{event_by, with_event, with_events}
 use Rattle.expanded_charts.specs.ShownGates.{gates_in, gates_view, own_numbers}
 use Rattle.expanded_charts.specs.declared.numbering.Numbering.{Numbering}
 use Rattle.expansion_tree.specs.declared.tree.ExpandedEvent.{ExpandedEvent}
+use Rattle.level_surroundings.specs.TableEnds.{ends_in}
 use Rattle.expanded_charts.specs.declared.made.Made.{Made}
 use Rattle.expanded_charts.specs.declared.made.MadeParts.{MadeParts}
-
--- the ends of the called gates of a level. It is opened where that is needed alone, since the depth of the table's is a large number
-unfoldable pub ends_in : Table → WovenItems → List GateEnd
-ends_in table held = table_ends table held
 
 -- what had a number has it still
 pub record Extends (old new : Numbering) : Type 0 where

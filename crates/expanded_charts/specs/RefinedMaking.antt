@@ -11,7 +11,8 @@ use Rattle.msc_meaning.specs.Refinements.{Refining, refining, refinings, without
 use Rattle.msc_meaning.specs.Tables.{Table, Refinement, Basic}
 use Rattle.msc_meaning.specs.Ties.{ties}
 use Rattle.expanded_charts.specs.Expanding.{Expanded, ExpandedParts, expand_refined, expand_refinings, expand_woven, in_row, past, then, tied}
-use Rattle.expanded_charts.specs.Making.{AreMade, charts, ends_in, events_parts, items_parts}
+use Rattle.expanded_charts.specs.Making.{AreMade, charts, events_parts, items_parts}
+use Rattle.level_surroundings.specs.TableEnds.{ends_in}
 use Rattle.expanded_charts.specs.declared.made.MadeParts.{MadeParts}
 use Rattle.expanded_charts.specs.declared.numbering.Numbering.{Numbering}
 

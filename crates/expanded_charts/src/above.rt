@@ -9,10 +9,9 @@ ghost use Rattle.expanded_charts.specs.Expanding.{past, past_shown};
 ghost use Rattle.expanded_charts.specs.Making.{IsChanged};
 ghost use Rattle.expanded_charts.specs.ShownGates.{gates_view, shown_view, tag_view, tags_view};
 
-use crate::called::CalledGates;
-use crate::joins::JoinTable;
 use crate::made::Made;
 use crate::shown::{GateTag, ShownGate};
+use level_surroundings::{CalledGates, JoinTable};
 use msc_base::{Name, NoMemory, PairList};
 use std::alloc::Global;
 

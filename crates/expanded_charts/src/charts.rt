@@ -15,32 +15,30 @@ ghost use Rattle.msc_tree.specs.Expressions.{expressions};
 ghost use Rattle.msc_tree.specs.Views.{expression_view};
 ghost use Rattle.expanded_charts.specs.BasicCharts.{IsBasicTable};
 ghost use Rattle.expanded_charts.specs.Expanding.{expansion};
-ghost use Rattle.expanded_charts.specs.GateWays.{ways_view};
-ghost use Rattle.expanded_charts.specs.Givens.{around_view};
+ghost use Rattle.level_surroundings.specs.GateWays.{ways_view};
+ghost use Rattle.level_surroundings.specs.Givens.{around_view};
 ghost use Rattle.expanded_charts.specs.Making.{AreMade, IsMade, chart_part, expression_part, expressions_parts, item_part, items_parts, level_part, operands_parts};
 ghost use Rattle.expanded_charts.specs.Numbering.{numbered_by, numbering_of};
 ghost use Rattle.expanded_charts.specs.RefinedMaking.{AddsItems, beside_parts, left_parts, refined_part, refining_part, tied_part, woven_part};
-ghost use Rattle.expanded_charts.specs.RefiningViews.{left_item, refining_view, refinings_view};
+ghost use Rattle.expanded_charts.specs.LeftItems.{left_item};
+ghost use Rattle.level_surroundings.specs.RefiningViews.{refining_view, refinings_view};
 
 use crate::above::{Above, past_made};
-use crate::chart_table::{ChartTable, called_gates, chart_named};
-use crate::decomposed::Decomposed;
 use crate::events::{event_of, events_left, events_of};
-use crate::far_ends::FarEnds;
 use crate::gate_ties::gate_ties;
-use crate::joins::JoinTable;
 use crate::made::{Made, MadeParts};
 use crate::numbering::Numbering;
 use crate::parts::{add, aside, in_row, no_parts, of_form, one_of, or_nothing, turns};
 use crate::past_refining::past_refined;
-use crate::refined_far::{inner_ends, refined_ends};
-use crate::refining::{Refining, refinings_of};
 use crate::ties::level_tied;
-use crate::ways::{Given, Level, Ways};
 use expansion_tree::Expansion;
 use gate_tables::GateTables;
 use general_ordering::level_pairs_of;
 use label_table::LabelTable;
+use level_surroundings::{
+    ChartTable, Decomposed, FarEnds, Given, JoinTable, Level, Refining, Ways, called_gates,
+    chart_named, inner_ends, refined_ends, refinings_of,
+};
 use msc_base::{NameTable, NoMemory};
 use msc_meaning::{Body, ChartEntry, EntryContent, InlineItem, Item, ReferenceItem};
 use msc_tree::{Decl, RefExpr};

@@ -9,7 +9,7 @@ ghost use Rattle.msc_meaning.specs.Views.{item_view, node_view};
 ghost use Rattle.msc_tree.specs.declared.reference.Join.{Join};
 ghost use Rattle.expanded_charts.specs.GateTies.{end_view, tie_view, ties_view};
 
-use crate::called::CalledGates;
+use level_surroundings::CalledGates;
 use msc_base::{Kind, Name, NoMemory};
 use msc_meaning::{EventNode, Item};
 use msc_tree::{Join, JoinEnd, Target};

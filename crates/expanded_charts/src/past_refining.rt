@@ -7,7 +7,7 @@ ghost use Rattle.msc_meaning.specs.Refinements.{Match, past_refining};
 ghost use Rattle.refined_events.specs.MatchViews.{match_view, matches_view};
 ghost use Rattle.expanded_charts.specs.Expanding.{past};
 ghost use Rattle.expanded_charts.specs.Making.{IsChanged};
-ghost use Rattle.expanded_charts.specs.RefiningViews.{StandsFor, numbers_past, pair_past};
+ghost use Rattle.expanded_charts.specs.LeftItems.{StandsFor, numbers_past, pair_past};
 
 use crate::made::Made;
 use msc_base::{NoMemory, Pair, PairList};

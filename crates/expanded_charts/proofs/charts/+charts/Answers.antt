@@ -33,21 +33,23 @@ use Rattle.general_ordering.proofs.ViewFacts.{body_is, coregion_is, inline_item_
 use Rattle.general_ordering.proofs.ViewFacts as views
 use Rattle.expanded_charts.specs.BasicCharts.{IsBasicWoven}
 use Rattle.expanded_charts.specs.Expanding.{Expanded, aside, in_row, inline_by, nothing, past, tied}
-use Rattle.expanded_charts.specs.FarEndViews.{far_ends_view}
+use Rattle.level_surroundings.specs.FarEndViews.{far_ends_view}
 use Rattle.expanded_charts.specs.GateTies.{ties_view}
-use Rattle.expanded_charts.specs.GateWays.{ways_view}
-use Rattle.expanded_charts.specs.Givens.{around_view}
-use Rattle.expanded_charts.specs.Making.{AreMade, IsMade, ends_in, events_parts, expression_part, expressions_parts, item_part, items_parts, operands_parts}
-use Rattle.expanded_charts.specs.declared.refining.Refining as rust_refining
-use Rattle.expanded_charts.specs.declared.ways.Ways.TheVariants as raw_ways
+use Rattle.level_surroundings.specs.GateWays.{ways_view}
+use Rattle.level_surroundings.specs.Givens.{around_view}
+use Rattle.expanded_charts.specs.Making.{AreMade, IsMade, events_parts, expression_part, expressions_parts, item_part, items_parts, operands_parts}
+use Rattle.level_surroundings.specs.TableEnds.{ends_in}
+use Rattle.level_surroundings.specs.declared.refining.Refining as rust_refining
+use Rattle.level_surroundings.specs.declared.ways.Ways.TheVariants as raw_ways
 use Rattle.expanded_charts.specs.RefinedMaking.{AddsItems, beside_parts, left_parts, refined_part, tied_part, woven_part}
-use Rattle.expanded_charts.specs.RefiningViews.{left_item, refinings_view, unless}
+use Rattle.expanded_charts.specs.LeftItems.{left_item, unless}
+use Rattle.level_surroundings.specs.RefiningViews.{refinings_view}
 use Rattle.expanded_charts.proofs.ChartParts.{alt_is, basic_entry, beside_more, beside_none, chart_woven, empty_is, level_is, loop_is, no_chart, no_depth, nowhere_is, opt_is, par_is, refined_is, same_form, seq_is, tied_is, woven_level, woven_refined}
-use Rattle.expanded_charts.proofs.Dropped.{item_at}
+use Rattle.level_surroundings.proofs.Dropped.{item_at}
 use Rattle.expanded_charts.proofs.LeftParts.{adds_none, adds_one, left_are, left_more}
 use Rattle.expanded_charts.proofs.Loops.{expressions_step, items_step, operands_step, taken_all}
 use Rattle.expanded_charts.proofs.Measures.{body_fits, body_less, deeper, item_less, part_less}
-use Rattle.expanded_charts.proofs.RefinementFacts.{refining_fits}
+use Rattle.expanded_charts.proofs.RefiningFits.{refining_fits}
 use Rattle.expanded_charts.proofs.charts.+charts.Goals as goal
 
 pub chart_of-returns-then-depth-eq0 : goal.chart_of-returns-then-depth-eq0

@@ -5,11 +5,12 @@ use Rattle.std.specs.List.{flat_map}
 use Rattle.msc_meaning.specs.Bodies.{items}
 use Rattle.msc_meaning.specs.ItemViews.{bodies_view, inline_view, items_view}
 use Rattle.msc_meaning.specs.Views.{body_view, item_view, reference_view, table_view}
-use Rattle.expanded_charts.specs.GateWays.{ways_view}
-use Rattle.expanded_charts.specs.Givens.{around_view}
+use Rattle.level_surroundings.specs.GateWays.{ways_view}
+use Rattle.level_surroundings.specs.Givens.{around_view}
 use Rattle.expanded_charts.specs.Making.{AreMade, expressions_parts, items_parts, operands_parts}
 use Rattle.expanded_charts.specs.RefinedMaking.{beside_parts}
-use Rattle.expanded_charts.specs.RefiningViews.{left_item, refinings_view}
+use Rattle.expanded_charts.specs.LeftItems.{left_item}
+use Rattle.level_surroundings.specs.RefiningViews.{refinings_view}
 use Rattle.expanded_charts.proofs.Measures.{body_size, expression_size, expressions_size, item_size, items_size, measure, operands_size, table_size}
 use Rattle.expanded_charts.proofs.charts.+charts.Given as goal
 

@@ -2,7 +2,7 @@ use Rattle.std.proofs.Common.{◌≡◌, ◌∙◌, List, false, subst, sym}
 use Rattle.msc_meaning.specs.Bodies.{EventNode}
 use Rattle.msc_meaning.specs.Refinements.{is_decomposed}
 use Rattle.msc_meaning.specs.Views.{node_view}
-use Rattle.expanded_charts.specs.Givens.{around_view}
+use Rattle.level_surroundings.specs.Givens.{around_view}
 use Rattle.expanded_charts.specs.RefinedMaking.{AddsEvents}
 use Rattle.expanded_charts.proofs.LeftParts.{event_stays, events_one}
 use Rattle.expanded_charts.proofs.events.add_left.Goals as goal

@@ -1,6 +1,6 @@
 use Rattle.std.proofs.Common.{rules, refl}
 use Rattle.msc_meaning.specs.Views.{node_view}
-use Rattle.expanded_charts.specs.Givens.{around_view}
+use Rattle.level_surroundings.specs.Givens.{around_view}
 use Rattle.expanded_charts.proofs.EventParts.{event_made}
 use Rattle.expanded_charts.proofs.events.event_of.Goals as goal
 

@@ -3,7 +3,7 @@ use Rattle.msc_meaning.specs.Bodies.{EventNode}
 use Rattle.msc_meaning.specs.Refinements.{left_of}
 use Rattle.msc_meaning.specs.Views.{node_view}
 use Rattle.msc_meaning.specs.declared.body.EventNode as rust_event
-use Rattle.expanded_charts.specs.Givens.{around_view}
+use Rattle.level_surroundings.specs.Givens.{around_view}
 use Rattle.expanded_charts.specs.Making.{AreMade, events_parts}
 use Rattle.expanded_charts.proofs.LeftParts.{left_events_more}
 use Rattle.expanded_charts.proofs.Loops.{taken_all}

@@ -2,7 +2,7 @@ use Rattle.std.proofs.Common.{ℕ, map, take}
 use Rattle.msc_meaning.specs.Refinements.{left_of}
 use Rattle.msc_meaning.specs.Tables.{Table}
 use Rattle.msc_meaning.specs.Views.{node_view}
-use Rattle.expanded_charts.specs.Givens.{around_view}
+use Rattle.level_surroundings.specs.Givens.{around_view}
 use Rattle.expanded_charts.specs.Making.{AreMade, events_parts}
 use Rattle.expanded_charts.proofs.events.events_left.Given as goal
 

@@ -1,7 +1,7 @@
 use Rattle.std.proofs.Common.{List, map, subst}
 use Rattle.msc_meaning.specs.Views.{node_view}
 use Rattle.msc_meaning.specs.declared.body.EventNode as rust_event
-use Rattle.expanded_charts.specs.Givens.{around_view}
+use Rattle.level_surroundings.specs.Givens.{around_view}
 use Rattle.expanded_charts.specs.Making.{AreMade, events_parts}
 use Rattle.expanded_charts.proofs.Loops.{events_step, taken_all}
 use Rattle.expanded_charts.proofs.events.events_of.Goals as goal

@@ -1,7 +1,7 @@
 use Rattle.std.proofs.Common.{ℕ, map, take}
 use Rattle.msc_meaning.specs.Tables.{Table}
 use Rattle.msc_meaning.specs.Views.{node_view}
-use Rattle.expanded_charts.specs.Givens.{around_view}
+use Rattle.level_surroundings.specs.Givens.{around_view}
 use Rattle.expanded_charts.specs.Making.{AreMade, events_parts}
 use Rattle.expanded_charts.proofs.events.events_of.Given as goal
 

@@ -9,7 +9,7 @@ use Rattle.msc_unfolding.specs.Unfoldings.{Happening}
 use Rattle.msc_meaning.specs.FarEnds.{happening}
 use Rattle.msc_meaning.specs.Views.{node_view}
 use Rattle.expanded_charts.specs.Expanding.{NumberedEvent}
-use Rattle.expanded_charts.specs.Givens.{around_view}
+use Rattle.level_surroundings.specs.Givens.{around_view}
 use Rattle.expanded_charts.specs.Making.{IsNumbered, IsSecond}
 use Rattle.expanded_charts.specs.Numbering.{with_event, with_label, with_second}
 use Rattle.expanded_charts.specs.declared.numbering.Numbering.{Numbering}

@@ -3,7 +3,7 @@ use Rattle.msc_meaning.specs.FarEnds.{Gates}
 use Rattle.msc_meaning.specs.ItemViews.{items_view}
 use Rattle.msc_meaning.specs.Ties.{event_ties, items_joins_ties}
 use Rattle.expanded_charts.specs.GateTies.{ties_view}
-use Rattle.expanded_charts.specs.HeldGates.{uncalled}
+use Rattle.level_surroundings.specs.HeldGates.{uncalled}
 use Rattle.expanded_charts.proofs.GateTieFacts.{none_joined}
 use Rattle.expanded_charts.proofs.gate_ties.gate_ties.Goals as goal
 

@@ -1,6 +1,6 @@
 use Rattle.std.proofs.Common.{◌≤◌, drop, length}
 use Rattle.refined_events.specs.MatchViews.{matches_view}
-use Rattle.expanded_charts.specs.RefiningViews.{StandsFor}
+use Rattle.expanded_charts.specs.LeftItems.{StandsFor}
 use Rattle.expanded_charts.proofs.past_refining.numbers_of.Given as goal
 
 abbrev pub invariant-loop-index : goal.invariant-loop-index

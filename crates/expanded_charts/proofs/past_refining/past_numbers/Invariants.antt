@@ -1,7 +1,7 @@
 use Rattle.std.proofs.Common.{◌≡◌, take}
 use Rattle.std.specs.BTreeMap.{get}
 use Rattle.std.specs.Ordering.{nat_cmp}
-use Rattle.expanded_charts.specs.RefiningViews.{numbers_past}
+use Rattle.expanded_charts.specs.LeftItems.{numbers_past}
 use Rattle.expanded_charts.proofs.past_refining.past_numbers.Given as goal
 
 abbrev pub invariant-loop-index : goal.invariant-loop-index

@@ -1,7 +1,0 @@
-use Rattle.std.proofs.Common.{◌≡◌, [], take}
-use Rattle.msc_meaning.specs.Tables.{declared, refinements_of}
-use Rattle.expanded_charts.specs.DecomposedInstances.{refinements_view}
-use Rattle.expanded_charts.proofs.decomposed.listed.Given as goal
-
-abbrev pub invariant-loop-decl : goal.invariant-loop-decl
-invariant-loop-decl l = record { seen : l.seen ≡ declared [] (take l.decl-index l.decls); list : refinements_view l.list.items ≡ refinements_of l.decls l.seen }
