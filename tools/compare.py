@@ -7,10 +7,11 @@ PROGRAM and MODEL are programs that take the words of mscjudge; either may be a 
 is asked in the same process, so it is fast. With one folder as both, the documents alone are tried.
 
 Documents have charts of events of all kinds, stops, coregions, references and inline expressions (up to three within each other, shared
-and not), with gates that are called, joined and left open, in statements and in columns, with labels and general ordering; more than a
-third of them are faulty at one place. Logs are runs of their charts, beginnings of runs, and runs damaged at a random place, in text or
-JSON, and some are judged within the least budget that lets them pass, and within one less. What is a run is also known here without the
-model, so a model that errs there is found.
+and not), with gates that are called, joined and left open, in statements and in columns, with labels and general ordering. In two of five
+documents some instances are decomposed, one or both ends of a message, by charts of one instance or several. More than a third of the
+documents are faulty at one place. Logs are runs of their charts, beginnings of runs, and runs damaged at a random place, in text or JSON,
+and some are judged within the least budget that lets them pass, and within one less. What is a run is also known here without the model,
+so a model that errs there is found.
 
 Each difference is printed with what it takes to see it again: document K of a seed is made alone by `--first K --documents 1`. At the
 end stands how often each answer came. It ends with status 1 where there is a difference.
@@ -26,6 +27,7 @@ import subprocess
 import sys
 import tempfile
 
+import chart_parts
 import random_charts
 
 MOST = 20_000
@@ -107,7 +109,8 @@ def verdict_of(text):
 
 def log_of(rng, chart):
     """A log, whether it is in JSON, and whether it is a run of the chart as it was made."""
-    run, events = random_charts.run_of(rng, chart.level), chart.events()
+    run = chart_parts.run_of(rng, chart)
+    events = [*chart.events(), *run]
     damage = rng.random() if events else 1
     if damage < 0.15:
         run = run[:rng.randint(0, len(run))]
