@@ -2,7 +2,7 @@
 use Rattle.std.proofs.Common.{◌≡◌, ◌<◌, ◌⊎◌, inl, inr, ℕ, List, refl, subst, arith}
 use Rattle.msc_base.specs.Orders.{Among}
 use Rattle.msc_base.specs.declared.label.Pair.{Pair}
-use Rattle.expansion_tree.specs.Expansions.{Event, InRow, Aside, OneOf, Exception, Turns, Tied, no_parts, part_and}
+use Rattle.expansion_tree.specs.Expansions.{Event, InRow, Aside, OneOf, Exception, Turns, Tied, Walk, no_parts, part_and}
 use Rattle.expansion_tree.specs.Numbered.{Expansion, Expansions}
 use Rattle.expansion_order.specs.Precedence.{ComesBefore, HasLoopRound, HasRank, HasRound, HasSomeLoopRound, HaveAllLoopsRank, HaveLoopsRank, Precedes, PrecedesInOne, PrecedesInRow, next, further}
 use Rattle.expansion_order.specs.Ranks.{AreRanked, AreRankedInRow, CanBeRanked, IsRanked}
@@ -21,6 +21,7 @@ module _ (rank : ℕ → ℕ) where
     rises (Turns n lower upper x) r u v h = absurd h
     rises (Tied x ps) r u v (inl h) = raised u v h.pair.first h.pair.second h.first h.second (r.0 h.pair h.among)
     rises (Tied x ps) r u v (inr h) = rises x r.1 u v h
+    rises (Walk n g xs) r u v h = absurd h
 
     row_rises : (xs : Expansions) → AreRankedInRow rank xs → (u v : ℕ) → PrecedesInRow xs u v → rank u < rank v
     row_rises no_parts r u v h = absurd h
@@ -43,6 +44,7 @@ mutual
   is_ranked (Exception x) rank h l = is_ranked x rank h l
   is_ranked (Turns n lower upper x) rank h l = (l.0.rank, is_ranked x l.0.rank l.0.rises l.1)
   is_ranked (Tied x ps) rank h l = ((λ p a. h p.first p.second (inl (record { pair = p; among = a; first = refl; second = refl }))), is_ranked x rank (λ u v q. h u v (inr q)) l)
+  is_ranked (Walk n g xs) rank h l = tt
 
   row_ranked : (xs : Expansions) (rank : ℕ → ℕ) → ((u v : ℕ) → PrecedesInRow xs u v → rank u < rank v) → HaveAllLoopsRank xs → AreRankedInRow rank xs
   row_ranked no_parts rank h l = tt
@@ -77,6 +79,7 @@ mutual
   no_loop_round (Turns n lower upper x) rank r (inl h) = no_round x (has_rank x r.0 r.1) h
   no_loop_round (Turns n lower upper x) rank r (inr h) = no_loop_round x r.0 r.1 h
   no_loop_round (Tied x ps) rank r h = no_loop_round x rank r.1 h
+  no_loop_round (Walk n g xs) rank r h = h
 
   no_row_round : (xs : Expansions) (rank : ℕ → ℕ) → AreRankedInRow rank xs → HasSomeLoopRound xs → ⊥
   no_row_round no_parts rank r h = h

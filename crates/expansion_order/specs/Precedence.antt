@@ -1,9 +1,9 @@
 -- Serves private contracts alone.
--- Which event of an expansion comes before which. A loop counts as one event.
+-- Which event of an expansion comes before which. A loop counts as one event, and so does a walk.
 use Rattle.std.specs.Prelude.{ℕ, ◌≡◌, ◌<◌, ◌⊎◌, false, List}
 use Rattle.msc_base.specs.declared.label.Pair.{Pair}
 use Rattle.msc_base.specs.Orders.{Among}
-use Rattle.expansion_tree.specs.Expansions.{Event, InRow, Aside, OneOf, Exception, Turns, Tied, no_parts, part_and, is_exception}
+use Rattle.expansion_tree.specs.Expansions.{Event, InRow, Aside, OneOf, Exception, Turns, Tied, Walk, no_parts, part_and, is_exception}
 use Rattle.expansion_tree.specs.Numbered.{Expansion, Expansions}
 use Rattle.expansion_order.specs.Stops.{counted, all_counted}
 use Rattle.expansion_order.specs.declared.stops.Stop.{Stop}
@@ -34,6 +34,7 @@ abbrev mutual
   Precedes (Exception x) u v = Precedes x u v
   Precedes (Turns n lower upper x) u v = ⊥
   Precedes (Tied x ps) u v = HasPair ps u v ⊎ Precedes x u v
+  Precedes (Walk n g xs) u v = ⊥
 
   pub PrecedesInRow : Expansions → ℕ → ℕ → Type 0
   PrecedesInRow no_parts u v = ⊥
@@ -58,7 +59,7 @@ pub record HasRank (x : Expansion) : Type 0 where
   pub rank : ℕ → ℕ
   pub rises : (u v : ℕ) → Precedes x u v → rank u < rank v
 
--- the turn of each loop, at any depth, has such ranks
+-- the turn of each loop outside walks, at any depth, has such ranks
 abbrev mutual
   pub HaveLoopsRank : Expansion → Type 0
   HaveLoopsRank (Event e) = Unit {0}
@@ -68,12 +69,13 @@ abbrev mutual
   HaveLoopsRank (Exception x) = HaveLoopsRank x
   HaveLoopsRank (Turns n lower upper x) = HasRank x × HaveLoopsRank x
   HaveLoopsRank (Tied x ps) = HaveLoopsRank x
+  HaveLoopsRank (Walk n g xs) = Unit {0}
 
   pub HaveAllLoopsRank : Expansions → Type 0
   HaveAllLoopsRank no_parts = Unit {0}
   HaveAllLoopsRank (part_and x xs) = HaveLoopsRank x × HaveAllLoopsRank xs
 
--- in the turn of some loop one comes back so
+-- in the turn of some loop outside walks one comes back so
 abbrev mutual
   pub HasLoopRound : Expansion → Type 0
   HasLoopRound (Event e) = ⊥
@@ -83,6 +85,7 @@ abbrev mutual
   HasLoopRound (Exception x) = HasLoopRound x
   HasLoopRound (Turns n lower upper x) = HasRound x ⊎ HasLoopRound x
   HasLoopRound (Tied x ps) = HasLoopRound x
+  HasLoopRound (Walk n g xs) = ⊥
 
   pub HasSomeLoopRound : Expansions → Type 0
   HasSomeLoopRound no_parts = ⊥

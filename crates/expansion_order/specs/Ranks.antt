@@ -1,10 +1,11 @@
 -- Ranks of the events of an expansion, under which they can happen: of two events at one instance that stand one behind another the first
 -- has the lower rank, and so has the first of each pair. A loop counts as one event, since one turn of it may follow another, and its
--- turn has ranks of its own. The order of the events is cyclic where they have none.
+-- turn has ranks of its own. So does a walk through a graph; what its nodes come to is ordered by itself, and nothing is asked of it here.
+-- The order of the events is cyclic where they have none.
 use Rattle.std.specs.Prelude.{◌≡◌, ◌<◌, ℕ, false, List}
 use Rattle.msc_base.specs.declared.label.Pair.{Pair}
 use Rattle.msc_base.specs.Orders.{Among}
-use Rattle.expansion_tree.specs.Expansions.{Event, InRow, Aside, OneOf, Exception, Turns, Tied, no_parts, part_and, is_exception}
+use Rattle.expansion_tree.specs.Expansions.{Event, InRow, Aside, OneOf, Exception, Turns, Tied, Walk, no_parts, part_and, is_exception}
 use Rattle.expansion_tree.specs.Numbered.{Expansion, Expansions}
 use Rattle.expansion_order.specs.Stops.{counted, all_counted}
 use Rattle.expansion_order.specs.declared.stops.Stop.{Stop}
@@ -23,6 +24,7 @@ abbrev mutual
   IsRanked rank (Exception x) = IsRanked rank x
   IsRanked rank (Turns n lower upper x) = (own : ℕ → ℕ) × IsRanked own x
   IsRanked rank (Tied x ps) = ((p : Pair) → Among p ps → rank p.first < rank p.second) × IsRanked rank x
+  IsRanked rank (Walk n g xs) = Unit {0}
 
   pub AreRankedInRow : (ℕ → ℕ) → Expansions → Type 0
   AreRankedInRow rank no_parts = Unit {0}

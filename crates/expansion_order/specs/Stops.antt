@@ -1,7 +1,7 @@
 -- The events of an expansion, each at its instances.
 use Rattle.std.specs.Prelude.{ℕ, List, [], ◌∷◌, ◌++◌, Option, None, Some, map}
 use Rattle.expansion_tree.specs.declared.tree.ExpandedEvent.{ExpandedEvent}
-use Rattle.expansion_tree.specs.Expansions.{Event, InRow, Aside, OneOf, Exception, Turns, Tied, no_parts, part_and}
+use Rattle.expansion_tree.specs.Expansions.{Event, InRow, Aside, OneOf, Exception, Turns, Tied, Walk, no_parts, part_and}
 use Rattle.expansion_tree.specs.Numbered.{Expansion, Expansions}
 use Rattle.expansion_order.specs.declared.stops.Stop.{Stop}
 
@@ -22,6 +22,7 @@ abbrev mutual
   stops (Exception x) = stops x
   stops (Turns n lower upper x) = stops x
   stops (Tied x ps) = stops x
+  stops (Walk n g xs) = all_stops xs
 
   pub all_stops : Expansions → List Stop
   all_stops no_parts = []
@@ -30,7 +31,7 @@ abbrev mutual
 abbrev pub numbered : ℕ → Stop → Stop
 numbered n s = record s { number = n }
 
--- the events outside loops, and each outermost loop as one event, which is at all instances of those inside
+-- the events outside loops and walks, and each outermost loop or walk as one event, which is at all instances of those inside
 abbrev mutual
   pub counted : Expansion → List Stop
   counted (Event e) = event_stops e
@@ -40,6 +41,7 @@ abbrev mutual
   counted (Exception x) = counted x
   counted (Turns n lower upper x) = map (numbered n) (stops x)
   counted (Tied x ps) = counted x
+  counted (Walk n g xs) = map (numbered n) (all_stops xs)
 
   pub all_counted : Expansions → List Stop
   all_counted no_parts = []

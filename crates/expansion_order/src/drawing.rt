@@ -1,4 +1,4 @@
-//! Draws an expansion: behind each part of a row the later ones at its instances. A loop is drawn as one event.
+//! Draws an expansion: behind each part of a row the later ones at its instances. A loop or a walk is drawn as one event.
 
 ghost use Rattle.std.specs.BTreeMap.{get};
 ghost use Rattle.std.specs.Ordering.{nat_cmp};
@@ -9,7 +9,7 @@ ghost use Rattle.expansion_order.specs.Precedence.{Precedes, PrecedesInOne, Prec
 ghost use Rattle.expansion_order.specs.Stops.{all_counted, counted};
 ghost use Rattle.expansion_order.specs.Webs.{AreDrawn, IsPut, IsTidy};
 
-use crate::stops::{Stop, add_event, append, loop_stops};
+use crate::stops::{Stop, add_event, append, loop_stops, walk_stops};
 use crate::web::{Web, draw_pairs, enter, leave};
 use expansion_tree::Expansion;
 use msc_base::{Items, NoMemory};
@@ -80,6 +80,10 @@ pub(crate) fn draw(alloc: Global, web: &mut Web, part: &Expansion) -> Result<Ite
         Expansion::Tied(inner, pairs) => {
             draw_pairs(web, pairs.as_slice())?;
             let stops = draw(alloc, web, inner)?;
+            Ok(stops)
+        }
+        Expansion::Walk(number, _, parts) => {
+            let stops = walk_stops(alloc, *number, parts.as_slice())?;
             Ok(stops)
         }
     }

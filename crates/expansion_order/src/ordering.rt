@@ -100,7 +100,7 @@ fn edges_of(alloc: Global, web: &Web, events: u32) -> Result<Items<Edge>, NoMemo
     Ok(list)
 }
 
-/// Whether one comes from an event back to itself, where each loop counts as one event; if not, they have ranks.
+/// Whether one comes from an event back to itself, where each loop and each walk counts as one event; if not, they have ranks.
 fn has_round(alloc: Global, part: &Expansion) -> Result<bool, NoMemory>
     ensures cyclic { IfOk result (λ cyclic. cyclic ≡ true → HasRound (expansion_view part.now)) }
     ensures ranked { IfOk result (λ cyclic. cyclic ≡ false → HasRank (expansion_view part.now)) }
@@ -122,7 +122,7 @@ fn has_round(alloc: Global, part: &Expansion) -> Result<bool, NoMemory>
     }
 }
 
-/// Whether one comes back so in the turn of a loop, at any depth; if not, the events of each turn have ranks.
+/// Whether one comes back so in the turn of a loop, at any depth outside walks; if not, the events of each turn have ranks.
 #[cycle(loops)]
 fn has_loop_round(alloc: Global, part: &Expansion) -> Result<bool, NoMemory>
     ensures cyclic { IfOk result (λ cyclic. cyclic ≡ true → HasLoopRound (expansion_view part.now)) }
@@ -141,6 +141,7 @@ fn has_loop_round(alloc: Global, part: &Expansion) -> Result<bool, NoMemory>
             has_loop_round(alloc, inner)
         }
         Expansion::Tied(inner, _) => has_loop_round(alloc, inner),
+        Expansion::Walk(_, _, _) => Ok(false),
     }
 }
 
@@ -158,7 +159,8 @@ fn have_loop_round(alloc: Global, parts: &[Expansion]) -> Result<bool, NoMemory>
     Ok(false)
 }
 
-/// Whether the order of an expansion's events is cyclic, or that of a loop's turn by itself; if not, they can be ranked. It fails only for
+/// Whether the order of an expansion's events is cyclic, or that of a loop's turn by itself, what stands in walks apart; if not, they can
+/// be ranked. It fails only for
 /// want of memory, for which it takes 2^32 edges, or events and bars, of what is sorted at once too. It takes n log n time, n being the
 /// events, each as often as parts hold it, and that again for each loop that it stands in.
 pub fn is_cyclic(alloc: Global, part: &Expansion) -> Result<bool, NoMemory>

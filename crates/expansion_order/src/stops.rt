@@ -8,7 +8,7 @@ use expansion_tree::{ExpandedEvent, Expansion};
 use msc_base::{Items, NoMemory};
 use std::alloc::Global;
 
-/// An event, or a loop that counts as one, at one of its instances.
+/// An event, or a loop or walk that counts as one, at one of its instances.
 #[derive(Clone, Copy, Debug, PartialEq, Eq)]
 pub struct Stop {
     /// The number of the instance.
@@ -32,7 +32,7 @@ pub(crate) fn add_event(list: &mut Items<Stop>, event: ExpandedEvent) -> Result<
     Ok(())
 }
 
-/// Adds the events of an expansion, those of its loops too.
+/// Adds the events of an expansion, those of its loops and walks too.
 #[cycle(stops)]
 fn add_stops(list: &mut Items<Stop>, part: &Expansion) -> Result<(), NoMemory>
     ensures { OnOk result (list.new ≡ list.old ++ stops (expansion_view part.now)) }
@@ -45,6 +45,7 @@ fn add_stops(list: &mut Items<Stop>, part: &Expansion) -> Result<(), NoMemory>
         Expansion::Exception(inner) => add_stops(list, inner),
         Expansion::Turns(_, _, _, inner) => add_stops(list, inner),
         Expansion::Tied(inner, _) => add_stops(list, inner),
+        Expansion::Walk(_, _, parts) => add_all(list, parts.as_slice()),
     }
 }
 
@@ -93,6 +94,20 @@ pub(crate) fn loop_stops(
 {
     let mut list = Items::new(alloc);
     add_stops(&mut list, inner)?;
+    let all = with_number(alloc, number, list.as_slice())?;
+    Ok(all)
+}
+
+/// The stops of a walk that counts as one event of that number: its instances are those of all events of its nodes.
+pub(crate) fn walk_stops(
+    alloc: Global,
+    number: u32,
+    parts: &[Expansion],
+) -> Result<Items<Stop>, NoMemory>
+    ensures { IfOk result (λ all. all ≡ map (numbered number) (all_stops (expansions_view parts.now))) }
+{
+    let mut list = Items::new(alloc);
+    add_all(&mut list, parts)?;
     let all = with_number(alloc, number, list.as_slice())?;
     Ok(all)
 }

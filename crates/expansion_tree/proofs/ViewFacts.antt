@@ -2,6 +2,7 @@
 use Rattle.std.specs.Prelude.{ℕ, List, Option}
 use Rattle.std.proofs.Common.{◌≡◌, ◌∙◌, sym, ap}
 use Rattle.msc_base.specs.declared.label.Pair.{Pair}
+use Rattle.hmsc_graph.specs.declared.shape.Shape.{Shape}
 use Rattle.expansion_tree.specs.Expansions as plain
 use Rattle.expansion_tree.specs.Numbered as numbered
 use Rattle.expansion_tree.specs.Views.{expansion_step, expansion_view, expansions_view}
@@ -30,3 +31,6 @@ turns_is n lower upper inner = ap expansion_view (sym (tree.rolls-Turns n lower 
 
 pub tied_is : (inner : _) (pairs : List Pair) → expansion_view (tree.Tied inner pairs) ≡ plain.Tied (expansion_view inner.value) pairs
 tied_is inner pairs = ap expansion_view (sym (tree.rolls-Tied inner pairs)) ∙ fold-roll-Expansion numbered.Expansion expansion_step (Expansion-F.Tied inner pairs)
+
+pub walk_is : (n : ℕ) (shape : Shape) (parts : _) → expansion_view (tree.Walk n shape parts) ≡ plain.Walk n shape (expansions_view parts.items)
+walk_is n shape parts = ap expansion_view (sym (tree.rolls-Walk n shape parts)) ∙ fold-roll-Expansion numbered.Expansion expansion_step (Expansion-F.Walk n shape parts)

@@ -1,6 +1,7 @@
 -- Expansions as plain trees, of events of any kind.
 use Rattle.std.specs.Prelude.{ℕ, Bool, true, false, List, [], ◌∷◌, ◌++◌, Option}
 use Rattle.msc_base.specs.declared.label.Pair.{Pair}
+use Rattle.hmsc_graph.specs.declared.shape.Shape.{Shape}
 
 mutual
   pub data Expansion (E : Type 0) : Type 0 where
@@ -16,6 +17,8 @@ mutual
     Turns : ℕ → ℕ → Option ℕ → Expansion E → Expansion E
     -- this, the first event of each pair before the second
     Tied : Expansion E → List Pair → Expansion E
+    -- a walk to an end of that graph, whose nodes come to these, one for each line; by the number the whole walk counts as one event
+    Walk : ℕ → Shape → Expansions E → Expansion E
 
   pub data Expansions (E : Type 0) : Type 0 where
     no_parts : Expansions E
@@ -40,6 +43,7 @@ abbrev mutual
   map_events f (Exception x) = Exception (map_events f x)
   map_events f (Turns n lower upper x) = Turns n lower upper (map_events f x)
   map_events f (Tied x ps) = Tied (map_events f x) ps
+  map_events f (Walk n g xs) = Walk n g (map_all_events f xs)
 
   pub map_all_events : {E F : Type 0} → (E → F) → Expansions E → Expansions F
   map_all_events f no_parts = no_parts
@@ -55,6 +59,7 @@ abbrev mutual
   events_in (Exception x) = events_in x
   events_in (Turns n lower upper x) = events_in x
   events_in (Tied x ps) = events_in x
+  events_in (Walk n g xs) = all_events_in xs
 
   pub all_events_in : {E : Type 0} → Expansions E → List E
   all_events_in no_parts = []

@@ -1,3 +1,4 @@
 pub mod Expansions
 pub mod Numbered
 pub mod Views
+pub mod Walks

@@ -14,6 +14,7 @@ expansion_step (Expansion-F.OneOf parts) = plain.OneOf (plain.expansions parts.i
 expansion_step (Expansion-F.Exception part) = plain.Exception (box_value part)
 expansion_step (Expansion-F.Turns number lower upper part) = plain.Turns number lower upper (box_value part)
 expansion_step (Expansion-F.Tied part pairs) = plain.Tied (box_value part) pairs
+expansion_step (Expansion-F.Walk number shape parts) = plain.Walk number shape (plain.expansions parts.items)
 
 abbrev pub expansion_view : Expansion → numbered.Expansion
 expansion_view = fold-Expansion numbered.Expansion expansion_step

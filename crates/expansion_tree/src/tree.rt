@@ -1,3 +1,4 @@
+use hmsc_graph::Shape;
 use msc_base::PairList;
 
 /// An event of an expansion.
@@ -31,4 +32,7 @@ pub enum Expansion {
     Turns(u32, u64, Option<u64>, Box<Expansion>),
     /// This, where the first event of each pair, by its number, comes before the second.
     Tied(Box<Expansion>, PairList),
+    /// A walk to an end of the graph of this shape, whose nodes come to these, one for each line. The number is that by which the whole
+    /// walk counts as one event; the events of its nodes have others.
+    Walk(u32, Shape, Vec<Expansion>),
 }
