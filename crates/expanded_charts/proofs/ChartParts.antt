@@ -1,8 +1,7 @@
 -- Basic charts and expressions as parts.
-use Rattle.std.proofs.Common.{◌≡◌, ◌∙◌, ◌-◌, ◌+◌, ◌<◌, ℕ, zero, suc, Bool, true, false, List, [], ◌∷◌, ◌++◌, Option, Some, None, refl, sym, subst, ap, map, arith, if◌then◌else◌, get_or, length, take}
+use Rattle.std.proofs.Common.{◌≡◌, ◌∙◌, ◌-◌, ◌+◌, ◌<◌, ℕ, zero, suc, List, [], ◌∷◌, ◌++◌, Option, Some, None, refl, sym, subst, ap, map, arith, get_or, length, take}
 use Rattle.std.proofs.lemmas.List.{map-append, take_more}
 use Rattle.std.specs.Global.{Global}
-use Rattle.std.specs.Str.{bytes_eq}
 use Rattle.std.specs.declared.vec.Vec.{Vec}
 use Rattle.msc_base.specs.declared.label.Far.{Far}
 use Rattle.msc_base.specs.declared.label.Label.{Label}
@@ -25,7 +24,6 @@ use Rattle.msc_meaning.specs.Ties.{event_ties, items_joins_ties, level_pairs, ow
 use Rattle.gate_ends.specs.FoundEnds.{table_ends}
 use Rattle.expansion_tree.specs.Expansions.{events_in}
 use Rattle.expansion_tree.specs.Views.{expansion_view}
-use Rattle.expanded_charts.specs.BasicCharts.{IsBasicTable, IsBasicWoven}
 use Rattle.expanded_charts.specs.Expanding.{Expanded, ExpandedParts, aside, expand_woven, expansion, in_row, nothing, past, put, tied}
 use Rattle.level_surroundings.specs.GateWays.{way_step, ways_step, ways_view}
 use Rattle.expanded_charts.specs.Making.{AreMade, IsAdded, IsMade, add, chart_part, charts, items_parts, level_part}
@@ -45,14 +43,6 @@ use Rattle.expanded_charts.proofs.Loops.{one_more as part_more}
 use Rattle.expanded_charts.proofs.Making.{extends_self}
 
 -- ---- charts
-
-pub basic_entry : (table : Table) (name : List ℕ) (c : ChartEntry) → IsBasicTable table → chart_at table name ≡ Some c → IsBasicWoven c.content
-basic_entry [] name c h e = absurd cc
-basic_entry (d ∷ table) name c h e = by (bytes_eq d.name name) e (basic_entry table name c h.1)
-  where
-    by : (b : Bool) → (if b then Some d else chart_at table name) ≡ Some c → (chart_at table name ≡ Some c → IsBasicWoven c.content) → IsBasicWoven c.content
-    by true f behind = let same : d ≡ c = cc in subst (λ (x : ChartEntry). IsBasicWoven x.content) same h.0
-    by false f behind = behind f
 
 module _ (table : Table) (gates : GateMap) (n : ℕ) (name : List ℕ) where
   pub no_depth : (depth : ℕ) → depth ≡ 0 → chart_part table depth gates n name ≡ in_row (nothing n)

@@ -9,6 +9,7 @@ pub mod GateTieFacts
 pub mod TieFacts
 pub mod GateNumberFacts
 pub mod ChartParts
+pub mod GraphParts
 pub mod WorkedExpansions
 pub mod StandingFacts
 pub mod RefiningFits

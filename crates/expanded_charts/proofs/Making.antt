@@ -5,6 +5,7 @@ use Rattle.std.specs.Global.{Global}
 use Rattle.std.specs.declared.vec.Vec.{Vec}
 use Rattle.msc_base.specs.declared.label.Pair.{Pair}
 use Rattle.msc_unfolding.specs.Unfoldings.{Tag}
+use Rattle.hmsc_graph.specs.declared.shape.Shape.{Shape}
 use Rattle.expansion_tree.specs.Expansions.{Expansion, Expansions, no_parts, part_and, expansions, InRow, all_events_in, events_in, map_all_events, map_events}
 use Rattle.expansion_tree.specs.Expansions as plain
 use Rattle.expansion_tree.specs.Numbered as numbered
@@ -12,9 +13,9 @@ use Rattle.expansion_tree.specs.Views.{expansion_view, expansions_view}
 use Rattle.expansion_tree.specs.declared.tree.ExpandedEvent.{ExpandedEvent}
 use Rattle.expansion_tree.specs.declared.tree.Expansion as rust
 use Rattle.expansion_tree.specs.declared.tree.Expansion.TheVariants as tree
-use Rattle.expansion_tree.proofs.ViewFacts.{tied_is}
-use Rattle.expanded_charts.specs.Expanding.{Expanded, NumberedEvent, nothing, past, past_shown, tied, tied_pairs}
-use Rattle.expanded_charts.specs.Making.{AreMade, Extends, IsAdded, IsChanged, with_part}
+use Rattle.expansion_tree.proofs.ViewFacts.{tied_is, walk_is}
+use Rattle.expanded_charts.specs.Expanding.{Expanded, NumberedEvent, nothing, past, past_shown, tied, tied_pairs, walk}
+use Rattle.expanded_charts.specs.Making.{AreMade, Extends, IsAdded, IsChanged, IsMadeOf, with_part}
 use Rattle.expanded_charts.specs.ShownGates.{gates_in, gates_view, own_numbers, shown_view}
 use Rattle.expanded_charts.specs.Numbering.{event_by, with_event, with_events}
 use Rattle.expanded_charts.specs.declared.made.Made.{Made}
@@ -86,6 +87,18 @@ tied_made ts was made inner numbers are is held own gates next = λ old new e h.
       part = λ later ext. ap expansion_view is ∙ (tied_is inner numbers ∙ (ap (λ x. plain.Tied x numbers) (ap expansion_view held ∙ h.part later ext) ∙ ap (λ l. plain.Tied (map_events (event_by later) e.part) l) (are e h.own h.gates)));
       own = own ∙ h.own;
       gates = ap (λ (g : Vec ShownGate Global). gates_view g.items) gates ∙ h.gates;
+      next = next ∙ h.next;
+    }
+
+-- the walks through a graph of these parts
+pub walk_made : (n : ℕ) (shape : Shape) (parts : MadeParts) (made : Made) → made.part ≡ tree.Walk n shape parts.parts → made.own ≡ [] → made.gates.items ≡ [] → made.next ≡ parts.next → IsMadeOf (walk n shape) parts made
+walk_made n shape parts made is own gates next = λ old new ps h.
+    record {
+      extends = h.extends;
+      seen = h.seen;
+      part = λ later ext. ap expansion_view is ∙ (walk_is n shape parts.parts ∙ ap (λ xs. plain.Walk n shape xs) (h.parts later ext));
+      own = own;
+      gates = ap gates_view gates;
       next = next ∙ h.next;
     }
 

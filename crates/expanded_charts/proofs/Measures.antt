@@ -1,12 +1,18 @@
--- Why the recursion through a table ends: parts are smaller than what holds them, a chart's body is no larger than its table, and one
--- reference deeper is less, however large the chart that is named.
+-- Why the recursion through a table ends: parts are smaller than what holds them, a chart's body or graph is no larger than its table, and
+-- one reference deeper is less, however large the chart that is named.
 use Rattle.std.specs.List.{slice_get}
 use Rattle.std.specs.Prelude.{ℕ, zero, suc, ◌+◌, ◌*◌, ◌-◌, ◌<◌, ◌≤◌, Bool, true, false, List, [], ◌∷◌, Some, map, if◌then◌else◌}
 use Rattle.std.specs.Str.{bytes_eq}
-use Rattle.std.proofs.Common.{◌≡◌, refl, sym, subst, ap, arith}
+use Rattle.std.proofs.Common.{◌≡◌, ◌∙◌, refl, sym, subst, ap, arith}
 use Rattle.msc_tree.specs.declared.expression.RefExpr.{RefExpr}
 use Rattle.msc_tree.specs.Expressions.{Expression, Empty, Chart, Alt, Par, Seq, Opt, Loop, Expressions, none, more, expressions}
-use Rattle.msc_tree.specs.Views.{expression_view}
+use Rattle.msc_tree.specs.Graphs as tree
+use Rattle.msc_tree.specs.Graphs.{Graph, graph, Lines, no_lines, line_and, Line, line, Node, Ends, Connect, Condition, Frames, Graphs, no_graphs, graph_and}
+use Rattle.msc_tree.specs.Views.{expression_view, graph_view, line_view, node_view}
+use Rattle.msc_tree.specs.declared.graph.RawGraph.{RawGraph}
+use Rattle.msc_tree.specs.declared.graph.RawLine.{RawLine, out-RawLine}
+use Rattle.graph_shapes.proofs.ShapeViews.{line_is}
+use Rattle.expanded_charts.specs.Making.{frames_view, lines_view}
 use Rattle.msc_meaning.specs.declared.body.Body as rust_body
 use Rattle.msc_meaning.specs.declared.body.Item as rust_item
 use Rattle.msc_meaning.specs.Bodies.{Body, level, WovenItems, no_items, item_and, WovenItem, Single, Coregion, Inline, Refer, Bodies, no_bodies, body_and}
@@ -48,9 +54,31 @@ abbrev mutual
   operands_size no_bodies = 0
   operands_size (body_and b bs) = 1 + body_size b + operands_size bs
 
+abbrev mutual
+  pub graph_size : Graph → ℕ
+  graph_size (graph starts ls) = 1 + lines_size ls
+
+  pub lines_size : Lines → ℕ
+  lines_size no_lines = 0
+  lines_size (line_and x xs) = 1 + line_size x + lines_size xs
+
+  pub line_size : Line → ℕ
+  line_size (line label place node goes) = node_size node
+
+  pub node_size : Node → ℕ
+  node_size Ends = 1
+  node_size Connect = 1
+  node_size (Condition names) = 1
+  node_size (tree.Refer expression) = 1 + expression_size expression
+  node_size (Frames held) = 1 + frames_size held
+
+  pub frames_size : Graphs → ℕ
+  frames_size no_graphs = 0
+  frames_size (graph_and drawn rest) = 1 + graph_size drawn + frames_size rest
+
 abbrev pub woven_size : Woven → ℕ
 woven_size (Basic b) = body_size b
-woven_size (HighLevel drawn) = 0
+woven_size (HighLevel drawn) = graph_size drawn
 
 abbrev pub table_size : Table → ℕ
 table_size [] = 0
@@ -77,6 +105,16 @@ part_less [] i e h = absurd cc
 part_less (d ∷ es) zero e h = let p : d ≡ e = cc in omega (arith, ap (λ (z : RefExpr). expression_size (expression_view z)) p)
 part_less (d ∷ es) (suc i) e h = omega (arith, part_less es i e h)
 
+pub line_less : (ls : List RawLine) (i : ℕ) (l : RawLine) → slice_get ls i ≡ Some l → node_size (node_view (out-RawLine l).node) < lines_size (lines_view ls)
+line_less [] i l e = absurd cc
+line_less (k ∷ ls) zero l e = let p : k ≡ l = cc in omega (arith, ap (λ (z : RawLine). line_size (line_view z)) p, ap line_size (line_is l))
+line_less (k ∷ ls) (suc i) l e = omega (arith, line_less ls i l e)
+
+pub frame_less : (gs : List RawGraph) (i : ℕ) (g : RawGraph) → slice_get gs i ≡ Some g → graph_size (graph_view g) < frames_size (frames_view gs)
+frame_less [] i g e = absurd cc
+frame_less (f ∷ gs) zero g e = let p : f ≡ g = cc in omega (arith, ap (λ (z : RawGraph). graph_size (graph_view z)) p)
+frame_less (f ∷ gs) (suc i) g e = omega (arith, frame_less gs i g e)
+
 -- ---- a chart of the table
 
 entry_fits : (c : ChartEntry) (b : Body) → body_in (Some c) ≡ Some b → body_size b ≤ woven_size c.content
@@ -94,13 +132,29 @@ body_fits (c ∷ table) name b e = by (bytes_eq c.name name) e (λ f. body_fits 
     by true e f = let here = entry_fits c b e in omega (arith, here)
     by false e f = let there = f e in omega (arith, there)
 
+pub graph_fits : (table : Table) (name : List ℕ) (c : ChartEntry) (drawn : Graph) → chart_at table name ≡ Some c → c.content ≡ HighLevel drawn → graph_size drawn ≤ table_size table
+graph_fits [] name c drawn e is = absurd cc
+graph_fits (d ∷ table) name c drawn e is = by (bytes_eq d.name name) e (λ f. graph_fits table name c drawn f is)
+  where
+    by : (t : Bool) → (if t then Some d else chart_at table name) ≡ Some c → (chart_at table name ≡ Some c → graph_size drawn ≤ table_size table) → graph_size drawn ≤ woven_size d.content + table_size table
+    by true f behind = let same : d ≡ c = cc in let here : woven_size d.content ≡ graph_size drawn = ap (λ (x : ChartEntry). woven_size x.content) same ∙ ap woven_size is in omega (arith, here)
+    by false f behind = let there = behind f in omega (arith, there)
+
 times_more : (k m s : ℕ) → s < m → k * m + s < suc k * m
 times_more k m s l = omega (arith, l)
 
--- one reference deeper: a body of the table, with all that refines it
-pub deeper : (table : Table) (d : ℕ) (b : Body) → (d ≡ 0 → ⊥) → body_size b ≤ table_size table → measure table (d - 1) (4 * table_size table + 4 * body_size b + 9) < measure table d 0
-deeper table zero b n l = absurd (n refl)
-deeper table (suc k) b n l =
-    let less = times_more k (10 + 8 * table_size table) (4 * table_size table + 4 * body_size b + 9) (omega (arith, l)) in
+-- one reference deeper
+one_deeper : (table : Table) (d s : ℕ) → (d ≡ 0 → ⊥) → s < 10 + 8 * table_size table → measure table (d - 1) s < measure table d 0
+one_deeper table zero s n l = absurd (n refl)
+one_deeper table (suc k) s n l =
+    let less = times_more k (10 + 8 * table_size table) s l in
     let same : suc k - 1 ≡ k = omega arith in
-    subst (λ (j : ℕ). measure table j (4 * table_size table + 4 * body_size b + 9) < measure table (suc k) 0) (sym same) (omega (arith, less))
+    subst (λ (j : ℕ). measure table j s < measure table (suc k) 0) (sym same) (omega (arith, less))
+
+-- a body of the table, with all that refines it
+pub deeper : (table : Table) (d : ℕ) (b : Body) → (d ≡ 0 → ⊥) → body_size b ≤ table_size table → measure table (d - 1) (4 * table_size table + 4 * body_size b + 9) < measure table d 0
+deeper table d b n l = one_deeper table d (4 * table_size table + 4 * body_size b + 9) n (omega (arith, l))
+
+-- a graph of the table
+pub graph_deeper : (table : Table) (d : ℕ) (drawn : Graph) → (d ≡ 0 → ⊥) → graph_size drawn ≤ table_size table → measure table (d - 1) (4 * graph_size drawn) < measure table d 0
+graph_deeper table d drawn n l = one_deeper table d (4 * graph_size drawn) n (omega (arith, l))

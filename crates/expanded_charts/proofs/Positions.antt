@@ -1,15 +1,8 @@
 -- The places of items that pass a test, where more follow.
-use Rattle.std.proofs.Common.{◌≡◌, ◌≤◌, ℕ, zero, suc, Bool, true, false, Some, None, List, [], ◌∷◌, ◌++◌, length, map, refl, sym, ap, ◌∙◌, option_map, arith}
-use Rattle.std.specs.List.{position, list_any, slice_get}
-use Rattle.std.specs.Str.{bytes_eq}
-use Rattle.std.proofs.lemmas.Slice.Eq.{bytes_eq-Decides}
-use Rattle.std.proofs.lemmas.Option.{same_Some}
+use Rattle.std.proofs.Common.{◌≡◌, ℕ, suc, Bool, true, false, Some, None, List, [], ◌∷◌, ◌++◌, length, refl, sym, ap, ◌∙◌, arith}
+use Rattle.std.specs.List.{position, list_any}
 use Rattle.label_table.proofs.Numbering.{some_none}
 use Rattle.label_table.proofs.Positions.{later, later_some, later_none, position-first, position-later}
-use Rattle.list_facts.proofs.Bools.{tests_agree}
-use Rattle.msc_meaning.specs.declared.body.ChartEntry as rust
-use Rattle.msc_meaning.specs.Tables.{chart_at}
-use Rattle.msc_meaning.specs.Views.{entry_view, table_view}
 
 module _ {X : Type 0} (p : X → Bool) where
   -- what is found stays where more follows

@@ -1,24 +1,15 @@
 -- A refining chart is no larger than its table.
-use Rattle.std.proofs.Common.{◌≡◌, ◌∙◌, ◌++◌, ◌<◌, ◌≤◌, ◌+◌, ◌||◌, ℕ, zero, suc, Bool, true, false, List, [], ◌∷◌, Option, Some, None, refl, sym, ap, subst, cond, append-nil, append_assoc, arith, drop, get_or, length, take}
-use Rattle.std.proofs.lemmas.List.{map-append, take_more}
-use Rattle.std.specs.List.{list_any, slice_get}
-use Rattle.std.specs.Option.{option_or}
-use Rattle.std.specs.Str.{bytes_eq}
-use Rattle.msc_base.proofs.NameFacts.{any_with_name}
-use Rattle.msc_base.specs.NameTables.{with_name}
-use Rattle.msc_tree.specs.declared.chart.Decl.{Decl}
+use Rattle.std.proofs.Common.{◌≡◌, ◌∙◌, ◌++◌, ◌<◌, ◌≤◌, ℕ, zero, suc, List, [], ◌∷◌, Option, Some, None, refl, sym, ap, subst, get_or, length}
+use Rattle.std.specs.List.{slice_get}
 use Rattle.msc_meaning.specs.Bodies.{Body, level, WovenItems}
 use Rattle.msc_meaning.specs.Refinements.{refining, refining_by, refinings}
 use Rattle.msc_meaning.specs.Refinements as plain
-use Rattle.msc_meaning.specs.Tables.{Refinement, Table, body_at, declared, refined_as, refinement, refinements, refinements_of}
+use Rattle.msc_meaning.specs.Tables.{Refinement, Table, body_at}
 use Rattle.msc_meaning.specs.Views.{body_view}
-use Rattle.level_surroundings.specs.DecomposedInstances.{HasInstances, refinement_view, refinements_view}
 use Rattle.level_surroundings.specs.RefiningViews.{refining_view, refinings_view}
-use Rattle.level_surroundings.specs.declared.decomposed.Refinement as rust
 use Rattle.level_surroundings.specs.declared.refining.Refining as rust_refining
-use Rattle.level_surroundings.proofs.Dropped.{drop_less, item_at}
+use Rattle.level_surroundings.proofs.Dropped.{item_at}
 use Rattle.expanded_charts.proofs.Measures.{body_fits, body_size, table_size}
-use Rattle.level_surroundings.proofs.ChartNames.{turned}
 
 abbrev refining_size : plain.Refining → ℕ
 refining_size (refining b ms) = body_size b

@@ -1,18 +1,10 @@
 -- The numbers of events that others stand for, as a map that is filled from the last to the first: what stands first stays.
-use Rattle.std.proofs.Common.{◌≡◌, ◌∙◌, ◌==◌, ℕ, Bool, true, false, List, [], ◌∷◌, Option, Some, refl, sym, ap, cond, option_map}
+use Rattle.std.proofs.Common.{◌≡◌, ◌∙◌, ◌==◌, ℕ, Bool, true, false, List, [], ◌∷◌, Some, refl, ap, cond}
 use Rattle.std.specs.BTreeMap.{BTreeMap, get}
-use Rattle.std.specs.List.{find}
 use Rattle.std.specs.Ordering.{is_eq, nat_cmp}
-use Rattle.std.proofs.lemmas.Bool.Decides.{Decides-eqb}
-use Rattle.msc_base.specs.declared.label.Far.{Far}
-use Rattle.msc_base.specs.declared.label.Far.TheVariants as far
-use Rattle.msc_base.specs.declared.label.Pair.{Pair}
 use Rattle.msc_unfolding.specs.Unfoldings.{Own}
-use Rattle.msc_meaning.specs.Bodies.{EventNode}
-use Rattle.msc_meaning.specs.Refinements.{Match, far_by, inner_far, partner, refined_far, stands_for}
-use Rattle.level_surroundings.specs.FarEndViews.{HasFar, HasStanding, far_view}
+use Rattle.msc_meaning.specs.Refinements.{Match, stands_for}
 use Rattle.expanded_charts.specs.LeftItems.{StandsFor, own_tags}
-use Rattle.level_surroundings.specs.declared.far_ends.FarAt.{FarAt}
 use Rattle.level_surroundings.proofs.FarFacts.{put_is}
 
 -- the number of the event that one stands for

@@ -1,14 +1,19 @@
--- The expansion of a chart: its items, with what the charts come to that its references name, and with its refining charts. Each event has
--- a number of its own, in the order of the text, and each use of a chart numbers its events anew. What ties the events of a level is said
--- of tags; here it is said of the numbers of the events that still show them.
-use Rattle.std.specs.Prelude.{ℕ, zero, suc, ◌+◌, List, [], ◌∷◌, ◌++◌, Option, Some, None, filter, map}
+-- The expansion of a chart: its items, with what the charts come to that its references name, and with its refining charts; or the walks
+-- through its graph, with what its nodes come to. Each event and each walk has a number of its own, in the order of the text, and each use
+-- of a chart numbers its events anew. What ties the events of a level is said of tags; here it is said of the numbers of the events that
+-- still show them.
+use Rattle.std.specs.Prelude.{ℕ, zero, suc, List, [], ◌∷◌, ◌++◌, Option, Some, None, filter, map}
 use Rattle.std.specs.List.{flat_map}
 use Rattle.msc_base.specs.declared.label.Far.{Far}
 use Rattle.msc_base.specs.declared.label.Pair.{Pair}
 use Rattle.msc_unfolding.specs.Unfoldings.{Tag, Happening, is_same_tag, past_level}
+use Rattle.hmsc_graph.specs.declared.shape.Shape.{Shape}
+use Rattle.graph_shapes.specs.GraphShapes.{shape_of}
 use Rattle.msc_tree.specs.declared.reference.InlineForm.{InlineForm}
 use Rattle.msc_tree.specs.declared.reference.InlineForm.TheVariants as inline
 use Rattle.msc_tree.specs.Expressions.{Expression, Empty, Chart, Alt, Par, Seq, Opt, Loop, Expressions, none, more}
+use Rattle.msc_tree.specs.Graphs as tree
+use Rattle.msc_tree.specs.Graphs.{Graph, graph, Lines, no_lines, line_and, line, Node, Ends, Connect, Condition, Frames, Graphs, no_graphs, graph_and}
 use Rattle.msc_meaning.specs.Bodies.{EventNode, InlinePart, Body, level, WovenItems, no_items, item_and, WovenItem, Single, Coregion, Inline, Refer, Bodies, no_bodies, body_and}
 use Rattle.msc_meaning.specs.Calls.{calls}
 use Rattle.msc_meaning.specs.ChartUnfoldings.{gates_of, under, refined_under, refining_under}
@@ -17,7 +22,7 @@ use Rattle.msc_meaning.specs.InnerEvents.{GateEnd}
 use Rattle.msc_meaning.specs.Refinements.{Refining, refining, refinings, without_decomposed, past_refining}
 use Rattle.msc_meaning.specs.Tables.{Table, ChartEntry, chart_at, Woven, Basic, HighLevel, Refinement, refinements}
 use Rattle.msc_meaning.specs.Ties.{ties, past_inline, past_reference}
-use Rattle.expansion_tree.specs.Expansions.{Expansion, Event, InRow, Aside, OneOf, Exception, Turns, Tied, Expansions, no_parts, part_and}
+use Rattle.expansion_tree.specs.Expansions.{Expansion, Event, InRow, Aside, OneOf, Exception, Turns, Tied, Walk, Expansions, no_parts, part_and}
 
 -- an event of an expansion
 pub record NumberedEvent : Type 0 where
@@ -88,6 +93,10 @@ exception e = record e { part = Exception e.part }
 abbrev pub turns : ℕ → ℕ → Option ℕ → Expanded → Expanded
 turns n lower upper e = record e { part = Turns n lower upper e.part }
 
+-- the walks through that graph, whose nodes come to these; the number is the walk's own. Nothing is shown of them
+abbrev pub walk : ℕ → Shape → ExpandedParts → Expanded
+walk n shape l = record { part = Walk n shape l.parts; shown = []; next = l.next }
+
 abbrev pub tied : List (Tag × Tag) → Expanded → Expanded
 tied ts e = record e { part = Tied e.part (tied_pairs e.shown ts) }
 
@@ -132,6 +141,26 @@ module _ (chart : Charts) (ends_of : WovenItems → List GateEnd) where
     expand_all gates n (more x xs) = then (expand gates n x) (λ m. expand_all gates m xs)
 
   abbrev mutual
+    -- a graph: its walk has the first number, its nodes have the next ones
+    pub expand_graph : ℕ → Graph → Expanded
+    expand_graph n (graph starts lines) = walk n (shape_of (graph starts lines)) (expand_lines (suc n) lines)
+
+    pub expand_lines : ℕ → Lines → ExpandedParts
+    expand_lines n no_lines = nothing n
+    expand_lines n (line_and (line label place node next) rest) = then (expand_node n node) (λ m. expand_lines m rest)
+
+    pub expand_node : ℕ → Node → Expanded
+    expand_node n Ends = in_row (nothing n)
+    expand_node n Connect = in_row (nothing n)
+    expand_node n (Condition names) = in_row (nothing n)
+    expand_node n (tree.Refer expression) = expand no_gates n expression
+    expand_node n (Frames held) = aside (expand_frames n held)
+
+    pub expand_frames : ℕ → Graphs → ExpandedParts
+    expand_frames n no_graphs = nothing n
+    expand_frames n (graph_and drawn rest) = then (expand_graph n drawn) (λ m. expand_frames m rest)
+
+  abbrev mutual
     -- a level, above which its own tags are gone
     pub expand_level : Around → ℕ → Body → Expanded
     expand_level around n (level cover held pairs) = past past_level (tied (ties held pairs (calls held) (ends_of held)) (in_row (expand_items (gates_of held (ends_of held)) around n held)))
@@ -165,7 +194,7 @@ module _ (chart : Charts) (ends_of : WovenItems → List GateEnd) where
   abbrev pub expand_woven : Table → GateMap → ℕ → List Refinement → Woven → Expanded
   expand_woven table gates n [] (Basic held) = expand_level (under gates) n held
   expand_woven table gates n (r ∷ rs) (Basic (level cover held pairs)) = expand_refined (refined_under gates pairs (refinings table held (r ∷ rs))) n held pairs (r ∷ rs) (refinings table held (r ∷ rs))
-  expand_woven table gates n rs (HighLevel drawn) = in_row (nothing n)
+  expand_woven table gates n rs (HighLevel drawn) = expand_graph n drawn
 
 module _ (ends_of : WovenItems → List GateEnd) (table : Table) where
   abbrev pub expand_entry : Charts → GateMap → ℕ → Option ChartEntry → Expanded

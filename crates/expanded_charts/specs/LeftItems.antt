@@ -3,7 +3,7 @@
 use Rattle.std.specs.BTreeMap.{BTreeMap, get}
 use Rattle.std.specs.Ordering.{nat_cmp}
 use Rattle.std.specs.List.{flat_map}
-use Rattle.std.specs.Prelude.{◌≡◌, ℕ, Bool, true, false, List, [], ◌∷◌, Option, None, Some, map}
+use Rattle.std.specs.Prelude.{◌≡◌, ℕ, Bool, true, false, List, [], ◌∷◌, Option, None, Some}
 use Rattle.msc_base.specs.declared.label.Pair.{Pair}
 use Rattle.msc_unfolding.specs.Unfoldings.{Tag, Own}
 use Rattle.msc_meaning.specs.Bodies.{WovenItem, Single, Coregion, Inline, Refer}

@@ -1,6 +1,5 @@
 pub mod Expanding
 pub mod Numbering
-pub mod BasicCharts
 pub mod ShownGates
 pub mod Above
 pub mod Making

@@ -1,15 +1,19 @@
 -- Serves private contracts alone.
 -- What the functions say of the parts that they make.
-use Rattle.std.specs.Prelude.{◌≡◌, ℕ, List, ◌++◌, Option, None, Some, position}
+use Rattle.std.specs.Prelude.{◌≡◌, ℕ, List, ◌++◌, Option, None, Some, map, position}
 use Rattle.std.specs.Str.{bytes_eq}
 use Rattle.msc_base.specs.declared.label.Label.{Label}
 use Rattle.msc_tree.specs.Expressions.{Expression, Expressions}
+use Rattle.msc_tree.specs.Graphs.{Graph, Graphs, Lines, Node, graphs, lines}
+use Rattle.msc_tree.specs.Views.{graph_view, line_view}
+use Rattle.msc_tree.specs.declared.graph.RawGraph.{RawGraph}
+use Rattle.msc_tree.specs.declared.graph.RawLine.{RawLine}
 use Rattle.msc_meaning.specs.Bodies.{EventNode, Body, WovenItems, WovenItem, Bodies}
 use Rattle.msc_meaning.specs.FarEnds.{Around, GateMap, Gates, happening}
 use Rattle.msc_meaning.specs.Tables.{Table}
 use Rattle.expansion_tree.specs.Expansions.{Expansion, Expansions, no_parts, part_and, all_events_in, events_in, map_all_events, map_events}
 use Rattle.expansion_tree.specs.Views.{expansion_view, expansions_view}
-use Rattle.expanded_charts.specs.Expanding.{Charts, Expanded, ExpandedParts, NumberedEvent, event, expand, expand_all, expand_charts, expand_events, expand_item, expand_items, expand_level, expand_operands}
+use Rattle.expanded_charts.specs.Expanding.{Charts, Expanded, ExpandedParts, NumberedEvent, event, expand, expand_all, expand_charts, expand_events, expand_frames, expand_graph, expand_item, expand_items, expand_level, expand_lines, expand_node, expand_operands}
 use Rattle.expanded_charts.specs.Numbering.{event_by, with_event, with_events}
 use Rattle.expanded_charts.specs.ShownGates.{gates_in, gates_view, own_numbers}
 use Rattle.expanded_charts.specs.declared.numbering.Numbering.{Numbering}
@@ -72,6 +76,14 @@ IsMadeOf f parts made = (old new : Numbering) (ps : ExpandedParts) → AreMade o
 abbrev pub IsChanged : (Expanded → Expanded) → Made → Made → Type 0
 IsChanged f was made = (old new : Numbering) (e : Expanded) → IsMade old new e was → IsMade old new (f e) made
 
+-- ---- graphs as the code has them
+
+abbrev pub lines_view : List RawLine → Lines
+lines_view ls = lines (map line_view ls)
+
+abbrev pub frames_view : List RawGraph → Graphs
+frames_view gs = graphs (map graph_view gs)
+
 -- ---- parts of charts of this table, whose references stand in each other less than so deep; gates: where those of a chart lead to;
 -- around: what a level is given
 
@@ -106,3 +118,15 @@ module _ (table : Table) (depth : ℕ) where
 
   abbrev pub events_parts : Gates → Around → ℕ → List EventNode → ExpandedParts
   events_parts level around n ks = expand_events charts (ends_in table) level.ends around n ks
+
+  abbrev pub graph_part : ℕ → Graph → Expanded
+  graph_part n drawn = expand_graph charts (ends_in table) n drawn
+
+  abbrev pub lines_parts : ℕ → Lines → ExpandedParts
+  lines_parts n ls = expand_lines charts (ends_in table) n ls
+
+  abbrev pub node_part : ℕ → Node → Expanded
+  node_part n node = expand_node charts (ends_in table) n node
+
+  abbrev pub frames_parts : ℕ → Graphs → ExpandedParts
+  frames_parts n held = expand_frames charts (ends_in table) n held

@@ -5,7 +5,6 @@ use Rattle.std.specs.Prelude.{ℕ, Bool, true, false, List, [], ◌∷◌, ◌++
 use Rattle.std.specs.Str.{bytes_eq}
 use Rattle.msc_base.specs.declared.label.Label.{Label}
 use Rattle.msc_base.specs.NameTables.{with_name}
-use Rattle.msc_unfolding.specs.Unfoldings.{Happening}
 use Rattle.label_table.specs.Labels.{label_number, same_label}
 use Rattle.expansion_tree.specs.Expansions.{Expansion, events_in, map_events}
 use Rattle.expansion_tree.specs.Numbered as numbered

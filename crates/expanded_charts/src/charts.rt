@@ -12,12 +12,11 @@ ghost use Rattle.msc_meaning.specs.Refinements.{refinings};
 ghost use Rattle.msc_meaning.specs.Tables.{chart_at, refinements};
 ghost use Rattle.msc_meaning.specs.Views.{body_view, entry_view, item_view, reference_view, table_view};
 ghost use Rattle.msc_tree.specs.Expressions.{expressions};
-ghost use Rattle.msc_tree.specs.Views.{expression_view};
-ghost use Rattle.expanded_charts.specs.BasicCharts.{IsBasicTable};
+ghost use Rattle.msc_tree.specs.Views.{expression_view, graph_view, node_view};
 ghost use Rattle.expanded_charts.specs.Expanding.{expansion};
 ghost use Rattle.level_surroundings.specs.GateWays.{ways_view};
 ghost use Rattle.level_surroundings.specs.Givens.{around_view};
-ghost use Rattle.expanded_charts.specs.Making.{AreMade, IsMade, chart_part, expression_part, expressions_parts, item_part, items_parts, level_part, operands_parts};
+ghost use Rattle.expanded_charts.specs.Making.{AreMade, IsMade, chart_part, expression_part, expressions_parts, frames_parts, frames_view, graph_part, item_part, items_parts, level_part, lines_parts, lines_view, node_part, operands_parts};
 ghost use Rattle.expanded_charts.specs.Numbering.{numbered_by, numbering_of};
 ghost use Rattle.expanded_charts.specs.RefinedMaking.{AddsItems, beside_parts, left_parts, refined_part, refining_part, tied_part, woven_part};
 ghost use Rattle.expanded_charts.specs.LeftItems.{left_item};
@@ -28,12 +27,13 @@ use crate::events::{event_of, events_left, events_of};
 use crate::gate_ties::gate_ties;
 use crate::made::{Made, MadeParts};
 use crate::numbering::Numbering;
-use crate::parts::{add, aside, in_row, no_parts, of_form, one_of, or_nothing, turns};
+use crate::parts::{add, aside, in_row, no_parts, of_form, one_of, or_nothing, turns, walk};
 use crate::past_refining::past_refined;
 use crate::ties::level_tied;
 use expansion_tree::Expansion;
 use gate_tables::GateTables;
 use general_ordering::level_pairs_of;
+use graph_shapes::graph_shape;
 use label_table::LabelTable;
 use level_surroundings::{
     ChartTable, Decomposed, FarEnds, Given, JoinTable, Level, Refining, Ways, called_gates,
@@ -41,7 +41,7 @@ use level_surroundings::{
 };
 use msc_base::{NameTable, NoMemory};
 use msc_meaning::{Body, ChartEntry, EntryContent, InlineItem, Item, ReferenceItem};
-use msc_tree::{Decl, RefExpr};
+use msc_tree::{Decl, NodeKind, RawGraph, RawLine, RefExpr};
 use std::alloc::Global;
 
 /// The chart of that name, whose references stand in each other less than so deep. It fails only for want of memory.
@@ -56,7 +56,6 @@ fn chart_of<'a>(
     name: &[u8],
 ) -> Result<Made<'a>, NoMemory>
     requires named { HasNames table.charts.now table.names.now }
-    requires basic { IsBasicTable (table_view table.charts.now) }
     requires gates { AreGatesOf (table_view table.charts.now) table.gates.now }
     ensures { IfOk result (IsMade numbering.old numbering.new (chart_part (table_view table.entry.charts.now) depth (ways_view ways.now) next name.now)) }
 {
@@ -70,7 +69,10 @@ fn chart_of<'a>(
                 let decls = chart.decls.as_slice();
                 woven_of(alloc, table, numbering, depth - 1, next, ways, decls, body)
             }
-            EntryContent::Graph(_) => unreachable!(),
+            EntryContent::Graph(graph) => {
+                let made = graph_of(alloc, table, numbering, depth - 1, next, graph)?;
+                Ok(made)
+            }
         },
     }
 }
@@ -88,7 +90,6 @@ fn woven_of<'a>(
     body: &'a Body,
 ) -> Result<Made<'a>, NoMemory>
     requires named { HasNames table.charts.now table.names.now }
-    requires basic { IsBasicTable (table_view table.charts.now) }
     requires gates { AreGatesOf (table_view table.charts.now) table.gates.now }
     ensures { IfOk result (IsMade numbering.old numbering.new (woven_part (table_view table.entry.charts.now) depth (ways_view ways.now) next (refinements decls.now) (body_view body.now))) }
 {
@@ -125,7 +126,6 @@ fn refined_of<'a>(
     body: &'a Body,
 ) -> Result<Made<'a>, NoMemory>
     requires named { HasNames table.charts.now table.names.now }
-    requires basic { IsBasicTable (table_view table.charts.now) }
     requires gates { AreGatesOf (table_view table.charts.now) table.gates.now }
     ensures { IfOk result (IsMade numbering.old numbering.new (refined_part (table_view table.entry.charts.now) depth (ways_view ways.now) next decomposed.now (body_view body.now))) }
 {
@@ -169,7 +169,6 @@ fn beside_of<'a>(
     refined: &[Refining<'a>],
 ) -> Result<MadeParts<'a>, NoMemory>
     requires named { HasNames table.charts.now table.names.now }
-    requires basic { IsBasicTable (table_view table.charts.now) }
     requires gates { AreGatesOf (table_view table.charts.now) table.gates.now }
     requires refined { refinings_view refined.now ≡ refinings (table_view table.charts.now) (items_view items.now) decomposed.now }
     ensures { IfOk result (AreMade numbering.old numbering.new (beside_parts (table_view table.entry.charts.now) depth level.entry.called.now (around_view level.entry.given) next decomposed.now (items_view items.now) (refinings_view refined.now))) }
@@ -198,7 +197,6 @@ fn refining_of<'a>(
     refining: &Refining<'a>,
 ) -> Result<Made<'a>, NoMemory>
     requires named { HasNames table.charts.now table.names.now }
-    requires basic { IsBasicTable (table_view table.charts.now) }
     requires gates { AreGatesOf (table_view table.charts.now) table.gates.now }
     ensures { IfOk result (IsMade numbering.old numbering.new (refining_part (table_view table.entry.charts.now) depth (far_end level.entry.called.now.ends (around_view level.entry.given)) next (refining_view refining.now))) }
 {
@@ -227,7 +225,6 @@ fn left_of<'a>(
     items: &'a [Item],
 ) -> Result<MadeParts<'a>, NoMemory>
     requires named { HasNames table.charts.now table.names.now }
-    requires basic { IsBasicTable (table_view table.charts.now) }
     requires gates { AreGatesOf (table_view table.charts.now) table.gates.now }
     ensures { IfOk result (AreMade numbering.old numbering.new (left_parts (table_view table.entry.charts.now) depth level.entry.called.now (around_view level.entry.given) next decomposed.now (items_view items.now))) }
 {
@@ -253,7 +250,6 @@ fn add_left<'a>(
     item: &'a Item,
 ) -> Result<(), NoMemory>
     requires named { HasNames table.charts.now table.names.now }
-    requires basic { IsBasicTable (table_view table.charts.now) }
     requires gates { AreGatesOf (table_view table.charts.now) table.gates.now }
     ensures { OnOk result (AddsItems (table_view table.entry.charts.now) depth level.entry.called.now (around_view level.entry.given) numbering.old numbering.new (left_item decomposed.now (item_view item.now)) parts.old parts.new) }
 {
@@ -297,7 +293,6 @@ fn tied_of<'a>(
     body: &'a Body,
 ) -> Result<Made<'a>, NoMemory>
     requires named { HasNames table.charts.now table.names.now }
-    requires basic { IsBasicTable (table_view table.charts.now) }
     requires gates { AreGatesOf (table_view table.charts.now) table.gates.now }
     ensures { IfOk result (IsMade numbering.old numbering.new (tied_part (table_view table.entry.charts.now) depth (around_view given.entry) next (body_view body.now))) }
 {
@@ -333,7 +328,6 @@ fn level_of<'a>(
     body: &'a Body,
 ) -> Result<Made<'a>, NoMemory>
     requires named { HasNames table.charts.now table.names.now }
-    requires basic { IsBasicTable (table_view table.charts.now) }
     requires gates { AreGatesOf (table_view table.charts.now) table.gates.now }
     ensures { IfOk result (IsMade numbering.old numbering.new (level_part (table_view table.entry.charts.now) depth (around_view given.entry) next (body_view body.now))) }
 {
@@ -354,7 +348,6 @@ fn items_of<'a>(
     items: &'a [Item],
 ) -> Result<MadeParts<'a>, NoMemory>
     requires named { HasNames table.charts.now table.names.now }
-    requires basic { IsBasicTable (table_view table.charts.now) }
     requires gates { AreGatesOf (table_view table.charts.now) table.gates.now }
     ensures { IfOk result (AreMade numbering.old numbering.new (items_parts (table_view table.entry.charts.now) depth level.entry.called.now (around_view level.entry.given) next (items_view items.now))) }
 {
@@ -378,7 +371,6 @@ fn item_of<'a>(
     item: &'a Item,
 ) -> Result<Made<'a>, NoMemory>
     requires named { HasNames table.charts.now table.names.now }
-    requires basic { IsBasicTable (table_view table.charts.now) }
     requires gates { AreGatesOf (table_view table.charts.now) table.gates.now }
     ensures { IfOk result (IsMade numbering.old numbering.new (item_part (table_view table.entry.charts.now) depth level.entry.called.now (around_view level.entry.given) next (item_view item.now))) }
 {
@@ -414,7 +406,6 @@ fn inline_of<'a>(
     inline: &'a InlineItem,
 ) -> Result<Made<'a>, NoMemory>
     requires named { HasNames table.charts.now table.names.now }
-    requires basic { IsBasicTable (table_view table.charts.now) }
     requires gates { AreGatesOf (table_view table.charts.now) table.gates.now }
     ensures { IfOk result (IsMade numbering.old numbering.new (item_part (table_view table.entry.charts.now) depth level.entry.called.now (around_view level.entry.given) next (inline_view inline.now))) }
 {
@@ -443,7 +434,6 @@ fn operands_of<'a>(
     operands: &'a [Body],
 ) -> Result<MadeParts<'a>, NoMemory>
     requires named { HasNames table.charts.now table.names.now }
-    requires basic { IsBasicTable (table_view table.charts.now) }
     requires gates { AreGatesOf (table_view table.charts.now) table.gates.now }
     ensures { IfOk result (AreMade numbering.old numbering.new (operands_parts (table_view table.entry.charts.now) depth (around_view given.entry) next (bodies_view operands.now))) }
 {
@@ -467,7 +457,6 @@ fn reference_of<'a>(
     reference: &'a ReferenceItem,
 ) -> Result<Made<'a>, NoMemory>
     requires named { HasNames table.charts.now table.names.now }
-    requires basic { IsBasicTable (table_view table.charts.now) }
     requires gates { AreGatesOf (table_view table.charts.now) table.gates.now }
     ensures { IfOk result (IsMade numbering.old numbering.new (item_part (table_view table.entry.charts.now) depth level.entry.called.now (around_view level.entry.given) next (reference_view reference.now))) }
 {
@@ -494,7 +483,6 @@ fn expression_of<'a>(
     expression: &RefExpr,
 ) -> Result<Made<'a>, NoMemory>
     requires named { HasNames table.charts.now table.names.now }
-    requires basic { IsBasicTable (table_view table.charts.now) }
     requires gates { AreGatesOf (table_view table.charts.now) table.gates.now }
     ensures { IfOk result (IsMade numbering.old numbering.new (expression_part (table_view table.entry.charts.now) depth (ways_view ways.now) next (expression_view expression.now))) }
 {
@@ -565,13 +553,115 @@ fn expressions_of<'a>(
     operands: &[RefExpr],
 ) -> Result<MadeParts<'a>, NoMemory>
     requires named { HasNames table.charts.now table.names.now }
-    requires basic { IsBasicTable (table_view table.charts.now) }
     requires gates { AreGatesOf (table_view table.charts.now) table.gates.now }
     ensures { IfOk result (AreMade numbering.old numbering.new (expressions_parts (table_view table.entry.charts.now) depth (ways_view ways.now) next (expressions (map expression_view operands.now)))) }
 {
     let mut parts = no_parts(alloc, next);
     for expression in operands {
         let made = expression_of(alloc, table, numbering, depth, parts.next, ways, expression)?;
+        add(&mut parts, made)?;
+    }
+    Ok(parts)
+}
+
+/// The walks through a graph, with what its nodes come to. Their own number comes before the numbers of the nodes.
+#[cycle(charts)]
+fn graph_of<'a>(
+    alloc: Global,
+    table: ChartTable<'a>,
+    numbering: &mut Numbering,
+    depth: u32,
+    next: u32,
+    graph: &RawGraph,
+) -> Result<Made<'a>, NoMemory>
+    requires named { HasNames table.charts.now table.names.now }
+    requires gates { AreGatesOf (table_view table.charts.now) table.gates.now }
+    ensures { IfOk result (IsMade numbering.old numbering.new (graph_part (table_view table.entry.charts.now) depth next (graph_view graph.now))) }
+{
+    if next == u32::MAX {
+        return Err(NoMemory);
+    }
+    let shape = graph_shape(alloc, graph)?;
+    let parts = lines_of(
+        alloc,
+        table,
+        numbering,
+        depth,
+        next + 1,
+        graph.lines.as_slice(),
+    )?;
+    Ok(walk(alloc, next, shape, parts))
+}
+
+/// What the nodes of the lines of a graph come to.
+#[cycle(charts)]
+fn lines_of<'a>(
+    alloc: Global,
+    table: ChartTable<'a>,
+    numbering: &mut Numbering,
+    depth: u32,
+    next: u32,
+    lines: &[RawLine],
+) -> Result<MadeParts<'a>, NoMemory>
+    requires named { HasNames table.charts.now table.names.now }
+    requires gates { AreGatesOf (table_view table.charts.now) table.gates.now }
+    ensures { IfOk result (AreMade numbering.old numbering.new (lines_parts (table_view table.entry.charts.now) depth next (lines_view lines.now))) }
+{
+    let mut parts = no_parts(alloc, next);
+    for line in lines {
+        let made = node_of(alloc, table, numbering, depth, parts.next, &line.node)?;
+        add(&mut parts, made)?;
+    }
+    Ok(parts)
+}
+
+/// What a node of a graph comes to. No gate of its charts leads anywhere.
+#[cycle(charts)]
+fn node_of<'a>(
+    alloc: Global,
+    table: ChartTable<'a>,
+    numbering: &mut Numbering,
+    depth: u32,
+    next: u32,
+    node: &NodeKind,
+) -> Result<Made<'a>, NoMemory>
+    requires named { HasNames table.charts.now table.names.now }
+    requires gates { AreGatesOf (table_view table.charts.now) table.gates.now }
+    ensures { IfOk result (IsMade numbering.old numbering.new (node_part (table_view table.entry.charts.now) depth next (node_view node.now))) }
+{
+    match node {
+        NodeKind::Ends => Ok(in_row(no_parts(alloc, next))),
+        NodeKind::Connect => Ok(in_row(no_parts(alloc, next))),
+        NodeKind::Condition(_) => Ok(in_row(no_parts(alloc, next))),
+        NodeKind::Refer(expression) => {
+            let ways = Ways::Nowhere;
+            let made = expression_of(alloc, table, numbering, depth, next, &ways, expression)?;
+            Ok(made)
+        }
+        NodeKind::Frames(frames) => {
+            let parts = frames_of(alloc, table, numbering, depth, next, frames.as_slice())?;
+            Ok(aside(parts))
+        }
+    }
+}
+
+/// The walks through the frames of a node.
+#[cycle(charts)]
+fn frames_of<'a>(
+    alloc: Global,
+    table: ChartTable<'a>,
+    numbering: &mut Numbering,
+    depth: u32,
+    next: u32,
+    frames: &[RawGraph],
+) -> Result<MadeParts<'a>, NoMemory>
+    requires named { HasNames table.charts.now table.names.now }
+    requires gates { AreGatesOf (table_view table.charts.now) table.gates.now }
+    ensures { IfOk result (AreMade numbering.old numbering.new (frames_parts (table_view table.entry.charts.now) depth next (frames_view frames.now))) }
+{
+    let mut parts = no_parts(alloc, next);
+    for frame in frames {
+        let made = graph_of(alloc, table, numbering, depth, parts.next, frame)?;
         add(&mut parts, made)?;
     }
     Ok(parts)
@@ -588,7 +678,7 @@ pub struct ExpandedChart {
 
 /// The expansion of the chart of that name in a table, of whose charts the names are given in their order, with what they say of their
 /// gates, and whose references stand in each other less than so deep. It fails only for want of memory, for which it takes 2^32 events
-/// too.
+/// and walks too.
 pub fn expansion_of(
     alloc: Global,
     charts: &[ChartEntry],
@@ -598,7 +688,6 @@ pub fn expansion_of(
     name: &[u8],
 ) -> Result<ExpandedChart, NoMemory>
     requires named { HasNames charts.now names.now }
-    requires basic { IsBasicTable (table_view charts.now) }
     requires gates { AreGatesOf (table_view charts.now) gates.now }
     ensures numbering { IfOk result (λ made. made.numbering ≡ numbering_of (expansion (table_ends (table_view charts.now)) (table_view charts.now) depth name.now)) }
     ensures expansion { IfOk result (λ made. expansion_view made.expansion ≡ numbered_by (numbering_of (expansion (table_ends (table_view charts.now)) (table_view charts.now) depth name.now)) (expansion (table_ends (table_view charts.now)) (table_view charts.now) depth name.now)) }

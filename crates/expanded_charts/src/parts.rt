@@ -1,14 +1,15 @@
-//! What is made of parts: a row, parts side by side, a choice, a loop, an exception.
+//! What is made of parts: a row, parts side by side, a choice, a loop, an exception, the walks through a graph.
 
 ghost use Rattle.std.specs.Prelude.{◌≡◌, ◌++◌, [], IfOk, OnOk};
 ghost use Rattle.msc_meaning.specs.Bodies.{InlinePart};
-ghost use Rattle.expanded_charts.specs.Expanding.{aside as plain_aside, exception as plain_exception, inline_by, in_row as plain_row, nothing, one_of as plain_choice, or_nothing as plain_option, turns as plain_turns};
+ghost use Rattle.expanded_charts.specs.Expanding.{aside as plain_aside, exception as plain_exception, inline_by, in_row as plain_row, nothing, one_of as plain_choice, or_nothing as plain_option, turns as plain_turns, walk as plain_walk};
 ghost use Rattle.expanded_charts.specs.Making.{AreMade, IsAdded, IsChanged, IsMadeOf};
 ghost use Rattle.expanded_charts.specs.declared.numbering.Numbering.{Numbering};
 
 use crate::made::{Made, MadeParts};
 use crate::shown::ShownGate;
 use expansion_tree::Expansion;
+use hmsc_graph::Shape;
 use msc_base::{NoMemory, Pair, PairList};
 use msc_tree::InlineForm;
 use std::alloc::Global;
@@ -179,6 +180,24 @@ pub(crate) fn turns<'a>(
         gates,
         next,
     })
+}
+
+/// The walks through the graph of this shape, whose nodes the parts are; the number is their own. Nothing is shown of the parts.
+pub(crate) fn walk<'a>(alloc: Global, first: u32, shape: Shape, parts: MadeParts<'a>) -> Made<'a>
+    ensures { IsMadeOf (plain_walk first shape) parts.entry result }
+{
+    let MadeParts {
+        parts,
+        own: _,
+        gates: _,
+        next,
+    } = parts;
+    Made {
+        part: Expansion::Walk(first, shape, parts),
+        own: PairList::new(alloc),
+        gates: Vec::new(alloc),
+        next,
+    }
 }
 
 /// An inline expression of these operands; their events are numbered from that number on.

@@ -1,15 +1,21 @@
 use Rattle.std.specs.List.{flat_map}
 use Rattle.std.specs.Option.{option_copied}
-use Rattle.std.proofs.Common.{rules, ◌≡◌, ◌∙◌, ◌++◌, ℕ, List, Option, Some, None, IfOk, option_map, map, sym, subst, ap, arith, refl, take, [], ◌∷◌, ◌-◌, true, false}
+use Rattle.std.proofs.Common.{rules, ◌≡◌, ◌∙◌, ◌+◌, ◌++◌, ℕ, suc, List, Option, Some, None, IfOk, option_map, map, sym, subst, ap, arith, refl, take, [], ◌∷◌, ◌-◌, true, false}
 use Rattle.msc_base.specs.declared.label.Far.{Far}
 use Rattle.msc_base.specs.declared.label.Pair.{Pair}
 use Rattle.msc_unfolding.specs.Unfoldings.{Tag}
 use Rattle.msc_tree.specs.Expressions.{Expression}
 use Rattle.msc_tree.specs.Expressions as expression
-use Rattle.msc_tree.specs.Views.{expression_view}
+use Rattle.msc_tree.specs.Graphs.{Node}
+use Rattle.msc_tree.specs.Views.{expression_view, graph_view}
+use Rattle.msc_tree.specs.Views as tree_view
 use Rattle.msc_tree.specs.declared.chart.Decl.{Decl}
 use Rattle.msc_tree.specs.declared.expression.RefExpr.{RefExpr}
+use Rattle.msc_tree.specs.declared.graph.RawGraph.{RawGraph, out-RawGraph}
+use Rattle.msc_tree.specs.declared.graph.RawLine.{RawLine}
 use Rattle.msc_tree.specs.declared.reference.Join.{Join}
+use Rattle.hmsc_graph.specs.declared.shape.Shape.{Shape}
+use Rattle.graph_shapes.proofs.ShapeViews.{graph_is}
 use Rattle.msc_meaning.specs.Bodies.{Body, WovenItem, WovenItems}
 use Rattle.msc_meaning.specs.Bodies as body
 use Rattle.msc_meaning.specs.Calls.{calls}
@@ -31,24 +37,24 @@ use Rattle.refined_events.specs.MatchViews.{matches_view}
 use Rattle.gate_ends.specs.LevelGates.{items_in}
 use Rattle.general_ordering.proofs.ViewFacts.{body_is, coregion_is, inline_item_is, part_of, reference_is, single_is}
 use Rattle.general_ordering.proofs.ViewFacts as views
-use Rattle.expanded_charts.specs.BasicCharts.{IsBasicWoven}
-use Rattle.expanded_charts.specs.Expanding.{Expanded, aside, in_row, inline_by, nothing, past, tied}
+use Rattle.expanded_charts.specs.Expanding.{Expanded, aside, in_row, inline_by, nothing, past, tied, walk}
 use Rattle.level_surroundings.specs.FarEndViews.{far_ends_view}
 use Rattle.expanded_charts.specs.GateTies.{ties_view}
 use Rattle.level_surroundings.specs.GateWays.{ways_view}
 use Rattle.level_surroundings.specs.Givens.{around_view}
-use Rattle.expanded_charts.specs.Making.{AreMade, IsMade, events_parts, expression_part, expressions_parts, item_part, items_parts, operands_parts}
+use Rattle.expanded_charts.specs.Making.{AreMade, IsMade, events_parts, expression_part, expressions_parts, frames_parts, frames_view, item_part, items_parts, lines_parts, lines_view, node_part, operands_parts}
 use Rattle.level_surroundings.specs.TableEnds.{ends_in}
 use Rattle.level_surroundings.specs.declared.refining.Refining as rust_refining
 use Rattle.level_surroundings.specs.declared.ways.Ways.TheVariants as raw_ways
 use Rattle.expanded_charts.specs.RefinedMaking.{AddsItems, beside_parts, left_parts, refined_part, tied_part, woven_part}
 use Rattle.expanded_charts.specs.LeftItems.{left_item, unless}
 use Rattle.level_surroundings.specs.RefiningViews.{refinings_view}
-use Rattle.expanded_charts.proofs.ChartParts.{alt_is, basic_entry, beside_more, beside_none, chart_woven, empty_is, level_is, loop_is, no_chart, no_depth, nowhere_is, opt_is, par_is, refined_is, same_form, seq_is, tied_is, woven_level, woven_refined}
+use Rattle.expanded_charts.proofs.ChartParts.{alt_is, beside_more, beside_none, chart_woven, empty_is, level_is, loop_is, no_chart, no_depth, nowhere_is, opt_is, par_is, refined_is, same_form, seq_is, tied_is, woven_level, woven_refined}
+use Rattle.expanded_charts.proofs.GraphParts.{chart_graph, condition_is, connect_is, ends_is, frames_is, frames_step, graph_part_is, lines_step, refer_is}
 use Rattle.level_surroundings.proofs.Dropped.{item_at}
 use Rattle.expanded_charts.proofs.LeftParts.{adds_none, adds_one, left_are, left_more}
 use Rattle.expanded_charts.proofs.Loops.{expressions_step, items_step, operands_step, taken_all}
-use Rattle.expanded_charts.proofs.Measures.{body_fits, body_less, deeper, item_less, part_less}
+use Rattle.expanded_charts.proofs.Measures.{body_fits, body_less, deeper, frame_less, graph_deeper, graph_fits, graph_size, item_less, line_less, lines_size, part_less}
 use Rattle.expanded_charts.proofs.RefiningFits.{refining_fits}
 use Rattle.expanded_charts.proofs.charts.+charts.Goals as goal
 
@@ -69,12 +75,22 @@ chart_of-woven_of-requires t c =
     let held : content_view c.in-Some.chart.now.content ≡ table.Basic (body_view c.in-Basic.body) = ap content_view c.in-Basic.is in
     let fits = body_fits (table_view c.args.table.charts.now) c.args.name.now (body_view c.in-Basic.body) (ap table.body_in there ∙ ap (λ w. table.body_in (Some (record { name = c.in-Some.chart.now.name; decls = c.in-Some.chart.now.decls; content = w }))) held) in
     let less = deeper (table_view c.args.table.charts.now) c.args.depth (body_view c.in-Basic.body) c.if-depth-eq0.false fits in
-    (omega (arith, c.decreases, less), (c.requires.named, (c.requires.basic, c.requires.gates)))
+    (omega (arith, c.decreases, less), (c.requires.named, c.requires.gates))
 
-pub chart_of-unreachable-requires : goal.chart_of-unreachable-requires
-chart_of-unreachable-requires t c =
-    let there : chart_at (table_view c.args.table.charts.now) c.args.name.now ≡ Some (entry_view c.in-Some.chart.now) = sym c.chart_named.ensures ∙ ap (λ o. option_map entry_view (option_copied o)) c.in-Some.is in
-    subst IsBasicWoven (ap content_view c.in-Graph.is) (basic_entry (table_view c.args.table.charts.now) c.args.name.now (entry_view c.in-Some.chart.now) c.requires.basic there)
+pub chart_of-graph_of-requires : goal.chart_of-graph_of-requires
+chart_of-graph_of-requires t c =
+    let charts = table_view c.args.table.charts.now in
+    let drawn = graph_view c.in-Graph.graph in
+    let there : chart_at charts c.args.name.now ≡ Some (entry_view c.in-Some.chart.now) = sym c.chart_named.ensures ∙ ap (λ o. option_map entry_view (option_copied o)) c.in-Some.is in
+    let less = graph_deeper charts c.args.depth drawn c.if-depth-eq0.false (graph_fits charts c.args.name.now (entry_view c.in-Some.chart.now) drawn there (ap content_view c.in-Graph.is)) in
+    (omega (arith, c.decreases, less), (c.requires.named, c.requires.gates))
+
+pub chart_of-returns-in_ok-made-in-Graph : goal.chart_of-returns-in_ok-made-in-Graph
+chart_of-returns-in_ok-made-in-Graph t c =
+    let charts = table_view c.args.table.charts.now in
+    let there : chart_at charts c.args.name.now ≡ Some (entry_view c.in-Some.chart.now) = sym c.chart_named.ensures ∙ ap (λ o. option_map entry_view (option_copied o)) c.in-Some.is in
+    subst (λ (e : Expanded). IsMade c.args.numbering.now c.graph_of.new.numbering e c.in_ok-made-in-Graph.made)
+    (sym (chart_graph charts (ways_view c.args.ways.now) c.args.next c.args.name.now c.args.depth (entry_view c.in-Some.chart.now) (graph_view c.in-Graph.graph) c.if-depth-eq0.false there (ap content_view c.in-Graph.is))) c.in_ok-made-in-Graph.ensures
 
 pub chart_of-returns-in-Basic : goal.chart_of-returns-in-Basic
 chart_of-returns-in-Basic t c =
@@ -94,7 +110,7 @@ items_of-loop-item-init t c = c.no_parts-parts.ensures c.args.numbering.now
 pub items_of-item_of-requires : goal.items_of-item_of-requires
 items_of-item_of-requires t c =
     let less = item_less c.args.items.now c.loop-item.item-index c.item-item.result (item_at c.args.items.now c.loop-item.item-index c.item-item.result c.loop-item-test.true c.item-item.is) in
-    (omega (arith, c.decreases, less), (c.requires.named, (c.requires.basic, c.requires.gates)))
+    (omega (arith, c.decreases, less), (c.requires.named, c.requires.gates))
 
 pub items_of-loop-item-preserved : goal.items_of-loop-item-preserved
 items_of-loop-item-preserved t c =
@@ -107,7 +123,7 @@ operands_of-loop-operand-init t c = c.no_parts-parts.ensures c.args.numbering.no
 pub operands_of-level_of-requires : goal.operands_of-level_of-requires
 operands_of-level_of-requires t c =
     let less = body_less c.args.operands.now c.loop-operand.operand-index c.operand-item.result (item_at c.args.operands.now c.loop-operand.operand-index c.operand-item.result c.loop-operand-test.true c.operand-item.is) in
-    (omega (arith, c.decreases, less), (c.requires.named, (c.requires.basic, c.requires.gates)))
+    (omega (arith, c.decreases, less), (c.requires.named, c.requires.gates))
 
 pub operands_of-loop-operand-preserved : goal.operands_of-loop-operand-preserved
 operands_of-loop-operand-preserved t c =
@@ -120,7 +136,7 @@ expressions_of-loop-expression-init t c = c.no_parts-parts.ensures c.args.number
 pub expressions_of-expression_of-requires : goal.expressions_of-expression_of-requires
 expressions_of-expression_of-requires t c =
     let less = part_less c.args.operands.now c.loop-expression.expression-index c.expression-item.result (item_at c.args.operands.now c.loop-expression.expression-index c.expression-item.result c.loop-expression-test.true c.expression-item.is) in
-    (omega (arith, c.decreases, less), (c.requires.named, (c.requires.basic, c.requires.gates)))
+    (omega (arith, c.decreases, less), (c.requires.named, c.requires.gates))
 
 pub expressions_of-loop-expression-preserved : goal.expressions_of-loop-expression-preserved
 expressions_of-loop-expression-preserved t c =
@@ -312,7 +328,7 @@ beside_of-loop-refining-init t c =
 pub beside_of-refining_of-requires : goal.beside_of-refining_of-requires
 beside_of-refining_of-requires t c =
     let fits = refining_fits (table_view c.args.table.charts.now) (items_view c.args.items.now) c.args.decomposed.now c.args.refined.now c.loop-refining.refining-index c.refining-item.result c.requires.refined c.loop-refining-test.true c.refining-item.is in
-    (omega (arith, c.decreases, fits), (c.requires.named, (c.requires.basic, c.requires.gates)))
+    (omega (arith, c.decreases, fits), (c.requires.named, c.requires.gates))
 
 pub beside_of-loop-refining-preserved : goal.beside_of-loop-refining-preserved
 beside_of-loop-refining-preserved t c =
@@ -345,7 +361,7 @@ left_of-loop-item-init t c = c.no_parts-parts.ensures c.args.numbering.now
 pub left_of-add_left-requires : goal.left_of-add_left-requires
 left_of-add_left-requires t c =
     let less = item_less c.args.items.now c.loop-item.item-index c.item-item.result (item_at c.args.items.now c.loop-item.item-index c.item-item.result c.loop-item-test.true c.item-item.is) in
-    (omega (arith, c.decreases, less), (c.requires.named, (c.requires.basic, c.requires.gates)))
+    (omega (arith, c.decreases, less), (c.requires.named, c.requires.gates))
 
 pub left_of-loop-item-preserved : goal.left_of-loop-item-preserved
 left_of-loop-item-preserved t c =
@@ -423,3 +439,88 @@ add_left-returns-in_ok-add-in-Reference t c =
     let view : left_item c.args.decomposed.now x ≡ x ∷ [] = ap (left_item c.args.decomposed.now) e ∙ sym (ap (λ (y : WovenItem). y ∷ []) e) in
     subst (λ (xs : List WovenItem). AddsItems charts c.args.depth called around c.args.numbering.now c.item_of-in-Reference.new.numbering xs c.args.parts.now c.add-in-Reference.new.parts) (sym view)
     (adds_one charts c.args.depth called around c.args.numbering.now c.item_of-in-Reference.new.numbering c.args.parts.now x c.in_ok-made-in-Reference.made c.add-in-Reference.new.parts c.in_ok-made-in-Reference.ensures c.in_ok-add-in-Reference.ensures)
+
+-- ---- graphs
+
+pub graph_of-lines_of-requires : goal.graph_of-lines_of-requires
+graph_of-lines_of-requires t c =
+    let g = c.args.graph.now in
+    let listed : c.as_slice.result.now ≡ (out-RawGraph g).lines.items = search rules in
+    let less = ap graph_size (graph_is g) in
+    let same = ap (λ (ls : List RawLine). lines_size (lines_view ls)) listed in
+    (omega (arith, c.decreases, less, same), (c.requires.named, c.requires.gates))
+
+pub graph_of-returns : goal.graph_of-returns
+graph_of-returns t c =
+    let charts = table_view c.args.table.charts.now in
+    let g = c.args.graph.now in
+    let ls = (out-RawGraph g).lines.items in
+    let listed : c.as_slice.result.now ≡ ls = search rules in
+    let from : c.args.next + 1 ≡ suc c.args.next = omega arith in
+    let parts = lines_parts charts c.args.depth (suc c.args.next) (lines_view ls) in
+    let held : AreMade c.args.numbering.now c.lines_of.new.numbering parts c.in_ok-parts.parts =
+    subst (λ (n : ℕ). AreMade c.args.numbering.now c.lines_of.new.numbering (lines_parts charts c.args.depth n (lines_view ls)) c.in_ok-parts.parts) from
+    (subst (λ (l : List RawLine). AreMade c.args.numbering.now c.lines_of.new.numbering (lines_parts charts c.args.depth (c.args.next + 1) (lines_view l)) c.in_ok-parts.parts) listed c.in_ok-parts.ensures) in
+    let made = c.walk.ensures c.args.numbering.now c.lines_of.new.numbering parts held in
+    subst (λ (e : Expanded). IsMade c.args.numbering.now c.lines_of.new.numbering e c.walk.result) (sym (graph_part_is charts c.args.depth c.args.next g))
+    (subst (λ (s : Shape). IsMade c.args.numbering.now c.lines_of.new.numbering (walk c.args.next s parts) c.walk.result) c.in_ok-shape.ensures made)
+
+pub lines_of-loop-line-init : goal.lines_of-loop-line-init
+lines_of-loop-line-init t c = c.no_parts-parts.ensures c.args.numbering.now
+
+pub lines_of-node_of-requires : goal.lines_of-node_of-requires
+lines_of-node_of-requires t c =
+    let less = line_less c.args.lines.now c.loop-line.line-index c.line-item.result (item_at c.args.lines.now c.loop-line.line-index c.line-item.result c.loop-line-test.true c.line-item.is) in
+    (omega (arith, c.decreases, less), (c.requires.named, c.requires.gates))
+
+pub lines_of-loop-line-preserved : goal.lines_of-loop-line-preserved
+lines_of-loop-line-preserved t c =
+    lines_step (table_view c.args.table.charts.now) c.args.depth c.args.numbering.now c.loop-line.numbering c.node_of.new.numbering c.args.next c.loop-line.parts c.in_ok-made.made c.add.new.parts c.in_ok-add.ensures c.args.lines.now c.loop-line.line-index c.line-item.result
+    c.loop-line-test.true c.line-item.is c.loop-line.invariant c.in_ok-made.ensures
+
+pub frames_of-loop-frame-init : goal.frames_of-loop-frame-init
+frames_of-loop-frame-init t c = c.no_parts-parts.ensures c.args.numbering.now
+
+pub frames_of-graph_of-requires : goal.frames_of-graph_of-requires
+frames_of-graph_of-requires t c =
+    let less = frame_less c.args.frames.now c.loop-frame.frame-index c.frame-item.result (item_at c.args.frames.now c.loop-frame.frame-index c.frame-item.result c.loop-frame-test.true c.frame-item.is) in
+    (omega (arith, c.decreases, less), (c.requires.named, c.requires.gates))
+
+pub frames_of-loop-frame-preserved : goal.frames_of-loop-frame-preserved
+frames_of-loop-frame-preserved t c =
+    frames_step (table_view c.args.table.charts.now) c.args.depth c.args.numbering.now c.loop-frame.numbering c.graph_of.new.numbering c.args.next c.loop-frame.parts c.in_ok-made.made c.add.new.parts c.in_ok-add.ensures c.args.frames.now c.loop-frame.frame-index c.frame-item.result
+    c.loop-frame-test.true c.frame-item.is c.loop-frame.invariant c.in_ok-made.ensures
+
+pub node_of-returns-in-Ends : goal.node_of-returns-in-Ends
+node_of-returns-in-Ends t c =
+    subst (λ (x : Node). IsMade c.args.numbering.now c.args.numbering.now (node_part (table_view c.args.table.charts.now) c.args.depth c.args.next x) c.in_row.result) (sym (ap tree_view.node_view c.in-Ends.is ∙ ends_is))
+    (c.in_row.ensures c.args.numbering.now c.args.numbering.now (nothing c.args.next) (c.no_parts.ensures c.args.numbering.now))
+
+pub node_of-returns-in-Connect : goal.node_of-returns-in-Connect
+node_of-returns-in-Connect t c =
+    subst (λ (x : Node). IsMade c.args.numbering.now c.args.numbering.now (node_part (table_view c.args.table.charts.now) c.args.depth c.args.next x) c.in_row-in-Connect.result) (sym (ap tree_view.node_view c.in-Connect.is ∙ connect_is))
+    (c.in_row-in-Connect.ensures c.args.numbering.now c.args.numbering.now (nothing c.args.next) (c.no_parts-in-Connect.ensures c.args.numbering.now))
+
+pub node_of-returns-in-Condition : goal.node_of-returns-in-Condition
+node_of-returns-in-Condition t c =
+    subst (λ (x : Node). IsMade c.args.numbering.now c.args.numbering.now (node_part (table_view c.args.table.charts.now) c.args.depth c.args.next x) c.in_row-in-Condition.result) (sym (ap tree_view.node_view c.in-Condition.is ∙ condition_is c.in-Condition.field-0))
+    (c.in_row-in-Condition.ensures c.args.numbering.now c.args.numbering.now (nothing c.args.next) (c.no_parts-in-Condition.ensures c.args.numbering.now))
+
+pub node_of-returns-in_ok-made-in-Refer : goal.node_of-returns-in_ok-made-in-Refer
+node_of-returns-in_ok-made-in-Refer t c =
+    let charts = table_view c.args.table.charts.now in
+    let x = c.in-Refer.expression in
+    let held : IsMade c.args.numbering.now c.expression_of.new.numbering (expression_part charts c.args.depth no_gates c.args.next (expression_view x)) c.in_ok-made-in-Refer.made =
+    subst (λ (g : GateMap). IsMade c.args.numbering.now c.expression_of.new.numbering (expression_part charts c.args.depth g c.args.next (expression_view x)) c.in_ok-made-in-Refer.made) nowhere_is c.in_ok-made-in-Refer.ensures in
+    subst (λ (y : Node). IsMade c.args.numbering.now c.expression_of.new.numbering (node_part charts c.args.depth c.args.next y) c.in_ok-made-in-Refer.made) (sym (ap tree_view.node_view c.in-Refer.is ∙ refer_is x)) held
+
+pub node_of-returns-in_ok-parts-in-Frames : goal.node_of-returns-in_ok-parts-in-Frames
+node_of-returns-in_ok-parts-in-Frames t c =
+    let charts = table_view c.args.table.charts.now in
+    let gs = c.in-Frames.frames.items in
+    let listed : c.as_slice.result.now ≡ gs = search rules in
+    let parts = frames_parts charts c.args.depth c.args.next (frames_view gs) in
+    let held : AreMade c.args.numbering.now c.frames_of.new.numbering parts c.in_ok-parts-in-Frames.parts =
+    subst (λ (l : List RawGraph). AreMade c.args.numbering.now c.frames_of.new.numbering (frames_parts charts c.args.depth c.args.next (frames_view l)) c.in_ok-parts-in-Frames.parts) listed c.in_ok-parts-in-Frames.ensures in
+    subst (λ (x : Node). IsMade c.args.numbering.now c.frames_of.new.numbering (node_part charts c.args.depth c.args.next x) c.aside.result) (sym (ap tree_view.node_view c.in-Frames.is ∙ frames_is c.in-Frames.frames))
+    (c.aside.ensures c.args.numbering.now c.frames_of.new.numbering parts held)

@@ -1,17 +1,17 @@
 use Rattle.std.proofs.Common.{◌+◌, ◌*◌, map, take}
 use Rattle.msc_tree.specs.Expressions.{expressions}
-use Rattle.msc_tree.specs.Views.{expression_view}
+use Rattle.msc_tree.specs.Views.{expression_view, graph_view, node_view}
 use Rattle.std.specs.List.{flat_map}
 use Rattle.msc_meaning.specs.Bodies.{items}
 use Rattle.msc_meaning.specs.ItemViews.{bodies_view, inline_view, items_view}
 use Rattle.msc_meaning.specs.Views.{body_view, item_view, reference_view, table_view}
 use Rattle.level_surroundings.specs.GateWays.{ways_view}
 use Rattle.level_surroundings.specs.Givens.{around_view}
-use Rattle.expanded_charts.specs.Making.{AreMade, expressions_parts, items_parts, operands_parts}
+use Rattle.expanded_charts.specs.Making.{AreMade, expressions_parts, frames_parts, frames_view, items_parts, lines_parts, lines_view, operands_parts}
 use Rattle.expanded_charts.specs.RefinedMaking.{beside_parts}
 use Rattle.expanded_charts.specs.LeftItems.{left_item}
 use Rattle.level_surroundings.specs.RefiningViews.{refinings_view}
-use Rattle.expanded_charts.proofs.Measures.{body_size, expression_size, expressions_size, item_size, items_size, measure, operands_size, table_size}
+use Rattle.expanded_charts.proofs.Measures.{body_size, expression_size, expressions_size, frames_size, graph_size, item_size, items_size, lines_size, measure, node_size, operands_size, table_size}
 use Rattle.expanded_charts.proofs.charts.+charts.Given as goal
 
 abbrev pub decreases-chart_of : goal.decreases-chart_of
@@ -62,6 +62,18 @@ decreases-expression_of l = measure (table_view l.table.charts.now) l.depth (4 *
 abbrev pub decreases-expressions_of : goal.decreases-expressions_of
 decreases-expressions_of l = measure (table_view l.table.charts.now) l.depth (4 * expressions_size (expressions (map expression_view l.operands.now)) + 2)
 
+abbrev pub decreases-graph_of : goal.decreases-graph_of
+decreases-graph_of l = measure (table_view l.table.charts.now) l.depth (4 * graph_size (graph_view l.graph.now))
+
+abbrev pub decreases-lines_of : goal.decreases-lines_of
+decreases-lines_of l = measure (table_view l.table.charts.now) l.depth (4 * lines_size (lines_view l.lines.now) + 2)
+
+abbrev pub decreases-node_of : goal.decreases-node_of
+decreases-node_of l = measure (table_view l.table.charts.now) l.depth (4 * node_size (node_view l.node.now) + 1)
+
+abbrev pub decreases-frames_of : goal.decreases-frames_of
+decreases-frames_of l = measure (table_view l.table.charts.now) l.depth (4 * frames_size (frames_view l.frames.now) + 2)
+
 abbrev pub invariant-items_of-loop-item : goal.invariant-items_of-loop-item
 invariant-items_of-loop-item l = AreMade l.initial.numbering l.numbering (items_parts (table_view l.table.charts.now) l.depth l.level.called.now (around_view l.level.given) l.next (items_view (take l.item-index l.items))) l.parts
 
@@ -76,3 +88,9 @@ invariant-left_of-loop-item l = AreMade l.initial.numbering l.numbering (items_p
 
 abbrev pub invariant-beside_of-loop-refining : goal.invariant-beside_of-loop-refining
 invariant-beside_of-loop-refining l = AreMade l.fn.numbering l.numbering (beside_parts (table_view l.table.charts.now) l.depth l.level.called.now (around_view l.level.given) l.next l.decomposed (items_view l.items) (refinings_view (take l.refining-index l.refined))) l.parts
+
+abbrev pub invariant-lines_of-loop-line : goal.invariant-lines_of-loop-line
+invariant-lines_of-loop-line l = AreMade l.initial.numbering l.numbering (lines_parts (table_view l.table.charts.now) l.depth l.next (lines_view (take l.line-index l.lines))) l.parts
+
+abbrev pub invariant-frames_of-loop-frame : goal.invariant-frames_of-loop-frame
+invariant-frames_of-loop-frame l = AreMade l.initial.numbering l.numbering (frames_parts (table_view l.table.charts.now) l.depth l.next (frames_view (take l.frame-index l.frames))) l.parts
