@@ -1,7 +1,6 @@
 //! The charts whose order is cyclic. Where all charts are written in order nothing is expanded, nor is a chart without references that is.
 
 ghost use Rattle.std.specs.Prelude.{◌≡◌, true, false, IfOk, Some, map};
-ghost use Rattle.expanded_charts.specs.BasicCharts.{IsBasicTable};
 ghost use Rattle.gate_ends.specs.LevelGates.{HasNames};
 ghost use Rattle.gate_tables.specs.ChartGates.{AreGatesOf};
 ghost use Rattle.msc_base.specs.Lists.{AreDifferent};
@@ -78,7 +77,6 @@ fn is_cyclic_chart(
     name: &[u8],
 ) -> Result<bool, NoMemory>
     requires named { HasNames charts.now names.now }
-    requires basic { IsBasicTable (table_view charts.now) }
     requires gates { AreGatesOf (table_view charts.now) gates.now }
     ensures cyclic { IfOk result (λ cyclic. cyclic ≡ true → IsOrdered (table_view charts.now) depth name.now → ⊥) }
     ensures ordered { IfOk result (λ cyclic. cyclic ≡ false → IsOrdered (table_view charts.now) depth name.now) }
@@ -98,7 +96,6 @@ fn is_cyclic_entry(
     chart: &ChartEntry,
 ) -> Result<bool, NoMemory>
     requires named { HasNames charts.now names.now }
-    requires basic { IsBasicTable (table_view charts.now) }
     requires gates { AreGatesOf (table_view charts.now) gates.now }
     requires there { chart_at (table_view charts.now) chart.now.name ≡ Some (entry_view chart.now) }
     ensures cyclic { IfOk result (λ cyclic. cyclic ≡ true → IsOrdered (table_view charts.now) depth chart.now.name → ⊥) }
@@ -124,7 +121,6 @@ pub fn cyclic_charts(
 ) -> Result<Vec<bool>, NoMemory>
     requires named { HasNames charts.now names.now }
     requires different { AreDifferent names.now }
-    requires basic { IsBasicTable (table_view charts.now) }
     requires gates { AreGatesOf (table_view charts.now) gates.now }
     ensures { IfOk result (λ told. TellCycles (table_view charts.now) depth (map entry_view charts.now) told.items) }
 {

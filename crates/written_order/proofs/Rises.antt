@@ -1,9 +1,9 @@
 -- Events that rise, one behind another.
-use Rattle.std.proofs.Common.{◌≡◌, ◌∙◌, ◌<◌, ◌≤◌, ◌+◌, ℕ, zero, suc, All, List, [], ◌∷◌, ◌++◌, refl, sym, subst, ap, get_or, length, map, take, arith, append-nil, append_assoc}
+use Rattle.std.proofs.Common.{◌≡◌, ◌∙◌, ◌<◌, ◌+◌, ℕ, suc, All, List, [], ◌∷◌, ◌++◌, sym, subst, ap, get_or, length, map, take, arith, append-nil, append_assoc}
 use Rattle.std.proofs.lemmas.List.{map-append, take_more}
 use Rattle.msc_base.specs.declared.label.Pair.{Pair}
 use Rattle.msc_base.specs.Orders.{Among, first, later}
-use Rattle.msc_meaning.specs.Bodies.{EventNode, Body, level, WovenItem, WovenItems, item_events, items, events}
+use Rattle.msc_meaning.specs.Bodies.{EventNode, level, WovenItem, WovenItems, item_events, items, events}
 use Rattle.msc_meaning.specs.ItemViews.{items_view}
 use Rattle.msc_meaning.specs.Views.{item_view, node_view}
 use Rattle.msc_meaning.specs.declared.body.EventNode as rust_event

@@ -1,36 +1,34 @@
 -- The numbers of the events of an expansion rise where charts are written in order, so they are ranks.
-use Rattle.std.proofs.Common.{◌≡◌, ◌∙◌, ◌<◌, ◌≤◌, ◌-◌, ◌==◌, cond, ◌⊎◌, inl, inr, ℕ, zero, suc, Bool, true, false, List, [], ◌∷◌, ◌++◌, Option, Some, None, refl, sym, subst, ap, map, filter, arith, append-nil}
+use Rattle.std.proofs.Common.{◌≡◌, ◌∙◌, ◌<◌, ◌≤◌, ◌==◌, cond, inl, inr, ℕ, zero, suc, Bool, true, false, List, [], ◌∷◌, ◌++◌, Option, Some, None, refl, sym, subst, ap, map, filter, arith, append-nil}
 use Rattle.std.proofs.lemmas.Bool.Decides.{Decides-eqb}
-use Rattle.std.specs.Prelude.{nat_lt, option_map}
 use Rattle.msc_base.specs.declared.label.Pair.{Pair}
 use Rattle.msc_base.specs.Orders.{Among, first, later}
-use Rattle.msc_unfolding.specs.Unfoldings.{Tag, Own, Via, On, Happening, is_same_tag, past_level}
+use Rattle.msc_unfolding.specs.Unfoldings.{Tag, Own, Via, On, is_same_tag, past_level}
+use Rattle.hmsc_graph.specs.declared.shape.Shape.{Shape}
+use Rattle.graph_shapes.specs.GraphShapes.{shape_of}
+use Rattle.msc_tree.specs.Graphs.{Graph, graph}
 use Rattle.msc_tree.specs.declared.reference.InlineForm.{InlineForm}
 use Rattle.msc_tree.specs.declared.reference.InlineForm.TheVariants as inline
 use Rattle.msc_tree.specs.Expressions.{Expression, Empty, Chart, Alt, Par, Seq, Opt, Loop, Expressions, none, more}
-use Rattle.msc_meaning.specs.Bodies.{EventNode, InlinePart, ReferencePart, Body, level, WovenItems, no_items, item_and, WovenItem, Single, Coregion, Inline, Refer, Bodies, no_bodies, body_and, events, item_events}
-use Rattle.msc_meaning.specs.Calls.{Call, calls, event_calls, events_calls, joins_calls}
+use Rattle.msc_meaning.specs.Bodies.{EventNode, InlinePart, Body, level, WovenItems, no_items, item_and, WovenItem, Single, Coregion, Inline, Refer, Bodies, no_bodies, body_and, events, item_events}
+use Rattle.msc_meaning.specs.Calls.{calls, event_calls, events_calls, joins_calls}
 use Rattle.msc_meaning.specs.ChartUnfoldings.{gates_of, under}
 use Rattle.msc_meaning.specs.FarEnds.{GateMap, no_gates, Around, Gates, gate_tags, gates_referred, inside, happening}
-use Rattle.msc_meaning.specs.Tables.{Table, ChartEntry, Woven, Basic, HighLevel, Refinement, chart_at, refinements}
+use Rattle.msc_meaning.specs.Tables.{Table, ChartEntry, Woven, Basic, HighLevel, Refinement, chart_at}
 use Rattle.msc_meaning.specs.Ties.{after_pairs, before_pairs, event_ties, items_joins_ties, joins_ties, labelled, level_pairs, order_pairs, own_ties, past_inline, past_reference, ties}
-use Rattle.expansion_tree.specs.Expansions.{Expansion, Event, InRow, Aside, OneOf, Exception, Turns, Tied, Expansions, no_parts, part_and, is_exception, map_all_events, map_events}
-use Rattle.expansion_tree.specs.Numbered as numbered
-use Rattle.expansion_tree.specs.declared.tree.ExpandedEvent.{ExpandedEvent}
-use Rattle.expansion_order.specs.Ranks.{AreRanked, AreRankedInRow, CanBeRanked, DoPrecede, IsRanked}
-use Rattle.expansion_order.specs.Stops.{all_counted, all_stops, counted, event_stops, numbered, stops}
+use Rattle.expansion_order.specs.Ranks.{AreRanked, AreRankedInRow, DoPrecede, IsRanked}
+use Rattle.expansion_order.specs.Stops.{all_counted, all_stops, counted, numbered, stops}
 use Rattle.expansion_order.specs.declared.stops.Stop.{Stop}
 use Rattle.expansion_order.proofs.Drawn.{among_either}
-use Rattle.expanded_charts.specs.Expanding.{Expanded, ExpandedParts, NumberedEvent, Shown, Charts, expand, expand_all, expand_charts, expand_entry, expand_events, expand_item, expand_items, expand_level, expand_operands, expand_woven, aside, event, exception, in_row, inline_by, nothing, numbers_with, one_of, or_nothing, pairs_between, past, past_shown, put, tied, tied_pairs, turns}
-use Rattle.expanded_charts.specs.Numbering.{at_instances, at_two, event_by, instance_number, number_of_label, numbered_by}
+use Rattle.expanded_charts.specs.Expanding.{Expanded, ExpandedParts, Shown, Charts, expand, expand_all, expand_charts, expand_entry, expand_events, expand_graph, expand_item, expand_items, expand_level, expand_lines, expand_operands, expand_woven, aside, event, exception, in_row, inline_by, nothing, numbers_with, one_of, or_nothing, pairs_between, past, past_shown, put, tied, tied_pairs, turns, walk}
 use Rattle.expanded_charts.specs.declared.numbering.Numbering.{Numbering}
 use Rattle.gate_ends.specs.FoundEnds.{AreAll, items_names, item_names, level_names, operands_names}
 use Rattle.msc_meaning.specs.InnerEvents.{GateEnd, charts_in, charts_in_all}
 use Rattle.msc_tree.specs.declared.event.Target.{Target}
 use Rattle.msc_tree.specs.declared.event.Target.TheVariants.{Nobody, Env, Instance, Gate}
-use Rattle.msc_tree.specs.declared.reference.Join.{Join}
-use Rattle.written_order.specs.Rising.{AreRisingBodies, AreRisingItems, IsAtNoGate, IsFree, IsRisingBody, IsRisingEntry, IsRisingItem, IsRisingLevel, IsRisingTo, IsRisingWoven, RiseTo}
+use Rattle.written_order.specs.Rising.{AreRisingBodies, AreRisingItems, IsAtNoGate, IsRisingBody, IsRisingEntry, IsRisingItem, IsRisingTo, IsRisingWoven, RiseTo}
 use Rattle.written_order.specs.RisingLaws.{RisingChartsAreRanked}
+use Rattle.written_order.proofs.Between.{AllStay, AreFrom, Stays, chart_stays, event_within, from_both, lines_stay, view, views, walk_stays}
 
 all_left : (P : List ℕ → Type 0) (xs ys : List (List ℕ)) → AreAll P (xs ++ ys) → AreAll P xs
 all_left P [] ys h = tt
@@ -41,15 +39,6 @@ all_right P [] ys h = h
 all_right P (x ∷ xs) ys h = all_right P xs ys h.1
 
 -- ---- numbers of an interval
-
-abbrev AreFrom : ℕ → ℕ → List Stop → Type 0
-AreFrom lo hi ss = (s : Stop) → Among s ss → (lo ≤ s.number) × (s.number < hi)
-
-from_both : (lo mid hi : ℕ) (ss ts : List Stop) → lo ≤ mid → mid ≤ hi → AreFrom lo mid ss → AreFrom mid hi ts → AreFrom lo hi (ss ++ ts)
-from_both lo mid hi ss ts a b f g s h = elim (among_either s ss ts h) [
-  | inl l ↦ let x = f s l in (x.0, omega (arith, x, b))
-  | inr r ↦ let x = g s r in (omega (arith, x, a), x.1)
-]
 
 precede : (lo mid hi : ℕ) (ss ts : List Stop) → AreFrom lo mid ss → AreFrom mid hi ts → DoPrecede (λ k. k) ss ts
 precede lo mid hi ss ts f g s t a b at = let x = (f s a).1 in let y = (g t b).0 in omega (arith, x, y)
@@ -67,25 +56,19 @@ one_number n hi (t ∷ ss) f s h = all_one n hi (let x = f t first in omega (ari
 -- ---- parts
 
 module _ (s : Numbering) where
-  abbrev view : Expansion NumberedEvent → numbered.Expansion
-  view x = map_events (event_by s) x
-
-  abbrev views : Expansions NumberedEvent → numbered.Expansions
-  views xs = map_all_events (event_by s) xs
-
   -- the part's numbers are those of the interval, and they are ranks
   record Rises (n : ℕ) (e : Expanded) : Type 0 where
     order : n ≤ e.next
-    within : AreFrom n e.next (stops (view e.part))
-    counted_within : AreFrom n e.next (counted (view e.part))
-    ranked : IsRanked (λ k. k) (view e.part)
+    within : AreFrom n e.next (stops (view s e.part))
+    counted_within : AreFrom n e.next (counted (view s e.part))
+    ranked : IsRanked (λ k. k) (view s e.part)
 
   record AllRise (n : ℕ) (ps : ExpandedParts) : Type 0 where
     order : n ≤ ps.next
-    within : AreFrom n ps.next (all_stops (views ps.parts))
-    counted_within : AreFrom n ps.next (all_counted (views ps.parts))
-    row : AreRankedInRow (λ k. k) (views ps.parts)
-    each : AreRanked (λ k. k) (views ps.parts)
+    within : AreFrom n ps.next (all_stops (views s ps.parts))
+    counted_within : AreFrom n ps.next (all_counted (views s ps.parts))
+    row : AreRankedInRow (λ k. k) (views s ps.parts)
+    each : AreRanked (λ k. k) (views s ps.parts)
 
   none_rise : (n : ℕ) → AllRise n (nothing n)
   none_rise n = record { order = omega arith; within = λ t h. elim h [ ]; counted_within = λ t h. elim h [ ]; row = tt; each = tt }
@@ -93,9 +76,9 @@ module _ (s : Numbering) where
   both_rise : (n : ℕ) (e : Expanded) (ps : ExpandedParts) → Rises n e → AllRise e.next ps → AllRise n (put e ps)
   both_rise n e ps f g = record {
     order = let a = f.order in let b = g.order in omega (arith, a, b);
-    within = from_both n e.next ps.next (stops (view e.part)) (all_stops (views ps.parts)) f.order g.order f.within g.within;
-    counted_within = from_both n e.next ps.next (counted (view e.part)) (all_counted (views ps.parts)) f.order g.order f.counted_within g.counted_within;
-    row = (f.ranked, (λ x. precede n e.next ps.next (counted (view e.part)) (all_counted (views ps.parts)) f.counted_within g.counted_within), g.row);
+    within = from_both n e.next ps.next (stops (view s e.part)) (all_stops (views s ps.parts)) f.order g.order f.within g.within;
+    counted_within = from_both n e.next ps.next (counted (view s e.part)) (all_counted (views s ps.parts)) f.order g.order f.counted_within g.counted_within;
+    row = (f.ranked, (λ x. precede n e.next ps.next (counted (view s e.part)) (all_counted (views s ps.parts)) f.counted_within g.counted_within), g.row);
     each = (f.ranked, g.each);
   }
 
@@ -111,8 +94,8 @@ module _ (s : Numbering) where
   option_rises : (n : ℕ) (e : Expanded) → Rises n e → Rises n (or_nothing e)
   option_rises n e f = record {
     order = f.order;
-    within = subst (AreFrom n e.next) (sym (append-nil (stops (view e.part)))) f.within;
-    counted_within = subst (AreFrom n e.next) (sym (append-nil (counted (view e.part)))) f.counted_within;
+    within = subst (AreFrom n e.next) (sym (append-nil (stops (view s e.part)))) f.within;
+    counted_within = subst (AreFrom n e.next) (sym (append-nil (counted (view s e.part)))) f.counted_within;
     ranked = (f.ranked, (tt, tt));
   }
 
@@ -120,7 +103,13 @@ module _ (s : Numbering) where
   exception_rises n e f = record { order = f.order; within = f.within; counted_within = f.counted_within; ranked = f.ranked }
 
   turns_rise : (n lower : ℕ) (upper : Option ℕ) (e : Expanded) → Rises n e → Rises n (turns n lower upper e)
-  turns_rise n lower upper e f = record { order = f.order; within = f.within; counted_within = one_number n e.next (stops (view e.part)) f.within; ranked = ((λ k. k), f.ranked) }
+  turns_rise n lower upper e f = record { order = f.order; within = f.within; counted_within = one_number n e.next (stops (view s e.part)) f.within; ranked = ((λ k. k), f.ranked) }
+
+  -- what the nodes of a walk come to has numbers above its own, however their charts are written
+  walk_rises : (n : ℕ) (shape : Shape) (ps : ExpandedParts) → AllStay s (suc n) ps → Rises n (walk n shape ps)
+  walk_rises n shape ps f =
+      let r = walk_stays s n shape ps f in
+      record { order = r.order; within = r.within; counted_within = all_one n ps.next (let a = f.order in omega (arith, a)) (all_stops (views s ps.parts)); ranked = tt }
 
   past_rises : (f : Tag → List Tag) (n : ℕ) (e : Expanded) → Rises n e → Rises n (past f e)
   past_rises f n e r = record { order = r.order; within = r.within; counted_within = r.counted_within; ranked = r.ranked }
@@ -131,25 +120,6 @@ module _ (s : Numbering) where
   form_rises inline.Par part n ps f = aside_rises n ps f
   form_rises inline.Exc part n ps f = exception_rises n (one_of ps) (choice_rises n ps f)
   form_rises inline.Loop part n ps f = turns_rise n part.lower part.upper (one_of ps) (choice_rises n ps f)
-
-  -- ---- events
-
-  numbered_at : (n label i : ℕ) (o : Option ℕ) (hi : ℕ) → n < hi → AreFrom n hi (event_stops (at_instances n label i o))
-  numbered_at n label i None hi low = only
-    where
-      only : AreFrom n hi (record { column = i; number = n } ∷ [])
-      only _ first = (omega arith, low)
-      only t (later l) = elim l [ ]
-  numbered_at n label i (Some j) hi low = by (nat_lt j i)
-    where
-      two : (a b : ℕ) → AreFrom n hi (record { column = a; number = n } ∷ record { column = b; number = n } ∷ [])
-      two a b _ first = (omega arith, low)
-      two a b _ (later first) = (omega arith, low)
-      two a b t (later (later l)) = elim l [ ]
-
-      by : (b : Bool) → AreFrom n hi (event_stops (at_two b n label i j))
-      by true = two j i
-      by false = two i j
 
 -- ---- what is shown
 
@@ -324,7 +294,7 @@ module _ (s : Numbering) where
 
   event_shows : (es : List GateEnd) (a : Around) (n low mid : ℕ) (k : EventNode) → RiseTo low (k ∷ []) mid → IsShowing n low mid (event n (happening es a k))
   event_shows es a n low mid k h =
-      let within = numbered_at s n (number_of_label s (happening es a k).label) (instance_number s (happening es a k).label.at) (option_map (instance_number s) (happening es a k).also) (suc n) (omega arith) in
+      let within = event_within s n (happening es a k) in
       record {
         rise = record { order = omega arith; within = within; counted_within = within; ranked = tt };
         shown = subst (λ (l : List Tag). ShownTo n low (map (λ a. (n, a)) (Own k.number ∷ l)) (suc n) mid) (sym (no_tags k.event.target h.0.1.2)) ((omega arith, h.0.0), (omega arith, h.1));
@@ -403,6 +373,9 @@ module _ (s : Numbering) where
           let e = expand_level chart ends_of a n b in
           alone_both n e (expand_operands chart ends_of a e.next bs) (level_alone a n b up.0 (all_left P (level_names b) (operands_names bs) named)) (operands_alone a e.next bs up.1 (all_right P (level_names b) (operands_names bs) named))
 
+    graph_alone : ((name : List ℕ) (gates : GateMap) (n : ℕ) → Stays s n (chart name gates n)) → (n : ℕ) (drawn : Graph) → IsAlone n (expand_graph chart ends_of n drawn)
+    graph_alone stay n (graph starts ls) = record { rise = walk_rises s n (shape_of (graph starts ls)) (expand_lines chart ends_of (suc n) ls) (lines_stay s ends_of chart stay (suc n) ls); none = refl }
+
 -- ---- up by the depth of references
 
 nothing_alone : (s : Numbering) (n : ℕ) → IsAlone s n (in_row (nothing n))
@@ -418,7 +391,7 @@ module _ (s : Numbering) (ends_of : WovenItems → List GateEnd) (table : Table)
     where
       content : (w : Woven) → IsRisingWoven (IsRisingTo table k) w → ((other : List ℕ) → IsRisingTo table k other → IsAloneTo k other) → IsAlone s n (expand_woven (expand_charts ends_of table k) ends_of table gates n [] w)
       content (Basic b) rise below = level_alone s ends_of (expand_charts ends_of table k) (IsRisingTo table k) below (under gates) n b rise.0 rise.1
-      content (HighLevel drawn) rise below = nothing_alone s n
+      content (HighLevel drawn) rise below = graph_alone s ends_of (expand_charts ends_of table k) (IsRisingTo table k) below (chart_stays s ends_of table k) n drawn
 
       by : (o : Option ChartEntry) → IsRisingEntry (IsRisingTo table k) o → ((other : List ℕ) → IsRisingTo table k other → IsAloneTo k other)
           → IsAlone s n (expand_entry ends_of table (expand_charts ends_of table k) gates n o)
