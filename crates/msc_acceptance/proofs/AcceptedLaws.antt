@@ -20,7 +20,6 @@ use Rattle.chart_links.specs.References.{IsCalled}
 use Rattle.chart_links.specs.Summaries.{summary_of}
 use Rattle.chart_text.specs.WellFormed.{AreAllWellFormed, IsWellFormed}
 use Rattle.creation_rules.specs.Creating.{ChartCreatesTwice}
-use Rattle.expanded_charts.specs.BasicCharts.{IsBasicTable, IsBasicWoven}
 use Rattle.gate_ends.specs.FoundEnds.{AreAll, GoesTo, inner_to}
 use Rattle.gate_ends.specs.JoinCounts.{reference_count}
 use Rattle.gate_rules.specs.GateLaws.{LevelsHaveGates}
@@ -213,18 +212,6 @@ entry_there (x ∷ charts) (e ∷ table) (entry_and is others) d (suc i) c at =
     by true q f = absurd (d.0 (subst (IsAmong (chart_names charts)) (sym (sym is.name ∙ (bytes_eq-Decides e.name c.name).0 q)) (index_names charts i c at)))
     by false q f = rw q f
 
--- ---- basic charts
-
-abbrev IsBasicEntry : ChartEntry → Type 0
-IsBasicEntry e = IsBasicWoven e.content
-
-basic_content : (w : Woven) (b : Body) → w ≡ Basic b → IsBasicWoven w
-basic_content w b e = subst IsBasicWoven (sym e) tt
-
-basic_of : (table : Table) → EachChart IsBasicEntry table → IsBasicTable table
-basic_of [] h = tt
-basic_of (e ∷ table) h = (h.0, basic_of table h.1)
-
 -- ---- instances
 
 pub instances_within : (seen : List (List ℕ)) (charts : List Chart) (table : Table) → AreEntriesOf instances charts table → ((c : Chart) (e : ChartEntry) → IsAmong charts c → IsEntryOf (instances c) c e → content_instances e.content ≡ instances c)
@@ -242,10 +229,6 @@ instances_within seen (c ∷ charts) (e ∷ table) (entry_and is others) f low n
 module _ (built : BuiltChartsAreKnown) (known : WovenChartsAreKnown) (charts : List Chart) (formed : AreAllWellFormed charts) (texts : AllKept (BreaksOf charts) text_groups) where
   own_built : (c : Chart) → IsAmong charts c → IsBuilt c
   own_built c m = one_built charts c (λ p h. texts.0 NotBuilt p (inl refl) h) m
-
-  -- none is a high-level chart
-  pub are_basic : (table : Table) → AreEntriesOf instances charts table → IsBasicTable table
-  are_basic table are = basic_of table (each_entry IsBasicEntry charts table are (λ c e m is. basic_content e.content (entry_body built c e (own_built c m) is).body (entry_body built c e (own_built c m) is).is))
 
   pub differ : AreDifferent (chart_names charts)
   differ = names_differ [] charts (λ p h. texts.1.1.0 NamedTwice p (inl refl) (inl h))

@@ -1,7 +1,6 @@
 //! The earliest chart whose order is cyclic, and what the entries of charts come to together: for `deciding`.
 
 ghost use Rattle.std.specs.Prelude.{◌≡◌, ◌≤◌, IfOk, List, length, map};
-ghost use Rattle.expanded_charts.specs.BasicCharts.{IsBasicTable};
 ghost use Rattle.gate_ends.specs.FoundEnds.{AreAll, GoesTo};
 ghost use Rattle.gate_ends.specs.LevelGates.{HasNames};
 ghost use Rattle.gate_tables.specs.ChartGates.{AreGatesOf};
@@ -65,7 +64,6 @@ fn cycle_place(
 ) -> Result<Option<Place>, NoMemory>
     requires named { HasNames entries.now names.now }
     requires different { AreDifferent names.now }
-    requires basic { IsBasicTable (table_view entries.now) }
     requires gates { AreGatesOf (table_view entries.now) gates.now }
     ensures { IfOk result (TellsEarliest (table_view entries.now) stands.now) }
 {
@@ -85,7 +83,6 @@ pub fn settle(
 ) -> Result<Decision, NoMemory>
     requires few { length entries.items ≤ CHARTS }
     requires different { AreDifferent (map (λ (c : ChartEntry). c.name) entries.items) }
-    requires basic { IsBasicTable (table_view entries.items) }
     requires deep { AreAll (GoesTo (table_view entries.items) EXPANDED_NESTING) (map (λ (c : ChartEntry). c.name) entries.items) }
     requires whole { IsWhole faults }
     ensures { (charts : List Chart) → AreEntriesOf instances charts (table_view entries.items) → AreKnownRefinements charts known.entry → AreFaultsIn charts faults → stands.now ≡ map (λ (c : Chart). c.place) charts → IfOk result (IsSettled charts (table_view entries.items)) }

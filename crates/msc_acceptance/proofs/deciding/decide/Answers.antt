@@ -23,7 +23,7 @@ use Rattle.msc_acceptance.specs.SizedCharts.{OfSizes}
 use Rattle.msc_acceptance.specs.declared.deciding.Decision.{Decision}
 use Rattle.msc_acceptance.specs.declared.deciding.Decision.TheVariants as decision
 use Rattle.msc_acceptance.proofs.AcceptLaws.{built_of, few, first_left, first_right, kept_both}
-use Rattle.msc_acceptance.proofs.AcceptedLaws.{all_there, are_basic, differ, entry_names}
+use Rattle.msc_acceptance.proofs.AcceptedLaws.{all_there, differ, entry_names}
 use Rattle.msc_acceptance.proofs.HeldGates.{all_go}
 use Rattle.msc_acceptance.proofs.RefinementPlaces.{known_lent, view_names}
 use Rattle.msc_acceptance.proofs.deciding.decide.Goals as goal
@@ -82,15 +82,6 @@ settle-requires-clause-different c =
     let texts = subst (λ (o : Option (Broken Rule)). IsFirstOf charts text_groups o) e told in
     let are = c.in_ok-made.ensures.entries (c.body_fault.ensures.whole f) in
     subst AreDifferent (view_names c.in_ok-made.made.entries.items) (subst AreDifferent (sym (entry_names charts (table_view c.in_ok-made.made.entries.items) are)) (differ c.built_charts_are_known.ensures c.woven_charts_are_known.ensures charts c.requires texts))
-
-pub settle-requires-clause-basic : goal.settle-requires-clause-basic
-settle-requires-clause-basic c =
-    let charts = map chart_view c.args.charts.items in
-    let told : IsFirstOf charts text_groups c.in_ok-fault.field-0 = subst (λ (l : List RawChart). IsFirstOf (map chart_view l) text_groups c.in_ok-fault.field-0) c.as_slice-2.ensures.value c.in_ok-fault.ensures.first in
-    let e : c.in_ok-fault.field-0 ≡ None = search rules in
-    let f : c.body_fault.result ≡ None = search rules in
-    let texts = subst (λ (o : Option (Broken Rule)). IsFirstOf charts text_groups o) e told in
-    are_basic c.built_charts_are_known.ensures c.woven_charts_are_known.ensures charts c.requires texts (table_view c.in_ok-made.made.entries.items) (c.in_ok-made.ensures.entries (c.body_fault.ensures.whole f))
 
 pub settle-requires-clause-deep : goal.settle-requires-clause-deep
 settle-requires-clause-deep c =
