@@ -27,11 +27,12 @@ and_both : (a b : Bool) → (a && b) ≡ true → (a ≡ true) × (b ≡ true)
 and_both true b e = (refl, e)
 and_both false b e = absurd cc
 
-module _ (k : NetPermits) where
-  there : (o : Option Tree) → MayHave (IsNormal k) o → IsNormal k (unwrap_or o Nil)
-  there None h = tt
-  there (Some x) h = h
+-- the term, or nothing
+pub there : (P : Tree → Type 0) (o : Option Tree) → P Nil → MayHave P o → P (unwrap_or o Nil)
+there P None n h = n
+there P (Some x) n h = h
 
+module _ (k : NetPermits) where
   positive : (lower : ℕ) (upper : Option ℕ) → leave_turn lower upper ≡ true → IsPositive upper
   positive lower None e = tt
   positive lower (Some zero) e = absurd cc
@@ -63,7 +64,7 @@ module _ (k : NetPermits) where
   normal_kept = record {
     nothing = tt;
     both = λ m x y h i. join_normal k m (x ∷ y ∷ []) (h, (i, tt));
-    some = λ xs h. there (choice_of xs) (choice_normal k xs h);
+    some = λ xs h. there (IsNormal k) (choice_of xs) tt (choice_normal k xs h);
     tied = λ x q h. bound_normal k x q h;
     turns = turns_normal;
   }

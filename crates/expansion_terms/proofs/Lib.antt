@@ -1,5 +1,12 @@
+mod Asked
 mod Dropped
 pub mod Kept
+mod Judging
+mod MadeAgree
+pub mod MadeReady
+mod MadeSteps
+mod NetShapes
 mod OneChoice
-mod ViewFacts
-mod TermSteps
+mod RowSteps
+mod WalkSteps
+mod Within

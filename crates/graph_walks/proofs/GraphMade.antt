@@ -152,7 +152,7 @@ module _ (table : Table) (name : List ℕ) (entry : ChartEntry) (starts : List L
   same_entry : (c : ChartEntry) → chart_at table name ≡ Some c → c ≡ entry
   same_entry c i = same_Some c entry (sym i ∙ is)
 
-  finished_set : (u : Unfolding) → Both (OfWalk table false lines starts u) (Finished table name u)
+  pub finished_set : (u : Unfolding) → Both (OfWalk table false lines starts u) (Finished table name u)
   finished_set u = record {
     to = λ h. record { chart = entry; is = is; unfolds = subst (λ (c : Woven). OfWoven table no_gates (refinements entry.decls) c u) (sym drawn) (of_graph h) };
     from = λ h. from h;
@@ -178,7 +178,7 @@ module _ (table : Table) (name : List ℕ) (entry : ChartEntry) (starts : List L
       whole : (a : List LabelRef) (b : Lines) → HighLevel (graph starts lines) ≡ HighLevel (graph a b) → OfWalk table true b a u → OfWalk table true lines starts u
       whole a b e k = subst (λ (x : List LabelRef). OfWalk table true lines x u) (sym (ap (λ c. starts_of c starts) e)) (subst (λ (x : Lines). OfWalk table true x a u) (sym (ap (λ c. lines_of c lines) e)) k)
 
-  begun_set : (u : Unfolding) → Both (OfWalk table true lines starts u) (Begun table name u)
+  pub begun_set : (u : Unfolding) → Both (OfWalk table true lines starts u) (Begun table name u)
   begun_set u = record {
     to = λ h. inr (record { chart = entry; is = is; starts = starts; lines = lines; drawn = drawn; walks = h });
     from = λ h. elim h [ inl i ↦ walks_are_open table lines starts u ((finished_set u).from i) | inr i ↦ open_walk u i ];

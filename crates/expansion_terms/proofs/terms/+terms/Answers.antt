@@ -1,72 +1,112 @@
-use Rattle.std.proofs.Common.{rules, ◌≡◌, ◌∙◌, ◌-◌, List, Some, ap, arith, subst, sym}
+use Rattle.std.proofs.Common.{rules, ◌≡◌, ◌∙◌, Some, ap, sym, subst}
 use Rattle.std.specs.List.{slice_get}
-use Rattle.std.proofs.lemmas.Option.{same_Some}
-use Rattle.expansion_tree.specs.declared.tree.Expansion as rust_tree
+use Rattle.hmsc_graph.specs.Graphs.{End}
+use Rattle.term_tables.specs.NetValues.{NetsValue}
 use Rattle.expansion_tree.specs.declared.tree.Expansion.TheViews.{the_lemmas}
-use Rattle.expansion_tree.specs.Expansions.{all_events_in, events_in, is_exception}
 use Rattle.expansion_tree.specs.Numbered.{Expansion}
-use Rattle.expansion_tree.specs.Views.{expansion_view, expansions_view}
-use Rattle.expansion_tree.proofs.ViewFacts.{tied_is}
-use Rattle.expansion_terms.specs.Stored.{AreStored}
+use Rattle.expansion_tree.specs.Views.{expansions_view}
+use Rattle.expansion_terms.specs.MadeTerms.{made}
+use Rattle.expansion_terms.specs.PartTerms.{AreNormal}
+use Rattle.expansion_terms.proofs.Asked.{aside_given, choice_given, event_given, exception_given, part_stored, part_whole, row_given, tied_given, turns_given, walk_given, walk_seen}
 use Rattle.expansion_terms.proofs.Dropped.{item_at}
-use Rattle.expansion_terms.proofs.TermSteps.{one_stored, part_stored, row_step}
-use Rattle.expansion_terms.proofs.ViewFacts.{aside_is, event_is, exception_is, in_row_is, one_of_is, turns_is}
+use Rattle.expansion_terms.proofs.MadeReady.{all_normal}
+use Rattle.expansion_terms.proofs.MadeSteps.{as_many, made_step}
+use Rattle.expansion_terms.proofs.WalkSteps.{nodes_each, nodes_ready, nodes_tables, walked_tables, walked_term}
 use Rattle.expansion_terms.proofs.terms.+terms.Goals as goal
 
-pub aside_of-term_of-requires : goal.aside_of-term_of-requires
-aside_of-term_of-requires t c =
-    let at : slice_get c.args.parts.now.items (c.loop-index.index - 1) ≡ Some c.index.result.now = item_at c.args.parts.now.items (c.loop-index.index - 1) c.index.result.now (omega (arith, c.loop-index.invariant.within)) c.index.ensures in
-    (search (rules, the_lemmas), part_stored c.args.parts.now.items (c.loop-index.index - 1) c.index.result.now at c.requires)
+-- ---- what is asked of the parts
 
-pub one_of_parts-term_of-requires : goal.one_of_parts-term_of-requires
-one_of_parts-term_of-requires t c =
-    let list = c.as_slice-part-items.result.now in
-    let at = item_at list c.loop-part.part-index c.part-item.result c.loop-part-test.true c.part-item.is in
-    (search (rules, the_lemmas), part_stored list c.loop-part.part-index c.part-item.result at (subst (λ (xs : List rust_tree.Expansion). AreStored (all_events_in (expansions_view xs))) (sym c.as_slice-part-items.ensures.value) c.requires))
+pub made_term-event_of-requires : goal.made_term-event_of-requires
+made_term-event_of-requires t c = event_given c.args.expansion.now c.in-Event.event c.in-Event.is c.requires.stored
 
-pub row_of-term_of-requires : goal.row_of-term_of-requires
-row_of-term_of-requires t c =
-    let at : slice_get c.args.parts.now.items (c.loop-index.index - 1) ≡ Some c.index.result.now = item_at c.args.parts.now.items (c.loop-index.index - 1) c.index.result.now (omega (arith, c.loop-index.invariant.within)) c.index.ensures in
-    (search (rules, the_lemmas), part_stored c.args.parts.now.items (c.loop-index.index - 1) c.index.result.now at c.requires)
+pub made_term-made_terms-requires : goal.made_term-made_terms-requires
+made_term-made_terms-requires t c =
+    let asked = row_given c.args.expansion.now c.in-InRow.parts c.as_slice.result.now c.in-InRow.is c.as_slice.ensures.value c.requires.stored c.requires.whole in
+    (search (rules, the_lemmas), (asked.stored, (asked.whole, c.requires.ready)))
 
-pub row_of-loop-index-preserved : goal.row_of-loop-index-preserved
-row_of-loop-index-preserved t c =
-    let at : slice_get c.args.parts.now.items (c.loop-index.index - 1) ≡ Some c.index.result.now = item_at c.args.parts.now.items (c.loop-index.index - 1) c.index.result.now (omega (arith, c.loop-index.invariant.within)) c.index.ensures in
-    let again : slice_get c.args.parts.now.items (c.loop-index.index - 1) ≡ Some c.index-in-loop-index.result.now = item_at c.args.parts.now.items (c.loop-index.index - 1) c.index-in-loop-index.result.now (omega (arith, c.loop-index.invariant.within)) c.index-in-loop-index.ensures in
-    let same : c.index-in-loop-index.result.now ≡ c.index.result.now = same_Some c.index-in-loop-index.result.now c.index.result.now (sym again ∙ at) in
-    record {
-      within = omega (arith, c.loop-index.invariant.within);
-      part = row_step c.loop-index.run c.in_ok-run-2.run' c.in_ok-front.front c.args.parts.now.items (c.loop-index.index - 1) c.loop-index.index c.index.result.now c.is_exception.result at (omega arith)
-          (c.is_exception.ensures ∙ ap (λ (x : rust_tree.Expansion). is_exception (expansion_view x)) same) c.loop-index.invariant.part c.in_ok-front.ensures c.in_ok-run-2.ensures;
-    }
+pub made_term-made_terms-requires-in-Aside : goal.made_term-made_terms-requires-in-Aside
+made_term-made_terms-requires-in-Aside t c =
+    let asked = aside_given c.args.expansion.now c.in-Aside.parts c.as_slice-in-Aside.result.now c.in-Aside.is c.as_slice-in-Aside.ensures.value c.requires.stored c.requires.whole in
+    (search (rules, the_lemmas), (asked.stored, (asked.whole, c.requires.ready)))
 
-pub term_of-event_of-requires : goal.term_of-event_of-requires
-term_of-event_of-requires t c = one_stored c.in-Event.event (subst (λ (x : Expansion). AreStored (events_in x)) (ap expansion_view c.in-Event.is ∙ event_is c.in-Event.event) c.requires)
+pub made_term-made_terms-requires-in-OneOf : goal.made_term-made_terms-requires-in-OneOf
+made_term-made_terms-requires-in-OneOf t c =
+    let asked = choice_given c.args.expansion.now c.in-OneOf.parts c.as_slice-in-OneOf.result.now c.in-OneOf.is c.as_slice-in-OneOf.ensures.value c.requires.stored c.requires.whole in
+    (search (rules, the_lemmas), (asked.stored, (asked.whole, c.requires.ready)))
 
-pub term_of-row_of-requires : goal.term_of-row_of-requires
-term_of-row_of-requires t c = (search (rules, the_lemmas), subst (λ (x : Expansion). AreStored (events_in x)) (ap expansion_view c.in-InRow.is ∙ in_row_is c.in-InRow.parts) c.requires)
+pub made_term-made_term-requires : goal.made_term-made_term-requires
+made_term-made_term-requires t c =
+    let asked = exception_given c.args.expansion.now c.in-Exception.part c.deref.result.now c.in-Exception.is c.deref.ensures c.requires.stored c.requires.whole in
+    (search (rules, the_lemmas), (asked.stored, (asked.whole, c.requires.ready)))
 
-pub term_of-aside_of-requires : goal.term_of-aside_of-requires
-term_of-aside_of-requires t c = (search (rules, the_lemmas), subst (λ (x : Expansion). AreStored (events_in x)) (ap expansion_view c.in-Aside.is ∙ aside_is c.in-Aside.parts) c.requires)
+pub made_term-made_term-requires-in-Turns : goal.made_term-made_term-requires-in-Turns
+made_term-made_term-requires-in-Turns t c =
+    let asked = turns_given c.args.expansion.now c.in-Turns.field-0 c.in-Turns.lower c.in-Turns.upper c.in-Turns.part c.deref-in-Turns.result.now c.in-Turns.is c.deref-in-Turns.ensures c.requires.stored c.requires.whole in
+    (search (rules, the_lemmas), (asked.stored, (asked.whole, c.requires.ready)))
 
-pub term_of-one_of_parts-requires : goal.term_of-one_of_parts-requires
-term_of-one_of_parts-requires t c = (search (rules, the_lemmas), subst (λ (x : Expansion). AreStored (events_in x)) (ap expansion_view c.in-OneOf.is ∙ one_of_is c.in-OneOf.parts) c.requires)
+pub made_term-made_term-requires-in-Tied : goal.made_term-made_term-requires-in-Tied
+made_term-made_term-requires-in-Tied t c =
+    let asked = tied_given c.args.expansion.now c.in-Tied.part c.in-Tied.pairs c.deref-in-Tied.result.now c.in-Tied.is c.deref-in-Tied.ensures c.requires.stored c.requires.whole in
+    (search (rules, the_lemmas), (asked.stored, (asked.whole, c.requires.ready)))
 
-pub term_of-term_of-requires : goal.term_of-term_of-requires
-term_of-term_of-requires t c = (
-  search (rules, the_lemmas),
-  subst (λ (x : rust_tree.Expansion). AreStored (events_in (expansion_view x))) (sym c.deref.ensures) (subst (λ (x : Expansion). AreStored (events_in x)) (ap expansion_view c.in-Exception.is ∙ exception_is c.in-Exception.part) c.requires),
-)
+-- ---- rows
 
-pub term_of-term_of-requires-in-Turns : goal.term_of-term_of-requires-in-Turns
-term_of-term_of-requires-in-Turns t c = (
-  search (rules, the_lemmas),
-  subst (λ (x : rust_tree.Expansion). AreStored (events_in (expansion_view x))) (sym c.deref-in-Turns.ensures)
-      (subst (λ (x : Expansion). AreStored (events_in x)) (ap expansion_view c.in-Turns.is ∙ turns_is c.in-Turns.field-0 c.in-Turns.lower c.in-Turns.upper c.in-Turns.part) c.requires),
-)
+pub made_term-row_of-requires-clause-each : goal.made_term-row_of-requires-clause-each
+made_term-row_of-requires-clause-each t c =
+    let same : c.as_slice-in-InRow.result.now ≡ c.as_slice.result.now = c.as_slice-in-InRow.ensures.value ∙ sym c.as_slice.ensures.value in
+    as_many c.args.nets.now.tables c.as_slice-in-InRow.result.now c.as_slice.result.now c.in_ok-terms-in-InRow.terms same c.in_ok-terms-in-InRow.ensures.terms
 
-pub term_of-term_of-requires-in-Tied : goal.term_of-term_of-requires-in-Tied
-term_of-term_of-requires-in-Tied t c = (
-  search (rules, the_lemmas),
-  subst (λ (x : rust_tree.Expansion). AreStored (events_in (expansion_view x))) (sym c.deref-in-Tied.ensures) (subst (λ (x : Expansion). AreStored (events_in x)) (ap expansion_view c.in-Tied.is ∙ tied_is c.in-Tied.part c.in-Tied.pairs) c.requires),
-)
+pub made_term-row_of-requires-clause-normal : goal.made_term-row_of-requires-clause-normal
+made_term-row_of-requires-clause-normal t c =
+    let asked = row_given c.args.expansion.now c.in-InRow.parts c.as_slice.result.now c.in-InRow.is c.as_slice.ensures.value c.requires.stored c.requires.whole in
+    subst AreNormal (sym c.in_ok-terms-in-InRow.ensures.terms) (all_normal c.args.nets.now.tables (expansions_view c.as_slice.result.now) asked.whole c.requires.ready)
+
+-- ---- parts
+
+pub made_terms-made_term-requires : goal.made_terms-made_term-requires
+made_terms-made_term-requires t c =
+    let at : slice_get c.args.parts.now c.loop-part.part-index ≡ Some c.part-item.result = item_at c.args.parts.now c.loop-part.part-index c.part-item.result c.loop-part-test.true c.part-item.is in
+    (search (rules, the_lemmas), (part_stored c.args.parts.now c.loop-part.part-index c.part-item.result at c.requires.stored, (part_whole c.args.parts.now c.loop-part.part-index c.part-item.result at c.requires.whole, c.loop-part.invariant.ready)))
+
+pub made_terms-loop-part-preserved : goal.made_terms-loop-part-preserved
+made_terms-loop-part-preserved t c =
+    made_step c.args.parts.now c.args.nets.now c.loop-part.part-index c.loop-part.nets c.made_term.new.nets c.loop-part.terms c.push.new.self c.part-item.result c.in_ok-term.term c.loop-part-test.true c.part-item.is c.requires.whole c.loop-part.invariant
+    c.in_ok-term.ensures.term c.in_ok-term.ensures.tables c.in_ok-push.ensures.ok
+
+-- ---- walks
+
+pub made_term-made_terms-requires-in-Walk : goal.made_term-made_terms-requires-in-Walk
+made_term-made_terms-requires-in-Walk t c =
+    let asked = walk_given c.args.expansion.now c.in-Walk.field-0 c.in-Walk.shape c.in-Walk.parts c.as_slice-in-Walk.result.now c.in-Walk.is c.as_slice-in-Walk.ensures.value c.requires.stored c.requires.whole in
+    (search (rules, the_lemmas), (asked.nodes.stored, (asked.nodes.whole, c.requires.ready)))
+
+pub made_term-walk_of-requires-clause-faultless : goal.made_term-walk_of-requires-clause-faultless
+made_term-walk_of-requires-clause-faultless t c = (walk_given c.args.expansion.now c.in-Walk.field-0 c.in-Walk.shape c.in-Walk.parts c.as_slice-in-Walk.result.now c.in-Walk.is c.as_slice-in-Walk.ensures.value c.requires.stored c.requires.whole).graph.faultless
+
+pub made_term-walk_of-requires-clause-each : goal.made_term-walk_of-requires-clause-each
+made_term-walk_of-requires-clause-each t c =
+    let asked = walk_given c.args.expansion.now c.in-Walk.field-0 c.in-Walk.shape c.in-Walk.parts c.as_slice-in-Walk.result.now c.in-Walk.is c.as_slice-in-Walk.ensures.value c.requires.stored c.requires.whole in
+    nodes_each c.args.nets.now c.made_terms-in-Walk.new.nets c.in-Walk.shape (expansions_view c.as_slice-in-Walk.result.now) c.in_ok-terms-in-Walk.terms c.in_ok-terms-in-Walk.ensures.terms c.in_ok-terms-in-Walk.ensures.tables asked c.requires.ready
+
+pub made_term-walk_of-requires-clause-tables : goal.made_term-walk_of-requires-clause-tables
+made_term-walk_of-requires-clause-tables t c =
+    let asked = walk_given c.args.expansion.now c.in-Walk.field-0 c.in-Walk.shape c.in-Walk.parts c.as_slice-in-Walk.result.now c.in-Walk.is c.as_slice-in-Walk.ensures.value c.requires.stored c.requires.whole in
+    nodes_tables c.args.nets.now c.made_terms-in-Walk.new.nets c.in-Walk.shape (expansions_view c.as_slice-in-Walk.result.now) c.in_ok-terms-in-Walk.terms c.in_ok-terms-in-Walk.ensures.terms c.in_ok-terms-in-Walk.ensures.tables asked c.requires.ready
+
+pub made_term-walk_of-requires-clause-ready : goal.made_term-walk_of-requires-clause-ready
+made_term-walk_of-requires-clause-ready t c =
+    let asked = walk_given c.args.expansion.now c.in-Walk.field-0 c.in-Walk.shape c.in-Walk.parts c.as_slice-in-Walk.result.now c.in-Walk.is c.as_slice-in-Walk.ensures.value c.requires.stored c.requires.whole in
+    nodes_ready c.args.nets.now c.made_terms-in-Walk.new.nets c.in-Walk.shape (expansions_view c.as_slice-in-Walk.result.now) c.in_ok-terms-in-Walk.terms c.in_ok-terms-in-Walk.ensures.terms c.in_ok-terms-in-Walk.ensures.tables asked c.requires.ready
+
+pub made_term-returns-in_ok-term-in-Walk-clause-term : goal.made_term-returns-in_ok-term-in-Walk-clause-term
+made_term-returns-in_ok-term-in-Walk-clause-term t c =
+    let view = walk_seen c.args.expansion.now c.in-Walk.field-0 c.in-Walk.shape c.in-Walk.parts c.as_slice-in-Walk.result.now c.in-Walk.is c.as_slice-in-Walk.ensures.value in
+    walked_term c.args.nets.now c.made_terms-in-Walk.new.nets c.in-Walk.shape (expansions_view c.as_slice-in-Walk.result.now) c.in_ok-terms-in-Walk.terms c.in_ok-terms-in-Walk.ensures.terms c.in_ok-terms-in-Walk.ensures.tables End c.in-Walk.field-0 c.in_ok-term-in-Walk.term c.in_ok-term-in-Walk.ensures.term
+    ∙ sym (ap (λ (x : Expansion). (made c.args.nets.now.tables x).term) view)
+
+pub made_term-returns-in_ok-term-in-Walk-clause-tables : goal.made_term-returns-in_ok-term-in-Walk-clause-tables
+made_term-returns-in_ok-term-in-Walk-clause-tables t c =
+    let v : NetsValue = c.args.nets.now in
+    let view = walk_seen c.args.expansion.now c.in-Walk.field-0 c.in-Walk.shape c.in-Walk.parts c.as_slice-in-Walk.result.now c.in-Walk.is c.as_slice-in-Walk.ensures.value in
+    walked_tables c.args.nets.now c.made_terms-in-Walk.new.nets c.in-Walk.shape (expansions_view c.as_slice-in-Walk.result.now) c.in_ok-terms-in-Walk.terms c.in_ok-terms-in-Walk.ensures.terms c.in_ok-terms-in-Walk.ensures.tables End c.in-Walk.field-0 c.walk_of.new.nets c.in_ok-term-in-Walk.ensures.tables
+    ∙ sym (ap (λ (x : Expansion). record v { tables = (made v.tables x).tables }) view)
