@@ -1,13 +1,12 @@
--- Terms without walks and begun turns: the constructors keep them so, and a choice of such terms is there.
-use Rattle.std.specs.Prelude.{ℕ, ◌||◌, Bool, true, false, List, [], ◌∷◌, ◌++◌, Some}
+-- Terms without begun turns: the constructors keep them so, and a choice of such terms is there.
+use Rattle.std.specs.Prelude.{ℕ, List, [], ◌∷◌, ◌++◌, Some}
 use Rattle.std.specs.Option.{unwrap_or}
 use Rattle.std.proofs.Common.{◌≡◌, refl, sym, subst, ap}
 use Rattle.msc_base.specs.Patterns.{Mode}
-use Rattle.chart_term.specs.Facts.{holds_walk, any_walk, row_walk}
 use Rattle.chart_term.specs.NormalForms.{join_all, open_choice, open_choices, without, distinct, choice_form, choice_of, tie_of}
 use Rattle.chart_term.specs.Properties.{Each}
-use Rattle.chart_term.specs.Terms.{Tree, Nil, Event, Join, Choice, Tied, Loop, Walk, Trees, none, more, items, trees, Row, ends, gap, turn}
-use Rattle.expanded_terms.specs.BareTerms.{IsBare, AreBare, IsUnbegun}
+use Rattle.chart_term.specs.Terms.{Tree, Nil, Event, Join, Choice, Tied, Loop, Walk, Trees, none, more, items, trees}
+use Rattle.expanded_terms.specs.BareTerms.{IsBare, AreBare}
 use Rattle.expanded_terms.specs.ExpandedTerms.{one_of}
 use Rattle.term_laws.proofs.Opening.{each_app}
 use Rattle.expanded_terms.proofs.KeptParts.{IsByParts, choice_has, join_has, tie_has}
@@ -45,30 +44,6 @@ bare_choice xs y h e = choice_has IsBare bare_by_parts xs y h e
 pub bare_tie : (x : Tree) (q : List (ℕ × ℕ)) → IsBare x → IsBare (tie_of x q)
 bare_tie x q h = tie_has IsBare bare_by_parts x q h
 
--- no walk is in such a term
-both_false : (a b : Bool) → a ≡ false → b ≡ false → (a || b) ≡ false
-both_false true b h k = h
-both_false false b h k = k
-
-unbegun_still : (r : Row) → IsUnbegun r → row_walk r ≡ false
-unbegun_still ends h = refl
-unbegun_still (gap c r) h = unbegun_still r h
-unbegun_still (turn x r) h = absurd h
-
-mutual
-  pub bare_still : (x : Tree) → IsBare x → holds_walk x ≡ false
-  bare_still Nil h = refl
-  bare_still (Event e) h = refl
-  bare_still (Join m xs) h = bare_all_still xs h
-  bare_still (Choice xs) h = bare_all_still xs h.1
-  bare_still (Tied x q) h = bare_still x h
-  bare_still (Loop x lo hi r) h = both_false (holds_walk x) (row_walk r) (bare_still x h.0) (unbegun_still r h.1)
-  bare_still (Walk n f t c) h = absurd h
-
-  bare_all_still : (xs : Trees) → AreBare xs → any_walk xs ≡ false
-  bare_all_still none h = refl
-  bare_all_still (more x xs) (h, k) = both_false (holds_walk x) (any_walk xs) (bare_still x h) (bare_all_still xs k)
-
 -- a choice of such terms is there
 record HasFirst (xs : List Tree) : Type 0 where
   part : Tree
@@ -83,7 +58,7 @@ has_first (Choice none) h = absurd h.0
 has_first (Choice (more x xs)) h = record { part = x; others = items xs; is = refl }
 has_first (Tied x q) h = record { part = Tied x q; others = []; is = refl }
 has_first (Loop x lo hi r) h = record { part = Loop x lo hi r; others = []; is = refl }
-has_first (Walk n f t c) h = absurd h
+has_first (Walk n f t c) h = record { part = Walk n f t c; others = []; is = refl }
 
 form_there : (x : Tree) (xs : List Tree) → choice_form (x ∷ xs) ≡ Some (unwrap_or (choice_form (x ∷ xs)) Nil)
 form_there x [] = refl

@@ -6,6 +6,8 @@ use Rattle.chart_term.specs.Terms.{Tree}
 use Rattle.term_meaning.specs.Portions.{Shown, past_shown}
 use Rattle.msc_tree.specs.Expressions.{Expression, Empty, Chart, Alt, Par, Seq, Opt, Expressions, none, more}
 use Rattle.msc_tree.specs.Expressions as expression
+use Rattle.msc_tree.specs.Graphs as tree
+use Rattle.msc_tree.specs.Graphs.{graph, Lines, no_lines, line_and, line, Node, Ends, Connect, Condition, Frames, Graphs, no_graphs, graph_and}
 use Rattle.msc_meaning.specs.Bodies.{EventNode, Body, level, WovenItems, no_items, item_and, WovenItem, Single, Coregion, Inline, Refer, Bodies, no_bodies, body_and}
 use Rattle.msc_meaning.specs.Calls.{Call, calls}
 use Rattle.msc_meaning.specs.InnerEvents.{GateEnd}
@@ -13,8 +15,8 @@ use Rattle.msc_meaning.specs.Refinements.{Refining, refining, refinings, without
 use Rattle.msc_meaning.specs.Tables.{Table, ChartEntry, chart_at, Woven, Basic, HighLevel, Refinement, refinements}
 use Rattle.msc_meaning.specs.Ties.{past_inline, past_reference}
 use Rattle.expanded_terms.specs.DeeperCharts.{AreSameOf, DeeperIsSame}
-use Rattle.expanded_terms.specs.ExpandedTerms.{Charts, charts_to, entry_count, entry_shown, expression_count, expressions_count, level_count, items_count, item_count, operands_count, refinings_count, woven_count, event_shown, events_shown, expression_shown, expressions_shown, level_shown, items_shown, item_shown, operands_shown, refinings_shown, woven_shown}
-use Rattle.expanded_terms.specs.WholeCharts.{IsWholeExpression, AreWholeExpressions, IsWholeLevel, AreWholeItems, IsWholeItem, AreWholeOperands, AreWholeRefinings, IsWholeWoven, HasWholeEntry, IsWholeTo}
+use Rattle.expanded_terms.specs.ExpandedTerms.{lines_count, node_count, frames_count, Leaves, Charts, charts_to, entry_count, entry_shown, expression_count, expressions_count, level_count, items_count, item_count, operands_count, refinings_count, woven_count, event_shown, events_shown, expression_shown, expressions_shown, level_shown, items_shown, item_shown, operands_shown, refinings_shown, woven_shown}
+use Rattle.expanded_terms.specs.WholeCharts.{AreWholeLines, IsWholeNode, AreWholeFrames, IsWholeExpression, AreWholeExpressions, IsWholeLevel, AreWholeItems, IsWholeItem, AreWholeOperands, AreWholeRefinings, IsWholeWoven, HasWholeEntry, IsWholeTo}
 
 -- one list behind another, which begins where the first part's count leads
 placed : (a b : Shown) (f g : ℕ → Shown) (n c d : ℕ) → a ≡ b → c ≡ d → ((m : ℕ) → f m ≡ g m) → (a ++ f (n + c)) ≡ (b ++ g (n + d))
@@ -103,19 +105,35 @@ module _ (table : Table) (ends_of : WovenItems → List GateEnd) (Whole : List �
       placed (past_shown (past_refining ms) (items_shown charts (calls held) n held)) (past_shown (past_refining ms) (items_shown others (calls held) n held)) (λ m. refinings_shown charts m rs) (λ m. refinings_shown others m rs) n (items_count charts held) (items_count others held)
       (ap (past_shown (past_refining ms)) (items_show (calls held) n held w)) (items_counts held w) (λ m. refinings_show m rs v)
 
+  mutual
+    lines_counts : (lines : Lines) → AreWholeLines table ends_of Whole lines → lines_count charts lines ≡ lines_count others lines
+    lines_counts no_lines w = refl
+    lines_counts (line_and (line label place node next) rest) (w, v) = omega (arith, node_counts node w, lines_counts rest v)
+
+    node_counts : (node : Node) → IsWholeNode table ends_of Whole node → node_count charts node ≡ node_count others node
+    node_counts Ends w = refl
+    node_counts Connect w = refl
+    node_counts (Condition names) w = refl
+    node_counts (tree.Refer e) w = expression_counts e w
+    node_counts (Frames held) w = frames_counts held w
+
+    frames_counts : (held : Graphs) → AreWholeFrames table ends_of Whole held → frames_count charts held ≡ frames_count others held
+    frames_counts no_graphs w = refl
+    frames_counts (graph_and (graph starts lines) rest) (w, v) = omega (arith, lines_counts lines w, frames_counts rest v)
+
   woven_counts : (rs : List Refinement) (content : Woven) → IsWholeWoven table ends_of Whole rs content → woven_count charts table rs content ≡ woven_count others table rs content
   woven_counts [] (Basic held) w = level_counts held w
   woven_counts (r ∷ rs) (Basic (level cover held pairs)) (e, w, v) = omega (arith, items_counts (without_decomposed (r ∷ rs) held) w, refinings_counts (refinings table held (r ∷ rs)) v)
-  woven_counts [] (HighLevel drawn) w = absurd w
-  woven_counts (r ∷ rs) (HighLevel drawn) w = absurd w
+  woven_counts [] (HighLevel (graph starts lines)) w = omega (arith, lines_counts lines w)
+  woven_counts (r ∷ rs) (HighLevel (graph starts lines)) w = omega (arith, lines_counts lines w)
 
   woven_shows : (n : ℕ) (rs : List Refinement) (content : Woven) → IsWholeWoven table ends_of Whole rs content → woven_shown charts table n rs content ≡ woven_shown others table n rs content
   woven_shows n [] (Basic held) w = level_shows n held w
   woven_shows n (r ∷ rs) (Basic (level cover held pairs)) (e, w, v) = ap (past_shown past_level)
       (placed (items_shown charts (calls held) n (without_decomposed (r ∷ rs) held)) (items_shown others (calls held) n (without_decomposed (r ∷ rs) held)) (λ m. refinings_shown charts m (refinings table held (r ∷ rs))) (λ m. refinings_shown others m (refinings table held (r ∷ rs))) n
       (items_count charts (without_decomposed (r ∷ rs) held)) (items_count others (without_decomposed (r ∷ rs) held)) (items_show (calls held) n (without_decomposed (r ∷ rs) held) w) (items_counts (without_decomposed (r ∷ rs) held) w) (λ m. refinings_show m (refinings table held (r ∷ rs)) v))
-  woven_shows n [] (HighLevel drawn) w = absurd w
-  woven_shows n (r ∷ rs) (HighLevel drawn) w = absurd w
+  woven_shows n [] (HighLevel drawn) w = refl
+  woven_shows n (r ∷ rs) (HighLevel drawn) w = refl
 
   entry_counts : (name : List ℕ) → HasWholeEntry table ends_of Whole name → entry_count charts table (chart_at table name) ≡ entry_count others table (chart_at table name)
   entry_counts name w = subst (λ (o : Option ChartEntry). entry_count charts table o ≡ entry_count others table o) (sym w.is) (woven_counts (refinements w.entry.decls) w.entry.content w.whole)
@@ -123,13 +141,13 @@ module _ (table : Table) (ends_of : WovenItems → List GateEnd) (Whole : List �
   entry_shows : (name : List ℕ) (n : ℕ) → HasWholeEntry table ends_of Whole name → entry_shown charts table n (chart_at table name) ≡ entry_shown others table n (chart_at table name)
   entry_shows name n w = subst (λ (o : Option ChartEntry). entry_shown charts table n o ≡ entry_shown others table n o) (sym w.is) (woven_shows n (refinements w.entry.decls) w.entry.content w.whole)
 
-deeper : (event : ℕ → Happening → Tree) (ends_of : WovenItems → List GateEnd) (table : Table) (k j : ℕ) (name : List ℕ) → k ≤ j → IsWholeTo table ends_of k name → AreSameOf (charts_to event ends_of table k) (charts_to event ends_of table j) name
-deeper event ends_of table zero j name l w = absurd w
-deeper event ends_of table (suc k) zero name l w = absurd (omega (arith, l))
-deeper event ends_of table (suc k) (suc j) name l w =
-    let known = λ (other : List ℕ) (v : IsWholeTo table ends_of k other). deeper event ends_of table k j other (omega (arith, l)) v in record {
-      count = entry_counts table ends_of (IsWholeTo table ends_of k) (charts_to event ends_of table k) (charts_to event ends_of table j) known name w;
-      shown = λ n. entry_shows table ends_of (IsWholeTo table ends_of k) (charts_to event ends_of table k) (charts_to event ends_of table j) known name n w;
+deeper : (leaves : Leaves) (ends_of : WovenItems → List GateEnd) (table : Table) (k j : ℕ) (name : List ℕ) → k ≤ j → IsWholeTo table ends_of k name → AreSameOf (charts_to leaves ends_of table k) (charts_to leaves ends_of table j) name
+deeper leaves ends_of table zero j name l w = absurd w
+deeper leaves ends_of table (suc k) zero name l w = absurd (omega (arith, l))
+deeper leaves ends_of table (suc k) (suc j) name l w =
+    let known = λ (other : List ℕ) (v : IsWholeTo table ends_of k other). deeper leaves ends_of table k j other (omega (arith, l)) v in record {
+      count = entry_counts table ends_of (IsWholeTo table ends_of k) (charts_to leaves ends_of table k) (charts_to leaves ends_of table j) known name w;
+      shown = λ n. entry_shows table ends_of (IsWholeTo table ends_of k) (charts_to leaves ends_of table k) (charts_to leaves ends_of table j) known name n w;
     }
 
 pub deeper_is_same : DeeperIsSame

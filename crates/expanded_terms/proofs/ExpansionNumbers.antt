@@ -1,58 +1,57 @@
 -- The numbers of the events of expansions, construct by construct.
-use Rattle.std.specs.Prelude.{ℕ, zero, suc, ◌+◌, List, [], ◌∷◌, ◌++◌, Option, None, Some, length, map}
+use Rattle.std.specs.Prelude.{ℕ, zero, suc, ◌+◌, List, [], ◌∷◌, ◌++◌, Option, None, Some, length}
 use Rattle.std.proofs.Common.{◌≡◌, refl, sym, subst, arith, append-nil, length-append}
-use Rattle.std.proofs.lemmas.List.{map-append}
 use Rattle.msc_base.specs.declared.label.Far.{Far}
 use Rattle.msc_unfolding.specs.Unfoldings.{Happening}
 use Rattle.msc_tree.specs.declared.reference.InlineForm.TheVariants as inline
 use Rattle.msc_tree.specs.Expressions.{Expression, Empty, Chart, Alt, Par, Seq, Opt, Expressions, none, more}
 use Rattle.msc_tree.specs.Expressions as expression
+use Rattle.msc_tree.specs.Graphs as graphs
+use Rattle.msc_tree.specs.Graphs.{Graph, graph, Lines, no_lines, line_and, line, Node, Ends, Connect, Condition, Frames, Graphs, no_graphs, graph_and}
 use Rattle.msc_meaning.specs.Bodies.{EventNode, Body, level, WovenItems, no_items, item_and, WovenItem, Single, Coregion, Inline, Refer, Bodies, no_bodies, body_and}
 use Rattle.msc_meaning.specs.ChartUnfoldings.{gates_of, under, refined_under, refining_under}
-use Rattle.msc_meaning.specs.FarEnds.{GateMap, Around, Gates, gates_referred, inside, far_end, happening}
+use Rattle.msc_meaning.specs.FarEnds.{GateMap, no_gates, Around, Gates, gates_referred, inside, far_end, happening}
 use Rattle.msc_meaning.specs.InnerEvents.{GateEnd}
 use Rattle.msc_meaning.specs.Refinements.{Refining, refining, refinings, without_decomposed}
 use Rattle.msc_meaning.specs.Tables.{Table, ChartEntry, chart_at, Woven, Basic, HighLevel, Refinement, refinements}
-use Rattle.expansion_tree.specs.Expansions.{all_events_in, events_in}
+use Rattle.hmsc_graph.specs.declared.shape.Shape.{Shape}
+use Rattle.graph_shapes.specs.GraphShapes.{shape_of}
 use Rattle.expanded_charts.specs.Expanding as tree
-use Rattle.expanded_charts.specs.Expanding.{NumberedEvent, Expanded, ExpandedParts, nothing, or_nothing, expand_events, expand, expand_all, expand_level, expand_items, expand_item, expand_operands, expand_refinings, expand_woven, expand_entry, expand_charts}
-use Rattle.expanded_terms.specs.ExpansionNumbers.{CountFrom, ExpansionsAreNumbered}
+use Rattle.expanded_charts.specs.Expanding.{NumberedEvent, Expanded, ExpandedParts, nothing, or_nothing, expand_events, expand, expand_all, expand_level, expand_items, expand_item, expand_operands, expand_refinings, expand_graph, expand_lines, expand_node, expand_frames, expand_woven, expand_entry, expand_charts}
+use Rattle.expanded_terms.specs.ExpansionNumbers.{CountFrom, numbers_by, all_numbers_by, number_of, ExpansionsAreNumbered}
 use Rattle.expanded_terms.proofs.CountedNumbers.{count_both}
 
-abbrev numbers : List NumberedEvent → List ℕ
-numbers es = map (λ (e : NumberedEvent). e.number) es
-
--- the events are numbered from n on, up to the next number
-pub record IsCounted (n : ℕ) (es : List NumberedEvent) (next : ℕ) : Type 0 where
-  pub counted : CountFrom n (numbers es)
-  pub next_is : next ≡ n + length es
-
-length_map : (es : List NumberedEvent) → length (numbers es) ≡ length es
-length_map [] = refl
-length_map (e ∷ es) = omega (arith, length_map es)
+-- they are numbered from n on, up to the next number
+pub record IsCounted (n : ℕ) (ns : List ℕ) (next : ℕ) : Type 0 where
+  pub counted : CountFrom n ns
+  pub next_is : next ≡ n + length ns
 
 none_counted : (n : ℕ) → IsCounted n [] n
 none_counted n = record { counted = tt; next_is = omega arith }
 
 -- behind some of them others
-counted_then : (n m k : ℕ) (es fs : List NumberedEvent) → IsCounted n es m → IsCounted m fs k → IsCounted n (es ++ fs) k
-counted_then n m k es fs h i = record {
-  counted = subst (λ (l : List ℕ). CountFrom n l) (sym (map-append (λ (e : NumberedEvent). e.number) es fs)) (count_both n (numbers es) (numbers fs) h.counted (subst (λ j. CountFrom j (numbers fs)) (let e : m ≡ n + length (numbers es) = omega (arith, h.next_is, length_map es) in e) i.counted));
-  next_is = omega (arith, h.next_is, i.next_is, length-append es fs);
+counted_then : (n m k : ℕ) (a b : List ℕ) → IsCounted n a m → IsCounted m b k → IsCounted n (a ++ b) k
+counted_then n m k a b h i = record {
+  counted = count_both n a b h.counted (subst (λ j. CountFrom j b) h.next_is i.counted);
+  next_is = omega (arith, h.next_is, i.next_is, length-append a b);
 }
 
 abbrev IsPart : ℕ → Expanded → Type 0
-IsPart n e = IsCounted n (events_in e.part) e.next
+IsPart n e = IsCounted n (numbers_by number_of e.part) e.next
 
 abbrev AreParts : ℕ → ExpandedParts → Type 0
-AreParts n l = IsCounted n (all_events_in l.parts) l.next
+AreParts n l = IsCounted n (all_numbers_by number_of l.parts) l.next
 
 -- a part, and behind it those numbered from its end on
 then_counted : (n : ℕ) (e : Expanded) (rest : ℕ → ExpandedParts) → IsPart n e → ((m : ℕ) → AreParts m (rest m)) → AreParts n (tree.then e rest)
-then_counted n e rest h i = counted_then n e.next (rest e.next).next (events_in e.part) (all_events_in (rest e.next).parts) h (i e.next)
+then_counted n e rest h i = counted_then n e.next (rest e.next).next (numbers_by number_of e.part) (all_numbers_by number_of (rest e.next).parts) h (i e.next)
 
 option_counted : (n : ℕ) (e : Expanded) → IsPart n e → IsPart n (or_nothing e)
-option_counted n e h = subst (λ (l : List NumberedEvent). IsCounted n l e.next) (sym (append-nil (events_in e.part))) h
+option_counted n e h = subst (λ (l : List ℕ). IsCounted n l e.next) (sym (append-nil (numbers_by number_of e.part))) h
+
+-- a walk has the first number
+walk_counted : (n : ℕ) (g : Shape) (l : ExpandedParts) → AreParts (suc n) l → IsPart n (tree.walk n g l)
+walk_counted n g l h = record { counted = (refl, h.counted); next_is = omega (arith, h.next_is) }
 
 module _ (ends_of : WovenItems → List GateEnd) (chart : tree.Charts) (known : (name : List ℕ) (gates : GateMap) (n : ℕ) → IsPart n (chart name gates n)) where
   event_counted : (n : ℕ) (h : Happening) → IsPart n (tree.event n h)
@@ -102,16 +101,35 @@ module _ (ends_of : WovenItems → List GateEnd) (chart : tree.Charts) (known : 
   refinings_counted far_of n [] = none_counted n
   refinings_counted far_of n (refining (level cover held pairs) ms ∷ rs) =
       counted_then n (expand_items chart ends_of (gates_of held (ends_of held)) (refining_under far_of ms) n held).next (expand_refinings chart ends_of far_of (expand_items chart ends_of (gates_of held (ends_of held)) (refining_under far_of ms) n held).next rs).next
-      (all_events_in (expand_items chart ends_of (gates_of held (ends_of held)) (refining_under far_of ms) n held).parts)
-      (all_events_in (expand_refinings chart ends_of far_of (expand_items chart ends_of (gates_of held (ends_of held)) (refining_under far_of ms) n held).next rs).parts)
+      (all_numbers_by number_of (expand_items chart ends_of (gates_of held (ends_of held)) (refining_under far_of ms) n held).parts)
+      (all_numbers_by number_of (expand_refinings chart ends_of far_of (expand_items chart ends_of (gates_of held (ends_of held)) (refining_under far_of ms) n held).next rs).parts)
       (items_counted (gates_of held (ends_of held)) (refining_under far_of ms) n held) (refinings_counted far_of (expand_items chart ends_of (gates_of held (ends_of held)) (refining_under far_of ms) n held).next rs)
+
+  mutual
+    graph_counted : (n : ℕ) (drawn : Graph) → IsPart n (expand_graph chart ends_of n drawn)
+    graph_counted n (graph starts lines) = walk_counted n (shape_of (graph starts lines)) (expand_lines chart ends_of (suc n) lines) (lines_counted (suc n) lines)
+
+    lines_counted : (n : ℕ) (lines : Lines) → AreParts n (expand_lines chart ends_of n lines)
+    lines_counted n no_lines = none_counted n
+    lines_counted n (line_and (line label place node next) rest) = then_counted n (expand_node chart ends_of n node) (λ m. expand_lines chart ends_of m rest) (node_counted n node) (λ m. lines_counted m rest)
+
+    node_counted : (n : ℕ) (node : Node) → IsPart n (expand_node chart ends_of n node)
+    node_counted n Ends = none_counted n
+    node_counted n Connect = none_counted n
+    node_counted n (Condition names) = none_counted n
+    node_counted n (graphs.Refer e) = expression_counted no_gates n e
+    node_counted n (Frames held) = frames_counted n held
+
+    frames_counted : (n : ℕ) (held : Graphs) → AreParts n (expand_frames chart ends_of n held)
+    frames_counted n no_graphs = none_counted n
+    frames_counted n (graph_and drawn rest) = then_counted n (expand_graph chart ends_of n drawn) (λ m. expand_frames chart ends_of m rest) (graph_counted n drawn) (λ m. frames_counted m rest)
 
   woven_counted : (table : Table) (gates : GateMap) (n : ℕ) (rs : List Refinement) (content : Woven) → IsPart n (expand_woven chart ends_of table gates n rs content)
   woven_counted table gates n [] (Basic held) = level_counted (under gates) n held
   woven_counted table gates n (r ∷ rs) (Basic (level cover held pairs)) =
       counted_then n (expand_items chart ends_of (gates_of held (ends_of held)) around n left).next (expand_refinings chart ends_of (far_end (ends_of held) around) (expand_items chart ends_of (gates_of held (ends_of held)) around n left).next fs).next
-      (all_events_in (expand_items chart ends_of (gates_of held (ends_of held)) around n left).parts)
-      (all_events_in (expand_refinings chart ends_of (far_end (ends_of held) around) (expand_items chart ends_of (gates_of held (ends_of held)) around n left).next fs).parts)
+      (all_numbers_by number_of (expand_items chart ends_of (gates_of held (ends_of held)) around n left).parts)
+      (all_numbers_by number_of (expand_refinings chart ends_of (far_end (ends_of held) around) (expand_items chart ends_of (gates_of held (ends_of held)) around n left).next fs).parts)
       (items_counted (gates_of held (ends_of held)) around n left) (refinings_counted (far_end (ends_of held) around) (expand_items chart ends_of (gates_of held (ends_of held)) around n left).next fs)
     where
       fs : List Refining
@@ -122,8 +140,8 @@ module _ (ends_of : WovenItems → List GateEnd) (chart : tree.Charts) (known : 
 
       around : Around
       around = refined_under gates pairs fs
-  woven_counted table gates n [] (HighLevel drawn) = none_counted n
-  woven_counted table gates n (r ∷ rs) (HighLevel drawn) = none_counted n
+  woven_counted table gates n [] (HighLevel drawn) = graph_counted n drawn
+  woven_counted table gates n (r ∷ rs) (HighLevel drawn) = graph_counted n drawn
 
   entry_counted : (table : Table) (gates : GateMap) (n : ℕ) (o : Option ChartEntry) → IsPart n (expand_entry ends_of table chart gates n o)
   entry_counted table gates n None = none_counted n

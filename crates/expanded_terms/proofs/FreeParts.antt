@@ -1,8 +1,10 @@
 -- Parts of an expansion none of whose ties is of events in loops, by the tags that are still to be seen of them, and of those in loops.
-use Rattle.std.specs.Prelude.{ℕ, suc, ◌≤◌, ◌<◌, Bool, true, false, filter, if◌then◌else◌, List, [], ◌∷◌, ◌++◌, Option, None, Some, map}
-use Rattle.std.proofs.Common.{◌≡◌, ◌⊎◌, inl, inr, refl, sym, ap, subst, arith}
+use Rattle.std.specs.Prelude.{ℕ, suc, ◌≤◌, ◌<◌, ◌&&◌, Bool, true, false, filter, if◌then◌else◌, List, [], ◌∷◌, ◌++◌, Option, None, Some, map}
+use Rattle.std.proofs.Common.{◌≡◌, ◌∙◌, ◌⊎◌, inl, inr, refl, sym, ap, subst, arith}
 use Rattle.std.proofs.lemmas.List.{map-append}
+use Rattle.std.proofs.lemmas.Bool.Decides.{Decides-eqb}
 use Rattle.std.proofs.lemmas.Slice.Eq.{bytes_eq-Decides}
+use Rattle.std.specs.Str.{bytes_eq}
 use Rattle.msc_base.specs.declared.label.Pair.{Pair}
 use Rattle.msc_base.specs.Orders.{Among, first, later}
 use Rattle.msc_unfolding.specs.Unfoldings.{Tag, Own, Via, On, is_same_tag}
@@ -13,21 +15,38 @@ use Rattle.msc_meaning.specs.BodyLevels.{BodyLevel, EachLevel}
 use Rattle.msc_meaning.specs.FarEnds.{Around, gate_tags, happening}
 use Rattle.msc_meaning.specs.InnerEvents.{GateEnd, InnerEvent, here}
 use Rattle.msc_meaning.specs.Ties.{called_tag, via_list}
-use Rattle.expansion_tree.specs.Expansions.{Expansion, Expansions, Event, InRow, Aside, OneOf, Exception, Turns, Tied, no_parts, part_and, all_events_in, events_in}
+use Rattle.expansion_tree.specs.Expansions.{Expansion, Expansions, Event, InRow, Aside, OneOf, Exception, Turns, Tied, Walk, no_parts, part_and, all_events_in, events_in}
+use Rattle.hmsc_graph.specs.declared.shape.Shape.{Shape}
 use Rattle.expanded_charts.specs.Expanding as tree
 use Rattle.expanded_charts.specs.Expanding.{NumberedEvent, Expanded, ExpandedParts, Shown, nothing, or_nothing, in_row, aside, exception, turns, tied, past, past_shown, numbers_with, pairs_between, expand_events, expand, expand_all, expand_level, expand_items, expand_item, expand_operands, expand_woven, expand_entry, expand_charts}
 use Rattle.gate_ends.specs.FoundEnds.{GateEvents, an_event as one_event, in_loop, listed, looped, is_gate, these_if, event_inner}
 use Rattle.sound_terms.proofs.Mapped.{map_among}
 use Rattle.sound_terms.proofs.Ordering.{among_left, among_right}
-use Rattle.expanded_terms.specs.ExpansionNumbers.{numbers_of_events}
+use Rattle.expanded_terms.specs.ExpansionNumbers.{number_of, numbers_of_events}
 use Rattle.expanded_terms.specs.RankedTerms.{EachTie, EachTies}
-use Rattle.expanded_terms.proofs.LevelOrder.{same_tag}
 use Rattle.expanded_terms.proofs.TiesWithin.{split_among, flat_among, between_both}
+
+-- ---- tags
+
+and_true : (a b : Bool) → (a && b) ≡ true → (a ≡ true) × (b ≡ true)
+and_true true b e = (refl, e)
+and_true false b e = absurd cc
+
+same_tag : (a b : Tag) → is_same_tag a b ≡ true → a ≡ b
+same_tag (Own m) (Own n) e = ap (λ k. Own k) ((Decides-eqb m n).0 e)
+same_tag (Via g) (Via h) e = ap (λ k. Via k) ((bytes_eq-Decides g h).0 e)
+same_tag (On z g) (On y h) e = let (a, b) = and_true (bytes_eq z y) (bytes_eq g h) e in ap (λ k. On k g) ((bytes_eq-Decides z y).0 a) ∙ ap (λ k. On y k) ((bytes_eq-Decides g h).0 b)
+same_tag (Own m) (Via h) e = absurd cc
+same_tag (Own m) (On y h) e = absurd cc
+same_tag (Via g) (Own n) e = absurd cc
+same_tag (Via g) (On y h) e = absurd cc
+same_tag (On z g) (Own n) e = absurd cc
+same_tag (On z g) (Via h) e = absurd cc
 
 -- ---- events in loops
 
 abbrev mutual
-  -- the numbers of the events in loops
+  -- the numbers of the events in loops and in walks
   pub in_loops : Expansion NumberedEvent → List ℕ
   in_loops (Event e) = []
   in_loops (InRow xs) = all_in_loops xs
@@ -36,6 +55,7 @@ abbrev mutual
   in_loops (Exception x) = in_loops x
   in_loops (Turns n lower upper x) = numbers_of_events x
   in_loops (Tied x ps) = in_loops x
+  in_loops (Walk n g xs) = map number_of (all_events_in xs)
 
   pub all_in_loops : Expansions NumberedEvent → List ℕ
   all_in_loops no_parts = []
@@ -151,6 +171,43 @@ module _ (S L : Tag → Type 0) where
     where
       by : AreFree S L n (tree.put e (empty_part e.next)) → IsFree S L n (or_nothing e)
       by q = record { ties = q.ties; order = h.order; numbers = q.numbers; inner = q.inner; shown = h.shown; seen = h.seen; loop = λ p i. q.loop p (among_left e.shown [] p i) }
+
+-- of parts of which nothing is shown
+pub record AreSealed (n : ℕ) (l : ExpandedParts) : Type 0 where
+  pub ties : EachTies IsFreeOf l.parts
+  pub order : n ≤ l.next
+  pub numbers : (j : ℕ) → Among j (all_numbers l.parts) → IsBetween n l.next j
+
+pub none_sealed : (n : ℕ) → AreSealed n (nothing n)
+none_sealed n = record { ties = tt; order = omega arith; numbers = λ j i. elim i [ ] }
+
+pub put_sealed : (S L : Tag → Type 0) (n : ℕ) (e : Expanded) (l : ExpandedParts) → IsFree S L n e → AreSealed e.next l → AreSealed n (tree.put e l)
+put_sealed S L n e l h i = record {
+  ties = (h.ties, i.ties);
+  order = let a = h.order in let b = i.order in omega (arith, a, b);
+  numbers = λ j k. elim (split_among (numbers_of_events e.part) (all_numbers l.parts) j (subst (λ (ns : List ℕ). Among j ns) (map-append number_of (events_in e.part) (all_events_in l.parts)) k)) [ inl a ↦ low j (h.numbers j a) | inr a ↦ high j (i.numbers j a) ];
+}
+  where
+    low : (j : ℕ) → IsBetween n e.next j → IsBetween n l.next j
+    low j (a, b) = let o = i.order in (a, omega (arith, b, o))
+
+    high : (j : ℕ) → IsBetween e.next l.next j → IsBetween n l.next j
+    high j (a, b) = let o = h.order in (omega (arith, a, o), b)
+
+-- nothing is shown of a walk
+pub walk_free : (S L : Tag → Type 0) (n : ℕ) (g : Shape) (l : ExpandedParts) → AreSealed (suc n) l → IsFree S L n (tree.walk n g l)
+walk_free S L n g l h = record {
+  ties = h.ties;
+  order = let o = h.order in omega (arith, o);
+  numbers = λ j i. wide j (h.numbers j i);
+  inner = λ j i. wide j (h.numbers j i);
+  shown = λ p i. elim i [ ];
+  seen = λ p i. elim i [ ];
+  loop = λ p i. elim i [ ];
+}
+  where
+    wide : (j : ℕ) → IsBetween (suc n) l.next j → IsBetween n l.next j
+    wide j (a, b) = (omega (arith, a), b)
 
 -- more may be seen
 module _ (S L T M : Tag → Type 0) (up : Implies S T) (over : Implies L M) where

@@ -20,26 +20,29 @@ use Rattle.msc_tree.specs.declared.reference.JoinEnd.{JoinEnd}
 use Rattle.msc_tree.specs.declared.reference.JoinEnd.TheVariants as join_end
 use Rattle.msc_tree.specs.Expressions.{Expression, Empty, Chart, Alt, Par, Seq, Opt, Expressions, none, more}
 use Rattle.msc_tree.specs.Expressions as expression
+use Rattle.msc_tree.specs.Graphs as graphs
+use Rattle.msc_tree.specs.Graphs.{Graph, graph, Lines, no_lines, line_and, line, Node, Ends, Connect, Condition, Frames, Graphs, no_graphs, graph_and}
+use Rattle.graph_shapes.specs.GraphShapes.{shape_of}
 use Rattle.msc_meaning.specs.Bodies.{EventNode, InlinePart, ReferencePart, Body, level, WovenItems, no_items, item_and, WovenItem, Single, Coregion, Inline, Refer, Bodies, no_bodies, body_and, item_list}
 use Rattle.msc_meaning.specs.BodyLevels.{BodyLevel, EachLevel, item_levels, items_levels, levels_from, operands_levels}
 use Rattle.msc_meaning.specs.Calls.{Call, Caller, an_event, a_gate, calls, is_call_of, is_called, passed_to}
 use Rattle.msc_meaning.specs.ChartUnfoldings.{gates_of, under, refined_under, refining_under}
-use Rattle.msc_meaning.specs.FarEnds.{GateMap, Around, end_at, gates_referred, inside, far_end, happening}
+use Rattle.msc_meaning.specs.FarEnds.{GateMap, no_gates, Around, end_at, gates_referred, inside, far_end, happening}
 use Rattle.msc_meaning.specs.InnerEvents.{GateEnd, InnerEvent, in_chart}
 use Rattle.msc_meaning.specs.Refinements.{Match, Refining, refining, refining_by, refinings, is_decomposed, left_of, without_decomposed, stands_for, past_refining}
 use Rattle.msc_meaning.specs.Tables.{Table, ChartEntry, body_at, body_in, chart_at, Woven, Basic, HighLevel, Refinement, refinements}
 use Rattle.msc_meaning.specs.Ties.{event_tie, event_ties, in_order, item_joins_ties, items_joins_ties, join_tie, joins_ties, level_pairs, own_ties, past_inline, past_reference, tie_by, ties, via_list}
-use Rattle.expansion_tree.specs.Expansions.{Expansion, Expansions, Event, InRow, Aside, OneOf, Exception, Turns, Tied, no_parts, part_and, map_events, map_all_events}
+use Rattle.expansion_tree.specs.Expansions.{Expansion, Expansions, Event, InRow, Aside, OneOf, Exception, Turns, Tied, Walk, no_parts, part_and, map_events, map_all_events}
 use Rattle.expansion_tree.specs.declared.tree.ExpandedEvent.{ExpandedEvent}
 use Rattle.expanded_charts.specs.Expanding as tree
-use Rattle.expanded_charts.specs.Expanding.{NumberedEvent, Expanded, ExpandedParts, Shown, nothing, or_nothing, in_row, aside, exception, turns, tied, past, past_shown, numbers_with, pairs_between, expand_events, expand, expand_all, expand_level, expand_items, expand_item, expand_operands, expand_refinings, expand_refined, expand_woven, expand_entry, expand_charts}
+use Rattle.expanded_charts.specs.Expanding.{NumberedEvent, Expanded, ExpandedParts, Shown, nothing, or_nothing, in_row, aside, exception, turns, tied, past, past_shown, numbers_with, pairs_between, expand_events, expand, expand_all, expand_level, expand_items, expand_item, expand_operands, expand_refinings, expand_refined, expand_graph, expand_lines, expand_node, expand_frames, expand_woven, expand_entry, expand_charts}
 use Rattle.gate_ends.specs.EndLaws.{EndsAreFound}
 use Rattle.gate_ends.specs.FoundEnds.{GateEvents, no_event, an_event as one_event, both, either, in_loop, listed, looped, seen_in, is_name, these_if, unless, event_inner, events_inner, beside, operand_beside, expression_inner, choice_inner, parts_inner, joined_inner, joins_inner, level_inner, items_inner, item_inner, inline_inner, operands_inner, inner_of_item, inner_of, body_inner, inner_to, chart_gates, GoesTo}
 use Rattle.gate_ends.specs.LevelGates.{items_in}
 use Rattle.expanded_terms.specs.GateTies.{IsQuietChart, IsQuietLevel, IsQuietTable, IsQuietWoven}
 use Rattle.expanded_terms.specs.RankedTerms.{EachTie, EachTies, IsOutsideLoops, looped_in, all_looped_in}
-use Rattle.expanded_terms.proofs.FreeParts.{IsFree, IsFreeOf, in_loops, all_in_loops, none_free, row_free, aside_free, one_free, exception_free, tied_free, put_free, option_free, wider, all_wider, past_free, HasSome, InGate, InLoop, OnLevel, some_left, some_right, some_both, level_in, loop_in, Shut, AreShut, Open, shut_in, all_in, turned_shut, event_free, IsOnLevel, one_case, called_case, via_case, each_left, each_right}
-use Rattle.expanded_terms.proofs.RankedChartTerms.{mapped_numbers}
+use Rattle.expanded_terms.proofs.FreeParts.{AreFree, AreSealed, none_sealed, put_sealed, walk_free, IsFree, IsFreeOf, in_loops, all_in_loops, none_free, row_free, aside_free, one_free, exception_free, tied_free, put_free, option_free, wider, all_wider, past_free, HasSome, InGate, InLoop, OnLevel, some_left, some_right, some_both, level_in, loop_in, Shut, AreShut, Open, shut_in, all_in, turned_shut, event_free, IsOnLevel, one_case, called_case, via_case, each_left, each_right}
+use Rattle.expanded_terms.proofs.RankedChartTerms.{mapped_all_numbers, mapped_numbers}
 use Rattle.expanded_terms.proofs.TiesWithin.{split_among, flat_among}
 
 -- the body of each refining chart
@@ -83,6 +86,34 @@ module _ (ends_of : WovenItems → List GateEnd) (chart : tree.Charts) (found : 
         (shut_in (expression_inner found x) (choice_inner found (more x xs)) (λ g. some_left (listed (expression_inner found x g)) (listed (choice_inner found xs g))) (λ g. some_left (looped (expression_inner found x g)) (looped (choice_inner found xs g))) n (expand chart ends_of gates n x) (expression_free gates n x))
         (all_in (choice_inner found xs) (choice_inner found (more x xs)) (λ g. some_right (listed (expression_inner found x g)) (listed (choice_inner found xs g))) (λ g. some_right (looped (expression_inner found x g)) (looped (choice_inner found xs g)))
         (expand chart ends_of gates n x).next (expand_all chart ends_of gates (expand chart ends_of gates n x).next xs) (choices_free gates (expand chart ends_of gates n x).next xs))
+
+  -- ---- graphs
+
+  abbrev AnyTag : Tag → Type 0
+  AnyTag a = Unit {0}
+
+  mutual
+    lines_sealed : (n : ℕ) (lines : Lines) → AreSealed n (expand_lines chart ends_of n lines)
+    lines_sealed n no_lines = none_sealed n
+    lines_sealed n (line_and (line label place Ends next) rest) = put_sealed AnyTag AnyTag n (in_row (nothing n)) (expand_lines chart ends_of n rest) (row_free AnyTag AnyTag n (nothing n) (none_free AnyTag AnyTag n)) (lines_sealed n rest)
+    lines_sealed n (line_and (line label place Connect next) rest) = put_sealed AnyTag AnyTag n (in_row (nothing n)) (expand_lines chart ends_of n rest) (row_free AnyTag AnyTag n (nothing n) (none_free AnyTag AnyTag n)) (lines_sealed n rest)
+    lines_sealed n (line_and (line label place (Condition names) next) rest) = put_sealed AnyTag AnyTag n (in_row (nothing n)) (expand_lines chart ends_of n rest) (row_free AnyTag AnyTag n (nothing n) (none_free AnyTag AnyTag n)) (lines_sealed n rest)
+    lines_sealed n (line_and (line label place (graphs.Refer e) next) rest) =
+        put_sealed (InGate (expression_inner found e)) (InLoop (expression_inner found e)) n (expand chart ends_of no_gates n e) (expand_lines chart ends_of (expand chart ends_of no_gates n e).next rest) (expression_free no_gates n e) (lines_sealed (expand chart ends_of no_gates n e).next rest)
+    lines_sealed n (line_and (line label place (Frames held) next) rest) =
+        put_sealed AnyTag AnyTag n (aside (expand_frames chart ends_of n held)) (expand_lines chart ends_of (expand_frames chart ends_of n held).next rest)
+        (aside_free AnyTag AnyTag n (expand_frames chart ends_of n held) (frames_free n held)) (lines_sealed (expand_frames chart ends_of n held).next rest)
+
+    frames_free : (n : ℕ) (held : Graphs) → AreFree AnyTag AnyTag n (expand_frames chart ends_of n held)
+    frames_free n no_graphs = none_free AnyTag AnyTag n
+    frames_free n (graph_and drawn rest) =
+        put_free AnyTag AnyTag n (expand_graph chart ends_of n drawn) (expand_frames chart ends_of (expand_graph chart ends_of n drawn).next rest) (frame_free n drawn) (frames_free (expand_graph chart ends_of n drawn).next rest)
+
+    frame_free : (n : ℕ) (drawn : Graph) → IsFree AnyTag AnyTag n (expand_graph chart ends_of n drawn)
+    frame_free n (graph starts lines) = walk_free AnyTag AnyTag n (shape_of (graph starts lines)) (expand_lines chart ends_of (suc n) lines) (lines_sealed (suc n) lines)
+
+  graph_free : (S L : Tag → Type 0) (n : ℕ) (drawn : Graph) → IsFree S L n (expand_graph chart ends_of n drawn)
+  graph_free S L n (graph starts lines) = walk_free S L n (shape_of (graph starts lines)) (expand_lines chart ends_of (suc n) lines) (lines_sealed (suc n) lines)
 
   -- ---- joins
 
@@ -545,7 +576,7 @@ module _ (law : EndsAreFound) (table : Table) where
         content : (c : ChartEntry) (w : Woven) → IsQuietWoven table w → AreEachRefining (IsQuietLevel table) (refinings table held rs)
             → AreEachRefining (IsQuietLevel table) (refining_by r.instance held (body_in (Some (record { name = c.name; decls = c.decls; content = w }))) ++ refinings table held rs)
         content c (Basic (level cover inner pairs)) q qs = (q, qs)
-        content c (HighLevel drawn) q qs = absurd q
+        content c (HighLevel drawn) q qs = qs
 
         entry : (o : Option ChartEntry) → ((c : ChartEntry) → o ≡ Some c → IsQuietChart table c) → AreEachRefining (IsQuietLevel table) (refinings table held rs) → AreEachRefining (IsQuietLevel table) (refining_by r.instance held (body_in o) ++ refinings table held rs)
         entry None f qs = qs
@@ -568,8 +599,8 @@ module _ (law : EndsAreFound) (table : Table) where
           let refined = refinings table held (r ∷ rs) in
           body_shut c (level cover held pairs) at is deep (expand_refined (expand_charts ends_of table depth) ends_of (refined_under gates pairs refined) n held pairs (r ∷ rs) refined)
           (refined_free ends_of (expand_charts ends_of table depth) (chart_gates table) known (refined_under gates pairs refined) n cover held pairs (r ∷ rs) refined q (refined_quiet held (r ∷ rs)))
-      woven_free c [] (HighLevel drawn) at is deep q = absurd q
-      woven_free c (r ∷ rs) (HighLevel drawn) at is deep q = absurd q
+      woven_free c [] (HighLevel drawn) at is deep q = graph_free ends_of (expand_charts ends_of table depth) (chart_gates table) known (InGate (chart_gates table name)) (InLoop (chart_gates table name)) n drawn
+      woven_free c (r ∷ rs) (HighLevel drawn) at is deep q = graph_free ends_of (expand_charts ends_of table depth) (chart_gates table) known (InGate (chart_gates table name)) (InLoop (chart_gates table name)) n drawn
 
     charts_free : (depth : ℕ) (name : List ℕ) (gates : GateMap) (n : ℕ) → Shut (chart_gates table name) n (expand_charts ends_of table depth name gates n)
     charts_free zero name gates n = nothing_free (chart_gates table name) n
@@ -598,6 +629,7 @@ module _ (f : NumberedEvent → ExpandedEvent) (keeps : (e : NumberedEvent) → 
     looped_same (Exception x) = looped_same x
     looped_same (Turns n lower upper x) = mapped_numbers f keeps x
     looped_same (Tied x ps) = looped_same x
+    looped_same (Walk n g xs) = mapped_all_numbers f keeps xs
 
     all_looped_same : (xs : Expansions NumberedEvent) → all_looped_in (map_all_events f xs) ≡ all_in_loops xs
     all_looped_same no_parts = refl
@@ -610,6 +642,7 @@ module _ (f : NumberedEvent → ExpandedEvent) (keeps : (e : NumberedEvent) → 
     outside_ties (Aside xs) h = all_outside_ties xs h
     outside_ties (OneOf xs) h = all_outside_ties xs h
     outside_ties (Exception x) h = outside_ties x h
+    outside_ties (Walk n g xs) h = all_outside_ties xs h
     outside_ties (Turns n lower upper x) h = outside_ties x h
     outside_ties (Tied x ps) (h, i) = ((λ p j. (out p.first (h p j).0, out p.second (h p j).1)), outside_ties x i)
       where

@@ -18,6 +18,8 @@ use Rattle.msc_tree.specs.declared.reference.JoinEnd.{JoinEnd}
 use Rattle.msc_tree.specs.declared.reference.JoinEnd.TheVariants as join_end
 use Rattle.msc_tree.specs.Expressions.{Expression, Empty, Chart, Alt, Par, Seq, Opt, Expressions, none, more}
 use Rattle.msc_tree.specs.Expressions as expression
+use Rattle.msc_tree.specs.Graphs as tree
+use Rattle.msc_tree.specs.Graphs.{graph, Lines, no_lines, line_and, line, Node, Ends, Connect, Condition, Frames, Graphs, no_graphs, graph_and}
 use Rattle.msc_meaning.specs.Bodies.{EventNode, ReferencePart, Body, level, WovenItems, no_items, item_and, WovenItem, Single, Coregion, Inline, Refer, Bodies, no_bodies, body_and}
 use Rattle.msc_meaning.specs.Calls.{Call, calls, is_called, passed_to}
 use Rattle.msc_meaning.specs.FarEnds.{gate_tags}
@@ -27,15 +29,14 @@ use Rattle.msc_meaning.specs.Ties.{called_tag, past_inline, via_list, past_refer
 use Rattle.gate_ends.specs.FoundEnds.{GateEvents, no_event, an_event, both, either, in_loop, listed, event_count, seen_in, is_gate, is_name, these_if, unless, beside, operand_beside, turned, event_inner, events_inner, expression_inner, choice_inner, parts_inner}
 use Rattle.gate_ends.specs.FoundEnds.{joined_inner, joins_inner, level_inner, items_inner, item_inner, operands_inner, inline_inner, inner_of_item, inner_of, body_inner, inner_to}
 use Rattle.gate_ends.specs.JoinCounts.{join_count, joins_count, reference_count}
-use Rattle.chart_forms.specs.TableSizes.{expression_size, expressions_size, level_size, items_size, item_size, operands_size, body_size, refined_size, woven_size, entry_size, size_to}
-use Rattle.expanded_terms.specs.ExpandedTerms.{Charts, charts_to, entry_shown, event_shown, events_shown, expression_shown, expressions_shown, level_shown, items_shown, item_shown, operands_shown, refined_shown, woven_shown, expression_count, item_count, level_count}
-use Rattle.expanded_terms.specs.JoinProducts.{often, join_product, joins_product, product_in, IsFewExpression, AreFewExpressions, IsFewLevel, AreFewItems, IsFewItem, AreFewOperands, IsFewBody, AreFewRefined, IsFewWoven, IsFewEntry, IsFewTo}
-use Rattle.expanded_terms.specs.LevelOrder.{tags}
+use Rattle.chart_forms.specs.TableSizes.{lines_size, node_size, graphs_size, expression_size, expressions_size, level_size, items_size, item_size, operands_size, body_size, refined_size, woven_size, entry_size, size_to}
+use Rattle.expanded_terms.specs.ExpandedTerms.{Leaves, Charts, charts_to, entry_shown, event_shown, events_shown, expression_shown, expressions_shown, level_shown, items_shown, item_shown, operands_shown, refined_shown, woven_shown, expression_count, item_count, level_count}
+use Rattle.expanded_terms.specs.JoinProducts.{AreFewLines, IsFewNode, AreFewFrames, often, join_product, joins_product, product_in, IsFewExpression, AreFewExpressions, IsFewLevel, AreFewItems, IsFewItem, AreFewOperands, IsFewBody, AreFewRefined, IsFewWoven, IsFewEntry, IsFewTo}
 use Rattle.expanded_terms.specs.TagNumbers.{number_if}
 use Rattle.expanded_terms.proofs.DecomposedOnce.{DecomposeOnce, decompose_once}
 use Rattle.expanded_terms.proofs.FewPairs.{often_both}
 use Rattle.expanded_terms.proofs.RefinedCounts.{only_if, only_both, refined_often}
-use Rattle.expanded_terms.proofs.ShownAnywhere.{charts_same}
+use Rattle.expanded_terms.proofs.ShownAnywhere.{tags, charts_same}
 
 -- ---- inner events, counted
 
@@ -345,7 +346,7 @@ module _ (charts : Charts) (chart_inner : List ℕ → List ℕ → GateEvents) 
     woven_via : (name g : List ℕ) (n : ℕ) (c : ChartEntry) (rs : List Refinement) (w : Woven) → DecomposeOnce rs → IsFewWoven Few table rs w
         → often (Via g) (woven_shown charts table n rs w) ≤ event_count (body_inner chart_inner name (body_in (Some (record { name = c.name; decls = c.decls; content = w }))) g)
     woven_via name g n c [] (Basic b) once h = omega (arith, seen_count name (level_inner chart_inner b g), level_via g n b h)
-    woven_via name g n c [] (HighLevel drawn) once h = absurd h
+    woven_via name g n c [] (HighLevel drawn) once h = omega arith
     woven_via name g n c (r ∷ rs) (Basic (level cover held pairs)) once ((h, i), few) =
         omega (
           arith,
@@ -354,15 +355,15 @@ module _ (charts : Charts) (chart_inner : List ℕ → List ℕ → GateEvents) 
           refined_often charts same Few table n (r ∷ rs) once held few (Via g),
           items_via g (calls held) n held i,
         )
-    woven_via name g n c (r ∷ rs) (HighLevel drawn) once h = absurd h
+    woven_via name g n c (r ∷ rs) (HighLevel drawn) once h = omega arith
 
     entry_via : (name g : List ℕ) (n : ℕ) (o : Option ChartEntry) → IsFewEntry Few table o → often (Via g) (entry_shown charts table n o) ≤ event_count (body_inner chart_inner name (body_in o) g)
     entry_via name g n None h = absurd h
     entry_via name g n (Some c) h = woven_via name g n c (refinements c.decls) c.content (decompose_once c.decls) h
 
-charts_via : (event : ℕ → Happening → Tree) (ends_of : WovenItems → List GateEnd) (table : Table) (k : ℕ) (name : List ℕ) (n : ℕ) (g : List ℕ) → IsFewTo table k name → often (Via g) ((charts_to event ends_of table k).shown name n) ≤ event_count (inner_to table k name g)
-charts_via event ends_of table zero name n g h = absurd h
-charts_via event ends_of table (suc k) name n g h = entry_via (charts_to event ends_of table k) (inner_to table k) (IsFewTo table k) (charts_via event ends_of table k) (charts_same event ends_of table k) table name g n (chart_at table name) h
+charts_via : (leaves : Leaves) (ends_of : WovenItems → List GateEnd) (table : Table) (k : ℕ) (name : List ℕ) (n : ℕ) (g : List ℕ) → IsFewTo table k name → often (Via g) ((charts_to leaves ends_of table k).shown name n) ≤ event_count (inner_to table k name g)
+charts_via leaves ends_of table zero name n g h = absurd h
+charts_via leaves ends_of table (suc k) name n g h = entry_via (charts_to leaves ends_of table k) (inner_to table k) (IsFewTo table k) (charts_via leaves ends_of table k) (charts_same leaves ends_of table k) table name g n (chart_at table name) h
 
 -- ---- sizes, where joins add no more
 
@@ -407,21 +408,37 @@ module _ (size_of other_of : List ℕ → ℕ) (product other : WovenItems → R
   refined_smaller table [] h = omega arith
   refined_smaller table (r ∷ rs) (h, i) = omega (arith, body_smaller (body_at table r.chart) h, refined_smaller table rs i)
 
+  mutual
+    lines_smaller : (lines : Lines) → AreFewLines Few lines → lines_size size_of product lines ≤ lines_size other_of other lines
+    lines_smaller no_lines h = omega arith
+    lines_smaller (line_and (line label place node next) rest) (h, i) = omega (arith, node_smaller node h, lines_smaller rest i)
+
+    node_smaller : (node : Node) → IsFewNode Few node → node_size size_of product node ≤ node_size other_of other node
+    node_smaller Ends h = omega arith
+    node_smaller Connect h = omega arith
+    node_smaller (Condition names) h = omega arith
+    node_smaller (tree.Refer e) h = expression_smaller e h
+    node_smaller (Frames held) h = omega (arith, frames_smaller held h)
+
+    frames_smaller : (held : Graphs) → AreFewFrames Few held → graphs_size size_of product held ≤ graphs_size other_of other held
+    frames_smaller no_graphs h = omega arith
+    frames_smaller (graph_and (graph starts lines) rest) (h, i) = omega (arith, lines_smaller lines h, frames_smaller rest i)
+
   woven_smaller : (table : Table) (rs : List Refinement) (w : Woven) → IsFewWoven Few table rs w → woven_size size_of product table rs w ≤ woven_size other_of other table rs w
   woven_smaller table [] (Basic b) h = omega (arith, level_smaller b h)
-  woven_smaller table [] (HighLevel drawn) h = absurd h
+  woven_smaller table [] (HighLevel (graph starts lines)) h = omega (arith, lines_smaller lines h)
   woven_smaller table (r ∷ rs) (Basic b) (h, i) = omega (arith, level_smaller b h, refined_smaller table (r ∷ rs) i)
-  woven_smaller table (r ∷ rs) (HighLevel drawn) h = absurd h
+  woven_smaller table (r ∷ rs) (HighLevel (graph starts lines)) h = omega (arith, lines_smaller lines h)
 
   entry_smaller : (table : Table) (o : Option ChartEntry) → IsFewEntry Few table o → entry_size size_of product table o ≤ entry_size other_of other table o
   entry_smaller table None h = absurd h
   entry_smaller table (Some c) h = woven_smaller table (refinements c.decls) c.content h
 
-pub charts_counted : (event : ℕ → Happening → Tree) (ends_of : WovenItems → List GateEnd) (table : Table) (k : ℕ) (name : List ℕ) → IsFewTo table k name
-    → size_to (λ j. product_in (charts_to event ends_of table j)) table k name ≤ size_to (λ j. reference_count (inner_to table j)) table k name
-charts_counted event ends_of table zero name h = absurd h
-charts_counted event ends_of table (suc k) name h =
-    entry_smaller (size_to (λ j. product_in (charts_to event ends_of table j)) table k) (size_to (λ j. reference_count (inner_to table j)) table k) (product_in (charts_to event ends_of table k)) (reference_count (inner_to table k)) (IsFewTo table k)
-    (charts_counted event ends_of table k)
-    (λ whole part few. product_counted (charts_to event ends_of table k) (inner_to table k) (IsFewTo table k) (charts_via event ends_of table k) whole few part)
+pub charts_counted : (leaves : Leaves) (ends_of : WovenItems → List GateEnd) (table : Table) (k : ℕ) (name : List ℕ) → IsFewTo table k name
+    → size_to (λ j. product_in (charts_to leaves ends_of table j)) table k name ≤ size_to (λ j. reference_count (inner_to table j)) table k name
+charts_counted leaves ends_of table zero name h = absurd h
+charts_counted leaves ends_of table (suc k) name h =
+    entry_smaller (size_to (λ j. product_in (charts_to leaves ends_of table j)) table k) (size_to (λ j. reference_count (inner_to table j)) table k) (product_in (charts_to leaves ends_of table k)) (reference_count (inner_to table k)) (IsFewTo table k)
+    (charts_counted leaves ends_of table k)
+    (λ whole part few. product_counted (charts_to leaves ends_of table k) (inner_to table k) (IsFewTo table k) (charts_via leaves ends_of table k) whole few part)
     table (chart_at table name) h

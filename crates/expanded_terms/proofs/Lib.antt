@@ -4,7 +4,9 @@ mod LevelSets
 mod ChartSets
 mod LoopTurns
 mod TagTies
+mod NetNumbers
 mod PartRules
+mod WalkParts
 mod Expanded
 mod EventParts
 mod ChartParts
@@ -16,19 +18,17 @@ mod RankedTrees
 mod NodeOrders
 mod FreshLoops
 mod SoundRules
+mod ExpansionEvents
+mod NetParts
+mod HeldTerms
 mod RankedTerms
-mod TiesWithin
+pub mod TiesWithin
 mod FreeParts
 pub mod GateTies
-mod SoundExpansions
-mod SoundCharts
 pub mod RankedChartTerms
-mod Ranking
 mod WorkedExpansion
 mod WorkedTerms
 mod WorkedPremises
-mod RisingRanks
-mod EveryTerm
 mod PlacedTerms
 mod TermWeights
 mod FewPairs
@@ -38,8 +38,5 @@ mod RefinedCounts
 mod JoinCounts
 mod LightCharts
 mod WholeCharts
-mod NormalTerms
-mod ShownWithin
-mod LevelOrder
-mod RisingTexts
 mod DeeperCharts
+mod NamedEvents

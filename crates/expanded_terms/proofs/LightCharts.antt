@@ -17,6 +17,8 @@ use Rattle.msc_tree.specs.declared.reference.JoinEnd.{JoinEnd}
 use Rattle.msc_tree.specs.declared.reference.JoinEnd.TheVariants as join_end
 use Rattle.msc_tree.specs.Expressions.{Expression, Empty, Chart, Alt, Par, Seq, Opt, Expressions, none, more}
 use Rattle.msc_tree.specs.Expressions as expression
+use Rattle.msc_tree.specs.Graphs as tree
+use Rattle.msc_tree.specs.Graphs.{graph, Lines, no_lines, line_and, line, Node, Ends, Connect, Condition, Frames, Graphs, no_graphs, graph_and}
 use Rattle.msc_meaning.specs.Bodies.{Body, level, WovenItems, no_items, item_and, WovenItem, Single, Coregion, Inline, Refer, Bodies, no_bodies, body_and}
 use Rattle.msc_meaning.specs.Calls.{calls}
 use Rattle.msc_meaning.specs.FarEnds.{GateMap, end_at}
@@ -24,17 +26,16 @@ use Rattle.msc_meaning.specs.InnerEvents.{GateEnd}
 use Rattle.msc_meaning.specs.Refinements.{refining_by, refinings, is_decomposed, without_decomposed}
 use Rattle.msc_meaning.specs.Tables.{Table, ChartEntry, chart_at, body_at, Woven, Basic, HighLevel, Refinement, refinements}
 use Rattle.msc_meaning.specs.Ties.{in_order, tie_by, join_tie, joins_ties, items_joins_ties, ties}
-use Rattle.expanded_terms.specs.ExpandedSizes.{HasFewInExpression, HaveFewInExpressions, HasFewPairs, HaveFewPairs, HasFewWithin, EachHasFew, HaveFewInRefinings, HasFewInWoven, HasFewInEntry, HasFewTo}
-use Rattle.expanded_terms.specs.ExpandedTerms.{Charts, charts_to, items_shown, expression_count, items_count, item_count, level_count}
+use Rattle.expanded_terms.specs.ExpandedSizes.{AreLeavesLight, HaveFewInLines, HasFewInNode, HaveFewInFrames, HasFewInExpression, HaveFewInExpressions, HasFewPairs, HaveFewPairs, HasFewWithin, EachHasFew, HaveFewInRefinings, HasFewInWoven, HasFewInEntry, HasFewTo}
+use Rattle.expanded_terms.specs.ExpandedTerms.{node_count, graph_count, Leaves, Charts, charts_to, items_shown, expression_count, items_count, item_count, level_count}
 use Rattle.expanded_terms.specs.FewPairs.{products}
-use Rattle.expanded_terms.specs.JoinProducts.{often, join_product, joins_product, product_in, IsFewExpression, AreFewExpressions, IsFewLevel, AreFewItems, IsFewItem, AreFewOperands, IsFewBody, AreFewRefined, IsFewWoven, IsFewEntry, IsFewTo, ChartsAreLight}
-use Rattle.expanded_terms.specs.LevelOrder.{tags}
+use Rattle.expanded_terms.specs.JoinProducts.{AreFewLines, IsFewNode, AreFewFrames, often, join_product, joins_product, product_in, IsFewExpression, AreFewExpressions, IsFewLevel, AreFewItems, IsFewItem, AreFewOperands, IsFewBody, AreFewRefined, IsFewWoven, IsFewEntry, IsFewTo, ChartsAreLight}
 use Rattle.expanded_terms.specs.TagNumbers.{numbers_with, pairs_between, tied_numbers}
 use Rattle.expanded_terms.proofs.FewPairs.{length_app, between_length, tied_both, few_pairs_have_room}
 use Rattle.expanded_terms.proofs.DecomposedOnce.{DecomposeOnce, decompose_once}
 use Rattle.expanded_terms.proofs.JoinCounts.{charts_counted}
 use Rattle.expanded_terms.proofs.RefinedCounts.{is_one, total, often_total, refined_room}
-use Rattle.expanded_terms.proofs.ShownAnywhere.{items_same, charts_same}
+use Rattle.expanded_terms.proofs.ShownAnywhere.{tags, items_same, charts_same}
 use Rattle.expanded_terms.proofs.TermWeights.{expanded_terms_weigh}
 
 -- ---- products
@@ -142,9 +143,25 @@ module _ (charts : Charts) (same : (name : List ℕ) (n m : ℕ) → tags (chart
     left_few rs (item_and (Inline form part operands) xs) (h, i) = (h, left_few rs xs i)
     left_few rs (item_and (Refer part) xs) (h, i) = (h, left_few rs xs i)
 
+    mutual
+      lines_few : (n : ℕ) (lines : Lines) → AreFewLines Few lines → HaveFewInLines charts (product_in charts) ends_of HasFew n lines
+      lines_few n no_lines h = tt
+      lines_few n (line_and (line label place node next) rest) (h, i) = (node_few n node h, lines_few (n + node_count charts node) rest i)
+
+      node_few : (n : ℕ) (node : Node) → IsFewNode Few node → HasFewInNode charts (product_in charts) ends_of HasFew n node
+      node_few n Ends h = tt
+      node_few n Connect h = tt
+      node_few n (Condition names) h = tt
+      node_few n (tree.Refer e) h = expression_few n e h
+      node_few n (Frames held) h = frames_few n held h
+
+      frames_few : (n : ℕ) (held : Graphs) → AreFewFrames Few held → HaveFewInFrames charts (product_in charts) ends_of HasFew n held
+      frames_few n no_graphs h = tt
+      frames_few n (graph_and (graph starts lines) rest) (h, i) = (lines_few (suc n) lines h, frames_few (n + graph_count charts (graph starts lines)) rest i)
+
     woven_few : (table : Table) (n : ℕ) (rs : List Refinement) (content : Woven) → DecomposeOnce rs → IsFewWoven Few table rs content → HasFewInWoven charts (product_in charts) ends_of HasFew table n rs content
     woven_few table n [] (Basic held) once h = level_few n held h
-    woven_few table n [] (HighLevel drawn) once h = h
+    woven_few table n [] (HighLevel (graph starts lines)) once h = lines_few (suc n) lines h
     woven_few table n (r ∷ rs) (Basic (level cover held pairs)) once ((h, i), few) =
         let left = without_decomposed (r ∷ rs) held in
         let room = few_pairs_have_room.room charts (product_in charts) ends_of n cover held pairs h (items_most (ends_of held) held n held) in (
@@ -152,20 +169,20 @@ module _ (charts : Charts) (same : (name : List ℕ) (n m : ℕ) → tags (chart
           items_few n left (left_few (r ∷ rs) held i),
           refinings_few table held (n + items_count charts left) (r ∷ rs) few,
         )
-    woven_few table n (r ∷ rs) (HighLevel drawn) once h = h
+    woven_few table n (r ∷ rs) (HighLevel (graph starts lines)) once h = lines_few (suc n) lines h
 
     entry_few : (table : Table) (n : ℕ) (o : Option ChartEntry) → IsFewEntry Few table o → HasFewInEntry charts (product_in charts) ends_of HasFew table n o
     entry_few table n None h = h
     entry_few table n (Some entry) h = woven_few table n (refinements entry.decls) entry.content (decompose_once entry.decls) h
 
-charts_few : (event : ℕ → Happening → Tree) (ends_of : WovenItems → List GateEnd) (table : Table) (k : ℕ) (name : List ℕ) (n : ℕ) → IsFewTo table k name → HasFewTo event (λ j. product_in (charts_to event ends_of table j)) ends_of table k name n
-charts_few event ends_of table zero name n h = h
-charts_few event ends_of table (suc k) name n h =
-    entry_few (charts_to event ends_of table k) (charts_same event ends_of table k) ends_of (IsFewTo table k) (HasFewTo event (λ j. product_in (charts_to event ends_of table j)) ends_of table k) (charts_few event ends_of table k) table n (chart_at table name) h
+charts_few : (leaves : Leaves) (ends_of : WovenItems → List GateEnd) (table : Table) (k : ℕ) (name : List ℕ) (n : ℕ) → IsFewTo table k name → HasFewTo leaves (λ j. product_in (charts_to leaves ends_of table j)) ends_of table k name n
+charts_few leaves ends_of table zero name n h = h
+charts_few leaves ends_of table (suc k) name n h =
+    entry_few (charts_to leaves ends_of table k) (charts_same leaves ends_of table k) ends_of (IsFewTo table k) (HasFewTo leaves (λ j. product_in (charts_to leaves ends_of table j)) ends_of table k) (charts_few leaves ends_of table k) table n (chart_at table name) h
 
-charts_weigh : ConstructorsWeigh → (event : ℕ → Happening → Tree) (ends_of : WovenItems → List GateEnd) (table : Table) (depth : ℕ) (name : List ℕ) (gates : GateMap) (n : ℕ) → ((i : ℕ) (h : Happening) → weight (event i h) ≤ 1) → IsFewTo table depth name
-    → weight ((charts_to event ends_of table depth).term name gates n) ≤ size_to (λ k. product_in (charts_to event ends_of table k)) table depth name
-charts_weigh weigh event ends_of table depth name gates n one few = (expanded_terms_weigh weigh).weighs event (λ k. product_in (charts_to event ends_of table k)) ends_of table depth name gates n one (charts_few event ends_of table depth name n few)
+charts_weigh : ConstructorsWeigh → (leaves : Leaves) (ends_of : WovenItems → List GateEnd) (table : Table) (depth : ℕ) (name : List ℕ) (gates : GateMap) (n : ℕ) → AreLeavesLight leaves → IsFewTo table depth name
+    → weight ((charts_to leaves ends_of table depth).term name gates n) ≤ size_to (λ k. product_in (charts_to leaves ends_of table k)) table depth name
+charts_weigh weigh leaves ends_of table depth name gates n one few = (expanded_terms_weigh weigh).weighs leaves (λ k. product_in (charts_to leaves ends_of table k)) ends_of table depth name gates n one (charts_few leaves ends_of table depth name n few)
 
 below : (a b c : ℕ) → a ≤ b → b ≤ c → a ≤ c
 below a b c l m = omega (arith, l, m)
@@ -173,7 +190,7 @@ below a b c l m = omega (arith, l, m)
 pub charts_are_light : ConstructorsWeigh → ChartsAreLight
 charts_are_light weigh = record {
   light = charts_weigh weigh;
-  counted = λ event ends_of table depth name gates n one few.
-      below (weight ((charts_to event ends_of table depth).term name gates n)) (size_to (λ k. product_in (charts_to event ends_of table k)) table depth name) (size_to (λ k. reference_count (inner_to table k)) table depth name)
-      (charts_weigh weigh event ends_of table depth name gates n one few) (charts_counted event ends_of table depth name few);
+  counted = λ leaves ends_of table depth name gates n one few.
+      below (weight ((charts_to leaves ends_of table depth).term name gates n)) (size_to (λ k. product_in (charts_to leaves ends_of table k)) table depth name) (size_to (λ k. reference_count (inner_to table k)) table depth name)
+      (charts_weigh weigh leaves ends_of table depth name gates n one few) (charts_counted leaves ends_of table depth name few);
 }

@@ -1,7 +1,7 @@
 -- The events of a chart's term stand where their labels say.
 use Rattle.std.specs.List.{slice_get}
 use Rattle.std.specs.Option.{unwrap_or}
-use Rattle.std.specs.Prelude.{ℕ, Bool, true, false, not, ◌&&◌, List, [], ◌∷◌, Option, None, Some, nat_lt}
+use Rattle.std.specs.Prelude.{ℕ, Bool, true, false, List, Option, None, Some, nat_lt}
 use Rattle.std.proofs.Common.{◌≡◌, ◌∙◌, refl, sym, ap}
 use Rattle.msc_base.specs.declared.label.Kind.{Kind}
 use Rattle.msc_base.specs.declared.label.Kind.TheVariants as kind
@@ -9,54 +9,15 @@ use Rattle.msc_base.specs.declared.label.Far.{Far}
 use Rattle.msc_base.specs.declared.label.Far.TheVariants as far
 use Rattle.msc_base.specs.declared.label.Label.{Label}
 use Rattle.msc_unfolding.specs.Unfoldings.{Happening}
-use Rattle.chart_term.specs.NormalForms.{choice_of, is_nil}
-use Rattle.chart_term.specs.Properties.{MayHave}
 use Rattle.chart_term.specs.TermPatterns.{instances_of}
-use Rattle.chart_term.specs.Terms.{Tree, Nil}
-use Rattle.term_laws.specs.Permission.{permits_of}
-use Rattle.term_laws.specs.Placing.{AreEventsPlaced}
-use Rattle.term_laws.proofs.Placed.{choice-placed, join-placed, tie-placed}
+use Rattle.term_laws.specs.Placing.{IsPlaced}
 use Rattle.msc_tree.specs.declared.event.Target.{Target}
 use Rattle.msc_tree.specs.declared.event.Target.TheVariants.{Instance}
-use Rattle.msc_meaning.specs.FarEnds.{no_gates, child_by, written_far, far_end}
-use Rattle.expanded_terms.specs.ExpandedTerms.{leave_turn, turns_if, turns_of}
-use Rattle.expanded_terms.specs.NamedEvents.{event_at_two, event_at, name_number, number_of_label, second_number, event_term}
-use Rattle.expanded_terms.specs.PlacedTerms.{child_at, child_of, IsPlaceable, IsCreation, ChildrenAreFarEnds, ExpandedTermsPlaced}
-use Rattle.expansion_terms.proofs.Kept.{IsKept}
-use Rattle.expanded_terms.proofs.EveryTerm.{charts_kept}
+use Rattle.msc_meaning.specs.FarEnds.{child_by, written_far, far_end}
+use Rattle.expanded_terms.specs.NamedEvents.{event_at_two, event_at, name_number, number_of_label, second_number, event_named}
+use Rattle.expanded_terms.specs.PlacedTerms.{child_at, child_of, label_place, places, IsPlaceable, IsCreation, ChildrenAreFarEnds, EventsArePlaced}
 
 module _ (names : List (List ℕ)) (labels : List Label) where
-  -- the instances that the label gives
-  abbrev label_place : ℕ → Option Label → List ℕ
-  label_place k None = []
-  label_place k (Some l) = (instances_of (event_at 0 k (name_number names labels l.at) (second_number names labels (child_of l)))).instances
-
-  abbrev places : ℕ → List ℕ
-  places k = label_place k (slice_get labels k)
-
-  abbrev P : Tree → Type 0
-  P = AreEventsPlaced places
-
-  there : (o : Option Tree) → MayHave P o → P (unwrap_or o Nil)
-  there None i = tt
-  there (Some x) i = i
-
-  turns_placed : (lower : ℕ) (upper : Option ℕ) (x : Tree) → P x → P (turns_of lower upper x)
-  turns_placed lower upper x h = by (leave_turn lower upper && not (is_nil (Some x)))
-    where
-      by : (b : Bool) → P (turns_if b lower upper x)
-      by true = (h, tt, tt)
-      by false = tt
-
-  placed_kept : IsKept P
-  placed_kept = record {
-    nothing = tt;
-    both = λ m x y h i. join-placed places (permits_of []) m (x ∷ y ∷ []) (h, (i, tt));
-    some = λ xs h. there (choice_of xs) (choice-placed places (permits_of []) xs h);
-    tied = λ x q h. tie-placed places (permits_of []) x q h;
-    turns = turns_placed;
-  }
-
   -- the instances of an event aren't changed by its number or label
   two_instances : (b : Bool) (n k m l i j : ℕ) → (instances_of (event_at_two b n l i j)).instances ≡ (instances_of (event_at_two b k m i j)).instances
   two_instances true n k m l i j = refl
@@ -74,13 +35,13 @@ module _ (names : List (List ℕ)) (labels : List Label) where
   at_label n l i None = refl
   at_label n l i (Some j) = two_label (nat_lt j i) n l i j
 
-  event_placed : (n : ℕ) (h : Happening) → IsPlaceable names labels h → P (event_term names labels n h)
+  event_placed : (n : ℕ) (h : Happening) → IsPlaceable names labels h → IsPlaced (places names labels) (event_named names labels n h)
   event_placed n h p =
       let l = number_of_label names labels h.label in
       let i = name_number names labels h.label.at in
       let o = second_number names labels h.also in
-      ap places (at_label n l i o)
-      ∙ (ap (label_place l) p.label
+      ap (places names labels) (at_label n l i o)
+      ∙ (ap (label_place names labels l) p.label
       ∙ (any_number 0 n l l i (second_number names labels (child_of h.label))
       ∙ ap (λ (c : Option (List ℕ)). (instances_of (event_at n l i (second_number names labels c))).instances) (sym p.child)))
 
@@ -104,12 +65,5 @@ children ends around n creates = by_kind n.event.kind n.event.target (far_end en
     at : (c : IsCreation around n) → far_end ends around n ≡ far.Instance c.child
     at c = ap (λ (o : Option Far). unwrap_or o (written_far ends around.gates n.event.target)) c.free ∙ ap (written_far ends around.gates) c.target
 
-pub expanded_terms_placed : ExpandedTermsPlaced
-expanded_terms_placed = record {
-  placed = λ names labels table ends_of depth name fit. record {
-    places = places names labels;
-    nets = tt;
-    term = charts_kept (P names labels) (placed_kept names labels) table ends_of (event_term names labels) (IsPlaceable names labels) (event_placed names labels) depth name no_gates 0 fit;
-  };
-  children = children;
-}
+pub events_are_placed : EventsArePlaced
+events_are_placed = record { placed = event_placed; children = children }

@@ -1,7 +1,7 @@
 -- Soundness of the term of an expansion that can be ranked, construct by construct. Outside a loop all its events have the rank of the
 -- whole loop.
 use Rattle.std.specs.Prelude.{ℕ, ◌+◌, ◌<◌, ◌==◌, ◌&&◌, ◌||◌, Bool, true, false, List, [], ◌∷◌, ◌++◌, Option, Some, None, length, map, nat_lt}
-use Rattle.std.proofs.Common.{◌≡◌, ◌⊎◌, refl, sym, ◌∙◌, subst, ap, inl, inr, arith}
+use Rattle.std.proofs.Common.{◌≡◌, ◌⊎◌, length-append, refl, sym, ◌∙◌, subst, ap, inl, inr, arith}
 use Rattle.std.proofs.lemmas.Bool.Decides.{Decides-eqb, Decides-ltb}
 use Rattle.std.proofs.lemmas.List.{map-append}
 use Rattle.msc_base.specs.declared.label.Pair.{Pair}
@@ -17,8 +17,9 @@ use Rattle.sound_terms.specs.Intervals.{IsInside}
 use Rattle.sound_terms.specs.NumberLaws.{NumbersAreKept}
 use Rattle.sound_terms.proofs.Mapped.{among_map}
 use Rattle.sound_terms.proofs.Ordering.{among_left, among_right}
-use Rattle.term_laws.specs.FullSoundness.{AreSoundNets, ConstructorsKeepSoundness}
-use Rattle.expansion_tree.specs.Expansions.{Event, InRow, Aside, OneOf, Exception, Turns, Tied, no_parts, part_and, is_exception, events_in, all_events_in}
+use Rattle.term_laws.specs.FullSoundness.{AreSoundNets, IsSoundNode, ConstructorsKeepSoundness}
+use Rattle.sound_terms.specs.TableLaws.{TablesStaySound}
+use Rattle.expansion_tree.specs.Expansions.{Event, InRow, Aside, OneOf, Exception, Turns, Tied, Walk, no_parts, part_and, is_exception, events_in}
 use Rattle.expansion_tree.specs.Numbered.{Expansion, Expansions}
 use Rattle.expansion_tree.specs.declared.tree.ExpandedEvent.{ExpandedEvent}
 use Rattle.expansion_order.specs.Ranks.{DoPrecede, IsRanked, AreRankedInRow, AreRanked, CanBeRanked}
@@ -26,80 +27,16 @@ use Rattle.expansion_order.specs.Stops.{second_stop, stops, all_stops, counted, 
 use Rattle.expansion_order.specs.Stops as order
 use Rattle.expansion_order.specs.declared.stops.Stop.{Stop}
 use Rattle.expansion_terms.specs.Constructors.{one_of, placed}
+use Rattle.expansion_tree.specs.Walks.{EachWalk, EachWalkIn}
+use Rattle.expansion_terms.specs.MadeTerms.{IsWalkOf}
 use Rattle.expansion_terms.specs.ExpansionTerms.{numbered_term, event_term, row_term, aside_term, part_terms}
-use Rattle.expanded_terms.specs.ExpansionNumbers.{CountFrom}
-use Rattle.expanded_terms.specs.RankedExpansions.{numbers_of}
-use Rattle.expanded_terms.specs.RankedTerms.{numbers_in, looped_in, all_looped_in, IsOwn, EachTie, EachTies, RankedExpansionsAreSound}
-use Rattle.expanded_terms.specs.SoundParts.{IsSoundPart, AreSoundParts}
+use Rattle.expanded_terms.specs.ExpansionNumbers.{CountFrom, numbers_by, all_numbers_by}
+use Rattle.expanded_terms.specs.RankedTerms.{expanded_number, numbers_in, looped_in, all_looped_in, IsOwn, EachTie, EachTies, RankedExpansionsAreSound}
+use Rattle.expanded_terms.specs.SoundParts.{IsSoundPart, AreSoundParts, numbers_of}
 use Rattle.expanded_terms.proofs.CountedNumbers.{count_front, count_rest, count_inside}
 use Rattle.expanded_terms.proofs.SoundRules.{sound_nothing, sound_until, sound_event, sound_front, sound_two, sound_none, sound_some, sound_chosen, sound_tied, sound_turns}
-
--- ---- events
-
-abbrev named : ExpandedEvent → TermEvent
-named e = record { number = e.number; at = e.at; also = e.also; label = e.label }
-
-abbrev mutual
-  term_events : Expansion → List TermEvent
-  term_events (Event e) = named e ∷ []
-  term_events (InRow xs) = all_term_events xs
-  term_events (Aside xs) = all_term_events xs
-  term_events (OneOf xs) = all_term_events xs
-  term_events (Exception x) = term_events x
-  term_events (Turns n lower upper x) = term_events x
-  term_events (Tied x ps) = term_events x
-
-  all_term_events : Expansions → List TermEvent
-  all_term_events no_parts = []
-  all_term_events (part_and x xs) = term_events x ++ all_term_events xs
-
-abbrev nums : Expansion → List ℕ
-nums x = numbers_of (term_events x)
-
-abbrev all_nums : Expansions → List ℕ
-all_nums xs = numbers_of (all_term_events xs)
-
-mutual
-  same_events : (x : Expansion) → map named (events_in x) ≡ term_events x
-  same_events (Event e) = refl
-  same_events (InRow xs) = same_all_events xs
-  same_events (Aside xs) = same_all_events xs
-  same_events (OneOf xs) = same_all_events xs
-  same_events (Exception x) = same_events x
-  same_events (Turns n lower upper x) = same_events x
-  same_events (Tied x ps) = same_events x
-
-  same_all_events : (xs : Expansions) → map named (all_events_in xs) ≡ all_term_events xs
-  same_all_events no_parts = refl
-  same_all_events (part_and x xs) = map-append named (events_in x) (all_events_in xs) ∙ ap (λ (l : List TermEvent). l ++ map named (all_events_in xs)) (same_events x) ∙ ap (λ (l : List TermEvent). term_events x ++ l) (same_all_events xs)
-
-numbers_named : (es : List ExpandedEvent) → numbers_of (map named es) ≡ map (λ (e : ExpandedEvent). e.number) es
-numbers_named [] = refl
-numbers_named (e ∷ es) = ap (λ (l : List ℕ). e.number ∷ l) (numbers_named es)
-
-same_numbers : (x : Expansion) → nums x ≡ numbers_in x
-same_numbers x = ap numbers_of (sym (same_events x)) ∙ numbers_named (events_in x)
-
-numbers_app : (a b : List TermEvent) → numbers_of (a ++ b) ≡ numbers_of a ++ numbers_of b
-numbers_app a b = map-append (λ (e : TermEvent). e.number) a b
-
-split_among : {A : Type 0} (a b : List A) (e : A) → Among e (a ++ b) → Among e a ⊎ Among e b
-split_among [] b e h = inr h
-split_among (d ∷ a) b _ first = inl first
-split_among (d ∷ a) b e (later h) = elim (split_among a b e h) [ inl i ↦ inl (later i) | inr i ↦ inr i ]
-
-unmap : (es : List ExpandedEvent) (d : TermEvent) → Among d (map named es) → (e : ExpandedEvent) × Among e es × (d ≡ named e)
-unmap (e ∷ es) _ first = (e, first, refl)
-unmap (e ∷ es) d (later h) = let (f, i, q) = unmap es d h in (f, later i, q)
-unmap [] d h = elim h [ ]
-
-event_of_number : (es : List TermEvent) (j : ℕ) → Among j (numbers_of es) → (e : TermEvent) × Among e es × (e.number ≡ j)
-event_of_number (e ∷ es) _ first = (e, first, refl)
-event_of_number (e ∷ es) j (later h) = let (f, i, q) = event_of_number es j h in (f, later i, q)
-event_of_number [] j h = elim h [ ]
-
-number_among : (es : List TermEvent) (e : TermEvent) → Among e es → Among e.number (numbers_of es)
-number_among es e h = among_map (λ (e : TermEvent). e.number) h
+use Rattle.expanded_terms.proofs.ExpansionEvents.{named, term_events, all_term_events, nums, all_nums, same_events, same_numbers, all_same_numbers, split_among, unmap, event_of_number, number_among, number_in, number_in_all}
+use Rattle.expanded_terms.proofs.HeldTerms.{parts_held, walk_sound}
 
 -- ---- instances
 
@@ -153,6 +90,7 @@ mutual
   stops_at (Exception x) e k h i = stops_at x e k h i
   stops_at (Turns n lower upper x) e k h i = stops_at x e k h i
   stops_at (Tied x ps) e k h i = stops_at x e k h i
+  stops_at (Walk n g xs) e k h i = all_stops_at xs e k h i
 
   all_stops_at : (xs : Expansions) (e : TermEvent) (k : ℕ) → Among e (all_term_events xs) → IsAt e k → StopsAt (all_stops xs) k
   all_stops_at no_parts e k h i = elim h [ ]
@@ -173,6 +111,7 @@ module _ (q rank : ℕ → ℕ) where
     IsBy (Exception x) = IsBy x
     IsBy (Turns n lower upper x) = (e : TermEvent) → Among e (term_events x) → q e.number ≡ rank n
     IsBy (Tied x ps) = IsBy x
+    IsBy (Walk n g xs) = (e : TermEvent) → Among e (all_term_events xs) → q e.number ≡ rank n
 
     AreBy : Expansions → Type 0
     AreBy no_parts = Unit {0}
@@ -191,6 +130,7 @@ mutual
   by_alike p q rank (Exception x) f h = by_alike p q rank x f h
   by_alike p q rank (Turns n lower upper x) f h = λ e i. f e i ∙ h e i
   by_alike p q rank (Tied x ps) f h = by_alike p q rank x f h
+  by_alike p q rank (Walk n g xs) f h = λ e i. f e i ∙ h e i
 
   all_by_alike : (p q rank : ℕ → ℕ) (xs : Expansions) → AreAlike p q (all_term_events xs) → AreBy q rank xs → AreBy p rank xs
   all_by_alike p q rank no_parts f h = tt
@@ -199,11 +139,8 @@ mutual
     all_by_alike p q rank xs (λ e j. f e (among_right (term_events x) (all_term_events xs) e j)) i,
   )
 
-count_both_of : (n : ℕ) (a b : List TermEvent) → CountFrom n (numbers_of (a ++ b)) → CountFrom n (numbers_of a) × CountFrom (n + length (numbers_of a)) (numbers_of b)
-count_both_of n a b h = (count_front n (numbers_of a) (numbers_of b) split, count_rest n (numbers_of a) (numbers_of b) split)
-  where
-    split : CountFrom n (numbers_of a ++ numbers_of b)
-    split = subst (λ (l : List ℕ). CountFrom n l) (numbers_app a b) h
+count_both_of : (n : ℕ) (x : Expansion) (xs : Expansions) → CountFrom n (nums x ++ all_nums xs) → CountFrom n (nums x) × CountFrom (n + length (nums x)) (all_nums xs)
+count_both_of n x xs h = (count_front n (nums x) (all_nums xs) h, count_rest n (nums x) (all_nums xs) h)
 
 -- there are such ranks
 abbrev chosen : Bool → ℕ → ℕ → ℕ
@@ -232,18 +169,19 @@ mutual
   ranks_by rank n (Exception x) h = ranks_by rank n x h
   ranks_by rank n (Turns m lower upper x) h = ((λ j. rank m), λ e i. refl)
   ranks_by rank n (Tied x ps) h = ranks_by rank n x h
+  ranks_by rank n (Walk m g xs) h = ((λ j. rank m), λ e i. refl)
 
   all_ranks_by : (rank : ℕ → ℕ) (n : ℕ) (xs : Expansions) → CountFrom n (all_nums xs) → (q : ℕ → ℕ) × AreBy q rank xs
   all_ranks_by rank n no_parts h = (rank, tt)
-  all_ranks_by rank n (part_and x xs) h = put (ranks_by rank n x (count_both_of n (term_events x) (all_term_events xs) h).0) (all_ranks_by rank (n + length (nums x)) xs (count_both_of n (term_events x) (all_term_events xs) h).1)
+  all_ranks_by rank n (part_and x xs) h = put (ranks_by rank n x (count_both_of n x xs h).0) (all_ranks_by rank (n + length (nums x)) xs (count_both_of n x xs h).1)
     where
       put : (q : ℕ → ℕ) × IsBy q rank x → (q : ℕ → ℕ) × AreBy q rank xs → (q : ℕ → ℕ) × AreBy q rank (part_and x xs)
       put (p, i) (q, j) = (
         below (n + length (nums x)) p q,
         (
-          by_alike (below (n + length (nums x)) p q) p rank x (λ e k. below_low (n + length (nums x)) p q e.number (low e (count_inside n (nums x) e.number (count_both_of n (term_events x) (all_term_events xs) h).0 (number_among (term_events x) e k)))) i,
+          by_alike (below (n + length (nums x)) p q) p rank x (λ e k. below_low (n + length (nums x)) p q e.number (low e (count_inside n (nums x) e.number (count_both_of n x xs h).0 (number_in x e k)))) i,
           all_by_alike (below (n + length (nums x)) p q) q rank xs
-              (λ e k. below_high (n + length (nums x)) p q e.number (high e (count_inside (n + length (nums x)) (all_nums xs) e.number (count_both_of n (term_events x) (all_term_events xs) h).1 (number_among (all_term_events xs) e k)))) j,
+              (λ e k. below_high (n + length (nums x)) p q e.number (high e (count_inside (n + length (nums x)) (all_nums xs) e.number (count_both_of n x xs h).1 (number_in_all xs e k)))) j,
         ),
       )
         where
@@ -275,6 +213,7 @@ module _ (q rank : ℕ → ℕ) where
     stands (Exception x) e k b h i = stands x e k b h i
     stands (Turns n lower upper x) e k b h i = let s = stops_at x e k h i in record { stop = order.numbered n s.stop; among = among_map (order.numbered n) s.among; at = s.at; ranked = b e h }
     stands (Tied x ps) e k b h i = stands x e k b h i
+    stands (Walk n g xs) e k b h i = let s = all_stops_at xs e k h i in record { stop = order.numbered n s.stop; among = among_map (order.numbered n) s.among; at = s.at; ranked = b e h }
 
     all_stand : (xs : Expansions) (e : TermEvent) (k : ℕ) → AreBy q rank xs → Among e (all_term_events xs) → IsAt e k → Stands q rank (all_counted xs) e.number k
     all_stand no_parts e k b h i = elim h [ ]
@@ -308,6 +247,7 @@ module _ (q rank : ℕ → ℕ) where
     own_rank (Exception x) e b h f = own_rank x e b h f
     own_rank (Turns n lower upper x) e b h f = absurd (f (subst (λ (l : List ℕ). Among e.number l) (same_numbers x) (number_among (term_events x) e h)))
     own_rank (Tied x ps) e b h f = own_rank x e b h f
+    own_rank (Walk n g xs) e b h f = absurd (f (subst (λ (l : List ℕ). Among e.number l) (all_same_numbers xs) (number_among (all_term_events xs) e h)))
 
     own_ranks : (xs : Expansions) (e : TermEvent) → AreBy q rank xs → Among e (all_term_events xs) → (Among e.number (all_looped_in xs) → ⊥) → q e.number ≡ rank e.number
     own_ranks no_parts e b h f = elim h [ ]
@@ -362,98 +302,108 @@ module _ (q rank : ℕ → ℕ) (x : Expansion) (ps : List Pair) (b : IsBy q ran
 
 -- ---- constructs
 
-module _ (keep : ConstructorsKeepSoundness) (by_form : TiesByForm) (kept : NumbersAreKept) (labels : ℕ) (w : Tables) (nets : AreSoundNets labels w) where
-  abbrev Part : (ℕ → ℕ) → ℕ → List TermEvent → List ℕ → Tree → Type 0
-  Part r n es ls x = IsSoundPart labels w r n (n + length (numbers_of es)) es ls x
+module _ (keep : ConstructorsKeepSoundness) (by_form : TiesByForm) (kept : NumbersAreKept) (stay : TablesStaySound) (labels : ℕ) (w : Tables) (nets : AreSoundNets labels w) (walk : ℕ → Tree) where
+  abbrev Part : (ℕ → ℕ) → ℕ → List ℕ → List TermEvent → List ℕ → Tree → Type 0
+  Part r n ns es ls x = IsSoundPart labels w r n (n + length ns) es ls x
+
+  -- a part, and parts as one
+  abbrev Whole : (ℕ → ℕ) → ℕ → Expansion → Tree → Type 0
+  Whole r n x y = Part r n (nums x) (term_events x) (looped_in x) y
+
+  abbrev All : (ℕ → ℕ) → ℕ → Expansions → Tree → Type 0
+  All r n xs y = Part r n (all_nums xs) (all_term_events xs) (all_looped_in xs) y
+
+  abbrev Parts : (ℕ → ℕ) → ℕ → Expansions → List Tree → Type 0
+  Parts r n xs ys = AreSoundParts labels w r n (n + length (all_nums xs)) (all_term_events xs) (all_looped_in xs) ys
 
   abbrev AreLabelled : List TermEvent → Type 0
   AreLabelled es = (e : TermEvent) → Among e es → e.label < labels
 
-  both_length : (n : ℕ) (es fs : List TermEvent) → n + length (numbers_of es) + length (numbers_of fs) ≡ n + length (numbers_of (es ++ fs))
-  both_length n [] fs = omega arith
-  both_length n (e ∷ es) fs = let r = both_length n es fs in omega (arith, r)
+  abbrev AreWalks : Expansion → Type 0
+  AreWalks x = EachWalk (λ m g xs. IsWalkOf w g (part_terms event_term walk xs) (walk m)) x
+
+  abbrev AreWalksIn : Expansions → Type 0
+  AreWalksIn xs = EachWalkIn (λ m g xs. IsWalkOf w g (part_terms event_term walk xs) (walk m)) xs
+
+  both_length : (n : ℕ) (a b : List ℕ) → n + length a + length b ≡ n + length (a ++ b)
+  both_length n a b = omega (arith, length-append a b)
+
+  both_until : (r : ℕ → ℕ) (n : ℕ) (x : Expansion) (xs : Expansions) (y : Tree)
+      → IsSoundPart labels w r n (n + length (nums x) + length (all_nums xs)) (term_events x ++ all_term_events xs) (looped_in x ++ all_looped_in xs) y → All r n (part_and x xs) y
+  both_until r n x xs y p =
+      sound_until keep by_form kept labels w nets r n (n + length (nums x) + length (all_nums xs)) (n + length (nums x ++ all_nums xs)) (term_events x ++ all_term_events xs) (looped_in x ++ all_looped_in xs) y (both_length n (nums x) (all_nums xs)) p
 
   in_front : (r : ℕ → ℕ) (n : ℕ) (x : Expansion) (xs : Expansions) (y z : Tree) (b : Bool) → (b ≡ false → (e f : TermEvent) → Among e (term_events x) → Among f (all_term_events xs) → numbered.meets e f ≡ true → r e.number < r f.number)
-      → Part r n (term_events x) (looped_in x) y → Part r (n + length (nums x)) (all_term_events xs) (all_looped_in xs) z → Part r n (term_events x ++ all_term_events xs) (looped_in x ++ all_looped_in xs) (placed b y z)
+      → Whole r n x y → All r (n + length (nums x)) xs z → All r n (part_and x xs) (placed b y z)
   in_front r n x xs y z false up p s =
-      sound_until keep by_form kept labels w nets r n (n + length (nums x) + length (all_nums xs)) (n + length (numbers_of (term_events x ++ all_term_events xs))) (term_events x ++ all_term_events xs) (looped_in x ++ all_looped_in xs) (placed false y z) (both_length n (term_events x) (all_term_events xs))
+      both_until r n x xs (placed false y z)
       (sound_front keep by_form kept labels w nets r n (n + length (nums x)) (n + length (nums x) + length (all_nums xs)) (term_events x) (all_term_events xs) (looped_in x) (all_looped_in xs) y z p s seq (up refl))
   in_front r n x xs y z true up p s =
-      sound_until keep by_form kept labels w nets r n (n + length (nums x) + length (all_nums xs)) (n + length (numbers_of (term_events x ++ all_term_events xs))) (term_events x ++ all_term_events xs) (looped_in x ++ all_looped_in xs) (placed true y z) (both_length n (term_events x) (all_term_events xs))
+      both_until r n x xs (placed true y z)
       (sound_chosen keep by_form kept labels w nets r n (n + length (nums x) + length (all_nums xs)) (term_events x ++ all_term_events xs) (looped_in x ++ all_looped_in xs) (y ∷ z ∷ []) (λ e. absurd cc)
       (sound_two keep by_form kept labels w nets r n (n + length (nums x)) (n + length (nums x) + length (all_nums xs)) (term_events x) (all_term_events xs) (looped_in x) (all_looped_in xs) y z p s))
 
-  at_side : (r : ℕ → ℕ) (n : ℕ) (x : Expansion) (xs : Expansions) (y z : Tree) → Part r n (term_events x) (looped_in x) y → Part r (n + length (nums x)) (all_term_events xs) (all_looped_in xs) z
-      → Part r n (term_events x ++ all_term_events xs) (looped_in x ++ all_looped_in xs) (join_all par (y ∷ z ∷ []))
+  at_side : (r : ℕ → ℕ) (n : ℕ) (x : Expansion) (xs : Expansions) (y z : Tree) → Whole r n x y → All r (n + length (nums x)) xs z → All r n (part_and x xs) (join_all par (y ∷ z ∷ []))
   at_side r n x xs y z p s =
-      sound_until keep by_form kept labels w nets r n (n + length (nums x) + length (all_nums xs)) (n + length (numbers_of (term_events x ++ all_term_events xs))) (term_events x ++ all_term_events xs) (looped_in x ++ all_looped_in xs) (join_all par (y ∷ z ∷ [])) (both_length n (term_events x) (all_term_events xs))
+      both_until r n x xs (join_all par (y ∷ z ∷ []))
       (sound_front keep by_form kept labels w nets r n (n + length (nums x)) (n + length (nums x) + length (all_nums xs)) (term_events x) (all_term_events xs) (looped_in x) (all_looped_in xs) y z p s par tt)
 
-  nothing_there : (r : ℕ → ℕ) (n : ℕ) → Part r n [] [] Nil
+  nothing_there : (r : ℕ → ℕ) (n : ℕ) → All r n no_parts Nil
   nothing_there r n = sound_until keep by_form kept labels w nets r n n (n + 0) [] [] Nil (let e : n ≡ n + 0 = omega arith in e) (sound_nothing keep by_form kept labels w nets r n)
 
-  abbrev Parts : (ℕ → ℕ) → ℕ → List TermEvent → List ℕ → List Tree → Type 0
-  Parts r n es ls xs = AreSoundParts labels w r n (n + length (numbers_of es)) es ls xs
-
-  one_there : (r : ℕ → ℕ) (n : ℕ) (xs : Expansions) → Parts r n (all_term_events xs) (all_looped_in xs) (part_terms event_term xs) → Part r n (all_term_events xs) (all_looped_in xs) (one_of (part_terms event_term xs))
+  one_there : (r : ℕ → ℕ) (n : ℕ) (xs : Expansions) → Parts r n xs (part_terms event_term walk xs) → All r n xs (one_of (part_terms event_term walk xs))
   one_there r n no_parts h = nothing_there r n
-  one_there r n (part_and x xs) h = sound_chosen keep by_form kept labels w nets r n (n + length (numbers_of (term_events x ++ all_term_events xs))) (term_events x ++ all_term_events xs) (looped_in x ++ all_looped_in xs) (numbered_term x ∷ part_terms event_term xs) (λ e. absurd cc) h
+  one_there r n (part_and x xs) h = sound_chosen keep by_form kept labels w nets r n (n + length (nums x ++ all_nums xs)) (term_events x ++ all_term_events xs) (looped_in x ++ all_looped_in xs) (numbered_term walk x ∷ part_terms event_term walk xs) (λ e. absurd cc) h
 
-  turns_there : (r : ℕ → ℕ) (n m lower : ℕ) (upper : Option ℕ) (rank : ℕ → ℕ) (x : Expansion) → IsBy r rank (Turns m lower upper x) → (o : ℕ → ℕ) → Part o n (term_events x) (looped_in x) (numbered_term x) → Part r n (term_events x) (numbers_in x) (numbered_term (Turns m lower upper x))
-  turns_there r n m lower upper rank x b o p = subst (λ (l : List ℕ). Part r n (term_events x) l (numbered_term (Turns m lower upper x))) (same_numbers x)
-      (sound_turns keep by_form kept labels w nets r o (rank m) n (n + length (nums x)) (term_events x) (looped_in x) lower upper (numbered_term x) b p)
+  turns_there : (r : ℕ → ℕ) (n m lower : ℕ) (upper : Option ℕ) (rank : ℕ → ℕ) (x : Expansion) → IsBy r rank (Turns m lower upper x) → (o : ℕ → ℕ) → Whole o n x (numbered_term walk x) → Whole r n (Turns m lower upper x) (numbered_term walk (Turns m lower upper x))
+  turns_there r n m lower upper rank x b o p = subst (λ (l : List ℕ). Part r n (nums x) (term_events x) l (numbered_term walk (Turns m lower upper x))) (same_numbers x)
+      (sound_turns keep by_form kept labels w nets r o (rank m) n (n + length (nums x)) (term_events x) (looped_in x) lower upper (numbered_term walk x) b p)
 
   mutual
-    part_sound : (r rank : ℕ → ℕ) (n : ℕ) (x : Expansion) → CountFrom n (nums x) → AreLabelled (term_events x) → EachTie IsOwn x → IsBy r rank x → IsRanked rank x → Part r n (term_events x) (looped_in x) (numbered_term x)
-    part_sound r rank n (Event e) (c, d) l t b h = sound_event keep by_form kept labels w nets r n (named e) c (l (named e) first)
-    part_sound r rank n (InRow xs) c l t b h = row_sound r rank n xs c l t b h
-    part_sound r rank n (Aside xs) c l t b h = aside_sound r rank n xs c l t b h
-    part_sound r rank n (OneOf xs) c l t b h = one_there r n xs (parts_sound r rank n xs c l t b h)
-    part_sound r rank n (Exception x) c l t b h = part_sound r rank n x c l t b h
-    part_sound r rank n (Turns m lower upper x) c l t b (own, h) =
-        let (o, k) = ranks_by own n x c in turns_there r n m lower upper rank x b o (part_sound o own n x c l t k h)
-    part_sound r rank n (Tied x ps) c l (own, t) b (up, h) =
-        sound_tied keep by_form kept labels w nets r n (n + length (nums x)) (term_events x) (looped_in x) (numbered_term x) (pairs_of ps) (pairs_up r rank x ps b own up) (pairs_out r rank x ps b own) (part_sound r rank n x c l t b h)
+    part_sound : (r rank : ℕ → ℕ) (n : ℕ) (x : Expansion) → CountFrom n (nums x) → AreLabelled (term_events x) → EachTie IsOwn x → AreWalks x → IsBy r rank x → IsRanked rank x → Whole r n x (numbered_term walk x)
+    part_sound r rank n (Event e) (c, d) l t v b h = sound_event keep by_form kept labels w nets r n (named e) c (l (named e) first)
+    part_sound r rank n (InRow xs) c l t v b h = row_sound r rank n xs c l t v b h
+    part_sound r rank n (Aside xs) c l t v b h = aside_sound r rank n xs c l t v b h
+    part_sound r rank n (OneOf xs) c l t v b h = one_there r n xs (parts_sound r rank n xs c l t v b h)
+    part_sound r rank n (Exception x) c l t v b h = part_sound r rank n x c l t v b h
+    part_sound r rank n (Turns m lower upper x) c l t v b (own, h) =
+        let (o, k) = ranks_by own n x c in turns_there r n m lower upper rank x b o (part_sound o own n x c l t v k h)
+    part_sound r rank n (Tied x ps) c l (own, t) v b (up, h) =
+        sound_tied keep by_form kept labels w nets r n (n + length (nums x)) (term_events x) (looped_in x) (numbered_term walk x) (pairs_of ps) (pairs_up r rank x ps b own up) (pairs_out r rank x ps b own) (part_sound r rank n x c l t v b h)
+    part_sound r rank n (Walk m g xs) c l t v b h =
+        subst (λ (ls : List ℕ). Part r n (m ∷ all_nums xs) (all_term_events xs) ls (walk m)) (all_same_numbers xs)
+        (walk_sound keep stay labels w nets r (rank m) n (n + length (m ∷ all_nums xs)) (all_term_events xs) g (part_terms event_term walk xs) (walk m) v.0 (parts_held labels w nets walk xs v.1) b (omega arith))
 
-    row_sound : (r rank : ℕ → ℕ) (n : ℕ) (xs : Expansions) → CountFrom n (all_nums xs) → AreLabelled (all_term_events xs) → EachTies IsOwn xs → AreBy r rank xs → AreRankedInRow rank xs
-        → Part r n (all_term_events xs) (all_looped_in xs) (row_term event_term xs)
-    row_sound r rank n no_parts c l t b h = nothing_there r n
-    row_sound r rank n (part_and x xs) c l (t, u) (b, d) (h, up, i) =
-        in_front r n x xs (numbered_term x) (row_term event_term xs) (is_exception x) (λ e. come_apart r rank x xs b d (up e))
-        (part_sound r rank n x (count_both_of n (term_events x) (all_term_events xs) c).0 (λ e j. l e (among_left (term_events x) (all_term_events xs) e j)) t b h)
-        (row_sound r rank (n + length (nums x)) xs (count_both_of n (term_events x) (all_term_events xs) c).1 (λ e j. l e (among_right (term_events x) (all_term_events xs) e j)) u d i)
+    row_sound : (r rank : ℕ → ℕ) (n : ℕ) (xs : Expansions) → CountFrom n (all_nums xs) → AreLabelled (all_term_events xs) → EachTies IsOwn xs → AreWalksIn xs → AreBy r rank xs → AreRankedInRow rank xs → All r n xs (row_term event_term walk xs)
+    row_sound r rank n no_parts c l t v b h = nothing_there r n
+    row_sound r rank n (part_and x xs) c l (t, u) v (b, d) (h, up, i) =
+        in_front r n x xs (numbered_term walk x) (row_term event_term walk xs) (is_exception x) (λ e. come_apart r rank x xs b d (up e))
+        (part_sound r rank n x (count_both_of n x xs c).0 (λ e j. l e (among_left (term_events x) (all_term_events xs) e j)) t v.0 b h)
+        (row_sound r rank (n + length (nums x)) xs (count_both_of n x xs c).1 (λ e j. l e (among_right (term_events x) (all_term_events xs) e j)) u v.1 d i)
 
-    aside_sound : (r rank : ℕ → ℕ) (n : ℕ) (xs : Expansions) → CountFrom n (all_nums xs) → AreLabelled (all_term_events xs) → EachTies IsOwn xs → AreBy r rank xs → AreRanked rank xs
-        → Part r n (all_term_events xs) (all_looped_in xs) (aside_term event_term xs)
-    aside_sound r rank n no_parts c l t b h = nothing_there r n
-    aside_sound r rank n (part_and x xs) c l (t, u) (b, d) (h, i) =
-        at_side r n x xs (numbered_term x) (aside_term event_term xs)
-        (part_sound r rank n x (count_both_of n (term_events x) (all_term_events xs) c).0 (λ e j. l e (among_left (term_events x) (all_term_events xs) e j)) t b h)
-        (aside_sound r rank (n + length (nums x)) xs (count_both_of n (term_events x) (all_term_events xs) c).1 (λ e j. l e (among_right (term_events x) (all_term_events xs) e j)) u d i)
+    aside_sound : (r rank : ℕ → ℕ) (n : ℕ) (xs : Expansions) → CountFrom n (all_nums xs) → AreLabelled (all_term_events xs) → EachTies IsOwn xs → AreWalksIn xs → AreBy r rank xs → AreRanked rank xs → All r n xs (aside_term event_term walk xs)
+    aside_sound r rank n no_parts c l t v b h = nothing_there r n
+    aside_sound r rank n (part_and x xs) c l (t, u) v (b, d) (h, i) =
+        at_side r n x xs (numbered_term walk x) (aside_term event_term walk xs)
+        (part_sound r rank n x (count_both_of n x xs c).0 (λ e j. l e (among_left (term_events x) (all_term_events xs) e j)) t v.0 b h)
+        (aside_sound r rank (n + length (nums x)) xs (count_both_of n x xs c).1 (λ e j. l e (among_right (term_events x) (all_term_events xs) e j)) u v.1 d i)
 
-    parts_sound : (r rank : ℕ → ℕ) (n : ℕ) (xs : Expansions) → CountFrom n (all_nums xs) → AreLabelled (all_term_events xs) → EachTies IsOwn xs → AreBy r rank xs → AreRanked rank xs
-        → Parts r n (all_term_events xs) (all_looped_in xs) (part_terms event_term xs)
-    parts_sound r rank n no_parts c l t b h = subst (λ (i : ℕ). AreSoundParts labels w r n i [] [] []) (let e : n ≡ n + 0 = omega arith in e) (sound_none keep by_form kept labels w nets r n)
-    parts_sound r rank n (part_and x xs) c l (t, u) (b, d) (h, i) =
-        subst (λ (k : ℕ). AreSoundParts labels w r n k (term_events x ++ all_term_events xs) (looped_in x ++ all_looped_in xs) (numbered_term x ∷ part_terms event_term xs)) (both_length n (term_events x) (all_term_events xs))
-        (sound_some keep by_form kept labels w nets r n (n + length (nums x)) (n + length (nums x) + length (all_nums xs)) (term_events x) (all_term_events xs) (looped_in x) (all_looped_in xs) (numbered_term x) (part_terms event_term xs)
-        (part_sound r rank n x (count_both_of n (term_events x) (all_term_events xs) c).0 (λ e j. l e (among_left (term_events x) (all_term_events xs) e j)) t b h)
-        (parts_sound r rank (n + length (nums x)) xs (count_both_of n (term_events x) (all_term_events xs) c).1 (λ e j. l e (among_right (term_events x) (all_term_events xs) e j)) u d i))
+    parts_sound : (r rank : ℕ → ℕ) (n : ℕ) (xs : Expansions) → CountFrom n (all_nums xs) → AreLabelled (all_term_events xs) → EachTies IsOwn xs → AreWalksIn xs → AreBy r rank xs → AreRanked rank xs → Parts r n xs (part_terms event_term walk xs)
+    parts_sound r rank n no_parts c l t v b h = subst (λ (i : ℕ). AreSoundParts labels w r n i [] [] []) (let e : n ≡ n + 0 = omega arith in e) (sound_none keep by_form kept labels w nets r n)
+    parts_sound r rank n (part_and x xs) c l (t, u) v (b, d) (h, i) =
+        subst (λ (k : ℕ). AreSoundParts labels w r n k (term_events x ++ all_term_events xs) (looped_in x ++ all_looped_in xs) (numbered_term walk x ∷ part_terms event_term walk xs)) (both_length n (nums x) (all_nums xs))
+        (sound_some keep by_form kept labels w nets r n (n + length (nums x)) (n + length (nums x) + length (all_nums xs)) (term_events x) (all_term_events xs) (looped_in x) (all_looped_in xs) (numbered_term walk x) (part_terms event_term walk xs)
+        (part_sound r rank n x (count_both_of n x xs c).0 (λ e j. l e (among_left (term_events x) (all_term_events xs) e j)) t v.0 b h)
+        (parts_sound r rank (n + length (nums x)) xs (count_both_of n x xs c).1 (λ e j. l e (among_right (term_events x) (all_term_events xs) e j)) u v.1 d i))
 
-  whole_sound : (n : ℕ) (x : Expansion) → CountFrom n (nums x) → AreLabelled (term_events x) → EachTie IsOwn x → (h : CanBeRanked x) → (q : ℕ → ℕ) × IsBy q h.rank x → (q : ℕ → ℕ) × Part q n (term_events x) (looped_in x) (numbered_term x)
-  whole_sound n x c l t h (q, b) = (q, part_sound q h.rank n x c l t b h.ranked)
+  whole_sound : (n : ℕ) (x : Expansion) → CountFrom n (nums x) → AreLabelled (term_events x) → EachTie IsOwn x → AreWalks x → (h : CanBeRanked x) → (q : ℕ → ℕ) × IsBy q h.rank x → IsSoundNode labels w (numbered_term walk x)
+  whole_sound n x c l t v h (q, b) = (part_sound q h.rank n x c l t v b h.ranked).node
 
-pub ranked_expansions_are_sound : ConstructorsKeepSoundness → TiesByForm → NumbersAreKept → RankedExpansionsAreSound
-ranked_expansions_are_sound keep by_form kept = record {
-  sound = λ labels w n x nets c l t h. record {
-    nets = nets;
-    term = (whole_sound keep by_form kept labels w nets n x (numbered_from n x c) (labelled labels x l) t h (ranks_by h.rank n x (numbered_from n x c))).1.node.sound;
-  };
+pub ranked_expansions_are_sound : ConstructorsKeepSoundness → TiesByForm → NumbersAreKept → TablesStaySound → RankedExpansionsAreSound
+ranked_expansions_are_sound keep by_form kept stay = record {
+  sound = λ labels w n x walk nets c l t h v. whole_sound keep by_form kept stay labels w nets walk n x c (labelled labels x l) t v h (ranks_by h.rank n x c);
 }
   where
-    numbered_from : (n : ℕ) (x : Expansion) → CountFrom n (numbers_in x) → CountFrom n (nums x)
-    numbered_from n x c = subst (λ (l : List ℕ). CountFrom n l) (sym (same_numbers x)) c
-
     labelled : (labels : ℕ) (x : Expansion) → ((e : ExpandedEvent) → Among e (events_in x) → e.label < labels) → (d : TermEvent) → Among d (term_events x) → d.label < labels
     labelled labels x l d h = at (unmap (events_in x) d (subst (λ (es : List TermEvent). Among d es) (sym (same_events x)) h))
       where

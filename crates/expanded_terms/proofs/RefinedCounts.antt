@@ -18,11 +18,10 @@ use Rattle.expanded_terms.specs.ExpandedSizes.{gates_in, open_gates, events_room
 use Rattle.expanded_terms.specs.ExpandedTerms.{Charts, event_shown, events_shown, items_count, item_count, expression_shown, operands_shown, item_shown, items_shown, refinings_shown, refined_shown}
 use Rattle.expanded_terms.specs.FewPairs.{node_numbers}
 use Rattle.expanded_terms.specs.JoinProducts.{often, IsFewBody, AreFewRefined}
-use Rattle.expanded_terms.specs.LevelOrder.{tags}
 use Rattle.expanded_terms.specs.TagNumbers.{number_if, numbers_with, pairs_between, tied_numbers}
 use Rattle.expanded_terms.proofs.DecomposedOnce.{DecomposeOnce}
 use Rattle.expanded_terms.proofs.FewPairs.{tally, tally_cons, tally_none, tally_once, items_tally, if_length, often_both, length_app, between_length, level_open}
-use Rattle.expanded_terms.proofs.ShownAnywhere.{event_same, expression_same, operands_same, item_same}
+use Rattle.expanded_terms.proofs.ShownAnywhere.{tags, event_same, expression_same, operands_same, item_same}
 use Rattle.expanded_terms.proofs.TermWeights.{room_both}
 
 -- ---- what is counted of tags

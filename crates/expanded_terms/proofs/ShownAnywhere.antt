@@ -1,5 +1,6 @@
 -- The tags that are shown don't depend on the first number.
-use Rattle.std.specs.Prelude.{ℕ, zero, suc, ◌+◌, List, [], ◌∷◌, ◌++◌, Option, None, Some}
+use Rattle.std.specs.Prelude.{ℕ, zero, suc, ◌+◌, List, [], ◌∷◌, ◌++◌, Option, None, Some, map}
+use Rattle.std.specs.List.{flat_map}
 use Rattle.std.proofs.Common.{◌≡◌, refl, sym, ◌∙◌, ap}
 use Rattle.msc_unfolding.specs.Unfoldings.{Tag, Own, Happening, past_level}
 use Rattle.chart_term.specs.Terms.{Tree}
@@ -13,8 +14,15 @@ use Rattle.msc_meaning.specs.InnerEvents.{GateEnd}
 use Rattle.msc_meaning.specs.Refinements.{Refining, refining, refinings, without_decomposed, past_refining}
 use Rattle.msc_meaning.specs.Tables.{Table, ChartEntry, chart_at, Woven, Basic, HighLevel, Refinement, refinements}
 use Rattle.msc_meaning.specs.Ties.{past_inline, past_reference}
-use Rattle.expanded_terms.specs.LevelOrder.{tags, each_past}
-use Rattle.expanded_terms.specs.ExpandedTerms.{Charts, charts_to, entry_shown, items_count, event_shown, events_shown, expression_shown, expressions_shown, level_shown, items_shown, item_shown, operands_shown, refinings_shown, refined_shown, woven_shown, expression_count, item_count, level_count}
+use Rattle.expanded_terms.specs.ExpandedTerms.{Leaves, Charts, charts_to, entry_shown, items_count, event_shown, events_shown, expression_shown, expressions_shown, level_shown, items_shown, item_shown, operands_shown, refinings_shown, refined_shown, woven_shown, expression_count, item_count, level_count}
+
+-- the tags that are shown
+abbrev pub tags : Shown → List Tag
+tags sh = map (λ p. p.1) sh
+
+-- above a tie that changes tags so
+abbrev each_past : (Tag → List Tag) → List Tag → List Tag
+each_past f ts = flat_map f ts
 
 tags_app : (a b : Shown) → tags (a ++ b) ≡ tags a ++ tags b
 tags_app [] b = refl
@@ -96,6 +104,6 @@ module _ (charts : Charts) (known : (name : List ℕ) (n m : ℕ) → tags (char
   entry_same table n m None = refl
   entry_same table n m (Some entry) = woven_same table n m (refinements entry.decls) entry.content
 
-pub charts_same : (event : ℕ → Happening → Tree) (ends_of : WovenItems → List GateEnd) (table : Table) (k : ℕ) (name : List ℕ) (n m : ℕ) → tags ((charts_to event ends_of table k).shown name n) ≡ tags ((charts_to event ends_of table k).shown name m)
-charts_same event ends_of table zero name n m = refl
-charts_same event ends_of table (suc k) name n m = entry_same (charts_to event ends_of table k) (charts_same event ends_of table k) table n m (chart_at table name)
+pub charts_same : (leaves : Leaves) (ends_of : WovenItems → List GateEnd) (table : Table) (k : ℕ) (name : List ℕ) (n m : ℕ) → tags ((charts_to leaves ends_of table k).shown name n) ≡ tags ((charts_to leaves ends_of table k).shown name m)
+charts_same leaves ends_of table zero name n m = refl
+charts_same leaves ends_of table (suc k) name n m = entry_same (charts_to leaves ends_of table k) (charts_same leaves ends_of table k) table n m (chart_at table name)

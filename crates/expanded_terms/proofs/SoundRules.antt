@@ -20,8 +20,7 @@ use Rattle.term_laws.specs.OneResidual.{AreOnce}
 use Rattle.term_laws.specs.Soundness.{IsOutside, Lacks, NetLacks}
 use Rattle.term_laws.proofs.FullSound.{tidy_tables, tidy_of}
 use Rattle.expanded_terms.specs.ExpandedTerms.{one_of, leave_turn, turns_if, turns_of}
-use Rattle.expanded_terms.specs.RankedExpansions.{numbers_of, AreApart}
-use Rattle.expanded_terms.specs.SoundParts.{IsSoundPart, AreSoundParts}
+use Rattle.expanded_terms.specs.SoundParts.{IsSoundPart, AreSoundParts, numbers_of, AreApart}
 use Rattle.expanded_terms.proofs.Bare.{bare_join, bare_choice, bare_tie, one_there}
 use Rattle.expanded_terms.proofs.FreshLoops.{may_turn, loop_begins}
 use Rattle.expanded_terms.proofs.KeptParts.{choice_has, join_has, lacks_by_parts, outside_by_parts, tie_has}

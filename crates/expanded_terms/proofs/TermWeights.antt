@@ -14,6 +14,7 @@ use Rattle.general_ordering.specs.OrderCounts.{order_count, orders_count}
 use Rattle.msc_tree.specs.declared.reference.InlineForm.TheVariants as inline
 use Rattle.msc_tree.specs.Expressions.{Expression, Empty, Chart, Alt, Par, Seq, Opt, Expressions}
 use Rattle.msc_tree.specs.Expressions as expression
+use Rattle.msc_tree.specs.Graphs.{graph}
 use Rattle.msc_meaning.specs.Bodies.{EventNode, ReferencePart, Body, level, WovenItems, no_items, item_and, WovenItem, Single, Coregion, Inline, Refer, Bodies, no_bodies, body_and, events}
 use Rattle.msc_meaning.specs.Calls.{calls}
 use Rattle.msc_meaning.specs.ChartUnfoldings.{gates_of, under, refined_under, refining_under}
@@ -23,10 +24,10 @@ use Rattle.msc_meaning.specs.Refinements.{Refining, refining, refining_by, refin
 use Rattle.msc_meaning.specs.Tables.{Table, ChartEntry, chart_at, body_at, Woven, Basic, HighLevel, Refinement, refinements}
 use Rattle.msc_meaning.specs.Ties.{ties}
 use Rattle.chart_forms.specs.TableSizes.{expression_size, expressions_size, level_size, items_size, item_size, operands_size, body_size, refined_size, woven_size, entry_size, size_to}
-use Rattle.expanded_terms.specs.ExpandedSizes.{open_gates, item_room, items_room, decomposed_room, HaveRoom, HasFewInExpression, HaveFewInExpressions, HasFewPairs, HaveFewPairs, HasFewWithin, EachHasFew, HaveFewInRefinings, HasFewInWoven, HasFewInEntry, HasFewTo, ExpandedTermsWeigh}
+use Rattle.expanded_terms.specs.ExpandedSizes.{AreLeavesLight, open_gates, item_room, items_room, decomposed_room, HaveRoom, HasFewInExpression, HaveFewInExpressions, HasFewPairs, HaveFewPairs, HasFewWithin, EachHasFew, HaveFewInRefinings, HasFewInWoven, HasFewInEntry, HasFewTo, ExpandedTermsWeigh}
 use Rattle.chart_forms.specs.BodyEvents.{is_exception}
 use Rattle.msc_meaning.proofs.Deciding.{not_so}
-use Rattle.expanded_terms.specs.ExpandedTerms.{Charts, charts_to, entry_shown, entry_term, woven_shown, woven_term, one_of, placed, leave_turn, turns_if, turns_of, expression_shown, expressions_shown, level_shown, items_shown, operands_shown, events_term, expression_term, alternative_terms, each_term, level_term, items_term, item_term, operand_terms, parallel_term, refinings_term, refined_shown, items_count, item_count, level_count, expression_count}
+use Rattle.expanded_terms.specs.ExpandedTerms.{Leaves, Charts, charts_to, entry_shown, entry_term, woven_shown, woven_term, one_of, placed, leave_turn, turns_if, turns_of, expression_shown, expressions_shown, level_shown, items_shown, operands_shown, events_term, expression_term, alternative_terms, each_term, level_term, items_term, item_term, operand_terms, parallel_term, refinings_term, refined_shown, items_count, item_count, level_count, expression_count}
 use Rattle.expanded_terms.specs.TagNumbers.{tied_numbers}
 
 -- ---- lists of terms
@@ -223,28 +224,28 @@ placed_weighs true x y d e s t h f (a, b) =
     let g = f refl in
     (omega (arith, g, a, two_weight x y), omega (arith, g, a, two_weight x y, open_weight seq (one_of (x ∷ y ∷ []))))
 
-module _ (weigh : ConstructorsWeigh) (charts : Charts) (size_of : List ℕ → ℕ) (product : WovenItems → ReferencePart → ℕ) (event : ℕ → Happening → Tree) (light : (n : ℕ) (h : Happening) → weight (event n h) ≤ 1) (ends_of : WovenItems → List GateEnd) (HasFew : List ℕ → ℕ → Type 0)
+module _ (weigh : ConstructorsWeigh) (charts : Charts) (size_of : List ℕ → ℕ) (product : WovenItems → ReferencePart → ℕ) (leaves : Leaves) (light : AreLeavesLight leaves) (ends_of : WovenItems → List GateEnd) (HasFew : List ℕ → ℕ → Type 0)
     (known : (name : List ℕ) (gates : GateMap) (n : ℕ) → HasFew name n → weight (charts.term name gates n) + open_gates (charts.shown name n) ≤ size_of name) where
-  coregion_weighs : (es : List GateEnd) (a : Around) (n : ℕ) (ks : List EventNode) → (weight (events_term charts event ends_of es a n ks) ≤ 1 + length ks) × (weight_all (open_part par (events_term charts event ends_of es a n ks)) ≤ length ks)
+  coregion_weighs : (es : List GateEnd) (a : Around) (n : ℕ) (ks : List EventNode) → (weight (events_term charts leaves ends_of es a n ks) ≤ 1 + length ks) × (weight_all (open_part par (events_term charts leaves ends_of es a n ks)) ≤ length ks)
   coregion_weighs es a n [] = (omega arith, omega arith)
   coregion_weighs es a n (k ∷ ks) =
       let (u, v) = coregion_weighs es a (n + 1) ks in
-      let one = light n (happening es a k) in
-      (omega (arith, v, one, both_weight par (event n (happening es a k)) (events_term charts event ends_of es a (n + 1) ks)), omega (arith, v, one, both_open par (event n (happening es a k)) (events_term charts event ends_of es a (n + 1) ks)))
+      let one = light.events n (happening es a k) in
+      (omega (arith, v, one, both_weight par (leaves.event n (happening es a k)) (events_term charts leaves ends_of es a (n + 1) ks)), omega (arith, v, one, both_open par (leaves.event n (happening es a k)) (events_term charts leaves ends_of es a (n + 1) ks)))
 
   mutual
-    expression_weighs : (gates : GateMap) (n : ℕ) (e : Expression) → HasFewInExpression charts product ends_of HasFew n e → weight (expression_term charts event ends_of gates n e) + open_gates (expression_shown charts n e) ≤ expression_size size_of product e
+    expression_weighs : (gates : GateMap) (n : ℕ) (e : Expression) → HasFewInExpression charts product ends_of HasFew n e → weight (expression_term charts leaves ends_of gates n e) + open_gates (expression_shown charts n e) ≤ expression_size size_of product e
     expression_weighs gates n Empty f = omega arith
     expression_weighs gates n (Chart name) f = known name gates n f
     expression_weighs gates n (Alt parts) f =
-        omega (arith, one_weight (alternative_terms charts event ends_of gates n parts), choices_opened (alternative_terms charts event ends_of gates n parts), alternatives_weigh gates n parts f)
+        omega (arith, one_weight (alternative_terms charts leaves ends_of gates n parts), choices_opened (alternative_terms charts leaves ends_of gates n parts), alternatives_weigh gates n parts f)
     expression_weighs gates n (Par parts) f = (each_weighs par gates n parts f).0
     expression_weighs gates n (Seq parts) f = (each_weighs seq gates n parts f).0
     expression_weighs gates n (Opt part) f =
-        omega (arith, two_weight (expression_term charts event ends_of gates n part) Nil, choice_opened (expression_term charts event ends_of gates n part), expression_weighs gates n part f)
-    expression_weighs gates n (expression.Loop lower upper part) f = omega (arith, turns_weight lower upper (expression_term charts event ends_of gates n part), expression_weighs gates n part f)
+        omega (arith, two_weight (expression_term charts leaves ends_of gates n part) Nil, choice_opened (expression_term charts leaves ends_of gates n part), expression_weighs gates n part f)
+    expression_weighs gates n (expression.Loop lower upper part) f = omega (arith, turns_weight lower upper (expression_term charts leaves ends_of gates n part), expression_weighs gates n part f)
 
-    alternatives_weigh : (gates : GateMap) (n : ℕ) (xs : Expressions) → HaveFewInExpressions charts product ends_of HasFew n xs → weight_all (alternative_terms charts event ends_of gates n xs) + open_gates (expressions_shown charts n xs) ≤ expressions_size size_of product xs
+    alternatives_weigh : (gates : GateMap) (n : ℕ) (xs : Expressions) → HaveFewInExpressions charts product ends_of HasFew n xs → weight_all (alternative_terms charts leaves ends_of gates n xs) + open_gates (expressions_shown charts n xs) ≤ expressions_size size_of product xs
     alternatives_weigh gates n expression.none f = omega arith
     alternatives_weigh gates n (expression.more x xs) (f, g) =
         omega (
@@ -254,66 +255,66 @@ module _ (weigh : ConstructorsWeigh) (charts : Charts) (size_of : List ℕ → �
           alternatives_weigh gates (n + expression_count charts x) xs g,
         )
 
-    each_weighs : (m : Mode) (gates : GateMap) (n : ℕ) (xs : Expressions) → HaveFewInExpressions charts product ends_of HasFew n xs → IsWithin m (each_term charts event ends_of m gates n xs) (open_gates (expressions_shown charts n xs)) (expressions_size size_of product xs)
+    each_weighs : (m : Mode) (gates : GateMap) (n : ℕ) (xs : Expressions) → HaveFewInExpressions charts product ends_of HasFew n xs → IsWithin m (each_term charts leaves ends_of m gates n xs) (open_gates (expressions_shown charts n xs)) (expressions_size size_of product xs)
     each_weighs m gates n expression.none f = (omega arith, omega arith)
     each_weighs m gates n (expression.more x xs) (f, g) =
-        let x_term = expression_term charts event ends_of gates n x in
-        let w = joined_weighs m x_term (each_term charts event ends_of m gates (n + expression_count charts x) xs) (open_gates (expression_shown charts n x)) (open_gates (expressions_shown charts (n + expression_count charts x) xs)) (expression_size size_of product x) (expressions_size size_of product xs)
+        let x_term = expression_term charts leaves ends_of gates n x in
+        let w = joined_weighs m x_term (each_term charts leaves ends_of m gates (n + expression_count charts x) xs) (open_gates (expression_shown charts n x)) (open_gates (expressions_shown charts (n + expression_count charts x) xs)) (expression_size size_of product x) (expressions_size size_of product xs)
         (expression_weighs gates n x f) (each_weighs m gates (n + expression_count charts x) xs g) in
         let o = open_both (expression_shown charts n x) (expressions_shown charts (n + expression_count charts x) xs) in
         (omega (arith, w.0, o), omega (arith, w.1, o))
 
-  some_operand : (a : Around) (n : ℕ) (b : Body) (bs : Bodies) → operand_terms charts event ends_of a n (body_and b bs) ≡ [] → ⊥
-  some_operand a n b bs = not_empty (operand_terms charts event ends_of a (n + level_count charts b) bs) (level_term charts event ends_of a n b)
+  some_operand : (a : Around) (n : ℕ) (b : Body) (bs : Bodies) → operand_terms charts leaves ends_of a n (body_and b bs) ≡ [] → ⊥
+  some_operand a n b bs = not_empty (operand_terms charts leaves ends_of a (n + level_count charts b) bs) (level_term charts leaves ends_of a n b)
 
   mutual
-    level_weighs : (a : Around) (n : ℕ) (b : Body) → HasFewPairs charts product ends_of HasFew n b → weight (level_term charts event ends_of a n b) + open_gates (level_shown charts n b) ≤ 1 + level_size size_of product b
+    level_weighs : (a : Around) (n : ℕ) (b : Body) → HasFewPairs charts product ends_of HasFew n b → weight (level_term charts leaves ends_of a n b) + open_gates (level_shown charts n b) ≤ 1 + level_size size_of product b
     level_weighs a n (level cover held pairs) (room, f) =
-        tied_weighs weigh (items_term charts event ends_of (gates_of held (ends_of held)) a n held) (tied_numbers (items_shown charts (calls held) n held) (ties held pairs (calls held) (ends_of held))) (open_gates (level_shown charts n (level cover held pairs)))
+        tied_weighs weigh (items_term charts leaves ends_of (gates_of held (ends_of held)) a n held) (tied_numbers (items_shown charts (calls held) n held) (ties held pairs (calls held) (ends_of held))) (open_gates (level_shown charts n (level cover held pairs)))
         (items_room charts product held n held) (items_size size_of product held held) (items_weigh held (gates_of held (ends_of held)) a n held f).0 room
 
-    items_weigh : (whole : WovenItems) (g : Gates) (a : Around) (n : ℕ) (xs : WovenItems) → HaveFewPairs charts product ends_of HasFew n xs → IsWithin seq (items_term charts event ends_of g a n xs) (items_room charts product whole n xs) (items_size size_of product whole xs)
+    items_weigh : (whole : WovenItems) (g : Gates) (a : Around) (n : ℕ) (xs : WovenItems) → HaveFewPairs charts product ends_of HasFew n xs → IsWithin seq (items_term charts leaves ends_of g a n xs) (items_room charts product whole n xs) (items_size size_of product whole xs)
     items_weigh whole g a n no_items f = (omega arith, omega arith)
     items_weigh whole g a n (item_and x xs) (f, i) =
-        placed_weighs (is_exception x) (item_term charts event ends_of g a n x) (items_term charts event ends_of g a (n + item_count charts x) xs) (item_room charts product whole n x) (items_room charts product whole (n + item_count charts x) xs) (item_size size_of product whole x) (items_size size_of product whole xs)
+        placed_weighs (is_exception x) (item_term charts leaves ends_of g a n x) (items_term charts leaves ends_of g a (n + item_count charts x) xs) (item_room charts product whole n x) (items_room charts product whole (n + item_count charts x) xs) (item_size size_of product whole x) (items_size size_of product whole xs)
         (item_weighs whole g a n x f) (exception_weighs whole g a n x f) (items_weigh whole g a (n + item_count charts x) xs i)
 
-    item_weighs : (whole : WovenItems) (g : Gates) (a : Around) (n : ℕ) (x : WovenItem) → HasFewWithin charts product ends_of HasFew n x → weight (item_term charts event ends_of g a n x) + item_room charts product whole n x ≤ item_size size_of product whole x
-    item_weighs whole g a n (Single k) f = omega (arith, light n (happening g.ends a k))
+    item_weighs : (whole : WovenItems) (g : Gates) (a : Around) (n : ℕ) (x : WovenItem) → HasFewWithin charts product ends_of HasFew n x → weight (item_term charts leaves ends_of g a n x) + item_room charts product whole n x ≤ item_size size_of product whole x
+    item_weighs whole g a n (Single k) f = omega (arith, light.events n (happening g.ends a k))
     item_weighs whole g a n (Coregion ks) f = let (u, v) = coregion_weighs g.ends a n ks in omega (arith, u)
     item_weighs whole g a n (Inline inline.Alt part bs) (has, f) =
-        omega (arith, one_weight (operand_terms charts event ends_of (inside g part.name a) n bs), choices_opened (operand_terms charts event ends_of (inside g part.name a) n bs), operands_weigh (inside g part.name a) n bs f)
+        omega (arith, one_weight (operand_terms charts leaves ends_of (inside g part.name a) n bs), choices_opened (operand_terms charts leaves ends_of (inside g part.name a) n bs), operands_weigh (inside g part.name a) n bs f)
     item_weighs whole g a n (Inline inline.Opt part no_bodies) (has, f) = absurd (not_so has)
     item_weighs whole g a n (Inline inline.Opt part (body_and b bs)) (has, f) =
-        omega (arith, two_weight (one_of (operand_terms charts event ends_of (inside g part.name a) n (body_and b bs))) Nil, one_opened (operand_terms charts event ends_of (inside g part.name a) n (body_and b bs)) (some_operand (inside g part.name a) n b bs), operands_weigh (inside g part.name a) n (body_and b bs) f)
+        omega (arith, two_weight (one_of (operand_terms charts leaves ends_of (inside g part.name a) n (body_and b bs))) Nil, one_opened (operand_terms charts leaves ends_of (inside g part.name a) n (body_and b bs)) (some_operand (inside g part.name a) n b bs), operands_weigh (inside g part.name a) n (body_and b bs) f)
     item_weighs whole g a n (Inline inline.Exc part bs) (has, f) =
-        omega (arith, one_weight (operand_terms charts event ends_of (inside g part.name a) n bs), choices_opened (operand_terms charts event ends_of (inside g part.name a) n bs), operands_weigh (inside g part.name a) n bs f)
+        omega (arith, one_weight (operand_terms charts leaves ends_of (inside g part.name a) n bs), choices_opened (operand_terms charts leaves ends_of (inside g part.name a) n bs), operands_weigh (inside g part.name a) n bs f)
     item_weighs whole g a n (Inline inline.Par part bs) (has, f) = let (u, v) = parallel_weighs (inside g part.name a) n bs f in omega (arith, u)
     item_weighs whole g a n (Inline inline.Loop part no_bodies) (has, f) = absurd (not_so has)
     item_weighs whole g a n (Inline inline.Loop part (body_and b no_bodies)) (has, f) =
         omega (
           arith,
-          turns_weight part.lower part.upper (one_of (operand_terms charts event ends_of (inside g part.name a) n (body_and b no_bodies))),
-          alone_weight (level_term charts event ends_of (inside g part.name a) n b),
+          turns_weight part.lower part.upper (one_of (operand_terms charts leaves ends_of (inside g part.name a) n (body_and b no_bodies))),
+          alone_weight (level_term charts leaves ends_of (inside g part.name a) n b),
           level_weighs (inside g part.name a) n b f.0,
           open_both (level_shown charts n b) [],
         )
     item_weighs whole g a n (Inline inline.Loop part (body_and b (body_and c bs))) (has, f) = absurd (not_so has)
     item_weighs whole g a n (Refer part) f = omega (arith, expression_weighs (gates_referred g part.name part.joins a.gates) n part.expression f)
 
-    exception_weighs : (whole : WovenItems) (g : Gates) (a : Around) (n : ℕ) (x : WovenItem) → HasFewWithin charts product ends_of HasFew n x → is_exception x ≡ true → weight_all (open_choice (item_term charts event ends_of g a n x)) + item_room charts product whole n x + 2 ≤ item_size size_of product whole x
+    exception_weighs : (whole : WovenItems) (g : Gates) (a : Around) (n : ℕ) (x : WovenItem) → HasFewWithin charts product ends_of HasFew n x → is_exception x ≡ true → weight_all (open_choice (item_term charts leaves ends_of g a n x)) + item_room charts product whole n x + 2 ≤ item_size size_of product whole x
     exception_weighs whole g a n (Single k) f is = absurd cc
     exception_weighs whole g a n (Coregion ks) f is = absurd cc
     exception_weighs whole g a n (Inline inline.Alt part bs) f is = absurd cc
     exception_weighs whole g a n (Inline inline.Opt part bs) f is = absurd cc
     exception_weighs whole g a n (Inline inline.Exc part no_bodies) (has, f) is = absurd (not_so has)
     exception_weighs whole g a n (Inline inline.Exc part (body_and b bs)) (has, f) is =
-        omega (arith, one_opened (operand_terms charts event ends_of (inside g part.name a) n (body_and b bs)) (some_operand (inside g part.name a) n b bs), operands_weigh (inside g part.name a) n (body_and b bs) f)
+        omega (arith, one_opened (operand_terms charts leaves ends_of (inside g part.name a) n (body_and b bs)) (some_operand (inside g part.name a) n b bs), operands_weigh (inside g part.name a) n (body_and b bs) f)
     exception_weighs whole g a n (Inline inline.Par part bs) f is = absurd cc
     exception_weighs whole g a n (Inline inline.Loop part bs) f is = absurd cc
     exception_weighs whole g a n (Refer part) f is = absurd cc
 
-    operands_weigh : (a : Around) (n : ℕ) (bs : Bodies) → EachHasFew charts product ends_of HasFew n bs → weight_all (operand_terms charts event ends_of a n bs) + open_gates (operands_shown charts n bs) ≤ operands_size size_of product bs
+    operands_weigh : (a : Around) (n : ℕ) (bs : Bodies) → EachHasFew charts product ends_of HasFew n bs → weight_all (operand_terms charts leaves ends_of a n bs) + open_gates (operands_shown charts n bs) ≤ operands_size size_of product bs
     operands_weigh a n no_bodies f = omega arith
     operands_weigh a n (body_and b bs) (f, i) =
         omega (
@@ -323,32 +324,32 @@ module _ (weigh : ConstructorsWeigh) (charts : Charts) (size_of : List ℕ → �
           operands_weigh a (n + level_count charts b) bs i,
         )
 
-    parallel_weighs : (a : Around) (n : ℕ) (bs : Bodies) → EachHasFew charts product ends_of HasFew n bs → IsWithin par (parallel_term charts event ends_of a n bs) (open_gates (operands_shown charts n bs)) (operands_size size_of product bs)
+    parallel_weighs : (a : Around) (n : ℕ) (bs : Bodies) → EachHasFew charts product ends_of HasFew n bs → IsWithin par (parallel_term charts leaves ends_of a n bs) (open_gates (operands_shown charts n bs)) (operands_size size_of product bs)
     parallel_weighs a n no_bodies f = (omega arith, omega arith)
     parallel_weighs a n (body_and b bs) (f, i) =
-        let w = joined_weighs par (level_term charts event ends_of a n b) (parallel_term charts event ends_of a (n + level_count charts b) bs) (open_gates (level_shown charts n b)) (open_gates (operands_shown charts (n + level_count charts b) bs)) (1 + level_size size_of product b) (operands_size size_of product bs)
+        let w = joined_weighs par (level_term charts leaves ends_of a n b) (parallel_term charts leaves ends_of a (n + level_count charts b) bs) (open_gates (level_shown charts n b)) (open_gates (operands_shown charts (n + level_count charts b) bs)) (1 + level_size size_of product b) (operands_size size_of product bs)
         (level_weighs a n b f) (parallel_weighs a (n + level_count charts b) bs i) in
         let o = open_both (level_shown charts n b) (operands_shown charts (n + level_count charts b) bs) in
         (omega (arith, w.0, o), omega (arith, w.1, o))
 
   -- refining charts leave no gates open
-  refinings_weigh : (far_of : EventNode → Far) (n : ℕ) (rs : List Refining) → HaveFewInRefinings charts product ends_of HasFew n rs → IsWithin par (refinings_term charts event ends_of far_of n rs) 0 (refinings_size size_of product rs)
+  refinings_weigh : (far_of : EventNode → Far) (n : ℕ) (rs : List Refining) → HaveFewInRefinings charts product ends_of HasFew n rs → IsWithin par (refinings_term charts leaves ends_of far_of n rs) 0 (refinings_size size_of product rs)
   refinings_weigh far_of n [] f = (omega arith, omega arith)
   refinings_weigh far_of n (refining (level cover held pairs) ms ∷ rs) (f, i) =
       let l = level_weighs (refining_under far_of ms) n (level cover held pairs) f in
-      let w = joined_weighs par (level_term charts event ends_of (refining_under far_of ms) n (level cover held pairs)) (refinings_term charts event ends_of far_of (n + items_count charts held) rs) 0 0 (2 + level_size size_of product (level cover held pairs)) (refinings_size size_of product rs)
+      let w = joined_weighs par (level_term charts leaves ends_of (refining_under far_of ms) n (level cover held pairs)) (refinings_term charts leaves ends_of far_of (n + items_count charts held) rs) 0 0 (2 + level_size size_of product (level cover held pairs)) (refinings_size size_of product rs)
       (omega (arith, l)) (refinings_weigh far_of (n + items_count charts held) rs i) in
       (omega (arith, w.0), omega (arith, w.1))
 
   woven_weighs : (table : Table) (gates : GateMap) (n : ℕ) (rs : List Refinement) (content : Woven) → HasFewInWoven charts product ends_of HasFew table n rs content
-      → weight (woven_term charts event ends_of table gates n rs content) + open_gates (woven_shown charts table n rs content) ≤ woven_size size_of product table rs content
+      → weight (woven_term charts leaves ends_of table gates n rs content) + open_gates (woven_shown charts table n rs content) ≤ woven_size size_of product table rs content
   woven_weighs table gates n [] (Basic held) f = omega (arith, level_weighs (under gates) n held f)
-  woven_weighs table gates n [] (HighLevel drawn) f = absurd f
+  woven_weighs table gates n [] (HighLevel (graph starts lines)) f = omega (arith, light.walks n)
   woven_weighs table gates n (r ∷ rs) (Basic (level cover held pairs)) (room, f, i) =
       let left = without_decomposed (r ∷ rs) held in
       let around = refined_under gates pairs (refinings table held (r ∷ rs)) in
-      let left_term = items_term charts event ends_of (gates_of held (ends_of held)) around n left in
-      let others = refinings_term charts event ends_of (far_end (ends_of held) around) (n + items_count charts left) (refinings table held (r ∷ rs)) in
+      let left_term = items_term charts leaves ends_of (gates_of held (ends_of held)) around n left in
+      let others = refinings_term charts leaves ends_of (far_end (ends_of held) around) (n + items_count charts left) (refinings table held (r ∷ rs)) in
       let both = joined_weighs par left_term others (items_room charts product held n left) 0 (1 + items_size size_of product held left) (refinings_size size_of product (refinings table held (r ∷ rs)))
       (items_weigh held (gates_of held (ends_of held)) around n left f).0 (refinings_weigh (far_end (ends_of held) around) (n + items_count charts left) (refinings table held (r ∷ rs)) i) in
       let sizes = refined_sizes size_of product table held (r ∷ rs) in
@@ -356,20 +357,20 @@ module _ (weigh : ConstructorsWeigh) (charts : Charts) (size_of : List ℕ → �
       (open_gates (woven_shown charts table n (r ∷ rs) (Basic (level cover held pairs)))) (items_room charts product held n left + decomposed_room (r ∷ rs) (events held)) (1 + items_size size_of product held held + refinings_size size_of product (refinings table held (r ∷ rs)))
       (omega (arith, both.0, left_size size_of product (r ∷ rs) held held)) room in
       omega (arith, tied, sizes)
-  woven_weighs table gates n (r ∷ rs) (HighLevel drawn) f = absurd f
+  woven_weighs table gates n (r ∷ rs) (HighLevel (graph starts lines)) f = omega (arith, light.walks n)
 
   entry_weighs : (table : Table) (gates : GateMap) (n : ℕ) (o : Option ChartEntry) → HasFewInEntry charts product ends_of HasFew table n o
-      → weight (entry_term event ends_of table charts gates n o) + open_gates (entry_shown charts table n o) ≤ entry_size size_of product table o
+      → weight (entry_term leaves ends_of table charts gates n o) + open_gates (entry_shown charts table n o) ≤ entry_size size_of product table o
   entry_weighs table gates n None f = absurd f
   entry_weighs table gates n (Some entry) f = woven_weighs table gates n (refinements entry.decls) entry.content f
 
-charts_weigh : ConstructorsWeigh → (event : ℕ → Happening → Tree) (product : ℕ → WovenItems → ReferencePart → ℕ) (ends_of : WovenItems → List GateEnd) (table : Table) → ((n : ℕ) (h : Happening) → weight (event n h) ≤ 1) → (k : ℕ) (name : List ℕ) (gates : GateMap) (n : ℕ) → HasFewTo event product ends_of table k name n
-    → weight ((charts_to event ends_of table k).term name gates n) + open_gates ((charts_to event ends_of table k).shown name n) ≤ size_to product table k name
-charts_weigh weigh event product ends_of table light zero name gates n f = absurd f
-charts_weigh weigh event product ends_of table light (suc k) name gates n f =
-    entry_weighs weigh (charts_to event ends_of table k) (size_to product table k) (product k) event light ends_of (HasFewTo event product ends_of table k) (charts_weigh weigh event product ends_of table light k) table gates n (chart_at table name) f
+charts_weigh : ConstructorsWeigh → (leaves : Leaves) (product : ℕ → WovenItems → ReferencePart → ℕ) (ends_of : WovenItems → List GateEnd) (table : Table) → AreLeavesLight leaves → (k : ℕ) (name : List ℕ) (gates : GateMap) (n : ℕ) → HasFewTo leaves product ends_of table k name n
+    → weight ((charts_to leaves ends_of table k).term name gates n) + open_gates ((charts_to leaves ends_of table k).shown name n) ≤ size_to product table k name
+charts_weigh weigh leaves product ends_of table light zero name gates n f = absurd f
+charts_weigh weigh leaves product ends_of table light (suc k) name gates n f =
+    entry_weighs weigh (charts_to leaves ends_of table k) (size_to product table k) (product k) leaves light ends_of (HasFewTo leaves product ends_of table k) (charts_weigh weigh leaves product ends_of table light k) table gates n (chart_at table name) f
 
 pub expanded_terms_weigh : ConstructorsWeigh → ExpandedTermsWeigh
 expanded_terms_weigh weigh = record {
-  weighs = λ event product ends_of table depth name gates n light f. omega (arith, charts_weigh weigh event product ends_of table light depth name gates n f);
+  weighs = λ leaves product ends_of table depth name gates n light f. omega (arith, charts_weigh weigh leaves product ends_of table light depth name gates n f);
 }

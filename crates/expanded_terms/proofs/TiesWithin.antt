@@ -11,17 +11,21 @@ use Rattle.msc_tree.specs.declared.reference.InlineForm.{InlineForm}
 use Rattle.msc_tree.specs.declared.reference.InlineForm.TheVariants as inline
 use Rattle.msc_tree.specs.Expressions.{Expression, Empty, Chart, Alt, Par, Seq, Opt, Expressions, none, more}
 use Rattle.msc_tree.specs.Expressions as expression
+use Rattle.msc_tree.specs.Graphs as graphs
+use Rattle.msc_tree.specs.Graphs.{Graph, graph, Lines, no_lines, line_and, line, Node, Ends, Connect, Condition, Frames, Graphs, no_graphs, graph_and}
+use Rattle.graph_shapes.specs.GraphShapes.{shape_of}
+use Rattle.hmsc_graph.specs.declared.shape.Shape.{Shape}
 use Rattle.msc_meaning.specs.Bodies.{EventNode, InlinePart, Body, level, WovenItems, no_items, item_and, WovenItem, Single, Coregion, Inline, Refer, Bodies, no_bodies, body_and}
 use Rattle.msc_meaning.specs.Calls.{calls}
 use Rattle.msc_meaning.specs.ChartUnfoldings.{gates_of, under, refined_under, refining_under}
-use Rattle.msc_meaning.specs.FarEnds.{GateMap, Around, Gates, gates_referred, inside, far_end, happening}
+use Rattle.msc_meaning.specs.FarEnds.{GateMap, no_gates, Around, Gates, gates_referred, inside, far_end, happening}
 use Rattle.msc_meaning.specs.InnerEvents.{GateEnd}
 use Rattle.msc_meaning.specs.Refinements.{Refining, refining, refinings, without_decomposed, past_refining}
 use Rattle.msc_meaning.specs.Tables.{Table, ChartEntry, chart_at, Woven, Basic, HighLevel, Refinement, refinements}
 use Rattle.msc_meaning.specs.Ties.{ties, past_inline, past_reference}
 use Rattle.expansion_tree.specs.Expansions.{Expansion, all_events_in, events_in}
 use Rattle.expanded_charts.specs.Expanding as tree
-use Rattle.expanded_charts.specs.Expanding.{NumberedEvent, Expanded, ExpandedParts, Shown, nothing, or_nothing, in_row, aside, exception, turns, tied, past, past_shown, numbers_with, pairs_between, tied_pairs, expand_events, expand, expand_all, expand_level, expand_items, expand_item, expand_operands, expand_refinings, expand_woven, expand_entry, expand_charts}
+use Rattle.expanded_charts.specs.Expanding.{NumberedEvent, Expanded, ExpandedParts, Shown, nothing, or_nothing, in_row, aside, exception, turns, tied, past, past_shown, numbers_with, pairs_between, tied_pairs, expand_events, expand, expand_all, expand_level, expand_items, expand_item, expand_operands, expand_refinings, expand_graph, expand_lines, expand_node, expand_frames, expand_woven, expand_entry, expand_charts}
 use Rattle.sound_terms.proofs.Mapped.{map_among}
 use Rattle.sound_terms.proofs.Ordering.{among_left, among_right}
 use Rattle.expanded_terms.specs.ExpansionNumbers.{numbers_of_events}
@@ -144,6 +148,10 @@ tied_held ts e h = record { ties = ((λ p i. tied_both (events_in e.part) e.show
 past_held : (f : Tag → List Tag) (e : Expanded) → IsHeld e → IsHeld (past f e)
 past_held f e h = record { ties = h.ties; shown = past_of (events_in e.part) f e.shown h.shown }
 
+-- nothing is shown of a walk
+walk_held : (n : ℕ) (g : Shape) (l : ExpandedParts) → AreHeld l → IsHeld (tree.walk n g l)
+walk_held n g l h = record { ties = h.ties; shown = λ p i. elim i [ ] }
+
 event_held : (n : ℕ) (h : Happening) → IsHeld (tree.event n h)
 event_held n h = record { ties = tt; shown = λ p i. at p (map_among (tagged n) h.tags i) }
   where
@@ -227,11 +235,32 @@ module _ (ends_of : WovenItems → List GateEnd) (chart : tree.Charts) (known : 
       both : ExpandedParts
       both = tree.put rest fine
 
+  mutual
+    graph_held : (n : ℕ) (drawn : Graph) → IsHeld (expand_graph chart ends_of n drawn)
+    graph_held n (graph starts lines) = walk_held n (shape_of (graph starts lines)) (expand_lines chart ends_of (suc n) lines) (lines_held (suc n) lines)
+
+    lines_held : (n : ℕ) (lines : Lines) → AreHeld (expand_lines chart ends_of n lines)
+    lines_held n no_lines = none_held n
+    lines_held n (line_and (line label place node next) rest) =
+        put_held (expand_node chart ends_of n node) (expand_lines chart ends_of (expand_node chart ends_of n node).next rest) (node_held n node) (lines_held (expand_node chart ends_of n node).next rest)
+
+    node_held : (n : ℕ) (node : Node) → IsHeld (expand_node chart ends_of n node)
+    node_held n Ends = row_held (nothing n) (none_held n)
+    node_held n Connect = row_held (nothing n) (none_held n)
+    node_held n (Condition names) = row_held (nothing n) (none_held n)
+    node_held n (graphs.Refer e) = expression_held no_gates n e
+    node_held n (Frames held) = aside_held (expand_frames chart ends_of n held) (frames_held n held)
+
+    frames_held : (n : ℕ) (held : Graphs) → AreHeld (expand_frames chart ends_of n held)
+    frames_held n no_graphs = none_held n
+    frames_held n (graph_and drawn rest) =
+        put_held (expand_graph chart ends_of n drawn) (expand_frames chart ends_of (expand_graph chart ends_of n drawn).next rest) (graph_held n drawn) (frames_held (expand_graph chart ends_of n drawn).next rest)
+
   woven_held : (table : Table) (gates : GateMap) (n : ℕ) (rs : List Refinement) (content : Woven) → IsHeld (expand_woven chart ends_of table gates n rs content)
   woven_held table gates n [] (Basic held) = level_held (under gates) n held
   woven_held table gates n (r ∷ rs) (Basic (level cover held pairs)) = refined_held (refined_under gates pairs (refinings table held (r ∷ rs))) n held pairs (r ∷ rs) (refinings table held (r ∷ rs))
-  woven_held table gates n [] (HighLevel drawn) = row_held (nothing n) (none_held n)
-  woven_held table gates n (r ∷ rs) (HighLevel drawn) = row_held (nothing n) (none_held n)
+  woven_held table gates n [] (HighLevel drawn) = graph_held n drawn
+  woven_held table gates n (r ∷ rs) (HighLevel drawn) = graph_held n drawn
 
   entry_held : (table : Table) (gates : GateMap) (n : ℕ) (o : Option ChartEntry) → IsHeld (expand_entry ends_of table chart gates n o)
   entry_held table gates n None = row_held (nothing n) (none_held n)

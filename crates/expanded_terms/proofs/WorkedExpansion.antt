@@ -13,12 +13,7 @@ use Rattle.msc_meaning.specs.WorkedCharts as worked
 use Rattle.msc_meaning.specs.WorkedCharts.{g, h}
 use Rattle.msc_unfolding.specs.Unfoldings.{Tag, Own, On}
 use Rattle.msc_meaning.proofs.KnownEnds.{one_call}
-use Rattle.expanded_terms.specs.RisingPairs.{Rises, DoNumbersRise}
-use Rattle.expanded_terms.specs.RisingTexts.{PairRises}
-use Rattle.expanded_terms.specs.NamedEvents.{event_named}
-use Rattle.expanded_terms.specs.RankedCharts.{expanded}
 use Rattle.expanded_terms.specs.WorkedExpansion.{GateExpands, worked_names, worked_labels, worked_ends}
-use Rattle.expanded_terms.proofs.Ranking.{preceding, rising}
 
 gate_inner : {table : Table} {e : InnerEvent} → IsInner table worked.gate_body g e → e.node ≡ worked.gate_in
 gate_inner (own first e) = refl
@@ -52,35 +47,6 @@ outer_end = of_reference (later first) refl (of_chart first refl (passed first f
 pub none_called : (table : Table) (held : WovenItems) → HaveOneEnd table held []
 none_called table held c a e f s t = elim a [ ]
 
--- the first of the pair has the lower number
-pair_rises : (base : ℕ → ℕ) → base 0 ≡ 0 → base 1 ≡ 1 → DoNumbersRise 0 2 base [] ((0, 1) ∷ [])
-pair_rises base none one = record { rise = λ m n e. by m n (m == 0) (n == 1) refl refl e; outside = λ j p a. elim a [ ] }
-  where
-    at : (m n : ℕ) → m ≡ 0 → n ≡ 1 → Rises 0 2 base m n
-    at m n p q = subst (λ (x : ℕ). Rises 0 2 base x n) (sym p) (subst (λ (x : ℕ). Rises 0 2 base 0 x) (sym q) (record { first = (omega arith, omega arith); second = (omega arith, omega arith); rises = omega (arith, one, none) }))
-
-    by : (m n : ℕ) (a b : Bool) → (m == 0) ≡ a → (n == 1) ≡ b → ((a && b) || false) ≡ true → Rises 0 2 base m n
-    by m n true true p q e = at m n ((Decides-eqb m 0).0 p) ((Decides-eqb n 1).0 q)
-    by m n true false p q e = absurd cc
-    by m n false b p q e = absurd cc
-
-none_rises : {lo hi : ℕ} {base : ℕ → ℕ} {looped : List ℕ} → DoNumbersRise lo hi base looped []
-none_rises = record { rise = λ m n e. absurd cc; outside = λ j p a. elim p [ ] }
-
--- the one pair of tags, of the output and of the gate
-pub the_pair : (P : Tag → Tag → Type 0) (a b s t : Tag) → P a b → Among {P = Tag × Tag} (s, t) ((a, b) ∷ []) → P s t
-the_pair P a b _ _ holds first = holds
-the_pair P a b s t holds (later i) = elim i [ ]
-
-pub not_there : (n : ℕ) (z g : List ℕ) → Among (Own n) (On z g ∷ []) → ⊥
-not_there n z g (later i) = elim i [ ]
-
-pub not_called : (n : ℕ) (z g : List ℕ) → Among (On z g) (Own n ∷ []) → ⊥
-not_called n z g (later i) = elim i [ ]
-
-none_there : (t : Tag) → Among t [] → ⊥
-none_there t i = elim i [ ]
-
 pub gate_expands : GateExpands
 gate_expands = record {
   term = refl;
@@ -112,13 +78,6 @@ gate_expands = record {
       ),
     );
   };
-  ranked = (rising (λ n. n) _ refl, (tt, (λ no. preceding (λ n. n) _ _ refl), ((rising (λ n. n) _ refl, ((rising (λ n. n) _ refl, (tt, (λ no. preceding (λ n. n) _ _ refl), tt)), (λ no. preceding (λ n. n) _ _ refl), tt)), (λ no. preceding (λ n. n) _ _ refl), tt)));
-  texts = (
-    λ s t i. the_pair (λ (s t : Tag). PairRises (expanded (event_named worked_names worked_labels) worked_ends worked.gate_through_levels 2) [] worked.outer_items s t) (Own 0) (On (codes "R") h) s t
-        (record { order = ((λ a b. not_there 0 (codes "R") h a), (λ a b. not_called 0 (codes "R") h b), ((λ a b. elim a [ ]), (λ a b. not_there 0 (codes "R") h a), tt)); first = λ a. elim a [ ]; second = λ a. elim a [ ] }) i,
-    (tt, (((λ s t i. elim i [ ]), ((((λ s t i. elim i [ ]), (tt, tt))), tt)), tt)),
-  );
-  rises = (pair_rises _ refl refl, (tt, ((none_rises, ((none_rises, (tt, tt)), tt)), tt)));
   placeable = record {
     entry = _;
     is = refl;

@@ -16,16 +16,13 @@ use Rattle.msc_meaning.specs.WorkedCharts.{d, e, g, h, i, j, k, m, n, p, q, x}
 use Rattle.msc_meaning.specs.WorkedParts.{sent, received, done}
 use Rattle.msc_meaning.proofs.Deciding.{not_so}
 use Rattle.msc_meaning.proofs.KnownEnds.{one_call, two_calls}
-use Rattle.expanded_terms.specs.RisingTexts.{PairRises}
 use Rattle.expanded_terms.specs.FitBodies.{IsFitTo, AreEndsOf}
 use Rattle.expanded_terms.specs.JoinProducts.{IsFewTo}
-use Rattle.expanded_terms.specs.NamedEvents.{event_named}
-use Rattle.expanded_terms.specs.RankedCharts.{expanded}
-use Rattle.expanded_terms.specs.WorkedPremises.{MeetsAll, RisesAndIsFew, PremisesAreMet}
+use Rattle.expanded_terms.specs.ExpandedTerms.{Leaves}
+use Rattle.expanded_terms.specs.WorkedPremises.{MeetsAll, PremisesAreMet}
 use Rattle.expanded_terms.specs.WorkedTerms.{joined_ends, inline_ends}
 use Rattle.expanded_terms.specs.WorkedTerms as ends
-use Rattle.expanded_terms.proofs.Ranking.{preceding, rising}
-use Rattle.expanded_terms.proofs.WorkedExpansion.{none_called, not_called, not_there, the_pair}
+use Rattle.expanded_terms.proofs.WorkedExpansion.{none_called}
 
 abbrev R : List ℕ
 R = codes "R"
@@ -100,8 +97,8 @@ sent_p = record { label = sent p m q; also = None; tags = Own 0 ∷ Via g ∷ []
 abbrev taken_q : Happening
 taken_q = record { label = received q m p; also = None; tags = Own 0 ∷ Via h ∷ [] }
 
-joined_fit : (Named : Happening → Type 0) → Named sent_p → Named taken_q → IsFitTo worked.gates_joined joined_ends Named 2 (codes "A") no_gates
-joined_fit Named a b = record {
+joined_fit : (leaves : Leaves) (Named : Happening → Type 0) → Named sent_p → Named taken_q → IsFitTo worked.gates_joined joined_ends leaves Named (λ i g nodes. ⊥) 2 (codes "A") no_gates 0
+joined_fit leaves Named a b = record {
   entry = _;
   is = refl;
   fit = (
@@ -113,7 +110,7 @@ joined_fit Named a b = record {
   );
 }
 
-joined_meets : MeetsAll (p ∷ q ∷ []) (sent p m q ∷ received q m p ∷ []) joined_ends worked.gates_joined 2 (λ n. n)
+joined_meets : MeetsAll (p ∷ q ∷ []) (sent p m q ∷ received q m p ∷ []) joined_ends worked.gates_joined 2
 joined_meets = record {
   whole = record {
     entry = _;
@@ -126,15 +123,11 @@ joined_meets = record {
       ),
     );
   };
-  fit = joined_fit _ (record { label = refl; at = refl; also = λ i e. absurd cc }) (record { label = refl; at = refl; also = λ i e. absurd cc });
-  placeable = joined_fit _ (record { label = refl; child = refl }) (record { label = refl; child = refl });
-  ranked = (
-    rising (λ n. n) _ refl,
-    (
-      (rising (λ n. n) _ refl, (tt, (λ no. preceding (λ n. n) _ _ refl), tt)),
-      (λ no. preceding (λ n. n) _ _ refl),
-      ((rising (λ n. n) _ refl, (tt, (λ no. preceding (λ n. n) _ _ refl), tt)), (λ no. preceding (λ n. n) _ _ refl), tt),
-    ),
+  fit = joined_fit _ _ (record { label = refl; at = refl; also = λ i e. absurd cc }) (record { label = refl; at = refl; also = λ i e. absurd cc });
+  placeable = joined_fit _ _ (record { label = refl; child = refl }) (record { label = refl; child = refl });
+  few = (
+    record { numbers = tt; pairs = omega arith; calls = tt },
+    ((record { numbers = (λ i. elim i [ ], tt); pairs = omega arith; calls = tt }, (tt, tt)), ((record { numbers = (λ i. elim i [ ], tt); pairs = omega arith; calls = tt }, (tt, tt)), tt)),
   );
 }
 
@@ -178,8 +171,8 @@ taken_k = record { label = received k m i; also = None; tags = Own 1 ∷ Via g �
 abbrev done_k : Happening
 done_k = record { label = done k x; also = None; tags = Own 2 ∷ [] }
 
-inline_fit : (Named : Happening → Type 0) → Named sent_i → Named taken_k → Named done_k → IsFitTo worked.gate_of_inline inline_ends Named 1 (codes "A") no_gates
-inline_fit Named a b c = record {
+inline_fit : (leaves : Leaves) (Named : Happening → Type 0) → Named sent_i → Named taken_k → Named done_k → IsFitTo worked.gate_of_inline inline_ends leaves Named (λ i g nodes. ⊥) 1 (codes "A") no_gates 0
+inline_fit leaves Named a b c = record {
   entry = _;
   is = refl;
   fit = (
@@ -200,7 +193,7 @@ inline_fit Named a b c = record {
   );
 }
 
-inline_meets : MeetsAll (i ∷ k ∷ []) (sent i m k ∷ received k m i ∷ done k x ∷ []) inline_ends worked.gate_of_inline 1 (λ n. n)
+inline_meets : MeetsAll (i ∷ k ∷ []) (sent i m k ∷ received k m i ∷ done k x ∷ []) inline_ends worked.gate_of_inline 1
 inline_meets = record {
   whole = record {
     entry = _;
@@ -222,19 +215,17 @@ inline_meets = record {
       ),
     );
   };
-  fit = inline_fit _ (record { label = refl; at = refl; also = λ i e. absurd cc }) (record { label = refl; at = refl; also = λ i e. absurd cc }) (record { label = refl; at = refl; also = λ i e. absurd cc });
-  placeable = inline_fit _ (record { label = refl; child = refl }) (record { label = refl; child = refl }) (record { label = refl; child = refl });
-  ranked = (
-    rising (λ n. n) _ refl,
+  fit = inline_fit _ _ (record { label = refl; at = refl; also = λ i e. absurd cc }) (record { label = refl; at = refl; also = λ i e. absurd cc }) (record { label = refl; at = refl; also = λ i e. absurd cc });
+  placeable = inline_fit _ _ (record { label = refl; child = refl }) (record { label = refl; child = refl }) (record { label = refl; child = refl });
+  few = (
+    record { numbers = (λ i. elim i [ ], tt); pairs = omega arith; calls = (λ i. elim i [ ], tt) },
     (
       tt,
-      (λ no. preceding (λ n. n) _ _ refl),
       (
         (
-          (rising (λ n. n) _ refl, (tt, (λ no. preceding (λ n. n) _ _ refl), tt)),
-          ((rising (λ n. n) _ refl, (tt, (λ no. preceding (λ n. n) _ _ refl), tt)), tt),
+          refl,
+          ((record { numbers = (λ i. elim i [ ], tt); pairs = omega arith; calls = tt }, (tt, tt)), ((record { numbers = (λ i. elim i [ ], tt); pairs = omega arith; calls = tt }, (tt, tt)), tt)),
         ),
-        (λ no. preceding (λ n. n) _ _ refl),
         tt,
       ),
     ),
@@ -255,102 +246,14 @@ taken_d = record { label = received d n e; also = None; tags = Own 1 ∷ [] }
 abbrev matched_d : Happening
 matched_d = record { label = received d m j; also = None; tags = Own 2 ∷ [] }
 
-decomposed_fit : (Named : Happening → Type 0) → Named sent_j → Named sent_e → Named taken_d → Named matched_d → IsFitTo worked.refined ends.no_ends Named 1 (codes "A") no_gates
-decomposed_fit Named a b c f = record {
+decomposed_fit : (leaves : Leaves) (Named : Happening → Type 0) → Named sent_j → Named sent_e → Named taken_d → Named matched_d → IsFitTo worked.refined ends.no_ends leaves Named (λ i g nodes. ⊥) 1 (codes "A") no_gates 0
+decomposed_fit leaves Named a b c f = record {
   entry = _;
   is = refl;
   fit = (
     record { there = no_ends; one = none_called worked.refined _ },
     (a, tt),
     ((record { there = no_ends; one = none_called worked.refined _ }, (b, (c, (f, tt)))), tt),
-  );
-}
-
-decomposed_meets : MeetsAll (j ∷ d ∷ e ∷ []) (sent j m d ∷ sent e n d ∷ received d n e ∷ received d m j ∷ []) ends.no_ends worked.refined 1 (λ n. n)
-decomposed_meets = record {
-  whole = record {
-    entry = _;
-    is = refl;
-    whole = (
-      record { there = no_ends; one = none_called worked.refined _ },
-      (tt, tt),
-      ((record { there = no_ends; one = none_called worked.refined _ }, (tt, (tt, (tt, tt)))), tt),
-    );
-  };
-  fit = decomposed_fit _ (record { label = refl; at = refl; also = λ i e. absurd cc }) (record { label = refl; at = refl; also = λ i e. absurd cc }) (record { label = refl; at = refl; also = λ i e. absurd cc }) (record { label = refl; at = refl; also = λ i e. absurd cc });
-  placeable = decomposed_fit _ (record { label = refl; child = refl }) (record { label = refl; child = refl }) (record { label = refl; child = refl }) (record { label = refl; child = refl });
-  ranked = (
-    rising (λ n. n) _ refl,
-    (tt, (λ no. preceding (λ n. n) _ _ refl), tt),
-    (
-      (
-        rising (λ n. n) _ refl,
-        (
-          tt,
-          (λ no. preceding (λ n. n) _ _ refl),
-          (tt, (λ no. preceding (λ n. n) _ _ refl), (tt, (λ no. preceding (λ n. n) _ _ refl), tt)),
-        ),
-      ),
-      tt,
-    ),
-  );
-}
-
--- ---- pairs
-
-abbrev is_on : List ℕ → Tag → Bool
-is_on name (Own i) = false
-is_on name (Via f) = false
-is_on name (On y f) = bytes_eq name y
-
-differ : (f : Tag → Bool) (s t : Tag) → f s ≡ true → f t ≡ false → Among s (t ∷ []) → ⊥
-differ f s _ a b first = not_so (sym b ∙ a)
-differ f s t a b (later i) = elim i [ ]
-
-joined_rises : RisesAndIsFew (p ∷ q ∷ []) (sent p m q ∷ received q m p ∷ []) joined_ends worked.gates_joined 2
-joined_rises = record {
-  texts = (
-    λ s t i. the_pair (λ (s t : Tag). PairRises (expanded (event_named (p ∷ q ∷ []) (sent p m q ∷ received q m p ∷ [])) joined_ends worked.gates_joined 1) [] worked.joined_items s t) (On R g) (On S h) s t
-        (record {
-          order = (
-            (λ a b. differ (is_on R) (On R g) (On S h) refl refl a),
-            (λ a b. differ (is_on S) (On S h) (On R g) refl refl b),
-            ((λ a b. elim a [ ]), (λ a b. differ (is_on R) (On R g) (On S h) refl refl a), tt),
-          );
-          first = λ a. elim a [ ];
-          second = λ a. elim a [ ];
-        }) i,
-    (((λ s t i. elim i [ ]), (tt, tt)), (((λ s t i. elim i [ ]), (tt, tt)), tt)),
-  );
-  few = (
-    record { numbers = tt; pairs = omega arith; calls = tt },
-    ((record { numbers = (λ i. elim i [ ], tt); pairs = omega arith; calls = tt }, (tt, tt)), ((record { numbers = (λ i. elim i [ ], tt); pairs = omega arith; calls = tt }, (tt, tt)), tt)),
-  );
-}
-
-inline_rises : RisesAndIsFew (i ∷ k ∷ []) (sent i m k ∷ received k m i ∷ done k x ∷ []) inline_ends worked.gate_of_inline 1
-inline_rises = record {
-  texts = (
-    λ s t a. the_pair (λ (s t : Tag). PairRises (expanded (event_named (i ∷ k ∷ []) (sent i m k ∷ received k m i ∷ done k x ∷ [])) inline_ends worked.gate_of_inline 0) [] worked.inline_items s t) (Own 0) (On X g) s t
-        (record {
-          order = ((λ a b. not_there 0 X g a), (λ a b. not_called 0 X g b), ((λ a b. elim a [ ]), (λ a b. not_there 0 X g a), tt));
-          first = λ a. elim a [ ];
-          second = λ a. elim a [ ];
-        }) a,
-    (tt, ((((λ s t i. elim i [ ]), (tt, tt)), (((λ s t i. elim i [ ]), (tt, tt)), tt)), tt)),
-  );
-  few = (
-    record { numbers = (λ i. elim i [ ], tt); pairs = omega arith; calls = (λ i. elim i [ ], tt) },
-    (
-      tt,
-      (
-        (
-          refl,
-          ((record { numbers = (λ i. elim i [ ], tt); pairs = omega arith; calls = tt }, (tt, tt)), ((record { numbers = (λ i. elim i [ ], tt); pairs = omega arith; calls = tt }, (tt, tt)), tt)),
-        ),
-        tt,
-      ),
-    ),
   );
 }
 
@@ -379,12 +282,21 @@ decomposed_few = (
   ),
 )
 
-pub premises_are_met : PremisesAreMet
-premises_are_met = record {
-  joined = joined_meets;
-  joined_rises = joined_rises;
-  inline = inline_meets;
-  inline_rises = inline_rises;
-  decomposed = decomposed_meets;
-  decomposed_few = decomposed_few;
+decomposed_meets : MeetsAll (j ∷ d ∷ e ∷ []) (sent j m d ∷ sent e n d ∷ received d n e ∷ received d m j ∷ []) ends.no_ends worked.refined 1
+decomposed_meets = record {
+  whole = record {
+    entry = _;
+    is = refl;
+    whole = (
+      record { there = no_ends; one = none_called worked.refined _ },
+      (tt, tt),
+      ((record { there = no_ends; one = none_called worked.refined _ }, (tt, (tt, (tt, tt)))), tt),
+    );
+  };
+  fit = decomposed_fit _ _ (record { label = refl; at = refl; also = λ i e. absurd cc }) (record { label = refl; at = refl; also = λ i e. absurd cc }) (record { label = refl; at = refl; also = λ i e. absurd cc }) (record { label = refl; at = refl; also = λ i e. absurd cc });
+  placeable = decomposed_fit _ _ (record { label = refl; child = refl }) (record { label = refl; child = refl }) (record { label = refl; child = refl }) (record { label = refl; child = refl });
+  few = decomposed_few;
 }
+
+pub premises_are_met : PremisesAreMet
+premises_are_met = record { joined = joined_meets; inline = inline_meets; decomposed = decomposed_meets }

@@ -8,6 +8,8 @@ use Rattle.chart_forms.specs.TableSizes.{size_to}
 use Rattle.general_ordering.specs.OrderCounts.{order_count, orders_count}
 use Rattle.msc_tree.specs.Expressions.{Expression, Empty, Chart, Alt, Par, Seq, Opt, Expressions, none, more}
 use Rattle.msc_tree.specs.Expressions as expression
+use Rattle.msc_tree.specs.Graphs as tree
+use Rattle.msc_tree.specs.Graphs.{graph, Lines, no_lines, line_and, line, Node, Ends, Connect, Condition, Frames, Graphs, no_graphs, graph_and}
 use Rattle.msc_meaning.specs.Bodies.{EventNode, ReferencePart, Body, level, WovenItems, no_items, item_and, WovenItem, Single, Coregion, Inline, Refer, Bodies, no_bodies, body_and, events}
 use Rattle.msc_meaning.specs.Calls.{calls}
 use Rattle.msc_meaning.specs.FarEnds.{GateMap}
@@ -15,7 +17,7 @@ use Rattle.msc_meaning.specs.InnerEvents.{GateEnd}
 use Rattle.msc_meaning.specs.Refinements.{Refining, refining, refinings, is_decomposed, without_decomposed}
 use Rattle.msc_meaning.specs.Tables.{Table, ChartEntry, chart_at, Woven, Basic, HighLevel, Refinement, refinements}
 use Rattle.msc_meaning.specs.Ties.{ties}
-use Rattle.expanded_terms.specs.ExpandedTerms.{Charts, charts_to, expression_shown, level_shown, items_shown, operands_shown, refined_shown, woven_shown, expression_count, items_count, item_count, level_count}
+use Rattle.expanded_terms.specs.ExpandedTerms.{Leaves, graph_count, node_count, Charts, charts_to, expression_shown, level_shown, items_shown, operands_shown, refined_shown, woven_shown, expression_count, items_count, item_count, level_count}
 use Rattle.chart_forms.specs.BuiltBodies.{has_operands}
 use Rattle.expanded_terms.specs.TagNumbers.{tied_numbers}
 
@@ -98,6 +100,22 @@ module _ (charts : Charts) (product : WovenItems → ReferencePart → ℕ) (end
   HaveFewInRefinings n [] = Unit {0}
   HaveFewInRefinings n (refining (level cover held pairs) ms ∷ rs) = HasFewPairs n (level cover held pairs) × HaveFewInRefinings (n + items_count charts held) rs
 
+  abbrev mutual
+    pub HaveFewInLines : ℕ → Lines → Type 0
+    HaveFewInLines n no_lines = Unit {0}
+    HaveFewInLines n (line_and (line label place node next) rest) = HasFewInNode n node × HaveFewInLines (n + node_count charts node) rest
+
+    pub HasFewInNode : ℕ → Node → Type 0
+    HasFewInNode n Ends = Unit {0}
+    HasFewInNode n Connect = Unit {0}
+    HasFewInNode n (Condition names) = Unit {0}
+    HasFewInNode n (tree.Refer expression) = HasFewInExpression n expression
+    HasFewInNode n (Frames held) = HaveFewInFrames n held
+
+    pub HaveFewInFrames : ℕ → Graphs → Type 0
+    HaveFewInFrames n no_graphs = Unit {0}
+    HaveFewInFrames n (graph_and (graph starts lines) rest) = HaveFewInLines (suc n) lines × HaveFewInFrames (n + graph_count charts (graph starts lines)) rest
+
   -- the pairs of a whole body have the room of what is left of it, and of the events that it leaves to its refining charts
   abbrev pub HasFewInWoven : Table → ℕ → List Refinement → Woven → Type 0
   HasFewInWoven table n [] (Basic held) = HasFewPairs n held
@@ -106,19 +124,24 @@ module _ (charts : Charts) (product : WovenItems → ReferencePart → ℕ) (end
       (items_room charts product held n (without_decomposed (r ∷ rs) held) + decomposed_room (r ∷ rs) (events held))
       × HaveFewPairs n (without_decomposed (r ∷ rs) held)
       × HaveFewInRefinings (n + items_count charts (without_decomposed (r ∷ rs) held)) (refinings table held (r ∷ rs))
-  HasFewInWoven table n rs (HighLevel drawn) = ⊥
+  HasFewInWoven table n rs (HighLevel (graph starts lines)) = HaveFewInLines (suc n) lines
 
   abbrev pub HasFewInEntry : Table → ℕ → Option ChartEntry → Type 0
   HasFewInEntry table n None = ⊥
   HasFewInEntry table n (Some entry) = HasFewInWoven table n (refinements entry.decls) entry.content
 
-module _ (event : ℕ → Happening → Tree) (product : ℕ → WovenItems → ReferencePart → ℕ) (ends_of : WovenItems → List GateEnd) (table : Table) where
+module _ (leaves : Leaves) (product : ℕ → WovenItems → ReferencePart → ℕ) (ends_of : WovenItems → List GateEnd) (table : Table) where
   abbrev pub HasFewTo : ℕ → List ℕ → ℕ → Type 0
   HasFewTo zero name n = ⊥
-  HasFewTo (suc k) name n = HasFewInEntry (charts_to event ends_of table k) (product k) ends_of (HasFewTo k) table n (chart_at table name)
+  HasFewTo (suc k) name n = HasFewInEntry (charts_to leaves ends_of table k) (product k) ends_of (HasFewTo k) table n (chart_at table name)
+
+-- each event and each walk weighs 1 at most
+pub record AreLeavesLight (leaves : Leaves) : Type 0 where
+  pub events : (i : ℕ) (h : Happening) → weight (leaves.event i h) ≤ 1
+  pub walks : (i : ℕ) → weight (leaves.walk i) ≤ 1
 
 -- the term of a chart weighs no more than the chart's expanded size, where each level has few pairs
 pub record ExpandedTermsWeigh : Type 0 where
-  pub weighs : (event : ℕ → Happening → Tree) (product : ℕ → WovenItems → ReferencePart → ℕ) (ends_of : WovenItems → List GateEnd) (table : Table) (depth : ℕ) (name : List ℕ) (gates : GateMap) (n : ℕ)
-      → ((i : ℕ) (h : Happening) → weight (event i h) ≤ 1) → HasFewTo event product ends_of table depth name n
-      → weight ((charts_to event ends_of table depth).term name gates n) ≤ size_to product table depth name
+  pub weighs : (leaves : Leaves) (product : ℕ → WovenItems → ReferencePart → ℕ) (ends_of : WovenItems → List GateEnd) (table : Table) (depth : ℕ) (name : List ℕ) (gates : GateMap) (n : ℕ)
+      → AreLeavesLight leaves → HasFewTo leaves product ends_of table depth name n
+      → weight ((charts_to leaves ends_of table depth).term name gates n) ≤ size_to product table depth name

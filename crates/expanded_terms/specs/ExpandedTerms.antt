@@ -1,5 +1,6 @@
--- The term of a body with its references, gates, joins and decomposed instances: how many events it has, the tags that are still to be
--- seen of them, and the term. The events are numbered in the order of the text, here from n on, each use of a chart anew.
+-- The term of a body with its references, gates, joins and decomposed instances, and of a graph: how many numbers its events and walks
+-- take, the tags that are still to be seen of its events, and the term. Events and walks are numbered in the order of the text, here from
+-- n on, each use of a chart anew.
 use Rattle.std.specs.Prelude.{ℕ, zero, suc, ◌+◌, List, [], ◌∷◌, ◌++◌, Option, None, Some, length}
 use Rattle.msc_base.specs.declared.label.Far.{Far}
 use Rattle.msc_base.specs.Patterns.{Mode, seq, par}
@@ -10,10 +11,12 @@ use Rattle.term_meaning.specs.Portions.{Shown, shown_at, past_shown}
 use Rattle.msc_tree.specs.declared.reference.InlineForm.TheVariants as inline
 use Rattle.msc_tree.specs.Expressions.{Expression, Empty, Chart, Alt, Par, Seq, Opt, Expressions, none, more}
 use Rattle.msc_tree.specs.Expressions as expression
+use Rattle.msc_tree.specs.Graphs as tree
+use Rattle.msc_tree.specs.Graphs.{Graph, graph, Lines, no_lines, line_and, line, Node, Ends, Connect, Condition, Frames, Graphs, no_graphs, graph_and}
 use Rattle.msc_meaning.specs.Bodies.{EventNode, Body, level, WovenItems, no_items, item_and, WovenItem, Single, Coregion, Inline, Refer, Bodies, no_bodies, body_and}
 use Rattle.msc_meaning.specs.Calls.{Call, calls}
 use Rattle.msc_meaning.specs.ChartUnfoldings.{gates_of, under, refined_under, refining_under}
-use Rattle.msc_meaning.specs.FarEnds.{GateMap, Around, Gates, gates_referred, inside, far_end, gate_tags, happening}
+use Rattle.msc_meaning.specs.FarEnds.{GateMap, no_gates, Around, Gates, gates_referred, inside, far_end, gate_tags, happening}
 use Rattle.msc_meaning.specs.InnerEvents.{GateEnd}
 use Rattle.msc_meaning.specs.Refinements.{Refining, refining, refinings, without_decomposed, past_refining}
 use Rattle.msc_meaning.specs.Tables.{Table, ChartEntry, chart_at, Woven, Basic, HighLevel, Refinement, refinements}
@@ -22,17 +25,24 @@ use Rattle.chart_forms.specs.BodyEvents.{is_exception}
 pub use Rattle.expansion_terms.specs.Constructors.{one_of, placed, leave_turn, turns_if, turns_of}
 use Rattle.expanded_terms.specs.TagNumbers.{tied_numbers}
 
+-- ---- events and walks
+
+-- the terms of events and of walks, by their numbers
+pub record Leaves : Type 0 where
+  pub event : ℕ → Happening → Tree
+  pub walk : ℕ → Tree
+
 -- ---- what charts come to, by their names
 
 pub record Charts : Type 0 where
-  -- how many events they have
+  -- how many numbers their events and walks take
   pub count : List ℕ → ℕ
   -- the tags that are still to be seen of them, numbered from n on
   pub shown : List ℕ → ℕ → Shown
   -- their terms, their gates leading there, numbered from n on
   pub term : List ℕ → GateMap → ℕ → Tree
 
--- ---- how many events
+-- ---- how many numbers
 
 module _ (charts : Charts) where
   abbrev mutual
@@ -48,6 +58,26 @@ module _ (charts : Charts) where
     pub expressions_count : Expressions → ℕ
     expressions_count none = 0
     expressions_count (more x xs) = expression_count x + expressions_count xs
+
+  abbrev mutual
+    -- a walk has a number of its own, and so has each event of its nodes
+    pub graph_count : Graph → ℕ
+    graph_count (graph starts lines) = suc (lines_count lines)
+
+    pub lines_count : Lines → ℕ
+    lines_count no_lines = 0
+    lines_count (line_and (line label place node next) rest) = node_count node + lines_count rest
+
+    pub node_count : Node → ℕ
+    node_count Ends = 0
+    node_count Connect = 0
+    node_count (Condition names) = 0
+    node_count (tree.Refer expression) = expression_count expression
+    node_count (Frames held) = frames_count held
+
+    pub frames_count : Graphs → ℕ
+    frames_count no_graphs = 0
+    frames_count (graph_and drawn rest) = graph_count drawn + frames_count rest
 
   abbrev mutual
     pub level_count : Body → ℕ
@@ -75,7 +105,7 @@ module _ (charts : Charts) where
   abbrev pub woven_count : Table → List Refinement → Woven → ℕ
   woven_count table [] (Basic held) = level_count held
   woven_count table (r ∷ rs) (Basic (level cover held pairs)) = items_count (without_decomposed (r ∷ rs) held) + refinings_count (refinings table held (r ∷ rs))
-  woven_count table rs (HighLevel drawn) = 0
+  woven_count table rs (HighLevel drawn) = graph_count drawn
 
   -- ---- tags
 
@@ -134,11 +164,11 @@ module _ (charts : Charts) where
 
   -- ---- terms
 
-  -- the term of an event, by its number; the ends of the called gates of a level
-  module _ (event : ℕ → Happening → Tree) (ends_of : WovenItems → List GateEnd) where
+  -- ends_of: the ends of the called gates of a level
+  module _ (leaves : Leaves) (ends_of : WovenItems → List GateEnd) where
     abbrev pub events_term : List GateEnd → Around → ℕ → List EventNode → Tree
     events_term es around n [] = Nil
-    events_term es around n (k ∷ ks) = join_all par (event n (happening es around k) ∷ events_term es around (n + 1) ks ∷ [])
+    events_term es around n (k ∷ ks) = join_all par (leaves.event n (happening es around k) ∷ events_term es around (n + 1) ks ∷ [])
 
     abbrev mutual
       pub expression_term : GateMap → ℕ → Expression → Tree
@@ -170,7 +200,7 @@ module _ (charts : Charts) where
 
       -- an item; of an exception its operand
       pub item_term : Gates → Around → ℕ → WovenItem → Tree
-      item_term gates around n (Single e) = event n (happening gates.ends around e)
+      item_term gates around n (Single e) = leaves.event n (happening gates.ends around e)
       item_term gates around n (Coregion es) = events_term gates.ends around n es
       item_term gates around n (Inline inline.Alt part operands) = one_of (operand_terms (inside gates part.name around) n operands)
       item_term gates around n (Inline inline.Opt part operands) = one_of (one_of (operand_terms (inside gates part.name around) n operands) ∷ Nil ∷ [])
@@ -189,6 +219,23 @@ module _ (charts : Charts) where
       parallel_term around n no_bodies = Nil
       parallel_term around n (body_and b bs) = join_all par (level_term around n b ∷ parallel_term around (n + level_count b) bs ∷ [])
 
+    -- frames: their walks, side by side
+    abbrev pub frames_term : ℕ → Graphs → Tree
+    frames_term n no_graphs = Nil
+    frames_term n (graph_and drawn rest) = join_all par (leaves.walk n ∷ frames_term (n + graph_count drawn) rest ∷ [])
+
+    abbrev pub node_term : ℕ → Node → Tree
+    node_term n Ends = Nil
+    node_term n Connect = Nil
+    node_term n (Condition names) = Nil
+    node_term n (tree.Refer expression) = expression_term no_gates n expression
+    node_term n (Frames held) = frames_term n held
+
+    -- of the nodes of a graph, one for each line
+    abbrev pub lines_terms : ℕ → Lines → List Tree
+    lines_terms n no_lines = []
+    lines_terms n (line_and (line label place node next) rest) = node_term n node ∷ lines_terms (n + node_count node) rest
+
     -- refining charts, side by side: each tied by itself, and then its matched events stand for those of the refined chart
     abbrev pub refinings_term : (EventNode → Far) → ℕ → List Refining → Tree
     refinings_term far_of n [] = Nil
@@ -196,14 +243,14 @@ module _ (charts : Charts) where
         join_all par (tie_of (items_term (gates_of held (ends_of held)) (refining_under far_of ms) n held)
         (tied_numbers (items_shown (calls held) n held) (ties held pairs (calls held) (ends_of held))) ∷ refinings_term far_of (n + items_count held) rs ∷ [])
 
-    -- a basic chart: its body; or what is left of it beside its refining charts, tied as a whole
+    -- a basic chart: its body; or what is left of it beside its refining charts, tied as a whole; a high-level chart: its walk
     abbrev pub woven_term : Table → GateMap → ℕ → List Refinement → Woven → Tree
     woven_term table gates n [] (Basic held) = level_term (under gates) n held
     woven_term table gates n (r ∷ rs) (Basic (level cover held pairs)) =
         tie_of (join_all par (items_term (gates_of held (ends_of held)) (refined_under gates pairs (refinings table held (r ∷ rs))) n (without_decomposed (r ∷ rs) held)
         ∷ refinings_term (far_end (ends_of held) (refined_under gates pairs (refinings table held (r ∷ rs)))) (n + items_count (without_decomposed (r ∷ rs) held)) (refinings table held (r ∷ rs)) ∷ []))
         (tied_numbers (refined_shown table n (r ∷ rs) held) (ties held pairs (calls held) (ends_of held)))
-    woven_term table gates n rs (HighLevel drawn) = Nil
+    woven_term table gates n rs (HighLevel drawn) = leaves.walk n
 
 -- ---- charts whose references go so deep
 
@@ -215,10 +262,10 @@ abbrev pub entry_shown : Charts → Table → ℕ → Option ChartEntry → Show
 entry_shown charts table n None = []
 entry_shown charts table n (Some entry) = woven_shown charts table n (refinements entry.decls) entry.content
 
-module _ (event : ℕ → Happening → Tree) (ends_of : WovenItems → List GateEnd) (table : Table) where
+module _ (leaves : Leaves) (ends_of : WovenItems → List GateEnd) (table : Table) where
   abbrev pub entry_term : Charts → GateMap → ℕ → Option ChartEntry → Tree
   entry_term charts gates n None = Nil
-  entry_term charts gates n (Some entry) = woven_term charts event ends_of table gates n (refinements entry.decls) entry.content
+  entry_term charts gates n (Some entry) = woven_term charts leaves ends_of table gates n (refinements entry.decls) entry.content
 
   -- what the charts of a table come to whose references stand in each other less than so deep
   abbrev pub charts_to : ℕ → Charts

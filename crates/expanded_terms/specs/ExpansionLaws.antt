@@ -8,18 +8,18 @@ use Rattle.msc_meaning.specs.InnerEvents.{GateEnd}
 use Rattle.msc_meaning.specs.Tables.{Table}
 use Rattle.expanded_charts.specs.Expanding.{NumberedEvent, expand_charts}
 use Rattle.expansion_terms.specs.ExpansionTerms.{expansion_term}
-use Rattle.expanded_terms.specs.ExpandedTerms.{charts_to}
+use Rattle.expanded_terms.specs.ExpandedTerms.{Leaves, charts_to}
 
--- by the term of an event with its number
-abbrev pub numbered_by : (ℕ → Happening → Tree) → NumberedEvent → Tree
-numbered_by event e = event e.number e.happening
+-- the term of an event
+abbrev pub event_by : Leaves → NumberedEvent → Tree
+event_by leaves e = leaves.event e.number e.happening
 
 -- a chart's term is the term of its expansion, at any depth, wherever its gates lead; the same tags are still to be seen, and it takes as
 -- many numbers
 pub record ExpansionsHaveTerms : Type 0 where
-  pub term : (event : ℕ → Happening → Tree) (ends_of : WovenItems → List GateEnd) (table : Table) (depth : ℕ) (name : List ℕ) (gates : GateMap) (n : ℕ)
-      → expansion_term (numbered_by event) (expand_charts ends_of table depth name gates n).part ≡ (charts_to event ends_of table depth).term name gates n
-  pub shown : (event : ℕ → Happening → Tree) (ends_of : WovenItems → List GateEnd) (table : Table) (depth : ℕ) (name : List ℕ) (gates : GateMap) (n : ℕ)
-      → (expand_charts ends_of table depth name gates n).shown ≡ (charts_to event ends_of table depth).shown name n
-  pub next : (event : ℕ → Happening → Tree) (ends_of : WovenItems → List GateEnd) (table : Table) (depth : ℕ) (name : List ℕ) (gates : GateMap) (n : ℕ)
-      → (expand_charts ends_of table depth name gates n).next ≡ n + (charts_to event ends_of table depth).count name
+  pub term : (leaves : Leaves) (ends_of : WovenItems → List GateEnd) (table : Table) (depth : ℕ) (name : List ℕ) (gates : GateMap) (n : ℕ)
+      → expansion_term (event_by leaves) leaves.walk (expand_charts ends_of table depth name gates n).part ≡ (charts_to leaves ends_of table depth).term name gates n
+  pub shown : (leaves : Leaves) (ends_of : WovenItems → List GateEnd) (table : Table) (depth : ℕ) (name : List ℕ) (gates : GateMap) (n : ℕ)
+      → (expand_charts ends_of table depth name gates n).shown ≡ (charts_to leaves ends_of table depth).shown name n
+  pub next : (leaves : Leaves) (ends_of : WovenItems → List GateEnd) (table : Table) (depth : ℕ) (name : List ℕ) (gates : GateMap) (n : ℕ)
+      → (expand_charts ends_of table depth name gates n).next ≡ n + (charts_to leaves ends_of table depth).count name

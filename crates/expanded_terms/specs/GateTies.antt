@@ -19,7 +19,7 @@ IsQuietLevel table l = HasQuietGates table (items_in l.body)
 -- on each level of a basic chart, from which references stand in each other no deeper than the limit
 abbrev pub IsQuietWoven : Table → Woven → Type 0
 IsQuietWoven table (Basic held) = EachLevel (IsQuietLevel table) (body_levels held)
-IsQuietWoven table (HighLevel drawn) = ⊥
+IsQuietWoven table (HighLevel drawn) = Unit {0}
 
 pub record IsQuietChart (table : Table) (c : ChartEntry) : Type 0 where
   pub deep : GoesTo table EXPANDED_NESTING c.name

@@ -9,6 +9,8 @@ use Rattle.msc_tree.specs.declared.reference.JoinEnd.{JoinEnd}
 use Rattle.msc_tree.specs.declared.reference.JoinEnd.TheVariants as join_end
 use Rattle.msc_tree.specs.Expressions.{Expression, Empty, Chart, Alt, Par, Seq, Opt, Expressions, none, more}
 use Rattle.msc_tree.specs.Expressions as expression
+use Rattle.msc_tree.specs.Graphs as tree
+use Rattle.msc_tree.specs.Graphs.{graph, Lines, no_lines, line_and, line, Node, Ends, Connect, Condition, Frames, Graphs, no_graphs, graph_and}
 use Rattle.msc_meaning.specs.Bodies.{ReferencePart, Body, level, WovenItems, no_items, item_and, WovenItem, Single, Coregion, Inline, Refer, Bodies, no_bodies, body_and}
 use Rattle.msc_meaning.specs.Calls.{calls}
 use Rattle.msc_meaning.specs.FarEnds.{GateMap}
@@ -17,7 +19,8 @@ use Rattle.msc_meaning.specs.Tables.{Table, ChartEntry, chart_at, body_at, Woven
 use Rattle.chart_forms.specs.TableSizes.{size_to}
 use Rattle.gate_ends.specs.FoundEnds.{inner_to}
 use Rattle.gate_ends.specs.JoinCounts.{reference_count}
-use Rattle.expanded_terms.specs.ExpandedTerms.{Charts, charts_to, items_shown}
+use Rattle.expanded_terms.specs.ExpandedSizes.{AreLeavesLight}
+use Rattle.expanded_terms.specs.ExpandedTerms.{Leaves, Charts, charts_to, items_shown}
 use Rattle.expanded_terms.specs.FewPairs.{HasFewOwn}
 use Rattle.chart_forms.specs.BuiltBodies.{has_operands}
 use Rattle.expanded_terms.specs.TagNumbers.{numbers_with}
@@ -82,10 +85,26 @@ module _ (Few : List ℕ → Type 0) where
   AreFewRefined table [] = Unit {0}
   AreFewRefined table (r ∷ rs) = IsFewBody (body_at table r.chart) × AreFewRefined table rs
 
+  abbrev mutual
+    pub AreFewLines : Lines → Type 0
+    AreFewLines no_lines = Unit {0}
+    AreFewLines (line_and (line label place node next) rest) = IsFewNode node × AreFewLines rest
+
+    pub IsFewNode : Node → Type 0
+    IsFewNode Ends = Unit {0}
+    IsFewNode Connect = Unit {0}
+    IsFewNode (Condition names) = Unit {0}
+    IsFewNode (tree.Refer expression) = IsFewExpression expression
+    IsFewNode (Frames held) = AreFewFrames held
+
+    pub AreFewFrames : Graphs → Type 0
+    AreFewFrames no_graphs = Unit {0}
+    AreFewFrames (graph_and (graph starts lines) rest) = AreFewLines lines × AreFewFrames rest
+
   abbrev pub IsFewWoven : Table → List Refinement → Woven → Type 0
   IsFewWoven table [] (Basic held) = IsFewLevel held
   IsFewWoven table (r ∷ rs) (Basic held) = IsFewLevel held × AreFewRefined table (r ∷ rs)
-  IsFewWoven table rs (HighLevel drawn) = ⊥
+  IsFewWoven table rs (HighLevel (graph starts lines)) = AreFewLines lines
 
   abbrev pub IsFewEntry : Table → Option ChartEntry → Type 0
   IsFewEntry table None = ⊥
@@ -97,9 +116,9 @@ IsFewTo table (suc k) name = IsFewEntry (IsFewTo table k) table (chart_at table 
 
 -- then its term weighs no more than its expanded size, and so no more than with the inner events of gates counted in the table
 pub record ChartsAreLight : Type 0 where
-  pub light : (event : ℕ → Happening → Tree) (ends_of : WovenItems → List GateEnd) (table : Table) (depth : ℕ) (name : List ℕ) (gates : GateMap) (n : ℕ)
-      → ((i : ℕ) (h : Happening) → weight (event i h) ≤ 1) → IsFewTo table depth name
-      → weight ((charts_to event ends_of table depth).term name gates n) ≤ size_to (λ k. product_in (charts_to event ends_of table k)) table depth name
-  pub counted : (event : ℕ → Happening → Tree) (ends_of : WovenItems → List GateEnd) (table : Table) (depth : ℕ) (name : List ℕ) (gates : GateMap) (n : ℕ)
-      → ((i : ℕ) (h : Happening) → weight (event i h) ≤ 1) → IsFewTo table depth name
-      → weight ((charts_to event ends_of table depth).term name gates n) ≤ size_to (λ k. reference_count (inner_to table k)) table depth name
+  pub light : (leaves : Leaves) (ends_of : WovenItems → List GateEnd) (table : Table) (depth : ℕ) (name : List ℕ) (gates : GateMap) (n : ℕ)
+      → AreLeavesLight leaves → IsFewTo table depth name
+      → weight ((charts_to leaves ends_of table depth).term name gates n) ≤ size_to (λ k. product_in (charts_to leaves ends_of table k)) table depth name
+  pub counted : (leaves : Leaves) (ends_of : WovenItems → List GateEnd) (table : Table) (depth : ℕ) (name : List ℕ) (gates : GateMap) (n : ℕ)
+      → AreLeavesLight leaves → IsFewTo table depth name
+      → weight ((charts_to leaves ends_of table depth).term name gates n) ≤ size_to (λ k. reference_count (inner_to table k)) table depth name

@@ -7,15 +7,13 @@ use Rattle.msc_base.specs.declared.label.Kind.{Kind}
 use Rattle.msc_base.specs.declared.label.Kind.TheVariants.{Create}
 use Rattle.msc_base.specs.declared.label.Label.{Label}
 use Rattle.msc_unfolding.specs.Unfoldings.{Happening}
-use Rattle.term_laws.specs.Placing.{HaveOnePlace}
+use Rattle.chart_term.specs.TermPatterns.{instances_of}
+use Rattle.term_laws.specs.Placing.{IsPlaced}
 use Rattle.msc_tree.specs.declared.event.Target.TheVariants.{Instance}
-use Rattle.msc_meaning.specs.Bodies.{EventNode, WovenItems}
-use Rattle.msc_meaning.specs.FarEnds.{Around, no_gates, happening}
+use Rattle.msc_meaning.specs.Bodies.{EventNode}
+use Rattle.msc_meaning.specs.FarEnds.{Around, happening}
 use Rattle.msc_meaning.specs.InnerEvents.{GateEnd}
-use Rattle.msc_meaning.specs.Tables.{Table}
-use Rattle.expanded_terms.specs.ExpandedTerms.{charts_to}
-use Rattle.expanded_terms.specs.FitBodies.{IsFitTo}
-use Rattle.expanded_terms.specs.NamedEvents.{number_of_label, event_term}
+use Rattle.expanded_terms.specs.NamedEvents.{event_at, event_named, name_number, number_of_label, second_number}
 
 abbrev pub child_at : Kind → Far → Option (List ℕ)
 child_at Create (far.Instance k) = Some k
@@ -40,8 +38,16 @@ pub record IsCreation (around : Around) (n : EventNode) : Type 0 where
 abbrev pub ChildrenAreFarEnds : Type 0
 ChildrenAreFarEnds = (ends : List GateEnd) (around : Around) (n : EventNode) → (n.event.kind ≡ Create → IsCreation around n) → (happening ends around n).also ≡ child_of (happening ends around n).label
 
--- events of one label have the same instances, in the term of a chart all of whose events are placeable
-pub record ExpandedTermsPlaced : Type 0 where
-  pub placed : (names : List (List ℕ)) (labels : List Label) (table : Table) (ends_of : WovenItems → List GateEnd) (depth : ℕ) (name : List ℕ) → IsFitTo table ends_of (IsPlaceable names labels) depth name no_gates
-      → HaveOnePlace [] ((charts_to (event_term names labels) ends_of table depth).term name no_gates 0)
+module _ (names : List (List ℕ)) (labels : List Label) where
+  -- the instances that a label gives
+  abbrev pub label_place : ℕ → Option Label → List ℕ
+  label_place k None = []
+  label_place k (Some l) = (instances_of (event_at 0 k (name_number names labels l.at) (second_number names labels (child_of l)))).instances
+
+  abbrev pub places : ℕ → List ℕ
+  places k = label_place k (slice_get labels k)
+
+-- a placeable event stands where its label says
+pub record EventsArePlaced : Type 0 where
+  pub placed : (names : List (List ℕ)) (labels : List Label) (n : ℕ) (h : Happening) → IsPlaceable names labels h → IsPlaced (places names labels) (event_named names labels n h)
   pub children : ChildrenAreFarEnds

@@ -8,31 +8,21 @@ use Rattle.msc_meaning.specs.InnerEvents.{GateEnd}
 use Rattle.msc_meaning.specs.Tables.{Table}
 use Rattle.msc_meaning.specs.WorkedCharts.{d, e, i, j, k, m, n, p, q, x, gates_joined, gate_of_inline, refined}
 use Rattle.msc_meaning.specs.WorkedParts.{sent, received, done}
-use Rattle.expanded_terms.specs.RisingTexts.{ChartRisesTo}
 use Rattle.expanded_terms.specs.FitBodies.{IsFitTo}
 use Rattle.expanded_terms.specs.JoinProducts.{IsFewTo}
-use Rattle.expanded_terms.specs.NamedEvents.{event_named, IsNameable}
+use Rattle.expanded_terms.specs.NamedEvents.{IsNameable, named_leaves}
 use Rattle.expanded_terms.specs.PlacedTerms.{IsPlaceable}
-use Rattle.expanded_terms.specs.RankedCharts.{IsRankedTo}
 use Rattle.expanded_terms.specs.WholeCharts.{IsWholeTo}
-use Rattle.expanded_terms.specs.WorkedTerms.{joined_ends, inline_ends, no_ends}
+use Rattle.expanded_terms.specs.WorkedTerms.{joined_ends, inline_ends, no_ends, no_walk}
 
--- the chart A of a table meets what is asked for meaning, places and soundness
-pub record MeetsAll (names : List (List ℕ)) (labels : List Label) (ends_of : WovenItems → List GateEnd) (table : Table) (depth : ℕ) (rank : ℕ → ℕ) : Type 0 where
+-- the chart A of a table meets what is asked for meaning, places and weights
+pub record MeetsAll (names : List (List ℕ)) (labels : List Label) (ends_of : WovenItems → List GateEnd) (table : Table) (depth : ℕ) : Type 0 where
   pub whole : IsWholeTo table ends_of depth (codes "A")
-  pub fit : IsFitTo table ends_of (IsNameable names labels) depth (codes "A") no_gates
-  pub placeable : IsFitTo table ends_of (IsPlaceable names labels) depth (codes "A") no_gates
-  pub ranked : IsRankedTo (event_named names labels) ends_of table depth rank (codes "A") no_gates 0
-
--- and, without refining charts, that its pairs rise, by the text, and are few
-pub record RisesAndIsFew (names : List (List ℕ)) (labels : List Label) (ends_of : WovenItems → List GateEnd) (table : Table) (depth : ℕ) : Type 0 where
-  pub texts : ChartRisesTo (event_named names labels) ends_of table depth (codes "A")
+  pub fit : IsFitTo table ends_of (named_leaves names labels no_walk) (IsNameable names labels) (λ i g nodes. ⊥) depth (codes "A") no_gates 0
+  pub placeable : IsFitTo table ends_of (named_leaves names labels no_walk) (IsPlaceable names labels) (λ i g nodes. ⊥) depth (codes "A") no_gates 0
   pub few : IsFewTo table depth (codes "A")
 
 pub record PremisesAreMet : Type 0 where
-  pub joined : MeetsAll (p ∷ q ∷ []) (sent p m q ∷ received q m p ∷ []) joined_ends gates_joined 2 (λ n. n)
-  pub joined_rises : RisesAndIsFew (p ∷ q ∷ []) (sent p m q ∷ received q m p ∷ []) joined_ends gates_joined 2
-  pub inline : MeetsAll (i ∷ k ∷ []) (sent i m k ∷ received k m i ∷ done k x ∷ []) inline_ends gate_of_inline 1 (λ n. n)
-  pub inline_rises : RisesAndIsFew (i ∷ k ∷ []) (sent i m k ∷ received k m i ∷ done k x ∷ []) inline_ends gate_of_inline 1
-  pub decomposed : MeetsAll (j ∷ d ∷ e ∷ []) (sent j m d ∷ sent e n d ∷ received d n e ∷ received d m j ∷ []) no_ends refined 1 (λ n. n)
-  pub decomposed_few : IsFewTo refined 1 (codes "A")
+  pub joined : MeetsAll (p ∷ q ∷ []) (sent p m q ∷ received q m p ∷ []) joined_ends gates_joined 2
+  pub inline : MeetsAll (i ∷ k ∷ []) (sent i m k ∷ received k m i ∷ done k x ∷ []) inline_ends gate_of_inline 1
+  pub decomposed : MeetsAll (j ∷ d ∷ e ∷ []) (sent j m d ∷ sent e n d ∷ received d n e ∷ received d m j ∷ []) no_ends refined 1

@@ -3,7 +3,7 @@ use Rattle.std.specs.Prelude.{◌≡◌, ℕ, List, [], ◌∷◌, None, codes, 
 use Rattle.std.specs.Str.{bytes_eq}
 use Rattle.msc_base.specs.declared.label.Kind.TheVariants.{Input, Output}
 use Rattle.msc_base.specs.Patterns.{seq, par}
-use Rattle.chart_term.specs.Terms.{Tree, Event, Join, Choice, Tied, trees}
+use Rattle.chart_term.specs.Terms.{Tree, Nil, Event, Join, Choice, Tied, trees}
 use Rattle.msc_meaning.specs.Bodies.{WovenItems}
 use Rattle.msc_meaning.specs.Calls.{Call, calls}
 use Rattle.msc_meaning.specs.FarEnds.{no_gates}
@@ -11,7 +11,7 @@ use Rattle.msc_meaning.specs.InnerEvents.{GateEnd}
 use Rattle.msc_meaning.specs.WorkedCharts.{d, e, i, j, k, m, n, p, q, x, gates_joined, gate_of_inline, refined}
 use Rattle.msc_meaning.specs.WorkedParts.{sent, received, done}
 use Rattle.expanded_terms.specs.ExpandedTerms.{charts_to}
-use Rattle.expanded_terms.specs.NamedEvents.{event_term}
+use Rattle.expanded_terms.specs.NamedEvents.{named_leaves}
 
 abbrev event : ℕ → ℕ → ℕ → Tree
 event number at label = Event (record { number = number; at = at; also = None; label = label })
@@ -39,12 +39,16 @@ inline_ends held = inline_ends_for (calls held)
 abbrev pub no_ends : WovenItems → List GateEnd
 no_ends held = []
 
+-- no chart is a high-level chart
+abbrev pub no_walk : ℕ → Tree
+no_walk n = Nil
+
 pub record TermsExpand : Type 0 where
   -- the output of the one reference before the input of the other
-  pub joined : (charts_to (event_term (p ∷ q ∷ []) (sent p m q ∷ received q m p ∷ [])) joined_ends gates_joined 2).term (codes "A") no_gates 0 ≡ Tied (Join seq (trees (event 0 0 0 ∷ event 1 1 1 ∷ []))) ((0, 1) ∷ [])
+  pub joined : (charts_to (named_leaves (p ∷ q ∷ []) (sent p m q ∷ received q m p ∷ []) no_walk) joined_ends gates_joined 2).term (codes "A") no_gates 0 ≡ Tied (Join seq (trees (event 0 0 0 ∷ event 1 1 1 ∷ []))) ((0, 1) ∷ [])
   -- the output before the input of the one operand
-  pub inline : (charts_to (event_term (i ∷ k ∷ []) (sent i m k ∷ received k m i ∷ done k x ∷ [])) inline_ends gate_of_inline 1).term (codes "A") no_gates 0
+  pub inline : (charts_to (named_leaves (i ∷ k ∷ []) (sent i m k ∷ received k m i ∷ done k x ∷ []) no_walk) inline_ends gate_of_inline 1).term (codes "A") no_gates 0
       ≡ Tied (Join seq (trees (event 0 0 0 ∷ Choice (trees (event 1 1 1 ∷ event 2 1 2 ∷ [])) ∷ []))) ((0, 1) ∷ [])
   -- what is left of the chart beside its refining chart, whose matched event takes the message: the output names its instance
-  pub decomposed : (charts_to (event_term (j ∷ d ∷ e ∷ []) (sent j m d ∷ sent e n d ∷ received d n e ∷ received d m j ∷ [])) no_ends refined 1).term (codes "A") no_gates 0
+  pub decomposed : (charts_to (named_leaves (j ∷ d ∷ e ∷ []) (sent j m d ∷ sent e n d ∷ received d n e ∷ received d m j ∷ []) no_walk) no_ends refined 1).term (codes "A") no_gates 0
       ≡ Tied (Join par (trees (event 0 0 0 ∷ Tied (Join seq (trees (event 1 2 1 ∷ event 2 1 2 ∷ event 3 1 3 ∷ []))) ((1, 2) ∷ []) ∷ []))) ((0, 3) ∷ [])

@@ -3,24 +3,28 @@
 #![tactic(auto)]
 
 ghost use Rattle.expanded_terms.specs.DeeperCharts.{DeeperIsSame};
-ghost use Rattle.expanded_terms.specs.ExpandedLaws.{ExpandedTermsMean, ExpandedTermsSound, RisingExpansionsAreRanked};
+ghost use Rattle.expanded_terms.specs.ExpandedLaws.{ExpandedTermsMean};
 ghost use Rattle.expanded_terms.specs.ExpansionLaws.{ExpansionsHaveTerms};
 ghost use Rattle.expanded_terms.specs.ExpansionNumbers.{ExpansionsAreNumbered};
 ghost use Rattle.expanded_terms.specs.ExpandedSizes.{ExpandedTermsWeigh};
-ghost use Rattle.expanded_terms.specs.RankedTerms.{RankedChartsAreSound, RankedExpansionsAreSound};
-ghost use Rattle.expanded_terms.specs.RisingTexts.{RisingTextsRise};
+ghost use Rattle.expanded_terms.specs.RankedTerms.{RankedExpansionsAreSound};
 ghost use Rattle.expanded_terms.specs.FewPairs.{FewPairsHaveRoom};
 ghost use Rattle.expanded_terms.specs.JoinProducts.{ChartsAreLight};
-ghost use Rattle.expanded_terms.specs.LevelOrder.{LevelsRise};
-ghost use Rattle.expanded_terms.specs.NormalTerms.{ExpandedTermsAreNormal};
-ghost use Rattle.expanded_terms.specs.PlacedTerms.{ExpandedTermsPlaced};
+ghost use Rattle.expanded_terms.specs.PlacedTerms.{EventsArePlaced};
 ghost use Rattle.expanded_terms.specs.WholeCharts.{WholeChartsAreFit};
 ghost use Rattle.expanded_terms.specs.WorkedExpansion.{GateExpands};
 ghost use Rattle.expanded_terms.specs.WorkedPremises.{PremisesAreMet};
 ghost use Rattle.expanded_terms.specs.WorkedTerms.{TermsExpand};
 
-use sound_terms::laws::{constructors_weigh, numbers_are_kept, ties_are_once_by_form};
-use term_laws::laws::{constructors_keep_soundness, normal_forms_keep_patterns};
+use graph_walks::laws::walks_are_of_text;
+use sound_terms::laws::{
+    constructors_weigh, numbers_are_kept, tables_stay_sound, ties_are_once_by_form,
+    walks_stay_within,
+};
+use term_laws::laws::{
+    constructors_keep_soundness, fresh_terms_are_sound, later_tables_agree,
+    normal_forms_keep_patterns,
+};
 
 /// The term of a chart means the chart, with all charts that it names.
 #[tactic(auto, using(crate::proofs::ChartParts::expanded_terms_mean))]
@@ -28,6 +32,11 @@ pub fn expanded_terms_mean()
     ensures { ExpandedTermsMean }
 {
     normal_forms_keep_patterns();
+    later_tables_agree();
+    fresh_terms_are_sound();
+    constructors_keep_soundness();
+    walks_stay_within();
+    walks_are_of_text();
 }
 
 /// The term of a chart is that of its expansion.
@@ -42,16 +51,6 @@ pub fn expansions_are_numbered()
     ensures { ExpansionsAreNumbered }
 {}
 
-/// The term of a chart is sound where the chart's expansion can be ranked.
-#[tactic(auto, using(crate::proofs::SoundCharts::expanded_terms_sound))]
-pub fn expanded_terms_are_sound()
-    ensures { ExpandedTermsSound }
-{
-    constructors_keep_soundness();
-    ties_are_once_by_form();
-    numbers_are_kept();
-}
-
 /// The term of an expansion is sound where the expansion can be ranked.
 #[tactic(auto, using(crate::proofs::RankedTerms::ranked_expansions_are_sound))]
 pub fn ranked_expansions_are_sound()
@@ -60,16 +59,7 @@ pub fn ranked_expansions_are_sound()
     constructors_keep_soundness();
     ties_are_once_by_form();
     numbers_are_kept();
-}
-
-/// The term of a chart is sound where the chart's expansion can be ranked as a tree.
-#[tactic(auto, using(crate::proofs::RankedChartTerms::ranked_charts_are_sound))]
-pub fn ranked_charts_are_sound()
-    ensures { RankedChartsAreSound }
-{
-    constructors_keep_soundness();
-    ties_are_once_by_form();
-    numbers_are_kept();
+    tables_stay_sound();
 }
 
 /// A chart that calls a gate through two levels: its term, and that it meets what the laws ask.
@@ -90,16 +80,10 @@ pub fn premises_are_met()
     ensures { PremisesAreMet }
 {}
 
-/// An expansion all of whose pairs rise is ranked by its numbers.
-#[tactic(auto, using(crate::proofs::RisingRanks::rising_are_ranked))]
-pub fn rising_expansions_are_ranked()
-    ensures { RisingExpansionsAreRanked }
-{}
-
-/// Events of one label have the same instances.
-#[tactic(auto, using(crate::proofs::PlacedTerms::expanded_terms_placed))]
-pub fn expanded_terms_are_placed()
-    ensures { ExpandedTermsPlaced }
+/// An event stands where its label says.
+#[tactic(auto, using(crate::proofs::PlacedTerms::events_are_placed))]
+pub fn events_are_placed()
+    ensures { EventsArePlaced }
 {}
 
 /// The term of a chart weighs no more than the chart's expanded size.
@@ -128,24 +112,6 @@ pub fn charts_are_light()
 #[tactic(auto, using(crate::proofs::WholeCharts::whole_charts_are_fit))]
 pub fn whole_charts_are_fit()
     ensures { WholeChartsAreFit }
-{}
-
-/// The terms of charts are in normal form.
-#[tactic(auto, using(crate::proofs::NormalTerms::expanded_terms_normal))]
-pub fn expanded_terms_are_normal()
-    ensures { ExpandedTermsAreNormal }
-{}
-
-/// Whether the pairs of a level rise is seen on the level.
-#[tactic(auto, using(crate::proofs::LevelOrder::levels_rise))]
-pub fn levels_rise()
-    ensures { LevelsRise }
-{}
-
-/// A chart that rises by its levels, and by the charts that it names, rises in each expansion.
-#[tactic(auto, using(crate::proofs::RisingTexts::rising_texts_rise))]
-pub fn rising_texts_rise()
-    ensures { RisingTextsRise }
 {}
 
 /// What is counted and shown of a chart is the same at each depth that is enough for it.
