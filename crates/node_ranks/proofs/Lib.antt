@@ -1,0 +1,13 @@
+pub mod ListParts
+pub mod Families
+pub mod Deeper
+pub mod Moved
+pub mod MovedParts
+pub mod Placed
+pub mod Stops
+pub mod Renamed
+pub mod Reranked
+pub mod JoinedRanks
+pub mod ExpressionRanks
+pub mod AloneRanks
+pub mod WalkRanks

@@ -1,0 +1,2 @@
+pub mod NamedCharts
+pub mod NodeRanks
