@@ -1,0 +1,2 @@
+pub mod WalkNumbers
+mod SoundNets
