@@ -8,11 +8,11 @@ use Rattle.std.proofs.Common.{◌≡◌, ◌∙◌, refl, sym, ap, subst, if◌t
 use Rattle.std.proofs.lemmas.Bool.{or_left, or_right}
 use Rattle.chart_forms.specs.BodyEvents.{events_within, item_within, items_within, operands_within}
 use Rattle.chart_forms.specs.BuiltBodies.{AreBuiltBodies, AreBuiltItems, AreBuiltNodes, IsBuiltBody, IsBuiltItem, IsBuiltNode, IsChild}
-use Rattle.expanded_charts.specs.Expanding.{NumberedEvent}
+use Rattle.expanded_charts.specs.Expanding as tree
+use Rattle.expanded_charts.specs.Expanding.{NumberedEvent, Expanded, ExpandedParts, expand_events, expand, expand_all, expand_level, expand_items, expand_item, expand_operands, expand_refinings, expand_woven, expand_entry, expand_charts}
 use Rattle.gate_ends.specs.FoundEnds.{table_ends}
 use Rattle.expanded_terms.specs.PlacedTerms.{child_at, child_of}
-use Rattle.expanded_terms.specs.WholeCharts.{entry_happenings, events_happenings, expression_happenings, expressions_happenings, happenings_to, item_happenings, items_happenings, level_happenings, operands_happenings, refinings_happenings, woven_happenings}
-use Rattle.expansion_tree.specs.Expansions.{events_in}
+use Rattle.expansion_tree.specs.Expansions.{all_events_in, events_in}
 use Rattle.msc_acceptance.specs.AcceptedCharts.{EachChart, IsAcceptedChart, table_instances}
 use Rattle.msc_acceptance.specs.Listing.{content_instances, cover_of}
 use Rattle.msc_base.specs.Lists.{IsAmong}
@@ -24,83 +24,110 @@ use Rattle.msc_base.specs.declared.label.Kind.{Kind}
 use Rattle.msc_base.specs.declared.label.Kind.TheVariants as kind
 use Rattle.msc_base.specs.declared.limits.TheConstants.Limits.{EXPANDED_NESTING}
 use Rattle.msc_base.proofs.NameFacts.{any_folded, any_from_one, one_from_any}
-use Rattle.msc_meaning.specs.Bodies.{EventNode, Body, level, WovenItems, no_items, item_and, WovenItem, Single, Coregion, Inline, Refer, Bodies, no_bodies, body_and, events}
+use Rattle.msc_meaning.specs.Bodies.{EventNode, InlinePart, Body, level, WovenItems, no_items, item_and, WovenItem, Single, Coregion, Inline, Refer, Bodies, no_bodies, body_and, events}
+use Rattle.msc_meaning.specs.Calls.{calls}
 use Rattle.msc_meaning.specs.ChartUnfoldings.{gates_of, refined_under, refining_under, under}
 use Rattle.msc_meaning.specs.FarEnds.{GateMap, no_gates, Around, Gates, child_by, far_end, gates_referred, happening, inside, written_far}
 use Rattle.msc_meaning.specs.InnerEvents.{GateEnd}
 use Rattle.msc_meaning.specs.Levels.{IsWovenLevel, woven}
 use Rattle.msc_meaning.specs.Pairing.{ArePairs}
 use Rattle.msc_meaning.specs.Pieces.{Piece}
-use Rattle.msc_meaning.specs.Refinements.{Refining, all_matches, matches, refining_by, refinings, without_decomposed}
+use Rattle.msc_meaning.specs.Refinements.{Refining, all_matches, matches, past_refining, refining_by, refinings, without_decomposed}
 use Rattle.msc_meaning.specs.Tables.{ChartEntry, Table, body_in, chart_at, Woven, Basic, Refinement, refinements}
+use Rattle.msc_meaning.specs.Ties.{ties}
+use Rattle.msc_tree.specs.declared.reference.InlineForm.{InlineForm}
+use Rattle.msc_tree.specs.declared.reference.InlineForm.TheVariants as inline
 use Rattle.msc_tree.specs.Expressions.{Expression, Empty, Chart, Alt, Par, Seq, Opt, Expressions, none, more}
 use Rattle.msc_tree.specs.Expressions as expression
 use Rattle.msc_tree.specs.declared.event.Target.{Target}
 use Rattle.msc_tree.specs.declared.event.Target.TheVariants.{Instance}
 use Rattle.msc_unfolding.specs.Unfoldings.{Happening}
 use Rattle.table_terms.specs.TableTerms.{chart_expansion}
-use Rattle.table_terms.proofs.Happenings.{chart_seen}
 use Rattle.chart_judge.proofs.FreeEnds.{AreFree, free_left, free_of_none, free_right, inner_free, left_built, left_within, refined_free}
 use Rattle.chart_judge.proofs.NamedBodies.{content_body}
 use Rattle.chart_judge.proofs.TableEntries.{entry_has}
 
--- ---- what each of the happenings has
+-- ---- what the happening of each event has
 
 module _ (ends_of : WovenItems → List GateEnd) (P : Happening → Type 0) where
-  abbrev Each : List Happening → Type 0
+  abbrev Each : List NumberedEvent → Type 0
   Each [] = Unit {0}
-  Each (h ∷ hs) = P h × Each hs
+  Each (e ∷ es) = P e.happening × Each es
 
-  each_both : (xs ys : List Happening) → Each xs → Each ys → Each (xs ++ ys)
+  each_both : (xs ys : List NumberedEvent) → Each xs → Each ys → Each (xs ++ ys)
   each_both [] ys h g = g
   each_both (x ∷ xs) ys h g = (h.0, each_both xs ys h.1 g)
 
-  of_each : (hs : List Happening) (h : Happening) → Each hs → Among h hs → P h
-  of_each (g ∷ hs) _ e first = e.0
-  of_each (g ∷ hs) h e (later i) = of_each hs h e.1 i
-  of_each [] h e i = elim i [ ]
+  of_each : (es : List NumberedEvent) (e : NumberedEvent) → Each es → Among e es → P e.happening
+  of_each (d ∷ es) _ h first = h.0
+  of_each (d ∷ es) e h (later i) = of_each es e h.1 i
+  of_each [] e h i = elim i [ ]
 
-  module _ (chart_happenings : List ℕ → GateMap → List Happening) (known : (name : List ℕ) (gates : GateMap) → Each (chart_happenings name gates)) where
+  -- of a part, and of parts
+  abbrev EachOf : Expanded → Type 0
+  EachOf e = Each (events_in e.part)
+
+  abbrev EachOfAll : ExpandedParts → Type 0
+  EachOfAll l = Each (all_events_in l.parts)
+
+  put_each : (e : Expanded) (l : ExpandedParts) → EachOf e → EachOfAll l → EachOfAll (tree.put e l)
+  put_each e l = each_both (events_in e.part) (all_events_in l.parts)
+
+  option_each : (e : Expanded) → EachOf e → EachOf (tree.or_nothing e)
+  option_each e h = each_both (events_in e.part) [] h tt
+
+  inline_each : (form : InlineForm) (part : InlinePart) (n : ℕ) (l : ExpandedParts) → EachOfAll l → EachOf (tree.inline_by form part n l)
+  inline_each inline.Alt part n l h = h
+  inline_each inline.Opt part n l h = option_each (tree.one_of l) h
+  inline_each inline.Par part n l h = h
+  inline_each inline.Exc part n l h = h
+  inline_each inline.Loop part n l h = h
+
+  module _ (chart : tree.Charts) (known : (name : List ℕ) (gates : GateMap) (n : ℕ) → EachOf (chart name gates n)) where
     mutual
-      expression_each : (gates : GateMap) (e : Expression) → Each (expression_happenings ends_of chart_happenings gates e)
-      expression_each gates Empty = tt
-      expression_each gates (Chart name) = known name gates
-      expression_each gates (Alt parts) = expressions_each gates parts
-      expression_each gates (Par parts) = expressions_each gates parts
-      expression_each gates (Seq parts) = expressions_each gates parts
-      expression_each gates (Opt part) = expression_each gates part
-      expression_each gates (expression.Loop lower upper part) = expression_each gates part
+      expression_each : (gates : GateMap) (n : ℕ) (e : Expression) → EachOf (expand chart ends_of gates n e)
+      expression_each gates n Empty = tt
+      expression_each gates n (Chart name) = known name gates n
+      expression_each gates n (Alt parts) = expressions_each gates n parts
+      expression_each gates n (Par parts) = expressions_each gates n parts
+      expression_each gates n (Seq parts) = expressions_each gates n parts
+      expression_each gates n (Opt part) = option_each (expand chart ends_of gates n part) (expression_each gates n part)
+      expression_each gates n (expression.Loop lower upper part) = expression_each gates n part
 
-      expressions_each : (gates : GateMap) (xs : Expressions) → Each (expressions_happenings ends_of chart_happenings gates xs)
-      expressions_each gates none = tt
-      expressions_each gates (more x xs) = each_both (expression_happenings ends_of chart_happenings gates x) (expressions_happenings ends_of chart_happenings gates xs) (expression_each gates x) (expressions_each gates xs)
+      expressions_each : (gates : GateMap) (n : ℕ) (xs : Expressions) → EachOfAll (expand_all chart ends_of gates n xs)
+      expressions_each gates n none = tt
+      expressions_each gates n (more x xs) =
+          let e = expand chart ends_of gates n x in
+          put_each e (expand_all chart ends_of gates e.next xs) (expression_each gates n x) (expressions_each gates (expand chart ends_of gates n x).next xs)
 
-    module _ (names : List (List ℕ)) (holds : (es : List GateEnd) (a : Around) (n : EventNode) → AreFree a.far (n ∷ []) → IsBuiltNode names n → P (happening es a n)) where
-      nodes_each : (es : List GateEnd) (a : Around) (ns : List EventNode) → AreFree a.far ns → AreBuiltNodes names ns → Each (events_happenings ends_of chart_happenings es a ns)
-      nodes_each es a [] f h = tt
-      nodes_each es a (n ∷ ns) f h = (holds es a n (free_left a.far (n ∷ []) ns f) h.0, nodes_each es a ns (free_right a.far (n ∷ []) ns f) h.1)
+    module _ (names : List (List ℕ)) (holds : (es : List GateEnd) (a : Around) (k : EventNode) → AreFree a.far (k ∷ []) → IsBuiltNode names k → P (happening es a k)) where
+      nodes_each : (es : List GateEnd) (a : Around) (n : ℕ) (ks : List EventNode) → AreFree a.far ks → AreBuiltNodes names ks → EachOfAll (expand_events chart ends_of es a n ks)
+      nodes_each es a n [] f h = tt
+      nodes_each es a n (k ∷ ks) f h = (holds es a k (free_left a.far (k ∷ []) ks f) h.0, nodes_each es a (suc n) ks (free_right a.far (k ∷ []) ks f) h.1)
 
       mutual
-        level_each : (a : Around) (b : Body) → AreFree a.far (events_within b) → IsBuiltBody names b → Each (level_happenings ends_of chart_happenings a b)
-        level_each a (level cover held pairs) f h = items_each (gates_of held (ends_of held)) a held f h
+        level_each : (a : Around) (n : ℕ) (b : Body) → AreFree a.far (events_within b) → IsBuiltBody names b → EachOf (expand_level chart ends_of a n b)
+        level_each a n (level cover held pairs) f h = items_each (gates_of held (ends_of held)) a n held f h
 
-        items_each : (g : Gates) (a : Around) (xs : WovenItems) → AreFree a.far (items_within xs) → AreBuiltItems names xs → Each (items_happenings ends_of chart_happenings g a xs)
-        items_each g a no_items f h = tt
-        items_each g a (item_and x xs) f h =
-            each_both (item_happenings ends_of chart_happenings g a x) (items_happenings ends_of chart_happenings g a xs)
-            (item_each g a x (free_left a.far (item_within x) (items_within xs) f) h.0) (items_each g a xs (free_right a.far (item_within x) (items_within xs) f) h.1)
+        items_each : (g : Gates) (a : Around) (n : ℕ) (xs : WovenItems) → AreFree a.far (items_within xs) → AreBuiltItems names xs → EachOfAll (expand_items chart ends_of g a n xs)
+        items_each g a n no_items f h = tt
+        items_each g a n (item_and x xs) f h =
+            let e = expand_item chart ends_of g a n x in
+            put_each e (expand_items chart ends_of g a e.next xs)
+            (item_each g a n x (free_left a.far (item_within x) (items_within xs) f) h.0) (items_each g a (expand_item chart ends_of g a n x).next xs (free_right a.far (item_within x) (items_within xs) f) h.1)
 
-        item_each : (g : Gates) (a : Around) (x : WovenItem) → AreFree a.far (item_within x) → IsBuiltItem names x → Each (item_happenings ends_of chart_happenings g a x)
-        item_each g a (Single n) f h = (holds g.ends a n f h, tt)
-        item_each g a (Coregion ns) f h = nodes_each g.ends a ns f h
-        item_each g a (Inline form part operands) f h = operands_each (inside g part.name a) operands f h.1
-        item_each g a (Refer part) f h = expression_each (gates_referred g part.name part.joins a.gates) part.expression
+        item_each : (g : Gates) (a : Around) (n : ℕ) (x : WovenItem) → AreFree a.far (item_within x) → IsBuiltItem names x → EachOf (expand_item chart ends_of g a n x)
+        item_each g a n (Single k) f h = (holds g.ends a k f h, tt)
+        item_each g a n (Coregion ks) f h = nodes_each g.ends a n ks f h
+        item_each g a n (Inline form part operands) f h = inline_each form part n (expand_operands chart ends_of (inside g part.name a) n operands) (operands_each (inside g part.name a) n operands f h.1)
+        item_each g a n (Refer part) f h = expression_each (gates_referred g part.name part.joins a.gates) n part.expression
 
-        operands_each : (a : Around) (bs : Bodies) → AreFree a.far (operands_within bs) → AreBuiltBodies names bs → Each (operands_happenings ends_of chart_happenings a bs)
-        operands_each a no_bodies f h = tt
-        operands_each a (body_and b bs) f h =
-            each_both (level_happenings ends_of chart_happenings a b) (operands_happenings ends_of chart_happenings a bs)
-            (level_each a b (free_left a.far (events_within b) (operands_within bs) f) h.0) (operands_each a bs (free_right a.far (events_within b) (operands_within bs) f) h.1)
+        operands_each : (a : Around) (n : ℕ) (bs : Bodies) → AreFree a.far (operands_within bs) → AreBuiltBodies names bs → EachOfAll (expand_operands chart ends_of a n bs)
+        operands_each a n no_bodies f h = tt
+        operands_each a n (body_and b bs) f h =
+            let e = expand_level chart ends_of a n b in
+            put_each e (expand_operands chart ends_of a e.next bs)
+            (level_each a n b (free_left a.far (events_within b) (operands_within bs) f) h.0) (operands_each a (expand_level chart ends_of a n b).next bs (free_right a.far (events_within b) (operands_within bs) f) h.1)
 
 -- ---- instances of a table
 
@@ -184,67 +211,69 @@ module _ (table : Table) (charts : EachChart IsAcceptedChart table) where
   abbrev Settled : Happening → Type 0
   Settled = IsSettled (table_instances [] table)
 
-  module _ (chart_happenings : List ℕ → GateMap → List Happening) (known : (name : List ℕ) (gates : GateMap) → Each (table_ends table) Settled (chart_happenings name gates)) where
+  abbrev IsEach : Expanded → Type 0
+  IsEach e = EachOf (table_ends table) Settled e
+
+  abbrev AreEach : ExpandedParts → Type 0
+  AreEach l = EachOfAll (table_ends table) Settled l
+
+  module _ (chart : tree.Charts) (known : (name : List ℕ) (gates : GateMap) (n : ℕ) → IsEach (chart name gates n)) where
     -- items at instances of these names, which are instances of the table
-    settled_items : (cover : List (List ℕ)) → ((m : List ℕ) → IsAmong cover m → IsAmong (table_instances [] table) m) → (g : Gates) (a : Around) (xs : WovenItems) → AreFree a.far (items_within xs) → AreBuiltItems cover xs
-        → Each (table_ends table) Settled (items_happenings (table_ends table) chart_happenings g a xs)
-    settled_items cover there = items_each (table_ends table) Settled chart_happenings known cover (node_settled cover (table_instances [] table) there)
+    settled_items : (cover : List (List ℕ)) → ((m : List ℕ) → IsAmong cover m → IsAmong (table_instances [] table) m) → (g : Gates) (a : Around) (n : ℕ) (xs : WovenItems) → AreFree a.far (items_within xs) → AreBuiltItems cover xs
+        → AreEach (expand_items chart (table_ends table) g a n xs)
+    settled_items cover there = items_each (table_ends table) Settled chart known cover (node_settled cover (table_instances [] table) there)
 
     -- a refining chart
-    refining_settled : (far_of : EventNode → Far) (i : List ℕ) (held : WovenItems) (b : Body) (others : List Refining) → IsBuiltBody (cover_of b) b → Once (map (λ (n : EventNode). n.number) (events_within b))
-        → ((m : List ℕ) → IsAmong (cover_of b) m → IsAmong (table_instances [] table) m) → Each (table_ends table) Settled (refinings_happenings (table_ends table) chart_happenings far_of others)
-        → Each (table_ends table) Settled (refinings_happenings (table_ends table) chart_happenings far_of (refining_by i held (Some b) ++ others))
-    refining_settled far_of i held (level cover inner pairs) others built once there rest =
+    refining_settled : (far_of : EventNode → Far) (n : ℕ) (i : List ℕ) (held : WovenItems) (b : Body) (others : List Refining) → IsBuiltBody (cover_of b) b → Once (map (λ (n : EventNode). n.number) (events_within b))
+        → ((m : List ℕ) → IsAmong (cover_of b) m → IsAmong (table_instances [] table) m) → ((n : ℕ) → AreEach (expand_refinings chart (table_ends table) far_of n others))
+        → AreEach (expand_refinings chart (table_ends table) far_of n (refining_by i held (Some b) ++ others))
+    refining_settled far_of n i held (level cover inner pairs) others built once there rest =
         let ms = matches i held inner in
-        each_both (table_ends table) Settled (items_happenings (table_ends table) chart_happenings (gates_of inner (table_ends table inner)) (refining_under far_of ms) inner) (refinings_happenings (table_ends table) chart_happenings far_of others)
-        (settled_items cover there (gates_of inner (table_ends table inner)) (refining_under far_of ms) inner (inner_free far_of i held inner once) built) rest
+        let items = expand_items chart (table_ends table) (gates_of inner (table_ends table inner)) (refining_under far_of ms) n inner in
+        put_each (table_ends table) Settled (tree.past (past_refining ms) (tree.tied (ties inner pairs (calls inner) (table_ends table inner)) (tree.in_row items))) (expand_refinings chart (table_ends table) far_of items.next others)
+        (settled_items cover there (gates_of inner (table_ends table inner)) (refining_under far_of ms) n inner (inner_free far_of i held inner once) built) (rest items.next)
 
-    one_settled : (far_of : EventNode → Far) (r : Refinement) (held : WovenItems) (others : List Refining) (o : Option ChartEntry) → chart_at table r.chart ≡ o
-        → Each (table_ends table) Settled (refinings_happenings (table_ends table) chart_happenings far_of others)
-        → Each (table_ends table) Settled (refinings_happenings (table_ends table) chart_happenings far_of (refining_by r.instance held (body_in o) ++ others))
-    one_settled far_of r held others None e rest = rest
-    one_settled far_of r held others (Some c) e rest =
+    one_settled : (far_of : EventNode → Far) (n : ℕ) (r : Refinement) (held : WovenItems) (others : List Refining) (o : Option ChartEntry) → chart_at table r.chart ≡ o
+        → ((n : ℕ) → AreEach (expand_refinings chart (table_ends table) far_of n others))
+        → AreEach (expand_refinings chart (table_ends table) far_of n (refining_by r.instance held (body_in o) ++ others))
+    one_settled far_of n r held others None e rest = rest n
+    one_settled far_of n r held others (Some c) e rest =
         let a = entry_has IsAcceptedChart table r.chart c charts e in
         let there = subst (λ (w : Woven). (m : List ℕ) → IsAmong (content_instances w) m → IsAmong (table_instances [] table) m) a.is (table_has table [] r.chart c e) in
-        subst (λ (o : Option Body). Each (table_ends table) Settled (refinings_happenings (table_ends table) chart_happenings far_of (refining_by r.instance held o ++ others))) (sym (content_body c a.body a.is))
-        (refining_settled far_of r.instance held a.body others a.built a.once there rest)
+        subst (λ (o : Option Body). AreEach (expand_refinings chart (table_ends table) far_of n (refining_by r.instance held o ++ others))) (sym (content_body c a.body a.is))
+        (refining_settled far_of n r.instance held a.body others a.built a.once there rest)
 
-    refinings_settled : (far_of : EventNode → Far) (held : WovenItems) (rs : List Refinement) → Each (table_ends table) Settled (refinings_happenings (table_ends table) chart_happenings far_of (refinings table held rs))
-    refinings_settled far_of held [] = tt
-    refinings_settled far_of held (r ∷ rs) = one_settled far_of r held (refinings table held rs) (chart_at table r.chart) refl (refinings_settled far_of held rs)
+    refinings_settled : (far_of : EventNode → Far) (held : WovenItems) (rs : List Refinement) (n : ℕ) → AreEach (expand_refinings chart (table_ends table) far_of n (refinings table held rs))
+    refinings_settled far_of held [] n = tt
+    refinings_settled far_of held (r ∷ rs) n = one_settled far_of n r held (refinings table held rs) (chart_at table r.chart) refl (refinings_settled far_of held rs)
 
-    woven_settled : (gates : GateMap) (rs : List Refinement) (b : Body) {names : List (List ℕ)} {ps : List Piece} → IsWovenLevel names ps b → Once (map (λ (n : EventNode). n.number) (events_within b)) → IsBuiltBody (cover_of b) b
-        → ((m : List ℕ) → IsAmong (cover_of b) m → IsAmong (table_instances [] table) m) → Each (table_ends table) Settled (woven_happenings (table_ends table) chart_happenings table gates rs (Basic b))
-    woven_settled gates [] (level cover held pairs) w once built there = settled_items cover there (gates_of held (table_ends table held)) (under gates) held (free_of_none (items_within held)) built
-    woven_settled gates (r ∷ rs) (level cover held pairs) w once built there =
+    woven_settled : (gates : GateMap) (n : ℕ) (rs : List Refinement) (b : Body) {names : List (List ℕ)} {ps : List Piece} → IsWovenLevel names ps b → Once (map (λ (n : EventNode). n.number) (events_within b)) → IsBuiltBody (cover_of b) b
+        → ((m : List ℕ) → IsAmong (cover_of b) m → IsAmong (table_instances [] table) m) → IsEach (expand_woven chart (table_ends table) table gates n rs (Basic b))
+    woven_settled gates n [] (level cover held pairs) w once built there = settled_items cover there (gates_of held (table_ends table held)) (under gates) n held (free_of_none (items_within held)) built
+    woven_settled gates n (r ∷ rs) (level cover held pairs) w once built there =
         let g = gates_of held (table_ends table held) in
         let refined = refinings table held (r ∷ rs) in
         let around = refined_under gates pairs refined in
         let left = without_decomposed (r ∷ rs) held in
         let free = refined_free held once pairs (all_matches refined) (own_pairs cover held pairs w) in
-        each_both (table_ends table) Settled (items_happenings (table_ends table) chart_happenings g around left) (refinings_happenings (table_ends table) chart_happenings (far_end (table_ends table held) around) refined)
-        (settled_items cover there g around left (λ n i. free n (left_within (r ∷ rs) held n i)) (left_built (r ∷ rs) cover held built))
-        (refinings_settled (far_end (table_ends table held) around) held (r ∷ rs))
+        let rest = tree.in_row (expand_items chart (table_ends table) g around n left) in
+        put_each (table_ends table) Settled rest (expand_refinings chart (table_ends table) (far_end (table_ends table held) around) rest.next refined)
+        (settled_items cover there g around n left (λ k i. free k (left_within (r ∷ rs) held k i)) (left_built (r ∷ rs) cover held built))
+        (refinings_settled (far_end (table_ends table held) around) held (r ∷ rs) rest.next)
 
-    entry_settled : (gates : GateMap) (name : List ℕ) (c : ChartEntry) → chart_at table name ≡ Some c → Each (table_ends table) Settled (entry_happenings (table_ends table) chart_happenings table gates (Some c))
-    entry_settled gates name c e =
+    entry_settled : (gates : GateMap) (n : ℕ) (name : List ℕ) (c : ChartEntry) → chart_at table name ≡ Some c → IsEach (expand_entry (table_ends table) table chart gates n (Some c))
+    entry_settled gates n name c e =
         let a = entry_has IsAcceptedChart table name c charts e in
         let there = subst (λ (w : Woven). (m : List ℕ) → IsAmong (content_instances w) m → IsAmong (table_instances [] table) m) a.is (table_has table [] name c e) in
-        subst (λ (w : Woven). Each (table_ends table) Settled (woven_happenings (table_ends table) chart_happenings table gates (refinements c.decls) w)) (sym a.is) (woven_settled gates (refinements c.decls) a.body a.woven a.once a.built there)
+        subst (λ (w : Woven). IsEach (expand_woven chart (table_ends table) table gates n (refinements c.decls) w)) (sym a.is) (woven_settled gates n (refinements c.decls) a.body a.woven a.once a.built there)
 
-  happenings_each : (depth : ℕ) (name : List ℕ) (gates : GateMap) → Each (table_ends table) Settled (happenings_to table (table_ends table) depth name gates)
-  happenings_each zero name gates = tt
-  happenings_each (suc depth) name gates = by (happenings_each depth) (chart_at table name) refl
+  charts_settled : (depth : ℕ) (name : List ℕ) (gates : GateMap) (n : ℕ) → IsEach (expand_charts (table_ends table) table depth name gates n)
+  charts_settled zero name gates n = tt
+  charts_settled (suc depth) name gates n = by (charts_settled depth) (chart_at table name) refl
     where
-      by : ((name : List ℕ) (gates : GateMap) → Each (table_ends table) Settled (happenings_to table (table_ends table) depth name gates)) → (o : Option ChartEntry) → chart_at table name ≡ o → Each (table_ends table) Settled (entry_happenings (table_ends table) (happenings_to table (table_ends table) depth) table gates o)
+      by : ((name : List ℕ) (gates : GateMap) (n : ℕ) → IsEach (expand_charts (table_ends table) table depth name gates n)) → (o : Option ChartEntry) → chart_at table name ≡ o → IsEach (expand_entry (table_ends table) table (expand_charts (table_ends table) table depth) gates n o)
       by known None e = tt
-      by known (Some c) e = entry_settled (happenings_to table (table_ends table) depth) known gates name c e
-
-  happening_there : (es : List NumberedEvent) (e : NumberedEvent) → Among e es → Among e.happening (map (λ (e : NumberedEvent). e.happening) es)
-  happening_there (d ∷ es) _ first = first
-  happening_there (d ∷ es) e (later i) = later (happening_there es e i)
-  happening_there [] e i = elim i [ ]
+      by known (Some c) e = entry_settled (expand_charts (table_ends table) table depth) known gates n name c e
 
   pub events_settled : (name : List ℕ) (e : NumberedEvent) → Among e (events_in (chart_expansion table name)) → IsSettled (table_instances [] table) e.happening
-  events_settled name e i = of_each (table_ends table) Settled (happenings_to table (table_ends table) EXPANDED_NESTING name no_gates) e.happening (happenings_each EXPANDED_NESTING name no_gates)
-      (subst (λ (l : List Happening). Among e.happening l) (chart_seen table EXPANDED_NESTING name no_gates 0) (happening_there (events_in (chart_expansion table name)) e i))
+  events_settled name e i = of_each (table_ends table) Settled (events_in (chart_expansion table name)) e (charts_settled EXPANDED_NESTING name no_gates 0) i

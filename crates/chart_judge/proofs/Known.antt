@@ -4,7 +4,6 @@ use Rattle.msc_base.specs.declared.limits.TheConstants.Limits.{EXPANDED_NESTING,
 use Rattle.chart_cycles.specs.Cycles.{AreOrdered, IsOrdered}
 use Rattle.chart_forms.specs.TableSizes.{counted_size}
 use Rattle.chart_term.specs.Terms.{Tree, weight}
-use Rattle.expansion_terms.specs.ExpansionTerms.{numbered_term}
 use Rattle.msc_acceptance.specs.AcceptedCharts.{EachChart, IsAcceptedTable, IsThereTo}
 use Rattle.msc_meaning.specs.Meanings.{Finished, Begun}
 use Rattle.msc_meaning.specs.Tables.{ChartEntry, Table, chart_at}
@@ -13,14 +12,14 @@ use Rattle.expanded_terms.specs.WholeCharts.{IsWholeTo}
 use Rattle.gate_ends.specs.EndLaws.{EndsAreFound}
 use Rattle.gate_ends.specs.FoundEnds.{table_ends}
 use Rattle.table_terms.specs.TableLaws.{TableTermsAreLight, TableTermsArePlaced, TableTermsAreSound, TableTermsMean}
-use Rattle.table_terms.specs.TableTerms.{IsTermOf, chart_numbering, labelled, numbered_chart}
+use Rattle.table_terms.specs.TableTerms.{IsBasicTable, IsTermOf, chart_made, chart_numbering, chart_tables}
 use Rattle.term_meaning.specs.Meanings.{Means}
 use Rattle.term_tables.specs.NetValues.{NetsValue}
 use Rattle.trace_judge.specs.Laws.{VerdictsTellRuns}
 use Rattle.trace_judge.specs.Sets.{IsSoundFor}
 use Rattle.verdict_meaning.proofs.Labelled.{begun_there}
 use Rattle.chart_judge.specs.ChartsTold.{ChartsHaveRuns, ChartsHaveTerms, VerdictsAreTold}
-use Rattle.chart_judge.proofs.WholeTables.{all_quiet, whole_to}
+use Rattle.chart_judge.proofs.WholeTables.{all_basic, all_quiet, whole_to}
 use Rattle.chart_judge.proofs.FewTables.{few_to}
 use Rattle.chart_judge.proofs.TableEntries.{name_has}
 use Rattle.chart_judge.proofs.TableRoom.{are_placed, has_room}
@@ -37,6 +36,9 @@ below : (a b c : ℕ) → a ≤ b → b ≤ c → a ≤ c
 below a b c h g = omega (arith, h, g)
 
 module _ (table : Table) (name : List ℕ) (chart : ChartEntry) (is : chart_at table name ≡ Some chart) (accepted : IsAcceptedTable table) where
+  basic : IsBasicTable table
+  basic = all_basic table accepted.charts
+
   quiet : IsQuietTable table
   quiet = all_quiet table accepted.charts accepted.gates accepted.there
 
@@ -54,16 +56,16 @@ module _ (table : Table) (name : List ℕ) (chart : ChartEntry) (is : chart_at t
 
   module _ (v : NetsValue) (x : Tree) (made : IsTermOf table name v x) where
     chart_means : EndsAreFound → TableTermsMean → Means v (chart_numbering table name).names x (Finished table name) (Begun table name)
-    chart_means law laws = laws.means table name v x (whole law) made
+    chart_means law laws = laws table name v x basic (whole law) made
 
     chart_sound : EndsAreFound → TableTermsAreSound → TableTermsArePlaced → IsSoundFor v x
     chart_sound law sound placed = record {
-      full = sound.sound table name v x quiet made ordered;
-      placed = placed.placed table name v x (whole law) made (are_placed table accepted name);
+      full = sound table name v x basic quiet made ordered;
+      placed = placed table name v x made (are_placed table accepted name);
     }
 
     chart_weighs : TableTermsAreLight → weight x ≤ counted_size table name
-    chart_weighs laws = laws.light table name v x made (few_to table accepted.charts accepted.gates EXPANDED_NESTING name there)
+    chart_weighs laws = laws table name v x basic made (few_to table accepted.charts accepted.gates EXPANDED_NESTING name there)
 
     chart_light : TableTermsAreLight → weight x ≤ EXPANDED_SIZE
     chart_light laws = below (weight x) (counted_size table name) EXPANDED_SIZE (chart_weighs laws) small
@@ -94,10 +96,10 @@ verdicts_told terms laws table name chart v x budget events verdict is accepted 
 
 -- the chart has a term
 the_tables : Table → List ℕ → NetsValue
-the_tables table name = labelled (chart_numbering table name).labels
+the_tables table name = chart_tables table name
 
 the_term : Table → List ℕ → Tree
-the_term table name = numbered_term (numbered_chart table name)
+the_term table name = (chart_made table name).term
 
 a_term : (table : Table) (name : List ℕ) → IsTermOf table name (the_tables table name) (the_term table name)
 unfolding the_tables the_term

@@ -4,7 +4,6 @@ use Rattle.std.specs.Prelude.{ℕ, zero, suc, Bool, true, false, List, [], ◌�
 use Rattle.std.proofs.Common.{◌≡◌, sym, subst}
 use Rattle.chart_forms.specs.BuiltBodies.{AreBuiltBodies, AreBuiltItems, IsBuiltBody, IsBuiltItem}
 use Rattle.chart_text.specs.WellFormed.{are_several, has_parts, have_parts}
-use Rattle.expanded_charts.specs.BasicCharts.{IsBasicTable, IsBasicWoven}
 use Rattle.expanded_terms.specs.FitBodies.{AreEndsOf, HasParts}
 use Rattle.expanded_terms.specs.GateTies.{IsQuietLevel, IsQuietTable, IsQuietWoven}
 use Rattle.expanded_terms.specs.WholeCharts.{AreWholeExpressions, AreWholeItems, AreWholeOperands, AreWholeRefinings, IsWholeExpression, IsWholeItem, IsWholeLevel, IsWholeTo, IsWholeWoven}
@@ -25,6 +24,7 @@ use Rattle.msc_meaning.specs.Refinements.{Refining, refining_by, refinings, is_d
 use Rattle.msc_meaning.specs.Tables.{ChartEntry, Table, body_at, Woven, Basic, Refinement, refinements}
 use Rattle.msc_tree.specs.Expressions.{Expression, Empty, Chart, Alt, Par, Seq, Opt, Loop, Expressions, none, more}
 use Rattle.std.proofs.lemmas.Bool.{and_parts}
+use Rattle.table_terms.specs.TableTerms.{IsBasicTable, IsBasicWoven}
 use Rattle.chart_judge.proofs.NamedBodies.{HasBody, IsGatedLevel, all_left, all_right, all_turned, has_body, refining_names, there_body}
 use Rattle.chart_judge.proofs.TableEntries.{name_has}
 

@@ -1,30 +1,20 @@
-//! The term of a chart, and the tables of its labels: for `judge`.
+//! The term of a chart of an accepted document: for `judge`.
 
 ghost use Rattle.std.specs.Prelude.{◌≡◌, IfOk};
-ghost use Rattle.expanded_charts.specs.BasicCharts.{IsBasicTable};
 ghost use Rattle.msc_meaning.specs.Views.{table_view};
-ghost use Rattle.table_terms.specs.TableTerms.{HasRoom, IsTermOf};
+ghost use Rattle.table_terms.specs.TableTerms.{HasRoom, IsBasicTable, IsTermOf};
 
-use chart_term::Term;
 use msc_acceptance::Accepted;
 use msc_base::NoMemory;
 use std::alloc::Global;
-use table_terms::chart_of;
-use term_tables::Nets;
-
-/// The term of a chart, with its tables.
-#[derive(Drop)]
-pub(crate) struct JudgedTerm {
-    pub(crate) nets: Nets,
-    pub(crate) term: Term,
-}
+use table_terms::{ChartTerm, chart_of};
 
 /// The term of the chart of that name, and its tables. It fails only for want of memory.
 pub(crate) fn term_of(
     alloc: Global,
     accepted: &Accepted,
     name: &[u8],
-) -> Result<JudgedTerm, NoMemory>
+) -> Result<ChartTerm, NoMemory>
     requires basic { IsBasicTable (table_view accepted.now) }
     requires room { HasRoom (table_view accepted.now) name.now }
     ensures { IfOk result (λ made. IsTermOf (table_view accepted.now) name.now made.nets made.term) }
@@ -36,9 +26,5 @@ pub(crate) fn term_of(
         accepted.gates(),
         name,
     )?;
-    let nets = Nets::of_labels(alloc, made.labels);
-    Ok(JudgedTerm {
-        nets,
-        term: made.term,
-    })
+    Ok(made)
 }

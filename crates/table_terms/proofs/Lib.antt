@@ -1,5 +1,6 @@
 mod Numbered
 mod StoredCharts
-pub mod Happenings
+mod NoWalks
+mod PlacedTerms
 mod TableLaws
 mod WorkedPremises

@@ -6,47 +6,55 @@ use Rattle.std.specs.Option.{unwrap_or}
 use Rattle.std.proofs.Common.{◌≡◌, ◌∙◌, refl, sym, ap, subst, arith}
 use Rattle.std.proofs.Math.Path.{fun_ext}
 use Rattle.msc_base.specs.declared.label.Label.{Label}
+use Rattle.msc_base.specs.declared.label.LabelRef.{LabelRef}
+use Rattle.hmsc_graph.specs.declared.shape.Shape.{Shape}
 use Rattle.msc_base.specs.declared.limits.TheConstants.Limits.{EXPANDED_NESTING}
-use Rattle.msc_base.specs.Orders.{Among, first, later}
-use Rattle.msc_unfolding.specs.Unfoldings.{Happening}
+use Rattle.msc_base.specs.Orders.{Among}
 use Rattle.chart_forms.specs.TableSizes.{counted_size}
-use Rattle.chart_term.specs.Terms.{TermEvent, Tree, weight}
-use Rattle.term_laws.specs.FullSoundness.{IsFullySound}
-use Rattle.term_laws.specs.Normality.{IsNormal}
-use Rattle.term_laws.specs.Placing.{HaveOnePlace}
+use Rattle.chart_term.specs.Tables.{Tables}
+use Rattle.chart_term.specs.Terms.{TermEvent, Tree, Nil, weight}
+use Rattle.sound_terms.proofs.Mapped.{map_among}
+use Rattle.term_laws.specs.FullSoundness.{IsFullySound, IsSoundNode}
+use Rattle.term_laws.specs.Placing.{AreEventsPlaced, HaveOnePlace, IsPlaced}
 use Rattle.term_meaning.specs.Meanings.{Means}
 use Rattle.term_tables.specs.NetValues.{NetsValue}
 use Rattle.msc_meaning.specs.FarEnds.{no_gates}
 use Rattle.msc_meaning.specs.Meanings.{Finished, Begun}
-use Rattle.msc_meaning.specs.Tables.{Table}
-use Rattle.expansion_tree.specs.Expansions.{events_in, map_events}
+use Rattle.msc_meaning.specs.Tables.{ChartEntry, Table, chart_at, HighLevel}
+use Rattle.msc_tree.specs.Graphs.{graph, Lines}
+use Rattle.expansion_tree.specs.Expansions.{Expansions, events_in, map_events}
+use Rattle.expansion_tree.specs.Walks.{EachWalk}
 use Rattle.expansion_tree.specs.Numbered as numbered
 use Rattle.expansion_tree.specs.declared.tree.ExpandedEvent.{ExpandedEvent}
 use Rattle.expansion_order.specs.Ranks.{CanBeRanked}
-use Rattle.expansion_terms.specs.ExpansionTerms.{numbered_term}
+use Rattle.expansion_terms.specs.ExpansionTerms.{event_term, numbered_term, part_terms}
+use Rattle.expansion_terms.specs.MadeTerms.{IsWalkOf, Made, MadeTermsAgree}
 use Rattle.expanded_charts.specs.Expanding.{NumberedEvent}
 use Rattle.gate_ends.specs.EndLaws.{EndsAreFound}
 use Rattle.gate_ends.specs.FoundEnds.{table_ends}
 use Rattle.expanded_charts.specs.Numbering.{at_instances, at_two, event_by, instance_number, number_of_label}
 use Rattle.expanded_charts.specs.declared.numbering.Numbering.{Numbering}
-use Rattle.expanded_terms.specs.ExpandedLaws.{ExpandedTermsMean}
-use Rattle.expanded_terms.specs.ExpandedTerms.{charts_to}
+use Rattle.expanded_terms.specs.ExpandedLaws.{ExpandedTermsMean, IsBasicChart}
+use Rattle.expanded_terms.specs.ExpandedTerms.{Leaves, charts_to}
+use Rattle.expanded_terms.specs.ExpansionLaws as by_leaves
 use Rattle.expanded_terms.specs.ExpansionLaws.{ExpansionsHaveTerms}
 use Rattle.expanded_terms.specs.FitBodies.{IsFitTo}
+use Rattle.expanded_terms.specs.GraphWalks.{IsGraphWalk}
+use Rattle.expanded_terms.specs.GateTies.{IsQuietTable}
 use Rattle.expanded_terms.specs.JoinProducts.{ChartsAreLight}
 use Rattle.expanded_terms.specs.NamedEvents as by_names
-use Rattle.expanded_terms.specs.NamedEvents.{IsNameable, event_at, event_at_two, event_named, second_number}
-use Rattle.expanded_terms.specs.NormalTerms.{ExpandedTermsAreNormal}
-use Rattle.expanded_terms.specs.PlacedTerms.{ExpandedTermsPlaced, IsPlaceable, child_of}
-use Rattle.expanded_terms.specs.RankedTerms.{RankedChartsAreSound, numbered_event, numbered_expansion}
-use Rattle.expanded_terms.specs.WholeCharts.{WholeChartsAreFit, happenings_to}
-use Rattle.expanded_terms.specs.WholeCharts.{IsWholeTo}
+use Rattle.expanded_terms.specs.NamedEvents.{IsNameable, event_at, event_at_two, event_named, named_leaves, second_number}
+use Rattle.expanded_terms.specs.PlacedTerms.{EventsArePlaced, child_of, places}
+use Rattle.expanded_terms.specs.RankedTerms.{IsOwn, EachTie, RankedExpansionsAreSound}
+use Rattle.expanded_terms.specs.WholeCharts.{WholeChartsAreFit, IsWholeTo}
 use Rattle.expanded_terms.proofs.GateTies.{gate_ties_free, outside_ties}
-use Rattle.expanded_terms.proofs.RankedChartTerms.{mapped_term}
+use Rattle.expanded_terms.proofs.RankedChartTerms.{chart_counted, chart_labelled, mapped_events, mapped_term, numbered_event, numbered_expansion, own_ties}
+use Rattle.expanded_terms.proofs.TiesWithin.{ties_within}
 use Rattle.table_terms.specs.TableLaws.{TableTermsAreLight, TableTermsArePlaced, TableTermsAreSound, TableTermsMean}
-use Rattle.table_terms.specs.TableTerms.{IsTermOf, chart_expansion, chart_numbering, numbered_chart, labelled}
+use Rattle.table_terms.specs.TableTerms.{IsBasicTable, IsBasicWoven, IsTermOf, chart_expansion, chart_made, chart_numbering, chart_tables, numbered_chart}
 use Rattle.table_terms.proofs.Numbered.{AreNamedOnce, Has, events_once, have_events, label_found, name_found}
-use Rattle.table_terms.proofs.Happenings.{chart_seen}
+use Rattle.table_terms.proofs.NoWalks.{HasNoWalk, basic_at, charts_none, each_of_none, judged_plain, made_plain, mapped_none}
+use Rattle.table_terms.proofs.PlacedTerms.{judged_placed}
 
 -- ---- events by a numbering are events by its names and labels
 
@@ -99,10 +107,9 @@ chart_nameable table name e i = named_by (chart_numbering table name) e (have_ev
 named_once : (table : Table) (name : List ℕ) → AreNamedOnce (chart_numbering table name)
 named_once table name = events_once (events_in (chart_expansion table name)) (record { names = []; labels = [] }) (record { names = tt; labels = tt })
 
-of_happening : (es : List NumberedEvent) (h : Happening) → Among h (map (λ (e : NumberedEvent). e.happening) es) → (e : NumberedEvent) × Among e es × (e.happening ≡ h)
-of_happening (e ∷ es) _ first = (e, first, refl)
-of_happening (e ∷ es) h (later i) = let (d, j, q) = of_happening es h i in (d, later j, q)
-of_happening [] h i = elim i [ ]
+-- no walk is one of the term's
+abbrev no_walk : ℕ → Tree
+no_walk n = Nil
 
 module _ (table : Table) (name : List ℕ) where
   abbrev the_names : List (List ℕ)
@@ -111,56 +118,101 @@ module _ (table : Table) (name : List ℕ) where
   abbrev the_labels : List Label
   the_labels = (chart_numbering table name).labels
 
+  abbrev the_tables : NetsValue
+  the_tables = record { labels = the_labels; tables = [] }
+
+  abbrev the_leaves : Leaves
+  the_leaves = named_leaves the_names the_labels no_walk
+
   abbrev the_term : Tree
-  the_term = (charts_to (by_names.event_term the_names the_labels) (table_ends table) table EXPANDED_NESTING).term name no_gates 0
+  the_term = (charts_to the_leaves (table_ends table) table EXPANDED_NESTING).term name no_gates 0
 
-  happening_named : (h : Happening) → Among h (happenings_to table (table_ends table) EXPANDED_NESTING name no_gates) → IsNameable the_names the_labels h
-  happening_named h i = by (of_happening (events_in (chart_expansion table name)) h (subst (λ (l : List Happening). Among h l) (sym (chart_seen table EXPANDED_NESTING name no_gates 0)) i))
-    where
-      by : (e : NumberedEvent) × Among e (events_in (chart_expansion table name)) × (e.happening ≡ h) → IsNameable the_names the_labels h
-      by (e, j, q) = subst (λ (h : Happening). IsNameable the_names the_labels h) q (chart_nameable table name e j)
+  -- where the table has basic charts alone
+  module _ (basic : IsBasicTable table) where
+    walkless : HasNoWalk (chart_expansion table name)
+    walkless = charts_none (table_ends table) table basic EXPANDED_NESTING name no_gates 0
 
-  chart_fit : WholeChartsAreFit → IsWholeTo table (table_ends table) EXPANDED_NESTING name → IsFitTo table (table_ends table) (IsNameable the_names the_labels) EXPANDED_NESTING name no_gates
-  chart_fit fit c = fit.nameable the_names the_labels table (table_ends table) EXPANDED_NESTING name no_gates c happening_named
+    pub numbered_walkless : HasNoWalk (numbered_chart table name)
+    numbered_walkless = mapped_none (event_by (chart_numbering table name)) (chart_expansion table name) walkless
 
-  term_is : ExpansionsHaveTerms → (v : NetsValue) (x : Tree) → IsTermOf table name v x → x ≡ the_term
-  term_is have v x h = h.term ∙ ap numbered_term (chart_same table name) ∙ mapped_term (numbered_event the_names the_labels) (chart_expansion table name) ∙ have.term (by_names.event_term the_names the_labels) (table_ends table) table EXPANDED_NESTING name no_gates 0
+    no_nets : (chart_made table name).tables ≡ []
+    no_nets = ap (λ (m : Made). m.tables) (judged_plain [] (numbered_chart table name) numbered_walkless) ∙ (made_plain [] (numbered_chart table name) numbered_walkless).0
 
-pub table_terms_mean : ExpandedTermsMean → ExpandedTermsAreNormal → ExpansionsHaveTerms → WholeChartsAreFit → TableTermsMean
-table_terms_mean mean norm have fit = record {
-  means = λ table name v x c h. subst (λ (v : NetsValue). Means v (the_names table name) x (Finished table name) (Begun table name)) (sym h.nets)
-      (subst (λ (x : Tree). Means (labelled (the_labels table name)) (the_names table name) x (Finished table name) (Begun table name)) (sym (term_is table name have v x h))
-      (mean.means (labelled (the_labels table name)) (the_names table name) table (table_ends table) EXPANDED_NESTING name (named_once table name).names (named_once table name).labels tt (chart_fit table name fit c)));
-  normal = λ permits table name v x c h. subst (λ (x : Tree). IsNormal permits x) (sym (term_is table name have v x h))
-      (norm.normal permits (the_names table name) (the_labels table name) table (table_ends table) EXPANDED_NESTING name no_gates 0 (chart_fit table name fit c));
-}
+    nets_are : (v : NetsValue) (x : Tree) → IsTermOf table name v x → v ≡ the_tables
+    nets_are v x h = h.nets ∙ ap (λ (t : Tables). record { labels = the_labels; tables = t }) no_nets
 
-pub table_terms_are_sound : EndsAreFound → RankedChartsAreSound → ExpansionsHaveTerms → TableTermsAreSound
-table_terms_are_sound law ranked have = record {
-  sound = λ table name v x quiet h can. subst (λ (v : NetsValue). IsFullySound (length v.labels) v.tables x) (sym h.nets)
-      (subst (λ (x : Tree). IsFullySound (length (the_labels table name)) [] x) (sym (term_is table name have v x h))
-      (ranked.sound (labelled (the_labels table name)) (the_names table name) table (table_ends table) EXPANDED_NESTING name tt (chart_nameable table name)
-      (outside_ties (numbered_event (the_names table name) (the_labels table name)) (number_kept (the_names table name) (the_labels table name)) (chart_expansion table name) (gate_ties_free law table (table_ends table) quiet EXPANDED_NESTING name no_gates 0))
-      (subst (λ (y : numbered.Expansion). CanBeRanked y) (chart_same table name) can)));
-}
+    term_is : MadeTermsAgree → ExpansionsHaveTerms → (v : NetsValue) (x : Tree) → IsTermOf table name v x → x ≡ the_term
+    term_is agree have v x h =
+        h.term
+        ∙ ap (λ (m : Made). m.term) (judged_plain [] (numbered_chart table name) numbered_walkless)
+        ∙ agree.term [] (numbered_chart table name) no_walk (λ p i. elim (subst (λ (ws : List (ℕ × Tree)). Among p ws) (made_plain [] (numbered_chart table name) numbered_walkless).1 i) [ ])
+        ∙ ap (numbered_term no_walk) (chart_same table name)
+        ∙ mapped_term (numbered_event the_names the_labels) no_walk (chart_expansion table name)
+        ∙ have.term the_leaves (table_ends table) table EXPANDED_NESTING name no_gates 0
 
-pub table_terms_are_light : ChartsAreLight → ExpansionsHaveTerms → TableTermsAreLight
-table_terms_are_light light have = record {
-  light = λ table name v x h few. subst (λ (x : Tree). weight x ≤ counted_size table name) (sym (term_is table name have v x h))
-      (light.counted (by_names.event_term (the_names table name) (the_labels table name)) (table_ends table) table EXPANDED_NESTING name no_gates 0 (λ i k. omega arith) few);
-}
+    is_basic : IsBasicChart table name
+    is_basic entry starts lines is high = subst IsBasicWoven high (basic_at table name entry basic is)
 
-chart_placeable : (table : Table) (name : List ℕ) → ((e : NumberedEvent) → Among e (events_in (chart_expansion table name)) → e.happening.also ≡ child_of e.happening.label)
-    → (h : Happening) → Among h (happenings_to table (table_ends table) EXPANDED_NESTING name no_gates) → IsPlaceable (the_names table name) (the_labels table name) h
-chart_placeable table name f h i = by (of_happening (events_in (chart_expansion table name)) h (subst (λ (l : List Happening). Among h l) (sym (chart_seen table EXPANDED_NESTING name no_gates 0)) i))
+    chart_fit : WholeChartsAreFit → IsWholeTo table (table_ends table) EXPANDED_NESTING name
+        → IsFitTo table (table_ends table) the_leaves (IsNameable the_names the_labels) (λ m g nodes. IsGraphWalk [] g nodes (no_walk m)) EXPANDED_NESTING name no_gates 0
+    chart_fit fit whole = fit.fit the_names the_labels [] the_leaves table (table_ends table) EXPANDED_NESTING name no_gates 0 whole (chart_nameable table name)
+        (each_of_none (λ m g xs. IsGraphWalk [] g (part_terms (by_leaves.event_by the_leaves) no_walk xs) (no_walk m)) (chart_expansion table name) walkless)
+
+    means_it : ExpandedTermsMean → WholeChartsAreFit → IsWholeTo table (table_ends table) EXPANDED_NESTING name → Means the_tables the_names the_term (Finished table name) (Begun table name)
+    means_it mean fit whole = mean.means the_tables the_names no_walk table (table_ends table) EXPANDED_NESTING name (named_once table name).names (named_once table name).labels tt (chart_fit fit whole) is_basic
+
+    -- ---- sound
+
+    keeps : (e : NumberedEvent) → (numbered_event the_names the_labels e).number ≡ e.number
+    keeps = number_kept the_names the_labels
+
+    tied : EndsAreFound → IsQuietTable table → EachTie IsOwn (numbered_expansion the_names the_labels table (table_ends table) EXPANDED_NESTING name)
+    tied law quiet = own_ties (numbered_event the_names the_labels) keeps (chart_expansion table name) (ties_within (table_ends table) table EXPANDED_NESTING name no_gates 0)
+        (outside_ties (numbered_event the_names the_labels) keeps (chart_expansion table name) (gate_ties_free law table (table_ends table) quiet EXPANDED_NESTING name no_gates 0))
+
+    sound_chart : EndsAreFound → RankedExpansionsAreSound → IsQuietTable table → CanBeRanked (numbered_chart table name) → IsSoundNode (length the_labels) [] (numbered_term no_walk (numbered_chart table name))
+    sound_chart law ranked quiet can =
+        let x = numbered_expansion the_names the_labels table (table_ends table) EXPANDED_NESTING name in
+        subst (λ (y : numbered.Expansion). IsSoundNode (length the_labels) [] (numbered_term no_walk y)) (sym (chart_same table name))
+        (ranked.sound (length the_labels) [] 0 x no_walk tt (chart_counted the_tables the_names table (table_ends table) EXPANDED_NESTING name)
+        (chart_labelled the_tables the_names table (table_ends table) EXPANDED_NESTING name (chart_nameable table name)) (tied law quiet) (subst (λ (y : numbered.Expansion). CanBeRanked y) (chart_same table name) can)
+        (each_of_none (λ m g xs. IsWalkOf [] g (part_terms event_term no_walk xs) (no_walk m)) x (mapped_none (numbered_event the_names the_labels) (chart_expansion table name) walkless)))
+
+    numbered_is : MadeTermsAgree → (chart_made table name).term ≡ numbered_term no_walk (numbered_chart table name)
+    numbered_is agree =
+        ap (λ (m : Made). m.term) (judged_plain [] (numbered_chart table name) numbered_walkless)
+        ∙ agree.term [] (numbered_chart table name) no_walk (λ p i. elim (subst (λ (ws : List (ℕ × Tree)). Among p ws) (made_plain [] (numbered_chart table name) numbered_walkless).1 i) [ ])
+
+pub table_terms_mean : MadeTermsAgree → ExpandedTermsMean → ExpansionsHaveTerms → WholeChartsAreFit → TableTermsMean
+table_terms_mean agree mean have fit table name v x basic whole h =
+    subst (λ (v : NetsValue). Means v (the_names table name) x (Finished table name) (Begun table name)) (sym (nets_are table name basic v x h))
+    (subst (λ (x : Tree). Means (the_tables table name) (the_names table name) x (Finished table name) (Begun table name)) (sym (term_is table name basic agree have v x h)) (means_it table name basic mean fit whole))
+
+pub table_terms_are_sound : MadeTermsAgree → EndsAreFound → RankedExpansionsAreSound → TableTermsAreSound
+table_terms_are_sound agree law ranked table name v x basic quiet h can =
+    subst (λ (v : NetsValue). IsFullySound (length v.labels) v.tables x) (sym (nets_are table name basic v x h))
+    (subst (λ (x : Tree). IsFullySound (length (the_labels table name)) [] x) (sym (h.term ∙ numbered_is table name basic agree))
+    (record { nets = tt; term = (sound_chart table name basic law ranked quiet can).sound }))
+
+pub table_terms_are_light : MadeTermsAgree → ChartsAreLight → ExpansionsHaveTerms → TableTermsAreLight
+table_terms_are_light agree light have table name v x basic h few =
+    subst (λ (x : Tree). weight x ≤ counted_size table name) (sym (term_is table name basic agree have v x h))
+    (light.counted (the_leaves table name) (table_ends table) table EXPANDED_NESTING name no_gates 0 (record { events = λ i k. omega arith; walks = λ i. omega arith }) few)
+
+pub table_terms_are_placed : EventsArePlaced → TableTermsArePlaced
+table_terms_are_placed law table name v x h child = subst (λ (v : NetsValue). HaveOnePlace v.tables x) (sym h.nets) (subst (λ (x : Tree). HaveOnePlace (chart_made table name).tables x) (sym h.term) made_placed)
   where
-    by : (e : NumberedEvent) × Among e (events_in (chart_expansion table name)) × (e.happening ≡ h) → IsPlaceable (the_names table name) (the_labels table name) h
-    by (e, j, q) = subst (λ (h : Happening). IsPlaceable (the_names table name) (the_labels table name) h) q (record { label = (chart_nameable table name e j).label; child = f e j })
+    there : (e : NumberedEvent) → Among e (events_in (chart_expansion table name)) → IsPlaced (places (the_names table name) (the_labels table name)) (event_named (the_names table name) (the_labels table name) e.number e.happening)
+    there e i = law.placed (the_names table name) (the_labels table name) e.number e.happening (record { label = (chart_nameable table name e i).label; child = child e i })
 
-pub table_terms_are_placed : ExpandedTermsPlaced → ExpansionsHaveTerms → WholeChartsAreFit → TableTermsArePlaced
-table_terms_are_placed placed have fit = record {
-  placed = λ table name v x c h f. subst (λ (v : NetsValue). HaveOnePlace v.tables x) (sym h.nets)
-      (subst (λ (x : Tree). HaveOnePlace [] x) (sym (term_is table name have v x h))
-      (placed.placed (the_names table name) (the_labels table name) table (table_ends table) EXPANDED_NESTING name
-      (fit.placeable (the_names table name) (the_labels table name) table (table_ends table) EXPANDED_NESTING name no_gates c (chart_placeable table name f))));
-}
+    of_event : (d : ExpandedEvent) → (e : NumberedEvent) × (numbered_event (the_names table name) (the_labels table name) e ≡ d) × Among e (events_in (chart_expansion table name)) → IsPlaced (places (the_names table name) (the_labels table name)) (record { number = d.number; at = d.at; also = d.also; label = d.label })
+    of_event d (e, q, i) = subst (λ (d : ExpandedEvent). IsPlaced (places (the_names table name) (the_labels table name)) (record { number = d.number; at = d.at; also = d.also; label = d.label })) q (there e i)
+
+    events_there : (d : ExpandedEvent) → Among d (events_in (numbered_chart table name)) → IsPlaced (places (the_names table name) (the_labels table name)) (record { number = d.number; at = d.at; also = d.also; label = d.label })
+    events_there d i = of_event d (map_among (numbered_event (the_names table name) (the_labels table name)) (events_in (chart_expansion table name))
+        (subst (λ (es : List ExpandedEvent). Among d es) (ap (λ (y : numbered.Expansion). events_in y) (chart_same table name) ∙ mapped_events (numbered_event (the_names table name) (the_labels table name)) (chart_expansion table name)) i))
+
+    made_placed : HaveOnePlace (chart_made table name).tables (chart_made table name).term
+    made_placed =
+        let p = judged_placed (places (the_names table name) (the_labels table name)) [] (numbered_chart table name) events_there tt in
+        record { places = places (the_names table name) (the_labels table name); nets = p.0; term = p.1 }

@@ -80,6 +80,7 @@ is_apart e (later (later a)) q = absurd (nothing_among a)
 
 pub premises_are_met : PremisesAreMet
 premises_are_met = record {
+  basic = (tt, (tt, tt));
   whole = has_whole;
   quiet = is_quiet;
   ranked = has_ranks;

@@ -1,11 +1,9 @@
 -- The laws of the term of a chart of a table.
 use Rattle.std.specs.Prelude.{◌≡◌, ◌≤◌, ℕ, List, length}
 use Rattle.msc_base.specs.declared.limits.TheConstants.Limits.{EXPANDED_NESTING}
-use Rattle.chart_term.specs.NormalForms.{NetPermits}
 use Rattle.msc_base.specs.Orders.{Among}
 use Rattle.chart_term.specs.Terms.{Tree, weight}
 use Rattle.term_laws.specs.FullSoundness.{IsFullySound}
-use Rattle.term_laws.specs.Normality.{IsNormal}
 use Rattle.term_laws.specs.Placing.{HaveOnePlace}
 use Rattle.term_meaning.specs.Meanings.{Means}
 use Rattle.term_tables.specs.NetValues.{NetsValue}
@@ -20,25 +18,24 @@ use Rattle.expanded_terms.specs.JoinProducts.{IsFewTo}
 use Rattle.expanded_terms.specs.PlacedTerms.{child_of}
 use Rattle.expanded_terms.specs.GateTies.{IsQuietTable}
 use Rattle.expanded_terms.specs.WholeCharts.{IsWholeTo}
-use Rattle.table_terms.specs.TableTerms.{IsTermOf, chart_expansion, chart_numbering, numbered_chart}
+use Rattle.table_terms.specs.TableTerms.{IsBasicTable, IsTermOf, chart_expansion, chart_numbering, numbered_chart}
 
--- the term of a whole chart of a table, with the names of its instances, means the chart, and is in normal form
-pub record TableTermsMean : Type 0 where
-  pub means : (table : Table) (name : List ℕ) (v : NetsValue) (x : Tree) → IsWholeTo table (table_ends table) EXPANDED_NESTING name → IsTermOf table name v x
-      → Means v (chart_numbering table name).names x (Finished table name) (Begun table name)
-  pub normal : (permits : NetPermits) (table : Table) (name : List ℕ) (v : NetsValue) (x : Tree) → IsWholeTo table (table_ends table) EXPANDED_NESTING name → IsTermOf table name v x → IsNormal permits x
+-- the term of a whole chart of a table of basic charts, with the names of its instances, means the chart
+abbrev pub TableTermsMean : Type 0
+TableTermsMean = (table : Table) (name : List ℕ) (v : NetsValue) (x : Tree) → IsBasicTable table → IsWholeTo table (table_ends table) EXPANDED_NESTING name → IsTermOf table name v x
+    → Means v (chart_numbering table name).names x (Finished table name) (Begun table name)
 
--- the term of a chart of a table in which no inner event of a called gate stands in a loop, is sound in full where its
--- expansion can be ranked
-pub record TableTermsAreSound : Type 0 where
-  pub sound : (table : Table) (name : List ℕ) (v : NetsValue) (x : Tree) → IsQuietTable table → IsTermOf table name v x → CanBeRanked (numbered_chart table name) → IsFullySound (length v.labels) v.tables x
+-- the term of a chart of such a table in which no inner event of a called gate stands in a loop, is sound in full where its expansion can be
+-- ranked
+abbrev pub TableTermsAreSound : Type 0
+TableTermsAreSound = (table : Table) (name : List ℕ) (v : NetsValue) (x : Tree) → IsBasicTable table → IsQuietTable table → IsTermOf table name v x → CanBeRanked (numbered_chart table name) → IsFullySound (length v.labels) v.tables x
 
 -- it weighs no more than the chart's expanded size, where each level has few pairs of its own
-pub record TableTermsAreLight : Type 0 where
-  pub light : (table : Table) (name : List ℕ) (v : NetsValue) (x : Tree) → IsTermOf table name v x → IsFewTo table EXPANDED_NESTING name → weight x ≤ counted_size table name
+abbrev pub TableTermsAreLight : Type 0
+TableTermsAreLight = (table : Table) (name : List ℕ) (v : NetsValue) (x : Tree) → IsBasicTable table → IsTermOf table name v x → IsFewTo table EXPANDED_NESTING name → weight x ≤ counted_size table name
 
--- its events of one label have the same instances, where the second instance of each is the one that its label gives
-pub record TableTermsArePlaced : Type 0 where
-  pub placed : (table : Table) (name : List ℕ) (v : NetsValue) (x : Tree) → IsWholeTo table (table_ends table) EXPANDED_NESTING name → IsTermOf table name v x
-      → ((e : NumberedEvent) → Among e (events_in (chart_expansion table name)) → e.happening.also ≡ child_of e.happening.label)
-      → HaveOnePlace v.tables x
+-- events of one label have the same instances, in a term and its nets, where the second instance of each is the one that its label gives
+abbrev pub TableTermsArePlaced : Type 0
+TableTermsArePlaced = (table : Table) (name : List ℕ) (v : NetsValue) (x : Tree) → IsTermOf table name v x
+    → ((e : NumberedEvent) → Among e (events_in (chart_expansion table name)) → e.happening.also ≡ child_of e.happening.label)
+    → HaveOnePlace v.tables x

@@ -1,20 +1,19 @@
-//! The term of a chart of a table, with its labels and instances.
+//! The term of a chart of a table, with its nets and instances.
 
 ghost use Rattle.std.specs.Prelude.{◌≡◌, IfOk};
 ghost use Rattle.msc_meaning.specs.Views.{table_view};
-ghost use Rattle.expanded_charts.specs.BasicCharts.{IsBasicTable};
 ghost use Rattle.gate_ends.specs.LevelGates.{HasNames};
 ghost use Rattle.gate_tables.specs.ChartGates.{AreGatesOf};
-ghost use Rattle.table_terms.specs.TableTerms.{HasRoom, IsTermOf, chart_numbering, labelled};
+ghost use Rattle.table_terms.specs.TableTerms.{HasRoom, IsBasicTable, IsTermOf, chart_numbering};
 
 use chart_term::Term;
 use expanded_charts::{ExpandedChart, expansion_of};
-use expansion_terms::term_of;
+use expansion_terms::judged_term_of;
 use gate_tables::GateTables;
-use label_table::LabelTable;
 use msc_base::{Limits, NameTable, NoMemory};
 use msc_meaning::ChartEntry;
 use std::alloc::Global;
+use term_tables::Nets;
 
 /// The term of a chart, and what its numbers are of.
 #[derive(Drop)]
@@ -23,13 +22,12 @@ pub struct ChartTerm {
     pub term: Term,
     /// The names of its instances by their numbers.
     pub names: NameTable,
-    /// Its labels by their numbers.
-    pub labels: LabelTable,
+    /// Its labels and nets by their numbers.
+    pub nets: Nets,
 }
 
 /// The term of the chart of that name in a table of basic charts, of which the names are given in their order, and what they say of their
 /// gates. It fails only for want of memory.
-#[tactic(auto, using(crate::proofs::StoredCharts::chart_stored))]
 pub fn chart_of(
     alloc: Global,
     charts: &[ChartEntry],
@@ -41,7 +39,7 @@ pub fn chart_of(
     requires basic { IsBasicTable (table_view charts.now) }
     requires gates { AreGatesOf (table_view charts.now) gates.now }
     requires room { HasRoom (table_view charts.now) name.now }
-    ensures term { IfOk result (λ made. IsTermOf (table_view charts.now) name.now (labelled made.labels) made.term) }
+    ensures term { IfOk result (λ made. IsTermOf (table_view charts.now) name.now made.nets made.term) }
     ensures names { IfOk result (λ made. made.names ≡ (chart_numbering (table_view charts.now) name.now).names) }
 {
     let depth = Limits::EXPANDED_NESTING as u32;
@@ -49,10 +47,11 @@ pub fn chart_of(
         expansion,
         numbering,
     } = expansion_of(alloc, charts, names, gates, depth, name)?;
-    let term = term_of(alloc, &expansion)?;
+    let mut nets = Nets::of_labels(alloc, numbering.labels);
+    let term = judged_term_of(alloc, &mut nets, &expansion)?;
     Ok(ChartTerm {
         term,
         names: numbering.names,
-        labels: numbering.labels,
+        nets,
     })
 }

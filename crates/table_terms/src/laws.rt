@@ -4,37 +4,36 @@ ghost use Rattle.table_terms.specs.TableLaws.{TableTermsAreLight, TableTermsAreP
 ghost use Rattle.table_terms.specs.WorkedPremises.{PremisesAreMet};
 
 use expanded_terms::{
-    charts_are_light, expanded_terms_are_normal, expanded_terms_are_placed, expanded_terms_mean,
-    expansions_have_terms, ranked_charts_are_sound, whole_charts_are_fit,
+    charts_are_light, events_are_placed, expanded_terms_mean, expansions_have_terms,
+    ranked_expansions_are_sound, whole_charts_are_fit,
 };
+use expansion_terms::laws::made_terms_agree;
 use gate_ends::ends_are_found;
 
-/// The term of a whole chart means the chart, and is in normal form.
-#[tactic(auto, using(crate::proofs::TableLaws::table_terms_mean))]
+/// The term of a whole chart means the chart.
 pub fn table_terms_mean()
     ensures { TableTermsMean }
 {
+    made_terms_agree();
     expanded_terms_mean();
-    expanded_terms_are_normal();
     expansions_have_terms();
     whole_charts_are_fit();
 }
 
 /// The term of a chart is sound where its expansion can be ranked.
-#[tactic(auto, using(crate::proofs::TableLaws::table_terms_are_sound))]
 pub fn table_terms_are_sound()
     ensures { TableTermsAreSound }
 {
+    made_terms_agree();
     ends_are_found();
-    ranked_charts_are_sound();
-    expansions_have_terms();
+    ranked_expansions_are_sound();
 }
 
 /// The term of a chart weighs no more than the chart's expanded size.
-#[tactic(auto, using(crate::proofs::TableLaws::table_terms_are_light))]
 pub fn table_terms_are_light()
     ensures { TableTermsAreLight }
 {
+    made_terms_agree();
     charts_are_light();
     expansions_have_terms();
 }
@@ -44,9 +43,7 @@ pub fn table_terms_are_light()
 pub fn table_terms_are_placed()
     ensures { TableTermsArePlaced }
 {
-    expanded_terms_are_placed();
-    expansions_have_terms();
-    whole_charts_are_fit();
+    events_are_placed();
 }
 
 /// A chart that uses another twice, once in a loop, meets what the laws ask.
