@@ -1,2 +1,3 @@
 pub mod WalkNumbers
 mod SoundNets
+mod DrawnWalks

@@ -39,14 +39,6 @@ module _ (agree : MadeTermsAgree) (ranked : RankedExpansionsAreSound) (stay : Ta
 
   -- ---- the terms of parts
 
-  terms_are : (t : Tables) (xs : Expansions) → AreWalksMade walk (made_all t xs).walks → (made_all t xs).terms ≡ part_terms event_term walk xs
-  terms_are t no_parts h = refl
-  terms_are t (part_and x xs) h =
-      let m = made t x in
-      let here = agree.term t x walk (λ p i. h p (among_left m.walks (made_all m.tables xs).walks p i)) in
-      let behind = terms_are m.tables xs (λ p i. h p (among_right m.walks (made_all m.tables xs).walks p i)) in
-      λ i. here i ∷ behind i
-
   parts_sound : (w : Tables) (n : ℕ) (xs : Expansions) → AreSoundNets labels w → CountFrom n (all_nums xs) → AreLabelled (all_events_in xs) → EachTies IsOwn xs → EachPart CanBeRanked xs → EachWalkIn (IsWalkIn w) xs
       → Each (IsSoundNode labels w) (part_terms event_term walk xs)
   parts_sound w n no_parts nets c l t r v = tt
@@ -74,7 +66,7 @@ module _ (agree : MadeTermsAgree) (ranked : RankedExpansionsAreSound) (stay : Ta
   one_net n g t xs graph nets c l ties h =
       let w = (made_all t xs).tables in
       let nodes = part_terms event_term walk xs in
-      subst (λ (ys : List Tree). AreSoundNets labels (record { net = net_of_shape g; nodes = ys } ∷ w)) (sym (terms_are t xs h))
+      subst (λ (ys : List Tree). AreSoundNets labels (record { net = net_of_shape g; nodes = ys } ∷ w)) (sym (agree.terms t xs walk h))
       (stay.one_net_more labels w (record { net = net_of_shape g; nodes = nodes }) nets
       (parts_sound w n xs nets c l ties graph.ranked (agree.walks t (InRow xs) walk h)) graph.net
       (length-map g.lines (λ (line : ShapeLine). line.ends) ∙ (sym graph.each ∙ sym (terms_counted xs))) (ends_nil g.lines xs graph.ends))

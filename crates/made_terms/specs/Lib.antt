@@ -1,1 +1,2 @@
 pub mod MadeTerms
+pub mod DrawnWalks

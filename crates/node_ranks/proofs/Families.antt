@@ -131,16 +131,35 @@ module _ (P : Family → Family → Type 0) (Q : PartsFamily → PartsFamily →
       both : Charts → PartsFamily
       both c n = tree.then (left c n) (fine c)
 
-  -- graphs: so it is of them too
+  -- graphs: so it is of them too, where that is known of each
+  module _ (Drawn : List LabelRef → Lines → Type 0) (graph_kept : (starts : List LabelRef) (lines : Lines) → Drawn starts lines → LinesNameOnly Named lines → P (λ n. expand_graph chart ends_of n (graph starts lines)) (λ n. expand_graph other ends_of n (graph starts lines))) where
+    abbrev pub IsDrawn : Woven → Type 0
+    IsDrawn (Basic held) = Unit {0}
+    IsDrawn (HighLevel (graph starts lines)) = Drawn starts lines
+
+    woven_kept : (table : Table) (gates : GateMap) (rs : List Refinement) (content : Woven) → IsDrawn content → WovenNamesOnly Named table rs content → P (λ n. expand_woven chart ends_of table gates n rs content) (λ n. expand_woven other ends_of table gates n rs content)
+    woven_kept table gates [] (Basic held) d w = level_kept (under gates) held w
+    woven_kept table gates (r ∷ rs) (Basic (level cover held pairs)) d (w, v) = refined_kept (refined_under gates pairs (refinings table held (r ∷ rs))) held pairs (r ∷ rs) (refinings table held (r ∷ rs)) w v
+    woven_kept table gates [] (HighLevel (graph starts lines)) d w = graph_kept starts lines d w
+    woven_kept table gates (r ∷ rs) (HighLevel (graph starts lines)) d w = graph_kept starts lines d w
+
+    pub drawn_entry_kept : (table : Table) (name : List ℕ) (gates : GateMap) (w : HasEntry table Named name) → IsDrawn w.entry.content → P (λ n. expand_entry ends_of table chart gates n (chart_at table name)) (λ n. expand_entry ends_of table other gates n (chart_at table name))
+    drawn_entry_kept table name gates w d = subst (λ (o : Option ChartEntry). P (λ n. expand_entry ends_of table chart gates n o) (λ n. expand_entry ends_of table other gates n o)) (sym w.is) (woven_kept table gates (refinements w.entry.decls) w.entry.content d w.names)
+
+  -- of any graphs
   module _ (graph_kept : (starts : List LabelRef) (lines : Lines) → LinesNameOnly Named lines → P (λ n. expand_graph chart ends_of n (graph starts lines)) (λ n. expand_graph other ends_of n (graph starts lines))) where
-    woven_kept : (table : Table) (gates : GateMap) (rs : List Refinement) (content : Woven) → WovenNamesOnly Named table rs content → P (λ n. expand_woven chart ends_of table gates n rs content) (λ n. expand_woven other ends_of table gates n rs content)
-    woven_kept table gates [] (Basic held) w = level_kept (under gates) held w
-    woven_kept table gates (r ∷ rs) (Basic (level cover held pairs)) (w, v) = refined_kept (refined_under gates pairs (refinings table held (r ∷ rs))) held pairs (r ∷ rs) (refinings table held (r ∷ rs)) w v
-    woven_kept table gates [] (HighLevel (graph starts lines)) w = graph_kept starts lines w
-    woven_kept table gates (r ∷ rs) (HighLevel (graph starts lines)) w = graph_kept starts lines w
+    abbrev Any : List LabelRef → Lines → Type 0
+    Any starts lines = Unit {0}
+
+    any_kept : (starts : List LabelRef) (lines : Lines) → Any starts lines → LinesNameOnly Named lines → P (λ n. expand_graph chart ends_of n (graph starts lines)) (λ n. expand_graph other ends_of n (graph starts lines))
+    any_kept starts lines d w = graph_kept starts lines w
+
+    any_drawn : (content : Woven) → IsDrawn Any any_kept content
+    any_drawn (Basic held) = tt
+    any_drawn (HighLevel (graph starts lines)) = tt
 
     pub entry_kept : (table : Table) (name : List ℕ) (gates : GateMap) → HasEntry table Named name → P (λ n. expand_entry ends_of table chart gates n (chart_at table name)) (λ n. expand_entry ends_of table other gates n (chart_at table name))
-    entry_kept table name gates w = subst (λ (o : Option ChartEntry). P (λ n. expand_entry ends_of table chart gates n o) (λ n. expand_entry ends_of table other gates n o)) (sym w.is) (woven_kept table gates (refinements w.entry.decls) w.entry.content w.names)
+    entry_kept table name gates w = drawn_entry_kept Any any_kept table name gates w (any_drawn w.entry.content)
 
   -- where walks keep it too
   module _ (walk_kept : (g : Shape) (l k : PartsFamily) → Q l k → P (λ n. tree.walk n g (l (suc n))) (λ n. tree.walk n g (k (suc n)))) where
