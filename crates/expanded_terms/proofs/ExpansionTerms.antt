@@ -357,6 +357,7 @@ module _ (leaves : Leaves) where
 pub expansions_have_terms : ExpansionsHaveTerms
 expansions_have_terms = record {
   term = λ leaves ends_of table depth name gates n. (charts_are leaves ends_of table depth name gates n).term;
+  lines = λ leaves ends_of table depth n held. (lines_of leaves ends_of (expand_charts ends_of table depth) (charts_to leaves ends_of table depth) (charts_are leaves ends_of table depth) n held).is;
   shown = λ leaves ends_of table depth name gates n. (charts_are leaves ends_of table depth name gates n).shown;
   next = λ leaves ends_of table depth name gates n. (charts_are leaves ends_of table depth name gates n).next_is;
 }

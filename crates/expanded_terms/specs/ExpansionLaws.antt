@@ -6,9 +6,10 @@ use Rattle.msc_meaning.specs.Bodies.{WovenItems}
 use Rattle.msc_meaning.specs.FarEnds.{GateMap}
 use Rattle.msc_meaning.specs.InnerEvents.{GateEnd}
 use Rattle.msc_meaning.specs.Tables.{Table}
-use Rattle.expanded_charts.specs.Expanding.{NumberedEvent, expand_charts}
-use Rattle.expansion_terms.specs.ExpansionTerms.{expansion_term}
-use Rattle.expanded_terms.specs.ExpandedTerms.{Leaves, charts_to}
+use Rattle.msc_tree.specs.Graphs.{Lines}
+use Rattle.expanded_charts.specs.Expanding.{NumberedEvent, expand_charts, expand_lines}
+use Rattle.expansion_terms.specs.ExpansionTerms.{expansion_term, part_terms}
+use Rattle.expanded_terms.specs.ExpandedTerms.{Leaves, charts_to, lines_terms}
 
 -- the term of an event
 abbrev pub event_by : Leaves → NumberedEvent → Tree
@@ -19,6 +20,9 @@ event_by leaves e = leaves.event e.number e.happening
 pub record ExpansionsHaveTerms : Type 0 where
   pub term : (leaves : Leaves) (ends_of : WovenItems → List GateEnd) (table : Table) (depth : ℕ) (name : List ℕ) (gates : GateMap) (n : ℕ)
       → expansion_term (event_by leaves) leaves.walk (expand_charts ends_of table depth name gates n).part ≡ (charts_to leaves ends_of table depth).term name gates n
+  -- and the terms of the nodes of a graph are those of what its lines come to
+  pub lines : (leaves : Leaves) (ends_of : WovenItems → List GateEnd) (table : Table) (depth : ℕ) (n : ℕ) (held : Lines)
+      → part_terms (event_by leaves) leaves.walk (expand_lines (expand_charts ends_of table depth) ends_of n held).parts ≡ lines_terms (charts_to leaves ends_of table depth) leaves ends_of n held
   pub shown : (leaves : Leaves) (ends_of : WovenItems → List GateEnd) (table : Table) (depth : ℕ) (name : List ℕ) (gates : GateMap) (n : ℕ)
       → (expand_charts ends_of table depth name gates n).shown ≡ (charts_to leaves ends_of table depth).shown name n
   pub next : (leaves : Leaves) (ends_of : WovenItems → List GateEnd) (table : Table) (depth : ℕ) (name : List ℕ) (gates : GateMap) (n : ℕ)

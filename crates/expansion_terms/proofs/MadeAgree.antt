@@ -167,6 +167,7 @@ found (q ∷ ws) o p (later i) = by (q.0 == p.0) refl (found ws o.1 p i)
 pub made_terms_agree : MadeTermsAgree
 made_terms_agree = record {
   term = λ t x walk h. term_is walk t x h;
+  terms = λ t xs walk h. terms_are walk t xs h;
   walks = λ t x walk h. walks_are walk t x h;
   found = found;
 }

@@ -146,6 +146,7 @@ walk_at (p ∷ ws) k = walk_if (p.0 == k) p.1 (walk_at ws k)
 -- a net of the tables whose nodes have the terms of the parts
 pub record MadeTermsAgree : Type 0 where
   pub term : (t : Tables) (x : Expansion) (walk : ℕ → Tree) → AreWalksMade walk (made t x).walks → (made t x).term ≡ numbered_term walk x
+  pub terms : (t : Tables) (xs : Expansions) (walk : ℕ → Tree) → AreWalksMade walk (made_all t xs).walks → (made_all t xs).terms ≡ part_terms event_term walk xs
   pub walks : (t : Tables) (x : Expansion) (walk : ℕ → Tree) → AreWalksMade walk (made t x).walks
       → EachWalk (λ n g xs. IsWalkOf (made t x).tables g (part_terms event_term walk xs) (walk n)) x
   -- no number twice, so each walk is found by its own

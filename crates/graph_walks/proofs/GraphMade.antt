@@ -54,7 +54,7 @@ formed P false c x y n h e = absurd cc
 formed P true true x y n h e = subst P (same_Some Nil y e) n
 formed P true false x y n h e = subst P (same_Some x y e) h
 
-walk_is : (P : Tree → Type 0) (w : Tables) (n : ℕ) (t : Goal) (x : Tree) → P Nil → ((c : List ℕ) → P (Walk n Start t c)) → fresh_walk w n t ≡ Some x → P x
+pub walk_is : (P : Tree → Type 0) (w : Tables) (n : ℕ) (t : Goal) (x : Tree) → P Nil → ((c : List ℕ) → P (Walk n Start t c)) → fresh_walk w n t ≡ Some x → P x
 walk_is P w n Any x m h e = subst P (same_Some (Walk n Start Any (cut ((permits_of w).spread n) [])) x e) (h (cut ((permits_of w).spread n) []))
 walk_is P w n End x m h e = let k = permits_of w in let c = cut (k.spread n) [] in let ks = allowed k n c in formed P (graphs.reach (k.net n) ks Start End) (are_nil k n Start End c ks) (Walk n Start End c) x m (h c) e
 walk_is P w n (graphs.To j) x m h e = let k = permits_of w in let c = cut (k.spread n) [] in let ks = allowed k n c in formed P (graphs.reach (k.net n) ks Start (graphs.To j)) (are_nil k n Start (graphs.To j) c ks) (Walk n Start (graphs.To j) c) x m (h c) e
