@@ -1,6 +1,12 @@
 mod Numbered
+mod NumberedCharts
 mod StoredCharts
-mod NoWalks
+mod InstanceNumbers
+mod EachWalks
+mod ChartWalks
 mod PlacedTerms
+mod SoundCharts
+mod MeantCharts
+mod LightCharts
 mod TableLaws
 mod WorkedPremises

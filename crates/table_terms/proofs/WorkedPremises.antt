@@ -1,5 +1,7 @@
 -- A worked chart meets what the laws ask.
-use Rattle.std.specs.Prelude.{ℕ, suc, List, [], ◌∷◌, Some, None, codes}
+use Rattle.std.specs.Prelude.{ℕ, zero, suc, ◌<◌, Bool, true, false, List, [], ◌∷◌, Option, Some, None, codes, if◌then◌else◌}
+use Rattle.std.specs.Str.{bytes_eq}
+use Rattle.std.proofs.lemmas.Slice.Eq.{bytes_eq-Decides}
 use Rattle.std.proofs.Common.{◌≡◌, refl, sym, subst, arith}
 use Rattle.msc_base.specs.Orders.{Among, first, later}
 use Rattle.msc_base.specs.declared.limits.TheConstants.Limits.{EXPANDED_NESTING}
@@ -21,7 +23,10 @@ use Rattle.msc_meaning.specs.MeaningLaws.{HaveOneEnd}
 use Rattle.msc_meaning.specs.WorkedCharts.{i}
 use Rattle.msc_meaning.specs.WorkedParts.{action, node, somewhere}
 use Rattle.expanded_terms.specs.PlacedTerms.{child_of}
-use Rattle.msc_meaning.specs.Tables.{Basic}
+use Rattle.msc_meaning.specs.Tables.{ChartEntry, chart_at, Basic}
+use Rattle.node_ranks.specs.NamedCharts.{IsNestedTo}
+use Rattle.made_terms.specs.DrawnWalks.{IsEndingTo}
+use Rattle.table_terms.specs.SoundGraphs.{IsJudgedTo}
 use Rattle.table_terms.specs.TableTerms.{chart_expansion, numbered_chart}
 use Rattle.table_terms.specs.WorkedPremises.{PremisesAreMet}
 
@@ -68,6 +73,39 @@ has_few = (using_few, (((acting_few, (tt, tt)), ((acting_few, (tt, tt)), tt)), t
 has_ranks : CanBeRanked (numbered_chart used_twice (codes "Z"))
 has_ranks = record { rank = λ n. n; ranked = (λ p a. absurd (nothing_among a), (((λ p a. absurd (nothing_among a), (tt, (λ e. none_behind (λ n. n) _), tt)), (λ e. goes_before), (((λ n. n), (λ p a. absurd (nothing_among a), (tt, (λ e. none_behind (λ n. n) _), tt))), (λ e. none_behind (λ n. n) _), tt)), (λ e. none_behind (λ n. n) _), tt)) }
 
+-- ---- charts
+
+abbrev the_acting : ChartEntry
+the_acting = record { name = codes "B"; decls = []; content = Basic acting }
+
+abbrev the_using : ChartEntry
+the_using = record { name = codes "Z"; decls = []; content = Basic using }
+
+acting_nested : (depth : ℕ) → IsNestedTo used_twice (suc depth) (codes "B")
+acting_nested depth = record { entry = record { name = codes "B"; decls = []; content = Basic acting }; is = refl; names = (tt, tt) }
+
+is_nested : IsNestedTo used_twice EXPANDED_NESTING (codes "Z")
+is_nested = record { entry = record { name = codes "Z"; decls = []; content = Basic using }; is = refl; names = ((acting_nested 254, (acting_nested 254, tt)), tt) }
+
+acting_ending : (depth : ℕ) → IsEndingTo used_twice (suc depth) (codes "B")
+acting_ending depth = record { has = record { entry = record { name = codes "B"; decls = []; content = Basic acting }; is = refl; names = (tt, tt) }; graphs = λ g i. elim i [ ] }
+
+is_judged : IsJudgedTo used_twice EXPANDED_NESTING (codes "Z")
+is_judged = record { has = record { entry = record { name = codes "Z"; decls = []; content = Basic using }; is = refl; names = ((acting_ending 254, (acting_ending 254, tt)), tt) }; content = tt }
+
+acting_ranks : CanBeRanked (numbered_chart used_twice (codes "B"))
+acting_ranks = record { rank = λ n. n; ranked = (λ p a. absurd (nothing_among a), (tt, (λ e. none_behind (λ n. n) _), tt)) }
+
+-- a chart that is there is one of the two
+are_ranked : (depth : ℕ) (other : List ℕ) → depth < EXPANDED_NESTING → IsNestedTo used_twice depth other → CanBeRanked (numbered_chart used_twice other)
+are_ranked zero other l w = absurd w
+are_ranked (suc depth) other l w = by (bytes_eq (codes "B") other) (bytes_eq (codes "Z") other) refl refl w.is
+  where
+    by : (a b : Bool) → bytes_eq (codes "B") other ≡ a → bytes_eq (codes "Z") other ≡ b → (if a then Some the_acting else (if b then Some the_using else None)) ≡ Some w.entry → CanBeRanked (numbered_chart used_twice other)
+    by true b p q e = subst (λ (n : List ℕ). CanBeRanked (numbered_chart used_twice n)) ((bytes_eq-Decides (codes "B") other).0 p) acting_ranks
+    by false true p q e = subst (λ (n : List ℕ). CanBeRanked (numbered_chart used_twice n)) ((bytes_eq-Decides (codes "Z") other).0 q) has_ranks
+    by false false p q e = absurd cc
+
 is_placed : (e : NumberedEvent) → Among e (events_in (chart_expansion used_twice (codes "Z"))) → e.happening.also ≡ child_of e.happening.label
 is_placed e first = refl
 is_placed e (later first) = refl
@@ -80,7 +118,7 @@ is_apart e (later (later a)) q = absurd (nothing_among a)
 
 pub premises_are_met : PremisesAreMet
 premises_are_met = record {
-  basic = (tt, (tt, tt));
+  graphs = record { judged = is_judged; nested = is_nested; ranked = are_ranked };
   whole = has_whole;
   quiet = is_quiet;
   ranked = has_ranks;

@@ -1,3 +1,4 @@
 pub mod TableTerms
+pub mod SoundGraphs
 pub mod TableLaws
 pub mod WorkedPremises

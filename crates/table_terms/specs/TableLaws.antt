@@ -18,21 +18,21 @@ use Rattle.expanded_terms.specs.JoinProducts.{IsFewTo}
 use Rattle.expanded_terms.specs.PlacedTerms.{child_of}
 use Rattle.expanded_terms.specs.GateTies.{IsQuietTable}
 use Rattle.expanded_terms.specs.WholeCharts.{IsWholeTo}
-use Rattle.table_terms.specs.TableTerms.{IsBasicTable, IsTermOf, chart_expansion, chart_numbering, numbered_chart}
+use Rattle.table_terms.specs.SoundGraphs.{HasSoundGraphs}
+use Rattle.table_terms.specs.TableTerms.{IsTermOf, chart_expansion, chart_numbering, numbered_chart}
 
--- the term of a whole chart of a table of basic charts, with the names of its instances, means the chart
+-- the term of a whole chart with sound graphs, with the names of its instances, means the chart
 abbrev pub TableTermsMean : Type 0
-TableTermsMean = (table : Table) (name : List ℕ) (v : NetsValue) (x : Tree) → IsBasicTable table → IsWholeTo table (table_ends table) EXPANDED_NESTING name → IsTermOf table name v x
+TableTermsMean = (table : Table) (name : List ℕ) (v : NetsValue) (x : Tree) → HasSoundGraphs table name → IsQuietTable table → IsWholeTo table (table_ends table) EXPANDED_NESTING name → IsTermOf table name v x
     → Means v (chart_numbering table name).names x (Finished table name) (Begun table name)
 
--- the term of a chart of such a table in which no inner event of a called gate stands in a loop, is sound in full where its expansion can be
--- ranked
+-- the term of such a chart is sound in full where its expansion can be ranked and no inner event of a called gate stands in a loop
 abbrev pub TableTermsAreSound : Type 0
-TableTermsAreSound = (table : Table) (name : List ℕ) (v : NetsValue) (x : Tree) → IsBasicTable table → IsQuietTable table → IsTermOf table name v x → CanBeRanked (numbered_chart table name) → IsFullySound (length v.labels) v.tables x
+TableTermsAreSound = (table : Table) (name : List ℕ) (v : NetsValue) (x : Tree) → HasSoundGraphs table name → IsQuietTable table → IsTermOf table name v x → CanBeRanked (numbered_chart table name) → IsFullySound (length v.labels) v.tables x
 
 -- it weighs no more than the chart's expanded size, where each level has few pairs of its own
 abbrev pub TableTermsAreLight : Type 0
-TableTermsAreLight = (table : Table) (name : List ℕ) (v : NetsValue) (x : Tree) → IsBasicTable table → IsTermOf table name v x → IsFewTo table EXPANDED_NESTING name → weight x ≤ counted_size table name
+TableTermsAreLight = (table : Table) (name : List ℕ) (v : NetsValue) (x : Tree) → HasSoundGraphs table name → IsTermOf table name v x → IsFewTo table EXPANDED_NESTING name → weight x ≤ counted_size table name
 
 -- events of one label have the same instances, in a term and its nets, where the second instance of each is the one that its label gives
 abbrev pub TableTermsArePlaced : Type 0

@@ -1,10 +1,10 @@
 -- The term of a chart of a table.
-use Rattle.std.specs.Prelude.{◌≡◌, ◌≤◌, ℕ, List, [], ◌∷◌, Some, length}
+use Rattle.std.specs.Prelude.{◌≡◌, ◌≤◌, ℕ, List, [], Some, length}
 use Rattle.msc_base.specs.declared.limits.TheConstants.Limits.{INSTANCES, EXPANDED_NESTING}
 use Rattle.msc_base.specs.Orders.{Among}
 use Rattle.chart_term.specs.Terms.{Tree}
 use Rattle.term_tables.specs.NetValues.{NetsValue}
-use Rattle.msc_meaning.specs.Tables.{Table, Woven, Basic, HighLevel}
+use Rattle.msc_meaning.specs.Tables.{Table}
 use Rattle.expansion_tree.specs.Expansions.{Expansion, events_in}
 use Rattle.expansion_tree.specs.Numbered as numbered
 use Rattle.expanded_charts.specs.Expanding.{NumberedEvent, expansion}
@@ -42,12 +42,3 @@ pub record IsTermOf (table : Table) (name : List ℕ) (v : NetsValue) (x : Tree)
 pub record HasRoom (table : Table) (name : List ℕ) : Type 0 where
   pub few : length (chart_numbering table name).names ≤ INSTANCES
   pub apart : (e : NumberedEvent) → Among e (events_in (chart_expansion table name)) → e.happening.also ≡ Some e.happening.label.at → ⊥
-
--- none is a high-level chart
-abbrev pub IsBasicWoven : Woven → Type 0
-IsBasicWoven (Basic held) = Unit {0}
-IsBasicWoven (HighLevel drawn) = ⊥
-
-abbrev pub IsBasicTable : Table → Type 0
-IsBasicTable [] = Unit {0}
-IsBasicTable (c ∷ cs) = IsBasicWoven c.content × IsBasicTable cs

@@ -11,10 +11,11 @@ use Rattle.expanded_terms.specs.JoinProducts.{IsFewTo}
 use Rattle.expanded_terms.specs.PlacedTerms.{child_of}
 use Rattle.expanded_terms.specs.WholeCharts.{IsWholeTo}
 use Rattle.gate_ends.specs.FoundEnds.{table_ends}
-use Rattle.table_terms.specs.TableTerms.{HasRoom, IsBasicTable, chart_expansion, numbered_chart}
+use Rattle.table_terms.specs.SoundGraphs.{HasSoundGraphs}
+use Rattle.table_terms.specs.TableTerms.{HasRoom, chart_expansion, numbered_chart}
 
 pub record PremisesAreMet : Type 0 where
-  pub basic : IsBasicTable used_twice
+  pub graphs : HasSoundGraphs used_twice (codes "Z")
   pub whole : IsWholeTo used_twice (table_ends used_twice) EXPANDED_NESTING (codes "Z")
   pub quiet : IsQuietTable used_twice
   pub ranked : CanBeRanked (numbered_chart used_twice (codes "Z"))

@@ -5,10 +5,12 @@ ghost use Rattle.table_terms.specs.WorkedPremises.{PremisesAreMet};
 
 use expanded_terms::{
     charts_are_light, events_are_placed, expanded_terms_mean, expansions_have_terms,
-    ranked_expansions_are_sound, whole_charts_are_fit,
+    whole_charts_are_fit,
 };
 use expansion_terms::laws::made_terms_agree;
 use gate_ends::ends_are_found;
+use made_terms::laws::{made_terms_are_sound, walks_are_drawn};
+use node_ranks::laws::nodes_are_ranked;
 
 /// The term of a whole chart means the chart.
 pub fn table_terms_mean()
@@ -18,15 +20,20 @@ pub fn table_terms_mean()
     expanded_terms_mean();
     expansions_have_terms();
     whole_charts_are_fit();
+    walks_are_drawn();
+    nodes_are_ranked();
+    ends_are_found();
+    made_terms_are_sound();
 }
 
 /// The term of a chart is sound where its expansion can be ranked.
 pub fn table_terms_are_sound()
     ensures { TableTermsAreSound }
 {
-    made_terms_agree();
+    walks_are_drawn();
+    nodes_are_ranked();
     ends_are_found();
-    ranked_expansions_are_sound();
+    made_terms_are_sound();
 }
 
 /// The term of a chart weighs no more than the chart's expanded size.
