@@ -16,3 +16,4 @@ pub mod RefinementPlaces
 pub mod HeldGates
 pub mod ExtentLaws
 pub mod OneTable
+pub mod GraphLaws

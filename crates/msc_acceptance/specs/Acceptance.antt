@@ -14,6 +14,7 @@ use Rattle.chart_links.specs.Summaries.{summary_of}
 use Rattle.creation_rules.specs.Creating.{ChartCreatesTwice}
 use Rattle.creation_rules.specs.Placing.{ChartPlacesCreation}
 use Rattle.creation_rules.specs.Stopping.{ChartGoesOn}
+use Rattle.graph_rules.specs.GraphRules.{BreakLabels, HasEndlessLine, HasFurtherLine, InGraphs}
 use Rattle.level_weaving.specs.Exceptions.{IsMisplaced}
 use Rattle.shared_parts.specs.PartRules.{ChartBreaksPartRule}
 use Rattle.shared_parts.specs.declared.faults.PartRule.TheVariants as part
@@ -26,6 +27,7 @@ use Rattle.refinement_rules.specs.Coregions.{HasLocalCoregion}
 use Rattle.refinement_rules.specs.declared.faults.RefinementRule.TheVariants as refinement
 use Rattle.msc_instances.specs.Instances.{instances}
 use Rattle.msc_instances.specs.NameFaults.{ChartNamesOther, ChartNamesTwice}
+use Rattle.msc_acceptance.specs.GraphFaults.{charts_graphs, graphs_ending, is_referred}
 use Rattle.msc_acceptance.specs.Rules.{InOne, IsFurther, HasFurther, IsNamedAgain}
 use Rattle.msc_acceptance.specs.SizedCharts.{OfSizes}
 
@@ -34,6 +36,7 @@ abbrev pub BreaksOf : List Chart → Rule → Place → Type 0
 BreaksOf charts NotBuilt place = InOne IsNotBuilt charts place
 BreaksOf charts Charts place = IsFurther charts place
 BreaksOf charts Instances place = HasFurther [] charts place
+BreaksOf charts Nodes place = InGraphs HasFurtherLine (charts_graphs charts) place
 BreaksOf charts LoopBound place = InOne HasHighBound charts place
 BreaksOf charts NamedTwice place = IsNamedAgain [] charts place ⊎ InOne ChartNamesTwice charts place
 BreaksOf charts Undeclared place = InOne ChartNamesOther charts place
@@ -63,6 +66,9 @@ BreaksOf charts LocalEvent place = InOne HasLocalCoregion charts place ⊎ Break
 BreaksOf charts UnknownEvent place = InOne (IsMisnamedAt Unknown) charts place
 BreaksOf charts EventNamedTwice place = InOne (IsMisnamedAt Twice) charts place
 BreaksOf charts Cyclic place = IsCyclicAt charts place
+BreaksOf charts UnknownLabel place = BreakLabels (charts_graphs charts) UnknownLabel place
+BreaksOf charts LabelNamedTwice place = BreakLabels (charts_graphs charts) LabelNamedTwice place
+BreaksOf charts Endless place = InGraphs HasEndlessLine (graphs_ending (is_referred charts) charts) place
 -- rules on bytes, tokens and the grammar, which the reader of a text decides
 BreaksOf charts Bytes place = ⊥
 BreaksOf charts BadByte place = ⊥
@@ -72,11 +78,6 @@ BreaksOf charts LongName place = ⊥
 BreaksOf charts Syntax place = ⊥
 BreaksOf charts (Unsupported form) place = ⊥
 BreaksOf charts TooDeep place = ⊥
--- rules on forms that aren't built
-BreaksOf charts Nodes place = ⊥
-BreaksOf charts UnknownLabel place = ⊥
-BreaksOf charts LabelNamedTwice place = ⊥
-BreaksOf charts Endless place = ⊥
 
 -- the document breaks the rule at that place
 abbrev pub Breaks : Document → Rule → Place → Type 0

@@ -11,7 +11,7 @@ use Rattle.msc_tree.specs.Statements.{Statement, statements}
 use Rattle.msc_rules.specs.FirstFaults.{Keeps, IsFirst}
 use Rattle.msc_rules.specs.Rules.{number_of}
 use Rattle.msc_rules.specs.declared.rule.Rule.{Rule}
-use Rattle.msc_rules.specs.declared.rule.Rule.TheVariants.{NotBuilt, Charts, Instances, LoopBound, NamedTwice, Undeclared, MissingChart, Recursive, Uncovered, ExpandedNesting, Size, Total, NotShared, OperandsDiffer, ExcPlace, CreatePlace, CreateTwice, AfterStop, Crossed, Unmatched, NoGate, GateTwice, GateWays, GateSplit, GateOnLoop, DecompositionMismatch, SharedPart, Inside, LocalEvent, UnknownEvent, EventNamedTwice, Cyclic}
+use Rattle.msc_rules.specs.declared.rule.Rule.TheVariants.{NotBuilt, Charts, Instances, Nodes, LoopBound, NamedTwice, Undeclared, MissingChart, Recursive, Uncovered, ExpandedNesting, Size, Total, NotShared, OperandsDiffer, ExcPlace, CreatePlace, CreateTwice, AfterStop, Crossed, Unmatched, NoGate, GateTwice, GateWays, GateSplit, GateOnLoop, DecompositionMismatch, SharedPart, Inside, LocalEvent, UnknownEvent, EventNamedTwice, Cyclic, Endless}
 use Rattle.msc_meaning.specs.Bodies.{Body}
 use Rattle.msc_meaning.specs.Pieces.{statements_pieces}
 use Rattle.msc_meaning.specs.Tables.{Table}
@@ -35,6 +35,7 @@ use Rattle.chart_text.specs.Texts.{chart_text}
 use Rattle.creation_rules.specs.Creating.{ChartCreatesTwice}
 use Rattle.creation_rules.specs.Placing.{ChartPlacesCreation}
 use Rattle.creation_rules.specs.Stopping.{ChartGoesOn}
+use Rattle.graph_rules.specs.GraphRules.{labels}
 use Rattle.level_weaving.specs.Exceptions.{IsMisplaced}
 use Rattle.level_weaving.specs.WeaveFaults.{IsLevelFault, IsLevelWoven}
 use Rattle.level_weaving.specs.declared.weaving.WeaveFault.{WeaveFault}
@@ -62,7 +63,7 @@ abbrev pub forms : List Rule
 forms = NotBuilt ∷ []
 
 abbrev pub limits : List Rule
-limits = Charts ∷ Instances ∷ LoopBound ∷ []
+limits = Charts ∷ Instances ∷ Nodes ∷ LoopBound ∷ []
 
 abbrev pub names : List Rule
 names = NamedTwice ∷ Undeclared ∷ []
@@ -97,6 +98,9 @@ event_names = UnknownEvent ∷ EventNamedTwice ∷ []
 abbrev pub cycles : List Rule
 cycles = Cyclic ∷ []
 
+abbrev pub endings : List Rule
+endings = Endless ∷ []
+
 -- the rules on the text
 abbrev pub text_groups : List (List Rule)
 text_groups = forms ∷ limits ∷ names ∷ references ∷ sizes ∷ parts ∷ []
@@ -117,8 +121,12 @@ gate_groups = gates ∷ decompositions ∷ event_names ∷ []
 abbrev pub table_groups : List (List Rule)
 table_groups = gate_groups ++ (cycles ∷ [])
 
+-- the rules on graphs, behind all others
+abbrev pub graph_groups : List (List Rule)
+graph_groups = labels ∷ endings ∷ []
+
 abbrev pub all_groups : List (List Rule)
-all_groups = text_groups ++ (body_groups ++ table_groups)
+all_groups = text_groups ++ (body_groups ++ (table_groups ++ graph_groups))
 
 abbrev pub AllKept : (Rule → Place → Type 0) → List (List Rule) → Type 0
 AllKept Breaks [] = ⊤
@@ -269,10 +277,10 @@ pub record AreGatePlaces (table : Table) (places : GatePlaces) : Type 0 where
   pub split : IsLeast (BreaksGateRule table gate.GateSplit) places.split
   pub on_loop : IsLeast (BreaksGateRule table gate.GateOnLoop) places.on_loop
 
--- the charts are these entries, which keep the rules on them together; or their first fault by these
-abbrev pub IsSettled : List Chart → Table → Decision → Type 0
-IsSettled charts table (decision.Accepted accepted) = (table_view accepted ≡ table) × AreOrdered table EXPANDED_NESTING table × AllKept (BreaksOf charts) table_groups
-IsSettled charts table (decision.Faulty fault) = IsFirst number_of (BreaksOf charts) table_groups fault
+-- the charts are these entries, which keep the rules of these groups; or their first fault by these
+abbrev pub IsSettled : List (List Rule) → List Chart → Table → Decision → Type 0
+IsSettled groups charts table (decision.Accepted accepted) = (table_view accepted ≡ table) × AreOrdered table EXPANDED_NESTING table × AllKept (BreaksOf charts) groups
+IsSettled groups charts table (decision.Faulty fault) = IsFirst number_of (BreaksOf charts) groups fault
 
 -- ---- the document
 

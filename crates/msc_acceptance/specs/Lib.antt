@@ -1,5 +1,6 @@
 pub mod ChartFaults
 pub mod Rules
+pub mod GraphFaults
 pub mod SizedCharts
 pub mod Acceptance
 pub mod Listing

@@ -4,7 +4,7 @@ ghost use Rattle.std.specs.Prelude.{◌≡◌, ◌≤◌, IfOk, List, length, ma
 ghost use Rattle.gate_ends.specs.FoundEnds.{AreAll, GoesTo};
 ghost use Rattle.gate_ends.specs.LevelGates.{HasNames};
 ghost use Rattle.gate_tables.specs.ChartGates.{AreGatesOf};
-ghost use Rattle.msc_acceptance.specs.Deciding.{AreFaultsIn, IsFlagged, IsSettled, IsWhole, TellsEarliest};
+ghost use Rattle.msc_acceptance.specs.Deciding.{AreFaultsIn, IsFlagged, IsSettled, IsWhole, TellsEarliest, table_groups};
 ghost use Rattle.msc_acceptance.specs.RefinedTexts.{AreKnownRefinements};
 ghost use Rattle.msc_base.specs.Lists.{AreDifferent};
 ghost use Rattle.msc_base.specs.Places.{IsLeast};
@@ -85,7 +85,7 @@ pub fn settle(
     requires different { AreDifferent (map (λ (c : ChartEntry). c.name) entries.items) }
     requires deep { AreAll (GoesTo (table_view entries.items) EXPANDED_NESTING) (map (λ (c : ChartEntry). c.name) entries.items) }
     requires whole { IsWhole faults }
-    ensures { (charts : List Chart) → AreEntriesOf instances charts (table_view entries.items) → AreKnownRefinements charts known.entry → AreFaultsIn charts faults → stands.now ≡ map (λ (c : Chart). c.place) charts → IfOk result (IsSettled charts (table_view entries.items)) }
+    ensures { (charts : List Chart) → AreEntriesOf instances charts (table_view entries.items) → AreKnownRefinements charts known.entry → AreFaultsIn charts faults → stands.now ≡ map (λ (c : Chart). c.place) charts → IfOk result (IsSettled table_groups charts (table_view entries.items)) }
 {
     let names = entry_names(alloc, entries.as_slice())?;
     let depth = Limits::EXPANDED_NESTING as u32;

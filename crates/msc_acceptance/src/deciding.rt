@@ -1,20 +1,22 @@
 //! The rules group by group, up to the first that is broken; else the table. For `acceptance` alone.
 
-ghost use Rattle.std.specs.Prelude.{◌≡◌, IfOk, List, None, map};
+ghost use Rattle.std.specs.Prelude.{◌≡◌, ◌++◌, IfOk, List, None, map};
 ghost use Rattle.chart_forms.specs.NotBuilt.{IsNotBuilt};
 ghost use Rattle.chart_text.specs.WellFormed.{AreAllWellFormed};
 ghost use Rattle.msc_rules.specs.FirstFaults.{IsBest};
 ghost use Rattle.msc_rules.specs.Rules.{number_of};
 ghost use Rattle.msc_acceptance.specs.Acceptance.{BreaksOf};
-ghost use Rattle.msc_acceptance.specs.Deciding.{AreFaultsIn, AreTextPlaces, HaveExtents, IsDecided, IsFirstOf, IsReading, IsWhole, body_groups, creations, forms, limits, names, parts, text_groups};
+ghost use Rattle.msc_acceptance.specs.Deciding.{AreFaultsIn, AreTextPlaces, HaveExtents, IsDecided, IsFirstOf, IsReading, IsSettled, IsWhole, body_groups, creations, forms, graph_groups, limits, names, parts, table_groups, text_groups};
 ghost use Rattle.msc_acceptance.specs.Rules.{InOne};
 ghost use Rattle.msc_acceptance.specs.SizedCharts.{OfSizes};
 ghost use Rattle.msc_base.specs.Places.{IsLeast};
+ghost use Rattle.msc_meaning.specs.Tables.{Table};
 ghost use Rattle.msc_tree.specs.Charts.{Chart};
 ghost use Rattle.msc_tree.specs.Views.{chart_view};
 
 use crate::Accepted;
 use crate::cycles::settle;
+use crate::graphs::{charts_graphs, graph_fault};
 use crate::limits::{further_chart, further_instance};
 use crate::links::{ReadCharts, link_fault};
 use crate::names::second_chart;
@@ -23,6 +25,7 @@ use crate::reading::{Reading, TextPlaces, read_charts};
 use crate::refinements::{KnownRefinements, known_links};
 use crate::tables::{BodyFaults, woven_charts};
 use crate::walks::earlier;
+use graph_rules::further_line;
 use msc_base::{NoMemory, Place};
 use msc_rules::{Broken, Rule, broken_at, earlier_fault};
 use msc_tree::RawChart;
@@ -57,8 +60,13 @@ fn limit_fault(
     let further = broken_at(Rule::Charts, further_chart(charts));
     let place = further_instance(alloc, charts, reading.lists.as_slice())?;
     let instances = broken_at(Rule::Instances, place);
+    let graphs = charts_graphs(alloc, charts)?;
+    let nodes = broken_at(Rule::Nodes, further_line(graphs.as_slice()));
     let high = broken_at(Rule::LoopBound, reading.places.high_bound);
-    Ok(earlier_fault(earlier_fault(further, instances), high))
+    Ok(earlier_fault(
+        earlier_fault(earlier_fault(further, instances), nodes),
+        high,
+    ))
 }
 
 /// The first fault of names, by the places inside charts.
@@ -158,6 +166,19 @@ fn body_fault(faults: BodyFaults) -> Option<Broken<Rule>>
     None
 }
 
+/// What charts come to together, and by the first fault of their graphs.
+fn with_graphs(settled: Decision, drawn: Option<Broken<Rule>>) -> Decision
+    ensures { (charts : List Chart) (table : Table) → IsSettled table_groups charts table settled → IsFirstOf charts graph_groups drawn → IsSettled (table_groups ++ graph_groups) charts table result }
+{
+    match settled {
+        Decision::Faulty(fault) => Decision::Faulty(fault),
+        Decision::Accepted(accepted) => match drawn {
+            Some(fault) => Decision::Faulty(fault),
+            None => Decision::Accepted(accepted),
+        },
+    }
+}
+
 /// The table of these charts, whose text is well formed, or their first fault.
 pub fn decide(alloc: Global, charts: Vec<RawChart>) -> Result<Decision, NoMemory>
     requires { AreAllWellFormed (map chart_view charts.items) }
@@ -179,10 +200,12 @@ pub fn decide(alloc: Global, charts: Vec<RawChart>) -> Result<Decision, NoMemory
         links: links.as_ref(),
         coregion: reading.places.coregion,
     };
+    let drawn = graph_fault(alloc, charts.as_slice(), reading.lists.as_slice())?;
     let made = woven_charts(alloc, charts, reading.lists.as_slice())?;
     if let Some(fault) = body_fault(made.faults) {
         return Ok(Decision::Faulty(fault));
     }
     let stands = reading.stands.as_slice();
-    settle(alloc, made.entries, known, made.faults, stands)
+    let settled = settle(alloc, made.entries, known, made.faults, stands)?;
+    Ok(with_graphs(settled, drawn))
 }

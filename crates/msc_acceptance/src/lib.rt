@@ -7,6 +7,7 @@ mod cycles;
 mod deciding;
 mod declaring;
 mod gates;
+mod graphs;
 mod limits;
 mod links;
 mod listing;

@@ -1,6 +1,6 @@
 use Rattle.std.proofs.Common.{rules, ◌≡◌, ◌++◌, map, subst, ◌∙◌}
 use Rattle.msc_tree.specs.Views.{chart_view, document_view}
-use Rattle.msc_acceptance.specs.Deciding.{IsDecided, body_groups, table_groups, text_groups}
+use Rattle.msc_acceptance.specs.Deciding.{IsDecided, body_groups, graph_groups, table_groups, text_groups}
 use Rattle.msc_acceptance.specs.declared.deciding.Decision.TheVariants as decision
 use Rattle.msc_meaning.specs.Views.{table_view}
 use Rattle.msc_acceptance.specs.Acceptance.{HasFault}
@@ -46,8 +46,9 @@ pub returns-in-Ok-Accepted-clause-charts : goal.returns-in-Ok-Accepted-clause-ch
 returns-in-Ok-Accepted-clause-charts c =
     let charts = map chart_view c.args.raw.charts.items in
     let decided : IsDecided charts (decision.Accepted c.in-Ok-Accepted.accepted) = search rules in
-    let texts = kept_left charts text_groups (body_groups ++ table_groups) decided.0 in
-    let together = kept_right charts body_groups table_groups (kept_right charts text_groups (body_groups ++ table_groups) decided.0) in
+    let others = body_groups ++ (table_groups ++ graph_groups) in
+    let texts = kept_left charts text_groups others decided.0 in
+    let together = kept_left charts table_groups graph_groups (kept_right charts body_groups (table_groups ++ graph_groups) (kept_right charts text_groups others decided.0)) in
     accepted_table c.built_charts_are_known.ensures c.woven_charts_are_known.ensures charts c.requires texts (table_view c.in-Ok-Accepted.accepted) decided.1 c.levels_have_gates.ensures c.join_sizes_are_known.ensures together decided.2 decided.3
 
 pub returns-in-Ok-Accepted-clause-faultless : goal.returns-in-Ok-Accepted-clause-faultless

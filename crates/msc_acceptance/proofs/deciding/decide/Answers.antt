@@ -17,7 +17,7 @@ use Rattle.msc_tree.specs.Charts.{Chart}
 use Rattle.msc_tree.specs.Views.{chart_view}
 use Rattle.msc_tree.specs.declared.chart.RawChart.{RawChart}
 use Rattle.msc_acceptance.specs.Acceptance.{BreaksOf}
-use Rattle.msc_acceptance.specs.Deciding.{AllKept, AreTextPlaces, HaveExtents, IsDecided, IsFirstOf, IsSettled, body_groups, table_groups, text_groups}
+use Rattle.msc_acceptance.specs.Deciding.{AllKept, AreTextPlaces, HaveExtents, IsDecided, IsFirstOf, IsSettled, body_groups, graph_groups, table_groups, text_groups}
 use Rattle.msc_acceptance.specs.RefinedTexts.{AreKnownLinks, AreKnownRefinements, AreLinksOf}
 use Rattle.msc_acceptance.specs.SizedCharts.{OfSizes}
 use Rattle.msc_acceptance.specs.declared.deciding.Decision.{Decision}
@@ -28,16 +28,19 @@ use Rattle.msc_acceptance.proofs.HeldGates.{all_go}
 use Rattle.msc_acceptance.proofs.RefinementPlaces.{known_lent, view_names}
 use Rattle.msc_acceptance.proofs.deciding.decide.Goals as goal
 
-settled : (charts : List Chart) (table : Table) (r : Result Decision NoMemory) → AllKept (BreaksOf charts) text_groups → AllKept (BreaksOf charts) body_groups → AreEntriesOf instances charts table → OfSizes charts HaveExtents
-    → IfOk r (IsSettled charts table) → IfOk r (IsDecided charts)
-settled charts table (Err e) texts bodies are extents h = tt
-settled charts table (Ok (decision.Accepted a)) texts bodies are extents h = (
-  kept_both charts text_groups (body_groups ++ table_groups) texts (kept_both charts body_groups table_groups bodies h.2),
+-- the rules on what charts are woven to, and on their graphs
+abbrev others : List (List Rule)
+others = body_groups ++ (table_groups ++ graph_groups)
+
+settled : (charts : List Chart) (table : Table) (d : Decision) → AllKept (BreaksOf charts) text_groups → AllKept (BreaksOf charts) body_groups → AreEntriesOf instances charts table → OfSizes charts HaveExtents
+    → IsSettled (table_groups ++ graph_groups) charts table d → IsDecided charts d
+settled charts table (decision.Accepted a) texts bodies are extents h = (
+  kept_both charts text_groups others texts (kept_both charts body_groups (table_groups ++ graph_groups) bodies h.2),
   subst (AreEntriesOf instances charts) (sym h.0) are,
   subst (λ (t : Table). AreOrdered t EXPANDED_NESTING t) (sym h.0) h.1,
   extents,
 )
-settled charts table (Ok (decision.Faulty f)) texts bodies are extents h = first_right charts text_groups (body_groups ++ table_groups) f texts (first_right charts body_groups table_groups f bodies h)
+settled charts table (decision.Faulty f) texts bodies are extents h = first_right charts text_groups others f texts (first_right charts body_groups (table_groups ++ graph_groups) f bodies h)
 
 lent_links : (charts : List Chart) (o : Option (Bor LinkTables)) (held : Option LinkTables) → option_copied o ≡ held → AreLinksOf charts held → AreKnownLinks charts o
 lent_links charts o held e h = known_lent charts o (subst (AreLinksOf charts) (sym e) h)
@@ -47,7 +50,7 @@ returns-in-Some c =
     let charts = map chart_view c.args.charts.items in
     let told : IsFirstOf charts text_groups c.in_ok-fault.field-0 = subst (λ (l : List RawChart). IsFirstOf (map chart_view l) text_groups c.in_ok-fault.field-0) c.as_slice-2.ensures.value c.in_ok-fault.ensures.first in
     let e : c.in_ok-fault.field-0 ≡ Some c.in-Some.fault = search rules in
-    first_left charts text_groups (body_groups ++ table_groups) c.in-Some.fault (subst (λ (o : Option (Broken Rule)). IsFirstOf charts text_groups o) e told)
+    first_left charts text_groups others c.in-Some.fault (subst (λ (o : Option (Broken Rule)). IsFirstOf charts text_groups o) e told)
 
 pub woven_charts-requires-clause-built : goal.woven_charts-requires-clause-built
 woven_charts-requires-clause-built c =
@@ -62,8 +65,8 @@ returns-in-Some-body_fault c =
     let told : IsFirstOf charts text_groups c.in_ok-fault.field-0 = subst (λ (l : List RawChart). IsFirstOf (map chart_view l) text_groups c.in_ok-fault.field-0) c.as_slice-2.ensures.value c.in_ok-fault.ensures.first in
     let e : c.in_ok-fault.field-0 ≡ None = search rules in
     let f : c.body_fault.result ≡ Some c.in-Some-body_fault.fault = search rules in
-    first_right charts text_groups (body_groups ++ table_groups) c.in-Some-body_fault.fault (subst (λ (o : Option (Broken Rule)). IsFirstOf charts text_groups o) e told)
-    (first_left charts body_groups table_groups c.in-Some-body_fault.fault (subst (λ (o : Option (Broken Rule)). IsFirstOf charts body_groups o) f (c.body_fault.ensures.first charts c.in_ok-made.ensures.faults)))
+    first_right charts text_groups others c.in-Some-body_fault.fault (subst (λ (o : Option (Broken Rule)). IsFirstOf charts text_groups o) e told)
+    (first_left charts body_groups (table_groups ++ graph_groups) c.in-Some-body_fault.fault (subst (λ (o : Option (Broken Rule)). IsFirstOf charts body_groups o) f (c.body_fault.ensures.first charts c.in_ok-made.ensures.faults)))
 
 pub settle-requires-clause-few : goal.settle-requires-clause-few
 settle-requires-clause-few c =
@@ -114,4 +117,8 @@ returns c =
     let links = subst (λ (l : List RawChart). AreLinksOf (map chart_view l) c.in_ok-links.links) c.as_slice-3.ensures.value c.in_ok-links.ensures in
     let known : AreKnownRefinements charts (record { links = c.as_ref.result; coregion = c.in_ok-reading.reading.places.coregion }) =
     record { links = lent_links charts c.as_ref.result c.in_ok-links.links c.as_ref.ensures.value links; coregion = places.coregion } in
-    settled charts (table_view c.in_ok-made.made.entries.items) c.settle.result texts bodies are extents (c.settle.ensures charts are known c.in_ok-made.ensures.faults (search rules))
+    let table = table_view c.in_ok-made.made.entries.items in
+    let drawn = subst (λ (l : List RawChart). IsFirstOf (map chart_view l) graph_groups c.in_ok-drawn.drawn) c.as_slice-6.ensures.value c.in_ok-drawn.ensures in
+    let told : IsSettled table_groups charts table c.in_ok-settled.settled =
+    subst (λ (r : Result Decision NoMemory). IfOk r (IsSettled table_groups charts table)) c.in_ok-settled.was (c.settle.ensures charts are known c.in_ok-made.ensures.faults (search rules)) in
+    settled charts table c.with_graphs.result texts bodies are extents (c.with_graphs.ensures charts table told drawn)
