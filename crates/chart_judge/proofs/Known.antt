@@ -12,14 +12,16 @@ use Rattle.expanded_terms.specs.WholeCharts.{IsWholeTo}
 use Rattle.gate_ends.specs.EndLaws.{EndsAreFound}
 use Rattle.gate_ends.specs.FoundEnds.{table_ends}
 use Rattle.table_terms.specs.TableLaws.{TableTermsAreLight, TableTermsArePlaced, TableTermsAreSound, TableTermsMean}
-use Rattle.table_terms.specs.TableTerms.{IsBasicTable, IsTermOf, chart_made, chart_numbering, chart_tables}
+use Rattle.table_terms.specs.SoundGraphs.{HasSoundGraphs}
+use Rattle.table_terms.specs.TableTerms.{IsTermOf, chart_made, chart_numbering, chart_tables}
 use Rattle.term_meaning.specs.Meanings.{Means}
 use Rattle.term_tables.specs.NetValues.{NetsValue}
 use Rattle.trace_judge.specs.Laws.{VerdictsTellRuns}
 use Rattle.trace_judge.specs.Sets.{IsSoundFor}
 use Rattle.verdict_meaning.proofs.Labelled.{begun_there}
 use Rattle.chart_judge.specs.ChartsTold.{ChartsHaveRuns, ChartsHaveTerms, VerdictsAreTold}
-use Rattle.chart_judge.proofs.WholeTables.{all_basic, all_quiet, whole_to}
+use Rattle.chart_judge.proofs.NestedTables.{sound_graphs}
+use Rattle.chart_judge.proofs.WholeTables.{all_quiet, whole_to}
 use Rattle.chart_judge.proofs.FewTables.{few_to}
 use Rattle.chart_judge.proofs.TableEntries.{name_has}
 use Rattle.chart_judge.proofs.TableRoom.{are_placed, has_room}
@@ -36,9 +38,6 @@ below : (a b c : ℕ) → a ≤ b → b ≤ c → a ≤ c
 below a b c h g = omega (arith, h, g)
 
 module _ (table : Table) (name : List ℕ) (chart : ChartEntry) (is : chart_at table name ≡ Some chart) (accepted : IsAcceptedTable table) where
-  basic : IsBasicTable table
-  basic = all_basic table accepted.charts
-
   quiet : IsQuietTable table
   quiet = all_quiet table accepted.charts accepted.gates accepted.there
 
@@ -51,21 +50,24 @@ module _ (table : Table) (name : List ℕ) (chart : ChartEntry) (is : chart_at t
   ordered : IsOrdered table EXPANDED_NESTING name
   ordered = name_has (IsOrdered table EXPANDED_NESTING) table name chart (each_ordered table EXPANDED_NESTING table accepted.ordered) is
 
+  pub graphs : HasSoundGraphs table name
+  graphs = sound_graphs table accepted.charts accepted.gates (each_ordered table EXPANDED_NESTING table accepted.ordered) name there
+
   small : counted_size table name ≤ EXPANDED_SIZE
   small = name_has (λ n. counted_size table n ≤ EXPANDED_SIZE) table name chart accepted.small is
 
   module _ (v : NetsValue) (x : Tree) (made : IsTermOf table name v x) where
     chart_means : EndsAreFound → TableTermsMean → Means v (chart_numbering table name).names x (Finished table name) (Begun table name)
-    chart_means law laws = laws table name v x basic (whole law) made
+    chart_means law laws = laws table name v x graphs quiet (whole law) made
 
     chart_sound : EndsAreFound → TableTermsAreSound → TableTermsArePlaced → IsSoundFor v x
     chart_sound law sound placed = record {
-      full = sound table name v x basic quiet made ordered;
+      full = sound table name v x graphs quiet made ordered;
       placed = placed table name v x made (are_placed table accepted name);
     }
 
     chart_weighs : TableTermsAreLight → weight x ≤ counted_size table name
-    chart_weighs laws = laws table name v x basic made (few_to table accepted.charts accepted.gates EXPANDED_NESTING name there)
+    chart_weighs laws = laws table name v x graphs made (few_to table accepted.charts accepted.gates EXPANDED_NESTING name there)
 
     chart_light : TableTermsAreLight → weight x ≤ EXPANDED_SIZE
     chart_light laws = below (weight x) (counted_size table name) EXPANDED_SIZE (chart_weighs laws) small

@@ -24,7 +24,6 @@ use Rattle.msc_meaning.specs.Refinements.{Refining, refining_by, refinings, is_d
 use Rattle.msc_meaning.specs.Tables.{ChartEntry, Table, body_at, Woven, Basic, Refinement, refinements}
 use Rattle.msc_tree.specs.Expressions.{Expression, Empty, Chart, Alt, Par, Seq, Opt, Loop, Expressions, none, more}
 use Rattle.std.proofs.lemmas.Bool.{and_parts}
-use Rattle.table_terms.specs.TableTerms.{IsBasicTable, IsBasicWoven}
 use Rattle.chart_judge.proofs.NamedBodies.{HasBody, IsGatedLevel, all_left, all_right, all_turned, has_body, refining_names, there_body}
 use Rattle.chart_judge.proofs.TableEntries.{name_has}
 
@@ -157,8 +156,3 @@ all_quiet table charts gates there c i =
       deep = there_goes table EXPANDED_NESTING c.name (of_each (λ c. IsThereTo table EXPANDED_NESTING c.name) table there c i);
       quiet = quiet_woven table c.content a.body a.is (of_each (λ c. EachLevel (IsGatedLevel table) (content_levels c.content)) table gates c i);
     }
-
--- none is a high-level chart
-pub all_basic : (table : Table) → EachChart IsAcceptedChart table → IsBasicTable table
-all_basic [] h = tt
-all_basic (c ∷ table) h = (subst IsBasicWoven (sym h.0.is) tt, all_basic table h.1)

@@ -2,7 +2,8 @@
 
 ghost use Rattle.std.specs.Prelude.{◌≡◌, IfOk};
 ghost use Rattle.msc_meaning.specs.Views.{table_view};
-ghost use Rattle.table_terms.specs.TableTerms.{HasRoom, IsBasicTable, IsTermOf};
+ghost use Rattle.table_terms.specs.SoundGraphs.{HasSoundGraphs};
+ghost use Rattle.table_terms.specs.TableTerms.{HasRoom, IsTermOf};
 
 use msc_acceptance::Accepted;
 use msc_base::NoMemory;
@@ -15,7 +16,7 @@ pub(crate) fn term_of(
     accepted: &Accepted,
     name: &[u8],
 ) -> Result<ChartTerm, NoMemory>
-    requires basic { IsBasicTable (table_view accepted.now) }
+    requires graphs { HasSoundGraphs (table_view accepted.now) name.now }
     requires room { HasRoom (table_view accepted.now) name.now }
     ensures { IfOk result (λ made. IsTermOf (table_view accepted.now) name.now made.nets made.term) }
 {
